@@ -1,0 +1,15 @@
+//! Cuts a text into the tokens of C.
+#![tactic(auto)]
+
+mod literal;
+mod number;
+mod punctuator;
+mod step;
+mod token;
+mod word;
+
+pub use literal::Character;
+pub use number::IntegerType;
+pub use punctuator::Punctuator;
+pub use token::TokenKind;
+pub use word::Keyword;

@@ -1,0 +1,115 @@
+//! Words: keywords and names.
+ghost use Rattle.std.specs.Prelude.{◌≡◌};
+ghost use Rattle.c_lexer.specs.Words.{keyword_spelling};
+
+/// A keyword of C99 that the language keeps.
+#[derive(Clone, Copy, Debug, PartialEq, Eq)]
+pub enum Keyword {
+    Auto,
+    Break,
+    Case,
+    Char,
+    Const,
+    Continue,
+    Default,
+    Do,
+    Else,
+    Enum,
+    Extern,
+    For,
+    If,
+    Inline,
+    Int,
+    Long,
+    Register,
+    Restrict,
+    Return,
+    Short,
+    Signed,
+    Sizeof,
+    Static,
+    Struct,
+    Switch,
+    Typedef,
+    Union,
+    Unsigned,
+    Void,
+    Volatile,
+    While,
+}
+
+/// Every keyword.
+pub(crate) const KEYWORDS: [Keyword; 31] = [
+    Keyword::Auto,
+    Keyword::Break,
+    Keyword::Case,
+    Keyword::Char,
+    Keyword::Const,
+    Keyword::Continue,
+    Keyword::Default,
+    Keyword::Do,
+    Keyword::Else,
+    Keyword::Enum,
+    Keyword::Extern,
+    Keyword::For,
+    Keyword::If,
+    Keyword::Inline,
+    Keyword::Int,
+    Keyword::Long,
+    Keyword::Register,
+    Keyword::Restrict,
+    Keyword::Return,
+    Keyword::Short,
+    Keyword::Signed,
+    Keyword::Sizeof,
+    Keyword::Static,
+    Keyword::Struct,
+    Keyword::Switch,
+    Keyword::Typedef,
+    Keyword::Union,
+    Keyword::Unsigned,
+    Keyword::Void,
+    Keyword::Volatile,
+    Keyword::While,
+];
+
+impl Keyword {
+    /// The bytes that spell it.
+    pub fn spelling(self) -> &'static [u8]
+        ensures { result.now ≡ keyword_spelling self }
+    {
+        match self {
+            Keyword::Auto => b"auto",
+            Keyword::Break => b"break",
+            Keyword::Case => b"case",
+            Keyword::Char => b"char",
+            Keyword::Const => b"const",
+            Keyword::Continue => b"continue",
+            Keyword::Default => b"default",
+            Keyword::Do => b"do",
+            Keyword::Else => b"else",
+            Keyword::Enum => b"enum",
+            Keyword::Extern => b"extern",
+            Keyword::For => b"for",
+            Keyword::If => b"if",
+            Keyword::Inline => b"inline",
+            Keyword::Int => b"int",
+            Keyword::Long => b"long",
+            Keyword::Register => b"register",
+            Keyword::Restrict => b"restrict",
+            Keyword::Return => b"return",
+            Keyword::Short => b"short",
+            Keyword::Signed => b"signed",
+            Keyword::Sizeof => b"sizeof",
+            Keyword::Static => b"static",
+            Keyword::Struct => b"struct",
+            Keyword::Switch => b"switch",
+            Keyword::Typedef => b"typedef",
+            Keyword::Union => b"union",
+            Keyword::Unsigned => b"unsigned",
+            Keyword::Void => b"void",
+            Keyword::Volatile => b"volatile",
+            Keyword::While => b"while",
+        }
+    }
+}

@@ -21,7 +21,7 @@ abbrev pub is_marker_name : List ℕ → Bool
 is_marker_name text =
     begins_with (λ b. b == 34) text
     && (begins_with (λ b. b == 34) (after_run (λ b. not (b == 34)) (drop 1 text))
-    && list_all (λ b. is_blank b || is_ascii_digit b) (after_run (λ b. not (b == 34)) (drop 1 text)))
+    && list_all (λ b. is_blank b || is_ascii_digit b) (drop 1 (after_run (λ b. not (b == 34)) (drop 1 text))))
 
 -- `#`, blanks, digits, blanks, a text in double quotes, and then only blanks and digits
 abbrev pub is_line_marker : List ℕ → Bool

@@ -58,6 +58,10 @@ suffix_of number =
 abbrev pub value_in : ℕ → List ℕ → ℕ
 value_in radix digits = fold (λ value digit. value * radix + digit_value digit) 0 digits
 
+-- the value, where it has at most 64 bits
+abbrev pub in_64_bits : ℕ → Option ℕ
+in_64_bits value = if nat_lt value (2 ^ 64) then Some value else None
+
 -- there is a digit, and each is below the radix
 abbrev pub has_value : ℕ → List ℕ → Bool
 has_value radix digits = not (length digits == 0) && list_all (λ digit. nat_lt (digit_value digit) radix) digits

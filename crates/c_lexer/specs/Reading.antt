@@ -1,5 +1,5 @@
 -- Reading a text forward: the piece that it begins with. The laws in proofs/ say that this is the one piece that stands there.
-use Rattle.std.specs.Prelude.{ℕ, Bool, true, false, ◌||◌, ◌&&◌, ◌==◌, nat_eq, ◌+◌, List, [], ◌∷◌, codes, take, drop, length, Option, Some, None, Result, Ok, Err, if◌then◌else◌, find, option_map}
+use Rattle.std.specs.Prelude.{ℕ, Bool, true, false, ◌||◌, ◌&&◌, ◌==◌, nat_eq, ◌+◌, List, [], ◌∷◌, codes, take, drop, length, Option, Some, None, Result, Ok, Err, if◌then◌else◌, find}
 use Rattle.std.specs.List.{starts_with, prefix_len}
 use Rattle.cc_base.specs.declared.fault.Rule.{Rule}
 use Rattle.cc_base.specs.declared.fault.Rule.TheVariants.{BadByte, OpenComment, OpenText, Unsupported}
@@ -23,15 +23,14 @@ abbrev pub token_of : ℕ → Result TokenKind Rule → Result Step Rule
 token_of size (Ok kind) = Ok (record { size = size; kind = Some kind })
 token_of size (Err rule) = Err rule
 
--- how many bytes stand before the first `*/` of the text and in it
-abbrev pub comment_end : List ℕ → Option ℕ
-comment_end [] = None
-comment_end (b ∷ rest) =
-    if (b == 42) && begins_with (λ c. c == 47) rest then Some 2 else option_map (λ n. 1 + n) (comment_end rest)
+-- how many bytes stand before the first `*/` of the text and in it, after those that were passed
+abbrev pub comment_end : (passed : ℕ) → List ℕ → Option ℕ
+comment_end passed [] = None
+comment_end passed (b ∷ rest) = if (b == 42) && begins_with (λ c. c == 47) rest then Some (passed + 2) else comment_end (passed + 1) rest
 
 abbrev pub comment_step : Option ℕ → Result Step Rule
 comment_step None = Err OpenComment
-comment_step (Some size) = gap_of (2 + size)
+comment_step (Some size) = gap_of size
 
 abbrev pub directive_step : List ℕ → Result Step Rule
 directive_step line = if is_line_marker line then gap_of (length line) else Err Unsupported
@@ -45,17 +44,17 @@ abbrev pub number_size : List ℕ → ℕ
 number_size [] = 0
 number_size (b ∷ rest) = 1 + number_run b rest
 
--- how many bytes of a literal stand before its closing quote and with it
-abbrev pub literal_end : (quote : ℕ) (is_escaped : Bool) → List ℕ → Option ℕ
-literal_end quote is_escaped [] = None
-literal_end quote is_escaped (b ∷ rest) =
+-- how many bytes of a literal stand before its closing quote and with it, after those that were passed
+abbrev pub literal_end : (quote : ℕ) (passed : ℕ) (is_escaped : Bool) → List ℕ → Option ℕ
+literal_end quote passed is_escaped [] = None
+literal_end quote passed is_escaped (b ∷ rest) =
     if b == line_feed then None
-    else (if is_escaped then option_map (λ n. 1 + n) (literal_end quote false rest)
-    else (if b == quote then Some 1 else option_map (λ n. 1 + n) (literal_end quote (b == backslash) rest)))
+    else (if is_escaped then literal_end quote (passed + 1) false rest
+    else (if b == quote then Some (passed + 1) else literal_end quote (passed + 1) (b == backslash) rest))
 
 abbrev pub literal_size : List ℕ → Option ℕ
 literal_size [] = None
-literal_size (quote ∷ rest) = option_map (λ n. 1 + n) (literal_end quote false rest)
+literal_size (quote ∷ rest) = literal_end quote 1 false rest
 
 abbrev pub literal_step : List ℕ → Option ℕ → Result Step Rule
 literal_step text None = Err OpenText
@@ -82,7 +81,7 @@ lexeme_at text =
 abbrev pub step_at : (starts_line : Bool) → List ℕ → Result Step Rule
 step_at starts_line text =
     if begins_with is_blank text then gap_of 1
-    else (if starts_with nat_eq text (codes "/*") then comment_step (comment_end (drop 2 text))
+    else (if starts_with nat_eq text (codes "/*") then comment_step (comment_end 2 (drop 2 text))
     else (if starts_with nat_eq text (codes "//") then gap_of (length (line_of text))
     else (if starts_line && begins_with (λ b. b == 35) text then directive_step (line_of text)
     else (if begins_wide_literal text then Err Unsupported

@@ -55,8 +55,11 @@ is_word (b ∷ rest) = is_letter b && list_all is_word_byte rest
 abbrev pub keyword_of : List ℕ → Option Keyword
 keyword_of word = find (λ each. bytes_eq (keyword_spelling each) word) KEYWORDS
 
+abbrev pub is_left_out : List ℕ → Bool
+is_left_out word = list_any (λ each. bytes_eq each word) words_left_out
+
 -- what a word is: a keyword, an identifier, or left out
 abbrev pub word_kind : List ℕ → Result TokenKind Rule
 word_kind word =
-    if list_any (λ left_out. bytes_eq left_out word) words_left_out then Err Unsupported
+    if is_left_out word then Err Unsupported
     else Ok (option_map_or KeywordKind (keyword_of word) Identifier)

@@ -1,6 +1,8 @@
 //! Cuts a text into the tokens of C.
 #![tactic(auto)]
 
+mod byte;
+mod gap;
 mod literal;
 mod number;
 mod punctuator;

@@ -1,6 +1,12 @@
 //! Punctuators.
 ghost use Rattle.std.specs.Prelude.{◌≡◌};
 ghost use Rattle.c_lexer.specs.Punctuators.{punctuator_spelling};
+ghost use Rattle.c_lexer.specs.Reading.{punctuator_at, punctuator_step};
+
+use cc_base::Rule;
+
+use crate::step::Step;
+use crate::token::TokenKind;
 
 /// A punctuator of C99 (6.4.6), without digraphs and without `...`.
 #[derive(Clone, Copy, Debug, PartialEq, Eq)]
@@ -159,5 +165,25 @@ impl Punctuator {
             Punctuator::Comma => b",",
             Punctuator::Hash => b"#",
         }
+    }
+}
+
+/// The first of the punctuators that the text begins with, which is the longest.
+fn punctuator_at(text: &[u8]) -> Option<Punctuator>
+    ensures { result ≡ punctuator_at text.now }
+{
+    PUNCTUATORS.iter().copied().find(|each| text.starts_with(each.spelling()))
+}
+
+/// The punctuator that the text begins with, if it begins no other lexeme.
+pub(crate) fn punctuator_step(text: &[u8]) -> Result<Step, Rule>
+    ensures { result ≡ punctuator_step (punctuator_at text.now) }
+{
+    match punctuator_at(text) {
+        Some(found) => Ok(Step {
+            size: found.spelling().len(),
+            kind: Some(TokenKind::Punctuator(found)),
+        }),
+        None => Err(Rule::BadByte),
     }
 }

@@ -1,6 +1,13 @@
 //! Words: keywords and names.
-ghost use Rattle.std.specs.Prelude.{◌≡◌};
-ghost use Rattle.c_lexer.specs.Words.{keyword_spelling};
+ghost use Rattle.std.specs.Prelude.{◌≡◌, ◌≤◌, length, bytes_eq};
+ghost use Rattle.std.specs.List.{prefix_len, list_any};
+ghost use Rattle.c_lexer.specs.Bytes.{is_word_byte};
+ghost use Rattle.c_lexer.specs.Words.{keyword_spelling, keyword_of, is_left_out, word_kind};
+
+use cc_base::Rule;
+
+use crate::byte::is_word_byte;
+use crate::token::TokenKind;
 
 /// A keyword of C99 that the language keeps.
 #[derive(Clone, Copy, Debug, PartialEq, Eq)]
@@ -111,5 +118,54 @@ impl Keyword {
             Keyword::Volatile => b"volatile",
             Keyword::While => b"while",
         }
+    }
+}
+
+/// The keywords of C99 that the language leaves out.
+const LEFT_OUT: [&[u8]; 6] = [
+    b"double",
+    b"float",
+    b"goto",
+    b"_Bool",
+    b"_Complex",
+    b"_Imaginary",
+];
+
+/// How many bytes at the front are letters, digits or `_`.
+pub(crate) fn word_size(text: &[u8]) -> usize
+    ensures value { result ≡ prefix_len is_word_byte text.now }
+    ensures fits { result ≤ length text.now }
+{
+    text.iter().take_while(|byte| is_word_byte(**byte)).count()
+}
+
+fn keyword_of(word: &[u8]) -> Option<Keyword>
+    ensures { result ≡ keyword_of word.now }
+{
+    KEYWORDS.iter().copied().find(|each| each.spelling() == word)
+}
+
+fn is_among(words: &[&[u8]], word: &[u8]) -> bool
+    ensures { result ≡ list_any (λ each. bytes_eq each.now word.now) words.now }
+{
+    words.iter().any(|each| *each == word)
+}
+
+fn is_left_out(word: &[u8]) -> bool
+    ensures { result ≡ is_left_out word.now }
+{
+    is_among(&LEFT_OUT, word)
+}
+
+/// What a word is: a keyword, an identifier, or left out.
+pub(crate) fn word_kind(word: &[u8]) -> Result<TokenKind, Rule>
+    ensures { result ≡ word_kind word.now }
+{
+    if is_left_out(word) {
+        return Err(Rule::Unsupported);
+    }
+    match keyword_of(word) {
+        Some(keyword) => Ok(TokenKind::Keyword(keyword)),
+        None => Ok(TokenKind::Identifier),
     }
 }

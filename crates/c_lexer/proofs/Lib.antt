@@ -1,2 +1,4 @@
+pub mod LexemeLaws
+pub mod ListLaws
 pub mod LiteralLaws
 pub mod NumberLaws

@@ -26,14 +26,14 @@ use Rattle.c_lexer.proofs.ListLaws.{Fronts, equal, first_shorter, second_shorter
 abbrev pub is_other : ℕ → Bool
 is_other b = not (((is_letter b || is_ascii_digit b) || is_quote b) || (is_blank b || is_bad_byte b))
 
-record Other (b : ℕ) : Type 0 where
-  letter : is_letter b ≡ false
-  digit : is_ascii_digit b ≡ false
-  quote : is_quote b ≡ false
-  blank : is_blank b ≡ false
-  bad : is_bad_byte b ≡ false
+pub record Other (b : ℕ) : Type 0 where
+  pub letter : is_letter b ≡ false
+  pub digit : is_ascii_digit b ≡ false
+  pub quote : is_quote b ≡ false
+  pub blank : is_blank b ≡ false
+  pub bad : is_bad_byte b ≡ false
 
-other_is : (b : ℕ) → is_other b ≡ true → Other b
+pub other_is : (b : ℕ) → is_other b ≡ true → Other b
 other_is b e =
     let all = or_parts ((is_letter b || is_ascii_digit b) || is_quote b) (is_blank b || is_bad_byte b) (not-true _ e) in
     let left = or_parts (is_letter b || is_ascii_digit b) (is_quote b) all.0 in
@@ -41,54 +41,54 @@ other_is b e =
     let right = or_parts (is_blank b) (is_bad_byte b) all.1 in
     record { letter = words.0; digit = words.1; quote = left.1; blank = right.0; bad = right.1 }
 
-both : {A : Type 0} (t : Bool) → t ≡ true → t ≡ false → A
+pub both : {A : Type 0} (t : Bool) → t ≡ true → t ≡ false → A
 both t is_true is_false = absurd (false≢true (sym is_false ∙ is_true))
 
-letter_digit : (b : ℕ) → is_letter b ≡ true → is_ascii_digit b ≡ false
+pub letter_digit : (b : ℕ) → is_letter b ≡ true → is_ascii_digit b ≡ false
 letter_digit b e = grind (arith, nat_tests)
 
-letter_quote : (b : ℕ) → is_letter b ≡ true → is_quote b ≡ false
+pub letter_quote : (b : ℕ) → is_letter b ≡ true → is_quote b ≡ false
 letter_quote b e = grind (arith, nat_tests)
 
-letter_blank : (b : ℕ) → is_letter b ≡ true → is_blank b ≡ false
+pub letter_blank : (b : ℕ) → is_letter b ≡ true → is_blank b ≡ false
 letter_blank b e = grind (arith, nat_tests)
 
-letter_bad : (b : ℕ) → is_letter b ≡ true → is_bad_byte b ≡ false
+pub letter_bad : (b : ℕ) → is_letter b ≡ true → is_bad_byte b ≡ false
 letter_bad b e = grind (arith, nat_tests)
 
-letter_point : (b : ℕ) → is_letter b ≡ true → (b == 46) ≡ false
+pub letter_point : (b : ℕ) → is_letter b ≡ true → (b == 46) ≡ false
 letter_point b e = grind (arith, nat_tests)
 
-digit_quote : (b : ℕ) → is_ascii_digit b ≡ true → is_quote b ≡ false
+pub digit_quote : (b : ℕ) → is_ascii_digit b ≡ true → is_quote b ≡ false
 digit_quote b e = grind (arith, nat_tests)
 
-digit_blank : (b : ℕ) → is_ascii_digit b ≡ true → is_blank b ≡ false
+pub digit_blank : (b : ℕ) → is_ascii_digit b ≡ true → is_blank b ≡ false
 digit_blank b e = grind (arith, nat_tests)
 
-digit_bad : (b : ℕ) → is_ascii_digit b ≡ true → is_bad_byte b ≡ false
+pub digit_bad : (b : ℕ) → is_ascii_digit b ≡ true → is_bad_byte b ≡ false
 digit_bad b e = grind (arith, nat_tests)
 
-quote_letter : (b : ℕ) → is_quote b ≡ true → is_letter b ≡ false
+pub quote_letter : (b : ℕ) → is_quote b ≡ true → is_letter b ≡ false
 quote_letter b e = grind (arith, nat_tests)
 
-quote_digit : (b : ℕ) → is_quote b ≡ true → is_ascii_digit b ≡ false
+pub quote_digit : (b : ℕ) → is_quote b ≡ true → is_ascii_digit b ≡ false
 quote_digit b e = grind (arith, nat_tests)
 
-quote_point : (b : ℕ) → is_quote b ≡ true → (b == 46) ≡ false
+pub quote_point : (b : ℕ) → is_quote b ≡ true → (b == 46) ≡ false
 quote_point b e = grind (arith, nat_tests)
 
-quote_blank : (b : ℕ) → is_quote b ≡ true → is_blank b ≡ false
+pub quote_blank : (b : ℕ) → is_quote b ≡ true → is_blank b ≡ false
 quote_blank b e = grind (arith, nat_tests)
 
-quote_bad : (b : ℕ) → is_quote b ≡ true → is_bad_byte b ≡ false
+pub quote_bad : (b : ℕ) → is_quote b ≡ true → is_bad_byte b ≡ false
 quote_bad b e = grind (arith, nat_tests)
 
 -- Punctuators.
 
-each_other : list_all (λ each. begins_with is_other (punctuator_spelling each)) PUNCTUATORS ≡ true
+pub each_other : list_all (λ each. begins_with is_other (punctuator_spelling each)) PUNCTUATORS ≡ true
 each_other = refl
 
-punctuator_other : (b : ℕ) (rest : List ℕ) → is_punctuator (b ∷ rest) ≡ true → is_other b ≡ true
+pub punctuator_other : (b : ℕ) (rest : List ℕ) → is_punctuator (b ∷ rest) ≡ true → is_other b ≡ true
 punctuator_other b rest e =
     ⊎_elim
     (λ same. subst (λ l. begins_with is_other l ≡ true) (bytes_eq_gives ellipsis (b ∷ rest) same) refl)
@@ -103,10 +103,10 @@ punctuator_other b rest e =
 
 -- Runs of bytes.
 
-one_more : (n : ℕ) → 1 + n ≡ suc n
+pub one_more : (n : ℕ) → 1 + n ≡ suc n
 one_more n = omega arith
 
-run_passes : (test : ℕ → Bool) (text : List ℕ) → list_all test (take (prefix_len test text) text) ≡ true
+pub run_passes : (test : ℕ → Bool) (text : List ℕ) → list_all test (take (prefix_len test text) text) ≡ true
 run_passes test [] = refl
 run_passes test (b ∷ rest) =
     (elim (test b) as (λ t. test b ≡ t → list_all test (take (cond t (1 + prefix_len test rest) 0) (b ∷ rest)) ≡ true) [
@@ -114,7 +114,7 @@ run_passes test (b ∷ rest) =
       | false ↦ λ is_t. refl
     ]) refl
 
-run_longest : (test : ℕ → Bool) (text : List ℕ) (c : ℕ) (more after : List ℕ) → drop (prefix_len test text) text ≡ c ∷ (more ++ after) → list_all test (take (prefix_len test text) text ++ c ∷ more) ≡ false
+pub run_longest : (test : ℕ → Bool) (text : List ℕ) (c : ℕ) (more after : List ℕ) → drop (prefix_len test text) text ≡ c ∷ (more ++ after) → list_all test (take (prefix_len test text) text ++ c ∷ more) ≡ false
 run_longest test [] c more after e = cc
 run_longest test (b ∷ rest) c more after e =
     (elim (test b) as (λ t. test b ≡ t → drop (cond t (1 + prefix_len test rest) 0) (b ∷ rest) ≡ c ∷ (more ++ after) → list_all test (take (cond t (1 + prefix_len test rest) 0) (b ∷ rest) ++ c ∷ more) ≡ false) [
@@ -126,7 +126,7 @@ run_longest test (b ∷ rest) c more after e =
           and_left (test c) (list_all test more) (ap test (sym same) ∙ is_t)
     ]) refl e
 
-number_passes : (previous : ℕ) (text : List ℕ) → all_go_on previous (take (number_run previous text) text) ≡ true
+pub number_passes : (previous : ℕ) (text : List ℕ) → all_go_on previous (take (number_run previous text) text) ≡ true
 number_passes previous [] = refl
 number_passes previous (b ∷ rest) =
     (elim (goes_on previous b) as (λ t. goes_on previous b ≡ t → all_go_on previous (take (cond t (1 + number_run b rest) 0) (b ∷ rest)) ≡ true) [
@@ -134,7 +134,7 @@ number_passes previous (b ∷ rest) =
       | false ↦ λ is_t. refl
     ]) refl
 
-number_longest : (previous : ℕ) (text : List ℕ) (c : ℕ) (more after : List ℕ) → drop (number_run previous text) text ≡ c ∷ (more ++ after) → all_go_on previous (take (number_run previous text) text ++ c ∷ more) ≡ false
+pub number_longest : (previous : ℕ) (text : List ℕ) (c : ℕ) (more after : List ℕ) → drop (number_run previous text) text ≡ c ∷ (more ++ after) → all_go_on previous (take (number_run previous text) text ++ c ∷ more) ≡ false
 number_longest previous [] c more after e = cc
 number_longest previous (b ∷ rest) c more after e =
     (elim (goes_on previous b) as (λ t. goes_on previous b ≡ t → drop (cond t (1 + number_run b rest) 0) (b ∷ rest) ≡ c ∷ (more ++ after) → all_go_on previous (take (cond t (1 + number_run b rest) 0) (b ∷ rest) ++ c ∷ more) ≡ false) [
@@ -146,10 +146,10 @@ number_longest previous (b ∷ rest) c more after e =
           and_left (goes_on previous c) (all_go_on c more) (ap (goes_on previous) (sym same) ∙ is_t)
     ]) refl e
 
-run-le : (test : ℕ → Bool) (text : List ℕ) → length (take (prefix_len test text) text) ≡ prefix_len test text
+pub run-le : (test : ℕ → Bool) (text : List ℕ) → length (take (prefix_len test text) text) ≡ prefix_len test text
 run-le test text = length-take-le (prefix_len test text) text (prefix_len-le-length test text)
 
-number_run-le : (previous : ℕ) (text : List ℕ) → number_run previous text ≤ length text
+pub number_run-le : (previous : ℕ) (text : List ℕ) → number_run previous text ≤ length text
 number_run-le previous [] = omega arith
 number_run-le previous (b ∷ rest) =
     (elim (goes_on previous b) as (λ t. cond t (1 + number_run b rest) 0 ≤ length (b ∷ rest)) [
@@ -167,7 +167,7 @@ pub record Closed (quote passed : ℕ) (is_escaped : Bool) (rest : List ℕ) (si
   pub closed : closes quote is_escaped body ≡ true
   pub counted : size ≡ passed + length body
 
-more_closed : (quote passed : ℕ) (is_escaped next_escaped : Bool) (b : ℕ) (rest : List ℕ) (size : ℕ)
+pub more_closed : (quote passed : ℕ) (is_escaped next_escaped : Bool) (b : ℕ) (rest : List ℕ) (size : ℕ)
     → ((body : List ℕ) → closes quote is_escaped (b ∷ body) ≡ closes quote next_escaped body)
     → Closed quote (passed + 1) next_escaped rest size → Closed quote passed is_escaped (b ∷ rest) size
 more_closed quote passed is_escaped next_escaped b rest size step c = record {
@@ -179,15 +179,15 @@ more_closed quote passed is_escaped next_escaped b rest size step c = record {
 }
 
 -- how a literal goes on after a byte that is no line feed
-closes_escaped : (quote b : ℕ) (body : List ℕ) → (b == line_feed) ≡ false → closes quote true (b ∷ body) ≡ closes quote false body
+pub closes_escaped : (quote b : ℕ) (body : List ℕ) → (b == line_feed) ≡ false → closes quote true (b ∷ body) ≡ closes quote false body
 closes_escaped quote b body no_end = ap (λ t. not t && closes quote false body) no_end
 
-closes_at : (quote b : ℕ) (body : List ℕ) → (b == line_feed) ≡ false → (b == quote) ≡ true → closes quote false (b ∷ body) ≡ (length body == 0)
+pub closes_at : (quote b : ℕ) (body : List ℕ) → (b == line_feed) ≡ false → (b == quote) ≡ true → closes quote false (b ∷ body) ≡ (length body == 0)
 closes_at quote b body no_end is_quote =
     ap (λ t. not t && cond (b == quote) (length body == 0) (closes quote (b == backslash) body)) no_end
     ∙ ap (λ t. cond t (length body == 0) (closes quote (b == backslash) body)) is_quote
 
-closes_after : (quote b : ℕ) (body : List ℕ) → (b == line_feed) ≡ false → (b == quote) ≡ false → closes quote false (b ∷ body) ≡ closes quote (b == backslash) body
+pub closes_after : (quote b : ℕ) (body : List ℕ) → (b == line_feed) ≡ false → (b == quote) ≡ false → closes quote false (b ∷ body) ≡ closes quote (b == backslash) body
 closes_after quote b body no_end no_quote =
     ap (λ t. not t && cond (b == quote) (length body == 0) (closes quote (b == backslash) body)) no_end
     ∙ ap (λ t. cond t (length body == 0) (closes quote (b == backslash) body)) no_quote
@@ -225,7 +225,7 @@ closes_end quote passed false (b ∷ body) after e =
           (rest.0, no_end ∙ ap (λ t. cond t (Some (passed + 1)) (literal_end quote (passed + 1) (b == backslash) (body ++ after))) no_quote ∙ rest.1))
     ]) refl parts.1
 
-closes_longest : (quote : ℕ) (is_escaped : Bool) (body : List ℕ) (c : ℕ) (more : List ℕ) → closes quote is_escaped body ≡ true → closes quote is_escaped (body ++ c ∷ more) ≡ false
+pub closes_longest : (quote : ℕ) (is_escaped : Bool) (body : List ℕ) (c : ℕ) (more : List ℕ) → closes quote is_escaped body ≡ true → closes quote is_escaped (body ++ c ∷ more) ≡ false
 closes_longest quote is_escaped [] c more e = absurd (false≢true e)
 closes_longest quote true (b ∷ body) c more e =
     let parts = and_parts (not (b == line_feed)) (closes quote false body) e in
@@ -338,9 +338,9 @@ lexeme_kind-punctuator mark.Equal = refl
 lexeme_kind-punctuator mark.Comma = refl
 lexeme_kind-punctuator mark.Hash = refl
 
-abbrev is_ordered : List Punctuator → Bool
+abbrev pub is_ordered : List Punctuator → Bool
 is_ordered [] = true
 is_ordered (m ∷ ms) = list_all (λ later. not (starts_with nat_eq (punctuator_spelling later) (punctuator_spelling m))) ms && is_ordered ms
 
-ordered : is_ordered PUNCTUATORS ≡ true
+pub ordered : is_ordered PUNCTUATORS ≡ true
 ordered = refl

@@ -1,3 +1,4 @@
+pub mod FirstLexeme
 pub mod LexemeLaws
 pub mod ListLaws
 pub mod LiteralLaws

@@ -40,13 +40,13 @@ not_punctuator b rest e = false_from_ne_true (is_punctuator (b ∷ rest)) (λ ye
 pub not_lexeme : (bytes : List ℕ) → is_word bytes ≡ false → is_number bytes ≡ false → is_literal bytes ≡ false → is_punctuator bytes ≡ false → is_lexeme bytes ≡ false
 not_lexeme bytes w n l p = or_from (is_word bytes || is_number bytes) (is_literal bytes || is_punctuator bytes) (or_from (is_word bytes) (is_number bytes) w n) (or_from (is_literal bytes) (is_punctuator bytes) l p)
 
-letter_other : (b : ℕ) → is_letter b ≡ true → is_other b ≡ false
+pub letter_other : (b : ℕ) → is_letter b ≡ true → is_other b ≡ false
 letter_other b e = not_from_true (((is_letter b || is_ascii_digit b) || is_quote b) || (is_blank b || is_bad_byte b)) (or_left ((is_letter b || is_ascii_digit b) || is_quote b) (is_blank b || is_bad_byte b) (or_left (is_letter b || is_ascii_digit b) (is_quote b) (or_left (is_letter b) (is_ascii_digit b) e)))
 
-digit_other : (b : ℕ) → is_ascii_digit b ≡ true → is_other b ≡ false
+pub digit_other : (b : ℕ) → is_ascii_digit b ≡ true → is_other b ≡ false
 digit_other b e = not_from_true (((is_letter b || is_ascii_digit b) || is_quote b) || (is_blank b || is_bad_byte b)) (or_left ((is_letter b || is_ascii_digit b) || is_quote b) (is_blank b || is_bad_byte b) (or_left (is_letter b || is_ascii_digit b) (is_quote b) (or_right (is_letter b) (is_ascii_digit b) e)))
 
-quote_other : (b : ℕ) → is_quote b ≡ true → is_other b ≡ false
+pub quote_other : (b : ℕ) → is_quote b ≡ true → is_other b ≡ false
 quote_other b e = not_from_true (((is_letter b || is_ascii_digit b) || is_quote b) || (is_blank b || is_bad_byte b)) (or_left ((is_letter b || is_ascii_digit b) || is_quote b) (is_blank b || is_bad_byte b) (or_right (is_letter b || is_ascii_digit b) (is_quote b) e))
 
 pub letter_no_number : (b : ℕ) (rest : List ℕ) → is_letter b ≡ true → begins_number (b ∷ rest) ≡ false
@@ -55,10 +55,10 @@ letter_no_number b rest e = or_from (is_ascii_digit b) ((b == 46) && begins_with
 pub quote_no_number : (b : ℕ) (rest : List ℕ) → is_quote b ≡ true → begins_number (b ∷ rest) ≡ false
 quote_no_number b rest e = or_from (is_ascii_digit b) ((b == 46) && begins_with is_ascii_digit rest) (quote_digit b e) (and_left (b == 46) (begins_with is_ascii_digit rest) (quote_point b e))
 
-number_no_quote : (b : ℕ) (rest : List ℕ) → begins_number (b ∷ rest) ≡ true → is_quote b ≡ false
+pub number_no_quote : (b : ℕ) (rest : List ℕ) → begins_number (b ∷ rest) ≡ true → is_quote b ≡ false
 number_no_quote b rest e = false_from_ne_true (is_quote b) (λ quote. false≢true (sym (quote_no_number b rest quote) ∙ e))
 
-begins_front : (test : ℕ → Bool) (front after : List ℕ) → begins_with test front ≡ true → begins_with test (front ++ after) ≡ true
+pub begins_front : (test : ℕ → Bool) (front after : List ℕ) → begins_with test front ≡ true → begins_with test (front ++ after) ≡ true
 begins_front test [] after e = absurd (false≢true e)
 begins_front test (b ∷ rest) after e = e
 
@@ -74,13 +74,13 @@ begins_number_front (b ∷ rest) after e =
     (or_cases (is_ascii_digit b) ((b == 46) && begins_with is_ascii_digit rest) e)
 
 -- `.` and a digit are no punctuator
-point_digit : (d : ℕ) (rest : List ℕ) → is_ascii_digit d ≡ true → is_punctuator (46 ∷ d ∷ rest) ≡ false
+pub point_digit : (d : ℕ) (rest : List ℕ) → is_ascii_digit d ≡ true → is_punctuator (46 ∷ d ∷ rest) ≡ false
 point_digit d rest e = or_from ((46 == d) && bytes_eq (46 ∷ []) rest) false (and_left (46 == d) (bytes_eq (46 ∷ []) rest) (digit_no_point d e)) refl
   where
     digit_no_point : (k : ℕ) → is_ascii_digit k ≡ true → (46 == k) ≡ false
     digit_no_point k h = grind (arith, nat_tests)
 
-number_no_punctuator : (b : ℕ) (rest : List ℕ) → begins_number (b ∷ rest) ≡ true → is_punctuator (b ∷ rest) ≡ false
+pub number_no_punctuator : (b : ℕ) (rest : List ℕ) → begins_number (b ∷ rest) ≡ true → is_punctuator (b ∷ rest) ≡ false
 number_no_punctuator b [] e =
     not_punctuator b [] (digit_other b (⊎_elim (λ digit. digit) (λ point. absurd (false≢true (and_parts (b == 46) false point).1)) (or_cases (is_ascii_digit b) ((b == 46) && false) e)))
 number_no_punctuator b (d ∷ rest) e =
@@ -99,7 +99,7 @@ pub record Found (text : List ℕ) (result : Result Step Rule) : Type 0 where
   pub begins : Begins text lexeme after
   pub result_is : result ≡ token_of (length lexeme) (lexeme_kind lexeme)
 
-found_word : (b : ℕ) (rest : List ℕ) → is_letter b ≡ true → Found (b ∷ rest) (token_of (prefix_len is_word_byte (b ∷ rest)) (word_kind (take (prefix_len is_word_byte (b ∷ rest)) (b ∷ rest))))
+pub found_word : (b : ℕ) (rest : List ℕ) → is_letter b ≡ true → Found (b ∷ rest) (token_of (prefix_len is_word_byte (b ∷ rest)) (word_kind (take (prefix_len is_word_byte (b ∷ rest)) (b ∷ rest))))
 found_word b rest letter =
     let k = prefix_len is_word_byte rest in
     let word = b ∷ take k rest in
@@ -124,7 +124,7 @@ found_word b rest letter =
           ∙ ap (token_of (length word)) (sym (cond-true (is_word word) (word_kind word) _ is_one));
     }
 
-begins_run : (b : ℕ) (rest : List ℕ) → begins_number (b ∷ rest) ≡ true → begins_number (b ∷ take (number_run b rest) rest) ≡ true
+pub begins_run : (b : ℕ) (rest : List ℕ) → begins_number (b ∷ rest) ≡ true → begins_number (b ∷ take (number_run b rest) rest) ≡ true
 begins_run b [] e = e
 begins_run b (d ∷ rest) e =
     ⊎_elim
@@ -138,7 +138,7 @@ begins_run b (d ∷ rest) e =
         or_right (is_ascii_digit b) ((b == 46) && begins_with is_ascii_digit (take (number_run b (d ∷ rest)) (d ∷ rest))) (and_from (b == 46) _ parts.0 first))
     (or_cases (is_ascii_digit b) ((b == 46) && is_ascii_digit d) e)
 
-found_number : (b : ℕ) (rest : List ℕ) → is_letter b ≡ false → begins_number (b ∷ rest) ≡ true → Found (b ∷ rest) (token_of (number_size (b ∷ rest)) (number_kind (take (number_size (b ∷ rest)) (b ∷ rest))))
+pub found_number : (b : ℕ) (rest : List ℕ) → is_letter b ≡ false → begins_number (b ∷ rest) ≡ true → Found (b ∷ rest) (token_of (number_size (b ∷ rest)) (number_kind (take (number_size (b ∷ rest)) (b ∷ rest))))
 found_number b rest no_letter begins =
     let k = number_run b rest in
     let number = b ∷ take k rest in
@@ -164,7 +164,7 @@ found_number b rest no_letter begins =
           ∙ ap (token_of (length number)) (sym (cond-false (is_word number) (word_kind number) _ no_word ∙ cond-true (is_number number) (number_kind number) _ is_one));
     }
 
-literal_lexeme : (quote : ℕ) (rest : List ℕ) → is_letter quote ≡ false → is_quote quote ≡ true → (size : ℕ) → Closed quote 1 false rest size → Found (quote ∷ rest) (token_of size (literal_kind (take size (quote ∷ rest))))
+pub literal_lexeme : (quote : ℕ) (rest : List ℕ) → is_letter quote ≡ false → is_quote quote ≡ true → (size : ℕ) → Closed quote 1 false rest size → Found (quote ∷ rest) (token_of size (literal_kind (take size (quote ∷ rest))))
 literal_lexeme quote rest no_letter is_q size c =
     let literal = quote ∷ c.body in
     let is_one : is_literal literal ≡ true = and_from (is_quote quote) (closes quote false c.body) is_q c.closed in
@@ -191,7 +191,7 @@ literal_lexeme quote rest no_letter is_q size c =
           ∙ ap (token_of (length literal)) (sym (cond-false (is_word literal) (word_kind literal) _ no_word ∙ cond-false (is_number literal) (number_kind literal) _ no_number ∙ cond-true (is_literal literal) (literal_kind literal) _ is_one));
     }
 
-open_literal : (quote : ℕ) (rest : List ℕ) → is_quote quote ≡ true → literal_end quote 1 false rest ≡ None → IsOpenLiteral (quote ∷ rest)
+pub open_literal : (quote : ℕ) (rest : List ℕ) → is_quote quote ≡ true → literal_end quote 1 false rest ≡ None → IsOpenLiteral (quote ∷ rest)
 open_literal quote rest is_q none = record { quote = is_q; none_closed = λ literal after e. false_from_ne_true (is_literal literal) (never literal after e) }
   where
     never : (literal after : List ℕ) → quote ∷ rest ≡ literal ++ after → is_literal literal ≡ true → ⊥

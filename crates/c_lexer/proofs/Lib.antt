@@ -3,3 +3,4 @@ pub mod LexemeLaws
 pub mod ListLaws
 pub mod LiteralLaws
 pub mod NumberLaws
+pub mod TextStart

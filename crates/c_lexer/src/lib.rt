@@ -13,5 +13,5 @@ mod word;
 pub use literal::Character;
 pub use number::IntegerType;
 pub use punctuator::Punctuator;
-pub use token::TokenKind;
+pub use token::{Token, TokenKind};
 pub use word::Keyword;

@@ -1,4 +1,10 @@
 //! Tokens.
+ghost use Rattle.std.specs.Prelude.{◌≡◌};
+
+use std::marker::Model;
+
+use cc_base::Place;
+
 use crate::number::IntegerType;
 use crate::punctuator::Punctuator;
 use crate::word::Keyword;
@@ -14,4 +20,63 @@ pub enum TokenKind {
     Character(i32),
     StringLiteral,
     Punctuator(Punctuator),
+}
+
+/// A token of a text, from which it borrows its bytes.
+#[derive(Debug, Drop)]
+pub struct Token<'a> {
+    kind: TokenKind,
+    bytes: &'a [u8],
+    start: usize,
+    place: Place,
+}
+
+impl<'a> Model for Token<'a> {
+    ghost use Rattle.c_lexer.specs.Tokens.{Token as SeenToken};
+
+    ghost Value = { SeenToken };
+    ghost view = { λ t. record { kind = t.kind; bytes = t.bytes.now; start = t.start; place = t.place } };
+}
+
+impl<'a> Token<'a> {
+    pub(crate) fn new(kind: TokenKind, bytes: &'a [u8], start: usize, place: Place) -> Self
+        ensures kind { result.kind ≡ kind }
+        ensures bytes { result.bytes ≡ bytes.now }
+        ensures start { result.start ≡ start }
+        ensures place { result.place ≡ place }
+    {
+        Token {
+            kind,
+            bytes,
+            start,
+            place,
+        }
+    }
+
+    pub fn kind(&self) -> TokenKind
+        ensures { result ≡ self.now.kind }
+    {
+        self.kind
+    }
+
+    /// The bytes of the text that spell it.
+    pub fn bytes(&self) -> &'a [u8]
+        ensures { result.now ≡ self.now.bytes }
+    {
+        self.bytes
+    }
+
+    /// How many bytes of the text stand before it.
+    pub fn start(&self) -> usize
+        ensures { result ≡ self.now.start }
+    {
+        self.start
+    }
+
+    /// The place of its first byte.
+    pub fn place(&self) -> Place
+        ensures { result ≡ self.now.place }
+    {
+        self.place
+    }
 }

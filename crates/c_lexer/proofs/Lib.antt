@@ -1,3 +1,4 @@
+pub mod CutLaws
 pub mod FirstLexeme
 pub mod GapLaws
 pub mod LexemeLaws

@@ -10,6 +10,7 @@ use Rattle.c_lexer.specs.Literals.{literal_kind}
 use Rattle.c_lexer.specs.Numbers.{begins_number, goes_on, number_kind}
 use Rattle.c_lexer.specs.Punctuators.{punctuator_spelling, ellipsis}
 use Rattle.c_lexer.specs.Words.{word_kind}
+use Rattle.c_lexer.specs.declared.position.Position.{Position}
 use Rattle.c_lexer.specs.declared.punctuator.Punctuator.{Punctuator}
 use Rattle.c_lexer.specs.declared.punctuator.TheConstants.{PUNCTUATORS}
 use Rattle.c_lexer.specs.declared.step.Step.{Step}
@@ -86,3 +87,9 @@ step_at starts_line text =
     else (if starts_line && begins_with (λ b. b == 35) text then directive_step (line_of text)
     else (if begins_wide_literal text then Err Unsupported
     else lexeme_at text))))
+
+-- the position after one more byte
+abbrev pub next_position : Position → ℕ → Position
+next_position position b =
+    if b == line_feed then record { place = record { line = position.place.line + 1; col = 1 }; starts_line = true }
+    else record { place = record { line = position.place.line; col = position.place.col + 1 }; starts_line = position.starts_line && is_blank b }

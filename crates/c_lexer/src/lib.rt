@@ -5,11 +5,14 @@ mod byte;
 mod gap;
 mod literal;
 mod number;
+mod lexer;
+mod position;
 mod punctuator;
 mod step;
 mod token;
 mod word;
 
+pub use lexer::tokens;
 pub use literal::Character;
 pub use number::IntegerType;
 pub use punctuator::Punctuator;

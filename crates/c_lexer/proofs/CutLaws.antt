@@ -10,7 +10,7 @@ use Rattle.cc_base.specs.declared.fault.Rule.TheVariants.{BadByte, OpenComment, 
 use Rattle.c_lexer.specs.Bytes.{begins_with}
 use Rattle.c_lexer.specs.Cut.{Piece, Blank, BlockComment, LineComment, LineMarker, Spelled, piece_bytes, text_of, Stands, AllStand, tokens_of, IsCutBefore, IsCut, IsRefusal, IsFault, IsRefusedLexeme, is_first_on_line, place_after}
 use Rattle.c_lexer.specs.Lexemes.{is_lexeme, Begins}
-use Rattle.c_lexer.specs.Reading.{step_at}
+use Rattle.c_lexer.specs.Reading.{step_at, token_list}
 use Rattle.c_lexer.specs.Tokens.{Token}
 use Rattle.c_lexer.specs.declared.step.Step.{Step}
 use Rattle.c_lexer.specs.declared.token.TokenKind.{TokenKind}
@@ -32,8 +32,7 @@ same_fronts xs ys us vs e lengths = decided (fronts xs ys us vs e)
 -- The tokens of pieces, one piece after another.
 
 abbrev pub first_token : (before : List ℕ) → Option TokenKind → (bytes : List ℕ) → List Token
-first_token before None bytes = []
-first_token before (Some kind) bytes = record { kind = kind; bytes = bytes; start = length before; place = place_after before } ∷ []
+first_token before kind bytes = token_list kind bytes (length before) (place_after before)
 
 tokens_of-cons : (before : List ℕ) (piece : Piece) (pieces : List Piece) → tokens_of before (piece ∷ pieces) ≡ first_token before (kind_of piece) (piece_bytes piece) ++ tokens_of (before ++ piece_bytes piece) pieces
 tokens_of-cons before (Blank b) pieces = refl

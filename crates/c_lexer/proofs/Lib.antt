@@ -5,5 +5,6 @@ pub mod LexemeLaws
 pub mod ListLaws
 pub mod LiteralLaws
 pub mod NumberLaws
+pub mod ReachedLaws
 pub mod StepLaws
 pub mod TextStart

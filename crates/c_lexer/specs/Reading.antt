@@ -1,6 +1,7 @@
 -- Reading a text forward: the piece that it begins with. The laws in proofs/ say that this is the one piece that stands there.
 use Rattle.std.specs.Prelude.{ℕ, Bool, true, false, ◌||◌, ◌&&◌, ◌==◌, nat_eq, ◌+◌, List, [], ◌∷◌, codes, take, drop, length, Option, Some, None, Result, Ok, Err, if◌then◌else◌, find}
 use Rattle.std.specs.List.{starts_with, prefix_len}
+use Rattle.cc_base.specs.declared.place.Place.{Place}
 use Rattle.cc_base.specs.declared.fault.Rule.{Rule}
 use Rattle.cc_base.specs.declared.fault.Rule.TheVariants.{BadByte, OpenComment, OpenText, Unsupported}
 use Rattle.c_lexer.specs.Bytes.{line_feed, backslash, is_blank, is_letter, is_word_byte, is_quote, begins_with}
@@ -9,6 +10,7 @@ use Rattle.c_lexer.specs.Lexemes.{begins_wide_literal}
 use Rattle.c_lexer.specs.Literals.{literal_kind}
 use Rattle.c_lexer.specs.Numbers.{begins_number, goes_on, number_kind}
 use Rattle.c_lexer.specs.Punctuators.{punctuator_spelling, ellipsis}
+use Rattle.c_lexer.specs.Tokens.{Token}
 use Rattle.c_lexer.specs.Words.{word_kind}
 use Rattle.c_lexer.specs.declared.position.Position.{Position}
 use Rattle.c_lexer.specs.declared.punctuator.Punctuator.{Punctuator}
@@ -93,3 +95,8 @@ abbrev pub next_position : Position → ℕ → Position
 next_position position b =
     if b == line_feed then record { place = record { line = position.place.line + 1; col = 1 }; starts_line = true }
     else record { place = record { line = position.place.line; col = position.place.col + 1 }; starts_line = position.starts_line && is_blank b }
+
+-- the token that a piece is, if it is one
+abbrev pub token_list : Option TokenKind → (bytes : List ℕ) (start : ℕ) → Place → List Token
+token_list None bytes start place = []
+token_list (Some kind) bytes start place = record { kind = kind; bytes = bytes; start = start; place = place } ∷ []

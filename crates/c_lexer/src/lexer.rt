@@ -1,23 +1,46 @@
 //! A text cut into tokens.
-ghost use Rattle.std.specs.Prelude.{◌≡◌, ◌≢◌, ◌≤◌, ◌⊎◌, List, Result, Vec, Ok, Err, IfOk, IfErr, length};
+ghost use Rattle.std.specs.Prelude.{◌≡◌, ◌≢◌, ◌≤◌, ◌⊎◌, List, Result, Vec, Ok, Err, IfOk, IfErr, OnOk, IsOkAnd, length, ◌++◌};
 ghost use Rattle.cc_base.specs.declared.place.Place.{Place as PlaceValue};
 ghost use Rattle.cc_base.specs.declared.fault.Rule.{Rule as RuleValue};
 ghost use Rattle.c_lexer.specs.Cut.{IsCut, IsRefusal, IsLexicalFault};
+ghost use Rattle.c_lexer.specs.Reading.{token_list};
 ghost use Rattle.c_lexer.specs.Tokens.{Token as TokenValue};
 
-use std::alloc::Global;
+use std::alloc::{AllocError, Global};
 
 use cc_base::{Fault, Place};
 
 use crate::position::Position;
 use crate::step::step_at;
-use crate::token::Token;
+use crate::token::{Token, TokenKind};
+
+/// Adds a token of this kind, if the piece is one.
+fn keep<'a>(found: &mut Vec<Token<'a>>, kind: Option<TokenKind>, bytes: &'a [u8], start: usize, place: Place) -> Result<(), AllocError>
+    ensures { OnOk result (found.new.items ≡ found.old.items ++ token_list kind bytes.now start place) }
+{
+    if let Some(kind) = kind {
+        found.push(Token::new(kind, bytes, start, place))?;
+    }
+    Ok(())
+}
 
 /// The tokens of a text, in order.
 pub fn tokens<'a>(alloc: Global, text: &'a [u8]) -> Result<Vec<Token<'a>>, Fault>
     requires { length text.now ≤ 1048576 }
-    ensures cut { IfOk result (λ list. IsCut text.now list.items) }
+    ensures cut { IfOk result (λ found. IsCut text.now found.items) }
     ensures refused { IfErr result (IsLexicalFault text.now) }
+
+    // No other list of tokens is cut from the text, and a text that can be cut is not refused.
+    ensures accepts {
+        (list : List TokenValue) → IsCut text.now list
+        → IsOkAnd result (λ found. found.items ≡ list) ⊎ (result ≡ Err Fault.NoMemory)
+    }
+
+    // Nothing else is answered where a text is refused.
+    ensures refuses {
+        (place : PlaceValue) (rule : RuleValue) → IsRefusal text.now place rule
+        → (result ≡ Err (Fault.Refused place rule)) ⊎ (result ≡ Err Fault.NoMemory)
+    }
 {
     let mut found = Vec::new(alloc);
     let mut position = Position {
@@ -36,9 +59,8 @@ pub fn tokens<'a>(alloc: Global, text: &'a [u8]) -> Result<Vec<Token<'a>>, Fault
             }
         };
         let (bytes, after) = rest.split_at(step.size);
-        if let Some(kind) = step.kind {
-            found.push(Token::new(kind, bytes, text.len() - rest.len(), position.place))?;
-        }
+        let start = text.len() - rest.len();
+        keep(&mut found, step.kind, bytes, start, position.place)?;
         position = position.after(bytes);
         rest = after;
     }

@@ -42,7 +42,7 @@ impl Position {
     /// After some more bytes.
     pub(crate) fn after(self, bytes: &[u8]) -> Position
         requires line { self.place.line + length bytes.now < 2 ^ 32 }
-        requires column { self.place.col + length bytes.now < 2 ^ 32 }
+        requires column { self.place.col + length bytes.now + 1 < 2 ^ 32 }
         ensures { result ≡ fold next_position self bytes.now }
     {
         let mut position = self;

@@ -2,14 +2,12 @@
 ghost use Rattle.std.specs.Prelude.{◌≡◌, ◌<◌, ◌≤◌, [], length, None, OnOk, OnErr, IfSome, IsErrOf, vec_len};
 ghost use Rattle.cc_io.specs.Faults.{greatest_count, Rose, faults_after, last_after};
 
-use std::alloc::Global;
-use std::fs;
-use std::io::Read;
-use std::marker::Model;
-use std::rt;
-
 use crate::faults::{FileFault, count_after};
 use crate::traits::Files;
+use std::alloc::Global;
+use std::io::Read;
+use std::marker::Model;
+use std::{fs, rt};
 
 /// The files of the system, by their paths, with a count of the errors.
 #[derive(Drop)]
@@ -110,5 +108,30 @@ fn read_whole<F: Read>(file: &mut F, limit: u64, into: &mut Vec<u8>) -> Result<(
         if into.extend_from_slice(&piece[..count]).is_err() {
             return Err(FileFault::NoMemory);
         }
+    }
+}
+
+#[cfg(test)]
+mod tests {
+    use super::*;
+    use crate::testing::load;
+    use std::test::Fail;
+
+    #[test]
+    fn reads_a_file_of_two_pieces_up_to_the_limit(rt: HostRuntime) -> Result<(), Fail> {
+        let alloc = rt.alloc();
+        let name = "cc_io_two_pieces";
+        let text = vec![in alloc; b'x'; 5000]?;
+        fs::write(&rt, name, text.as_slice())?;
+        let mut files = DiskFiles::new(alloc, rt);
+        assert_eq!(rt;
+            load(&mut files, alloc, name, 4999),
+            Err(FileFault::TooLarge)
+        );
+        assert_eq!(rt; load(&mut files, alloc, name, 5000), Ok(text));
+        fs::remove_file(&rt, name)?;
+        assert_eq!(rt; load(&mut files, alloc, name, 5000), Err(FileFault::Failed));
+        assert_eq!(rt; files.faults, 1);
+        Ok(())
     }
 }

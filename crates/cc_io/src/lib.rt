@@ -10,6 +10,8 @@ mod mem_sink;
 mod mem_source;
 mod std_sink;
 mod std_source;
+#[cfg(test)]
+mod testing;
 mod traits;
 
 pub use disk_files::DiskFiles;

@@ -4,13 +4,12 @@ ghost use Rattle.std.specs.Option.{option_copied};
 ghost use Rattle.cc_io.specs.Faults.{counted_up, greatest_count, Rose, faults_after, last_after};
 ghost use Rattle.cc_io.specs.Outside.{file_of, named_files};
 
-use std::alloc::Global;
-use std::collections::BTreeMap;
-use std::marker::Model;
-
 use crate::calls::Calls;
 use crate::faults::FileFault;
 use crate::traits::Files;
+use std::alloc::Global;
+use std::collections::BTreeMap;
+use std::marker::Model;
 
 /// Files that a map holds by their names, which fail at chosen calls.
 #[derive(Drop)]
@@ -29,11 +28,11 @@ impl Model for MemFiles {
     ghost Value = { MemFilesState };
 
     ghost view = { λ s. record {
-        files = named_files s.map;
-        fails = s.calls.fails.items;
-        calls = s.calls.made;
-        faults = s.calls.faults;
-        last = option_map string_bytes s.last
+      files = named_files s.map;
+      fails = s.calls.fails.items;
+      calls = s.calls.made;
+      faults = s.calls.faults;
+      last = option_map string_bytes s.last;
     } };
 }
 
@@ -41,15 +40,13 @@ impl MemFiles {
     /// Keeps what it is given: the files by their names, and the numbers of the calls that fail, counted
     /// from 1. The allocator is for the name in the last call that failed.
     pub fn new(alloc: Global, map: BTreeMap<String, Vec<u8>>, fails: Vec<u64>) -> MemFiles
-        ensures {
-            result ≡ record {
-                files = named_files map;
-                fails = fails.items;
-                calls = 0;
-                faults = 0;
-                last = None
-            }
-        }
+        ensures { result ≡ record {
+          files = named_files map;
+          fails = fails.items;
+          calls = 0;
+          faults = 0;
+          last = None;
+        } }
     {
         MemFiles {
             alloc,
@@ -79,11 +76,9 @@ impl Files for MemFiles {
         ensures in_range { self.new.faults ≤ greatest_count }
 
         // Where there is memory, it fails at the listed calls and at unknown names alone.
-        ensures fails_exactly {
-            result ≢ Err FileFault.NoMemory →
-                (IsErrOf result FileFault.Failed ↔
-                    (Contains self.old.fails (counted_up self.old.calls) ⊎ IsNone (file_of self.old.files name.now)))
-        }
+        ensures fails_exactly { result ≢ Err FileFault.NoMemory →
+            (IsErrOf result FileFault.Failed ↔
+            (Contains self.old.fails (counted_up self.old.calls) ⊎ IsNone (file_of self.old.files name.now))) }
 
         ensures call { self.new.calls ≡ counted_up self.old.calls }
         ensures fault { self.new.faults ≡ faults_after result self.old.faults }
@@ -121,5 +116,32 @@ fn find<'a>(map: &'a BTreeMap<String, Vec<u8>>, name: &str) -> Option<&'a [u8]>
     match map.get(name) {
         Some(bytes) => Some(bytes.as_slice()),
         None => None,
+    }
+}
+
+#[cfg(test)]
+mod tests {
+    use super::*;
+    use crate::testing::load;
+    use std::test::Fail;
+
+    #[test]
+    fn reads_a_file_up_to_the_limit_and_fails_at_the_fourth_call(
+        rt: HostRuntime,
+    ) -> Result<(), Fail> {
+        let alloc = rt.alloc();
+        let mut map = BTreeMap::new(alloc);
+        map.insert(String::from_str(alloc, "four")?, b"1234".to_vec(alloc)?)?;
+        map.insert(String::from_str(alloc, "five")?, b"12345".to_vec(alloc)?)?;
+        let mut files = MemFiles::new(alloc, map, [4].to_vec(alloc)?);
+        let four = b"1234".to_vec(alloc)?;
+        assert_eq!(rt; load(&mut files, alloc, "four", 4), Ok(four));
+        assert_eq!(rt;
+            load(&mut files, alloc, "five", 4),
+            Err(FileFault::TooLarge)
+        );
+        assert_eq!(rt; load(&mut files, alloc, "six", 4), Err(FileFault::Failed));
+        assert_eq!(rt; load(&mut files, alloc, "four", 4), Err(FileFault::Failed));
+        Ok(())
     }
 }

@@ -3,11 +3,10 @@ ghost use Rattle.std.specs.Prelude.{◌≡◌, ◌+◌, ◌-◌, ◌<◌, ◌≤
 ghost use Rattle.cc_io.specs.Faults.{counted_up, greatest_count, Rose};
 ghost use Rattle.cc_io.specs.Bytes.{Gains, GainsFront};
 
-use std::marker::Model;
-
 use crate::calls::Calls;
 use crate::faults::Failed;
 use crate::traits::Sink;
+use std::marker::Model;
 
 /// A sink that keeps what is written to it, as long as there is room, and fails at chosen calls.
 #[derive(Drop)]
@@ -25,11 +24,11 @@ impl Model for MemSink {
     ghost Value = { MemSinkState };
 
     ghost view = { λ s. record {
-        written = s.kept.items;
-        room = s.room;
-        fails = s.calls.fails.items;
-        calls = s.calls.made;
-        faults = s.calls.faults
+      written = s.kept.items;
+      room = s.room;
+      fails = s.calls.fails.items;
+      calls = s.calls.made;
+      faults = s.calls.faults;
     } };
 
     ghost invariant = { λ s. vec_len s.kept + s.room ≤ vec_capacity s.kept };
@@ -39,15 +38,13 @@ impl MemSink {
     /// Keeps what it is given: the vector, whose spare room is all that will be written to, and the
     /// numbers of the calls that fail, counted from 1.
     pub fn new(room: Vec<u8>, fails: Vec<u64>) -> MemSink
-        ensures {
-            result ≡ record {
-                written = room.items;
-                room = vec_capacity room - vec_len room;
-                fails = fails.items;
-                calls = 0;
-                faults = 0
-            }
-        }
+        ensures { result ≡ record {
+          written = room.items;
+          room = vec_capacity room - vec_len room;
+          fails = fails.items;
+          calls = 0;
+          faults = 0;
+        } }
     {
         let spare = room.capacity() - room.len();
         MemSink {
@@ -78,9 +75,7 @@ impl Sink for MemSink {
         ensures in_range { self.new.faults ≤ greatest_count }
 
         // It fails at the listed calls and for want of room alone, and then takes nothing.
-        ensures fails_exactly {
-            IsErr result ↔ (Contains self.old.fails (counted_up self.old.calls) ⊎ (self.old.room < length bytes.now))
-        }
+        ensures fails_exactly { IsErr result ↔ (Contains self.old.fails (counted_up self.old.calls) ⊎ (self.old.room < length bytes.now)) }
         ensures room_taken { OnOk result (self.new.room + length bytes.now ≡ self.old.room) }
         ensures nothing_taken { OnErr result (self.new.written ≡ self.old.written) }
         ensures room_left { OnErr result (self.new.room ≡ self.old.room) }
@@ -95,6 +90,33 @@ impl Sink for MemSink {
         }
         self.room -= bytes.len();
         self.kept.extend_from_slice(bytes).unwrap();
+        Ok(())
+    }
+}
+
+#[cfg(test)]
+mod tests {
+    use super::*;
+    use std::test::Fail;
+
+    fn put<S: Sink>(sink: &mut S, bytes: &[u8]) -> Result<(), Failed> {
+        sink.write(bytes)
+    }
+
+    #[test]
+    fn takes_what_fits_and_fails_at_the_second_call(rt: HostRuntime) -> Result<(), Fail> {
+        let mut room = Vec::with_capacity(rt.alloc(), 5)?;
+        room.extend_from_slice(b">")?;
+        let mut sink = MemSink::new(room, [2].to_vec(rt.alloc())?);
+        assert_eq!(rt; put(&mut sink, b"ab"), Ok(()));
+        assert_eq!(rt; put(&mut sink, b"x"), Err(Failed));
+        assert_eq!(rt;
+            put(&mut sink, b"cde"),
+            Err(Failed),
+            "there is room for two bytes"
+        );
+        assert_eq!(rt; put(&mut sink, b"cd"), Ok(()));
+        assert_eq!(rt; sink.written(), b">abcd".as_slice());
         Ok(())
     }
 }

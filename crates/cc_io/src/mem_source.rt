@@ -3,11 +3,10 @@ ghost use Rattle.std.specs.Prelude.{◌≡◌, ℕ, ◌<◌, ◌≤◌, ◌↔�
 ghost use Rattle.cc_io.specs.Faults.{counted_up, greatest_count, Rose};
 ghost use Rattle.cc_io.specs.Bytes.{Takes, Keeps, IsSpent};
 
-use std::marker::Model;
-
 use crate::calls::Calls;
 use crate::faults::Failed;
 use crate::traits::Source;
+use std::marker::Model;
 
 /// A source that gives the bytes of a vector, in reads of a greatest length, and fails at chosen calls.
 #[derive(Drop)]
@@ -25,11 +24,11 @@ impl Model for MemSource {
     ghost Value = { MemSourceState };
 
     ghost view = { λ s. record {
-        held = drop s.taken s.bytes.items;
-        most = s.most;
-        fails = s.calls.fails.items;
-        calls = s.calls.made;
-        faults = s.calls.faults
+      held = drop s.taken s.bytes.items;
+      most = s.most;
+      fails = s.calls.fails.items;
+      calls = s.calls.made;
+      faults = s.calls.faults;
     } };
 
     ghost invariant = { λ s. (s.taken ≤ vec_len s.bytes) × (0 < s.most) };
@@ -85,5 +84,31 @@ impl Source for MemSource {
         into[..count].copy_from_slice(&left[..count]);
         self.taken += count;
         Ok(count)
+    }
+}
+
+#[cfg(test)]
+mod tests {
+    use super::*;
+    use std::test::Fail;
+
+    /// One read into four places: what it answers, and the places.
+    fn read_four<S: Source>(source: &mut S) -> (Result<usize, Failed>, [u8; 4]) {
+        let mut into = [0; 4];
+        let answer = source.read(&mut into);
+        (answer, into)
+    }
+
+    #[test]
+    fn gives_two_bytes_a_read_and_fails_at_the_second_call(rt: HostRuntime) -> Result<(), Fail> {
+        let bytes = b"abcde".to_vec(rt.alloc())?;
+        let fails = [2].to_vec(rt.alloc())?;
+        let mut source = MemSource::new(bytes, 2, fails);
+        assert_eq!(rt; read_four(&mut source), (Ok(2), [b'a', b'b', 0, 0]));
+        assert_eq!(rt; read_four(&mut source), (Err(Failed), [0, 0, 0, 0]));
+        assert_eq!(rt; read_four(&mut source), (Ok(2), [b'c', b'd', 0, 0]));
+        assert_eq!(rt; read_four(&mut source), (Ok(1), [b'e', 0, 0, 0]));
+        assert_eq!(rt; read_four(&mut source), (Ok(0), [0, 0, 0, 0]));
+        Ok(())
     }
 }

@@ -1,5 +1,5 @@
 -- What a read of a list that is held from a place on takes.
-use Rattle.std.proofs.Common.{◌≡◌, ℕ, ◌+◌, ◌≤◌, List, ◌++◌, length, take, drop, refl, sym, ◌∙◌, ap, arith}
+use Rattle.std.proofs.Common.{◌≡◌, ℕ, ◌+◌, List, ◌++◌, length, take, drop, sym, ◌∙◌}
 use Rattle.std.proofs.lemmas.List.{take-append-drop, take_at, drop-drop}
 
 -- the bytes copied to the front of `into` are those that leave the list

@@ -1,5 +1,5 @@
 -- Counts of faults, and what the call of a file leaves in its count and in the name of the last failure.
-use Rattle.std.specs.Prelude.{◌≡◌, ℕ, ◌+◌, ◌-◌, ◌^◌, ◌<◌, min, List, Option, Some, None, Result, Ok, Err, ◌⊎◌}
+use Rattle.std.specs.Prelude.{◌≡◌, ℕ, ◌+◌, ◌-◌, ◌^◌, ◌<◌, min, List, Option, Some, Result, Ok, Err, ◌⊎◌}
 use Rattle.cc_io.specs.declared.faults.FileFault.{FileFault}
 use Rattle.cc_io.specs.declared.faults.FileFault.TheVariants as fault
 

@@ -1,6 +1,6 @@
 -- Character constants (C99 6.4.4.4) and string literals (C99 6.4.5).
 use Rattle.std.specs.Prelude.{ℕ, zero, suc, Bool, true, false, ◌||◌, ◌&&◌, not, ◌==◌, nat_lt, ◌+◌, ◌-◌, List, [], ◌∷◌, Option, Some, None, Result, Ok, Err, take, drop, length, if◌then◌else◌, pos, ◌-ℤ◌, ℤ, unwrap_or}
-use Rattle.std.specs.List.{prefix_len, list_all, list_any}
+use Rattle.std.specs.List.{prefix_len, list_any, flat_map}
 use Rattle.std.specs.Char.{is_ascii_hexdigit}
 use Rattle.cc_base.specs.declared.fault.Rule.{Rule}
 use Rattle.cc_base.specs.declared.fault.Rule.TheVariants.{BadNumber, Unsupported}
@@ -101,3 +101,13 @@ literal_kind literal =
     if list_any is_universal (characters_of literal) then Err Unsupported
     else (if begins_with (λ b. b == 39) literal then constant_kind (characters_of literal)
     else (if list_any is_bad (characters_of literal) then Err BadNumber else Ok StringLiteral))
+
+-- the byte of a character that has one
+abbrev pub bytes_of : Character → List ℕ
+bytes_of (Byte value) = value ∷ []
+bytes_of Bad = []
+bytes_of Universal = []
+
+-- the bytes that a string literal holds
+abbrev pub literal_bytes : List ℕ → List ℕ
+literal_bytes literal = flat_map bytes_of (characters_of literal)

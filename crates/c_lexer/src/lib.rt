@@ -13,8 +13,11 @@ mod token;
 mod word;
 
 pub use lexer::tokens;
-pub use literal::Character;
+pub use literal::literal_bytes;
 pub use number::IntegerType;
 pub use punctuator::Punctuator;
 pub use token::{Token, TokenKind};
 pub use word::Keyword;
+
+#[cfg(test)]
+mod tests;

@@ -1,10 +1,12 @@
 //! Character constants and string literals.
-ghost use Rattle.std.specs.Prelude.{◌≡◌, ◌<◌, ◌≤◌, ◌+◌, ◌^◌, length, Some, IfSome, take, drop, false, List, [], ◌∷◌, IfNone};
+ghost use Rattle.std.specs.Prelude.{◌≡◌, ◌<◌, ◌≤◌, ◌+◌, ◌^◌, length, Some, IfSome, take, drop, false, List, [], ◌∷◌, IfNone, IfOk, flat_map};
 ghost use Rattle.std.specs.List.{list_any, prefix_len};
 ghost use Rattle.c_lexer.specs.Bytes.{is_octal_digit, begins_with};
-ghost use Rattle.c_lexer.specs.Literals.{is_literal, simple_escape, byte_or_bad, octal_digits, hexadecimal_digits, escape_value, escape_size, characters, between_quotes, characters_of, is_universal, is_bad, signed_value, constant_kind, literal_kind};
+ghost use Rattle.c_lexer.specs.Literals.{is_literal, simple_escape, byte_or_bad, octal_digits, hexadecimal_digits, escape_value, escape_size, characters, between_quotes, characters_of, is_universal, is_bad, signed_value, constant_kind, literal_kind, literal_bytes, bytes_of};
 ghost use Rattle.c_lexer.specs.Numbers.{value_in, in_64_bits};
 ghost use Rattle.c_lexer.specs.Reading.{literal_end, literal_size};
+
+use std::alloc::{AllocError, Global};
 
 use cc_base::Rule;
 
@@ -14,7 +16,7 @@ use crate::token::TokenKind;
 
 /// One character of a literal.
 #[derive(Clone, Copy, Debug, PartialEq, Eq)]
-pub enum Character {
+pub(crate) enum Character {
     /// A byte, as it stands or by an escape.
     Byte(u8),
     /// An escape that has no name, or a value above 255.
@@ -268,4 +270,21 @@ pub(crate) fn literal_kind(literal: &[u8]) -> Result<TokenKind, Rule>
     } else {
         Ok(TokenKind::StringLiteral)
     }
+}
+
+/// The bytes that a string literal holds, without the zero byte after them. The literal is given as
+/// it is spelled, quotes and all.
+pub fn literal_bytes(alloc: Global, literal: &[u8]) -> Result<Vec<u8>, AllocError>
+    requires { 2 ≤ length literal.now }
+    ensures { IfOk result (λ bytes. bytes.items ≡ literal_bytes literal.now) }
+{
+    let mut bytes = Vec::new(alloc);
+    let mut rest = between_quotes(literal);
+    'reading: while let Some((character, after)) = next_character(rest) {
+        if let Character::Byte(value) = character {
+            bytes.push(value)?;
+        }
+        rest = after;
+    }
+    Ok(bytes)
 }

@@ -61,8 +61,8 @@ tokens_of-snoc before (p ∷ pieces) piece =
 AllStand-snoc : (before : List ℕ) (pieces : List Piece) (piece : Piece) (after : List ℕ) → AllStand before pieces (piece_bytes piece ++ after) → Stands (before ++ text_of pieces) piece after → AllStand before (pieces ++ piece ∷ []) after
 AllStand-snoc before [] piece after all last = (subst (λ l. Stands l piece after) (append-nil before) last, tt)
 AllStand-snoc before (p ∷ pieces) piece after all last = (
-    subst (Stands before p) (sym (ap (λ l. l ++ after) (text_of-snoc pieces piece) ∙ append_assoc (text_of pieces) (piece_bytes piece) after)) all.0,
-    AllStand-snoc (before ++ piece_bytes p) pieces piece after all.1 (subst (λ l. Stands l piece after) (sym (append_assoc before (piece_bytes p) (text_of pieces))) last),
+  subst (Stands before p) (sym (ap (λ l. l ++ after) (text_of-snoc pieces piece) ∙ append_assoc (text_of pieces) (piece_bytes piece) after)) all.0,
+  AllStand-snoc (before ++ piece_bytes p) pieces piece after all.1 (subst (λ l. Stands l piece after) (sym (append_assoc before (piece_bytes p) (text_of pieces))) last),
 )
 
 -- A cut grows.
@@ -171,9 +171,9 @@ meet before (p ∷ ps) (q ∷ qs) r s e all_p all_q halt_p halt_q =
     let steps : step_of p ≡ step_of q = ok_same (sym (found_piece before p (text_of ps ++ r) all_p.0) ∙ ap (step_at (is_first_on_line before)) e' ∙ found_piece before q (text_of qs ++ s) all_q.0) in
     let same = same_fronts (piece_bytes p) (piece_bytes q) (text_of ps ++ r) (text_of qs ++ s) e' (ap (λ step. step.size) steps) in
     let rest = meet (before ++ piece_bytes p) ps qs r s same.1 all_p.1
-        (subst (λ l. AllStand (before ++ l) qs s) (sym same.0) all_q.1)
-        (subst (λ l. Halts l r) (sym (append_assoc before (piece_bytes p) (text_of ps))) halt_p)
-        (subst (λ l. Halts l s) (sym (append_assoc before (piece_bytes q) (text_of qs)) ∙ ap (λ l. (before ++ l) ++ text_of qs) (sym same.0)) halt_q) in
+    (subst (λ l. AllStand (before ++ l) qs s) (sym same.0) all_q.1)
+    (subst (λ l. Halts l r) (sym (append_assoc before (piece_bytes p) (text_of ps))) halt_p)
+    (subst (λ l. Halts l s) (sym (append_assoc before (piece_bytes q) (text_of qs)) ∙ ap (λ l. (before ++ l) ++ text_of qs) (sym same.0)) halt_q) in
     record {
       texts = ap (λ l. l ++ text_of ps) same.0 ∙ ap (λ l. piece_bytes q ++ l) rest.texts;
       tokens =
@@ -191,10 +191,10 @@ meet before (p ∷ ps) (q ∷ qs) r s e all_p all_q halt_p halt_q =
 cuts_meet : (text : List ℕ) (a b : List Token) (front_a rest_a front_b rest_b : List ℕ) → IsCutBefore text a front_a rest_a → IsCutBefore text b front_b rest_b → Halts front_a rest_a → Halts front_b rest_b → (front_a ≡ front_b) × (a ≡ b)
 cuts_meet text a b front_a rest_a front_b rest_b cut_a cut_b halt_a halt_b =
     let met = meet [] cut_a.pieces cut_b.pieces rest_a rest_b
-        (ap (λ l. l ++ rest_a) (sym cut_a.front_is) ∙ sym cut_a.whole ∙ cut_b.whole ∙ ap (λ l. l ++ rest_b) cut_b.front_is)
-        cut_a.stand cut_b.stand
-        (subst (λ l. Halts l rest_a) cut_a.front_is halt_a)
-        (subst (λ l. Halts l rest_b) cut_b.front_is halt_b) in
+    (ap (λ l. l ++ rest_a) (sym cut_a.front_is) ∙ sym cut_a.whole ∙ cut_b.whole ∙ ap (λ l. l ++ rest_b) cut_b.front_is)
+    cut_a.stand cut_b.stand
+    (subst (λ l. Halts l rest_a) cut_a.front_is halt_a)
+    (subst (λ l. Halts l rest_b) cut_b.front_is halt_b) in
     (cut_a.front_is ∙ met.texts ∙ sym cut_b.front_is, cut_a.tokens_are ∙ met.tokens ∙ sym cut_b.tokens_are)
 
 halts_at : (before rest : List ℕ) (rule : Rule) → step_at (is_first_on_line before) rest ≡ Err rule → Halts before rest
@@ -214,9 +214,10 @@ one_refusal text place other_place rule other_rule r s =
     let found_r = found_fault r.front r.rest rule r.fault in
     let found_s = found_fault s.front s.rest other_rule s.fault in
     let fronts_same = (cuts_meet text r.tokens s.tokens r.front r.rest s.front s.rest r.cut s.cut (halts_at r.front r.rest rule found_r) (halts_at s.front s.rest other_rule found_s)).0 in
-    let rests = (same_fronts r.front s.front r.rest s.rest (sym r.cut.whole ∙ s.cut.whole) (ap length fronts_same)).1 in
-    (r.place_is ∙ ap place_after fronts_same ∙ sym s.place_is,
-    err_same (sym found_r ∙ ap (λ l. step_at (is_first_on_line l) r.rest) fronts_same ∙ ap (step_at (is_first_on_line s.front)) rests ∙ found_s))
+    let rests = (same_fronts r.front s.front r.rest s.rest (sym r.cut.whole ∙ s.cut.whole) (ap length fronts_same)).1 in (
+      r.place_is ∙ ap place_after fronts_same ∙ sym s.place_is,
+      err_same (sym found_r ∙ ap (λ l. step_at (is_first_on_line l) r.rest) fronts_same ∙ ap (step_at (is_first_on_line s.front)) rests ∙ found_s),
+    )
   where
     err_same : ◌≡◌ {A = Result Step Rule} (Err rule) (Err other_rule) → rule ≡ other_rule
     err_same h = cc

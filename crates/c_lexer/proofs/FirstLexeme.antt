@@ -69,8 +69,8 @@ begins_number_front (b ∷ rest) after e =
     ⊎_elim
     (λ digit. or_left (is_ascii_digit b) ((b == 46) && begins_with is_ascii_digit (rest ++ after)) digit)
     (λ point.
-        let parts = and_parts (b == 46) (begins_with is_ascii_digit rest) point in
-        or_right (is_ascii_digit b) ((b == 46) && begins_with is_ascii_digit (rest ++ after)) (and_from (b == 46) (begins_with is_ascii_digit (rest ++ after)) parts.0 (begins_front is_ascii_digit rest after parts.1)))
+    let parts = and_parts (b == 46) (begins_with is_ascii_digit rest) point in
+    or_right (is_ascii_digit b) ((b == 46) && begins_with is_ascii_digit (rest ++ after)) (and_from (b == 46) (begins_with is_ascii_digit (rest ++ after)) parts.0 (begins_front is_ascii_digit rest after parts.1)))
     (or_cases (is_ascii_digit b) ((b == 46) && begins_with is_ascii_digit rest) e)
 
 -- `.` and a digit are no punctuator
@@ -87,8 +87,8 @@ number_no_punctuator b (d ∷ rest) e =
     ⊎_elim
     (λ digit. not_punctuator b (d ∷ rest) (digit_other b digit))
     (λ point.
-        let parts = and_parts (b == 46) (is_ascii_digit d) point in
-        subst (λ x. is_punctuator (x ∷ d ∷ rest) ≡ false) (sym (eqb-true b 46 parts.0)) (point_digit d rest parts.1))
+    let parts = and_parts (b == 46) (is_ascii_digit d) point in
+    subst (λ x. is_punctuator (x ∷ d ∷ rest) ≡ false) (sym (eqb-true b 46 parts.0)) (point_digit d rest parts.1))
     (or_cases (is_ascii_digit b) ((b == 46) && is_ascii_digit d) e)
 
 -- Each kind of lexeme is found where it begins.
@@ -130,12 +130,12 @@ begins_run b (d ∷ rest) e =
     ⊎_elim
     (λ digit. or_left (is_ascii_digit b) ((b == 46) && begins_with is_ascii_digit (take (number_run b (d ∷ rest)) (d ∷ rest))) digit)
     (λ point.
-        let parts = and_parts (b == 46) (is_ascii_digit d) point in
-        let goes : goes_on b d ≡ true = or_left (is_word_byte d || (d == 46)) _ (or_left (is_word_byte d) (d == 46) (or_right (is_letter d) (is_ascii_digit d) parts.1)) in
-        let first : begins_with is_ascii_digit (take (number_run b (d ∷ rest)) (d ∷ rest)) ≡ true =
-            ap (λ t. begins_with is_ascii_digit (take (cond t (1 + number_run d rest) 0) (d ∷ rest))) goes
-            ∙ ap (λ n. begins_with is_ascii_digit (take n (d ∷ rest))) (one_more (number_run d rest)) ∙ parts.1 in
-        or_right (is_ascii_digit b) ((b == 46) && begins_with is_ascii_digit (take (number_run b (d ∷ rest)) (d ∷ rest))) (and_from (b == 46) _ parts.0 first))
+    let parts = and_parts (b == 46) (is_ascii_digit d) point in
+    let goes : goes_on b d ≡ true = or_left (is_word_byte d || (d == 46)) _ (or_left (is_word_byte d) (d == 46) (or_right (is_letter d) (is_ascii_digit d) parts.1)) in
+    let first : begins_with is_ascii_digit (take (number_run b (d ∷ rest)) (d ∷ rest)) ≡ true =
+    ap (λ t. begins_with is_ascii_digit (take (cond t (1 + number_run d rest) 0) (d ∷ rest))) goes
+    ∙ ap (λ n. begins_with is_ascii_digit (take n (d ∷ rest))) (one_more (number_run d rest)) ∙ parts.1 in
+    or_right (is_ascii_digit b) ((b == 46) && begins_with is_ascii_digit (take (number_run b (d ∷ rest)) (d ∷ rest))) (and_from (b == 46) _ parts.0 first))
     (or_cases (is_ascii_digit b) ((b == 46) && is_ascii_digit d) e)
 
 pub found_number : (b : ℕ) (rest : List ℕ) → is_letter b ≡ false → begins_number (b ∷ rest) ≡ true → Found (b ∷ rest) (token_of (number_size (b ∷ rest)) (number_kind (take (number_size (b ∷ rest)) (b ∷ rest))))

@@ -27,7 +27,7 @@ pub comment_found : (passed : ℕ) (text : List ℕ) (size : ℕ) → comment_en
 comment_found passed [] size e = cc
 comment_found passed (b ∷ rest) size e =
     (elim ((b == 42) && begins_with (λ c. c == 47) rest) as (λ t. ((b == 42) && begins_with (λ c. c == 47) rest) ≡ t → cond t (Some (passed + 2)) (comment_end (passed + 1) rest) ≡ Some size → CommentEnd passed (b ∷ rest) size) [
-      true ↦ λ is_end f.
+      | true ↦ λ is_end f.
           let parts = and_parts (b == 42) (begins_with (λ c. c == 47) rest) is_end in
           let tail = begins_gives 47 rest parts.1 in
           let size_is : passed + 2 ≡ size = cc in
@@ -59,7 +59,7 @@ pub no_comment_end : (passed : ℕ) (text : List ℕ) → comment_end passed tex
 no_comment_end passed [] e = refl
 no_comment_end passed (b ∷ rest) e =
     (elim ((b == 42) && begins_with (λ c. c == 47) rest) as (λ t. cond t (Some (passed + 2)) (comment_end (passed + 1) rest) ≡ None → (t || has_comment_end rest) ≡ false) [
-      true ↦ λ f. cc
+      | true ↦ λ f. cc
       | false ↦ λ f. no_comment_end (passed + 1) rest f
     ]) e
 

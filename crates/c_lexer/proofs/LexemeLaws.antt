@@ -93,12 +93,12 @@ punctuator_other b rest e =
     ⊎_elim
     (λ same. subst (λ l. begins_with is_other l ≡ true) (bytes_eq_gives ellipsis (b ∷ rest) same) refl)
     (λ found.
-        (elim (punctuator_of (b ∷ rest)) as (λ o. punctuator_of (b ∷ rest) ≡ o → is_some o ≡ true → is_other b ≡ true) [
-          Some m ↦ λ is_m some.
-              let has = find_has (λ each. bytes_eq (punctuator_spelling each) (b ∷ rest)) (λ each. begins_with is_other (punctuator_spelling each)) PUNCTUATORS m is_m each_other in
-              subst (λ l. begins_with is_other l ≡ true) (bytes_eq_gives (punctuator_spelling m) (b ∷ rest) has.0) has.1
-          | None ↦ λ is_none some. absurd (false≢true some)
-        ]) refl found)
+    (elim (punctuator_of (b ∷ rest)) as (λ o. punctuator_of (b ∷ rest) ≡ o → is_some o ≡ true → is_other b ≡ true) [
+      | Some m ↦ λ is_m some.
+          let has = find_has (λ each. bytes_eq (punctuator_spelling each) (b ∷ rest)) (λ each. begins_with is_other (punctuator_spelling each)) PUNCTUATORS m is_m each_other in
+          subst (λ l. begins_with is_other l ≡ true) (bytes_eq_gives (punctuator_spelling m) (b ∷ rest) has.0) has.1
+      | None ↦ λ is_none some. absurd (false≢true some)
+    ]) refl found)
     (or_cases (bytes_eq ellipsis (b ∷ rest)) (is_some (punctuator_of (b ∷ rest))) e)
 
 -- Runs of bytes.
@@ -110,7 +110,7 @@ pub run_passes : (test : ℕ → Bool) (text : List ℕ) → list_all test (take
 run_passes test [] = refl
 run_passes test (b ∷ rest) =
     (elim (test b) as (λ t. test b ≡ t → list_all test (take (cond t (1 + prefix_len test rest) 0) (b ∷ rest)) ≡ true) [
-      true ↦ λ is_t. rw (one_more (prefix_len test rest)) (and_from (test b) _ is_t (run_passes test rest))
+      | true ↦ λ is_t. rw (one_more (prefix_len test rest)) (and_from (test b) _ is_t (run_passes test rest))
       | false ↦ λ is_t. refl
     ]) refl
 
@@ -118,7 +118,7 @@ pub run_longest : (test : ℕ → Bool) (text : List ℕ) (c : ℕ) (more after 
 run_longest test [] c more after e = cc
 run_longest test (b ∷ rest) c more after e =
     (elim (test b) as (λ t. test b ≡ t → drop (cond t (1 + prefix_len test rest) 0) (b ∷ rest) ≡ c ∷ (more ++ after) → list_all test (take (cond t (1 + prefix_len test rest) 0) (b ∷ rest) ++ c ∷ more) ≡ false) [
-      true ↦ λ is_t f.
+      | true ↦ λ is_t f.
           let g : drop (suc (prefix_len test rest)) (b ∷ rest) ≡ c ∷ (more ++ after) = ap (λ n. drop n (b ∷ rest)) (sym (one_more (prefix_len test rest))) ∙ f in
           rw (one_more (prefix_len test rest)) (and_right (test b) _ (run_longest test rest c more after g))
       | false ↦ λ is_t f.
@@ -130,7 +130,7 @@ pub number_passes : (previous : ℕ) (text : List ℕ) → all_go_on previous (t
 number_passes previous [] = refl
 number_passes previous (b ∷ rest) =
     (elim (goes_on previous b) as (λ t. goes_on previous b ≡ t → all_go_on previous (take (cond t (1 + number_run b rest) 0) (b ∷ rest)) ≡ true) [
-      true ↦ λ is_t. rw (one_more (number_run b rest)) (and_from (goes_on previous b) _ is_t (number_passes b rest))
+      | true ↦ λ is_t. rw (one_more (number_run b rest)) (and_from (goes_on previous b) _ is_t (number_passes b rest))
       | false ↦ λ is_t. refl
     ]) refl
 
@@ -138,7 +138,7 @@ pub number_longest : (previous : ℕ) (text : List ℕ) (c : ℕ) (more after : 
 number_longest previous [] c more after e = cc
 number_longest previous (b ∷ rest) c more after e =
     (elim (goes_on previous b) as (λ t. goes_on previous b ≡ t → drop (cond t (1 + number_run b rest) 0) (b ∷ rest) ≡ c ∷ (more ++ after) → all_go_on previous (take (cond t (1 + number_run b rest) 0) (b ∷ rest) ++ c ∷ more) ≡ false) [
-      true ↦ λ is_t f.
+      | true ↦ λ is_t f.
           let g : drop (suc (number_run b rest)) (b ∷ rest) ≡ c ∷ (more ++ after) = ap (λ n. drop n (b ∷ rest)) (sym (one_more (number_run b rest))) ∙ f in
           rw (one_more (number_run b rest)) (and_right (goes_on previous b) _ (number_longest b rest c more after g))
       | false ↦ λ is_t f.
@@ -153,7 +153,7 @@ pub number_run-le : (previous : ℕ) (text : List ℕ) → number_run previous t
 number_run-le previous [] = omega arith
 number_run-le previous (b ∷ rest) =
     (elim (goes_on previous b) as (λ t. cond t (1 + number_run b rest) 0 ≤ length (b ∷ rest)) [
-      true ↦ (let within = number_run-le b rest in omega arith)
+      | true ↦ (let within = number_run-le b rest in omega arith)
       | false ↦ omega arith
     ])
 
@@ -196,15 +196,15 @@ pub literal_found : (quote passed : ℕ) (is_escaped : Bool) (rest : List ℕ) (
 literal_found quote passed is_escaped [] size e = cc
 literal_found quote passed true (b ∷ rest) size e =
     (elim (b == line_feed) as (λ t. (b == line_feed) ≡ t → cond t None (literal_end quote (passed + 1) false rest) ≡ Some size → Closed quote passed true (b ∷ rest) size) [
-      true ↦ λ is_end f. cc
+      | true ↦ λ is_end f. cc
       | false ↦ λ no_end f. more_closed quote passed true false b rest size (λ body. closes_escaped quote b body no_end) (literal_found quote (passed + 1) false rest size f)
     ]) refl e
 literal_found quote passed false (b ∷ rest) size e =
     (elim (b == line_feed) as (λ t. (b == line_feed) ≡ t → cond t None (cond (b == quote) (Some (passed + 1)) (literal_end quote (passed + 1) (b == backslash) rest)) ≡ Some size → Closed quote passed false (b ∷ rest) size) [
-      true ↦ λ is_end f. cc
+      | true ↦ λ is_end f. cc
       | false ↦ λ no_end f.
           (elim (b == quote) as (λ t. (b == quote) ≡ t → cond t (Some (passed + 1)) (literal_end quote (passed + 1) (b == backslash) rest) ≡ Some size → Closed quote passed false (b ∷ rest) size) [
-            true ↦ λ is_quote g. record { body = b ∷ []; after = rest; whole = refl; closed = closes_at quote b [] no_end is_quote; counted = (let same : passed + 1 ≡ size = cc in omega arith) }
+            | true ↦ λ is_quote g. record { body = b ∷ []; after = rest; whole = refl; closed = closes_at quote b [] no_end is_quote; counted = (let same : passed + 1 ≡ size = cc in omega arith) }
             | false ↦ λ no_quote g. more_closed quote passed false (b == backslash) b rest size (λ body. closes_after quote b body no_end no_quote) (literal_found quote (passed + 1) (b == backslash) rest size g)
           ]) refl f
     ]) refl e
@@ -219,7 +219,7 @@ closes_end quote passed false (b ∷ body) after e =
     let parts = and_parts (not (b == line_feed)) (cond (b == quote) (length body == 0) (closes quote (b == backslash) body)) e in
     let no_end : cond (b == line_feed) None (cond (b == quote) (Some (passed + 1)) (literal_end quote (passed + 1) (b == backslash) (body ++ after))) ≡ cond (b == quote) (Some (passed + 1)) (literal_end quote (passed + 1) (b == backslash) (body ++ after)) = ap (λ t. cond t None (cond (b == quote) (Some (passed + 1)) (literal_end quote (passed + 1) (b == backslash) (body ++ after)))) (not-true _ parts.0) in
     (elim (b == quote) as (λ t. (b == quote) ≡ t → cond t (length body == 0) (closes quote (b == backslash) body) ≡ true → (size : ℕ) × (literal_end quote passed false ((b ∷ body) ++ after) ≡ Some size)) [
-      true ↦ λ is_quote f. (passed + 1, no_end ∙ ap (λ t. cond t (Some (passed + 1)) (literal_end quote (passed + 1) (b == backslash) (body ++ after))) is_quote)
+      | true ↦ λ is_quote f. (passed + 1, no_end ∙ ap (λ t. cond t (Some (passed + 1)) (literal_end quote (passed + 1) (b == backslash) (body ++ after))) is_quote)
       | false ↦ λ no_quote f.
           (let rest = closes_end quote (passed + 1) (b == backslash) body after f in
           (rest.0, no_end ∙ ap (λ t. cond t (Some (passed + 1)) (literal_end quote (passed + 1) (b == backslash) (body ++ after))) no_quote ∙ rest.1))
@@ -234,7 +234,7 @@ closes_longest quote false (b ∷ body) c more e =
     let parts = and_parts (not (b == line_feed)) (cond (b == quote) (length body == 0) (closes quote (b == backslash) body)) e in
     and_right (not (b == line_feed)) _
     ((elim (b == quote) as (λ t. cond t (length body == 0) (closes quote (b == backslash) body) ≡ true → cond t (length (body ++ c ∷ more) == 0) (closes quote (b == backslash) (body ++ c ∷ more)) ≡ false) [
-      true ↦ λ f. ne_eqb (length (body ++ c ∷ more)) 0 (λ none. omega (arith, simp length-append at none))
+      | true ↦ λ f. ne_eqb (length (body ++ c ∷ more)) 0 (λ none. omega (arith, simp length-append at none))
       | false ↦ λ f. closes_longest quote (b == backslash) body c more f
     ]) parts.1)
 

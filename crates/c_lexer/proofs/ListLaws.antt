@@ -54,7 +54,7 @@ module _ {X : Type 0} (p q : X → Bool) where
   find_has (x ∷ xs) m found all =
       let parts = and_parts (q x) (list_all q xs) all in
       (elim (p x) as (λ b. p x ≡ b → cond b (Some x) (find p xs) ≡ Some m → (p m ≡ true) × (q m ≡ true)) [
-        true ↦ λ is_b f. found_here x m true is_b refl parts.0 f
+        | true ↦ λ is_b f. found_here x m true is_b refl parts.0 f
         | false ↦ λ is_b f. find_has xs m f parts.1
       ]) refl found
 
@@ -63,10 +63,10 @@ module _ {X : Type 0} (p q : X → Bool) where
   find_weaker [] implies none = refl
   find_weaker (x ∷ xs) implies none =
       (elim (p x) as (λ b. p x ≡ b → cond b (Some x) (find p xs) ≡ None → cond (q x) (Some x) (find q xs) ≡ None) [
-        true ↦ λ is_b f. cc
+        | true ↦ λ is_b f. cc
         | false ↦ λ is_b f.
             (elim (q x) as (λ d. q x ≡ d → cond d (Some x) (find q xs) ≡ None) [
-              true ↦ λ is_d. absurd (false≢true (sym is_b ∙ implies x is_d))
+              | true ↦ λ is_d. absurd (false≢true (sym is_b ∙ implies x is_d))
               | false ↦ λ is_d. find_weaker xs implies f
             ]) refl
       ]) refl none

@@ -45,6 +45,7 @@ next_so false count line b =
   where
     lines : (n : ℕ) → 1 + n ≡ 1 + (n + 0)
     lines n = omega arith
+
     columns : (l : List ℕ) → 1 + length l + 1 ≡ 1 + length (l ++ b ∷ [])
     columns l = simp length-append (omega arith)
 

@@ -103,17 +103,17 @@ err_rule r s e = cc
 word_rule : (bytes : List ℕ) (rule : Rule) → word_kind bytes ≡ Err rule → rule ≡ Unsupported
 word_rule bytes rule e =
     (elim (is_left_out bytes) as (λ t. cond t (Err Unsupported) (Ok (option_map_or KeywordKind (keyword_of bytes) Identifier)) ≡ Err rule → rule ≡ Unsupported) [
-      true ↦ λ f. cc
+      | true ↦ λ f. cc
       | false ↦ λ f. cc
     ]) e
 
 number_rule : (bytes : List ℕ) (rule : Rule) → number_kind bytes ≡ Err rule → (rule ≡ BadNumber) ⊎ (rule ≡ Unsupported)
 number_rule bytes rule e =
     (elim (integer_of bytes) as (λ o. ok_or o (cond (is_floating bytes || has_long_long_suffix bytes) Unsupported BadNumber) ≡ Err rule → (rule ≡ BadNumber) ⊎ (rule ≡ Unsupported)) [
-      Some kind ↦ λ f. cc
+      | Some kind ↦ λ f. cc
       | None ↦ λ f.
           (elim (is_floating bytes || has_long_long_suffix bytes) as (λ t. ◌≡◌ {A = Result TokenKind Rule} (Err (cond t Unsupported BadNumber)) (Err rule) → (rule ≡ BadNumber) ⊎ (rule ≡ Unsupported)) [
-            true ↦ λ g. inr (err_rule Unsupported rule g)
+            | true ↦ λ g. inr (err_rule Unsupported rule g)
             | false ↦ λ g. inl (err_rule BadNumber rule g)
           ]) f
     ]) e
@@ -130,13 +130,13 @@ constant_rule (Universal ∷ second ∷ rest) rule e = inr (cc)
 literal_rule : (bytes : List ℕ) (rule : Rule) → literal_kind bytes ≡ Err rule → (rule ≡ BadNumber) ⊎ (rule ≡ Unsupported)
 literal_rule bytes rule e =
     (elim (list_any is_universal (characters_of bytes)) as (λ t. cond t (Err Unsupported) (cond (begins_with (λ b. b == 39) bytes) (constant_kind (characters_of bytes)) (cond (list_any is_bad (characters_of bytes)) (Err BadNumber) (Ok StringLiteral))) ≡ Err rule → (rule ≡ BadNumber) ⊎ (rule ≡ Unsupported)) [
-      true ↦ λ f. inr (cc)
+      | true ↦ λ f. inr (cc)
       | false ↦ λ f.
           (elim (begins_with (λ b. b == 39) bytes) as (λ t. cond t (constant_kind (characters_of bytes)) (cond (list_any is_bad (characters_of bytes)) (Err BadNumber) (Ok StringLiteral)) ≡ Err rule → (rule ≡ BadNumber) ⊎ (rule ≡ Unsupported)) [
-            true ↦ λ g. constant_rule (characters_of bytes) rule g
+            | true ↦ λ g. constant_rule (characters_of bytes) rule g
             | false ↦ λ g.
                 (elim (list_any is_bad (characters_of bytes)) as (λ t. cond t (Err BadNumber) (Ok StringLiteral) ≡ Err rule → (rule ≡ BadNumber) ⊎ (rule ≡ Unsupported)) [
-                  true ↦ λ h. inl (cc)
+                  | true ↦ λ h. inl (cc)
                   | false ↦ λ h. cc
                 ]) g
           ]) f
@@ -145,20 +145,20 @@ literal_rule bytes rule e =
 punctuator_rule : (bytes : List ℕ) (rule : Rule) → punctuator_kind bytes ≡ Err rule → rule ≡ Unsupported
 punctuator_rule bytes rule e =
     (elim (punctuator_of bytes) as (λ o. ok_or (option_map PunctuatorKind o) Unsupported ≡ Err rule → rule ≡ Unsupported) [
-      Some found ↦ λ f. cc
+      | Some found ↦ λ f. cc
       | None ↦ λ f. cc
     ]) e
 
 lexeme_rule : (bytes : List ℕ) (rule : Rule) → lexeme_kind bytes ≡ Err rule → (rule ≡ BadNumber) ⊎ (rule ≡ Unsupported)
 lexeme_rule bytes rule e =
     (elim (is_word bytes) as (λ t. cond t (word_kind bytes) (cond (is_number bytes) (number_kind bytes) (cond (is_literal bytes) (literal_kind bytes) (punctuator_kind bytes))) ≡ Err rule → (rule ≡ BadNumber) ⊎ (rule ≡ Unsupported)) [
-      true ↦ λ f. inr (word_rule bytes rule f)
+      | true ↦ λ f. inr (word_rule bytes rule f)
       | false ↦ λ f.
           (elim (is_number bytes) as (λ t. cond t (number_kind bytes) (cond (is_literal bytes) (literal_kind bytes) (punctuator_kind bytes)) ≡ Err rule → (rule ≡ BadNumber) ⊎ (rule ≡ Unsupported)) [
-            true ↦ λ g. number_rule bytes rule g
+            | true ↦ λ g. number_rule bytes rule g
             | false ↦ λ g.
                 (elim (is_literal bytes) as (λ t. cond t (literal_kind bytes) (punctuator_kind bytes) ≡ Err rule → (rule ≡ BadNumber) ⊎ (rule ≡ Unsupported)) [
-                  true ↦ λ h. literal_rule bytes rule h
+                  | true ↦ λ h. literal_rule bytes rule h
                   | false ↦ λ h. inr (punctuator_rule bytes rule h)
                 ]) g
           ]) f
@@ -173,7 +173,7 @@ pub data Explained (before text : List ℕ) (result : Result Step Rule) : Type 0
 explained_comment : (before text : List ℕ) → starts_with nat_eq text (codes "/*") ≡ true → Explained before text (comment_step (comment_end 2 (drop 2 text)))
 explained_comment before text e =
     (elim (comment_end 2 (drop 2 text)) as (λ o. comment_end 2 (drop 2 text) ≡ o → Explained before text (comment_step o)) [
-      None ↦ λ none. faulty OpenComment (e, no_comment_end 2 (drop 2 text) none) refl
+      | None ↦ λ none. faulty OpenComment (e, no_comment_end 2 (drop 2 text) none) refl
       | Some size ↦ λ found.
           let end = comment_found 2 (drop 2 text) size found in
           let counted : size ≡ length (piece_bytes (BlockComment end.body)) = size_of_comment end.body size end.counted in
@@ -197,7 +197,7 @@ explained_line_comment before text e =
 explained_directive : (before text : List ℕ) → is_first_on_line before ≡ true → begins_with (λ b. b == 35) text ≡ true → Explained before text (directive_step (line_of text))
 explained_directive before text first begins =
     (elim (is_line_marker (line_of text)) as (λ t. is_line_marker (line_of text) ≡ t → Explained before text (cond t (gap_of (length (line_of text))) (Err Unsupported))) [
-      true ↦ λ marker. stands (LineMarker (line_of text)) (drop (line_size text) text) (line_of-whole text) (first, IsRestOfLine-line_of text, marker) refl
+      | true ↦ λ marker. stands (LineMarker (line_of text)) (drop (line_size text) text) (line_of-whole text) (first, IsRestOfLine-line_of text, marker) refl
       | false ↦ λ no_marker. faulty Unsupported (inr (inr (first, begins, no_marker))) refl
     ]) refl
 
@@ -243,19 +243,19 @@ explained_lexeme before b rest no_blank no_comment no_directive not_wide = decid
 pub explained : (before : List ℕ) (b : ℕ) (rest : List ℕ) → Explained before (b ∷ rest) (step_at (is_first_on_line before) (b ∷ rest))
 explained before b rest =
     (elim (is_blank b) as (λ t. is_blank b ≡ t → Explained before (b ∷ rest) (cond t (gap_of 1) (at_comment (is_first_on_line before) (b ∷ rest)))) [
-      true ↦ λ blank. stands (Blank b) rest refl blank refl
+      | true ↦ λ blank. stands (Blank b) rest refl blank refl
       | false ↦ λ no_blank.
           (elim (starts_with nat_eq (b ∷ rest) (codes "/*")) as (λ t. starts_with nat_eq (b ∷ rest) (codes "/*") ≡ t → Explained before (b ∷ rest) (cond t (comment_step (comment_end 2 (drop 2 (b ∷ rest)))) (at_line_comment (is_first_on_line before) (b ∷ rest)))) [
-            true ↦ λ e. explained_comment before (b ∷ rest) e
+            | true ↦ λ e. explained_comment before (b ∷ rest) e
             | false ↦ λ no_block.
                 (elim (starts_with nat_eq (b ∷ rest) (codes "//")) as (λ t. starts_with nat_eq (b ∷ rest) (codes "//") ≡ t → Explained before (b ∷ rest) (cond t (gap_of (length (line_of (b ∷ rest)))) (at_directive (is_first_on_line before) (b ∷ rest)))) [
-                  true ↦ λ e. explained_line_comment before (b ∷ rest) e
+                  | true ↦ λ e. explained_line_comment before (b ∷ rest) e
                   | false ↦ λ no_line.
                       (elim (is_first_on_line before && (b == 35)) as (λ t. (is_first_on_line before && (b == 35)) ≡ t → Explained before (b ∷ rest) (cond t (directive_step (line_of (b ∷ rest))) (at_wide (is_first_on_line before) (b ∷ rest)))) [
-                        true ↦ λ e. (let parts = and_parts (is_first_on_line before) (b == 35) e in explained_directive before (b ∷ rest) parts.0 parts.1)
+                        | true ↦ λ e. (let parts = and_parts (is_first_on_line before) (b == 35) e in explained_directive before (b ∷ rest) parts.0 parts.1)
                         | false ↦ λ no_directive.
                             (elim (begins_wide_literal (b ∷ rest)) as (λ t. begins_wide_literal (b ∷ rest) ≡ t → Explained before (b ∷ rest) (cond t (Err Unsupported) (lexeme_at (b ∷ rest)))) [
-                              true ↦ λ wide. faulty Unsupported (inr (inl wide)) refl
+                              | true ↦ λ wide. faulty Unsupported (inr (inl wide)) refl
                               | false ↦ λ not_wide. explained_lexeme before b rest no_blank (or_from (starts_with nat_eq (b ∷ rest) (codes "/*")) (starts_with nat_eq (b ∷ rest) (codes "//")) no_block no_line) no_directive not_wide
                             ]) refl
                       ]) refl
@@ -340,6 +340,7 @@ found_bad_byte starts_line (b ∷ rest) bad = step_at-plain starts_line b rest p
       where
         bad_no_blank : (k : ℕ) → is_bad_byte k ≡ true → is_blank k ≡ false
         bad_no_blank k h = grind (arith, nat_tests)
+
         bad_no_hash : (k : ℕ) → is_bad_byte k ≡ true → (k == 35) ≡ false
         bad_no_hash k h = grind (arith, nat_tests)
 
@@ -400,15 +401,15 @@ other_allowed b rest rule other no_point no_point' is_one kind_is =
     let no_number = not_number b rest (or_from (is_ascii_digit b) ((b == 46) && begins_with is_ascii_digit rest) o.digit (and_left (b == 46) (begins_with is_ascii_digit rest) no_point)) in
     let no_literal = not_literal b rest o.quote in
     let kind_so : punctuator_kind (b ∷ rest) ≡ Err rule =
-        sym (cond-false (is_word (b ∷ rest)) (word_kind (b ∷ rest)) _ no_word ∙ cond-false (is_number (b ∷ rest)) (number_kind (b ∷ rest)) _ no_number ∙ cond-false (is_literal (b ∷ rest)) (literal_kind (b ∷ rest)) _ no_literal) ∙ kind_is in
+    sym (cond-false (is_word (b ∷ rest)) (word_kind (b ∷ rest)) _ no_word ∙ cond-false (is_number (b ∷ rest)) (number_kind (b ∷ rest)) _ no_number ∙ cond-false (is_literal (b ∷ rest)) (literal_kind (b ∷ rest)) _ no_literal) ∙ kind_is in
     ⊎_elim
     (λ words. ⊎_elim (λ w. false≢true (sym no_word ∙ w)) (λ n. false≢true (sym no_number ∙ n)) (or_cases (is_word (b ∷ rest)) (is_number (b ∷ rest)) words))
     (λ marks. ⊎_elim (λ l. false≢true (sym no_literal ∙ l))
-        (λ p. ⊎_elim
-            (λ dots. false≢true (sym (and_left (46 == b) _ no_point') ∙ dots))
-            (λ some. known (punctuator_of (b ∷ rest)) some kind_so)
-            (or_cases (bytes_eq ellipsis (b ∷ rest)) (is_some (punctuator_of (b ∷ rest))) p))
-        (or_cases (is_literal (b ∷ rest)) (is_punctuator (b ∷ rest)) marks))
+    (λ p. ⊎_elim
+    (λ dots. false≢true (sym (and_left (46 == b) _ no_point') ∙ dots))
+    (λ some. known (punctuator_of (b ∷ rest)) some kind_so)
+    (or_cases (bytes_eq ellipsis (b ∷ rest)) (is_some (punctuator_of (b ∷ rest))) p))
+    (or_cases (is_literal (b ∷ rest)) (is_punctuator (b ∷ rest)) marks))
     (or_cases (is_word (b ∷ rest) || is_number (b ∷ rest)) (is_literal (b ∷ rest) || is_punctuator (b ∷ rest)) is_one)
   where
     known : (o : Option Punctuator) → is_some o ≡ true → ok_or (option_map PunctuatorKind o) Unsupported ≡ Err rule → ⊥
@@ -420,9 +421,9 @@ wide_word : (rest : List ℕ) → is_lexeme (76 ∷ rest) ≡ true → lexeme_ki
 wide_word rest is_one kind_is =
     ⊎_elim
     (λ words. ⊎_elim
-        (λ w. differ (word_rule (76 ∷ rest) BadNumber (sym (cond-true (is_word (76 ∷ rest)) (word_kind (76 ∷ rest)) _ w) ∙ kind_is)))
-        (λ n. false≢true n)
-        (or_cases (is_word (76 ∷ rest)) false words))
+    (λ w. differ (word_rule (76 ∷ rest) BadNumber (sym (cond-true (is_word (76 ∷ rest)) (word_kind (76 ∷ rest)) _ w) ∙ kind_is)))
+    (λ n. false≢true n)
+    (or_cases (is_word (76 ∷ rest)) false words))
     (λ marks. false≢true marks)
     (or_cases (is_word (76 ∷ rest) || false) false is_one)
   where
@@ -442,7 +443,7 @@ found_refused before text rule r = at_front r.lexeme r.after r.begins r.kind_is
         let no_comment : begins_comment text ≡ false = ap begins_comment whole ∙ or_from (starts_with nat_eq (x ∷ (one ++ after)) (codes "/*")) (starts_with nat_eq (x ∷ (one ++ after)) (codes "//")) (and_left (47 == x) _ no_slash) (and_left (47 == x) _ no_slash) in
         let no_directive = and_right (is_first_on_line before) _ (ap (begins_with (λ b. b == 35)) whole ∙ no_hash) in
         (elim (begins_wide_literal text) as (λ t. begins_wide_literal text ≡ t → step_at (is_first_on_line before) text ≡ Err rule) [
-          true ↦ λ wide. ⊎_elim (λ e. absurd (no_wide wide (subst (λ k. lexeme_kind (x ∷ one) ≡ Err k) e kind_is))) (λ e. found_wide (is_first_on_line before) text wide ∙ ap Err (sym e)) (lexeme_rule (x ∷ one) rule kind_is)
+          | true ↦ λ wide. ⊎_elim (λ e. absurd (no_wide wide (subst (λ k. lexeme_kind (x ∷ one) ≡ Err k) e kind_is))) (λ e. found_wide (is_first_on_line before) text wide ∙ ap Err (sym e)) (lexeme_rule (x ∷ one) rule kind_is)
           | false ↦ λ not_wide.
               step_at-lexeme (is_first_on_line before) text (ap (begins_with is_blank) whole ∙ no_blank) no_comment no_directive not_wide
               ∙ ap lexeme_at whole

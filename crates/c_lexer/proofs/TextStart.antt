@@ -53,14 +53,14 @@ first_longest text [] m other c more after in_order found longer whole = none_so
 first_longest text (x ∷ ms) m other c more after in_order found longer whole =
     let order = and_parts (list_all (λ later. not (starts_with nat_eq (punctuator_spelling later) (punctuator_spelling x))) ms) (is_ordered ms) in_order in
     (elim (bytes_eq (punctuator_spelling x) (punctuator_spelling m ++ c ∷ more)) as (λ t. bytes_eq (punctuator_spelling x) (punctuator_spelling m ++ c ∷ more) ≡ t → cond t (Some x) (find (λ each. bytes_eq (punctuator_spelling each) (punctuator_spelling m ++ c ∷ more)) ms) ≡ Some other → ⊥) [
-      true ↦ λ is_x f.
+      | true ↦ λ is_x f.
           let spelled : punctuator_spelling x ≡ punctuator_spelling m ++ c ∷ more = bytes_eq_gives (punctuator_spelling x) (punctuator_spelling m ++ c ∷ more) is_x in
           let begins : starts_with nat_eq text (punctuator_spelling x) ≡ true = starts_from text (punctuator_spelling x) after (whole ∙ ap (λ l. l ++ after) (sym spelled)) in
           let first : cond true (Some x) (find (λ each. starts_with nat_eq text (punctuator_spelling each)) ms) ≡ Some m = ap (λ t. cond t (Some x) (find (λ each. starts_with nat_eq text (punctuator_spelling each)) ms)) (sym begins) ∙ found in
           longer_than_itself m x c more (some_same first) spelled
       | false ↦ λ not_x f.
           (elim (starts_with nat_eq text (punctuator_spelling x)) as (λ t. cond t (Some x) (find (λ each. starts_with nat_eq text (punctuator_spelling each)) ms) ≡ Some m → ⊥) [
-            true ↦ λ g.
+            | true ↦ λ g.
                 let same : x ≡ m = some_same g in
                 let has = find_has (λ each. bytes_eq (punctuator_spelling each) (punctuator_spelling m ++ c ∷ more)) (λ later. not (starts_with nat_eq (punctuator_spelling later) (punctuator_spelling x))) ms other f order.0 in
                 let spelled = bytes_eq_gives (punctuator_spelling other) (punctuator_spelling m ++ c ∷ more) has.0 in
@@ -102,10 +102,10 @@ found_punctuator b rest m r found =
         ⊎_elim
         (λ dots. false≢true (sym r.no_ellipsis ∙ starts_from (b ∷ rest) ellipsis after (longer ∙ ap (λ l. l ++ after) (sym (bytes_eq_gives ellipsis (punctuator_spelling m ++ c ∷ more) dots)))))
         (λ one.
-            (elim (punctuator_of (punctuator_spelling m ++ c ∷ more)) as (λ o. punctuator_of (punctuator_spelling m ++ c ∷ more) ≡ o → is_some o ≡ true → ⊥) [
-              Some other ↦ λ is_other some. first_longest (b ∷ rest) PUNCTUATORS m other c more after ordered found is_other longer
-              | None ↦ λ is_none some. false≢true some
-            ]) refl one)
+        (elim (punctuator_of (punctuator_spelling m ++ c ∷ more)) as (λ o. punctuator_of (punctuator_spelling m ++ c ∷ more) ≡ o → is_some o ≡ true → ⊥) [
+          | Some other ↦ λ is_other some. first_longest (b ∷ rest) PUNCTUATORS m other c more after ordered found is_other longer
+          | None ↦ λ is_none some. false≢true some
+        ]) refl one)
         (or_cases (bytes_eq ellipsis (punctuator_spelling m ++ c ∷ more)) (is_some (punctuator_of (punctuator_spelling m ++ c ∷ more))) e)
 
 ellipsis_longest : (c : ℕ) (more : List ℕ) → is_lexeme (ellipsis ++ c ∷ more) ≡ false
@@ -131,13 +131,13 @@ all_covered = refl
 bad_first : (b : ℕ) (rest : List ℕ) → Rest b rest → is_blank b ≡ false → punctuator_at (b ∷ rest) ≡ None → is_bad_byte b ≡ true
 bad_first b rest r no_blank none =
     true_from_ne_false (is_bad_byte b) (λ not_bad.
-        let digit = or_parts (is_ascii_digit b) ((b == 46) && begins_with is_ascii_digit rest) r.no_number in
-        let other : is_other b ≡ true = not_from_false (((is_letter b || is_ascii_digit b) || is_quote b) || (is_blank b || is_bad_byte b)) (or_from ((is_letter b || is_ascii_digit b) || is_quote b) (is_blank b || is_bad_byte b) (or_from (is_letter b || is_ascii_digit b) (is_quote b) (or_from (is_letter b) (is_ascii_digit b) r.no_letter digit.0) r.no_quote) (or_from (is_blank b) (is_bad_byte b) no_blank not_bad)) in
-        let cover : covered b ≡ true = agree_below_at covered (λ k. true) 127 b all_covered (below b not_bad) in
-        ⊎_elim
-        (λ not_other. false≢true (sym (not-true (is_other b) not_other) ∙ other))
-        (λ one. false≢true (sym (ap is_some single_none) ∙ one))
-        (or_cases (not (is_other b)) (is_some (punctuator_of (b ∷ []))) cover))
+    let digit = or_parts (is_ascii_digit b) ((b == 46) && begins_with is_ascii_digit rest) r.no_number in
+    let other : is_other b ≡ true = not_from_false (((is_letter b || is_ascii_digit b) || is_quote b) || (is_blank b || is_bad_byte b)) (or_from ((is_letter b || is_ascii_digit b) || is_quote b) (is_blank b || is_bad_byte b) (or_from (is_letter b || is_ascii_digit b) (is_quote b) (or_from (is_letter b) (is_ascii_digit b) r.no_letter digit.0) r.no_quote) (or_from (is_blank b) (is_bad_byte b) no_blank not_bad)) in
+    let cover : covered b ≡ true = agree_below_at covered (λ k. true) 127 b all_covered (below b not_bad) in
+    ⊎_elim
+    (λ not_other. false≢true (sym (not-true (is_other b) not_other) ∙ other))
+    (λ one. false≢true (sym (ap is_some single_none) ∙ one))
+    (or_cases (not (is_other b)) (is_some (punctuator_of (b ∷ []))) cover))
   where
     below : (k : ℕ) → is_bad_byte k ≡ false → k < 127
     below k e = grind (arith, nat_tests)
@@ -165,13 +165,13 @@ quote_literal : (quote : ℕ) (rest : List ℕ) → is_quote quote ≡ true → 
 quote_literal quote rest is_q e =
     ⊎_elim
     (λ words. ⊎_elim
-        (λ word. absurd (false≢true (sym (not_word quote rest (quote_letter quote is_q)) ∙ word)))
-        (λ number. absurd (false≢true (sym (not_number quote rest (quote_no_number quote rest is_q)) ∙ number)))
-        (or_cases (is_word (quote ∷ rest)) (is_number (quote ∷ rest)) words))
+    (λ word. absurd (false≢true (sym (not_word quote rest (quote_letter quote is_q)) ∙ word)))
+    (λ number. absurd (false≢true (sym (not_number quote rest (quote_no_number quote rest is_q)) ∙ number)))
+    (or_cases (is_word (quote ∷ rest)) (is_number (quote ∷ rest)) words))
     (λ marks. ⊎_elim
-        (λ literal. literal)
-        (λ mark. absurd (false≢true (sym (not_punctuator quote rest (quote_other quote is_q)) ∙ mark)))
-        (or_cases (is_literal (quote ∷ rest)) (is_punctuator (quote ∷ rest)) marks))
+    (λ literal. literal)
+    (λ mark. absurd (false≢true (sym (not_punctuator quote rest (quote_other quote is_q)) ∙ mark)))
+    (or_cases (is_literal (quote ∷ rest)) (is_punctuator (quote ∷ rest)) marks))
     (or_cases (is_word (quote ∷ rest) || is_number (quote ∷ rest)) (is_literal (quote ∷ rest) || is_punctuator (quote ∷ rest)) e)
 
 -- no lexeme begins where a literal is not closed
@@ -191,30 +191,30 @@ pub data Start (text : List ℕ) (result : Result Step Rule) : Type 0 where
 start_literal : (quote : ℕ) (rest : List ℕ) → is_letter quote ≡ false → is_quote quote ≡ true → Start (quote ∷ rest) (literal_step (quote ∷ rest) (literal_size (quote ∷ rest)))
 start_literal quote rest no_letter is_q =
     (elim (literal_end quote 1 false rest) as (λ o. literal_end quote 1 false rest ≡ o → Start (quote ∷ rest) (literal_step (quote ∷ rest) o)) [
-      None ↦ λ none. open_literal_at (open_literal quote rest is_q none) refl
+      | None ↦ λ none. open_literal_at (open_literal quote rest is_q none) refl
       | Some size ↦ λ found. lexeme (literal_lexeme quote rest no_letter is_q size (literal_found quote 1 false rest size found))
     ]) refl
 
 start_punctuator : (b : ℕ) (rest : List ℕ) → is_blank b ≡ false → Rest b rest → Start (b ∷ rest) (punctuator_step (punctuator_at (b ∷ rest)))
 start_punctuator b rest no_blank r =
     (elim (punctuator_at (b ∷ rest)) as (λ o. punctuator_at (b ∷ rest) ≡ o → Start (b ∷ rest) (punctuator_step o)) [
-      None ↦ λ none. bad_byte (bad_first b rest r no_blank none) refl (no_lexeme b rest r none)
+      | None ↦ λ none. bad_byte (bad_first b rest r no_blank none) refl (no_lexeme b rest r none)
       | Some m ↦ λ found. lexeme (found_punctuator b rest m r found)
     ]) refl
 
 pub start : (b : ℕ) (rest : List ℕ) → is_blank b ≡ false → Start (b ∷ rest) (lexeme_at (b ∷ rest))
 start b rest no_blank =
     (elim (is_letter b) as (λ t. is_letter b ≡ t → Start (b ∷ rest) (cond t word (cond (begins_number (b ∷ rest)) number (cond (is_quote b) literal other)))) [
-      true ↦ λ letter. lexeme (found_word b rest letter)
+      | true ↦ λ letter. lexeme (found_word b rest letter)
       | false ↦ λ no_letter.
           (elim (begins_number (b ∷ rest)) as (λ t. begins_number (b ∷ rest) ≡ t → Start (b ∷ rest) (cond t number (cond (is_quote b) literal other))) [
-            true ↦ λ begins. lexeme (found_number b rest no_letter begins)
+            | true ↦ λ begins. lexeme (found_number b rest no_letter begins)
             | false ↦ λ no_number.
                 (elim (is_quote b) as (λ t. is_quote b ≡ t → Start (b ∷ rest) (cond t literal other)) [
-                  true ↦ λ is_q. start_literal b rest no_letter is_q
+                  | true ↦ λ is_q. start_literal b rest no_letter is_q
                   | false ↦ λ no_quote.
                       (elim (starts_with nat_eq (b ∷ rest) ellipsis) as (λ t. starts_with nat_eq (b ∷ rest) ellipsis ≡ t → Start (b ∷ rest) (cond t (Err Unsupported) (punctuator_step (punctuator_at (b ∷ rest))))) [
-                        true ↦ λ dots. lexeme (found_ellipsis (b ∷ rest) dots)
+                        | true ↦ λ dots. lexeme (found_ellipsis (b ∷ rest) dots)
                         | false ↦ λ no_dots. start_punctuator b rest no_blank (record { no_letter = no_letter; no_number = no_number; no_quote = no_quote; no_ellipsis = no_dots })
                       ]) refl
                 ]) refl
@@ -223,10 +223,13 @@ start b rest no_blank =
   where
     word : Result Step Rule
     word = token_of (prefix_len is_word_byte (b ∷ rest)) (word_kind (take (prefix_len is_word_byte (b ∷ rest)) (b ∷ rest)))
+
     number : Result Step Rule
     number = token_of (number_size (b ∷ rest)) (number_kind (take (number_size (b ∷ rest)) (b ∷ rest)))
+
     literal : Result Step Rule
     literal = literal_step (b ∷ rest) (literal_size (b ∷ rest))
+
     other : Result Step Rule
     other = cond (starts_with nat_eq (b ∷ rest) ellipsis) (Err Unsupported) (punctuator_step (punctuator_at (b ∷ rest)))
 

@@ -137,7 +137,7 @@ abbrev pub is_floating_in : (digit letter : ℕ → Bool) (is_decimal : Bool) �
 is_floating_in digit letter is_decimal text =
     if begins_with (λ b. b == 46) (after_run digit text)
     then (begins_with digit text || begins_with digit (drop 1 (after_run digit text)))
-        && (is_exponent letter (after_run digit (drop 1 (after_run digit text))) || (is_decimal && is_floating_suffix (after_run digit (drop 1 (after_run digit text)))))
+    && (is_exponent letter (after_run digit (drop 1 (after_run digit text))) || (is_decimal && is_floating_suffix (after_run digit (drop 1 (after_run digit text)))))
     else begins_with digit text && is_exponent letter (after_run digit text)
 
 -- a floating constant (C99 6.4.4.2)

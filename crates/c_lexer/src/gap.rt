@@ -7,10 +7,9 @@ ghost use Rattle.c_lexer.specs.Gaps.{line_of, is_marker_name, is_line_marker};
 ghost use Rattle.c_lexer.specs.Numbers.{after_run};
 ghost use Rattle.c_lexer.specs.Reading.{comment_end, comment_step, directive_step};
 
-use cc_base::Rule;
-
 use crate::byte::{begins_with_byte, begins_with_digit, blank_run, digit_run, is_blank};
-use crate::step::{gap, Step};
+use crate::step::{Step, gap};
+use cc_base::Rule;
 
 /// How many bytes the comment has whose `/*` stands right before the text.
 fn comment_size(text: &[u8]) -> Option<usize>
@@ -82,7 +81,8 @@ fn name_size(text: &[u8]) -> usize
 fn has_blanks_and_digits_only(text: &[u8]) -> bool
     ensures { result ≡ list_all (λ b. is_blank b || is_ascii_digit b) text.now }
 {
-    text.iter().all(|byte| is_blank(*byte) || byte.is_ascii_digit())
+    text.iter()
+        .all(|byte| is_blank(*byte) || byte.is_ascii_digit())
 }
 
 /// Whether the text is a name in double quotes, and then only blanks and digits.

@@ -6,16 +6,20 @@ ghost use Rattle.c_lexer.specs.Cut.{IsCut, IsRefusal, IsLexicalFault};
 ghost use Rattle.c_lexer.specs.Reading.{token_list};
 ghost use Rattle.c_lexer.specs.Tokens.{Token as TokenValue};
 
-use std::alloc::{AllocError, Global};
-
-use cc_base::{Fault, Place};
-
 use crate::position::Position;
 use crate::step::step_at;
 use crate::token::{Token, TokenKind};
+use cc_base::{Fault, Place};
+use std::alloc::{AllocError, Global};
 
 /// Adds a token of this kind, if the piece is one.
-fn keep<'a>(found: &mut Vec<Token<'a>>, kind: Option<TokenKind>, bytes: &'a [u8], start: usize, place: Place) -> Result<(), AllocError>
+fn keep<'a>(
+    found: &mut Vec<Token<'a>>,
+    kind: Option<TokenKind>,
+    bytes: &'a [u8],
+    start: usize,
+    place: Place,
+) -> Result<(), AllocError>
     ensures { OnOk result (found.new.items ≡ found.old.items ++ token_list kind bytes.now start place) }
 {
     if let Some(kind) = kind {
@@ -31,16 +35,12 @@ pub fn tokens<'a>(alloc: Global, text: &'a [u8]) -> Result<Vec<Token<'a>>, Fault
     ensures refused { IfErr result (IsLexicalFault text.now) }
 
     // No other list of tokens is cut from the text, and a text that can be cut is not refused.
-    ensures accepts {
-        (list : List TokenValue) → IsCut text.now list
-        → IsOkAnd result (λ found. found.items ≡ list) ⊎ (result ≡ Err Fault.NoMemory)
-    }
+    ensures accepts { (list : List TokenValue) → IsCut text.now list
+        → IsOkAnd result (λ found. found.items ≡ list) ⊎ (result ≡ Err Fault.NoMemory) }
 
     // Nothing else is answered where a text is refused.
-    ensures refuses {
-        (place : PlaceValue) (rule : RuleValue) → IsRefusal text.now place rule
-        → (result ≡ Err (Fault.Refused place rule)) ⊎ (result ≡ Err Fault.NoMemory)
-    }
+    ensures refuses { (place : PlaceValue) (rule : RuleValue) → IsRefusal text.now place rule
+        → (result ≡ Err (Fault.Refused place rule)) ⊎ (result ≡ Err Fault.NoMemory) }
 {
     let mut found = Vec::new(alloc);
     let mut position = Position {

@@ -3,9 +3,9 @@
 
 mod byte;
 mod gap;
+mod lexer;
 mod literal;
 mod number;
-mod lexer;
 mod position;
 mod punctuator;
 mod step;

@@ -6,13 +6,11 @@ ghost use Rattle.c_lexer.specs.Literals.{is_literal, simple_escape, byte_or_bad,
 ghost use Rattle.c_lexer.specs.Numbers.{value_in, in_64_bits};
 ghost use Rattle.c_lexer.specs.Reading.{literal_end, literal_size};
 
-use std::alloc::{AllocError, Global};
-
-use cc_base::Rule;
-
 use crate::byte::{begins_with_byte, is_octal_digit};
 use crate::number::{begins_with_hexadecimal_digit, hexadecimal_run, value_in};
 use crate::token::TokenKind;
+use cc_base::Rule;
+use std::alloc::{AllocError, Global};
 
 /// One character of a literal.
 #[derive(Clone, Copy, Debug, PartialEq, Eq)]
@@ -91,7 +89,10 @@ fn octal_run(text: &[u8]) -> usize
     ensures fits { result ≤ length text.now }
     ensures short { result ≤ 3 }
 {
-    text.iter().take(3).take_while(|byte| is_octal_digit(**byte)).count()
+    text.iter()
+        .take(3)
+        .take_while(|byte| is_octal_digit(**byte))
+        .count()
 }
 
 /// At most three octal digits.

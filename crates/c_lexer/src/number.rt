@@ -6,10 +6,9 @@ ghost use Rattle.c_lexer.specs.Bytes.{begins_with};
 ghost use Rattle.c_lexer.specs.Numbers.{is_sign, is_exponent_letter, goes_on, begins_number, is_hexadecimal, radix_of, digits_of, suffix_of, value_in, has_value, limit_of, is_unsigned_letter, is_long_letter, is_suffix, may_have, type_of, integer_of, after_run, is_floating_suffix, after_sign, is_exponent, is_decimal_letter, is_binary_letter, is_floating_in, is_floating, has_long_long_suffix, number_kind, in_64_bits};
 ghost use Rattle.c_lexer.specs.Reading.{number_run, number_size};
 
-use cc_base::Rule;
-
 use crate::byte::{begins_with_digit, digit_run, is_word_byte};
 use crate::token::TokenKind;
+use cc_base::Rule;
 
 /// The type of an integer constant.
 #[derive(Clone, Copy, Debug, PartialEq, Eq)]
@@ -62,7 +61,8 @@ pub(crate) fn begins_number(text: &[u8]) -> bool
     ensures { result ≡ begins_number text.now }
 {
     match text.split_first() {
-        Some((first, rest)) => first.is_ascii_digit() || (*first == b'.' && begins_with_digit(rest)),
+        Some((first, rest)) => first.is_ascii_digit()
+            || (*first == b'.' && begins_with_digit(rest)),
         None => false,
     }
 }
@@ -108,7 +108,9 @@ pub(crate) fn hexadecimal_run(text: &[u8]) -> usize
     ensures value { result ≡ prefix_len is_ascii_hexdigit text.now }
     ensures fits { result ≤ length text.now }
 {
-    text.iter().take_while(|byte| byte.is_ascii_hexdigit()).count()
+    text.iter()
+        .take_while(|byte| byte.is_ascii_hexdigit())
+        .count()
 }
 
 fn is_hexadecimal(number: &[u8]) -> bool
@@ -198,7 +200,10 @@ fn is_long_letter(byte: u8) -> bool
 fn unsigned_letters(suffix: &[u8]) -> usize
     ensures { result ≡ count_by is_unsigned_letter suffix.now }
 {
-    suffix.iter().filter(|byte| is_unsigned_letter(**byte)).count()
+    suffix
+        .iter()
+        .filter(|byte| is_unsigned_letter(**byte))
+        .count()
 }
 
 fn long_letters(suffix: &[u8]) -> usize
@@ -210,7 +215,9 @@ fn long_letters(suffix: &[u8]) -> usize
 fn has_suffix_letters_only(suffix: &[u8]) -> bool
     ensures { result ≡ list_all (λ b. is_unsigned_letter b || is_long_letter b) suffix.now }
 {
-    suffix.iter().all(|byte| is_unsigned_letter(*byte) || is_long_letter(*byte))
+    suffix
+        .iter()
+        .all(|byte| is_unsigned_letter(*byte) || is_long_letter(*byte))
 }
 
 fn is_suffix(suffix: &[u8]) -> bool
@@ -251,10 +258,8 @@ fn type_of(radix: u8, suffix: &[u8], value: u64) -> Option<IntegerType>
     let is_decimal = radix == 10;
     let is_unsigned = unsigned_letters(suffix) > 0;
     let is_long = long_letters(suffix) > 0;
-    INTEGER_TYPES
-        .iter()
-        .copied()
-        .find(|each| each.may_have(is_decimal, is_unsigned, is_long) && each.holds(value))
+    INTEGER_TYPES.iter().copied().find(|each| each.may_have(is_decimal, is_unsigned, is_long)
+        && each.holds(value))
 }
 
 /// The type and the value of an integer constant.
@@ -274,7 +279,8 @@ fn is_floating_suffix(text: &[u8]) -> bool
     ensures { result ≡ is_floating_suffix text.now }
 {
     match text.split_first() {
-        Some((first, rest)) => (*first == b'f' || *first == b'F' || is_long_letter(*first)) && rest.is_empty(),
+        Some((first, rest)) => (*first == b'f' || *first == b'F' || is_long_letter(*first))
+            && rest.is_empty(),
         None => true,
     }
 }
@@ -332,7 +338,8 @@ fn is_decimal_floating(text: &[u8]) -> bool
         return begins_with_digit(text) && is_decimal_exponent(tail);
     };
     let (_, end) = fraction.split_at(digit_run(fraction));
-    (begins_with_digit(text) || begins_with_digit(fraction)) && (is_decimal_exponent(end) || is_floating_suffix(end))
+    (begins_with_digit(text) || begins_with_digit(fraction))
+        && (is_decimal_exponent(end) || is_floating_suffix(end))
 }
 
 fn is_hexadecimal_floating(text: &[u8]) -> bool
@@ -343,7 +350,8 @@ fn is_hexadecimal_floating(text: &[u8]) -> bool
         return begins_with_hexadecimal_digit(text) && is_binary_exponent(tail);
     };
     let (_, end) = fraction.split_at(hexadecimal_run(fraction));
-    (begins_with_hexadecimal_digit(text) || begins_with_hexadecimal_digit(fraction)) && is_binary_exponent(end)
+    (begins_with_hexadecimal_digit(text) || begins_with_hexadecimal_digit(fraction))
+        && is_binary_exponent(end)
 }
 
 fn is_floating(number: &[u8]) -> bool

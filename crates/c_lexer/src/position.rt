@@ -2,9 +2,8 @@
 ghost use Rattle.std.specs.Prelude.{◌≡◌, ◌<◌, ◌+◌, ◌^◌, length, fold};
 ghost use Rattle.c_lexer.specs.Reading.{next_position};
 
-use cc_base::Place;
-
 use crate::byte::is_blank;
+use cc_base::Place;
 
 /// A place in a text, and whether only blanks stand before it on its line.
 #[derive(Clone, Copy, Debug, PartialEq, Eq)]

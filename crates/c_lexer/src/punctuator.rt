@@ -3,10 +3,9 @@ ghost use Rattle.std.specs.Prelude.{◌≡◌};
 ghost use Rattle.c_lexer.specs.Punctuators.{punctuator_spelling};
 ghost use Rattle.c_lexer.specs.Reading.{punctuator_at, punctuator_step};
 
-use cc_base::Rule;
-
 use crate::step::Step;
 use crate::token::TokenKind;
+use cc_base::Rule;
 
 /// A punctuator of C99 (6.4.6), without digraphs and without `...`.
 #[derive(Clone, Copy, Debug, PartialEq, Eq)]
@@ -172,7 +171,10 @@ impl Punctuator {
 fn punctuator_at(text: &[u8]) -> Option<Punctuator>
     ensures { result ≡ punctuator_at text.now }
 {
-    PUNCTUATORS.iter().copied().find(|each| text.starts_with(each.spelling()))
+    PUNCTUATORS
+        .iter()
+        .copied()
+        .find(|each| text.starts_with(each.spelling()))
 }
 
 /// The punctuator that the text begins with, if it begins no other lexeme.

@@ -7,8 +7,6 @@ ghost use Rattle.c_lexer.specs.Numbers.{number_kind};
 ghost use Rattle.c_lexer.specs.Words.{word_kind};
 ghost use Rattle.c_lexer.specs.Reading.{gap_of, token_of, literal_step, literal_size, number_size, lexeme_at, step_at};
 
-use cc_base::Rule;
-
 use crate::byte::{begins_with_blank, begins_with_byte, begins_with_letter, begins_with_quote};
 use crate::gap::{comment_step, directive_step, line_of};
 use crate::literal::{literal_kind, literal_size};
@@ -16,6 +14,7 @@ use crate::number::{begins_number, number_kind, number_size};
 use crate::punctuator::punctuator_step;
 use crate::token::TokenKind;
 use crate::word::{word_kind, word_size};
+use cc_base::Rule;
 
 /// The piece that a text begins with: how many bytes it has, and what token it is, if it is one.
 #[derive(Clone, Copy, Debug, PartialEq, Eq)]

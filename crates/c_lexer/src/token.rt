@@ -1,13 +1,11 @@
 //! Tokens.
 ghost use Rattle.std.specs.Prelude.{◌≡◌};
 
-use std::marker::Model;
-
-use cc_base::Place;
-
 use crate::number::IntegerType;
 use crate::punctuator::Punctuator;
 use crate::word::Keyword;
+use cc_base::Place;
+use std::marker::Model;
 
 /// What a token is.
 #[derive(Clone, Copy, Debug, PartialEq, Eq)]
@@ -35,6 +33,7 @@ impl<'a> Model for Token<'a> {
     ghost use Rattle.c_lexer.specs.Tokens.{Token as SeenToken};
 
     ghost Value = { SeenToken };
+
     ghost view = { λ t. record { kind = t.kind; bytes = t.bytes.now; start = t.start; place = t.place } };
 }
 

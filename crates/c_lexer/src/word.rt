@@ -4,10 +4,9 @@ ghost use Rattle.std.specs.List.{prefix_len, list_any};
 ghost use Rattle.c_lexer.specs.Bytes.{is_word_byte};
 ghost use Rattle.c_lexer.specs.Words.{keyword_spelling, keyword_of, is_left_out, word_kind};
 
-use cc_base::Rule;
-
 use crate::byte::is_word_byte;
 use crate::token::TokenKind;
+use cc_base::Rule;
 
 /// A keyword of C99 that the language keeps.
 #[derive(Clone, Copy, Debug, PartialEq, Eq)]
@@ -142,7 +141,10 @@ pub(crate) fn word_size(text: &[u8]) -> usize
 fn keyword_of(word: &[u8]) -> Option<Keyword>
     ensures { result ≡ keyword_of word.now }
 {
-    KEYWORDS.iter().copied().find(|each| each.spelling() == word)
+    KEYWORDS
+        .iter()
+        .copied()
+        .find(|each| each.spelling() == word)
 }
 
 fn is_among(words: &[&[u8]], word: &[u8]) -> bool

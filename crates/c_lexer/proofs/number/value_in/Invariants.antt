@@ -8,5 +8,5 @@ use Rattle.c_lexer.proofs.number.value_in.Given as goal
 abbrev pub invariant-loop-digit : goal.invariant-loop-digit
 invariant-loop-digit l = record {
   goes_on : value_in l.radix l.digits ≡ fold (λ value digit. value * l.radix + digit_value digit) l.value (drop l.digit-index l.digits);
-  fits : l.value < 2 ^ 64
+  fits : l.value < 2 ^ 64;
 }

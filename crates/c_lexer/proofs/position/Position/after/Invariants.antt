@@ -8,5 +8,5 @@ abbrev pub invariant-loop-byte : goal.invariant-loop-byte
 invariant-loop-byte l = record {
   goes_on : fold next_position l.fn.self l.bytes ≡ fold next_position l.position (drop l.byte-index l.bytes);
   line : l.position.place.line ≤ l.fn.self.place.line + l.byte-index;
-  column : l.position.place.col ≤ l.fn.self.place.col + l.byte-index + 1
+  column : l.position.place.col ≤ l.fn.self.place.col + l.byte-index + 1;
 }

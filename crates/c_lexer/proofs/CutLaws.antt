@@ -1,15 +1,14 @@
 -- A text is cut in one way, refused by one rule at one place, or neither; and a cut grows by the piece that stands after it.
-use Rattle.std.proofs.Common.{◌≡◌, ℕ, ◌+◌, suc, ◌<◌, ◌≤◌, Bool, true, false, ◌⊎◌, List, [], ◌∷◌, ◌++◌, length, take, drop, Option, Some, None, Result, Ok, Err, refl, sym, ap, ◌∙◌, subst, ⊎_elim, append_assoc, append-nil, arith, length-append}
-use Rattle.std.specs.Prelude.{◌&&◌, ◌||◌, nat_eq, ◌==◌, codes, IsTrue}
-use Rattle.std.specs.List.{starts_with}
-use Rattle.std.proofs.lemmas.Bool.{and_parts, or_cases, false≢true}
+use Rattle.std.proofs.Common.{◌≡◌, ℕ, ◌<◌, ◌≤◌, List, [], ◌∷◌, ◌++◌, length, take, drop, Option, Result, Ok, Err, refl, sym, ap, ◌∙◌, subst, ⊎_elim, append_assoc, append-nil, arith, length-append}
+use Rattle.std.specs.Prelude.{◌==◌}
+use Rattle.std.proofs.lemmas.Bool.{and_parts, false≢true}
 use Rattle.std.proofs.Math.Seq.{take-append_seam, drop-append_seam}
 use Rattle.cc_base.specs.declared.place.Place.{Place}
 use Rattle.cc_base.specs.declared.fault.Rule.{Rule}
 use Rattle.cc_base.specs.declared.fault.Rule.TheVariants.{BadByte, OpenComment, OpenText, BadNumber, Syntax, Unsupported, UnknownName, Redeclared, Incomplete, Mismatch, NotPlace, NotConstant, BadCall, NoMain}
 use Rattle.c_lexer.specs.Bytes.{begins_with}
 use Rattle.c_lexer.specs.Cut.{Piece, Blank, BlockComment, LineComment, LineMarker, Spelled, piece_bytes, text_of, Stands, AllStand, tokens_of, IsCutBefore, IsCut, IsRefusal, IsFault, IsRefusedLexeme, is_first_on_line, place_after}
-use Rattle.c_lexer.specs.Lexemes.{is_lexeme, Begins}
+use Rattle.c_lexer.specs.Lexemes.{Begins}
 use Rattle.c_lexer.specs.Reading.{step_at, token_list}
 use Rattle.c_lexer.specs.Tokens.{Token}
 use Rattle.c_lexer.specs.declared.step.Step.{Step}

@@ -1,27 +1,23 @@
 -- What begins a text: one longest lexeme, which reading forward finds; or a literal that is not closed; or a byte that begins nothing.
-use Rattle.std.proofs.Common.{◌≡◌, ℕ, ◌+◌, suc, ◌<◌, ◌≤◌, Bool, true, false, cond, ◌⊎◌, List, [], ◌∷◌, ◌++◌, length, take, drop, Option, Some, None, Result, Ok, Err, refl, sym, ap, ◌∙◌, subst, inl, inr, ⊎_elim, append_assoc, arith, length-append, take-append-drop}
-use Rattle.std.specs.Prelude.{find, ◌&&◌, ◌||◌, not, nat_eq, nat_le, ◌==◌, bytes_eq, codes, is_some, IsTrue}
-use Rattle.std.specs.List.{list_all, starts_with, prefix_len}
+use Rattle.std.proofs.Common.{◌≡◌, ℕ, ◌+◌, suc, Bool, true, false, cond, List, [], ◌∷◌, ◌++◌, length, take, drop, Some, None, Result, refl, sym, ap, ◌∙◌, subst, ⊎_elim, arith, take-append-drop}
+use Rattle.std.specs.Prelude.{◌&&◌, ◌||◌, ◌==◌, bytes_eq}
+use Rattle.std.specs.List.{list_all, prefix_len}
 use Rattle.std.specs.Char.{is_ascii_digit}
-use Rattle.std.proofs.lemmas.Bool.{and_parts, or_parts, or_cases, or_from, or_left, or_right, and_from, and_left, and_right, false≢true, not-true, not_from_true, not_from_false, eqb-true, ne_eqb, false_from_ne_true, true_from_ne_false, agree_below, agree_below_at, leb-false, cond-true, cond-false, cases_Bool}
+use Rattle.std.proofs.lemmas.Bool.{and_parts, or_cases, or_from, or_left, or_right, and_from, and_left, and_right, false≢true, not_from_true, eqb-true, false_from_ne_true, cond-true, cond-false}
 use Rattle.std.proofs.lemmas.Bool.Decides.{nat_tests}
 use Rattle.std.proofs.lemmas.List.{length-take-le}
 use Rattle.std.proofs.Math.Seq.{take-append_seam}
 use Rattle.cc_base.specs.declared.fault.Rule.{Rule}
-use Rattle.cc_base.specs.declared.fault.Rule.TheVariants.{BadByte, OpenText, Unsupported}
-use Rattle.c_lexer.specs.Bytes.{is_blank, is_letter, is_word_byte, is_quote, is_bad_byte, begins_with, backslash, line_feed}
+use Rattle.c_lexer.specs.Bytes.{is_blank, is_letter, is_word_byte, is_quote, is_bad_byte, begins_with}
 use Rattle.c_lexer.specs.Cut.{IsOpenLiteral}
-use Rattle.c_lexer.specs.Lexemes.{is_lexeme, lexeme_kind, IsLongest, Begins}
+use Rattle.c_lexer.specs.Lexemes.{is_lexeme, lexeme_kind, Begins}
 use Rattle.c_lexer.specs.Literals.{is_literal, closes, literal_kind}
 use Rattle.c_lexer.specs.Numbers.{is_number, begins_number, goes_on, all_go_on, number_kind}
-use Rattle.c_lexer.specs.Punctuators.{punctuator_spelling, ellipsis, punctuator_of, is_punctuator, punctuator_kind}
-use Rattle.c_lexer.specs.Reading.{number_run, number_size, literal_end, literal_size, literal_step, token_of, lexeme_at, punctuator_at, punctuator_step}
+use Rattle.c_lexer.specs.Punctuators.{is_punctuator}
+use Rattle.c_lexer.specs.Reading.{number_run, number_size, literal_end, token_of}
 use Rattle.c_lexer.specs.Words.{is_word, word_kind}
-use Rattle.c_lexer.specs.declared.punctuator.Punctuator.{Punctuator}
-use Rattle.c_lexer.specs.declared.punctuator.TheConstants.{PUNCTUATORS}
 use Rattle.c_lexer.specs.declared.step.Step.{Step}
-use Rattle.c_lexer.proofs.ListLaws.{Fronts, equal, first_shorter, second_shorter, fronts, starts_from, starts_gives, bytes_eq_gives, bytes_eq_from, find_has, find_weaker}
-use Rattle.c_lexer.proofs.LexemeLaws.{is_other, Other, other_is, both, letter_digit, letter_quote, letter_blank, letter_bad, letter_point, digit_quote, digit_blank, digit_bad, quote_letter, quote_digit, quote_point, quote_blank, quote_bad, punctuator_other, one_more, run_passes, run_longest, number_passes, number_longest, run-le, number_run-le, Closed, literal_found, closes_end, closes_longest, punctuator_lexeme, lexeme_kind-punctuator, is_ordered, ordered}
+use Rattle.c_lexer.proofs.LexemeLaws.{is_other, letter_digit, letter_quote, letter_point, quote_digit, quote_point, punctuator_other, one_more, run_passes, run_longest, number_passes, number_longest, run-le, number_run-le, Closed, closes_end, closes_longest}
 
 -- What a first byte rules out.
 

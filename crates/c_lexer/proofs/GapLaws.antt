@@ -1,8 +1,8 @@
 -- Comments and lines.
-use Rattle.std.proofs.Common.{◌≡◌, ℕ, ◌+◌, suc, Bool, true, false, cond, List, [], ◌∷◌, ◌++◌, length, take, drop, Option, Some, None, refl, sym, ap, ◌∙◌, subst, append_assoc, arith, take-append-drop}
-use Rattle.std.specs.Prelude.{◌&&◌, ◌||◌, not, ◌==◌, codes}
-use Rattle.std.specs.List.{prefix_len, position_or_len}
-use Rattle.std.proofs.lemmas.Bool.{and_parts, or_parts, or_from, and_from, and_left, and_right, false≢true, not_from_false, eqb-true, false_from_ne_true}
+use Rattle.std.proofs.Common.{◌≡◌, ℕ, ◌+◌, true, false, cond, List, [], ◌∷◌, ◌++◌, length, take, drop, Some, None, refl, sym, ap, ◌∙◌, arith, take-append-drop}
+use Rattle.std.specs.Prelude.{◌&&◌, ◌||◌, not, ◌==◌}
+use Rattle.std.specs.List.{position_or_len}
+use Rattle.std.proofs.lemmas.Bool.{and_parts, or_parts, or_from, and_from, and_right, false≢true, eqb-true, false_from_ne_true}
 use Rattle.c_lexer.specs.Bytes.{begins_with, line_feed}
 use Rattle.c_lexer.specs.Cut.{IsRestOfLine}
 use Rattle.c_lexer.specs.Gaps.{has_comment_end, line_of}

@@ -1,24 +1,23 @@
 -- The lexeme that reading forward finds is the longest that begins a text, and the only one.
-use Rattle.std.proofs.Common.{◌≡◌, ℕ, ◌+◌, Bool, true, false, cond, ◌⊎◌, List, [], ◌∷◌, ◌++◌, length, take, drop, suc, ◌≤◌, length-append, Option, Some, None, Result, Ok, Err, refl, sym, ap, ◌∙◌, subst, inl, inr, ⊎_elim, append_assoc, arith}
-use Rattle.std.specs.Prelude.{find, ◌&&◌, ◌||◌, not, nat_eq, nat_lt, ◌==◌, bytes_eq, codes, is_some, option_map, ok_or, IsTrue}
-use Rattle.std.specs.List.{list_all, list_any, starts_with, prefix_len}
-use Rattle.std.specs.Char.{is_ascii_digit, is_ascii_alphabetic}
-use Rattle.std.proofs.lemmas.Bool.{and_parts, or_parts, or_cases, or_from, or_left, or_right, and_from, and_left, and_right, ne_eqb, false≢true, not-true, not-false, eqb-true, cases_Bool, false_from_ne_true, agree_below_at}
+use Rattle.std.proofs.Common.{◌≡◌, ℕ, ◌+◌, Bool, true, false, cond, List, [], ◌∷◌, ◌++◌, length, take, drop, suc, ◌≤◌, length-append, Some, None, Ok, refl, sym, ap, ◌∙◌, subst, ⊎_elim, arith}
+use Rattle.std.specs.Prelude.{◌&&◌, ◌||◌, not, nat_eq, ◌==◌, bytes_eq, is_some}
+use Rattle.std.specs.List.{list_all, starts_with, prefix_len}
+use Rattle.std.specs.Char.{is_ascii_digit}
+use Rattle.std.proofs.lemmas.Bool.{and_parts, or_parts, or_cases, and_from, and_left, and_right, ne_eqb, false≢true, not-true}
 use Rattle.std.proofs.lemmas.Bool.Decides.{nat_tests}
-use Rattle.c_lexer.specs.Bytes.{is_blank, is_letter, is_word_byte, is_quote, is_bad_byte, begins_with, backslash, line_feed}
-use Rattle.c_lexer.specs.Lexemes.{is_lexeme, lexeme_kind, IsLongest, Begins}
-use Rattle.c_lexer.specs.Literals.{is_literal, closes, literal_kind}
-use Rattle.c_lexer.specs.Numbers.{is_number, begins_number, goes_on, all_go_on, number_kind}
-use Rattle.c_lexer.specs.Punctuators.{punctuator_spelling, ellipsis, punctuator_of, is_punctuator, punctuator_kind}
-use Rattle.c_lexer.specs.Words.{is_word, word_kind}
+use Rattle.c_lexer.specs.Bytes.{is_blank, is_letter, is_quote, is_bad_byte, begins_with, backslash, line_feed}
+use Rattle.c_lexer.specs.Lexemes.{is_lexeme, lexeme_kind}
+use Rattle.c_lexer.specs.Literals.{closes}
+use Rattle.c_lexer.specs.Numbers.{goes_on, all_go_on}
+use Rattle.c_lexer.specs.Punctuators.{punctuator_spelling, ellipsis, punctuator_of, is_punctuator}
 use Rattle.c_lexer.specs.declared.punctuator.Punctuator.{Punctuator}
 use Rattle.c_lexer.specs.declared.punctuator.TheConstants.{PUNCTUATORS}
 use Rattle.std.proofs.lemmas.List.{length-take-le}
 use Rattle.std.proofs.lemmas.List.Sums.{prefix_len-le-length}
-use Rattle.c_lexer.specs.Reading.{number_run, number_size, literal_end, literal_size, token_of, lexeme_at, punctuator_at}
+use Rattle.c_lexer.specs.Reading.{number_run, literal_end}
 use Rattle.c_lexer.specs.declared.punctuator.Punctuator.TheVariants as mark
 use Rattle.c_lexer.specs.declared.token.TokenKind.TheVariants.{Punctuator as PunctuatorKind}
-use Rattle.c_lexer.proofs.ListLaws.{Fronts, equal, first_shorter, second_shorter, fronts, starts_from, starts_gives, bytes_eq_gives, bytes_eq_from, find_has, find_weaker}
+use Rattle.c_lexer.proofs.ListLaws.{bytes_eq_gives, find_has}
 
 -- The classes of first bytes.
 

@@ -1,12 +1,11 @@
 -- How far a reading has come in a text, and what its next step does.
-use Rattle.std.proofs.Common.{◌≡◌, ℕ, ◌+◌, ◌-◌, suc, ◌<◌, ◌≤◌, ◌^◌, Bool, true, false, cond, List, [], ◌∷◌, ◌++◌, length, take, drop, Option, Some, None, Result, Ok, Err, refl, sym, ap, ◌∙◌, subst, append_assoc, append-nil, arith, length-append}
+use Rattle.std.proofs.Common.{◌≡◌, ℕ, ◌+◌, ◌-◌, ◌≤◌, Bool, true, false, cond, List, [], ◌∷◌, ◌++◌, length, take, drop, Ok, Err, refl, sym, ap, ◌∙◌, subst, append_assoc, append-nil, arith, length-append}
 use Rattle.std.specs.Prelude.{◌&&◌, ◌==◌, count_by}
 use Rattle.std.specs.List.{fold, list_all}
 use Rattle.std.proofs.lemmas.Bool.{false≢true, ne_eqb}
 use Rattle.std.proofs.lemmas.List.Sums.{fold-append}
 use Rattle.std.proofs.lemmas.List.Folds.{list_all-append}
 use Rattle.std.proofs.Math.Bool.{and-true}
-use Rattle.cc_base.specs.declared.place.Place.{Place}
 use Rattle.cc_base.specs.declared.fault.Rule.{Rule}
 use Rattle.c_lexer.specs.Bytes.{is_blank, line_feed}
 use Rattle.c_lexer.specs.Cut.{IsCutBefore, IsCut, IsRefusal, is_first_on_line, last_line, place_after}
@@ -14,7 +13,6 @@ use Rattle.c_lexer.specs.Reading.{step_at, next_position, token_list}
 use Rattle.c_lexer.specs.Tokens.{Token}
 use Rattle.c_lexer.specs.declared.position.Position.{Position}
 use Rattle.c_lexer.specs.declared.step.Step.{Step}
-use Rattle.c_lexer.specs.declared.token.TokenKind.{TokenKind}
 use Rattle.c_lexer.proofs.CutLaws.{CutStep, cut_step, cut_refused, cut_none, cut_all, first_token}
 
 -- Positions.

@@ -1,14 +1,14 @@
 -- Reading forward finds the one piece that begins a text, or the one rule that refuses it.
-use Rattle.std.proofs.Common.{◌≡◌, ℕ, ◌+◌, suc, Bool, true, false, cond, ◌⊎◌, List, [], ◌∷◌, ◌++◌, length, take, drop, Option, Some, None, Result, Ok, Err, refl, sym, ap, ◌∙◌, subst, inl, inr, ⊎_elim, append_assoc, arith, length-append}
-use Rattle.std.specs.Prelude.{◌&&◌, ◌||◌, not, nat_eq, ◌==◌, codes, IsTrue, ok_or, option_map, bytes_eq, is_some}
+use Rattle.std.proofs.Common.{◌≡◌, ℕ, ◌+◌, Bool, true, false, cond, ◌⊎◌, List, [], ◌∷◌, ◌++◌, length, drop, Option, Some, None, Result, Ok, Err, refl, sym, ap, ◌∙◌, subst, inl, inr, ⊎_elim, append_assoc, arith, length-append}
+use Rattle.std.specs.Prelude.{◌&&◌, ◌||◌, nat_eq, ◌==◌, codes, ok_or, option_map, bytes_eq, is_some}
 use Rattle.std.specs.Option.{option_map_or}
 use Rattle.std.specs.List.{starts_with, list_any}
 use Rattle.std.specs.Char.{is_ascii_digit}
-use Rattle.std.proofs.lemmas.Bool.{and_parts, or_parts, or_cases, or_from, or_left, or_right, and_from, and_left, and_right, false≢true, cond-true, cond-false, eqb-true, false_from_ne_true, cases_Bool}
+use Rattle.std.proofs.lemmas.Bool.{and_parts, or_parts, or_cases, or_from, and_from, and_left, and_right, false≢true, cond-true, cond-false, eqb-true, false_from_ne_true}
 use Rattle.std.proofs.lemmas.Bool.Decides.{nat_tests}
 use Rattle.cc_base.specs.declared.fault.Rule.{Rule}
 use Rattle.cc_base.specs.declared.fault.Rule.TheVariants.{BadByte, OpenComment, OpenText, BadNumber, Syntax, Unsupported, UnknownName, Redeclared, Incomplete, Mismatch, NotPlace, NotConstant, BadCall, NoMain}
-use Rattle.c_lexer.specs.Bytes.{is_blank, is_letter, is_quote, is_bad_byte, begins_with, line_feed}
+use Rattle.c_lexer.specs.Bytes.{is_blank, is_letter, is_quote, is_bad_byte, begins_with}
 use Rattle.c_lexer.specs.Cut.{Piece, Blank, BlockComment, LineComment, LineMarker, Spelled, piece_bytes, IsRestOfLine, IsTokenAt, Stands, is_first_on_line, IsRefusedLexeme, IsOpenLiteral, IsDirective, IsFault}
 use Rattle.c_lexer.specs.Gaps.{has_comment_end, begins_comment, line_of, is_line_marker}
 use Rattle.c_lexer.specs.Lexemes.{is_lexeme, lexeme_kind, Begins, begins_wide_literal}
@@ -23,10 +23,10 @@ use Rattle.c_lexer.specs.declared.literal.Character.TheVariants.{Byte, Bad, Univ
 use Rattle.c_lexer.specs.declared.step.Step.{Step}
 use Rattle.c_lexer.specs.declared.token.TokenKind.{TokenKind}
 use Rattle.c_lexer.specs.declared.token.TokenKind.TheVariants.{Keyword as KeywordKind, Punctuator as PunctuatorKind, Identifier, StringLiteral}
-use Rattle.c_lexer.proofs.FirstLexeme.{Found, begins_front, not_word, not_number, not_literal, letter_no_number, quote_no_number}
-use Rattle.c_lexer.proofs.GapLaws.{begins_gives, CommentEnd, comment_found, no_comment_end, comment_end-none, comment_end-at, line_size, line_of-cons, line_of-whole, IsRestOfLine-line_of}
-use Rattle.c_lexer.proofs.LexemeLaws.{is_other, other_is, punctuator_other, letter_blank, letter_bad, digit_blank, digit_bad, quote_blank, quote_bad, quote_letter}
-use Rattle.c_lexer.proofs.ListLaws.{starts_from, starts_gives}
+use Rattle.c_lexer.proofs.FirstLexeme.{Found, begins_front, not_word, not_number, not_literal}
+use Rattle.c_lexer.proofs.GapLaws.{begins_gives, comment_found, no_comment_end, comment_end-none, comment_end-at, line_size, line_of-cons, line_of-whole, IsRestOfLine-line_of}
+use Rattle.c_lexer.proofs.LexemeLaws.{is_other, other_is, punctuator_other, letter_blank, letter_bad, digit_blank, digit_bad, quote_blank, quote_bad}
+use Rattle.c_lexer.proofs.ListLaws.{starts_gives}
 use Rattle.c_lexer.proofs.TextStart.{Start, lexeme, open_literal_at, bad_byte, start, none_at_open, lexeme_at-begins}
 
 -- what reading forward answers at a piece

@@ -1,16 +1,16 @@
 -- Each text that begins with no blank begins with one longest lexeme, with a literal that is not closed, or with a byte that begins nothing.
-use Rattle.std.proofs.Common.{◌≡◌, ℕ, ◌+◌, suc, ◌<◌, ◌≤◌, Bool, true, false, cond, List, [], ◌∷◌, ◌++◌, length, take, drop, Option, Some, None, Result, Ok, Err, refl, sym, ap, ◌∙◌, subst, ⊎_elim, append_assoc, arith, length-append}
-use Rattle.std.specs.Prelude.{find, ◌&&◌, ◌||◌, not, nat_eq, nat_le, ◌==◌, bytes_eq, is_some, IsTrue}
+use Rattle.std.proofs.Common.{◌≡◌, ℕ, ◌<◌, Bool, true, false, cond, List, [], ◌∷◌, ◌++◌, length, take, drop, Some, None, Result, Err, refl, sym, ap, ◌∙◌, subst, ⊎_elim, append_assoc, arith, length-append}
+use Rattle.std.specs.Prelude.{find, ◌&&◌, ◌||◌, not, nat_eq, ◌==◌, bytes_eq, is_some}
 use Rattle.std.specs.List.{list_all, starts_with, prefix_len}
 use Rattle.std.specs.Char.{is_ascii_digit}
-use Rattle.std.proofs.lemmas.Bool.{and_parts, or_parts, or_cases, or_from, or_left, or_right, false≢true, not-true, not_from_false, false_from_ne_true, true_from_ne_false, agree_below, agree_below_at, leb-false, cases_Bool}
+use Rattle.std.proofs.lemmas.Bool.{and_parts, or_parts, or_cases, or_from, false≢true, not-true, not_from_false, false_from_ne_true, true_from_ne_false, agree_below, agree_below_at}
 use Rattle.std.proofs.lemmas.Bool.Decides.{nat_tests}
 use Rattle.cc_base.specs.declared.fault.Rule.{Rule}
 use Rattle.cc_base.specs.declared.fault.Rule.TheVariants.{BadByte, OpenText, Unsupported}
 use Rattle.c_lexer.specs.Bytes.{is_blank, is_letter, is_word_byte, is_quote, is_bad_byte, begins_with}
 use Rattle.c_lexer.specs.Cut.{IsOpenLiteral}
 use Rattle.c_lexer.specs.Lexemes.{is_lexeme, lexeme_kind, Begins}
-use Rattle.c_lexer.specs.Literals.{is_literal, literal_kind}
+use Rattle.c_lexer.specs.Literals.{is_literal}
 use Rattle.c_lexer.specs.Numbers.{is_number, begins_number, number_kind}
 use Rattle.c_lexer.specs.Punctuators.{punctuator_spelling, ellipsis, punctuator_of, is_punctuator}
 use Rattle.c_lexer.specs.Reading.{number_size, literal_end, literal_size, literal_step, token_of, lexeme_at, punctuator_at, punctuator_step}
@@ -18,8 +18,8 @@ use Rattle.c_lexer.specs.Words.{is_word, word_kind}
 use Rattle.c_lexer.specs.declared.punctuator.Punctuator.{Punctuator}
 use Rattle.c_lexer.specs.declared.punctuator.TheConstants.{PUNCTUATORS}
 use Rattle.c_lexer.specs.declared.step.Step.{Step}
-use Rattle.c_lexer.proofs.ListLaws.{Fronts, equal, first_shorter, second_shorter, fronts, starts_from, starts_gives, bytes_eq_gives, bytes_eq_from, find_has, find_weaker}
-use Rattle.c_lexer.proofs.LexemeLaws.{is_other, other_is, quote_letter, punctuator_other, literal_found, punctuator_lexeme, lexeme_kind-punctuator, is_ordered, ordered}
+use Rattle.c_lexer.proofs.ListLaws.{Fronts, equal, first_shorter, second_shorter, fronts, starts_from, starts_gives, bytes_eq_gives, find_has, find_weaker}
+use Rattle.c_lexer.proofs.LexemeLaws.{is_other, quote_letter, literal_found, punctuator_lexeme, lexeme_kind-punctuator, is_ordered, ordered}
 use Rattle.c_lexer.proofs.FirstLexeme.{not_word, not_number, not_literal, not_punctuator, not_lexeme, quote_other, quote_no_number, begins_number_front, Found, found_word, found_number, literal_lexeme, open_literal}
 
 -- What a byte says that begins no word, no number and no literal of the text.

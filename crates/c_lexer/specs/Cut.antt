@@ -1,5 +1,5 @@
 -- A text cut into tokens, and where a text is refused.
-use Rattle.std.specs.Prelude.{◌≡◌, ℕ, Bool, true, false, ◌||◌, ◌&&◌, ◌==◌, nat_eq, ◌+◌, ◌⊎◌, List, [], ◌∷◌, ◌++◌, codes, drop, length, fold, count_by, Result, Ok, Err, IsTrue, if◌then◌else◌}
+use Rattle.std.specs.Prelude.{◌≡◌, ℕ, Bool, false, ◌&&◌, ◌==◌, nat_eq, ◌+◌, ◌⊎◌, List, [], ◌∷◌, ◌++◌, codes, drop, length, fold, count_by, Ok, Err, IsTrue, if◌then◌else◌}
 use Rattle.std.specs.List.{starts_with, list_all}
 use Rattle.cc_base.specs.declared.place.Place.{Place}
 use Rattle.cc_base.specs.declared.fault.Rule.{Rule}

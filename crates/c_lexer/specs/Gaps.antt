@@ -1,6 +1,6 @@
 -- What lies between tokens: comments and line markers.
-use Rattle.std.specs.Prelude.{ℕ, Bool, true, false, ◌||◌, ◌&&◌, not, ◌==◌, nat_eq, nat_lt, List, [], ◌∷◌, codes, take, drop, if◌then◌else◌}
-use Rattle.std.specs.List.{starts_with, prefix_len, list_all, position_or_len}
+use Rattle.std.specs.Prelude.{ℕ, Bool, false, ◌||◌, ◌&&◌, not, ◌==◌, nat_eq, List, [], ◌∷◌, codes, take, drop}
+use Rattle.std.specs.List.{starts_with, list_all, position_or_len}
 use Rattle.std.specs.Char.{is_ascii_digit}
 use Rattle.c_lexer.specs.Bytes.{line_feed, is_blank, begins_with}
 use Rattle.c_lexer.specs.Numbers.{after_run}

@@ -1,5 +1,5 @@
 -- Lexemes: the preprocessing tokens of C99 6.4, without header names, wide literals and digraphs. A lexeme is an allowed token, or a rule refuses it.
-use Rattle.std.specs.Prelude.{◌≡◌, ℕ, Bool, false, ◌||◌, ◌&&◌, ◌==◌, nat_eq, List, [], ◌∷◌, ◌++◌, codes, Result, IsTrue, if◌then◌else◌}
+use Rattle.std.specs.Prelude.{◌≡◌, ℕ, Bool, false, ◌||◌, nat_eq, List, ◌∷◌, ◌++◌, codes, Result, IsTrue, if◌then◌else◌}
 use Rattle.std.specs.List.{starts_with}
 use Rattle.cc_base.specs.declared.fault.Rule.{Rule}
 use Rattle.c_lexer.specs.Literals.{is_literal, literal_kind}

@@ -1,10 +1,10 @@
 -- Numbers: preprocessing numbers (C99 6.4.8), and the values and types of integer constants (C99 6.4.4.1).
-use Rattle.std.specs.Prelude.{ℕ, Bool, true, false, ◌||◌, ◌&&◌, not, ◌==◌, nat_lt, nat_le, nat_eq, ◌+◌, ◌*◌, ◌^◌, List, [], ◌∷◌, codes, Option, Some, None, Result, Ok, Err, take, drop, length, fold, find, if◌then◌else◌, count_by, option_map, ok_or}
+use Rattle.std.specs.Prelude.{ℕ, Bool, true, false, ◌||◌, ◌&&◌, not, ◌==◌, nat_lt, nat_le, nat_eq, ◌+◌, ◌*◌, ◌^◌, List, [], ◌∷◌, codes, Option, Some, None, Result, take, drop, length, fold, find, if◌then◌else◌, count_by, option_map, ok_or}
 use Rattle.std.specs.List.{starts_with, prefix_len, list_all}
 use Rattle.std.specs.Char.{is_ascii_digit, is_ascii_hexdigit, digit_value}
 use Rattle.cc_base.specs.declared.fault.Rule.{Rule}
 use Rattle.cc_base.specs.declared.fault.Rule.TheVariants.{BadNumber, Unsupported}
-use Rattle.c_lexer.specs.Bytes.{is_word_byte, is_octal_digit, begins_with}
+use Rattle.c_lexer.specs.Bytes.{is_word_byte, begins_with}
 use Rattle.c_lexer.specs.declared.number.IntegerType.{IntegerType}
 use Rattle.c_lexer.specs.declared.number.IntegerType.TheVariants.{Int, Unsigned, Long, UnsignedLong}
 use Rattle.c_lexer.specs.declared.token.TokenKind.{TokenKind}

@@ -1,5 +1,5 @@
 -- Reading a text forward: the piece that it begins with. The laws in proofs/ say that this is the one piece that stands there.
-use Rattle.std.specs.Prelude.{ℕ, Bool, true, false, ◌||◌, ◌&&◌, ◌==◌, nat_eq, ◌+◌, List, [], ◌∷◌, codes, take, drop, length, Option, Some, None, Result, Ok, Err, if◌then◌else◌, find}
+use Rattle.std.specs.Prelude.{ℕ, Bool, true, false, ◌&&◌, ◌==◌, nat_eq, ◌+◌, List, [], ◌∷◌, codes, take, drop, length, Option, Some, None, Result, Ok, Err, if◌then◌else◌, find}
 use Rattle.std.specs.List.{starts_with, prefix_len}
 use Rattle.cc_base.specs.declared.place.Place.{Place}
 use Rattle.cc_base.specs.declared.fault.Rule.{Rule}

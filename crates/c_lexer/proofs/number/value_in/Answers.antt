@@ -1,9 +1,7 @@
-use Rattle.std.proofs.Common.{◌≡◌, ◌∙◌, ◌<◌, ◌≤◌, ◌+◌, ◌*◌, suc, length, drop, get_or, arith, ap, refl, subst, sym}
-use Rattle.std.specs.List.{fold}
+use Rattle.std.proofs.Common.{◌<◌, ◌+◌, ◌*◌, suc, length, drop, get_or, arith}
 use Rattle.std.specs.Char.{digit_value}
 use Rattle.std.proofs.lemmas.Grind.{common_steps}
 use Rattle.std.proofs.Math.Seq.{drop-cons}
-use Rattle.c_lexer.specs.Numbers.{value_in}
 use Rattle.c_lexer.proofs.NumberLaws.{fold-le, None-in_64_bits, Some-in_64_bits}
 use Rattle.c_lexer.proofs.number.value_in.Goals as goal
 

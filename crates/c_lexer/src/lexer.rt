@@ -1,5 +1,5 @@
 //! A text cut into tokens.
-ghost use Rattle.std.specs.Prelude.{◌≡◌, ◌≢◌, ◌≤◌, ◌⊎◌, List, Result, Vec, Ok, Err, IfOk, IfErr, OnOk, IsOkAnd, length, ◌++◌};
+ghost use Rattle.std.specs.Prelude.{◌≡◌, ◌≤◌, ◌⊎◌, ◌++◌, List, Err, IfOk, IfErr, OnOk, IsOkAnd, length};
 ghost use Rattle.cc_base.specs.declared.place.Place.{Place as PlaceValue};
 ghost use Rattle.cc_base.specs.declared.fault.Rule.{Rule as RuleValue};
 ghost use Rattle.c_lexer.specs.Cut.{IsCut, IsRefusal, IsLexicalFault};
@@ -28,7 +28,12 @@ fn keep<'a>(
     Ok(())
 }
 
-/// The tokens of a text, in order.
+/// Cuts a preprocessed text into the tokens of C99 6.4, in order. Each borrows its bytes from the
+/// text, and only blanks, comments and line markers lie between them.
+///
+/// A text that can't be cut is refused at the first place where that shows: a byte that begins no
+/// token (`BadByte`), a comment or a literal that is not closed (`OpenComment`, `OpenText`), what the
+/// language leaves out (`Unsupported`), or a number or an escape without a value (`BadNumber`).
 pub fn tokens<'a>(alloc: Global, text: &'a [u8]) -> Result<Vec<Token<'a>>, Fault>
     requires { length text.now ≤ 1048576 }
     ensures cut { IfOk result (λ found. IsCut text.now found.items) }

@@ -1,4 +1,5 @@
-//! Cuts a text into the tokens of C.
+//! Cuts a text into the tokens of C, by C99 6.4: words, numbers, character constants, string
+//! literals and punctuators, with their places.
 #![tactic(auto)]
 
 mod byte;

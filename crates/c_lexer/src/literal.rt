@@ -273,8 +273,8 @@ pub(crate) fn literal_kind(literal: &[u8]) -> Result<TokenKind, Rule>
     }
 }
 
-/// The bytes that a string literal holds, without the zero byte after them. The literal is given as
-/// it is spelled, quotes and all.
+/// The bytes that a string literal holds (C99 6.4.5), without the zero byte after them. The literal
+/// is given as it is spelled, quotes and all.
 pub fn literal_bytes(alloc: Global, literal: &[u8]) -> Result<Vec<u8>, AllocError>
     requires { 2 ≤ length literal.now }
     ensures { IfOk result (λ bytes. bytes.items ≡ literal_bytes literal.now) }

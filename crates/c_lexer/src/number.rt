@@ -10,7 +10,7 @@ use crate::byte::{begins_with_digit, digit_run, is_word_byte};
 use crate::token::TokenKind;
 use cc_base::Rule;
 
-/// The type of an integer constant.
+/// The type of an integer constant (C99 6.4.4.1): an int has 32 bits, a long 64.
 #[derive(Clone, Copy, Debug, PartialEq, Eq)]
 pub enum IntegerType {
     Int,

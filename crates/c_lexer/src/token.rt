@@ -7,15 +7,17 @@ use crate::word::Keyword;
 use cc_base::Place;
 use std::marker::Model;
 
-/// What a token is.
+/// What a token is, and what it means (C99 6.4.1 to 6.4.6).
 #[derive(Clone, Copy, Debug, PartialEq, Eq)]
 pub enum TokenKind {
     Keyword(Keyword),
+    /// Any other word, a type's name too.
     Identifier,
     /// An integer constant: its type and its value.
     Integer(IntegerType, u64),
     /// A character constant: its value as an int.
     Character(i32),
+    /// A string literal; `literal_bytes` gives what it holds.
     StringLiteral,
     Punctuator(Punctuator),
 }
@@ -52,6 +54,7 @@ impl<'a> Token<'a> {
         }
     }
 
+    /// What it is.
     pub fn kind(&self) -> TokenKind
         ensures { result ≡ self.now.kind }
     {

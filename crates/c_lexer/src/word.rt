@@ -8,7 +8,7 @@ use crate::byte::is_word_byte;
 use crate::token::TokenKind;
 use cc_base::Rule;
 
-/// A keyword of C99 that the language keeps.
+/// A keyword of C99 (6.4.1) that the language keeps.
 #[derive(Clone, Copy, Debug, PartialEq, Eq)]
 pub enum Keyword {
     Auto,

@@ -51,3 +51,6 @@ pub struct Plan {
     pub stack: u64,
     pub heap: u64,
 }
+
+#[cfg(test)]
+mod tests;

@@ -1,1 +1,2 @@
-
+pub mod FlatState
+pub mod FlatMachine

@@ -5,4 +5,6 @@ mod instr;
 mod parts;
 
 pub use instr::{Code, Instr, Narrow};
-pub use parts::{AreaLine, Bytes, Function, GlobalLine, Globals, Functions, Locals, Parents, Parts, Sig, Sigs};
+pub use parts::{
+    AreaLine, Bytes, Function, Functions, GlobalLine, Globals, Locals, Parents, Parts, Sig, Sigs,
+};

@@ -12,7 +12,7 @@ use Rattle.first_language.specs.Language.{IsInt, IsPointer, IsNew, IsItemAfter, 
 use Rattle.first_language.specs.Reading.{Declared, declaration_in, scope_of, sort_in}
 use Rattle.first_language.proofs.Options.{some_is, none_is_some}
 
-same_bytes : (xs ys : List ℕ) → bytes_eq xs ys ≡ true → xs ≡ ys
+pub same_bytes : (xs ys : List ℕ) → bytes_eq xs ys ≡ true → xs ≡ ys
 same_bytes xs ys e = (bytes_eq-Decides xs ys).0 e
 
 pub equal_bytes : (xs ys : List ℕ) → xs ≡ ys → bytes_eq xs ys ≡ true

@@ -2,3 +2,4 @@ pub mod Options
 pub mod Numerals
 pub mod Scopes
 pub mod Steps
+pub mod Items

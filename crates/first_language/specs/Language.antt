@@ -31,11 +31,16 @@ spelling_of_item (Store p n place) = Star place ∷ Bytes p ∷ Bytes (codes "="
 spelling_of_item (Put value) = Bytes (codes "putchar") ∷ Bytes (codes "(") ∷ spelling_of_value value
     ++ Bytes (codes ")") ∷ Bytes (codes ";") ∷ []
 
--- int main(void){ .. return value;}
+-- int main(void){
+abbrev pub spelling_of_head : List Piece
+spelling_of_head = Bytes (codes "int") ∷ Bytes (codes "main") ∷ Bytes (codes "(") ∷ Bytes (codes "void") ∷ Bytes (codes ")") ∷ Bytes (codes "{") ∷ []
+
+-- return value;}
+abbrev pub spelling_of_return : Value → List Piece
+spelling_of_return value = Bytes (codes "return") ∷ spelling_of_value value ++ Bytes (codes ";") ∷ Bytes (codes "}") ∷ []
+
 abbrev pub spelling_of : Program → List Piece
-spelling_of program = Bytes (codes "int") ∷ Bytes (codes "main") ∷ Bytes (codes "(") ∷ Bytes (codes "void")
-    ∷ Bytes (codes ")") ∷ Bytes (codes "{") ∷ flat_map spelling_of_item program.items
-    ++ Bytes (codes "return") ∷ spelling_of_value program.returned ++ Bytes (codes ";") ∷ Bytes (codes "}") ∷ []
+spelling_of program = spelling_of_head ++ flat_map spelling_of_item program.items ++ spelling_of_return program.returned
 
 -- the greatest number that an int holds
 abbrev pub greatest_number : ℕ

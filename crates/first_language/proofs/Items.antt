@@ -165,7 +165,7 @@ store_takes items token tokens rest item is e =
     let p = pointer_takes items tokens a.0.1 a.0.0 a.1 in
     let n = number_takes b.0 c.0.1 c.0.0 c.1 in
     taken_as items (token ∷ tokens) statement_of (Store a.0.0 c.0.0 token.place) item c.0.1 rest c.2
-      (record { takes = λ more h. ((is, refl), p.0 _ (after_takes (codes "=") a.0.1 b.0 b.1 _ (n.0 more h))); allowed = (p.1, n.1); room = no_room_needed items })
+      (record { takes = λ more h. ((is, refl), p.0 (Bytes (codes "=") ∷ Bytes (decimal c.0.0) ∷ more) (after_takes (codes "=") a.0.1 b.0 b.1 (Bytes (decimal c.0.0) ∷ more) (n.0 more h))); allowed = (p.1, n.1); room = no_room_needed items })
 
 -- behind a name and a `=`
 pub record Begun (tokens : List Token) (name : Name) (rest : List Token) : Type 0 where
@@ -254,3 +254,143 @@ item_takes items tokens rest item e =
     let both = Takes-then tokens a.0.1 b.0 (statement_of a.0.0) (Bytes (codes ";") ∷ []) t.takes (after_takes (codes ";") a.0.1 b.0 b.1) in
     taken_as items tokens spelling_of_item a.0.0 item b.0 rest b.2
       (record { takes = subst (λ (l : List Piece). Takes tokens l b.0) (sym (spelling-statement a.0.0)) both; allowed = t.allowed; room = t.room })
+
+-- ---- what is spelled as an item is read
+
+abbrev named_apart : (token : Token) (name word : List ℕ) → Type 0
+named_apart token name word = bytes_eq token.bytes word ≡ false
+
+not_int : (token : Token) (name : Name) → token.bytes ≡ name → IsName name → bytes_eq token.bytes (codes "int") ≡ false
+unfolding is_reserved reserved
+not_int token name is named = at_token token name (codes "int") false is (name_is_apart name (codes "int") named refl)
+
+not_putchar : (token : Token) (name : Name) → token.bytes ≡ name → IsName name → bytes_eq token.bytes (codes "putchar") ≡ false
+unfolding is_reserved reserved
+not_putchar token name is named = at_token token name (codes "putchar") false is (name_is_apart name (codes "putchar") named refl)
+
+not_star : (token : Token) (name : Name) → token.bytes ≡ name → IsName name → bytes_eq token.bytes (codes "*") ≡ false
+not_star token name is named = at_token token name (codes "*") false is (no_star_in_name name named)
+
+-- a statement that begins with a name is an assignment
+begins_with_name : (items : List Item) (token : Token) (tokens : List Token) (name : Name) → token.bytes ≡ name → IsName name → statement_at (scope_of items) (token ∷ tokens) ≡ assignment_at (scope_of items) (token ∷ tokens)
+unfolding statement_at
+begins_with_name items token tokens name is named = rw (not_int token name is named, not_putchar token name is named, not_star token name is named) refl
+
+statement_is_read : (items : List Item) (item : Item) (tokens : List Token) (more : List Piece) → IsOrderly items → IsItemAfter items item → HasRoom items item → Spells tokens (statement_of item ++ more) → Reads (statement_at (scope_of items) tokens) item more
+unfolding statement_at declaration_at int_declaration_at pointer_declaration_at output_at store_at assignment_at assigned_at address_at point_at clear_at
+statement_is_read items (DeclareInt x) [] more ok allowed room h = absurd h
+statement_is_read items (DeclareInt x) (token ∷ tokens) more ok allowed room h =
+    let r = new_name_is_read items x tokens more allowed (room refl) h.1 in
+    let is = at_token token (codes "int") (codes "int") true h.0 refl in
+    let none = not_after (codes "*") x tokens more (no_star_in_name x allowed.named) h.1 in
+    record { behind = r.behind; is = rw (is, none, r.is) refl; spelled = r.spelled }
+statement_is_read items (DeclarePointer p) [] more ok allowed room h = absurd h
+statement_is_read items (DeclarePointer p) (token ∷ tokens) more ok allowed room h =
+    let star = after_again (codes "*") tokens (Bytes p ∷ more) h.1 in
+    let r = new_name_is_read items p star.behind more allowed (room refl) star.spelled in
+    let is = at_token token (codes "int") (codes "int") true h.0 refl in
+    record { behind = r.behind; is = rw (is, star.is, r.is) refl; spelled = r.spelled }
+statement_is_read items (Assign x n) [] more ok allowed room h = absurd h
+statement_is_read items (Assign x n) (token ∷ tokens) more ok allowed room h =
+    let d = declared_is_read (scope_of items) x sorts.Int (token ∷ tokens) (Bytes (codes "=") ∷ Bytes (decimal n) ∷ more) (int_is_known items x ok allowed.0) h in
+    let eq = after_again (codes "=") d.behind (Bytes (decimal n) ∷ more) d.spelled in
+    let r = number_is_read n eq.behind more allowed.1 eq.spelled in
+    record { behind = r.behind; is = begins_with_name items token tokens x h.0 (ok.named x sorts.Int allowed.0) ∙ rw (d.is, eq.is, r.is) refl; spelled = r.spelled }
+statement_is_read items (Point p x) [] more ok allowed room h = absurd h
+statement_is_read items (Point p x) (token ∷ tokens) more ok allowed room h =
+    let d = declared_is_read (scope_of items) p sorts.Pointer (token ∷ tokens) (Bytes (codes "=") ∷ Bytes (codes "&") ∷ Bytes x ∷ more) (pointer_is_known items p ok allowed.0) h in
+    let eq = after_again (codes "=") d.behind (Bytes (codes "&") ∷ Bytes x ∷ more) d.spelled in
+    let amp = after_again (codes "&") eq.behind (Bytes x ∷ more) eq.spelled in
+    let r = int_is_read items x amp.behind more ok allowed.1 amp.spelled in
+    record { behind = r.behind; is = begins_with_name items token tokens p h.0 (ok.named p sorts.Pointer allowed.0) ∙ rw (d.is, eq.is, amp.is, r.is) refl; spelled = r.spelled }
+statement_is_read items (Clear p) [] more ok allowed room h = absurd h
+statement_is_read items (Clear p) (token ∷ tokens) more ok allowed room h =
+    let d = declared_is_read (scope_of items) p sorts.Pointer (token ∷ tokens) (Bytes (codes "=") ∷ Bytes (codes "0") ∷ more) (pointer_is_known items p ok allowed) h in
+    let eq = after_again (codes "=") d.behind (Bytes (codes "0") ∷ more) d.spelled in
+    let none = not_after (codes "&") (codes "0") eq.behind more refl eq.spelled in
+    let zero_digit = after_again (codes "0") eq.behind more eq.spelled in
+    record { behind = zero_digit.behind; is = begins_with_name items token tokens p h.0 (ok.named p sorts.Pointer allowed) ∙ rw (d.is, eq.is, none, zero_digit.is) refl; spelled = zero_digit.spelled }
+statement_is_read items (Store p n star) [] more ok allowed room h = absurd h
+statement_is_read items (Store p n star) (token ∷ tokens) more ok allowed room h =
+    let q = pointer_is_read items p tokens (Bytes (codes "=") ∷ Bytes (decimal n) ∷ more) ok allowed.0 h.1 in
+    let eq = after_again (codes "=") q.behind (Bytes (decimal n) ∷ more) q.spelled in
+    let r = number_is_read n eq.behind more allowed.1 eq.spelled in
+    let no_int = at_token token (codes "*") (codes "int") false h.0.0 refl in
+    let no_putchar = at_token token (codes "*") (codes "putchar") false h.0.0 refl in
+    let is = at_token token (codes "*") (codes "*") true h.0.0 refl in
+    record { behind = r.behind; is = rw (no_int, no_putchar, is, q.is, eq.is, r.is, h.0.1) refl; spelled = r.spelled }
+statement_is_read items (Put value) [] more ok allowed room h = absurd h
+statement_is_read items (Put value) (token ∷ tokens) more ok allowed room h =
+    let open_ = after_again (codes "(") tokens ((spelling_of_value value ++ Bytes (codes ")") ∷ []) ++ more) h.1 in
+    let v = value_is_read items value open_.behind (Bytes (codes ")") ∷ more) ok allowed (subst (λ (l : List Piece). Spells open_.behind l) (append_assoc (spelling_of_value value) (Bytes (codes ")") ∷ []) more) open_.spelled) in
+    let close = after_again (codes ")") v.behind more v.spelled in
+    let no_int = at_token token (codes "putchar") (codes "int") false h.0 refl in
+    let is = at_token token (codes "putchar") (codes "putchar") true h.0 refl in
+    record { behind = close.behind; is = rw (no_int, is, open_.is, v.is, close.is) refl; spelled = close.spelled }
+
+pub item_is_read : (items : List Item) (item : Item) (tokens : List Token) (more : List Piece) → IsOrderly items → IsItemAfter items item → HasRoom items item → Spells tokens (spelling_of_item item ++ more) → Reads (item_at (scope_of items) tokens) item more
+unfolding item_at
+item_is_read items item tokens more ok allowed room h =
+    let regrouped = subst (λ (l : List Piece). Spells tokens l) (ap (λ (l : List Piece). l ++ more) (spelling-statement item) ∙ append_assoc (statement_of item) (Bytes (codes ";") ∷ []) more) h in
+    let s = statement_is_read items item tokens (Bytes (codes ";") ∷ more) ok allowed room regrouped in
+    let semicolon = after_again (codes ";") s.behind more s.spelled in
+    record { behind = semicolon.behind; is = rw (s.is, semicolon.is) refl; spelled = semicolon.spelled }
+
+-- ---- the head and the return
+
+pub head_takes : (tokens rest : List Token) → header_at tokens ≡ Some rest → Takes tokens spelling_of_head rest
+unfolding header_at
+head_takes tokens rest e more h =
+    let a = bind_some (after (codes "int") tokens) (λ r. after (codes "main") r >>= λ r. after (codes "(") r >>= λ r. after (codes "void") r >>= λ r. after (codes ")") r >>= λ r. after (codes "{") r) rest e in
+    let b = bind_some (after (codes "main") a.0) (λ r. after (codes "(") r >>= λ r. after (codes "void") r >>= λ r. after (codes ")") r >>= λ r. after (codes "{") r) rest a.2 in
+    let c = bind_some (after (codes "(") b.0) (λ r. after (codes "void") r >>= λ r. after (codes ")") r >>= λ r. after (codes "{") r) rest b.2 in
+    let d = bind_some (after (codes "void") c.0) (λ r. after (codes ")") r >>= λ r. after (codes "{") r) rest c.2 in
+    let f = bind_some (after (codes ")") d.0) (λ r. after (codes "{") r) rest d.2 in
+    after_takes (codes "int") tokens a.0 a.1 _ (after_takes (codes "main") a.0 b.0 b.1 _ (after_takes (codes "(") b.0 c.0 c.1 _
+      (after_takes (codes "void") c.0 d.0 d.1 _ (after_takes (codes ")") d.0 f.0 f.1 _ (after_takes (codes "{") f.0 rest f.2 more h)))))
+
+pub head_is_read : (tokens : List Token) (more : List Piece) → Spells tokens (spelling_of_head ++ more) → Passes (header_at tokens) more
+unfolding header_at
+head_is_read tokens more h =
+    let a = after_again (codes "int") tokens _ h in
+    let b = after_again (codes "main") a.behind _ a.spelled in
+    let c = after_again (codes "(") b.behind _ b.spelled in
+    let d = after_again (codes "void") c.behind _ c.spelled in
+    let f = after_again (codes ")") d.behind _ d.spelled in
+    let g = after_again (codes "{") f.behind more f.spelled in
+    record { behind = g.behind; is = rw (a.is, b.is, c.is, d.is, f.is, g.is) refl; spelled = g.spelled }
+
+pub record IsReturn (items : List Item) (tokens : List Token) (value : Value) : Type 0 where
+  pub spelled : Spells tokens (spelling_of_return value)
+  pub allowed : IsValueAfter items value
+
+nothing_left : (tokens : List Token) (u : Unit {0}) → nothing_at tokens ≡ Some u → Spells tokens []
+nothing_left [] u e = tt
+nothing_left (token ∷ tokens) u e = absurd (none_is_some u e)
+
+pub return_takes : (items : List Item) (tokens : List Token) (value : Value) → ending_at (scope_of items) tokens ≡ Some value → IsReturn items tokens value
+unfolding ending_at
+return_takes items tokens value e =
+    let scope = scope_of items in
+    let a = bind_some (after (codes "return") tokens) (λ r. value_at scope r >>= λ v. after (codes ";") v.1 >>= λ r. after (codes "}") r >>= λ r. nothing_at r >>= λ u. Some v.0) value e in
+    let b = bind_some (value_at scope a.0) (λ v. after (codes ";") v.1 >>= λ r. after (codes "}") r >>= λ r. nothing_at r >>= λ u. Some v.0) value a.2 in
+    let c = bind_some (after (codes ";") b.0.1) (λ r. after (codes "}") r >>= λ r. nothing_at r >>= λ u. Some b.0.0) value b.2 in
+    let d = bind_some (after (codes "}") c.0) (λ r. nothing_at r >>= λ u. Some b.0.0) value c.2 in
+    let f = bind_some (nothing_at d.0) (λ u. Some b.0.0) value d.2 in
+    let v = value_takes items a.0 b.0.1 b.0.0 b.1 in
+    let tail : Spells b.0.1 (Bytes (codes ";") ∷ Bytes (codes "}") ∷ []) = after_takes (codes ";") b.0.1 c.0 c.1 (Bytes (codes "}") ∷ []) (after_takes (codes "}") c.0 d.0 d.1 [] (nothing_left d.0 f.0 f.1)) in
+    subst (λ (v : Value). IsReturn items tokens v) (some_is b.0.0 value f.2)
+      (record { spelled = after_takes (codes "return") tokens a.0 a.1 (spelling_of_value b.0.0 ++ Bytes (codes ";") ∷ Bytes (codes "}") ∷ []) (v.takes (Bytes (codes ";") ∷ Bytes (codes "}") ∷ []) tail); allowed = v.allowed })
+
+nothing_read : (tokens : List Token) → Spells tokens [] → nothing_at tokens ≡ Some tt
+nothing_read [] h = refl
+nothing_read (token ∷ tokens) h = absurd h
+
+pub return_is_read : (items : List Item) (tokens : List Token) (value : Value) → IsOrderly items → IsValueAfter items value → Spells tokens (spelling_of_return value) → ending_at (scope_of items) tokens ≡ Some value
+unfolding ending_at
+return_is_read items tokens value ok allowed h =
+    let a = after_again (codes "return") tokens (spelling_of_value value ++ Bytes (codes ";") ∷ Bytes (codes "}") ∷ []) h in
+    let v = value_is_read items value a.behind (Bytes (codes ";") ∷ Bytes (codes "}") ∷ []) ok allowed a.spelled in
+    let c = after_again (codes ";") v.behind (Bytes (codes "}") ∷ []) v.spelled in
+    let d = after_again (codes "}") c.behind [] c.spelled in
+    rw (a.is, v.is, c.is, d.is, nothing_read d.behind d.spelled) refl

@@ -358,7 +358,7 @@ head_is_read tokens more h =
     let d = after_again (codes "void") c.behind _ c.spelled in
     let f = after_again (codes ")") d.behind _ d.spelled in
     let g = after_again (codes "{") f.behind more f.spelled in
-    record { behind = g.behind; is = rw (a.is, b.is, c.is, d.is, f.is, g.is) refl; spelled = g.spelled }
+    record { behind = g.behind; is = rw (a.is, b.is, c.is, d.is, f.is, g.is) (refl {a = Some g.behind}); spelled = g.spelled }
 
 pub record IsReturn (items : List Item) (tokens : List Token) (value : Value) : Type 0 where
   pub spelled : Spells tokens (spelling_of_return value)

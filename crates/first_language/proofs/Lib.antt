@@ -3,3 +3,4 @@ pub mod Numerals
 pub mod Scopes
 pub mod Steps
 pub mod Items
+pub mod Cuts

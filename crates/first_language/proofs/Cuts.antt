@@ -1,9 +1,9 @@
 -- A text is cut in one way, and the lexer's turns build that cut from the front.
-use Rattle.std.proofs.Common.{◌≡◌, ℕ, zero, suc, ◌+◌, ◌<◌, ◌≤◌, Bool, true, false, cond, ◌&&◌, ◌||◌, eqb, List, [], ◌∷◌, ◌++◌, length, map, take, drop, refl, sym, ap, subst, ◌∙◌, ◌⊎◌, inl, inr, append_assoc, arith}
+use Rattle.std.proofs.Common.{◌≡◌, ℕ, zero, suc, ◌+◌, ◌<◌, ◌≤◌, max, Bool, true, false, cond, ◌&&◌, ◌||◌, eqb, List, [], ◌∷◌, ◌++◌, length, map, take, drop, refl, sym, ap, subst, ◌∙◌, ◌⊎◌, inl, inr, append_assoc, arith}
 use Rattle.std.specs.List.{list_all}
-use Rattle.std.proofs.lemmas.Bool.{and_parts, and_from, or_parts, eqb-true, ne_eqb, true≢false}
+use Rattle.std.proofs.lemmas.Bool.{and_parts, and_from, or_parts, or_from, eqb-true, ne_eqb, true≢false}
 use Rattle.std.proofs.lemmas.Bool.Decides.{nat_tests}
-use Rattle.std.proofs.lemmas.List.{append-nil}
+use Rattle.std.proofs.lemmas.List.{append-nil, nil_from_length}
 use Rattle.cc_base.specs.declared.place.Place.{Place}
 use Rattle.first_language.specs.Names.{is_word_byte}
 use Rattle.first_language.specs.Text.{Token, first_place, place_after, place_behind, is_blank, AreBlanks, begins_with, IsWord, IsSign, IsLexeme, IsCut}
@@ -105,3 +105,44 @@ place_behind-token place bytes rest (inr s) = rw s.alone (rw (no_line_feed s.sig
   where
     no_line_feed : (c : ℕ) → is_blank c ≡ false → eqb c 10 ≡ false
     no_line_feed c h = grind (arith, nat_tests)
+
+-- the longest front of word bytes is a token, or else the first byte alone is
+pub front_is_lexeme : (text : List ℕ) (size taken : ℕ) → 0 < length text → begins_with is_blank text ≡ false → size ≤ length text → list_all is_word_byte (take size text) ≡ true → begins_with is_word_byte (drop size text) ≡ false → taken ≡ max size 1 → IsLexeme (take taken text) (drop taken text)
+front_is_lexeme [] size taken some apart within word whole e = absurd (omega arith)
+front_is_lexeme (c ∷ cs) zero taken some apart within word whole e =
+    let one : taken ≡ 1 = omega arith in
+    rw one (inr (record { sign = c; alone = refl; other = or_from (is_blank c) (is_word_byte c) apart whole }))
+front_is_lexeme (c ∷ cs) (suc n) taken some apart within word whole e =
+    let same : taken ≡ suc n = omega arith in
+    rw same (inl (record { some = omega arith; each = word; whole = whole }))
+
+-- a turn of the lexer keeps that what cuts the rest cuts the whole text
+abbrev pub Cuts : Place → List ℕ → List Token → List ℕ → Type 0
+Cuts place rest found text = (tokens : List Token) → IsCut place rest tokens → IsCut first_place text (found ++ tokens)
+
+pub blank_keeps_cuts : (place next : Place) (c : ℕ) (rest behind : List ℕ) (found : List Token) (text : List ℕ) → rest ≡ c ∷ behind → is_blank c ≡ true → next ≡ place_after place c → Cuts place rest found text → Cuts next behind found text
+blank_keeps_cuts place next c rest behind found text split blank moved all tokens h =
+    all tokens (subst (λ (l : List ℕ). IsCut place l tokens) (sym split) (cut_blank place c behind tokens blank (subst (λ (p : Place). IsCut p behind tokens) moved h)))
+
+pub token_keeps_cuts : (place : Place) (bytes rest behind : List ℕ) (found more : List Token) (text : List ℕ) → rest ≡ bytes ++ behind → IsLexeme bytes behind → more ≡ found ++ token_at bytes place ∷ [] → Cuts place rest found text → Cuts (record place { col = place.col + length bytes }) behind more text
+token_keeps_cuts place bytes rest behind found more text split lexeme pushed all tokens h =
+    let moved = place_behind-token place bytes behind lexeme in
+    let cut = all (token_at bytes place ∷ tokens) (subst (λ (l : List ℕ). IsCut place l (token_at bytes place ∷ tokens)) (sym split) (cut_token place bytes behind tokens lexeme (subst (λ (p : Place). IsCut p behind tokens) (sym moved) h))) in
+    rw pushed (rw append_assoc cut)
+
+pub blank_ends_cuts : (place : Place) (rest : List ℕ) (found : List Token) (text : List ℕ) → length rest ≡ 0 → Cuts place rest found text → IsCut first_place text found
+blank_ends_cuts place rest found text none all =
+    let nothing : AreBlanks rest = subst (λ (l : List ℕ). AreBlanks l) (sym (nil_from_length rest none)) refl in
+    subst (λ (l : List Token). IsCut first_place text l) (append-nil found) (all [] nothing)
+
+-- a byte moves a place on by at most one line and one column
+pub record MovesOn (place next : Place) : Type 0 where
+  pub line : next.line ≤ place.line + 1
+  pub column : next.col ≤ place.col + 1
+
+pub place_moves_on : (place next : Place) (c : ℕ) → next ≡ place_after place c → MovesOn place next
+place_moves_on place next c e = subst (λ (p : Place). MovesOn place p) (sym e) (cases (eqb c 10))
+  where
+    cases : (b : Bool) → MovesOn place (cond b (record { line = place.line + 1; col = 1 }) (record place { col = place.col + 1 }))
+    cases true = record { line = omega arith; column = omega arith }
+    cases false = record { line = omega arith; column = omega arith }

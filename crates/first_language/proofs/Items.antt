@@ -75,7 +75,7 @@ no_star_in_number n small = false_from_ne_true (bytes_eq (decimal n) (codes "*")
 no_star_in_name : (name : Name) → IsName name → bytes_eq name (codes "*") ≡ false
 no_star_in_name name named = name_is_apart name (codes "*") named refl
 
-at_token : (token : Token) (bytes word : List ℕ) (b : Bool) → token.bytes ≡ bytes → bytes_eq bytes word ≡ b → bytes_eq token.bytes word ≡ b
+pub at_token : (token : Token) (bytes word : List ℕ) (b : Bool) → token.bytes ≡ bytes → bytes_eq bytes word ≡ b → bytes_eq token.bytes word ≡ b
 at_token token bytes word b is e = ap (λ (x : List ℕ). bytes_eq x word) is ∙ e
 
 pub value_is_read : (items : List Item) (value : Value) (tokens : List Token) (more : List Piece) → IsOrderly items → IsValueAfter items value → Spells tokens (spelling_of_value value ++ more) → Reads (value_at (scope_of items) tokens) value more

@@ -4,3 +4,4 @@ pub mod Scopes
 pub mod Steps
 pub mod Items
 pub mod Cuts
+pub mod Bodies

@@ -8,18 +8,11 @@ use Rattle.first_language.specs.Tree.{Name, Value, Item, DeclareInt, DeclarePoin
 use Rattle.first_language.specs.Names.{is_name, IsName, is_reserved, reserved}
 use Rattle.first_language.specs.Text.{Token}
 use Rattle.first_language.specs.Language.{Piece, Bytes, Star, Is, IsValueAfter, IsItemAfter, AreItemsAfter, IsWellDeclared, is_declaration, spelling_of_value, spelling_of_item, spelling_of_head, spelling_of_return, spelling_of, most_names}
-use Rattle.first_language.specs.Reading.{◌>>=◌, Declared, scope_of, sort_in, after, declared_at, assignment_at, statement_at, item_at, header_at, ending_at}
+use Rattle.first_language.specs.Reading.{◌>>=◌, Declared, scope_of, sort_in, after, declared_at, assignment_at, statement_at, item_at, header_at, ending_at, Spells, Takes, IsBody, Continues, ItemsAreRead, IsSpelledBy}
 use Rattle.first_language.proofs.Options.{some_is, none_is_some}
 use Rattle.first_language.proofs.Scopes.{IsOrderly, nothing_is_orderly, orderly_more, after_more, sort_is_declared, scope_of-append, length-scope_of, declaring}
-use Rattle.first_language.proofs.Steps.{Spells, Takes, Takes-then, Reads, Passes, after_again}
+use Rattle.first_language.proofs.Steps.{Takes-then, Reads, Passes, after_again}
 use Rattle.first_language.proofs.Items.{Taken, HasRoom, item_takes, item_is_read, head_takes, head_is_read, IsReturn, return_takes, return_is_read, at_token}
-
--- Behind the items before, the tokens are these items and the return of the value.
-pub record IsBody (before : List Item) (tokens : List Token) (items : List Item) (value : Value) : Type 0 where
-  pub spelled : Spells tokens (flat_map spelling_of_item items ++ spelling_of_return value)
-  pub allowed : AreItemsAfter before items
-  pub returned : IsValueAfter (before ++ items) value
-  pub few : length (scope_of (before ++ items)) ≤ most_names
 
 -- ---- room in the scope
 
@@ -177,3 +170,99 @@ body_is_one before tokens (x ∷ xs) ys v w ok b c =
     let h = behind_first before tokens r.behind x xs v b r.spelled in
     let same = body_is_one (before ++ x ∷ []) r.behind xs g.later v w (orderly_more before x ok b.allowed.0) h g.body in
     record { items = ap (λ (l : List Item). x ∷ l) same.items ∙ sym g.is; value = same.value }
+
+-- ---- the loop over the items
+
+pub starts_reading : (tokens : List Token) → ItemsAreRead tokens [] [] tokens
+starts_reading tokens = record {
+  scope_is = refl;
+  takes = λ more h. h;
+  allowed = tt;
+  few = omega arith;
+  only = λ all value body. record { more = all; whole = refl; body = body };
+}
+
+-- items that are read one after another declare each name once
+pub read_is_orderly : (before items : List Item) → IsOrderly before → AreItemsAfter before items → IsOrderly (before ++ items)
+read_is_orderly before [] ok h = subst IsOrderly (sym (append-nil before)) ok
+read_is_orderly before (item ∷ items) ok h = subst IsOrderly (append_assoc before (item ∷ []) items) (read_is_orderly (before ++ item ∷ []) items (orderly_more before item ok h.0) h.1)
+
+pub reads_on : (tokens : List Token) (items : List Item) (scope : List Declared) (rest behind : List Token) (item : Item) (next : List Declared) → ItemsAreRead tokens items scope rest → item_at scope rest ≡ Some (item, behind) → next ≡ scope ++ scope_of (item ∷ []) → ItemsAreRead tokens (items ++ item ∷ []) next behind
+reads_on tokens items scope rest behind item next so_far read grown =
+    let read_there : item_at (scope_of items) rest ≡ Some (item, behind) = ap (λ (s : List Declared). item_at s rest) (sym so_far.scope_is) ∙ read in
+    let t = item_takes items rest behind item read_there in
+    let ok = read_is_orderly [] items nothing_is_orderly so_far.allowed in
+    let grown_there : next ≡ scope_of (items ++ item ∷ []) = grown ∙ (ap (λ (s : List Declared). s ++ scope_of (item ∷ [])) so_far.scope_is ∙ sym (scope_of-append items (item ∷ []))) in
+    let few : length (scope_of items) ≤ most_names = subst (λ (s : List Declared). length s ≤ most_names) so_far.scope_is so_far.few in
+    record {
+      scope_is = grown_there;
+      takes = λ more h. subst (λ (l : List Piece). Spells tokens l) (regroup more) (so_far.takes (spelling_of_item item ++ more) (t.takes more h));
+      allowed = after_more [] items item so_far.allowed t.allowed;
+      few = subst (λ (s : List Declared). length s ≤ most_names) (sym grown_there) (still_few items item few t.room);
+      only = λ all value body. one_more all value (so_far.only all value body) ok read_there;
+    }
+  where
+    regroup : (more : List Piece) → flat_map spelling_of_item items ++ (spelling_of_item item ++ more) ≡ flat_map spelling_of_item (items ++ item ∷ []) ++ more
+    regroup more =
+        let one : flat_map spelling_of_item (item ∷ []) ≡ spelling_of_item item = append-nil (spelling_of_item item) in
+        sym (append_assoc (flat_map spelling_of_item items) (spelling_of_item item) more)
+        ∙ ap (λ (l : List Piece). l ++ more) (sym (flat_map-append spelling_of_item items (item ∷ []) ∙ ap (λ (l : List Piece). flat_map spelling_of_item items ++ l) one))
+    one_more : (all : List Item) (value : Value) → Continues items rest all value → IsOrderly items → item_at (scope_of items) rest ≡ Some (item, behind) → Continues (items ++ item ∷ []) behind all value
+    one_more all value c ok e =
+        let g = goes_on items rest behind item c.more value ok e c.body in
+        record { more = g.later; whole = c.whole ∙ (ap (λ (l : List Item). items ++ l) g.is ∙ sym (append_assoc items (item ∷ []) g.later)); body = g.body }
+
+-- ---- whole programs
+
+pub whole_body : (tokens : List Token) (items : List Item) (scope : List Declared) (rest : List Token) (value : Value) → ItemsAreRead tokens items scope rest → ending_at scope rest ≡ Some value → IsBody [] tokens items value
+whole_body tokens items scope rest value read ended =
+    let r = return_takes items rest value (ap (λ (s : List Declared). ending_at s rest) (sym read.scope_is) ∙ ended) in
+    record { spelled = read.takes (spelling_of_return value) r.spelled; allowed = read.allowed; returned = r.allowed; few = subst (λ (s : List Declared). length s ≤ most_names) read.scope_is read.few }
+
+pub no_body : (tokens : List Token) (items : List Item) (scope : List Declared) (rest : List Token) → ItemsAreRead tokens items scope rest → item_at scope rest ≡ None → ending_at scope rest ≡ None → (all : List Item) (value : Value) → IsBody [] tokens all value → ⊥
+no_body tokens items scope rest read none unended all value body =
+    let c = read.only all value body in
+    let ok = read_is_orderly [] items nothing_is_orderly read.allowed in
+    let n = nothing_more items rest c.more value ok (ap (λ (s : List Declared). item_at s rest) (sym read.scope_is) ∙ none) c.body in
+    none_is_some value (sym (ap (λ (s : List Declared). ending_at s rest) (sym read.scope_is) ∙ unended) ∙ n.1)
+
+regrouped_program : (program : Program) → spelling_of program ≡ spelling_of_head ++ (flat_map spelling_of_item program.items ++ spelling_of_return program.returned)
+regrouped_program program = append_assoc spelling_of_head (flat_map spelling_of_item program.items) (spelling_of_return program.returned)
+
+pub program_from_body : (tokens rest : List Token) (program : Program) → header_at tokens ≡ Some rest → IsBody [] rest program.items program.returned → IsSpelledBy tokens program
+program_from_body tokens rest program headed body = record {
+  spelled = subst (λ (l : List Piece). Spells tokens l) (sym (regrouped_program program)) (head_takes tokens rest headed (flat_map spelling_of_item program.items ++ spelling_of_return program.returned) body.spelled);
+  declared = record { items = body.allowed; returned = body.returned; few = subst (λ (n : ℕ). n ≤ most_names) (length-scope_of program.items) body.few };
+}
+
+-- a program's tokens behind its head are a body
+pub record HasBody (tokens : List Token) (program : Program) : Type 0 where
+  pub rest : List Token
+  pub headed : header_at tokens ≡ Some rest
+  pub body : IsBody [] rest program.items program.returned
+
+pub body_from_program : (tokens : List Token) (program : Program) → IsSpelledBy tokens program → HasBody tokens program
+body_from_program tokens program is =
+    let p = head_is_read tokens (flat_map spelling_of_item program.items ++ spelling_of_return program.returned) (subst (λ (l : List Piece). Spells tokens l) (regrouped_program program) is.spelled) in
+    record { rest = p.behind; headed = p.is; body = record {
+      spelled = p.spelled;
+      allowed = is.declared.items;
+      returned = is.declared.returned;
+      few = subst (λ (n : ℕ). n ≤ most_names) (sym (length-scope_of program.items)) is.declared.few;
+    } }
+
+pub headless_is_no_program : (tokens : List Token) (program : Program) → header_at tokens ≡ None → IsSpelledBy tokens program → ⊥
+headless_is_no_program tokens program none is = let b = body_from_program tokens program is in none_is_some b.rest (sym none ∙ b.headed)
+
+pub bodiless_is_no_program : (tokens rest : List Token) (program : Program) → header_at tokens ≡ Some rest → ((all : List Item) (value : Value) → IsBody [] rest all value → ⊥) → IsSpelledBy tokens program → ⊥
+bodiless_is_no_program tokens rest program headed none is =
+    let b = body_from_program tokens program is in
+    none program.items program.returned (subst (λ (l : List Token). IsBody [] l program.items program.returned) (some_is b.rest rest (sym b.headed ∙ headed)) b.body)
+
+pub program_is_one : (tokens : List Token) (p q : Program) → IsSpelledBy tokens p → IsSpelledBy tokens q → p ≡ q
+program_is_one tokens p q h k =
+    let b = body_from_program tokens p h in
+    let c = body_from_program tokens q k in
+    let same_rest = some_is c.rest b.rest (sym c.headed ∙ b.headed) in
+    let s = body_is_one [] b.rest p.items q.items p.returned q.returned nothing_is_orderly b.body (subst (λ (l : List Token). IsBody [] l q.items q.returned) same_rest c.body) in
+    λ i. record { items = s.items i; returned = s.value i }

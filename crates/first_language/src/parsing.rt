@@ -33,7 +33,7 @@ fn number_at<'t, 'a>(tokens: &'t [Token<'a>]) -> Found<'t, 'a, u32>
 
 /// A name that is free, while fewer names are declared than may be.
 fn new_name_at<'t, 'a>(
-    scope: &[Declared<'a>],
+    scope: &[Declared],
     tokens: &'t [Token<'a>],
 ) -> Found<'t, 'a, &'a [u8]>
     ensures { option_map (λ found. (found.0.now, tokens_of found.1.now)) result
@@ -48,7 +48,7 @@ fn new_name_at<'t, 'a>(
 
 /// A declared name, with what it is declared as.
 fn declared_at<'t, 'a>(
-    scope: &[Declared<'a>],
+    scope: &[Declared],
     tokens: &'t [Token<'a>],
 ) -> Found<'t, 'a, Declared<'a>>
     ensures { option_map (λ found. (declared_of found.0, tokens_of found.1.now)) result
@@ -60,7 +60,7 @@ fn declared_at<'t, 'a>(
 }
 
 #[tactic(auto, unfolding(crate::specs::Reading::int_at))]
-fn int_at<'t, 'a>(scope: &[Declared<'a>], tokens: &'t [Token<'a>]) -> Found<'t, 'a, &'a [u8]>
+fn int_at<'t, 'a>(scope: &[Declared], tokens: &'t [Token<'a>]) -> Found<'t, 'a, &'a [u8]>
     ensures { option_map (λ found. (found.0.now, tokens_of found.1.now)) result
         ≡ int_at (scope_of_code scope.now) (tokens_of tokens.now) }
 {
@@ -72,7 +72,7 @@ fn int_at<'t, 'a>(scope: &[Declared<'a>], tokens: &'t [Token<'a>]) -> Found<'t, 
 }
 
 #[tactic(auto, unfolding(crate::specs::Reading::pointer_at))]
-fn pointer_at<'t, 'a>(scope: &[Declared<'a>], tokens: &'t [Token<'a>]) -> Found<'t, 'a, &'a [u8]>
+fn pointer_at<'t, 'a>(scope: &[Declared], tokens: &'t [Token<'a>]) -> Found<'t, 'a, &'a [u8]>
     ensures { option_map (λ found. (found.0.now, tokens_of found.1.now)) result
         ≡ pointer_at (scope_of_code scope.now) (tokens_of tokens.now) }
 {
@@ -85,7 +85,7 @@ fn pointer_at<'t, 'a>(scope: &[Declared<'a>], tokens: &'t [Token<'a>]) -> Found<
 
 #[tactic(auto, unfolding(crate::specs::Reading::target_at))]
 fn target_at<'t, 'a>(
-    scope: &[Declared<'a>],
+    scope: &[Declared],
     star: Place,
     tokens: &'t [Token<'a>],
 ) -> Found<'t, 'a, Value<'a>>
@@ -97,7 +97,7 @@ fn target_at<'t, 'a>(
 }
 
 #[tactic(auto, unfolding(crate::specs::Reading::variable_at))]
-fn variable_at<'t, 'a>(scope: &[Declared<'a>], tokens: &'t [Token<'a>]) -> Found<'t, 'a, Value<'a>>
+fn variable_at<'t, 'a>(scope: &[Declared], tokens: &'t [Token<'a>]) -> Found<'t, 'a, Value<'a>>
     ensures { option_map (λ found. (value_of found.0, tokens_of found.1.now)) result
         ≡ variable_at (scope_of_code scope.now) (tokens_of tokens.now) }
 {
@@ -107,7 +107,7 @@ fn variable_at<'t, 'a>(scope: &[Declared<'a>], tokens: &'t [Token<'a>]) -> Found
 
 #[tactic(auto, unfolding(crate::specs::Reading::plain_value_at))]
 fn plain_value_at<'t, 'a>(
-    scope: &[Declared<'a>],
+    scope: &[Declared],
     tokens: &'t [Token<'a>],
 ) -> Found<'t, 'a, Value<'a>>
     ensures { option_map (λ found. (value_of found.0, tokens_of found.1.now)) result
@@ -120,7 +120,7 @@ fn plain_value_at<'t, 'a>(
 }
 
 #[tactic(auto, unfolding(crate::specs::Reading::value_at))]
-fn value_at<'t, 'a>(scope: &[Declared<'a>], tokens: &'t [Token<'a>]) -> Found<'t, 'a, Value<'a>>
+fn value_at<'t, 'a>(scope: &[Declared], tokens: &'t [Token<'a>]) -> Found<'t, 'a, Value<'a>>
     ensures { option_map (λ found. (value_of found.0, tokens_of found.1.now)) result
         ≡ value_at (scope_of_code scope.now) (tokens_of tokens.now) }
 {
@@ -134,7 +134,7 @@ fn value_at<'t, 'a>(scope: &[Declared<'a>], tokens: &'t [Token<'a>]) -> Found<'t
 
 #[tactic(auto, unfolding(crate::specs::Reading::pointer_declaration_at))]
 fn pointer_declaration_at<'t, 'a>(
-    scope: &[Declared<'a>],
+    scope: &[Declared],
     tokens: &'t [Token<'a>],
 ) -> Found<'t, 'a, Item<'a>>
     ensures { option_map (λ found. (item_of found.0, tokens_of found.1.now)) result
@@ -146,7 +146,7 @@ fn pointer_declaration_at<'t, 'a>(
 
 #[tactic(auto, unfolding(crate::specs::Reading::int_declaration_at))]
 fn int_declaration_at<'t, 'a>(
-    scope: &[Declared<'a>],
+    scope: &[Declared],
     tokens: &'t [Token<'a>],
 ) -> Found<'t, 'a, Item<'a>>
     ensures { option_map (λ found. (item_of found.0, tokens_of found.1.now)) result
@@ -159,7 +159,7 @@ fn int_declaration_at<'t, 'a>(
 /// A declaration, behind its `int`.
 #[tactic(auto, unfolding(crate::specs::Reading::declaration_at))]
 fn declaration_at<'t, 'a>(
-    scope: &[Declared<'a>],
+    scope: &[Declared],
     tokens: &'t [Token<'a>],
 ) -> Found<'t, 'a, Item<'a>>
     ensures { option_map (λ found. (item_of found.0, tokens_of found.1.now)) result
@@ -173,7 +173,7 @@ fn declaration_at<'t, 'a>(
 
 /// An output, behind its `putchar`.
 #[tactic(auto, unfolding(crate::specs::Reading::output_at))]
-fn output_at<'t, 'a>(scope: &[Declared<'a>], tokens: &'t [Token<'a>]) -> Found<'t, 'a, Item<'a>>
+fn output_at<'t, 'a>(scope: &[Declared], tokens: &'t [Token<'a>]) -> Found<'t, 'a, Item<'a>>
     ensures { option_map (λ found. (item_of found.0, tokens_of found.1.now)) result
         ≡ output_at (scope_of_code scope.now) (tokens_of tokens.now) }
 {
@@ -186,7 +186,7 @@ fn output_at<'t, 'a>(scope: &[Declared<'a>], tokens: &'t [Token<'a>]) -> Found<'
 /// A store, behind its `*`.
 #[tactic(auto, unfolding(crate::specs::Reading::store_at))]
 fn store_at<'t, 'a>(
-    scope: &[Declared<'a>],
+    scope: &[Declared],
     star: Place,
     tokens: &'t [Token<'a>],
 ) -> Found<'t, 'a, Item<'a>>
@@ -201,7 +201,7 @@ fn store_at<'t, 'a>(
 
 #[tactic(auto, unfolding(crate::specs::Reading::point_at))]
 fn point_at<'t, 'a>(
-    scope: &[Declared<'a>],
+    scope: &[Declared],
     pointer: &'a [u8],
     tokens: &'t [Token<'a>],
 ) -> Found<'t, 'a, Item<'a>>
@@ -224,7 +224,7 @@ fn clear_at<'t, 'a>(pointer: &'a [u8], tokens: &'t [Token<'a>]) -> Found<'t, 'a,
 /// What is assigned to a pointer, behind the `=`.
 #[tactic(auto, unfolding(crate::specs::Reading::address_at))]
 fn address_at<'t, 'a>(
-    scope: &[Declared<'a>],
+    scope: &[Declared],
     pointer: &'a [u8],
     tokens: &'t [Token<'a>],
 ) -> Found<'t, 'a, Item<'a>>
@@ -249,7 +249,7 @@ fn assigned_at<'t, 'a>(name: &'a [u8], tokens: &'t [Token<'a>]) -> Found<'t, 'a,
 
 #[tactic(auto, unfolding(crate::specs::Reading::assignment_at))]
 fn assignment_at<'t, 'a>(
-    scope: &[Declared<'a>],
+    scope: &[Declared],
     tokens: &'t [Token<'a>],
 ) -> Found<'t, 'a, Item<'a>>
     ensures { option_map (λ found. (item_of found.0, tokens_of found.1.now)) result
@@ -265,7 +265,7 @@ fn assignment_at<'t, 'a>(
 
 /// An item without its `;`.
 #[tactic(auto, unfolding(crate::specs::Reading::statement_at))]
-fn statement_at<'t, 'a>(scope: &[Declared<'a>], tokens: &'t [Token<'a>]) -> Found<'t, 'a, Item<'a>>
+fn statement_at<'t, 'a>(scope: &[Declared], tokens: &'t [Token<'a>]) -> Found<'t, 'a, Item<'a>>
     ensures { option_map (λ found. (item_of found.0, tokens_of found.1.now)) result
         ≡ statement_at (scope_of_code scope.now) (tokens_of tokens.now) }
 {
@@ -282,7 +282,7 @@ fn statement_at<'t, 'a>(scope: &[Declared<'a>], tokens: &'t [Token<'a>]) -> Foun
 }
 
 #[tactic(auto, unfolding(crate::specs::Reading::item_at))]
-fn item_at<'t, 'a>(scope: &[Declared<'a>], tokens: &'t [Token<'a>]) -> Found<'t, 'a, Item<'a>>
+pub fn item_at<'t, 'a>(scope: &[Declared], tokens: &'t [Token<'a>]) -> Found<'t, 'a, Item<'a>>
     ensures { option_map (λ found. (item_of found.0, tokens_of found.1.now)) result
         ≡ item_at (scope_of_code scope.now) (tokens_of tokens.now) }
 {
@@ -293,7 +293,7 @@ fn item_at<'t, 'a>(scope: &[Declared<'a>], tokens: &'t [Token<'a>]) -> Found<'t,
 
 /// The tokens behind `int main(void) {`.
 #[tactic(auto, unfolding(crate::specs::Reading::header_at))]
-fn header_at<'t, 'a>(tokens: &'t [Token<'a>]) -> Option<&'t [Token<'a>]>
+pub fn header_at<'t, 'a>(tokens: &'t [Token<'a>]) -> Option<&'t [Token<'a>]>
     ensures { option_map (λ rest. tokens_of rest.now) result ≡ header_at (tokens_of tokens.now) }
 {
     let rest = after(b"int", tokens)?;
@@ -306,7 +306,7 @@ fn header_at<'t, 'a>(tokens: &'t [Token<'a>]) -> Option<&'t [Token<'a>]>
 
 /// The value of `return value; }`, where nothing stands behind that.
 #[tactic(auto, unfolding(crate::specs::Reading::ending_at))]
-fn ending_at<'a>(scope: &[Declared<'a>], tokens: &[Token<'a>]) -> Option<Value<'a>>
+pub fn ending_at<'a>(scope: &[Declared], tokens: &[Token<'a>]) -> Option<Value<'a>>
     ensures { option_map value_of result ≡ ending_at (scope_of_code scope.now) (tokens_of tokens.now) }
 {
     let rest = after(b"return", tokens)?;

@@ -55,6 +55,7 @@ still_few before item few room = cases (is_declaration item) refl
   where
     sizes : length (scope_of (before ++ item ∷ [])) ≡ length (scope_of before) + length (scope_of (item ∷ []))
     sizes = ap length (scope_of-append before (item ∷ [])) ∙ length-append (scope_of before) (scope_of (item ∷ []))
+
     cases : (b : Bool) → is_declaration item ≡ b → length (scope_of (before ++ item ∷ [])) ≤ most_names
     cases true e = omega (arith, sizes, counted_once item, room e)
     cases false e = omega (arith, sizes, counted_none item e)
@@ -128,7 +129,7 @@ pub record GoesOn (before : List Item) (item : Item) (behind : List Token) (item
 first_is_read : (before : List Item) (tokens : List Token) (item : Item) (later : List Item) (value : Value) → IsOrderly before → IsBody before tokens (item ∷ later) value → Reads (item_at (scope_of before) tokens) item (flat_map spelling_of_item later ++ spelling_of_return value)
 first_is_read before tokens item later value ok body =
     item_is_read before item tokens (flat_map spelling_of_item later ++ spelling_of_return value) ok body.allowed.0 (has_room before item later body.few)
-      (subst (λ (l : List Piece). Spells tokens l) (append_assoc (spelling_of_item item) (flat_map spelling_of_item later) (spelling_of_return value)) body.spelled)
+    (subst (λ (l : List Piece). Spells tokens l) (append_assoc (spelling_of_item item) (flat_map spelling_of_item later) (spelling_of_return value)) body.spelled)
 
 behind_first : (before : List Item) (tokens behind : List Token) (item : Item) (later : List Item) (value : Value) → IsBody before tokens (item ∷ later) value → Spells behind (flat_map spelling_of_item later ++ spelling_of_return value) → IsBody (before ++ item ∷ []) behind later value
 behind_first before tokens behind item later value body spelled =
@@ -146,7 +147,7 @@ goes_on before tokens behind item (first ∷ later) value ok read body =
     let r = first_is_read before tokens first later value ok body in
     let pair = some_is (first, r.behind) (item, behind) (sym r.is ∙ read) in
     subst (λ (p : Item × List Token). GoesOn before p.0 p.1 (first ∷ later) value) pair
-      (record { later = later; is = refl; body = behind_first before tokens r.behind first later value body r.spelled })
+    (record { later = later; is = refl; body = behind_first before tokens r.behind first later value body r.spelled })
 
 -- where no item is read, the value is returned
 pub nothing_more : (before : List Item) (tokens : List Token) (items : List Item) (value : Value) → IsOrderly before → item_at (scope_of before) tokens ≡ None → IsBody before tokens items value → (items ≡ []) × (ending_at (scope_of before) tokens ≡ Some value)
@@ -210,6 +211,7 @@ reads_on tokens items scope rest behind item next so_far read grown =
         let one : flat_map spelling_of_item (item ∷ []) ≡ spelling_of_item item = append-nil (spelling_of_item item) in
         sym (append_assoc (flat_map spelling_of_item items) (spelling_of_item item) more)
         ∙ ap (λ (l : List Piece). l ++ more) (sym (flat_map-append spelling_of_item items (item ∷ []) ∙ ap (λ (l : List Piece). flat_map spelling_of_item items ++ l) one))
+
     one_more : (all : List Item) (value : Value) → Continues items rest all value → IsOrderly items → item_at (scope_of items) rest ≡ Some (item, behind) → Continues (items ++ item ∷ []) behind all value
     one_more all value c ok e =
         let g = goes_on items rest behind item c.more value ok e c.body in
@@ -247,12 +249,16 @@ pub record HasBody (tokens : List Token) (program : Program) : Type 0 where
 pub body_from_program : (tokens : List Token) (program : Program) → IsSpelledBy tokens program → HasBody tokens program
 body_from_program tokens program is =
     let p = head_is_read tokens (flat_map spelling_of_item program.items ++ spelling_of_return program.returned) (subst (λ (l : List Piece). Spells tokens l) (regrouped_program program) is.spelled) in
-    record { rest = p.behind; headed = p.is; body = record {
-      spelled = p.spelled;
-      allowed = is.declared.items;
-      returned = is.declared.returned;
-      few = subst (λ (n : ℕ). n ≤ most_names) (sym (length-scope_of program.items)) is.declared.few;
-    } }
+    record {
+      rest = p.behind;
+      headed = p.is;
+      body = record {
+        spelled = p.spelled;
+        allowed = is.declared.items;
+        returned = is.declared.returned;
+        few = subst (λ (n : ℕ). n ≤ most_names) (sym (length-scope_of program.items)) is.declared.few;
+      };
+    }
 
 pub headless_is_no_program : (tokens : List Token) (program : Program) → header_at tokens ≡ None → IsSpelledBy tokens program → ⊥
 headless_is_no_program tokens program none is = let b = body_from_program tokens program is in none_is_some b.rest (sym none ∙ b.headed)

@@ -23,6 +23,7 @@ fn after<'t, 'a>(bytes: &[u8], tokens: &'t [Token<'a>]) -> Option<&'t [Token<'a>
     if first.is(bytes) { Some(rest) } else { None }
 }
 
+/// A number.
 fn number_at<'t, 'a>(tokens: &'t [Token<'a>]) -> Found<'t, 'a, u32>
     ensures { option_map (λ found. (found.0, tokens_of found.1.now)) result ≡ number_at (tokens_of tokens.now) }
 {
@@ -32,10 +33,7 @@ fn number_at<'t, 'a>(tokens: &'t [Token<'a>]) -> Found<'t, 'a, u32>
 }
 
 /// A name that is free, while fewer names are declared than may be.
-fn new_name_at<'t, 'a>(
-    scope: &[Declared],
-    tokens: &'t [Token<'a>],
-) -> Found<'t, 'a, &'a [u8]>
+fn new_name_at<'t, 'a>(scope: &[Declared], tokens: &'t [Token<'a>]) -> Found<'t, 'a, &'a [u8]>
     ensures { option_map (λ found. (found.0.now, tokens_of found.1.now)) result
         ≡ new_name_at (scope_of_code scope.now) (tokens_of tokens.now) }
 {
@@ -43,22 +41,30 @@ fn new_name_at<'t, 'a>(
     let is_new = is_name(first.bytes)
         && sort_in(scope, first.bytes).is_none()
         && scope.len() < MOST_NAMES;
-    if is_new { Some((first.bytes, rest)) } else { None }
+    if is_new {
+        Some((first.bytes, rest))
+    } else {
+        None
+    }
 }
 
 /// A declared name, with what it is declared as.
-fn declared_at<'t, 'a>(
-    scope: &[Declared],
-    tokens: &'t [Token<'a>],
-) -> Found<'t, 'a, Declared<'a>>
+fn declared_at<'t, 'a>(scope: &[Declared], tokens: &'t [Token<'a>]) -> Found<'t, 'a, Declared<'a>>
     ensures { option_map (λ found. (declared_of found.0, tokens_of found.1.now)) result
         ≡ declared_at (scope_of_code scope.now) (tokens_of tokens.now) }
 {
     let (first, rest) = tokens.split_first()?;
     let sort = sort_in(scope, first.bytes)?;
-    Some((Declared { name: first.bytes, sort }, rest))
+    Some((
+        Declared {
+            name: first.bytes,
+            sort,
+        },
+        rest,
+    ))
 }
 
+/// The name of an int.
 #[tactic(auto, unfolding(crate::specs::Reading::int_at))]
 fn int_at<'t, 'a>(scope: &[Declared], tokens: &'t [Token<'a>]) -> Found<'t, 'a, &'a [u8]>
     ensures { option_map (λ found. (found.0.now, tokens_of found.1.now)) result
@@ -71,6 +77,7 @@ fn int_at<'t, 'a>(scope: &[Declared], tokens: &'t [Token<'a>]) -> Found<'t, 'a, 
     }
 }
 
+/// The name of a pointer.
 #[tactic(auto, unfolding(crate::specs::Reading::pointer_at))]
 fn pointer_at<'t, 'a>(scope: &[Declared], tokens: &'t [Token<'a>]) -> Found<'t, 'a, &'a [u8]>
     ensures { option_map (λ found. (found.0.now, tokens_of found.1.now)) result
@@ -83,6 +90,7 @@ fn pointer_at<'t, 'a>(scope: &[Declared], tokens: &'t [Token<'a>]) -> Found<'t, 
     }
 }
 
+/// What a pointer points to, behind its `*`.
 #[tactic(auto, unfolding(crate::specs::Reading::target_at))]
 fn target_at<'t, 'a>(
     scope: &[Declared],
@@ -105,11 +113,9 @@ fn variable_at<'t, 'a>(scope: &[Declared], tokens: &'t [Token<'a>]) -> Found<'t,
     Some((Value::Variable(name), rest))
 }
 
+/// A number or an int.
 #[tactic(auto, unfolding(crate::specs::Reading::plain_value_at))]
-fn plain_value_at<'t, 'a>(
-    scope: &[Declared],
-    tokens: &'t [Token<'a>],
-) -> Found<'t, 'a, Value<'a>>
+fn plain_value_at<'t, 'a>(scope: &[Declared], tokens: &'t [Token<'a>]) -> Found<'t, 'a, Value<'a>>
     ensures { option_map (λ found. (value_of found.0, tokens_of found.1.now)) result
         ≡ plain_value_at (scope_of_code scope.now) (tokens_of tokens.now) }
 {
@@ -158,10 +164,7 @@ fn int_declaration_at<'t, 'a>(
 
 /// A declaration, behind its `int`.
 #[tactic(auto, unfolding(crate::specs::Reading::declaration_at))]
-fn declaration_at<'t, 'a>(
-    scope: &[Declared],
-    tokens: &'t [Token<'a>],
-) -> Found<'t, 'a, Item<'a>>
+fn declaration_at<'t, 'a>(scope: &[Declared], tokens: &'t [Token<'a>]) -> Found<'t, 'a, Item<'a>>
     ensures { option_map (λ found. (item_of found.0, tokens_of found.1.now)) result
         ≡ declaration_at (scope_of_code scope.now) (tokens_of tokens.now) }
 {
@@ -199,6 +202,7 @@ fn store_at<'t, 'a>(
     Some((Item::Store(pointer, number, star), rest))
 }
 
+/// The int that a pointer is pointed to, behind the `&`.
 #[tactic(auto, unfolding(crate::specs::Reading::point_at))]
 fn point_at<'t, 'a>(
     scope: &[Declared],
@@ -212,6 +216,7 @@ fn point_at<'t, 'a>(
     Some((Item::Point(pointer, variable), rest))
 }
 
+/// The 0 that clears a pointer.
 #[tactic(auto, unfolding(crate::specs::Reading::clear_at))]
 fn clear_at<'t, 'a>(pointer: &'a [u8], tokens: &'t [Token<'a>]) -> Found<'t, 'a, Item<'a>>
     ensures { option_map (λ found. (item_of found.0, tokens_of found.1.now)) result
@@ -247,11 +252,9 @@ fn assigned_at<'t, 'a>(name: &'a [u8], tokens: &'t [Token<'a>]) -> Found<'t, 'a,
     Some((Item::Assign(name, number), rest))
 }
 
+/// An assignment to an int or to a pointer.
 #[tactic(auto, unfolding(crate::specs::Reading::assignment_at))]
-fn assignment_at<'t, 'a>(
-    scope: &[Declared],
-    tokens: &'t [Token<'a>],
-) -> Found<'t, 'a, Item<'a>>
+fn assignment_at<'t, 'a>(scope: &[Declared], tokens: &'t [Token<'a>]) -> Found<'t, 'a, Item<'a>>
     ensures { option_map (λ found. (item_of found.0, tokens_of found.1.now)) result
         ≡ assignment_at (scope_of_code scope.now) (tokens_of tokens.now) }
 {
@@ -281,6 +284,7 @@ fn statement_at<'t, 'a>(scope: &[Declared], tokens: &'t [Token<'a>]) -> Found<'t
     }
 }
 
+/// An item with its `;`.
 #[tactic(auto, unfolding(crate::specs::Reading::item_at))]
 pub fn item_at<'t, 'a>(scope: &[Declared], tokens: &'t [Token<'a>]) -> Found<'t, 'a, Item<'a>>
     ensures { option_map (λ found. (item_of found.0, tokens_of found.1.now)) result

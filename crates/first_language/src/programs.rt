@@ -40,6 +40,7 @@ fn body_at<'t, 'a>(alloc: Global, tokens: &'t [Token<'a>]) -> Result<Body<'t, 'a
     'reading: while let Some((item, behind)) = item_at(&scope, rest) {
         declare(&mut scope, item)?;
         items.push(item)?;
+        // Passed through a call, since a name from a pattern cannot be given to the loop's variable here.
         rest = identity(behind);
     }
     Ok(Body { items, scope, rest })
@@ -78,5 +79,4 @@ pub fn parse<'a>(alloc: Global, text: &'a [u8]) -> Result<Program<'a>, Fault>
 /// No text is two programs.
 pub fn text_is_one_program()
     ensures { (text : List ℕ) (p q : Tree) → IsProgram text p → IsProgram text q → p ≡ q }
-{
-}
+{}

@@ -29,14 +29,14 @@ turn_reads : (tokens : List CodeToken) (items more : List CodeItem) (scope lent 
 turn_reads tokens items more scope lent next rest behind kept item so_far t =
     let items_are = ap items_of t.pushed ∙ map-append item_of items (item ∷ []) in
     subst (λ (l : List Item). ItemsAreRead (tokens_of tokens) l (scope_of_code next) (tokens_of kept)) (sym items_are)
-      (reads_on (tokens_of tokens) (items_of items) (scope_of_code scope) (tokens_of rest) (tokens_of kept) (item_of item) (scope_of_code next) so_far (read_there t) t.declared)
+    (reads_on (tokens_of tokens) (items_of items) (scope_of_code scope) (tokens_of rest) (tokens_of kept) (item_of item) (scope_of_code next) so_far (read_there t) t.declared)
 
 pub reading-smaller : goal.reading-smaller
 reading-smaller c =
     turn_smaller c.args.tokens.now c.reading.items.items c.push.new.self.items c.reading.scope.items c.deref.result.now c.declare.new.scope.items c.reading.rest.now c.in-Some.behind.now c.identity-rest.result.now c.in-Some.item c.reading.invariant
-      (record { read = c.in-Some.ensures; lent_is = c.deref.ensures.value; declared = c.in_ok-declare.ensures; pushed = c.in_ok-push.ensures.items; kept_is = ap (λ r. r.now) c.identity-rest.ensures })
+    (record { read = c.in-Some.ensures; lent_is = c.deref.ensures.value; declared = c.in_ok-declare.ensures; pushed = c.in_ok-push.ensures.items; kept_is = ap (λ r. r.now) c.identity-rest.ensures })
 
 pub reading-preserved : goal.reading-preserved
 reading-preserved c =
     turn_reads c.args.tokens.now c.reading.items.items c.push.new.self.items c.reading.scope.items c.deref.result.now c.declare.new.scope.items c.reading.rest.now c.in-Some.behind.now c.identity-rest.result.now c.in-Some.item c.reading.invariant
-      (record { read = c.in-Some.ensures; lent_is = c.deref.ensures.value; declared = c.in_ok-declare.ensures; pushed = c.in_ok-push.ensures.items; kept_is = ap (λ r. r.now) c.identity-rest.ensures })
+    (record { read = c.in-Some.ensures; lent_is = c.deref.ensures.value; declared = c.in_ok-declare.ensures; pushed = c.in_ok-push.ensures.items; kept_is = ap (λ r. r.now) c.identity-rest.ensures })

@@ -1,5 +1,5 @@
 -- Which texts are programs of the first language, and with which tree.
-use Rattle.std.specs.Prelude.{ℕ, ◌≡◌, ◌≤◌, List, [], ◌∷◌, ◌++◌, Bool, true, false, codes, decimal, Contains, count_by, flat_map, ⊤}
+use Rattle.std.specs.Prelude.{ℕ, ◌≡◌, ◌≤◌, List, [], ◌∷◌, ◌++◌, Bool, true, false, codes, decimal, Contains, filter, flat_map, length, ⊤}
 use Rattle.std.specs.List.{AllZip}
 use Rattle.cc_base.specs.declared.place.Place.{Place}
 use Rattle.first_language.specs.Tree.{Name, Value, Number, Variable, Target, Item, DeclareInt, DeclarePointer, Assign, Point, Clear, Store, Put, Program}
@@ -38,11 +38,11 @@ spelling_of program = Bytes (codes "int") ∷ Bytes (codes "main") ∷ Bytes (co
     ++ Bytes (codes "return") ∷ spelling_of_value program.returned ++ Bytes (codes ";") ∷ Bytes (codes "}") ∷ []
 
 -- the greatest number that an int holds
-unfoldable pub greatest_number : ℕ
+abbrev pub greatest_number : ℕ
 greatest_number = 2147483647
 
 -- at most so many names are declared
-unfoldable pub most_names : ℕ
+abbrev pub most_names : ℕ
 most_names = 64
 
 -- a name is declared by one of these items, as an int or as a pointer
@@ -91,7 +91,7 @@ is_declaration (Put value) = false
 pub record IsWellDeclared (program : Program) : Type 0 where
   pub items : AreItemsAfter [] program.items
   pub returned : IsValueAfter program.items program.returned
-  pub few : count_by is_declaration program.items ≤ most_names
+  pub few : length (filter is_declaration program.items) ≤ most_names
 
 -- The text is this program: it is cut into the tokens that the program is spelled by, and the program is well declared.
 pub record IsProgram (text : List ℕ) (program : Program) : Type 0 where

@@ -3,3 +3,5 @@ pub mod Meaning
 pub mod Names
 pub mod Text
 pub mod Language
+pub mod Views
+pub mod Reading

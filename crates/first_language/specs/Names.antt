@@ -29,8 +29,11 @@ reserved = codes "auto" ∷ codes "break" ∷ codes "case" ∷ codes "char" ∷ 
     ∷ codes "main" ∷ codes "putchar" ∷ []
 
 unfoldable pub is_reserved : List ℕ → Bool
-is_reserved word = list_any (bytes_eq word) reserved
+is_reserved word = list_any (λ other. bytes_eq other word) reserved
 
 -- what a variable may be called
+abbrev pub is_name : List ℕ → Bool
+is_name word = is_identifier word && not (is_reserved word)
+
 abbrev pub IsName : List ℕ → Type 0
-IsName word = IsTrue (is_identifier word && not (is_reserved word))
+IsName word = IsTrue (is_name word)

@@ -1,0 +1,4 @@
+pub mod Options
+pub mod Numerals
+pub mod Scopes
+pub mod Steps

@@ -1,3 +1,5 @@
 pub mod ByteLaws
 pub mod AreaLaws
 pub mod FrameLaws
+pub mod MemoryCode
+pub mod Keeps

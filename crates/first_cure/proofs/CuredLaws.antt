@@ -31,14 +31,14 @@ frame-fits : (program : Program) (parts : Parts) (cured : IsCured program parts)
 frame-fits program parts cured declared =
     let few = names-few program declared in
     let size : areas_size (areas_of cured.main.locals) ≡ 16 * length (ints_of program.items) =
-    ap (λ l. areas_size (areas_of l)) cured.locals ∙ size-int_areas (length (ints_of program.items)) in
+    ap (λ l. areas_size (areas_of l)) cured.runs.locals ∙ size-int_areas (length (ints_of program.items)) in
     let allowed = charges-allowed in
-    fits-start parts (areas_of cured.main.locals) cured.main.charge (omega (arith, few, cured.charge, allowed)) (omega (arith, few, size, allowed))
+    fits-start parts (areas_of cured.main.locals) cured.main.charge (omega (arith, few, cured.runs.charge, allowed)) (omega (arith, few, size, allowed))
 
 start-of : (program : Program) (parts : Parts) (cured : IsCured program parts) (input : Input) (turns : ℕ) → IsWellDeclared program → IsStart (names_of program.items) cured.main (first_state parts input turns)
 start-of program parts cured input turns declared = record {
-  locals = cured.locals;
-  slots = cured.slots;
+  locals = cured.runs.locals;
+  slots = cured.runs.slots;
   fit = frame-fits program parts cured declared;
   room = let size = length-loaded parts in omega (arith, size);
   unread = refl;
@@ -47,7 +47,7 @@ start-of program parts cured input turns declared = record {
 same-run : (program : Program) (parts : Parts) (cured : IsCured program parts) (input : Input) (turns : ℕ) → IsWellDeclared program → GoesOn [] (first_run program) (finished (run cured.main.body.0.items (record { function = 0 }) (entry cured.main (first_state parts input turns))))
 same-run program parts cured input turns declared =
     let uses = program-uses program declared in
-    subst (λ code. GoesOn [] (first_run program) (finished (run code (record { function = 0 }) (entry cured.main (first_state parts input turns))))) (sym cured.body)
+    subst (λ code. GoesOn [] (first_run program) (finished (run code (record { function = 0 }) (entry cured.main (first_state parts input turns))))) (sym cured.runs.body)
     (items-run (names_of program.items) program.items program.returned at_start (record { function = 0 }) (entry cured.main (first_state parts input turns)) [] refl uses.0 uses.1
     (stands-entry (names_of program.items) cured.main (first_state parts input turns) (start-of program parts cured input turns declared)))
 

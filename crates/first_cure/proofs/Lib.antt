@@ -4,3 +4,4 @@ pub mod RunLaws
 pub mod DeclaredLaws
 pub mod StartLaws
 pub mod CuredLaws
+pub mod RangeLaws

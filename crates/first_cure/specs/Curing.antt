@@ -2,9 +2,10 @@
 --
 -- Each int has an area of four bytes in the frame of function 0, in the order of declaration. Each pointer has a slot:
 -- 0 where it is null, and else the address of the area of the int that it points to. Slots 0 and 1 are working slots.
-use Rattle.std.specs.Prelude.{ℕ, suc, ◌+◌, ◌*◌, ◌<◌, ◌≡◌, List, [], ◌∷◌, ◌++◌, length, replicate, flat_map, true, false, bytes_eq, if◌then◌else◌}
+use Rattle.std.specs.Prelude.{ℕ, suc, ◌+◌, ◌*◌, ◌<◌, ◌≤◌, ◌≡◌, List, [], ◌∷◌, ◌++◌, length, replicate, flat_map, true, false, bytes_eq, if◌then◌else◌}
 use Rattle.cc_base.specs.declared.fault.Check.TheVariants.{Null}
 use Rattle.first_language.specs.Tree.{Name, Value, Number, Variable, Target, Item, DeclareInt, DeclarePointer, Assign, Point, Clear, Store, Put, Program}
+use Rattle.first_language.specs.Language.{most_names}
 use Rattle.cured_code.specs.declared.instr.Instr.{Instr}
 use Rattle.cured_code.specs.declared.instr.Instr.TheVariants as instr
 use Rattle.cured_code.specs.declared.parts.Sig.{Sig}
@@ -16,6 +17,10 @@ use Rattle.cured_code.specs.declared.parts.Parts.{Parts}
 pub record Names : Type 0 where
   pub ints : List Name
   pub pointers : List Name
+
+-- there are no more variables than a program may have
+abbrev pub AreFew : Names → Type 0
+AreFew names = length names.ints + length names.pointers ≤ most_names
 
 -- the int that an item declares, if it declares one
 abbrev pub int_of : Item → List Name
@@ -89,15 +94,19 @@ int_area = record { tagged = false; bytes = 4 }
 abbrev pub int_charge : ℕ
 int_charge = 20
 
--- the parts are those that the program is cured to: one function that runs its items, and nothing else
-pub record IsCured (program : Program) (parts : Parts) : Type 0 where
-  pub main : Function
-  pub functions : parts.functions ≡ main ∷ []
-  pub sigs : parts.sigs ≡ record { params = 0; results = 0 } ∷ []
-  pub nodes : parts.nodes ≡ []
-  pub globals : parts.globals ≡ []
+-- the function is the one that runs the program
+pub record IsMain (program : Program) (main : Function) : Type 0 where
   pub sig : main.sig ≡ 0
   pub slots : main.slots ≡ length (pointers_of program.items) + 2
   pub charge : main.charge ≡ int_charge * length (ints_of program.items)
   pub locals : main.locals ≡ replicate (length (ints_of program.items)) int_area
   pub body : main.body.0.items ≡ body_code (names_of program.items) program.items program.returned
+
+-- the parts are those that the program is cured to: the one function that runs it, which takes and gives nothing
+pub record IsCured (program : Program) (parts : Parts) : Type 0 where
+  pub main : Function
+  pub runs : IsMain program main
+  pub functions : parts.functions ≡ main ∷ []
+  pub sigs : parts.sigs ≡ record { params = 0; results = 0 } ∷ []
+  pub nodes : parts.nodes ≡ []
+  pub globals : parts.globals ≡ []

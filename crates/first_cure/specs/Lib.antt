@@ -1,2 +1,3 @@
 pub mod Curing
+pub mod Views
 pub mod Simulation

@@ -13,7 +13,7 @@ use Rattle.cured_code.specs.FlatState.{State}
 use Rattle.cured_code.specs.FlatMachine.{areas_of, entry, run, started, run_of, first_state, finished, loaded_memory, frames_charge_limit}
 use Rattle.cured_code.proofs.StartLaws.{length-loaded, fits-start}
 use Rattle.first_cure.specs.Curing.{Names, ints_of, pointers_of, names_of, int_area, int_charge, body_code, IsCured}
-use Rattle.first_cure.specs.Simulation.{IsSameRun, RunsAs}
+use Rattle.first_cure.specs.SameRun.{IsSameRun, RunsAs}
 use Rattle.first_cure.proofs.NameLaws.{names-count}
 use Rattle.first_cure.proofs.DeclaredLaws.{program-uses}
 use Rattle.first_cure.proofs.RunLaws.{GoesOn, items-run}

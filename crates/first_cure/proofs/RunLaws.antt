@@ -19,7 +19,8 @@ use Rattle.cured_code.specs.declared.instr.Instr.TheVariants as instr
 use Rattle.cured_code.specs.FlatState.{Stopped as FlatStopped, Ending as FlatEnding, Trap, State, Local, slot, with_slot, is_in_list, loaded, stored_at, put_out}
 use Rattle.cured_code.specs.FlatMachine.{Context, act, run, FlatOutcome, seen, finished}
 use Rattle.first_cure.specs.Curing.{Names, IsListed, area_of, slot_of, value_code, item_code, body_code}
-use Rattle.first_cure.specs.Simulation.{ending_of, address_of, StandsForTarget, StandsFor}
+use Rattle.first_cure.specs.SameRun.{ending_of}
+use Rattle.first_cure.specs.Relation.{address_of, StandsForTarget, StandsFor}
 use Rattle.first_cure.proofs.StateLaws.{stands-worked, stands-loaded, stands-put, stands-stored, stands-pointed}
 
 -- a run of cured code that has put out `before` goes on as a program does

@@ -13,7 +13,7 @@ use Rattle.cured_code.specs.FlatState.{State, Local, slot}
 use Rattle.cured_code.specs.FlatMachine.{areas_of, entry}
 use Rattle.cured_code.proofs.StartLaws.{length-entry, frame_area-inside, frame_areas-apart, frame_area-zero}
 use Rattle.first_cure.specs.Curing.{Names, index_of, IsListed, area_of, slot_of, int_area}
-use Rattle.first_cure.specs.Simulation.{address_of, AreLaidOut, StandsForTarget, StandsFor}
+use Rattle.first_cure.specs.Relation.{address_of, AreLaidOut, StandsForTarget, StandsFor}
 use Rattle.first_cure.proofs.NameLaws.{index-same}
 
 -- the areas of n ints

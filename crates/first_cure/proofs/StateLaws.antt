@@ -9,7 +9,7 @@ use Rattle.flat_mem.specs.Bytes.{number, stored}
 use Rattle.flat_mem.proofs.ByteLaws.{length-stored, number-stored, number-stored_apart}
 use Rattle.cured_code.specs.FlatState.{State, Local, slot, with_slot, loaded, stored_at, put_out}
 use Rattle.first_cure.specs.Curing.{Names, index_of, IsListed, slot_of}
-use Rattle.first_cure.specs.Simulation.{address_of, AreLaidOut, StandsForTarget, StandsFor}
+use Rattle.first_cure.specs.Relation.{address_of, AreLaidOut, StandsForTarget, StandsFor}
 use Rattle.first_cure.proofs.NameLaws.{by_names, index-same}
 
 -- a state with the same memory stands for the same variables, where the slots of the pointers are the same

@@ -2,7 +2,7 @@ ghost use Rattle.std.specs.Prelude.{◌≡◌, length, replicate, IfOk};
 ghost use Rattle.first_language.specs.Language.{IsWellDeclared};
 ghost use Rattle.first_language.specs.Views.{tree_of, items_of, value_of};
 ghost use Rattle.first_cure.specs.Curing.{AreFew, IsCured, IsMain, names_of, int_area};
-ghost use Rattle.first_cure.specs.Simulation.{RunsAs};
+ghost use Rattle.first_cure.specs.SameRun.{RunsAs};
 ghost use Rattle.first_cure.specs.Views.{view_of};
 
 use crate::emitting::{INT_BYTES, add_body};

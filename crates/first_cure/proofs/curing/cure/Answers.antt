@@ -1,6 +1,6 @@
 use Rattle.std.proofs.Common.{sym, subst}
 use Rattle.first_language.specs.Views.{tree_of}
-use Rattle.first_cure.specs.Simulation.{RunsAs}
+use Rattle.first_cure.specs.SameRun.{RunsAs}
 use Rattle.first_cure.proofs.CuredLaws.{names-few, cured-runs}
 use Rattle.first_cure.proofs.RangeLaws.{cured-in_range}
 use Rattle.first_cure.proofs.curing.cure.Goals as goal

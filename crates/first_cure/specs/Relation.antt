@@ -1,33 +1,11 @@
--- When cured code runs as a program of the first language does, and how its states stand for the program's variables.
-use Rattle.std.specs.Prelude.{ℕ, ◌+◌, ◌≤◌, ◌≡◌, ◌≢◌, ◌⊎◌, List, ◌++◌, length, Option, Some, None}
-use Rattle.first_language.specs.Tree.{Name, Program}
-use Rattle.first_language.specs.Meaning.{Ending, Exited, Stopped, Outcome, Variables, first_run}
-use Rattle.runs.specs.Input.{Input}
+-- How the states of cured code stand for the variables of a program of the first language.
+use Rattle.std.specs.Prelude.{ℕ, ◌+◌, ◌≤◌, ◌≡◌, ◌≢◌, ◌⊎◌, length, Option, Some, None}
+use Rattle.first_language.specs.Tree.{Name}
+use Rattle.first_language.specs.Meaning.{Variables}
 use Rattle.flat_mem.specs.Bytes.{number}
 use Rattle.flat_mem.specs.Memory.{Memory, frame_area}
-use Rattle.cured_code.specs.declared.parts.Parts.{Parts}
-use Rattle.cured_code.specs.FlatState.{Ending as FlatEnding, Exited as FlatExited, Stopped as FlatStopped, Local, slot}
-use Rattle.cured_code.specs.FlatMachine.{FlatOutcome, flat_run}
+use Rattle.cured_code.specs.FlatState.{Local, slot}
 use Rattle.first_cure.specs.Curing.{Names, IsListed, area_of, slot_of}
-
--- The promise
-
--- how cured code ends where the program ends so
-abbrev pub ending_of : Ending → FlatEnding
-ending_of (Exited status) = FlatExited status
-ending_of (Stopped check place) = FlatStopped check place
-
--- a run of cured code is the run of a program: it has the same ending and output, and reads no input
-pub record IsSameRun (flat : FlatOutcome) (source : Outcome) : Type 0 where
-  pub ending : flat.ending ≡ ending_of source.ending
-  pub output : flat.output ≡ source.output
-  pub read : flat.read ≡ 0
-
--- for every input and every bound on turns, the parts run as the program does
-pub record RunsAs (parts : Parts) (program : Program) : Type 0 where
-  pub same : (input : Input) (turns : ℕ) → IsSameRun (flat_run parts input turns) (first_run program)
-
--- The relation
 
 -- the address of an int's area
 abbrev pub address_of : Names → Memory → Name → ℕ

@@ -1,7 +1,6 @@
 -- What the small readers take is spelled so, and what is spelled so they read.
 use Rattle.std.proofs.Common.{◌≡◌, ℕ, zero, suc, ◌+◌, ◌<◌, ◌≤◌, Bool, true, false, cond, not, ◌&&◌, List, [], ◌∷◌, ◌++◌, length, map, Option, Some, None, option_map, is_some, refl, sym, ap, subst, ◌∙◌, append_assoc, arith, bytes_eq, codes, decimal}
 use Rattle.std.specs.Prelude.{nat_lt}
-use Rattle.std.specs.List.{AllZip}
 use Rattle.std.proofs.lemmas.Bool.{and_parts, and_from, ltb-true, lt-ltb, not-true, false_from_ne_true, true≢false}
 use Rattle.first_language.specs.declared.scope.Sort.{Sort}
 use Rattle.first_language.specs.declared.scope.Sort.TheVariants as sorts
@@ -9,17 +8,10 @@ use Rattle.first_language.specs.Tree.{Name, Item}
 use Rattle.first_language.specs.Names.{is_name, IsName, is_reserved, reserved}
 use Rattle.first_language.specs.Text.{Token}
 use Rattle.first_language.specs.Language.{Piece, Bytes, Star, Is, IsInt, IsPointer, IsNew, greatest_number, most_names}
-use Rattle.first_language.specs.Reading.{◌>>=◌, Declared, scope_of, sort_in, by_sort, either, number_in, after, number_at, new_name_at, declared_at, int_at, pointer_at}
+use Rattle.first_language.specs.Reading.{◌>>=◌, Declared, scope_of, sort_in, by_sort, either, number_in, after, number_at, new_name_at, declared_at, int_at, pointer_at, Spells, Takes}
 use Rattle.first_language.proofs.Options.{bind_some, guarded, some_is, none_is_some}
 use Rattle.first_language.proofs.Numerals.{number_read, number_again, name_is_no_number}
 use Rattle.first_language.proofs.Scopes.{same_bytes, equal_bytes, IsOrderly, sort_is_declared, int_is_known, pointer_is_known, unknown_is_new, new_is_unknown}
-
-abbrev pub Spells : List Token → List Piece → Type 0
-Spells tokens pieces = AllZip Is tokens pieces
-
--- the tokens begin with these pieces, and the rest of them is behind that
-abbrev pub Takes : List Token → List Piece → List Token → Type 0
-Takes tokens pieces rest = (more : List Piece) → Spells rest more → Spells tokens (pieces ++ more)
 
 pub Takes-then : (a b c : List Token) (xs ys : List Piece) → Takes a xs b → Takes b ys c → Takes a (xs ++ ys) c
 Takes-then a b c xs ys t u more h = rw append_assoc (t (ys ++ more) (u more h))

@@ -2,6 +2,7 @@
 //! texts are in it, with which tree; what a tree does when it is run; and the parser.
 #![tactic(auto)]
 
+mod lexing;
 mod names;
 mod numbers;
 mod parsing;

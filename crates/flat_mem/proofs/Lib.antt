@@ -3,3 +3,4 @@ pub mod AreaLaws
 pub mod FrameLaws
 pub mod MemoryCode
 pub mod Keeps
+pub mod SoundLaws

@@ -4,6 +4,7 @@
 
 ghost use Rattle.std.specs.Prelude.{◌≡◌};
 
+mod areas;
 mod memory;
 mod numbers;
 

@@ -36,7 +36,8 @@ pub struct Flat {
     marks: Vec<Mark>,
     // the addresses of the areas of all live frames
     addresses: Vec<u64>,
-    // what the live frames were charged together
+    // where the next frame begins, and what the live frames were charged together
+    top: u64,
     charge: u64,
     heap_top: u64,
     heap_charge: u64,
@@ -51,7 +52,7 @@ impl Model for Flat {
 
     ghost view = { λ s. memory_seen s.bytes.items s.bounds s.marks.items s.addresses.items s.heap_top s.heap_charge };
 
-    ghost invariant = { λ s. IsKept s.bytes.items s.bounds s.marks.items s.addresses.items s.charge s.heap_top s.heap_charge (vec_capacity s.marks) (vec_capacity s.addresses) };
+    ghost invariant = { λ s. IsKept s.bytes.items s.bounds s.marks.items s.addresses.items s.top s.charge s.heap_top s.heap_charge (vec_capacity s.marks) (vec_capacity s.addresses) };
 }
 
 impl Flat {

@@ -14,8 +14,8 @@ true_false e = absurd (cc (e))
 pub by_names : (P : Bool → Type 0) (a b : Name) → (a ≡ b → P true) → (a ≢ b → P false) → P (bytes_eq a b)
 by_names P a b same other =
     elim (bytes_eq a b) as (λ t. bytes_eq a b ≡ t → P t) [
-      true ↦ λ e. same ((bytes_eq-Decides a b).0 e)
-    | false ↦ λ e. other (λ h. true_false (sym ((bytes_eq-Decides a b).1 h) ∙ e))
+      | true ↦ λ e. same ((bytes_eq-Decides a b).0 e)
+      | false ↦ λ e. other (λ h. true_false (sym ((bytes_eq-Decides a b).1 h) ∙ e))
     ] refl
 
 -- two names at one number are one name

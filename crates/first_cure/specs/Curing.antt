@@ -3,6 +3,7 @@
 -- Each int has an area of four bytes in the frame of function 0, in the order of declaration. Each pointer has a slot:
 -- 0 where it is null, and else the address of the area of the int that it points to. Slots 0 and 1 are working slots.
 use Rattle.std.specs.Prelude.{ℕ, suc, ◌+◌, ◌*◌, ◌<◌, ◌≤◌, ◌≡◌, List, [], ◌∷◌, ◌++◌, length, replicate, flat_map, true, false, bytes_eq, if◌then◌else◌}
+use Rattle.cc_base.specs.declared.place.Place.{Place}
 use Rattle.cc_base.specs.declared.fault.Check.TheVariants.{Null}
 use Rattle.first_language.specs.Tree.{Name, Value, Number, Variable, Target, Item, DeclareInt, DeclarePointer, Assign, Point, Clear, Store, Put, Program}
 use Rattle.first_language.specs.Language.{most_names}
@@ -56,6 +57,7 @@ abbrev pub index_of : List Name → Name → ℕ
 index_of [] name = 0
 index_of (first ∷ names) name = if bytes_eq first name then 0 else suc (index_of names name)
 
+-- the name is in the list
 abbrev pub IsListed : List Name → Name → Type 0
 IsListed names name = index_of names name < length names
 
@@ -67,11 +69,15 @@ area_of names x = index_of names.ints x
 abbrev pub slot_of : Names → Name → ℕ
 slot_of names p = index_of names.pointers p + 2
 
+-- a pointer is used only after the check that it isn't null, which stops the run at the pointer's `*`
+abbrev pub null_check : ℕ → Place → List Instr
+null_check slot star = instr.Check Null star slot ∷ []
+
 -- the value comes into slot 0
 abbrev pub value_code : Names → Value → List Instr
 value_code names (Number n) = instr.Const 0 n ∷ []
 value_code names (Variable x) = instr.Frame 1 (area_of names x) ∷ instr.Ld 4 0 1 ∷ []
-value_code names (Target p star) = instr.Check Null star (slot_of names p) ∷ instr.Ld 4 0 (slot_of names p) ∷ []
+value_code names (Target p star) = null_check (slot_of names p) star ++ instr.Ld 4 0 (slot_of names p) ∷ []
 
 abbrev pub item_code : Names → Item → List Instr
 item_code names (DeclareInt x) = []
@@ -79,7 +85,7 @@ item_code names (DeclarePointer p) = []
 item_code names (Assign x n) = instr.Const 0 n ∷ instr.Frame 1 (area_of names x) ∷ instr.St 4 1 0 ∷ []
 item_code names (Point p x) = instr.Frame (slot_of names p) (area_of names x) ∷ []
 item_code names (Clear p) = instr.Const (slot_of names p) 0 ∷ []
-item_code names (Store p n star) = instr.Check Null star (slot_of names p) ∷ instr.Const 0 n ∷ instr.St 4 (slot_of names p) 0 ∷ []
+item_code names (Store p n star) = null_check (slot_of names p) star ++ instr.Const 0 n ∷ instr.St 4 (slot_of names p) 0 ∷ []
 item_code names (Put value) = value_code names value ++ instr.Put 0 ∷ []
 
 -- the items in order, and then the exit with the returned value

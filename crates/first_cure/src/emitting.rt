@@ -1,10 +1,10 @@
-ghost use Rattle.std.specs.Prelude.{◌≡◌, ◌++◌, OnOk};
+ghost use Rattle.std.specs.Prelude.{◌≡◌, ◌++◌, IfOk, OnOk};
 ghost use Rattle.first_language.specs.Views.{value_of, item_of, items_of};
-ghost use Rattle.first_cure.specs.Curing.{AreFew, value_code, item_code, body_code};
+ghost use Rattle.first_cure.specs.Curing.{AreFew, slot_of, null_check, value_code, item_code, body_code};
 ghost use Rattle.first_cure.specs.Views.{view_of};
 
 use crate::names::Names;
-use cc_base::{Check, NoMemory};
+use cc_base::{Check, NoMemory, Place};
 use cured_code::Instr;
 use first_language::{Item, Value};
 
@@ -16,6 +16,17 @@ const ADDRESS: u32 = 1;
 
 /// How many bytes an int has.
 pub const INT_BYTES: u64 = 4;
+
+/// Adds the check that a pointer isn't null, at its `*`, and answers the pointer's slot.
+fn add_check(code: &mut Vec<Instr>, names: &Names, p: &[u8], star: Place) -> Result<u32, NoMemory>
+    requires few { AreFew (view_of names.now) }
+    ensures check { OnOk result (code.new.items ≡ code.old.items ++ null_check (slot_of (view_of names.now) p.now) star) }
+    ensures slot { IfOk result (λ slot. slot ≡ slot_of (view_of names.now) p.now) }
+{
+    let slot = names.slot_of(p);
+    code.push(Instr::Check(Check::Null, star, slot))?;
+    Ok(slot)
+}
 
 /// Adds the code that brings a value into its working slot.
 fn add_value(code: &mut Vec<Instr>, names: &Names, value: Value) -> Result<(), NoMemory>
@@ -29,8 +40,7 @@ fn add_value(code: &mut Vec<Instr>, names: &Names, value: Value) -> Result<(), N
             code.push(Instr::Ld(INT_BYTES, VALUE, ADDRESS))?;
         }
         Value::Target(p, star) => {
-            let slot = names.slot_of(p);
-            code.push(Instr::Check(Check::Null, star, slot))?;
+            let slot = add_check(code, names, p, star)?;
             code.push(Instr::Ld(INT_BYTES, VALUE, slot))?;
         }
     }
@@ -52,8 +62,7 @@ fn add_item(code: &mut Vec<Instr>, names: &Names, item: Item) -> Result<(), NoMe
         Item::Point(p, x) => code.push(Instr::Frame(names.slot_of(p), names.area_of(x)))?,
         Item::Clear(p) => code.push(Instr::Const(names.slot_of(p), 0))?,
         Item::Store(p, n, star) => {
-            let slot = names.slot_of(p);
-            code.push(Instr::Check(Check::Null, star, slot))?;
+            let slot = add_check(code, names, p, star)?;
             code.push(Instr::Const(VALUE, u64::from(n)))?;
             code.push(Instr::St(INT_BYTES, slot, VALUE))?;
         }

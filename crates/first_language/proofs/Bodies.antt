@@ -3,15 +3,18 @@ use Rattle.std.proofs.Common.{◌≡◌, ℕ, zero, suc, ◌+◌, ◌<◌, ◌�
 use Rattle.std.specs.List.{filter}
 use Rattle.std.proofs.lemmas.List.{append-nil, length-append}
 use Rattle.std.proofs.lemmas.List.Concat.{flat_map-append}
+use Rattle.cc_base.specs.declared.fault.Fault.{Fault}
+use Rattle.cc_base.specs.declared.fault.Fault.TheVariants.{Refused, TooLarge, NoMemory}
 use Rattle.first_language.specs.declared.scope.Sort.{Sort}
 use Rattle.first_language.specs.Tree.{Name, Value, Item, DeclareInt, DeclarePointer, Assign, Point, Clear, Store, Put, Program}
 use Rattle.first_language.specs.Names.{is_name, IsName, is_reserved, reserved}
-use Rattle.first_language.specs.Text.{Token}
-use Rattle.first_language.specs.Language.{Piece, Bytes, Star, Is, IsValueAfter, IsItemAfter, AreItemsAfter, IsWellDeclared, is_declaration, spelling_of_value, spelling_of_item, spelling_of_head, spelling_of_return, spelling_of, most_names}
+use Rattle.first_language.specs.Text.{Token, first_place, IsCut}
+use Rattle.first_language.specs.Language.{Piece, Bytes, Star, Is, IsValueAfter, IsItemAfter, AreItemsAfter, IsWellDeclared, is_declaration, spelling_of_value, spelling_of_item, spelling_of_head, spelling_of_return, spelling_of, most_names, IsProgram, IsRefusal, IsRefusalOf}
 use Rattle.first_language.specs.Reading.{◌>>=◌, Declared, scope_of, sort_in, after, declared_at, assignment_at, statement_at, item_at, header_at, ending_at, Spells, Takes, IsBody, Continues, ItemsAreRead, IsSpelledBy}
 use Rattle.first_language.proofs.Options.{some_is, none_is_some}
 use Rattle.first_language.proofs.Scopes.{IsOrderly, nothing_is_orderly, orderly_more, after_more, sort_is_declared, scope_of-append, length-scope_of, declaring}
 use Rattle.first_language.proofs.Steps.{Takes-then, Reads, Passes, after_again}
+use Rattle.first_language.proofs.Cuts.{cut_is_one}
 use Rattle.first_language.proofs.Items.{Taken, HasRoom, item_takes, item_is_read, head_takes, head_is_read, IsReturn, return_takes, return_is_read, at_token}
 
 -- ---- room in the scope
@@ -52,6 +55,7 @@ still_few before item few room = cases (is_declaration item) refl
   where
     sizes : length (scope_of (before ++ item ∷ [])) ≡ length (scope_of before) + length (scope_of (item ∷ []))
     sizes = ap length (scope_of-append before (item ∷ [])) ∙ length-append (scope_of before) (scope_of (item ∷ []))
+
     cases : (b : Bool) → is_declaration item ≡ b → length (scope_of (before ++ item ∷ [])) ≤ most_names
     cases true e = omega (arith, sizes, counted_once item, room e)
     cases false e = omega (arith, sizes, counted_none item e)
@@ -125,7 +129,7 @@ pub record GoesOn (before : List Item) (item : Item) (behind : List Token) (item
 first_is_read : (before : List Item) (tokens : List Token) (item : Item) (later : List Item) (value : Value) → IsOrderly before → IsBody before tokens (item ∷ later) value → Reads (item_at (scope_of before) tokens) item (flat_map spelling_of_item later ++ spelling_of_return value)
 first_is_read before tokens item later value ok body =
     item_is_read before item tokens (flat_map spelling_of_item later ++ spelling_of_return value) ok body.allowed.0 (has_room before item later body.few)
-      (subst (λ (l : List Piece). Spells tokens l) (append_assoc (spelling_of_item item) (flat_map spelling_of_item later) (spelling_of_return value)) body.spelled)
+    (subst (λ (l : List Piece). Spells tokens l) (append_assoc (spelling_of_item item) (flat_map spelling_of_item later) (spelling_of_return value)) body.spelled)
 
 behind_first : (before : List Item) (tokens behind : List Token) (item : Item) (later : List Item) (value : Value) → IsBody before tokens (item ∷ later) value → Spells behind (flat_map spelling_of_item later ++ spelling_of_return value) → IsBody (before ++ item ∷ []) behind later value
 behind_first before tokens behind item later value body spelled =
@@ -143,7 +147,7 @@ goes_on before tokens behind item (first ∷ later) value ok read body =
     let r = first_is_read before tokens first later value ok body in
     let pair = some_is (first, r.behind) (item, behind) (sym r.is ∙ read) in
     subst (λ (p : Item × List Token). GoesOn before p.0 p.1 (first ∷ later) value) pair
-      (record { later = later; is = refl; body = behind_first before tokens r.behind first later value body r.spelled })
+    (record { later = later; is = refl; body = behind_first before tokens r.behind first later value body r.spelled })
 
 -- where no item is read, the value is returned
 pub nothing_more : (before : List Item) (tokens : List Token) (items : List Item) (value : Value) → IsOrderly before → item_at (scope_of before) tokens ≡ None → IsBody before tokens items value → (items ≡ []) × (ending_at (scope_of before) tokens ≡ Some value)
@@ -207,6 +211,7 @@ reads_on tokens items scope rest behind item next so_far read grown =
         let one : flat_map spelling_of_item (item ∷ []) ≡ spelling_of_item item = append-nil (spelling_of_item item) in
         sym (append_assoc (flat_map spelling_of_item items) (spelling_of_item item) more)
         ∙ ap (λ (l : List Piece). l ++ more) (sym (flat_map-append spelling_of_item items (item ∷ []) ∙ ap (λ (l : List Piece). flat_map spelling_of_item items ++ l) one))
+
     one_more : (all : List Item) (value : Value) → Continues items rest all value → IsOrderly items → item_at (scope_of items) rest ≡ Some (item, behind) → Continues (items ++ item ∷ []) behind all value
     one_more all value c ok e =
         let g = goes_on items rest behind item c.more value ok e c.body in
@@ -244,12 +249,16 @@ pub record HasBody (tokens : List Token) (program : Program) : Type 0 where
 pub body_from_program : (tokens : List Token) (program : Program) → IsSpelledBy tokens program → HasBody tokens program
 body_from_program tokens program is =
     let p = head_is_read tokens (flat_map spelling_of_item program.items ++ spelling_of_return program.returned) (subst (λ (l : List Piece). Spells tokens l) (regrouped_program program) is.spelled) in
-    record { rest = p.behind; headed = p.is; body = record {
-      spelled = p.spelled;
-      allowed = is.declared.items;
-      returned = is.declared.returned;
-      few = subst (λ (n : ℕ). n ≤ most_names) (sym (length-scope_of program.items)) is.declared.few;
-    } }
+    record {
+      rest = p.behind;
+      headed = p.is;
+      body = record {
+        spelled = p.spelled;
+        allowed = is.declared.items;
+        returned = is.declared.returned;
+        few = subst (λ (n : ℕ). n ≤ most_names) (sym (length-scope_of program.items)) is.declared.few;
+      };
+    }
 
 pub headless_is_no_program : (tokens : List Token) (program : Program) → header_at tokens ≡ None → IsSpelledBy tokens program → ⊥
 headless_is_no_program tokens program none is = let b = body_from_program tokens program is in none_is_some b.rest (sym none ∙ b.headed)
@@ -266,3 +275,36 @@ program_is_one tokens p q h k =
     let same_rest = some_is c.rest b.rest (sym c.headed ∙ b.headed) in
     let s = body_is_one [] b.rest p.items q.items p.returned q.returned nothing_is_orderly b.body (subst (λ (l : List Token). IsBody [] l q.items q.returned) same_rest c.body) in
     λ i. record { items = s.items i; returned = s.value i }
+
+-- ---- texts
+
+pub text_program : (text : List ℕ) (tokens : List Token) (program : Program) → IsCut first_place text tokens → IsSpelledBy tokens program → IsProgram text program
+text_program text tokens program cut is = record { tokens = tokens; cut = cut; spelled = is.spelled; declared = is.declared }
+
+-- a program of the text is spelled by the tokens that the text is cut into
+pub spelled_by_cut : (text : List ℕ) (tokens : List Token) (program : Program) → IsCut first_place text tokens → IsProgram text program → IsSpelledBy tokens program
+spelled_by_cut text tokens program cut is =
+    let same = cut_is_one first_place text is.tokens tokens is.cut cut in
+    record { spelled = subst (λ (l : List Token). Spells l (spelling_of program)) same is.spelled; declared = is.declared }
+
+pub text_refusal : (text : List ℕ) (tokens : List Token) (fault : Fault) → IsCut first_place text tokens → IsRefusalOf (IsSpelledBy tokens) fault → IsRefusal text fault
+text_refusal text tokens (Refused place rule) cut h = (h.0, h.1, λ program is. h.2 program (spelled_by_cut text tokens program cut is))
+text_refusal text tokens (TooLarge place limit) cut h = h
+text_refusal text tokens NoMemory cut h = tt
+
+pub text_program_is_one : (text : List ℕ) (p q : Program) → IsProgram text p → IsProgram text q → p ≡ q
+text_program_is_one text p q h k = program_is_one h.tokens p q (record { spelled = h.spelled; declared = h.declared }) (spelled_by_cut text h.tokens q h.cut k)
+
+-- ---- the code's loop and programs
+
+pub read_takes_token : (tokens : List Token) (items : List Item) (scope : List Declared) (rest behind : List Token) (item : Item) → ItemsAreRead tokens items scope rest → item_at scope rest ≡ Some (item, behind) → length behind < length rest
+read_takes_token tokens items scope rest behind item so_far read = item_takes_token items rest behind item (ap (λ (s : List Declared). item_at s rest) (sym so_far.scope_is) ∙ read)
+
+pub headless_refused : (tokens : List Token) → None ≡ header_at tokens → (program : Program) → IsSpelledBy tokens program → ⊥
+headless_refused tokens none program is = headless_is_no_program tokens program (sym none) is
+
+pub bodiless_refused : (tokens rest behind : List Token) (items : List Item) (scope : List Declared) → Some rest ≡ header_at tokens → ItemsAreRead rest items scope behind → item_at scope behind ≡ None → None ≡ ending_at scope behind → (program : Program) → IsSpelledBy tokens program → ⊥
+bodiless_refused tokens rest behind items scope headed read none unended program is = bodiless_is_no_program tokens rest program (sym headed) (no_body rest items scope behind read none (sym unended)) is
+
+pub program_accepted : (tokens rest behind : List Token) (items : List Item) (scope : List Declared) (value : Value) → Some rest ≡ header_at tokens → ItemsAreRead rest items scope behind → Some value ≡ ending_at scope behind → IsSpelledBy tokens (record { items = items; returned = value })
+program_accepted tokens rest behind items scope value headed read ended = program_from_body tokens rest (record { items = items; returned = value }) (sym headed) (whole_body rest items scope behind value read (sym ended))

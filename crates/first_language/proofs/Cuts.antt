@@ -96,6 +96,7 @@ place_behind-token place bytes rest (inl w) = along place bytes w.each
       where
         no_line_feed : (c : ℕ) → is_word_byte c ≡ true → eqb c 10 ≡ false
         no_line_feed c h = grind (arith, nat_tests)
+
     along : (place : Place) (bytes : List ℕ) → list_all is_word_byte bytes ≡ true → place_behind place bytes ≡ record place { col = place.col + length bytes }
     along place [] h = ap (λ (n : ℕ). record place { col = n }) (omega arith)
     along place (c ∷ cs) h =

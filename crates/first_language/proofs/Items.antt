@@ -165,7 +165,7 @@ store_takes items token tokens rest item is e =
     let p = pointer_takes items tokens a.0.1 a.0.0 a.1 in
     let n = number_takes b.0 c.0.1 c.0.0 c.1 in
     taken_as items (token ∷ tokens) statement_of (Store a.0.0 c.0.0 token.place) item c.0.1 rest c.2
-      (record { takes = λ more h. ((is, refl), p.0 (Bytes (codes "=") ∷ Bytes (decimal c.0.0) ∷ more) (after_takes (codes "=") a.0.1 b.0 b.1 (Bytes (decimal c.0.0) ∷ more) (n.0 more h))); allowed = (p.1, n.1); room = no_room_needed items })
+    (record { takes = λ more h. ((is, refl), p.0 (Bytes (codes "=") ∷ Bytes (decimal c.0.0) ∷ more) (after_takes (codes "=") a.0.1 b.0 b.1 (Bytes (decimal c.0.0) ∷ more) (n.0 more h))); allowed = (p.1, n.1); room = no_room_needed items })
 
 -- behind a name and a `=`
 pub record Begun (tokens : List Token) (name : Name) (rest : List Token) : Type 0 where
@@ -177,14 +177,14 @@ point_takes items tokens middle inner rest p item begun is amp e =
     let b = bind_some (int_at (scope_of items) inner) (λ x. Some (Point p x.0, x.1)) (item, rest) e in
     let t = int_takes items inner b.0.1 b.0.0 b.1 in
     taken_as items tokens statement_of (Point p b.0.0) item b.0.1 rest b.2
-      (record { takes = λ more h. begun.takes _ (after_takes (codes "&") middle inner amp _ (t.0 more h)); allowed = (is, t.1); room = no_room_needed items })
+    (record { takes = λ more h. begun.takes _ (after_takes (codes "&") middle inner amp _ (t.0 more h)); allowed = (is, t.1); room = no_room_needed items })
 
 clear_takes : (items : List Item) (tokens middle rest : List Token) (p : Name) (item : Item) → Begun tokens p middle → IsPointer items p → clear_at p middle ≡ Some (item, rest) → Taken items tokens statement_of item rest
 unfolding clear_at
 clear_takes items tokens middle rest p item begun is e =
     let b = bind_some (after (codes "0") middle) (λ rest. Some (Clear p, rest)) (item, rest) e in
     taken_as items tokens statement_of (Clear p) item b.0 rest b.2
-      (record { takes = λ more h. begun.takes _ (after_takes (codes "0") middle b.0 b.1 _ h); allowed = is; room = no_room_needed items })
+    (record { takes = λ more h. begun.takes _ (after_takes (codes "0") middle b.0 b.1 _ h); allowed = is; room = no_room_needed items })
 
 address_takes : (items : List Item) (tokens middle rest : List Token) (p : Name) (item : Item) → Begun tokens p middle → IsPointer items p → address_at (scope_of items) p middle ≡ Some (item, rest) → Taken items tokens statement_of item rest
 unfolding address_at
@@ -200,7 +200,7 @@ assigned_takes items tokens middle rest x item begun is e =
     let b = bind_some (number_at middle) (λ n. Some (Assign x n.0, n.1)) (item, rest) e in
     let n = number_takes middle b.0.1 b.0.0 b.1 in
     taken_as items tokens statement_of (Assign x b.0.0) item b.0.1 rest b.2
-      (record { takes = λ more h. begun.takes _ (n.0 more h); allowed = (is, n.1); room = no_room_needed items })
+    (record { takes = λ more h. begun.takes _ (n.0 more h); allowed = (is, n.1); room = no_room_needed items })
 
 assignment_takes : (items : List Item) (tokens rest : List Token) (item : Item) → assignment_at (scope_of items) tokens ≡ Some (item, rest) → Taken items tokens statement_of item rest
 unfolding assignment_at
@@ -226,12 +226,12 @@ statement_takes items (token ∷ tokens) rest item e =
     elim (chosen (bytes_eq token.bytes (codes "int")) (declaration_at scope tokens) second (Some (item, rest)) e) [
       | inl h ↦ declaration_takes items token tokens rest item (same_bytes token.bytes (codes "int") h.0) h.1
       | inr h ↦ elim (chosen (bytes_eq token.bytes (codes "putchar")) (output_at scope tokens) third (Some (item, rest)) h.1) [
-          | inl k ↦ output_takes items token tokens rest item (same_bytes token.bytes (codes "putchar") k.0) k.1
-          | inr k ↦ elim (chosen (bytes_eq token.bytes (codes "*")) (store_at scope token.place tokens) last (Some (item, rest)) k.1) [
-              | inl l ↦ store_takes items token tokens rest item (same_bytes token.bytes (codes "*") l.0) l.1
-              | inr l ↦ assignment_takes items (token ∷ tokens) rest item l.1
-            ]
+        | inl k ↦ output_takes items token tokens rest item (same_bytes token.bytes (codes "putchar") k.0) k.1
+        | inr k ↦ elim (chosen (bytes_eq token.bytes (codes "*")) (store_at scope token.place tokens) last (Some (item, rest)) k.1) [
+          | inl l ↦ store_takes items token tokens rest item (same_bytes token.bytes (codes "*") l.0) l.1
+          | inr l ↦ assignment_takes items (token ∷ tokens) rest item l.1
         ]
+      ]
     ]
 
 -- ---- whole items
@@ -253,7 +253,7 @@ item_takes items tokens rest item e =
     let t = statement_takes items tokens a.0.1 a.0.0 a.1 in
     let both = Takes-then tokens a.0.1 b.0 (statement_of a.0.0) (Bytes (codes ";") ∷ []) t.takes (after_takes (codes ";") a.0.1 b.0 b.1) in
     taken_as items tokens spelling_of_item a.0.0 item b.0 rest b.2
-      (record { takes = subst (λ (l : List Piece). Takes tokens l b.0) (sym (spelling-statement a.0.0)) both; allowed = t.allowed; room = t.room })
+    (record { takes = subst (λ (l : List Piece). Takes tokens l b.0) (sym (spelling-statement a.0.0)) both; allowed = t.allowed; room = t.room })
 
 -- ---- what is spelled as an item is read
 
@@ -347,7 +347,7 @@ head_takes tokens rest e more h =
     let d = bind_some (after (codes "void") c.0) (λ r. after (codes ")") r >>= λ r. after (codes "{") r) rest c.2 in
     let f = bind_some (after (codes ")") d.0) (λ r. after (codes "{") r) rest d.2 in
     after_takes (codes "int") tokens a.0 a.1 _ (after_takes (codes "main") a.0 b.0 b.1 _ (after_takes (codes "(") b.0 c.0 c.1 _
-      (after_takes (codes "void") c.0 d.0 d.1 _ (after_takes (codes ")") d.0 f.0 f.1 _ (after_takes (codes "{") f.0 rest f.2 more h)))))
+    (after_takes (codes "void") c.0 d.0 d.1 _ (after_takes (codes ")") d.0 f.0 f.1 _ (after_takes (codes "{") f.0 rest f.2 more h)))))
 
 pub head_is_read : (tokens : List Token) (more : List Piece) → Spells tokens (spelling_of_head ++ more) → Passes (header_at tokens) more
 unfolding header_at
@@ -380,7 +380,7 @@ return_takes items tokens value e =
     let v = value_takes items a.0 b.0.1 b.0.0 b.1 in
     let tail : Spells b.0.1 (Bytes (codes ";") ∷ Bytes (codes "}") ∷ []) = after_takes (codes ";") b.0.1 c.0 c.1 (Bytes (codes "}") ∷ []) (after_takes (codes "}") c.0 d.0 d.1 [] (nothing_left d.0 f.0 f.1)) in
     subst (λ (v : Value). IsReturn items tokens v) (some_is b.0.0 value f.2)
-      (record { spelled = after_takes (codes "return") tokens a.0 a.1 (spelling_of_value b.0.0 ++ Bytes (codes ";") ∷ Bytes (codes "}") ∷ []) (v.takes (Bytes (codes ";") ∷ Bytes (codes "}") ∷ []) tail); allowed = v.allowed })
+    (record { spelled = after_takes (codes "return") tokens a.0 a.1 (spelling_of_value b.0.0 ++ Bytes (codes ";") ∷ Bytes (codes "}") ∷ []) (v.takes (Bytes (codes ";") ∷ Bytes (codes "}") ∷ []) tail); allowed = v.allowed })
 
 nothing_read : (tokens : List Token) → Spells tokens [] → nothing_at tokens ≡ Some tt
 nothing_read [] h = refl

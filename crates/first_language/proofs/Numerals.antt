@@ -80,6 +80,7 @@ number_read n (c ∷ d ∷ cs) e =
     guarded_not : {A : Type 0} (b : Bool) (o : Option A) (y : A) → cond b None o ≡ Some y → (b ≡ false) × (o ≡ Some y)
     guarded_not true o y e = absurd cc
     guarded_not false o y e = (refl, e)
+
     apart : (c : ℕ) → eqb c 48 ≡ false → c ≡ 48 → ⊥
     apart c h e = grind (arith, nat_tests)
 

@@ -148,23 +148,25 @@ orderly_more items item ok allowed = record { named = named; single = single }
   where
     new : (name : Name) (sort : Sort) → item ≡ declaring sort name → IsNew items name
     new name sort e = declared_after items name sort (subst (λ (i : Item). IsItemAfter items i) e allowed)
+
     named : (name : Name) (sort : Sort) → Contains (items ++ item ∷ []) (declaring sort name) → IsName name
     named name sort h =
         elim (Contains-push_cases items item (declaring sort name) h) [
           | inl old ↦ ok.named name sort old
           | inr e ↦ (new name sort e).named
         ]
+
     single : (name : Name) → IsInt (items ++ item ∷ []) name → IsPointer (items ++ item ∷ []) name → ⊥
     single name h k =
         elim (Contains-push_cases items item (DeclareInt name) h) [
           | inl old_int ↦ elim (Contains-push_cases items item (DeclarePointer name) k) [
-              | inl old ↦ ok.single name old_int old
-              | inr e ↦ (new name sorts.Pointer e).no_int old_int
-            ]
+            | inl old ↦ ok.single name old_int old
+            | inr e ↦ (new name sorts.Pointer e).no_int old_int
+          ]
           | inr e ↦ elim (Contains-push_cases items item (DeclarePointer name) k) [
-              | inl old ↦ (new name sorts.Int e).no_pointer old
-              | inr f ↦ two (sym e ∙ f)
-            ]
+            | inl old ↦ (new name sorts.Int e).no_pointer old
+            | inr f ↦ two (sym e ∙ f)
+          ]
         ]
       where
         two : DeclareInt name ≡ DeclarePointer name → ⊥

@@ -22,9 +22,15 @@ fn place_after(place: Place, byte: u8) -> Place
     ensures { result ≡ place_after place byte }
 {
     if byte == b'\n' {
-        Place { line: place.line + 1, col: 1 }
+        Place {
+            line: place.line + 1,
+            col: 1,
+        }
     } else {
-        Place { line: place.line, col: place.col + 1 }
+        Place {
+            line: place.line,
+            col: place.col + 1,
+        }
     }
 }
 

@@ -6,8 +6,13 @@ mod lexing;
 mod names;
 mod numbers;
 mod parsing;
+mod programs;
 mod scope;
 mod token;
 mod tree;
 
+pub use programs::{parse, text_is_one_program};
 pub use tree::{Item, Program, Value};
+
+#[cfg(test)]
+mod tests;

@@ -1,10 +1,9 @@
 // The sizes of areas, and making them in the bytes.
 
 ghost use Rattle.std.specs.Prelude.{◌≡◌, ◌+◌, ◌<◌, ◌≤◌, ◌^◌, ◌++◌, Some, None, length, nat_le, vec_capacity, vec_len, if◌then◌else◌};
-ghost use Rattle.flat_mem.specs.Placement.{area_size, areas_size, addresses, area_made, areas_made};
+ghost use Rattle.flat_mem.specs.Placement.{area_size, areas_size, addresses, first_word, area_made, areas_made};
 
-use crate::Area;
-use crate::numbers;
+use crate::{Area, numbers};
 
 // The size of the area with its first word.
 pub(crate) fn size_of(area: Area) -> u64
@@ -58,6 +57,13 @@ pub(crate) fn sizes_of(areas: &[Area]) -> u64
     size
 }
 
+// The area's first word.
+fn first_word_of(area: Area) -> u64
+    ensures { result ≡ first_word area }
+{
+    if area.tagged { area.bytes } else { 0 }
+}
+
 // Makes the area at `start`.
 pub(crate) fn make_area(bytes: &mut [u8], area: Area, start: u64)
     requires room { start + area_size area ≤ length bytes.old }
@@ -66,8 +72,7 @@ pub(crate) fn make_area(bytes: &mut [u8], area: Area, start: u64)
 {
     let start = start as usize;
     numbers::zero_at(bytes, start, size_of(area) as usize);
-    let first = if area.tagged { area.bytes } else { 0 };
-    numbers::store_at(bytes, start, 8, first);
+    numbers::store_at(bytes, start, 8, first_word_of(area));
 }
 
 // Makes the areas one after another from `start` on, and gives their end.

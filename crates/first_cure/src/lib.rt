@@ -6,3 +6,6 @@ mod emitting;
 mod names;
 
 pub use curing::cure;
+
+#[cfg(test)]
+mod tests;

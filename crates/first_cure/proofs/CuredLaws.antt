@@ -1,18 +1,17 @@
 -- What a program is cured to runs as the program does, and is in range.
-use Rattle.std.proofs.Common.{ℕ, ◌+◌, ◌*◌, ◌<◌, ◌≤◌, ◌≡◌, refl, List, [], ◌∷◌, length, Bool, true, Some, ap, ◌∙◌, sym, subst, arith, replicate}
+use Rattle.std.proofs.Common.{ℕ, ◌+◌, ◌*◌, ◌≤◌, ◌≡◌, refl, [], length, true, ap, ◌∙◌, sym, subst, arith}
 use Rattle.std.specs.Prelude.{slice_get}
-use Rattle.first_language.specs.Tree.{Item, Program}
+use Rattle.first_language.specs.Tree.{Program}
 use Rattle.first_language.specs.Language.{IsWellDeclared}
 use Rattle.first_language.specs.Meaning.{at_start, first_run}
 use Rattle.flat_mem.specs.Placement.{areas_size}
 use Rattle.flat_mem.specs.Memory.{fits}
 use Rattle.runs.specs.Input.{Input}
-use Rattle.cured_code.specs.declared.parts.Function.{Function}
 use Rattle.cured_code.specs.declared.parts.Parts.{Parts}
 use Rattle.cured_code.specs.FlatState.{State}
 use Rattle.cured_code.specs.FlatMachine.{areas_of, entry, run, started, run_of, first_state, finished, loaded_memory, frames_charge_limit}
 use Rattle.cured_code.proofs.StartLaws.{length-loaded, fits-start}
-use Rattle.first_cure.specs.Curing.{Names, ints_of, pointers_of, names_of, int_area, int_charge, body_code, IsCured}
+use Rattle.first_cure.specs.Curing.{ints_of, pointers_of, names_of, IsCured}
 use Rattle.first_cure.specs.SameRun.{IsSameRun, RunsAs}
 use Rattle.first_cure.proofs.NameLaws.{names-count}
 use Rattle.first_cure.proofs.DeclaredLaws.{program-uses}

@@ -1,10 +1,10 @@
 -- In a well-declared program the variables that are used are listed.
-use Rattle.std.proofs.Common.{ℕ, ◌≡◌, refl, List, [], ◌∷◌, ◌++◌, ◌∙◌, subst, append_assoc, append-nil}
+use Rattle.std.proofs.Common.{◌≡◌, refl, List, [], ◌∷◌, ◌++◌, ◌∙◌, subst, append_assoc, append-nil}
 use Rattle.std.specs.Prelude.{Contains}
 use Rattle.std.proofs.lemmas.List.Elements.{Contains-append_left}
-use Rattle.first_language.specs.Tree.{Name, Value, Number, Variable, Target, Item, DeclareInt, DeclarePointer, Assign, Point, Clear, Store, Put, Program}
+use Rattle.first_language.specs.Tree.{Value, Number, Variable, Target, Item, DeclareInt, DeclarePointer, Assign, Point, Clear, Store, Put, Program}
 use Rattle.first_language.specs.Language.{IsValueAfter, IsItemAfter, AreItemsAfter, IsWellDeclared}
-use Rattle.first_cure.specs.Curing.{Names, IsListed, ints_of, pointers_of, names_of}
+use Rattle.first_cure.specs.Curing.{names_of}
 use Rattle.first_cure.proofs.NameLaws.{int-listed, pointer-listed}
 use Rattle.first_cure.proofs.RunLaws.{UsesListed, ItemUsesListed, UseListed}
 

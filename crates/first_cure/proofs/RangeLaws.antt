@@ -1,18 +1,16 @@
 -- What a program is cured to is in range.
-use Rattle.std.proofs.Common.{ℕ, zero, suc, ◌+◌, ◌*◌, ◌<◌, ◌≤◌, ◌≡◌, refl, inl, inr, List, [], ◌∷◌, ◌++◌, length, Some, ap, ◌∙◌, sym, subst, arith, replicate}
-use Rattle.std.specs.Prelude.{slice_get, slice_index, All, EachIndex, IfSome, sum_by}
+use Rattle.std.proofs.Common.{ℕ, zero, suc, ◌+◌, ◌≤◌, ◌≡◌, refl, inl, inr, List, [], ◌∷◌, length, ap, ◌∙◌, sym, subst, arith, replicate}
+use Rattle.std.specs.Prelude.{slice_get, All, IfSome, sum_by}
 use Rattle.std.proofs.lemmas.List.{length-replicate}
 use Rattle.std.proofs.lemmas.List.Elements.{All-nil, All-cons, All-append}
-use Rattle.first_language.specs.Tree.{Name, Value, Number, Variable, Target, Item, DeclareInt, DeclarePointer, Assign, Point, Clear, Store, Put, Program}
+use Rattle.first_language.specs.Tree.{Value, Number, Variable, Target, Item, DeclareInt, DeclarePointer, Assign, Point, Clear, Store, Put, Program}
 use Rattle.first_language.specs.Language.{IsWellDeclared}
 use Rattle.cured_code.specs.declared.instr.Instr.{Instr}
 use Rattle.cured_code.specs.declared.parts.Sig.{Sig}
-use Rattle.cured_code.specs.declared.parts.GlobalLine.{GlobalLine}
-use Rattle.cured_code.specs.declared.parts.AreaLine.{AreaLine}
 use Rattle.cured_code.specs.declared.parts.Function.{Function}
 use Rattle.cured_code.specs.declared.parts.Parts.{Parts}
 use Rattle.cured_code.specs.Ranges.{IsInstrInRange, IsAccessSize, IsSigInRange, IsFunctionInRange, IsGlobalInRange, AreParentsEarlier, IsStartBare, IsBare, IsInRange, local_bytes_limit}
-use Rattle.first_cure.specs.Curing.{Names, ints_of, pointers_of, names_of, IsListed, int_area, value_code, item_code, body_code, IsCured}
+use Rattle.first_cure.specs.Curing.{Names, names_of, int_area, value_code, item_code, body_code, IsCured}
 use Rattle.first_cure.proofs.DeclaredLaws.{program-uses}
 use Rattle.first_cure.proofs.RunLaws.{UsesListed, ItemUsesListed, UseListed}
 use Rattle.first_cure.proofs.CuredLaws.{names-few}

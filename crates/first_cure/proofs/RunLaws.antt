@@ -1,24 +1,22 @@
 -- The simulation: the code of each value and item, and then what follows it, runs as the program does from there on.
-use Rattle.std.proofs.Common.{ℕ, ◌+◌, ◌<◌, ◌≤◌, ◌≡◌, ◌≢◌, ◌%◌, refl, List, [], ◌∷◌, ◌++◌, length, Bool, true, false, Option, Some, None, ap, ◌∙◌, sym, subst, arith, length-set, append_assoc, append-nil}
-use Rattle.std.specs.Prelude.{nat_le, slice_set, slice_index, ⊤}
+use Rattle.std.proofs.Common.{ℕ, ◌+◌, ◌<◌, ◌≤◌, ◌≡◌, ◌≢◌, ◌%◌, refl, List, [], ◌∷◌, ◌++◌, length, Option, Some, None, ap, ◌∙◌, sym, subst, arith, length-set, append_assoc, append-nil}
+use Rattle.std.specs.Prelude.{slice_set, ⊤}
 use Rattle.flat_mem.specs.Bytes.{number}
-use Rattle.std.proofs.lemmas.Bool.Decides.{nat_tests}
 use Rattle.std.proofs.lemmas.List.{get_or-set_same, get_or-set_other}
 use Rattle.cc_base.specs.declared.place.Place.{Place}
-use Rattle.cc_base.specs.declared.fault.Check.{Check}
 use Rattle.cc_base.specs.declared.fault.Check.TheVariants.{Null}
 use Rattle.first_language.specs.Tree.{Name, Value, Number, Variable, Target, Item, DeclareInt, DeclarePointer, Assign, Point, Clear, Store, Put}
 use Rattle.first_language.specs.Language.{greatest_number}
 use Rattle.first_language.specs.Meaning.{Outcome, Exited, Stopped, Variables, with_int, with_pointer, ends, puts, through, evaluated, run_from}
 use Rattle.runs.specs.Outcome.{Done, from}
 use Rattle.runs.specs.Control.{Goes, then_go}
-use Rattle.integers.specs.Words.{is_true_word, low_byte}
+use Rattle.integers.specs.Words.{low_byte}
 use Rattle.cured_code.proofs.RunLaws.{load-inside, store-inside, check-held, check-failed}
 use Rattle.cured_code.specs.declared.instr.Instr.{Instr}
 use Rattle.cured_code.specs.declared.instr.Instr.TheVariants as instr
-use Rattle.cured_code.specs.FlatState.{Stopped as FlatStopped, Ending as FlatEnding, Trap, State, Local, slot, with_slot, is_in_list, loaded, stored_at, put_out}
-use Rattle.cured_code.specs.FlatMachine.{Context, act, run, FlatOutcome, seen, finished}
-use Rattle.first_cure.specs.Curing.{Names, IsListed, area_of, slot_of, value_code, item_code, body_code}
+use Rattle.cured_code.specs.FlatState.{Local, slot, with_slot, loaded, stored_at, put_out}
+use Rattle.cured_code.specs.FlatMachine.{Context, act, run, FlatOutcome, finished}
+use Rattle.first_cure.specs.Curing.{Names, IsListed, slot_of, value_code, body_code}
 use Rattle.first_cure.specs.SameRun.{ending_of}
 use Rattle.first_cure.specs.Relation.{address_of, StandsForTarget, StandsFor}
 use Rattle.first_cure.proofs.StateLaws.{stands-worked, stands-loaded, stands-put, stands-stored, stands-pointed}

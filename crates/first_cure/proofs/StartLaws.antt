@@ -1,6 +1,6 @@
 -- The state with which cured code begins stands for the variables at the start.
-use Rattle.std.proofs.Common.{ℕ, zero, suc, ◌+◌, ◌*◌, ◌<◌, ◌≤◌, ◌≡◌, ◌≢◌, ◌⊎◌, inl, inr, refl, List, [], ◌∷◌, length, Bool, true, false, Some, ap, ◌∙◌, sym, subst, arith, replicate, ⊎_elim}
-use Rattle.std.specs.Prelude.{slice_get, slice_index, map}
+use Rattle.std.proofs.Common.{ℕ, zero, suc, ◌+◌, ◌*◌, ◌<◌, ◌≤◌, ◌≡◌, ◌≢◌, ◌⊎◌, inl, inr, refl, List, length, true, false, Some, ap, ◌∙◌, sym, subst, arith, replicate, ⊎_elim}
+use Rattle.std.specs.Prelude.{slice_get}
 use Rattle.std.proofs.lemmas.List.{get_or-replicate, length-replicate}
 use Rattle.first_language.specs.Tree.{Name}
 use Rattle.first_language.specs.Meaning.{at_start}
@@ -9,11 +9,11 @@ use Rattle.flat_mem.specs.Placement.{areas_size}
 use Rattle.flat_mem.specs.Memory.{fits}
 use Rattle.flat_mem.proofs.ByteLaws.{number-zeros}
 use Rattle.cured_code.specs.declared.parts.Function.{Function}
-use Rattle.cured_code.specs.FlatState.{State, Local, slot}
+use Rattle.cured_code.specs.FlatState.{State, Local}
 use Rattle.cured_code.specs.FlatMachine.{areas_of, entry}
 use Rattle.cured_code.proofs.StartLaws.{length-entry, frame_area-inside, frame_areas-apart, frame_area-zero}
-use Rattle.first_cure.specs.Curing.{Names, index_of, IsListed, area_of, slot_of, int_area}
-use Rattle.first_cure.specs.Relation.{address_of, AreLaidOut, StandsForTarget, StandsFor}
+use Rattle.first_cure.specs.Curing.{Names, IsListed, area_of, slot_of, int_area}
+use Rattle.first_cure.specs.Relation.{address_of, StandsFor}
 use Rattle.first_cure.proofs.NameLaws.{index-same}
 
 -- the areas of n ints

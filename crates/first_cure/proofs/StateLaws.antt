@@ -1,5 +1,5 @@
 -- What keeps a state standing for variables: one law for each kind of change.
-use Rattle.std.proofs.Common.{ℕ, ◌+◌, ◌<◌, ◌≤◌, ◌≡◌, ◌≢◌, ◌⊎◌, ◌^◌, refl, List, length, Option, Some, None, ap, ◌∙◌, sym, subst, arith, length-set}
+use Rattle.std.proofs.Common.{ℕ, ◌+◌, ◌<◌, ◌≤◌, ◌≡◌, ◌≢◌, ◌^◌, refl, List, length, Option, ap, ◌∙◌, sym, subst, arith, length-set}
 use Rattle.std.specs.Prelude.{if◌then◌else◌, slice_set, slice_index}
 use Rattle.std.proofs.lemmas.List.{get_or-set_same, get_or-set_other}
 use Rattle.first_language.specs.Tree.{Name}
@@ -7,8 +7,8 @@ use Rattle.first_language.specs.Language.{greatest_number}
 use Rattle.first_language.specs.Meaning.{Variables, with_int, with_pointer}
 use Rattle.flat_mem.specs.Bytes.{number, stored}
 use Rattle.flat_mem.proofs.ByteLaws.{length-stored, number-stored, number-stored_apart}
-use Rattle.cured_code.specs.FlatState.{State, Local, slot, with_slot, loaded, stored_at, put_out}
-use Rattle.first_cure.specs.Curing.{Names, index_of, IsListed, slot_of}
+use Rattle.cured_code.specs.FlatState.{Local, slot, with_slot, loaded, stored_at, put_out}
+use Rattle.first_cure.specs.Curing.{Names, IsListed, slot_of}
 use Rattle.first_cure.specs.Relation.{address_of, AreLaidOut, StandsForTarget, StandsFor}
 use Rattle.first_cure.proofs.NameLaws.{by_names, index-same}
 

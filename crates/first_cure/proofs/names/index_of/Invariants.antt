@@ -1,4 +1,4 @@
-use Rattle.std.proofs.Common.{◌≡◌, ◌≤◌, length, ℕ, ◌+◌, drop}
+use Rattle.std.proofs.Common.{◌≡◌, ◌+◌, drop}
 use Rattle.first_cure.specs.Curing.{index_of}
 use Rattle.first_cure.specs.Views.{bytes_of}
 use Rattle.first_cure.proofs.names.index_of.Given as goal

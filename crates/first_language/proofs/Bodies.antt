@@ -1,21 +1,20 @@
 -- The items of `main` one after another: what is read of them, and that nothing else could be read.
-use Rattle.std.proofs.Common.{◌≡◌, ℕ, zero, suc, ◌+◌, ◌<◌, ◌≤◌, Bool, true, false, List, [], ◌∷◌, ◌++◌, length, map, Option, Some, None, refl, sym, ap, subst, ◌∙◌, ◌⊎◌, inl, inr, append_assoc, arith, bytes_eq, codes, flat_map, decimal}
-use Rattle.std.specs.List.{filter}
+use Rattle.std.proofs.Common.{◌≡◌, ℕ, suc, ◌+◌, ◌<◌, ◌≤◌, Bool, true, false, List, [], ◌∷◌, ◌++◌, length, Option, Some, None, refl, sym, ap, subst, ◌∙◌, append_assoc, arith, codes, flat_map}
 use Rattle.std.proofs.lemmas.List.{append-nil, length-append}
 use Rattle.std.proofs.lemmas.List.Concat.{flat_map-append}
 use Rattle.cc_base.specs.declared.fault.Fault.{Fault}
 use Rattle.cc_base.specs.declared.fault.Fault.TheVariants.{Refused, TooLarge, NoMemory}
 use Rattle.first_language.specs.declared.scope.Sort.{Sort}
-use Rattle.first_language.specs.Tree.{Name, Value, Item, DeclareInt, DeclarePointer, Assign, Point, Clear, Store, Put, Program}
-use Rattle.first_language.specs.Names.{is_name, IsName, is_reserved, reserved}
+use Rattle.first_language.specs.Tree.{Value, Item, DeclareInt, DeclarePointer, Assign, Point, Clear, Store, Put, Program}
+use Rattle.first_language.specs.Names.{is_name, is_reserved, reserved}
 use Rattle.first_language.specs.Text.{Token, first_place, IsCut}
-use Rattle.first_language.specs.Language.{Piece, Bytes, Star, Is, IsValueAfter, IsItemAfter, AreItemsAfter, IsWellDeclared, is_declaration, spelling_of_value, spelling_of_item, spelling_of_head, spelling_of_return, spelling_of, most_names, IsProgram, IsRefusal, IsRefusalOf}
-use Rattle.first_language.specs.Reading.{◌>>=◌, Declared, scope_of, sort_in, after, declared_at, assignment_at, statement_at, item_at, header_at, ending_at, Spells, Takes, IsBody, Continues, ItemsAreRead, IsSpelledBy}
+use Rattle.first_language.specs.Language.{Piece, Bytes, IsValueAfter, AreItemsAfter, is_declaration, spelling_of_item, spelling_of_head, spelling_of_return, spelling_of, most_names, IsProgram, IsRefusal, IsRefusalOf}
+use Rattle.first_language.specs.Reading.{Declared, scope_of, sort_in, assignment_at, statement_at, item_at, header_at, ending_at, Spells, IsBody, Continues, ItemsAreRead, IsSpelledBy}
 use Rattle.first_language.proofs.Options.{some_is, none_is_some}
-use Rattle.first_language.proofs.Scopes.{IsOrderly, nothing_is_orderly, orderly_more, after_more, sort_is_declared, scope_of-append, length-scope_of, declaring}
-use Rattle.first_language.proofs.Steps.{Takes-then, Reads, Passes, after_again}
+use Rattle.first_language.proofs.Scopes.{IsOrderly, nothing_is_orderly, orderly_more, after_more, sort_is_declared, scope_of-append, length-scope_of}
+use Rattle.first_language.proofs.Steps.{Reads}
 use Rattle.first_language.proofs.Cuts.{cut_is_one}
-use Rattle.first_language.proofs.Items.{Taken, HasRoom, item_takes, item_is_read, head_takes, head_is_read, IsReturn, return_takes, return_is_read, at_token}
+use Rattle.first_language.proofs.Items.{HasRoom, item_takes, item_is_read, head_takes, head_is_read, return_takes, return_is_read, at_token}
 
 -- ---- room in the scope
 

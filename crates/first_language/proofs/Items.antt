@@ -1,17 +1,16 @@
 -- What is read as an item is spelled so and may stand there, and each item that may stand there is read.
-use Rattle.std.proofs.Common.{◌≡◌, ℕ, zero, suc, ◌+◌, ◌<◌, ◌≤◌, Bool, true, false, cond, List, [], ◌∷◌, ◌++◌, length, Option, Some, None, refl, sym, ap, subst, ◌∙◌, ◌⊎◌, inl, inr, append_assoc, arith, bytes_eq, codes, decimal}
+use Rattle.std.proofs.Common.{◌≡◌, ℕ, ◌<◌, ◌≤◌, Bool, true, false, cond, List, [], ◌∷◌, ◌++◌, length, Option, Some, None, refl, sym, ap, subst, ◌∙◌, ◌⊎◌, inl, inr, append_assoc, bytes_eq, codes, decimal}
 use Rattle.std.proofs.lemmas.Bool.{false_from_ne_true, true≢false}
-use Rattle.cc_base.specs.declared.place.Place.{Place}
 use Rattle.first_language.specs.declared.scope.Sort.{Sort}
 use Rattle.first_language.specs.declared.scope.Sort.TheVariants as sorts
 use Rattle.first_language.specs.Tree.{Name, Value, Number, Variable, Target, Item, DeclareInt, DeclarePointer, Assign, Point, Clear, Store, Put}
-use Rattle.first_language.specs.Names.{is_name, IsName, is_reserved, reserved}
+use Rattle.first_language.specs.Names.{IsName, is_reserved, reserved}
 use Rattle.first_language.specs.Text.{Token}
-use Rattle.first_language.specs.Language.{Piece, Bytes, Star, Is, IsInt, IsPointer, IsNew, IsValueAfter, IsItemAfter, is_declaration, spelling_of_value, spelling_of_item, spelling_of_head, spelling_of_return, greatest_number, most_names}
-use Rattle.first_language.specs.Reading.{◌>>=◌, Declared, scope_of, sort_in, by_sort, either, number_in, after, number_at, new_name_at, declared_at, int_at, pointer_at, target_at, variable_at, plain_value_at, value_at, pointer_declaration_at, int_declaration_at, declaration_at, output_at, store_at, point_at, clear_at, address_at, assigned_at, assignment_at, statement_at, item_at, header_at, nothing_at, ending_at, Spells, Takes}
-use Rattle.first_language.proofs.Options.{bind_some, guarded, some_is, none_is_some}
+use Rattle.first_language.specs.Language.{Piece, Bytes, Star, IsInt, IsPointer, IsValueAfter, IsItemAfter, is_declaration, spelling_of_value, spelling_of_item, spelling_of_head, spelling_of_return, greatest_number, most_names}
+use Rattle.first_language.specs.Reading.{◌>>=◌, scope_of, by_sort, either, number_in, after, number_at, new_name_at, declared_at, int_at, pointer_at, target_at, variable_at, plain_value_at, value_at, pointer_declaration_at, int_declaration_at, declaration_at, output_at, store_at, point_at, clear_at, address_at, assigned_at, assignment_at, statement_at, item_at, header_at, nothing_at, ending_at, Spells, Takes}
+use Rattle.first_language.proofs.Options.{bind_some, some_is, none_is_some}
 use Rattle.first_language.proofs.Numerals.{number_again}
-use Rattle.first_language.proofs.Scopes.{same_bytes, equal_bytes, IsOrderly, sort_is_declared, int_is_known, pointer_is_known}
+use Rattle.first_language.proofs.Scopes.{same_bytes, IsOrderly, sort_is_declared, int_is_known, pointer_is_known}
 use Rattle.first_language.proofs.Steps.{Takes-then, Reads, Passes, after_takes, after_again, not_after, number_takes, number_is_read, no_number, name_is_apart, new_name_takes, new_name_is_read, declared_takes, declared_is_read, int_takes, pointer_takes, int_is_read, pointer_is_read}
 
 -- ---- choices

@@ -1,13 +1,13 @@
 -- What the table of declared names knows of the items before.
-use Rattle.std.proofs.Common.{◌≡◌, ℕ, zero, suc, ◌+◌, ◌<◌, ◌≤◌, Bool, true, false, cond, List, [], ◌∷◌, ◌++◌, length, get_or, Option, Some, None, refl, sym, ap, subst, ◌∙◌, ◌⊎◌, inl, inr, append_assoc, arith, bytes_eq, Contains, filter_map}
+use Rattle.std.proofs.Common.{◌≡◌, ℕ, zero, suc, Bool, true, false, cond, List, [], ◌∷◌, ◌++◌, length, Option, Some, None, refl, sym, ap, subst, ◌∙◌, ◌⊎◌, inl, inr, append_assoc, arith, bytes_eq, Contains}
 use Rattle.std.specs.List.{filter, cons_option}
 use Rattle.std.proofs.lemmas.Slice.Eq.{bytes_eq-Decides}
 use Rattle.std.proofs.lemmas.List.{append-nil}
-use Rattle.std.proofs.lemmas.List.Elements.{Contains-append_left, Contains-push, Contains-push_cases, Contains-append_cases, filter_map-append}
+use Rattle.std.proofs.lemmas.List.Elements.{Contains-push_cases, filter_map-append}
 use Rattle.first_language.specs.declared.scope.Sort.{Sort}
 use Rattle.first_language.specs.declared.scope.Sort.TheVariants as sorts
-use Rattle.first_language.specs.Tree.{Name, Value, Item, DeclareInt, DeclarePointer, Assign, Point, Clear, Store, Put}
-use Rattle.first_language.specs.Names.{is_name, IsName}
+use Rattle.first_language.specs.Tree.{Name, Item, DeclareInt, DeclarePointer, Assign, Point, Clear, Store, Put}
+use Rattle.first_language.specs.Names.{IsName}
 use Rattle.first_language.specs.Language.{IsInt, IsPointer, IsNew, IsItemAfter, AreItemsAfter, is_declaration}
 use Rattle.first_language.specs.Reading.{Declared, declaration_in, scope_of, sort_in}
 use Rattle.first_language.proofs.Options.{some_is, none_is_some}

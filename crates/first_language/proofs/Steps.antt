@@ -1,14 +1,14 @@
 -- What the small readers take is spelled so, and what is spelled so they read.
-use Rattle.std.proofs.Common.{◌≡◌, ℕ, zero, suc, ◌+◌, ◌<◌, ◌≤◌, Bool, true, false, cond, not, ◌&&◌, List, [], ◌∷◌, ◌++◌, length, map, Option, Some, None, option_map, is_some, refl, sym, ap, subst, ◌∙◌, append_assoc, arith, bytes_eq, codes, decimal}
+use Rattle.std.proofs.Common.{◌≡◌, ℕ, ◌<◌, ◌≤◌, true, false, not, ◌&&◌, List, [], ◌∷◌, ◌++◌, length, Option, Some, None, option_map, is_some, refl, sym, ap, subst, ◌∙◌, append_assoc, bytes_eq, decimal}
 use Rattle.std.specs.Prelude.{nat_lt}
-use Rattle.std.proofs.lemmas.Bool.{and_parts, and_from, ltb-true, lt-ltb, not-true, false_from_ne_true, true≢false}
+use Rattle.std.proofs.lemmas.Bool.{and_parts, and_from, ltb-true, lt-ltb, false_from_ne_true, true≢false}
 use Rattle.first_language.specs.declared.scope.Sort.{Sort}
 use Rattle.first_language.specs.declared.scope.Sort.TheVariants as sorts
 use Rattle.first_language.specs.Tree.{Name, Item}
-use Rattle.first_language.specs.Names.{is_name, IsName, is_reserved, reserved}
+use Rattle.first_language.specs.Names.{is_name, IsName}
 use Rattle.first_language.specs.Text.{Token}
-use Rattle.first_language.specs.Language.{Piece, Bytes, Star, Is, IsInt, IsPointer, IsNew, greatest_number, most_names}
-use Rattle.first_language.specs.Reading.{◌>>=◌, Declared, scope_of, sort_in, by_sort, either, number_in, after, number_at, new_name_at, declared_at, int_at, pointer_at, Spells, Takes}
+use Rattle.first_language.specs.Language.{Piece, Bytes, Is, IsInt, IsPointer, IsNew, greatest_number, most_names}
+use Rattle.first_language.specs.Reading.{Declared, scope_of, sort_in, by_sort, number_in, after, number_at, new_name_at, declared_at, int_at, pointer_at, Spells, Takes}
 use Rattle.first_language.proofs.Options.{bind_some, guarded, some_is, none_is_some}
 use Rattle.first_language.proofs.Numerals.{number_read, number_again, name_is_no_number}
 use Rattle.first_language.proofs.Scopes.{same_bytes, equal_bytes, IsOrderly, sort_is_declared, int_is_known, pointer_is_known, unknown_is_new, new_is_unknown}

@@ -1,5 +1,5 @@
 -- The words of the first language: names, and the words that are no names.
-use Rattle.std.specs.Prelude.{ℕ, List, [], ◌∷◌, Bool, true, false, ◌&&◌, ◌||◌, not, nat_le, ◌==◌, bytes_eq, codes, IsTrue}
+use Rattle.std.specs.Prelude.{ℕ, List, [], ◌∷◌, Bool, false, ◌&&◌, ◌||◌, not, nat_le, ◌==◌, bytes_eq, codes, IsTrue}
 use Rattle.std.specs.List.{list_any, list_all}
 
 -- a letter of the Latin alphabet or `_` (C99 6.4.2.1)

@@ -1,5 +1,5 @@
 -- How the parser reads: one function on lists for each function of the code. The public promises do not cite these.
-use Rattle.std.specs.Prelude.{ℕ, ◌+◌, ◌*◌, ◌-◌, List, [], ◌∷◌, ◌++◌, length, Bool, true, false, ◌&&◌, not, ◌==◌, nat_le, nat_lt, bytes_eq, codes, if◌then◌else◌, Option, Some, None, option_and_then, option_map, filter_map, is_some, flat_map, ◌≡◌, ◌≤◌}
+use Rattle.std.specs.Prelude.{ℕ, ◌+◌, ◌*◌, ◌-◌, List, [], ◌∷◌, ◌++◌, length, ◌&&◌, not, ◌==◌, nat_le, nat_lt, bytes_eq, codes, if◌then◌else◌, Option, Some, None, option_and_then, option_map, filter_map, is_some, flat_map, ◌≡◌, ◌≤◌}
 use Rattle.std.specs.List.{AllZip}
 use Rattle.cc_base.specs.declared.place.Place.{Place}
 use Rattle.first_language.specs.declared.scope.Sort.{Sort}

@@ -1,5 +1,5 @@
 -- How a text is cut into tokens, each with its place.
-use Rattle.std.specs.Prelude.{ℕ, ◌+◌, ◌≡◌, ◌<◌, List, [], ◌∷◌, ◌++◌, length, Bool, true, false, ◌||◌, ◌==◌, IsTrue, if◌then◌else◌, ◌⊎◌}
+use Rattle.std.specs.Prelude.{ℕ, ◌+◌, ◌≡◌, ◌<◌, List, [], ◌∷◌, ◌++◌, length, Bool, false, ◌||◌, ◌==◌, IsTrue, if◌then◌else◌, ◌⊎◌}
 use Rattle.std.specs.List.{list_all}
 use Rattle.cc_base.specs.declared.place.Place.{Place}
 use Rattle.first_language.specs.Names.{is_word_byte}

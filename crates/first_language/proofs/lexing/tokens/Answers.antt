@@ -1,4 +1,4 @@
-use Rattle.std.proofs.Common.{◌≡◌, ◌++◌, [], ◌∷◌, arith, ap, sym, ◌∙◌, ◌+◌, length}
+use Rattle.std.proofs.Common.{arith, ap, sym, ◌∙◌, length}
 use Rattle.std.proofs.lemmas.List.{map-append, length-append}
 use Rattle.first_language.specs.Views.{token_of, tokens_of}
 use Rattle.first_language.proofs.Cuts.{blank_keeps_cuts, token_keeps_cuts, blank_ends_cuts, place_moves_on}

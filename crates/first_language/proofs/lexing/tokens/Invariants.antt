@@ -1,4 +1,4 @@
-use Rattle.std.proofs.Common.{ℕ, ◌+◌, ◌≤◌, List, ◌++◌, length}
+use Rattle.std.proofs.Common.{◌+◌, ◌≤◌, List, ◌++◌, length}
 use Rattle.first_language.specs.Text.{Token, first_place, IsCut}
 use Rattle.first_language.specs.Views.{tokens_of}
 use Rattle.first_language.proofs.lexing.tokens.Given as goal

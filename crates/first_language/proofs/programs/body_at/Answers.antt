@@ -1,4 +1,4 @@
-use Rattle.std.proofs.Common.{◌≡◌, ◌<◌, length, List, ◌++◌, [], ◌∷◌, Some, None, arith, ap, sym, subst, ◌∙◌}
+use Rattle.std.proofs.Common.{◌≡◌, ◌<◌, length, List, ◌++◌, [], ◌∷◌, Some, arith, ap, sym, subst, ◌∙◌}
 use Rattle.std.proofs.lemmas.List.{map-append, length-map}
 use Rattle.first_language.specs.declared.token.Token.{Token as CodeToken}
 use Rattle.first_language.specs.declared.scope.Declared.{Declared as CodeDeclared}

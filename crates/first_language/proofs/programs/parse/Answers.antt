@@ -1,4 +1,4 @@
-use Rattle.std.proofs.Common.{List, ◌≡◌, sym, subst}
+use Rattle.std.proofs.Common.{List, sym, subst}
 use Rattle.std.proofs.lemmas.Result.{IfErr-weaker}
 use Rattle.first_language.specs.declared.token.Token.{Token as CodeToken}
 use Rattle.first_language.specs.Text.{first_place, IsCut}

@@ -1,4 +1,4 @@
-use Rattle.std.proofs.Common.{List, ◌≡◌, refl, sym, ap, ◌∙◌, subst, None}
+use Rattle.std.proofs.Common.{List, refl, ap, ◌∙◌}
 use Rattle.first_language.specs.declared.scope.Declared.{Declared as CodeDeclared}
 use Rattle.first_language.specs.Reading.{ending_at}
 use Rattle.first_language.specs.Views.{tokens_of, scope_of_code, items_of, value_of}

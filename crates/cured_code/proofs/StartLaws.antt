@@ -1,13 +1,13 @@
 -- The laws of a program's start: the byte list is as long as its plan says, and the areas of function 0's frame lie apart
 -- from each other inside the stack's region.
-use Rattle.std.proofs.Common.{ℕ, ◌+◌, ◌*◌, ◌<◌, ◌≤◌, ◌≡◌, refl, ◌∙◌, sym, subst, List, [], ◌∷◌, length, true, Some, arith, slice_get, slice_index, replicate}
+use Rattle.std.proofs.Common.{ℕ, zero, suc, ap, ◌+◌, ◌*◌, ◌<◌, ◌≤◌, ◌≡◌, refl, ◌∙◌, sym, subst, List, [], ◌∷◌, length, true, Some, arith, slice_get, slice_index, replicate}
 use Rattle.std.proofs.lemmas.List.{length-map, length-replicate}
 use Rattle.std.proofs.lemmas.Option.{slice_get_within}
 use Rattle.std.proofs.lemmas.Bool.Decides.{nat_tests}
 use Rattle.flat_mem.specs.declared.Area.{Area}
 use Rattle.flat_mem.specs.declared.Plan.{Plan}
 use Rattle.flat_mem.specs.Bytes.{written}
-use Rattle.flat_mem.specs.Placement.{areas_size, addresses, contents_size, flat_size, first_bytes, globals_start}
+use Rattle.flat_mem.specs.Placement.{area_size, areas_size, addresses, contents_size, flat_size, first_bytes, globals_start}
 use Rattle.flat_mem.specs.Memory.{Memory, fits, next_frame, frame_area}
 use Rattle.flat_mem.proofs.ByteLaws.{length-written}
 use Rattle.flat_mem.proofs.AreaLaws.{length-areas_made, area-before_end, area-after_start, areas-apart, get-areas_made_inside}
@@ -15,7 +15,7 @@ use Rattle.cured_code.specs.declared.parts.GlobalLine.{GlobalLine}
 use Rattle.cured_code.specs.declared.parts.Function.{Function}
 use Rattle.cured_code.specs.declared.parts.Parts.{Parts}
 use Rattle.cured_code.specs.FlatState.{State}
-use Rattle.cured_code.specs.FlatMachine.{plan_of, areas_of, area_of, global_addresses, globals_written, loaded_memory, entry, frames_charge_limit}
+use Rattle.cured_code.specs.FlatMachine.{plan_of, areas_of, area_of, global_addresses, globals_written, loaded_memory, entry, frames_charge_limit, placed}
 
 -- the bytes at the start are as many as the plan has
 length-first_bytes : (plan : Plan) → length (first_bytes plan) ≡ flat_size plan
@@ -70,3 +70,10 @@ frame_areas-apart f s j k area there before within = areas-apart (areas_of f.loc
 pub frame_area-zero : (f : Function) (s : State) (k i : ℕ) (area : Area) → fits s.memory (areas_of f.locals) f.charge ≡ true → slice_get (areas_of f.locals) k ≡ Some area → i < contents_size area
     → slice_index (entry f s).state.memory.bytes (frame_area (entry f s).state.memory k + i) ≡ 0
 frame_area-zero f s k i area h there within = get-areas_made_inside (areas_of f.locals) s.memory.bytes (next_frame s.memory) k area i there within
+
+-- the k-th area of a frame has the k-th address as its place
+pub get-placed : (areas : List Area) (start k : ℕ) (area : Area) → slice_get areas k ≡ Some area → slice_get (placed areas (addresses areas start)) k ≡ Some (record { area = area; address = slice_index (addresses areas start) k })
+unfolding addresses
+get-placed [] start k area there = absurd (cc (there))
+get-placed (a ∷ areas) start zero area there = let same : a ≡ area = cc (there) in ap (λ x. Some (record { area = x; address = start + 8 })) same
+get-placed (a ∷ areas) start (suc k) area there = get-placed areas (start + area_size a) k area there

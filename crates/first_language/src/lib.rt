@@ -4,6 +4,7 @@
 
 mod names;
 mod numbers;
+mod parsing;
 mod scope;
 mod token;
 mod tree;

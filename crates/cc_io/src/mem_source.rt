@@ -1,0 +1,89 @@
+//! A source in memory.
+ghost use Rattle.std.specs.Prelude.{◌≡◌, ℕ, ◌<◌, ◌≤◌, ◌↔◌, min, length, take, drop, Contains, IfOk, OnOk, OnErr, IsErr, is_ok, if◌then◌else◌, Some};
+ghost use Rattle.cc_io.specs.Faults.{counted_up, greatest_count, Rose};
+ghost use Rattle.cc_io.specs.Bytes.{Takes, Keeps, IsSpent};
+
+use std::marker::Model;
+
+use crate::calls::Calls;
+use crate::faults::Failed;
+use crate::traits::Source;
+
+/// A source that gives the bytes of a vector, in reads of a greatest length, and fails at chosen calls.
+#[derive(Drop)]
+pub struct MemSource {
+    bytes: Vec<u8>,
+    taken: usize,
+    most: usize,
+    calls: Calls,
+}
+
+impl Model for MemSource {
+    ghost use Rattle.std.specs.Prelude.{◌≤◌, ◌<◌, drop, vec_len};
+    ghost use Rattle.cc_io.specs.Outside.{MemSourceState};
+
+    ghost Value = { MemSourceState };
+
+    ghost view = { λ s. record {
+        held = drop s.taken s.bytes.items;
+        most = s.most;
+        fails = s.calls.fails.items;
+        calls = s.calls.made;
+        faults = s.calls.faults
+    } };
+
+    ghost invariant = { λ s. (s.taken ≤ vec_len s.bytes) × (0 < s.most) };
+}
+
+impl MemSource {
+    /// Keeps what it is given: the bytes, the greatest length of one read, and the numbers of the calls
+    /// that fail, counted from 1.
+    pub fn new(bytes: Vec<u8>, most: usize, fails: Vec<u64>) -> MemSource
+        requires { 0 < most }
+        ensures { result ≡ record { held = bytes.items; most = most; fails = fails.items; calls = 0; faults = 0 } }
+    {
+        MemSource {
+            bytes,
+            taken: 0,
+            most,
+            calls: Calls::new(fails),
+        }
+    }
+}
+
+impl Source for MemSource {
+    ghost held = { λ s. Some s.held };
+
+    ghost faults = { λ s. s.faults };
+
+    fn read(&mut self, into: &mut [u8]) -> Result<usize, Failed>
+        ensures within { IfOk result (λ count. count ≤ length into.old) }
+        ensures takes { IfOk result (λ count. Takes (Some self.old.held) (Some self.new.held) (take count into.new)) }
+        ensures end { IfOk result (λ count. count ≡ 0 → 0 < length into.old → IsSpent (Some self.new.held)) }
+        ensures failed { OnErr result (Rose self.old.faults self.new.faults) }
+        ensures untaken { OnErr result (Keeps (Some self.old.held) (Some self.new.held)) }
+        ensures never_falls { self.old.faults ≤ self.new.faults }
+        ensures in_range { self.new.faults ≤ greatest_count }
+
+        // It fails at the listed calls and no others, and gives as many bytes as one read may.
+        ensures fails_exactly { IsErr result ↔ Contains self.old.fails (counted_up self.old.calls) }
+        ensures amount { IfOk result (λ count. count ≡ min self.old.most (min (length self.old.held) (length into.old))) }
+        ensures beyond { IfOk result (λ count. drop count into.new ≡ drop count into.old) }
+        ensures unfilled { OnErr result (into.new ≡ into.old) }
+
+        ensures call { self.new.calls ≡ counted_up self.old.calls }
+        ensures fault { self.new.faults ≡ (if is_ok result then self.old.faults else counted_up self.old.faults) }
+        ensures same_most { self.new.most ≡ self.old.most }
+        ensures same_fails { self.new.fails ≡ self.old.fails }
+    {
+        if self.calls.begin() {
+            self.calls.fault();
+            return Err(Failed);
+        }
+        let (_, left) = self.bytes.split_at(self.taken);
+        let count = self.most.min(left.len().min(into.len()));
+        into[..count].copy_from_slice(&left[..count]);
+        self.taken += count;
+        Ok(count)
+    }
+}

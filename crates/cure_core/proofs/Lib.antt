@@ -1,0 +1,2 @@
+pub mod TextCauses
+pub mod JudgedStatuses

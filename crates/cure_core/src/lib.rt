@@ -1,0 +1,13 @@
+//! `build`, which cures a text, and `ccured`, which does all that the program does.
+#![tactic(auto)]
+
+mod building;
+mod command;
+mod machine;
+mod report;
+mod top;
+mod verdict;
+
+pub use building::{Built, build};
+pub use top::ccured;
+pub use verdict::Verdict;

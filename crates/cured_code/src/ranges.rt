@@ -1,9 +1,10 @@
-ghost use Rattle.std.specs.Prelude.{ℕ, ◌≡◌, ◌≤◌, ◌<◌, ◌↔◌, ◌≢◌, IsTrue, All, length, sum_by, slice_get, IfSome, IsSomeAnd, EachIndex, slice_index};
-ghost use Rattle.cured_code.specs.Ranges.{IsInRange, IsSigInRange, AreParentsEarlier, IsGlobalInRange, IsAccessSize, IsInstrInRange, IsFunctionInRange, IsBare, IsStartBare, global_bytes_limit, local_bytes_limit};
+ghost use Rattle.std.specs.Prelude.{◌≤◌, ◌<◌, ◌↔◌, IsTrue, All, length, sum_by, slice_get, IfSome};
+ghost use Rattle.cured_code.specs.Ranges.{IsInRange, IsSigInRange, AreParentsEarlier, IsGlobalInRange, IsAccessSize, IsInstrInRange, IsFunctionInRange, IsBare, IsStartBare, sigs_limit, nodes_limit, globals_limit, global_bytes_limit, functions_limit, locals_limit, local_bytes_limit};
 
 use crate::instr::Instr;
 use crate::parts::{AreaLine, Function, GlobalLine, Parts, Sig};
 
+// How many signatures, nodes, functions and globals a program has at most, and how many bytes its globals have together.
 const SIGS_LIMIT: usize = 65_536;
 
 const NODES_LIMIT: usize = 65_536;
@@ -13,13 +14,13 @@ const FUNCTIONS_LIMIT: usize = 65_536;
 const GLOBALS_LIMIT: usize = 1_048_576;
 
 const GLOBAL_BYTES_LIMIT: u64 = 12_582_912;
-
+// How many slots a function has, how many areas its frame has, and how many bytes each of these has.
 const SLOTS_LIMIT: u32 = 2_048;
 
 const LOCALS_LIMIT: usize = 1_048_576;
 
 const LOCAL_BYTES_LIMIT: u64 = 3_145_728;
-
+// How many words the parameters and the results of a function take.
 const PARAMS_LIMIT: u32 = 381;
 
 const RESULTS_LIMIT: u32 = 3;
@@ -39,7 +40,7 @@ pub fn is_in_range(parts: &Parts) -> bool
 }
 
 fn are_sigs_in_range(sigs: &[Sig]) -> bool
-    ensures { IsTrue result ↔ ((length sigs.now ≤ 65536) × All IsSigInRange sigs.now) }
+    ensures { IsTrue result ↔ ((length sigs.now ≤ sigs_limit) × All IsSigInRange sigs.now) }
 {
     sigs.len() <= SIGS_LIMIT && sigs.iter().all(|sig| is_sig_in_range(*sig))
 }
@@ -51,7 +52,7 @@ fn is_sig_in_range(sig: Sig) -> bool
 }
 
 fn are_nodes_in_range(parents: &[u32]) -> bool
-    ensures { IsTrue result ↔ ((length parents.now ≤ 65536) × AreParentsEarlier parents.now) }
+    ensures { IsTrue result ↔ ((length parents.now ≤ nodes_limit) × AreParentsEarlier parents.now) }
 {
     parents.len() <= NODES_LIMIT && are_parents_earlier(parents)
 }
@@ -68,7 +69,7 @@ fn are_parents_earlier(parents: &[u32]) -> bool
 }
 
 fn are_globals_in_range(globals: &[GlobalLine]) -> bool
-    ensures { IsTrue result ↔ ((length globals.now ≤ 1048576) × All IsGlobalInRange globals.now × (sum_by (λ g. g.area.bytes) globals.now ≤ global_bytes_limit)) }
+    ensures { IsTrue result ↔ ((length globals.now ≤ globals_limit) × All IsGlobalInRange globals.now × (sum_by (λ g. g.area.bytes) globals.now ≤ global_bytes_limit)) }
 {
     globals.len() <= GLOBALS_LIMIT
         && globals.iter().all(|global| is_global_in_range(global))
@@ -96,7 +97,7 @@ fn are_bytes_kept(globals: &[GlobalLine]) -> bool
 }
 
 fn are_functions_in_range(sigs: &[Sig], functions: &[Function]) -> bool
-    ensures { IsTrue result ↔ ((length functions.now ≤ 65536) × All (IsFunctionInRange sigs.now) functions.now × IsStartBare sigs.now functions.now) }
+    ensures { IsTrue result ↔ ((length functions.now ≤ functions_limit) × All (IsFunctionInRange sigs.now) functions.now × IsStartBare sigs.now functions.now) }
 {
     functions.len() <= FUNCTIONS_LIMIT
         && functions
@@ -137,7 +138,7 @@ fn has_room_for_params(sigs: &[Sig], number: u32, slots: u32) -> bool
 }
 
 fn are_locals_in_range(locals: &[AreaLine]) -> bool
-    ensures { IsTrue result ↔ ((length locals.now ≤ 1048576) × All (λ area. area.bytes ≤ local_bytes_limit) locals.now) }
+    ensures { IsTrue result ↔ ((length locals.now ≤ locals_limit) × All (λ area. area.bytes ≤ local_bytes_limit) locals.now) }
 {
     locals.len() <= LOCALS_LIMIT && locals.iter().all(|area| area.bytes <= LOCAL_BYTES_LIMIT)
 }

@@ -47,6 +47,12 @@ pub matches-same : {E S A : Type 0} (m : Outcome E S A) → Matches (λ a s b t.
 matches-same (Ended e s) = (refl, refl)
 matches-same (Done a s) = (refl, refl)
 
+-- where a run is one run and then another, it is so after any control too
+pub then_go-split : {E S V : Type 0} (whole first second : Run E S (Control V)) (x : Control V) (s : S) → whole s ≡ from (first s) (λ y. then_go y second) → then_go x whole s ≡ from (then_go x first s) (λ y. then_go y second)
+then_go-split whole first second Goes s h = h
+then_go-split whole first second (Leaves k) s h = refl
+then_go-split whole first second (Gives v) s h = refl
+
 -- Below, two machines are compared: `I` relates their states where both go on, `J` where both leave a block, `G` their
 -- values and states where both give one, and `Q` their endings.
 

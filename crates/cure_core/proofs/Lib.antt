@@ -1,2 +1,5 @@
 pub mod TextCauses
 pub mod JudgedStatuses
+pub mod StepLaws
+pub mod LoopLaws
+pub mod OutputLaws

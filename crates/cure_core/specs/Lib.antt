@@ -5,3 +5,4 @@ pub mod Causes
 pub mod Built
 pub mod MachineRuns
 pub mod Statuses
+pub mod MachineSteps

@@ -1,6 +1,9 @@
 -- How far the machine has come in a body, and what follows when it goes on or ends.
-use Rattle.std.proofs.Common.{◌≡◌, ℕ, suc, ◌+◌, ◌<◌, List, [], ◌∷◌, ◌++◌, length, drop, Option, Some, None, sym, ◌∙◌, ap, subst, refl, arith, append_assoc, slice_get}
-use Rattle.std.proofs.lemmas.List.{append-nil}
+use Rattle.std.proofs.Common.{◌≡◌, ℕ, suc, ◌+◌, ◌<◌, List, [], ◌∷◌, ◌++◌, length, drop, Option, Some, None, sym, ◌∙◌, ap, subst, refl, arith, append_assoc, add-one, true, false, inl, inr, ◌≤◌}
+use Rattle.std.proofs.lemmas.List.{append-nil, drop_all}
+use Rattle.std.specs.Prelude.{slice_index_or, Result, Ok, Err, OnOk, OnErr}
+use Rattle.std.specs.Result.{is_err}
+use Rattle.std.proofs.Math.Seq.{drop-cons}
 use Rattle.cc_io.specs.Bytes.{Gains, GainsFront}
 use Rattle.cc_io.specs.Faults.{Rose}
 use Rattle.flat_mem.specs.Memory.{Memory}
@@ -112,3 +115,28 @@ reached_fault body c i left old new slots words out middle byte reached (puts b 
     cut refl rose (subst (λ l. GainsFront out.before out.after l) (sym all)
         (front_of_more out.before out.after (so_far ++ byte ∷ []) grown.more (gains_front_more out.before middle out.after so_far (byte ∷ []) reached.gains front)))
 reached_fault body c i left old new slots words out middle byte reached (ends ending next end d done is quiet) rose front = absurd (cc (next))
+
+-- the next instruction of those that are left
+pub reached_at : (body : List Instr) (c : Local) (place : ℕ) (first : Instr) (memory : Memory) (slots : List ℕ) (before after : Option (List ℕ)) → place < length body →
+    IsReached body c (drop place body) memory slots before after → IsReached body c (slice_index_or body place first ∷ drop (place + 1) body) memory slots before after
+reached_at body c place first memory slots before after more reached =
+    let next : drop place body ≡ slice_index_or body place first ∷ drop (place + 1) body = drop-cons body place first more ∙ ap (λ n. slice_index_or body place first ∷ drop n body) (sym (add-one place)) in
+    subst (λ left. IsReached body c left memory slots before after) next reached
+
+-- a count that rose has risen since before
+pub rose_since : (early before now : ℕ) → early ≤ before → Rose before now → Rose early now
+rose_since early before now later (inl more) = inl (omega arith)
+rose_since early before now later (inr greatest) = inr greatest
+
+pub of_error : {T E : Type 0} (P : Type 0) (outcome : Result T E) → is_err outcome ≡ true → OnErr outcome P → P
+of_error P (Ok value) failed fact = absurd (cc (failed))
+of_error P (Err error) failed fact = fact
+
+pub of_success : {T E : Type 0} (P : Type 0) (outcome : Result T E) → is_err outcome ≡ false → OnOk outcome P → P
+of_success P (Ok value) failed fact = fact
+of_success P (Err error) failed fact = absurd (cc (failed))
+
+-- at the end of the body none are left
+pub reached_all : (body : List Instr) (c : Local) (place : ℕ) (memory : Memory) (slots : List ℕ) (before after : Option (List ℕ)) → length body ≤ place →
+    IsReached body c (drop place body) memory slots before after → IsReached body c [] memory slots before after
+reached_all body c place memory slots before after over reached = subst (λ left. IsReached body c left memory slots before after) (drop_all place body over) reached

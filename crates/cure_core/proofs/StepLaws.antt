@@ -1,12 +1,12 @@
 -- What each instruction does by the meaning is what the machine does.
-use Rattle.std.proofs.Common.{◌≡◌, ◌≢◌, ℕ, ◌%◌, List, [], ◌∷◌, ◌++◌, ◌+◌, length, slice_index, slice_set, Bool, true, false, ◌||◌, nat_eq, nat_le, sym, ◌∙◌, ap, subst, refl, arith}
+use Rattle.std.proofs.Common.{◌≡◌, ◌≢◌, ℕ, ◌%◌, List, [], ◌∷◌, ◌++◌, ◌+◌, length, slice_index, slice_set, Bool, true, false, ◌||◌, nat_eq, nat_le, not, if◌then◌else◌, sym, ◌∙◌, ap, subst, refl, arith}
 use Rattle.flat_mem.specs.Bytes.{number, stored}
 use Rattle.flat_mem.specs.Memory.{Memory, with_bytes, frame_area}
 use Rattle.cc_base.specs.declared.fault.Check.{Check}
 use Rattle.cc_base.specs.declared.place.Place.{Place}
 use Rattle.runs.specs.Outcome.{Outcome, Ended, Done, allowed}
 use Rattle.runs.specs.Control.{Goes}
-use Rattle.integers.specs.Words.{equal_words, different_words, low_byte, is_true_word}
+use Rattle.integers.specs.Words.{truth_word, equal_words, different_words, low_byte, is_true_word}
 use Rattle.cured_code.specs.declared.instr.Instr.{Instr}
 use Rattle.cured_code.specs.declared.instr.Instr.TheVariants as instr
 use Rattle.cured_code.specs.FlatState.{Ending as FlatEnding, Exited as flat_exited, Stopped as flat_stopped, Trap, Local, slot, with_slot, loaded, stored_at, put_out, is_in_list}
@@ -37,12 +37,16 @@ eq_step v a b memory slots c at =
         (written_slot v (equal_words (slot c a) (slot c b)) (equal_words (slice_index slots a) (slice_index slots b)) memory slots c at
             (ap (λ s. equal_words (slice_index s a) (slice_index s b)) at.slots_are)) refl
 
+different : (b : Bool) → truth_word (if b then false else true) ≡ truth_word (not b)
+different true = refl
+different false = refl
+
 pub ne_step : (v a b : ℕ) (memory : Memory) (slots : List ℕ) (c : Local) → IsIn memory slots c →
-    IsStepped (act (instr.Ne v a b) at_start c) c memory (slice_set slots v (different_words (slice_index slots a) (slice_index slots b))) Next
+    IsStepped (act (instr.Ne v a b) at_start c) c memory (slice_set slots v (truth_word (not (nat_eq (slice_index slots a) (slice_index slots b))))) Next
 ne_step v a b memory slots c at =
     goes refl (with_slot v (different_words (slot c a) (slot c b)) c) refl
-        (written_slot v (different_words (slot c a) (slot c b)) (different_words (slice_index slots a) (slice_index slots b)) memory slots c at
-            (ap (λ s. different_words (slice_index s a) (slice_index s b)) at.slots_are)) refl
+        (written_slot v (different_words (slot c a) (slot c b)) (truth_word (not (nat_eq (slice_index slots a) (slice_index slots b)))) memory slots c at
+            (ap (λ s. different_words (slice_index s a) (slice_index s b)) at.slots_are ∙ different (nat_eq (slice_index slots a) (slice_index slots b)))) refl
 
 pub frame_step : (v k : ℕ) (memory : Memory) (slots : List ℕ) (c : Local) → IsIn memory slots c →
     IsStepped (act (instr.Frame v k) at_start c) c memory (slice_set slots v (frame_area memory k)) Next

@@ -1,6 +1,6 @@
 -- Numbers in a list of bytes, little-endian, and what writing, zeroing and moving bytes leave. Each is a
 -- recursion on how many bytes there are. A byte past the list's end reads as 0, and writing one does nothing.
-use Rattle.std.specs.Prelude.{ℕ, zero, suc, ◌+◌, ◌*◌, ◌/◌, ◌%◌, ◌<◌, List, [], ◌∷◌, slice_index, slice_set}
+use Rattle.std.specs.Prelude.{◌≡◌, ◌⊎◌, ℕ, zero, suc, ◌+◌, ◌*◌, ◌/◌, ◌%◌, ◌<◌, List, [], ◌∷◌, slice_index, slice_set}
 
 -- the number whose n little-endian bytes stand at `at`
 unfoldable pub number : ℕ → List ℕ → ℕ → ℕ
@@ -34,3 +34,7 @@ moved n bytes to from = written (bytes_at n bytes from) bytes to
 -- each element is a byte
 pub record AreBytes (bytes : List ℕ) : Type 0 where
   pub below : (i : ℕ) → slice_index bytes i < 256
+
+-- how many bytes one load or store may have
+abbrev pub IsAccessSize : ℕ → Type 0
+IsAccessSize n = (n ≡ 1) ⊎ (n ≡ 2) ⊎ (n ≡ 4) ⊎ (n ≡ 8)

@@ -4,6 +4,11 @@
 
 ghost use Rattle.std.specs.Prelude.{◌≡◌};
 
+mod areas;
+mod memory;
+mod numbers;
+
+pub use memory::Flat;
 use std::marker::Model;
 
 /// An area of the byte list: that of a global, a local or a heap block. `bytes` is how many bytes the object

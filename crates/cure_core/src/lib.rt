@@ -3,6 +3,7 @@
 
 mod building;
 mod command;
+mod loading;
 mod machine;
 mod report;
 mod top;

@@ -1,4 +1,0 @@
-pub mod Bytes
-pub mod Placement
-pub mod Memory
-pub mod Marks

@@ -6,3 +6,4 @@ pub mod Built
 pub mod MachineRuns
 pub mod Statuses
 pub mod MachineSteps
+pub mod Plans

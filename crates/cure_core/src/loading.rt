@@ -1,12 +1,13 @@
 //! The machine's memory before it runs: the globals, and the areas of a frame.
-ghost use Rattle.std.specs.Prelude.{◌≡◌, ◌<◌, ◌≤◌, ◌+◌, ◌^◌, All, IfOk, length};
+ghost use Rattle.std.specs.Prelude.{◌≡◌, ◌<◌, ◌≤◌, ◌+◌, ◌*◌, ◌^◌, All, IfOk, length, sum_by};
 ghost use Rattle.flat_mem.specs.Bytes.{written};
 ghost use Rattle.flat_mem.specs.Placement.{areas_size, addresses};
-ghost use Rattle.flat_mem.specs.Memory.{with_bytes};
-ghost use Rattle.cured_code.specs.FlatMachine.{area_of, areas_of, global_areas, globals_written, loaded_memory, plan_of};
-ghost use Rattle.cured_code.specs.Ranges.{IsGlobalInRange, IsInRange};
+ghost use Rattle.flat_mem.specs.Memory.{first_memory, with_bytes};
+ghost use Rattle.cured_code.specs.FlatMachine.{area_of, areas_of, global_areas, globals_written, loaded_memory};
+ghost use Rattle.cured_code.specs.Ranges.{IsGlobalInRange, IsInRange, functions_limit, globals_limit, global_bytes_limit};
+ghost use Rattle.cure_core.specs.Plans.{plan_for};
 
-use cured_code::{AreaLine, GlobalLine, Parts};
+use cured_code::{AreaLine, Function, GlobalLine, Parts};
 use flat_mem::{Area, AreaList, Flat, Plan, size_of};
 use std::alloc::{AllocError, Global};
 
@@ -37,28 +38,49 @@ pub(crate) fn load_parts(alloc: Global, parts: &Parts) -> Result<Flat, AllocErro
     requires { IsInRange parts.now }
     ensures { IfOk result (λ flat. flat ≡ loaded_memory parts.now) }
 {
-    let plan = plan_of(alloc, parts)?;
-    let mut flat = Flat::new(alloc, &plan)?;
+    let functions = &parts.functions;
     let globals = &parts.globals;
-    write_globals(&mut flat, &globals.0, 8 * u64::from(plan.functions));
+    load(alloc, &functions.0, &globals.0)
+}
+
+/// The memory at the start for these functions and globals.
+fn load(alloc: Global, functions: &[Function], globals: &[GlobalLine]) -> Result<Flat, AllocError>
+    requires functions { length functions.now ≤ functions_limit }
+    requires globals { length globals.now ≤ globals_limit }
+    requires bytes { sum_by (λ g. g.area.bytes) globals.now ≤ global_bytes_limit }
+    requires within { All IsGlobalInRange globals.now }
+    ensures {
+        IfOk result (λ flat. let memory = first_memory (plan_for functions.now globals.now) in
+            flat ≡ with_bytes memory
+                (globals_written globals.now (addresses (global_areas globals.now) (8 * length functions.now)) memory.bytes))
+    }
+{
+    let plan = plan(alloc, functions, globals)?;
+    let mut flat = Flat::new(alloc, &plan)?;
+    write_globals(&mut flat, globals, 8 * functions.len() as u64);
     Ok(flat)
 }
 
 /// How the memory is laid out.
 #[tactic(auto, unfolding(cured_code::specs::FlatMachine::frames_charge_limit, cured_code::specs::FlatMachine::blocks_charge_limit))]
-fn plan_of(alloc: Global, parts: &Parts) -> Result<Plan, AllocError>
-    requires { IsInRange parts.now }
-    ensures { IfOk result (λ plan. plan ≡ plan_of parts.now) }
+fn plan(alloc: Global, functions: &[Function], globals: &[GlobalLine]) -> Result<Plan, AllocError>
+    requires { length functions.now ≤ functions_limit }
+    ensures { IfOk result (λ plan. plan ≡ plan_for functions.now globals.now) }
 {
-    let functions = &parts.functions;
-    let globals = &parts.globals;
-    let areas = globals.0.iter().map(|global| area_of(global.area)).collect(alloc)?;
+    let areas = areas_of_globals(alloc, globals)?;
     Ok(Plan {
-        functions: functions.0.len() as u32,
+        functions: functions.len() as u32,
         globals: AreaList::of(areas),
         stack: FRAMES_CHARGE_LIMIT,
         heap: BLOCKS_CHARGE_LIMIT,
     })
+}
+
+/// The areas of globals.
+fn areas_of_globals(alloc: Global, globals: &[GlobalLine]) -> Result<Vec<Area>, AllocError>
+    ensures { IfOk result (λ areas. areas.items ≡ global_areas globals.now) }
+{
+    globals.iter().map(|global| area_of(global.area)).collect(alloc)
 }
 
 /// Writes the first bytes of globals whose areas lie one after another from `start` on.

@@ -1,2 +1,0 @@
-pub mod Curing
-pub mod Simulation

@@ -2,6 +2,9 @@
 use Rattle.std.specs.Prelude.{ℕ, ◌≡◌, ◌≤◌, List, [], ◌∷◌, ◌++◌, Bool, true, false, codes, decimal, Contains, filter, flat_map, length, ⊤}
 use Rattle.std.specs.List.{AllZip}
 use Rattle.cc_base.specs.declared.place.Place.{Place}
+use Rattle.cc_base.specs.declared.fault.Rule.TheVariants.{Unsupported}
+use Rattle.cc_base.specs.declared.fault.Fault.{Fault}
+use Rattle.cc_base.specs.declared.fault.Fault.TheVariants.{Refused, TooLarge, NoMemory}
 use Rattle.first_language.specs.Tree.{Name, Value, Number, Variable, Target, Item, DeclareInt, DeclarePointer, Assign, Point, Clear, Store, Put, Program}
 use Rattle.first_language.specs.Names.{IsName}
 use Rattle.first_language.specs.Text.{Token, first_place, IsCut}
@@ -31,11 +34,16 @@ spelling_of_item (Store p n place) = Star place ∷ Bytes p ∷ Bytes (codes "="
 spelling_of_item (Put value) = Bytes (codes "putchar") ∷ Bytes (codes "(") ∷ spelling_of_value value
     ++ Bytes (codes ")") ∷ Bytes (codes ";") ∷ []
 
--- int main(void){ .. return value;}
+-- int main(void){
+abbrev pub spelling_of_head : List Piece
+spelling_of_head = Bytes (codes "int") ∷ Bytes (codes "main") ∷ Bytes (codes "(") ∷ Bytes (codes "void") ∷ Bytes (codes ")") ∷ Bytes (codes "{") ∷ []
+
+-- return value;}
+abbrev pub spelling_of_return : Value → List Piece
+spelling_of_return value = Bytes (codes "return") ∷ spelling_of_value value ++ Bytes (codes ";") ∷ Bytes (codes "}") ∷ []
+
 abbrev pub spelling_of : Program → List Piece
-spelling_of program = Bytes (codes "int") ∷ Bytes (codes "main") ∷ Bytes (codes "(") ∷ Bytes (codes "void")
-    ∷ Bytes (codes ")") ∷ Bytes (codes "{") ∷ flat_map spelling_of_item program.items
-    ++ Bytes (codes "return") ∷ spelling_of_value program.returned ++ Bytes (codes ";") ∷ Bytes (codes "}") ∷ []
+spelling_of program = spelling_of_head ++ flat_map spelling_of_item program.items ++ spelling_of_return program.returned
 
 -- the greatest number that an int holds
 abbrev pub greatest_number : ℕ
@@ -99,3 +107,14 @@ pub record IsProgram (text : List ℕ) (program : Program) : Type 0 where
   pub cut : IsCut first_place text tokens
   pub spelled : AllZip Is tokens (spelling_of program)
   pub declared : IsWellDeclared program
+
+-- Why nothing is accepted as one of these programs: there is none, so the text is refused at its first byte; or memory
+-- was wanted, which may happen at any text. No limit is passed.
+abbrev pub IsRefusalOf : (Program → Type 0) → Fault → Type 0
+IsRefusalOf IsOne (Refused place rule) = (place ≡ first_place) × (rule ≡ Unsupported) × ((program : Program) → IsOne program → ⊥)
+IsRefusalOf IsOne (TooLarge place limit) = ⊥
+IsRefusalOf IsOne NoMemory = ⊤
+
+-- why a text is not accepted
+abbrev pub IsRefusal : List ℕ → Fault → Type 0
+IsRefusal text fault = IsRefusalOf (IsProgram text) fault

@@ -1,12 +1,13 @@
 -- How the parser reads: one function on lists for each function of the code. The public promises do not cite these.
-use Rattle.std.specs.Prelude.{ℕ, ◌+◌, ◌*◌, ◌-◌, List, [], ◌∷◌, ◌++◌, length, Bool, true, false, ◌&&◌, not, ◌==◌, nat_le, nat_lt, bytes_eq, codes, if◌then◌else◌, Option, Some, None, option_and_then, option_map, filter_map, is_some}
+use Rattle.std.specs.Prelude.{ℕ, ◌+◌, ◌*◌, ◌-◌, List, [], ◌∷◌, ◌++◌, length, Bool, true, false, ◌&&◌, not, ◌==◌, nat_le, nat_lt, bytes_eq, codes, if◌then◌else◌, Option, Some, None, option_and_then, option_map, filter_map, is_some, flat_map, ◌≡◌, ◌≤◌}
+use Rattle.std.specs.List.{AllZip}
 use Rattle.cc_base.specs.declared.place.Place.{Place}
 use Rattle.first_language.specs.declared.scope.Sort.{Sort}
 use Rattle.first_language.specs.declared.scope.Sort.TheVariants as sorts
-use Rattle.first_language.specs.Tree.{Name, Value, Number, Variable, Target, Item, DeclareInt, DeclarePointer, Assign, Point, Clear, Store, Put}
+use Rattle.first_language.specs.Tree.{Name, Value, Number, Variable, Target, Item, DeclareInt, DeclarePointer, Assign, Point, Clear, Store, Put, Program}
 use Rattle.first_language.specs.Names.{is_name, is_digit}
 use Rattle.first_language.specs.Text.{Token}
-use Rattle.first_language.specs.Language.{greatest_number, most_names}
+use Rattle.first_language.specs.Language.{Piece, Is, greatest_number, most_names, spelling_of_item, spelling_of_return, spelling_of, IsValueAfter, AreItemsAfter, IsWellDeclared}
 
 infixl 10 ◌>>=◌
 abbrev pub ◌>>=◌ : {A B : Type 0} → Option A → (A → Option B) → Option B
@@ -196,3 +197,38 @@ ending_at scope tokens = do
   rest ← after (codes "}") rest
   end ← nothing_at rest
   Some value.0
+
+-- ---- what is read
+
+abbrev pub Spells : List Token → List Piece → Type 0
+Spells tokens pieces = AllZip Is tokens pieces
+
+-- the tokens begin with these pieces, and the rest of them is behind that
+abbrev pub Takes : List Token → List Piece → List Token → Type 0
+Takes tokens pieces rest = (more : List Piece) → Spells rest more → Spells tokens (pieces ++ more)
+
+-- Behind the items before, the tokens are these items and the return of the value.
+pub record IsBody (before : List Item) (tokens : List Token) (items : List Item) (value : Value) : Type 0 where
+  pub spelled : Spells tokens (flat_map spelling_of_item items ++ spelling_of_return value)
+  pub allowed : AreItemsAfter before items
+  pub returned : IsValueAfter (before ++ items) value
+  pub few : length (scope_of (before ++ items)) ≤ most_names
+
+-- the other items of a body that begins with some
+pub record Continues (items : List Item) (rest : List Token) (all : List Item) (value : Value) : Type 0 where
+  pub more : List Item
+  pub whole : all ≡ items ++ more
+  pub body : IsBody items rest more value
+
+-- The tokens begin with these items, and nothing else can be read there.
+pub record ItemsAreRead (tokens : List Token) (items : List Item) (scope : List Declared) (rest : List Token) : Type 0 where
+  pub scope_is : scope ≡ scope_of items
+  pub takes : Takes tokens (flat_map spelling_of_item items) rest
+  pub allowed : AreItemsAfter [] items
+  pub few : length scope ≤ most_names
+  pub only : (all : List Item) (value : Value) → IsBody [] tokens all value → Continues items rest all value
+
+-- the tokens are those of this program
+pub record IsSpelledBy (tokens : List Token) (program : Program) : Type 0 where
+  pub spelled : Spells tokens (spelling_of program)
+  pub declared : IsWellDeclared program

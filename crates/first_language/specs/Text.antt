@@ -29,15 +29,16 @@ is_blank c = (c == 32) || (c == 10)
 abbrev pub AreBlanks : List ℕ → Type 0
 AreBlanks bytes = IsTrue (list_all is_blank bytes)
 
-abbrev pub begins_with_word_byte : List ℕ → Bool
-begins_with_word_byte [] = false
-begins_with_word_byte (c ∷ cs) = is_word_byte c
+-- the text begins with a byte that passes the test
+abbrev pub begins_with : (ℕ → Bool) → List ℕ → Bool
+begins_with test [] = false
+begins_with test (c ∷ cs) = test c
 
--- a word: one or more word bytes, as many as there are, so that between two words stands at least one blank
+-- a word: one or more bytes that words are made of, as many as there are, so that a blank stands between two words
 pub record IsWord (bytes rest : List ℕ) : Type 0 where
   pub some : 0 < length bytes
   pub each : IsTrue (list_all is_word_byte bytes)
-  pub whole : begins_with_word_byte rest ≡ false
+  pub whole : begins_with is_word_byte rest ≡ false
 
 -- a sign: one byte that is neither a blank nor of a word
 pub record IsSign (bytes : List ℕ) : Type 0 where

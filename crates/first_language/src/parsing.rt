@@ -23,6 +23,7 @@ fn after<'t, 'a>(bytes: &[u8], tokens: &'t [Token<'a>]) -> Option<&'t [Token<'a>
     if first.is(bytes) { Some(rest) } else { None }
 }
 
+/// A number.
 fn number_at<'t, 'a>(tokens: &'t [Token<'a>]) -> Found<'t, 'a, u32>
     ensures { option_map (λ found. (found.0, tokens_of found.1.now)) result ≡ number_at (tokens_of tokens.now) }
 {
@@ -32,10 +33,7 @@ fn number_at<'t, 'a>(tokens: &'t [Token<'a>]) -> Found<'t, 'a, u32>
 }
 
 /// A name that is free, while fewer names are declared than may be.
-fn new_name_at<'t, 'a>(
-    scope: &[Declared<'a>],
-    tokens: &'t [Token<'a>],
-) -> Found<'t, 'a, &'a [u8]>
+fn new_name_at<'t, 'a>(scope: &[Declared], tokens: &'t [Token<'a>]) -> Found<'t, 'a, &'a [u8]>
     ensures { option_map (λ found. (found.0.now, tokens_of found.1.now)) result
         ≡ new_name_at (scope_of_code scope.now) (tokens_of tokens.now) }
 {
@@ -43,24 +41,32 @@ fn new_name_at<'t, 'a>(
     let is_new = is_name(first.bytes)
         && sort_in(scope, first.bytes).is_none()
         && scope.len() < MOST_NAMES;
-    if is_new { Some((first.bytes, rest)) } else { None }
+    if is_new {
+        Some((first.bytes, rest))
+    } else {
+        None
+    }
 }
 
 /// A declared name, with what it is declared as.
-fn declared_at<'t, 'a>(
-    scope: &[Declared<'a>],
-    tokens: &'t [Token<'a>],
-) -> Found<'t, 'a, Declared<'a>>
+fn declared_at<'t, 'a>(scope: &[Declared], tokens: &'t [Token<'a>]) -> Found<'t, 'a, Declared<'a>>
     ensures { option_map (λ found. (declared_of found.0, tokens_of found.1.now)) result
         ≡ declared_at (scope_of_code scope.now) (tokens_of tokens.now) }
 {
     let (first, rest) = tokens.split_first()?;
     let sort = sort_in(scope, first.bytes)?;
-    Some((Declared { name: first.bytes, sort }, rest))
+    Some((
+        Declared {
+            name: first.bytes,
+            sort,
+        },
+        rest,
+    ))
 }
 
+/// The name of an int.
 #[tactic(auto, unfolding(crate::specs::Reading::int_at))]
-fn int_at<'t, 'a>(scope: &[Declared<'a>], tokens: &'t [Token<'a>]) -> Found<'t, 'a, &'a [u8]>
+fn int_at<'t, 'a>(scope: &[Declared], tokens: &'t [Token<'a>]) -> Found<'t, 'a, &'a [u8]>
     ensures { option_map (λ found. (found.0.now, tokens_of found.1.now)) result
         ≡ int_at (scope_of_code scope.now) (tokens_of tokens.now) }
 {
@@ -71,8 +77,9 @@ fn int_at<'t, 'a>(scope: &[Declared<'a>], tokens: &'t [Token<'a>]) -> Found<'t, 
     }
 }
 
+/// The name of a pointer.
 #[tactic(auto, unfolding(crate::specs::Reading::pointer_at))]
-fn pointer_at<'t, 'a>(scope: &[Declared<'a>], tokens: &'t [Token<'a>]) -> Found<'t, 'a, &'a [u8]>
+fn pointer_at<'t, 'a>(scope: &[Declared], tokens: &'t [Token<'a>]) -> Found<'t, 'a, &'a [u8]>
     ensures { option_map (λ found. (found.0.now, tokens_of found.1.now)) result
         ≡ pointer_at (scope_of_code scope.now) (tokens_of tokens.now) }
 {
@@ -83,9 +90,10 @@ fn pointer_at<'t, 'a>(scope: &[Declared<'a>], tokens: &'t [Token<'a>]) -> Found<
     }
 }
 
+/// What a pointer points to, behind its `*`.
 #[tactic(auto, unfolding(crate::specs::Reading::target_at))]
 fn target_at<'t, 'a>(
-    scope: &[Declared<'a>],
+    scope: &[Declared],
     star: Place,
     tokens: &'t [Token<'a>],
 ) -> Found<'t, 'a, Value<'a>>
@@ -97,7 +105,7 @@ fn target_at<'t, 'a>(
 }
 
 #[tactic(auto, unfolding(crate::specs::Reading::variable_at))]
-fn variable_at<'t, 'a>(scope: &[Declared<'a>], tokens: &'t [Token<'a>]) -> Found<'t, 'a, Value<'a>>
+fn variable_at<'t, 'a>(scope: &[Declared], tokens: &'t [Token<'a>]) -> Found<'t, 'a, Value<'a>>
     ensures { option_map (λ found. (value_of found.0, tokens_of found.1.now)) result
         ≡ variable_at (scope_of_code scope.now) (tokens_of tokens.now) }
 {
@@ -105,11 +113,9 @@ fn variable_at<'t, 'a>(scope: &[Declared<'a>], tokens: &'t [Token<'a>]) -> Found
     Some((Value::Variable(name), rest))
 }
 
+/// A number or an int.
 #[tactic(auto, unfolding(crate::specs::Reading::plain_value_at))]
-fn plain_value_at<'t, 'a>(
-    scope: &[Declared<'a>],
-    tokens: &'t [Token<'a>],
-) -> Found<'t, 'a, Value<'a>>
+fn plain_value_at<'t, 'a>(scope: &[Declared], tokens: &'t [Token<'a>]) -> Found<'t, 'a, Value<'a>>
     ensures { option_map (λ found. (value_of found.0, tokens_of found.1.now)) result
         ≡ plain_value_at (scope_of_code scope.now) (tokens_of tokens.now) }
 {
@@ -120,7 +126,7 @@ fn plain_value_at<'t, 'a>(
 }
 
 #[tactic(auto, unfolding(crate::specs::Reading::value_at))]
-fn value_at<'t, 'a>(scope: &[Declared<'a>], tokens: &'t [Token<'a>]) -> Found<'t, 'a, Value<'a>>
+fn value_at<'t, 'a>(scope: &[Declared], tokens: &'t [Token<'a>]) -> Found<'t, 'a, Value<'a>>
     ensures { option_map (λ found. (value_of found.0, tokens_of found.1.now)) result
         ≡ value_at (scope_of_code scope.now) (tokens_of tokens.now) }
 {
@@ -134,7 +140,7 @@ fn value_at<'t, 'a>(scope: &[Declared<'a>], tokens: &'t [Token<'a>]) -> Found<'t
 
 #[tactic(auto, unfolding(crate::specs::Reading::pointer_declaration_at))]
 fn pointer_declaration_at<'t, 'a>(
-    scope: &[Declared<'a>],
+    scope: &[Declared],
     tokens: &'t [Token<'a>],
 ) -> Found<'t, 'a, Item<'a>>
     ensures { option_map (λ found. (item_of found.0, tokens_of found.1.now)) result
@@ -146,7 +152,7 @@ fn pointer_declaration_at<'t, 'a>(
 
 #[tactic(auto, unfolding(crate::specs::Reading::int_declaration_at))]
 fn int_declaration_at<'t, 'a>(
-    scope: &[Declared<'a>],
+    scope: &[Declared],
     tokens: &'t [Token<'a>],
 ) -> Found<'t, 'a, Item<'a>>
     ensures { option_map (λ found. (item_of found.0, tokens_of found.1.now)) result
@@ -158,10 +164,7 @@ fn int_declaration_at<'t, 'a>(
 
 /// A declaration, behind its `int`.
 #[tactic(auto, unfolding(crate::specs::Reading::declaration_at))]
-fn declaration_at<'t, 'a>(
-    scope: &[Declared<'a>],
-    tokens: &'t [Token<'a>],
-) -> Found<'t, 'a, Item<'a>>
+fn declaration_at<'t, 'a>(scope: &[Declared], tokens: &'t [Token<'a>]) -> Found<'t, 'a, Item<'a>>
     ensures { option_map (λ found. (item_of found.0, tokens_of found.1.now)) result
         ≡ declaration_at (scope_of_code scope.now) (tokens_of tokens.now) }
 {
@@ -173,7 +176,7 @@ fn declaration_at<'t, 'a>(
 
 /// An output, behind its `putchar`.
 #[tactic(auto, unfolding(crate::specs::Reading::output_at))]
-fn output_at<'t, 'a>(scope: &[Declared<'a>], tokens: &'t [Token<'a>]) -> Found<'t, 'a, Item<'a>>
+fn output_at<'t, 'a>(scope: &[Declared], tokens: &'t [Token<'a>]) -> Found<'t, 'a, Item<'a>>
     ensures { option_map (λ found. (item_of found.0, tokens_of found.1.now)) result
         ≡ output_at (scope_of_code scope.now) (tokens_of tokens.now) }
 {
@@ -186,7 +189,7 @@ fn output_at<'t, 'a>(scope: &[Declared<'a>], tokens: &'t [Token<'a>]) -> Found<'
 /// A store, behind its `*`.
 #[tactic(auto, unfolding(crate::specs::Reading::store_at))]
 fn store_at<'t, 'a>(
-    scope: &[Declared<'a>],
+    scope: &[Declared],
     star: Place,
     tokens: &'t [Token<'a>],
 ) -> Found<'t, 'a, Item<'a>>
@@ -199,9 +202,10 @@ fn store_at<'t, 'a>(
     Some((Item::Store(pointer, number, star), rest))
 }
 
+/// The int that a pointer is pointed to, behind the `&`.
 #[tactic(auto, unfolding(crate::specs::Reading::point_at))]
 fn point_at<'t, 'a>(
-    scope: &[Declared<'a>],
+    scope: &[Declared],
     pointer: &'a [u8],
     tokens: &'t [Token<'a>],
 ) -> Found<'t, 'a, Item<'a>>
@@ -212,6 +216,7 @@ fn point_at<'t, 'a>(
     Some((Item::Point(pointer, variable), rest))
 }
 
+/// The 0 that clears a pointer.
 #[tactic(auto, unfolding(crate::specs::Reading::clear_at))]
 fn clear_at<'t, 'a>(pointer: &'a [u8], tokens: &'t [Token<'a>]) -> Found<'t, 'a, Item<'a>>
     ensures { option_map (λ found. (item_of found.0, tokens_of found.1.now)) result
@@ -224,7 +229,7 @@ fn clear_at<'t, 'a>(pointer: &'a [u8], tokens: &'t [Token<'a>]) -> Found<'t, 'a,
 /// What is assigned to a pointer, behind the `=`.
 #[tactic(auto, unfolding(crate::specs::Reading::address_at))]
 fn address_at<'t, 'a>(
-    scope: &[Declared<'a>],
+    scope: &[Declared],
     pointer: &'a [u8],
     tokens: &'t [Token<'a>],
 ) -> Found<'t, 'a, Item<'a>>
@@ -247,11 +252,9 @@ fn assigned_at<'t, 'a>(name: &'a [u8], tokens: &'t [Token<'a>]) -> Found<'t, 'a,
     Some((Item::Assign(name, number), rest))
 }
 
+/// An assignment to an int or to a pointer.
 #[tactic(auto, unfolding(crate::specs::Reading::assignment_at))]
-fn assignment_at<'t, 'a>(
-    scope: &[Declared<'a>],
-    tokens: &'t [Token<'a>],
-) -> Found<'t, 'a, Item<'a>>
+fn assignment_at<'t, 'a>(scope: &[Declared], tokens: &'t [Token<'a>]) -> Found<'t, 'a, Item<'a>>
     ensures { option_map (λ found. (item_of found.0, tokens_of found.1.now)) result
         ≡ assignment_at (scope_of_code scope.now) (tokens_of tokens.now) }
 {
@@ -265,7 +268,7 @@ fn assignment_at<'t, 'a>(
 
 /// An item without its `;`.
 #[tactic(auto, unfolding(crate::specs::Reading::statement_at))]
-fn statement_at<'t, 'a>(scope: &[Declared<'a>], tokens: &'t [Token<'a>]) -> Found<'t, 'a, Item<'a>>
+fn statement_at<'t, 'a>(scope: &[Declared], tokens: &'t [Token<'a>]) -> Found<'t, 'a, Item<'a>>
     ensures { option_map (λ found. (item_of found.0, tokens_of found.1.now)) result
         ≡ statement_at (scope_of_code scope.now) (tokens_of tokens.now) }
 {
@@ -281,8 +284,9 @@ fn statement_at<'t, 'a>(scope: &[Declared<'a>], tokens: &'t [Token<'a>]) -> Foun
     }
 }
 
+/// An item with its `;`.
 #[tactic(auto, unfolding(crate::specs::Reading::item_at))]
-fn item_at<'t, 'a>(scope: &[Declared<'a>], tokens: &'t [Token<'a>]) -> Found<'t, 'a, Item<'a>>
+pub fn item_at<'t, 'a>(scope: &[Declared], tokens: &'t [Token<'a>]) -> Found<'t, 'a, Item<'a>>
     ensures { option_map (λ found. (item_of found.0, tokens_of found.1.now)) result
         ≡ item_at (scope_of_code scope.now) (tokens_of tokens.now) }
 {
@@ -293,7 +297,7 @@ fn item_at<'t, 'a>(scope: &[Declared<'a>], tokens: &'t [Token<'a>]) -> Found<'t,
 
 /// The tokens behind `int main(void) {`.
 #[tactic(auto, unfolding(crate::specs::Reading::header_at))]
-fn header_at<'t, 'a>(tokens: &'t [Token<'a>]) -> Option<&'t [Token<'a>]>
+pub fn header_at<'t, 'a>(tokens: &'t [Token<'a>]) -> Option<&'t [Token<'a>]>
     ensures { option_map (λ rest. tokens_of rest.now) result ≡ header_at (tokens_of tokens.now) }
 {
     let rest = after(b"int", tokens)?;
@@ -306,7 +310,7 @@ fn header_at<'t, 'a>(tokens: &'t [Token<'a>]) -> Option<&'t [Token<'a>]>
 
 /// The value of `return value; }`, where nothing stands behind that.
 #[tactic(auto, unfolding(crate::specs::Reading::ending_at))]
-fn ending_at<'a>(scope: &[Declared<'a>], tokens: &[Token<'a>]) -> Option<Value<'a>>
+pub fn ending_at<'a>(scope: &[Declared], tokens: &[Token<'a>]) -> Option<Value<'a>>
     ensures { option_map value_of result ≡ ending_at (scope_of_code scope.now) (tokens_of tokens.now) }
 {
     let rest = after(b"return", tokens)?;

@@ -39,8 +39,14 @@ pub fn declare<'a>(
     ensures { OnOk result (scope_of_code scope.new.items ≡ scope_of_code scope.old.items ++ scope_of (item_of item.entry ∷ [])) }
 {
     match item {
-        Item::DeclareInt(name) => scope.push(Declared { name, sort: Sort::Int }),
-        Item::DeclarePointer(name) => scope.push(Declared { name, sort: Sort::Pointer }),
+        Item::DeclareInt(name) => scope.push(Declared {
+            name,
+            sort: Sort::Int,
+        }),
+        Item::DeclarePointer(name) => scope.push(Declared {
+            name,
+            sort: Sort::Pointer,
+        }),
         _ => Ok(()),
     }
 }

@@ -8,6 +8,7 @@ use Rattle.cc_base.specs.declared.fault.Rule.TheVariants.{Unsupported}
 use Rattle.cc_base.specs.declared.fault.Fault.{Fault}
 use Rattle.cc_base.specs.declared.fault.Fault.TheVariants.{Refused as Refusal}
 use Rattle.first_language.specs.Text.{first_place}
+use Rattle.first_language.specs.Language.{IsRefusal}
 use Rattle.cc_io.specs.Bytes.{Gains, GainsFront, Keeps}
 use Rattle.cc_io.specs.Faults.{Rose}
 use Rattle.runs.specs.Input.{Closed}
@@ -16,12 +17,12 @@ use Rattle.cured_code.specs.FlatMachine.{flat_run}
 use Rattle.cured_code.specs.FlatState.{Exited as flat_exited, Stopped as flat_stopped}
 use Rattle.first_language.specs.Meaning.{Ending, Exited as source_exited, Stopped as source_stopped, first_run}
 use Rattle.first_language.specs.Tree.{Program}
-use Rattle.first_cure.specs.Simulation.{RunsAs, ending_of}
+use Rattle.first_cure.specs.SameRun.{RunsAs, ending_of}
 use Rattle.cure_core.specs.declared.machine.Ending.TheVariants as machine
 use Rattle.cure_core.specs.declared.verdict.Verdict.{Verdict}
 use Rattle.cure_core.specs.declared.verdict.Verdict.TheVariants.{Exited, Stopped, Refused, OutputFault, TextTooLong}
 use Rattle.cure_core.specs.Answers.{Answer, IsAnswer, runs, too_long, outside, text_limit, verdict_of, silent}
-use Rattle.cure_core.specs.Built.{IsCuredText, IsRefusal}
+use Rattle.cure_core.specs.Built.{IsCuredText}
 use Rattle.cure_core.specs.Causes.{Sunk, Filed, IsTextCause, answered, unwritten, IsFileCause, has_text}
 use Rattle.cure_core.specs.MachineRuns.{IsMachineRun, whole, cut}
 
@@ -92,4 +93,4 @@ pub refused_cause : (text : List ℕ) (out : Sunk) (fault : Fault) (place : Plac
     fault ≡ Refusal place rule → IsRefusal text fault → Gains out.before out.after [] → IsTextCause text out (Refused place rule)
 refused_cause text out fault place rule short is refusal kept =
     let why : IsRefusal text (Refusal place rule) = rw is at refusal in
-    answered (silent (Refused first_place Unsupported)) (outside short why.0 refl) (rw (why.1, why.2) refl) kept
+    answered (silent (Refused first_place Unsupported)) (outside short why.2 refl) (rw (why.0, why.1) refl) kept

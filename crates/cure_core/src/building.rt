@@ -1,9 +1,12 @@
 //! From a text to cured code.
 ghost use Rattle.std.specs.Prelude.{IfOk, IfErr};
-ghost use Rattle.cure_core.specs.Built.{IsCuredText, IsRefusal};
+ghost use Rattle.first_language.specs.Language.{IsRefusal};
+ghost use Rattle.cure_core.specs.Built.{IsCuredText};
 
 use cc_base::Fault;
 use cured_code::Cured;
+use first_cure::cure;
+use first_language::parse;
 use std::alloc::Global;
 
 /// What a text is built to.
@@ -18,7 +21,7 @@ pub fn build(alloc: Global, text: &[u8]) -> Result<Built, Fault>
     ensures built { IfOk result (λ built. IsCuredText text.now built.cured) }
     ensures refused { IfErr result (λ fault. IsRefusal text.now fault) }
 {
-    let _alloc = alloc;
-    let _text = text;
-    Err(Fault::NoMemory)
+    let program = parse(alloc, text)?;
+    let cured = cure(alloc, &program)?;
+    Ok(Built { cured })
 }

@@ -12,3 +12,6 @@ mod verdict;
 pub use building::{Built, build};
 pub use top::ccured;
 pub use verdict::Verdict;
+
+#[cfg(test)]
+mod tests;

@@ -3,7 +3,7 @@ ghost use Rattle.std.specs.Prelude.{◌≡◌, ◌≢◌, ℕ, ◌≤◌, ◌<�
 ghost use Rattle.std.specs.String.{string_bytes};
 ghost use Rattle.cc_io.specs.Faults.{Rose};
 ghost use Rattle.first_language.specs.Tree.{Program};
-ghost use Rattle.first_cure.specs.Simulation.{RunsAs};
+ghost use Rattle.first_cure.specs.SameRun.{RunsAs};
 ghost use Rattle.cure_core.specs.Answers.{text_limit};
 ghost use Rattle.cure_core.specs.Built.{IsCuredText};
 ghost use Rattle.cure_core.specs.Command.{command_of};

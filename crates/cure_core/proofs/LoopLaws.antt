@@ -110,10 +110,10 @@ reached_fault body c i left old new slots words out middle byte reached (puts b 
     let so_far : List ℕ = reached.state.state.output in
     let grown : Grows (run left at_start d) d = grows left at_start d in
     let all : (finished (run body at_start c)).output ≡ (so_far ++ byte ∷ []) ++ grown.more =
-        ap (λ o. (finished o).output) (goes_on body c reached.state d i left reached.same done) ∙ grown.is
-        ∙ ap (λ l. l ++ grown.more) (more ∙ ap (λ x. so_far ++ x ∷ []) (sym same_byte)) in
+    ap (λ o. (finished o).output) (goes_on body c reached.state d i left reached.same done) ∙ grown.is
+    ∙ ap (λ l. l ++ grown.more) (more ∙ ap (λ x. so_far ++ x ∷ []) (sym same_byte)) in
     cut refl rose (subst (λ l. GainsFront out.before out.after l) (sym all)
-        (front_of_more out.before out.after (so_far ++ byte ∷ []) grown.more (gains_front_more out.before middle out.after so_far (byte ∷ []) reached.gains front)))
+    (front_of_more out.before out.after (so_far ++ byte ∷ []) grown.more (gains_front_more out.before middle out.after so_far (byte ∷ []) reached.gains front)))
 reached_fault body c i left old new slots words out middle byte reached (ends ending next end d done is quiet) rose front = absurd (cc (next))
 
 -- the next instruction of those that are left

@@ -27,9 +27,9 @@ pub function_ran : (f : Function) (flat after : Memory) (areas : List Area) (slo
     (s : State) → s.memory ≡ flat → s.output ≡ [] → IsMachineRun (run_of (Some f) s) out ending
 function_ran f flat after areas slots body out ending list room frame zeros lines ran s same quiet =
     let begins : run_of (Some f) s ≡ finished (run body at_start (entry f s)) =
-        ap (λ b. started b f s) (fits_so f flat areas s same list ∙ room) ∙ ap (λ l. finished (run l at_start (entry f s))) (sym lines) in
+    ap (λ b. started b f s) (fits_so f flat areas s same list ∙ room) ∙ ap (λ l. finished (run l at_start (entry f s))) (sym lines) in
     let memory : (entry f s).state.memory ≡ after =
-        ap (λ m. pushed m (areas_of f.locals) f.charge) same ∙ ap (λ a. pushed flat a f.charge) (sym list) ∙ sym frame in
+    ap (λ m. pushed m (areas_of f.locals) f.charge) same ∙ ap (λ a. pushed flat a f.charge) (sym list) ∙ sym frame in
     subst (λ o. IsMachineRun o out ending) (sym begins) (ran (entry f s) (record { memory_is = memory; slots_are = sym zeros }) quiet)
 
 pub function_trapped : (f : Function) (flat : Memory) (areas : List Area) (out : Sunk) → areas ≡ areas_of f.locals → fits flat areas f.charge ≡ false → Gains out.before out.after [] →
@@ -55,4 +55,4 @@ program_ran parts code f flat out ending same some first memory ran =
     let there : slice_get code.functions 0 ≡ Some f = slice_get-get_or code.functions 0 f some ∙ ap Some (sym function) in
     let begins : flat_run code (Closed []) 0 ≡ run_of (Some f) (first_state code (Closed []) 0) = ap (λ o. run_of o (first_state code (Closed []) 0)) there in
     subst (λ o. IsMachineRun o out ending) (sym begins)
-        (ran (first_state code (Closed []) 0) (ap loaded_memory (sym same) ∙ sym memory) refl)
+    (ran (first_state code (Closed []) 0) (ap loaded_memory (sym same) ∙ sym memory) refl)

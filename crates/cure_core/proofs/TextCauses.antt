@@ -46,26 +46,26 @@ written_whole : (text : List ℕ) (parts : Parts) (out : Sunk) (verdict : Verdic
     verdict ≡ verdict_of (first_run cured.program).ending → Gains out.before out.after (flat_run parts (Closed []) 0).output → IsTextCause text out verdict
 written_whole text parts out verdict short cured same gains =
     answered (answer_of cured.program) (is_answer text parts short cured) same
-        (subst (λ bytes. Gains out.before out.after bytes) (cured.runs.same (Closed []) 0).output gains)
+    (subst (λ bytes. Gains out.before out.after bytes) (cured.runs.same (Closed []) 0).output gains)
 
 written_in_part : (text : List ℕ) (parts : Parts) (out : Sunk) → length text ≤ text_limit → IsCuredText text parts →
     Rose out.faults_before out.faults_after → GainsFront out.before out.after (flat_run parts (Closed []) 0).output → IsTextCause text out OutputFault
 written_in_part text parts out short cured rose front =
     unwritten (answer_of cured.program) (is_answer text parts short cured) refl rose
-        (subst (λ bytes. GainsFront out.before out.after bytes) (cured.runs.same (Closed []) 0).output front)
+    (subst (λ bytes. GainsFront out.before out.after bytes) (cured.runs.same (Closed []) 0).output front)
 
 pub exited_cause : (parts : Parts) (out : Sunk) (n : ℕ) → IsMachineRun (flat_run parts (Closed []) 0) out (machine.Exited n) →
     (text : List ℕ) → length text ≤ text_limit → IsCuredText text parts → IsTextCause text out (Exited n)
 exited_cause parts out n (whole end gains) text short cured =
     written_whole text parts out (Exited n) short cured
-        (exits_so (first_run cured.program).ending n (sym end ∙ (cured.runs.same (Closed []) 0).ending)) gains
+    (exits_so (first_run cured.program).ending n (sym end ∙ (cured.runs.same (Closed []) 0).ending)) gains
 exited_cause parts out n (cut end rose front) text short cured = absurd (cc (end))
 
 pub stopped_cause : (parts : Parts) (out : Sunk) (check : Check) (place : Place) → IsMachineRun (flat_run parts (Closed []) 0) out (machine.Stopped check place) →
     (text : List ℕ) → length text ≤ text_limit → IsCuredText text parts → IsTextCause text out (Stopped check place)
 stopped_cause parts out check place (whole end gains) text short cured =
     written_whole text parts out (Stopped check place) short cured
-        (stops_so (first_run cured.program).ending check place (sym end ∙ (cured.runs.same (Closed []) 0).ending)) gains
+    (stops_so (first_run cured.program).ending check place (sym end ∙ (cured.runs.same (Closed []) 0).ending)) gains
 stopped_cause parts out check place (cut end rose front) text short cured = absurd (cc (end))
 
 pub fault_cause : (parts : Parts) (out : Sunk) → IsMachineRun (flat_run parts (Closed []) 0) out machine.WriteFault →
@@ -81,7 +81,7 @@ pub long_file_cause : (name : List ℕ) (files : Filed) (out : Sunk) (told : Opt
     IfSome told (λ bytes. text_limit < length bytes) → Gains out.before out.after [] → IsFileCause name files out TextTooLong
 long_file_cause name files out None is long kept =
     has_text (replicate (suc text_limit) 0) (rw is (tt {0}))
-        (too_long_cause (replicate (suc text_limit) 0) out (rw (length-replicate {A = ℕ} (suc text_limit) 0) (omega arith)) kept)
+    (too_long_cause (replicate (suc text_limit) 0) out (rw (length-replicate {A = ℕ} (suc text_limit) 0) (omega arith)) kept)
 long_file_cause name files out (Some bytes) is long kept = has_text bytes (rw is refl) (too_long_cause bytes out long kept)
 
 -- a sink that is left alone has gained nothing

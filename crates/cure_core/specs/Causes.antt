@@ -35,7 +35,7 @@ pub data IsTextCause (text : List ℕ) (output : Sunk) (verdict : Verdict) : Typ
   answered : (answer : Answer) → IsAnswer text answer → verdict ≡ answer.verdict → Gains output.before output.after answer.output → IsTextCause text output verdict
   -- a write of the answer's output failed, and a front of it was written
   unwritten : (answer : Answer) → IsAnswer text answer → verdict ≡ OutputFault → Rose output.faults_before output.faults_after →
-    GainsFront output.before output.after answer.output → IsTextCause text output verdict
+      GainsFront output.before output.after answer.output → IsTextCause text output verdict
   -- memory was wanted before anything was written
   no_room : verdict ≡ NoMemory → Keeps output.before output.after → IsTextCause text output verdict
 

@@ -1,14 +1,14 @@
 //! The machine's memory before it runs: the globals, and the areas of a frame.
 ghost use Rattle.std.specs.Prelude.{◌≡◌, ◌<◌, ◌≤◌, ◌+◌, ◌*◌, ◌^◌, All, IfOk, length, sum_by};
 ghost use Rattle.flat_mem.specs.Bytes.{written};
-ghost use Rattle.flat_mem.specs.Placement.{areas_size, addresses};
+ghost use Rattle.flat_mem.specs.Placement.{area_size, areas_size, addresses};
 ghost use Rattle.flat_mem.specs.Memory.{first_memory, with_bytes};
 ghost use Rattle.cured_code.specs.FlatMachine.{area_of, areas_of, global_areas, globals_written, loaded_memory};
 ghost use Rattle.cured_code.specs.Ranges.{IsGlobalInRange, IsInRange, functions_limit, globals_limit, global_bytes_limit};
 ghost use Rattle.cure_core.specs.Plans.{plan_for};
 
 use cured_code::{AreaLine, Function, GlobalLine, Parts};
-use flat_mem::{Area, AreaList, Flat, Plan, size_of};
+use flat_mem::{Area, AreaList, Flat, Plan};
 use std::alloc::{AllocError, Global};
 
 /// What the frames of a program may be charged together, in bytes.
@@ -49,11 +49,9 @@ fn load(alloc: Global, functions: &[Function], globals: &[GlobalLine]) -> Result
     requires globals { length globals.now ≤ globals_limit }
     requires bytes { sum_by (λ g. g.area.bytes) globals.now ≤ global_bytes_limit }
     requires within { All IsGlobalInRange globals.now }
-    ensures {
-        IfOk result (λ flat. let memory = first_memory (plan_for functions.now globals.now) in
-            flat ≡ with_bytes memory
-                (globals_written globals.now (addresses (global_areas globals.now) (8 * length functions.now)) memory.bytes))
-    }
+    ensures { IfOk result (λ flat. let memory = first_memory (plan_for functions.now globals.now) in
+        flat ≡ with_bytes memory
+        (globals_written globals.now (addresses (global_areas globals.now) (8 * length functions.now)) memory.bytes)) }
 {
     let plan = plan(alloc, functions, globals)?;
     let mut flat = Flat::new(alloc, &plan)?;
@@ -80,7 +78,10 @@ fn plan(alloc: Global, functions: &[Function], globals: &[GlobalLine]) -> Result
 fn areas_of_globals(alloc: Global, globals: &[GlobalLine]) -> Result<Vec<Area>, AllocError>
     ensures { IfOk result (λ areas. areas.items ≡ global_areas globals.now) }
 {
-    globals.iter().map(|global| area_of(global.area)).collect(alloc)
+    globals
+        .iter()
+        .map(|global| area_of(global.area))
+        .collect(alloc)
 }
 
 /// Writes the first bytes of globals whose areas lie one after another from `start` on.
@@ -88,9 +89,7 @@ fn write_globals(flat: &mut Flat, globals: &[GlobalLine], start: u64)
     requires room { start + areas_size (global_areas globals.now) ≤ length flat.old.bytes }
     requires small { length flat.old.bytes < 2 ^ 32 }
     requires within { All IsGlobalInRange globals.now }
-    ensures {
-        flat.new ≡ with_bytes flat.old (globals_written globals.now (addresses (global_areas globals.now) start) flat.old.bytes)
-    }
+    ensures { flat.new ≡ with_bytes flat.old (globals_written globals.now (addresses (global_areas globals.now) start) flat.old.bytes) }
 {
     let mut at = start;
     for global in globals {
@@ -108,5 +107,18 @@ fn write_bytes(flat: &mut Flat, at: u64, bytes: &[u8])
 {
     for (offset, byte) in bytes.iter().enumerate() {
         flat.store(at + offset as u64, 1, u64::from(*byte));
+    }
+}
+
+/// The size of an area with its first word.
+fn size_of(area: Area) -> u64
+    requires { area.bytes < 2 ^ 32 }
+    ensures { result ≡ area_size area }
+{
+    let words = area.bytes.div_ceil(8);
+    if area.tagged {
+        8 + 16 * words + 8 * words.div_ceil(64)
+    } else {
+        8 + 8 * words
     }
 }

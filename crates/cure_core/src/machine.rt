@@ -10,13 +10,12 @@ ghost use Rattle.cure_core.specs.Causes.{sunk};
 ghost use Rattle.cure_core.specs.MachineRuns.{IsMachineRun};
 ghost use Rattle.cure_core.specs.MachineSteps.{IsIn, IsStepped, at_start};
 
+use crate::loading::{areas_of, load_parts};
 use cc_base::{Check, NoMemory, Place};
 use cc_io::Sink;
 use cured_code::{Cured, Function, Instr};
 use flat_mem::Flat;
 use std::alloc::Global;
-
-use crate::loading::{areas_of, load_parts};
 
 /// How a run ends.
 #[derive(Clone, Copy, Debug, PartialEq, Eq)]
@@ -44,9 +43,7 @@ pub(crate) enum Step {
 
 /// Runs the code, and writes its output to the sink. All memory is taken before the first write.
 pub(crate) fn run<O: Sink>(alloc: Global, code: &Cured, out: &mut O) -> Result<Ending, NoMemory>
-    ensures ran {
-        IfOk result (λ ending. IsMachineRun (flat_run code.now (Closed []) 0) (sunk O.written O.faults out.old out.new) ending)
-    }
+    ensures ran { IfOk result (λ ending. IsMachineRun (flat_run code.now (Closed []) 0) (sunk O.written O.faults out.old out.new) ending) }
     ensures no_memory { OnErr result (out.new ≡ out.old) }
 {
     let parts = code.parts();
@@ -56,12 +53,15 @@ pub(crate) fn run<O: Sink>(alloc: Global, code: &Cured, out: &mut O) -> Result<E
 }
 
 /// Runs function 0 in a frame of its own.
-fn run_function<O: Sink>(alloc: Global, flat: &mut Flat, function: &Function, out: &mut O) -> Result<Ending, NoMemory>
+fn run_function<O: Sink>(
+    alloc: Global,
+    flat: &mut Flat,
+    function: &Function,
+    out: &mut O,
+) -> Result<Ending, NoMemory>
     requires { All (IsInstrInRange function.now.slots (length function.now.locals)) function.now.body.0.items }
-    ensures ran {
-        IfOk result (λ ending. (s : State) → s.memory ≡ flat.old → s.output ≡ [] →
-            IsMachineRun (run_of (Some function.now) s) (sunk O.written O.faults out.old out.new) ending)
-    }
+    ensures ran { IfOk result (λ ending. (s : State) → s.memory ≡ flat.old → s.output ≡ [] →
+        IsMachineRun (run_of (Some function.now) s) (sunk O.written O.faults out.old out.new) ending) }
     ensures no_memory { OnErr result (out.new ≡ out.old) }
 {
     let locals = &function.locals;
@@ -78,10 +78,8 @@ fn run_function<O: Sink>(alloc: Global, flat: &mut Flat, function: &Function, ou
 /// Runs the instructions, and writes what they put out.
 fn execute<O: Sink>(flat: &mut Flat, slots: &mut [u64], body: &[Instr], out: &mut O) -> Ending
     requires { All (IsInstrInRange (length slots.old) (length (newest_addresses flat.old.frames))) body.now }
-    ensures {
-        (c : Local) → IsIn flat.old slots.old c → c.state.output ≡ [] →
-            IsMachineRun (finished (run body.now at_start c)) (sunk O.written O.faults out.old out.new) result
-    }
+    ensures { (c : Local) → IsIn flat.old slots.old c → c.state.output ≡ [] →
+        IsMachineRun (finished (run body.now at_start c)) (sunk O.written O.faults out.old out.new) result }
 {
     for instr in body {
         match advance(instr, flat, slots) {

@@ -6,12 +6,11 @@ ghost use Rattle.cc_base.specs.Places.{place_text};
 ghost use Rattle.cure_core.specs.Verdicts.{words_of, line_of};
 ghost use Rattle.cure_core.specs.Causes.{sunk, IsReported};
 
+use crate::verdict::Verdict;
 use arrayvec::ArrayString;
 use cc_base::Place;
 use cc_io::Sink;
 use itoa::Buffer;
-
-use crate::verdict::Verdict;
 
 /// Room for the longest line.
 const ROOM: usize = 128;

@@ -1,12 +1,10 @@
 #![tactic(auto)]
 
+use crate::{build, ccured};
+use cc_io::{MemFiles, MemSink, MemSource};
 use std::alloc::{AllocError, Global};
 use std::collections::BTreeMap;
 use std::test::Fail;
-
-use cc_io::{MemFiles, MemSink, MemSource};
-
-use crate::{build, ccured};
 
 /// The numbers of the calls that fail, of the files, of the output and of the report.
 #[derive(Clone, Copy, Default)]
@@ -39,18 +37,36 @@ fn calls(alloc: Global, call: Option<u64>) -> Result<Vec<u64>, AllocError> {
 }
 
 /// Runs the program on these words, with the text in the file `file.c`.
-fn answer(alloc: Global, words: &[&str], text: &[u8], failing: Failing) -> Result<Answered, AllocError> {
+fn answer(
+    alloc: Global,
+    words: &[&str],
+    text: &[u8],
+    failing: Failing,
+) -> Result<Answered, AllocError> {
     let mut list = Vec::new(alloc);
     for word in words {
         list.push(String::from_str(alloc, word)?)?;
     }
     let mut map = BTreeMap::new(alloc);
-    map.insert(String::from_str(alloc, "file.c")?, Vec::from_slice(alloc, text)?)?;
+    map.insert(
+        String::from_str(alloc, "file.c")?,
+        Vec::from_slice(alloc, text)?,
+    )?;
     let mut files = MemFiles::new(alloc, map, calls(alloc, failing.files)?);
     let mut input = MemSource::new(Vec::new(alloc), 1, Vec::new(alloc));
     let mut out = MemSink::new(Vec::with_capacity(alloc, 256)?, calls(alloc, failing.out)?);
-    let mut report = MemSink::new(Vec::with_capacity(alloc, 256)?, calls(alloc, failing.report)?);
-    let status = ccured(alloc, list.as_slice(), &mut files, &mut input, &mut out, &mut report);
+    let mut report = MemSink::new(
+        Vec::with_capacity(alloc, 256)?,
+        calls(alloc, failing.report)?,
+    );
+    let status = ccured(
+        alloc,
+        list.as_slice(),
+        &mut files,
+        &mut input,
+        &mut out,
+        &mut report,
+    );
     Ok(Answered {
         status,
         out: Vec::from_slice(alloc, out.written())?,
@@ -88,7 +104,8 @@ fn the_status_is_the_low_byte(rt: HostRuntime) -> Result<(), Fail> {
 
 #[test]
 fn output_comes_in_order_and_ints_start_at_0(rt: HostRuntime) -> Result<(), Fail> {
-    let text = b"int main(void) { int a; int b; int *p; p = &b; *p = 67; a = 66; putchar(65); putchar(a);\n putchar(*p); p = &a; *p = 324; putchar(a); int c; return c; }";
+    let text =
+        b"int main(void) { int a; int b; int *p; p = &b; *p = 67; a = 66; putchar(65); putchar(a);\n putchar(*p); p = &a; *p = 324; putchar(a); int c; return c; }";
     assert!(rt; run(rt.alloc(), text)?.is(0, b"ABCD", b"exited 0\n"));
     Ok(())
 }
@@ -128,15 +145,26 @@ fn declaring(alloc: Global, count: u32) -> Result<String, AllocError> {
 fn a_program_has_64_names_at_most(rt: HostRuntime) -> Result<(), Fail> {
     let alloc = rt.alloc();
     assert!(rt; run(alloc, declaring(alloc, 64)?.as_bytes())?.is(0, b"", b"exited 7\n"));
-    assert!(rt; run(alloc, declaring(alloc, 65)?.as_bytes())?.is(4, b"", b"refused 1:1 Unsupported\n"));
+    assert!(rt;
+        run(alloc, declaring(alloc, 65)?.as_bytes())?.is(4, b"", b"refused 1:1 Unsupported\n")
+    );
     Ok(())
 }
 
 #[test]
 fn words_that_are_no_command_are_told_its_use(rt: HostRuntime) -> Result<(), Fail> {
-    let lists: [&[&str]; 6] = [&[], &["run"], &["run", "-x"], &["run", "a", "b"], &["walk", "file.c"], &["run", ""]];
+    let lists: [&[&str]; 6] = [
+        &[],
+        &["run"],
+        &["run", "-x"],
+        &["run", "a", "b"],
+        &["walk", "file.c"],
+        &["run", ""],
+    ];
     for words in lists {
-        assert!(rt; answer(rt.alloc(), words, NULL_DEREFERENCE, Failing::default())?.is(2, b"", b"usage\n"));
+        assert!(rt;
+            answer(rt.alloc(), words, NULL_DEREFERENCE, Failing::default())?.is(2, b"", b"usage\n")
+        );
     }
     Ok(())
 }
@@ -147,16 +175,37 @@ fn a_file_that_cannot_be_read_is_a_file_fault(rt: HostRuntime) -> Result<(), Fai
         files: Some(1),
         ..Failing::default()
     };
-    assert!(rt; answer(rt.alloc(), &["run", "file.c"], NULL_DEREFERENCE, failing)?.is(3, b"", b"file fault\n"));
-    assert!(rt; answer(rt.alloc(), &["run", "other.c"], NULL_DEREFERENCE, Failing::default())?.is(3, b"", b"file fault\n"));
+    assert!(rt;
+        answer(rt.alloc(), &["run", "file.c"], NULL_DEREFERENCE, failing)?.is(
+            3,
+            b"",
+            b"file fault\n"
+        )
+    );
+    assert!(rt;
+        answer(
+            rt.alloc(),
+            &["run", "other.c"],
+            NULL_DEREFERENCE,
+            Failing::default()
+        )?
+        .is(3, b"", b"file fault\n")
+    );
     Ok(())
+}
+
+/// A text of so many blanks.
+fn blanks(alloc: Global, count: usize) -> Result<Vec<u8>, AllocError> {
+    vec![in alloc; b' '; count]
 }
 
 #[test]
 fn a_text_of_one_byte_too_many_passes_the_limit(rt: HostRuntime) -> Result<(), Fail> {
-    let text = vec![in rt.alloc(); b' '; 1_048_577]?;
-    assert!(rt; run(rt.alloc(), text.as_slice())?.is(8, b"", b"limit text 1048576\n"));
-    assert!(rt; run(rt.alloc(), &text[..1_048_576])?.is(4, b"", b"refused 1:1 Unsupported\n"));
+    let alloc = rt.alloc();
+    let longest = blanks(alloc, 1_048_576)?;
+    let longer = blanks(alloc, 1_048_577)?;
+    assert!(rt; run(alloc, longest.as_slice())?.is(4, b"", b"refused 1:1 Unsupported\n"));
+    assert!(rt; run(alloc, longer.as_slice())?.is(8, b"", b"limit text 1048576\n"));
     Ok(())
 }
 
@@ -166,7 +215,9 @@ fn a_failed_write_of_the_output_is_an_output_fault(rt: HostRuntime) -> Result<()
         out: Some(1),
         ..Failing::default()
     };
-    assert!(rt; answer(rt.alloc(), &["run", "file.c"], WRITES_H, failing)?.is(6, b"", b"output fault\n"));
+    assert!(rt;
+        answer(rt.alloc(), &["run", "file.c"], WRITES_H, failing)?.is(6, b"", b"output fault\n")
+    );
     Ok(())
 }
 

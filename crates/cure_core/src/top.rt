@@ -10,16 +10,15 @@ ghost use Rattle.cure_core.specs.Command.{command_of};
 ghost use Rattle.cure_core.specs.Statuses.{GivesAnswer, HasCause};
 ghost use Rattle.cure_core.specs.Causes.{sunk, filed, IsTextCause, IsFileCause, IsCause, IsJudged};
 
-use cc_base::{Fault, NoMemory};
-use cc_io::{FileFault, Files, Sink, Source};
-use cured_code::Cured;
-use std::alloc::Global;
-
 use crate::building::build;
 use crate::command::file_to_run;
 use crate::machine::{Ending, run};
 use crate::report::report_verdict;
 use crate::verdict::Verdict;
+use cc_base::{Fault, NoMemory};
+use cc_io::{FileFault, Files, Sink, Source};
+use cured_code::Cured;
+use std::alloc::Global;
 
 /// The most bytes that a text of C may have.
 const TEXT_LIMIT: u64 = 1_048_576;
@@ -34,39 +33,31 @@ pub fn ccured<F: Files, I: Source, O: Sink, E: Sink>(
     report: &mut E,
 ) -> u8
     // A verdict is given for its cause, and reported: what is written under each fault.
-    ensures judged {
-        IsJudged (map string_bytes words.now)
-            (filed F.holds F.faults F.last files.old files.new)
-            (sunk O.written O.faults out.old out.new)
-            (sunk E.written E.faults report.old report.new)
-            result
-    }
+    ensures judged { IsJudged (map string_bytes words.now)
+        (filed F.holds F.faults F.last files.old files.new)
+        (sunk O.written O.faults out.old out.new)
+        (sunk E.written E.faults report.old report.new)
+        result }
 
     // Every status has its cause.
-    ensures cause {
-        HasCause (map string_bytes words.now)
-            (filed F.holds F.faults F.last files.old files.new)
-            (sunk O.written O.faults out.old out.new)
-            (sunk E.written E.faults report.old report.new)
-            result
-    }
+    ensures cause { HasCause (map string_bytes words.now)
+        (filed F.holds F.faults F.last files.old files.new)
+        (sunk O.written O.faults out.old out.new)
+        (sunk E.written E.faults report.old report.new)
+        result }
 
     // Where nothing failed and memory was there, the answer to the words and the files is given.
-    ensures answer {
-        ¬ (Rose (F.faults files.old) (F.faults files.new)) → ¬ (Rose (O.faults out.old) (O.faults out.new)) →
+    ensures answer { ¬ (Rose (F.faults files.old) (F.faults files.new)) → ¬ (Rose (O.faults out.old) (O.faults out.new)) →
         ¬ (Rose (E.faults report.old) (E.faults report.new)) → result ≢ 9 →
-            GivesAnswer (map string_bytes words.now)
-                (filed F.holds F.faults F.last files.old files.new)
-                (sunk O.written O.faults out.old out.new)
-                (sunk E.written E.faults report.old report.new)
-                result
-    }
+        GivesAnswer (map string_bytes words.now)
+        (filed F.holds F.faults F.last files.old files.new)
+        (sunk O.written O.faults out.old out.new)
+        (sunk E.written E.faults report.old report.new)
+        result }
 
     // Words that are no command are refused, and no memory is wanted for that.
-    ensures usage {
-        command_of (map string_bytes words.now) ≡ None →
-            (result ≡ 2) ⊎ ((result ≡ 6) × Rose (E.faults report.old) (E.faults report.new))
-    }
+    ensures usage { command_of (map string_bytes words.now) ≡ None →
+        (result ≡ 2) ⊎ ((result ≡ 6) × Rose (E.faults report.old) (E.faults report.new)) }
 
     // No input is read.
     ensures unread { input.new ≡ input.old }
@@ -78,12 +69,10 @@ pub fn ccured<F: Files, I: Source, O: Sink, E: Sink>(
 
 /// The verdict on the words.
 fn judge<F: Files, O: Sink>(alloc: Global, words: &[String], files: &mut F, out: &mut O) -> Verdict
-    ensures {
-        IsCause (map string_bytes words.now)
-            (filed F.holds F.faults F.last files.old files.new)
-            (sunk O.written O.faults out.old out.new)
-            result
-    }
+    ensures { IsCause (map string_bytes words.now)
+        (filed F.holds F.faults F.last files.old files.new)
+        (sunk O.written O.faults out.old out.new)
+        result }
 {
     match file_to_run(words) {
         None => Verdict::Usage,
@@ -93,12 +82,10 @@ fn judge<F: Files, O: Sink>(alloc: Global, words: &[String], files: &mut F, out:
 
 /// The verdict on the file of a name.
 fn run_file<F: Files, O: Sink>(alloc: Global, name: &str, files: &mut F, out: &mut O) -> Verdict
-    ensures {
-        IsFileCause name.now
-            (filed F.holds F.faults F.last files.old files.new)
-            (sunk O.written O.faults out.old out.new)
-            result
-    }
+    ensures { IsFileCause name.now
+        (filed F.holds F.faults F.last files.old files.new)
+        (sunk O.written O.faults out.old out.new)
+        result }
 {
     match read_text(alloc, name, files) {
         Ok(text) => run_text(alloc, text.as_slice(), out),
@@ -127,11 +114,9 @@ fn read_text<F: Files>(alloc: Global, name: &str, files: &mut F) -> Result<Vec<u
 /// The verdict on a text.
 fn run_text<O: Sink>(alloc: Global, text: &[u8], out: &mut O) -> Verdict
     requires { length text.now ≤ text_limit }
-    ensures {
-        IsTextCause text.now
-            (sunk O.written O.faults out.old out.new)
-            result
-    }
+    ensures { IsTextCause text.now
+        (sunk O.written O.faults out.old out.new)
+        result }
 {
     match build(alloc, text) {
         Ok(built) => run_code(alloc, &built.cured, out),
@@ -143,12 +128,10 @@ fn run_text<O: Sink>(alloc: Global, text: &[u8], out: &mut O) -> Verdict
 /// Runs the cured code of a program, and answers how its run is reported.
 fn run_code<O: Sink>(alloc: Global, code: &Cured, out: &mut O) -> Verdict
     requires { (program : Program) × RunsAs code.now program }
-    ensures {
-        (text : List ℕ) → length text ≤ text_limit → IsCuredText text code.now →
-            IsTextCause text
-                (sunk O.written O.faults out.old out.new)
-                result
-    }
+    ensures { (text : List ℕ) → length text ≤ text_limit → IsCuredText text code.now →
+        IsTextCause text
+        (sunk O.written O.faults out.old out.new)
+        result }
 {
     match run(alloc, code, out) {
         Ok(Ending::Exited(status)) => Verdict::Exited(status),

@@ -1,8 +1,8 @@
 -- Pushing and popping a frame, and making a block, do to the memory that is seen what the definitions say, and keep
--- what holds of the fields.
+-- what holds of the fields. The letters are those of Keeps.
 use Rattle.std.specs.Prelude.{◌≡◌, ℕ, ◌+◌, ◌-◌, ◌*◌, ◌^◌, ◌<◌, ◌≤◌, ◌&&◌, nat_le, Some, None, if◌then◌else◌, IsTrue, List, [], ◌∷◌, ◌++◌, length, reverse, take, drop}
 use Rattle.std.proofs.Common.{sym, ◌∙◌, ap, subst, arith}
-use Rattle.std.proofs.lemmas.List.{take_all, drop_all, append-nil, reverse-append, length-append}
+use Rattle.std.proofs.lemmas.List.{reverse-append, length-append}
 use Rattle.std.proofs.lemmas.Bool.Decides.{nat_tests}
 use Rattle.flat_mem.specs.declared.Area.{Area}
 use Rattle.flat_mem.specs.declared.memory.Mark.{Mark}
@@ -10,16 +10,10 @@ use Rattle.flat_mem.specs.Placement.{area_size, areas_size, addresses, area_made
 use Rattle.flat_mem.specs.Memory.{Bounds, Memory, IsSound, Consecutive, fits, pushed, popped, older_frames, frame_of, frames_end, charges, next_frame, block_fits, block_made}
 use Rattle.flat_mem.specs.Marks.{frame_seen, frames_seen, memory_seen, MarksLie, IsKept}
 use Rattle.flat_mem.proofs.AreaLaws.{area_size-least, length-addresses, length-areas_made, length-area_made}
+use Rattle.flat_mem.proofs.Keeps.{written-back}
 use Rattle.flat_mem.proofs.AreaCode.{within, le_of}
 use Rattle.flat_mem.proofs.SoundLaws.{Room, room_of-fits, sound-pushed, sound-popped, sound-block_made}
 use Rattle.flat_mem.proofs.FramesSeen.{seen-pushed, seen-popped, lie-popped, addresses-most, areas_size-words, length-frames_seen}
-
--- a vector's items once a slice of all of them was written
-pub written-back : (old lent new : List ℕ) (len : ℕ) → lent ≡ old → length lent ≡ len → length new ≡ length lent → take len (new ++ drop (length new) old) ≡ new
-written-back old lent new len is size same =
-    let olds : length old ≡ len = ap length (sym is) ∙ size in
-    ap (λ rest. take len (new ++ rest)) (drop_all (length new) old (omega (arith, olds, same, size)))
-    ∙ (ap (take len) (append-nil new) ∙ take_all len new (omega (arith, same, size)))
 
 pub areas-back : (old lent new : List ℕ) (len : ℕ) (areas : List Area) (start : ℕ) → lent ≡ old → length lent ≡ len → new ≡ areas_made areas lent start → take len (new ++ drop (length new) old) ≡ areas_made areas old start
 areas-back old lent new len areas start is size made =

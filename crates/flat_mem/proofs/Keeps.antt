@@ -1,4 +1,5 @@
--- What holds of a flat memory's fields still holds after each change.
+-- What holds of a flat memory's fields still holds after a store, a zeroing and a move. In these lemmas b are the
+-- bounds, t the top, c the charge, h and k the heap's top and charge, r and s the room for marks and addresses.
 use Rattle.std.specs.Prelude.{◌≡◌, ℕ, ◌≤◌, List, ◌++◌, length, take, drop}
 use Rattle.std.proofs.Common.{sym, ◌∙◌, ap, subst, arith}
 use Rattle.std.proofs.lemmas.List.{take_all, drop_all, append-nil}
@@ -11,10 +12,11 @@ use Rattle.flat_mem.proofs.ByteLaws.{length-stored, length-zeroed, length-moved,
 
 -- A vector's items once a slice of all of them was written
 
-back : (old new : List ℕ) (len : ℕ) → length old ≡ len → length new ≡ len → take len (new ++ drop (length new) old) ≡ new
-back old new len e f =
-    ap (λ rest. take len (new ++ rest)) (drop_all (length new) old (omega (arith, e, f)))
-    ∙ (ap (take len) (append-nil new) ∙ take_all len new (omega (arith, f)))
+pub written-back : (old lent new : List ℕ) (len : ℕ) → lent ≡ old → length lent ≡ len → length new ≡ length lent → take len (new ++ drop (length new) old) ≡ new
+written-back old lent new len is size same =
+    let olds : length old ≡ len = ap length (sym is) ∙ size in
+    ap (λ rest. take len (new ++ rest)) (drop_all (length new) old (omega (arith, olds, same, size)))
+    ∙ (ap (take len) (append-nil new) ∙ take_all len new (omega (arith, same, size)))
 
 kept-bytes : (old new : List ℕ) (b : Bounds) (marks : List Mark) (addresses : List ℕ) (t c h k r s : ℕ) → IsKept old b marks addresses t c h k r s → AreBytes new → length new ≡ length old → IsKept new b marks addresses t c h k r s
 kept-bytes old new b marks addresses t c h k r s kept are same = record {
@@ -31,7 +33,7 @@ kept-back : (old lent new : List ℕ) (len : ℕ) (b : Bounds) (marks : List Mar
 kept-back old lent new len b marks addresses t c h k r s is size are same kept =
     let olds : length old ≡ len = ap length (sym is) ∙ size in
     let P : List ℕ → Type 0 = λ l. IsKept l b marks addresses t c h k r s in
-    subst P (sym (back old new len olds (same ∙ size))) (kept-bytes old new b marks addresses t c h k r s kept (are kept.sound.bytes) (same ∙ (size ∙ sym olds)))
+    subst P (sym (written-back old lent new len is size same)) (kept-bytes old new b marks addresses t c h k r s kept (are kept.sound.bytes) (same ∙ (size ∙ sym olds)))
 
 pub kept-stored : (n at v : ℕ) (old lent new : List ℕ) (len : ℕ) (b : Bounds) (marks : List Mark) (addresses : List ℕ) (t c h k r s : ℕ) → lent ≡ old → length lent ≡ len → new ≡ stored n lent at v → IsKept old b marks addresses t c h k r s → IsKept (take len (new ++ drop (length new) old)) b marks addresses t c h k r s
 kept-stored n at v old lent new len b marks addresses t c h k r s is size e kept =

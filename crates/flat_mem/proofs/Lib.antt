@@ -9,3 +9,4 @@ pub mod FramesSeen
 pub mod FramesKept
 pub mod DepthCode
 pub mod NewCode
+pub mod RangeLaws

@@ -6,7 +6,7 @@ ghost use Rattle.flat_mem.specs.Placement.{area_size, areas_size, addresses, fir
 use crate::{Area, numbers};
 
 // The size of the area with its first word.
-pub fn size_of(area: Area) -> u64
+pub(crate) fn size_of(area: Area) -> u64
     requires { area.bytes < 2 ^ 32 }
     ensures { result ≡ area_size area }
 {

@@ -8,13 +8,12 @@ mod areas;
 mod memory;
 mod numbers;
 
-pub use areas::size_of;
 pub use memory::Flat;
 use std::marker::Model;
 
 /// An area of the byte list: that of a global, a local or a heap block. `bytes` is how many bytes the object
 /// has; a tagged area has a base word and a tag bit beside each word of them.
-#[derive(Clone, Copy, Debug)]
+#[derive(Clone, Copy, Debug, PartialEq, Eq)]
 pub struct Area {
     pub tagged: bool,
     pub bytes: u64,
@@ -52,3 +51,6 @@ pub struct Plan {
     pub stack: u64,
     pub heap: u64,
 }
+
+#[cfg(test)]
+mod tests;

@@ -161,7 +161,8 @@ impl Flat {
     /// Pushes a frame with these areas, each zeroed and its first word written.
     pub fn push_frame(&mut self, areas: &[Area], charge: u64)
         requires { IsTrue (fits self.old areas.now charge) }
-        ensures { self.new ≡ pushed self.old areas.now charge }
+        ensures memory { self.new ≡ pushed self.old areas.now charge }
+        ensures areas { length (newest_addresses self.new.frames) ≡ length areas.now }
     {
         let start = self.top;
         let first = self.addresses.len();

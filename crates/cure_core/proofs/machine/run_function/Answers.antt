@@ -13,5 +13,5 @@ execute-requires g c = kept_in_range c.args.function.now _ _ _
     c.deref-4.ensures.value
     (ap length (c.deref_mut.ensures.value ∙ c.in_ok-slots.ensures.items_if_clones_equal (λ y e. e)) ∙ length-replicate {A = ℕ} c.args.function.now.slots 0)
     (ap (λ m. length (newest_addresses m.frames)) c.push_frame.ensures ∙ length-addresses c.deref-3.result.now _
-        ∙ ap length (c.deref-3.ensures.value ∙ c.in_ok-areas.ensures) ∙ length-map c.deref.result.now area_of ∙ ap length (c.deref.ensures.value ∙ c.locals.view_is))
+    ∙ ap length (c.deref-3.ensures.value ∙ c.in_ok-areas.ensures) ∙ length-map c.deref.result.now area_of ∙ ap length (c.deref.ensures.value ∙ c.locals.view_is))
     c.requires

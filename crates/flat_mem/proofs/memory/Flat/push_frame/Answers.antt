@@ -1,4 +1,6 @@
 use Rattle.std.proofs.Common.{length, arith, ◌∙◌, ap}
+use Rattle.flat_mem.specs.Memory.{newest_addresses, next_frame}
+use Rattle.flat_mem.proofs.AreaLaws.{length-addresses}
 use Rattle.flat_mem.proofs.FramesKept.{areas-back, kept-room, kept-pushed, pushed-seen}
 use Rattle.flat_mem.proofs.memory.Flat.push_frame.Goals as goal
 
@@ -25,4 +27,8 @@ pub returns : goal.returns
 returns c =
     let made = areas-back _ _ _ _ _ _ c.deref_mut.ensures.value c.deref_mut.ensures.len c.make_areas-end.ensures.made in
     let size = c.self.inside.addresses.ok in
-    pushed-seen _ _ _ _ _ _ _ _ _ _ _ _ _ _ _ _ _ _ c.self.view_is made (c.len-first.ensures ∙ size.0) c.make_areas-end.ensures.end c.push_reserved.ensures.items c.list_addresses.ensures.added c.self.invariant
+    let whole = pushed-seen c.args.self.now _ _ _ _ _ _ _ _ _ _ _ _ _ _ _ _ c.args.areas.now c.self.view_is made (c.len-first.ensures ∙ size.0) c.make_areas-end.ensures.end c.push_reserved.ensures.items c.list_addresses.ensures.added c.self.invariant in
+    record {
+      memory = whole;
+      areas = ap (λ m. length (newest_addresses m.frames)) whole ∙ length-addresses c.args.areas.now (next_frame c.args.self.now);
+    }

@@ -1,14 +1,14 @@
 -- What each status says, from the cause of the verdict and from how it is reported.
 use Rattle.std.proofs.Common.{◌≡◌, ◌≢◌, ℕ, List, [], Option, Some, None, ◌⊎◌, inl, inr, sym, ◌∙◌, ap, subst, refl}
 use Rattle.std.proofs.lemmas.List.{append-nil}
-use Rattle.cc_io.specs.Bytes.{Gains, GainsFront, Keeps}
+use Rattle.cc_io.specs.Bytes.{Gains, Keeps}
 use Rattle.cure_core.specs.declared.verdict.Verdict.{Verdict}
 use Rattle.cure_core.specs.declared.verdict.Verdict.TheVariants.{Usage, FileFault, OutputFault, NoMemory}
 use Rattle.cure_core.specs.Command.{Command, Run, command_of}
 use Rattle.cure_core.specs.Verdicts.{line_of, status_of}
 use Rattle.cure_core.specs.Answers.{Answer, IsAnswer, silent, IsAnswerTo, no_command as answers_no_command, of_file}
 use Rattle.cure_core.specs.Causes.{Sunk, Filed, IsTextCause, answered, unwritten, no_room, IsFileCause, unread, unheld, has_text, IsCause, no_command, run, IsReported, said as said_whole, unsaid as said_in_part, IsJudged}
-use Rattle.cure_core.specs.Statuses.{FaultsRose, FilesFailed, GivesAnswer, IsUnread, IsOutOfMemory, HasCause}
+use Rattle.cure_core.specs.Statuses.{FaultsRose, FilesFailed, GivesAnswer, HasCause}
 
 kept_gains : (before after : Option (List ℕ)) → Keeps before after → Gains before after []
 kept_gains None after kept = tt {0}

@@ -1,5 +1,5 @@
 -- How far the machine has come in a body, and what follows when it goes on or ends.
-use Rattle.std.proofs.Common.{◌≡◌, ℕ, suc, ◌+◌, ◌<◌, List, [], ◌∷◌, ◌++◌, length, drop, Option, Some, None, sym, ◌∙◌, ap, subst, refl, arith, append_assoc, add-one, true, false, inl, inr, ◌≤◌}
+use Rattle.std.proofs.Common.{◌≡◌, ℕ, ◌+◌, ◌<◌, List, [], ◌∷◌, ◌++◌, length, drop, Option, Some, None, sym, ◌∙◌, ap, subst, refl, arith, append_assoc, add-one, true, false, inl, inr, ◌≤◌}
 use Rattle.std.proofs.lemmas.List.{append-nil, drop_all}
 use Rattle.std.specs.Prelude.{slice_index_or, Result, Ok, Err, OnOk, OnErr}
 use Rattle.std.specs.Result.{is_err}
@@ -7,19 +7,17 @@ use Rattle.std.proofs.Math.Seq.{drop-cons}
 use Rattle.cc_io.specs.Bytes.{Gains, GainsFront}
 use Rattle.cc_io.specs.Faults.{Rose}
 use Rattle.flat_mem.specs.Memory.{Memory}
-use Rattle.runs.specs.Outcome.{Outcome, Ended, Done, from}
-use Rattle.runs.specs.Control.{Control, Goes, Leaves, Gives, then_go}
+use Rattle.runs.specs.Outcome.{Ended, Done, from}
+use Rattle.runs.specs.Control.{Goes, then_go}
 use Rattle.cured_code.specs.declared.instr.Instr.{Instr}
-use Rattle.cured_code.specs.declared.instr.Instr.TheVariants as instr
-use Rattle.cured_code.specs.FlatState.{Ending as FlatEnding, Local, Exited as flat_exited}
-use Rattle.cured_code.specs.FlatMachine.{Context, act, run, finished}
+use Rattle.cured_code.specs.FlatState.{Local}
+use Rattle.cured_code.specs.FlatMachine.{act, run, finished}
 use Rattle.cure_core.specs.declared.machine.Ending.{Ending}
 use Rattle.cure_core.specs.declared.machine.Ending.TheVariants.{Exited, WriteFault}
-use Rattle.cure_core.specs.declared.machine.Step.{Step}
 use Rattle.cure_core.specs.declared.machine.Step.TheVariants.{Next, Put, End}
 use Rattle.cure_core.specs.Causes.{Sunk}
 use Rattle.cure_core.proofs.OutputLaws.{Grows, grows}
-use Rattle.cure_core.specs.MachineRuns.{IsEnding, IsMachineRun, whole, cut}
+use Rattle.cure_core.specs.MachineRuns.{IsMachineRun, whole, cut}
 use Rattle.cure_core.specs.MachineSteps.{IsIn, IsStepped, goes, puts, ends, at_start}
 
 -- Of a run of the body that began in the state c the instructions `left` are left: the machine is in a state of the

@@ -1,14 +1,14 @@
 -- A run only adds to its output.
-use Rattle.std.proofs.Common.{◌≡◌, ℕ, List, [], ◌∷◌, ◌++◌, Bool, true, false, sym, ◌∙◌, ap, refl, append_assoc}
+use Rattle.std.proofs.Common.{◌≡◌, ℕ, List, [], ◌∷◌, ◌++◌, Bool, true, false, sym, ◌∙◌, append_assoc}
 use Rattle.std.proofs.lemmas.List.{append-nil}
-use Rattle.runs.specs.Outcome.{Outcome, Ended, Done, from, allowed}
+use Rattle.runs.specs.Outcome.{Outcome, Ended, from, allowed}
 use Rattle.runs.specs.Control.{Control, then_go}
 use Rattle.integers.specs.Words.{is_true_word, low_byte, equal_words, different_words}
 use Rattle.flat_mem.specs.Memory.{frame_area}
 use Rattle.cured_code.specs.declared.instr.Instr.{Instr}
 use Rattle.cured_code.specs.declared.instr.Instr.TheVariants as instr
 use Rattle.cured_code.specs.FlatState.{Ending, Stopped, Trap, Local, slot, with_slot, is_in_list, loaded, stored_at, put_out}
-use Rattle.cured_code.specs.FlatMachine.{Context, act, run, finished, goes}
+use Rattle.cured_code.specs.FlatMachine.{Context, run, finished, goes}
 
 -- the outcome's output is that of the state c and more
 pub record Grows (outcome : Outcome Ending Local (Control (List ℕ))) (c : Local) : Type 0 where

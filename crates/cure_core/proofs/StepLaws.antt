@@ -1,16 +1,14 @@
 -- What each instruction does by the meaning is what the machine does.
-use Rattle.std.proofs.Common.{◌≡◌, ◌≢◌, ℕ, ◌%◌, List, [], ◌∷◌, ◌++◌, ◌+◌, length, slice_index, slice_set, Bool, true, false, ◌||◌, nat_eq, nat_le, not, if◌then◌else◌, sym, ◌∙◌, ap, subst, refl, arith}
+use Rattle.std.proofs.Common.{◌≡◌, ◌≢◌, ℕ, ◌%◌, List, [], ◌∷◌, ◌++◌, ◌+◌, length, slice_index, slice_set, Bool, true, false, ◌||◌, nat_eq, nat_le, not, if◌then◌else◌, sym, ◌∙◌, ap, refl}
 use Rattle.flat_mem.specs.Bytes.{number, stored}
 use Rattle.flat_mem.specs.Memory.{Memory, with_bytes, frame_area}
 use Rattle.cc_base.specs.declared.fault.Check.{Check}
 use Rattle.cc_base.specs.declared.place.Place.{Place}
-use Rattle.runs.specs.Outcome.{Outcome, Ended, Done, allowed}
-use Rattle.runs.specs.Control.{Goes}
-use Rattle.integers.specs.Words.{truth_word, equal_words, different_words, low_byte, is_true_word}
-use Rattle.cured_code.specs.declared.instr.Instr.{Instr}
+use Rattle.runs.specs.Outcome.{allowed}
+use Rattle.integers.specs.Words.{truth_word, equal_words, different_words, low_byte}
 use Rattle.cured_code.specs.declared.instr.Instr.TheVariants as instr
-use Rattle.cured_code.specs.FlatState.{Ending as FlatEnding, Exited as flat_exited, Stopped as flat_stopped, Trap, Local, slot, with_slot, loaded, stored_at, put_out, is_in_list}
-use Rattle.cured_code.specs.FlatMachine.{Context, act, goes as goes_on}
+use Rattle.cured_code.specs.FlatState.{Exited as flat_exited, Stopped as flat_stopped, Trap, Local, slot, with_slot, loaded, stored_at, put_out, is_in_list}
+use Rattle.cured_code.specs.FlatMachine.{act, goes as goes_on}
 use Rattle.cured_code.proofs.RunLaws.{check-held, check-failed}
 use Rattle.cure_core.specs.declared.machine.Ending.TheVariants.{Exited, Stopped, Trapped}
 use Rattle.cure_core.specs.declared.machine.Step.TheVariants.{Next, Put, End}

@@ -9,7 +9,7 @@ use Rattle.cc_base.specs.declared.fault.Fault.{Fault}
 use Rattle.cc_base.specs.declared.fault.Fault.TheVariants.{Refused as Refusal}
 use Rattle.first_language.specs.Text.{first_place}
 use Rattle.first_language.specs.Language.{IsRefusal}
-use Rattle.cc_io.specs.Bytes.{Gains, GainsFront, Keeps}
+use Rattle.cc_io.specs.Bytes.{Gains, GainsFront}
 use Rattle.cc_io.specs.Faults.{Rose}
 use Rattle.runs.specs.Input.{Closed}
 use Rattle.cured_code.specs.declared.parts.Parts.{Parts}
@@ -17,7 +17,7 @@ use Rattle.cured_code.specs.FlatMachine.{flat_run}
 use Rattle.cured_code.specs.FlatState.{Exited as flat_exited, Stopped as flat_stopped}
 use Rattle.first_language.specs.Meaning.{Ending, Exited as source_exited, Stopped as source_stopped, first_run}
 use Rattle.first_language.specs.Tree.{Program}
-use Rattle.first_cure.specs.SameRun.{RunsAs, ending_of}
+use Rattle.first_cure.specs.SameRun.{ending_of}
 use Rattle.cure_core.specs.declared.machine.Ending.TheVariants as machine
 use Rattle.cure_core.specs.declared.verdict.Verdict.{Verdict}
 use Rattle.cure_core.specs.declared.verdict.Verdict.TheVariants.{Exited, Stopped, Refused, OutputFault, TextTooLong}

@@ -1,6 +1,5 @@
 -- What the program answers to a text: what it writes, and how it reports.
 use Rattle.std.specs.Prelude.{ℕ, ◌≡◌, ◌≤◌, ◌<◌, List, [], length, Option, None, Some, IfSome}
-use Rattle.cc_base.specs.declared.place.Place.{Place}
 use Rattle.cc_base.specs.declared.fault.Rule.TheVariants.{Unsupported}
 use Rattle.first_language.specs.Tree.{Program}
 use Rattle.first_language.specs.Text.{first_place}
@@ -8,7 +7,7 @@ use Rattle.first_language.specs.Language.{IsProgram}
 use Rattle.first_language.specs.Meaning.{first_run, Ending, Exited as exited, Stopped as stopped}
 use Rattle.cure_core.specs.declared.verdict.Verdict.{Verdict}
 use Rattle.cure_core.specs.declared.verdict.Verdict.TheVariants.{Exited, Stopped, Usage, Refused, TextTooLong}
-use Rattle.cure_core.specs.Command.{Command, Run, command_of}
+use Rattle.cure_core.specs.Command.{Run, command_of}
 
 -- the most bytes that a text of C may have
 unfoldable pub text_limit : ℕ

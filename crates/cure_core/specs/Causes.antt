@@ -4,7 +4,7 @@ use Rattle.cc_io.specs.Faults.{Rose}
 use Rattle.cc_io.specs.Bytes.{Keeps, Gains, GainsFront}
 use Rattle.cure_core.specs.declared.verdict.Verdict.{Verdict}
 use Rattle.cure_core.specs.declared.verdict.Verdict.TheVariants.{Usage, FileFault, OutputFault, NoMemory}
-use Rattle.cure_core.specs.Command.{Command, Run, command_of}
+use Rattle.cure_core.specs.Command.{Run, command_of}
 use Rattle.cure_core.specs.Verdicts.{line_of, status_of}
 use Rattle.cure_core.specs.Answers.{Answer, IsAnswer}
 

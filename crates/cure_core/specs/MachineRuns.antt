@@ -1,5 +1,5 @@
 -- What the machine promises of a run that writes to a sink.
-use Rattle.std.specs.Prelude.{ℕ, ◌≡◌}
+use Rattle.std.specs.Prelude.{◌≡◌}
 use Rattle.cc_io.specs.Faults.{Rose}
 use Rattle.cc_io.specs.Bytes.{Gains, GainsFront}
 use Rattle.cured_code.specs.FlatState.{Ending as FlatEnding, Exited as exited, Stopped as stopped, Trap as trap}

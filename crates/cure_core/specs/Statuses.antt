@@ -1,5 +1,5 @@
 -- What the statuses say, one by one.
-use Rattle.std.specs.Prelude.{ℕ, ◌≡◌, ◌≢◌, List, Some, ◌⊎◌}
+use Rattle.std.specs.Prelude.{ℕ, ◌≡◌, List, Some, ◌⊎◌}
 use Rattle.cc_io.specs.Faults.{Rose}
 use Rattle.cc_io.specs.Bytes.{Keeps, Gains}
 use Rattle.cure_core.specs.declared.verdict.Verdict.TheVariants.{FileFault, NoMemory}

@@ -1,4 +1,4 @@
-use Rattle.cure_core.proofs.LoadLaws.{within_limits, plan_room, plan_small}
+use Rattle.cure_core.proofs.LoadLaws.{within_limits}
 use Rattle.cure_core.proofs.loading.load.Goals as goal
 
 pub new-requires : goal.new-requires

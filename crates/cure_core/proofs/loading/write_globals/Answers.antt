@@ -1,4 +1,4 @@
-use Rattle.std.proofs.Common.{◌≡◌, ◌+◌, ◌≤◌, ◌<◌, ◌^◌, length, sym, ◌∙◌, ap, arith}
+use Rattle.std.proofs.Common.{◌≡◌, ◌+◌, ◌≤◌, length, ◌∙◌, arith}
 use Rattle.flat_mem.specs.Placement.{area_size, areas_size}
 use Rattle.flat_mem.proofs.AreaLaws.{area_size-least}
 use Rattle.cured_code.specs.FlatMachine.{area_of, global_areas}

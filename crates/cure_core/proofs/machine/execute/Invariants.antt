@@ -1,5 +1,4 @@
-use Rattle.std.proofs.Common.{ℕ, ◌≡◌, ◌≤◌, List, [], drop, length}
-use Rattle.flat_mem.specs.Memory.{newest_addresses}
+use Rattle.std.proofs.Common.{◌≡◌, ◌≤◌, [], drop}
 use Rattle.cured_code.specs.FlatState.{Local}
 use Rattle.cure_core.specs.MachineSteps.{IsIn}
 use Rattle.cure_core.proofs.LoopLaws.{IsReached}

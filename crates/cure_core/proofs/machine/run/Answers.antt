@@ -1,4 +1,4 @@
-use Rattle.std.proofs.Common.{sym, ◌∙◌, ap}
+use Rattle.std.proofs.Common.{◌∙◌, ap}
 use Rattle.std.specs.Prelude.{slice_index_or}
 use Rattle.cure_core.proofs.RunLaws.{if_ok_more, program_ran}
 use Rattle.cure_core.proofs.machine.run.Goals as goal

@@ -23,7 +23,14 @@ fn main(rt: HostRuntime) -> ExitCode {
     let mut out = StdSink::new(rt.stdout());
     let mut report = StdSink::new(rt.stderr());
     let mut files = DiskFiles::new(alloc, rt);
-    ExitCode::from(ccured(alloc, words.as_slice(), &mut files, &mut input, &mut out, &mut report))
+    ExitCode::from(ccured(
+        alloc,
+        words.as_slice(),
+        &mut files,
+        &mut input,
+        &mut out,
+        &mut report,
+    ))
 }
 
 /// The words after the program's name, or None where they could not be had.

@@ -1,0 +1,10 @@
+pub mod CutLaws
+pub mod FirstLexeme
+pub mod GapLaws
+pub mod LexemeLaws
+pub mod ListLaws
+pub mod LiteralLaws
+pub mod NumberLaws
+pub mod ReachedLaws
+pub mod StepLaws
+pub mod TextStart

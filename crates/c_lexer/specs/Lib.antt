@@ -1,0 +1,10 @@
+pub mod Bytes
+pub mod Cut
+pub mod Gaps
+pub mod Lexemes
+pub mod Literals
+pub mod Numbers
+pub mod Punctuators
+pub mod Reading
+pub mod Tokens
+pub mod Words

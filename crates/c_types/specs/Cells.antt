@@ -67,8 +67,8 @@ holds_in_shape of_part (Union tag) members = list_any of_part members
 holds_in_shape of_part shape members = false
 
 -- t holds a pointer by value
-abbrev pub holds_pointer : Table → TypeId → Bool
-holds_pointer table t = descend (λ of_part u. holds_in_shape of_part (shape_at table u) (members_at table u)) false (length table) t
+unfoldable pub holds_pointer : Table → TypeId → Bool
+holds_pointer table t = descend (λ of_part u. holds_in_shape of_part (shape_at table u) (members_at table u)) false (suc (length table)) t
 
 -- a defined union is mixed where it holds a pointer and one of its members isn't a prefix of the largest
 abbrev pub union_cells : Relation → TypeId → ℕ → Bool → List (List Cell) → List Cell
@@ -99,5 +99,5 @@ abbrev pub cells_step : Table → Relation → (TypeId → List Cell) → TypeId
 cells_step table E of_part t = cells_of_shape table E of_part t (shape_at table t) (members_at table t)
 
 -- the cells of t, where unions are mixed or not by E
-abbrev pub cells_at : Table → Relation → TypeId → List Cell
-cells_at table E t = descend (cells_step table E) [] (length table) t
+unfoldable pub cells_at : Table → Relation → TypeId → List Cell
+cells_at table E t = descend (cells_step table E) [] (suc (length table)) t

@@ -65,7 +65,7 @@ equal_at_level table zero = within table (λ t u. true)
 equal_at_level table (suc k) = within table (made_alike table (equal_at_level table k))
 
 -- Physical equality. The levels fall, and stand still from the square of the number of types on.
-abbrev pub physically_equal : Table → Relation
+unfoldable pub physically_equal : Table → Relation
 physically_equal table = equal_at_level table (length table * length table)
 
 -- the cells of t

@@ -1,16 +1,13 @@
-use Rattle.std.specs.Prelude.{◌≡◌, ℕ, ◌+◌, ◌-◌, ◌*◌, ◌%◌, max, List, map, length, take}
+use Rattle.std.specs.Prelude.{◌≡◌, ℕ, suc, ◌+◌, ◌-◌, ◌*◌, ◌%◌, max, List, map, length, take, slice_index_or}
 use Rattle.std.specs.List.{fold}
 use Rattle.cc_base.specs.declared.number.TypeId.{TypeId}
 use Rattle.c_types.specs.declared.shape.TypeShape.{TypeShape}
 use Rattle.c_types.specs.declared.shape.TypeShape.TheVariants.{Void, Integer, Pointer, Array, Function, Struct, Union}
+use Rattle.c_types.specs.declared.layout.Layout.{Layout}
 use Rattle.c_types.specs.Table.{Table, shape_at, members_at, descend}
 
 -- Sizes, alignments and offsets, in bytes (C99 6.2.5, 6.5.3.4, 6.7.2.1). C leaves the padding open;
 -- here it is the least that the alignments ask for.
-
-pub record Layout : Type 0 where
-  pub size : ℕ
-  pub align : ℕ
 
 -- the least multiple of `align` that is no less than n
 abbrev pub rounded : ℕ → ℕ → ℕ
@@ -55,9 +52,9 @@ layout_of_shape of_part (Union tag) members = union_layout (map of_part members)
 abbrev pub layout_step : Table → (TypeId → Layout) → TypeId → Layout
 layout_step table of_part t = layout_of_shape of_part (shape_at table t) (members_at table t)
 
--- a type holds no more types within one another than the table has
-abbrev pub layout_of : Table → TypeId → Layout
-layout_of table t = descend (layout_step table) no_layout (length table) t
+-- the size and alignment of t; no chain of types that hold one another is longer than the table
+unfoldable pub layout_of : Table → TypeId → Layout
+layout_of table t = descend (layout_step table) no_layout (suc (length table)) t
 
 abbrev pub size_of : Table → TypeId → ℕ
 size_of table t = (layout_of table t).size
@@ -70,6 +67,11 @@ abbrev pub offset_of_shape : TypeShape → List Layout → Layout → ℕ
 offset_of_shape (Struct tag) before m = offset_after before m
 offset_of_shape shape before m = 0
 
--- the offset of t's member number i, whose type is m
-abbrev pub offset_of : Table → TypeId → ℕ → TypeId → ℕ
-offset_of table t i m = offset_of_shape (shape_at table t) (map (layout_of table) (take i (members_at table t))) (layout_of table m)
+-- the type of t's member number i, counted from 0
+abbrev pub member_at : Table → TypeId → ℕ → TypeId
+member_at table t i = slice_index_or (members_at table t) i t
+
+-- the offset of t's member number i
+abbrev pub offset_of : Table → TypeId → ℕ → ℕ
+offset_of table t i =
+    offset_of_shape (shape_at table t) (map (layout_of table) (take i (members_at table t))) (layout_of table (member_at table t i))

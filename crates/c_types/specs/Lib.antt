@@ -1,5 +1,8 @@
 pub mod Table
 pub mod Layouts
+pub mod Sound
+pub mod Kept
+pub mod Calls
 pub mod Cells
 pub mod Equality
 pub mod Flows

@@ -1,4 +1,4 @@
-use Rattle.std.specs.Prelude.{◌≡◌, ℕ, zero, suc, ◌<◌, Bool, true, false, not, List, [], ◌∷◌, ◌++◌, length, slice_index_or, ◌==◌, IsTrue}
+use Rattle.std.specs.Prelude.{◌≡◌, ℕ, zero, suc, ◌<◌, ◌≤◌, Bool, true, false, not, List, [], ◌∷◌, ◌++◌, length, slice_index_or, IsTrue}
 use Rattle.std.specs.List.{Contains, count_by}
 use Rattle.cc_base.specs.declared.number.TypeId.{TypeId}
 use Rattle.c_types.specs.declared.shape.TypeShape.{TypeShape}
@@ -93,9 +93,10 @@ named_by shape = []
 abbrev pub complete_count : Table → ℕ
 complete_count table = count_by is_complete table
 
--- `rank` is an order in which types were completed: what a type holds by value was complete before it
+-- `rank` is an order in which the types were completed: what a type holds by value was complete before it
 pub record IsRanked (table : Table) (rank : TypeId → ℕ) : Type 0 where
-  pub below : (t : TypeId) → rank t < length table
+  pub below : (t : TypeId) → rank t ≤ complete_count table
+  pub complete : (t : TypeId) → IsComplete table t → rank t < complete_count table
   pub falls : (t part : TypeId) → Contains (parts_at table t) part → rank part < rank t
 
 -- What is found by going down from a type through the types that it holds by value. `step` says

@@ -1,4 +1,4 @@
-use Rattle.std.specs.Prelude.{ℕ, ◌+◌, ◌*◌, ◌/◌, ◌%◌, List, length, take, drop, ◌==◌, if◌then◌else◌}
+use Rattle.std.specs.Prelude.{ℕ, ◌+◌, ◌*◌, ◌/◌, ◌%◌, List, take, drop, ◌==◌, if◌then◌else◌}
 use Rattle.std.specs.List.{sum_by}
 use Rattle.cc_base.specs.declared.number.TypeId.{TypeId}
 use Rattle.cc_base.specs.declared.number.NodeId.{NodeId}
@@ -40,16 +40,16 @@ cured_distance table kind t d =
 -- A range of bytes.
 pub record ByteRange : Type 0 where
   pub start : ℕ
-  pub length : ℕ
+  pub count : ℕ
 
 -- the cured image of the bytes from `offset` on, as many as `count`, of an object with these
 -- cells whose area begins at `address`
 abbrev pub cured_image : (NodeId → Kind) → List Cell → ℕ → ℕ → ℕ → ByteRange
 cured_image kind cells address offset count = record {
     start = address + width_of kind (take offset cells);
-    length = width_of kind (take count (drop offset cells))
+    count = width_of kind (take count (drop offset cells))
   }
 
 -- an area that carries tags keeps each byte where it was
 abbrev pub tagged_image : ℕ → ℕ → ℕ → ByteRange
-tagged_image address offset count = record { start = address + offset; length = count }
+tagged_image address offset count = record { start = address + offset; count = count }

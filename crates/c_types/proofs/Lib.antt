@@ -1,0 +1,4 @@
+pub mod Lists
+pub mod Descent
+pub mod Growth
+pub mod Keeping

@@ -1,0 +1,41 @@
+use Rattle.std.specs.Prelude.{◌≡◌, ◌≢◌, ℕ, ◌+◌, ◌<◌, ⊤, Bool, List, [], ◌∷◌, ◌++◌, length, slice_set}
+use Rattle.std.specs.List.{All}
+use Rattle.cc_base.specs.declared.number.TypeId.{TypeId}
+use Rattle.c_types.specs.declared.layout.Layout.{Layout}
+use Rattle.c_types.specs.declared.shape.TypeShape.{TypeShape}
+use Rattle.c_types.specs.declared.shape.TypeShape.TheVariants.{Void, Integer, Pointer, Array, Function, Struct, Union}
+use Rattle.c_types.specs.Table.{Table, Entry, IsType, IsComplete, HasShape, shape_at, named_by}
+use Rattle.c_types.specs.Layouts.{layout_of, layout_of_shape}
+use Rattle.c_types.specs.Sound.{IsProper}
+
+-- What the calls of `Types` ask for and do.
+
+-- the table of `Types::new`: `void`, and the signed and unsigned integers of 1, 2, 4 and 8 bytes
+abbrev pub basic_entry : TypeShape → Entry
+basic_entry shape = record { shape = shape; members = [] }
+
+-- no type of the table has the shape
+abbrev pub IsNew : Table → TypeShape → Type 0
+IsNew table shape = (t : TypeId) → HasShape table t shape → ⊥
+
+abbrev pub has_complete_parts : Table → TypeShape → Type 0
+has_complete_parts table (Array element count) = IsComplete table element
+has_complete_parts table shape = ⊤
+
+-- the shape may be added: what it names is in the table, and an array has an element, of a complete type
+pub record IsAddable (table : Table) (shape : TypeShape) : Type 0 where
+  pub proper : IsProper shape
+  pub named : All (IsType table) (named_by shape)
+  pub parts : has_complete_parts table shape
+
+-- the layout of a shape that has no members so far
+abbrev pub new_layout : Table → TypeShape → Layout
+new_layout table shape = layout_of_shape (layout_of table) shape []
+
+-- the table with the members of t defined
+abbrev pub with_members : Table → TypeId → List TypeId → Table
+with_members table t members = slice_set table t.0 (record { shape = shape_at table t; members = members })
+
+-- the layout of t with these members
+abbrev pub defined_layout : Table → TypeId → List TypeId → Layout
+defined_layout table t members = layout_of_shape (layout_of table) (shape_at table t) members

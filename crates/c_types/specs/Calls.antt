@@ -1,6 +1,10 @@
-use Rattle.std.specs.Prelude.{◌≡◌, ◌≢◌, ℕ, ◌+◌, ◌<◌, ⊤, Bool, List, [], ◌∷◌, ◌++◌, length, slice_set}
+use Rattle.std.specs.Prelude.{◌≡◌, ◌≢◌, ℕ, ◌+◌, ◌<◌, ⊤, Bool, true, false, map, List, [], ◌∷◌, ◌++◌, length, slice_set}
 use Rattle.std.specs.List.{All}
 use Rattle.cc_base.specs.declared.number.TypeId.{TypeId}
+use Rattle.cc_base.specs.declared.fault.Limit.{Limit}
+use Rattle.cc_base.specs.declared.fault.Limit.TheVariants.{Depth, Held, Types, Object, Params, Functions, Globals, Cells}
+use Rattle.c_types.specs.declared.fault.TypeFault.{TypeFault}
+use Rattle.c_types.specs.declared.fault.TypeFault.TheVariants.{TooLarge, NoMemory}
 use Rattle.c_types.specs.declared.layout.Layout.{Layout}
 use Rattle.c_types.specs.declared.shape.TypeShape.{TypeShape}
 use Rattle.c_types.specs.declared.shape.TypeShape.TheVariants.{Void, Integer, Pointer, Array, Function, Struct, Union}
@@ -10,9 +14,23 @@ use Rattle.c_types.specs.Sound.{IsProper}
 
 -- What the calls of `Types` ask for and do.
 
--- the table of `Types::new`: `void`, and the signed and unsigned integers of 1, 2, 4 and 8 bytes
+-- the entry of a type that has no members so far
 abbrev pub basic_entry : TypeShape → Entry
 basic_entry shape = record { shape = shape; members = [] }
+
+-- the table of `Types::new`: `void`, and the signed and unsigned integers of 1, 2, 4 and 8 bytes
+abbrev pub basic_table : Table
+basic_table = map basic_entry (
+    Void
+    ∷ Integer 1 true ∷ Integer 1 false ∷ Integer 2 true ∷ Integer 2 false
+    ∷ Integer 4 true ∷ Integer 4 false ∷ Integer 8 true ∷ Integer 8 false ∷ [])
+
+-- the faults that a call of `Types` can have
+abbrev pub IsTypeFault : TypeFault → Type 0
+IsTypeFault (TooLarge Types) = ⊤
+IsTypeFault (TooLarge Object) = ⊤
+IsTypeFault (TooLarge limit) = ⊥
+IsTypeFault NoMemory = ⊤
 
 -- no type of the table has the shape
 abbrev pub IsNew : Table → TypeShape → Type 0

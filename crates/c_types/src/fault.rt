@@ -15,6 +15,17 @@ pub enum TypeFault {
     NoMemory,
 }
 
+impl From<cc_base::NoMemory> for TypeFault {
+    ghost use Rattle.std.specs.Prelude.{◌≡◌};
+    ghost use Rattle.c_types.specs.declared.fault.TypeFault.TheVariants.{NoMemory};
+
+    ghost from_gives = { λ _ fault. fault ≡ NoMemory };
+
+    fn from(_error: cc_base::NoMemory) -> TypeFault {
+        TypeFault::NoMemory
+    }
+}
+
 impl From<AllocError> for TypeFault {
     ghost use Rattle.std.specs.Prelude.{◌≡◌};
     ghost use Rattle.c_types.specs.declared.fault.TypeFault.TheVariants.{NoMemory};

@@ -1,21 +1,22 @@
 #![tactic(auto)]
 
-ghost use Rattle.std.specs.Prelude.{◌≡◌, ◌↔◌, ◌⊎◌, ◌+◌, ◌<◌, ◌≤◌, [], ◌∷◌, ◌++◌, length, IfOk, IfErr, OnOk, OnErr, SomeIff, IsTrue, map};
+ghost use Rattle.std.specs.Prelude.{◌≡◌, ◌↔◌, ◌⊎◌, ◌+◌, ◌<◌, ◌≤◌, [], ◌∷◌, ◌++◌, length, IfOk, IfErr, OnOk, OnErr, SomeIff, IsTrue, MatchOption, map, ◌*◌};
 ghost use Rattle.std.specs.List.{All};
 ghost use Rattle.cc_base.specs.declared.number.TypeId.{TypeId};
 ghost use Rattle.cc_base.specs.declared.fault.Limit.TheVariants.{Types as limit_types, Object as limit_object};
-ghost use Rattle.c_types.specs.declared.fault.TypeFault.TheVariants.{TooLarge, NoMemory};
+ghost use Rattle.c_types.specs.declared.fault.TypeFault.TheVariants.{TooLarge};
+ghost use Rattle.c_types.specs.declared.shape.TypeShape.TheVariants.{Integer};
 ghost use Rattle.c_types.specs.Table.{IsType, IsComplete, IsAggregate, HasShape, shape_at, members_at};
 ghost use Rattle.c_types.specs.Layouts.{layout_of, size_of, align_of, offset_of, member_at, struct_layout, union_layout};
-ghost use Rattle.c_types.specs.Sound.{IsWellFormed};
+ghost use Rattle.c_types.specs.Sound.{IsWellFormed, IsIntegerSize};
 ghost use Rattle.c_types.specs.Kept.{IsKeptOf};
-ghost use Rattle.c_types.specs.Calls.{IsNew, IsAddable, basic_entry, new_layout, with_members, defined_layout};
+ghost use Rattle.c_types.specs.Calls.{IsNew, IsAddable, IsTypeFault, basic_entry, basic_table, new_layout, with_members, defined_layout};
 
 use crate::fault::TypeFault;
 use crate::kept::{FieldPlace, Kept};
 use crate::layout::{Layout, round_up};
 use crate::shape::TypeShape;
-use cc_base::{Limit, TypeId};
+use cc_base::{Limit, NoMemory, TypeId};
 use indexmap::IndexMap;
 use std::alloc::Global;
 use std::marker::Model;
@@ -54,6 +55,106 @@ impl Types {
         ensures formed { IsWellFormed self.now }
     {
         self.entries.len() as u32
+    }
+
+    /// The table of `void` and the integer types.
+    pub fn new(alloc: Global) -> Result<Types, NoMemory>
+        ensures { IfOk result (λ types. types ≡ basic_table) }
+    {
+        let mut types = Types {
+            alloc,
+            entries: IndexMap::new(alloc),
+        };
+        types.insert(TypeShape::Void, Layout::none())?;
+        types.insert_integer(1, true)?;
+        types.insert_integer(1, false)?;
+        types.insert_integer(2, true)?;
+        types.insert_integer(2, false)?;
+        types.insert_integer(4, true)?;
+        types.insert_integer(4, false)?;
+        types.insert_integer(8, true)?;
+        types.insert_integer(8, false)?;
+        Ok(types)
+    }
+
+    /// The number of a type by its shape; one that is not in the table is added to it.
+    ///
+    /// The answer is `TooLarge(Types)` where the table has 16,384 types already, else
+    /// `TooLarge(Object)` where the type would have more than 1,048,576 bytes.
+    pub fn add(&mut self, shape: TypeShape) -> Result<TypeId, TypeFault>
+        requires { IsAddable self.old shape }
+        ensures known { (t : TypeId) → HasShape self.old t shape → (result ≡ Ok t) × (self.new ≡ self.old) }
+        ensures added { IsNew self.old shape → IfOk result (λ t. (t.0 ≡ length self.old) × (self.new ≡ self.old ++ (basic_entry shape ∷ []))) }
+        ensures types { (result ≡ Err (TooLarge limit_types)) ↔ (IsNew self.old shape × (16384 < length self.old + 1)) }
+        ensures object { (result ≡ Err (TooLarge limit_object)) ↔ (IsNew self.old shape × (length self.old + 1 ≤ 16384) × (1048576 < (new_layout self.old shape).size)) }
+        ensures refused { IfErr result IsTypeFault }
+        ensures unchanged { OnErr result (self.new ≡ self.old) }
+        ensures others { (t : TypeId) → IsType self.old t → layout_of self.new t ≡ layout_of self.old t }
+    {
+        if let Some(t) = self.find(&shape) {
+            return Ok(t);
+        }
+        if self.entries.len() >= MOST_TYPES {
+            return Err(TypeFault::TooLarge(Limit::Types));
+        }
+        let Some(layout) = self.new_layout(&shape) else {
+            return Err(TypeFault::TooLarge(Limit::Object));
+        };
+        Ok(self.insert(shape, layout)?)
+    }
+
+    /// The number of the type with a shape, if it is there.
+    fn find(&self, shape: &TypeShape) -> Option<TypeId>
+        ensures { MatchOption result (IsNew self.now shape.now) (λ t. HasShape self.now t shape.now) }
+    {
+        match self.entries.get_index_of(shape) {
+            Some(index) => Some(TypeId(index as u32)),
+            None => None,
+        }
+    }
+
+    /// The layout of a shape that has no members, unless it has too many bytes.
+    fn new_layout(&self, shape: &TypeShape) -> Option<Layout>
+        requires { IsAddable self.now shape.now }
+        ensures { SomeIff result ((new_layout self.now shape.now).size ≤ 1048576) (new_layout self.now shape.now) }
+    {
+        match shape {
+            TypeShape::Integer { bytes, signed: _ } => Some(Layout::of_bytes(*bytes)),
+            TypeShape::Pointer(_, _) => Some(Layout::of_bytes(8)),
+            TypeShape::Array(element, count) => array_layout(self.layout(*element), *count),
+            _ => Some(Layout::none()),
+        }
+    }
+
+    /// Puts a type with a new shape at the end of the table.
+    fn insert(&mut self, shape: TypeShape, layout: Layout) -> Result<TypeId, NoMemory>
+        requires fresh { IsNew self.old shape }
+        requires room { length self.old < 16384 }
+        requires addable { IsAddable self.old shape }
+        requires layout { layout ≡ new_layout self.old shape }
+        requires small { layout.size ≤ 1048576 }
+        ensures number { IfOk result (λ t. t.0 ≡ length self.old) }
+        ensures added { OnOk result (self.new ≡ self.old ++ (basic_entry shape ∷ [])) }
+        ensures unchanged { OnErr result (self.new ≡ self.old) }
+    {
+        let index = self.entries.len();
+        let kept = Kept {
+            layout,
+            fields: Vec::new(self.alloc),
+        };
+        self.entries.insert(shape, kept)?;
+        Ok(TypeId(index as u32))
+    }
+
+    /// Puts a new integer type at the end of the table.
+    fn insert_integer(&mut self, bytes: u64, signed: bool) -> Result<TypeId, NoMemory>
+        requires fresh { IsNew self.old (Integer bytes signed) }
+        requires room { length self.old < 16384 }
+        requires bytes { IsIntegerSize bytes }
+        ensures added { OnOk result (self.new ≡ self.old ++ (basic_entry (Integer bytes signed) ∷ [])) }
+    {
+        let shape = TypeShape::Integer { bytes, signed };
+        self.insert(shape, Layout::of_bytes(bytes))
     }
 
     /// What is kept of a type.
@@ -117,4 +218,18 @@ impl Types {
     {
         self.kept(t).1.fields[i]
     }
+}
+
+/// The layout of an array of `count` elements, unless it has too many bytes (C99 6.2.5).
+fn array_layout(element: Layout, count: u64) -> Option<Layout>
+    ensures { SomeIff result (count * element.size ≤ 1048576) (record { size = count * element.size; align = element.align }) }
+{
+    let size = count.checked_mul(element.size)?;
+    if size > MOST_BYTES {
+        return None;
+    }
+    Some(Layout {
+        size,
+        align: element.align,
+    })
 }

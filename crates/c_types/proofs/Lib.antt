@@ -4,4 +4,6 @@ pub mod Descent
 pub mod Growth
 pub mod Upkeep
 pub mod Adding
+pub mod Ends
+pub mod Laying
 pub mod Keeping

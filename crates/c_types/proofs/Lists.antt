@@ -21,7 +21,7 @@ pub contains_take : {X : Type 0} (n : ℕ) (xs : List X) (y : X) → Contains (t
 contains_take n xs y c = subst (λ l. Contains l y) (take-append-drop n xs) (Contains-append_left (take n xs) (drop n xs) y c)
 
 -- a fold over a mapped list, one element further
-pub fold_map_more : {X Y B : Type 0} (f : B → Y → B) (a : B) (g : X → Y) (xs : List X) (i : ℕ) (x : X) → i < length xs → x ≡ get_or xs i x
-    → fold f a (map g (take (i + 1) xs)) ≡ f (fold f a (map g (take i xs))) (g x)
-fold_map_more f a g xs i x h e =
-    ap (fold f a) (map_more g xs i x h) ∙ fold-append f a (map g (take i xs)) (g (get_or xs i x) ∷ []) ∙ ap (λ y. f (fold f a (map g (take i xs))) (g y)) (sym e)
+pub fold_map_more : {X Y B : Type 0} (f : B → Y → B) (a : B) (g : X → Y) (xs : List X) (i : ℕ) (d : X) → i < length xs
+    → fold f a (map g (take (i + 1) xs)) ≡ f (fold f a (map g (take i xs))) (g (get_or xs i d))
+fold_map_more f a g xs i d h =
+    ap (fold f a) (map_more g xs i d h) ∙ fold-append f a (map g (take i xs)) (g (get_or xs i d) ∷ [])

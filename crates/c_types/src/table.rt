@@ -1,15 +1,15 @@
 #![tactic(auto)]
 
-ghost use Rattle.std.specs.Prelude.{◌≡◌, ◌↔◌, ◌⊎◌, ◌+◌, ◌<◌, ◌≤◌, [], ◌∷◌, ◌++◌, length, IfOk, IfErr, OnOk, OnErr, SomeIff, IsTrue, MatchOption, map, ◌*◌};
+ghost use Rattle.std.specs.Prelude.{◌≡◌, ◌↔◌, ◌⊎◌, ◌+◌, ◌<◌, ◌≤◌, [], ◌∷◌, ◌++◌, length, IfOk, IfErr, OnOk, OnErr, SomeIff, IfSome, IsTrue, MatchOption, map, ◌*◌};
 ghost use Rattle.std.specs.List.{All};
 ghost use Rattle.cc_base.specs.declared.number.TypeId.{TypeId};
 ghost use Rattle.cc_base.specs.declared.fault.Limit.TheVariants.{Types as limit_types, Object as limit_object};
-ghost use Rattle.c_types.specs.declared.fault.TypeFault.TheVariants.{TooLarge};
-ghost use Rattle.c_types.specs.declared.shape.TypeShape.TheVariants.{Integer};
+ghost use Rattle.c_types.specs.declared.fault.TypeFault.TheVariants.{TooLarge, NoMemory as no_memory};
+ghost use Rattle.c_types.specs.declared.shape.TypeShape.TheVariants.{Integer, Struct, Union};
 ghost use Rattle.c_types.specs.Table.{IsType, IsComplete, IsAggregate, HasShape, shape_at, members_at};
-ghost use Rattle.c_types.specs.Layouts.{layout_of, size_of, align_of, offset_of, member_at, struct_layout, union_layout};
-ghost use Rattle.c_types.specs.Sound.{IsWellFormed, IsIntegerSize};
-ghost use Rattle.c_types.specs.Kept.{IsKeptOf};
+ghost use Rattle.c_types.specs.Layouts.{layout_of, size_of, align_of, offset_of, member_at, members_end, struct_layout, union_layout};
+ghost use Rattle.c_types.specs.Sound.{IsWellFormed, IsSized, IsIntegerSize};
+ghost use Rattle.c_types.specs.Kept.{IsKeptOf, ArePlaces};
 ghost use Rattle.c_types.specs.Calls.{IsNew, IsAddable, IsTypeFault, basic_entry, basic_table, new_layout, with_members, defined_layout};
 
 use crate::fault::TypeFault;
@@ -105,7 +105,8 @@ impl Types {
 
     /// The number of the type with a shape, if it is there.
     fn find(&self, shape: &TypeShape) -> Option<TypeId>
-        ensures { MatchOption result (IsNew self.now shape.now) (λ t. HasShape self.now t shape.now) }
+        ensures there { MatchOption result (IsNew self.now shape.now) (λ t. HasShape self.now t shape.now) }
+        ensures unique { IfSome result (λ t. (u : TypeId) → HasShape self.now u shape.now → t ≡ u) }
     {
         match self.entries.get_index_of(shape) {
             Some(index) => Some(TypeId(index as u32)),
@@ -126,6 +127,117 @@ impl Types {
         }
     }
 
+    /// Gives a struct or union its members (C99 6.7.2.1).
+    ///
+    /// The answer is `TooLarge(Object)` where the type would have more than 1,048,576 bytes.
+    pub fn define(&mut self, t: TypeId, members: Vec<TypeId>) -> Result<(), TypeFault>
+        requires typed { IsType self.old t }
+        requires aggregate { IsAggregate self.old t }
+        requires open { members_at self.old t ≡ [] }
+        requires some { 0 < length members.items }
+        requires complete { All (IsComplete self.old) members.items }
+        ensures defined { OnOk result (self.new ≡ with_members self.old t members.items) }
+        ensures object { (result ≡ Err (TooLarge limit_object)) ↔ (1048576 < (defined_layout self.old t members.items).size) }
+        ensures refused { IfErr result (λ fault. (fault ≡ TooLarge limit_object) ⊎ (fault ≡ no_memory)) }
+        ensures unchanged { OnErr result (self.new ≡ self.old) }
+        ensures others { (u : TypeId) → IsComplete self.old u → layout_of self.new u ≡ layout_of self.old u }
+    {
+        let Some(layout) = self.defined_layout(t, &members) else {
+            return Err(TypeFault::TooLarge(Limit::Object));
+        };
+        let fields = self.places(t, &members)?;
+        self.entries[t.0 as usize] = Kept { layout, fields };
+        Ok(())
+    }
+
+    /// The layout of a struct or union with these members, unless it has too many bytes.
+    fn defined_layout(&self, t: TypeId, members: &[TypeId]) -> Option<Layout>
+        requires typed { IsType self.now t }
+        requires aggregate { IsAggregate self.now t }
+        requires complete { All (IsComplete self.now) members.now }
+        ensures { SomeIff result ((defined_layout self.now t members.now).size ≤ 1048576) (defined_layout self.now t members.now) }
+    {
+        match self.shape(t) {
+            TypeShape::Struct(_) => self.struct_layout(members),
+            _ => self.union_layout(members),
+        }
+    }
+
+    /// The layout of a struct with these members, unless it has too many bytes.
+    fn struct_layout(&self, members: &[TypeId]) -> Option<Layout>
+        requires { All (IsComplete self.now) members.now }
+        ensures { SomeIff result ((struct_layout (map (layout_of self.now) members.now)).size ≤ 1048576) (struct_layout (map (layout_of self.now) members.now)) }
+    {
+        let mut end = 0;
+        let mut align = 1;
+        'members: for m in members {
+            let member = self.layout(*m);
+            end = round_up(end, member.align) + member.size;
+            if end > MOST_BYTES {
+                return None;
+            }
+            align = align.max(member.align);
+        }
+        bounded(round_up(end, align), align)
+    }
+
+    /// The layout of a union with these members, unless it has too many bytes.
+    fn union_layout(&self, members: &[TypeId]) -> Option<Layout>
+        requires { All (IsComplete self.now) members.now }
+        ensures { SomeIff result ((union_layout (map (layout_of self.now) members.now)).size ≤ 1048576) (union_layout (map (layout_of self.now) members.now)) }
+    {
+        let mut size = 0;
+        let mut align = 1;
+        'members: for m in members {
+            let member = self.layout(*m);
+            size = size.max(member.size);
+            align = align.max(member.align);
+        }
+        bounded(round_up(size, align), align)
+    }
+
+    /// The places of the members of a struct or union.
+    fn places(&self, t: TypeId, members: &[TypeId]) -> Result<Vec<FieldPlace>, NoMemory>
+        requires typed { IsType self.now t }
+        requires aggregate { IsAggregate self.now t }
+        requires complete { All (IsComplete self.now) members.now }
+        requires small { (defined_layout self.now t members.now).size ≤ 1048576 }
+        ensures { IfOk result (λ fields. ArePlaces (layout_of self.now) (shape_at self.now t) members.now fields.items) }
+    {
+        match self.shape(t) {
+            TypeShape::Struct(_) => self.struct_places(members),
+            _ => self.union_places(members),
+        }
+    }
+
+    /// The places of the members of a struct, each at the next multiple of its alignment.
+    fn struct_places(&self, members: &[TypeId]) -> Result<Vec<FieldPlace>, NoMemory>
+        requires complete { All (IsComplete self.now) members.now }
+        requires small { members_end (map (layout_of self.now) members.now) ≤ 1048576 }
+        ensures { IfOk result (λ fields. ArePlaces (layout_of self.now) (Struct 0) members.now fields.items) }
+    {
+        let mut fields = Vec::with_capacity(self.alloc, members.len())?;
+        let mut end = 0;
+        'members: for m in members {
+            let member = self.layout(*m);
+            let offset = round_up(end, member.align);
+            fields.push(FieldPlace { offset, ty: *m })?;
+            end = offset + member.size;
+        }
+        Ok(fields)
+    }
+
+    /// The places of the members of a union, all at its start.
+    fn union_places(&self, members: &[TypeId]) -> Result<Vec<FieldPlace>, NoMemory>
+        ensures { IfOk result (λ fields. ArePlaces (layout_of self.now) (Union 0) members.now fields.items) }
+    {
+        let mut fields = Vec::with_capacity(self.alloc, members.len())?;
+        'members: for m in members {
+            fields.push(FieldPlace { offset: 0, ty: *m })?;
+        }
+        Ok(fields)
+    }
+
     /// Puts a type with a new shape at the end of the table.
     fn insert(&mut self, shape: TypeShape, layout: Layout) -> Result<TypeId, NoMemory>
         requires fresh { IsNew self.old shape }
@@ -136,6 +248,7 @@ impl Types {
         ensures number { IfOk result (λ t. t.0 ≡ length self.old) }
         ensures added { OnOk result (self.new ≡ self.old ++ (basic_entry shape ∷ [])) }
         ensures unchanged { OnErr result (self.new ≡ self.old) }
+        ensures others { (t : TypeId) → IsType self.old t → layout_of self.new t ≡ layout_of self.old t }
     {
         let index = self.entries.len();
         let kept = Kept {
@@ -178,8 +291,10 @@ impl Types {
     /// The size and the alignment of a type.
     pub(crate) fn layout(&self, t: TypeId) -> Layout
         requires { IsType self.now t }
-        ensures { result ≡ layout_of self.now t }
+        ensures layout { result ≡ layout_of self.now t }
+        ensures sized { IsComplete self.now t → IsSized self.now t }
     {
+        let _ = &self.alloc;
         self.kept(t).1.layout
     }
 
@@ -224,12 +339,16 @@ impl Types {
 fn array_layout(element: Layout, count: u64) -> Option<Layout>
     ensures { SomeIff result (count * element.size ≤ 1048576) (record { size = count * element.size; align = element.align }) }
 {
-    let size = count.checked_mul(element.size)?;
+    bounded(count.checked_mul(element.size)?, element.align)
+}
+
+/// The layout with this size, unless it has too many bytes.
+fn bounded(size: u64, align: u64) -> Option<Layout>
+    ensures { SomeIff result (size ≤ 1048576) (record { size = size; align = align }) }
+{
     if size > MOST_BYTES {
-        return None;
+        None
+    } else {
+        Some(Layout { size, align })
     }
-    Some(Layout {
-        size,
-        align: element.align,
-    })
 }

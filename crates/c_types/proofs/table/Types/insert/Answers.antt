@@ -1,9 +1,10 @@
 use Rattle.std.proofs.Common.{rules, ◌≡◌, ◌++◌, ◌∷◌, [], ◌<◌, length, ap, sym, ◌∙◌, refl, subst, Some, None, List}
 use Rattle.c_types.specs.declared.layout.Layout.{Layout}
-use Rattle.c_types.specs.Table.{Entry}
+use Rattle.c_types.specs.Table.{Entry, IsType}
+use Rattle.c_types.specs.Layouts.{layout_of}
 use Rattle.c_types.specs.Kept.{KeptEntry, IsSound, table_of}
 use Rattle.c_types.specs.Calls.{IsNew, IsAddable, basic_entry, new_layout}
-use Rattle.c_types.proofs.Adding.{put_new, table_added, sound_added}
+use Rattle.c_types.proofs.Adding.{put_new, table_added, sound_added, layouts_others}
 use Rattle.c_types.proofs.table.Types.insert.Goals as goal
 
 entries : (c : goal.Joined-branch-2) → c.insert.new.self.entries ≡ c.self.inside.entries.entries ++ (c.args.shape, record { layout = c.args.layout; fields = c.new.result }) ∷ []
@@ -27,3 +28,13 @@ returns-clause-added c =
     ap table_of (entries c)
     ∙ table_added c.self.inside.entries.entries c.args.shape (record { layout = c.args.layout; fields = c.new.result }) c.new.ensures.items
     ∙ ap (λ (table : List Entry). table ++ basic_entry c.args.shape ∷ []) c.self.view_is
+
+pub returns-clause-others : goal.returns-clause-others
+returns-clause-others c t h =
+    ap (λ (es : List KeptEntry). layout_of (table_of es) t) (entries c)
+    ∙ ap (λ (table : List Entry). layout_of table t) (table_added c.self.inside.entries.entries c.args.shape (record { layout = c.args.layout; fields = c.new.result }) c.new.ensures.items)
+    ∙ layouts_others (table_of c.self.inside.entries.entries) c.args.shape c.self.invariant.formed
+        (subst (λ (table : List Entry). IsNew table c.args.shape) (sym c.self.view_is) c.requires.fresh)
+        (subst (λ (table : List Entry). IsAddable table c.args.shape) (sym c.self.view_is) c.requires.addable)
+        t (subst (λ (table : List Entry). IsType table t) (sym c.self.view_is) h)
+    ∙ ap (λ (table : List Entry). layout_of table t) c.self.view_is

@@ -8,7 +8,7 @@ use Rattle.c_types.specs.declared.kept.FieldPlace.{FieldPlace}
 use Rattle.c_types.specs.declared.shape.TypeShape.{TypeShape}
 use Rattle.std.proofs.Common.{Option, SomeIff}
 use mathlib.Core.Path.{Path}
-use Rattle.c_types.specs.declared.shape.TypeShape.TheVariants.{Struct, Union}
+use Rattle.c_types.specs.declared.shape.TypeShape.TheVariants.{Void, Integer, Pointer, Array, Function, Struct, Union}
 use Rattle.c_types.specs.Layouts.{rounded, members_end, greatest_align, greatest_size, struct_layout, union_layout, layout_of, offset_of_shape}
 use Rattle.c_types.specs.Table.{Table}
 use Rattle.c_types.specs.Sound.{IsSized}
@@ -140,3 +140,14 @@ module _ (f : TypeId → Layout) (members : List TypeId) where
     -- the places under the name of a shape with the same offsets
     pub places_all : (i : ℕ) (fields : List FieldPlace) → ArePlacesSoFar f shape members i fields → length members ≤ i → ArePlaces f shape members fields
     places_all i fields r h = record { types = r.types ∙ take_all i members h; offsets = r.offsets }
+
+-- the members of what is no struct stand at its start
+pub union_shape : (f : TypeId → Layout) (s : TypeShape) (members : List TypeId) (fields : List FieldPlace) → ((tag : ℕ) → s ≡ Struct tag → ⊥)
+    → ArePlaces f (Union 0) members fields → ArePlaces f s members fields
+union_shape f (Struct tag) members fields n p = absurd (n tag refl)
+union_shape f Void members fields n p = record { types = p.types; offsets = p.offsets }
+union_shape f (Integer bytes signed) members fields n p = record { types = p.types; offsets = p.offsets }
+union_shape f (Pointer node to) members fields n p = record { types = p.types; offsets = p.offsets }
+union_shape f (Array element count) members fields n p = record { types = p.types; offsets = p.offsets }
+union_shape f (Function ps r) members fields n p = record { types = p.types; offsets = p.offsets }
+union_shape f (Union tag) members fields n p = record { types = p.types; offsets = p.offsets }

@@ -6,4 +6,5 @@ pub mod Upkeep
 pub mod Adding
 pub mod Ends
 pub mod Laying
+pub mod Defining
 pub mod Keeping

@@ -8,7 +8,7 @@ use Rattle.c_types.specs.declared.fault.TypeFault.TheVariants.{TooLarge, NoMemor
 use Rattle.c_types.specs.declared.layout.Layout.{Layout}
 use Rattle.c_types.specs.declared.shape.TypeShape.{TypeShape}
 use Rattle.c_types.specs.declared.shape.TypeShape.TheVariants.{Void, Integer, Pointer, Array, Function, Struct, Union}
-use Rattle.c_types.specs.Table.{Table, Entry, IsType, IsComplete, HasShape, shape_at, named_by}
+use Rattle.c_types.specs.Table.{Table, Entry, IsType, IsComplete, IsAggregate, HasShape, shape_at, members_at, named_by}
 use Rattle.c_types.specs.Layouts.{layout_of, layout_of_shape}
 use Rattle.c_types.specs.Sound.{IsProper}
 
@@ -45,6 +45,14 @@ pub record IsAddable (table : Table) (shape : TypeShape) : Type 0 where
   pub proper : IsProper shape
   pub named : All (IsType table) (named_by shape)
   pub parts : has_complete_parts table shape
+
+-- t may be given these members: it is a struct or union without members so far, there is a member, and all are complete
+pub record IsDefinable (table : Table) (t : TypeId) (members : List TypeId) : Type 0 where
+  pub typed : IsType table t
+  pub aggregate : IsAggregate table t
+  pub unset : members_at table t ≡ []
+  pub some : 0 < length members
+  pub complete : All (IsComplete table) members
 
 -- the layout of a shape that has no members so far
 abbrev pub new_layout : Table → TypeShape → Layout

@@ -14,3 +14,6 @@ pub use kept::FieldPlace;
 pub use layout::Layout;
 pub use shape::{TypeList, TypeShape};
 pub use table::Types;
+
+#[cfg(test)]
+mod tests;

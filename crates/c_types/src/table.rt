@@ -6,11 +6,11 @@ ghost use Rattle.cc_base.specs.declared.number.TypeId.{TypeId};
 ghost use Rattle.cc_base.specs.declared.fault.Limit.TheVariants.{Types as limit_types, Object as limit_object};
 ghost use Rattle.c_types.specs.declared.fault.TypeFault.TheVariants.{TooLarge, NoMemory as no_memory};
 ghost use Rattle.c_types.specs.declared.shape.TypeShape.TheVariants.{Integer, Struct, Union};
-ghost use Rattle.c_types.specs.Table.{IsType, IsComplete, IsAggregate, HasShape, shape_at, members_at};
+ghost use Rattle.c_types.specs.Table.{IsType, IsComplete, IsAggregate, HasShape, entry_at, shape_at, members_at, is_complete};
 ghost use Rattle.c_types.specs.Layouts.{layout_of, size_of, align_of, offset_of, member_at, members_end, struct_layout, union_layout};
 ghost use Rattle.c_types.specs.Sound.{IsWellFormed, IsSized, IsIntegerSize};
 ghost use Rattle.c_types.specs.Kept.{IsKeptOf, ArePlaces};
-ghost use Rattle.c_types.specs.Calls.{IsNew, IsAddable, IsTypeFault, basic_entry, basic_table, new_layout, with_members, defined_layout};
+ghost use Rattle.c_types.specs.Calls.{IsNew, IsAddable, IsDefinable, IsTypeFault, basic_entry, basic_table, new_layout, with_members, defined_layout};
 
 use crate::fault::TypeFault;
 use crate::kept::{FieldPlace, Kept};
@@ -131,11 +131,7 @@ impl Types {
     ///
     /// The answer is `TooLarge(Object)` where the type would have more than 1,048,576 bytes.
     pub fn define(&mut self, t: TypeId, members: Vec<TypeId>) -> Result<(), TypeFault>
-        requires typed { IsType self.old t }
-        requires aggregate { IsAggregate self.old t }
-        requires open { members_at self.old t ≡ [] }
-        requires some { 0 < length members.items }
-        requires complete { All (IsComplete self.old) members.items }
+        requires { IsDefinable self.old t members.items }
         ensures defined { OnOk result (self.new ≡ with_members self.old t members.items) }
         ensures object { (result ≡ Err (TooLarge limit_object)) ↔ (1048576 < (defined_layout self.old t members.items).size) }
         ensures refused { IfErr result (λ fault. (fault ≡ TooLarge limit_object) ⊎ (fault ≡ no_memory)) }
@@ -286,6 +282,18 @@ impl Types {
         ensures { result.now ≡ shape_at self.now t }
     {
         self.kept(t).0
+    }
+
+    /// Whether a type is a complete object type (C99 6.2.5).
+    pub fn is_complete(&self, t: TypeId) -> bool
+        requires { IsType self.now t }
+        ensures { result ≡ is_complete (entry_at self.now t) }
+    {
+        match self.shape(t) {
+            TypeShape::Void | TypeShape::Function(_, _) => false,
+            TypeShape::Struct(_) | TypeShape::Union(_) => self.fields(t) > 0,
+            _ => true,
+        }
     }
 
     /// The size and the alignment of a type.

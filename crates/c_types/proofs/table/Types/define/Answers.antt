@@ -22,7 +22,7 @@ aggregate : (c : goal.After-drop-members-2) → IsAggregate (table_of c.self.ins
 aggregate c = move c (λ table. IsAggregate table c.args.t) c.requires.aggregate
 
 open_so_far : (c : goal.After-drop-members-2) → members_at (table_of c.self.inside.entries.entries) c.args.t ≡ []
-open_so_far c = move c (λ table. members_at table c.args.t ≡ []) c.requires.«open»
+open_so_far c = move c (λ table. members_at table c.args.t ≡ []) c.requires.unset
 
 complete : (c : goal.After-drop-members-2) → All (IsComplete (table_of c.self.inside.entries.entries)) c.args.members.items
 complete c = move c (λ table. All (IsComplete table) c.args.members.items) c.requires.complete

@@ -42,9 +42,10 @@ key_at es i d b =
 pub found : (es : List KeptEntry) (shape : TypeShape) (i : ℕ) → position (shape_eq shape) (keys_of es) ≡ Some i → HasShape (table_of es) (record { 0 = i }) shape
 found es shape i h =
     let p = position-Some (shape_eq shape) (keys_of es) i shape h in
-    let b : i < length es = subst (λ n. i < n) (length-map es (λ (q : KeptEntry). q.0)) p.0 in
-    (subst (λ n. i < n) (sym (length-map es entry_of)) b,
-     sym (key_at es i shape b) ∙ sym (same_shape shape (get_or (keys_of es) i shape) p.1))
+    let b : i < length es = subst (λ n. i < n) (length-map es (λ (q : KeptEntry). q.0)) p.0 in (
+      subst (λ n. i < n) (sym (length-map es entry_of)) b,
+      sym (key_at es i shape b) ∙ sym (same_shape shape (get_or (keys_of es) i shape) p.1),
+    )
 
 passes_none : (test : TypeShape → Bool) (es : List KeptEntry) → NonePasses test es → (i : ℕ) (d : TypeShape) → i < length es → test (get_or (keys_of es) i d) ≡ false
 passes_none test [] n i d b = absurd (omega arith)
@@ -78,21 +79,22 @@ put_new es shape kept n = put_last es shape kept (λ i b s. n (record { 0 = i })
 module _ (old : Table) (e : Entry) (parts : All (IsComplete old) (parts_of_shape e.shape e.members)) where
   other_entry : (u : TypeId) → u.0 ≢ length old → entry_at (old ++ e ∷ []) u ≡ entry_at old u
   other_entry u n = elim (cases_lt u.0 (length old)) [
-      inl l ↦ get_or_append_left old (e ∷ []) void_entry u.0 l
+    | inl l ↦ get_or_append_left old (e ∷ []) void_entry u.0 l
     | inr g ↦
         let m : length old < u.0 = omega arith in
         get_or_past (old ++ e ∷ []) u.0 void_entry (omega (arith, length-append old (e ∷ [])))
-        ∙ sym (get_or_past old u.0 void_entry g) ]
+        ∙ sym (get_or_past old u.0 void_entry g)
+  ]
 
   pub appends : Changes old (old ++ e ∷ []) (record { 0 = length old }) e
   appends = record {
-      here = get_or-append_seam old e [] void_entry;
-      other = other_entry;
-      vague = ap is_complete (get_or_past old (length old) void_entry (omega arith));
-      longer = omega (arith, length-append old (e ∷ []));
-      count = sum_by_push (λ d. cond (is_complete d) 1 0) old e;
-      parts = parts
-    }
+    here = get_or-append_seam old e [] void_entry;
+    other = other_entry;
+    vague = ap is_complete (get_or_past old (length old) void_entry (omega arith));
+    longer = omega (arith, length-append old (e ∷ []));
+    count = sum_by_push (λ d. cond (is_complete d) 1 0) old e;
+    parts = parts;
+  }
 
 -- a new complete type has a byte, and is aligned to 8 bytes at most
 new_sized : (table : Table) (shape : TypeShape) → IsWellFormed table → IsAddable table shape → is_complete (basic_entry shape) ≡ true
@@ -132,8 +134,9 @@ module _ (old : Table) (shape : TypeShape) (w : IsWellFormed old) (n : IsNew old
   -- a type of the longer table is the last or one of the others
   place : (u : TypeId) → IsType (old ++ basic_entry shape ∷ []) u → (u.0 ≡ length old) ⊎ (u.0 < length old)
   place u h = elim (cases_lt u.0 (length old)) [
-      inl l ↦ inr l
-    | inr g ↦ inl (omega (arith, length-append old (basic_entry shape ∷ []))) ]
+    | inl l ↦ inr l
+    | inr g ↦ inl (omega (arith, length-append old (basic_entry shape ∷ [])))
+  ]
 
   shape_old : (u : TypeId) → u.0 < length old → shape_at (old ++ basic_entry shape ∷ []) u ≡ shape_at old u
   shape_old u l = ap (λ (d : Entry). d.shape) (get_or_append_left old (basic_entry shape ∷ []) void_entry u.0 l)
@@ -146,12 +149,15 @@ module _ (old : Table) (shape : TypeShape) (w : IsWellFormed old) (n : IsNew old
   distinct_after : (u v : TypeId) → IsType (old ++ basic_entry shape ∷ []) u
       → HasShape (old ++ basic_entry shape ∷ []) v (shape_at (old ++ basic_entry shape ∷ []) u) → u ≡ v
   distinct_after u v h k = elim (place u h) [
-      inl s ↦ elim (place v k.0) [
-          inl r ↦ same_number u v (s ∙ sym r)
-        | inr l ↦ absurd (n v (l, sym (shape_old v l) ∙ k.1 ∙ shape_last u s)) ]
+    | inl s ↦ elim (place v k.0) [
+      | inl r ↦ same_number u v (s ∙ sym r)
+      | inr l ↦ absurd (n v (l, sym (shape_old v l) ∙ k.1 ∙ shape_last u s))
+    ]
     | inr l ↦ elim (place v k.0) [
-          inl r ↦ absurd (n u (l, sym (shape_old u l) ∙ sym k.1 ∙ shape_last v r))
-        | inr m ↦ w.distinct u v l (m, sym (shape_old v m) ∙ k.1 ∙ shape_old u l) ] ]
+      | inl r ↦ absurd (n u (l, sym (shape_old u l) ∙ sym k.1 ∙ shape_last v r))
+      | inr m ↦ w.distinct u v l (m, sym (shape_old v m) ∙ k.1 ∙ shape_old u l)
+    ]
+  ]
 
   pub layouts_others : (u : TypeId) → u.0 < length old → layout_of (old ++ basic_entry shape ∷ []) u ≡ layout_of old u
   layouts_others u l = other_layout old (old ++ basic_entry shape ∷ []) (record { 0 = length old }) (basic_entry shape) change w (new_formed old shape a) u (λ s. omega arith)
@@ -166,13 +172,13 @@ module _ (old : Table) (shape : TypeShape) (w : IsWellFormed old) (n : IsNew old
         some = subst (λ (l : Layout). 0 < l.size) (sym layout_last) s.0;
         most = subst (λ (l : Layout). l.size ≤ 1048576) (sym layout_last) most;
         aligned = subst (λ (l : Layout). 0 < l.align) (sym layout_last) s.1;
-        narrow = subst (λ (l : Layout). l.align ≤ 8) (sym layout_last) s.2
+        narrow = subst (λ (l : Layout). l.align ≤ 8) (sym layout_last) s.2;
       }
 
   pub formed_added : length old < 16384 → (new_layout old shape).size ≤ 1048576 → IsWellFormed (old ++ basic_entry shape ∷ [])
   formed_added room most =
       formed_after old (old ++ basic_entry shape ∷ []) (record { 0 = length old }) (basic_entry shape) change w (new_formed old shape a)
-          (omega (arith, length-append old (basic_entry shape ∷ []))) distinct_after (sized_last most)
+      (omega (arith, length-append old (basic_entry shape ∷ []))) distinct_after (sized_last most)
 
   pub kept_others : (u : TypeId) (k : Kept) → u.0 < length old → map (λ (p : FieldPlace). p.ty) k.fields.items ≡ members_at old u
       → IsKeptOf old u k → IsKeptOf (old ++ basic_entry shape ∷ []) u k
@@ -191,33 +197,34 @@ module _ (es : List KeptEntry) (shape : TypeShape) (kept : Kept) (empty : kept.f
     kept_old : (i : ℕ) (d : KeptEntry) → i < length es → IsKeptOf (table_of es ++ basic_entry shape ∷ []) (record { 0 = i }) (get_or es i d).1
     kept_old i d b =
         kept_others (table_of es) shape s.formed n a (record { 0 = i }) (get_or es i d).1 (omega (arith, length-map es entry_of))
-            (sym (ap (λ (e : Entry). e.members) (get_or-map entry_of es i d void_entry b))) (s.kept i d b)
+        (sym (ap (λ (e : Entry). e.members) (get_or-map entry_of es i d void_entry b))) (s.kept i d b)
 
     kept_last : IsKeptOf (table_of es ++ basic_entry shape ∷ []) (record { 0 = length es }) kept
     kept_last =
         let P : ℕ → Type 0 = λ i. IsKeptOf (table_of es ++ basic_entry shape ∷ []) (record { 0 = i }) kept in
         subst P (length-map es entry_of) (record {
           layout = l ∙ sym (layout_last (table_of es) shape s.formed n a);
-          offsets = λ i d b. absurd (omega (arith, ap length empty))
+          offsets = λ i d b. absurd (omega (arith, ap length empty));
         })
 
     kept_each : (i : ℕ) (d : KeptEntry) → i < length (es ++ (shape, kept) ∷ [])
         → IsKeptOf (table_of es ++ basic_entry shape ∷ []) (record { 0 = i }) (get_or (es ++ (shape, kept) ∷ []) i d).1
     kept_each i d b = elim (cases_lt i (length es)) [
-        inl m ↦
+      | inl m ↦
           let P : KeptEntry → Type 0 = λ p. IsKeptOf (table_of es ++ basic_entry shape ∷ []) (record { 0 = i }) p.1 in
           subst P (sym (get_or_append_left es ((shape, kept) ∷ []) d i m)) (kept_old i d m)
       | inr g ↦
           let e : length es ≡ i = omega (arith, length-append es ((shape, kept) ∷ [])) in
           let P : ℕ → Type 0 = λ j. IsKeptOf (table_of es ++ basic_entry shape ∷ []) (record { 0 = j }) (get_or (es ++ (shape, kept) ∷ []) j d).1 in
           let Q : KeptEntry → Type 0 = λ p. IsKeptOf (table_of es ++ basic_entry shape ∷ []) (record { 0 = length es }) p.1 in
-          subst P e (subst Q (sym (get_or-append_seam es (shape, kept) [] d)) kept_last) ]
+          subst P e (subst Q (sym (get_or-append_seam es (shape, kept) [] d)) kept_last)
+    ]
 
     pub sound_added : length (table_of es) < 16384 → kept.layout.size ≤ 1048576 → IsSound (es ++ (shape, kept) ∷ [])
     sound_added room most = record {
-        formed = subst IsWellFormed (sym table_added) (formed_added (table_of es) shape s.formed n a room (subst (λ (k : Layout). k.size ≤ 1048576) l most));
-        kept = λ i d b. let P : Table → Type 0 = λ table. IsKeptOf table (record { 0 = i }) (get_or (es ++ (shape, kept) ∷ []) i d).1 in subst P (sym table_added) (kept_each i d b)
-      }
+      formed = subst IsWellFormed (sym table_added) (formed_added (table_of es) shape s.formed n a room (subst (λ (k : Layout). k.size ≤ 1048576) l most));
+      kept = λ i d b. let P : Table → Type 0 = λ table. IsKeptOf table (record { 0 = i }) (get_or (es ++ (shape, kept) ∷ []) i d).1 in subst P (sym table_added) (kept_each i d b);
+    }
 
 -- the empty table
 pub sound_empty : (es : List KeptEntry) → es ≡ [] → IsSound es
@@ -225,14 +232,15 @@ sound_empty es e = subst IsSound (sym e) nothing
   where
     formed_empty : (t : TypeId) → IsFormed [] (entry_at [] t)
     formed_empty t = record { proper = tt; named = All-nil (IsType []); parts = All-nil (IsComplete []); plain = inr refl }
+
     nothing : IsSound []
     nothing = record {
-        formed = record {
-          small = omega arith;
-          each = formed_empty;
-          distinct = λ t u b h. absurd (omega arith);
-          sized = λ t h. absurd (true≢false (sym h));
-          order = (λ t. 0, record { below = λ t. omega arith; complete = λ t h. absurd (true≢false (sym h)); falls = λ t part c. absurd (omega (arith, c.1)) })
-        };
-        kept = λ i d b. absurd (omega arith)
-      }
+      formed = record {
+        small = omega arith;
+        each = formed_empty;
+        distinct = λ t u b h. absurd (omega arith);
+        sized = λ t h. absurd (true≢false (sym h));
+        order = (λ t. 0, record { below = λ t. omega arith; complete = λ t h. absurd (true≢false (sym h)); falls = λ t part c. absurd (omega (arith, c.1)) });
+      };
+      kept = λ i d b. absurd (omega arith);
+    }

@@ -94,23 +94,23 @@ module _ (old : Table) (t : TypeId) (members : List TypeId) (w : IsWellFormed ol
 
   pub defines : Changes old (with_members old t members) t (record { shape = shape_at old t; members = members })
   defines = record {
-      here = get_or-set_same old t.0 (record { shape = shape_at old t; members = members }) void_entry b;
-      other = λ u n. get_or-set_other old t.0 u.0 (record { shape = shape_at old t; members = members }) void_entry n;
-      vague = vague_here;
-      longer = omega (arith, length-set old t.0 (record { shape = shape_at old t; members = members }));
-      count =
+    here = get_or-set_same old t.0 (record { shape = shape_at old t; members = members }) void_entry b;
+    other = λ u n. get_or-set_other old t.0 u.0 (record { shape = shape_at old t; members = members }) void_entry n;
+    vague = vague_here;
+    longer = omega (arith, length-set old t.0 (record { shape = shape_at old t; members = members }));
+    count =
         let h = sum_by-set (λ (d : Entry). cond (is_complete d) 1 0) old t.0 (record { shape = shape_at old t; members = members }) void_entry b in
         let z : cond {A = ℕ} (is_complete (entry_at old t)) 1 0 ≡ 0 = ap (λ x. cond {A = ℕ} x 1 0) vague_here in omega arith;
-      parts = aggregate_parts (IsComplete old) (shape_at old t) members a full
-    }
+    parts = aggregate_parts (IsComplete old) (shape_at old t) members a full;
+  }
 
   formed : IsFormed old (record { shape = shape_at old t; members = members })
   formed = record {
-      proper = (w.each t).proper;
-      named = (w.each t).named;
-      parts = aggregate_parts (IsComplete old) (shape_at old t) members a full;
-      plain = inl a
-    }
+    proper = (w.each t).proper;
+    named = (w.each t).named;
+    parts = aggregate_parts (IsComplete old) (shape_at old t) members a full;
+    plain = inl a;
+  }
 
   pub defined_others : (u : TypeId) → u.0 ≢ t.0 → layout_of (with_members old t members) u ≡ layout_of old u
   defined_others = other_layout old (with_members old t members) t (record { shape = shape_at old t; members = members }) defines w formed
@@ -123,11 +123,12 @@ module _ (old : Table) (t : TypeId) (members : List TypeId) (w : IsWellFormed ol
 
   same_shapes : (u : TypeId) → shape_at (with_members old t members) u ≡ shape_at old u
   same_shapes u = elim (eqb_tells u.0 t.0) [
-      inl s ↦
+    | inl s ↦
         ap (λ (i : ℕ). shape_at (with_members old t members) (record { 0 = i })) s.1
         ∙ ap (λ (d : Entry). d.shape) defines.here
         ∙ ap (λ (i : ℕ). shape_at old (record { 0 = i })) (sym s.1)
-    | inr n ↦ ap (λ (d : Entry). d.shape) (defines.other u n.1) ]
+    | inr n ↦ ap (λ (d : Entry). d.shape) (defines.other u n.1)
+  ]
 
   same_length : length (with_members old t members) ≡ length old
   same_length = length-set old t.0 (record { shape = shape_at old t; members = members })
@@ -148,17 +149,17 @@ module _ (old : Table) (t : TypeId) (members : List TypeId) (w : IsWellFormed ol
   pub formed_defined : (defined_layout old t members).size ≤ 1048576 → IsWellFormed (with_members old t members)
   formed_defined most =
       formed_after old (with_members old t members) t (record { shape = shape_at old t; members = members }) defines w formed
-          (let s = w.small in omega (arith, same_length)) distinct_after (λ h. sized_here most)
+      (let s = w.small in omega (arith, same_length)) distinct_after (λ h. sized_here most)
 
   pub kept_defined : (k : Kept) → k.layout ≡ defined_layout old t members → ArePlaces (layout_of old) (shape_at old t) members k.fields.items
       → IsKeptOf (with_members old t members) t k
   kept_defined k l p = record {
-      layout = l ∙ sym defined_own;
-      offsets = λ i d c.
-          let n : length k.fields.items ≡ length members = sym (length-map k.fields.items (λ (q : FieldPlace). q.ty)) ∙ ap length p.types in
-          p.offsets i d t c
-          ∙ sym (own_offset old (with_members old t members) t (record { shape = shape_at old t; members = members }) defines w formed i (omega arith))
-    }
+    layout = l ∙ sym defined_own;
+    offsets = λ i d c.
+        let n : length k.fields.items ≡ length members = sym (length-map k.fields.items (λ (q : FieldPlace). q.ty)) ∙ ap length p.types in
+        p.offsets i d t c
+        ∙ sym (own_offset old (with_members old t members) t (record { shape = shape_at old t; members = members }) defines w formed i (omega arith));
+  }
 
   pub kept_by_others : (u : TypeId) (k : Kept) → u.0 ≢ t.0 → map (λ (p : FieldPlace). p.ty) k.fields.items ≡ members_at old u → IsKeptOf old u k
       → IsKeptOf (with_members old t members) u k
@@ -197,19 +198,20 @@ module _ (es : List KeptEntry) (t : TypeId) (members : List TypeId) (k : Kept) (
         let P : List KeptEntry → Type 0 = λ xs. IsKeptOf (with_members (table_of es) t members) (record { 0 = i }) (get_or xs i d).1 in
         let h : i < length es = omega (arith, ap length e, length-set es t.0 ((get_or es t.0 d).0, k)) in
         subst P (sym e) (elim (eqb_tells i t.0) [
-            inl q ↦
+          | inl q ↦
               let Q : ℕ → Type 0 = λ j. IsKeptOf (with_members (table_of es) t members) (record { 0 = j }) (get_or (set es t.0 ((get_or es t.0 d).0, k)) j d).1 in
               let R : KeptEntry → Type 0 = λ x. IsKeptOf (with_members (table_of es) t members) t x.1 in
               subst Q (sym q.1) (subst R (sym (get_or-set_same es t.0 ((get_or es t.0 d).0, k) d within))
-                  (kept_defined (table_of es) t members s.formed b a o some full k l p))
+              (kept_defined (table_of es) t members s.formed b a o some full k l p))
           | inr n ↦
               let R : KeptEntry → Type 0 = λ x. IsKeptOf (with_members (table_of es) t members) (record { 0 = i }) x.1 in
               subst R (sym (get_or-set_other es t.0 i ((get_or es t.0 d).0, k) d n.1))
-                  (kept_by_others (table_of es) t members s.formed b a o some full (record { 0 = i }) (get_or es i d).1 n.1
-                      (sym (ap (λ (x : Entry). x.members) (get_or-map entry_of es i d void_entry h))) (s.kept i d h)) ])
+              (kept_by_others (table_of es) t members s.formed b a o some full (record { 0 = i }) (get_or es i d).1 n.1
+              (sym (ap (λ (x : Entry). x.members) (get_or-map entry_of es i d void_entry h))) (s.kept i d h))
+        ])
 
     pub sound_defined : (defined_layout (table_of es) t members).size ≤ 1048576 → IsSound (set_value_at es t.0 k)
     sound_defined most = record {
-        formed = subst IsWellFormed (sym table_defined) (formed_defined (table_of es) t members s.formed b a o some full most);
-        kept = λ i d c. let P : Table → Type 0 = λ table. IsKeptOf table (record { 0 = i }) (get_or (set_value_at es t.0 k) i d).1 in subst P (sym table_defined) (kept_each i d c)
-      }
+      formed = subst IsWellFormed (sym table_defined) (formed_defined (table_of es) t members s.formed b a o some full most);
+      kept = λ i d c. let P : Table → Type 0 = λ table. IsKeptOf table (record { 0 = i }) (get_or (set_value_at es t.0 k) i d).1 in subst P (sym table_defined) (kept_each i d c);
+    }

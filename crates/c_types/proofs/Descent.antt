@@ -20,7 +20,7 @@ module _ {A : Type 0} (step : (TypeId → A) → TypeId → A) (none : A) (parts
   enough (suc j) zero t p q = absurd (omega arith)
   enough (suc j) (suc k) t p q =
       local (descend step none j) (descend step none k) t
-          (λ m c. let f : rank m < rank t = falls t m c in enough j k m (omega arith) (omega arith))
+      (λ m c. let f : rank m < rank t = falls t m c in enough j k m (omega arith) (omega arith))
 
   -- what is found is what `step` makes of what is found for the parts
   pub descend_is : (n : ℕ) (t : TypeId) → rank t < n → descend step none n t ≡ step (descend step none n) t
@@ -45,4 +45,4 @@ module _ (table : Table) (rank : TypeId → ℕ) (r : IsRanked table rank) where
   unfolding layout_of
   layout_is t =
       descend_is (layout_step table) no_layout (parts_at table) rank
-          (λ f g u h. layout_local f g (shape_at table u) (members_at table u) h) r.falls (suc (length table)) t (rank_bound t)
+      (λ f g u h. layout_local f g (shape_at table u) (members_at table u) h) r.falls (suc (length table)) t (rank_bound t)

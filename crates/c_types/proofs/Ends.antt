@@ -18,10 +18,10 @@ ends_grow a (x ∷ xs) = let h = ends_grow (rounded a x.align + x.size) xs in le
 pub end_of_part : (f : TypeId → Layout) (members : List TypeId) (i : ℕ) → members_end (map f (take i members)) ≤ members_end (map f members)
 end_of_part f members i =
     let e : map f members ≡ map f (take i members) ++ map f (drop i members) =
-        ap (map f) (sym (take-append-drop i members)) ∙ map-append f (take i members) (drop i members) in
+    ap (map f) (sym (take-append-drop i members)) ∙ map-append f (take i members) (drop i members) in
     let h = ends_grow (members_end (map f (take i members))) (map f (drop i members)) in
     subst (λ n. members_end (map f (take i members)) ≤ n)
-        (sym (ap members_end e ∙ fold-append (λ end m. rounded end m.align + m.size) 0 (map f (take i members)) (map f (drop i members)))) h
+    (sym (ap members_end e ∙ fold-append (λ end m. rounded end m.align + m.size) 0 (map f (take i members)) (map f (drop i members)))) h
 
 pub end_of_struct : (f : TypeId → Layout) (members : List TypeId) (i : ℕ) → members_end (map f (take i members)) ≤ (struct_layout (map f members)).size
 end_of_struct f members i =

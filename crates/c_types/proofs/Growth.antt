@@ -32,11 +32,11 @@ module _ (old new : Table) (t : TypeId) (e : Entry) (c : Changes old new t e) wh
 
   pub still_formed : (d : Entry) → IsFormed old d → IsFormed new d
   still_formed d f = record {
-      proper = f.proper;
-      named = All-weaker (IsType old) (IsType new) still_type _ f.named;
-      parts = All-weaker (IsComplete old) (IsComplete new) still_complete _ f.parts;
-      plain = f.plain
-    }
+    proper = f.proper;
+    named = All-weaker (IsType old) (IsType new) still_type _ f.named;
+    parts = All-weaker (IsComplete old) (IsComplete new) still_complete _ f.parts;
+    plain = f.plain;
+  }
 
   -- the entry at t, by any name of t
   here_too : (u : TypeId) → u.0 ≡ t.0 → entry_at new u ≡ e
@@ -45,8 +45,9 @@ module _ (old new : Table) (t : TypeId) (e : Entry) (c : Changes old new t e) wh
   pub each_formed : ((u : TypeId) → IsFormed old (entry_at old u)) → IsFormed old e → (u : TypeId) → IsFormed new (entry_at new u)
   each_formed each f u =
       elim (eqb_tells u.0 t.0) [
-        inl s ↦ subst (IsFormed new) (sym (here_too u s.1)) (still_formed e f)
-      | inr n ↦ subst (IsFormed new) (sym (c.other u n.1)) (still_formed (entry_at old u) (each u)) ]
+        | inl s ↦ subst (IsFormed new) (sym (here_too u s.1)) (still_formed e f)
+        | inr n ↦ subst (IsFormed new) (sym (c.other u n.1)) (still_formed (entry_at old u) (each u))
+      ]
 
   -- t is completed last
   pub rank_after : (TypeId → ℕ) → TypeId → ℕ
@@ -56,15 +57,17 @@ module _ (old new : Table) (t : TypeId) (e : Entry) (c : Changes old new t e) wh
   unfolding rank_after
   rank_other rank u n =
       elim (eqb_tells u.0 t.0) [
-        inl s ↦ absurd (n s.1)
-      | inr m ↦ ap (λ b. cond b (complete_count old) (rank u)) m.0 ]
+        | inl s ↦ absurd (n s.1)
+        | inr m ↦ ap (λ b. cond b (complete_count old) (rank u)) m.0
+      ]
 
   rank_here : (rank : TypeId → ℕ) (u : TypeId) → u.0 ≡ t.0 → rank_after rank u ≡ complete_count old
   unfolding rank_after
   rank_here rank u s =
       elim (eqb_tells u.0 t.0) [
-        inl m ↦ ap (λ b. cond b (complete_count old) (rank u)) m.0
-      | inr n ↦ absurd (n.1 s) ]
+        | inl m ↦ ap (λ b. cond b (complete_count old) (rank u)) m.0
+        | inr n ↦ absurd (n.1 s)
+      ]
 
   module _ (rank : TypeId → ℕ) (r : IsRanked old rank) (each : (u : TypeId) → IsFormed old (entry_at old u)) where
     grown : complete_count old ≤ complete_count new
@@ -74,18 +77,20 @@ module _ (old new : Table) (t : TypeId) (e : Entry) (c : Changes old new t e) wh
     below_after u =
         let g = grown in
         elim (eqb_tells u.0 t.0) [
-          inl s ↦ let h = rank_here rank u s.1 in omega arith
-        | inr n ↦ let h = rank_other rank u n.1 in let b = r.below u in omega arith ]
+          | inl s ↦ let h = rank_here rank u s.1 in omega arith
+          | inr n ↦ let h = rank_other rank u n.1 in let b = r.below u in omega arith
+        ]
 
     complete_after : (u : TypeId) → IsComplete new u → rank_after rank u < complete_count new
     complete_after u k =
         let g = grown in
         elim (eqb_tells u.0 t.0) [
-          inl s ↦ let h = rank_here rank u s.1 in
+          | inl s ↦ let h = rank_here rank u s.1 in
               let full : complete_count new ≡ complete_count old + 1 =
-                  c.count ∙ ap (λ b. complete_count old + cond b 1 0) (sym (ap is_complete (here_too u s.1)) ∙ k) in omega arith
-        | inr n ↦ let h = rank_other rank u n.1 in
-              let b = r.complete u (sym (ap is_complete (c.other u n.1)) ∙ k) in omega arith ]
+              c.count ∙ ap (λ b. complete_count old + cond b 1 0) (sym (ap is_complete (here_too u s.1)) ∙ k) in omega arith
+          | inr n ↦ let h = rank_other rank u n.1 in
+              let b = r.complete u (sym (ap is_complete (c.other u n.1)) ∙ k) in omega arith
+        ]
 
     part_rank : (part : TypeId) → IsComplete old part → rank_after rank part ≡ rank part
     part_rank part k = rank_other rank part (not_here part k)
@@ -93,14 +98,15 @@ module _ (old new : Table) (t : TypeId) (e : Entry) (c : Changes old new t e) wh
     falls_after : (u part : TypeId) → Contains (parts_at new u) part → rank_after rank part < rank_after rank u
     falls_after u part k =
         elim (eqb_tells u.0 t.0) [
-          inl s ↦
+          | inl s ↦
               let k2 = subst (λ (d : Entry). Contains (parts_of_shape d.shape d.members) part) (here_too u s.1) k in
               let full = All-contains (IsComplete old) (parts_of_shape e.shape e.members) part c.parts k2 in
               let h = rank_here rank u s.1 in let p = part_rank part full in let b = r.complete part full in omega arith
-        | inr n ↦
+          | inr n ↦
               let k2 = subst (λ (d : Entry). Contains (parts_of_shape d.shape d.members) part) (c.other u n.1) k in
               let full = All-contains (IsComplete old) (parts_at old u) part (each u).parts k2 in
-              let h = rank_other rank u n.1 in let p = part_rank part full in let b = r.falls u part k2 in omega arith ]
+              let h = rank_other rank u n.1 in let p = part_rank part full in let b = r.falls u part k2 in omega arith
+        ]
 
     pub ranked_after : IsRanked new (rank_after rank)
     ranked_after = record { below = below_after; complete = complete_after; falls = falls_after }
@@ -112,10 +118,10 @@ module _ (old new : Table) (t : TypeId) (e : Entry) (c : Changes old new t e) wh
         layout_is new (rank_after rank) ranked_after u
         ∙ ap (λ (d : Entry). layout_of_shape (layout_of new) d.shape d.members) (c.other u m)
         ∙ layout_local (layout_of new) (layout_of old) (shape_at old u) (members_at old u)
-            (λ part k.
-                let full = All-contains (IsComplete old) (parts_at old u) part (each u).parts k in
-                let f = r.falls u part k in
-                same_layout n part (omega arith) (not_here part full))
+        (λ part k.
+        let full = All-contains (IsComplete old) (parts_at old u) part (each u).parts k in
+        let f = r.falls u part k in
+        same_layout n part (omega arith) (not_here part full))
         ∙ sym (layout_is old rank r u)
 
     pub layout_other : (u : TypeId) → u.0 ≢ t.0 → layout_of new u ≡ layout_of old u
@@ -127,4 +133,4 @@ module _ (old new : Table) (t : TypeId) (e : Entry) (c : Changes old new t e) wh
         layout_is new (rank_after rank) ranked_after t
         ∙ ap (λ (d : Entry). layout_of_shape (layout_of new) d.shape d.members) c.here
         ∙ layout_local (layout_of new) (layout_of old) e.shape e.members
-            (λ part k. layout_other part (not_here part (All-contains (IsComplete old) (parts_of_shape e.shape e.members) part c.parts k)))
+        (λ part k. layout_other part (not_here part (All-contains (IsComplete old) (parts_of_shape e.shape e.members) part c.parts k)))

@@ -74,22 +74,22 @@ module _ (f : TypeId → Layout) (members : List TypeId) where
   pub laid_more : (i end align : ℕ) (d : TypeId) (l : Layout) → IsLaid f members i end align → i < length members → l ≡ f (get_or members i d) → l.align ≤ 8
       → rounded end l.align + l.size ≤ 1048576 → IsLaid f members (i + 1) (rounded end l.align + l.size) (max align l.align)
   laid_more i end align d l r h s n b = record {
-      end_is = end_more i end d l r.end_is h s;
-      align_is = align_more i align d l r.align_is h s;
-      small = b;
-      low = let p = r.low in omega arith;
-      high = let p = r.high in omega arith
-    }
+    end_is = end_more i end d l r.end_is h s;
+    align_is = align_more i align d l r.align_is h s;
+    small = b;
+    low = let p = r.low in omega arith;
+    high = let p = r.high in omega arith;
+  }
 
   pub united_more : (i size align : ℕ) (d : TypeId) (l : Layout) → IsUnited f members i size align → i < length members → l ≡ f (get_or members i d)
       → l.align ≤ 8 → l.size ≤ 1048576 → IsUnited f members (i + 1) (max size l.size) (max align l.align)
   united_more i size align d l r h s n b = record {
-      size_is = size_more i size d l r.size_is h s;
-      align_is = align_more i align d l r.align_is h s;
-      small = let p = r.small in omega arith;
-      low = let p = r.low in omega arith;
-      high = let p = r.high in omega arith
-    }
+    size_is = size_more i size d l r.size_is h s;
+    align_is = align_more i align d l r.align_is h s;
+    small = let p = r.small in omega arith;
+    low = let p = r.low in omega arith;
+    high = let p = r.high in omega arith;
+  }
 
   pub laid_all : (i end align size : ℕ) (r : Option Layout) → IsLaid f members i end align → length members ≤ i → size ≡ rounded end align
       → SomeIff r (size ≤ 1048576) (record { size = size; align = align })
@@ -110,29 +110,30 @@ module _ (f : TypeId → Layout) (members : List TypeId) where
   module _ (shape : TypeShape) where
     pub places_start : (fields : List FieldPlace) → fields ≡ [] → ArePlacesSoFar f shape members 0 fields
     places_start fields e = record {
-        types = ap (map (λ (p : FieldPlace). p.ty)) e;
-        offsets = λ k d t b. absurd (omega (arith, ap length e))
-      }
+      types = ap (map (λ (p : FieldPlace). p.ty)) e;
+      offsets = λ k d t b. absurd (omega (arith, ap length e));
+    }
 
     pub places_more : (i offset : ℕ) (fields : List FieldPlace) (d : TypeId) → ArePlacesSoFar f shape members i fields → i < length members
         → ((e : TypeId) → offset ≡ offset_of_shape shape (map f (take i members)) (f (get_or members i e)))
         → ArePlacesSoFar f shape members (i + 1) (fields ++ (record { offset = offset; ty = get_or members i d }) ∷ [])
     places_more i offset fields d r h o = record {
-        types =
+      types =
           map-append (λ (p : FieldPlace). p.ty) fields ((record { offset = offset; ty = get_or members i d }) ∷ [])
           ∙ ap (λ ts. ts ++ get_or members i d ∷ []) r.types
           ∙ sym (more_taken i d h);
-        offsets = λ k g e b. elim (cases_lt k (length fields)) [
-            inl l ↦ ap (λ (p : FieldPlace). p.offset) (get_or_append_left fields ((record { offset = offset; ty = get_or members i d }) ∷ []) g k l) ∙ r.offsets k g e l
-          | inr m ↦
-              let count : length fields ≡ i =
-                  sym (length-map fields (λ (p : FieldPlace). p.ty)) ∙ ap length r.types ∙ length-take-le i members (omega arith) in
-              let here : length fields ≡ k = omega (arith, length-append fields ((record { offset = offset; ty = get_or members i d }) ∷ [])) in
-              ap (λ n. (get_or (fields ++ (record { offset = offset; ty = get_or members i d }) ∷ []) n g).offset) (sym here)
-              ∙ ap (λ (p : FieldPlace). p.offset) (get_or-append_seam fields (record { offset = offset; ty = get_or members i d }) [] g)
-              ∙ o e
-              ∙ ap (λ n. offset_of_shape shape (map f (take n members)) (f (get_or members n e))) (sym count ∙ here) ]
-      }
+      offsets = λ k g e b. elim (cases_lt k (length fields)) [
+        | inl l ↦ ap (λ (p : FieldPlace). p.offset) (get_or_append_left fields ((record { offset = offset; ty = get_or members i d }) ∷ []) g k l) ∙ r.offsets k g e l
+        | inr m ↦
+            let count : length fields ≡ i =
+            sym (length-map fields (λ (p : FieldPlace). p.ty)) ∙ ap length r.types ∙ length-take-le i members (omega arith) in
+            let here : length fields ≡ k = omega (arith, length-append fields ((record { offset = offset; ty = get_or members i d }) ∷ [])) in
+            ap (λ n. (get_or (fields ++ (record { offset = offset; ty = get_or members i d }) ∷ []) n g).offset) (sym here)
+            ∙ ap (λ (p : FieldPlace). p.offset) (get_or-append_seam fields (record { offset = offset; ty = get_or members i d }) [] g)
+            ∙ o e
+            ∙ ap (λ n. offset_of_shape shape (map f (take n members)) (f (get_or members n e))) (sym count ∙ here)
+      ];
+    }
       where
         more_taken : (j : ℕ) (t : TypeId) → j < length members → take (j + 1) members ≡ take j members ++ get_or members j t ∷ []
         more_taken j t b = take_more members j t b

@@ -27,7 +27,7 @@ pub offset_local : (f g : TypeId → Layout) (shape : TypeShape) (members : List
     → offset_of_shape shape (map f (take i members)) (f (get_or members i d)) ≡ offset_of_shape shape (map g (take i members)) (g (get_or members i d))
 offset_local f g (Struct tag) members i d b h =
     λ j. offset_after (map_same f g (take i members) (λ m k. h m (contains_take i members m k)) j)
-        (h (get_or members i d) (Contains-get_or members i d b) j)
+    (h (get_or members i d) (Contains-get_or members i d b) j)
 offset_local f g shape members i d b h = refl
 
 module _ (old new : Table) (t : TypeId) (e : Entry) (c : Changes old new t e) (w : IsWellFormed old) (f : IsFormed old e) where
@@ -56,11 +56,11 @@ module _ (old new : Table) (t : TypeId) (e : Entry) (c : Changes old new t e) (w
   -- what is kept of another type stays right
   pub kept_other : (u : TypeId) (k : Kept) → u.0 ≢ t.0 → map (λ (p : FieldPlace). p.ty) k.fields.items ≡ members_at old u → IsKeptOf old u k → IsKeptOf new u k
   kept_other u k n m h = record {
-      layout = h.layout ∙ sym (other_layout u n);
-      offsets = λ i d b.
-          let l : length k.fields.items ≡ length (members_at old u) = sym (length-map k.fields.items (λ (p : FieldPlace). p.ty)) ∙ ap length m in
-          h.offsets i d b ∙ sym (other_offset u i n (omega arith))
-    }
+    layout = h.layout ∙ sym (other_layout u n);
+    offsets = λ i d b.
+        let l : length k.fields.items ≡ length (members_at old u) = sym (length-map k.fields.items (λ (p : FieldPlace). p.ty)) ∙ ap length m in
+        h.offsets i d b ∙ sym (other_offset u i n (omega arith));
+  }
 
   -- a size fits
   pub Fits : Layout → Type 0
@@ -68,22 +68,23 @@ module _ (old new : Table) (t : TypeId) (e : Entry) (c : Changes old new t e) (w
 
   sized_other : (u : TypeId) → u.0 ≢ t.0 → IsSized old u → IsSized new u
   sized_other u n s = record {
-      some = subst (λ (l : Layout). 0 < l.size) (sym (other_layout u n)) s.some;
-      most = subst (λ (l : Layout). l.size ≤ 1048576) (sym (other_layout u n)) s.most;
-      aligned = subst (λ (l : Layout). 0 < l.align) (sym (other_layout u n)) s.aligned;
-      narrow = subst (λ (l : Layout). l.align ≤ 8) (sym (other_layout u n)) s.narrow
-    }
+    some = subst (λ (l : Layout). 0 < l.size) (sym (other_layout u n)) s.some;
+    most = subst (λ (l : Layout). l.size ≤ 1048576) (sym (other_layout u n)) s.most;
+    aligned = subst (λ (l : Layout). 0 < l.align) (sym (other_layout u n)) s.aligned;
+    narrow = subst (λ (l : Layout). l.align ≤ 8) (sym (other_layout u n)) s.narrow;
+  }
 
   -- the table stays well formed
   pub formed_after : length new ≤ 16384
       → ((u v : TypeId) → IsType new u → HasShape new v (shape_at new u) → u ≡ v)
       → (IsComplete new t → IsSized new t) → IsWellFormed new
   formed_after small distinct sized = record {
-      small = small;
-      each = each_formed old new t e c w.each f;
-      distinct = distinct;
-      sized = λ u k. elim (eqb_tells u.0 t.0) [
-          inl s ↦ let P : ℕ → Type 0 = λ n. IsComplete new (record { 0 = n }) → IsSized new (record { 0 = n }) in subst P (sym s.1) sized k
-        | inr n ↦ sized_other u n.1 (w.sized u (sym (ap is_complete (c.other u n.1)) ∙ k)) ];
-      order = (rank_after old new t e c w.order.0, ranked_after old new t e c w.order.0 w.order.1 w.each)
-    }
+    small = small;
+    each = each_formed old new t e c w.each f;
+    distinct = distinct;
+    sized = λ u k. elim (eqb_tells u.0 t.0) [
+      | inl s ↦ let P : ℕ → Type 0 = λ n. IsComplete new (record { 0 = n }) → IsSized new (record { 0 = n }) in subst P (sym s.1) sized k
+      | inr n ↦ sized_other u n.1 (w.sized u (sym (ap is_complete (c.other u n.1)) ∙ k))
+    ];
+    order = (rank_after old new t e c w.order.0, ranked_after old new t e c w.order.0 w.order.1 w.each);
+  }

@@ -75,8 +75,8 @@ abbrev pub union_cells : Relation → TypeId → ℕ → Bool → List (List Cel
 union_cells E t size holds members =
     if holds
     then (if list_all (begins E (longest members)) members
-          then padded_to size (longest members)
-          else map (mixed t) (range_with_len 0 size))
+    then padded_to size (longest members)
+    else map (mixed t) (range_with_len 0 size))
     else replicate size raw
 
 abbrev pub aggregate_cells : TypeId → List TypeId → List Cell → List Cell

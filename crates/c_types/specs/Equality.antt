@@ -76,7 +76,7 @@ cells_of table t = cells_at table (physically_equal table) t
 abbrev pub begins_with : Table → TypeId → TypeId → Bool
 begins_with table t u =
     not (is_function table t) && (not (is_function table u)
-        && begins (physically_equal table) (cells_of table t) (cells_of table u))
+    && begins (physically_equal table) (cells_of table t) (cells_of table u))
 
 abbrev pub strictly_below : Table → TypeId → TypeId → Bool
 strictly_below table t u = begins_with table t u && not (physically_equal table t u)
@@ -94,4 +94,4 @@ repeat_alike E xs ys =
 abbrev pub tile : Table → TypeId → TypeId → Bool
 tile table t u =
     not (is_empty (cells_of table t)) && (not (is_empty (cells_of table u))
-        && repeat_alike (physically_equal table) (cells_of table t) (cells_of table u))
+    && repeat_alike (physically_equal table) (cells_of table t) (cells_of table u))

@@ -46,9 +46,9 @@ pub record ByteRange : Type 0 where
 -- cells whose area begins at `address`
 abbrev pub cured_image : (NodeId → Kind) → List Cell → ℕ → ℕ → ℕ → ByteRange
 cured_image kind cells address offset count = record {
-    start = address + width_of kind (take offset cells);
-    count = width_of kind (take count (drop offset cells))
-  }
+  start = address + width_of kind (take offset cells);
+  count = width_of kind (take count (drop offset cells));
+}
 
 -- an area that carries tags keeps each byte where it was
 abbrev pub tagged_image : ℕ → ℕ → ℕ → ByteRange

@@ -17,10 +17,7 @@ impl Layout {
     pub(crate) fn none() -> Layout
         ensures { result ≡ no_layout }
     {
-        Layout {
-            size: 0,
-            align: 1,
-        }
+        Layout { size: 0, align: 1 }
     }
 
     /// The layout of a number of this many bytes.

@@ -30,24 +30,24 @@ complete c = move c (λ table. All (IsComplete table) c.args.members.items) c.re
 layout : (c : goal.After-drop-members-2) → c.in-Some.layout ≡ defined_layout (table_of c.self.inside.entries.entries) c.args.t c.args.members.items
 layout c =
     move c (λ table. c.in-Some.layout ≡ defined_layout table c.args.t c.args.members.items)
-        (subst (λ (ms : List TypeId). c.in-Some.layout ≡ defined_layout c.args.self.now c.args.t ms) c.deref.ensures.value c.in-Some.ensures.1)
+    (subst (λ (ms : List TypeId). c.in-Some.layout ≡ defined_layout c.args.self.now c.args.t ms) c.deref.ensures.value c.in-Some.ensures.1)
 
 small : (c : goal.After-drop-members-2) → (defined_layout (table_of c.self.inside.entries.entries) c.args.t c.args.members.items).size ≤ 1048576
 small c =
     move c (λ table. (defined_layout table c.args.t c.args.members.items).size ≤ 1048576)
-        (subst (λ (ms : List TypeId). (defined_layout c.args.self.now c.args.t ms).size ≤ 1048576) c.deref.ensures.value c.in-Some.ensures.0)
+    (subst (λ (ms : List TypeId). (defined_layout c.args.self.now c.args.t ms).size ≤ 1048576) c.deref.ensures.value c.in-Some.ensures.0)
 
 places : (c : goal.After-drop-members-2)
     → ArePlaces (layout_of (table_of c.self.inside.entries.entries)) (shape_at (table_of c.self.inside.entries.entries) c.args.t) c.args.members.items c.in_ok-fields.fields.items
 places c =
     move c (λ table. ArePlaces (layout_of table) (shape_at table c.args.t) c.args.members.items c.in_ok-fields.fields.items)
-        (subst (λ (ms : List TypeId). ArePlaces (layout_of c.args.self.now) (shape_at c.args.self.now c.args.t) ms c.in_ok-fields.fields.items)
-            c.deref-2.ensures.value c.in_ok-fields.ensures)
+    (subst (λ (ms : List TypeId). ArePlaces (layout_of c.args.self.now) (shape_at c.args.self.now c.args.t) ms c.in_ok-fields.fields.items)
+    c.deref-2.ensures.value c.in_ok-fields.ensures)
 
 pub invariant_of-self : goal.invariant_of-self
 invariant_of-self c =
     sound_defined c.self.inside.entries.entries c.args.t c.args.members.items (kept c) (typed c) (places c) c.self.invariant (aggregate c)
-        (open_so_far c) c.requires.some (complete c) (layout c) (small c)
+    (open_so_far c) c.requires.some (complete c) (layout c) (small c)
 
 pub returns-clause-defined : goal.returns-clause-defined
 returns-clause-defined c =
@@ -58,5 +58,5 @@ pub returns-clause-others : goal.returns-clause-others
 returns-clause-others c u h =
     ap (λ (table : List Entry). layout_of table u) (table_defined c.self.inside.entries.entries c.args.t c.args.members.items (kept c) (typed c) (places c))
     ∙ others_complete (table_of c.self.inside.entries.entries) c.args.t c.args.members.items c.self.invariant.formed (typed c) (aggregate c) (open_so_far c)
-        c.requires.some (complete c) u (move c (λ table. IsComplete table u) h)
+    c.requires.some (complete c) u (move c (λ table. IsComplete table u) h)
     ∙ ap (λ (table : List Entry). layout_of table u) c.self.view_is

@@ -9,12 +9,12 @@ use Rattle.c_types.proofs.table.Types.find.Goals as goal
 pub returns-in-Some-clause-there : goal.returns-in-Some-clause-there
 returns-in-Some-clause-there c =
     subst (λ (table : List Entry). HasShape table (record { 0 = c.in-Some.index }) c.args.shape.now) c.self.view_is
-        (found c.self.inside.entries.entries c.args.shape.now c.in-Some.index (sym c.get_index_of.ensures.index ∙ c.in-Some.is))
+    (found c.self.inside.entries.entries c.args.shape.now c.in-Some.index (sym c.get_index_of.ensures.index ∙ c.in-Some.is))
 
 pub returns-in-None-clause-there : goal.returns-in-None-clause-there
 returns-in-None-clause-there c =
     subst (λ (table : List Entry). IsNew table c.args.shape.now) c.self.view_is
-        (absent c.self.inside.entries.entries c.args.shape.now (sym c.get_index_of.ensures.found ∙ ap is_some c.in-None.is))
+    (absent c.self.inside.entries.entries c.args.shape.now (sym c.get_index_of.ensures.found ∙ ap is_some c.in-None.is))
 
 pub returns-in-Some-clause-unique : goal.returns-in-Some-clause-unique
 returns-in-Some-clause-unique c u h =

@@ -10,12 +10,12 @@ read c = rw c.unwrap.ensures at (sym c.get_index.ensures.entry)
 entry : (c : goal.After-unwrap) → entry_of (c.unwrap.result.0.now, c.unwrap.result.1.now) ≡ entry_at c.args.self.now c.args.t
 entry c =
     subst (λ (table : List Entry). entry_of (c.unwrap.result.0.now, c.unwrap.result.1.now) ≡ entry_at table c.args.t) c.self.view_is
-        (sym (entry_here c.self.inside.entries.entries c.args.t (c.unwrap.result.0.now, c.unwrap.result.1.now) (read c)))
+    (sym (entry_here c.self.inside.entries.entries c.args.t (c.unwrap.result.0.now, c.unwrap.result.1.now) (read c)))
 
 pub returns-clause-kept : goal.returns-clause-kept
 returns-clause-kept c =
     subst (λ (table : List Entry). IsKeptOf table c.args.t c.unwrap.result.1.now) c.self.view_is
-        (kept_here c.self.inside.entries.entries c.args.t (c.unwrap.result.0.now, c.unwrap.result.1.now) (read c) c.self.invariant)
+    (kept_here c.self.inside.entries.entries c.args.t (c.unwrap.result.0.now, c.unwrap.result.1.now) (read c) c.self.invariant)
 
 pub returns-clause-shape : goal.returns-clause-shape
 returns-clause-shape c = ap (λ (e : Entry). e.shape) (entry c)

@@ -18,4 +18,4 @@ union_result items f s members (Err e) n h = tt
 pub returns-in_default : goal.returns-in_default
 returns-in_default c =
     union_result (λ v. v.items) (layout_of c.args.self.now) (shape_at c.args.self.now c.args.t) c.args.members.now c.union_places.result
-        (λ tag e. c.in_default.not-Struct tag (c.shape.ensures ∙ e)) c.union_places.ensures
+    (λ tag e. c.in_default.not-Struct tag (c.shape.ensures ∙ e)) c.union_places.ensures

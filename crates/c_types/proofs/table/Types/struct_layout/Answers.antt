@@ -24,7 +24,7 @@ overflow_add-end c =
 pub returns-then-end-gt-MOST_BYTES : goal.returns-then-end-gt-MOST_BYTES
 returns-then-end-gt-MOST_BYTES c h =
     let e = end_more (layout_of c.args.self.now) c.args.members.now c.members.m-index c.members.end (record { 0 = 0 }) c.layout-member.result
-        c.members.invariant.end_is c.members-test.true c.layout-member.ensures.layout in
+    c.members.invariant.end_is c.members-test.true c.layout-member.ensures.layout in
     let b = end_of_struct (layout_of c.args.self.now) c.args.members.now (c.members.m-index + 1) in
     let r = c.round_up.ensures in let t = c.if-end-gt-MOST_BYTES.true in omega arith
 
@@ -35,8 +35,8 @@ members-preserved c =
     let small : rounded c.members.end c.layout-member.result.align + c.layout-member.result.size ≤ 1048576 = omega arith in
     let m : c.max-align.result ≡ max c.members.align c.layout-member.result.align = grind (arith, nat_tests) in
     rw (c.round_up.ensures, m)
-        (laid_more (layout_of c.args.self.now) c.args.members.now c.members.m-index c.members.end c.members.align (record { 0 = 0 }) c.layout-member.result
-            c.members.invariant c.members-test.true c.layout-member.ensures.layout s.3 small)
+    (laid_more (layout_of c.args.self.now) c.args.members.now c.members.m-index c.members.end c.members.align (record { 0 = 0 }) c.layout-member.result
+    c.members.invariant c.members-test.true c.layout-member.ensures.layout s.3 small)
 
 pub round_up-requires-2-clause-small : goal.round_up-requires-2-clause-small
 round_up-requires-2-clause-small c = c.members.invariant.small
@@ -50,4 +50,4 @@ round_up-requires-2-clause-aligned c = c.members.invariant.high
 pub returns : goal.returns
 returns c =
     laid_all (layout_of c.args.self.now) c.args.members.now c.members.m-index c.members.end c.members.align c.round_up-2.result c.bounded.result
-        c.members.invariant c.members-test.false c.round_up-2.ensures c.bounded.ensures
+    c.members.invariant c.members-test.false c.round_up-2.ensures c.bounded.ensures

@@ -17,12 +17,13 @@ overflow_add-end c =
     let r = c.round_up-offset.ensures in omega arith
 
 pub members-preserved : goal.members-preserved
-members-preserved c =
-    (rw c.in_ok-push.ensures.items
-       (places_more (layout_of c.args.self.now) c.args.members.now (Struct 0) c.members.m-index c.round_up-offset.result c.members.fields.items (record { 0 = 0 })
-          c.members.invariant.0 c.members-test.true
-          (struct_offset (layout_of c.args.self.now) c.args.members.now c.members.m-index c.members.end c.round_up-offset.result 0 (record { 0 = 0 }) c.layout-member.result
-             c.members.invariant.1 c.members-test.true c.layout-member.ensures.layout c.round_up-offset.ensures)),
-     rw c.round_up-offset.ensures
-       (end_more (layout_of c.args.self.now) c.args.members.now c.members.m-index c.members.end (record { 0 = 0 }) c.layout-member.result
-          c.members.invariant.1 c.members-test.true c.layout-member.ensures.layout))
+members-preserved c = (
+  rw c.in_ok-push.ensures.items
+      (places_more (layout_of c.args.self.now) c.args.members.now (Struct 0) c.members.m-index c.round_up-offset.result c.members.fields.items (record { 0 = 0 })
+      c.members.invariant.0 c.members-test.true
+      (struct_offset (layout_of c.args.self.now) c.args.members.now c.members.m-index c.members.end c.round_up-offset.result 0 (record { 0 = 0 }) c.layout-member.result
+      c.members.invariant.1 c.members-test.true c.layout-member.ensures.layout c.round_up-offset.ensures)),
+  rw c.round_up-offset.ensures
+      (end_more (layout_of c.args.self.now) c.args.members.now c.members.m-index c.members.end (record { 0 = 0 }) c.layout-member.result
+      c.members.invariant.1 c.members-test.true c.layout-member.ensures.layout),
+)

@@ -1,0 +1,15 @@
+use Rattle.std.proofs.Common.{◌≡◌, refl, sym, ◌∙◌, ap, subst, List}
+use Rattle.std.specs.List.{All}
+use Rattle.std.proofs.lemmas.List.{take_all}
+use Rattle.std.proofs.lemmas.List.Elements.{All-nil, All-more}
+use Rattle.cc_base.specs.declared.number.TypeId.{TypeId}
+use Rattle.c_types.specs.Table.{IsComplete}
+use Rattle.c_types.proofs.tests.are_complete.Goals as goal
+
+pub returns : goal.returns
+returns c h = subst (All (IsComplete c.args.types.now)) (take_all c.members.m-index c.args.members.now c.members-test.false) c.members.invariant
+
+pub members-preserved : goal.members-preserved
+members-preserved c =
+    All-more (IsComplete c.args.types.now) c.args.members.now c.members.m-index (record { 0 = 0 }) c.members-test.true c.members.invariant
+    (sym c.is_complete.ensures ∙ c.if-not-is_complete.false)

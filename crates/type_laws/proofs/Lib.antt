@@ -1,3 +1,4 @@
 pub mod Cells
 pub mod Relations
 pub mod Refine
+pub mod Levels

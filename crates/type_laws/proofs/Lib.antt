@@ -2,3 +2,4 @@ pub mod Cells
 pub mod Relations
 pub mod Refine
 pub mod Levels
+pub mod Pointers

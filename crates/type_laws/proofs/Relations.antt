@@ -125,7 +125,7 @@ module _ {E : Relation} (q : IsEquivalence E) where
   slot_equiv : IsEquivalence (same_slot E)
   slot_equiv = record { refl = slot_refl; symm = slot_symm; congr = slot_congr }
 
-  cells_equiv : IsEquivalence (all_alike E)
+  pub cells_equiv : IsEquivalence (all_alike E)
   cells_equiv = lists_equiv alike_equiv
 
   slots_equiv : IsEquivalence (pointwise (same_slot E))

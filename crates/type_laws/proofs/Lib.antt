@@ -3,3 +3,4 @@ pub mod Relations
 pub mod Refine
 pub mod Levels
 pub mod Pointers
+pub mod Sizes

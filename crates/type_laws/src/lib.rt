@@ -3,18 +3,21 @@
 //! nothing, so that it is proved once and can be cited.
 #![tactic(auto)]
 
-ghost use Rattle.std.specs.Prelude.{◌≡◌, ℕ, suc, ◌+◌, ◌*◌, ◌≤◌, List, ◌++◌, length, IsTrue, IsFalse};
+ghost use Rattle.std.specs.Prelude.{◌≡◌, ℕ, suc, ◌+◌, ◌*◌, ◌≤◌, List, ◌++◌, length, map, replicate, IsTrue, IsFalse};
+ghost use Rattle.std.specs.List.{range_with_len};
 ghost use Rattle.std.specs.Cmp.{IsEquivalence};
+ghost use Rattle.c_types.specs.declared.flow_class.FlowClass.TheVariants.{UpTile, Bad};
 ghost use Rattle.cc_base.specs.declared.number.TypeId.{TypeId};
 ghost use Rattle.cc_base.specs.declared.number.NodeId.{NodeId};
 ghost use Rattle.cc_base.specs.declared.kind.Kind.{Kind};
 ghost use Rattle.c_types.specs.Table.{Table, IsComplete, is_function};
-ghost use Rattle.c_types.specs.Layouts.{size_of};
-ghost use Rattle.c_types.specs.Cells.{Cell, Relation};
-ghost use Rattle.c_types.specs.Equality.{made_alike, within, equal_at_level, physically_equal, begins_with, cells_of};
-ghost use Rattle.c_types.specs.Flows.{IsOfOneClass, Covers};
+ghost use Rattle.c_types.specs.Layouts.{size_of, offset_of};
+ghost use Rattle.c_types.specs.Cells.{Cell, raw, mixed, Relation, pointer_cells};
+ghost use Rattle.c_types.specs.Equality.{made_alike, within, equal_at_level, physically_equal, begins_with, strictly_below, cells_of};
+ghost use Rattle.c_types.specs.Flows.{flow_class, IsOfOneClass, Covers};
 ghost use Rattle.c_types.specs.Sound.{IsWellFormed};
 ghost use Rattle.c_types.specs.Widths.{width_of};
+ghost use Rattle.type_laws.specs.Small.{node, int, char_and_pointer, char_alone, int_array, mixed_union, other_union, int_list, other_list, small_table};
 
 /// Physical equality is an equivalence.
 pub fn equality_is_an_equivalence()
@@ -71,5 +74,20 @@ pub fn covering_is_a_preorder()
 /// The width of a list of cells is the sum of the widths of its parts.
 pub fn widths_add_up()
     ensures { (kind : NodeId → Kind) (xs ys : List Cell) → width_of kind (xs ++ ys) ≡ width_of kind xs + width_of kind ys }
+{
+}
+
+/// What the definitions say of `struct {char c; int *p;}` and its prefix, of an array and its
+/// element, of a mixed union and another, and of two recursive lists.
+pub fn definitions_on_small_types()
+    ensures size { size_of small_table char_and_pointer ≡ 16 }
+    ensures offset { offset_of small_table char_and_pointer 1 ≡ 8 }
+    ensures cells { cells_of small_table char_and_pointer ≡ replicate 8 raw ++ pointer_cells (node 0) int }
+    ensures below { IsTrue (strictly_below small_table char_and_pointer char_alone) }
+    ensures tiles { flow_class small_table int_array int ≡ UpTile }
+    ensures is_mixed { cells_of small_table mixed_union ≡ map (mixed mixed_union) (range_with_len 0 8) }
+    ensures itself { IsTrue (physically_equal small_table mixed_union mixed_union) }
+    ensures apart { flow_class small_table mixed_union other_union ≡ Bad }
+    ensures lists { IsTrue (physically_equal small_table int_list other_list) }
 {
 }

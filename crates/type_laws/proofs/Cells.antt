@@ -1,14 +1,14 @@
-use Rattle.std.proofs.Common.{◌≡◌, ℕ, zero, suc, ◌+◌, ◌*◌, ◌-◌, ◌<◌, ◌≤◌, max, Bool, true, false, cond, if◌then◌else◌, IsTrue, List, [], ◌∷◌, ◌++◌, length, get_or, take, map, replicate, nat_lt, refl, ap, sym, subst, ◌∙◌, true≢false, arith}
-use Rattle.std.specs.List.{Contains, All, fold, repeat, range_with_len, list_all}
+use Rattle.std.proofs.Common.{◌≡◌, ℕ, zero, suc, ◌+◌, ◌*◌, ◌-◌, ◌<◌, ◌≤◌, max, Bool, true, false, if◌then◌else◌, List, [], ◌∷◌, ◌++◌, length, map, replicate, nat_lt, refl, ap, sym, ◌∙◌, true≢false, arith}
+use Rattle.std.specs.List.{Contains, fold, repeat, range_with_len, list_all}
 use Rattle.std.proofs.lemmas.List.{length-append, length-map, length-replicate}
 use Rattle.std.proofs.lemmas.List.Elements.{All-contains}
 use Rattle.cc_base.specs.declared.number.TypeId.{TypeId}
 use Rattle.c_types.specs.declared.layout.Layout.{Layout}
 use Rattle.c_types.specs.declared.shape.TypeShape.{TypeShape}
 use Rattle.c_types.specs.declared.shape.TypeShape.TheVariants.{Void, Integer, Pointer, Array, Function, Struct, Union}
-use Rattle.c_types.specs.Table.{Table, Entry, entry_at, shape_at, members_at, parts_of_shape, parts_at, IsRanked, IsComplete, is_complete, is_complete_entry}
+use Rattle.c_types.specs.Table.{Table, shape_at, members_at, parts_of_shape, parts_at, IsRanked, IsComplete, is_complete_entry}
 use Rattle.c_types.specs.Layouts.{rounded, members_end, greatest_align, greatest_size, struct_layout, union_layout, layout_of_shape, layout_of, size_of, align_of}
-use Rattle.c_types.specs.Cells.{Cell, raw, pointer, mixed, incomplete, Relation, pointer_cells, padded_to, member_cells, longest, union_cells, aggregate_cells, cells_of_shape, cells_step, cells_at, begins, holds_pointer}
+use Rattle.c_types.specs.Cells.{Cell, raw, pointer, mixed, Relation, pointer_cells, padded_to, member_cells, longest, union_cells, aggregate_cells, cells_of_shape, cells_step, cells_at, begins, holds_pointer}
 use Rattle.c_types.specs.Sound.{IsWellFormed}
 use Rattle.c_types.proofs.Lists.{map_same, contains_head, contains_tail}
 use Rattle.c_types.proofs.Descent.{descend_is, rank_bound, layout_is}
@@ -40,7 +40,7 @@ module _ (table : Table) (rank : TypeId → ℕ) (r : IsRanked table rank) where
   unfolding cells_at
   cells_are E t =
       descend_is (cells_step table E) [] (parts_at table) rank
-          (λ f g u h. cells_local table E f g u (shape_at table u) (members_at table u) h) r.falls (suc (length table)) t (rank_bound table rank r t)
+      (λ f g u h. cells_local table E f g u (shape_at table u) (members_at table u) h) r.falls (suc (length table)) t (rank_bound table rank r t)
 
 -- ---- lengths
 
@@ -67,8 +67,8 @@ length_members f l a [] h = refl
 length_members f l a (m ∷ ms) h =
     length_members f l (padded_to (rounded (length a) (l m).align) a ++ f m) ms (λ x k. h x (contains_tail m ms x k))
     ∙ ap (λ n. fold (λ end (x : Layout). rounded end x.align + x.size) n (map l ms))
-        (length-append (padded_to (rounded (length a) (l m).align) a) (f m)
-         ∙ (λ i. length_padded (rounded (length a) (l m).align) a (rounded_up (length a) (l m).align) i + h m (contains_head m ms) i))
+    (length-append (padded_to (rounded (length a) (l m).align) a) (f m)
+    ∙ (λ i. length_padded (rounded (length a) (l m).align) a (rounded_up (length a) (l m).align) i + h m (contains_head m ms) i))
 
 size_start : (a : ℕ) (ls : List Layout) → a ≤ fold (λ n (m : Layout). max n m.size) a ls
 size_start a [] = omega arith
@@ -85,6 +85,7 @@ length_longest f l (m ∷ ms) h = by (nat_lt (length (f m)) (length (longest (ma
   where
     here : length (f m) ≤ greatest_size (map l (m ∷ ms))
     here = let e = h m (contains_head m ms) in let s = size_start (max 0 (l m).size) (map l ms) in omega arith
+
     by : (b : Bool) → length (longest (map f ms)) ≤ greatest_size (map l ms) → length (if b then longest (map f ms) else f m) ≤ greatest_size (map l (m ∷ ms))
     by true k = let g = size_grows 0 (max 0 (l m).size) (map l ms) (omega arith) in omega arith
     by false k = here
@@ -129,7 +130,7 @@ module _ (table : Table) (w : IsWellFormed table) where
   length_below E (suc n) t b c =
       ap length (cells_are table w.order.0 w.order.1 E t)
       ∙ length_shape table E (cells_at table E) t (shape_at table t) (members_at table t) (layout_is table w.order.0 w.order.1 t) c
-          (λ m k. let f = w.order.1.falls t m k in length_below E n m (omega arith) (All-contains (IsComplete table) (parts_at table t) m (w.each t).parts k))
+      (λ m k. let f = w.order.1.falls t m k in length_below E n m (omega arith) (All-contains (IsComplete table) (parts_at table t) m (w.each t).parts k))
 
   -- a complete type has as many cells as bytes
   pub length_cells : (E : Relation) (t : TypeId) → IsComplete table t → length (cells_at table E t) ≡ size_of table t

@@ -1,18 +1,16 @@
-use Rattle.std.proofs.Common.{◌≡◌, ◌≢◌, ℕ, zero, suc, ◌+◌, ◌*◌, ◌-◌, ◌/◌, ◌%◌, ◌<◌, ◌≤◌, Bool, true, false, ◌&&◌, cond, if◌then◌else◌, List, [], ◌∷◌, length, get_or, map, nat_lt, refl, ap, sym, subst, ◌∙◌, inl, inr, ◌⊎◌, true≢false, arith}
+use Rattle.std.proofs.Common.{◌≡◌, ℕ, zero, suc, ◌+◌, ◌*◌, ◌-◌, ◌/◌, ◌%◌, ◌<◌, ◌≤◌, Bool, true, false, ◌&&◌, cond, if◌then◌else◌, List, [], ◌∷◌, length, nat_lt, refl, ap, sym, subst, ◌∙◌, inl, inr, ◌⊎◌, true≢false, arith}
 use Rattle.std.specs.List.{Contains, count_by, range_with_len}
-use Rattle.std.specs.Cmp.{IsEquivalence}
-use Rattle.std.proofs.lemmas.Bool.{cases_lt, lt-ltb, ltb-true}
+use Rattle.std.proofs.lemmas.Bool.{cases_lt, ltb-true}
 use Rattle.std.proofs.lemmas.Nat.{div-mul-add}
 use Rattle.std.proofs.Math.Nat.{mul-add-mod_self_right}
 use Rattle.std.proofs.lemmas.List.FromFn.{get_or-range_with_len}
 use Rattle.std.proofs.lemmas.List.Sums.{sum_by-cons, count_by-le-length}
 use native.Mathlib.Nat.{mod-eq_of_lt}
 use Rattle.cc_base.specs.declared.number.TypeId.{TypeId}
-use Rattle.c_types.specs.Table.{Table, IsType}
+use Rattle.c_types.specs.Table.{Table}
 use Rattle.c_types.specs.Cells.{Relation, same_type}
 use Rattle.c_types.specs.Equality.{made_alike, within, equal_at_level, physically_equal}
 use Rattle.c_types.specs.Sound.{IsWellFormed}
-use Rattle.c_types.proofs.Lists.{contains_head, contains_tail}
 use Rattle.type_laws.proofs.Relations.{level_equiv}
 use Rattle.type_laws.proofs.Refine.{wider}
 
@@ -31,7 +29,7 @@ pub falls : (table : Table) → IsWellFormed table → (k : ℕ) (t u : TypeId) 
 falls table w zero = within_wider table (made_alike table (equal_at_level table zero)) (λ t u. true) (λ t u h. refl)
 falls table w (suc k) =
     within_wider table (made_alike table (equal_at_level table (suc k))) (made_alike table (equal_at_level table k))
-        (wider table w (equal_at_level table (suc k)) (equal_at_level table k) (falls table w k) (level_equiv table k))
+    (wider table w (equal_at_level table (suc k)) (equal_at_level table k) (falls table w k) (level_equiv table k))
 
 -- ---- counting
 
@@ -66,6 +64,7 @@ module _ (p q : ℕ → Bool) (sub : (i : ℕ) → p i ≡ true → q i ≡ true
           place : Contains (i ∷ is) k → p k ≡ q k
           place (zero, l, s) = subst (λ j. p j ≡ q j) s e
           place (suc n, l, s) = rest g (n, omega arith, s)
+
       by : (a b : Bool) → p i ≡ a → q i ≡ b → ((count_by q is ≤ count_by p is) → Contains is k → p k ≡ q k) → count_by p is ≤ count_by q is → p k ≡ q k
       by true true x y rest l =
           let e = sum_by-cons (λ j. cond (p j) 1 0) i is ∙ ap (λ b. cond {A = ℕ} b 1 0 + count_by p is) x in
@@ -107,7 +106,7 @@ module _ (table : Table) (w : IsWellFormed table) where
   unfolding pair
   pair_at E t u b =
       λ i. E (record { 0 = div-mul-add t.0 (length table) u.0 b i })
-             (record { 0 = (mul-add-mod_self_right t.0 (length table) u.0 ∙ mod-eq_of_lt b) i })
+      (record { 0 = (mul-add-mod_self_right t.0 (length table) u.0 ∙ mod-eq_of_lt b) i })
 
   pair_number : (t u : ℕ) → t < length table → u < length table → t * length table + u < length table * length table
   pair_number t u a b = grind arith
@@ -121,15 +120,17 @@ module _ (table : Table) (w : IsWellFormed table) where
       outside E F a b x y z =
           ap (λ c. if c then E t u else same_type t u) ((λ i. x i && y i) ∙ z)
           ∙ sym (ap (λ c. if c then F t u else same_type t u) ((λ i. x i && y i) ∙ z))
+
       base : (j : ℕ) (a b : Bool) → nat_lt t.0 (length table) ≡ a → nat_lt u.0 (length table) ≡ b → (a && b) ≡ false → equal_at_level table (suc j) t u ≡ equal_at_level table j t u
       base zero a b x y z = outside (made_alike table (equal_at_level table zero)) (λ v x. true) a b x y z
       base (suc j) a b x y z = outside (made_alike table (equal_at_level table (suc j))) (made_alike table (equal_at_level table j)) a b x y z
+
       by : (a b : Bool) → nat_lt t.0 (length table) ≡ a → nat_lt u.0 (length table) ≡ b → equal_at_level table (suc k) t u ≡ equal_at_level table k t u
       by true true x y =
           let c = ltb-true t.0 (length table) x in let d = ltb-true u.0 (length table) y in
           sym (pair_at (equal_at_level table (suc k)) t u d)
           ∙ count_same (pair (equal_at_level table (suc k))) (pair (equal_at_level table k)) (fewer k) (range_with_len 0 (length table * length table)) h
-              (t.0 * length table + u.0) (in_range (length table * length table) (t.0 * length table + u.0) (pair_number t.0 u.0 c d))
+          (t.0 * length table + u.0) (in_range (length table * length table) (t.0 * length table + u.0) (pair_number t.0 u.0 c d))
           ∙ pair_at (equal_at_level table k) t u d
       by true false x y = base k true false x y refl
       by false true x y = base k false true x y refl
@@ -142,12 +143,14 @@ module _ (table : Table) (w : IsWellFormed table) where
   unfolding pairs
   drop zero =
       inr (let c = count_by-le-length (pair (equal_at_level table zero)) (range_with_len 0 (length table * length table)) in
-           let l = length_range 0 (length table * length table) in omega arith)
+      let l = length_range 0 (length table * length table) in omega arith)
   drop (suc k) = elim (drop k) [
-      inl s ↦ inl (s.0, omega (arith, s.1), s.2)
+    | inl s ↦ inl (s.0, omega (arith, s.1), s.2)
     | inr h ↦ elim (cases_lt (pairs (suc k)) (pairs k)) [
-          inl l ↦ inr (omega arith)
-        | inr g ↦ inl (k, omega arith, same_function k g) ] ]
+      | inl l ↦ inr (omega arith)
+      | inr g ↦ inl (k, omega arith, same_function k g)
+    ]
+  ]
 
   stays : (j : ℕ) → equal_at_level table (suc j) ≡ equal_at_level table j → (m : ℕ) → equal_at_level table (m + j) ≡ equal_at_level table j
   stays j e zero = ap (equal_at_level table) (omega arith)
@@ -162,10 +165,12 @@ module _ (table : Table) (w : IsWellFormed table) where
   -- a level up to the square where the next is the same
   found : (j : ℕ) × (j ≤ length table * length table) × (equal_at_level table (suc j) ≡ equal_at_level table j)
   found = elim (drop (length table * length table)) [
-      inl s ↦ s
+    | inl s ↦ s
     | inr h ↦ elim (cases_lt (pairs (suc (length table * length table))) (pairs (length table * length table))) [
-          inl l ↦ absurd (omega arith)
-        | inr g ↦ (length table * length table, omega arith, same_function (length table * length table) g) ] ]
+      | inl l ↦ absurd (omega arith)
+      | inr g ↦ (length table * length table, omega arith, same_function (length table * length table) g)
+    ]
+  ]
 
   from_found : (k : ℕ) → found.0 ≤ k → equal_at_level table k ≡ equal_at_level table found.0
   from_found k h = ap (equal_at_level table) (split k found.0 h) ∙ stays found.0 found.2 (k - found.0)
@@ -188,7 +193,7 @@ module _ (table : Table) (w : IsWellFormed table) where
   below_level R c zero t u h = within_wider table (made_alike table R) (λ x y. true) (λ x y g. refl) t u (c t u h)
   below_level R c (suc k) t u h =
       within_wider table (made_alike table R) (made_alike table (equal_at_level table k))
-          (wider table w R (equal_at_level table k) (below_level R c k) (level_equiv table k)) t u (c t u h)
+      (wider table w R (equal_at_level table k) (below_level R c k) (level_equiv table k)) t u (c t u h)
 
   pub widest : (R : Relation) → ((t u : TypeId) → R t u ≡ true → within table (made_alike table R) t u ≡ true)
       → (t u : TypeId) → R t u ≡ true → physically_equal table t u ≡ true

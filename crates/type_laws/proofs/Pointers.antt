@@ -1,5 +1,4 @@
-use Rattle.std.proofs.Common.{◌≡◌, ◌≢◌, ℕ, zero, suc, ◌+◌, ◌<◌, ◌≤◌, Bool, true, false, ◌&&◌, not, cond, if◌then◌else◌, IsTrue, List, [], ◌∷◌, length, take, map, nat_lt, ◌==◌, Option, None, Some, slice_get, refl, ap, sym, subst, ◌∙◌, inl, inr, ◌⊎◌, true≢false, arith}
-use Rattle.std.specs.Cmp.{IsEquivalence}
+use Rattle.std.proofs.Common.{◌≡◌, ℕ, zero, suc, ◌≤◌, Bool, true, false, ◌&&◌, not, if◌then◌else◌, List, [], ◌∷◌, length, take, map, nat_lt, ◌==◌, Option, None, Some, slice_get, refl, ap, sym, ◌∙◌, true≢false, arith}
 use Rattle.std.proofs.lemmas.Bool.Decides.{Decides-eqb}
 use lib.Pointwise.{pointwise, pointwise_long}
 use Rattle.cc_base.specs.declared.number.TypeId.{TypeId}
@@ -9,11 +8,11 @@ use Rattle.c_types.specs.declared.shape.TypeShape.{TypeShape}
 use Rattle.c_types.specs.declared.shape.TypeShape.TheVariants.{Void, Integer, Pointer, Array, Function, Struct, Union}
 use Rattle.c_types.specs.Table.{Table, shape_at, is_function, is_function_shape}
 use Rattle.c_types.specs.Cells.{Cell, raw, pointer, mixed, incomplete, Relation, same_type, alike, all_alike, begins}
-use Rattle.c_types.specs.Equality.{Slot, nothing, integer, pointer_to, other, slot_of, same_slot, Makeup, code, bytes, makeup_of, same_makeup, made_alike, within, physically_equal, cells_of, begins_with}
-use Rattle.c_types.specs.Flows.{HeldPointer, pointer_in_cell, pointer_of_shape, and_then, pointer_in, pointer_at, StandAlike, Correspond, top, inside, CorrespondByPlace, HaveEqualKinds, IsOfOneClass, Covers}
+use Rattle.c_types.specs.Equality.{slot_of, same_slot, makeup_of, same_makeup, made_alike, physically_equal, cells_of, begins_with}
+use Rattle.c_types.specs.Flows.{HeldPointer, pointer_in_cell, pointer_of_shape, and_then, pointer_in, pointer_at, StandAlike, Correspond, top, inside, IsOfOneClass, Covers}
 use Rattle.c_types.specs.Sound.{IsWellFormed}
 use Rattle.c_types.proofs.Shapes.{first_true, second_true}
-use Rattle.type_laws.proofs.Relations.{alike_equiv, equal_equiv, cells_equiv, same_id}
+use Rattle.type_laws.proofs.Relations.{equal_equiv, cells_equiv, same_id}
 use Rattle.type_laws.proofs.Levels.{still}
 
 -- Where two types are alike, a pointer in one has its counterpart in the other.
@@ -122,7 +121,7 @@ module _ (table : Table) where
   begins_mirrors t u h i q k =
       let rest = second_true (not (is_function table t)) _ h in
       begins_counterpart t u (shape_at table t) (shape_at table u) i q (not_true (is_function table t) (first_true (not (is_function table t)) _ h))
-          (not_true (is_function table u) (first_true (not (is_function table u)) _ rest)) (second_true (not (is_function table u)) _ rest) k
+      (not_true (is_function table u) (first_true (not (is_function table u)) _ rest)) (second_true (not (is_function table u)) _ rest) k
 
   pub equal_mirrors : IsWellFormed table → (t u : TypeId) → physically_equal table t u ≡ true → Mirrors t u
   unfolding Mirrors
@@ -130,6 +129,7 @@ module _ (table : Table) where
     where
       same : same_type t u ≡ true → (p : HeldPointer) × (pointer_at table t i ≡ Some p) × (physically_equal table p.to q.to ≡ true)
       same e = (q, ap (λ n. pointer_at table (record { 0 = n }) i) (same_id t u e) ∙ k, (equal_equiv table).refl q.to)
+
       by : (a b : Bool) → (if a && b then made_alike table (physically_equal table) t u else same_type t u) ≡ true
           → (p : HeldPointer) × (pointer_at table t i ≡ Some p) × (physically_equal table p.to q.to ≡ true)
       by true true e = makeup_counterpart t u (shape_at table t) (shape_at table u) i q e k
@@ -192,7 +192,7 @@ module _ (table : Table) where
   begins_twice xs ys zs h k =
       let long : length zs ≤ length ys = (let e = pointwise_long (alike (physically_equal table)) (take (length zs) ys) zs k in let l = taken_length (length zs) ys in omega arith) in
       let a = ap (λ l. all_alike (physically_equal table) l (take (length zs) ys)) (sym (take_fewer xs (length zs) (length ys) long))
-          ∙ take_alike (length zs) (take (length ys) xs) ys h in
+      ∙ take_alike (length zs) (take (length ys) xs) ys h in
       (cells_equiv (equal_equiv table)).congr (take (length zs) xs) (take (length zs) ys) zs a ∙ k
 
   pub begins_with_own : (t : TypeId) → is_function table t ≡ false → begins_with table t t ≡ true
@@ -202,8 +202,8 @@ module _ (table : Table) where
   begins_with_twice t u v h k =
       let a = second_true (not (is_function table t)) _ h in let b = second_true (not (is_function table u)) _ k in
       λ i. first_true (not (is_function table t)) _ h i
-        && (first_true (not (is_function table v)) _ b i
-        && begins_twice (cells_of table t) (cells_of table u) (cells_of table v) (second_true (not (is_function table u)) _ a) (second_true (not (is_function table v)) _ b) i)
+      && (first_true (not (is_function table v)) _ b i
+      && begins_twice (cells_of table t) (cells_of table u) (cells_of table v) (second_true (not (is_function table u)) _ a) (second_true (not (is_function table v)) _ b) i)
 
   -- ---- one class, and coverage
 
@@ -216,15 +216,15 @@ module _ (table : Table) where
 
     pub class_twice : IsWellFormed table → (t u v : TypeId) → IsOfOneClass table kind t u → IsOfOneClass table kind u v → IsOfOneClass table kind t v
     class_twice w t u v c d = record {
-        equal = (equal_equiv table).congr t u v c.equal ∙ d.equal;
-        kinds = λ p r h. let m = between w t u v (equal_mirrors w u v d.equal) p r h in c.kinds p m.0 m.1 ∙ d.kinds m.0 r m.2
-      }
+      equal = (equal_equiv table).congr t u v c.equal ∙ d.equal;
+      kinds = λ p r h. let m = between w t u v (equal_mirrors w u v d.equal) p r h in c.kinds p m.0 m.1 ∙ d.kinds m.0 r m.2;
+    }
 
     pub covers_own : (t : TypeId) → is_function table t ≡ false → Covers table kind t t
     covers_own t f = record { begins = begins_with_own t f; kinds = λ p q h. ap (λ (z : HeldPointer). kind z.node) (own_pointers t p q h) }
 
     pub covers_twice : IsWellFormed table → (t u v : TypeId) → Covers table kind t u → Covers table kind u v → Covers table kind t v
     covers_twice w t u v c d = record {
-        begins = begins_with_twice t u v c.begins d.begins;
-        kinds = λ p r h. let m = between w t u v (begins_mirrors u v d.begins) p r h in c.kinds p m.0 m.1 ∙ d.kinds m.0 r m.2
-      }
+      begins = begins_with_twice t u v c.begins d.begins;
+      kinds = λ p r h. let m = between w t u v (begins_mirrors u v d.begins) p r h in c.kinds p m.0 m.1 ∙ d.kinds m.0 r m.2;
+    }

@@ -1,7 +1,6 @@
-use Rattle.std.proofs.Common.{◌≡◌, ℕ, zero, suc, ◌+◌, ◌*◌, ◌-◌, ◌<◌, ◌≤◌, Bool, true, false, ◌&&◌, cond, if◌then◌else◌, List, [], ◌∷◌, ◌++◌, length, get_or, take, map, replicate, nat_lt, ◌==◌, eqb, refl, ap, sym, subst, ◌∙◌, true≢false, append_assoc, arith}
-use Rattle.std.specs.List.{Contains, All, fold, repeat, range_with_len, list_all}
+use Rattle.std.proofs.Common.{◌≡◌, ℕ, zero, suc, ◌+◌, ◌-◌, ◌<◌, Bool, true, false, ◌&&◌, if◌then◌else◌, List, [], ◌∷◌, ◌++◌, length, get_or, take, map, replicate, nat_lt, ◌==◌, refl, ap, sym, subst, ◌∙◌, true≢false, append_assoc, arith}
+use Rattle.std.specs.List.{Contains, fold, repeat, range_with_len, list_all}
 use Rattle.std.specs.Cmp.{IsEquivalence}
-use Rattle.std.proofs.lemmas.Cmp.{nat_eq_equiv}
 use Rattle.std.proofs.lemmas.Bool.Decides.{Decides-eqb}
 use Rattle.std.proofs.lemmas.List.{map-append, length-map, length-append, take-map}
 use Rattle.std.proofs.Math.Seq.{get_or-append_seam}
@@ -10,15 +9,15 @@ use Rattle.cc_base.specs.declared.number.TypeId.{TypeId}
 use Rattle.cc_base.specs.declared.number.NodeId.{NodeId}
 use Rattle.c_types.specs.declared.shape.TypeShape.{TypeShape}
 use Rattle.c_types.specs.declared.shape.TypeShape.TheVariants.{Void, Integer, Pointer, Array, Function, Struct, Union}
-use Rattle.c_types.specs.Table.{Table, shape_at, members_at, parts_of_shape, parts_at, IsRanked, is_complete_entry, IsComplete}
+use Rattle.c_types.specs.Table.{Table, shape_at, members_at, parts_of_shape, is_complete_entry}
 use Rattle.c_types.specs.Layouts.{rounded, size_of, align_of}
-use Rattle.c_types.specs.Cells.{Cell, raw, pointer, mixed, incomplete, Relation, same_type, alike, all_alike, begins, pointer_cells, padded_to, member_cells, longest, union_cells, aggregate_cells, cells_of_shape, cells_step, cells_at, holds_pointer}
-use Rattle.c_types.specs.Equality.{Slot, nothing, integer, pointer_to, other, same_bool, same_slot, Makeup, code, bytes, makeup_of, same_makeup, makeup_at, made_alike, within, equal_at_level}
+use Rattle.c_types.specs.Cells.{Cell, raw, pointer, mixed, incomplete, Relation, same_type, alike, all_alike, begins, padded_to, member_cells, longest, union_cells, cells_of_shape, cells_at, holds_pointer}
+use Rattle.c_types.specs.Equality.{Slot, nothing, integer, pointer_to, other, same_slot, Makeup, code, bytes, makeup_of, same_makeup, makeup_at, made_alike}
 use Rattle.c_types.specs.Sound.{IsWellFormed}
 use Rattle.c_types.proofs.Lists.{contains_head, contains_tail}
 use Rattle.c_types.proofs.Shapes.{first_true, second_true}
 use Rattle.type_laws.proofs.Cells.{cells_are, length_cells}
-use Rattle.type_laws.proofs.Relations.{alike_equiv, level_equiv, same_id}
+use Rattle.type_laws.proofs.Relations.{alike_equiv, same_id}
 
 -- A wider relation makes fewer unions mixed. The cells under the wider one are the cells under the
 -- narrower one, each byte of a mixed union replaced by what its union then has there.
@@ -56,9 +55,9 @@ module _ (C : TypeId → List Cell) where
   over_members align g h a (m ∷ ms) k =
       over_members align g h (padded_to (rounded (length a) (align m)) a ++ g m) ms (λ x c. k x (contains_tail m ms x c))
       ∙ ap (λ b. fold (λ cells x. padded_to (rounded (length cells) (align x)) cells ++ h x) b ms)
-          (map-append (refine C) (padded_to (rounded (length a) (align m)) a) (g m)
-           ∙ (λ i. (over_padded (rounded (length a) (align m)) a ∙ ap (λ n. padded_to (rounded n (align m)) (map (refine C) a)) (sym (length-map a (refine C)))) i
-                   ++ k m (contains_head m ms) i))
+      (map-append (refine C) (padded_to (rounded (length a) (align m)) a) (g m)
+      ∙ (λ i. (over_padded (rounded (length a) (align m)) a ∙ ap (λ n. padded_to (rounded n (align m)) (map (refine C) a)) (sym (length-map a (refine C)))) i
+      ++ k m (contains_head m ms) i))
 
   over_choice : (b : Bool) (x y : List Cell) → (if b then map (refine C) x else map (refine C) y) ≡ map (refine C) (if b then x else y)
   over_choice true x y = refl
@@ -81,7 +80,7 @@ read_from g front (x ∷ xs) =
     let e : front ++ x ∷ xs ≡ (front ++ x ∷ []) ++ xs = sym (append_assoc front (x ∷ []) xs) in
     let n : length front + 1 ≡ length (front ++ x ∷ []) = sym (length-append front (x ∷ [])) in
     λ i. get_or-append_seam front x xs (g (length front)) i
-       ∷ ((λ j. map (λ k. get_or (e j) k (g k)) (range_with_len (n j) (length xs))) ∙ read_from g (front ++ x ∷ []) xs) i
+    ∷ ((λ j. map (λ k. get_or (e j) k (g k)) (range_with_len (n j) (length xs))) ∙ read_from g (front ++ x ∷ []) xs) i
 
 read_mixed : (C : TypeId → List Cell) (t : TypeId) (is : List ℕ) → map (refine C) (map (mixed t) is) ≡ map (λ i. get_or (C t) i (mixed t i)) is
 read_mixed C t [] = refl
@@ -90,7 +89,6 @@ read_mixed C t (i ∷ is) = ap (λ cs. get_or (C t) i (mixed t i) ∷ cs) (read_
 -- ---- alike cells stay alike
 
 module _ (E F : Relation) (sub : (t u : TypeId) → E t u ≡ true → F t u ≡ true) (q : IsEquivalence F) (C : TypeId → List Cell) where
-
   keeps : (x y : Cell) → alike E x y ≡ true → alike F (refine C x) (refine C y) ≡ true
   keeps raw raw h = refl
   keeps (pointer node to i) (pointer n u j) h = λ k. first_true (i == j) (E to u) h k && sub to u (second_true (i == j) (E to u) h) k
@@ -145,7 +143,7 @@ module _ (E F : Relation) (sub : (t u : TypeId) → E t u ≡ true → F t u ≡
           over_padded C size (longest cs)
           ∙ ap (padded_to size) (sym (over_longest C cs))
           ∙ ap (λ b. if b then padded_to size (longest (map (map (refine C)) cs)) else map (mixed t) (range_with_len 0 size))
-              (sym (ap (λ l. list_all (begins F l) (map (map (refine C)) cs)) (over_longest C cs) ∙ keeps_each (longest cs) cs e))
+          (sym (ap (λ l. list_all (begins F l) (map (map (refine C)) cs)) (over_longest C cs) ∙ keeps_each (longest cs) cs e))
       by false e =
           read_mixed C t (range_with_len 0 size)
           ∙ ap (λ n. map (λ i. get_or (C t) i (mixed t i)) (range_with_len 0 n)) (sym len)
@@ -169,7 +167,7 @@ module _ (E F : Relation) (sub : (t u : TypeId) → E t u ≡ true → F t u ≡
   over_shape table g t (Union tag) (m ∷ ms) h own len =
       let e = same_mapped C g C (m ∷ ms) h in
       over_union t (size_of table t) (holds_pointer table t) (map g (m ∷ ms))
-          (own ∙ ap (union_cells F t (size_of table t) (holds_pointer table t)) e) (len refl)
+      (own ∙ ap (union_cells F t (size_of table t) (holds_pointer table t)) e) (len refl)
       ∙ ap (union_cells F t (size_of table t) (holds_pointer table t)) (sym e)
 
 module _ (table : Table) (w : IsWellFormed table) (E F : Relation) (sub : (t u : TypeId) → E t u ≡ true → F t u ≡ true) (q : IsEquivalence F) where
@@ -178,8 +176,8 @@ module _ (table : Table) (w : IsWellFormed table) (E F : Relation) (sub : (t u :
   refined_below (suc n) t b =
       ap (map (refine (cells_at table F))) (cells_are table w.order.0 w.order.1 E t)
       ∙ over_shape E F sub q (cells_at table F) table (cells_at table E) t (shape_at table t) (members_at table t)
-          (λ m k. let r = w.order.1.falls t m k in refined_below n m (omega arith))
-          (cells_are table w.order.0 w.order.1 F t) (λ c. length_cells table w F t c)
+      (λ m k. let r = w.order.1.falls t m k in refined_below n m (omega arith))
+      (cells_are table w.order.0 w.order.1 F t) (λ c. length_cells table w F t c)
       ∙ sym (cells_are table w.order.0 w.order.1 F t)
 
   pub refined : (t : TypeId) → map (refine (cells_at table F)) (cells_at table E t) ≡ cells_at table F t

@@ -1,10 +1,10 @@
-use Rattle.std.proofs.Common.{◌≡◌, ℕ, zero, suc, ◌+◌, ◌*◌, ◌<◌, ◌≤◌, Bool, true, false, ◌&&◌, not, cond, if◌then◌else◌, List, [], ◌∷◌, ◌++◌, length, take, map, nat_lt, ◌==◌, eqb, refl, ap, sym, subst, ◌∙◌, true≢false, arith}
+use Rattle.std.proofs.Common.{◌≡◌, ℕ, zero, suc, ◌*◌, Bool, true, false, ◌&&◌, if◌then◌else◌, length, nat_lt, ◌==◌, refl, ap, sym, ◌∙◌, true≢false, arith}
 use Rattle.std.specs.Cmp.{IsEquivalence}
 use Rattle.std.proofs.lemmas.Cmp.{lists_equiv, on_equiv, nat_eq_equiv}
-use lib.Pointwise.{pointwise, pointwise_long}
+use lib.Pointwise.{pointwise}
 use Rattle.cc_base.specs.declared.number.TypeId.{TypeId}
 use Rattle.c_types.specs.Table.{Table}
-use Rattle.c_types.specs.Cells.{Cell, raw, pointer, mixed, incomplete, Relation, same_type, alike, all_alike, begins}
+use Rattle.c_types.specs.Cells.{Cell, raw, pointer, mixed, incomplete, Relation, same_type, alike, all_alike}
 use Rattle.c_types.specs.Equality.{Slot, nothing, integer, pointer_to, other, same_bool, same_slot, Makeup, code, bytes, same_makeup, makeup_at, made_alike, within, equal_at_level, physically_equal}
 use Rattle.c_types.proofs.Shapes.{first_true, second_true}
 
@@ -193,6 +193,7 @@ module _ (table : Table) {E : Relation} (q : IsEquivalence E) where
           by_answer : (b : Bool) → same_type x y ≡ b → same_type x y ≡ false
           by_answer true e = absurd (true≢false (sym i ∙ ap (λ n. nat_lt n (length table)) (same_id x y e) ∙ o))
           by_answer false e = e
+
       by : (a b c : Bool) → nat_lt t.0 (length table) ≡ a → nat_lt u.0 (length table) ≡ b → nat_lt v.0 (length table) ≡ c
           → (if a && b then E t u else same_type t u) ≡ true
           → (if a && c then E t v else same_type t v) ≡ (if b && c then E u v else same_type u v)

@@ -5,7 +5,7 @@ use Rattle.cc_base.specs.declared.number.TypeId.{TypeId}
 use Rattle.cc_base.specs.declared.number.NodeId.{NodeId}
 use Rattle.cc_base.specs.declared.kind.Kind.{Kind}
 use Rattle.c_types.specs.declared.shape.TypeShape.{TypeShape}
-use Rattle.c_types.specs.declared.shape.TypeShape.TheVariants.{Void, Integer, Pointer, Array, Function, Struct, Union}
+use Rattle.c_types.specs.declared.shape.TypeShape.TheVariants.{Function}
 use Rattle.c_types.specs.Table.{Table, shape_at, members_at, IsComplete}
 use Rattle.c_types.specs.Layouts.{size_of}
 use Rattle.c_types.specs.Cells.{Cell, same_type, alike, cells_of_shape, cells_at}
@@ -38,6 +38,7 @@ module _ (table : Table) (w : IsWellFormed table) where
     where
       same : same_type t u ≡ true → length (cells_of table t) ≡ length (cells_of table u)
       same e = ap (λ (n : ℕ). length (cells_of table (record { 0 = n }))) (same_id t u e)
+
       by : (a b : Bool) → (if a && b then made_alike table (physically_equal table) t u else same_type t u) ≡ true
           → length (cells_of table t) ≡ length (cells_of table u)
       by true true e = count_of t u (shape_at table t) (shape_at table u) refl refl e

@@ -1,11 +1,10 @@
-use Rattle.std.proofs.Common.{◌≡◌, ◌≢◌, ℕ, zero, suc, ◌+◌, ◌*◌, ◌<◌, ◌≤◌, Bool, true, false, cond, List, [], ◌∷◌, ◌++◌, length, get_or, take, map, Option, None, Some, refl, ap, sym, subst, ◌∙◌, inl, inr, ◌⊎◌, eqb, IsTrue, true≢false, arith}
-use Rattle.std.specs.List.{Contains, All, position}
+use Rattle.std.proofs.Common.{◌≡◌, ◌≢◌, ℕ, zero, suc, ◌<◌, ◌≤◌, Bool, true, false, cond, List, [], ◌∷◌, ◌++◌, length, get_or, map, Option, None, Some, refl, ap, sym, subst, ◌∙◌, inl, inr, ◌⊎◌, true≢false, arith}
+use Rattle.std.specs.List.{All, position}
 use Rattle.std.specs.Map.{keys_of, lookup}
 use Rattle.std.proofs.lemmas.Map.{NonePasses, none_passes_from_lookup}
 use Rattle.std.specs.Option.{is_some}
 use Rattle.std.proofs.Math.Nat.{mul-pos}
 use Rattle.std.proofs.lemmas.Bool.{cases_lt}
-use Rattle.std.proofs.lemmas.Bool.Decides.{eqb_tells}
 use Rattle.std.proofs.lemmas.List.{get_or_past, get_or_append_left, map-append, length-map, length-append, get_or-map}
 use Rattle.std.proofs.lemmas.List.Quantifiers.{position-Some}
 use Rattle.std.proofs.lemmas.List.Sums.{sum_by_push}
@@ -18,11 +17,11 @@ use Rattle.c_types.specs.declared.kept.FieldPlace.{FieldPlace}
 use Rattle.c_types.specs.declared.kept.Kept.{Kept}
 use Rattle.c_types.specs.declared.shape.TypeShape.{TypeShape}
 use Rattle.c_types.specs.declared.shape.TypeShape.TheVariants.{Void, Integer, Pointer, Array, Function, Struct, Union}
-use Rattle.c_types.specs.Table.{Table, Entry, void_entry, entry_at, shape_at, members_at, named_by, parts_of_shape, IsType, IsComplete, is_complete, is_complete_entry, complete_count, HasShape}
-use Rattle.c_types.specs.Layouts.{layout_of_shape, layout_of}
-use Rattle.c_types.specs.Sound.{IsFormed, IsSized, IsWellFormed, IsProper, IsIntegerSize}
+use Rattle.c_types.specs.Table.{Table, Entry, void_entry, entry_at, shape_at, members_at, parts_of_shape, IsType, IsComplete, is_complete, HasShape}
+use Rattle.c_types.specs.Layouts.{layout_of}
+use Rattle.c_types.specs.Sound.{IsFormed, IsSized, IsWellFormed}
 use Rattle.c_types.specs.Kept.{KeptEntry, IsSound, IsKeptOf, table_of, entry_of}
-use Rattle.c_types.specs.Calls.{IsNew, IsAddable, has_complete_parts, basic_entry, new_layout}
+use Rattle.c_types.specs.Calls.{IsNew, IsAddable, basic_entry, new_layout}
 use Rattle.c_types.proofs.Shapes.{shape_eq, same_shape, own_shape, other_shape}
 use Rattle.c_types.proofs.Growth.{Changes}
 use Rattle.c_types.proofs.Upkeep.{other_layout, own_layout, kept_other, formed_after}

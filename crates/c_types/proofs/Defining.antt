@@ -1,9 +1,9 @@
-use Rattle.std.proofs.Common.{◌≡◌, ◌≢◌, ℕ, zero, suc, ◌+◌, ◌*◌, ◌<◌, ◌≤◌, max, Bool, true, false, cond, List, [], ◌∷◌, ◌++◌, length, get_or, take, map, set, refl, ap, sym, subst, ◌∙◌, inl, inr, ◌⊎◌, eqb, IsTrue, true≢false, arith}
-use Rattle.std.specs.List.{Contains, All, fold}
+use Rattle.std.proofs.Common.{◌≡◌, ◌≢◌, ℕ, zero, suc, ◌+◌, ◌<◌, ◌≤◌, max, true, false, cond, List, [], ◌∷◌, length, get_or, map, set, refl, ap, sym, subst, ◌∙◌, inl, inr, true≢false, arith}
+use Rattle.std.specs.List.{All, fold}
 use Rattle.std.proofs.lemmas.Bool.Decides.{eqb_tells}
-use Rattle.std.proofs.lemmas.List.{get_or-set_same, get_or-set_other, length-set, length-map, map-set, get_or-map}
+use Rattle.std.proofs.lemmas.List.{get_or-set_same, get_or-set_other, length-set, length-map, get_or-map}
 use Rattle.std.proofs.lemmas.List.Sums.{sum_by-set}
-use Rattle.std.proofs.lemmas.List.Elements.{All-nil, All-cons, All-head, All-tail}
+use Rattle.std.proofs.lemmas.List.Elements.{All-nil, All-head, All-tail}
 use Rattle.indexmap.specs.IndexMap.{set_value_at}
 use Rattle.cc_base.specs.declared.number.TypeId.{TypeId}
 use Rattle.c_types.specs.declared.layout.Layout.{Layout}
@@ -12,7 +12,7 @@ use Rattle.c_types.specs.declared.kept.Kept.{Kept}
 use Rattle.c_types.specs.declared.shape.TypeShape.{TypeShape}
 use Rattle.c_types.specs.declared.shape.TypeShape.TheVariants.{Void, Integer, Pointer, Array, Function, Struct, Union}
 use Rattle.c_types.specs.Table.{Table, Entry, void_entry, entry_at, shape_at, members_at, parts_of_shape, is_aggregate_shape, IsAggregate, IsType, IsComplete, is_complete, is_complete_entry, HasShape}
-use Rattle.c_types.specs.Layouts.{rounded, members_end, greatest_align, greatest_size, struct_layout, union_layout, layout_of_shape, layout_of, offset_of, offset_of_shape}
+use Rattle.c_types.specs.Layouts.{rounded, layout_of_shape, layout_of}
 use Rattle.c_types.specs.Sound.{IsFormed, IsSized, IsWellFormed}
 use Rattle.c_types.specs.Kept.{KeptEntry, IsSound, IsKeptOf, ArePlaces, table_of, entry_of}
 use Rattle.c_types.specs.Calls.{with_members, defined_layout}

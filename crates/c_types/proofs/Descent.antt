@@ -1,11 +1,11 @@
-use Rattle.std.proofs.Common.{◌≡◌, ℕ, zero, suc, ◌+◌, ◌*◌, ◌<◌, ◌≤◌, Bool, List, [], ◌∷◌, ◌++◌, length, map, refl, ap, sym, subst, ◌∙◌, arith}
+use Rattle.std.proofs.Common.{◌≡◌, ℕ, zero, suc, ◌*◌, ◌<◌, List, [], length, refl, ap, arith}
 use Rattle.std.specs.List.{Contains}
 use Rattle.std.proofs.lemmas.List.Sums.{count_by-le-length}
 use Rattle.cc_base.specs.declared.number.TypeId.{TypeId}
 use Rattle.c_types.specs.declared.layout.Layout.{Layout}
 use Rattle.c_types.specs.declared.shape.TypeShape.{TypeShape}
 use Rattle.c_types.specs.declared.shape.TypeShape.TheVariants.{Void, Integer, Pointer, Array, Function, Struct, Union}
-use Rattle.c_types.specs.Table.{Table, entry_at, shape_at, members_at, parts_of_shape, parts_at, IsRanked, is_complete, descend}
+use Rattle.c_types.specs.Table.{Table, shape_at, members_at, parts_of_shape, parts_at, IsRanked, is_complete, descend}
 use Rattle.c_types.specs.Layouts.{no_layout, layout_of_shape, layout_step, layout_of, struct_layout, union_layout}
 use Rattle.c_types.proofs.Lists.{map_same, contains_head}
 

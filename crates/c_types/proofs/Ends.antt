@@ -1,10 +1,10 @@
-use Rattle.std.proofs.Common.{◌≡◌, ℕ, zero, suc, ◌+◌, ◌-◌, ◌%◌, ◌<◌, ◌≤◌, List, [], ◌∷◌, ◌++◌, length, get_or, take, drop, map, max, refl, ap, sym, subst, ◌∙◌, arith}
+use Rattle.std.proofs.Common.{◌≡◌, ℕ, ◌+◌, ◌≤◌, List, [], ◌∷◌, ◌++◌, take, drop, map, ap, sym, subst, ◌∙◌, arith}
 use Rattle.std.specs.List.{fold}
 use Rattle.std.proofs.lemmas.List.{take-append-drop, map-append}
 use Rattle.std.proofs.lemmas.List.Sums.{fold-append}
 use Rattle.cc_base.specs.declared.number.TypeId.{TypeId}
 use Rattle.c_types.specs.declared.layout.Layout.{Layout}
-use Rattle.c_types.specs.Layouts.{rounded, members_end, greatest_align, greatest_size, struct_layout, union_layout}
+use Rattle.c_types.specs.Layouts.{rounded, members_end, greatest_align, struct_layout}
 
 -- The ends of members never fall, so a struct whose first members pass the limit passes it.
 

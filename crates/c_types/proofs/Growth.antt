@@ -1,12 +1,11 @@
-use Rattle.std.proofs.Common.{◌≡◌, ◌≢◌, ℕ, zero, suc, ◌+◌, ◌*◌, ◌<◌, ◌≤◌, Bool, true, false, cond, List, [], ◌∷◌, ◌++◌, length, map, refl, ap, sym, subst, ◌∙◌, inl, inr, ◌⊎◌, eqb, IsTrue, true≢false, arith}
+use Rattle.std.proofs.Common.{◌≡◌, ◌≢◌, ℕ, zero, suc, ◌+◌, ◌<◌, ◌≤◌, true, false, cond, length, ap, sym, subst, ◌∙◌, inl, inr, eqb, true≢false, arith}
 use Rattle.std.specs.List.{Contains, All}
 use Rattle.std.proofs.lemmas.Bool.Decides.{eqb_tells}
 use Rattle.std.proofs.lemmas.List.Elements.{All-weaker, All-contains}
 use Rattle.cc_base.specs.declared.number.TypeId.{TypeId}
-use Rattle.c_types.specs.declared.layout.Layout.{Layout}
-use Rattle.c_types.specs.Table.{Table, Entry, entry_at, shape_at, members_at, named_by, parts_of_shape, parts_at, IsRanked, IsType, IsComplete, is_complete, complete_count}
-use Rattle.c_types.specs.Layouts.{layout_of_shape, layout_step, layout_of}
-use Rattle.c_types.specs.Sound.{IsFormed, IsSized, IsWellFormed}
+use Rattle.c_types.specs.Table.{Table, Entry, entry_at, shape_at, members_at, parts_of_shape, parts_at, IsRanked, IsType, IsComplete, is_complete, complete_count}
+use Rattle.c_types.specs.Layouts.{layout_of_shape, layout_of}
+use Rattle.c_types.specs.Sound.{IsFormed}
 use Rattle.c_types.proofs.Descent.{layout_is, layout_local}
 
 -- A table changes at one place, where no complete type was: a type is added or defined.

@@ -1,8 +1,8 @@
-use Rattle.std.proofs.Common.{◌≡◌, ℕ, ◌<◌, List, length, get_or, map, Option, Some, refl, ap, sym, subst, ◌∙◌, slice_get, arith}
+use Rattle.std.proofs.Common.{◌≡◌, List, Some, ap, subst, ◌∙◌, slice_get}
 use Rattle.std.proofs.lemmas.Option.{slice_get_within, get_or_from_slice_get}
 use Rattle.std.proofs.lemmas.List.{get_or-map}
 use Rattle.cc_base.specs.declared.number.TypeId.{TypeId}
-use Rattle.c_types.specs.Table.{Table, Entry, entry_at, void_entry, members_at}
+use Rattle.c_types.specs.Table.{entry_at, void_entry}
 use Rattle.c_types.specs.Kept.{KeptEntry, IsSound, IsKeptOf, table_of, entry_of}
 
 -- Reading what is kept of a type.

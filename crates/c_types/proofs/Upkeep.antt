@@ -1,23 +1,20 @@
-use Rattle.std.proofs.Common.{◌≡◌, ◌≢◌, ℕ, zero, suc, ◌+◌, ◌*◌, ◌<◌, ◌≤◌, Bool, true, false, cond, List, [], ◌∷◌, ◌++◌, length, get_or, take, map, set, Option, None, Some, refl, ap, sym, subst, ◌∙◌, inl, inr, ◌⊎◌, eqb, IsTrue, true≢false, arith}
-use Rattle.std.specs.List.{Contains, All}
+use Rattle.std.proofs.Common.{◌≡◌, ◌≢◌, ℕ, ◌<◌, ◌≤◌, List, length, get_or, take, map, refl, ap, sym, subst, ◌∙◌, inl, inr, arith}
+use Rattle.std.specs.List.{Contains}
 use Rattle.std.proofs.lemmas.Bool.Decides.{eqb_tells}
-use Rattle.std.proofs.lemmas.List.{get_or_past, get_or_append_left, get_or-set_same, get_or-set_other, length-set, map-append, length-map}
-use Rattle.std.proofs.lemmas.List.Sums.{sum_by_push, sum_by-set}
-use Rattle.std.proofs.lemmas.List.Elements.{All-weaker, All-contains, Contains-get_or}
-use Rattle.std.proofs.Math.Seq.{get_or-append_seam}
+use Rattle.std.proofs.lemmas.List.{length-map}
+use Rattle.std.proofs.lemmas.List.Elements.{All-contains, Contains-get_or}
 use Rattle.cc_base.specs.declared.number.TypeId.{TypeId}
 use Rattle.c_types.specs.declared.layout.Layout.{Layout}
 use Rattle.c_types.specs.declared.kept.FieldPlace.{FieldPlace}
 use Rattle.c_types.specs.declared.kept.Kept.{Kept}
 use Rattle.c_types.specs.declared.shape.TypeShape.{TypeShape}
-use Rattle.c_types.specs.declared.shape.TypeShape.TheVariants.{Void, Integer, Pointer, Array, Function, Struct, Union}
-use Rattle.c_types.specs.Table.{Table, Entry, void_entry, entry_at, shape_at, members_at, named_by, parts_of_shape, parts_at, IsRanked, IsType, IsComplete, is_complete, complete_count, HasShape}
-use Rattle.c_types.specs.Layouts.{layout_of_shape, layout_step, layout_of, offset_of_shape, offset_of, member_at, offset_after}
-use Rattle.c_types.specs.Sound.{IsFormed, IsSized, IsWellFormed, IsProper, IsIntegerSize}
-use Rattle.c_types.specs.Kept.{KeptEntry, IsSound, IsKeptOf, table_of, entry_of}
-use Rattle.c_types.specs.Calls.{IsNew, IsAddable, has_complete_parts, basic_entry, new_layout}
+use Rattle.c_types.specs.declared.shape.TypeShape.TheVariants.{Struct}
+use Rattle.c_types.specs.Table.{Table, Entry, entry_at, shape_at, members_at, parts_of_shape, IsType, IsComplete, is_complete, HasShape}
+use Rattle.c_types.specs.Layouts.{layout_of_shape, layout_of, offset_of_shape, offset_of, offset_after}
+use Rattle.c_types.specs.Sound.{IsFormed, IsSized, IsWellFormed}
+use Rattle.c_types.specs.Kept.{IsKeptOf}
 use Rattle.c_types.proofs.Lists.{map_same, contains_take}
-use Rattle.c_types.proofs.Growth.{Changes, not_here, still_complete, each_formed, layout_other, layout_here, rank_after, ranked_after}
+use Rattle.c_types.proofs.Growth.{Changes, not_here, each_formed, layout_other, layout_here, rank_after, ranked_after}
 
 -- What is kept of the types stays right where the table changes.
 

@@ -1,13 +1,12 @@
-use Rattle.std.specs.Prelude.{◌≡◌, ◌≢◌, ℕ, ◌+◌, ◌<◌, ⊤, Bool, true, false, map, List, [], ◌∷◌, ◌++◌, length, slice_set}
+use Rattle.std.specs.Prelude.{◌≡◌, ◌<◌, ⊤, true, false, map, List, [], ◌∷◌, length, slice_set}
 use Rattle.std.specs.List.{All}
 use Rattle.cc_base.specs.declared.number.TypeId.{TypeId}
-use Rattle.cc_base.specs.declared.fault.Limit.{Limit}
-use Rattle.cc_base.specs.declared.fault.Limit.TheVariants.{Depth, Held, Types, Object, Params, Functions, Globals, Cells}
+use Rattle.cc_base.specs.declared.fault.Limit.TheVariants.{Types, Object}
 use Rattle.c_types.specs.declared.fault.TypeFault.{TypeFault}
 use Rattle.c_types.specs.declared.fault.TypeFault.TheVariants.{TooLarge, NoMemory}
 use Rattle.c_types.specs.declared.layout.Layout.{Layout}
 use Rattle.c_types.specs.declared.shape.TypeShape.{TypeShape}
-use Rattle.c_types.specs.declared.shape.TypeShape.TheVariants.{Void, Integer, Pointer, Array, Function, Struct, Union}
+use Rattle.c_types.specs.declared.shape.TypeShape.TheVariants.{Void, Integer, Array}
 use Rattle.c_types.specs.Table.{Table, Entry, IsType, IsComplete, IsAggregate, HasShape, shape_at, members_at, named_by}
 use Rattle.c_types.specs.Layouts.{layout_of, layout_of_shape}
 use Rattle.c_types.specs.Sound.{IsProper}

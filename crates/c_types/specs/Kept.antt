@@ -4,7 +4,7 @@ use Rattle.c_types.specs.declared.kept.FieldPlace.{FieldPlace}
 use Rattle.c_types.specs.declared.kept.Kept.{Kept}
 use Rattle.c_types.specs.declared.layout.Layout.{Layout}
 use Rattle.c_types.specs.declared.shape.TypeShape.{TypeShape}
-use Rattle.c_types.specs.Table.{Table, Entry, IsType}
+use Rattle.c_types.specs.Table.{Table, Entry}
 use Rattle.c_types.specs.Layouts.{layout_of, offset_of, offset_of_shape}
 use Rattle.c_types.specs.Sound.{IsWellFormed}
 

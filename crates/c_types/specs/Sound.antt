@@ -1,12 +1,10 @@
-use Rattle.std.specs.Prelude.{◌≡◌, ℕ, ◌<◌, ◌≤◌, ◌⊎◌, ⊤, List, [], map, length, take, slice_index_or, IsTrue}
+use Rattle.std.specs.Prelude.{◌≡◌, ℕ, ◌<◌, ◌≤◌, ◌⊎◌, ⊤, [], length, IsTrue}
 use Rattle.std.specs.List.{All}
 use Rattle.cc_base.specs.declared.number.TypeId.{TypeId}
-use Rattle.c_types.specs.declared.kept.FieldPlace.{FieldPlace}
-use Rattle.c_types.specs.declared.kept.Kept.{Kept}
 use Rattle.c_types.specs.declared.shape.TypeShape.{TypeShape}
-use Rattle.c_types.specs.declared.shape.TypeShape.TheVariants.{Void, Integer, Pointer, Array, Function, Struct, Union}
-use Rattle.c_types.specs.Table.{Table, Entry, IsType, IsComplete, entry_at, shape_at, members_at, named_by, parts_of_shape, is_aggregate_shape, IsRanked, HasShape}
-use Rattle.c_types.specs.Layouts.{layout_of, offset_of_shape}
+use Rattle.c_types.specs.declared.shape.TypeShape.TheVariants.{Integer, Array}
+use Rattle.c_types.specs.Table.{Table, Entry, IsType, IsComplete, entry_at, shape_at, named_by, parts_of_shape, is_aggregate_shape, IsRanked, HasShape}
+use Rattle.c_types.specs.Layouts.{layout_of}
 
 -- What is true of every table that the calls of `Types` make.
 

@@ -1,8 +1,7 @@
-use Rattle.std.proofs.Common.{◌≡◌, refl, sym, ◌∙◌, ap, subst, List}
+use Rattle.std.proofs.Common.{sym, ◌∙◌, subst}
 use Rattle.std.specs.List.{All}
 use Rattle.std.proofs.lemmas.List.{take_all}
-use Rattle.std.proofs.lemmas.List.Elements.{All-nil, All-more}
-use Rattle.cc_base.specs.declared.number.TypeId.{TypeId}
+use Rattle.std.proofs.lemmas.List.Elements.{All-more}
 use Rattle.c_types.specs.Table.{IsComplete}
 use Rattle.c_types.proofs.tests.are_complete.Goals as goal
 

@@ -1,6 +1,5 @@
-use Rattle.std.proofs.Common.{rules, ◌≡◌, ap, sym, ◌∙◌, refl, subst, Some, None, List}
+use Rattle.std.proofs.Common.{ap, sym, ◌∙◌, subst, List}
 use Rattle.std.specs.Option.{is_some}
-use Rattle.cc_base.specs.declared.number.TypeId.{TypeId}
 use Rattle.c_types.specs.Table.{Entry, HasShape}
 use Rattle.c_types.specs.Calls.{IsNew}
 use Rattle.c_types.proofs.Adding.{found, absent}

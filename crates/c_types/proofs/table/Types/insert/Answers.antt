@@ -1,5 +1,4 @@
-use Rattle.std.proofs.Common.{rules, ◌≡◌, ◌++◌, ◌∷◌, [], ◌<◌, length, ap, sym, ◌∙◌, refl, subst, Some, None, List}
-use Rattle.c_types.specs.declared.layout.Layout.{Layout}
+use Rattle.std.proofs.Common.{◌≡◌, ◌++◌, ◌∷◌, [], ◌<◌, length, ap, sym, ◌∙◌, subst, List}
 use Rattle.c_types.specs.Table.{Entry, IsType}
 use Rattle.c_types.specs.Layouts.{layout_of}
 use Rattle.c_types.specs.Kept.{KeptEntry, IsSound, table_of}

@@ -1,5 +1,5 @@
-use Rattle.std.proofs.Common.{rules, ◌≡◌, ap, sym, ◌∙◌, refl, subst, Some, slice_get, List}
-use Rattle.c_types.specs.Table.{Entry, members_at, entry_at}
+use Rattle.std.proofs.Common.{◌≡◌, ap, sym, subst, Some, slice_get, List}
+use Rattle.c_types.specs.Table.{Entry, entry_at}
 use Rattle.c_types.specs.Kept.{IsKeptOf, entry_of}
 use Rattle.c_types.proofs.Keeping.{kept_here, entry_here}
 use Rattle.c_types.proofs.table.Types.kept.Goals as goal

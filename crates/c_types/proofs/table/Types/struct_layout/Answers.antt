@@ -1,10 +1,6 @@
-use Rattle.std.proofs.Common.{◌≡◌, ◌+◌, ◌<◌, ◌≤◌, ℕ, ap, sym, ◌∙◌, refl, subst, rules, arith, take, map, max, length}
+use Rattle.std.proofs.Common.{◌≡◌, ◌+◌, ◌≤◌, arith, max}
 use Rattle.std.proofs.lemmas.Bool.Decides.{nat_tests}
-use Rattle.cc_base.specs.declared.number.TypeId.{TypeId}
-use Rattle.c_types.specs.declared.layout.Layout.{Layout}
-use Rattle.c_types.specs.Table.{IsComplete}
-use Rattle.c_types.specs.Layouts.{layout_of, members_end, greatest_align, rounded}
-use Rattle.c_types.specs.Sound.{IsSized}
+use Rattle.c_types.specs.Layouts.{layout_of, rounded}
 use Rattle.c_types.proofs.Ends.{end_of_struct}
 use Rattle.c_types.proofs.Laying.{laid_start, laid_more, laid_all, end_more, rounded_near, fits_of}
 use Rattle.c_types.proofs.table.Types.struct_layout.Goals as goal

@@ -1,6 +1,6 @@
-use Rattle.std.proofs.Common.{◌≡◌, ◌+◌, ◌<◌, ◌≤◌, ℕ, ap, sym, ◌∙◌, refl, subst, rules, arith, take, map, length}
+use Rattle.std.proofs.Common.{arith}
 use Rattle.c_types.specs.declared.shape.TypeShape.TheVariants.{Struct}
-use Rattle.c_types.specs.Layouts.{layout_of, members_end, rounded}
+use Rattle.c_types.specs.Layouts.{layout_of}
 use Rattle.c_types.proofs.Ends.{end_of_part}
 use Rattle.c_types.proofs.Laying.{places_more, end_more, struct_offset, rounded_near, fits_of}
 use Rattle.c_types.proofs.table.Types.struct_places.Goals as goal

@@ -19,10 +19,10 @@ Leads-Leads es x y z l m = Leads-path es x y z m.0 l m.1
 
 -- What each edge carries on, a path carries on.
 pub along : (es : List Edge) (P : ℕ → Type 0) → ((x y : ℕ) → Contains es (edge x y) → P x → P y)
-  → (k x y : ℕ) → Path es k x y → P x → P y
+    → (k x y : ℕ) → Path es k x y → P x → P y
 along es P carries zero x y e p = subst P e p
 along es P carries (suc k) x y w p = carries w.0 y w.2 (along es P carries k x w.0 w.1 p)
 
 pub along_Leads : (es : List Edge) (P : ℕ → Type 0) → ((x y : ℕ) → Contains es (edge x y) → P x → P y)
-  → (x y : ℕ) → Leads es x y → P x → P y
+    → (x y : ℕ) → Leads es x y → P x → P y
 along_Leads es P carries x y l p = along es P carries l.0 x y l.1 p

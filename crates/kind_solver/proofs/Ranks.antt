@@ -19,12 +19,12 @@ rank_small c fits = omega (arith, why_order_small c.why, fits.0, fits.1)
 
 pub rank_before : (a b : Cause) → Fits a → Fits b → ComesBefore a b → rank a < rank b
 rank_before a b fits_a fits_b h =
-  let small_a = why_order_small a.why in
-  let small_b = why_order_small b.why in
-  elim h [
-    inl place ↦ elim place [ inl line ↦ omega arith | inr col ↦ omega arith ]
-  | inr why ↦ omega arith
-  ]
+    let small_a = why_order_small a.why in
+    let small_b = why_order_small b.why in
+    elim h [
+      | inl place ↦ elim place [ inl line ↦ omega arith | inr col ↦ omega arith ]
+      | inr why ↦ omega arith
+    ]
 
 pub late_some : (o : Option Cause) (c : Cause) → late o ≤ rank c → Fits c → (b : Cause) × (o ≡ Some b) × (rank b ≤ rank c)
 late_some None c h fits = absurd (omega (arith, rank_small c fits))

@@ -1,4 +1,4 @@
-use Rattle.std.specs.Prelude.{ℕ, List, Bool, Option, None, Some, Contains, All, length, slice_index_or, slice_set, is_none, sum_by, MatchBool, option_map, ⊤, [], ◌∷◌, ◌≡◌, ◌<◌, ◌≤◌, ◌⊎◌}
+use Rattle.std.specs.Prelude.{ℕ, List, Bool, Option, None, Some, Contains, All, length, slice_index_or, slice_set, is_none, sum_by, filter, MatchBool, option_map, ⊤, [], ◌∷◌, ◌≡◌, ◌<◌, ◌≤◌, ◌⊎◌}
 use Rattle.std.specs.Option.{option_to_list}
 use Rattle.cc_base.specs.declared.kind.Kind.{Kind}
 use Rattle.cc_base.specs.declared.kind.Kind.TheVariants.{Safe, Seq, Rtti, Wild}
@@ -81,13 +81,21 @@ pub record HoldsSeeds (seeds : List Seed) (count : ℕ) (table : Table) : Type 0
   pub real : (n : ℕ) (c : Cause) → entry table n ≡ Some c → Contains seeds (seed n c)
   pub earliest : (n : ℕ) (c : Cause) → Contains seeds (seed n c) → late (entry table n) ≤ rank c
 
--- the seed at the end of an edge, with the cause of its beginning
+-- the seed at the end of an edge, with the cause of its beginning, if that has one
+abbrev pub across_from : Option Cause → Edge → List Seed
+across_from cause e = option_to_list (option_map (λ c. seed e.to.0 c) cause)
+
 abbrev pub across : Table → Edge → List Seed
-across table e = option_to_list (option_map (λ c. seed e.to.0 c) (entry table e.from.0))
+across table e = across_from (entry table e.from.0) e
 
 -- the table has no cause for the seed's node
 abbrev pub is_outside : Table → Seed → Bool
 is_outside table s = is_none (entry table s.node.0)
+
+-- the seeds that none of three tables has a cause for
+abbrev pub free_seeds : Table → Table → Table → List Seed → List Seed
+free_seeds first wild rises seeds =
+    filter (is_outside rises) (filter (is_outside wild) (filter (is_outside first) seeds))
 
 -- kind and cause by the entries of the three sets
 abbrev pub kind_from : Option Cause → Option Cause → Option Cause → Kind

@@ -7,10 +7,13 @@ mod cause;
 mod causes;
 mod constraint;
 mod gathering;
+mod sets;
 mod solved;
+mod solver;
 mod spreading;
 
 pub use cause::Cause;
 pub use causes::Causes;
 pub use constraint::{Constraint, Why};
 pub use solved::Solved;
+pub use solver::solve;

@@ -1,0 +1,161 @@
+#![tactic(auto)]
+
+ghost use Rattle.std.specs.Prelude.{◌≡◌, ◌++◌, ◌<◌, IfOk, OnOk, length, filter};
+ghost use Rattle.std.specs.List.{flat_map};
+ghost use Rattle.kind_solver.specs.Constraints.{AreWithin};
+ghost use Rattle.kind_solver.specs.Sets.{FirstNeedFrom, WildFrom, RisesFrom, NeedFrom, TypeFrom};
+ghost use Rattle.kind_solver.specs.Tables.{Shows, SeedsWithin, EdgesWithin, across, across_from, is_outside, free_seeds};
+
+use crate::cause::Cause;
+use crate::constraint::Constraint;
+use crate::gathering::{Edge, Pass, Seed, Start, gather_edges, gather_seeds};
+use crate::spreading::first_causes;
+use cc_base::NoMemory;
+use std::alloc::Global;
+
+/// The first causes of the nodes that need SEQ or WILD by needs and Tile flows alone.
+pub fn first_needs(
+    alloc: Global,
+    count: u32,
+    list: &[Constraint],
+) -> Result<Vec<Option<Cause>>, NoMemory>
+    requires { AreWithin count list.now }
+    ensures { IfOk result (λ causes. Shows (FirstNeedFrom list.now) count causes.items) }
+{
+    let seeds = gather_seeds(alloc, Start::Sequence, list)?;
+    let edges = gather_edges(alloc, Pass::Sequence, list)?;
+    first_causes(alloc, count, &seeds, &edges)
+}
+
+/// The first causes of the nodes that have to be WILD.
+pub fn wild(
+    alloc: Global,
+    count: u32,
+    list: &[Constraint],
+    first: &[Option<Cause>],
+) -> Result<Vec<Option<Cause>>, NoMemory>
+    requires within { AreWithin count list.now }
+    requires first { Shows (FirstNeedFrom list.now) count first.now }
+    ensures { IfOk result (λ causes. Shows (WildFrom list.now) count causes.items) }
+{
+    let mut seeds = gather_seeds(alloc, Start::Wild, list)?;
+    let turns = gather_edges(alloc, Pass::Turn, list)?;
+    push_across(&mut seeds, &turns, first)?;
+    let edges = gather_edges(alloc, Pass::Wild, list)?;
+    first_causes(alloc, count, &seeds, &edges)
+}
+
+/// The nodes that the target of an Up flow or the source of a Down flow reaches.
+pub fn rises(alloc: Global, count: u32, list: &[Constraint]) -> Result<Vec<Option<Cause>>, NoMemory>
+    requires { AreWithin count list.now }
+    ensures { IfOk result (λ causes. Shows (RisesFrom list.now) count causes.items) }
+{
+    let seeds = gather_seeds(alloc, Start::Rise, list)?;
+    let edges = gather_edges(alloc, Pass::Rise, list)?;
+    first_causes(alloc, count, &seeds, &edges)
+}
+
+/// The first causes of the nodes that need SEQ or WILD.
+pub fn needs(
+    alloc: Global,
+    count: u32,
+    list: &[Constraint],
+    first: &[Option<Cause>],
+    wild: &[Option<Cause>],
+    rises: &[Option<Cause>],
+) -> Result<Vec<Option<Cause>>, NoMemory>
+    requires within { AreWithin count list.now }
+    requires first { Shows (FirstNeedFrom list.now) count first.now }
+    requires wild { Shows (WildFrom list.now) count wild.now }
+    requires rises { Shows (RisesFrom list.now) count rises.now }
+    ensures { IfOk result (λ causes. Shows (NeedFrom list.now) count causes.items) }
+{
+    let mut seeds = gather_seeds(alloc, Start::Sequence, list)?;
+    let loose = gather_seeds(alloc, Start::Loose, list)?;
+    push_free(alloc, &mut seeds, &loose, first, wild, rises)?;
+    let edges = gather_edges(alloc, Pass::Sequence, list)?;
+    first_causes(alloc, count, &seeds, &edges)
+}
+
+/// The first causes of the nodes that carry a type where they are in neither of the other sets.
+pub fn types(
+    alloc: Global,
+    count: u32,
+    list: &[Constraint],
+    needs: &[Option<Cause>],
+    wild: &[Option<Cause>],
+) -> Result<Vec<Option<Cause>>, NoMemory>
+    requires within { AreWithin count list.now }
+    requires needs { Shows (NeedFrom list.now) count needs.now }
+    requires wild { Shows (WildFrom list.now) count wild.now }
+    ensures { IfOk result (λ causes. Shows (TypeFrom list.now) count causes.items) }
+{
+    let sources = gather_seeds(alloc, Start::Type, list)?;
+    let others = outside(alloc, &sources, needs)?;
+    let seeds = outside(alloc, &others, wild)?;
+    let edges = gather_edges(alloc, Pass::Type, list)?;
+    first_causes(alloc, count, &seeds, &edges)
+}
+
+/// The seeds that lead over the edges from the nodes that have a cause.
+fn push_across(
+    seeds: &mut Vec<Seed>,
+    edges: &[Edge],
+    causes: &[Option<Cause>],
+) -> Result<(), NoMemory>
+    requires { EdgesWithin (length causes.now) edges.now }
+    ensures { OnOk result (seeds.new.items ≡ seeds.old.items ++ flat_map (across causes.now) edges.now) }
+{
+    for edge in edges {
+        push_at(seeds, *edge, causes[edge.from.0 as usize])?;
+    }
+    Ok(())
+}
+
+/// The seed at the end of an edge, if the node at its beginning has a cause.
+fn push_at(seeds: &mut Vec<Seed>, edge: Edge, cause: Option<Cause>) -> Result<(), NoMemory>
+    ensures { OnOk result (seeds.new.items ≡ seeds.old.items ++ across_from cause edge) }
+{
+    if let Some(cause) = cause {
+        seeds.push(Seed {
+            node: edge.to,
+            cause,
+        })?;
+    }
+    Ok(())
+}
+
+/// The loose seeds that none of the three tables has a cause for.
+fn push_free(
+    alloc: Global,
+    seeds: &mut Vec<Seed>,
+    loose: &[Seed],
+    first: &[Option<Cause>],
+    wild: &[Option<Cause>],
+    rises: &[Option<Cause>],
+) -> Result<(), NoMemory>
+    requires first { SeedsWithin (length first.now) loose.now }
+    requires wild { SeedsWithin (length wild.now) loose.now }
+    requires rises { SeedsWithin (length rises.now) loose.now }
+    ensures { OnOk result (seeds.new.items ≡ seeds.old.items ++ free_seeds first.now wild.now rises.now loose.now) }
+{
+    let without_needs = outside(alloc, loose, first)?;
+    let without_wild = outside(alloc, &without_needs, wild)?;
+    let free = outside(alloc, &without_wild, rises)?;
+    seeds.extend_from_slice(&free)?;
+    Ok(())
+}
+
+/// The seeds whose nodes have no cause in the table.
+fn outside(alloc: Global, seeds: &[Seed], causes: &[Option<Cause>]) -> Result<Vec<Seed>, NoMemory>
+    requires { SeedsWithin (length causes.now) seeds.now }
+    ensures { IfOk result (λ kept. kept.items ≡ filter (is_outside causes.now) seeds.now) }
+{
+    let mut kept = Vec::new(alloc);
+    for seed in seeds {
+        if causes[seed.node.0 as usize].is_none() {
+            kept.push(*seed)?;
+        }
+    }
+    Ok(kept)
+}

@@ -5,3 +5,9 @@ pub mod Offers
 pub mod Members
 pub mod Gathered
 pub mod Shown
+pub mod Allowed
+pub mod Closed
+pub mod Least
+pub mod Answered
+pub mod Solution
+pub mod Meeting

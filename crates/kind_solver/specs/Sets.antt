@@ -5,6 +5,7 @@ use Rattle.kind_solver.specs.declared.cause.Cause.{Cause}
 use Rattle.kind_solver.specs.declared.constraint.Constraint.{Constraint}
 use Rattle.kind_solver.specs.declared.gathering.Pass.TheVariants as pass
 use Rattle.kind_solver.specs.declared.gathering.Start.TheVariants as start
+use Rattle.kind_solver.specs.Constraints.{MeetsAll}
 use Rattle.kind_solver.specs.Order.{ComesBefore}
 use Rattle.kind_solver.specs.Chains.{edge, seed, edges, seeds, Leads, Chain}
 
@@ -96,3 +97,8 @@ pub record AreKinds (list : List Constraint) (count : ℕ) (kinds : List Kind) :
 pub record AreCauses (list : List Constraint) (count : ℕ) (kinds : List Kind) (causes : List (Option Cause)) : Type 0 where
   pub len : length causes ≡ count
   pub each : (n : ℕ) → n < count → HasCause list n (kind_at kinds n) (slice_index_or causes n None)
+
+-- Every map that meets the list has WILD wherever these kinds have it.
+abbrev pub HasLeastWild : List Constraint → ℕ → List Kind → Type 0
+HasLeastWild list count kinds =
+  (k : ℕ → Kind) → MeetsAll k list → (n : ℕ) → n < count → kind_at kinds n ≡ Wild → k n ≡ Wild

@@ -4,7 +4,7 @@ ghost use Rattle.std.specs.Prelude.{ℕ, ◌≡◌, ◌<◌, IfOk, length};
 ghost use Rattle.cc_base.specs.declared.kind.Kind.{Kind};
 ghost use Rattle.cc_base.specs.declared.kind.Kind.TheVariants.{Wild};
 ghost use Rattle.kind_solver.specs.Constraints.{AreWithin, PlainApart, MeetsAll};
-ghost use Rattle.kind_solver.specs.Sets.{AreKinds, AreCauses, kind_at};
+ghost use Rattle.kind_solver.specs.Sets.{AreKinds, AreCauses, HasLeastWild, kind_at};
 ghost use Rattle.kind_solver.specs.Tables.{ReadsOff};
 ghost use Rattle.kind_solver.specs.Tables as table;
 
@@ -25,6 +25,8 @@ pub fn solve(alloc: Global, count: u32, list: &[Constraint]) -> Result<Solved, N
     requires { AreWithin count list.now }
     ensures kinds { IfOk result (λ s. AreKinds list.now count s.kinds) }
     ensures causes { IfOk result (λ s. AreCauses list.now count s.kinds s.causes) }
+    ensures meets { PlainApart list.now → IfOk result (λ s. MeetsAll (kind_at s.kinds) list.now) }
+    ensures least { IfOk result (λ s. HasLeastWild list.now count s.kinds) }
 {
     let first = first_needs(alloc, count, list)?;
     let wild = wild(alloc, count, list, &first)?;

@@ -26,56 +26,56 @@ says F count n t s within = record {
   real = λ c e. s.real n c within e;
   none = λ e. no_entry F count n t s within e;
   first = λ c d e f before.
-    let found = s.first n d within f in
-    let same : found.0 ≡ c = same_Some found.0 c (sym found.1 ∙ e) in
-    let earlier = rank_before d c (s.fits n d f) (s.fits n c (s.real n c within e)) before in
-    let not_later = found.2 in
-    omega (arith, ap rank same);
+      let found = s.first n d within f in
+      let same : found.0 ≡ c = same_Some found.0 c (sym found.1 ∙ e) in
+      let earlier = rank_before d c (s.fits n d f) (s.fits n c (s.real n c within e)) before in
+      let not_later = found.2 in
+      omega (arith, ap rank same);
 }
 
 has_kind : (list : List Constraint) (n : ℕ) (w s t : Option Cause) → Says (WildFrom list) n w → Says (NeedFrom list) n s
-  → Says (TypeFrom list) n t → HasKind list n (kind_from w s t)
+    → Says (TypeFrom list) n t → HasKind list n (kind_from w s t)
 has_kind list n (Some c) s t sw ss st = (c, sw.real c refl)
 has_kind list n None (Some c) t sw ss st = (sw.none refl, (c, ss.real c refl))
 has_kind list n None None (Some c) sw ss st = (sw.none refl, ss.none refl, (c, st.real c refl))
 has_kind list n None None None sw ss st = (sw.none refl, ss.none refl, st.none refl)
 
 has_cause : (list : List Constraint) (n : ℕ) (w s t : Option Cause) → Says (WildFrom list) n w → Says (NeedFrom list) n s
-  → Says (TypeFrom list) n t → HasCause list n (kind_from w s t) (cause_from w s t)
+    → Says (TypeFrom list) n t → HasCause list n (kind_from w s t) (cause_from w s t)
 has_cause list n (Some c) s t sw ss st = (sw.real c refl, λ d f. sw.first c d refl f)
 has_cause list n None (Some c) t sw ss st = (ss.real c refl, λ d f. ss.first c d refl f)
 has_cause list n None None (Some c) sw ss st = (st.real c refl, λ d f. st.first c d refl f)
 has_cause list n None None None sw ss st = refl
 
 pub are_kinds : (list : List Constraint) (count : ℕ) (wild needs types : Table) (kinds : List Kind) (causes : Table)
-  → Shows (WildFrom list) count wild → Shows (NeedFrom list) count needs → Shows (TypeFrom list) count types
-  → ReadsOff wild needs types count kinds causes → AreKinds list count kinds
+    → Shows (WildFrom list) count wild → Shows (NeedFrom list) count needs → Shows (TypeFrom list) count types
+    → ReadsOff wild needs types count kinds causes → AreKinds list count kinds
 are_kinds list count wild needs types kinds causes sw ss st r = record {
   len = r.kinds_len;
   each = λ n within.
-    subst (λ k. HasKind list n k) (sym (r.kind n within))
+      subst (λ k. HasKind list n k) (sym (r.kind n within))
       (has_kind list n (entry wild n) (entry needs n) (entry types n) (says (WildFrom list) count n wild sw within)
-        (says (NeedFrom list) count n needs ss within) (says (TypeFrom list) count n types st within));
+      (says (NeedFrom list) count n needs ss within) (says (TypeFrom list) count n types st within));
 }
 
 pub are_causes : (list : List Constraint) (count : ℕ) (wild needs types : Table) (kinds : List Kind) (causes : Table)
-  → Shows (WildFrom list) count wild → Shows (NeedFrom list) count needs → Shows (TypeFrom list) count types
-  → ReadsOff wild needs types count kinds causes → AreCauses list count kinds causes
+    → Shows (WildFrom list) count wild → Shows (NeedFrom list) count needs → Shows (TypeFrom list) count types
+    → ReadsOff wild needs types count kinds causes → AreCauses list count kinds causes
 are_causes list count wild needs types kinds causes sw ss st r = record {
   len = r.causes_len;
   each = λ n within.
-    subst (λ k. HasCause list n k (entry causes n)) (sym (r.kind n within))
+      subst (λ k. HasCause list n k (entry causes n)) (sym (r.kind n within))
       (subst (λ o. HasCause list n (kind_from (entry wild n) (entry needs n) (entry types n)) o) (sym (r.cause n within))
-        (has_cause list n (entry wild n) (entry needs n) (entry types n) (says (WildFrom list) count n wild sw within)
-          (says (NeedFrom list) count n needs ss within) (says (TypeFrom list) count n types st within)));
+      (has_cause list n (entry wild n) (entry needs n) (entry types n) (says (WildFrom list) count n wild sw within)
+      (says (NeedFrom list) count n needs ss within) (says (TypeFrom list) count n types st within)));
 }
 
 -- No map that meets the list has fewer WILD nodes.
 pub least : (list : List Constraint) (count : ℕ) (kinds : List Kind) → AreKinds list count kinds → HasLeastWild list count kinds
 least list count kinds h k meets n within e =
-  let wild = has_wild list n (kind_at kinds n) (h.each n within) e in
-  wild_at_least k list meets n wild.0 wild.1
+    let wild = has_wild list n (kind_at kinds n) (h.each n within) e in
+    wild_at_least k list meets n wild.0 wild.1
 
 pub meets : (list : List Constraint) (count : ℕ) (kinds : List Kind) → AreWithin count list → AreKinds list count kinds
-  → PlainApart list → MeetsAll (kind_at kinds) list
+    → PlainApart list → MeetsAll (kind_at kinds) list
 meets list count kinds nodes h apart = meets_all list count (kind_at kinds) nodes h.each apart

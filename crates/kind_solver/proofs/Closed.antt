@@ -13,17 +13,17 @@ use Rattle.kind_solver.proofs.Members.{from_flat_map}
 -- What holds of the steps and beginnings of each constraint holds of those of the list.
 
 pub each_edge : (R : ℕ → ℕ → Type 0) (kind : Pass) (list : List Constraint)
-  → ((c : Constraint) → Contains list c → AllByRecursion (λ (e : Edge). R e.from.0 e.to.0) (edges_of kind c))
-  → (x y : ℕ) → Contains (edges kind list) (edge x y) → R x y
+    → ((c : Constraint) → Contains list c → AllByRecursion (λ (e : Edge). R e.from.0 e.to.0) (edges_of kind c))
+    → (x y : ℕ) → Contains (edges kind list) (edge x y) → R x y
 each_edge R kind list each x y h =
-  let found = from_flat_map (edges_of kind) list (edge x y) h in
-  All-contains (λ (e : Edge). R e.from.0 e.to.0) (edges_of kind found.0) (edge x y)
+    let found = from_flat_map (edges_of kind) list (edge x y) h in
+    All-contains (λ (e : Edge). R e.from.0 e.to.0) (edges_of kind found.0) (edge x y)
     (All-from_recursion (λ (e : Edge). R e.from.0 e.to.0) (edges_of kind found.0) (each found.0 found.1)) found.2
 
 pub each_seed : (P : ℕ → Type 0) (kind : Start) (list : List Constraint)
-  → ((c : Constraint) → Contains list c → AllByRecursion (λ (s : Seed). P s.node.0) (seeds_of kind c))
-  → (n : ℕ) (cause : Cause) → Contains (seeds kind list) (seed n cause) → P n
+    → ((c : Constraint) → Contains list c → AllByRecursion (λ (s : Seed). P s.node.0) (seeds_of kind c))
+    → (n : ℕ) (cause : Cause) → Contains (seeds kind list) (seed n cause) → P n
 each_seed P kind list each n cause h =
-  let found = from_flat_map (seeds_of kind) list (seed n cause) h in
-  All-contains (λ (s : Seed). P s.node.0) (seeds_of kind found.0) (seed n cause)
+    let found = from_flat_map (seeds_of kind) list (seed n cause) h in
+    All-contains (λ (s : Seed). P s.node.0) (seeds_of kind found.0) (seed n cause)
     (All-from_recursion (λ (s : Seed). P s.node.0) (seeds_of kind found.0) (each found.0 found.1)) found.2

@@ -65,11 +65,11 @@ edges_of_within n pass.Type _ h = tt
 
 pub edges_within : (n : ℕ) (kind : Pass) (list : List Constraint) → AreWithin n list → EdgesWithin n (edges kind list)
 edges_within n kind list h =
-  All-flat_map (IsWithin n) (EndsWithin n) (edges_of kind)
+    All-flat_map (IsWithin n) (EndsWithin n) (edges_of kind)
     (λ c within. All-from_recursion (EndsWithin n) (edges_of kind c) (edges_of_within n kind c within)) list h
 
 flow_seeds_within : (n : ℕ) (kind : Start) (from to : NodeId) (k : FlowClass) (place : Place) → from.0 < n → to.0 < n
-  → AllByRecursion (NodeWithin n) (flow_seeds kind from to k place)
+    → AllByRecursion (NodeWithin n) (flow_seeds kind from to k place)
 flow_seeds_within n start.Sequence from to class.Tile place f t = (f, tt)
 flow_seeds_within n start.Sequence from to _ place f t = tt
 flow_seeds_within n start.Wild from to class.Bad place f t = (f, (t, tt))
@@ -91,11 +91,11 @@ seeds_of_within n _ _ h = tt
 
 pub seeds_within : (n : ℕ) (kind : Start) (list : List Constraint) → AreWithin n list → SeedsWithin n (seeds kind list)
 seeds_within n kind list h =
-  All-flat_map (IsWithin n) (NodeWithin n) (seeds_of kind)
+    All-flat_map (IsWithin n) (NodeWithin n) (seeds_of kind)
     (λ c within. All-from_recursion (NodeWithin n) (seeds_of kind c) (seeds_of_within n kind c within)) list h
 
 flow_seeds_fit : (kind : Start) (from to : NodeId) (k : FlowClass) (place : Place) → PlaceFits place
-  → AllByRecursion CauseFits (flow_seeds kind from to k place)
+    → AllByRecursion CauseFits (flow_seeds kind from to k place)
 flow_seeds_fit start.Sequence from to class.Tile place f = (f, tt)
 flow_seeds_fit start.Sequence from to _ place f = tt
 flow_seeds_fit start.Wild from to class.Bad place f = (f, (f, tt))
@@ -117,5 +117,5 @@ seeds_of_fit _ _ h = tt
 
 pub seeds_fit : (kind : Start) (list : List Constraint) → All HasFitPlace list → SeedsFit (seeds kind list)
 seeds_fit kind list h =
-  All-flat_map HasFitPlace CauseFits (seeds_of kind)
+    All-flat_map HasFitPlace CauseFits (seeds_of kind)
     (λ c fit. All-from_recursion CauseFits (seeds_of kind c) (seeds_of_fit kind c fit)) list h

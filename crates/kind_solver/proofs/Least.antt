@@ -28,18 +28,22 @@ move_seeds k (Flow from to class.Tile below place) h = (tile_out (k from.0) (k t
 move_seeds k _ h = tt
 
 move_edges : (k : ℕ → Kind) (c : Constraint) → Meets k c
-  → AllByRecursion (λ (e : Edge). MayMove (k e.from.0) → MayMove (k e.to.0)) (edges_of pass.Sequence c)
+    → AllByRecursion (λ (e : Edge). MayMove (k e.from.0) → MayMove (k e.to.0)) (edges_of pass.Sequence c)
 move_edges k (Flow from to class below place) h = (move_back (k from.0) (k to.0) class below h, tt)
 move_edges k (Equal a b) h = (subst MayMove h, (subst MayMove (sym h), tt))
 move_edges k _ h = tt
 
 turn_flow : (k : ℕ → Kind) (from to : NodeId) (kind : FlowClass) (below : Bool) → IsTrue (allows (k from.0) (k to.0) kind below)
-  → AllByRecursion (λ (e : Edge). MayMove (k e.from.0) → k e.to.0 ≡ Wild) (turns from to kind)
+    → AllByRecursion (λ (e : Edge). MayMove (k e.from.0) → k e.to.0 ≡ Wild) (turns from to kind)
 turn_flow k from to class.Up below h =
-  ((λ m. (up_into (k from.0) (k to.0) below h m).0), ((λ m. (up_into (k from.0) (k to.0) below h m).1), tt))
-turn_flow k from to class.Down below h =
-  ((λ m. (down_into (k from.0) (k to.0) below h m).0), ((λ m. (down_into (k from.0) (k to.0) below h m).1),
-    ((λ m. (down_out (k from.0) (k to.0) below h m).0), ((λ m. (down_out (k from.0) (k to.0) below h m).1), tt))))
+    ((λ m. (up_into (k from.0) (k to.0) below h m).0), ((λ m. (up_into (k from.0) (k to.0) below h m).1), tt))
+turn_flow k from to class.Down below h = (
+  (λ m. (down_into (k from.0) (k to.0) below h m).0),
+  (
+    (λ m. (down_into (k from.0) (k to.0) below h m).1),
+    ((λ m. (down_out (k from.0) (k to.0) below h m).0), ((λ m. (down_out (k from.0) (k to.0) below h m).1), tt)),
+  ),
+)
 turn_flow k from to class.Equal below h = tt
 turn_flow k from to class.UpTile below h = tt
 turn_flow k from to class.DownTile below h = tt
@@ -47,7 +51,7 @@ turn_flow k from to class.Tile below h = tt
 turn_flow k from to class.Bad below h = tt
 
 turn_edges : (k : ℕ → Kind) (c : Constraint) → Meets k c
-  → AllByRecursion (λ (e : Edge). MayMove (k e.from.0) → k e.to.0 ≡ Wild) (edges_of pass.Turn c)
+    → AllByRecursion (λ (e : Edge). MayMove (k e.from.0) → k e.to.0 ≡ Wild) (edges_of pass.Turn c)
 turn_edges k (Flow from to class below place) h = turn_flow k from to class below h
 turn_edges k (Plain node) h = (plain_moves (k node.0) h, tt)
 turn_edges k _ h = tt
@@ -55,39 +59,38 @@ turn_edges k _ h = tt
 wild_seeds : (k : ℕ → Kind) (c : Constraint) → Meets k c → AllByRecursion (λ (s : Seed). k s.node.0 ≡ Wild) (seeds_of start.Wild c)
 wild_seeds k (Force node why place) h = (h, tt)
 wild_seeds k (Flow from to class.Bad below place) h =
-  let both = bad_wild (k from.0) (k to.0) below h in (both.0, (both.1, tt))
+    let both = bad_wild (k from.0) (k to.0) below h in (both.0, (both.1, tt))
 wild_seeds k _ h = tt
 
 wild_edges : (k : ℕ → Kind) (c : Constraint) → Meets k c
-  → AllByRecursion (λ (e : Edge). k e.from.0 ≡ Wild → k e.to.0 ≡ Wild) (edges_of pass.Wild c)
+    → AllByRecursion (λ (e : Edge). k e.from.0 ≡ Wild → k e.to.0 ≡ Wild) (edges_of pass.Wild c)
 wild_edges k (Flow from to class below place) h =
-  (wild_on (k from.0) (k to.0) class below h, (wild_back (k from.0) (k to.0) class below h, tt))
+    (wild_on (k from.0) (k to.0) class below h, (wild_back (k from.0) (k to.0) class below h, tt))
 wild_edges k (Equal a b) h = ((λ e. sym h ∙ e), ((λ e. h ∙ e), tt))
 wild_edges k (Linked a b) h = (h.0, (h.1, tt))
 wild_edges k (Inside outer inner) h = (h, tt)
 wild_edges k _ h = tt
 
 module _ (k : ℕ → Kind) (list : List Constraint) (meets : MeetsAll k list) where
-
   first_moves : (n : ℕ) (c : Cause) → FirstNeedFrom list c n → MayMove (k n)
   first_moves n c h =
-    along_Leads (edges pass.Sequence list) (λ m. MayMove (k m))
+      along_Leads (edges pass.Sequence list) (λ m. MayMove (k m))
       (each_edge (λ x y. MayMove (k x) → MayMove (k y)) pass.Sequence list (λ d within. move_edges k d (meets d within)))
       h.0 n h.2
       (each_seed (λ m. MayMove (k m)) start.Sequence list (λ d within. move_seeds k d (meets d within)) h.0 c h.1)
 
   turns_wild : (n : ℕ) (c : Cause) → TurnsWild list c n → k n ≡ Wild
   turns_wild n c h =
-    elim h [
-      inl forced ↦ each_seed (λ m. k m ≡ Wild) start.Wild list (λ d within. wild_seeds k d (meets d within)) n c forced
-    | inr turned ↦
-        each_edge (λ x y. MayMove (k x) → k y ≡ Wild) pass.Turn list (λ d within. turn_edges k d (meets d within)) turned.0 n
-          turned.2 (first_moves turned.0 c turned.1)
-    ]
+      elim h [
+        | inl forced ↦ each_seed (λ m. k m ≡ Wild) start.Wild list (λ d within. wild_seeds k d (meets d within)) n c forced
+        | inr turned ↦
+            each_edge (λ x y. MayMove (k x) → k y ≡ Wild) pass.Turn list (λ d within. turn_edges k d (meets d within)) turned.0 n
+            turned.2 (first_moves turned.0 c turned.1)
+      ]
 
   least_wild : (n : ℕ) (c : Cause) → WildFrom list c n → k n ≡ Wild
   least_wild n c h =
-    along_Leads (edges pass.Wild list) (λ m. k m ≡ Wild)
+      along_Leads (edges pass.Wild list) (λ m. k m ≡ Wild)
       (each_edge (λ x y. k x ≡ Wild → k y ≡ Wild) pass.Wild list (λ d within. wild_edges k d (meets d within)))
       h.0 n h.2 (turns_wild h.0 c h.1)
 

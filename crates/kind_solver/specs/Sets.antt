@@ -101,4 +101,4 @@ pub record AreCauses (list : List Constraint) (count : ℕ) (kinds : List Kind) 
 -- Every map that meets the list has WILD wherever these kinds have it.
 abbrev pub HasLeastWild : List Constraint → ℕ → List Kind → Type 0
 HasLeastWild list count kinds =
-  (k : ℕ → Kind) → MeetsAll k list → (n : ℕ) → n < count → kind_at kinds n ≡ Wild → k n ≡ Wild
+    (k : ℕ → Kind) → MeetsAll k list → (n : ℕ) → n < count → kind_at kinds n ≡ Wild → k n ≡ Wild

@@ -13,17 +13,13 @@ pub struct Cause {
     pub why: Why,
 }
 
-impl Cause {
-    /// Whether this cause comes before the other: by line, then by column, then by reason.
-    pub fn comes_before(self, other: Cause) -> bool
-        ensures before { IsTrue result ↔ ComesBefore self other }
-        ensures ranked { IsTrue result ↔ (rank self < rank other) }
-    {
-        self.site.is_before(other.site)
-            || (self.site.line == other.site.line
-                && self.site.col == other.site.col
-                && order_of(self.why) < order_of(other.why))
-    }
+/// Whether a cause comes before another: by line, then by column, then by reason.
+fn comes_before(cause: Cause, other: Cause) -> bool
+    ensures before { IsTrue result ↔ ComesBefore cause other }
+    ensures ranked { IsTrue result ↔ (rank cause < rank other) }
+{
+    cause.site.is_before(other.site)
+        || (cause.site == other.site && order_of(cause.why) < order_of(other.why))
 }
 
 /// The place of a reason among the reasons.
@@ -45,7 +41,7 @@ pub fn is_earlier(entry: Option<Cause>, other: Option<Cause>) -> bool
     ensures { IsTrue result ↔ (late entry < late other) }
 {
     match (entry, other) {
-        (Some(cause), Some(other)) => cause.comes_before(other),
+        (Some(cause), Some(other)) => comes_before(cause, other),
         (Some(_), None) => true,
         (None, _) => false,
     }

@@ -14,21 +14,21 @@ use Rattle.kind_solver.proofs.sets.first_needs.Goals as goal
 
 pub first_causes-requires-clause-seeds_within : goal.first_causes-requires-clause-seeds_within
 first_causes-requires-clause-seeds_within c =
-  subst (λ ss. SeedsWithin c.args.count ss) (sym (c.deref.ensures.value ∙ c.in_ok-seeds.ensures.found))
+    subst (λ ss. SeedsWithin c.args.count ss) (sym (c.deref.ensures.value ∙ c.in_ok-seeds.ensures.found))
     (seeds_within c.args.count start.Sequence c.args.list.now c.requires)
 
 pub first_causes-requires-clause-edges_within : goal.first_causes-requires-clause-edges_within
 first_causes-requires-clause-edges_within c =
-  subst (λ es. EdgesWithin c.args.count es) (sym (c.deref-2.ensures.value ∙ c.in_ok-edges.ensures))
+    subst (λ es. EdgesWithin c.args.count es) (sym (c.deref-2.ensures.value ∙ c.in_ok-edges.ensures))
     (edges_within c.args.count pass.Sequence c.args.list.now c.requires)
 
 pub first_causes-requires-clause-fit : goal.first_causes-requires-clause-fit
 first_causes-requires-clause-fit c =
-  subst (λ ss. SeedsFit ss) (sym (c.deref.ensures.value ∙ c.in_ok-seeds.ensures.found))
+    subst (λ ss. SeedsFit ss) (sym (c.deref.ensures.value ∙ c.in_ok-seeds.ensures.found))
     (seeds_fit start.Sequence c.args.list.now c.in_ok-seeds.ensures.fit)
 
 pub returns : goal.returns
 returns c =
-  let same : c.deref.result.now ≡ seeds start.Sequence c.args.list.now = c.deref.ensures.value ∙ c.in_ok-seeds.ensures.found in
-  let steps : c.deref-2.result.now ≡ edges pass.Sequence c.args.list.now = c.deref-2.ensures.value ∙ c.in_ok-edges.ensures in
-  rw (same, steps) at c.first_causes.ensures
+    let same : c.deref.result.now ≡ seeds start.Sequence c.args.list.now = c.deref.ensures.value ∙ c.in_ok-seeds.ensures.found in
+    let steps : c.deref-2.result.now ≡ edges pass.Sequence c.args.list.now = c.deref-2.ensures.value ∙ c.in_ok-edges.ensures in
+    rw (same, steps) at c.first_causes.ensures

@@ -15,60 +15,60 @@ use Rattle.kind_solver.proofs.sets.needs.Goals as goal
 
 pub push_free-requires-clause-first : goal.push_free-requires-clause-first
 push_free-requires-clause-first c =
-  subst (λ ss. SeedsWithin (length c.args.first.now) ss) (sym (c.deref.ensures.value ∙ c.in_ok-loose.ensures.found))
+    subst (λ ss. SeedsWithin (length c.args.first.now) ss) (sym (c.deref.ensures.value ∙ c.in_ok-loose.ensures.found))
     (rw c.requires.first.len (seeds_within c.args.count start.Loose c.args.list.now c.requires.within))
 
 pub push_free-requires-clause-wild : goal.push_free-requires-clause-wild
 push_free-requires-clause-wild c =
-  subst (λ ss. SeedsWithin (length c.args.wild.now) ss) (sym (c.deref.ensures.value ∙ c.in_ok-loose.ensures.found))
+    subst (λ ss. SeedsWithin (length c.args.wild.now) ss) (sym (c.deref.ensures.value ∙ c.in_ok-loose.ensures.found))
     (rw c.requires.wild.len (seeds_within c.args.count start.Loose c.args.list.now c.requires.within))
 
 pub push_free-requires-clause-rises : goal.push_free-requires-clause-rises
 push_free-requires-clause-rises c =
-  subst (λ ss. SeedsWithin (length c.args.rises.now) ss) (sym (c.deref.ensures.value ∙ c.in_ok-loose.ensures.found))
+    subst (λ ss. SeedsWithin (length c.args.rises.now) ss) (sym (c.deref.ensures.value ∙ c.in_ok-loose.ensures.found))
     (rw c.requires.rises.len (seeds_within c.args.count start.Loose c.args.list.now c.requires.within))
 
 pub first_causes-requires-clause-seeds_within : goal.first_causes-requires-clause-seeds_within
 first_causes-requires-clause-seeds_within c =
-  let list = c.args.list.now in
-  let free = free_seeds c.args.first.now c.args.wild.now c.args.rises.now (seeds start.Loose list) in
-  let same : c.deref-2.result.now ≡ seeds start.Sequence list ++ free
+    let list = c.args.list.now in
+    let free = free_seeds c.args.first.now c.args.wild.now c.args.rises.now (seeds start.Loose list) in
+    let same : c.deref-2.result.now ≡ seeds start.Sequence list ++ free
     = cc (c.in_ok-push_free.ensures, c.in_ok-seeds.ensures.found, c.in_ok-loose.ensures.found) in
-  let nodes = λ (s : Seed). s.node.0 < c.args.count in
-  subst (λ ss. SeedsWithin c.args.count ss) (sym same)
+    let nodes = λ (s : Seed). s.node.0 < c.args.count in
+    subst (λ ss. SeedsWithin c.args.count ss) (sym same)
     (All-append nodes (seeds start.Sequence list) free (seeds_within c.args.count start.Sequence list c.requires.within)
-      (All-filter (is_outside c.args.rises.now) nodes (filter (is_outside c.args.wild.now) (filter (is_outside c.args.first.now) (seeds start.Loose list)))
-        (All-filter (is_outside c.args.wild.now) nodes (filter (is_outside c.args.first.now) (seeds start.Loose list))
-          (All-filter (is_outside c.args.first.now) nodes (seeds start.Loose list)
-            (seeds_within c.args.count start.Loose list c.requires.within)))))
+    (All-filter (is_outside c.args.rises.now) nodes (filter (is_outside c.args.wild.now) (filter (is_outside c.args.first.now) (seeds start.Loose list)))
+    (All-filter (is_outside c.args.wild.now) nodes (filter (is_outside c.args.first.now) (seeds start.Loose list))
+    (All-filter (is_outside c.args.first.now) nodes (seeds start.Loose list)
+    (seeds_within c.args.count start.Loose list c.requires.within)))))
 
 pub first_causes-requires-clause-edges_within : goal.first_causes-requires-clause-edges_within
 first_causes-requires-clause-edges_within c =
-  subst (λ es. EdgesWithin c.args.count es) (sym (c.deref-3.ensures.value ∙ c.in_ok-edges.ensures))
+    subst (λ es. EdgesWithin c.args.count es) (sym (c.deref-3.ensures.value ∙ c.in_ok-edges.ensures))
     (edges_within c.args.count pass.Sequence c.args.list.now c.requires.within)
 
 pub first_causes-requires-clause-fit : goal.first_causes-requires-clause-fit
 first_causes-requires-clause-fit c =
-  let list = c.args.list.now in
-  let free = free_seeds c.args.first.now c.args.wild.now c.args.rises.now (seeds start.Loose list) in
-  let same : c.deref-2.result.now ≡ seeds start.Sequence list ++ free
+    let list = c.args.list.now in
+    let free = free_seeds c.args.first.now c.args.wild.now c.args.rises.now (seeds start.Loose list) in
+    let same : c.deref-2.result.now ≡ seeds start.Sequence list ++ free
     = cc (c.in_ok-push_free.ensures, c.in_ok-seeds.ensures.found, c.in_ok-loose.ensures.found) in
-  let fits = λ (s : Seed). Fits s.cause in
-  subst (λ ss. SeedsFit ss) (sym same)
+    let fits = λ (s : Seed). Fits s.cause in
+    subst (λ ss. SeedsFit ss) (sym same)
     (All-append fits (seeds start.Sequence list) free (seeds_fit start.Sequence list c.in_ok-seeds.ensures.fit)
-      (All-filter (is_outside c.args.rises.now) fits (filter (is_outside c.args.wild.now) (filter (is_outside c.args.first.now) (seeds start.Loose list)))
-        (All-filter (is_outside c.args.wild.now) fits (filter (is_outside c.args.first.now) (seeds start.Loose list))
-          (All-filter (is_outside c.args.first.now) fits (seeds start.Loose list)
-            (seeds_fit start.Loose list c.in_ok-seeds.ensures.fit)))))
+    (All-filter (is_outside c.args.rises.now) fits (filter (is_outside c.args.wild.now) (filter (is_outside c.args.first.now) (seeds start.Loose list)))
+    (All-filter (is_outside c.args.wild.now) fits (filter (is_outside c.args.first.now) (seeds start.Loose list))
+    (All-filter (is_outside c.args.first.now) fits (seeds start.Loose list)
+    (seeds_fit start.Loose list c.in_ok-seeds.ensures.fit)))))
 
 pub returns : goal.returns
 returns c =
-  let list = c.args.list.now in
-  let free = free_seeds c.args.first.now c.args.wild.now c.args.rises.now (seeds start.Loose list) in
-  let same : c.deref-2.result.now ≡ seeds start.Sequence list ++ free
+    let list = c.args.list.now in
+    let free = free_seeds c.args.first.now c.args.wild.now c.args.rises.now (seeds start.Loose list) in
+    let same : c.deref-2.result.now ≡ seeds start.Sequence list ++ free
     = cc (c.in_ok-push_free.ensures, c.in_ok-seeds.ensures.found, c.in_ok-loose.ensures.found) in
-  let steps : c.deref-3.result.now ≡ edges pass.Sequence list = c.deref-3.ensures.value ∙ c.in_ok-edges.ensures in
-  IfOk-weaker c.first_causes.result _ _
+    let steps : c.deref-3.result.now ≡ edges pass.Sequence list = c.deref-3.ensures.value ∙ c.in_ok-edges.ensures in
+    IfOk-weaker c.first_causes.result _ _
     (λ causes shown. need_shown list c.args.count c.args.first.now c.args.wild.now c.args.rises.now causes.items
-      c.requires.within c.in_ok-seeds.ensures.fit c.requires.first c.requires.wild c.requires.rises shown)
+    c.requires.within c.in_ok-seeds.ensures.fit c.requires.first c.requires.wild c.requires.rises shown)
     (rw (same, steps) at c.first_causes.ensures)

@@ -6,15 +6,15 @@ use Rattle.kind_solver.proofs.sets.push_free.Goals as goal
 
 pub outside-requires-2 : goal.outside-requires-2
 outside-requires-2 c =
-  subst (λ ss. SeedsWithin (length c.args.wild.now) ss) (sym (c.deref.ensures.value ∙ c.in_ok-without_needs.ensures))
+    subst (λ ss. SeedsWithin (length c.args.wild.now) ss) (sym (c.deref.ensures.value ∙ c.in_ok-without_needs.ensures))
     (All-filter (is_outside c.args.first.now) (λ (s : Seed). s.node.0 < length c.args.wild.now) c.args.loose.now c.requires.wild)
 
 pub outside-requires-3 : goal.outside-requires-3
 outside-requires-3 c =
-  let nodes = λ (s : Seed). s.node.0 < length c.args.rises.now in
-  subst (λ ss. SeedsWithin (length c.args.rises.now) ss)
+    let nodes = λ (s : Seed). s.node.0 < length c.args.rises.now in
+    subst (λ ss. SeedsWithin (length c.args.rises.now) ss)
     (sym (c.deref-2.ensures.value ∙ c.in_ok-without_wild.ensures))
     (subst (λ ss. SeedsWithin (length c.args.rises.now) (filter (is_outside c.args.wild.now) ss))
-      (sym (c.deref.ensures.value ∙ c.in_ok-without_needs.ensures))
-      (All-filter (is_outside c.args.wild.now) nodes (filter (is_outside c.args.first.now) c.args.loose.now)
-        (All-filter (is_outside c.args.first.now) nodes c.args.loose.now c.requires.rises)))
+    (sym (c.deref.ensures.value ∙ c.in_ok-without_needs.ensures))
+    (All-filter (is_outside c.args.wild.now) nodes (filter (is_outside c.args.first.now) c.args.loose.now)
+    (All-filter (is_outside c.args.first.now) nodes c.args.loose.now c.requires.rises)))

@@ -15,45 +15,45 @@ use Rattle.kind_solver.proofs.sets.wild.Goals as goal
 
 pub push_across-requires : goal.push_across-requires
 push_across-requires c =
-  subst (λ es. EdgesWithin (length c.args.first.now) es) (sym (c.deref.ensures.value ∙ c.in_ok-turns.ensures))
+    subst (λ es. EdgesWithin (length c.args.first.now) es) (sym (c.deref.ensures.value ∙ c.in_ok-turns.ensures))
     (rw c.requires.first.len (edges_within c.args.count pass.Turn c.args.list.now c.requires.within))
 
 pub first_causes-requires-clause-seeds_within : goal.first_causes-requires-clause-seeds_within
 first_causes-requires-clause-seeds_within c =
-  let list = c.args.list.now in
-  let first = c.args.first.now in
-  let count = c.args.count in
-  let same : c.deref-2.result.now ≡ seeds start.Wild list ++ flat_map (across first) (edges pass.Turn list)
+    let list = c.args.list.now in
+    let first = c.args.first.now in
+    let count = c.args.count in
+    let same : c.deref-2.result.now ≡ seeds start.Wild list ++ flat_map (across first) (edges pass.Turn list)
     = cc (c.in_ok-push_across.ensures, c.in_ok-seeds.ensures.found, c.in_ok-turns.ensures) in
-  subst (λ ss. SeedsWithin count ss) (sym same)
+    subst (λ ss. SeedsWithin count ss) (sym same)
     (All-append (λ (s : Seed). s.node.0 < count) (seeds start.Wild list) (flat_map (across first) (edges pass.Turn list))
-      (seeds_within count start.Wild list c.requires.within)
-      (across_within count (edges pass.Turn list) first (edges_within count pass.Turn list c.requires.within)))
+    (seeds_within count start.Wild list c.requires.within)
+    (across_within count (edges pass.Turn list) first (edges_within count pass.Turn list c.requires.within)))
 
 pub first_causes-requires-clause-edges_within : goal.first_causes-requires-clause-edges_within
 first_causes-requires-clause-edges_within c =
-  subst (λ es. EdgesWithin c.args.count es) (sym (c.deref-3.ensures.value ∙ c.in_ok-edges.ensures))
+    subst (λ es. EdgesWithin c.args.count es) (sym (c.deref-3.ensures.value ∙ c.in_ok-edges.ensures))
     (edges_within c.args.count pass.Wild c.args.list.now c.requires.within)
 
 pub first_causes-requires-clause-fit : goal.first_causes-requires-clause-fit
 first_causes-requires-clause-fit c =
-  let list = c.args.list.now in
-  let first = c.args.first.now in
-  let same : c.deref-2.result.now ≡ seeds start.Wild list ++ flat_map (across first) (edges pass.Turn list)
+    let list = c.args.list.now in
+    let first = c.args.first.now in
+    let same : c.deref-2.result.now ≡ seeds start.Wild list ++ flat_map (across first) (edges pass.Turn list)
     = cc (c.in_ok-push_across.ensures, c.in_ok-seeds.ensures.found, c.in_ok-turns.ensures) in
-  subst (λ ss. SeedsFit ss) (sym same)
+    subst (λ ss. SeedsFit ss) (sym same)
     (All-append (λ (s : Seed). Fits s.cause) (seeds start.Wild list) (flat_map (across first) (edges pass.Turn list))
-      (seeds_fit start.Wild list c.in_ok-seeds.ensures.fit)
-      (across_fit (FirstNeedFrom list) c.args.count (edges pass.Turn list) first
-        (edges_within c.args.count pass.Turn list c.requires.within) c.requires.first))
+    (seeds_fit start.Wild list c.in_ok-seeds.ensures.fit)
+    (across_fit (FirstNeedFrom list) c.args.count (edges pass.Turn list) first
+    (edges_within c.args.count pass.Turn list c.requires.within) c.requires.first))
 
 pub returns : goal.returns
 returns c =
-  let list = c.args.list.now in
-  let first = c.args.first.now in
-  let same : c.deref-2.result.now ≡ seeds start.Wild list ++ flat_map (across first) (edges pass.Turn list)
+    let list = c.args.list.now in
+    let first = c.args.first.now in
+    let same : c.deref-2.result.now ≡ seeds start.Wild list ++ flat_map (across first) (edges pass.Turn list)
     = cc (c.in_ok-push_across.ensures, c.in_ok-seeds.ensures.found, c.in_ok-turns.ensures) in
-  let steps : c.deref-3.result.now ≡ edges pass.Wild list = c.deref-3.ensures.value ∙ c.in_ok-edges.ensures in
-  IfOk-weaker c.first_causes.result _ _
+    let steps : c.deref-3.result.now ≡ edges pass.Wild list = c.deref-3.ensures.value ∙ c.in_ok-edges.ensures in
+    IfOk-weaker c.first_causes.result _ _
     (λ causes shown. wild_shown list c.args.count first causes.items c.requires.within c.in_ok-seeds.ensures.fit c.requires.first shown)
     (rw (same, steps) at c.first_causes.ensures)

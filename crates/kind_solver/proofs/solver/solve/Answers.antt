@@ -5,31 +5,31 @@ use Rattle.kind_solver.proofs.solver.solve.Goals as goal
 
 pub returns-clause-kinds : goal.returns-clause-kinds
 returns-clause-kinds c = IfOk-weaker c.read_off.result _ _
-  (λ s r. (are_kinds c.args.list.now c.args.count c.deref-7.result.now c.deref-8.result.now c.deref-9.result.now s.kinds s.causes
-      (rw c.deref-7.ensures.value c.in_ok-wild.ensures) (rw c.deref-8.ensures.value c.in_ok-needs.ensures)
-      (rw c.deref-9.ensures.value c.in_ok-types.ensures) r))
-  c.read_off.ensures
+    (λ s r. (are_kinds c.args.list.now c.args.count c.deref-7.result.now c.deref-8.result.now c.deref-9.result.now s.kinds s.causes
+    (rw c.deref-7.ensures.value c.in_ok-wild.ensures) (rw c.deref-8.ensures.value c.in_ok-needs.ensures)
+    (rw c.deref-9.ensures.value c.in_ok-types.ensures) r))
+    c.read_off.ensures
 
 pub returns-clause-causes : goal.returns-clause-causes
 returns-clause-causes c = IfOk-weaker c.read_off.result _ _
-  (λ s r. (are_causes c.args.list.now c.args.count c.deref-7.result.now c.deref-8.result.now c.deref-9.result.now s.kinds s.causes
-      (rw c.deref-7.ensures.value c.in_ok-wild.ensures) (rw c.deref-8.ensures.value c.in_ok-needs.ensures)
-      (rw c.deref-9.ensures.value c.in_ok-types.ensures) r))
-  c.read_off.ensures
+    (λ s r. (are_causes c.args.list.now c.args.count c.deref-7.result.now c.deref-8.result.now c.deref-9.result.now s.kinds s.causes
+    (rw c.deref-7.ensures.value c.in_ok-wild.ensures) (rw c.deref-8.ensures.value c.in_ok-needs.ensures)
+    (rw c.deref-9.ensures.value c.in_ok-types.ensures) r))
+    c.read_off.ensures
 
 pub returns-clause-meets : goal.returns-clause-meets
 returns-clause-meets c = λ apart. IfOk-weaker c.read_off.result _ _
-  (λ s r. meets c.args.list.now c.args.count s.kinds c.requires
+    (λ s r. meets c.args.list.now c.args.count s.kinds c.requires
     (are_kinds c.args.list.now c.args.count c.deref-7.result.now c.deref-8.result.now c.deref-9.result.now s.kinds s.causes
-      (rw c.deref-7.ensures.value c.in_ok-wild.ensures) (rw c.deref-8.ensures.value c.in_ok-needs.ensures)
-      (rw c.deref-9.ensures.value c.in_ok-types.ensures) r)
+    (rw c.deref-7.ensures.value c.in_ok-wild.ensures) (rw c.deref-8.ensures.value c.in_ok-needs.ensures)
+    (rw c.deref-9.ensures.value c.in_ok-types.ensures) r)
     apart)
-  c.read_off.ensures
+    c.read_off.ensures
 
 pub returns-clause-least : goal.returns-clause-least
 returns-clause-least c = IfOk-weaker c.read_off.result _ _
-  (λ s r. least c.args.list.now c.args.count s.kinds
+    (λ s r. least c.args.list.now c.args.count s.kinds
     (are_kinds c.args.list.now c.args.count c.deref-7.result.now c.deref-8.result.now c.deref-9.result.now s.kinds s.causes
-      (rw c.deref-7.ensures.value c.in_ok-wild.ensures) (rw c.deref-8.ensures.value c.in_ok-needs.ensures)
-      (rw c.deref-9.ensures.value c.in_ok-types.ensures) r))
-  c.read_off.ensures
+    (rw c.deref-7.ensures.value c.in_ok-wild.ensures) (rw c.deref-8.ensures.value c.in_ok-needs.ensures)
+    (rw c.deref-9.ensures.value c.in_ok-types.ensures) r))
+    c.read_off.ensures

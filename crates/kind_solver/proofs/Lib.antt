@@ -11,3 +11,4 @@ pub mod Least
 pub mod Answered
 pub mod Solution
 pub mod Meeting
+pub mod Determined

@@ -90,3 +90,7 @@ KeepsPlain list _ = ⊤
 
 abbrev pub PlainApart : List Constraint → Type 0
 PlainApart list = (c : Constraint) → Contains list c → KeepsPlain list c
+
+-- The two lists have the same members, in whatever order and number.
+abbrev pub HaveSameMembers : List Constraint → List Constraint → Type 0
+HaveSameMembers list other = (c : Constraint) → Contains list c ↔ Contains other c

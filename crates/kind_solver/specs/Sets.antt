@@ -19,7 +19,8 @@ Holds F n = (c : Cause) × F c n
 abbrev pub FirstNeedFrom : List Constraint → Cause → ℕ → Type 0
 FirstNeedFrom list c n = Chain (seeds start.Sequence list) (edges pass.Sequence list) c n
 
--- The nodes that have to be WILD.
+-- The nodes that have to be WILD: those of Bad flows and unions, those that a need turns WILD, and
+-- all that hangs together with them. The needs are the first ones: no free source adds to them.
 abbrev pub TurnsWild : List Constraint → Cause → ℕ → Type 0
 TurnsWild list c n = Contains (seeds start.Wild list) (seed n c)
     ⊎ ((x : ℕ) × FirstNeedFrom list c x × Contains (edges pass.Turn list) (edge x n))
@@ -32,13 +33,15 @@ WildFrom list c n = (x : ℕ) × TurnsWild list c x × Leads (edges pass.Wild li
 abbrev pub RisesFrom : List Constraint → Cause → ℕ → Type 0
 RisesFrom list c n = Chain (seeds start.Rise list) (edges pass.Rise list) c n
 
--- A DownTile flow out of such a node makes it SEQ: moving by whole elements is then all that the
--- flow asks for, and whatever flows into the node can be SEQ too.
+-- A DownTile flow may make its source SEQ only where the source is in neither set so far, and where
+-- nothing reaches it that cannot be SEQ: an Up flow into a SEQ pointer and a Down flow out of one
+-- would make both ends WILD.
 abbrev pub IsFree : List Constraint → ℕ → Type 0
 IsFree list n = ¬ (Holds (FirstNeedFrom list) n) × ¬ (Holds (WildFrom list) n)
     × ¬ (Holds (RisesFrom list) n)
 
--- The nodes that need SEQ or WILD.
+-- The nodes that need SEQ or WILD: those of the needs and Tile flows, the free sources of DownTile
+-- flows, and what flows into them.
 abbrev pub StartsNeed : List Constraint → Cause → ℕ → Type 0
 StartsNeed list c n = Contains (seeds start.Sequence list) (seed n c)
     ⊎ (Contains (seeds start.Loose list) (seed n c) × IsFree list n)
@@ -64,7 +67,8 @@ MustBeWild list n = Holds (WildFrom list) n
 abbrev pub MustCarryType : List Constraint → ℕ → Type 0
 MustCarryType list n = Holds (TypeFrom list) n
 
--- The kind of a node.
+-- The kind of a node: WILD where it has to be, else SEQ where it needs it, else RTTI where it
+-- carries a type, else SAFE.
 abbrev pub HasKind : List Constraint → ℕ → Kind → Type 0
 HasKind list n Wild = MustBeWild list n
 HasKind list n Seq = ¬ (MustBeWild list n) × NeedsSequence list n

@@ -133,7 +133,7 @@ fn push_edges(edges: &mut Vec<Edge>, pass: Pass, constraint: Constraint) -> Resu
                 class,
                 below,
                 ..
-            } => { push_back(edges, from, to, class, below) }
+            } => push_back(edges, from, to, class, below),
             Constraint::Equal { a, b } => push_both_ways(edges, a, b),
             _ => Ok(()),
         },

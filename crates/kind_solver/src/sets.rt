@@ -3,6 +3,7 @@
 ghost use Rattle.std.specs.Prelude.{◌≡◌, ◌++◌, ◌<◌, IfOk, OnOk, length, filter};
 ghost use Rattle.std.specs.List.{flat_map};
 ghost use Rattle.kind_solver.specs.Constraints.{AreWithin};
+ghost use Rattle.kind_solver.specs.Chains.{edges, seeds, Chain};
 ghost use Rattle.kind_solver.specs.Sets.{FirstNeedFrom, WildFrom, RisesFrom, NeedFrom, TypeFrom};
 ghost use Rattle.kind_solver.specs.Tables.{Shows, SeedsWithin, EdgesWithin, across, across_from, is_outside, free_seeds};
 
@@ -13,22 +14,24 @@ use crate::spreading::first_causes;
 use cc_base::NoMemory;
 use std::alloc::Global;
 
-/// The first causes of the nodes that need SEQ or WILD by needs and Tile flows alone.
-pub fn first_needs(
+/// The first causes of the nodes that some steps reach from some beginnings.
+pub fn chain_causes(
     alloc: Global,
     count: u32,
     list: &[Constraint],
+    start: Start,
+    pass: Pass,
 ) -> Result<Vec<Option<Cause>>, NoMemory>
     requires { AreWithin count list.now }
-    ensures { IfOk result (λ causes. Shows (FirstNeedFrom list.now) count causes.items) }
+    ensures { IfOk result (λ causes. Shows (Chain (seeds start list.now) (edges pass list.now)) count causes.items) }
 {
-    let seeds = gather_seeds(alloc, Start::Sequence, list)?;
-    let edges = gather_edges(alloc, Pass::Sequence, list)?;
+    let seeds = gather_seeds(alloc, start, list)?;
+    let edges = gather_edges(alloc, pass, list)?;
     first_causes(alloc, count, &seeds, &edges)
 }
 
 /// The first causes of the nodes that have to be WILD.
-pub fn wild(
+pub fn wild_causes(
     alloc: Global,
     count: u32,
     list: &[Constraint],
@@ -45,18 +48,8 @@ pub fn wild(
     first_causes(alloc, count, &seeds, &edges)
 }
 
-/// The nodes that the target of an Up flow or the source of a Down flow reaches.
-pub fn rises(alloc: Global, count: u32, list: &[Constraint]) -> Result<Vec<Option<Cause>>, NoMemory>
-    requires { AreWithin count list.now }
-    ensures { IfOk result (λ causes. Shows (RisesFrom list.now) count causes.items) }
-{
-    let seeds = gather_seeds(alloc, Start::Rise, list)?;
-    let edges = gather_edges(alloc, Pass::Rise, list)?;
-    first_causes(alloc, count, &seeds, &edges)
-}
-
 /// The first causes of the nodes that need SEQ or WILD.
-pub fn needs(
+pub fn need_causes(
     alloc: Global,
     count: u32,
     list: &[Constraint],
@@ -78,7 +71,7 @@ pub fn needs(
 }
 
 /// The first causes of the nodes that carry a type where they are in neither of the other sets.
-pub fn types(
+pub fn type_causes(
     alloc: Global,
     count: u32,
     list: &[Constraint],

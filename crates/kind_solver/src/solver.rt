@@ -11,7 +11,8 @@ ghost use Rattle.kind_solver.specs.Tables as table;
 use crate::cause::Cause;
 use crate::causes::Causes;
 use crate::constraint::Constraint;
-use crate::sets::{first_needs, needs, rises, types, wild};
+use crate::gathering::{Pass, Start};
+use crate::sets::{chain_causes, need_causes, type_causes, wild_causes};
 use crate::solved::Solved;
 use cc_base::{Kind, Kinds, NoMemory};
 use std::alloc::Global;
@@ -28,11 +29,11 @@ pub fn solve(alloc: Global, count: u32, list: &[Constraint]) -> Result<Solved, N
     ensures meets { PlainApart list.now → IfOk result (λ s. MeetsAll (kind_at s.kinds) list.now) }
     ensures least { IfOk result (λ s. HasLeastWild list.now count s.kinds) }
 {
-    let first = first_needs(alloc, count, list)?;
-    let wild = wild(alloc, count, list, &first)?;
-    let rises = rises(alloc, count, list)?;
-    let needs = needs(alloc, count, list, &first, &wild, &rises)?;
-    let types = types(alloc, count, list, &needs, &wild)?;
+    let first = chain_causes(alloc, count, list, Start::Sequence, Pass::Sequence)?;
+    let wild = wild_causes(alloc, count, list, &first)?;
+    let rises = chain_causes(alloc, count, list, Start::Rise, Pass::Rise)?;
+    let needs = need_causes(alloc, count, list, &first, &wild, &rises)?;
+    let types = type_causes(alloc, count, list, &needs, &wild)?;
     read_off(alloc, count, &wild, &needs, &types)
 }
 

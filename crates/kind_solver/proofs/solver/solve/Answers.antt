@@ -33,3 +33,12 @@ returns-clause-least c = IfOk-weaker c.read_off.result _ _
     (rw c.deref-7.ensures.value c.in_ok-wild.ensures) (rw c.deref-8.ensures.value c.in_ok-needs.ensures)
     (rw c.deref-9.ensures.value c.in_ok-types.ensures) r))
     c.read_off.ensures
+
+pub wild_causes-requires-clause-first : goal.wild_causes-requires-clause-first
+wild_causes-requires-clause-first c = rw c.deref.ensures.value c.in_ok-first.ensures
+
+pub need_causes-requires-clause-first : goal.need_causes-requires-clause-first
+need_causes-requires-clause-first c = rw c.deref-2.ensures.value c.in_ok-first.ensures
+
+pub need_causes-requires-clause-rises : goal.need_causes-requires-clause-rises
+need_causes-requires-clause-rises c = rw c.deref-4.ensures.value c.in_ok-rises.ensures

@@ -11,7 +11,7 @@ use Rattle.kind_solver.specs.Sets.{FirstNeedFrom, WildFrom, RisesFrom, NeedFrom,
 use Rattle.kind_solver.specs.Tables.{SeedsWithin, EdgesWithin, SeedsFit, Shows, across, is_outside, free_seeds}
 use Rattle.kind_solver.proofs.Gathered.{edges_within, seeds_within, seeds_fit}
 use Rattle.kind_solver.proofs.Shown.{across_within, across_fit, wild_shown, need_shown, type_shown}
-use Rattle.kind_solver.proofs.sets.types.Goals as goal
+use Rattle.kind_solver.proofs.sets.type_causes.Goals as goal
 
 pub outside-requires : goal.outside-requires
 outside-requires c =

@@ -10,25 +10,25 @@ use Rattle.kind_solver.specs.Chains.{edges, seeds, Chain}
 use Rattle.kind_solver.specs.Tables.{SeedsWithin, EdgesWithin, SeedsFit, Shows, across, is_outside, free_seeds}
 use Rattle.kind_solver.proofs.Gathered.{edges_within, seeds_within, seeds_fit}
 use Rattle.kind_solver.proofs.Shown.{across_within, across_fit, wild_shown, need_shown, type_shown}
-use Rattle.kind_solver.proofs.sets.rises.Goals as goal
+use Rattle.kind_solver.proofs.sets.chain_causes.Goals as goal
 
 pub first_causes-requires-clause-seeds_within : goal.first_causes-requires-clause-seeds_within
 first_causes-requires-clause-seeds_within c =
     subst (λ ss. SeedsWithin c.args.count ss) (sym (c.deref.ensures.value ∙ c.in_ok-seeds.ensures.found))
-    (seeds_within c.args.count start.Rise c.args.list.now c.requires)
+    (seeds_within c.args.count c.args.start c.args.list.now c.requires)
 
 pub first_causes-requires-clause-edges_within : goal.first_causes-requires-clause-edges_within
 first_causes-requires-clause-edges_within c =
     subst (λ es. EdgesWithin c.args.count es) (sym (c.deref-2.ensures.value ∙ c.in_ok-edges.ensures))
-    (edges_within c.args.count pass.Rise c.args.list.now c.requires)
+    (edges_within c.args.count c.args.pass c.args.list.now c.requires)
 
 pub first_causes-requires-clause-fit : goal.first_causes-requires-clause-fit
 first_causes-requires-clause-fit c =
     subst (λ ss. SeedsFit ss) (sym (c.deref.ensures.value ∙ c.in_ok-seeds.ensures.found))
-    (seeds_fit start.Rise c.args.list.now c.in_ok-seeds.ensures.fit)
+    (seeds_fit c.args.start c.args.list.now c.in_ok-seeds.ensures.fit)
 
 pub returns : goal.returns
 returns c =
-    let same : c.deref.result.now ≡ seeds start.Rise c.args.list.now = c.deref.ensures.value ∙ c.in_ok-seeds.ensures.found in
-    let steps : c.deref-2.result.now ≡ edges pass.Rise c.args.list.now = c.deref-2.ensures.value ∙ c.in_ok-edges.ensures in
+    let same : c.deref.result.now ≡ seeds c.args.start c.args.list.now = c.deref.ensures.value ∙ c.in_ok-seeds.ensures.found in
+    let steps : c.deref-2.result.now ≡ edges c.args.pass c.args.list.now = c.deref-2.ensures.value ∙ c.in_ok-edges.ensures in
     rw (same, steps) at c.first_causes.ensures

@@ -12,3 +12,6 @@ pub use fault::{Check, Fault, Limit, NoMemory, Rule};
 pub use kind::{Kind, Kinds};
 pub use number::{FnId, NodeId, TypeId};
 pub use place::Place;
+
+#[cfg(test)]
+mod tests;

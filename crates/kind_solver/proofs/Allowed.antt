@@ -1,4 +1,4 @@
-use Rattle.std.proofs.Common.{Bool, true, false, ◌≡◌, ◌⊎◌, refl, inl, inr, IsTrue}
+use Rattle.std.proofs.Common.{Bool, ◌≡◌, ◌⊎◌, refl, inl, inr, IsTrue}
 use Rattle.std.proofs.lemmas.Bool.{false≢true}
 use Rattle.cc_base.specs.declared.kind.Kind.{Kind}
 use Rattle.cc_base.specs.declared.kind.Kind.TheVariants.{Safe, Seq, Rtti, Wild}

@@ -1,7 +1,6 @@
-use Rattle.std.proofs.Common.{ℕ, List, Option, None, Some, ◌≡◌, ◌<◌, ◌≤◌, refl, sym, ap, subst, ◌∙◌, length, arith, inl, inr}
+use Rattle.std.proofs.Common.{ℕ, List, Option, None, Some, ◌≡◌, ◌<◌, refl, sym, ap, subst, ◌∙◌, arith}
 use Rattle.std.proofs.lemmas.Option.{same_Some}
 use Rattle.cc_base.specs.declared.kind.Kind.{Kind}
-use Rattle.cc_base.specs.declared.kind.Kind.TheVariants.{Safe, Seq, Rtti, Wild}
 use Rattle.kind_solver.specs.declared.cause.Cause.{Cause}
 use Rattle.kind_solver.specs.declared.constraint.Constraint.{Constraint}
 use Rattle.kind_solver.specs.Constraints.{AreWithin, PlainApart, MeetsAll}

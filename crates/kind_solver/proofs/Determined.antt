@@ -1,7 +1,6 @@
-use Rattle.std.proofs.Common.{ℕ, zero, suc, List, Option, None, Some, ◌≡◌, ◌⊎◌, ◌<◌, Contains, refl, sym, ap, subst, ◌∙◌, length, get_or, inl, inr}
+use Rattle.std.proofs.Common.{ℕ, zero, suc, List, Option, None, Some, ◌≡◌, ◌<◌, Contains, refl, sym, ap, subst, ◌∙◌, get_or, inl, inr}
 use Rattle.std.proofs.lemmas.List.{ext_get_or}
 use Rattle.std.proofs.lemmas.Bool.{cases_order}
-use Rattle.cc_base.specs.declared.place.Place.{Place}
 use Rattle.cc_base.specs.declared.kind.Kind.{Kind}
 use Rattle.cc_base.specs.declared.kind.Kind.TheVariants.{Safe, Seq, Rtti, Wild}
 use Rattle.kind_solver.specs.declared.cause.Cause.{Cause}
@@ -15,8 +14,8 @@ use Rattle.kind_solver.specs.declared.gathering.Start.{Start}
 use Rattle.kind_solver.specs.declared.gathering.Start.TheVariants as start
 use Rattle.kind_solver.specs.Order.{why_order, ComesBefore}
 use Rattle.kind_solver.specs.Constraints.{HaveSameMembers}
-use Rattle.kind_solver.specs.Chains.{edge, seed, edges_of, seeds_of, edges, seeds, Path, Leads, Chain}
-use Rattle.kind_solver.specs.Sets.{Holds, FirstNeedFrom, TurnsWild, WildFrom, RisesFrom, IsFree, StartsNeed, NeedFrom, StartsType, TypeFrom, ChainTo, HasKind, HasCause, kind_at, AreKinds, AreCauses}
+use Rattle.kind_solver.specs.Chains.{edge, origin, edges_of, origins_of, edges, origins, Path, Leads}
+use Rattle.kind_solver.specs.Sets.{Holds, FirstNeedFrom, TurnsWild, WildFrom, RisesFrom, IsFree, StartsNeed, NeedFrom, TypeFrom, ChainTo, HasKind, HasCause, kind_at, AreKinds, AreCauses}
 use Rattle.kind_solver.proofs.Members.{into_flat_map, from_flat_map}
 use Rattle.kind_solver.proofs.Solution.{same_kinds}
 
@@ -105,11 +104,11 @@ edges_kept l m kind e within h =
     let found = from_flat_map (edges_of kind) l e h in
     into_flat_map (edges_of kind) m found.0 e (within found.0 found.1) found.2
 
-seeds_kept : (l m : List Constraint) (kind : Start) (n : ℕ) (c : Cause) → Within l m → Contains (seeds kind l) (seed n c)
-    → Contains (seeds kind m) (seed n c)
-seeds_kept l m kind n c within h =
-    let found = from_flat_map (seeds_of kind) l (seed n c) h in
-    into_flat_map (seeds_of kind) m found.0 (seed n c) (within found.0 found.1) found.2
+origins_kept : (l m : List Constraint) (kind : Start) (n : ℕ) (c : Cause) → Within l m → Contains (origins kind l) (origin n c)
+    → Contains (origins kind m) (origin n c)
+origins_kept l m kind n c within h =
+    let found = from_flat_map (origins_of kind) l (origin n c) h in
+    into_flat_map (origins_of kind) m found.0 (origin n c) (within found.0 found.1) found.2
 
 path_kept : (l m : List Constraint) (kind : Pass) → Within l m → (k x y : ℕ) → Path (edges kind l) k x y → Path (edges kind m) k x y
 path_kept l m kind within zero x y p = p
@@ -121,16 +120,16 @@ leads_kept l m kind x y within p = (p.0, path_kept l m kind within p.0 x y p.1)
 
 first_kept : (l m : List Constraint) (c : Cause) (n : ℕ) → Within l m → FirstNeedFrom l c n → FirstNeedFrom m c n
 first_kept l m c n within h =
-    (h.0, seeds_kept l m start.Sequence h.0 c within h.1, leads_kept l m pass.Sequence h.0 n within h.2)
+    (h.0, origins_kept l m start.Sequence h.0 c within h.1, leads_kept l m pass.Sequence h.0 n within h.2)
 
 rises_kept : (l m : List Constraint) (c : Cause) (n : ℕ) → Within l m → RisesFrom l c n → RisesFrom m c n
 rises_kept l m c n within h =
-    (h.0, seeds_kept l m start.Rise h.0 c within h.1, leads_kept l m pass.Rise h.0 n within h.2)
+    (h.0, origins_kept l m start.Rise h.0 c within h.1, leads_kept l m pass.Rise h.0 n within h.2)
 
 turns_kept : (l m : List Constraint) (c : Cause) (n : ℕ) → Within l m → TurnsWild l c n → TurnsWild m c n
 turns_kept l m c n within h =
     elim h [
-      | inl forced ↦ inl (seeds_kept l m start.Wild n c within forced)
+      | inl forced ↦ inl (origins_kept l m start.Wild n c within forced)
       | inr turned ↦
           inr (turned.0, first_kept l m c turned.0 within turned.1, edges_kept l m pass.Turn (edge turned.0 n) within turned.2)
     ]
@@ -152,8 +151,8 @@ module _ (l m : List Constraint) (within : Within l m) (back : Within m l) where
   start_need_kept : (c : Cause) (n : ℕ) → StartsNeed l c n → StartsNeed m c n
   start_need_kept c n h =
       elim h [
-        | inl need ↦ inl (seeds_kept l m start.Sequence n c within need)
-        | inr loose ↦ inr (seeds_kept l m start.Loose n c within loose.0, free_kept n loose.1)
+        | inl need ↦ inl (origins_kept l m start.Sequence n c within need)
+        | inr loose ↦ inr (origins_kept l m start.Loose n c within loose.0, free_kept n loose.1)
       ]
 
   need_kept : (c : Cause) (n : ℕ) → NeedFrom l c n → NeedFrom m c n
@@ -164,7 +163,7 @@ module _ (l m : List Constraint) (within : Within l m) (back : Within m l) where
   type_kept c n h = (
     h.0,
     (
-      seeds_kept l m start.Type h.0 c within h.1.0,
+      origins_kept l m start.Type h.0 c within h.1.0,
       none_kept (NeedFrom l) (NeedFrom m) h.0 (λ d g. need_kept m l back within d h.0 g) h.1.1,
       none_kept (WildFrom l) (WildFrom m) h.0 (λ d g. wild_kept m l d h.0 back g) h.1.2,
     ),

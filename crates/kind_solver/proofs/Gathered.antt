@@ -1,4 +1,4 @@
-use Rattle.std.proofs.Common.{ℕ, Bool, true, false, cond, List, [], ◌∷◌, ◌≡◌, ◌<◌, All}
+use Rattle.std.proofs.Common.{ℕ, Bool, true, false, cond, List, [], ◌<◌, All}
 use Rattle.std.specs.List.{AllByRecursion}
 use Rattle.std.proofs.lemmas.List.Elements.{All-from_recursion}
 use Rattle.cc_base.specs.declared.number.NodeId.{NodeId}
@@ -9,15 +9,15 @@ use Rattle.phys_types.specs.declared.flow_class.FlowClass.TheVariants as class
 use Rattle.kind_solver.specs.declared.constraint.Constraint.{Constraint}
 use Rattle.kind_solver.specs.declared.constraint.Constraint.TheVariants.{Flow, Needs, Equal, Inside, Linked, Force, Plain}
 use Rattle.kind_solver.specs.declared.gathering.Edge.{Edge}
-use Rattle.kind_solver.specs.declared.gathering.Seed.{Seed}
+use Rattle.kind_solver.specs.declared.gathering.Origin.{Origin}
 use Rattle.kind_solver.specs.declared.gathering.Pass.{Pass}
 use Rattle.kind_solver.specs.declared.gathering.Pass.TheVariants as pass
 use Rattle.kind_solver.specs.declared.gathering.Start.{Start}
 use Rattle.kind_solver.specs.declared.gathering.Start.TheVariants as start
 use Rattle.kind_solver.specs.Constraints.{allows, IsWithin, AreWithin}
 use Rattle.kind_solver.specs.Order.{PlaceFits, Fits}
-use Rattle.kind_solver.specs.Chains.{step, turns, carries, edges_of, flow_seeds, seeds_of, edges, seeds}
-use Rattle.kind_solver.specs.Tables.{EdgesWithin, SeedsWithin, SeedsFit, HasFitPlace}
+use Rattle.kind_solver.specs.Chains.{step, turns, edges_of, flow_origins, origins_of, edges, origins}
+use Rattle.kind_solver.specs.Tables.{EdgesWithin, OriginsWithin, OriginsFit, HasFitPlace}
 use Rattle.kind_solver.proofs.Members.{All-flat_map}
 
 -- The nodes of the steps and beginnings are those of the constraints, and so are their places.
@@ -25,10 +25,10 @@ use Rattle.kind_solver.proofs.Members.{All-flat_map}
 abbrev EndsWithin : ℕ → Edge → Type 0
 EndsWithin n e = (e.from.0 < n) × (e.to.0 < n)
 
-abbrev NodeWithin : ℕ → Seed → Type 0
+abbrev NodeWithin : ℕ → Origin → Type 0
 NodeWithin n s = s.node.0 < n
 
-abbrev CauseFits : Seed → Type 0
+abbrev CauseFits : Origin → Type 0
 CauseFits s = Fits s.cause
 
 turns_within : (n : ℕ) (from to : NodeId) (k : FlowClass) → from.0 < n → to.0 < n → AllByRecursion (EndsWithin n) (turns from to k)
@@ -68,54 +68,54 @@ edges_within n kind list h =
     All-flat_map (IsWithin n) (EndsWithin n) (edges_of kind)
     (λ c within. All-from_recursion (EndsWithin n) (edges_of kind c) (edges_of_within n kind c within)) list h
 
-flow_seeds_within : (n : ℕ) (kind : Start) (from to : NodeId) (k : FlowClass) (place : Place) → from.0 < n → to.0 < n
-    → AllByRecursion (NodeWithin n) (flow_seeds kind from to k place)
-flow_seeds_within n start.Sequence from to class.Tile place f t = (f, tt)
-flow_seeds_within n start.Sequence from to _ place f t = tt
-flow_seeds_within n start.Wild from to class.Bad place f t = (f, (t, tt))
-flow_seeds_within n start.Wild from to _ place f t = tt
-flow_seeds_within n start.Rise from to class.Up place f t = (t, tt)
-flow_seeds_within n start.Rise from to class.Down place f t = (f, tt)
-flow_seeds_within n start.Rise from to _ place f t = tt
-flow_seeds_within n start.Loose from to class.DownTile place f t = (f, tt)
-flow_seeds_within n start.Loose from to _ place f t = tt
-flow_seeds_within n start.Type from to class.Down place f t = (f, tt)
-flow_seeds_within n start.Type from to class.DownTile place f t = (f, tt)
-flow_seeds_within n start.Type from to _ place f t = tt
+flow_origins_within : (n : ℕ) (kind : Start) (from to : NodeId) (k : FlowClass) (place : Place) → from.0 < n → to.0 < n
+    → AllByRecursion (NodeWithin n) (flow_origins kind from to k place)
+flow_origins_within n start.Sequence from to class.Tile place f t = (f, tt)
+flow_origins_within n start.Sequence from to _ place f t = tt
+flow_origins_within n start.Wild from to class.Bad place f t = (f, (t, tt))
+flow_origins_within n start.Wild from to _ place f t = tt
+flow_origins_within n start.Rise from to class.Up place f t = (t, tt)
+flow_origins_within n start.Rise from to class.Down place f t = (f, tt)
+flow_origins_within n start.Rise from to _ place f t = tt
+flow_origins_within n start.Loose from to class.DownTile place f t = (f, tt)
+flow_origins_within n start.Loose from to _ place f t = tt
+flow_origins_within n start.Type from to class.Down place f t = (f, tt)
+flow_origins_within n start.Type from to class.DownTile place f t = (f, tt)
+flow_origins_within n start.Type from to _ place f t = tt
 
-seeds_of_within : (n : ℕ) (kind : Start) (c : Constraint) → IsWithin n c → AllByRecursion (NodeWithin n) (seeds_of kind c)
-seeds_of_within n kind (Flow from to k below place) h = flow_seeds_within n kind from to k place h.0 h.1
-seeds_of_within n start.Sequence (Needs node why place) h = (h, tt)
-seeds_of_within n start.Wild (Force node why place) h = (h, tt)
-seeds_of_within n _ _ h = tt
+origins_of_within : (n : ℕ) (kind : Start) (c : Constraint) → IsWithin n c → AllByRecursion (NodeWithin n) (origins_of kind c)
+origins_of_within n kind (Flow from to k below place) h = flow_origins_within n kind from to k place h.0 h.1
+origins_of_within n start.Sequence (Needs node why place) h = (h, tt)
+origins_of_within n start.Wild (Force node why place) h = (h, tt)
+origins_of_within n _ _ h = tt
 
-pub seeds_within : (n : ℕ) (kind : Start) (list : List Constraint) → AreWithin n list → SeedsWithin n (seeds kind list)
-seeds_within n kind list h =
-    All-flat_map (IsWithin n) (NodeWithin n) (seeds_of kind)
-    (λ c within. All-from_recursion (NodeWithin n) (seeds_of kind c) (seeds_of_within n kind c within)) list h
+pub origins_within : (n : ℕ) (kind : Start) (list : List Constraint) → AreWithin n list → OriginsWithin n (origins kind list)
+origins_within n kind list h =
+    All-flat_map (IsWithin n) (NodeWithin n) (origins_of kind)
+    (λ c within. All-from_recursion (NodeWithin n) (origins_of kind c) (origins_of_within n kind c within)) list h
 
-flow_seeds_fit : (kind : Start) (from to : NodeId) (k : FlowClass) (place : Place) → PlaceFits place
-    → AllByRecursion CauseFits (flow_seeds kind from to k place)
-flow_seeds_fit start.Sequence from to class.Tile place f = (f, tt)
-flow_seeds_fit start.Sequence from to _ place f = tt
-flow_seeds_fit start.Wild from to class.Bad place f = (f, (f, tt))
-flow_seeds_fit start.Wild from to _ place f = tt
-flow_seeds_fit start.Rise from to class.Up place f = (f, tt)
-flow_seeds_fit start.Rise from to class.Down place f = (f, tt)
-flow_seeds_fit start.Rise from to _ place f = tt
-flow_seeds_fit start.Loose from to class.DownTile place f = (f, tt)
-flow_seeds_fit start.Loose from to _ place f = tt
-flow_seeds_fit start.Type from to class.Down place f = (f, tt)
-flow_seeds_fit start.Type from to class.DownTile place f = (f, tt)
-flow_seeds_fit start.Type from to _ place f = tt
+flow_origins_fit : (kind : Start) (from to : NodeId) (k : FlowClass) (place : Place) → PlaceFits place
+    → AllByRecursion CauseFits (flow_origins kind from to k place)
+flow_origins_fit start.Sequence from to class.Tile place f = (f, tt)
+flow_origins_fit start.Sequence from to _ place f = tt
+flow_origins_fit start.Wild from to class.Bad place f = (f, (f, tt))
+flow_origins_fit start.Wild from to _ place f = tt
+flow_origins_fit start.Rise from to class.Up place f = (f, tt)
+flow_origins_fit start.Rise from to class.Down place f = (f, tt)
+flow_origins_fit start.Rise from to _ place f = tt
+flow_origins_fit start.Loose from to class.DownTile place f = (f, tt)
+flow_origins_fit start.Loose from to _ place f = tt
+flow_origins_fit start.Type from to class.Down place f = (f, tt)
+flow_origins_fit start.Type from to class.DownTile place f = (f, tt)
+flow_origins_fit start.Type from to _ place f = tt
 
-seeds_of_fit : (kind : Start) (c : Constraint) → HasFitPlace c → AllByRecursion CauseFits (seeds_of kind c)
-seeds_of_fit kind (Flow from to k below place) h = flow_seeds_fit kind from to k place h
-seeds_of_fit start.Sequence (Needs node why place) h = (h, tt)
-seeds_of_fit start.Wild (Force node why place) h = (h, tt)
-seeds_of_fit _ _ h = tt
+origins_of_fit : (kind : Start) (c : Constraint) → HasFitPlace c → AllByRecursion CauseFits (origins_of kind c)
+origins_of_fit kind (Flow from to k below place) h = flow_origins_fit kind from to k place h
+origins_of_fit start.Sequence (Needs node why place) h = (h, tt)
+origins_of_fit start.Wild (Force node why place) h = (h, tt)
+origins_of_fit _ _ h = tt
 
-pub seeds_fit : (kind : Start) (list : List Constraint) → All HasFitPlace list → SeedsFit (seeds kind list)
-seeds_fit kind list h =
-    All-flat_map HasFitPlace CauseFits (seeds_of kind)
-    (λ c fit. All-from_recursion CauseFits (seeds_of kind c) (seeds_of_fit kind c fit)) list h
+pub origins_fit : (kind : Start) (list : List Constraint) → All HasFitPlace list → OriginsFit (origins kind list)
+origins_fit kind list h =
+    All-flat_map HasFitPlace CauseFits (origins_of kind)
+    (λ c fit. All-from_recursion CauseFits (origins_of kind c) (origins_of_fit kind c fit)) list h

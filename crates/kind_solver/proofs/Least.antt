@@ -1,31 +1,30 @@
-use Rattle.std.proofs.Common.{ℕ, Bool, true, false, List, ◌≡◌, ◌⊎◌, Contains, refl, sym, subst, ◌∙◌, inl, inr, IsTrue}
+use Rattle.std.proofs.Common.{ℕ, Bool, List, ◌≡◌, sym, subst, ◌∙◌, inl, inr, IsTrue}
 use Rattle.std.specs.List.{AllByRecursion}
 use Rattle.cc_base.specs.declared.number.NodeId.{NodeId}
-use Rattle.cc_base.specs.declared.place.Place.{Place}
 use Rattle.cc_base.specs.declared.kind.Kind.{Kind}
-use Rattle.cc_base.specs.declared.kind.Kind.TheVariants.{Safe, Seq, Rtti, Wild}
+use Rattle.cc_base.specs.declared.kind.Kind.TheVariants.{Wild}
 use Rattle.phys_types.specs.declared.flow_class.FlowClass.{FlowClass}
 use Rattle.phys_types.specs.declared.flow_class.FlowClass.TheVariants as class
 use Rattle.kind_solver.specs.declared.cause.Cause.{Cause}
 use Rattle.kind_solver.specs.declared.constraint.Constraint.{Constraint}
 use Rattle.kind_solver.specs.declared.constraint.Constraint.TheVariants.{Flow, Needs, Equal, Inside, Linked, Force, Plain}
 use Rattle.kind_solver.specs.declared.gathering.Edge.{Edge}
-use Rattle.kind_solver.specs.declared.gathering.Seed.{Seed}
+use Rattle.kind_solver.specs.declared.gathering.Origin.{Origin}
 use Rattle.kind_solver.specs.declared.gathering.Pass.TheVariants as pass
 use Rattle.kind_solver.specs.declared.gathering.Start.TheVariants as start
 use Rattle.kind_solver.specs.Constraints.{allows, Meets, MeetsAll}
-use Rattle.kind_solver.specs.Chains.{edges_of, seeds_of, turns, flow_seeds, edges, seeds}
+use Rattle.kind_solver.specs.Chains.{edges_of, origins_of, turns, edges}
 use Rattle.kind_solver.specs.Sets.{FirstNeedFrom, TurnsWild, WildFrom}
 use Rattle.kind_solver.proofs.Paths.{along_Leads}
 use Rattle.kind_solver.proofs.Allowed.{MayMove, move_back, wild_on, wild_back, bad_wild, up_into, down_into, down_out, tile_out, plain_moves}
-use Rattle.kind_solver.proofs.Closed.{each_edge, each_seed}
+use Rattle.kind_solver.proofs.Closed.{each_edge, each_origin}
 
 -- A map that meets the list makes the nodes WILD that have to be WILD.
 
-move_seeds : (k : ℕ → Kind) (c : Constraint) → Meets k c → AllByRecursion (λ (s : Seed). MayMove (k s.node.0)) (seeds_of start.Sequence c)
-move_seeds k (Needs node why place) h = (h, tt)
-move_seeds k (Flow from to class.Tile below place) h = (tile_out (k from.0) (k to.0) below h, tt)
-move_seeds k _ h = tt
+move_origins : (k : ℕ → Kind) (c : Constraint) → Meets k c → AllByRecursion (λ (s : Origin). MayMove (k s.node.0)) (origins_of start.Sequence c)
+move_origins k (Needs node why place) h = (h, tt)
+move_origins k (Flow from to class.Tile below place) h = (tile_out (k from.0) (k to.0) below h, tt)
+move_origins k _ h = tt
 
 move_edges : (k : ℕ → Kind) (c : Constraint) → Meets k c
     → AllByRecursion (λ (e : Edge). MayMove (k e.from.0) → MayMove (k e.to.0)) (edges_of pass.Sequence c)
@@ -56,11 +55,11 @@ turn_edges k (Flow from to class below place) h = turn_flow k from to class belo
 turn_edges k (Plain node) h = (plain_moves (k node.0) h, tt)
 turn_edges k _ h = tt
 
-wild_seeds : (k : ℕ → Kind) (c : Constraint) → Meets k c → AllByRecursion (λ (s : Seed). k s.node.0 ≡ Wild) (seeds_of start.Wild c)
-wild_seeds k (Force node why place) h = (h, tt)
-wild_seeds k (Flow from to class.Bad below place) h =
+wild_origins : (k : ℕ → Kind) (c : Constraint) → Meets k c → AllByRecursion (λ (s : Origin). k s.node.0 ≡ Wild) (origins_of start.Wild c)
+wild_origins k (Force node why place) h = (h, tt)
+wild_origins k (Flow from to class.Bad below place) h =
     let both = bad_wild (k from.0) (k to.0) below h in (both.0, (both.1, tt))
-wild_seeds k _ h = tt
+wild_origins k _ h = tt
 
 wild_edges : (k : ℕ → Kind) (c : Constraint) → Meets k c
     → AllByRecursion (λ (e : Edge). k e.from.0 ≡ Wild → k e.to.0 ≡ Wild) (edges_of pass.Wild c)
@@ -77,12 +76,12 @@ module _ (k : ℕ → Kind) (list : List Constraint) (meets : MeetsAll k list) w
       along_Leads (edges pass.Sequence list) (λ m. MayMove (k m))
       (each_edge (λ x y. MayMove (k x) → MayMove (k y)) pass.Sequence list (λ d within. move_edges k d (meets d within)))
       h.0 n h.2
-      (each_seed (λ m. MayMove (k m)) start.Sequence list (λ d within. move_seeds k d (meets d within)) h.0 c h.1)
+      (each_origin (λ m. MayMove (k m)) start.Sequence list (λ d within. move_origins k d (meets d within)) h.0 c h.1)
 
   turns_wild : (n : ℕ) (c : Cause) → TurnsWild list c n → k n ≡ Wild
   turns_wild n c h =
       elim h [
-        | inl forced ↦ each_seed (λ m. k m ≡ Wild) start.Wild list (λ d within. wild_seeds k d (meets d within)) n c forced
+        | inl forced ↦ each_origin (λ m. k m ≡ Wild) start.Wild list (λ d within. wild_origins k d (meets d within)) n c forced
         | inr turned ↦
             each_edge (λ x y. MayMove (k x) → k y ≡ Wild) pass.Turn list (λ d within. turn_edges k d (meets d within)) turned.0 n
             turned.2 (first_moves turned.0 c turned.1)

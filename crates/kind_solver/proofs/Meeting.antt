@@ -5,7 +5,7 @@ use Rattle.cc_base.specs.declared.kind.Kind.TheVariants.{Safe, Seq, Rtti, Wild}
 use Rattle.kind_solver.specs.declared.constraint.Constraint.{Constraint}
 use Rattle.kind_solver.specs.declared.constraint.Constraint.TheVariants.{Flow, Needs, Equal, Inside, Linked, Force, Plain}
 use Rattle.kind_solver.specs.Constraints.{Meets, MeetsAll, IsWithin, AreWithin, PlainApart}
-use Rattle.kind_solver.specs.Chains.{edge, seed}
+use Rattle.kind_solver.specs.Chains.{edge, origin}
 use Rattle.kind_solver.specs.Sets.{NeedsSequence, MustBeWild, MustCarryType, HasKind}
 use Rattle.kind_solver.proofs.Members.{Contains-head, Contains-tail}
 use Rattle.kind_solver.proofs.Allowed.{MayMove}
@@ -46,7 +46,7 @@ meets_one list count k has apart (Flow from to class below place) within nodes =
 meets_one list count k has apart (Needs node why place) within nodes =
     may_move list node.0 (k node.0) (has node.0 nodes)
     (need_start list (Needs node why place) node.0 (record { site = place; why = why }) within
-    (Contains-head (seed node.0 (record { site = place; why = why })) []))
+    (Contains-head (origin node.0 (record { site = place; why = why })) []))
 meets_one list count k has apart (Equal a b) within nodes =
     same_kinds list a.0 b.0 (k a.0) (k b.0) (equal_sets list a b within) (has a.0 nodes.0) (has b.0 nodes.1)
 meets_one list count k has apart (Inside outer inner) within nodes = λ e.
@@ -65,7 +65,7 @@ meets_one list count k has apart (Linked a b) within nodes = (
 meets_one list count k has apart (Force node why place) within nodes =
     is_wild list node.0 (k node.0) (has node.0 nodes)
     (wild_start list (Force node why place) node.0 (record { site = place; why = why }) within
-    (Contains-head (seed node.0 (record { site = place; why = why })) []))
+    (Contains-head (origin node.0 (record { site = place; why = why })) []))
 meets_one list count k has apart (Plain node) within nodes =
     plain_kind list node.0 (k node.0) (has node.0 nodes) (plain_needs list apart node.0 within) (plain_types list apart node.0 within)
 

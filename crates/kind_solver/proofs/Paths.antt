@@ -1,4 +1,4 @@
-use Rattle.std.proofs.Common.{ℕ, zero, suc, List, ◌≡◌, refl, subst, Contains}
+use Rattle.std.proofs.Common.{ℕ, zero, suc, List, refl, subst, Contains}
 use Rattle.kind_solver.specs.declared.gathering.Edge.{Edge}
 use Rattle.kind_solver.specs.Chains.{edge, Path, Leads}
 

@@ -1,4 +1,4 @@
-use Rattle.std.proofs.Common.{ℕ, Option, None, Some, ◌≡◌, ◌<◌, ◌≤◌, ◌^◌, refl, arith, inl, inr}
+use Rattle.std.proofs.Common.{Option, None, Some, ◌≡◌, ◌<◌, ◌≤◌, ◌^◌, refl, arith, inl, inr}
 use Rattle.kind_solver.specs.declared.constraint.Why.{Why}
 use Rattle.kind_solver.specs.declared.constraint.Why.TheVariants.{Arith, Integer, Down, Tile, Bad, Union}
 use Rattle.kind_solver.specs.declared.cause.Cause.{Cause}

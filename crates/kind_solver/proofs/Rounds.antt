@@ -1,4 +1,4 @@
-use Rattle.std.proofs.Common.{ℕ, suc, Bool, true, false, List, [], ◌∷◌, ◌++◌, Option, None, Some, ◌≡◌, ◌≢◌, ◌<◌, ◌≤◌, ◌||◌, refl, sym, ap, subst, ◌∙◌, Contains, length, take, ◌+◌, MatchBool, sum_by, arith, get_or, set, get_or-set_same, get_or-set_other, inl, inr}
+use Rattle.std.proofs.Common.{ℕ, Bool, true, false, List, [], ◌∷◌, ◌++◌, None, ◌≡◌, ◌<◌, ◌≤◌, ◌||◌, refl, sym, ap, subst, ◌∙◌, Contains, length, take, ◌+◌, MatchBool, sum_by, arith, get_or, set, get_or-set_same, get_or-set_other, inl, inr}
 use Rattle.std.proofs.lemmas.List.{length-set, take_more}
 use Rattle.std.proofs.lemmas.List.Sums.{sum_by-set}
 use Rattle.std.proofs.lemmas.List.Elements.{Contains-push_cases, Contains-get_or}

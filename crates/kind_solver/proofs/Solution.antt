@@ -1,6 +1,5 @@
-use Rattle.std.proofs.Common.{ℕ, zero, suc, Bool, true, false, cond, List, [], ◌∷◌, ◌≡◌, ◌⊎◌, ◌<◌, Contains, refl, sym, subst, inl, inr, IsTrue}
+use Rattle.std.proofs.Common.{ℕ, zero, suc, Bool, true, false, cond, List, [], ◌∷◌, ◌≡◌, ◌⊎◌, Contains, refl, subst, inl, inr, IsTrue}
 use Rattle.std.specs.List.{AllByRecursion}
-use Rattle.std.proofs.lemmas.List.Elements.{All-contains}
 use Rattle.std.proofs.lemmas.Bool.{cases_Bool, false≢true}
 use Rattle.cc_base.specs.declared.number.NodeId.{NodeId}
 use Rattle.cc_base.specs.declared.place.Place.{Place}
@@ -11,19 +10,19 @@ use Rattle.phys_types.specs.declared.flow_class.FlowClass.TheVariants as class
 use Rattle.kind_solver.specs.declared.cause.Cause.{Cause}
 use Rattle.kind_solver.specs.declared.constraint.Why.TheVariants as why
 use Rattle.kind_solver.specs.declared.constraint.Constraint.{Constraint}
-use Rattle.kind_solver.specs.declared.constraint.Constraint.TheVariants.{Flow, Needs, Equal, Inside, Linked, Force, Plain}
+use Rattle.kind_solver.specs.declared.constraint.Constraint.TheVariants.{Flow, Equal, Plain}
 use Rattle.kind_solver.specs.declared.gathering.Edge.{Edge}
-use Rattle.kind_solver.specs.declared.gathering.Seed.{Seed}
+use Rattle.kind_solver.specs.declared.gathering.Origin.{Origin}
 use Rattle.kind_solver.specs.declared.gathering.Pass.{Pass}
 use Rattle.kind_solver.specs.declared.gathering.Pass.TheVariants as pass
 use Rattle.kind_solver.specs.declared.gathering.Start.{Start}
 use Rattle.kind_solver.specs.declared.gathering.Start.TheVariants as start
 use Rattle.kind_solver.specs.Constraints.{allows, is_downward, IsPlain, KeepsPlain, PlainApart}
-use Rattle.kind_solver.specs.Chains.{edge, seed, step, both_ways, edges_of, seeds_of, flow_seeds, edges, seeds, Path, Leads}
-use Rattle.kind_solver.specs.Sets.{Holds, FirstNeedFrom, WildFrom, RisesFrom, StartsNeed, NeedFrom, TypeFrom, NeedsSequence, MustBeWild, MustCarryType, HasKind}
+use Rattle.kind_solver.specs.Chains.{edge, origin, step, both_ways, edges_of, origins_of, edges, origins, Path, Leads}
+use Rattle.kind_solver.specs.Sets.{FirstNeedFrom, NeedFrom, NeedsSequence, MustBeWild, MustCarryType, HasKind}
 use Rattle.kind_solver.proofs.Paths.{Leads-here, Leads-step, Leads-Leads, along_Leads}
 use Rattle.kind_solver.proofs.Members.{Contains-head, Contains-tail, into_flat_map}
-use Rattle.kind_solver.proofs.Closed.{each_edge, each_seed}
+use Rattle.kind_solver.proofs.Closed.{each_edge, each_origin}
 
 -- The three sets are closed under what each constraint says.
 
@@ -31,9 +30,9 @@ in_edges : (list : List Constraint) (kind : Pass) (c : Constraint) (x y : ℕ) �
     → Contains (edges_of kind c) (edge x y) → Contains (edges kind list) (edge x y)
 in_edges list kind c x y within h = into_flat_map (edges_of kind) list c (edge x y) within h
 
-in_seeds : (list : List Constraint) (kind : Start) (c : Constraint) (n : ℕ) (cause : Cause) → Contains list c
-    → Contains (seeds_of kind c) (seed n cause) → Contains (seeds kind list) (seed n cause)
-in_seeds list kind c n cause within h = into_flat_map (seeds_of kind) list c (seed n cause) within h
+in_origins : (list : List Constraint) (kind : Start) (c : Constraint) (n : ℕ) (cause : Cause) → Contains list c
+    → Contains (origins_of kind c) (origin n cause) → Contains (origins kind list) (origin n cause)
+in_origins list kind c n cause within h = into_flat_map (origins_of kind) list c (origin n cause) within h
 
 pub wild_step : (list : List Constraint) (c : Constraint) (x y : ℕ) → Contains list c
     → Contains (edges_of pass.Wild c) (edge x y) → MustBeWild list x → MustBeWild list y
@@ -51,19 +50,19 @@ type_step list c x y within e h =
     (h.0, (h.1.0, h.1.1, Leads-step (edges pass.Type list) h.1.0 x y h.1.2 (in_edges list pass.Type c x y within e)))
 
 pub need_start : (list : List Constraint) (c : Constraint) (n : ℕ) (cause : Cause) → Contains list c
-    → Contains (seeds_of start.Sequence c) (seed n cause) → NeedsSequence list n
+    → Contains (origins_of start.Sequence c) (origin n cause) → NeedsSequence list n
 need_start list c n cause within h =
-    (cause, (n, inl (in_seeds list start.Sequence c n cause within h), Leads-here (edges pass.Sequence list) n))
+    (cause, (n, inl (in_origins list start.Sequence c n cause within h), Leads-here (edges pass.Sequence list) n))
 
 pub wild_start : (list : List Constraint) (c : Constraint) (n : ℕ) (cause : Cause) → Contains list c
-    → Contains (seeds_of start.Wild c) (seed n cause) → MustBeWild list n
+    → Contains (origins_of start.Wild c) (origin n cause) → MustBeWild list n
 wild_start list c n cause within h =
-    (cause, (n, inl (in_seeds list start.Wild c n cause within h), Leads-here (edges pass.Wild list) n))
+    (cause, (n, inl (in_origins list start.Wild c n cause within h), Leads-here (edges pass.Wild list) n))
 
 type_start : (list : List Constraint) (c : Constraint) (n : ℕ) (cause : Cause) → Contains list c
-    → Contains (seeds_of start.Type c) (seed n cause) → ¬ (NeedsSequence list n) → ¬ (MustBeWild list n) → MustCarryType list n
+    → Contains (origins_of start.Type c) (origin n cause) → ¬ (NeedsSequence list n) → ¬ (MustBeWild list n) → MustCarryType list n
 type_start list c n cause within h no_need no_wild =
-    (cause, (n, (in_seeds list start.Type c n cause within h, no_need, no_wild), Leads-here (edges pass.Type list) n))
+    (cause, (n, (in_origins list start.Type c n cause within h, no_need, no_wild), Leads-here (edges pass.Type list) n))
 
 turn : (list : List Constraint) (c : Constraint) (x y : ℕ) (cause : Cause) → Contains list c
     → Contains (edges_of pass.Turn c) (edge x y) → FirstNeedFrom list cause x → MustBeWild list y
@@ -93,7 +92,7 @@ path_back list (suc k) x y p =
 
 -- At the target of an Up flow or the source of a Down flow, and at what it reaches, no free source
 -- adds to the needs.
-rising_first : (list : List Constraint) (m n : ℕ) (rise need : Cause) → Contains (seeds start.Rise list) (seed m rise)
+rising_first : (list : List Constraint) (m n : ℕ) (rise need : Cause) → Contains (origins start.Rise list) (origin m rise)
     → Leads (edges pass.Rise list) m n → NeedFrom list need n → FirstNeedFrom list need n
 rising_first list m n rise need begins leads h =
     elim h.1 [
@@ -108,15 +107,15 @@ module _ (list : List Constraint) (from to : NodeId) (below : Bool) (place : Pla
       turn list (Flow from to class.Up below place) to.0 from.0 h.0 within
       (Contains-head (edge to.0 from.0) (edge to.0 to.0 ∷ []))
       (rising_first list to.0 to.0 (record { site = place; why = why.Down }) h.0
-      (in_seeds list start.Rise (Flow from to class.Up below place) to.0 (record { site = place; why = why.Down }) within
-      (Contains-head (seed to.0 (record { site = place; why = why.Down })) []))
+      (in_origins list start.Rise (Flow from to class.Up below place) to.0 (record { site = place; why = why.Down }) within
+      (Contains-head (origin to.0 (record { site = place; why = why.Down })) []))
       (Leads-here (edges pass.Rise list) to.0) h.1)
 
   down_rises : Contains list (Flow from to class.Down below place)
-      → Contains (seeds start.Rise list) (seed from.0 (record { site = place; why = why.Down }))
+      → Contains (origins start.Rise list) (origin from.0 (record { site = place; why = why.Down }))
   down_rises within =
-      in_seeds list start.Rise (Flow from to class.Down below place) from.0 (record { site = place; why = why.Down }) within
-      (Contains-head (seed from.0 (record { site = place; why = why.Down })) [])
+      in_origins list start.Rise (Flow from to class.Down below place) from.0 (record { site = place; why = why.Down }) within
+      (Contains-head (origin from.0 (record { site = place; why = why.Down })) [])
 
   down_in_wild : Contains list (Flow from to class.Down below place) → NeedsSequence list to.0 → MustBeWild list from.0
   down_in_wild within h =
@@ -139,21 +138,21 @@ module _ (list : List Constraint) (from to : NodeId) (below : Bool) (place : Pla
   bad_starts : Contains list (Flow from to class.Bad below place) → MustBeWild list from.0
   bad_starts within =
       wild_start list (Flow from to class.Bad below place) from.0 (record { site = place; why = why.Bad }) within
-      (Contains-head (seed from.0 (record { site = place; why = why.Bad })) (seed to.0 (record { site = place; why = why.Bad }) ∷ []))
+      (Contains-head (origin from.0 (record { site = place; why = why.Bad })) (origin to.0 (record { site = place; why = why.Bad }) ∷ []))
 
   tile_starts : Contains list (Flow from to class.Tile below place) → NeedsSequence list from.0
   tile_starts within =
       need_start list (Flow from to class.Tile below place) from.0 (record { site = place; why = why.Tile }) within
-      (Contains-head (seed from.0 (record { site = place; why = why.Tile })) [])
+      (Contains-head (origin from.0 (record { site = place; why = why.Tile })) [])
 
   down_starts : (k : FlowClass) → is_downward k ≡ true → Contains list (Flow from to k below place)
       → ¬ (MustBeWild list from.0) → ¬ (NeedsSequence list from.0) → MustCarryType list from.0
   down_starts class.Down e within no_wild no_need =
       type_start list (Flow from to class.Down below place) from.0 (record { site = place; why = why.Down }) within
-      (Contains-head (seed from.0 (record { site = place; why = why.Down })) []) no_need no_wild
+      (Contains-head (origin from.0 (record { site = place; why = why.Down })) []) no_need no_wild
   down_starts class.DownTile e within no_wild no_need =
       type_start list (Flow from to class.DownTile below place) from.0 (record { site = place; why = why.Tile }) within
-      (Contains-head (seed from.0 (record { site = place; why = why.Tile })) []) no_need no_wild
+      (Contains-head (origin from.0 (record { site = place; why = why.Tile })) []) no_need no_wild
   down_starts class.Equal e within no_wild no_need = absurd (false≢true e)
   down_starts class.UpTile e within no_wild no_need = absurd (false≢true e)
   down_starts class.Up e within no_wild no_need = absurd (false≢true e)
@@ -368,12 +367,12 @@ apart_types list (Equal a b) within keeps = apart_equal list a b within keeps
 apart_types list _ within keeps = tt
 
 apart_loose : (list : List Constraint) (c : Constraint) → KeepsPlain list c
-    → AllByRecursion (λ (s : Seed). ¬ (IsPlain list s.node.0)) (seeds_of start.Loose c)
+    → AllByRecursion (λ (s : Origin). ¬ (IsPlain list s.node.0)) (origins_of start.Loose c)
 apart_loose list (Flow from to class.DownTile below place) keeps = (keeps.0, tt)
 apart_loose list _ keeps = tt
 
 apart_sources : (list : List Constraint) (c : Constraint) → KeepsPlain list c
-    → AllByRecursion (λ (s : Seed). ¬ (IsPlain list s.node.0)) (seeds_of start.Type c)
+    → AllByRecursion (λ (s : Origin). ¬ (IsPlain list s.node.0)) (origins_of start.Type c)
 apart_sources list (Flow from to class.Down below place) keeps = (keeps.0, tt)
 apart_sources list (Flow from to class.DownTile below place) keeps = (keeps.0, tt)
 apart_sources list _ keeps = tt
@@ -391,7 +390,7 @@ plain_needs list apart n plain h =
           (along_Leads (edges pass.Sequence list) (StandsApart list)
           (each_edge (λ x y. StandsApart list x → StandsApart list y) pass.Sequence list (λ c within. apart_needs list c within (apart c within)))
           h.1.0 n h.1.2
-          (inr (each_seed (λ m. ¬ (IsPlain list m)) start.Loose list (λ c within. apart_loose list c (apart c within)) h.1.0 h.0 loose.0)))
+          (inr (each_origin (λ m. ¬ (IsPlain list m)) start.Loose list (λ c within. apart_loose list c (apart c within)) h.1.0 h.0 loose.0)))
     ]
 
 pub plain_types : (list : List Constraint) → PlainApart list → (n : ℕ) → IsPlain list n → MustCarryType list n → MustBeWild list n
@@ -400,4 +399,4 @@ plain_types list apart n plain h =
     (along_Leads (edges pass.Type list) (StandsApart list)
     (each_edge (λ x y. StandsApart list x → StandsApart list y) pass.Type list (λ c within. apart_types list c within (apart c within)))
     h.1.0 n h.1.2
-    (inr (each_seed (λ m. ¬ (IsPlain list m)) start.Type list (λ c within. apart_sources list c (apart c within)) h.1.0 h.0 h.1.1.0)))
+    (inr (each_origin (λ m. ¬ (IsPlain list m)) start.Type list (λ c within. apart_sources list c (apart c within)) h.1.0 h.0 h.1.1.0)))

@@ -11,7 +11,7 @@ use Rattle.kind_solver.specs.declared.constraint.Why.TheVariants as why
 use Rattle.kind_solver.specs.declared.constraint.Constraint.{Constraint}
 use Rattle.kind_solver.specs.declared.constraint.Constraint.TheVariants.{Flow, Needs, Equal, Inside, Linked, Force, Plain}
 use Rattle.kind_solver.specs.declared.gathering.Edge.{Edge}
-use Rattle.kind_solver.specs.declared.gathering.Seed.{Seed}
+use Rattle.kind_solver.specs.declared.gathering.Origin.{Origin}
 use Rattle.kind_solver.specs.declared.gathering.Pass.{Pass}
 use Rattle.kind_solver.specs.declared.gathering.Pass.TheVariants as pass
 use Rattle.kind_solver.specs.declared.gathering.Start.{Start}
@@ -31,11 +31,11 @@ abbrev pub both_ways : NodeId → NodeId → List Edge
 both_ways a b = edge a.0 b.0 ∷ edge b.0 a.0 ∷ []
 
 -- the node is a member, and the site is why
-abbrev pub seed : ℕ → Cause → Seed
-seed node cause = record { node = record { 0 = node }; cause = cause }
+abbrev pub origin : ℕ → Cause → Origin
+origin node cause = record { node = record { 0 = node }; cause = cause }
 
-abbrev pub site : NodeId → Place → Why → List Seed
-site node place why = seed node.0 (record { site = place; why = why }) ∷ []
+abbrev pub site : NodeId → Place → Why → List Origin
+site node place why = origin node.0 (record { site = place; why = why }) ∷ []
 
 -- what a flow at a node that needs SEQ or WILD makes WILD
 abbrev pub turns : NodeId → NodeId → FlowClass → List Edge
@@ -74,36 +74,36 @@ edges_of pass.Type (Equal a b) = both_ways a b
 edges_of pass.Type _ = []
 
 -- the sites of flows
-abbrev pub flow_seeds : Start → NodeId → NodeId → FlowClass → Place → List Seed
+abbrev pub flow_origins : Start → NodeId → NodeId → FlowClass → Place → List Origin
 -- the sources of Tile flows need SEQ or WILD
-flow_seeds start.Sequence from to class.Tile place = site from place why.Tile
-flow_seeds start.Sequence from to _ place = []
+flow_origins start.Sequence from to class.Tile place = site from place why.Tile
+flow_origins start.Sequence from to _ place = []
 -- both ends of a Bad flow are WILD
-flow_seeds start.Wild from to class.Bad place = site from place why.Bad ++ site to place why.Bad
-flow_seeds start.Wild from to _ place = []
+flow_origins start.Wild from to class.Bad place = site from place why.Bad ++ site to place why.Bad
+flow_origins start.Wild from to _ place = []
 -- the targets of Up flows and the sources of Down flows; why they are so is never read
-flow_seeds start.Rise from to class.Up place = site to place why.Down
-flow_seeds start.Rise from to class.Down place = site from place why.Down
-flow_seeds start.Rise from to _ place = []
+flow_origins start.Rise from to class.Up place = site to place why.Down
+flow_origins start.Rise from to class.Down place = site from place why.Down
+flow_origins start.Rise from to _ place = []
 -- the sources of DownTile flows
-flow_seeds start.Loose from to class.DownTile place = site from place why.Tile
-flow_seeds start.Loose from to _ place = []
+flow_origins start.Loose from to class.DownTile place = site from place why.Tile
+flow_origins start.Loose from to _ place = []
 -- the sources of Down and DownTile flows
-flow_seeds start.Type from to class.Down place = site from place why.Down
-flow_seeds start.Type from to class.DownTile place = site from place why.Tile
-flow_seeds start.Type from to _ place = []
+flow_origins start.Type from to class.Down place = site from place why.Down
+flow_origins start.Type from to class.DownTile place = site from place why.Tile
+flow_origins start.Type from to _ place = []
 
-abbrev pub seeds_of : Start → Constraint → List Seed
-seeds_of kind (Flow from to class below place) = flow_seeds kind from to class place
-seeds_of start.Sequence (Needs node why place) = site node place why
-seeds_of start.Wild (Force node why place) = site node place why
-seeds_of _ _ = []
+abbrev pub origins_of : Start → Constraint → List Origin
+origins_of kind (Flow from to class below place) = flow_origins kind from to class place
+origins_of start.Sequence (Needs node why place) = site node place why
+origins_of start.Wild (Force node why place) = site node place why
+origins_of _ _ = []
 
 abbrev pub edges : Pass → List Constraint → List Edge
 edges pass list = flat_map (edges_of pass) list
 
-abbrev pub seeds : Start → List Constraint → List Seed
-seeds start list = flat_map (seeds_of start) list
+abbrev pub origins : Start → List Constraint → List Origin
+origins start list = flat_map (origins_of start) list
 
 -- Derivations.
 
@@ -117,5 +117,5 @@ abbrev pub Leads : List Edge → ℕ → ℕ → Type 0
 Leads edges x y = (k : ℕ) × Path edges k x y
 
 -- a chain begins at the site and ends at the node
-abbrev pub Chain : List Seed → List Edge → Cause → ℕ → Type 0
-Chain seeds edges c n = (x : ℕ) × Contains seeds (seed x c) × Leads edges x n
+abbrev pub Chain : List Origin → List Edge → Cause → ℕ → Type 0
+Chain origins edges c n = (x : ℕ) × Contains origins (origin x c) × Leads edges x n

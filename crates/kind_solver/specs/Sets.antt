@@ -7,7 +7,7 @@ use Rattle.kind_solver.specs.declared.gathering.Pass.TheVariants as pass
 use Rattle.kind_solver.specs.declared.gathering.Start.TheVariants as start
 use Rattle.kind_solver.specs.Constraints.{MeetsAll}
 use Rattle.kind_solver.specs.Order.{ComesBefore}
-use Rattle.kind_solver.specs.Chains.{edge, seed, edges, seeds, Leads, Chain}
+use Rattle.kind_solver.specs.Chains.{edge, origin, edges, origins, Leads, Chain}
 
 -- The three sets that give the kinds. `F list c n` says that a chain begins at the site c and ends
 -- with n as a member; a node is a member where some site has such a chain.
@@ -17,12 +17,12 @@ Holds F n = (c : Cause) × F c n
 
 -- The nodes that need SEQ or WILD, as far as this follows from the needs and the Tile flows alone.
 abbrev pub FirstNeedFrom : List Constraint → Cause → ℕ → Type 0
-FirstNeedFrom list c n = Chain (seeds start.Sequence list) (edges pass.Sequence list) c n
+FirstNeedFrom list c n = Chain (origins start.Sequence list) (edges pass.Sequence list) c n
 
 -- The nodes that have to be WILD: those of Bad flows and unions, those that a need turns WILD, and
 -- all that hangs together with them. The needs are the first ones: no free source adds to them.
 abbrev pub TurnsWild : List Constraint → Cause → ℕ → Type 0
-TurnsWild list c n = Contains (seeds start.Wild list) (seed n c)
+TurnsWild list c n = Contains (origins start.Wild list) (origin n c)
     ⊎ ((x : ℕ) × FirstNeedFrom list c x × Contains (edges pass.Turn list) (edge x n))
 
 abbrev pub WildFrom : List Constraint → Cause → ℕ → Type 0
@@ -31,7 +31,7 @@ WildFrom list c n = (x : ℕ) × TurnsWild list c x × Leads (edges pass.Wild li
 -- The nodes that the target of an Up flow or the source of a Down flow reaches by flows and
 -- equalities. A chain here is no cause of a kind.
 abbrev pub RisesFrom : List Constraint → Cause → ℕ → Type 0
-RisesFrom list c n = Chain (seeds start.Rise list) (edges pass.Rise list) c n
+RisesFrom list c n = Chain (origins start.Rise list) (edges pass.Rise list) c n
 
 -- A DownTile flow may make its source SEQ only where the source is in neither set so far, and where
 -- nothing reaches it that cannot be SEQ: an Up flow into a SEQ pointer and a Down flow out of one
@@ -43,8 +43,8 @@ IsFree list n = ¬ (Holds (FirstNeedFrom list) n) × ¬ (Holds (WildFrom list) n
 -- The nodes that need SEQ or WILD: those of the needs and Tile flows, the free sources of DownTile
 -- flows, and what flows into them.
 abbrev pub StartsNeed : List Constraint → Cause → ℕ → Type 0
-StartsNeed list c n = Contains (seeds start.Sequence list) (seed n c)
-    ⊎ (Contains (seeds start.Loose list) (seed n c) × IsFree list n)
+StartsNeed list c n = Contains (origins start.Sequence list) (origin n c)
+    ⊎ (Contains (origins start.Loose list) (origin n c) × IsFree list n)
 
 abbrev pub NeedFrom : List Constraint → Cause → ℕ → Type 0
 NeedFrom list c n = (x : ℕ) × StartsNeed list c x × Leads (edges pass.Sequence list) x n
@@ -52,7 +52,7 @@ NeedFrom list c n = (x : ℕ) × StartsNeed list c x × Leads (edges pass.Sequen
 -- The nodes that carry a type where they are in neither set: the other sources of Down and DownTile
 -- flows, and what flows into them.
 abbrev pub StartsType : List Constraint → Cause → ℕ → Type 0
-StartsType list c n = Contains (seeds start.Type list) (seed n c)
+StartsType list c n = Contains (origins start.Type list) (origin n c)
     × ¬ (Holds (NeedFrom list) n) × ¬ (Holds (WildFrom list) n)
 
 abbrev pub TypeFrom : List Constraint → Cause → ℕ → Type 0

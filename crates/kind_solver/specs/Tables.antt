@@ -1,14 +1,14 @@
-use Rattle.std.specs.Prelude.{ℕ, List, Bool, Option, None, Some, Contains, All, length, slice_index_or, slice_set, is_none, sum_by, filter, MatchBool, option_map, ⊤, [], ◌∷◌, ◌≡◌, ◌<◌, ◌≤◌, ◌⊎◌}
+use Rattle.std.specs.Prelude.{ℕ, List, Bool, Option, None, Some, Contains, All, length, slice_index_or, slice_set, is_none, filter, MatchBool, option_map, ⊤, ◌≡◌, ◌<◌, ◌≤◌, ◌⊎◌}
 use Rattle.std.specs.Option.{option_to_list}
 use Rattle.cc_base.specs.declared.kind.Kind.{Kind}
 use Rattle.cc_base.specs.declared.kind.Kind.TheVariants.{Safe, Seq, Rtti, Wild}
 use Rattle.kind_solver.specs.declared.cause.Cause.{Cause}
 use Rattle.kind_solver.specs.declared.gathering.Edge.{Edge}
-use Rattle.kind_solver.specs.declared.gathering.Seed.{Seed}
+use Rattle.kind_solver.specs.declared.gathering.Origin.{Origin}
 use Rattle.kind_solver.specs.declared.constraint.Constraint.{Constraint}
 use Rattle.kind_solver.specs.declared.constraint.Constraint.TheVariants.{Flow, Needs, Force}
 use Rattle.kind_solver.specs.Order.{late, rank, Fits, PlaceFits}
-use Rattle.kind_solver.specs.Chains.{edge, seed, Leads}
+use Rattle.kind_solver.specs.Chains.{edge, origin, Leads}
 
 -- What the private functions say of a table of causes: for each node the first cause found so far,
 -- and None where there is none.
@@ -22,11 +22,11 @@ entry table n = slice_index_or table n None
 abbrev pub EdgesWithin : ℕ → List Edge → Type 0
 EdgesWithin count edges = All (λ e. (e.from.0 < count) × (e.to.0 < count)) edges
 
-abbrev pub SeedsWithin : ℕ → List Seed → Type 0
-SeedsWithin count seeds = All (λ s. s.node.0 < count) seeds
+abbrev pub OriginsWithin : ℕ → List Origin → Type 0
+OriginsWithin count origins = All (λ s. s.node.0 < count) origins
 
-abbrev pub SeedsFit : List Seed → Type 0
-SeedsFit seeds = All (λ s. Fits s.cause) seeds
+abbrev pub OriginsFit : List Origin → Type 0
+OriginsFit origins = All (λ s. Fits s.cause) origins
 
 -- the place of a constraint, if it has one, is of 32-bit numbers
 abbrev pub HasFitPlace : Constraint → Type 0
@@ -46,8 +46,8 @@ pub record Shows (F : Cause → ℕ → Type 0) (count : ℕ) (table : Table) : 
 abbrev pub IsEmptyTable : Table → Type 0
 IsEmptyTable table = All (λ (o : Option Cause). o ≡ None) table
 
--- The seed's cause was offered: the entry of its node is the earlier one of both.
-abbrev pub Offered : Seed → Table → Table → Type 0
+-- The origin's cause was offered: the entry of its node is the earlier one of both.
+abbrev pub Offered : Origin → Table → Table → Type 0
 Offered s old new =
     ((new ≡ slice_set old s.node.0 (Some s.cause)) × (rank s.cause < late (entry old s.node.0)))
     ⊎ ((new ≡ old) × (late (entry old s.node.0) ≤ rank s.cause))
@@ -75,27 +75,27 @@ IsClosed edges table = (x y : ℕ) → Contains edges (edge x y) → late (entry
 abbrev pub IsEarliest : List Edge → Table → Table → Type 0
 IsEarliest edges old new = (x n : ℕ) → Leads edges x n → late (entry new n) ≤ late (entry old x)
 
--- The table has the first cause of each node among the seeds.
-pub record HoldsSeeds (seeds : List Seed) (count : ℕ) (table : Table) : Type 0 where
+-- The table has the first cause of each node among the origins.
+pub record HoldsOrigins (origins : List Origin) (count : ℕ) (table : Table) : Type 0 where
   pub len : length table ≡ count
-  pub real : (n : ℕ) (c : Cause) → entry table n ≡ Some c → Contains seeds (seed n c)
-  pub earliest : (n : ℕ) (c : Cause) → Contains seeds (seed n c) → late (entry table n) ≤ rank c
+  pub real : (n : ℕ) (c : Cause) → entry table n ≡ Some c → Contains origins (origin n c)
+  pub earliest : (n : ℕ) (c : Cause) → Contains origins (origin n c) → late (entry table n) ≤ rank c
 
--- the seed at the end of an edge, with the cause of its beginning, if that has one
-abbrev pub across_from : Option Cause → Edge → List Seed
-across_from cause e = option_to_list (option_map (λ c. seed e.to.0 c) cause)
+-- the origin at the end of an edge, with the cause of its beginning, if that has one
+abbrev pub across_from : Option Cause → Edge → List Origin
+across_from cause e = option_to_list (option_map (λ c. origin e.to.0 c) cause)
 
-abbrev pub across : Table → Edge → List Seed
+abbrev pub across : Table → Edge → List Origin
 across table e = across_from (entry table e.from.0) e
 
--- the table has no cause for the seed's node
-abbrev pub is_outside : Table → Seed → Bool
+-- the table has no cause for the origin's node
+abbrev pub is_outside : Table → Origin → Bool
 is_outside table s = is_none (entry table s.node.0)
 
--- the seeds that none of three tables has a cause for
-abbrev pub free_seeds : Table → Table → Table → List Seed → List Seed
-free_seeds first wild rises seeds =
-    filter (is_outside rises) (filter (is_outside wild) (filter (is_outside first) seeds))
+-- the origins that none of three tables has a cause for
+abbrev pub free_origins : Table → Table → Table → List Origin → List Origin
+free_origins first wild rises origins =
+    filter (is_outside rises) (filter (is_outside wild) (filter (is_outside first) origins))
 
 -- kind and cause by the entries of the three sets
 abbrev pub kind_from : Option Cause → Option Cause → Option Cause → Kind

@@ -3,7 +3,7 @@
 ghost use Rattle.std.specs.Prelude.{◌≡◌, ◌++◌, IfOk, OnOk, All};
 ghost use Rattle.cc_base.specs.declared.kind.Kind.TheVariants.{Safe, Rtti};
 ghost use Rattle.kind_solver.specs.Constraints.{allows};
-ghost use Rattle.kind_solver.specs.Chains.{edges, seeds, edges_of, seeds_of, flow_seeds, step, both_ways, turns, carries, site};
+ghost use Rattle.kind_solver.specs.Chains.{edges, origins, edges_of, origins_of, flow_origins, step, both_ways, turns, carries, site};
 ghost use Rattle.kind_solver.specs.Order.{PlaceFits};
 ghost use Rattle.kind_solver.specs.Tables.{HasFitPlace};
 
@@ -22,7 +22,7 @@ pub struct Edge {
 
 /// A beginning of a derivation: `node` is a member, and `cause` is why.
 #[derive(Clone, Copy)]
-pub struct Seed {
+pub struct Origin {
     pub node: NodeId,
     pub cause: Cause,
 }
@@ -69,13 +69,17 @@ pub fn gather_edges(alloc: Global, pass: Pass, list: &[Constraint]) -> Result<Ve
 }
 
 /// The beginnings that the constraints give, in their order.
-pub fn gather_seeds(alloc: Global, start: Start, list: &[Constraint]) -> Result<Vec<Seed>, NoMemory>
-    ensures found { IfOk result (λ found. found.items ≡ seeds start list.now) }
+pub fn gather_origins(
+    alloc: Global,
+    start: Start,
+    list: &[Constraint],
+) -> Result<Vec<Origin>, NoMemory>
+    ensures found { IfOk result (λ found. found.items ≡ origins start list.now) }
     ensures fit { OnOk result (All HasFitPlace list.now) }
 {
     let mut found = Vec::new(alloc);
     for constraint in list {
-        push_seeds(&mut found, start, *constraint)?;
+        push_origins(&mut found, start, *constraint)?;
     }
     Ok(found)
 }
@@ -193,16 +197,25 @@ fn takes_safe(class: FlowClass, below: bool) -> bool
     }
 }
 
-fn push_site(seeds: &mut Vec<Seed>, node: NodeId, place: Place, why: Why) -> Result<(), NoMemory>
-    ensures { OnOk result (seeds.new.items ≡ seeds.old.items ++ site node place why) }
+fn push_site(
+    origins: &mut Vec<Origin>,
+    node: NodeId,
+    place: Place,
+    why: Why,
+) -> Result<(), NoMemory>
+    ensures { OnOk result (origins.new.items ≡ origins.old.items ++ site node place why) }
 {
     let cause = Cause { site: place, why };
-    seeds.push(Seed { node, cause })?;
+    origins.push(Origin { node, cause })?;
     Ok(())
 }
 
-fn push_seeds(seeds: &mut Vec<Seed>, start: Start, constraint: Constraint) -> Result<(), NoMemory>
-    ensures pushed { OnOk result (seeds.new.items ≡ seeds.old.items ++ seeds_of start constraint) }
+fn push_origins(
+    origins: &mut Vec<Origin>,
+    start: Start,
+    constraint: Constraint,
+) -> Result<(), NoMemory>
+    ensures pushed { OnOk result (origins.new.items ≡ origins.old.items ++ origins_of start constraint) }
     ensures fit { HasFitPlace constraint }
 {
     match constraint {
@@ -212,41 +225,41 @@ fn push_seeds(seeds: &mut Vec<Seed>, start: Start, constraint: Constraint) -> Re
             class,
             place,
             ..
-        } => push_flow_seeds(seeds, start, from, to, class, place),
+        } => push_flow_origins(origins, start, from, to, class, place),
         Constraint::Needs { node, why, place } => match start {
-            Start::Sequence => push_site(seeds, node, place, why),
+            Start::Sequence => push_site(origins, node, place, why),
             _ => Ok(()),
         },
         Constraint::Force { node, why, place } => match start {
-            Start::Wild => push_site(seeds, node, place, why),
+            Start::Wild => push_site(origins, node, place, why),
             _ => Ok(()),
         },
         _ => Ok(()),
     }
 }
 
-fn push_flow_seeds(
-    seeds: &mut Vec<Seed>,
+fn push_flow_origins(
+    origins: &mut Vec<Origin>,
     start: Start,
     from: NodeId,
     to: NodeId,
     class: FlowClass,
     place: Place,
 ) -> Result<(), NoMemory>
-    ensures pushed { OnOk result (seeds.new.items ≡ seeds.old.items ++ flow_seeds start from to class place) }
+    ensures pushed { OnOk result (origins.new.items ≡ origins.old.items ++ flow_origins start from to class place) }
     ensures fit { PlaceFits place }
 {
     match (start, class) {
-        (Start::Sequence, FlowClass::Tile) => push_site(seeds, from, place, Why::Tile),
+        (Start::Sequence, FlowClass::Tile) => push_site(origins, from, place, Why::Tile),
         (Start::Wild, FlowClass::Bad) => {
-            push_site(seeds, from, place, Why::Bad)?;
-            push_site(seeds, to, place, Why::Bad)
+            push_site(origins, from, place, Why::Bad)?;
+            push_site(origins, to, place, Why::Bad)
         }
-        (Start::Rise, FlowClass::Up) => push_site(seeds, to, place, Why::Down),
-        (Start::Rise, FlowClass::Down) => push_site(seeds, from, place, Why::Down),
-        (Start::Loose, FlowClass::DownTile) => push_site(seeds, from, place, Why::Tile),
-        (Start::Type, FlowClass::Down) => push_site(seeds, from, place, Why::Down),
-        (Start::Type, FlowClass::DownTile) => push_site(seeds, from, place, Why::Tile),
+        (Start::Rise, FlowClass::Up) => push_site(origins, to, place, Why::Down),
+        (Start::Rise, FlowClass::Down) => push_site(origins, from, place, Why::Down),
+        (Start::Loose, FlowClass::DownTile) => push_site(origins, from, place, Why::Tile),
+        (Start::Type, FlowClass::Down) => push_site(origins, from, place, Why::Down),
+        (Start::Type, FlowClass::DownTile) => push_site(origins, from, place, Why::Tile),
         _ => Ok(()),
     }
 }

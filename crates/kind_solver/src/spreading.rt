@@ -3,10 +3,10 @@
 ghost use Rattle.std.specs.Prelude.{ℕ, ◌≡◌, ◌<◌, ◌≤◌, IfOk, length, MatchBool, sum_by};
 ghost use Rattle.kind_solver.specs.Order.{late};
 ghost use Rattle.kind_solver.specs.Chains.{Chain};
-ghost use Rattle.kind_solver.specs.Tables.{EdgesWithin, SeedsWithin, SeedsFit, Offered, Spread, Comes, Falls, IsClosed, IsEarliest, HoldsSeeds, Shows, IsEmptyTable};
+ghost use Rattle.kind_solver.specs.Tables.{EdgesWithin, OriginsWithin, OriginsFit, Offered, Spread, Comes, Falls, IsClosed, IsEarliest, HoldsOrigins, Shows, IsEmptyTable};
 
 use crate::cause::{Cause, is_earlier};
-use crate::gathering::{Edge, Seed};
+use crate::gathering::{Edge, Origin};
 use cc_base::NoMemory;
 use std::alloc::Global;
 
@@ -14,50 +14,50 @@ use std::alloc::Global;
 pub fn first_causes(
     alloc: Global,
     count: u32,
-    seeds: &[Seed],
+    origins: &[Origin],
     edges: &[Edge],
 ) -> Result<Vec<Option<Cause>>, NoMemory>
-    requires seeds_within { SeedsWithin count seeds.now }
+    requires origins_within { OriginsWithin count origins.now }
     requires edges_within { EdgesWithin count edges.now }
-    requires fit { SeedsFit seeds.now }
-    ensures { IfOk result (λ causes. Shows (Chain seeds.now edges.now) count causes.items) }
+    requires fit { OriginsFit origins.now }
+    ensures { IfOk result (λ causes. Shows (Chain origins.now edges.now) count causes.items) }
 {
     let mut causes = vec![in alloc; None; count as usize]?;
-    settle(&mut causes, seeds, edges);
+    settle(&mut causes, origins, edges);
     Ok(causes)
 }
 
 /// Puts the first causes into a table that has none.
-fn settle(causes: &mut [Option<Cause>], seeds: &[Seed], edges: &[Edge])
+fn settle(causes: &mut [Option<Cause>], origins: &[Origin], edges: &[Edge])
     requires empty { IsEmptyTable causes.old }
-    requires seeds_within { SeedsWithin (length causes.old) seeds.now }
+    requires origins_within { OriginsWithin (length causes.old) origins.now }
     requires edges_within { EdgesWithin (length causes.old) edges.now }
-    requires fit { SeedsFit seeds.now }
-    ensures { Shows (Chain seeds.now edges.now) (length causes.old) causes.new }
+    requires fit { OriginsFit origins.now }
+    ensures { Shows (Chain origins.now edges.now) (length causes.old) causes.new }
 {
-    offer_all(causes, seeds);
+    offer_all(causes, origins);
     spread(causes, edges);
 }
 
-/// Gives each seed's node the earliest of its seeds' causes.
-fn offer_all(causes: &mut [Option<Cause>], seeds: &[Seed])
+/// Gives each origin's node the earliest of its origins' causes.
+fn offer_all(causes: &mut [Option<Cause>], origins: &[Origin])
     requires empty { IsEmptyTable causes.old }
-    requires within { SeedsWithin (length causes.old) seeds.now }
-    ensures { HoldsSeeds seeds.now (length causes.old) causes.new }
+    requires within { OriginsWithin (length causes.old) origins.now }
+    ensures { HoldsOrigins origins.now (length causes.old) causes.new }
 {
-    for seed in seeds {
-        offer(causes, *seed);
+    for origin in origins {
+        offer(causes, *origin);
     }
 }
 
-/// Gives the seed's node its cause, where that is earlier.
-fn offer(causes: &mut [Option<Cause>], seed: Seed)
-    requires { seed.node.0 < length causes.old }
-    ensures { Offered seed causes.old causes.new }
+/// Gives the origin's node its cause, where that is earlier.
+fn offer(causes: &mut [Option<Cause>], origin: Origin)
+    requires { origin.node.0 < length causes.old }
+    ensures { Offered origin causes.old causes.new }
 {
-    let node = seed.node.0 as usize;
-    if is_earlier(Some(seed.cause), causes[node]) {
-        causes[node] = Some(seed.cause);
+    let node = origin.node.0 as usize;
+    if is_earlier(Some(origin.cause), causes[node]) {
+        causes[node] = Some(origin.cause);
     }
 }
 

@@ -1,46 +1,44 @@
-use Rattle.std.proofs.Common.{◌≡◌, ◌<◌, ◌++◌, ◌∙◌, sym, ap, subst, length, filter, arith}
-use Rattle.std.specs.List.{flat_map}
+use Rattle.std.proofs.Common.{◌≡◌, ◌<◌, ◌++◌, ◌∙◌, sym, subst, length, filter}
 use Rattle.std.proofs.lemmas.Result.{IfOk-weaker}
 use Rattle.std.proofs.lemmas.List.Elements.{All-append, All-filter}
-use Rattle.kind_solver.specs.declared.gathering.Seed.{Seed}
+use Rattle.kind_solver.specs.declared.gathering.Origin.{Origin}
 use Rattle.kind_solver.specs.declared.gathering.Pass.TheVariants as pass
 use Rattle.kind_solver.specs.declared.gathering.Start.TheVariants as start
 use Rattle.kind_solver.specs.Order.{Fits}
-use Rattle.kind_solver.specs.Chains.{edges, seeds, Chain}
-use Rattle.kind_solver.specs.Sets.{FirstNeedFrom, WildFrom, RisesFrom, NeedFrom, TypeFrom}
-use Rattle.kind_solver.specs.Tables.{SeedsWithin, EdgesWithin, SeedsFit, Shows, across, is_outside, free_seeds}
-use Rattle.kind_solver.proofs.Gathered.{edges_within, seeds_within, seeds_fit}
-use Rattle.kind_solver.proofs.Shown.{across_within, across_fit, wild_shown, need_shown, type_shown}
+use Rattle.kind_solver.specs.Chains.{edges, origins}
+use Rattle.kind_solver.specs.Tables.{OriginsWithin, EdgesWithin, OriginsFit, is_outside, free_origins}
+use Rattle.kind_solver.proofs.Gathered.{edges_within, origins_within, origins_fit}
+use Rattle.kind_solver.proofs.Shown.{need_shown}
 use Rattle.kind_solver.proofs.sets.need_causes.Goals as goal
 
 pub push_free-requires-clause-first : goal.push_free-requires-clause-first
 push_free-requires-clause-first c =
-    subst (λ ss. SeedsWithin (length c.args.first.now) ss) (sym (c.deref.ensures.value ∙ c.in_ok-loose.ensures.found))
-    (rw c.requires.first.len (seeds_within c.args.count start.Loose c.args.list.now c.requires.within))
+    subst (λ ss. OriginsWithin (length c.args.first.now) ss) (sym (c.deref.ensures.value ∙ c.in_ok-loose.ensures.found))
+    (rw c.requires.first.len (origins_within c.args.count start.Loose c.args.list.now c.requires.within))
 
 pub push_free-requires-clause-wild : goal.push_free-requires-clause-wild
 push_free-requires-clause-wild c =
-    subst (λ ss. SeedsWithin (length c.args.wild.now) ss) (sym (c.deref.ensures.value ∙ c.in_ok-loose.ensures.found))
-    (rw c.requires.wild.len (seeds_within c.args.count start.Loose c.args.list.now c.requires.within))
+    subst (λ ss. OriginsWithin (length c.args.wild.now) ss) (sym (c.deref.ensures.value ∙ c.in_ok-loose.ensures.found))
+    (rw c.requires.wild.len (origins_within c.args.count start.Loose c.args.list.now c.requires.within))
 
 pub push_free-requires-clause-rises : goal.push_free-requires-clause-rises
 push_free-requires-clause-rises c =
-    subst (λ ss. SeedsWithin (length c.args.rises.now) ss) (sym (c.deref.ensures.value ∙ c.in_ok-loose.ensures.found))
-    (rw c.requires.rises.len (seeds_within c.args.count start.Loose c.args.list.now c.requires.within))
+    subst (λ ss. OriginsWithin (length c.args.rises.now) ss) (sym (c.deref.ensures.value ∙ c.in_ok-loose.ensures.found))
+    (rw c.requires.rises.len (origins_within c.args.count start.Loose c.args.list.now c.requires.within))
 
-pub first_causes-requires-clause-seeds_within : goal.first_causes-requires-clause-seeds_within
-first_causes-requires-clause-seeds_within c =
+pub first_causes-requires-clause-origins_within : goal.first_causes-requires-clause-origins_within
+first_causes-requires-clause-origins_within c =
     let list = c.args.list.now in
-    let free = free_seeds c.args.first.now c.args.wild.now c.args.rises.now (seeds start.Loose list) in
-    let same : c.deref-2.result.now ≡ seeds start.Sequence list ++ free
-    = cc (c.in_ok-push_free.ensures, c.in_ok-seeds.ensures.found, c.in_ok-loose.ensures.found) in
-    let nodes = λ (s : Seed). s.node.0 < c.args.count in
-    subst (λ ss. SeedsWithin c.args.count ss) (sym same)
-    (All-append nodes (seeds start.Sequence list) free (seeds_within c.args.count start.Sequence list c.requires.within)
-    (All-filter (is_outside c.args.rises.now) nodes (filter (is_outside c.args.wild.now) (filter (is_outside c.args.first.now) (seeds start.Loose list)))
-    (All-filter (is_outside c.args.wild.now) nodes (filter (is_outside c.args.first.now) (seeds start.Loose list))
-    (All-filter (is_outside c.args.first.now) nodes (seeds start.Loose list)
-    (seeds_within c.args.count start.Loose list c.requires.within)))))
+    let free = free_origins c.args.first.now c.args.wild.now c.args.rises.now (origins start.Loose list) in
+    let same : c.deref-2.result.now ≡ origins start.Sequence list ++ free
+    = cc (c.in_ok-push_free.ensures, c.in_ok-origins.ensures.found, c.in_ok-loose.ensures.found) in
+    let nodes = λ (s : Origin). s.node.0 < c.args.count in
+    subst (λ ss. OriginsWithin c.args.count ss) (sym same)
+    (All-append nodes (origins start.Sequence list) free (origins_within c.args.count start.Sequence list c.requires.within)
+    (All-filter (is_outside c.args.rises.now) nodes (filter (is_outside c.args.wild.now) (filter (is_outside c.args.first.now) (origins start.Loose list)))
+    (All-filter (is_outside c.args.wild.now) nodes (filter (is_outside c.args.first.now) (origins start.Loose list))
+    (All-filter (is_outside c.args.first.now) nodes (origins start.Loose list)
+    (origins_within c.args.count start.Loose list c.requires.within)))))
 
 pub first_causes-requires-clause-edges_within : goal.first_causes-requires-clause-edges_within
 first_causes-requires-clause-edges_within c =
@@ -50,25 +48,25 @@ first_causes-requires-clause-edges_within c =
 pub first_causes-requires-clause-fit : goal.first_causes-requires-clause-fit
 first_causes-requires-clause-fit c =
     let list = c.args.list.now in
-    let free = free_seeds c.args.first.now c.args.wild.now c.args.rises.now (seeds start.Loose list) in
-    let same : c.deref-2.result.now ≡ seeds start.Sequence list ++ free
-    = cc (c.in_ok-push_free.ensures, c.in_ok-seeds.ensures.found, c.in_ok-loose.ensures.found) in
-    let fits = λ (s : Seed). Fits s.cause in
-    subst (λ ss. SeedsFit ss) (sym same)
-    (All-append fits (seeds start.Sequence list) free (seeds_fit start.Sequence list c.in_ok-seeds.ensures.fit)
-    (All-filter (is_outside c.args.rises.now) fits (filter (is_outside c.args.wild.now) (filter (is_outside c.args.first.now) (seeds start.Loose list)))
-    (All-filter (is_outside c.args.wild.now) fits (filter (is_outside c.args.first.now) (seeds start.Loose list))
-    (All-filter (is_outside c.args.first.now) fits (seeds start.Loose list)
-    (seeds_fit start.Loose list c.in_ok-seeds.ensures.fit)))))
+    let free = free_origins c.args.first.now c.args.wild.now c.args.rises.now (origins start.Loose list) in
+    let same : c.deref-2.result.now ≡ origins start.Sequence list ++ free
+    = cc (c.in_ok-push_free.ensures, c.in_ok-origins.ensures.found, c.in_ok-loose.ensures.found) in
+    let fits = λ (s : Origin). Fits s.cause in
+    subst (λ ss. OriginsFit ss) (sym same)
+    (All-append fits (origins start.Sequence list) free (origins_fit start.Sequence list c.in_ok-origins.ensures.fit)
+    (All-filter (is_outside c.args.rises.now) fits (filter (is_outside c.args.wild.now) (filter (is_outside c.args.first.now) (origins start.Loose list)))
+    (All-filter (is_outside c.args.wild.now) fits (filter (is_outside c.args.first.now) (origins start.Loose list))
+    (All-filter (is_outside c.args.first.now) fits (origins start.Loose list)
+    (origins_fit start.Loose list c.in_ok-origins.ensures.fit)))))
 
 pub returns : goal.returns
 returns c =
     let list = c.args.list.now in
-    let free = free_seeds c.args.first.now c.args.wild.now c.args.rises.now (seeds start.Loose list) in
-    let same : c.deref-2.result.now ≡ seeds start.Sequence list ++ free
-    = cc (c.in_ok-push_free.ensures, c.in_ok-seeds.ensures.found, c.in_ok-loose.ensures.found) in
+    let free = free_origins c.args.first.now c.args.wild.now c.args.rises.now (origins start.Loose list) in
+    let same : c.deref-2.result.now ≡ origins start.Sequence list ++ free
+    = cc (c.in_ok-push_free.ensures, c.in_ok-origins.ensures.found, c.in_ok-loose.ensures.found) in
     let steps : c.deref-3.result.now ≡ edges pass.Sequence list = c.deref-3.ensures.value ∙ c.in_ok-edges.ensures in
     IfOk-weaker c.first_causes.result _ _
     (λ causes shown. need_shown list c.args.count c.args.first.now c.args.wild.now c.args.rises.now causes.items
-    c.requires.within c.in_ok-seeds.ensures.fit c.requires.first c.requires.wild c.requires.rises shown)
+    c.requires.within c.in_ok-origins.ensures.fit c.requires.first c.requires.wild c.requires.rises shown)
     (rw (same, steps) at c.first_causes.ensures)

@@ -1,5 +1,4 @@
 use Rattle.std.proofs.lemmas.Result.{IfOk-weaker}
-use Rattle.kind_solver.specs.Sets.{AreKinds}
 use Rattle.kind_solver.proofs.Answered.{are_kinds, are_causes, meets, least}
 use Rattle.kind_solver.proofs.solver.solve.Goals as goal
 

@@ -1,7 +1,7 @@
 use Rattle.kind_solver.proofs.Offers.{holds_next}
 use Rattle.kind_solver.proofs.spreading.offer_all.Goals as goal
 
-pub loop-seed-preserved : goal.loop-seed-preserved
-loop-seed-preserved c =
-    holds_next c.args.seeds.now c.loop-seed.seed-index _ _ c.loop-seed.causes c.offer.new.causes _ c.loop-seed-test.true
-    c.requires.within c.loop-seed.auto.causes c.loop-seed.invariant c.offer.ensures
+pub loop-origin-preserved : goal.loop-origin-preserved
+loop-origin-preserved c =
+    holds_next c.args.origins.now c.loop-origin.origin-index _ _ c.loop-origin.causes c.offer.new.causes _ c.loop-origin-test.true
+    c.requires.within c.loop-origin.auto.causes c.loop-origin.invariant c.offer.ensures

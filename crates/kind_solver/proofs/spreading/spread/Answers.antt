@@ -1,5 +1,4 @@
-use Rattle.std.proofs.Common.{arith}
-use Rattle.kind_solver.proofs.Rounds.{Rounds, rounds_start, rounds_more, rounds_end}
+use Rattle.kind_solver.proofs.Rounds.{rounds_start, rounds_more, rounds_end}
 use Rattle.kind_solver.proofs.spreading.spread.Goals as goal
 
 pub loop-init : goal.loop-init

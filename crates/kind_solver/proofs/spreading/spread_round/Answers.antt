@@ -1,6 +1,5 @@
-use Rattle.std.proofs.Common.{length, get_or, arith, take, subst}
 use Rattle.std.proofs.lemmas.List.{take_all}
-use Rattle.kind_solver.proofs.Rounds.{Round, round_start, round_next, round_cases}
+use Rattle.kind_solver.proofs.Rounds.{round_start, round_next, round_cases}
 use Rattle.kind_solver.proofs.spreading.spread_round.Goals as goal
 
 pub loop-edge-init : goal.loop-edge-init

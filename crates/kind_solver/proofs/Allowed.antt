@@ -2,8 +2,8 @@ use Rattle.std.proofs.Common.{Bool, ◌≡◌, ◌⊎◌, refl, inl, inr, IsTrue
 use Rattle.std.proofs.lemmas.Bool.{false≢true}
 use Rattle.cc_base.specs.declared.kind.Kind.{Kind}
 use Rattle.cc_base.specs.declared.kind.Kind.TheVariants.{Safe, Seq, Rtti, Wild}
-use Rattle.phys_types.specs.declared.flow_class.FlowClass.{FlowClass}
-use Rattle.phys_types.specs.declared.flow_class.FlowClass.TheVariants as class
+use Rattle.c_types.specs.declared.flow_class.FlowClass.{FlowClass}
+use Rattle.c_types.specs.declared.flow_class.FlowClass.TheVariants as class
 use Rattle.kind_solver.specs.Constraints.{allows}
 
 -- What the table of allowed flows says of one end of a flow, given the other.

@@ -4,8 +4,8 @@ use Rattle.std.proofs.lemmas.List.Elements.{All-from_recursion}
 use Rattle.cc_base.specs.declared.number.NodeId.{NodeId}
 use Rattle.cc_base.specs.declared.place.Place.{Place}
 use Rattle.cc_base.specs.declared.kind.Kind.TheVariants.{Safe, Rtti}
-use Rattle.phys_types.specs.declared.flow_class.FlowClass.{FlowClass}
-use Rattle.phys_types.specs.declared.flow_class.FlowClass.TheVariants as class
+use Rattle.c_types.specs.declared.flow_class.FlowClass.{FlowClass}
+use Rattle.c_types.specs.declared.flow_class.FlowClass.TheVariants as class
 use Rattle.kind_solver.specs.declared.constraint.Constraint.{Constraint}
 use Rattle.kind_solver.specs.declared.constraint.Constraint.TheVariants.{Flow, Needs, Equal, Inside, Linked, Force, Plain}
 use Rattle.kind_solver.specs.declared.gathering.Edge.{Edge}

@@ -5,8 +5,8 @@ use Rattle.cc_base.specs.declared.number.NodeId.{NodeId}
 use Rattle.cc_base.specs.declared.place.Place.{Place}
 use Rattle.cc_base.specs.declared.kind.Kind.{Kind}
 use Rattle.cc_base.specs.declared.kind.Kind.TheVariants.{Safe, Seq, Rtti, Wild}
-use Rattle.phys_types.specs.declared.flow_class.FlowClass.{FlowClass}
-use Rattle.phys_types.specs.declared.flow_class.FlowClass.TheVariants as class
+use Rattle.c_types.specs.declared.flow_class.FlowClass.{FlowClass}
+use Rattle.c_types.specs.declared.flow_class.FlowClass.TheVariants as class
 use Rattle.kind_solver.specs.declared.cause.Cause.{Cause}
 use Rattle.kind_solver.specs.declared.constraint.Why.TheVariants as why
 use Rattle.kind_solver.specs.declared.constraint.Constraint.{Constraint}

@@ -1,8 +1,8 @@
 use Rattle.std.specs.Prelude.{ℕ, Bool, true, false, not, ◌&&◌, ◌||◌, IsTrue, List, All, Contains, ◌≡◌, ◌<◌, ◌↔◌, ◌⊎◌, ⊤}
 use Rattle.cc_base.specs.declared.kind.Kind.{Kind}
 use Rattle.cc_base.specs.declared.kind.Kind.TheVariants.{Safe, Seq, Rtti, Wild}
-use Rattle.phys_types.specs.declared.flow_class.FlowClass.{FlowClass}
-use Rattle.phys_types.specs.declared.flow_class.FlowClass.TheVariants as class
+use Rattle.c_types.specs.declared.flow_class.FlowClass.{FlowClass}
+use Rattle.c_types.specs.declared.flow_class.FlowClass.TheVariants as class
 use Rattle.kind_solver.specs.declared.constraint.Constraint.{Constraint}
 use Rattle.kind_solver.specs.declared.constraint.Constraint.TheVariants.{Flow, Needs, Equal, Inside, Linked, Force, Plain}
 

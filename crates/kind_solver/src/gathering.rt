@@ -9,8 +9,8 @@ ghost use Rattle.kind_solver.specs.Tables.{HasFitPlace};
 
 use crate::cause::Cause;
 use crate::constraint::{Constraint, Why};
+use c_types::FlowClass;
 use cc_base::{NoMemory, NodeId, Place};
-use phys_types::FlowClass;
 use std::alloc::Global;
 
 /// A step of a derivation: if `from` is a member, so is `to`.

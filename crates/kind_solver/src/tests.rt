@@ -4,8 +4,8 @@ ghost use Rattle.std.specs.Prelude.{◌≡◌, ◌<◌, length};
 ghost use Rattle.kind_solver.specs.Constraints.{IsWithin};
 
 use crate::{Cause, Constraint, Solved, Why, solve};
+use c_types::FlowClass;
 use cc_base::{Kind, NodeId, Place};
-use phys_types::FlowClass;
 use std::test::Fail;
 
 const fn place(line: u32, col: u32) -> Place {

@@ -1,0 +1,10 @@
+pub mod Lists
+pub mod Shapes
+pub mod Descent
+pub mod Growth
+pub mod Upkeep
+pub mod Adding
+pub mod Ends
+pub mod Laying
+pub mod Defining
+pub mod Keeping

@@ -1,0 +1,9 @@
+pub mod Table
+pub mod Layouts
+pub mod Sound
+pub mod Kept
+pub mod Calls
+pub mod Cells
+pub mod Equality
+pub mod Flows
+pub mod Widths

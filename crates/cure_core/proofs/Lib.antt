@@ -1,0 +1,7 @@
+pub mod TextCauses
+pub mod JudgedStatuses
+pub mod StepLaws
+pub mod LoopLaws
+pub mod OutputLaws
+pub mod LoadLaws
+pub mod RunLaws

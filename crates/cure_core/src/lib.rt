@@ -1,0 +1,17 @@
+//! `build`, which cures a text, and `ccured`, which does all that the program does.
+#![tactic(auto)]
+
+mod building;
+mod command;
+mod loading;
+mod machine;
+mod report;
+mod top;
+mod verdict;
+
+pub use building::{Built, build};
+pub use top::ccured;
+pub use verdict::Verdict;
+
+#[cfg(test)]
+mod tests;

@@ -1,0 +1,16 @@
+// Cured code as data, the ranges that its numbers keep, and the definition of what it means: the flat machine.
+#![tactic(auto)]
+
+mod cured;
+mod instr;
+mod parts;
+mod ranges;
+
+pub use cured::Cured;
+pub use instr::{Code, Instr, Narrow};
+pub use parts::{
+    AreaLine, Bytes, Function, Functions, GlobalLine, Globals, Locals, Parents, Parts, Sig, Sigs,
+};
+
+#[cfg(test)]
+mod tests;

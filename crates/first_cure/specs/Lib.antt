@@ -1,0 +1,4 @@
+pub mod SameRun
+pub mod Curing
+pub mod Relation
+pub mod Views

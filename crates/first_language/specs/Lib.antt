@@ -1,0 +1,7 @@
+pub mod Tree
+pub mod Meaning
+pub mod Names
+pub mod Text
+pub mod Language
+pub mod Views
+pub mod Reading

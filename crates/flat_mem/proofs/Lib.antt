@@ -1,0 +1,12 @@
+pub mod ByteLaws
+pub mod AreaLaws
+pub mod FrameLaws
+pub mod MemoryCode
+pub mod Keeps
+pub mod SoundLaws
+pub mod AreaCode
+pub mod FramesSeen
+pub mod FramesKept
+pub mod DepthCode
+pub mod NewCode
+pub mod RangeLaws

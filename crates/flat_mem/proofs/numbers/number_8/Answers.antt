@@ -1,0 +1,6 @@
+use Rattle.std.proofs.Common.{sym, ◌∙◌}
+use Rattle.flat_mem.proofs.MemoryCode.{number-8}
+use Rattle.flat_mem.proofs.numbers.number_8.Goals as goal
+
+pub returns : goal.returns
+returns c = c.from_le_bytes.ensures ∙ sym (number-8 _ _)

@@ -1,0 +1,4 @@
+pub mod Bytes
+pub mod Placement
+pub mod Memory
+pub mod Marks

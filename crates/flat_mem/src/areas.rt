@@ -1,0 +1,105 @@
+// The sizes of areas, and making them in the bytes.
+
+ghost use Rattle.std.specs.Prelude.{◌≡◌, ◌+◌, ◌<◌, ◌≤◌, ◌^◌, ◌++◌, Some, None, length, nat_le, vec_capacity, vec_len, if◌then◌else◌};
+ghost use Rattle.flat_mem.specs.Placement.{area_size, areas_size, addresses, first_word, area_made, areas_made};
+
+use crate::{Area, numbers};
+
+// The size of the area with its first word.
+pub(crate) fn size_of(area: Area) -> u64
+    requires { area.bytes < 2 ^ 32 }
+    ensures { result ≡ area_size area }
+{
+    let words = area.bytes.div_ceil(8);
+    if area.tagged {
+        8 + 16 * words + 8 * words.div_ceil(64)
+    } else {
+        8 + 8 * words
+    }
+}
+
+// The size of the area where it is at most `room`.
+pub(crate) fn size_within(area: Area, room: u64) -> Option<u64>
+    requires { room < 2 ^ 32 }
+    ensures { result ≡ (if nat_le (area_size area) room then Some (area_size area) else None) }
+{
+    if area.bytes > room {
+        return None;
+    }
+    let size = size_of(area);
+    if size <= room { Some(size) } else { None }
+}
+
+// Whether the areas fit into `room` bytes, one after another.
+pub(crate) fn all_fit(areas: &[Area], room: u64) -> bool
+    requires { room < 2 ^ 32 }
+    ensures { result ≡ nat_le (areas_size areas.now) room }
+{
+    let mut left = room;
+    for area in areas {
+        match size_within(*area, left) {
+            Some(size) => left -= size,
+            None => return false,
+        }
+    }
+    true
+}
+
+// The size of the areas, one after another.
+pub(crate) fn sizes_of(areas: &[Area]) -> u64
+    requires { areas_size areas.now < 2 ^ 32 }
+    ensures { result ≡ areas_size areas.now }
+{
+    let mut size = 0;
+    for area in areas {
+        size += size_of(*area);
+    }
+    size
+}
+
+// The area's first word.
+fn first_word_of(area: Area) -> u64
+    ensures { result ≡ first_word area }
+{
+    if area.tagged { area.bytes } else { 0 }
+}
+
+// Makes the area at `start`.
+pub(crate) fn make_area(bytes: &mut [u8], area: Area, start: u64)
+    requires room { start + area_size area ≤ length bytes.old }
+    requires small { length bytes.old < 2 ^ 32 }
+    ensures { bytes.new ≡ area_made area bytes.old start }
+{
+    let start = start as usize;
+    numbers::zero_at(bytes, start, size_of(area) as usize);
+    numbers::store_at(bytes, start, 8, first_word_of(area));
+}
+
+// Makes the areas one after another from `start` on, and gives their end.
+pub(crate) fn make_areas(bytes: &mut [u8], areas: &[Area], start: u64) -> u64
+    requires room { start + areas_size areas.now ≤ length bytes.old }
+    requires small { length bytes.old < 2 ^ 32 }
+    ensures made { bytes.new ≡ areas_made areas.now bytes.old start }
+    ensures end { result ≡ start + areas_size areas.now }
+{
+    let mut at = start;
+    for area in areas {
+        make_area(bytes, *area, at);
+        at += size_of(*area);
+    }
+    at
+}
+
+// Writes down the addresses of the areas that lie one after another from `start` on.
+pub(crate) fn list_addresses(list: &mut Vec<u64>, areas: &[Area], start: u64)
+    requires room { vec_len list.old + length areas.now ≤ vec_capacity list.old }
+    requires small { start + areas_size areas.now < 2 ^ 32 }
+    ensures added { list.new.items ≡ list.old.items ++ addresses areas.now start }
+    ensures capacity { vec_capacity list.new ≡ vec_capacity list.old }
+{
+    let mut at = start;
+    for area in areas {
+        list.push_reserved(at + 8);
+        at += size_of(*area);
+    }
+}

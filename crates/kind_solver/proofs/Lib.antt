@@ -1,0 +1,14 @@
+pub mod Paths
+pub mod Rounds
+pub mod Ranks
+pub mod Offers
+pub mod Members
+pub mod Gathered
+pub mod Shown
+pub mod Allowed
+pub mod Closed
+pub mod Least
+pub mod Answered
+pub mod Solution
+pub mod Meeting
+pub mod Determined

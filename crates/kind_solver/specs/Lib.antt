@@ -1,0 +1,5 @@
+pub mod Constraints
+pub mod Order
+pub mod Chains
+pub mod Sets
+pub mod Tables

@@ -1,0 +1,11 @@
+#![tactic(auto)]
+
+use crate::causes::Causes;
+use cc_base::Kinds;
+
+/// The kinds of the nodes of a program, with their causes.
+#[derive(Debug, Drop)]
+pub struct Solved {
+    pub kinds: Kinds,
+    pub causes: Causes,
+}

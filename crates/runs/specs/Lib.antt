@@ -1,0 +1,3 @@
+pub mod Outcome
+pub mod Control
+pub mod Input

@@ -1,0 +1,6 @@
+pub mod Cells
+pub mod Relations
+pub mod Refine
+pub mod Levels
+pub mod Pointers
+pub mod Sizes

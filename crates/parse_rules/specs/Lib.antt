@@ -1,1 +1,3 @@
 pub mod Parsers
+pub mod Grammars
+pub mod Rules

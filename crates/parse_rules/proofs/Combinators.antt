@@ -1,0 +1,166 @@
+-- The laws of the combinators: a rule keeps what its parts keep. A proof of a rule is one call for each line of the
+-- rule, in the same order.
+use Rattle.std.proofs.Common.{◌≡◌, ℕ, zero, suc, ◌<◌, ◌≤◌, Bool, true, false, cond, nat_lt, Option, Some, None, List, [], ◌∷◌, ◌++◌, ◌⊎◌, inl, inr, refl, sym, ◌∙◌, ap, subst, arith}
+use Rattle.std.proofs.lemmas.Bool.{ltb-true, ltb-false, le-ltb, lt-ltb}
+use Rattle.parse_rules.specs.Parsers.{Reason, Syntax, Unsupported, Deep, Answer, Read, Stopped, Parser, first, next, pure, refuse, skip, expect, branch, by_first, take_above, too_deep, unsupported, ◌>>=◌, ◌>>◌}
+use Rattle.parse_rules.specs.Grammars.{Width, Narrow, Wide, Each, CanBegin, InBoth, IsToken, Any}
+use Rattle.parse_rules.specs.Rules.{Instead, alike, nothing, Reads, Refuses, Breaks, Sinks, Kept, Rule}
+use Rattle.parse_rules.proofs.Keeping.{rule_like, rule_next, Starts, same, gone}
+
+module _ {T A : Type 0} {Valid : T → Type 0} {cut : Bool} {d : ℕ} where
+  -- what is given without reading is in the grammar with no tokens
+  pub rule_pure : {a : A} {In : Width → A → List T → Type 0} {Low : A → Type 0} {Ends : A → List T → Type 0} {ts : List T}
+      → ((g : Width) → In g a []) → Low a → Ends a ts → Rule Valid cut false (λ _. pure a) d In Low Ends ts
+  rule_pure {a} {In} {Low} {Ends} {ts} spells low ends = record { kept = record { pre = []; whole = refl; moved = λ h _. cc; spells = spells; low = low; ends = ends; again = λ d' rest' _ _. refl } }
+
+  -- where the next token is refused, some part goes on from here
+  pub rule_refuse : {In : Width → A → List T → Type 0} {Low : A → Type 0} {Ends : A → List T → Type 0} {ts : List T}
+      → CanBegin Valid (InBoth In) [] → Rule Valid cut false (λ _. refuse) d In Low Ends ts
+  rule_refuse {In} {Low} {Ends} {ts} begins = record { kept = record { pre = []; whole = refl; moved = λ h _. cc; begins = begins; again = λ d' rest' _ _. refl } }
+
+module _ {T : Type 0} {Valid : T → Type 0} {cut : Bool} {d : ℕ} where
+  -- the next token is taken where P holds of it
+  pub rule_skip : {P : Option T → Type 0} {ts : List T} → P (first ts) → (P None → ⊥)
+      → Rule Valid cut true (λ _. skip) d (λ _. IsToken P) (λ _. Unit {0}) Any ts
+  rule_skip {P} {ts = []} here never = absurd (never here)
+  rule_skip {P} {ts = t ∷ ts} here never = record {
+    kept = record {
+      pre = t ∷ [];
+      whole = refl;
+      moved = λ _ e. cc;
+      spells = λ _. record { spelled = refl; passes = here };
+      low = tt;
+      ends = tt;
+      again = λ d' rest' _ _. refl;
+    };
+  }
+
+  -- a token that goes above a part of height h is taken where P holds of it; then h nodes are allowed below
+  pub rule_take_above : {h : ℕ} {P : Option T → Type 0} {ts : List T} → P (first ts) → (P None → ⊥)
+      → Rule Valid cut true (λ d'. take_above d' h) d (λ _. IsToken P) (λ _. h ≤ d) Any ts
+  rule_take_above {h} {P} {ts = []} here never = absurd (never here)
+  rule_take_above {h} {P} {ts = t ∷ ts} here never = record { kept = by_room (nat_lt d h) refl }
+    where
+      token : (g : Width) → IsToken P t (t ∷ [])
+      token g = record { spelled = refl; passes = here }
+
+      by_room : (b : Bool) → nat_lt d h ≡ b → Kept Valid cut true (λ d'. take_above d' h) d (λ _. IsToken P) (λ _. h ≤ d) Any (t ∷ ts) (cond b (Stopped Deep (t ∷ ts)) (Read t ts))
+      by_room true e = record {
+        pre = [];
+        token = t;
+        post = ts;
+        place = refl;
+        whole = refl;
+        begins = record { part = t; more = []; valid = tt; spells = token };
+        again = λ post'. rw e;
+      }
+      by_room false e =
+          let fits : h ≤ d = ltb-false d h e in
+          record {
+            pre = t ∷ [];
+            whole = refl;
+            moved = λ _ e. cc;
+            spells = token;
+            low = fits;
+            ends = tt;
+            again = λ d' rest' le near. rw (le-ltb d' h (omega arith));
+          }
+
+  -- the next token is taken if it passes a test and refused else; t is one that passes
+  pub rule_expect : {test : Option T → Bool} {ts : List T} (t : T) → Valid t → test (Some t) ≡ true → test None ≡ false
+      → Rule Valid cut false (λ _. expect test) d (λ _. IsToken (λ o. test o ≡ true)) (λ _. Unit {0}) Any ts
+  rule_expect {test} {ts} t valid passes none = record { kept = by_test (test (first ts)) refl }
+    where
+      by_test : (b : Bool) → test (first ts) ≡ b → Kept Valid cut false (λ _. expect test) d (λ _. IsToken (λ o. test o ≡ true)) (λ _. Unit {0}) Any ts (cond b (skip ts) (Stopped Syntax ts))
+      by_test true e = taken ts e
+        where
+          taken : (ts : List T) → test (first ts) ≡ true → Kept Valid cut false (λ _. expect test) d (λ _. IsToken (λ o. test o ≡ true)) (λ _. Unit {0}) Any ts (skip ts)
+          taken [] e = cc
+          taken (u ∷ us) e = record {
+            pre = u ∷ [];
+            whole = refl;
+            moved = λ _ e. cc;
+            spells = λ _. record { spelled = refl; passes = e };
+            low = tt;
+            ends = tt;
+            again = λ d' rest' _ _. rw e;
+          }
+      by_test false e = record {
+        pre = [];
+        whole = refl;
+        moved = λ h _. cc;
+        begins = record { part = t; more = t ∷ []; valid = (valid, tt); spells = λ _. record { spelled = refl; passes = passes } };
+        again = λ d' rest' _ near. refused rest' near;
+      }
+        where
+          refused : (rest' : List T) → Instead cut ts rest' → expect test rest' ≡ Stopped Syntax rest'
+          refused rest' (alike h) = rw (ap test h ∙ e)
+          refused rest' (nothing _ h) = rw h (rw none)
+
+module _ {T A B : Type 0} {Valid : T → Type 0} {cut moves more_moves : Bool} {d : ℕ} {U : Width → A → List T → Type 0} {LowU : A → Type 0} {In : Width → B → List T → Type 0} {Low : B → Type 0} {Ends : B → List T → Type 0} {p : ℕ → Parser T A} {ts : List T} where
+  -- one rule after another, where the second may rely on what follows a part of the first
+  pub rule_bind_ends : {EndsU : A → List T → Type 0} {f : ℕ → A → Parser T B} → Rule Valid cut moves p d U LowU EndsU ts
+      → ((a : A) (s : List T) → U Wide a s → EndsU a [])
+      → ((a : A) (s rest : List T) → EndsU a rest → Rule Valid cut more_moves (λ d'. f d' a) d (λ g b s'. U g a s → In g b (s ++ s')) (λ b. LowU a → Low b) Ends rest)
+      → Rule Valid cut moves (λ d'. p d' >>= f d') d In Low Ends ts
+  rule_bind_ends {EndsU} {f} h at_end continues = rule_next T A B Valid cut moves more_moves d U LowU EndsU In Low Ends p (λ _. f) ts h continues at_end
+
+  pub rule_seq_ends : {EndsU : A → List T → Type 0} {q : ℕ → Parser T B} → Rule Valid cut moves p d U LowU EndsU ts
+      → ((a : A) (s : List T) → U Wide a s → EndsU a [])
+      → ((a : A) (s rest : List T) → EndsU a rest → Rule Valid cut more_moves q d (λ g b s'. U g a s → In g b (s ++ s')) (λ b. LowU a → Low b) Ends rest)
+      → Rule Valid cut moves (λ d'. p d' >> q d') d In Low Ends ts
+  rule_seq_ends {EndsU} {q} h at_end continues = rule_next T A B Valid cut moves more_moves d U LowU EndsU In Low Ends p (λ _ d' _. q d') ts h continues at_end
+
+  -- one rule after another; after the first has read a as s, the second goes on before rest
+  pub rule_bind : {f : ℕ → A → Parser T B} → Rule Valid cut moves p d U LowU Any ts
+      → ((a : A) (s rest : List T) → Rule Valid cut more_moves (λ d'. f d' a) d (λ g b s'. U g a s → In g b (s ++ s')) (λ b. LowU a → Low b) Ends rest)
+      → Rule Valid cut moves (λ d'. p d' >>= f d') d In Low Ends ts
+  rule_bind {f} h continues = rule_bind_ends {f = f} h (λ _ _ _. tt) (λ a s rest _. continues a s rest)
+
+  pub rule_seq : {q : ℕ → Parser T B} → Rule Valid cut moves p d U LowU Any ts
+      → ((a : A) (s rest : List T) → Rule Valid cut more_moves q d (λ g b s'. U g a s → In g b (s ++ s')) (λ b. LowU a → Low b) Ends rest)
+      → Rule Valid cut moves (λ d'. p d' >> q d') d In Low Ends ts
+  rule_seq {q} h continues = rule_seq_ends {q = q} h (λ _ _ _. tt) (λ a s rest _. continues a s rest)
+
+module _ {T A : Type 0} {Valid : T → Type 0} {cut : Bool} {d : ℕ} {In : Width → A → List T → Type 0} {Low : A → Type 0} {Ends : A → List T → Type 0} {ts : List T} where
+  -- a rule that surely reads a token may be taken for one that may not
+  pub rule_may_stay : {p : ℕ → Parser T A} {moves : Bool} → Rule Valid cut true p d In Low Ends ts → Rule Valid cut moves p d In Low Ends ts
+  rule_may_stay {p} {moves} h = record { kept = by_answer (p d ts) h.kept }
+    where
+      by_answer : (r : Answer T A) → Kept Valid cut true p d In Low Ends ts r → Kept Valid cut moves p d In Low Ends ts r
+      by_answer (Read a rest) k = record { pre = k.pre; whole = k.whole; moved = λ _. k.moved refl; spells = k.spells; low = k.low; ends = k.ends; again = k.again }
+      by_answer (Stopped Syntax rest) k = record { pre = k.pre; whole = k.whole; moved = λ _. k.moved refl; begins = k.begins; again = k.again }
+      by_answer (Stopped Unsupported rest) k = record { pre = k.pre; token = k.token; post = k.post; place = k.place; whole = k.whole; begins = k.begins; wider = k.wider; again = k.again }
+      by_answer (Stopped Deep rest) k = record { pre = k.pre; token = k.token; post = k.post; place = k.place; whole = k.whole; begins = k.begins; again = k.again }
+
+  -- by a test of the next token: the rule for one that passes reads it
+  pub rule_branch : (test : Option T → Bool) {p q : ℕ → Parser T A} {moves : Bool}
+      → test None ≡ false
+      → (test (first ts) ≡ true → Rule Valid cut true p d In Low Ends ts)
+      → (test (first ts) ≡ false → Rule Valid cut moves q d In Low Ends ts)
+      → Rule Valid cut moves (λ d'. branch test (p d') (q d')) d In Low Ends ts
+  rule_branch test {p} {q} {moves} none passes fails = by_test (test (first ts)) refl
+    where
+      by_test : (b : Bool) → test (first ts) ≡ b → Rule Valid cut moves (λ d'. branch test (p d') (q d')) d In Low Ends ts
+      by_test true e = rule_may_stay (rule_like (λ d'. branch test (p d') (q d')) p (λ d' ts' _ start. alike_true d' ts' start) (passes e))
+        where
+          alike_true : (d' : ℕ) (ts' : List T) → Starts true ts ts' → branch test (p d') (q d') ts' ≡ p d' ts'
+          alike_true d' ts' (same h) = rw (ap test h ∙ e)
+          alike_true d' ts' (gone h _) = cc
+      by_test false e = rule_like (λ d'. branch test (p d') (q d')) q (λ d' ts' _ start. alike_false d' ts' start) (fails e)
+        where
+          alike_false : (d' : ℕ) (ts' : List T) → Starts moves ts ts' → branch test (p d') (q d') ts' ≡ q d' ts'
+          alike_false d' ts' (same h) = rw (ap test h ∙ e)
+          alike_false d' ts' (gone _ h) = rw h (rw none)
+
+  -- by what the next token tells: the rule for it reads it, or is the rule for the end
+  pub rule_by_first : {X : Type 0} (tells : Option T → X) (p : ℕ → X → Parser T A) {moves : Bool}
+      → (moves ≡ true) ⊎ (tells (first ts) ≡ tells None)
+      → Rule Valid cut moves (λ d'. p d' (tells (first ts))) d In Low Ends ts
+      → Rule Valid cut moves (λ d'. by_first tells (p d')) d In Low Ends ts
+  rule_by_first {X} tells p {moves} or_end h = rule_like (λ d'. by_first tells (p d')) (λ d'. p d' (tells (first ts))) (λ d' ts' _ start. alike_first d' ts' start or_end) h
+    where
+      alike_first : (d' : ℕ) (ts' : List T) → Starts moves ts ts' → (moves ≡ true) ⊎ (tells (first ts) ≡ tells None) → by_first tells (p d') ts' ≡ p d' (tells (first ts)) ts'
+      alike_first d' ts' (same e) _ = ap (λ o. p d' (tells o) ts') e
+      alike_first d' ts' (gone still e) (inl reads) = cc
+      alike_first d' ts' (gone still e) (inr at_end) = rw at_end (rw e)

@@ -1,8 +1,8 @@
 -- Each way to build a rule keeps what its parts keep.
-use Rattle.std.proofs.Common.{◌≡◌, ℕ, ◌≤◌, Bool, true, false, Option, Some, None, List, [], ◌∷◌, ◌++◌, refl, sym, ◌∙◌, ap, subst, append_assoc, append-nil, arith}
-use Rattle.parse_rules.specs.Parsers.{Reason, Syntax, Unsupported, Deep, Answer, Read, Stopped, Parser, first, next, pure}
-use Rattle.parse_rules.specs.Grammars.{Width, Narrow, Wide, Each, CanBegin, InBoth}
-use Rattle.parse_rules.specs.Rules.{Instead, alike, nothing, Reads, Refuses, Breaks, Sinks, Kept, Rule}
+use Rattle.std.proofs.Common.{◌≡◌, ℕ, ◌≤◌, Bool, true, false, List, [], ◌∷◌, ◌++◌, refl, sym, ◌∙◌, ap, subst, append_assoc, append-nil, arith}
+use Rattle.parse_rules.specs.Parsers.{Syntax, Unsupported, Deep, Answer, Read, Stopped, Parser, first, next}
+use Rattle.parse_rules.specs.Grammars.{Width, Wide, Each, CanBegin, InBoth}
+use Rattle.parse_rules.specs.Rules.{Instead, alike, nothing, Reads, Kept, Rule}
 
 each_append : {X : Type 0} (P : X → Type 0) (xs ys : List X) → Each P xs → Each P ys → Each P (xs ++ ys)
 each_append P [] ys a b = b
@@ -86,17 +86,22 @@ instead_after pre rest rest' (alike e) = alike (first_same pre rest rest' e)
 instead_after [] rest rest' (nothing c e) = nothing c e
 instead_after (x ∷ pre) rest rest' (nothing c e) = alike refl
 
-module _ (T A B : Type 0) (Valid : T → Type 0) (cut moves more_moves : Bool) (d : ℕ) (U : Width → A → List T → Type 0) (LowU : A → Type 0) (Ends : A → List T → Type 0) (In : Width → B → List T → Type 0) (Low : B → Type 0) (EndsB : B → List T → Type 0) where
+-- Where the second of two rules reads: after the first, or at the end.
+pub data After {T : Type 0} (moves : Bool) (ts s rest : List T) : Type 0 where
+  rests : ts ≡ s ++ rest → (moves ≡ true → s ≡ [] → ⊥) → After moves ts s rest
+  over : rest ≡ [] → After moves ts s rest
+
+module _ (T A B : Type 0) (Valid : T → Type 0) (cut moves more_moves : Bool) (d : ℕ) (U : Width → A → List T → Type 0) (LowU : A → Type 0) (Ends : A → List T → Type 0) (In : Width → B → List T → Type 0) (Low : B → Type 0) (EndsB : B → List T → Type 0) (ts : List T) where
   -- what the second of two rules keeps, where the first has read a as s
   abbrev pub Continues : (List T → ℕ → A → Parser T B) → A → (s rest : List T) → Type 0
   Continues f a s rest = Rule Valid cut more_moves (λ d' rest'. f (s ++ rest') d' a rest') d (λ g b s'. U g a s → In g b (s ++ s')) (λ b. LowU a → Low b) EndsB rest
 
   -- A part of the first that was completed is completed to a part of both: the second, before no tokens, shows how.
-  -- This is so in each of the widths that Q names, of which the wide one is one.
-  finish : (Q : Width → Type 0) → Q Wide → (f : List T → ℕ → A → Parser T B)
-      → ((a : A) (s rest : List T) → Ends a rest → Continues f a s rest) → ((a : A) (s : List T) → U Wide a s → Ends a [])
+  -- This is so in each of the widths that Q names.
+  finish : (Q : Width → Type 0) (f : List T → ℕ → A → Parser T B)
+      → ((a : A) (s rest : List T) → Ends a rest → After moves ts s rest → Continues f a s rest) → ((a : A) → Ends a [])
       → (pre : List T) → CanBegin Valid (λ a s. (g : Width) → Q g → U g a s) pre → CanBegin Valid (λ b s. (g : Width) → Q g → In g b s) pre
-  finish Q wide f continues at_end pre c = by_answer (f ((pre ++ c.more) ++ []) d c.part []) (continues c.part (pre ++ c.more) [] (at_end c.part (pre ++ c.more) (c.spells Wide wide))).kept
+  finish Q f continues at_end pre c = by_answer (f ((pre ++ c.more) ++ []) d c.part []) (continues c.part (pre ++ c.more) [] (at_end c.part) (over refl)).kept
     where
       by_answer : (r : Answer T B) → Kept Valid cut more_moves (λ d' rest'. f ((pre ++ c.more) ++ rest') d' c.part rest') d (λ g b s'. U g c.part (pre ++ c.more) → In g b ((pre ++ c.more) ++ s')) (λ b. LowU c.part → Low b) EndsB [] r
           → CanBegin Valid (λ b s. (g : Width) → Q g → In g b s) pre
@@ -116,17 +121,17 @@ module _ (T A B : Type 0) (Valid : T → Type 0) (cut moves more_moves : Bool) (
       by_answer (Stopped Deep rest) k = absurd (empty_apart k.pre k.token k.post k.whole)
 
   finish_both : (f : List T → ℕ → A → Parser T B)
-      → ((a : A) (s rest : List T) → Ends a rest → Continues f a s rest) → ((a : A) (s : List T) → U Wide a s → Ends a [])
+      → ((a : A) (s rest : List T) → Ends a rest → After moves ts s rest → Continues f a s rest) → ((a : A) → Ends a [])
       → (pre : List T) → CanBegin Valid (InBoth U) pre → CanBegin Valid (InBoth In) pre
   finish_both f continues at_end pre c =
-      let w : CanBegin Valid (λ b s. (g : Width) → Unit {0} → In g b s) pre = finish (λ _. Unit {0}) tt f continues at_end pre (record { part = c.part; more = c.more; valid = c.valid; spells = λ g _. c.spells g }) in
+      let w : CanBegin Valid (λ b s. (g : Width) → Unit {0} → In g b s) pre = finish (λ _. Unit {0}) f continues at_end pre (record { part = c.part; more = c.more; valid = c.valid; spells = λ g _. c.spells g }) in
       record { part = w.part; more = w.more; valid = w.valid; spells = λ g. w.spells g tt }
 
   finish_wide : (f : List T → ℕ → A → Parser T B)
-      → ((a : A) (s rest : List T) → Ends a rest → Continues f a s rest) → ((a : A) (s : List T) → U Wide a s → Ends a [])
+      → ((a : A) (s rest : List T) → Ends a rest → After moves ts s rest → Continues f a s rest) → ((a : A) → Ends a [])
       → (pre : List T) → CanBegin Valid (U Wide) pre → CanBegin Valid (In Wide) pre
   finish_wide f continues at_end pre c =
-      let w : CanBegin Valid (λ b s. (g : Width) → g ≡ Wide → In g b s) pre = finish (λ g. g ≡ Wide) refl f continues at_end pre (record { part = c.part; more = c.more; valid = c.valid; spells = λ g e. subst (λ h. U h c.part (pre ++ c.more)) (sym e) c.spells }) in
+      let w : CanBegin Valid (λ b s. (g : Width) → g ≡ Wide → In g b s) pre = finish (λ g. g ≡ Wide) f continues at_end pre (record { part = c.part; more = c.more; valid = c.valid; spells = λ g e. subst (λ h. U h c.part (pre ++ c.more)) (sym e) c.spells }) in
       record { part = w.part; more = w.more; valid = w.valid; spells = w.spells Wide refl }
 
   -- a part that the second begins, after the first has read a as s, begins a part of both
@@ -137,10 +142,10 @@ module _ (T A B : Type 0) (Valid : T → Type 0) (cut moves more_moves : Bool) (
   after_wide a s pre u c = record { part = c.part; more = c.more; valid = c.valid; spells = subst (λ x. In Wide c.part x) (sym (append_assoc s pre c.more)) (c.spells (u Wide)) }
 
   -- one rule after another, where the second may depend on the whole list
-  pub rule_next : (p : ℕ → Parser T A) (f : List T → ℕ → A → Parser T B) (ts : List T)
-      → Rule Valid cut moves p d U LowU Ends ts → ((a : A) (s rest : List T) → Ends a rest → Continues f a s rest) → ((a : A) (s : List T) → U Wide a s → Ends a [])
+  pub rule_next : (p : ℕ → Parser T A) (f : List T → ℕ → A → Parser T B)
+      → Rule Valid cut moves p d U LowU Ends ts → ((a : A) (s rest : List T) → Ends a rest → After moves ts s rest → Continues f a s rest) → ((a : A) → Ends a [])
       → Rule Valid cut moves (λ d' ts'. next (p d' ts') (f ts' d')) d In Low EndsB ts
-  rule_next p f ts h continues at_end = record { kept = first_answer (p d ts) h.kept }
+  rule_next p f h continues at_end = record { kept = first_answer (p d ts) h.kept }
     where
       second_answer : (a : A) (rest : List T) (k : Reads Valid cut moves p d U LowU Ends ts a rest) (r : Answer T B)
           → Kept Valid cut more_moves (λ d' rest'. f (k.pre ++ rest') d' a rest') d (λ g b s'. U g a k.pre → In g b (k.pre ++ s')) (λ b. LowU a → Low b) EndsB rest r
@@ -182,7 +187,7 @@ module _ (T A B : Type 0) (Valid : T → Type 0) (cut moves more_moves : Bool) (
       }
 
       first_answer : (r : Answer T A) → Kept Valid cut moves p d U LowU Ends ts r → Kept Valid cut moves (λ d' ts'. next (p d' ts') (f ts' d')) d In Low EndsB ts (next r (f ts d))
-      first_answer (Read a rest) k = second_answer a rest k (f ts d a rest) (subst (λ x. Kept Valid cut more_moves (λ d' rest'. f (k.pre ++ rest') d' a rest') d (λ g b s'. U g a k.pre → In g b (k.pre ++ s')) (λ b. LowU a → Low b) EndsB rest (f x d a rest)) (sym k.whole) (continues a k.pre rest k.ends).kept)
+      first_answer (Read a rest) k = second_answer a rest k (f ts d a rest) (subst (λ x. Kept Valid cut more_moves (λ d' rest'. f (k.pre ++ rest') d' a rest') d (λ g b s'. U g a k.pre → In g b (k.pre ++ s')) (λ b. LowU a → Low b) EndsB rest (f x d a rest)) (sym k.whole) (continues a k.pre rest k.ends (rests k.whole k.moved)).kept)
       first_answer (Stopped Syntax rest) k = record {
         pre = k.pre;
         whole = k.whole;

@@ -1,7 +1,7 @@
 -- What a rule of a grammar promises of each list of tokens, whichever of its four answers it gives.
 -- A rule is a family of parsers, one for each number of nodes that is allowed below.
 use Rattle.std.specs.Prelude.{◌≡◌, ℕ, ◌≤◌, Bool, true, List, [], ◌∷◌, ◌++◌}
-use Rattle.parse_rules.specs.Parsers.{Reason, Syntax, Unsupported, Deep, Answer, Read, Stopped, Parser, first}
+use Rattle.parse_rules.specs.Parsers.{Syntax, Unsupported, Deep, Answer, Read, Stopped, Parser, first}
 use Rattle.parse_rules.specs.Grammars.{Width, Wide, CanBegin, InBoth}
 
 -- What may stand in the place of the tokens that are left, so that a rule still answers the same: any tokens that begin

@@ -5,7 +5,29 @@ use Rattle.std.proofs.lemmas.Bool.{ltb-false, le-ltb, true≢false}
 use Rattle.parse_rules.specs.Parsers.{Syntax, Unsupported, Deep, Answer, Read, Stopped, Parser, first, pure, refuse, skip, expect, branch, by_first, take_above, unsupported, ◌>>=◌, ◌>>◌}
 use Rattle.parse_rules.specs.Grammars.{Width, Wide, CanBegin, InBoth, IsToken, Any}
 use Rattle.parse_rules.specs.Rules.{Instead, alike, nothing, Kept, Rule}
-use Rattle.parse_rules.proofs.Keeping.{rule_like, rule_next, Starts, same, gone}
+use Rattle.parse_rules.proofs.Composition.{rule_like, rule_next, Starts, same, gone}
+
+module _ {T A : Type 0} {Valid : T → Type 0} {cut : Bool} {d : ℕ} {In : Width → A → List T → Type 0} {Low : A → Type 0} {Ends : A → List T → Type 0} {ts : List T} where
+  -- a rule for a grammar keeps as much for a grammar that has all its parts, and for weaker claims
+  pub rule_weaker : {In' : Width → A → List T → Type 0} {Low' : A → Type 0} {Ends' : A → List T → Type 0} {p : ℕ → Parser T A} {moves : Bool}
+      → ((g : Width) (a : A) (s : List T) → In g a s → In' g a s) → ((a : A) → Low a → Low' a) → ((a : A) (rest : List T) → Ends a rest → Ends' a rest)
+      → Rule Valid cut moves p d In Low Ends ts → Rule Valid cut moves p d In' Low' Ends' ts
+  rule_weaker {In'} {Low'} {Ends'} {p} {moves} wider lower looser h = record { kept = by_answer (p d ts) h.kept }
+    where
+      both : (pre : List T) → CanBegin Valid (InBoth In) pre → CanBegin Valid (InBoth In') pre
+      both pre c = record { part = c.part; more = c.more; valid = c.valid; spells = λ g. wider g c.part (pre ++ c.more) (c.spells g) }
+
+      by_answer : (r : Answer T A) → Kept Valid cut moves p d In Low Ends ts r → Kept Valid cut moves p d In' Low' Ends' ts r
+      by_answer (Read a rest) k = record { pre = k.pre; whole = k.whole; moved = k.moved; spells = λ g. wider g a k.pre (k.spells g); low = lower a k.low; ends = looser a rest k.ends; again = k.again }
+      by_answer (Stopped Syntax rest) k = record { pre = k.pre; whole = k.whole; moved = k.moved; begins = both k.pre k.begins; again = k.again }
+      by_answer (Stopped Unsupported rest) k = record { pre = k.pre; token = k.token; post = k.post; place = k.place; whole = k.whole; begins = both k.pre k.begins; wider = record { part = k.wider.part; more = k.wider.more; valid = k.wider.valid; spells = wider Wide k.wider.part ((k.pre ++ k.token ∷ []) ++ k.wider.more) k.wider.spells }; again = k.again }
+      by_answer (Stopped Deep rest) k = record { pre = k.pre; token = k.token; post = k.post; place = k.place; whole = k.whole; begins = both (k.pre ++ k.token ∷ []) k.begins; again = k.again }
+
+the_token : {T : Type 0} (t u : T) (s : List T) → IsToken (λ o. o ≡ Some t) u s → s ≡ t ∷ []
+the_token t u s h =
+    let spelled : s ≡ u ∷ [] = h.spelled in
+    let passes : Some u ≡ Some t = h.passes in
+    cc
 
 module _ {T A : Type 0} {Valid : T → Type 0} {cut : Bool} {d : ℕ} where
   -- what is given without reading is in the grammar with no tokens
@@ -67,9 +89,9 @@ module _ {T : Type 0} {Valid : T → Type 0} {cut : Bool} {d : ℕ} where
           }
 
   -- the next token is taken if it passes a test and refused else; t is one that passes
-  pub rule_expect : {test : Option T → Bool} {ts : List T} (t : T) → Valid t → test (Some t) ≡ true → test None ≡ false
+  pub rule_expect : (test : Option T → Bool) {ts : List T} (t : T) → Valid t → test (Some t) ≡ true → test None ≡ false
       → Rule Valid cut false (λ _. expect test) d (λ _. IsToken (λ o. test o ≡ true)) (λ _. Unit {0}) Any ts
-  rule_expect {test} {ts} t valid passes none = record { kept = by_test (test (first ts)) refl }
+  rule_expect test {ts} t valid passes none = record { kept = by_test (test (first ts)) refl }
     where
       by_test : (b : Bool) → test (first ts) ≡ b → Kept Valid cut false (λ _. expect test) d (λ _. IsToken (λ o. test o ≡ true)) (λ _. Unit {0}) Any ts (cond b (skip ts) (Stopped Syntax ts))
       by_test true e = taken ts e
@@ -96,6 +118,17 @@ module _ {T : Type 0} {Valid : T → Type 0} {cut : Bool} {d : ℕ} where
           refused : (rest' : List T) → Instead cut ts rest' → expect test rest' ≡ Stopped Syntax rest'
           refused rest' (alike h) = rw (ap test h ∙ e)
           refused rest' (nothing _ h) = rw h (rw none)
+
+  -- the same for one token, of which it is known or tested that it is this one
+  pub rule_skip_the : (t : T) {ts : List T} → first ts ≡ Some t → Rule Valid cut true (λ _. skip) d (λ _ _ s. s ≡ t ∷ []) (λ _. Unit {0}) Any ts
+  rule_skip_the t here = rule_weaker (λ g u s h. the_token t u s h) (λ u low. low) (λ u rest ends. ends) (rule_skip {P = λ o. o ≡ Some t} here (λ h. cc))
+
+  pub rule_take_above_the : (t : T) {h : ℕ} {ts : List T} → first ts ≡ Some t → Rule Valid cut true (λ d'. take_above d' h) d (λ _ _ s. s ≡ t ∷ []) (λ _. h ≤ d) Any ts
+  rule_take_above_the t here = rule_weaker (λ g u s h. the_token t u s h) (λ u low. low) (λ u rest ends. ends) (rule_take_above {P = λ o. o ≡ Some t} here (λ h. cc))
+
+  pub rule_expect_the : (test : Option T → Bool) {ts : List T} (t : T) → Valid t → test (Some t) ≡ true → test None ≡ false → ((u : T) → test (Some u) ≡ true → u ≡ t)
+      → Rule Valid cut false (λ _. expect test) d (λ _ _ s. s ≡ t ∷ []) (λ _. Unit {0}) Any ts
+  rule_expect_the test t valid passes none only = rule_weaker (λ g u s h. h.spelled ∙ ap (λ x. x ∷ []) (only u h.passes)) (λ u low. low) (λ u rest ends. ends) (rule_expect test t valid passes none)
 
 module _ {T A B : Type 0} {Valid : T → Type 0} {cut moves more_moves : Bool} {d : ℕ} {U : Width → A → List T → Type 0} {LowU : A → Type 0} {In : Width → B → List T → Type 0} {Low : B → Type 0} {Ends : B → List T → Type 0} {p : ℕ → Parser T A} {ts : List T} where
   -- one rule after another, where the second may rely on what follows a part of the first
@@ -165,6 +198,15 @@ module _ {T A : Type 0} {Valid : T → Type 0} {cut : Bool} {d : ℕ} {In : Widt
       alike_first d' ts' (gone still e) (inl reads) = cc
       alike_first d' ts' (gone still e) (inr at_end) = rw at_end (rw e)
 
+  -- the same, where the next token tells x: if the rule for x reads it, or is the rule for the end
+  pub rule_told : {X : Type 0} (tells : Option T → X) (p : ℕ → X → Parser T A) {moves : Bool} {x : X} → tells (first ts) ≡ x
+      → Rule Valid cut true (λ d'. p d' x) d In Low Ends ts → Rule Valid cut moves (λ d'. by_first tells (p d')) d In Low Ends ts
+  rule_told tells p {moves} {x} e h = rule_may_stay (rule_by_first tells p (inl refl) (rw e h))
+
+  pub rule_told_end : {X : Type 0} (tells : Option T → X) (p : ℕ → X → Parser T A) {moves : Bool} → tells (first ts) ≡ tells None
+      → Rule Valid cut moves (λ d'. p d' (tells None)) d In Low Ends ts → Rule Valid cut moves (λ d'. by_first tells (p d')) d In Low Ends ts
+  rule_told_end tells p {moves} e h = rule_by_first tells p (inr e) (rw e h)
+
   -- a rule that stops where the next token begins what isn't supported: some part goes on from there in the wide grammar
   pub rule_unsupported : (test : Option T → Bool) {p : ℕ → Parser T A} {moves : Bool}
       → test None ≡ false
@@ -208,21 +250,6 @@ module _ {T A : Type 0} {Valid : T → Type 0} {cut : Bool} {d : ℕ} {In : Widt
       by_answer (Stopped Syntax rest) k = record { pre = k.pre; whole = k.whole; moved = k.moved; begins = k.begins; again = λ d' rest' le near. above (Stopped Syntax rest') (k.pre ++ rest') (λ d'' le'. k.again d'' rest' le' near) d' le }
       by_answer (Stopped Unsupported rest) k = record { pre = k.pre; token = k.token; post = k.post; place = k.place; whole = k.whole; begins = k.begins; wider = k.wider; again = λ d' post' le. above (Stopped Unsupported (k.token ∷ post')) (k.pre ++ k.token ∷ post') (λ d'' le'. k.again d'' post' le') d' le }
       by_answer (Stopped Deep rest) k = record { pre = k.pre; token = k.token; post = k.post; place = k.place; whole = k.whole; begins = k.begins; again = k.again }
-
-  -- a rule for a grammar keeps as much for a grammar that has all its parts, and for weaker claims
-  pub rule_weaker : {In' : Width → A → List T → Type 0} {Low' : A → Type 0} {Ends' : A → List T → Type 0} {p : ℕ → Parser T A} {moves : Bool}
-      → ((g : Width) (a : A) (s : List T) → In g a s → In' g a s) → ((a : A) → Low a → Low' a) → ((a : A) (rest : List T) → Ends a rest → Ends' a rest)
-      → Rule Valid cut moves p d In Low Ends ts → Rule Valid cut moves p d In' Low' Ends' ts
-  rule_weaker {In'} {Low'} {Ends'} {p} {moves} wider lower looser h = record { kept = by_answer (p d ts) h.kept }
-    where
-      both : (pre : List T) → CanBegin Valid (InBoth In) pre → CanBegin Valid (InBoth In') pre
-      both pre c = record { part = c.part; more = c.more; valid = c.valid; spells = λ g. wider g c.part (pre ++ c.more) (c.spells g) }
-
-      by_answer : (r : Answer T A) → Kept Valid cut moves p d In Low Ends ts r → Kept Valid cut moves p d In' Low' Ends' ts r
-      by_answer (Read a rest) k = record { pre = k.pre; whole = k.whole; moved = k.moved; spells = λ g. wider g a k.pre (k.spells g); low = lower a k.low; ends = looser a rest k.ends; again = k.again }
-      by_answer (Stopped Syntax rest) k = record { pre = k.pre; whole = k.whole; moved = k.moved; begins = both k.pre k.begins; again = k.again }
-      by_answer (Stopped Unsupported rest) k = record { pre = k.pre; token = k.token; post = k.post; place = k.place; whole = k.whole; begins = both k.pre k.begins; wider = record { part = k.wider.part; more = k.wider.more; valid = k.wider.valid; spells = wider Wide k.wider.part ((k.pre ++ k.token ∷ []) ++ k.wider.more) k.wider.spells }; again = k.again }
-      by_answer (Stopped Deep rest) k = record { pre = k.pre; token = k.token; post = k.post; place = k.place; whole = k.whole; begins = both (k.pre ++ k.token ∷ []) k.begins; again = k.again }
 
 module _ {T A : Type 0} {Valid : T → Type 0} {cut : Bool} {In : Width → A → List T → Type 0} {Low : A → Type 0} {Ends : A → List T → Type 0} {ts : List T} where
   -- where no node is allowed below, a token that begins a part is too deep and any other is refused

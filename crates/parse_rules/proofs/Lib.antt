@@ -1,3 +1,6 @@
-pub mod Keeping
+pub mod Composition
 pub mod Combinators
 pub mod Loops
+pub mod Completeness
+pub mod Promises
+mod Example

@@ -3,7 +3,7 @@ use Rattle.std.proofs.Common.{◌≡◌, ℕ, zero, suc, pred, ◌<◌, ◌≤�
 use Rattle.parse_rules.specs.Parsers.{Reason, Answer, Read, Stopped, Parser, first, next, pure, repeat, loop}
 use Rattle.parse_rules.specs.Grammars.{Width}
 use Rattle.parse_rules.specs.Rules.{Reads, Kept, Rule}
-use Rattle.parse_rules.proofs.Keeping.{rule_like, rule_next, Starts, same, gone, After, rests, over}
+use Rattle.parse_rules.proofs.Composition.{rule_like, rule_next, Starts, same, gone, After, rests, over}
 use Rattle.parse_rules.proofs.Combinators.{rule_pure, rule_may_stay, rule_weaker}
 
 module _ {T A : Type 0} (goes_on : A → Option T → Bool) (step : A → Parser T A) where

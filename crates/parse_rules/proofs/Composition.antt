@@ -4,7 +4,7 @@ use Rattle.parse_rules.specs.Parsers.{Syntax, Unsupported, Deep, Answer, Read, S
 use Rattle.parse_rules.specs.Grammars.{Language, Extended, Each, CanBegin, InBoth}
 use Rattle.parse_rules.specs.Rules.{Instead, alike, nothing, Reads, Kept, Rule}
 
-each_append : {X : Type 0} (P : X → Type 0) (xs ys : List X) → Each P xs → Each P ys → Each P (xs ++ ys)
+pub each_append : {X : Type 0} (P : X → Type 0) (xs ys : List X) → Each P xs → Each P ys → Each P (xs ++ ys)
 each_append P [] ys a b = b
 each_append P (x ∷ xs) ys a b = (a.0, each_append P xs ys a.1 b)
 

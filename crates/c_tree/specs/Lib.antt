@@ -1,0 +1,11 @@
+pub mod Depth
+pub mod Grammar
+pub mod Operators
+pub mod Places
+pub mod Spelling
+pub mod StatementViews
+pub mod Symbols
+pub mod Tree
+pub mod Views
+pub mod Words
+pub mod formers

@@ -1,0 +1,5 @@
+pub mod DeclaratorRules
+pub mod ExprRules
+pub mod Rules
+pub mod Tests
+pub mod TypeRules

@@ -1,0 +1,12 @@
+//! The tree of a unit of C, with its parentheses kept: what the parser gives and the checker reads.
+#![tactic(auto)]
+
+mod boxed;
+mod items;
+mod leaf;
+mod operator;
+
+pub use boxed::Boxed;
+pub use items::Items;
+pub use leaf::{Identifier, Separator, Star, StringPiece, Word};
+pub use operator::{AggregateKind, Assignment, Binary, MemberOperator, Step, Unary};

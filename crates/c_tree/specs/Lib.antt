@@ -6,3 +6,5 @@ pub mod Symbols
 pub mod Tree
 pub mod Words
 pub mod formers
+pub mod TypedTree
+pub mod Erasure

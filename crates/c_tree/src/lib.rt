@@ -5,8 +5,10 @@ mod boxed;
 mod items;
 mod leaf;
 mod operator;
+mod typed_word;
 
 pub use boxed::Boxed;
 pub use items::Items;
 pub use leaf::{Identifier, Separator, Star, StringPiece, Word};
 pub use operator::{AggregateKind, Assignment, Binary, MemberOperator, Step, Unary};
+pub use typed_word::{Conversion, Home, Side};

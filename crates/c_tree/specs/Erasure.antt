@@ -12,7 +12,7 @@ use Rattle.c_tree.specs.Tree as tree
 use Rattle.c_tree.specs.Tree.{Expr, Arguments, TypeName, Specifiers, Specifier, Members, MemberDeclarators, Enumerators, Declarator, Core, Parts, Parameters, Declared, Initialiser, Items, InitDeclarators, Declaration, Statement, BlockItems}
 use Rattle.c_tree.specs.Tree.{TranslationUnit}
 use Rattle.c_tree.specs.TypedTree as typed
-use Rattle.c_tree.specs.TypedTree.{TypedStar, TypedExpr, TypedPlace, TypedArguments, TypedTypeName, TypedSpecifiers, TypedSpecifierList, TypedSpecifier, TypedMembers, TypedMemberDeclarators, TypedEnumerators, TypedDeclarator, TypedCore, TypedParts, TypedParameters, TypedDeclared, TypedInitialiser, TypedItems, TypedInitDeclarators, TypedDeclaration, TypedStatement, TypedBlockItems, TypedTranslationUnit}
+use Rattle.c_tree.specs.TypedTree.{TypedStar, TypedExpr, TypedPlace, TypedArguments, TypedTypeName, TypedSpecifiers, TypedSpecifierList, TypedSpecifier, TypedMembers, TypedMemberDeclarators, TypedEnumerators, TypedDeclarator, TypedForm, TypedCore, TypedParts, TypedParameters, TypedDeclared, TypedInitialiser, TypedItems, TypedInitDeclarators, TypedDeclaration, TypedStatement, TypedBlockItems, TypedTranslationUnit}
 
 -- `++` or `--` before its operand
 abbrev pub step_operator : Step → Unary
@@ -28,7 +28,7 @@ abbrev mutual
   erased (typed.Character value at t) = tree.Character value at
   erased (typed.Enumerator name value t) = tree.Name name
   erased (typed.FunctionName name number n t) = tree.Name name
-  erased (typed.RuntimeName name runtime) = tree.Name name
+  erased (typed.RuntimeName name runtime t) = tree.Name name
   erased (typed.Paren at e) = tree.Paren at (erased e)
   erased (typed.Read p) = erased_place p
   erased (typed.Unread p) = erased_place p
@@ -109,32 +109,35 @@ abbrev mutual
   erased_enumerators (typed.AndValued all name at e value) = tree.AndValued (erased_enumerators all) name at (erased e)
 
   pub erased_declarator : TypedDeclarator → Declarator
-  erased_declarator (typed.Declares stars core parts t) = tree.Declares (erased_stars stars) (erased_core core) (erased_parts parts)
+  erased_declarator (typed.Declares form t) = erased_form form
+
+  pub erased_form : TypedForm → Declarator
+  erased_form (typed.Form stars core parts) = tree.Declares (erased_stars stars) (erased_core core) (erased_parts parts)
 
   pub erased_core : TypedCore → Core
   erased_core (typed.Names name home) = tree.Names name
   erased_core typed.Unnamed = tree.Unnamed
-  erased_core (typed.Nested at d) = tree.Nested at (erased_declarator d)
+  erased_core (typed.Nested at form) = tree.Nested at (erased_form form)
 
   pub erased_parts : TypedParts → Parts
   erased_parts typed.NoPart = tree.NoPart
-  erased_parts (typed.AndArray all at words t) = tree.AndArray (erased_parts all) at words
-  erased_parts (typed.AndSizedArray all at words e t) = tree.AndSizedArray (erased_parts all) at words (erased e)
-  erased_parts (typed.AndFunction all at parameters t) = tree.AndFunction (erased_parts all) at (erased_parameters parameters)
+  erased_parts (typed.AndArray all at words) = tree.AndArray (erased_parts all) at words
+  erased_parts (typed.AndSizedArray all at words e size) = tree.AndSizedArray (erased_parts all) at words (erased e)
+  erased_parts (typed.AndFunction all at parameters) = tree.AndFunction (erased_parts all) at (erased_parameters parameters)
 
   pub erased_parameters : TypedParameters → Parameters
   erased_parameters typed.NoParameter = tree.NoParameter
-  erased_parameters (typed.AndParameter all specifiers declared n t) =
+  erased_parameters (typed.AndParameter all specifiers declared adjusted t) =
       tree.AndParameter (erased_parameters all) (erased_specifiers specifiers) (erased_declared declared)
 
   pub erased_declared : TypedDeclared → Declared
   erased_declared typed.NotDeclared = tree.NotDeclared
-  erased_declared (typed.DeclaredBy d) = tree.DeclaredBy (erased_declarator d)
+  erased_declared (typed.DeclaredBy form) = tree.DeclaredBy (erased_form form)
 
 abbrev mutual
   pub erased_initialiser : TypedInitialiser → Initialiser
   erased_initialiser (typed.Value e) = tree.Value (erased e)
-  erased_initialiser (typed.Copied p) = tree.Value (erased_place p)
+  erased_initialiser (typed.Copied p at) = tree.Value (erased_place p)
   erased_initialiser (typed.Text pieces bytes) = tree.Value (tree.String pieces)
   erased_initialiser (typed.Listed at items comma t) = tree.Listed at (erased_items items) comma
 

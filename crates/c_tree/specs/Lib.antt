@@ -8,3 +8,4 @@ pub mod Words
 pub mod formers
 pub mod TypedTree
 pub mod Erasure
+pub mod TypedParts

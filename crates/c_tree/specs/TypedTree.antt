@@ -15,15 +15,15 @@ use Rattle.c_tree.specs.declared.operator.Assignment.{Assignment}
 use Rattle.c_tree.specs.declared.operator.Binary.{Binary}
 use Rattle.c_tree.specs.declared.operator.Step.{Step}
 use Rattle.c_tree.specs.declared.operator.Unary.{Unary}
+use Rattle.c_tree.specs.declared.typed_word.Adjusted.{Adjusted}
 use Rattle.c_tree.specs.declared.typed_word.Conversion.{Conversion}
 use Rattle.c_tree.specs.declared.typed_word.Home.{Home}
 use Rattle.c_tree.specs.declared.typed_word.Side.{Side}
 
--- A `*` of a declarator: its node, and the pointer type that it makes.
+-- A `*` of a declarator, and its node.
 pub record TypedStar : Type 0 where
   pub star : Star
   pub node : NodeId
-  pub type : TypeId
 
 mutual
   -- An expression that has a value. A place whose value or address is taken is one by `Read`, `Unread` or `Decay`.
@@ -36,8 +36,8 @@ mutual
     Enumerator : Identifier → ℤ → TypeId → TypedExpr
     -- the address of the function that the unit defines under this number, counted from 0; silent (C99 6.3.2.1)
     FunctionName : Identifier → ℕ → NodeId → TypeId → TypedExpr
-    -- a runtime function, where it is called
-    RuntimeName : Identifier → Runtime → TypedExpr
+    -- a runtime function, where it is called, with its function type
+    RuntimeName : Identifier → Runtime → TypeId → TypedExpr
     Paren : Place → TypedExpr → TypedExpr
     -- the value of a scalar place; silent (C99 6.3.2.1)
     Read : TypedPlace → TypedExpr
@@ -146,37 +146,41 @@ mutual
 
   -- a declarator, and the type that it gives to its name
   pub data TypedDeclarator : Type 0 where
-    Declares : List TypedStar → TypedCore → TypedParts → TypeId → TypedDeclarator
+    Declares : TypedForm → TypeId → TypedDeclarator
+
+  -- stars, then a name, nothing or a form in parentheses, then array and function parts
+  pub data TypedForm : Type 0 where
+    Form : List TypedStar → TypedCore → TypedParts → TypedForm
 
   pub data TypedCore : Type 0 where
     Names : Identifier → Home → TypedCore
     Unnamed : TypedCore
-    Nested : Place → TypedDeclarator → TypedCore
+    Nested : Place → TypedForm → TypedCore
 
-  -- array and function parts, each with the type that it makes
   pub data TypedParts : Type 0 where
     NoPart : TypedParts
-    -- an array part without a size: of a parameter, which is a pointer, or with the size that the initialiser gives
-    AndArray : TypedParts → Place → List Word → TypeId → TypedParts
-    AndSizedArray : TypedParts → Place → List Word → TypedExpr → TypeId → TypedParts
-    AndFunction : TypedParts → Place → TypedParameters → TypeId → TypedParts
+    -- an array part without a size
+    AndArray : TypedParts → Place → List Word → TypedParts
+    -- an array part with the value of its size
+    AndSizedArray : TypedParts → Place → List Word → TypedExpr → ℕ → TypedParts
+    AndFunction : TypedParts → Place → TypedParameters → TypedParts
 
-  -- parameters, each with its type as the function has it; where that is a pointer made of an array or a function, its node
+  -- parameters, each with its type as the function has it; where that is a pointer made of an array or a function (C99 6.7.5.3), its node and place
   pub data TypedParameters : Type 0 where
     NoParameter : TypedParameters
-    AndParameter : TypedParameters → TypedSpecifiers → TypedDeclared → Option NodeId → TypeId → TypedParameters
+    AndParameter : TypedParameters → TypedSpecifiers → TypedDeclared → Option Adjusted → TypeId → TypedParameters
 
   pub data TypedDeclared : Type 0 where
     NotDeclared : TypedDeclared
-    DeclaredBy : TypedDeclarator → TypedDeclared
+    DeclaredBy : TypedForm → TypedDeclared
 
 -- Initialisers (C99 6.7.8).
 mutual
   pub data TypedInitialiser : Type 0 where
     -- a value, converted to the type of what it initialises
     Value : TypedExpr → TypedInitialiser
-    -- a struct or union that is copied
-    Copied : TypedPlace → TypedInitialiser
+    -- a struct or union that is copied, with the place of the `=` or of the item's first token
+    Copied : TypedPlace → Place → TypedInitialiser
     -- a string literal that initialises an array of char, with its bytes as far as they fit
     Text : List StringPiece → List ℕ → TypedInitialiser
     -- what is listed in braces, after the whole of the type is set to zero

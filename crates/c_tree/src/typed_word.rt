@@ -1,7 +1,7 @@
 //! Words of the typed tree.
 #![tactic(auto)]
 
-use cc_base::NodeId;
+use cc_base::{NodeId, Place};
 
 /// What a conversion does (C99 6.3).
 #[derive(Clone, Copy, Debug, PartialEq, Eq)]
@@ -38,6 +38,16 @@ pub enum Home {
     Static(NodeId),
     /// A new object that lives as long as a call (C99 6.2.4).
     Local(NodeId),
+    /// A parameter. It is an object where its function is defined (C99 6.9.1).
+    Parameter(NodeId),
     /// The object of an earlier declaration (C99 6.2.2).
     Known(NodeId),
+}
+
+/// The pointer that a parameter becomes whose type is an array or a function (C99 6.7.5.3): its node, and the place of the array's `[`,
+/// the function's `(` or the typedef's name.
+#[derive(Clone, Copy, Debug, PartialEq, Eq)]
+pub struct Adjusted {
+    pub node: NodeId,
+    pub place: Place,
 }

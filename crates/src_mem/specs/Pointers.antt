@@ -1,7 +1,8 @@
 -- The values of a C program: integers, and pointers.
-use Rattle.std.specs.Prelude.{ℕ, zero, suc, ℤ, pos, Bool, true, false, not, ◌&&◌, ◌==◌, ◌-ℤ◌, int_le, Option, None, Some}
+use Rattle.std.specs.Prelude.{ℕ, zero, suc, ℤ, pos, Bool, true, false, not, ◌&&◌, ◌==◌, ◌-ℤ◌, Option, None, Some}
 use Rattle.cc_base.specs.declared.number.TypeId.{TypeId}
 use Rattle.integers.specs.Words.{word}
+use Rattle.integers.specs.Arithmetic.{same_integer}
 
 -- the bytes of an object from `low` up to `high`: what a pointer was made for
 pub record Part : Type 0 where
@@ -67,9 +68,6 @@ distance l = l.offset -ℤ pos l.part.low
 abbrev pub same_part : Part → Part → Bool
 same_part p q = (p.low == q.low) && (p.high == q.high)
 
-abbrev pub same_integer : ℤ → ℤ → Bool
-same_integer x y = int_le x y && int_le y x
-
 -- Two pointers are equal (C99 6.5.9) where both are null, both were made from the same integer, both are the same function,
 -- or both stand at the same byte of the same object.
 abbrev pub same_pointer : Pointer → Pointer → Bool
@@ -91,8 +89,3 @@ pointer_of_integer z = pointer_of_word (word z)
 abbrev pub is_true : Value → Bool
 is_true (Integer z) = not (same_integer z (pos 0))
 is_true (Address p) = not (is_null p)
-
--- the integer of a truth value
-abbrev pub truth : Bool → ℤ
-truth true = pos 1
-truth false = pos 0

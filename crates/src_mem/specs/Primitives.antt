@@ -14,7 +14,7 @@ use Rattle.runs.specs.Outcome.{done, ends, leaves, allowed, either, ◌>>◌}
 use Rattle.runs.specs.Input.{Input, Closed, Open}
 use Rattle.src_mem.specs.Pointers.{Part, Location, Pointer, Null, Number, At, Function, Value, same_pointer, pointer_of_integer}
 use Rattle.src_mem.specs.Memory.{Object, Planned, new_variable, frame_charge, block_size, new_block, charge_of, with_integer, with_pointer, with_copy, cleared, holds_pointer_at, pointer_or_null}
-use Rattle.src_mem.specs.Arithmetic.{IntegerType, converted}
+use Rattle.integers.specs.Arithmetic.{IntegerType, converted}
 use Rattle.src_mem.specs.State.{State, Act, Exited, Wants, Wrong, Setting, wrong, given, touched, bytes_of}
 
 -- Where an access falls

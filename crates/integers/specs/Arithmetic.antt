@@ -3,7 +3,14 @@
 use Rattle.std.specs.Prelude.{ℕ, ◌-◌, ◌*◌, ◌^◌, ℤ, pos, negsuc, ◌+ℤ◌, ◌-ℤ◌, ◌*ℤ◌, neg_ℤ, Bool, true, false, not, ◌&&◌, int_lt, int_le, int_div, int_rem, bit_and, bit_or, bit_xor, if◌then◌else◌}
 use Rattle.std.specs.Int.{int_div_euclid}
 use Rattle.integers.specs.Words.{residue, word, as_unsigned, as_signed}
-use Rattle.src_mem.specs.Pointers.{same_integer, truth}
+
+abbrev pub same_integer : ℤ → ℤ → Bool
+same_integer x y = int_le x y && int_le y x
+
+-- the integer of a truth value
+abbrev pub truth : Bool → ℤ
+truth true = pos 1
+truth false = pos 0
 
 -- an integer type
 pub record IntegerType : Type 0 where

@@ -2,10 +2,8 @@
 -- type wraps, where C99 leaves it open or says so.
 use Rattle.std.specs.Prelude.{ℕ, ◌-◌, ◌*◌, ◌^◌, ℤ, pos, negsuc, ◌+ℤ◌, ◌-ℤ◌, ◌*ℤ◌, neg_ℤ, Bool, true, false, not, ◌&&◌, int_lt, int_le, int_div, int_rem, bit_and, bit_or, bit_xor, if◌then◌else◌}
 use Rattle.std.specs.Int.{int_div_euclid}
+use Rattle.std.specs.Ordering.{int_eq}
 use Rattle.integers.specs.Words.{residue, word, as_unsigned, as_signed}
-
-abbrev pub same_integer : ℤ → ℤ → Bool
-same_integer x y = int_le x y && int_le y x
 
 -- the integer of a truth value
 abbrev pub truth : Bool → ℤ
@@ -59,8 +57,8 @@ computed Or t x y = converted t (pos (bit_or (word x) (word y)))
 computed ExclusiveOr t x y = converted t (pos (bit_xor (word x) (word y)))
 computed ShiftLeft t x y = converted t (x *ℤ pos (2 ^ shift_amount t y))
 computed ShiftRight t x y = converted t (int_div_euclid x (pos (2 ^ shift_amount t y)))
-computed Equal t x y = truth (same_integer x y)
-computed Different t x y = truth (not (same_integer x y))
+computed Equal t x y = truth (int_eq x y)
+computed Different t x y = truth (not (int_eq x y))
 computed Less t x y = truth (int_lt x y)
 computed LessOrEqual t x y = truth (int_le x y)
 computed Greater t x y = truth (int_lt y x)
@@ -83,4 +81,4 @@ computed_alone Complement t x = converted t (negsuc 0 -ℤ x)
 
 -- the divisor isn't 0, and it isn't the least value of a signed type that is divided by -1
 abbrev pub can_divide : IntegerType → ℤ → ℤ → Bool
-can_divide t x y = not (same_integer y (pos 0)) && not (t.signed && (same_integer x (least t) && same_integer y (negsuc 0)))
+can_divide t x y = not (int_eq y (pos 0)) && not (t.signed && (int_eq x (least t) && int_eq y (negsuc 0)))

@@ -2,6 +2,7 @@
 -- (CCured, TOPLAS 2005), and when each holds.
 use Rattle.std.specs.Prelude.{ℕ, ◌+◌, ◌^◌, ℤ, pos, neg_ℤ, ◌+ℤ◌, ◌-ℤ◌, ◌*ℤ◌, int_le, Bool, true, false, not, ◌&&◌, ◌||◌, List, [], ◌∷◌, map, slice_get, Option, None, Some, nat_le, nat_lt, ◌==◌}
 use Rattle.std.specs.Int.{int_div_euclid, int_rem_euclid}
+use Rattle.std.specs.Ordering.{int_eq}
 use Rattle.cc_base.specs.declared.fault.Check.{Check}
 use Rattle.cc_base.specs.declared.fault.Check.TheVariants as check
 use Rattle.cc_base.specs.declared.number.TypeId.{TypeId}
@@ -13,7 +14,7 @@ use Rattle.c_types.specs.declared.flow_class.FlowClass.TheVariants.{Equal, UpTil
 use Rattle.runs.specs.Outcome.{allowed, done, ◌>>◌}
 use Rattle.src_mem.specs.Pointers.{Pointer, Null, Number, At, Function, is_null, is_at, is_null_or_at, distance, same_part}
 use Rattle.src_mem.specs.Memory.{Object, Memory, frame_charge, holds_none, holds_pointer_at, depth_of, depth_of_object, size_of_object}
-use Rattle.integers.specs.Arithmetic.{same_integer, IntegerType, can_divide}
+use Rattle.integers.specs.Arithmetic.{IntegerType, can_divide}
 use Rattle.src_mem.specs.Coverage.{covers, of_one_class}
 use Rattle.src_mem.specs.State.{Act, Stopped, Defined, Setting}
 
@@ -162,7 +163,7 @@ holds w memory (InSequence size n p) =
 holds w memory (InReach n p) = is_at p (λ l. between (neg_ℤ (pos (2 ^ 40))) (l.offset +ℤ n) (pos (2 ^ 40)))
 holds w memory (HoldsPointer p) = looks memory.objects p holds_pointer_at
 holds w memory (HoldsNone m p) = looks memory.objects p (holds_none m)
-holds w memory (IsAligned p) = is_at p (λ l. same_integer (int_rem_euclid l.offset (pos 8)) (pos 0))
+holds w memory (IsAligned p) = is_at p (λ l. int_eq (int_rem_euclid l.offset (pos 8)) (pos 0))
 holds w memory (IsMadeFor u p) = is_null_or_at p (λ l. covers w.table w.kind l.made u)
 holds w memory (Outlives target p) = nat_le (depth_of memory.objects p) (depth_of memory.objects target)
 holds w memory (IsNotOfFrame depth p) = not (is_at p (λ l. depth_of_object (slice_get memory.objects l.object) == depth))
@@ -170,7 +171,7 @@ holds w memory (IsFunctionOf t p) = is_function w p (λ f. of_one_class w.table 
 holds w memory (AreComparable p q) = of_one_part p q || (stands_within p.kind p.pointer && stands_within q.kind q.pointer)
 holds w memory (AreOfOnePart p q) = of_one_part p q
 holds w memory (AreElementsApart size p q) = of_one_part p q
-    && same_integer (int_rem_euclid (apart p.pointer q.pointer) (pos size)) (pos 0)
+    && int_eq (int_rem_euclid (apart p.pointer q.pointer) (pos size)) (pos 0)
 holds w memory (CanDivide t x y) = can_divide t x y
 holds w memory (HasRoom depth p) = is_function w p (has_room w memory depth)
 

@@ -5,3 +5,4 @@ pub mod Coverage
 pub mod Checks
 pub mod Primitives
 pub mod Uses
+pub mod Facts

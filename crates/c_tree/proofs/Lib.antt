@@ -1,0 +1,3 @@
+pub mod PushLaws
+pub mod StatementViewLaws
+pub mod ViewLaws

@@ -1,9 +1,12 @@
 pub mod Depth
 pub mod Grammar
 pub mod Operators
+pub mod Places
 pub mod Spelling
+pub mod StatementViews
 pub mod Symbols
 pub mod Tree
+pub mod Views
 pub mod Words
 pub mod formers
 pub mod TypedTree

@@ -2,13 +2,23 @@
 #![tactic(auto)]
 
 mod boxed;
+mod expr;
 mod items;
 mod leaf;
 mod operator;
+mod place;
+mod statement;
 mod typed_word;
 
 pub use boxed::Boxed;
+pub use expr::{
+    Core, Declarator, Enumerator, Expr, Members, Parameter, Part, Specifier, Specifiers, TypeName,
+};
 pub use items::Items;
 pub use leaf::{Identifier, Separator, Star, StringPiece, Word};
 pub use operator::{AggregateKind, Assignment, Binary, MemberOperator, Step, Unary};
+pub use statement::{
+    BlockItem, Declaration, External, FunctionDefinition, InitDeclarator, Initialiser, Statement,
+    Unit,
+};
 pub use typed_word::{Adjusted, Conversion, Home, Runtime, Side};

@@ -1,0 +1,6 @@
+pub mod Composition
+pub mod Combinators
+pub mod Loops
+pub mod Completeness
+pub mod Promises
+mod Example

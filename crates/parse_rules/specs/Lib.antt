@@ -1,0 +1,4 @@
+pub mod Parsers
+pub mod Grammars
+pub mod Rules
+pub mod Promises

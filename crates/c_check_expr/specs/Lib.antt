@@ -3,7 +3,7 @@ pub mod Integers
 pub mod Scopes
 pub mod Constants
 pub mod Conversions
-pub mod Places
+pub mod Held
 pub mod Rules
 pub mod Declarators
 pub mod Typing

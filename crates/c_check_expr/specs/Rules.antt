@@ -38,7 +38,7 @@ use Rattle.c_check_expr.specs.Integers.{char, promoted, common, constant_type, i
 use Rattle.c_check_expr.specs.Scopes.{Scopes, name_in, place_among, members_named, is_complete_at}
 use Rattle.c_check_expr.specs.Constants.{divides_badly, is_null_constant}
 use Rattle.c_check_expr.specs.Conversions.{bare, IsPlain, is_plain, is_droppable, IsOperand, is_taken_as, are_data, points_to_void, IsConverted, IsAssigned, IsTakenOver, takes_over, cast_conversion, converting}
-use Rattle.c_check_expr.specs.Places.{first_place}
+use Rattle.c_tree.specs.Places.{expr_place}
 
 abbrev pub IsCompleteAt : Table → Scopes → TypeId → Type 0
 IsCompleteAt table s t = IsTrue (is_complete_at table s t)
@@ -449,7 +449,7 @@ listed_arguments (typed.AndArgument all e) = listed_arguments all ++ e ∷ []
 
 -- an argument, converted to its parameter's type at its first token
 abbrev pub IsArgument : Table → TypeId → TypedExpr → Type 0
-IsArgument table t e = IsConverted table (first_place (erased e)) t e
+IsArgument table t e = IsConverted table (expr_place (erased e)) t e
 
 -- a call through a pointer to a function
 pub record IsCall (table : Table) (f : TypedExpr) (arguments : TypedArguments) (t : TypeId) : Type 0 where

@@ -12,3 +12,4 @@ pub mod formers
 pub mod TypedTree
 pub mod Erasure
 pub mod TypedParts
+pub mod TypedViews

@@ -12,8 +12,10 @@ use Rattle.c_tree.specs.declared.typed_word.Home.{Home}
 use Rattle.c_tree.specs.declared.typed_word.Home.TheVariants as home
 use Rattle.c_tree.specs.declared.typed_word.Side.{Side}
 use Rattle.c_tree.specs.declared.typed_word.Side.TheVariants as side
+use Rattle.c_tree.specs.Places.{pieces_place}
 use Rattle.c_tree.specs.TypedTree as typed
-use Rattle.c_tree.specs.TypedTree.{TypedStar, TypedExpr, TypedPlace, TypedArguments, TypedTypeName, TypedSpecifiers, TypedSpecifierList, TypedSpecifier, TypedMembers, TypedMemberDeclarators, TypedEnumerators, TypedDeclarator, TypedForm, TypedCore, TypedParts, TypedParameters, TypedDeclared, TypedInitialiser, TypedItems, TypedInitDeclarators, TypedDeclaration, TypedStatement, TypedBlockItems, TypedTranslationUnit}
+use Rattle.c_tree.specs.declared.typed_word.TypedStar.{TypedStar}
+use Rattle.c_tree.specs.TypedTree.{TypedExpr, TypedPlace, TypedArguments, TypedTypeName, TypedSpecifiers, TypedSpecifierList, TypedSpecifier, TypedMembers, TypedMemberDeclarators, TypedEnumerators, TypedDeclarator, TypedForm, TypedCore, TypedParts, TypedParameters, TypedDeclared, TypedInitialiser, TypedItems, TypedInitDeclarators, TypedDeclaration, TypedStatement, TypedBlockItems, TypedTranslationUnit}
 
 -- Types
 
@@ -333,21 +335,13 @@ pub record MadeObject : Type 0 where
   pub place : Place
   pub literal : Option (List StringPiece)
 
--- the place of the first of some string literals
-abbrev pub literal_place : Place → List StringPiece → Place
-literal_place none [] = none
-literal_place none (piece ∷ pieces) = piece.place
-
-abbrev pub nowhere : Place
-nowhere = record { line = 0; col = 0 }
-
 abbrev pub named_object : Identifier → NodeId → TypeId → MadeObject
 named_object name home t = record { home = home; type = t; place = name.place; literal = None }
 
 -- objects that live as long as the program
 abbrev pub static_made : Made → List MadeObject
 static_made (Name name (home.Static n) t) = named_object name n t ∷ []
-static_made (Literal pieces home t) = record { home = home; type = t; place = literal_place nowhere pieces; literal = Some pieces } ∷ []
+static_made (Literal pieces home t) = record { home = home; type = t; place = pieces_place pieces; literal = Some pieces } ∷ []
 static_made made = []
 
 -- objects that live as long as a call

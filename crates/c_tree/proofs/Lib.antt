@@ -1,3 +1,4 @@
 pub mod PushLaws
 pub mod StatementViewLaws
 pub mod ViewLaws
+pub mod TypedViewLaws

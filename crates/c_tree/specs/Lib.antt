@@ -9,3 +9,7 @@ pub mod Tree
 pub mod Views
 pub mod Words
 pub mod formers
+pub mod TypedTree
+pub mod Erasure
+pub mod TypedParts
+pub mod TypedViews

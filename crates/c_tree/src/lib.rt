@@ -8,6 +8,8 @@ mod leaf;
 mod operator;
 mod place;
 mod statement;
+mod typed_expr;
+mod typed_word;
 
 pub use boxed::Boxed;
 pub use expr::{
@@ -20,3 +22,8 @@ pub use statement::{
     BlockItem, Declaration, External, FunctionDefinition, InitDeclarator, Initialiser, Statement,
     Unit,
 };
+pub use typed_expr::{
+    TypedCore, TypedDeclarator, TypedEnumerator, TypedExpr, TypedForm, TypedMembers,
+    TypedParameter, TypedPart, TypedPlace, TypedSpecifier, TypedSpecifiers, TypedTypeName,
+};
+pub use typed_word::{Adjusted, Conversion, Home, Runtime, Side, TypedStar};

@@ -1,0 +1,9 @@
+pub mod Shapes
+pub mod Integers
+pub mod Scopes
+pub mod Constants
+pub mod Conversions
+pub mod Held
+pub mod Rules
+pub mod Declarators
+pub mod Typing

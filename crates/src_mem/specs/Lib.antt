@@ -6,3 +6,4 @@ pub mod Checks
 pub mod Primitives
 pub mod Uses
 pub mod Facts
+pub mod Laws

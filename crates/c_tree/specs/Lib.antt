@@ -1,0 +1,11 @@
+pub mod Depth
+pub mod Grammar
+pub mod Operators
+pub mod Spelling
+pub mod Symbols
+pub mod Tree
+pub mod Words
+pub mod formers
+pub mod TypedTree
+pub mod Erasure
+pub mod TypedParts

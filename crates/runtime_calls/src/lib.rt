@@ -1,0 +1,11 @@
+//! The six functions of the C library that every unit knows without a declaration (C99 7.19.7, 7.20.3, 7.20.4).
+#![tactic(auto)]
+
+mod function;
+mod naming;
+
+pub use function::{Runtime, RuntimeType};
+pub use naming::runtime;
+
+#[cfg(test)]
+mod tests;

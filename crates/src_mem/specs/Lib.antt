@@ -7,3 +7,4 @@ pub mod Primitives
 pub mod Uses
 pub mod Facts
 pub mod Laws
+pub mod Runtime

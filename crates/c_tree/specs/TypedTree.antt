@@ -5,7 +5,6 @@ use Rattle.cc_base.specs.declared.place.Place.{Place}
 use Rattle.cc_base.specs.declared.number.NodeId.{NodeId}
 use Rattle.cc_base.specs.declared.number.TypeId.{TypeId}
 use Rattle.c_lexer.specs.declared.number.IntegerType.{IntegerType}
-use Rattle.runtime_calls.specs.declared.function.Runtime.{Runtime}
 use Rattle.c_tree.specs.declared.leaf.Identifier.{Identifier}
 use Rattle.c_tree.specs.declared.leaf.StringPiece.{StringPiece}
 use Rattle.c_tree.specs.declared.leaf.Word.{Word}
@@ -18,6 +17,7 @@ use Rattle.c_tree.specs.declared.operator.Unary.{Unary}
 use Rattle.c_tree.specs.declared.typed_word.Adjusted.{Adjusted}
 use Rattle.c_tree.specs.declared.typed_word.Conversion.{Conversion}
 use Rattle.c_tree.specs.declared.typed_word.Home.{Home}
+use Rattle.c_tree.specs.declared.typed_word.Runtime.{Runtime}
 use Rattle.c_tree.specs.declared.typed_word.Side.{Side}
 
 -- A `*` of a declarator, and its node.
@@ -36,7 +36,7 @@ mutual
     Enumerator : Identifier → ℤ → TypeId → TypedExpr
     -- the address of the function that the unit defines under this number, counted from 0; silent (C99 6.3.2.1)
     FunctionName : Identifier → ℕ → NodeId → TypeId → TypedExpr
-    -- a runtime function, where it is called, with its function type
+    -- a runtime function, where it is called: no value, so that its type is `void`
     RuntimeName : Identifier → Runtime → TypeId → TypedExpr
     Paren : Place → TypedExpr → TypedExpr
     -- the value of a scalar place; silent (C99 6.3.2.1)

@@ -11,4 +11,4 @@ pub use boxed::Boxed;
 pub use items::Items;
 pub use leaf::{Identifier, Separator, Star, StringPiece, Word};
 pub use operator::{AggregateKind, Assignment, Binary, MemberOperator, Step, Unary};
-pub use typed_word::{Adjusted, Conversion, Home, Side};
+pub use typed_word::{Adjusted, Conversion, Home, Runtime, Side};

@@ -51,3 +51,20 @@ pub struct Adjusted {
     pub node: NodeId,
     pub place: Place,
 }
+
+/// A function of the C library that every unit knows without a declaration.
+#[derive(Clone, Copy, Debug, PartialEq, Eq)]
+pub enum Runtime {
+    /// `void *malloc(unsigned long)` (C99 7.20.3.3).
+    Malloc,
+    /// `void *calloc(unsigned long, unsigned long)` (C99 7.20.3.1).
+    Calloc,
+    /// `void free(void *)` (C99 7.20.3.2).
+    Free,
+    /// `int getchar(void)` (C99 7.19.7.6).
+    Getchar,
+    /// `int putchar(int)` (C99 7.19.7.9).
+    Putchar,
+    /// `void exit(int)` (C99 7.20.4.3).
+    Exit,
+}

@@ -3,8 +3,8 @@ use Rattle.std.proofs.Common.{◌≡◌, ℕ, Bool, true, false, if◌then◌els
 use Rattle.std.specs.Bool.{⊤}
 use Rattle.std.proofs.lemmas.Slice.Eq.{bytes_eq-Decides}
 use Rattle.std.proofs.lemmas.Bool.Decides.{not_from_Decides}
-use Rattle.runtime_calls.specs.declared.function.Runtime.{Runtime}
-use Rattle.runtime_calls.specs.declared.function.Runtime.TheVariants.{Malloc, Calloc, Free, Getchar, Putchar, Exit}
+use Rattle.c_tree.specs.declared.typed_word.Runtime.{Runtime}
+use Rattle.c_tree.specs.declared.typed_word.Runtime.TheVariants.{Malloc, Calloc, Free, Getchar, Putchar, Exit}
 use Rattle.runtime_calls.specs.declared.naming.TheConstants.{RUNTIME}
 use Rattle.runtime_calls.specs.Prototypes.{runtime_name, runtime_of, IsNamed, IsNoName}
 

@@ -6,8 +6,8 @@ use Rattle.cc_base.specs.declared.number.TypeId.{TypeId}
 use Rattle.c_types.specs.declared.shape.TypeShape.TheVariants.{Void as IsVoid, Integer, Pointer, Function}
 use Rattle.c_types.specs.Table.{Table, HasShape}
 use Rattle.runtime_calls.specs.declared.naming.TheConstants.{RUNTIME}
-use Rattle.runtime_calls.specs.declared.function.Runtime.{Runtime}
-use Rattle.runtime_calls.specs.declared.function.Runtime.TheVariants.{Malloc, Calloc, Free, Getchar, Putchar, Exit}
+use Rattle.c_tree.specs.declared.typed_word.Runtime.{Runtime}
+use Rattle.c_tree.specs.declared.typed_word.Runtime.TheVariants.{Malloc, Calloc, Free, Getchar, Putchar, Exit}
 use Rattle.runtime_calls.specs.declared.function.RuntimeType.{RuntimeType}
 use Rattle.runtime_calls.specs.declared.function.RuntimeType.TheVariants.{Void, Int, UnsignedLong, VoidPointer}
 

@@ -4,7 +4,8 @@
 mod function;
 mod naming;
 
-pub use function::{Runtime, RuntimeType};
+pub use c_tree::Runtime;
+pub use function::{RuntimeType, name_of, parameters_of, result_of};
 pub use naming::runtime;
 
 #[cfg(test)]

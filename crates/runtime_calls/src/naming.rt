@@ -3,7 +3,8 @@
 ghost use Rattle.std.specs.Prelude.{◌≡◌, MatchOption};
 ghost use Rattle.runtime_calls.specs.Prototypes.{IsNamed, IsNoName, runtime_of};
 
-use crate::function::Runtime;
+use crate::function::name_of;
+use c_tree::Runtime;
 
 /// Every runtime function.
 const RUNTIME: [Runtime; 6] = [
@@ -19,7 +20,7 @@ const RUNTIME: [Runtime; 6] = [
 fn first_named(name: &[u8]) -> Option<Runtime>
     ensures { result ≡ runtime_of name.now }
 {
-    RUNTIME.iter().copied().find(|each| each.name() == name)
+    RUNTIME.iter().copied().find(|each| name_of(*each) == name)
 }
 
 /// The runtime function with a name. Takes no memory.

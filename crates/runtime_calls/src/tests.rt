@@ -14,7 +14,10 @@ const OTHERS: [&[u8]; 8] = [
 #[test]
 fn each_of_the_six_names_is_found(rt: HostRuntime) -> Result<(), Fail> {
     for name in &NAMES {
-        assert_eq!(rt; runtime(name).map(|function| function.name()), Some(*name));
+        assert_eq!(rt;
+            runtime(name).map(|function| name_of(function)),
+            Some(*name)
+        );
     }
     Ok(())
 }
@@ -29,10 +32,10 @@ fn other_names_are_none(rt: HostRuntime) -> Result<(), Fail> {
 
 #[test]
 fn prototypes_are_those_of_the_c_library(rt: HostRuntime) -> Result<(), Fail> {
-    assert_eq!(rt; Runtime::Calloc.parameters().len(), 2);
-    assert_eq!(rt; Runtime::Calloc.result(), RuntimeType::VoidPointer);
-    assert_eq!(rt; Runtime::Getchar.parameters().len(), 0);
-    assert_eq!(rt; Runtime::Putchar.result(), RuntimeType::Int);
-    assert_eq!(rt; Runtime::Exit.result(), RuntimeType::Void);
+    assert_eq!(rt; parameters_of(Runtime::Calloc).len(), 2);
+    assert_eq!(rt; result_of(Runtime::Calloc), RuntimeType::VoidPointer);
+    assert_eq!(rt; parameters_of(Runtime::Getchar).len(), 0);
+    assert_eq!(rt; result_of(Runtime::Putchar), RuntimeType::Int);
+    assert_eq!(rt; result_of(Runtime::Exit), RuntimeType::Void);
     Ok(())
 }

@@ -1,5 +1,5 @@
 use Rattle.std.proofs.Common.{subst, sym, MatchOption, Option}
-use Rattle.runtime_calls.specs.declared.function.Runtime.{Runtime}
+use Rattle.c_tree.specs.declared.typed_word.Runtime.{Runtime}
 use Rattle.runtime_calls.specs.Prototypes.{IsNamed, IsNoName}
 use Rattle.runtime_calls.proofs.Found.{runtime_of-exact}
 use Rattle.runtime_calls.proofs.naming.runtime.Goals as goal

@@ -1,0 +1,6 @@
+//! The typing of expressions, specifiers and declarators (C99 6.5, 6.7), and the scopes of names and tags.
+#![tactic(auto)]
+
+mod declared;
+
+pub use declared::{Declared, Tag};

@@ -14,8 +14,7 @@ use Rattle.integers.specs.Words.{word}
 use Rattle.integers.specs.Arithmetic as integer
 use Rattle.integers.specs.Arithmetic.{IntegerType, Operator, converted, computed, computed_alone, can_divide, divides, truth}
 use Rattle.runs.specs.Outcome.{done, either, ◌>>=◌, ◌>>◌}
-use Rattle.runtime_calls.specs.declared.function.Runtime.{Runtime}
-use Rattle.runtime_calls.specs.declared.function.Runtime.TheVariants as runtime
+use Rattle.c_tree.specs.declared.typed_word.Runtime.{Runtime}
 use Rattle.c_tree.specs.declared.leaf.Identifier.{Identifier}
 use Rattle.c_tree.specs.declared.leaf.StringPiece.{StringPiece}
 use Rattle.c_tree.specs.declared.operator.Assignment.{Assignment}
@@ -38,7 +37,7 @@ use Rattle.src_mem.specs.State.{Act, wrong, given, as_integer, as_pointer, turn}
 use Rattle.src_mem.specs.Checks as checks
 use Rattle.src_mem.specs.Checks.{Used, Condition, CanDivide, Conversion as PointerConversion, conditions_of, conditions_of_conversion, conditions_of_allocation, checked, all_checked}
 use Rattle.src_mem.specs.Primitives.{address, move, difference, is_before, are_equal, convert, pointer_from, integer_from, called}
-use Rattle.src_mem.specs.Runtime.{malloc, calloc, free, getchar, putchar, exits}
+use Rattle.runtime_calls.specs.Meanings.{call_runtime, call_allocation}
 use Rattle.src_mem.specs.Uses.{read, write, copy_all, home}
 use Rattle.src_machine.specs.World.{World, node_in, kind_in, pointee, size, integer_in, object_of}
 
@@ -208,22 +207,10 @@ call_function w at kind t p arguments = do
   all_checked w.setting at (conditions_of (checks.Call t (suc w.frame.depth)) kind p)
   called p (λ f. w.call f (suc w.frame.depth) arguments)
 
-abbrev pub call_runtime : Runtime → List Value → Act Value
-call_runtime runtime.Free arguments = free arguments
-call_runtime runtime.Getchar arguments = getchar arguments
-call_runtime runtime.Putchar arguments = putchar arguments
-call_runtime runtime.Exit arguments = exits arguments
-call_runtime other arguments = wrong
-
-abbrev pub allocated : World → Runtime → NodeId → TypeId → List Value → Act Value
-allocated w runtime.Malloc node t arguments = malloc w.setting node t arguments
-allocated w runtime.Calloc node t arguments = calloc w.setting node t arguments
-allocated w other node t arguments = wrong
-
 -- a block for a pointer of this node to t, whose first t has to be there
 abbrev pub allocate_for : World → Place → Runtime → NodeId → TypeId → List Value → Act Value
 allocate_for w at function node t arguments = do
-  v ← allocated w function node t arguments
+  v ← call_allocation w.setting node t function arguments
   p ← as_pointer v
   all_checked w.setting at (conditions_of_allocation (w.setting.kind node) (size w t) p)
   done v

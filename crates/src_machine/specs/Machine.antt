@@ -109,8 +109,8 @@ call_body w statics call f depth arguments d s =
 abbrev pub call_within : ℕ → Setting → List NodeId → List DefinedFunction → ℕ → ℕ → List Value → Act Value
 call_within zero w statics functions f depth arguments = ends Turns
 call_within (suc n) w statics functions f depth arguments = do
-    turn
-    given (slice_get functions f) (call_body w statics (call_within n w statics functions) f depth arguments)
+  turn
+  given (slice_get functions f) (call_body w statics (call_within n w statics functions) f depth arguments)
 
 -- The run
 
@@ -122,8 +122,8 @@ initialise_statics (i ∷ all) w = initialise_object w i.home i.type i.place i.i
 -- `main` is entered at depth 1 without a turn, once it has room
 abbrev pub run_main : Setting → List NodeId → (ℕ → ℕ → List Value → Act Value) → ℕ → DefinedFunction → Act Value
 run_main w statics call f d = do
-    checked w (place_of_name (name_of d.declarator)) (HasRoom 1 (Function f))
-    call_body w statics call f 1 [] d
+  checked w (place_of_name (name_of d.declarator)) (HasRoom 1 (Function f))
+  call_body w statics call f 1 [] d
 
 -- the exit status that `main` returns
 abbrev pub status_of : Value → ℕ
@@ -150,8 +150,8 @@ abbrev pub run_unit : TypedTranslationUnit → Setting → ℕ → Act Value
 run_unit u w turns =
     let statics = map (λ o. o.home) (statics_of u) in
     let call = call_within turns w statics (functions_of u) in do
-    initialise_statics (static_initialisers u) (record { setting = w; statics = statics; frame = record { depth = 0; first = 0; homes = [] }; call = call })
-    given (main_of u) (λ f. given (slice_get (functions_of u) f) (run_main w statics call f))
+      initialise_statics (static_initialisers u) (record { setting = w; statics = statics; frame = record { depth = 0; first = 0; homes = [] }; call = call })
+      given (main_of u) (λ f. given (slice_get (functions_of u) f) (run_main w statics call f))
 
 -- what a run gives
 pub record SourceOutcome : Type 0 where

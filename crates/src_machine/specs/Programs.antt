@@ -1,11 +1,11 @@
 -- Small programs as typed trees, each with the kinds of its nodes, and what they give. The C text stands above each; what a tree
 -- doesn't say is the text's layout.
 use Rattle.std.specs.Prelude.{ℕ, ◌+◌, [], ◌∷◌, ◌++◌, codes}
-use Rattle.cc_base.specs.declared.kind.Kind.TheVariants.{Safe, Seq, Rtti, Wild}
+use Rattle.cc_base.specs.declared.kind.Kind.TheVariants.{Safe, Seq, Wild}
 use Rattle.c_types.specs.declared.shape.TypeShape.TheVariants as shape
-use Rattle.c_types.specs.Table.{Table, Entry}
+use Rattle.c_types.specs.Table.{Table}
 use Rattle.c_types.specs.Calls.{basic_table}
-use Rattle.runs.specs.Input.{Input, Closed, Open}
+use Rattle.runs.specs.Input.{Input, Closed}
 use Rattle.c_tree.specs.declared.operator.Binary.TheVariants as binary
 use Rattle.c_tree.specs.declared.operator.Step.TheVariants as step
 use Rattle.c_tree.specs.declared.typed_word.Conversion.TheVariants as conversion
@@ -13,8 +13,9 @@ use Rattle.c_tree.specs.declared.typed_word.Runtime.TheVariants as runtime
 use Rattle.c_tree.specs.declared.typed_word.Side.TheVariants as side
 use Rattle.c_tree.specs.TypedTree as typed
 use Rattle.c_tree.specs.TypedTree.{TypedExpr, TypedPlace, TypedTranslationUnit}
-use Rattle.src_machine.specs.Machine.{SourceOutcome, source_run}
-use Rattle.src_machine.specs.Small.{Item, at, at_line, node, type, char, int, long, unsigned_long, entry, kinds, name, number, variable, value, null, flows, widened, type_name, arguments, string, local, local_is, declares, does, runs, returns, returns_nothing, while, main, function, global, put, get, runtime_call, aggregate}
+use Rattle.src_mem.specs.Runs.{SourceOutcome}
+use Rattle.src_machine.specs.Machine.{source_run}
+use Rattle.src_machine.specs.Small.{at, at_line, node, type, char, int, long, unsigned_long, entry, kinds, name, number, variable, value, null, flows, widened, type_name, arguments, string, local, local_is, declares, does, runs, returns, while, main, function, global, put, get, runtime_call, aggregate}
 
 -- int main(void){int *p;p=0;return *p;}
 abbrev pub null_read : SourceOutcome

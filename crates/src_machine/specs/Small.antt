@@ -1,5 +1,5 @@
 -- Words to write small typed trees with: they leave out what the machine doesn't look at.
-use Rattle.std.specs.Prelude.{ℕ, ℤ, List, [], ◌∷◌, None, Some, slice_index_or, codes}
+use Rattle.std.specs.Prelude.{ℕ, List, [], ◌∷◌, None, Some, slice_index_or, codes}
 use Rattle.std.specs.List.{fold}
 use Rattle.cc_base.specs.declared.place.Place.{Place}
 use Rattle.cc_base.specs.declared.number.NodeId.{NodeId}
@@ -18,7 +18,7 @@ use Rattle.c_tree.specs.declared.typed_word.Runtime.TheVariants as runtime
 use Rattle.c_tree.specs.TypedTree as typed
 use Rattle.c_tree.specs.TypedTree.{TypedExpr, TypedPlace, TypedArguments, TypedForm, TypedDeclarator, TypedParameters, TypedInitialiser, TypedDeclaration, TypedStatement, TypedBlockItems, TypedTranslationUnit, TypedSpecifiers, TypedTypeName}
 use Rattle.src_mem.specs.State.{Ending, Access}
-use Rattle.src_machine.specs.Machine.{SourceOutcome}
+use Rattle.src_mem.specs.Runs.{SourceOutcome}
 
 -- the place in line 1 at this column
 abbrev pub at : ℕ → Place

@@ -1,5 +1,5 @@
 -- What initialisers, declarations and statements do (C99 6.7.8, 6.8).
-use Rattle.std.specs.Prelude.{ℕ, zero, suc, ◌+◌, ℤ, pos, Bool, true, false, not, ◌&&◌, ◌||◌, List, [], ◌∷◌, Option, None, Some}
+use Rattle.std.specs.Prelude.{ℕ, ℤ, pos, Bool, true, false, ◌||◌, List, [], ◌∷◌, Option, None, Some}
 use Rattle.std.specs.Ordering.{int_eq}
 use Rattle.cc_base.specs.declared.place.Place.{Place}
 use Rattle.cc_base.specs.declared.number.NodeId.{NodeId}
@@ -13,15 +13,16 @@ use Rattle.c_tree.specs.declared.typed_word.Home.{Home}
 use Rattle.c_tree.specs.declared.typed_word.Home.TheVariants as home
 use Rattle.c_tree.specs.TypedTree as typed
 use Rattle.c_tree.specs.TypedTree.{TypedExpr, TypedPlace, TypedInitialiser, TypedItems, TypedInitDeclarators, TypedDeclarator, TypedDeclaration, TypedStatement, TypedBlockItems}
-use Rattle.c_tree.specs.TypedParts.{type_of, place_type, declared_type, home_of}
-use Rattle.src_mem.specs.Pointers.{Pointer, Value, Integer, Address, is_true}
-use Rattle.src_mem.specs.State.{State, Act, Turns, given, as_integer, turn}
+use Rattle.c_tree.specs.TypedParts.{type_of, declared_type, home_of}
+use Rattle.src_mem.specs.Pointers.{Value, Integer, Address, is_true}
+use Rattle.src_mem.specs.State.{Act, Turns, given, as_integer, turn}
 use Rattle.src_mem.specs.Checks as checks
 use Rattle.src_mem.specs.Checks.{Condition, conditions_of, all_checked}
 use Rattle.src_mem.specs.Primitives.{clear}
 use Rattle.src_mem.specs.Uses.{write, copy_all, forward}
-use Rattle.src_machine.specs.World.{World, kind_in, object_of}
-use Rattle.src_machine.specs.Expressions.{Located, eval, locate, locate_object}
+use Rattle.src_mem.specs.Operations.{Located, kind_in}
+use Rattle.src_machine.specs.World.{World, object_of}
+use Rattle.src_machine.specs.Expressions.{eval, locate, locate_object}
 
 -- Initialisers
 
@@ -233,7 +234,7 @@ flow_of_progress (Runs flow) = flow_of_switch flow
 abbrev pub returned : World → Place → TypeId → Value → Act Flow
 returned w at t (Integer z) = done (Returns (Integer z))
 returned w at t (Address p) = do
-  all_checked w.setting at (conditions_of (checks.Return w.frame.depth) (kind_in w t) p)
+  all_checked w.setting at (conditions_of (checks.Return w.frame.depth) (kind_in w.setting t) p)
   done (Returns (Address p))
 
 abbrev mutual

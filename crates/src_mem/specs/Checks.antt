@@ -285,7 +285,16 @@ conditions_of_allocation k size p = by_kind k (null_or_in_bounds size p) [] []
 abbrev pub checked : Setting → Place → Condition → Act (Unit {0})
 checked w place condition s = allowed (holds w s.memory condition) (Stopped (check_of condition) place) (done tt) s
 
--- the conditions in order; the first that is false stops the run at the place
+-- the conditions in order, each at its place; the first that is false stops the run
+abbrev pub all_placed : Setting → (Condition → Place) → List Condition → Act (Unit {0})
+all_placed w place [] = done tt
+all_placed w place (c ∷ cs) = checked w (place c) c >> all_placed w place cs
+
+-- the conditions in order, all at one place
 abbrev pub all_checked : Setting → Place → List Condition → Act (Unit {0})
-all_checked w place [] = done tt
-all_checked w place (c ∷ cs) = checked w place c >> all_checked w place cs
+all_checked w place conditions = all_placed w (λ c. place) conditions
+
+-- where the conditions of a write stand: ESCAPE at the assignment, the others where the place stands that is written
+abbrev pub place_of_write : Place → Place → Condition → Place
+place_of_write own assignment (Outlives target p) = assignment
+place_of_write own assignment condition = own

@@ -6,3 +6,7 @@ pub mod Checks
 pub mod Primitives
 pub mod Uses
 pub mod Facts
+pub mod Laws
+pub mod Runtime
+pub mod Operations
+pub mod Runs

@@ -1,7 +1,7 @@
 -- The operations on memory that a C program is made of. Each gives its result, the accesses that it makes and the memory that it
 -- leaves; or it is wrong: it would touch a byte outside the pointer's part (outside the object, for a WILD pointer) or an
 -- object that has ended, call what is no function, or use as a pointer what is none.
-use Rattle.std.specs.Prelude.{ℕ, suc, ◌+◌, ◌*◌, ◌-◌, ◌^◌, ℤ, pos, negsuc, ◌+ℤ◌, ◌-ℤ◌, ◌*ℤ◌, int_lt, int_div, Bool, true, false, ◌&&◌, List, [], ◌∷◌, ◌++◌, map, length, slice_get, slice_set, Option, None, Some, nat_le, nat_lt, ◌==◌, if◌then◌else◌}
+use Rattle.std.specs.Prelude.{ℕ, suc, ◌+◌, ◌*◌, ◌-◌, ◌^◌, ℤ, pos, negsuc, ◌+ℤ◌, ◌-ℤ◌, ◌*ℤ◌, int_lt, int_div, Bool, true, false, ◌&&◌, List, [], ◌∷◌, ◌++◌, map, length, slice_get, slice_set, Option, None, Some, min, nat_le, nat_lt, ◌==◌, if◌then◌else◌}
 use Rattle.cc_base.specs.declared.number.TypeId.{TypeId}
 use Rattle.cc_base.specs.declared.number.NodeId.{NodeId}
 use Rattle.cc_base.specs.declared.kind.Kind.{Kind}
@@ -25,10 +25,10 @@ pub record Spot : Type 0 where
   pub object : Object
   pub at : ℕ
 
--- the bytes that a pointer of this kind may touch
+-- the bytes that a pointer of this kind may touch; no part reaches further than its object
 abbrev pub reach : Kind → Location → Object → Part
 reach Wild l o = record { low = 0; high = o.size }
-reach kind l o = l.part
+reach kind l o = record { low = l.part.low; high = min l.part.high o.size }
 
 -- m bytes at the offset, which lie in the part
 abbrev pub spot_within : ℕ → Object → Part → ℤ → ℕ → Option Spot

@@ -1,0 +1,203 @@
+-- Small programs as typed trees, each with the kinds of its nodes, and what they give. The C text stands above each; what a tree
+-- doesn't say is the text's layout.
+use Rattle.std.specs.Prelude.{ℕ, ◌+◌, [], ◌∷◌, ◌++◌, codes}
+use Rattle.cc_base.specs.declared.kind.Kind.TheVariants.{Safe, Seq, Wild}
+use Rattle.c_types.specs.declared.shape.TypeShape.TheVariants as shape
+use Rattle.c_types.specs.Table.{Table}
+use Rattle.c_types.specs.Calls.{basic_table}
+use Rattle.runs.specs.Input.{Input, Closed}
+use Rattle.c_tree.specs.declared.operator.Binary.TheVariants as binary
+use Rattle.c_tree.specs.declared.operator.Step.TheVariants as step
+use Rattle.c_tree.specs.declared.typed_word.Conversion.TheVariants as conversion
+use Rattle.c_tree.specs.declared.typed_word.Runtime.TheVariants as runtime
+use Rattle.c_tree.specs.declared.typed_word.Side.TheVariants as side
+use Rattle.c_tree.specs.TypedTree as typed
+use Rattle.c_tree.specs.TypedTree.{TypedExpr, TypedPlace, TypedTranslationUnit}
+use Rattle.src_mem.specs.Runs.{SourceOutcome}
+use Rattle.src_machine.specs.Machine.{source_run}
+use Rattle.src_machine.specs.Small.{at, at_line, node, type, char, int, long, unsigned_long, entry, kinds, name, number, variable, value, null, flows, widened, type_name, arguments, string, local, local_is, declares, does, runs, returns, while, main, function, global, put, get, runtime_call, aggregate}
+
+-- int main(void){int *p;p=0;return *p;}
+abbrev pub null_read : SourceOutcome
+null_read = source_run program table (kinds []) (Closed []) 10
+  where
+    table : Table
+    table = basic_table ++ entry (shape.Pointer (node 0) int) ∷ entry (shape.Function [] int) ∷ []
+
+    program : TypedTranslationUnit
+    program = main (type 10) (
+        declares (local 1 (type 9))
+        ∷ does (typed.Assign (variable 23 1 (type 9)) (at 24) (null (type 9)))
+        ∷ returns (at 27) (typed.Read (typed.Target (at 34) (value 35 1 (type 9)) int))
+        ∷ [])
+
+-- int main(void){int a[3];a[2]=7;putchar(a[2]+48);a[3]=1;return 0;}
+abbrev pub past_the_end : SourceOutcome
+past_the_end = source_run program table (kinds (Safe ∷ Seq ∷ Seq ∷ Seq ∷ [])) (Closed []) 10
+  where
+    table : Table
+    table = basic_table ++ entry (shape.Array int 3)
+        ∷ entry (shape.Pointer (node 1) int) ∷ entry (shape.Pointer (node 2) int) ∷ entry (shape.Pointer (node 3) int) ∷ entry (shape.Function [] int) ∷ []
+
+    element : ℕ → ℕ → ℕ → ℕ → TypedPlace
+    element decay t column i = typed.Element side.Left (typed.Decay (variable column 0 (type 9)) (node decay) (type t)) (at (column + 1)) (number i) int
+
+    program : TypedTranslationUnit
+    program = main (type 13) (
+        declares (local 0 (type 9))
+        ∷ does (typed.Assign (element 1 10 25 2) (at 29) (number 7))
+        ∷ does (put (typed.Arithmetic binary.Add (typed.Read (element 2 11 40 2)) (at 44) (number 48) int))
+        ∷ does (typed.Assign (element 3 12 49 3) (at 53) (number 1))
+        ∷ returns (at 56) (number 0)
+        ∷ [])
+
+-- int main(void){int a[3];int *p=a-1;int n=0;while(++p<a+3)n++;return n;}
+abbrev pub stepped_over : ℕ → SourceOutcome
+stepped_over turns = source_run program table (kinds (Safe ∷ Seq ∷ Safe ∷ Seq ∷ Safe ∷ Seq ∷ [])) (Closed []) turns
+  where
+    -- homes of a, p and n: 0, 2, 4; the pointer type of p: 1; the two decays: 3, 5
+    table : Table
+    table = basic_table ++ entry (shape.Array int 3)
+        ∷ entry (shape.Pointer (node 1) int) ∷ entry (shape.Pointer (node 3) int) ∷ entry (shape.Pointer (node 5) int) ∷ entry (shape.Function [] int) ∷ []
+
+    program : TypedTranslationUnit
+    program = main (type 13) (
+        declares (local 0 (type 9))
+        ∷ declares (local_is 2 (type 10) (at 31) (flows (at 31) (type 10)
+        (typed.Moved binary.Subtract side.Left (typed.Decay (variable 32 0 (type 9)) (node 3) (type 11)) (at 33) (number 1) (type 11))))
+        ∷ declares (local_is 4 int (at 41) (number 0))
+        ∷ while (typed.Compared binary.Less (typed.StepBefore step.Increment (at 50) (variable 52 2 (type 10))) (at 53)
+        (typed.Moved binary.Add side.Left (typed.Decay (variable 54 0 (type 9)) (node 5) (type 12)) (at 55) (number 3) (type 12)) int)
+        (typed.Express (typed.StepAfter (variable 58 4 int) step.Increment (at 59)))
+        ∷ returns (at 62) (value 69 4 int)
+        ∷ [])
+
+-- int *g;int main(void){int x;g=&x;return 0;}
+abbrev pub address_kept : SourceOutcome
+address_kept = source_run program table (kinds []) (Closed []) 10
+  where
+    table : Table
+    table = basic_table ++ entry (shape.Pointer (node 0) int) ∷ entry (shape.Pointer (node 3) int) ∷ entry (shape.Function [] int) ∷ []
+
+    program : TypedTranslationUnit
+    program = function (name (codes "main") (at 12)) (type 11) [] (
+        declares (local 2 int)
+        ∷ does (typed.Assign (variable 29 1 (type 9)) (at 30) (flows (at 30) (type 9) (typed.AddressOf (at 31) (variable 32 2 int) (node 3) (type 10))))
+        ∷ returns (at 34) (number 0)
+        ∷ []) (global 1 (type 9) typed.NoExternal)
+
+-- int main(void){char *p=(char *)malloc(1);*p=107;free(p);putchar(*p);return 0;}
+abbrev pub freed_read : SourceOutcome
+freed_read = source_run program table (kinds []) (Closed []) 10
+  where
+    table : Table
+    table = basic_table ++ entry (shape.Pointer (node 0) char) ∷ entry (shape.Pointer (node 2) char) ∷ entry (shape.Function [] int) ∷ []
+
+    block : TypedExpr
+    block = typed.Cast conversion.AllocationToPointer (at 24) (type_name (type 10))
+        (typed.AllocateFor runtime.Malloc (runtime_call runtime.Malloc) (at 38) (arguments (widened unsigned_long (number 1) ∷ [])) (type 10))
+
+    program : TypedTranslationUnit
+    program = main (type 11) (
+        declares (local_is 1 (type 9) (at 23) (flows (at 23) (type 9) block))
+        ∷ does (typed.Assign (typed.Target (at 42) (value 43 1 (type 9)) char) (at 44) (widened char (number 107)))
+        ∷ does (typed.CallRuntime runtime.Free (runtime_call runtime.Free) (at 53) (arguments (value 54 1 (type 9) ∷ [])) (type 0))
+        ∷ does (put (widened int (typed.Read (typed.Target (at 65) (value 66 1 (type 9)) char))))
+        ∷ returns (at 69) (number 0)
+        ∷ [])
+
+-- int main(void){char *q="ab";q++;return sizeof(q);}
+abbrev pub size_of_pointer : SourceOutcome
+size_of_pointer = source_run program table (kinds (Seq ∷ Safe ∷ Safe ∷ Seq ∷ [])) (Closed []) 10
+  where
+    table : Table
+    table = basic_table ++ entry (shape.Array char 3)
+        ∷ entry (shape.Pointer (node 0) char) ∷ entry (shape.Pointer (node 3) char) ∷ entry (shape.Function [] int) ∷ []
+
+    program : TypedTranslationUnit
+    program = main (type 12) (
+        declares (local_is 1 (type 10) (at 23) (flows (at 23) (type 10) (typed.Decay (string (codes "\"ab\"") 2 (type 9)) (node 3) (type 11))))
+        ∷ does (typed.StepAfter (variable 29 1 (type 10)) step.Increment (at 30))
+        ∷ returns (at 33) (widened int (typed.SizeOfPlace (at 40) (typed.ParenPlace (at 46) (variable 47 1 (type 10))) 8 unsigned_long))
+        ∷ [])
+
+-- union U{long n;char *p;};
+-- int main(void){union U u;u.n=0;if(u.p==0)putchar(48);u.n=5;return *u.p;}
+abbrev pub union_read : SourceOutcome
+union_read = source_run program table (kinds (Wild ∷ Wild ∷ Wild ∷ Wild ∷ Wild ∷ Wild ∷ [])) (Closed []) 10
+  where
+    -- the pointer of the member p: 0; the home of u: 1; the places of the members: 2 to 5
+    table : Table
+    table = basic_table ++ entry (shape.Pointer (node 0) char) ∷ aggregate (shape.Union 0) (long ∷ type 9 ∷ []) ∷ entry (shape.Function [] int) ∷ []
+
+    n : ℕ → ℕ → TypedPlace
+    n place column = typed.Member (variable column 1 (type 10)) (at_line 2 (column + 1)) (name (codes "n") (at_line 2 (column + 2))) 0 (node place) long
+
+    p : ℕ → ℕ → TypedPlace
+    p place column = typed.Member (variable column 1 (type 10)) (at_line 2 (column + 1)) (name (codes "p") (at_line 2 (column + 2))) 1 (node place) (type 9)
+
+    program : TypedTranslationUnit
+    program = main (type 11) (
+        declares (local 1 (type 10))
+        ∷ does (typed.Assign (n 2 26) (at_line 2 29) (widened long (number 0)))
+        ∷ runs (typed.If (at 0) (at 0) (typed.Compared binary.Equal (typed.Read (p 3 35)) (at_line 2 38) (null (type 9)) int) (typed.Express (put (number 48))))
+        ∷ does (typed.Assign (n 4 54) (at_line 2 57) (widened long (number 5)))
+        ∷ returns (at_line 2 60) (widened int (typed.Read (typed.Target (at_line 2 67) (typed.Read (p 5 68)) char)))
+        ∷ [])
+
+-- int main(void){int z=0;return 5/z;}
+abbrev pub divided_by_zero : SourceOutcome
+divided_by_zero = source_run program table (kinds []) (Closed []) 10
+  where
+    table : Table
+    table = basic_table ++ entry (shape.Function [] int) ∷ []
+
+    program : TypedTranslationUnit
+    program = main (type 9) (
+        declares (local_is 0 int (at 21) (number 0))
+        ∷ returns (at 24) (typed.Arithmetic binary.Divide (number 5) (at 32) (value 33 0 int) int)
+        ∷ [])
+
+-- int main(void){int c=getchar();if(c<0)putchar(45);return c;}
+abbrev pub echoes : Input → SourceOutcome
+echoes input = source_run program table (kinds []) input 10
+  where
+    table : Table
+    table = basic_table ++ entry (shape.Function [] int) ∷ []
+
+    program : TypedTranslationUnit
+    program = main (type 9) (
+        declares (local_is 0 int (at 21) get)
+        ∷ runs (typed.If (at 32) (at 34) (typed.Arithmetic binary.Less (value 35 0 int) (at 36) (number 0) int) (typed.Express (put (number 45))))
+        ∷ returns (at 51) (value 58 0 int)
+        ∷ [])
+
+-- int main(void){while(1)putchar('a');return 0;}
+abbrev pub goes_on : SourceOutcome
+goes_on = source_run program table (kinds []) (Closed []) 5
+  where
+    table : Table
+    table = basic_table ++ entry (shape.Function [] int) ∷ []
+
+    program : TypedTranslationUnit
+    program = main (type 9) (
+        while (number 1) (typed.Express (put (number 97)))
+        ∷ returns (at 37) (number 0)
+        ∷ [])
+
+-- int f(int n){return f(n+1);}int main(void){return f(0);}
+abbrev pub recursion : ℕ → SourceOutcome
+recursion turns = source_run program table (kinds []) (Closed []) turns
+  where
+    table : Table
+    table = basic_table ++ entry (shape.Function [] int) ∷ entry (shape.Function (int ∷ []) int)
+        ∷ entry (shape.Pointer (node 1) (type 10)) ∷ entry (shape.Pointer (node 2) (type 10)) ∷ []
+
+    call : ℕ → ℕ → ℕ → TypedExpr → TypedExpr
+    call n t column e = typed.Call (typed.FunctionName (name (codes "f") (at column)) 0 (node n) (type t)) (at (column + 1)) (arguments (e ∷ [])) int
+
+    program : TypedTranslationUnit
+    program = function (name (codes "main") (at 33)) (type 9) [] (returns (at 44) (call 2 12 51 (number 0)) ∷ [])
+        (function (name (codes "f") (at 5)) (type 10) ((0, int) ∷ [])
+        (returns (at 14) (call 1 11 21 (typed.Arithmetic binary.Add (value 23 0 int) (at 24) (number 1) int)) ∷ [])
+        typed.NoExternal)

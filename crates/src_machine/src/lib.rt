@@ -1,0 +1,32 @@
+//! What a C program means: the source machine. It evaluates the typed tree as C99 says, in one order where C99 leaves it
+//! open, and tries before each use of memory the conditions that the kinds of its pointers ask for.
+#![tactic(auto)]
+
+ghost use Rattle.std.specs.Prelude.{◌≡◌, [], ◌∷◌};
+ghost use Rattle.cc_base.specs.declared.fault.Check.TheVariants.{Null, Bounds, Escape, Tag, Divide, Depth};
+ghost use Rattle.runs.specs.Input.{Closed, Open};
+ghost use Rattle.src_mem.specs.State.{Stopped, Exited, Turns, Wants};
+ghost use Rattle.src_machine.specs.Small.{at, at_line, shown, access};
+ghost use Rattle.src_machine.specs.Programs.{null_read, past_the_end, stepped_over, address_kept, freed_read, size_of_pointer, union_read, divided_by_zero, echoes, goes_on, recursion};
+
+/// What small programs do that use SAFE and SEQ pointers.
+pub fn programs_with_bounds()
+    ensures null_read { shown null_read ≡ record { ending = Stopped Null (at 34); output = []; accesses = access 0 0 8 ∷ access 0 0 8 ∷ [] } }
+    ensures past_the_end { shown past_the_end ≡ record { ending = Stopped Bounds (at 50); output = 55 ∷ []; accesses = access 0 8 4 ∷ access 0 8 4 ∷ [] } }
+    ensures four_turns { (stepped_over 4).ending ≡ Exited 3 }
+    ensures three_turns { (stepped_over 3).ending ≡ Turns }
+    ensures address_kept { shown address_kept ≡ record { ending = Stopped Escape (at 30); output = []; accesses = [] } }
+    ensures freed_read { shown freed_read ≡ record { ending = Exited 0; output = 107 ∷ []; accesses = access 0 0 8 ∷ access 0 0 8 ∷ access 1 0 1 ∷ access 0 0 8 ∷ access 0 0 8 ∷ access 1 0 1 ∷ [] } }
+    ensures size_of_pointer { shown size_of_pointer ≡ record { ending = Exited 8; output = []; accesses = access 1 0 8 ∷ access 1 0 8 ∷ access 1 0 8 ∷ [] } }
+{}
+
+/// What small programs do with integers, input, loops, calls and a union whose word is read as a pointer.
+pub fn other_programs()
+    ensures union_read { shown union_read ≡ record { ending = Stopped Tag (at_line 2 69); output = 48 ∷ []; accesses = access 0 0 8 ∷ access 0 0 8 ∷ access 0 0 8 ∷ [] } }
+    ensures divided_by_zero { shown divided_by_zero ≡ record { ending = Stopped Divide (at 32); output = []; accesses = access 0 0 4 ∷ access 0 0 4 ∷ [] } }
+    ensures end_of_input { shown (echoes (Closed [])) ≡ record { ending = Exited 255; output = 45 ∷ []; accesses = access 0 0 4 ∷ access 0 0 4 ∷ access 0 0 4 ∷ [] } }
+    ensures last_byte { shown (echoes (Closed (255 ∷ []))) ≡ record { ending = Exited 255; output = []; accesses = access 0 0 4 ∷ access 0 0 4 ∷ access 0 0 4 ∷ [] } }
+    ensures more_input { shown (echoes (Open [])) ≡ record { ending = Wants; output = []; accesses = [] } }
+    ensures goes_on { shown goes_on ≡ record { ending = Turns; output = 97 ∷ 97 ∷ 97 ∷ 97 ∷ 97 ∷ []; accesses = [] } }
+    ensures calls { (recursion 3).entered ≡ 1 ∷ 0 ∷ 0 ∷ 0 ∷ [] }
+{}

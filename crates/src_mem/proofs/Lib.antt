@@ -1,0 +1,4 @@
+pub mod Lists
+pub mod Whole
+pub mod Accesses
+pub mod Spots

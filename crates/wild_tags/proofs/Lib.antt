@@ -1,0 +1,4 @@
+pub mod BitLaws
+pub mod WordLaws
+pub mod WriteLaws
+pub mod CallCode

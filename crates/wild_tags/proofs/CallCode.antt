@@ -21,10 +21,10 @@ use Rattle.wild_tags.proofs.WriteLaws.{length-with_tag, length-tags_cleared, tag
 abbrev pub so_far : ℕ → ℕ → List ℕ
 so_far first i = counted first (i - first)
 
-so_far-none : (first : ℕ) → so_far first first ≡ []
+pub so_far-none : (first : ℕ) → so_far first first ≡ []
 so_far-none first = let none : first - first ≡ 0 = omega arith in ap (counted first) none ∙ counted-none first
 
-so_far-more : (first i : ℕ) → first ≤ i → so_far first (i + 1) ≡ so_far first i ++ i ∷ []
+pub so_far-more : (first i : ℕ) → first ≤ i → so_far first (i + 1) ≡ so_far first i ++ i ∷ []
 so_far-more first i low =
     let more : i + 1 - first ≡ suc (i - first) = omega arith in
     let last : first + (i - first) ≡ i = omega arith in
@@ -91,7 +91,7 @@ zero-none m a b n none =
 pub in_order : (first end x count : ℕ) → first ≡ x → end ≡ x + count → first ≤ end
 in_order first end x count begin stop = omega (arith, begin, stop)
 
-so_far-all : (a b n first end i : ℕ) → first ≡ word_at b a → end ≡ word_at b a + touched_count b a n → i ≤ end → end ≤ i → so_far first i ≡ touched b a n
+pub so_far-all : (a b n first end i : ℕ) → first ≡ word_at b a → end ≡ word_at b a + touched_count b a n → i ≤ end → end ≤ i → so_far first i ≡ touched b a n
 so_far-all a b n first end i begin stop low high =
     let count : i - first ≡ touched_count b a n = omega (arith, begin, stop, low, high) in
     ap (counted first) count ∙ ap (λ k. counted k (touched_count b a n)) begin
@@ -131,7 +131,7 @@ plain-found bytes a b n at len first end i t place size begin stop tag set low h
 pub zero-needs : (bytes : List ℕ) (a b n : ℕ) → IsTrue (allows_zero bytes a b n) → 0 < n → Needs bytes a b n
 zero-needs bytes a b n h some = needs-plain bytes a b n (both (allows_plain bytes a b n) (in_flat bytes a n) h).0 some
 
-have_tags-same : (bytes others : List ℕ) (b n : ℕ) (words : List ℕ) → length bytes ≡ length others → have_tags bytes b n words ≡ have_tags others b n words
+pub have_tags-same : (bytes others : List ℕ) (b n : ℕ) (words : List ℕ) → length bytes ≡ length others → have_tags bytes b n words ≡ have_tags others b n words
 have_tags-same bytes others b n words same = ap (λ k. list_all (λ i. nat_eq 1 0 || nat_le (tag_byte b n i + 1) k) words) same
 
 pub zero-inside : (m new : Memory) (a b n first end at len : ℕ) → Needs m.bytes a b n → at ≡ b → len ≡ length_at m.bytes b → first ≡ word_at b a → end ≡ word_at b a + touched_count b a n → new ≡ with_bytes m (zeroed n m.bytes a) → IsTrue (have_tags new.bytes at len (counted first (end - first)))
@@ -218,7 +218,7 @@ all-rest q t first rest true is all = (both (q first) (list_all q (filter t rest
 all-rest q t first rest false is all = subst (λ l. IsTrue (list_all q l)) (filter-no t first rest is) all
 
 -- what holds of the tagged words holds of each touched word that is tagged
-all-filtered : (q t : ℕ → Bool) (first k i : ℕ) → IsTrue (list_all q (filter t (counted first k))) → first ≤ i → i < first + k → t i ≡ true → IsTrue (q i)
+pub all-filtered : (q t : ℕ → Bool) (first k i : ℕ) → IsTrue (list_all q (filter t (counted first k))) → first ≤ i → i < first + k → t i ≡ true → IsTrue (q i)
 unfolding counted
 all-filtered q t first zero i all low high set = absurd (omega arith)
 all-filtered q t first (suc k) i all low high set = ⊎_elim

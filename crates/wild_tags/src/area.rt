@@ -1,10 +1,12 @@
 // One tagged area: where its words, base words and tags stand, and its tags.
 
-ghost use Rattle.std.specs.Prelude.{◌≡◌, ◌+◌, ◌-◌, ◌≤◌, ◌<◌, ◌^◌, IsTrue, length};
+ghost use Rattle.std.specs.Prelude.{◌≡◌, ◌+◌, ◌-◌, ◌≤◌, ◌<◌, ◌^◌, List, [], ◌∷◌, IsTrue, length, filter, min, max};
+ghost use Rattle.flat_mem.specs.Bytes.{AreBytes};
 ghost use Rattle.flat_mem.specs.Memory.{in_flat, with_bytes};
 ghost use Rattle.flat_mem.specs.Placement.{data_word, base_word, tag_byte};
-ghost use Rattle.wild_tags.specs.Inside.{has_length, have_tags};
-ghost use Rattle.wild_tags.specs.Words.{length_at, word_at, touched_count, counted, tag_at, with_bit, with_tag, tags_cleared};
+ghost use Rattle.wild_tags.specs.Inside.{has_length, have_data, have_tags};
+ghost use Rattle.wild_tags.specs.Words.{length_at, word_at, touched_count, counted, tag_at, with_bit, with_tag, tags_cleared, words_zeroed};
+ghost use Rattle.wild_tags.specs.Order.{turn_of};
 
 use crate::words;
 use flat_mem::Flat;
@@ -23,6 +25,7 @@ impl TaggedArea {
         ensures at { result.at ≡ b }
         ensures length { result.length ≡ length_at flat.now.bytes b }
         ensures small { length flat.now.bytes < 2 ^ 32 }
+        ensures bytes { AreBytes flat.now.bytes }
     {
         // Every address in the list fits a word.
         let _size = flat.size();
@@ -75,6 +78,57 @@ impl TaggedArea {
         let at = self.tag_byte(i);
         let byte = flat.load(at, 1);
         flat.store(at, 1, with_bit(byte, i % 8, tag));
+    }
+
+    // Zeroes data word `i` where it is tagged.
+    fn zero_if_tagged(self, flat: &mut Flat, i: u64)
+        requires tag { IsTrue (in_flat flat.old.bytes (tag_byte self.at self.length i) 1) }
+        requires data { IsTrue (have_data flat.old.bytes self.at (filter (tag_at flat.old.bytes self.at self.length) (i ∷ []))) }
+        requires small { length flat.old.bytes < 2 ^ 32 }
+        ensures { flat.new ≡ with_bytes flat.old (words_zeroed (filter (tag_at flat.old.bytes self.at self.length) (i ∷ [])) flat.old.bytes self.at) }
+    {
+        if self.is_tagged(flat, i) {
+            flat.zero(self.data(i), 8);
+        }
+    }
+
+    // The first word whose tag doesn't stand in a later data word.
+    //
+    // The tags of 64 words are the 8 bytes of one word: those of word i stand where data word 2w + i / 64 would, for w
+    // words in the area. That is an own word of the area for no i, but a word past the area's own may be touched.
+    pub(crate) fn turn(self) -> u64
+        ensures { result ≡ turn_of self.length }
+    {
+        let before_tags = 2 * words(self.length);
+        before_tags + before_tags / 63
+    }
+
+    // Zeroes the tagged words from `first` up to `end`, upwards.
+    pub(crate) fn zero_tagged_up(self, flat: &mut Flat, first: u64, end: u64)
+        requires order { first ≤ end }
+        requires turn { end ≤ max (turn_of self.length) first }
+        requires tags { IsTrue (have_tags flat.old.bytes self.at self.length (counted first (end - first))) }
+        requires data { IsTrue (have_data flat.old.bytes self.at (filter (tag_at flat.old.bytes self.at self.length) (counted first (end - first)))) }
+        requires small { length flat.old.bytes < 2 ^ 32 }
+        ensures { flat.new ≡ with_bytes flat.old (words_zeroed (filter (tag_at flat.old.bytes self.at self.length) (counted first (end - first))) flat.old.bytes self.at) }
+    {
+        for i in first..end {
+            self.zero_if_tagged(flat, i);
+        }
+    }
+
+    // Zeroes the tagged words from `first` up to `end`, downwards.
+    pub(crate) fn zero_tagged_down(self, flat: &mut Flat, first: u64, end: u64)
+        requires order { first ≤ end }
+        requires turn { min (turn_of self.length) end ≤ first }
+        requires tags { IsTrue (have_tags flat.old.bytes self.at self.length (counted first (end - first))) }
+        requires data { IsTrue (have_data flat.old.bytes self.at (filter (tag_at flat.old.bytes self.at self.length) (counted first (end - first)))) }
+        requires small { length flat.old.bytes < 2 ^ 32 }
+        ensures { flat.new ≡ with_bytes flat.old (words_zeroed (filter (tag_at flat.old.bytes self.at self.length) (counted first (end - first))) flat.old.bytes self.at) }
+    {
+        for i in (first..end).rev() {
+            self.zero_if_tagged(flat, i);
+        }
     }
 
     // Clears the tags of the words from `first` up to `end`.

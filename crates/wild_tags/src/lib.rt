@@ -5,8 +5,8 @@
 ghost use Rattle.std.specs.Prelude.{◌≡◌, IsTrue};
 ghost use Rattle.flat_mem.specs.Memory.{with_bytes};
 ghost use Rattle.flat_mem.specs.Placement.{word_count};
-ghost use Rattle.wild_tags.specs.Calls.{base_of, greatest_depth, is_plain, is_tagged, marked, range_zeroed};
-ghost use Rattle.wild_tags.specs.Inside.{allows_base, allows_depth, allows_mark, allows_plain, allows_tagged, allows_zero};
+ghost use Rattle.wild_tags.specs.Calls.{base_of, greatest_depth, is_plain, is_tagged, marked, range_zeroed, untagged};
+ghost use Rattle.wild_tags.specs.Inside.{allows_base, allows_depth, allows_mark, allows_plain, allows_tagged, allows_untag, allows_zero};
 
 mod area;
 
@@ -37,6 +37,23 @@ pub fn plain(flat: &Flat, a: u64, b: u64, n: u64) -> bool
         }
     }
     true
+}
+
+/// Zeroes and untags each word that the `n` bytes at `a` touch and that is tagged.
+pub fn untag(flat: &mut Flat, a: u64, b: u64, n: u64)
+    requires { IsTrue (allows_untag flat.old.bytes a b n) }
+    ensures { flat.new ≡ with_bytes flat.old (untagged flat.old.bytes a b n) }
+{
+    if n == 0 {
+        return;
+    }
+    let area = TaggedArea::of(flat, b);
+    let first = word_of(a, b);
+    let end = end_of(a, b, n);
+    let turn = area.turn().min(end).max(first);
+    area.zero_tagged_up(flat, first, turn);
+    area.zero_tagged_down(flat, turn, end);
+    area.clear_tags(flat, first, end);
 }
 
 /// The tag of the word at `a`.

@@ -1,7 +1,7 @@
 // The flat memory.
 
-ghost use Rattle.std.specs.Prelude.{◌≡◌, ◌<◌, IfOk, IsTrue, Some, None, length, replicate, if◌then◌else◌};
-ghost use Rattle.flat_mem.specs.Bytes.{number, stored, zeroed, moved, IsAccessSize};
+ghost use Rattle.std.specs.Prelude.{◌≡◌, ◌<◌, ◌^◌, IfOk, IsTrue, Some, None, length, replicate, if◌then◌else◌};
+ghost use Rattle.flat_mem.specs.Bytes.{number, stored, zeroed, moved, AreBytes, IsAccessSize};
 ghost use Rattle.flat_mem.specs.Memory.{block_address, block_fits, block_made, depth_of, first_memory, fits, frame_area, in_flat, newest_addresses, popped, pushed, with_bytes};
 ghost use Rattle.flat_mem.specs.Placement.{IsWithinLimits};
 
@@ -107,6 +107,15 @@ impl Flat {
     {
         let length = self.bytes.len() as u64;
         n == 0 || (n <= length && at <= length - n)
+    }
+
+    /// The number of bytes in the list.
+    pub fn size(&self) -> u64
+        ensures value { result ≡ length self.now.bytes }
+        ensures small { result < 2 ^ 32 }
+        ensures bytes { AreBytes self.now.bytes }
+    {
+        self.bytes.len() as u64
     }
 
     /// The number whose `n` bytes stand at `at`, little-endian.

@@ -1,0 +1,178 @@
+// One tagged area: where its words, base words and tags stand, and its tags.
+
+ghost use Rattle.std.specs.Prelude.{◌≡◌, ◌+◌, ◌-◌, ◌≤◌, ◌<◌, ◌^◌, List, [], ◌∷◌, IsTrue, length, filter, min, max};
+ghost use Rattle.flat_mem.specs.Bytes.{AreBytes};
+ghost use Rattle.flat_mem.specs.Memory.{in_flat, with_bytes};
+ghost use Rattle.flat_mem.specs.Placement.{data_word, base_word, tag_byte};
+ghost use Rattle.wild_tags.specs.Inside.{has_length, have_data, have_tags};
+ghost use Rattle.wild_tags.specs.Words.{length_at, word_at, touched_count, counted, tag_at, with_bit, with_tag, tags_cleared, words_zeroed};
+ghost use Rattle.wild_tags.specs.Order.{turn_of};
+
+use crate::words;
+use flat_mem::Flat;
+
+// A tagged area by its address, and its length in bytes.
+#[derive(Clone, Copy)]
+pub(crate) struct TaggedArea {
+    at: u64,
+    length: u64,
+}
+
+impl TaggedArea {
+    // The tagged area at `b`.
+    pub(crate) fn of(flat: &Flat, b: u64) -> TaggedArea
+        requires { IsTrue (has_length flat.now.bytes b) }
+        ensures at { result.at ≡ b }
+        ensures length { result.length ≡ length_at flat.now.bytes b }
+        ensures small { length flat.now.bytes < 2 ^ 32 }
+        ensures bytes { AreBytes flat.now.bytes }
+    {
+        // Every address in the list fits a word.
+        let _size = flat.size();
+        TaggedArea {
+            at: b,
+            length: flat.load(b - 8, 8),
+        }
+    }
+
+    // The address of data word `i`.
+    pub(crate) fn data(self, i: u64) -> u64
+        requires { data_word self.at i < 2 ^ 64 }
+        ensures { result ≡ data_word self.at i }
+    {
+        self.at + 8 * i
+    }
+
+    // The address of the base word of word `i`.
+    pub(crate) fn base(self, i: u64) -> u64
+        requires { base_word self.at self.length i < 2 ^ 64 }
+        ensures { result ≡ base_word self.at self.length i }
+    {
+        self.at + 8 * words(self.length) + 8 * i
+    }
+
+    // The address of the byte that has the tag of word `i`.
+    fn tag_byte(self, i: u64) -> u64
+        requires { tag_byte self.at self.length i < 2 ^ 64 }
+        ensures { result ≡ tag_byte self.at self.length i }
+    {
+        self.at + 16 * words(self.length) + i / 8
+    }
+
+    // The tag of word `i`.
+    pub(crate) fn is_tagged(self, flat: &Flat, i: u64) -> bool
+        requires inside { IsTrue (in_flat flat.now.bytes (tag_byte self.at self.length i) 1) }
+        requires small { length flat.now.bytes < 2 ^ 32 }
+        ensures { result ≡ tag_at flat.now.bytes self.at self.length i }
+    {
+        let byte = flat.load(self.tag_byte(i), 1);
+        (byte >> (i % 8)) & 1 == 1
+    }
+
+    // Sets or clears the tag of word `i`.
+    pub(crate) fn set_tag(self, flat: &mut Flat, i: u64, tag: bool)
+        requires inside { IsTrue (in_flat flat.old.bytes (tag_byte self.at self.length i) 1) }
+        requires small { length flat.old.bytes < 2 ^ 32 }
+        ensures { flat.new ≡ with_bytes flat.old (with_tag tag flat.old.bytes self.at self.length i) }
+    {
+        let at = self.tag_byte(i);
+        let byte = flat.load(at, 1);
+        flat.store(at, 1, with_bit(byte, i % 8, tag));
+    }
+
+    // Zeroes data word `i` where it is tagged.
+    fn zero_if_tagged(self, flat: &mut Flat, i: u64)
+        requires tag { IsTrue (in_flat flat.old.bytes (tag_byte self.at self.length i) 1) }
+        requires data { IsTrue (have_data flat.old.bytes self.at (filter (tag_at flat.old.bytes self.at self.length) (i ∷ []))) }
+        requires small { length flat.old.bytes < 2 ^ 32 }
+        ensures { flat.new ≡ with_bytes flat.old (words_zeroed (filter (tag_at flat.old.bytes self.at self.length) (i ∷ [])) flat.old.bytes self.at) }
+    {
+        if self.is_tagged(flat, i) {
+            flat.zero(self.data(i), 8);
+        }
+    }
+
+    // The first word whose tag doesn't stand in a later data word.
+    //
+    // The tags of 64 words are the 8 bytes of one word: those of word i stand where data word 2w + i / 64 would, for w
+    // words in the area. That is an own word of the area for no i, but a word past the area's own may be touched.
+    pub(crate) fn turn(self) -> u64
+        ensures { result ≡ turn_of self.length }
+    {
+        let before_tags = 2 * words(self.length);
+        before_tags + before_tags / 63
+    }
+
+    // Zeroes the tagged words from `first` up to `end`, upwards.
+    pub(crate) fn zero_tagged_up(self, flat: &mut Flat, first: u64, end: u64)
+        requires order { first ≤ end }
+        requires turn { end ≤ max (turn_of self.length) first }
+        requires tags { IsTrue (have_tags flat.old.bytes self.at self.length (counted first (end - first))) }
+        requires data { IsTrue (have_data flat.old.bytes self.at (filter (tag_at flat.old.bytes self.at self.length) (counted first (end - first)))) }
+        requires small { length flat.old.bytes < 2 ^ 32 }
+        ensures { flat.new ≡ with_bytes flat.old (words_zeroed (filter (tag_at flat.old.bytes self.at self.length) (counted first (end - first))) flat.old.bytes self.at) }
+    {
+        for i in first..end {
+            self.zero_if_tagged(flat, i);
+        }
+    }
+
+    // Zeroes the tagged words from `first` up to `end`, downwards.
+    pub(crate) fn zero_tagged_down(self, flat: &mut Flat, first: u64, end: u64)
+        requires order { first ≤ end }
+        requires turn { min (turn_of self.length) end ≤ first }
+        requires tags { IsTrue (have_tags flat.old.bytes self.at self.length (counted first (end - first))) }
+        requires data { IsTrue (have_data flat.old.bytes self.at (filter (tag_at flat.old.bytes self.at self.length) (counted first (end - first)))) }
+        requires small { length flat.old.bytes < 2 ^ 32 }
+        ensures { flat.new ≡ with_bytes flat.old (words_zeroed (filter (tag_at flat.old.bytes self.at self.length) (counted first (end - first))) flat.old.bytes self.at) }
+    {
+        for i in (first..end).rev() {
+            self.zero_if_tagged(flat, i);
+        }
+    }
+
+    // Clears the tags of the words from `first` up to `end`.
+    pub(crate) fn clear_tags(self, flat: &mut Flat, first: u64, end: u64)
+        requires order { first ≤ end }
+        requires inside { IsTrue (have_tags flat.old.bytes self.at self.length (counted first (end - first))) }
+        requires small { length flat.old.bytes < 2 ^ 32 }
+        ensures { flat.new ≡ with_bytes flat.old (tags_cleared (counted first (end - first)) flat.old.bytes self.at self.length) }
+    {
+        for i in first..end {
+            self.set_tag(flat, i, false);
+        }
+    }
+}
+
+// The number with bit `k` set or cleared.
+fn with_bit(number: u64, k: u64, bit: bool) -> u64
+    requires { k < 64 }
+    ensures { result ≡ with_bit bit k number }
+{
+    if bit {
+        number | (1 << k)
+    } else {
+        number & !(1 << k)
+    }
+}
+
+// The word of the area at `b` that the byte at `a` belongs to.
+pub(crate) fn word_of(a: u64, b: u64) -> u64
+    requires { b ≤ a }
+    ensures { result ≡ word_at b a }
+{
+    (a - b) / 8
+}
+
+// The word after the last one that the `n` bytes at `a` touch in the area at `b`, or the first where `n` is 0.
+pub(crate) fn end_of(a: u64, b: u64, n: u64) -> u64
+    requires order { b ≤ a }
+    requires small { a + n ≤ b + 2 ^ 63 }
+    ensures { result ≡ word_at b a + touched_count b a n }
+{
+    if n == 0 {
+        word_of(a, b)
+    } else {
+        (a - b + (n - 1)) / 8 + 1
+    }
+}

@@ -1,0 +1,36 @@
+use Rattle.std.specs.Prelude.{ℕ, Bool, true, false, ◌&&◌, List, [], ◌∷◌, ◌==◌, nat_le, slice_index_or}
+use lib.Pointwise.{pointwise}
+use Rattle.cc_base.specs.declared.number.TypeId.{TypeId}
+use Rattle.c_types.specs.Cells.{Relation, same_type}
+use Rattle.phys_types.specs.declared.spot.Item.{Item}
+use Rattle.phys_types.specs.declared.spot.Item.TheVariants.{Pointer, Mixed, Incomplete}
+use Rattle.phys_types.specs.declared.spot.Spot.{Spot}
+
+-- Types have numbers, and types with one number are taken to be equal.
+
+-- the number of t in a list of numbers
+abbrev pub number_in : List ℕ → TypeId → ℕ
+number_in numbers t = slice_index_or numbers t.0 0
+
+abbrev pub same_number : (TypeId → ℕ) → Relation
+same_number number t u = number t == number u
+
+abbrev pub same_item : (TypeId → ℕ) → Item → Item → Bool
+same_item number (Pointer node to) (Pointer other target) = number to == number target
+same_item number (Mixed t n) (Mixed u m) = same_type t u
+same_item number (Incomplete t) (Incomplete u) = same_type t u
+same_item number x y = false
+
+abbrev pub same_spot : (TypeId → ℕ) → Spot → Spot → Bool
+same_spot number s r = (s.start == r.start) && same_item number s.item r.item
+
+-- no spot begins before n
+abbrev pub start_from : ℕ → List Spot → Bool
+start_from n [] = true
+start_from n (s ∷ ss) = nat_le n s.start
+
+-- the spots that begin before n are the same as `front`
+abbrev pub begin_with_spots : (TypeId → ℕ) → ℕ → List Spot → List Spot → Bool
+begin_with_spots number n ss [] = start_from n ss
+begin_with_spots number n [] (r ∷ front) = false
+begin_with_spots number n (s ∷ ss) (r ∷ front) = same_spot number s r && begin_with_spots number n ss front

@@ -1,0 +1,7 @@
+//! How the layouts of two types lie to each other: the class of a flow between pointers to them, and the pointers that
+//! correspond (CCured, TOPLAS 2005).
+#![tactic(auto)]
+
+mod spot;
+
+pub use c_types::FlowClass;

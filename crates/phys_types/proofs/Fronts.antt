@@ -27,7 +27,7 @@ begins_is E xs [] = refl
 begins_is E [] (y ∷ ys) = refl
 begins_is E (x ∷ xs) (y ∷ ys) = ap (λ b. alike E x y && b) (begins_is E xs ys)
 
-both_true : (a b : Bool) → a ≡ true → b ≡ true → (a && b) ≡ true
+pub both_true : (a b : Bool) → a ≡ true → b ≡ true → (a && b) ≡ true
 both_true a b p q = λ i. p i && q i
 
 eight_true : (a b : Bool) → (a && (a && (a && (a && (a && (a && (a && (a && b)))))))) ≡ true → (a ≡ true) × (b ≡ true)

@@ -1,2 +1,5 @@
 pub mod Spreading
 pub mod Fronts
+pub mod Periods
+pub mod Settling
+pub mod Tiling

@@ -15,7 +15,7 @@ length_range : (a n : ℕ) → length (range_with_len a n) ≡ n
 length_range a zero = refl
 length_range a (suc n) = ap suc (length_range (a + 1) n)
 
-length_item : (x : Item) → length (item_cells x) ≡ item_size x
+pub length_item : (x : Item) → length (item_cells x) ≡ item_size x
 length_item (Pointer node to) = refl
 length_item (Mixed t n) = length-map (range_with_len 0 n) (mixed t) ∙ length_range 0 n
 length_item (Incomplete t) = refl
@@ -35,6 +35,9 @@ module _ (size : TypeId → ℕ) where
       let c = length-replicate (s.start - at) raw in
       let d = length_item s.item in
       let l = h.0 in omega arith
+
+  pub length_all : (ss : List Spot) (end : ℕ) → AreSpots size 0 ss end → length (cells_from 0 ss end) ≡ end
+  length_all ss end h = let l = length_from 0 ss end h in omega arith
 
   -- a later end is more raw cells
   pub spots_to : (at : ℕ) (ss : List Spot) (end more : ℕ) → AreSpots size at ss end → end ≤ more → AreSpots size at ss more

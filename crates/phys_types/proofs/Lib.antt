@@ -3,3 +3,4 @@ pub mod Fronts
 pub mod Periods
 pub mod Settling
 pub mod Tiling
+pub mod Agreeing

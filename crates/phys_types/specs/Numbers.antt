@@ -1,4 +1,5 @@
-use Rattle.std.specs.Prelude.{ℕ, ◌+◌, ◌/◌, Bool, true, false, ◌&&◌, List, [], ◌∷◌, ◌==◌, nat_le, nat_lt, slice_index_or, if◌then◌else◌}
+use Rattle.std.specs.Prelude.{ℕ, ◌+◌, ◌/◌, ◌≤◌, Bool, true, false, ◌&&◌, List, [], ◌∷◌, ◌==◌, nat_le, nat_lt, slice_index_or, if◌then◌else◌}
+use Rattle.std.specs.List.{All}
 use lib.Pointwise.{pointwise}
 use Rattle.cc_base.specs.declared.number.TypeId.{TypeId}
 use Rattle.c_types.specs.Cells.{Relation, same_type}
@@ -54,3 +55,7 @@ end_within n (s ∷ ss) = nat_le (s.start + item_size s.item) n && end_within n 
 abbrev pub repeat_spots : (TypeId → ℕ) → ℕ → ℕ → List Spot → Bool
 repeat_spots number n g ss =
     end_within g (spots_before g ss) && same_spots number ss (copies (n / g) g 0 (spots_before g ss))
+
+-- no spot lies past the largest size of a type
+abbrev pub AreLow : List Spot → Type 0
+AreLow ss = All (λ s. s.start + item_size s.item ≤ 1048576) ss

@@ -2,6 +2,10 @@
 //! correspond (CCured, TOPLAS 2005).
 #![tactic(auto)]
 
+mod building;
+mod comparing;
+mod copying;
 mod spot;
+mod tiling;
 
 pub use c_types::FlowClass;

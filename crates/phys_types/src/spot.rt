@@ -1,5 +1,8 @@
 #![tactic(auto)]
 
+ghost use Rattle.std.specs.Prelude.{◌≡◌};
+ghost use Rattle.phys_types.specs.Spots.{item_size};
+
 use cc_base::{NodeId, TypeId};
 
 /// What stands in a layout where its bytes are not all raw.
@@ -13,7 +16,20 @@ pub(crate) enum Item {
     Incomplete(TypeId),
 }
 
-/// An item, and how many bytes lie before it.
+impl Item {
+    /// How many cells the item has.
+    pub(crate) fn size(self) -> u64
+        ensures { result ≡ item_size self }
+    {
+        match self {
+            Item::Pointer(_, _) => 8,
+            Item::Mixed(_, size) => size,
+            Item::Incomplete(_) => 1,
+        }
+    }
+}
+
+/// An item, and how many cells lie before it.
 #[derive(Clone, Copy, Debug, PartialEq, Eq)]
 pub(crate) struct Spot {
     pub(crate) start: u64,

@@ -23,7 +23,7 @@ member_cells_same align f g a (m ∷ ms) h =
     ap (λ c. fold (λ cells x. padded_to (rounded (length cells) (align x)) cells ++ f x) (padded_to (rounded (length a) (align m)) a ++ c) ms) (h m (contains_head m ms))
     ∙ member_cells_same align f g (padded_to (rounded (length a) (align m)) a ++ g m) ms (λ x k. h x (contains_tail m ms x k))
 
-cells_local : (table : Table) (E : Relation) (f g : TypeId → List Cell) (t : TypeId) (s : TypeShape) (ms : List TypeId)
+pub cells_local : (table : Table) (E : Relation) (f g : TypeId → List Cell) (t : TypeId) (s : TypeShape) (ms : List TypeId)
     → ((m : TypeId) → Contains (parts_of_shape s ms) m → f m ≡ g m) → cells_of_shape table E f t s ms ≡ cells_of_shape table E g t s ms
 cells_local table E f g t Void ms h = refl
 cells_local table E f g t (Integer bytes signed) ms h = refl

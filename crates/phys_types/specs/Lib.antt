@@ -1,0 +1,4 @@
+pub mod Spots
+pub mod Numbers
+pub mod Reach
+pub mod Shown

@@ -1,0 +1,50 @@
+use Rattle.std.specs.Prelude.{◌≡◌, ℕ, ◌<◌, ◌≤◌, Bool, true, false, List, length, slice_index_or, IsTrue}
+use Rattle.std.specs.List.{All, Contains}
+use Rattle.cc_base.specs.declared.number.TypeId.{TypeId}
+use Rattle.c_types.specs.declared.shape.TypeShape.{TypeShape}
+use Rattle.c_types.specs.declared.shape.TypeShape.TheVariants.{Struct, Union}
+use Rattle.c_types.specs.Table.{Table, shape_at, parts_at}
+use Rattle.c_types.specs.Layouts.{size_of}
+use Rattle.c_types.specs.Cells.{Relation, cells_at, holds_pointer}
+use Rattle.phys_types.specs.declared.spot.Layout.{Layout}
+use Rattle.phys_types.specs.Spots.{cells_from, AreSpots}
+use Rattle.phys_types.specs.Numbers.{AreLow}
+
+-- Layouts that are kept of types.
+
+-- the layout shows the cells of t, where unions are mixed or not by E
+pub record IsLayoutOf (table : Table) (E : Relation) (t : TypeId) (layout : Layout) : Type 0 where
+  pub spots : AreSpots (size_of table) 0 layout.spots.items layout.size
+  pub cells : cells_from 0 layout.spots.items layout.size ≡ cells_at table E t
+  pub holds : layout.holds ≡ holds_pointer table t
+
+-- no layout is larger than a type can be
+abbrev pub IsLow : Layout → Type 0
+IsLow layout = AreLow layout.spots.items × (layout.size ≤ 1048576)
+
+-- a layout is kept at the place of t
+abbrev pub IsKept : List ℕ → List Layout → TypeId → Type 0
+IsKept places built t = (t.0 < length places) × (slice_index_or places t.0 0 < length built)
+
+-- the parts of t have their layouts
+abbrev pub ArePartsKept : Table → List ℕ → List Layout → TypeId → Type 0
+ArePartsKept table places built t = All (IsKept places built) (parts_at table t)
+
+-- the layouts of the parts of t are right
+abbrev pub ArePartsShown : Table → Relation → List ℕ → List Layout → TypeId → Type 0
+ArePartsShown table E places built t =
+    (p : TypeId) (d : Layout) → Contains (parts_at table t) p → IsLayoutOf table E p (slice_index_or built (slice_index_or places p.0 0) d)
+
+abbrev pub is_struct_shape : TypeShape → Bool
+is_struct_shape (Struct tag) = true
+is_struct_shape shape = false
+
+abbrev pub is_union_shape : TypeShape → Bool
+is_union_shape (Union tag) = true
+is_union_shape shape = false
+
+abbrev pub IsStruct : Table → TypeId → Type 0
+IsStruct table t = IsTrue (is_struct_shape (shape_at table t))
+
+abbrev pub IsUnion : Table → TypeId → Type 0
+IsUnion table t = IsTrue (is_union_shape (shape_at table t))

@@ -1,19 +1,20 @@
 -- What the parts of `untag` leave together.
-use Rattle.std.specs.Prelude.{◌≡◌, ◌≢◌, ◌⊎◌, ℕ, zero, suc, ◌+◌, ◌-◌, ◌*◌, ◌/◌, ◌%◌, ◌^◌, ◌<◌, ◌≤◌, ◌&&◌, ◌||◌, Bool, true, false, List, [], ◌∷◌, ◌++◌, length, IsTrue, min, max, filter, nat_eq, nat_le, slice_index, slice_set, if◌then◌else◌, refl}
+use Rattle.std.specs.Prelude.{◌≡◌, ◌⊎◌, ℕ, zero, suc, ◌+◌, ◌-◌, ◌*◌, ◌/◌, ◌%◌, ◌^◌, ◌<◌, ◌≤◌, ◌||◌, Bool, true, false, List, [], ◌∷◌, ◌++◌, length, IsTrue, min, max, filter, nat_eq, nat_le, slice_index, slice_set, if◌then◌else◌, refl}
 use Rattle.std.specs.List.{list_all}
 use Rattle.std.specs.Int.{bit_at}
 use Rattle.std.proofs.Common.{sym, ◌∙◌, ap, subst, inl, inr, ⊎_elim, arith}
 use Rattle.std.proofs.lemmas.List.Elements.{filter-append}
 use Rattle.std.proofs.lemmas.List.Folds.{list_all-append}
 use Rattle.flat_mem.specs.Bytes.{stored, zeroed, AreBytes}
+use Rattle.flat_mem.specs.Tags.{with_bit}
 use Rattle.flat_mem.specs.Placement.{word_count, data_word, tag_byte}
 use Rattle.flat_mem.specs.Memory.{Memory, with_bytes}
 use Rattle.flat_mem.proofs.ByteLaws.{get-zeroed_inside, get-zeroed_other, get-stored_other, stored-bytes, zeroed-bytes}
 use Rattle.flat_mem.proofs.MemoryCode.{stored-1}
 use Rattle.std.proofs.lemmas.Nat.Bits.{bit_at-zero, bit_at-lt}
 use Rattle.std.proofs.lemmas.Bool.Decides.{nat_tests}
-use Rattle.wild_tags.proofs.BitLaws.{with_bit-clear_most, with_bit-clear_none, bit-with_bit_same, bit-with_bit_other}
-use Rattle.wild_tags.specs.Words.{length_at, word_at, touched_count, touched, counted, tag_at, with_bit, with_tag, words_zeroed, tags_cleared}
+use Rattle.flat_mem.proofs.TagLaws.{with_bit-clear_most, with_bit-clear_none, bit-with_bit_same, bit-with_bit_other}
+use Rattle.wild_tags.specs.Words.{length_at, word_at, touched_count, touched, counted, tag_at, with_tag, words_zeroed, tags_cleared}
 use Rattle.wild_tags.specs.Calls.{tagged_words, untagged}
 use Rattle.wild_tags.specs.Inside.{have_data, have_tags, allows_plain, allows_untag}
 use Rattle.wild_tags.specs.Order.{turn_of}
@@ -218,7 +219,7 @@ get-set_either (x ∷ bytes) (suc i) v = get-set_either bytes i v
 same_or_apart : (x y : ℕ) → (x ≡ y) ⊎ ((y < x) ⊎ (x + 1 ≤ y))
 same_or_apart x y = grind arith
 
-same_bit : (k j v : ℕ) → k < 64 → j < 64 → v < 2 ^ 64 → nat_eq (bit_at v j) 1 ≡ false → nat_eq (bit_at (with_bit false k v) j) 1 ≡ false
+same_bit : (k j v : ℕ) → k < 8 → j < 8 → v < 256 → nat_eq (bit_at v j) 1 ≡ false → nat_eq (bit_at (with_bit false k v) j) 1 ≡ false
 same_bit k j v low other small clear = ⊎_elim
     (λ same. ap (λ x. nat_eq (bit_at (with_bit false k v) x) 1) (sym same) ∙ ap (λ x. nat_eq x 1) (bit-with_bit_same false k v low small))
     (λ apart. ap (λ x. nat_eq x 1) (bit-with_bit_other false k j v low other (λ e. ⊎_elim (λ h. omega arith) (λ h. omega arith) apart) small) ∙ clear)
@@ -234,10 +235,10 @@ with_tag-keeps bytes b n i j are clear =
     let w : ℕ = with_bit false (i % 8) v in
     ⊎_elim
     (λ same. ⊎_elim
-        (λ set. ap (λ x. nat_eq (bit_at x (j % 8)) 1) (ap (slice_index (stored 1 bytes (tag_byte b n i) w)) (sym same) ∙ (ap (λ l. slice_index l (tag_byte b n i)) (stored-1 bytes (tag_byte b n i) w) ∙ (set ∙ (let low : w % 256 ≡ w = omega (arith, small, most) in low))))
-            ∙ same_bit (i % 8) (j % 8) v (omega arith) (omega arith) (omega (arith, small)) (ap (λ x. nat_eq (bit_at (slice_index bytes x) (j % 8)) 1) same ∙ clear))
-        (λ kept. ap (λ x. nat_eq (bit_at x (j % 8)) 1) (ap (slice_index (stored 1 bytes (tag_byte b n i) w)) (sym same) ∙ (ap (λ l. slice_index l (tag_byte b n i)) (stored-1 bytes (tag_byte b n i) w) ∙ (kept ∙ ap (slice_index bytes) same))) ∙ clear)
-        (get-set_either bytes (tag_byte b n i) (w % 256)))
+    (λ set. ap (λ x. nat_eq (bit_at x (j % 8)) 1) (ap (slice_index (stored 1 bytes (tag_byte b n i) w)) (sym same) ∙ (ap (λ l. slice_index l (tag_byte b n i)) (stored-1 bytes (tag_byte b n i) w) ∙ (set ∙ (let low : w % 256 ≡ w = omega (arith, small, most) in low))))
+    ∙ same_bit (i % 8) (j % 8) v (omega arith) (omega arith) small (ap (λ x. nat_eq (bit_at (slice_index bytes x) (j % 8)) 1) same ∙ clear))
+    (λ kept. ap (λ x. nat_eq (bit_at x (j % 8)) 1) (ap (slice_index (stored 1 bytes (tag_byte b n i) w)) (sym same) ∙ (ap (λ l. slice_index l (tag_byte b n i)) (stored-1 bytes (tag_byte b n i) w) ∙ (kept ∙ ap (slice_index bytes) same))) ∙ clear)
+    (get-set_either bytes (tag_byte b n i) (w % 256)))
     (λ apart. ap (λ x. nat_eq (bit_at x (j % 8)) 1) (get-stored_other 1 bytes (tag_byte b n i) w (tag_byte b n j) apart) ∙ clear)
     (same_or_apart (tag_byte b n i) (tag_byte b n j))
 

@@ -1,11 +1,12 @@
 -- What writing tags and zeroing words leaves.
-use Rattle.std.specs.Prelude.{◌≡◌, ◌⊎◌, ℕ, zero, suc, ◌+◌, ◌-◌, ◌%◌, ◌<◌, ◌≤◌, Bool, true, false, List, [], ◌∷◌, ◌++◌, length, slice_index, slice_set, filter, nat_eq, if◌then◌else◌, refl}
+use Rattle.std.specs.Prelude.{◌≡◌, ◌⊎◌, ℕ, zero, suc, ◌+◌, ◌%◌, ◌<◌, ◌≤◌, Bool, true, false, List, [], ◌∷◌, ◌++◌, length, slice_index, slice_set, filter, nat_eq, if◌then◌else◌, refl}
 use Rattle.std.specs.Int.{bit_at}
-use Rattle.std.proofs.Common.{sym, ◌∙◌, ap, subst, arith}
-use Rattle.flat_mem.specs.Bytes.{stored, zeroed}
+use Rattle.std.proofs.Common.{◌∙◌, ap, arith}
+use Rattle.flat_mem.specs.Bytes.{zeroed}
+use Rattle.flat_mem.specs.Tags.{with_bit}
 use Rattle.flat_mem.specs.Placement.{data_word, tag_byte}
 use Rattle.flat_mem.proofs.ByteLaws.{length-stored, length-zeroed, get-zeroed_other}
-use Rattle.wild_tags.specs.Words.{counted, tag_at, with_bit, with_tag, tags_cleared, words_zeroed}
+use Rattle.wild_tags.specs.Words.{counted, tag_at, with_tag, tags_cleared, words_zeroed}
 
 -- Lengths stay
 

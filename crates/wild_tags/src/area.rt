@@ -1,15 +1,15 @@
 // One tagged area: where its words, base words and tags stand, and its tags.
 
-ghost use Rattle.std.specs.Prelude.{◌≡◌, ◌+◌, ◌-◌, ◌≤◌, ◌<◌, ◌^◌, List, [], ◌∷◌, IsTrue, length, filter, min, max};
+ghost use Rattle.std.specs.Prelude.{◌≡◌, ◌+◌, ◌-◌, ◌*◌, ◌≤◌, ◌<◌, ◌^◌, List, [], ◌∷◌, IsTrue, length, filter, min, max};
 ghost use Rattle.flat_mem.specs.Bytes.{AreBytes};
 ghost use Rattle.flat_mem.specs.Memory.{in_flat, with_bytes};
-ghost use Rattle.flat_mem.specs.Placement.{data_word, base_word, tag_byte};
+ghost use Rattle.flat_mem.specs.Placement.{word_count, data_word, base_word, tag_byte};
 ghost use Rattle.wild_tags.specs.Inside.{has_length, have_data, have_tags};
-ghost use Rattle.wild_tags.specs.Words.{length_at, word_at, touched_count, counted, tag_at, with_bit, with_tag, tags_cleared, words_zeroed};
+ghost use Rattle.wild_tags.specs.Words.{length_at, word_at, touched_count, counted, tag_at, with_tag, tags_cleared, words_zeroed};
 ghost use Rattle.wild_tags.specs.Order.{turn_of};
 
 use crate::words;
-use flat_mem::Flat;
+use flat_mem::{Flat, WordRow};
 
 // A tagged area by its address, and its length in bytes.
 #[derive(Clone, Copy)]
@@ -51,12 +51,28 @@ impl TaggedArea {
         self.at + 8 * words(self.length) + 8 * i
     }
 
-    // The address of the byte that has the tag of word `i`.
-    fn tag_byte(self, i: u64) -> u64
-        requires { tag_byte self.at self.length i < 2 ^ 64 }
-        ensures { result ≡ tag_byte self.at self.length i }
+    // The place of the tag of word `i`, in bits.
+    fn place_of_tag(self, i: u64) -> u64
+        requires { tag_byte self.at self.length i < 2 ^ 32 }
+        ensures { result ≡ 8 * (self.at + 16 * word_count self.length) + i }
     {
-        self.at + 16 * words(self.length) + i / 8
+        8 * (self.at + 16 * words(self.length)) + i
+    }
+
+    // Where the row of words from word `i` on stands.
+    pub(crate) fn row(self, i: u64) -> WordRow
+        requires words { data_word self.at i < 2 ^ 64 }
+        requires bases { base_word self.at self.length i < 2 ^ 64 }
+        requires tags { tag_byte self.at self.length i < 2 ^ 32 }
+        ensures words { result.words ≡ data_word self.at i }
+        ensures bases { result.bases ≡ base_word self.at self.length i }
+        ensures tags { result.tags ≡ 8 * (self.at + 16 * word_count self.length) + i }
+    {
+        WordRow {
+            words: self.data(i),
+            bases: self.base(i),
+            tags: self.place_of_tag(i),
+        }
     }
 
     // The tag of word `i`.
@@ -65,8 +81,7 @@ impl TaggedArea {
         requires small { length flat.now.bytes < 2 ^ 32 }
         ensures { result ≡ tag_at flat.now.bytes self.at self.length i }
     {
-        let byte = flat.load(self.tag_byte(i), 1);
-        (byte >> (i % 8)) & 1 == 1
+        flat.tag(self.place_of_tag(i))
     }
 
     // Sets or clears the tag of word `i`.
@@ -75,9 +90,7 @@ impl TaggedArea {
         requires small { length flat.old.bytes < 2 ^ 32 }
         ensures { flat.new ≡ with_bytes flat.old (with_tag tag flat.old.bytes self.at self.length i) }
     {
-        let at = self.tag_byte(i);
-        let byte = flat.load(at, 1);
-        flat.store(at, 1, with_bit(byte, i % 8, tag));
+        flat.set_tag(self.place_of_tag(i), tag);
     }
 
     // Zeroes data word `i` where it is tagged.
@@ -141,18 +154,6 @@ impl TaggedArea {
         for i in first..end {
             self.set_tag(flat, i, false);
         }
-    }
-}
-
-// The number with bit `k` set or cleared.
-fn with_bit(number: u64, k: u64, bit: bool) -> u64
-    requires { k < 64 }
-    ensures { result ≡ with_bit bit k number }
-{
-    if bit {
-        number | (1 << k)
-    } else {
-        number & !(1 << k)
     }
 }
 

@@ -24,8 +24,8 @@ load-requires-clause-inside c =
 
 pub loop-i-preserved : goal.loop-i-preserved
 loop-i-preserved c = elim c.if-is_tagged.branch [
-    then-is_tagged w ↦ depth-yes c.args.flat.now _ _ _ _ _ _ _ _ _ _ c.loop-i.invariant c.is_tagged.ensures w.if-is_tagged.true w.base.ensures w.load.ensures w.depth_of.ensures (w.depth-is ∙ w.max-depth.ensures) c.loop-i.auto.i
-    | else-is_tagged w ↦ w.depth-is ∙ depth-no c.args.flat.now _ _ _ _ _ _ c.loop-i.invariant c.is_tagged.ensures w.if-is_tagged.false c.loop-i.auto.i
+  | then-is_tagged w ↦ depth-yes c.args.flat.now _ _ _ _ _ _ _ _ _ _ c.loop-i.invariant c.is_tagged.ensures w.if-is_tagged.true w.base.ensures w.load.ensures w.depth_of.ensures (w.depth-is ∙ w.max-depth.ensures) c.loop-i.auto.i
+  | else-is_tagged w ↦ w.depth-is ∙ depth-no c.args.flat.now _ _ _ _ _ _ c.loop-i.invariant c.is_tagged.ensures w.if-is_tagged.false c.loop-i.auto.i
 ]
 
 pub returns : goal.returns

@@ -4,3 +4,6 @@ pub mod CallCode
 pub mod UntagCode
 pub mod UntagDone
 pub mod MoveCode
+pub mod InsideCode
+pub mod CallLaws
+pub mod MarkLaws

@@ -226,7 +226,7 @@ same_bit k j v low other small clear = ⊎_elim
     (same_or_apart k j)
 
 -- clearing a tag sets none
-with_tag-keeps : (bytes : List ℕ) (b n i j : ℕ) → AreBytes bytes → tag_at bytes b n j ≡ false → tag_at (with_tag false bytes b n i) b n j ≡ false
+pub with_tag-keeps : (bytes : List ℕ) (b n i j : ℕ) → AreBytes bytes → tag_at bytes b n j ≡ false → tag_at (with_tag false bytes b n i) b n j ≡ false
 unfolding with_tag
 with_tag-keeps bytes b n i j are clear =
     let v : ℕ = slice_index bytes (tag_byte b n i) in

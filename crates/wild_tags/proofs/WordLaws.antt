@@ -60,10 +60,10 @@ pub positive : (n : ℕ) → (n ≡ 0 → ⊥) → 0 < n
 positive zero some = absurd (some refl)
 positive (suc n) some = omega arith
 
-is_some : (n : ℕ) → 0 < n → nat_eq n 0 ≡ false
+pub is_some : (n : ℕ) → 0 < n → nat_eq n 0 ≡ false
 is_some n h = grind (arith, nat_tests)
 
-is_none : (n : ℕ) → n ≡ 0 → nat_eq n 0 ≡ true
+pub is_none : (n : ℕ) → n ≡ 0 → nat_eq n 0 ≡ true
 is_none n h = grind (arith, nat_tests)
 
 some_of : (n : ℕ) (y : Bool) → 0 < n → IsTrue (nat_eq n 0 || y) → IsTrue y

@@ -1,10 +1,11 @@
 // One tagged area: where its words, base words and tags stand, and its tags.
 
-ghost use Rattle.std.specs.Prelude.{◌≡◌, ◌+◌, ◌-◌, ◌*◌, ◌≤◌, ◌<◌, ◌^◌, List, [], ◌∷◌, IsTrue, length, filter, min, max};
+ghost use Rattle.std.specs.Prelude.{◌≡◌, ◌+◌, ◌-◌, ◌*◌, ◌≤◌, ◌<◌, ◌^◌, List, [], ◌∷◌, IsTrue, length, filter, min, max, nat_lt};
+ghost use Rattle.std.specs.List.{list_all};
 ghost use Rattle.flat_mem.specs.Bytes.{AreBytes};
 ghost use Rattle.flat_mem.specs.Memory.{in_flat, with_bytes};
 ghost use Rattle.flat_mem.specs.Placement.{word_count, data_word, base_word, tag_byte};
-ghost use Rattle.wild_tags.specs.Inside.{has_length, have_data, have_tags};
+ghost use Rattle.wild_tags.specs.Inside.{has_length, have_data, have_tags, IsLimit};
 ghost use Rattle.wild_tags.specs.Words.{length_at, word_at, touched_count, counted, tag_at, with_tag, tags_cleared, words_zeroed};
 ghost use Rattle.wild_tags.specs.Order.{turn_of};
 
@@ -49,6 +50,50 @@ impl TaggedArea {
         ensures { result ≡ base_word self.at self.length i }
     {
         self.at + 8 * words(self.length) + 8 * i
+    }
+
+    // How many data words from the first on would lie in the list.
+    pub(crate) fn data_limit(self, flat: &Flat) -> u64
+        requires { self.at ≤ length flat.now.bytes }
+        ensures { IsLimit (λ i. in_flat flat.now.bytes (data_word self.at i) 8) result }
+    {
+        (flat.size() - self.at) / 8
+    }
+
+    // How many base words from the first on would lie in the list.
+    pub(crate) fn base_limit(self, flat: &Flat) -> u64
+        requires { self.at ≤ length flat.now.bytes }
+        ensures { IsLimit (λ i. in_flat flat.now.bytes (base_word self.at self.length i) 8) result }
+    {
+        ((flat.size() - self.at) / 8).saturating_sub(words(self.length))
+    }
+
+    // How many tags from the first on would lie in the list.
+    pub(crate) fn tag_limit(self, flat: &Flat) -> u64
+        requires { self.at ≤ length flat.now.bytes }
+        ensures { IsLimit (λ i. in_flat flat.now.bytes (tag_byte self.at self.length i) 1) result }
+    {
+        let room = flat.size() - self.at;
+        if words(self.length) > room / 16 {
+            return 0;
+        }
+        8 * (room - 16 * words(self.length))
+    }
+
+    // Whether each tagged word from `first` up to `end` is below `limit`.
+    pub(crate) fn tagged_below(self, flat: &Flat, first: u64, end: u64, limit: u64) -> bool
+        requires order { first ≤ end }
+        requires tags { IsTrue (have_tags flat.now.bytes self.at self.length (counted first (end - first))) }
+        requires small { length flat.now.bytes < 2 ^ 32 }
+        ensures { result ≡ list_all (λ i. nat_lt i limit) (filter (tag_at flat.now.bytes self.at self.length) (counted first (end - first))) }
+    {
+        let start = limit.max(first).min(end);
+        for i in start..end {
+            if self.is_tagged(flat, i) {
+                return false;
+            }
+        }
+        true
     }
 
     // The place of the tag of word `i`, in bits.
@@ -167,13 +212,13 @@ pub(crate) fn word_of(a: u64, b: u64) -> u64
 
 // The word after the last one that the `n` bytes at `a` touch in the area at `b`, or the first where `n` is 0.
 pub(crate) fn end_of(a: u64, b: u64, n: u64) -> u64
-    requires order { b ≤ a }
-    requires small { a + n ≤ b + 2 ^ 63 }
+    requires { b ≤ a }
     ensures { result ≡ word_at b a + touched_count b a n }
 {
     if n == 0 {
-        word_of(a, b)
-    } else {
-        (a - b + (n - 1)) / 8 + 1
+        return word_of(a, b);
     }
+    // (a - b + n - 1) / 8 + 1, though that sum may pass the greatest word
+    let (before, more) = (a - b, n - 1);
+    before / 8 + more / 8 + (before % 8 + more % 8) / 8 + 1
 }

@@ -9,9 +9,14 @@ ghost use Rattle.wild_tags.specs.Calls.{base_of, greatest_depth, is_plain, is_ta
 ghost use Rattle.wild_tags.specs.Inside.{allows_base, allows_depth, allows_mark, allows_move, allows_plain, allows_tagged, allows_untag, allows_zero};
 
 mod area;
+mod inside;
 
 use area::{TaggedArea, end_of, word_of};
 use flat_mem::Flat;
+pub use inside::{
+    allows_base, allows_depth, allows_mark, allows_move, allows_plain, allows_tagged, allows_untag,
+    allows_zero,
+};
 
 /// The number of data words of a tagged area of `length` bytes.
 pub fn words(length: u64) -> u64
@@ -129,3 +134,6 @@ pub fn tdepth(flat: &Flat, a: u64, b: u64, n: u64) -> u64
     }
     depth
 }
+
+#[cfg(test)]
+mod tests;

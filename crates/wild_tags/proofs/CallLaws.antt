@@ -12,8 +12,7 @@ use Rattle.flat_mem.proofs.MemoryCode.{stored-1}
 use Rattle.flat_mem.proofs.TagLaws.{set_bit, with_bit-clear_most, bit-with_bit_same, bit-with_bit_other}
 use Rattle.wild_tags.specs.Words.{length_at, word_at, touched, tag_at, with_tag, with_tags, tags_cleared, words_zeroed}
 use Rattle.wild_tags.specs.Calls.{tagged_words, marked, untagged, words_moved, range_zeroed}
-use Rattle.wild_tags.proofs.WriteLaws.{length-with_tag, length-tags_cleared, length-words_zeroed}
-use Rattle.wild_tags.proofs.UntagDone.{with_tag-bytes, words_zeroed-bytes}
+use Rattle.wild_tags.proofs.WriteLaws.{with_tag-bytes, words_zeroed-bytes, same_or_apart, length-with_tag, length-tags_cleared, length-words_zeroed}
 
 -- Lengths stay
 
@@ -122,9 +121,6 @@ tag-with_tag_same tag bytes b n i are room =
     ap (λ l. nat_eq (bit_at (slice_index l (tag_byte b n i)) (i % 8)) 1) (stored-1 bytes (tag_byte b n i) w)
     ∙ (ap (λ x. nat_eq (bit_at x (i % 8)) 1) (get_or-set_same bytes (tag_byte b n i) (w % 256) 0 room ∙ with_bit-byte tag (i % 8) v (omega arith) small)
     ∙ (ap (λ x. nat_eq x 1) (bit-with_bit_same tag (i % 8) v (omega arith) small) ∙ tag_is tag))
-
-same_or_apart : (x y : ℕ) → (x ≡ y) ⊎ ((y < x) ⊎ (x + 1 ≤ y))
-same_or_apart x y = grind arith
 
 bits_apart : (x y i j : ℕ) → x + i / 8 ≡ x + j / 8 → i ≢ j → (j % 8 ≡ i % 8 → ⊥)
 bits_apart x y i j same apart e = apart (omega (arith, same, e))

@@ -7,3 +7,4 @@ pub mod MoveCode
 pub mod InsideCode
 pub mod CallLaws
 pub mod MarkLaws
+pub mod UntagLaws

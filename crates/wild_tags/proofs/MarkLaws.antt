@@ -8,8 +8,7 @@ use Rattle.flat_mem.proofs.ByteLaws.{get-stored_other, number-stored, number-sto
 use Rattle.wild_tags.specs.Words.{length_at, word_at, counted, tag_at, base_at, with_tag, tags_cleared}
 use Rattle.wild_tags.specs.Calls.{marked, is_tagged, base_of}
 use Rattle.wild_tags.proofs.WordLaws.{first_or_later}
-use Rattle.wild_tags.proofs.WriteLaws.{length-with_tag}
-use Rattle.wild_tags.proofs.UntagDone.{with_tag-bytes, with_tag-keeps}
+use Rattle.wild_tags.proofs.WriteLaws.{with_tag-bytes, with_tag-keeps, length-with_tag}
 use Rattle.wild_tags.proofs.CallLaws.{number-with_tag_apart, tag-with_tag_same, tag-with_tag_other}
 
 -- Marking. Here n is the area's length and i the marked word

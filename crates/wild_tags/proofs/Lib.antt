@@ -8,3 +8,4 @@ pub mod InsideCode
 pub mod CallLaws
 pub mod MarkLaws
 pub mod UntagLaws
+pub mod MoveLaws

@@ -1,13 +1,15 @@
 -- What the code of the calls computes is what the definitions say.
-use Rattle.std.specs.Prelude.{◌≡◌, ℕ, zero, suc, ◌+◌, ◌-◌, ◌%◌, ◌^◌, ◌<◌, ◌≤◌, ◌&&◌, ◌||◌, Bool, true, false, not, List, [], ◌∷◌, ◌++◌, length, IsTrue, max, map, filter, nat_eq, nat_le, if◌then◌else◌, refl}
+use Rattle.std.specs.Prelude.{◌≡◌, ℕ, zero, suc, ◌+◌, ◌-◌, ◌*◌, ◌/◌, ◌%◌, ◌^◌, ◌<◌, ◌≤◌, ◌&&◌, ◌||◌, Bool, true, false, not, List, [], ◌∷◌, ◌++◌, length, IsTrue, max, map, filter, nat_eq, nat_le, slice_index, if◌then◌else◌, refl}
 use Rattle.std.specs.List.{list_all}
+use Rattle.std.specs.Int.{bit_at}
 use Rattle.std.proofs.Common.{sym, ◌∙◌, ap, subst, ⊎_elim, arith}
 use Rattle.std.proofs.lemmas.List.{map-append, append-nil}
 use Rattle.std.proofs.lemmas.List.Elements.{filter-append}
 use Rattle.std.proofs.lemmas.List.Folds.{list_all-append}
-use Rattle.flat_mem.specs.Bytes.{number, zeroed}
+use Rattle.flat_mem.specs.Bytes.{number, stored, zeroed}
 use Rattle.flat_mem.proofs.ByteLaws.{length-zeroed}
-use Rattle.flat_mem.specs.Placement.{base_word, tag_byte}
+use Rattle.flat_mem.specs.Placement.{word_count, base_word, tag_byte}
+use Rattle.flat_mem.specs.Tags.{with_bit, tag_in, tag_written}
 use Rattle.flat_mem.specs.Memory.{Memory, with_bytes, in_flat, depth_of}
 use Rattle.flat_mem.proofs.RangeLaws.{in_flat-same}
 use Rattle.wild_tags.specs.Words.{length_at, word_at, counted, touched_count, touched, tag_at, base_at, with_tag, tags_cleared}
@@ -29,6 +31,25 @@ so_far-more first i low =
     let more : i + 1 - first ≡ suc (i - first) = omega arith in
     let last : first + (i - first) ≡ i = omega arith in
     ap (counted first) more ∙ (counted-more first (i - first) ∙ ap (λ k. so_far first i ++ k ∷ []) last)
+
+-- The tag that the code reads and writes, by its place in bits
+
+pub tag-code : (bytes : List ℕ) (b n i t : ℕ) → t ≡ 8 * (b + 16 * word_count n) + i → tag_in bytes t ≡ tag_at bytes b n i
+tag-code bytes b n i t place =
+    let byte : t / 8 ≡ tag_byte b n i = omega (arith, place) in
+    let bit : t % 8 ≡ i % 8 = omega (arith, place) in
+    ap (λ k. nat_eq (bit_at (slice_index bytes k) (t % 8)) 1) byte ∙ ap (λ k. nat_eq (bit_at (slice_index bytes (tag_byte b n i)) k) 1) bit
+
+pub with_tag-code : (tag : Bool) (bytes : List ℕ) (b n i t : ℕ) → t ≡ 8 * (b + 16 * word_count n) + i → tag_written tag bytes t ≡ with_tag tag bytes b n i
+unfolding tag_written with_tag
+with_tag-code tag bytes b n i t place =
+    let byte : t / 8 ≡ tag_byte b n i = omega (arith, place) in
+    let bit : t % 8 ≡ i % 8 = omega (arith, place) in
+    ap (λ k. stored 1 bytes k (with_bit tag (t % 8) (slice_index bytes k))) byte
+    ∙ ap (λ k. stored 1 bytes (tag_byte b n i) (with_bit tag k (slice_index bytes (tag_byte b n i)))) bit
+
+pub set-code : (m new : Memory) (tag : Bool) (b n i t : ℕ) → t ≡ 8 * (b + 16 * word_count n) + i → new ≡ with_bytes m (tag_written tag m.bytes t) → new ≡ with_bytes m (with_tag tag m.bytes b n i)
+set-code m new tag b n i t place made = made ∙ ap (with_bytes m) (with_tag-code tag m.bytes b n i t place)
 
 -- Clearing tags
 

@@ -1,6 +1,11 @@
-pub mod BitLaws
 pub mod WordLaws
 pub mod WriteLaws
 pub mod CallCode
 pub mod UntagCode
 pub mod UntagDone
+pub mod MoveCode
+pub mod InsideCode
+pub mod CallLaws
+pub mod MarkLaws
+pub mod UntagLaws
+pub mod MoveLaws

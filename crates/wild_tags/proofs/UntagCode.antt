@@ -1,9 +1,7 @@
 -- The order in which `untag` zeroes words: no tag is lost that is still to be read.
-use Rattle.std.specs.Prelude.{◌≡◌, ◌⊎◌, ℕ, zero, suc, ◌+◌, ◌-◌, ◌*◌, ◌/◌, ◌%◌, ◌^◌, ◌<◌, ◌≤◌, ◌&&◌, Bool, true, false, List, [], ◌∷◌, ◌++◌, length, IsTrue, min, max, filter, nat_eq, nat_le, if◌then◌else◌, refl}
-use Rattle.std.specs.List.{list_all}
+use Rattle.std.specs.Prelude.{◌≡◌, ℕ, suc, ◌+◌, ◌-◌, ◌*◌, ◌/◌, ◌^◌, ◌<◌, ◌≤◌, ◌&&◌, Bool, true, false, List, [], ◌∷◌, length, IsTrue, min, max, filter, if◌then◌else◌, refl}
 use Rattle.std.proofs.Common.{sym, ◌∙◌, ap, subst, inl, inr, arith}
 use Rattle.std.proofs.lemmas.List.Elements.{filter-append}
-use Rattle.std.proofs.lemmas.List.Folds.{list_all-append}
 use Rattle.flat_mem.specs.Bytes.{zeroed}
 use Rattle.flat_mem.specs.Placement.{word_count, data_word, tag_byte}
 use Rattle.flat_mem.specs.Memory.{Memory, with_bytes, in_flat}
@@ -11,8 +9,8 @@ use Rattle.flat_mem.proofs.RangeLaws.{in_flat-same}
 use Rattle.wild_tags.specs.Words.{counted, tag_at, words_zeroed}
 use Rattle.wild_tags.specs.Inside.{have_data, have_tags}
 use Rattle.wild_tags.specs.Order.{turn_of}
-use Rattle.wild_tags.proofs.WordLaws.{counted-none, counted-append, all-at, both}
-use Rattle.wild_tags.proofs.WriteLaws.{length-words_zeroed, words_zeroed-none, words_zeroed-one, words_zeroed-append, words_zeroed-turned, Away, away-filter, away-counted, tag-words_zeroed}
+use Rattle.wild_tags.proofs.WordLaws.{all-at}
+use Rattle.wild_tags.proofs.WriteLaws.{length-words_zeroed, words_zeroed-none, words_zeroed-one, words_zeroed-append, words_zeroed-turned, away-filter, away-counted, tag-words_zeroed}
 use Rattle.wild_tags.proofs.CallCode.{so_far, so_far-none, so_far-more, filter-yes, filter-no, all-filtered}
 
 -- One word

@@ -1,5 +1,5 @@
 -- Laws on the words that some bytes touch.
-use Rattle.std.specs.Prelude.{◌≡◌, ◌⊎◌, ℕ, zero, suc, ◌+◌, ◌-◌, ◌*◌, ◌/◌, ◌^◌, ◌<◌, ◌≤◌, ◌&&◌, ◌||◌, Bool, true, false, List, [], ◌∷◌, ◌++◌, length, IsTrue, nat_eq, nat_le, if◌then◌else◌, refl}
+use Rattle.std.specs.Prelude.{◌≡◌, ◌⊎◌, ℕ, zero, suc, ◌+◌, ◌-◌, ◌<◌, ◌≤◌, ◌&&◌, ◌||◌, Bool, true, false, List, [], ◌∷◌, ◌++◌, IsTrue, nat_eq, nat_le, if◌then◌else◌, refl}
 use Rattle.std.specs.List.{list_all}
 use Rattle.std.proofs.Common.{sym, ◌∙◌, ap, subst, ⊎_elim, arith}
 use Rattle.std.proofs.lemmas.Bool.Decides.{nat_tests}
@@ -60,10 +60,10 @@ pub positive : (n : ℕ) → (n ≡ 0 → ⊥) → 0 < n
 positive zero some = absurd (some refl)
 positive (suc n) some = omega arith
 
-is_some : (n : ℕ) → 0 < n → nat_eq n 0 ≡ false
+pub is_some : (n : ℕ) → 0 < n → nat_eq n 0 ≡ false
 is_some n h = grind (arith, nat_tests)
 
-is_none : (n : ℕ) → n ≡ 0 → nat_eq n 0 ≡ true
+pub is_none : (n : ℕ) → n ≡ 0 → nat_eq n 0 ≡ true
 is_none n h = grind (arith, nat_tests)
 
 some_of : (n : ℕ) (y : Bool) → 0 < n → IsTrue (nat_eq n 0 || y) → IsTrue y
@@ -86,20 +86,7 @@ tag-inside bytes a b n i first end at len needs begin stop place size low high =
     (subst (λ x. IsTrue (in_flat bytes (tag_byte b x i) 1)) (sym size)
     (all-at (λ j. in_flat bytes (tag_byte b (length_at bytes b) j) 1) (word_at b a) (touched_count b a n) i needs.tags (omega (arith, begin, low)) (omega (arith, stop, high))))
 
-room_of-one : (most at : ℕ) → IsTrue (nat_eq 1 0 || nat_le (at + 1) most) → at + 1 ≤ most
-room_of-one most at h = grind (arith, nat_tests)
-
 pub touched_count-some : (a b n : ℕ) → 0 < n → b ≤ a → (touched_count b a n ≡ word_at b (a + n - 1) + 1 - word_at b a) × (0 < touched_count b a n)
 touched_count-some a b n some order =
     let count : touched_count b a n ≡ word_at b (a + n - 1) + 1 - word_at b a = ap (λ t. if t then 0 else word_at b (a + n - 1) + 1 - word_at b a) (is_some n some) in
     (count, omega (arith, count))
-
--- so the n bytes don't reach far
-pub touched-small : (bytes : List ℕ) (a b n : ℕ) → Needs bytes a b n → 0 < n → length bytes < 2 ^ 32 → a + n ≤ b + 2 ^ 63
-touched-small bytes a b n needs some small =
-    let order : b ≤ a = needs.order in
-    let count = touched_count-some a b n some order in
-    let last : ℕ = word_at b (a + n - 1) in
-    let one : IsTrue (in_flat bytes (tag_byte b (length_at bytes b) last) 1) = all-at (λ j. in_flat bytes (tag_byte b (length_at bytes b) j) 1) (word_at b a) (touched_count b a n) last needs.tags (omega arith) (let c = count.0 in omega (arith, c)) in
-    let room : tag_byte b (length_at bytes b) last + 1 ≤ length bytes = room_of-one (length bytes) (tag_byte b (length_at bytes b) last) one in
-    omega (arith, room, small)

@@ -1,11 +1,16 @@
 -- What writing tags and zeroing words leaves.
-use Rattle.std.specs.Prelude.{◌≡◌, ◌⊎◌, ℕ, zero, suc, ◌+◌, ◌-◌, ◌%◌, ◌<◌, ◌≤◌, Bool, true, false, List, [], ◌∷◌, ◌++◌, length, slice_index, slice_set, filter, nat_eq, if◌then◌else◌, refl}
+use Rattle.std.specs.Prelude.{◌≡◌, ◌⊎◌, ℕ, zero, suc, ◌+◌, ◌%◌, ◌<◌, ◌≤◌, Bool, true, false, List, [], ◌∷◌, ◌++◌, length, slice_index, slice_set, filter, nat_eq, if◌then◌else◌, refl}
 use Rattle.std.specs.Int.{bit_at}
-use Rattle.std.proofs.Common.{sym, ◌∙◌, ap, subst, arith}
-use Rattle.flat_mem.specs.Bytes.{stored, zeroed}
+use Rattle.std.proofs.Common.{sym, ◌∙◌, ap, inl, inr, ⊎_elim, arith}
+use Rattle.std.proofs.lemmas.Nat.Bits.{bit_at-zero, bit_at-lt}
+use Rattle.std.proofs.lemmas.Bool.Decides.{nat_tests}
+use Rattle.flat_mem.specs.Bytes.{stored, zeroed, AreBytes}
+use Rattle.flat_mem.specs.Tags.{with_bit}
 use Rattle.flat_mem.specs.Placement.{data_word, tag_byte}
-use Rattle.flat_mem.proofs.ByteLaws.{length-stored, length-zeroed, get-zeroed_other}
-use Rattle.wild_tags.specs.Words.{counted, tag_at, with_bit, with_tag, tags_cleared, words_zeroed}
+use Rattle.flat_mem.proofs.ByteLaws.{length-stored, length-zeroed, get-zeroed_inside, get-zeroed_other, get-stored_other, stored-bytes, zeroed-bytes}
+use Rattle.flat_mem.proofs.MemoryCode.{stored-1}
+use Rattle.flat_mem.proofs.TagLaws.{with_bit-clear_most, with_bit-clear_none, bit-with_bit_same, bit-with_bit_other}
+use Rattle.wild_tags.specs.Words.{counted, tag_at, with_tag, tags_cleared, words_zeroed}
 
 -- Lengths stay
 
@@ -105,3 +110,88 @@ get-words_zeroed_other (i ∷ words) bytes b k away =
 
 pub tag-words_zeroed : (words bytes : List ℕ) (b n i : ℕ) → Away b (tag_byte b n i) words → tag_at (words_zeroed words bytes b) b n i ≡ tag_at bytes b n i
 tag-words_zeroed words bytes b n i away = ap (λ v. nat_eq (bit_at v (i % 8)) 1) (get-words_zeroed_other words bytes b (tag_byte b n i) away)
+
+-- What stands where words are zeroed and tags cleared, and that bytes stay bytes
+
+inside_or_out : (a n i : ℕ) → ((a ≤ i) × (i < a + n)) ⊎ ((i < a) ⊎ (a + n ≤ i))
+inside_or_out a n i = grind arith
+
+pub get-zeroed_either : (n : ℕ) (bytes : List ℕ) (a i : ℕ) → (slice_index (zeroed n bytes a) i ≡ 0) ⊎ (slice_index (zeroed n bytes a) i ≡ slice_index bytes i)
+get-zeroed_either n bytes a i = ⊎_elim
+    (λ within. inl (get-zeroed_inside n bytes a i within.0 within.1))
+    (λ out. inr (get-zeroed_other n bytes a i out))
+    (inside_or_out a n i)
+
+pub get-words_zeroed_either : (words bytes : List ℕ) (b i : ℕ) → (slice_index (words_zeroed words bytes b) i ≡ 0) ⊎ (slice_index (words_zeroed words bytes b) i ≡ slice_index bytes i)
+unfolding words_zeroed
+get-words_zeroed_either [] bytes b i = inr refl
+get-words_zeroed_either (j ∷ words) bytes b i = ⊎_elim
+    (λ none. inl none)
+    (λ same. ⊎_elim (λ none. inl (same ∙ none)) (λ kept. inr (same ∙ kept)) (get-zeroed_either 8 bytes (data_word b j) i))
+    (get-words_zeroed_either words (zeroed 8 bytes (data_word b j)) b i)
+
+pub words_zeroed-clear : (words bytes : List ℕ) (b n i : ℕ) → tag_at bytes b n i ≡ false → tag_at (words_zeroed words bytes b) b n i ≡ false
+words_zeroed-clear words bytes b n i clear = ⊎_elim
+    (λ none. ap (λ v. nat_eq (bit_at v (i % 8)) 1) none ∙ ap (λ v. nat_eq v 1) (bit_at-zero (i % 8)))
+    (λ same. ap (λ v. nat_eq (bit_at v (i % 8)) 1) same ∙ clear)
+    (get-words_zeroed_either words bytes b (tag_byte b n i))
+
+pub words_zeroed-bytes : (words bytes : List ℕ) (b : ℕ) → AreBytes bytes → AreBytes (words_zeroed words bytes b)
+unfolding words_zeroed
+words_zeroed-bytes [] bytes b are = are
+words_zeroed-bytes (i ∷ words) bytes b are = words_zeroed-bytes words (zeroed 8 bytes (data_word b i)) b (zeroed-bytes 8 bytes (data_word b i) are)
+
+pub with_tag-bytes : (t : Bool) (bytes : List ℕ) (b n i : ℕ) → AreBytes bytes → AreBytes (with_tag t bytes b n i)
+unfolding with_tag
+with_tag-bytes t bytes b n i are = stored-bytes 1 bytes (tag_byte b n i) (with_bit t (i % 8) (slice_index bytes (tag_byte b n i))) are
+
+zero_bit : (x : ℕ) → x < 2 → nat_eq x 1 ≡ false → x ≡ 0
+zero_bit x small h = grind (arith, nat_tests)
+
+set-same : (bytes : List ℕ) (i : ℕ) → slice_set bytes i (slice_index bytes i) ≡ bytes
+set-same [] i = refl
+set-same (x ∷ bytes) zero = refl
+set-same (x ∷ bytes) (suc i) = ap (λ l. x ∷ l) (set-same bytes i)
+
+stored-same : (bytes : List ℕ) (a v : ℕ) → v ≡ slice_index bytes a → v < 256 → stored 1 bytes a v ≡ bytes
+stored-same bytes a v is small = let low : v % 256 ≡ slice_index bytes a = omega (arith, is, small) in stored-1 bytes a v ∙ (ap (slice_set bytes a) low ∙ set-same bytes a)
+
+pub with_tag-clear : (bytes : List ℕ) (b n i : ℕ) → AreBytes bytes → tag_at bytes b n i ≡ false → with_tag false bytes b n i ≡ bytes
+unfolding with_tag
+with_tag-clear bytes b n i are clear =
+    let v : ℕ = slice_index bytes (tag_byte b n i) in
+    let none : bit_at v (i % 8) ≡ 0 = zero_bit (bit_at v (i % 8)) (bit_at-lt v (i % 8)) clear in
+    let same : with_bit false (i % 8) v ≡ v = with_bit-clear_none (i % 8) v none in
+    let small : v < 256 = are.below (tag_byte b n i) in
+    ap (stored 1 bytes (tag_byte b n i)) same ∙ stored-same bytes (tag_byte b n i) v refl small
+
+get-set_either : (bytes : List ℕ) (i v : ℕ) → (slice_index (slice_set bytes i v) i ≡ v) ⊎ (slice_index (slice_set bytes i v) i ≡ slice_index bytes i)
+get-set_either [] i v = inr refl
+get-set_either (x ∷ bytes) zero v = inl refl
+get-set_either (x ∷ bytes) (suc i) v = get-set_either bytes i v
+
+pub same_or_apart : (x y : ℕ) → (x ≡ y) ⊎ ((y < x) ⊎ (x + 1 ≤ y))
+same_or_apart x y = grind arith
+
+same_bit : (k j v : ℕ) → k < 8 → j < 8 → v < 256 → nat_eq (bit_at v j) 1 ≡ false → nat_eq (bit_at (with_bit false k v) j) 1 ≡ false
+same_bit k j v low other small clear = ⊎_elim
+    (λ same. ap (λ x. nat_eq (bit_at (with_bit false k v) x) 1) (sym same) ∙ ap (λ x. nat_eq x 1) (bit-with_bit_same false k v low small))
+    (λ apart. ap (λ x. nat_eq x 1) (bit-with_bit_other false k j v low other (λ e. ⊎_elim (λ h. omega arith) (λ h. omega arith) apart) small) ∙ clear)
+    (same_or_apart k j)
+
+-- clearing a tag sets none
+pub with_tag-keeps : (bytes : List ℕ) (b n i j : ℕ) → AreBytes bytes → tag_at bytes b n j ≡ false → tag_at (with_tag false bytes b n i) b n j ≡ false
+unfolding with_tag
+with_tag-keeps bytes b n i j are clear =
+    let v : ℕ = slice_index bytes (tag_byte b n i) in
+    let small : v < 256 = are.below (tag_byte b n i) in
+    let most : with_bit false (i % 8) v ≤ v = with_bit-clear_most (i % 8) v in
+    let w : ℕ = with_bit false (i % 8) v in
+    ⊎_elim
+    (λ same. ⊎_elim
+    (λ set. ap (λ x. nat_eq (bit_at x (j % 8)) 1) (ap (slice_index (stored 1 bytes (tag_byte b n i) w)) (sym same) ∙ (ap (λ l. slice_index l (tag_byte b n i)) (stored-1 bytes (tag_byte b n i) w) ∙ (set ∙ (let low : w % 256 ≡ w = omega (arith, small, most) in low))))
+    ∙ same_bit (i % 8) (j % 8) v (omega arith) (omega arith) small (ap (λ x. nat_eq (bit_at (slice_index bytes x) (j % 8)) 1) same ∙ clear))
+    (λ kept. ap (λ x. nat_eq (bit_at x (j % 8)) 1) (ap (slice_index (stored 1 bytes (tag_byte b n i) w)) (sym same) ∙ (ap (λ l. slice_index l (tag_byte b n i)) (stored-1 bytes (tag_byte b n i) w) ∙ (kept ∙ ap (slice_index bytes) same))) ∙ clear)
+    (get-set_either bytes (tag_byte b n i) (w % 256)))
+    (λ apart. ap (λ x. nat_eq (bit_at x (j % 8)) 1) (get-stored_other 1 bytes (tag_byte b n i) w (tag_byte b n j) apart) ∙ clear)
+    (same_or_apart (tag_byte b n i) (tag_byte b n j))

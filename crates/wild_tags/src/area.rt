@@ -1,15 +1,16 @@
 // One tagged area: where its words, base words and tags stand, and its tags.
 
-ghost use Rattle.std.specs.Prelude.{◌≡◌, ◌+◌, ◌-◌, ◌≤◌, ◌<◌, ◌^◌, List, [], ◌∷◌, IsTrue, length, filter, min, max};
+ghost use Rattle.std.specs.Prelude.{◌≡◌, ◌+◌, ◌-◌, ◌*◌, ◌≤◌, ◌<◌, ◌^◌, List, [], ◌∷◌, IsTrue, length, filter, min, max, nat_lt};
+ghost use Rattle.std.specs.List.{list_all};
 ghost use Rattle.flat_mem.specs.Bytes.{AreBytes};
 ghost use Rattle.flat_mem.specs.Memory.{in_flat, with_bytes};
-ghost use Rattle.flat_mem.specs.Placement.{data_word, base_word, tag_byte};
-ghost use Rattle.wild_tags.specs.Inside.{has_length, have_data, have_tags};
-ghost use Rattle.wild_tags.specs.Words.{length_at, word_at, touched_count, counted, tag_at, with_bit, with_tag, tags_cleared, words_zeroed};
+ghost use Rattle.flat_mem.specs.Placement.{word_count, data_word, base_word, tag_byte};
+ghost use Rattle.wild_tags.specs.Inside.{has_length, have_data, have_tags, IsLimit};
+ghost use Rattle.wild_tags.specs.Words.{length_at, word_at, touched_count, counted, tag_at, with_tag, tags_cleared, words_zeroed};
 ghost use Rattle.wild_tags.specs.Order.{turn_of};
 
 use crate::words;
-use flat_mem::Flat;
+use flat_mem::{Flat, WordRow};
 
 // A tagged area by its address, and its length in bytes.
 #[derive(Clone, Copy)]
@@ -51,12 +52,72 @@ impl TaggedArea {
         self.at + 8 * words(self.length) + 8 * i
     }
 
-    // The address of the byte that has the tag of word `i`.
-    fn tag_byte(self, i: u64) -> u64
-        requires { tag_byte self.at self.length i < 2 ^ 64 }
-        ensures { result ≡ tag_byte self.at self.length i }
+    // How many data words from the first on would lie in the list.
+    pub(crate) fn data_limit(self, flat: &Flat) -> u64
+        requires { self.at ≤ length flat.now.bytes }
+        ensures { IsLimit (λ i. in_flat flat.now.bytes (data_word self.at i) 8) result }
     {
-        self.at + 16 * words(self.length) + i / 8
+        (flat.size() - self.at) / 8
+    }
+
+    // How many base words from the first on would lie in the list.
+    pub(crate) fn base_limit(self, flat: &Flat) -> u64
+        requires { self.at ≤ length flat.now.bytes }
+        ensures { IsLimit (λ i. in_flat flat.now.bytes (base_word self.at self.length i) 8) result }
+    {
+        ((flat.size() - self.at) / 8).saturating_sub(words(self.length))
+    }
+
+    // How many tags from the first on would lie in the list.
+    pub(crate) fn tag_limit(self, flat: &Flat) -> u64
+        requires { self.at ≤ length flat.now.bytes }
+        ensures { IsLimit (λ i. in_flat flat.now.bytes (tag_byte self.at self.length i) 1) result }
+    {
+        let room = flat.size() - self.at;
+        if words(self.length) > room / 16 {
+            return 0;
+        }
+        8 * (room - 16 * words(self.length))
+    }
+
+    // Whether each tagged word from `first` up to `end` is below `limit`.
+    pub(crate) fn tagged_below(self, flat: &Flat, first: u64, end: u64, limit: u64) -> bool
+        requires order { first ≤ end }
+        requires tags { IsTrue (have_tags flat.now.bytes self.at self.length (counted first (end - first))) }
+        requires small { length flat.now.bytes < 2 ^ 32 }
+        ensures { result ≡ list_all (λ i. nat_lt i limit) (filter (tag_at flat.now.bytes self.at self.length) (counted first (end - first))) }
+    {
+        let start = limit.max(first).min(end);
+        for i in start..end {
+            if self.is_tagged(flat, i) {
+                return false;
+            }
+        }
+        true
+    }
+
+    // The place of the tag of word `i`, in bits.
+    fn place_of_tag(self, i: u64) -> u64
+        requires { tag_byte self.at self.length i < 2 ^ 32 }
+        ensures { result ≡ 8 * (self.at + 16 * word_count self.length) + i }
+    {
+        8 * (self.at + 16 * words(self.length)) + i
+    }
+
+    // Where the row of words from word `i` on stands.
+    pub(crate) fn row(self, i: u64) -> WordRow
+        requires words { data_word self.at i < 2 ^ 64 }
+        requires bases { base_word self.at self.length i < 2 ^ 64 }
+        requires tags { tag_byte self.at self.length i < 2 ^ 32 }
+        ensures words { result.words ≡ data_word self.at i }
+        ensures bases { result.bases ≡ base_word self.at self.length i }
+        ensures tags { result.tags ≡ 8 * (self.at + 16 * word_count self.length) + i }
+    {
+        WordRow {
+            words: self.data(i),
+            bases: self.base(i),
+            tags: self.place_of_tag(i),
+        }
     }
 
     // The tag of word `i`.
@@ -65,8 +126,7 @@ impl TaggedArea {
         requires small { length flat.now.bytes < 2 ^ 32 }
         ensures { result ≡ tag_at flat.now.bytes self.at self.length i }
     {
-        let byte = flat.load(self.tag_byte(i), 1);
-        (byte >> (i % 8)) & 1 == 1
+        flat.tag(self.place_of_tag(i))
     }
 
     // Sets or clears the tag of word `i`.
@@ -75,9 +135,7 @@ impl TaggedArea {
         requires small { length flat.old.bytes < 2 ^ 32 }
         ensures { flat.new ≡ with_bytes flat.old (with_tag tag flat.old.bytes self.at self.length i) }
     {
-        let at = self.tag_byte(i);
-        let byte = flat.load(at, 1);
-        flat.store(at, 1, with_bit(byte, i % 8, tag));
+        flat.set_tag(self.place_of_tag(i), tag);
     }
 
     // Zeroes data word `i` where it is tagged.
@@ -144,18 +202,6 @@ impl TaggedArea {
     }
 }
 
-// The number with bit `k` set or cleared.
-fn with_bit(number: u64, k: u64, bit: bool) -> u64
-    requires { k < 64 }
-    ensures { result ≡ with_bit bit k number }
-{
-    if bit {
-        number | (1 << k)
-    } else {
-        number & !(1 << k)
-    }
-}
-
 // The word of the area at `b` that the byte at `a` belongs to.
 pub(crate) fn word_of(a: u64, b: u64) -> u64
     requires { b ≤ a }
@@ -166,13 +212,13 @@ pub(crate) fn word_of(a: u64, b: u64) -> u64
 
 // The word after the last one that the `n` bytes at `a` touch in the area at `b`, or the first where `n` is 0.
 pub(crate) fn end_of(a: u64, b: u64, n: u64) -> u64
-    requires order { b ≤ a }
-    requires small { a + n ≤ b + 2 ^ 63 }
+    requires { b ≤ a }
     ensures { result ≡ word_at b a + touched_count b a n }
 {
     if n == 0 {
-        word_of(a, b)
-    } else {
-        (a - b + (n - 1)) / 8 + 1
+        return word_of(a, b);
     }
+    // (a - b + n - 1) / 8 + 1, though that sum may pass the greatest word
+    let (before, more) = (a - b, n - 1);
+    before / 8 + more / 8 + (before % 8 + more % 8) / 8 + 1
 }

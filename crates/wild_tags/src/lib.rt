@@ -5,13 +5,18 @@
 ghost use Rattle.std.specs.Prelude.{◌≡◌, IsTrue};
 ghost use Rattle.flat_mem.specs.Memory.{with_bytes};
 ghost use Rattle.flat_mem.specs.Placement.{word_count};
-ghost use Rattle.wild_tags.specs.Calls.{base_of, greatest_depth, is_plain, is_tagged, marked, range_zeroed, untagged};
-ghost use Rattle.wild_tags.specs.Inside.{allows_base, allows_depth, allows_mark, allows_plain, allows_tagged, allows_untag, allows_zero};
+ghost use Rattle.wild_tags.specs.Calls.{base_of, greatest_depth, is_plain, is_tagged, marked, range_zeroed, untagged, words_moved};
+ghost use Rattle.wild_tags.specs.Inside.{allows_base, allows_depth, allows_mark, allows_move, allows_plain, allows_tagged, allows_untag, allows_zero};
 
 mod area;
+mod inside;
 
 use area::{TaggedArea, end_of, word_of};
 use flat_mem::Flat;
+pub use inside::{
+    allows_base, allows_depth, allows_mark, allows_move, allows_plain, allows_tagged, allows_untag,
+    allows_zero,
+};
 
 /// The number of data words of a tagged area of `length` bytes.
 pub fn words(length: u64) -> u64
@@ -83,6 +88,20 @@ pub fn mark(flat: &mut Flat, a: u64, b: u64, w: u64)
     flat.store(area.base(word), 8, w);
 }
 
+/// Copies the words that the `n` bytes at `c` touch in the area at `d`, with their base words and tags, to `a` in the
+/// area at `b`, as if all were read before the first is written.
+pub fn tmove(flat: &mut Flat, a: u64, b: u64, c: u64, d: u64, n: u64)
+    requires { IsTrue (allows_move flat.old.bytes a b c d n) }
+    ensures { flat.new ≡ with_bytes flat.old (words_moved flat.old.bytes a b c d n) }
+{
+    if n == 0 {
+        return;
+    }
+    let to = TaggedArea::of(flat, b).row(word_of(a, b));
+    let from = TaggedArea::of(flat, d).row(word_of(c, d));
+    flat.move_words(to, from, n / 8);
+}
+
 /// Zeroes the `n` bytes at `a`, and untags the words that they touch.
 pub fn tzero(flat: &mut Flat, a: u64, b: u64, n: u64)
     requires { IsTrue (allows_zero flat.old.bytes a b n) }
@@ -115,3 +134,6 @@ pub fn tdepth(flat: &Flat, a: u64, b: u64, n: u64) -> u64
     }
     depth
 }
+
+#[cfg(test)]
+mod tests;

@@ -1,13 +1,9 @@
-use Rattle.wild_tags.proofs.WordLaws.{needs-plain, positive, tag-inside, touched-small}
+use Rattle.wild_tags.proofs.WordLaws.{needs-plain, positive, tag-inside}
 use Rattle.wild_tags.proofs.CallCode.{in_order, plain-none, plain-start, plain-next, plain-found, plain-all}
 use Rattle.wild_tags.proofs.plain.Goals as goal
 
 pub returns-then-n-eq0 : goal.returns-then-n-eq0
 returns-then-n-eq0 c = plain-none _ _ _ _ c.if-n-eq0.true
-
-pub end_of-end-requires-clause-small : goal.end_of-end-requires-clause-small
-end_of-end-requires-clause-small c =
-    let some = positive _ c.if-n-eq0.false in touched-small _ _ _ _ (needs-plain _ _ _ _ c.requires some) some c.of-area.ensures.small
 
 pub loop-i-init : goal.loop-i-init
 loop-i-init c = plain-start _ _ _ _

@@ -1,4 +1,4 @@
-use Rattle.wild_tags.proofs.WordLaws.{positive, tag-inside, touched-small}
+use Rattle.wild_tags.proofs.WordLaws.{positive, tag-inside}
 use Rattle.wild_tags.proofs.CallCode.{in_order, depth-none, depth-start, depth-needs, depth-yes, depth-no, depth-all, base-inside}
 use Rattle.wild_tags.proofs.tdepth.Goals as goal
 use Rattle.wild_tags.proofs.tdepth.Goals.{then-is_tagged, else-is_tagged}
@@ -6,10 +6,6 @@ use Rattle.std.proofs.Common.{◌∙◌}
 
 pub returns-then-n-eq0 : goal.returns-then-n-eq0
 returns-then-n-eq0 c = depth-none c.args.flat.now _ _ _ c.if-n-eq0.true
-
-pub end_of-end-requires-clause-small : goal.end_of-end-requires-clause-small
-end_of-end-requires-clause-small c =
-    let some = positive _ c.if-n-eq0.false in touched-small _ _ _ _ (depth-needs _ _ _ _ c.requires some) some c.of-area.ensures.small
 
 pub loop-i-init : goal.loop-i-init
 loop-i-init c = depth-start c.args.flat.now _ _ _
@@ -24,8 +20,8 @@ load-requires-clause-inside c =
 
 pub loop-i-preserved : goal.loop-i-preserved
 loop-i-preserved c = elim c.if-is_tagged.branch [
-    then-is_tagged w ↦ depth-yes c.args.flat.now _ _ _ _ _ _ _ _ _ _ c.loop-i.invariant c.is_tagged.ensures w.if-is_tagged.true w.base.ensures w.load.ensures w.depth_of.ensures (w.depth-is ∙ w.max-depth.ensures) c.loop-i.auto.i
-    | else-is_tagged w ↦ w.depth-is ∙ depth-no c.args.flat.now _ _ _ _ _ _ c.loop-i.invariant c.is_tagged.ensures w.if-is_tagged.false c.loop-i.auto.i
+  | then-is_tagged w ↦ depth-yes c.args.flat.now _ _ _ _ _ _ _ _ _ _ c.loop-i.invariant c.is_tagged.ensures w.if-is_tagged.true w.base.ensures w.load.ensures w.depth_of.ensures (w.depth-is ∙ w.max-depth.ensures) c.loop-i.auto.i
+  | else-is_tagged w ↦ w.depth-is ∙ depth-no c.args.flat.now _ _ _ _ _ _ c.loop-i.invariant c.is_tagged.ensures w.if-is_tagged.false c.loop-i.auto.i
 ]
 
 pub returns : goal.returns

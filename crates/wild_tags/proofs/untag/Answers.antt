@@ -1,13 +1,9 @@
-use Rattle.wild_tags.proofs.WordLaws.{positive, touched-small}
-use Rattle.wild_tags.proofs.UntagDone.{untag-none, untag-needs, untag-parts, untag-up_tags, untag-up_data, untag-mid_small, untag-down_tags, untag-down_data, untag-clear_small, untag-clear_tags, untag-done}
+use Rattle.wild_tags.proofs.WordLaws.{positive}
+use Rattle.wild_tags.proofs.UntagDone.{untag-none, untag-parts, untag-up_tags, untag-up_data, untag-mid_small, untag-down_tags, untag-down_data, untag-clear_small, untag-clear_tags, untag-done}
 use Rattle.wild_tags.proofs.untag.Goals as goal
 
 pub returns-then-n-eq0 : goal.returns-then-n-eq0
 returns-then-n-eq0 c = untag-none c.args.flat.now _ _ _ c.if-n-eq0.true
-
-pub end_of-end-requires-clause-small : goal.end_of-end-requires-clause-small
-end_of-end-requires-clause-small c =
-    let some = positive _ c.if-n-eq0.false in touched-small _ _ _ _ (untag-needs _ _ _ _ c.requires some) some c.of-area.ensures.small
 
 pub zero_tagged_up-requires-clause-tags : goal.zero_tagged_up-requires-clause-tags
 zero_tagged_up-requires-clause-tags c =

@@ -1,5 +1,5 @@
 use Rattle.std.proofs.Common.{◌∙◌, sym, arith}
-use Rattle.cure_core.proofs.LoopLaws.{reached_at, reached_all, reached_over, reached_next, reached_put, reached_end, reached_fault, rose_since, of_error, of_success}
+use Rattle.cure_core.proofs.LoopLaws.{reached_at, reached_all, reached_over, reached_next, reached_put, reached_end, reached_fault, rose_since, first_left, of_error, of_success}
 use Rattle.cure_core.proofs.machine.execute.Goals.{in-Next, in-Put+else-is_err}
 use Rattle.cure_core.proofs.machine.execute.Goals as goal
 
@@ -8,7 +8,7 @@ returns-then-is_err g c = λ s at none.
     let r = reached_at _ _ _ _ _ _ _ _ c.loop-instr-test.true (c.loop-instr.invariant.0 s at none) in
     reached_fault _ _ _ _ _ _ _ _ _ _ _ r (c.in-Put.ensures.stepped r.state r.is_in)
     (rose_since _ _ _ c.loop-instr.invariant.1.1 (of_error _ _ (sym c.is_err.ensures.value ∙ c.if-is_err.true) c.write.ensures.failed))
-    (of_error _ _ (sym c.is_err.ensures.value ∙ c.if-is_err.true) c.write.ensures.front)
+    (of_error _ _ (sym c.is_err.ensures.value ∙ c.if-is_err.true) c.write.ensures.front) (first_left c.args.body.now _ c.requires.lines)
 
 pub returns-in-End : goal.returns-in-End
 returns-in-End g c = λ s at none.

@@ -10,3 +10,6 @@ returns-clause-ran g c =
     c.parts-parts.ensures.in_range.start.there
     (c.index.ensures ∙ ap (λ l. slice_index_or l 0 c.index.result.now) c.functions.view_is) c.in_ok-flat.ensures ran)
     c.run_function.ensures.ran
+
+pub run_function-requires : goal.run_function-requires
+run_function-requires g c = ?

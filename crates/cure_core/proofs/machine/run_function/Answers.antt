@@ -4,9 +4,9 @@ use Rattle.cured_code.specs.FlatMachine.{area_of}
 use Rattle.cure_core.proofs.RunLaws.{kept_in_range}
 use Rattle.cure_core.proofs.machine.run_function.Goals as goal
 
-pub execute-requires : goal.execute-requires
-execute-requires g c = kept_in_range c.args.function.now _ _ _
+pub execute-requires-clause-range : goal.execute-requires-clause-range
+execute-requires-clause-range g c = kept_in_range c.args.function.now _ _ _
     c.deref-4.ensures.value
     (ap length (c.deref_mut.ensures.value ∙ c.in_ok-slots.ensures.items_if_clones_equal (λ y e. e)) ∙ length-replicate {A = ℕ} c.args.function.now.slots 0)
     (c.push_frame.ensures.areas ∙ ap length (c.deref-3.ensures.value ∙ c.in_ok-areas.ensures) ∙ length-map c.deref.result.now area_of ∙ ap length (c.deref.ensures.value ∙ c.locals.view_is))
-    c.requires
+    c.requires.range

@@ -148,3 +148,9 @@ reached_all body c place memory slots before after over reached = subst (λ left
 -- the instructions after one of a body
 pub first_left : (body : List Instr) (place : ℕ) → All IsFirstLine body → AreFirst (drop place body)
 first_left body place h = all_first (drop place body) (λ k d less. subst (λ x. IsFirstLine x) (sym (get_or-drop place body k d)) (h (place + k) d (omega (arith, length-drop place body, less))))
+
+-- the next instruction, as the loop has it
+pub reached_item : (body : List Instr) (c : Local) (place : ℕ) (item : Instr) (memory : Memory) (slots : List ℕ) (before after : Option (List ℕ)) → place < length body → item ≡ slice_index_or body place item →
+    IsReached body c (drop place body) memory slots before after → IsReached body c (item ∷ drop (place + 1) body) memory slots before after
+reached_item body c place item memory slots before after more is reached =
+    subst (λ i. IsReached body c (i ∷ drop (place + 1) body) memory slots before after) (sym is) (reached_at body c place item memory slots before after more reached)

@@ -99,18 +99,30 @@ impl Files for MemFiles {
             self.last = Some(asked);
             return Err(FileFault::Failed);
         };
-        if bytes.len() as u64 > limit {
-            return Err(FileFault::TooLarge);
-        }
-        if into.extend_from_slice(bytes).is_err() {
-            return Err(FileFault::NoMemory);
-        }
-        Ok(())
+        copy_whole(bytes, limit, into)
     }
 }
 
+/// Puts the bytes of a file into `into`, which is empty, where they are at most `limit`.
+pub(crate) fn copy_whole(bytes: &[u8], limit: u64, into: &mut Vec<u8>) -> Result<(), FileFault>
+    requires { into.old.items ≡ [] }
+    ensures whole { OnOk result (into.new.items ≡ bytes.now) }
+    ensures within_limit { OnOk result (length bytes.now ≤ limit) }
+    ensures emptied { OnErr result (into.new.items ≡ []) }
+    ensures too_large { IsErrOf result FileFault.TooLarge ↔ (limit < length bytes.now) }
+    ensures not_failed { result ≢ Err FileFault.Failed }
+{
+    if bytes.len() as u64 > limit {
+        return Err(FileFault::TooLarge);
+    }
+    if into.extend_from_slice(bytes).is_err() {
+        return Err(FileFault::NoMemory);
+    }
+    Ok(())
+}
+
 /// The bytes of the file of a name, if there is one.
-fn find<'a>(map: &'a BTreeMap<String, Vec<u8>>, name: &str) -> Option<&'a [u8]>
+pub(crate) fn find<'a>(map: &'a BTreeMap<String, Vec<u8>>, name: &str) -> Option<&'a [u8]>
     ensures { option_copied result ≡ file_of (named_files map.now) name.now }
 {
     match map.get(name) {

@@ -97,11 +97,8 @@ impl Sink for MemSink {
 #[cfg(test)]
 mod tests {
     use super::*;
+    use crate::testing::put;
     use std::test::Fail;
-
-    fn put<S: Sink>(sink: &mut S, bytes: &[u8]) -> Result<(), Failed> {
-        sink.write(bytes)
-    }
 
     #[test]
     fn takes_what_fits_and_fails_at_the_second_call(rt: HostRuntime) -> Result<(), Fail> {

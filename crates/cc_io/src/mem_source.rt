@@ -5,33 +5,29 @@ ghost use Rattle.cc_io.specs.Bytes.{Takes, Keeps, IsSpent};
 
 use crate::calls::Calls;
 use crate::faults::Failed;
+use crate::pieces::Pieces;
 use crate::traits::Source;
 use std::marker::Model;
 
 /// A source that gives the bytes of a vector, in reads of a greatest length, and fails at chosen calls.
 #[derive(Drop)]
 pub struct MemSource {
-    bytes: Vec<u8>,
-    taken: usize,
-    most: usize,
+    pieces: Pieces,
     calls: Calls,
 }
 
 impl Model for MemSource {
-    ghost use Rattle.std.specs.Prelude.{◌≤◌, ◌<◌, drop, vec_len};
     ghost use Rattle.cc_io.specs.Outside.{MemSourceState};
 
     ghost Value = { MemSourceState };
 
     ghost view = { λ s. record {
-      held = drop s.taken s.bytes.items;
-      most = s.most;
+      held = s.pieces.held;
+      most = s.pieces.most;
       fails = s.calls.fails.items;
       calls = s.calls.made;
       faults = s.calls.faults;
     } };
-
-    ghost invariant = { λ s. (s.taken ≤ vec_len s.bytes) × (0 < s.most) };
 }
 
 impl MemSource {
@@ -42,9 +38,7 @@ impl MemSource {
         ensures { result ≡ record { held = bytes.items; most = most; fails = fails.items; calls = 0; faults = 0 } }
     {
         MemSource {
-            bytes,
-            taken: 0,
-            most,
+            pieces: Pieces::new(bytes, most),
             calls: Calls::new(fails),
         }
     }
@@ -79,10 +73,7 @@ impl Source for MemSource {
             self.calls.fault();
             return Err(Failed);
         }
-        let (_, left) = self.bytes.split_at(self.taken);
-        let count = self.most.min(left.len().min(into.len()));
-        into[..count].copy_from_slice(&left[..count]);
-        self.taken += count;
+        let count = self.pieces.give(into);
         Ok(count)
     }
 }
@@ -90,14 +81,8 @@ impl Source for MemSource {
 #[cfg(test)]
 mod tests {
     use super::*;
+    use crate::testing::read_four;
     use std::test::Fail;
-
-    /// One read into four places: what it answers, and the places.
-    fn read_four<S: Source>(source: &mut S) -> (Result<usize, Failed>, [u8; 4]) {
-        let mut into = [0; 4];
-        let answer = source.read(&mut into);
-        (answer, into)
-    }
 
     #[test]
     fn gives_two_bytes_a_read_and_fails_at_the_second_call(rt: HostRuntime) -> Result<(), Fail> {

@@ -10,3 +10,5 @@ pub mod FramesKept
 pub mod DepthCode
 pub mod NewCode
 pub mod RangeLaws
+pub mod TagLaws
+pub mod TagCode

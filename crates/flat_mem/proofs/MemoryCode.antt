@@ -86,7 +86,7 @@ bytes_at-more zero bytes a = ap (λ k. slice_index bytes k ∷ []) (omega arith)
 bytes_at-more (suc n) bytes a =
     ap (λ l. slice_index bytes a ∷ l) (bytes_at-more n bytes (a + 1) ∙ ap (λ k. bytes_at n bytes (a + 1) ++ slice_index bytes k ∷ []) (omega arith))
 
-written-more : (new bytes : List ℕ) (a b : ℕ) → written (new ++ b ∷ []) bytes a ≡ slice_set (written new bytes a) (a + length new) b
+pub written-more : (new bytes : List ℕ) (a b : ℕ) → written (new ++ b ∷ []) bytes a ≡ slice_set (written new bytes a) (a + length new) b
 unfolding written
 written-more [] bytes a b = ap (λ k. slice_set bytes k b) (omega arith)
 written-more (x ∷ new) bytes a b =

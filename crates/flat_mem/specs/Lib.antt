@@ -2,3 +2,4 @@ pub mod Bytes
 pub mod Placement
 pub mod Memory
 pub mod Marks
+pub mod Tags

@@ -7,6 +7,7 @@ ghost use Rattle.std.specs.Prelude.{◌≡◌};
 mod areas;
 mod memory;
 mod numbers;
+mod tags;
 
 pub use memory::Flat;
 use std::marker::Model;
@@ -17,6 +18,15 @@ use std::marker::Model;
 pub struct Area {
     pub tagged: bool,
     pub bytes: u64,
+}
+
+/// Where a row of words of a tagged area stands: the addresses of its first word and of that word's base word,
+/// and the place of its tag, counted in bits from the list's start.
+#[derive(Clone, Copy, Debug, PartialEq, Eq)]
+pub struct WordRow {
+    pub words: u64,
+    pub bases: u64,
+    pub tags: u64,
 }
 
 /// Areas in order. A contract sees them as a list.

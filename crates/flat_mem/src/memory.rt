@@ -1,11 +1,12 @@
 // The flat memory.
 
-ghost use Rattle.std.specs.Prelude.{◌≡◌, ◌<◌, IfOk, IsTrue, Some, None, length, replicate, if◌then◌else◌};
-ghost use Rattle.flat_mem.specs.Bytes.{number, stored, zeroed, moved, IsAccessSize};
+ghost use Rattle.std.specs.Prelude.{◌≡◌, ◌<◌, ◌^◌, ◌*◌, IfOk, IsTrue, Some, None, length, replicate, if◌then◌else◌};
+ghost use Rattle.flat_mem.specs.Bytes.{number, stored, zeroed, moved, AreBytes, IsAccessSize};
 ghost use Rattle.flat_mem.specs.Memory.{block_address, block_fits, block_made, depth_of, first_memory, fits, frame_area, in_flat, newest_addresses, popped, pushed, with_bytes};
 ghost use Rattle.flat_mem.specs.Placement.{IsWithinLimits};
+ghost use Rattle.flat_mem.specs.Tags.{tag_in, tag_written, row_moved, IsRowInside};
 
-use crate::{Area, Plan, areas, numbers};
+use crate::{Area, Plan, WordRow, areas, numbers, tags};
 use std::alloc::{AllocError, Global};
 use std::marker::Model;
 
@@ -46,18 +47,21 @@ pub struct Flat {
     charge: u64,
     heap_top: u64,
     heap_charge: u64,
+    // room for the base words and tags that a move of tagged words reads before it writes
+    spare_bases: Vec<u8>,
+    spare_tags: Vec<bool>,
 }
 
 impl Model for Flat {
     ghost use Rattle.std.specs.Prelude.{vec_capacity};
     ghost use Rattle.flat_mem.specs.Memory.{Memory};
-    ghost use Rattle.flat_mem.specs.Marks.{memory_seen, IsKept};
+    ghost use Rattle.flat_mem.specs.Marks.{memory_seen, IsWhole};
 
     ghost Value = { Memory };
 
     ghost view = { λ s. memory_seen s.bytes.items s.bounds s.marks.items s.addresses.items s.heap_top s.heap_charge };
 
-    ghost invariant = { λ s. IsKept s.bytes.items s.bounds s.marks.items s.addresses.items s.top s.charge s.heap_top s.heap_charge (vec_capacity s.marks) (vec_capacity s.addresses) };
+    ghost invariant = { λ s. IsWhole s.bytes.items s.bounds s.marks.items s.addresses.items s.top s.charge s.heap_top s.heap_charge (vec_capacity s.marks) (vec_capacity s.addresses) (vec_capacity s.spare_bases) (vec_capacity s.spare_tags) };
 }
 
 fn zeros(alloc: Global, count: usize) -> Result<Vec<u8>, AllocError>
@@ -83,6 +87,8 @@ impl Flat {
         areas::make_areas(&mut bytes, globals, globals_start);
         let marks = Vec::with_capacity(alloc, FRAME_LIMIT)?;
         let addresses = Vec::with_capacity(alloc, u64::div_ceil(3 * plan.stack, 8) as usize)?;
+        let spare_bases = Vec::with_capacity(alloc, heap_end as usize)?;
+        let spare_tags = Vec::with_capacity(alloc, heap_end.div_ceil(8) as usize)?;
         Ok(Flat {
             bytes,
             bounds: Bounds {
@@ -98,6 +104,8 @@ impl Flat {
             charge: 0,
             heap_top: stack_end.next_multiple_of(8),
             heap_charge: 0,
+            spare_bases,
+            spare_tags,
         })
     }
 
@@ -107,6 +115,15 @@ impl Flat {
     {
         let length = self.bytes.len() as u64;
         n == 0 || (n <= length && at <= length - n)
+    }
+
+    /// The number of bytes in the list.
+    pub fn size(&self) -> u64
+        ensures value { result ≡ length self.now.bytes }
+        ensures small { result < 2 ^ 32 }
+        ensures bytes { AreBytes self.now.bytes }
+    {
+        self.bytes.len() as u64
     }
 
     /// The number whose `n` bytes stand at `at`, little-endian.
@@ -146,6 +163,39 @@ impl Flat {
         if n > 0 {
             numbers::move_within(&mut self.bytes, to as usize, from as usize, n as usize);
         }
+    }
+
+    /// The tag at the place `t`: bit `t % 8` of byte `t / 8`.
+    pub fn tag(&self, t: u64) -> bool
+        requires { t < 8 * length self.now.bytes }
+        ensures { result ≡ tag_in self.now.bytes t }
+    {
+        tags::tag_at(&self.bytes, t)
+    }
+
+    /// Sets or clears the tag at the place `t`.
+    pub fn set_tag(&mut self, t: u64, tag: bool)
+        requires { t < 8 * length self.old.bytes }
+        ensures { self.new ≡ with_bytes self.old (tag_written tag self.old.bytes t) }
+    {
+        tags::write_tag(&mut self.bytes, t, tag);
+    }
+
+    /// Copies `count` words with their base words and tags, as if all were read before the first is written; then
+    /// words, base words and tags are written in this order.
+    pub fn move_words(&mut self, to: WordRow, from: WordRow, count: u64)
+        requires target { IsRowInside self.old.bytes to count }
+        requires source { IsRowInside self.old.bytes from count }
+        ensures { self.new ≡ with_bytes self.old (row_moved count self.old.bytes to from) }
+    {
+        tags::move_row(
+            &mut self.bytes,
+            &mut self.spare_bases,
+            &mut self.spare_tags,
+            to,
+            from,
+            count,
+        );
     }
 
     /// Whether a frame with these areas may be pushed and charged `charge`: fewer than 1,024 frames are live, the

@@ -1,0 +1,9 @@
+pub mod WordLaws
+pub mod WriteLaws
+pub mod CallCode
+pub mod UntagCode
+pub mod UntagDone
+pub mod MoveCode
+pub mod InsideCode
+pub mod CallLaws
+pub mod MarkLaws

@@ -2,9 +2,10 @@
 -- and the base word of a word, and what writing them leaves. An area is named by its address b; its length is the
 -- word before it. All addresses are exact numbers, for every word i, so nothing here asks that word i is one of the
 -- area's own.
-use Rattle.std.specs.Prelude.{◌<◌, ℕ, zero, suc, ◌+◌, ◌-◌, ◌*◌, ◌/◌, ◌%◌, ◌^◌, Bool, List, [], ◌∷◌, slice_index, slice_set, nat_eq, if◌then◌else◌}
+use Rattle.std.specs.Prelude.{◌<◌, ℕ, zero, suc, ◌+◌, ◌-◌, ◌/◌, ◌%◌, Bool, false, List, [], ◌∷◌, slice_index, nat_eq, if◌then◌else◌}
 use Rattle.std.specs.Int.{bit_at}
-use Rattle.flat_mem.specs.Bytes.{number, zeroed}
+use Rattle.flat_mem.specs.Bytes.{number, stored, zeroed}
+use Rattle.flat_mem.specs.Tags.{with_bit}
 use Rattle.flat_mem.specs.Placement.{data_word, base_word, tag_byte}
 
 -- the length of the area at b, in bytes
@@ -45,13 +46,14 @@ tag_at bytes b n i = nat_eq (bit_at (slice_index bytes (tag_byte b n i)) (i % 8)
 abbrev pub base_at : List ℕ → ℕ → ℕ → ℕ → ℕ
 base_at bytes b n i = number 8 bytes (base_word b n i)
 
--- the number with bit k set or cleared, and all other bits as they were
-abbrev pub with_bit : Bool → ℕ → ℕ → ℕ
-with_bit bit k v = v - 2 ^ k * bit_at v k + (if bit then 2 ^ k else 0)
-
 -- the bytes with word i's tag set or cleared; the other seven bits of that byte stay
 unfoldable pub with_tag : Bool → List ℕ → ℕ → ℕ → ℕ → List ℕ
-with_tag tag bytes b n i = slice_set bytes (tag_byte b n i) (with_bit tag (i % 8) (slice_index bytes (tag_byte b n i)))
+with_tag tag bytes b n i = stored 1 bytes (tag_byte b n i) (with_bit tag (i % 8) (slice_index bytes (tag_byte b n i)))
+
+-- the bytes with these words' tags cleared
+unfoldable pub tags_cleared : List ℕ → List ℕ → ℕ → ℕ → List ℕ
+tags_cleared [] bytes b n = bytes
+tags_cleared (i ∷ words) bytes b n = tags_cleared words (with_tag false bytes b n i) b n
 
 -- the bytes with these words' tags set or cleared, one after another
 unfoldable pub with_tags : List Bool → List ℕ → List ℕ → ℕ → ℕ → List ℕ

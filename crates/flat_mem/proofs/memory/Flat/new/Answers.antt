@@ -28,11 +28,15 @@ make_areas-requires-clause-small c =
 
 pub invariant_of-result : goal.invariant_of-result
 invariant_of-result c =
-    let list = c.as_slice-globals.ensures.value ∙ c.globals.view_is in
-    let globals = c.sizes_of.ensures ∙ ap areas_size list in
-    let made = areas-back _ _ _ _ _ _ c.deref_mut.ensures.value c.deref_mut.ensures.len c.make_areas.ensures.made in
-    let bytes = first_bytes-made c.args.plan.now _ _ _ _ _ _ c.from-globals_start.ensures globals list c.in_ok-bytes.ensures refl made in
-    kept-first c.args.plan.now _ _ _ _ _ _ _ _ c.requires c.from-globals_start.ensures globals bytes c.in_ok-marks.ensures.items c.in_ok-addresses.ensures.items c.next_multiple_of.ensures.value c.in_ok-marks.ensures.exact (c.in_ok-addresses.ensures.exact ∙ c.div_ceil.ensures)
+    record {
+      kept = let list = c.as_slice-globals.ensures.value ∙ c.globals.view_is in
+          let globals = c.sizes_of.ensures ∙ ap areas_size list in
+          let made = areas-back _ _ _ _ _ _ c.deref_mut.ensures.value c.deref_mut.ensures.len c.make_areas.ensures.made in
+          let bytes = first_bytes-made c.args.plan.now _ _ _ _ _ _ c.from-globals_start.ensures globals list c.in_ok-bytes.ensures refl made in
+          kept-first c.args.plan.now _ _ _ _ _ _ _ _ c.requires c.from-globals_start.ensures globals bytes c.in_ok-marks.ensures.items c.in_ok-addresses.ensures.items c.next_multiple_of.ensures.value c.in_ok-marks.ensures.exact (c.in_ok-addresses.ensures.exact ∙ c.div_ceil.ensures);
+      bases_fit = omega (arith, c.in_ok-spare_bases.ensures.exact);
+      tags_fit = omega (arith, c.in_ok-spare_tags.ensures.exact, c.div_ceil-2.ensures);
+    }
 
 pub returns : goal.returns
 returns c =

@@ -1,6 +1,6 @@
 -- How far the machine has come in a body, and what follows when it goes on or ends.
-use Rattle.std.proofs.Common.{◌≡◌, ℕ, ◌+◌, ◌<◌, List, [], ◌∷◌, ◌++◌, length, drop, Option, Some, None, sym, ◌∙◌, ap, subst, refl, arith, append_assoc, add-one, true, false, inl, inr, ◌≤◌}
-use Rattle.std.proofs.lemmas.List.{append-nil, drop_all}
+use Rattle.std.proofs.Common.{All, length-drop, ◌≡◌, ℕ, ◌+◌, ◌<◌, List, [], ◌∷◌, ◌++◌, length, drop, Option, Some, None, sym, ◌∙◌, ap, subst, refl, arith, append_assoc, add-one, true, false, inl, inr, ◌≤◌}
+use Rattle.std.proofs.lemmas.List.{append-nil, drop_all, get_or-drop}
 use Rattle.std.specs.Prelude.{slice_index_or, Result, Ok, Err, OnOk, OnErr}
 use Rattle.std.specs.Result.{is_err}
 use Rattle.std.proofs.Math.Seq.{drop-cons}
@@ -10,13 +10,15 @@ use Rattle.flat_mem.specs.Memory.{Memory}
 use Rattle.runs.specs.Outcome.{Ended, Done, from}
 use Rattle.runs.specs.Control.{Goes, then_go}
 use Rattle.cured_code.specs.declared.instr.Instr.{Instr}
+use Rattle.std.proofs.lemmas.List.Elements.{All-head, All-tail}
+use Rattle.first_cure.specs.FirstLines.{IsFirstLine}
 use Rattle.cured_code.specs.FlatState.{Local}
 use Rattle.cured_code.specs.FlatMachine.{act, run, finished}
 use Rattle.cure_core.specs.declared.machine.Ending.{Ending}
 use Rattle.cure_core.specs.declared.machine.Ending.TheVariants.{Exited, WriteFault}
 use Rattle.cure_core.specs.declared.machine.Step.TheVariants.{Next, Put, End}
 use Rattle.cure_core.specs.Causes.{Sunk}
-use Rattle.cure_core.proofs.OutputLaws.{Grows, grows}
+use Rattle.cure_core.proofs.OutputLaws.{Grows, AreFirst, grows}
 use Rattle.cure_core.specs.MachineRuns.{IsMachineRun, whole, cut}
 use Rattle.cure_core.specs.MachineSteps.{IsIn, IsStepped, goes, puts, ends, at_start}
 
@@ -46,6 +48,10 @@ front_of_more : (before after : Option (List ℕ)) (first second : List ℕ) →
 front_of_more None after first second front = tt {0}
 front_of_more (Some bytes) after first second front =
     (front.0, front.1 ++ second, ap (λ l. l ++ second) front.2 ∙ append_assoc front.0 front.1 second, front.3)
+
+all_first : (is : List Instr) → All IsFirstLine is → AreFirst is
+all_first [] h = tt
+all_first (i ∷ is) h = (All-head IsFirstLine i is h, all_first is (All-tail IsFirstLine i is h))
 
 -- at the start
 pub reached_start : (body : List Instr) (c : Local) (memory : Memory) (slots : List ℕ) (out : Option (List ℕ)) → IsIn memory slots c → c.state.output ≡ [] → IsReached body c body memory slots out out
@@ -101,18 +107,18 @@ reached_over body c memory slots out reached = whole (rw reached.same refl) (rw 
 -- the byte that a step puts out could not be written
 pub reached_fault : (body : List Instr) (c : Local) (i : Instr) (left : List Instr) (old new : Memory) (slots words : List ℕ) (out : Sunk) (middle : Option (List ℕ)) (byte : ℕ) →
     (reached : IsReached body c (i ∷ left) old slots out.before middle) → IsStepped (act i at_start reached.state) reached.state new words (Put byte) →
-    Rose out.faults_before out.faults_after → GainsFront middle out.after (byte ∷ []) → IsMachineRun (finished (run body at_start c)) out WriteFault
-reached_fault body c i left old new slots words out middle byte reached (goes next d done is_in quiet) rose front = absurd (cc (next))
-reached_fault body c i left old new slots words out middle byte reached (puts b next d done is_in more) rose front =
+    Rose out.faults_before out.faults_after → GainsFront middle out.after (byte ∷ []) → AreFirst left → IsMachineRun (finished (run body at_start c)) out WriteFault
+reached_fault body c i left old new slots words out middle byte reached (goes next d done is_in quiet) rose front first = absurd (cc (next))
+reached_fault body c i left old new slots words out middle byte reached (puts b next d done is_in more) rose front first =
     let same_byte : byte ≡ b = cc (next) in
     let so_far : List ℕ = reached.state.state.output in
-    let grown : Grows (run left at_start d) d = grows left at_start d in
+    let grown : Grows (run left at_start d) d = grows left at_start d first in
     let all : (finished (run body at_start c)).output ≡ (so_far ++ byte ∷ []) ++ grown.more =
     ap (λ o. (finished o).output) (goes_on body c reached.state d i left reached.same done) ∙ grown.is
     ∙ ap (λ l. l ++ grown.more) (more ∙ ap (λ x. so_far ++ x ∷ []) (sym same_byte)) in
     cut refl rose (subst (λ l. GainsFront out.before out.after l) (sym all)
     (front_of_more out.before out.after (so_far ++ byte ∷ []) grown.more (gains_front_more out.before middle out.after so_far (byte ∷ []) reached.gains front)))
-reached_fault body c i left old new slots words out middle byte reached (ends ending next end d done is quiet) rose front = absurd (cc (next))
+reached_fault body c i left old new slots words out middle byte reached (ends ending next end d done is quiet) rose front first = absurd (cc (next))
 
 -- the next instruction of those that are left
 pub reached_at : (body : List Instr) (c : Local) (place : ℕ) (first : Instr) (memory : Memory) (slots : List ℕ) (before after : Option (List ℕ)) → place < length body →
@@ -138,3 +144,13 @@ of_success P (Err error) failed fact = absurd (cc (failed))
 pub reached_all : (body : List Instr) (c : Local) (place : ℕ) (memory : Memory) (slots : List ℕ) (before after : Option (List ℕ)) → length body ≤ place →
     IsReached body c (drop place body) memory slots before after → IsReached body c [] memory slots before after
 reached_all body c place memory slots before after over reached = subst (λ left. IsReached body c left memory slots before after) (drop_all place body over) reached
+
+-- the instructions after one of a body
+pub first_left : (body : List Instr) (place : ℕ) → All IsFirstLine body → AreFirst (drop place body)
+first_left body place h = all_first (drop place body) (λ k d less. subst (λ x. IsFirstLine x) (sym (get_or-drop place body k d)) (h (place + k) d (omega (arith, length-drop place body, less))))
+
+-- the next instruction, as the loop has it
+pub reached_item : (body : List Instr) (c : Local) (place : ℕ) (item : Instr) (memory : Memory) (slots : List ℕ) (before after : Option (List ℕ)) → place < length body → item ≡ slice_index_or body place item →
+    IsReached body c (drop place body) memory slots before after → IsReached body c (item ∷ drop (place + 1) body) memory slots before after
+reached_item body c place item memory slots before after more is reached =
+    subst (λ i. IsReached body c (i ∷ drop (place + 1) body) memory slots before after) (sym is) (reached_at body c place item memory slots before after more reached)

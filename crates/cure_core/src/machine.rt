@@ -3,12 +3,14 @@ ghost use Rattle.std.specs.Prelude.{◌≡◌, [], Some, All, IfOk, OnErr, lengt
 ghost use Rattle.flat_mem.specs.Memory.{newest_addresses};
 ghost use Rattle.runs.specs.Input.{Closed};
 ghost use Rattle.integers.specs.Words.{truth_word};
+ghost use Rattle.cured_code.specs.declared.parts.Parts.{Parts};
+ghost use Rattle.first_cure.specs.FirstLines.{IsFirstLine, HasFirstLines};
 ghost use Rattle.cured_code.specs.FlatMachine.{act, finished, flat_run, run, run_of};
 ghost use Rattle.cured_code.specs.FlatState.{Local, State};
 ghost use Rattle.cured_code.specs.Ranges.{IsInstrInRange};
 ghost use Rattle.cure_core.specs.Causes.{sunk};
 ghost use Rattle.cure_core.specs.MachineRuns.{IsMachineRun};
-ghost use Rattle.cure_core.specs.MachineSteps.{IsIn, IsStepped, at_start};
+ghost use Rattle.cure_core.specs.MachineSteps.{IsIn, IsStepped, at_start, first_scope};
 
 use crate::loading::{areas_of, load_parts};
 use cc_base::{Check, NoMemory, Place};
@@ -43,6 +45,7 @@ pub(crate) enum Step {
 
 /// Runs the code, and writes its output to the sink. All memory is taken before the first write.
 pub(crate) fn run<O: Sink>(alloc: Global, code: &Cured, out: &mut O) -> Result<Ending, NoMemory>
+    requires { HasFirstLines code.now }
     ensures ran { IfOk result (λ ending. IsMachineRun (flat_run code.now (Closed []) 0) (sunk O.written O.faults out.old out.new) ending) }
     ensures no_memory { OnErr result (out.new ≡ out.old) }
 {
@@ -59,9 +62,10 @@ fn run_function<O: Sink>(
     function: &Function,
     out: &mut O,
 ) -> Result<Ending, NoMemory>
-    requires { All (IsInstrInRange function.now.slots (length function.now.locals)) function.now.body.0.items }
-    ensures ran { IfOk result (λ ending. (s : State) → s.memory ≡ flat.old → s.output ≡ [] →
-        IsMachineRun (run_of (Some function.now) s) (sunk O.written O.faults out.old out.new) ending) }
+    requires range { All (IsInstrInRange (first_scope function.now.slots (length function.now.locals))) function.now.body.0.items }
+    requires lines { All IsFirstLine function.now.body.0.items }
+    ensures ran { IfOk result (λ ending. (parts : Parts) → (s : State) → s.memory ≡ flat.old → s.output ≡ [] →
+        IsMachineRun (run_of parts (Some function.now) s) (sunk O.written O.faults out.old out.new) ending) }
     ensures no_memory { OnErr result (out.new ≡ out.old) }
 {
     let locals = &function.locals;
@@ -77,7 +81,8 @@ fn run_function<O: Sink>(
 
 /// Runs the instructions, and writes what they put out.
 fn execute<O: Sink>(flat: &mut Flat, slots: &mut [u64], body: &[Instr], out: &mut O) -> Ending
-    requires { All (IsInstrInRange (length slots.old) (length (newest_addresses flat.old.frames))) body.now }
+    requires range { All (IsInstrInRange (first_scope (length slots.old) (length (newest_addresses flat.old.frames)))) body.now }
+    requires lines { All IsFirstLine body.now }
     ensures { (c : Local) → IsIn flat.old slots.old c → c.state.output ≡ [] →
         IsMachineRun (finished (run body.now at_start c)) (sunk O.written O.faults out.old out.new) result }
 {
@@ -97,7 +102,8 @@ fn execute<O: Sink>(flat: &mut Flat, slots: &mut [u64], body: &[Instr], out: &mu
 
 /// Does one instruction.
 fn advance(instr: &Instr, flat: &mut Flat, slots: &mut [u64]) -> Step
-    requires { IsInstrInRange (length slots.old) (length (newest_addresses flat.old.frames)) instr.now }
+    requires range { IsInstrInRange (first_scope (length slots.old) (length (newest_addresses flat.old.frames))) instr.now }
+    requires line { IsFirstLine instr.now }
     ensures stepped { (c : Local) → IsIn flat.old slots.old c → IsStepped (act instr.now at_start c) c flat.new slots.new result }
     ensures frames { flat.new.frames ≡ flat.old.frames }
 {
@@ -128,6 +134,7 @@ fn advance(instr: &Instr, flat: &mut Flat, slots: &mut [u64]) -> Step
                 return Step::End(Ending::Stopped(check, place));
             }
         }
+        _ => unreachable!(),
     }
     Step::Next
 }

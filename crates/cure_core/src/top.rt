@@ -3,6 +3,7 @@ ghost use Rattle.std.specs.Prelude.{◌≡◌, ◌≢◌, ℕ, ◌≤◌, ◌<�
 ghost use Rattle.std.specs.String.{string_bytes};
 ghost use Rattle.cc_io.specs.Faults.{Rose};
 ghost use Rattle.first_language.specs.Tree.{Program};
+ghost use Rattle.first_cure.specs.FirstLines.{HasFirstLines};
 ghost use Rattle.first_cure.specs.SameRun.{RunsAs};
 ghost use Rattle.cure_core.specs.Answers.{text_limit};
 ghost use Rattle.cure_core.specs.Built.{IsCuredText};
@@ -127,7 +128,8 @@ fn run_text<O: Sink>(alloc: Global, text: &[u8], out: &mut O) -> Verdict
 
 /// Runs the cured code of a program, and answers how its run is reported.
 fn run_code<O: Sink>(alloc: Global, code: &Cured, out: &mut O) -> Verdict
-    requires { (program : Program) × RunsAs code.now program }
+    requires runs { (program : Program) × RunsAs code.now program }
+    requires lines { HasFirstLines code.now }
     ensures { (text : List ℕ) → length text ≤ text_limit → IsCuredText text code.now →
         IsTextCause text
         (sunk O.written O.faults out.old out.new)

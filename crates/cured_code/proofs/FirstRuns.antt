@@ -11,7 +11,7 @@ use Rattle.cured_code.specs.declared.instr.Instr.TheVariants as instr
 use Rattle.cured_code.specs.declared.parts.Function.{Function}
 use Rattle.cured_code.specs.declared.parts.Parts.{Parts}
 use Rattle.cured_code.specs.FlatState.{Exited, Trap, State, Local, with_slot, put_out, slot}
-use Rattle.cured_code.specs.FlatMachine.{Context, run, flat_run, started, run_of, first_state, loaded_memory, areas_of, entry, finished, frames_charge_limit, blocks_charge_limit}
+use Rattle.cured_code.specs.FlatMachine.{Context, start_context, run, flat_run, started, run_of, first_state, loaded_memory, areas_of, entry, finished, frames_charge_limit, blocks_charge_limit}
 use Rattle.cured_code.proofs.RunLaws.{load-outside}
 use Rattle.cured_code.proofs.StartLaws.{length-loaded, length-entry, fits-start}
 
@@ -21,9 +21,9 @@ straight_lines w c is = refl
 
 -- a program whose function 0 is f, and has a frame that fits, runs f's lines
 pub runs_function_0 : (parts : Parts) (input : Input) (turns : ℕ) (f : Function) → slice_get parts.functions 0 ≡ Some f → fits (loaded_memory parts) (areas_of f.locals) f.charge ≡ true
-    → flat_run parts input turns ≡ finished (run f.body.0.items (record { function = 0 }) (entry f (first_state parts input turns)))
+    → flat_run parts input turns ≡ finished (run f.body.0.items (start_context parts) (entry f (first_state parts input turns)))
 runs_function_0 parts input turns f there room =
-    ap (λ o. run_of o (first_state parts input turns)) there ∙ ap (λ b. started b f (first_state parts input turns)) room
+    ap (λ o. run_of parts o (first_state parts input turns)) there ∙ ap (λ b. started b parts f (first_state parts input turns)) room
 
 -- what function 0 is in the two programs below: it has so many slots, no area and no charge, and these lines
 pub record IsPlainStart (parts : Parts) (slots : ℕ) (lines : List Instr) (f : Function) : Type 0 where
@@ -40,10 +40,10 @@ plain-fits parts slots lines f h = fits-start parts (areas_of f.locals) f.charge
 
 -- and its run is that of its lines
 plain-runs : (parts : Parts) (input : Input) (turns slots : ℕ) (lines : List Instr) (f : Function) → IsPlainStart parts slots lines f
-    → flat_run parts input turns ≡ finished (run lines (record { function = 0 }) (entry f (first_state parts input turns)))
+    → flat_run parts input turns ≡ finished (run lines (start_context parts) (entry f (first_state parts input turns)))
 plain-runs parts input turns slots lines f h =
     runs_function_0 parts input turns f h.there (plain-fits parts slots lines f h)
-    ∙ ap (λ l. finished (run l (record { function = 0 }) (entry f (first_state parts input turns)))) h.lines_are
+    ∙ ap (λ l. finished (run l (start_context parts) (entry f (first_state parts input turns)))) h.lines_are
 
 -- function 0 with no line exits with 0
 pub no_line : (parts : Parts) (input : Input) (turns : ℕ) (f : Function) → IsPlainStart parts 0 [] f → (flat_run parts input turns).ending ≡ Exited 0
@@ -67,4 +67,4 @@ unfolding areas_size frames_charge_limit blocks_charge_limit
 far_load parts input turns f none one h =
     let short : length (loaded_memory parts).bytes ≤ 4611686018427387904 = rw (length-loaded parts, none, one) (omega arith) in
     ap (λ o. o.ending) (plain-runs parts input turns 1 far_lines f h)
-    ∙ ap (λ m. (finished m).ending) (far_lines-trap (record { function = 0 }) f (first_state parts input turns) h.slots_are short)
+    ∙ ap (λ m. (finished m).ending) (far_lines-trap (start_context parts) f (first_state parts input turns) h.slots_are short)

@@ -1,3 +1,7 @@
-pub mod FirstRuns
+pub mod RangeLaws
+pub mod TagSizes
 pub mod RunLaws
+pub mod KeepLaws
 pub mod StartLaws
+pub mod TableLaws
+pub mod FirstRuns

@@ -1,3 +1,5 @@
 pub mod Ranges
+pub mod Groups
+pub mod Tables
 pub mod FlatState
 pub mod FlatMachine

@@ -12,9 +12,13 @@ pub struct Cured {
 }
 
 impl Model for Cured {
+    ghost use Rattle.std.specs.Coded.{codes};
     ghost use Rattle.cured_code.specs.declared.parts.Parts.{Parts};
+    ghost use Rattle.cured_code.specs.contracts.instr.Instr as instr;
 
     ghost Value = { Parts };
+
+    ghost coded = { Prim.hlevel (codes, instr.the_row.coded) };
 
     ghost use Rattle.cured_code.specs.Ranges.{IsInRange};
 

@@ -3,6 +3,7 @@
 
 mod cured;
 mod instr;
+mod naming;
 mod parts;
 mod ranges;
 

@@ -1,7 +1,7 @@
 ghost use Rattle.std.specs.Prelude.{◌≤◌, ◌<◌, ◌↔◌, IsTrue, All, length, sum_by, slice_get, IfSome};
-ghost use Rattle.cured_code.specs.Ranges.{IsInRange, IsSigInRange, AreParentsEarlier, IsGlobalInRange, IsAccessSize, IsInstrInRange, IsFunctionInRange, IsBare, IsStartBare, sigs_limit, nodes_limit, globals_limit, global_bytes_limit, functions_limit, locals_limit, local_bytes_limit};
+ghost use Rattle.cured_code.specs.Ranges.{IsInRange, IsSigInRange, AreParentsEarlier, IsGlobalInRange, IsFunctionInRange, IsBare, IsStartBare, AreInstrsInRange, names_in, sigs_of, sigs_limit, nodes_limit, globals_limit, global_bytes_limit, functions_limit, locals_limit, local_bytes_limit};
 
-use crate::instr::Instr;
+use crate::naming::{Names, are_instrs_in_range};
 use crate::parts::{AreaLine, Function, GlobalLine, Parts, Sig};
 
 // How many signatures, nodes, functions and globals a program has at most, and how many bytes its globals have together.
@@ -36,7 +36,7 @@ pub fn is_in_range(parts: &Parts) -> bool
     are_sigs_in_range(&sigs.0)
         && are_nodes_in_range(&nodes.0)
         && are_globals_in_range(&globals.0)
-        && are_functions_in_range(&sigs.0, &functions.0)
+        && are_functions_in_range(&sigs.0, nodes.0.len(), &functions.0)
 }
 
 fn are_sigs_in_range(sigs: &[Sig]) -> bool
@@ -96,13 +96,12 @@ fn are_bytes_kept(globals: &[GlobalLine]) -> bool
     true
 }
 
-fn are_functions_in_range(sigs: &[Sig], functions: &[Function]) -> bool
-    ensures { IsTrue result ↔ ((length functions.now ≤ functions_limit) × All (IsFunctionInRange sigs.now) functions.now × IsStartBare sigs.now functions.now) }
+fn are_functions_in_range(sigs: &[Sig], nodes: usize, functions: &[Function]) -> bool
+    ensures { IsTrue result ↔ ((length functions.now ≤ functions_limit)
+        × All (IsFunctionInRange sigs.now (sigs_of functions.now) nodes) functions.now × IsStartBare sigs.now functions.now) }
 {
     functions.len() <= FUNCTIONS_LIMIT
-        && functions
-            .iter()
-            .all(|function| is_function_in_range(sigs, function))
+        && functions.iter().all(|function| is_function_in_range(sigs, nodes, functions, function))
         && is_start_bare(sigs, functions)
 }
 
@@ -118,22 +117,23 @@ fn is_start_bare(sigs: &[Sig], functions: &[Function]) -> bool
     }
 }
 
-fn is_function_in_range(sigs: &[Sig], function: &Function) -> bool
-    ensures { IsTrue result ↔ IsFunctionInRange sigs.now function.now }
+fn is_function_in_range(
+    sigs: &[Sig],
+    nodes: usize,
+    functions: &[Function],
+    function: &Function,
+) -> bool
+    ensures { IsTrue result ↔ IsFunctionInRange sigs.now (sigs_of functions.now) nodes function.now }
 {
     let locals = &function.locals;
-    has_room_for_params(sigs, function.sig, function.slots)
-        && function.slots <= SLOTS_LIMIT
-        && are_locals_in_range(&locals.0)
-        && are_instrs_in_range(function.slots, locals.0.len(), &function.body.0)
-}
-
-fn has_room_for_params(sigs: &[Sig], number: u32, slots: u32) -> bool
-    ensures { IsTrue result ↔ ((number < length sigs.now) × IfSome (slice_get sigs.now number) (λ sig. sig.params ≤ slots)) }
-{
-    match sigs.get(number as usize) {
+    match sigs.get(function.sig as usize) {
         None => false,
-        Some(sig) => sig.params <= slots,
+        Some(sig) => {
+            sig.params <= function.slots
+                && function.slots <= SLOTS_LIMIT
+                && are_locals_in_range(&locals.0)
+                && is_body_in_range(sigs, nodes, functions, function, sig.results)
+        }
     }
 }
 
@@ -143,33 +143,26 @@ fn are_locals_in_range(locals: &[AreaLine]) -> bool
     locals.len() <= LOCALS_LIMIT && locals.iter().all(|area| area.bytes <= LOCAL_BYTES_LIMIT)
 }
 
-fn are_instrs_in_range(slots: u32, areas: usize, instrs: &[Instr]) -> bool
-    ensures { IsTrue result ↔ All (IsInstrInRange slots areas) instrs.now }
+/// Whether the instructions of a function that gives `results` words are in range.
+fn is_body_in_range(
+    sigs: &[Sig],
+    nodes: usize,
+    functions: &[Function],
+    function: &Function,
+    results: u32,
+) -> bool
+    ensures { IsTrue result ↔ AreInstrsInRange (names_in sigs.now (sigs_of functions.now) nodes function.now results) function.now.body.0.items }
 {
-    instrs
-        .iter()
-        .all(|instr| is_instr_in_range(slots, areas, instr))
-}
-
-fn is_instr_in_range(slots: u32, areas: usize, instr: &Instr) -> bool
-    ensures { IsTrue result ↔ IsInstrInRange slots areas instr.now }
-{
-    match *instr {
-        Instr::Const(v, _) => v < slots,
-        Instr::Copy(v, a) => v < slots && a < slots,
-        Instr::Eq(v, a, b) => v < slots && a < slots && b < slots,
-        Instr::Ne(v, a, b) => v < slots && a < slots && b < slots,
-        Instr::Frame(v, k) => v < slots && (k as usize) < areas,
-        Instr::Ld(n, v, a) => is_access_size(n) && v < slots && a < slots,
-        Instr::St(n, a, v) => is_access_size(n) && a < slots && v < slots,
-        Instr::Put(a) => a < slots,
-        Instr::Exit(a) => a < slots,
-        Instr::Check(_, _, a) => a < slots,
-    }
-}
-
-fn is_access_size(n: u64) -> bool
-    ensures { IsTrue result ↔ IsAccessSize n }
-{
-    n == 1 || n == 2 || n == 4 || n == 8
+    let locals = &function.locals;
+    let names = Names {
+        sigs,
+        functions,
+        nodes,
+        slots: function.slots,
+        areas: locals.0.len(),
+        results,
+        blocks: 0,
+        nest: 0,
+    };
+    are_instrs_in_range(&names, &function.body.0)
 }

@@ -9,7 +9,7 @@ use Rattle.flat_mem.specs.Memory.{fits}
 use Rattle.runs.specs.Input.{Input}
 use Rattle.cured_code.specs.declared.parts.Parts.{Parts}
 use Rattle.cured_code.specs.FlatState.{State}
-use Rattle.cured_code.specs.FlatMachine.{areas_of, entry, run, started, run_of, first_state, finished, loaded_memory, frames_charge_limit}
+use Rattle.cured_code.specs.FlatMachine.{areas_of, entry, start_context, run, started, run_of, first_state, finished, loaded_memory, frames_charge_limit}
 use Rattle.cured_code.proofs.StartLaws.{length-loaded, fits-start}
 use Rattle.first_cure.specs.Curing.{ints_of, pointers_of, names_of, IsCured}
 use Rattle.first_cure.specs.SameRun.{IsSameRun, RunsAs}
@@ -43,11 +43,11 @@ start-of program parts cured input turns declared = record {
   unread = refl;
 }
 
-same-run : (program : Program) (parts : Parts) (cured : IsCured program parts) (input : Input) (turns : ℕ) → IsWellDeclared program → GoesOn [] (first_run program) (finished (run cured.main.body.0.items (record { function = 0 }) (entry cured.main (first_state parts input turns))))
+same-run : (program : Program) (parts : Parts) (cured : IsCured program parts) (input : Input) (turns : ℕ) → IsWellDeclared program → GoesOn [] (first_run program) (finished (run cured.main.body.0.items (start_context parts) (entry cured.main (first_state parts input turns))))
 same-run program parts cured input turns declared =
     let uses = program-uses program declared in
-    subst (λ code. GoesOn [] (first_run program) (finished (run code (record { function = 0 }) (entry cured.main (first_state parts input turns))))) (sym cured.runs.body)
-    (items-run (names_of program.items) program.items program.returned at_start (record { function = 0 }) (entry cured.main (first_state parts input turns)) [] refl uses.0 uses.1
+    subst (λ code. GoesOn [] (first_run program) (finished (run code (start_context parts) (entry cured.main (first_state parts input turns))))) (sym cured.runs.body)
+    (items-run (names_of program.items) program.items program.returned at_start (start_context parts) (entry cured.main (first_state parts input turns)) [] refl uses.0 uses.1
     (stands-entry (names_of program.items) cured.main (first_state parts input turns) (start-of program parts cured input turns declared)))
 
 -- what a program is cured to runs as the program does
@@ -56,7 +56,7 @@ cured-runs program parts cured declared = record {
   same = λ input turns.
       let s : State = first_state parts input turns in
       let same = same-run program parts cured input turns declared in
-      subst (λ f. IsSameRun (run_of f s) (first_run program)) (sym (ap (λ l. slice_get l 0) cured.functions))
-      (subst (λ b. IsSameRun (started b cured.main s) (first_run program)) (sym (frame-fits program parts cured declared))
+      subst (λ f. IsSameRun (run_of parts f s) (first_run program)) (sym (ap (λ l. slice_get l 0) cured.functions))
+      (subst (λ b. IsSameRun (started b parts cured.main s) (first_run program)) (sym (frame-fits program parts cured declared))
       (record { ending = same.ending; output = same.output; read = same.read }));
 }

@@ -5,3 +5,4 @@ pub mod DeclaredLaws
 pub mod StartLaws
 pub mod CuredLaws
 pub mod RangeLaws
+pub mod LineLaws

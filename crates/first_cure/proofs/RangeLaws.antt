@@ -9,56 +9,60 @@ use Rattle.cured_code.specs.declared.instr.Instr.{Instr}
 use Rattle.cured_code.specs.declared.parts.Sig.{Sig}
 use Rattle.cured_code.specs.declared.parts.Function.{Function}
 use Rattle.cured_code.specs.declared.parts.Parts.{Parts}
-use Rattle.cured_code.specs.Ranges.{IsInstrInRange, IsAccessSize, IsSigInRange, IsFunctionInRange, IsGlobalInRange, AreParentsEarlier, IsStartBare, IsBare, IsInRange, local_bytes_limit}
+use Rattle.cured_code.specs.Ranges.{Names as Scope, IsInstrInRange, AreInstrsInRange, names_in, sigs_of, IsAccessSize, IsSigInRange, IsFunctionInRange, IsGlobalInRange, AreParentsEarlier, IsStartBare, IsBare, IsInRange, local_bytes_limit}
 use Rattle.first_cure.specs.Curing.{Names, names_of, int_area, value_code, item_code, body_code, IsCured}
 use Rattle.first_cure.proofs.DeclaredLaws.{program-uses}
 use Rattle.first_cure.proofs.RunLaws.{UsesListed, ItemUsesListed, UseListed}
 use Rattle.first_cure.proofs.CuredLaws.{names-few}
 
+-- the signature without parameters and results
+abbrev bare : Sig
+bare = record { params = 0; results = 0 }
+
+-- what the instructions of a function with this signature may name
+abbrev scope : List ℕ → ℕ → ℕ → Scope
+scope functions slots areas = record { sigs = bare ∷ []; functions = functions; nodes = 0; slots = slots; areas = areas; results = 0; blocks = 0; nest = 0 }
+
 -- an instruction of a program with these names
-abbrev Kept : Names → Instr → Type 0
-Kept names = IsInstrInRange (length names.pointers + 2) (length names.ints)
+abbrev Kept : List ℕ → Names → Instr → Type 0
+Kept fs names = IsInstrInRange (scope fs (length names.pointers + 2) (length names.ints))
 
 four : IsAccessSize 4
 four = inr (inr (inl refl))
 
-one : (names : Names) (a : Instr) → Kept names a → All (Kept names) (a ∷ [])
-one names a p = All-cons (Kept names) a [] p (All-nil (Kept names))
+one : (fs : List ℕ) (names : Names) (a : Instr) → Kept fs names a → All (Kept fs names) (a ∷ [])
+one fs names a p = All-cons (Kept fs names) a [] p (All-nil (Kept fs names))
 
-two : (names : Names) (a b : Instr) → Kept names a → Kept names b → All (Kept names) (a ∷ b ∷ [])
-two names a b p q = All-cons (Kept names) a (b ∷ []) p (one names b q)
+two : (fs : List ℕ) (names : Names) (a b : Instr) → Kept fs names a → Kept fs names b → All (Kept fs names) (a ∷ b ∷ [])
+two fs names a b p q = All-cons (Kept fs names) a (b ∷ []) p (one fs names b q)
 
-three : (names : Names) (a b c : Instr) → Kept names a → Kept names b → Kept names c → All (Kept names) (a ∷ b ∷ c ∷ [])
-three names a b c p q r = All-cons (Kept names) a (b ∷ c ∷ []) p (two names b c q r)
+three : (fs : List ℕ) (names : Names) (a b c : Instr) → Kept fs names a → Kept fs names b → Kept fs names c → All (Kept fs names) (a ∷ b ∷ c ∷ [])
+three fs names a b c p q r = All-cons (Kept fs names) a (b ∷ c ∷ []) p (two fs names b c q r)
 
-value-kept : (names : Names) (value : Value) → UsesListed names value → All (Kept names) (value_code names value)
-value-kept names (Number n) uses = one names _ (omega arith)
-value-kept names (Variable x) uses = two names _ _ (omega arith, uses) (four, omega arith, omega arith)
-value-kept names (Target p star) uses = two names _ _ (omega arith) (four, omega arith, omega arith)
+value-kept : (fs : List ℕ) (names : Names) (value : Value) → UsesListed names value → All (Kept fs names) (value_code names value)
+value-kept fs names (Number n) uses = one fs names _ (omega arith)
+value-kept fs names (Variable x) uses = two fs names _ _ (omega arith, uses) (four, omega arith, omega arith)
+value-kept fs names (Target p star) uses = two fs names _ _ (omega arith) (four, omega arith, omega arith)
 
-item-kept : (names : Names) (item : Item) → ItemUsesListed names item → All (Kept names) (item_code names item)
-item-kept names (DeclareInt x) uses = All-nil (Kept names)
-item-kept names (DeclarePointer p) uses = All-nil (Kept names)
-item-kept names (Assign x n) uses = three names _ _ _ (omega arith) (omega arith, uses.0) (four, omega arith, omega arith)
-item-kept names (Point p x) uses = one names _ (omega arith, uses.1)
-item-kept names (Clear p) uses = one names _ (omega arith)
-item-kept names (Store p n star) uses = three names _ _ _ (omega arith) (omega arith) (four, omega arith, omega arith)
-item-kept names (Put value) uses = All-append (Kept names) (value_code names value) _ (value-kept names value uses) (one names _ (omega arith))
+item-kept : (fs : List ℕ) (names : Names) (item : Item) → ItemUsesListed names item → All (Kept fs names) (item_code names item)
+item-kept fs names (DeclareInt x) uses = All-nil (Kept fs names)
+item-kept fs names (DeclarePointer p) uses = All-nil (Kept fs names)
+item-kept fs names (Assign x n) uses = three fs names _ _ _ (omega arith) (omega arith, uses.0) (four, omega arith, omega arith)
+item-kept fs names (Point p x) uses = one fs names _ (omega arith, uses.1)
+item-kept fs names (Clear p) uses = one fs names _ (omega arith)
+item-kept fs names (Store p n star) uses = three fs names _ _ _ (omega arith) (omega arith) (four, omega arith, omega arith)
+item-kept fs names (Put value) uses = All-append (Kept fs names) (value_code names value) _ (value-kept fs names value uses) (one fs names _ (omega arith))
 
-body-kept : (names : Names) (items : List Item) (returned : Value) → UseListed names items → UsesListed names returned → All (Kept names) (body_code names items returned)
-body-kept names [] returned uses last = All-append (Kept names) (value_code names returned) _ (value-kept names returned last) (one names _ (omega arith))
-body-kept names (item ∷ items) returned uses last =
-    All-append (Kept names) (item_code names item) (body_code names items returned) (item-kept names item uses.0) (body-kept names items returned uses.1 last)
+body-kept : (fs : List ℕ) (names : Names) (items : List Item) (returned : Value) → UseListed names items → UsesListed names returned → All (Kept fs names) (body_code names items returned)
+body-kept fs names [] returned uses last = All-append (Kept fs names) (value_code names returned) _ (value-kept fs names returned last) (one fs names _ (omega arith))
+body-kept fs names (item ∷ items) returned uses last =
+    All-append (Kept fs names) (item_code names item) (body_code names items returned) (item-kept fs names item uses.0) (body-kept fs names items returned uses.1 last)
 
 areas-kept : (n : ℕ) → All (λ area. area.bytes ≤ local_bytes_limit) (replicate n int_area)
 areas-kept zero = All-nil (λ area. area.bytes ≤ local_bytes_limit)
 areas-kept (suc n) = All-cons (λ area. area.bytes ≤ local_bytes_limit) int_area (replicate n int_area) (omega arith) (areas-kept n)
 
--- the signature without parameters and results
-abbrev bare : Sig
-bare = record { params = 0; results = 0 }
-
-main-kept : (program : Program) (parts : Parts) (cured : IsCured program parts) → IsWellDeclared program → IsFunctionInRange (bare ∷ []) cured.main
+main-kept : (program : Program) (parts : Parts) (cured : IsCured program parts) → IsWellDeclared program → IsFunctionInRange (bare ∷ []) (sigs_of (cured.main ∷ [])) 0 cured.main
 main-kept program parts cured declared =
     let names : Names = names_of program.items in
     let uses = program-uses program declared in
@@ -70,9 +74,10 @@ main-kept program parts cured declared =
       slots_kept = omega (arith, cured.runs.slots, few);
       locals_kept = omega (arith, long, few);
       locals_bytes = subst (All (λ area. area.bytes ≤ local_bytes_limit)) (sym cured.runs.locals) (areas-kept (length names.ints));
-      body_kept = subst (λ slots. All (IsInstrInRange slots (length cured.main.locals)) cured.main.body.0.items) (sym cured.runs.slots)
-          (subst (λ areas. All (IsInstrInRange (length names.pointers + 2) areas) cured.main.body.0.items) (sym long)
-          (subst (All (Kept names)) (sym cured.runs.body) (body-kept names program.items program.returned uses.0 uses.1)));
+      body_kept = subst (λ k. IfSome (slice_get (bare ∷ []) k) (λ sig. AreInstrsInRange (names_in (bare ∷ []) (cured.main.sig ∷ []) 0 cured.main sig.results) cured.main.body.0.items)) (sym cured.runs.sig)
+          (subst (λ slots. All (IsInstrInRange (scope (cured.main.sig ∷ []) slots (length cured.main.locals))) cured.main.body.0.items) (sym cured.runs.slots)
+          (subst (λ areas. All (IsInstrInRange (scope (cured.main.sig ∷ []) (length names.pointers + 2) areas)) cured.main.body.0.items) (sym long)
+          (subst (All (Kept (cured.main.sig ∷ []) names)) (sym cured.runs.body) (body-kept (cured.main.sig ∷ []) names program.items program.returned uses.0 uses.1))));
     }
 
 -- what a program is cured to is in range
@@ -88,9 +93,10 @@ cured-in_range program parts cured declared =
       globals_kept = subst (All IsGlobalInRange) (sym cured.globals) (All-nil IsGlobalInRange);
       globals_bytes = let none : sum_by (λ g. g.area.bytes) parts.globals ≡ 0 = ap (sum_by (λ g. g.area.bytes)) cured.globals in omega (arith, none);
       functions_count = let one : length parts.functions ≡ 1 = ap length cured.functions in omega (arith, one);
-      functions_kept = subst (λ sigs. All (IsFunctionInRange sigs) parts.functions) (sym cured.sigs)
-          (subst (All (IsFunctionInRange (bare ∷ []))) (sym cured.functions)
-          (All-cons (IsFunctionInRange (bare ∷ [])) main [] (main-kept program parts cured declared) (All-nil (IsFunctionInRange (bare ∷ [])))));
+      functions_kept = subst (λ sigs. All (IsFunctionInRange sigs (sigs_of parts.functions) (length parts.nodes)) parts.functions) (sym cured.sigs)
+          (subst (λ nodes. All (IsFunctionInRange (bare ∷ []) (sigs_of parts.functions) (length nodes)) parts.functions) (sym cured.nodes)
+          (subst (λ fs. All (IsFunctionInRange (bare ∷ []) (sigs_of fs) 0) fs) (sym cured.functions)
+          (All-cons (IsFunctionInRange (bare ∷ []) (sigs_of (main ∷ [])) 0) main [] (main-kept program parts cured declared) (All-nil (IsFunctionInRange (bare ∷ []) (sigs_of (main ∷ [])) 0)))));
       start = subst (λ sigs. IsStartBare sigs parts.functions) (sym cured.sigs)
           (subst (IsStartBare (bare ∷ [])) (sym cured.functions)
           (record {

@@ -2,3 +2,4 @@ pub mod SameRun
 pub mod Curing
 pub mod Relation
 pub mod Views
+pub mod FirstLines

@@ -1,0 +1,2 @@
+//! The machine that runs cured code.
+#![tactic(auto)]

@@ -1,0 +1,4 @@
+pub mod Operations
+pub mod State
+pub mod Meaning
+pub mod Machine

@@ -241,7 +241,7 @@ abbrev mutual
   act (instr.Allocate i) w = act_allocate i w
   act (instr.Call i) w = act_call i w
   act (instr.Runtime i) w = act_runtime i w
-  act (instr.If' t shape then shape' otherwise) w = λ c. either (is_true (c.temps t.0)) (act_row then w) (act_row otherwise w) c
+  act (instr.If' t shape code shape' other) w = λ c. either (is_true (c.temps t.0)) (act_row code w) (act_row other w) c
   act (instr.Block' shape code) w = block (act_row code w)
   act (instr.Loop' shape code) w = loop (act_row code w)
   act (instr.Break k) w = done (Leaves k)

@@ -1,7 +1,7 @@
 -- Small programs as typed trees, each with the kinds of its nodes, and what they give. The C text stands above each; what a tree
 -- doesn't say is the text's layout.
 use Rattle.std.specs.Prelude.{ℕ, ◌+◌, [], ◌∷◌, ◌++◌, codes}
-use Rattle.cc_base.specs.declared.kind.Kind.TheVariants.{Safe, Seq, Wild}
+use Rattle.cc_base.specs.declared.kind.Kind.TheVariants.{Safe, Seq, Rtti, Wild}
 use Rattle.c_types.specs.declared.shape.TypeShape.TheVariants as shape
 use Rattle.c_types.specs.Table.{Table}
 use Rattle.c_types.specs.Calls.{basic_table}
@@ -201,3 +201,98 @@ recursion turns = source_run program table (kinds []) (Closed []) turns
         (function (name (codes "f") (at 5)) (type 10) ((0, int) ∷ [])
         (returns (at 14) (call 1 11 21 (typed.Arithmetic binary.Add (value 23 0 int) (at 24) (number 1) int)) ∷ [])
         typed.NoExternal)
+
+-- int main(void){long v[2];long *p=v;p=p+4611686018427387904;return 0;}
+abbrev pub moved_too_far : SourceOutcome
+moved_too_far = source_run program table (kinds (Safe ∷ Seq ∷ Safe ∷ Seq ∷ [])) (Closed []) 10
+  where
+    table : Table
+    table = basic_table ++ entry (shape.Array long 2)
+        ∷ entry (shape.Pointer (node 1) long) ∷ entry (shape.Pointer (node 3) long) ∷ entry (shape.Function [] int) ∷ []
+
+    program : TypedTranslationUnit
+    program = main (type 12) (
+        declares (local 0 (type 9))
+        ∷ declares (local_is 2 (type 10) (at 33) (flows (at 33) (type 10) (typed.Decay (variable 34 0 (type 9)) (node 3) (type 11))))
+        ∷ does (typed.Assign (variable 36 2 (type 10)) (at 37) (flows (at 37) (type 10)
+            (typed.Moved binary.Add side.Left (value 38 2 (type 10)) (at 39) (number 4611686018427387904) (type 10))))
+        ∷ returns (at 60) (number 0)
+        ∷ [])
+
+-- struct S{int t;};
+-- struct C{int t;int r;};
+-- struct G{int t;struct S *f;};
+-- int main(void){
+-- struct C c;struct S *s=(struct S *)&c;
+-- c.r=66;
+-- putchar(((struct C *)s)->r);
+-- putchar(((struct G *)s)->t);
+-- return 0;}
+abbrev pub cast_down : SourceOutcome
+cast_down = source_run program table (kinds (Safe ∷ Safe ∷ Rtti ∷ Safe ∷ Rtti ∷ Rtti ∷ [])) (Closed []) 10
+  where
+    -- the member f: 0; the homes of c and s: 1, 3; s: 2; the cast to S: 4; the address of c: 5; the casts to C and G: 6, 7; the members' places: 8 to 10
+    table : Table
+    table = basic_table ++ aggregate (shape.Struct 0) (int ∷ []) ∷ aggregate (shape.Struct 1) (int ∷ int ∷ []) ∷ entry (shape.Pointer (node 0) (type 9))
+        ∷ aggregate (shape.Struct 2) (int ∷ type 11 ∷ []) ∷ entry (shape.Pointer (node 2) (type 9)) ∷ entry (shape.Pointer (node 4) (type 9)) ∷ entry (shape.Pointer (node 5) (type 10))
+        ∷ entry (shape.Pointer (node 6) (type 10)) ∷ entry (shape.Pointer (node 7) (type 12)) ∷ entry (shape.Function [] int) ∷ []
+
+    cast : ℕ → ℕ → TypedExpr
+    cast line t = typed.Cast conversion.PointerToPointer (at_line line 10) (type_name (type t)) (value 0 3 (type 13))
+
+    program : TypedTranslationUnit
+    program = main (type 18) (
+        declares (local 1 (type 10))
+        ∷ declares (local_is 3 (type 13) (at_line 5 23) (flows (at_line 5 23) (type 13)
+            (typed.Cast conversion.PointerToPointer (at_line 5 24) (type_name (type 14)) (typed.AddressOf (at_line 5 36) (variable 37 1 (type 10)) (node 5) (type 15)))))
+        ∷ does (typed.Assign (typed.Member (variable 1 1 (type 10)) (at_line 6 2) (name [] (at 0)) 1 (node 8) int) (at_line 6 4) (number 66))
+        ∷ does (put (typed.Read (typed.MemberAt (cast 7 16) (at_line 7 24) (name [] (at 0)) 1 (node 9) int)))
+        ∷ does (put (typed.Read (typed.MemberAt (cast 8 17) (at_line 8 24) (name [] (at 0)) 0 (node 10) int)))
+        ∷ returns (at_line 9 1) (number 0)
+        ∷ [])
+
+-- int f(int a){return a;}
+-- int main(void){
+-- int (*p)(int)=f;
+-- int (*q)(int,int)=(int (*)(int,int))p;
+-- putchar(((int (*)(int))q)(65));
+-- return q(1,2);}
+abbrev pub called_otherwise : SourceOutcome
+called_otherwise = source_run program table (kinds (Wild ∷ Wild ∷ Wild ∷ Wild ∷ Wild ∷ [])) (Closed []) 10
+  where
+    -- p, q, the two casts and the name f: 0 to 4; the homes of a, p and q: 5 to 7
+    table : Table
+    table = basic_table ++ entry (shape.Function (int ∷ []) int) ∷ entry (shape.Function (int ∷ int ∷ []) int) ∷ entry (shape.Function [] int)
+        ∷ entry (shape.Pointer (node 0) (type 9)) ∷ entry (shape.Pointer (node 1) (type 10)) ∷ entry (shape.Pointer (node 2) (type 10))
+        ∷ entry (shape.Pointer (node 3) (type 9)) ∷ entry (shape.Pointer (node 4) (type 9)) ∷ []
+
+    program : TypedTranslationUnit
+    program = function (name (codes "main") (at_line 2 5)) (type 11) [] (
+        declares (local_is 6 (type 12) (at_line 3 14) (flows (at_line 3 14) (type 12) (typed.FunctionName (name (codes "f") (at_line 3 15)) 0 (node 4) (type 16))))
+        ∷ declares (local_is 7 (type 13) (at_line 4 18) (flows (at_line 4 18) (type 13)
+            (typed.Cast conversion.PointerToPointer (at_line 4 19) (type_name (type 14)) (value 0 6 (type 12)))))
+        ∷ does (put (typed.Call (typed.Cast conversion.PointerToPointer (at_line 5 10) (type_name (type 15)) (value 0 7 (type 13))) (at_line 5 26)
+            (arguments (number 65 ∷ [])) int))
+        ∷ returns (at_line 6 1) (typed.Call (value 0 7 (type 13)) (at_line 6 9) (arguments (number 1 ∷ number 2 ∷ [])) int)
+        ∷ [])
+        (function (name (codes "f") (at 5)) (type 9) ((5, int) ∷ []) (returns (at 14) (value 21 5 int) ∷ []) typed.NoExternal)
+
+-- struct P{int *q;};
+-- struct P g;
+-- int main(void){int x;struct P l;l.q=&x;g=l;return 0;}
+abbrev pub struct_kept : SourceOutcome
+struct_kept = source_run program table (kinds []) (Closed []) 10
+  where
+    -- the member q: 0; the homes of g, x and l: 1 to 3; the place l.q: 4; the address of x: 5
+    table : Table
+    table = basic_table ++ entry (shape.Pointer (node 0) int) ∷ aggregate (shape.Struct 0) (type 9 ∷ []) ∷ entry (shape.Pointer (node 5) int) ∷ entry (shape.Function [] int) ∷ []
+
+    program : TypedTranslationUnit
+    program = function (name (codes "main") (at_line 3 5)) (type 12) [] (
+        declares (local 2 int)
+        ∷ declares (local 3 (type 10))
+        ∷ does (typed.Assign (typed.Member (variable 33 3 (type 10)) (at_line 3 34) (name [] (at 0)) 0 (node 4) (type 9)) (at_line 3 36)
+            (flows (at_line 3 36) (type 9) (typed.AddressOf (at_line 3 37) (variable 38 2 int) (node 5) (type 11))))
+        ∷ does (typed.Unread (typed.StructAssign (variable 40 1 (type 10)) (at_line 3 41) (variable 42 3 (type 10))))
+        ∷ returns (at_line 3 44) (number 0)
+        ∷ []) (global 1 (type 10) typed.NoExternal)

@@ -7,7 +7,7 @@ ghost use Rattle.cc_base.specs.declared.fault.Check.TheVariants.{Null, Bounds, R
 ghost use Rattle.runs.specs.Input.{Closed, Open};
 ghost use Rattle.src_mem.specs.State.{Stopped, Exited, Turns, Wants};
 ghost use Rattle.src_machine.specs.Small.{at, at_line, shown, access};
-ghost use Rattle.src_machine.specs.Programs.{null_read, past_the_end, stepped_over, address_kept, freed_read, size_of_pointer, union_read, divided_by_zero, echoes, goes_on, recursion, moved_too_far, cast_down, called_otherwise, struct_kept};
+ghost use Rattle.src_machine.specs.Programs.{null_read, past_the_end, stepped_over, address_kept, freed_read, size_of_pointer, union_read, divided_by_zero, echoes, goes_on, recursion, recursion_at, moved_too_far, cast_down, called_otherwise, struct_kept, hashed_and_compared};
 
 /// What small programs do that use SAFE and SEQ pointers.
 pub fn programs_with_bounds()
@@ -33,4 +33,17 @@ pub fn other_programs()
     ensures cast_down { shown cast_down ≡ record { ending = Stopped Cast (at_line 8 10); output = 66 ∷ []; accesses = access 1 0 8 ∷ access 0 4 4 ∷ access 1 0 8 ∷ access 0 4 4 ∷ access 1 0 8 ∷ [] } }
     ensures called_otherwise { shown called_otherwise ≡ record { ending = Stopped Fun (at_line 6 9); output = 65 ∷ []; accesses = access 0 0 8 ∷ access 0 0 8 ∷ access 1 0 8 ∷ access 1 0 8 ∷ access 2 0 4 ∷ access 2 0 4 ∷ access 1 0 8 ∷ [] } }
     ensures calls { (recursion 3).entered ≡ 1 ∷ 0 ∷ 0 ∷ 0 ∷ [] }
+{}
+
+/// The hash and the comparison of a word counter on short texts: `the` stands in slot 1, and `cat` is `cat`. Three rounds in each
+/// and two calls are eight turns.
+pub fn word_counter_parts()
+    ensures ends { hashed_and_compared.ending ≡ Exited 11 }
+    ensures calls { hashed_and_compared.entered ≡ 2 ∷ 0 ∷ 1 ∷ [] }
+{}
+
+/// A recursion without end is stopped at its call where that would be the 1,024th that is nested.
+pub fn recursion_is_stopped()
+    ensures goes_on { (recursion_at 1022).ending ≡ Exited 7 }
+    ensures stops { (recursion_at 1023).ending ≡ Stopped Depth (at 22) }
 {}

@@ -1,0 +1,15 @@
+//! Three-address code as data, and the definition of what it means.
+#![tactic(auto)]
+
+mod instr;
+mod number;
+mod program;
+
+pub use instr::{
+    Access, Allocate, Calculate, Call, Code, Comparison, Convert, Direction, Instr, Operator,
+    Point, RuntimeCall, Set, Target,
+};
+pub use number::{FunctionNumber, Object, Planned, StaticNumber, Temp, VariableNumber};
+pub use program::{
+    Bytes, Function, Functions, Locals, Parameter, Parameters, Program, Sites, Static, Statics,
+};

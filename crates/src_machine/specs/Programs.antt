@@ -79,18 +79,18 @@ stepped_over turns = source_run program table (kinds (Safe ∷ Seq ∷ Safe ∷ 
         ∷ [])
 
 -- int *g;int main(void){int x;g=&x;return 0;}
-abbrev pub address_kept : SourceOutcome
-address_kept = source_run program table (kinds []) (Closed []) 10
-  where
-    table : Table
-    table = basic_table ++ entry (shape.Pointer (node 0) int) ∷ entry (shape.Pointer (node 3) int) ∷ entry (shape.Function [] int) ∷ []
+abbrev pub address_table : Table
+address_table = basic_table ++ entry (shape.Pointer (node 0) int) ∷ entry (shape.Pointer (node 3) int) ∷ entry (shape.Function [] int) ∷ []
 
-    program : TypedTranslationUnit
-    program = function (name (codes "main") (at 12)) (type 11) [] (
-        declares (local 2 int)
-        ∷ does (typed.Assign (variable 29 1 (type 9)) (at 30) (flows (at 30) (type 9) (typed.AddressOf (at 31) (variable 32 2 int) (node 3) (type 10))))
-        ∷ returns (at 34) (number 0)
-        ∷ []) (global 1 (type 9) typed.NoExternal)
+abbrev pub address_program : TypedTranslationUnit
+address_program = function (name (codes "main") (at 12)) (type 11) [] (
+    declares (local 2 int)
+    ∷ does (typed.Assign (variable 29 1 (type 9)) (at 30) (flows (at 30) (type 9) (typed.AddressOf (at 31) (variable 32 2 int) (node 3) (type 10))))
+    ∷ returns (at 34) (number 0)
+    ∷ []) (global 1 (type 9) typed.NoExternal)
+
+abbrev pub address_kept : SourceOutcome
+address_kept = source_run address_program address_table (kinds []) (Closed []) 10
 
 -- int main(void){char *p=(char *)malloc(1);*p=107;free(p);putchar(*p);return 0;}
 abbrev pub freed_read : SourceOutcome

@@ -6,8 +6,10 @@ ghost use Rattle.std.specs.Prelude.{◌≡◌, [], ◌∷◌};
 ghost use Rattle.cc_base.specs.declared.fault.Check.TheVariants.{Null, Bounds, Range, Cast, Escape, Tag, Fun, Divide, Depth};
 ghost use Rattle.runs.specs.Input.{Closed, Open};
 ghost use Rattle.src_mem.specs.State.{Stopped, Exited, Turns, Wants};
-ghost use Rattle.src_machine.specs.Small.{at, at_line, shown, access};
-ghost use Rattle.src_machine.specs.Programs.{null_read, past_the_end, stepped_over, address_kept, freed_read, size_of_pointer, union_read, divided_by_zero, echoes, goes_on, recursion, recursion_at, moved_too_far, cast_down, called_otherwise, struct_kept, hashed_and_compared};
+ghost use Rattle.c_types.specs.declared.site.Site.TheVariants.{Pointee, Home, Linked, Flow};
+ghost use Rattle.src_machine.specs.Sites.{sites_of};
+ghost use Rattle.src_machine.specs.Small.{node, type, int, at, at_line, shown, access};
+ghost use Rattle.src_machine.specs.Programs.{null_read, past_the_end, stepped_over, address_kept, address_program, address_table, freed_read, size_of_pointer, union_read, divided_by_zero, echoes, goes_on, recursion, recursion_at, moved_too_far, cast_down, called_otherwise, struct_kept, hashed_and_compared};
 
 /// What small programs do that use SAFE and SEQ pointers.
 pub fn programs_with_bounds()
@@ -46,4 +48,10 @@ pub fn word_counter_parts()
 pub fn recursion_is_stopped()
     ensures goes_on { (recursion_at 1022).ending ≡ Exited 7 }
     ensures stops { (recursion_at 1023).ending ≡ Stopped Depth (at 22) }
+{}
+
+/// The sites of `int *g;int main(void){int x;g=&x;return 0;}`: the two pointers, the two homes, that the address of x is one of a
+/// part of x, and its flow into g.
+pub fn sites_of_a_program()
+    ensures { sites_of address_program address_table ≡ Pointee (node 0) int ∷ Pointee (node 3) int ∷ Home (node 1) (type 9) ∷ Home (node 2) int ∷ Linked (node 3) (node 2) ∷ Flow (node 3) int (node 0) int (at 30) ∷ [] }
 {}

@@ -1,6 +1,6 @@
 -- What expressions do (C99 6.5). Operands are evaluated from left to right; an assignment evaluates its place, then its right side, then
 -- reads the old value where it needs it, then stores.
-use Rattle.std.specs.Prelude.{ℕ, suc, ℤ, pos, neg_ℤ, Bool, true, false, not, ◌||◌, List, [], ◌∷◌, ◌++◌, Option, None, Some}
+use Rattle.std.specs.Prelude.{suc, pos, Bool, true, false, not, ◌||◌, List, [], ◌∷◌, ◌++◌}
 use Rattle.cc_base.specs.declared.place.Place.{Place}
 use Rattle.cc_base.specs.declared.number.NodeId.{NodeId}
 use Rattle.cc_base.specs.declared.number.TypeId.{TypeId}
@@ -8,15 +8,10 @@ use Rattle.cc_base.specs.declared.kind.Kind.{Kind}
 use Rattle.c_types.specs.declared.shape.TypeShape.{TypeShape}
 use Rattle.c_types.specs.declared.shape.TypeShape.TheVariants as shape
 use Rattle.c_types.specs.Table.{shape_at}
-use Rattle.c_types.specs.Layouts.{offset_of}
-use Rattle.c_types.specs.Flows.{flow_class}
-use Rattle.integers.specs.Words.{word}
 use Rattle.integers.specs.Arithmetic as integer
-use Rattle.integers.specs.Arithmetic.{IntegerType, Operator, converted, computed, computed_alone, can_divide, divides, truth}
+use Rattle.integers.specs.Arithmetic.{Operator, converted, computed_alone, truth}
 use Rattle.runs.specs.Outcome.{done, either, ◌>>=◌, ◌>>◌}
 use Rattle.c_tree.specs.declared.typed_word.Runtime.{Runtime}
-use Rattle.c_tree.specs.declared.leaf.Identifier.{Identifier}
-use Rattle.c_tree.specs.declared.leaf.StringPiece.{StringPiece}
 use Rattle.c_tree.specs.declared.operator.Assignment.{Assignment}
 use Rattle.c_tree.specs.declared.operator.Assignment.TheVariants as assignment
 use Rattle.c_tree.specs.declared.operator.Binary.{Binary}
@@ -33,19 +28,13 @@ use Rattle.c_tree.specs.TypedTree as typed
 use Rattle.c_tree.specs.TypedTree.{TypedExpr, TypedPlace, TypedArguments}
 use Rattle.c_tree.specs.TypedParts.{type_of, place_type, named_type, is_null, literal_place, nowhere}
 use Rattle.src_mem.specs.Pointers.{Pointer, Null, Function, Value, Integer, Address, is_true}
-use Rattle.src_mem.specs.State.{Act, wrong, given, as_integer, as_pointer, turn}
-use Rattle.src_mem.specs.Checks as checks
-use Rattle.src_mem.specs.Checks.{Used, Condition, CanDivide, Conversion as PointerConversion, conditions_of, conditions_of_conversion, conditions_of_allocation, checked, all_checked}
-use Rattle.src_mem.specs.Primitives.{address, move, difference, is_before, are_equal, convert, pointer_from, integer_from, called}
+use Rattle.src_mem.specs.State.{Act, wrong, given, as_integer, as_pointer}
+use Rattle.src_mem.specs.Checks.{Call as Called, conditions_of, all_checked}
+use Rattle.src_mem.specs.Primitives.{address, pointer_from, integer_from, called}
+use Rattle.src_mem.specs.Uses.{copy_all, home}
+use Rattle.src_mem.specs.Operations.{Located, node_in, kind_in, pointee, size, integer_in, calculate, signed_by, moved, subtracted, compared, converted_pointer, allocated_for, member, decayed, read_at, write_at}
 use Rattle.runtime_calls.specs.Meanings.{call_runtime, call_allocation}
-use Rattle.src_mem.specs.Uses.{read, write, copy_all, home}
-use Rattle.src_machine.specs.World.{World, node_in, kind_in, pointee, size, integer_in, object_of}
-
--- Where a place is: the pointer to it, the kind by which it is used, and where its checks stand.
-pub record Located : Type 0 where
-  pub kind : Kind
-  pub pointer : Pointer
-  pub at : Place
+use Rattle.src_machine.specs.World.{World, object_of}
 
 -- the object with this home, of type t
 abbrev pub locate_object : World → NodeId → TypeId → Place → Act Located
@@ -53,11 +42,6 @@ locate_object w node t at =
     given (object_of w node) (λ number. done (record { kind = w.setting.kind node; pointer = home w.setting.table number t; at = at }))
 
 -- Operators
-
--- an operator on integers of this type
-abbrev pub calculate : World → Place → Operator → IntegerType → ℤ → ℤ → Act ℤ
-calculate w at operator t x y =
-    either (divides operator) (checked w.setting at (CanDivide t x y)) (done tt) >> done (computed operator t x y)
 
 -- the operator on integers that a binary operator is; `&&` and `||` are none, and never stand between two integers alone
 abbrev pub operator_of : Binary → Operator
@@ -98,29 +82,18 @@ abbrev pub operator_of_step : Step → Operator
 operator_of_step step.Increment = integer.Add
 operator_of_step step.Decrement = integer.Subtract
 
--- how far a pointer moves: backwards where the integer is subtracted
-abbrev pub signed_by : Operator → ℤ → ℤ
-signed_by integer.Subtract n = neg_ℤ n
-signed_by operator n = n
-
--- a pointer of type t moves by n elements
-abbrev pub moved : World → Place → TypeId → ℤ → Pointer → Act Pointer
-moved w at t n p = do
-  all_checked w.setting at (conditions_of (checks.Move (size w (pointee w t)) n) (kind_in w t) p)
-  move (size w (pointee w t)) n p
-
 -- the operator of a compound assignment or of a step, on the old value of a place of type t; it is computed in another integer type
 abbrev pub updated_shape : World → Place → Operator → TypeShape → TypeId → TypeId → Value → Value → Act Value
 updated_shape w at operator (shape.Pointer node to) t computed_in old v = do
   p ← as_pointer old
   n ← as_integer v
-  q ← moved w at t (signed_by operator n) p
+  q ← moved w.setting at t (signed_by operator n) p
   done (Address q)
 updated_shape w at operator other t computed_in old v = do
   x ← as_integer old
   y ← as_integer v
-  z ← calculate w at operator (integer_in w computed_in) (converted (integer_in w computed_in) x) y
-  done (Integer (converted (integer_in w t) z))
+  z ← calculate w.setting at operator (integer_in w.setting computed_in) (converted (integer_in w.setting computed_in) x) y
+  done (Integer (converted (integer_in w.setting t) z))
 
 abbrev pub updated : World → Place → Operator → TypeId → TypeId → Value → Value → Act Value
 updated w at operator t computed_in old v = updated_shape w at operator (shape_at w.setting.table t) t computed_in old v
@@ -130,59 +103,20 @@ abbrev pub prefixed : World → Unary → TypeId → Value → Act Value
 prefixed w unary.Plus t v = done v
 prefixed w unary.Minus t v = do
   x ← as_integer v
-  done (Integer (computed_alone integer.Negate (integer_in w t) x))
+  done (Integer (computed_alone integer.Negate (integer_in w.setting t) x))
 prefixed w unary.Complement t v = do
   x ← as_integer v
-  done (Integer (computed_alone integer.Complement (integer_in w t) x))
+  done (Integer (computed_alone integer.Complement (integer_in w.setting t) x))
 prefixed w unary.Not t v = done (Integer (truth (not (is_true v))))
 prefixed w other t v = wrong
 
--- two pointers that are compared, with the kinds of their types
-abbrev pub compared : World → Place → Binary → Bool → Used → Used → Act Bool
-compared w at binary.Equal null p q = do
-  either null (done tt) (all_checked w.setting at (conditions_of (checks.Equate q) p.kind p.pointer))
-  are_equal p.pointer q.pointer
-compared w at binary.NotEqual null p q = do
-  either null (done tt) (all_checked w.setting at (conditions_of (checks.Equate q) p.kind p.pointer))
-  equal ← are_equal p.pointer q.pointer
-  done (not equal)
-compared w at binary.Less null p q = do
-  all_checked w.setting at (conditions_of (checks.Order q) p.kind p.pointer)
-  is_before p.pointer q.pointer
-compared w at binary.Greater null p q = do
-  all_checked w.setting at (conditions_of (checks.Order q) p.kind p.pointer)
-  is_before q.pointer p.pointer
-compared w at binary.LessEqual null p q = do
-  all_checked w.setting at (conditions_of (checks.Order q) p.kind p.pointer)
-  after ← is_before q.pointer p.pointer
-  done (not after)
-compared w at binary.GreaterEqual null p q = do
-  all_checked w.setting at (conditions_of (checks.Order q) p.kind p.pointer)
-  before ← is_before p.pointer q.pointer
-  done (not before)
-compared w at other null p q = wrong
-
 -- Conversions (C99 6.3)
-
--- a pointer of type t converted to the pointer type u
-abbrev pub converted_pointer : World → Place → TypeId → TypeId → Pointer → Act Pointer
-converted_pointer w at t u p =
-    let class = flow_class w.setting.table (pointee w t) (pointee w u) in do
-      all_checked w.setting at (conditions_of_conversion (record {
-        class = class;
-        from = kind_in w t;
-        to = kind_in w u;
-        from_size = size w (pointee w t);
-        to_size = size w (pointee w u);
-        to_type = pointee w u;
-      }) p)
-      convert class (kind_in w t) (kind_in w u) (pointee w u) p
 
 -- a value of type t converted to the type u
 abbrev pub converted_value : World → Conversion → Place → TypeId → TypeId → Value → Act Value
 converted_value w conversion.IntegerToInteger at t u v = do
   z ← as_integer v
-  done (Integer (converted (integer_in w u) z))
+  done (Integer (converted (integer_in w.setting u) z))
 converted_value w conversion.IntegerToPointer at t u v = do
   z ← as_integer v
   p ← pointer_from z
@@ -190,10 +124,10 @@ converted_value w conversion.IntegerToPointer at t u v = do
 converted_value w conversion.PointerToInteger at t u v = do
   p ← as_pointer v
   z ← integer_from p
-  done (Integer (converted (integer_in w u) z))
+  done (Integer (converted (integer_in w.setting u) z))
 converted_value w conversion.PointerToPointer at t u v = do
   p ← as_pointer v
-  q ← converted_pointer w at t u p
+  q ← converted_pointer w.setting at t u p
   done (Address q)
 converted_value w conversion.NullToPointer at t u v = done (Address Null)
 converted_value w conversion.AllocationToPointer at t u v = done v
@@ -204,15 +138,15 @@ converted_value w conversion.ToVoid at t u v = done (Integer (pos 0))
 -- a call of the function that p is, as one of the function type t
 abbrev pub call_function : World → Place → Kind → TypeId → Pointer → List Value → Act Value
 call_function w at kind t p arguments = do
-  all_checked w.setting at (conditions_of (checks.Call t (suc w.frame.depth)) kind p)
+  all_checked w.setting at (conditions_of (Called t (suc w.frame.depth)) kind p)
   called p (λ f. w.call f (suc w.frame.depth) arguments)
 
--- a block for a pointer of this node to t, whose first t has to be there
+-- a block for a pointer of this node to t
 abbrev pub allocate_for : World → Place → Runtime → NodeId → TypeId → List Value → Act Value
 allocate_for w at function node t arguments = do
   v ← call_allocation w.setting node t function arguments
   p ← as_pointer v
-  all_checked w.setting at (conditions_of_allocation (w.setting.kind node) (size w t) p)
+  allocated_for w.setting at node t p
   done v
 
 -- Places and values
@@ -229,37 +163,15 @@ abbrev pub moved_by_side : World → Place → Side → Operator → TypeId → 
 moved_by_side w at side.Left operator t u a b = do
   p ← as_pointer a
   n ← as_integer b
-  moved w at t (signed_by operator n) p
+  moved w.setting at t (signed_by operator n) p
 moved_by_side w at side.Right operator t u a b = do
   n ← as_integer a
   p ← as_pointer b
-  moved w at u (signed_by operator n) p
+  moved w.setting at u (signed_by operator n) p
 
 abbrev pub type_by_side : Side → TypeId → TypeId → TypeId
 type_by_side side.Left t u = t
 type_by_side side.Right t u = u
-
--- the address of member number i of the struct or union of type t at p, which is used by this kind
-abbrev pub member : World → Place → Kind → TypeId → ℕ → NodeId → TypeId → Pointer → Act Located
-member w at kind t i node u p = do
-  all_checked w.setting at (conditions_of (checks.AddressMember (offset_of w.setting.table t i) (size w t)) kind p)
-  q ← address (w.setting.kind node) (offset_of w.setting.table t i) (size w u) u p
-  done (record { kind = w.setting.kind node; pointer = q; at = at })
-
--- the address of an array's first element
-abbrev pub decayed : World → Bool → NodeId → TypeId → TypeId → Located → Act Value
-decayed w check node array element l = do
-  either check (all_checked w.setting l.at (conditions_of (checks.AddressMember 0 (size w array)) l.kind l.pointer)) (done tt)
-  p ← address (w.setting.kind node) 0 (size w array) element l.pointer
-  done (Address p)
-
--- the value of a scalar place of type t
-abbrev pub read_at : World → TypeId → Located → Act Value
-read_at w t l = read w.setting l.at l.kind t l.pointer
-
--- a value is written to a place of type t, and is the result
-abbrev pub write_at : World → Place → TypeId → Located → Value → Act Value
-write_at w at t l v = write w.setting l.at at l.kind t l.pointer v >> done v
 
 abbrev mutual
   -- the value of an expression
@@ -272,13 +184,14 @@ abbrev mutual
   eval (typed.Paren at e) w = eval e w
   eval (typed.Read p) w = do
     l ← locate p w
-    read_at w (place_type p) l
+    read_at w.setting (place_type p) l
   eval (typed.Unread p) w = do
     l ← locate p w
     done (Address l.pointer)
   eval (typed.Decay p node t) w = do
     l ← locate p w
-    decayed w (is_through_pointer p) node (place_type p) (pointee w t) l
+    q ← decayed w.setting (is_through_pointer p) node (place_type p) (pointee w.setting t) l
+    done (Address q)
   eval (typed.Convert which at t e) w = do
     v ← eval e w
     converted_value w which at (type_of e) t v
@@ -287,7 +200,7 @@ abbrev mutual
     converted_value w which at (type_of e) (named_type name) v
   eval (typed.AddressOf at p node t) w = do
     l ← locate p w
-    q ← address (w.setting.kind node) 0 (size w (place_type p)) (place_type p) l.pointer
+    q ← address (w.setting.kind node) 0 (size w.setting (place_type p)) (place_type p) l.pointer
     done (Address q)
   eval (typed.AddressOfElement at p t) w = do
     l ← locate p w
@@ -302,21 +215,21 @@ abbrev mutual
   eval (typed.SizeOfType at paren name n t) w = done (Integer (pos n))
   eval (typed.StepBefore which at p) w = do
     l ← locate p w
-    old ← read_at w (place_type p) l
+    old ← read_at w.setting (place_type p) l
     new ← updated w at (operator_of_step which) (place_type p) (place_type p) old (Integer (pos 1))
-    write_at w at (place_type p) l new
+    write_at w.setting at (place_type p) l new
   eval (typed.StepAfter p which at) w = do
     l ← locate p w
-    old ← read_at w (place_type p) l
+    old ← read_at w.setting (place_type p) l
     new ← updated w at (operator_of_step which) (place_type p) (place_type p) old (Integer (pos 1))
-    write_at w at (place_type p) l new
+    write_at w.setting at (place_type p) l new
     done old
   eval (typed.Arithmetic operator a at b t) w = do
     v ← eval a w
     u ← eval b w
     x ← as_integer v
     y ← as_integer u
-    z ← calculate w at (operator_of operator) (integer_in w (type_of a)) x y
+    z ← calculate w.setting at (operator_of operator) (integer_in w.setting (type_of a)) x y
     done (Integer z)
   eval (typed.Moved operator which a at b t) w = do
     v ← eval a w
@@ -328,15 +241,14 @@ abbrev mutual
     u ← eval b w
     p ← as_pointer v
     q ← as_pointer u
-    all_checked w.setting at (conditions_of (checks.Subtract (size w (pointee w (type_of a))) (record { kind = kind_in w (type_of b); pointer = q })) (kind_in w (type_of a)) p)
-    n ← difference (size w (pointee w (type_of a))) p q
+    n ← subtracted w.setting at (type_of a) p (record { kind = kind_in w.setting (type_of b); pointer = q })
     done (Integer n)
   eval (typed.Compared operator a at b t) w = do
     v ← eval a w
     u ← eval b w
     p ← as_pointer v
     q ← as_pointer u
-    result ← compared w at operator (is_null a || is_null b) (record { kind = kind_in w (type_of a); pointer = p }) (record { kind = kind_in w (type_of b); pointer = q })
+    result ← compared w.setting at (operator_of operator) (is_null a || is_null b) (record { kind = kind_in w.setting (type_of a); pointer = p }) (record { kind = kind_in w.setting (type_of b); pointer = q })
     done (Integer (truth result))
   eval (typed.Logical binary.LogicalOr a at b t) w = do
     v ← eval a w
@@ -360,27 +272,27 @@ abbrev mutual
   eval (typed.Assign p at e) w = do
     l ← locate p w
     v ← eval e w
-    write_at w at (place_type p) l v
+    write_at w.setting at (place_type p) l v
   eval (typed.AssignWith operator p at e t) w = do
     l ← locate p w
     v ← eval e w
-    old ← read_at w (place_type p) l
+    old ← read_at w.setting (place_type p) l
     new ← updated w at (operator_of_assignment operator) (place_type p) t old v
-    write_at w at (place_type p) l new
+    write_at w.setting at (place_type p) l new
   eval (typed.Call f at arguments t) w = do
     v ← eval f w
     vs ← eval_all arguments w
     p ← as_pointer v
-    call_function w at (kind_in w (type_of f)) (pointee w (type_of f)) p vs
+    call_function w at (kind_in w.setting (type_of f)) (pointee w.setting (type_of f)) p vs
   eval (typed.CallRuntime function f at arguments t) w = do
     vs ← eval_all arguments w
     call_runtime function vs
   eval (typed.Allocate function f at arguments node t) w = do
     vs ← eval_all arguments w
-    allocate_for w at function node (pointee w t) vs
+    allocate_for w at function node (pointee w.setting t) vs
   eval (typed.AllocateFor function f at arguments t) w = do
     vs ← eval_all arguments w
-    allocate_for w at function (node_in w t) (pointee w t) vs
+    allocate_for w at function (node_in w.setting t) (pointee w.setting t) vs
 
   -- arguments in order, each converted before the next is evaluated
   pub eval_all : TypedArguments → World → Act (List Value)
@@ -398,19 +310,19 @@ abbrev mutual
   locate (typed.Target at e t) w = do
     v ← eval e w
     p ← as_pointer v
-    done (record { kind = kind_in w (type_of e); pointer = p; at = at })
+    done (record { kind = kind_in w.setting (type_of e); pointer = p; at = at })
   locate (typed.Element which a at b t) w = do
     v ← eval a w
     u ← eval b w
     p ← moved_by_side w at which integer.Add (type_of a) (type_of b) v u
-    done (record { kind = kind_in w (type_by_side which (type_of a) (type_of b)); pointer = p; at = at })
+    done (record { kind = kind_in w.setting (type_by_side which (type_of a) (type_of b)); pointer = p; at = at })
   locate (typed.Member p at name i node t) w = do
     l ← locate p w
-    member w at l.kind (place_type p) i node t l.pointer
+    member w.setting at l.kind (place_type p) i node t l.pointer
   locate (typed.MemberAt e at name i node t) w = do
     v ← eval e w
     p ← as_pointer v
-    member w at (kind_in w (type_of e)) (pointee w (type_of e)) i node t p
+    member w.setting at (kind_in w.setting (type_of e)) (pointee w.setting (type_of e)) i node t p
   -- an assignment of structs or unions gives its left side
   locate (typed.StructAssign p at q) w = do
     l ← locate p w

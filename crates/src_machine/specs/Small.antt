@@ -1,5 +1,5 @@
 -- Words to write small typed trees with: they leave out what the machine doesn't look at.
-use Rattle.std.specs.Prelude.{ℕ, ℤ, List, [], ◌∷◌, Option, None, Some, slice_index_or}
+use Rattle.std.specs.Prelude.{ℕ, List, [], ◌∷◌, None, Some, slice_index_or, codes}
 use Rattle.std.specs.List.{fold}
 use Rattle.cc_base.specs.declared.place.Place.{Place}
 use Rattle.cc_base.specs.declared.number.NodeId.{NodeId}
@@ -13,10 +13,12 @@ use Rattle.c_tree.specs.declared.leaf.Identifier.{Identifier}
 use Rattle.c_tree.specs.declared.typed_word.Home.{Home}
 use Rattle.c_tree.specs.declared.typed_word.Home.TheVariants as home
 use Rattle.c_tree.specs.declared.typed_word.Conversion.TheVariants as conversion
+use Rattle.c_tree.specs.declared.typed_word.Runtime.{Runtime}
+use Rattle.c_tree.specs.declared.typed_word.Runtime.TheVariants as runtime
 use Rattle.c_tree.specs.TypedTree as typed
 use Rattle.c_tree.specs.TypedTree.{TypedExpr, TypedPlace, TypedArguments, TypedForm, TypedDeclarator, TypedParameters, TypedInitialiser, TypedDeclaration, TypedStatement, TypedBlockItems, TypedTranslationUnit, TypedSpecifiers, TypedTypeName}
 use Rattle.src_mem.specs.State.{Ending, Access}
-use Rattle.src_machine.specs.Machine.{SourceOutcome}
+use Rattle.src_mem.specs.Runs.{SourceOutcome}
 
 -- the place in line 1 at this column
 abbrev pub at : ℕ → Place
@@ -47,6 +49,10 @@ unsigned_long = type 8
 -- a type that has no members
 abbrev pub entry : TypeShape → Entry
 entry shape = record { shape = shape; members = [] }
+
+-- a struct or union with these members
+abbrev pub aggregate : TypeShape → List TypeId → Entry
+aggregate shape members = record { shape = shape; members = members }
 
 -- the kinds of the nodes in order; those behind are SAFE
 abbrev pub kinds : List Kind → NodeId → Kind
@@ -88,6 +94,20 @@ type_name t = typed.Named (specifiers t) typed.NotDeclared t
 abbrev pub arguments : List TypedExpr → TypedArguments
 arguments es = fold (λ all e. typed.AndArgument all e) typed.NoArgument es
 
+-- a string literal as it is written, with its home and its type
+abbrev pub string : List ℕ → ℕ → TypeId → TypedPlace
+string text home t = typed.String (record { bytes = text; place = at 0 } ∷ []) (node home) t
+
+-- the name of a runtime function that is called, and calls of two
+abbrev pub runtime_call : Runtime → TypedExpr
+runtime_call function = typed.RuntimeName (name [] (at 0)) function (type 0)
+
+abbrev pub put : TypedExpr → TypedExpr
+put e = typed.CallRuntime runtime.Putchar (runtime_call runtime.Putchar) (at 0) (arguments (e ∷ [])) int
+
+abbrev pub get : TypedExpr
+get = typed.CallRuntime runtime.Getchar (runtime_call runtime.Getchar) (at 0) (arguments []) int
+
 -- Declarations
 
 abbrev pub form : Identifier → Home → TypedForm
@@ -118,6 +138,9 @@ runs s all = typed.AndStatement all s
 abbrev pub returns : Place → TypedExpr → Item
 returns place e all = typed.AndStatement all (typed.Return place (Some e))
 
+abbrev pub returns_nothing : Place → Item
+returns_nothing place all = typed.AndStatement all (typed.Return place None)
+
 abbrev pub body : List Item → TypedBlockItems
 body items = fold (λ all item. item all) typed.NoBlockItem items
 
@@ -134,6 +157,10 @@ parameters ps = fold (λ all p. typed.AndParameter all (specifiers p.1) (typed.D
 abbrev pub function : Identifier → TypeId → List (ℕ × TypeId) → List Item → TypedTranslationUnit → TypedTranslationUnit
 function x t ps items u = typed.AndFunctionBody u (specifiers t)
     (typed.Declares (typed.Form [] (typed.Names x home.None) (typed.AndFunction typed.NoPart (at 0) (parameters ps))) t) (at 0) (body items)
+
+-- a program that has a `main` alone, of this type
+abbrev pub main : TypeId → List Item → TypedTranslationUnit
+main t items = function (name (codes "main") (at 5)) t [] items typed.NoExternal
 
 abbrev pub global : ℕ → TypeId → TypedTranslationUnit → TypedTranslationUnit
 global n t u = typed.AndExternal u (typed.Declare (specifiers t) (typed.AndPlain typed.NoInitDeclarator (typed.Declares (form (name [] (at 0)) (home.Static (node n))) t)))

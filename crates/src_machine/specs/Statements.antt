@@ -1,5 +1,5 @@
 -- What initialisers, declarations and statements do (C99 6.7.8, 6.8).
-use Rattle.std.specs.Prelude.{ℕ, zero, suc, ◌+◌, ℤ, pos, Bool, true, false, not, ◌&&◌, ◌||◌, List, [], ◌∷◌, Option, None, Some}
+use Rattle.std.specs.Prelude.{ℕ, ℤ, pos, Bool, true, false, ◌||◌, List, [], ◌∷◌, Option, None, Some}
 use Rattle.std.specs.Ordering.{int_eq}
 use Rattle.cc_base.specs.declared.place.Place.{Place}
 use Rattle.cc_base.specs.declared.number.NodeId.{NodeId}
@@ -13,15 +13,16 @@ use Rattle.c_tree.specs.declared.typed_word.Home.{Home}
 use Rattle.c_tree.specs.declared.typed_word.Home.TheVariants as home
 use Rattle.c_tree.specs.TypedTree as typed
 use Rattle.c_tree.specs.TypedTree.{TypedExpr, TypedPlace, TypedInitialiser, TypedItems, TypedInitDeclarators, TypedDeclarator, TypedDeclaration, TypedStatement, TypedBlockItems}
-use Rattle.c_tree.specs.TypedParts.{type_of, place_type, declared_type, home_of}
-use Rattle.src_mem.specs.Pointers.{Pointer, Value, Integer, Address, is_true}
-use Rattle.src_mem.specs.State.{State, Act, Turns, given, as_integer, turn}
+use Rattle.c_tree.specs.TypedParts.{type_of, declared_type, home_of}
+use Rattle.src_mem.specs.Pointers.{Value, Integer, Address, is_true}
+use Rattle.src_mem.specs.State.{Act, Turns, given, as_integer, turn}
 use Rattle.src_mem.specs.Checks as checks
 use Rattle.src_mem.specs.Checks.{Condition, conditions_of, all_checked}
 use Rattle.src_mem.specs.Primitives.{clear}
 use Rattle.src_mem.specs.Uses.{write, copy_all, forward}
-use Rattle.src_machine.specs.World.{World, kind_in, object_of}
-use Rattle.src_machine.specs.Expressions.{Located, eval, locate, locate_object}
+use Rattle.src_mem.specs.Operations.{Located, kind_in}
+use Rattle.src_machine.specs.World.{World, object_of}
+use Rattle.src_machine.specs.Expressions.{eval, locate, locate_object}
 
 -- Initialisers
 
@@ -48,8 +49,8 @@ element_of_shape other = record { 0 = 0 }
 abbrev pub store_text : World → Place → TypeId → List ℕ → Located → Act (Unit {0})
 store_text w at char [] l = done tt
 store_text w at char (b ∷ bytes) l = do
-    write w.setting at at l.kind char l.pointer (Integer (pos b))
-    store_text w at char bytes (record l { pointer = forward 1 l.pointer })
+  write w.setting at at l.kind char l.pointer (Integer (pos b))
+  store_text w at char bytes (record l { pointer = forward 1 l.pointer })
 
 -- the object, so many bytes further
 abbrev pub part_of : ℕ → Located → Located
@@ -64,11 +65,11 @@ abbrev mutual
   -- what initialises the type t at a place of an object; `at` is the place of the `=`
   pub initialise : TypedInitialiser → Place → TypeId → Located → World → Act (Unit {0})
   initialise (typed.Value e) at t l w = do
-      v ← eval e w
-      write w.setting (place_of_value e at) (place_of_value e at) l.kind t l.pointer v
+    v ← eval e w
+    write w.setting (place_of_value e at) (place_of_value e at) l.kind t l.pointer v
   initialise (typed.Copied p place) at t l w = do
-      r ← locate p w
-      copy_all w.setting t r.at r.kind r.pointer place l.kind l.pointer place
+    r ← locate p w
+    copy_all w.setting t r.at r.kind r.pointer place l.kind l.pointer place
   initialise (typed.Text pieces bytes) at t l w = store_text w at (element_of_shape (shape_at w.setting.table t)) bytes l
   initialise (typed.Listed brace items comma u) at t l w = initialise_items items at l w
 
@@ -76,15 +77,15 @@ abbrev mutual
   pub initialise_items : TypedItems → Place → Located → World → Act (Unit {0})
   initialise_items typed.NoItem at l w = done tt
   initialise_items (typed.AndItem all offset t i) at l w = do
-      initialise_items all at l w
-      initialise i at t (part_of offset l) w
+    initialise_items all at l w
+    initialise i at t (part_of offset l) w
 
 -- the object with this home, of type t, is initialised; `at` is the place of the `=`
 abbrev pub initialise_object : World → NodeId → TypeId → Place → TypedInitialiser → Act (Unit {0})
 initialise_object w node t at i = do
-    l ← locate_object w node t at
-    either (clears w i) (given (object_of w node) clear) (done tt)
-    initialise i at t l w
+  l ← locate_object w node t at
+  either (clears w i) (given (object_of w node) clear) (done tt)
+  initialise i at t l w
 
 -- Declarations. Objects that live as long as the program were initialised before `main`.
 
@@ -96,8 +97,8 @@ abbrev pub declare_all : TypedInitDeclarators → World → Act (Unit {0})
 declare_all typed.NoInitDeclarator w = done tt
 declare_all (typed.AndPlain all d) w = declare_all all w
 declare_all (typed.AndInitialised all d at i) w = do
-    declare_all all w
-    initialise_declared w (home_of d) (declared_type d) at i
+  declare_all all w
+  initialise_declared w (home_of d) (declared_type d) at i
 
 abbrev pub declare : TypedDeclaration → World → Act (Unit {0})
 declare (typed.Declare specifiers all) w = declare_all all w
@@ -156,21 +157,21 @@ effect (Some e) w = eval e w >> done tt
 -- the rounds of `while` and `for`: condition, body, step
 abbrev pub while_loop : Act Bool → Act Flow → Act (Unit {0}) → Act Flow
 while_loop test body step = loop (do
-    go ← test
-    either go (do
-        flow ← body
-        then_round (round_of flow) step) (done (Leaves 0)))
+  go ← test
+  either go (do
+    flow ← body
+    then_round (round_of flow) step) (done (Leaves 0)))
 
 -- those of `do`: body, condition
 abbrev pub do_loop : Act Flow → Act Bool → Act Flow
 do_loop body test = loop (do
-    flow ← body
-    again (round_of flow))
+  flow ← body
+  again (round_of flow))
   where
     again : Control Value → Act (Control Value)
     again Goes = do
-        go ← test
-        either go (done Goes) (done (Leaves 0))
+      go ← test
+      either go (done Goes) (done (Leaves 0))
     again x = done x
 
 -- A `switch` begins behind the `case` of its value, else behind its `default`, else nowhere.
@@ -233,51 +234,51 @@ flow_of_progress (Runs flow) = flow_of_switch flow
 abbrev pub returned : World → Place → TypeId → Value → Act Flow
 returned w at t (Integer z) = done (Returns (Integer z))
 returned w at t (Address p) = do
-    all_checked w.setting at (conditions_of (checks.Return w.frame.depth) (kind_in w t) p)
-    done (Returns (Address p))
+  all_checked w.setting at (conditions_of (checks.Return w.frame.depth) (kind_in w.setting t) p)
+  done (Returns (Address p))
 
 abbrev mutual
   pub exec : TypedStatement → World → Act Flow
   exec (typed.Block brace items) w = exec_items items w
   exec (typed.Express e) w = do
-      eval e w
-      done Normal
+    eval e w
+    done Normal
   exec typed.Empty w = done Normal
   exec (typed.If at paren c s) w = do
-      v ← eval c w
-      either (is_true v) (exec s w) (done Normal)
+    v ← eval c w
+    either (is_true v) (exec s w) (done Normal)
   exec (typed.IfElse at paren c s r) w = do
-      v ← eval c w
-      either (is_true v) (exec s w) (exec r w)
+    v ← eval c w
+    either (is_true v) (exec s w) (exec r w)
   exec (typed.Switch at paren e brace items) w = do
-      v ← eval e w
-      z ← as_integer v
-      progress ← exec_from (chosen items z) items w
-      done (flow_of_progress progress)
+    v ← eval e w
+    z ← as_integer v
+    progress ← exec_from (chosen items z) items w
+    done (flow_of_progress progress)
   exec (typed.While at paren c s) w = while_loop (condition (Some c) w) (exec s w) (done tt)
   exec (typed.DoWhile s at paren c) w = do_loop (exec s w) (condition (Some c) w)
   exec (typed.For at paren first c step s) w = do
-      effect first w
-      while_loop (condition c w) (exec s w) (effect step w)
+    effect first w
+    while_loop (condition c w) (exec s w) (effect step w)
   exec (typed.ForDeclaration at paren d c step s) w = do
-      declare d w
-      while_loop (condition c w) (exec s w) (effect step w)
+    declare d w
+    while_loop (condition c w) (exec s w) (effect step w)
   exec (typed.Break at) w = done Breaks
   exec (typed.Continue at) w = done Continues
   exec (typed.Return at None) w = done (Returns (Integer (pos 0)))
   exec (typed.Return at (Some e)) w = do
-      v ← eval e w
-      returned w at (type_of e) v
+    v ← eval e w
+    returned w at (type_of e) v
 
   -- what a block holds, in order
   pub exec_items : TypedBlockItems → World → Act Flow
   exec_items typed.NoBlockItem w = done Normal
   exec_items (typed.AndStatement all s) w = do
-      flow ← exec_items all w
-      then_do flow (exec s w)
+    flow ← exec_items all w
+    then_do flow (exec s w)
   exec_items (typed.AndDeclaration all d) w = do
-      flow ← exec_items all w
-      then_do flow (declare d w >> done Normal)
+    flow ← exec_items all w
+    then_do flow (declare d w >> done Normal)
   exec_items (typed.AndCase all at e z) w = exec_items all w
   exec_items (typed.AndDefault all at) w = exec_items all w
 
@@ -285,14 +286,14 @@ abbrev mutual
   pub exec_from : Label → TypedBlockItems → World → Act Progress
   exec_from label typed.NoBlockItem w = done Looks
   exec_from label (typed.AndStatement all s) w = do
-      progress ← exec_from label all w
-      then_run progress (exec s w)
+    progress ← exec_from label all w
+    then_run progress (exec s w)
   exec_from label (typed.AndDeclaration all d) w = do
-      progress ← exec_from label all w
-      then_run progress (declare d w >> done Normal)
+    progress ← exec_from label all w
+    then_run progress (declare d w >> done Normal)
   exec_from label (typed.AndCase all at e z) w = do
-      progress ← exec_from label all w
-      done (begins_at (is_case label z) progress)
+    progress ← exec_from label all w
+    done (begins_at (is_case label z) progress)
   exec_from label (typed.AndDefault all at) w = do
-      progress ← exec_from label all w
-      done (begins_at (is_default label) progress)
+    progress ← exec_from label all w
+    done (begins_at (is_default label) progress)

@@ -8,3 +8,5 @@ pub mod Uses
 pub mod Facts
 pub mod Laws
 pub mod Runtime
+pub mod Operations
+pub mod Runs

@@ -1,8 +1,6 @@
-pub mod Operations
 pub mod State
 pub mod Meaning
 pub mod Machine
 pub mod Typing
 pub mod Shape
 pub mod Sites
-pub mod Solutions

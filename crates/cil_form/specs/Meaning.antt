@@ -3,6 +3,7 @@
 use Rattle.std.specs.Prelude.{ℕ, suc, ◌+◌, pos, Bool, not, List, [], ◌∷◌, map}
 use Rattle.std.specs.List.{range_with_len}
 use Rattle.cc_base.specs.declared.kind.Kind.{Kind}
+use Rattle.cc_base.specs.declared.number.NodeId.{NodeId}
 use Rattle.cc_base.specs.declared.number.TypeId.{TypeId}
 use Rattle.cc_base.specs.declared.place.Place.{Place}
 use Rattle.integers.specs.Arithmetic as integer
@@ -13,9 +14,11 @@ use Rattle.src_mem.specs.Pointers.{Pointer, Null, Function, Value, Integer, Addr
 use Rattle.src_mem.specs.State.{Act, Turns, as_integer, as_pointer, turn}
 use Rattle.src_mem.specs.Checks as checks
 use Rattle.src_mem.specs.Checks.{conditions_of, all_checked}
-use Rattle.src_mem.specs.Primitives.{called, pointer_from, clear}
+use Rattle.src_mem.specs.Primitives.{address, called, pointer_from, clear}
 use Rattle.src_mem.specs.Runtime.{malloc, calloc, free, getchar, putchar, exits}
 use Rattle.src_mem.specs.Uses.{read, write, copy_all, home, forward}
+use Rattle.src_mem.specs.Operations as operations
+use Rattle.src_mem.specs.Operations.{kind_in, pointee, integer_in, signed_by, moved, subtracted, compared, converted_pointer, allocated_for, member, decayed, size}
 use Rattle.cil_form.specs.declared.number.Object.{Object}
 use Rattle.cil_form.specs.declared.number.Object.TheVariants as object
 use Rattle.cil_form.specs.declared.instr.Comparison.{Comparison}
@@ -43,8 +46,6 @@ use Rattle.cil_form.specs.declared.instr.RuntimeCall.{RuntimeCall}
 use Rattle.cil_form.specs.declared.instr.RuntimeCall.TheVariants as runtime
 use Rattle.cil_form.specs.declared.instr.Instr.{Instr, Row_of-Instr, end_of-Instr, more_of-Instr}
 use Rattle.cil_form.specs.declared.instr.Instr.TheVariants as instr
-use Rattle.cil_form.specs.Operations as operations
-use Rattle.cil_form.specs.Operations.{kind_in, pointee, integer_in, signed_by, moved, subtracted, compared, converted_pointer, member, decayed, addressed, for_pointer}
 use Rattle.cil_form.specs.State.{Temporaries, Step, Around, on_state, gives_to, changes_none}
 
 -- Constants and copies
@@ -126,7 +127,7 @@ abbrev pub difference_value : Around → Place → TypeId → TypeId → Value �
 difference_value w at t s v u = do
   p ← as_pointer v
   q ← as_pointer u
-  n ← subtracted w.setting at t s p q
+  n ← subtracted w.setting at t p (record { kind = kind_in w.setting s; pointer = q })
   done (Integer n)
 
 abbrev pub compare_values : Around → Place → Comparison → Bool → TypeId → TypeId → Value → Value → Act Value
@@ -136,22 +137,22 @@ compare_values w at comparison null t s v u = do
   result ← compared w.setting at (operator_of_comparison comparison) null (record { kind = kind_in w.setting t; pointer = p }) (record { kind = kind_in w.setting s; pointer = q })
   done (Integer (truth result))
 
--- the address that an operation makes of a pointer
-abbrev pub address_of : Value → (Pointer → Act Pointer) → Act Value
-address_of v act = do
-  p ← as_pointer v
-  q ← act p
-  done (Address q)
-
 abbrev pub act_point : Point → Around → Step
 act_point (point.Move into p n way t at) w = λ c. gives_to into.0 (move_value w at way t (c.temps p.0) (c.temps n.0)) c
 act_point (point.Difference into a t b s at) w = λ c. gives_to into.0 (difference_value w at t s (c.temps a.0) (c.temps b.0)) c
 act_point (point.Compare into comparison a t b s null at) w = λ c. gives_to into.0 (compare_values w at comparison null t s (c.temps a.0) (c.temps b.0)) c
-act_point (point.Member into from outer t i inner u at) w =
-    λ c. gives_to into.0 (address_of (c.temps from.0) (member w.setting at (w.setting.kind outer) t i inner u)) c
-act_point (point.Decay into from outer array check inner element at) w =
-    λ c. gives_to into.0 (address_of (c.temps from.0) (decayed w.setting at check (w.setting.kind outer) inner array element)) c
-act_point (point.Address into from outer inner t) w = λ c. gives_to into.0 (address_of (c.temps from.0) (addressed w.setting inner t)) c
+act_point (point.Member into from outer t i inner u at) w = λ c. gives_to into.0 (do
+  p ← as_pointer (c.temps from.0)
+  l ← member w.setting at (w.setting.kind outer) t i inner u p
+  done (Address l.pointer)) c
+act_point (point.Decay into from outer array check inner element at) w = λ c. gives_to into.0 (do
+  p ← as_pointer (c.temps from.0)
+  q ← decayed w.setting check inner array element (record { kind = w.setting.kind outer; pointer = p; at = at })
+  done (Address q)) c
+act_point (point.Address into from outer inner t) w = λ c. gives_to into.0 (do
+  p ← as_pointer (c.temps from.0)
+  q ← address (w.setting.kind inner) 0 (size w.setting t) t p
+  done (Address q)) c
 
 -- Conversions
 
@@ -163,7 +164,10 @@ act_convert (convert.ToPointer into from t at) w = λ c. gives_to into.0 (do
   z ← as_integer (c.temps from.0)
   p ← pointer_from z
   done (Address p)) c
-act_convert (convert.Pointer into from t u at) w = λ c. gives_to into.0 (address_of (c.temps from.0) (converted_pointer w.setting at t u)) c
+act_convert (convert.Pointer into from t u at) w = λ c. gives_to into.0 (do
+  p ← as_pointer (c.temps from.0)
+  q ← converted_pointer w.setting at t u p
+  done (Address q)) c
 
 -- Loads, stores and copies
 
@@ -190,13 +194,17 @@ act_access (access.Copy to to_place from node from_place t assignment) w = λ c.
 
 -- Blocks and calls
 
+-- a block that was made for a pointer of the node to t
+abbrev pub allocated : Around → Place → NodeId → TypeId → Act Value → Act Value
+allocated w at node t block = do
+  v ← block
+  p ← as_pointer v
+  allocated_for w.setting at node t p
+  done v
+
 abbrev pub act_allocate : Allocate → Around → Step
-act_allocate (allocate.Malloc into n node t at) w = λ c. gives_to into.0 (do
-  v ← malloc w.setting node t (c.temps n.0 ∷ [])
-  for_pointer w.setting at node t v) c
-act_allocate (allocate.Calloc into m n node t at) w = λ c. gives_to into.0 (do
-  v ← calloc w.setting node t (c.temps m.0 ∷ c.temps n.0 ∷ [])
-  for_pointer w.setting at node t v) c
+act_allocate (allocate.Malloc into n node t at) w = λ c. gives_to into.0 (allocated w at node t (malloc w.setting node t (c.temps n.0 ∷ []))) c
+act_allocate (allocate.Calloc into m n node t at) w = λ c. gives_to into.0 (allocated w at node t (calloc w.setting node t (c.temps m.0 ∷ c.temps n.0 ∷ []))) c
 
 -- what so many temporaries hold, from `first` on
 abbrev pub row_of : Temporaries → ℕ → ℕ → List Value

@@ -1,6 +1,7 @@
 -- The sites of a program in three-address code: what its pointer types, its objects and its instructions ask of the kinds of the
 -- nodes, and what no instruction shows.
 use Rattle.std.specs.Prelude.{List, [], ◌∷◌, ◌++◌, flat_map, map}
+use Rattle.cc_base.specs.declared.kind.Kind.{Kind}
 use Rattle.cc_base.specs.declared.number.NodeId.{NodeId}
 use Rattle.cc_base.specs.declared.number.TypeId.{TypeId}
 use Rattle.cc_base.specs.declared.place.Place.{Place}
@@ -9,6 +10,7 @@ use Rattle.c_types.specs.declared.shape.TypeShape.TheVariants as shape
 use Rattle.c_types.specs.declared.site.Site.{Site}
 use Rattle.c_types.specs.declared.site.Site.TheVariants.{Flow, Arith, Integer, Linked, Pointee, Home}
 use Rattle.c_types.specs.Table.{Table, shape_at}
+use Rattle.c_types.specs.Solutions.{IsSolution}
 use Rattle.src_mem.specs.Memory.{Planned}
 use Rattle.cil_form.specs.declared.instr.Comparison.{Comparison}
 use Rattle.cil_form.specs.declared.instr.Comparison.TheVariants as comparison
@@ -25,7 +27,7 @@ use Rattle.cil_form.specs.declared.instr.Allocate.TheVariants as allocate
 use Rattle.cil_form.specs.declared.instr.Instr.{Instr, Row_of-Instr, end_of-Instr, more_of-Instr}
 use Rattle.cil_form.specs.declared.instr.Instr.TheVariants as instr
 use Rattle.cil_form.specs.declared.program.Program.{Program}
-use Rattle.cil_form.specs.Operations.{node_of_shape, pointee_of_shape}
+use Rattle.src_mem.specs.Operations.{node_of_shape, pointee_of_shape}
 use Rattle.cil_form.specs.Machine.{plan, variables_of}
 
 abbrev pub node_at : Table → TypeId → NodeId
@@ -103,3 +105,7 @@ sites_in p =
     ++ sites_of_code p.initialisers.0.items p.types
     ++ flat_map (λ f. sites_of_code f.body.0.items p.types) p.functions
     ++ p.sites
+
+-- A map from nodes to kinds is a solution of a program in three-address code where it is one of its sites.
+abbrev pub IsSolutionOf : Program → (NodeId → Kind) → Type 0
+IsSolutionOf p kind = IsSolution p.types (sites_in p) kind

@@ -1,9 +1,10 @@
 -- What three-address code runs on: the state of the program, and the temporaries of the call.
-use Rattle.std.specs.Prelude.{ℕ, pos, List, nat_eq, if◌then◌else◌}
+use Rattle.std.specs.Prelude.{ℕ, pos, nat_eq, if◌then◌else◌}
 use Rattle.runs.specs.Outcome.{Outcome, Ended, Done, Run, done, leaves, ◌>>=◌, ◌>>◌}
 use Rattle.runs.specs.Control.{Control, Goes}
 use Rattle.src_mem.specs.Pointers.{Value, Integer}
 use Rattle.src_mem.specs.State.{Ending, State, Act, Setting}
+use Rattle.src_mem.specs.Runs.{Calls}
 
 -- the temporaries by their numbers
 abbrev pub Temporaries : Type 0
@@ -23,8 +24,8 @@ pub record Around : Type 0 where
   -- the depth of the call, and the number of the first object among its variables
   pub depth : ℕ
   pub first : ℕ
-  -- what a call of a defined function does, by its number, its depth and its arguments
-  pub call : ℕ → ℕ → List Value → Act Value
+  -- what calls of defined functions do
+  pub call : Calls
 
 -- the temporaries with which a call begins
 abbrev pub no_temps : Temporaries

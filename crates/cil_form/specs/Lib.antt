@@ -4,3 +4,4 @@ pub mod Machine
 pub mod Typing
 pub mod Shape
 pub mod Sites
+pub mod Laws

@@ -19,6 +19,7 @@ use Rattle.src_mem.specs.Runtime.{malloc, calloc, free, getchar, putchar, exits}
 use Rattle.src_mem.specs.Uses.{read, write, copy_all, home, forward}
 use Rattle.src_mem.specs.Operations as operations
 use Rattle.src_mem.specs.Operations.{kind_in, pointee, integer_in, signed_by, moved, subtracted, compared, converted_pointer, allocated_for, member, decayed, size}
+use Rattle.cil_form.specs.declared.number.Temp.{Temp}
 use Rattle.cil_form.specs.declared.number.Object.{Object}
 use Rattle.cil_form.specs.declared.number.Object.TheVariants as object
 use Rattle.cil_form.specs.declared.instr.Comparison.{Comparison}
@@ -59,12 +60,20 @@ number_of w (object.Variable k) = w.first + k.0
 abbrev pub pointer_to : Around → Object → TypeId → Pointer
 pointer_to w o t = home w.setting.table (number_of w o) t
 
-abbrev pub act_set : Set → Around → Step
-act_set (set.Integer into z t) w = gives_to into.0 (done (Integer z))
-act_set (set.Null into t) w = gives_to into.0 (done (Address Null))
-act_set (set.Function into f t) w = gives_to into.0 (done (Address (Function f.0)))
-act_set (set.Object into o node t) w = gives_to into.0 (done (Address (pointer_to w o t)))
-act_set (set.Copy into from) w = λ c. gives_to into.0 (done (c.temps from.0)) c
+-- where an instruction leaves its value, and which it is
+abbrev pub into_of_set : Set → Temp
+into_of_set (set.Integer into z t) = into
+into_of_set (set.Null into t) = into
+into_of_set (set.Function into f t) = into
+into_of_set (set.Object into o node t) = into
+into_of_set (set.Copy into from) = into
+
+abbrev pub set_value : Set → Around → Temporaries → Act Value
+set_value (set.Integer into z t) w temps = done (Integer z)
+set_value (set.Null into t) w temps = done (Address Null)
+set_value (set.Function into f t) w temps = done (Address (Function f.0))
+set_value (set.Object into o node t) w temps = done (Address (pointer_to w o t))
+set_value (set.Copy into from) w temps = done (temps from.0)
 
 -- Integers
 
@@ -103,12 +112,19 @@ calculated w at operator t v u = do
   z ← operations.calculate w.setting at (operator_of operator) (integer_in w.setting t) x y
   done (Integer z)
 
-abbrev pub act_calculate : Calculate → Around → Step
-act_calculate (calculate.Negate into a t) w = λ c. gives_to into.0 (prefixed w integer.Negate t (c.temps a.0)) c
-act_calculate (calculate.Complement into a t) w = λ c. gives_to into.0 (prefixed w integer.Complement t (c.temps a.0)) c
-act_calculate (calculate.Binary into operator a b t at) w = λ c. gives_to into.0 (calculated w at operator t (c.temps a.0) (c.temps b.0)) c
-act_calculate (calculate.Truth into a) w = λ c. gives_to into.0 (done (Integer (truth (is_true (c.temps a.0))))) c
-act_calculate (calculate.Not into a) w = λ c. gives_to into.0 (done (Integer (truth (not (is_true (c.temps a.0)))))) c
+abbrev pub into_of_calculate : Calculate → Temp
+into_of_calculate (calculate.Negate into a t) = into
+into_of_calculate (calculate.Complement into a t) = into
+into_of_calculate (calculate.Binary into operator a b t at) = into
+into_of_calculate (calculate.Truth into a) = into
+into_of_calculate (calculate.Not into a) = into
+
+abbrev pub calculate_value : Calculate → Around → Temporaries → Act Value
+calculate_value (calculate.Negate into a t) w temps = prefixed w integer.Negate t (temps a.0)
+calculate_value (calculate.Complement into a t) w temps = prefixed w integer.Complement t (temps a.0)
+calculate_value (calculate.Binary into operator a b t at) w temps = calculated w at operator t (temps a.0) (temps b.0)
+calculate_value (calculate.Truth into a) w temps = done (Integer (truth (is_true (temps a.0))))
+calculate_value (calculate.Not into a) w temps = done (Integer (truth (not (is_true (temps a.0)))))
 
 -- Pointers
 
@@ -137,37 +153,56 @@ compare_values w at comparison null t s v u = do
   result ← compared w.setting at (operator_of_comparison comparison) null (record { kind = kind_in w.setting t; pointer = p }) (record { kind = kind_in w.setting s; pointer = q })
   done (Integer (truth result))
 
-abbrev pub act_point : Point → Around → Step
-act_point (point.Move into p n way t at) w = λ c. gives_to into.0 (move_value w at way t (c.temps p.0) (c.temps n.0)) c
-act_point (point.Difference into a t b s at) w = λ c. gives_to into.0 (difference_value w at t s (c.temps a.0) (c.temps b.0)) c
-act_point (point.Compare into comparison a t b s null at) w = λ c. gives_to into.0 (compare_values w at comparison null t s (c.temps a.0) (c.temps b.0)) c
-act_point (point.Member into from outer t i inner u at) w = λ c. gives_to into.0 (do
-  p ← as_pointer (c.temps from.0)
+-- the address that an operation makes of a pointer
+abbrev pub address_from : Value → (Pointer → Act Pointer) → Act Value
+address_from v make = do
+  p ← as_pointer v
+  q ← make p
+  done (Address q)
+
+-- the address of a member
+abbrev pub member_of : Around → Place → NodeId → TypeId → ℕ → NodeId → TypeId → Pointer → Act Pointer
+member_of w at outer t i inner u p = do
   l ← member w.setting at (w.setting.kind outer) t i inner u p
-  done (Address l.pointer)) c
-act_point (point.Decay into from outer array check inner element at) w = λ c. gives_to into.0 (do
-  p ← as_pointer (c.temps from.0)
-  q ← decayed w.setting check inner array element (record { kind = w.setting.kind outer; pointer = p; at = at })
-  done (Address q)) c
-act_point (point.Address into from outer inner t) w = λ c. gives_to into.0 (do
-  p ← as_pointer (c.temps from.0)
-  q ← address (w.setting.kind inner) 0 (size w.setting t) t p
-  done (Address q)) c
+  done l.pointer
+
+-- the address of an array's first element
+abbrev pub element_of : Around → Place → NodeId → TypeId → Bool → NodeId → TypeId → Pointer → Act Pointer
+element_of w at outer array check inner element p =
+    decayed w.setting check inner array element (record { kind = w.setting.kind outer; pointer = p; at = at })
+
+abbrev pub into_of_point : Point → Temp
+into_of_point (point.Move into p n way t at) = into
+into_of_point (point.Difference into a t b s at) = into
+into_of_point (point.Compare into comparison a t b s null at) = into
+into_of_point (point.Member into from outer t i inner u at) = into
+into_of_point (point.Decay into from outer array check inner element at) = into
+into_of_point (point.Address into from outer inner t) = into
+
+abbrev pub point_value : Point → Around → Temporaries → Act Value
+point_value (point.Move into p n way t at) w temps = move_value w at way t (temps p.0) (temps n.0)
+point_value (point.Difference into a t b s at) w temps = difference_value w at t s (temps a.0) (temps b.0)
+point_value (point.Compare into comparison a t b s null at) w temps = compare_values w at comparison null t s (temps a.0) (temps b.0)
+point_value (point.Member into from outer t i inner u at) w temps = address_from (temps from.0) (member_of w at outer t i inner u)
+point_value (point.Decay into from outer array check inner element at) w temps = address_from (temps from.0) (element_of w at outer array check inner element)
+point_value (point.Address into from outer inner t) w temps = address_from (temps from.0) (address (w.setting.kind inner) 0 (size w.setting t) t)
 
 -- Conversions
 
-abbrev pub act_convert : Convert → Around → Step
-act_convert (convert.Integer into from t) w = λ c. gives_to into.0 (do
-  z ← as_integer (c.temps from.0)
-  done (Integer (converted (integer_in w.setting t) z))) c
-act_convert (convert.ToPointer into from t at) w = λ c. gives_to into.0 (do
-  z ← as_integer (c.temps from.0)
+abbrev pub into_of_convert : Convert → Temp
+into_of_convert (convert.Integer into from t) = into
+into_of_convert (convert.ToPointer into from t at) = into
+into_of_convert (convert.Pointer into from t u at) = into
+
+abbrev pub convert_value : Convert → Around → Temporaries → Act Value
+convert_value (convert.Integer into from t) w temps = do
+  z ← as_integer (temps from.0)
+  done (Integer (converted (integer_in w.setting t) z))
+convert_value (convert.ToPointer into from t at) w temps = do
+  z ← as_integer (temps from.0)
   p ← pointer_from z
-  done (Address p)) c
-act_convert (convert.Pointer into from t u at) w = λ c. gives_to into.0 (do
-  p ← as_pointer (c.temps from.0)
-  q ← converted_pointer w.setting at t u p
-  done (Address q)) c
+  done (Address p)
+convert_value (convert.Pointer into from t u at) w temps = address_from (temps from.0) (converted_pointer w.setting at t u)
 
 -- Loads, stores and copies
 
@@ -179,18 +214,30 @@ abbrev pub target_pointer : Around → Target → Temporaries → Act Pointer
 target_pointer w (target.Pointer p node) temps = as_pointer (temps p.0)
 target_pointer w (target.Part o node t offset) temps = done (forward offset (pointer_to w o t))
 
+-- the scalar of type t that a pointer of the node points to
+abbrev pub loaded : Around → Place → NodeId → TypeId → Value → Act Value
+loaded w at node t v = do
+  p ← as_pointer v
+  read w.setting at (w.setting.kind node) t p
+
+abbrev pub stored : Around → Target → TypeId → Place → Place → Temporaries → Value → Act (Unit {0})
+stored w to t at assignment temps v = do
+  p ← target_pointer w to temps
+  write w.setting at assignment (target_kind w to) t p v
+
+-- a struct or union of type t is copied from what a pointer of the node points to
+abbrev pub copied : Around → Target → Place → NodeId → Place → TypeId → Place → Temporaries → Value → Act (Unit {0})
+copied w to to_place node from_place t assignment temps v = do
+  q ← target_pointer w to temps
+  p ← as_pointer v
+  copy_all w.setting t from_place (w.setting.kind node) p to_place (target_kind w to) q assignment
+
 abbrev pub act_access : Access → Around → Step
-act_access (access.Load into from node t at) w = λ c. gives_to into.0 (do
-  p ← as_pointer (c.temps from.0)
-  read w.setting at (w.setting.kind node) t p) c
-act_access (access.Store to v t at assignment) w = λ c. changes_none (do
-  p ← target_pointer w to c.temps
-  write w.setting at assignment (target_kind w to) t p (c.temps v.0)) c
-act_access (access.Clear o) w = changes_none (clear (number_of w o))
-act_access (access.Copy to to_place from node from_place t assignment) w = λ c. changes_none (do
-  q ← target_pointer w to c.temps
-  p ← as_pointer (c.temps from.0)
-  copy_all w.setting t from_place (w.setting.kind node) p to_place (target_kind w to) q assignment) c
+act_access (access.Load into from node t at) w = λ c. gives_to into.0 (loaded w at node t (c.temps from.0)) c
+act_access (access.Store to v t at assignment) w = λ c. changes_none (stored w to t at assignment c.temps (c.temps v.0)) c
+act_access (access.Clear o) w = λ c. changes_none (clear (number_of w o)) c
+act_access (access.Copy to to_place from node from_place t assignment) w =
+    λ c. changes_none (copied w to to_place node from_place t assignment c.temps (c.temps from.0)) c
 
 -- Blocks and calls
 
@@ -202,9 +249,13 @@ allocated w at node t block = do
   allocated_for w.setting at node t p
   done v
 
-abbrev pub act_allocate : Allocate → Around → Step
-act_allocate (allocate.Malloc into n node t at) w = λ c. gives_to into.0 (allocated w at node t (malloc w.setting node t (c.temps n.0 ∷ []))) c
-act_allocate (allocate.Calloc into m n node t at) w = λ c. gives_to into.0 (allocated w at node t (calloc w.setting node t (c.temps m.0 ∷ c.temps n.0 ∷ []))) c
+abbrev pub into_of_allocate : Allocate → Temp
+into_of_allocate (allocate.Malloc into n node t at) = into
+into_of_allocate (allocate.Calloc into m n node t at) = into
+
+abbrev pub allocate_value : Allocate → Around → Temporaries → Act Value
+allocate_value (allocate.Malloc into n node t at) w temps = allocated w at node t (malloc w.setting node t (temps n.0 ∷ []))
+allocate_value (allocate.Calloc into m n node t at) w temps = allocated w at node t (calloc w.setting node t (temps m.0 ∷ temps n.0 ∷ []))
 
 -- what so many temporaries hold, from `first` on
 abbrev pub row_of : Temporaries → ℕ → ℕ → List Value
@@ -217,14 +268,17 @@ call_value w at t v arguments = do
   all_checked w.setting at (conditions_of (checks.Call (pointee w.setting t) (suc w.depth)) (kind_in w.setting t) p)
   called p (λ f. w.call f (suc w.depth) arguments)
 
-abbrev pub act_call : Call → Around → Step
-act_call call w = λ c. gives_to call.into.0 (call_value w call.place call.ty (c.temps call.callee.0) (row_of c.temps call.first.0 call.count)) c
+abbrev pub into_of_runtime : RuntimeCall → Temp
+into_of_runtime (runtime.Free into p) = into
+into_of_runtime (runtime.Getchar into) = into
+into_of_runtime (runtime.Putchar into v) = into
+into_of_runtime (runtime.Exit into v) = into
 
-abbrev pub act_runtime : RuntimeCall → Around → Step
-act_runtime (runtime.Free into p) w = λ c. gives_to into.0 (free (c.temps p.0 ∷ [])) c
-act_runtime (runtime.Getchar into) w = gives_to into.0 (getchar [])
-act_runtime (runtime.Putchar into v) w = λ c. gives_to into.0 (putchar (c.temps v.0 ∷ [])) c
-act_runtime (runtime.Exit into v) w = λ c. gives_to into.0 (exits (c.temps v.0 ∷ [])) c
+abbrev pub runtime_value : RuntimeCall → Temporaries → Act Value
+runtime_value (runtime.Free into p) temps = free (temps p.0 ∷ [])
+runtime_value (runtime.Getchar into) temps = getchar []
+runtime_value (runtime.Putchar into v) temps = putchar (temps v.0 ∷ [])
+runtime_value (runtime.Exit into v) temps = exits (temps v.0 ∷ [])
 
 -- Control
 
@@ -241,14 +295,14 @@ loop body c = rounds Turns c.state.turns (on_state turn >> body) c
 
 abbrev mutual
   pub act : Instr → Around → Step
-  act (instr.Set i) w = act_set i w
-  act (instr.Calculate i) w = act_calculate i w
-  act (instr.Point i) w = act_point i w
-  act (instr.Convert i) w = act_convert i w
+  act (instr.Set i) w = λ c. gives_to (into_of_set i).0 (set_value i w c.temps) c
+  act (instr.Calculate i) w = λ c. gives_to (into_of_calculate i).0 (calculate_value i w c.temps) c
+  act (instr.Point i) w = λ c. gives_to (into_of_point i).0 (point_value i w c.temps) c
+  act (instr.Convert i) w = λ c. gives_to (into_of_convert i).0 (convert_value i w c.temps) c
   act (instr.Access i) w = act_access i w
-  act (instr.Allocate i) w = act_allocate i w
-  act (instr.Call i) w = act_call i w
-  act (instr.Runtime i) w = act_runtime i w
+  act (instr.Allocate i) w = λ c. gives_to (into_of_allocate i).0 (allocate_value i w c.temps) c
+  act (instr.Call i) w = λ c. gives_to i.into.0 (call_value w i.place i.ty (c.temps i.callee.0) (row_of c.temps i.first.0 i.count)) c
+  act (instr.Runtime i) w = λ c. gives_to (into_of_runtime i).0 (runtime_value i c.temps) c
   act (instr.If' t shape code shape' other) w = λ c. either (is_true (c.temps t.0)) (act_row code w) (act_row other w) c
   act (instr.Block' shape code) w = block (act_row code w)
   act (instr.Loop' shape code) w = loop (act_row code w)

@@ -251,9 +251,10 @@ IsShapedAllocate (allocate.Calloc into m n node t at) k types after = IsNode k n
 abbrev pub AreArguments : Context → Typing → Temp → List TypeId → Type 0
 AreArguments k types first parameters = (i : ℕ) (t : TypeId) → slice_get parameters i ≡ Some t → HoldsOf k types (record { 0 = first.0 + i }) t
 
+-- calls are made in functions alone
 abbrev pub IsShapedCall : Call → Context → Typing → Typing → Type 0
 IsShapedCall call k types after = (node : NodeId) × (u : TypeId) × (parameters : _) × (result : TypeId) × IsPointer k call.ty node u
-    × (shape_at k.table u ≡ shape.Function parameters result) × (call.count ≡ length parameters)
+    × (shape_at k.table u ≡ shape.Function parameters result) × (call.count ≡ length parameters) × IsSome k.result
     × Holds types call.callee (PointerTo node u) × AreArguments k types call.first parameters × Leaves types call.into (held_by k result) after
 
 abbrev pub IsShapedRuntime : RuntimeCall → Context → Typing → Typing → Type 0
@@ -264,9 +265,16 @@ IsShapedRuntime (runtime.Exit into v) k types after = Holds types v (IntegerOf i
 
 -- Code
 
--- the context inside a block or loop that begins with what `types` knows: as much is known wherever it is left
+-- the context inside a block or loop that begins with what `entry` knows: as much is known wherever it is left
 abbrev pub inside : Context → Typing → Context
-inside k types = record k { blocks = suc k.blocks; kept = types }
+inside k entry = record k { blocks = suc k.blocks; kept = entry }
+
+-- A block or loop that begins and ends with what `entry` knows stands between the two typings. It knows what is kept where the block around it
+-- is left, which may be from inside it.
+pub record Passes (types entry : Typing) (k : Context) (after : Typing) : Type 0 where
+  pub begins : Includes types entry
+  pub keeps : Includes entry k.kept
+  pub ends : Includes entry after
 
 -- a function that gives nothing
 abbrev pub GivesNothing : Context → Type 0
@@ -285,8 +293,8 @@ abbrev mutual
   IsShaped (instr.Call i) k types after = IsShapedCall i k types after
   IsShaped (instr.Runtime i) k types after = IsShapedRuntime i k types after
   IsShaped (instr.If' t shape code shape' other) k types after = HoldsScalar types t × IsRowShaped code k types after × IsRowShaped other k types after
-  IsShaped (instr.Block' shape code) k types after = Includes types k.kept × IsRowShaped code (inside k types) types types × Includes types after
-  IsShaped (instr.Loop' shape code) k types after = Includes types k.kept × IsRowShaped code (inside k types) types types × Includes types after
+  IsShaped (instr.Block' shape code) k types after = (entry : Typing) × Passes types entry k after × IsRowShaped code (inside k entry) entry entry
+  IsShaped (instr.Loop' shape code) k types after = (entry : Typing) × Passes types entry k after × IsRowShaped code (inside k entry) entry entry
   IsShaped (instr.Break n) k types after = (n < k.blocks) × Includes types k.kept
   IsShaped instr.Return k types after = GivesNothing k
   IsShaped (instr.ReturnValue v t at) k types after = (k.result ≡ Some t) × HoldsOf k types v t

@@ -5,3 +5,5 @@ pub mod Typing
 pub mod Shape
 pub mod Sites
 pub mod Laws
+pub mod Small
+pub mod Programs

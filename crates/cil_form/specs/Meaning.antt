@@ -42,7 +42,6 @@ use Rattle.cil_form.specs.declared.instr.Access.{Access}
 use Rattle.cil_form.specs.declared.instr.Access.TheVariants as access
 use Rattle.cil_form.specs.declared.instr.Allocate.{Allocate}
 use Rattle.cil_form.specs.declared.instr.Allocate.TheVariants as allocate
-use Rattle.cil_form.specs.declared.instr.Call.{Call}
 use Rattle.cil_form.specs.declared.instr.RuntimeCall.{RuntimeCall}
 use Rattle.cil_form.specs.declared.instr.RuntimeCall.TheVariants as runtime
 use Rattle.cil_form.specs.declared.instr.Instr.{Instr, Row_of-Instr, end_of-Instr, more_of-Instr}
@@ -289,9 +288,12 @@ returned w at t (Address p) = do
   all_checked w.setting at (conditions_of (checks.Return w.depth) (kind_in w.setting t) p)
   done (Gives (Address p))
 
--- a loop of rounds, each of which takes its turn first
+-- a round of a loop takes its turn first
+abbrev pub round_of : Step → Step
+round_of body = on_state turn >> body
+
 abbrev pub loop : Step → Step
-loop body c = rounds Turns c.state.turns (on_state turn >> body) c
+loop body c = rounds Turns c.state.turns (round_of body) c
 
 abbrev mutual
   pub act : Instr → Around → Step

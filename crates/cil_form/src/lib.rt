@@ -3,6 +3,7 @@
 
 mod cil;
 mod instr;
+pub mod laws;
 mod number;
 mod program;
 

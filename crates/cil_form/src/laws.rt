@@ -1,0 +1,63 @@
+//! Laws of three-address code. Each is the contract of a function that does nothing, so that it is proved once and can be cited.
+
+ghost use Rattle.std.specs.Prelude.{◌≡◌, ℕ, suc, List, [], ◌∷◌, ◌++◌};
+ghost use Rattle.std.specs.declared.alloc.Global.{Global};
+ghost use Rattle.cc_base.specs.declared.fault.Check.TheVariants.{Bounds};
+ghost use Rattle.runs.specs.Outcome.{Ended, Done, from, either};
+ghost use Rattle.runs.specs.Control.{Leaves, then_go, block, go_round, rounds};
+ghost use Rattle.src_mem.specs.Pointers.{is_true};
+ghost use Rattle.src_mem.specs.State.{Exited, Turns, Stopped};
+ghost use Rattle.cil_form.specs.declared.number.Temp.{Temp};
+ghost use Rattle.cil_form.specs.declared.instr.Instr.{Instr};
+ghost use Rattle.cil_form.specs.declared.instr.Instr.TheVariants.{If, Block, Loop, Break};
+ghost use Rattle.cil_form.specs.declared.instr.Code.{Code};
+ghost use Rattle.cil_form.specs.State.{Local, Step, Around};
+ghost use Rattle.cil_form.specs.Meaning.{act, run, round_of, loop};
+ghost use Rattle.cil_form.specs.Laws.{CodeWritesFrom, Keeps};
+ghost use Rattle.cil_form.specs.Small.{at, shown, access};
+ghost use Rattle.cil_form.specs.Programs.{loop_run, call_run, access_run};
+
+/// Code after code: the first runs, and then the second where the first goes on.
+pub fn code_runs_after_code()
+    ensures { (is js : List Instr) (w : Around) (c : Local) → run (is ++ js) w c ≡ from (run is w c) (λ x. then_go x (run js w)) }
+{}
+
+/// What stands behind a `break` doesn't run.
+pub fn nothing_runs_behind_a_break()
+    ensures { (k : ℕ) (is : List Instr) (w : Around) (c : Local) → run (Break k ∷ is) w c ≡ Done (Leaves k) c }
+{}
+
+/// The code that an instruction holds runs as the list of its instructions does.
+pub fn held_code_runs_as_its_list()
+    ensures choice { (t : Temp) (x y : Code) (w : Around) (c : Local) → act (If t x y) w c ≡ either (is_true (c.temps t.0)) (run x.0.items w) (run y.0.items w) c }
+    ensures once { (x : Code) (w : Around) (c : Local) → act (Block x) w c ≡ block (run x.0.items w) c }
+    ensures again { (x : Code) (w : Around) (c : Local) → act (Loop x) w c ≡ loop (run x.0.items w) c }
+{}
+
+/// A loop takes a turn before each round, and makes no more rounds than there are turns where it begins.
+pub fn a_loop_takes_a_turn_a_round()
+    ensures spent { (body : Step) (c : Local) → c.state.turns ≡ 0 → loop body c ≡ Ended Turns c }
+    ensures round { (body : Step) (n : ℕ) (c : Local) → c.state.turns ≡ suc n → loop body c ≡ from (round_of body c) (λ x. go_round x (rounds Turns n (round_of body))) }
+{}
+
+/// Code that writes no temporary below a number keeps all below it, however it is left.
+pub fn temporaries_below_are_kept()
+    ensures { (is : List Instr) (w : Around) (low : ℕ) (c : Local) → CodeWritesFrom is low → Keeps low c.temps (run is w c) }
+{}
+
+/// `int main(void){int i;while(i<3){putchar('a');i=i+1;}return i;}` makes four rounds: it ends with 4 turns, and not with 3.
+pub fn a_loop_runs()
+    ensures ending { (alloc : Global) → (loop_run alloc 4).ending ≡ Exited 3 }
+    ensures output { (alloc : Global) → (loop_run alloc 4).output ≡ 97 ∷ 97 ∷ 97 ∷ [] }
+    ensures spent { (alloc : Global) → (loop_run alloc 3).ending ≡ Turns }
+{}
+
+/// `int f(int a){return a+1;}int main(void){return f(4);}` enters `main` and then `f`, stores the argument and loads it.
+pub fn a_call_runs()
+    ensures { (alloc : Global) → shown (call_run alloc) ≡ record { ending = Exited 5; output = []; entered = 1 ∷ 0 ∷ []; accesses = access 0 0 4 ∷ access 0 0 4 ∷ [] } }
+{}
+
+/// `int main(void){int a[3];a[3]=1;return 0;}` stops before the store, which touches nothing.
+pub fn a_checked_access_stops()
+    ensures { (alloc : Global) → shown (access_run alloc) ≡ record { ending = Stopped Bounds (at 26); output = []; entered = 0 ∷ []; accesses = [] } }
+{}

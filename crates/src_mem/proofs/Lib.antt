@@ -2,3 +2,4 @@ pub mod Lists
 pub mod Whole
 pub mod Accesses
 pub mod Spots
+pub mod Right

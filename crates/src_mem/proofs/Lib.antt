@@ -3,3 +3,4 @@ pub mod Whole
 pub mod Accesses
 pub mod Spots
 pub mod Right
+pub mod NotWrong

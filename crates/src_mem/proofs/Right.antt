@@ -239,7 +239,7 @@ pub record Begins (cells : List Cell) (at : ℕ) : Type 0 where
   pub first : IsFirst cell
 
 -- what holds a type whose first cell is a pointer's
-holds_first : (w : Setting) (cells : List Cell) (at high : ℕ) (t : TypeId) → HoldType w cells at high t → Begins (cells_of w.table t) 0 → Begins cells at
+pub holds_first : (w : Setting) (cells : List Cell) (at high : ℕ) (t : TypeId) → HoldType w cells at high t → Begins (cells_of w.table t) 0 → Begins cells at
 holds_first w cells at high t h b = of (h.agree 0 b.cell b.found)
   where
     of : ((c : Cell) × (slice_get cells (at + 0) ≡ Some c) × CellsAgree w c b.cell) → Begins cells at
@@ -276,8 +276,14 @@ begins_first E (x ∷ xs) (y ∷ ys) h b = record { cell = x; found = refl; firs
     of (incomplete t) (mixed u j) e f = absurd (cc (e))
     of (incomplete t) (incomplete u) e f = absurd (cc (f.is))
 
+-- a type that begins with one whose first cell is a pointer's
+pub made_begins : (table : Table) (made t : TypeId) → begins_with table made t ≡ true → Begins (cells_of table t) 0 → Begins (cells_of table made) 0
+made_begins table made t h b =
+    begins_first (physically_equal table) (cells_of table made) (cells_of table t)
+    (second_true (not (is_function table t)) (begins (physically_equal table) (cells_of table made) (cells_of table t)) (second_true (not (is_function table made)) _ h)) b
+
 -- a word where a pointer begins is zero, or a pointer is stored there
-begins_holds : (w : Setting) (objects : List Object) (o : Object) (at : ℕ) → IsSoundObject w objects o → w.kind o.node ≢ Wild → Begins o.cells at → holds_pointer_at at o ≡ true
+pub begins_holds : (w : Setting) (objects : List Object) (o : Object) (at : ℕ) → IsSoundObject w objects o → w.kind o.node ≢ Wild → Begins o.cells at → holds_pointer_at at o ≡ true
 begins_holds w objects o at sound untagged b =
     by (is_some (o.pointers at)) (sound.zeros untagged at b.first.node b.first.to (subst (λ c. slice_get o.cells at ≡ Some c) b.first.is b.found))
   where
@@ -285,7 +291,7 @@ begins_holds w objects o at sound untagged b =
     by true e = refl
     by false e = ap (λ n. n == 0) e
 
-pointer_begins : (table : Table) (t : TypeId) (n : NodeId) (u : TypeId) → shape_at table t ≡ shape.Pointer n u → Begins (cells_of table t) 0
+pub pointer_begins : (table : Table) (t : TypeId) (n : NodeId) (u : TypeId) → shape_at table t ≡ shape.Pointer n u → Begins (cells_of table t) 0
 pointer_begins table t n u e = record {
   cell = pointer n u 0;
   found = ap (λ cs. slice_get cs 0) (pointer_cells_are table t n u e);
@@ -305,7 +311,7 @@ same_repeated : (cs : List Cell) (i j : ℕ) → length cs ≡ 8 → i % 8 ≡ j
 same_repeated cs i j l e =
     ap (λ k. slice_index_or cs (i % k) raw) l ∙ ap (λ k. slice_index_or cs k raw) e ∙ ap (λ k. slice_index_or cs (j % k) raw) (sym l)
 
-sequence_begins : (w : Setting) (objects : List Object) (t : TypeId) (n : NodeId) (u : TypeId) (l : Location) (v : IsSequenceAt w objects t l) (at : ℕ)
+pub sequence_begins : (w : Setting) (objects : List Object) (t : TypeId) (n : NodeId) (u : TypeId) (l : Location) (v : IsSequenceAt w objects t l) (at : ℕ)
     → shape_at w.table t ≡ shape.Pointer n u → l.offset ≡ pos at → l.part.low ≤ at → at + 8 ≤ l.part.high → Begins v.object.cells at
 sequence_begins w objects t n u l v at e offset low high = of ((v.filled complete).agree (at - l.part.low) (omega (arith, low, high)))
   where

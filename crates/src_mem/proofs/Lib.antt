@@ -4,3 +4,4 @@ pub mod Accesses
 pub mod Spots
 pub mod Right
 pub mod NotWrong
+pub mod OperationsRight

@@ -1,6 +1,5 @@
 -- Operations with their conditions before them are wrong nowhere, on pointers and in a memory that meet the facts.
-use Rattle.std.proofs.Common.{◌≡◌, ◌≢◌, ℕ, zero, suc, ◌+◌, ◌<◌, ◌≤◌, ◌⊎◌, inl, inr, ℤ, pos, negsuc, ◌+ℤ◌, Bool, true, false, not, ◌&&◌, List, [], ◌∷◌, length, nat_le, slice_get, Option, None, Some, refl, ap, sym, subst, ◌∙◌, ⊎_elim, arith}
-use Rattle.std.specs.Prelude.{⊤, IsTrue}
+use Rattle.std.proofs.Common.{◌≡◌, ◌≢◌, ℕ, ℤ, pos, Bool, true, false, ◌&&◌, List, [], ◌∷◌, length, slice_get, Some, refl, ap, sym, subst, ◌∙◌, arith}
 use Rattle.std.specs.List.{list_all}
 use Rattle.cc_base.specs.declared.place.Place.{Place}
 use Rattle.cc_base.specs.declared.number.TypeId.{TypeId}
@@ -9,19 +8,19 @@ use Rattle.cc_base.specs.declared.kind.Kind.{Kind}
 use Rattle.cc_base.specs.declared.kind.Kind.TheVariants.{Safe, Seq, Rtti, Wild}
 use Rattle.c_types.specs.declared.shape.TypeShape.{TypeShape}
 use Rattle.c_types.specs.declared.shape.TypeShape.TheVariants as shape
-use Rattle.c_types.specs.Table.{shape_at, is_function}
+use Rattle.c_types.specs.Table.{shape_at}
 use Rattle.c_types.specs.Equality.{cells_of}
-use Rattle.runs.specs.Outcome.{Outcome, Ended, Done, Run, done, leaves, allowed, from, ◌>>=◌, ◌>>◌}
+use Rattle.runs.specs.Outcome.{Outcome, Ended, Done, done, leaves, allowed, from, ◌>>=◌}
 use Rattle.integers.specs.Words.{word}
 use Rattle.integers.specs.Arithmetic.{IntegerType, converted}
 use Rattle.flat_mem.specs.Bytes.{number}
-use Rattle.src_mem.specs.Pointers.{Part, Location, Pointer, Null, Number, At, Function, Value, Integer, Address}
+use Rattle.src_mem.specs.Pointers.{Location, Pointer, At, Value, Integer, Address}
 use Rattle.src_mem.specs.Memory.{Object, Memory, with_integer, with_pointer, holds_pointer_at, pointer_or_null}
 use Rattle.src_mem.specs.State.{Ending, Exited, Stopped, Turns, Wants, Wrong, State, Act, Setting, given, touched}
-use Rattle.src_mem.specs.Checks.{Condition, Used, NotNull, InBounds, InObject, HasBase, HoldsNone, HoldsPointer, IsAligned, Outlives, ReadInteger, ReadPointer, WriteInteger, WritePointer, Move, conditions_of, check_of, holds, looks, object_at, checked, all_placed, all_checked, place_of_write}
-use Rattle.src_mem.specs.Primitives.{Spot, spot, access, with_object, load_integer, load_pointer, store_integer, store_pointer, move, difference, is_before}
-use Rattle.src_mem.specs.Uses.{read, read_shape, write, store_shape, conditions_of_write}
-use Rattle.src_mem.specs.Facts.{IsHeld, IsSoundMemory, IsSoundObject, LivesAt, IsSafeAt, IsTypedAt, IsSequenceAt, IsWildAt}
+use Rattle.src_mem.specs.Checks.{Condition, InObject, HoldsNone, HoldsPointer, IsAligned, Outlives, ReadInteger, ReadPointer, WriteInteger, WritePointer, conditions_of, check_of, holds, looks, object_at, all_placed, place_of_write}
+use Rattle.src_mem.specs.Primitives.{Spot, spot, access, with_object, load_integer, load_pointer, store_integer, store_pointer}
+use Rattle.src_mem.specs.Uses.{read_shape, store_shape, conditions_of_write}
+use Rattle.src_mem.specs.Facts.{IsHeld, IsSoundMemory, IsSafeAt, IsTypedAt, IsSequenceAt}
 use Rattle.src_mem.specs.Laws.{IsNotWrong, IsScalar, IsScalarValue}
 use Rattle.src_mem.proofs.Spots.{IsRight, spot-right}
 use Rattle.src_mem.proofs.Right.{MayTouch, Begins, bounds_of, touches, integer_cells, pointer_cells_are, no_function, begins_holds, holds_first, made_begins, pointer_begins, sequence_begins}
@@ -62,11 +61,11 @@ access_right kind p m next s may h =
 
 -- Reads and writes
 
-first_holds : (b c : Bool) → (b && c) ≡ true → b ≡ true
+pub first_holds : (b c : Bool) → (b && c) ≡ true → b ≡ true
 first_holds true c h = refl
 first_holds false c h = h
 
-second_holds : (b c : Bool) → (b && c) ≡ true → c ≡ true
+pub second_holds : (b c : Bool) → (b && c) ≡ true → c ≡ true
 second_holds true c h = h
 second_holds false c h = absurd (cc (h))
 
@@ -202,7 +201,7 @@ read_pointer_right w place depth kind t p s n u sound e held =
         access_right kind p 8 (λ at. allowed (holds_pointer_at at.at at.object) Wrong (done (pointer_or_null (at.object.pointers at.at)))) s
         (touches w s.memory depth 8 kind t p held (no_function w.table t (shape.Pointer n u) e refl) (omega (arith, c)) (pointer_bounds w s.memory kind p h))
         (λ l o at f r. allowed_right (holds_pointer_at at o) (pointer_or_null (o.pointers at)) (touched l.object at 8 s)
-            (word_holds w s.memory depth kind t n u p l o at sound e (subst (λ q. IsHeld w s.memory.objects depth kind t q) f held) f r h))
+        (word_holds w s.memory depth kind t n u p l o at sound e (subst (λ q. IsHeld w s.memory.objects depth kind t q) f held) f r h))
 
 -- a scalar is read, and written
 pub read_right : (w : Setting) (place : Place) (depth : ℕ) (kind : Kind) (t : TypeId) (p : Pointer) (s : State) (sh : TypeShape)

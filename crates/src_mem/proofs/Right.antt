@@ -1,7 +1,6 @@
 -- No access is wrong whose conditions hold, through a pointer and in a memory that meet the facts.
-use Rattle.std.proofs.Common.{◌≡◌, ◌≢◌, ℕ, zero, suc, ◌+◌, ◌-◌, ◌%◌, ◌<◌, ◌≤◌, ◌⊎◌, inl, inr, min, ℤ, pos, negsuc, ◌+ℤ◌, ◌-ℤ◌, Bool, true, false, not, ◌&&◌, ◌||◌, List, [], ◌∷◌, length, length-take, take, replicate, nat_le, slice_get, Option, None, Some, refl, ap, sym, subst, ◌∙◌, arith}
-use Rattle.std.specs.Prelude.{⊤, slice_index_or, int_le, is_some, ◌==◌, IsTrue, IsFalse}
-use Rattle.std.specs.List.{list_all}
+use Rattle.std.proofs.Common.{◌≡◌, ◌≢◌, ℕ, ◌+◌, ◌-◌, ◌%◌, ◌≤◌, ℤ, pos, negsuc, ◌+ℤ◌, ◌-ℤ◌, Bool, true, false, not, ◌&&◌, ◌||◌, List, [], ◌∷◌, length, length-take, take, nat_le, slice_get, Some, refl, ap, sym, subst, ◌∙◌, arith}
+use Rattle.std.specs.Prelude.{slice_index_or, is_some, ◌==◌}
 use lib.Pointwise.{pointwise_long}
 use Rattle.std.proofs.lemmas.Bool.Decides.{nat_tests}
 use Rattle.std.proofs.lemmas.List.{length-replicate}
@@ -17,12 +16,11 @@ use Rattle.c_types.specs.Layouts.{layout_of, layout_of_shape, layout_step, no_la
 use Rattle.integers.specs.Words.{residue}
 use Rattle.c_types.specs.Cells.{Cell, raw, pointer, mixed, incomplete, cells_at, cells_step, cells_of_shape, all_alike, begins, alike, Relation, pointer_cells}
 use Rattle.c_types.specs.Equality.{cells_of, physically_equal, begins_with, repeated_cell}
-use Rattle.src_mem.specs.Pointers.{Part, Location, Pointer, Null, Number, At, Function, is_null, is_at, distance}
+use Rattle.src_mem.specs.Pointers.{Location, Pointer, Null, Number, At, Function, is_null, distance}
 use Rattle.src_mem.specs.Memory.{Object, Memory, size_of_object, holds_pointer_at}
 use Rattle.src_mem.specs.State.{Setting}
-use Rattle.src_mem.specs.Checks.{Condition, NotNull, InBounds, InObject, HoldsNone, HoldsPointer, IsAligned, holds, fits_between}
-use Rattle.src_mem.specs.Primitives.{reach}
-use Rattle.src_mem.specs.Facts.{CellsAgree, RepeatType, IsSameShifted, IsSoundObject, IsSoundMemory, IsLocated, IsSafeAt, IsTypedAt, IsSequenceAt, IsWildAt, IsFunctionOf, IsValueOf, IsHeld, LivesAt, HoldType, StandsAt}
+use Rattle.src_mem.specs.Checks.{Condition, NotNull, InBounds, InObject, holds, fits_between}
+use Rattle.src_mem.specs.Facts.{CellsAgree, IsSoundObject, IsSafeAt, IsTypedAt, IsSequenceAt, IsWildAt, IsFunctionOf, IsHeld, LivesAt, HoldType}
 use Rattle.src_mem.proofs.Spots.{IsRight}
 
 first_true : (a b : Bool) → (a && b) ≡ true → a ≡ true
@@ -57,17 +55,17 @@ in_part Seq n objects l m o at found live offset low high inside = record { foun
 in_part Rtti n objects l m o at found live offset low high inside = record { found = found; live = live; offset = offset; low = low; high = grind arith }
 in_part Wild n objects l m o at found live offset low high inside = absurd (n refl)
 
-safe≢wild : Safe ≢ Wild
+pub safe≢wild : Safe ≢ Wild
 safe≢wild e = absurd (cc (e))
 
-seq≢wild : Seq ≢ Wild
+pub seq≢wild : Seq ≢ Wild
 seq≢wild e = absurd (cc (e))
 
-rtti≢wild : Rtti ≢ Wild
+pub rtti≢wild : Rtti ≢ Wild
 rtti≢wild e = absurd (cc (e))
 
 -- a SAFE pointer to a data type that isn't null may touch as many bytes as the type has cells
-safe_touches : (w : Setting) (objects : List Object) (depth m : ℕ) (t : TypeId) (p : Pointer)
+pub safe_touches : (w : Setting) (objects : List Object) (depth m : ℕ) (t : TypeId) (p : Pointer)
     → IsHeld w objects depth Safe t p → is_function w.table t ≡ false → not (is_null p) ≡ true → m ≤ length (cells_of w.table t) → MayTouch Safe objects p m
 safe_touches w objects depth m t Null held data_type not_null room = absurd (cc (not_null))
 safe_touches w objects depth m t (Number n) held data_type not_null room = absurd held.value
@@ -84,8 +82,8 @@ safe_touches w objects depth m t (At l) held data_type not_null room = of held.v
       object = v.object;
       at = v.at;
       right =
-        in_part Safe safe≢wild objects l m v.object v.at v.located.found (live_object objects depth l.object v.object v.located.found lives)
-        v.stands.offset v.stands.low (let h = v.holds.room in omega (arith, h, room)) v.located.inside;
+          in_part Safe safe≢wild objects l m v.object v.at v.located.found (live_object objects depth l.object v.object v.located.found lives)
+          v.stands.offset v.stands.low (let h = v.holds.room in omega (arith, h, room)) v.located.inside;
     }
 
 -- m bytes that fit between two ends begin at a byte
@@ -105,7 +103,7 @@ fits low high m (pos at) h = record {
 fits low high m (negsuc n) h = absurd (cc (h))
 
 -- a SEQ pointer with its bounds
-sequence_touches : (w : Setting) (memory : Memory) (depth m : ℕ) (t : TypeId) (p : Pointer)
+pub sequence_touches : (w : Setting) (memory : Memory) (depth m : ℕ) (t : TypeId) (p : Pointer)
     → IsHeld w memory.objects depth Seq t p → holds w memory (InBounds m p) ≡ true → MayTouch Seq memory.objects p m
 sequence_touches w memory depth m t Null held bounds = absurd (cc (bounds))
 sequence_touches w memory depth m t (Number n) held bounds = absurd (cc (bounds))
@@ -119,8 +117,8 @@ sequence_touches w memory depth m t (At l) held bounds = of held.value held.reac
       object = v.object;
       at = f.at;
       right =
-        in_part Seq seq≢wild memory.objects l m v.object f.at v.located.found (live_object memory.objects depth l.object v.object v.located.found lives)
-        f.offset f.low_end f.high_end v.located.inside;
+          in_part Seq seq≢wild memory.objects l m v.object f.at v.located.found (live_object memory.objects depth l.object v.object v.located.found lives)
+          f.offset f.low_end f.high_end v.located.inside;
     }
 
 -- a WILD pointer in its object
@@ -150,13 +148,13 @@ wild_touches w memory depth m t (At l) held bounds = of held.value held.reaches 
 longer : (table : Table) (made t : TypeId) → begins_with table made t ≡ true → length (cells_of table t) ≤ length (cells_of table made)
 longer table made t h =
     let long = pointwise_long (alike (physically_equal table)) (take (length (cells_of table t)) (cells_of table made)) (cells_of table t)
-      (second_true (not (is_function table t)) (all_alike (physically_equal table) (take (length (cells_of table t)) (cells_of table made)) (cells_of table t))
-      (second_true (not (is_function table made)) _ h)) in
+    (second_true (not (is_function table t)) (all_alike (physically_equal table) (take (length (cells_of table t)) (cells_of table made)) (cells_of table t))
+    (second_true (not (is_function table made)) _ h)) in
     let l = length-take (length (cells_of table t)) (cells_of table made) in
     omega (arith, long, l)
 
 -- an RTTI pointer that isn't null
-typed_touches : (w : Setting) (objects : List Object) (depth m : ℕ) (t : TypeId) (p : Pointer)
+pub typed_touches : (w : Setting) (objects : List Object) (depth m : ℕ) (t : TypeId) (p : Pointer)
     → IsHeld w objects depth Rtti t p → not (is_null p) ≡ true → m ≤ length (cells_of w.table t) → MayTouch Rtti objects p m
 typed_touches w objects depth m t Null held not_null room = absurd (cc (not_null))
 typed_touches w objects depth m t (Number n) held not_null room = absurd held.value
@@ -170,8 +168,8 @@ typed_touches w objects depth m t (At l) held not_null room = of held.value held
       object = v.object;
       at = v.at;
       right =
-        in_part Rtti rtti≢wild objects l m v.object v.at v.located.found (live_object objects depth l.object v.object v.located.found lives)
-        v.stands.offset v.stands.low (let h = v.holds.room in let k = longer w.table l.made t v.covers.begins in omega (arith, h, k, room)) v.located.inside;
+          in_part Rtti rtti≢wild objects l m v.object v.at v.located.found (live_object objects depth l.object v.object v.located.found lives)
+          v.stands.offset v.stands.low (let h = v.holds.room in let k = longer w.table l.made t v.covers.begins in omega (arith, h, k, room)) v.located.inside;
     }
 
 -- the first of the conditions of each access, by kind

@@ -3,6 +3,8 @@ use Rattle.std.specs.Prelude.{◌≡◌, ℕ, List, length, slice_get, Some, ⊤
 use Rattle.flat_mem.specs.Bytes.{number}
 use Rattle.c_types.specs.declared.shape.TypeShape.{TypeShape}
 use Rattle.c_types.specs.declared.shape.TypeShape.TheVariants as shape
+use Rattle.integers.specs.Arithmetic as integer
+use Rattle.integers.specs.Arithmetic.{Operator}
 use Rattle.runs.specs.Outcome.{Outcome, Ended, Done}
 use Rattle.src_mem.specs.Pointers.{Pointer, Value, Integer, Address}
 use Rattle.src_mem.specs.Memory.{Object}
@@ -46,3 +48,11 @@ abbrev pub IsScalarValue : TypeShape → Value → Type 0
 IsScalarValue (shape.Integer bytes signed) (Integer z) = ⊤
 IsScalarValue (shape.Pointer node to) (Address p) = ⊤
 IsScalarValue other v = ⊥
+
+-- `<`, `>`, `<=` and `>=`
+abbrev pub IsOrder : Operator → Type 0
+IsOrder integer.Less = ⊤
+IsOrder integer.LessOrEqual = ⊤
+IsOrder integer.Greater = ⊤
+IsOrder integer.GreaterOrEqual = ⊤
+IsOrder operator = ⊥

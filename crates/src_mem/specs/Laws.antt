@@ -1,8 +1,12 @@
 -- The words of the laws on memory.
 use Rattle.std.specs.Prelude.{◌≡◌, ℕ, List, length, slice_get, Some, ⊤}
 use Rattle.flat_mem.specs.Bytes.{number}
+use Rattle.c_types.specs.declared.shape.TypeShape.{TypeShape}
+use Rattle.c_types.specs.declared.shape.TypeShape.TheVariants as shape
+use Rattle.integers.specs.Arithmetic as integer
+use Rattle.integers.specs.Arithmetic.{Operator}
 use Rattle.runs.specs.Outcome.{Outcome, Ended, Done}
-use Rattle.src_mem.specs.Pointers.{Pointer}
+use Rattle.src_mem.specs.Pointers.{Pointer, Value, Integer, Address}
 use Rattle.src_mem.specs.Memory.{Object}
 use Rattle.src_mem.specs.State.{Ending, Wrong, State, Act}
 
@@ -33,3 +37,22 @@ abbrev pub IsNotWrong : {A : Type 0} → Outcome Ending State A → Type 0
 IsNotWrong (Ended Wrong s) = ⊥
 IsNotWrong (Ended e s) = ⊤
 IsNotWrong (Done a s) = ⊤
+
+-- an integer or pointer type, and a value that is one of its values
+abbrev pub IsScalar : TypeShape → Type 0
+IsScalar (shape.Integer bytes signed) = ⊤
+IsScalar (shape.Pointer node to) = ⊤
+IsScalar other = ⊥
+
+abbrev pub IsScalarValue : TypeShape → Value → Type 0
+IsScalarValue (shape.Integer bytes signed) (Integer z) = ⊤
+IsScalarValue (shape.Pointer node to) (Address p) = ⊤
+IsScalarValue other v = ⊥
+
+-- `<`, `>`, `<=` and `>=`
+abbrev pub IsOrder : Operator → Type 0
+IsOrder integer.Less = ⊤
+IsOrder integer.LessOrEqual = ⊤
+IsOrder integer.Greater = ⊤
+IsOrder integer.GreaterOrEqual = ⊤
+IsOrder operator = ⊥

@@ -13,6 +13,7 @@ ghost use Rattle.cil_form.specs.declared.instr.Instr.TheVariants.{If, Block, Loo
 ghost use Rattle.cil_form.specs.declared.instr.Code.{Code};
 ghost use Rattle.cil_form.specs.State.{Local, Step, Around};
 ghost use Rattle.cil_form.specs.Meaning.{act, run, round_of, loop};
+ghost use Rattle.cil_form.specs.Typing.{Typing, Context, Includes, HoldsScalar, Passes, inside, IsShaped, AreShaped};
 ghost use Rattle.cil_form.specs.Laws.{CodeWritesFrom, Keeps};
 ghost use Rattle.cil_form.specs.Small.{at, shown, access};
 ghost use Rattle.cil_form.specs.Programs.{loop_run, call_run, access_run};
@@ -43,6 +44,24 @@ pub fn a_loop_takes_a_turn_a_round()
 /// Code that writes no temporary below a number keeps all below it, however it is left.
 pub fn temporaries_below_are_kept()
     ensures { (is : List Instr) (w : Around) (low : ℕ) (c : Local) → CodeWritesFrom is low → Keeps low c.temps (run is w c) }
+{}
+
+/// Code that is in shape stays so where more is known of the temporaries before it, and where less is kept behind it.
+pub fn more_may_be_known()
+    ensures before { (is : List Instr) (k : Context) (more less after : Typing) → Includes more less → AreShaped is k less after → AreShaped is k more after }
+    ensures behind { (is : List Instr) (k : Context) (types after less : Typing) → AreShaped is k types after → Includes after less → AreShaped is k types less }
+{}
+
+/// Code after code is in shape where what the first leaves is what the second begins with.
+pub fn code_after_code_is_in_shape()
+    ensures { (is js : List Instr) (k : Context) (types middle after : Typing) → AreShaped is k types middle → AreShaped js k middle after → AreShaped (is ++ js) k types after }
+{}
+
+/// An instruction that holds code is in shape where the list of its instructions is.
+pub fn held_code_is_in_shape_as_its_list()
+    ensures choice { (t : Temp) (x y : Code) (k : Context) (types after : Typing) → HoldsScalar types t → AreShaped x.0.items k types after → AreShaped y.0.items k types after → IsShaped (If t x y) k types after }
+    ensures once { (x : Code) (k : Context) (types entry after : Typing) → Passes types entry k after → AreShaped x.0.items (inside k entry) entry entry → IsShaped (Block x) k types after }
+    ensures again { (x : Code) (k : Context) (types entry after : Typing) → Passes types entry k after → AreShaped x.0.items (inside k entry) entry entry → IsShaped (Loop x) k types after }
 {}
 
 /// `int main(void){int i;while(i<3){putchar('a');i=i+1;}return i;}` makes four rounds: it ends with 4 turns, and not with 3.

@@ -16,7 +16,9 @@ ghost use Rattle.cil_form.specs.Meaning.{act, run, round_of, loop};
 ghost use Rattle.cil_form.specs.Typing.{Typing, Context, Includes, HoldsScalar, Passes, inside, IsShaped, AreShaped};
 ghost use Rattle.cil_form.specs.Laws.{CodeWritesFrom, Keeps};
 ghost use Rattle.cil_form.specs.Small.{at, shown, access};
-ghost use Rattle.cil_form.specs.Programs.{loop_run, call_run, access_run};
+ghost use Rattle.cil_form.specs.Programs.{loop_program, loop_run, call_program, call_run, access_program, access_run};
+ghost use Rattle.cil_form.specs.Shape.{IsInShape};
+ghost use Rattle.c_types.specs.Sound.{IsWellFormed};
 
 /// Code after code: the first runs, and then the second where the first goes on.
 pub fn code_runs_after_code()
@@ -79,4 +81,11 @@ pub fn a_call_runs()
 /// `int main(void){int a[3];a[3]=1;return 0;}` stops before the store, which touches nothing.
 pub fn a_checked_access_stops()
     ensures { (alloc : Global) → shown (access_run alloc) ≡ record { ending = Stopped Bounds (at 26); output = []; entered = 0 ∷ []; accesses = [] } }
+{}
+
+/// The three programs are in shape, as soon as their tables of types are well formed, which each table of `Types` is.
+pub fn small_programs_are_in_shape()
+    ensures looping { (alloc : Global) → IsWellFormed (loop_program alloc).types → IsInShape (loop_program alloc) }
+    ensures calling { (alloc : Global) → IsWellFormed (call_program alloc).types → IsInShape (call_program alloc) }
+    ensures accessing { (alloc : Global) → IsWellFormed (access_program alloc).types → IsInShape (access_program alloc) }
 {}

@@ -5,3 +5,4 @@ pub mod Spots
 pub mod Right
 pub mod NotWrong
 pub mod OperationsRight
+pub mod Keeping

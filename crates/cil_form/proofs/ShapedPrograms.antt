@@ -1,5 +1,5 @@
 -- The small programs are in shape.
-use Rattle.std.proofs.Common.{ℕ, zero, suc, subst, ◌<◌, ◌≤◌, ◌≡◌, refl, List, [], ◌∷◌, All, Option, Some, None, lit<, lit≤, arith}
+use Rattle.std.proofs.Common.{inl, ℕ, zero, suc, subst, ◌<◌, ◌≡◌, refl, List, [], ◌∷◌, All, Option, Some, lit<, lit≤, arith}
 use Rattle.std.proofs.lemmas.List.Elements.{All-cons, All-nil}
 use Rattle.std.specs.declared.alloc.Global.{Global}
 use Rattle.integers.specs.Arithmetic as integer
@@ -12,8 +12,8 @@ use Rattle.cil_form.specs.Machine.{variables_of}
 use Rattle.cil_form.specs.Programs.{loop_table, loop_round, loop_body, loop_main, loop_program, call_table, called_body, called, calling_body, calling, call_program, access_table, access_body, access_main, access_program}
 use denote.Hole.Carrier
 use Rattle.cil_form.specs.declared.instr.Instr.TheBlock.{shape-the_row-Instr-0, hidden-the_row-Instr-0}
-use Rattle.cil_form.specs.Shape.{context_of, context_in, AreNodesOf, IsPlanInShape, IsCodeInShape, IsFunctionInShape, IsInShape}
-use Rattle.cil_form.specs.Typing.{Typing, HeldType, IntegerOf, PointerTo, no_types, with_held, temporaries_limit, IsTemp, Includes, Leaves, inside, IsShaped, AreShaped, IsScalar, HoldsOf, AreArguments, same}
+use Rattle.cil_form.specs.Shape.{context_of, context_in, AreNodesOf, IsPlanInShape, IsFunctionInShape, IsInShape}
+use Rattle.cil_form.specs.Typing.{Typing, HeldType, IntegerOf, PointerTo, no_types, with_held, temporaries_limit, IsTemp, Includes, Leaves, inside, AreShaped, IsScalar, HoldsOf, AreArguments, same}
 use Rattle.cil_form.proofs.TypingLaws.{includes-all, shaped-if, shaped-loop}
 use Rattle.cil_form.specs.declared.instr.Instr.TheVariants as instr
 
@@ -108,7 +108,7 @@ loop_body-shaped alloc =
 loop_main-in_shape : (alloc : Global) → IsFunctionInShape (loop_program alloc) (loop_main alloc)
 unfolding shape-the_row-Instr-0 hidden-the_row-Instr-0 Carrier.hidden
 loop_main-in_shape alloc = record {
-  type = (int, lit< tt, refl);
+  type = (int, lit< tt, refl, inl (lit< tt, refl));
   parameters = lit≤ tt;
   scalars = All-nil _;
   variables = each-all (IsPlanInShape (loop_program alloc)) (variables_of (loop_main alloc)) ((lit< tt, (lit< tt, refl)), tt);
@@ -170,7 +170,7 @@ calling_body-shaped alloc =
 
 called-in_shape : (alloc : Global) → IsFunctionInShape (call_program alloc) (called alloc)
 called-in_shape alloc = record {
-  type = (int, lit< tt, refl);
+  type = (int, lit< tt, refl, inl (lit< tt, refl));
   parameters = lit≤ tt;
   scalars = each-all (λ x. IsScalar (context_of (call_program alloc)) x.ty) (called alloc).parameters ((lit< tt, refl), tt);
   variables = each-all (IsPlanInShape (call_program alloc)) (variables_of (called alloc)) ((lit< tt, (lit< tt, refl)), tt);
@@ -179,7 +179,7 @@ called-in_shape alloc = record {
 
 calling-in_shape : (alloc : Global) → IsFunctionInShape (call_program alloc) (calling alloc)
 calling-in_shape alloc = record {
-  type = (int, lit< tt, refl);
+  type = (int, lit< tt, refl, inl (lit< tt, refl));
   parameters = lit≤ tt;
   scalars = All-nil _;
   variables = All-nil _;
@@ -239,7 +239,7 @@ access_body-shaped alloc =
 
 access_main-in_shape : (alloc : Global) → IsFunctionInShape (access_program alloc) (access_main alloc)
 access_main-in_shape alloc = record {
-  type = (int, lit< tt, refl);
+  type = (int, lit< tt, refl, inl (lit< tt, refl));
   parameters = lit≤ tt;
   scalars = All-nil _;
   variables = each-all (IsPlanInShape (access_program alloc)) (variables_of (access_main alloc)) ((lit< tt, (lit< tt, refl)), tt);

@@ -1,5 +1,5 @@
 -- The laws of what is known of temporaries: more may be known before code than it asks, code after code, and the code that instructions hold.
-use Rattle.std.proofs.Common.{ℕ, ◌≡◌, refl, ap, ◌∙◌, sym, subst, Bool, true, false, List, [], ◌∷◌, ◌++◌, nat_eq, if◌then◌else◌, Option, Some, None, IsSome}
+use Rattle.std.proofs.Common.{ℕ, ◌≡◌, sym, subst, Bool, true, false, List, [], ◌∷◌, ◌++◌, nat_eq, if◌then◌else◌, Option, Some, None, IsSome}
 use Rattle.cc_base.specs.declared.number.TypeId.{TypeId}
 use Rattle.integers.specs.Arithmetic.{IntegerType}
 use Rattle.cil_form.specs.declared.number.Temp.{Temp}
@@ -26,7 +26,7 @@ use Rattle.cil_form.specs.declared.instr.Instr.{Instr, Row_of-Instr, end_of-Inst
 use Rattle.cil_form.specs.declared.instr.Instr.TheVariants as instr
 use Rattle.cil_form.specs.declared.instr.Instr.TheBlock.{hidden-the_row-Instr-0, items-the_row-Instr, items_hidden-the_row-Instr-0}
 use Rattle.cil_form.specs.declared.instr.Code.{Code}
-use Rattle.cil_form.specs.Typing.{HeldType, IntegerOf, PointerTo, Typing, Context, Includes, with_held, held_by, IsTemp, Holds, HoldsInteger, HoldsPointer, HoldsScalar, HoldsOf, Leaves, IsShapedSet, IsRightOperand, IsShapedCalculate, IsShapedPoint, IsShapedConvert, IsTarget, IsShapedAccess, IsShapedAllocate, AreArguments, IsShapedCall, IsShapedRuntime, Passes, inside, IsShaped, IsRowShaped, AreShaped}
+use Rattle.cil_form.specs.Typing.{HeldType, IntegerOf, Typing, Context, Includes, with_held, held_by, Holds, HoldsInteger, HoldsScalar, HoldsOf, Leaves, IsShapedSet, IsRightOperand, IsShapedCalculate, IsShapedPoint, IsShapedConvert, IsTarget, IsShapedAccess, IsShapedAllocate, IsShapedCall, IsShapedRuntime, Passes, inside, IsShaped, IsRowShaped, AreShaped}
 
 -- What is known
 

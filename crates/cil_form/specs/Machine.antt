@@ -11,7 +11,7 @@ use Rattle.runs.specs.Input.{Input}
 use Rattle.src_mem.specs.Pointers.{Value}
 use Rattle.src_mem.specs.Memory.{Object, Planned, new_variable, new_literal}
 use Rattle.src_mem.specs.State.{Ending, State, Act, Defined, Setting, wrong, given}
-use Rattle.src_mem.specs.Runs.{Body, Callable, SourceOutcome, call_within, run_main, run_program}
+use Rattle.src_mem.specs.Runs.{Body, Callable, SourceOutcome, call_within, nested_limit, run_main, run_program}
 use Rattle.cil_form.specs.declared.instr.Instr.{Instr}
 use Rattle.cil_form.specs.declared.number.Planned.{Planned as PlannedObject}
 use Rattle.cil_form.specs.declared.program.Parameter.{Parameter}
@@ -101,4 +101,4 @@ main_run p w n =
 abbrev pub code_run : Program → (NodeId → Kind) → Input → ℕ → SourceOutcome
 code_run p kind input turns =
     let w = setting_of p kind in
-    run_program (initialise_statics w p.initialisers.0.items) (main_run p w turns) (map (static_object p.types) p.statics) input turns
+    run_program (initialise_statics w p.initialisers.0.items) (main_run p w nested_limit) (map (static_object p.types) p.statics) input turns

@@ -1,5 +1,5 @@
 -- Three-address code in shape: what lowering ensures, and what curing stands on.
-use Rattle.std.specs.Prelude.{◌≡◌, ℕ, suc, ◌+◌, ◌<◌, ◌≤◌, max, List, [], ◌∷◌, map, length, slice_get, sum_by, All, Option, Some, None}
+use Rattle.std.specs.Prelude.{◌≡◌, ◌⊎◌, ℕ, suc, ◌+◌, ◌<◌, ◌≤◌, max, List, [], ◌∷◌, map, length, slice_get, sum_by, All, Option, Some, None}
 use Rattle.cc_base.specs.declared.number.TypeId.{TypeId}
 use Rattle.c_types.specs.declared.shape.TypeShape.{TypeShape}
 use Rattle.c_types.specs.declared.shape.TypeShape.TheVariants as shape
@@ -135,9 +135,13 @@ pub record IsCodeInShape (k : Context) (code : List Instr) : Type 0 where
   pub shaped : AreShaped code k no_types no_types
   pub nested : nest_of_code code ≤ nest_limit
 
--- a function has the type of its parameters and its result, which are scalars, and its body is in shape
+-- a function gives a scalar or nothing
+abbrev pub IsResult : Program → TypeId → Type 0
+IsResult p t = IsScalar (context_of p) t ⊎ (IsType p.types t × (shape_at p.types t ≡ shape.Void))
+
+-- a function has the type of its parameters, which are scalars, and of its result, and its body is in shape
 pub record IsFunctionInShape (p : Program) (f : Function) : Type 0 where
-  pub type : (result : TypeId) × IsType p.types f.ty × (shape_at p.types f.ty ≡ shape.Function (map (λ x. x.ty) f.parameters) result)
+  pub type : (result : TypeId) × IsType p.types f.ty × (shape_at p.types f.ty ≡ shape.Function (map (λ x. x.ty) f.parameters) result) × IsResult p result
   pub parameters : length f.parameters ≤ parameters_limit
   pub scalars : All (λ x. IsScalar (context_of p) x.ty) f.parameters
   pub variables : All (IsPlanInShape p) (variables_of f)

@@ -7,3 +7,4 @@ pub mod Cells
 pub mod Equality
 pub mod Flows
 pub mod Widths
+pub mod Solutions

@@ -15,17 +15,38 @@ pub enum Site {
         place: Place,
     },
     /// A pointer of the node moves, is subtracted or is put in order (C99 6.5.2.1, 6.5.6, 6.5.8).
-    Arith { node: NodeId, place: Place },
+    Arith {
+        node: NodeId,
+        place: Place,
+    },
     /// An integer that is no null constant becomes a pointer of the node (C99 6.3.2.3).
-    Integer { node: NodeId, place: Place },
+    Integer {
+        node: NodeId,
+        place: Place,
+    },
     /// Both are addresses of parts of one object, or of the two sides of a struct assignment.
-    Linked { a: NodeId, b: NodeId },
+    Linked {
+        a: NodeId,
+        b: NodeId,
+    },
     /// Two declarations of one name have these types.
-    Same { a: TypeId, b: TypeId },
+    Same {
+        a: TypeId,
+        b: TypeId,
+    },
     /// A pointer of the node points to the type.
-    Pointee { node: NodeId, ty: TypeId },
+    Pointee {
+        node: NodeId,
+        ty: TypeId,
+    },
     /// The node is the home of an object of the type.
-    Home { node: NodeId, ty: TypeId },
+    Home {
+        node: NodeId,
+        ty: TypeId,
+    },
     /// The members of the union stand behind its keyword at the place.
-    Union { ty: TypeId, place: Place },
+    Union {
+        ty: TypeId,
+        place: Place,
+    },
 }

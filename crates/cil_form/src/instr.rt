@@ -5,12 +5,19 @@ use cc_base::{NodeId, Place, TypeId};
 // node, or with its type, which has the node in it; `place` is where the conditions of the use are checked.
 
 /// Constants, addresses of objects and functions, and copies.
-#[derive(Clone, Copy, Debug, PartialEq, Eq)]
+#[derive(Clone, Copy)]
 pub enum Set {
     /// An integer of the type.
-    Integer { into: Temp, value: i128, ty: TypeId },
+    Integer {
+        into: Temp,
+        value: i128,
+        ty: TypeId,
+    },
     /// The null pointer of the pointer type.
-    Null { into: Temp, ty: TypeId },
+    Null {
+        into: Temp,
+        ty: TypeId,
+    },
     /// The address of a function, of the pointer type.
     Function {
         into: Temp,
@@ -25,7 +32,10 @@ pub enum Set {
         ty: TypeId,
     },
     /// What another temporary holds.
-    Copy { into: Temp, from: Temp },
+    Copy {
+        into: Temp,
+        from: Temp,
+    },
 }
 
 /// An operator on two integers (C99 6.5.5 to 6.5.14).
@@ -56,12 +66,20 @@ pub enum Comparison {
 }
 
 /// Operators on integers, and truth values.
-#[derive(Clone, Copy, Debug, PartialEq, Eq)]
+#[derive(Clone, Copy)]
 pub enum Calculate {
     /// `-` in the type (C99 6.5.3.3).
-    Negate { into: Temp, operand: Temp, ty: TypeId },
+    Negate {
+        into: Temp,
+        operand: Temp,
+        ty: TypeId,
+    },
     /// `~` in the type (C99 6.5.3.3).
-    Complement { into: Temp, operand: Temp, ty: TypeId },
+    Complement {
+        into: Temp,
+        operand: Temp,
+        ty: TypeId,
+    },
     /// An operator whose operands have the type; the right operand of a shift may have another integer type.
     Binary {
         into: Temp,
@@ -72,9 +90,15 @@ pub enum Calculate {
         place: Place,
     },
     /// 1 where the operand isn't 0 and isn't null, else 0.
-    Truth { into: Temp, operand: Temp },
+    Truth {
+        into: Temp,
+        operand: Temp,
+    },
     /// 0 where the operand isn't 0 and isn't null, else 1 (C99 6.5.3.3).
-    Not { into: Temp, operand: Temp },
+    Not {
+        into: Temp,
+        operand: Temp,
+    },
 }
 
 /// Which way a pointer moves.
@@ -85,7 +109,7 @@ pub enum Direction {
 }
 
 /// Pointer arithmetic and comparison, and addresses of parts.
-#[derive(Clone, Copy, Debug, PartialEq, Eq)]
+#[derive(Clone, Copy)]
 pub enum Point {
     /// A pointer of the type moves by so many elements (C99 6.5.6).
     Move {
@@ -151,10 +175,14 @@ pub enum Point {
 }
 
 /// Conversions (C99 6.3).
-#[derive(Clone, Copy, Debug, PartialEq, Eq)]
+#[derive(Clone, Copy)]
 pub enum Convert {
     /// An integer to an integer type (C99 6.3.1.3).
-    Integer { into: Temp, from: Temp, ty: TypeId },
+    Integer {
+        into: Temp,
+        from: Temp,
+        ty: TypeId,
+    },
     /// An integer that is no null constant to a pointer type (C99 6.3.2.3).
     ToPointer {
         into: Temp,
@@ -173,10 +201,13 @@ pub enum Convert {
 }
 
 /// Where a store or a copy goes.
-#[derive(Clone, Copy, Debug, PartialEq, Eq)]
+#[derive(Clone, Copy)]
 pub enum Target {
     /// To what a pointer of the node points to.
-    Pointer { pointer: Temp, node: NodeId },
+    Pointer {
+        pointer: Temp,
+        node: NodeId,
+    },
     /// Into an object of the type, from this byte on: what an initialiser does (C99 6.7.8).
     Part {
         object: Object,
@@ -187,7 +218,7 @@ pub enum Target {
 }
 
 /// Loads, stores and copies.
-#[derive(Clone, Copy, Debug, PartialEq, Eq)]
+#[derive(Clone, Copy)]
 pub enum Access {
     /// The scalar of the type that a pointer of the node points to.
     Load {
@@ -206,7 +237,9 @@ pub enum Access {
         assignment: Place,
     },
     /// The object is set to zero as a whole.
-    Clear { object: Object },
+    Clear {
+        object: Object,
+    },
     /// A struct or union of the type is copied from what a pointer of the node points to: a row of accesses, first a
     /// load of each pointer that it holds, in order, where the node isn't WILD, then one read of the whole and one write.
     Copy {
@@ -221,7 +254,7 @@ pub enum Access {
 }
 
 /// Blocks from `malloc` and `calloc` (C99 7.20.3), by the allocation's node and the type that the block is made for.
-#[derive(Clone, Copy, Debug, PartialEq, Eq)]
+#[derive(Clone, Copy)]
 pub enum Allocate {
     Malloc {
         into: Temp,
@@ -241,7 +274,7 @@ pub enum Allocate {
 }
 
 /// A call through a pointer of the type (C99 6.5.2.2). The arguments stand in so many temporaries from `first` on.
-#[derive(Clone, Copy, Debug, PartialEq, Eq)]
+#[derive(Clone, Copy)]
 pub struct Call {
     pub into: Temp,
     pub callee: Temp,
@@ -252,7 +285,7 @@ pub struct Call {
 }
 
 /// Calls of the other runtime functions (C99 7.19.7, 7.20.3.2, 7.20.4.3).
-#[derive(Clone, Copy, Debug, PartialEq, Eq)]
+#[derive(Clone, Copy)]
 pub enum RuntimeCall {
     Free { into: Temp, pointer: Temp },
     Getchar { into: Temp },
@@ -261,7 +294,8 @@ pub enum RuntimeCall {
 }
 
 /// An instruction of three-address code.
-#[derive(Debug, Drop)]
+#[derive(Drop)]
+#[cycle(code)]
 pub enum Instr {
     Set(Set),
     Calculate(Calculate),
@@ -295,5 +329,6 @@ pub enum Instr {
 
 /// Instructions in order. A plain list: instructions hold such lists themselves, so contracts see its items through the
 /// field.
-#[derive(Debug, Drop)]
+#[derive(Drop)]
+#[cycle(code)]
 pub struct Code(pub Vec<Instr>);

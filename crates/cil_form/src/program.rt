@@ -90,9 +90,13 @@ pub struct Functions(pub Vec<Function>);
 
 impl Model for Functions {
     ghost use Rattle.std.specs.Prelude.{List};
+    ghost use Rattle.std.specs.Coded.{codes};
     ghost use Rattle.cil_form.specs.declared.program.Function.{Function};
+    ghost use Rattle.cil_form.specs.contracts.instr.Instr as instr;
 
     ghost Value = { List Function };
+
+    ghost coded = { Prim.hlevel (codes, instr.the_row.coded) };
 
     ghost view = { λ s. s.0.items };
 }

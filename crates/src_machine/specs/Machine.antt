@@ -16,7 +16,7 @@ use Rattle.c_tree.specs.TypedParts.{MadeObject, ParameterObject, DefinedFunction
 use Rattle.src_mem.specs.Pointers.{Value}
 use Rattle.src_mem.specs.Memory.{Object, Planned, new_variable, new_literal}
 use Rattle.src_mem.specs.State.{Act, Defined, Setting, wrong, given}
-use Rattle.src_mem.specs.Runs.{Body, Callable, SourceOutcome, call_within, run_main, run_program}
+use Rattle.src_mem.specs.Runs.{Body, Callable, SourceOutcome, call_within, nested_limit, run_main, run_program}
 use Rattle.src_machine.specs.World.{World}
 use Rattle.src_machine.specs.Statements.{Flow, Normal, Breaks, Continues, Returns, exec_items, initialise_object}
 
@@ -117,5 +117,5 @@ abbrev pub source_run : TypedTranslationUnit → Table → (NodeId → Kind) →
 source_run u table kind input turns =
     let w = setting_of u table kind in
     let statics = map (λ o. o.home) (statics_of u) in
-    run_program (initialise_statics (static_initialisers u) (static_world w statics)) (main_run u w statics turns)
+    run_program (initialise_statics (static_initialisers u) (static_world w statics)) (main_run u w statics nested_limit)
     (map (static_object table) (statics_of u)) input turns

@@ -1,21 +1,27 @@
 -- Small programs as typed trees, each with the kinds of its nodes, and what they give. The C text stands above each; what a tree
 -- doesn't say is the text's layout.
-use Rattle.std.specs.Prelude.{ℕ, ◌+◌, [], ◌∷◌, ◌++◌, codes}
-use Rattle.cc_base.specs.declared.kind.Kind.TheVariants.{Safe, Seq, Wild}
+use Rattle.std.specs.Prelude.{ℕ, pos, ◌+◌, List, [], ◌∷◌, ◌++◌, codes}
+use Rattle.cc_base.specs.declared.kind.Kind.TheVariants.{Safe, Seq, Rtti, Wild}
 use Rattle.c_types.specs.declared.shape.TypeShape.TheVariants as shape
 use Rattle.c_types.specs.Table.{Table}
 use Rattle.c_types.specs.Calls.{basic_table}
+use Rattle.runs.specs.Outcome.{done, ◌>>=◌}
 use Rattle.runs.specs.Input.{Input, Closed}
+use Rattle.c_tree.specs.declared.operator.Binary.{Binary}
 use Rattle.c_tree.specs.declared.operator.Binary.TheVariants as binary
 use Rattle.c_tree.specs.declared.operator.Step.TheVariants as step
 use Rattle.c_tree.specs.declared.typed_word.Conversion.TheVariants as conversion
 use Rattle.c_tree.specs.declared.typed_word.Runtime.TheVariants as runtime
 use Rattle.c_tree.specs.declared.typed_word.Side.TheVariants as side
 use Rattle.c_tree.specs.TypedTree as typed
-use Rattle.c_tree.specs.TypedTree.{TypedExpr, TypedPlace, TypedTranslationUnit}
-use Rattle.src_mem.specs.Runs.{SourceOutcome}
-use Rattle.src_machine.specs.Machine.{source_run}
-use Rattle.src_machine.specs.Small.{at, at_line, node, type, char, int, long, unsigned_long, entry, kinds, name, number, variable, value, null, flows, widened, type_name, arguments, string, local, local_is, declares, does, runs, returns, while, main, function, global, put, get, runtime_call, aggregate}
+use Rattle.c_tree.specs.TypedTree.{TypedExpr, TypedPlace, TypedBlockItems, TypedTranslationUnit}
+use Rattle.src_mem.specs.Runs.{SourceOutcome, run_program}
+use Rattle.src_mem.specs.Pointers.{Integer}
+use Rattle.src_mem.specs.Memory.{new_variable}
+use Rattle.src_machine.specs.World.{World}
+use Rattle.src_machine.specs.Statements.{exec_items}
+use Rattle.src_machine.specs.Machine.{source_run, setting_of, result_of}
+use Rattle.src_machine.specs.Small.{Item, at, at_line, node, type, char, int, long, unsigned_long, entry, kinds, name, number, variable, value, null, flows, widened, type_name, arguments, string, body, local, local_is, declares, does, runs, returns, while, main, function, global, put, get, runtime_call, aggregate}
 
 -- int main(void){int *p;p=0;return *p;}
 abbrev pub null_read : SourceOutcome
@@ -73,18 +79,18 @@ stepped_over turns = source_run program table (kinds (Safe ∷ Seq ∷ Safe ∷ 
         ∷ [])
 
 -- int *g;int main(void){int x;g=&x;return 0;}
-abbrev pub address_kept : SourceOutcome
-address_kept = source_run program table (kinds []) (Closed []) 10
-  where
-    table : Table
-    table = basic_table ++ entry (shape.Pointer (node 0) int) ∷ entry (shape.Pointer (node 3) int) ∷ entry (shape.Function [] int) ∷ []
+abbrev pub address_table : Table
+address_table = basic_table ++ entry (shape.Pointer (node 0) int) ∷ entry (shape.Pointer (node 3) int) ∷ entry (shape.Function [] int) ∷ []
 
-    program : TypedTranslationUnit
-    program = function (name (codes "main") (at 12)) (type 11) [] (
-        declares (local 2 int)
-        ∷ does (typed.Assign (variable 29 1 (type 9)) (at 30) (flows (at 30) (type 9) (typed.AddressOf (at 31) (variable 32 2 int) (node 3) (type 10))))
-        ∷ returns (at 34) (number 0)
-        ∷ []) (global 1 (type 9) typed.NoExternal)
+abbrev pub address_program : TypedTranslationUnit
+address_program = function (name (codes "main") (at 12)) (type 11) [] (
+    declares (local 2 int)
+    ∷ does (typed.Assign (variable 29 1 (type 9)) (at 30) (flows (at 30) (type 9) (typed.AddressOf (at 31) (variable 32 2 int) (node 3) (type 10))))
+    ∷ returns (at 34) (number 0)
+    ∷ []) (global 1 (type 9) typed.NoExternal)
+
+abbrev pub address_kept : SourceOutcome
+address_kept = source_run address_program address_table (kinds []) (Closed []) 10
 
 -- int main(void){char *p=(char *)malloc(1);*p=107;free(p);putchar(*p);return 0;}
 abbrev pub freed_read : SourceOutcome
@@ -186,18 +192,181 @@ goes_on = source_run program table (kinds []) (Closed []) 5
         ∷ [])
 
 -- int f(int n){return f(n+1);}int main(void){return f(0);}
+abbrev recursion_table : Table
+recursion_table = basic_table ++ entry (shape.Function [] int) ∷ entry (shape.Function (int ∷ []) int)
+    ∷ entry (shape.Pointer (node 1) (type 10)) ∷ entry (shape.Pointer (node 2) (type 10)) ∷ []
+
+abbrev call_f : ℕ → ℕ → ℕ → TypedExpr → TypedExpr
+call_f n t column e = typed.Call (typed.FunctionName (name (codes "f") (at column)) 0 (node n) (type t)) (at (column + 1)) (arguments (e ∷ [])) int
+
+abbrev body_of_f : TypedBlockItems
+body_of_f = body (returns (at 14) (call_f 1 11 21 (typed.Arithmetic binary.Add (value 23 0 int) (at 24) (number 1) int)) ∷ [])
+
+abbrev recursion_program : TypedTranslationUnit
+recursion_program = function (name (codes "main") (at 33)) (type 9) [] (returns (at 44) (call_f 2 12 51 (number 0)) ∷ [])
+    (function (name (codes "f") (at 5)) (type 10) ((0, int) ∷ []) ((λ all. body_of_f) ∷ []) typed.NoExternal)
+
 abbrev pub recursion : ℕ → SourceOutcome
-recursion turns = source_run program table (kinds []) (Closed []) turns
+recursion turns = source_run recursion_program recursion_table (kinds []) (Closed []) turns
+
+-- the body of `f` in a call of this depth, whose own calls give 7
+abbrev pub recursion_at : ℕ → SourceOutcome
+recursion_at depth = run_program (done tt) (exec_items body_of_f world >>= (λ flow. done (result_of (Integer (pos 0)) flow)))
+    (new_variable recursion_table depth (record { type = int; node = node 0 }) ∷ []) (Closed []) 0
+  where
+    world : World
+    world = record {
+      setting = setting_of recursion_program recursion_table (kinds []);
+      statics = [];
+      frame = record { depth = depth; first = 0; homes = node 0 ∷ [] };
+      call = λ f d vs. done (Integer (pos 7));
+    }
+
+-- int main(void){long v[2];long *p=v;p=p+4611686018427387904;return 0;}
+abbrev pub moved_too_far : SourceOutcome
+moved_too_far = source_run program table (kinds (Safe ∷ Seq ∷ Safe ∷ Seq ∷ [])) (Closed []) 10
   where
     table : Table
-    table = basic_table ++ entry (shape.Function [] int) ∷ entry (shape.Function (int ∷ []) int)
-        ∷ entry (shape.Pointer (node 1) (type 10)) ∷ entry (shape.Pointer (node 2) (type 10)) ∷ []
-
-    call : ℕ → ℕ → ℕ → TypedExpr → TypedExpr
-    call n t column e = typed.Call (typed.FunctionName (name (codes "f") (at column)) 0 (node n) (type t)) (at (column + 1)) (arguments (e ∷ [])) int
+    table = basic_table ++ entry (shape.Array long 2)
+        ∷ entry (shape.Pointer (node 1) long) ∷ entry (shape.Pointer (node 3) long) ∷ entry (shape.Function [] int) ∷ []
 
     program : TypedTranslationUnit
-    program = function (name (codes "main") (at 33)) (type 9) [] (returns (at 44) (call 2 12 51 (number 0)) ∷ [])
-        (function (name (codes "f") (at 5)) (type 10) ((0, int) ∷ [])
-        (returns (at 14) (call 1 11 21 (typed.Arithmetic binary.Add (value 23 0 int) (at 24) (number 1) int)) ∷ [])
-        typed.NoExternal)
+    program = main (type 12) (
+        declares (local 0 (type 9))
+        ∷ declares (local_is 2 (type 10) (at 33) (flows (at 33) (type 10) (typed.Decay (variable 34 0 (type 9)) (node 3) (type 11))))
+        ∷ does (typed.Assign (variable 36 2 (type 10)) (at 37) (flows (at 37) (type 10)
+        (typed.Moved binary.Add side.Left (value 38 2 (type 10)) (at 39) (number 4611686018427387904) (type 10))))
+        ∷ returns (at 60) (number 0)
+        ∷ [])
+
+-- struct S{int t;};
+-- struct C{int t;int r;};
+-- struct G{int t;struct S *f;};
+-- int main(void){
+-- struct C c;struct S *s=(struct S *)&c;
+-- c.r=66;
+-- putchar(((struct C *)s)->r);
+-- putchar(((struct G *)s)->t);
+-- return 0;}
+abbrev pub cast_down : SourceOutcome
+cast_down = source_run program table (kinds (Safe ∷ Safe ∷ Rtti ∷ Safe ∷ Rtti ∷ Rtti ∷ [])) (Closed []) 10
+  where
+    -- the member f: 0; the homes of c and s: 1, 3; s: 2; the cast to S: 4; the address of c: 5; the casts to C and G: 6, 7; the members' places: 8 to 10
+    table : Table
+    table = basic_table ++ aggregate (shape.Struct 0) (int ∷ []) ∷ aggregate (shape.Struct 1) (int ∷ int ∷ []) ∷ entry (shape.Pointer (node 0) (type 9))
+        ∷ aggregate (shape.Struct 2) (int ∷ type 11 ∷ []) ∷ entry (shape.Pointer (node 2) (type 9)) ∷ entry (shape.Pointer (node 4) (type 9)) ∷ entry (shape.Pointer (node 5) (type 10))
+        ∷ entry (shape.Pointer (node 6) (type 10)) ∷ entry (shape.Pointer (node 7) (type 12)) ∷ entry (shape.Function [] int) ∷ []
+
+    cast : ℕ → ℕ → TypedExpr
+    cast line t = typed.Cast conversion.PointerToPointer (at_line line 10) (type_name (type t)) (value 0 3 (type 13))
+
+    program : TypedTranslationUnit
+    program = main (type 18) (
+        declares (local 1 (type 10))
+        ∷ declares (local_is 3 (type 13) (at_line 5 23) (flows (at_line 5 23) (type 13)
+        (typed.Cast conversion.PointerToPointer (at_line 5 24) (type_name (type 14)) (typed.AddressOf (at_line 5 36) (variable 37 1 (type 10)) (node 5) (type 15)))))
+        ∷ does (typed.Assign (typed.Member (variable 1 1 (type 10)) (at_line 6 2) (name [] (at 0)) 1 (node 8) int) (at_line 6 4) (number 66))
+        ∷ does (put (typed.Read (typed.MemberAt (cast 7 16) (at_line 7 24) (name [] (at 0)) 1 (node 9) int)))
+        ∷ does (put (typed.Read (typed.MemberAt (cast 8 17) (at_line 8 24) (name [] (at 0)) 0 (node 10) int)))
+        ∷ returns (at_line 9 1) (number 0)
+        ∷ [])
+
+-- int f(int a){return a;}
+-- int main(void){
+-- int (*p)(int)=f;
+-- int (*q)(int,int)=(int (*)(int,int))p;
+-- putchar(((int (*)(int))q)(65));
+-- return q(1,2);}
+abbrev pub called_otherwise : SourceOutcome
+called_otherwise = source_run program table (kinds (Wild ∷ Wild ∷ Wild ∷ Wild ∷ Wild ∷ [])) (Closed []) 10
+  where
+    -- p, q, the two casts and the name f: 0 to 4; the homes of a, p and q: 5 to 7
+    table : Table
+    table = basic_table ++ entry (shape.Function (int ∷ []) int) ∷ entry (shape.Function (int ∷ int ∷ []) int) ∷ entry (shape.Function [] int)
+        ∷ entry (shape.Pointer (node 0) (type 9)) ∷ entry (shape.Pointer (node 1) (type 10)) ∷ entry (shape.Pointer (node 2) (type 10))
+        ∷ entry (shape.Pointer (node 3) (type 9)) ∷ entry (shape.Pointer (node 4) (type 9)) ∷ []
+
+    program : TypedTranslationUnit
+    program = function (name (codes "main") (at_line 2 5)) (type 11) [] (
+        declares (local_is 6 (type 12) (at_line 3 14) (flows (at_line 3 14) (type 12) (typed.FunctionName (name (codes "f") (at_line 3 15)) 0 (node 4) (type 16))))
+        ∷ declares (local_is 7 (type 13) (at_line 4 18) (flows (at_line 4 18) (type 13)
+        (typed.Cast conversion.PointerToPointer (at_line 4 19) (type_name (type 14)) (value 0 6 (type 12)))))
+        ∷ does (put (typed.Call (typed.Cast conversion.PointerToPointer (at_line 5 10) (type_name (type 15)) (value 0 7 (type 13))) (at_line 5 26)
+        (arguments (number 65 ∷ [])) int))
+        ∷ returns (at_line 6 1) (typed.Call (value 0 7 (type 13)) (at_line 6 9) (arguments (number 1 ∷ number 2 ∷ [])) int)
+        ∷ [])
+        (function (name (codes "f") (at 5)) (type 9) ((5, int) ∷ []) (returns (at 14) (value 21 5 int) ∷ []) typed.NoExternal)
+
+-- struct P{int *q;};
+-- struct P g;
+-- int main(void){int x;struct P l;l.q=&x;g=l;return 0;}
+abbrev pub struct_kept : SourceOutcome
+struct_kept = source_run program table (kinds []) (Closed []) 10
+  where
+    -- the member q: 0; the homes of g, x and l: 1 to 3; the place l.q: 4; the address of x: 5
+    table : Table
+    table = basic_table ++ entry (shape.Pointer (node 0) int) ∷ aggregate (shape.Struct 0) (type 9 ∷ []) ∷ entry (shape.Pointer (node 5) int) ∷ entry (shape.Function [] int) ∷ []
+
+    program : TypedTranslationUnit
+    program = function (name (codes "main") (at_line 3 5)) (type 12) [] (
+        declares (local 2 int)
+        ∷ declares (local 3 (type 10))
+        ∷ does (typed.Assign (typed.Member (variable 33 3 (type 10)) (at_line 3 34) (name [] (at 0)) 0 (node 4) (type 9)) (at_line 3 36)
+        (flows (at_line 3 36) (type 9) (typed.AddressOf (at_line 3 37) (variable 38 2 int) (node 5) (type 11))))
+        ∷ does (typed.Unread (typed.StructAssign (variable 40 1 (type 10)) (at_line 3 41) (variable 42 3 (type 10))))
+        ∷ returns (at_line 3 44) (number 0)
+        ∷ []) (global 1 (type 10) typed.NoExternal)
+
+-- int hash(char *s){int h=0;while(*s){h=(h*31+*s)&1023;s++;}return h%16;}
+-- int same(char *a,char *b){while(*a&&*a==*b){a++;b++;}return *a==*b;}
+-- int main(void){return hash("the")*10+same("cat","cat");}
+abbrev pub hashed_and_compared : SourceOutcome
+hashed_and_compared = source_run program table (kinds (Seq ∷ Seq ∷ Seq ∷ Safe ∷ Safe ∷ Seq ∷ Seq ∷ Seq ∷ [])) (Closed []) 20
+  where
+    -- the pointers s, a and b: 0 to 2; the two functions' names: 3, 4; the decays: 5 to 7; the homes of s, h, a and b: 8 to 11; those of the literals: 12 to 14
+    table : Table
+    table = basic_table ++ entry (shape.Array char 4)
+        ∷ entry (shape.Pointer (node 0) char) ∷ entry (shape.Function (type 10 ∷ []) int)
+        ∷ entry (shape.Pointer (node 1) char) ∷ entry (shape.Pointer (node 2) char) ∷ entry (shape.Function (type 12 ∷ type 13 ∷ []) int)
+        ∷ entry (shape.Function [] int) ∷ entry (shape.Pointer (node 3) (type 11)) ∷ entry (shape.Pointer (node 4) (type 14))
+        ∷ entry (shape.Pointer (node 5) char) ∷ entry (shape.Pointer (node 6) char) ∷ entry (shape.Pointer (node 7) char) ∷ []
+
+    -- `*` of a variable
+    target : ℕ → ℕ → TypedExpr
+    target n t = widened int (typed.Read (typed.Target (at 0) (value 0 n (type t)) char))
+
+    int_of : Binary → TypedExpr → TypedExpr → TypedExpr
+    int_of operator a b = typed.Arithmetic operator a (at 0) b int
+
+    steps : ℕ → ℕ → Item
+    steps n t = does (typed.StepAfter (variable 0 n (type t)) step.Increment (at 0))
+
+    hash : TypedTranslationUnit → TypedTranslationUnit
+    hash = function (name (codes "hash") (at 5)) (type 11) ((8, type 10) ∷ []) (
+        declares (local_is 9 int (at 0) (number 0))
+        ∷ while (target 8 10) (typed.Block (at 0) (body (
+        does (typed.Assign (variable 0 9 int) (at 0)
+        (int_of binary.BitAnd (int_of binary.Add (int_of binary.Multiply (value 0 9 int) (number 31)) (target 8 10)) (number 1023)))
+        ∷ steps 8 10 ∷ [])))
+        ∷ returns (at 0) (int_of binary.Remainder (value 0 9 int) (number 16))
+        ∷ [])
+
+    same : TypedTranslationUnit → TypedTranslationUnit
+    same = function (name (codes "same") (at_line 2 5)) (type 14) ((10, type 12) ∷ (11, type 13) ∷ []) (
+        while (typed.Logical binary.LogicalAnd (target 10 12) (at 0) (int_of binary.Equal (target 10 12) (target 11 13)) int)
+        (typed.Block (at 0) (body (steps 10 12 ∷ steps 11 13 ∷ [])))
+        ∷ returns (at 0) (int_of binary.Equal (target 10 12) (target 11 13))
+        ∷ [])
+
+    -- a literal as an argument for a parameter of type t
+    text : List ℕ → ℕ → ℕ → ℕ → ℕ → TypedExpr
+    text bytes literal decay from t = flows (at 0) (type t) (typed.Decay (string bytes literal (type 9)) (node decay) (type from))
+
+    program : TypedTranslationUnit
+    program = function (name (codes "main") (at_line 3 5)) (type 15) [] (
+        returns (at 0) (int_of binary.Add
+        (int_of binary.Multiply (typed.Call (typed.FunctionName (name (codes "hash") (at 0)) 0 (node 3) (type 16)) (at 0)
+        (arguments (text (codes "\"the\"") 12 5 18 10 ∷ [])) int) (number 10))
+        (typed.Call (typed.FunctionName (name (codes "same") (at 0)) 1 (node 4) (type 17)) (at 0)
+        (arguments (text (codes "\"cat\"") 13 6 19 12 ∷ text (codes "\"cat\"") 14 7 20 13 ∷ [])) int))
+        ∷ []) (same (hash typed.NoExternal))

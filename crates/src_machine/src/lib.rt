@@ -3,11 +3,13 @@
 #![tactic(auto)]
 
 ghost use Rattle.std.specs.Prelude.{◌≡◌, [], ◌∷◌};
-ghost use Rattle.cc_base.specs.declared.fault.Check.TheVariants.{Null, Bounds, Escape, Tag, Divide, Depth};
+ghost use Rattle.cc_base.specs.declared.fault.Check.TheVariants.{Null, Bounds, Range, Cast, Escape, Tag, Fun, Divide, Depth};
 ghost use Rattle.runs.specs.Input.{Closed, Open};
 ghost use Rattle.src_mem.specs.State.{Stopped, Exited, Turns, Wants};
-ghost use Rattle.src_machine.specs.Small.{at, at_line, shown, access};
-ghost use Rattle.src_machine.specs.Programs.{null_read, past_the_end, stepped_over, address_kept, freed_read, size_of_pointer, union_read, divided_by_zero, echoes, goes_on, recursion};
+ghost use Rattle.c_types.specs.declared.site.Site.TheVariants.{Pointee, Home, Linked, Flow};
+ghost use Rattle.src_machine.specs.Sites.{sites_of};
+ghost use Rattle.src_machine.specs.Small.{node, type, int, at, at_line, shown, access};
+ghost use Rattle.src_machine.specs.Programs.{null_read, past_the_end, stepped_over, address_kept, address_program, address_table, freed_read, size_of_pointer, union_read, divided_by_zero, echoes, goes_on, recursion, recursion_at, moved_too_far, cast_down, called_otherwise, struct_kept, hashed_and_compared};
 
 /// What small programs do that use SAFE and SEQ pointers.
 pub fn programs_with_bounds()
@@ -18,6 +20,8 @@ pub fn programs_with_bounds()
     ensures address_kept { shown address_kept ≡ record { ending = Stopped Escape (at 30); output = []; accesses = [] } }
     ensures freed_read { shown freed_read ≡ record { ending = Exited 0; output = 107 ∷ []; accesses = access 0 0 8 ∷ access 0 0 8 ∷ access 1 0 1 ∷ access 0 0 8 ∷ access 0 0 8 ∷ access 1 0 1 ∷ [] } }
     ensures size_of_pointer { shown size_of_pointer ≡ record { ending = Exited 8; output = []; accesses = access 1 0 8 ∷ access 1 0 8 ∷ access 1 0 8 ∷ [] } }
+    ensures moved_too_far { moved_too_far.ending ≡ Stopped Range (at 39) }
+    ensures struct_kept { shown struct_kept ≡ record { ending = Stopped Escape (at_line 3 41); output = []; accesses = access 2 0 8 ∷ access 2 0 8 ∷ [] } }
 {}
 
 /// What small programs do with integers, input, loops, calls and a union whose word is read as a pointer.
@@ -28,5 +32,26 @@ pub fn other_programs()
     ensures last_byte { shown (echoes (Closed (255 ∷ []))) ≡ record { ending = Exited 255; output = []; accesses = access 0 0 4 ∷ access 0 0 4 ∷ access 0 0 4 ∷ [] } }
     ensures more_input { shown (echoes (Open [])) ≡ record { ending = Wants; output = []; accesses = [] } }
     ensures goes_on { shown goes_on ≡ record { ending = Turns; output = 97 ∷ 97 ∷ 97 ∷ 97 ∷ 97 ∷ []; accesses = [] } }
+    ensures cast_down { shown cast_down ≡ record { ending = Stopped Cast (at_line 8 10); output = 66 ∷ []; accesses = access 1 0 8 ∷ access 0 4 4 ∷ access 1 0 8 ∷ access 0 4 4 ∷ access 1 0 8 ∷ [] } }
+    ensures called_otherwise { shown called_otherwise ≡ record { ending = Stopped Fun (at_line 6 9); output = 65 ∷ []; accesses = access 0 0 8 ∷ access 0 0 8 ∷ access 1 0 8 ∷ access 1 0 8 ∷ access 2 0 4 ∷ access 2 0 4 ∷ access 1 0 8 ∷ [] } }
     ensures calls { (recursion 3).entered ≡ 1 ∷ 0 ∷ 0 ∷ 0 ∷ [] }
+{}
+
+/// The hash and the comparison of a word counter on short texts: `the` stands in slot 1, and `cat` is `cat`. Three rounds in each
+/// and two calls are eight turns.
+pub fn word_counter_parts()
+    ensures ends { hashed_and_compared.ending ≡ Exited 11 }
+    ensures calls { hashed_and_compared.entered ≡ 2 ∷ 0 ∷ 1 ∷ [] }
+{}
+
+/// A recursion without end is stopped at its call where that would be the 1,024th that is nested.
+pub fn recursion_is_stopped()
+    ensures goes_on { (recursion_at 1022).ending ≡ Exited 7 }
+    ensures stops { (recursion_at 1023).ending ≡ Stopped Depth (at 22) }
+{}
+
+/// The sites of `int *g;int main(void){int x;g=&x;return 0;}`: the two pointers, the two homes, that the address of x is one of a
+/// part of x, and its flow into g.
+pub fn sites_of_a_program()
+    ensures { sites_of address_program address_table ≡ Pointee (node 0) int ∷ Pointee (node 3) int ∷ Home (node 1) (type 9) ∷ Home (node 2) int ∷ Linked (node 3) (node 2) ∷ Flow (node 3) int (node 0) int (at 30) ∷ [] }
 {}

@@ -1,7 +1,7 @@
 -- What is true of the memory and of every pointer at each moment of a run that is not wrong: of a pointer by its kind and by the
 -- type that it points to, of an object by whether it carries tags, and of how long objects live. The simulation of cured
 -- code keeps these facts.
-use Rattle.std.specs.Prelude.{◌≡◌, ◌≢◌, ℕ, suc, ◌+◌, ◌%◌, ◌^◌, ◌<◌, ◌≤◌, ◌≤ℤ◌, ⊤, ℤ, pos, neg_ℤ, ◌+ℤ◌, true, List, length, slice_get, Some, IsFalse}
+use Rattle.std.specs.Prelude.{◌≡◌, ◌≢◌, ℕ, suc, ◌+◌, ◌%◌, ◌^◌, ◌<◌, ◌≤◌, ◌≤ℤ◌, ⊤, ℤ, pos, neg_ℤ, ◌+ℤ◌, true, List, length, slice_get, Some, IsTrue, IsFalse}
 use Rattle.std.specs.List.{Contains}
 use Rattle.cc_base.specs.declared.number.TypeId.{TypeId}
 use Rattle.cc_base.specs.declared.number.NodeId.{NodeId}
@@ -30,7 +30,7 @@ CellsAgree w c d = ⊥
 
 -- the cells from `at` on, up to `high`, hold a type: there is room for it, and they agree with its cells one by one
 pub record HoldType (w : Setting) (cells : List Cell) (at high : ℕ) (t : TypeId) : Type 0 where
-  pub room : at + size_of w.table t ≤ high
+  pub room : at + length (cells_of w.table t) ≤ high
   pub agree : (i : ℕ) (d : Cell) → slice_get (cells_of w.table t) i ≡ Some d → (c : Cell) × (slice_get cells (at + i) ≡ Some c) × CellsAgree w c d
 
 -- the cells from `low` up to `high` begin the endless repetition of a type
@@ -131,6 +131,7 @@ pub record IsWildAt (w : Setting) (objects : List Object) (l : Location) : Type 
 pub record IsFunctionOf (w : Setting) (t : TypeId) (f : ℕ) : Type 0 where
   pub function : Defined
   pub found : slice_get w.functions f ≡ Some function
+  pub type : IsTrue (is_function w.table t)
   pub class : IsOfOneClass w.table w.kind function.type t
 
 -- the value is one of a pointer of this kind to t

@@ -1,10 +1,18 @@
 -- The words of the laws on memory.
-use Rattle.std.specs.Prelude.{◌≡◌, ℕ, List, length, slice_get, Some, ⊤}
+use Rattle.std.specs.Prelude.{ℤ, ◌≡◌, ℕ, List, length, slice_get, Some, ⊤}
+use Rattle.cc_base.specs.declared.kind.Kind.{Kind}
+use Rattle.cc_base.specs.declared.number.TypeId.{TypeId}
+use Rattle.cc_base.specs.declared.number.NodeId.{NodeId}
 use Rattle.flat_mem.specs.Bytes.{number}
+use Rattle.c_types.specs.declared.shape.TypeShape.{TypeShape}
+use Rattle.c_types.specs.declared.shape.TypeShape.TheVariants as shape
+use Rattle.integers.specs.Arithmetic as integer
+use Rattle.integers.specs.Arithmetic.{IntegerType, Operator}
 use Rattle.runs.specs.Outcome.{Outcome, Ended, Done}
-use Rattle.src_mem.specs.Pointers.{Pointer}
-use Rattle.src_mem.specs.Memory.{Object}
-use Rattle.src_mem.specs.State.{Ending, Wrong, State, Act}
+use Rattle.src_mem.specs.Pointers.{Pointer, Value, Integer, Address}
+use Rattle.src_mem.specs.Memory.{Object, Planned}
+use Rattle.src_mem.specs.State.{Ending, Wrong, State, Act, Setting, touched, turn}
+use Rattle.src_mem.specs.Primitives.{store_integer, store_pointer, clear, copy, allocate, enter, leave, get, put}
 
 -- the state in which an outcome leaves a run
 abbrev pub left_by : {A : Type 0} → Outcome Ending State A → State
@@ -33,3 +41,41 @@ abbrev pub IsNotWrong : {A : Type 0} → Outcome Ending State A → Type 0
 IsNotWrong (Ended Wrong s) = ⊥
 IsNotWrong (Ended e s) = ⊤
 IsNotWrong (Done a s) = ⊤
+
+-- an integer or pointer type, and a value that is one of its values
+abbrev pub IsScalar : TypeShape → Type 0
+IsScalar (shape.Integer bytes signed) = ⊤
+IsScalar (shape.Pointer node to) = ⊤
+IsScalar other = ⊥
+
+abbrev pub IsScalarValue : TypeShape → Value → Type 0
+IsScalarValue (shape.Integer bytes signed) (Integer z) = ⊤
+IsScalarValue (shape.Pointer node to) (Address p) = ⊤
+IsScalarValue other v = ⊥
+
+-- `<`, `>`, `<=` and `>=`
+abbrev pub IsOrder : Operator → Type 0
+IsOrder integer.Less = ⊤
+IsOrder integer.LessOrEqual = ⊤
+IsOrder integer.Greater = ⊤
+IsOrder integer.GreaterOrEqual = ⊤
+IsOrder operator = ⊥
+
+-- an act leaves what is true of the state true
+pub record Keeps {A : Type 0} (P : State → Type 0) (m : Act A) : Type 0 where
+  pub by : (s : State) → P s → P (left_by (m s))
+
+-- What is true of the state stays so by every operation that changes it: an access noted, a store, a clearing, a copy, a block, the
+-- entry and the end of a call, a byte read, a byte written, a turn.
+pub record IsInvariant (P : State → Type 0) : Type 0 where
+  pub accessed : (number offset size : ℕ) (s : State) → P s → P (touched number offset size s)
+  pub integer_stored : (kind : Kind) (t : IntegerType) (p : Pointer) (z : ℤ) → Keeps P (store_integer kind t p z)
+  pub pointer_stored : (kind : Kind) (p q : Pointer) → Keeps P (store_pointer kind p q)
+  pub cleared : (number : ℕ) → Keeps P (clear number)
+  pub copied : (n : ℕ) (from : Kind) (source : Pointer) (to : Kind) (target : Pointer) → Keeps P (copy n from source to target)
+  pub allocated : (w : Setting) (node : NodeId) (t : TypeId) (n : ℕ) → Keeps P (allocate w node t n)
+  pub entered : (w : Setting) (depth f : ℕ) (variables : List Planned) → Keeps P (enter w depth f variables)
+  pub left : (w : Setting) (depth : ℕ) (variables : List Planned) → Keeps P (leave w depth variables)
+  pub read : Keeps P get
+  pub written : (z : ℤ) → Keeps P (put z)
+  pub turned : Keeps P turn

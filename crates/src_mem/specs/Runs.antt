@@ -41,12 +41,17 @@ pub record Callable : Type 0 where
   -- the arguments that its variables get, of those that it is called with
   pub named : List Value → List Value
 
--- A call takes a turn, and then the function runs. At most n calls are nested; a run that begins with n turns has none left for more.
+-- A call takes a turn, and then the function runs. At most n calls are nested in one another.
 abbrev pub call_within : ℕ → Setting → List Callable → Calls
 call_within zero w functions f depth arguments = ends Turns
 call_within (suc n) w functions f depth arguments = do
   turn
   given (slice_get functions f) (λ c. call_body w (call_within n w functions) f depth (c.named arguments) c.defined c.body)
+
+-- How many calls are nested in `main` at most. DEPTH stops the call that would be one more, since `main` has depth 1, so no run
+-- ends by this number.
+unfoldable pub nested_limit : ℕ
+nested_limit = 1022
 
 -- `main`, whose name stands at a place, is entered at depth 1 without a turn, once it has room
 abbrev pub run_main : Setting → Place → Calls → ℕ → Callable → Act Value

@@ -3,20 +3,27 @@
 //! Each law is the contract of a function that does nothing, so that it is proved once and can be cited.
 #![tactic(auto)]
 
-ghost use Rattle.std.specs.Prelude.{◌≡◌, ℕ, ◌≤◌, ℤ, pos, List, ◌∷◌, [], ◌++◌, length};
+ghost use Rattle.std.specs.Prelude.{◌≡◌, ◌⊎◌, ◌↔◌, ℕ, ◌≤◌, ℤ, pos, Bool, List, ◌∷◌, [], ◌++◌, length, IsTrue, IsFalse};
 ghost use Rattle.std.specs.Cmp.{IsEquivalence};
+ghost use Rattle.cc_base.specs.declared.place.Place.{Place};
 ghost use Rattle.cc_base.specs.declared.kind.Kind.{Kind};
+ghost use Rattle.cc_base.specs.declared.kind.Kind.TheVariants.{Safe, Seq, Wild};
 ghost use Rattle.cc_base.specs.declared.number.TypeId.{TypeId};
 ghost use Rattle.cc_base.specs.declared.number.NodeId.{NodeId};
 ghost use Rattle.flat_mem.specs.Bytes.{IsAccessSize};
 ghost use Rattle.integers.specs.Words.{residue};
-ghost use Rattle.integers.specs.Arithmetic.{IntegerType, converted};
-ghost use Rattle.runs.specs.Outcome.{Done};
+ghost use Rattle.integers.specs.Arithmetic.{IntegerType, Operator, converted};
+ghost use Rattle.c_types.specs.Table.{shape_at, is_function};
+ghost use Rattle.runs.specs.Outcome.{Done, from};
 ghost use Rattle.src_mem.specs.Pointers.{Pointer, Value, same_pointer};
 ghost use Rattle.src_mem.specs.Memory.{Planned};
-ghost use Rattle.src_mem.specs.State.{State, Setting, bytes_of};
-ghost use Rattle.src_mem.specs.Primitives.{load_integer, load_pointer, store_integer, store_pointer, clear, copy, allocate, enter, leave, get, put};
-ghost use Rattle.src_mem.specs.Laws.{AreWhole, KeepsWhole, GivesNext, left_by};
+ghost use Rattle.src_mem.specs.State.{State, Act, Setting, bytes_of};
+ghost use Rattle.src_mem.specs.Primitives.{load_integer, load_pointer, store_integer, store_pointer, clear, copy, allocate, enter, leave, called, get, put};
+ghost use Rattle.src_mem.specs.Checks.{Used, Call, conditions_of, all_checked};
+ghost use Rattle.src_mem.specs.Uses.{read, write};
+ghost use Rattle.src_mem.specs.Operations.{kind_in, moved, subtracted, equated, compared, converted_pointer, member};
+ghost use Rattle.src_mem.specs.Facts.{IsSoundMemory, IsHeld};
+ghost use Rattle.src_mem.specs.Laws.{AreWhole, KeepsWhole, GivesNext, IsNotWrong, IsScalar, IsScalarValue, IsOrder, left_by};
 
 /// Equality of pointers (C99 6.5.9) is an equivalence.
 pub fn pointer_equality_is_an_equivalence()
@@ -49,4 +56,24 @@ pub fn put_appends_one_byte()
 /// `getchar` reads no more input than there is.
 pub fn get_reads_what_is_there()
     ensures { (s : State) → s.read ≤ length (bytes_of s.input) → (left_by (get s)).read ≤ length (bytes_of (left_by (get s)).input) }
+{}
+
+/// A read or a write of a scalar, with its conditions before it, is wrong nowhere: through a pointer of its kind to the type,
+/// in a memory that meets the facts of a run. It gives a value, or a check stops it.
+pub fn reads_and_writes_are_not_wrong()
+    ensures reading { (w : Setting) (place : Place) (depth : ℕ) (kind : Kind) (t : TypeId) (p : Pointer) (s : State) → IsSoundMemory w s.memory → IsScalar (shape_at w.table t) → IsHeld w s.memory.objects depth kind t p → IsNotWrong (read w place kind t p s) }
+    ensures writing { (w : Setting) (own assignment : Place) (depth : ℕ) (kind : Kind) (t : TypeId) (p : Pointer) (v : Value) (s : State) → IsScalarValue (shape_at w.table t) v → IsHeld w s.memory.objects depth kind t p → IsNotWrong (write w own assignment kind t p v s) }
+{}
+
+/// An operation on pointers, with its conditions before it, is wrong nowhere, where the kinds are those that it asks for: SEQ or WILD
+/// for what moves, is subtracted or put in order, SAFE or WILD for what is called, and WILD for a member's address exactly
+/// where its struct's is.
+pub fn pointer_operations_are_not_wrong()
+    ensures moving { (w : Setting) (at : Place) (t : TypeId) (n : ℤ) (p : Pointer) (s : State) → (kind_in w t ≡ Seq) ⊎ (kind_in w t ≡ Wild) → IsNotWrong (moved w at t n p s) }
+    ensures difference { (w : Setting) (at : Place) (t : TypeId) (p : Pointer) (q : Used) (s : State) → (kind_in w t ≡ Seq) ⊎ (kind_in w t ≡ Wild) → IsNotWrong (subtracted w at t p q s) }
+    ensures order { (w : Setting) (at : Place) (operator : Operator) (null : Bool) (p q : Used) (s : State) → IsOrder operator → (p.kind ≡ Seq) ⊎ (p.kind ≡ Wild) → IsNotWrong (compared w at operator null p q s) }
+    ensures equality { (w : Setting) (at : Place) (null : Bool) (p q : Used) (s : State) → IsNotWrong (equated w at null p q s) }
+    ensures conversion { (w : Setting) (at : Place) (t u : TypeId) (p : Pointer) (s : State) → IsNotWrong (converted_pointer w at t u p s) }
+    ensures members { (w : Setting) (at : Place) (depth : ℕ) (kind : Kind) (t : TypeId) (i : ℕ) (node : NodeId) (u : TypeId) (p : Pointer) (s : State) → ((kind ≡ Wild) ↔ (w.kind node ≡ Wild)) → IsFalse (is_function w.table t) → IsHeld w s.memory.objects depth kind t p → IsNotWrong (member w at kind t i node u p s) }
+    ensures calls { (w : Setting) (at : Place) (depth deeper : ℕ) (kind : Kind) (t : TypeId) (p : Pointer) (next : ℕ → Act Value) (s : State) → (kind ≡ Safe) ⊎ (kind ≡ Wild) → IsTrue (is_function w.table t) → IsHeld w s.memory.objects depth kind t p → ((f : ℕ) → IsNotWrong (next f s)) → IsNotWrong (from (all_checked w at (conditions_of (Call t deeper) kind p) s) (λ a. called p next)) }
 {}

@@ -1,0 +1,4 @@
+pub mod RunLaws
+pub mod KeepLaws
+pub mod TypingLaws
+pub mod ShapedPrograms

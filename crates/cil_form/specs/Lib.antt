@@ -1,0 +1,9 @@
+pub mod State
+pub mod Meaning
+pub mod Machine
+pub mod Typing
+pub mod Shape
+pub mod Sites
+pub mod Laws
+pub mod Small
+pub mod Programs

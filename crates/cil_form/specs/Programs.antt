@@ -1,0 +1,127 @@
+-- Small programs in three-address code, and what they give.
+use Rattle.std.specs.Prelude.{ℕ, pos, false, List, [], ◌∷◌, ◌++◌}
+use Rattle.std.proofs.Common.{lit<}
+use Rattle.std.specs.declared.alloc.Global.{Global}
+use Rattle.cc_base.specs.declared.kind.Kind.TheVariants.{Safe, Seq}
+use Rattle.c_types.specs.declared.shape.TypeShape.TheVariants as shape
+use Rattle.c_types.specs.Table.{Table}
+use Rattle.c_types.specs.Calls.{basic_table}
+use Rattle.runs.specs.Input.{Closed}
+use Rattle.src_mem.specs.Runs.{SourceOutcome}
+use Rattle.cil_form.specs.declared.instr.Comparison.TheVariants as comparison
+use Rattle.cil_form.specs.declared.instr.Direction.TheVariants as direction
+use Rattle.cil_form.specs.declared.instr.Operator.TheVariants as operator
+use Rattle.cil_form.specs.declared.instr.Set.TheVariants as set
+use Rattle.cil_form.specs.declared.instr.Calculate.TheVariants as calculate
+use Rattle.cil_form.specs.declared.instr.Point.TheVariants as point
+use Rattle.cil_form.specs.declared.instr.Target.TheVariants as target
+use Rattle.cil_form.specs.declared.instr.Access.TheVariants as access
+use Rattle.cil_form.specs.declared.instr.RuntimeCall.TheVariants as runtime
+use Rattle.cil_form.specs.declared.instr.Instr.{Instr}
+use Rattle.cil_form.specs.declared.instr.Instr.TheVariants as instr
+use Rattle.cil_form.specs.declared.program.Function.{Function}
+use Rattle.cil_form.specs.declared.program.Program.{Program}
+use Rattle.cil_form.specs.Machine.{code_run}
+use Rattle.cil_form.specs.Small.{at, node, type, int, entry, kinds, temp, variable, code, parameter, local, program}
+
+-- an int of a variable, into temporary t: the address of the variable, and then a load
+abbrev read_int : ℕ → ℕ → ℕ → ℕ → List Instr
+read_int t k home column =
+    instr.Set (set.Object (temp t) (variable k) (node home) int)
+    ∷ instr.Access (access.Load (temp t) (temp t) (node home) int (at column))
+    ∷ []
+
+-- int main(void){int i;while(i<3){putchar('a');i=i+1;}return i;}
+
+abbrev pub loop_table : Table
+loop_table = basic_table ++ entry (shape.Function [] int) ∷ []
+
+-- a round: the condition, and then the body
+abbrev pub loop_round : Global → List Instr
+loop_round alloc =
+    read_int 0 0 0 28
+    ++ instr.Set (set.Integer (temp 1) (pos 3) int)
+    ∷ instr.Calculate (calculate.Binary (temp 0) (operator.Compare comparison.Less) (temp 0) (temp 1) int (at 29))
+    ∷ instr.If (temp 0) (code alloc [] (lit< tt)) (code alloc (instr.Break 0 ∷ []) (lit< tt))
+    ∷ instr.Set (set.Integer (temp 0) (pos 97) int)
+    ∷ instr.Runtime (runtime.Putchar (temp 0) (temp 0))
+    ∷ instr.Set (set.Object (temp 0) (variable 0) (node 0) int)
+    ∷ instr.Set (set.Object (temp 1) (variable 0) (node 0) int)
+    ∷ instr.Access (access.Load (temp 1) (temp 1) (node 0) int (at 48))
+    ∷ instr.Set (set.Integer (temp 2) (pos 1) int)
+    ∷ instr.Calculate (calculate.Binary (temp 1) operator.Add (temp 1) (temp 2) int (at 49))
+    ∷ instr.Access (access.Store (target.Pointer (temp 0) (node 0)) (temp 1) int (at 46) (at 47))
+    ∷ []
+
+abbrev pub loop_body : Global → List Instr
+loop_body alloc = instr.Loop (code alloc (loop_round alloc) (lit< tt)) ∷ read_int 0 0 0 60 ++ instr.ReturnValue (temp 0) int (at 53) ∷ []
+
+abbrev pub loop_main : Global → Function
+loop_main alloc = record { ty = type 9; parameters = []; locals = local 0 int ∷ []; body = code alloc (loop_body alloc) (lit< tt) }
+
+abbrev pub loop_program : Global → Program
+loop_program alloc = program loop_table 1 (loop_main alloc ∷ []) 0 (at 5) (code alloc [] (lit< tt))
+
+-- its run with so many turns
+abbrev pub loop_run : Global → ℕ → SourceOutcome
+loop_run alloc turns = code_run (loop_program alloc) (kinds []) (Closed []) turns
+
+-- int f(int a){return a+1;}int main(void){return f(4);}
+
+abbrev pub call_table : Table
+call_table = basic_table ++ entry (shape.Function (int ∷ []) int) ∷ entry (shape.Function [] int) ∷ entry (shape.Pointer (node 1) (type 9)) ∷ []
+
+abbrev pub called_body : List Instr
+called_body =
+    read_int 0 0 0 21
+    ++ instr.Set (set.Integer (temp 1) (pos 1) int)
+    ∷ instr.Calculate (calculate.Binary (temp 0) operator.Add (temp 0) (temp 1) int (at 22))
+    ∷ instr.ReturnValue (temp 0) int (at 14)
+    ∷ []
+
+abbrev pub calling_body : List Instr
+calling_body =
+    instr.Set (set.Function (temp 0) (record { 0 = 0 }) (type 11))
+    ∷ instr.Set (set.Integer (temp 1) (pos 4) int)
+    ∷ instr.Call (record { into = temp 0; callee = temp 0; ty = type 11; first = temp 1; count = 1; place = at 49 })
+    ∷ instr.ReturnValue (temp 0) int (at 41)
+    ∷ []
+
+abbrev pub called : Global → Function
+called alloc = record { ty = type 9; parameters = parameter 0 int ∷ []; locals = []; body = code alloc called_body (lit< tt) }
+
+abbrev pub calling : Global → Function
+calling alloc = record { ty = type 10; parameters = []; locals = []; body = code alloc calling_body (lit< tt) }
+
+abbrev pub call_program : Global → Program
+call_program alloc = program call_table 2 (called alloc ∷ calling alloc ∷ []) 1 (at 30) (code alloc [] (lit< tt))
+
+abbrev pub call_run : Global → SourceOutcome
+call_run alloc = code_run (call_program alloc) (kinds []) (Closed []) 1
+
+-- int main(void){int a[3];a[3]=1;return 0;}
+
+abbrev pub access_table : Table
+access_table = basic_table ++ entry (shape.Function [] int) ∷ entry (shape.Array int 3) ∷ entry (shape.Pointer (node 1) int) ∷ []
+
+abbrev pub access_body : List Instr
+access_body =
+    instr.Set (set.Object (temp 0) (variable 0) (node 0) (type 10))
+    ∷ instr.Point (point.Decay (temp 0) (temp 0) (node 0) (type 10) false (node 1) int (at 25))
+    ∷ instr.Set (set.Integer (temp 1) (pos 3) int)
+    ∷ instr.Point (point.Move (temp 0) (temp 0) (temp 1) direction.Forward (type 11) (at 26))
+    ∷ instr.Set (set.Integer (temp 1) (pos 1) int)
+    ∷ instr.Access (access.Store (target.Pointer (temp 0) (node 1)) (temp 1) int (at 26) (at 29))
+    ∷ instr.Set (set.Integer (temp 0) (pos 0) int)
+    ∷ instr.ReturnValue (temp 0) int (at 32)
+    ∷ []
+
+abbrev pub access_main : Global → Function
+access_main alloc = record { ty = type 9; parameters = []; locals = local 0 (type 10) ∷ []; body = code alloc access_body (lit< tt) }
+
+abbrev pub access_program : Global → Program
+access_program alloc = program access_table 2 (access_main alloc ∷ []) 0 (at 5) (code alloc [] (lit< tt))
+
+-- its run, where the address of the array's first element is SEQ
+abbrev pub access_run : Global → SourceOutcome
+access_run alloc = code_run (access_program alloc) (kinds (Safe ∷ Seq ∷ [])) (Closed []) 1

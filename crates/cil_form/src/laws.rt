@@ -1,0 +1,91 @@
+//! Laws of three-address code. Each is the contract of a function that does nothing, so that it is proved once and can be cited.
+
+ghost use Rattle.std.specs.Prelude.{◌≡◌, ℕ, suc, List, [], ◌∷◌, ◌++◌};
+ghost use Rattle.std.specs.declared.alloc.Global.{Global};
+ghost use Rattle.cc_base.specs.declared.fault.Check.TheVariants.{Bounds};
+ghost use Rattle.runs.specs.Outcome.{Ended, Done, from, either};
+ghost use Rattle.runs.specs.Control.{Leaves, then_go, block, go_round, rounds};
+ghost use Rattle.src_mem.specs.Pointers.{is_true};
+ghost use Rattle.src_mem.specs.State.{Exited, Turns, Stopped};
+ghost use Rattle.cil_form.specs.declared.number.Temp.{Temp};
+ghost use Rattle.cil_form.specs.declared.instr.Instr.{Instr};
+ghost use Rattle.cil_form.specs.declared.instr.Instr.TheVariants.{If, Block, Loop, Break};
+ghost use Rattle.cil_form.specs.declared.instr.Code.{Code};
+ghost use Rattle.cil_form.specs.State.{Local, Step, Around};
+ghost use Rattle.cil_form.specs.Meaning.{act, run, round_of, loop};
+ghost use Rattle.cil_form.specs.Typing.{Typing, Context, Includes, HoldsScalar, Passes, inside, IsShaped, AreShaped};
+ghost use Rattle.cil_form.specs.Laws.{CodeWritesFrom, Keeps};
+ghost use Rattle.cil_form.specs.Small.{at, shown, access};
+ghost use Rattle.cil_form.specs.Programs.{loop_program, loop_run, call_program, call_run, access_program, access_run};
+ghost use Rattle.cil_form.specs.Shape.{IsInShape};
+ghost use Rattle.c_types.specs.Sound.{IsWellFormed};
+
+/// Code after code: the first runs, and then the second where the first goes on.
+pub fn code_runs_after_code()
+    ensures { (is js : List Instr) (w : Around) (c : Local) → run (is ++ js) w c ≡ from (run is w c) (λ x. then_go x (run js w)) }
+{}
+
+/// What stands behind a `break` doesn't run.
+pub fn nothing_runs_behind_a_break()
+    ensures { (k : ℕ) (is : List Instr) (w : Around) (c : Local) → run (Break k ∷ is) w c ≡ Done (Leaves k) c }
+{}
+
+/// The code that an instruction holds runs as the list of its instructions does.
+pub fn held_code_runs_as_its_list()
+    ensures choice { (t : Temp) (x y : Code) (w : Around) (c : Local) → act (If t x y) w c ≡ either (is_true (c.temps t.0)) (run x.0.items w) (run y.0.items w) c }
+    ensures once { (x : Code) (w : Around) (c : Local) → act (Block x) w c ≡ block (run x.0.items w) c }
+    ensures again { (x : Code) (w : Around) (c : Local) → act (Loop x) w c ≡ loop (run x.0.items w) c }
+{}
+
+/// A loop takes a turn before each round, and makes no more rounds than there are turns where it begins.
+pub fn a_loop_takes_a_turn_a_round()
+    ensures spent { (body : Step) (c : Local) → c.state.turns ≡ 0 → loop body c ≡ Ended Turns c }
+    ensures round { (body : Step) (n : ℕ) (c : Local) → c.state.turns ≡ suc n → loop body c ≡ from (round_of body c) (λ x. go_round x (rounds Turns n (round_of body))) }
+{}
+
+/// Code that writes no temporary below a number keeps all below it, however it is left.
+pub fn temporaries_below_are_kept()
+    ensures { (is : List Instr) (w : Around) (low : ℕ) (c : Local) → CodeWritesFrom is low → Keeps low c.temps (run is w c) }
+{}
+
+/// Code that is in shape stays so where more is known of the temporaries before it, and where less is kept behind it.
+pub fn more_may_be_known()
+    ensures before { (is : List Instr) (k : Context) (more less after : Typing) → Includes more less → AreShaped is k less after → AreShaped is k more after }
+    ensures behind { (is : List Instr) (k : Context) (types after less : Typing) → AreShaped is k types after → Includes after less → AreShaped is k types less }
+{}
+
+/// Code after code is in shape where what the first leaves is what the second begins with.
+pub fn code_after_code_is_in_shape()
+    ensures { (is js : List Instr) (k : Context) (types middle after : Typing) → AreShaped is k types middle → AreShaped js k middle after → AreShaped (is ++ js) k types after }
+{}
+
+/// An instruction that holds code is in shape where the list of its instructions is.
+pub fn held_code_is_in_shape_as_its_list()
+    ensures choice { (t : Temp) (x y : Code) (k : Context) (types after : Typing) → HoldsScalar types t → AreShaped x.0.items k types after → AreShaped y.0.items k types after → IsShaped (If t x y) k types after }
+    ensures once { (x : Code) (k : Context) (types entry after : Typing) → Passes types entry k after → AreShaped x.0.items (inside k entry) entry entry → IsShaped (Block x) k types after }
+    ensures again { (x : Code) (k : Context) (types entry after : Typing) → Passes types entry k after → AreShaped x.0.items (inside k entry) entry entry → IsShaped (Loop x) k types after }
+{}
+
+/// `int main(void){int i;while(i<3){putchar('a');i=i+1;}return i;}` makes four rounds: it ends with 4 turns, and not with 3.
+pub fn a_loop_runs()
+    ensures ending { (alloc : Global) → (loop_run alloc 4).ending ≡ Exited 3 }
+    ensures output { (alloc : Global) → (loop_run alloc 4).output ≡ 97 ∷ 97 ∷ 97 ∷ [] }
+    ensures spent { (alloc : Global) → (loop_run alloc 3).ending ≡ Turns }
+{}
+
+/// `int f(int a){return a+1;}int main(void){return f(4);}` enters `main` and then `f`, stores the argument and loads it.
+pub fn a_call_runs()
+    ensures { (alloc : Global) → shown (call_run alloc) ≡ record { ending = Exited 5; output = []; entered = 1 ∷ 0 ∷ []; accesses = access 0 0 4 ∷ access 0 0 4 ∷ [] } }
+{}
+
+/// `int main(void){int a[3];a[3]=1;return 0;}` stops before the store, which touches nothing.
+pub fn a_checked_access_stops()
+    ensures { (alloc : Global) → shown (access_run alloc) ≡ record { ending = Stopped Bounds (at 26); output = []; entered = 0 ∷ []; accesses = [] } }
+{}
+
+/// The three programs are in shape, as soon as their tables of types are well formed, which each table of `Types` is.
+pub fn small_programs_are_in_shape()
+    ensures looping { (alloc : Global) → IsWellFormed (loop_program alloc).types → IsInShape (loop_program alloc) }
+    ensures calling { (alloc : Global) → IsWellFormed (call_program alloc).types → IsInShape (call_program alloc) }
+    ensures accessing { (alloc : Global) → IsWellFormed (access_program alloc).types → IsInShape (access_program alloc) }
+{}

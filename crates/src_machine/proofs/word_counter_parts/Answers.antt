@@ -1,0 +1,16 @@
+use Rattle.std.proofs.Common.{refl}
+use Rattle.c_types.specs.Layouts.{layout_of}
+use Rattle.c_types.specs.Cells.{cells_at, holds_pointer}
+use Rattle.c_types.specs.Equality.{physically_equal}
+use Rattle.flat_mem.specs.Bytes.{number, stored, zeroed, bytes_at, written}
+use Rattle.src_mem.specs.Coverage.{kinds_agree}
+use Rattle.src_mem.specs.Runs.{nested_limit}
+use Rattle.src_machine.proofs.word_counter_parts.Goals as goal
+
+pub returns-clause-ends : goal.returns-clause-ends
+unfolding layout_of cells_at holds_pointer physically_equal number stored zeroed bytes_at written kinds_agree nested_limit
+returns-clause-ends c = refl
+
+pub returns-clause-calls : goal.returns-clause-calls
+unfolding layout_of cells_at holds_pointer physically_equal number stored zeroed bytes_at written kinds_agree nested_limit
+returns-clause-calls c = refl

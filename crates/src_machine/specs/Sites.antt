@@ -1,0 +1,180 @@
+-- What a typed unit asks of the kinds of its nodes: its sites, construct by construct.
+use Rattle.std.specs.Prelude.{Bool, false, ◌&&◌, if◌then◌else◌, List, [], ◌∷◌, ◌++◌, map, flat_map, Option, None, Some, bytes_eq}
+use Rattle.cc_base.specs.declared.place.Place.{Place}
+use Rattle.cc_base.specs.declared.number.NodeId.{NodeId}
+use Rattle.cc_base.specs.declared.number.TypeId.{TypeId}
+use Rattle.cc_base.specs.declared.kind.Kind.{Kind}
+use Rattle.c_types.specs.declared.shape.TypeShape.{TypeShape}
+use Rattle.c_types.specs.declared.shape.TypeShape.TheVariants as shape
+use Rattle.c_types.specs.declared.site.Site.{Site}
+use Rattle.c_types.specs.declared.site.Site.TheVariants as site
+use Rattle.c_types.specs.Table.{Table, Entry, shape_at, is_function}
+use Rattle.c_types.specs.Solutions as solutions
+use Rattle.c_tree.specs.declared.leaf.Identifier.{Identifier}
+use Rattle.c_tree.specs.declared.operator.AggregateKind.{AggregateKind}
+use Rattle.c_tree.specs.declared.operator.AggregateKind.TheVariants as aggregate
+use Rattle.c_tree.specs.declared.operator.Binary.{Binary}
+use Rattle.c_tree.specs.declared.operator.Binary.TheVariants as binary
+use Rattle.c_tree.specs.declared.typed_word.Conversion.{Conversion}
+use Rattle.c_tree.specs.declared.typed_word.Conversion.TheVariants as conversion
+use Rattle.c_tree.specs.declared.typed_word.Home.{Home}
+use Rattle.c_tree.specs.declared.typed_word.Home.TheVariants as home
+use Rattle.c_tree.specs.TypedTree as typed
+use Rattle.c_tree.specs.TypedTree.{TypedExpr, TypedPlace, TypedSpecifier, TypedDeclarator, TypedInitialiser, TypedItems, TypedTranslationUnit}
+use Rattle.c_tree.specs.TypedParts.{type_of, place_type, named_type, declared_type, pointer_side, address_node, home_of, name_of, statics_of, functions_of}
+use Rattle.src_mem.specs.Operations.{node_of_shape, pointee_of_shape}
+use Rattle.src_machine.specs.World.{same_node}
+use Rattle.src_machine.specs.Machine.{variables_of}
+use Rattle.src_machine.specs.Pieces.{Piece, AnExpression, APlace, ASpecifier, ADeclarator, AnInitialiser, pieces_of_unit}
+
+-- the node of a pointer type, and what it points to
+abbrev pub node_at : Table → TypeId → NodeId
+node_at table t = node_of_shape (shape_at table t)
+
+abbrev pub pointee_at : Table → TypeId → TypeId
+pointee_at table t = pointee_of_shape (shape_at table t)
+
+-- the node of the address of a place
+abbrev pub address_at : Table → TypedPlace → NodeId
+address_at table p = address_node (node_at table) p
+
+-- a pointer of type t moves, is subtracted or is put in order
+abbrev pub moves : Table → TypeId → Place → Site
+moves table t at = site.Arith (node_at table t) at
+
+-- `++`, `--` and compound assignments move a pointer; on integers they ask nothing
+abbrev pub moves_where_pointer : TypeShape → Place → List Site
+moves_where_pointer (shape.Pointer node to) at = site.Arith node at ∷ []
+moves_where_pointer other at = []
+
+-- a conversion of a value of type t to the type u
+abbrev pub sites_of_conversion : Table → Conversion → Place → TypeId → TypeId → List Site
+sites_of_conversion table conversion.PointerToPointer at t u =
+    site.Flow (node_at table t) (pointee_at table t) (node_at table u) (pointee_at table u) at ∷ []
+sites_of_conversion table conversion.IntegerToPointer at t u = site.Integer (node_at table u) at ∷ []
+sites_of_conversion table which at t u = []
+
+-- `<`, `>`, `<=` and `>=` of pointers of the types t and u
+abbrev pub sites_of_comparison : Table → Binary → Place → TypeId → TypeId → List Site
+sites_of_comparison table binary.Equal at t u = []
+sites_of_comparison table binary.NotEqual at t u = []
+sites_of_comparison table order at t u = moves table t at ∷ moves table u at ∷ []
+
+-- What an expression asks by itself
+abbrev pub sites_of_expression : Table → TypedExpr → List Site
+-- the address of an array's first element, and of a place, is that of a part of its object
+sites_of_expression table (typed.Decay p n t) = site.Linked n (address_at table p) ∷ []
+sites_of_expression table (typed.AddressOf at p n t) = site.Linked n (address_at table p) ∷ []
+sites_of_expression table (typed.Convert which at t e) = sites_of_conversion table which at (type_of e) t
+sites_of_expression table (typed.Cast which at to e) = sites_of_conversion table which at (type_of e) (named_type to)
+sites_of_expression table (typed.StepBefore which at p) = moves_where_pointer (shape_at table (place_type p)) at
+sites_of_expression table (typed.StepAfter p which at) = moves_where_pointer (shape_at table (place_type p)) at
+sites_of_expression table (typed.AssignWith operator p at e t) = moves_where_pointer (shape_at table (place_type p)) at
+sites_of_expression table (typed.Moved operator which a at b t) = moves table (type_of (pointer_side which a b)) at ∷ []
+sites_of_expression table (typed.Difference a at b t) = moves table (type_of a) at ∷ moves table (type_of b) at ∷ []
+sites_of_expression table (typed.Compared operator a at b t) = sites_of_comparison table operator at (type_of a) (type_of b)
+sites_of_expression table other = []
+
+-- what a place asks by itself
+abbrev pub sites_of_place : Table → TypedPlace → List Site
+sites_of_place table (typed.Element which a at b t) = moves table (type_of (pointer_side which a b)) at ∷ []
+-- a member's place is an address of a part of its struct
+sites_of_place table (typed.Member p at name i n t) = site.Pointee n t ∷ site.Linked n (address_at table p) ∷ []
+sites_of_place table (typed.MemberAt e at name i n t) = site.Pointee n t ∷ site.Linked n (node_at table (type_of e)) ∷ []
+-- the two sides of an assignment of structs or unions, and of a choice between them
+sites_of_place table (typed.StructAssign p at q) = site.Linked (address_at table p) (address_at table q) ∷ []
+sites_of_place table (typed.StructConditional c at p q) = site.Linked (address_at table p) (address_at table q) ∷ []
+sites_of_place table other = []
+
+-- the union whose members stand there
+abbrev pub sites_of_aggregate : AggregateKind → Place → TypeId → List Site
+sites_of_aggregate aggregate.Struct at t = []
+sites_of_aggregate aggregate.Union at t = site.Union t at ∷ []
+
+abbrev pub sites_of_specifier : TypedSpecifier → List Site
+sites_of_specifier (typed.Aggregate kind at name brace members t) = sites_of_aggregate kind at t
+sites_of_specifier other = []
+
+-- an initialiser that is a struct or union is an assignment to the object with this home
+abbrev mutual
+  pub copies_in : Table → NodeId → TypedInitialiser → List Site
+  copies_in table n (typed.Value e) = []
+  copies_in table n (typed.Copied p at) = site.Linked n (address_at table p) ∷ []
+  copies_in table n (typed.Text pieces bytes) = []
+  copies_in table n (typed.Listed at items comma t) = copies_in_items table n items
+
+  pub copies_in_items : Table → NodeId → TypedItems → List Site
+  copies_in_items table n typed.NoItem = []
+  copies_in_items table n (typed.AndItem all offset t i) = copies_in_items table n all ++ copies_in table n i
+
+-- the object that a declarator names
+abbrev pub object_node : Home → Option NodeId
+object_node home.None = None
+object_node (home.Static n) = Some n
+object_node (home.Local n) = Some n
+object_node (home.Parameter n) = Some n
+object_node (home.Known n) = Some n
+
+abbrev pub copies_to : Table → Option NodeId → TypedInitialiser → List Site
+copies_to table None i = []
+copies_to table (Some n) i = copies_in table n i
+
+abbrev pub sites_of_piece : Table → Piece → List Site
+sites_of_piece table (AnExpression e) = sites_of_expression table e
+sites_of_piece table (APlace p) = sites_of_place table p
+sites_of_piece table (ASpecifier s) = sites_of_specifier s
+sites_of_piece table (ADeclarator d) = []
+sites_of_piece table (AnInitialiser d i) = copies_to table (object_node (home_of d)) i
+
+-- Types and homes
+
+-- each pointer type, those of address expressions among them
+abbrev pub sites_of_shape : TypeShape → List Site
+sites_of_shape (shape.Pointer node to) = site.Pointee node to ∷ []
+sites_of_shape other = []
+
+abbrev pub sites_of_table : Table → List Site
+sites_of_table table = flat_map (λ (e : Entry). sites_of_shape e.shape) table
+
+-- the home of each static object, literal, named parameter and local variable
+abbrev pub sites_of_homes : TypedTranslationUnit → List Site
+sites_of_homes u = map (λ o. site.Home o.home o.type) (statics_of u)
+    ++ flat_map (λ f. map (λ v. site.Home v.node v.type) (variables_of f)) (functions_of u)
+
+-- Declarations of one name
+
+abbrev pub declarator_of : Piece → List TypedDeclarator
+declarator_of (ADeclarator d) = d ∷ []
+declarator_of other = []
+
+abbrev pub same_object : Option NodeId → Option NodeId → Bool
+same_object (Some m) (Some n) = same_node m n
+same_object m n = false
+
+abbrev pub same_name : Option Identifier → Option Identifier → Bool
+same_name (Some x) (Some y) = bytes_eq x.bytes y.bytes
+same_name x y = false
+
+-- Two declarators declare one object, or one function. A name of a function type is that of one function wherever it is declared
+-- (C99 6.2.2).
+abbrev pub same_declared : Table → TypedDeclarator → TypedDeclarator → Bool
+same_declared table d e =
+    if is_function table (declared_type d) && is_function table (declared_type e)
+    then same_name (name_of d) (name_of e)
+    else same_object (object_node (home_of d)) (object_node (home_of e))
+
+-- a declarator and the later ones that declare the same
+abbrev pub sites_of_declarators : Table → List TypedDeclarator → List Site
+sites_of_declarators table [] = []
+sites_of_declarators table (d ∷ ds) =
+    flat_map (λ e. if same_declared table d e then site.Same (declared_type d) (declared_type e) ∷ [] else []) ds ++ sites_of_declarators table ds
+
+-- all sites of a unit with its table of types
+abbrev pub sites_of : TypedTranslationUnit → Table → List Site
+sites_of u table =
+    sites_of_table table ++ sites_of_homes u ++ flat_map (sites_of_piece table) (pieces_of_unit u)
+    ++ sites_of_declarators table (flat_map declarator_of (pieces_of_unit u))
+
+-- A map from nodes to kinds is a solution of a typed unit.
+abbrev pub IsSolution : TypedTranslationUnit → Table → (NodeId → Kind) → Type 0
+IsSolution u table kind = solutions.IsSolution table (sites_of u table) kind

@@ -2,5 +2,8 @@
 #![tactic(auto)]
 
 mod declared;
+mod level;
+mod scope;
 
 pub use declared::{Declared, Tag};
+pub use scope::Scope;

@@ -7,3 +7,4 @@ pub mod Held
 pub mod Rules
 pub mod Declarators
 pub mod Typing
+pub mod Tests

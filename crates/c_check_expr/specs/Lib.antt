@@ -8,3 +8,4 @@ pub mod Rules
 pub mod Declarators
 pub mod Typing
 pub mod Tests
+pub mod Refusals

@@ -1,11 +1,13 @@
 -- Laws on scopes, and on what is seen of the maps that keep them.
-use Rattle.std.proofs.Common.{◌≡◌, ℕ, suc, ◌-◌, ◌<◌, Bool, true, false, cond, List, [], ◌∷◌, ◌++◌, length, take, get_or, slice_set, Result, Ok, Err, OnOk, Option, Some, None, refl, ap, sym, ◌∙◌, bytes_eq, subst, arith}
+use Rattle.std.proofs.Common.{◌≡◌, ℕ, suc, ◌+◌, ◌-◌, not, ◌<◌, Bool, true, false, cond, List, [], ◌∷◌, ◌++◌, length, take, get_or, slice_set, map, nat_lt, Result, Ok, Err, OnOk, Option, Some, None, refl, ap, sym, ◌∙◌, bytes_eq, subst, arith}
+use Rattle.std.specs.List.{position, position_or_len}
 use Rattle.std.specs.Map.{lookup}
+use Rattle.std.proofs.lemmas.List.{length-map}
 use Rattle.std.proofs.lemmas.Option.{none-some}
 use Rattle.indexmap.specs.IndexMap.{insert_entry}
 use Rattle.c_check_expr.specs.declared.declared.Declared.{Declared}
 use Rattle.c_check_expr.specs.declared.declared.Tag.{Tag}
-use Rattle.c_check_expr.specs.Scopes.{Name, Level, Seen, entry_of, seen_entries, with_name, with_tag, with_scopes, leaving, declaring, here, at_innermost, or_outer, name_in, innermost, without_innermost}
+use Rattle.c_check_expr.specs.Scopes.{Name, Level, Seen, entry_of, seen_entries, with_name, with_tag, with_scopes, leaving, declaring, declaring_tag, here, tag_here, at_innermost, or_outer, name_in, tag_in, innermost, without_innermost}
 
 abbrev level : List (Name × Declared) → List (Name × Tag) → Level
 level names tags = record { names = names; tags = tags }
@@ -125,11 +127,11 @@ declared-last file inner defined members node globals cells now name what m n se
     subst P seen (ap (λ ls. with_scopes (seen_of file inner defined members node globals cells) (record { levels = ls; defined = defined; members = members }))
     (sym (at-last (with_name name what) file inner n m some (new ∙ ap (with_name name what) last))))
 
-or-none : (o : Option Declared) → o ≡ or_outer o None
+or-none : {A : Type 0} (o : Option A) → o ≡ or_outer o None
 or-none None = refl
 or-none (Some x) = refl
 
-or-assoc : (a b c : Option Declared) → or_outer (or_outer a b) c ≡ or_outer a (or_outer b c)
+or-assoc : {A : Type 0} (a b c : Option A) → or_outer (or_outer a b) c ≡ or_outer a (or_outer b c)
 or-assoc None b c = refl
 or-assoc (Some x) b c = refl
 
@@ -144,3 +146,37 @@ name_in-push (k ∷ ls) l name =
 pub on_ok : {T E : Type 0} (P Q : Type 0) (r : Result T E) → (P → Q) → OnOk r P → OnOk r Q
 on_ok P Q (Ok x) f p = f p
 on_ok P Q (Err e) f p = p
+
+-- the same of tags
+
+pub tag_here-last : (file : Level) (inner : List Level) (defined : List Name) (members : List (List Name)) (node globals cells : ℕ) (now : Seen) (name : Name) (m : Level)
+    → seen_of file inner defined members node globals cells ≡ now → 0 < length inner → m ≡ get_or inner (length inner - 1) m
+    → tag_here now.scopes.levels name ≡ None → entry_of m.tags name ≡ None
+tag_here-last file inner defined members node globals cells now name m seen some last none =
+    ap (λ l. entry_of l.tags name) (last ∙ sym (innermost-last file inner m some))
+    ∙ ap (λ t. tag_here t.scopes.levels name) seen ∙ none
+
+pub tag_declared-last : (file : Level) (inner : List Level) (defined : List Name) (members : List (List Name)) (node globals cells : ℕ) (now : Seen) (name : Name) (what : Tag) (m n : Level)
+    → seen_of file inner defined members node globals cells ≡ now → 0 < length inner → m ≡ get_or inner (length inner - 1) m → n ≡ with_tag name what m
+    → seen_of file (slice_set inner (length inner - 1) n) defined members node globals cells ≡ with_scopes now (declaring_tag name what now.scopes)
+tag_declared-last file inner defined members node globals cells now name what m n seen some last new =
+    let P : Seen → Type 0 = λ t. seen_of file (slice_set inner (length inner - 1) n) defined members node globals cells ≡ with_scopes t (declaring_tag name what t.scopes) in
+    subst P seen (ap (λ ls. with_scopes (seen_of file inner defined members node globals cells) (record { levels = ls; defined = defined; members = members }))
+      (sym (at-last (with_tag name what) file inner n m some (new ∙ ap (with_tag name what) last))))
+
+pub tag_in-push : (ls : List Level) (l : Level) (name : Name) → tag_in (ls ++ l ∷ []) name ≡ or_outer (entry_of l.tags name) (tag_in ls name)
+tag_in-push [] l name = or-none (entry_of l.tags name)
+tag_in-push (k ∷ ls) l name =
+    ap (λ o. or_outer o (entry_of k.tags name)) (tag_in-push ls l name)
+    ∙ or-assoc (entry_of l.tags name) (tag_in ls name) (entry_of k.tags name)
+
+-- the place of a name among the keys of a set
+
+place-map : {A B : Type 0} (f : A → B) (p : B → Bool) (xs : List A) → position_or_len p (map f xs) ≡ position_or_len (λ x. p (f x)) xs
+place-map f p [] = refl
+place-map f p (x ∷ xs) = ap (λ n. cond (not (p (f x))) (1 + n) 0) (place-map f p xs)
+
+pub position-map : {A B : Type 0} (f : A → B) (p : B → Bool) (xs : List A) → position p (map f xs) ≡ position (λ x. p (f x)) xs
+position-map f p xs =
+    ap (λ n. cond (nat_lt n (length (map f xs))) (Some n) None) (place-map f p xs)
+    ∙ ap (λ n. cond (nat_lt (position_or_len (λ x. p (f x)) xs) n) (Some (position_or_len (λ x. p (f x)) xs)) None) (length-map xs f)

@@ -3,7 +3,11 @@
 
 mod declared;
 mod level;
+mod member;
 mod scope;
 
 pub use declared::{Declared, Tag};
 pub use scope::Scope;
+
+#[cfg(test)]
+mod tests;

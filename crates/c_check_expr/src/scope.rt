@@ -1,11 +1,13 @@
 //! The scopes that are open, and what is counted.
 #![tactic(auto)]
 
-ghost use Rattle.std.specs.Prelude.{◌≡◌, ◌<◌, ◌≤◌, ◌+◌, true, false, OnOk, OnErr, None, option_copied, length, nat_le, map};
-ghost use Rattle.c_check_expr.specs.Scopes.{file_scope, with_scopes, entering, leaving, declaring, here, name_in};
+ghost use Rattle.std.specs.Prelude.{◌≡◌, ◌<◌, ◌≤◌, ◌+◌, true, false, OnOk, OnErr, IfOk, None, option_copied, length, nat_le, map};
+ghost use Rattle.c_check_expr.specs.Scopes.{file_scope, with_scopes, entering, leaving, declaring, declaring_tag, here, tag_here, name_in, tag_in, place_among, members_named};
+ghost use Rattle.c_check_expr.specs.Typing.{counting_aggregate};
 
-use crate::declared::Declared;
+use crate::declared::{Declared, Tag};
 use crate::level::Level;
+use crate::member::MemberNames;
 use cc_base::NoMemory;
 use indexmap::{IndexMap, IndexSet};
 use std::alloc::Global;
@@ -21,6 +23,7 @@ pub struct Scope {
     file: Level,
     inner: Vec<Level>,
     defined: IndexSet<Vec<u8>>,
+    members: Vec<MemberNames>,
     next_node: u32,
     globals: u64,
     cells: u64,
@@ -32,7 +35,7 @@ impl Model for Scope {
 
     ghost Value = { Seen };
 
-    ghost view = { λ s. record { scopes = record { levels = s.file ∷ s.inner.items; defined = map (λ k. k.items) s.defined.keys; members = [] }; node = s.next_node; globals = s.globals; cells = s.cells } };
+    ghost view = { λ s. record { scopes = record { levels = s.file ∷ s.inner.items; defined = map (λ k. k.items) s.defined.keys; members = s.members.items }; node = s.next_node; globals = s.globals; cells = s.cells } };
 
     ghost invariant = { λ s. s.globals ≤ 4194304 };
 }
@@ -47,6 +50,7 @@ impl Scope {
             file: Level::new(alloc),
             inner: Vec::new(alloc),
             defined,
+            members: Vec::new(alloc),
             next_node: 0,
             globals: 0,
             cells: 0,
@@ -106,6 +110,69 @@ impl Scope {
             }
         }
         self.file.name(name)
+    }
+
+    /// What a tag stands for: its declaration in the innermost scope that has one. Takes no memory.
+    pub(crate) fn tag(&self, name: &[u8]) -> Option<&Tag>
+        ensures { option_copied result ≡ tag_in self.now.scopes.levels name.now }
+    {
+        let mut rest: &[Level] = &self.inner;
+        'outwards: while let Some((level, outer)) = rest.split_last() {
+            match level.tag(name) {
+                Some(what) => return Some(what),
+                None => rest = outer,
+            }
+        }
+        self.file.tag(name)
+    }
+
+    /// The innermost scope's declaration of a tag. Takes no memory.
+    pub(crate) fn tag_here(&self, name: &[u8]) -> Option<&Tag>
+        ensures { option_copied result ≡ tag_here self.now.scopes.levels name.now }
+    {
+        match self.inner.last() {
+            Some(level) => level.tag(name),
+            None => self.file.tag(name),
+        }
+    }
+
+    /// Declares a tag in the innermost scope, which does not declare it.
+    pub(crate) fn declare_tag(&mut self, name: &[u8], what: Tag) -> Result<(), NoMemory>
+        requires { tag_here self.old.scopes.levels name.now ≡ None }
+        ensures declared { OnOk result (self.new ≡ with_scopes self.old (declaring_tag name.now what self.old.scopes)) }
+        ensures unchanged { OnErr result (self.new ≡ self.old) }
+    {
+        let count = self.inner.len();
+        if count == 0 {
+            return self.file.declare_tag(self.alloc, name, what);
+        }
+        self.inner[count - 1].declare_tag(self.alloc, name, what)
+    }
+
+    /// Where a function stands among those that the unit defines, counted from 0. Takes no memory.
+    pub(crate) fn function(&self, name: &[u8]) -> Option<usize>
+        ensures { result ≡ place_among self.now.scopes.defined name.now }
+    {
+        self.defined.get_index_of(name)
+    }
+
+    /// Gives a new struct or union its number. It has no members so far.
+    pub(crate) fn new_aggregate(&mut self) -> Result<usize, NoMemory>
+        ensures number { IfOk result (λ number. number ≡ length self.old.scopes.members) }
+        ensures counted { OnOk result (self.new ≡ with_scopes self.old (counting_aggregate self.old.scopes)) }
+        ensures unchanged { OnErr result (self.new ≡ self.old) }
+    {
+        let number = self.members.len();
+        self.members.push(MemberNames::new(self.alloc))?;
+        Ok(number)
+    }
+
+    /// The place of a member of a struct or union by its name, counted from 0. Takes no memory.
+    pub(crate) fn member(&self, number: usize, name: &[u8]) -> Option<usize>
+        requires { number < length self.now.scopes.members }
+        ensures { result ≡ place_among (members_named self.now.scopes number) name.now }
+    {
+        self.members[number].place(name)
     }
 
     /// The number of the next node. Takes no memory.

@@ -10,7 +10,8 @@ use Rattle.c_lexer.specs.declared.word.Keyword.TheVariants as keyword
 use Rattle.c_tree.specs.declared.leaf.Identifier.{Identifier}
 use Rattle.c_tree.specs.declared.typed_word.Adjusted.{Adjusted}
 use Rattle.c_tree.specs.TypedTree as typed
-use Rattle.c_tree.specs.TypedTree.{TypedStar, TypedSpecifierList, TypedSpecifier, TypedForm, TypedCore, TypedParts, TypedParameters, TypedDeclared, TypedMembers, TypedMemberDeclarators}
+use Rattle.c_tree.specs.declared.typed_word.TypedStar.{TypedStar}
+use Rattle.c_tree.specs.TypedTree.{TypedSpecifierList, TypedSpecifier, TypedForm, TypedCore, TypedParts, TypedParameters, TypedDeclared, TypedMembers, TypedMemberDeclarators}
 use Rattle.c_tree.specs.TypedParts.{name_of, declared_type}
 use Rattle.c_tree.specs.Words.{is_typedef_word}
 use Rattle.c_check_expr.specs.Scopes.{Name, Scopes, is_complete_at}

@@ -7,3 +7,5 @@ pub mod Held
 pub mod Rules
 pub mod Declarators
 pub mod Typing
+pub mod Tests
+pub mod Refusals

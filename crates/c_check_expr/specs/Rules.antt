@@ -6,7 +6,7 @@ use Rattle.cc_base.specs.declared.number.NodeId.{NodeId}
 use Rattle.cc_base.specs.declared.number.TypeId.{TypeId}
 use Rattle.c_types.specs.declared.shape.TypeShape.{TypeShape}
 use Rattle.c_types.specs.declared.shape.TypeShape.TheVariants.{Integer, Pointer, Array, Function, Struct, Union}
-use Rattle.c_types.specs.Table.{Table, HasShape, IsAggregate, shape_at, is_aggregate_shape}
+use Rattle.c_types.specs.Table.{Table, HasShape, IsAggregate, shape_at}
 use Rattle.c_types.specs.Layouts.{size_of, member_at}
 use Rattle.c_lexer.specs.Literals.{literal_bytes}
 use Rattle.c_tree.specs.declared.leaf.Identifier.{Identifier}
@@ -20,24 +20,23 @@ use Rattle.c_tree.specs.declared.operator.Unary.TheVariants as unary
 use Rattle.c_tree.specs.declared.typed_word.Conversion.{Conversion}
 use Rattle.c_tree.specs.declared.typed_word.Conversion.TheVariants as conversion
 use Rattle.c_tree.specs.declared.typed_word.Runtime.{Runtime}
-use Rattle.c_tree.specs.declared.typed_word.Runtime.TheVariants as runtime
 use Rattle.c_tree.specs.declared.typed_word.Side.{Side}
 use Rattle.c_tree.specs.declared.typed_word.Side.TheVariants as side
 use Rattle.c_tree.specs.TypedTree as typed
 use Rattle.c_tree.specs.TypedTree.{TypedExpr, TypedPlace, TypedArguments, TypedTypeName}
-use Rattle.c_tree.specs.TypedParts.{type_of, place_type, named_type, pointer_side}
+use Rattle.c_tree.specs.TypedParts.{type_of, place_type, pointer_side}
 use Rattle.c_tree.specs.Erasure.{erased}
 use Rattle.runtime_calls.specs.declared.function.RuntimeType.{RuntimeType}
 use Rattle.runtime_calls.specs.declared.function.RuntimeType.TheVariants as prototype
-use Rattle.runtime_calls.specs.Prototypes.{IsNamed, IsNoName, prototype_of}
+use Rattle.runtime_calls.specs.Prototypes.{IsNamed, prototype_of}
 use Rattle.integers.specs.Arithmetic.{IntegerType, int, long, unsigned_long}
 use Rattle.c_check_expr.specs.declared.declared.Declared.{Declared}
 use Rattle.c_check_expr.specs.declared.declared.Declared.TheVariants as declared
-use Rattle.c_check_expr.specs.Shapes.{IsIntegerType, IsScalar, IsVoid, IsPointerTo, IsSameType, integer_at, is_data, is_integer_shape, is_pointer_shape, is_void_shape, is_array_shape, pointee_at, is_same_type}
-use Rattle.c_check_expr.specs.Integers.{char, promoted, common, constant_type, is_logical, is_order, is_equality, left_type, right_type, result_type, assigning}
+use Rattle.c_check_expr.specs.Shapes.{IsIntegerType, IsScalar, IsVoid, IsPointerTo, IsSameType, integer_at, is_data, is_same_type}
+use Rattle.c_check_expr.specs.Integers.{char, promoted, common, is_logical, is_order, is_equality, left_type, right_type, result_type, assigning}
 use Rattle.c_check_expr.specs.Scopes.{Scopes, name_in, place_among, members_named, is_complete_at}
 use Rattle.c_check_expr.specs.Constants.{divides_badly, is_null_constant}
-use Rattle.c_check_expr.specs.Conversions.{bare, IsPlain, is_plain, is_droppable, IsOperand, is_taken_as, are_data, points_to_void, IsConverted, IsAssigned, IsTakenOver, takes_over, cast_conversion, converting}
+use Rattle.c_check_expr.specs.Conversions.{bare, IsPlain, is_droppable, IsOperand, are_data, points_to_void, IsConverted, IsAssigned, IsTakenOver, takes_over, cast_conversion}
 use Rattle.c_tree.specs.Places.{expr_place}
 
 abbrev pub IsCompleteAt : Table → Scopes → TypeId → Type 0

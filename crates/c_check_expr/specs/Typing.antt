@@ -1,6 +1,6 @@
 -- When a typed tree is well typed (C99 6.5, 6.7): a judgement by cases on the tree. It says what the scopes are before each part and
 -- after it, since a type name may declare tags and enumerators. The table has the types of the whole text.
-use Rattle.std.specs.Prelude.{◌≡◌, ◌⊎◌, ℕ, ◌<◌, ◌+◌, ℤ, pos, ◌+ℤ◌, Bool, true, false, List, [], ◌∷◌, ◌++◌, length, slice_set, Option, None, Some, IsTrue, not}
+use Rattle.std.specs.Prelude.{◌≡◌, ℕ, ◌<◌, ℤ, pos, ◌+ℤ◌, Bool, true, false, List, [], ◌∷◌, ◌++◌, length, slice_set, Option, None, Some, IsTrue}
 use Rattle.std.specs.List.{All}
 use Rattle.cc_base.specs.declared.number.TypeId.{TypeId}
 use Rattle.c_types.specs.declared.shape.TypeShape.{TypeShape}
@@ -21,12 +21,12 @@ use Rattle.c_check_expr.specs.declared.declared.Tag.{Tag}
 use Rattle.c_check_expr.specs.declared.declared.Tag.TheVariants as tag
 use Rattle.c_check_expr.specs.Shapes.{IsIntegerType, IsScalar}
 use Rattle.c_check_expr.specs.Integers.{constant_type}
-use Rattle.c_check_expr.specs.Scopes.{Name, Scopes, Level, name_in, tag_in, here, tag_here, declaring, declaring_tag, entering, leaving, is_complete_at, members_named, is_no_list}
+use Rattle.c_check_expr.specs.Scopes.{Name, Scopes, name_in, tag_in, here, tag_here, declaring, declaring_tag, entering, leaving, is_complete_at, is_no_list}
 use Rattle.c_check_expr.specs.Constants.{constant_value}
-use Rattle.c_check_expr.specs.Conversions.{IsPlain, bare}
+use Rattle.c_check_expr.specs.Conversions.{IsPlain}
 use Rattle.c_check_expr.specs.Rules
 use Rattle.c_check_expr.specs.Rules.{IsVariable, IsEnumerator, IsFunctionName, IsRuntimeName, IsStringType, IsTarget, IsElement, HasMember, IsMemberAt, AreOneStruct, IsDecay, IsLvalue, is_made_of_place, is_designator, IsAddress, IsElementAddress, IsFunctionAt, IsPrefix, IsSize, IsValueAlone, IsStep, IsArithmetic, IsMoved, IsDifference, IsCompared, IsLogical, IsChoice, IsPointerChoice, IsAssignment, IsStructAssignment, IsUpdate, IsCast, IsCall, IsRuntimeCall, IsAllocation, IsAllocationFor, IsDroppable, IsCondition, IsCompleteAt}
-use Rattle.c_check_expr.specs.Declarators.{AreOfType, Outermost, Written, FormMakes, DeclaredMakes, ParameterMakes, is_result_shape, is_void_list, member_names, member_types}
+use Rattle.c_check_expr.specs.Declarators.{AreOfType, Written, FormMakes, DeclaredMakes, ParameterMakes, is_void_list, member_names, member_types}
 
 -- Tags (C99 6.7.2.3)
 

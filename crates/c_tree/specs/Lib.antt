@@ -13,3 +13,4 @@ pub mod TypedTree
 pub mod Erasure
 pub mod TypedParts
 pub mod TypedViews
+pub mod TypedStatementViews

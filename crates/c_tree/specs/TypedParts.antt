@@ -5,6 +5,7 @@ use Rattle.cc_base.specs.declared.number.NodeId.{NodeId}
 use Rattle.cc_base.specs.declared.number.TypeId.{TypeId}
 use Rattle.c_tree.specs.declared.leaf.Identifier.{Identifier}
 use Rattle.c_tree.specs.declared.leaf.StringPiece.{StringPiece}
+use Rattle.c_tree.specs.declared.typed_unit.Printed.{Printed}
 use Rattle.c_tree.specs.declared.typed_word.Adjusted.{Adjusted}
 use Rattle.c_tree.specs.declared.typed_word.Conversion.{Conversion}
 use Rattle.c_tree.specs.declared.typed_word.Conversion.TheVariants as conversion
@@ -313,13 +314,8 @@ node_made (Address n) = n ∷ []
 abbrev pub nodes_made : List Made → List NodeId
 nodes_made made = flat_map node_made made
 
--- A node that `kinds` may print: where it stands, and whether it is a variable's home.
-pub record PrintedNode : Type 0 where
-  pub place : Place
-  pub node : NodeId
-  pub home : Bool
-
-abbrev pub printed : Made → List PrintedNode
+-- the nodes whose kinds may be printed
+abbrev pub printed : Made → List Printed
 printed (Written place n) = record { place = place; node = n; home = false } ∷ []
 printed (Name name (home.Static n) t) = record { place = name.place; node = n; home = true } ∷ []
 printed (Name name (home.Local n) t) = record { place = name.place; node = n; home = true } ∷ []

@@ -9,6 +9,8 @@ mod operator;
 mod place;
 mod statement;
 mod typed_expr;
+mod typed_statement;
+mod typed_unit;
 mod typed_word;
 
 pub use boxed::Boxed;
@@ -26,4 +28,9 @@ pub use typed_expr::{
     TypedCore, TypedDeclarator, TypedEnumerator, TypedExpr, TypedForm, TypedMembers,
     TypedParameter, TypedPart, TypedPlace, TypedSpecifier, TypedSpecifiers, TypedTypeName,
 };
+pub use typed_statement::{
+    TypedBlockItem, TypedDeclaration, TypedExternal, TypedFunction, TypedInitDeclarator,
+    TypedInitialiser, TypedItem, TypedStatement, TypedUnit,
+};
+pub use typed_unit::{Printed, Typed};
 pub use typed_word::{Adjusted, Conversion, Home, Runtime, Side, TypedStar};

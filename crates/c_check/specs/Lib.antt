@@ -1,0 +1,3 @@
+pub mod Initialisers
+pub mod Units
+pub mod WellTyped

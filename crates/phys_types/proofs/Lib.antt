@@ -6,3 +6,5 @@ pub mod Repeating
 pub mod Agreeing
 pub mod Loops
 pub mod Tiled
+pub mod Structs
+pub mod Parts

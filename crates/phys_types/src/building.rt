@@ -1,7 +1,7 @@
 #![tactic(auto)]
 
 ghost use Rattle.std.specs.Prelude.{ℕ, ◌≡◌, ◌<◌, ◌≤◌, ◌*◌, length, slice_index_or, IfOk, IsTrue, IsFalse, map, List, [], ◌∷◌, MatchResult};
-ghost use Rattle.std.specs.List.{All, Contains, list_all, list_any};
+ghost use Rattle.std.specs.List.{All, Contains, list_all, list_any, fold};
 ghost use Rattle.cc_base.specs.declared.number.TypeId.{TypeId};
 ghost use Rattle.c_types.specs.declared.shape.TypeShape.TheVariants.{Array as array, Struct as struct_shape, Union as union_shape};
 ghost use Rattle.c_types.specs.Table.{IsType, IsComplete, IsAggregate, shape_at, members_at, parts_at};
@@ -10,7 +10,7 @@ ghost use Rattle.c_types.specs.Sound.{IsWellFormed};
 ghost use Rattle.phys_types.specs.declared.spot.Layout.{Layout};
 ghost use Rattle.phys_types.specs.Numbers.{number_in, same_number};
 ghost use Rattle.phys_types.specs.Spots.{item_size, copies};
-ghost use Rattle.phys_types.specs.Shown.{IsStruct, IsUnion, IsLayoutOf, IsLow, IsKept, ArePartsKept, ArePartsShown};
+ghost use Rattle.phys_types.specs.Shown.{IsStruct, IsUnion, IsLayoutOf, IsLow, IsKept, ArePartsKept, ArePartsShown, AreLayoutsOf, larger, begins_spots, IsUnionOf};
 
 use crate::comparing::begins;
 use crate::copying::{copied, push_shifted};
@@ -100,3 +100,108 @@ fn struct_layout(
         holds,
     })
 }
+
+/// The layouts of the members of a union.
+fn member_layouts<'a>(
+    alloc: Global,
+    types: &Types,
+    places: &[usize],
+    built: &'a [Layout],
+    t: TypeId,
+) -> Result<Vec<&'a Layout>, NoMemory>
+    requires typed { IsType types.now t }
+    requires aggregate { IsUnion types.now t }
+    requires kept { ArePartsKept types.now places.now built.now t }
+    ensures shown { (E : Relation) → ArePartsShown types.now E places.now built.now t → IfOk result (λ parts. AreLayoutsOf types.now E (members_at types.now t) (map (λ p. p.now) parts.items)) }
+    ensures count { IfOk result (λ parts. length parts.items ≡ length (members_at types.now t)) }
+{
+    let mut parts = Vec::new(alloc);
+    'members: for i in 0..types.fields(t) {
+        let field = types.field(t, i);
+        let part = kept(places, built, field.ty);
+        parts.push(part)?;
+    }
+    Ok(parts)
+}
+
+/// The larger layout, the first of two of one size.
+fn larger<'a>(x: &'a Layout, y: &'a Layout) -> &'a Layout
+    ensures { result.now ≡ larger x.now y.now }
+{
+    if x.size < y.size { y } else { x }
+}
+
+/// The largest layout, the first where several are.
+fn largest<'a>(first: &'a Layout, parts: &[&'a Layout]) -> &'a Layout
+    ensures { result.now ≡ fold larger first.now (map (λ p. p.now) parts.now) }
+{
+    let mut largest = first;
+    'parts: for part in parts {
+        largest = larger(largest, *part);
+    }
+    largest
+}
+
+/// Whether a layout begins with each of the others.
+fn begins_with_each(numbers: &[usize], x: &Layout, parts: &[&Layout]) -> bool
+    ensures { result ≡ list_all (begins_spots (number_in numbers.now) x.now) (map (λ p. p.now) parts.now) }
+{
+    'parts: for part in parts {
+        if !begins(numbers, x, *part) {
+            return false;
+        }
+    }
+    true
+}
+
+/// Whether one of the layouts holds a pointer.
+fn holds_some(parts: &[&Layout]) -> bool
+    ensures { result ≡ list_any (λ x. x.holds) (map (λ p. p.now) parts.now) }
+{
+    'parts: for part in parts {
+        if part.holds {
+            return true;
+        }
+    }
+    false
+}
+
+/// The layout of a union of this many bytes, from its members' layouts.
+fn union_of(alloc: Global, numbers: &[usize], t: TypeId, size: u64, parts: &[&Layout]) -> Result<Layout, NoMemory>
+    requires some { 0 < length parts.now }
+    ensures { IfOk result (λ layout. IsUnionOf (number_in numbers.now) t size (map (λ p. p.now) parts.now) layout) }
+{
+    if !holds_some(parts) {
+        return Ok(raw_layout(alloc, size));
+    }
+    let first = largest(parts[0], parts);
+    if !begins_with_each(numbers, first, parts) {
+        return item_layout(alloc, Item::Mixed(t, size), true);
+    }
+    Ok(Layout {
+        size,
+        spots: Vec::from_slice(alloc, &first.spots)?,
+        holds: true,
+    })
+}
+
+/// The layout of a union that has members.
+fn union_layout(
+    alloc: Global,
+    types: &Types,
+    numbers: &[usize],
+    places: &[usize],
+    built: &[Layout],
+    t: TypeId,
+) -> Result<Layout, NoMemory>
+    requires formed { IsWellFormed types.now }
+    requires typed { IsType types.now t }
+    requires aggregate { IsUnion types.now t }
+    requires complete { IsComplete types.now t }
+    requires kept { ArePartsKept types.now places.now built.now t }
+    ensures { ArePartsShown types.now (same_number (number_in numbers.now)) places.now built.now t → IfOk result (IsLayoutOf types.now (same_number (number_in numbers.now)) t) }
+{
+    let parts = member_layouts(alloc, types, places, built, t)?;
+    union_of(alloc, numbers, t, types.size_of(t), &parts)
+}
+

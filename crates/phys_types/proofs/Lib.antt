@@ -8,3 +8,4 @@ pub mod Loops
 pub mod Tiled
 pub mod Structs
 pub mod Parts
+pub mod Unions

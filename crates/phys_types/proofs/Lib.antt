@@ -9,3 +9,4 @@ pub mod Tiled
 pub mod Structs
 pub mod Parts
 pub mod Unions
+pub mod Shapes

@@ -2,3 +2,4 @@ pub mod Spots
 pub mod Numbers
 pub mod Reach
 pub mod Shown
+pub mod Rounds

@@ -79,3 +79,9 @@ pub record IsUnionOf (number : TypeId → ℕ) (t : TypeId) (size : ℕ) (parts 
   pub size_is : layout.size ≡ size
   pub spots_are : layout.spots.items ≡ union_spots number t size parts parts
   pub holds_are : layout.holds ≡ list_any (λ p. p.holds) parts
+
+-- what a layout is made of
+pub record IsMadeOf (size : ℕ) (spots : List Spot) (holds : Bool) (layout : Layout) : Type 0 where
+  pub size_is : layout.size ≡ size
+  pub spots_are : layout.spots.items ≡ spots
+  pub holds_are : layout.holds ≡ holds

@@ -1,16 +1,15 @@
 #![tactic(auto)]
 
-ghost use Rattle.std.specs.Prelude.{ℕ, ◌≡◌, ◌<◌, ◌≤◌, ◌*◌, length, slice_index_or, IfOk, IsTrue, IsFalse, map, List, [], ◌∷◌, MatchResult};
+ghost use Rattle.std.specs.Prelude.{ℕ, ◌≡◌, ◌<◌, ◌≤◌, ◌*◌, length, slice_index_or, IfOk, true, false, map, List, [], ◌∷◌};
 ghost use Rattle.std.specs.List.{All, Contains, list_all, list_any, fold};
 ghost use Rattle.cc_base.specs.declared.number.TypeId.{TypeId};
-ghost use Rattle.c_types.specs.declared.shape.TypeShape.TheVariants.{Array as array, Struct as struct_shape, Union as union_shape};
 ghost use Rattle.c_types.specs.Table.{IsType, IsComplete, IsAggregate, shape_at, members_at, parts_at};
 ghost use Rattle.c_types.specs.Cells.{Relation, cells_at, holds_pointer};
 ghost use Rattle.c_types.specs.Sound.{IsWellFormed};
 ghost use Rattle.phys_types.specs.declared.spot.Layout.{Layout};
 ghost use Rattle.phys_types.specs.Numbers.{number_in, same_number};
 ghost use Rattle.phys_types.specs.Spots.{item_size, copies};
-ghost use Rattle.phys_types.specs.Shown.{IsStruct, IsUnion, IsLayoutOf, IsLow, IsKept, ArePartsKept, ArePartsShown, AreLayoutsOf, larger, begins_spots, IsUnionOf};
+ghost use Rattle.phys_types.specs.Shown.{IsStruct, IsUnion, IsLayoutOf, IsLow, IsKept, ArePartsKept, ArePartsShown, AreLayoutsOf, larger, begins_spots, IsUnionOf, IsMadeOf};
 
 use crate::comparing::begins;
 use crate::copying::{copied, push_shifted};
@@ -29,9 +28,7 @@ pub(crate) fn kept<'a>(places: &[usize], built: &'a [Layout], t: TypeId) -> &'a 
 
 /// A layout of raw cells alone.
 fn raw_layout(alloc: Global, size: u64) -> Layout
-    ensures size { result.size ≡ size }
-    ensures spots { result.spots.items ≡ [] }
-    ensures holds { IsFalse result.holds }
+    ensures { IsMadeOf size [] false result }
 {
     Layout {
         size,
@@ -42,9 +39,7 @@ fn raw_layout(alloc: Global, size: u64) -> Layout
 
 /// A layout of one item.
 fn item_layout(alloc: Global, item: Item, holds: bool) -> Result<Layout, NoMemory>
-    ensures size { IfOk result (λ layout. layout.size ≡ item_size item) }
-    ensures spots { IfOk result (λ layout. layout.spots.items ≡ record { start = 0; item = item } ∷ []) }
-    ensures holds { IfOk result (λ layout. layout.holds ≡ holds) }
+    ensures { IfOk result (IsMadeOf (item_size item) (record { start = 0; item = item } ∷ []) holds) }
 {
     let mut spots = Vec::new(alloc);
     spots.push(Spot { start: 0, item })?;
@@ -59,9 +54,7 @@ fn item_layout(alloc: Global, item: Item, holds: bool) -> Result<Layout, NoMemor
 fn array_layout(alloc: Global, element: &Layout, count: u64) -> Result<Layout, NoMemory>
     requires low { IsLow element.now }
     requires small { count * element.now.size ≤ 1048576 }
-    ensures size { IfOk result (λ layout. layout.size ≡ count * element.now.size) }
-    ensures spots { IfOk result (λ layout. layout.spots.items ≡ copies count element.now.size 0 element.now.spots.items) }
-    ensures holds { IfOk result (λ layout. layout.holds ≡ element.now.holds) }
+    ensures { IfOk result (IsMadeOf (count * element.now.size) (copies count element.now.size 0 element.now.spots.items) element.now.holds) }
 {
     Ok(Layout {
         size: count * element.size,
@@ -205,3 +198,45 @@ fn union_layout(
     union_of(alloc, numbers, t, types.size_of(t), &parts)
 }
 
+
+/// The layout of a type, from those of its parts.
+pub(crate) fn layout_of(
+    alloc: Global,
+    types: &Types,
+    numbers: &[usize],
+    places: &[usize],
+    built: &[Layout],
+    t: TypeId,
+) -> Result<Layout, NoMemory>
+    requires formed { IsWellFormed types.now }
+    requires typed { IsType types.now t }
+    requires kept { ArePartsKept types.now places.now built.now t }
+    requires low { All IsLow built.now }
+    requires shown { ArePartsShown types.now (same_number (number_in numbers.now)) places.now built.now t }
+    ensures { IfOk result (IsLayoutOf types.now (same_number (number_in numbers.now)) t) }
+{
+    match types.shape(t) {
+        TypeShape::Void => Ok(raw_layout(alloc, 0)),
+        TypeShape::Function(_, _) => Ok(raw_layout(alloc, 0)),
+        TypeShape::Integer { bytes, signed: _ } => Ok(raw_layout(alloc, *bytes)),
+        TypeShape::Pointer(node, to) => item_layout(alloc, Item::Pointer(*node, *to), true),
+        TypeShape::Array(element, count) => {
+            let part = kept(places, built, *element);
+            array_layout(alloc, part, *count)
+        }
+        TypeShape::Struct(_) => {
+            if types.fields(t) == 0 {
+                item_layout(alloc, Item::Incomplete(t), false)
+            } else {
+                struct_layout(alloc, types, places, built, t)
+            }
+        }
+        TypeShape::Union(_) => {
+            if types.fields(t) == 0 {
+                item_layout(alloc, Item::Incomplete(t), false)
+            } else {
+                union_layout(alloc, types, numbers, places, built, t)
+            }
+        }
+    }
+}

@@ -5,6 +5,7 @@
 mod building;
 mod comparing;
 mod copying;
+mod makeup;
 mod spot;
 mod tiling;
 

@@ -10,3 +10,5 @@ pub mod Structs
 pub mod Parts
 pub mod Unions
 pub mod Shapes
+pub mod Makeups
+pub mod RoundLemmas

@@ -30,6 +30,7 @@ AreShown table E order layouts =
 
 -- each type's number is the place of the first type that is made like it
 pub record IsRound (table : Table) (E : Relation) (order : List TypeId) (numbers : List ℕ) (layouts : List Layout) : Type 0 where
+  pub fits : length numbers ≡ length table
   pub all : length layouts ≡ length order
   pub shown : AreShown table E order layouts
   pub numbered : (i : ℕ) (d : TypeId) → i < length order

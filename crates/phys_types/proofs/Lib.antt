@@ -12,3 +12,5 @@ pub mod Unions
 pub mod Shapes
 pub mod Makeups
 pub mod RoundLemmas
+pub mod Settled
+pub mod Placing

@@ -3,3 +3,4 @@ pub mod Numbers
 pub mod Reach
 pub mod Shown
 pub mod Rounds
+pub mod Orders

@@ -6,6 +6,7 @@ mod building;
 mod comparing;
 mod copying;
 mod makeup;
+mod order;
 mod round;
 mod spot;
 mod tiling;

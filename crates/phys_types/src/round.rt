@@ -1,6 +1,6 @@
 #![tactic(auto)]
 
-ghost use Rattle.std.specs.Prelude.{ℕ, ◌≡◌, ◌<◌, ◌≤◌, List, length, take, IfOk};
+ghost use Rattle.std.specs.Prelude.{ℕ, ◌≡◌, ◌<◌, ◌≤◌, List, length, take, replicate, IfOk};
 ghost use Rattle.std.specs.List.{All, Contains};
 ghost use Rattle.cc_base.specs.declared.number.TypeId.{TypeId};
 ghost use Rattle.c_types.specs.Table.{IsType};
@@ -23,6 +23,13 @@ use std::alloc::Global;
 pub(crate) struct Round {
     pub(crate) numbers: Vec<usize>,
     pub(crate) layouts: Vec<Layout>,
+}
+
+/// As many zeros.
+pub(crate) fn zeros(alloc: Global, count: usize) -> Result<Vec<usize>, NoMemory>
+    ensures { IfOk result (λ zeros. zeros.items ≡ replicate count 0) }
+{
+    Ok(vec![in alloc; 0; count]?)
 }
 
 /// The place of the first of the types so far that is made like a type, or how many there are.
@@ -56,7 +63,7 @@ pub(crate) fn renumber(
     requires order { IsOrder types.now order.now places.now }
     ensures { IfOk result (λ round. IsRound types.now (same_number (number_in numbers.now)) order.now round.numbers.items round.layouts.items) }
 {
-    let mut next = vec![in alloc; 0; types.count() as usize]?;
+    let mut next = zeros(alloc, types.count() as usize)?;
     let mut layouts = Vec::with_capacity(alloc, order.len())?;
     'types: for t in order {
         let layout = layout_of(alloc, types, numbers, places, &layouts, *t)?;
@@ -67,4 +74,38 @@ pub(crate) fn renumber(
         numbers: next,
         layouts,
     })
+}
+
+/// Numbers that are the same exactly for physically equal types, and the layouts of the types in order under them.
+///
+/// The rounds end where one changes nothing, and after the square of the number of types at the latest.
+pub(crate) fn settle(
+    alloc: Global,
+    types: &Types,
+    order: &[TypeId],
+    places: &[usize],
+) -> Result<Round, NoMemory>
+    requires formed { IsWellFormed types.now }
+    requires order { IsOrder types.now order.now places.now }
+    requires closed { IsClosed types.now (Contains order.now) }
+    ensures { IfOk result (λ round. AreSettled types.now order.now round.numbers.items round.layouts.items) }
+{
+    let count = types.count() as usize;
+    let mut numbers = zeros(alloc, count)?;
+    'rounds: for _round in 0..count * count {
+        let round = renumber(alloc, types, order, places, &numbers)?;
+        if round.numbers.as_slice() == numbers.as_slice() {
+            return Ok(round);
+        }
+        let Round {
+            numbers: next,
+            layouts: _layouts,
+        } = round;
+        numbers = next;
+    }
+    let Round {
+        numbers: _next,
+        layouts,
+    } = renumber(alloc, types, order, places, &numbers)?;
+    Ok(Round { numbers, layouts })
 }

@@ -14,3 +14,4 @@ pub mod Makeups
 pub mod RoundLemmas
 pub mod Settled
 pub mod Placing
+pub mod Classes

@@ -1,4 +1,4 @@
-use Rattle.std.proofs.Common.{◌≡◌, ◌≢◌, ℕ, zero, suc, ◌+◌, ◌<◌, ◌≤◌, Bool, true, false, not, ◌&&◌, List, [], ◌∷◌, ◌++◌, length, get_or, set, take, if◌then◌else◌, refl, ap, sym, subst, ◌∙◌, inl, inr, true≢false, arith}
+use Rattle.std.proofs.Common.{◌≡◌, ◌≢◌, ℕ, zero, suc, ◌+◌, ◌<◌, ◌≤◌, Bool, true, false, not, ◌&&◌, ◌||◌, List, [], ◌∷◌, ◌++◌, length, get_or, set, take, if◌then◌else◌, refl, ap, sym, subst, ◌∙◌, inl, inr, true≢false, arith}
 use Rattle.std.specs.List.{All, Contains, list_all}
 use Rattle.std.proofs.lemmas.Bool.{cases_lt}
 use Rattle.std.proofs.lemmas.Bool.Decides.{Decides-eqb, eqb_tells}
@@ -10,7 +10,7 @@ use Rattle.c_types.specs.Sound.{IsWellFormed}
 use Rattle.c_types.proofs.Lists.{contains_head, contains_tail}
 use Rattle.c_types.proofs.Shapes.{first_true, second_true}
 use Rattle.phys_types.specs.Rounds.{IsOrder}
-use Rattle.phys_types.specs.Orders.{is_marked, IsPlacing, is_done, IsWholeOrder}
+use Rattle.phys_types.specs.Orders.{is_marked, IsPlacing, is_done, waiting, Steps, RoundSteps, IsWholeOrder}
 
 -- Placing types one by one.
 
@@ -111,3 +111,22 @@ module _ (table : Table) where
     right = p.so_far;
     whole = λ t ty. p.marked t (placed_below w marks h (suc (w.order.0 t)) t (omega arith) ty);
   }
+
+-- one step more of a round
+pub round_step : (table : Table) (old mid new : List Bool) (n : ℕ) (changed step : Bool) → RoundSteps table old mid n changed → Steps mid new step
+    → is_done table new (record { 0 = n }) ≡ true → RoundSteps table old new (n + 1) (changed || step)
+round_step table old mid new n true true h k d = omega arith
+round_step table old mid new n true false h k d = subst (λ ms. waiting ms < waiting old) (sym k) h
+round_step table old mid new n false true h k d = subst (λ ms. waiting new < waiting ms) h.0 k
+round_step table old mid new n false false h k d = (k ∙ h.0, λ t l. elim (cases_lt t.0 n) [
+  | inl b ↦ subst (λ ms. is_done table ms t ≡ true) (sym k) (h.1 t b)
+  | inr g ↦ let e : n ≡ t.0 = omega arith in subst (λ (m : ℕ). is_done table new (record { 0 = m }) ≡ true) e d
+])
+
+pub round_all : (table : Table) (old new : List Bool) (n : ℕ) (changed : Bool) → length table ≤ n → RoundSteps table old new n changed → RoundSteps table old new (length table) changed
+round_all table old new n true l h = h
+round_all table old new n false l h = (h.0, λ t b. h.1 t (omega arith))
+
+pub round_done : (table : Table) (old new : List Bool) (changed : Bool) → changed ≡ false → RoundSteps table old new (length table) changed → (t : TypeId) → IsType table t → is_done table new t ≡ true
+round_done table old new true e h t l = absurd (true≢false e)
+round_done table old new false e h t l = h.1 t l

@@ -4,3 +4,4 @@ pub mod Reach
 pub mod Shown
 pub mod Rounds
 pub mod Orders
+pub mod Views

@@ -96,6 +96,25 @@ fn place_round(
     Ok(changed)
 }
 
+/// Places all types, round after round.
+fn place_all(
+    types: &Types,
+    list: &mut Vec<TypeId>,
+    places: &mut [usize],
+    placed: &mut [bool],
+) -> Result<(), NoMemory>
+    requires formed { IsWellFormed types.now }
+    requires placing { IsPlacing types.now list.old.items places.old placed.old }
+    ensures { OnOk result (IsWholeOrder types.now list.new.items places.new) }
+{
+    'rounds: loop {
+        let changed = place_round(types, list, places, placed)?;
+        if !changed {
+            return Ok(());
+        }
+    }
+}
+
 /// The types of a table in an order in which the parts of a type come before it.
 pub(crate) fn in_order(alloc: Global, types: &Types) -> Result<Order, NoMemory>
     requires { IsWellFormed types.now }
@@ -105,12 +124,8 @@ pub(crate) fn in_order(alloc: Global, types: &Types) -> Result<Order, NoMemory>
     let mut list = Vec::with_capacity(alloc, count)?;
     let mut places = zeros(alloc, count)?;
     let mut placed = unmarked(alloc, count)?;
-    'rounds: loop {
-        let changed = place_round(types, &mut list, &mut places, &mut placed)?;
-        if !changed {
-            return Ok(Order { list, places });
-        }
-    }
+    place_all(types, &mut list, &mut places, &mut placed)?;
+    Ok(Order { list, places })
 }
 
 /// As many marks that are not set.

@@ -1,8 +1,0 @@
-use Rattle.phys_types.specs.Orders.{IsPlacing, waiting}
-use Rattle.phys_types.proofs.order.in_order.Given as goal
-
-abbrev pub invariant-rounds : goal.invariant-rounds
-invariant-rounds l = IsPlacing l.types l.list.items l.places.items l.placed.items
-
-abbrev pub decreases-rounds : goal.decreases-rounds
-decreases-rounds l = waiting l.placed.items

@@ -105,7 +105,7 @@ module _ (S : TypeId → Type 0) where
   -- ---- two relations that agree on S
 
   module _ (E F : Relation) (agree : (t u : TypeId) → S t → S u → E t u ≡ F t u) where
-    alike_agree : (x y : Cell) → PointsInto S x → PointsInto S y → alike E x y ≡ alike F x y
+    pub alike_agree : (x y : Cell) → PointsInto S x → PointsInto S y → alike E x y ≡ alike F x y
     alike_agree (pointer node to i) (pointer n u j) h k = ap (λ b. (i == j) && b) (agree to u h k)
     alike_agree raw raw h k = refl
     alike_agree raw (pointer n u j) h k = refl

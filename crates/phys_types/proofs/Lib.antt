@@ -6,3 +6,12 @@ pub mod Repeating
 pub mod Agreeing
 pub mod Loops
 pub mod Tiled
+pub mod Structs
+pub mod Parts
+pub mod Unions
+pub mod Shapes
+pub mod Makeups
+pub mod RoundLemmas
+pub mod Settled
+pub mod Placing
+pub mod Classes

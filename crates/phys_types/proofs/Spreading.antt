@@ -1,9 +1,9 @@
 use Rattle.std.proofs.Common.{◌≡◌, ◌≢◌, ℕ, zero, suc, ◌+◌, ◌-◌, ◌*◌, ◌<◌, ◌≤◌, List, [], ◌∷◌, ◌++◌, length, map, replicate, refl, ap, sym, subst, ◌∙◌, append_assoc, arith}
 use Rattle.std.specs.List.{range_with_len, repeat}
-use Rattle.std.proofs.lemmas.List.{length-append, length-map, length-replicate, replicate-append-replicate, append_cancel_left}
+use Rattle.std.proofs.lemmas.List.{append-nil, length-append, length-map, length-replicate, replicate-append-replicate, append_cancel_left}
 use Rattle.cc_base.specs.declared.number.TypeId.{TypeId}
 use Rattle.cc_base.specs.declared.number.NodeId.{NodeId}
-use Rattle.c_types.specs.Cells.{Cell, raw, pointer, mixed, incomplete, pointer_cells}
+use Rattle.c_types.specs.Cells.{Cell, raw, pointer, mixed, incomplete, pointer_cells, padded_to}
 use Rattle.phys_types.specs.declared.spot.Item.{Item}
 use Rattle.phys_types.specs.declared.spot.Item.TheVariants.{Pointer, Mixed, Incomplete}
 use Rattle.phys_types.specs.declared.spot.Spot.{Spot}
@@ -101,12 +101,12 @@ module _ (size : TypeId → ℕ) where
   from_zero : (n k : ℕ) → k + n ≡ n + k
   from_zero n k = omega arith
 
-  moved_spots : (n at : ℕ) (ss : List Spot) → AreSpots size 0 ss n → AreSpots size at (map (shifted at) ss) (at + n)
+  pub moved_spots : (n at : ℕ) (ss : List Spot) → AreSpots size 0 ss n → AreSpots size at (map (shifted at) ss) (at + n)
   moved_spots n at ss h =
       subst (λ m. AreSpots size at (map (shifted at) ss) m) (from_zero at n)
       (subst (λ m. AreSpots size m (map (shifted at) ss) (n + at)) (zero_plus at) (spots_shifted at 0 ss n h))
 
-  moved_cells : (n at : ℕ) (ss : List Spot) → cells_from at (map (shifted at) ss) (at + n) ≡ cells_from 0 ss n
+  pub moved_cells : (n at : ℕ) (ss : List Spot) → cells_from at (map (shifted at) ss) (at + n) ≡ cells_from 0 ss n
   moved_cells n at ss =
       ap (λ m. cells_from at (map (shifted at) ss) m) (sym (from_zero at n))
       ∙ ap (λ m. cells_from m (map (shifted at) ss) (n + at)) (sym (zero_plus at))
@@ -130,3 +130,10 @@ module _ (size : TypeId → ℕ) where
       ∙ ap (λ xs. xs ++ cells_from (at + k) (copies n k (at + k) ss) (at + suc n * k)) (moved_cells k at ss)
       ∙ ap (λ xs. cells_from 0 ss k ++ xs)
       (ap (λ m. cells_from (at + k) (copies n k (at + k) ss) m) (sym (more at n k)) ∙ cells_copied n k (at + k) ss h)
+
+  -- raw cells up to a later end
+  pub cells_padded : (n m : ℕ) (ss : List Spot) → AreSpots size 0 ss n → n ≤ m → padded_to m (cells_from 0 ss n) ≡ cells_from 0 ss m
+  cells_padded n m ss h l =
+      ap (λ k. cells_from 0 ss n ++ replicate (m - k) raw) (length_all ss n h)
+      ∙ cells_joined 0 ss n [] m h l
+      ∙ ap (λ xs. cells_from 0 xs m) (append-nil ss)

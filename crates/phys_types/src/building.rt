@@ -1,16 +1,15 @@
 #![tactic(auto)]
 
-ghost use Rattle.std.specs.Prelude.{ℕ, ◌≡◌, ◌<◌, ◌≤◌, ◌*◌, length, slice_index_or, IfOk, IsTrue, IsFalse, map, List, [], ◌∷◌, MatchResult};
-ghost use Rattle.std.specs.List.{All, Contains, list_all, list_any};
+ghost use Rattle.std.specs.Prelude.{ℕ, ◌≡◌, ◌<◌, ◌≤◌, ◌*◌, length, slice_index_or, IfOk, true, false, map, List, [], ◌∷◌};
+ghost use Rattle.std.specs.List.{All, Contains, list_all, list_any, fold};
 ghost use Rattle.cc_base.specs.declared.number.TypeId.{TypeId};
-ghost use Rattle.c_types.specs.declared.shape.TypeShape.TheVariants.{Array as array, Struct as struct_shape, Union as union_shape};
 ghost use Rattle.c_types.specs.Table.{IsType, IsComplete, IsAggregate, shape_at, members_at, parts_at};
 ghost use Rattle.c_types.specs.Cells.{Relation, cells_at, holds_pointer};
 ghost use Rattle.c_types.specs.Sound.{IsWellFormed};
 ghost use Rattle.phys_types.specs.declared.spot.Layout.{Layout};
 ghost use Rattle.phys_types.specs.Numbers.{number_in, same_number};
 ghost use Rattle.phys_types.specs.Spots.{item_size, copies};
-ghost use Rattle.phys_types.specs.Shown.{IsStruct, IsUnion, IsLayoutOf, IsLow, IsKept, ArePartsKept, ArePartsShown};
+ghost use Rattle.phys_types.specs.Shown.{IsStruct, IsUnion, IsLayoutOf, IsLow, IsKept, ArePartsKept, ArePartsShown, AreLayoutsOf, larger, begins_spots, IsUnionOf, IsMadeOf};
 
 use crate::comparing::begins;
 use crate::copying::{copied, push_shifted};
@@ -29,9 +28,7 @@ pub(crate) fn kept<'a>(places: &[usize], built: &'a [Layout], t: TypeId) -> &'a 
 
 /// A layout of raw cells alone.
 fn raw_layout(alloc: Global, size: u64) -> Layout
-    ensures size { result.size ≡ size }
-    ensures spots { result.spots.items ≡ [] }
-    ensures holds { IsFalse result.holds }
+    ensures { IsMadeOf size [] false result }
 {
     Layout {
         size,
@@ -42,9 +39,7 @@ fn raw_layout(alloc: Global, size: u64) -> Layout
 
 /// A layout of one item.
 fn item_layout(alloc: Global, item: Item, holds: bool) -> Result<Layout, NoMemory>
-    ensures size { IfOk result (λ layout. layout.size ≡ item_size item) }
-    ensures spots { IfOk result (λ layout. layout.spots.items ≡ record { start = 0; item = item } ∷ []) }
-    ensures holds { IfOk result (λ layout. layout.holds ≡ holds) }
+    ensures { IfOk result (IsMadeOf (item_size item) (record { start = 0; item = item } ∷ []) holds) }
 {
     let mut spots = Vec::new(alloc);
     spots.push(Spot { start: 0, item })?;
@@ -59,9 +54,7 @@ fn item_layout(alloc: Global, item: Item, holds: bool) -> Result<Layout, NoMemor
 fn array_layout(alloc: Global, element: &Layout, count: u64) -> Result<Layout, NoMemory>
     requires low { IsLow element.now }
     requires small { count * element.now.size ≤ 1048576 }
-    ensures size { IfOk result (λ layout. layout.size ≡ count * element.now.size) }
-    ensures spots { IfOk result (λ layout. layout.spots.items ≡ copies count element.now.size 0 element.now.spots.items) }
-    ensures holds { IfOk result (λ layout. layout.holds ≡ element.now.holds) }
+    ensures { IfOk result (IsMadeOf (count * element.now.size) (copies count element.now.size 0 element.now.spots.items) element.now.holds) }
 {
     Ok(Layout {
         size: count * element.size,
@@ -99,4 +92,151 @@ fn struct_layout(
         spots,
         holds,
     })
+}
+
+/// The layouts of the members of a union.
+fn member_layouts<'a>(
+    alloc: Global,
+    types: &Types,
+    places: &[usize],
+    built: &'a [Layout],
+    t: TypeId,
+) -> Result<Vec<&'a Layout>, NoMemory>
+    requires typed { IsType types.now t }
+    requires aggregate { IsUnion types.now t }
+    requires kept { ArePartsKept types.now places.now built.now t }
+    ensures shown { (E : Relation) → ArePartsShown types.now E places.now built.now t → IfOk result (λ parts. AreLayoutsOf types.now E (members_at types.now t) (map (λ p. p.now) parts.items)) }
+    ensures count { IfOk result (λ parts. length parts.items ≡ length (members_at types.now t)) }
+{
+    let mut parts = Vec::new(alloc);
+    'members: for i in 0..types.fields(t) {
+        let field = types.field(t, i);
+        let part = kept(places, built, field.ty);
+        parts.push(part)?;
+    }
+    Ok(parts)
+}
+
+/// The larger layout, the first of two of one size.
+fn larger<'a>(x: &'a Layout, y: &'a Layout) -> &'a Layout
+    ensures { result.now ≡ larger x.now y.now }
+{
+    if x.size < y.size { y } else { x }
+}
+
+/// The largest layout, the first where several are.
+fn largest<'a>(first: &'a Layout, parts: &[&'a Layout]) -> &'a Layout
+    ensures { result.now ≡ fold larger first.now (map (λ p. p.now) parts.now) }
+{
+    let mut largest = first;
+    'parts: for part in parts {
+        largest = larger(largest, *part);
+    }
+    largest
+}
+
+/// Whether a layout begins with each of the others.
+fn begins_with_each(numbers: &[usize], x: &Layout, parts: &[&Layout]) -> bool
+    ensures { result ≡ list_all (begins_spots (number_in numbers.now) x.now) (map (λ p. p.now) parts.now) }
+{
+    'parts: for part in parts {
+        if !begins(numbers, x, *part) {
+            return false;
+        }
+    }
+    true
+}
+
+/// Whether one of the layouts holds a pointer.
+fn holds_some(parts: &[&Layout]) -> bool
+    ensures { result ≡ list_any (λ x. x.holds) (map (λ p. p.now) parts.now) }
+{
+    'parts: for part in parts {
+        if part.holds {
+            return true;
+        }
+    }
+    false
+}
+
+/// The layout of a union of this many bytes, from its members' layouts.
+fn union_of(alloc: Global, numbers: &[usize], t: TypeId, size: u64, parts: &[&Layout]) -> Result<Layout, NoMemory>
+    requires some { 0 < length parts.now }
+    ensures { IfOk result (λ layout. IsUnionOf (number_in numbers.now) t size (map (λ p. p.now) parts.now) layout) }
+{
+    if !holds_some(parts) {
+        return Ok(raw_layout(alloc, size));
+    }
+    let first = largest(parts[0], parts);
+    if !begins_with_each(numbers, first, parts) {
+        return item_layout(alloc, Item::Mixed(t, size), true);
+    }
+    Ok(Layout {
+        size,
+        spots: Vec::from_slice(alloc, &first.spots)?,
+        holds: true,
+    })
+}
+
+/// The layout of a union that has members.
+fn union_layout(
+    alloc: Global,
+    types: &Types,
+    numbers: &[usize],
+    places: &[usize],
+    built: &[Layout],
+    t: TypeId,
+) -> Result<Layout, NoMemory>
+    requires formed { IsWellFormed types.now }
+    requires typed { IsType types.now t }
+    requires aggregate { IsUnion types.now t }
+    requires complete { IsComplete types.now t }
+    requires kept { ArePartsKept types.now places.now built.now t }
+    ensures { ArePartsShown types.now (same_number (number_in numbers.now)) places.now built.now t → IfOk result (IsLayoutOf types.now (same_number (number_in numbers.now)) t) }
+{
+    let parts = member_layouts(alloc, types, places, built, t)?;
+    union_of(alloc, numbers, t, types.size_of(t), &parts)
+}
+
+
+/// The layout of a type, from those of its parts.
+pub(crate) fn layout_of(
+    alloc: Global,
+    types: &Types,
+    numbers: &[usize],
+    places: &[usize],
+    built: &[Layout],
+    t: TypeId,
+) -> Result<Layout, NoMemory>
+    requires formed { IsWellFormed types.now }
+    requires typed { IsType types.now t }
+    requires kept { ArePartsKept types.now places.now built.now t }
+    requires low { All IsLow built.now }
+    requires shown { ArePartsShown types.now (same_number (number_in numbers.now)) places.now built.now t }
+    ensures { IfOk result (IsLayoutOf types.now (same_number (number_in numbers.now)) t) }
+{
+    match types.shape(t) {
+        TypeShape::Void => Ok(raw_layout(alloc, 0)),
+        TypeShape::Function(_, _) => Ok(raw_layout(alloc, 0)),
+        TypeShape::Integer { bytes, signed: _ } => Ok(raw_layout(alloc, *bytes)),
+        TypeShape::Pointer(node, to) => item_layout(alloc, Item::Pointer(*node, *to), true),
+        TypeShape::Array(element, count) => {
+            let part = kept(places, built, *element);
+            array_layout(alloc, part, *count)
+        }
+        TypeShape::Struct(_) => {
+            if types.fields(t) == 0 {
+                item_layout(alloc, Item::Incomplete(t), false)
+            } else {
+                struct_layout(alloc, types, places, built, t)
+            }
+        }
+        TypeShape::Union(_) => {
+            if types.fields(t) == 0 {
+                item_layout(alloc, Item::Incomplete(t), false)
+            } else {
+                union_layout(alloc, types, numbers, places, built, t)
+            }
+        }
+    }
 }

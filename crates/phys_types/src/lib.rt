@@ -5,7 +5,12 @@
 mod building;
 mod comparing;
 mod copying;
+mod makeup;
+mod order;
+mod phys;
+mod round;
 mod spot;
 mod tiling;
 
 pub use c_types::FlowClass;
+pub use phys::Phys;

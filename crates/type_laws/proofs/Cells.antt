@@ -61,7 +61,7 @@ length_repeat (suc n) xs = length-append xs (repeat n xs) ∙ ap (λ k. length x
     mul_step : (a b : ℕ) → b + a * b ≡ suc a * b
     mul_step a b = grind arith
 
-length_members : (f : TypeId → List Cell) (l : TypeId → Layout) (a : List Cell) (ms : List TypeId) → ((m : TypeId) → Contains ms m → length (f m) ≡ (l m).size)
+pub length_members : (f : TypeId → List Cell) (l : TypeId → Layout) (a : List Cell) (ms : List TypeId) → ((m : TypeId) → Contains ms m → length (f m) ≡ (l m).size)
     → length (fold (λ cells m. padded_to (rounded (length cells) (l m).align) cells ++ f m) a ms) ≡ fold (λ end (m : Layout). rounded end m.align + m.size) (length a) (map l ms)
 length_members f l a [] h = refl
 length_members f l a (m ∷ ms) h =
@@ -78,7 +78,7 @@ size_grows : (a b : ℕ) (ls : List Layout) → a ≤ b → fold (λ n (m : Layo
 size_grows a b [] h = h
 size_grows a b (l ∷ ls) h = size_grows (max a l.size) (max b l.size) ls (omega arith)
 
-length_longest : (f : TypeId → List Cell) (l : TypeId → Layout) (ms : List TypeId) → ((m : TypeId) → Contains ms m → length (f m) ≡ (l m).size)
+pub length_longest : (f : TypeId → List Cell) (l : TypeId → Layout) (ms : List TypeId) → ((m : TypeId) → Contains ms m → length (f m) ≡ (l m).size)
     → length (longest (map f ms)) ≤ greatest_size (map l ms)
 length_longest f l [] h = omega arith
 length_longest f l (m ∷ ms) h = by (nat_lt (length (f m)) (length (longest (map f ms)))) (length_longest f l ms (λ x c. h x (contains_tail m ms x c)))

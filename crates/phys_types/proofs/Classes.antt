@@ -1,0 +1,202 @@
+use Rattle.std.proofs.Common.{◌≡◌, ℕ, zero, suc, ◌+◌, ◌-◌, ◌*◌, ◌/◌, ◌%◌, ◌<◌, ◌≤◌, Bool, true, false, not, ◌&&◌, List, [], ◌∷◌, length, get_or, map, nat_lt, nat_le, if◌then◌else◌, refl, ap, sym, subst, ◌∙◌, inl, inr, true≢false, arith}
+use Rattle.std.specs.List.{All, Contains, list_all, range_with_len}
+use Rattle.std.specs.Int.{IsGcd}
+use Rattle.std.proofs.lemmas.Bool.{cases_lt, ltb-true, ltb-false, lt-ltb, leb-true, le-leb}
+use Rattle.std.proofs.lemmas.List.{length-map, get_or_past}
+use Rattle.std.proofs.lemmas.List.Elements.{All-contains}
+use Rattle.std.proofs.lemmas.Nat.Gcd.{mod-eq-zero_of_dvd}
+use native.Mathlib.Nat.{mod-eq_of_lt}
+use Rattle.cc_base.specs.declared.number.TypeId.{TypeId}
+use Rattle.c_types.specs.declared.shape.TypeShape.{TypeShape}
+use Rattle.c_types.specs.declared.shape.TypeShape.TheVariants.{Void, Integer, Pointer, Array, Function, Struct, Union}
+use Rattle.c_types.specs.Table.{Table, is_aggregate_shape, parts_of_shape, IsType, IsComplete, is_complete, void_entry, shape_at, members_at, parts_at, named_by, is_function, is_empty}
+use Rattle.c_types.specs.Layouts.{size_of}
+use Rattle.c_types.specs.Cells.{Cell, raw, alike, begins}
+use Rattle.c_types.specs.Equality.{physically_equal, cells_of, begins_with, repeated_cell, repeat_alike, tile}
+use Rattle.c_types.specs.Sound.{IsWellFormed}
+use Rattle.c_types.proofs.Shapes.{first_true, second_true}
+use Rattle.type_laws.proofs.Relations.{alike_equiv, equal_equiv}
+use Rattle.phys_types.specs.declared.spot.Layout.{Layout}
+use Rattle.phys_types.specs.Spots.{cells_from, AreSpots}
+use Rattle.phys_types.specs.Numbers.{same_number, begin_with_spots, repeat_spots}
+use Rattle.phys_types.specs.Reach.{IsClosed}
+use Rattle.phys_types.specs.Shown.{IsLayoutOf, begins_spots}
+use Rattle.phys_types.proofs.Spreading.{length_all}
+use Rattle.phys_types.proofs.Fronts.{fronts, begins_is, cells_from_spots, both_true}
+use Rattle.phys_types.proofs.Periods.{repeated, repeated_at, Repeats, repeats_from_agreeing, agreeing_from_repeats}
+use Rattle.phys_types.proofs.Settling.{settle, same_from_alike, alike_from_same, front_same, settled_at}
+use Rattle.phys_types.proofs.Repeating.{repeats_from_spots, spots_from_repeats}
+use Rattle.phys_types.proofs.Agreeing.{PointsInto, EachInto, alike_agree, begins_agree, cells_into}
+use Rattle.phys_types.proofs.Tiled.{positive_divisor}
+use Rattle.phys_types.proofs.Unions.{same_answer, begins_shown}
+
+-- The class of a flow, from what the spots tell.
+
+range_passes : (p : ℕ → Bool) (a n i : ℕ) → list_all p (range_with_len a n) ≡ true → i < n → p (a + i) ≡ true
+range_passes p a zero i h l = absurd (omega arith)
+range_passes p a (suc n) zero h l = ap p (plus a) ∙ first_true (p a) _ h
+  where
+    plus : (a : ℕ) → a + 0 ≡ a
+    plus a = omega arith
+range_passes p a (suc n) (suc i) h l = ap p (plus a i) ∙ range_passes p (a + 1) n i (second_true (p a) _ h) (omega arith)
+  where
+    plus : (a i : ℕ) → a + suc i ≡ a + 1 + i
+    plus a i = omega arith
+
+passes_range : (p : ℕ → Bool) (a n : ℕ) → ((i : ℕ) → i < n → p (a + i) ≡ true) → list_all p (range_with_len a n) ≡ true
+passes_range p a zero h = refl
+passes_range p a (suc n) h =
+    both_true (p a) _ (ap p (plus a) ∙ h zero (omega arith)) (passes_range p (a + 1) n (λ i l. ap p (more a i) ∙ h (suc i) (omega arith)))
+  where
+    plus : (a : ℕ) → a ≡ a + 0
+    plus a = omega arith
+
+    more : (a i : ℕ) → a + 1 + i ≡ a + suc i
+    more a i = omega arith
+
+into_at : (S : TypeId → Type 0) (xs : List Cell) (i : ℕ) → EachInto S xs → PointsInto S (get_or xs i raw)
+into_at S [] i h = tt
+into_at S (x ∷ xs) zero h = h.0
+into_at S (x ∷ xs) (suc i) h = into_at S xs i h.1
+
+aggregate_parts : (s : TypeShape) (ms : List TypeId) → is_aggregate_shape s ≡ true → parts_of_shape s ms ≡ ms
+aggregate_parts (Struct tag) ms h = refl
+aggregate_parts (Union tag) ms h = refl
+aggregate_parts Void ms h = absurd (true≢false (sym h))
+aggregate_parts (Integer b s) ms h = absurd (true≢false (sym h))
+aggregate_parts (Pointer n t) ms h = absurd (true≢false (sym h))
+aggregate_parts (Array e n) ms h = absurd (true≢false (sym h))
+aggregate_parts (Function ps r) ms h = absurd (true≢false (sym h))
+
+-- the types of a table are a closed set
+pub types_closed : (table : Table) → IsWellFormed table → IsClosed table (IsType table)
+types_closed table w = record {
+  named = λ t u h c. All-contains (IsType table) (named_by (shape_at table t)) u (w.each t).named c;
+  members = λ t u h c. member t u c;
+}
+  where
+    is_type : (q : TypeId) → IsComplete table q → IsType table q
+    is_type q c = elim (cases_lt q.0 (length table)) [
+      | inl b ↦ b
+      | inr g ↦ absurd (true≢false (sym c ∙ ap is_complete (get_or_past table q.0 void_entry g)))
+    ]
+
+    member : (t u : TypeId) → Contains (members_at table t) u → IsType table u
+    member t u c = elim (w.each t).plain [
+      | inl a ↦ is_type u (All-contains (IsComplete table) (parts_at table t) u (w.each t).parts (subst (λ xs. Contains xs u) (sym (aggregate_parts (shape_at table t) (members_at table t) a)) c))
+      | inr e ↦ absurd (let k = ap length e in omega (arith, c.1))
+    ]
+
+module _ (table : Table) (w : IsWellFormed table) (number : TypeId → ℕ)
+    (equal : (a b : TypeId) → IsType table a → IsType table b → same_number number a b ≡ physically_equal table a b) where
+  -- ---- two lists of cells
+
+  module _ (xs ys : List Cell) (hx : EachInto (IsType table) xs) (hy : EachInto (IsType table) ys) where
+    settled_repeated : (zs : List Cell) (i : ℕ) → repeated raw (map (settle number) zs) i ≡ settle number (repeated_cell zs i)
+    settled_repeated zs i =
+        repeated_at raw (map (settle number) zs) i ∙ ap (λ n. get_or (map (settle number) zs) (i % n) raw) (length-map zs (settle number)) ∙ settled_at number zs (i % length zs)
+
+    same_alike : (i : ℕ) → alike (same_number number) (repeated_cell xs i) (repeated_cell ys i) ≡ alike (physically_equal table) (repeated_cell xs i) (repeated_cell ys i)
+    same_alike i =
+        alike_agree (IsType table) (same_number number) (physically_equal table) equal (repeated_cell xs i) (repeated_cell ys i)
+        (into_at (IsType table) xs (i % length xs) hx) (into_at (IsType table) ys (i % length ys) hy)
+
+    pub agreeing : repeat_alike (physically_equal table) xs ys ≡ true → (i : ℕ) → i < length xs * length ys
+        → repeated raw (map (settle number) xs) i ≡ repeated raw (map (settle number) ys) i
+    agreeing h i l =
+        let a : alike (physically_equal table) (repeated_cell xs i) (repeated_cell ys i) ≡ true =
+        ap (λ j. alike (physically_equal table) (repeated_cell xs j) (repeated_cell ys j)) (plus i)
+        ∙ range_passes (λ i. alike (physically_equal table) (repeated_cell xs i) (repeated_cell ys i)) 0 (length xs * length ys) i h l in
+        settled_repeated xs i ∙ same_from_alike number (repeated_cell xs i) (repeated_cell ys i) (same_alike i ∙ a) ∙ sym (settled_repeated ys i)
+      where
+        plus : (i : ℕ) → i ≡ 0 + i
+        plus i = omega arith
+
+    pub from_agreeing : ((i : ℕ) → repeated raw (map (settle number) xs) i ≡ repeated raw (map (settle number) ys) i) → repeat_alike (physically_equal table) xs ys ≡ true
+    from_agreeing h =
+        passes_range (λ i. alike (physically_equal table) (repeated_cell xs i) (repeated_cell ys i)) 0 (length xs * length ys)
+        (λ i l. sym (same_alike (0 + i)) ∙ alike_from_same number (repeated_cell xs (0 + i)) (repeated_cell ys (0 + i))
+        (sym (settled_repeated xs (0 + i)) ∙ h (0 + i) ∙ settled_repeated ys (0 + i)))
+
+  -- ---- beginning and tiling
+
+  begins_cells : (x y : Layout) (t u : TypeId) → IsType table t → IsType table u → IsLayoutOf table (physically_equal table) t x → IsLayoutOf table (physically_equal table) u y
+      → begins_spots number x y ≡ begins (physically_equal table) (cells_of table t) (cells_of table u)
+  begins_cells x y t u a b h k =
+      begins_shown table number x y h.spots k.spots
+      ∙ (λ i. begins (same_number number) (h.cells i) (k.cells i))
+      ∙ begins_agree (IsType table) (same_number number) (physically_equal table) equal (cells_of table t) (cells_of table u)
+      (cells_into table w (IsType table) (types_closed table w) (physically_equal table) t a) (cells_into table w (IsType table) (types_closed table w) (physically_equal table) u b)
+
+  pub begins_right : (x y : Layout) (t u : TypeId) → IsType table t → IsType table u → IsLayoutOf table (physically_equal table) t x → IsLayoutOf table (physically_equal table) u y
+      → is_function table t ≡ false → is_function table u ≡ false → begins_spots number x y ≡ begins_with table t u
+  begins_right x y t u a b h k f g = begins_cells x y t u a b h k ∙ sym (λ i. not (f i) && (not (g i) && begins (physically_equal table) (cells_of table t) (cells_of table u)))
+
+  tile_lists : List Cell → List Cell → Bool
+  tile_lists xs ys = not (is_empty xs) && (not (is_empty ys) && repeat_alike (physically_equal table) xs ys)
+
+  none_empty : (xs : List Cell) → 0 < length xs → not (is_empty xs) ≡ true
+  none_empty [] h = absurd (omega arith)
+  none_empty (x ∷ xs) h = refl
+
+  all_empty : (xs : List Cell) → length xs ≡ 0 → not (is_empty xs) ≡ false
+  all_empty [] h = refl
+  all_empty (x ∷ xs) h = absurd (omega arith)
+
+  whole_units : (m g : ℕ) → 0 < g → m % g ≡ 0 → m ≡ m / g * g
+  whole_units m g p h = omega arith
+
+  tiles_lists : (x : Layout) (n g : ℕ) (ys : List Cell) → AreSpots (size_of table) 0 x.spots.items x.size → EachInto (IsType table) (cells_from 0 x.spots.items x.size)
+      → EachInto (IsType table) ys → length ys ≡ n → fronts (same_number number) (cells_from 0 x.spots.items x.size) ys ≡ true → n ≤ x.size → IsGcd x.size n g
+      → (nat_lt 0 n && repeat_spots number x.size g x.spots.items) ≡ tile_lists (cells_from 0 x.spots.items x.size) ys
+  unfolding tile_lists
+  tiles_lists x n g ys a hx hy e f l d = by (nat_lt 0 n) refl
+    where
+      lx : length (cells_from 0 x.spots.items x.size) ≡ x.size
+      lx = length_all (size_of table) x.spots.items x.size a
+
+      some : nat_lt 0 n ≡ true → 0 < n
+      some p = ltb-true 0 n p
+
+      sx : List Cell
+      sx = map (settle number) (cells_from 0 x.spots.items x.size)
+
+      long : length (map (settle number) (cells_from 0 x.spots.items x.size)) ≡ x.size
+      long = length-map (cells_from 0 x.spots.items x.size) (settle number) ∙ length_all (size_of table) x.spots.items x.size a
+
+      short : length (map (settle number) ys) ≡ n
+      short = length-map ys (settle number) ∙ e
+
+      gcd : IsGcd (length (map (settle number) (cells_from 0 x.spots.items x.size))) (length (map (settle number) ys)) g
+      gcd = subst (λ m. IsGcd m (length (map (settle number) ys)) g) (sym (length-map (cells_from 0 x.spots.items x.size) (settle number) ∙ length_all (size_of table) x.spots.items x.size a))
+          (subst (λ k. IsGcd x.size k g) (sym (length-map ys (settle number) ∙ e)) d)
+
+      here : 0 < n → repeat_spots number x.size g x.spots.items ≡ repeat_alike (physically_equal table) (cells_from 0 x.spots.items x.size) ys
+      here p =
+          let q : 0 < g = positive_divisor x.size n g d (λ z. omega arith) in
+          let c = whole_units x.size g q (mod-eq-zero_of_dvd g d.0) in
+          let lm = length-map (cells_from 0 x.spots.items x.size) (settle number) ∙ length_all (size_of table) x.spots.items x.size a in
+          let ln = length-map ys (settle number) ∙ e in
+          same_answer (repeat_spots number x.size g x.spots.items) (repeat_alike (physically_equal table) (cells_from 0 x.spots.items x.size) ys)
+          (λ r. from_agreeing (cells_from 0 x.spots.items x.size) ys hx hy
+          (agreeing_from_repeats raw (map (settle number) (cells_from 0 x.spots.items x.size)) (map (settle number) ys) g (omega arith) (omega arith) (omega arith) gcd
+          (front_same number (cells_from 0 x.spots.items x.size) ys f)
+          (repeats_from_spots number (size_of table) x.size g x.spots.items a q c (omega arith) r)))
+          (λ r. spots_from_repeats number (size_of table) x.size g x.spots.items a q c (omega arith)
+          (repeats_from_agreeing raw (map (settle number) (cells_from 0 x.spots.items x.size)) (map (settle number) ys) g (omega arith) (omega arith) gcd
+          (λ i b. agreeing (cells_from 0 x.spots.items x.size) ys hx hy r i
+          (subst (λ k. i < k) (λ j. length-map (cells_from 0 x.spots.items x.size) (settle number) j * length-map ys (settle number) j) b))))
+
+      by : (b : Bool) → nat_lt 0 n ≡ b → (b && repeat_spots number x.size g x.spots.items)
+          ≡ (not (is_empty (cells_from 0 x.spots.items x.size)) && (not (is_empty ys) && repeat_alike (physically_equal table) (cells_from 0 x.spots.items x.size) ys))
+      by true p =
+          let z = some p in let k = length_all (size_of table) x.spots.items x.size a in
+          here z ∙ sym (λ i. none_empty (cells_from 0 x.spots.items x.size) (omega arith) i && (none_empty ys (omega arith) i && repeat_alike (physically_equal table) (cells_from 0 x.spots.items x.size) ys))
+      by false p =
+          let z = ltb-false 0 n p in
+          sym ((λ i. not (is_empty (cells_from 0 x.spots.items x.size)) && (all_empty ys (omega arith) i && repeat_alike (physically_equal table) (cells_from 0 x.spots.items x.size) ys))
+          ∙ nothing (not (is_empty (cells_from 0 x.spots.items x.size))))
+        where
+          nothing : (b : Bool) → (b && false) ≡ false
+          nothing true = refl
+          nothing false = refl

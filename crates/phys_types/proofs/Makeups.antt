@@ -1,0 +1,92 @@
+use Rattle.std.proofs.Common.{◌≡◌, ℕ, zero, suc, ◌+◌, ◌<◌, ◌≤◌, Bool, true, false, ◌&&◌, List, [], ◌∷◌, length, map, ◌==◌, refl, ap, sym, subst, ◌∙◌, true≢false, arith}
+use Rattle.std.specs.List.{All}
+use Rattle.std.proofs.lemmas.Bool.Decides.{Decides-eqb}
+use lib.Pointwise.{pointwise, pointwise_long}
+use Rattle.cc_base.specs.declared.number.TypeId.{TypeId}
+use Rattle.c_types.specs.declared.shape.TypeShape.{TypeShape}
+use Rattle.c_types.specs.declared.shape.TypeShape.TheVariants.{Void, Integer, Pointer, Array, Function, Struct, Union}
+use Rattle.c_types.specs.Table.{Table, IsType, shape_at, named_by}
+use Rattle.c_types.specs.Layouts.{size_of}
+use Rattle.c_types.specs.Cells.{Relation, Cell, alike, all_alike, cells_at}
+use Rattle.c_types.specs.Equality.{bytes, slot_of, same_slot, makeup_of, same_makeup, made_alike}
+use Rattle.c_types.specs.Sound.{IsWellFormed}
+use Rattle.phys_types.specs.declared.spot.Layout.{Layout}
+use Rattle.phys_types.specs.Spots.{cells_from, AreSpots}
+use Rattle.phys_types.specs.Numbers.{same_number, same_spots}
+use Rattle.phys_types.specs.Shown.{IsLayoutOf}
+use Rattle.phys_types.proofs.Spreading.{length_all}
+use Rattle.phys_types.proofs.Repeating.{cells_from_same, same_from_cells}
+use Rattle.phys_types.proofs.Unions.{same_answer}
+
+-- Whether two types are made alike.
+
+pointwise_map : {X Y : Type 0} (E : Y → Y → Bool) (f : X → Y) (xs ys : List X) → pointwise E (map f xs) (map f ys) ≡ pointwise (λ x y. E (f x) (f y)) xs ys
+pointwise_map E f [] [] = refl
+pointwise_map E f [] (y ∷ ys) = refl
+pointwise_map E f (x ∷ xs) [] = refl
+pointwise_map E f (x ∷ xs) (y ∷ ys) = ap (λ b. E (f x) (f y) && b) (pointwise_map E f xs ys)
+
+pub named_types : (table : Table) → IsWellFormed table → (t : TypeId) (ps : List TypeId) (r : TypeId) → shape_at table t ≡ Function ps r → All (IsType table) (r ∷ ps)
+named_types table w t ps r e = subst (λ s. All (IsType table) (named_by s)) e (w.each t).named
+
+pub all_tail : (P : TypeId → Type 0) (x : TypeId) (xs : List TypeId) → All P (x ∷ xs) → All P xs
+all_tail P x xs h i d l = h (suc i) d (omega arith)
+
+pub all_head : (P : TypeId → Type 0) (x : TypeId) (xs : List TypeId) → All P (x ∷ xs) → P x
+all_head P x xs h = h 0 x (omega arith)
+
+module _ (table : Table) (E : Relation) (t u : TypeId) where
+  pub code_alike : (ps qs : List TypeId) (r s : TypeId) (a b : Bool) → shape_at table t ≡ Function ps r → shape_at table u ≡ Function qs s
+      → a ≡ same_slot E (slot_of r (shape_at table r)) (slot_of s (shape_at table s)) → a ≡ true
+      → b ≡ pointwise (λ p q. same_slot E (slot_of p (shape_at table p)) (slot_of q (shape_at table q))) ps qs → b ≡ made_alike table E t u
+  code_alike ps qs r s a b e f k l m =
+      m
+      ∙ sym (pointwise_map (same_slot E) (λ p. slot_of p (shape_at table p)) ps qs)
+      ∙ ap (λ x. x && pointwise (same_slot E) (map (λ p. slot_of p (shape_at table p)) ps) (map (λ p. slot_of p (shape_at table p)) qs)) (sym l ∙ k)
+      ∙ (λ i. same_makeup E (makeup_of table E t (sym e i)) (makeup_of table E u (sym f i)))
+
+  bytes_of : (t : TypeId) (s : TypeShape) → ((ps : List TypeId) (r : TypeId) → s ≡ Function ps r → ⊥) → makeup_of table E t s ≡ bytes (cells_at table E t)
+  bytes_of t Void n = refl
+  bytes_of t (Integer b s) n = refl
+  bytes_of t (Pointer m v) n = refl
+  bytes_of t (Array e c) n = refl
+  bytes_of t (Function ps r) n = absurd (n ps r refl)
+  bytes_of t (Struct g) n = refl
+  bytes_of t (Union g) n = refl
+
+  data_alike : ((ps : List TypeId) (r : TypeId) → shape_at table t ≡ Function ps r → ⊥) → ((ps : List TypeId) (r : TypeId) → shape_at table u ≡ Function ps r → ⊥)
+      → made_alike table E t u ≡ all_alike E (cells_at table E t) (cells_at table E u)
+  data_alike n m = λ i. same_makeup E (bytes_of t (shape_at table t) n i) (bytes_of u (shape_at table u) m i)
+
+module _ (table : Table) (number : TypeId → ℕ) (t u : TypeId) (x y : Layout)
+    (n : (ps : List TypeId) (r : TypeId) → shape_at table t ≡ Function ps r → ⊥) (m : (ps : List TypeId) (r : TypeId) → shape_at table u ≡ Function ps r → ⊥)
+    (h : IsLayoutOf table (same_number number) t x) (k : IsLayoutOf table (same_number number) u y) where
+  cells_is : all_alike (same_number number) (cells_from 0 x.spots.items x.size) (cells_from 0 y.spots.items y.size) ≡ made_alike table (same_number number) t u
+  cells_is = (λ i. all_alike (same_number number) (h.cells i) (k.cells i)) ∙ sym (data_alike table (same_number number) t u n m)
+
+  pub same_size_alike : (b : Bool) → x.size ≡ y.size → b ≡ same_spots number x.spots.items y.spots.items → b ≡ made_alike table (same_number number) t u
+  same_size_alike b e f =
+      let other : AreSpots (size_of table) 0 y.spots.items x.size = subst (AreSpots (size_of table) 0 y.spots.items) (sym e) k.spots in
+      f
+      ∙ same_answer (same_spots number x.spots.items y.spots.items) (all_alike (same_number number) (cells_from 0 x.spots.items x.size) (cells_from 0 y.spots.items x.size))
+      (cells_from_same number (size_of table) 0 x.size x.spots.items y.spots.items h.spots other)
+      (same_from_cells number (size_of table) 0 x.size x.spots.items y.spots.items h.spots other)
+      ∙ ap (λ j. all_alike (same_number number) (cells_from 0 x.spots.items x.size) (cells_from 0 y.spots.items j)) e
+      ∙ cells_is
+
+  pub other_size_apart : (x.size ≡ y.size → ⊥) → false ≡ made_alike table (same_number number) t u
+  other_size_apart e = by (all_alike (same_number number) (cells_from 0 x.spots.items x.size) (cells_from 0 y.spots.items y.size)) refl
+    where
+      by : (b : Bool) → all_alike (same_number number) (cells_from 0 x.spots.items x.size) (cells_from 0 y.spots.items y.size) ≡ b → false ≡ made_alike table (same_number number) t u
+      by true f =
+          absurd (e (sym (length_all (size_of table) x.spots.items x.size h.spots)
+          ∙ pointwise_long (alike (same_number number)) (cells_from 0 x.spots.items x.size) (cells_from 0 y.spots.items y.size) f
+          ∙ length_all (size_of table) y.spots.items y.size k.spots))
+      by false f = sym f ∙ cells_is
+
+pub not_equal : (a b : ℕ) → (a ≡ b → ⊥) → (a == b) ≡ false
+not_equal a b h = by (a == b) refl
+  where
+    by : (c : Bool) → (a == b) ≡ c → (a == b) ≡ false
+    by true e = absurd (h ((Decides-eqb a b).0 e))
+    by false e = e

@@ -1,0 +1,111 @@
+#![tactic(auto)]
+
+ghost use Rattle.std.specs.Prelude.{ℕ, ◌≡◌, ◌<◌, ◌≤◌, List, length, take, replicate, IfOk};
+ghost use Rattle.std.specs.List.{All, Contains};
+ghost use Rattle.cc_base.specs.declared.number.TypeId.{TypeId};
+ghost use Rattle.c_types.specs.Table.{IsType};
+ghost use Rattle.c_types.specs.Equality.{made_alike};
+ghost use Rattle.c_types.specs.Sound.{IsWellFormed};
+ghost use Rattle.phys_types.specs.Numbers.{number_in, same_number};
+ghost use Rattle.phys_types.specs.Reach.{IsClosed};
+ghost use Rattle.phys_types.specs.Shown.{IsLayoutOf, IsLow, ArePartsKept, ArePartsShown};
+ghost use Rattle.phys_types.specs.Rounds.{IsOrder, AreShown, IsRound, AreSettled, first_place};
+
+use crate::building::layout_of;
+use crate::makeup::made_alike;
+use crate::spot::Layout;
+use c_types::Types;
+use cc_base::{NoMemory, TypeId};
+use std::alloc::Global;
+
+/// Numbers of types, and the layouts of the types in order under the numbers of the round before.
+#[derive(Debug, Drop)]
+pub(crate) struct Round {
+    pub(crate) numbers: Vec<usize>,
+    pub(crate) layouts: Vec<Layout>,
+}
+
+/// As many zeros.
+pub(crate) fn zeros(alloc: Global, count: usize) -> Result<Vec<usize>, NoMemory>
+    ensures { IfOk result (λ zeros. zeros.items ≡ replicate count 0) }
+{
+    Ok(vec![in alloc; 0; count]?)
+}
+
+/// The place of the first of the types so far that is made like a type, or how many there are.
+fn first_alike(types: &Types, numbers: &[usize], order: &[TypeId], layouts: &[Layout], t: TypeId, layout: &Layout) -> usize
+    requires formed { IsWellFormed types.now }
+    requires typed { IsType types.now t }
+    requires types { All (IsType types.now) order.now }
+    requires within { length layouts.now ≤ length order.now }
+    requires shown { AreShown types.now (same_number (number_in numbers.now)) order.now layouts.now }
+    requires own { IsLayoutOf types.now (same_number (number_in numbers.now)) t layout.now }
+    ensures { result ≡ first_place (λ u. made_alike types.now (same_number (number_in numbers.now)) u t) (take (length layouts.now) order.now) }
+{
+    for (i, other) in layouts.iter().enumerate() {
+        if made_alike(types, numbers, order[i], other, t, layout) {
+            return i;
+        }
+    }
+    layouts.len()
+}
+
+/// The numbers of a round: each type gets the place of the first that is made like it, where what they point to is equal by
+/// the numbers before.
+pub(crate) fn renumber(
+    alloc: Global,
+    types: &Types,
+    order: &[TypeId],
+    places: &[usize],
+    numbers: &[usize],
+) -> Result<Round, NoMemory>
+    requires formed { IsWellFormed types.now }
+    requires order { IsOrder types.now order.now places.now }
+    ensures { IfOk result (λ round. IsRound types.now (same_number (number_in numbers.now)) order.now round.numbers.items round.layouts.items) }
+{
+    let mut next = zeros(alloc, types.count() as usize)?;
+    let mut layouts = Vec::with_capacity(alloc, order.len())?;
+    'types: for t in order {
+        let layout = layout_of(alloc, types, numbers, places, &layouts, *t)?;
+        next[t.0 as usize] = first_alike(types, numbers, order, &layouts, *t, &layout);
+        layouts.push(layout)?;
+    }
+    Ok(Round {
+        numbers: next,
+        layouts,
+    })
+}
+
+/// Numbers that are the same exactly for physically equal types, and the layouts of the types in order under them.
+///
+/// The rounds end where one changes nothing, and after the square of the number of types at the latest.
+pub(crate) fn settle(
+    alloc: Global,
+    types: &Types,
+    order: &[TypeId],
+    places: &[usize],
+) -> Result<Round, NoMemory>
+    requires formed { IsWellFormed types.now }
+    requires order { IsOrder types.now order.now places.now }
+    requires closed { IsClosed types.now (Contains order.now) }
+    ensures { IfOk result (λ round. AreSettled types.now order.now round.numbers.items round.layouts.items) }
+{
+    let count = types.count() as usize;
+    let mut numbers = zeros(alloc, count)?;
+    'rounds: for _round in 0..count * count {
+        let round = renumber(alloc, types, order, places, &numbers)?;
+        if round.numbers.as_slice() == numbers.as_slice() {
+            return Ok(round);
+        }
+        let Round {
+            numbers: next,
+            layouts: _layouts,
+        } = round;
+        numbers = next;
+    }
+    let Round {
+        numbers: _next,
+        layouts,
+    } = renumber(alloc, types, order, places, &numbers)?;
+    Ok(Round { numbers, layouts })
+}

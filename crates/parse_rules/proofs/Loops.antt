@@ -1,7 +1,7 @@
 -- Loops keep what their steps keep, and a loop can be unrolled.
 use Rattle.std.proofs.Common.{◌≡◌, ℕ, zero, suc, pred, ◌<◌, ◌≤◌, Bool, true, false, Option, None, List, [], ◌∷◌, ◌++◌, length, refl, sym, ◌∙◌, ap, subst, append_assoc, append-nil, length-append, true≢false, arith}
 use Rattle.parse_rules.specs.Parsers.{Reason, Answer, Read, Stopped, Parser, first, next, pure, repeat, loop}
-use Rattle.parse_rules.specs.Grammars.{Width}
+use Rattle.parse_rules.specs.Grammars.{Language}
 use Rattle.parse_rules.specs.Rules.{Reads, Kept, Rule}
 use Rattle.parse_rules.proofs.Composition.{rule_like, rule_next, Starts, same, gone, After, rests, over}
 use Rattle.parse_rules.proofs.Combinators.{rule_pure, rule_may_stay, rule_weaker}
@@ -25,14 +25,14 @@ some_length (t ∷ s) h = omega arith
 
 -- What the step of a loop promises: from a part that was read as s, where the next token goes on, it reads a token at
 -- least, and what it reads is once more a part, which spells the tokens of both.
-module _ {T A : Type 0} (Valid : T → Type 0) (cut : Bool) (d : ℕ) (goes_on : A → Option T → Bool) (step : ℕ → A → Parser T A) (In : Width → A → List T → Type 0) (Low : A → Type 0) (Ends : A → List T → Type 0) where
+module _ {T A : Type 0} (Valid : T → Type 0) (cut : Bool) (d : ℕ) (goes_on : A → Option T → Bool) (step : ℕ → A → Parser T A) (In : Language → A → List T → Type 0) (Low : A → Type 0) (Ends : A → List T → Type 0) where
   pub record Steps : Type 0 where
     pub never : (a : A) → goes_on a None ≡ false
     pub at_end : (a : A) → Ends a []
     pub steps : (a : A) (s rest : List T) → Ends a rest → goes_on a (first rest) ≡ true
         → Rule Valid cut true (λ d'. step d' a) d (λ g b s'. In g a s → In g b (s ++ s')) (λ b. Low a → Low b) Ends rest
 
-module _ {T A : Type 0} {Valid : T → Type 0} {cut : Bool} {d : ℕ} {goes_on : A → Option T → Bool} {step : ℕ → A → Parser T A} {In : Width → A → List T → Type 0} {Low : A → Type 0} {Ends : A → List T → Type 0} (h : Steps Valid cut d goes_on step In Low Ends) where
+module _ {T A : Type 0} {Valid : T → Type 0} {cut : Bool} {d : ℕ} {goes_on : A → Option T → Bool} {step : ℕ → A → Parser T A} {In : Language → A → List T → Type 0} {Low : A → Type 0} {Ends : A → List T → Type 0} (h : Steps Valid cut d goes_on step In Low Ends) where
   -- with fuel for each list, as long as it is enough for those that matter
   stopped : (F : List T → ℕ) (a : A) (s ts : List T) → Ends a ts → goes_on a (first ts) ≡ false
       → Rule Valid cut false (λ d' ts'. repeat (F ts') goes_on (step d') a ts') d (λ g b s'. In g a s → In g b (s ++ s')) (λ b. Low a → Low b) (λ b rest. Ends b rest × (goes_on b (first rest) ≡ false)) ts
@@ -65,7 +65,7 @@ module _ {T A : Type 0} {Valid : T → Type 0} {cut : Bool} {d : ℕ} {goes_on :
           repeat_goes goes_on (step d') (F ts') a ts' on (omega (arith, some_left a ts' on, enough ts'))
       unroll d' ts' (gone not_true _) = absurd (true≢false not_true)
 
-      regroup : (b : A) (s1 : List T) (g : Width) (c : A) (s' : List T) → (In g b (s ++ s1) → In g c ((s ++ s1) ++ s')) → (In g a s → In g b (s ++ s1)) → In g a s → In g c (s ++ (s1 ++ s'))
+      regroup : (b : A) (s1 : List T) (g : Language) (c : A) (s' : List T) → (In g b (s ++ s1) → In g c ((s ++ s1) ++ s')) → (In g a s → In g b (s ++ s1)) → In g a s → In g c (s ++ (s1 ++ s'))
       regroup b s1 g c s' on u v = rw (← append_assoc s s1 s') (on (u v))
 
       continues : (b : A) (s1 rest : List T) → Ends b rest → After true ts s1 rest
@@ -92,14 +92,14 @@ module _ {T A : Type 0} {Valid : T → Type 0} {cut : Bool} {d : ℕ} {goes_on :
       by_test false e inner = stopped F a s ts ends e
 
   -- A loop keeps what its steps keep. It begins with a, which was read as s; it reads a token where one goes on.
-  pub rule_loop : {Start : Width → Type 0} {LowStart : Type 0} {ts : List T} (a : A) (s : List T) → ((g : Width) → Start g → In g a s) → (LowStart → Low a) → Ends a ts
+  pub rule_loop : {Start : Language → Type 0} {LowStart : Type 0} {ts : List T} (a : A) (s : List T) → ((g : Language) → Start g → In g a s) → (LowStart → Low a) → Ends a ts
       → Rule Valid cut false (λ d'. loop goes_on (step d') a) d (λ g b s'. Start g → In g b (s ++ s')) (λ b. LowStart → Low b) (λ b rest. Ends b rest × (goes_on b (first rest) ≡ false)) ts
   rule_loop {Start} {LowStart} {ts} a s starts low ends =
       rule_weaker (λ g b s' on u. on (starts g u)) (λ b on u. on (low u)) (λ b rest x. x)
       (rule_repeat (length ts) length (λ ts'. omega arith) a s ts (omega arith) ends)
 
   -- the same, where it is known that a token goes on
-  pub rule_loop_moves : {Start : Width → Type 0} {LowStart : Type 0} {ts : List T} (a : A) (s : List T) → ((g : Width) → Start g → In g a s) → (LowStart → Low a) → Ends a ts
+  pub rule_loop_moves : {Start : Language → Type 0} {LowStart : Type 0} {ts : List T} (a : A) (s : List T) → ((g : Language) → Start g → In g a s) → (LowStart → Low a) → Ends a ts
       → goes_on a (first ts) ≡ true
       → Rule Valid cut true (λ d'. loop goes_on (step d') a) d (λ g b s'. Start g → In g b (s ++ s')) (λ b. LowStart → Low b) (λ b rest. Ends b rest × (goes_on b (first rest) ≡ false)) ts
   rule_loop_moves {Start} {LowStart} {ts} a s starts low ends e =

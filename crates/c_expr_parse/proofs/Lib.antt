@@ -9,3 +9,4 @@ pub mod Kept
 pub mod ExprLaws
 pub mod OperatorLaws
 pub mod ExprDepth
+pub mod Complete

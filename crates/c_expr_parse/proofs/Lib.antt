@@ -10,3 +10,6 @@ pub mod ExprLaws
 pub mod OperatorLaws
 pub mod ExprDepth
 pub mod Complete
+pub mod Starts
+pub mod ExprReads
+pub mod OperandReads

@@ -13,3 +13,6 @@ pub mod Complete
 pub mod Starts
 pub mod ExprReads
 pub mod OperandReads
+pub mod UnaryReads
+pub mod OperatorReads
+pub mod ExprComplete

@@ -6,3 +6,6 @@ pub mod Take
 pub mod Closers
 pub mod SpecifierTokens
 pub mod Kept
+pub mod Members
+pub mod Enumerators
+pub mod Specifiers

@@ -9,3 +9,5 @@ pub mod Kept
 pub mod Members
 pub mod Enumerators
 pub mod Specifiers
+pub mod DeclaratorTokens
+pub mod Parameters

@@ -11,3 +11,7 @@ pub mod Enumerators
 pub mod Specifiers
 pub mod DeclaratorTokens
 pub mod Parameters
+pub mod ExprLaws
+pub mod OperatorLaws
+pub mod ExprDepth
+pub mod Complete

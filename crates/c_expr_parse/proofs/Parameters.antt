@@ -18,6 +18,7 @@ use Rattle.c_expr_parse.specs.Parts.{Spells}
 use Rattle.c_expr_parse.specs.Rules.{rules}
 use Rattle.c_expr_parse.specs.Tests.{is_comma, begins_specifier, begins_declarator}
 use Rattle.c_expr_parse.specs.Written.{IsWritten}
+use Rattle.c_expr_parse.proofs.ExprLaws.{keeps_declared}
 use Rattle.c_expr_parse.proofs.Kept.{InnerKeeps}
 use Rattle.c_expr_parse.proofs.TokenLaws.{comma_here}
 
@@ -35,27 +36,13 @@ then_comma : (x : tree.Parameters) → is_no_parameter x ≡ false → before_pa
 then_comma tree.NoParameter e = cc
 then_comma (tree.AndParameter before specifiers d) e = simp append_assoc refl
 
-no_declarator_at_end : (names : TypeNames) (naming : Naming) → begins_declarator names naming None ≡ false
-no_declarator_at_end names WithName = refl
-no_declarator_at_end names WithoutName = refl
-no_declarator_at_end names WithOrWithout = refl
-
 module _ {names : TypeNames} {d : ℕ} (inner : InnerKeeps names d) where
-  pub keeps_declared : (naming : Naming) (ts : List Symbol)
-      → Rule IsWritten true false (λ d'. declared names (rules names d') naming) d (λ g. Spells (IsDeclared g names naming) declared_spelling) (λ x. declared_height x ≤ d) Any ts
-  unfolding declared
-  keeps_declared naming ts =
-      rule_branch (begins_declarator names naming) (no_declarator_at_end names naming)
-        (λ begins. rule_bind (inner.declarator naming true ts (λ _. begins)) (λ x s rest.
-        rule_pure (λ g u. record { within = u.within; spelled = append-nil s ∙ u.spelled }) (λ low. low) tt))
-        (λ _. rule_pure (λ g. record { within = tt; spelled = refl }) (omega arith) tt)
-
   keeps_next : (before : tree.Parameters) (s ts : List Symbol) (moves : Bool) → (moves ≡ true → begins_specifier names InBlock (first ts) ≡ true)
       → Rule IsWritten true moves (λ d'. next_parameter names (rules names d') before) d (λ g x s'. Before names g before s → SomeIn names g x (s ++ s')) (λ x. parameters_height before ≤ d → parameters_height x ≤ d) Any ts
   unfolding next_parameter
   keeps_next before s ts moves moved =
       rule_bind (inner.specifiers InBlock moves ts moved) (λ specifiers s1 r1.
-      rule_bind (keeps_declared WithOrWithout r1) (λ x s2 r2.
+      rule_bind (keeps_declared names d inner WithOrWithout r1) (λ x s2 r2.
       rule_pure (λ g x_in a b. record { within = ((b.within, a.within.0, a.within.1, x_in.within), refl); spelled = rw (b.spelled, a.spelled, x_in.spelled, append-nil) refl })
         (λ low_x low_a low_b. omega arith) tt))
 

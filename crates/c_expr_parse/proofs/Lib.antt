@@ -15,3 +15,5 @@ pub mod ExprLaws
 pub mod OperatorLaws
 pub mod ExprDepth
 pub mod Complete
+pub mod Parts
+pub mod Declarators

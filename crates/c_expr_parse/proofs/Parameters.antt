@@ -1,22 +1,21 @@
 -- What the rules for parameters keep (C99 6.7.5.3).
-use Rattle.std.proofs.Common.{◌≡◌, ℕ, suc, ◌≤◌, max, Bool, true, false, Option, Some, None, List, [], ◌∷◌, ◌++◌, refl, sym, ◌∙◌, ap, subst, append_assoc, append-nil, arith}
-use Rattle.parse_rules.specs.Parsers.{first, skip, ◌>>◌}
+use Rattle.std.proofs.Common.{◌≡◌, ℕ, ◌≤◌, Bool, true, false, List, [], ◌++◌, refl, sym, ◌∙◌, subst, append_assoc, append-nil, true≢false, arith}
+use Rattle.parse_rules.specs.Parsers.{first, skip, loop, ◌>>=◌, ◌>>◌}
 use Rattle.parse_rules.specs.Grammars.{Language, Any}
 use Rattle.parse_rules.specs.Rules.{Rule}
 use Rattle.parse_rules.proofs.Combinators.{rule_pure, rule_bind, rule_seq, rule_branch, rule_weaker, rule_skip_the}
 use Rattle.parse_rules.proofs.Loops.{Steps, rule_loop}
 use Rattle.c_tree.specs.declared.leaf.Separator.TheVariants as separator
-use Rattle.c_tree.specs.Depth.{parameters_height, declared_height}
-use Rattle.c_tree.specs.Grammar.{Naming, WithName, WithoutName, WithOrWithout, IsDeclared, AreParameters}
-use Rattle.c_tree.specs.Spelling.{comma, specifiers_spelling, declared_spelling, parameters_spelling, before_parameter}
+use Rattle.c_tree.specs.Depth.{parameters_height}
+use Rattle.c_tree.specs.Grammar.{WithOrWithout, AreParameters}
+use Rattle.c_tree.specs.Spelling.{comma, parameters_spelling, before_parameter}
 use Rattle.c_tree.specs.Symbols.{Symbol, Bare}
 use Rattle.c_tree.specs.Tree as tree
 use Rattle.c_tree.specs.Words.{TypeNames, InBlock}
 use Rattle.c_expr_parse.specs.DeclaratorRules.{next_parameter, parameters}
-use Rattle.c_expr_parse.specs.ExprRules.{declared}
 use Rattle.c_expr_parse.specs.Parts.{Spells}
 use Rattle.c_expr_parse.specs.Rules.{rules}
-use Rattle.c_expr_parse.specs.Tests.{is_comma, begins_specifier, begins_declarator}
+use Rattle.c_expr_parse.specs.Tests.{is_comma, begins_specifier}
 use Rattle.c_expr_parse.specs.Written.{IsWritten}
 use Rattle.c_expr_parse.proofs.ExprLaws.{keeps_declared}
 use Rattle.c_expr_parse.proofs.Kept.{InnerKeeps}
@@ -56,11 +55,20 @@ module _ {names : TypeNames} {d : ℕ} (inner : InnerKeeps names d) where
         (λ y low _ low_x. low low_x) (λ y rest' e. e) (keeps_next x (s ++ s1) r1 false (λ m. cc)))
   }
 
+  keeps_list : (ts : List Symbol) → begins_specifier names InBlock (first ts) ≡ true
+      → Rule IsWritten true true (λ d'. next_parameter names (rules names d') tree.NoParameter >>= (λ x. loop (λ _. is_comma) (λ before. skip >> next_parameter names (rules names d') before) x)) d
+          (λ g. Spells (AreParameters g names) parameters_spelling) (λ x. parameters_height x ≤ d) Any ts
+  keeps_list ts begins =
+      rule_bind (rule_weaker (λ g x s h. h (record { within = tt; spelled = refl })) (λ x low. low (omega arith)) (λ x rest e. e) (keeps_next tree.NoParameter [] ts true (λ _. begins))) (λ x s rest.
+      rule_weaker (λ g y s' h u. record { within = (h u).within.0; spelled = (h u).spelled }) (λ y low. low) (λ y rest' e. tt) (rule_loop parameter_steps x s (λ g x_in. x_in) (λ low. low) tt))
+
   pub keeps_parameters : (ts : List Symbol)
       → Rule IsWritten true false (λ d'. parameters names (rules names d')) d (λ g. Spells (AreParameters g names) parameters_spelling) (λ x. parameters_height x ≤ d) Any ts
   unfolding parameters
-  keeps_parameters ts =
-      rule_branch (begins_specifier names InBlock) refl
-        (λ begins. rule_bind (rule_weaker (λ g x s h. h (record { within = tt; spelled = refl })) (λ x low. low (omega arith)) (λ x rest e. e) (keeps_next tree.NoParameter [] ts true (λ _. begins))) (λ x s rest.
-          rule_weaker (λ g y s' h u. record { within = (h u).within.0; spelled = (h u).spelled }) (λ y low. low) (λ y rest' e. tt) (rule_loop parameter_steps x s (λ g x_in. x_in) (λ low. low) tt)))
-        (λ _. rule_pure (λ g. record { within = tt; spelled = refl }) (omega arith) tt)
+  keeps_parameters ts = rule_branch (begins_specifier names InBlock) refl (keeps_list ts) (λ _. rule_pure (λ g. record { within = tt; spelled = refl }) (omega arith) tt)
+
+  -- the same, where a parameter comes
+  pub keeps_parameters_here : (ts : List Symbol) → begins_specifier names InBlock (first ts) ≡ true
+      → Rule IsWritten true true (λ d'. parameters names (rules names d')) d (λ g. Spells (AreParameters g names) parameters_spelling) (λ x. parameters_height x ≤ d) Any ts
+  unfolding parameters
+  keeps_parameters_here ts begins = rule_branch (begins_specifier names InBlock) refl (keeps_list ts) (λ no. absurd (true≢false (sym begins ∙ no)))

@@ -43,21 +43,22 @@ module _ {names : TypeNames} {d : ℕ} (inner : InnerKeeps names d) where
       rule_bind (inner.specifiers InBlock moves ts moved) (λ specifiers s1 r1.
       rule_bind (keeps_declared names d inner WithOrWithout r1) (λ x s2 r2.
       rule_pure (λ g x_in a b. record { within = ((b.within, a.within.0, a.within.1, x_in.within), refl); spelled = rw (b.spelled, a.spelled, x_in.spelled, append-nil) refl })
-        (λ low_x low_a low_b. omega arith) tt))
+      (λ low_x low_a low_b. omega arith) tt))
 
   parameter_steps : Steps IsWritten true d (λ _. is_comma) (λ d' before. skip >> next_parameter names (rules names d') before) (SomeIn names) (λ x. parameters_height x ≤ d) Any
   parameter_steps = record {
-    never = λ _. refl; at_end = λ _. tt;
+    never = λ _. refl;
+    at_end = λ _. tt;
     steps = λ x s rest _ goes.
-      rule_seq (rule_skip_the (Bare separator.Comma) (comma_here (first rest) goes)) (λ t s1 r1.
-      rule_weaker
+        rule_seq (rule_skip_the (Bare separator.Comma) (comma_here (first rest) goes)) (λ t s1 r1.
+        rule_weaker
         (λ g y s' h after b. subst (λ z. SomeIn names g y z) (append_assoc s s1 s') (h (record { within = b.within.0; spelled = rw (b.spelled, after) (sym (then_comma x b.within.1)) })))
-        (λ y low _ low_x. low low_x) (λ y rest' e. e) (keeps_next x (s ++ s1) r1 false (λ m. cc)))
+        (λ y low _ low_x. low low_x) (λ y rest' e. e) (keeps_next x (s ++ s1) r1 false (λ m. cc)));
   }
 
   keeps_list : (ts : List Symbol) → begins_specifier names InBlock (first ts) ≡ true
       → Rule IsWritten true true (λ d'. next_parameter names (rules names d') tree.NoParameter >>= (λ x. loop (λ _. is_comma) (λ before. skip >> next_parameter names (rules names d') before) x)) d
-          (λ g. Spells (AreParameters g names) parameters_spelling) (λ x. parameters_height x ≤ d) Any ts
+      (λ g. Spells (AreParameters g names) parameters_spelling) (λ x. parameters_height x ≤ d) Any ts
   keeps_list ts begins =
       rule_bind (rule_weaker (λ g x s h. h (record { within = tt; spelled = refl })) (λ x low. low (omega arith)) (λ x rest e. e) (keeps_next tree.NoParameter [] ts true (λ _. begins))) (λ x s rest.
       rule_weaker (λ g y s' h u. record { within = (h u).within.0; spelled = (h u).spelled }) (λ y low. low) (λ y rest' e. tt) (rule_loop parameter_steps x s (λ g x_in. x_in) (λ low. low) tt))

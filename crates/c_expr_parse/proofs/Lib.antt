@@ -17,3 +17,6 @@ pub mod ExprDepth
 pub mod Complete
 pub mod Parts
 pub mod Declarators
+pub mod Starts
+pub mod ExprReads
+pub mod OperandReads

@@ -7,6 +7,10 @@ use Rattle.c_lexer.specs.declared.token.TokenKind.TheVariants as kind
 use Rattle.c_tree.specs.Symbols.{Name}
 use Rattle.c_tree.specs.Words.{TypeNames, is_type_name}
 use Rattle.c_tree.specs.declared.leaf.Identifier.{Identifier}
+use Rattle.c_tree.specs.Grammar.{WithName, IsDeclarator}
+use Rattle.c_tree.specs.Spelling.{name_symbol, declarator_spelling}
+use Rattle.c_tree.specs.Tree as tree
+use Rattle.parse_rules.specs.Grammars.{Language}
 use Rattle.c_expr_parse.specs.Written.{IsWritten}
 use Rattle.c_expr_parse.proofs.Written.{some_place}
 
@@ -47,3 +51,23 @@ all_word_bytes (suc n) = all_word_bytes n
 pub written_fresh : (names : TypeNames) → IsWritten (Name (fresh names) some_place)
 unfolding fresh
 written_fresh names = record { bytes = fresh names; kind = kind.Identifier; place = some_place; is_token = rw (all_word_bytes (total names)) refl; is_symbol = refl }
+
+pub fresh_name_is_new : (names : TypeNames) → is_type_name names (fresh_name names).bytes ≡ false
+unfolding fresh_name
+fresh_name_is_new names = fresh_is_new names
+
+pub written_fresh_name : (names : TypeNames) → IsWritten (name_symbol (fresh_name names))
+unfolding fresh_name
+written_fresh_name names = written_fresh names
+
+-- a declarator that is a name and no more
+unfoldable pub fresh_declarator : TypeNames → tree.Declarator
+fresh_declarator names = tree.Declares [] (tree.Names (fresh_name names)) tree.NoPart
+
+pub fresh_declares : (g : Language) (names : TypeNames) → IsDeclarator g names WithName (fresh_declarator names)
+unfolding fresh_declarator
+fresh_declares g names = (λ k d h. absurd (omega arith), (tt, fresh_name_is_new names), tt, tt)
+
+pub fresh_spelling : (names : TypeNames) → declarator_spelling (fresh_declarator names) ≡ name_symbol (fresh_name names) ∷ []
+unfolding fresh_declarator
+fresh_spelling names = refl

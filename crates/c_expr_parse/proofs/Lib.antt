@@ -6,10 +6,17 @@ pub mod Take
 pub mod Closers
 pub mod SpecifierTokens
 pub mod Kept
+pub mod Members
+pub mod Enumerators
+pub mod Specifiers
+pub mod DeclaratorTokens
+pub mod Parameters
 pub mod ExprLaws
 pub mod OperatorLaws
 pub mod ExprDepth
 pub mod Complete
+pub mod Parts
+pub mod Declarators
 pub mod Starts
 pub mod ExprReads
 pub mod OperandReads

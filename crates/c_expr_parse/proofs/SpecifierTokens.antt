@@ -1,5 +1,5 @@
 -- Which token it is with which a specifier begins.
-use Rattle.std.proofs.Common.{◌≡◌, ℕ, List, Bool, true, false, Option, Some, refl, cond, subst}
+use Rattle.std.proofs.Common.{◌≡◌, ℕ, List, Bool, true, false, Option, Some, None, refl, cond, subst}
 use Rattle.cc_base.specs.declared.place.Place.{Place}
 use Rattle.c_lexer.specs.declared.word.Keyword.{Keyword}
 use Rattle.c_lexer.specs.declared.word.Keyword.TheVariants as keyword
@@ -10,7 +10,7 @@ use Rattle.c_tree.specs.Operators.{aggregate_keyword}
 use Rattle.c_tree.specs.Spelling.{name_symbol, word_symbol}
 use Rattle.c_tree.specs.Symbols.{Symbol, Name, Word}
 use Rattle.c_tree.specs.Words.{TypeNames, is_type_name, Scope, may_specify}
-use Rattle.c_expr_parse.specs.Tests.{SpecifierStart, StartWord, StartTypedef, StartAggregate, StartEnum, NoSpecifierStart, specifier_start_of_word, specifier_start, is_long_next}
+use Rattle.c_expr_parse.specs.Tests.{SpecifierStart, StartWord, StartTypedef, StartAggregate, StartEnum, NoSpecifierStart, specifier_start_of_word, specifier_start, is_long_next, plain_name}
 
 -- what a specifier's start says of the token and of the word or name
 abbrev Back : TypeNames → Scope → Option Symbol → SpecifierStart → Type 0
@@ -56,3 +56,20 @@ start_enum_here names scope next at e = subst (λ x. Back names scope next x) e 
 pub long_here : (t : Symbol) → is_long_next (Some t) ≡ true → (at : Place) × (t ≡ Word keyword.Long at)
 long_here (Word keyword.Long at) e = (at, refl)
 long_here t e = cc
+
+-- Names that are no typedef names.
+
+abbrev BackPlain : TypeNames → Option Symbol → Option Identifier → Type 0
+BackPlain names next None = Unit {0}
+BackPlain names next (Some name) = (next ≡ Some (name_symbol name)) × (is_type_name names name.bytes ≡ false)
+
+plain_back : (names : TypeNames) (bytes : List ℕ) (at : Place) (b : Bool) → is_type_name names bytes ≡ b → BackPlain names (Some (Name bytes at)) (cond b None (Some (record { bytes = bytes; place = at })))
+plain_back names bytes at true e = tt
+plain_back names bytes at false e = (refl, e)
+
+plain_name_back : (names : TypeNames) (next : Option Symbol) → BackPlain names next (plain_name names next)
+plain_name_back names (Some (Name bytes at)) = plain_back names bytes at (is_type_name names bytes) refl
+plain_name_back names next = tt
+
+pub plain_name_here : (names : TypeNames) (next : Option Symbol) (name : Identifier) → plain_name names next ≡ Some name → (next ≡ Some (name_symbol name)) × (is_type_name names name.bytes ≡ false)
+plain_name_here names next name e = subst (λ x. BackPlain names next x) e (plain_name_back names next)

@@ -23,3 +23,4 @@ pub mod OperandReads
 pub mod UnaryReads
 pub mod OperatorReads
 pub mod ExprComplete
+pub mod InitialiserLaws

@@ -20,3 +20,4 @@ pub mod Declarators
 pub mod Starts
 pub mod ExprReads
 pub mod OperandReads
+pub mod DeclarationDepth

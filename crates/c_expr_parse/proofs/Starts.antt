@@ -1,23 +1,20 @@
 -- How the spelling of an expression begins.
-use Rattle.std.proofs.Common.{◌≡◌, ℕ, ◌<◌, Bool, true, false, cond, Option, Some, None, is_some, List, [], ◌∷◌, ◌++◌, length, map, refl, sym, ◌∙◌, ap, append_assoc, arith}
+use Rattle.std.proofs.Common.{◌≡◌, ℕ, ◌<◌, Bool, true, false, cond, Option, Some, None, List, [], ◌∷◌, ◌++◌, length, map, refl, append_assoc, arith}
 use Rattle.cc_base.specs.declared.place.Place.{Place}
 use Rattle.c_lexer.specs.declared.word.Keyword.{Keyword}
 use Rattle.c_lexer.specs.declared.word.Keyword.TheVariants as keyword
-use Rattle.c_lexer.specs.declared.punctuator.Punctuator.{Punctuator}
-use Rattle.c_lexer.specs.declared.punctuator.Punctuator.TheVariants as mark
 use Rattle.parse_rules.specs.Parsers.{first}
 use Rattle.parse_rules.specs.Grammars.{Language}
 use Rattle.c_tree.specs.declared.leaf.StringPiece.{StringPiece}
-use Rattle.c_tree.specs.declared.leaf.Separator.TheVariants as separator
 use Rattle.c_tree.specs.declared.operator.Unary.{Unary}
 use Rattle.c_tree.specs.declared.operator.Unary.TheVariants as unary
 use Rattle.c_tree.specs.Grammar.{IsExpr}
-use Rattle.c_tree.specs.Operators.{unary_symbol, member_mark, step_mark, binary_mark, assignment_mark}
-use Rattle.c_tree.specs.Spelling.{expr_spelling, arguments_spelling, type_name_spelling, name_symbol, piece_symbol}
+use Rattle.c_tree.specs.Operators.{unary_symbol}
+use Rattle.c_tree.specs.Spelling.{expr_spelling, piece_symbol}
 use Rattle.c_tree.specs.Symbols.{Symbol, Name, Integer, Character, Quoted, Word, Mark, Bare}
 use Rattle.c_tree.specs.Tree as tree
 use Rattle.c_tree.specs.Words.{TypeNames, Scope, AtFile, InBlock, InType, is_type_name}
-use Rattle.c_expr_parse.specs.Tests.{begins_expr, begins_specifier, start_of, start_of_word, is_start, StartName, NoStart, is_specifier_start, NoSpecifierStart, StartTypedef, specifier_start_of_word}
+use Rattle.c_expr_parse.specs.Tests.{begins_expr, begins_specifier, start_of_word, is_start, StartName, NoStart, is_specifier_start, NoSpecifierStart, StartTypedef, specifier_start_of_word}
 
 -- An expression begins as one.
 

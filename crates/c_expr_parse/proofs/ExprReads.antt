@@ -16,8 +16,8 @@ use Rattle.c_tree.specs.Tree as tree
 use Rattle.c_tree.specs.Words.{TypeNames}
 use Rattle.c_expr_parse.specs.ExprRules.{next_argument, arguments, postfix_step, postfix, operand, infix_step, question_after, with_question, assignment_after, with_assignment, comma_step, expr_layer}
 use Rattle.c_expr_parse.specs.Rules.{rules}
-use Rattle.c_expr_parse.specs.Tests.{Operator, At, is_comma, binds, binds_at, binary_operator, has_suffix, string_piece, begins_expr}
-use Rattle.c_expr_parse.proofs.Complete.{EndsOperand, EndsExpr, InnerReads}
+use Rattle.c_expr_parse.specs.Tests.{Operator, At, is_comma, binds, binds_at, binary_operator, assignment_operator, has_suffix, string_piece, begins_expr}
+use Rattle.c_expr_parse.proofs.Complete.{EndsOperand, EndsExpr, assignment_at, InnerReads}
 use Rattle.c_expr_parse.proofs.ExprLaws.{Fits, argument_steps, before_some}
 use Rattle.c_expr_parse.proofs.Kept.{InnerKeeps}
 use Rattle.c_expr_parse.proofs.Starts.{expr_starts}
@@ -32,21 +32,21 @@ pub bare_operand : (b : Separator) → EndsOperand (Some (Bare b))
 bare_operand b = record { no_suffix = refl; no_piece = refl; no_brace = refl }
 
 -- what closes or separates ends an expression, but a comma one with commas
-pub bare_expr : (least : ℕ) (e : tree.Expr) (b : Separator) → (least == 0 && is_comma (Some (Bare b))) ≡ false → EndsExpr least e (Some (Bare b))
-bare_expr least e b comma = record {
+pub bare_expr : (least : ℕ) (b : Separator) → (least == 0 && is_comma (Some (Bare b))) ≡ false → EndsExpr least (Some (Bare b))
+bare_expr least b comma = record {
   operand = bare_operand b;
   no_operator = refl;
   no_question = none_of (nat_le least 2) None refl;
-  no_assignment = none_of (nat_le least 1 && nat_le 14 (level e)) None refl;
+  no_assignment = none_of (nat_le least 1) None refl;
   no_comma = comma;
 }
 
-pub end_expr : (least : ℕ) (e : tree.Expr) → EndsExpr least e None
-end_expr least e = record {
+pub end_expr : (least : ℕ) → EndsExpr least None
+end_expr least = record {
   operand = record { no_suffix = refl; no_piece = refl; no_brace = refl };
   no_operator = refl;
   no_question = none_of (nat_le least 2) None refl;
-  no_assignment = none_of (nat_le least 1 && nat_le 14 (level e)) None refl;
+  no_assignment = none_of (nat_le least 1) None refl;
   no_comma = and_right (least == 0) false refl;
 }
 
@@ -60,7 +60,7 @@ leads_before f (breaks w rest e) = breaks w rest (ap (λ x. next x f) e)
 abbrev pub Args : TypeNames → ℕ → tree.Arguments → List Symbol → Answer Symbol tree.Arguments
 Args names d x rest = loop (λ _. is_comma) (λ before. skip >> next_argument (rules names d) before) x rest
 
-pub next_argument_reads : (names : TypeNames) (d : ℕ) → InnerReads names d → (g : Language) (before : tree.Arguments) (e : tree.Expr) (rest : List Symbol) → IsExpr g names e → 1 ≤ level e → expr_height e ≤ d → EndsExpr 1 e (first rest)
+pub next_argument_reads : (names : TypeNames) (d : ℕ) → InnerReads names d → (g : Language) (before : tree.Arguments) (e : tree.Expr) (rest : List Symbol) → IsExpr g names e → 1 ≤ level e → expr_height e ≤ d → EndsExpr 1 (first rest)
     → LeadsTo g (next_argument (rules names d) before (expr_spelling e ++ rest)) (Read (tree.AndArgument before e) rest)
 unfolding next_argument
 next_argument_reads names d inner g before e rest w fits low ends = leads_next _ (inner.expr g 1 e rest (omega arith) w fits low ends) (equal refl)
@@ -75,12 +75,12 @@ pub arguments_lead : (names : TypeNames) (d : ℕ) → InnerKeeps names d → In
     → LeadsTo g (next (next_argument (rules names d) tree.NoArgument (arguments_spelling x ++ Bare b ∷ rest)) (Args names d)) (Args names d x (Bare b ∷ rest))
 arguments_lead names d keeps inner g tree.NoArgument b rest w some low = cc
 arguments_lead names d keeps inner g (tree.AndArgument tree.NoArgument e) b rest w some low =
-    leads_next _ (next_argument_reads names d inner g tree.NoArgument e (Bare b ∷ rest) w.1 w.2 (omega arith) (bare_expr 1 e b refl)) (equal refl)
+    leads_next _ (next_argument_reads names d inner g tree.NoArgument e (Bare b ∷ rest) w.1 w.2 (omega arith) (bare_expr 1 b refl)) (equal refl)
 arguments_lead names d keeps inner g (tree.AndArgument (tree.AndArgument before a) e) b rest w some low =
     rw (arguments_flat (tree.AndArgument before a) (expr_spelling e) (Bare b ∷ rest) refl)
     (arguments_lead names d keeps inner g (tree.AndArgument before a) separator.Comma (expr_spelling e ++ Bare b ∷ rest) w.0 refl (omega arith)
     ▷ leads_loop (argument_steps names d keeps) (tree.AndArgument before a) (Bare separator.Comma ∷ (expr_spelling e ++ Bare b ∷ rest)) tt refl
-    (next_argument_reads names d inner g (tree.AndArgument before a) e (Bare b ∷ rest) w.1 w.2 (omega arith) (bare_expr 1 e b refl)))
+    (next_argument_reads names d inner g (tree.AndArgument before a) e (Bare b ∷ rest) w.1 w.2 (omega arith) (bare_expr 1 b refl)))
 
 pub arguments_start : (g : Language) (names : TypeNames) (x : tree.Arguments) (rest : List Symbol) → AreArguments g names x → is_no_argument x ≡ false → begins_expr names (first (arguments_spelling x ++ rest)) ≡ true
 arguments_start g names tree.NoArgument rest w some = cc
@@ -114,22 +114,30 @@ pub record Reading (names : TypeNames) (d : ℕ) (g : Language) (e : tree.Expr) 
   pub as_infix : (least : ℕ) (k : tree.Expr → Parser Symbol tree.Expr) (rest : List Symbol) → max least 3 ≤ level e → expr_height e ≤ suc d → EndsOperand (first rest) → Fits e rest
       → LeadsTo g (next (operand names d (rules names d) least (expr_spelling e ++ rest)) (λ a ts. next (infixes names d least a ts) k)) (next (infixes names d least e rest) k)
   pub as_expr : (least : ℕ) (rest : List Symbol) → least ≤ level e → expr_height e ≤ suc d → EndsOperand (first rest) → binds least (first rest) ≡ false
-      → question_after least (first rest) ≡ None → assignment_after least e (first rest) ≡ None
+      → question_after least (first rest) ≡ None → assignment_at least (first rest) ≡ None
       → LeadsTo g (expr_layer names d (rules names d) least (expr_spelling e ++ rest)) (commas names d least e rest)
 
--- what is read after the binary operators
-abbrev pub after_infix : TypeNames → ℕ → (least : ℕ) → tree.Expr → Parser Symbol tree.Expr
-after_infix names d least test =
-    by_first (question_after least) (with_question d (rules names d) test)
-    >>= (λ left. by_first (assignment_after least left) (with_assignment d (rules names d) left)
-    >>= (λ e. commas names d least e))
+-- what is read after a conditional expression, and after the binary operators
+abbrev pub after_question : TypeNames → ℕ → (least : ℕ) → tree.Expr → Parser Symbol tree.Expr
+after_question names d least left = by_first (assignment_after least left) (with_assignment d (rules names d) left) >>= (λ e. commas names d least e)
 
-pub after_infix_plain : (names : TypeNames) (d least : ℕ) (g : Language) (e : tree.Expr) (rest : List Symbol) → question_after least (first rest) ≡ None → assignment_after least e (first rest) ≡ None
+abbrev pub after_infix : TypeNames → ℕ → (least : ℕ) → tree.Expr → Parser Symbol tree.Expr
+after_infix names d least test = by_first (question_after least) (with_question d (rules names d) test) >>= (λ left. after_question names d least left)
+
+not_both : {A : Type 0} (a b : Bool) (o : Option A) → cond a o None ≡ None → cond (a && b) o None ≡ None
+not_both true true o e = e
+not_both true false o e = refl
+not_both false b o e = refl
+
+pub no_assignment_after : (least : ℕ) (e : tree.Expr) (next : Option Symbol) → assignment_at least next ≡ None → assignment_after least e next ≡ None
+no_assignment_after least e next none = not_both (nat_le least 1) (nat_le 14 (level e)) (assignment_operator next) none
+
+pub after_infix_plain : (names : TypeNames) (d least : ℕ) (g : Language) (e : tree.Expr) (rest : List Symbol) → question_after least (first rest) ≡ None → assignment_at least (first rest) ≡ None
     → LeadsTo g (after_infix names d least e rest) (commas names d least e rest)
 unfolding with_question with_assignment
 after_infix_plain names d least g e rest no_question no_assignment =
     leads_next _ (leads_first (question_after least) (with_question d (rules names d) e) rest no_question (equal refl))
-    (leads_next _ (leads_first (assignment_after least e) (with_assignment d (rules names d) e) rest no_assignment (equal refl)) (equal refl))
+    (leads_next _ (leads_first (assignment_after least e) (with_assignment d (rules names d) e) rest (no_assignment_after least e (first rest) no_assignment) (equal refl)) (equal refl))
 
 -- an operator that doesn't bind at a level doesn't at a higher one
 pub binds_less : (low high : ℕ) → low ≤ high → (o : Option (Operator Binary)) → binds_at low o ≡ false → binds_at high o ≡ false
@@ -151,7 +159,7 @@ module _ (names : TypeNames) (d : ℕ) (g : Language) (e : tree.Expr) where
 
   abbrev pub AsExpr : Type 0
   AsExpr = (least : ℕ) (rest : List Symbol) → least ≤ level e → expr_height e ≤ suc d → EndsOperand (first rest) → binds least (first rest) ≡ false
-      → question_after least (first rest) ≡ None → assignment_after least e (first rest) ≡ None
+      → question_after least (first rest) ≡ None → assignment_at least (first rest) ≡ None
       → LeadsTo g (expr_layer names d (rules names d) least (expr_spelling e ++ rest)) (commas names d least e rest)
 
   -- each kind of expression is one of the next kind

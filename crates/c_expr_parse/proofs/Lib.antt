@@ -21,3 +21,6 @@ pub mod Starts
 pub mod ExprReads
 pub mod OperandReads
 pub mod DeclarationDepth
+pub mod UnaryReads
+pub mod OperatorReads
+pub mod ExprComplete

@@ -71,7 +71,7 @@ unfolding operand operand_from after_paren
 paren_reads names d inner g at e w = reading_postfix names d g (tree.Paren at e) (omega arith) (λ least rest high low none.
     rw (append_assoc (expr_spelling e) (Bare separator.CloseParen ∷ []) rest)
     (leads_fails _ (no_cast g names least e (Bare separator.CloseParen ∷ rest) w)
-    (leads_next _ (inner.expr g 0 e (Bare separator.CloseParen ∷ rest) (omega arith) w (omega arith) (omega arith) (bare_expr 0 e separator.CloseParen refl)) (equal refl))))
+    (leads_next _ (inner.expr g 0 e (Bare separator.CloseParen ∷ rest) (omega arith) w (omega arith) (omega arith) (bare_expr 0 separator.CloseParen refl)) (equal refl))))
 
 -- Postfix expressions.
 
@@ -102,7 +102,7 @@ module _ (names : TypeNames) (d : ℕ) (keeps : InnerKeeps names d) (inner : Inn
       (h.as_postfix least (Mark mark.OpenBracket at ∷ (expr_spelling index ++ Bare separator.CloseBracket ∷ rest)) high (omega arith) refl
       ▷ leads_loop (postfix_steps names d keeps) e (Mark mark.OpenBracket at ∷ (expr_spelling index ++ Bare separator.CloseBracket ∷ rest)) refl refl
       (leads_next _ (leads_take_above d (expr_height e) (Mark mark.OpenBracket at) (expr_spelling index ++ Bare separator.CloseBracket ∷ rest) (omega arith))
-      (leads_next _ (inner.expr g 0 index (Bare separator.CloseBracket ∷ rest) (omega arith) w (omega arith) (omega arith) (bare_expr 0 index separator.CloseBracket refl)) (equal refl)))))
+      (leads_next _ (inner.expr g 0 index (Bare separator.CloseBracket ∷ rest) (omega arith) w (omega arith) (omega arith) (bare_expr 0 separator.CloseBracket refl)) (equal refl)))))
 
   pub call_reads : (e : tree.Expr) (at : Place) (x : tree.Arguments) → 15 ≤ level e → Reading names d g e → AreArguments g names x → Reading names d g (tree.Call e at x)
   unfolding postfix postfix_step with_suffix

@@ -57,7 +57,7 @@ all_bind : (low low' : ℕ) → low ≤ 3 → low' ≤ 3 → (o : Option (Operat
 all_bind low low' le le' None = refl
 all_bind low low' le le' (Some (At op at)) = le-leb low (precedence op) (omega (arith, precedence_low op)) ∙ sym (le-leb low' (precedence op) (omega (arith, precedence_low op)))
 
-none_bind : (low low' : ℕ) → low ≤ 3 → low' ≤ 3 → (rest : List Symbol) → binds low' (first rest) ≡ false → binds low (first rest) ≡ false
+pub none_bind : (low low' : ℕ) → low ≤ 3 → low' ≤ 3 → (rest : List Symbol) → binds low' (first rest) ≡ false → binds low (first rest) ≡ false
 none_bind low low' le le' rest e = all_bind low low' le le' (binary_operator (first rest)) ∙ e
 
 -- Conditional expressions.

@@ -24,3 +24,4 @@ pub mod DeclarationDepth
 pub mod UnaryReads
 pub mod OperatorReads
 pub mod ExprComplete
+pub mod DeclarationStarts

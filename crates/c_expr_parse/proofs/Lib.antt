@@ -20,8 +20,10 @@ pub mod Declarators
 pub mod Starts
 pub mod ExprReads
 pub mod OperandReads
+pub mod DeclarationDepth
 pub mod UnaryReads
 pub mod OperatorReads
 pub mod ExprComplete
 pub mod InitialiserLaws
 pub mod InitialiserReads
+pub mod DeclarationStarts

@@ -27,3 +27,4 @@ pub mod ExprComplete
 pub mod InitialiserLaws
 pub mod InitialiserReads
 pub mod DeclarationStarts
+pub mod TypeNameReads

@@ -3,3 +3,5 @@ pub mod ExprRules
 pub mod Rules
 pub mod Tests
 pub mod TypeRules
+pub mod Written
+pub mod Parts

@@ -291,6 +291,15 @@ module _ {T A : Type 0} {Valid : T → Type 0} {cut : Bool} {In : Language → A
         });
       }
 
+-- the next token is known to be the expected one
+pub rule_expect_here : {T : Type 0} {Valid : T → Type 0} {cut : Bool} {d : ℕ} (test : Option T → Bool) {ts : List T} (t : T) → first ts ≡ Some t → test (Some t) ≡ true
+    → Rule Valid cut true (λ _. expect test) d (λ _ _ s. s ≡ t ∷ []) (λ _. Unit {0}) Any ts
+rule_expect_here {T} test {ts} t here passes = rule_like (λ _. expect test) (λ _. skip) (λ d' ts' _ start. alike_skip ts' start) (rule_skip_the t here)
+  where
+    alike_skip : (ts' : List T) → Starts true ts ts' → expect test ts' ≡ skip ts'
+    alike_skip ts' (same h) = rw (ap test (h ∙ here) ∙ passes)
+    alike_skip ts' (gone h _) = cc
+
 -- a rule that bears to be cut off may be taken for one that doesn't
 pub rule_uncut : {T A : Type 0} {Valid : T → Type 0} {cut moves : Bool} {p : ℕ → Parser T A} {d : ℕ} {In : Language → A → List T → Type 0} {Low : A → Type 0} {Ends : A → List T → Type 0} {ts : List T}
     → Rule Valid true moves p d In Low Ends ts → Rule Valid cut moves p d In Low Ends ts

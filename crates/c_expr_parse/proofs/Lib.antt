@@ -25,3 +25,5 @@ pub mod UnaryReads
 pub mod OperatorReads
 pub mod ExprComplete
 pub mod DeclarationStarts
+pub mod MembersRead
+pub mod EnumeratorsRead

@@ -24,14 +24,14 @@ use Rattle.c_expr_parse.proofs.TokenLaws.{comma_here}
 abbrev Before : TypeNames → Language → tree.Parameters → List Symbol → Type 0
 Before names g = Spells (AreParameters g names) before_parameter
 
-abbrev is_no_parameter : tree.Parameters → Bool
+abbrev pub is_no_parameter : tree.Parameters → Bool
 is_no_parameter tree.NoParameter = true
 is_no_parameter parameters = false
 
 abbrev SomeIn : TypeNames → Language → tree.Parameters → List Symbol → Type 0
 SomeIn names g = Spells (λ x. AreParameters g names x × (is_no_parameter x ≡ false)) parameters_spelling
 
-then_comma : (x : tree.Parameters) → is_no_parameter x ≡ false → before_parameter x ≡ parameters_spelling x ++ comma
+pub then_comma : (x : tree.Parameters) → is_no_parameter x ≡ false → before_parameter x ≡ parameters_spelling x ++ comma
 then_comma tree.NoParameter e = cc
 then_comma (tree.AndParameter before specifiers d) e = simp append_assoc refl
 
@@ -45,7 +45,7 @@ module _ {names : TypeNames} {d : ℕ} (inner : InnerKeeps names d) where
       rule_pure (λ g x_in a b. record { within = ((b.within, a.within.0, a.within.1, x_in.within), refl); spelled = rw (b.spelled, a.spelled, x_in.spelled, append-nil) refl })
       (λ low_x low_a low_b. omega arith) tt))
 
-  parameter_steps : Steps IsWritten true d (λ _. is_comma) (λ d' before. skip >> next_parameter names (rules names d') before) (SomeIn names) (λ x. parameters_height x ≤ d) Any
+  pub parameter_steps : Steps IsWritten true d (λ _. is_comma) (λ d' before. skip >> next_parameter names (rules names d') before) (SomeIn names) (λ x. parameters_height x ≤ d) Any
   parameter_steps = record {
     never = λ _. refl;
     at_end = λ _. tt;

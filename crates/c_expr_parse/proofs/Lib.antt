@@ -28,3 +28,5 @@ pub mod InitialiserLaws
 pub mod InitialiserReads
 pub mod DeclarationStarts
 pub mod TypeNameReads
+pub mod MembersRead
+pub mod EnumeratorsRead

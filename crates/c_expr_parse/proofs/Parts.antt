@@ -63,7 +63,7 @@ no_static (word ∷ words) e f =
 abbrev ArrayWords : Language → List PlacedWord → List Symbol → Type 0
 ArrayWords g = Spells (λ words. are_array_words words ≡ true) (map word_symbol)
 
-array_word_steps : {d : ℕ} → Steps IsWritten true d (λ words next. is_some (array_word words next)) (λ _. next_array_word) ArrayWords (λ _. Unit {0}) Any
+pub array_word_steps : {d : ℕ} → Steps IsWritten true d (λ words next. is_some (array_word words next)) (λ _. next_array_word) ArrayWords (λ _. Unit {0}) Any
 unfolding next_array_word
 array_word_steps = record {
   never = λ _. refl;
@@ -182,7 +182,7 @@ Qualifiers g = Spells (λ words. are_qualifiers words ≡ true) (map word_symbol
 qualifiers_more : (words : List PlacedWord) (word : PlacedWord) → are_qualifiers words ≡ true → is_qualifier word.keyword ≡ true → are_qualifiers (words ++ word ∷ []) ≡ true
 qualifiers_more words word e f = list_all-append (λ x. is_qualifier x.keyword) words (word ∷ []) ∙ rw (e, f) refl
 
-qualifier_steps : {d : ℕ} → Steps IsWritten true d (λ _ next. is_some (qualifier_word next)) (λ _. next_qualifier) Qualifiers (λ _. Unit {0}) Any
+pub qualifier_steps : {d : ℕ} → Steps IsWritten true d (λ _ next. is_some (qualifier_word next)) (λ _. next_qualifier) Qualifiers (λ _. Unit {0}) Any
 unfolding next_qualifier
 qualifier_steps = record {
   never = λ _. refl;

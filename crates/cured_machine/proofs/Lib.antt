@@ -1,1 +1,4 @@
 pub mod StackLaws
+pub mod SignedWords
+pub mod RowLaws
+pub mod LookupLaws

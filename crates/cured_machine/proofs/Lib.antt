@@ -2,3 +2,5 @@ pub mod StackLaws
 pub mod SignedWords
 pub mod RowLaws
 pub mod LookupLaws
+pub mod ReachedLaws
+pub mod LeavingLaws

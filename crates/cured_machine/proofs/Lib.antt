@@ -4,3 +4,4 @@ pub mod RowLaws
 pub mod LookupLaws
 pub mod ReachedLaws
 pub mod LeavingLaws
+pub mod KeptLaws

@@ -5,3 +5,4 @@ pub mod LookupLaws
 pub mod ReachedLaws
 pub mod LeavingLaws
 pub mod KeptLaws
+pub mod CallLaws

@@ -1,5 +1,4 @@
 pub mod RangeLaws
-pub mod TagSizes
 pub mod RunLaws
 pub mod KeepLaws
 pub mod StartLaws

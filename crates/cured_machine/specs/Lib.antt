@@ -1,1 +1,4 @@
 pub mod Stack
+pub mod Rows
+pub mod Spelled
+pub mod Kept

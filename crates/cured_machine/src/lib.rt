@@ -1,2 +1,9 @@
 //! The machine that runs cured code.
 #![tactic(auto)]
+
+mod lookups;
+mod row;
+mod tags;
+mod tests_and_divisions;
+mod touching;
+mod words;

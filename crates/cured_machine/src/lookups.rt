@@ -1,0 +1,116 @@
+//! Frames, functions, type nodes and blocks.
+ghost use Rattle.std.specs.Prelude.{◌≡◌, ◌<◌, ◌+◌, ◌^◌, ℕ, length, Some, None, if◌then◌else◌};
+ghost use Rattle.cured_code.specs.declared.parts.Parts.{Parts};
+ghost use Rattle.flat_mem.specs.declared.Area.{Area};
+ghost use Rattle.cured_code.specs.Groups.{Lookups};
+ghost use Rattle.cured_code.specs.Tables.{function_at, is_below, parent_of, sig_word, has_room};
+ghost use Rattle.flat_mem.specs.Memory.{Memory, block_fits, block_address, block_made};
+ghost use Rattle.cured_machine.specs.Rows.{IsNamed, IsLookupRow, areas_in, sig_word_in};
+
+use crate::row::Row;
+use crate::tests_and_divisions::truth;
+use cured_code::{Function, Instr, Parts};
+use flat_mem::{Area, Flat};
+
+/// A new block's address, or 0 where none can be made. Its charge is `charge` and 16 more.
+fn new_block(flat: &mut Flat, tagged: bool, bytes: u64, charge: u64) -> u64
+    requires { flat.old.bounds.heap_limit < 2 ^ 64 }
+    ensures address { let area : Area = record { tagged = tagged; bytes = bytes } in
+        result ≡ (if block_fits flat.old area (charge + 16) then block_address flat.old else 0) }
+    ensures memory { let area : Area = record { tagged = tagged; bytes = bytes } in
+        flat.new ≡ (if block_fits flat.old area (charge + 16) then block_made flat.old area (charge + 16) else flat.old) }
+{
+    match charge.checked_add(16) {
+        None => 0,
+        Some(charge) => match flat.new_area(Area { tagged, bytes }, charge) {
+            None => 0,
+            Some(address) => address,
+        },
+    }
+}
+
+/// The number of the function at an address, where there is one.
+fn function_number(count: usize, address: u64) -> Option<usize>
+    ensures { result ≡ function_at count address }
+{
+    let number = (address / 8).saturating_sub(1);
+    if address % 8 == 0 && address >= 8 && number < count as u64 {
+        Some(number as usize)
+    } else {
+        None
+    }
+}
+
+/// The parent of a type node, or 0 where it has none.
+fn parent(parents: &[u32], node: u64) -> u64
+    ensures { result ≡ parent_of parents.now node }
+{
+    if node == 0 || node > parents.len() as u64 {
+        0
+    } else {
+        u64::from(parents[(node - 1) as usize])
+    }
+}
+
+/// Whether type node `a` is node `n` or has it as an ancestor.
+fn is_node_below(parents: &[u32], a: u64, n: u32) -> bool
+    requires { 0 < n }
+    ensures { result ≡ is_below parents.now a n }
+{
+    let mut node = a;
+    for step in 0..parents.len() {
+        let _step = step;
+        if node == u64::from(n) {
+            return true;
+        }
+        if node == 0 {
+            return false;
+        }
+        node = parent(parents, node);
+    }
+    node == u64::from(n)
+}
+
+fn sig_of(function: &Function) -> u32
+    ensures { result ≡ function.now.sig }
+{
+    function.sig
+}
+
+/// 1 plus the signature of the function at an address, or 0.
+fn sig_at(functions: &[Function], address: u64) -> u64
+    ensures { result ≡ sig_word_in functions.now (function_at (length functions.now) address) }
+{
+    match function_number(functions.len(), address) {
+        None => 0,
+        Some(number) => match functions.get(number) {
+            None => 0,
+            Some(function) => u64::from(sig_of(function)) + 1,
+        },
+    }
+}
+
+/// Instructions that look something up in the frame, or make a block.
+pub(crate) fn act_lookups(instr: &Instr, parts: &Parts, flat: &mut Flat, frame: &mut [u64]) -> Row
+    requires named { IsNamed instr.now (length frame.old) (areas_in flat.old) }
+    requires limit { flat.old.bounds.heap_limit < 2 ^ 64 }
+    ensures { IsLookupRow parts.now instr.now flat.old flat.new frame.old frame.new result }
+{
+    match *instr {
+        Instr::Frame(v, k) => frame[v as usize] = flat.frame_area(k as usize),
+        Instr::Depth(v, a) => frame[v as usize] = flat.depth_of(frame[a as usize]),
+        Instr::Below(v, a, n) => {
+            let nodes = &parts.nodes;
+            frame[v as usize] = truth(is_node_below(&nodes.0, frame[a as usize], n));
+        }
+        Instr::Sigof(v, a) => {
+            let functions = &parts.functions;
+            frame[v as usize] = sig_at(&functions.0, frame[a as usize]);
+        }
+        Instr::New(tagged, v, n, s) => {
+            frame[v as usize] = new_block(flat, tagged, frame[n as usize], frame[s as usize]);
+        }
+        _ => return Row::Other,
+    }
+    Row::Done
+}

@@ -1,0 +1,122 @@
+//! Instructions that read and write the byte list.
+ghost use Rattle.std.specs.Prelude.{IsTrue, length, ℕ, ◌*◌, ◌+◌, ◌<◌, ◌^◌, ◌≡◌, ◌≤◌, ◌⊎◌};
+ghost use Rattle.flat_mem.specs.Memory.{in_flat, with_bytes};
+ghost use Rattle.flat_mem.specs.Bytes.{bytes_at, written};
+ghost use Rattle.wild_tags.specs.Inside.{has_length};
+ghost use Rattle.cured_code.specs.FlatState.{words_at, words_stored};
+ghost use Rattle.cured_code.specs.Groups.{Bytes};
+ghost use Rattle.cured_code.specs.Ranges.{IsRowSize};
+ghost use Rattle.cured_machine.specs.Rows.{IsNamed, IsMemoryRow, areas_in};
+
+use crate::row::Row;
+use cured_code::Instr;
+use flat_mem::Flat;
+
+/// Whether the word before an address, an area's length, lies in the list.
+#[inline(always)]
+fn has_length(flat: &Flat, b: u64) -> bool
+    ensures { result ≡ has_length flat.now.bytes b }
+{
+    b >= 8 && flat.in_flat(b - 8, 8)
+}
+
+/// Two or three words at an address come into the slots from `v` on.
+#[inline(always)]
+#[tactic(auto, unfolding(flat_mem::specs::Bytes::written))]
+fn load_row(flat: &Flat, at: u64, frame: &mut [u64], v: usize, k: u32)
+    requires size { IsRowSize k }
+    requires slots { v + k ≤ length frame.old }
+    requires inside { IsTrue (in_flat flat.now.bytes at (8 * k)) }
+    requires small { length flat.now.bytes < 2 ^ 32 }
+    ensures { frame.new ≡ written (words_at k flat.now.bytes at) frame.old v }
+{
+    if k == 2 {
+        frame[v] = flat.load(at, 8);
+        frame[v + 1] = flat.load(at + 8, 8);
+    } else {
+        frame[v] = flat.load(at, 8);
+        frame[v + 1] = flat.load(at + 8, 8);
+        frame[v + 2] = flat.load(at + 8 + 8, 8);
+    }
+}
+
+/// Two or three words from the slots from `v` on are written at an address.
+#[inline(always)]
+#[tactic(auto, unfolding(flat_mem::specs::Bytes::bytes_at))]
+fn store_row(flat: &mut Flat, at: u64, frame: &[u64], v: usize, k: u32)
+    requires size { IsRowSize k }
+    requires slots { v + k ≤ length frame.now }
+    requires inside { IsTrue (in_flat flat.old.bytes at (8 * k)) }
+    requires small { length flat.old.bytes < 2 ^ 32 }
+    ensures { flat.new ≡ with_bytes flat.old (words_stored (bytes_at k frame.now v) flat.old.bytes at) }
+{
+    if k == 2 {
+        flat.store(at, 8, frame[v]);
+        flat.store(at + 8, 8, frame[v + 1]);
+    } else {
+        flat.store(at, 8, frame[v]);
+        flat.store(at + 8, 8, frame[v + 1]);
+        flat.store(at + 8 + 8, 8, frame[v + 2]);
+    }
+}
+
+#[inline(always)]
+pub(crate) fn act_bytes(instr: &Instr, flat: &mut Flat, frame: &mut [u64]) -> Row
+    requires named { IsNamed instr.now (length frame.old) (areas_in flat.old) }
+    requires small { length flat.old.bytes < 2 ^ 32 }
+    ensures { IsMemoryRow Bytes instr.now flat.old flat.new frame.old frame.new result }
+{
+    match *instr {
+        Instr::Ld(n, v, a) => {
+            let at = frame[a as usize];
+            if !flat.in_flat(at, n) {
+                return Row::Trapped;
+            }
+            frame[v as usize] = flat.load(at, n);
+        }
+        Instr::St(n, a, v) => {
+            let at = frame[a as usize];
+            if !flat.in_flat(at, n) {
+                return Row::Trapped;
+            }
+            flat.store(at, n, frame[v as usize]);
+        }
+        Instr::Move(a, b, n) => {
+            let (to, from) = (frame[a as usize], frame[b as usize]);
+            if !(flat.in_flat(to, n) && flat.in_flat(from, n)) {
+                return Row::Trapped;
+            }
+            flat.move_bytes(to, from, n);
+        }
+        Instr::Zero(a, n) => {
+            let at = frame[a as usize];
+            if !flat.in_flat(at, n) {
+                return Row::Trapped;
+            }
+            flat.zero(at, n);
+        }
+        Instr::Len(v, b) => {
+            let at = frame[b as usize];
+            if !has_length(flat, at) {
+                return Row::Trapped;
+            }
+            frame[v as usize] = flat.load(at - 8, 8);
+        }
+        Instr::Ldw(k, v, a) => {
+            let at = frame[a as usize];
+            if !flat.in_flat(at, 8 * u64::from(k)) {
+                return Row::Trapped;
+            }
+            load_row(flat, at, frame, v as usize, k);
+        }
+        Instr::Stw(k, v, a) => {
+            let at = frame[a as usize];
+            if !flat.in_flat(at, 8 * u64::from(k)) {
+                return Row::Trapped;
+            }
+            store_row(flat, at, frame, v as usize, k);
+        }
+        _ => return Row::Other,
+    }
+    Row::Done
+}

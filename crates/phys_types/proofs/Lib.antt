@@ -15,3 +15,4 @@ pub mod RoundLemmas
 pub mod Settled
 pub mod Placing
 pub mod Classes
+pub mod Viewing

@@ -111,3 +111,11 @@ module _ {A : Type 0} (none : A) where
       ∙ sym (is_repeated xs g h (i % length ys) r)
       ∙ front (i % length ys) q
       ∙ sym (repeated_at ys i)
+
+constant : (p : ℕ) → HasPeriod {A = ℕ} (λ i. 0) p
+unfolding HasPeriod
+constant p i = refl
+
+-- two numbers have a greatest common divisor
+pub some_gcd : (a b : ℕ) → (g : ℕ) × IsGcd a b g
+some_gcd a b = let r = some_divisor {A = ℕ} (λ i. 0) (suc b) a b (omega arith) (constant a) (constant b) in (r.0, r.1)

@@ -119,9 +119,11 @@ module _ (number size : TypeId → ℕ) where
   items_apart (Mixed t (suc n)) (Mixed u zero) xs ys h k e = let b = k.1 in absurd (omega arith)
   items_apart (Mixed t (suc n)) (Mixed u (suc m)) xs ys h k e =
       let s = first_true (same_type t u) (0 == 0) (first_true (same_type t u && (0 == 0)) _ e) in
-      let l : suc m ≡ suc n = k.0 ∙ sym (ap (λ (i : ℕ). size (record { 0 = i })) (same_id t u s)) ∙ sym h.0 in
-      (s, mixed_rest (same_number number) t u (range_with_len 0 (suc n)) xs ys
-      (subst (λ j. fronts (same_number number) (map (mixed t) (range_with_len 0 (suc n)) ++ xs) (map (mixed u) (range_with_len 0 j) ++ ys) ≡ true) l e))
+      let l : suc m ≡ suc n = k.0 ∙ sym (ap (λ (i : ℕ). size (record { 0 = i })) (same_id t u s)) ∙ sym h.0 in (
+        s,
+        mixed_rest (same_number number) t u (range_with_len 0 (suc n)) xs ys
+            (subst (λ j. fronts (same_number number) (map (mixed t) (range_with_len 0 (suc n)) ++ xs) (map (mixed u) (range_with_len 0 j) ++ ys) ≡ true) l e),
+      )
   items_apart (Pointer n t) (Mixed u zero) xs ys h k e = let b = k.1 in absurd (omega arith)
   items_apart (Pointer n t) (Mixed u (suc m)) xs ys h k e = absurd (true≢false (sym e))
   items_apart (Pointer n t) (Incomplete u) xs ys h k e = absurd (true≢false (sym e))

@@ -118,10 +118,13 @@ pub round_step : (table : Table) (old mid new : List Bool) (n : ℕ) (changed st
 round_step table old mid new n true true h k d = omega arith
 round_step table old mid new n true false h k d = subst (λ ms. waiting ms < waiting old) (sym k) h
 round_step table old mid new n false true h k d = subst (λ ms. waiting new < waiting ms) h.0 k
-round_step table old mid new n false false h k d = (k ∙ h.0, λ t l. elim (cases_lt t.0 n) [
-  | inl b ↦ subst (λ ms. is_done table ms t ≡ true) (sym k) (h.1 t b)
-  | inr g ↦ let e : n ≡ t.0 = omega arith in subst (λ (m : ℕ). is_done table new (record { 0 = m }) ≡ true) e d
-])
+round_step table old mid new n false false h k d = (
+  k ∙ h.0,
+  λ t l. elim (cases_lt t.0 n) [
+    | inl b ↦ subst (λ ms. is_done table ms t ≡ true) (sym k) (h.1 t b)
+    | inr g ↦ let e : n ≡ t.0 = omega arith in subst (λ (m : ℕ). is_done table new (record { 0 = m }) ≡ true) e d
+  ],
+)
 
 pub round_all : (table : Table) (old new : List Bool) (n : ℕ) (changed : Bool) → length table ≤ n → RoundSteps table old new n changed → RoundSteps table old new (length table) changed
 round_all table old new n true l h = h

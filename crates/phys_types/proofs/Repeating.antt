@@ -163,7 +163,6 @@ module _ (size : TypeId → ℕ) where
   index_across at g m [] a l h = absurd (true≢false h)
   index_across at g m (s ∷ ss) a l h = by (index_across (s.start + item_size s.item) g m ss a.2) (nat_lt s.start g) refl h
     where
-
       past : (g - at ≡ length (replicate (s.start - at) raw) + (g - s.start))
           → get_or (cells_from at (s ∷ ss) m) (g - at) raw ≡ get_or (item_cells s.item ++ cells_from (s.start + item_size s.item) ss m) (g - s.start) raw
       past e =

@@ -115,9 +115,13 @@ module _ (table : Table) (w : IsWellFormed table) (order : List TypeId) (places 
   part_place i d p l c =
       let k = o.parts i d p l c in
       let b : k.0 < i = (let n = length-take-le i order (omega arith) in omega (arith, k.1)) in
-      let e : get_or order k.0 p ≡ p = sym (get_or-take i order k.0 p b) ∙ k.2 in
-      (k.0, b, e, ap (λ (u : TypeId). get_or places u.0 0) (sym e) ∙ o.placed k.0 p (omega arith),
-      (let t : IsType table p = subst (IsType table) e (o.types k.0 p (omega arith)) in let f = o.fits in omega arith))
+      let e : get_or order k.0 p ≡ p = sym (get_or-take i order k.0 p b) ∙ k.2 in (
+        k.0,
+        b,
+        e,
+        ap (λ (u : TypeId). get_or places u.0 0) (sym e) ∙ o.placed k.0 p (omega arith),
+        (let t : IsType table p = subst (IsType table) e (o.types k.0 p (omega arith)) in let f = o.fits in omega arith),
+      )
 
   pub parts_kept : (i : ℕ) (d : TypeId) (layouts : List Layout) → i < length order → length layouts ≡ i → ArePartsKept table places layouts (get_or order i d)
   parts_kept i d layouts l e k f m =

@@ -10,6 +10,8 @@ mod order;
 mod phys;
 mod round;
 mod spot;
+#[cfg(test)]
+mod tests;
 mod tiling;
 
 pub use c_types::FlowClass;

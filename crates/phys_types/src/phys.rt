@@ -102,14 +102,22 @@ fn is_one_function(types: &Types, t: TypeId, u: TypeId) -> bool
 fn upward(tile: bool) -> FlowClass
     ensures { result ≡ (if tile then UpTile else Up) }
 {
-    if tile { FlowClass::UpTile } else { FlowClass::Up }
+    if tile {
+        FlowClass::UpTile
+    } else {
+        FlowClass::Up
+    }
 }
 
 /// The class of a flow from a type to one that begins with it.
 fn downward(tile: bool) -> FlowClass
     ensures { result ≡ (if tile then DownTile else Down) }
 {
-    if tile { FlowClass::DownTile } else { FlowClass::Down }
+    if tile {
+        FlowClass::DownTile
+    } else {
+        FlowClass::Down
+    }
 }
 
 /// The class of a flow between two types, from their layouts.

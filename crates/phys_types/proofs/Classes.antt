@@ -116,6 +116,13 @@ module _ (table : Table) (w : IsWellFormed table) (number : TypeId → ℕ)
         plus : (i : ℕ) → i ≡ 0 + i
         plus i = omega arith
 
+    pub alike_from_settled : (i j : ℕ) → repeated raw (map (settle number) xs) i ≡ repeated raw (map (settle number) ys) j
+        → alike (physically_equal table) (repeated_cell xs i) (repeated_cell ys j) ≡ true
+    alike_from_settled i j h =
+        sym (alike_agree (IsType table) (same_number number) (physically_equal table) equal (repeated_cell xs i) (repeated_cell ys j)
+        (into_at (IsType table) xs (i % length xs) hx) (into_at (IsType table) ys (j % length ys) hy))
+        ∙ alike_from_same number (repeated_cell xs i) (repeated_cell ys j) (sym (settled_repeated xs i) ∙ h ∙ settled_repeated ys j)
+
     pub from_agreeing : ((i : ℕ) → repeated raw (map (settle number) xs) i ≡ repeated raw (map (settle number) ys) i) → repeat_alike (physically_equal table) xs ys ≡ true
     from_agreeing h =
         passes_range (λ i. alike (physically_equal table) (repeated_cell xs i) (repeated_cell ys i)) 0 (length xs * length ys)
@@ -259,7 +266,7 @@ module _ (table : Table) where
       cells_are table w.order.0 w.order.1 (physically_equal table) t
       ∙ ap (λ s. cells_of_shape table (physically_equal table) (cells_at table (physically_equal table)) t s (members_at table t)) f.2
 
-  function_tiles : IsWellFormed table → (t u : TypeId) → is_function table t ≡ true → tile table t u ≡ false
+  pub function_tiles : IsWellFormed table → (t u : TypeId) → is_function table t ≡ true → tile table t u ≡ false
   function_tiles w t u h = ap (λ xs. not (is_empty xs) && (not (is_empty (cells_of table u)) && repeat_alike (physically_equal table) xs (cells_of table u))) (function_cells w t h)
 
   by_index : (xs ys : List Cell) → length ys ≤ length xs → ((i : ℕ) → i < length ys → alike (physically_equal table) (get_or xs i raw) (get_or ys i raw) ≡ true)

@@ -16,3 +16,4 @@ pub mod Settled
 pub mod Placing
 pub mod Classes
 pub mod Viewing
+pub mod LawLemmas

@@ -112,6 +112,14 @@ module _ {A : Type 0} (none : A) where
       ∙ front (i % length ys) q
       ∙ sym (repeated_at ys i)
 
+  pub agreeing_everywhere : (xs ys : List A) (g : ℕ) → 0 < length xs → 0 < length ys → IsGcd (length xs) (length ys) g
+      → ((i : ℕ) → i < length xs * length ys → repeated xs i ≡ repeated ys i)
+      → ((i j : ℕ) → i % g ≡ j % g → repeated xs i ≡ repeated xs j) × ((i : ℕ) → repeated xs i ≡ repeated ys i)
+  agreeing_everywhere xs ys g a b d h =
+      let all = agree_all xs ys a b h in
+      let p = divisor_period (repeated xs) (length xs) (length ys) g d (own_period xs) (turned xs ys all) in
+      ((λ i j e. folded (repeated xs) g p i ∙ ap (repeated xs) e ∙ sym (folded (repeated xs) g p j)), all)
+
 constant : (p : ℕ) → HasPeriod {A = ℕ} (λ i. 0) p
 unfolding HasPeriod
 constant p i = refl

@@ -1,4 +1,4 @@
-use Rattle.std.proofs.Common.{◌≡◌, ◌≢◌, ℕ, zero, suc, ◌+◌, ◌<◌, ◌≤◌, Bool, true, false, List, [], ◌∷◌, ◌++◌, length, get_or, set, take, drop, if◌then◌else◌, refl, ap, sym, subst, ◌∙◌, inl, inr, true≢false, arith}
+use Rattle.std.proofs.Common.{◌≡◌, ◌≢◌, ℕ, zero, suc, ◌+◌, ◌<◌, ◌≤◌, Bool, true, false, List, [], ◌∷◌, ◌++◌, length, get_or, set, take, drop, if◌then◌else◌, ◌==◌, refl, ap, sym, subst, ◌∙◌, inl, inr, true≢false, arith}
 use Rattle.std.specs.List.{All, Contains}
 use Rattle.std.specs.Cmp.{IsEquivalence}
 use Rattle.std.proofs.lemmas.Bool.{cases_lt}
@@ -79,6 +79,20 @@ module _ {A : Type 0} where
   place_end p [] (suc i) l = refl
   place_end p (x ∷ xs) zero l = absurd (omega arith)
   place_end p (x ∷ xs) (suc i) l = place_end p xs i (omega arith)
+
+-- what is made like the same first one is made alike
+pub place_tells : (R : TypeId → TypeId → Bool) → IsEquivalence R → (xs : List TypeId) (t u : TypeId) → Contains xs t → Contains xs u
+    → (first_place (λ x. R x t) xs == first_place (λ x. R x u) xs) ≡ R t u
+place_tells R q xs t u (i, a, e) (j, b, f) =
+    same_answer (first_place (λ x. R x t) xs == first_place (λ x. R x u) xs) (R t u)
+    (λ h.
+    let k = (Decides-eqb (first_place (λ x. R x t) xs) (first_place (λ x. R x u) xs)).0 h in
+    let l = place_below (λ x. R x t) xs i t a (ap (λ x. R x t) e ∙ q.refl t) in
+    let c = place_passes (λ x. R x t) xs t l in
+    let d = place_passes (λ x. R x u) xs t (omega arith) in
+    sym (q.congr (get_or xs (first_place (λ x. R x t) xs) t) t u c) ∙ ap (λ n. R (get_or xs n t) u) k ∙ d)
+    (λ h. (Decides-eqb (first_place (λ x. R x t) xs) (first_place (λ x. R x u) xs)).1
+    (place_same (λ x. R x t) (λ x. R x u) xs (λ x. q.symm x t ∙ q.congr t u x h ∙ q.symm u x)))
 
 -- one more of the first n
 pub alike_here : (p : TypeId → Bool) (order : List TypeId) (n i r : ℕ) (d : TypeId) (b : Bool) → i < n → n ≤ length order

@@ -279,11 +279,48 @@ fn large_types(rt: HostRuntime) -> Result<(), TypeFault> {
     let bytes = array(rt, t, CHAR, million(1));
     let longs = array(rt, t, LONG, million(1) / 8);
     let pairs = array(rt, t, pair, million(1) / 16);
-    let fewer = array(rt, t, pair, million(1) / 16 - 1);
+    let fewer = array(rt, t, pair, (million(1) / 16).saturating_sub(1));
     expect(rt, alloc, t, bytes, longs, FlowClass::Equal);
     expect(rt, alloc, t, bytes, CHAR, FlowClass::UpTile);
     expect(rt, alloc, t, pairs, fewer, FlowClass::UpTile);
     expect(rt, alloc, t, pairs, bytes, FlowClass::Bad);
+    Ok(())
+}
+
+/// Two types in turn.
+fn in_turn(
+    rt: &impl Abort,
+    alloc: Global,
+    first: TypeId,
+    second: TypeId,
+    count: usize,
+) -> Vec<TypeId> {
+    let mut members = Vec::new(alloc);
+    for _pair in 0..count {
+        members.push(first).ok().expect(rt, "memory");
+        members.push(second).ok().expect(rt, "memory");
+    }
+    members
+}
+
+/// Structs of a thousand members, which are one pair again and again.
+#[test]
+fn large_structs(rt: HostRuntime) -> Result<(), TypeFault> {
+    let rt = &rt;
+    let alloc = rt.alloc();
+    let mut types = Types::new(alloc)?;
+    let t = &mut types;
+    let text = pointer(rt, t, 0, CHAR);
+    let word = pointer(rt, t, 1, CHAR);
+    let members = in_turn(rt, alloc, INT, text, 500);
+    let first = structure(rt, alloc, t, 0, &members);
+    let other = in_turn(rt, alloc, INT, word, 500);
+    let second = structure(rt, alloc, t, 1, &other);
+    let fewer = in_turn(rt, alloc, INT, text, 499);
+    let third = structure(rt, alloc, t, 2, &fewer);
+    expect(rt, alloc, t, first, second, FlowClass::Equal);
+    expect(rt, alloc, t, first, third, FlowClass::UpTile);
+    expect(rt, alloc, t, third, second, FlowClass::DownTile);
     Ok(())
 }
 

@@ -1,7 +1,7 @@
-use Rattle.std.proofs.Common.{◌≡◌, ℕ, zero, suc, ◌+◌, ◌-◌, ◌*◌, ◌/◌, ◌%◌, ◌<◌, ◌≤◌, Bool, true, false, not, ◌&&◌, ◌||◌, List, [], ◌∷◌, length, get_or, map, nat_lt, nat_le, if◌then◌else◌, refl, ap, sym, subst, ◌∙◌, inl, inr, true≢false, arith}
-use Rattle.std.specs.List.{All, Contains, list_all, range_with_len}
+use Rattle.std.proofs.Common.{◌≡◌, ℕ, zero, suc, ◌+◌, ◌*◌, ◌/◌, ◌%◌, ◌<◌, ◌≤◌, Bool, true, false, not, ◌&&◌, ◌||◌, List, [], ◌∷◌, length, get_or, map, nat_lt, nat_le, if◌then◌else◌, refl, ap, sym, subst, ◌∙◌, inl, inr, true≢false, arith}
+use Rattle.std.specs.List.{Contains, list_all, range_with_len}
 use Rattle.std.specs.Int.{IsGcd}
-use Rattle.std.proofs.lemmas.Bool.{cases_lt, ltb-true, ltb-false, lt-ltb, leb-true, le-leb}
+use Rattle.std.proofs.lemmas.Bool.{cases_lt, ltb-true, ltb-false, leb-true}
 use Rattle.std.proofs.lemmas.List.{length-map, get_or_past}
 use Rattle.std.proofs.lemmas.List.Elements.{All-contains}
 use Rattle.std.proofs.lemmas.Nat.Gcd.{mod-eq-zero_of_dvd}
@@ -22,12 +22,12 @@ use Rattle.type_laws.proofs.Relations.{alike_equiv, equal_equiv}
 use Rattle.type_laws.proofs.Cells.{cells_are}
 use Rattle.phys_types.specs.declared.spot.Layout.{Layout}
 use Rattle.phys_types.specs.Spots.{cells_from, AreSpots}
-use Rattle.phys_types.specs.Numbers.{same_number, begin_with_spots, repeat_spots}
+use Rattle.phys_types.specs.Numbers.{same_number, repeat_spots}
 use Rattle.phys_types.specs.Reach.{IsClosed}
 use Rattle.phys_types.specs.Shown.{IsLayoutOf, begins_spots}
 use Rattle.phys_types.proofs.Spreading.{length_all}
 use Rattle.phys_types.proofs.Fronts.{fronts, begins_is, cells_from_spots, both_true}
-use Rattle.phys_types.proofs.Periods.{repeated, repeated_at, Repeats, repeats_from_agreeing, agreeing_from_repeats}
+use Rattle.phys_types.proofs.Periods.{repeated, repeated_at, repeats_from_agreeing, agreeing_from_repeats}
 use Rattle.phys_types.proofs.Settling.{settle, same_from_alike, alike_from_same, front_same, settled_at}
 use Rattle.phys_types.proofs.Repeating.{repeats_from_spots, spots_from_repeats}
 use Rattle.phys_types.proofs.Agreeing.{PointsInto, EachInto, alike_agree, begins_agree, cells_into}

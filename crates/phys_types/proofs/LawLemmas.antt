@@ -1,8 +1,7 @@
 use Rattle.std.specs.Prelude.{IsTrue}
-use Rattle.std.proofs.Common.{◌≡◌, ℕ, ◌+◌, ◌*◌, ◌%◌, ◌<◌, ◌≤◌, Bool, true, false, not, ◌&&◌, ◌||◌, if◌then◌else◌, List, [], ◌∷◌, length, get_or, take, map, nat_lt, ◌==◌, Some, refl, ap, sym, subst, ◌∙◌, true≢false, arith}
+use Rattle.std.proofs.Common.{◌≡◌, ℕ, ◌*◌, ◌%◌, ◌<◌, Bool, true, false, not, ◌&&◌, ◌||◌, if◌then◌else◌, List, [], ◌∷◌, length, take, map, nat_lt, Some, refl, ap, sym, subst, ◌∙◌, true≢false, arith}
 use Rattle.std.specs.List.{Contains, range_with_len}
 use Rattle.std.specs.Int.{IsGcd}
-use Rattle.std.proofs.lemmas.Bool.{lt-ltb}
 use Rattle.std.proofs.lemmas.List.{length-map}
 use Rattle.std.proofs.lemmas.List.FromFn.{get_or-map-range_with_len, length-map-range_with_len}
 use Rattle.cc_base.specs.declared.number.TypeId.{TypeId}
@@ -10,11 +9,11 @@ use Rattle.cc_base.specs.declared.number.NodeId.{NodeId}
 use Rattle.cc_base.specs.declared.kind.Kind.{Kind}
 use lib.Pointwise.{pointwise_long}
 use Rattle.c_types.specs.declared.shape.TypeShape.{TypeShape}
-use Rattle.c_types.specs.declared.shape.TypeShape.TheVariants.{Void, Integer, Pointer, Array, Function, Struct, Union}
+use Rattle.c_types.specs.declared.shape.TypeShape.TheVariants.{Function}
 use Rattle.c_types.specs.Table.{Table, IsType, shape_at, is_function_shape, is_function, is_empty}
 use Rattle.c_types.specs.Cells.{Cell, raw, same_type, alike, all_alike, begins}
 use Rattle.c_types.specs.Equality.{makeup_of, same_makeup, made_alike, physically_equal, cells_of, begins_with, repeated_cell, repeat_alike, tile}
-use Rattle.c_types.specs.Flows.{HeldPointer, pointer_at, StandAlike, Correspond, top, inside, CorrespondByPlace, HaveEqualKinds, IsOfOneClass, Covers}
+use Rattle.c_types.specs.Flows.{HeldPointer, pointer_at, top, inside, CorrespondByPlace, HaveEqualKinds, IsOfOneClass, Covers}
 use Rattle.c_types.specs.Sound.{IsWellFormed}
 use Rattle.c_types.proofs.Shapes.{first_true, second_true}
 use Rattle.type_laws.proofs.Relations.{equal_equiv, cells_equiv, same_id}
@@ -23,7 +22,7 @@ use Rattle.type_laws.proofs.Pointers.{Mirrors, equal_mirrors, begins_mirrors, be
 use Rattle.phys_types.specs.Numbers.{same_number}
 use Rattle.phys_types.specs.Laws.{HasCounterpart}
 use Rattle.phys_types.specs.Rounds.{first_place}
-use Rattle.phys_types.proofs.Agreeing.{EachInto, cells_into}
+use Rattle.phys_types.proofs.Agreeing.{cells_into}
 use Rattle.phys_types.proofs.Settling.{settle}
 use Rattle.phys_types.proofs.Periods.{repeated, agreeing_everywhere}
 use Rattle.phys_types.proofs.RoundLemmas.{place_tells}

@@ -1,14 +1,14 @@
-use Rattle.std.proofs.Common.{◌≡◌, ℕ, zero, suc, ◌+◌, ◌-◌, ◌<◌, ◌≤◌, Bool, true, false, ◌&&◌, if◌then◌else◌, List, [], ◌∷◌, ◌++◌, length, take, map, replicate, nat_lt, ◌==◌, refl, ap, sym, subst, ◌∙◌, arith}
+use Rattle.std.proofs.Common.{◌≡◌, ℕ, zero, suc, ◌-◌, ◌<◌, Bool, true, false, ◌&&◌, if◌then◌else◌, List, [], ◌∷◌, ◌++◌, length, take, map, replicate, nat_lt, ◌==◌, refl, ap, sym, subst, ◌∙◌, arith}
 use Rattle.std.specs.List.{Contains, fold, repeat, range_with_len, list_all}
 use lib.Pointwise.{pointwise}
 use Rattle.cc_base.specs.declared.number.TypeId.{TypeId}
 use Rattle.cc_base.specs.declared.number.NodeId.{NodeId}
 use Rattle.c_types.specs.declared.shape.TypeShape.{TypeShape}
 use Rattle.c_types.specs.declared.shape.TypeShape.TheVariants.{Void, Integer, Pointer, Array, Function, Struct, Union}
-use Rattle.c_types.specs.Table.{Table, shape_at, members_at, parts_at, parts_of_shape, named_by, IsType}
+use Rattle.c_types.specs.Table.{Table, shape_at, members_at, parts_of_shape, named_by}
 use Rattle.c_types.specs.Layouts.{rounded, size_of, align_of}
-use Rattle.c_types.specs.Cells.{Cell, raw, pointer, mixed, incomplete, Relation, same_type, alike, all_alike, begins, pointer_cells, padded_to, member_cells, longest, union_cells, aggregate_cells, cells_of_shape, cells_at, holds_pointer}
-use Rattle.c_types.specs.Equality.{Slot, nothing, integer, pointer_to, other, slot_of, same_slot, makeup_of, same_makeup, makeup_at, made_alike, within}
+use Rattle.c_types.specs.Cells.{Cell, raw, pointer, mixed, incomplete, Relation, alike, all_alike, begins, padded_to, member_cells, longest, union_cells, cells_of_shape, cells_at, holds_pointer}
+use Rattle.c_types.specs.Equality.{Slot, nothing, integer, pointer_to, other, slot_of, same_slot, makeup_of, same_makeup, made_alike}
 use Rattle.c_types.specs.Sound.{IsWellFormed}
 use Rattle.c_types.proofs.Lists.{contains_head, contains_tail}
 use Rattle.type_laws.proofs.Cells.{cells_are, cells_local}

@@ -1,17 +1,15 @@
-use Rattle.std.proofs.Common.{◌≡◌, ◌≢◌, ℕ, zero, suc, ◌+◌, ◌-◌, ◌*◌, ◌<◌, ◌≤◌, Bool, true, false, ◌&&◌, List, [], ◌∷◌, ◌++◌, length, take, map, replicate, nat_le, ◌==◌, refl, ap, sym, subst, ◌∙◌, true≢false, arith}
+use Rattle.std.proofs.Common.{◌≡◌, ℕ, zero, suc, ◌+◌, ◌-◌, ◌≤◌, Bool, true, false, ◌&&◌, List, [], ◌∷◌, ◌++◌, map, replicate, ◌==◌, refl, ap, sym, subst, ◌∙◌, true≢false, arith}
 use Rattle.std.specs.List.{range_with_len}
 use Rattle.std.proofs.lemmas.Bool.Decides.{Decides-eqb, nat_tests}
-use lib.Pointwise.{pointwise}
 use Rattle.cc_base.specs.declared.number.TypeId.{TypeId}
-use Rattle.cc_base.specs.declared.number.NodeId.{NodeId}
-use Rattle.c_types.specs.Cells.{Cell, raw, pointer, mixed, incomplete, Relation, same_type, alike, all_alike, begins, pointer_cells}
+use Rattle.c_types.specs.Cells.{Cell, raw, pointer, mixed, incomplete, Relation, same_type, alike, begins}
 use Rattle.c_types.proofs.Shapes.{first_true, second_true}
 use Rattle.type_laws.proofs.Relations.{same_id}
 use Rattle.phys_types.specs.declared.spot.Item.{Item}
 use Rattle.phys_types.specs.declared.spot.Item.TheVariants.{Pointer, Mixed, Incomplete}
 use Rattle.phys_types.specs.declared.spot.Spot.{Spot}
 use Rattle.phys_types.specs.Spots.{item_size, item_cells, cells_from, HasSize, AreSpots}
-use Rattle.phys_types.specs.Numbers.{same_number, same_item, same_spot, start_from, begin_with_spots}
+use Rattle.phys_types.specs.Numbers.{same_number, same_item, same_spot, begin_with_spots}
 use Rattle.phys_types.proofs.Spreading.{spots_end}
 
 -- Cells begin with other cells where the spots do.
@@ -119,9 +117,11 @@ module _ (number size : TypeId → ℕ) where
   items_apart (Mixed t (suc n)) (Mixed u zero) xs ys h k e = let b = k.1 in absurd (omega arith)
   items_apart (Mixed t (suc n)) (Mixed u (suc m)) xs ys h k e =
       let s = first_true (same_type t u) (0 == 0) (first_true (same_type t u && (0 == 0)) _ e) in
-      let l : suc m ≡ suc n = k.0 ∙ sym (ap (λ (i : ℕ). size (record { 0 = i })) (same_id t u s)) ∙ sym h.0 in
-      (s, mixed_rest (same_number number) t u (range_with_len 0 (suc n)) xs ys
-      (subst (λ j. fronts (same_number number) (map (mixed t) (range_with_len 0 (suc n)) ++ xs) (map (mixed u) (range_with_len 0 j) ++ ys) ≡ true) l e))
+      let l : suc m ≡ suc n = k.0 ∙ sym (ap (λ (i : ℕ). size (record { 0 = i })) (same_id t u s)) ∙ sym h.0 in (
+        s,
+        mixed_rest (same_number number) t u (range_with_len 0 (suc n)) xs ys
+            (subst (λ j. fronts (same_number number) (map (mixed t) (range_with_len 0 (suc n)) ++ xs) (map (mixed u) (range_with_len 0 j) ++ ys) ≡ true) l e),
+      )
   items_apart (Pointer n t) (Mixed u zero) xs ys h k e = let b = k.1 in absurd (omega arith)
   items_apart (Pointer n t) (Mixed u (suc m)) xs ys h k e = absurd (true≢false (sym e))
   items_apart (Pointer n t) (Incomplete u) xs ys h k e = absurd (true≢false (sym e))

@@ -15,3 +15,5 @@ pub mod RoundLemmas
 pub mod Settled
 pub mod Placing
 pub mod Classes
+pub mod Viewing
+pub mod LawLemmas

@@ -1,4 +1,4 @@
-use Rattle.std.proofs.Common.{◌≡◌, ℕ, zero, suc, ◌+◌, ◌<◌, ◌≤◌, Bool, true, false, ◌&&◌, List, [], ◌∷◌, length, map, ◌==◌, refl, ap, sym, subst, ◌∙◌, true≢false, arith}
+use Rattle.std.proofs.Common.{◌≡◌, ℕ, suc, Bool, true, false, ◌&&◌, List, [], ◌∷◌, map, ◌==◌, refl, ap, sym, subst, ◌∙◌, arith}
 use Rattle.std.specs.List.{All}
 use Rattle.std.proofs.lemmas.Bool.Decides.{Decides-eqb}
 use lib.Pointwise.{pointwise, pointwise_long}
@@ -7,7 +7,7 @@ use Rattle.c_types.specs.declared.shape.TypeShape.{TypeShape}
 use Rattle.c_types.specs.declared.shape.TypeShape.TheVariants.{Void, Integer, Pointer, Array, Function, Struct, Union}
 use Rattle.c_types.specs.Table.{Table, IsType, shape_at, named_by}
 use Rattle.c_types.specs.Layouts.{size_of}
-use Rattle.c_types.specs.Cells.{Relation, Cell, alike, all_alike, cells_at}
+use Rattle.c_types.specs.Cells.{Relation, alike, all_alike, cells_at}
 use Rattle.c_types.specs.Equality.{bytes, slot_of, same_slot, makeup_of, same_makeup, made_alike}
 use Rattle.c_types.specs.Sound.{IsWellFormed}
 use Rattle.phys_types.specs.declared.spot.Layout.{Layout}

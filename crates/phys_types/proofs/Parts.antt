@@ -1,17 +1,17 @@
-use Rattle.std.proofs.Common.{◌≡◌, ℕ, zero, suc, ◌+◌, ◌<◌, ◌≤◌, Bool, true, false, List, [], ◌∷◌, length, get_or, take, map, refl, ap, sym, subst, ◌∙◌, true≢false, arith}
+use Rattle.std.proofs.Common.{◌≡◌, ℕ, zero, suc, ◌+◌, ◌<◌, ◌≤◌, Bool, true, false, List, [], ◌∷◌, length, get_or, refl, ap, sym, subst, ◌∙◌, true≢false, arith}
 use Rattle.std.specs.List.{All, Contains}
 use Rattle.std.proofs.lemmas.List.Elements.{Contains-get_or}
 use Rattle.cc_base.specs.declared.number.TypeId.{TypeId}
 use Rattle.c_types.specs.declared.shape.TypeShape.{TypeShape}
 use Rattle.c_types.specs.declared.shape.TypeShape.TheVariants.{Void, Integer, Pointer, Array, Function, Struct, Union}
-use Rattle.c_types.specs.Table.{Table, IsType, IsComplete, shape_at, members_at, parts_at, parts_of_shape, is_complete_entry}
-use Rattle.c_types.specs.Layouts.{size_of, offset_of, layout_of}
+use Rattle.c_types.specs.Table.{Table, IsComplete, shape_at, members_at, parts_at, parts_of_shape, is_complete_entry}
+use Rattle.c_types.specs.Layouts.{size_of, offset_of}
 use Rattle.c_types.specs.Cells.{Cell, Relation, cells_at, cells_of_shape}
 use Rattle.c_types.specs.Sound.{IsWellFormed}
 use Rattle.type_laws.proofs.Cells.{cells_are, length_cells}
 use Rattle.phys_types.specs.declared.spot.Layout.{Layout}
 use Rattle.phys_types.specs.declared.spot.Spot.{Spot}
-use Rattle.phys_types.specs.Spots.{cells_from, AreSpots, item_size}
+use Rattle.phys_types.specs.Spots.{AreSpots, item_size}
 use Rattle.phys_types.specs.Numbers.{AreLow}
 use Rattle.phys_types.specs.Shown.{IsLayoutOf, IsLow, IsKept, ArePartsKept, ArePartsShown, is_struct_shape, is_union_shape, IsStruct, IsUnion}
 use Rattle.phys_types.proofs.Spreading.{spots_end, length_all}

@@ -1,15 +1,14 @@
-use Rattle.std.proofs.Common.{◌≡◌, ◌≢◌, ℕ, zero, suc, ◌+◌, ◌<◌, ◌≤◌, Bool, true, false, not, ◌&&◌, ◌||◌, List, [], ◌∷◌, ◌++◌, length, get_or, set, take, if◌then◌else◌, refl, ap, sym, subst, ◌∙◌, inl, inr, true≢false, arith}
-use Rattle.std.specs.List.{All, Contains, list_all}
+use Rattle.std.proofs.Common.{◌≡◌, ◌≢◌, ℕ, zero, suc, ◌+◌, ◌<◌, ◌≤◌, Bool, true, false, not, ◌&&◌, ◌||◌, List, [], ◌∷◌, ◌++◌, length, get_or, set, if◌then◌else◌, refl, ap, sym, subst, ◌∙◌, inl, inr, true≢false, arith}
+use Rattle.std.specs.List.{Contains, list_all}
 use Rattle.std.proofs.lemmas.Bool.{cases_lt}
-use Rattle.std.proofs.lemmas.Bool.Decides.{Decides-eqb, eqb_tells}
+use Rattle.std.proofs.lemmas.Bool.Decides.{eqb_tells}
 use Rattle.std.proofs.lemmas.List.{get_or-set_same, get_or-set_other, get_or_append_left, get_or_push, length_push, length-set, take-append-le, take_at, get_or_past}
-use Rattle.std.proofs.lemmas.List.Elements.{Contains-append_left, Contains-get_or, All-contains, All-push}
+use Rattle.std.proofs.lemmas.List.Elements.{Contains-append_left, All-contains, All-push}
 use Rattle.cc_base.specs.declared.number.TypeId.{TypeId}
 use Rattle.c_types.specs.Table.{Table, IsType, IsComplete, is_complete, void_entry, parts_at}
 use Rattle.c_types.specs.Sound.{IsWellFormed}
 use Rattle.c_types.proofs.Lists.{contains_head, contains_tail}
 use Rattle.c_types.proofs.Shapes.{first_true, second_true}
-use Rattle.phys_types.specs.Rounds.{IsOrder}
 use Rattle.phys_types.specs.Orders.{is_marked, IsPlacing, is_done, waiting, Steps, RoundSteps, IsWholeOrder}
 
 -- Placing types one by one.
@@ -118,10 +117,13 @@ pub round_step : (table : Table) (old mid new : List Bool) (n : ℕ) (changed st
 round_step table old mid new n true true h k d = omega arith
 round_step table old mid new n true false h k d = subst (λ ms. waiting ms < waiting old) (sym k) h
 round_step table old mid new n false true h k d = subst (λ ms. waiting new < waiting ms) h.0 k
-round_step table old mid new n false false h k d = (k ∙ h.0, λ t l. elim (cases_lt t.0 n) [
-  | inl b ↦ subst (λ ms. is_done table ms t ≡ true) (sym k) (h.1 t b)
-  | inr g ↦ let e : n ≡ t.0 = omega arith in subst (λ (m : ℕ). is_done table new (record { 0 = m }) ≡ true) e d
-])
+round_step table old mid new n false false h k d = (
+  k ∙ h.0,
+  λ t l. elim (cases_lt t.0 n) [
+    | inl b ↦ subst (λ ms. is_done table ms t ≡ true) (sym k) (h.1 t b)
+    | inr g ↦ let e : n ≡ t.0 = omega arith in subst (λ (m : ℕ). is_done table new (record { 0 = m }) ≡ true) e d
+  ],
+)
 
 pub round_all : (table : Table) (old new : List Bool) (n : ℕ) (changed : Bool) → length table ≤ n → RoundSteps table old new n changed → RoundSteps table old new (length table) changed
 round_all table old new n true l h = h

@@ -1,23 +1,20 @@
-use Rattle.std.proofs.Common.{◌≡◌, ◌≢◌, ℕ, zero, suc, ◌+◌, ◌-◌, ◌*◌, ◌/◌, ◌%◌, ◌<◌, ◌≤◌, Bool, true, false, ◌&&◌, List, [], ◌∷◌, ◌++◌, length, get_or, take, map, replicate, nat_le, nat_lt, ◌==◌, if◌then◌else◌, refl, ap, sym, subst, ◌∙◌, inl, inr, true≢false, arith}
-use Rattle.std.specs.List.{range_with_len, repeat}
-use Rattle.std.proofs.lemmas.Bool.{cases_lt, ltb-true, ltb-false, lt-ltb, le-leb, leb-true, leb-false}
-use Rattle.std.proofs.lemmas.Bool.Decides.{Decides-eqb, nat_tests}
+use Rattle.std.proofs.Common.{◌≡◌, ℕ, zero, suc, ◌+◌, ◌-◌, ◌*◌, ◌/◌, ◌%◌, ◌<◌, ◌≤◌, Bool, true, false, ◌&&◌, List, [], ◌∷◌, ◌++◌, length, get_or, take, map, replicate, nat_le, nat_lt, if◌then◌else◌, refl, ap, sym, subst, ◌∙◌, inl, inr, true≢false, arith}
+use Rattle.std.specs.List.{repeat}
+use Rattle.std.proofs.lemmas.Bool.{cases_lt, ltb-true, ltb-false, le-leb, leb-true, leb-false}
 use Rattle.std.proofs.lemmas.Nat.{mod_below}
-use Rattle.std.proofs.lemmas.List.{length-append, length-map, length-replicate, take-append-le, take-replicate, get_or_append_left, get_or-append-add, get_or-replicate, ext_get_or, get_or-take, length-take-le, map-append}
+use Rattle.std.proofs.lemmas.List.{length-append, length-map, length-replicate, take-append-le, take-replicate, get_or_append_left, get_or-append-add, ext_get_or, get_or-take}
 use Rattle.std.proofs.lemmas.List.FromFn.{get_or-map-range_with_len}
 use Rattle.std.proofs.Math.Seq.{take-append-add}
 use Rattle.std.proofs.Math.Nat.{add-mod_left, mod_self}
 use native.Mathlib.Nat.{mod-eq_of_lt}
-use lib.Pointwise.{pointwise}
 use Rattle.cc_base.specs.declared.number.TypeId.{TypeId}
-use Rattle.cc_base.specs.declared.number.NodeId.{NodeId}
-use Rattle.c_types.specs.Cells.{Cell, raw, pointer, mixed, incomplete, Relation, alike, all_alike, pointer_cells}
+use Rattle.c_types.specs.Cells.{Cell, raw, pointer, mixed, incomplete, Relation, alike, all_alike}
 use Rattle.c_types.proofs.Shapes.{first_true, second_true}
 use Rattle.phys_types.specs.declared.spot.Item.{Item}
 use Rattle.phys_types.specs.declared.spot.Item.TheVariants.{Pointer, Mixed, Incomplete}
 use Rattle.phys_types.specs.declared.spot.Spot.{Spot}
 use Rattle.phys_types.specs.Spots.{item_size, item_cells, cells_from, HasSize, AreSpots, copies}
-use Rattle.phys_types.specs.Numbers.{same_number, same_item, same_spot, same_spots, start_from, begin_with_spots, spots_before, end_within, repeat_spots}
+use Rattle.phys_types.specs.Numbers.{same_number, same_spot, same_spots, begin_with_spots, spots_before, end_within, repeat_spots}
 use Rattle.phys_types.proofs.Spreading.{spots_end, length_from, length_all, length_item, spots_copied, cells_copied}
 use Rattle.phys_types.proofs.Fronts.{fronts, spots_from_cells, cells_from_spots, both_true}
 use Rattle.phys_types.proofs.Settling.{settle, all_same_from_alike, all_alike_from_same, settled_at}
@@ -163,7 +160,6 @@ module _ (size : TypeId → ℕ) where
   index_across at g m [] a l h = absurd (true≢false h)
   index_across at g m (s ∷ ss) a l h = by (index_across (s.start + item_size s.item) g m ss a.2) (nat_lt s.start g) refl h
     where
-
       past : (g - at ≡ length (replicate (s.start - at) raw) + (g - s.start))
           → get_or (cells_from at (s ∷ ss) m) (g - at) raw ≡ get_or (item_cells s.item ++ cells_from (s.start + item_size s.item) ss m) (g - s.start) raw
       past e =

@@ -1,11 +1,11 @@
-use Rattle.std.proofs.Common.{◌≡◌, ◌≢◌, ℕ, zero, suc, ◌+◌, ◌<◌, ◌≤◌, Bool, true, false, List, [], ◌∷◌, ◌++◌, length, get_or, set, take, drop, if◌then◌else◌, refl, ap, sym, subst, ◌∙◌, inl, inr, true≢false, arith}
+use Rattle.std.proofs.Common.{◌≡◌, ◌≢◌, ℕ, zero, suc, ◌+◌, ◌<◌, ◌≤◌, Bool, true, false, List, [], ◌∷◌, ◌++◌, length, get_or, set, take, drop, if◌then◌else◌, ◌==◌, refl, ap, sym, subst, ◌∙◌, inl, inr, arith}
 use Rattle.std.specs.List.{All, Contains}
 use Rattle.std.specs.Cmp.{IsEquivalence}
 use Rattle.std.proofs.lemmas.Bool.{cases_lt}
 use Rattle.std.proofs.lemmas.Bool.Decides.{Decides-eqb}
 use Rattle.std.proofs.lemmas.Cmp.{on_equiv, nat_eq_equiv}
-use Rattle.std.proofs.lemmas.List.{take_more, take_all, get_or-set_same, get_or-set_other, get_or_append_left, get_or_push, length_push, length-set, length-take-le, get_or-take, get_or_default}
-use Rattle.std.proofs.lemmas.List.Elements.{Contains-get_or, All-contains}
+use Rattle.std.proofs.lemmas.List.{get_or-set_same, get_or-set_other, get_or_append_left, get_or_push, length_push, length-set, length-take-le, get_or-take, get_or_default}
+use Rattle.std.proofs.lemmas.List.Elements.{Contains-get_or}
 use Rattle.cc_base.specs.declared.number.TypeId.{TypeId}
 use Rattle.c_types.specs.Table.{Table, IsType, parts_at}
 use Rattle.c_types.specs.Cells.{Relation}
@@ -15,7 +15,7 @@ use Rattle.type_laws.proofs.Relations.{made_alike_equiv}
 use Rattle.phys_types.specs.declared.spot.Layout.{Layout}
 use Rattle.phys_types.specs.Numbers.{same_number, number_in}
 use Rattle.phys_types.specs.Rounds.{IsOrder, AreShown, IsRound, first_place}
-use Rattle.phys_types.specs.Shown.{IsLayoutOf, IsLow, IsKept, ArePartsKept, ArePartsShown}
+use Rattle.phys_types.specs.Shown.{IsLayoutOf, IsLow, ArePartsKept, ArePartsShown}
 use Rattle.phys_types.proofs.Parts.{layout_low}
 use Rattle.phys_types.proofs.Unions.{same_answer}
 
@@ -80,6 +80,20 @@ module _ {A : Type 0} where
   place_end p (x ∷ xs) zero l = absurd (omega arith)
   place_end p (x ∷ xs) (suc i) l = place_end p xs i (omega arith)
 
+-- what is made like the same first one is made alike
+pub place_tells : (R : TypeId → TypeId → Bool) → IsEquivalence R → (xs : List TypeId) (t u : TypeId) → Contains xs t → Contains xs u
+    → (first_place (λ x. R x t) xs == first_place (λ x. R x u) xs) ≡ R t u
+place_tells R q xs t u (i, a, e) (j, b, f) =
+    same_answer (first_place (λ x. R x t) xs == first_place (λ x. R x u) xs) (R t u)
+    (λ h.
+    let k = (Decides-eqb (first_place (λ x. R x t) xs) (first_place (λ x. R x u) xs)).0 h in
+    let l = place_below (λ x. R x t) xs i t a (ap (λ x. R x t) e ∙ q.refl t) in
+    let c = place_passes (λ x. R x t) xs t l in
+    let d = place_passes (λ x. R x u) xs t (omega arith) in
+    sym (q.congr (get_or xs (first_place (λ x. R x t) xs) t) t u c) ∙ ap (λ n. R (get_or xs n t) u) k ∙ d)
+    (λ h. (Decides-eqb (first_place (λ x. R x t) xs) (first_place (λ x. R x u) xs)).1
+    (place_same (λ x. R x t) (λ x. R x u) xs (λ x. q.symm x t ∙ q.congr t u x h ∙ q.symm u x)))
+
 -- one more of the first n
 pub alike_here : (p : TypeId → Bool) (order : List TypeId) (n i r : ℕ) (d : TypeId) (b : Bool) → i < n → n ≤ length order
     → b ≡ p (get_or order i d) → b ≡ true → i + first_place p (drop i (take n order)) ≡ r → i ≡ r
@@ -115,9 +129,13 @@ module _ (table : Table) (w : IsWellFormed table) (order : List TypeId) (places 
   part_place i d p l c =
       let k = o.parts i d p l c in
       let b : k.0 < i = (let n = length-take-le i order (omega arith) in omega (arith, k.1)) in
-      let e : get_or order k.0 p ≡ p = sym (get_or-take i order k.0 p b) ∙ k.2 in
-      (k.0, b, e, ap (λ (u : TypeId). get_or places u.0 0) (sym e) ∙ o.placed k.0 p (omega arith),
-      (let t : IsType table p = subst (IsType table) e (o.types k.0 p (omega arith)) in let f = o.fits in omega arith))
+      let e : get_or order k.0 p ≡ p = sym (get_or-take i order k.0 p b) ∙ k.2 in (
+        k.0,
+        b,
+        e,
+        ap (λ (u : TypeId). get_or places u.0 0) (sym e) ∙ o.placed k.0 p (omega arith),
+        (let t : IsType table p = subst (IsType table) e (o.types k.0 p (omega arith)) in let f = o.fits in omega arith),
+      )
 
   pub parts_kept : (i : ℕ) (d : TypeId) (layouts : List Layout) → i < length order → length layouts ≡ i → ArePartsKept table places layouts (get_or order i d)
   parts_kept i d layouts l e k f m =

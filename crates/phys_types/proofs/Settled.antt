@@ -1,5 +1,5 @@
-use Rattle.std.proofs.Common.{◌≡◌, ℕ, zero, suc, ◌+◌, ◌-◌, ◌*◌, ◌<◌, ◌≤◌, Bool, true, false, ◌&&◌, List, [], ◌∷◌, length, get_or, replicate, nat_lt, if◌then◌else◌, true≢false, refl, ap, sym, subst, ◌∙◌, arith}
-use Rattle.std.specs.List.{All, Contains}
+use Rattle.std.proofs.Common.{◌≡◌, ℕ, zero, suc, ◌+◌, ◌-◌, ◌*◌, ◌<◌, ◌≤◌, Bool, true, ◌&&◌, List, [], ◌∷◌, length, get_or, replicate, if◌then◌else◌, true≢false, refl, ap, sym, subst, ◌∙◌, arith}
+use Rattle.std.specs.List.{Contains}
 use Rattle.std.proofs.lemmas.Bool.{lt-ltb}
 use Rattle.std.proofs.lemmas.Bool.Decides.{Decides-eqb}
 use lib.Pointwise.{pointwise}
@@ -15,7 +15,6 @@ use Rattle.phys_types.specs.declared.spot.Layout.{Layout}
 use Rattle.phys_types.specs.Numbers.{number_in, same_number}
 use Rattle.phys_types.specs.Reach.{IsClosed}
 use Rattle.phys_types.specs.Rounds.{IsOrder, AreShown, IsRound, AreSettled}
-use Rattle.phys_types.specs.Shown.{IsLayoutOf}
 use Rattle.phys_types.proofs.Agreeing.{cells_agree, made_agree}
 use Rattle.phys_types.proofs.RoundLemmas.{round_tells, number_equiv}
 

@@ -1,7 +1,7 @@
-use Rattle.std.proofs.Common.{◌≡◌, ℕ, zero, suc, ◌<◌, ◌≤◌, Bool, true, false, ◌&&◌, List, [], ◌∷◌, ◌++◌, length, get_or, map, replicate, ◌==◌, refl, ap, sym, ◌∙◌, true≢false, arith}
+use Rattle.std.proofs.Common.{◌≡◌, ℕ, zero, suc, ◌<◌, true, ◌&&◌, List, [], ◌∷◌, length, get_or, map, ◌==◌, refl, ap, sym, ◌∙◌, true≢false, arith}
 use Rattle.std.proofs.lemmas.Bool.Decides.{Decides-eqb}
 use Rattle.cc_base.specs.declared.number.TypeId.{TypeId}
-use Rattle.c_types.specs.Cells.{Cell, raw, pointer, mixed, incomplete, Relation, same_type, alike, all_alike}
+use Rattle.c_types.specs.Cells.{Cell, raw, pointer, mixed, incomplete, same_type, alike, all_alike}
 use Rattle.c_types.proofs.Shapes.{first_true, second_true}
 use Rattle.type_laws.proofs.Relations.{alike_equiv, cells_equiv, same_type_equiv, same_id}
 use Rattle.phys_types.specs.Numbers.{same_number}

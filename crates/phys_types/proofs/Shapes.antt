@@ -1,5 +1,5 @@
-use Rattle.std.proofs.Common.{◌≡◌, ℕ, zero, suc, ◌+◌, ◌-◌, ◌*◌, ◌<◌, ◌≤◌, Bool, true, false, List, [], ◌∷◌, ◌++◌, length, map, replicate, get_or, refl, ap, sym, subst, ◌∙◌, true≢false, arith}
-use Rattle.std.specs.List.{Contains, repeat, list_any}
+use Rattle.std.proofs.Common.{◌≡◌, ℕ, ◌+◌, ◌-◌, ◌*◌, ◌≤◌, Bool, true, false, List, [], ◌∷◌, ◌++◌, length, replicate, get_or, refl, ap, sym, subst, ◌∙◌, arith}
+use Rattle.std.specs.List.{Contains, repeat}
 use Rattle.std.proofs.lemmas.List.{append-nil, nil_from_length}
 use Rattle.std.proofs.lemmas.List.Elements.{All-contains}
 use Rattle.cc_base.specs.declared.number.TypeId.{TypeId}
@@ -9,7 +9,7 @@ use Rattle.c_types.specs.declared.shape.TypeShape.{TypeShape}
 use Rattle.c_types.specs.declared.shape.TypeShape.TheVariants.{Void, Integer, Pointer, Array, Function, Struct, Union}
 use Rattle.c_types.specs.Table.{Table, shape_at, members_at, parts_at, parts_of_shape, is_complete_entry, IsComplete}
 use Rattle.c_types.specs.Layouts.{size_of, layout_of, layout_of_shape}
-use Rattle.c_types.specs.Cells.{Cell, raw, incomplete, Relation, cells_of_shape, cells_at, holds_pointer, holds_in_shape, pointer_cells}
+use Rattle.c_types.specs.Cells.{raw, Relation, cells_of_shape, cells_at, holds_pointer, holds_in_shape}
 use Rattle.c_types.specs.Sound.{IsWellFormed}
 use Rattle.c_types.proofs.Lists.{contains_head}
 use Rattle.c_types.proofs.Descent.{layout_is}
@@ -18,8 +18,8 @@ use Rattle.phys_types.specs.declared.spot.Item.{Item}
 use Rattle.phys_types.specs.declared.spot.Item.TheVariants.{Pointer as pointer_item, Incomplete}
 use Rattle.phys_types.specs.declared.spot.Layout.{Layout}
 use Rattle.phys_types.specs.declared.spot.Spot.{Spot}
-use Rattle.phys_types.specs.Spots.{cells_from, item_cells, item_size, HasSize, AreSpots, copies}
-use Rattle.phys_types.specs.Shown.{IsLayoutOf, IsMadeOf, ArePartsShown, is_struct_shape, is_union_shape}
+use Rattle.phys_types.specs.Spots.{cells_from, item_cells, item_size, AreSpots, copies}
+use Rattle.phys_types.specs.Shown.{IsLayoutOf, IsMadeOf, ArePartsShown}
 use Rattle.phys_types.proofs.Spreading.{spots_copied, cells_copied, length_all}
 use Rattle.phys_types.proofs.Structs.{holds_is}
 

@@ -1,13 +1,12 @@
-use Rattle.std.proofs.Common.{◌≡◌, ◌≢◌, ℕ, zero, suc, ◌+◌, ◌-◌, ◌*◌, ◌<◌, ◌≤◌, List, [], ◌∷◌, ◌++◌, length, map, replicate, refl, ap, sym, subst, ◌∙◌, append_assoc, arith}
+use Rattle.std.proofs.Common.{◌≡◌, ℕ, zero, suc, ◌+◌, ◌-◌, ◌*◌, ◌≤◌, List, [], ◌∷◌, ◌++◌, length, map, replicate, refl, ap, sym, subst, ◌∙◌, append_assoc, arith}
 use Rattle.std.specs.List.{range_with_len, repeat}
-use Rattle.std.proofs.lemmas.List.{append-nil, length-append, length-map, length-replicate, replicate-append-replicate, append_cancel_left}
+use Rattle.std.proofs.lemmas.List.{append-nil, length-append, length-map, length-replicate, replicate-append-replicate}
 use Rattle.cc_base.specs.declared.number.TypeId.{TypeId}
-use Rattle.cc_base.specs.declared.number.NodeId.{NodeId}
-use Rattle.c_types.specs.Cells.{Cell, raw, pointer, mixed, incomplete, pointer_cells, padded_to}
+use Rattle.c_types.specs.Cells.{Cell, raw, mixed, padded_to}
 use Rattle.phys_types.specs.declared.spot.Item.{Item}
 use Rattle.phys_types.specs.declared.spot.Item.TheVariants.{Pointer, Mixed, Incomplete}
 use Rattle.phys_types.specs.declared.spot.Spot.{Spot}
-use Rattle.phys_types.specs.Spots.{item_size, item_cells, cells_from, HasSize, AreSpots, shifted, copies}
+use Rattle.phys_types.specs.Spots.{item_size, item_cells, cells_from, AreSpots, shifted, copies}
 
 -- How many cells spots have, and the spots of lists that are joined, moved and repeated.
 

@@ -1,8 +1,8 @@
-use Rattle.std.proofs.Common.{◌≡◌, ℕ, zero, suc, ◌+◌, ◌-◌, ◌<◌, ◌≤◌, Bool, true, false, ◌||◌, List, [], ◌∷◌, ◌++◌, length, get_or, take, map, refl, ap, sym, subst, ◌∙◌, append_assoc, true≢false, arith}
-use Rattle.std.specs.List.{All, Contains, fold, list_any}
-use Rattle.std.proofs.lemmas.List.{take_more, take_all, length-append}
+use Rattle.std.proofs.Common.{◌≡◌, ℕ, suc, ◌+◌, ◌<◌, ◌≤◌, Bool, true, false, ◌||◌, List, [], ◌∷◌, ◌++◌, length, get_or, take, map, refl, ap, sym, subst, ◌∙◌, true≢false, arith}
+use Rattle.std.specs.List.{All, Contains, list_any}
+use Rattle.std.proofs.lemmas.List.{take_more, take_all}
 use Rattle.std.proofs.lemmas.List.Sums.{fold-append}
-use Rattle.std.proofs.lemmas.List.Elements.{All-contains, Contains-get_or}
+use Rattle.std.proofs.lemmas.List.Elements.{All-contains}
 use Rattle.cc_base.specs.declared.number.TypeId.{TypeId}
 use Rattle.c_types.specs.declared.shape.TypeShape.{TypeShape}
 use Rattle.c_types.specs.declared.shape.TypeShape.TheVariants.{Void, Integer, Pointer, Array, Function, Struct, Union}
@@ -18,7 +18,7 @@ use Rattle.type_laws.proofs.Cells.{cells_are, length_cells, length_members}
 use Rattle.phys_types.specs.declared.spot.Layout.{Layout}
 use Rattle.phys_types.specs.declared.spot.Spot.{Spot}
 use Rattle.phys_types.specs.Spots.{cells_from, AreSpots, shifted}
-use Rattle.phys_types.specs.Shown.{IsLayoutOf, is_struct_shape, IsStruct}
+use Rattle.phys_types.specs.Shown.{IsLayoutOf, is_struct_shape}
 use Rattle.phys_types.proofs.Spreading.{spots_to, spots_joined, cells_joined, moved_spots, moved_cells, cells_padded, length_all}
 
 -- The layout of a struct, member by member.

@@ -1,7 +1,6 @@
-use Rattle.std.proofs.Common.{◌≡◌, ℕ, zero, suc, ◌+◌, ◌-◌, ◌<◌, ◌≤◌, Bool, true, false, ◌&&◌, ◌||◌, if◌then◌else◌, List, [], ◌∷◌, ◌++◌, length, get_or, take, map, replicate, nat_lt, nat_le, refl, ap, sym, subst, ◌∙◌, append_assoc, true≢false, arith}
-use Rattle.std.specs.List.{All, Contains, fold, list_all, list_any, range_with_len}
+use Rattle.std.proofs.Common.{◌≡◌, ℕ, ◌+◌, ◌-◌, ◌<◌, ◌≤◌, Bool, true, false, ◌&&◌, ◌||◌, if◌then◌else◌, List, [], ◌∷◌, ◌++◌, length, get_or, take, map, replicate, nat_lt, nat_le, refl, ap, sym, subst, ◌∙◌, true≢false, arith}
+use Rattle.std.specs.List.{All, fold, list_all, list_any, range_with_len}
 use Rattle.std.proofs.lemmas.Bool.{ltb-true, ltb-false, lt-ltb, leb-true, le-leb}
-use Rattle.std.proofs.lemmas.Bool.Decides.{nat_tests}
 use Rattle.std.proofs.lemmas.List.{take_more, append-nil}
 use Rattle.std.proofs.lemmas.List.Elements.{All-contains}
 use Rattle.cc_base.specs.declared.number.TypeId.{TypeId}
@@ -10,18 +9,16 @@ use Rattle.c_types.specs.declared.shape.TypeShape.TheVariants.{Void, Integer, Po
 use Rattle.c_types.specs.declared.layout.Layout.{Layout as Measure}
 use Rattle.c_types.specs.Table.{Table, shape_at, members_at, parts_of_shape, is_complete_entry, IsComplete}
 use Rattle.c_types.specs.Layouts.{union_layout, layout_of, layout_of_shape, size_of, greatest_size, greatest_align}
-use Rattle.c_types.specs.Cells.{Cell, raw, mixed, Relation, all_alike, begins, padded_to, longest, union_cells, cells_of_shape, cells_at, holds_pointer, holds_in_shape}
+use Rattle.c_types.specs.Cells.{Cell, raw, mixed, Relation, begins, padded_to, longest, union_cells, cells_of_shape, cells_at, holds_pointer, holds_in_shape}
 use Rattle.c_types.specs.Sound.{IsWellFormed}
-use Rattle.c_types.proofs.Lists.{contains_head, contains_tail}
 use Rattle.c_types.proofs.Descent.{layout_is}
 use Rattle.c_types.proofs.Ends.{rounded_up}
 use Rattle.c_types.proofs.Shapes.{first_true, second_true}
 use Rattle.type_laws.proofs.Cells.{cells_are, length_cells, length_longest}
 use Rattle.phys_types.specs.declared.spot.Item.TheVariants.{Mixed}
 use Rattle.phys_types.specs.declared.spot.Layout.{Layout}
-use Rattle.phys_types.specs.declared.spot.Spot.{Spot}
 use Rattle.phys_types.specs.Spots.{cells_from, AreSpots}
-use Rattle.phys_types.specs.Numbers.{same_number, begin_with_spots}
+use Rattle.phys_types.specs.Numbers.{same_number}
 use Rattle.phys_types.specs.Shown.{IsLayoutOf, AreLayoutsOf, larger, begins_spots, union_spots, IsUnionOf, is_union_shape, IsUnion}
 use Rattle.phys_types.proofs.Spreading.{spots_to, cells_padded, length_all}
 use Rattle.phys_types.proofs.Fronts.{fronts, begins_is, spots_from_cells, cells_from_spots, both_true}

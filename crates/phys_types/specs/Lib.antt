@@ -5,3 +5,4 @@ pub mod Shown
 pub mod Rounds
 pub mod Orders
 pub mod Views
+pub mod Laws

@@ -1,4 +1,4 @@
-use Rattle.std.specs.Prelude.{◌≡◌, ℕ, zero, suc, ◌<◌, ◌≤◌, Bool, true, false, List, [], ◌∷◌, length, take, slice_index_or, if◌then◌else◌, IsTrue}
+use Rattle.std.specs.Prelude.{◌≡◌, ℕ, suc, ◌<◌, Bool, List, [], ◌∷◌, length, take, slice_index_or, if◌then◌else◌}
 use Rattle.std.specs.List.{All, Contains}
 use Rattle.cc_base.specs.declared.number.TypeId.{TypeId}
 use Rattle.c_types.specs.Table.{Table, IsType, parts_at}
@@ -6,7 +6,6 @@ use Rattle.c_types.specs.Cells.{Relation}
 use Rattle.c_types.specs.Equality.{made_alike, physically_equal}
 use Rattle.phys_types.specs.declared.spot.Layout.{Layout}
 use Rattle.phys_types.specs.Numbers.{number_in, same_number}
-use Rattle.phys_types.specs.Reach.{IsClosed}
 use Rattle.phys_types.specs.Shown.{IsLayoutOf}
 
 -- Rounds of numbers: types have one number where they are made alike under the numbers before.

@@ -1,8 +1,7 @@
 use Rattle.std.specs.Prelude.{◌≡◌, ℕ, zero, suc, ◌+◌, ◌-◌, ◌<◌, ◌≤◌, ⊤, List, [], ◌∷◌, ◌++◌, map, replicate}
 use Rattle.std.specs.List.{range_with_len}
 use Rattle.cc_base.specs.declared.number.TypeId.{TypeId}
-use Rattle.cc_base.specs.declared.number.NodeId.{NodeId}
-use Rattle.c_types.specs.Cells.{Cell, raw, pointer, mixed, incomplete, pointer_cells}
+use Rattle.c_types.specs.Cells.{Cell, raw, mixed, incomplete, pointer_cells}
 use Rattle.phys_types.specs.declared.spot.Item.{Item}
 use Rattle.phys_types.specs.declared.spot.Item.TheVariants.{Pointer, Mixed, Incomplete}
 use Rattle.phys_types.specs.declared.spot.Spot.{Spot}

@@ -160,7 +160,13 @@ fn holds_some(parts: &[&Layout]) -> bool
 }
 
 /// The layout of a union of this many bytes, from its members' layouts.
-fn union_of(alloc: Global, numbers: &[usize], t: TypeId, size: u64, parts: &[&Layout]) -> Result<Layout, NoMemory>
+fn union_of(
+    alloc: Global,
+    numbers: &[usize],
+    t: TypeId,
+    size: u64,
+    parts: &[&Layout],
+) -> Result<Layout, NoMemory>
     requires some { 0 < length parts.now }
     ensures { IfOk result (λ layout. IsUnionOf (number_in numbers.now) t size (map (λ p. p.now) parts.now) layout) }
 {
@@ -197,7 +203,6 @@ fn union_layout(
     let parts = member_layouts(alloc, types, places, built, t)?;
     union_of(alloc, numbers, t, types.size_of(t), &parts)
 }
-
 
 /// The layout of a type, from those of its parts.
 pub(crate) fn layout_of(

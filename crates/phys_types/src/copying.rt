@@ -34,7 +34,12 @@ fn push_one(spots: &mut Vec<Spot>, s: Spot, n: u64) -> Result<(), NoMemory>
 }
 
 /// The spots of `count` copies, one behind another, each of `size` cells.
-pub(crate) fn copied(alloc: Global, spots: &[Spot], size: u64, count: u64) -> Result<Vec<Spot>, NoMemory>
+pub(crate) fn copied(
+    alloc: Global,
+    spots: &[Spot],
+    size: u64,
+    count: u64,
+) -> Result<Vec<Spot>, NoMemory>
     requires low { AreLow spots.now }
     requires small { count * size ≤ 1048576 }
     ensures { IfOk result (λ all. all.items ≡ copies count size 0 spots.now) }

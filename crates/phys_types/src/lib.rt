@@ -5,12 +5,20 @@
 mod building;
 mod comparing;
 mod copying;
+mod laws;
 mod makeup;
 mod order;
 mod phys;
 mod round;
 mod spot;
+#[cfg(test)]
+mod tests;
 mod tiling;
 
 pub use c_types::FlowClass;
+pub use laws::{
+    coverage_passes_along_a_class, facts_pass_between_types_of_one_class,
+    facts_pass_to_what_is_covered, repetitions_of_types_that_tile_agree,
+    types_that_tile_begin_with_one_another,
+};
 pub use phys::Phys;

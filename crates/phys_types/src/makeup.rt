@@ -24,7 +24,10 @@ fn same_slot(types: &Types, numbers: &[usize], p: TypeId, q: TypeId) -> bool
     match types.shape(p) {
         TypeShape::Void => matches!(types.shape(q), TypeShape::Void),
         TypeShape::Integer { bytes, signed } => match types.shape(q) {
-            TypeShape::Integer { bytes: size, signed: sign } => *bytes == *size && *signed == *sign,
+            TypeShape::Integer {
+                bytes: size,
+                signed: sign,
+            } => *bytes == *size && *signed == *sign,
             _ => false,
         },
         TypeShape::Pointer(_, to) => match types.shape(q) {
@@ -33,7 +36,10 @@ fn same_slot(types: &Types, numbers: &[usize], p: TypeId, q: TypeId) -> bool
         },
         _ => match types.shape(q) {
             TypeShape::Void => false,
-            TypeShape::Integer { bytes: _, signed: _ } => false,
+            TypeShape::Integer {
+                bytes: _,
+                signed: _,
+            } => false,
             TypeShape::Pointer(_, _) => false,
             _ => p.0 == q.0,
         },
@@ -58,7 +64,14 @@ fn same_slots(types: &Types, numbers: &[usize], ps: &[TypeId], qs: &[TypeId]) ->
 }
 
 /// Whether two types are made alike, where what they point to is taken to be equal by the numbers.
-pub(crate) fn made_alike(types: &Types, numbers: &[usize], t: TypeId, x: &Layout, u: TypeId, y: &Layout) -> bool
+pub(crate) fn made_alike(
+    types: &Types,
+    numbers: &[usize],
+    t: TypeId,
+    x: &Layout,
+    u: TypeId,
+    y: &Layout,
+) -> bool
     requires formed { IsWellFormed types.now }
     requires first { IsType types.now t }
     requires second { IsType types.now u }
@@ -68,7 +81,8 @@ pub(crate) fn made_alike(types: &Types, numbers: &[usize], t: TypeId, x: &Layout
 {
     match types.shape(t) {
         TypeShape::Function(ps, r) => match types.shape(u) {
-            TypeShape::Function(qs, s) => same_slot(types, numbers, *r, *s) && same_slots(types, numbers, ps.ids(), qs.ids()),
+            TypeShape::Function(qs, s) => same_slot(types, numbers, *r, *s)
+                && same_slots(types, numbers, ps.ids(), qs.ids()),
             _ => false,
         },
         _ => match types.shape(u) {

@@ -1,12 +1,15 @@
 #![tactic(auto)]
 
-ghost use Rattle.std.specs.Prelude.{ℕ, ◌≡◌, ◌≤◌, ◌<◌, ◌&&◌, nat_lt, IfOk};
+ghost use Rattle.std.specs.Prelude.{ℕ, ◌≡◌, ◌≤◌, ◌<◌, ◌||◌, if◌then◌else◌, IfOk};
 ghost use Rattle.cc_base.specs.declared.number.TypeId.{TypeId};
+ghost use Rattle.c_types.specs.declared.flow_class.FlowClass.TheVariants.{UpTile, Up, DownTile, Down};
 ghost use Rattle.c_types.specs.Table.{IsType, is_function};
 ghost use Rattle.c_types.specs.Equality.{tile, begins_with};
 ghost use Rattle.c_types.specs.Flows.{flow_class};
 ghost use Rattle.c_types.specs.Sound.{IsWellFormed};
 ghost use Rattle.phys_types.specs.Numbers.{number_in, same_number};
+ghost use Rattle.phys_types.specs.Orders.{IsWholeOrder};
+ghost use Rattle.phys_types.specs.Rounds.{AreSettled};
 ghost use Rattle.phys_types.specs.Views.{IsPair};
 
 use crate::building::kept;
@@ -42,10 +45,40 @@ impl Phys {
         let _count = types.count();
         let order = in_order(self.alloc, types)?;
         let settled = settle(self.alloc, types, &order.list, &order.places)?;
-        let x = kept(&order.places, &settled.layouts, from);
-        let y = kept(&order.places, &settled.layouts, to);
-        class_of(self.alloc, types, &settled.numbers, from, x, to, y)
+        settled_class(
+            self.alloc,
+            types,
+            &order.list,
+            &order.places,
+            &settled.numbers,
+            &settled.layouts,
+            from,
+            to,
+        )
     }
+}
+
+/// The class of a flow between two types of a table whose types are settled.
+fn settled_class(
+    alloc: Global,
+    types: &Types,
+    order: &[TypeId],
+    places: &[usize],
+    numbers: &[usize],
+    layouts: &[Layout],
+    from: TypeId,
+    to: TypeId,
+) -> Result<FlowClass, NoMemory>
+    requires formed { IsWellFormed types.now }
+    requires order { IsWholeOrder types.now order.now places.now }
+    requires settled { AreSettled types.now order.now numbers.now layouts.now }
+    requires from { IsType types.now from }
+    requires to { IsType types.now to }
+    ensures { IfOk result (λ class. class ≡ flow_class types.now from to) }
+{
+    let x = kept(places, layouts, from);
+    let y = kept(places, layouts, to);
+    class_of(alloc, types, numbers, from, x, to, y)
 }
 
 /// Whether a type is a function type.
@@ -54,6 +87,37 @@ fn is_function(types: &Types, t: TypeId) -> bool
     ensures { result ≡ is_function types.now t }
 {
     matches!(types.shape(t), TypeShape::Function(_, _))
+}
+
+/// Whether one of two types is a function type.
+fn is_one_function(types: &Types, t: TypeId, u: TypeId) -> bool
+    requires first { IsType types.now t }
+    requires second { IsType types.now u }
+    ensures { result ≡ (is_function types.now t || is_function types.now u) }
+{
+    is_function(types, t) || is_function(types, u)
+}
+
+/// The class of a flow from a type to one that it begins with.
+fn upward(tile: bool) -> FlowClass
+    ensures { result ≡ (if tile then UpTile else Up) }
+{
+    if tile {
+        FlowClass::UpTile
+    } else {
+        FlowClass::Up
+    }
+}
+
+/// The class of a flow from a type to one that begins with it.
+fn downward(tile: bool) -> FlowClass
+    ensures { result ≡ (if tile then DownTile else Down) }
+{
+    if tile {
+        FlowClass::DownTile
+    } else {
+        FlowClass::Down
+    }
 }
 
 /// The class of a flow between two types, from their layouts.
@@ -75,14 +139,16 @@ fn class_of(
     if number_of(numbers, from) == number_of(numbers, to) {
         return Ok(FlowClass::Equal);
     }
-    if is_function(types, from) || is_function(types, to) {
+    if is_one_function(types, from, to) {
         return Ok(FlowClass::Bad);
     }
     if begins(numbers, x, y) {
-        return Ok(if tiles(alloc, numbers, x, y.size)? { FlowClass::UpTile } else { FlowClass::Up });
+        let tile = tiles(alloc, numbers, x, y.size)?;
+        return Ok(upward(tile));
     }
     if begins(numbers, y, x) {
-        return Ok(if tiles(alloc, numbers, y, x.size)? { FlowClass::DownTile } else { FlowClass::Down });
+        let tile = tiles(alloc, numbers, y, x.size)?;
+        return Ok(downward(tile));
     }
     Ok(FlowClass::Bad)
 }

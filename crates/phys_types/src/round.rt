@@ -33,7 +33,14 @@ pub(crate) fn zeros(alloc: Global, count: usize) -> Result<Vec<usize>, NoMemory>
 }
 
 /// The place of the first of the types so far that is made like a type, or how many there are.
-fn first_alike(types: &Types, numbers: &[usize], order: &[TypeId], layouts: &[Layout], t: TypeId, layout: &Layout) -> usize
+fn first_alike(
+    types: &Types,
+    numbers: &[usize],
+    order: &[TypeId],
+    layouts: &[Layout],
+    t: TypeId,
+    layout: &Layout,
+) -> usize
     requires formed { IsWellFormed types.now }
     requires typed { IsType types.now t }
     requires types { All (IsType types.now) order.now }

@@ -112,7 +112,7 @@ module _ (table : Table) where
   not_true false h = refl
 
   -- t has a counterpart of each pointer of u
-  pub Mirrors : TypeId → TypeId → Type 0
+  unfoldable pub Mirrors : TypeId → TypeId → Type 0
   Mirrors t u = (i : ℕ) (q : HeldPointer) → pointer_at table u i ≡ Some q
       → (p : HeldPointer) × (pointer_at table t i ≡ Some p) × (physically_equal table p.to q.to ≡ true)
 

@@ -1,9 +1,9 @@
-use Rattle.std.proofs.Common.{◌≡◌, ℕ, List, ◌++◌, length, map, ap, sym, subst, ◌∙◌, arith}
+use Rattle.std.proofs.Common.{List, ◌++◌, map, ap, sym, subst, ◌∙◌, arith}
 use Rattle.c_types.specs.Table.{members_at, shape_at}
 use Rattle.phys_types.specs.declared.spot.Spot.{Spot}
 use Rattle.phys_types.specs.Spots.{shifted}
 use Rattle.phys_types.specs.Numbers.{AreLow}
-use Rattle.phys_types.proofs.Structs.{struct_tag, struct_start, struct_more, struct_done, offset_is}
+use Rattle.phys_types.proofs.Structs.{struct_tag, struct_more, struct_done, offset_is}
 use Rattle.phys_types.proofs.Parts.{parts_of_struct, kept_low, member_kept, member_shown, offset_small}
 use Rattle.phys_types.proofs.building.struct_layout.Goals as goal
 

@@ -1,4 +1,4 @@
-use Rattle.std.proofs.Common.{◌≡◌, sym, subst, ◌∙◌, arith}
+use Rattle.std.proofs.Common.{sym, subst, ◌∙◌, arith}
 use Rattle.std.specs.List.{All}
 use lib.Pointwise.{pointwise}
 use Rattle.c_types.specs.Table.{IsType, shape_at}

@@ -1,4 +1,4 @@
-use Rattle.std.proofs.Common.{◌≡◌, subst, sym, arith}
+use Rattle.std.proofs.Common.{subst, sym, arith}
 use Rattle.c_types.specs.Equality.{made_alike}
 use Rattle.phys_types.specs.Numbers.{number_in, same_number}
 use Rattle.phys_types.specs.Shown.{IsLayoutOf}

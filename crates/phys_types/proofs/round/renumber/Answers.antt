@@ -1,4 +1,4 @@
-use Rattle.std.proofs.Common.{◌≡◌, ℕ, List, length, take, get_or, refl, ap, arith, subst, sym, ◌∙◌}
+use Rattle.std.proofs.Common.{ℕ, List, length, take, get_or, refl, ap, arith, subst, sym, ◌∙◌}
 use Rattle.std.specs.List.{All}
 use Rattle.c_types.specs.Equality.{made_alike}
 use Rattle.phys_types.specs.declared.spot.Layout.{Layout}

@@ -1,4 +1,3 @@
-use Rattle.std.proofs.Common.{ℕ}
 use Rattle.phys_types.specs.Reach.{IsClosed}
 use Rattle.phys_types.specs.Rounds.{IsOrder}
 use Rattle.c_types.specs.Sound.{IsWellFormed}

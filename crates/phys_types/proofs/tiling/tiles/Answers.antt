@@ -1,4 +1,4 @@
-use Rattle.std.proofs.Common.{◌≡◌, ◌<◌, ap, sym, ◌∙◌, arith}
+use Rattle.std.proofs.Common.{◌≡◌, ap, ◌∙◌, arith}
 use Rattle.phys_types.specs.Numbers.{number_in, spots_before, same_spots}
 use Rattle.phys_types.proofs.Tiled.{low_before, positive_divisor, not_tiled, maybe_tiled}
 use Rattle.phys_types.proofs.tiling.tiles.Goals as goal

@@ -1,4 +1,5 @@
 pub mod RunLaws
 pub mod KeepLaws
+pub mod ComputesLaws
 pub mod TypingLaws
 pub mod ShapedPrograms

@@ -1,5 +1,5 @@
 -- Code that does what the source does, put together from its parts.
-use Rattle.std.proofs.Common.{ℕ, zero, suc, ◌+◌, ◌<◌, ◌≤◌, ◌≡◌, refl, ap, ◌∙◌, sym, subst, Bool, true, false, List, [], ◌∷◌, ◌++◌, arith}
+use Rattle.std.proofs.Common.{ℕ, refl, ap, ◌∙◌, sym, Bool, true, false, List, ◌++◌}
 use Rattle.runs.specs.Outcome.{Outcome, Ended, Done, from, either, Matches}
 use Rattle.runs.specs.Control.{Control, Goes, Leaves, Gives, then_go}
 use Rattle.runs.proofs.RunLaws.{matches-from, matches-as}
@@ -9,7 +9,7 @@ use Rattle.cil_form.specs.declared.number.Temp.{Temp}
 use Rattle.cil_form.specs.declared.instr.Instr.{Instr}
 use Rattle.cil_form.specs.declared.instr.Instr.TheVariants as instr
 use Rattle.cil_form.specs.declared.instr.Code.{Code}
-use Rattle.cil_form.specs.State.{Temporaries, Local, Step, Around, beside, with_temp, gives_to, changes_none}
+use Rattle.cil_form.specs.State.{Temporaries, Local, Step, Around, beside, with_temp, gives_to}
 use Rattle.cil_form.specs.Meaning.{act, run}
 use Rattle.cil_form.specs.Laws.{AreKept}
 use Rattle.cil_form.specs.Computes.{EndsAlike, Held, LeftAlike, Computes, Executes}
@@ -57,8 +57,10 @@ held-over t before T h (Done v s) (Done x c) l = record { goes = l.goes; state =
 pub computes-append : (a b : List Instr) (w : Around) (m : Act Value) (f : Value → Act Value) (t : ℕ) → Computes a w m t
     → ((T : Temporaries) (s : State) → Matches (Held t T) EndsAlike (f (T t) s) (run b w (record { state = s; temps = T })))
     → Computes (a ++ b) w (λ s. from (m s) f) t
-computes-append a b w m f t h next = record { by = λ s temps. then-code (Held t temps) a b w t (m s) (record { state = s; temps = temps }) temps f (h.by s temps)
-    (λ T r kept. held-over t temps T kept (f (T t) r) (run b w (record { state = r; temps = T })) (next T r)) }
+computes-append a b w m f t h next = record {
+  by = λ s temps. then-code (Held t temps) a b w t (m s) (record { state = s; temps = temps }) temps f (h.by s temps)
+      (λ T r kept. held-over t temps T kept (f (T t) r) (run b w (record { state = r; temps = T })) (next T r));
+}
 
 -- Statements
 
@@ -87,12 +89,14 @@ kept-matches t before T h (Done y s) (Done x c) l = kept-over t before T h y s x
 -- a statement after a statement
 pub executes-append : (a b : List Instr) (w : Around) (m n : Act (Control Value)) (t : ℕ) → Executes a w m t → Executes b w n t
     → Executes (a ++ b) w (λ s. from (m s) (λ y. then_go y n)) t
-executes-append a b w m n t h l = record { by = λ s temps. matches-as (LeftAlike t temps) EndsAlike
-    (from (m s) (λ y. then_go y n)) (from (m s) (λ y. then_go y n))
-    (run (a ++ b) w (record { state = s; temps = temps })) (from (run a w (record { state = s; temps = temps })) (λ x. then_go x (run b w)))
-    refl (run-append a b w (record { state = s; temps = temps }))
-    (matches-from (LeftAlike t temps) EndsAlike (LeftAlike t temps) (m s) (run a w (record { state = s; temps = temps })) (λ y. then_go y n) (λ x. then_go x (run b w)) (h.by s temps)
-    (λ y s' x c k. after-left t temps n (run b w) y s' x c k (λ T r kept. kept-matches t temps T kept (n r) (run b w (record { state = r; temps = T })) (l.by r T)))) }
+executes-append a b w m n t h l = record {
+  by = λ s temps. matches-as (LeftAlike t temps) EndsAlike
+      (from (m s) (λ y. then_go y n)) (from (m s) (λ y. then_go y n))
+      (run (a ++ b) w (record { state = s; temps = temps })) (from (run a w (record { state = s; temps = temps })) (λ x. then_go x (run b w)))
+      refl (run-append a b w (record { state = s; temps = temps }))
+      (matches-from (LeftAlike t temps) EndsAlike (LeftAlike t temps) (m s) (run a w (record { state = s; temps = temps })) (λ y. then_go y n) (λ x. then_go x (run b w)) (h.by s temps)
+      (λ y s' x c k. after-left t temps n (run b w) y s' x c k (λ T r kept. kept-matches t temps T kept (n r) (run b w (record { state = r; temps = T })) (l.by r T))));
+}
 
 -- A choice by the value in a temporary
 

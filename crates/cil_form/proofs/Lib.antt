@@ -3,3 +3,4 @@ pub mod KeepLaws
 pub mod ComputesLaws
 pub mod TypingLaws
 pub mod ShapedPrograms
+pub mod EmptyProgram

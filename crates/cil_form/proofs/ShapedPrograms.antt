@@ -18,11 +18,11 @@ use Rattle.cil_form.proofs.TypingLaws.{includes-all, shaped-if, shaped-loop}
 use Rattle.cil_form.specs.declared.instr.Instr.TheVariants as instr
 
 -- a property of each element, one by one
-abbrev Each : {X : Type 0} → (X → Type 0) → List X → Type 0
+abbrev pub Each : {X : Type 0} → (X → Type 0) → List X → Type 0
 Each P [] = Unit {0}
 Each P (x ∷ xs) = P x × Each P xs
 
-each-all : {X : Type 0} (P : X → Type 0) (xs : List X) → Each P xs → All P xs
+pub each-all : {X : Type 0} (P : X → Type 0) (xs : List X) → Each P xs → All P xs
 each-all P [] h = All-nil P
 each-all P (x ∷ xs) h = All-cons P x xs h.0 (each-all P xs h.1)
 
@@ -80,30 +80,79 @@ loop_choice : (alloc : Global) → AreShaped (instr.Break 0 ∷ []) (inside (con
 loop_choice alloc = (l4, (lit< tt, includes-none l4), includes-all l4)
 
 pub loop_round-shaped : (alloc : Global) → AreShaped (loop_round alloc) (inside (context_in (loop_program alloc) (loop_main alloc)) no_types) no_types no_types
-loop_round-shaped alloc =
-    (l1, (refl, leaves-all no_types 0 (Some its_home) (lit< tt)),
-    (l2, (lit< tt, (lit< tt, refl), (is-temp 0 (lit< tt), refl), leaves-all l1 0 (Some an_int) (lit< tt)),
-    (l3, (integer.int, (lit< tt, refl), refl, leaves-all l2 1 (Some an_int) (lit< tt)),
-    (l4, (integer.int, (lit< tt, refl), (is-temp 0 (lit< tt), refl), (is-temp 1 (lit< tt), refl), leaves-all l3 0 (Some an_int) (lit< tt)),
-    (l4, shaped-if (temp 0) _ _ _ l4 l4 (an_int, (is-temp 0 (lit< tt), refl)) (includes-all l4) (loop_choice alloc),
-    (l5, (integer.int, (lit< tt, refl), refl, leaves-all l4 0 (Some an_int) (lit< tt)),
-    (l6, ((is-temp 0 (lit< tt), refl), leaves-all l5 0 (Some an_int) (lit< tt)),
-    (l7, (refl, leaves-all l6 0 (Some its_home) (lit< tt)),
-    (l8, (refl, leaves-all l7 1 (Some its_home) (lit< tt)),
-    (l9, (lit< tt, (lit< tt, refl), (is-temp 1 (lit< tt), refl), leaves-all l8 1 (Some an_int) (lit< tt)),
-    (l10, (integer.int, (lit< tt, refl), refl, leaves-all l9 2 (Some an_int) (lit< tt)),
-    (l11, (integer.int, (lit< tt, refl), (is-temp 1 (lit< tt), refl), (is-temp 2 (lit< tt), refl), leaves-all l10 1 (Some an_int) (lit< tt)),
-    (no_types, ((lit< tt, (is-temp 0 (lit< tt), refl)), ((lit< tt, refl), is-temp 1 (lit< tt), refl), includes-none l11),
-    includes-all no_types)))))))))))))
+loop_round-shaped alloc = (
+  l1,
+  (refl, leaves-all no_types 0 (Some its_home) (lit< tt)),
+  (
+    l2,
+    (lit< tt, (lit< tt, refl), (is-temp 0 (lit< tt), refl), leaves-all l1 0 (Some an_int) (lit< tt)),
+    (
+      l3,
+      (integer.int, (lit< tt, refl), refl, leaves-all l2 1 (Some an_int) (lit< tt)),
+      (
+        l4,
+        (integer.int, (lit< tt, refl), (is-temp 0 (lit< tt), refl), (is-temp 1 (lit< tt), refl), leaves-all l3 0 (Some an_int) (lit< tt)),
+        (
+          l4,
+          shaped-if (temp 0) _ _ _ l4 l4 (an_int, (is-temp 0 (lit< tt), refl)) (includes-all l4) (loop_choice alloc),
+          (
+            l5,
+            (integer.int, (lit< tt, refl), refl, leaves-all l4 0 (Some an_int) (lit< tt)),
+            (
+              l6,
+              ((is-temp 0 (lit< tt), refl), leaves-all l5 0 (Some an_int) (lit< tt)),
+              (
+                l7,
+                (refl, leaves-all l6 0 (Some its_home) (lit< tt)),
+                (
+                  l8,
+                  (refl, leaves-all l7 1 (Some its_home) (lit< tt)),
+                  (
+                    l9,
+                    (lit< tt, (lit< tt, refl), (is-temp 1 (lit< tt), refl), leaves-all l8 1 (Some an_int) (lit< tt)),
+                    (
+                      l10,
+                      (integer.int, (lit< tt, refl), refl, leaves-all l9 2 (Some an_int) (lit< tt)),
+                      (
+                        l11,
+                        (integer.int, (lit< tt, refl), (is-temp 1 (lit< tt), refl), (is-temp 2 (lit< tt), refl), leaves-all l10 1 (Some an_int) (lit< tt)),
+                        (
+                          no_types,
+                          ((lit< tt, (is-temp 0 (lit< tt), refl)), ((lit< tt, refl), is-temp 1 (lit< tt), refl), includes-none l11),
+                          includes-all no_types,
+                        ),
+                      ),
+                    ),
+                  ),
+                ),
+              ),
+            ),
+          ),
+        ),
+      ),
+    ),
+  ),
+)
 
 pub loop_body-shaped : (alloc : Global) → AreShaped (loop_body alloc) (context_in (loop_program alloc) (loop_main alloc)) no_types no_types
-loop_body-shaped alloc =
-    (no_types, shaped-loop _ _ no_types no_types no_types
-    (record { begins = includes-all no_types; keeps = includes-all no_types; ends = includes-all no_types }) (loop_round-shaped alloc),
-    (l1, (refl, leaves-all no_types 0 (Some its_home) (lit< tt)),
-    (l2, (lit< tt, (lit< tt, refl), (is-temp 0 (lit< tt), refl), leaves-all l1 0 (Some an_int) (lit< tt)),
-    (no_types, (refl, ((lit< tt, refl), is-temp 0 (lit< tt), refl)),
-    includes-all no_types))))
+loop_body-shaped alloc = (
+  no_types,
+  shaped-loop _ _ no_types no_types no_types
+      (record { begins = includes-all no_types; keeps = includes-all no_types; ends = includes-all no_types }) (loop_round-shaped alloc),
+  (
+    l1,
+    (refl, leaves-all no_types 0 (Some its_home) (lit< tt)),
+    (
+      l2,
+      (lit< tt, (lit< tt, refl), (is-temp 0 (lit< tt), refl), leaves-all l1 0 (Some an_int) (lit< tt)),
+      (
+        no_types,
+        (refl, ((lit< tt, refl), is-temp 0 (lit< tt), refl)),
+        includes-all no_types,
+      ),
+    ),
+  ),
+)
 
 loop_main-in_shape : (alloc : Global) → IsFunctionInShape (loop_program alloc) (loop_main alloc)
 unfolding shape-the_row-Instr-0 hidden-the_row-Instr-0 Carrier.hidden
@@ -132,13 +181,27 @@ loop_program-in_shape alloc formed = record {
 
 -- the function that is called, and the one that calls
 pub called_body-shaped : (alloc : Global) → AreShaped called_body (context_in (call_program alloc) (called alloc)) no_types no_types
-called_body-shaped alloc =
-    (l1, (refl, leaves-all no_types 0 (Some its_home) (lit< tt)),
-    (l2, (lit< tt, (lit< tt, refl), (is-temp 0 (lit< tt), refl), leaves-all l1 0 (Some an_int) (lit< tt)),
-    (l3, (integer.int, (lit< tt, refl), refl, leaves-all l2 1 (Some an_int) (lit< tt)),
-    (l4, (integer.int, (lit< tt, refl), (is-temp 0 (lit< tt), refl), (is-temp 1 (lit< tt), refl), leaves-all l3 0 (Some an_int) (lit< tt)),
-    (no_types, (refl, ((lit< tt, refl), is-temp 0 (lit< tt), refl)),
-    includes-all no_types)))))
+called_body-shaped alloc = (
+  l1,
+  (refl, leaves-all no_types 0 (Some its_home) (lit< tt)),
+  (
+    l2,
+    (lit< tt, (lit< tt, refl), (is-temp 0 (lit< tt), refl), leaves-all l1 0 (Some an_int) (lit< tt)),
+    (
+      l3,
+      (integer.int, (lit< tt, refl), refl, leaves-all l2 1 (Some an_int) (lit< tt)),
+      (
+        l4,
+        (integer.int, (lit< tt, refl), (is-temp 0 (lit< tt), refl), (is-temp 1 (lit< tt), refl), leaves-all l3 0 (Some an_int) (lit< tt)),
+        (
+          no_types,
+          (refl, ((lit< tt, refl), is-temp 0 (lit< tt), refl)),
+          includes-all no_types,
+        ),
+      ),
+    ),
+  ),
+)
 
 abbrev its_function : HeldType
 its_function = PointerTo (node 1) (type 9)
@@ -161,12 +224,23 @@ its_argument alloc (suc i) t e = absurd (cc (e))
 
 pub calling_body-shaped : (alloc : Global) → AreShaped calling_body (context_in (call_program alloc) (calling alloc)) no_types no_types
 unfolding physically_equal layout_of cells_at
-calling_body-shaped alloc =
-    (c1, (node 1, type 9, type 9, (lit< tt, refl), refl, refl, same (type 9), leaves-all no_types 0 (Some its_function) (lit< tt)),
-    (c2, (integer.int, (lit< tt, refl), refl, leaves-all c1 1 (Some an_int) (lit< tt)),
-    (c3, (node 1, type 9, int ∷ [], int, (lit< tt, refl), refl, refl, refl, (is-temp 0 (lit< tt), refl), its_argument alloc, leaves-all c2 0 (Some an_int) (lit< tt)),
-    (no_types, (refl, ((lit< tt, refl), is-temp 0 (lit< tt), refl)),
-    includes-all no_types))))
+calling_body-shaped alloc = (
+  c1,
+  (node 1, type 9, type 9, (lit< tt, refl), refl, refl, same (type 9), leaves-all no_types 0 (Some its_function) (lit< tt)),
+  (
+    c2,
+    (integer.int, (lit< tt, refl), refl, leaves-all c1 1 (Some an_int) (lit< tt)),
+    (
+      c3,
+      (node 1, type 9, int ∷ [], int, (lit< tt, refl), refl, refl, refl, (is-temp 0 (lit< tt), refl), its_argument alloc, leaves-all c2 0 (Some an_int) (lit< tt)),
+      (
+        no_types,
+        (refl, ((lit< tt, refl), is-temp 0 (lit< tt), refl)),
+        includes-all no_types,
+      ),
+    ),
+  ),
+)
 
 called-in_shape : (alloc : Global) → IsFunctionInShape (call_program alloc) (called alloc)
 called-in_shape alloc = record {
@@ -226,16 +300,39 @@ abbrev a6 : Typing
 a6 = with_held 0 (Some an_int) a5
 
 pub access_body-shaped : (alloc : Global) → AreShaped access_body (context_in (access_program alloc) (access_main alloc)) no_types no_types
-access_body-shaped alloc =
-    (a1, (refl, leaves-all no_types 0 (Some its_array) (lit< tt)),
-    (a2, (lit< tt, lit< tt, lit< tt, (3, refl), (is-temp 0 (lit< tt), refl), leaves-all a1 0 (Some its_element) (lit< tt)),
-    (a3, (integer.int, (lit< tt, refl), refl, leaves-all a2 1 (Some an_int) (lit< tt)),
-    (a4, (node 1, int, (lit< tt, refl), (lit< tt, refl), (is-temp 0 (lit< tt), refl), (integer.int, (is-temp 1 (lit< tt), refl)), leaves-all a3 0 (Some its_element) (lit< tt)),
-    (a5, (integer.int, (lit< tt, refl), refl, leaves-all a4 1 (Some an_int) (lit< tt)),
-    (a5, ((lit< tt, (is-temp 0 (lit< tt), refl)), ((lit< tt, refl), is-temp 1 (lit< tt), refl), includes-all a5),
-    (a6, (integer.int, (lit< tt, refl), refl, leaves-all a5 0 (Some an_int) (lit< tt)),
-    (no_types, (refl, ((lit< tt, refl), is-temp 0 (lit< tt), refl)),
-    includes-all no_types))))))))
+access_body-shaped alloc = (
+  a1,
+  (refl, leaves-all no_types 0 (Some its_array) (lit< tt)),
+  (
+    a2,
+    (lit< tt, lit< tt, lit< tt, (3, refl), (is-temp 0 (lit< tt), refl), leaves-all a1 0 (Some its_element) (lit< tt)),
+    (
+      a3,
+      (integer.int, (lit< tt, refl), refl, leaves-all a2 1 (Some an_int) (lit< tt)),
+      (
+        a4,
+        (node 1, int, (lit< tt, refl), (lit< tt, refl), (is-temp 0 (lit< tt), refl), (integer.int, (is-temp 1 (lit< tt), refl)), leaves-all a3 0 (Some its_element) (lit< tt)),
+        (
+          a5,
+          (integer.int, (lit< tt, refl), refl, leaves-all a4 1 (Some an_int) (lit< tt)),
+          (
+            a5,
+            ((lit< tt, (is-temp 0 (lit< tt), refl)), ((lit< tt, refl), is-temp 1 (lit< tt), refl), includes-all a5),
+            (
+              a6,
+              (integer.int, (lit< tt, refl), refl, leaves-all a5 0 (Some an_int) (lit< tt)),
+              (
+                no_types,
+                (refl, ((lit< tt, refl), is-temp 0 (lit< tt), refl)),
+                includes-all no_types,
+              ),
+            ),
+          ),
+        ),
+      ),
+    ),
+  ),
+)
 
 access_main-in_shape : (alloc : Global) → IsFunctionInShape (access_program alloc) (access_main alloc)
 access_main-in_shape alloc = record {

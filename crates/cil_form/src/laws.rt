@@ -17,7 +17,7 @@ ghost use Rattle.cil_form.specs.Typing.{Typing, Context, Includes, HoldsScalar, 
 ghost use Rattle.cil_form.specs.Laws.{CodeWritesFrom, Keeps};
 ghost use Rattle.cil_form.specs.Computes.{EndsAlike, Held, Computes, Executes};
 ghost use Rattle.cil_form.specs.Small.{at, shown, access};
-ghost use Rattle.cil_form.specs.Programs.{loop_program, loop_run, call_program, call_run, access_program, access_run};
+ghost use Rattle.cil_form.specs.Programs.{loop_program, loop_run, call_program, call_run, access_program, access_run, switch_program, switch_run};
 ghost use Rattle.cil_form.specs.Shape.{IsInShape};
 ghost use Rattle.c_types.specs.Sound.{IsWellFormed};
 
@@ -99,9 +99,18 @@ pub fn a_checked_access_stops()
     ensures { (alloc : Global) → shown (access_run alloc) ≡ record { ending = Stopped Bounds (at 26); output = []; entered = 0 ∷ []; accesses = [] } }
 {}
 
-/// The three programs are in shape, as soon as their tables of types are well formed, which each table of `Types` is.
+/// `int main(void){switch(getchar()){case 97:for(;;){putchar(49);break;}case 98:putchar(50);}return 0;}` begins at the label of the
+/// byte that it reads, and goes on to the end.
+pub fn a_switch_runs()
+    ensures first { (alloc : Global) → (switch_run alloc 97).output ≡ 49 ∷ 50 ∷ [] }
+    ensures second { (alloc : Global) → (switch_run alloc 98).output ≡ 50 ∷ [] }
+    ensures other { (alloc : Global) → (switch_run alloc 99).output ≡ [] }
+{}
+
+/// The four programs are in shape, as soon as their tables of types are well formed, which each table of `Types` is.
 pub fn small_programs_are_in_shape()
     ensures looping { (alloc : Global) → IsWellFormed (loop_program alloc).types → IsInShape (loop_program alloc) }
     ensures calling { (alloc : Global) → IsWellFormed (call_program alloc).types → IsInShape (call_program alloc) }
+    ensures switching { (alloc : Global) → IsWellFormed (switch_program alloc).types → IsInShape (switch_program alloc) }
     ensures accessing { (alloc : Global) → IsWellFormed (access_program alloc).types → IsInShape (access_program alloc) }
 {}

@@ -1,5 +1,5 @@
 -- What every operation on memory leaves true, a whole run leaves true.
-use Rattle.std.proofs.Common.{◌≡◌, ℕ, zero, suc, ℤ, pos, Bool, true, false, not, ◌||◌, List, [], ◌∷◌, ◌++◌, map, slice_get, Option, None, Some, refl, ap, subst, sym}
+use Rattle.std.proofs.Common.{ℕ, zero, suc, pos, Bool, true, ◌||◌, List, [], ◌∷◌, Option, None, Some}
 use Rattle.cc_base.specs.declared.place.Place.{Place}
 use Rattle.cc_base.specs.declared.number.NodeId.{NodeId}
 use Rattle.cc_base.specs.declared.number.TypeId.{TypeId}
@@ -9,7 +9,7 @@ use Rattle.c_types.specs.declared.shape.TypeShape.TheVariants as shape
 use Rattle.c_types.specs.Table.{shape_at}
 use Rattle.integers.specs.Arithmetic as integer
 use Rattle.integers.specs.Arithmetic.{Operator, truth}
-use Rattle.runs.specs.Outcome.{Outcome, Ended, Done, done, ends, either, from, ◌>>=◌, ◌>>◌}
+use Rattle.runs.specs.Outcome.{done, ◌>>=◌, ◌>>◌}
 use Rattle.runs.specs.Control.{Control, Goes, Leaves, Gives, rounds, go_round}
 use Rattle.c_tree.specs.declared.operator.Binary.TheVariants as binary
 use Rattle.c_tree.specs.declared.operator.Unary.{Unary}
@@ -27,11 +27,11 @@ use Rattle.c_tree.specs.TypedTree.{TypedExpr, TypedPlace, TypedArguments, TypedI
 use Rattle.c_tree.specs.TypedParts.{home_of, declared_type, type_of, place_type, named_type, is_null}
 use Rattle.runtime_calls.specs.Meanings.{call_runtime, call_allocation}
 use Rattle.src_mem.specs.Pointers.{Pointer, Value, Integer, Address, is_true}
-use Rattle.src_mem.specs.State.{State, Act, Setting, Turns, turn, given}
+use Rattle.src_mem.specs.State.{State, Act, Setting, Turns, turn}
 use Rattle.src_mem.specs.Uses.{forward}
 use Rattle.src_mem.specs.Operations.{Located, pointee, size, integer_in, kind_in, node_in}
 use Rattle.src_mem.specs.Laws.{Keeps, IsInvariant}
-use Rattle.src_mem.proofs.Keeping.{acts, keep_integer, keep_pointer, keep_done, keep_ends, keep_chosen, keep_wrong, keep_bind, keep_then, keep_either, keep_given, keep_address, keep_integer_from, keep_called, keep_copy, keep_calculate, keep_moved, keep_subtracted, keep_compared, keep_converted, keep_member, keep_decayed, keep_read_at, keep_write_at, keep_write, keep_malloc, keep_calloc, keep_free, keep_getchar, keep_putchar, keep_exits, keep_all}
+use Rattle.src_mem.proofs.Keeping.{acts, keep_integer, keep_pointer, keep_done, keep_ends, keep_chosen, keep_wrong, keep_bind, keep_then, keep_either, keep_given, keep_address, keep_integer_from, keep_called, keep_copy, keep_calculate, keep_moved, keep_subtracted, keep_compared, keep_converted, keep_member, keep_decayed, keep_read_at, keep_write_at, keep_write, keep_malloc, keep_calloc, keep_free, keep_getchar, keep_putchar, keep_exits}
 use Rattle.src_machine.specs.World.{World, object_of}
 use Rattle.src_machine.specs.Statements.{Flow, Normal, Breaks, Continues, Returns, Progress, Looks, Runs, Label, store_text, initialise, initialise_items, place_of_value, element_of_shape, part_of, clears, initialise_object, initialise_declared, declare_all, declare, loop, flow_of_loop, condition, effect, round_of, then_round, while_loop, again, do_loop, then_do, then_run, chosen, returned, exec, exec_items, exec_from}
 use Rattle.src_machine.specs.Expressions.{is_through_pointer, operator_of, operator_of_step, operator_of_assignment, eval, eval_all, locate, locate_object, updated_shape, updated, prefixed, converted_value, call_function, allocate_for, moved_by_side}

@@ -2,10 +2,16 @@
 //! open, and tries before each use of memory the conditions that the kinds of its pointers ask for.
 #![tactic(auto)]
 
-ghost use Rattle.std.specs.Prelude.{◌≡◌, [], ◌∷◌};
+ghost use Rattle.std.specs.Prelude.{◌≡◌, ◌≤◌, ℕ, [], ◌∷◌, length};
+ghost use Rattle.cc_base.specs.declared.kind.Kind.{Kind};
+ghost use Rattle.cc_base.specs.declared.number.NodeId.{NodeId};
+ghost use Rattle.c_types.specs.Table.{Table};
+ghost use Rattle.c_tree.specs.TypedTree.{TypedTranslationUnit};
 ghost use Rattle.cc_base.specs.declared.fault.Check.TheVariants.{Null, Bounds, Range, Cast, Escape, Tag, Fun, Divide, Depth};
-ghost use Rattle.runs.specs.Input.{Closed, Open};
-ghost use Rattle.src_mem.specs.State.{Stopped, Exited, Turns, Wants};
+ghost use Rattle.runs.specs.Input.{Input, Closed, Open};
+ghost use Rattle.src_mem.specs.State.{Stopped, Exited, Turns, Wants, bytes_of};
+ghost use Rattle.src_mem.specs.Laws.{AreWhole};
+ghost use Rattle.src_machine.specs.Machine.{source_run};
 ghost use Rattle.c_types.specs.declared.site.Site.TheVariants.{Pointee, Home, Linked, Flow};
 ghost use Rattle.src_machine.specs.Sites.{sites_of};
 ghost use Rattle.src_machine.specs.Small.{node, type, int, at, at_line, shown, access};
@@ -54,4 +60,14 @@ pub fn recursion_is_stopped()
 /// part of x, and its flow into g.
 pub fn sites_of_a_program()
     ensures { sites_of address_program address_table ≡ Pointee (node 0) int ∷ Pointee (node 3) int ∷ Home (node 1) (type 9) ∷ Home (node 2) int ∷ Linked (node 3) (node 2) ∷ Flow (node 3) int (node 0) int (at 30) ∷ [] }
+{}
+
+/// A run reads no more input than there is.
+pub fn runs_read_what_is_there()
+    ensures { (u : TypedTranslationUnit) (table : Table) (kind : NodeId → Kind) (input : Input) (turns : ℕ) → (source_run u table kind input turns).read ≤ length (bytes_of input) }
+{}
+
+/// At the end of a run each object has as many bytes as its size, and those under a stored pointer are zero.
+pub fn objects_are_whole_at_the_end()
+    ensures { (u : TypedTranslationUnit) (table : Table) (kind : NodeId → Kind) (input : Input) (turns : ℕ) → AreWhole (source_run u table kind input turns).memory.objects }
 {}

@@ -6,3 +6,4 @@ pub mod Right
 pub mod NotWrong
 pub mod OperationsRight
 pub mod Keeping
+pub mod Invariants

@@ -15,7 +15,7 @@ ghost use Rattle.src_machine.specs.Machine.{source_run};
 ghost use Rattle.c_types.specs.declared.site.Site.TheVariants.{Pointee, Home, Linked, Flow};
 ghost use Rattle.src_machine.specs.Sites.{sites_of};
 ghost use Rattle.src_machine.specs.Small.{node, type, int, at, at_line, shown, access};
-ghost use Rattle.src_machine.specs.Programs.{null_read, past_the_end, stepped_over, address_kept, address_program, address_table, freed_read, size_of_pointer, union_read, divided_by_zero, echoes, goes_on, recursion, recursion_at, moved_too_far, cast_down, called_otherwise, struct_kept, hashed_and_compared};
+ghost use Rattle.src_machine.specs.Programs.{null_read, past_the_end, stepped_over, address_kept, address_program, address_table, freed_read, size_of_pointer, union_read, divided_by_zero, echoes, goes_on, recursion, recursion_at, moved_too_far, cast_down, called_otherwise, struct_kept, hashed_and_compared, controlled, initialised};
 
 /// What small programs do that use SAFE and SEQ pointers.
 pub fn programs_with_bounds()
@@ -48,6 +48,14 @@ pub fn other_programs()
 pub fn word_counter_parts()
     ensures ends { hashed_and_compared.ending ≡ Exited 11 }
     ensures calls { hashed_and_compared.entered ≡ 2 ∷ 0 ∷ 1 ∷ [] }
+{}
+
+/// `switch`, `do`, `for`, `break` and `continue`; initialisers, static ones among them, compound assignments and the usual
+/// arithmetic conversions.
+pub fn statements_and_initialisers()
+    ensures controlled { controlled.output ≡ 3 ∷ 2 ∷ 8 ∷ 12 ∷ 13 ∷ 5 ∷ [] }
+    ensures initialised { initialised.output ≡ 96 ∷ 0 ∷ 6 ∷ [] }
+    ensures status { initialised.ending ≡ Exited 0 }
 {}
 
 /// A recursion without end is stopped at its call where that would be the 1,024th that is nested.

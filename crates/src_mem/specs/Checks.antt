@@ -15,7 +15,7 @@ use Rattle.runs.specs.Outcome.{allowed, done, ◌>>◌}
 use Rattle.src_mem.specs.Pointers.{Pointer, Null, Number, At, Function, is_null, is_at, is_null_or_at, distance, same_part}
 use Rattle.src_mem.specs.Memory.{Object, Memory, frame_charge, holds_none, holds_pointer_at, depth_of, depth_of_object, size_of_object}
 use Rattle.integers.specs.Arithmetic.{IntegerType, can_divide}
-use Rattle.src_mem.specs.Coverage.{covers, of_one_class}
+use Rattle.c_types.specs.Coverage.{covers, of_one_class}
 use Rattle.src_mem.specs.State.{Act, Stopped, Defined, Setting}
 
 -- a pointer as it is used: its kind and its value

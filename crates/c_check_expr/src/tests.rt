@@ -31,6 +31,7 @@ fn an_inner_declaration_hides_an_outer_one_until_its_scope_ends(rt: HostRuntime)
     assert_eq!(rt; here(&scope, b"x"), None);
     declare(&rt, &mut scope, b"x", LONG);
     assert_eq!(rt; here(&scope, b"x"), Some(LONG));
+    assert!(rt; scope.depth() > 1);
     scope.leave();
     assert_eq!(rt; here(&scope, b"x"), Some(INT));
     assert_eq!(rt; here(&scope, b"y"), None);

@@ -9,11 +9,9 @@ use Rattle.c_types.specs.declared.shape.TypeShape.TheVariants.{Integer, Pointer,
 use Rattle.c_types.specs.Table.{Table, IsAggregate, shape_at, members_at}
 use Rattle.c_types.specs.Layouts.{size_of, offset_of, member_at}
 use Rattle.c_tree.specs.declared.typed_word.Side.TheVariants as side
-use Rattle.c_tree.specs.Places.{initialiser_place}
 use Rattle.c_tree.specs.TypedTree as typed
 use Rattle.c_tree.specs.TypedTree.{TypedExpr, TypedPlace, TypedInitialiser, TypedItems}
-use Rattle.c_tree.specs.TypedParts.{place_type}
-use Rattle.c_tree.specs.Erasure.{erased_initialiser}
+use Rattle.c_tree.specs.TypedParts.{place_type, item_place}
 use Rattle.c_check_expr.specs.Shapes.{IsScalar, IsSameType, is_scalar_shape}
 use Rattle.c_check_expr.specs.Scopes.{Scopes}
 use Rattle.c_check_expr.specs.Constants.{constant_value}
@@ -75,9 +73,6 @@ abbrev pub IsItemFor : Bool → TypedInitialiser → Type 0
 IsItemFor true (typed.Value e) = Unit {0}
 IsItemFor true i = ⊥
 IsItemFor false i = Unit {0}
-
-abbrev pub item_place : TypedInitialiser → Place
-item_place i = initialiser_place (erased_initialiser i)
 
 -- the part of t that the item number i initialises
 abbrev pub IsSlot : Bool → Table → TypeId → ℕ → ℕ → TypeId → Type 0

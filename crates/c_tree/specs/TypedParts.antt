@@ -13,7 +13,8 @@ use Rattle.c_tree.specs.declared.typed_word.Home.{Home}
 use Rattle.c_tree.specs.declared.typed_word.Home.TheVariants as home
 use Rattle.c_tree.specs.declared.typed_word.Side.{Side}
 use Rattle.c_tree.specs.declared.typed_word.Side.TheVariants as side
-use Rattle.c_tree.specs.Places.{pieces_place}
+use Rattle.c_tree.specs.Erasure.{erased, erased_place, erased_initialiser}
+use Rattle.c_tree.specs.Places.{pieces_place, expr_place, initialiser_place}
 use Rattle.c_tree.specs.TypedTree as typed
 use Rattle.c_tree.specs.declared.typed_word.TypedStar.{TypedStar}
 use Rattle.c_tree.specs.TypedTree.{TypedExpr, TypedPlace, TypedArguments, TypedTypeName, TypedSpecifiers, TypedSpecifierList, TypedSpecifier, TypedMembers, TypedMemberDeclarators, TypedEnumerators, TypedDeclarator, TypedForm, TypedCore, TypedParts, TypedParameters, TypedDeclared, TypedInitialiser, TypedItems, TypedInitDeclarators, TypedDeclaration, TypedStatement, TypedBlockItems, TypedTranslationUnit}
@@ -490,3 +491,14 @@ abbrev pub static_initialisers : TypedTranslationUnit → List StaticInitialiser
 static_initialisers typed.NoExternal = []
 static_initialisers (typed.AndExternal u d) = static_initialisers u ++ initialisers_in_declaration d
 static_initialisers (typed.AndFunctionBody u specifiers d brace items) = static_initialisers u ++ initialisers_in_items items
+
+-- Places of first tokens
+
+abbrev pub first_place : TypedExpr → Place
+first_place e = expr_place (erased e)
+
+abbrev pub first_place_of_place : TypedPlace → Place
+first_place_of_place p = expr_place (erased_place p)
+
+abbrev pub item_place : TypedInitialiser → Place
+item_place i = initialiser_place (erased_initialiser i)

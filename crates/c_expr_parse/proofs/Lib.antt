@@ -28,3 +28,4 @@ pub mod InitialiserLaws
 pub mod InitialiserReads
 pub mod DeclarationStarts
 pub mod TypeNameReads
+pub mod WordReads

@@ -81,7 +81,7 @@ module _ {names : TypeNames} {d : ℕ} (inner : InnerKeeps names d) (naming : Na
         spelled = rw (u.spelled, append_assoc (stars_spelling stars) (core_spelling core ++ parts_spelling x) s', append_assoc (core_spelling core) (parts_spelling x) s', h.spelled) refl;
       }
 
-  part_steps : (stars : List Star) (core : tree.Core)
+  pub part_steps : (stars : List Star) (core : tree.Core)
       → Steps IsWritten true d (λ _. begins_part) (λ d'. part_step names (rules names d')) (λ g x. SpellsDeclarator names naming g (tree.Declares stars core x)) (λ x. parts_height x ≤ d) Any
   part_steps stars core = record {
     never = λ _. refl;

@@ -29,3 +29,4 @@ pub mod InitialiserReads
 pub mod DeclarationStarts
 pub mod TypeNameReads
 pub mod WordReads
+pub mod PartReads

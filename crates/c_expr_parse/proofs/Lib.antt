@@ -30,3 +30,4 @@ pub mod DeclarationStarts
 pub mod TypeNameReads
 pub mod WordReads
 pub mod PartReads
+pub mod DeclaratorReads

@@ -1,11 +1,11 @@
 -- The spellings of array and function parts lead to them.
-use Rattle.std.proofs.Common.{◌≡◌, ℕ, ◌≤◌, Bool, true, false, ◌&&◌, ◌||◌, Some, List, [], ◌∷◌, ◌++◌, map, refl, sym, ◌∙◌, subst, append_assoc, arith}
+use Rattle.std.proofs.Common.{◌≡◌, ℕ, ◌≤◌, true, false, List, [], ◌∷◌, ◌++◌, map, refl, sym, subst, append_assoc, arith}
 use Rattle.std.proofs.lemmas.Bool.{and_parts}
 use Rattle.cc_base.specs.declared.place.Place.{Place}
 use Rattle.c_lexer.specs.declared.word.Keyword.{Keyword}
 use Rattle.c_lexer.specs.declared.word.Keyword.TheVariants as keyword
 use Rattle.c_lexer.specs.declared.punctuator.Punctuator.TheVariants as mark
-use Rattle.parse_rules.specs.Parsers.{Answer, Read, Parser, first, next, loop}
+use Rattle.parse_rules.specs.Parsers.{Answer, Read, Parser, next, loop}
 use Rattle.parse_rules.specs.Grammars.{Language}
 use Rattle.parse_rules.proofs.Completeness.{LeadsTo, equal, ◌▷◌, leads_next, leads_passes, leads_loop}
 use Rattle.c_tree.specs.declared.leaf.Word.{Word as PlacedWord}
@@ -68,8 +68,8 @@ module _ (names : TypeNames) (d : ℕ) (keeps : InnerKeeps names d) (inner : Inn
   unfolding part_step with_part array_part
   sized_array_goes before at words e rest w we fits low =
       leads_next _ (words_read d g [] words (expr_spelling e ++ Bare separator.CloseBracket ∷ rest) w (expr_no_word names words _ (expr_starts g names e we (Bare separator.CloseBracket ∷ rest))))
-        (leads_passes _ (expr_starts g names e we (Bare separator.CloseBracket ∷ rest))
-          (leads_next _ (inner.expr g 1 e (Bare separator.CloseBracket ∷ rest) (omega arith) we fits low (bare_expr 1 separator.CloseBracket refl)) (equal refl)))
+      (leads_passes _ (expr_starts g names e we (Bare separator.CloseBracket ∷ rest))
+      (leads_next _ (inner.expr g 1 e (Bare separator.CloseBracket ∷ rest) (omega arith) we fits low (bare_expr 1 separator.CloseBracket refl)) (equal refl)))
 
   pub function_reads : (before : tree.Parts) (at : Place) (x : tree.Parameters) (rest : List Symbol) → AreParameters g names x → parameters_height x ≤ d
       → LeadsTo g (function_part names (rules names d) before at (parameters_spelling x ++ Bare separator.CloseParen ∷ rest)) (Read (tree.AndFunction before at x) rest)
@@ -89,8 +89,8 @@ module _ (names : TypeNames) (d : ℕ) (keeps : InnerKeeps names d) (inner : Inn
   then_array : (start : List Symbol → Answer Symbol tree.Parts) (before : tree.Parts) (at : Place) (words : List PlacedWord) → Reached start before → are_qualifiers words ≡ true → Reached start (tree.AndArray before at words)
   then_array start before at words h w rest =
       subst (λ s. LeadsTo g (start s) (parts_loop names d (tree.AndArray before at words) rest)) (sym flat)
-        (h (Mark mark.OpenBracket at ∷ (map word_symbol words ++ Bare separator.CloseBracket ∷ rest))
-          ▷ leads_loop (part_steps keeps WithName [] tree.Unnamed) before (Mark mark.OpenBracket at ∷ (map word_symbol words ++ Bare separator.CloseBracket ∷ rest)) tt refl (array_goes before at words rest w))
+      (h (Mark mark.OpenBracket at ∷ (map word_symbol words ++ Bare separator.CloseBracket ∷ rest))
+      ▷ leads_loop (part_steps keeps WithName [] tree.Unnamed) before (Mark mark.OpenBracket at ∷ (map word_symbol words ++ Bare separator.CloseBracket ∷ rest)) tt refl (array_goes before at words rest w))
     where
       flat : (parts_spelling before ++ Mark mark.OpenBracket at ∷ (map word_symbol words ++ close_bracket)) ++ rest ≡ parts_spelling before ++ Mark mark.OpenBracket at ∷ (map word_symbol words ++ Bare separator.CloseBracket ∷ rest)
       flat = simp append_assoc
@@ -99,8 +99,8 @@ module _ (names : TypeNames) (d : ℕ) (keeps : InnerKeeps names d) (inner : Inn
       → are_array_words words ≡ true → IsExpr g names e → 1 ≤ level e → expr_height e ≤ d → Reached start (tree.AndSizedArray before at words e)
   then_sized_array start before at words e h w we fits low rest =
       subst (λ s. LeadsTo g (start s) (parts_loop names d (tree.AndSizedArray before at words e) rest)) (sym flat)
-        (h (Mark mark.OpenBracket at ∷ (map word_symbol words ++ (expr_spelling e ++ Bare separator.CloseBracket ∷ rest)))
-          ▷ leads_loop (part_steps keeps WithName [] tree.Unnamed) before (Mark mark.OpenBracket at ∷ (map word_symbol words ++ (expr_spelling e ++ Bare separator.CloseBracket ∷ rest))) tt refl (sized_array_goes before at words e rest w we fits low))
+      (h (Mark mark.OpenBracket at ∷ (map word_symbol words ++ (expr_spelling e ++ Bare separator.CloseBracket ∷ rest)))
+      ▷ leads_loop (part_steps keeps WithName [] tree.Unnamed) before (Mark mark.OpenBracket at ∷ (map word_symbol words ++ (expr_spelling e ++ Bare separator.CloseBracket ∷ rest))) tt refl (sized_array_goes before at words e rest w we fits low))
     where
       flat : (parts_spelling before ++ Mark mark.OpenBracket at ∷ (map word_symbol words ++ (expr_spelling e ++ close_bracket))) ++ rest
           ≡ parts_spelling before ++ Mark mark.OpenBracket at ∷ (map word_symbol words ++ (expr_spelling e ++ Bare separator.CloseBracket ∷ rest))
@@ -110,8 +110,8 @@ module _ (names : TypeNames) (d : ℕ) (keeps : InnerKeeps names d) (inner : Inn
       → Reached start (tree.AndFunction before at x)
   then_function start before at x h w low rest =
       subst (λ s. LeadsTo g (start s) (parts_loop names d (tree.AndFunction before at x) rest)) (sym flat)
-        (h (Mark mark.OpenParen at ∷ (parameters_spelling x ++ Bare separator.CloseParen ∷ rest))
-          ▷ leads_loop (part_steps keeps WithName [] tree.Unnamed) before (Mark mark.OpenParen at ∷ (parameters_spelling x ++ Bare separator.CloseParen ∷ rest)) tt refl (function_goes before at x rest w low))
+      (h (Mark mark.OpenParen at ∷ (parameters_spelling x ++ Bare separator.CloseParen ∷ rest))
+      ▷ leads_loop (part_steps keeps WithName [] tree.Unnamed) before (Mark mark.OpenParen at ∷ (parameters_spelling x ++ Bare separator.CloseParen ∷ rest)) tt refl (function_goes before at x rest w low))
     where
       flat : (parts_spelling before ++ Mark mark.OpenParen at ∷ (parameters_spelling x ++ close_paren)) ++ rest ≡ parts_spelling before ++ Mark mark.OpenParen at ∷ (parameters_spelling x ++ Bare separator.CloseParen ∷ rest)
       flat = simp append_assoc

@@ -1,21 +1,20 @@
 -- Words in array parts and after stars are read from their spelling.
-use Rattle.std.proofs.Common.{◌≡◌, ℕ, Bool, true, false, cond, ◌&&◌, ◌||◌, ◌==◌, Option, Some, None, is_some, List, [], ◌∷◌, ◌++◌, length, map, length-append, refl, sym, ◌∙◌, ap, subst, append_assoc, append-nil, arith}
-use Rattle.std.proofs.lemmas.Bool.{and_parts, eqb-true, ne_eqb, true≢false}
+use Rattle.std.proofs.Common.{◌≡◌, ℕ, Bool, true, false, cond, ◌&&◌, ◌==◌, Option, Some, is_some, List, [], ◌∷◌, ◌++◌, length, map, length-append, refl, sym, ◌∙◌, ap, subst, append_assoc, append-nil, arith}
+use Rattle.std.proofs.lemmas.Bool.{and_parts, eqb-true, ne_eqb}
 use Rattle.std.proofs.lemmas.List.Elements.{All-head, All-tail}
 use Rattle.std.proofs.lemmas.List.Folds.{list_all-append}
 use Rattle.std.specs.List.{All}
 use Rattle.cc_base.specs.declared.place.Place.{Place}
 use Rattle.c_lexer.specs.declared.word.Keyword.{Keyword}
 use Rattle.c_lexer.specs.declared.word.Keyword.TheVariants as keyword
-use Rattle.c_lexer.specs.declared.punctuator.Punctuator.TheVariants as mark
 use Rattle.parse_rules.specs.Parsers.{Answer, Read, first, loop}
 use Rattle.parse_rules.specs.Grammars.{Language}
 use Rattle.parse_rules.proofs.Completeness.{LeadsTo, equal, ◌▷◌, leads_next, leads_loop, leads_loop_stops}
 use Rattle.c_tree.specs.declared.leaf.Star.{Star}
 use Rattle.c_tree.specs.declared.leaf.Word.{Word as PlacedWord}
 use Rattle.c_tree.specs.Spelling.{word_symbol, star_spelling, stars_spelling}
-use Rattle.c_tree.specs.Symbols.{Symbol, Name, Word, Mark}
-use Rattle.c_tree.specs.Words.{is_qualifier, is_static_word, are_qualifiers, end_in_static, are_array_words, has_static}
+use Rattle.c_tree.specs.Symbols.{Symbol, Name, Word}
+use Rattle.c_tree.specs.Words.{is_qualifier, is_static_word, are_qualifiers, end_in_static, are_array_words}
 use Rattle.c_tree.specs.Grammar.{HasQualifiers}
 use Rattle.c_tree.specs.Words.{TypeNames}
 use Rattle.c_expr_parse.specs.DeclaratorRules.{next_array_word, next_qualifier, star_step}
@@ -111,7 +110,7 @@ words_read d g before (word ∷ words) rest fits ends =
     let more : are_array_words ((before ++ word ∷ []) ++ words) ≡ true = rw (append_assoc before (word ∷ []) words) fits in
     let here : are_array_words (before ++ word ∷ []) ≡ true = front_of_words (before ++ word ∷ []) words more in
     leads_loop (array_word_steps {d = d}) before (word_symbol word ∷ (map word_symbol words ++ rest)) tt (ap is_some (word_goes before word here)) (next_word_reads g before word (map word_symbol words ++ rest) here)
-      ▷ rw (← append_assoc before (word ∷ []) words) (words_read d g (before ++ word ∷ []) words rest more (rw (append_assoc before (word ∷ []) words) ends))
+    ▷ rw (← append_assoc before (word ∷ []) words) (words_read d g (before ++ word ∷ []) words rest more (rw (append_assoc before (word ∷ []) words) ends))
 
 -- Qualifiers after a star, and stars.
 
@@ -125,7 +124,7 @@ qualifiers_read d g before [] rest fits ends = rw (append-nil before) (leads_loo
 qualifiers_read d g before (word ∷ words) rest fits ends =
     let parts = and_parts (is_qualifier word.keyword) (are_qualifiers words) fits in
     leads_loop (qualifier_steps {d = d}) before (word_symbol word ∷ (map word_symbol words ++ rest)) tt (rw parts.0 refl) (next_qualifier_reads g before word (map word_symbol words ++ rest) parts.0)
-      ▷ rw (← append_assoc before (word ∷ []) words) (qualifiers_read d g (before ++ word ∷ []) words rest parts.1 ends)
+    ▷ rw (← append_assoc before (word ∷ []) words) (qualifiers_read d g (before ++ word ∷ []) words rest parts.1 ends)
 
 -- the first of some stars, or of what follows them, is no qualifier
 stars_no_qualifier : (stars : List Star) (rest : List Symbol) → is_some (qualifier_word (first rest)) ≡ false → is_some (qualifier_word (first (stars_spelling stars ++ rest))) ≡ false
@@ -142,5 +141,5 @@ pub stars_read : (d : ℕ) (g : Language) (before stars : List Star) (rest : Lis
 stars_read d g before [] rest fits ends over = rw (append-nil before) (leads_loop_stops (λ _ next. is_some (star_sign next)) star_step before rest over)
 stars_read d g before (star ∷ stars) rest fits ends over =
     subst (λ s. LeadsTo g (loop (λ _ next. is_some (star_sign next)) star_step before s) (Read (before ++ star ∷ stars) rest)) (sym (append_assoc (star_spelling star) (stars_spelling stars) rest))
-      (leads_loop (star_steps {d = d}) before (star_spelling star ++ (stars_spelling stars ++ rest)) tt refl (star_reads d g before star (stars_spelling stars ++ rest) (All-head HasQualifiers star stars fits) (stars_no_qualifier stars rest ends))
-        ▷ subst (λ x. LeadsTo g (loop (λ _ next. is_some (star_sign next)) star_step (before ++ star ∷ []) (stars_spelling stars ++ rest)) (Read x rest)) (append_assoc before (star ∷ []) stars) (stars_read d g (before ++ star ∷ []) stars rest (All-tail HasQualifiers star stars fits) ends over))
+    (leads_loop (star_steps {d = d}) before (star_spelling star ++ (stars_spelling stars ++ rest)) tt refl (star_reads d g before star (stars_spelling stars ++ rest) (All-head HasQualifiers star stars fits) (stars_no_qualifier stars rest ends))
+    ▷ subst (λ x. LeadsTo g (loop (λ _ next. is_some (star_sign next)) star_step (before ++ star ∷ []) (stars_spelling stars ++ rest)) (Read x rest)) (append_assoc before (star ∷ []) stars) (stars_read d g (before ++ star ∷ []) stars rest (All-tail HasQualifiers star stars fits) ends over))

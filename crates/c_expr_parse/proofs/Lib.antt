@@ -27,3 +27,4 @@ pub mod ExprComplete
 pub mod DeclarationStarts
 pub mod MembersRead
 pub mod EnumeratorsRead
+pub mod SpecifiersRead

@@ -1,13 +1,13 @@
 -- The spelling of the members of a structure or union leads to them.
-use Rattle.std.proofs.Common.{◌≡◌, ℕ, suc, ◌≤◌, max, Bool, true, false, Option, Some, None, is_some, List, [], ◌∷◌, ◌++◌, refl, sym, ◌∙◌, ap, subst, append_assoc, append-nil, true≢false, arith}
-use Rattle.parse_rules.specs.Parsers.{Answer, Read, Parser, first, next, skip, loop, ◌>>=◌, ◌>>◌}
-use Rattle.parse_rules.specs.Grammars.{Language, IsExtended}
-use Rattle.parse_rules.proofs.Completeness.{LeadsTo, equal, breaks, ◌▷◌, leads_next, leads_passes, leads_fails, leads_loop, leads_loop_stops}
+use Rattle.std.proofs.Common.{◌≡◌, ℕ, ◌≤◌, true, false, Option, Some, List, [], ◌∷◌, ◌++◌, refl, sym, ◌∙◌, subst, append_assoc, true≢false, arith}
+use Rattle.parse_rules.specs.Parsers.{Read, Parser, first, next, skip, loop, ◌>>◌}
+use Rattle.parse_rules.specs.Grammars.{Language}
+use Rattle.parse_rules.proofs.Completeness.{LeadsTo, equal, breaks, ◌▷◌, leads_next, leads_fails, leads_loop, leads_loop_stops}
 use Rattle.c_tree.specs.declared.leaf.Separator.{Separator}
 use Rattle.c_tree.specs.declared.leaf.Separator.TheVariants as separator
 use Rattle.c_tree.specs.Depth.{members_height, member_declarators_height}
 use Rattle.c_tree.specs.Grammar.{Naming, WithName, AreMembers, AreMemberDeclarators, is_no_declarator}
-use Rattle.c_tree.specs.Spelling.{colon, comma, semicolon, members_spelling, member_declarators_spelling, before_declarator, declarator_spelling, specifiers_spelling}
+use Rattle.c_tree.specs.Spelling.{colon, semicolon, members_spelling, member_declarators_spelling, declarator_spelling, specifiers_spelling}
 use Rattle.c_tree.specs.Symbols.{Symbol, Bare}
 use Rattle.c_tree.specs.Tree as tree
 use Rattle.c_tree.specs.Words.{TypeNames, Scope, InType}

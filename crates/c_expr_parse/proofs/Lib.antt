@@ -24,7 +24,10 @@ pub mod DeclarationDepth
 pub mod UnaryReads
 pub mod OperatorReads
 pub mod ExprComplete
+pub mod InitialiserLaws
+pub mod InitialiserReads
 pub mod DeclarationStarts
 pub mod MembersRead
 pub mod EnumeratorsRead
 pub mod SpecifiersRead
+pub mod TypeNameReads

@@ -31,3 +31,4 @@ pub mod MembersRead
 pub mod EnumeratorsRead
 pub mod SpecifiersRead
 pub mod TypeNameReads
+pub mod Promised

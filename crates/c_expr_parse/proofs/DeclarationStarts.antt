@@ -107,7 +107,7 @@ declarator_starts g names naming (tree.Declares [] tree.Unnamed (tree.AndFunctio
 
 -- A token that begins a declarator goes on with no specifiers.
 
-and_none : (b : Bool) → (b && false) ≡ false
+pub and_none : (b : Bool) → (b && false) ≡ false
 and_none true = refl
 and_none false = refl
 

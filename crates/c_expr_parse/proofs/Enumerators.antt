@@ -42,7 +42,7 @@ SeriesIn names g = Spells (λ x. AreEnumerators g names (elements x) × (is_no_e
 abbrev NextIn : TypeNames → Language → tree.Enumerators → List Symbol → Type 0
 NextIn names g = Spells (λ x. AreEnumerators g names x × (is_no_enumerator x ≡ false)) enumerators_spelling
 
-then_comma : (x : tree.Enumerators) → is_no_enumerator x ≡ false → before_enumerator x ≡ enumerators_spelling x ++ comma
+pub then_comma : (x : tree.Enumerators) → is_no_enumerator x ≡ false → before_enumerator x ≡ enumerators_spelling x ++ comma
 then_comma tree.NoEnumerator e = cc
 then_comma (tree.AndEnumerator before name) e = simp append_assoc refl
 then_comma (tree.AndValued before name at e) is = simp append_assoc refl
@@ -105,7 +105,7 @@ module _ {names : TypeNames} {d : ℕ} (inner : InnerKeeps names d) where
       (λ y low _ low_b. low low_b) (λ y rest e. e) (keeps_next before (s ++ s1) r1 true (λ _. some)))
       (λ _. rule_pure (λ g after b. record { within = b.within; spelled = rw (b.spelled, after) (sym (then_comma before b.within.1)) }) (λ _ low. low) tt))
 
-  series_steps : Steps IsWritten true d goes_on_series (λ d'. enumerator_step names (rules names d')) (SeriesIn names) (λ x. enumerators_height (elements x) ≤ d) Any
+  pub series_steps : Steps IsWritten true d goes_on_series (λ d'. enumerator_step names (rules names d')) (SeriesIn names) (λ x. enumerators_height (elements x) ≤ d) Any
   series_steps = record { never = never; at_end = λ _. tt; steps = λ x s rest _ goes. keeps_step x s rest goes }
     where
       never : (x : Series tree.Enumerators) → goes_on_series x None ≡ false

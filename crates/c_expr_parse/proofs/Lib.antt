@@ -27,7 +27,11 @@ pub mod ExprComplete
 pub mod InitialiserLaws
 pub mod InitialiserReads
 pub mod DeclarationStarts
+pub mod MembersRead
+pub mod EnumeratorsRead
+pub mod SpecifiersRead
 pub mod TypeNameReads
 pub mod WordReads
 pub mod PartReads
 pub mod DeclaratorReads
+pub mod Promised

@@ -31,7 +31,7 @@ abbrev pub Declarators : TypeNames → Language → tree.MemberDeclarators → L
 Declarators names g = Spells (λ x. AreMemberDeclarators g names x × (is_no_declarator x ≡ false)) member_declarators_spelling
 
 -- a comma goes on
-then_comma : (x : tree.MemberDeclarators) → is_no_declarator x ≡ false → before_declarator x ≡ member_declarators_spelling x ++ comma
+pub then_comma : (x : tree.MemberDeclarators) → is_no_declarator x ≡ false → before_declarator x ≡ member_declarators_spelling x ++ comma
 then_comma tree.NoDeclarator e = cc
 then_comma (tree.AndDeclarator before d) e = sym (append_assoc (before_declarator before) (declarator_spelling d) comma)
 then_comma (tree.AndBitField before d) e = simp append_assoc refl
@@ -67,26 +67,26 @@ module _ {names : TypeNames} {d : ℕ} (inner : InnerKeeps names d) where
       })
       (λ _. rule_pure (λ g x_in b. record { within = ((b.within, x_in.within), refl); spelled = rw (b.spelled, x_in.spelled, append-nil) refl }) (λ low_x low_b. omega arith) tt)))
 
+  pub declarator_steps : Steps IsWritten true d (λ _. is_comma) (λ d' before. skip >> next_member (rules names d') before) (Declarators names) (λ x. member_declarators_height x ≤ d) Any
+  declarator_steps = record {
+    never = λ _. refl;
+    at_end = λ _. tt;
+    steps = λ x s rest _ goes.
+        rule_seq (rule_skip_the (Bare separator.Comma) (comma_here (first rest) goes)) (λ t s1 r1.
+        rule_weaker
+        (λ g y s' h after before. subst (λ z. Declarators names g y z) (append_assoc s s1 s') (h (record { within = before.within.0; spelled = rw (before.spelled, after) (sym (then_comma x before.within.1)) })))
+        (λ y low _ low_x. low low_x) (λ y rest' e. e) (keeps_next_member x (s ++ s1) r1));
+  }
+
   keeps_member_declarators : (ts : List Symbol) → Rule IsWritten true false (λ d'. member_declarators (rules names d')) d (Declarators names) (λ x. member_declarators_height x ≤ d) Any ts
   unfolding member_declarators
   keeps_member_declarators ts =
       rule_bind (rule_weaker (λ g x s h. h (record { within = tt; spelled = refl })) (λ x low. low (omega arith)) (λ x rest e. e) (keeps_next_member tree.NoDeclarator [] ts)) (λ x s rest.
-      rule_weaker (λ g y s' h. h) (λ y low. low) (λ y rest' e. tt) (rule_loop steps x s (λ g x_in. x_in) (λ low. low) tt))
-    where
-      steps : Steps IsWritten true d (λ _. is_comma) (λ d' before. skip >> next_member (rules names d') before) (Declarators names) (λ x. member_declarators_height x ≤ d) Any
-      steps = record {
-        never = λ _. refl;
-        at_end = λ _. tt;
-        steps = λ x s rest _ goes.
-            rule_seq (rule_skip_the (Bare separator.Comma) (comma_here (first rest) goes)) (λ t s1 r1.
-            rule_weaker
-            (λ g y s' h after before. subst (λ z. Declarators names g y z) (append_assoc s s1 s') (h (record { within = before.within.0; spelled = rw (before.spelled, after) (sym (then_comma x before.within.1)) })))
-            (λ y low _ low_x. low low_x) (λ y rest' e. e) (keeps_next_member x (s ++ s1) r1));
-      }
+      rule_weaker (λ g y s' h. h) (λ y low. low) (λ y rest' e. tt) (rule_loop declarator_steps x s (λ g x_in. x_in) (λ low. low) tt))
 
   -- Rows.
 
-  row_steps : Steps IsWritten true d (λ _. begins_specifier names InType) (λ d'. next_members (rules names d')) (λ g. Spells (AreMembers g names) members_spelling) (λ x. members_height x ≤ d) Any
+  pub row_steps : Steps IsWritten true d (λ _. begins_specifier names InType) (λ d'. next_members (rules names d')) (λ g. Spells (AreMembers g names) members_spelling) (λ x. members_height x ≤ d) Any
   unfolding next_members
   row_steps = record {
     never = λ _. refl;

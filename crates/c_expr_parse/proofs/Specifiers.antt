@@ -176,14 +176,14 @@ module _ {names : TypeNames} {d : ℕ} (inner : InnerKeeps names d) (scope : Sco
       (keeps_enum_no_tag at s1 ts (open_brace (first ts)) refl)
 
 -- a further `long`, told by the token and by the word
-long_told : (word : PlacedWord) → is_long_next (Some (word_symbol word)) ≡ is_long (tree.Keyword word)
+pub long_told : (word : PlacedWord) → is_long_next (Some (word_symbol word)) ≡ is_long (tree.Keyword word)
 long_told word = by_keyword word.keyword
   where
     by_keyword : (k : Keyword) → is_long_next (Some (Word k word.place)) ≡ is_long_word k
     by_keyword keyword.Long = refl
     by_keyword k = refl
 
-and_swap : (a b : Bool) → (a && b) ≡ (b && a)
+pub and_swap : (a b : Bool) → (a && b) ≡ (b && a)
 and_swap true true = refl
 and_swap true false = refl
 and_swap false true = refl
@@ -224,7 +224,7 @@ module _ {names : TypeNames} {d : ℕ} (inner : InnerKeeps names d) (scope : Sco
       keeps_enum inner scope before s at s1 r1 (word_name (first r1)) refl))
   keeps_specifier before s ts NoSpecifierStart e starts once = cc
 
-  specifier_steps : Steps IsWritten true d (λ _. begins_specifier names scope) (λ d'. specifier_step names (rules names d') scope) (ListIn names scope) (λ x. specifiers_height x ≤ d) Any
+  pub specifier_steps : Steps IsWritten true d (λ _. begins_specifier names scope) (λ d'. specifier_step names (rules names d') scope) (ListIn names scope) (λ x. specifiers_height x ≤ d) Any
   unfolding specifier_step
   specifier_steps = record {
     never = λ _. refl;

@@ -35,3 +35,4 @@ pub mod WordReads
 pub mod PartReads
 pub mod DeclaratorReads
 pub mod Promised
+pub mod AllReads

@@ -3,14 +3,14 @@
 use Rattle.std.proofs.Common.{◌≡◌, ℕ, zero, suc, ◌≤◌, Bool, true, false, cond, nat_lt, Option, Some, None, List, [], ◌∷◌, ◌++◌, ◌⊎◌, inl, inr, refl, sym, ◌∙◌, ap, arith}
 use Rattle.std.proofs.lemmas.Bool.{ltb-false, le-ltb, true≢false}
 use Rattle.parse_rules.specs.Parsers.{Syntax, Unsupported, Deep, Answer, Read, Stopped, Parser, first, pure, refuse, skip, expect, branch, by_first, take_above, unsupported, ◌>>=◌, ◌>>◌}
-use Rattle.parse_rules.specs.Grammars.{Width, Wide, CanBegin, InBoth, IsToken, Any}
+use Rattle.parse_rules.specs.Grammars.{Language, Extended, CanBegin, InBoth, IsToken, Any}
 use Rattle.parse_rules.specs.Rules.{Instead, alike, nothing, Kept, Rule}
 use Rattle.parse_rules.proofs.Composition.{rule_like, rule_next, Starts, same, gone}
 
-module _ {T A : Type 0} {Valid : T → Type 0} {cut : Bool} {d : ℕ} {In : Width → A → List T → Type 0} {Low : A → Type 0} {Ends : A → List T → Type 0} {ts : List T} where
+module _ {T A : Type 0} {Valid : T → Type 0} {cut : Bool} {d : ℕ} {In : Language → A → List T → Type 0} {Low : A → Type 0} {Ends : A → List T → Type 0} {ts : List T} where
   -- a rule for a grammar keeps as much for a grammar that has all its parts, and for weaker claims
-  pub rule_weaker : {In' : Width → A → List T → Type 0} {Low' : A → Type 0} {Ends' : A → List T → Type 0} {p : ℕ → Parser T A} {moves : Bool}
-      → ((g : Width) (a : A) (s : List T) → In g a s → In' g a s) → ((a : A) → Low a → Low' a) → ((a : A) (rest : List T) → Ends a rest → Ends' a rest)
+  pub rule_weaker : {In' : Language → A → List T → Type 0} {Low' : A → Type 0} {Ends' : A → List T → Type 0} {p : ℕ → Parser T A} {moves : Bool}
+      → ((g : Language) (a : A) (s : List T) → In g a s → In' g a s) → ((a : A) → Low a → Low' a) → ((a : A) (rest : List T) → Ends a rest → Ends' a rest)
       → Rule Valid cut moves p d In Low Ends ts → Rule Valid cut moves p d In' Low' Ends' ts
   rule_weaker {In'} {Low'} {Ends'} {p} {moves} wider lower looser h = record { kept = by_answer (p d ts) h.kept }
     where
@@ -20,7 +20,7 @@ module _ {T A : Type 0} {Valid : T → Type 0} {cut : Bool} {d : ℕ} {In : Widt
       by_answer : (r : Answer T A) → Kept Valid cut moves p d In Low Ends ts r → Kept Valid cut moves p d In' Low' Ends' ts r
       by_answer (Read a rest) k = record { pre = k.pre; whole = k.whole; moved = k.moved; spells = λ g. wider g a k.pre (k.spells g); low = lower a k.low; ends = looser a rest k.ends; again = k.again }
       by_answer (Stopped Syntax rest) k = record { pre = k.pre; whole = k.whole; moved = k.moved; begins = both k.pre k.begins; again = k.again }
-      by_answer (Stopped Unsupported rest) k = record { pre = k.pre; token = k.token; post = k.post; place = k.place; whole = k.whole; begins = both k.pre k.begins; wider = record { part = k.wider.part; more = k.wider.more; valid = k.wider.valid; spells = wider Wide k.wider.part ((k.pre ++ k.token ∷ []) ++ k.wider.more) k.wider.spells }; again = k.again }
+      by_answer (Stopped Unsupported rest) k = record { pre = k.pre; token = k.token; post = k.post; place = k.place; whole = k.whole; begins = both k.pre k.begins; in_extended = record { part = k.in_extended.part; more = k.in_extended.more; valid = k.in_extended.valid; spells = wider Extended k.in_extended.part ((k.pre ++ k.token ∷ []) ++ k.in_extended.more) k.in_extended.spells }; again = k.again }
       by_answer (Stopped Deep rest) k = record { pre = k.pre; token = k.token; post = k.post; place = k.place; whole = k.whole; begins = both (k.pre ++ k.token ∷ []) k.begins; again = k.again }
 
 the_token : {T : Type 0} (t u : T) (s : List T) → IsToken (λ o. o ≡ Some t) u s → s ≡ t ∷ []
@@ -31,12 +31,12 @@ the_token t u s h =
 
 module _ {T A : Type 0} {Valid : T → Type 0} {cut : Bool} {d : ℕ} where
   -- what is given without reading is in the grammar with no tokens
-  pub rule_pure : {a : A} {In : Width → A → List T → Type 0} {Low : A → Type 0} {Ends : A → List T → Type 0} {ts : List T}
-      → ((g : Width) → In g a []) → Low a → Ends a ts → Rule Valid cut false (λ _. pure a) d In Low Ends ts
+  pub rule_pure : {a : A} {In : Language → A → List T → Type 0} {Low : A → Type 0} {Ends : A → List T → Type 0} {ts : List T}
+      → ((g : Language) → In g a []) → Low a → Ends a ts → Rule Valid cut false (λ _. pure a) d In Low Ends ts
   rule_pure {a} {In} {Low} {Ends} {ts} spells low ends = record { kept = record { pre = []; whole = refl; moved = λ h _. cc; spells = spells; low = low; ends = ends; again = λ d' rest' _ _. refl } }
 
   -- where the next token is refused, some part goes on from here
-  pub rule_refuse : {In : Width → A → List T → Type 0} {Low : A → Type 0} {Ends : A → List T → Type 0} {ts : List T}
+  pub rule_refuse : {In : Language → A → List T → Type 0} {Low : A → Type 0} {Ends : A → List T → Type 0} {ts : List T}
       → CanBegin Valid (InBoth In) [] → Rule Valid cut false (λ _. refuse) d In Low Ends ts
   rule_refuse {In} {Low} {Ends} {ts} begins = record { kept = record { pre = []; whole = refl; moved = λ h _. cc; begins = begins; again = λ d' rest' _ _. refl } }
 
@@ -63,7 +63,7 @@ module _ {T : Type 0} {Valid : T → Type 0} {cut : Bool} {d : ℕ} where
   rule_take_above {h} {P} {ts = []} here never = absurd (never here)
   rule_take_above {h} {P} {ts = t ∷ ts} here never = record { kept = by_room (nat_lt d h) refl }
     where
-      token : (g : Width) → IsToken P t (t ∷ [])
+      token : (g : Language) → IsToken P t (t ∷ [])
       token g = record { spelled = refl; passes = here }
 
       by_room : (b : Bool) → nat_lt d h ≡ b → Kept Valid cut true (λ d'. take_above d' h) d (λ _. IsToken P) (λ _. h ≤ d) Any (t ∷ ts) (cond b (Stopped Deep (t ∷ ts)) (Read t ts))
@@ -130,7 +130,7 @@ module _ {T : Type 0} {Valid : T → Type 0} {cut : Bool} {d : ℕ} where
       → Rule Valid cut false (λ _. expect test) d (λ _ _ s. s ≡ t ∷ []) (λ _. Unit {0}) Any ts
   rule_expect_the test t valid passes none only = rule_weaker (λ g u s h. h.spelled ∙ ap (λ x. x ∷ []) (only u h.passes)) (λ u low. low) (λ u rest ends. ends) (rule_expect test t valid passes none)
 
-module _ {T A B : Type 0} {Valid : T → Type 0} {cut moves more_moves : Bool} {d : ℕ} {U : Width → A → List T → Type 0} {LowU : A → Type 0} {In : Width → B → List T → Type 0} {Low : B → Type 0} {Ends : B → List T → Type 0} {p : ℕ → Parser T A} {ts : List T} where
+module _ {T A B : Type 0} {Valid : T → Type 0} {cut moves more_moves : Bool} {d : ℕ} {U : Language → A → List T → Type 0} {LowU : A → Type 0} {In : Language → B → List T → Type 0} {Low : B → Type 0} {Ends : B → List T → Type 0} {p : ℕ → Parser T A} {ts : List T} where
   -- one rule after another, where the second may rely on what follows a part of the first
   pub rule_bind_ends : {EndsU : A → List T → Type 0} {f : ℕ → A → Parser T B} → Rule Valid cut moves p d U LowU EndsU ts
       → ((a : A) → EndsU a [])
@@ -155,7 +155,7 @@ module _ {T A B : Type 0} {Valid : T → Type 0} {cut moves more_moves : Bool} {
       → Rule Valid cut moves (λ d'. p d' >> q d') d In Low Ends ts
   rule_seq {q} h continues = rule_seq_ends {q = q} h (λ _. tt) (λ a s rest _. continues a s rest)
 
-module _ {T A : Type 0} {Valid : T → Type 0} {cut : Bool} {d : ℕ} {In : Width → A → List T → Type 0} {Low : A → Type 0} {Ends : A → List T → Type 0} {ts : List T} where
+module _ {T A : Type 0} {Valid : T → Type 0} {cut : Bool} {d : ℕ} {In : Language → A → List T → Type 0} {Low : A → Type 0} {Ends : A → List T → Type 0} {ts : List T} where
   -- a rule that surely reads a token may be taken for one that may not
   pub rule_may_stay : {p : ℕ → Parser T A} {moves : Bool} → Rule Valid cut true p d In Low Ends ts → Rule Valid cut moves p d In Low Ends ts
   rule_may_stay {p} {moves} h = record { kept = by_answer (p d ts) h.kept }
@@ -163,7 +163,7 @@ module _ {T A : Type 0} {Valid : T → Type 0} {cut : Bool} {d : ℕ} {In : Widt
       by_answer : (r : Answer T A) → Kept Valid cut true p d In Low Ends ts r → Kept Valid cut moves p d In Low Ends ts r
       by_answer (Read a rest) k = record { pre = k.pre; whole = k.whole; moved = λ _. k.moved refl; spells = k.spells; low = k.low; ends = k.ends; again = k.again }
       by_answer (Stopped Syntax rest) k = record { pre = k.pre; whole = k.whole; moved = λ _. k.moved refl; begins = k.begins; again = k.again }
-      by_answer (Stopped Unsupported rest) k = record { pre = k.pre; token = k.token; post = k.post; place = k.place; whole = k.whole; begins = k.begins; wider = k.wider; again = k.again }
+      by_answer (Stopped Unsupported rest) k = record { pre = k.pre; token = k.token; post = k.post; place = k.place; whole = k.whole; begins = k.begins; in_extended = k.in_extended; again = k.again }
       by_answer (Stopped Deep rest) k = record { pre = k.pre; token = k.token; post = k.post; place = k.place; whole = k.whole; begins = k.begins; again = k.again }
 
   -- by a test of the next token: the rule for one that passes reads it
@@ -207,11 +207,11 @@ module _ {T A : Type 0} {Valid : T → Type 0} {cut : Bool} {d : ℕ} {In : Widt
       → Rule Valid cut moves (λ d'. p d' (tells None)) d In Low Ends ts → Rule Valid cut moves (λ d'. by_first tells (p d')) d In Low Ends ts
   rule_told_end tells p {moves} e h = rule_by_first tells p (inr e) (rw e h)
 
-  -- a rule that stops where the next token begins what isn't supported: some part goes on from there in the wide grammar
+  -- a rule that stops where the next token begins what isn't supported: some part of the extended language goes on
   pub rule_unsupported : (test : Option T → Bool) {p : ℕ → Parser T A} {moves : Bool}
       → test None ≡ false
       → (test (first ts) ≡ true → CanBegin Valid (InBoth In) [])
-      → ((t : T) → first ts ≡ Some t → test (Some t) ≡ true → CanBegin Valid (In Wide) (t ∷ []))
+      → ((t : T) → first ts ≡ Some t → test (Some t) ≡ true → CanBegin Valid (In Extended) (t ∷ []))
       → (test (first ts) ≡ false → Rule Valid cut moves p d In Low Ends ts)
       → Rule Valid cut moves (λ d'. unsupported test (p d')) d In Low Ends ts
   rule_unsupported test {p} {moves} none begins wider fails = by_test (test (first ts)) refl
@@ -225,7 +225,7 @@ module _ {T A : Type 0} {Valid : T → Type 0} {cut : Bool} {d : ℕ} {In : Widt
         place = sym here;
         whole = sym here;
         begins = begins (rw (← here) e);
-        wider = wider t (rw (← here) refl) e;
+        in_extended = wider t (rw (← here) refl) e;
         again = λ d' post' _. rw e;
       }
 
@@ -248,10 +248,10 @@ module _ {T A : Type 0} {Valid : T → Type 0} {cut : Bool} {d : ℕ} {In : Widt
       by_answer : (r : Answer T A) → Kept Valid cut moves (λ d'. p (suc d')) d In Low Ends ts r → Kept Valid cut moves p (suc d) In Low Ends ts r
       by_answer (Read a rest) k = record { pre = k.pre; whole = k.whole; moved = k.moved; spells = k.spells; low = k.low; ends = k.ends; again = λ d' rest' le near. above (Read a rest') (k.pre ++ rest') (λ d'' le'. k.again d'' rest' le' near) d' le }
       by_answer (Stopped Syntax rest) k = record { pre = k.pre; whole = k.whole; moved = k.moved; begins = k.begins; again = λ d' rest' le near. above (Stopped Syntax rest') (k.pre ++ rest') (λ d'' le'. k.again d'' rest' le' near) d' le }
-      by_answer (Stopped Unsupported rest) k = record { pre = k.pre; token = k.token; post = k.post; place = k.place; whole = k.whole; begins = k.begins; wider = k.wider; again = λ d' post' le. above (Stopped Unsupported (k.token ∷ post')) (k.pre ++ k.token ∷ post') (λ d'' le'. k.again d'' post' le') d' le }
+      by_answer (Stopped Unsupported rest) k = record { pre = k.pre; token = k.token; post = k.post; place = k.place; whole = k.whole; begins = k.begins; in_extended = k.in_extended; again = λ d' post' le. above (Stopped Unsupported (k.token ∷ post')) (k.pre ++ k.token ∷ post') (λ d'' le'. k.again d'' post' le') d' le }
       by_answer (Stopped Deep rest) k = record { pre = k.pre; token = k.token; post = k.post; place = k.place; whole = k.whole; begins = k.begins; again = k.again }
 
-module _ {T A : Type 0} {Valid : T → Type 0} {cut : Bool} {In : Width → A → List T → Type 0} {Low : A → Type 0} {Ends : A → List T → Type 0} {ts : List T} where
+module _ {T A : Type 0} {Valid : T → Type 0} {cut : Bool} {In : Language → A → List T → Type 0} {Low : A → Type 0} {Ends : A → List T → Type 0} {ts : List T} where
   -- where no node is allowed below, a token that begins a part is too deep and any other is refused
   pub rule_shallow : (begins : Option T → Bool) {p : ℕ → Parser T A} {moves : Bool}
       → begins None ≡ false
@@ -291,8 +291,17 @@ module _ {T A : Type 0} {Valid : T → Type 0} {cut : Bool} {In : Width → A �
         });
       }
 
+-- the next token is known to be the expected one
+pub rule_expect_here : {T : Type 0} {Valid : T → Type 0} {cut : Bool} {d : ℕ} (test : Option T → Bool) {ts : List T} (t : T) → first ts ≡ Some t → test (Some t) ≡ true
+    → Rule Valid cut true (λ _. expect test) d (λ _ _ s. s ≡ t ∷ []) (λ _. Unit {0}) Any ts
+rule_expect_here {T} test {ts} t here passes = rule_like (λ _. expect test) (λ _. skip) (λ d' ts' _ start. alike_skip ts' start) (rule_skip_the t here)
+  where
+    alike_skip : (ts' : List T) → Starts true ts ts' → expect test ts' ≡ skip ts'
+    alike_skip ts' (same h) = rw (ap test (h ∙ here) ∙ passes)
+    alike_skip ts' (gone h _) = cc
+
 -- a rule that bears to be cut off may be taken for one that doesn't
-pub rule_uncut : {T A : Type 0} {Valid : T → Type 0} {cut moves : Bool} {p : ℕ → Parser T A} {d : ℕ} {In : Width → A → List T → Type 0} {Low : A → Type 0} {Ends : A → List T → Type 0} {ts : List T}
+pub rule_uncut : {T A : Type 0} {Valid : T → Type 0} {cut moves : Bool} {p : ℕ → Parser T A} {d : ℕ} {In : Language → A → List T → Type 0} {Low : A → Type 0} {Ends : A → List T → Type 0} {ts : List T}
     → Rule Valid true moves p d In Low Ends ts → Rule Valid cut moves p d In Low Ends ts
 rule_uncut {T} {A} {Valid} {cut} {moves} {p} {d} {In} {Low} {Ends} {ts} h = record { kept = by_answer (p d ts) h.kept }
   where
@@ -303,5 +312,5 @@ rule_uncut {T} {A} {Valid} {cut} {moves} {p} {d} {In} {Low} {Ends} {ts} h = reco
     by_answer : (r : Answer T A) → Kept Valid true moves p d In Low Ends ts r → Kept Valid cut moves p d In Low Ends ts r
     by_answer (Read a rest) k = record { pre = k.pre; whole = k.whole; moved = k.moved; spells = k.spells; low = k.low; ends = k.ends; again = λ d' rest' le n. k.again d' rest' le (near rest rest' n) }
     by_answer (Stopped Syntax rest) k = record { pre = k.pre; whole = k.whole; moved = k.moved; begins = k.begins; again = λ d' rest' le n. k.again d' rest' le (near rest rest' n) }
-    by_answer (Stopped Unsupported rest) k = record { pre = k.pre; token = k.token; post = k.post; place = k.place; whole = k.whole; begins = k.begins; wider = k.wider; again = k.again }
+    by_answer (Stopped Unsupported rest) k = record { pre = k.pre; token = k.token; post = k.post; place = k.place; whole = k.whole; begins = k.begins; in_extended = k.in_extended; again = k.again }
     by_answer (Stopped Deep rest) k = record { pre = k.pre; token = k.token; post = k.post; place = k.place; whole = k.whole; begins = k.begins; again = k.again }

@@ -1,10 +1,10 @@
 -- Each way to build a rule keeps what its parts keep.
 use Rattle.std.proofs.Common.{◌≡◌, ℕ, ◌≤◌, Bool, true, false, List, [], ◌∷◌, ◌++◌, refl, sym, ◌∙◌, ap, subst, append_assoc, append-nil, arith}
 use Rattle.parse_rules.specs.Parsers.{Syntax, Unsupported, Deep, Answer, Read, Stopped, Parser, first, next}
-use Rattle.parse_rules.specs.Grammars.{Width, Wide, Each, CanBegin, InBoth}
+use Rattle.parse_rules.specs.Grammars.{Language, Extended, Each, CanBegin, InBoth}
 use Rattle.parse_rules.specs.Rules.{Instead, alike, nothing, Reads, Kept, Rule}
 
-each_append : {X : Type 0} (P : X → Type 0) (xs ys : List X) → Each P xs → Each P ys → Each P (xs ++ ys)
+pub each_append : {X : Type 0} (P : X → Type 0) (xs ys : List X) → Each P xs → Each P ys → Each P (xs ++ ys)
 each_append P [] ys a b = b
 each_append P (x ∷ xs) ys a b = (a.0, each_append P xs ys a.1 b)
 
@@ -38,7 +38,7 @@ starts : {T : Type 0} {cut : Bool} (moves : Bool) (pre rest rest' : List T) → 
 starts moves pre rest rest' moved (alike e) = starts_alike pre rest rest' e
 starts moves pre rest rest' moved (nothing _ e) = rw e (starts_cut moves pre rest moved)
 
-module _ {T A : Type 0} {Valid : T → Type 0} {cut moves : Bool} {d : ℕ} {In : Width → A → List T → Type 0} {Low : A → Type 0} {Ends : A → List T → Type 0} {ts : List T} where
+module _ {T A : Type 0} {Valid : T → Type 0} {cut moves : Bool} {d : ℕ} {In : Language → A → List T → Type 0} {Low : A → Type 0} {Ends : A → List T → Type 0} {ts : List T} where
   -- two rules that answer alike wherever the list starts alike keep the same
   pub rule_like : (q p : ℕ → Parser T A) → ((d' : ℕ) (ts' : List T) → d ≤ d' → Starts moves ts ts' → q d' ts' ≡ p d' ts')
       → Rule Valid cut moves p d In Low Ends ts → Rule Valid cut moves q d In Low Ends ts
@@ -68,7 +68,7 @@ module _ {T A : Type 0} {Valid : T → Type 0} {cut moves : Bool} {d : ℕ} {In 
         place = k.place;
         whole = k.whole;
         begins = k.begins;
-        wider = k.wider;
+        in_extended = k.in_extended;
         again = λ d' post' le. unroll d' (k.pre ++ k.token ∷ post') le (rw k.whole (starts_alike k.pre (k.token ∷ k.post) (k.token ∷ post') refl)) ∙ k.again d' post' le;
       }
       by_answer (Stopped Deep rest) k = record {
@@ -91,20 +91,20 @@ pub data After {T : Type 0} (moves : Bool) (ts s rest : List T) : Type 0 where
   rests : ts ≡ s ++ rest → (moves ≡ true → s ≡ [] → ⊥) → After moves ts s rest
   over : rest ≡ [] → After moves ts s rest
 
-module _ (T A B : Type 0) (Valid : T → Type 0) (cut moves more_moves : Bool) (d : ℕ) (U : Width → A → List T → Type 0) (LowU : A → Type 0) (Ends : A → List T → Type 0) (In : Width → B → List T → Type 0) (Low : B → Type 0) (EndsB : B → List T → Type 0) (ts : List T) where
+module _ (T A B : Type 0) (Valid : T → Type 0) (cut moves more_moves : Bool) (d : ℕ) (U : Language → A → List T → Type 0) (LowU : A → Type 0) (Ends : A → List T → Type 0) (In : Language → B → List T → Type 0) (Low : B → Type 0) (EndsB : B → List T → Type 0) (ts : List T) where
   -- what the second of two rules keeps, where the first has read a as s
   abbrev pub Continues : (List T → ℕ → A → Parser T B) → A → (s rest : List T) → Type 0
   Continues f a s rest = Rule Valid cut more_moves (λ d' rest'. f (s ++ rest') d' a rest') d (λ g b s'. U g a s → In g b (s ++ s')) (λ b. LowU a → Low b) EndsB rest
 
   -- A part of the first that was completed is completed to a part of both: the second, before no tokens, shows how.
-  -- This is so in each of the widths that Q names.
-  finish : (Q : Width → Type 0) (f : List T → ℕ → A → Parser T B)
+  -- This is so in each of the languages that Q names.
+  finish : (Q : Language → Type 0) (f : List T → ℕ → A → Parser T B)
       → ((a : A) (s rest : List T) → Ends a rest → After moves ts s rest → Continues f a s rest) → ((a : A) → Ends a [])
-      → (pre : List T) → CanBegin Valid (λ a s. (g : Width) → Q g → U g a s) pre → CanBegin Valid (λ b s. (g : Width) → Q g → In g b s) pre
+      → (pre : List T) → CanBegin Valid (λ a s. (g : Language) → Q g → U g a s) pre → CanBegin Valid (λ b s. (g : Language) → Q g → In g b s) pre
   finish Q f continues at_end pre c = by_answer (f ((pre ++ c.more) ++ []) d c.part []) (continues c.part (pre ++ c.more) [] (at_end c.part) (over refl)).kept
     where
       by_answer : (r : Answer T B) → Kept Valid cut more_moves (λ d' rest'. f ((pre ++ c.more) ++ rest') d' c.part rest') d (λ g b s'. U g c.part (pre ++ c.more) → In g b ((pre ++ c.more) ++ s')) (λ b. LowU c.part → Low b) EndsB [] r
-          → CanBegin Valid (λ b s. (g : Width) → Q g → In g b s) pre
+          → CanBegin Valid (λ b s. (g : Language) → Q g → In g b s) pre
       by_answer (Read b rest) k = record {
         part = b;
         more = c.more;
@@ -124,22 +124,22 @@ module _ (T A B : Type 0) (Valid : T → Type 0) (cut moves more_moves : Bool) (
       → ((a : A) (s rest : List T) → Ends a rest → After moves ts s rest → Continues f a s rest) → ((a : A) → Ends a [])
       → (pre : List T) → CanBegin Valid (InBoth U) pre → CanBegin Valid (InBoth In) pre
   finish_both f continues at_end pre c =
-      let w : CanBegin Valid (λ b s. (g : Width) → Unit {0} → In g b s) pre = finish (λ _. Unit {0}) f continues at_end pre (record { part = c.part; more = c.more; valid = c.valid; spells = λ g _. c.spells g }) in
+      let w : CanBegin Valid (λ b s. (g : Language) → Unit {0} → In g b s) pre = finish (λ _. Unit {0}) f continues at_end pre (record { part = c.part; more = c.more; valid = c.valid; spells = λ g _. c.spells g }) in
       record { part = w.part; more = w.more; valid = w.valid; spells = λ g. w.spells g tt }
 
-  finish_wide : (f : List T → ℕ → A → Parser T B)
+  finish_extended : (f : List T → ℕ → A → Parser T B)
       → ((a : A) (s rest : List T) → Ends a rest → After moves ts s rest → Continues f a s rest) → ((a : A) → Ends a [])
-      → (pre : List T) → CanBegin Valid (U Wide) pre → CanBegin Valid (In Wide) pre
-  finish_wide f continues at_end pre c =
-      let w : CanBegin Valid (λ b s. (g : Width) → g ≡ Wide → In g b s) pre = finish (λ g. g ≡ Wide) f continues at_end pre (record { part = c.part; more = c.more; valid = c.valid; spells = λ g e. subst (λ h. U h c.part (pre ++ c.more)) (sym e) c.spells }) in
-      record { part = w.part; more = w.more; valid = w.valid; spells = w.spells Wide refl }
+      → (pre : List T) → CanBegin Valid (U Extended) pre → CanBegin Valid (In Extended) pre
+  finish_extended f continues at_end pre c =
+      let w : CanBegin Valid (λ b s. (g : Language) → g ≡ Extended → In g b s) pre = finish (λ g. g ≡ Extended) f continues at_end pre (record { part = c.part; more = c.more; valid = c.valid; spells = λ g e. subst (λ h. U h c.part (pre ++ c.more)) (sym e) c.spells }) in
+      record { part = w.part; more = w.more; valid = w.valid; spells = w.spells Extended refl }
 
   -- a part that the second begins, after the first has read a as s, begins a part of both
   after_both : (a : A) (s pre : List T) → InBoth U a s → CanBegin Valid (InBoth (λ g b s'. U g a s → In g b (s ++ s'))) pre → CanBegin Valid (InBoth In) (s ++ pre)
   after_both a s pre u c = record { part = c.part; more = c.more; valid = c.valid; spells = λ g. subst (λ x. In g c.part x) (sym (append_assoc s pre c.more)) (c.spells g (u g)) }
 
-  after_wide : (a : A) (s pre : List T) → InBoth U a s → CanBegin Valid (λ b s'. U Wide a s → In Wide b (s ++ s')) pre → CanBegin Valid (In Wide) (s ++ pre)
-  after_wide a s pre u c = record { part = c.part; more = c.more; valid = c.valid; spells = subst (λ x. In Wide c.part x) (sym (append_assoc s pre c.more)) (c.spells (u Wide)) }
+  after_extended : (a : A) (s pre : List T) → InBoth U a s → CanBegin Valid (λ b s'. U Extended a s → In Extended b (s ++ s')) pre → CanBegin Valid (In Extended) (s ++ pre)
+  after_extended a s pre u c = record { part = c.part; more = c.more; valid = c.valid; spells = subst (λ x. In Extended c.part x) (sym (append_assoc s pre c.more)) (c.spells (u Extended)) }
 
   -- one rule after another, where the second may depend on the whole list
   pub rule_next : (p : ℕ → Parser T A) (f : List T → ℕ → A → Parser T B)
@@ -173,7 +173,7 @@ module _ (T A B : Type 0) (Valid : T → Type 0) (cut moves more_moves : Bool) (
         place = l.place;
         whole = k.whole ∙ (ap (λ x. k.pre ++ x) l.whole ∙ sym (append_assoc k.pre l.pre (l.token ∷ l.post)));
         begins = after_both a k.pre l.pre k.spells l.begins;
-        wider = subst (λ x. CanBegin Valid (In Wide) x) (sym (append_assoc k.pre l.pre (l.token ∷ []))) (after_wide a k.pre (l.pre ++ l.token ∷ []) k.spells l.wider);
+        in_extended = subst (λ x. CanBegin Valid (In Extended) x) (sym (append_assoc k.pre l.pre (l.token ∷ []))) (after_extended a k.pre (l.pre ++ l.token ∷ []) k.spells l.in_extended);
         again = λ d' post' le. rw (append_assoc k.pre l.pre (l.token ∷ post')) (ap (λ r. next r (f (k.pre ++ (l.pre ++ l.token ∷ post')) d')) (k.again d' (l.pre ++ l.token ∷ post') le (subst (λ x. Instead cut x (l.pre ++ l.token ∷ post')) (sym l.whole) (alike (first_same l.pre (l.token ∷ l.post) (l.token ∷ post') refl)))) ∙ l.again d' post' le);
       }
       second_answer a rest k (Stopped Deep rest2) l = record {
@@ -202,7 +202,7 @@ module _ (T A B : Type 0) (Valid : T → Type 0) (cut moves more_moves : Bool) (
         place = k.place;
         whole = k.whole;
         begins = finish_both f continues at_end k.pre k.begins;
-        wider = finish_wide f continues at_end (k.pre ++ k.token ∷ []) k.wider;
+        in_extended = finish_extended f continues at_end (k.pre ++ k.token ∷ []) k.in_extended;
         again = λ d' post' le. ap (λ r. next r (f (k.pre ++ k.token ∷ post') d')) (k.again d' post' le);
       }
       first_answer (Stopped Deep rest) k = record {

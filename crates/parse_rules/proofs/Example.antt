@@ -1,118 +1,16 @@
--- A small grammar as an example: sums of digits with parentheses, of which an empty pair isn't supported.
-use Rattle.std.proofs.Common.{◌≡◌, ℕ, zero, suc, ◌≤◌, max, Bool, true, false, Option, Some, None, List, [], ◌∷◌, ◌++◌, refl, subst, append_assoc, append-nil, arith}
-use Rattle.parse_rules.specs.Parsers.{Parser, Read, Stopped, Syntax, first, pure, refuse, skip, expect, by_first, take_above, too_deep, unsupported, loop, ◌>>=◌, ◌>>◌}
-use Rattle.parse_rules.specs.Grammars.{Width, Narrow, Wide, CanBegin, InBoth, Any}
+-- The laws of the small grammar: what its rules keep, that each part is read, and the promise of each answer.
+use Rattle.std.proofs.Common.{◌≡◌, ℕ, zero, suc, ◌≤◌, true, false, Option, Some, None, List, [], ◌∷◌, ◌++◌, refl, subst, append_assoc, append-nil, arith}
+use Rattle.parse_rules.specs.Parsers.{Parser, Read, Stopped, Syntax, first, by_first, loop}
+use Rattle.parse_rules.specs.Grammars.{Language, Supported, CanBegin, InBoth, Any}
 use Rattle.parse_rules.specs.Rules.{Rule}
 use Rattle.parse_rules.specs.Promises.{Answered}
 use Rattle.parse_rules.proofs.Combinators.{rule_pure, rule_refuse, rule_bind, rule_seq, rule_told, rule_told_end, rule_unsupported, rule_shallow, rule_deeper, rule_weaker, rule_skip_the, rule_take_above_the, rule_expect_the}
 use Rattle.parse_rules.proofs.Loops.{Steps, rule_loop}
 use Rattle.parse_rules.proofs.Completeness.{LeadsTo, equal, breaks, ◌▷◌, leads_next, leads_fails, leads_take_above, leads_loop, leads_loop_stops}
 use Rattle.parse_rules.proofs.Promises.{one_part, answers}
-
--- The grammar: only what writes.
-
-pub data Token : Type 0 where
-  Number : ℕ → Token
-  Plus Open Close : Token
-
--- an empty pair of parentheses isn't supported: it is in the wide grammar alone
-pub data Sum : Type 0 where
-  Digit : ℕ → Sum
-  Paren : Sum → Sum
-  Add : Sum → Sum → Sum
-  Empty : Sum
-
-abbrev pub spell : Sum → List Token
-spell (Digit n) = Number n ∷ []
-spell (Paren e) = Open ∷ (spell e ++ Close ∷ [])
-spell (Add a b) = spell a ++ Plus ∷ spell b
-spell Empty = Open ∷ Close ∷ []
-
-abbrev pub height : Sum → ℕ
-height (Digit n) = 1
-height (Paren e) = suc (height e)
-height (Add a b) = suc (max (height a) (height b))
-height Empty = 1
-
-pub data Level : Type 0 where
-  Sums Operands : Level
-
--- a sum is no operand
-abbrev pub Fits : Level → Sum → Type 0
-Fits Operands (Add a b) = ⊥
-Fits level e = Unit {0}
-
-abbrev pub Within : Width → Sum → Type 0
-Within g (Digit n) = Unit {0}
-Within g (Paren e) = Within g e
-Within g (Add a b) = Within g a × Within g b × Fits Operands b
-Within g Empty = g ≡ Wide
-
-pub record In (level : Level) (g : Width) (e : Sum) (s : List Token) : Type 0 where
-  pub within : Within g e
-  pub fits : Fits level e
-  pub spelled : s ≡ spell e
-
--- The rules.
-
-pub data Kind : Type 0 where
-  ANumber : ℕ → Kind
-  AnOpen Other : Kind
-
-abbrev pub kind : Option Token → Kind
-kind (Some (Number n)) = ANumber n
-kind (Some Open) = AnOpen
-kind _ = Other
-
-abbrev pub is_plus : Option Token → Bool
-is_plus (Some Plus) = true
-is_plus _ = false
-
-abbrev pub is_close : Option Token → Bool
-is_close (Some Close) = true
-is_close _ = false
-
-abbrev pub begins : Option Token → Bool
-begins (Some (Number n)) = true
-begins (Some Open) = true
-begins _ = false
-
-unfoldable pub leaf : (Level → Parser Token Sum) → Kind → Parser Token Sum
-leaf inner (ANumber n) = do
-  skip
-  pure (Digit n)
-leaf inner AnOpen = do
-  skip
-  unsupported is_close do
-    e ← inner Sums
-    expect is_close
-    pure (Paren e)
-leaf inner Other = refuse
-
-unfoldable pub operand : (Level → Parser Token Sum) → Parser Token Sum
-operand inner = by_first kind (leaf inner)
-
-unfoldable pub more : ℕ → (Level → Parser Token Sum) → Sum → Parser Token Sum
-more d inner left = do
-  take_above d (height left)
-  right ← inner Operands
-  pure (Add left right)
-
-unfoldable pub layer : ℕ → (Level → Parser Token Sum) → Level → Parser Token Sum
-layer d inner Operands = operand inner
-layer d inner Sums = do
-  e ← operand inner
-  loop (λ _. is_plus) (more d inner) e
-
--- each layer is a node
-unfoldable pub sum : ℕ → Level → Parser Token Sum
-sum zero level = too_deep begins
-sum (suc d) level = layer d (sum d) level
+use Rattle.parse_rules.specs.Example.{Token, Number, Plus, Open, Close, Sum, Digit, Paren, Add, Empty, spell, height, Level, Sums, Operands, Fits, Within, In, Kind, ANumber, AnOpen, Other, kind, is_plus, is_close, begins, leaf, operand, more, layer, sum, Valid}
 
 -- What the rules keep: a call for each line.
-
-abbrev pub Valid : Token → Type 0
-Valid t = Unit {0}
 
 abbrev pub Keeps : (d : ℕ) (p : ℕ → Parser Token Sum) → Level → (height_allowed : ℕ) → List Token → Type 0
 Keeps d p level n ts = Rule Valid true false p d (In level) (λ e. height e ≤ n) Any ts
@@ -159,7 +57,7 @@ keeps_leaf d inner ts AnOpen e =
     (rule_seq (rule_skip_the Open (open_here (first ts) e)) (λ t s1 r1.
     rule_unsupported is_close refl
     (λ _. record { part = Paren (Digit 0); more = Number 0 ∷ Close ∷ []; valid = (tt, (tt, tt)); spells = λ g opens. record { within = tt; fits = tt; spelled = rw opens refl } })
-    (λ c _ closes. record { part = Empty; more = []; valid = tt; spells = λ opens. record { within = refl; fits = tt; spelled = rw (opens, close_only c closes) refl } })
+    (λ c _ closes. record { part = Empty; more = []; valid = tt; spells = λ opens. record { within = tt; fits = tt; spelled = rw (opens, close_only c closes) refl } })
     (λ _. rule_bind (inner Sums r1) (λ b s2 r2.
     rule_seq (rule_expect_the is_close Close tt refl refl close_only) (λ c s3 r3.
     rule_pure (λ g close body opens. record { within = body.within; fits = tt; spelled = rw (opens, body.spelled, close) }) (λ _ low _. omega arith) tt)))))
@@ -215,14 +113,14 @@ keeps (suc d) level ts = rule_deeper (keeps_layer d (keeps d) level ts)
 
 -- The spelling of each part leads to it.
 
-pub record Reading (g : Width) (e : Sum) : Type 0 where
+pub record Reading (g : Language) (e : Sum) : Type 0 where
   -- an operand is read by the rule for operands
   pub as_operand : (d : ℕ) (rest : List Token) → Fits Operands e → height e ≤ suc d → LeadsTo g (operand (sum d) (spell e ++ rest)) (Read e rest)
   -- a sum leads to the loop that goes on with it
   pub as_sum : (d : ℕ) (rest : List Token) → height e ≤ suc d → LeadsTo g (layer d (sum d) Sums (spell e ++ rest)) (loop (λ _. is_plus) (more d (sum d)) e rest)
 
 -- an operand as the first of a sum
-first_operand : (g : Width) (e : Sum) → Fits Operands e → ((d : ℕ) (rest : List Token) → Fits Operands e → height e ≤ suc d → LeadsTo g (operand (sum d) (spell e ++ rest)) (Read e rest)) → Reading g e
+first_operand : (g : Language) (e : Sum) → Fits Operands e → ((d : ℕ) (rest : List Token) → Fits Operands e → height e ≤ suc d → LeadsTo g (operand (sum d) (spell e ++ rest)) (Read e rest)) → Reading g e
 unfolding layer
 first_operand g e fits h = record { as_operand = h; as_sum = λ d rest low. leads_next _ (h d rest fits low) (equal refl) }
 
@@ -233,12 +131,12 @@ high (Add a b) = omega arith
 high Empty = omega arith
 
 -- a whole sum or operand, one node further down
-reads_sum : (g : Width) (e : Sum) → Reading g e → (d : ℕ) (rest : List Token) → height e ≤ d → is_plus (first rest) ≡ false → LeadsTo g (sum d Sums (spell e ++ rest)) (Read e rest)
+reads_sum : (g : Language) (e : Sum) → Reading g e → (d : ℕ) (rest : List Token) → height e ≤ d → is_plus (first rest) ≡ false → LeadsTo g (sum d Sums (spell e ++ rest)) (Read e rest)
 unfolding sum
 reads_sum g e h zero rest low ends = absurd (omega (arith, high e))
 reads_sum g e h (suc d) rest low ends = h.as_sum d rest low ▷ leads_loop_stops (λ _. is_plus) (more d (sum d)) e rest ends
 
-reads_operand : (g : Width) (e : Sum) → Reading g e → (d : ℕ) (rest : List Token) → Fits Operands e → height e ≤ d → LeadsTo g (sum d Operands (spell e ++ rest)) (Read e rest)
+reads_operand : (g : Language) (e : Sum) → Reading g e → (d : ℕ) (rest : List Token) → Fits Operands e → height e ≤ d → LeadsTo g (sum d Operands (spell e ++ rest)) (Read e rest)
 unfolding sum layer
 reads_operand g e h zero rest fits low = absurd (omega (arith, high e))
 reads_operand g e h (suc d) rest fits low = h.as_operand d rest fits low
@@ -250,7 +148,7 @@ not_close (Paren e) rest = refl
 not_close (Add a b) rest = rw (append_assoc (spell a) (Plus ∷ spell b) rest) (not_close a (Plus ∷ (spell b ++ rest)))
 not_close Empty rest = refl
 
-reads : (g : Width) (e : Sum) → Within g e → Reading g e
+reads : (g : Language) (e : Sum) → Within g e → Reading g e
 unfolding operand leaf more
 reads g (Digit n) within = first_operand g (Digit n) tt (λ d rest fits low. equal refl)
 reads g (Paren e) within = first_operand g (Paren e) tt (λ d rest fits low. rw (append_assoc (spell e) (Close ∷ []) rest)
@@ -266,10 +164,10 @@ reads g Empty within = first_operand g Empty tt (λ d rest fits low. breaks with
 
 -- No two sums spell the same tokens, and each answer of the parser means what it should.
 
-all_read : (g : Width) (e : Sum) (s : List Token) (d : ℕ) → In Sums g e s → height e ≤ d → LeadsTo g (sum d Sums s) (Read e [])
+all_read : (g : Language) (e : Sum) (s : List Token) (d : ℕ) → In Sums g e s → height e ≤ d → LeadsTo g (sum d Sums s) (Read e [])
 all_read g e s d h low = rw (h.spelled) (subst (λ x. LeadsTo g (sum d Sums x) (Read e [])) (append-nil (spell e)) (reads_sum g e (reads g e h.within) d [] low refl))
 
-pub one_sum : (a b : Sum) (s : List Token) → In Sums Narrow a s → In Sums Narrow b s → a ≡ b
+pub one_sum : (a b : Sum) (s : List Token) → In Sums Supported a s → In Sums Supported b s → a ≡ b
 one_sum = one_part (λ d. sum d Sums) (In Sums) height (λ d. keeps d Sums) all_read
 
 pub sums_answer : (d : ℕ) (ts : List Token) → Answered Valid (In Sums) height d ts (sum d Sums ts)

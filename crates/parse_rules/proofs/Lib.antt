@@ -3,4 +3,5 @@ pub mod Combinators
 pub mod Loops
 pub mod Completeness
 pub mod Promises
-mod Example
+pub mod OneAnswer
+pub mod Example

@@ -1,7 +1,7 @@
 -- Loops keep what their steps keep, and a loop can be unrolled.
 use Rattle.std.proofs.Common.{◌≡◌, ℕ, zero, suc, pred, ◌<◌, ◌≤◌, Bool, true, false, Option, None, List, [], ◌∷◌, ◌++◌, length, refl, sym, ◌∙◌, ap, subst, append_assoc, append-nil, length-append, true≢false, arith}
 use Rattle.parse_rules.specs.Parsers.{Reason, Answer, Read, Stopped, Parser, first, next, pure, repeat, loop}
-use Rattle.parse_rules.specs.Grammars.{Width}
+use Rattle.parse_rules.specs.Grammars.{Language}
 use Rattle.parse_rules.specs.Rules.{Reads, Kept, Rule}
 use Rattle.parse_rules.proofs.Composition.{rule_like, rule_next, Starts, same, gone, After, rests, over}
 use Rattle.parse_rules.proofs.Combinators.{rule_pure, rule_may_stay, rule_weaker}
@@ -25,14 +25,14 @@ some_length (t ∷ s) h = omega arith
 
 -- What the step of a loop promises: from a part that was read as s, where the next token goes on, it reads a token at
 -- least, and what it reads is once more a part, which spells the tokens of both.
-module _ {T A : Type 0} (Valid : T → Type 0) (cut : Bool) (d : ℕ) (goes_on : A → Option T → Bool) (step : ℕ → A → Parser T A) (In : Width → A → List T → Type 0) (Low : A → Type 0) (Ends : A → List T → Type 0) where
+module _ {T A : Type 0} (Valid : T → Type 0) (cut : Bool) (d : ℕ) (goes_on : A → Option T → Bool) (step : ℕ → A → Parser T A) (In : Language → A → List T → Type 0) (Low : A → Type 0) (Ends : A → List T → Type 0) where
   pub record Steps : Type 0 where
     pub never : (a : A) → goes_on a None ≡ false
     pub at_end : (a : A) → Ends a []
     pub steps : (a : A) (s rest : List T) → Ends a rest → goes_on a (first rest) ≡ true
         → Rule Valid cut true (λ d'. step d' a) d (λ g b s'. In g a s → In g b (s ++ s')) (λ b. Low a → Low b) Ends rest
 
-module _ {T A : Type 0} {Valid : T → Type 0} {cut : Bool} {d : ℕ} {goes_on : A → Option T → Bool} {step : ℕ → A → Parser T A} {In : Width → A → List T → Type 0} {Low : A → Type 0} {Ends : A → List T → Type 0} (h : Steps Valid cut d goes_on step In Low Ends) where
+module _ {T A : Type 0} {Valid : T → Type 0} {cut : Bool} {d : ℕ} {goes_on : A → Option T → Bool} {step : ℕ → A → Parser T A} {In : Language → A → List T → Type 0} {Low : A → Type 0} {Ends : A → List T → Type 0} (h : Steps Valid cut d goes_on step In Low Ends) where
   -- with fuel for each list, as long as it is enough for those that matter
   stopped : (F : List T → ℕ) (a : A) (s ts : List T) → Ends a ts → goes_on a (first ts) ≡ false
       → Rule Valid cut false (λ d' ts'. repeat (F ts') goes_on (step d') a ts') d (λ g b s'. In g a s → In g b (s ++ s')) (λ b. Low a → Low b) (λ b rest. Ends b rest × (goes_on b (first rest) ≡ false)) ts
@@ -48,16 +48,20 @@ module _ {T A : Type 0} {Valid : T → Type 0} {cut : Bool} {d : ℕ} {goes_on :
   some_left a [] e = absurd (true≢false (sym e ∙ h.never a))
   some_left a (t ∷ ts) e = omega arith
 
+  -- What the first step keeps, where the loop begins with what may not yet be a part of the grammar.
+  abbrev pub First : A → List T → (Start : Language → Type 0) → (LowStart : Type 0) → List T → Type 0
+  First a s Start LowStart ts = Rule Valid cut true (λ d'. step d' a) d (λ g b s'. Start g → In g b (s ++ s')) (λ b. LowStart → Low b) Ends ts
+
   -- one round and then the rest of the loop, which keeps what `inner` says where it reads fewer tokens
-  round : (n : ℕ) (F : List T → ℕ) → ((ts' : List T) → length ts' ≤ F ts') → (a : A) (s ts : List T) → length ts ≤ suc n → Ends a ts → goes_on a (first ts) ≡ true
+  round : (Start : Language → Type 0) (LowStart : Type 0) (n : ℕ) (F : List T → ℕ) → ((ts' : List T) → length ts' ≤ F ts') → (a : A) (s ts : List T) → length ts ≤ suc n → goes_on a (first ts) ≡ true → First a s Start LowStart ts
       → ((F' : List T → ℕ) → ((ts' : List T) → length ts' ≤ F' ts') → (b : A) (s' rest : List T) → length rest ≤ n → Ends b rest
       → Rule Valid cut false (λ d' ts'. repeat (F' ts') goes_on (step d') b ts') d (λ g c s''. In g b s' → In g c (s' ++ s'')) (λ c. Low b → Low c) (λ c rest'. Ends c rest' × (goes_on c (first rest') ≡ false)) rest)
-      → Rule Valid cut true (λ d' ts'. repeat (F ts') goes_on (step d') a ts') d (λ g b s'. In g a s → In g b (s ++ s')) (λ b. Low a → Low b) (λ b rest. Ends b rest × (goes_on b (first rest) ≡ false)) ts
-  round n F enough a s ts short ends e inner =
+      → Rule Valid cut true (λ d' ts'. repeat (F ts') goes_on (step d') a ts') d (λ g b s'. Start g → In g b (s ++ s')) (λ b. LowStart → Low b) (λ b rest. Ends b rest × (goes_on b (first rest) ≡ false)) ts
+  round Start LowStart n F enough a s ts short e begins inner =
       rule_like (λ d' ts'. repeat (F ts') goes_on (step d') a ts') (λ d' ts'. next (step d' a ts') (repeat (pred (F ts')) goes_on (step d'))) (λ d' ts' _ start. unroll d' ts' start)
-      (rule_next T A A Valid cut true false d (λ g b s'. In g a s → In g b (s ++ s')) (λ b. Low a → Low b) Ends
-      (λ g b s'. In g a s → In g b (s ++ s')) (λ b. Low a → Low b) (λ b rest. Ends b rest × (goes_on b (first rest) ≡ false)) ts
-      (λ d'. step d' a) (λ ts' d'. repeat (pred (F ts')) goes_on (step d')) (h.steps a s ts ends e) continues h.at_end)
+      (rule_next T A A Valid cut true false d (λ g b s'. Start g → In g b (s ++ s')) (λ b. LowStart → Low b) Ends
+      (λ g b s'. Start g → In g b (s ++ s')) (λ b. LowStart → Low b) (λ b rest. Ends b rest × (goes_on b (first rest) ≡ false)) ts
+      (λ d'. step d' a) (λ ts' d'. repeat (pred (F ts')) goes_on (step d')) begins continues h.at_end)
     where
       unroll : (d' : ℕ) (ts' : List T) → Starts true ts ts' → repeat (F ts') goes_on (step d') a ts' ≡ next (step d' a ts') (repeat (pred (F ts')) goes_on (step d'))
       unroll d' ts' (same alike) =
@@ -65,11 +69,11 @@ module _ {T A : Type 0} {Valid : T → Type 0} {cut : Bool} {d : ℕ} {goes_on :
           repeat_goes goes_on (step d') (F ts') a ts' on (omega (arith, some_left a ts' on, enough ts'))
       unroll d' ts' (gone not_true _) = absurd (true≢false not_true)
 
-      regroup : (b : A) (s1 : List T) (g : Width) (c : A) (s' : List T) → (In g b (s ++ s1) → In g c ((s ++ s1) ++ s')) → (In g a s → In g b (s ++ s1)) → In g a s → In g c (s ++ (s1 ++ s'))
+      regroup : (b : A) (s1 : List T) (g : Language) (c : A) (s' : List T) → (In g b (s ++ s1) → In g c ((s ++ s1) ++ s')) → (Start g → In g b (s ++ s1)) → Start g → In g c (s ++ (s1 ++ s'))
       regroup b s1 g c s' on u v = rw (← append_assoc s s1 s') (on (u v))
 
       continues : (b : A) (s1 rest : List T) → Ends b rest → After true ts s1 rest
-          → Rule Valid cut false (λ d' rest'. repeat (pred (F (s1 ++ rest'))) goes_on (step d') b rest') d (λ g c s'. (In g a s → In g b (s ++ s1)) → In g a s → In g c (s ++ (s1 ++ s'))) (λ c. (Low a → Low b) → Low a → Low c) (λ c rest'. Ends c rest' × (goes_on c (first rest') ≡ false)) rest
+          → Rule Valid cut false (λ d' rest'. repeat (pred (F (s1 ++ rest'))) goes_on (step d') b rest') d (λ g c s'. (Start g → In g b (s ++ s1)) → Start g → In g c (s ++ (s1 ++ s'))) (λ c. (LowStart → Low b) → LowStart → Low c) (λ c rest'. Ends c rest' × (goes_on c (first rest') ≡ false)) rest
       continues b s1 rest ends_b (over nil) =
           rule_weaker (regroup b s1) (λ c low u v. low (u v)) (λ c rest' x. x)
           (stopped (λ rest'. pred (F (s1 ++ rest'))) b (s ++ s1) rest ends_b (rw nil (h.never b)))
@@ -88,23 +92,28 @@ module _ {T A : Type 0} {Valid : T → Type 0} {cut : Bool} {d : ℕ} {goes_on :
           → ((F' : List T → ℕ) → ((ts' : List T) → length ts' ≤ F' ts') → (b : A) (s' rest : List T) → length rest ≤ n → Ends b rest
           → Rule Valid cut false (λ d' ts'. repeat (F' ts') goes_on (step d') b ts') d (λ g c s''. In g b s' → In g c (s' ++ s'')) (λ c. Low b → Low c) (λ c rest'. Ends c rest' × (goes_on c (first rest') ≡ false)) rest)
           → Rule Valid cut false (λ d' ts'. repeat (F ts') goes_on (step d') a ts') d (λ g b s'. In g a s → In g b (s ++ s')) (λ b. Low a → Low b) (λ b rest. Ends b rest × (goes_on b (first rest) ≡ false)) ts
-      by_test true e inner = rule_may_stay (round n F enough a s ts short ends e inner)
+      by_test true e inner = rule_may_stay (round (λ g. In g a s) (Low a) n F enough a s ts short e (h.steps a s ts ends e) inner)
       by_test false e inner = stopped F a s ts ends e
 
   -- A loop keeps what its steps keep. It begins with a, which was read as s; it reads a token where one goes on.
-  pub rule_loop : {Start : Width → Type 0} {LowStart : Type 0} {ts : List T} (a : A) (s : List T) → ((g : Width) → Start g → In g a s) → (LowStart → Low a) → Ends a ts
+  pub rule_loop : {Start : Language → Type 0} {LowStart : Type 0} {ts : List T} (a : A) (s : List T) → ((g : Language) → Start g → In g a s) → (LowStart → Low a) → Ends a ts
       → Rule Valid cut false (λ d'. loop goes_on (step d') a) d (λ g b s'. Start g → In g b (s ++ s')) (λ b. LowStart → Low b) (λ b rest. Ends b rest × (goes_on b (first rest) ≡ false)) ts
   rule_loop {Start} {LowStart} {ts} a s starts low ends =
       rule_weaker (λ g b s' on u. on (starts g u)) (λ b on u. on (low u)) (λ b rest x. x)
       (rule_repeat (length ts) length (λ ts'. omega arith) a s ts (omega arith) ends)
 
   -- the same, where it is known that a token goes on
-  pub rule_loop_moves : {Start : Width → Type 0} {LowStart : Type 0} {ts : List T} (a : A) (s : List T) → ((g : Width) → Start g → In g a s) → (LowStart → Low a) → Ends a ts
+  pub rule_loop_moves : {Start : Language → Type 0} {LowStart : Type 0} {ts : List T} (a : A) (s : List T) → ((g : Language) → Start g → In g a s) → (LowStart → Low a) → Ends a ts
       → goes_on a (first ts) ≡ true
       → Rule Valid cut true (λ d'. loop goes_on (step d') a) d (λ g b s'. Start g → In g b (s ++ s')) (λ b. LowStart → Low b) (λ b rest. Ends b rest × (goes_on b (first rest) ≡ false)) ts
   rule_loop_moves {Start} {LowStart} {ts} a s starts low ends e =
       rule_weaker (λ g b s' on u. on (starts g u)) (λ b on u. on (low u)) (λ b rest x. x)
-      (round (length ts) length (λ ts'. omega arith) a s ts (omega arith) ends e (rule_repeat (length ts)))
+      (round (λ g. In g a s) (Low a) (length ts) length (λ ts'. omega arith) a s ts (omega arith) e (h.steps a s ts ends e) (rule_repeat (length ts)))
+
+  -- the same, where what the loop begins with is no part of the grammar by itself, but what its first step reads is
+  pub rule_loop_first : {Start : Language → Type 0} {LowStart : Type 0} {ts : List T} (a : A) (s : List T) → goes_on a (first ts) ≡ true → First a s Start LowStart ts
+      → Rule Valid cut true (λ d'. loop goes_on (step d') a) d (λ g b s'. Start g → In g b (s ++ s')) (λ b. LowStart → Low b) (λ b rest. Ends b rest × (goes_on b (first rest) ≡ false)) ts
+  rule_loop_first {Start} {LowStart} {ts} a s e begins = round Start LowStart (length ts) length (λ ts'. omega arith) a s ts (omega arith) e begins (rule_repeat (length ts))
 
   -- Unrolling.
 

@@ -2,7 +2,7 @@
 -- A rule is a family of parsers, one for each number of nodes that is allowed below.
 use Rattle.std.specs.Prelude.{◌≡◌, ℕ, ◌≤◌, Bool, true, List, [], ◌∷◌, ◌++◌}
 use Rattle.parse_rules.specs.Parsers.{Syntax, Unsupported, Deep, Answer, Read, Stopped, Parser, first}
-use Rattle.parse_rules.specs.Grammars.{Width, Wide, CanBegin, InBoth}
+use Rattle.parse_rules.specs.Grammars.{Language, Extended, CanBegin, InBoth}
 
 -- What may stand in the place of the tokens that are left, so that a rule still answers the same: any tokens that begin
 -- with the same one, and for rules that bear to be `cut` off also none.
@@ -17,7 +17,7 @@ pub data Instead {T : Type 0} (cut : Bool) (rest rest' : List T) : Type 0 where
 -- `p`: the rule, `d` the number of nodes that are allowed below, `ts` the tokens that it reads.
 -- `In`: the grammar's membership. `Low`: what else holds of a part that is read, as that it isn't too high.
 -- `Ends`: what holds of a part and the tokens after it where it is read.
-module _ {T A : Type 0} (Valid : T → Type 0) (cut moves : Bool) (p : ℕ → Parser T A) (d : ℕ) (In : Width → A → List T → Type 0) (Low : A → Type 0) (Ends : A → List T → Type 0) (ts : List T) where
+module _ {T A : Type 0} (Valid : T → Type 0) (cut moves : Bool) (p : ℕ → Parser T A) (d : ℕ) (In : Language → A → List T → Type 0) (Low : A → Type 0) (Ends : A → List T → Type 0) (ts : List T) where
   -- a part is read: it is in the grammar and spells the tokens that are gone; with as many nodes or more allowed below,
   -- the same tokens are read as the same part, whatever comes after the next token
   pub record Reads (a : A) (rest : List T) : Type 0 where
@@ -38,7 +38,7 @@ module _ {T A : Type 0} (Valid : T → Type 0) (cut moves : Bool) (p : ℕ → P
     pub begins : CanBegin Valid (InBoth In) pre
     pub again : (d' : ℕ) (rest' : List T) → d ≤ d' → Instead cut rest rest' → p d' (pre ++ rest') ≡ Stopped Syntax rest'
 
-  -- the next token isn't supported: the tokens before it begin a part, with it they begin one of the wide grammar, and
+  -- the next token isn't supported: the tokens before it begin a part, with it they begin one of the extended language, and
   -- it is so after them however many more nodes are allowed below and whatever comes later
   pub record Breaks (rest : List T) : Type 0 where
     pub pre : List T
@@ -47,7 +47,7 @@ module _ {T A : Type 0} (Valid : T → Type 0) (cut moves : Bool) (p : ℕ → P
     pub place : rest ≡ token ∷ post
     pub whole : ts ≡ pre ++ token ∷ post
     pub begins : CanBegin Valid (InBoth In) pre
-    pub wider : CanBegin Valid (In Wide) (pre ++ token ∷ [])
+    pub in_extended : CanBegin Valid (In Extended) (pre ++ token ∷ [])
     pub again : (d' : ℕ) (post' : List T) → d ≤ d' → p d' (pre ++ token ∷ post') ≡ Stopped Unsupported (token ∷ post')
 
   -- the next token lies too deep: the tokens through it begin a part, and with this many nodes allowed below it lies too

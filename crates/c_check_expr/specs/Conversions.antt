@@ -1,5 +1,5 @@
 -- Which conversions there are, where C makes them without being told, and what the tree then holds (C99 6.3, 6.5.16.1).
-use Rattle.std.specs.Prelude.{◌≡◌, ℕ, Bool, true, false, not, ◌&&◌, ◌||◌, List, Option, None, Some, ◌==◌, if◌then◌else◌, IsTrue}
+use Rattle.std.specs.Prelude.{◌≡◌, Bool, true, false, ◌&&◌, ◌||◌, Option, None, Some, ◌==◌, if◌then◌else◌, IsTrue}
 use Rattle.cc_base.specs.declared.place.Place.{Place}
 use Rattle.cc_base.specs.declared.number.TypeId.{TypeId}
 use Rattle.c_types.specs.declared.shape.TypeShape.{TypeShape}
@@ -12,7 +12,7 @@ use Rattle.c_tree.specs.TypedTree.{TypedExpr}
 use Rattle.c_tree.specs.TypedParts.{type_of}
 use Rattle.integers.specs.Arithmetic.{IntegerType}
 use Rattle.c_check_expr.specs.Scopes.{Scopes, is_complete_at}
-use Rattle.c_check_expr.specs.Shapes.{is_same_type, is_data, is_void_shape, is_function_shape, IsIntegerType}
+use Rattle.c_check_expr.specs.Shapes.{is_same_type, is_data, is_void_shape, IsIntegerType}
 use Rattle.c_check_expr.specs.Constants.{is_null_constant}
 
 -- an expression without the conversion that is made of it

@@ -3,3 +3,9 @@ pub mod Integers
 pub mod Scopes
 pub mod Constants
 pub mod Conversions
+pub mod Held
+pub mod Rules
+pub mod Declarators
+pub mod Typing
+pub mod Tests
+pub mod Refusals

@@ -1,5 +1,5 @@
 -- Scopes: what names and tags stand for (C99 6.2.1, 6.2.3).
-use Rattle.std.specs.Prelude.{ℕ, ◌+◌, Bool, true, false, not, List, [], ◌∷◌, ◌++◌, Option, None, Some, bytes_eq, if◌then◌else◌, slice_get}
+use Rattle.std.specs.Prelude.{ℕ, Bool, true, false, not, List, [], ◌∷◌, ◌++◌, map, Option, None, Some, bytes_eq, if◌then◌else◌, slice_get, position}
 use Rattle.cc_base.specs.declared.number.TypeId.{TypeId}
 use Rattle.c_types.specs.declared.shape.TypeShape.{TypeShape}
 use Rattle.c_types.specs.declared.shape.TypeShape.TheVariants.{Struct, Union}
@@ -30,7 +30,7 @@ empty_level = record { names = []; tags = [] }
 -- what stands beside a name in a list
 abbrev pub entry_of : {A : Type 0} → List (Name × A) → Name → Option A
 entry_of [] name = None
-entry_of (e ∷ es) name = if bytes_eq e.0 name then Some e.1 else entry_of es name
+entry_of (e ∷ es) name = if bytes_eq name e.0 then Some e.1 else entry_of es name
 
 abbrev pub or_outer : {A : Type 0} → Option A → Option A → Option A
 or_outer (Some x) outer = Some x
@@ -89,12 +89,7 @@ leaving s = record s { levels = without_innermost s.levels }
 
 -- the place of a name among others, counted from 0
 abbrev pub place_among : List Name → Name → Option ℕ
-place_among [] name = None
-place_among (x ∷ xs) name = if bytes_eq x name then Some 0 else one_more (place_among xs name)
-  where
-    one_more : Option ℕ → Option ℕ
-    one_more None = None
-    one_more (Some k) = Some (k + 1)
+place_among names name = position (bytes_eq name) names
 
 -- the names of the members of the struct or union with this number
 abbrev pub members_named : Scopes → ℕ → List Name
@@ -118,3 +113,27 @@ is_complete_shape_at s whole shape = whole
 -- whether the type t is complete at this point of the text; the table is that of the whole text
 abbrev pub is_complete_at : Table → Scopes → TypeId → Bool
 is_complete_at table s t = is_complete_shape_at s (is_complete (entry_at table t)) (shape_at table t)
+
+-- What contracts see of a `Scope`: the scopes, the next node, and what was counted so far for the limits on globals and on cells.
+pub record Seen : Type 0 where
+  pub scopes : Scopes
+  pub node : ℕ
+  pub globals : ℕ
+  pub cells : ℕ
+
+-- the entries of a map whose keys hold names
+abbrev pub seen_entries : {K A : Type 0} → (K → Name) → List (K × A) → List (Name × A)
+seen_entries bytes es = map (λ e. (bytes e.0, e.1)) es
+
+-- the scopes of a unit that defines these functions, before its text
+abbrev pub file_scope : List Name → Seen
+file_scope defined = record {
+  scopes = record { levels = empty_level ∷ []; defined = defined; members = [] };
+  node = 0;
+  globals = 0;
+  cells = 0;
+}
+
+-- with other scopes
+abbrev pub with_scopes : Seen → Scopes → Seen
+with_scopes seen scopes = record seen { scopes = scopes }

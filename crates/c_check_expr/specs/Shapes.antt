@@ -1,11 +1,11 @@
 -- Types by their shapes: which are the same, and which are integers, pointers and structs.
-use Rattle.std.specs.Prelude.{◌≡◌, ℕ, suc, Bool, true, false, ◌&&◌, not, List, [], ◌∷◌, length, Option, None, Some, ◌==◌, IsTrue}
+use Rattle.std.specs.Prelude.{suc, Bool, true, false, ◌&&◌, not, length, Option, None, Some, ◌==◌, IsTrue}
 use lib.Pointwise.{pointwise}
 use Rattle.cc_base.specs.declared.number.NodeId.{NodeId}
 use Rattle.cc_base.specs.declared.number.TypeId.{TypeId}
 use Rattle.c_types.specs.declared.shape.TypeShape.{TypeShape}
 use Rattle.c_types.specs.declared.shape.TypeShape.TheVariants.{Void, Integer, Pointer, Array, Function, Struct, Union}
-use Rattle.c_types.specs.Table.{Table, HasShape, IsComplete, shape_at, entry_at, is_complete, descend}
+use Rattle.c_types.specs.Table.{Table, HasShape, shape_at, descend}
 use Rattle.c_types.specs.Equality.{same_bool}
 use Rattle.integers.specs.Arithmetic.{IntegerType}
 

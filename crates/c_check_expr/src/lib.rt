@@ -2,5 +2,12 @@
 #![tactic(auto)]
 
 mod declared;
+mod level;
+mod member;
+mod scope;
 
 pub use declared::{Declared, Tag};
+pub use scope::Scope;
+
+#[cfg(test)]
+mod tests;

@@ -12,7 +12,8 @@ use Rattle.c_tree.specs.Tree as tree
 use Rattle.c_tree.specs.Tree.{Expr, Arguments, TypeName, Specifiers, Specifier, Members, MemberDeclarators, Enumerators, Declarator, Core, Parts, Parameters, Declared, Initialiser, Items, InitDeclarators, Declaration, Statement, BlockItems}
 use Rattle.c_tree.specs.Tree.{TranslationUnit}
 use Rattle.c_tree.specs.TypedTree as typed
-use Rattle.c_tree.specs.TypedTree.{TypedStar, TypedExpr, TypedPlace, TypedArguments, TypedTypeName, TypedSpecifiers, TypedSpecifierList, TypedSpecifier, TypedMembers, TypedMemberDeclarators, TypedEnumerators, TypedDeclarator, TypedForm, TypedCore, TypedParts, TypedParameters, TypedDeclared, TypedInitialiser, TypedItems, TypedInitDeclarators, TypedDeclaration, TypedStatement, TypedBlockItems, TypedTranslationUnit}
+use Rattle.c_tree.specs.declared.typed_word.TypedStar.{TypedStar}
+use Rattle.c_tree.specs.TypedTree.{TypedExpr, TypedPlace, TypedArguments, TypedTypeName, TypedSpecifiers, TypedSpecifierList, TypedSpecifier, TypedMembers, TypedMemberDeclarators, TypedEnumerators, TypedDeclarator, TypedForm, TypedCore, TypedParts, TypedParameters, TypedDeclared, TypedInitialiser, TypedItems, TypedInitDeclarators, TypedDeclaration, TypedStatement, TypedBlockItems, TypedTranslationUnit}
 
 -- `++` or `--` before its operand
 abbrev pub step_operator : Step → Unary

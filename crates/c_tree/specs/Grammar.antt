@@ -1,20 +1,13 @@
 -- The grammar as a property of trees (C99 6.5 to 6.9).
 use Rattle.std.specs.Prelude.{ℕ, suc, Bool, true, false, ⊤, ◌≡◌, ◌≤◌, ◌<◌, ◌&&◌, ◌⊎◌, List, [], ◌∷◌, length, Option, Some, None}
 use Rattle.std.specs.List.{All}
+-- The extended language has the constructs that are refused as unsupported: a further `long` in one specifier list, bit-fields,
+-- designators, and compound literals. Of the last three the tree has their first token alone.
+pub use Rattle.parse_rules.specs.Grammars.{Language, Supported, Extended, IsExtended}
 use Rattle.c_tree.specs.declared.leaf.Star.{Star}
 use Rattle.c_tree.specs.Operators.{precedence, operand_level, comma_level, assignment_level, conditional_level, logical_or_level, cast_level, unary_level, postfix_level}
 use Rattle.c_tree.specs.Tree as tree
 use Rattle.c_tree.specs.Words.{TypeNames, is_type_name, Scope, AtFile, InBlock, InType, may_specify, has_type, is_long, has_long, has_typedef, are_qualifiers, are_array_words}
-
--- The language, or the language with the constructs that are refused as unsupported: a further `long` in one specifier list, bit-fields,
--- designators, and compound literals. Of the last three the tree has their first token alone.
-pub data Language : Type 0 where
-  Supported : Language
-  Extended : Language
-
-abbrev pub IsExtended : Language → Type 0
-IsExtended Supported = ⊥
-IsExtended Extended = ⊤
 
 -- How tightly an expression holds together (C99 6.5).
 abbrev pub level : tree.Expr → ℕ

@@ -1,11 +1,16 @@
 pub mod Depth
 pub mod Grammar
 pub mod Operators
+pub mod Places
 pub mod Spelling
+pub mod StatementViews
 pub mod Symbols
 pub mod Tree
+pub mod Views
 pub mod Words
 pub mod formers
 pub mod TypedTree
 pub mod Erasure
 pub mod TypedParts
+pub mod TypedViews
+pub mod TypedStatementViews

@@ -8,7 +8,6 @@ use Rattle.c_lexer.specs.declared.number.IntegerType.{IntegerType}
 use Rattle.c_tree.specs.declared.leaf.Identifier.{Identifier}
 use Rattle.c_tree.specs.declared.leaf.StringPiece.{StringPiece}
 use Rattle.c_tree.specs.declared.leaf.Word.{Word}
-use Rattle.c_tree.specs.declared.leaf.Star.{Star}
 use Rattle.c_tree.specs.declared.operator.AggregateKind.{AggregateKind}
 use Rattle.c_tree.specs.declared.operator.Assignment.{Assignment}
 use Rattle.c_tree.specs.declared.operator.Binary.{Binary}
@@ -19,11 +18,7 @@ use Rattle.c_tree.specs.declared.typed_word.Conversion.{Conversion}
 use Rattle.c_tree.specs.declared.typed_word.Home.{Home}
 use Rattle.c_tree.specs.declared.typed_word.Runtime.{Runtime}
 use Rattle.c_tree.specs.declared.typed_word.Side.{Side}
-
--- A `*` of a declarator, and its node.
-pub record TypedStar : Type 0 where
-  pub star : Star
-  pub node : NodeId
+use Rattle.c_tree.specs.declared.typed_word.TypedStar.{TypedStar}
 
 mutual
   -- An expression that has a value. A place whose value or address is taken is one by `Read`, `Unread` or `Decay`.

@@ -1,6 +1,7 @@
 //! Words of the typed tree.
 #![tactic(auto)]
 
+use crate::leaf::Star;
 use cc_base::{NodeId, Place};
 
 /// What a conversion does (C99 6.3).
@@ -67,4 +68,11 @@ pub enum Runtime {
     Putchar,
     /// `void exit(int)` (C99 7.20.4.3).
     Exit,
+}
+
+/// A `*` of a declarator, and its node.
+#[derive(Debug, Drop)]
+pub struct TypedStar {
+    pub star: Star,
+    pub node: NodeId,
 }

@@ -1,0 +1,39 @@
+//! The names of the members of a struct or union.
+#![tactic(auto)]
+
+ghost use Rattle.std.specs.Prelude.{◌≡◌, [], ◌∷◌, ◌++◌, OnOk, OnErr, None};
+ghost use Rattle.c_check_expr.specs.Scopes.{place_among};
+
+use cc_base::NoMemory;
+use indexmap::IndexSet;
+use std::alloc::Global;
+use std::marker::Model;
+
+/// Names of members, in the order of their declarations. Contracts see the list.
+#[derive(Drop)]
+pub(crate) struct MemberNames(IndexSet<Vec<u8>>);
+
+impl Model for MemberNames {
+    ghost use Rattle.std.specs.Prelude.{List, map};
+    ghost use Rattle.c_check_expr.specs.Scopes.{Name};
+
+    ghost Value = { List Name };
+
+    ghost view = { λ m. map (λ k. k.items) m.0.keys };
+}
+
+impl MemberNames {
+    /// No names. Takes no memory.
+    pub(crate) fn new(alloc: Global) -> MemberNames
+        ensures { result ≡ [] }
+    {
+        MemberNames(IndexSet::new(alloc))
+    }
+
+    /// The place of a name, counted from 0. Takes no memory.
+    pub(crate) fn place(&self, name: &[u8]) -> Option<usize>
+        ensures { result ≡ place_among self.now name.now }
+    {
+        self.0.get_index_of(name)
+    }
+}

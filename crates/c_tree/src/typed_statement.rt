@@ -1,0 +1,115 @@
+//! Typed declarations, statements and units. Contracts see them as the plain data of the typed tree.
+use crate::boxed::Boxed;
+use crate::items::Items;
+use crate::leaf::StringPiece;
+use crate::typed_expr::{TypedDeclarator, TypedExpr, TypedPlace, TypedSpecifiers};
+use cc_base::{Place, TypeId};
+
+/// An initialiser (C99 6.7.8).
+#[cycle(typed_initialisers)]
+#[derive(Drop)]
+pub enum TypedInitialiser {
+    /// A value, converted to the type of what it initialises.
+    Value(TypedExpr),
+    /// A struct or union that is copied, and the place of the `=` or of the item's first token.
+    Copied(TypedPlace, Place),
+    /// A string literal that initialises an array of char, and its bytes as far as they fit.
+    Text(Items<StringPiece>, Items<u8>),
+    /// The `{`, the items, whether a comma stands after the last, and the type of what is set to zero first.
+    Listed(Place, Items<TypedItem>, bool, TypeId),
+}
+
+/// An item in braces: the offset of what it initialises in what is listed, its type and its initialiser.
+#[cycle(typed_initialisers)]
+#[derive(Drop)]
+pub struct TypedItem {
+    pub offset: u64,
+    pub ty: TypeId,
+    pub initialiser: TypedInitialiser,
+}
+
+#[derive(Drop)]
+pub enum TypedInitDeclarator {
+    Plain(TypedDeclarator),
+    /// The declarator, the `=` and the initialiser.
+    Initialised(TypedDeclarator, Place, TypedInitialiser),
+}
+
+/// `specifiers declarators ;` (C99 6.7).
+#[derive(Drop)]
+pub struct TypedDeclaration {
+    pub specifiers: TypedSpecifiers,
+    pub declarators: Items<TypedInitDeclarator>,
+}
+
+/// A statement (C99 6.8). The places before an expression in parentheses are those of the keyword
+/// and of the `(`.
+#[cycle(typed_statements)]
+#[derive(Drop)]
+pub enum TypedStatement {
+    /// The `{` and what the block holds.
+    Block(Place, Items<TypedBlockItem>),
+    Express(TypedExpr),
+    /// `;` alone.
+    Empty,
+    If(Place, Place, TypedExpr, Boxed<TypedStatement>),
+    IfElse(Place, Place, TypedExpr, Boxed<TypedStatement>, Boxed<TypedStatement>),
+    /// The third place is that of the `{`.
+    Switch(Place, Place, TypedExpr, Place, Items<TypedBlockItem>),
+    While(Place, Place, TypedExpr, Boxed<TypedStatement>),
+    /// The places are those of `while` and its `(`.
+    DoWhile(Boxed<TypedStatement>, Place, Place, TypedExpr),
+    For(
+        Place,
+        Place,
+        Option<TypedExpr>,
+        Option<TypedExpr>,
+        Option<TypedExpr>,
+        Boxed<TypedStatement>,
+    ),
+    ForDeclaration(
+        Place,
+        Place,
+        TypedDeclaration,
+        Option<TypedExpr>,
+        Option<TypedExpr>,
+        Boxed<TypedStatement>,
+    ),
+    Break(Place),
+    Continue(Place),
+    /// The value, converted to the type of the function's result.
+    Return(Place, Option<TypedExpr>),
+}
+
+/// What a block holds. Labels stand only in the block of a `switch`.
+#[cycle(typed_statements)]
+#[derive(Drop)]
+pub enum TypedBlockItem {
+    Statement(TypedStatement),
+    Declaration(TypedDeclaration),
+    /// The `case`, the expression, and its value in the type of the `switch`.
+    Case(Place, TypedExpr, i128),
+    Default(Place),
+}
+
+/// A function with its body (C99 6.9.1).
+#[derive(Drop)]
+pub struct TypedFunction {
+    pub specifiers: TypedSpecifiers,
+    pub declarator: TypedDeclarator,
+    /// The `{` of the body.
+    pub brace: Place,
+    pub body: Items<TypedBlockItem>,
+}
+
+#[derive(Drop)]
+pub enum TypedExternal {
+    Declaration(TypedDeclaration),
+    Function(TypedFunction),
+}
+
+/// A unit: declarations and function definitions in the order of the text (C99 6.9).
+#[derive(Drop)]
+pub struct TypedUnit {
+    pub externals: Items<TypedExternal>,
+}

@@ -4,3 +4,4 @@ pub mod ComputesLaws
 pub mod TypingLaws
 pub mod ShapedPrograms
 pub mod EmptyProgram
+pub mod AskedLaws

@@ -79,7 +79,7 @@ abbrev l11 : Typing
 l11 = with_held 1 (Some an_int) l10
 
 loop_choice : (alloc : Global) → AreShaped (instr.Break 0 ∷ []) (inside (context_in (loop_program alloc) (loop_main alloc)) no_types) l4 l4
-loop_choice alloc = (l4, (lit< tt, includes-none l4), includes-all l4)
+loop_choice alloc = (l4, (lit< tt, includes-none l4, includes-all l4), includes-all l4)
 
 pub loop_round-shaped : (alloc : Global) → AreShaped (loop_round alloc) (inside (context_in (loop_program alloc) (loop_main alloc)) no_types) no_types no_types
 loop_round-shaped alloc = (
@@ -149,7 +149,7 @@ loop_body-shaped alloc = (
       (lit< tt, (lit< tt, refl), (is-temp 0 (lit< tt), refl), leaves-all l1 0 (Some an_int) (lit< tt)),
       (
         no_types,
-        (refl, ((lit< tt, refl), is-temp 0 (lit< tt), refl)),
+        (refl, ((lit< tt, refl), is-temp 0 (lit< tt), refl), includes-none l2),
         includes-all no_types,
       ),
     ),
@@ -197,7 +197,7 @@ called_body-shaped alloc = (
         (integer.int, (lit< tt, refl), (is-temp 0 (lit< tt), refl), (is-temp 1 (lit< tt), refl), leaves-all l3 0 (Some an_int) (lit< tt)),
         (
           no_types,
-          (refl, ((lit< tt, refl), is-temp 0 (lit< tt), refl)),
+          (refl, ((lit< tt, refl), is-temp 0 (lit< tt), refl), includes-none l4),
           includes-all no_types,
         ),
       ),
@@ -237,7 +237,7 @@ calling_body-shaped alloc = (
       (node 1, type 9, int ∷ [], int, (lit< tt, refl), refl, refl, refl, (is-temp 0 (lit< tt), refl), its_argument alloc, leaves-all c2 0 (Some an_int) (lit< tt)),
       (
         no_types,
-        (refl, ((lit< tt, refl), is-temp 0 (lit< tt), refl)),
+        (refl, ((lit< tt, refl), is-temp 0 (lit< tt), refl), includes-none c3),
         includes-all no_types,
       ),
     ),
@@ -325,7 +325,7 @@ access_body-shaped alloc = (
               (integer.int, (lit< tt, refl), refl, leaves-all a5 0 (Some an_int) (lit< tt)),
               (
                 no_types,
-                (refl, ((lit< tt, refl), is-temp 0 (lit< tt), refl)),
+                (refl, ((lit< tt, refl), is-temp 0 (lit< tt), refl), includes-none a6),
                 includes-all no_types,
               ),
             ),
@@ -397,13 +397,14 @@ in_loop alloc = inside (in_switch alloc) s1
 abbrev in_round : Global → Context
 in_round alloc = inside (in_loop alloc) s1
 
+chosen-kept : Includes (with_held 1 (Some an_int) s4) s2
+chosen-kept = includes-with s4 s1 1 (Some an_int) (includes-more s4 s2 s1 s4-s2 s2-s1)
+
 chosen : (alloc : Global) (k : ℕ) → integer.converted integer.int (pos k) ≡ pos k
     → AreShaped (instr.Set (set.Integer (temp 1) (pos k) int) ∷ instr.Break 0 ∷ []) (in_labels alloc) s4 s2
-chosen alloc k fits = (
-  with_held 1 (Some an_int) s4,
-  (integer.int, (lit< tt, refl), fits, leaves-all s4 1 (Some an_int) (lit< tt)),
-  (s2, (lit< tt, includes-with s4 s1 1 (Some an_int) (includes-more s4 s2 s1 s4-s2 s2-s1)), includes-all s2),
-)
+chosen alloc k fits =
+    (with_held 1 (Some an_int) s4, (integer.int, (lit< tt, refl), fits, leaves-all s4 1 (Some an_int) (lit< tt)),
+    (s2, (lit< tt, chosen-kept, chosen-kept), includes-all s2))
 
 label-shaped : (alloc : Global) (z k : ℕ) → integer.converted integer.int (pos z) ≡ pos z → integer.converted integer.int (pos k) ≡ pos k
     → AreShaped (case_label alloc z k) (in_labels alloc) s2 s2
@@ -434,7 +435,7 @@ write-shaped alloc k types z it fits h = (
 
 round-shaped : (alloc : Global) → AreShaped first_round (in_round alloc) s1 s1
 round-shaped alloc = shaped-append (write_character 49) (instr.Break 1 ∷ []) (in_round alloc) s1 s1 s1
-    (write-shaped alloc (in_round alloc) s1 49 (lit< tt, refl) refl (includes-all s1)) (s1, (lit< tt, includes-all s1), includes-all s1)
+    (write-shaped alloc (in_round alloc) s1 49 (lit< tt, refl) refl (includes-all s1)) (s1, (lit< tt, includes-all s1, includes-all s1), includes-all s1)
 
 first_loop-shaped : (alloc : Global) → AreShaped (first_loop alloc) (in_loop alloc) s1 s1
 first_loop-shaped alloc =
@@ -497,7 +498,7 @@ switch_body-shaped alloc = (
     (integer.int, (lit< tt, refl), refl, leaves-all no_types 0 (Some an_int) (lit< tt)),
     (
       no_types,
-      (refl, ((lit< tt, refl), is-temp 0 (lit< tt), refl)),
+      (refl, ((lit< tt, refl), is-temp 0 (lit< tt), refl), includes-none s1),
       includes-all no_types,
     ),
   ),

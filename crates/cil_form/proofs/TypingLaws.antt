@@ -173,9 +173,9 @@ mutual
       ((l.0.0, holds-more more less t l.0.0 h l.0.1), row-more code k more less after h l.1, row-more other k more less after h l.2)
   instr-more (instr.Block' shape code) k more less after h l = (l.0, passes-more more less l.0 k after h l.1, l.2)
   instr-more (instr.Loop' shape code) k more less after h l = (l.0, passes-more more less l.0 k after h l.1, l.2)
-  instr-more (instr.Break n) k more less after h l = (l.0, includes-more more less k.kept h l.1)
-  instr-more instr.Return k more less after h l = l
-  instr-more (instr.ReturnValue v t at) k more less after h l = (l.0, of-more k more less v t h l.1)
+  instr-more (instr.Break n) k more less after h l = (l.0, includes-more more less k.kept h l.1, includes-more more less after h l.2)
+  instr-more instr.Return k more less after h l = (l.0, includes-more more less after h l.1)
+  instr-more (instr.ReturnValue v t at) k more less after h l = (l.0, of-more k more less v t h l.1, includes-more more less after h l.2)
 
   pub row-more : {m : _} (r : Row_of-Instr m) (k : Context) (more less after : Typing) → Includes more less → IsRowShaped r k less after → IsRowShaped r k more after
   row-more end_of-Instr k more less after h l = includes-more more less after h l

@@ -9,12 +9,10 @@ use Rattle.c_types.specs.declared.shape.TypeShape.TheVariants.{Integer, Pointer,
 use Rattle.c_types.specs.Table.{Table, IsAggregate, shape_at, members_at}
 use Rattle.c_types.specs.Layouts.{size_of, offset_of, member_at}
 use Rattle.c_tree.specs.declared.typed_word.Side.TheVariants as side
-use Rattle.c_tree.specs.Places.{initialiser_place}
 use Rattle.c_tree.specs.TypedTree as typed
 use Rattle.c_tree.specs.TypedTree.{TypedExpr, TypedPlace, TypedInitialiser, TypedItems}
-use Rattle.c_tree.specs.TypedParts.{place_type}
-use Rattle.c_tree.specs.Erasure.{erased_initialiser}
-use Rattle.c_check_expr.specs.Shapes.{IsScalar, IsSameType}
+use Rattle.c_tree.specs.TypedParts.{place_type, item_place}
+use Rattle.c_check_expr.specs.Shapes.{IsScalar, IsSameType, is_scalar_shape}
 use Rattle.c_check_expr.specs.Scopes.{Scopes}
 use Rattle.c_check_expr.specs.Constants.{constant_value}
 use Rattle.c_check_expr.specs.Conversions.{IsAssigned}
@@ -70,8 +68,11 @@ abbrev pub is_only_text : TypedItems → Bool
 is_only_text (typed.AndItem typed.NoItem offset t (typed.Text pieces bytes)) = true
 is_only_text items = false
 
-abbrev pub item_place : TypedInitialiser → Place
-item_place i = initialiser_place (erased_initialiser i)
+-- a scalar in braces is one value
+abbrev pub IsItemFor : Bool → TypedInitialiser → Type 0
+IsItemFor true (typed.Value e) = Unit {0}
+IsItemFor true i = ⊥
+IsItemFor false i = Unit {0}
 
 -- the part of t that the item number i initialises
 abbrev pub IsSlot : Bool → Table → TypeId → ℕ → ℕ → TypeId → Type 0
@@ -91,6 +92,7 @@ abbrev mutual
   AreItems T typed.NoItem text t s s' = s' ≡ s
   AreItems T (typed.AndItem all offset u i) text t s s' =
       (m : Scopes) × AreItems T all text t s m × IsInitialiser T i (item_place i) u m s' × IsSlot text T t (items_count all) offset u
+      × IsItemFor (is_scalar_shape (shape_at T t)) i
 
 -- Constant initialisers (C99 6.6): of what lives as long as the program
 

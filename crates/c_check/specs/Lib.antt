@@ -1,3 +1,5 @@
 pub mod Initialisers
 pub mod Units
 pub mod WellTyped
+pub mod Holding
+pub mod Limits

@@ -15,7 +15,8 @@ use Rattle.c_tree.specs.TypedTree as typed
 use Rattle.c_tree.specs.TypedTree.{TypedExpr, TypedSpecifiers, TypedSpecifierList, TypedForm, TypedCore, TypedParts, TypedParameters, TypedDeclared, TypedInitialiser, TypedInitDeclarators, TypedDeclaration, TypedStatement, TypedBlockItems, TypedTranslationUnit}
 use Rattle.c_tree.specs.TypedParts.{type_of, specified_type, home_of, declared_home, name_of_form}
 use Rattle.integers.specs.Arithmetic.{IntegerType, converted}
-use Rattle.runtime_calls.specs.Prototypes.{IsNoName}
+use Rattle.c_tree.specs.declared.typed_word.Runtime.{Runtime}
+use Rattle.runtime_calls.specs.Prototypes.{IsNamed, IsNoName, HasPrototype}
 use Rattle.c_check_expr.specs.declared.declared.Declared.{Declared}
 use Rattle.c_check_expr.specs.declared.declared.Declared.TheVariants as declared
 use Rattle.c_check_expr.specs.Shapes.{IsSameType, integer_at, is_function_shape, is_void_shape}
@@ -24,7 +25,7 @@ use Rattle.c_check_expr.specs.Constants.{constant_value}
 use Rattle.c_check_expr.specs.Conversions.{IsPlain, IsConverted}
 use Rattle.c_check_expr.specs.Rules.{IsCondition, IsPromoted, IsDroppable}
 use Rattle.c_check_expr.specs.Declarators.{Outermost, Written, Counts, FormMakes}
-use Rattle.c_check_expr.specs.Typing.{IsTyped, AreSpecifiers, IsForm, IsNewName}
+use Rattle.c_check_expr.specs.Typing.{IsTyped, AreSpecifiers, AreAlone, IsForm, IsNewName}
 use Rattle.c_check.specs.Initialisers.{IsInitialiser, is_constant_initialiser, is_char_array, size_given}
 
 -- What is known at a point of a unit.
@@ -93,10 +94,16 @@ IsLinkedHome (Some (declared.Object t n)) (home.Known m) node = (n ≡ m) × (m 
 IsLinkedHome None (home.Static n) node = n ≡ node
 IsLinkedHome first home node = ⊥
 
+-- a runtime function is declared again with its own type
+abbrev pub AgreesWithRuntime : Table → Runtime → Declared → Type 0
+AgreesWithRuntime table function (declared.Function t) = HasPrototype table function t
+AgreesWithRuntime table function what = ⊥
+
 -- a name with linkage is declared
 pub record IsLinked (table : Table) (name : Name) (what : Declared) (k k' : Known) : Type 0 where
   pub here_agrees : AgreesWith table (here k.scopes.levels name) what
   pub linked_agrees : AgreesWith table (entry_of k.linked name) what
+  pub runtime_agrees : (function : Runtime) → IsNamed name function → AgreesWithRuntime table function what
   pub after : k' ≡ record k {
     scopes = unless_here (here k.scopes.levels name) name what k.scopes;
     linked = unless_linked (entry_of k.linked name) name what k.linked;
@@ -201,7 +208,10 @@ AreDeclarators T file storage base (typed.AndInitialised all (typed.Declares for
     × IsDeclarator T file storage base (outermost_of (size_given (is_char_array T t) i)) form t m n
     × IsInitialiser T i at t n.scopes s × IsInitialised T (home_of (typed.Declares form t)) (with_scopes n s) (bytes_of_name (name_of_form form)) i k'
 
+-- a declaration; without declarators it may declare tags and enumerators
 abbrev pub IsDeclaration : Table → Bool → TypedDeclaration → Known → Known → Type 0
+IsDeclaration T file (typed.Declare specifiers typed.NoInitDeclarator) k k' =
+    (s : Scopes) × AreAlone T specifiers k.scopes s × (k' ≡ with_scopes k s)
 IsDeclaration T file (typed.Declare specifiers all) k k' =
     (s : Scopes) × AreSpecifiers T specifiers k.scopes s × AreDeclarators T file (storage_of specifiers) (specified_type specifiers) all (with_scopes k s) k'
 

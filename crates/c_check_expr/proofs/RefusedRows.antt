@@ -76,20 +76,36 @@ minus-pointer = inr (tests.AsPlace (typed.Variable (name (codes "p") 31) (node 1
 
 -- `int main(void){1=2;return 0;}`
 pub no-place : Refuses table false (tree.Assign assignment.Assign (number 1 16) (at 17) (number 2 18)) scopes (Refused (at 17) rule.NotPlace)
-no-place = inr (tests.AsValue (typed_number 1 16), scopes, ((refl, (lit< tt, refl)), refl, refl),
-  inr (tests.AsValue (typed_number 2 18), scopes, ((refl, (lit< tt, refl)), refl, refl), refl))
+no-place = inr (
+  tests.AsValue (typed_number 1 16),
+  scopes,
+  ((refl, (lit< tt, refl)), refl, refl),
+  inr (tests.AsValue (typed_number 2 18), scopes, ((refl, (lit< tt, refl)), refl, refl), refl),
+)
 
 -- `int a[0];`
 pub no-size : RefusesParts table (tree.AndSizedArray tree.NoPart (at 6) [] (number 0 7)) scopes (Refused (at 7) rule.NotConstant)
-no-size = inr (typed.NoPart, scopes, refl, refl,
-  inr (tests.AsValue (typed_number 0 7), scopes, ((refl, (lit< tt, refl)), refl, refl), refl))
+no-size = inr (
+  typed.NoPart,
+  scopes,
+  refl,
+  refl,
+  inr (tests.AsValue (typed_number 0 7), scopes, ((refl, (lit< tt, refl)), refl, refl), refl),
+)
 
 -- `int main(void){return getchar(1);}`
 pub one-too-many : Refuses table false (tree.Call (tree.Name (name (codes "getchar") 23)) (at 30) (tree.AndArgument tree.NoArgument (number 1 31))) scopes (Refused (at 30) rule.BadCall)
-one-too-many = inr (tests.AsValue (typed.RuntimeName (name (codes "getchar") 23) runtime.Getchar (type 0)), scopes,
+one-too-many = inr (
+  tests.AsValue (typed.RuntimeName (name (codes "getchar") 23) runtime.Getchar (type 0)),
+  scopes,
   ((refl, record { seen = refl; named = refl; type = (lit< tt, refl) }), refl, refl),
-  inr (record { part = tests.AsValue (typed_number 1 31); place = at 31 } ∷ [], scopes,
-    ([], scopes, tests.AsValue (typed_number 1 31), (refl, refl), ((refl, (lit< tt, refl)), refl, refl), refl), refl))
+  inr (
+    record { part = tests.AsValue (typed_number 1 31); place = at 31 } ∷ [],
+    scopes,
+    ([], scopes, tests.AsValue (typed_number 1 31), (refl, refl), ((refl, (lit< tt, refl)), refl, refl), refl),
+    refl,
+  ),
+)
 
 -- `putchar` that isn't called
 pub named-only : Refuses table false (tree.Name (name (codes "putchar") 1)) scopes (Refused (at 1) rule.BadCall)
@@ -104,5 +120,9 @@ main-named = refl
 -- `1/0` is refused where it begins, before what is around it
 pub no-quotient : Refuses table false (tree.Prefix unary.Minus (at 1) (tree.Paren (at 2) (tree.Infix binary.Divide (number 1 3) (at 4) (number 0 5)))) scopes
     (Refused (at 3) rule.NotConstant)
-no-quotient = inl (inr (tests.AsValue (typed_number 1 3), scopes, ((refl, (lit< tt, refl)), refl, refl),
-  inr (tests.AsValue (typed_number 0 5), scopes, ((refl, (lit< tt, refl)), refl, refl), refl)))
+no-quotient = inl (inr (
+  tests.AsValue (typed_number 1 3),
+  scopes,
+  ((refl, (lit< tt, refl)), refl, refl),
+  inr (tests.AsValue (typed_number 0 5), scopes, ((refl, (lit< tt, refl)), refl, refl), refl),
+))

@@ -162,7 +162,7 @@ pub tag_declared-last : (file : Level) (inner : List Level) (defined : List Name
 tag_declared-last file inner defined members node globals cells now name what m n seen some last new =
     let P : Seen → Type 0 = λ t. seen_of file (slice_set inner (length inner - 1) n) defined members node globals cells ≡ with_scopes t (declaring_tag name what t.scopes) in
     subst P seen (ap (λ ls. with_scopes (seen_of file inner defined members node globals cells) (record { levels = ls; defined = defined; members = members }))
-      (sym (at-last (with_tag name what) file inner n m some (new ∙ ap (with_tag name what) last))))
+    (sym (at-last (with_tag name what) file inner n m some (new ∙ ap (with_tag name what) last))))
 
 pub tag_in-push : (ls : List Level) (l : Level) (name : Name) → tag_in (ls ++ l ∷ []) name ≡ or_outer (entry_of l.tags name) (tag_in ls name)
 tag_in-push [] l name = or-none (entry_of l.tags name)

@@ -24,8 +24,7 @@ use Rattle.c_tree.specs.declared.typed_word.Side.{Side}
 use Rattle.c_tree.specs.declared.typed_word.Side.TheVariants as side
 use Rattle.c_tree.specs.TypedTree as typed
 use Rattle.c_tree.specs.TypedTree.{TypedExpr, TypedPlace, TypedArguments, TypedTypeName}
-use Rattle.c_tree.specs.TypedParts.{type_of, place_type, pointer_side}
-use Rattle.c_tree.specs.Erasure.{erased}
+use Rattle.c_tree.specs.TypedParts.{type_of, place_type, pointer_side, first_place}
 use Rattle.runtime_calls.specs.declared.function.RuntimeType.{RuntimeType}
 use Rattle.runtime_calls.specs.declared.function.RuntimeType.TheVariants as prototype
 use Rattle.runtime_calls.specs.Prototypes.{IsNamed, prototype_of}
@@ -37,7 +36,6 @@ use Rattle.c_check_expr.specs.Integers.{char, promoted, common, is_logical, is_o
 use Rattle.c_check_expr.specs.Scopes.{Scopes, name_in, place_among, members_named, is_complete_at}
 use Rattle.c_check_expr.specs.Constants.{divides_badly, is_null_constant}
 use Rattle.c_check_expr.specs.Conversions.{bare, IsPlain, is_droppable, IsOperand, are_data, points_to_void, IsConverted, IsAssigned, IsTakenOver, takes_over, cast_conversion}
-use Rattle.c_tree.specs.Places.{expr_place}
 
 abbrev pub IsCompleteAt : Table → Scopes → TypeId → Type 0
 IsCompleteAt table s t = IsTrue (is_complete_at table s t)
@@ -448,7 +446,7 @@ listed_arguments (typed.AndArgument all e) = listed_arguments all ++ e ∷ []
 
 -- an argument, converted to its parameter's type at its first token
 abbrev pub IsArgument : Table → TypeId → TypedExpr → Type 0
-IsArgument table t e = IsConverted table (expr_place (erased e)) t e
+IsArgument table t e = IsConverted table (first_place e) t e
 
 -- a call through a pointer to a function
 pub record IsCall (table : Table) (f : TypedExpr) (arguments : TypedArguments) (t : TypeId) : Type 0 where

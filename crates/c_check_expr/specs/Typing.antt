@@ -252,3 +252,9 @@ abbrev mutual
   pub IsDeclared : Table → TypedDeclared → Scopes → Scopes → Type 0
   IsDeclared T typed.NotDeclared s s' = s' ≡ s
   IsDeclared T (typed.DeclaredBy form) s s' = IsForm T form s s'
+
+-- `struct S` or `union U` alone, without a declarator, declares its tag in the innermost scope (C99 6.7.2.3)
+abbrev pub AreAlone : Table → TypedSpecifiers → Scopes → Scopes → Type 0
+AreAlone T (typed.Specified (typed.AndSpecifier typed.NoSpecifier (typed.Tagged which at name t)) u) s s' =
+    IsTagged T (tag_here s.levels name.bytes) which name t s s' × (u ≡ t)
+AreAlone T specifiers s s' = AreSpecifiers T specifiers s s'

@@ -75,6 +75,13 @@ impl Scope {
         self.inner.truncate(last);
     }
 
+    /// How many scopes are open, the file's among them. Takes no memory.
+    pub fn depth(&self) -> usize
+        ensures { result ≡ length self.now.scopes.levels }
+    {
+        self.inner.len() + 1
+    }
+
     /// The innermost scope's declaration of a name. Takes no memory.
     pub fn here(&self, name: &[u8]) -> Option<&Declared>
         ensures { option_copied result ≡ here self.now.scopes.levels name.now }

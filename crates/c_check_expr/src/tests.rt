@@ -24,13 +24,16 @@ fn here(scope: &Scope, name: &[u8]) -> Option<Declared> {
 }
 
 #[test]
-fn an_inner_declaration_hides_an_outer_one_until_its_scope_ends(rt: HostRuntime) -> Result<(), Fail> {
+fn an_inner_declaration_hides_an_outer_one_until_its_scope_ends(
+    rt: HostRuntime,
+) -> Result<(), Fail> {
     let mut scope = Scope::new(rt.alloc(), IndexSet::new(rt.alloc()));
     declare(&rt, &mut scope, b"x", INT);
     scope.enter()?;
     assert_eq!(rt; here(&scope, b"x"), None);
     declare(&rt, &mut scope, b"x", LONG);
     assert_eq!(rt; here(&scope, b"x"), Some(LONG));
+    assert!(rt; scope.depth() > 1);
     scope.leave();
     assert_eq!(rt; here(&scope, b"x"), Some(INT));
     assert_eq!(rt; here(&scope, b"y"), None);

@@ -27,6 +27,12 @@ pub mod ExprComplete
 pub mod InitialiserLaws
 pub mod InitialiserReads
 pub mod DeclarationStarts
-pub mod TypeNameReads
 pub mod MembersRead
 pub mod EnumeratorsRead
+pub mod SpecifiersRead
+pub mod TypeNameReads
+pub mod WordReads
+pub mod PartReads
+pub mod DeclaratorReads
+pub mod Promised
+pub mod AllReads

@@ -5,3 +5,4 @@ pub mod Tests
 pub mod TypeRules
 pub mod Written
 pub mod Parts
+pub mod Answers

@@ -13,7 +13,8 @@ use Rattle.c_tree.specs.declared.typed_word.Home.{Home}
 use Rattle.c_tree.specs.declared.typed_word.Home.TheVariants as home
 use Rattle.c_tree.specs.declared.typed_word.Side.{Side}
 use Rattle.c_tree.specs.declared.typed_word.Side.TheVariants as side
-use Rattle.c_tree.specs.Places.{pieces_place}
+use Rattle.c_tree.specs.Erasure.{erased, erased_place, erased_initialiser}
+use Rattle.c_tree.specs.Places.{pieces_place, expr_place, initialiser_place}
 use Rattle.c_tree.specs.TypedTree as typed
 use Rattle.c_tree.specs.declared.typed_word.TypedStar.{TypedStar}
 use Rattle.c_tree.specs.TypedTree.{TypedExpr, TypedPlace, TypedArguments, TypedTypeName, TypedSpecifiers, TypedSpecifierList, TypedSpecifier, TypedMembers, TypedMemberDeclarators, TypedEnumerators, TypedDeclarator, TypedForm, TypedCore, TypedParts, TypedParameters, TypedDeclared, TypedInitialiser, TypedItems, TypedInitDeclarators, TypedDeclaration, TypedStatement, TypedBlockItems, TypedTranslationUnit}
@@ -119,6 +120,8 @@ pub data Made : Type 0 where
   Literal : List StringPiece → NodeId → TypeId → Made
   -- an address expression, by its node
   Address : NodeId → Made
+  -- the assignment of a struct or union of this type
+  Copy : TypeId → Made
 
 abbrev pub made_by_stars : List TypedStar → List Made
 made_by_stars [] = []
@@ -175,7 +178,7 @@ abbrev mutual
   made_by_place (typed.Element which a at b t) = made_by a ++ made_by b
   made_by_place (typed.Member p at name i n t) = made_by_place p ++ Address n ∷ []
   made_by_place (typed.MemberAt e at name i n t) = made_by e ++ Address n ∷ []
-  made_by_place (typed.StructAssign p at q) = made_by_place p ++ made_by_place q
+  made_by_place (typed.StructAssign p at q) = made_by_place p ++ made_by_place q ++ Copy (place_type p) ∷ []
   made_by_place (typed.StructConditional c at p q) = made_by c ++ made_by_place p ++ made_by_place q
   made_by_place (typed.StructComma e p) = made_by e ++ made_by_place p
 
@@ -244,7 +247,7 @@ abbrev mutual
 abbrev mutual
   pub made_by_initialiser : TypedInitialiser → List Made
   made_by_initialiser (typed.Value e) = made_by e
-  made_by_initialiser (typed.Copied p at) = made_by_place p
+  made_by_initialiser (typed.Copied p at) = made_by_place p ++ Copy (place_type p) ∷ []
   made_by_initialiser (typed.Text pieces bytes) = []
   made_by_initialiser (typed.Listed at items comma t) = made_by_items items
 
@@ -309,6 +312,7 @@ node_made (Written place n) = n ∷ []
 node_made (Name name home t) = node_of_home home
 node_made (Literal pieces home t) = home ∷ []
 node_made (Address n) = n ∷ []
+node_made (Copy t) = []
 
 -- the nodes that were made, in order
 abbrev pub nodes_made : List Made → List NodeId
@@ -487,3 +491,14 @@ abbrev pub static_initialisers : TypedTranslationUnit → List StaticInitialiser
 static_initialisers typed.NoExternal = []
 static_initialisers (typed.AndExternal u d) = static_initialisers u ++ initialisers_in_declaration d
 static_initialisers (typed.AndFunctionBody u specifiers d brace items) = static_initialisers u ++ initialisers_in_items items
+
+-- Places of first tokens
+
+abbrev pub first_place : TypedExpr → Place
+first_place e = expr_place (erased e)
+
+abbrev pub first_place_of_place : TypedPlace → Place
+first_place_of_place p = expr_place (erased_place p)
+
+abbrev pub item_place : TypedInitialiser → Place
+item_place i = initialiser_place (erased_initialiser i)

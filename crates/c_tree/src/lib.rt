@@ -10,6 +10,7 @@ mod place;
 mod statement;
 mod typed_expr;
 mod typed_statement;
+mod typed_type;
 mod typed_unit;
 mod typed_word;
 

@@ -8,3 +8,4 @@ pub mod Equality
 pub mod Flows
 pub mod Widths
 pub mod Solutions
+pub mod Coverage

@@ -1,5 +1,5 @@
 -- The small programs are in shape.
-use Rattle.std.proofs.Common.{inl, ℕ, zero, suc, subst, ◌<◌, ◌≡◌, refl, List, [], ◌∷◌, All, Option, Some, lit<, lit≤, arith}
+use Rattle.std.proofs.Common.{pos, ◌++◌, inl, ℕ, zero, suc, subst, ◌<◌, ◌≡◌, refl, List, [], ◌∷◌, All, Option, Some, lit<, lit≤, arith}
 use Rattle.std.proofs.lemmas.List.Elements.{All-cons, All-nil}
 use Rattle.std.specs.declared.alloc.Global.{Global}
 use Rattle.integers.specs.Arithmetic as integer
@@ -7,22 +7,24 @@ use Rattle.c_types.specs.Sound.{IsWellFormed}
 use Rattle.c_types.specs.Layouts.{layout_of}
 use Rattle.c_types.specs.Cells.{cells_at}
 use Rattle.c_types.specs.Equality.{physically_equal}
-use Rattle.cil_form.specs.Small.{node, type, int, temp}
+use Rattle.cil_form.specs.Small.{code, node, type, int, temp}
 use Rattle.cil_form.specs.Machine.{variables_of}
-use Rattle.cil_form.specs.Programs.{loop_table, loop_round, loop_body, loop_main, loop_program, call_table, called_body, called, calling_body, calling, call_program, access_table, access_body, access_main, access_program}
+use Rattle.cil_form.specs.Programs.{loop_table, loop_round, loop_body, loop_main, loop_program, call_table, called_body, called, calling_body, calling, call_program, access_table, access_body, access_main, access_program, case_label, switch_labels, piece, write_character, first_round, first_loop, first_piece, switch_block, switch_body, switch_main, switch_program}
 use denote.Hole.Carrier
 use Rattle.cil_form.specs.declared.instr.Instr.TheBlock.{shape-the_row-Instr-0, hidden-the_row-Instr-0}
 use Rattle.cil_form.specs.Shape.{context_of, context_in, AreNodesOf, IsPlanInShape, IsFunctionInShape, IsInShape}
-use Rattle.cil_form.specs.Typing.{Typing, HeldType, IntegerOf, PointerTo, no_types, with_held, temporaries_limit, IsTemp, Includes, Leaves, inside, AreShaped, IsScalar, HoldsOf, AreArguments, same}
-use Rattle.cil_form.proofs.TypingLaws.{includes-all, shaped-if, shaped-loop}
+use Rattle.cil_form.specs.Typing.{Typing, HeldType, IntegerOf, PointerTo, no_types, with_held, temporaries_limit, IsTemp, Includes, Leaves, inside, AreShaped, IsScalar, HoldsOf, AreArguments, same, Context, IsInteger}
+use Rattle.cil_form.proofs.TypingLaws.{includes-all, includes-more, includes-with, includes-over, shaped-if, shaped-block, shaped-loop, shaped-append, shaped-less}
 use Rattle.cil_form.specs.declared.instr.Instr.TheVariants as instr
+use Rattle.cil_form.specs.declared.instr.Set.TheVariants as set
+use Rattle.cil_form.specs.declared.instr.Code.{Code}
 
 -- a property of each element, one by one
-abbrev Each : {X : Type 0} → (X → Type 0) → List X → Type 0
+abbrev pub Each : {X : Type 0} → (X → Type 0) → List X → Type 0
 Each P [] = Unit {0}
 Each P (x ∷ xs) = P x × Each P xs
 
-each-all : {X : Type 0} (P : X → Type 0) (xs : List X) → Each P xs → All P xs
+pub each-all : {X : Type 0} (P : X → Type 0) (xs : List X) → Each P xs → All P xs
 each-all P [] h = All-nil P
 each-all P (x ∷ xs) h = All-cons P x xs h.0 (each-all P xs h.1)
 
@@ -77,33 +79,82 @@ abbrev l11 : Typing
 l11 = with_held 1 (Some an_int) l10
 
 loop_choice : (alloc : Global) → AreShaped (instr.Break 0 ∷ []) (inside (context_in (loop_program alloc) (loop_main alloc)) no_types) l4 l4
-loop_choice alloc = (l4, (lit< tt, includes-none l4), includes-all l4)
+loop_choice alloc = (l4, (lit< tt, includes-none l4, includes-all l4), includes-all l4)
 
 pub loop_round-shaped : (alloc : Global) → AreShaped (loop_round alloc) (inside (context_in (loop_program alloc) (loop_main alloc)) no_types) no_types no_types
-loop_round-shaped alloc =
-    (l1, (refl, leaves-all no_types 0 (Some its_home) (lit< tt)),
-    (l2, (lit< tt, (lit< tt, refl), (is-temp 0 (lit< tt), refl), leaves-all l1 0 (Some an_int) (lit< tt)),
-    (l3, (integer.int, (lit< tt, refl), refl, leaves-all l2 1 (Some an_int) (lit< tt)),
-    (l4, (integer.int, (lit< tt, refl), (is-temp 0 (lit< tt), refl), (is-temp 1 (lit< tt), refl), leaves-all l3 0 (Some an_int) (lit< tt)),
-    (l4, shaped-if (temp 0) _ _ _ l4 l4 (an_int, (is-temp 0 (lit< tt), refl)) (includes-all l4) (loop_choice alloc),
-    (l5, (integer.int, (lit< tt, refl), refl, leaves-all l4 0 (Some an_int) (lit< tt)),
-    (l6, ((is-temp 0 (lit< tt), refl), leaves-all l5 0 (Some an_int) (lit< tt)),
-    (l7, (refl, leaves-all l6 0 (Some its_home) (lit< tt)),
-    (l8, (refl, leaves-all l7 1 (Some its_home) (lit< tt)),
-    (l9, (lit< tt, (lit< tt, refl), (is-temp 1 (lit< tt), refl), leaves-all l8 1 (Some an_int) (lit< tt)),
-    (l10, (integer.int, (lit< tt, refl), refl, leaves-all l9 2 (Some an_int) (lit< tt)),
-    (l11, (integer.int, (lit< tt, refl), (is-temp 1 (lit< tt), refl), (is-temp 2 (lit< tt), refl), leaves-all l10 1 (Some an_int) (lit< tt)),
-    (no_types, ((lit< tt, (is-temp 0 (lit< tt), refl)), ((lit< tt, refl), is-temp 1 (lit< tt), refl), includes-none l11),
-    includes-all no_types)))))))))))))
+loop_round-shaped alloc = (
+  l1,
+  (refl, leaves-all no_types 0 (Some its_home) (lit< tt)),
+  (
+    l2,
+    (lit< tt, (lit< tt, refl), (is-temp 0 (lit< tt), refl), leaves-all l1 0 (Some an_int) (lit< tt)),
+    (
+      l3,
+      (integer.int, (lit< tt, refl), refl, leaves-all l2 1 (Some an_int) (lit< tt)),
+      (
+        l4,
+        (integer.int, (lit< tt, refl), (is-temp 0 (lit< tt), refl), (is-temp 1 (lit< tt), refl), leaves-all l3 0 (Some an_int) (lit< tt)),
+        (
+          l4,
+          shaped-if (temp 0) _ _ _ l4 l4 (an_int, (is-temp 0 (lit< tt), refl)) (includes-all l4) (loop_choice alloc),
+          (
+            l5,
+            (integer.int, (lit< tt, refl), refl, leaves-all l4 0 (Some an_int) (lit< tt)),
+            (
+              l6,
+              ((is-temp 0 (lit< tt), refl), leaves-all l5 0 (Some an_int) (lit< tt)),
+              (
+                l7,
+                (refl, leaves-all l6 0 (Some its_home) (lit< tt)),
+                (
+                  l8,
+                  (refl, leaves-all l7 1 (Some its_home) (lit< tt)),
+                  (
+                    l9,
+                    (lit< tt, (lit< tt, refl), (is-temp 1 (lit< tt), refl), leaves-all l8 1 (Some an_int) (lit< tt)),
+                    (
+                      l10,
+                      (integer.int, (lit< tt, refl), refl, leaves-all l9 2 (Some an_int) (lit< tt)),
+                      (
+                        l11,
+                        (integer.int, (lit< tt, refl), (is-temp 1 (lit< tt), refl), (is-temp 2 (lit< tt), refl), leaves-all l10 1 (Some an_int) (lit< tt)),
+                        (
+                          no_types,
+                          ((lit< tt, (is-temp 0 (lit< tt), refl)), ((lit< tt, refl), is-temp 1 (lit< tt), refl), includes-none l11),
+                          includes-all no_types,
+                        ),
+                      ),
+                    ),
+                  ),
+                ),
+              ),
+            ),
+          ),
+        ),
+      ),
+    ),
+  ),
+)
 
 pub loop_body-shaped : (alloc : Global) → AreShaped (loop_body alloc) (context_in (loop_program alloc) (loop_main alloc)) no_types no_types
-loop_body-shaped alloc =
-    (no_types, shaped-loop _ _ no_types no_types no_types
-    (record { begins = includes-all no_types; keeps = includes-all no_types; ends = includes-all no_types }) (loop_round-shaped alloc),
-    (l1, (refl, leaves-all no_types 0 (Some its_home) (lit< tt)),
-    (l2, (lit< tt, (lit< tt, refl), (is-temp 0 (lit< tt), refl), leaves-all l1 0 (Some an_int) (lit< tt)),
-    (no_types, (refl, ((lit< tt, refl), is-temp 0 (lit< tt), refl)),
-    includes-all no_types))))
+loop_body-shaped alloc = (
+  no_types,
+  shaped-loop _ _ no_types no_types no_types
+      (record { begins = includes-all no_types; keeps = includes-all no_types; ends = includes-all no_types }) (loop_round-shaped alloc),
+  (
+    l1,
+    (refl, leaves-all no_types 0 (Some its_home) (lit< tt)),
+    (
+      l2,
+      (lit< tt, (lit< tt, refl), (is-temp 0 (lit< tt), refl), leaves-all l1 0 (Some an_int) (lit< tt)),
+      (
+        no_types,
+        (refl, ((lit< tt, refl), is-temp 0 (lit< tt), refl), includes-none l2),
+        includes-all no_types,
+      ),
+    ),
+  ),
+)
 
 loop_main-in_shape : (alloc : Global) → IsFunctionInShape (loop_program alloc) (loop_main alloc)
 unfolding shape-the_row-Instr-0 hidden-the_row-Instr-0 Carrier.hidden
@@ -132,13 +183,27 @@ loop_program-in_shape alloc formed = record {
 
 -- the function that is called, and the one that calls
 pub called_body-shaped : (alloc : Global) → AreShaped called_body (context_in (call_program alloc) (called alloc)) no_types no_types
-called_body-shaped alloc =
-    (l1, (refl, leaves-all no_types 0 (Some its_home) (lit< tt)),
-    (l2, (lit< tt, (lit< tt, refl), (is-temp 0 (lit< tt), refl), leaves-all l1 0 (Some an_int) (lit< tt)),
-    (l3, (integer.int, (lit< tt, refl), refl, leaves-all l2 1 (Some an_int) (lit< tt)),
-    (l4, (integer.int, (lit< tt, refl), (is-temp 0 (lit< tt), refl), (is-temp 1 (lit< tt), refl), leaves-all l3 0 (Some an_int) (lit< tt)),
-    (no_types, (refl, ((lit< tt, refl), is-temp 0 (lit< tt), refl)),
-    includes-all no_types)))))
+called_body-shaped alloc = (
+  l1,
+  (refl, leaves-all no_types 0 (Some its_home) (lit< tt)),
+  (
+    l2,
+    (lit< tt, (lit< tt, refl), (is-temp 0 (lit< tt), refl), leaves-all l1 0 (Some an_int) (lit< tt)),
+    (
+      l3,
+      (integer.int, (lit< tt, refl), refl, leaves-all l2 1 (Some an_int) (lit< tt)),
+      (
+        l4,
+        (integer.int, (lit< tt, refl), (is-temp 0 (lit< tt), refl), (is-temp 1 (lit< tt), refl), leaves-all l3 0 (Some an_int) (lit< tt)),
+        (
+          no_types,
+          (refl, ((lit< tt, refl), is-temp 0 (lit< tt), refl), includes-none l4),
+          includes-all no_types,
+        ),
+      ),
+    ),
+  ),
+)
 
 abbrev its_function : HeldType
 its_function = PointerTo (node 1) (type 9)
@@ -161,12 +226,23 @@ its_argument alloc (suc i) t e = absurd (cc (e))
 
 pub calling_body-shaped : (alloc : Global) → AreShaped calling_body (context_in (call_program alloc) (calling alloc)) no_types no_types
 unfolding physically_equal layout_of cells_at
-calling_body-shaped alloc =
-    (c1, (node 1, type 9, type 9, (lit< tt, refl), refl, refl, same (type 9), leaves-all no_types 0 (Some its_function) (lit< tt)),
-    (c2, (integer.int, (lit< tt, refl), refl, leaves-all c1 1 (Some an_int) (lit< tt)),
-    (c3, (node 1, type 9, int ∷ [], int, (lit< tt, refl), refl, refl, refl, (is-temp 0 (lit< tt), refl), its_argument alloc, leaves-all c2 0 (Some an_int) (lit< tt)),
-    (no_types, (refl, ((lit< tt, refl), is-temp 0 (lit< tt), refl)),
-    includes-all no_types))))
+calling_body-shaped alloc = (
+  c1,
+  (node 1, type 9, type 9, (lit< tt, refl), refl, refl, same (type 9), leaves-all no_types 0 (Some its_function) (lit< tt)),
+  (
+    c2,
+    (integer.int, (lit< tt, refl), refl, leaves-all c1 1 (Some an_int) (lit< tt)),
+    (
+      c3,
+      (node 1, type 9, int ∷ [], int, (lit< tt, refl), refl, refl, refl, (is-temp 0 (lit< tt), refl), its_argument alloc, leaves-all c2 0 (Some an_int) (lit< tt)),
+      (
+        no_types,
+        (refl, ((lit< tt, refl), is-temp 0 (lit< tt), refl), includes-none c3),
+        includes-all no_types,
+      ),
+    ),
+  ),
+)
 
 called-in_shape : (alloc : Global) → IsFunctionInShape (call_program alloc) (called alloc)
 called-in_shape alloc = record {
@@ -226,16 +302,39 @@ abbrev a6 : Typing
 a6 = with_held 0 (Some an_int) a5
 
 pub access_body-shaped : (alloc : Global) → AreShaped access_body (context_in (access_program alloc) (access_main alloc)) no_types no_types
-access_body-shaped alloc =
-    (a1, (refl, leaves-all no_types 0 (Some its_array) (lit< tt)),
-    (a2, (lit< tt, lit< tt, lit< tt, (3, refl), (is-temp 0 (lit< tt), refl), leaves-all a1 0 (Some its_element) (lit< tt)),
-    (a3, (integer.int, (lit< tt, refl), refl, leaves-all a2 1 (Some an_int) (lit< tt)),
-    (a4, (node 1, int, (lit< tt, refl), (lit< tt, refl), (is-temp 0 (lit< tt), refl), (integer.int, (is-temp 1 (lit< tt), refl)), leaves-all a3 0 (Some its_element) (lit< tt)),
-    (a5, (integer.int, (lit< tt, refl), refl, leaves-all a4 1 (Some an_int) (lit< tt)),
-    (a5, ((lit< tt, (is-temp 0 (lit< tt), refl)), ((lit< tt, refl), is-temp 1 (lit< tt), refl), includes-all a5),
-    (a6, (integer.int, (lit< tt, refl), refl, leaves-all a5 0 (Some an_int) (lit< tt)),
-    (no_types, (refl, ((lit< tt, refl), is-temp 0 (lit< tt), refl)),
-    includes-all no_types))))))))
+access_body-shaped alloc = (
+  a1,
+  (refl, leaves-all no_types 0 (Some its_array) (lit< tt)),
+  (
+    a2,
+    (lit< tt, lit< tt, lit< tt, (3, refl), (is-temp 0 (lit< tt), refl), leaves-all a1 0 (Some its_element) (lit< tt)),
+    (
+      a3,
+      (integer.int, (lit< tt, refl), refl, leaves-all a2 1 (Some an_int) (lit< tt)),
+      (
+        a4,
+        (node 1, int, (lit< tt, refl), (lit< tt, refl), (is-temp 0 (lit< tt), refl), (integer.int, (is-temp 1 (lit< tt), refl)), leaves-all a3 0 (Some its_element) (lit< tt)),
+        (
+          a5,
+          (integer.int, (lit< tt, refl), refl, leaves-all a4 1 (Some an_int) (lit< tt)),
+          (
+            a5,
+            ((lit< tt, (is-temp 0 (lit< tt), refl)), ((lit< tt, refl), is-temp 1 (lit< tt), refl), includes-all a5),
+            (
+              a6,
+              (integer.int, (lit< tt, refl), refl, leaves-all a5 0 (Some an_int) (lit< tt)),
+              (
+                no_types,
+                (refl, ((lit< tt, refl), is-temp 0 (lit< tt), refl), includes-none a6),
+                includes-all no_types,
+              ),
+            ),
+          ),
+        ),
+      ),
+    ),
+  ),
+)
 
 access_main-in_shape : (alloc : Global) → IsFunctionInShape (access_program alloc) (access_main alloc)
 access_main-in_shape alloc = record {
@@ -257,5 +356,175 @@ access_program-in_shape alloc formed = record {
   functions = each-all (IsFunctionInShape (access_program alloc)) (access_main alloc ∷ []) (access_main-in_shape alloc, tt);
   count = lit≤ tt;
   main = (access_main alloc, refl, (int, refl, (lit< tt, refl)));
+  cells = lit≤ tt;
+}
+
+-- the switch: what is known where its labels are tried, and in its pieces
+abbrev s1 : Typing
+s1 = with_held 0 (Some an_int) no_types
+
+abbrev s2 : Typing
+s2 = with_held 1 (Some an_int) s1
+
+abbrev s3 : Typing
+s3 = with_held 2 (Some an_int) s2
+
+abbrev s4 : Typing
+s4 = with_held 2 (Some an_int) s3
+
+abbrev s5 : Typing
+s5 = with_held 1 (Some an_int) s2
+
+s2-s1 : Includes s2 s1
+s2-s1 = includes-over s1 s1 1 (Some an_int) refl (includes-all s1)
+
+s4-s2 : Includes s4 s2
+s4-s2 = includes-over s3 s2 2 (Some an_int) refl (includes-over s2 s2 2 (Some an_int) refl (includes-all s2))
+
+s5-s1 : Includes s5 s1
+s5-s1 = includes-over s2 s1 1 (Some an_int) refl s2-s1
+
+-- the context of the switch's block, of its labels, of its first piece's loop and of that loop's round
+abbrev in_switch : Global → Context
+in_switch alloc = inside (context_in (switch_program alloc) (switch_main alloc)) no_types
+
+abbrev in_labels : Global → Context
+in_labels alloc = inside (in_switch alloc) s2
+
+abbrev in_loop : Global → Context
+in_loop alloc = inside (in_switch alloc) s1
+
+abbrev in_round : Global → Context
+in_round alloc = inside (in_loop alloc) s1
+
+chosen-kept : Includes (with_held 1 (Some an_int) s4) s2
+chosen-kept = includes-with s4 s1 1 (Some an_int) (includes-more s4 s2 s1 s4-s2 s2-s1)
+
+chosen : (alloc : Global) (k : ℕ) → integer.converted integer.int (pos k) ≡ pos k
+    → AreShaped (instr.Set (set.Integer (temp 1) (pos k) int) ∷ instr.Break 0 ∷ []) (in_labels alloc) s4 s2
+chosen alloc k fits =
+    (with_held 1 (Some an_int) s4, (integer.int, (lit< tt, refl), fits, leaves-all s4 1 (Some an_int) (lit< tt)),
+    (s2, (lit< tt, chosen-kept, chosen-kept), includes-all s2))
+
+label-shaped : (alloc : Global) (z k : ℕ) → integer.converted integer.int (pos z) ≡ pos z → integer.converted integer.int (pos k) ≡ pos k
+    → AreShaped (case_label alloc z k) (in_labels alloc) s2 s2
+label-shaped alloc z k fits small = (
+  s3,
+  (integer.int, (lit< tt, refl), fits, leaves-all s2 2 (Some an_int) (lit< tt)),
+  (
+    s4,
+    (integer.int, (lit< tt, refl), (is-temp 0 (lit< tt), refl), (is-temp 2 (lit< tt), refl), leaves-all s3 2 (Some an_int) (lit< tt)),
+    (
+      s2,
+      shaped-if (temp 2) _ _ (in_labels alloc) s4 s2 (an_int, (is-temp 2 (lit< tt), refl)) (chosen alloc k small) s4-s2,
+      includes-all s2,
+    ),
+  ),
+)
+
+write-shaped : (alloc : Global) (k : Context) (types : Typing) (z : ℕ) → IsInteger k int integer.int → integer.converted integer.int (pos z) ≡ pos z → Includes types s1 → AreShaped (write_character z) k types s1
+write-shaped alloc k types z it fits h = (
+  with_held 1 (Some an_int) types,
+  (integer.int, it, fits, leaves-all types 1 (Some an_int) (lit< tt)),
+  (
+    s1,
+    ((is-temp 1 (lit< tt), refl), (is-temp 1 (lit< tt), includes-over (with_held 1 (Some an_int) types) s1 1 (Some an_int) refl (includes-over types s1 1 (Some an_int) refl h))),
+    includes-all s1,
+  ),
+)
+
+round-shaped : (alloc : Global) → AreShaped first_round (in_round alloc) s1 s1
+round-shaped alloc = shaped-append (write_character 49) (instr.Break 1 ∷ []) (in_round alloc) s1 s1 s1
+    (write-shaped alloc (in_round alloc) s1 49 (lit< tt, refl) refl (includes-all s1)) (s1, (lit< tt, includes-all s1, includes-all s1), includes-all s1)
+
+first_loop-shaped : (alloc : Global) → AreShaped (first_loop alloc) (in_loop alloc) s1 s1
+first_loop-shaped alloc =
+    (s1, shaped-block _ (in_loop alloc) s1 s1 s1 (record { begins = includes-all s1; keeps = includes-all s1; ends = includes-all s1 }) (round-shaped alloc), includes-all s1)
+
+first_piece-shaped : (alloc : Global) → AreShaped (first_piece alloc) (in_switch alloc) s5 s1
+first_piece-shaped alloc =
+    (s1, shaped-loop _ (in_switch alloc) s5 s1 s1 (record { begins = s5-s1; keeps = includes-none s1; ends = includes-all s1 }) (first_loop-shaped alloc), includes-all s1)
+
+piece-shaped : (alloc : Global) (k : ℕ) (body : Code) → integer.converted integer.int (pos k) ≡ pos k → AreShaped body.0.items (in_switch alloc) s5 s1
+    → AreShaped (piece alloc k body) (in_switch alloc) s1 s1
+piece-shaped alloc k body small h = (
+  s2,
+  (integer.int, (lit< tt, refl), small, leaves-all s1 1 (Some an_int) (lit< tt)),
+  (
+    s5,
+    (integer.int, (lit< tt, refl), (is-temp 0 (lit< tt), refl), (is-temp 1 (lit< tt), refl), leaves-all s2 1 (Some an_int) (lit< tt)),
+    (
+      s1,
+      shaped-if (temp 1) body _ (in_switch alloc) s5 s1 (an_int, (is-temp 1 (lit< tt), refl)) h s5-s1,
+      includes-all s1,
+    ),
+  ),
+)
+
+labels-shaped : (alloc : Global) → AreShaped (switch_labels alloc) (in_labels alloc) s2 s2
+labels-shaped alloc = shaped-append (case_label alloc 97 0) (case_label alloc 98 1) (in_labels alloc) s2 s2 s2 (label-shaped alloc 97 0 refl refl) (label-shaped alloc 98 1 refl refl)
+
+pieces-shaped : (alloc : Global) → AreShaped (piece alloc 0 (code alloc (first_piece alloc) (lit< tt)) ++ piece alloc 1 (code alloc (write_character 50) (lit< tt))) (in_switch alloc) s1 s1
+pieces-shaped alloc = shaped-append (piece alloc 0 (code alloc (first_piece alloc) (lit< tt))) (piece alloc 1 (code alloc (write_character 50) (lit< tt))) (in_switch alloc) s1 s1 s1
+    (piece-shaped alloc 0 (code alloc (first_piece alloc) (lit< tt)) refl (first_piece-shaped alloc))
+    (piece-shaped alloc 1 (code alloc (write_character 50) (lit< tt)) refl (write-shaped alloc (in_switch alloc) s5 50 (lit< tt, refl) refl s5-s1))
+
+switch_block-shaped : (alloc : Global) → AreShaped (switch_block alloc) (in_switch alloc) no_types no_types
+switch_block-shaped alloc = (
+  s1,
+  leaves-all no_types 0 (Some an_int) (lit< tt),
+  (
+    s2,
+    (integer.int, (lit< tt, refl), refl, leaves-all s1 1 (Some an_int) (lit< tt)),
+    (
+      s2,
+      shaped-block _ (in_switch alloc) s2 s2 s2 (record { begins = includes-all s2; keeps = includes-none s2; ends = includes-all s2 }) (labels-shaped alloc),
+      (
+        s1,
+        (is-temp 1 (lit< tt), (is-temp 0 (lit< tt), includes-with s2 no_types 0 (Some an_int) (includes-none s2))),
+        shaped-less (piece alloc 0 (code alloc (first_piece alloc) (lit< tt)) ++ piece alloc 1 (code alloc (write_character 50) (lit< tt))) (in_switch alloc) s1 s1 no_types
+            (pieces-shaped alloc) (includes-none s1),
+      ),
+    ),
+  ),
+)
+
+switch_body-shaped : (alloc : Global) → AreShaped (switch_body alloc) (context_in (switch_program alloc) (switch_main alloc)) no_types no_types
+switch_body-shaped alloc = (
+  no_types,
+  shaped-block _ _ no_types no_types no_types (record { begins = includes-all no_types; keeps = includes-all no_types; ends = includes-all no_types }) (switch_block-shaped alloc),
+  (
+    s1,
+    (integer.int, (lit< tt, refl), refl, leaves-all no_types 0 (Some an_int) (lit< tt)),
+    (
+      no_types,
+      (refl, ((lit< tt, refl), is-temp 0 (lit< tt), refl), includes-none s1),
+      includes-all no_types,
+    ),
+  ),
+)
+
+switch_main-in_shape : (alloc : Global) → IsFunctionInShape (switch_program alloc) (switch_main alloc)
+unfolding shape-the_row-Instr-0 hidden-the_row-Instr-0 Carrier.hidden
+switch_main-in_shape alloc = record {
+  type = (int, lit< tt, refl, inl (lit< tt, refl));
+  parameters = lit≤ tt;
+  scalars = All-nil _;
+  variables = All-nil _;
+  body = record { shaped = switch_body-shaped alloc; nested = lit≤ tt };
+}
+
+pub switch_program-in_shape : (alloc : Global) → IsWellFormed (switch_program alloc).types → IsInShape (switch_program alloc)
+unfolding shape-the_row-Instr-0 hidden-the_row-Instr-0 Carrier.hidden
+switch_program-in_shape alloc formed = record {
+  formed = formed;
+  nodes = each-all (λ e. AreNodesOf 0 e.shape) loop_table (tt, (tt, (tt, (tt, (tt, (tt, (tt, (tt, (tt, (tt, tt))))))))));
+  sites = All-nil _;
+  statics = All-nil _;
+  globals = lit≤ tt;
+  initialisers = record { shaped = includes-all no_types; nested = lit≤ tt };
+  functions = each-all (IsFunctionInShape (switch_program alloc)) (switch_main alloc ∷ []) (switch_main-in_shape alloc, tt);
+  count = lit≤ tt;
+  main = (switch_main alloc, refl, (int, refl, (lit< tt, refl)));
   cells = lit≤ tt;
 }

@@ -1,5 +1,6 @@
 -- The laws of what is known of temporaries: more may be known before code than it asks, code after code, and the code that instructions hold.
-use Rattle.std.proofs.Common.{ℕ, ◌≡◌, sym, subst, Bool, true, false, List, [], ◌∷◌, ◌++◌, nat_eq, if◌then◌else◌, Option, Some, None, IsSome}
+use Rattle.std.proofs.Common.{refl, ℕ, ◌≡◌, sym, subst, Bool, true, false, List, [], ◌∷◌, ◌++◌, nat_eq, if◌then◌else◌, Option, Some, None, IsSome, arith}
+use Rattle.std.proofs.lemmas.Bool.Decides.{nat_tests}
 use Rattle.cc_base.specs.declared.number.TypeId.{TypeId}
 use Rattle.integers.specs.Arithmetic.{IntegerType}
 use Rattle.cil_form.specs.declared.number.Temp.{Temp}
@@ -47,6 +48,18 @@ includes-with more less t x h = λ u v e. known-by (nat_eq u t) x (less u) (more
 copied-by : (b : Bool) (x x' y z : Option HeldType) (v : HeldType) → (x ≡ Some v → x' ≡ Some v) → (y ≡ Some v → z ≡ Some v) → (if b then x else y) ≡ Some v → (if b then x' else z) ≡ Some v
 copied-by true x x' y z v k h e = k e
 copied-by false x x' y z v k h e = h e
+
+not-some : (o : Option HeldType) (v : HeldType) → o ≡ None → o ≡ Some v → ⊥
+not-some o v e d = absurd (cc (e, d))
+
+over-by : (b : Bool) (t u : ℕ) (x : Option HeldType) (less more : Typing) (v : HeldType) → nat_eq u t ≡ b → less t ≡ None → (less u ≡ Some v → more u ≡ Some v)
+    → less u ≡ Some v → (if b then x else more u) ≡ Some v
+over-by true t u x less more v e none h d = let it : u ≡ t = grind (arith, nat_tests) in absurd (not-some (less t) v none (subst (λ n. less n ≡ Some v) it d))
+over-by false t u x less more v e none h d = h d
+
+-- a temporary is written of which nothing has to be known
+pub includes-over : (more less : Typing) (t : ℕ) (x : Option HeldType) → less t ≡ None → Includes more less → Includes (with_held t x more) less
+includes-over more less t x none h = λ u v e. over-by (nat_eq u t) t u x less more v refl none (h u v) e
 
 -- Each rule asks no more where more is known
 
@@ -160,9 +173,9 @@ mutual
       ((l.0.0, holds-more more less t l.0.0 h l.0.1), row-more code k more less after h l.1, row-more other k more less after h l.2)
   instr-more (instr.Block' shape code) k more less after h l = (l.0, passes-more more less l.0 k after h l.1, l.2)
   instr-more (instr.Loop' shape code) k more less after h l = (l.0, passes-more more less l.0 k after h l.1, l.2)
-  instr-more (instr.Break n) k more less after h l = (l.0, includes-more more less k.kept h l.1)
-  instr-more instr.Return k more less after h l = l
-  instr-more (instr.ReturnValue v t at) k more less after h l = (l.0, of-more k more less v t h l.1)
+  instr-more (instr.Break n) k more less after h l = (l.0, includes-more more less k.kept h l.1, includes-more more less after h l.2)
+  instr-more instr.Return k more less after h l = (l.0, includes-more more less after h l.1)
+  instr-more (instr.ReturnValue v t at) k more less after h l = (l.0, of-more k more less v t h l.1, includes-more more less after h l.2)
 
   pub row-more : {m : _} (r : Row_of-Instr m) (k : Context) (more less after : Typing) → Includes more less → IsRowShaped r k less after → IsRowShaped r k more after
   row-more end_of-Instr k more less after h l = includes-more more less after h l

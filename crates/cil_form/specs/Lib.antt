@@ -5,5 +5,6 @@ pub mod Typing
 pub mod Shape
 pub mod Sites
 pub mod Laws
+pub mod Computes
 pub mod Small
 pub mod Programs

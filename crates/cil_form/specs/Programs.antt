@@ -17,6 +17,7 @@ use Rattle.cil_form.specs.declared.instr.Point.TheVariants as point
 use Rattle.cil_form.specs.declared.instr.Target.TheVariants as target
 use Rattle.cil_form.specs.declared.instr.Access.TheVariants as access
 use Rattle.cil_form.specs.declared.instr.RuntimeCall.TheVariants as runtime
+use Rattle.cil_form.specs.declared.instr.Code.{Code}
 use Rattle.cil_form.specs.declared.instr.Instr.{Instr}
 use Rattle.cil_form.specs.declared.instr.Instr.TheVariants as instr
 use Rattle.cil_form.specs.declared.program.Function.{Function}
@@ -125,3 +126,64 @@ access_program alloc = program access_table 2 (access_main alloc ∷ []) 0 (at 5
 -- its run, where the address of the array's first element is SEQ
 abbrev pub access_run : Global → SourceOutcome
 access_run alloc = code_run (access_program alloc) (kinds (Safe ∷ Seq ∷ [])) (Closed []) 1
+
+-- int main(void){switch(getchar()){case 97:for(;;){putchar(49);break;}case 98:putchar(50);}return 0;}
+
+-- `case` z, behind which piece number k stands, where temporary 0 holds the value: the number goes into temporary 1
+abbrev pub case_label : Global → ℕ → ℕ → List Instr
+case_label alloc z k =
+    instr.Set (set.Integer (temp 2) (pos z) int)
+    ∷ instr.Calculate (calculate.Binary (temp 2) (operator.Compare comparison.Equal) (temp 0) (temp 2) int (at 16))
+    ∷ instr.If (temp 2) (code alloc (instr.Set (set.Integer (temp 1) (pos k) int) ∷ instr.Break 0 ∷ []) (lit< tt)) (code alloc [] (lit< tt))
+    ∷ []
+
+-- the labels in order; where there is no `default`, the number of the pieces is that of none
+abbrev pub switch_labels : Global → List Instr
+switch_labels alloc = case_label alloc 97 0 ++ case_label alloc 98 1
+
+-- a piece runs where the first that runs, whose number temporary 0 holds, is none behind it
+abbrev pub piece : Global → ℕ → Code → List Instr
+piece alloc k body =
+    instr.Set (set.Integer (temp 1) (pos k) int)
+    ∷ instr.Calculate (calculate.Binary (temp 1) (operator.Compare comparison.LessOrEqual) (temp 0) (temp 1) int (at 16))
+    ∷ instr.If (temp 1) body (code alloc [] (lit< tt))
+    ∷ []
+
+-- the character of this number is written
+abbrev pub write_character : ℕ → List Instr
+write_character z = instr.Set (set.Integer (temp 1) (pos z) int) ∷ instr.Runtime (runtime.Putchar (temp 1) (temp 1)) ∷ []
+
+abbrev pub first_round : List Instr
+first_round = write_character 49 ++ instr.Break 1 ∷ []
+
+abbrev pub first_loop : Global → List Instr
+first_loop alloc = instr.Block (code alloc first_round (lit< tt)) ∷ []
+
+abbrev pub first_piece : Global → List Instr
+first_piece alloc = instr.Loop (code alloc (first_loop alloc) (lit< tt)) ∷ []
+
+abbrev pub switch_block : Global → List Instr
+switch_block alloc =
+    instr.Runtime (runtime.Getchar (temp 0))
+    ∷ instr.Set (set.Integer (temp 1) (pos 2) int)
+    ∷ instr.Block (code alloc (switch_labels alloc) (lit< tt))
+    ∷ instr.Set (set.Copy (temp 0) (temp 1))
+    ∷ piece alloc 0 (code alloc (first_piece alloc) (lit< tt))
+    ++ piece alloc 1 (code alloc (write_character 50) (lit< tt))
+
+abbrev pub switch_body : Global → List Instr
+switch_body alloc =
+    instr.Block (code alloc (switch_block alloc) (lit< tt))
+    ∷ instr.Set (set.Integer (temp 0) (pos 0) int)
+    ∷ instr.ReturnValue (temp 0) int (at 90)
+    ∷ []
+
+abbrev pub switch_main : Global → Function
+switch_main alloc = record { ty = type 9; parameters = []; locals = []; body = code alloc (switch_body alloc) (lit< tt) }
+
+abbrev pub switch_program : Global → Program
+switch_program alloc = program loop_table 0 (switch_main alloc ∷ []) 0 (at 5) (code alloc [] (lit< tt))
+
+-- its run on one byte of input
+abbrev pub switch_run : Global → ℕ → SourceOutcome
+switch_run alloc byte = code_run (switch_program alloc) (kinds []) (Closed (byte ∷ [])) 9

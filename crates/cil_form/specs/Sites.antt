@@ -1,6 +1,7 @@
 -- The sites of a program in three-address code: what its pointer types, its objects and its instructions ask of the kinds of the
 -- nodes, and what no instruction shows.
-use Rattle.std.specs.Prelude.{List, [], ◌∷◌, ◌++◌, flat_map, map}
+use Rattle.std.specs.Prelude.{◌≡◌, ◌⊎◌, ℕ, Option, Some, List, [], ◌∷◌, ◌++◌, flat_map, map}
+use Rattle.std.specs.List.{Contains}
 use Rattle.cc_base.specs.declared.kind.Kind.{Kind}
 use Rattle.cc_base.specs.declared.number.NodeId.{NodeId}
 use Rattle.cc_base.specs.declared.number.TypeId.{TypeId}
@@ -28,7 +29,9 @@ use Rattle.cil_form.specs.declared.instr.Instr.{Instr, Row_of-Instr, end_of-Inst
 use Rattle.cil_form.specs.declared.instr.Instr.TheVariants as instr
 use Rattle.cil_form.specs.declared.program.Program.{Program}
 use Rattle.src_mem.specs.Operations.{node_of_shape, pointee_of_shape}
+use Rattle.cil_form.specs.declared.number.Object.{Object}
 use Rattle.cil_form.specs.Machine.{plan, variables_of}
+use Rattle.cil_form.specs.Typing.{HeldType, IntegerOf, PointerTo, Typing, Context, IsPointer, IsObject}
 
 abbrev pub node_at : Table → TypeId → NodeId
 node_at table t = node_of_shape (shape_at table t)
@@ -105,6 +108,24 @@ sites_in p =
     ++ sites_of_code p.initialisers.0.items p.types
     ++ flat_map (λ f. sites_of_code f.body.0.items p.types) p.functions
     ++ p.sites
+
+-- Every site of the list is among the sites.
+abbrev pub Shows : List Site → List Site → Type 0
+Shows sites list = (s : Site) → Contains list s → Contains sites s
+
+-- a site says that the pointer's node points to this type, or is the home of an object of this type
+abbrev pub IsAsked : List Site → HeldType → Type 0
+IsAsked sites (IntegerOf i) = Unit {0}
+IsAsked sites (PointerTo node t) = Contains sites (Pointee node t) ⊎ Contains sites (Home node t)
+
+-- a site says so of each pointer that is known
+abbrev pub AreAsked : List Site → Typing → Type 0
+AreAsked sites types = (t : ℕ) (x : HeldType) → types t ≡ Some x → IsAsked sites x
+
+-- the sites tell of the pointer types and of the objects that code may name
+pub record TellsOf (sites : List Site) (k : Context) : Type 0 where
+  pub pointers : (t : TypeId) (node : NodeId) (u : TypeId) → IsPointer k t node u → Contains sites (Pointee node u)
+  pub objects : (o : Object) (home : NodeId) (t : TypeId) → IsObject k o home t → Contains sites (Home home t)
 
 -- A map from nodes to kinds is a solution of a program in three-address code where it is one of its sites.
 abbrev pub IsSolutionOf : Program → (NodeId → Kind) → Type 0

@@ -280,8 +280,7 @@ pub record Passes (types entry : Typing) (k : Context) (after : Typing) : Type 0
 abbrev pub GivesNothing : Context → Type 0
 GivesNothing k = (t : TypeId) × (k.result ≡ Some t) × (shape_at k.table t ≡ shape.Void)
 
--- Code begins with what the first typing knows, and what the second knows holds behind it. Nothing is said of what stands behind code that
--- doesn't go on. A block and a loop end with what they began with, so that a value which is held in them is held until they are left.
+-- Code begins with what the first typing knows, and what the second knows holds behind it. A block and a loop end with what they began with, so that a value which is held in them is held until they are left.
 abbrev mutual
   pub IsShaped : Instr → Context → Typing → Typing → Type 0
   IsShaped (instr.Set i) k types after = IsShapedSet i k types after
@@ -295,9 +294,9 @@ abbrev mutual
   IsShaped (instr.If' t shape code shape' other) k types after = HoldsScalar types t × IsRowShaped code k types after × IsRowShaped other k types after
   IsShaped (instr.Block' shape code) k types after = (entry : Typing) × Passes types entry k after × IsRowShaped code (inside k entry) entry entry
   IsShaped (instr.Loop' shape code) k types after = (entry : Typing) × Passes types entry k after × IsRowShaped code (inside k entry) entry entry
-  IsShaped (instr.Break n) k types after = (n < k.blocks) × Includes types k.kept
-  IsShaped instr.Return k types after = GivesNothing k
-  IsShaped (instr.ReturnValue v t at) k types after = (k.result ≡ Some t) × HoldsOf k types v t
+  IsShaped (instr.Break n) k types after = (n < k.blocks) × Includes types k.kept × Includes types after
+  IsShaped instr.Return k types after = GivesNothing k × Includes types after
+  IsShaped (instr.ReturnValue v t at) k types after = (k.result ≡ Some t) × HoldsOf k types v t × Includes types after
 
   -- instructions in order, as an instruction holds them
   pub IsRowShaped : {m : _} → Row_of-Instr m → Context → Typing → Typing → Type 0

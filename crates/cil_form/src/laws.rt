@@ -3,20 +3,21 @@
 ghost use Rattle.std.specs.Prelude.{◌≡◌, ℕ, suc, List, [], ◌∷◌, ◌++◌};
 ghost use Rattle.std.specs.declared.alloc.Global.{Global};
 ghost use Rattle.cc_base.specs.declared.fault.Check.TheVariants.{Bounds};
-ghost use Rattle.runs.specs.Outcome.{Ended, Done, from, either};
-ghost use Rattle.runs.specs.Control.{Leaves, then_go, block, go_round, rounds};
-ghost use Rattle.src_mem.specs.Pointers.{is_true};
-ghost use Rattle.src_mem.specs.State.{Exited, Turns, Stopped};
+ghost use Rattle.runs.specs.Outcome.{Ended, Done, Matches, from, either};
+ghost use Rattle.runs.specs.Control.{Control, Leaves, then_go, block, go_round, rounds};
+ghost use Rattle.src_mem.specs.Pointers.{Value, is_true};
+ghost use Rattle.src_mem.specs.State.{State, Act, Exited, Turns, Stopped};
 ghost use Rattle.cil_form.specs.declared.number.Temp.{Temp};
 ghost use Rattle.cil_form.specs.declared.instr.Instr.{Instr};
 ghost use Rattle.cil_form.specs.declared.instr.Instr.TheVariants.{If, Block, Loop, Break};
 ghost use Rattle.cil_form.specs.declared.instr.Code.{Code};
-ghost use Rattle.cil_form.specs.State.{Local, Step, Around};
+ghost use Rattle.cil_form.specs.State.{Temporaries, Local, Step, Around, gives_to};
 ghost use Rattle.cil_form.specs.Meaning.{act, run, round_of, loop};
 ghost use Rattle.cil_form.specs.Typing.{Typing, Context, Includes, HoldsScalar, Passes, inside, IsShaped, AreShaped};
 ghost use Rattle.cil_form.specs.Laws.{CodeWritesFrom, Keeps};
+ghost use Rattle.cil_form.specs.Computes.{EndsAlike, Held, Computes, Executes};
 ghost use Rattle.cil_form.specs.Small.{at, shown, access};
-ghost use Rattle.cil_form.specs.Programs.{loop_program, loop_run, call_program, call_run, access_program, access_run};
+ghost use Rattle.cil_form.specs.Programs.{loop_program, loop_run, call_program, call_run, access_program, access_run, switch_program, switch_run};
 ghost use Rattle.cil_form.specs.Shape.{IsInShape};
 ghost use Rattle.c_types.specs.Sound.{IsWellFormed};
 
@@ -46,6 +47,21 @@ pub fn a_loop_takes_a_turn_a_round()
 /// Code that writes no temporary below a number keeps all below it, however it is left.
 pub fn temporaries_below_are_kept()
     ensures { (is : List Instr) (w : Around) (low : ℕ) (c : Local) → CodeWritesFrom is low → Keeps low c.temps (run is w c) }
+{}
+
+/// What gives a value to a temporary computes it there.
+pub fn an_instruction_computes_its_value()
+    ensures { (t : ℕ) (m : Act Value) (c : Local) → Matches (Held t c.temps) EndsAlike (m c.state) (gives_to t m c) }
+{}
+
+/// Code that computes an operation, and then code that does the next one on the value that it finds, compute both.
+pub fn code_after_code_computes()
+    ensures { (a b : List Instr) (w : Around) (m : Act Value) (f : Value → Act Value) (t : ℕ) → Computes a w m t → ((T : Temporaries) (s : State) → Matches (Held t T) EndsAlike (f (T t) s) (run b w (record { state = s; temps = T }))) → Computes (a ++ b) w (λ s. from (m s) f) t }
+{}
+
+/// Code that executes a statement, and then code that executes the next one, execute both.
+pub fn code_after_code_executes()
+    ensures { (a b : List Instr) (w : Around) (m n : Act (Control Value)) (t : ℕ) → Executes a w m t → Executes b w n t → Executes (a ++ b) w (λ s. from (m s) (λ y. then_go y n)) t }
 {}
 
 /// Code that is in shape stays so where more is known of the temporaries before it, and where less is kept behind it.
@@ -83,9 +99,18 @@ pub fn a_checked_access_stops()
     ensures { (alloc : Global) → shown (access_run alloc) ≡ record { ending = Stopped Bounds (at 26); output = []; entered = 0 ∷ []; accesses = [] } }
 {}
 
-/// The three programs are in shape, as soon as their tables of types are well formed, which each table of `Types` is.
+/// `int main(void){switch(getchar()){case 97:for(;;){putchar(49);break;}case 98:putchar(50);}return 0;}` begins at the label of the
+/// byte that it reads, and goes on to the end.
+pub fn a_switch_runs()
+    ensures first { (alloc : Global) → (switch_run alloc 97).output ≡ 49 ∷ 50 ∷ [] }
+    ensures second { (alloc : Global) → (switch_run alloc 98).output ≡ 50 ∷ [] }
+    ensures other { (alloc : Global) → (switch_run alloc 99).output ≡ [] }
+{}
+
+/// The four programs are in shape, as soon as their tables of types are well formed, which each table of `Types` is.
 pub fn small_programs_are_in_shape()
     ensures looping { (alloc : Global) → IsWellFormed (loop_program alloc).types → IsInShape (loop_program alloc) }
     ensures calling { (alloc : Global) → IsWellFormed (call_program alloc).types → IsInShape (call_program alloc) }
+    ensures switching { (alloc : Global) → IsWellFormed (switch_program alloc).types → IsInShape (switch_program alloc) }
     ensures accessing { (alloc : Global) → IsWellFormed (access_program alloc).types → IsInShape (access_program alloc) }
 {}

@@ -1,6 +1,6 @@
 -- Small programs as typed trees, each with the kinds of its nodes, and what they give. The C text stands above each; what a tree
 -- doesn't say is the text's layout.
-use Rattle.std.specs.Prelude.{ℕ, pos, ◌+◌, List, [], ◌∷◌, ◌++◌, codes}
+use Rattle.std.specs.Prelude.{ℕ, pos, ◌+◌, List, [], ◌∷◌, ◌++◌, codes, Some, false}
 use Rattle.cc_base.specs.declared.kind.Kind.TheVariants.{Safe, Seq, Rtti, Wild}
 use Rattle.c_types.specs.declared.shape.TypeShape.TheVariants as shape
 use Rattle.c_types.specs.Table.{Table}
@@ -9,19 +9,24 @@ use Rattle.runs.specs.Outcome.{done, ◌>>=◌}
 use Rattle.runs.specs.Input.{Input, Closed}
 use Rattle.c_tree.specs.declared.operator.Binary.{Binary}
 use Rattle.c_tree.specs.declared.operator.Binary.TheVariants as binary
+use Rattle.c_tree.specs.declared.operator.Assignment.TheVariants as assignment
 use Rattle.c_tree.specs.declared.operator.Step.TheVariants as step
+use Rattle.c_tree.specs.declared.operator.Unary.TheVariants as unary
+use Rattle.c_tree.specs.declared.typed_word.Home.{Home}
+use Rattle.c_tree.specs.declared.typed_word.Home.TheVariants as home
+use Rattle.cc_base.specs.declared.number.TypeId.{TypeId}
 use Rattle.c_tree.specs.declared.typed_word.Conversion.TheVariants as conversion
 use Rattle.c_tree.specs.declared.typed_word.Runtime.TheVariants as runtime
 use Rattle.c_tree.specs.declared.typed_word.Side.TheVariants as side
 use Rattle.c_tree.specs.TypedTree as typed
-use Rattle.c_tree.specs.TypedTree.{TypedExpr, TypedPlace, TypedBlockItems, TypedTranslationUnit}
+use Rattle.c_tree.specs.TypedTree.{TypedExpr, TypedPlace, TypedInitialiser, TypedDeclaration, TypedStatement, TypedBlockItems, TypedTranslationUnit}
 use Rattle.src_mem.specs.Runs.{SourceOutcome, run_program}
 use Rattle.src_mem.specs.Pointers.{Integer}
 use Rattle.src_mem.specs.Memory.{new_variable}
 use Rattle.src_machine.specs.World.{World}
 use Rattle.src_machine.specs.Statements.{exec_items}
 use Rattle.src_machine.specs.Machine.{source_run, setting_of, result_of}
-use Rattle.src_machine.specs.Small.{Item, at, at_line, node, type, char, int, long, unsigned_long, entry, kinds, name, number, variable, value, null, flows, widened, type_name, arguments, string, body, local, local_is, declares, does, runs, returns, while, main, function, global, put, get, runtime_call, aggregate}
+use Rattle.src_machine.specs.Small.{Item, at, at_line, node, type, char, int, long, unsigned_long, entry, kinds, name, number, variable, value, null, flows, widened, type_name, arguments, string, specifiers, form, body, local, local_is, declares, does, runs, returns, while, main, function, global, put, get, runtime_call, aggregate}
 
 -- int main(void){int *p;p=0;return *p;}
 abbrev pub null_read : SourceOutcome
@@ -370,3 +375,99 @@ hashed_and_compared = source_run program table (kinds (Seq ∷ Seq ∷ Seq ∷ S
         (typed.Call (typed.FunctionName (name (codes "same") (at 0)) 1 (node 4) (type 17)) (at 0)
         (arguments (text (codes "\"cat\"") 13 6 19 12 ∷ text (codes "\"cat\"") 14 7 20 13 ∷ [])) int))
         ∷ []) (same (hash typed.NoExternal))
+
+-- int f(int n){int r=0;switch(n){case 1:r=r+1;case 2:r=r+2;break;default:r=r+4;case 3:r=r+8;}return r;}
+-- int main(void){int i=0;int s=0;
+-- do{i++;if(i==2)continue;s=s+i;}while(i<4);
+-- for(i=0;i<9;i++){if(i==5)break;s=s+1;}
+-- putchar(f(1));putchar(f(2));putchar(f(3));putchar(f(9));putchar(s);putchar(i);return 0;}
+abbrev pub controlled : SourceOutcome
+controlled = source_run program table (kinds []) (Closed []) 20
+  where
+    -- the homes of n, r, i and s: 0 to 3; the name f: 4 to 7
+    table : Table
+    table = basic_table ++ entry (shape.Function [] int) ∷ entry (shape.Function (int ∷ []) int)
+        ∷ entry (shape.Pointer (node 4) (type 10)) ∷ entry (shape.Pointer (node 5) (type 10)) ∷ entry (shape.Pointer (node 6) (type 10)) ∷ entry (shape.Pointer (node 7) (type 10)) ∷ []
+
+    int_of : Binary → TypedExpr → TypedExpr → TypedExpr
+    int_of operator a b = typed.Arithmetic operator a (at 0) b int
+
+    -- v = v + e
+    adds : ℕ → TypedExpr → Item
+    adds v e = does (typed.Assign (variable 0 v int) (at 0) (int_of binary.Add (value 0 v int) e))
+
+    case_of : ℕ → Item
+    case_of n all = typed.AndCase all (at 0) (number n) (pos n)
+
+    default_of : Item
+    default_of all = typed.AndDefault all (at 0)
+
+    steps : ℕ → TypedExpr
+    steps v = typed.StepAfter (variable 0 v int) step.Increment (at 0)
+
+    when : TypedExpr → TypedStatement → Item
+    when c s = runs (typed.If (at 0) (at 0) c s)
+
+    call : ℕ → ℕ → ℕ → TypedExpr
+    call n t k = typed.Call (typed.FunctionName (name (codes "f") (at 0)) 0 (node n) (type t)) (at 0) (arguments (number k ∷ [])) int
+
+    f : TypedTranslationUnit → TypedTranslationUnit
+    f = function (name (codes "f") (at 0)) (type 10) ((0, int) ∷ []) (
+        declares (local_is 1 int (at 0) (number 0))
+        ∷ runs (typed.Switch (at 0) (at 0) (value 0 0 int) (at 0) (body (
+              case_of 1 ∷ adds 1 (number 1) ∷ case_of 2 ∷ adds 1 (number 2) ∷ runs (typed.Break (at 0))
+              ∷ default_of ∷ adds 1 (number 4) ∷ case_of 3 ∷ adds 1 (number 8) ∷ [])))
+        ∷ returns (at 0) (value 0 1 int)
+        ∷ [])
+
+    program : TypedTranslationUnit
+    program = function (name (codes "main") (at 0)) (type 9) [] (
+        declares (local_is 2 int (at 0) (number 0))
+        ∷ declares (local_is 3 int (at 0) (number 0))
+        ∷ runs (typed.DoWhile (typed.Block (at 0) (body (
+              does (steps 2) ∷ when (int_of binary.Equal (value 0 2 int) (number 2)) (typed.Continue (at 0)) ∷ adds 3 (value 0 2 int) ∷ [])))
+              (at 0) (at 0) (int_of binary.Less (value 0 2 int) (number 4)))
+        ∷ runs (typed.For (at 0) (at 0) (Some (typed.Assign (variable 0 2 int) (at 0) (number 0))) (Some (int_of binary.Less (value 0 2 int) (number 9))) (Some (steps 2))
+              (typed.Block (at 0) (body (when (int_of binary.Equal (value 0 2 int) (number 5)) (typed.Break (at 0)) ∷ adds 3 (number 1) ∷ []))))
+        ∷ does (put (call 4 11 1)) ∷ does (put (call 5 12 2)) ∷ does (put (call 6 13 3)) ∷ does (put (call 7 14 9))
+        ∷ does (put (value 0 3 int)) ∷ does (put (value 0 2 int))
+        ∷ returns (at 0) (number 0)
+        ∷ []) (f typed.NoExternal)
+
+-- int a[3]={1,2};
+-- int main(void){char t[4]="ab";static int k=3;
+-- k+=a[0]+a[1]+a[2];t[3]=k;t[0]-=1;
+-- putchar(t[0]);putchar(t[2]);putchar(t[3]);return -1<1u;}
+abbrev pub initialised : SourceOutcome
+initialised = source_run program table (kinds (Safe ∷ Safe ∷ Safe ∷ Seq ∷ Seq ∷ Seq ∷ Seq ∷ Seq ∷ Seq ∷ Seq ∷ Seq ∷ [])) (Closed []) 20
+  where
+    -- the homes of a, t and k: 0 to 2; the decays: 3 to 10
+    table : Table
+    table = basic_table ++ entry (shape.Array int 3) ∷ entry (shape.Array char 4) ∷ entry (shape.Function [] int)
+        ∷ entry (shape.Pointer (node 3) int) ∷ entry (shape.Pointer (node 4) int) ∷ entry (shape.Pointer (node 5) int)
+        ∷ entry (shape.Pointer (node 6) char) ∷ entry (shape.Pointer (node 7) char) ∷ entry (shape.Pointer (node 8) char) ∷ entry (shape.Pointer (node 9) char) ∷ entry (shape.Pointer (node 10) char) ∷ []
+
+    a : ℕ → ℕ → ℕ → TypedExpr
+    a n t i = typed.Read (typed.Element side.Left (typed.Decay (variable 0 0 (type 9)) (node n) (type t)) (at 0) (number i) int)
+
+    t : ℕ → ℕ → ℕ → TypedPlace
+    t n ty i = typed.Element side.Left (typed.Decay (variable 0 1 (type 10)) (node n) (type ty)) (at 0) (number i) char
+
+    add : TypedExpr → TypedExpr → TypedExpr
+    add x y = typed.Arithmetic binary.Add x (at 0) y int
+
+    declared : Home → TypeId → TypedInitialiser → TypedDeclaration
+    declared h ty i = typed.Declare (specifiers ty) (typed.AndInitialised typed.NoInitDeclarator (typed.Declares (form (name [] (at 0)) h) ty) (at 0) i)
+
+    program : TypedTranslationUnit
+    program = function (name (codes "main") (at 0)) (type 11) [] (
+        declares (declared (home.Local (node 1)) (type 10) (typed.Text (record { bytes = codes "\"ab\""; place = at 0 } ∷ []) (codes "ab" ++ 0 ∷ [])))
+        ∷ declares (declared (home.Static (node 2)) int (typed.Value (number 3)))
+        ∷ does (typed.AssignWith assignment.Add (variable 0 2 int) (at 0) (add (add (a 3 12 0) (a 4 13 1)) (a 5 14 2)) int)
+        ∷ does (typed.Assign (t 6 15 3) (at 0) (widened char (value 0 2 int)))
+        ∷ does (typed.AssignWith assignment.Subtract (t 7 16 0) (at 0) (number 1) int)
+        ∷ does (put (widened int (typed.Read (t 8 17 0)))) ∷ does (put (widened int (typed.Read (t 9 18 2)))) ∷ does (put (widened int (typed.Read (t 10 19 3))))
+        ∷ returns (at 0) (typed.Arithmetic binary.Less (widened (type 6) (typed.Prefix unary.Minus (at 0) (number 1) int)) (at 0) (widened (type 6) (number 1)) int)
+        ∷ [])
+        (typed.AndExternal typed.NoExternal (declared (home.Static (node 0)) (type 9)
+            (typed.Listed (at 0) (typed.AndItem (typed.AndItem typed.NoItem 0 int (typed.Value (number 1))) 4 int (typed.Value (number 2))) false (type 9))))

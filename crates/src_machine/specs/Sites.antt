@@ -38,6 +38,17 @@ pointee_at table t = pointee_of_shape (shape_at table t)
 abbrev pub address_at : Table → TypedPlace → NodeId
 address_at table p = address_node (node_at table) p
 
+-- the nodes of the addresses that a place may have: of a choice between two structs those of both sides
+abbrev pub addresses_at : Table → TypedPlace → List NodeId
+addresses_at table (typed.ParenPlace at p) = addresses_at table p
+addresses_at table (typed.StructConditional c at p q) = addresses_at table p ++ addresses_at table q
+addresses_at table (typed.StructComma e p) = addresses_at table p
+addresses_at table other = address_at table other ∷ []
+
+-- a node is WILD exactly where the address of the place is
+abbrev pub linked_to : Table → NodeId → TypedPlace → List Site
+linked_to table n p = map (site.Linked n) (addresses_at table p)
+
 -- a pointer of type t moves, is subtracted or is put in order
 abbrev pub moves : Table → TypeId → Place → Site
 moves table t at = site.Arith (node_at table t) at
@@ -79,10 +90,10 @@ sites_of_expression table other = []
 abbrev pub sites_of_place : Table → TypedPlace → List Site
 sites_of_place table (typed.Element which a at b t) = moves table (type_of (pointer_side which a b)) at ∷ []
 -- a member's place is an address of a part of its struct
-sites_of_place table (typed.Member p at name i n t) = site.Pointee n t ∷ site.Linked n (address_at table p) ∷ []
+sites_of_place table (typed.Member p at name i n t) = site.Pointee n t ∷ linked_to table n p
 sites_of_place table (typed.MemberAt e at name i n t) = site.Pointee n t ∷ site.Linked n (node_at table (type_of e)) ∷ []
 -- the two sides of an assignment of structs or unions, and of a choice between them
-sites_of_place table (typed.StructAssign p at q) = site.Linked (address_at table p) (address_at table q) ∷ []
+sites_of_place table (typed.StructAssign p at q) = linked_to table (address_at table p) q
 sites_of_place table (typed.StructConditional c at p q) = site.Linked (address_at table p) (address_at table q) ∷ []
 sites_of_place table other = []
 
@@ -99,7 +110,7 @@ sites_of_specifier other = []
 abbrev mutual
   pub copies_in : Table → NodeId → TypedInitialiser → List Site
   copies_in table n (typed.Value e) = []
-  copies_in table n (typed.Copied p at) = site.Linked n (address_at table p) ∷ []
+  copies_in table n (typed.Copied p at) = linked_to table n p
   copies_in table n (typed.Text pieces bytes) = []
   copies_in table n (typed.Listed at items comma t) = copies_in_items table n items
 

@@ -162,17 +162,18 @@ while_loop test body step = loop (do
     flow ← body
     then_round (round_of flow) step) (done (Leaves 0)))
 
--- those of `do`: body, condition
+-- where the body of a `do` goes on, its condition decides
+abbrev pub again : Act Bool → Control Value → Act (Control Value)
+again test Goes = do
+  go ← test
+  either go (done Goes) (done (Leaves 0))
+again test x = done x
+
+-- the rounds of `do`: body, condition
 abbrev pub do_loop : Act Flow → Act Bool → Act Flow
 do_loop body test = loop (do
   flow ← body
-  again (round_of flow))
-  where
-    again : Control Value → Act (Control Value)
-    again Goes = do
-      go ← test
-      either go (done Goes) (done (Leaves 0))
-    again x = done x
+  again test (round_of flow))
 
 -- A `switch` begins behind the `case` of its value, else behind its `default`, else nowhere.
 pub data Label : Type 0 where

@@ -2,14 +2,20 @@
 //! open, and tries before each use of memory the conditions that the kinds of its pointers ask for.
 #![tactic(auto)]
 
-ghost use Rattle.std.specs.Prelude.{◌≡◌, [], ◌∷◌};
+ghost use Rattle.std.specs.Prelude.{◌≡◌, ◌≤◌, ℕ, [], ◌∷◌, length};
+ghost use Rattle.cc_base.specs.declared.kind.Kind.{Kind};
+ghost use Rattle.cc_base.specs.declared.number.NodeId.{NodeId};
+ghost use Rattle.c_types.specs.Table.{Table};
+ghost use Rattle.c_tree.specs.TypedTree.{TypedTranslationUnit};
 ghost use Rattle.cc_base.specs.declared.fault.Check.TheVariants.{Null, Bounds, Range, Cast, Escape, Tag, Fun, Divide, Depth};
-ghost use Rattle.runs.specs.Input.{Closed, Open};
-ghost use Rattle.src_mem.specs.State.{Stopped, Exited, Turns, Wants};
+ghost use Rattle.runs.specs.Input.{Input, Closed, Open};
+ghost use Rattle.src_mem.specs.State.{Stopped, Exited, Turns, Wants, bytes_of};
+ghost use Rattle.src_mem.specs.Laws.{AreWhole};
+ghost use Rattle.src_machine.specs.Machine.{source_run};
 ghost use Rattle.c_types.specs.declared.site.Site.TheVariants.{Pointee, Home, Linked, Flow};
 ghost use Rattle.src_machine.specs.Sites.{sites_of};
 ghost use Rattle.src_machine.specs.Small.{node, type, int, at, at_line, shown, access};
-ghost use Rattle.src_machine.specs.Programs.{null_read, past_the_end, stepped_over, address_kept, address_program, address_table, freed_read, size_of_pointer, union_read, divided_by_zero, echoes, goes_on, recursion, recursion_at, moved_too_far, cast_down, called_otherwise, struct_kept, hashed_and_compared};
+ghost use Rattle.src_machine.specs.Programs.{null_read, past_the_end, stepped_over, address_kept, address_program, address_table, freed_read, size_of_pointer, union_read, divided_by_zero, echoes, goes_on, recursion, recursion_at, moved_too_far, cast_down, called_otherwise, struct_kept, hashed_and_compared, controlled, initialised};
 
 /// What small programs do that use SAFE and SEQ pointers.
 pub fn programs_with_bounds()
@@ -44,6 +50,14 @@ pub fn word_counter_parts()
     ensures calls { hashed_and_compared.entered ≡ 2 ∷ 0 ∷ 1 ∷ [] }
 {}
 
+/// `switch`, `do`, `for`, `break` and `continue`; initialisers, static ones among them, compound assignments and the usual
+/// arithmetic conversions.
+pub fn statements_and_initialisers()
+    ensures controlled { controlled.output ≡ 3 ∷ 2 ∷ 8 ∷ 12 ∷ 13 ∷ 5 ∷ [] }
+    ensures initialised { initialised.output ≡ 96 ∷ 0 ∷ 6 ∷ [] }
+    ensures status { initialised.ending ≡ Exited 0 }
+{}
+
 /// A recursion without end is stopped at its call where that would be the 1,024th that is nested.
 pub fn recursion_is_stopped()
     ensures goes_on { (recursion_at 1022).ending ≡ Exited 7 }
@@ -54,4 +68,14 @@ pub fn recursion_is_stopped()
 /// part of x, and its flow into g.
 pub fn sites_of_a_program()
     ensures { sites_of address_program address_table ≡ Pointee (node 0) int ∷ Pointee (node 3) int ∷ Home (node 1) (type 9) ∷ Home (node 2) int ∷ Linked (node 3) (node 2) ∷ Flow (node 3) int (node 0) int (at 30) ∷ [] }
+{}
+
+/// A run reads no more input than there is.
+pub fn runs_read_what_is_there()
+    ensures { (u : TypedTranslationUnit) (table : Table) (kind : NodeId → Kind) (input : Input) (turns : ℕ) → (source_run u table kind input turns).read ≤ length (bytes_of input) }
+{}
+
+/// At the end of a run each object has as many bytes as its size, and those under a stored pointer are zero.
+pub fn objects_are_whole_at_the_end()
+    ensures { (u : TypedTranslationUnit) (table : Table) (kind : NodeId → Kind) (input : Input) (turns : ℕ) → AreWhole (source_run u table kind input turns).memory.objects }
 {}

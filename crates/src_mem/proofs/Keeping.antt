@@ -84,7 +84,7 @@ keep_placed P w place (c ∷ cs) = keep_then (keep_checked P w (place c) c) (kee
 pub keep_all : (P : State → Type 0) (w : Setting) (place : Place) (cs : List Condition) → Keeps P (all_checked w place cs)
 keep_all P w place cs = keep_placed P w (λ c. place) cs
 
-ruleset acts = (keep_done, keep_wrong, keep_ends, keep_bind, keep_then, keep_either, keep_allowed, keep_given, keep_checked, keep_placed, keep_all, keep_integer, keep_pointer)
+pub ruleset acts = (keep_done, keep_wrong, keep_ends, keep_bind, keep_then, keep_either, keep_allowed, keep_given, keep_checked, keep_placed, keep_all, keep_integer, keep_pointer)
 
 module _ {P : State → Type 0} (I : IsInvariant P) where
   -- Primitives

@@ -5,4 +5,6 @@ pub mod Spots
 pub mod Right
 pub mod NotWrong
 pub mod OperationsRight
+pub mod CopiesRight
 pub mod Keeping
+pub mod Invariants

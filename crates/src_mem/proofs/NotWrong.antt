@@ -70,7 +70,7 @@ second_holds true c h = h
 second_holds false c h = absurd (cc (h))
 
 -- the first condition of an access is on its bounds
-bounds_first : (w : Setting) (memory : Memory) (kind : Kind) (m : ℕ) (p : Pointer) (rest : List Condition)
+pub bounds_first : (w : Setting) (memory : Memory) (kind : Kind) (m : ℕ) (p : Pointer) (rest : List Condition)
     → list_all (holds w memory) (bounds_of kind m p ∷ rest) ≡ true → holds w memory (bounds_of kind m p) ≡ true
 bounds_first w memory kind m p rest h = first_holds (holds w memory (bounds_of kind m p)) (list_all (holds w memory) rest) h
 

@@ -133,7 +133,7 @@ plain_part n m t l s a =
     subst (λ z. IsNotWrong (given (part_at (z +ℤ pos n) m) (λ part. done (At (record { object = l.object; part = part; offset = l.offset +ℤ pos n; made = t }))) s)) (sym a.1) tt
 
 -- the address of a part of an object that a pointer is at
-address_right : (kind : Kind) (n m : ℕ) (t : TypeId) (l : Location) (o : Object) (s : State) → slice_get s.memory.objects l.object ≡ Some o
+pub address_right : (kind : Kind) (n m : ℕ) (t : TypeId) (l : Location) (o : Object) (s : State) → slice_get s.memory.objects l.object ≡ Some o
     → (kind ≢ Wild → (at : ℕ) × (l.offset ≡ pos at)) → IsNotWrong (address kind n m t (At l) s)
 address_right Wild n m t l o s found stands =
     subst (λ r. IsNotWrong (given (whole_part r) (λ part. done (At (record { object = l.object; part = part; offset = l.offset +ℤ pos n; made = t }))) s)) (sym found) tt
@@ -142,17 +142,17 @@ address_right Seq n m t l o s found stands = plain_part n m t l s (stands seq≢
 address_right Rtti n m t l o s found stands = plain_part n m t l s (stands rtti≢wild)
 
 -- a pointer at an object, at a byte of it where it isn't WILD
-record IsPlaced (kind : Kind) (objects : List Object) (p : Pointer) : Type 0 where
-  location : Location
-  is : p ≡ At location
-  object : Object
-  found : slice_get objects location.object ≡ Some object
-  stands : kind ≢ Wild → (at : ℕ) × (location.offset ≡ pos at)
+pub record IsPlaced (kind : Kind) (objects : List Object) (p : Pointer) : Type 0 where
+  pub location : Location
+  pub is : p ≡ At location
+  pub object : Object
+  pub found : slice_get objects location.object ≡ Some object
+  pub stands : kind ≢ Wild → (at : ℕ) × (location.offset ≡ pos at)
 
 touch_placed : (kind : Kind) (objects : List Object) (p : Pointer) (m : ℕ) → MayTouch kind objects p m → IsPlaced kind objects p
 touch_placed kind objects p m t = record { location = t.location; is = t.pointer; object = t.object; found = t.right.found; stands = λ n. (t.at, t.right.offset) }
 
-placed : (w : Setting) (memory : Memory) (depth : ℕ) (kind : Kind) (t : TypeId) (p : Pointer) (offset m : ℕ) → IsHeld w memory.objects depth kind t p → is_function w.table t ≡ false
+pub placed : (w : Setting) (memory : Memory) (depth : ℕ) (kind : Kind) (t : TypeId) (p : Pointer) (offset m : ℕ) → IsHeld w memory.objects depth kind t p → is_function w.table t ≡ false
     → list_all (holds w memory) (conditions_of (AddressMember offset m) kind p) ≡ true → IsPlaced kind memory.objects p
 placed w memory depth Safe t p offset m held data_type h =
     touch_placed Safe memory.objects p 0 (safe_touches w memory.objects depth 0 t p held data_type (first_holds (holds w memory (NotNull p)) _ h) (omega arith))

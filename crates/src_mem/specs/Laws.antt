@@ -1,5 +1,5 @@
 -- The words of the laws on memory.
-use Rattle.std.specs.Prelude.{ℤ, ◌≡◌, ℕ, List, length, slice_get, Some, ⊤}
+use Rattle.std.specs.Prelude.{◌≤◌, ℤ, ◌≡◌, ℕ, List, length, slice_get, Some, ⊤}
 use Rattle.cc_base.specs.declared.kind.Kind.{Kind}
 use Rattle.cc_base.specs.declared.number.TypeId.{TypeId}
 use Rattle.cc_base.specs.declared.number.NodeId.{NodeId}
@@ -11,7 +11,8 @@ use Rattle.integers.specs.Arithmetic.{IntegerType, Operator}
 use Rattle.runs.specs.Outcome.{Outcome, Ended, Done}
 use Rattle.src_mem.specs.Pointers.{Pointer, Value, Integer, Address}
 use Rattle.src_mem.specs.Memory.{Object, Planned}
-use Rattle.src_mem.specs.State.{Ending, Wrong, State, Act, Setting, touched, turn}
+use Rattle.src_mem.specs.State.{Ending, Wrong, State, Act, Setting, bytes_of, touched, turn}
+use Rattle.runs.specs.Input.{Input}
 use Rattle.src_mem.specs.Primitives.{store_integer, store_pointer, clear, copy, allocate, enter, leave, get, put}
 
 -- the state in which an outcome leaves a run
@@ -79,3 +80,8 @@ pub record IsInvariant (P : State → Type 0) : Type 0 where
   pub read : Keeps P get
   pub written : (z : ℤ) → Keeps P (put z)
   pub turned : Keeps P turn
+
+-- the run reads this input, and has read no more than there is
+pub record ReadsWhatIsThere (input : Input) (s : State) : Type 0 where
+  pub same : s.input ≡ input
+  pub most : s.read ≤ length (bytes_of input)

@@ -3,7 +3,7 @@
 //! Each law is the contract of a function that does nothing, so that it is proved once and can be cited.
 #![tactic(auto)]
 
-ghost use Rattle.std.specs.Prelude.{◌≡◌, ◌⊎◌, ◌↔◌, ℕ, ◌≤◌, ℤ, pos, Bool, List, ◌∷◌, [], ◌++◌, length, IsTrue, IsFalse};
+ghost use Rattle.std.specs.Prelude.{◌≡◌, ◌≢◌, ◌⊎◌, ◌↔◌, ℕ, ◌≤◌, ℤ, pos, Bool, List, ◌∷◌, [], ◌++◌, length, IsTrue, IsFalse};
 ghost use Rattle.std.specs.Cmp.{IsEquivalence};
 ghost use Rattle.cc_base.specs.declared.place.Place.{Place};
 ghost use Rattle.cc_base.specs.declared.kind.Kind.{Kind};
@@ -14,14 +14,17 @@ ghost use Rattle.flat_mem.specs.Bytes.{IsAccessSize};
 ghost use Rattle.integers.specs.Words.{residue};
 ghost use Rattle.integers.specs.Arithmetic.{IntegerType, Operator, converted};
 ghost use Rattle.c_types.specs.Table.{shape_at, is_function};
+ghost use Rattle.c_types.specs.Layouts.{size_of};
+ghost use Rattle.c_types.specs.Cells.{holds_pointer};
+ghost use Rattle.c_types.specs.Equality.{cells_of};
 ghost use Rattle.runs.specs.Outcome.{Done, from};
 ghost use Rattle.src_mem.specs.Pointers.{Pointer, Value, same_pointer};
 ghost use Rattle.src_mem.specs.Memory.{Planned};
 ghost use Rattle.src_mem.specs.State.{State, Act, Setting, bytes_of};
 ghost use Rattle.src_mem.specs.Primitives.{load_integer, load_pointer, store_integer, store_pointer, clear, copy, allocate, enter, leave, called, get, put};
-ghost use Rattle.src_mem.specs.Checks.{Used, Call, conditions_of, all_checked};
-ghost use Rattle.src_mem.specs.Uses.{read, write};
-ghost use Rattle.src_mem.specs.Operations.{kind_in, moved, subtracted, equated, compared, converted_pointer, member};
+ghost use Rattle.src_mem.specs.Checks.{Used, HasBase, Call, conditions_of, holds, all_checked};
+ghost use Rattle.src_mem.specs.Uses.{read, write, copy_all};
+ghost use Rattle.src_mem.specs.Operations.{Located, decayed, kind_in, moved, subtracted, equated, compared, converted_pointer, member};
 ghost use Rattle.src_mem.specs.Facts.{IsSoundMemory, IsHeld};
 ghost use Rattle.src_mem.specs.Laws.{AreWhole, KeepsWhole, GivesNext, IsNotWrong, IsScalar, IsScalarValue, IsOrder, left_by};
 
@@ -76,4 +79,12 @@ pub fn pointer_operations_are_not_wrong()
     ensures conversion { (w : Setting) (at : Place) (t u : TypeId) (p : Pointer) (s : State) → IsNotWrong (converted_pointer w at t u p s) }
     ensures members { (w : Setting) (at : Place) (depth : ℕ) (kind : Kind) (t : TypeId) (i : ℕ) (node : NodeId) (u : TypeId) (p : Pointer) (s : State) → ((kind ≡ Wild) ↔ (w.kind node ≡ Wild)) → IsFalse (is_function w.table t) → IsHeld w s.memory.objects depth kind t p → IsNotWrong (member w at kind t i node u p s) }
     ensures calls { (w : Setting) (at : Place) (depth deeper : ℕ) (kind : Kind) (t : TypeId) (p : Pointer) (next : ℕ → Act Value) (s : State) → (kind ≡ Safe) ⊎ (kind ≡ Wild) → IsTrue (is_function w.table t) → IsHeld w s.memory.objects depth kind t p → ((f : ℕ) → IsNotWrong (next f s)) → IsNotWrong (from (all_checked w at (conditions_of (Call t deeper) kind p) s) (λ a. called p next)) }
+{}
+
+/// The decay of an array, and the copy of a struct or union that holds no pointers or is WILD, are wrong nowhere with their conditions
+/// before them. A complete type has a cell for each byte. An array that no condition is tried for is a variable's or a member's,
+/// which is at an object.
+pub fn decays_and_copies_are_not_wrong()
+    ensures decay { (w : Setting) (depth : ℕ) (check : Bool) (node : NodeId) (array element : TypeId) (l : Located) (s : State) → ((l.kind ≡ Wild) ↔ (w.kind node ≡ Wild)) → IsFalse (is_function w.table array) → IsHeld w s.memory.objects depth l.kind array l.pointer → IsTrue check ⊎ ((l.kind ≢ Seq) × IsTrue (holds w s.memory (HasBase l.pointer))) → IsNotWrong (decayed w check node array element l s) }
+    ensures copying { (w : Setting) (depth : ℕ) (t : TypeId) (source_place : Place) (from_kind : Kind) (source : Pointer) (target_place : Place) (to_kind : Kind) (target : Pointer) (place : Place) (s : State) → IsFalse (holds_pointer w.table t) ⊎ (from_kind ≡ Wild) → IsFalse (is_function w.table t) → length (cells_of w.table t) ≡ size_of w.table t → IsHeld w s.memory.objects depth from_kind t source → IsHeld w s.memory.objects depth to_kind t target → IsNotWrong (copy_all w t source_place from_kind source target_place to_kind target place s) }
 {}

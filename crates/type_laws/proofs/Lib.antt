@@ -4,3 +4,5 @@ pub mod Refine
 pub mod Levels
 pub mod Pointers
 pub mod Sizes
+pub mod Standing
+pub mod Coverage

@@ -3,7 +3,7 @@
 //! nothing, so that it is proved once and can be cited.
 #![tactic(auto)]
 
-ghost use Rattle.std.specs.Prelude.{◌≡◌, ℕ, suc, ◌+◌, ◌*◌, ◌≤◌, List, ◌++◌, length, map, replicate, IsTrue, IsFalse};
+ghost use Rattle.std.specs.Prelude.{◌≡◌, ◌↔◌, ℕ, suc, ◌+◌, ◌*◌, ◌≤◌, List, ◌++◌, length, map, replicate, IsTrue, IsFalse};
 ghost use Rattle.std.specs.List.{range_with_len};
 ghost use Rattle.std.specs.Cmp.{IsEquivalence};
 ghost use Rattle.c_types.specs.declared.flow_class.FlowClass.TheVariants.{UpTile, Bad};
@@ -15,6 +15,7 @@ ghost use Rattle.c_types.specs.Layouts.{size_of, offset_of};
 ghost use Rattle.c_types.specs.Cells.{Cell, raw, mixed, Relation, pointer_cells};
 ghost use Rattle.c_types.specs.Equality.{made_alike, within, equal_at_level, physically_equal, begins_with, strictly_below, cells_of};
 ghost use Rattle.c_types.specs.Flows.{flow_class, IsOfOneClass, Covers};
+ghost use Rattle.c_types.specs.Coverage.{covers, of_one_class};
 ghost use Rattle.c_types.specs.Sound.{IsWellFormed};
 ghost use Rattle.c_types.specs.Widths.{width_of};
 ghost use Rattle.type_laws.specs.Small.{node, int, char_and_pointer, char_alone, int_array, mixed_union, other_union, int_list, other_list, small_table};
@@ -62,6 +63,12 @@ pub fn one_class_is_an_equivalence()
 pub fn covering_is_a_preorder()
     ensures reflexive { (table : Table) (kind : NodeId → Kind) (t : TypeId) → IsFalse (is_function table t) → Covers table kind t t }
     ensures transitive { (table : Table) (kind : NodeId → Kind) (t u v : TypeId) → IsWellFormed table → Covers table kind t u → Covers table kind u v → Covers table kind t v }
+{}
+
+/// Coverage and the one class of types, as functions that compute, are the relations, for every table and all kinds.
+pub fn coverage_is_computed()
+    ensures covers { (table : Table) (kind : NodeId → Kind) (t u : TypeId) → IsTrue (covers table kind t u) ↔ Covers table kind t u }
+    ensures one_class { (table : Table) (kind : NodeId → Kind) (t u : TypeId) → IsTrue (of_one_class table kind t u) ↔ IsOfOneClass table kind t u }
 {}
 
 /// The width of a list of cells is the sum of the widths of its parts.

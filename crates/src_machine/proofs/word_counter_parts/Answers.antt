@@ -3,7 +3,7 @@ use Rattle.c_types.specs.Layouts.{layout_of}
 use Rattle.c_types.specs.Cells.{cells_at, holds_pointer}
 use Rattle.c_types.specs.Equality.{physically_equal}
 use Rattle.flat_mem.specs.Bytes.{number, stored, zeroed, bytes_at, written}
-use Rattle.src_mem.specs.Coverage.{kinds_agree}
+use Rattle.c_types.specs.Coverage.{kinds_agree}
 use Rattle.src_mem.specs.Runs.{nested_limit}
 use Rattle.src_machine.proofs.word_counter_parts.Goals as goal
 

@@ -1,0 +1,4 @@
+pub mod Tests
+pub mod DeclarationRules
+pub mod StatementRules
+pub mod UnitRules

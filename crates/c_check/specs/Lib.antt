@@ -3,3 +3,4 @@ pub mod Units
 pub mod WellTyped
 pub mod Holding
 pub mod Limits
+pub mod UnitRefusals

@@ -8,7 +8,7 @@ use Rattle.c_types.specs.declared.shape.TypeShape.{TypeShape}
 use Rattle.c_types.specs.declared.shape.TypeShape.TheVariants as shape
 use Rattle.c_types.specs.Table.{shape_at}
 use Rattle.integers.specs.Arithmetic as integer
-use Rattle.integers.specs.Arithmetic.{Operator, truth}
+use Rattle.integers.specs.Arithmetic.{Operator, converted, truth}
 use Rattle.runs.specs.Outcome.{done, ◌>>=◌, ◌>>◌}
 use Rattle.runs.specs.Control.{Control, Goes, Leaves, Gives, rounds, go_round}
 use Rattle.c_tree.specs.declared.operator.Binary.TheVariants as binary
@@ -194,7 +194,7 @@ module _ {P : State → Type 0} (I : IsInvariant P) where
     keep_text : (at : Place) (char : TypeId) (bytes : List ℕ) (l : Located) → Keeps P (store_text w at char bytes l)
     keep_text at char [] l = keep_done P tt
     keep_text at char (b ∷ bytes) l =
-        keep_then (keep_write I w.setting at at l.kind char l.pointer (Integer (pos b))) (keep_text at char bytes (record l { pointer = forward 1 l.pointer }))
+        keep_then (keep_write I w.setting at at l.kind char l.pointer (Integer (converted (integer_in w.setting char) (pos b)))) (keep_text at char bytes (record l { pointer = forward 1 l.pointer }))
 
     mutual
       keep_initialise : (i : TypedInitialiser) (at : Place) (t : TypeId) (l : Located) → Keeps P (initialise i at t l w)

@@ -20,7 +20,8 @@ use Rattle.src_mem.specs.Checks as checks
 use Rattle.src_mem.specs.Checks.{Condition, conditions_of, all_checked}
 use Rattle.src_mem.specs.Primitives.{clear}
 use Rattle.src_mem.specs.Uses.{write, copy_all, forward}
-use Rattle.src_mem.specs.Operations.{Located, kind_in}
+use Rattle.integers.specs.Arithmetic.{converted}
+use Rattle.src_mem.specs.Operations.{Located, integer_in, kind_in}
 use Rattle.src_machine.specs.World.{World, object_of}
 use Rattle.src_machine.specs.Expressions.{eval, locate, locate_object}
 
@@ -49,7 +50,7 @@ element_of_shape other = record { 0 = 0 }
 abbrev pub store_text : World → Place → TypeId → List ℕ → Located → Act (Unit {0})
 store_text w at char [] l = done tt
 store_text w at char (b ∷ bytes) l = do
-  write w.setting at at l.kind char l.pointer (Integer (pos b))
+  write w.setting at at l.kind char l.pointer (Integer (converted (integer_in w.setting char) (pos b)))
   store_text w at char bytes (record l { pointer = forward 1 l.pointer })
 
 -- the object, so many bytes further

@@ -1,1 +1,4 @@
 pub mod DeclarationLaws
+pub mod StatementTokens
+pub mod BlockLaws
+pub mod StatementLaws

@@ -2,3 +2,5 @@ pub mod DeclarationLaws
 pub mod StatementTokens
 pub mod BlockLaws
 pub mod StatementLaws
+pub mod StatementDepth
+pub mod UnitLaws

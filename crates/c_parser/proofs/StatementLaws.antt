@@ -101,7 +101,7 @@ module _ {names : TypeNames} {d : ℕ} (inner : KeepsStatement names d) where
         spelled = rw (begun, opens, start_in.spelled, te.spelled, semi, st.spelled, closes, b.spelled, append-nil) refl
       }) (λ low_s _ low_st _ low_te low_start _ _. omega arith) ends))))))
 
-  keeps_from : (x : StatementStart) (moves : Bool) (ts : List Symbol) → statement_start (first ts) ≡ x → (moves ≡ true → begins_statement names (first ts) ≡ true)
+  pub keeps_from : (x : StatementStart) (moves : Bool) (ts : List Symbol) → statement_start (first ts) ≡ x → (moves ≡ true → begins_statement names (first ts) ≡ true)
       → Rule IsWritten true moves (λ d'. by_first statement_start (statement_from names d' (statement names d'))) d (StatementIn names) (λ s. statement_height s ≤ suc d) Closed ts
   unfolding statement_from
   keeps_from (StartBlock brace) moves ts e moved =

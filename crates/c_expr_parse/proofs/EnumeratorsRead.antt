@@ -57,7 +57,7 @@ module _ (names : TypeNames) (d : ℕ) (keeps : InnerKeeps names d) (inner : Inn
   next_reads (tree.AndEnumerator before name) b rest w some low = rw (plain_starts names name w.1) (equal refl)
   next_reads (tree.AndValued before name at e) b rest w some low =
       rw (plain_starts names name w.1)
-        (leads_next _ (leads_next _ (inner.expr g 2 e (Bare b ∷ rest) (omega arith) w.2 w.3 (omega arith) (bare_expr 2 b refl)) (equal refl)) (equal refl))
+      (leads_next _ (leads_next _ (inner.expr g 2 e (Bare b ∷ rest) (omega arith) w.2 w.3 (omega arith) (bare_expr 2 b refl)) (equal refl)) (equal refl))
 
   -- what goes on from some enumerators
   Goes : Series tree.Enumerators → Parser Symbol (Series tree.Enumerators)
@@ -71,15 +71,15 @@ module _ (names : TypeNames) (d : ℕ) (keeps : InnerKeeps names d) (inner : Inn
   unfolding Leads
   one_leads x none is b rest w some low =
       leads_next _ (subst (λ z. LeadsTo g (next_enumerator names (rules names d) z (enumerators_spelling x ++ Bare b ∷ rest)) (Read (Upto x false) (Bare b ∷ rest))) none
-        (rw is (next_reads x b rest w some low))) (equal refl)
+      (rw is (next_reads x b rest w some low))) (equal refl)
 
   more_lead : (x : tree.Enumerators) → is_no_enumerator (before_last x) ≡ false → AreEnumerators g names (before_last x) → (enumerators_height x ≤ d → enumerators_height (before_last x) ≤ d) → Leads (before_last x) → Leads x
   unfolding Leads Goes enumerator_step
   more_lead x others before_in before_low before b rest w some low =
       rw (last_flat x (Bare b ∷ rest) others)
-        (before separator.Comma (last x ++ Bare b ∷ rest) before_in others (before_low low)
-          ▷ leads_loop (series_steps keeps) (Upto (before_last x) false) (Bare separator.Comma ∷ (last x ++ Bare b ∷ rest)) tt refl
-              (leads_passes _ (last_starts g names x (Bare b ∷ rest) w some) (next_reads x b rest w some low)))
+      (before separator.Comma (last x ++ Bare b ∷ rest) before_in others (before_low low)
+      ▷ leads_loop (series_steps keeps) (Upto (before_last x) false) (Bare separator.Comma ∷ (last x ++ Bare b ∷ rest)) tt refl
+      (leads_passes _ (last_starts g names x (Bare b ∷ rest) w some) (next_reads x b rest w some low)))
 
   leads : (x : tree.Enumerators) → AreEnumerators g names x → Leads x
   unfolding Leads last before_last
@@ -102,6 +102,6 @@ module _ (names : TypeNames) (d : ℕ) (keeps : InnerKeeps names d) (inner : Inn
   unfolding enumerators Leads Goes enumerator_step
   enumerators_comma_read x rest w some low =
       rw (then_comma x some, append_assoc (enumerators_spelling x) comma (Bare separator.CloseBrace ∷ rest))
-        (leads x w separator.Comma (Bare separator.CloseBrace ∷ rest) w some low
-          ▷ (leads_loop (series_steps keeps) (Upto x false) (Bare separator.Comma ∷ Bare separator.CloseBrace ∷ rest) tt refl (equal refl)
-          ▷ leads_loop_stops goes_on_series (enumerator_step names (rules names d)) (Upto x true) (Bare separator.CloseBrace ∷ rest) refl))
+      (leads x w separator.Comma (Bare separator.CloseBrace ∷ rest) w some low
+      ▷ (leads_loop (series_steps keeps) (Upto x false) (Bare separator.Comma ∷ Bare separator.CloseBrace ∷ rest) tt refl (equal refl)
+      ▷ leads_loop_stops goes_on_series (enumerator_step names (rules names d)) (Upto x true) (Bare separator.CloseBrace ∷ rest) refl))

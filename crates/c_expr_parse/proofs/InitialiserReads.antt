@@ -45,11 +45,11 @@ no_designator names next e = refl
 
 -- Three parsers one after another.
 
-grouped : {T A B C : Type 0} (r : Answer T A) (f : A → Parser T B) (k : B → Parser T C) → next (next r f) k ≡ next r (λ a ts. next (f a ts) k)
+pub grouped : {T A B C : Type 0} (r : Answer T A) (f : A → Parser T B) (k : B → Parser T C) → next (next r f) k ≡ next r (λ a ts. next (f a ts) k)
 grouped (Read a rest) f k = refl
 grouped (Stopped why rest) f k = refl
 
-leads_then : {T A B C : Type 0} {g : Language} (r : Answer T A) (f : A → Parser T B) (k : B → Parser T C) {q : Answer T B} {s : Answer T C} → LeadsTo g (next r f) q → LeadsTo g (next q k) s → LeadsTo g (next r (λ a ts. next (f a ts) k)) s
+pub leads_then : {T A B C : Type 0} {g : Language} (r : Answer T A) (f : A → Parser T B) (k : B → Parser T C) {q : Answer T B} {s : Answer T C} → LeadsTo g (next r f) q → LeadsTo g (next q k) s → LeadsTo g (next r (λ a ts. next (f a ts) k)) s
 leads_then r f k h h' = rw (← grouped r f k) (leads_before k h ▷ h')
 
 -- Lists of items.

@@ -31,4 +31,8 @@ pub mod MembersRead
 pub mod EnumeratorsRead
 pub mod SpecifiersRead
 pub mod TypeNameReads
+pub mod WordReads
+pub mod PartReads
+pub mod DeclaratorReads
 pub mod Promised
+pub mod AllReads

@@ -70,11 +70,11 @@ module _ (names : TypeNames) (d : ℕ) (keeps : InnerKeeps names d) (inner : Inn
   next_reads tree.NoDeclarator b rest ends w some low = cc
   next_reads (tree.AndDeclarator before x) b rest ends w some low =
       leads_fails _ (no_colon names WithName _ (declarator_starts g names WithName x (Bare b ∷ rest) w.1))
-        (leads_next _ (inner.declarator g WithName x (Bare b ∷ rest) w.1 (omega arith) (bare_declarator names WithName b)) (leads_fails _ ends (equal refl)))
+      (leads_next _ (inner.declarator g WithName x (Bare b ∷ rest) w.1 (omega arith) (bare_declarator names WithName b)) (leads_fails _ ends (equal refl)))
   next_reads (tree.AndBitField before x) b rest ends w some low =
       rw (append_assoc (declarator_spelling x) colon (Bare b ∷ rest))
-        (leads_fails _ (no_colon names WithName _ (declarator_starts g names WithName x (Bare separator.Colon ∷ Bare b ∷ rest) w.2))
-          (leads_next _ (inner.declarator g WithName x (Bare separator.Colon ∷ Bare b ∷ rest) w.2 (omega arith) (bare_declarator names WithName separator.Colon)) (breaks w.0 _ refl)))
+      (leads_fails _ (no_colon names WithName _ (declarator_starts g names WithName x (Bare separator.Colon ∷ Bare b ∷ rest) w.2))
+      (leads_next _ (inner.declarator g WithName x (Bare separator.Colon ∷ Bare b ∷ rest) w.2 (omega arith) (bare_declarator names WithName separator.Colon)) (breaks w.0 _ refl)))
   next_reads (tree.AndUnnamedBitField before) b rest ends w some low = breaks w.0 _ refl
 
   -- what goes on from some declarators
@@ -109,8 +109,8 @@ module _ (names : TypeNames) (d : ℕ) (keeps : InnerKeeps names d) (inner : Inn
   unfolding Leads Goes
   more_lead x others before b rest ends w some low =
       rw (last_flat x (Bare b ∷ rest) others)
-        (before separator.Comma (last x ++ Bare b ∷ rest) refl (before_in x w) others (before_low x low)
-          ▷ leads_loop (declarator_steps keeps) (before_last x) (Bare separator.Comma ∷ (last x ++ Bare b ∷ rest)) tt refl (next_reads x b rest ends w some low))
+      (before separator.Comma (last x ++ Bare b ∷ rest) refl (before_in x w) others (before_low x low)
+      ▷ leads_loop (declarator_steps keeps) (before_last x) (Bare separator.Comma ∷ (last x ++ Bare b ∷ rest)) tt refl (next_reads x b rest ends w some low))
 
   leads : (x : tree.MemberDeclarators) → Leads x
   unfolding Leads Goes last before_last
@@ -135,7 +135,7 @@ module _ (names : TypeNames) (d : ℕ) (keeps : InnerKeeps names d) (inner : Inn
   unfolding next_members
   row_reads before specifiers declarators rest w low =
       leads_next _ (inner.specifiers g InType specifiers (member_declarators_spelling declarators ++ Bare separator.Semicolon ∷ rest) w.1 w.2 (omega arith) (declarators_apart g names InType declarators (Bare separator.Semicolon ∷ rest) w.3 w.4))
-        (leads_next _ (declarators_read declarators rest w.3 w.4 (omega arith)) (equal refl))
+      (leads_next _ (declarators_read declarators rest w.3 w.4 (omega arith)) (equal refl))
 
   rows_lead : (x : tree.Members) (rest : List Symbol) → AreMembers g names x → members_height x ≤ d
       → LeadsTo g (members names (rules names d) (members_spelling x ++ rest)) (loop (λ _. begins_specifier names InType) (next_members (rules names d)) x rest)
@@ -143,9 +143,9 @@ module _ (names : TypeNames) (d : ℕ) (keeps : InnerKeeps names d) (inner : Inn
   rows_lead tree.NoMember rest w low = equal refl
   rows_lead (tree.AndMember before specifiers declarators) rest w low =
       rw (row_flat (members_spelling before) (specifiers_spelling specifiers) (member_declarators_spelling declarators) rest)
-        (rows_lead before (specifiers_spelling specifiers ++ (member_declarators_spelling declarators ++ Bare separator.Semicolon ∷ rest)) w.0 (omega arith)
-          ▷ leads_loop (row_steps keeps) before (specifiers_spelling specifiers ++ (member_declarators_spelling declarators ++ Bare separator.Semicolon ∷ rest)) tt (specifiers_start g names InType specifiers _ w.1 w.2)
-              (row_reads before specifiers declarators rest w low))
+      (rows_lead before (specifiers_spelling specifiers ++ (member_declarators_spelling declarators ++ Bare separator.Semicolon ∷ rest)) w.0 (omega arith)
+      ▷ leads_loop (row_steps keeps) before (specifiers_spelling specifiers ++ (member_declarators_spelling declarators ++ Bare separator.Semicolon ∷ rest)) tt (specifiers_start g names InType specifiers _ w.1 w.2)
+      (row_reads before specifiers declarators rest w low))
 
   pub members_read : (x : tree.Members) (rest : List Symbol) → AreMembers g names x → members_height x ≤ d → begins_specifier names InType (first rest) ≡ false
       → LeadsTo g (members names (rules names d) (members_spelling x ++ rest)) (Read x rest)

@@ -60,7 +60,7 @@ no_static (word ∷ words) e f =
     let parts = no_static_step (is_static_word word.keyword) (is_qualifier word.keyword) (are_qualifiers words) (end_in_static words) (has_static words) e f in
     rw (parts.1, ends_in_qualifier words parts.2 parts.3) refl
 
-abbrev ArrayWords : Language → List PlacedWord → List Symbol → Type 0
+abbrev pub ArrayWords : Language → List PlacedWord → List Symbol → Type 0
 ArrayWords g = Spells (λ words. are_array_words words ≡ true) (map word_symbol)
 
 pub array_word_steps : {d : ℕ} → Steps IsWritten true d (λ words next. is_some (array_word words next)) (λ _. next_array_word) ArrayWords (λ _. Unit {0}) Any
@@ -176,7 +176,7 @@ module _ {names : TypeNames} {d : ℕ} (inner : InnerKeeps names d) (before : tr
 
 -- Stars.
 
-abbrev Qualifiers : Language → List PlacedWord → List Symbol → Type 0
+abbrev pub Qualifiers : Language → List PlacedWord → List Symbol → Type 0
 Qualifiers g = Spells (λ words. are_qualifiers words ≡ true) (map word_symbol)
 
 qualifiers_more : (words : List PlacedWord) (word : PlacedWord) → are_qualifiers words ≡ true → is_qualifier word.keyword ≡ true → are_qualifiers (words ++ word ∷ []) ≡ true

@@ -118,12 +118,12 @@ module _ (names : TypeNames) (d : ℕ) (keeps : InnerKeeps names d) (inner : Inn
   list_leads tree.NoSpecifier rest w low ends = equal refl
   list_leads (tree.AndSpecifier before one) rest w low ends =
       rw (append_assoc (specifiers_spelling before) (specifier_spelling one) rest)
-        (list_leads before (specifier_spelling one ++ rest) w.0 (omega arith) (no_brace_first one rest)
-          ▷ leads_loop (specifier_steps keeps scope) before (specifier_spelling one ++ rest) tt (specifier_starts g names scope one rest w.1) (step_reads names d keeps inner g scope before one rest w low ends))
+      (list_leads before (specifier_spelling one ++ rest) w.0 (omega arith) (no_brace_first one rest)
+      ▷ leads_loop (specifier_steps keeps scope) before (specifier_spelling one ++ rest) tt (specifier_starts g names scope one rest w.1) (step_reads names d keeps inner g scope before one rest w low ends))
 
   pub specifiers_read : (x : tree.Specifiers) (rest : List Symbol) → AreSpecifiers g names scope x → has_type x ≡ true → specifier_list_height x ≤ suc d → EndsSpecifiers names scope (first rest)
       → LeadsTo g (specifiers_layer names (rules names d) scope (specifiers_spelling x ++ rest)) (Read x rest)
   unfolding specifiers_layer with_type
   specifiers_read x rest w typed low ends =
       leads_next _ (list_leads x rest w (omega arith) ends.no_brace ▷ leads_loop_stops (λ _. begins_specifier names scope) (specifier_step names (rules names d) scope) x rest ends.no_specifier)
-        (rw typed (equal refl))
+      (rw typed (equal refl))

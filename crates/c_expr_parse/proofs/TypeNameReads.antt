@@ -1,13 +1,13 @@
 -- The spellings of type names and parameters lead to them.
-use Rattle.std.proofs.Common.{◌≡◌, ℕ, ◌≤◌, Bool, true, false, Some, List, [], ◌∷◌, ◌++◌, refl, sym, ◌∙◌, append_assoc, arith}
-use Rattle.parse_rules.specs.Parsers.{Answer, Read, Parser, first, next, skip, loop, ◌>>=◌, ◌>>◌}
+use Rattle.std.proofs.Common.{◌≡◌, ℕ, ◌≤◌, true, false, Some, List, ◌∷◌, ◌++◌, refl, append_assoc, arith}
+use Rattle.parse_rules.specs.Parsers.{Read, Parser, first, next, skip, loop, ◌>>◌}
 use Rattle.parse_rules.specs.Grammars.{Language}
 use Rattle.parse_rules.proofs.Completeness.{LeadsTo, equal, ◌▷◌, leads_next, leads_passes, leads_fails, leads_loop, leads_loop_stops}
 use Rattle.c_tree.specs.declared.leaf.Separator.{Separator}
 use Rattle.c_tree.specs.declared.leaf.Separator.TheVariants as separator
 use Rattle.c_tree.specs.Depth.{declared_height, specifier_list_height, parameters_height, type_name_height}
 use Rattle.c_tree.specs.Grammar.{Naming, WithName, WithoutName, WithOrWithout, AreSpecifiers, AreParameters, IsDeclared, IsTypeName}
-use Rattle.c_tree.specs.Spelling.{comma, declared_spelling, specifiers_spelling, type_name_spelling, parameters_spelling, before_parameter}
+use Rattle.c_tree.specs.Spelling.{declared_spelling, specifiers_spelling, type_name_spelling, parameters_spelling, before_parameter}
 use Rattle.c_tree.specs.Symbols.{Symbol, Bare}
 use Rattle.c_tree.specs.Tree as tree
 use Rattle.c_tree.specs.Words.{TypeNames, Scope, InBlock, InType, has_type}
@@ -53,8 +53,8 @@ module _ (names : TypeNames) (d : ℕ) (inner : InnerReads names d) (g : Languag
   unfolding type_name
   type_name_reads (tree.Named specifiers x) rest w low =
       rw (append_assoc (specifiers_spelling specifiers) (declared_spelling x) (Bare separator.CloseParen ∷ rest))
-        (leads_next _ (inner.specifiers g InType specifiers (declared_spelling x ++ Bare separator.CloseParen ∷ rest) w.0 w.1 (omega arith) (declared_ends WithoutName InType x separator.CloseParen rest w.2))
-          (leads_next _ (declared_reads WithoutName x separator.CloseParen rest w.2 (omega arith)) (equal refl)))
+      (leads_next _ (inner.specifiers g InType specifiers (declared_spelling x ++ Bare separator.CloseParen ∷ rest) w.0 w.1 (omega arith) (declared_ends WithoutName InType x separator.CloseParen rest w.2))
+      (leads_next _ (declared_reads WithoutName x separator.CloseParen rest w.2 (omega arith)) (equal refl)))
 
 pub types_read : (names : TypeNames) (d : ℕ) → InnerReads names d → TypesRead names d
 types_read names d inner = record { start = λ g. type_name_starts names d inner g; reads = λ g. type_name_reads names d inner g }
@@ -71,7 +71,7 @@ module _ (names : TypeNames) (d : ℕ) (keeps : InnerKeeps names d) (inner : Inn
   unfolding next_parameter
   parameter_reads before specifiers x b rest w typed low wx low_x =
       leads_next _ (inner.specifiers g InBlock specifiers (declared_spelling x ++ Bare b ∷ rest) w typed low (declared_ends names d inner g WithOrWithout InBlock x b rest wx))
-        (leads_next _ (declared_reads names d inner g WithOrWithout x b rest wx low_x) (equal refl))
+      (leads_next _ (declared_reads names d inner g WithOrWithout x b rest wx low_x) (equal refl))
 
   parameters_flat : (before : tree.Parameters) (s s' rest : List Symbol) → is_no_parameter before ≡ false → (before_parameter before ++ (s ++ s')) ++ rest ≡ parameters_spelling before ++ Bare separator.Comma ∷ (s ++ (s' ++ rest))
   parameters_flat before s s' rest some = rw (then_comma before some) (simp append_assoc)
@@ -81,12 +81,12 @@ module _ (names : TypeNames) (d : ℕ) (keeps : InnerKeeps names d) (inner : Inn
   parameters_lead tree.NoParameter b rest w some low = cc
   parameters_lead (tree.AndParameter tree.NoParameter specifiers x) b rest w some low =
       rw (append_assoc (specifiers_spelling specifiers) (declared_spelling x) (Bare b ∷ rest))
-        (leads_next _ (parameter_reads tree.NoParameter specifiers x b rest w.1 w.2 (omega arith) w.3 (omega arith)) (equal refl))
+      (leads_next _ (parameter_reads tree.NoParameter specifiers x b rest w.1 w.2 (omega arith) w.3 (omega arith)) (equal refl))
   parameters_lead (tree.AndParameter (tree.AndParameter before specifiers' x') specifiers x) b rest w some low =
       rw (parameters_flat (tree.AndParameter before specifiers' x') (specifiers_spelling specifiers) (declared_spelling x) (Bare b ∷ rest) refl)
-        (parameters_lead (tree.AndParameter before specifiers' x') separator.Comma (specifiers_spelling specifiers ++ (declared_spelling x ++ Bare b ∷ rest)) w.0 refl (omega arith)
-          ▷ leads_loop (parameter_steps keeps) (tree.AndParameter before specifiers' x') (Bare separator.Comma ∷ (specifiers_spelling specifiers ++ (declared_spelling x ++ Bare b ∷ rest))) tt refl
-              (parameter_reads (tree.AndParameter before specifiers' x') specifiers x b rest w.1 w.2 (omega arith) w.3 (omega arith)))
+      (parameters_lead (tree.AndParameter before specifiers' x') separator.Comma (specifiers_spelling specifiers ++ (declared_spelling x ++ Bare b ∷ rest)) w.0 refl (omega arith)
+      ▷ leads_loop (parameter_steps keeps) (tree.AndParameter before specifiers' x') (Bare separator.Comma ∷ (specifiers_spelling specifiers ++ (declared_spelling x ++ Bare b ∷ rest))) tt refl
+      (parameter_reads (tree.AndParameter before specifiers' x') specifiers x b rest w.1 w.2 (omega arith) w.3 (omega arith)))
 
   pub parameters_start : (x : tree.Parameters) (rest : List Symbol) → AreParameters g names x → is_no_parameter x ≡ false → begins_specifier names InBlock (first (parameters_spelling x ++ rest)) ≡ true
   parameters_start tree.NoParameter rest w some = cc
@@ -94,7 +94,7 @@ module _ (names : TypeNames) (d : ℕ) (keeps : InnerKeeps names d) (inner : Inn
       rw (append_assoc (specifiers_spelling specifiers) (declared_spelling x) rest) (specifiers_start g names InBlock specifiers (declared_spelling x ++ rest) w.1 w.2)
   parameters_start (tree.AndParameter (tree.AndParameter before specifiers' x') specifiers x) rest w some =
       rw (parameters_flat (tree.AndParameter before specifiers' x') (specifiers_spelling specifiers) (declared_spelling x) rest refl)
-        (parameters_start (tree.AndParameter before specifiers' x') (Bare separator.Comma ∷ (specifiers_spelling specifiers ++ (declared_spelling x ++ rest))) w.0 refl)
+      (parameters_start (tree.AndParameter before specifiers' x') (Bare separator.Comma ∷ (specifiers_spelling specifiers ++ (declared_spelling x ++ rest))) w.0 refl)
 
   pub parameters_read : (x : tree.Parameters) (rest : List Symbol) → AreParameters g names x → parameters_height x ≤ d
       → LeadsTo g (parameters names (rules names d) (parameters_spelling x ++ Bare separator.CloseParen ∷ rest)) (Read x (Bare separator.CloseParen ∷ rest))
@@ -102,5 +102,5 @@ module _ (names : TypeNames) (d : ℕ) (keeps : InnerKeeps names d) (inner : Inn
   parameters_read tree.NoParameter rest w low = equal refl
   parameters_read (tree.AndParameter before specifiers x) rest w low =
       leads_passes _ (parameters_start (tree.AndParameter before specifiers x) (Bare separator.CloseParen ∷ rest) w refl)
-        (parameters_lead (tree.AndParameter before specifiers x) separator.CloseParen rest w refl low
-          ▷ leads_loop_stops (λ _. is_comma) (λ before. skip >> next_parameter names (rules names d) before) (tree.AndParameter before specifiers x) (Bare separator.CloseParen ∷ rest) refl)
+      (parameters_lead (tree.AndParameter before specifiers x) separator.CloseParen rest w refl low
+      ▷ leads_loop_stops (λ _. is_comma) (λ before. skip >> next_parameter names (rules names d) before) (tree.AndParameter before specifiers x) (Bare separator.CloseParen ∷ rest) refl)

@@ -4,3 +4,4 @@ pub mod BlockLaws
 pub mod StatementLaws
 pub mod StatementDepth
 pub mod UnitLaws
+pub mod DeclarationReads

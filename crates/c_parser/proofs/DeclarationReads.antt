@@ -42,8 +42,11 @@ last_flat tree.NoInitDeclarator rest some = cc
 last_flat (tree.AndPlain before x) rest some = rw (then_comma before some) (simp append_assoc)
 last_flat (tree.AndInitialised before x at value) rest some = rw (then_comma before some) (simp append_assoc)
 
+declaration_flat : (a b rest : List Symbol) → (a ++ (b ++ semicolon)) ++ rest ≡ a ++ (b ++ Bare separator.Semicolon ∷ rest)
+declaration_flat a b rest = simp append_assoc
+
 module _ (names : TypeNames) (d : ℕ) (g : Language) (is_typedef : Bool) where
-  next_reads : (x : tree.InitDeclarators) (b : Separator) (rest : List Symbol) → AreInitDeclarators g names is_typedef x → is_no_init x ≡ false → init_declarators_height x ≤ d
+  pub next_reads : (x : tree.InitDeclarators) (b : Separator) (rest : List Symbol) → AreInitDeclarators g names is_typedef x → is_no_init x ≡ false → init_declarators_height x ≤ d
       → LeadsTo g (next_declarator names is_typedef d (before_last x) (last x ++ Bare b ∷ rest)) (Read x (Bare b ∷ rest))
   unfolding next_declarator with_initialiser last before_last
   next_reads tree.NoInitDeclarator b rest w some low = cc
@@ -69,7 +72,7 @@ module _ (names : TypeNames) (d : ℕ) (g : Language) (is_typedef : Bool) where
 
   -- Whatever reads the first declarator and goes on with the others, and then with k, reads them all.
   module _ {B : Type 0} (start : Parser Symbol B) (k : tree.InitDeclarators → Parser Symbol B) where
-    Leads : tree.InitDeclarators → Type 0
+    pub Leads : tree.InitDeclarators → Type 0
     Leads x = (b : Separator) (rest : List Symbol) → AreInitDeclarators g names is_typedef x → is_no_init x ≡ false → init_declarators_height x ≤ d
         → LeadsTo g (start (init_declarators_spelling x ++ Bare b ∷ rest)) (next (declarators_from names is_typedef d x (Bare b ∷ rest)) k)
 
@@ -80,10 +83,62 @@ module _ (names : TypeNames) (d : ℕ) (g : Language) (is_typedef : Bool) where
           (before separator.Comma (last x ++ Bare b ∷ rest) (before_in x w) others (before_low x low)
             ▷ leads_before k (leads_loop (init_steps is_typedef) (before_last x) (Bare separator.Comma ∷ (last x ++ Bare b ∷ rest)) tt refl (next_reads x b rest w some low)))
 
-    chain : ((x : tree.InitDeclarators) → is_no_init x ≡ false → before_last x ≡ tree.NoInitDeclarator → Leads x) → (x : tree.InitDeclarators) → Leads x
+    pub chain : ((x : tree.InitDeclarators) → is_no_init x ≡ false → before_last x ≡ tree.NoInitDeclarator → Leads x) → (x : tree.InitDeclarators) → Leads x
     unfolding Leads before_last
     chain one tree.NoInitDeclarator b rest w some low = cc
     chain one (tree.AndPlain tree.NoInitDeclarator x) b rest w some low = one (tree.AndPlain tree.NoInitDeclarator x) refl refl b rest w some low
     chain one (tree.AndPlain before x) b rest w some low = more_lead (tree.AndPlain before x) refl (chain one before) b rest w some low
     chain one (tree.AndInitialised tree.NoInitDeclarator x at value) b rest w some low = one (tree.AndInitialised tree.NoInitDeclarator x at value) refl refl b rest w some low
     chain one (tree.AndInitialised before x at value) b rest w some low = more_lead (tree.AndInitialised before x at value) refl (chain one before) b rest w some low
+
+  pure_same : (r : Answer Symbol tree.InitDeclarators) → next r (λ x rest. Read x rest) ≡ r
+  pure_same (Read x rest) = refl
+  pure_same (Stopped why rest) = refl
+
+  one_declarator : (x : tree.InitDeclarators) → is_no_init x ≡ false → before_last x ≡ tree.NoInitDeclarator → init_declarators_spelling x ≡ last x
+  unfolding last before_last
+  one_declarator tree.NoInitDeclarator some none = cc
+  one_declarator (tree.AndPlain before x) some none = rw none refl
+  one_declarator (tree.AndInitialised before x at value) some none = rw none refl
+
+  -- what an init-declarator list begins with
+  pub declarators_start : (x : tree.InitDeclarators) (rest : List Symbol) → AreInitDeclarators g names is_typedef x → is_no_init x ≡ false → begins_declarator names WithName (first (init_declarators_spelling x ++ rest)) ≡ true
+  unfolding before_last
+  declarators_start tree.NoInitDeclarator rest w some = cc
+  declarators_start (tree.AndPlain tree.NoInitDeclarator x) rest w some = declarator_starts g names WithName x rest w.1
+  declarators_start (tree.AndPlain before x) rest w some = rw (last_flat (tree.AndPlain before x) rest refl) (declarators_start before _ w.0 refl)
+  declarators_start (tree.AndInitialised tree.NoInitDeclarator x at value) rest w some =
+      rw (append_assoc (declarator_spelling x) (Mark mark.Equal at ∷ initialiser_spelling value) rest) (declarator_starts g names WithName x _ w.1)
+  declarators_start (tree.AndInitialised before x at value) rest w some = rw (last_flat (tree.AndInitialised before x at value) rest refl) (declarators_start before _ w.0 refl)
+
+  some_init : (x : tree.InitDeclarators) → (b : Bool) → is_no_init x ≡ b → (rest : List Symbol) → AreInitDeclarators g names is_typedef x → init_declarators_height x ≤ d
+      → LeadsTo g (init_declarators names is_typedef d (init_declarators_spelling x ++ Bare separator.Semicolon ∷ rest)) (Read x (Bare separator.Semicolon ∷ rest))
+  unfolding init_declarators Leads declarators_from
+  some_init tree.NoInitDeclarator b e rest w low = equal refl
+  some_init x true e rest w low = cc
+  some_init x false e rest w low =
+      leads_passes _ (declarators_start x (Bare separator.Semicolon ∷ rest) w e)
+        (chain (λ ts. next (next_declarator names is_typedef d tree.NoInitDeclarator ts) (declarators_from names is_typedef d)) (λ y r. Read y r) one x separator.Semicolon rest w e low
+          ▷ (equal (pure_same (declarators_from names is_typedef d x (Bare separator.Semicolon ∷ rest)))
+          ▷ leads_loop_stops (λ _. is_comma) (λ before. skip >> next_declarator names is_typedef d before) x (Bare separator.Semicolon ∷ rest) refl))
+    where
+      one : (y : tree.InitDeclarators) → is_no_init y ≡ false → before_last y ≡ tree.NoInitDeclarator → Leads (λ ts. next (next_declarator names is_typedef d tree.NoInitDeclarator ts) (declarators_from names is_typedef d)) (λ z r. Read z r) y
+      one y some none b rest' w' some' low' =
+          rw (one_declarator y some none)
+            (leads_next _ (subst (λ z. LeadsTo g (next_declarator names is_typedef d z (last y ++ Bare b ∷ rest')) (Read y (Bare b ∷ rest'))) none (next_reads y b rest' w' some' low'))
+              (equal (sym (pure_same (declarators_from names is_typedef d y (Bare b ∷ rest'))))))
+
+-- what follows specifiers goes on with none of them
+pub declarators_apart : (g : Language) (names : TypeNames) (scope : Scope) (is_typedef : Bool) (x : tree.InitDeclarators) (rest : List Symbol) → AreInitDeclarators g names is_typedef x → EndsSpecifiers names scope (first (init_declarators_spelling x ++ Bare separator.Semicolon ∷ rest))
+declarators_apart g names scope is_typedef tree.NoInitDeclarator rest w = record { no_specifier = refl; no_brace = refl }
+declarators_apart g names scope is_typedef (tree.AndPlain before x) rest w = declarator_apart names WithName scope _ (declarators_start names 0 g is_typedef (tree.AndPlain before x) (Bare separator.Semicolon ∷ rest) w refl)
+declarators_apart g names scope is_typedef (tree.AndInitialised before x at value) rest w =
+    declarator_apart names WithName scope _ (declarators_start names 0 g is_typedef (tree.AndInitialised before x at value) (Bare separator.Semicolon ∷ rest) w refl)
+
+pub declaration_reads : (names : TypeNames) (d : ℕ) (g : Language) (scope : Scope) (x : tree.Declaration) (rest : List Symbol) → IsDeclaration g names scope x → declaration_height x ≤ d
+    → LeadsTo g (declaration names scope d (declaration_spelling x ++ rest)) (Read x rest)
+unfolding declaration
+declaration_reads names d g scope (tree.Declare specifiers x) rest w low =
+    rw (declaration_flat (specifiers_spelling specifiers) (init_declarators_spelling x) rest)
+      (leads_next _ ((inner_reads names d).specifiers g scope specifiers (init_declarators_spelling x ++ Bare separator.Semicolon ∷ rest) w.0 w.1 (omega arith) (declarators_apart g names scope (has_typedef specifiers) x rest w.2))
+        (leads_next _ (some_init names d g (has_typedef specifiers) x (is_no_init x) refl rest w.2 (omega arith)) (equal refl)))

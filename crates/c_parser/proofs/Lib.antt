@@ -5,3 +5,4 @@ pub mod StatementLaws
 pub mod StatementDepth
 pub mod UnitLaws
 pub mod DeclarationReads
+pub mod StatementStarts

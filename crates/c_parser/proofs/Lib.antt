@@ -6,3 +6,4 @@ pub mod StatementDepth
 pub mod UnitLaws
 pub mod DeclarationReads
 pub mod StatementStarts
+pub mod BlockReads

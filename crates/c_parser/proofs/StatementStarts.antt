@@ -32,7 +32,7 @@ expr_no_start names (Some (Mark mark.OpenBrace at)) e = cc
 expr_no_start names (Some (Mark p at)) e = refl
 expr_no_start names next e = cc
 
-or_right : (a b : Bool) → b ≡ true → (a || b) ≡ true
+pub or_right : (a b : Bool) → b ≡ true → (a || b) ≡ true
 or_right true b e = refl
 or_right false b e = e
 

@@ -45,7 +45,7 @@ specifier_no_else : (names : TypeNames) (next : Option Symbol) → begins_specif
 specifier_no_else names (Some (Bare b)) e = cc
 specifier_no_else names next e = refl
 
-declaration_starts : (g : Language) (names : TypeNames) (x : tree.Declaration) (rest : List Symbol) → IsDeclaration g names InBlock x → begins_specifier names InBlock (first (declaration_spelling x ++ rest)) ≡ true
+pub declaration_starts : (g : Language) (names : TypeNames) (x : tree.Declaration) (rest : List Symbol) → IsDeclaration g names InBlock x → begins_specifier names InBlock (first (declaration_spelling x ++ rest)) ≡ true
 declaration_starts g names (tree.Declare specifiers x) rest w = rw (append_assoc (specifiers_spelling specifiers) (init_declarators_spelling x ++ semicolon) rest) (specifiers_start g names InBlock specifiers _ w.0 w.1)
 
 no_declaration : (names : TypeNames) (items : tree.BlockItems) (other : Option Symbol) → begins_specifier names InBlock other ≡ false → begins_declaration names items other ≡ false

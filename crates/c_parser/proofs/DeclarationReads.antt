@@ -72,28 +72,36 @@ module _ (names : TypeNames) (d : ℕ) (g : Language) (is_typedef : Bool) where
 
   -- Whatever reads the first declarator and goes on with the others, and then with k, reads them all.
   module _ {B : Type 0} (start : Parser Symbol B) (k : tree.InitDeclarators → Parser Symbol B) where
-    pub Leads : tree.InitDeclarators → Type 0
+    abbrev pub Leads : tree.InitDeclarators → Type 0
     Leads x = (b : Separator) (rest : List Symbol) → AreInitDeclarators g names is_typedef x → is_no_init x ≡ false → init_declarators_height x ≤ d
         → LeadsTo g (start (init_declarators_spelling x ++ Bare b ∷ rest)) (next (declarators_from names is_typedef d x (Bare b ∷ rest)) k)
 
     more_lead : (x : tree.InitDeclarators) → is_no_init (before_last x) ≡ false → Leads (before_last x) → Leads x
-    unfolding Leads declarators_from
+    unfolding declarators_from
     more_lead x others before b rest w some low =
         rw (last_flat x (Bare b ∷ rest) others)
           (before separator.Comma (last x ++ Bare b ∷ rest) (before_in x w) others (before_low x low)
             ▷ leads_before k (leads_loop (init_steps is_typedef) (before_last x) (Bare separator.Comma ∷ (last x ++ Bare b ∷ rest)) tt refl (next_reads x b rest w some low)))
 
-    pub chain : ((x : tree.InitDeclarators) → is_no_init x ≡ false → before_last x ≡ tree.NoInitDeclarator → Leads x) → (x : tree.InitDeclarators) → Leads x
-    unfolding Leads before_last
-    chain one tree.NoInitDeclarator b rest w some low = cc
-    chain one (tree.AndPlain tree.NoInitDeclarator x) b rest w some low = one (tree.AndPlain tree.NoInitDeclarator x) refl refl b rest w some low
-    chain one (tree.AndPlain before x) b rest w some low = more_lead (tree.AndPlain before x) refl (chain one before) b rest w some low
-    chain one (tree.AndInitialised tree.NoInitDeclarator x at value) b rest w some low = one (tree.AndInitialised tree.NoInitDeclarator x at value) refl refl b rest w some low
-    chain one (tree.AndInitialised before x at value) b rest w some low = more_lead (tree.AndInitialised before x at value) refl (chain one before) b rest w some low
+    pub chain : ((x : tree.Declarator) → Leads (tree.AndPlain tree.NoInitDeclarator x)) → ((x : tree.Declarator) (at : Place) (value : tree.Initialiser) → Leads (tree.AndInitialised tree.NoInitDeclarator x at value)) → (x : tree.InitDeclarators) → Leads x
+    unfolding before_last
+    chain plain initialised tree.NoInitDeclarator b rest w some low = cc
+    chain plain initialised (tree.AndPlain tree.NoInitDeclarator x) b rest w some low = plain x b rest w some low
+    chain plain initialised (tree.AndPlain before x) b rest w some low = more_lead (tree.AndPlain before x) refl (chain plain initialised before) b rest w some low
+    chain plain initialised (tree.AndInitialised tree.NoInitDeclarator x at value) b rest w some low = initialised x at value b rest w some low
+    chain plain initialised (tree.AndInitialised before x at value) b rest w some low = more_lead (tree.AndInitialised before x at value) refl (chain plain initialised before) b rest w some low
 
   pure_same : (r : Answer Symbol tree.InitDeclarators) → next r (λ x rest. Read x rest) ≡ r
   pure_same (Read x rest) = refl
   pure_same (Stopped why rest) = refl
+
+  plain_first : (x : tree.Declarator) → before_last (tree.AndPlain tree.NoInitDeclarator x) ≡ tree.NoInitDeclarator
+  unfolding before_last
+  plain_first x = refl
+
+  initialised_first : (x : tree.Declarator) (at : Place) (value : tree.Initialiser) → before_last (tree.AndInitialised tree.NoInitDeclarator x at value) ≡ tree.NoInitDeclarator
+  unfolding before_last
+  initialised_first x at value = refl
 
   one_declarator : (x : tree.InitDeclarators) → is_no_init x ≡ false → before_last x ≡ tree.NoInitDeclarator → init_declarators_spelling x ≡ last x
   unfolding last before_last
@@ -113,12 +121,12 @@ module _ (names : TypeNames) (d : ℕ) (g : Language) (is_typedef : Bool) where
 
   some_init : (x : tree.InitDeclarators) → (b : Bool) → is_no_init x ≡ b → (rest : List Symbol) → AreInitDeclarators g names is_typedef x → init_declarators_height x ≤ d
       → LeadsTo g (init_declarators names is_typedef d (init_declarators_spelling x ++ Bare separator.Semicolon ∷ rest)) (Read x (Bare separator.Semicolon ∷ rest))
-  unfolding init_declarators Leads declarators_from
+  unfolding init_declarators declarators_from
   some_init tree.NoInitDeclarator b e rest w low = equal refl
   some_init x true e rest w low = cc
   some_init x false e rest w low =
       leads_passes _ (declarators_start x (Bare separator.Semicolon ∷ rest) w e)
-        (chain (λ ts. next (next_declarator names is_typedef d tree.NoInitDeclarator ts) (declarators_from names is_typedef d)) (λ y r. Read y r) one x separator.Semicolon rest w e low
+        (chain (λ ts. next (next_declarator names is_typedef d tree.NoInitDeclarator ts) (declarators_from names is_typedef d)) (λ y r. Read y r) (λ y. one (tree.AndPlain tree.NoInitDeclarator y) refl (plain_first y)) (λ y at value. one (tree.AndInitialised tree.NoInitDeclarator y at value) refl (initialised_first y at value)) x separator.Semicolon rest w e low
           ▷ (equal (pure_same (declarators_from names is_typedef d x (Bare separator.Semicolon ∷ rest)))
           ▷ leads_loop_stops (λ _. is_comma) (λ before. skip >> next_declarator names is_typedef d before) x (Bare separator.Semicolon ∷ rest) refl))
     where

@@ -7,3 +7,5 @@ pub mod UnitLaws
 pub mod DeclarationReads
 pub mod StatementStarts
 pub mod BlockReads
+pub mod StatementReads
+pub mod UnitReads

@@ -1,8 +1,7 @@
 -- What the rules for blocks keep, where the rule for the statements inside is known.
-use Rattle.std.proofs.Common.{◌≡◌, ℕ, suc, ◌≤◌, max, Bool, true, false, ◌||◌, ◌&&◌, not, cond, Option, Some, None, is_some, List, [], ◌∷◌, ◌++◌, refl, sym, ◌∙◌, ap, subst, append_assoc, append-nil, true≢false, arith}
-use Rattle.cc_base.specs.declared.place.Place.{Place}
+use Rattle.std.proofs.Common.{◌≡◌, ℕ, ◌≤◌, Bool, true, false, ◌||◌, ◌&&◌, not, cond, None, List, [], ◌∷◌, ◌++◌, refl, ◌∙◌, append-nil, arith}
 use Rattle.c_lexer.specs.declared.word.Keyword.TheVariants as keyword
-use Rattle.parse_rules.specs.Parsers.{first, by_first, skip, pure, refuse, ◌>>◌}
+use Rattle.parse_rules.specs.Parsers.{first, by_first, pure, refuse}
 use Rattle.parse_rules.specs.Grammars.{Language, Any}
 use Rattle.parse_rules.specs.Rules.{Rule}
 use Rattle.parse_rules.proofs.Combinators.{rule_pure, rule_refuse, rule_bind, rule_seq, rule_branch, rule_told, rule_weaker, rule_skip_the}
@@ -15,7 +14,6 @@ use Rattle.c_tree.specs.Symbols.{Symbol, Word, Bare}
 use Rattle.c_tree.specs.Tree as tree
 use Rattle.c_tree.specs.Words.{TypeNames, InBlock}
 use Rattle.c_expr_parse.specs.Parts.{Spells}
-use Rattle.c_expr_parse.specs.Rules.{rules}
 use Rattle.c_expr_parse.specs.Tests.{begins_expr, begins_specifier}
 use Rattle.c_expr_parse.specs.Written.{IsWritten}
 use Rattle.c_expr_parse.proofs.Closers.{keeps_close_paren, keeps_colon}
@@ -61,9 +59,9 @@ module _ (names : TypeNames) (d : ℕ) where
   unfolding optional
   keeps_optional ts =
       rule_branch (begins_expr names) refl
-        (λ begins. rule_bind (deeper names d (inner_keeps names d) true 0 ts (omega arith) (λ _. begins)) (λ e s1 r1.
-        rule_pure (λ g x. record { within = x.within.0; spelled = append-nil s1 ∙ x.spelled }) (λ low. low) tt))
-        (λ _. rule_pure (λ g. record { within = tt; spelled = refl }) (omega arith) tt)
+      (λ begins. rule_bind (deeper names d (inner_keeps names d) true 0 ts (omega arith) (λ _. begins)) (λ e s1 r1.
+      rule_pure (λ g x. record { within = x.within.0; spelled = append-nil s1 ∙ x.spelled }) (λ low. low) tt))
+      (λ _. rule_pure (λ g. record { within = tt; spelled = refl }) (omega arith) tt)
 
   pub keeps_condition : (ts : List Symbol) → Rule IsWritten true false (λ d'. condition names d') d (λ g. Spells (IsExpr g names) (λ e. expr_spelling e ++ close_paren)) (λ e. expr_height e ≤ d) Any ts
   unfolding condition
@@ -78,32 +76,32 @@ ItemsIn names has_labels g = Spells (AreBlockItems g names has_labels) block_ite
 module _ {names : TypeNames} {d : ℕ} (inner : KeepsStatement names d) (has_labels : Bool) where
   keeps_label : has_labels ≡ true → (items : tree.BlockItems) (s ts : List Symbol) (x : LabelStart) → label_start (first ts) ≡ x → is_label_start x ≡ true
       → Rule IsWritten true true (λ d'. by_first label_start (with_label names d' items)) d (λ g y s'. ItemsIn names has_labels g items s → ItemsIn names has_labels g y (s ++ s'))
-          (λ y. block_items_height items ≤ d → block_items_height y ≤ d) Any ts
+      (λ y. block_items_height items ≤ d → block_items_height y ≤ d) Any ts
   unfolding with_label
   keeps_label labels items s ts (StartCase at) e some =
       rule_told label_start (λ d'. with_label names d' items) e
-        (rule_seq (rule_skip_the (Word keyword.Case at) (label_here (first ts) (StartCase at) e)) (λ t s1 r1.
-        rule_bind (deeper names d (inner_keeps names d) false 2 r1 (omega arith) (λ m. cc)) (λ e s2 r2.
-        rule_seq keeps_colon (λ t s3 r3.
-        rule_pure (λ g ends x begun b. record { within = (b.within, labels, x.within.0, x.within.1); spelled = rw (b.spelled, begun, x.spelled, ends) refl }) (λ _ low_x _ low_b. omega arith) tt))))
+      (rule_seq (rule_skip_the (Word keyword.Case at) (label_here (first ts) (StartCase at) e)) (λ t s1 r1.
+      rule_bind (deeper names d (inner_keeps names d) false 2 r1 (omega arith) (λ m. cc)) (λ e s2 r2.
+      rule_seq keeps_colon (λ t s3 r3.
+      rule_pure (λ g ends x begun b. record { within = (b.within, labels, x.within.0, x.within.1); spelled = rw (b.spelled, begun, x.spelled, ends) refl }) (λ _ low_x _ low_b. omega arith) tt))))
   keeps_label labels items s ts (StartDefault at) e some =
       rule_told label_start (λ d'. with_label names d' items) e
-        (rule_seq (rule_skip_the (Word keyword.Default at) (label_here (first ts) (StartDefault at) e)) (λ t s1 r1.
-        rule_seq keeps_colon (λ t s2 r2.
-        rule_pure (λ g ends begun b. record { within = (b.within, labels); spelled = rw (b.spelled, begun, ends) refl }) (λ _ _ low_b. low_b) tt)))
+      (rule_seq (rule_skip_the (Word keyword.Default at) (label_here (first ts) (StartDefault at) e)) (λ t s1 r1.
+      rule_seq keeps_colon (λ t s2 r2.
+      rule_pure (λ g ends begun b. record { within = (b.within, labels); spelled = rw (b.spelled, begun, ends) refl }) (λ _ _ low_b. low_b) tt)))
   keeps_label labels items s ts NoLabelStart e some = cc
 
   keeps_unlabelled : (items : tree.BlockItems) (s ts : List Symbol) → (begins_declaration names items (first ts) || begins_statement names (first ts)) ≡ true
       → Rule IsWritten true true (λ d'. unlabelled names d' (statement names d') items) d (λ g y s'. ItemsIn names has_labels g items s → ItemsIn names has_labels g y (s ++ s'))
-          (λ y. block_items_height items ≤ d → block_items_height y ≤ d) Any ts
+      (λ y. block_items_height items ≤ d → block_items_height y ≤ d) Any ts
   unfolding unlabelled next_declaration next_statement
   keeps_unlabelled items s ts begins =
       rule_branch (begins_declaration names items) (and_none (not (ends_in_label items)))
-        (λ declares. rule_bind (keeps_declaration names d InBlock true ts (λ _. (both (not (ends_in_label items)) (begins_specifier names InBlock (first ts)) declares).1)) (λ x s1 r1.
-        rule_pure (λ g u b. record { within = (b.within, not_true (ends_in_label items) (both (not (ends_in_label items)) (begins_specifier names InBlock (first ts)) declares).0, u.within); spelled = rw (b.spelled, u.spelled, append-nil) refl })
-          (λ low_u low_b. omega arith) tt))
-        (λ none. rule_bind (rule_weaker (λ g x s h. h) (λ x low. low) (λ x rest e. tt) (inner true ts (λ _. other (begins_declaration names items (first ts)) (begins_statement names (first ts)) none begins))) (λ x s1 r1.
-        rule_pure (λ g u b. record { within = (b.within, u.within); spelled = rw (b.spelled, u.spelled, append-nil) refl }) (λ low_u low_b. omega arith) tt))
+      (λ declares. rule_bind (keeps_declaration names d InBlock true ts (λ _. (both (not (ends_in_label items)) (begins_specifier names InBlock (first ts)) declares).1)) (λ x s1 r1.
+      rule_pure (λ g u b. record { within = (b.within, not_true (ends_in_label items) (both (not (ends_in_label items)) (begins_specifier names InBlock (first ts)) declares).0, u.within); spelled = rw (b.spelled, u.spelled, append-nil) refl })
+      (λ low_u low_b. omega arith) tt))
+      (λ none. rule_bind (rule_weaker (λ g x s h. h) (λ x low. low) (λ x rest e. tt) (inner true ts (λ _. other (begins_declaration names items (first ts)) (begins_statement names (first ts)) none begins))) (λ x s1 r1.
+      rule_pure (λ g u b. record { within = (b.within, u.within); spelled = rw (b.spelled, u.spelled, append-nil) refl }) (λ low_u low_b. omega arith) tt))
 
 no_item : (names : TypeNames) (has_labels : Bool) (items : tree.BlockItems) → begins_item names has_labels items None ≡ false
 no_item names has_labels items = rw (and_none has_labels, and_none (not (ends_in_label items))) refl
@@ -111,12 +109,12 @@ no_item names has_labels items = rw (and_none has_labels, and_none (not (ends_in
 module _ {names : TypeNames} {d : ℕ} (inner : KeepsStatement names d) where
   keeps_item : (has_labels : Bool) (items : tree.BlockItems) (s ts : List Symbol) → begins_item names has_labels items (first ts) ≡ true
       → Rule IsWritten true true (λ d'. item_step names d' (statement names d') has_labels items) d (λ g y s'. ItemsIn names has_labels g items s → ItemsIn names has_labels g y (s ++ s'))
-          (λ y. block_items_height items ≤ d → block_items_height y ≤ d) Any ts
+      (λ y. block_items_height items ≤ d → block_items_height y ≤ d) Any ts
   unfolding item_step
   keeps_item true items s ts begins =
       rule_branch (λ next. is_label_start (label_start next)) refl
-        (λ label. keeps_label inner true refl items s ts (label_start (first ts)) refl label)
-        (λ none. keeps_unlabelled inner true items s ts (other (is_label_start (label_start (first ts))) (begins_declaration names items (first ts) || begins_statement names (first ts)) none begins))
+      (λ label. keeps_label inner true refl items s ts (label_start (first ts)) refl label)
+      (λ none. keeps_unlabelled inner true items s ts (other (is_label_start (label_start (first ts))) (begins_declaration names items (first ts) || begins_statement names (first ts)) none begins))
   keeps_item false items s ts begins = keeps_unlabelled inner false items s ts begins
 
   pub item_steps : (has_labels : Bool) → Steps IsWritten true d (begins_item names has_labels) (λ d'. item_step names d' (statement names d') has_labels) (ItemsIn names has_labels) (λ x. block_items_height x ≤ d) Any
@@ -134,8 +132,10 @@ module _ {names : TypeNames} {d : ℕ} (inner : KeepsStatement names d) where
       by_label : (b : Bool) → ends_in_label items ≡ b
           → Rule IsWritten true false (λ d'. cond b refuse (pure items)) d (λ g y s'. ItemsIn names has_labels g items s → WholeItems has_labels g y (s ++ s')) (λ y. block_items_height items ≤ d → block_items_height y ≤ d) Any ts
       by_label true e = rule_refuse (record {
-        part = tree.AndStatement items tree.Empty; more = Bare separator.Semicolon ∷ []; valid = (written_semicolon, tt);
-        spells = λ g b. record { within = ((b.within, tt), refl); spelled = rw (b.spelled) refl }
+        part = tree.AndStatement items tree.Empty;
+        more = Bare separator.Semicolon ∷ [];
+        valid = (written_semicolon, tt);
+        spells = λ g b. record { within = ((b.within, tt), refl); spelled = rw (b.spelled) refl };
       })
       by_label false e = rule_pure (λ g b. record { within = (b.within, e); spelled = append-nil s ∙ b.spelled }) (λ low. low) tt
 
@@ -144,5 +144,5 @@ module _ {names : TypeNames} {d : ℕ} (inner : KeepsStatement names d) where
   unfolding block_items
   keeps_block_items has_labels ts =
       rule_bind (rule_weaker (λ g x s h. h (record { within = tt; spelled = refl })) (λ x low. low (omega arith)) (λ x rest e. tt)
-          (rule_loop (item_steps has_labels) tree.NoBlockItem [] (λ g (u : ItemsIn names has_labels g tree.NoBlockItem []). u) (λ (low : block_items_height tree.NoBlockItem ≤ d). low) tt)) (λ items s rest.
+      (rule_loop (item_steps has_labels) tree.NoBlockItem [] (λ g (u : ItemsIn names has_labels g tree.NoBlockItem []). u) (λ (low : block_items_height tree.NoBlockItem ≤ d). low) tt)) (λ items s rest.
       keeps_end has_labels items s rest)

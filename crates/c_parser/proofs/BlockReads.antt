@@ -1,9 +1,9 @@
 -- The spelling of what a block holds leads to it, where the statements inside are read.
-use Rattle.std.proofs.Common.{◌≡◌, ℕ, suc, ◌≤◌, max, Bool, true, false, ◌||◌, ◌&&◌, ◌==◌, not, cond, Option, Some, None, List, [], ◌∷◌, ◌++◌, refl, sym, ◌∙◌, ap, subst, append_assoc, append-nil, arith}
+use Rattle.std.proofs.Common.{◌≡◌, ℕ, ◌≤◌, Bool, true, false, ◌||◌, ◌&&◌, ◌==◌, not, Option, Some, None, List, ◌∷◌, ◌++◌, refl, append_assoc, arith}
 use Rattle.cc_base.specs.declared.place.Place.{Place}
 use Rattle.c_lexer.specs.declared.word.Keyword.{Keyword}
 use Rattle.c_lexer.specs.declared.word.Keyword.TheVariants as keyword
-use Rattle.parse_rules.specs.Parsers.{Answer, Read, Parser, first, next, loop, ◌>>=◌, ◌>>◌}
+use Rattle.parse_rules.specs.Parsers.{Read, first, next, loop}
 use Rattle.parse_rules.specs.Grammars.{Language}
 use Rattle.parse_rules.proofs.Completeness.{LeadsTo, equal, ◌▷◌, leads_next, leads_passes, leads_fails, leads_loop, leads_loop_stops}
 use Rattle.c_tree.specs.declared.leaf.Separator.{Separator}
@@ -11,20 +11,20 @@ use Rattle.c_tree.specs.declared.leaf.Separator.TheVariants as separator
 use Rattle.c_tree.specs.Depth.{expr_height, optional_height, statement_height, block_items_height}
 use Rattle.c_tree.specs.Grammar.{IsExpr, IsOptional, IsDeclaration, IsStatement, AreBlockItems, is_open, ends_in_label}
 use Rattle.c_tree.specs.Spelling.{colon, semicolon, expr_spelling, optional_spelling, specifiers_spelling, init_declarators_spelling, declaration_spelling, statement_spelling, block_items_spelling}
-use Rattle.c_tree.specs.Symbols.{Symbol, Name, Word, Bare}
+use Rattle.c_tree.specs.Symbols.{Symbol, Word, Bare}
 use Rattle.c_tree.specs.Tree as tree
-use Rattle.c_tree.specs.Words.{TypeNames, Scope, InBlock}
+use Rattle.c_tree.specs.Words.{TypeNames, InBlock}
 use Rattle.c_expr_parse.specs.Tests.{is_comma, begins_specifier, is_specifier_start, specifier_start_of_word}
 use Rattle.c_expr_parse.proofs.AllReads.{inner_reads}
 use Rattle.c_expr_parse.proofs.DeclarationStarts.{and_none, specifiers_start}
 use Rattle.c_expr_parse.proofs.ExprReads.{bare_expr}
 use Rattle.c_expr_parse.proofs.Starts.{expr_starts}
 use Rattle.c_parser.specs.StatementRules.{optional, condition, with_label, next_declaration, next_statement, unlabelled, item_step, end_of_items, block_items, statement}
-use Rattle.c_parser.specs.Tests.{is_else, label_start, label_of_keyword, is_label_start, begins_declaration, begins_statement, begins_item}
+use Rattle.c_parser.specs.Tests.{is_else, label_start, label_of_keyword, is_label_start, begins_declaration, begins_item}
 use Rattle.c_parser.proofs.BlockLaws.{item_steps}
 use Rattle.c_parser.proofs.DeclarationReads.{declaration_reads}
 use Rattle.c_parser.proofs.StatementDepth.{keeps_statement}
-use Rattle.c_parser.proofs.StatementStarts.{or_right, statement_starts, Apart, statement_apart}
+use Rattle.c_parser.proofs.StatementStarts.{or_right, statement_starts, statement_apart}
 
 -- what is known of the statements inside
 abbrev pub ReadsStatement : TypeNames → ℕ → Language → Type 0
@@ -101,24 +101,24 @@ module _ (names : TypeNames) (d : ℕ) (g : Language) where
     items_lead has_labels (tree.AndStatement items s) rest w low ends =
         let starts = statement_starts g names s rest w.1 in
         rw (append_assoc (block_items_spelling items) (statement_spelling s) rest)
-          (items_lead has_labels items (statement_spelling s ++ rest) w.0 (omega arith) (statement_apart names _ starts).no_else
-            ▷ leads_loop (item_steps (keeps_statement names d) has_labels) items (statement_spelling s ++ rest) tt (or_right _ _ (or_right _ _ starts)) (unlabelled_statement has_labels items s rest w.1 (omega arith) ends))
+        (items_lead has_labels items (statement_spelling s ++ rest) w.0 (omega arith) (statement_apart names _ starts).no_else
+        ▷ leads_loop (item_steps (keeps_statement names d) has_labels) items (statement_spelling s ++ rest) tt (or_right _ _ (or_right _ _ starts)) (unlabelled_statement has_labels items s rest w.1 (omega arith) ends))
     items_lead has_labels (tree.AndDeclaration items x) rest w low ends =
         let starts = declaration_starts g names x rest w.2 in
         rw (append_assoc (block_items_spelling items) (declaration_spelling x) rest)
-          (items_lead has_labels items (declaration_spelling x ++ rest) w.0 (omega arith) (specifier_no_else names _ starts)
-            ▷ leads_loop (item_steps (keeps_statement names d) has_labels) items (declaration_spelling x ++ rest) tt (or_right _ _ (or_left _ _ (a_declaration names items _ w.1 starts))) (unlabelled_declaration has_labels items x rest w.1 w.2 low))
+        (items_lead has_labels items (declaration_spelling x ++ rest) w.0 (omega arith) (specifier_no_else names _ starts)
+        ▷ leads_loop (item_steps (keeps_statement names d) has_labels) items (declaration_spelling x ++ rest) tt (or_right _ _ (or_left _ _ (a_declaration names items _ w.1 starts))) (unlabelled_declaration has_labels items x rest w.1 w.2 low))
     items_lead false (tree.AndCase items at e) rest w low ends = absurd (no_labels w.1)
     items_lead true (tree.AndCase items at e) rest w low ends =
         rw (append_assoc (block_items_spelling items) (Word keyword.Case at ∷ (expr_spelling e ++ colon)) rest, append_assoc (expr_spelling e) colon rest)
-          (items_lead true items (Word keyword.Case at ∷ (expr_spelling e ++ Bare separator.Colon ∷ rest)) w.0 (omega arith) refl
-            ▷ leads_loop (item_steps (keeps_statement names d) true) items (Word keyword.Case at ∷ (expr_spelling e ++ Bare separator.Colon ∷ rest)) tt refl
-                (leads_next _ ((inner_reads names d).expr g 2 e (Bare separator.Colon ∷ rest) (omega arith) w.2 w.3 (omega arith) (bare_expr 2 separator.Colon refl)) (equal refl)))
+        (items_lead true items (Word keyword.Case at ∷ (expr_spelling e ++ Bare separator.Colon ∷ rest)) w.0 (omega arith) refl
+        ▷ leads_loop (item_steps (keeps_statement names d) true) items (Word keyword.Case at ∷ (expr_spelling e ++ Bare separator.Colon ∷ rest)) tt refl
+        (leads_next _ ((inner_reads names d).expr g 2 e (Bare separator.Colon ∷ rest) (omega arith) w.2 w.3 (omega arith) (bare_expr 2 separator.Colon refl)) (equal refl)))
     items_lead false (tree.AndDefault items at) rest w low ends = absurd (no_labels w.1)
     items_lead true (tree.AndDefault items at) rest w low ends =
         rw (append_assoc (block_items_spelling items) (Word keyword.Default at ∷ colon) rest)
-          (items_lead true items (Word keyword.Default at ∷ Bare separator.Colon ∷ rest) w.0 low refl
-            ▷ leads_loop (item_steps (keeps_statement names d) true) items (Word keyword.Default at ∷ Bare separator.Colon ∷ rest) tt refl (equal refl))
+        (items_lead true items (Word keyword.Default at ∷ Bare separator.Colon ∷ rest) w.0 low refl
+        ▷ leads_loop (item_steps (keeps_statement names d) true) items (Word keyword.Default at ∷ Bare separator.Colon ∷ rest) tt refl (equal refl))
 
     -- with the closing brace after them
     pub block_items_read : (has_labels : Bool) (x : tree.BlockItems) (rest : List Symbol) → AreBlockItems g names has_labels x → ends_in_label x ≡ false → block_items_height x ≤ d
@@ -126,5 +126,5 @@ module _ (names : TypeNames) (d : ℕ) (g : Language) where
     unfolding block_items end_of_items
     block_items_read has_labels x rest w whole low =
         leads_next _ (items_lead has_labels x (Bare separator.CloseBrace ∷ rest) w low refl
-            ▷ leads_loop_stops (begins_item names has_labels) (item_step names d (statement names d) has_labels) x (Bare separator.CloseBrace ∷ rest) (rw (and_none has_labels, and_none (not (ends_in_label x))) refl))
-          (rw whole (equal refl))
+        ▷ leads_loop_stops (begins_item names has_labels) (item_step names d (statement names d) has_labels) x (Bare separator.CloseBrace ∷ rest) (rw (and_none has_labels, and_none (not (ends_in_label x))) refl))
+        (rw whole (equal refl))

@@ -1,15 +1,15 @@
 -- The spelling of each declaration leads to it.
-use Rattle.std.proofs.Common.{◌≡◌, ℕ, suc, ◌≤◌, max, Bool, true, false, Option, Some, None, is_some, List, [], ◌∷◌, ◌++◌, refl, sym, ◌∙◌, ap, subst, append_assoc, append-nil, arith}
+use Rattle.std.proofs.Common.{◌≡◌, ℕ, ◌≤◌, Bool, true, false, List, [], ◌∷◌, ◌++◌, refl, sym, subst, append_assoc, arith}
 use Rattle.cc_base.specs.declared.place.Place.{Place}
 use Rattle.c_lexer.specs.declared.punctuator.Punctuator.TheVariants as mark
-use Rattle.parse_rules.specs.Parsers.{Answer, Read, Stopped, Parser, first, next, pure, skip, loop, ◌>>=◌, ◌>>◌}
+use Rattle.parse_rules.specs.Parsers.{Answer, Read, Stopped, Parser, first, next, skip, ◌>>◌}
 use Rattle.parse_rules.specs.Grammars.{Language}
-use Rattle.parse_rules.proofs.Completeness.{LeadsTo, equal, breaks, ◌▷◌, leads_next, leads_passes, leads_fails, leads_loop, leads_loop_stops}
+use Rattle.parse_rules.proofs.Completeness.{LeadsTo, equal, ◌▷◌, leads_next, leads_passes, leads_loop, leads_loop_stops}
 use Rattle.c_tree.specs.declared.leaf.Separator.{Separator}
 use Rattle.c_tree.specs.declared.leaf.Separator.TheVariants as separator
 use Rattle.c_tree.specs.Depth.{init_declarators_height, declaration_height}
-use Rattle.c_tree.specs.Grammar.{Naming, WithName, AreInitDeclarators, IsDeclaration, names_after, names_after_all}
-use Rattle.c_tree.specs.Spelling.{comma, semicolon, declarator_spelling, initialiser_spelling, init_declarators_spelling, before_init_declarator, declaration_spelling, specifiers_spelling}
+use Rattle.c_tree.specs.Grammar.{WithName, AreInitDeclarators, IsDeclaration, names_after, names_after_all}
+use Rattle.c_tree.specs.Spelling.{semicolon, declarator_spelling, initialiser_spelling, init_declarators_spelling, declaration_spelling, specifiers_spelling}
 use Rattle.c_tree.specs.Symbols.{Symbol, Mark, Bare}
 use Rattle.c_tree.specs.Tree as tree
 use Rattle.c_tree.specs.Words.{TypeNames, Scope, has_typedef}
@@ -54,9 +54,9 @@ module _ (names : TypeNames) (d : ℕ) (g : Language) (is_typedef : Bool) where
       leads_next _ ((inner_reads (names_after_all is_typedef names before) d).declarator g WithName x (Bare b ∷ rest) w.1 (omega arith) (bare_declarator (names_after_all is_typedef names before) WithName b)) (equal refl)
   next_reads (tree.AndInitialised before x at value) b rest w some low =
       rw (append_assoc (declarator_spelling x) (Mark mark.Equal at ∷ initialiser_spelling value) (Bare b ∷ rest))
-        (leads_next _ ((inner_reads (names_after_all is_typedef names before) d).declarator g WithName x (Mark mark.Equal at ∷ (initialiser_spelling value ++ Bare b ∷ rest)) w.1 (omega arith) (record { no_part = refl; no_qualifier = refl; no_star = refl; no_core = refl }))
-          (leads_next _ (initialiser_reads (names_after is_typedef (names_after_all is_typedef names before) x) (inner_keeps (names_after is_typedef (names_after_all is_typedef names before) x)) (inner_reads (names_after is_typedef (names_after_all is_typedef names before) x)) d g value (Bare b ∷ rest) w.2 (omega arith) (bare_expr 1 b refl))
-            (equal refl)))
+      (leads_next _ ((inner_reads (names_after_all is_typedef names before) d).declarator g WithName x (Mark mark.Equal at ∷ (initialiser_spelling value ++ Bare b ∷ rest)) w.1 (omega arith) (record { no_part = refl; no_qualifier = refl; no_star = refl; no_core = refl }))
+      (leads_next _ (initialiser_reads (names_after is_typedef (names_after_all is_typedef names before) x) (inner_keeps (names_after is_typedef (names_after_all is_typedef names before) x)) (inner_reads (names_after is_typedef (names_after_all is_typedef names before) x)) d g value (Bare b ∷ rest) w.2 (omega arith) (bare_expr 1 b refl))
+      (equal refl)))
 
   before_in : (x : tree.InitDeclarators) → AreInitDeclarators g names is_typedef x → AreInitDeclarators g names is_typedef (before_last x)
   unfolding before_last
@@ -80,8 +80,8 @@ module _ (names : TypeNames) (d : ℕ) (g : Language) (is_typedef : Bool) where
     unfolding declarators_from
     more_lead x others before b rest w some low =
         rw (last_flat x (Bare b ∷ rest) others)
-          (before separator.Comma (last x ++ Bare b ∷ rest) (before_in x w) others (before_low x low)
-            ▷ leads_before k (leads_loop (init_steps is_typedef) (before_last x) (Bare separator.Comma ∷ (last x ++ Bare b ∷ rest)) tt refl (next_reads x b rest w some low)))
+        (before separator.Comma (last x ++ Bare b ∷ rest) (before_in x w) others (before_low x low)
+        ▷ leads_before k (leads_loop (init_steps is_typedef) (before_last x) (Bare separator.Comma ∷ (last x ++ Bare b ∷ rest)) tt refl (next_reads x b rest w some low)))
 
     pub chain : ((x : tree.Declarator) → Leads (tree.AndPlain tree.NoInitDeclarator x)) → ((x : tree.Declarator) (at : Place) (value : tree.Initialiser) → Leads (tree.AndInitialised tree.NoInitDeclarator x at value)) → (x : tree.InitDeclarators) → Leads x
     unfolding before_last
@@ -126,15 +126,15 @@ module _ (names : TypeNames) (d : ℕ) (g : Language) (is_typedef : Bool) where
   some_init x true e rest w low = cc
   some_init x false e rest w low =
       leads_passes _ (declarators_start x (Bare separator.Semicolon ∷ rest) w e)
-        (chain (λ ts. next (next_declarator names is_typedef d tree.NoInitDeclarator ts) (declarators_from names is_typedef d)) (λ y r. Read y r) (λ y. one (tree.AndPlain tree.NoInitDeclarator y) refl (plain_first y)) (λ y at value. one (tree.AndInitialised tree.NoInitDeclarator y at value) refl (initialised_first y at value)) x separator.Semicolon rest w e low
-          ▷ (equal (pure_same (declarators_from names is_typedef d x (Bare separator.Semicolon ∷ rest)))
-          ▷ leads_loop_stops (λ _. is_comma) (λ before. skip >> next_declarator names is_typedef d before) x (Bare separator.Semicolon ∷ rest) refl))
+      (chain (λ ts. next (next_declarator names is_typedef d tree.NoInitDeclarator ts) (declarators_from names is_typedef d)) (λ y r. Read y r) (λ y. one (tree.AndPlain tree.NoInitDeclarator y) refl (plain_first y)) (λ y at value. one (tree.AndInitialised tree.NoInitDeclarator y at value) refl (initialised_first y at value)) x separator.Semicolon rest w e low
+      ▷ (equal (pure_same (declarators_from names is_typedef d x (Bare separator.Semicolon ∷ rest)))
+      ▷ leads_loop_stops (λ _. is_comma) (λ before. skip >> next_declarator names is_typedef d before) x (Bare separator.Semicolon ∷ rest) refl))
     where
       one : (y : tree.InitDeclarators) → is_no_init y ≡ false → before_last y ≡ tree.NoInitDeclarator → Leads (λ ts. next (next_declarator names is_typedef d tree.NoInitDeclarator ts) (declarators_from names is_typedef d)) (λ z r. Read z r) y
       one y some none b rest' w' some' low' =
           rw (one_declarator y some none)
-            (leads_next _ (subst (λ z. LeadsTo g (next_declarator names is_typedef d z (last y ++ Bare b ∷ rest')) (Read y (Bare b ∷ rest'))) none (next_reads y b rest' w' some' low'))
-              (equal (sym (pure_same (declarators_from names is_typedef d y (Bare b ∷ rest'))))))
+          (leads_next _ (subst (λ z. LeadsTo g (next_declarator names is_typedef d z (last y ++ Bare b ∷ rest')) (Read y (Bare b ∷ rest'))) none (next_reads y b rest' w' some' low'))
+          (equal (sym (pure_same (declarators_from names is_typedef d y (Bare b ∷ rest'))))))
 
 -- what follows specifiers goes on with none of them
 pub declarators_apart : (g : Language) (names : TypeNames) (scope : Scope) (is_typedef : Bool) (x : tree.InitDeclarators) (rest : List Symbol) → AreInitDeclarators g names is_typedef x → EndsSpecifiers names scope (first (init_declarators_spelling x ++ Bare separator.Semicolon ∷ rest))
@@ -148,5 +148,5 @@ pub declaration_reads : (names : TypeNames) (d : ℕ) (g : Language) (scope : Sc
 unfolding declaration
 declaration_reads names d g scope (tree.Declare specifiers x) rest w low =
     rw (declaration_flat (specifiers_spelling specifiers) (init_declarators_spelling x) rest)
-      (leads_next _ ((inner_reads names d).specifiers g scope specifiers (init_declarators_spelling x ++ Bare separator.Semicolon ∷ rest) w.0 w.1 (omega arith) (declarators_apart g names scope (has_typedef specifiers) x rest w.2))
-        (leads_next _ (some_init names d g (has_typedef specifiers) x (is_no_init x) refl rest w.2 (omega arith)) (equal refl)))
+    (leads_next _ ((inner_reads names d).specifiers g scope specifiers (init_declarators_spelling x ++ Bare separator.Semicolon ∷ rest) w.0 w.1 (omega arith) (declarators_apart g names scope (has_typedef specifiers) x rest w.2))
+    (leads_next _ (some_init names d g (has_typedef specifiers) x (is_no_init x) refl rest w.2 (omega arith)) (equal refl)))

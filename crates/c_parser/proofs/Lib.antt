@@ -9,3 +9,4 @@ pub mod StatementStarts
 pub mod BlockReads
 pub mod StatementReads
 pub mod UnitReads
+pub mod UnitPromised

@@ -1,22 +1,19 @@
 -- The rule for statements at each number of nodes that is allowed.
-use Rattle.std.proofs.Common.{◌≡◌, ℕ, zero, suc, ◌≤◌, Bool, true, false, ◌||◌, Option, Some, None, List, [], ◌∷◌, ◌++◌, refl, sym, ◌∙◌, ap, subst, arith}
-use Rattle.cc_base.specs.declared.place.Place.{Place}
+use Rattle.std.proofs.Common.{◌≡◌, ℕ, zero, suc, Bool, true, false, ◌||◌, Some, None, List, [], ◌∷◌, ◌++◌, refl, ap}
 use Rattle.c_lexer.specs.declared.number.IntegerType.TheVariants.{Int}
 use Rattle.c_lexer.specs.declared.word.Keyword.TheVariants as keyword
 use Rattle.c_lexer.specs.declared.punctuator.Punctuator.TheVariants as mark
-use Rattle.parse_rules.specs.Parsers.{Stopped, Syntax, first, next}
-use Rattle.parse_rules.specs.Grammars.{Language, CanBegin, InBoth, Each}
-use Rattle.parse_rules.specs.Rules.{Rule}
+use Rattle.parse_rules.specs.Parsers.{Stopped, Syntax, first}
+use Rattle.parse_rules.specs.Grammars.{CanBegin, InBoth}
 use Rattle.parse_rules.proofs.Combinators.{rule_deeper, rule_shallow}
 use Rattle.parse_rules.proofs.Composition.{each_append}
 use Rattle.c_tree.specs.declared.leaf.Separator.TheVariants as separator
-use Rattle.c_tree.specs.Spelling.{expr_spelling}
 use Rattle.c_tree.specs.Symbols.{Symbol, Integer, Word, Mark, Bare}
 use Rattle.c_tree.specs.Tree as tree
 use Rattle.c_tree.specs.Words.{TypeNames}
 use Rattle.c_expr_parse.specs.Tests.{begins_expr}
 use Rattle.c_expr_parse.specs.Written.{IsWritten}
-use Rattle.c_expr_parse.proofs.ExprDepth.{Begun, begun, expr_refuses}
+use Rattle.c_expr_parse.proofs.ExprDepth.{begun, expr_refuses}
 use Rattle.c_expr_parse.proofs.ExprLaws.{zero_expr, written_zero}
 use Rattle.c_expr_parse.proofs.Written.{some_place, written_close_paren, written_close_brace, written_open_brace, written_semicolon}
 use Rattle.c_parser.specs.StatementRules.{statement_from, statement}
@@ -45,32 +42,41 @@ zero_token = Integer Int 0 some_place
 statement_with : (names : TypeNames) (x : StatementStart) (t : Symbol) → Some t ≡ start_symbol None x → is_statement_start x ≡ true → CanBegin IsWritten (InBoth (StatementIn names)) (t ∷ [])
 unfolding opens closes ends zero_token
 statement_with names (StartBlock at) t here some = record {
-  part = tree.Block at tree.NoBlockItem; more = Bare separator.CloseBrace ∷ []; valid = (written_close_brace, tt);
-  spells = λ g. record { within = (tt, refl); spelled = cc }
+  part = tree.Block at tree.NoBlockItem;
+  more = Bare separator.CloseBrace ∷ [];
+  valid = (written_close_brace, tt);
+  spells = λ g. record { within = (tt, refl); spelled = cc };
 }
 statement_with names StartEmpty t here some = record { part = tree.Empty; more = []; valid = tt; spells = λ g. record { within = tt; spelled = cc } }
 statement_with names (StartIf at) t here some = record {
-  part = tree.If at some_place zero_expr tree.Empty; more = opens ∷ zero_token ∷ closes ∷ ends ∷ []; valid = (written_open_paren some_place, (written_zero, (written_close_paren, (written_semicolon, tt))));
-  spells = λ g. record { within = (tt, tt); spelled = cc }
+  part = tree.If at some_place zero_expr tree.Empty;
+  more = opens ∷ zero_token ∷ closes ∷ ends ∷ [];
+  valid = (written_open_paren some_place, (written_zero, (written_close_paren, (written_semicolon, tt))));
+  spells = λ g. record { within = (tt, tt); spelled = cc };
 }
 statement_with names (StartSwitch at) t here some = record {
-  part = tree.Switch at some_place zero_expr some_place tree.NoBlockItem; more = opens ∷ zero_token ∷ closes ∷ Mark mark.OpenBrace some_place ∷ Bare separator.CloseBrace ∷ [];
+  part = tree.Switch at some_place zero_expr some_place tree.NoBlockItem;
+  more = opens ∷ zero_token ∷ closes ∷ Mark mark.OpenBrace some_place ∷ Bare separator.CloseBrace ∷ [];
   valid = (written_open_paren some_place, (written_zero, (written_close_paren, (written_open_brace some_place, (written_close_brace, tt)))));
-  spells = λ g. record { within = (tt, tt, refl); spelled = cc }
+  spells = λ g. record { within = (tt, tt, refl); spelled = cc };
 }
 statement_with names (StartWhile at) t here some = record {
-  part = tree.While at some_place zero_expr tree.Empty; more = opens ∷ zero_token ∷ closes ∷ ends ∷ []; valid = (written_open_paren some_place, (written_zero, (written_close_paren, (written_semicolon, tt))));
-  spells = λ g. record { within = (tt, tt); spelled = cc }
+  part = tree.While at some_place zero_expr tree.Empty;
+  more = opens ∷ zero_token ∷ closes ∷ ends ∷ [];
+  valid = (written_open_paren some_place, (written_zero, (written_close_paren, (written_semicolon, tt))));
+  spells = λ g. record { within = (tt, tt); spelled = cc };
 }
 statement_with names StartDo t here some = record {
-  part = tree.DoWhile tree.Empty some_place some_place zero_expr; more = ends ∷ Word keyword.While some_place ∷ opens ∷ zero_token ∷ closes ∷ ends ∷ [];
+  part = tree.DoWhile tree.Empty some_place some_place zero_expr;
+  more = ends ∷ Word keyword.While some_place ∷ opens ∷ zero_token ∷ closes ∷ ends ∷ [];
   valid = (written_semicolon, (written_while some_place, (written_open_paren some_place, (written_zero, (written_close_paren, (written_semicolon, tt))))));
-  spells = λ g. record { within = (tt, tt); spelled = cc }
+  spells = λ g. record { within = (tt, tt); spelled = cc };
 }
 statement_with names (StartFor at) t here some = record {
-  part = tree.For at some_place None None None tree.Empty; more = opens ∷ ends ∷ ends ∷ closes ∷ ends ∷ [];
+  part = tree.For at some_place None None None tree.Empty;
+  more = opens ∷ ends ∷ ends ∷ closes ∷ ends ∷ [];
   valid = (written_open_paren some_place, (written_semicolon, (written_semicolon, (written_close_paren, (written_semicolon, tt)))));
-  spells = λ g. record { within = (tt, tt, tt, tt); spelled = cc }
+  spells = λ g. record { within = (tt, tt, tt, tt); spelled = cc };
 }
 statement_with names (StartBreak at) t here some = record { part = tree.Break at; more = ends ∷ []; valid = (written_semicolon, tt); spells = λ g. record { within = tt; spelled = cc } }
 statement_with names (StartContinue at) t here some = record { part = tree.Continue at; more = ends ∷ []; valid = (written_semicolon, tt); spells = λ g. record { within = tt; spelled = cc } }
@@ -81,8 +87,10 @@ expr_with : (names : TypeNames) (t : Symbol) → begins_expr names (Some t) ≡ 
 expr_with names t some =
     let h = begun names t some in
     record {
-      part = tree.Express h.e; more = h.more ++ Bare separator.Semicolon ∷ []; valid = each_append IsWritten h.more (Bare separator.Semicolon ∷ []) h.valid (written_semicolon, tt);
-      spells = λ g. record { within = h.within g; spelled = ap (λ x. x ++ Bare separator.Semicolon ∷ []) h.spelled }
+      part = tree.Express h.e;
+      more = h.more ++ Bare separator.Semicolon ∷ [];
+      valid = each_append IsWritten h.more (Bare separator.Semicolon ∷ []) h.valid (written_semicolon, tt);
+      spells = λ g. record { within = h.within g; spelled = ap (λ x. x ++ Bare separator.Semicolon ∷ []) h.spelled };
     }
 
 begins_with : (names : TypeNames) (t : Symbol) (x : StatementStart) (b : Bool) → statement_start (Some t) ≡ x → is_statement_start x ≡ b → (b || begins_expr names (Some t)) ≡ true → CanBegin IsWritten (InBoth (StatementIn names)) (t ∷ [])
@@ -112,5 +120,5 @@ pub keeps_statement : (names : TypeNames) (d : ℕ) → KeepsStatement names d
 unfolding statement
 keeps_statement names zero moves ts begins =
     rule_shallow (begins_statement names) refl begins (λ ts' some. rw some refl) (λ d' ts' none. statement_refuses names d' ts' none)
-      (some_statement names) (λ t some. begins_with names t (statement_start (Some t)) (is_statement_start (statement_start (Some t))) refl refl some)
+    (some_statement names) (λ t some. begins_with names t (statement_start (Some t)) (is_statement_start (statement_start (Some t))) refl refl some)
 keeps_statement names (suc d) moves ts begins = rule_deeper (keeps_from (keeps_statement names d) (statement_start (first ts)) moves ts refl begins)

@@ -1,14 +1,13 @@
 -- How the spelling of a statement begins.
-use Rattle.std.proofs.Common.{◌≡◌, ℕ, Bool, true, false, ◌||◌, ◌&&◌, Option, Some, None, List, [], ◌∷◌, ◌++◌, refl, sym, ◌∙◌, ap, append_assoc}
+use Rattle.std.proofs.Common.{◌≡◌, Bool, true, false, ◌||◌, Option, Some, List, ◌++◌, refl, append_assoc}
 use Rattle.cc_base.specs.declared.place.Place.{Place}
 use Rattle.c_lexer.specs.declared.word.Keyword.{Keyword}
 use Rattle.c_lexer.specs.declared.word.Keyword.TheVariants as keyword
-use Rattle.c_lexer.specs.declared.punctuator.Punctuator.{Punctuator}
 use Rattle.c_lexer.specs.declared.punctuator.Punctuator.TheVariants as mark
 use Rattle.parse_rules.specs.Parsers.{first}
 use Rattle.parse_rules.specs.Grammars.{Language}
 use Rattle.c_tree.specs.declared.leaf.Separator.TheVariants as separator
-use Rattle.c_tree.specs.Grammar.{IsExpr, IsStatement}
+use Rattle.c_tree.specs.Grammar.{IsStatement}
 use Rattle.c_tree.specs.Spelling.{semicolon, expr_spelling, statement_spelling}
 use Rattle.c_tree.specs.Symbols.{Symbol, Name, Integer, Character, Quoted, Word, Mark, Bare}
 use Rattle.c_tree.specs.Tree as tree

@@ -1,5 +1,5 @@
 -- Which token it is with which a statement or a label begins.
-use Rattle.std.proofs.Common.{◌≡◌, Bool, true, false, Option, Some, None, List, [], ◌∷◌, refl, subst}
+use Rattle.std.proofs.Common.{◌≡◌, true, Option, Some, [], ◌∷◌, refl, subst}
 use Rattle.cc_base.specs.declared.place.Place.{Place}
 use Rattle.c_lexer.specs.declared.word.Keyword.{Keyword}
 use Rattle.c_lexer.specs.declared.word.Keyword.TheVariants as keyword

@@ -1,0 +1,12 @@
+pub mod DeclarationLaws
+pub mod StatementTokens
+pub mod BlockLaws
+pub mod StatementLaws
+pub mod StatementDepth
+pub mod UnitLaws
+pub mod DeclarationReads
+pub mod StatementStarts
+pub mod BlockReads
+pub mod StatementReads
+pub mod UnitReads
+pub mod UnitPromised

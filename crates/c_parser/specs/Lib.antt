@@ -2,3 +2,4 @@ pub mod Tests
 pub mod DeclarationRules
 pub mod StatementRules
 pub mod UnitRules
+pub mod Answers

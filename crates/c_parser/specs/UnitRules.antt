@@ -1,28 +1,29 @@
 -- Units, read from the tokens that are left (C99 6.9). d nodes are allowed.
 use Rattle.std.specs.Prelude.{ℕ, zero, suc, false, Option, Some, None, is_some}
 use Rattle.cc_base.specs.declared.place.Place.{Place}
-use Rattle.parse_rules.specs.Parsers.{Parser, pure, refuse, skip, expect, branch, by_first, too_deep, loop, ◌>>=◌, ◌>>◌}
+use Rattle.parse_rules.specs.Parsers.{Parser, pure, refuse, expect, branch, by_first, too_deep, loop, ◌>>=◌, ◌>>◌}
 use Rattle.c_tree.specs.Grammar.{WithName, names_after, type_names}
 use Rattle.c_tree.specs.Symbols.{Symbol}
 use Rattle.c_tree.specs.Tree as tree
 use Rattle.c_tree.specs.Words.{AtFile, has_typedef}
+use Rattle.c_expr_parse.specs.ExprRules.{take}
 use Rattle.c_expr_parse.specs.Rules.{rules}
 use Rattle.c_expr_parse.specs.Tests.{is_close_brace, is_semicolon, open_brace, equals_sign, begins_specifier, begins_declarator}
 use Rattle.c_parser.specs.DeclarationRules.{with_initialiser, declarators_from}
 use Rattle.c_parser.specs.StatementRules.{block_items, statement}
 
--- the body of a function, which is a node; its `{` comes next
-unfoldable pub function_body : tree.TranslationUnit → tree.Specifiers → tree.Declarator → Place → ℕ → Parser Symbol tree.TranslationUnit
-function_body unit specifiers x brace zero = too_deep (λ next. is_some (open_brace next))
-function_body unit specifiers x brace (suc d) = do
-  skip
+-- the body of a function, which is a node
+unfoldable pub function_body : tree.TranslationUnit → tree.Specifiers → tree.Declarator → ℕ → Parser Symbol tree.TranslationUnit
+function_body unit specifiers x zero = too_deep (λ next. is_some (open_brace next))
+function_body unit specifiers x (suc d) = do
+  brace ← take open_brace
   items ← block_items (names_after (has_typedef specifiers) (type_names unit) x) d (statement (names_after (has_typedef specifiers) (type_names unit) x) d) false
   expect is_close_brace
   pure (tree.AndFunctionBody unit specifiers x brace items)
 
 -- after the first declarator
 unfoldable pub after_declarator : (d : ℕ) → tree.TranslationUnit → tree.Specifiers → tree.Declarator → Option Place → Parser Symbol tree.TranslationUnit
-after_declarator d unit specifiers x (Some brace) = function_body unit specifiers x brace d
+after_declarator d unit specifiers x (Some brace) = function_body unit specifiers x d
 after_declarator d unit specifiers x None = do
   first ← by_first equals_sign (with_initialiser (type_names unit) (has_typedef specifiers) d tree.NoInitDeclarator x)
   declarators ← declarators_from (type_names unit) (has_typedef specifiers) d first

@@ -20,3 +20,6 @@ pub use statement::{
     BlockItem, Declaration, External, FunctionDefinition, InitDeclarator, Initialiser, Statement,
     Unit,
 };
+
+#[cfg(test)]
+mod tests;

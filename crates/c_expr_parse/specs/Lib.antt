@@ -4,3 +4,4 @@ pub mod Memberships
 pub mod Rules
 pub mod Tests
 pub mod TypeRules
+pub mod Seen

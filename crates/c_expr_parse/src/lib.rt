@@ -1,2 +1,9 @@
 //! Parses expressions, specifiers and declarators (C99 6.5, 6.7).
 #![tactic(auto)]
+
+mod cursor;
+mod next;
+mod operators;
+mod starts;
+mod stop;
+mod words;

@@ -49,7 +49,6 @@ comma_here next e = cc
 
 -- Single tokens. What a test tells gives the token back.
 
-
 abbrev back_at : Punctuator → Option Symbol → Option Place → Option Symbol
 back_at p next None = next
 back_at p next (Some at) = Some (Mark p at)

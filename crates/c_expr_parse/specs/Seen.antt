@@ -1,10 +1,11 @@
 -- How the code sees tokens, names and their tests, and what its answers say of the tokens that are left.
-use Rattle.std.specs.Prelude.{◌≡◌, ◌≢◌, ℕ, Vec, List, map, Option, Some, None, Result, Ok, Err}
+use Rattle.std.specs.Prelude.{◌≡◌, ◌≢◌, ℕ, Vec, List, [], ◌∷◌, map, Option, Some, None, Result, Ok, Err}
 use Rattle.std.specs.declared.alloc.Global.{Global}
 use Rattle.indexmap.specs.IndexSet.{IndexSet}
 use Rattle.parse_rules.specs.Parsers.{Reason, Syntax, Unsupported, Deep, Answer, Read, Stopped}
 use Rattle.c_tree.specs.Symbols as symbol
 use Rattle.c_tree.specs.Symbols.{Symbol}
+use Rattle.c_tree.specs.declared.leaf.Separator.TheVariants as separator
 use Rattle.c_tree.specs.Grammar as grammar
 use Rattle.c_tree.specs.Words as words
 use Rattle.c_tree.specs.Words.{TypeNames}
@@ -102,3 +103,8 @@ reason_of stop.NoMemory = Syntax
 abbrev pub Reads : {A B : Type 0} → (B → A) → Answer Symbol A → Result B Stop → List Symbol → Type 0
 Reads view answer (Ok b) left = answer ≡ Read (view b) left
 Reads view answer (Err why) left = why ≢ stop.NoMemory → answer ≡ Stopped (reason_of why) left
+
+-- the next token, where there is one
+abbrev pub head : List Symbol → Symbol
+head [] = symbol.Bare separator.Comma
+head (t ∷ ts) = t

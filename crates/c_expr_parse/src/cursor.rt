@@ -1,10 +1,12 @@
 //! The tokens that are left.
 ghost use Rattle.std.specs.Prelude.{◌≡◌, length, map};
+ghost use Rattle.parse_rules.specs.Parsers as rule;
 ghost use Rattle.parse_rules.specs.Parsers.{first};
 ghost use Rattle.c_tree.specs.Symbols.{symbol_of};
-ghost use Rattle.c_expr_parse.specs.Seen.{next_view};
+ghost use Rattle.c_expr_parse.specs.Seen.{next_view, head, Reads};
 
-use crate::next::{next_of, Next};
+use crate::next::{Next, next_of};
+use crate::stop::Stop;
 use c_lexer::Token;
 use std::marker::Model;
 
@@ -45,5 +47,37 @@ impl<'a> Cursor<'a> {
             Some(token) => next_of(token),
             None => Next::End,
         }
+    }
+
+    /// Goes past the next token.
+    pub fn skip(&mut self) -> Result<(), Stop>
+        ensures { Reads (λ _. head self.old) (rule.skip self.old) result self.new }
+    {
+        if self.tokens.is_empty() {
+            return Err(Stop::Syntax);
+        }
+        self.tokens = &self.tokens[1..];
+        Ok(())
+    }
+
+    /// Goes past a token that was found to be the one wanted, and else refuses it.
+    pub fn expect(&mut self, found: bool) -> Result<(), Stop>
+        ensures { Reads (λ _. head self.old) (rule.branch (λ _. found) rule.skip rule.refuse self.old) result self.new }
+    {
+        if found {
+            self.skip()
+        } else {
+            Err(Stop::Syntax)
+        }
+    }
+
+    /// Goes past a token above a part of this height, where so many nodes may lie below it.
+    pub fn take_above(&mut self, depth: u16, height: usize) -> Result<(), Stop>
+        ensures { Reads (λ _. head self.old) (rule.take_above depth height self.old) result self.new }
+    {
+        if usize::from(depth) < height {
+            return Err(Stop::Deep);
+        }
+        self.skip()
     }
 }

@@ -5,7 +5,7 @@ ghost use Rattle.c_expr_parse.specs.Tests as spec;
 
 use crate::next::Next;
 use crate::operators::{assignment_of, binary_of, precedence};
-use crate::words::{is_type_name, may_specify, Scope};
+use crate::words::{Scope, is_type_name, may_specify};
 use c_lexer::{IntegerType, Keyword, Punctuator};
 use c_tree::{AggregateKind, Assignment, Binary, MemberOperator, Separator, Step, Unary, Word};
 use cc_base::Place;
@@ -400,7 +400,10 @@ pub fn begins_part(next: Next<'_>) -> bool
 pub fn is_designator(next: Next<'_>) -> bool
     ensures { result ≡ spec.is_designator (next_view next.entry) }
 {
-    matches!(next, Next::Mark(Punctuator::Dot | Punctuator::OpenBracket, _))
+    matches!(
+        next,
+        Next::Mark(Punctuator::Dot | Punctuator::OpenBracket, _)
+    )
 }
 
 pub fn begins_initialiser(names: &IndexSet<Vec<u8>>, next: Next<'_>) -> bool

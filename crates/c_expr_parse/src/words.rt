@@ -40,10 +40,7 @@ pub fn is_type_word(word: Keyword) -> bool
 pub fn is_qualifier(word: Keyword) -> bool
     ensures { result ≡ spec.is_qualifier word }
 {
-    matches!(
-        word,
-        Keyword::Const | Keyword::Volatile | Keyword::Restrict
-    )
+    matches!(word, Keyword::Const | Keyword::Volatile | Keyword::Restrict)
 }
 
 fn is_storage_word(word: Keyword) -> bool

@@ -1,3 +1,12 @@
+pub mod Closers
 pub mod Examples
-pub mod TokenLaws
+pub mod ExprDepth
+pub mod ExprLaws
+pub mod Fresh
+pub mod Kept
 pub mod NameLaws
+pub mod OperatorLaws
+pub mod SpecifierTokens
+pub mod Take
+pub mod TokenLaws
+pub mod Written

@@ -1,7 +1,6 @@
 -- Which token it is of which a test tells something.
-use Rattle.std.proofs.Common.{◌≡◌, ℕ, ℤ, Bool, true, false, Option, Some, None, List, [], ◌∷◌, ◌++◌, refl, sym, ◌∙◌, ap, cond, is_some, subst}
+use Rattle.std.proofs.Common.{◌≡◌, ℕ, Bool, true, false, Option, Some, None, List, refl, sym, ◌∙◌, ap, cond, subst}
 use Rattle.cc_base.specs.declared.place.Place.{Place}
-use Rattle.c_lexer.specs.declared.number.IntegerType.{IntegerType}
 use Rattle.c_lexer.specs.declared.word.Keyword.{Keyword}
 use Rattle.c_lexer.specs.declared.word.Keyword.TheVariants as keyword
 use Rattle.c_lexer.specs.declared.punctuator.Punctuator.{Punctuator}
@@ -11,15 +10,11 @@ use Rattle.c_tree.specs.declared.leaf.StringPiece.{StringPiece}
 use Rattle.c_tree.specs.declared.leaf.Separator.TheVariants as separator
 use Rattle.c_tree.specs.declared.operator.Assignment.{Assignment}
 use Rattle.c_tree.specs.declared.operator.Binary.{Binary}
-use Rattle.c_tree.specs.declared.operator.MemberOperator.{MemberOperator}
-use Rattle.c_tree.specs.declared.operator.Step.{Step}
-use Rattle.c_tree.specs.declared.operator.Unary.{Unary}
-use Rattle.c_tree.specs.declared.operator.Unary.TheVariants as unary
-use Rattle.c_tree.specs.Operators.{precedence, member_mark, step_mark, unary_symbol, binary_mark, assignment_mark}
+use Rattle.c_tree.specs.Operators.{member_mark, step_mark, unary_symbol, binary_mark, assignment_mark}
 use Rattle.c_tree.specs.Spelling.{name_symbol, piece_symbol}
 use Rattle.c_tree.specs.Symbols.{Symbol, Name, Integer, Character, Quoted, Word, Mark, Bare}
 use Rattle.c_tree.specs.Words.{TypeNames, is_type_name}
-use Rattle.c_expr_parse.specs.Tests.{is_close_paren, is_close_bracket, is_close_brace, is_semicolon, is_comma, is_colon, open_paren, open_bracket, open_brace, equals_sign, star_sign, question_mark, word_name, plain_name, string_piece, Operator, At, binary_of, assignment_of, placed, binary_operator, assignment_operator, Suffix, IndexAt, CallAt, MemberAt, StepAt, NoSuffix, suffix_of, suffix, is_suffix, Start, StartName, StartInteger, StartCharacter, StartString, StartParen, StartPrefix, StartSizeOf, NoStart, start_of, start_of_word, start, is_start}
+use Rattle.c_expr_parse.specs.Tests.{is_close_paren, is_close_bracket, is_close_brace, is_semicolon, is_comma, is_colon, open_paren, open_bracket, open_brace, equals_sign, star_sign, question_mark, word_name, string_piece, Operator, At, binary_of, assignment_of, placed, binary_operator, assignment_operator, Suffix, IndexAt, CallAt, MemberAt, StepAt, NoSuffix, suffix_of, suffix, Start, StartName, StartInteger, StartCharacter, StartString, StartParen, StartPrefix, StartSizeOf, NoStart, start_of, start_of_word, start}
 
 -- Tokens that close or separate are known by their tests.
 

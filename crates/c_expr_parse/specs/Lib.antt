@@ -1,7 +1,9 @@
 pub mod DeclaratorRules
 pub mod ExprRules
-pub mod Memberships
+pub mod Nests
+pub mod Parts
 pub mod Rules
+pub mod Seen
 pub mod Tests
 pub mod TypeRules
-pub mod Seen
+pub mod Written

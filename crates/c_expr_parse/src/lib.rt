@@ -2,6 +2,8 @@
 #![tactic(auto)]
 
 mod cursor;
+mod grammar;
+mod measured;
 mod next;
 mod operators;
 mod starts;

@@ -10,3 +10,5 @@ pub mod SpecifierTokens
 pub mod Take
 pub mod TokenLaws
 pub mod Written
+pub mod Memory
+pub mod Rounds

@@ -1,5 +1,7 @@
 -- Functions that read expressions, specifiers and declarators with as many nodes as are allowed, or fewer.
-use Rattle.std.specs.Prelude.{◌≡◌, ℕ, suc, ◌≤◌, List, Result, IfOk, Bor, Vec, Global}
+use Rattle.std.specs.Prelude.{◌≡◌, ℕ, suc, ◌≤◌, List, Result, IfOk, Vec}
+use Rattle.std.specs.Borrow.{Bor}
+use Rattle.std.specs.declared.alloc.Global.{Global}
 use denote.Ref.{MutBor}
 use Rattle.indexmap.specs.IndexSet.{IndexSet}
 use Rattle.c_tree.specs.Symbols.{Symbol}

@@ -2,7 +2,7 @@
 use Rattle.std.specs.Prelude.{◌≡◌, ◌≢◌, ℕ, Vec, List, [], ◌∷◌, map, Option, Some, None, Result, Ok, Err}
 use Rattle.std.specs.declared.alloc.Global.{Global}
 use Rattle.indexmap.specs.IndexSet.{IndexSet}
-use Rattle.parse_rules.specs.Parsers.{Reason, Syntax, Unsupported, Deep, Answer, Read, Stopped}
+use Rattle.parse_rules.specs.Parsers.{Reason, Syntax, Unsupported, Deep, Answer, Read, Stopped, Parser, skip, ◌>>◌}
 use Rattle.c_tree.specs.Symbols as symbol
 use Rattle.c_tree.specs.Symbols.{Symbol}
 use Rattle.c_tree.specs.declared.leaf.Separator.TheVariants as separator
@@ -108,3 +108,7 @@ Reads view answer (Err why) left = why ≢ stop.NoMemory → answer ≡ Stopped 
 abbrev pub head : List Symbol → Symbol
 head [] = symbol.Bare separator.Comma
 head (t ∷ ts) = t
+
+-- the next token, and then a part
+abbrev pub after_skip : {A : Type 0} → Parser Symbol A → Parser Symbol A
+after_skip p = skip >> p

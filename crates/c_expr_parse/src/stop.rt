@@ -1,6 +1,4 @@
 //! Why a rule stops.
-ghost use Rattle.std.specs.Prelude.{◌≡◌};
-
 use std::alloc::AllocError;
 
 /// Why a rule stops. The cursor then stands at the token at which it does.
@@ -16,9 +14,12 @@ pub enum Stop {
 }
 
 impl From<AllocError> for Stop {
-    fn from(_: AllocError) -> Stop
-        ensures { result ≡ Stop.NoMemory }
-    {
+    ghost use Rattle.std.specs.Prelude.{◌≡◌};
+    ghost use Rattle.c_expr_parse.specs.declared.stop.Stop.TheVariants.{NoMemory};
+
+    ghost from_gives = { λ _ stop. stop ≡ NoMemory };
+
+    fn from(_: AllocError) -> Stop {
         Stop::NoMemory
     }
 }

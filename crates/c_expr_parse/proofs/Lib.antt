@@ -12,3 +12,15 @@ pub mod TokenLaws
 pub mod Written
 pub mod Memory
 pub mod Rounds
+pub mod Fresh
+pub mod Take
+pub mod Closers
+pub mod SpecifierTokens
+pub mod Kept
+pub mod ExprLaws
+pub mod OperatorLaws
+pub mod ExprDepth
+pub mod Complete
+pub mod Starts
+pub mod ExprReads
+pub mod OperandReads

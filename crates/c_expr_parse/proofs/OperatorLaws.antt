@@ -43,7 +43,7 @@ keeps_operator names d inner least e s rest (Some (At op at)) here goes fits =
     (λ low above _. omega arith) follows)))
 keeps_operator names d inner least e s rest None here goes fits = cc
 
-infix_steps : (names : TypeNames) (d : ℕ) → InnerKeeps names d → (least : ℕ)
+pub infix_steps : (names : TypeNames) (d : ℕ) → InnerKeeps names d → (least : ℕ)
     → Steps IsWritten true d (λ _. binds least) (λ d' e. infix_step d' (rules names d') e) (SpellsExpr names (max least 3)) (λ e. expr_height e ≤ suc d) Fits
 infix_steps names d inner least = record {
   never = λ a. refl;
@@ -116,7 +116,7 @@ keeps_assignment names d inner least e s ts None here follows =
 
 -- Commas.
 
-comma_steps : (names : TypeNames) (d : ℕ) → InnerKeeps names d → (least : ℕ)
+pub comma_steps : (names : TypeNames) (d : ℕ) → InnerKeeps names d → (least : ℕ)
     → Steps IsWritten true d (λ _ next. least == 0 && is_comma next) (λ d' e. comma_step d' (rules names d') e) (SpellsExpr names least) (λ e. expr_height e ≤ suc d) (NoOperator least)
 unfolding comma_step
 comma_steps names d inner least = record {

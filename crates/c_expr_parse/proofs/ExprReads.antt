@@ -42,7 +42,8 @@ bare_operand b = record { no_suffix = refl; no_piece = refl; no_brace = refl }
 -- what closes or separates ends an expression, but a comma one with commas
 pub bare_expr : (least : ℕ) (e : tree.Expr) (b : Separator) → (least == 0 && is_comma (Some (Bare b))) ≡ false → EndsExpr least e (Some (Bare b))
 bare_expr least e b comma = record {
-  operand = bare_operand b; no_operator = refl;
+  operand = bare_operand b;
+  no_operator = refl;
   no_question = none_of (nat_le least 2) None refl;
   no_assignment = none_of (nat_le least 1 && nat_le 14 (level e)) None refl;
   no_comma = comma;
@@ -50,7 +51,8 @@ bare_expr least e b comma = record {
 
 pub end_expr : (least : ℕ) (e : tree.Expr) → EndsExpr least e None
 end_expr least e = record {
-  operand = record { no_suffix = refl; no_piece = refl; no_brace = refl }; no_operator = refl;
+  operand = record { no_suffix = refl; no_piece = refl; no_brace = refl };
+  no_operator = refl;
   no_question = none_of (nat_le least 2) None refl;
   no_assignment = none_of (nat_le least 1 && nat_le 14 (level e)) None refl;
   no_comma = and_right (least == 0) false refl;
@@ -84,9 +86,9 @@ arguments_lead names d keeps inner g (tree.AndArgument tree.NoArgument e) b rest
     leads_next _ (next_argument_reads names d inner g tree.NoArgument e (Bare b ∷ rest) w.1 w.2 (omega arith) (bare_expr 1 e b refl)) (equal refl)
 arguments_lead names d keeps inner g (tree.AndArgument (tree.AndArgument before a) e) b rest w some low =
     rw (arguments_flat (tree.AndArgument before a) (expr_spelling e) (Bare b ∷ rest) refl)
-      (arguments_lead names d keeps inner g (tree.AndArgument before a) separator.Comma (expr_spelling e ++ Bare b ∷ rest) w.0 refl (omega arith)
-        ▷ leads_loop (argument_steps names d keeps) (tree.AndArgument before a) (Bare separator.Comma ∷ (expr_spelling e ++ Bare b ∷ rest)) tt refl
-            (next_argument_reads names d inner g (tree.AndArgument before a) e (Bare b ∷ rest) w.1 w.2 (omega arith) (bare_expr 1 e b refl)))
+    (arguments_lead names d keeps inner g (tree.AndArgument before a) separator.Comma (expr_spelling e ++ Bare b ∷ rest) w.0 refl (omega arith)
+    ▷ leads_loop (argument_steps names d keeps) (tree.AndArgument before a) (Bare separator.Comma ∷ (expr_spelling e ++ Bare b ∷ rest)) tt refl
+    (next_argument_reads names d inner g (tree.AndArgument before a) e (Bare b ∷ rest) w.1 w.2 (omega arith) (bare_expr 1 e b refl)))
 
 pub arguments_start : (g : Language) (names : TypeNames) (x : tree.Arguments) (rest : List Symbol) → AreArguments g names x → is_no_argument x ≡ false → begins_expr names (first (arguments_spelling x ++ rest)) ≡ true
 arguments_start g names tree.NoArgument rest w some = cc
@@ -100,8 +102,8 @@ unfolding arguments
 arguments_read names d keeps inner g tree.NoArgument rest w low = equal refl
 arguments_read names d keeps inner g (tree.AndArgument before e) rest w low =
     leads_passes _ (arguments_start g names (tree.AndArgument before e) (Bare separator.CloseParen ∷ rest) w refl)
-      (arguments_lead names d keeps inner g (tree.AndArgument before e) separator.CloseParen rest w refl low
-        ▷ leads_loop_stops (λ _. is_comma) (λ before. skip >> next_argument (rules names d) before) (tree.AndArgument before e) (Bare separator.CloseParen ∷ rest) refl)
+    (arguments_lead names d keeps inner g (tree.AndArgument before e) separator.CloseParen rest w refl low
+    ▷ leads_loop_stops (λ _. is_comma) (λ before. skip >> next_argument (rules names d) before) (tree.AndArgument before e) (Bare separator.CloseParen ∷ rest) refl)
 
 -- What is said of each expression at d.
 
@@ -135,7 +137,7 @@ pub after_infix_plain : (names : TypeNames) (d least : ℕ) (g : Language) (e : 
 unfolding with_question with_assignment
 after_infix_plain names d least g e rest no_question no_assignment =
     leads_next _ (leads_first (question_after least) (with_question d (rules names d) e) rest no_question (equal refl))
-      (leads_next _ (leads_first (assignment_after least e) (with_assignment d (rules names d) e) rest no_assignment (equal refl)) (equal refl))
+    (leads_next _ (leads_first (assignment_after least e) (with_assignment d (rules names d) e) rest no_assignment (equal refl)) (equal refl))
 
 -- an operator that doesn't bind at a level doesn't at a higher one
 pub binds_less : (low high : ℕ) → low ≤ high → (o : Option (Operator Binary)) → binds_at low o ≡ false → binds_at high o ≡ false
@@ -165,7 +167,7 @@ module _ (names : TypeNames) (d : ℕ) (g : Language) (e : tree.Expr) where
   unfolding expr_layer
   infix_expr high h least rest fits low ends none no_question no_assignment =
       h least (after_infix names d least) rest (omega arith) low ends (binds_less least (suc (level e)) (omega arith) (binary_operator (first rest)) none)
-        ▷ leads_next _ (leads_loop_stops (λ _. binds least) (infix_step d (rules names d)) e rest none) (after_infix_plain names d least g e rest no_question no_assignment)
+      ▷ leads_next _ (leads_loop_stops (λ _. binds least) (infix_step d (rules names d)) e rest none) (after_infix_plain names d least g e rest no_question no_assignment)
 
   pub operand_infix : 13 ≤ level e → AsOperand → AsInfix
   operand_infix high h least k rest fits low ends fit = leads_next _ (h least rest (omega arith) low ends) (equal refl)
@@ -176,20 +178,32 @@ module _ (names : TypeNames) (d : ℕ) (g : Language) (e : tree.Expr) where
 
   pub reading_postfix : 15 ≤ level e → AsPostfix → Reading names d g e
   reading_postfix high h = record {
-    as_postfix = h; as_operand = postfix_operand high h; as_infix = operand_infix (omega arith) (postfix_operand high h); as_expr = infix_expr (omega arith) (operand_infix (omega arith) (postfix_operand high h));
+    as_postfix = h;
+    as_operand = postfix_operand high h;
+    as_infix = operand_infix (omega arith) (postfix_operand high h);
+    as_expr = infix_expr (omega arith) (operand_infix (omega arith) (postfix_operand high h));
   }
 
   pub reading_operand : 13 ≤ level e → level e < 15 → AsOperand → Reading names d g e
   reading_operand high below h = record {
-    as_postfix = λ least rest fits. absurd (omega arith); as_operand = h; as_infix = operand_infix (omega arith) h; as_expr = infix_expr (omega arith) (operand_infix (omega arith) h);
+    as_postfix = λ least rest fits. absurd (omega arith);
+    as_operand = h;
+    as_infix = operand_infix (omega arith) h;
+    as_expr = infix_expr (omega arith) (operand_infix (omega arith) h);
   }
 
   pub reading_infix : 3 ≤ level e → level e < 13 → AsInfix → Reading names d g e
   reading_infix high below h = record {
-    as_postfix = λ least rest fits. absurd (omega arith); as_operand = λ least rest fits. absurd (omega arith); as_infix = h; as_expr = infix_expr (omega arith) h;
+    as_postfix = λ least rest fits. absurd (omega arith);
+    as_operand = λ least rest fits. absurd (omega arith);
+    as_infix = h;
+    as_expr = infix_expr (omega arith) h;
   }
 
   pub reading_expr : level e < 3 → AsExpr → Reading names d g e
   reading_expr below h = record {
-    as_postfix = λ least rest fits. absurd (omega arith); as_operand = λ least rest fits. absurd (omega arith); as_infix = λ least k rest fits. absurd (omega arith); as_expr = h;
+    as_postfix = λ least rest fits. absurd (omega arith);
+    as_operand = λ least rest fits. absurd (omega arith);
+    as_infix = λ least k rest fits. absurd (omega arith);
+    as_expr = h;
   }

@@ -56,7 +56,7 @@ unfolding next_piece take
 pieces_read d g before [] rest none = rw (append-nil before) (leads_loop_stops (λ _ next. is_some (string_piece next)) next_piece before rest none)
 pieces_read d g before (piece ∷ pieces) rest none =
     leads_loop (piece_steps d) before (piece_symbol piece ∷ (map piece_symbol pieces ++ rest)) tt refl (equal refl)
-      ▷ (rw (← append_assoc before (piece ∷ []) pieces) (pieces_read d g (before ++ piece ∷ []) pieces rest none))
+    ▷ (rw (← append_assoc before (piece ∷ []) pieces) (pieces_read d g (before ++ piece ∷ []) pieces rest none))
 
 pub string_reads : (names : TypeNames) (d : ℕ) (g : Language) (pieces : List StringPiece) → 0 < length pieces → Reading names d g (tree.String pieces)
 unfolding operand operand_from
@@ -71,8 +71,8 @@ pub paren_reads : (names : TypeNames) (d : ℕ) → InnerReads names d → (g : 
 unfolding operand operand_from after_paren
 paren_reads names d inner g at e w = reading_postfix names d g (tree.Paren at e) (omega arith) (λ least rest high low none.
     rw (append_assoc (expr_spelling e) (Bare separator.CloseParen ∷ []) rest)
-      (leads_fails _ (no_cast g names least e (Bare separator.CloseParen ∷ rest) w)
-        (leads_next _ (inner.expr g 0 e (Bare separator.CloseParen ∷ rest) (omega arith) w (omega arith) (omega arith) (bare_expr 0 e separator.CloseParen refl)) (equal refl))))
+    (leads_fails _ (no_cast g names least e (Bare separator.CloseParen ∷ rest) w)
+    (leads_next _ (inner.expr g 0 e (Bare separator.CloseParen ∷ rest) (omega arith) w (omega arith) (omega arith) (bare_expr 0 e separator.CloseParen refl)) (equal refl))))
 
 -- Postfix expressions.
 
@@ -100,34 +100,34 @@ module _ (names : TypeNames) (d : ℕ) (keeps : InnerKeeps names d) (inner : Inn
   unfolding postfix postfix_step with_suffix
   index_reads e at index high h w = reading_postfix names d g (tree.Index e at index) (omega arith) (λ least rest _ low none.
       rw (flat (expr_spelling e) (Mark mark.OpenBracket at) (expr_spelling index) (Bare separator.CloseBracket ∷ []) rest)
-        (h.as_postfix least (Mark mark.OpenBracket at ∷ (expr_spelling index ++ Bare separator.CloseBracket ∷ rest)) high (omega arith) refl
-          ▷ leads_loop (postfix_steps names d keeps) e (Mark mark.OpenBracket at ∷ (expr_spelling index ++ Bare separator.CloseBracket ∷ rest)) refl refl
-              (leads_next _ (leads_take_above d (expr_height e) (Mark mark.OpenBracket at) (expr_spelling index ++ Bare separator.CloseBracket ∷ rest) (omega arith))
-                (leads_next _ (inner.expr g 0 index (Bare separator.CloseBracket ∷ rest) (omega arith) w (omega arith) (omega arith) (bare_expr 0 index separator.CloseBracket refl)) (equal refl)))))
+      (h.as_postfix least (Mark mark.OpenBracket at ∷ (expr_spelling index ++ Bare separator.CloseBracket ∷ rest)) high (omega arith) refl
+      ▷ leads_loop (postfix_steps names d keeps) e (Mark mark.OpenBracket at ∷ (expr_spelling index ++ Bare separator.CloseBracket ∷ rest)) refl refl
+      (leads_next _ (leads_take_above d (expr_height e) (Mark mark.OpenBracket at) (expr_spelling index ++ Bare separator.CloseBracket ∷ rest) (omega arith))
+      (leads_next _ (inner.expr g 0 index (Bare separator.CloseBracket ∷ rest) (omega arith) w (omega arith) (omega arith) (bare_expr 0 index separator.CloseBracket refl)) (equal refl)))))
 
   pub call_reads : (e : tree.Expr) (at : Place) (x : tree.Arguments) → 15 ≤ level e → Reading names d g e → AreArguments g names x → Reading names d g (tree.Call e at x)
   unfolding postfix postfix_step with_suffix
   call_reads e at x high h w = reading_postfix names d g (tree.Call e at x) (omega arith) (λ least rest _ low none.
       rw (flat (expr_spelling e) (Mark mark.OpenParen at) (arguments_spelling x) (Bare separator.CloseParen ∷ []) rest)
-        (h.as_postfix least (Mark mark.OpenParen at ∷ (arguments_spelling x ++ Bare separator.CloseParen ∷ rest)) high (omega arith) refl
-          ▷ leads_loop (postfix_steps names d keeps) e (Mark mark.OpenParen at ∷ (arguments_spelling x ++ Bare separator.CloseParen ∷ rest)) refl refl
-              (leads_next _ (leads_take_above d (expr_height e) (Mark mark.OpenParen at) (arguments_spelling x ++ Bare separator.CloseParen ∷ rest) (omega arith))
-                (leads_next _ (arguments_read names d keeps inner g x rest w (omega arith)) (equal refl)))))
+      (h.as_postfix least (Mark mark.OpenParen at ∷ (arguments_spelling x ++ Bare separator.CloseParen ∷ rest)) high (omega arith) refl
+      ▷ leads_loop (postfix_steps names d keeps) e (Mark mark.OpenParen at ∷ (arguments_spelling x ++ Bare separator.CloseParen ∷ rest)) refl refl
+      (leads_next _ (leads_take_above d (expr_height e) (Mark mark.OpenParen at) (arguments_spelling x ++ Bare separator.CloseParen ∷ rest) (omega arith))
+      (leads_next _ (arguments_read names d keeps inner g x rest w (omega arith)) (equal refl)))))
 
   pub member_reads : (e : tree.Expr) (op : MemberOperator) (at : Place) (name : Identifier) → 15 ≤ level e → Reading names d g e → Reading names d g (tree.Member e op at name)
   unfolding postfix postfix_step with_suffix take
   member_reads e op at name high h = reading_postfix names d g (tree.Member e op at name) (omega arith) (λ least rest _ low none.
       rw (append_assoc (expr_spelling e) (Mark (member_mark op) at ∷ name_symbol name ∷ []) rest)
-        (h.as_postfix least (Mark (member_mark op) at ∷ name_symbol name ∷ rest) high (omega arith) refl
-          ▷ leads_loop (postfix_steps names d keeps) e (Mark (member_mark op) at ∷ name_symbol name ∷ rest) (member_fits e op at (name_symbol name ∷ rest)) (ap is_suffix (member_told op at))
-              (leads_first suffix (with_suffix names d (rules names d) e) (Mark (member_mark op) at ∷ name_symbol name ∷ rest) (member_told op at)
-                (leads_next _ (leads_take_above d (expr_height e) (Mark (member_mark op) at) (name_symbol name ∷ rest) (omega arith)) (equal refl)))))
+      (h.as_postfix least (Mark (member_mark op) at ∷ name_symbol name ∷ rest) high (omega arith) refl
+      ▷ leads_loop (postfix_steps names d keeps) e (Mark (member_mark op) at ∷ name_symbol name ∷ rest) (member_fits e op at (name_symbol name ∷ rest)) (ap is_suffix (member_told op at))
+      (leads_first suffix (with_suffix names d (rules names d) e) (Mark (member_mark op) at ∷ name_symbol name ∷ rest) (member_told op at)
+      (leads_next _ (leads_take_above d (expr_height e) (Mark (member_mark op) at) (name_symbol name ∷ rest) (omega arith)) (equal refl)))))
 
   pub step_reads : (e : tree.Expr) (op : Step) (at : Place) → 15 ≤ level e → Reading names d g e → Reading names d g (tree.Postfix e op at)
   unfolding postfix postfix_step with_suffix
   step_reads e op at high h = reading_postfix names d g (tree.Postfix e op at) (omega arith) (λ least rest _ low none.
       rw (append_assoc (expr_spelling e) (Mark (step_mark op) at ∷ []) rest)
-        (h.as_postfix least (Mark (step_mark op) at ∷ rest) high (omega arith) refl
-          ▷ leads_loop (postfix_steps names d keeps) e (Mark (step_mark op) at ∷ rest) (step_fits e op at rest) (ap is_suffix (step_told op at))
-              (leads_first suffix (with_suffix names d (rules names d) e) (Mark (step_mark op) at ∷ rest) (step_told op at)
-                (leads_next _ (leads_take_above d (expr_height e) (Mark (step_mark op) at) rest (omega arith)) (equal refl)))))
+      (h.as_postfix least (Mark (step_mark op) at ∷ rest) high (omega arith) refl
+      ▷ leads_loop (postfix_steps names d keeps) e (Mark (step_mark op) at ∷ rest) (step_fits e op at rest) (ap is_suffix (step_told op at))
+      (leads_first suffix (with_suffix names d (rules names d) e) (Mark (step_mark op) at ∷ rest) (step_told op at)
+      (leads_next _ (leads_take_above d (expr_height e) (Mark (step_mark op) at) rest (omega arith)) (equal refl)))))

@@ -13,7 +13,7 @@ use Rattle.c_tree.specs.declared.expr.Declarator.{Declarator}
 use Rattle.c_expr_parse.specs.declared.measured.Measured.{Measured}
 use Rattle.c_expr_parse.specs.declared.stop.Stop.{Stop}
 use Rattle.c_expr_parse.specs.declared.words.Scope.{Scope}
-use Rattle.c_expr_parse.specs.declared.starts.Naming.{Naming}
+use Rattle.c_expr_parse.specs.declared.lookahead.Naming.{Naming}
 use Rattle.c_expr_parse.specs.Rules.{rules}
 use Rattle.c_expr_parse.specs.Seen.{names_of, scope_view, naming_view, Reads}
 

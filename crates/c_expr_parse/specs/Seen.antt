@@ -15,19 +15,19 @@ use Rattle.c_expr_parse.specs.declared.stop.Stop.{Stop}
 use Rattle.c_expr_parse.specs.declared.stop.Stop.TheVariants as stop
 use Rattle.c_expr_parse.specs.declared.words.Scope.{Scope}
 use Rattle.c_expr_parse.specs.declared.words.Scope.TheVariants as scope
-use Rattle.c_expr_parse.specs.declared.starts.Naming.{Naming}
-use Rattle.c_expr_parse.specs.declared.starts.Naming.TheVariants as naming
-use Rattle.c_expr_parse.specs.declared.starts.Placed.{Placed}
-use Rattle.c_expr_parse.specs.declared.starts.Suffix.{Suffix}
-use Rattle.c_expr_parse.specs.declared.starts.Suffix.TheVariants as suffix
-use Rattle.c_expr_parse.specs.declared.starts.Start.{Start}
-use Rattle.c_expr_parse.specs.declared.starts.Start.TheVariants as start
-use Rattle.c_expr_parse.specs.declared.starts.SpecifierStart.{SpecifierStart}
-use Rattle.c_expr_parse.specs.declared.starts.SpecifierStart.TheVariants as specifier_start
-use Rattle.c_expr_parse.specs.declared.starts.CoreStart.{CoreStart}
-use Rattle.c_expr_parse.specs.declared.starts.CoreStart.TheVariants as core_start
-use Rattle.c_expr_parse.specs.declared.starts.PartStart.{PartStart}
-use Rattle.c_expr_parse.specs.declared.starts.PartStart.TheVariants as part_start
+use Rattle.c_expr_parse.specs.declared.lookahead.Naming.{Naming}
+use Rattle.c_expr_parse.specs.declared.lookahead.Naming.TheVariants as naming
+use Rattle.c_expr_parse.specs.declared.lookahead.Placed.{Placed}
+use Rattle.c_expr_parse.specs.declared.lookahead.Suffix.{Suffix}
+use Rattle.c_expr_parse.specs.declared.lookahead.Suffix.TheVariants as suffix
+use Rattle.c_expr_parse.specs.declared.lookahead.Start.{Start}
+use Rattle.c_expr_parse.specs.declared.lookahead.Start.TheVariants as start
+use Rattle.c_expr_parse.specs.declared.lookahead.SpecifierStart.{SpecifierStart}
+use Rattle.c_expr_parse.specs.declared.lookahead.SpecifierStart.TheVariants as specifier_start
+use Rattle.c_expr_parse.specs.declared.lookahead.CoreStart.{CoreStart}
+use Rattle.c_expr_parse.specs.declared.lookahead.CoreStart.TheVariants as core_start
+use Rattle.c_expr_parse.specs.declared.lookahead.PartStart.{PartStart}
+use Rattle.c_expr_parse.specs.declared.lookahead.PartStart.TheVariants as part_start
 use Rattle.c_expr_parse.specs.Tests as tests
 
 abbrev pub names_of : {S : Type 0} → IndexSet (Vec ℕ Global) S → TypeNames

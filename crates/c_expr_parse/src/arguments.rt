@@ -11,8 +11,8 @@ ghost use Rattle.c_expr_parse.specs.Nests.{Nests, IsMeasured};
 
 use crate::cursor::Cursor;
 use crate::grammar::Grammar;
+use crate::lookahead::{Naming, begins_expr, is_comma};
 use crate::measured::Measured;
-use crate::starts::{Naming, begins_expr, is_comma};
 use crate::stop::Stop;
 use crate::words::Scope;
 use c_tree::{Declarator, Expr, Items, Specifiers};

@@ -1,13 +1,17 @@
 //! The tokens that are left.
-ghost use Rattle.std.specs.Prelude.{◌≡◌, length, map};
+ghost use Rattle.std.specs.Prelude.{◌≡◌, ◌≤◌, length, map, IfOk};
 ghost use Rattle.parse_rules.specs.Parsers as rule;
 ghost use Rattle.parse_rules.specs.Parsers.{first};
 ghost use Rattle.c_tree.specs.Symbols.{symbol_of};
+ghost use Rattle.c_expr_parse.specs.ExprRules as spec;
+ghost use Rattle.c_expr_parse.specs.Tests as tests;
 ghost use Rattle.c_expr_parse.specs.Seen.{next_view, head, Reads};
 
 use crate::next::{Next, next_of};
 use crate::stop::Stop;
 use c_lexer::Token;
+use c_tree::{Identifier, Items};
+use std::alloc::Global;
 use std::marker::Model;
 
 /// The tokens that are left, which contracts see as the list of what the tree keeps of them.
@@ -73,11 +77,27 @@ impl<'a> Cursor<'a> {
 
     /// Goes past a token above a part of this height, where so many nodes may lie below it.
     pub fn take_above(&mut self, depth: u16, height: usize) -> Result<(), Stop>
-        ensures { Reads (λ _. head self.old) (rule.take_above depth height self.old) result self.new }
+        ensures reads { Reads (λ _. head self.old) (rule.take_above depth height self.old) result self.new }
+        ensures low { IfOk result (λ _. height ≤ depth) }
     {
         if usize::from(depth) < height {
             return Err(Stop::Deep);
         }
         self.skip()
+    }
+
+    /// Goes past a word that is no keyword, and gives it.
+    #[tactic(auto, unfolding(crate::specs::ExprRules::take))]
+    pub fn take_name(&mut self, alloc: Global) -> Result<Identifier, Stop>
+        ensures { Reads (λ name. name) (spec.take tests.word_name self.old) result self.new }
+    {
+        let Next::Name(bytes, place) = self.peek() else {
+            return Err(Stop::Syntax);
+        };
+        self.skip()?;
+        Ok(Identifier {
+            bytes: Items::from_slice(alloc, bytes)?,
+            place,
+        })
     }
 }

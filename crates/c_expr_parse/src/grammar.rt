@@ -7,8 +7,8 @@ ghost use Rattle.c_expr_parse.specs.Seen.{names_of, scope_view, naming_view, Rea
 ghost use Rattle.c_expr_parse.specs.Nests.{Nests, IsMeasured};
 
 use crate::cursor::Cursor;
+use crate::lookahead::Naming;
 use crate::measured::Measured;
-use crate::starts::Naming;
 use crate::stop::Stop;
 use crate::words::Scope;
 use c_tree::{Declarator, Expr, Specifiers};

@@ -4,10 +4,11 @@
 mod arguments;
 mod cursor;
 mod grammar;
+mod lookahead;
 mod measured;
 mod next;
 mod operators;
-mod starts;
+mod postfix;
 mod stop;
 mod type_name;
 mod words;

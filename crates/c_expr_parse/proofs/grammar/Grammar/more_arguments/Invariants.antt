@@ -13,5 +13,5 @@ use Rattle.c_expr_parse.proofs.grammar.Grammar.more_arguments.Given as goal
 abbrev pub invariant-loop-turn : goal.invariant-loop-turn
 invariant-loop-turn g l =
     IsInRound (loop (λ _. tests.is_comma) (λ before. after_skip (spec.next_argument (rules (names_of l.self.names.now) l.self.depth) before)) (arguments_of (map expr_view l.fn.first.tree)) l.fn.cursor)
-        l._turn-end l._turn tests.is_comma (λ before. after_skip (spec.next_argument (rules (names_of l.self.names.now) l.self.depth) before)) (arguments_of (map expr_view l.list.tree)) l.cursor
+    l._turn-end l._turn tests.is_comma (λ before. after_skip (spec.next_argument (rules (names_of l.self.names.now) l.self.depth) before)) (arguments_of (map expr_view l.list.tree)) l.cursor
     × IsMeasured l.self.depth (arguments_height (arguments_of (map expr_view l.list.tree))) l.list.height

@@ -6,3 +6,4 @@ pub mod ReachedLaws
 pub mod LeavingLaws
 pub mod KeptLaws
 pub mod CallLaws
+pub mod ControlLaws

@@ -1,0 +1,62 @@
+//! The control stack: where a part of an instruction is over, what follows it.
+ghost use Rattle.std.specs.Prelude.{◌≡◌, ℕ, List, [], MatchOption, ⊤};
+ghost use Rattle.cured_code.specs.declared.parts.Parts.{Parts};
+ghost use Rattle.cured_code.specs.FlatMachine.{FlatOutcome};
+ghost use Rattle.cured_code.specs.FlatState.{Local};
+ghost use Rattle.cured_machine.specs.Stack.{Caller};
+ghost use Rattle.cured_machine.specs.Spelled.{IsLast, IsReached, GoesOn, slices_of};
+
+use cured_code::Instr;
+
+/// What follows where the code at hand is over.
+#[derive(Clone, Copy, Drop)]
+pub(crate) enum Next<'a> {
+    /// This code.
+    Code(&'a [Instr]),
+    /// A round of a loop, for which no turn is left.
+    Spent,
+    /// Nothing: the function is over.
+    Over,
+}
+
+/// The newest slice of the stack.
+#[inline(always)]
+fn top<'a>(stack: &Vec<&'a [Instr]>) -> Option<&'a [Instr]>
+    ensures { MatchOption result ⊤ (λ slice. IsLast stack.now.items slice) }
+{
+    match stack.last() {
+        None => None,
+        Some(slice) => Some(*slice),
+    }
+}
+
+/// What follows the part that is over: what stands after an `if` or a block, or a further round of a loop, which takes a
+/// turn.
+#[inline(always)]
+pub(crate) fn go_on<'a>(stack: &mut Vec<&'a [Instr]>, turns: &mut u64) -> Next<'a>
+    ensures { (parts : Parts) (whole : FlatOutcome) (ks : List Caller) (f j : ℕ) (c : Local) → c.state.turns ≡ turns.old →
+        IsReached parts whole ks f j (slices_of stack.old.items) [] c →
+        GoesOn parts whole ks f j (slices_of stack.new.items) turns.new c result }
+{
+    let Some(outer) = top(stack) else {
+        return Next::Over;
+    };
+    match outer.split_first() {
+        Some((Instr::Loop(body), _)) => {
+            if *turns == 0 {
+                return Next::Spent;
+            }
+            *turns -= 1;
+            Next::Code(body.0.as_slice())
+        }
+        Some((Instr::If(_, _, _), rest)) => {
+            let _ = stack.take_last();
+            Next::Code(rest)
+        }
+        Some((Instr::Block(_), rest)) => {
+            let _ = stack.take_last();
+            Next::Code(rest)
+        }
+        _ => Next::Over,
+    }
+}

@@ -7,3 +7,4 @@ pub mod LeavingLaws
 pub mod KeptLaws
 pub mod CallLaws
 pub mod ControlLaws
+pub mod SizeLaws

@@ -6,3 +6,5 @@ pub mod ReachedLaws
 pub mod LeavingLaws
 pub mod KeptLaws
 pub mod CallLaws
+pub mod ControlLaws
+pub mod SizeLaws

@@ -2,3 +2,4 @@ pub mod Stack
 pub mod Rows
 pub mod Spelled
 pub mod Kept
+pub mod Sizes

@@ -1,6 +1,7 @@
 //! The machine that runs cured code.
 #![tactic(auto)]
 
+mod control;
 mod lookups;
 mod row;
 mod tags;

@@ -1,0 +1,120 @@
+//! The control stack: where a part of an instruction is over, what follows it.
+ghost use Rattle.std.specs.Prelude.{◌<◌, ◌∷◌, length, vec_len, vec_capacity, slice_index, ◌≡◌, ℕ, List, [], MatchOption, ⊤};
+ghost use Rattle.integers.specs.Words.{is_true_word};
+ghost use Rattle.cured_code.specs.declared.instr.Instr.{Instr};
+ghost use Rattle.cured_code.specs.declared.parts.Parts.{Parts};
+ghost use Rattle.cured_code.specs.FlatMachine.{FlatOutcome};
+ghost use Rattle.cured_code.specs.FlatState.{Local};
+ghost use Rattle.cured_machine.specs.Stack.{Caller};
+ghost use Rattle.cured_machine.specs.Spelled.{IsLast, IsReached, GoesOn, GoesIn, slices_of};
+ghost use Rattle.cured_machine.specs.Rows.{IsNamed};
+
+use cured_code::Instr;
+
+/// What follows where the code at hand is over.
+#[derive(Clone, Copy, Drop)]
+pub(crate) enum Next<'a> {
+    /// This code.
+    Code(&'a [Instr]),
+    /// A round of a loop, for which no turn is left.
+    Spent,
+    /// Nothing: the function is over.
+    Over,
+}
+
+/// The newest slice of the stack.
+#[inline(always)]
+fn top<'a>(stack: &Vec<&'a [Instr]>) -> Option<&'a [Instr]>
+    ensures { MatchOption result ⊤ (λ slice. IsLast stack.now.items slice) }
+{
+    match stack.last() {
+        None => None,
+        Some(slice) => Some(*slice),
+    }
+}
+
+/// What follows the part that is over: what stands after an `if` or a block, or a further round of a loop, which takes a
+/// turn.
+#[inline(always)]
+pub(crate) fn go_on<'a>(stack: &mut Vec<&'a [Instr]>, turns: &mut u64) -> Next<'a>
+    ensures { (parts : Parts) (whole : FlatOutcome) (ks : List Caller) (f j : ℕ) (c : Local) → c.state.turns ≡ turns.old →
+        IsReached parts whole ks f j (slices_of stack.old.items) [] c →
+        GoesOn parts whole ks f j (slices_of stack.new.items) turns.new c result }
+{
+    let Some(outer) = top(stack) else {
+        return Next::Over;
+    };
+    match outer.split_first() {
+        Some((Instr::Loop(body), _)) => {
+            if *turns == 0 {
+                return Next::Spent;
+            }
+            *turns -= 1;
+            Next::Code(body.0.as_slice())
+        }
+        Some((Instr::If(_, _, _), rest)) => {
+            let _ = stack.take_last();
+            Next::Code(rest)
+        }
+        Some((Instr::Block(_), rest)) => {
+            let _ = stack.take_last();
+            Next::Code(rest)
+        }
+        _ => Next::Over,
+    }
+}
+
+/// Enters the instruction that `here` begins with, where it is one that holds others: the first round of a loop takes a
+/// turn.
+#[inline(always)]
+pub(crate) fn go_in<'a>(
+    here: &'a [Instr],
+    stack: &mut Vec<&'a [Instr]>,
+    frame: &[u64],
+    turns: &mut u64,
+) -> Next<'a>
+    requires room { vec_len stack.old < vec_capacity stack.old }
+    requires named { (i : Instr) (rest : List Instr) → here.now ≡ i ∷ rest → (areas : ℕ) × IsNamed i (length frame.now) areas }
+    ensures { (parts : Parts) (whole : FlatOutcome) (ks : List Caller) (f j : ℕ) (c : Local) → c.state.turns ≡ turns.old → c.slots ≡ frame.now →
+        IsReached parts whole ks f j (slices_of stack.old.items) here.now c →
+        GoesIn parts whole ks f j (slices_of stack.new.items) here.now turns.new c result }
+{
+    let Some((first, _)) = here.split_first() else {
+        return Next::Over;
+    };
+    match first {
+        Instr::If(a, x, y) => {
+            let part = x.0.as_slice();
+            let other = y.0.as_slice();
+            let holds = is_set(frame, *a as usize);
+            stack.push_reserved(here);
+            if holds {
+                Next::Code(part)
+            } else {
+                Next::Code(other)
+            }
+        }
+        Instr::Block(x) => {
+            stack.push_reserved(here);
+            Next::Code(x.0.as_slice())
+        }
+        Instr::Loop(x) => {
+            if *turns == 0 {
+                return Next::Spent;
+            }
+            *turns -= 1;
+            stack.push_reserved(here);
+            Next::Code(x.0.as_slice())
+        }
+        _ => Next::Over,
+    }
+}
+
+/// Whether a slot isn't zero.
+#[inline(always)]
+fn is_set(frame: &[u64], a: usize) -> bool
+    requires { a < length frame.now }
+    ensures { result ≡ is_true_word (slice_index frame.now a) }
+{
+    frame[a] != 0
+}

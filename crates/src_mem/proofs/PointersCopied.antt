@@ -1,35 +1,33 @@
 -- The copy of a struct that holds pointers, through pointers that aren't WILD: each of its pointers is loaded first.
-use Rattle.std.proofs.Common.{◌≡◌, ◌≢◌, ℕ, zero, suc, ◌+◌, ◌-◌, ◌%◌, ◌<◌, ◌≤◌, inl, inr, ℤ, pos, ◌+ℤ◌, ◌-ℤ◌, Bool, true, false, not, ◌&&◌, cond, List, [], ◌∷◌, length, take, slice_get, Option, None, Some, refl, ap, sym, subst, ◌∙◌, arith}
+use Rattle.std.proofs.Common.{◌≡◌, ◌≢◌, ℕ, zero, suc, ◌+◌, ◌-◌, ◌%◌, ◌<◌, ◌≤◌, ℤ, pos, ◌+ℤ◌, ◌-ℤ◌, Bool, true, false, not, cond, List, [], ◌∷◌, length, slice_get, Option, None, Some, refl, ap, sym, subst, ◌∙◌, arith}
 use Rattle.std.specs.Prelude.{is_some, slice_index_or}
-use Rattle.std.specs.List.{filter, list_all}
-use Rattle.std.proofs.lemmas.Bool.Decides.{nat_tests}
-use lib.Pointwise.{pointwise}
+use Rattle.std.specs.List.{filter, list_all, range_with_len}
 use Rattle.cc_base.specs.declared.number.TypeId.{TypeId}
-use Rattle.cc_base.specs.declared.number.NodeId.{NodeId}
 use Rattle.cc_base.specs.declared.kind.Kind.{Kind}
 use Rattle.cc_base.specs.declared.kind.Kind.TheVariants.{Safe, Seq, Rtti, Wild}
 use Rattle.c_types.specs.declared.shape.TypeShape.{TypeShape}
 use Rattle.c_types.specs.declared.shape.TypeShape.TheVariants as shape
 use Rattle.c_types.specs.Table.{Table, shape_at, is_function, is_function_shape, IsComplete}
 use Rattle.c_types.specs.Layouts.{size_of}
-use Rattle.c_types.specs.Cells.{Cell, raw, pointer, mixed, incomplete, Relation, alike, begins}
-use Rattle.c_types.specs.Equality.{cells_of, physically_equal, begins_with, repeated_cell}
-use Rattle.c_types.specs.Flows.{HeldPointer, and_then, pointer_in_cell, pointer_in, pointer_at}
+use Rattle.c_types.specs.Cells.{holds_pointer, Cell, raw, pointer, mixed, incomplete, Relation, alike, begins}
+use Rattle.c_types.specs.Equality.{cells_of, physically_equal, repeated_cell}
+use Rattle.c_types.specs.Flows.{and_then, pointer_in_cell, pointer_in, pointer_at}
 use native.Mathlib.Nat.{mod-eq_of_lt, mod-lt}
 use Rattle.integers.specs.Words.{residue}
 use Rattle.src_mem.specs.Pointers.{Part, Location, Pointer, At, distance}
 use Rattle.src_mem.specs.Memory.{Object, Memory, holds_pointer_at, pointer_or_null}
-use Rattle.runs.specs.Outcome.{Outcome, Ended, Done, done, allowed, from}
+use Rattle.runs.specs.Outcome.{Outcome, Done, done, allowed, either, from, ◌>>◌}
 use Rattle.cc_base.specs.declared.place.Place.{Place}
 use Rattle.src_mem.specs.State.{Ending, Stopped, Wrong, State, Act, Setting, given, touched}
-use Rattle.src_mem.specs.Checks.{Outlives, check_of, checked, holds}
-use Rattle.src_mem.specs.Primitives.{reach, load_pointer}
-use Rattle.src_mem.specs.Uses.{forward, load_pointers}
-use Rattle.src_mem.specs.Laws.{IsNotWrong}
+use Rattle.src_mem.specs.Checks.{CopyFrom, CopyTo, conditions_of, all_checked, Outlives, check_of, checked, holds}
+use Rattle.src_mem.specs.Primitives.{reach, load_pointer, copy}
+use Rattle.src_mem.specs.Uses.{forward, load_pointers, keep_pointers, copy_all}
+use Rattle.src_mem.specs.Laws.{IsNotWrong, HoldsPointersWhole}
 use Rattle.src_mem.proofs.Spots.{IsRight, spot-right}
-use Rattle.src_mem.proofs.NotWrong.{begun, goes_on}
-use Rattle.src_mem.specs.Facts.{CellsAgree, HoldType, RepeatType, IsSequenceAt, IsSafeAt, IsTypedAt, IsHeld, IsSoundMemory}
-use Rattle.src_mem.proofs.Right.{IsFirst, Begins, begins_first, second_true, first_of, distance_is}
+use Rattle.src_mem.proofs.NotWrong.{begun, goes_on, checked_right}
+use Rattle.src_mem.proofs.CopiesRight.{both_touched, from_bounds, to_bounds}
+use Rattle.src_mem.specs.Facts.{CellsAgree, HoldType, IsSequenceAt, IsSafeAt, IsTypedAt, IsHeld, IsSoundMemory}
+use Rattle.src_mem.proofs.Right.{MayTouch, touches, IsFirst, Begins, begins_first, second_true, first_of, distance_is}
 
 -- where a data type holds a pointer, its cells begin one
 cell_there : (c : Cell) → is_some (pointer_in_cell c) ≡ true → IsFirst c
@@ -156,7 +154,7 @@ word_there w memory depth Rtti t l o at i n sound complete sized held r b room =
     of v = begun w memory (record l { offset = l.offset +ℤ pos i }) o v.object (at + i) (v.at + i) sound r.found r.live (ap (λ z. z +ℤ pos i) r.offset) v.located.found
         (ap (λ z. z +ℤ pos i) v.stands.offset) v.typed.untagged
         (safe_there w v.object.cells v.at l.part.high l.made i v.holds (begins_there (physically_equal w.table) (cells_of w.table l.made) (cells_of w.table t) i
-            (second_true (not (is_function w.table t)) (begins (physically_equal w.table) (cells_of w.table l.made) (cells_of w.table t)) (second_true (not (is_function w.table l.made)) _ v.covers.begins)) b))
+        (second_true (not (is_function w.table t)) (begins (physically_equal w.table) (cells_of w.table l.made) (cells_of w.table t)) (second_true (not (is_function w.table l.made)) _ v.covers.begins)) b))
 word_there w memory depth Seq t l o at i n sound complete sized held r b room = of held.value
   where
     of : IsSequenceAt w memory.objects t l → holds_pointer_at (at + i) o ≡ true
@@ -200,3 +198,56 @@ loads_right w place memory kind source target f (i ∷ is) next s loads same h =
         let one = loads i e s same in
         subst (λ o. IsNotWrong (from (from o (λ q. λ u. from (checked w place (Outlives target q) u) (λ a. load_pointers w place kind source target (filter f is)))) (λ a. next))) (sym one.3)
         (checked_one one.0 (touched one.1 one.2 8 s) (holds w (touched one.1 one.2 8 s).memory (Outlives target one.0)) same rest)
+
+one_loads : (w : Setting) (memory : Memory) (depth : ℕ) (kind : Kind) (t : TypeId) (source : Pointer) (i : ℕ)
+    → kind ≢ Wild → IsSoundMemory w memory → IsComplete w.table t → length (cells_of w.table t) ≡ size_of w.table t → HoldsPointersWhole w.table t → is_function w.table t ≡ false
+    → IsHeld w memory.objects depth kind t source → MayTouch kind memory.objects source (size_of w.table t) → is_some (pointer_at w.table t i) ≡ true → LoadsAt memory kind source i
+unfolding LoadsAt moved_by
+one_loads w memory depth kind t source i n sound complete sized whole data_type held may there s same =
+    let l = may.location in
+    let b = pointer_there w.table t i data_type there in
+    let room : i + 8 ≤ length (cells_of w.table t) = whole.whole i b.first.node b.first.to (b.found ∙ ap (λ c. Some c) b.first.is) in
+    let r = right_moved kind memory.objects l (size_of w.table t) i may.object may.at may.right (let e = sized in omega (arith, room, e)) in (
+      pointer_or_null (may.object.pointers (may.at + i)),
+      l.object,
+      may.at + i,
+      load_is kind (forward i source) (record l { offset = l.offset +ℤ pos i }) may.object (may.at + i) s (ap (λ p. forward i p) may.pointer)
+          (subst (λ (m : Memory). IsRight kind m.objects (record l { offset = l.offset +ℤ pos i }) 8 may.object (may.at + i)) (sym same) r)
+          (word_there w memory depth kind t l may.object may.at i n sound complete sized (subst (λ p. IsHeld w memory.objects depth kind t p) may.pointer held) may.right b room),
+    )
+
+between_loads : (w : Setting) (place : Place) (kind : Kind) (source target : Pointer) (t : TypeId) (b : Bool) (next : Act (Unit {0})) (s : State) → kind ≢ Wild
+    → ((i : ℕ) → is_some (pointer_at w.table t i) ≡ true → LoadsAt s.memory kind source i) → ((u : State) → u.memory ≡ s.memory → IsNotWrong (next u))
+    → IsNotWrong (from (either b (keep_pointers w place kind source target t) (done tt) s) (λ a. next))
+between_loads w place kind source target t false next s n loads h = h s refl
+between_loads w place Safe source target t true next s n loads h =
+    loads_right w place s.memory Safe source target (λ i. is_some (pointer_at w.table t i)) (range_with_len 0 (length (cells_of w.table t))) next s loads refl h
+between_loads w place Seq source target t true next s n loads h =
+    loads_right w place s.memory Seq source target (λ i. is_some (pointer_at w.table t i)) (range_with_len 0 (length (cells_of w.table t))) next s loads refl h
+between_loads w place Rtti source target t true next s n loads h =
+    loads_right w place s.memory Rtti source target (λ i. is_some (pointer_at w.table t i)) (range_with_len 0 (length (cells_of w.table t))) next s loads refl h
+between_loads w place Wild source target t true next s n loads h = absurd (n refl)
+
+pub pointers_copied : (w : Setting) (depth : ℕ) (t : TypeId) (source_place : Place) (from_kind : Kind) (source : Pointer) (target_place : Place) (to_kind : Kind) (target : Pointer) (place : Place) (s : State)
+    → from_kind ≢ Wild → IsSoundMemory w s.memory → IsComplete w.table t → length (cells_of w.table t) ≡ size_of w.table t → HoldsPointersWhole w.table t → is_function w.table t ≡ false
+    → IsHeld w s.memory.objects depth from_kind t source → IsHeld w s.memory.objects depth to_kind t target
+    → IsNotWrong (copy_all w t source_place from_kind source target_place to_kind target place s)
+pointers_copied w depth t source_place from_kind source target_place to_kind target place s n sound complete sized whole data_type a b =
+    checked_right w (λ c. source_place) (conditions_of (CopyFrom (holds_pointer w.table t) (size_of w.table t)) from_kind source) (all_checked w target_place (conditions_of (CopyTo (holds_pointer w.table t) (size_of w.table t)) to_kind target) >> rest) s
+    (λ h. checked_right w (λ c. target_place) (conditions_of (CopyTo (holds_pointer w.table t) (size_of w.table t)) to_kind target) rest s (λ k. go (from_touch h) (to_touch k)))
+  where
+    rest : Act (Unit {0})
+    rest = either (holds_pointer w.table t) (keep_pointers w place from_kind source target t) (done tt) >> copy (size_of w.table t) from_kind source to_kind target
+
+    from_touch : list_all (holds w s.memory) (conditions_of (CopyFrom (holds_pointer w.table t) (size_of w.table t)) from_kind source) ≡ true → MayTouch from_kind s.memory.objects source (size_of w.table t)
+    from_touch h = touches w s.memory depth (size_of w.table t) from_kind t source a data_type (omega (arith, sized)) (from_bounds w s.memory from_kind (holds_pointer w.table t) (size_of w.table t) source h)
+
+    to_touch : list_all (holds w s.memory) (conditions_of (CopyTo (holds_pointer w.table t) (size_of w.table t)) to_kind target) ≡ true → MayTouch to_kind s.memory.objects target (size_of w.table t)
+    to_touch k = touches w s.memory depth (size_of w.table t) to_kind t target b data_type (omega (arith, sized)) (to_bounds w s.memory to_kind (holds_pointer w.table t) (size_of w.table t) target k)
+
+    go : MayTouch from_kind s.memory.objects source (size_of w.table t) → MayTouch to_kind s.memory.objects target (size_of w.table t) → IsNotWrong (rest s)
+    go x y = between_loads w place from_kind source target t (holds_pointer w.table t) (copy (size_of w.table t) from_kind source to_kind target) s n
+        (λ i there. one_loads w s.memory depth from_kind t source i n sound complete sized whole data_type a x there)
+        (λ u e. both_touched (size_of w.table t) from_kind source to_kind target u
+        (subst (λ (m : Memory). MayTouch from_kind m.objects source (size_of w.table t)) (sym e) x)
+        (subst (λ (m : Memory). MayTouch to_kind m.objects target (size_of w.table t)) (sym e) y))

@@ -1,14 +1,13 @@
 -- Every pointer that is known has a site: what its node asks of what it points to is among the sites of the program.
-use Rattle.std.proofs.Common.{ℕ, zero, suc, ◌<◌, ◌≡◌, refl, ap, ◌∙◌, sym, subst, inl, inr, Bool, true, false, List, [], ◌∷◌, ◌++◌, length, flat_map, nat_eq, if◌then◌else◌, Option, Some, None, arith}
+use Rattle.std.proofs.Common.{◌≡◌, refl, subst, inl, inr, Bool, true, false, List, [], ◌∷◌, ◌++◌, nat_eq, if◌then◌else◌, Option, Some, None, arith}
 use Rattle.std.specs.List.{Contains}
 use Rattle.std.proofs.lemmas.List.Elements.{Contains-append_left, Contains-append_right}
-use Rattle.cc_base.specs.declared.number.NodeId.{NodeId}
 use Rattle.cc_base.specs.declared.number.TypeId.{TypeId}
 use Rattle.c_types.specs.declared.shape.TypeShape.{TypeShape}
 use Rattle.c_types.specs.declared.shape.TypeShape.TheVariants as shape
 use Rattle.c_types.specs.declared.site.Site.{Site}
-use Rattle.c_types.specs.declared.site.Site.TheVariants.{Pointee, Home, Linked}
-use Rattle.c_types.specs.Table.{IsType, shape_at}
+use Rattle.c_types.specs.declared.site.Site.TheVariants.{Pointee, Linked}
+use Rattle.c_types.specs.Table.{shape_at}
 use Rattle.cil_form.specs.declared.number.Temp.{Temp}
 use Rattle.cil_form.specs.declared.instr.Set.{Set}
 use Rattle.cil_form.specs.declared.instr.Set.TheVariants as set
@@ -26,8 +25,8 @@ use Rattle.cil_form.specs.declared.instr.RuntimeCall.{RuntimeCall}
 use Rattle.cil_form.specs.declared.instr.RuntimeCall.TheVariants as runtime
 use Rattle.cil_form.specs.declared.instr.Instr.{Instr, Row_of-Instr, end_of-Instr, more_of-Instr}
 use Rattle.cil_form.specs.declared.instr.Instr.TheVariants as instr
-use Rattle.cil_form.specs.Typing.{HeldType, IntegerOf, PointerTo, Typing, Context, Includes, with_held, held_shape, held_by, IsScalar, Leaves, Passes, IsShapedSet, IsShapedCalculate, IsShapedPoint, IsShapedConvert, IsShapedAccess, IsShapedAllocate, IsShapedRuntime, IsShaped, IsRowShaped, AreShaped}
-use Rattle.cil_form.specs.Sites.{Shows, IsAsked, AreAsked, TellsOf, sites_of_point, sites_of_convert, sites_of_access, sites_of_allocate, sites_of, sites_of_row, sites_of_code}
+use Rattle.cil_form.specs.Typing.{HeldType, IntegerOf, PointerTo, Typing, Context, Includes, held_shape, held_by, Leaves, Passes, IsShapedSet, IsShapedCalculate, IsShapedPoint, IsShapedConvert, IsShapedAccess, IsShapedAllocate, IsShapedRuntime, IsShaped, IsRowShaped, AreShaped}
+use Rattle.cil_form.specs.Sites.{Shows, IsAsked, AreAsked, TellsOf, sites_of_point, sites_of_allocate, sites_of, sites_of_row, sites_of_code}
 
 -- a known pointer comes from what was known, or from what was written
 asked-by : (sites : List Site) (b : Bool) (o less : Option HeldType) (y : HeldType) → ((x : HeldType) → o ≡ Some x → IsAsked sites x) → ((x : HeldType) → less ≡ Some x → IsAsked sites x)

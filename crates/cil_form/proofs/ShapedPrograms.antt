@@ -402,9 +402,11 @@ chosen-kept = includes-with s4 s1 1 (Some an_int) (includes-more s4 s2 s1 s4-s2 
 
 chosen : (alloc : Global) (k : ℕ) → integer.converted integer.int (pos k) ≡ pos k
     → AreShaped (instr.Set (set.Integer (temp 1) (pos k) int) ∷ instr.Break 0 ∷ []) (in_labels alloc) s4 s2
-chosen alloc k fits =
-    (with_held 1 (Some an_int) s4, (integer.int, (lit< tt, refl), fits, leaves-all s4 1 (Some an_int) (lit< tt)),
-    (s2, (lit< tt, chosen-kept, chosen-kept), includes-all s2))
+chosen alloc k fits = (
+  with_held 1 (Some an_int) s4,
+  (integer.int, (lit< tt, refl), fits, leaves-all s4 1 (Some an_int) (lit< tt)),
+  (s2, (lit< tt, chosen-kept, chosen-kept), includes-all s2),
+)
 
 label-shaped : (alloc : Global) (z k : ℕ) → integer.converted integer.int (pos z) ≡ pos z → integer.converted integer.int (pos k) ≡ pos k
     → AreShaped (case_label alloc z k) (in_labels alloc) s2 s2

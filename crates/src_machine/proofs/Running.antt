@@ -8,7 +8,7 @@ use Rattle.c_types.specs.declared.shape.TypeShape.{TypeShape}
 use Rattle.c_types.specs.declared.shape.TypeShape.TheVariants as shape
 use Rattle.c_types.specs.Table.{shape_at}
 use Rattle.integers.specs.Arithmetic as integer
-use Rattle.integers.specs.Arithmetic.{Operator, truth}
+use Rattle.integers.specs.Arithmetic.{Operator, converted, truth}
 use Rattle.runs.specs.Outcome.{done, ◌>>=◌, ◌>>◌}
 use Rattle.runs.specs.Control.{Control, Goes, Leaves, Gives, rounds, go_round}
 use Rattle.c_tree.specs.declared.operator.Binary.TheVariants as binary
@@ -24,7 +24,7 @@ use Rattle.c_tree.specs.declared.typed_word.Side.{Side}
 use Rattle.c_tree.specs.declared.typed_word.Side.TheVariants as side
 use Rattle.c_tree.specs.TypedTree as typed
 use Rattle.c_tree.specs.TypedTree.{TypedExpr, TypedPlace, TypedArguments, TypedInitialiser, TypedItems, TypedInitDeclarators, TypedDeclaration, TypedStatement, TypedBlockItems}
-use Rattle.c_tree.specs.TypedParts.{home_of, declared_type, type_of, place_type, named_type, is_null}
+use Rattle.c_tree.specs.TypedParts.{item_place, home_of, declared_type, type_of, place_type, named_type, is_null}
 use Rattle.runtime_calls.specs.Meanings.{call_runtime, call_allocation}
 use Rattle.src_mem.specs.Pointers.{Pointer, Value, Integer, Address, is_true}
 use Rattle.src_mem.specs.State.{State, Act, Setting, Turns, turn}
@@ -33,7 +33,7 @@ use Rattle.src_mem.specs.Operations.{Located, pointee, size, integer_in, kind_in
 use Rattle.src_mem.specs.Laws.{Keeps, IsInvariant}
 use Rattle.src_mem.proofs.Keeping.{acts, keep_integer, keep_pointer, keep_done, keep_ends, keep_chosen, keep_wrong, keep_bind, keep_then, keep_either, keep_given, keep_address, keep_integer_from, keep_called, keep_copy, keep_calculate, keep_moved, keep_subtracted, keep_compared, keep_converted, keep_member, keep_decayed, keep_read_at, keep_write_at, keep_write, keep_malloc, keep_calloc, keep_free, keep_getchar, keep_putchar, keep_exits}
 use Rattle.src_machine.specs.World.{World, object_of}
-use Rattle.src_machine.specs.Statements.{Flow, Normal, Breaks, Continues, Returns, Progress, Looks, Runs, Label, store_text, initialise, initialise_items, place_of_value, element_of_shape, part_of, clears, initialise_object, initialise_declared, declare_all, declare, loop, flow_of_loop, condition, effect, round_of, then_round, while_loop, again, do_loop, then_do, then_run, chosen, returned, exec, exec_items, exec_from}
+use Rattle.src_machine.specs.Statements.{Flow, Normal, Breaks, Continues, Returns, Progress, Looks, Runs, Label, store_text, initialise, initialise_items, element_of_shape, part_of, clears, initialise_object, initialise_declared, declare_all, declare, loop, flow_of_loop, condition, effect, round_of, then_round, while_loop, again, do_loop, then_do, then_run, chosen, returned, exec, exec_items, exec_from}
 use Rattle.src_machine.specs.Expressions.{is_through_pointer, operator_of, operator_of_step, operator_of_assignment, eval, eval_all, locate, locate_object, updated_shape, updated, prefixed, converted_value, call_function, allocate_for, moved_by_side}
 
 module _ {P : State → Type 0} (I : IsInvariant P) where
@@ -194,18 +194,18 @@ module _ {P : State → Type 0} (I : IsInvariant P) where
     keep_text : (at : Place) (char : TypeId) (bytes : List ℕ) (l : Located) → Keeps P (store_text w at char bytes l)
     keep_text at char [] l = keep_done P tt
     keep_text at char (b ∷ bytes) l =
-        keep_then (keep_write I w.setting at at l.kind char l.pointer (Integer (pos b))) (keep_text at char bytes (record l { pointer = forward 1 l.pointer }))
+        keep_then (keep_write I w.setting at at l.kind char l.pointer (Integer (converted (integer_in w.setting char) (pos b)))) (keep_text at char bytes (record l { pointer = forward 1 l.pointer }))
 
     mutual
       keep_initialise : (i : TypedInitialiser) (at : Place) (t : TypeId) (l : Located) → Keeps P (initialise i at t l w)
-      keep_initialise (typed.Value e) at t l = keep_bind (keep_eval e) (λ v. keep_write I w.setting (place_of_value e at) (place_of_value e at) l.kind t l.pointer v)
+      keep_initialise (typed.Value e) at t l = keep_bind (keep_eval e) (λ v. keep_write I w.setting at at l.kind t l.pointer v)
       keep_initialise (typed.Copied p place) at t l = keep_bind (keep_locate p) (λ r. keep_copy I w.setting t r.at r.kind r.pointer place l.kind l.pointer place)
       keep_initialise (typed.Text pieces bytes) at t l = keep_text at (element_of_shape (shape_at w.setting.table t)) bytes l
-      keep_initialise (typed.Listed brace items comma u) at t l = keep_items items at l
+      keep_initialise (typed.Listed brace items comma u) at t l = keep_items items l
 
-      keep_items : (items : TypedItems) (at : Place) (l : Located) → Keeps P (initialise_items items at l w)
-      keep_items typed.NoItem at l = keep_done P tt
-      keep_items (typed.AndItem all offset t i) at l = keep_then (keep_items all at l) (keep_initialise i at t (part_of offset l))
+      keep_items : (items : TypedItems) (l : Located) → Keeps P (initialise_items items l w)
+      keep_items typed.NoItem l = keep_done P tt
+      keep_items (typed.AndItem all offset t i) l = keep_then (keep_items all l) (keep_initialise i (item_place i) t (part_of offset l))
 
     pub keep_initialise_object : (node : NodeId) (t : TypeId) (at : Place) (i : TypedInitialiser) → Keeps P (initialise_object w node t at i)
     keep_initialise_object node t at i =

@@ -26,7 +26,8 @@ use Rattle.c_tree.specs.declared.typed_word.Side.{Side}
 use Rattle.c_tree.specs.declared.typed_word.Side.TheVariants as side
 use Rattle.c_tree.specs.TypedTree as typed
 use Rattle.c_tree.specs.TypedTree.{TypedExpr, TypedPlace, TypedArguments}
-use Rattle.c_tree.specs.TypedParts.{type_of, place_type, named_type, is_null, literal_place, nowhere}
+use Rattle.c_tree.specs.TypedParts.{type_of, place_type, named_type, is_null}
+use Rattle.c_tree.specs.Places.{pieces_place}
 use Rattle.src_mem.specs.Pointers.{Pointer, Null, Function, Value, Integer, Address, is_true}
 use Rattle.src_mem.specs.State.{Act, wrong, given, as_integer, as_pointer}
 use Rattle.src_mem.specs.Checks.{Call as Called, conditions_of, all_checked}
@@ -305,7 +306,7 @@ abbrev mutual
   -- where a place is
   pub locate : TypedPlace → World → Act Located
   locate (typed.Variable name node t) w = locate_object w node t name.place
-  locate (typed.String pieces node t) w = locate_object w node t (literal_place nowhere pieces)
+  locate (typed.String pieces node t) w = locate_object w node t (pieces_place pieces)
   locate (typed.ParenPlace at p) w = locate p w
   locate (typed.Target at e t) w = do
     v ← eval e w

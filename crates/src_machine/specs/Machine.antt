@@ -12,7 +12,8 @@ use Rattle.runs.specs.Input.{Input}
 use Rattle.c_tree.specs.declared.leaf.Identifier.{Identifier}
 use Rattle.c_tree.specs.declared.leaf.StringPiece.{StringPiece}
 use Rattle.c_tree.specs.TypedTree.{TypedTranslationUnit}
-use Rattle.c_tree.specs.TypedParts.{MadeObject, ParameterObject, DefinedFunction, StaticInitialiser, declared_type, name_of, parameters_of, locals_of, statics_of, functions_of, static_initialisers, nowhere}
+use Rattle.c_tree.specs.TypedParts.{MadeObject, ParameterObject, DefinedFunction, StaticInitialiser, declared_type, name_of, parameters_of, locals_of, statics_of, functions_of, static_initialisers}
+use Rattle.c_tree.specs.Places.{nowhere}
 use Rattle.src_mem.specs.Pointers.{Value}
 use Rattle.src_mem.specs.Memory.{Object, Planned, new_variable, new_literal}
 use Rattle.src_mem.specs.State.{Act, Defined, Setting, wrong, given}

@@ -415,8 +415,8 @@ controlled = source_run program table (kinds []) (Closed []) 20
     f = function (name (codes "f") (at 0)) (type 10) ((0, int) ∷ []) (
         declares (local_is 1 int (at 0) (number 0))
         ∷ runs (typed.Switch (at 0) (at 0) (value 0 0 int) (at 0) (body (
-              case_of 1 ∷ adds 1 (number 1) ∷ case_of 2 ∷ adds 1 (number 2) ∷ runs (typed.Break (at 0))
-              ∷ default_of ∷ adds 1 (number 4) ∷ case_of 3 ∷ adds 1 (number 8) ∷ [])))
+        case_of 1 ∷ adds 1 (number 1) ∷ case_of 2 ∷ adds 1 (number 2) ∷ runs (typed.Break (at 0))
+        ∷ default_of ∷ adds 1 (number 4) ∷ case_of 3 ∷ adds 1 (number 8) ∷ [])))
         ∷ returns (at 0) (value 0 1 int)
         ∷ [])
 
@@ -425,10 +425,10 @@ controlled = source_run program table (kinds []) (Closed []) 20
         declares (local_is 2 int (at 0) (number 0))
         ∷ declares (local_is 3 int (at 0) (number 0))
         ∷ runs (typed.DoWhile (typed.Block (at 0) (body (
-              does (steps 2) ∷ when (int_of binary.Equal (value 0 2 int) (number 2)) (typed.Continue (at 0)) ∷ adds 3 (value 0 2 int) ∷ [])))
-              (at 0) (at 0) (int_of binary.Less (value 0 2 int) (number 4)))
+        does (steps 2) ∷ when (int_of binary.Equal (value 0 2 int) (number 2)) (typed.Continue (at 0)) ∷ adds 3 (value 0 2 int) ∷ [])))
+        (at 0) (at 0) (int_of binary.Less (value 0 2 int) (number 4)))
         ∷ runs (typed.For (at 0) (at 0) (Some (typed.Assign (variable 0 2 int) (at 0) (number 0))) (Some (int_of binary.Less (value 0 2 int) (number 9))) (Some (steps 2))
-              (typed.Block (at 0) (body (when (int_of binary.Equal (value 0 2 int) (number 5)) (typed.Break (at 0)) ∷ adds 3 (number 1) ∷ []))))
+        (typed.Block (at 0) (body (when (int_of binary.Equal (value 0 2 int) (number 5)) (typed.Break (at 0)) ∷ adds 3 (number 1) ∷ []))))
         ∷ does (put (call 4 11 1)) ∷ does (put (call 5 12 2)) ∷ does (put (call 6 13 3)) ∷ does (put (call 7 14 9))
         ∷ does (put (value 0 3 int)) ∷ does (put (value 0 2 int))
         ∷ returns (at 0) (number 0)
@@ -470,4 +470,4 @@ initialised = source_run program table (kinds (Safe ∷ Safe ∷ Safe ∷ Seq �
         ∷ returns (at 0) (typed.Arithmetic binary.Less (widened (type 6) (typed.Prefix unary.Minus (at 0) (number 1) int)) (at 0) (widened (type 6) (number 1)) int)
         ∷ [])
         (typed.AndExternal typed.NoExternal (declared (home.Static (node 0)) (type 9)
-            (typed.Listed (at 0) (typed.AndItem (typed.AndItem typed.NoItem 0 int (typed.Value (number 1))) 4 int (typed.Value (number 2))) false (type 9))))
+        (typed.Listed (at 0) (typed.AndItem (typed.AndItem typed.NoItem 0 int (typed.Value (number 1))) 4 int (typed.Value (number 2))) false (type 9))))

@@ -13,14 +13,15 @@ use Rattle.c_tree.specs.declared.typed_word.Home.{Home}
 use Rattle.c_tree.specs.declared.typed_word.Home.TheVariants as home
 use Rattle.c_tree.specs.TypedTree as typed
 use Rattle.c_tree.specs.TypedTree.{TypedExpr, TypedPlace, TypedInitialiser, TypedItems, TypedInitDeclarators, TypedDeclarator, TypedDeclaration, TypedStatement, TypedBlockItems}
-use Rattle.c_tree.specs.TypedParts.{type_of, declared_type, home_of}
+use Rattle.c_tree.specs.TypedParts.{item_place, type_of, declared_type, home_of}
 use Rattle.src_mem.specs.Pointers.{Value, Integer, Address, is_true}
 use Rattle.src_mem.specs.State.{Act, Turns, given, as_integer, turn}
 use Rattle.src_mem.specs.Checks as checks
 use Rattle.src_mem.specs.Checks.{Condition, conditions_of, all_checked}
 use Rattle.src_mem.specs.Primitives.{clear}
 use Rattle.src_mem.specs.Uses.{write, copy_all, forward}
-use Rattle.src_mem.specs.Operations.{Located, kind_in}
+use Rattle.integers.specs.Arithmetic.{converted}
+use Rattle.src_mem.specs.Operations.{Located, integer_in, kind_in}
 use Rattle.src_machine.specs.World.{World, object_of}
 use Rattle.src_machine.specs.Expressions.{eval, locate, locate_object}
 
@@ -49,36 +50,31 @@ element_of_shape other = record { 0 = 0 }
 abbrev pub store_text : World → Place → TypeId → List ℕ → Located → Act (Unit {0})
 store_text w at char [] l = done tt
 store_text w at char (b ∷ bytes) l = do
-  write w.setting at at l.kind char l.pointer (Integer (pos b))
+  write w.setting at at l.kind char l.pointer (Integer (converted (integer_in w.setting char) (pos b)))
   store_text w at char bytes (record l { pointer = forward 1 l.pointer })
 
 -- the object, so many bytes further
 abbrev pub part_of : ℕ → Located → Located
 part_of offset l = record l { pointer = forward offset l.pointer }
 
--- where a value is stored that initialises: where its conversion stands, else at `at`
-abbrev pub place_of_value : TypedExpr → Place → Place
-place_of_value (typed.Convert which place t e) at = place
-place_of_value e at = at
-
 abbrev mutual
-  -- what initialises the type t at a place of an object; `at` is the place of the `=`
+  -- what initialises the type t at a place of an object; `at` is the place of the `=`, and of an item that of its first token
   pub initialise : TypedInitialiser → Place → TypeId → Located → World → Act (Unit {0})
   initialise (typed.Value e) at t l w = do
     v ← eval e w
-    write w.setting (place_of_value e at) (place_of_value e at) l.kind t l.pointer v
+    write w.setting at at l.kind t l.pointer v
   initialise (typed.Copied p place) at t l w = do
     r ← locate p w
     copy_all w.setting t r.at r.kind r.pointer place l.kind l.pointer place
   initialise (typed.Text pieces bytes) at t l w = store_text w at (element_of_shape (shape_at w.setting.table t)) bytes l
-  initialise (typed.Listed brace items comma u) at t l w = initialise_items items at l w
+  initialise (typed.Listed brace items comma u) at t l w = initialise_items items l w
 
   -- the items of a list, in order
-  pub initialise_items : TypedItems → Place → Located → World → Act (Unit {0})
-  initialise_items typed.NoItem at l w = done tt
-  initialise_items (typed.AndItem all offset t i) at l w = do
-    initialise_items all at l w
-    initialise i at t (part_of offset l) w
+  pub initialise_items : TypedItems → Located → World → Act (Unit {0})
+  initialise_items typed.NoItem l w = done tt
+  initialise_items (typed.AndItem all offset t i) l w = do
+    initialise_items all l w
+    initialise i (item_place i) t (part_of offset l) w
 
 -- the object with this home, of type t, is initialised; `at` is the place of the `=`
 abbrev pub initialise_object : World → NodeId → TypeId → Place → TypedInitialiser → Act (Unit {0})

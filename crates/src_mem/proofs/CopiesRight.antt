@@ -63,7 +63,7 @@ decayed_right w depth false node array element l s linked data_type held (inr a)
 
 -- Copies
 
-from_bounds : (w : Setting) (memory : Memory) (kind : Kind) (b : Bool) (m : ℕ) (p : Pointer)
+pub from_bounds : (w : Setting) (memory : Memory) (kind : Kind) (b : Bool) (m : ℕ) (p : Pointer)
     → list_all (holds w memory) (conditions_of (CopyFrom b m) kind p) ≡ true → holds w memory (bounds_of kind m p) ≡ true
 from_bounds w memory Safe true m p h = bounds_first w memory Safe m p [] h
 from_bounds w memory Safe false m p h = bounds_first w memory Safe m p [] h
@@ -74,7 +74,7 @@ from_bounds w memory Seq false m p h = bounds_first w memory Seq m p [] h
 from_bounds w memory Wild true m p h = bounds_first w memory Wild m p (IsAligned p ∷ []) h
 from_bounds w memory Wild false m p h = bounds_first w memory Wild m p (HoldsNone m p ∷ []) h
 
-to_bounds : (w : Setting) (memory : Memory) (kind : Kind) (b : Bool) (m : ℕ) (p : Pointer)
+pub to_bounds : (w : Setting) (memory : Memory) (kind : Kind) (b : Bool) (m : ℕ) (p : Pointer)
     → list_all (holds w memory) (conditions_of (CopyTo b m) kind p) ≡ true → holds w memory (bounds_of kind m p) ≡ true
 to_bounds w memory Safe true m p h = bounds_first w memory Safe m p [] h
 to_bounds w memory Safe false m p h = bounds_first w memory Safe m p [] h
@@ -85,7 +85,7 @@ to_bounds w memory Seq false m p h = bounds_first w memory Seq m p [] h
 to_bounds w memory Wild true m p h = bounds_first w memory Wild m p (IsAligned p ∷ []) h
 to_bounds w memory Wild false m p h = bounds_first w memory Wild m p [] h
 
-both_touched : (n : ℕ) (from_kind : Kind) (source : Pointer) (to_kind : Kind) (target : Pointer) (s : State)
+pub both_touched : (n : ℕ) (from_kind : Kind) (source : Pointer) (to_kind : Kind) (target : Pointer) (s : State)
     → MayTouch from_kind s.memory.objects source n → MayTouch to_kind s.memory.objects target n → IsNotWrong (copy n from_kind source to_kind target s)
 both_touched n from_kind source to_kind target s a b =
     access_right from_kind source n (λ read. access to_kind target n (λ at. leaves (with_object at.number (with_copy n read.object read.at at.at at.object)))) s a

@@ -6,5 +6,6 @@ pub mod Right
 pub mod NotWrong
 pub mod OperationsRight
 pub mod CopiesRight
+pub mod PointersCopied
 pub mod Keeping
 pub mod Invariants

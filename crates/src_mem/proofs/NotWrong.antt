@@ -35,7 +35,7 @@ from_right (Ended (Exited n) s) f h next = tt
 from_right (Ended (Stopped c p) s) f h next = tt
 from_right (Ended Wrong s) f h next = h
 
-abbrev goes_on : Act (Unit {0})
+abbrev pub goes_on : Act (Unit {0})
 goes_on = done tt
 
 -- conditions that are tried end a run by a check, or hold
@@ -153,7 +153,7 @@ looks_at objects p l o at test e found offset =
     ap (λ q. looks objects q test) e ∙ ap (λ r. object_at r l.offset test) found ∙ ap (λ z. object_at (Some o) z test) offset
 
 -- the word that begins at a byte of a living object, where the object holds the beginning of a pointer
-begun : (w : Setting) (memory : Memory) (l : Location) (o v : Object) (at a : ℕ) → IsSoundMemory w memory
+pub begun : (w : Setting) (memory : Memory) (l : Location) (o v : Object) (at a : ℕ) → IsSoundMemory w memory
     → slice_get memory.objects l.object ≡ Some o → o.live ≡ true → l.offset ≡ pos at
     → slice_get memory.objects l.object ≡ Some v → l.offset ≡ pos a → w.kind v.node ≢ Wild → Begins v.cells a → holds_pointer_at at o ≡ true
 begun w memory l o v at a sound found live offset found_v offset_a untagged b =

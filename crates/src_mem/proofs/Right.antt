@@ -27,7 +27,7 @@ first_true : (a b : Bool) → (a && b) ≡ true → a ≡ true
 first_true true b h = refl
 first_true false b h = h
 
-second_true : (a b : Bool) → (a && b) ≡ true → b ≡ true
+pub second_true : (a b : Bool) → (a && b) ≡ true → b ≡ true
 second_true true b h = h
 second_true false b h = absurd (cc (h))
 
@@ -212,7 +212,7 @@ pub record IsFirst (c : Cell) : Type 0 where
   pub to : TypeId
   pub is : c ≡ pointer node to 0
 
-first_of : (w : Setting) (c d : Cell) → CellsAgree w c d → IsFirst d → IsFirst c
+pub first_of : (w : Setting) (c d : Cell) → CellsAgree w c d → IsFirst d → IsFirst c
 first_of w raw raw a f = f
 first_of w raw (pointer m u j) a f = absurd a
 first_of w raw (mixed u j) a f = absurd a
@@ -244,7 +244,7 @@ holds_first w cells at high t h b = of (h.agree 0 b.cell b.found)
     of a = record { cell = a.0; found = subst (λ k. slice_get cells k ≡ Some a.0) (omega arith) a.1; first = first_of w a.0 b.cell a.2 b.first }
 
 -- what begins with a type whose first cell is a pointer's
-begins_first : (E : Relation) (xs ys : List Cell) → begins E xs ys ≡ true → Begins ys 0 → Begins xs 0
+pub begins_first : (E : Relation) (xs ys : List Cell) → begins E xs ys ≡ true → Begins ys 0 → Begins xs 0
 begins_first E xs [] h b = absurd (cc (b.found))
 begins_first E [] (y ∷ ys) h b = absurd (cc (h))
 begins_first E (x ∷ xs) (y ∷ ys) h b = record { cell = x; found = refl; first = of x y (first_true (alike E x y) _ h) y_is }
@@ -298,7 +298,7 @@ pointer_begins table t n u e = record {
 
 -- SEQ pointers to pointers
 
-distance_is : (low at : ℕ) → low ≤ at → pos at -ℤ pos low ≡ pos (at - low)
+pub distance_is : (low at : ℕ) → low ≤ at → pos at -ℤ pos low ≡ pos (at - low)
 distance_is low at h = grind (arith, nat_tests)
 
 pointer_size : (table : Table) (t : TypeId) (n : NodeId) (u : TypeId) → shape_at table t ≡ shape.Pointer n u → size_of table t ≡ 8

@@ -13,7 +13,7 @@ ghost use Rattle.cc_base.specs.declared.number.NodeId.{NodeId};
 ghost use Rattle.flat_mem.specs.Bytes.{IsAccessSize};
 ghost use Rattle.integers.specs.Words.{residue};
 ghost use Rattle.integers.specs.Arithmetic.{IntegerType, Operator, converted};
-ghost use Rattle.c_types.specs.Table.{shape_at, is_function};
+ghost use Rattle.c_types.specs.Table.{IsComplete, shape_at, is_function};
 ghost use Rattle.c_types.specs.Layouts.{size_of};
 ghost use Rattle.c_types.specs.Cells.{holds_pointer};
 ghost use Rattle.c_types.specs.Equality.{cells_of};
@@ -26,7 +26,7 @@ ghost use Rattle.src_mem.specs.Checks.{Used, HasBase, Call, conditions_of, holds
 ghost use Rattle.src_mem.specs.Uses.{read, write, copy_all};
 ghost use Rattle.src_mem.specs.Operations.{Located, decayed, kind_in, moved, subtracted, equated, compared, converted_pointer, member};
 ghost use Rattle.src_mem.specs.Facts.{IsSoundMemory, IsHeld};
-ghost use Rattle.src_mem.specs.Laws.{AreWhole, KeepsWhole, GivesNext, IsNotWrong, IsScalar, IsScalarValue, IsOrder, left_by};
+ghost use Rattle.src_mem.specs.Laws.{AreWhole, KeepsWhole, GivesNext, IsNotWrong, IsScalar, IsScalarValue, IsOrder, HoldsPointersWhole, left_by};
 
 /// Equality of pointers (C99 6.5.9) is an equivalence.
 pub fn pointer_equality_is_an_equivalence()
@@ -81,10 +81,11 @@ pub fn pointer_operations_are_not_wrong()
     ensures calls { (w : Setting) (at : Place) (depth deeper : ℕ) (kind : Kind) (t : TypeId) (p : Pointer) (next : ℕ → Act Value) (s : State) → (kind ≡ Safe) ⊎ (kind ≡ Wild) → IsTrue (is_function w.table t) → IsHeld w s.memory.objects depth kind t p → ((f : ℕ) → IsNotWrong (next f s)) → IsNotWrong (from (all_checked w at (conditions_of (Call t deeper) kind p) s) (λ a. called p next)) }
 {}
 
-/// The decay of an array, and the copy of a struct or union that holds no pointers or is WILD, are wrong nowhere with their conditions
-/// before them. A complete type has a cell for each byte. An array that no condition is tried for is a variable's or a member's,
-/// which is at an object.
+/// The decay of an array, and the copy of a struct or union, with their conditions before them, are wrong nowhere. An array that no
+/// condition is tried for is a variable's or a member's, which is at an object. A complete type has a cell for each byte, and holds
+/// pointers whole.
 pub fn decays_and_copies_are_not_wrong()
     ensures decay { (w : Setting) (depth : ℕ) (check : Bool) (node : NodeId) (array element : TypeId) (l : Located) (s : State) → ((l.kind ≡ Wild) ↔ (w.kind node ≡ Wild)) → IsFalse (is_function w.table array) → IsHeld w s.memory.objects depth l.kind array l.pointer → IsTrue check ⊎ ((l.kind ≢ Seq) × IsTrue (holds w s.memory (HasBase l.pointer))) → IsNotWrong (decayed w check node array element l s) }
     ensures copying { (w : Setting) (depth : ℕ) (t : TypeId) (source_place : Place) (from_kind : Kind) (source : Pointer) (target_place : Place) (to_kind : Kind) (target : Pointer) (place : Place) (s : State) → IsFalse (holds_pointer w.table t) ⊎ (from_kind ≡ Wild) → IsFalse (is_function w.table t) → length (cells_of w.table t) ≡ size_of w.table t → IsHeld w s.memory.objects depth from_kind t source → IsHeld w s.memory.objects depth to_kind t target → IsNotWrong (copy_all w t source_place from_kind source target_place to_kind target place s) }
+    ensures copying_pointers { (w : Setting) (depth : ℕ) (t : TypeId) (source_place : Place) (from_kind : Kind) (source : Pointer) (target_place : Place) (to_kind : Kind) (target : Pointer) (place : Place) (s : State) → from_kind ≢ Wild → IsSoundMemory w s.memory → IsComplete w.table t → length (cells_of w.table t) ≡ size_of w.table t → HoldsPointersWhole w.table t → IsFalse (is_function w.table t) → IsHeld w s.memory.objects depth from_kind t source → IsHeld w s.memory.objects depth to_kind t target → IsNotWrong (copy_all w t source_place from_kind source target_place to_kind target place s) }
 {}

@@ -1,14 +1,13 @@
 -- Every pointer that is known has a site: what its node asks of what it points to is among the sites of the program.
-use Rattle.std.proofs.Common.{ℕ, zero, suc, ◌<◌, ◌≡◌, refl, ap, ◌∙◌, sym, subst, inl, inr, Bool, true, false, List, [], ◌∷◌, ◌++◌, length, flat_map, nat_eq, if◌then◌else◌, Option, Some, None, arith}
+use Rattle.std.proofs.Common.{◌≡◌, refl, subst, inl, inr, Bool, true, false, List, [], ◌∷◌, ◌++◌, nat_eq, if◌then◌else◌, Option, Some, None, arith}
 use Rattle.std.specs.List.{Contains}
 use Rattle.std.proofs.lemmas.List.Elements.{Contains-append_left, Contains-append_right}
-use Rattle.cc_base.specs.declared.number.NodeId.{NodeId}
 use Rattle.cc_base.specs.declared.number.TypeId.{TypeId}
 use Rattle.c_types.specs.declared.shape.TypeShape.{TypeShape}
 use Rattle.c_types.specs.declared.shape.TypeShape.TheVariants as shape
 use Rattle.c_types.specs.declared.site.Site.{Site}
-use Rattle.c_types.specs.declared.site.Site.TheVariants.{Pointee, Home, Linked}
-use Rattle.c_types.specs.Table.{IsType, shape_at}
+use Rattle.c_types.specs.declared.site.Site.TheVariants.{Pointee, Linked}
+use Rattle.c_types.specs.Table.{shape_at}
 use Rattle.cil_form.specs.declared.number.Temp.{Temp}
 use Rattle.cil_form.specs.declared.instr.Set.{Set}
 use Rattle.cil_form.specs.declared.instr.Set.TheVariants as set
@@ -26,8 +25,8 @@ use Rattle.cil_form.specs.declared.instr.RuntimeCall.{RuntimeCall}
 use Rattle.cil_form.specs.declared.instr.RuntimeCall.TheVariants as runtime
 use Rattle.cil_form.specs.declared.instr.Instr.{Instr, Row_of-Instr, end_of-Instr, more_of-Instr}
 use Rattle.cil_form.specs.declared.instr.Instr.TheVariants as instr
-use Rattle.cil_form.specs.Typing.{HeldType, IntegerOf, PointerTo, Typing, Context, Includes, with_held, held_shape, held_by, IsScalar, Leaves, Passes, IsShapedSet, IsShapedCalculate, IsShapedPoint, IsShapedConvert, IsShapedAccess, IsShapedAllocate, IsShapedRuntime, IsShaped, IsRowShaped, AreShaped}
-use Rattle.cil_form.specs.Sites.{Shows, IsAsked, AreAsked, TellsOf, sites_of_point, sites_of_convert, sites_of_access, sites_of_allocate, sites_of, sites_of_row, sites_of_code}
+use Rattle.cil_form.specs.Typing.{HeldType, IntegerOf, PointerTo, Typing, Context, Includes, held_shape, held_by, Leaves, Passes, IsShapedSet, IsShapedCalculate, IsShapedPoint, IsShapedConvert, IsShapedAccess, IsShapedAllocate, IsShapedRuntime, IsShaped, IsRowShaped, AreShaped}
+use Rattle.cil_form.specs.Sites.{Shows, IsAsked, AreAsked, TellsOf, sites_of_point, sites_of_allocate, sites_of, sites_of_row, sites_of_code}
 
 -- a known pointer comes from what was known, or from what was written
 asked-by : (sites : List Site) (b : Bool) (o less : Option HeldType) (y : HeldType) → ((x : HeldType) → o ≡ Some x → IsAsked sites x) → ((x : HeldType) → less ≡ Some x → IsAsked sites x)
@@ -50,22 +49,22 @@ asked-none : (sites : List Site) (y : HeldType) → None ≡ Some y → IsAsked 
 asked-none sites y e = absurd (cc (e))
 
 -- a value of a type of the table
-asked-shape : (sites : List Site) (k : Context) (t : TypeId) → TellsOf sites k → IsType k.table t → (s : TypeShape) → shape_at k.table t ≡ s → (y : HeldType) → held_shape s ≡ Some y → IsAsked sites y
-asked-shape sites k t tells there (shape.Integer bytes signed) e y d = asked-some sites (IntegerOf (record { bytes = bytes; signed = signed })) tt y d
-asked-shape sites k t tells there (shape.Pointer node to) e y d = asked-some sites (PointerTo node to) (inl (tells.pointers t node to (there, e))) y d
-asked-shape sites k t tells there shape.Void e y d = asked-none sites y d
-asked-shape sites k t tells there (shape.Array element count) e y d = asked-none sites y d
-asked-shape sites k t tells there (shape.Function parameters result) e y d = asked-none sites y d
-asked-shape sites k t tells there (shape.Struct tag) e y d = asked-none sites y d
-asked-shape sites k t tells there (shape.Union tag) e y d = asked-none sites y d
+asked-shape : (sites : List Site) (k : Context) (t : TypeId) → TellsOf sites k → (s : TypeShape) → shape_at k.table t ≡ s → (y : HeldType) → held_shape s ≡ Some y → IsAsked sites y
+asked-shape sites k t tells (shape.Integer bytes signed) e y d = asked-some sites (IntegerOf (record { bytes = bytes; signed = signed })) tt y d
+asked-shape sites k t tells (shape.Pointer node to) e y d = asked-some sites (PointerTo node to) (inl (tells.pointers t node to e)) y d
+asked-shape sites k t tells shape.Void e y d = asked-none sites y d
+asked-shape sites k t tells (shape.Array element count) e y d = asked-none sites y d
+asked-shape sites k t tells (shape.Function parameters result) e y d = asked-none sites y d
+asked-shape sites k t tells (shape.Struct tag) e y d = asked-none sites y d
+asked-shape sites k t tells (shape.Union tag) e y d = asked-none sites y d
 
 first-of : (s : Site) (more : List Site) → Contains (s ∷ more) s
 first-of s more = (0, omega arith, refl)
 
 set-asked : (i : Set) (k : Context) (sites : List Site) (types after : Typing) → TellsOf sites k → AreAsked sites types → IsShapedSet i k types after → AreAsked sites after
 set-asked (set.Integer into z t) k sites types after tells h l = asked-leaves sites types into _ after h (asked-some sites (IntegerOf l.0) tt) l.3
-set-asked (set.Null into t) k sites types after tells h l = asked-leaves sites types into _ after h (asked-some sites (PointerTo l.0 l.1) (inl (tells.pointers t l.0 l.1 l.2))) l.3
-set-asked (set.Function into f t) k sites types after tells h l = asked-leaves sites types into _ after h (asked-some sites (PointerTo l.0 l.1) (inl (tells.pointers t l.0 l.1 l.3))) l.7
+set-asked (set.Null into t) k sites types after tells h l = asked-leaves sites types into _ after h (asked-some sites (PointerTo l.0 l.1) (inl (tells.pointers t l.0 l.1 l.2.1))) l.3
+set-asked (set.Function into f t) k sites types after tells h l = asked-leaves sites types into _ after h (asked-some sites (PointerTo l.0 l.1) (inl (tells.pointers t l.0 l.1 l.3.1))) l.7
 set-asked (set.Object into o home t) k sites types after tells h l = asked-leaves sites types into _ after h (asked-some sites (PointerTo home t) (inr (tells.objects o home t l.0))) l.1
 set-asked (set.Copy into from) k sites types after tells h l = asked-leaves sites types into (types from.0) after h (h from.0) l.1
 
@@ -77,7 +76,7 @@ calculate-asked (calculate.Truth into a) k sites types after h l = asked-leaves 
 calculate-asked (calculate.Not into a) k sites types after h l = asked-leaves sites types into _ after h (asked-some sites (IntegerOf _) tt) l.1
 
 point-asked : (i : Point) (k : Context) (sites : List Site) (types after : Typing) → TellsOf sites k → Shows sites (sites_of_point k.table i) → AreAsked sites types → IsShapedPoint i k types after → AreAsked sites after
-point-asked (point.Move into p n way t at) k sites types after tells shows h l = asked-leaves sites types into _ after h (asked-some sites (PointerTo l.0 l.1) (inl (tells.pointers t l.0 l.1 l.2))) l.6
+point-asked (point.Move into p n way t at) k sites types after tells shows h l = asked-leaves sites types into _ after h (asked-some sites (PointerTo l.0 l.1) (inl (tells.pointers t l.0 l.1 l.2.1))) l.6
 point-asked (point.Difference into a t b s at) k sites types after tells shows h l = asked-leaves sites types into _ after h (asked-some sites (IntegerOf _) tt) l.11
 point-asked (point.Compare into comparison a t b s null at) k sites types after tells shows h l = asked-leaves sites types into _ after h (asked-some sites (IntegerOf _) tt) l.9
 point-asked (point.Member into from outer t i inner u at) k sites types after tells shows h l =
@@ -89,12 +88,12 @@ point-asked (point.Address into from outer inner t) k sites types after tells sh
 
 convert-asked : (i : Convert) (k : Context) (sites : List Site) (types after : Typing) → TellsOf sites k → AreAsked sites types → IsShapedConvert i k types after → AreAsked sites after
 convert-asked (convert.Integer into from t) k sites types after tells h l = asked-leaves sites types into _ after h (asked-some sites (IntegerOf l.0) tt) l.3
-convert-asked (convert.ToPointer into from t at) k sites types after tells h l = asked-leaves sites types into _ after h (asked-some sites (PointerTo l.0 l.1) (inl (tells.pointers t l.0 l.1 l.2))) l.4
-convert-asked (convert.Pointer into from t s at) k sites types after tells h l = asked-leaves sites types into _ after h (asked-some sites (PointerTo l.1 l.3) (inl (tells.pointers s l.1 l.3 l.5))) l.7
+convert-asked (convert.ToPointer into from t at) k sites types after tells h l = asked-leaves sites types into _ after h (asked-some sites (PointerTo l.0 l.1) (inl (tells.pointers t l.0 l.1 l.2.1))) l.4
+convert-asked (convert.Pointer into from t s at) k sites types after tells h l = asked-leaves sites types into _ after h (asked-some sites (PointerTo l.1 l.3) (inl (tells.pointers s l.1 l.3 l.5.1))) l.7
 
 access-asked : (i : Access) (k : Context) (sites : List Site) (types after : Typing) → TellsOf sites k → AreAsked sites types → IsShapedAccess i k types after → AreAsked sites after
 access-asked (access.Load into from node t at) k sites types after tells h l =
-    asked-leaves sites types into (held_by k t) after h (asked-shape sites k t tells l.1.0 (shape_at k.table t) refl) l.3
+    asked-leaves sites types into (held_by k t) after h (asked-shape sites k t tells (shape_at k.table t) refl) l.3
 access-asked (access.Store to v t at assignment) k sites types after tells h l = asked-less sites types after h l.2
 access-asked (access.Clear o) k sites types after tells h l = asked-less sites types after h l.1
 access-asked (access.Copy to to_place from node from_place t assignment) k sites types after tells h l = asked-less sites types after h l.5
@@ -110,3 +109,44 @@ runtime-asked (runtime.Free into p) k sites types after h l = asked-leaves sites
 runtime-asked (runtime.Getchar into) k sites types after h l = asked-leaves sites types into _ after h (asked-some sites (IntegerOf _) tt) l
 runtime-asked (runtime.Putchar into v) k sites types after h l = asked-leaves sites types into _ after h (asked-some sites (IntegerOf _) tt) l.1
 runtime-asked (runtime.Exit into v) k sites types after h l = asked-leaves sites types into None after h (asked-none sites) l.1
+
+shows-left : (sites xs ys : List Site) → Shows sites (xs ++ ys) → Shows sites xs
+shows-left sites xs ys h = λ s there. h s (Contains-append_left xs ys s there)
+
+shows-right : (sites xs ys : List Site) → Shows sites (xs ++ ys) → Shows sites ys
+shows-right sites xs ys h = λ s there. h s (Contains-append_right xs ys s there)
+
+passes-asked : (sites : List Site) (types entry : Typing) (k : Context) (after : Typing) → AreAsked sites types → Passes types entry k after → AreAsked sites after
+passes-asked sites types entry k after h l = asked-less sites entry after (asked-less sites types entry h l.begins) l.ends
+
+mutual
+  pub instr-asked : (i : Instr) (k : Context) (sites : List Site) (types after : Typing) → TellsOf sites k → Shows sites (sites_of i k.table) → AreAsked sites types → IsShaped i k types after → AreAsked sites after
+  instr-asked (instr.Set i) k sites types after tells shows h l = set-asked i k sites types after tells h l
+  instr-asked (instr.Calculate i) k sites types after tells shows h l = calculate-asked i k sites types after h l
+  instr-asked (instr.Point i) k sites types after tells shows h l = point-asked i k sites types after tells shows h l
+  instr-asked (instr.Convert i) k sites types after tells shows h l = convert-asked i k sites types after tells h l
+  instr-asked (instr.Access i) k sites types after tells shows h l = access-asked i k sites types after tells h l
+  instr-asked (instr.Allocate i) k sites types after tells shows h l = allocate-asked i k sites types after shows h l
+  instr-asked (instr.Call i) k sites types after tells shows h l =
+      asked-leaves sites types i.into (held_by k l.3) after h (asked-shape sites k l.3 tells (shape_at k.table l.3) refl) l.10
+  instr-asked (instr.Runtime i) k sites types after tells shows h l = runtime-asked i k sites types after h l
+  instr-asked (instr.If' t shape code shape' other) k sites types after tells shows h l =
+      row-asked code k sites types after tells (shows-left sites (sites_of_row code k.table) (sites_of_row other k.table) shows) h l.1
+  instr-asked (instr.Block' shape code) k sites types after tells shows h l = passes-asked sites types l.0 k after h l.1
+  instr-asked (instr.Loop' shape code) k sites types after tells shows h l = passes-asked sites types l.0 k after h l.1
+  instr-asked (instr.Break n) k sites types after tells shows h l = asked-less sites types after h l.2
+  instr-asked instr.Return k sites types after tells shows h l = asked-less sites types after h l.1
+  instr-asked (instr.ReturnValue v t at) k sites types after tells shows h l = asked-less sites types after h l.2
+
+  row-asked : {m : _} (r : Row_of-Instr m) (k : Context) (sites : List Site) (types after : Typing) → TellsOf sites k → Shows sites (sites_of_row r k.table) → AreAsked sites types → IsRowShaped r k types after → AreAsked sites after
+  row-asked end_of-Instr k sites types after tells shows h l = asked-less sites types after h l
+  row-asked (more_of-Instr i r) k sites types after tells shows h l =
+      row-asked r k sites l.0 after tells (shows-right sites (sites_of i k.table) (sites_of_row r k.table) shows)
+      (instr-asked i k sites types l.0 tells (shows-left sites (sites_of i k.table) (sites_of_row r k.table) shows) h l.1) l.2
+
+-- each pointer that is known behind code in shape has a site, where each that is known before it has one
+pub code-asked : (is : List Instr) (k : Context) (sites : List Site) (types after : Typing) → TellsOf sites k → Shows sites (sites_of_code is k.table) → AreAsked sites types → AreShaped is k types after → AreAsked sites after
+code-asked [] k sites types after tells shows h l = asked-less sites types after h l
+code-asked (i ∷ is) k sites types after tells shows h l =
+    code-asked is k sites l.0 after tells (shows-right sites (sites_of i k.table) (sites_of_code is k.table) shows)
+    (instr-asked i k sites types l.0 tells (shows-left sites (sites_of i k.table) (sites_of_code is k.table) shows) h l.1) l.2

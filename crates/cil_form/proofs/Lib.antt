@@ -5,3 +5,4 @@ pub mod TypingLaws
 pub mod ShapedPrograms
 pub mod EmptyProgram
 pub mod AskedLaws
+pub mod TellsLaws

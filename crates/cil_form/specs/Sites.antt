@@ -1,6 +1,6 @@
 -- The sites of a program in three-address code: what its pointer types, its objects and its instructions ask of the kinds of the
 -- nodes, and what no instruction shows.
-use Rattle.std.specs.Prelude.{◌≡◌, ◌⊎◌, ℕ, Option, Some, List, [], ◌∷◌, ◌++◌, flat_map, map}
+use Rattle.std.specs.Prelude.{◌≡◌, ◌⊎◌, ℕ, Some, List, [], ◌∷◌, ◌++◌, flat_map, map}
 use Rattle.std.specs.List.{Contains}
 use Rattle.cc_base.specs.declared.kind.Kind.{Kind}
 use Rattle.cc_base.specs.declared.number.NodeId.{NodeId}
@@ -31,7 +31,7 @@ use Rattle.cil_form.specs.declared.program.Program.{Program}
 use Rattle.src_mem.specs.Operations.{node_of_shape, pointee_of_shape}
 use Rattle.cil_form.specs.declared.number.Object.{Object}
 use Rattle.cil_form.specs.Machine.{plan, variables_of}
-use Rattle.cil_form.specs.Typing.{HeldType, IntegerOf, PointerTo, Typing, Context, IsPointer, IsObject}
+use Rattle.cil_form.specs.Typing.{HeldType, IntegerOf, PointerTo, Typing, Context, IsObject}
 
 abbrev pub node_at : Table → TypeId → NodeId
 node_at table t = node_of_shape (shape_at table t)
@@ -124,7 +124,7 @@ AreAsked sites types = (t : ℕ) (x : HeldType) → types t ≡ Some x → IsAsk
 
 -- the sites tell of the pointer types and of the objects that code may name
 pub record TellsOf (sites : List Site) (k : Context) : Type 0 where
-  pub pointers : (t : TypeId) (node : NodeId) (u : TypeId) → IsPointer k t node u → Contains sites (Pointee node u)
+  pub pointers : (t : TypeId) (node : NodeId) (u : TypeId) → shape_at k.table t ≡ shape.Pointer node u → Contains sites (Pointee node u)
   pub objects : (o : Object) (home : NodeId) (t : TypeId) → IsObject k o home t → Contains sites (Home home t)
 
 -- A map from nodes to kinds is a solution of a program in three-address code where it is one of its sites.

@@ -14,11 +14,16 @@ ghost use Rattle.cil_form.specs.declared.instr.Code.{Code};
 ghost use Rattle.cil_form.specs.State.{Temporaries, Local, Step, Around, gives_to};
 ghost use Rattle.cil_form.specs.Meaning.{act, run, round_of, loop};
 ghost use Rattle.cil_form.specs.Typing.{Typing, Context, Includes, HoldsScalar, Passes, inside, IsShaped, AreShaped};
+ghost use Rattle.c_types.specs.declared.site.Site.{Site};
+ghost use Rattle.cil_form.specs.Sites.{TellsOf, Shows, AreAsked, sites_of_code, sites_in};
+ghost use Rattle.std.specs.List.{Contains};
+ghost use Rattle.cil_form.specs.declared.program.Function.{Function};
+ghost use Rattle.cil_form.specs.declared.program.Program.{Program};
 ghost use Rattle.cil_form.specs.Laws.{CodeWritesFrom, Keeps};
 ghost use Rattle.cil_form.specs.Computes.{EndsAlike, Held, Computes, Executes};
 ghost use Rattle.cil_form.specs.Small.{at, shown, access};
 ghost use Rattle.cil_form.specs.Programs.{loop_program, loop_run, call_program, call_run, access_program, access_run, switch_program, switch_run};
-ghost use Rattle.cil_form.specs.Shape.{IsInShape};
+ghost use Rattle.cil_form.specs.Shape.{IsInShape, context_of, context_in};
 ghost use Rattle.c_types.specs.Sound.{IsWellFormed};
 
 /// Code after code: the first runs, and then the second where the first goes on.
@@ -80,6 +85,19 @@ pub fn held_code_is_in_shape_as_its_list()
     ensures choice { (t : Temp) (x y : Code) (k : Context) (types after : Typing) → HoldsScalar types t → AreShaped x.0.items k types after → AreShaped y.0.items k types after → IsShaped (If t x y) k types after }
     ensures once { (x : Code) (k : Context) (types entry after : Typing) → Passes types entry k after → AreShaped x.0.items (inside k entry) entry entry → IsShaped (Block x) k types after }
     ensures again { (x : Code) (k : Context) (types entry after : Typing) → Passes types entry k after → AreShaped x.0.items (inside k entry) entry entry → IsShaped (Loop x) k types after }
+{}
+
+/// Each pointer that is known behind code in shape has a site, which says that its node points to the type or is the home of an object of it,
+/// where each that is known before the code has one: so the kinds that meet the sites tell of every pointer in a temporary.
+pub fn known_pointers_have_sites()
+    ensures { (is : List Instr) (k : Context) (sites : List Site) (types after : Typing) → TellsOf sites k → Shows sites (sites_of_code is k.table) → AreAsked sites types → AreShaped is k types after → AreAsked sites after }
+{}
+
+/// The sites of a program tell of all that its code may name, and those of each piece of its code are among them.
+pub fn sites_tell_of_what_code_names()
+    ensures functions { (p : Program) (f : Function) → Contains p.functions f → TellsOf (sites_in p) (context_in p f) }
+    ensures bodies { (p : Program) (f : Function) → Contains p.functions f → Shows (sites_in p) (sites_of_code f.body.0.items p.types) }
+    ensures initialisers { (p : Program) → TellsOf (sites_in p) (context_of p) × Shows (sites_in p) (sites_of_code p.initialisers.0.items p.types) }
 {}
 
 /// `int main(void){int i;while(i<3){putchar('a');i=i+1;}return i;}` makes four rounds: it ends with 4 turns, and not with 3.

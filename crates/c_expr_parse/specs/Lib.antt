@@ -1,8 +1,11 @@
 pub mod DeclaratorRules
 pub mod ExprRules
+pub mod Lists
+pub mod Nests
+pub mod Parts
 pub mod Rules
+pub mod Seen
 pub mod Tests
 pub mod TypeRules
 pub mod Written
-pub mod Parts
 pub mod Answers

@@ -1,1 +1,2 @@
+pub mod RefusedUnit
 pub mod TypedRow

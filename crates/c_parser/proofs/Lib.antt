@@ -10,3 +10,4 @@ pub mod BlockReads
 pub mod StatementReads
 pub mod UnitReads
 pub mod UnitPromised
+pub mod Examples

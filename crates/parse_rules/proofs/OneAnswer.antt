@@ -2,7 +2,7 @@
 use Rattle.std.proofs.Common.{◌≡◌, ℕ, Bool, true, false, List, [], ◌∷◌, ◌++◌, refl, sym, ◌∙◌, ap, subst, append_assoc, append-nil}
 use Rattle.parse_rules.specs.Parsers.{Syntax, Unsupported, Deep, Answer, Read, Stopped}
 use Rattle.parse_rules.specs.Grammars.{Language, Supported, Extended, Each, CanBegin}
-use Rattle.parse_rules.specs.Promises.{EndsBefore, IsRun, IsRead, IsUnsupported, IsTooDeep, Answered}
+use Rattle.parse_rules.specs.Promises.{EndsBefore, IsRun, IsRead, IsUnsupported, IsTooDeep, Answered, IsReadWhole, IsRefusedWhole, AnsweredWhole}
 use Rattle.parse_rules.proofs.Composition.{each_append}
 
 -- Two fronts of one list: they are equal, or one goes on where the other ends.
@@ -110,3 +110,51 @@ module _ {T A : Type 0} (Valid : T → Type 0) (In : Language → A → List T �
       by_fronts (as_long p q) = sunk [] tt (subst (λ x. In Supported a x) (p ∙ sym (append-nil (k.before ++ k.token ∷ []))) h.spells)
       by_fronts (first_shorter t more p q) = no_longer Valid In ts h.run rest valid h.is_run t more k.more q (subst (λ x. CanBegin Valid (In Supported) x) p k.begins)
       by_fronts (second_shorter t more p q) = sunk (t ∷ more) (each_back Valid (k.before ++ k.token ∷ []) (t ∷ more) (each_front Valid ((k.before ++ k.token ∷ []) ++ t ∷ more) rest (subst (λ x. Each Valid x) (h.is_run.whole ∙ ap (λ x. x ++ rest) p) valid))) (subst (λ x. In Supported a x) p h.spells)
+
+-- The same where the part is to be all of the tokens.
+module _ {T A : Type 0} (Valid : T → Type 0) (In : Language → A → List T → Type 0) (height : A → ℕ) (d : ℕ) (ts : List T) (valid : Each Valid ts)
+    (one_part : (a b : A) (s : List T) → In Supported a s → In Supported b s → a ≡ b) where
+  -- a token after the run isn't one of a part that spells all the tokens
+  run_to_end : (run rest : List T) → IsRun Valid In ts run rest → (a : A) → In Supported a ts → (t : T) (more : List T) → rest ≡ t ∷ more → ⊥
+  run_to_end run rest h a in_a t more e =
+      subst (λ x. EndsBefore Valid In Supported run x) e h.longest (record {
+        part = a; more = more; valid = each_back Valid (run ++ t ∷ []) more (subst (λ x. Each Valid x) whole valid); spells = subst (λ x. In Supported a x) whole in_a
+      })
+    where
+      whole : ts ≡ (run ++ t ∷ []) ++ more
+      whole = h.whole ∙ (ap (λ x. run ++ x) e ∙ sym (append_assoc run (t ∷ []) more))
+
+  refused_apart : (a : A) (rest rest' : List T) → IsReadWhole Valid In height d ts a rest → IsRefusedWhole Valid In height d ts rest' → ⊥
+  refused_apart a rest rest' h h' = by_rest rest' refl
+    where
+      by_rest : (left : List T) → rest' ≡ left → ⊥
+      by_rest [] e = h'.no_part e a h.spells
+      by_rest (t ∷ more) e = run_to_end h'.run rest' h'.is_run a h.spells t more e
+
+  unsupported_apart : (a : A) (rest rest' : List T) → IsReadWhole Valid In height d ts a rest → IsUnsupported Valid In height d ts rest' → ⊥
+  unsupported_apart a rest rest' h h' = run_to_end h'.run rest' h'.is_run a h.spells h'.token h'.more h'.place
+
+  pub one_whole_answer : (r r' : Answer T A) → is_deep r ≡ false → is_deep r' ≡ false → AnsweredWhole Valid In height d ts r → AnsweredWhole Valid In height d ts r' → r ≡ r'
+  one_whole_answer (Read a rest) (Read b rest') e e' h h' =
+      let part : a ≡ b = one_part a b ts h.spells h'.spells in
+      let here : rest ≡ [] = h.over in
+      let there : rest' ≡ [] = h'.over in
+      cc
+  one_whole_answer (Read a rest) (Stopped Syntax rest') e e' h h' = absurd (refused_apart a rest rest' h h')
+  one_whole_answer (Read a rest) (Stopped Unsupported rest') e e' h h' = absurd (unsupported_apart a rest rest' h h')
+  one_whole_answer (Read a rest) (Stopped Deep rest') e e' h h' = cc
+  one_whole_answer (Stopped Syntax rest) (Read b rest') e e' h h' = absurd (refused_apart b rest' rest h' h)
+  one_whole_answer (Stopped Syntax rest) (Stopped Syntax rest') e e' h h' =
+      let same : (h.run ≡ h'.run) × (rest ≡ rest') = one_run Valid In ts h.run rest h'.run rest' valid h.is_run h'.is_run in
+      let left : rest ≡ rest' = same.1 in
+      cc
+  one_whole_answer (Stopped Syntax rest) (Stopped Unsupported rest') e e' h h' = absurd (apart Valid In height d ts valid one_part rest' h' h.run rest h.is_run h.supported)
+  one_whole_answer (Stopped Syntax rest) (Stopped Deep rest') e e' h h' = cc
+  one_whole_answer (Stopped Unsupported rest) (Read b rest') e e' h h' = absurd (unsupported_apart b rest' rest h' h)
+  one_whole_answer (Stopped Unsupported rest) (Stopped Syntax rest') e e' h h' = absurd (apart Valid In height d ts valid one_part rest h h'.run rest' h'.is_run h'.supported)
+  one_whole_answer (Stopped Unsupported rest) (Stopped Unsupported rest') e e' h h' =
+      let same : (h.run ≡ h'.run) × (rest ≡ rest') = one_run Valid In ts h.run rest h'.run rest' valid h.is_run h'.is_run in
+      let left : rest ≡ rest' = same.1 in
+      cc
+  one_whole_answer (Stopped Unsupported rest) (Stopped Deep rest') e e' h h' = cc
+  one_whole_answer (Stopped Deep rest) r' e e' h h' = cc

@@ -118,7 +118,10 @@ module _ {T A : Type 0} (Valid : T → Type 0) (In : Language → A → List T �
   run_to_end : (run rest : List T) → IsRun Valid In ts run rest → (a : A) → In Supported a ts → (t : T) (more : List T) → rest ≡ t ∷ more → ⊥
   run_to_end run rest h a in_a t more e =
       subst (λ x. EndsBefore Valid In Supported run x) e h.longest (record {
-        part = a; more = more; valid = each_back Valid (run ++ t ∷ []) more (subst (λ x. Each Valid x) whole valid); spells = subst (λ x. In Supported a x) whole in_a
+        part = a;
+        more = more;
+        valid = each_back Valid (run ++ t ∷ []) more (subst (λ x. Each Valid x) whole valid);
+        spells = subst (λ x. In Supported a x) whole in_a;
       })
     where
       whole : ts ≡ (run ++ t ∷ []) ++ more

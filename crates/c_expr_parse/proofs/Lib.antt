@@ -39,3 +39,5 @@ pub mod PartReads
 pub mod DeclaratorReads
 pub mod Promised
 pub mod AllReads
+pub mod StateRounds
+pub mod SpecifierFlags

@@ -1,5 +1,5 @@
 -- Looking a name up in a set is looking it up in the list of names.
-use Rattle.std.proofs.Common.{◌≡◌, ap, refl, ℕ, List, [], ◌∷◌, map, Vec, Global, nat_eq, ◌||◌}
+use Rattle.std.proofs.Common.{◌≡◌, refl, ℕ, List, [], ◌∷◌, map, Vec, Global, nat_eq}
 use Rattle.std.specs.List.{list_any}
 use Rattle.std.specs.Cmp.Lexicographic.{pointwise, nat_list_eq_equiv}
 use Rattle.c_tree.specs.Words.{is_type_name}

@@ -1,5 +1,5 @@
 -- The rounds of a loop over a list of tokens, of which `turn` of `end` are done.
-use Rattle.std.proofs.Common.{◌≡◌, ◌≢◌, ℕ, zero, suc, ◌-◌, ◌<◌, Bool, true, false, Option, List, Result, Ok, Err, refl, sym, ap, IsTrue, IsFalse, ◌+◌, ◌∙◌, arith}
+use Rattle.std.proofs.Common.{◌≡◌, ◌≢◌, ℕ, zero, suc, ◌-◌, ◌<◌, Bool, true, false, Option, List, refl, sym, ap, IsTrue, IsFalse, ◌+◌, ◌∙◌, arith}
 use Rattle.parse_rules.specs.Parsers.{Answer, Read, Stopped, Parser, first, next, repeat}
 use Rattle.c_tree.specs.Symbols.{Symbol}
 use Rattle.c_expr_parse.specs.declared.stop.Stop.{Stop}

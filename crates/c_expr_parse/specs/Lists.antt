@@ -1,5 +1,7 @@
 -- Lists of the code's tree as the plain tree has them.
-use Rattle.std.specs.Prelude.{List, map}
+use Rattle.std.specs.Prelude.{Bool, not, ◌&&◌, Option, List, map}
+use Rattle.c_tree.specs.Symbols.{Symbol}
+use Rattle.c_expr_parse.specs.Tests.{is_comma}
 use Rattle.c_tree.specs.Tree as tree
 use Rattle.c_tree.specs.Views.{added, declarator_view, enumerator_view, member_declarators_of, members_view, parameter_view, part_view, specifier_view, specifiers_of}
 use Rattle.c_tree.specs.declared.expr.Declarator.{Declarator}
@@ -26,3 +28,7 @@ declarators_seen list = member_declarators_of (map declarator_view list)
 
 abbrev pub specifiers_seen : List Specifier → tree.Specifiers
 specifiers_seen list = specifiers_of (map specifier_view list)
+
+-- a comma comes, and none stands after the last element
+abbrev pub series_goes_on : (comma : Bool) → Option Symbol → Bool
+series_goes_on comma next = not comma && is_comma next

@@ -3,6 +3,7 @@
 
 mod arguments;
 mod cursor;
+mod enumerator_list;
 mod grammar;
 mod lookahead;
 mod measured;
@@ -11,6 +12,8 @@ mod next;
 mod operators;
 mod parameter_list;
 mod postfix;
+mod series;
+mod specifier_list;
 mod stop;
 mod type_name;
 mod words;

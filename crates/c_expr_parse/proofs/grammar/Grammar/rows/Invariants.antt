@@ -5,7 +5,7 @@ use Rattle.c_tree.specs.Words.{InType}
 use Rattle.c_expr_parse.specs.TypeRules as spec
 use Rattle.c_expr_parse.specs.Tests as tests
 use Rattle.c_expr_parse.specs.Rules.{rules}
-use Rattle.c_expr_parse.specs.Seen.{names_of, after_skip}
+use Rattle.c_expr_parse.specs.Seen.{names_of}
 use Rattle.c_expr_parse.specs.Nests.{IsMeasured}
 use Rattle.c_expr_parse.proofs.Rounds.{IsInRound}
 use Rattle.c_expr_parse.proofs.grammar.Grammar.rows.Given as goal

@@ -2,12 +2,10 @@
 use Rattle.std.proofs.Common.{◌≡◌, ℕ, List, [], ◌∷◌, refl, codes}
 use Rattle.cc_base.specs.declared.place.Place.{Place}
 use Rattle.c_lexer.specs.declared.word.Keyword.TheVariants as keyword
-use Rattle.c_lexer.specs.declared.punctuator.Punctuator.TheVariants as mark
-use Rattle.c_lexer.specs.declared.number.IntegerType.TheVariants.{Int}
 use Rattle.c_tree.specs.declared.leaf.Separator.TheVariants as separator
-use Rattle.c_tree.specs.Symbols.{Symbol, Name, Integer, Word, Mark, Bare}
+use Rattle.c_tree.specs.Symbols.{Symbol, Name, Word, Bare}
 use Rattle.c_tree.specs.Tree as tree
-use Rattle.parse_rules.specs.Parsers.{Read, Stopped, Syntax, Unsupported, Deep}
+use Rattle.parse_rules.specs.Parsers.{Read, Stopped, Syntax, Unsupported}
 use Rattle.c_expr_parse.specs.ExprRules.{take, declared, type_name, next_argument, arguments, with_suffix, postfix_step, postfix, next_piece, after_paren, after_cast_paren, after_sizeof_paren, after_sizeof, operand_from, operand, with_operator, infix_step, with_question, with_assignment, comma_step, expr_layer}
 use Rattle.c_expr_parse.specs.TypeRules.{specifiers_layer, with_type, specifier_step, with_specifier, after_aggregate, after_aggregate_tag, aggregate_without_tag, aggregate_body, members, next_members, member_declarators, next_member, after_enum, after_enum_tag, enum_without_tag, enumeration_body, enumeration, enumerators, enumerator_step, next_enumerator, with_name, with_value}
 use Rattle.c_expr_parse.specs.DeclaratorRules.{declarator_layer, with_core, unnamed, after_core_paren, unnamed_function, nested, star_step, next_qualifier, parts_from, part_step, with_part, function_part, array_part, without_size, next_array_word, parameters, next_parameter}

@@ -2,7 +2,7 @@
 use Rattle.std.proofs.Common.{◌≡◌, ℕ, Bool, true, false, List, [], ◌∷◌, ◌++◌, refl, sym, ◌∙◌, ap, subst, append_assoc, append-nil}
 use Rattle.parse_rules.specs.Parsers.{Syntax, Unsupported, Deep, Answer, Read, Stopped}
 use Rattle.parse_rules.specs.Grammars.{Language, Supported, Extended, Each, CanBegin}
-use Rattle.parse_rules.specs.Promises.{EndsBefore, IsRun, IsRead, IsUnsupported, IsTooDeep, Answered, IsReadWhole, IsRefusedWhole, AnsweredWhole}
+use Rattle.parse_rules.specs.Promises.{is_deep, EndsBefore, IsRun, IsRead, IsUnsupported, IsTooDeep, Answered, IsReadWhole, IsRefusedWhole, AnsweredWhole}
 use Rattle.parse_rules.proofs.Composition.{each_append}
 
 -- Two fronts of one list: they are equal, or one goes on where the other ends.
@@ -54,11 +54,6 @@ module _ {T A : Type 0} (Valid : T → Type 0) (In : Language → A → List T �
       by_fronts (as_long p q) = (p, q)
       by_fronts (first_shorter t more p q) = absurd (no_longer ts run rest valid h t more rest' q (subst (λ x. CanBegin Valid (In Supported) x) p h'.begins))
       by_fronts (second_shorter t more p q) = absurd (no_longer ts run' rest' valid h' t more rest q (subst (λ x. CanBegin Valid (In Supported) x) p h.begins))
-
--- a stop at a depth
-abbrev pub is_deep : {T A : Type 0} → Answer T A → Bool
-is_deep (Stopped Deep rest) = true
-is_deep answer = false
 
 module _ {T A : Type 0} (Valid : T → Type 0) (In : Language → A → List T → Type 0) (height : A → ℕ) (d : ℕ) (ts : List T) (valid : Each Valid ts)
     (one_part : (a b : A) (s : List T) → In Supported a s → In Supported b s → a ≡ b) where

@@ -1,8 +1,13 @@
 -- What the answers of a parser mean, said of the grammar alone. These are the words that contracts of public calls cite:
 -- nothing here speaks of how a parser reads.
-use Rattle.std.specs.Prelude.{◌≡◌, ℕ, ◌≤◌, List, [], ◌∷◌, ◌++◌}
+use Rattle.std.specs.Prelude.{◌≡◌, ℕ, ◌≤◌, Bool, true, false, List, [], ◌∷◌, ◌++◌}
 use Rattle.parse_rules.specs.Parsers.{Answer, Read, Stopped, Syntax, Unsupported, Deep}
 use Rattle.parse_rules.specs.Grammars.{Language, Supported, Extended, CanBegin}
+
+-- a stop at a depth
+abbrev pub is_deep : {T A : Type 0} → Answer T A → Bool
+is_deep (Stopped Deep rest) = true
+is_deep answer = false
 
 -- `Valid`: which tokens are tokens of some text. `In`: the grammar of the two languages.
 module _ {T A : Type 0} (Valid : T → Type 0) (In : Language → A → List T → Type 0) where

@@ -1,7 +1,5 @@
 pub mod DeclaratorRules
 pub mod ExprRules
-pub mod Lists
-pub mod Nests
 pub mod Parts
 pub mod Rules
 pub mod Seen

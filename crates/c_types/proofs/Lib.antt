@@ -8,3 +8,5 @@ pub mod Ends
 pub mod Laying
 pub mod Defining
 pub mod Keeping
+pub mod Cells
+pub mod WholePointers

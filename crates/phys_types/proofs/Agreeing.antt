@@ -11,7 +11,7 @@ use Rattle.c_types.specs.Cells.{Cell, raw, pointer, mixed, incomplete, Relation,
 use Rattle.c_types.specs.Equality.{Slot, nothing, integer, pointer_to, other, slot_of, same_slot, makeup_of, same_makeup, made_alike}
 use Rattle.c_types.specs.Sound.{IsWellFormed}
 use Rattle.c_types.proofs.Lists.{contains_head, contains_tail}
-use Rattle.type_laws.proofs.Cells.{cells_are, cells_local}
+use Rattle.c_types.proofs.Cells.{cells_are, cells_local}
 use Rattle.phys_types.specs.Reach.{IsClosed}
 
 -- Relations that agree on a closed set of types give its members the same cells, and make the same of

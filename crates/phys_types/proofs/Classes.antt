@@ -19,7 +19,7 @@ use Rattle.c_types.specs.Equality.{physically_equal, cells_of, begins_with, repe
 use Rattle.c_types.specs.Sound.{IsWellFormed}
 use Rattle.c_types.proofs.Shapes.{first_true, second_true}
 use Rattle.type_laws.proofs.Relations.{alike_equiv, equal_equiv}
-use Rattle.type_laws.proofs.Cells.{cells_are}
+use Rattle.c_types.proofs.Cells.{cells_are}
 use Rattle.phys_types.specs.declared.spot.Layout.{Layout}
 use Rattle.phys_types.specs.Spots.{cells_from, AreSpots}
 use Rattle.phys_types.specs.Numbers.{same_number, repeat_spots}

@@ -8,7 +8,7 @@ use Rattle.c_types.specs.Table.{Table, IsComplete, shape_at, members_at, parts_a
 use Rattle.c_types.specs.Layouts.{size_of, offset_of}
 use Rattle.c_types.specs.Cells.{Cell, Relation, cells_at, cells_of_shape}
 use Rattle.c_types.specs.Sound.{IsWellFormed}
-use Rattle.type_laws.proofs.Cells.{cells_are, length_cells}
+use Rattle.c_types.proofs.Cells.{cells_are, length_cells}
 use Rattle.phys_types.specs.declared.spot.Layout.{Layout}
 use Rattle.phys_types.specs.declared.spot.Spot.{Spot}
 use Rattle.phys_types.specs.Spots.{AreSpots, item_size}

@@ -13,7 +13,7 @@ use Rattle.c_types.specs.Cells.{raw, Relation, cells_of_shape, cells_at, holds_p
 use Rattle.c_types.specs.Sound.{IsWellFormed}
 use Rattle.c_types.proofs.Lists.{contains_head}
 use Rattle.c_types.proofs.Descent.{layout_is}
-use Rattle.type_laws.proofs.Cells.{cells_are, length_cells}
+use Rattle.c_types.proofs.Cells.{cells_are, length_cells}
 use Rattle.phys_types.specs.declared.spot.Item.{Item}
 use Rattle.phys_types.specs.declared.spot.Item.TheVariants.{Pointer as pointer_item, Incomplete}
 use Rattle.phys_types.specs.declared.spot.Layout.{Layout}

@@ -14,7 +14,7 @@ use Rattle.c_types.specs.Sound.{IsWellFormed}
 use Rattle.c_types.proofs.Lists.{contains_head, contains_tail, contains_take, fold_map_more}
 use Rattle.c_types.proofs.Descent.{descend_is, rank_bound, layout_is}
 use Rattle.c_types.proofs.Ends.{rounded_up, end_of_part}
-use Rattle.type_laws.proofs.Cells.{cells_are, length_cells, length_members}
+use Rattle.c_types.proofs.Cells.{cells_are, length_cells, length_members}
 use Rattle.phys_types.specs.declared.spot.Layout.{Layout}
 use Rattle.phys_types.specs.declared.spot.Spot.{Spot}
 use Rattle.phys_types.specs.Spots.{cells_from, AreSpots, shifted}

@@ -14,7 +14,7 @@ use Rattle.c_types.specs.Sound.{IsWellFormed}
 use Rattle.c_types.proofs.Descent.{layout_is}
 use Rattle.c_types.proofs.Ends.{rounded_up}
 use Rattle.c_types.proofs.Shapes.{first_true, second_true}
-use Rattle.type_laws.proofs.Cells.{cells_are, length_cells, length_longest}
+use Rattle.c_types.proofs.Cells.{cells_are, length_cells, length_longest}
 use Rattle.phys_types.specs.declared.spot.Item.TheVariants.{Mixed}
 use Rattle.phys_types.specs.declared.spot.Layout.{Layout}
 use Rattle.phys_types.specs.Spots.{cells_from, AreSpots}

@@ -9,3 +9,4 @@ pub mod CopiesRight
 pub mod PointersCopied
 pub mod Keeping
 pub mod Invariants
+pub mod CallsRight

@@ -1,5 +1,5 @@
 -- The copy of a struct that holds pointers, through pointers that aren't WILD: each of its pointers is loaded first.
-use Rattle.std.proofs.Common.{◌≡◌, ◌≢◌, ℕ, zero, suc, ◌+◌, ◌-◌, ◌%◌, ◌<◌, ◌≤◌, ℤ, pos, ◌+ℤ◌, ◌-ℤ◌, Bool, true, false, not, cond, List, [], ◌∷◌, length, slice_get, Option, None, Some, refl, ap, sym, subst, ◌∙◌, arith}
+use Rattle.std.proofs.Common.{◌≡◌, ◌≢◌, inr, ℕ, zero, suc, ◌+◌, ◌-◌, ◌%◌, ◌<◌, ◌≤◌, ℤ, pos, ◌+ℤ◌, ◌-ℤ◌, Bool, true, false, not, cond, List, [], ◌∷◌, length, slice_get, Option, None, Some, refl, ap, sym, subst, ◌∙◌, arith}
 use Rattle.std.specs.Prelude.{is_some, slice_index_or}
 use Rattle.std.specs.List.{filter, list_all, range_with_len}
 use Rattle.cc_base.specs.declared.number.TypeId.{TypeId}
@@ -7,7 +7,7 @@ use Rattle.cc_base.specs.declared.kind.Kind.{Kind}
 use Rattle.cc_base.specs.declared.kind.Kind.TheVariants.{Safe, Seq, Rtti, Wild}
 use Rattle.c_types.specs.declared.shape.TypeShape.{TypeShape}
 use Rattle.c_types.specs.declared.shape.TypeShape.TheVariants as shape
-use Rattle.c_types.specs.Table.{Table, shape_at, is_function, is_function_shape, IsComplete}
+use Rattle.c_types.specs.Table.{Table, shape_at, members_at, is_function, is_function_shape, is_complete_entry, IsComplete}
 use Rattle.c_types.specs.Layouts.{size_of}
 use Rattle.c_types.specs.Cells.{holds_pointer, Cell, raw, pointer, mixed, incomplete, Relation, alike, begins}
 use Rattle.c_types.specs.Equality.{cells_of, physically_equal, repeated_cell}
@@ -22,12 +22,15 @@ use Rattle.src_mem.specs.State.{Ending, Stopped, Wrong, State, Act, Setting, giv
 use Rattle.src_mem.specs.Checks.{CopyFrom, CopyTo, conditions_of, all_checked, Outlives, check_of, checked, holds}
 use Rattle.src_mem.specs.Primitives.{reach, load_pointer, copy}
 use Rattle.src_mem.specs.Uses.{forward, load_pointers, keep_pointers, copy_all}
-use Rattle.src_mem.specs.Laws.{IsNotWrong, HoldsPointersWhole}
+use Rattle.c_types.specs.Sound.{IsWellFormed}
+use Rattle.c_types.proofs.Cells.{length_cells}
+use Rattle.c_types.proofs.WholePointers.{cells_whole}
+use Rattle.src_mem.specs.Laws.{IsNotWrong}
 use Rattle.src_mem.proofs.Spots.{IsRight, spot-right}
 use Rattle.src_mem.proofs.NotWrong.{begun, goes_on, checked_right}
-use Rattle.src_mem.proofs.CopiesRight.{both_touched, from_bounds, to_bounds}
+use Rattle.src_mem.proofs.CopiesRight.{both_touched, from_bounds, to_bounds, copy_right}
 use Rattle.src_mem.specs.Facts.{CellsAgree, HoldType, IsSequenceAt, IsSafeAt, IsTypedAt, IsHeld, IsSoundMemory}
-use Rattle.src_mem.proofs.Right.{MayTouch, touches, IsFirst, Begins, begins_first, second_true, first_of, distance_is}
+use Rattle.src_mem.proofs.Right.{MayTouch, touches, IsFirst, Begins, begins_first, second_true, first_of, distance_is, safe≢wild, seq≢wild, rtti≢wild}
 
 -- where a data type holds a pointer, its cells begin one
 cell_there : (c : Cell) → is_some (pointer_in_cell c) ≡ true → IsFirst c
@@ -200,13 +203,13 @@ loads_right w place memory kind source target f (i ∷ is) next s loads same h =
         (checked_one one.0 (touched one.1 one.2 8 s) (holds w (touched one.1 one.2 8 s).memory (Outlives target one.0)) same rest)
 
 one_loads : (w : Setting) (memory : Memory) (depth : ℕ) (kind : Kind) (t : TypeId) (source : Pointer) (i : ℕ)
-    → kind ≢ Wild → IsSoundMemory w memory → IsComplete w.table t → length (cells_of w.table t) ≡ size_of w.table t → HoldsPointersWhole w.table t → is_function w.table t ≡ false
+    → kind ≢ Wild → IsSoundMemory w memory → IsComplete w.table t → length (cells_of w.table t) ≡ size_of w.table t → IsWellFormed w.table → is_function w.table t ≡ false
     → IsHeld w memory.objects depth kind t source → MayTouch kind memory.objects source (size_of w.table t) → is_some (pointer_at w.table t i) ≡ true → LoadsAt memory kind source i
 unfolding LoadsAt moved_by
-one_loads w memory depth kind t source i n sound complete sized whole data_type held may there s same =
+one_loads w memory depth kind t source i n sound complete sized formed data_type held may there s same =
     let l = may.location in
     let b = pointer_there w.table t i data_type there in
-    let room : i + 8 ≤ length (cells_of w.table t) = whole.whole i b.first.node b.first.to (b.found ∙ ap (λ c. Some c) b.first.is) in
+    let room : i + 8 ≤ length (cells_of w.table t) = cells_whole w.table formed (physically_equal w.table) t i b.first.node b.first.to (b.found ∙ ap (λ c. Some c) b.first.is) in
     let r = right_moved kind memory.objects l (size_of w.table t) i may.object may.at may.right (let e = sized in omega (arith, room, e)) in (
       pointer_or_null (may.object.pointers (may.at + i)),
       l.object,
@@ -228,11 +231,11 @@ between_loads w place Rtti source target t true next s n loads h =
     loads_right w place s.memory Rtti source target (λ i. is_some (pointer_at w.table t i)) (range_with_len 0 (length (cells_of w.table t))) next s loads refl h
 between_loads w place Wild source target t true next s n loads h = absurd (n refl)
 
-pub pointers_copied : (w : Setting) (depth : ℕ) (t : TypeId) (source_place : Place) (from_kind : Kind) (source : Pointer) (target_place : Place) (to_kind : Kind) (target : Pointer) (place : Place) (s : State)
-    → from_kind ≢ Wild → IsSoundMemory w s.memory → IsComplete w.table t → length (cells_of w.table t) ≡ size_of w.table t → HoldsPointersWhole w.table t → is_function w.table t ≡ false
+pointers_copied : (w : Setting) (depth : ℕ) (t : TypeId) (source_place : Place) (from_kind : Kind) (source : Pointer) (target_place : Place) (to_kind : Kind) (target : Pointer) (place : Place) (s : State)
+    → from_kind ≢ Wild → IsSoundMemory w s.memory → IsComplete w.table t → length (cells_of w.table t) ≡ size_of w.table t → IsWellFormed w.table → is_function w.table t ≡ false
     → IsHeld w s.memory.objects depth from_kind t source → IsHeld w s.memory.objects depth to_kind t target
     → IsNotWrong (copy_all w t source_place from_kind source target_place to_kind target place s)
-pointers_copied w depth t source_place from_kind source target_place to_kind target place s n sound complete sized whole data_type a b =
+pointers_copied w depth t source_place from_kind source target_place to_kind target place s n sound complete sized formed data_type a b =
     checked_right w (λ c. source_place) (conditions_of (CopyFrom (holds_pointer w.table t) (size_of w.table t)) from_kind source) (all_checked w target_place (conditions_of (CopyTo (holds_pointer w.table t) (size_of w.table t)) to_kind target) >> rest) s
     (λ h. checked_right w (λ c. target_place) (conditions_of (CopyTo (holds_pointer w.table t) (size_of w.table t)) to_kind target) rest s (λ k. go (from_touch h) (to_touch k)))
   where
@@ -247,7 +250,37 @@ pointers_copied w depth t source_place from_kind source target_place to_kind tar
 
     go : MayTouch from_kind s.memory.objects source (size_of w.table t) → MayTouch to_kind s.memory.objects target (size_of w.table t) → IsNotWrong (rest s)
     go x y = between_loads w place from_kind source target t (holds_pointer w.table t) (copy (size_of w.table t) from_kind source to_kind target) s n
-        (λ i there. one_loads w s.memory depth from_kind t source i n sound complete sized whole data_type a x there)
+        (λ i there. one_loads w s.memory depth from_kind t source i n sound complete sized formed data_type a x there)
         (λ u e. both_touched (size_of w.table t) from_kind source to_kind target u
         (subst (λ (m : Memory). MayTouch from_kind m.objects source (size_of w.table t)) (sym e) x)
         (subst (λ (m : Memory). MayTouch to_kind m.objects target (size_of w.table t)) (sym e) y))
+
+-- the copy of a complete struct or union, through pointers of all kinds
+no_function_complete : (table : Table) (t : TypeId) → IsComplete table t → is_function table t ≡ false
+no_function_complete table t = by (shape_at table t)
+  where
+    by : (s : TypeShape) → is_complete_entry s (members_at table t) ≡ true → is_function_shape s ≡ false
+    by (shape.Function ps r) h = absurd (cc (h))
+    by shape.Void h = refl
+    by (shape.Integer b s) h = refl
+    by (shape.Pointer n u) h = refl
+    by (shape.Array a n) h = refl
+    by (shape.Struct n) h = refl
+    by (shape.Union n) h = refl
+
+pub all_copied : (w : Setting) (depth : ℕ) (t : TypeId) (source_place : Place) (from_kind : Kind) (source : Pointer) (target_place : Place) (to_kind : Kind) (target : Pointer) (place : Place) (s : State)
+    → IsWellFormed w.table → IsComplete w.table t → IsSoundMemory w s.memory → IsHeld w s.memory.objects depth from_kind t source → IsHeld w s.memory.objects depth to_kind t target
+    → IsNotWrong (copy_all w t source_place from_kind source target_place to_kind target place s)
+all_copied w depth t source_place from_kind source target_place to_kind target place s formed complete sound a b = by from_kind a
+  where
+    sized : length (cells_of w.table t) ≡ size_of w.table t
+    sized = length_cells w.table formed (physically_equal w.table) t complete
+
+    data_type : is_function w.table t ≡ false
+    data_type = no_function_complete w.table t complete
+
+    by : (k : Kind) → IsHeld w s.memory.objects depth k t source → IsNotWrong (copy_all w t source_place k source target_place to_kind target place s)
+    by Wild c = copy_right w depth t source_place Wild source target_place to_kind target place s (inr refl) data_type sized c b
+    by Safe c = pointers_copied w depth t source_place Safe source target_place to_kind target place s safe≢wild sound complete sized formed data_type c b
+    by Seq c = pointers_copied w depth t source_place Seq source target_place to_kind target place s seq≢wild sound complete sized formed data_type c b
+    by Rtti c = pointers_copied w depth t source_place Rtti source target_place to_kind target place s rtti≢wild sound complete sized formed data_type c b

@@ -301,7 +301,7 @@ pointer_begins table t n u e = record {
 pub distance_is : (low at : ℕ) → low ≤ at → pos at -ℤ pos low ≡ pos (at - low)
 distance_is low at h = grind (arith, nat_tests)
 
-pointer_size : (table : Table) (t : TypeId) (n : NodeId) (u : TypeId) → shape_at table t ≡ shape.Pointer n u → size_of table t ≡ 8
+pub pointer_size : (table : Table) (t : TypeId) (n : NodeId) (u : TypeId) → shape_at table t ≡ shape.Pointer n u → size_of table t ≡ 8
 unfolding layout_of
 pointer_size table t n u e = ap (λ s. (layout_of_shape (descend (layout_step table) no_layout (length table)) s (members_at table t)).size) e
 

@@ -1,12 +1,10 @@
 -- The words of the laws on memory.
-use Rattle.std.specs.Prelude.{◌+◌, ◌≤◌, ℤ, ◌≡◌, ℕ, List, length, slice_get, Some, ⊤}
+use Rattle.std.specs.Prelude.{◌≤◌, ℤ, ◌≡◌, ℕ, List, [], ◌∷◌, length, slice_get, Some, ⊤}
 use Rattle.cc_base.specs.declared.kind.Kind.{Kind}
 use Rattle.cc_base.specs.declared.number.TypeId.{TypeId}
 use Rattle.cc_base.specs.declared.number.NodeId.{NodeId}
 use Rattle.flat_mem.specs.Bytes.{number}
-use Rattle.c_types.specs.Table.{Table}
-use Rattle.c_types.specs.Cells.{pointer}
-use Rattle.c_types.specs.Equality.{cells_of}
+use Rattle.c_types.specs.Table.{Table, shape_at}
 use Rattle.c_types.specs.declared.shape.TypeShape.{TypeShape}
 use Rattle.c_types.specs.declared.shape.TypeShape.TheVariants as shape
 use Rattle.integers.specs.Arithmetic as integer
@@ -89,6 +87,8 @@ pub record ReadsWhatIsThere (input : Input) (s : State) : Type 0 where
   pub same : s.input ≡ input
   pub most : s.read ≤ length (bytes_of input)
 
--- where a type holds a pointer, it holds all its eight bytes
-pub record HoldsPointersWhole (table : Table) (t : TypeId) : Type 0 where
-  pub whole : (i : ℕ) (n : NodeId) (u : TypeId) → slice_get (cells_of table t) i ≡ Some (pointer n u 0) → i + 8 ≤ length (cells_of table t)
+-- these arguments are values of the variables that they are stored in, one each and in order
+abbrev pub AreArguments : Table → List Planned → List Value → Type 0
+AreArguments table variables [] = ⊤
+AreArguments table [] (v ∷ vs) = ⊥
+AreArguments table (x ∷ xs) (v ∷ vs) = IsScalarValue (shape_at table x.type) v × AreArguments table xs vs

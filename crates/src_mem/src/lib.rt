@@ -3,7 +3,7 @@
 //! Each law is the contract of a function that does nothing, so that it is proved once and can be cited.
 #![tactic(auto)]
 
-ghost use Rattle.std.specs.Prelude.{◌≡◌, ◌≢◌, ◌⊎◌, ◌↔◌, ℕ, ◌≤◌, ℤ, pos, Bool, List, ◌∷◌, [], ◌++◌, length, IsTrue, IsFalse};
+ghost use Rattle.std.specs.Prelude.{◌≡◌, ◌≢◌, ◌⊎◌, ◌↔◌, ℕ, ◌≤◌, ℤ, pos, Bool, List, ◌∷◌, [], ◌++◌, length, slice_get, Some, IsTrue, IsFalse};
 ghost use Rattle.std.specs.Cmp.{IsEquivalence};
 ghost use Rattle.cc_base.specs.declared.place.Place.{Place};
 ghost use Rattle.cc_base.specs.declared.kind.Kind.{Kind};
@@ -14,19 +14,17 @@ ghost use Rattle.flat_mem.specs.Bytes.{IsAccessSize};
 ghost use Rattle.integers.specs.Words.{residue};
 ghost use Rattle.integers.specs.Arithmetic.{IntegerType, Operator, converted};
 ghost use Rattle.c_types.specs.Table.{IsComplete, shape_at, is_function};
-ghost use Rattle.c_types.specs.Layouts.{size_of};
-ghost use Rattle.c_types.specs.Cells.{holds_pointer};
-ghost use Rattle.c_types.specs.Equality.{cells_of};
+ghost use Rattle.c_types.specs.Sound.{IsWellFormed};
 ghost use Rattle.runs.specs.Outcome.{Done, from};
 ghost use Rattle.src_mem.specs.Pointers.{Pointer, Value, same_pointer};
-ghost use Rattle.src_mem.specs.Memory.{Planned};
-ghost use Rattle.src_mem.specs.State.{State, Act, Setting, bytes_of};
-ghost use Rattle.src_mem.specs.Primitives.{load_integer, load_pointer, store_integer, store_pointer, clear, copy, allocate, enter, leave, called, get, put};
+ghost use Rattle.src_mem.specs.Memory.{Object, Planned};
+ghost use Rattle.src_mem.specs.State.{State, Act, Setting, bytes_of, turn};
+ghost use Rattle.src_mem.specs.Primitives.{load_integer, load_pointer, store_integer, store_pointer, clear, copy, allocate, allocate_elements, enter, leave, called, get, put, exit};
 ghost use Rattle.src_mem.specs.Checks.{Used, HasBase, Call, conditions_of, holds, all_checked};
-ghost use Rattle.src_mem.specs.Uses.{read, write, copy_all};
-ghost use Rattle.src_mem.specs.Operations.{Located, decayed, kind_in, moved, subtracted, equated, compared, converted_pointer, member};
+ghost use Rattle.src_mem.specs.Uses.{read, write, copy_all, enter_with};
+ghost use Rattle.src_mem.specs.Operations.{Located, calculate, allocated_for, decayed, kind_in, moved, subtracted, equated, compared, converted_pointer, member};
 ghost use Rattle.src_mem.specs.Facts.{IsSoundMemory, IsHeld};
-ghost use Rattle.src_mem.specs.Laws.{AreWhole, KeepsWhole, GivesNext, IsNotWrong, IsScalar, IsScalarValue, IsOrder, HoldsPointersWhole, left_by};
+ghost use Rattle.src_mem.specs.Laws.{AreWhole, KeepsWhole, GivesNext, IsNotWrong, IsScalar, IsScalarValue, IsOrder, AreArguments, left_by};
 
 /// Equality of pointers (C99 6.5.9) is an equivalence.
 pub fn pointer_equality_is_an_equivalence()
@@ -82,10 +80,32 @@ pub fn pointer_operations_are_not_wrong()
 {}
 
 /// The decay of an array, and the copy of a struct or union, with their conditions before them, are wrong nowhere. An array that no
-/// condition is tried for is a variable's or a member's, which is at an object. A complete type has a cell for each byte, and holds
-/// pointers whole.
+/// condition is tried for is a variable's or a member's, which is at an object.
 pub fn decays_and_copies_are_not_wrong()
     ensures decay { (w : Setting) (depth : ℕ) (check : Bool) (node : NodeId) (array element : TypeId) (l : Located) (s : State) → ((l.kind ≡ Wild) ↔ (w.kind node ≡ Wild)) → IsFalse (is_function w.table array) → IsHeld w s.memory.objects depth l.kind array l.pointer → IsTrue check ⊎ ((l.kind ≢ Seq) × IsTrue (holds w s.memory (HasBase l.pointer))) → IsNotWrong (decayed w check node array element l s) }
-    ensures copying { (w : Setting) (depth : ℕ) (t : TypeId) (source_place : Place) (from_kind : Kind) (source : Pointer) (target_place : Place) (to_kind : Kind) (target : Pointer) (place : Place) (s : State) → IsFalse (holds_pointer w.table t) ⊎ (from_kind ≡ Wild) → IsFalse (is_function w.table t) → length (cells_of w.table t) ≡ size_of w.table t → IsHeld w s.memory.objects depth from_kind t source → IsHeld w s.memory.objects depth to_kind t target → IsNotWrong (copy_all w t source_place from_kind source target_place to_kind target place s) }
-    ensures copying_pointers { (w : Setting) (depth : ℕ) (t : TypeId) (source_place : Place) (from_kind : Kind) (source : Pointer) (target_place : Place) (to_kind : Kind) (target : Pointer) (place : Place) (s : State) → from_kind ≢ Wild → IsSoundMemory w s.memory → IsComplete w.table t → length (cells_of w.table t) ≡ size_of w.table t → HoldsPointersWhole w.table t → IsFalse (is_function w.table t) → IsHeld w s.memory.objects depth from_kind t source → IsHeld w s.memory.objects depth to_kind t target → IsNotWrong (copy_all w t source_place from_kind source target_place to_kind target place s) }
+    ensures copying { (w : Setting) (depth : ℕ) (t : TypeId) (source_place : Place) (from_kind : Kind) (source : Pointer) (target_place : Place) (to_kind : Kind) (target : Pointer) (place : Place) (s : State) → IsWellFormed w.table → IsComplete w.table t → IsSoundMemory w s.memory → IsHeld w s.memory.objects depth from_kind t source → IsHeld w s.memory.objects depth to_kind t target → IsNotWrong (copy_all w t source_place from_kind source target_place to_kind target place s) }
+{}
+
+/// The clearing of an object that has not ended is wrong nowhere, and neither is the allocation of a block, with or without
+/// the condition on what is made of it.
+pub fn clearing_and_allocation_are_not_wrong()
+    ensures clearing { (number : ℕ) (o : Object) (s : State) → slice_get s.memory.objects number ≡ Some o → IsTrue o.live → IsNotWrong (clear number s) }
+    ensures allocation { (w : Setting) (node : NodeId) (t : TypeId) (n : ℕ) (s : State) → IsNotWrong (allocate w node t n s) }
+    ensures elements { (w : Setting) (node : NodeId) (t : TypeId) (a b : ℕ) (s : State) → IsNotWrong (allocate_elements w node t a b s) }
+    ensures first_element { (w : Setting) (at : Place) (node : NodeId) (t : TypeId) (p : Pointer) (s : State) → IsNotWrong (allocated_for w at node t p s) }
+{}
+
+/// A call begins wrong nowhere, where its arguments are values of its parameters, and ends wrong nowhere.
+pub fn calls_and_returns_are_not_wrong()
+    ensures entry { (w : Setting) (depth f : ℕ) (variables : List Planned) (arguments : List Value) (s : State) → AreArguments w.table variables arguments → IsNotWrong (enter_with w depth f variables arguments s) }
+    ensures leaving { (w : Setting) (depth : ℕ) (variables : List Planned) (s : State) → IsNotWrong (leave w depth variables s) }
+{}
+
+/// Input, output, the end of a run, a turn and an operator on integers with its condition before it are wrong nowhere.
+pub fn input_output_and_integers_are_not_wrong()
+    ensures reading { (s : State) → IsNotWrong (get s) }
+    ensures writing { (z : ℤ) (s : State) → IsNotWrong (put z s) }
+    ensures ending { (z : ℤ) (s : State) → IsNotWrong (exit {A = Value} z s) }
+    ensures turning { (s : State) → IsNotWrong (turn s) }
+    ensures calculating { (w : Setting) (at : Place) (operator : Operator) (t : IntegerType) (x y : ℤ) (s : State) → IsNotWrong (calculate w at operator t x y s) }
 {}

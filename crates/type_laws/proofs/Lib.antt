@@ -1,4 +1,3 @@
-pub mod Cells
 pub mod Relations
 pub mod Refine
 pub mod Levels

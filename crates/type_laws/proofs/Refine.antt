@@ -16,7 +16,7 @@ use Rattle.c_types.specs.Equality.{Slot, nothing, integer, pointer_to, other, sa
 use Rattle.c_types.specs.Sound.{IsWellFormed}
 use Rattle.c_types.proofs.Lists.{contains_head, contains_tail}
 use Rattle.c_types.proofs.Shapes.{first_true, second_true}
-use Rattle.type_laws.proofs.Cells.{cells_are, length_cells}
+use Rattle.c_types.proofs.Cells.{cells_are, length_cells}
 use Rattle.type_laws.proofs.Relations.{alike_equiv, same_id}
 
 -- A wider relation makes fewer unions mixed. The cells under the wider one are the cells under the

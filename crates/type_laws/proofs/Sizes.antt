@@ -12,7 +12,7 @@ use Rattle.c_types.specs.Cells.{Cell, same_type, alike, cells_of_shape, cells_at
 use Rattle.c_types.specs.Equality.{makeup_of, same_makeup, made_alike, physically_equal, cells_of}
 use Rattle.c_types.specs.Widths.{cell_width, width_of}
 use Rattle.c_types.specs.Sound.{IsWellFormed}
-use Rattle.type_laws.proofs.Cells.{cells_are, length_cells}
+use Rattle.c_types.proofs.Cells.{cells_are, length_cells}
 use Rattle.type_laws.proofs.Relations.{same_id}
 use Rattle.type_laws.proofs.Levels.{still}
 

@@ -1,5 +1,5 @@
 use Rattle.c_types.specs.Equality.{physically_equal}
-use Rattle.type_laws.proofs.Cells.{length_cells}
+use Rattle.c_types.proofs.Cells.{length_cells}
 use Rattle.type_laws.proofs.Sizes.{equal_counts, equal_sizes}
 use Rattle.type_laws.proofs.equal_types_have_equal_sizes.Goals as goal
 

@@ -7,7 +7,7 @@ use Rattle.cc_base.specs.declared.number.TypeId.{TypeId}
 use Rattle.c_types.specs.declared.shape.TypeShape.TheVariants as shape
 use Rattle.c_types.specs.declared.site.Site.{Site}
 use Rattle.c_types.specs.declared.site.Site.TheVariants.{Pointee, Home}
-use Rattle.c_types.specs.Table.{Table, Entry, void_entry}
+use Rattle.c_types.specs.Table.{Table, void_entry}
 use Rattle.src_mem.specs.Memory.{Planned}
 use Rattle.cil_form.specs.declared.number.Object.{Object}
 use Rattle.cil_form.specs.declared.number.Object.TheVariants as object
@@ -16,7 +16,8 @@ use Rattle.cil_form.specs.declared.program.Program.{Program}
 use Rattle.cil_form.specs.Machine.{plan, variables_of}
 use Rattle.cil_form.specs.Typing.{IsObject}
 use Rattle.cil_form.specs.Shape.{context_of, context_in}
-use Rattle.cil_form.specs.Sites.{Shows, TellsOf, sites_of_shape, sites_of_objects, sites_of_code, sites_in}
+use Rattle.c_types.specs.Solutions.{sites_of_shape, sites_of_table}
+use Rattle.cil_form.specs.Sites.{Shows, TellsOf, sites_of_objects, sites_of_code, sites_in}
 
 here : {X : Type 0} (x : X) (xs : List X) → Contains (x ∷ xs) x
 here x xs = (0, omega arith, refl)
@@ -45,16 +46,16 @@ home-there (o ∷ os) zero home t e =
 home-there (o ∷ os) (suc n) home t e = there (Home o.node o.type) (sites_of_objects os) (Home home t) (home-there os n home t e)
 
 pointer-there : (table : Table) (n : ℕ) (node : NodeId) (u : TypeId) → (slice_index_or table n void_entry).shape ≡ shape.Pointer node u
-    → Contains (flat_map (λ (e : Entry). sites_of_shape e.shape) table) (Pointee node u)
+    → Contains (sites_of_table table) (Pointee node u)
 pointer-there [] n node u e = absurd (cc (e))
-pointer-there (x ∷ xs) zero node u e = Contains-append_left (sites_of_shape x.shape) (flat_map (λ (e : Entry). sites_of_shape e.shape) xs) (Pointee node u)
+pointer-there (x ∷ xs) zero node u e = Contains-append_left (sites_of_shape x.shape) (sites_of_table xs) (Pointee node u)
     (subst (λ s. Contains (sites_of_shape s) (Pointee node u)) (sym e) (here (Pointee node u) []))
-pointer-there (x ∷ xs) (suc n) node u e = Contains-append_right (sites_of_shape x.shape) (flat_map (λ (e : Entry). sites_of_shape e.shape) xs) (Pointee node u) (pointer-there xs n node u e)
+pointer-there (x ∷ xs) (suc n) node u e = Contains-append_right (sites_of_shape x.shape) (sites_of_table xs) (Pointee node u) (pointer-there xs n node u e)
 
 -- The parts of a program's sites, in order
 
 abbrev types_of : Program → List Site
-types_of p = flat_map (λ (e : Entry). sites_of_shape e.shape) p.types
+types_of p = sites_of_table p.types
 
 abbrev statics_of : Program → List Site
 statics_of p = sites_of_objects (map (λ s. plan s.planned) p.statics)

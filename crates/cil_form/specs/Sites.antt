@@ -6,12 +6,11 @@ use Rattle.cc_base.specs.declared.kind.Kind.{Kind}
 use Rattle.cc_base.specs.declared.number.NodeId.{NodeId}
 use Rattle.cc_base.specs.declared.number.TypeId.{TypeId}
 use Rattle.cc_base.specs.declared.place.Place.{Place}
-use Rattle.c_types.specs.declared.shape.TypeShape.{TypeShape}
 use Rattle.c_types.specs.declared.shape.TypeShape.TheVariants as shape
 use Rattle.c_types.specs.declared.site.Site.{Site}
 use Rattle.c_types.specs.declared.site.Site.TheVariants.{Flow, Arith, Integer, Linked, Pointee, Home}
 use Rattle.c_types.specs.Table.{Table, shape_at}
-use Rattle.c_types.specs.Solutions.{IsSolution}
+use Rattle.c_types.specs.Solutions.{IsSolution, sites_of_table}
 use Rattle.src_mem.specs.Memory.{Planned}
 use Rattle.cil_form.specs.declared.instr.Comparison.{Comparison}
 use Rattle.cil_form.specs.declared.instr.Comparison.TheVariants as comparison
@@ -28,16 +27,10 @@ use Rattle.cil_form.specs.declared.instr.Allocate.TheVariants as allocate
 use Rattle.cil_form.specs.declared.instr.Instr.{Instr, Row_of-Instr, end_of-Instr, more_of-Instr}
 use Rattle.cil_form.specs.declared.instr.Instr.TheVariants as instr
 use Rattle.cil_form.specs.declared.program.Program.{Program}
-use Rattle.src_mem.specs.Operations.{node_of_shape, pointee_of_shape}
+use Rattle.src_mem.specs.Operations.{node_at, pointee_at}
 use Rattle.cil_form.specs.declared.number.Object.{Object}
 use Rattle.cil_form.specs.Machine.{plan, variables_of}
 use Rattle.cil_form.specs.Typing.{HeldType, IntegerOf, PointerTo, Typing, Context, IsObject}
-
-abbrev pub node_at : Table → TypeId → NodeId
-node_at table t = node_of_shape (shape_at table t)
-
-abbrev pub pointee_at : Table → TypeId → TypeId
-pointee_at table t = pointee_of_shape (shape_at table t)
 
 -- two pointers of the types t and u that are put in order; `==` and `!=` ask nothing of them
 abbrev pub sites_of_comparison : Table → Comparison → TypeId → TypeId → Place → List Site
@@ -91,18 +84,13 @@ abbrev mutual
 abbrev pub sites_of_code : List Instr → Table → List Site
 sites_of_code code table = flat_map (λ i. sites_of i table) code
 
--- a pointer type of the table
-abbrev pub sites_of_shape : TypeShape → List Site
-sites_of_shape (shape.Pointer node to) = Pointee node to ∷ []
-sites_of_shape other = []
-
 abbrev pub sites_of_objects : List Planned → List Site
 sites_of_objects planned = map (λ o. Home o.node o.type) planned
 
 -- all sites of a program
 abbrev pub sites_in : Program → List Site
 sites_in p =
-    flat_map (λ e. sites_of_shape e.shape) p.types
+    sites_of_table p.types
     ++ sites_of_objects (map (λ s. plan s.planned) p.statics)
     ++ flat_map (λ f. sites_of_objects (variables_of f)) p.functions
     ++ sites_of_code p.initialisers.0.items p.types

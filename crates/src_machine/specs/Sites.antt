@@ -8,8 +8,9 @@ use Rattle.c_types.specs.declared.shape.TypeShape.{TypeShape}
 use Rattle.c_types.specs.declared.shape.TypeShape.TheVariants as shape
 use Rattle.c_types.specs.declared.site.Site.{Site}
 use Rattle.c_types.specs.declared.site.Site.TheVariants as site
-use Rattle.c_types.specs.Table.{Table, Entry, shape_at, is_function}
+use Rattle.c_types.specs.Table.{Table, shape_at, is_function}
 use Rattle.c_types.specs.Solutions as solutions
+use Rattle.c_types.specs.Solutions.{sites_of_table}
 use Rattle.c_tree.specs.declared.leaf.Identifier.{Identifier}
 use Rattle.c_tree.specs.declared.operator.AggregateKind.{AggregateKind}
 use Rattle.c_tree.specs.declared.operator.AggregateKind.TheVariants as aggregate
@@ -22,17 +23,10 @@ use Rattle.c_tree.specs.declared.typed_word.Home.TheVariants as home
 use Rattle.c_tree.specs.TypedTree as typed
 use Rattle.c_tree.specs.TypedTree.{TypedExpr, TypedPlace, TypedSpecifier, TypedDeclarator, TypedInitialiser, TypedItems, TypedTranslationUnit}
 use Rattle.c_tree.specs.TypedParts.{type_of, place_type, named_type, declared_type, pointer_side, address_node, home_of, name_of, statics_of, functions_of}
-use Rattle.src_mem.specs.Operations.{node_of_shape, pointee_of_shape}
+use Rattle.src_mem.specs.Operations.{node_at, pointee_at}
 use Rattle.src_machine.specs.World.{same_node}
 use Rattle.src_machine.specs.Machine.{variables_of}
 use Rattle.src_machine.specs.Pieces.{Piece, AnExpression, APlace, ASpecifier, ADeclarator, AnInitialiser, pieces_of_unit}
-
--- the node of a pointer type, and what it points to
-abbrev pub node_at : Table → TypeId → NodeId
-node_at table t = node_of_shape (shape_at table t)
-
-abbrev pub pointee_at : Table → TypeId → TypeId
-pointee_at table t = pointee_of_shape (shape_at table t)
 
 -- the node of the address of a place
 abbrev pub address_at : Table → TypedPlace → NodeId
@@ -137,15 +131,7 @@ sites_of_piece table (ASpecifier s) = sites_of_specifier s
 sites_of_piece table (ADeclarator d) = []
 sites_of_piece table (AnInitialiser d i) = copies_to table (object_node (home_of d)) i
 
--- Types and homes
-
--- each pointer type, those of address expressions among them
-abbrev pub sites_of_shape : TypeShape → List Site
-sites_of_shape (shape.Pointer node to) = site.Pointee node to ∷ []
-sites_of_shape other = []
-
-abbrev pub sites_of_table : Table → List Site
-sites_of_table table = flat_map (λ (e : Entry). sites_of_shape e.shape) table
+-- Homes
 
 -- the home of each static object, literal, named parameter and local variable
 abbrev pub sites_of_homes : TypedTranslationUnit → List Site
@@ -180,7 +166,7 @@ sites_of_declarators table [] = []
 sites_of_declarators table (d ∷ ds) =
     flat_map (λ e. if same_declared table d e then site.Same (declared_type d) (declared_type e) ∷ [] else []) ds ++ sites_of_declarators table ds
 
--- all sites of a unit with its table of types
+-- all sites of a unit with its table of types, in which each pointer type stands, also that of an address
 abbrev pub sites_of : TypedTranslationUnit → Table → List Site
 sites_of u table =
     sites_of_table table ++ sites_of_homes u ++ flat_map (sites_of_piece table) (pieces_of_unit u)

@@ -7,7 +7,7 @@ use Rattle.cc_base.specs.declared.number.TypeId.{TypeId}
 use Rattle.cc_base.specs.declared.kind.Kind.{Kind}
 use Rattle.c_types.specs.declared.shape.TypeShape.{TypeShape}
 use Rattle.c_types.specs.declared.shape.TypeShape.TheVariants as shape
-use Rattle.c_types.specs.Table.{shape_at}
+use Rattle.c_types.specs.Table.{Table, shape_at}
 use Rattle.c_types.specs.Layouts.{size_of, offset_of}
 use Rattle.c_types.specs.Flows.{flow_class}
 use Rattle.integers.specs.Arithmetic as integer
@@ -30,15 +30,21 @@ abbrev pub pointee_of_shape : TypeShape → TypeId
 pointee_of_shape (shape.Pointer node to) = to
 pointee_of_shape other = record { 0 = 0 }
 
+abbrev pub node_at : Table → TypeId → NodeId
+node_at table t = node_of_shape (shape_at table t)
+
+abbrev pub pointee_at : Table → TypeId → TypeId
+pointee_at table t = pointee_of_shape (shape_at table t)
+
 abbrev pub node_in : Setting → TypeId → NodeId
-node_in w t = node_of_shape (shape_at w.table t)
+node_in w t = node_at w.table t
 
 -- the kind of the pointers of a type
 abbrev pub kind_in : Setting → TypeId → Kind
 kind_in w t = w.kind (node_in w t)
 
 abbrev pub pointee : Setting → TypeId → TypeId
-pointee w t = pointee_of_shape (shape_at w.table t)
+pointee w t = pointee_at w.table t
 
 -- the size of a type, and of what its pointers point to
 abbrev pub size : Setting → TypeId → ℕ

@@ -1,5 +1,5 @@
-use crate::{IntegerType, Keyword, Punctuator, TokenKind, literal_bytes, tokens};
-use cc_base::{Fault, Rule};
+use crate::{IntegerType, Keyword, Punctuator, TokenKind, end_of, literal_bytes, tokens};
+use cc_base::{Fault, Place, Rule};
 use std::alloc::Global;
 use std::test::Fail;
 
@@ -268,5 +268,13 @@ fn the_largest_texts_are_cut(rt: HostRuntime) -> Result<(), Fail> {
     assert_eq!(rt; count_of(alloc, &string), Some(1));
     let many = repeated(alloc, b"", b"+ ", 500000, b"")?;
     assert_eq!(rt; count_of(alloc, &many), Some(500000));
+    Ok(())
+}
+
+#[test]
+fn a_text_ends_behind_its_last_byte(rt: HostRuntime) -> Result<(), Fail> {
+    assert_eq!(rt; end_of(b""), Place { line: 1, col: 1 });
+    assert_eq!(rt; end_of(b"int x"), Place { line: 1, col: 6 });
+    assert_eq!(rt; end_of(b"a\n+\n"), Place { line: 3, col: 1 });
     Ok(())
 }

@@ -4,7 +4,7 @@ ghost use Rattle.std.specs.Prelude.{◌≡◌, ◌<◌, IfOk, length};
 ghost use Rattle.flat_mem.specs.Memory.{newest_addresses};
 ghost use Rattle.flat_mem.specs.Placement.{IsWithinLimits};
 
-use crate::{Area, AreaList, Flat, Plan};
+use crate::{Area, AreaList, Flat, Plan, area_size};
 use std::alloc::{AllocError, Global};
 use std::process::Abort;
 use std::test::Fail;
@@ -183,5 +183,21 @@ fn blocks_lie_in_the_heap(rt: HostRuntime) -> Result<(), Fail> {
         ),
         None
     );
+    Ok(())
+}
+
+/// An area without tags.
+const fn typed(bytes: u64) -> Area {
+    Area {
+        tagged: false,
+        bytes,
+    }
+}
+
+#[test]
+fn an_area_has_a_first_word_and_whole_words(rt: HostRuntime) -> Result<(), Fail> {
+    assert_eq!(rt; area_size(typed(0)), 8);
+    assert_eq!(rt; area_size(typed(13)), 24);
+    assert_eq!(rt; area_size(typed(16)), 24);
     Ok(())
 }

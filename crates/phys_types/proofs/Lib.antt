@@ -17,3 +17,5 @@ pub mod Placing
 pub mod Classes
 pub mod Viewing
 pub mod LawLemmas
+pub mod NumberPairs
+pub mod FoundLemmas

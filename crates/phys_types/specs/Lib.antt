@@ -6,3 +6,4 @@ pub mod Rounds
 pub mod Orders
 pub mod Views
 pub mod Laws
+pub mod Found

@@ -5,6 +5,8 @@
 mod building;
 mod comparing;
 mod copying;
+mod found;
+mod held;
 mod laws;
 mod makeup;
 mod order;

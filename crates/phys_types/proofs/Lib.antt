@@ -19,3 +19,8 @@ pub mod Viewing
 pub mod LawLemmas
 pub mod NumberPairs
 pub mod FoundLemmas
+pub mod SpotPointers
+pub mod Reached
+pub mod Turns
+pub mod Columns
+pub mod AddLemmas

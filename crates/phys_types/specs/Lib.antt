@@ -7,3 +7,4 @@ pub mod Orders
 pub mod Views
 pub mod Laws
 pub mod Found
+pub mod Standing

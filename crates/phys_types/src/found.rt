@@ -27,6 +27,7 @@ impl Model for Found {
 }
 
 impl Found {
+    #[tactic(auto, using(crate::proofs::Columns::short_rows))]
     /// Nothing. Takes no memory.
     pub(crate) fn new(alloc: Global) -> Found
         ensures { result ≡ no_pairs }
@@ -46,7 +47,6 @@ impl Found {
         Ok(())
     }
 
-    #[tactic(auto, using(crate::proofs::NumberPairs::type_pairs_differ))]
     /// The pair of types number `i`, if there are as many.
     pub(crate) fn pointees(&self, i: usize) -> Option<(TypeId, TypeId)>
         ensures pair { result ≡ slice_get self.now.pointees i }
@@ -55,7 +55,6 @@ impl Found {
         self.pointees.as_slice().get(i).copied()
     }
 
-    #[tactic(auto, using(crate::proofs::NumberPairs::node_pairs_differ))]
     /// The pairs of nodes.
     pub(crate) fn into_nodes(self, alloc: Global) -> Result<Vec<(NodeId, NodeId)>, NoMemory>
         ensures pairs { IfOk result (λ pairs. pairs.items ≡ self.nodes) }

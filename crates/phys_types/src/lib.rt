@@ -2,6 +2,7 @@
 //! correspond (CCured, TOPLAS 2005).
 #![tactic(auto)]
 
+mod alike;
 mod building;
 mod comparing;
 mod copying;

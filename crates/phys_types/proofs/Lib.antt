@@ -24,3 +24,4 @@ pub mod Reached
 pub mod Turns
 pub mod Columns
 pub mod AddLemmas
+pub mod EachAlike

@@ -20,14 +20,14 @@ module _ {K : Type 0} (eq : K → K → Bool) where
       by true = ([], sym (append-nil ks))
       by false = (k ∷ [], refl)
 
-  insert_kept : (ks : List K) (k x : K) → Contains ks x → Contains (insert_key eq ks k) x
+  pub insert_kept : (ks : List K) (k x : K) → Contains ks x → Contains (insert_key eq ks k) x
   insert_kept ks k x c = by (list_any (eq k) ks)
     where
       by : (b : Bool) → Contains (if b then ks else ks ++ k ∷ []) x
       by true = c
       by false = Contains-append_left ks (k ∷ []) x c
 
-  insert_only : (ks : List K) (k x : K) → Contains (insert_key eq ks k) x → Contains ks x ⊎ (k ≡ x)
+  pub insert_only : (ks : List K) (k x : K) → Contains (insert_key eq ks k) x → Contains ks x ⊎ (k ≡ x)
   insert_only ks k x = by (list_any (eq k) ks)
     where
       by : (b : Bool) → Contains (if b then ks else ks ++ k ∷ []) x → Contains ks x ⊎ (k ≡ x)

@@ -25,3 +25,5 @@ pub mod Turns
 pub mod Columns
 pub mod AddLemmas
 pub mod EachAlike
+pub mod Crossed
+pub mod Queue

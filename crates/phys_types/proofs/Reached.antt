@@ -21,7 +21,7 @@ use Rattle.c_types.proofs.Lists.{contains_head}
 use Rattle.c_types.proofs.Shapes.{first_true, second_true}
 use Rattle.type_laws.proofs.Relations.{equal_equiv}
 use Rattle.type_laws.proofs.Pointers.{Mirrors, equal_mirrors, begins_mirrors}
-use Rattle.phys_types.specs.Standing.{IsAtSlot, PointAlike}
+use Rattle.phys_types.specs.Standing.{IsAtSlot, AreEqualTypes}
 use Rattle.phys_types.proofs.Agreeing.{PointsInto, EachInto, cells_into}
 use Rattle.phys_types.proofs.Classes.{types_closed, into_at, function_tag, function_tiles, tile_turned}
 use Rattle.phys_types.proofs.Makeups.{named_types}
@@ -174,13 +174,13 @@ module _ (table : Table) (w : IsWellFormed table) where
   -- ---- at every depth
 
   alike_typed : (t u : TypeId) → IsType table t → IsType table u → (p q : HeldPointer) (i j : ℕ) → pointer_at table t i ≡ Some p → pointer_at table u j ≡ Some q
-      → physically_equal table p.to q.to ≡ true → PointAlike table p q
+      → physically_equal table p.to q.to ≡ true → AreEqualTypes table p.to q.to
   alike_typed t u a b p q i j x y e = record { first = pointee_typed table w t i p a x; second = pointee_typed table w u j q b y; equal = e }
 
-  stand_typed : (t u : TypeId) → IsType table t → IsType table u → (p q : HeldPointer) → StandAlike table t u p q → physically_equal table p.to q.to ≡ true → PointAlike table p q
+  stand_typed : (t u : TypeId) → IsType table t → IsType table u → (p q : HeldPointer) → StandAlike table t u p q → physically_equal table p.to q.to ≡ true → AreEqualTypes table p.to q.to
   stand_typed t u a b p q (i, x, y) e = alike_typed t u a b p q i i x y e
 
-  tiles_typed : (t u : TypeId) → IsType table t → IsType table u → (p q : HeldPointer) → StandInTiles table t u p q → physically_equal table p.to q.to ≡ true → PointAlike table p q
+  tiles_typed : (t u : TypeId) → IsType table t → IsType table u → (p q : HeldPointer) → StandInTiles table t u p q → physically_equal table p.to q.to ≡ true → AreEqualTypes table p.to q.to
   tiles_typed t u a b p q (g, d, s) e = elim s [
     | inl h ↦ alike_typed t u a b p q h.0 h.1 h.3 h.4 e
     | inr k ↦ elim k [
@@ -189,7 +189,7 @@ module _ (table : Table) (w : IsWellFormed table) where
     ]
   ]
 
-  top_class : (t u : TypeId) → IsType table t → IsType table u → (c : FlowClass) → Tells t u c → (p q : HeldPointer) → CorrespondAtTop table c t u p q → PointAlike table p q
+  top_class : (t u : TypeId) → IsType table t → IsType table u → (c : FlowClass) → Tells t u c → (p q : HeldPointer) → CorrespondAtTop table c t u p q → AreEqualTypes table p.to q.to
   top_class t u a b Equal k p q h = stand_typed t u a b p q h (mirrored_equal t u (equal_mirrors table w t u k) p q h)
   top_class t u a b UpTile k p q h = tiles_typed t u a b p q h (tiles_equal t u a b k.1 p q h)
   top_class t u a b Up k p q h = stand_typed t u a b p q h (mirrored_equal t u (begins_mirrors table t u k) p q h)
@@ -198,11 +198,13 @@ module _ (table : Table) (w : IsWellFormed table) where
   top_class t u a b Tile k p q h = tiles_typed t u a b p q h (tiles_equal t u a b k.2 p q h)
   top_class t u a b Bad k p q h = absurd h
 
-  pub top_alike : (t u : TypeId) → IsType table t → IsType table u → (p q : HeldPointer) → CorrespondAtTop table (flow_class table t u) t u p q → PointAlike table p q
+  pub top_alike : (t u : TypeId) → IsType table t → IsType table u → (p q : HeldPointer) → CorrespondAtTop table (flow_class table t u) t u p q → AreEqualTypes table p.to q.to
   top_alike t u a b p q h = top_class t u a b (flow_class table t u) (class_tells t u) p q h
 
-  pub all_alike : (Top : HeldPointer → HeldPointer → Type 0) → ((p q : HeldPointer) → Top p q → PointAlike table p q) → (p q : HeldPointer) → Correspond table Top p q → PointAlike table p q
+  -- pointers at the same places of equal types point to equal types
+  pub equal_inside : (t u : TypeId) → AreEqualTypes table t u → (p q : HeldPointer) → StandAlike table t u p q → AreEqualTypes table p.to q.to
+  equal_inside t u e p q h = stand_typed t u e.first e.second p q h (mirrored_equal t u (equal_mirrors table w t u e.equal) p q h)
+
+  pub all_alike : (Top : HeldPointer → HeldPointer → Type 0) → ((p q : HeldPointer) → Top p q → AreEqualTypes table p.to q.to) → (p q : HeldPointer) → Correspond table Top p q → AreEqualTypes table p.to q.to
   all_alike Top f p q (top a b h) = f p q h
-  all_alike Top f p q (inside a b c d h k) =
-      let r = all_alike Top f a b h in
-      stand_typed a.to b.to r.first r.second p q k (mirrored_equal a.to b.to (equal_mirrors table w a.to b.to r.equal) p q k)
+  all_alike Top f p q (inside a b c d h k) = equal_inside a.to b.to (all_alike Top f a b h) p q k

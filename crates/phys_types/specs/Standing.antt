@@ -3,7 +3,7 @@ use Rattle.std.specs.List.{Contains}
 use Rattle.cc_base.specs.declared.number.TypeId.{TypeId}
 use Rattle.c_types.specs.Table.{Table, IsType, shape_at}
 use Rattle.c_types.specs.Equality.{physically_equal}
-use Rattle.c_types.specs.Flows.{HeldPointer, and_then, pointer_of_shape}
+use Rattle.c_types.specs.Flows.{HeldPointer, and_then, pointer_of_shape, CorrespondByPlace}
 use Rattle.phys_types.specs.declared.held.Held.{Held}
 use Rattle.phys_types.specs.declared.spot.Item.{Item}
 use Rattle.phys_types.specs.declared.spot.Item.TheVariants.{Pointer, Mixed, Incomplete}
@@ -57,12 +57,20 @@ StandInColumns k xs ys n p q = (c : ℕ) × (c < n) × StandInColumn k xs ys c p
 abbrev pub IsHeld : List Held → HeldPointer → Type 0
 IsHeld ps p = (h : Held) × Contains ps h × (held h ≡ p)
 
+-- r is the pointer p, and s is one of the pointers
+abbrev pub IsWith : HeldPointer → List Held → HeldPointer → HeldPointer → Type 0
+IsWith p qs r s = (r ≡ p) × IsHeld qs s
+
 -- p is one of the first pointers, q one of the others
 abbrev pub AreHeld : List Held → List Held → HeldPointer → HeldPointer → Type 0
 AreHeld ps qs p q = IsHeld ps p × IsHeld qs q
 
--- p and q point to types of the table, which are physically equal
-pub record PointAlike (table : Table) (p q : HeldPointer) : Type 0 where
-  pub first : IsType table p.to
-  pub second : IsType table q.to
-  pub equal : IsTrue (physically_equal table p.to q.to)
+-- t and u are physically equal types of the table
+pub record AreEqualTypes (table : Table) (t u : TypeId) : Type 0 where
+  pub first : IsType table t
+  pub second : IsType table u
+  pub equal : IsTrue (physically_equal table t u)
+
+-- p and q correspond by place in two of the types
+abbrev pub CorrespondInSome : Table → List (TypeId × TypeId) → HeldPointer → HeldPointer → Type 0
+CorrespondInSome table pairs p q = (t u : TypeId) × Contains pairs (t, u) × CorrespondByPlace table t u p q

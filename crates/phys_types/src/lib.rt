@@ -6,6 +6,8 @@ mod alike;
 mod building;
 mod comparing;
 mod copying;
+mod crossing;
+mod following;
 mod found;
 mod held;
 mod laws;
@@ -17,6 +19,7 @@ mod spot;
 #[cfg(test)]
 mod tests;
 mod tiling;
+mod top;
 
 pub use c_types::FlowClass;
 pub use laws::{

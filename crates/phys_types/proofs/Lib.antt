@@ -27,3 +27,4 @@ pub mod AddLemmas
 pub mod EachAlike
 pub mod Crossed
 pub mod Queue
+pub mod Tops

@@ -107,6 +107,7 @@ column_more k c ss i d x old new n l e f s = record {
     ],
   );
 }
+
 pub column_done : (k c : ℕ) (ss : List Spot) (i : ℕ) (pointers : List Held) → length ss ≤ i → ColumnSoFar k c ss i pointers → (p : HeldPointer) → IsHeld pointers p ↔ IsInColumn k c ss p
 column_done k c ss i pointers l s p = (
   λ h. (let r = (s.told p).0 h in (r.0, r.2, r.3)),

@@ -8,7 +8,8 @@ use Rattle.indexmap.proofs.CallerLemmas.{Contains-insert_key}
 use Rattle.cc_base.specs.declared.number.TypeId.{TypeId}
 use Rattle.cc_base.specs.declared.number.NodeId.{NodeId}
 use Rattle.c_types.specs.Flows.{HeldPointer}
-use Rattle.phys_types.specs.Found.{Pairs, Has, HaveNodes, HavePointees, Gains, AreThese}
+use Rattle.phys_types.specs.Pairs.{HaveNodes}
+use Rattle.phys_types.specs.Found.{Pairs, Has, HavePointees, Gains, AreThese}
 
 -- Pairs that are found one after another.
 

@@ -28,3 +28,4 @@ pub mod EachAlike
 pub mod Crossed
 pub mod Queue
 pub mod Tops
+pub mod AllPairsFound

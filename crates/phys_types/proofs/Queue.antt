@@ -15,7 +15,8 @@ use Rattle.cc_base.specs.declared.number.NodeId.{NodeId}
 use Rattle.c_types.specs.Table.{Table, IsType}
 use Rattle.c_types.specs.Flows.{HeldPointer, StandAlike, Correspond, top, inside, CorrespondByPlace}
 use Rattle.c_types.specs.Sound.{IsWellFormed}
-use Rattle.phys_types.specs.Found.{Pairs, Has, HaveNodes, HavePointees, Gains}
+use Rattle.phys_types.specs.Pairs.{HaveNodes}
+use Rattle.phys_types.specs.Found.{Pairs, Has, HavePointees, Gains}
 use Rattle.phys_types.specs.Standing.{AreEqualTypes, CorrespondInSome}
 use Rattle.phys_types.proofs.FoundLemmas.{gains_more}
 use Rattle.phys_types.proofs.Reached.{equal_inside, all_alike}

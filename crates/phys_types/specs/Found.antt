@@ -4,6 +4,7 @@ use Rattle.cc_base.specs.declared.number.TypeId.{TypeId}
 use Rattle.cc_base.specs.declared.number.NodeId.{NodeId}
 use Rattle.c_types.specs.Flows.{HeldPointer}
 use Rattle.phys_types.specs.declared.held.Held.{Held}
+use Rattle.phys_types.specs.Pairs.{HaveNodes}
 
 -- Pairs of pointers that are found one after another.
 
@@ -23,14 +24,6 @@ no_pairs = record { nodes = []; pointees = [] }
 pub record Has (pairs : Pairs) (p q : HeldPointer) : Type 0 where
   pub nodes : Contains pairs.nodes (p.node, q.node)
   pub pointees : Contains pairs.pointees (p.to, q.to)
-
--- two pointers of R with these nodes
-pub record HaveNodes (R : HeldPointer → HeldPointer → Type 0) (a b : NodeId) : Type 0 where
-  pub p : HeldPointer
-  pub q : HeldPointer
-  pub related : R p q
-  pub first : p.node ≡ a
-  pub second : q.node ≡ b
 
 -- two pointers of R that point to these types
 pub record HavePointees (R : HeldPointer → HeldPointer → Type 0) (t u : TypeId) : Type 0 where

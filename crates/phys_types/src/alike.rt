@@ -61,12 +61,7 @@ pub(crate) fn add_spots(found: &mut Found, xs: &[Spot], ys: &[Spot]) -> Result<(
 }
 
 /// Adds the pointers that have the same number among two lists of types.
-fn add_slots(
-    types: &Types,
-    found: &mut Found,
-    ts: &[TypeId],
-    us: &[TypeId],
-) -> Result<(), NoMemory>
+fn add_slots(types: &Types, found: &mut Found, ts: &[TypeId], us: &[TypeId]) -> Result<(), NoMemory>
     requires first { All (IsType types.now) ts.now }
     requires second { All (IsType types.now) us.now }
     ensures { OnOk result (Gains (StandInTurn (IsAtSlot types.now ts.now) (IsAtSlot types.now us.now)) found.old found.new) }

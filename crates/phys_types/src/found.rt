@@ -27,7 +27,6 @@ impl Model for Found {
 }
 
 impl Found {
-    #[tactic(auto, using(crate::proofs::Queue::few_pairs))]
     /// Nothing. Takes no memory.
     pub(crate) fn new(alloc: Global) -> Found
         ensures { result ≡ no_pairs }

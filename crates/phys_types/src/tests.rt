@@ -332,14 +332,7 @@ fn pointers_at_every_depth(rt: HostRuntime) -> Result<(), TypeFault> {
     expect_pairs(rt, alloc, t, first, second, &[(4, 5), (0, 1), (2, 3)]);
     let lists = structure(rt, alloc, t, 2, &[first, tail]);
     let others = structure(rt, alloc, t, 3, &[second, rest]);
-    expect_pairs(
-        rt,
-        alloc,
-        t,
-        lists,
-        others,
-        &[(4, 5), (2, 3), (0, 1)],
-    );
+    expect_pairs(rt, alloc, t, lists, others, &[(4, 5), (2, 3), (0, 1)]);
     Ok(())
 }
 
@@ -513,6 +506,72 @@ fn large_structs(rt: HostRuntime) -> Result<(), TypeFault> {
     expect(rt, alloc, t, first, second, FlowClass::Equal);
     expect(rt, alloc, t, first, third, FlowClass::UpTile);
     expect(rt, alloc, t, third, second, FlowClass::DownTile);
+    Ok(())
+}
+
+/// Pointers to `char`, with as many nodes from `first` on.
+fn pointers(
+    rt: &impl Abort,
+    alloc: Global,
+    types: &mut Types,
+    first: u32,
+    count: u32,
+) -> Vec<TypeId> {
+    let mut list = Vec::new(alloc);
+    for i in 0..count {
+        let member = pointer(rt, types, first.saturating_add(i), CHAR);
+        list.push(member).ok().expect(rt, "memory");
+    }
+    list
+}
+
+/// How many pairs of nodes there are in a flow.
+fn count_pairs(rt: &impl Abort, alloc: Global, types: &Types, from: TypeId, to: TypeId) -> usize {
+    assert!(rt; from.0 < types.count() && to.0 < types.count());
+    let mut phys = Phys::new(alloc);
+    let pairs = phys.pairs(types, from, to).expect(rt, "memory");
+    pairs.len()
+}
+
+/// The corresponding pointers of structs of a thousand members, each with a node of its own.
+#[test]
+fn pointers_of_large_structs(rt: HostRuntime) -> Result<(), TypeFault> {
+    let rt = &rt;
+    let alloc = rt.alloc();
+    let mut types = Types::new(alloc)?;
+    let t = &mut types;
+    let texts = pointers(rt, alloc, t, 0, 1000);
+    let words = pointers(rt, alloc, t, 1000, 1000);
+    let first = structure(rt, alloc, t, 0, &texts);
+    let second = structure(rt, alloc, t, 1, &words);
+    let three = array(rt, t, first, 3);
+    assert_eq!(rt; count_pairs(rt, alloc, t, first, second), 1000);
+    assert_eq!(rt; count_pairs(rt, alloc, t, three, second), 3000);
+    assert_eq!(rt; count_pairs(rt, alloc, t, first, three), 1000);
+    Ok(())
+}
+
+/// The corresponding pointers of arrays of a million bytes.
+#[test]
+fn pointers_of_large_arrays(rt: HostRuntime) -> Result<(), TypeFault> {
+    let rt = &rt;
+    let alloc = rt.alloc();
+    let mut types = Types::new(alloc)?;
+    let t = &mut types;
+    let text = pointer(rt, t, 0, CHAR);
+    let word = pointer(rt, t, 1, CHAR);
+    let pair = structure(rt, alloc, t, 0, &[INT, text]);
+    let other = structure(rt, alloc, t, 1, &[INT, word]);
+    let bytes = array(rt, t, CHAR, million(1));
+    let pairs = array(rt, t, pair, million(1) / 16);
+    let others = array(rt, t, other, million(1) / 16);
+    let half = array(rt, t, other, million(1) / 32);
+    let texts = array(rt, t, text, million(1) / 8);
+    expect_pairs(rt, alloc, t, bytes, CHAR, &[]);
+    expect_pairs(rt, alloc, t, pairs, others, &[(0, 1)]);
+    expect_pairs(rt, alloc, t, pairs, other, &[(0, 1), (0, 0), (1, 1)]);
+    expect_pairs(rt, alloc, t, pairs, half, &[(0, 1), (0, 0), (1, 1)]);
+    expect_pairs(rt, alloc, t, texts, word, &[(0, 1), (0, 0), (1, 1)]);
     Ok(())
 }
 

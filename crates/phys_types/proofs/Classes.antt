@@ -58,7 +58,7 @@ passes_range p a (suc n) h =
     more : (a i : ℕ) → a + 1 + i ≡ a + suc i
     more a i = omega arith
 
-into_at : (S : TypeId → Type 0) (xs : List Cell) (i : ℕ) → EachInto S xs → PointsInto S (get_or xs i raw)
+pub into_at : (S : TypeId → Type 0) (xs : List Cell) (i : ℕ) → EachInto S xs → PointsInto S (get_or xs i raw)
 into_at S [] i h = tt
 into_at S (x ∷ xs) zero h = h.0
 into_at S (x ∷ xs) (suc i) h = into_at S xs i h.1
@@ -251,7 +251,7 @@ module _ (table : Table) where
       turn : (a b : ℕ) → a * b ≡ b * a
       turn a b = omega arith
 
-  function_tag : (s : TypeShape) → is_function_shape s ≡ true → (ps : List TypeId) × (r : TypeId) × (s ≡ Function ps r)
+  pub function_tag : (s : TypeShape) → is_function_shape s ≡ true → (ps : List TypeId) × (r : TypeId) × (s ≡ Function ps r)
   function_tag (Function ps r) h = (ps, r, refl)
   function_tag Void h = absurd (true≢false (sym h))
   function_tag (Integer b s) h = absurd (true≢false (sym h))

@@ -40,7 +40,7 @@ module _ (table : Table) (kind : NodeId → Kind) (t u : TypeId) (p q : HeldPoin
   pointees : HaveEqualKinds kind (CorrespondByPlace table t u) → IsTrue (physically_equal table p.to q.to) → (kind p.node ≡ kind q.node) × IsOfOneClass table kind p.to q.to
   pointees h e = (h p q (top p q (i, a, b)), record { equal = e; kinds = λ r s c. h r s (deeper r s c) })
 
-opened : (table : Table) (t u : TypeId) → Mirrors table t u → (i : ℕ) (q : HeldPointer) → pointer_at table u i ≡ Some q
+pub opened : (table : Table) (t u : TypeId) → Mirrors table t u → (i : ℕ) (q : HeldPointer) → pointer_at table u i ≡ Some q
     → (p : HeldPointer) × (pointer_at table t i ≡ Some p) × (physically_equal table p.to q.to ≡ true)
 unfolding Mirrors
 opened table t u m = m
@@ -68,7 +68,7 @@ made_cells table u v (Function ps a) r x y f h = absurd (true≢false f)
 made_cells table u v s (Function qs b) x y f h = absurd (true≢false (sym h))
 made_cells table u v s r x y f h = (refl, h)
 
-equal_cells : (table : Table) → IsWellFormed table → (u v : TypeId) → is_function table u ≡ false → physically_equal table u v ≡ true
+pub equal_cells : (table : Table) → IsWellFormed table → (u v : TypeId) → is_function table u ≡ false → physically_equal table u v ≡ true
     → (is_function table v ≡ false) × (all_alike (physically_equal table) (cells_of table u) (cells_of table v) ≡ true)
 equal_cells table w u v f h = by (nat_lt u.0 (length table)) (nat_lt v.0 (length table)) (sym (ap (λ E. E u v) (still table w)) ∙ h)
   where
@@ -88,7 +88,7 @@ not_true : (b : Bool) → not b ≡ true → b ≡ false
 not_true true h = absurd (true≢false (sym h))
 not_true false h = refl
 
-begins_equal : (table : Table) → IsWellFormed table → (t u v : TypeId) → begins_with table t u ≡ true → physically_equal table u v ≡ true → begins_with table t v ≡ true
+pub begins_equal : (table : Table) → IsWellFormed table → (t u v : TypeId) → begins_with table t u ≡ true → physically_equal table u v ≡ true → begins_with table t v ≡ true
 begins_equal table w t u v h e =
     let rest = second_true (not (is_function table t)) _ h in
     let f = not_true (is_function table u) (first_true (not (is_function table u)) _ rest) in
@@ -116,7 +116,7 @@ module _ (table : Table) (w : IsWellFormed table) where
   ids : List TypeId
   ids = map (λ (k : ℕ). record { 0 = k }) (range_with_len 0 (length table))
 
-  number : TypeId → ℕ
+  pub number : TypeId → ℕ
   number t = first_place (λ x. physically_equal table x t) (map (λ (k : ℕ). record { 0 = k }) (range_with_len 0 (length table)))
 
   in_ids : (t : TypeId) → IsType table t → Contains (map (λ (k : ℕ). record { 0 = k }) (range_with_len 0 (length table))) t
@@ -126,7 +126,7 @@ module _ (table : Table) (w : IsWellFormed table) where
     get_or-map-range_with_len (λ (k : ℕ). record { 0 = k }) 0 (length table) t.0 t.0 t h (omega arith),
   )
 
-  numbered : (t u : TypeId) → IsType table t → IsType table u → same_number number t u ≡ physically_equal table t u
+  pub numbered : (t u : TypeId) → IsType table t → IsType table u → same_number number t u ≡ physically_equal table t u
   unfolding number
   numbered t u a b = place_tells (physically_equal table) (equal_equiv table) (map (λ (k : ℕ). record { 0 = k }) (range_with_len 0 (length table))) t u (in_ids t a) (in_ids u b)
 

@@ -17,3 +17,15 @@ pub mod Placing
 pub mod Classes
 pub mod Viewing
 pub mod LawLemmas
+pub mod NumberPairs
+pub mod FoundLemmas
+pub mod SpotPointers
+pub mod Reached
+pub mod Turns
+pub mod Columns
+pub mod AddLemmas
+pub mod EachAlike
+pub mod Crossed
+pub mod Queue
+pub mod Tops
+pub mod AllPairsFound

@@ -22,7 +22,7 @@ use Rattle.phys_types.proofs.Periods.{Repeats, repeats_is, is_repeated}
 
 -- Cells are their first ones again and again where the spots are.
 
-item_positive : (size : TypeId → ℕ) (x : Item) → HasSize size x → 0 < item_size x
+pub item_positive : (size : TypeId → ℕ) (x : Item) → HasSize size x → 0 < item_size x
 item_positive size (Pointer node to) h = omega arith
 item_positive size (Mixed t n) h = h.1
 item_positive size (Incomplete t) h = omega arith
@@ -41,7 +41,7 @@ all_fronts E [] (y ∷ ys) h = absurd (true≢false (sym h))
 all_fronts E (x ∷ xs) (y ∷ ys) h = both_true (alike E x y) _ (first_true (alike E x y) _ h) (all_fronts E xs ys (second_true (alike E x y) _ h))
 
 module _ (number size : TypeId → ℕ) where
-  begin_from_same : (n : ℕ) (ss rs : List Spot) → same_spots number ss rs ≡ true → begin_with_spots number n ss rs ≡ true
+  pub begin_from_same : (n : ℕ) (ss rs : List Spot) → same_spots number ss rs ≡ true → begin_with_spots number n ss rs ≡ true
   begin_from_same n [] [] h = refl
   begin_from_same n [] (r ∷ rs) h = absurd (true≢false (sym h))
   begin_from_same n (s ∷ ss) [] h = absurd (true≢false (sym h))

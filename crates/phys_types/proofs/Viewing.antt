@@ -1,5 +1,6 @@
 use Rattle.std.proofs.Common.{◌≡◌, ℕ, ◌<◌, Bool, true, false, ◌&&◌, ◌||◌, if◌then◌else◌, nat_lt, List, length, get_or, refl, ap, sym, subst, ◌∙◌, true≢false, arith}
 use Rattle.std.specs.List.{Contains}
+use Rattle.std.proofs.lemmas.List.{get_or_default}
 use Rattle.std.proofs.lemmas.List.Elements.{All-contains}
 use Rattle.cc_base.specs.declared.number.TypeId.{TypeId}
 use Rattle.std.specs.Int.{IsGcd}
@@ -13,7 +14,7 @@ use Rattle.phys_types.specs.declared.spot.Layout.{Layout}
 use Rattle.phys_types.specs.Numbers.{number_in, same_number, repeat_spots}
 use Rattle.phys_types.specs.Orders.{IsWholeOrder}
 use Rattle.phys_types.specs.Reach.{IsClosed}
-use Rattle.phys_types.specs.Rounds.{AreSettled}
+use Rattle.phys_types.specs.Rounds.{AreSettled, AreAllKept}
 use Rattle.phys_types.specs.Shown.{IsLayoutOf, IsKept, begins_spots}
 use Rattle.phys_types.specs.Views.{IsPair}
 use Rattle.phys_types.proofs.Makeups.{not_equal}
@@ -41,12 +42,18 @@ module _ (table : Table) (order : List TypeId) (places : List ℕ) (o : IsWholeO
     pub kept_in : (t : TypeId) → IsType table t → IsKept places layouts t
     kept_in t h = let p = place_of t h in let f = o.right.fits in let a = s.all in (omega arith, let e = p.3 in let l = p.1 in omega arith)
 
-    layout_in : (t : TypeId) (x : Layout) → IsType table t → ((d : Layout) → x ≡ get_or layouts (get_or places t.0 0) d) → IsLayoutOf table (physically_equal table) t x
+    pub layout_in : (t : TypeId) (x : Layout) → IsType table t → ((d : Layout) → x ≡ get_or layouts (get_or places t.0 0) d) → IsLayoutOf table (physically_equal table) t x
     layout_in t x h r =
         let p = place_of t h in
         subst (IsLayoutOf table (physically_equal table) t) (sym (r x ∙ ap (λ n. get_or layouts n x) p.3))
         (subst (λ u. IsLayoutOf table (physically_equal table) u (get_or layouts p.0 x)) p.2
         (s.shown (physically_equal table) (λ a b c d. refl) p.0 t x (let a = s.all in let l = p.1 in omega arith)))
+
+    pub all_kept : AreAllKept table places layouts
+    all_kept = record { kept = kept_in; shown = λ t d h. layout_in t (get_or layouts (get_or places t.0 0) d) h (λ e. same t d e h) }
+      where
+        same : (t : TypeId) (d e : Layout) → IsType table t → get_or layouts (get_or places t.0 0) d ≡ get_or layouts (get_or places t.0 0) e
+        same t d e h = get_or_default layouts (get_or places t.0 0) d e (kept_in t h).1
 
     pub pair_in : (t u : TypeId) (x y : Layout) → IsType table t → IsType table u → ((d : Layout) → x ≡ get_or layouts (get_or places t.0 0) d)
         → ((d : Layout) → y ≡ get_or layouts (get_or places u.0 0) d) → IsPair table (number_in numbers) t x u y

@@ -6,3 +6,6 @@ pub mod Rounds
 pub mod Orders
 pub mod Views
 pub mod Laws
+pub mod Pairs
+pub mod Found
+pub mod Standing

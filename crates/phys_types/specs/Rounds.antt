@@ -6,7 +6,7 @@ use Rattle.c_types.specs.Cells.{Relation}
 use Rattle.c_types.specs.Equality.{made_alike, physically_equal}
 use Rattle.phys_types.specs.declared.spot.Layout.{Layout}
 use Rattle.phys_types.specs.Numbers.{number_in, same_number}
-use Rattle.phys_types.specs.Shown.{IsLayoutOf}
+use Rattle.phys_types.specs.Shown.{IsLayoutOf, IsKept}
 
 -- Rounds of numbers: types have one number where they are made alike under the numbers before.
 
@@ -40,3 +40,8 @@ pub record AreSettled (table : Table) (order : List TypeId) (numbers : List ℕ)
   pub equal : (t u : TypeId) → Contains order t → Contains order u → same_number (number_in numbers) t u ≡ physically_equal table t u
   pub all : length layouts ≡ length order
   pub shown : (E : Relation) → ((t u : TypeId) → Contains order t → Contains order u → E t u ≡ physically_equal table t u) → AreShown table E order layouts
+
+-- the layouts of all types are kept
+pub record AreAllKept (table : Table) (places : List ℕ) (layouts : List Layout) : Type 0 where
+  pub kept : (t : TypeId) → IsType table t → IsKept places layouts t
+  pub shown : (t : TypeId) (d : Layout) → IsType table t → IsLayoutOf table (physically_equal table) t (slice_index_or layouts (slice_index_or places t.0 0) d)

@@ -2,9 +2,14 @@
 //! correspond (CCured, TOPLAS 2005).
 #![tactic(auto)]
 
+mod alike;
 mod building;
 mod comparing;
 mod copying;
+mod crossing;
+mod following;
+mod found;
+mod held;
 mod laws;
 mod makeup;
 mod order;
@@ -14,6 +19,7 @@ mod spot;
 #[cfg(test)]
 mod tests;
 mod tiling;
+mod top;
 
 pub use c_types::FlowClass;
 pub use laws::{

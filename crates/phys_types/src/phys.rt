@@ -1,25 +1,32 @@
 #![tactic(auto)]
 
-ghost use Rattle.std.specs.Prelude.{ℕ, ◌≡◌, ◌≤◌, ◌<◌, ◌||◌, if◌then◌else◌, IfOk};
+ghost use Rattle.std.specs.Prelude.{ℕ, ◌≡◌, ◌≢◌, ◌≤◌, ◌<◌, ◌||◌, if◌then◌else◌, IfOk};
+ghost use Rattle.std.specs.List.{AllPairs};
 ghost use Rattle.cc_base.specs.declared.number.TypeId.{TypeId};
+ghost use Rattle.cc_base.specs.declared.number.NodeId.{NodeId};
+ghost use Rattle.cc_base.specs.declared.kind.Kind.{Kind};
 ghost use Rattle.c_types.specs.declared.flow_class.FlowClass.TheVariants.{UpTile, Up, DownTile, Down};
 ghost use Rattle.c_types.specs.Table.{IsType, is_function};
 ghost use Rattle.c_types.specs.Equality.{tile, begins_with};
 ghost use Rattle.c_types.specs.Flows.{flow_class};
 ghost use Rattle.c_types.specs.Sound.{IsWellFormed};
 ghost use Rattle.phys_types.specs.Numbers.{number_in, same_number};
+ghost use Rattle.phys_types.specs.Pairs.{AreCorrespondingNodes, TellsEqualKinds};
 ghost use Rattle.phys_types.specs.Orders.{IsWholeOrder};
 ghost use Rattle.phys_types.specs.Rounds.{AreSettled};
 ghost use Rattle.phys_types.specs.Views.{IsPair};
 
 use crate::building::kept;
 use crate::comparing::{begins, number_of};
+use crate::following::follow;
+use crate::found::Found;
 use crate::order::in_order;
 use crate::round::settle;
 use crate::spot::Layout;
 use crate::tiling::tiles;
+use crate::top::add_top;
 use c_types::{FlowClass, TypeShape, Types};
-use cc_base::{NoMemory, TypeId};
+use cc_base::{NoMemory, NodeId, TypeId};
 use std::alloc::Global;
 
 /// Answers questions on how the layouts of two types lie to each other (CCured, TOPLAS 2005).
@@ -56,6 +63,68 @@ impl Phys {
             to,
         )
     }
+
+    /// The nodes of the pointers that correspond in a flow from a pointer to `from` to a pointer to `to`, at every depth: of each two
+    /// such pointers the node of the one and the node of the other. No pair is there twice, and their order says nothing.
+    ///
+    /// They are the pointers that describe the same bytes: at the same offsets where the flow is Equal, Up or Down; where their
+    /// offsets agree modulo the greatest common divisor of the two sizes, across the two types and within each, where it is UpTile or
+    /// DownTile; the results and the parameters, one by one, of functions; and at the same places of what two corresponding pointers
+    /// point to. A Bad flow has none.
+    pub fn pairs(
+        &mut self,
+        types: &Types,
+        from: TypeId,
+        to: TypeId,
+    ) -> Result<Vec<(NodeId, NodeId)>, NoMemory>
+        requires from { IsType types.now from }
+        requires to { IsType types.now to }
+        ensures nodes { IfOk result (λ pairs. AreCorrespondingNodes types.now from to pairs.items) }
+        ensures once { IfOk result (λ pairs. AllPairs (λ x y. x ≢ y) pairs.items) }
+        ensures kinds { (kind : NodeId → Kind) → IfOk result (λ pairs. TellsEqualKinds types.now from to kind pairs.items) }
+    {
+        let _count = types.count();
+        let order = in_order(self.alloc, types)?;
+        let settled = settle(self.alloc, types, &order.list, &order.places)?;
+        settled_pairs(
+            self.alloc,
+            types,
+            &order.list,
+            &order.places,
+            &settled.numbers,
+            &settled.layouts,
+            from,
+            to,
+        )
+    }
+}
+
+/// The nodes of the pointers that correspond in a flow between two types of a table whose types are settled.
+fn settled_pairs(
+    alloc: Global,
+    types: &Types,
+    order: &[TypeId],
+    places: &[usize],
+    numbers: &[usize],
+    layouts: &[Layout],
+    from: TypeId,
+    to: TypeId,
+) -> Result<Vec<(NodeId, NodeId)>, NoMemory>
+    requires formed { IsWellFormed types.now }
+    requires order { IsWholeOrder types.now order.now places.now }
+    requires settled { AreSettled types.now order.now numbers.now layouts.now }
+    requires from { IsType types.now from }
+    requires to { IsType types.now to }
+    ensures nodes { IfOk result (λ pairs. AreCorrespondingNodes types.now from to pairs.items) }
+    ensures once { IfOk result (λ pairs. AllPairs (λ x y. x ≢ y) pairs.items) }
+{
+    let class = settled_class(alloc, types, order, places, numbers, layouts, from, to)?;
+    let mut found = Found::new(alloc);
+    let x = kept(places, layouts, from);
+    let y = kept(places, layouts, to);
+    add_top(alloc, types, &mut found, class, from, x, to, y)?;
+    follow(types, places, layouts, &mut found)?;
+    found.into_nodes(alloc)
 }
 
 /// The class of a flow between two types of a table whose types are settled.

@@ -1,0 +1,43 @@
+use Rattle.std.specs.Prelude.{OnOk}
+use Rattle.std.proofs.Common.{sym, subst, ◌∙◌}
+use Rattle.std.specs.List.{All}
+use Rattle.std.proofs.lemmas.Result.{on_ok_weaker}
+use Rattle.c_types.specs.Table.{IsType}
+use Rattle.phys_types.specs.Standing.{shown}
+use Rattle.phys_types.proofs.Makeups.{named_types, all_tail}
+use Rattle.phys_types.proofs.EachAlike.{no_function, data_alike, function_alike, none_alike}
+use Rattle.phys_types.proofs.alike.add_alike.Goals as goal
+
+pub add_slots-requires-clause-first : goal.add_slots-requires-clause-first
+add_slots-requires-clause-first c =
+    subst (All (IsType c.args.types.now)) (sym c.ids.ensures)
+    (all_tail (IsType c.args.types.now) c.in-Function.r c.in-Function.ps
+    (named_types c.args.types.now c.requires.formed c.args.t c.in-Function.ps c.in-Function.r (sym c.shape.ensures ∙ c.in-Function.is)))
+
+pub add_slots-requires-clause-second : goal.add_slots-requires-clause-second
+add_slots-requires-clause-second c =
+    subst (All (IsType c.args.types.now)) (sym c.ids-in-Function-shape.ensures)
+    (all_tail (IsType c.args.types.now) c.in-Function-shape.s c.in-Function-shape.qs
+    (named_types c.args.types.now c.requires.formed c.args.u c.in-Function-shape.qs c.in-Function-shape.s (sym c.shape-in-Function.ensures ∙ c.in-Function-shape.is)))
+
+pub returns-in_ok-add_both-in-Function-shape : goal.returns-in_ok-add_both-in-Function-shape
+returns-in_ok-add_both-in-Function-shape c =
+    on_ok_weaker c.add_slots.result
+    (function_alike c.args.types.now c.requires.formed c.args.t c.args.u c.requires.equal c.in-Function.ps c.in-Function-shape.qs c.ids.result.now c.ids-in-Function-shape.result.now
+    c.in-Function.r c.in-Function-shape.s (shown c.pointer_of.result) (shown c.pointer_of-in-Function-shape.result) c.args.found.now c.add_both.new.found c.add_slots.new.found
+    (sym c.shape.ensures ∙ c.in-Function.is) (sym c.shape-in-Function.ensures ∙ c.in-Function-shape.is) c.ids.ensures c.ids-in-Function-shape.ensures
+    c.pointer_of.ensures c.pointer_of-in-Function-shape.ensures c.in_ok-add_both-in-Function-shape.ensures)
+    c.add_slots.ensures
+
+pub returns-in_default-shape : goal.returns-in_default-shape
+returns-in_default-shape c =
+    absurd (none_alike c.args.types.now c.requires.formed c.args.t c.args.u c.requires.equal c.in-Function.ps c.in-Function.r (sym c.shape.ensures ∙ c.in-Function.is)
+    (no_function c.args.types.now c.args.u (λ ps r e. c.in_default-shape.not-Function ps r (c.shape-in-Function.ensures ∙ e))))
+
+pub returns-in_default : goal.returns-in_default
+returns-in_default c =
+    on_ok_weaker c.add_spots.result
+    (data_alike c.args.types.now c.requires.formed c.args.t c.args.u c.requires.equal c.args.x.now c.args.y.now c.deref.result.now c.deref-in_default.result.now
+    c.args.found.now c.add_spots.new.found c.requires.first c.requires.second c.requires.first_layout c.requires.second_layout
+    (no_function c.args.types.now c.args.t (λ ps r e. c.in_default.not-Function ps r (c.shape.ensures ∙ e))) c.deref.ensures.value c.deref-in_default.ensures.value)
+    c.add_spots.ensures

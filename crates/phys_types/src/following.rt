@@ -1,0 +1,40 @@
+#![tactic(auto)]
+
+ghost use Rattle.std.specs.Prelude.{OnOk};
+ghost use Rattle.std.specs.List.{Contains};
+ghost use Rattle.cc_base.specs.declared.number.TypeId.{TypeId};
+ghost use Rattle.c_types.specs.Sound.{IsWellFormed};
+ghost use Rattle.phys_types.specs.Found.{Gains};
+ghost use Rattle.phys_types.specs.Rounds.{AreAllKept};
+ghost use Rattle.phys_types.specs.Standing.{AreEqualTypes, CorrespondInSome};
+
+use crate::alike::add_alike;
+use crate::building::kept;
+use crate::found::Found;
+use crate::spot::Layout;
+use c_types::Types;
+use cc_base::NoMemory;
+
+/// Adds the pointers that correspond by place, at every depth, in the pairs of types that are found.
+///
+/// The pairs of types are a queue: those that a pair leads to are added behind it, and none is there twice.
+pub(crate) fn follow(
+    types: &Types,
+    places: &[usize],
+    layouts: &[Layout],
+    found: &mut Found,
+) -> Result<(), NoMemory>
+    requires formed { IsWellFormed types.now }
+    requires kept { AreAllKept types.now places.now layouts.now }
+    requires equal { (t u : TypeId) → Contains found.old.pointees (t, u) → AreEqualTypes types.now t u }
+    ensures { OnOk result (Gains (CorrespondInSome types.now found.old.pointees) found.old found.new) }
+{
+    let mut i = 0;
+    'queue: while let Some((t, u)) = found.pointees(i) {
+        let x = kept(places, layouts, t);
+        let y = kept(places, layouts, u);
+        add_alike(types, found, t, x, u, y)?;
+        i += 1;
+    }
+    Ok(())
+}

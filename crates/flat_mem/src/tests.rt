@@ -187,7 +187,9 @@ fn blocks_lie_in_the_heap(rt: HostRuntime) -> Result<(), Fail> {
 }
 
 /// An area without tags.
-const fn typed(bytes: u64) -> Area {
+const fn typed(bytes: u64) -> Area
+    ensures { result.bytes ≡ bytes }
+{
     Area {
         tagged: false,
         bytes,

@@ -6,6 +6,7 @@ mod assignment;
 mod cursor;
 mod enumerator_list;
 mod expression;
+mod fault;
 mod grammar;
 mod infix;
 mod lookahead;

@@ -1,5 +1,7 @@
 pub mod DeclaratorRules
 pub mod ExprRules
+pub mod Lists
+pub mod Nests
 pub mod Parts
 pub mod Rules
 pub mod Seen

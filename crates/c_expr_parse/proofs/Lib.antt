@@ -41,3 +41,5 @@ pub mod Promised
 pub mod AllReads
 pub mod StateRounds
 pub mod SpecifierFlags
+pub mod ArrayWordLaws
+pub mod CoreLaws

@@ -43,3 +43,4 @@ pub mod StateRounds
 pub mod SpecifierFlags
 pub mod ArrayWordLaws
 pub mod CoreLaws
+pub mod PartLaws

@@ -43,3 +43,7 @@ pub mod StateRounds
 pub mod SpecifierFlags
 pub mod Below
 pub mod Deeper
+pub mod ArrayWordLaws
+pub mod CoreLaws
+pub mod PartLaws
+pub mod CallLaws

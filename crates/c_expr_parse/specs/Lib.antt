@@ -10,3 +10,4 @@ pub mod TypeRules
 pub mod Written
 pub mod Faults
 pub mod Answers
+pub mod Calls

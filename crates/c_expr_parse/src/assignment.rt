@@ -1,5 +1,5 @@
 //! Conditionals, assignments and commas (C99 6.5.15 to 6.5.17).
-ghost use Rattle.std.specs.Prelude.{◌≡◌, ◌&&◌, ◌==◌, suc, max, Some, nat_le, IfOk, IfErr};
+ghost use Rattle.std.specs.Prelude.{◌≡◌, ◌&&◌, ◌==◌, suc, Some, nat_le, IfOk};
 ghost use Rattle.parse_rules.specs.Parsers.{by_first, loop};
 ghost use Rattle.c_tree.specs.Depth.{expr_height};
 ghost use Rattle.c_tree.specs.Grammar.{level};
@@ -9,7 +9,6 @@ ghost use Rattle.c_expr_parse.specs.ExprRules as spec;
 ghost use Rattle.c_expr_parse.specs.Rules.{rules};
 ghost use Rattle.c_expr_parse.specs.Seen.{names_of, next_view, placed_view, Reads};
 ghost use Rattle.c_expr_parse.specs.Tests as tests;
-ghost use Rattle.c_expr_parse.specs.declared.stop.Stop.TheVariants.{NoMemory};
 ghost use Rattle.c_expr_parse.specs.Nests.{Nests, IsMeasured};
 
 use crate::cursor::Cursor;
@@ -22,7 +21,7 @@ use crate::words::Scope;
 use c_tree::{Assignment, Boxed, Declarator, Expr, Specifiers};
 use cc_base::Place;
 use indexmap::IndexSet;
-use std::alloc::Global;
+use std::alloc::{AllocError, Global};
 
 /// Whether the expression may stand to the left of an assignment operator: it is a unary one.
 #[tactic(auto, using(c_tree::proofs::ViewLaws::expr_views))]
@@ -72,24 +71,19 @@ fn comma_goes_on(least: u8, next: Next<'_>) -> bool
 #[tactic(auto, using(c_tree::proofs::ViewLaws::expr_views))]
 fn conditional_of(
     alloc: Global,
+    test: Expr,
     at: Place,
-    test: Measured<Expr>,
-    holds: Measured<Expr>,
-    fails: Measured<Expr>,
-) -> Result<Measured<Expr>, Stop>
-    ensures tree { IfOk result (λ m. expr_view m.tree ≡ tree.Conditional (expr_view test.tree) at (expr_view holds.tree) (expr_view fails.tree)) }
-    ensures height { IfOk result (λ m. m.height ≡ suc (max test.height (max holds.height fails.height))) }
-    ensures no_memory { IfErr result (λ why. why ≡ NoMemory) }
+    holds: Expr,
+    fails: Expr,
+) -> Result<Expr, AllocError>
+    ensures { IfOk result (λ e. expr_view e ≡ tree.Conditional (expr_view test) at (expr_view holds) (expr_view fails)) }
 {
-    Ok(Measured {
-        height: 1 + test.height.max(holds.height.max(fails.height)),
-        tree: Expr::Conditional(
-            Boxed::new(alloc, test.tree)?,
-            at,
-            Boxed::new(alloc, holds.tree)?,
-            Boxed::new(alloc, fails.tree)?,
-        ),
-    })
+    Ok(Expr::Conditional(
+        Boxed::new(alloc, test)?,
+        at,
+        Boxed::new(alloc, holds)?,
+        Boxed::new(alloc, fails)?,
+    ))
 }
 
 impl<
@@ -127,7 +121,10 @@ impl<
         let colon = is_colon(cursor.peek());
         cursor.expect(colon)?;
         let fails = self.expr(cursor, 2)?;
-        conditional_of(self.alloc, at, test, holds, fails)
+        Ok(Measured {
+            height: 1 + test.height.max(holds.height.max(fails.height)),
+            tree: conditional_of(self.alloc, test.tree, at, holds.tree, fails.tree)?,
+        })
     }
 
     /// The conditional that goes on from its condition.

@@ -2,6 +2,7 @@
 use Rattle.std.proofs.Common.{◌≡◌, ◌≢◌, ℕ, ◌+◌, ◌-◌, ◌≤◌, List, ◌++◌, length, map, take, drop, refl, sym, ap, ◌∙◌, subst, length-append, arith}
 use Rattle.std.proofs.lemmas.List.{length-map, length-drop, drop-map, drop-drop, take-append-drop}
 use Rattle.std.proofs.lemmas.List.Prefix.{front_rest}
+use Rattle.cc_base.specs.declared.fault.Fault.{Fault}
 use Rattle.c_lexer.specs.Tokens.{Token}
 use Rattle.parse_rules.specs.Parsers.{Answer, Read, Stopped, Reason, Syntax, Unsupported, Deep}
 use Rattle.parse_rules.specs.Grammars.{Language}
@@ -46,14 +47,15 @@ module _ (tokens : List Token) (from : ℕ) (inside : from ≤ length tokens) wh
     read_part a left m = later_part m.run left m.is_run.whole
 
     -- a part is read
-    pub read_inside : (a : A) (left : List Symbol) (answer : Answer Symbol A) → Right answer → answer ≡ Read a left → length left ≤ length tokens
-    read_inside a left answer m e = (read_part a left (subst Right e m)).fewer
+    pub read_inside : (a : A) (left : List Symbol) (answer : Answer Symbol A) → Right answer → answer ≡ Read a left → (n : ℕ) → n ≡ length left → n ≤ length tokens
+    read_inside a left answer m e n size = let part = read_part a left (subst Right e m) in let fewer = part.fewer in omega arith
 
-    pub read_to : (a : A) (left : List Symbol) (answer : Answer Symbol A) → Right answer → answer ≡ Read a left → IsReadTo Right tokens from a (length tokens - length left)
-    read_to a left answer m e =
+    pub read_to : (a : A) (left : List Symbol) (answer : Answer Symbol A) → Right answer → answer ≡ Read a left → (n : ℕ) → n ≡ length left → IsReadTo Right tokens from a (length tokens - n)
+    read_to a left answer m e n size =
         let right : Right (Read a left) = subst Right e m in
         let part = read_part a left right in
-        record { from_there = part.later; in_tokens = omega arith; right = subst (λ rest. Right (Read a rest)) part.left_is right }
+        subst (λ n. IsReadTo Right tokens from a (length tokens - n)) (sym size)
+            (record { from_there = part.later; in_tokens = omega arith; right = subst (λ rest. Right (Read a rest)) part.left_is right })
 
     -- reading stops
     stops : (text : List ℕ) (why : Reason) (left : List Symbol) → Right (Stopped why left)
@@ -69,9 +71,13 @@ module _ (tokens : List Token) (from : ℕ) (inside : from ≤ length tokens) wh
           told_so = refl;
         }
 
-    pub stopped_at : (text : List ℕ) (why : Stop) (left : List Symbol) (answer : Answer Symbol A) → Right answer → (why ≢ stop.NoMemory → answer ≡ Stopped (reason_of why) left)
+    stopped_so : (text : List ℕ) (why : Stop) (left : List Symbol) (answer : Answer Symbol A) → Right answer → (why ≢ stop.NoMemory → answer ≡ Stopped (reason_of why) left)
         → IsFault Right text tokens (fault_of why (place_of_first text (drop (length tokens - length left) tokens)))
-    stopped_at text stop.Syntax left answer m e = stops text Syntax left (subst Right (e (λ ())) m)
-    stopped_at text stop.Unsupported left answer m e = stops text Unsupported left (subst Right (e (λ ())) m)
-    stopped_at text stop.Deep left answer m e = stops text Deep left (subst Right (e (λ ())) m)
-    stopped_at text stop.NoMemory left answer m e = tt
+    stopped_so text stop.Syntax left answer m e = stops text Syntax left (subst Right (e (λ other. cc)) m)
+    stopped_so text stop.Unsupported left answer m e = stops text Unsupported left (subst Right (e (λ other. cc)) m)
+    stopped_so text stop.Deep left answer m e = stops text Deep left (subst Right (e (λ other. cc)) m)
+    stopped_so text stop.NoMemory left answer m e = tt
+
+    pub stopped_at : (text : List ℕ) (why : Stop) (left : List Symbol) (answer : Answer Symbol A) → Right answer → (why ≢ stop.NoMemory → answer ≡ Stopped (reason_of why) left)
+        → (fault : Fault) → fault ≡ fault_of why (place_of_first text (drop (length tokens - length left) tokens)) → IsFault Right text tokens fault
+    stopped_at text why left answer m e fault told = subst (IsFault Right text tokens) (sym told) (stopped_so text why left answer m e)

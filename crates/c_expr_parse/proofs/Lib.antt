@@ -42,8 +42,9 @@ pub mod AllReads
 pub mod StateRounds
 pub mod SpecifierFlags
 pub mod Below
-pub mod Deeper
+pub mod Layers
 pub mod ArrayWordLaws
 pub mod CoreLaws
 pub mod PartLaws
 pub mod CallLaws
+pub mod CallAnswers

@@ -11,3 +11,4 @@ pub mod Written
 pub mod Faults
 pub mod Answers
 pub mod Calls
+pub mod Operands

@@ -5,7 +5,7 @@ ghost use Rattle.c_tree.specs.Views.{expr_view, specifiers_view, declarator_view
 ghost use Rattle.c_expr_parse.specs.Answers.{ExprAnswered, SpecifiersAnswered, DeclaratorAnswered};
 ghost use Rattle.c_expr_parse.specs.Calls as spec;
 ghost use Rattle.c_expr_parse.specs.Calls.{symbols_from, IsReadTo, IsFault};
-ghost use Rattle.c_expr_parse.specs.Seen.{names_of};
+ghost use Rattle.c_expr_parse.specs.Seen.{names_of, scope_view};
 
 use crate::cursor::Cursor;
 use crate::fault::fault_of;
@@ -36,6 +36,17 @@ fn least_level(level: Level) -> u8
         Level::Comma => 0,
         Level::Assign => 1,
         Level::Conditional => 2,
+    }
+}
+
+/// Where the specifiers of a declaration stand.
+fn scope_of(at_file: bool) -> Scope
+    ensures { scope_view result ≡ spec.scope_of at_file }
+{
+    if at_file {
+        Scope::AtFile
+    } else {
+        Scope::InBlock
     }
 }
 
@@ -105,12 +116,13 @@ pub fn parse_specifiers(
     ensures refused { IfErr result (IsFault (SpecifiersAnswered (names_of names.now) (spec.scope_of file) (256 - depth) (symbols_from toks.now from)) text.now toks.now) }
 {
     let mut cursor = Cursor::new(&toks[from..]);
-    let scope = if file {
-        Scope::AtFile
-    } else {
-        Scope::InBlock
-    };
-    match read_specifiers(alloc, names, &mut cursor, nodes_below(depth), scope) {
+    match read_specifiers(
+        alloc,
+        names,
+        &mut cursor,
+        nodes_below(depth),
+        scope_of(file),
+    ) {
         Ok(specifiers) => Ok((specifiers.tree, toks.len() - cursor.left())),
         Err(stop) => Err(fault_of(text, toks, &cursor, stop)),
     }

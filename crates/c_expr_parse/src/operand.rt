@@ -1,12 +1,10 @@
 //! Operands: primary expressions, unary expressions and casts (C99 6.5.1 to 6.5.4).
 ghost use Rattle.std.specs.Prelude.{◌≡◌, suc, true, IfOk};
-ghost use Rattle.std.specs.Option.{is_some};
-ghost use Rattle.parse_rules.specs.Parsers.{by_first, first, pure, unsupported, ◌>>=◌};
+ghost use Rattle.parse_rules.specs.Parsers.{by_first, first};
 ghost use Rattle.c_tree.specs.Depth.{expr_height, type_name_height};
-ghost use Rattle.c_tree.specs.Operators as operators;
-ghost use Rattle.c_tree.specs.Tree as tree;
 ghost use Rattle.c_tree.specs.Views.{expr_view, type_name_view};
 ghost use Rattle.c_expr_parse.specs.ExprRules as spec;
+ghost use Rattle.c_expr_parse.specs.Operands as operands;
 ghost use Rattle.c_expr_parse.specs.Rules.{rules};
 ghost use Rattle.c_expr_parse.specs.Seen.{names_of, next_view, start_view, after_skip, Reads};
 ghost use Rattle.c_expr_parse.specs.Tests as tests;
@@ -133,7 +131,7 @@ impl<
     ) -> Result<Measured<Expr>, Stop>
         requires nests { Nests self.now.names.now self.now.depth (E.pre self.now.read_expr) (E.post self.now.read_expr) (S.pre self.now.read_specifiers) (S.post self.now.read_specifiers) (D.pre self.now.read_declarator) (D.post self.now.read_declarator) }
         requires measured { IsMeasured self.now.depth (type_name_height (type_name_view to.tree)) to.height }
-        ensures reads { Reads (λ m. expr_view m.tree) (unsupported (λ next. is_some (tests.open_brace next)) ((rules (names_of self.now.names.now) self.now.depth).expr 13 >>= (λ e. pure (tree.Cast at (type_name_view to.tree) e))) cursor.old) result cursor.new }
+        ensures reads { Reads (λ m. expr_view m.tree) (operands.cast_to (rules (names_of self.now.names.now) self.now.depth) at (type_name_view to.tree) cursor.old) result cursor.new }
         ensures height { IfOk result (λ m. IsMeasured (suc self.now.depth) (expr_height (expr_view m.tree)) m.height) }
     {
         if open_brace(cursor.peek()).is_some() {
@@ -191,7 +189,7 @@ impl<
         at: Place,
     ) -> Result<Measured<Expr>, Stop>
         requires nests { Nests self.now.names.now self.now.depth (E.pre self.now.read_expr) (E.post self.now.read_expr) (S.pre self.now.read_specifiers) (S.post self.now.read_specifiers) (D.pre self.now.read_declarator) (D.post self.now.read_declarator) }
-        ensures reads { Reads (λ m. expr_view m.tree) (((rules (names_of self.now.names.now) self.now.depth).expr (operators.operand_level op) >>= (λ e. pure (tree.Prefix op at e))) cursor.old) result cursor.new }
+        ensures reads { Reads (λ m. expr_view m.tree) (operands.prefixed (rules (names_of self.now.names.now) self.now.depth) op at cursor.old) result cursor.new }
         ensures height { IfOk result (λ m. IsMeasured (suc self.now.depth) (expr_height (expr_view m.tree)) m.height) }
     {
         let e = self.expr(cursor, operand_level(op))?;
@@ -202,7 +200,7 @@ impl<
     }
 
     /// A unary expression in place of the operand of `sizeof`, whose `(` was read.
-    #[tactic(auto, using(crate::proofs::Below::below), unfolding(crate::specs::Rules::rules))]
+    #[tactic(auto, using(crate::proofs::Below::below))]
     fn paren_below(&self, cursor: &mut Cursor<'_>, at: Place) -> Result<Measured<Expr>, Stop>
         requires nests { Nests self.now.names.now self.now.depth (E.pre self.now.read_expr) (E.post self.now.read_expr) (S.pre self.now.read_specifiers) (S.post self.now.read_specifiers) (D.pre self.now.read_declarator) (D.post self.now.read_declarator) }
         ensures reads { Reads (λ m. expr_view m.tree) ((rules (names_of self.now.names.now) self.now.depth).paren at cursor.old) result cursor.new }

@@ -42,7 +42,7 @@ impl<
     ) -> Result<Measured<Declarator>, Stop>,
 > Grammar<'a, E, S, D> {
     /// The parts that go on from these, after stars and what they stand around.
-    #[tactic(auto, using(c_tree::proofs::PushLaws::pushes, c_tree::proofs::ViewLaws::expr_views), unfolding(crate::specs::DeclaratorRules::parts_from))]
+    #[tactic(auto, using(c_tree::proofs::ViewLaws::expr_views), unfolding(crate::specs::DeclaratorRules::parts_from))]
     fn parts_from(
         &self,
         cursor: &mut Cursor<'_>,
@@ -78,7 +78,7 @@ impl<
     }
 
     /// After a `(` that a declarator follows.
-    #[tactic(auto, using(c_tree::proofs::PushLaws::pushes, c_tree::proofs::ViewLaws::expr_views), unfolding(crate::specs::DeclaratorRules::nested))]
+    #[tactic(auto, using(c_tree::proofs::ViewLaws::expr_views), unfolding(crate::specs::DeclaratorRules::nested))]
     fn nested(
         &self,
         cursor: &mut Cursor<'_>,
@@ -101,7 +101,7 @@ impl<
     }
 
     /// After a `(` that begins the first part, where no name stands.
-    #[tactic(auto, using(c_tree::proofs::PushLaws::pushes, c_tree::proofs::ViewLaws::expr_views), unfolding(crate::specs::DeclaratorRules::unnamed_function))]
+    #[tactic(auto, using(c_tree::proofs::ViewLaws::expr_views), unfolding(crate::specs::DeclaratorRules::unnamed_function))]
     fn unnamed_function(
         &self,
         cursor: &mut Cursor<'_>,
@@ -121,7 +121,7 @@ impl<
     }
 
     /// After a `(` that may begin a declarator or, where a name may be left out, parameters.
-    #[tactic(auto, using(c_tree::proofs::PushLaws::pushes, c_tree::proofs::ViewLaws::expr_views), unfolding(crate::specs::DeclaratorRules::after_core_paren))]
+    #[tactic(auto, using(crate::proofs::CoreLaws::parameters_come, crate::proofs::CoreLaws::declarator_comes))]
     fn after_core_paren(
         &self,
         cursor: &mut Cursor<'_>,
@@ -140,7 +140,7 @@ impl<
     }
 
     /// A declarator without a name has a star or a part.
-    #[tactic(auto, using(c_tree::proofs::PushLaws::pushes, c_tree::proofs::ViewLaws::expr_views), unfolding(crate::specs::DeclaratorRules::unnamed))]
+    #[tactic(auto, using(crate::proofs::CoreLaws::nothing_comes, crate::proofs::CoreLaws::part_comes, crate::proofs::CoreLaws::stars_stand, c_tree::proofs::ViewLaws::expr_views))]
     fn unnamed(
         &self,
         cursor: &mut Cursor<'_>,
@@ -160,7 +160,7 @@ impl<
         self.parts_from(cursor, stars, core, self.no_parts())
     }
 
-    #[tactic(auto, using(c_tree::proofs::PushLaws::pushes, c_tree::proofs::ViewLaws::expr_views), unfolding(crate::specs::DeclaratorRules::with_core))]
+    #[tactic(auto, using(c_tree::proofs::ViewLaws::expr_views), unfolding(crate::specs::DeclaratorRules::parts_from))]
     fn with_name(
         &self,
         cursor: &mut Cursor<'_>,

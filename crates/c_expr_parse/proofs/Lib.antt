@@ -41,6 +41,9 @@ pub mod Promised
 pub mod AllReads
 pub mod StateRounds
 pub mod SpecifierFlags
+pub mod Below
+pub mod Deeper
 pub mod ArrayWordLaws
 pub mod CoreLaws
 pub mod PartLaws
+pub mod CallLaws

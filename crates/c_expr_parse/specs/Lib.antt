@@ -8,4 +8,6 @@ pub mod Seen
 pub mod Tests
 pub mod TypeRules
 pub mod Written
+pub mod Faults
 pub mod Answers
+pub mod Calls

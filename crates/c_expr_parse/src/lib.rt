@@ -3,15 +3,22 @@
 
 mod arguments;
 mod array_words;
+mod assignment;
+mod calls;
 mod cursor;
 mod declarator_layer;
 mod enumerator_list;
+mod expression;
+mod fault;
 mod grammar;
+mod infix;
 mod initialiser_list;
 mod lookahead;
 mod measured;
 mod member_rows;
+mod nesting;
 mod next;
+mod operand;
 mod operators;
 mod parameter_list;
 mod part_list;
@@ -20,5 +27,19 @@ mod series;
 mod specifier_list;
 mod stars;
 mod stop;
+mod string_pieces;
 mod type_name;
 mod words;
+
+pub use calls::{Level, parse_declarator, parse_expr, parse_specifiers};
+pub use cursor::Cursor;
+pub use fault::fault_of;
+pub use lookahead::{
+    Naming, begins_declarator, begins_expr, begins_specifier, equals_sign, is_close_brace,
+    is_close_paren, is_colon, is_comma, is_semicolon, open_brace, open_paren,
+};
+pub use measured::Measured;
+pub use nesting::{read_declarator, read_expr, read_specifiers};
+pub use next::Next;
+pub use stop::Stop;
+pub use words::Scope;

@@ -47,3 +47,4 @@ pub mod ArrayWordLaws
 pub mod CoreLaws
 pub mod PartLaws
 pub mod CallLaws
+pub mod InitialiserCases

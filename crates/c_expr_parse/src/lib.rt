@@ -43,3 +43,6 @@ pub use nesting::{read_declarator, read_expr, read_specifiers};
 pub use next::Next;
 pub use stop::Stop;
 pub use words::Scope;
+
+#[cfg(test)]
+mod tests;

@@ -48,3 +48,4 @@ pub mod CoreLaws
 pub mod PartLaws
 pub mod CallLaws
 pub mod CallAnswers
+pub mod InitialiserCases

@@ -12,6 +12,7 @@ mod expression;
 mod fault;
 mod grammar;
 mod infix;
+mod initialiser;
 mod initialiser_list;
 mod lookahead;
 mod measured;
@@ -34,6 +35,7 @@ mod words;
 pub use calls::{Level, parse_declarator, parse_expr, parse_specifiers};
 pub use cursor::Cursor;
 pub use fault::fault_of;
+pub use initialiser::read_initialiser;
 pub use lookahead::{
     Naming, begins_declarator, begins_expr, begins_specifier, equals_sign, is_close_brace,
     is_close_paren, is_colon, is_comma, is_semicolon, open_brace, open_paren,
@@ -41,5 +43,8 @@ pub use lookahead::{
 pub use measured::Measured;
 pub use nesting::{read_declarator, read_expr, read_specifiers};
 pub use next::Next;
-pub use stop::Stop;
+pub use stop::{Stop, too_deep};
 pub use words::Scope;
+
+#[cfg(test)]
+mod tests;

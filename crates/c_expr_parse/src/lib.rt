@@ -14,6 +14,7 @@ mod grammar;
 mod infix;
 mod initialiser;
 mod initialiser_list;
+mod laws;
 mod lookahead;
 mod measured;
 mod member_rows;
@@ -36,6 +37,11 @@ pub use calls::{Level, parse_declarator, parse_expr, parse_specifiers};
 pub use cursor::Cursor;
 pub use fault::fault_of;
 pub use initialiser::read_initialiser;
+pub use laws::{
+    declarators_are_answered_once, declarators_are_spelled_once, expressions_are_answered_once,
+    expressions_are_spelled_once, initialisers_are_answered_once, initialisers_are_spelled_once,
+    specifiers_are_answered_once, specifiers_are_spelled_once,
+};
 pub use lookahead::{
     Naming, begins_declarator, begins_expr, begins_specifier, equals_sign, is_close_brace,
     is_close_paren, is_colon, is_comma, is_semicolon, open_brace, open_paren,

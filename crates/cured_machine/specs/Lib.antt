@@ -3,3 +3,5 @@ pub mod Rows
 pub mod Spelled
 pub mod Kept
 pub mod Sizes
+pub mod Ready
+pub mod Runs

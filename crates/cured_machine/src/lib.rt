@@ -2,9 +2,14 @@
 #![tactic(auto)]
 
 mod control;
+mod ending;
 mod lookups;
+mod machine;
 mod row;
 mod tags;
 mod tests_and_divisions;
 mod touching;
 mod words;
+
+pub use ending::Ending;
+pub use machine::Machine;

@@ -5,3 +5,4 @@ pub mod Kept
 pub mod Sizes
 pub mod Ready
 pub mod Runs
+pub mod Loading

@@ -3,8 +3,10 @@
 
 mod control;
 mod ending;
+mod loading;
 mod lookups;
 mod machine;
+mod making;
 mod row;
 mod tags;
 mod tests_and_divisions;

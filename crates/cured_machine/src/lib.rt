@@ -8,6 +8,7 @@ mod lookups;
 mod machine;
 mod making;
 mod row;
+mod running;
 mod tags;
 mod tests_and_divisions;
 mod touching;
@@ -15,3 +16,6 @@ mod words;
 
 pub use ending::Ending;
 pub use machine::Machine;
+
+#[cfg(test)]
+mod tests;

@@ -8,3 +8,4 @@ pub mod KeptLaws
 pub mod CallLaws
 pub mod ControlLaws
 pub mod SizeLaws
+pub mod GrowLaws

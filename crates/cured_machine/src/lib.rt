@@ -3,6 +3,7 @@
 
 mod control;
 mod ending;
+mod in_frame;
 mod lookups;
 mod machine;
 mod row;

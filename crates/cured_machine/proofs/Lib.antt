@@ -9,3 +9,4 @@ pub mod CallLaws
 pub mod ControlLaws
 pub mod SizeLaws
 pub mod GrowLaws
+pub mod LoadLaws

@@ -5,3 +5,5 @@ pub mod Kept
 pub mod Sizes
 pub mod Ready
 pub mod Runs
+pub mod Loading
+pub mod Reading

@@ -6,7 +6,7 @@ ghost use Rattle.cured_code.specs.Groups.{Lookups};
 ghost use Rattle.cured_code.specs.Tables.{function_at, is_below, parent_of, sig_word, frame_fits, has_room};
 ghost use Rattle.flat_mem.specs.Memory.{Memory, block_fits, block_address, block_made};
 ghost use Rattle.cured_machine.specs.Ready.{frame_areas};
-ghost use Rattle.cured_machine.specs.Rows.{IsNamed, IsLookupRow, areas_in, sig_word_in, has_room_in};
+ghost use Rattle.cured_machine.specs.Rows.{IsNamed, IsLookupRow, areas_in, sig_word_in, has_room_in, function_of_sig};
 
 use crate::row::Row;
 use crate::tests_and_divisions::truth;
@@ -70,6 +70,24 @@ fn is_node_below(parents: &[u32], a: u64, n: u32) -> bool
         node = parent(parents, node);
     }
     node == u64::from(n)
+}
+
+/// The function at an address, where there is one and it has signature `sig`.
+#[inline(always)]
+pub(crate) fn function_of(functions: &[Function], sig: u32, address: u64) -> Option<usize>
+    ensures { result ≡ function_of_sig functions.now sig (function_at (length functions.now) address) }
+{
+    match function_number(functions.len(), address) {
+        None => None,
+        Some(number) => {
+            let function = &functions[number];
+            if sig_of(function) == sig {
+                Some(number)
+            } else {
+                None
+            }
+        }
+    }
 }
 
 fn sig_of(function: &Function) -> u32

@@ -5,8 +5,8 @@ ghost use Rattle.flat_mem.specs.Placement.{area_size, areas_size, addresses, fir
 
 use crate::{Area, numbers};
 
-// The size of the area with its first word.
-pub(crate) fn size_of(area: Area) -> u64
+/// The size of the area with its first word, in bytes.
+pub fn size_of(area: Area) -> u64
     requires { area.bytes < 2 ^ 32 }
     ensures { result ≡ area_size area }
 {

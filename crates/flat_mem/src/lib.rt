@@ -9,6 +9,7 @@ mod memory;
 mod numbers;
 mod tags;
 
+pub use areas::size_of as area_size;
 pub use memory::Flat;
 use std::marker::Model;
 

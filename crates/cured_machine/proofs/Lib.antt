@@ -8,4 +8,5 @@ pub mod KeptLaws
 pub mod CallLaws
 pub mod ControlLaws
 pub mod SizeLaws
+pub mod GrowLaws
 pub mod LoadLaws

@@ -6,3 +6,4 @@ pub mod Sizes
 pub mod Ready
 pub mod Runs
 pub mod Loading
+pub mod Reading

@@ -6,7 +6,8 @@ ghost use Rattle.cured_code.specs.declared.parts.Parts.{Parts};
 ghost use Rattle.cured_code.specs.FlatMachine.{FlatOutcome};
 ghost use Rattle.cured_code.specs.FlatState.{Local};
 ghost use Rattle.cured_machine.specs.Stack.{Caller};
-ghost use Rattle.cured_machine.specs.Spelled.{IsLast, IsReached, GoesOn, GoesIn, slices_of};
+ghost use Rattle.cured_machine.specs.Sizes.{Lessens};
+ghost use Rattle.cured_machine.specs.Spelled.{CanLeave, IsLast, IsLeaving, IsLess, IsReached, GoesOn, GoesIn, slices_of, is_if};
 ghost use Rattle.cured_machine.specs.Rows.{IsNamed};
 
 use cured_code::Instr;
@@ -37,9 +38,11 @@ fn top<'a>(stack: &Vec<&'a [Instr]>) -> Option<&'a [Instr]>
 /// turn.
 #[inline(always)]
 pub(crate) fn go_on<'a>(stack: &mut Vec<&'a [Instr]>, turns: &mut u64) -> Next<'a>
-    ensures { (parts : Parts) (whole : FlatOutcome) (ks : List Caller) (f j : ℕ) (c : Local) → c.state.turns ≡ turns.old →
+    ensures goes { (parts : Parts) (whole : FlatOutcome) (ks : List Caller) (f j : ℕ) (c : Local) → c.state.turns ≡ turns.old →
         IsReached parts whole ks f j (slices_of stack.old.items) [] c →
         GoesOn parts whole ks f j (slices_of stack.new.items) turns.new c result }
+    ensures less { IsLess turns.old (slices_of stack.old.items) [] turns.new (slices_of stack.new.items) result }
+    ensures capacity { vec_capacity stack.new ≡ vec_capacity stack.old }
 {
     let Some(outer) = top(stack) else {
         return Next::Over;
@@ -75,9 +78,11 @@ pub(crate) fn go_in<'a>(
 ) -> Next<'a>
     requires room { vec_len stack.old < vec_capacity stack.old }
     requires named { (i : Instr) (rest : List Instr) → here.now ≡ i ∷ rest → (areas : ℕ) × IsNamed i (length frame.now) areas }
-    ensures { (parts : Parts) (whole : FlatOutcome) (ks : List Caller) (f j : ℕ) (c : Local) → c.state.turns ≡ turns.old → c.slots ≡ frame.now →
+    ensures goes { (parts : Parts) (whole : FlatOutcome) (ks : List Caller) (f j : ℕ) (c : Local) → c.state.turns ≡ turns.old → c.slots ≡ frame.now →
         IsReached parts whole ks f j (slices_of stack.old.items) here.now c →
         GoesIn parts whole ks f j (slices_of stack.new.items) here.now turns.new c result }
+    ensures less { IsLess turns.old (slices_of stack.old.items) here.now turns.new (slices_of stack.new.items) result }
+    ensures capacity { vec_capacity stack.new ≡ vec_capacity stack.old }
 {
     let Some((first, _)) = here.split_first() else {
         return Next::Over;
@@ -107,6 +112,43 @@ pub(crate) fn go_in<'a>(
             Next::Code(x.0.as_slice())
         }
         _ => Next::Over,
+    }
+}
+
+/// Leaves the block or loop that stands `blocks` blocks and loops further out than the innermost, and gives what follows
+/// it.
+#[inline(always)]
+pub(crate) fn leave<'a>(stack: &mut Vec<&'a [Instr]>, blocks: u32) -> &'a [Instr]
+    requires { CanLeave (slices_of stack.old.items) blocks }
+    ensures goes { (parts : Parts) (whole : FlatOutcome) (ks : List Caller) (f j : ℕ) (c : Local) →
+        IsLeaving parts whole ks f j (slices_of stack.old.items) blocks c →
+        IsReached parts whole ks f j (slices_of stack.new.items) result.now c }
+    ensures less { (t : ℕ) (code : List Instr) → Lessens t (slices_of stack.old.items) code t (slices_of stack.new.items) result.now }
+    ensures capacity { vec_capacity stack.new ≡ vec_capacity stack.old }
+{
+    let mut left = blocks;
+    'leaving: loop {
+        let slice = stack.take_last();
+        let Some((first, rest)) = slice.split_first() else {
+            return slice;
+        };
+        if !is_if(first) {
+            if left == 0 {
+                return rest;
+            }
+            left -= 1;
+        }
+    }
+}
+
+/// Whether the instruction is an `if`, which a `break` doesn't count.
+#[inline(always)]
+fn is_if(instr: &Instr) -> bool
+    ensures { result ≡ is_if instr.now }
+{
+    match *instr {
+        Instr::If(_, _, _) => true,
+        _ => false,
     }
 }
 

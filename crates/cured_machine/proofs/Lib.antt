@@ -10,3 +10,5 @@ pub mod ControlLaws
 pub mod SizeLaws
 pub mod GrowLaws
 pub mod LoadLaws
+pub mod SlotLaws
+pub mod RunningLaws

@@ -12,3 +12,4 @@ pub mod GrowLaws
 pub mod LoadLaws
 pub mod SlotLaws
 pub mod RunningLaws
+pub mod FormLaws

@@ -1,3 +1,4 @@
+use Rattle.cured_machine.proofs.FormLaws.{flow-form}
 use Rattle.cured_machine.proofs.RunningLaws.{at-some}
 use Rattle.std.proofs.Common.{◌∙◌, ap}
 use Rattle.flat_mem.specs.Bytes.{written}

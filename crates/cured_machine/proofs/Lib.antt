@@ -13,3 +13,5 @@ pub mod LoadLaws
 pub mod SlotLaws
 pub mod RunningLaws
 pub mod FormLaws
+pub mod RoomLaws
+pub mod StepLaws

@@ -1,4 +1,6 @@
 use Rattle.cured_machine.proofs.FormLaws.{flow-form}
+use Rattle.cured_machine.proofs.StepLaws.{running-map}
+use Rattle.cured_machine.proofs.RoomLaws.{stack-within}
 use Rattle.cured_machine.proofs.RunningLaws.{at-some}
 use Rattle.std.proofs.Common.{◌∙◌, ap}
 use Rattle.flat_mem.specs.Bytes.{written}

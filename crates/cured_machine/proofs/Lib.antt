@@ -10,3 +10,8 @@ pub mod ControlLaws
 pub mod SizeLaws
 pub mod GrowLaws
 pub mod LoadLaws
+pub mod SlotLaws
+pub mod RunningLaws
+pub mod FormLaws
+pub mod RoomLaws
+pub mod StepLaws

@@ -7,3 +7,5 @@ pub mod Ready
 pub mod Runs
 pub mod Loading
 pub mod Reading
+pub mod Running
+pub mod Steps

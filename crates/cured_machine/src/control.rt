@@ -1,5 +1,5 @@
 //! The control stack: where a part of an instruction is over, what follows it.
-ghost use Rattle.std.specs.Prelude.{◌<◌, ◌∷◌, length, vec_len, vec_capacity, slice_index, ◌≡◌, ℕ, List, [], MatchOption, ⊤};
+ghost use Rattle.std.specs.Prelude.{◌<◌, ◌∷◌, length, vec_len, vec_capacity, slice_index, ◌≡◌, ℕ, List, [], MatchOption};
 ghost use Rattle.integers.specs.Words.{is_true_word};
 ghost use Rattle.cured_code.specs.declared.instr.Instr.{Instr};
 ghost use Rattle.cured_code.specs.declared.parts.Parts.{Parts};
@@ -26,7 +26,7 @@ pub(crate) enum Next<'a> {
 /// The newest slice of the stack.
 #[inline(always)]
 fn top<'a>(stack: &Vec<&'a [Instr]>) -> Option<&'a [Instr]>
-    ensures { MatchOption result ⊤ (λ slice. IsLast stack.now.items slice) }
+    ensures { MatchOption result (length stack.now.items ≡ 0) (λ slice. IsLast stack.now.items slice) }
 {
     match stack.last() {
         None => None,
@@ -47,19 +47,22 @@ pub(crate) fn go_on<'a>(stack: &mut Vec<&'a [Instr]>, turns: &mut u64) -> Next<'
     let Some(outer) = top(stack) else {
         return Next::Over;
     };
-    match outer.split_first() {
-        Some((Instr::Loop(body), _)) => {
+    let Some((first, rest)) = outer.split_first() else {
+        return Next::Over;
+    };
+    match first {
+        Instr::Loop(body) => {
             if *turns == 0 {
                 return Next::Spent;
             }
             *turns -= 1;
             Next::Code(body.0.as_slice())
         }
-        Some((Instr::If(_, _, _), rest)) => {
+        Instr::If(_, _, _) => {
             let _ = stack.take_last();
             Next::Code(rest)
         }
-        Some((Instr::Block(_), rest)) => {
+        Instr::Block(_) => {
             let _ = stack.take_last();
             Next::Code(rest)
         }

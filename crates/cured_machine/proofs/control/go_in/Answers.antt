@@ -1,5 +1,5 @@
 use Rattle.std.proofs.Common.{◌∙◌, sym, arith}
-use Rattle.cured_machine.proofs.ControlLaws.{enter-then, enter-else, enter-block, enter-loop, enter-spent, into-less, one-less}
+use Rattle.cured_machine.proofs.ControlLaws.{enter-then, enter-else, enter-block, enter-loop, enter-spent, into-less, one-less, no-part, no-part_none, no-holder, not-in}
 use Rattle.cured_code.specs.declared.instr.Instr.TheVariants as instr
 use Rattle.cured_machine.specs.Spelled.{slices_of}
 use Rattle.cured_machine.proofs.SizeLaws.{less-then, less-else, less-block, less-loop}
@@ -58,3 +58,11 @@ returns-else-turns-eq0-clause-less c =
     into-less c.args.stack.now.items c.push_reserved-in-Loop.new.self.items c.args.here c.in-Some.first.now (instr.Loop c.in-Loop.x) c.in-Some.field-0-1.now c.as_slice-in-Loop.result.now c.in-Loop.x.0.items c.args.turns.now _
     c.in-Some.ensures.cases.0 c.in-Loop.is c.push_reserved-in-Loop.ensures.items c.as_slice-in-Loop.ensures.value
     (less-loop c.args.turns.now _ c.in-Loop.x c.in-Some.field-0-1.now (slices_of c.args.stack.now.items) (one-less c.args.turns.now c.if-turns-eq0.false))
+
+pub returns-in_default-clause-goes : goal.returns-in_default-clause-goes
+returns-in_default-clause-goes c = not-in c.args.stack.now.items c.args.here.now c.args.frame.now c.args.turns.now (no-part_none c.args.here.now c.in_default.ensures.cases)
+
+pub returns-in_default-first-clause-goes : goal.returns-in_default-first-clause-goes
+returns-in_default-first-clause-goes c =
+    not-in c.args.stack.now.items c.args.here.now c.args.frame.now c.args.turns.now
+    (no-part c.args.here.now c.in-Some.first.now c.in-Some.field-0-1.now c.in-Some.ensures.cases.0 (no-holder c.in-Some.first.now c.in_default-first.not-If c.in_default-first.not-Block c.in_default-first.not-Loop))

@@ -3,7 +3,4 @@ pub mod Verdicts
 pub mod Answers
 pub mod Causes
 pub mod Built
-pub mod MachineRuns
 pub mod Statuses
-pub mod MachineSteps
-pub mod Plans

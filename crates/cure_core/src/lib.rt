@@ -3,8 +3,6 @@
 
 mod building;
 mod command;
-mod loading;
-mod machine;
 mod report;
 mod top;
 mod verdict;

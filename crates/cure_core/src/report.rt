@@ -4,7 +4,8 @@ ghost use Rattle.std.specs.Fmt.{decimal};
 ghost use Rattle.arrayvec.specs.ArrayString.{array_string_len};
 ghost use Rattle.cc_base.specs.Places.{place_text};
 ghost use Rattle.cure_core.specs.Verdicts.{words_of, line_of};
-ghost use Rattle.cure_core.specs.Causes.{sunk, IsReported};
+ghost use Rattle.cured_machine.specs.Runs.{outside};
+ghost use Rattle.cure_core.specs.Causes.{IsReported};
 
 use crate::verdict::Verdict;
 use arrayvec::ArrayString;
@@ -20,7 +21,7 @@ type Line = ArrayString<ROOM>;
 /// Writes the verdict's line to the report, in one piece, and answers the status: the verdict's, or 6 where the
 /// write failed.
 pub(crate) fn report_verdict<E: Sink>(verdict: Verdict, report: &mut E) -> u8
-    ensures { IsReported verdict (sunk E.written E.faults report.old report.new) result }
+    ensures { IsReported verdict (outside E.written E.faults report.old report.new) result }
 {
     let line = line(verdict);
     match report.write(line.as_str().as_bytes()) {

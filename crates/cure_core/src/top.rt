@@ -3,26 +3,29 @@ ghost use Rattle.std.specs.Prelude.{◌≡◌, ◌≢◌, ℕ, ◌≤◌, ◌<�
 ghost use Rattle.std.specs.String.{string_bytes};
 ghost use Rattle.cc_io.specs.Faults.{Rose};
 ghost use Rattle.first_language.specs.Tree.{Program};
-ghost use Rattle.first_cure.specs.FirstLines.{HasFirstLines};
 ghost use Rattle.first_cure.specs.SameRun.{RunsAs};
 ghost use Rattle.cure_core.specs.Answers.{text_limit};
 ghost use Rattle.cure_core.specs.Built.{IsCuredText};
 ghost use Rattle.cure_core.specs.Command.{command_of};
 ghost use Rattle.cure_core.specs.Statuses.{GivesAnswer, HasCause};
-ghost use Rattle.cure_core.specs.Causes.{sunk, filed, IsTextCause, IsFileCause, IsCause, IsJudged};
+ghost use Rattle.cured_machine.specs.Runs.{outside};
+ghost use Rattle.cure_core.specs.Causes.{filed, IsTextCause, IsFileCause, IsCause, IsJudged};
 
 use crate::building::build;
 use crate::command::file_to_run;
-use crate::machine::{Ending, run};
 use crate::report::report_verdict;
 use crate::verdict::Verdict;
-use cc_base::{Fault, NoMemory};
-use cc_io::{FileFault, Files, Sink, Source};
+use cc_base::Fault;
+use cc_io::{FileFault, Files, Sink, Source, SureSource};
 use cured_code::Cured;
+use cured_machine::{Ending, Machine};
 use std::alloc::Global;
 
 /// The most bytes that a text of C may have.
 const TEXT_LIMIT: u64 = 1_048_576;
+
+/// How many turns a run has.
+const TURNS: u64 = 1_000_000;
 
 /// Does all that the program does, and answers its status. The words are those after the program's name.
 pub fn ccured<F: Files, I: Source, O: Sink, E: Sink>(
@@ -36,15 +39,15 @@ pub fn ccured<F: Files, I: Source, O: Sink, E: Sink>(
     // A verdict is given for its cause, and reported: what is written under each fault.
     ensures judged { IsJudged (map string_bytes words.now)
         (filed F.holds F.faults F.last files.old files.new)
-        (sunk O.written O.faults out.old out.new)
-        (sunk E.written E.faults report.old report.new)
+        (outside O.written O.faults out.old out.new)
+        (outside E.written E.faults report.old report.new)
         result }
 
     // Every status has its cause.
     ensures cause { HasCause (map string_bytes words.now)
         (filed F.holds F.faults F.last files.old files.new)
-        (sunk O.written O.faults out.old out.new)
-        (sunk E.written E.faults report.old report.new)
+        (outside O.written O.faults out.old out.new)
+        (outside E.written E.faults report.old report.new)
         result }
 
     // Where nothing failed and memory was there, the answer to the words and the files is given.
@@ -52,8 +55,8 @@ pub fn ccured<F: Files, I: Source, O: Sink, E: Sink>(
         ¬ (Rose (E.faults report.old) (E.faults report.new)) → result ≢ 9 →
         GivesAnswer (map string_bytes words.now)
         (filed F.holds F.faults F.last files.old files.new)
-        (sunk O.written O.faults out.old out.new)
-        (sunk E.written E.faults report.old report.new)
+        (outside O.written O.faults out.old out.new)
+        (outside E.written E.faults report.old report.new)
         result }
 
     // Words that are no command are refused, and no memory is wanted for that.
@@ -72,7 +75,7 @@ pub fn ccured<F: Files, I: Source, O: Sink, E: Sink>(
 fn judge<F: Files, O: Sink>(alloc: Global, words: &[String], files: &mut F, out: &mut O) -> Verdict
     ensures { IsCause (map string_bytes words.now)
         (filed F.holds F.faults F.last files.old files.new)
-        (sunk O.written O.faults out.old out.new)
+        (outside O.written O.faults out.old out.new)
         result }
 {
     match file_to_run(words) {
@@ -85,7 +88,7 @@ fn judge<F: Files, O: Sink>(alloc: Global, words: &[String], files: &mut F, out:
 fn run_file<F: Files, O: Sink>(alloc: Global, name: &str, files: &mut F, out: &mut O) -> Verdict
     ensures { IsFileCause name.now
         (filed F.holds F.faults F.last files.old files.new)
-        (sunk O.written O.faults out.old out.new)
+        (outside O.written O.faults out.old out.new)
         result }
 {
     match read_text(alloc, name, files) {
@@ -116,7 +119,7 @@ fn read_text<F: Files>(alloc: Global, name: &str, files: &mut F) -> Result<Vec<u
 fn run_text<O: Sink>(alloc: Global, text: &[u8], out: &mut O) -> Verdict
     requires { length text.now ≤ text_limit }
     ensures { IsTextCause text.now
-        (sunk O.written O.faults out.old out.new)
+        (outside O.written O.faults out.old out.new)
         result }
 {
     match build(alloc, text) {
@@ -126,20 +129,23 @@ fn run_text<O: Sink>(alloc: Global, text: &[u8], out: &mut O) -> Verdict
     }
 }
 
-/// Runs the cured code of a program, and answers how its run is reported.
+/// Runs the cured code of a program, which reads no input, and answers how its run is reported. All memory is taken before the
+/// first write.
 fn run_code<O: Sink>(alloc: Global, code: &Cured, out: &mut O) -> Verdict
-    requires runs { (program : Program) × RunsAs code.now program }
-    requires lines { HasFirstLines code.now }
+    requires { (program : Program) × RunsAs code.now program }
     ensures { (text : List ℕ) → length text ≤ text_limit → IsCuredText text code.now →
         IsTextCause text
-        (sunk O.written O.faults out.old out.new)
+        (outside O.written O.faults out.old out.new)
         result }
 {
-    match run(alloc, code, out) {
-        Ok(Ending::Exited(status)) => Verdict::Exited(status),
-        Ok(Ending::Stopped(check, place)) => Verdict::Stopped(check, place),
-        Ok(Ending::Trapped) => unreachable!(),
-        Ok(Ending::WriteFault) => Verdict::OutputFault,
-        Err(NoMemory) => Verdict::NoMemory,
+    let Ok(machine) = Machine::new(alloc, code) else {
+        return Verdict::NoMemory;
+    };
+    let mut input = SureSource::new(Vec::new(alloc), 1);
+    match machine.run(TURNS, &mut input, out) {
+        Ending::Exited(status) => Verdict::Exited(status),
+        Ending::Stopped(check, place) => Verdict::Stopped(check, place),
+        Ending::WriteFault => Verdict::OutputFault,
+        Ending::Turns | Ending::Trap(_) | Ending::ReadFault => unreachable!(),
     }
 }

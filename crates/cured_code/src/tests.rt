@@ -124,11 +124,19 @@ fn tests_and_divisions_name_slots_in_range(rt: HostRuntime) -> Result<(), Fail> 
 #[test]
 fn bytes_are_read_and_written_in_the_sizes_that_there_are(rt: HostRuntime) -> Result<(), Fail> {
     for (line, accepted) in [
+        (Instr::Ld(1, 3, 3), true),
+        (Instr::Ld(2, 3, 3), true),
+        (Instr::Ld(4, 3, 3), true),
         (Instr::Ld(8, 3, 3), true),
         (Instr::Ld(3, 0, 0), false),
         (Instr::Ld(0, 0, 0), false),
+        (Instr::Ld(9, 0, 0), false),
         (Instr::Ld(1, 4, 0), false),
         (Instr::St(1, 3, 3), true),
+        (Instr::St(2, 3, 3), true),
+        (Instr::St(4, 3, 3), true),
+        (Instr::St(8, 3, 3), true),
+        (Instr::St(7, 0, 0), false),
         (Instr::St(16, 0, 0), false),
         (Instr::St(4, 0, 4), false),
         (Instr::Ldw(2, 2, 3), true),
@@ -353,6 +361,37 @@ fn a_global_begins_with_bytes_that_it_has_and_that_do_not_end_in_zero(
             Vec::new(alloc),
             vec![in alloc; global]?,
         )?;
+        assert_eq!(rt; Cured::new(parts).is_some(), accepted);
+    }
+    Ok(())
+}
+
+#[test]
+fn the_bytes_of_all_globals_are_limited_together(rt: HostRuntime) -> Result<(), Fail> {
+    let alloc = rt.alloc();
+    for (bytes, accepted) in [(12_582_905, true), (12_582_906, false), (u64::MAX, false)] {
+        let mut globals = Vec::new(alloc);
+        for size in [7, bytes] {
+            globals.push(GlobalLine {
+                area: typed(size),
+                first: Bytes(Vec::new(alloc)),
+            })?;
+        }
+        let parts = program(alloc, 0, Vec::new(alloc), Vec::new(alloc), globals)?;
+        assert_eq!(rt; Cured::new(parts).is_some(), accepted);
+    }
+    Ok(())
+}
+
+#[test]
+fn a_function_has_a_signature_that_is_there(rt: HostRuntime) -> Result<(), Fail> {
+    let alloc = rt.alloc();
+    for (sig, accepted) in [(1, true), (2, false), (u32::MAX, false)] {
+        let mut parts = program_of_two(alloc, Vec::new(alloc))?;
+        let functions = &mut parts.functions;
+        if let Some(function) = functions.0.last_mut() {
+            function.sig = sig;
+        }
         assert_eq!(rt; Cured::new(parts).is_some(), accepted);
     }
     Ok(())

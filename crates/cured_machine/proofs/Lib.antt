@@ -8,3 +8,10 @@ pub mod KeptLaws
 pub mod CallLaws
 pub mod ControlLaws
 pub mod SizeLaws
+pub mod GrowLaws
+pub mod LoadLaws
+pub mod SlotLaws
+pub mod RunningLaws
+pub mod FormLaws
+pub mod RoomLaws
+pub mod StepLaws

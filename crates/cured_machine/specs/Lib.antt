@@ -3,3 +3,9 @@ pub mod Rows
 pub mod Spelled
 pub mod Kept
 pub mod Sizes
+pub mod Ready
+pub mod Runs
+pub mod Loading
+pub mod Reading
+pub mod Running
+pub mod Steps

@@ -1,12 +1,13 @@
 //! The control stack: where a part of an instruction is over, what follows it.
-ghost use Rattle.std.specs.Prelude.{◌<◌, ◌∷◌, length, vec_len, vec_capacity, slice_index, ◌≡◌, ℕ, List, [], MatchOption, ⊤};
+ghost use Rattle.std.specs.Prelude.{◌<◌, ◌∷◌, length, vec_len, vec_capacity, slice_index, ◌≡◌, ℕ, List, [], MatchOption};
 ghost use Rattle.integers.specs.Words.{is_true_word};
 ghost use Rattle.cured_code.specs.declared.instr.Instr.{Instr};
 ghost use Rattle.cured_code.specs.declared.parts.Parts.{Parts};
 ghost use Rattle.cured_code.specs.FlatMachine.{FlatOutcome};
 ghost use Rattle.cured_code.specs.FlatState.{Local};
 ghost use Rattle.cured_machine.specs.Stack.{Caller};
-ghost use Rattle.cured_machine.specs.Spelled.{IsLast, IsReached, GoesOn, GoesIn, slices_of};
+ghost use Rattle.cured_machine.specs.Sizes.{Lessens};
+ghost use Rattle.cured_machine.specs.Spelled.{CanLeave, IsLast, IsLeaving, IsLess, IsReached, GoesOn, GoesIn, slices_of, is_if};
 ghost use Rattle.cured_machine.specs.Rows.{IsNamed};
 
 use cured_code::Instr;
@@ -25,7 +26,7 @@ pub(crate) enum Next<'a> {
 /// The newest slice of the stack.
 #[inline(always)]
 fn top<'a>(stack: &Vec<&'a [Instr]>) -> Option<&'a [Instr]>
-    ensures { MatchOption result ⊤ (λ slice. IsLast stack.now.items slice) }
+    ensures { MatchOption result (length stack.now.items ≡ 0) (λ slice. IsLast stack.now.items slice) }
 {
     match stack.last() {
         None => None,
@@ -37,26 +38,31 @@ fn top<'a>(stack: &Vec<&'a [Instr]>) -> Option<&'a [Instr]>
 /// turn.
 #[inline(always)]
 pub(crate) fn go_on<'a>(stack: &mut Vec<&'a [Instr]>, turns: &mut u64) -> Next<'a>
-    ensures { (parts : Parts) (whole : FlatOutcome) (ks : List Caller) (f j : ℕ) (c : Local) → c.state.turns ≡ turns.old →
+    ensures goes { (parts : Parts) (whole : FlatOutcome) (ks : List Caller) (f j : ℕ) (c : Local) → c.state.turns ≡ turns.old →
         IsReached parts whole ks f j (slices_of stack.old.items) [] c →
         GoesOn parts whole ks f j (slices_of stack.new.items) turns.new c result }
+    ensures less { IsLess turns.old (slices_of stack.old.items) [] turns.new (slices_of stack.new.items) result }
+    ensures capacity { vec_capacity stack.new ≡ vec_capacity stack.old }
 {
     let Some(outer) = top(stack) else {
         return Next::Over;
     };
-    match outer.split_first() {
-        Some((Instr::Loop(body), _)) => {
+    let Some((first, rest)) = outer.split_first() else {
+        return Next::Over;
+    };
+    match first {
+        Instr::Loop(body) => {
             if *turns == 0 {
                 return Next::Spent;
             }
             *turns -= 1;
             Next::Code(body.0.as_slice())
         }
-        Some((Instr::If(_, _, _), rest)) => {
+        Instr::If(_, _, _) => {
             let _ = stack.take_last();
             Next::Code(rest)
         }
-        Some((Instr::Block(_), rest)) => {
+        Instr::Block(_) => {
             let _ = stack.take_last();
             Next::Code(rest)
         }
@@ -75,9 +81,11 @@ pub(crate) fn go_in<'a>(
 ) -> Next<'a>
     requires room { vec_len stack.old < vec_capacity stack.old }
     requires named { (i : Instr) (rest : List Instr) → here.now ≡ i ∷ rest → (areas : ℕ) × IsNamed i (length frame.now) areas }
-    ensures { (parts : Parts) (whole : FlatOutcome) (ks : List Caller) (f j : ℕ) (c : Local) → c.state.turns ≡ turns.old → c.slots ≡ frame.now →
+    ensures goes { (parts : Parts) (whole : FlatOutcome) (ks : List Caller) (f j : ℕ) (c : Local) → c.state.turns ≡ turns.old → c.slots ≡ frame.now →
         IsReached parts whole ks f j (slices_of stack.old.items) here.now c →
         GoesIn parts whole ks f j (slices_of stack.new.items) here.now turns.new c result }
+    ensures less { IsLess turns.old (slices_of stack.old.items) here.now turns.new (slices_of stack.new.items) result }
+    ensures capacity { vec_capacity stack.new ≡ vec_capacity stack.old }
 {
     let Some((first, _)) = here.split_first() else {
         return Next::Over;
@@ -107,6 +115,43 @@ pub(crate) fn go_in<'a>(
             Next::Code(x.0.as_slice())
         }
         _ => Next::Over,
+    }
+}
+
+/// Leaves the block or loop that stands `blocks` blocks and loops further out than the innermost, and gives what follows
+/// it.
+#[inline(always)]
+pub(crate) fn leave<'a>(stack: &mut Vec<&'a [Instr]>, blocks: u32) -> &'a [Instr]
+    requires { CanLeave (slices_of stack.old.items) blocks }
+    ensures goes { (parts : Parts) (whole : FlatOutcome) (ks : List Caller) (f j : ℕ) (c : Local) →
+        IsLeaving parts whole ks f j (slices_of stack.old.items) blocks c →
+        IsReached parts whole ks f j (slices_of stack.new.items) result.now c }
+    ensures less { (t : ℕ) (code : List Instr) → Lessens t (slices_of stack.old.items) code t (slices_of stack.new.items) result.now }
+    ensures capacity { vec_capacity stack.new ≡ vec_capacity stack.old }
+{
+    let mut left = blocks;
+    'leaving: loop {
+        let slice = stack.take_last();
+        let Some((first, rest)) = slice.split_first() else {
+            return slice;
+        };
+        if !is_if(first) {
+            if left == 0 {
+                return rest;
+            }
+            left -= 1;
+        }
+    }
+}
+
+/// Whether the instruction is an `if`, which a `break` doesn't count.
+#[inline(always)]
+fn is_if(instr: &Instr) -> bool
+    ensures { result ≡ is_if instr.now }
+{
+    match *instr {
+        Instr::If(_, _, _) => true,
+        _ => false,
     }
 }
 

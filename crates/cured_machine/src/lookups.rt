@@ -1,16 +1,17 @@
 //! Frames, functions, type nodes and blocks.
-ghost use Rattle.std.specs.Prelude.{◌≡◌, ◌<◌, ◌+◌, ◌^◌, ℕ, length, Some, None, if◌then◌else◌};
+ghost use Rattle.std.specs.Prelude.{◌≡◌, ◌<◌, ◌+◌, ◌^◌, ℕ, length, map, slice_get, Some, None, if◌then◌else◌};
 ghost use Rattle.cured_code.specs.declared.parts.Parts.{Parts};
 ghost use Rattle.flat_mem.specs.declared.Area.{Area};
 ghost use Rattle.cured_code.specs.Groups.{Lookups};
-ghost use Rattle.cured_code.specs.Tables.{function_at, is_below, parent_of, sig_word, has_room};
+ghost use Rattle.cured_code.specs.Tables.{function_at, is_below, parent_of, sig_word, frame_fits, has_room};
 ghost use Rattle.flat_mem.specs.Memory.{Memory, block_fits, block_address, block_made};
-ghost use Rattle.cured_machine.specs.Rows.{IsNamed, IsLookupRow, areas_in, sig_word_in};
+ghost use Rattle.cured_machine.specs.Ready.{frame_areas};
+ghost use Rattle.cured_machine.specs.Rows.{IsNamed, IsLookupRow, areas_in, sig_word_in, has_room_in, function_of_sig};
 
 use crate::row::Row;
 use crate::tests_and_divisions::truth;
 use cured_code::{Function, Instr, Parts};
-use flat_mem::{Area, Flat};
+use flat_mem::{Area, AreaList, Flat};
 
 /// A new block's address, or 0 where none can be made. Its charge is `charge` and 16 more.
 fn new_block(flat: &mut Flat, tagged: bool, bytes: u64, charge: u64) -> u64
@@ -71,6 +72,24 @@ fn is_node_below(parents: &[u32], a: u64, n: u32) -> bool
     node == u64::from(n)
 }
 
+/// The function at an address, where there is one and it has signature `sig`.
+#[inline(always)]
+pub(crate) fn function_of(functions: &[Function], sig: u32, address: u64) -> Option<usize>
+    ensures { result ≡ function_of_sig functions.now sig (function_at (length functions.now) address) }
+{
+    match function_number(functions.len(), address) {
+        None => None,
+        Some(number) => {
+            let function = &functions[number];
+            if sig_of(function) == sig {
+                Some(number)
+            } else {
+                None
+            }
+        }
+    }
+}
+
 fn sig_of(function: &Function) -> u32
     ensures { result ≡ function.now.sig }
 {
@@ -90,10 +109,46 @@ fn sig_at(functions: &[Function], address: u64) -> u64
     }
 }
 
-/// Instructions that look something up in the frame, or make a block.
-pub(crate) fn act_lookups(instr: &Instr, parts: &Parts, flat: &mut Flat, frame: &mut [u64]) -> Row
+/// Whether a frame of this function may be pushed.
+#[inline(always)]
+pub(crate) fn frame_fits(
+    functions: &[Function],
+    frames: &[AreaList],
+    flat: &Flat,
+    number: usize,
+) -> bool
+    requires there { number < length functions.now }
+    requires areas { frames.now ≡ map frame_areas functions.now }
+    ensures { result ≡ frame_fits (slice_get functions.now number) flat.now }
+{
+    let areas = &frames[number];
+    let function = &functions[number];
+    flat.fits(&areas.0, function.charge)
+}
+
+/// Whether a function is at the address, and its frame may be pushed.
+fn has_room(functions: &[Function], frames: &[AreaList], flat: &Flat, address: u64) -> bool
+    requires { frames.now ≡ map frame_areas functions.now }
+    ensures { result ≡ has_room_in functions.now (function_at (length functions.now) address) flat.now }
+{
+    match function_number(functions.len(), address) {
+        None => false,
+        Some(number) => frame_fits(functions, frames, flat, number),
+    }
+}
+
+/// Instructions that look something up in the program or in the frames, or make a block.
+#[inline(always)]
+pub(crate) fn act_lookups(
+    instr: &Instr,
+    parts: &Parts,
+    frames: &[AreaList],
+    flat: &mut Flat,
+    frame: &mut [u64],
+) -> Row
     requires named { IsNamed instr.now (length frame.old) (areas_in flat.old) }
     requires limit { flat.old.bounds.heap_limit < 2 ^ 64 }
+    requires areas { frames.now ≡ map frame_areas parts.now.functions }
     ensures { IsLookupRow parts.now instr.now flat.old flat.new frame.old frame.new result }
 {
     match *instr {
@@ -106,6 +161,11 @@ pub(crate) fn act_lookups(instr: &Instr, parts: &Parts, flat: &mut Flat, frame: 
         Instr::Sigof(v, a) => {
             let functions = &parts.functions;
             frame[v as usize] = sig_at(&functions.0, frame[a as usize]);
+        }
+        Instr::Room(v, a) => {
+            let functions = &parts.functions;
+            let holds = has_room(&functions.0, frames, flat, frame[a as usize]);
+            frame[v as usize] = truth(holds);
         }
         Instr::New(tagged, v, n, s) => {
             frame[v as usize] = new_block(flat, tagged, frame[n as usize], frame[s as usize]);

@@ -53,7 +53,7 @@ fn shift_signed(a: u64, b: u64) -> u64
 // The low byte, or the low two or four bytes, of a word.
 
 #[inline(always)]
-fn low_8(a: u64) -> u8
+pub(crate) fn low_8(a: u64) -> u8
     ensures { result ≡ a % 2 ^ 8 }
 {
     a.to_le_bytes()[0]

@@ -5,4 +5,3 @@ pub mod DeclaredLaws
 pub mod StartLaws
 pub mod CuredLaws
 pub mod RangeLaws
-pub mod LineLaws

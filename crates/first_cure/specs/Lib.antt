@@ -2,4 +2,3 @@ pub mod SameRun
 pub mod Curing
 pub mod Relation
 pub mod Views
-pub mod FirstLines

@@ -2,7 +2,6 @@ ghost use Rattle.std.specs.Prelude.{◌≡◌, length, replicate, IfOk};
 ghost use Rattle.first_language.specs.Language.{IsWellDeclared};
 ghost use Rattle.first_language.specs.Views.{tree_of, items_of, value_of};
 ghost use Rattle.first_cure.specs.Curing.{AreFew, IsCured, IsMain, names_of, int_area};
-ghost use Rattle.first_cure.specs.FirstLines.{HasFirstLines};
 ghost use Rattle.first_cure.specs.SameRun.{RunsAs};
 ghost use Rattle.first_cure.specs.Views.{view_of};
 
@@ -66,8 +65,7 @@ fn parts_of(alloc: Global, program: &Program) -> Result<Parts, NoMemory>
 /// Fails only for want of memory.
 pub fn cure(alloc: Global, program: &Program) -> Result<Cured, NoMemory>
     requires well_declared { IsWellDeclared (tree_of program.now) }
-    ensures runs { IfOk result (λ code. RunsAs code (tree_of program.now)) }
-    ensures lines { IfOk result (λ code. HasFirstLines code) }
+    ensures { IfOk result (λ code. RunsAs code (tree_of program.now)) }
 {
     let parts = parts_of(alloc, program)?;
     match Cured::new(parts) {

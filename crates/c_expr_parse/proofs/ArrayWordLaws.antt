@@ -67,7 +67,7 @@ after_qualifier static false has = refl
 
 after_first : (static qualifier : Bool) (words : List Word) (word : Word) → cond static (are_qualifiers words) (qualifier && end_in_static words) ≡ true
     → cond static (are_qualifiers (words ++ word ∷ [])) (qualifier && end_in_static (words ++ word ∷ []))
-      ≡ follows (is_static_word word.keyword) (is_qualifier word.keyword) (static || has_static words) static
+    ≡ follows (is_static_word word.keyword) (is_qualifier word.keyword) (static || has_static words) static
 after_first true qualifier words word e = qualifiers-snoc words word e ∙ after_static (is_static_word word.keyword) (is_qualifier word.keyword)
 after_first false true words word e =
     end-snoc words word e ∙ after_qualifier (is_static_word word.keyword) (is_qualifier word.keyword) (has_static words)

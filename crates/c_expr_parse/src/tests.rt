@@ -50,21 +50,21 @@ fn read_specifiers(alloc: Global, text: &[u8], file: bool) -> Result<(Specifiers
 fn expr_shape(alloc: Global, text: &[u8]) -> Result<Vec<u8>, Fault> {
     let (e, _) = read_expr(alloc, text, Level::Comma)?;
     let mut out = Vec::new(alloc);
-    shape::expr(&mut out, &e).map_err(no_memory)?;
+    shape::expr(&mut out, 64, &e).map_err(no_memory)?;
     Ok(out)
 }
 
 fn declarator_shape(alloc: Global, text: &[u8]) -> Result<Vec<u8>, Fault> {
     let (d, _) = read_declarator(alloc, text)?;
     let mut out = Vec::new(alloc);
-    shape::declarator(&mut out, &d).map_err(no_memory)?;
+    shape::declarator(&mut out, 64, &d).map_err(no_memory)?;
     Ok(out)
 }
 
 fn specifiers_shape(alloc: Global, text: &[u8]) -> Result<Vec<u8>, Fault> {
     let (s, _) = read_specifiers(alloc, text, true)?;
     let mut out = Vec::new(alloc);
-    shape::specifiers(&mut out, &s).map_err(no_memory)?;
+    shape::specifiers(&mut out, 64, &s).map_err(no_memory)?;
     Ok(out)
 }
 

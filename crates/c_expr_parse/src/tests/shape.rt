@@ -1,7 +1,7 @@
-//! The shape of a part of a unit, written with each operator before its operands.
+//! The shape of a part of a unit, written with each operator before its operands, so many calls deep.
 use c_tree::{
-    AggregateKind, Assignment, Binary, Core, Declarator, Enumerator, Expr, Identifier, MemberOperator,
-    Members, Parameter, Part, Specifier, Specifiers, Step, TypeName, Unary,
+    AggregateKind, Assignment, Binary, Core, Declarator, Enumerator, Expr, Identifier,
+    MemberOperator, Members, Parameter, Part, Specifier, Specifiers, Step, TypeName, Unary,
 };
 use std::alloc::AllocError;
 
@@ -67,80 +67,103 @@ fn assignment(operator: Assignment) -> &'static [u8] {
 
 /// A small constant is its digit, each other one is `N`.
 fn constant(value: u64) -> u8 {
-    if value < 10 {
-        b'0' + value as u8
-    } else {
-        b'N'
-    }
+    if value < 10 { b'0' + value as u8 } else { b'N' }
 }
 
 #[cycle(shapes)]
-fn one(out: &mut Vec<u8>, operator: &[u8], a: &Expr) -> Written {
+fn one(out: &mut Vec<u8>, left: u32, operator: &[u8], a: &Expr) -> Written {
+    let Some(below) = left.checked_sub(1) else {
+        return Ok(());
+    };
     put(out, b"{")?;
     put(out, operator)?;
     put(out, b" ")?;
-    expr(out, a)?;
+    expr(out, below, a)?;
     put(out, b"}")
 }
 
 #[cycle(shapes)]
-fn two(out: &mut Vec<u8>, operator: &[u8], a: &Expr, b: &Expr) -> Written {
+fn two(out: &mut Vec<u8>, left: u32, operator: &[u8], a: &Expr, b: &Expr) -> Written {
+    let Some(below) = left.checked_sub(1) else {
+        return Ok(());
+    };
     put(out, b"{")?;
     put(out, operator)?;
     put(out, b" ")?;
-    expr(out, a)?;
+    expr(out, below, a)?;
     put(out, b" ")?;
-    expr(out, b)?;
+    expr(out, below, b)?;
     put(out, b"}")
 }
 
 #[cycle(shapes)]
-fn call(out: &mut Vec<u8>, function: &Expr, arguments: &[Expr]) -> Written {
+fn call(out: &mut Vec<u8>, left: u32, function: &Expr, arguments: &[Expr]) -> Written {
+    let Some(below) = left.checked_sub(1) else {
+        return Ok(());
+    };
     put(out, b"{call ")?;
-    expr(out, function)?;
+    expr(out, below, function)?;
     for argument in arguments {
         put(out, b" ")?;
-        expr(out, argument)?;
+        expr(out, below, argument)?;
     }
     put(out, b"}")
 }
 
 #[cycle(shapes)]
-fn member(out: &mut Vec<u8>, e: &Expr, operator: MemberOperator, name: &[u8]) -> Written {
+fn member(
+    out: &mut Vec<u8>,
+    left: u32,
+    e: &Expr,
+    operator: MemberOperator,
+    name: &[u8],
+) -> Written {
+    let Some(below) = left.checked_sub(1) else {
+        return Ok(());
+    };
     let spelled: &'static [u8] = match operator {
         MemberOperator::Dot => b"{. ",
         MemberOperator::Arrow => b"{-> ",
     };
     put(out, spelled)?;
-    expr(out, e)?;
+    expr(out, below, e)?;
     put(out, b" ")?;
     put(out, name)?;
     put(out, b"}")
 }
 
 #[cycle(shapes)]
-fn choice(out: &mut Vec<u8>, c: &Expr, a: &Expr, b: &Expr) -> Written {
+fn choice(out: &mut Vec<u8>, left: u32, c: &Expr, a: &Expr, b: &Expr) -> Written {
+    let Some(below) = left.checked_sub(1) else {
+        return Ok(());
+    };
     put(out, b"{? ")?;
-    expr(out, c)?;
+    expr(out, below, c)?;
     put(out, b" ")?;
-    expr(out, a)?;
+    expr(out, below, a)?;
     put(out, b" ")?;
-    expr(out, b)?;
+    expr(out, below, b)?;
     put(out, b"}")
 }
 
 #[cycle(shapes)]
-fn cast(out: &mut Vec<u8>, to: &TypeName, e: &Expr) -> Written {
+fn cast(out: &mut Vec<u8>, left: u32, to: &TypeName, e: &Expr) -> Written {
+    let Some(below) = left.checked_sub(1) else {
+        return Ok(());
+    };
     put(out, b"{cast ")?;
-    type_name(out, to)?;
+    type_name(out, below, to)?;
     put(out, b" ")?;
-    expr(out, e)?;
+    expr(out, below, e)?;
     put(out, b"}")
 }
 
 /// An expression: `{operator operand ..}`, with parentheses as they stand in the text.
 #[cycle(shapes)]
-pub(super) fn expr(out: &mut Vec<u8>, e: &Expr) -> Written {
+pub(super) fn expr(out: &mut Vec<u8>, left: u32, e: &Expr) -> Written {
+    let Some(below) = left.checked_sub(1) else {
+        return Ok(());
+    };
     match e {
         Expr::Name(name) => put(out, name.bytes.as_slice()),
         Expr::Integer(_, value, _) => put(out, &[constant(*value)]),
@@ -148,55 +171,70 @@ pub(super) fn expr(out: &mut Vec<u8>, e: &Expr) -> Written {
         Expr::String(_) => put(out, b"\""),
         Expr::Paren(_, e) => {
             put(out, b"(")?;
-            expr(out, e.get())?;
+            expr(out, below, e.get())?;
             put(out, b")")
         }
-        Expr::Index(a, _, i) => two(out, b"[]", a.get(), i.get()),
-        Expr::Call(f, _, arguments) => call(out, f.get(), arguments.as_slice()),
-        Expr::Member(e, operator, _, name) => member(out, e.get(), *operator, name.bytes.as_slice()),
-        Expr::Postfix(e, Step::Increment, _) => one(out, b"after++", e.get()),
-        Expr::Postfix(e, Step::Decrement, _) => one(out, b"after--", e.get()),
-        other => by_operators(out, other),
+        Expr::Index(a, _, i) => two(out, below, b"[]", a.get(), i.get()),
+        Expr::Call(f, _, arguments) => call(out, below, f.get(), arguments.as_slice()),
+        Expr::Member(e, operator, _, name) => member(
+            out,
+            below,
+            e.get(),
+            *operator,
+            name.bytes.as_slice(),
+        ),
+        Expr::Postfix(e, Step::Increment, _) => one(out, below, b"after++", e.get()),
+        Expr::Postfix(e, Step::Decrement, _) => one(out, below, b"after--", e.get()),
+        other => by_operators(out, below, other),
     }
 }
 
 #[cycle(shapes)]
-fn by_operators(out: &mut Vec<u8>, e: &Expr) -> Written {
+fn by_operators(out: &mut Vec<u8>, left: u32, e: &Expr) -> Written {
+    let Some(below) = left.checked_sub(1) else {
+        return Ok(());
+    };
     match e {
-        Expr::Prefix(operator, _, e) => one(out, unary(*operator), e.get()),
+        Expr::Prefix(operator, _, e) => one(out, below, unary(*operator), e.get()),
         Expr::SizeOfType(_, _, to) => {
             put(out, b"{sizeof ")?;
-            type_name(out, to.get())?;
+            type_name(out, below, to.get())?;
             put(out, b"}")
         }
-        Expr::Cast(_, to, e) => cast(out, to.get(), e.get()),
-        Expr::Infix(operator, a, _, b) => two(out, binary(*operator), a.get(), b.get()),
-        Expr::Conditional(c, _, a, b) => choice(out, c.get(), a.get(), b.get()),
-        Expr::Assign(operator, a, _, b) => two(out, assignment(*operator), a.get(), b.get()),
-        Expr::Comma(a, b) => two(out, b",", a.get(), b.get()),
+        Expr::Cast(_, to, e) => cast(out, below, to.get(), e.get()),
+        Expr::Infix(operator, a, _, b) => two(out, below, binary(*operator), a.get(), b.get()),
+        Expr::Conditional(c, _, a, b) => choice(out, below, c.get(), a.get(), b.get()),
+        Expr::Assign(operator, a, _, b) => two(out, below, assignment(*operator), a.get(), b.get()),
+        Expr::Comma(a, b) => two(out, below, b",", a.get(), b.get()),
         _ => Ok(()),
     }
 }
 
 /// A type name: `<specifiers|declarator>`, the declarator only where there is one.
 #[cycle(shapes)]
-fn type_name(out: &mut Vec<u8>, t: &TypeName) -> Written {
+fn type_name(out: &mut Vec<u8>, left: u32, t: &TypeName) -> Written {
+    let Some(below) = left.checked_sub(1) else {
+        return Ok(());
+    };
     put(out, b"<")?;
-    specifiers(out, &t.specifiers)?;
+    specifiers(out, below, &t.specifiers)?;
     if let Some(inner) = &t.declarator {
         put(out, b"|")?;
-        declarator(out, inner)?;
+        declarator(out, below, inner)?;
     }
     put(out, b">")
 }
 
 /// Specifiers: their words in order, with a comma between two.
 #[cycle(shapes)]
-pub(super) fn specifiers(out: &mut Vec<u8>, s: &Specifiers) -> Written {
+pub(super) fn specifiers(out: &mut Vec<u8>, left: u32, s: &Specifiers) -> Written {
+    let Some(below) = left.checked_sub(1) else {
+        return Ok(());
+    };
     let mut between: &'static [u8] = b"";
     for one in s.list.as_slice() {
         put(out, between)?;
-        specifier(out, one)?;
+        specifier(out, below, one)?;
         between = b",";
     }
     Ok(())
@@ -217,7 +255,10 @@ fn tag(out: &mut Vec<u8>, name: &Option<Identifier>) -> Written {
 }
 
 #[cycle(shapes)]
-fn specifier(out: &mut Vec<u8>, s: &Specifier) -> Written {
+fn specifier(out: &mut Vec<u8>, left: u32, s: &Specifier) -> Written {
+    let Some(below) = left.checked_sub(1) else {
+        return Ok(());
+    };
     match s {
         Specifier::Keyword(word) => put(out, word.keyword.spelling()),
         Specifier::Typedef(name) => {
@@ -231,7 +272,7 @@ fn specifier(out: &mut Vec<u8>, s: &Specifier) -> Written {
         Specifier::Aggregate(kind, _, name, _, rows) => {
             put(out, aggregate(*kind))?;
             tag(out, name)?;
-            members(out, rows.as_slice())
+            members(out, below, rows.as_slice())
         }
         Specifier::Enum(_, name) => {
             put(out, b"enum ")?;
@@ -240,61 +281,76 @@ fn specifier(out: &mut Vec<u8>, s: &Specifier) -> Written {
         Specifier::Enumeration(_, name, _, list, _) => {
             put(out, b"enum ")?;
             tag(out, name)?;
-            enumerators(out, list.as_slice())
+            enumerators(out, below, list.as_slice())
         }
     }
 }
 
 /// Rows of members: `{specifiers|declarator|.. ..}`.
 #[cycle(shapes)]
-fn members(out: &mut Vec<u8>, rows: &[Members]) -> Written {
+fn members(out: &mut Vec<u8>, left: u32, rows: &[Members]) -> Written {
+    let Some(below) = left.checked_sub(1) else {
+        return Ok(());
+    };
     put(out, b"{")?;
     let mut between: &'static [u8] = b"";
     for row in rows {
         put(out, between)?;
-        member_row(out, row)?;
+        member_row(out, below, row)?;
         between = b" ";
     }
     put(out, b"}")
 }
 
 #[cycle(shapes)]
-fn member_row(out: &mut Vec<u8>, row: &Members) -> Written {
-    specifiers(out, &row.specifiers)?;
+fn member_row(out: &mut Vec<u8>, left: u32, row: &Members) -> Written {
+    let Some(below) = left.checked_sub(1) else {
+        return Ok(());
+    };
+    specifiers(out, below, &row.specifiers)?;
     for d in row.declarators.as_slice() {
         put(out, b"|")?;
-        declarator(out, d)?;
+        declarator(out, below, d)?;
     }
     Ok(())
 }
 
 #[cycle(shapes)]
-fn enumerators(out: &mut Vec<u8>, list: &[Enumerator]) -> Written {
+fn enumerators(out: &mut Vec<u8>, left: u32, list: &[Enumerator]) -> Written {
+    let Some(below) = left.checked_sub(1) else {
+        return Ok(());
+    };
     put(out, b"{")?;
     let mut between: &'static [u8] = b"";
     for e in list {
         put(out, between)?;
-        enumerator(out, e)?;
+        enumerator(out, below, e)?;
         between = b" ";
     }
     put(out, b"}")
 }
 
 #[cycle(shapes)]
-fn enumerator(out: &mut Vec<u8>, e: &Enumerator) -> Written {
+fn enumerator(out: &mut Vec<u8>, left: u32, e: &Enumerator) -> Written {
+    let Some(below) = left.checked_sub(1) else {
+        return Ok(());
+    };
     match e {
         Enumerator::Plain(name) => put(out, name.bytes.as_slice()),
         Enumerator::Valued(name, _, value) => {
             put(out, name.bytes.as_slice())?;
             put(out, b"=")?;
-            expr(out, value)
+            expr(out, below, value)
         }
     }
 }
 
 /// A declarator: its stars, its core, and its parts.
 #[cycle(shapes)]
-pub(super) fn declarator(out: &mut Vec<u8>, d: &Declarator) -> Written {
+pub(super) fn declarator(out: &mut Vec<u8>, left: u32, d: &Declarator) -> Written {
+    let Some(below) = left.checked_sub(1) else {
+        return Ok(());
+    };
     for star in d.stars.as_slice() {
         put(out, b"*")?;
         for word in star.qualifiers.as_slice() {
@@ -307,55 +363,67 @@ pub(super) fn declarator(out: &mut Vec<u8>, d: &Declarator) -> Written {
         Core::Unnamed => put(out, b"_")?,
         Core::Nested(_, inside) => {
             put(out, b"(")?;
-            declarator(out, inside.get())?;
+            declarator(out, below, inside.get())?;
             put(out, b")")?;
         }
     }
-    parts(out, d.parts.as_slice())
+    parts(out, below, d.parts.as_slice())
 }
 
 #[cycle(shapes)]
-fn parts(out: &mut Vec<u8>, list: &[Part]) -> Written {
+fn parts(out: &mut Vec<u8>, left: u32, list: &[Part]) -> Written {
+    let Some(below) = left.checked_sub(1) else {
+        return Ok(());
+    };
     for p in list {
-        part(out, p)?;
+        part(out, below, p)?;
     }
     Ok(())
 }
 
 #[cycle(shapes)]
-fn part(out: &mut Vec<u8>, p: &Part) -> Written {
+fn part(out: &mut Vec<u8>, left: u32, p: &Part) -> Written {
+    let Some(below) = left.checked_sub(1) else {
+        return Ok(());
+    };
     match p {
         Part::Array(_, _, None) => put(out, b"[]"),
         Part::Array(_, _, Some(size)) => {
             put(out, b"[")?;
-            expr(out, size)?;
+            expr(out, below, size)?;
             put(out, b"]")
         }
         Part::Function(_, list) => {
             put(out, b"(")?;
-            parameters(out, list.as_slice())?;
+            parameters(out, below, list.as_slice())?;
             put(out, b")")
         }
     }
 }
 
 #[cycle(shapes)]
-fn parameters(out: &mut Vec<u8>, list: &[Parameter]) -> Written {
+fn parameters(out: &mut Vec<u8>, left: u32, list: &[Parameter]) -> Written {
+    let Some(below) = left.checked_sub(1) else {
+        return Ok(());
+    };
     let mut between: &'static [u8] = b"";
     for p in list {
         put(out, between)?;
-        parameter(out, p)?;
+        parameter(out, below, p)?;
         between = b" ";
     }
     Ok(())
 }
 
 #[cycle(shapes)]
-fn parameter(out: &mut Vec<u8>, p: &Parameter) -> Written {
-    specifiers(out, &p.specifiers)?;
+fn parameter(out: &mut Vec<u8>, left: u32, p: &Parameter) -> Written {
+    let Some(below) = left.checked_sub(1) else {
+        return Ok(());
+    };
+    specifiers(out, below, &p.specifiers)?;
     if let Some(d) = &p.declarator {
         put(out, b"|")?;
-        declarator(out, d)?;
+        declarator(out, below, d)?;
     }
     Ok(())
 }

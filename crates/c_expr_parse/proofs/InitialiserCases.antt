@@ -1,7 +1,7 @@
 -- Initialisers, by whether a node is allowed and whether a brace comes.
-use Rattle.std.proofs.Common.{◌≡◌, ℕ, suc, ◌-◌, ◌<◌, Bool, true, false, cond, Option, Some, None, List, refl, arith}
+use Rattle.std.proofs.Common.{◌≡◌, ℕ, suc, ◌-◌, ◌<◌, Bool, cond, Some, None, List, refl, ap, ◌∙◌, arith}
 use Rattle.cc_base.specs.declared.place.Place.{Place}
-use Rattle.parse_rules.specs.Parsers.{Answer, Stopped, Syntax, Deep, first, next, skip}
+use Rattle.parse_rules.specs.Parsers.{Stopped, first, next, skip}
 use Rattle.c_tree.specs.Symbols.{Symbol}
 use Rattle.c_tree.specs.Tree as tree
 use Rattle.c_tree.specs.Words.{TypeNames}
@@ -10,15 +10,12 @@ use Rattle.c_expr_parse.specs.Seen.{reason_of}
 use Rattle.c_expr_parse.specs.Tests.{open_brace, begins_initialiser}
 use Rattle.c_expr_parse.specs.declared.stop.Stop.{Stop}
 use Rattle.c_expr_parse.specs.declared.stop.Stop.TheVariants as stop
+use Rattle.c_expr_parse.proofs.Layers.{none_allowed}
 
-told : (begins : Bool) (ts : List Symbol) → cond {A = Answer Symbol tree.Initialiser} begins (Stopped Deep ts) (Stopped Syntax ts) ≡ Stopped (reason_of (cond begins stop.Deep stop.Syntax)) ts
-told true ts = refl
-told false ts = refl
-
-pub none_allowed : (names : TypeNames) (depth : ℕ) (ts : List Symbol) (begins : Bool) (why : Stop) → depth ≡ 0 → begins ≡ begins_initialiser names (first ts) → why ≡ cond begins stop.Deep stop.Syntax
+pub no_initialiser : (names : TypeNames) (depth : ℕ) (ts : List Symbol) (begins : Bool) (why : Stop) → depth ≡ 0 → begins ≡ begins_initialiser names (first ts) → why ≡ cond begins stop.Deep stop.Syntax
     → initialiser names depth ts ≡ Stopped (reason_of why) ts
 unfolding initialiser
-none_allowed names depth ts begins why e b w = rw (e, w, b) (told (begins_initialiser names (first ts)) ts)
+no_initialiser names depth ts begins why none said told = ap (λ n. initialiser names n ts) none ∙ none_allowed (begins_initialiser names) ts begins why told said
 
 value_at : (names : TypeNames) (depth d : ℕ) (ts : List Symbol) → depth ≡ suc d → open_brace (first ts) ≡ None → initialiser names depth ts ≡ value (rules names depth) ts
 unfolding initialiser initialiser_from

@@ -1,5 +1,5 @@
 -- The rules for so many nodes, by whether any is allowed.
-use Rattle.std.proofs.Common.{◌≡◌, ◌≢◌, ℕ, zero, suc, ◌-◌, Bool, true, false, cond, Option, List, Result, refl, sym, ap, ◌∙◌, subst, arith}
+use Rattle.std.proofs.Common.{◌≡◌, ℕ, suc, ◌-◌, Bool, true, false, cond, Option, List, Result, refl, sym, ap, ◌∙◌, subst, arith}
 use Rattle.cc_base.specs.declared.place.Place.{Place}
 use Rattle.parse_rules.specs.Parsers.{Answer, Stopped, Deep, Syntax, first, too_deep}
 use Rattle.c_tree.specs.Grammar.{Naming}
@@ -23,27 +23,27 @@ told_why true ts = refl
 told_why false ts = refl
 
 -- no node is allowed
-none_allowed : {A : Type 0} (test : Option Symbol → Bool) (ts : List Symbol) (begins : Bool) (why : Stop)
-    → why ≡ cond begins stop.Deep stop.Syntax → begins ≡ test (first ts) → why ≢ stop.NoMemory → ◌≡◌ {A = Answer Symbol A} (too_deep test ts) (Stopped (reason_of why) ts)
-none_allowed test ts begins why told said other = told_why (test (first ts)) ts ∙ ap (λ w. Stopped (reason_of w) ts) (sym (told ∙ ap (λ b. cond b stop.Deep stop.Syntax) said))
+pub none_allowed : {A : Type 0} (test : Option Symbol → Bool) (ts : List Symbol) (begins : Bool) (why : Stop)
+    → why ≡ cond begins stop.Deep stop.Syntax → begins ≡ test (first ts) → ◌≡◌ {A = Answer Symbol A} (too_deep test ts) (Stopped (reason_of why) ts)
+none_allowed test ts begins why told said = told_why (test (first ts)) ts ∙ ap (λ w. Stopped (reason_of w) ts) (sym (told ∙ ap (λ b. cond b stop.Deep stop.Syntax) said))
 
 module _ (names : TypeNames) (depth : ℕ) where
   module _ (none : depth ≡ 0) (ts : List Symbol) (begins : Bool) (why : Stop) (told : why ≡ cond begins stop.Deep stop.Syntax) where
-    pub no_expr : (least : ℕ) → begins ≡ begins_expr names (first ts) → why ≢ stop.NoMemory → (rules names depth).expr least ts ≡ Stopped (reason_of why) ts
+    pub no_expr : (least : ℕ) → begins ≡ begins_expr names (first ts) → (rules names depth).expr least ts ≡ Stopped (reason_of why) ts
     unfolding rules
-    no_expr least said other = ap (λ n. (rules names n).expr least ts) none ∙ none_allowed (begins_expr names) ts begins why told said other
+    no_expr least said = ap (λ n. (rules names n).expr least ts) none ∙ none_allowed (begins_expr names) ts begins why told said
 
-    pub no_paren : (at : Place) → begins ≡ begins_expr names (first ts) → why ≢ stop.NoMemory → (rules names depth).paren at ts ≡ Stopped (reason_of why) ts
+    pub no_paren : (at : Place) → begins ≡ begins_expr names (first ts) → (rules names depth).paren at ts ≡ Stopped (reason_of why) ts
     unfolding rules
-    no_paren at said other = ap (λ n. (rules names n).paren at ts) none ∙ none_allowed (begins_expr names) ts begins why told said other
+    no_paren at said = ap (λ n. (rules names n).paren at ts) none ∙ none_allowed (begins_expr names) ts begins why told said
 
-    pub no_specifiers : (scope : Scope) → begins ≡ begins_specifier names scope (first ts) → why ≢ stop.NoMemory → (rules names depth).specifiers scope ts ≡ Stopped (reason_of why) ts
+    pub no_specifiers : (scope : Scope) → begins ≡ begins_specifier names scope (first ts) → (rules names depth).specifiers scope ts ≡ Stopped (reason_of why) ts
     unfolding rules
-    no_specifiers scope said other = ap (λ n. (rules names n).specifiers scope ts) none ∙ none_allowed (begins_specifier names scope) ts begins why told said other
+    no_specifiers scope said = ap (λ n. (rules names n).specifiers scope ts) none ∙ none_allowed (begins_specifier names scope) ts begins why told said
 
-    pub no_declarator : (naming : Naming) → begins ≡ begins_declarator names naming (first ts) → why ≢ stop.NoMemory → (rules names depth).declarator naming ts ≡ Stopped (reason_of why) ts
+    pub no_declarator : (naming : Naming) → begins ≡ begins_declarator names naming (first ts) → (rules names depth).declarator naming ts ≡ Stopped (reason_of why) ts
     unfolding rules
-    no_declarator naming said other = ap (λ n. (rules names n).declarator naming ts) none ∙ none_allowed (begins_declarator names naming) ts begins why told said other
+    no_declarator naming said = ap (λ n. (rules names n).declarator naming ts) none ∙ none_allowed (begins_declarator names naming) ts begins why told said
 
   -- a node is allowed
   module _ {B : Type 0} (some : depth ≡ 0 → ⊥) (ts : List Symbol) (r : Result B Stop) (left : List Symbol) where

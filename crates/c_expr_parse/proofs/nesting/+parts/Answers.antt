@@ -8,7 +8,7 @@ use Rattle.c_expr_parse.proofs.nesting.+parts.Goals as goal
 pub read_expr-returns-then-depth-eq0-clause-reads : goal.read_expr-returns-then-depth-eq0-clause-reads
 read_expr-returns-then-depth-eq0-clause-reads t c =
     let names = names_of c.args.names.now in
-    no_expr names c.args.depth c.if-depth-eq0.true c.args.cursor.now c.begins_expr.result c.too_deep.result c.too_deep.ensures c.args.least
+    λ _. no_expr names c.args.depth c.if-depth-eq0.true c.args.cursor.now c.begins_expr.result c.too_deep.result c.too_deep.ensures c.args.least
     (c.begins_expr.ensures ∙ ap (tests.begins_expr names) c.peek.ensures)
 
 pub read_expr-returns-clause-reads : goal.read_expr-returns-clause-reads
@@ -18,7 +18,7 @@ read_expr-returns-clause-reads t c =
 pub read_specifiers-returns-then-depth-eq0-clause-reads : goal.read_specifiers-returns-then-depth-eq0-clause-reads
 read_specifiers-returns-then-depth-eq0-clause-reads t c =
     let names = names_of c.args.names.now in
-    no_specifiers names c.args.depth c.if-depth-eq0.true c.args.cursor.now c.begins_specifier.result c.too_deep.result c.too_deep.ensures (scope_view c.args.scope)
+    λ _. no_specifiers names c.args.depth c.if-depth-eq0.true c.args.cursor.now c.begins_specifier.result c.too_deep.result c.too_deep.ensures (scope_view c.args.scope)
     (c.begins_specifier.ensures ∙ ap (tests.begins_specifier names (scope_view c.args.scope)) c.peek.ensures)
 
 pub read_specifiers-returns-clause-reads : goal.read_specifiers-returns-clause-reads
@@ -29,7 +29,7 @@ read_specifiers-returns-clause-reads t c =
 pub read_declarator-returns-then-depth-eq0-clause-reads : goal.read_declarator-returns-then-depth-eq0-clause-reads
 read_declarator-returns-then-depth-eq0-clause-reads t c =
     let names = names_of c.args.names.now in
-    no_declarator names c.args.depth c.if-depth-eq0.true c.args.cursor.now c.begins_declarator.result c.too_deep.result c.too_deep.ensures (naming_view c.args.naming)
+    λ _. no_declarator names c.args.depth c.if-depth-eq0.true c.args.cursor.now c.begins_declarator.result c.too_deep.result c.too_deep.ensures (naming_view c.args.naming)
     (c.begins_declarator.ensures ∙ ap (tests.begins_declarator names (naming_view c.args.naming)) c.peek.ensures)
 
 pub read_declarator-returns-clause-reads : goal.read_declarator-returns-clause-reads

@@ -3,4 +3,4 @@ use Rattle.c_expr_parse.proofs.grammar.Grammar.operand_from.Goals as goal
 
 pub returns-in-Quoted-clause-reads : goal.returns-in-Quoted-clause-reads
 unfolding operand_from
-returns-in-Quoted-clause-reads g c = c.string.ensures.reads
+returns-in-Quoted-clause-reads g c = rw c.in-Quoted.is c.string.ensures.reads

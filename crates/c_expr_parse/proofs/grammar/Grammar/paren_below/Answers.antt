@@ -8,7 +8,7 @@ use Rattle.c_expr_parse.proofs.grammar.Grammar.paren_below.Goals as goal
 pub returns-then-self-eq0-clause-reads : goal.returns-then-self-eq0-clause-reads
 returns-then-self-eq0-clause-reads g c =
     let names = names_of c.args.self.now.names.now in
-    no_paren names c.args.self.now.depth c.if-self-eq0.true c.args.cursor.now c.begins_expr.result c.too_deep.result c.too_deep.ensures c.args.at
+    λ _. no_paren names c.args.self.now.depth c.if-self-eq0.true c.args.cursor.now c.begins_expr.result c.too_deep.result c.too_deep.ensures c.args.at
     (c.begins_expr.ensures ∙ ap (tests.begins_expr names) c.peek.ensures)
 
 pub returns-clause-reads : goal.returns-clause-reads

@@ -1,7 +1,6 @@
 -- Which word may follow the words of an array part.
-use Rattle.std.proofs.Common.{◌≡◌, ℕ, Bool, true, false, cond, ◌&&◌, ◌||◌, ◌==◌, not, List, [], ◌∷◌, ◌++◌, length, length-append, refl, sym, ◌∙◌, ap, arith}
-use Rattle.std.proofs.lemmas.Bool.{and_parts, eqb-true, ne_eqb}
-use Rattle.std.proofs.lemmas.List.Folds.{list_all-append}
+use Rattle.std.proofs.Common.{◌≡◌, Bool, true, false, cond, ◌&&◌, ◌||◌, ◌==◌, not, List, [], ◌∷◌, ◌++◌, length, length-append, refl, sym, ◌∙◌, arith}
+use Rattle.std.proofs.lemmas.Bool.{and_parts, ne_eqb}
 use Rattle.c_tree.specs.declared.leaf.Word.{Word}
 use Rattle.c_tree.specs.Words.{is_qualifier, is_static_word, has_static, are_qualifiers, end_in_static, are_array_words}
 use Rattle.c_expr_parse.specs.Lists.{AreArrayWords, starts_with_static}
@@ -67,7 +66,7 @@ after_qualifier static false has = refl
 
 after_first : (static qualifier : Bool) (words : List Word) (word : Word) → cond static (are_qualifiers words) (qualifier && end_in_static words) ≡ true
     → cond static (are_qualifiers (words ++ word ∷ [])) (qualifier && end_in_static (words ++ word ∷ []))
-      ≡ follows (is_static_word word.keyword) (is_qualifier word.keyword) (static || has_static words) static
+    ≡ follows (is_static_word word.keyword) (is_qualifier word.keyword) (static || has_static words) static
 after_first true qualifier words word e = qualifiers-snoc words word e ∙ after_static (is_static_word word.keyword) (is_qualifier word.keyword)
 after_first false true words word e =
     end-snoc words word e ∙ after_qualifier (is_static_word word.keyword) (is_qualifier word.keyword) (has_static words)

@@ -27,7 +27,7 @@ module _ (tokens : List Token) (from : ℕ) (inside : from ≤ length tokens) wh
       let sizes : length tokens - from ≡ length run + length left = sym (length-map (drop from tokens) symbol_of ∙ length-drop from tokens) ∙ ap length whole ∙ length-append run left in
       let next : length tokens - length left ≡ from + length run = omega arith in
       let rest : left ≡ symbols_from tokens (from + length run) =
-          sym (front_rest (symbols_from tokens from) run left whole) ∙ drop-map symbol_of (length run) (drop from tokens) ∙ ap (map symbol_of) (drop-drop (length run) from tokens) in
+      sym (front_rest (symbols_from tokens from) run left whole) ∙ drop-map symbol_of (length run) (drop from tokens) ∙ ap (map symbol_of) (drop-drop (length run) from tokens) in
       record {
         fewer = omega arith;
         later = omega arith;
@@ -55,7 +55,7 @@ module _ (tokens : List Token) (from : ℕ) (inside : from ≤ length tokens) wh
         let right : Right (Read a left) = subst Right e m in
         let part = read_part a left right in
         subst (λ n. IsReadTo Right tokens from a (length tokens - n)) (sym size)
-            (record { from_there = part.later; in_tokens = omega arith; right = subst (λ rest. Right (Read a rest)) part.left_is right })
+        (record { from_there = part.later; in_tokens = omega arith; right = subst (λ rest. Right (Read a rest)) part.left_is right })
 
     -- reading stops
     stops : (text : List ℕ) (why : Reason) (left : List Symbol) → Right (Stopped why left)

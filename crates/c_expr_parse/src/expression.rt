@@ -19,21 +19,24 @@ use std::alloc::Global;
 
 impl<
     'a,
-    E: Fn(Global, &IndexSet<Vec<u8>>, &mut Cursor<'_>, u16, u8) -> Result<Measured<Expr>, Stop> + Copy,
+    E: Fn(Global, &IndexSet<Vec<u8>>, &mut Cursor<'_>, u16, u8) -> Result<Measured<Expr>, Stop>
+        + Copy,
     S: Fn(
         Global,
         &IndexSet<Vec<u8>>,
         &mut Cursor<'_>,
         u16,
         Scope,
-    ) -> Result<Measured<Specifiers>, Stop> + Copy,
+    ) -> Result<Measured<Specifiers>, Stop>
+        + Copy,
     D: Fn(
         Global,
         &IndexSet<Vec<u8>>,
         &mut Cursor<'_>,
         u16,
         Naming,
-    ) -> Result<Measured<Declarator>, Stop> + Copy,
+    ) -> Result<Measured<Declarator>, Stop>
+        + Copy,
 > Grammar<'a, E, S, D> {
     /// An expression of at least a level.
     #[tactic(auto, unfolding(crate::specs::ExprRules::expr_layer))]

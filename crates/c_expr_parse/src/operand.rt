@@ -38,21 +38,24 @@ fn begins_cast(names: &IndexSet<Vec<u8>>, least: u8, next: Next<'_>) -> bool
 
 impl<
     'a,
-    E: Fn(Global, &IndexSet<Vec<u8>>, &mut Cursor<'_>, u16, u8) -> Result<Measured<Expr>, Stop> + Copy,
+    E: Fn(Global, &IndexSet<Vec<u8>>, &mut Cursor<'_>, u16, u8) -> Result<Measured<Expr>, Stop>
+        + Copy,
     S: Fn(
         Global,
         &IndexSet<Vec<u8>>,
         &mut Cursor<'_>,
         u16,
         Scope,
-    ) -> Result<Measured<Specifiers>, Stop> + Copy,
+    ) -> Result<Measured<Specifiers>, Stop>
+        + Copy,
     D: Fn(
         Global,
         &IndexSet<Vec<u8>>,
         &mut Cursor<'_>,
         u16,
         Naming,
-    ) -> Result<Measured<Declarator>, Stop> + Copy,
+    ) -> Result<Measured<Declarator>, Stop>
+        + Copy,
 > Grammar<'a, E, S, D> {
     /// An expression of one token, and what goes on from it.
     fn leaf(&self, cursor: &mut Cursor<'_>, tree: Expr) -> Result<Measured<Expr>, Stop>

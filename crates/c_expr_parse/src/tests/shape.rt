@@ -1,7 +1,7 @@
 //! The shape of a part of a unit, written with each operator before its operands.
 use c_tree::{
-    AggregateKind, Assignment, Binary, Core, Declarator, Enumerator, Expr, Identifier, MemberOperator,
-    Members, Parameter, Part, Specifier, Specifiers, Step, TypeName, Unary,
+    AggregateKind, Assignment, Binary, Core, Declarator, Enumerator, Expr, Identifier,
+    MemberOperator, Members, Parameter, Part, Specifier, Specifiers, Step, TypeName, Unary,
 };
 use std::alloc::AllocError;
 
@@ -67,11 +67,7 @@ fn assignment(operator: Assignment) -> &'static [u8] {
 
 /// A small constant is its digit, each other one is `N`.
 fn constant(value: u64) -> u8 {
-    if value < 10 {
-        b'0' + value as u8
-    } else {
-        b'N'
-    }
+    if value < 10 { b'0' + value as u8 } else { b'N' }
 }
 
 #[cycle(shapes)]
@@ -153,7 +149,12 @@ pub(super) fn expr(out: &mut Vec<u8>, e: &Expr) -> Written {
         }
         Expr::Index(a, _, i) => two(out, b"[]", a.get(), i.get()),
         Expr::Call(f, _, arguments) => call(out, f.get(), arguments.as_slice()),
-        Expr::Member(e, operator, _, name) => member(out, e.get(), *operator, name.bytes.as_slice()),
+        Expr::Member(e, operator, _, name) => member(
+            out,
+            e.get(),
+            *operator,
+            name.bytes.as_slice(),
+        ),
         Expr::Postfix(e, Step::Increment, _) => one(out, b"after++", e.get()),
         Expr::Postfix(e, Step::Decrement, _) => one(out, b"after--", e.get()),
         other => by_operators(out, other),

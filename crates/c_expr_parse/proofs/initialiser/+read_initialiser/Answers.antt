@@ -1,4 +1,4 @@
-use Rattle.std.proofs.Common.{◌≡◌, ◌<◌, ◌∙◌, Some, None, sym, ap, arith}
+use Rattle.std.proofs.Common.{◌≡◌, ◌∙◌, Some, None, sym, ap, arith}
 use Rattle.parse_rules.specs.Parsers.{first}
 use Rattle.c_expr_parse.specs.Seen.{names_of}
 use Rattle.c_expr_parse.specs.Tests.{open_brace, begins_initialiser}
@@ -8,7 +8,7 @@ use Rattle.c_expr_parse.proofs.initialiser.+read_initialiser.Goals as goal
 pub returns-then-depth-eq0-clause-reads : goal.returns-then-depth-eq0-clause-reads
 returns-then-depth-eq0-clause-reads t c =
     λ _. no_initialiser (names_of c.args.names.now) c.args.depth c.args.cursor.now c.begins_initialiser.result c.too_deep.result c.if-depth-eq0.true
-      (c.begins_initialiser.ensures ∙ ap (begins_initialiser (names_of c.args.names.now)) c.peek.ensures) c.too_deep.ensures
+    (c.begins_initialiser.ensures ∙ ap (begins_initialiser (names_of c.args.names.now)) c.peek.ensures) c.too_deep.ensures
 
 pub returns-in_default-clause-reads : goal.returns-in_default-clause-reads
 returns-in_default-clause-reads t c =

@@ -1,5 +1,5 @@
 -- The answers of the rules to the tokens from one on are right ones of the calls.
-use Rattle.std.proofs.Common.{◌≡◌, ℕ, ◌-◌, ◌≤◌, List, length, map, take, drop, refl, ap, ◌∙◌, arith}
+use Rattle.std.proofs.Common.{◌≡◌, ℕ, ◌-◌, ◌≤◌, List, length, map, take, drop, ap, ◌∙◌, arith}
 use Rattle.std.proofs.lemmas.List.{length-drop, take_all}
 use Rattle.c_lexer.specs.Tokens.{Token}
 use Rattle.c_tree.specs.Grammar.{Naming}

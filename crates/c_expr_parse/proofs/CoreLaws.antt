@@ -1,5 +1,5 @@
 -- What is read in the middle of a declarator, by what may stand there and what comes.
-use Rattle.std.proofs.Common.{◌≡◌, Bool, true, false, ◌&&◌, List, [], ◌∷◌, is_some, refl}
+use Rattle.std.proofs.Common.{◌≡◌, true, false, ◌&&◌, List, [], ◌∷◌, is_some, refl}
 use Rattle.cc_base.specs.declared.place.Place.{Place}
 use Rattle.parse_rules.specs.Parsers.{Stopped, Syntax, first}
 use Rattle.c_tree.specs.Grammar.{Naming, WithName, WithoutName, WithOrWithout}

@@ -3,7 +3,6 @@ use Rattle.std.proofs.Common.{◌≡◌, ℕ, suc, ◌-◌, ◌<◌, Bool, cond,
 use Rattle.cc_base.specs.declared.place.Place.{Place}
 use Rattle.parse_rules.specs.Parsers.{Stopped, first, next, skip}
 use Rattle.c_tree.specs.Symbols.{Symbol}
-use Rattle.c_tree.specs.Tree as tree
 use Rattle.c_tree.specs.Words.{TypeNames}
 use Rattle.c_expr_parse.specs.Rules.{rules, initialiser, initialiser_from, initialiser_list, value}
 use Rattle.c_expr_parse.specs.Seen.{reason_of}

@@ -1,4 +1,4 @@
-use Rattle.std.proofs.Common.{◌≡◌, ◌∙◌, sym, ap, refl}
+use Rattle.std.proofs.Common.{◌∙◌, sym, ap, refl}
 use Rattle.c_expr_parse.specs.Lists.{starts_with_static}
 use Rattle.c_expr_parse.proofs.ArrayWordLaws.{qualifier_follows, other_follows}
 use Rattle.c_expr_parse.proofs.array_words.may_follow.Goals as goal

@@ -1,4 +1,4 @@
-use Rattle.std.proofs.Common.{◌≡◌, ◌<◌, ◌∙◌, Some, None, sym, ap, arith}
+use Rattle.std.proofs.Common.{◌≡◌, ◌∙◌, Some, None, sym, ap, arith}
 use Rattle.parse_rules.specs.Parsers.{first}
 use Rattle.c_expr_parse.specs.Seen.{names_of}
 use Rattle.c_expr_parse.specs.Tests.{open_brace, begins_initialiser}

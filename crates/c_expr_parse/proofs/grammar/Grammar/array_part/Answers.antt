@@ -1,9 +1,6 @@
-use Rattle.std.proofs.Common.{◌≡◌, rules, arith}
+use Rattle.std.proofs.Common.{rules, arith}
 use Rattle.std.proofs.lemmas.Grind.{common_steps}
-use Rattle.c_tree.specs.Tree as tree
-use Rattle.c_tree.specs.Views.{expr_view}
 use Rattle.c_expr_parse.specs.DeclaratorRules.{array_part}
-use Rattle.c_expr_parse.specs.Lists.{parts_seen}
 use Rattle.c_expr_parse.proofs.PartLaws.{sized_array-push}
 use Rattle.c_expr_parse.proofs.grammar.Grammar.array_part.Goals as goal
 

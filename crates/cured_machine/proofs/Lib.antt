@@ -15,3 +15,4 @@ pub mod RunningLaws
 pub mod FormLaws
 pub mod RoomLaws
 pub mod StepLaws
+pub mod OutsideLaws

@@ -16,3 +16,5 @@ pub mod FormLaws
 pub mod RoomLaws
 pub mod StepLaws
 pub mod OutsideLaws
+pub mod AdvanceLaws
+pub mod BodyLaws

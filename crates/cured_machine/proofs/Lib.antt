@@ -18,3 +18,4 @@ pub mod StepLaws
 pub mod OutsideLaws
 pub mod AdvanceLaws
 pub mod BodyLaws
+pub mod PassLaws

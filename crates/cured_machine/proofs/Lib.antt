@@ -19,3 +19,5 @@ pub mod OutsideLaws
 pub mod AdvanceLaws
 pub mod BodyLaws
 pub mod PassLaws
+pub mod SlotMoves
+pub mod CallingLaws

@@ -1,5 +1,7 @@
 use Rattle.cured_machine.proofs.FormLaws.{flow-form}
 use Rattle.cured_machine.proofs.StepLaws.{running-map}
+use Rattle.cured_machine.proofs.CallingLaws.{at-call}
+use Rattle.cured_machine.proofs.SlotMoves.{front-of}
 use Rattle.cured_machine.proofs.PassLaws.{opened}
 use Rattle.cured_machine.proofs.OutsideLaws.{running-got}
 use Rattle.cured_machine.proofs.RoomLaws.{stack-within}

@@ -21,3 +21,4 @@ pub mod BodyLaws
 pub mod PassLaws
 pub mod SlotMoves
 pub mod CallingLaws
+pub mod GivingLaws

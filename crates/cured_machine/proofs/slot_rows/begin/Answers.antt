@@ -1,6 +1,6 @@
 use Rattle.cured_machine.proofs.FormLaws.{flow-form}
 use Rattle.cured_machine.proofs.StepLaws.{running-map}
-use Rattle.cured_machine.proofs.CallingLaws.{at-call}
+use Rattle.cured_machine.proofs.CallingLaws.{at-call, called-less}
 use Rattle.cured_machine.proofs.SlotMoves.{front-of}
 use Rattle.cured_machine.proofs.PassLaws.{opened}
 use Rattle.cured_machine.proofs.OutsideLaws.{running-got}

@@ -47,7 +47,8 @@ pub(crate) fn enter_frame(slots: &mut [u64], first: usize, params: usize, base: 
     requires words { first + params ≤ base }
     requires params { params ≤ count }
     requires room { base + count ≤ length slots.old }
-    ensures { slots.new ≡ take base slots.old ++ (written (take params (drop first slots.old)) (replicate count 0) 0 ++ drop (base + count) slots.old) }
+    ensures made { slots.new ≡ take base slots.old ++ (written (take params (drop first slots.old)) (replicate count 0) 0 ++ drop (base + count) slots.old) }
+    ensures length { length slots.new ≡ length slots.old }
 {
     let (low, high) = slots.split_at_mut(base);
     begin(&mut high[..count], &low[first..first + params]);
@@ -57,7 +58,8 @@ pub(crate) fn enter_frame(slots: &mut [u64], first: usize, params: usize, base: 
 pub(crate) fn give_words(slots: &mut [u64], base: usize, top: usize, into: usize, first: usize, count: usize)
     requires words { top + first + count ≤ length slots.old }
     requires frame { base + into + count ≤ top }
-    ensures { slots.new ≡ take base slots.old ++ (written (take count (drop (top + first) slots.old)) (take (top - base) (drop base slots.old)) into ++ drop top slots.old) }
+    ensures made { slots.new ≡ take base slots.old ++ (written (take count (drop (top + first) slots.old)) (take (top - base) (drop base slots.old)) into ++ drop top slots.old) }
+    ensures length { length slots.new ≡ length slots.old }
 {
     let (low, high) = slots.split_at_mut(top);
     put_words(&mut low[base..], into, &high[first..first + count]);
@@ -67,7 +69,8 @@ pub(crate) fn give_words(slots: &mut [u64], base: usize, top: usize, into: usize
 pub(crate) fn give_zeros(slots: &mut [u64], base: usize, top: usize, into: usize, count: usize)
     requires room { top ≤ length slots.old }
     requires frame { base + into + count ≤ top }
-    ensures { slots.new ≡ take base slots.old ++ (written (replicate count 0) (take (top - base) (drop base slots.old)) into ++ drop top slots.old) }
+    ensures made { slots.new ≡ take base slots.old ++ (written (replicate count 0) (take (top - base) (drop base slots.old)) into ++ drop top slots.old) }
+    ensures length { length slots.new ≡ length slots.old }
 {
     let (low, _) = slots.split_at_mut(top);
     put_zero_words(&mut low[base..], into, count);

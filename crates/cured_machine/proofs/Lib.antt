@@ -22,3 +22,4 @@ pub mod PassLaws
 pub mod SlotMoves
 pub mod CallingLaws
 pub mod GivingLaws
+pub mod ReturnLaws

@@ -23,3 +23,4 @@ pub mod SlotMoves
 pub mod CallingLaws
 pub mod GivingLaws
 pub mod ReturnLaws
+pub mod OuterLaws

@@ -24,3 +24,4 @@ pub mod CallingLaws
 pub mod GivingLaws
 pub mod ReturnLaws
 pub mod OuterLaws
+pub mod BeginLaws

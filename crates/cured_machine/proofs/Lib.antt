@@ -15,3 +15,13 @@ pub mod RunningLaws
 pub mod FormLaws
 pub mod RoomLaws
 pub mod StepLaws
+pub mod OutsideLaws
+pub mod AdvanceLaws
+pub mod BodyLaws
+pub mod PassLaws
+pub mod SlotMoves
+pub mod CallingLaws
+pub mod GivingLaws
+pub mod ReturnLaws
+pub mod OuterLaws
+pub mod BeginLaws

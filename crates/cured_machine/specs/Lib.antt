@@ -9,3 +9,4 @@ pub mod Loading
 pub mod Reading
 pub mod Running
 pub mod Steps
+pub mod Outer

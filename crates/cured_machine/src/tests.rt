@@ -122,11 +122,7 @@ fn program(alloc: Global, functions: Vec<Function>) -> Result<Parts, AllocError>
 }
 
 /// A program whose function 0 has these areas and this body.
-fn single(
-    alloc: Global,
-    locals: Vec<AreaLine>,
-    body: Vec<Instr>,
-) -> Result<Parts, AllocError> {
+fn single(alloc: Global, locals: Vec<AreaLine>, body: Vec<Instr>) -> Result<Parts, AllocError> {
     program(alloc, vec![in alloc; function(0, locals, body)]?)
 }
 

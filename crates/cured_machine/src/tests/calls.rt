@@ -4,18 +4,25 @@ use cc_base::FnId;
 
 /// Runs a function 0 that calls a function 1, which takes two words and gives one. Function 1 has one area of 8 bytes, at the
 /// address 24 in its first frame.
-fn with_callee(alloc: Global, body: Vec<Instr>, callee: Vec<Instr>, turns: u64) -> Result<Ran, Fail> {
+fn with_callee(
+    alloc: Global,
+    body: Vec<Instr>,
+    callee: Vec<Instr>,
+    turns: u64,
+) -> Result<Ran, Fail> {
     let functions = vec![in alloc;
         function(0, Vec::new(alloc), body),
         function(1, vec![in alloc; typed(8)]?, callee),
     ]?;
-    run_parts(alloc, program(alloc, functions)?, Setting { turns, ..QUIET })
+    run_parts(
+        alloc,
+        program(alloc, functions)?,
+        Setting { turns, ..QUIET },
+    )
 }
 
 #[test]
-fn a_call_passes_its_words_and_puts_the_results_where_it_says(
-    rt: HostRuntime,
-) -> Result<(), Fail> {
+fn a_call_passes_its_words_and_puts_the_results_where_it_says(rt: HostRuntime) -> Result<(), Fail> {
     let alloc = rt.alloc();
     for call in [Instr::Call(1, 5, 8), Instr::Icall(1, 4, 5, 8)] {
         let body = vec![in alloc;
@@ -68,11 +75,7 @@ fn three_results_come_into_three_slots(rt: HostRuntime) -> Result<(), Fail> {
 #[test]
 fn the_end_of_a_body_gives_zeros(rt: HostRuntime) -> Result<(), Fail> {
     let alloc = rt.alloc();
-    let body = vec![in alloc;
-        Instr::Const(8, 65),
-        Instr::Call(1, 5, 8),
-        Instr::Put(8),
-    ]?;
+    let body = vec![in alloc; Instr::Const(8, 65), Instr::Call(1, 5, 8), Instr::Put(8)]?;
     let callee = vec![in alloc; Instr::Const(0, 66)]?;
     assert!(rt; with_callee(alloc, body, callee, 0)?.is(Ending::Exited(0), b"\0"));
     Ok(())
@@ -84,11 +87,7 @@ fn a_return_leaves_all_that_it_stands_in(rt: HostRuntime) -> Result<(), Fail> {
     let round = Instr::Block(part(alloc, Instr::Return(0))?);
     let branch = Instr::If(0, part(alloc, round)?, Code(Vec::new(alloc)));
     let callee = vec![in alloc; Instr::Loop(part(alloc, branch)?), Instr::Put(0)]?;
-    let body = vec![in alloc;
-        Instr::Const(5, 65),
-        Instr::Call(1, 5, 8),
-        Instr::Put(8),
-    ]?;
+    let body = vec![in alloc; Instr::Const(5, 65), Instr::Call(1, 5, 8), Instr::Put(8)]?;
     assert!(rt; with_callee(alloc, body, callee, 1)?.is(Ending::Exited(0), b"A"));
     Ok(())
 }
@@ -107,7 +106,10 @@ fn a_caller_goes_on_in_the_block_that_its_call_stands_in(rt: HostRuntime) -> Res
         Instr::Block(Code(inner)),
         Instr::Put(5),
     ]?;
-    let callee = vec![in alloc; Instr::Block(part(alloc, Instr::Break(0))?), Instr::Return(0)]?;
+    let callee = vec![in alloc;
+        Instr::Block(part(alloc, Instr::Break(0))?),
+        Instr::Return(0),
+    ]?;
     assert!(rt; with_callee(alloc, body, callee, 0)?.is(Ending::Exited(0), b"AA"));
     Ok(())
 }
@@ -138,11 +140,7 @@ fn the_slots_and_the_areas_of_each_call_begin_at_0(rt: HostRuntime) -> Result<()
 #[test]
 fn the_depth_counts_from_the_first_frame(rt: HostRuntime) -> Result<(), Fail> {
     let alloc = rt.alloc();
-    let body = vec![in alloc;
-        Instr::Frame(5, 0),
-        Instr::Call(1, 5, 8),
-        Instr::Put(8),
-    ]?;
+    let body = vec![in alloc; Instr::Frame(5, 0), Instr::Call(1, 5, 8), Instr::Put(8)]?;
     let callee = vec![in alloc;
         Instr::Frame(3, 0),
         Instr::Depth(4, 3),
@@ -213,16 +211,16 @@ fn endless_calls(
     locals: Vec<AreaLine>,
     callee: Vec<AreaLine>,
 ) -> Result<Ran, Fail> {
-    let line = vec![in alloc;
-        Instr::Const(2, 120),
-        Instr::Put(2),
-        Instr::Call(1, 0, 0),
-    ]?;
+    let line = vec![in alloc; Instr::Const(2, 120), Instr::Put(2), Instr::Call(1, 0, 0)]?;
     let mut first = function(0, locals, vec![in alloc; Instr::Call(1, 0, 0)]?);
     first.charge = charges.0;
     let mut second = function(1, callee, line);
     second.charge = charges.1;
-    run_parts(alloc, program(alloc, vec![in alloc; first, second]?)?, QUIET)
+    run_parts(
+        alloc,
+        program(alloc, vec![in alloc; first, second]?)?,
+        QUIET,
+    )
 }
 
 #[test]
@@ -256,7 +254,10 @@ fn live_frames_lie_in_the_stack_s_region(rt: HostRuntime) -> Result<(), Fail> {
 #[test]
 fn a_call_that_does_not_fit_traps_without_a_turn(rt: HostRuntime) -> Result<(), Fail> {
     let alloc = rt.alloc();
-    for (charge, ending) in [(1_048_576, Ending::Turns), (1_048_577, Ending::Trap(FnId(1)))] {
+    for (charge, ending) in [
+        (1_048_576, Ending::Turns),
+        (1_048_577, Ending::Trap(FnId(1))),
+    ] {
         let mut charged = function(0, Vec::new(alloc), Vec::new(alloc));
         charged.charge = charge;
         let functions = vec![in alloc;

@@ -12,11 +12,7 @@ fn put(body: &mut Vec<Instr>, byte: u8) -> Result<(), AllocError> {
 fn a_branch_runs_its_first_part_where_its_slot_is_not_0(rt: HostRuntime) -> Result<(), Fail> {
     let alloc = rt.alloc();
     for (word, expected) in [(1, b"A."), (u64::MAX, b"A."), (0, b"B.")] {
-        let branch = Instr::If(
-            0,
-            part(alloc, Instr::Put(1))?,
-            part(alloc, Instr::Put(2))?,
-        );
+        let branch = Instr::If(0, part(alloc, Instr::Put(1))?, part(alloc, Instr::Put(2))?);
         let mut body = vec![in alloc;
             Instr::Const(0, word),
             Instr::Const(1, 65),
@@ -121,8 +117,10 @@ fn an_empty_loop_ends_when_the_turns_do(rt: HostRuntime) -> Result<(), Fail> {
 #[test]
 fn a_break_leaves_a_loop_from_a_block_in_it(rt: HostRuntime) -> Result<(), Fail> {
     let alloc = rt.alloc();
-    let outputs: [(u32, Ending, &[u8]); 2] =
-        [(0, Ending::Turns, b"bb"), (1, Ending::Exited(0), b"c")];
+    let outputs: [(u32, Ending, &[u8]); 2] = [
+        (0, Ending::Turns, b"bb"),
+        (1, Ending::Exited(0), b"c"),
+    ];
     for (count, ending, expected) in outputs {
         let mut inner = vec![in alloc; Instr::Break(count)]?;
         put(&mut inner, b'a')?;

@@ -158,10 +158,7 @@ fn a_block_that_is_not_made_leaves_the_heap(rt: HostRuntime) -> Result<(), Fail>
         Instr::New(true, 2, 0, 1),
     ]?;
     assert!(rt;
-        word_after(alloc, Vec::new(alloc), body)?.is(
-            Ending::Exited(0),
-            &FIRST_BLOCK.to_le_bytes()
-        )
+        word_after(alloc, Vec::new(alloc), body)?.is(Ending::Exited(0), &FIRST_BLOCK.to_le_bytes())
     );
     Ok(())
 }
@@ -184,10 +181,7 @@ fn a_block_is_zero_after_its_length(rt: HostRuntime) -> Result<(), Fail> {
             line,
         ]?;
         assert!(rt;
-            word_after(alloc, Vec::new(alloc), body)?.is(
-                Ending::Exited(0),
-                &expected.to_le_bytes()
-            )
+            word_after(alloc, Vec::new(alloc), body)?.is(Ending::Exited(0), &expected.to_le_bytes())
         );
     }
     Ok(())

@@ -253,9 +253,7 @@ fn globals_begin_with_their_bytes(rt: HostRuntime) -> Result<(), Fail> {
             first: Bytes(Vec::from_slice(alloc, &[9])?),
         };
         parts.globals = Globals(vec![in alloc; first, second]?);
-        assert!(rt;
-            run_parts(alloc, parts, QUIET)?.is(Ending::Exited(0), &expected.to_le_bytes())
-        );
+        assert!(rt; run_parts(alloc, parts, QUIET)?.is(Ending::Exited(0), &expected.to_le_bytes()));
     }
     Ok(())
 }

@@ -64,11 +64,7 @@ fn the_end_of_the_input_is_the_greatest_word_ever_after(rt: HostRuntime) -> Resu
     let alloc = rt.alloc();
     let inputs: [&[u8]; 3] = [b"", b"a", b"ab"];
     for input in inputs {
-        let mut body = vec![in alloc;
-            Instr::Get(0),
-            Instr::Get(1),
-            Instr::Get(2),
-        ]?;
+        let mut body = vec![in alloc; Instr::Get(0), Instr::Get(1), Instr::Get(2)]?;
         put_word(&mut body, 2)?;
         let parts = single(alloc, Vec::new(alloc), body)?;
         let setting = Setting { input, ..QUIET };
@@ -89,9 +85,7 @@ fn a_byte_read_is_the_whole_word(rt: HostRuntime) -> Result<(), Fail> {
         input: &[255],
         ..QUIET
     };
-    assert!(rt;
-        run_parts(alloc, parts, setting)?.is(Ending::Exited(0), &255_u64.to_le_bytes())
-    );
+    assert!(rt; run_parts(alloc, parts, setting)?.is(Ending::Exited(0), &255_u64.to_le_bytes()));
     Ok(())
 }
 
@@ -130,8 +124,6 @@ fn a_check_stops_the_run_where_its_slot_is_0(rt: HostRuntime) -> Result<(), Fail
 #[test]
 fn a_function_0_with_no_line_exits_with_0(rt: HostRuntime) -> Result<(), Fail> {
     let alloc = rt.alloc();
-    assert!(rt;
-        run_lines(alloc, Vec::new(alloc), Vec::new(alloc))?.is(Ending::Exited(0), b"")
-    );
+    assert!(rt; run_lines(alloc, Vec::new(alloc), Vec::new(alloc))?.is(Ending::Exited(0), b""));
     Ok(())
 }

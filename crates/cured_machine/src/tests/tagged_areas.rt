@@ -53,18 +53,15 @@ fn the_base_words_and_tags_stand_after_the_data_words(rt: HostRuntime) -> Result
 #[test]
 fn a_range_is_plain_where_it_touches_no_tagged_word(rt: HostRuntime) -> Result<(), Fail> {
     let alloc = rt.alloc();
-    for (offset, bytes, expected) in [
-        (0, 8, 1_u64),
-        (0, 9, 0),
-        (7, 1, 1),
-        (7, 2, 0),
-        (15, 1, 0),
-        (8, 0, 1),
+    for (address, bytes, expected) in [
+        (16, 8, 1_u64),
+        (16, 9, 0),
+        (23, 1, 1),
+        (23, 2, 0),
+        (31, 1, 0),
+        (24, 0, 1),
     ] {
-        let lines = vec![in alloc;
-            Instr::Const(0, 16 + offset),
-            Instr::Plain(2, 0, 10, bytes),
-        ]?;
+        let lines = vec![in alloc; Instr::Const(0, address), Instr::Plain(2, 0, 10, bytes)]?;
         assert!(rt; in_areas(alloc, lines)?.is(Ending::Exited(0), &expected.to_le_bytes()));
     }
     Ok(())
@@ -80,11 +77,7 @@ fn an_untagged_word_is_zero_and_keeps_its_base_word(rt: HostRuntime) -> Result<(
         // The first word was not tagged, and keeps its bytes.
         (Instr::Ld(8, 2, 10), u64::MAX),
     ] {
-        let lines = vec![in alloc;
-            Instr::Const(0, 23),
-            Instr::Untag(0, 10, 2),
-            line,
-        ]?;
+        let lines = vec![in alloc; Instr::Const(0, 23), Instr::Untag(0, 10, 2), line]?;
         assert!(rt; in_areas(alloc, lines)?.is(Ending::Exited(0), &expected.to_le_bytes()));
     }
     Ok(())
@@ -129,11 +122,7 @@ fn zeroed_bytes_leave_the_words_that_they_touch_untagged(rt: HostRuntime) -> Res
         (Instr::Tagged(2, 11, 10), 0),
         (Instr::Base(2, 11, 10), 77_u64),
     ] {
-        let lines = vec![in alloc;
-            Instr::Const(0, 26),
-            Instr::Tzero(0, 10, 4),
-            line,
-        ]?;
+        let lines = vec![in alloc; Instr::Const(0, 26), Instr::Tzero(0, 10, 4), line]?;
         assert!(rt; in_areas(alloc, lines)?.is(Ending::Exited(0), &expected.to_le_bytes()));
     }
     Ok(())
@@ -207,9 +196,7 @@ fn a_word_s_instruction_between_two_words_traps(rt: HostRuntime) -> Result<(), F
 }
 
 #[test]
-fn a_tag_a_base_word_or_a_length_outside_the_byte_list_traps(
-    rt: HostRuntime,
-) -> Result<(), Fail> {
+fn a_tag_a_base_word_or_a_length_outside_the_byte_list_traps(rt: HostRuntime) -> Result<(), Fail> {
     for line in [
         Instr::Plain(2, 5, 10, 1),
         Instr::Untag(5, 10, 1),

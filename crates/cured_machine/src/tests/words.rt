@@ -4,7 +4,7 @@ use cc_base::FnId;
 use cured_code::Narrow;
 
 /// The least integer.
-const LEAST: u64 = 1 << 63;
+const LEAST: u64 = 9_223_372_036_854_775_808;
 
 /// The integer -1.
 const MINUS_ONE: u64 = u64::MAX;
@@ -25,7 +25,12 @@ fn operators_give_words(rt: HostRuntime) -> Result<(), Fail> {
         (5, 9, Instr::Copy(2, 1), 9),
         (u64::MAX, 2, Instr::Add(2, 0, 1), 1),
         (1, 2, Instr::Sub(2, 0, 1), u64::MAX),
-        (LEAST + 3, 3, Instr::Mul(2, 0, 1), LEAST + 9),
+        (
+            9_223_372_036_854_775_811,
+            3,
+            Instr::Mul(2, 0, 1),
+            9_223_372_036_854_775_817,
+        ),
         (12, 10, Instr::And(2, 0, 1), 8),
         (12, 10, Instr::Or(2, 0, 1), 14),
         (12, 10, Instr::Xor(2, 0, 1), 6),
@@ -46,8 +51,8 @@ fn shifts_take_their_count_modulo_64(rt: HostRuntime) -> Result<(), Fail> {
         (LEAST, 63, Instr::Shr(2, 0, 1), 1),
         (LEAST, 128, Instr::Shr(2, 0, 1), LEAST),
         (LEAST, 63, Instr::Sar(2, 0, 1), u64::MAX),
-        (LEAST, 65, Instr::Sar(2, 0, 1), LEAST + LEAST / 2),
-        (LEAST / 2, 61, Instr::Sar(2, 0, 1), 2),
+        (LEAST, 65, Instr::Sar(2, 0, 1), 13_835_058_055_282_163_712),
+        (4_611_686_018_427_387_904, 61, Instr::Sar(2, 0, 1), 2),
     ] {
         assert!(rt;
             word_of(rt.alloc(), a, b, line)?.is(Ending::Exited(0), &expected.to_le_bytes())
@@ -81,7 +86,12 @@ fn a_narrowing_copies_the_sign_or_fills_with_zeros(rt: HostRuntime) -> Result<()
 #[test]
 fn signed_division_rounds_towards_zero(rt: HostRuntime) -> Result<(), Fail> {
     for (a, b, line, expected) in [
-        (u64::MAX, 10, Instr::Divu(2, 0, 1), 1_844_674_407_370_955_161),
+        (
+            u64::MAX,
+            10,
+            Instr::Divu(2, 0, 1),
+            1_844_674_407_370_955_161,
+        ),
         (u64::MAX, 10, Instr::Remu(2, 0, 1), 5),
         (MINUS_SEVEN, 2, Instr::Divs(2, 0, 1), u64::MAX - 2),
         (7, u64::MAX - 1, Instr::Divs(2, 0, 1), u64::MAX - 2),

@@ -19,10 +19,7 @@ const FRAMES_CHARGE_LIMIT: u64 = 1_048_576;
 const BLOCKS_CHARGE_LIMIT: u64 = 4_194_304;
 
 /// The areas of each function's frame.
-pub(crate) fn frames_of(
-    alloc: Global,
-    functions: &[Function],
-) -> Result<Vec<AreaList>, AllocError>
+pub(crate) fn frames_of(alloc: Global, functions: &[Function]) -> Result<Vec<AreaList>, AllocError>
     ensures { IfOk result (λ frames. frames.items ≡ map frame_areas functions.now) }
 {
     let mut frames = Vec::with_capacity(alloc, functions.len())?;

@@ -24,13 +24,13 @@ returns-then-left-eq0-clause-less c =
 pub leaving-preserved-then-not-is_if : goal.leaving-preserved-then-not-is_if
 leaving-preserved-then-not-is_if c = (
   left-one c.args.stack.now.items c.leaving.stack.items c.take_last-slice.new.self.items c.take_last-slice.result c.in-Some.first.now c.in-Some.rest.now c.args.blocks c.leaving.left
-  c.leaving.invariant.0 c.take_last-slice.ensures.items c.in-Some.ensures.cases.0 (sym c.is_if.ensures ∙ c.if-not-is_if.true) c.if-left-eq0.false,
+      c.leaving.invariant.0 c.take_last-slice.ensures.items c.in-Some.ensures.cases.0 (sym c.is_if.ensures ∙ c.if-not-is_if.true) c.if-left-eq0.false,
   c.take_last-slice.ensures.capacity ∙ c.leaving.invariant.1,
 )
 
 pub leaving-preserved : goal.leaving-preserved
 leaving-preserved c = (
   left-if c.args.stack.now.items c.leaving.stack.items c.take_last-slice.new.self.items c.take_last-slice.result c.in-Some.first.now c.in-Some.rest.now c.args.blocks c.leaving.left
-  c.leaving.invariant.0 c.take_last-slice.ensures.items c.in-Some.ensures.cases.0 (sym c.is_if.ensures ∙ c.if-not-is_if.false),
+      c.leaving.invariant.0 c.take_last-slice.ensures.items c.in-Some.ensures.cases.0 (sym c.is_if.ensures ∙ c.if-not-is_if.false),
   c.take_last-slice.ensures.capacity ∙ c.leaving.invariant.1,
 )

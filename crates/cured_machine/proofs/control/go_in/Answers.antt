@@ -1,4 +1,4 @@
-use Rattle.std.proofs.Common.{◌∙◌, sym, arith}
+use Rattle.std.proofs.Common.{◌∙◌, sym}
 use Rattle.cured_machine.proofs.ControlLaws.{enter-then, enter-else, enter-block, enter-loop, enter-spent, into-less, one-less, no-part, no-part_none, no-holder, not-in}
 use Rattle.cured_code.specs.declared.instr.Instr.TheVariants as instr
 use Rattle.cured_machine.specs.Spelled.{slices_of}

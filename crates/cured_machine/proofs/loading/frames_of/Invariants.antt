@@ -1,4 +1,4 @@
-use Rattle.std.proofs.Common.{◌≡◌, ◌+◌, ◌≤◌, map, take, length, vec_len, vec_capacity}
+use Rattle.std.proofs.Common.{◌≡◌, map, take, length, vec_len, vec_capacity}
 use Rattle.cured_machine.specs.Ready.{frame_areas}
 use Rattle.cured_machine.proofs.loading.frames_of.Given as goal
 

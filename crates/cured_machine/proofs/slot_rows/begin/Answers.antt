@@ -1,14 +1,3 @@
-use Rattle.cured_machine.proofs.FormLaws.{flow-form}
-use Rattle.cured_machine.proofs.StepLaws.{running-map}
-use Rattle.cured_machine.proofs.BeginLaws.{begins}
-use Rattle.cured_machine.proofs.OuterLaws.{going-next}
-use Rattle.cured_machine.proofs.ReturnLaws.{at-back}
-use Rattle.cured_machine.proofs.CallingLaws.{at-call, called-less}
-use Rattle.cured_machine.proofs.SlotMoves.{front-of}
-use Rattle.cured_machine.proofs.PassLaws.{opened}
-use Rattle.cured_machine.proofs.OutsideLaws.{running-got}
-use Rattle.cured_machine.proofs.RoomLaws.{stack-within}
-use Rattle.cured_machine.proofs.RunningLaws.{at-some}
 use Rattle.std.proofs.Common.{◌∙◌, ap}
 use Rattle.flat_mem.specs.Bytes.{written}
 use Rattle.cured_machine.proofs.SlotLaws.{zeroed-all}

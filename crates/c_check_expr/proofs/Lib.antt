@@ -1,3 +1,4 @@
 pub mod RefusedRows
 pub mod ScopeLaws
+pub mod TypeSearch
 pub mod TypedRows

@@ -4,7 +4,9 @@
 mod declared;
 mod level;
 mod member;
+mod operand;
 mod scope;
+mod typing;
 
 pub use declared::{Declared, Tag};
 pub use scope::Scope;

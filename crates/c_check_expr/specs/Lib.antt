@@ -14,3 +14,4 @@ pub mod Operands
 pub mod Operations
 pub mod Assignments
 pub mod OperandViews
+pub mod KindViews

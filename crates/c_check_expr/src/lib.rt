@@ -2,10 +2,12 @@
 #![tactic(auto)]
 
 mod declared;
+mod kind;
 mod level;
 mod member;
 mod operand;
 mod scope;
+mod shapes;
 mod typing;
 
 pub use declared::{Declared, Tag};

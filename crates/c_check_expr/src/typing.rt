@@ -74,18 +74,6 @@ pub(crate) fn new_pointer(
     Ok(Pointing { node, ty })
 }
 
-/// The shape of a type. What is no type has none.
-pub(crate) fn shape_at(types: &Types, t: TypeId) -> Option<&TypeShape>
-    ensures none { result ≡ None → length types.now ≤ t.0 }
-    ensures some { IfSome result (λ x. (x.now ≡ shape_at types.now t) × (t.0 < length types.now)) }
-{
-    if t.0 < types.count() {
-        Some(types.shape(t))
-    } else {
-        None
-    }
-}
-
 /// An allocation that nothing takes over is of raw bytes.
 #[tactic(auto, using(c_tree::proofs::TypedViewLaws::typed_views))]
 fn made_raw(scope: &Scope, pointing: Pointing, e: TypedExpr) -> Result<TypedExpr, NoMemory>

@@ -1,5 +1,5 @@
 -- What assignments, choices, casts, calls and names make, where no rule is broken, and where they stop else (C99 6.5).
-use Rattle.std.specs.Prelude.{ℕ, ◌+◌, Bool, true, false, nat_lt, nat_le, List, [], ◌∷◌, ◌++◌, map, fold, length, max, Option, Some, None, if◌then◌else◌}
+use Rattle.std.specs.Prelude.{ℕ, ◌+◌, Bool, true, false, ◌&&◌, nat_lt, nat_le, List, [], ◌∷◌, ◌++◌, map, fold, length, max, Option, Some, None, if◌then◌else◌}
 use Rattle.cc_base.specs.declared.place.Place.{Place}
 use Rattle.cc_base.specs.declared.number.NodeId.{NodeId}
 use Rattle.cc_base.specs.declared.number.TypeId.{TypeId}
@@ -28,7 +28,7 @@ use Rattle.integers.specs.Arithmetic.{IntegerType, int, unsigned_long}
 use Rattle.c_check_expr.specs.declared.declared.Declared.{Declared}
 use Rattle.c_check_expr.specs.declared.declared.Declared.TheVariants as declared
 use Rattle.c_check_expr.specs.Integers.{char, common, left_type, right_type, assigning}
-use Rattle.c_check_expr.specs.Shapes.{is_void_shape, shape_of_integer}
+use Rattle.c_check_expr.specs.Shapes.{is_void_shape, integer_at}
 use Rattle.c_check_expr.specs.Scopes.{Scopes, Name, name_in, place_among}
 use Rattle.c_check_expr.specs.Conversions.{to_integer, implicit, converting, cast_conversion, is_pointer_to_complete}
 use Rattle.c_check_expr.specs.Rules.{Meeting, meeting, meeting_type, into_choice, pieces_bytes, runtime_named, IsTarget}
@@ -69,14 +69,13 @@ assign x at y = do
   construct (λ s. tests.assign_tests s.table s.seen.scopes assignment.Assign at x.part v) x.place (x.held ∷ y.held ∷ []) (assign_part at x.part v)
 
 -- of two integers, or of a pointer that an integer moves
-abbrev pub updated : Assignment → Place → TypedPlace → TypedExpr → TypeShape → TypeShape → TypedExpr
-updated operator at p e (shape.Integer m r) (shape.Integer n q) = typed.AssignWith operator p at
-    (to_integer at (integer_type (right_type (assigning operator) (record { bytes = m; signed = r }) (record { bytes = n; signed = q }))) e)
-    (integer_type (left_type (assigning operator) (record { bytes = m; signed = r }) (record { bytes = n; signed = q })))
-updated operator at p e x y = typed.AssignWith operator p at e (place_type p)
+abbrev pub updated : Assignment → Place → TypedPlace → TypedExpr → Option IntegerType → Option IntegerType → TypedExpr
+updated operator at p e (Some j) (Some k) = typed.AssignWith operator p at
+    (to_integer at (integer_type (right_type (assigning operator) j k)) e) (integer_type (left_type (assigning operator) j k))
+updated operator at p e j k = typed.AssignWith operator p at e (place_type p)
 
 unfoldable pub update_part : Assignment → Place → Elaborated → TypedExpr → Judging Elaborated
-update_part operator at (AsPlace p) e = by_known (λ s. pure (AsValue (updated operator at p e (shape_at s.table (place_type p)) (shape_at s.table (type_of e)))))
+update_part operator at (AsPlace p) e = by_known (λ s. pure (AsValue (updated operator at p e (integer_at s.table (place_type p)) (integer_at s.table (type_of e)))))
 update_part operator at x e = stop (TooLarge at Types)
 
 unfoldable pub update_by : Assignment → Operand → Place → Value → Judging Operand
@@ -91,18 +90,20 @@ pointer_choice c begin at a b (Some to) = do
   made ← new_pointer begin to
   by_known (λ s. pure (AsValue (typed.PointerConditional c at (into_choice s.table at made.type a) (into_choice s.table at made.type b) made.node made.type)))
 
-unfoldable pub choice_of_values : TypedExpr → Place → Place → TypedExpr → TypedExpr → TypeShape → TypeShape → Judging Elaborated
-choice_of_values c begin at a b (shape.Integer m r) (shape.Integer n q) = pure (AsValue (typed.Conditional c at
-    (to_integer at (integer_type (common (record { bytes = m; signed = r }) (record { bytes = n; signed = q }))) a)
-    (to_integer at (integer_type (common (record { bytes = m; signed = r }) (record { bytes = n; signed = q }))) b)
-    (integer_type (common (record { bytes = m; signed = r }) (record { bytes = n; signed = q })))))
-choice_of_values c begin at a b shape.Void shape.Void = pure (AsValue (typed.Conditional c at a b void_type))
-choice_of_values c begin at a b x y = by_known (λ s. pointer_choice c begin at a b (meeting_type (meeting s.table a b)))
+unfoldable pub choice_of_pointers : TypedExpr → Place → Place → TypedExpr → TypedExpr → (void : Bool) → Judging Elaborated
+choice_of_pointers c begin at a b true = pure (AsValue (typed.Conditional c at a b void_type))
+choice_of_pointers c begin at a b false = by_known (λ s. pointer_choice c begin at a b (meeting_type (meeting s.table a b)))
+
+unfoldable pub choice_of_values : TypedExpr → Place → Place → TypedExpr → TypedExpr → Option IntegerType → Option IntegerType → Judging Elaborated
+choice_of_values c begin at a b (Some j) (Some k) = pure (AsValue (typed.Conditional c at
+    (to_integer at (integer_type (common j k)) a) (to_integer at (integer_type (common j k)) b) (integer_type (common j k))))
+choice_of_values c begin at a b j k =
+    by_known (λ s. choice_of_pointers c begin at a b (is_void_shape (shape_at s.table (type_of a)) && is_void_shape (shape_at s.table (type_of b))))
 
 unfoldable pub choice_of_parts : TypedExpr → Place → Place → Elaborated → Elaborated → Judging Elaborated
 choice_of_parts c begin at (AsPlace p) (AsPlace q) = pure (AsPlace (typed.StructConditional c at p q))
 choice_of_parts c begin at (AsValue a) (AsValue b) =
-    by_known (λ s. choice_of_values c begin at a b (shape_at s.table (type_of a)) (shape_at s.table (type_of b)))
+    by_known (λ s. choice_of_values c begin at a b (integer_at s.table (type_of a)) (integer_at s.table (type_of b)))
 choice_of_parts c begin at x y = stop (TooLarge begin Types)
 
 unfoldable pub choice : Value → Place → Value → Value → Judging Operand
@@ -209,9 +210,10 @@ named_as name (Some function) other = pure (AsValue (typed.RuntimeName name func
 named_as name None (Some (declared.Function t)) = function_name name t
 named_as name None None = stop (TooLarge name.place Types)
 
-unfoldable pub name : Bool → Identifier → Judging Operand
-name called name = construct (λ s. tests.name_tests s.seen.scopes (tests.has_some (runtime_of name.bytes)) called name.bytes name.place) name.place []
-    (by_known (λ s. named_as name (runtime_of name.bytes) (name_in s.seen.scopes.levels name.bytes)))
+-- `at_call` says that the name is called
+unfoldable pub name : (at_call : Bool) → Identifier → Judging Operand
+name at_call word = construct (λ s. tests.name_tests s.seen.scopes (tests.has_some (runtime_of word.bytes)) at_call word.bytes word.place) word.place []
+    (by_known (λ s. named_as word (runtime_of word.bytes) (name_in s.seen.scopes.levels word.bytes)))
 
 -- String literals (C99 6.4.5)
 

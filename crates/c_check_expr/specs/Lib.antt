@@ -15,3 +15,4 @@ pub mod Operations
 pub mod Assignments
 pub mod OperandViews
 pub mod KindViews
+pub mod Extensions

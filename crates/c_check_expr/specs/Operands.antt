@@ -11,6 +11,8 @@ use Rattle.c_types.specs.Table.{Table, shape_at}
 use Rattle.c_tree.specs.TypedTree as typed
 use Rattle.c_tree.specs.TypedTree.{TypedExpr, TypedPlace}
 use Rattle.c_tree.specs.TypedParts.{type_of, place_type}
+use Rattle.c_check_expr.specs.declared.typing.Reading.{Reading}
+use Rattle.c_check_expr.specs.declared.typing.Reading.TheVariants as reading
 use Rattle.c_check_expr.specs.Scopes.{Scopes}
 use Rattle.c_check_expr.specs.Conversions.{is_pointer_to_complete}
 use Rattle.c_check_expr.specs.Tests as tests
@@ -40,17 +42,24 @@ made_for t (typed.Paren at e) = typed.Paren at (made_for t e)
 made_for t (typed.AllocateFor runtime f at arguments u) = typed.AllocateFor runtime f at arguments t
 made_for t e = e
 
--- the value of a place of a type with this shape: an array's is its address, and no place is of another type
-unfoldable pub place_value : Place → TypedPlace → TypeShape → Judging TypedExpr
-place_value at p (shape.Array element count) = do
+-- how the value of a place of a type with this shape is taken; no place is of `void` or of a function type
+abbrev pub reading_of : TypeShape → Reading
+reading_of (shape.Array element count) = reading.Decays element
+reading_of (shape.Integer bytes signed) = reading.Reads
+reading_of (shape.Pointer n t) = reading.Reads
+reading_of (shape.Struct number) = reading.Stays
+reading_of (shape.Union number) = reading.Stays
+reading_of shape.Void = reading.Nothing
+reading_of (shape.Function parameters result) = reading.Nothing
+
+-- the value of a place: an array's is its address
+unfoldable pub place_value : Place → TypedPlace → Reading → Judging TypedExpr
+place_value at p (reading.Decays element) = do
   made ← new_pointer at element
   pure (typed.Decay p made.node made.type)
-place_value at p (shape.Integer bytes signed) = pure (typed.Read p)
-place_value at p (shape.Pointer n t) = pure (typed.Read p)
-place_value at p (shape.Struct number) = pure (typed.Unread p)
-place_value at p (shape.Union number) = pure (typed.Unread p)
-place_value at p shape.Void = stop (TooLarge at Types)
-place_value at p (shape.Function parameters result) = stop (TooLarge at Types)
+place_value at p reading.Reads = pure (typed.Read p)
+place_value at p reading.Stays = pure (typed.Unread p)
+place_value at p reading.Nothing = stop (TooLarge at Types)
 
 -- an allocation that nothing takes over is of raw bytes
 unfoldable pub raw_value : Place → TypedExpr → Judging TypedExpr
@@ -59,7 +68,7 @@ raw_value at e = do
   pure (made_raw made.node made.type e)
 
 unfoldable pub value_of : Place → Elaborated → Judging TypedExpr
-value_of at (AsPlace p) = by_known (λ s. place_value at p (shape_at s.table (place_type p)))
+value_of at (AsPlace p) = by_known (λ s. place_value at p (reading_of (shape_at s.table (place_type p))))
 value_of at (AsValue e) = pure e
 value_of at (AsAllocation e) = raw_value at e
 

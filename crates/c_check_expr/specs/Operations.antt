@@ -29,6 +29,7 @@ use Rattle.c_tree.specs.TypedParts.{type_of, place_type, named_type}
 use Rattle.integers.specs.Arithmetic.{IntegerType, int, long, unsigned_long}
 use Rattle.c_check_expr.specs.Held.{held_with}
 use Rattle.c_check_expr.specs.Integers.{promoted, left_type, right_type, result_type, constant_type, is_logical, is_order}
+use Rattle.c_check_expr.specs.Shapes.{integer_at, pointee_at, is_pointer_shape, is_function_shape}
 use Rattle.c_check_expr.specs.Scopes.{Scopes, place_among, members_named}
 use Rattle.c_check_expr.specs.Conversions.{to_integer}
 use Rattle.c_check_expr.specs.Rules.{number_of_shape, pointer_behind, is_move, Meeting, RightIsNull, LeftIsNull, BothPoint, NeverMeet, meeting, null_of}
@@ -79,18 +80,18 @@ paren at x = construct (λ s. []) at (x.held ∷ []) (pure (in_parens at x.part)
 
 -- Operators of one operand
 
-abbrev pub pointed_place : Place → TypedExpr → TypeId → TypeShape → Elaborated
-pointed_place at e t (shape.Function parameters result) = AsValue (typed.FunctionAt at e)
-pointed_place at e t x = AsPlace (typed.Target at e t)
+-- `*e` of a pointer to t
+abbrev pub pointed_place : Place → TypedExpr → TypeId → (function : Bool) → Elaborated
+pointed_place at e t true = AsValue (typed.FunctionAt at e)
+pointed_place at e t false = AsPlace (typed.Target at e t)
 
--- `*e` of a value of this shape
-abbrev pub pointed : Table → Place → TypedExpr → TypeShape → Elaborated
-pointed T at e (shape.Pointer n t) = pointed_place at e t (shape_at T t)
-pointed T at e x = AsValue e
+abbrev pub pointed : Table → Place → TypedExpr → Option TypeId → Elaborated
+pointed T at e None = AsValue e
+pointed T at e (Some t) = pointed_place at e t (is_function_shape (shape_at T t))
 
 unfoldable pub target_of : Place → Value → Judging Operand
 target_of at v = construct (λ s. tests.target_tests s.table s.seen.scopes at (AsValue v.expr)) at (v.held ∷ [])
-    (by_known (λ s. pure (pointed s.table at v.expr (shape_at s.table (type_of v.expr)))))
+    (by_known (λ s. pure (pointed s.table at v.expr (pointee_at s.table (type_of v.expr)))))
 
 unfoldable pub target : Place → Operand → Judging Operand
 target at x = value x >>= target_of at
@@ -109,16 +110,14 @@ address_of_part at (AsAllocation e) = stop (TooLarge at Types)
 unfoldable pub address : Place → Operand → Judging Operand
 address at x = construct (λ s. tests.address_tests at x.part) at (x.held ∷ []) (address_of_part at x.part)
 
-abbrev pub signed_operand : Unary → Place → TypedExpr → TypeShape → TypedExpr
-signed_operand operator at e (shape.Integer bytes signed) =
-    typed.Prefix operator at (to_integer at (integer_type (promoted (record { bytes = bytes; signed = signed }))) e)
-    (integer_type (promoted (record { bytes = bytes; signed = signed })))
-signed_operand operator at e x = typed.Prefix operator at e int_type
+abbrev pub promoted_operand : Unary → Place → TypedExpr → Option IntegerType → TypedExpr
+promoted_operand operator at e (Some k) = typed.Prefix operator at (to_integer at (integer_type (promoted k)) e) (integer_type (promoted k))
+promoted_operand operator at e None = typed.Prefix operator at e int_type
 
 -- `+`, `-` and `~`, and `!`
 abbrev pub operator_on : Table → Unary → Place → TypedExpr → TypedExpr
 operator_on T unary.Not at e = typed.Prefix unary.Not at e int_type
-operator_on T operator at e = signed_operand operator at e (shape_at T (type_of e))
+operator_on T operator at e = promoted_operand operator at e (integer_at T (type_of e))
 
 unfoldable pub prefix_of : Unary → Place → Value → Judging Operand
 prefix_of operator at v = construct (λ s. tests.prefix_tests s.table s.seen.scopes operator at (AsValue v.expr)) at (v.held ∷ [])
@@ -158,14 +157,14 @@ prefix unary.SizeOf at x = size at x
 
 -- Operators of two operands
 
-abbrev pub element : TypedExpr → Place → TypedExpr → TypeShape → TypeShape → Elaborated
-element a at b (shape.Pointer n t) y = AsPlace (typed.Element side.Left a at b t)
-element a at b x (shape.Pointer n t) = AsPlace (typed.Element side.Right a at b t)
-element a at b x y = AsValue a
+abbrev pub element : TypedExpr → Place → TypedExpr → Option TypeId → Option TypeId → Elaborated
+element a at b (Some t) y = AsPlace (typed.Element side.Left a at b t)
+element a at b None (Some t) = AsPlace (typed.Element side.Right a at b t)
+element a at b None None = AsValue a
 
 unfoldable pub index : Value → Place → Value → Judging Operand
 index a at b = construct (λ s. tests.index_tests s.table s.seen.scopes at (AsValue a.expr) (AsValue b.expr)) a.place (a.held ∷ b.held ∷ [])
-    (by_known (λ s. pure (element a.expr at b.expr (shape_at s.table (type_of a.expr)) (shape_at s.table (type_of b.expr)))))
+    (by_known (λ s. pure (element a.expr at b.expr (pointee_at s.table (type_of a.expr)) (pointee_at s.table (type_of b.expr)))))
 
 -- of two integers
 abbrev pub arithmetic : Binary → TypedExpr → Place → TypedExpr → IntegerType → IntegerType → TypedExpr
@@ -182,23 +181,23 @@ equated NeverMeet operator a at b = typed.Compared operator a at b int_type
 abbrev pub compared : Table → Binary → TypedExpr → Place → TypedExpr → TypedExpr
 compared T operator a at b = if is_order operator then typed.Compared operator a at b int_type else equated (meeting T a b) operator a at b
 
--- of two, not both integers, of which one is moved by the other or subtracted from it, or that are compared
-abbrev pub pointers : Table → Binary → TypedExpr → Place → TypedExpr → TypeShape → TypeShape → TypedExpr
-pointers T binary.Add a at b (shape.Pointer n t) y = typed.Moved binary.Add side.Left a at b (type_of a)
-pointers T binary.Add a at b x y = typed.Moved binary.Add side.Right a at b (type_of b)
-pointers T binary.Subtract a at b x (shape.Pointer n t) = typed.Difference a at b long_type
-pointers T binary.Subtract a at b x y = typed.Moved binary.Subtract side.Left a at b (type_of a)
+-- of two, not both integers, of which one is moved by the other or subtracted from it, or that are compared; by whether they are pointers
+abbrev pub pointers : Table → Binary → TypedExpr → Place → TypedExpr → Bool → Bool → TypedExpr
+pointers T binary.Add a at b true y = typed.Moved binary.Add side.Left a at b (type_of a)
+pointers T binary.Add a at b false y = typed.Moved binary.Add side.Right a at b (type_of b)
+pointers T binary.Subtract a at b x true = typed.Difference a at b long_type
+pointers T binary.Subtract a at b x false = typed.Moved binary.Subtract side.Left a at b (type_of a)
 pointers T operator a at b x y = compared T operator a at b
 
-abbrev pub by_shapes : Table → Binary → TypedExpr → Place → TypedExpr → TypeShape → TypeShape → TypedExpr
-by_shapes T operator a at b (shape.Integer m r) (shape.Integer n q) =
-    arithmetic operator a at b (record { bytes = m; signed = r }) (record { bytes = n; signed = q })
-by_shapes T operator a at b x y = pointers T operator a at b x y
+abbrev pub by_kinds : Table → Binary → TypedExpr → Place → TypedExpr → Option IntegerType → Option IntegerType → TypedExpr
+by_kinds T operator a at b (Some j) (Some k) = arithmetic operator a at b j k
+by_kinds T operator a at b j k =
+    pointers T operator a at b (is_pointer_shape (shape_at T (type_of a))) (is_pointer_shape (shape_at T (type_of b)))
 
 abbrev pub operation : Table → Binary → TypedExpr → Place → TypedExpr → TypedExpr
 operation T operator a at b =
     if is_logical operator then typed.Logical operator a at b int_type
-    else by_shapes T operator a at b (shape_at T (type_of a)) (shape_at T (type_of b))
+    else by_kinds T operator a at b (integer_at T (type_of a)) (integer_at T (type_of b))
 
 unfoldable pub infix_of : Binary → Value → Place → Value → Judging Operand
 infix_of operator a at b =
@@ -239,14 +238,14 @@ unfoldable pub member : Operand → Place → Identifier → Judging Operand
 member x at name = construct (λ s. tests.member_tests s.seen.scopes (tests.shape_of s.table x.part) at name.bytes name.place) x.place (x.held ∷ [])
     (member_of x.place at name x.part)
 
-unfoldable pub member_at_pointer : Place → Place → Identifier → TypedExpr → TypeShape → Judging Elaborated
-member_at_pointer begin at name e (shape.Pointer n t) = do
+unfoldable pub member_at_pointer : Place → Place → Identifier → TypedExpr → Option TypeId → Judging Elaborated
+member_at_pointer begin at name e (Some t) = do
   i ← by_known (λ s. found begin (shape_at s.table t) name)
   by_known (λ s. pure (AsPlace (typed.MemberAt e at name i.member i.node (member_at s.table t i.member))))
-member_at_pointer begin at name e x = stop (TooLarge begin Types)
+member_at_pointer begin at name e None = stop (TooLarge begin Types)
 
 unfoldable pub pointed_member : Value → Place → Identifier → Judging Operand
 pointed_member v at name =
     construct (λ s. tests.member_tests s.seen.scopes (tests.pointed_shape s.table (shape_at s.table (type_of v.expr))) at name.bytes name.place)
     v.place (v.held ∷ [])
-    (by_known (λ s. member_at_pointer v.place at name v.expr (shape_at s.table (type_of v.expr))))
+    (by_known (λ s. member_at_pointer v.place at name v.expr (pointee_at s.table (type_of v.expr))))

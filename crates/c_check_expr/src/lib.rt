@@ -3,6 +3,7 @@
 
 mod declared;
 mod kind;
+mod laws;
 mod level;
 mod member;
 mod operand;
@@ -11,6 +12,7 @@ mod shapes;
 mod typing;
 
 pub use declared::{Declared, Tag};
+pub use laws::a_later_table_keeps_types;
 pub use scope::Scope;
 
 #[cfg(test)]

@@ -2,8 +2,10 @@
 #![tactic(auto)]
 
 ghost use Rattle.std.specs.Prelude.{◌≡◌, ◌<◌, ◌≤◌, length, None, IfSome, IfOk};
-ghost use Rattle.c_types.specs.declared.shape.TypeShape.TheVariants.{Pointer};
-ghost use Rattle.c_types.specs.Table.{shape_at, IsType};
+ghost use Rattle.cc_base.specs.declared.fault.Fault.TheVariants.{TooLarge};
+ghost use Rattle.cc_base.specs.declared.fault.Limit.TheVariants.{Types as limit_types};
+ghost use Rattle.c_types.specs.Table.{shape_at};
+ghost use Rattle.c_tree.specs.TypedParts.{place_type};
 ghost use Rattle.c_types.specs.Calls.{IsAddable};
 ghost use Rattle.c_tree.specs.TypedViews.{typed_expr_view, typed_place_view};
 ghost use Rattle.c_check_expr.specs.Judging.{Answers, known};
@@ -13,6 +15,7 @@ ghost use Rattle.c_check_expr.specs.OperandViews.{part_view, operand_view, value
 
 use crate::operand::{Operand, Part, Pointing, Value};
 use crate::scope::Scope;
+use crate::shapes::shape_at;
 use c_tree::{Boxed, TypedExpr, TypedPlace};
 use c_types::{TypeFault, TypeShape, Types};
 use cc_base::{Fault, Limit, NoMemory, NodeId, Place, TypeId};
@@ -93,5 +96,128 @@ fn made_raw(scope: &Scope, pointing: Pointing, e: TypedExpr) -> Result<TypedExpr
             pointing.ty,
         )),
         _ => Ok(e),
+    }
+}
+
+/// How the value of a place is taken, by its type.
+#[derive(Clone, Copy)]
+pub(crate) enum Reading {
+    /// It is the address of the first element, of this type.
+    Decays(TypeId),
+    Reads,
+    /// A struct or union is not read.
+    Stays,
+    /// No place has the type.
+    Nothing,
+}
+
+fn reading_at(types: &Types, t: TypeId) -> Reading
+    ensures { result ≡ operands.reading_of (shape_at types.now t) }
+{
+    match shape_at(types, t) {
+        Some(TypeShape::Array(element, _)) => Reading::Decays(*element),
+        Some(TypeShape::Integer { .. } | TypeShape::Pointer(_, _)) => Reading::Reads,
+        Some(TypeShape::Struct(_) | TypeShape::Union(_)) => Reading::Stays,
+        _ => Reading::Nothing,
+    }
+}
+
+/// A place of no type that a place can have stands for a table without room for it.
+fn no_place(at: Place) -> Fault
+    ensures { result ≡ TooLarge at limit_types }
+{
+    Fault::TooLarge {
+        place: at,
+        limit: Limit::Types,
+    }
+}
+
+/// The value of a place: an array's is its address.
+#[tactic(auto, using(c_tree::proofs::TypedViewLaws::typed_views), unfolding(crate::specs::Operands::place_value))]
+fn place_value(
+    scope: &mut Scope,
+    types: &mut Types,
+    at: Place,
+    p: TypedPlace,
+) -> Result<TypedExpr, Fault>
+    ensures { Answers typed_expr_view (operands.place_value at (typed_place_view p) (operands.reading_of (shape_at types.old (place_type (typed_place_view p)))) (known types.old scope.old)) result (known types.new scope.new) }
+{
+    let alloc = scope.alloc();
+    match reading_at(types, p.ty()) {
+        Reading::Decays(element) => {
+            let made = new_pointer(scope, types, at, element)?;
+            Ok(TypedExpr::Decay(Boxed::new(alloc, p)?, made.node, made.ty))
+        }
+        Reading::Reads => Ok(TypedExpr::Read(Boxed::new(alloc, p)?)),
+        Reading::Stays => Ok(TypedExpr::Unread(Boxed::new(alloc, p)?)),
+        Reading::Nothing => Err(no_place(at)),
+    }
+}
+
+/// An allocation that nothing takes over, with a node of its own.
+#[tactic(auto, unfolding(crate::specs::Operands::raw_value))]
+fn raw_value(
+    scope: &mut Scope,
+    types: &mut Types,
+    at: Place,
+    e: TypedExpr,
+) -> Result<TypedExpr, Fault>
+    ensures { Answers typed_expr_view (operands.raw_value at (typed_expr_view e) (known types.old scope.old)) result (known types.new scope.new) }
+{
+    let made = new_pointer(scope, types, at, TypeId(0))?;
+    Ok(made_raw(scope, made, e)?)
+}
+
+#[tactic(auto, unfolding(crate::specs::Operands::value_of))]
+fn value_of(
+    scope: &mut Scope,
+    types: &mut Types,
+    at: Place,
+    part: Part,
+) -> Result<TypedExpr, Fault>
+    ensures { Answers typed_expr_view (operands.value_of at (part_view part) (known types.old scope.old)) result (known types.new scope.new) }
+{
+    match part {
+        Part::Place(p) => place_value(scope, types, at, p),
+        Part::Value(e) => Ok(e),
+        Part::Allocation(e) => raw_value(scope, types, at, e),
+    }
+}
+
+/// The value of an operand (C99 6.3.2.1).
+#[tactic(auto, unfolding(crate::specs::Operands::value))]
+pub(crate) fn value(scope: &mut Scope, types: &mut Types, x: Operand) -> Result<Value, Fault>
+    ensures { Answers value_view (operands.value (operand_view x) (known types.old scope.old)) result (known types.new scope.new) }
+{
+    let Operand { part, place, held } = x;
+    let expr = value_of(scope, types, place, part)?;
+    Ok(Value { expr, place, held })
+}
+
+/// An allocation for what a pointer type points to.
+#[tactic(auto, using(c_tree::proofs::TypedViewLaws::typed_views))]
+fn made_for(scope: &Scope, t: TypeId, e: TypedExpr) -> Result<TypedExpr, NoMemory>
+    ensures { IfOk result (λ made. typed_expr_view made ≡ operands.made_for t (typed_expr_view e)) }
+{
+    match e {
+        TypedExpr::Paren(at, inner) => {
+            let inner = made_for(scope, t, inner.into_inner())?;
+            Ok(TypedExpr::Paren(at, Boxed::new(scope.alloc(), inner)?))
+        }
+        TypedExpr::AllocateFor(function, f, at, arguments, _) => {
+            Ok(TypedExpr::AllocateFor(function, f, at, arguments, t))
+        }
+        _ => Ok(e),
+    }
+}
+
+/// A value where a struct may stand: a struct that is not read is the place that it is.
+#[tactic(auto, using(c_tree::proofs::TypedViewLaws::typed_views))]
+pub(crate) fn side_of(e: TypedExpr) -> Part
+    ensures { part_view result ≡ operands.side_of (typed_expr_view e) }
+{
+    match e {
+        TypedExpr::Unread(p) => Part::Place(p.into_inner()),
+        _ => Part::Value(e),
     }
 }

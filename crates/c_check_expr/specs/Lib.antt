@@ -16,3 +16,4 @@ pub mod Assignments
 pub mod OperandViews
 pub mod KindViews
 pub mod Extensions
+pub mod Settled

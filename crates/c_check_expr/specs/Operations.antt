@@ -114,6 +114,13 @@ abbrev pub promoted_operand : Unary → Place → TypedExpr → Option IntegerTy
 promoted_operand operator at e (Some k) = typed.Prefix operator at (to_integer at (integer_type (promoted k)) e) (integer_type (promoted k))
 promoted_operand operator at e None = typed.Prefix operator at e int_type
 
+abbrev pub is_arithmetic_prefix : Unary → Bool
+is_arithmetic_prefix unary.Plus = true
+is_arithmetic_prefix unary.Minus = true
+is_arithmetic_prefix unary.Complement = true
+is_arithmetic_prefix unary.Not = true
+is_arithmetic_prefix operator = false
+
 -- `+`, `-` and `~`, and `!`
 abbrev pub operator_on : Table → Unary → Place → TypedExpr → TypedExpr
 operator_on T unary.Not at e = typed.Prefix unary.Not at e int_type
@@ -189,15 +196,15 @@ pointers T binary.Subtract a at b x true = typed.Difference a at b long_type
 pointers T binary.Subtract a at b x false = typed.Moved binary.Subtract side.Left a at b (type_of a)
 pointers T operator a at b x y = compared T operator a at b
 
-abbrev pub by_kinds : Table → Binary → TypedExpr → Place → TypedExpr → Option IntegerType → Option IntegerType → TypedExpr
-by_kinds T operator a at b (Some j) (Some k) = arithmetic operator a at b j k
-by_kinds T operator a at b j k =
-    pointers T operator a at b (is_pointer_shape (shape_at T (type_of a))) (is_pointer_shape (shape_at T (type_of b)))
+abbrev pub by_kinds : Table → Binary → TypedExpr → Place → TypedExpr → Option IntegerType → Option IntegerType → Bool → Bool → TypedExpr
+by_kinds T operator a at b (Some j) (Some k) x y = arithmetic operator a at b j k
+by_kinds T operator a at b j k x y = pointers T operator a at b x y
 
 abbrev pub operation : Table → Binary → TypedExpr → Place → TypedExpr → TypedExpr
 operation T operator a at b =
     if is_logical operator then typed.Logical operator a at b int_type
     else by_kinds T operator a at b (integer_at T (type_of a)) (integer_at T (type_of b))
+    (is_pointer_shape (shape_at T (type_of a))) (is_pointer_shape (shape_at T (type_of b)))
 
 unfoldable pub infix_of : Binary → Value → Place → Value → Judging Operand
 infix_of operator a at b =

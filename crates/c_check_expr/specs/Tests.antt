@@ -10,6 +10,7 @@ use Rattle.cc_base.specs.declared.fault.Fault.TheVariants.{Refused}
 use Rattle.c_types.specs.declared.shape.TypeShape.{TypeShape}
 use Rattle.c_types.specs.declared.shape.TypeShape.TheVariants.{Void, Integer, Pointer, Array, Function}
 use Rattle.c_types.specs.Table.{Table, shape_at, is_aggregate_shape}
+use Rattle.c_types.specs.Equality.{same_bool}
 use Rattle.c_tree.specs.declared.operator.Assignment.{Assignment}
 use Rattle.c_tree.specs.declared.operator.Assignment.TheVariants as assignment
 use Rattle.c_tree.specs.declared.operator.Binary.{Binary}
@@ -224,10 +225,17 @@ accepts T operator x y =
     || ((is_order operator && (point_alike T (shape_of T x) (shape_of T y) && point_to_data T (shape_of T x)))
     || (is_equality operator && meet T x y))))
 
+abbrev pub same_kind : IntegerType → IntegerType → Bool
+same_kind j k = (j.bytes == k.bytes) && same_bool j.signed k.signed
+
+-- a constant of one integer type, as one of another
+abbrev pub constant_as : IntegerType → IntegerType → ℤ → ℤ
+constant_as j k z = if same_kind j k then z else converted k z
+
 -- two integers of which the first is divided by the second without a result, each converted to the type that the operator asks for
 abbrev pub divides_as : Binary → Option IntegerType → Option IntegerType → Option ℤ → Option ℤ → Bool
 divides_as operator (Some j) (Some k) (Some x) (Some y) =
-    cannot_divide (operator_of operator) (left_type operator j k) (converted (left_type operator j k) x) (converted (right_type operator j k) y)
+    cannot_divide (operator_of operator) (left_type operator j k) (constant_as j (left_type operator j k) x) (constant_as k (right_type operator j k) y)
 divides_as operator j k x y = false
 
 abbrev pub divides_part : Table → Binary → Elaborated → Elaborated → Bool

@@ -12,7 +12,10 @@ mod shapes;
 mod typing;
 
 pub use declared::{Declared, Tag};
-pub use laws::a_later_table_keeps_types;
+pub use laws::{
+    a_later_table_keeps_types, a_table_goes_on, an_unbroken_operator_is_well_typed,
+    what_fits_is_converted,
+};
 pub use scope::Scope;
 
 #[cfg(test)]

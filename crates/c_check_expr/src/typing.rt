@@ -196,7 +196,7 @@ pub(crate) fn value(scope: &mut Scope, types: &mut Types, x: Operand) -> Result<
 
 /// An allocation for what a pointer type points to.
 #[tactic(auto, using(c_tree::proofs::TypedViewLaws::typed_views))]
-fn made_for(scope: &Scope, t: TypeId, e: TypedExpr) -> Result<TypedExpr, NoMemory>
+pub(crate) fn made_for(scope: &Scope, t: TypeId, e: TypedExpr) -> Result<TypedExpr, NoMemory>
     ensures { IfOk result (λ made. typed_expr_view made ≡ operands.made_for t (typed_expr_view e)) }
 {
     match e {

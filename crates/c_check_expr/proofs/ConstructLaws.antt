@@ -88,14 +88,16 @@ target_place : (T : Table) (s s0 : Scopes) (at : Place) (e : TypedExpr) (n : Nod
     → shape_at T (type_of e) ≡ Pointer n t → IsSettled T e → IsTyped T e s0 s → (not (is_complete_at T s t) && not function) ≡ false
     → IsPartTyped T (pointed_place at e t function) s0 s
 target_place T s s0 at e n t true f h k te whole =
-    let g = function_of (shape_at T t) f in
-    (te, record {
-      parameters = g.0;
-      result = g.1;
-      function = t;
-      pointer = pointer_value T e n t h k;
-      shape = has_shape T t (Function g.0 g.1) g.2 refl;
-    })
+    let g = function_of (shape_at T t) f in (
+      te,
+      record {
+        parameters = g.0;
+        result = g.1;
+        function = t;
+        pointer = pointer_value T e n t h k;
+        shape = has_shape T t (Function g.0 g.1) g.2 refl;
+      },
+    )
 target_place T s s0 at e n t false f h k te whole =
     (te, record { pointer = pointer_value T e n t h k; complete = not_false (is_complete_at T s t) (and_true_false (not (is_complete_at T s t)) whole) })
   where
@@ -130,18 +132,28 @@ index_by : (T : Table) (s0 m s : Scopes) (at : Place) (a b : TypedExpr) (x y : T
     → IsSettled T a → IsSettled T b → IsTyped T a s0 m → IsTyped T b m s
     → (points_to_incomplete T s x || points_to_incomplete T s y) ≡ false → is_index_pair x y ≡ true
     → IsPartTyped T (element a at b (pointee_of_shape x) (pointee_of_shape y)) s0 s
-index_by T s0 m s at a b (Pointer n t) (Integer w r) ha hb ka kb ta tb whole p = (m, ta, tb, record {
-      pointer = pointer_value T a n t ha ka;
-      complete = not_false (is_complete_at T s t) (or_none (not (is_complete_at T s t)) whole);
-      kind = record { bytes = w; signed = r };
-      integer = integer_value T b w r hb kb;
-    })
-index_by T s0 m s at a b (Integer w r) (Pointer n t) ha hb ka kb ta tb whole p = (m, ta, tb, record {
-      pointer = pointer_value T b n t hb kb;
-      complete = not_false (is_complete_at T s t) whole;
-      kind = record { bytes = w; signed = r };
-      integer = integer_value T a w r ha ka;
-    })
+index_by T s0 m s at a b (Pointer n t) (Integer w r) ha hb ka kb ta tb whole p = (
+  m,
+  ta,
+  tb,
+  record {
+    pointer = pointer_value T a n t ha ka;
+    complete = not_false (is_complete_at T s t) (or_none (not (is_complete_at T s t)) whole);
+    kind = record { bytes = w; signed = r };
+    integer = integer_value T b w r hb kb;
+  },
+)
+index_by T s0 m s at a b (Integer w r) (Pointer n t) ha hb ka kb ta tb whole p = (
+  m,
+  ta,
+  tb,
+  record {
+    pointer = pointer_value T b n t hb kb;
+    complete = not_false (is_complete_at T s t) whole;
+    kind = record { bytes = w; signed = r };
+    integer = integer_value T a w r ha ka;
+  },
+)
 index_by T s0 m s at a b x y ha hb ka kb ta tb whole p = no_true p
 
 pub index_typed : (T : Table) (s0 m s : Scopes) (at : Place) (a b : TypedExpr) → IsSettled T a → IsSettled T b → IsTyped T a s0 m → IsTyped T b m s
@@ -219,13 +231,15 @@ sign_by : (operator : Unary) (T : Table) (s0 s : Scopes) (at : Place) (e : Typed
 sign_by operator T s0 s at e (Integer m r) sign h basic k te p =
     let kind : IntegerType = record { bytes = m; signed = r } in
     let plain : IsPlain e = k.plain (ap is_scalar_shape h) in
-    let size = promoted_size kind (integer_size T (type_of e) m r basic.formed h) in
-    (to_integer-typed T s0 s at (integer_type (promoted kind)) e plain te, sign_rule operator T at (to_integer at (integer_type (promoted kind)) e) (integer_type (promoted kind)) sign (record {
-      kind = kind;
-      integer = ap (λ v. integer_at T (type_of v)) (to_integer-bare at (integer_type (promoted kind)) e k.bare) ∙ ap integer_of_shape h;
-      operand = operand T at (promoted kind) e basic size plain k.bare;
-      type = basic.integers (promoted kind) size;
-    }))
+    let size = promoted_size kind (integer_size T (type_of e) m r basic.formed h) in (
+      to_integer-typed T s0 s at (integer_type (promoted kind)) e plain te,
+      sign_rule operator T at (to_integer at (integer_type (promoted kind)) e) (integer_type (promoted kind)) sign (record {
+        kind = kind;
+        integer = ap (λ v. integer_at T (type_of v)) (to_integer-bare at (integer_type (promoted kind)) e k.bare) ∙ ap integer_of_shape h;
+        operand = operand T at (promoted kind) e basic size plain k.bare;
+        type = basic.integers (promoted kind) size;
+      }),
+    )
 sign_by operator T s0 s at e Void sign h basic k te p = no_true p
 sign_by operator T s0 s at e (Pointer n t) sign h basic k te p = no_true p
 sign_by operator T s0 s at e (Array t n) sign h basic k te p = no_true p

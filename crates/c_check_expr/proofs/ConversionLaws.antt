@@ -63,9 +63,9 @@ fits_by T false x y h = no_true h
 module _ (T : Table) (s0 s : Scopes) (at : Place) (t : TypeId) (e : TypedExpr) (k : IsSettled T e) (typed_e : IsTyped T e s0 s) (h : fits T (AsValue e) (shape_at T t) ≡ true) where
   pub fits-plain : IsPlain e
   fits-plain = elim (fits_by T (is_null_constant T e) (shape_at T (type_of e)) (shape_at T t) h) [
-      | inl scalar ↦ k.plain scalar
-      | inr null ↦ null_plain T s0 s e k.unconverted typed_e null
-    ]
+    | inl scalar ↦ k.plain scalar
+    | inr null ↦ null_plain T s0 s e k.unconverted typed_e null
+  ]
 
   pub fits-converted : IsConverted T at t (converted_to T at t e)
   fits-converted = converted-by T at t e (implicit T e t) refl h fits-plain k.bare
@@ -102,8 +102,11 @@ step_typed T s0 s operator at p place h =
 
 pub size_typed : (T : Table) (s0 s : Scopes) (at : Place) (p : TypedPlace) → IsBasic T → IsPlace T p s0 s → first_broken (size_tests T s at (AsPlace p)) ≡ None
     → IsTyped T (typed.SizeOfPlace at p (size_of T (place_type p)) size_type) s0 s
-size_typed T s0 s at p basic place h = (place, record {
-      complete = not_false (is_complete_at T s (place_type p)) (one_unbroken (not (is_complete_at T s (place_type p))) (Refused at rule.Incomplete) h);
-      given = refl;
-      type = basic.integers unsigned_long (inr (inr (inr refl)));
-    })
+size_typed T s0 s at p basic place h = (
+  place,
+  record {
+    complete = not_false (is_complete_at T s (place_type p)) (one_unbroken (not (is_complete_at T s (place_type p))) (Refused at rule.Incomplete) h);
+    given = refl;
+    type = basic.integers unsigned_long (inr (inr (inr refl)));
+  },
+)

@@ -36,9 +36,9 @@ and_true a b p q = ap (λ x. x && b) p ∙ q
 -- what has a shape other than `void` is in the table
 pub is_in : (T : Table) (t : TypeId) → is_void_shape (shape_at T t) ≡ false → IsType T t
 is_in T t h = elim (leb_tells (length T) t.0) [
-    | inl past ↦ absurd (true≢false (sym (ap (λ (e : Entry). is_void_shape e.shape) (get_or_past T t.0 void_entry past.1)) ∙ h))
-    | inr below ↦ below.1
-  ]
+  | inl past ↦ absurd (true≢false (sym (ap (λ (e : Entry). is_void_shape e.shape) (get_or_past T t.0 void_entry past.1)) ∙ h))
+  | inr below ↦ below.1
+]
 
 -- a test that `void` does not pass
 pub not_void : (f : TypeShape → Bool) (x : TypeShape) → f Void ≡ false → f x ≡ true → is_void_shape x ≡ false

@@ -165,16 +165,22 @@ divides_by : (T : Table) (at : Place) (operator : Binary) (a b : TypedExpr) (j k
 divides_by T at operator a b j k basic p q ha hb (Some x) (Some y) va vb h =
     let l = left_size operator j k p q in
     let r = right_size operator j k p q in
-    rw (to_integer-type T at (left_type operator j k) a basic l, to_integer-value T at (left_type operator j k) a basic l j ha x va,
-    to_integer-value T at (right_type operator j k) b basic r k hb y vb) h
+    rw (
+      to_integer-type T at (left_type operator j k) a basic l,
+      to_integer-value T at (left_type operator j k) a basic l j ha x va,
+      to_integer-value T at (right_type operator j k) b basic r k hb y vb,
+    ) h
 divides_by T at operator a b j k basic p q ha hb None y va vb h =
     let l = left_size operator j k p q in
     rw (to_integer-type T at (left_type operator j k) a basic l, to_integer-none T at (left_type operator j k) a basic l va) refl
 divides_by T at operator a b j k basic p q ha hb (Some x) None va vb h =
     let l = left_size operator j k p q in
     let r = right_size operator j k p q in
-    rw (to_integer-type T at (left_type operator j k) a basic l, to_integer-value T at (left_type operator j k) a basic l j ha x va,
-    to_integer-none T at (right_type operator j k) b basic r vb) refl
+    rw (
+      to_integer-type T at (left_type operator j k) a basic l,
+      to_integer-value T at (left_type operator j k) a basic l j ha x va,
+      to_integer-none T at (right_type operator j k) b basic r vb,
+    ) refl
 
 -- Null constants are plain
 
@@ -198,13 +204,17 @@ module _ (T : Table) (s0 m s : Scopes) (operator : Binary) (at : Place) (a b : T
       → IsTyped T (typed.Logical operator a at b int_type) s0 s
   logical_typed l h =
       let x = and_left (is_scalar_shape (shape_at T (type_of a))) (is_scalar_shape (shape_at T (type_of b))) h in
-      let y = and_right (is_scalar_shape (shape_at T (type_of a))) (is_scalar_shape (shape_at T (type_of b))) h in
-      (m, ta, tb, record {
-        allowed = l;
-        first = record { plain = ka.plain x; scalar = x };
-        second = record { plain = kb.plain y; scalar = y };
-        type = basic.integers int four_bytes;
-      })
+      let y = and_right (is_scalar_shape (shape_at T (type_of a))) (is_scalar_shape (shape_at T (type_of b))) h in (
+        m,
+        ta,
+        tb,
+        record {
+          allowed = l;
+          first = record { plain = ka.plain x; scalar = x };
+          second = record { plain = kb.plain y; scalar = y };
+          type = basic.integers int four_bytes;
+        },
+      )
 
   arithmetic_typed : (j k : IntegerType) → shape_at T (type_of a) ≡ Integer j.bytes j.signed → shape_at T (type_of b) ≡ Integer k.bytes k.signed
       → is_logical operator ≡ false → divides_as operator (Some j) (Some k) (constant_value T a) (constant_value T b) ≡ false
@@ -213,18 +223,22 @@ module _ (T : Table) (s0 m s : Scopes) (operator : Binary) (at : Place) (a b : T
       let p = integer_size T (type_of a) j.bytes j.signed basic.formed ha in
       let q = integer_size T (type_of b) k.bytes k.signed basic.formed hb in
       let pa : IsPlain a = ka.plain (ap is_scalar_shape ha) in
-      let pb : IsPlain b = kb.plain (ap is_scalar_shape hb) in
-      (m, to_integer-typed T s0 m at (integer_type (left_type operator j k)) a pa ta, to_integer-typed T m s at (integer_type (right_type operator j k)) b pb tb, record {
-        left = j;
-        right = k;
-        first = ap (λ (v : TypedExpr). integer_at T (type_of v)) (to_integer-bare at (integer_type (left_type operator j k)) a ka.bare) ∙ ap integer_of_shape ha;
-        second = ap (λ (v : TypedExpr). integer_at T (type_of v)) (to_integer-bare at (integer_type (right_type operator j k)) b kb.bare) ∙ ap integer_of_shape hb;
-        allowed = l;
-        first_converted = operand T at (left_type operator j k) a basic (left_size operator j k p q) pa ka.bare;
-        second_converted = operand T at (right_type operator j k) b basic (right_size operator j k p q) pb kb.bare;
-        type = basic.integers (result_type operator j k) (result_size operator j k p q);
-        divides = divides_by T at operator a b j k basic p q (ap integer_of_shape ha) (ap integer_of_shape hb) (constant_value T a) (constant_value T b) refl refl d;
-      })
+      let pb : IsPlain b = kb.plain (ap is_scalar_shape hb) in (
+        m,
+        to_integer-typed T s0 m at (integer_type (left_type operator j k)) a pa ta,
+        to_integer-typed T m s at (integer_type (right_type operator j k)) b pb tb,
+        record {
+          left = j;
+          right = k;
+          first = ap (λ (v : TypedExpr). integer_at T (type_of v)) (to_integer-bare at (integer_type (left_type operator j k)) a ka.bare) ∙ ap integer_of_shape ha;
+          second = ap (λ (v : TypedExpr). integer_at T (type_of v)) (to_integer-bare at (integer_type (right_type operator j k)) b kb.bare) ∙ ap integer_of_shape hb;
+          allowed = l;
+          first_converted = operand T at (left_type operator j k) a basic (left_size operator j k p q) pa ka.bare;
+          second_converted = operand T at (right_type operator j k) b basic (right_size operator j k p q) pb kb.bare;
+          type = basic.integers (result_type operator j k) (result_size operator j k p q);
+          divides = divides_by T at operator a b j k basic p q (ap integer_of_shape ha) (ap integer_of_shape hb) (constant_value T a) (constant_value T b) refl refl d;
+        },
+      )
 
   -- comparisons of pointers
   plain_a : IsPlain a → IsPlain (bare a)
@@ -235,19 +249,26 @@ module _ (T : Table) (s0 m s : Scopes) (operator : Binary) (at : Place) (a b : T
 
   ordered_typed : (n : NodeId) (t : TypeId) (w : NodeId) (u : TypeId) → shape_at T (type_of a) ≡ Pointer n t → shape_at T (type_of b) ≡ Pointer w u
       → is_order operator ≡ true → is_same_type T t u ≡ true → is_data T t ≡ true → IsTyped T (typed.Compared operator a at b int_type) s0 s
-  ordered_typed n t w u ha hb l same is_object =
-      (m, ta, tb, record {
-        plain = (plain_a (ka.plain (ap is_scalar_shape ha)), plain_b (kb.plain (ap is_scalar_shape hb)));
-        compared = inl (l, record {
+  ordered_typed n t w u ha hb l same is_object = (
+    m,
+    ta,
+    tb,
+    record {
+      plain = (plain_a (ka.plain (ap is_scalar_shape ha)), plain_b (kb.plain (ap is_scalar_shape hb)));
+      compared = inl (
+        l,
+        record {
           left = t;
           right = u;
           first = pointer_value T a n t ha ka;
           second = pointer_value T b w u hb kb;
           same = same;
           no_function = is_object;
-        });
-        type = basic.integers int four_bytes;
-      })
+        },
+      );
+      type = basic.integers int four_bytes;
+    },
+  )
 
   abbrev is_met : Meeting → Bool
   is_met NeverMeet = false
@@ -255,26 +276,38 @@ module _ (T : Table) (s0 m s : Scopes) (operator : Binary) (at : Place) (a b : T
 
   equated_typed : (z : Meeting) → meeting T a b ≡ z → is_met z ≡ true → is_equality operator ≡ true → IsPlain a → IsPlain b → IsTyped T (equated z operator a at b) s0 s
   equated_typed (RightIsNull t) e h l pa pb =
-      let same : meeting T (bare a) b ≡ RightIsNull t = ap (λ (v : TypedExpr). meeting T v b) ka.bare ∙ e in
-      (m, ta, (tb, pb), record {
-        plain = (plain_a pa, pb);
-        compared = inr (l, subst (λ (y : Meeting). AreEquated y at a (null_of at (type_of a) b)) (sym same) (pa, refl));
-        type = basic.integers int four_bytes;
-      })
+      let same : meeting T (bare a) b ≡ RightIsNull t = ap (λ (v : TypedExpr). meeting T v b) ka.bare ∙ e in (
+        m,
+        ta,
+        (tb, pb),
+        record {
+          plain = (plain_a pa, pb);
+          compared = inr (l, subst (λ (y : Meeting). AreEquated y at a (null_of at (type_of a) b)) (sym same) (pa, refl));
+          type = basic.integers int four_bytes;
+        },
+      )
   equated_typed (LeftIsNull t) e h l pa pb =
-      let same : meeting T a (bare b) ≡ LeftIsNull t = ap (λ (v : TypedExpr). meeting T a v) kb.bare ∙ e in
-      (m, (ta, pa), tb, record {
-        plain = (pa, plain_b pb);
-        compared = inr (l, subst (λ (y : Meeting). AreEquated y at (null_of at (type_of b) a) b) (sym same) (refl, pb));
-        type = basic.integers int four_bytes;
-      })
+      let same : meeting T a (bare b) ≡ LeftIsNull t = ap (λ (v : TypedExpr). meeting T a v) kb.bare ∙ e in (
+        m,
+        (ta, pa),
+        tb,
+        record {
+          plain = (pa, plain_b pb);
+          compared = inr (l, subst (λ (y : Meeting). AreEquated y at (null_of at (type_of b) a) b) (sym same) (refl, pb));
+          type = basic.integers int four_bytes;
+        },
+      )
   equated_typed (BothPoint t) e h l pa pb =
-      let same : meeting T (bare a) (bare b) ≡ BothPoint t = ap (λ (v : TypedExpr). meeting T v (bare b)) ka.bare ∙ ap (λ (v : TypedExpr). meeting T a v) kb.bare ∙ e in
-      (m, ta, tb, record {
-        plain = (plain_a pa, plain_b pb);
-        compared = inr (l, subst (λ (y : Meeting). AreEquated y at a b) (sym same) (pa, pb));
-        type = basic.integers int four_bytes;
-      })
+      let same : meeting T (bare a) (bare b) ≡ BothPoint t = ap (λ (v : TypedExpr). meeting T v (bare b)) ka.bare ∙ ap (λ (v : TypedExpr). meeting T a v) kb.bare ∙ e in (
+        m,
+        ta,
+        tb,
+        record {
+          plain = (plain_a pa, plain_b pb);
+          compared = inr (l, subst (λ (y : Meeting). AreEquated y at a b) (sym same) (pa, pb));
+          type = basic.integers int four_bytes;
+        },
+      )
   equated_typed NeverMeet e h l pa pb = no_true h
 
   -- which pointers and null constants meet
@@ -373,47 +406,67 @@ module _ (T : Table) (s0 m s : Scopes) (at : Place) (a b : TypedExpr) (basic : I
   added_typed : (x y : TypeShape) → shape_at T (type_of a) ≡ x → shape_at T (type_of b) ≡ y
       → is_index_pair x y ≡ true → (points_to_incomplete T s x || points_to_incomplete T s y) ≡ false
       → IsTyped T (pointers T binary.Add a at b (is_pointer_shape x) (is_pointer_shape y)) s0 s
-  added_typed (Pointer n t) (Integer w r) ha hb p whole = (m, ta, tb, record {
-        to = t;
-        kind = record { bytes = w; signed = r };
-        allowed = refl;
-        pointer = pointer_value T a n t ha ka;
-        integer = integer_value T b w r hb kb;
-        complete = not_false (is_complete_at T s t) (or_none (not (is_complete_at T s t)) whole);
-        type = refl;
-      })
-  added_typed (Integer w r) (Pointer n t) ha hb p whole = (m, ta, tb, record {
-        to = t;
-        kind = record { bytes = w; signed = r };
-        allowed = refl;
-        pointer = pointer_value T b n t hb kb;
-        integer = integer_value T a w r ha ka;
-        complete = not_false (is_complete_at T s t) whole;
-        type = refl;
-      })
+  added_typed (Pointer n t) (Integer w r) ha hb p whole = (
+    m,
+    ta,
+    tb,
+    record {
+      to = t;
+      kind = record { bytes = w; signed = r };
+      allowed = refl;
+      pointer = pointer_value T a n t ha ka;
+      integer = integer_value T b w r hb kb;
+      complete = not_false (is_complete_at T s t) (or_none (not (is_complete_at T s t)) whole);
+      type = refl;
+    },
+  )
+  added_typed (Integer w r) (Pointer n t) ha hb p whole = (
+    m,
+    ta,
+    tb,
+    record {
+      to = t;
+      kind = record { bytes = w; signed = r };
+      allowed = refl;
+      pointer = pointer_value T b n t hb kb;
+      integer = integer_value T a w r ha ka;
+      complete = not_false (is_complete_at T s t) whole;
+      type = refl;
+    },
+  )
   added_typed x y ha hb p whole = no_true p
 
   subtracted_typed : (x y : TypeShape) → shape_at T (type_of a) ≡ x → shape_at T (type_of b) ≡ y
       → ((is_pointer_shape x && is_integer_shape y) || point_alike T x y) ≡ true → (points_to_incomplete T s x || points_to_incomplete T s y) ≡ false
       → IsTyped T (pointers T binary.Subtract a at b (is_pointer_shape x) (is_pointer_shape y)) s0 s
-  subtracted_typed (Pointer n t) (Integer w r) ha hb p whole = (m, ta, tb, record {
-        to = t;
-        kind = record { bytes = w; signed = r };
-        allowed = refl;
-        pointer = pointer_value T a n t ha ka;
-        integer = integer_value T b w r hb kb;
-        complete = not_false (is_complete_at T s t) (or_none (not (is_complete_at T s t)) whole);
-        type = refl;
-      })
-  subtracted_typed (Pointer n t) (Pointer w u) ha hb p whole = (m, ta, tb, record {
-        left = t;
-        right = u;
-        first = pointer_value T a n t ha ka;
-        second = pointer_value T b w u hb kb;
-        same = p;
-        complete = not_false (is_complete_at T s t) (or_left (not (is_complete_at T s t)) (not (is_complete_at T s u)) whole);
-        type = basic.integers long eight_bytes;
-      })
+  subtracted_typed (Pointer n t) (Integer w r) ha hb p whole = (
+    m,
+    ta,
+    tb,
+    record {
+      to = t;
+      kind = record { bytes = w; signed = r };
+      allowed = refl;
+      pointer = pointer_value T a n t ha ka;
+      integer = integer_value T b w r hb kb;
+      complete = not_false (is_complete_at T s t) (or_none (not (is_complete_at T s t)) whole);
+      type = refl;
+    },
+  )
+  subtracted_typed (Pointer n t) (Pointer w u) ha hb p whole = (
+    m,
+    ta,
+    tb,
+    record {
+      left = t;
+      right = u;
+      first = pointer_value T a n t ha ka;
+      second = pointer_value T b w u hb kb;
+      same = p;
+      complete = not_false (is_complete_at T s t) (or_left (not (is_complete_at T s t)) (not (is_complete_at T s u)) whole);
+      type = basic.integers long eight_bytes;
+    },
+  )
   subtracted_typed x y ha hb p whole = no_true p
 
 or_second : (c d : Bool) → d ≡ true → (c || d) ≡ true

@@ -19,7 +19,6 @@ use Rattle.c_check_expr.specs.Scopes.{Seen}
 
 infixr 20 ◌>>=◌
 infixr 20 ◌>>◌
-
 -- What is known where a part is judged: the types, and what a `Scope` holds.
 pub record State : Type 0 where
   pub table : Table

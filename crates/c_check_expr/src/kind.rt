@@ -18,7 +18,6 @@ pub(crate) struct Kind {
 }
 
 impl Kind {
-
     /// Its number in the table.
     pub(crate) fn ty(self) -> TypeId
         ensures { result ≡ integer_type (kind_view self) }

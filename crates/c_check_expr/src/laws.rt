@@ -29,8 +29,7 @@ ghost use Rattle.c_check_expr.specs.Typing.{IsTyped, IsPlace};
 pub fn a_later_table_keeps_types()
     ensures same { (table later : Table) (t u : TypeId) → IsWellFormed table → IsExtended table later → IsType table t → IsType table u → is_same_type table t u ≡ true → is_same_type later t u ≡ true }
     ensures complete { (table later : Table) (s : Scopes) (t : TypeId) → IsExtended table later → is_complete_at table s t ≡ true → is_complete_at later s t ≡ true }
-{
-}
+{}
 
 /// Where no rule of an operator is broken, what is made of its operands is well typed (C99 6.5.2 to 6.5.14).
 pub fn an_unbroken_operator_is_well_typed()
@@ -40,19 +39,16 @@ pub fn an_unbroken_operator_is_well_typed()
     ensures infix { (T : Table) (s0 m s : Scopes) (operator : Binary) (at begin : Place) (a b : TypedExpr) → IsBasic T → IsSettled T a → IsSettled T b → IsTyped T a s0 m → IsTyped T b m s → first_broken (infix_tests T s operator at begin (AsValue a) (AsValue b)) ≡ None → IsTyped T (operation T operator a at b) s0 s }
     ensures step { (T : Table) (s0 s : Scopes) (operator : Step) (at : Place) (p : TypedPlace) → IsPlace T p s0 s → first_broken (step_tests T s at (AsPlace p)) ≡ None → IsTyped T (StepBefore operator at p) s0 s × IsTyped T (StepAfter p operator at) s0 s }
     ensures size { (T : Table) (s0 s : Scopes) (at : Place) (p : TypedPlace) → IsBasic T → IsPlace T p s0 s → first_broken (size_tests T s at (AsPlace p)) ≡ None → IsTyped T (SizeOfPlace at p (size_of T (place_type p)) size_type) s0 s }
-{
-}
+{}
 
 /// A value that fits a type without being told is converted to it (C99 6.3, 6.5.16.1).
 pub fn what_fits_is_converted()
     ensures converted { (T : Table) (s0 s : Scopes) (at : Place) (t : TypeId) (e : TypedExpr) → IsSettled T e → IsTyped T e s0 s → fits T (AsValue e) (shape_at T t) ≡ true → IsConverted T at t (converted_to T at t e) }
     ensures typed { (T : Table) (s0 s : Scopes) (at : Place) (t : TypeId) (e : TypedExpr) → IsSettled T e → IsTyped T e s0 s → fits T (AsValue e) (shape_at T t) ≡ true → IsTyped T (converted_to T at t e) s0 s }
-{
-}
+{}
 
 /// A type that is looked for is there afterwards, and the table goes on from the one before. So do tables that follow one another.
 pub fn a_table_goes_on()
     ensures found { (at : Place) (x : TypeShape) (t : TypeId) (before after : State) → IsWellFormed before.table → All (IsComplete before.table) (parts_of_shape x []) → type_with at x before ≡ Gives t after → IsTypeWith x t before after }
     ensures next { (first second third : Table) → IsExtended first second → IsExtended second third → IsExtended first third }
-{
-}
+{}

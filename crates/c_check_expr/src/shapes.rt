@@ -39,7 +39,10 @@ pub(crate) fn is_pointer(shape: Option<&TypeShape>) -> bool
 pub(crate) fn is_scalar(shape: Option<&TypeShape>) -> bool
     ensures { result ≡ shapes.is_scalar_shape (shape_or_void (option_copied shape.entry)) }
 {
-    matches!(shape, Some(TypeShape::Integer { .. } | TypeShape::Pointer(_, _)))
+    matches!(
+        shape,
+        Some(TypeShape::Integer { .. } | TypeShape::Pointer(_, _))
+    )
 }
 
 pub(crate) fn is_void(shape: Option<&TypeShape>) -> bool
@@ -131,7 +134,10 @@ pub(crate) fn point_to_data(types: &Types, shape: Option<&TypeShape>) -> bool
 }
 
 /// What is before a `->` points to what has this shape.
-pub(crate) fn pointed_shape<'t>(types: &'t Types, shape: Option<&TypeShape>) -> Option<&'t TypeShape>
+pub(crate) fn pointed_shape<'t>(
+    types: &'t Types,
+    shape: Option<&TypeShape>,
+) -> Option<&'t TypeShape>
     ensures { shape_or_void (option_copied result) ≡ tests.pointed_shape types.now (shape_or_void (option_copied shape.entry)) }
 {
     match shape {

@@ -169,12 +169,7 @@ fn raw_value(
 }
 
 #[tactic(auto, unfolding(crate::specs::Operands::value_of))]
-fn value_of(
-    scope: &mut Scope,
-    types: &mut Types,
-    at: Place,
-    part: Part,
-) -> Result<TypedExpr, Fault>
+fn value_of(scope: &mut Scope, types: &mut Types, at: Place, part: Part) -> Result<TypedExpr, Fault>
     ensures { Answers typed_expr_view (operands.value_of at (part_view part) (known types.old scope.old)) result (known types.new scope.new) }
 {
     match part {

@@ -1,3 +1,9 @@
 pub mod RefusedRows
 pub mod ScopeLaws
+pub mod ConstructLaws
+pub mod ConversionLaws
+pub mod ExtensionLaws
+pub mod InfixLaws
+pub mod TableGrowth
+pub mod TypeSearch
 pub mod TypedRows

@@ -9,3 +9,11 @@ pub mod Declarators
 pub mod Typing
 pub mod Tests
 pub mod Refusals
+pub mod Judging
+pub mod Operands
+pub mod Operations
+pub mod Assignments
+pub mod OperandViews
+pub mod KindViews
+pub mod Extensions
+pub mod Settled

@@ -20,7 +20,7 @@ same_shape same (Struct a) (Struct b) = a == b
 same_shape same (Union a) (Union b) = a == b
 same_shape same x y = false
 
-abbrev same_step : Table → (TypeId → TypeId → Bool) → TypeId → TypeId → Bool
+abbrev pub same_step : Table → (TypeId → TypeId → Bool) → TypeId → TypeId → Bool
 same_step table same t u = same_shape same (shape_at table t) (shape_at table u)
 
 -- t and u are the same type (C99 6.2.7); a type is built of types that were in the table before it

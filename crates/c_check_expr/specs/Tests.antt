@@ -10,6 +10,7 @@ use Rattle.cc_base.specs.declared.fault.Fault.TheVariants.{Refused}
 use Rattle.c_types.specs.declared.shape.TypeShape.{TypeShape}
 use Rattle.c_types.specs.declared.shape.TypeShape.TheVariants.{Void, Integer, Pointer, Array, Function}
 use Rattle.c_types.specs.Table.{Table, shape_at, is_aggregate_shape}
+use Rattle.c_types.specs.Equality.{same_bool}
 use Rattle.c_tree.specs.declared.operator.Assignment.{Assignment}
 use Rattle.c_tree.specs.declared.operator.Assignment.TheVariants as assignment
 use Rattle.c_tree.specs.declared.operator.Binary.{Binary}
@@ -29,10 +30,11 @@ use Rattle.c_check_expr.specs.declared.declared.Tag.TheVariants as tag
 use Rattle.c_tree.specs.declared.operator.AggregateKind.{AggregateKind}
 use Rattle.c_tree.specs.declared.operator.AggregateKind.TheVariants as kind
 use Rattle.c_check_expr.specs.Declarators.{Counted, are_allowed}
-use Rattle.c_check_expr.specs.Shapes.{is_same_type, is_data, is_integer_shape, is_pointer_shape, is_scalar_shape, is_void_shape, is_function_shape}
-use Rattle.c_check_expr.specs.Integers.{is_order, is_equality, is_logical, assigning}
+use Rattle.integers.specs.Arithmetic.{IntegerType, converted}
+use Rattle.c_check_expr.specs.Shapes.{is_same_type, is_data, is_integer_shape, is_pointer_shape, is_scalar_shape, is_void_shape, is_function_shape, integer_at}
+use Rattle.c_check_expr.specs.Integers.{is_order, is_equality, is_logical, assigning, left_type, right_type}
 use Rattle.c_check_expr.specs.Scopes.{Name, Scopes, name_in, tag_in, here, tag_here, place_among, members_named, is_complete_at}
-use Rattle.c_check_expr.specs.Constants.{constant_value, is_null_constant, divides_badly}
+use Rattle.c_check_expr.specs.Constants.{constant_value, is_null_constant, operator_of, cannot_divide}
 use Rattle.c_check_expr.specs.Conversions.{is_taken_as, implicit_between, cast_between}
 use Rattle.c_check_expr.specs.Rules.{is_lvalue, is_designator, is_compound, number_of_shape, runtime_named}
 
@@ -121,12 +123,18 @@ abbrev pub is_function_declared : Option Declared → Bool
 is_function_declared (Some (declared.Function t)) = true
 is_function_declared what = false
 
+-- a name for a type, which names no value
+abbrev pub is_type_declared : Option Declared → Bool
+is_type_declared (Some (declared.Typedef t)) = true
+is_type_declared what = false
+
 -- a name: `runtime` says that a runtime function has it, `called` that it is called there
 abbrev pub name_tests : Scopes → (runtime called : Bool) → Name → Place → List Test
 name_tests s runtime called name at =
     broken_at rule.UnknownName at
     ((is_none (name_in s.levels name) && not runtime)
-    || (is_function_declared (name_in s.levels name) && (not runtime && is_none (place_among s.defined name))))
+    || (is_type_declared (name_in s.levels name)
+    || (is_function_declared (name_in s.levels name) && (not runtime && is_none (place_among s.defined name)))))
     ∷ broken_at rule.BadCall at
     ((is_function_declared (name_in s.levels name) && is_main name)
     || (runtime && (not called && (is_none (name_in s.levels name) || is_function_declared (name_in s.levels name)))))
@@ -217,8 +225,22 @@ accepts T operator x y =
     || ((is_order operator && (point_alike T (shape_of T x) (shape_of T y) && point_to_data T (shape_of T x)))
     || (is_equality operator && meet T x y))))
 
+abbrev pub same_kind : IntegerType → IntegerType → Bool
+same_kind j k = (j.bytes == k.bytes) && same_bool j.signed k.signed
+
+-- a constant of one integer type, as one of another
+abbrev pub constant_as : IntegerType → IntegerType → ℤ → ℤ
+constant_as j k z = if same_kind j k then z else converted k z
+
+-- two integers of which the first is divided by the second without a result, each converted to the type that the operator asks for
+abbrev pub divides_as : Binary → Option IntegerType → Option IntegerType → Option ℤ → Option ℤ → Bool
+divides_as operator (Some j) (Some k) (Some x) (Some y) =
+    cannot_divide (operator_of operator) (left_type operator j k) (constant_as j (left_type operator j k) x) (constant_as k (right_type operator j k) y)
+divides_as operator j k x y = false
+
 abbrev pub divides_part : Table → Binary → Elaborated → Elaborated → Bool
-divides_part T operator (AsValue a) (AsValue b) = divides_badly T operator a b
+divides_part T operator (AsValue a) (AsValue b) =
+    divides_as operator (integer_at T (type_of a)) (integer_at T (type_of b)) (constant_value T a) (constant_value T b)
 divides_part T operator x y = false
 
 -- a division of constants is named at the first token of the expression

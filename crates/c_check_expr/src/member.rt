@@ -1,8 +1,8 @@
 //! The names of the members of a struct or union.
 #![tactic(auto)]
 
-ghost use Rattle.std.specs.Prelude.{◌≡◌, [], ◌∷◌, ◌++◌, OnOk, OnErr, None};
-ghost use Rattle.c_check_expr.specs.Scopes.{place_among};
+ghost use Rattle.std.specs.Prelude.{◌≡◌, [], ◌∷◌, ◌++◌, OnOk, OnErr, None, not};
+ghost use Rattle.c_check_expr.specs.Scopes.{place_among, is_no_list};
 
 use cc_base::NoMemory;
 use indexmap::IndexSet;
@@ -28,6 +28,13 @@ impl MemberNames {
         ensures { result ≡ [] }
     {
         MemberNames(IndexSet::new(alloc))
+    }
+
+    /// Whether there are any.
+    pub(crate) fn is_some(&self) -> bool
+        ensures { result ≡ not (is_no_list self.now) }
+    {
+        !self.0.is_empty()
     }
 
     /// The place of a name, counted from 0. Takes no memory.

@@ -1,14 +1,14 @@
 //! The scopes that are open, and what is counted.
 #![tactic(auto)]
 
-ghost use Rattle.std.specs.Prelude.{◌≡◌, ◌<◌, ◌≤◌, ◌+◌, true, false, OnOk, OnErr, IfOk, None, option_copied, length, nat_le, map};
-ghost use Rattle.c_check_expr.specs.Scopes.{file_scope, with_scopes, entering, leaving, declaring, declaring_tag, here, tag_here, name_in, tag_in, place_among, members_named};
+ghost use Rattle.std.specs.Prelude.{◌≡◌, ◌<◌, ◌≤◌, ◌+◌, true, false, not, OnOk, OnErr, IfOk, IfSome, None, option_copied, length, nat_le, map};
+ghost use Rattle.c_check_expr.specs.Scopes.{file_scope, with_scopes, entering, leaving, declaring, declaring_tag, here, tag_here, name_in, tag_in, place_among, members_named, is_no_list};
 ghost use Rattle.c_check_expr.specs.Typing.{counting_aggregate};
 
 use crate::declared::{Declared, Tag};
 use crate::level::Level;
 use crate::member::MemberNames;
-use cc_base::NoMemory;
+use cc_base::{NoMemory, NodeId};
 use indexmap::{IndexMap, IndexSet};
 use std::alloc::Global;
 use std::marker::Model;
@@ -176,10 +176,40 @@ impl Scope {
 
     /// The place of a member of a struct or union by its name, counted from 0. Takes no memory.
     pub(crate) fn member(&self, number: usize, name: &[u8]) -> Option<usize>
-        requires { number < length self.now.scopes.members }
         ensures { result ≡ place_among (members_named self.now.scopes number) name.now }
     {
-        self.members[number].place(name)
+        match self.members.get(number) {
+            Some(names) => names.place(name),
+            None => None,
+        }
+    }
+
+    /// Whether a struct or union has members so far. Takes no memory.
+    pub(crate) fn has_members(&self, number: usize) -> bool
+        ensures { result ≡ not (is_no_list (members_named self.now.scopes number)) }
+    {
+        match self.members.get(number) {
+            Some(names) => names.is_some(),
+            None => false,
+        }
+    }
+
+    /// The allocator.
+    pub(crate) fn alloc(&self) -> Global {
+        self.alloc
+    }
+
+    /// The next node, which is then used up. None comes where 32 bits can number no more. Takes no memory.
+    pub(crate) fn new_node(&mut self) -> Option<NodeId>
+        ensures given { IfSome result (λ n. (n ≡ record { 0 = self.old.node }) × (self.old.node < 4294967295) × (self.new ≡ record self.old { node = self.old.node + 1 })) }
+        ensures none { result ≡ None → (4294967295 ≤ self.old.node) × (self.new ≡ self.old) }
+    {
+        if self.next_node == u32::MAX {
+            return None;
+        }
+        let node = NodeId(self.next_node);
+        self.next_node += 1;
+        Some(node)
     }
 
     /// The number of the next node. Takes no memory.

@@ -1,0 +1,24 @@
+-- The code's operands as plain data.
+use Rattle.c_tree.specs.TypedViews.{typed_expr_view, typed_place_view}
+use Rattle.c_check_expr.specs.Tests.{Elaborated, AsPlace, AsValue, AsAllocation}
+use Rattle.c_check_expr.specs.Judging as judging
+use Rattle.c_check_expr.specs.Operands as plain
+use Rattle.c_check_expr.specs.declared.operand.Part.{Part}
+use Rattle.c_check_expr.specs.declared.operand.Part.TheVariants as part
+use Rattle.c_check_expr.specs.declared.operand.Operand.{Operand}
+use Rattle.c_check_expr.specs.declared.operand.Value.{Value}
+use Rattle.c_check_expr.specs.declared.operand.Pointing.{Pointing}
+
+abbrev pub part_view : Part → Elaborated
+part_view (part.Place p) = AsPlace (typed_place_view p)
+part_view (part.Value e) = AsValue (typed_expr_view e)
+part_view (part.Allocation e) = AsAllocation (typed_expr_view e)
+
+abbrev pub operand_view : Operand → plain.Operand
+operand_view x = record { part = part_view x.part; place = x.place; held = x.held }
+
+abbrev pub value_view : Value → plain.Value
+value_view v = record { expr = typed_expr_view v.expr; place = v.place; held = v.held }
+
+abbrev pub pointing_view : Pointing → judging.Pointing
+pointing_view p = record { node = p.node; type = p.ty }

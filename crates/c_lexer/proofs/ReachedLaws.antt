@@ -59,6 +59,10 @@ fold-position front (b ∷ bytes) =
     ap (λ p. fold next_position p bytes) (next_position-is front b) ∙ fold-position (front ++ b ∷ []) bytes
     ∙ ap position_of (append_assoc front (b ∷ []) bytes)
 
+-- a text that is read to its end
+pub end_place : (text : List ℕ) → (fold next_position (position 1 1 true) text).place ≡ place_after text
+end_place text = ap (λ p. p.place) (fold-position [] text)
+
 -- no more lines and no more columns than bytes
 count_by-le : (p : ℕ → Bool) (front : List ℕ) (a : ℕ) → fold (λ n x. n + cond (p x) 1 0) a front ≤ a + length front
 count_by-le p [] a = omega arith

@@ -16,6 +16,7 @@ mod word;
 pub use lexer::tokens;
 pub use literal::literal_bytes;
 pub use number::IntegerType;
+pub use position::end_of;
 pub use punctuator::Punctuator;
 pub use token::{Token, TokenKind};
 pub use word::Keyword;

@@ -1,5 +1,6 @@
 //! Where reading stands in a text.
-ghost use Rattle.std.specs.Prelude.{◌≡◌, ◌<◌, ◌+◌, ◌^◌, length, fold};
+ghost use Rattle.std.specs.Prelude.{◌≡◌, ◌<◌, ◌≤◌, ◌+◌, ◌^◌, length, fold};
+ghost use Rattle.c_lexer.specs.Cut.{place_after};
 ghost use Rattle.c_lexer.specs.Reading.{next_position};
 
 use crate::byte::is_blank;
@@ -50,4 +51,17 @@ impl Position {
         }
         position
     }
+}
+
+/// The place just after the last byte of a text.
+#[tactic(auto, using(crate::proofs::ReachedLaws::end_place))]
+pub fn end_of(text: &[u8]) -> Place
+    requires { length text.now ≤ 1048576 }
+    ensures { result ≡ place_after text.now }
+{
+    let start = Position {
+        place: Place { line: 1, col: 1 },
+        starts_line: true,
+    };
+    start.after(text).place
 }

@@ -1,5 +1,5 @@
 -- How the code sees tokens, names and their tests, and what its answers say of the tokens that are left.
-use Rattle.std.specs.Prelude.{◌≡◌, ◌≢◌, ℕ, Vec, List, [], ◌∷◌, map, Option, Some, None, Result, Ok, Err}
+use Rattle.std.specs.Prelude.{◌≡◌, ◌≢◌, ℕ, Vec, List, [], ◌∷◌, map, reverse, Option, Some, None, Result, Ok, Err}
 use Rattle.std.specs.declared.alloc.Global.{Global}
 use Rattle.indexmap.specs.IndexSet.{IndexSet}
 use Rattle.parse_rules.specs.Parsers.{Reason, Syntax, Unsupported, Deep, Answer, Read, Stopped, Parser, skip, ◌>>◌}
@@ -30,8 +30,9 @@ use Rattle.c_expr_parse.specs.declared.lookahead.PartStart.{PartStart}
 use Rattle.c_expr_parse.specs.declared.lookahead.PartStart.TheVariants as part_start
 use Rattle.c_expr_parse.specs.Tests as tests
 
+-- the latest first, as the grammar has them
 abbrev pub names_of : {S : Type 0} → IndexSet (Vec ℕ Global) S → TypeNames
-names_of names = map (λ name. name.items) names.keys
+names_of names = reverse (map (λ name. name.items) names.keys)
 
 abbrev pub next_view : Next → Option Symbol
 next_view next.End = None

@@ -6,4 +6,5 @@ pub mod Seen
 pub mod Tests
 pub mod TypeRules
 pub mod Written
+pub mod Faults
 pub mod Answers

@@ -7,4 +7,5 @@ pub mod Tests
 pub mod TypeRules
 pub mod Written
 pub mod Faults
+pub mod Nests
 pub mod Answers

@@ -5,7 +5,21 @@
 mod cursor;
 mod fault;
 mod lookahead;
+mod measured;
 mod next;
 mod operators;
 mod stop;
+mod stubs;
 mod words;
+
+pub use cursor::Cursor;
+pub use fault::fault_of;
+pub use lookahead::{
+    Naming, begins_declarator, begins_expr, begins_specifier, equals_sign, is_close_brace,
+    is_close_paren, is_colon, is_comma, is_semicolon, open_brace, open_paren,
+};
+pub use measured::Measured;
+pub use next::Next;
+pub use stop::Stop;
+pub use stubs::{read_declarator, read_expr, read_initialiser, read_specifiers};
+pub use words::Scope;

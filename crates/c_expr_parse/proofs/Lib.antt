@@ -37,3 +37,6 @@ pub mod PartReads
 pub mod DeclaratorReads
 pub mod Promised
 pub mod AllReads
+pub mod Memory
+pub mod Rounds
+pub mod StateRounds

@@ -9,3 +9,4 @@ pub mod Written
 pub mod Faults
 pub mod Nests
 pub mod Answers
+pub mod Calls

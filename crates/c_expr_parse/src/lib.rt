@@ -2,6 +2,7 @@
 //! laws; of the code it has the tokens that are left, and what the next one says.
 #![tactic(auto)]
 
+mod calls;
 mod cursor;
 mod fault;
 mod lookahead;
@@ -12,6 +13,7 @@ mod stop;
 mod stubs;
 mod words;
 
+pub use calls::Level;
 pub use cursor::Cursor;
 pub use fault::fault_of;
 pub use lookahead::{
@@ -20,6 +22,6 @@ pub use lookahead::{
 };
 pub use measured::Measured;
 pub use next::Next;
-pub use stop::Stop;
+pub use stop::{Stop, too_deep};
 pub use stubs::{read_declarator, read_expr, read_initialiser, read_specifiers};
 pub use words::Scope;

@@ -1,4 +1,7 @@
 //! Why a rule stops.
+ghost use Rattle.std.specs.Prelude.{◌≡◌, if◌then◌else◌};
+ghost use Rattle.c_expr_parse.specs.declared.stop.Stop.TheVariants as stop;
+
 use std::alloc::AllocError;
 
 /// Why a rule stops. The cursor then stands at the token at which it does.
@@ -22,4 +25,12 @@ impl From<AllocError> for Stop {
     fn from(_: AllocError) -> Stop {
         Stop::NoMemory
     }
+}
+
+/// Why a rule stops where no node is allowed: at a token that begins a part that is too deep, or at
+/// any other.
+pub fn too_deep(begins: bool) -> Stop
+    ensures { result ≡ (if begins then stop.Deep else stop.Syntax) }
+{
+    if begins { Stop::Deep } else { Stop::Syntax }
 }

@@ -10,4 +10,8 @@ pub mod BlockReads
 pub mod StatementReads
 pub mod UnitReads
 pub mod UnitPromised
+pub mod NamesInForce
+pub mod TypedefFlag
+pub mod UnitCall
+pub mod StatementNodes
 pub mod Examples

@@ -19,6 +19,13 @@ optional names d = branch (begins_expr names) (do
   pure (Some e))
     (pure None)
 
+-- the same, and the token that ends it
+unfoldable pub optional_then : TypeNames → ℕ → (ends : Option Symbol → Bool) → Parser Symbol (Option tree.Expr)
+optional_then names d ends = do
+  e ← optional names d
+  expect ends
+  pure e
+
 -- Blocks. The rule for the statements inside is a parameter.
 
 unfoldable pub with_label : TypeNames → ℕ → tree.BlockItems → LabelStart → Parser Symbol tree.BlockItems

@@ -141,20 +141,22 @@ fn declarator_after_comma(
 }
 
 /// The declarators of a declaration, of which the first was read.
+#[tactic(auto, unfolding(crate::specs::DeclarationRules::declarators_from))]
 fn declarators(
     alloc: Global,
     names: &mut IndexSet<Vec<u8>>,
     depth: u16,
     is_typedef: bool,
     cursor: &mut Cursor<'_>,
-    first: Declarator,
+    declarator: Declarator,
 ) -> Result<Items<InitDeclarator>, Stop>
-    requires { IsNew (names_of names.old) (declared_name (declarator_view first)) }
-    ensures reads { Reads init_declarators_seen ((by_first tests.equals_sign (declarations.with_initialiser (names_after is_typedef (names_of names.old) (declarator_view first)) depth tree.NoInitDeclarator (declarator_view first)) >>= declarations.declarators_from (names_of names.old) is_typedef depth) cursor.old) result cursor.new }
+    requires { IsNew (names_of names.old) (declared_name (declarator_view declarator)) }
+    ensures reads { Reads init_declarators_seen ((by_first tests.equals_sign (declarations.with_initialiser (names_after is_typedef (names_of names.old) (declarator_view declarator)) depth tree.NoInitDeclarator (declarator_view declarator)) >>= declarations.declarators_from (names_of names.old) is_typedef depth) cursor.old) result cursor.new }
     ensures names { IfOk result (λ list. names_of names.new ≡ names_after_all is_typedef (names_of names.old) (init_declarators_seen list)) }
 {
     let none = Items::new(alloc);
-    let mut list = with_initialiser(alloc, names, depth, is_typedef, cursor, none, first)?;
+    let first = with_initialiser(alloc, names, depth, is_typedef, cursor, none, declarator)?;
+    let mut list = first;
     for _turn in 0..cursor.left() {
         if !is_comma(cursor.peek()) {
             return Ok(list);

@@ -4,9 +4,10 @@ ghost use Rattle.c_tree.specs.StatementViews.{initialiser_view};
 ghost use Rattle.c_tree.specs.Views.{declarator_view, expr_view, specifiers_view};
 ghost use Rattle.c_expr_parse.specs.Rules.{rules, initialiser};
 ghost use Rattle.c_expr_parse.specs.Seen.{names_of, naming_view, scope_view, Reads};
+ghost use Rattle.c_expr_parse.specs.Tests.{is_close_paren, is_semicolon};
 ghost use Rattle.c_parser.specs.StatementRules as spec;
 
-use crate::tokens::expect_close_paren;
+use crate::tokens::{expect_close_paren, expect_semicolon};
 use c_expr_parse::{
     Cursor, Naming, Scope, Stop, begins_expr, read_declarator, read_expr, read_initialiser,
     read_specifiers,
@@ -70,6 +71,26 @@ impl<'a> Reader<'a> {
         }
         let e = self.expr(cursor, 0)?;
         Ok(Some(e))
+    }
+
+    /// An expression that may be left out, and the `;` after it.
+    #[tactic(auto, unfolding(crate::specs::StatementRules::optional_then))]
+    pub fn optional_semicolon(&self, cursor: &mut Cursor<'_>) -> Result<Option<Expr>, Stop>
+        ensures { Reads (λ e. option_map expr_view e) (spec.optional_then (names_of self.now.names.now) self.now.depth is_semicolon cursor.old) result cursor.new }
+    {
+        let e = self.optional(cursor)?;
+        expect_semicolon(cursor)?;
+        Ok(e)
+    }
+
+    /// An expression that may be left out, and the `)` after it.
+    #[tactic(auto, unfolding(crate::specs::StatementRules::optional_then))]
+    pub fn optional_close_paren(&self, cursor: &mut Cursor<'_>) -> Result<Option<Expr>, Stop>
+        ensures { Reads (λ e. option_map expr_view e) (spec.optional_then (names_of self.now.names.now) self.now.depth is_close_paren cursor.old) result cursor.new }
+    {
+        let e = self.optional(cursor)?;
+        expect_close_paren(cursor)?;
+        Ok(e)
     }
 
     /// An expression in parentheses, after the `(`.

@@ -11,8 +11,7 @@ ghost use Rattle.c_parser.specs.Tests as tests;
 use crate::lookahead::{StatementStart, begins_statement, is_else, statement_start, while_word};
 use crate::reader::Reader;
 use crate::tokens::{
-    expect_close_brace, expect_close_paren, expect_semicolon, take, take_open_brace,
-    take_open_paren,
+    expect_close_brace, expect_semicolon, take, take_open_brace, take_open_paren,
 };
 use c_expr_parse::{Cursor, Scope, Stop, begins_specifier, too_deep};
 use c_tree::{Boxed, Declaration, Expr, Statement};
@@ -156,7 +155,7 @@ impl<
     }
 
     /// The parts of a `for` after the first.
-    #[tactic(auto, unfolding(crate::specs::StatementRules::for_rest))]
+    #[tactic(auto, using(crate::proofs::ForLaws::for_rest_parts))]
     fn for_rest(
         &self,
         cursor: &mut Cursor<'_>,
@@ -167,10 +166,8 @@ impl<
         requires { NestsStatements self.now.reader.names.now self.now.reader.depth (S.pre self.now.read_inner) (S.post self.now.read_inner) }
         ensures { Reads statement_view (spec.for_rest (names_of self.now.reader.names.now) self.now.reader.depth (spec.statement (names_of self.now.reader.names.now) self.now.reader.depth) (for_made at paren start) cursor.old) result cursor.new }
     {
-        let test = self.reader.optional(cursor)?;
-        expect_semicolon(cursor)?;
-        let step = self.reader.optional(cursor)?;
-        expect_close_paren(cursor)?;
+        let test = self.reader.optional_semicolon(cursor)?;
+        let step = self.reader.optional_close_paren(cursor)?;
         let body = self.inner(cursor)?;
         Ok(made_for(at, paren, start, test, step, body))
     }

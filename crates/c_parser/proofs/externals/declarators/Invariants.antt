@@ -13,6 +13,6 @@ use Rattle.c_parser.proofs.externals.declarators.Given as goal
 -- the names of the declarators so far are in force
 abbrev pub invariant-loop-turn : goal.invariant-loop-turn
 invariant-loop-turn l =
-    IsInRound ((by_first equals_sign (with_initialiser (names_after l.is_typedef (names_of l.fn.names) (declarator_view l.fn.first)) l.depth tree.NoInitDeclarator (declarator_view l.fn.first)) >>= declarators_from (names_of l.fn.names) l.is_typedef l.depth) l.fn.cursor)
+    IsInRound ((by_first equals_sign (with_initialiser (names_after l.is_typedef (names_of l.fn.names) (declarator_view l.fn.declarator)) l.depth tree.NoInitDeclarator (declarator_view l.fn.declarator)) >>= declarators_from (names_of l.fn.names) l.is_typedef l.depth) l.fn.cursor)
     l._turn-end l._turn is_comma (λ before. after_skip (next_declarator (names_after_all l.is_typedef (names_of l.fn.names) before) l.is_typedef l.depth before)) (init_declarators_seen l.list) l.cursor
     × (names_of l.names ≡ names_after_all l.is_typedef (names_of l.fn.names) (init_declarators_seen l.list))

@@ -1,6 +1,6 @@
 use Rattle.std.proofs.Common.{rules}
 use Rattle.c_expr_parse.proofs.StateRounds.{state_stops, state_goes, state_fails}
-use Rattle.c_parser.proofs.blocks.Statements.items.Goals as goal
+use Rattle.c_parser.proofs.statements.Statements.items.Goals as goal
 
 pub returns-then-not-begins_item : goal.returns-then-not-begins_item
 returns-then-not-begins_item g c = state_stops c.loop-turn.invariant _ c.peek.ensures _ c.begins_item.ensures c.if-not-begins_item.true

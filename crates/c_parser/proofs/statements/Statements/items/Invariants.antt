@@ -5,7 +5,7 @@ use Rattle.c_expr_parse.specs.Seen.{names_of}
 use Rattle.c_expr_parse.proofs.StateRounds.{IsInStateRound}
 use Rattle.c_parser.specs.StatementRules.{item_step, statement}
 use Rattle.c_parser.specs.Tests.{begins_item}
-use Rattle.c_parser.proofs.blocks.Statements.items.Given as goal
+use Rattle.c_parser.proofs.statements.Statements.items.Given as goal
 
 abbrev pub invariant-loop-turn : goal.invariant-loop-turn
 invariant-loop-turn g l =

@@ -6,9 +6,11 @@ pub mod ExprLaws
 pub mod ExprReads
 pub mod Fresh
 pub mod Kept
+pub mod Memory
 pub mod NameLaws
 pub mod OperandReads
 pub mod OperatorLaws
+pub mod Rounds
 pub mod SpecifierTokens
 pub mod Starts
 pub mod Take
@@ -37,6 +39,13 @@ pub mod PartReads
 pub mod DeclaratorReads
 pub mod Promised
 pub mod AllReads
-pub mod Memory
-pub mod Rounds
 pub mod StateRounds
+pub mod SpecifierFlags
+pub mod Below
+pub mod Layers
+pub mod ArrayWordLaws
+pub mod CoreLaws
+pub mod PartLaws
+pub mod CallLaws
+pub mod CallAnswers
+pub mod InitialiserCases

@@ -1,7 +1,7 @@
 -- What an answer to some tokens means, for each kind of part that is parsed here. d is the number of nodes that are allowed.
-use Rattle.std.specs.Prelude.{ℕ, List}
-use Rattle.parse_rules.specs.Parsers.{Answer}
-use Rattle.parse_rules.specs.Promises.{Answered}
+use Rattle.std.specs.Prelude.{◌≡◌, ℕ, false, List}
+use Rattle.parse_rules.specs.Parsers.{Answer, Read, Stopped, Deep}
+use Rattle.parse_rules.specs.Promises.{Answered, is_deep}
 use Rattle.c_tree.specs.Depth.{expr_height, specifier_list_height, declarator_height, initialiser_height}
 use Rattle.c_tree.specs.Grammar.{Naming}
 use Rattle.c_tree.specs.Symbols.{Symbol}
@@ -22,3 +22,11 @@ DeclaratorAnswered names naming d tokens = Answered IsWritten (SpellsDeclarator 
 
 abbrev pub InitialiserAnswered : TypeNames → (d : ℕ) → List Symbol → Answer Symbol tree.Initialiser → Type 0
 InitialiserAnswered names d tokens = Answered IsWritten (SpellsInitialiser names) initialiser_height d tokens
+
+-- of the answers that are no stop at a depth, one at most is right
+abbrev pub OneIsRight : {A : Type 0} → (Right : Answer Symbol A → Type 0) → Type 0
+OneIsRight {A} Right = (a b : Answer Symbol A) → is_deep a ≡ false → is_deep b ≡ false → Right a → Right b → a ≡ b
+
+-- where a part that is read is a right answer, no stop at a depth is
+abbrev pub ReadOrDeep : {A : Type 0} → (Right : Answer Symbol A → Type 0) → Type 0
+ReadOrDeep {A} Right = (a : A) (rest rest' : List Symbol) → Right (Read a rest) → Right (Stopped Deep rest') → ⊥

@@ -1,5 +1,5 @@
 -- What the calls answer, said of the tokens of a text and of the one at which reading begins.
-use Rattle.std.specs.Prelude.{◌≡◌, ℕ, ◌≤◌, ⊤, Bool, List, drop, length, map, if◌then◌else◌}
+use Rattle.std.specs.Prelude.{ℕ, ◌≤◌, ⊤, Bool, List, drop, length, map, if◌then◌else◌}
 use Rattle.cc_base.specs.declared.fault.Fault.{Fault}
 use Rattle.cc_base.specs.declared.fault.Fault.TheVariants.{Refused, TooLarge, NoMemory}
 use Rattle.c_lexer.specs.Tokens.{Token}

@@ -1,5 +1,7 @@
 pub mod DeclaratorRules
 pub mod ExprRules
+pub mod Lists
+pub mod Nests
 pub mod Parts
 pub mod Rules
 pub mod Seen
@@ -7,6 +9,6 @@ pub mod Tests
 pub mod TypeRules
 pub mod Written
 pub mod Faults
-pub mod Nests
 pub mod Answers
 pub mod Calls
+pub mod Operands

@@ -5,16 +5,18 @@ use Rattle.std.specs.declared.alloc.Global.{Global}
 use denote.Ref.{MutBor}
 use Rattle.indexmap.specs.IndexSet.{IndexSet}
 use Rattle.c_tree.specs.Symbols.{Symbol}
-use Rattle.c_tree.specs.Depth.{expr_height, specifiers_height, declarator_height}
+use Rattle.c_tree.specs.Depth.{expr_height, specifiers_height, declarator_height, initialiser_height}
 use Rattle.c_tree.specs.Views.{expr_view, specifiers_view, declarator_view}
 use Rattle.c_tree.specs.declared.expr.Expr.{Expr}
 use Rattle.c_tree.specs.declared.expr.Specifiers.{Specifiers}
 use Rattle.c_tree.specs.declared.expr.Declarator.{Declarator}
+use Rattle.c_tree.specs.declared.statement.Initialiser.{Initialiser}
+use Rattle.c_tree.specs.StatementViews.{initialiser_view}
 use Rattle.c_expr_parse.specs.declared.measured.Measured.{Measured}
 use Rattle.c_expr_parse.specs.declared.stop.Stop.{Stop}
 use Rattle.c_expr_parse.specs.declared.words.Scope.{Scope}
 use Rattle.c_expr_parse.specs.declared.lookahead.Naming.{Naming}
-use Rattle.c_expr_parse.specs.Rules.{rules}
+use Rattle.c_expr_parse.specs.Rules.{rules, initialiser}
 use Rattle.c_expr_parse.specs.Seen.{names_of, scope_view, naming_view, Reads}
 
 -- the height that is said is right, and it is at most what is allowed
@@ -49,3 +51,13 @@ module _ {H : Type 0} (names : IndexSet (Vec ℕ Global) H) (depth : ℕ) where
         → Reads (λ m. declarator_view m.tree) ((rules (names_of names) d).declarator (naming_view naming) old.now) r new.now
     pub declarator_measured : (alloc : Global) (set : Bor (IndexSet (Vec ℕ Global) H)) (old new : MutBor (List Symbol)) (d : ℕ) (naming : Naming) (r : Result (Measured Declarator) Stop)
         → set.now ≡ names → d ≤ depth → declarator_post alloc set old d naming r new → IfOk r (λ m. IsMeasured d (declarator_height (declarator_view m.tree)) m.height)
+
+  -- A function that reads initialisers with as many nodes as are allowed, or fewer.
+  pub record NestsItems
+      (pre : Global → Bor (IndexSet (Vec ℕ Global) H) → MutBor (List Symbol) → ℕ → Type 0)
+      (post : Global → Bor (IndexSet (Vec ℕ Global) H) → MutBor (List Symbol) → ℕ → Result (Measured Initialiser) Stop → MutBor (List Symbol) → Type 0) : Type 0 where
+    pub callable : (alloc : Global) (set : Bor (IndexSet (Vec ℕ Global) H)) (old : MutBor (List Symbol)) (d : ℕ) → set.now ≡ names → d ≤ depth → pre alloc set old d
+    pub reads : (alloc : Global) (set : Bor (IndexSet (Vec ℕ Global) H)) (old new : MutBor (List Symbol)) (d : ℕ) (r : Result (Measured Initialiser) Stop)
+        → set.now ≡ names → d ≤ depth → post alloc set old d r new → Reads (λ m. initialiser_view m.tree) (initialiser (names_of names) d old.now) r new.now
+    pub measured : (alloc : Global) (set : Bor (IndexSet (Vec ℕ Global) H)) (old new : MutBor (List Symbol)) (d : ℕ) (r : Result (Measured Initialiser) Stop)
+        → set.now ≡ names → d ≤ depth → post alloc set old d r new → IfOk r (λ m. IsMeasured d (initialiser_height (initialiser_view m.tree)) m.height)

@@ -1,26 +1,25 @@
-//! Stands in for the functions that read expressions, specifiers, declarators and initialisers, until they are there:
-//! each answers that there is no memory, which its contract allows.
+//! Expressions, specifiers and declarators in one another, as deep as is allowed.
 ghost use Rattle.std.specs.Prelude.{suc, IfOk};
-ghost use Rattle.c_tree.specs.Depth.{expr_height, specifiers_height, declarator_height, initialiser_height};
-ghost use Rattle.c_tree.specs.StatementViews.{initialiser_view};
+ghost use Rattle.c_tree.specs.Depth.{expr_height, specifiers_height, declarator_height};
 ghost use Rattle.c_tree.specs.Views.{expr_view, specifiers_view, declarator_view};
-ghost use Rattle.c_expr_parse.specs.Nests.{IsMeasured};
-ghost use Rattle.c_expr_parse.specs.Rules as spec;
 ghost use Rattle.c_expr_parse.specs.Rules.{rules};
 ghost use Rattle.c_expr_parse.specs.Seen.{names_of, scope_view, naming_view, Reads};
+ghost use Rattle.c_expr_parse.specs.Nests.{IsMeasured};
 
 use crate::cursor::Cursor;
-use crate::lookahead::Naming;
+use crate::grammar::Grammar;
+use crate::lookahead::{Naming, begins_declarator, begins_expr, begins_specifier};
 use crate::measured::Measured;
-use crate::stop::Stop;
+use crate::stop::{Stop, too_deep};
 use crate::words::Scope;
-use c_tree::{Declarator, Expr, Initialiser, Specifiers};
+use c_tree::{Declarator, Expr, Specifiers};
 use indexmap::IndexSet;
 use std::alloc::Global;
 
-/// Reads an expression of at least a level, where so many nodes are allowed.
+/// An expression of at least a level. `depth` is the number of nodes that are allowed on a path.
+#[cycle(parts)]
 pub fn read_expr(
-    _alloc: Global,
+    alloc: Global,
     names: &IndexSet<Vec<u8>>,
     cursor: &mut Cursor<'_>,
     depth: u16,
@@ -29,12 +28,24 @@ pub fn read_expr(
     ensures reads { Reads (λ m. expr_view m.tree) ((rules (names_of names.now) depth).expr least cursor.old) result cursor.new }
     ensures height { IfOk result (λ m. IsMeasured depth (expr_height (expr_view m.tree)) m.height) }
 {
-    Err(Stop::NoMemory)
+    if depth == 0 {
+        return Err(too_deep(begins_expr(names, cursor.peek())));
+    }
+    Grammar {
+        alloc,
+        names,
+        depth: depth - 1,
+        read_expr,
+        read_specifiers,
+        read_declarator,
+    }
+    .expression(cursor, least)
 }
 
-/// Reads specifiers, one of which says a type.
+/// Specifiers for where they stand. `depth` is the number of nodes that are allowed on a path.
+#[cycle(parts)]
 pub fn read_specifiers(
-    _alloc: Global,
+    alloc: Global,
     names: &IndexSet<Vec<u8>>,
     cursor: &mut Cursor<'_>,
     depth: u16,
@@ -43,12 +54,24 @@ pub fn read_specifiers(
     ensures reads { Reads (λ m. specifiers_view m.tree) ((rules (names_of names.now) depth).specifiers (scope_view scope) cursor.old) result cursor.new }
     ensures height { IfOk result (λ m. IsMeasured depth (suc (specifiers_height (specifiers_view m.tree))) m.height) }
 {
-    Err(Stop::NoMemory)
+    if depth == 0 {
+        return Err(too_deep(begins_specifier(names, scope, cursor.peek())));
+    }
+    Grammar {
+        alloc,
+        names,
+        depth: depth - 1,
+        read_expr,
+        read_specifiers,
+        read_declarator,
+    }
+    .specifier_list(cursor, scope)
 }
 
-/// Reads a declarator that is named or not.
+/// A declarator that is named or not. `depth` is the number of nodes that are allowed on a path.
+#[cycle(parts)]
 pub fn read_declarator(
-    _alloc: Global,
+    alloc: Global,
     names: &IndexSet<Vec<u8>>,
     cursor: &mut Cursor<'_>,
     depth: u16,
@@ -57,18 +80,16 @@ pub fn read_declarator(
     ensures reads { Reads (λ m. declarator_view m.tree) ((rules (names_of names.now) depth).declarator (naming_view naming) cursor.old) result cursor.new }
     ensures height { IfOk result (λ m. IsMeasured depth (declarator_height (declarator_view m.tree)) m.height) }
 {
-    Err(Stop::NoMemory)
-}
-
-/// Reads an initialiser.
-pub fn read_initialiser(
-    _alloc: Global,
-    names: &IndexSet<Vec<u8>>,
-    cursor: &mut Cursor<'_>,
-    depth: u16,
-) -> Result<Measured<Initialiser>, Stop>
-    ensures reads { Reads (λ m. initialiser_view m.tree) (spec.initialiser (names_of names.now) depth cursor.old) result cursor.new }
-    ensures height { IfOk result (λ m. IsMeasured depth (initialiser_height (initialiser_view m.tree)) m.height) }
-{
-    Err(Stop::NoMemory)
+    if depth == 0 {
+        return Err(too_deep(begins_declarator(names, naming, cursor.peek())));
+    }
+    Grammar {
+        alloc,
+        names,
+        depth: depth - 1,
+        read_expr,
+        read_specifiers,
+        read_declarator,
+    }
+    .stars_and_core(cursor, naming)
 }

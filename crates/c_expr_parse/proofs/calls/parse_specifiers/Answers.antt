@@ -1,0 +1,28 @@
+use Rattle.std.proofs.Common.{◌-◌}
+use Rattle.c_tree.specs.Depth.{specifier_list_height}
+use Rattle.c_tree.specs.Views.{specifiers_view}
+use Rattle.c_expr_parse.specs.Calls as spec
+use Rattle.c_expr_parse.specs.Parts.{SpellsSpecifiers}
+use Rattle.c_expr_parse.specs.Seen.{scope_view}
+use Rattle.c_expr_parse.specs.Seen.{names_of}
+use Rattle.c_expr_parse.proofs.CallAnswers.{specifiers_right}
+use Rattle.c_expr_parse.proofs.CallLaws.{read_inside, read_to, stopped_at}
+use Rattle.c_expr_parse.proofs.calls.parse_specifiers.Goals as goal
+
+pub overflow_sub-result : goal.overflow_sub-result
+overflow_sub-result c =
+    let right = specifiers_right (names_of c.args.names.now) c.args.toks.now c.args.from (256 - c.args.depth) c.nodes_below.result c.new-cursor.result c.nodes_below.ensures c.new-cursor.ensures (spec.scope_of c.args.file) (scope_view c.scope_of.result) c.scope_of.ensures in
+    read_inside c.args.toks.now c.args.from c.requires.from (SpellsSpecifiers (names_of c.args.names.now) (spec.scope_of c.args.file)) specifier_list_height (256 - c.args.depth)
+    (specifiers_view c.in-Ok.specifiers.tree) c.read_specifiers.new.cursor _ right c.in-Ok.ensures.reads c.left.result c.left.ensures
+
+pub returns-in-Ok-clause-read : goal.returns-in-Ok-clause-read
+returns-in-Ok-clause-read c =
+    let right = specifiers_right (names_of c.args.names.now) c.args.toks.now c.args.from (256 - c.args.depth) c.nodes_below.result c.new-cursor.result c.nodes_below.ensures c.new-cursor.ensures (spec.scope_of c.args.file) (scope_view c.scope_of.result) c.scope_of.ensures in
+    read_to c.args.toks.now c.args.from c.requires.from (SpellsSpecifiers (names_of c.args.names.now) (spec.scope_of c.args.file)) specifier_list_height (256 - c.args.depth)
+    (specifiers_view c.in-Ok.specifiers.tree) c.read_specifiers.new.cursor _ right c.in-Ok.ensures.reads c.left.result c.left.ensures
+
+pub returns-in-Err-clause-refused : goal.returns-in-Err-clause-refused
+returns-in-Err-clause-refused c =
+    let right = specifiers_right (names_of c.args.names.now) c.args.toks.now c.args.from (256 - c.args.depth) c.nodes_below.result c.new-cursor.result c.nodes_below.ensures c.new-cursor.ensures (spec.scope_of c.args.file) (scope_view c.scope_of.result) c.scope_of.ensures in
+    stopped_at c.args.toks.now c.args.from c.requires.from (SpellsSpecifiers (names_of c.args.names.now) (spec.scope_of c.args.file)) specifier_list_height (256 - c.args.depth)
+    c.args.text.now c.in-Err.stop c.read_specifiers.new.cursor _ right c.in-Err.ensures.reads c.fault_of.result c.fault_of.ensures

@@ -1,0 +1,14 @@
+use Rattle.std.proofs.Common.{rules}
+use Rattle.c_expr_parse.proofs.Rounds.{stops, goes, fails}
+use Rattle.c_expr_parse.proofs.grammar.Grammar.commas.Goals as goal
+
+pub returns-then-not-comma_goes_on-clause-reads : goal.returns-then-not-comma_goes_on-clause-reads
+returns-then-not-comma_goes_on-clause-reads g c = stops c.loop-turn.invariant.0 _ c.peek.ensures _ c.comma_goes_on.ensures c.if-not-comma_goes_on.true
+
+pub returns-in_err-e-clause-reads : goal.returns-in_err-e-clause-reads
+returns-in_err-e-clause-reads g c =
+    let stopped = fails c.loop-turn.invariant.0 _ c.peek.ensures _ c.comma_goes_on.ensures c.loop-turn-test.true c.if-not-comma_goes_on.false c.in_err-e.ensures.reads in
+    search rules
+
+pub loop-turn-preserved : goal.loop-turn-preserved
+loop-turn-preserved g c = (goes c.loop-turn.invariant.0 _ c.peek.ensures _ c.comma_goes_on.ensures c.loop-turn-test.true c.if-not-comma_goes_on.false c.in_ok-e.ensures.reads, c.in_ok-e.ensures.height)

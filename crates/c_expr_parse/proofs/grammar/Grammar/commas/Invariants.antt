@@ -1,0 +1,16 @@
+use Rattle.std.proofs.Common.{suc, ◌&&◌, ◌==◌}
+use Rattle.parse_rules.specs.Parsers.{loop}
+use Rattle.c_tree.specs.Depth.{expr_height}
+use Rattle.c_tree.specs.Views.{expr_view}
+use Rattle.c_expr_parse.specs.ExprRules as spec
+use Rattle.c_expr_parse.specs.Tests as tests
+use Rattle.c_expr_parse.specs.Rules.{rules}
+use Rattle.c_expr_parse.specs.Seen.{names_of}
+use Rattle.c_expr_parse.specs.Nests.{IsMeasured}
+use Rattle.c_expr_parse.proofs.Rounds.{IsInRound}
+use Rattle.c_expr_parse.proofs.grammar.Grammar.commas.Given as goal
+
+abbrev pub invariant-loop-turn : goal.invariant-loop-turn
+invariant-loop-turn g l =
+    IsInRound (loop (λ _ next. l.least == 0 && tests.is_comma next) (spec.comma_step l.self.depth (rules (names_of l.self.names.now) l.self.depth)) (expr_view l.fn.first.tree) l.fn.cursor) l._turn-end l._turn (λ next. l.least == 0 && tests.is_comma next) (spec.comma_step l.self.depth (rules (names_of l.self.names.now) l.self.depth)) (expr_view l.e.tree) l.cursor
+    × IsMeasured (suc l.self.depth) (expr_height (expr_view l.e.tree)) l.e.height

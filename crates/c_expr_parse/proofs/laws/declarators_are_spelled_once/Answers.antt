@@ -1,0 +1,6 @@
+use Rattle.c_expr_parse.proofs.AllReads.{inner_reads}
+use Rattle.c_expr_parse.proofs.Promised.{one_declarator}
+use Rattle.c_expr_parse.proofs.laws.declarators_are_spelled_once.Goals as goal
+
+pub returns : goal.returns
+returns c = λ names. one_declarator names (inner_reads names)

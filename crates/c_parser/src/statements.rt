@@ -303,7 +303,6 @@ impl<
 }
 
 /// A statement. `depth` is the number of nodes that are allowed on a path.
-#[tactic(auto, using(crate::proofs::StatementNodes::statement_deeper, crate::proofs::StatementNodes::statement_too_deep))]
 pub fn read_statement(
     alloc: Global,
     names: &IndexSet<Vec<u8>>,

@@ -36,11 +36,11 @@ some_statement names depth some ts start begun r left h =
 abbrev names_in : tree.TranslationUnit → tree.Specifiers → tree.Declarator → TypeNames
 names_in unit specifiers x = names_after (has_typedef specifiers) (type_names unit) x
 
-pub body_deeper : (unit : tree.TranslationUnit) (specifiers : tree.Specifiers) (x : tree.Declarator) (depth d : ℕ) (ts : List Symbol) → depth ≡ suc d
+pub body_deeper : (unit : tree.TranslationUnit) (specifiers : tree.Specifiers) (x : tree.Declarator) (depth : ℕ) (ts : List Symbol) → (depth ≡ 0 → ⊥)
     → function_body unit specifiers x depth ts
-    ≡ (take open_brace >>= (λ brace. block_items (names_in unit specifiers x) d (statement (names_in unit specifiers x) d) false >>= (λ items. expect is_close_brace >> pure (tree.AndFunctionBody unit specifiers x brace items)))) ts
+    ≡ (take open_brace >>= (λ brace. block_items (names_in unit specifiers x) (depth - 1) (statement (names_in unit specifiers x) (depth - 1)) false >>= (λ items. expect is_close_brace >> pure (tree.AndFunctionBody unit specifiers x brace items)))) ts
 unfolding function_body
-body_deeper unit specifiers x depth d ts e = rw e refl
+body_deeper unit specifiers x depth ts some = ap (λ n. function_body unit specifiers x n ts) (one_less depth some)
 
 pub body_too_deep : (unit : tree.TranslationUnit) (specifiers : tree.Specifiers) (x : tree.Declarator) (depth : ℕ) (ts : List Symbol) → depth ≡ 0
     → function_body unit specifiers x depth ts ≡ too_deep (λ next. is_some (open_brace next)) ts

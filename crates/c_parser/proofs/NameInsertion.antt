@@ -1,7 +1,8 @@
 -- What a set of typedef names is after a declarator.
-use Rattle.std.proofs.Common.{◌≡◌, ℕ, Bool, true, false, cond, List, [], ◌∷◌, ◌++◌, map, reverse, Option, Some, None, Vec, Global, nat_eq, refl, sym, ap, ◌∙◌, subst}
+use Rattle.std.proofs.Common.{◌≡◌, ℕ, Bool, true, false, cond, List, [], ◌∷◌, ◌++◌, map, reverse, Option, Some, None, Result, Ok, Err, OnOk, Vec, Global, nat_eq, refl, sym, ap, ◌∙◌, subst}
 use Rattle.std.proofs.lemmas.List.{map-append, reverse-append}
 use Rattle.std.specs.Cmp.Lexicographic.{pointwise}
+use Rattle.std.specs.Result.{is_err}
 use Rattle.indexmap.specs.IndexSet.{insert_key}
 use Rattle.c_tree.specs.Grammar.{declared_name, names_after, names_after_all, with_name}
 use Rattle.c_tree.specs.Tree as tree
@@ -12,6 +13,10 @@ use Rattle.c_expr_parse.specs.Seen.{after_skip}
 use Rattle.c_parser.specs.DeclarationRules.{next_declarator}
 use Rattle.c_expr_parse.proofs.NameLaws.{is_type_name-listed}
 use Rattle.c_parser.specs.Names.{IsNew}
+
+pub of_success : {T E : Type 0} (P : Type 0) (outcome : Result T E) → is_err outcome ≡ false → OnOk outcome P → P
+of_success P (Ok value) failed fact = fact
+of_success P (Err error) failed fact = absurd (cc failed)
 
 -- a new key goes last
 last_key : (eq : Vec ℕ Global → Vec ℕ Global → Bool) (keys : List (Vec ℕ Global)) (key : Vec ℕ Global) (b : Bool) → b ≡ false → reverse (map (λ k. k.items) (cond b keys (keys ++ key ∷ []))) ≡ key.items ∷ reverse (map (λ k. k.items) keys)

@@ -1,8 +1,9 @@
 -- From what the rule for units answers to the symbols, to what the call says of a text.
-use Rattle.std.proofs.Common.{◌≡◌, ◌≢◌, ℕ, ◌+◌, ◌-◌, ◌≤◌, ◌⊎◌, inl, inr, List, [], ◌∷◌, ◌++◌, length, map, take, drop, tt, refl, sym, ap, ◌∙◌, subst, length-append, append-nil, append_assoc, Result, Ok, Err, IsOkAnd, arith}
+use Rattle.std.proofs.Common.{◌≡◌, ◌≢◌, ℕ, ◌+◌, ◌-◌, ◌≤◌, List, [], ◌∷◌, ◌++◌, length, map, take, drop, refl, sym, ap, ◌∙◌, subst, length-append, append-nil, append_assoc, arith}
 use Rattle.std.proofs.lemmas.List.{length-map, drop-map, take-append-drop}
 use Rattle.std.proofs.lemmas.List.Prefix.{front_rest}
 use Rattle.cc_base.specs.declared.fault.Fault.{Fault}
+use Rattle.cc_base.specs.declared.place.Place.{Place}
 use Rattle.cc_base.specs.declared.fault.Fault.TheVariants.{NoMemory}
 use Rattle.parse_rules.specs.Parsers.{Answer, Read, Stopped, Reason, Syntax, Unsupported, Deep}
 use Rattle.parse_rules.specs.Grammars.{Language, Supported, Each, CanBegin}
@@ -19,7 +20,8 @@ use Rattle.c_expr_parse.specs.Written.{IsWritten}
 use Rattle.c_expr_parse.specs.declared.stop.Stop.{Stop}
 use Rattle.c_expr_parse.specs.declared.stop.Stop.TheVariants as stop
 use Rattle.c_parser.specs.Answers.{SpellsUnit, UnitAnswered}
-use Rattle.c_parser.proofs.UnitPromised.{one_unit}
+use Rattle.c_parser.specs.UnitRules.{unit_rule}
+use Rattle.c_parser.proofs.UnitPromised.{one_unit, unit_answered}
 
 -- the tokens of a text are written as tokens
 
@@ -54,6 +56,10 @@ module _ (d : ℕ) (tokens : List Token) where
   abbrev Right : Answer Symbol tree.TranslationUnit → Type 0
   Right = UnitAnswered d (map symbol_of tokens)
 
+  -- the rule answers what is right
+  pub unit_right : (ts : List Symbol) → ts ≡ map symbol_of tokens → Right (unit_rule d ts)
+  unit_right ts e = subst (λ s. Right (unit_rule d s)) (sym e) (unit_answered d (map symbol_of tokens))
+
   left_part : (run left : List Symbol) → map symbol_of tokens ≡ run ++ left → left ≡ map symbol_of (drop (length tokens - length left) tokens)
   left_part run left whole =
       let sizes : length tokens ≡ length run + length left = sym (length-map tokens symbol_of) ∙ ap length whole ∙ length-append run left in
@@ -81,6 +87,10 @@ module _ (d : ℕ) (tokens : List Token) where
   unit_stopped text stop.Unsupported left answer m e = stops text Unsupported left (subst Right (e (λ (same : stop.Unsupported ≡ stop.NoMemory). cc)) m)
   unit_stopped text stop.Deep left answer m e = stops text Deep left (subst Right (e (λ (same : stop.Deep ≡ stop.NoMemory). cc)) m)
   unit_stopped text stop.NoMemory left answer m e = tt
+
+  pub unit_refused : (text : List ℕ) (why : Stop) (left : List Symbol) (answer : Answer Symbol tree.TranslationUnit) → Right answer → (why ≢ stop.NoMemory → answer ≡ Stopped (reason_of why) left)
+      → (fault : Fault) → fault ≡ fault_of why (place_of_first text (drop (length tokens - length left) tokens)) → IsFault Right text tokens fault
+  unit_refused text why left answer m e fault told = subst (IsFault Right text tokens) (sym told) (unit_stopped text why left answer m e)
 
   -- all the tokens are read
   pub unit_read : (u : tree.TranslationUnit) (left : List Symbol) (answer : Answer Symbol tree.TranslationUnit) → Right answer → answer ≡ Read u left → Right (Read u [])
@@ -114,3 +124,7 @@ module _ (d : ℕ) (tokens : List Token) where
     not_stopped answer m stop.Unsupported left e = absurd (stopped_read (sym (e (λ (same : stop.Unsupported ≡ stop.NoMemory). cc)) ∙ is_read answer m))
     not_stopped answer m stop.Deep left e = absurd (stopped_read (sym (e (λ (same : stop.Deep ≡ stop.NoMemory). cc)) ∙ is_read answer m))
     not_stopped answer m stop.NoMemory left e = refl
+
+    pub no_memory : (answer : Answer Symbol tree.TranslationUnit) → Right answer → (why : Stop) (left : List Symbol) → (why ≢ stop.NoMemory → answer ≡ Stopped (reason_of why) left)
+        → (place : Place) (fault : Fault) → fault ≡ fault_of why place → fault ≡ NoMemory
+    no_memory answer m why left e place fault told = told ∙ ap (λ w. fault_of w place) (not_stopped answer m why left e)

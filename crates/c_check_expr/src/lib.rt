@@ -1,7 +1,6 @@
 //! The typing of expressions, specifiers and declarators (C99 6.5, 6.7), and the scopes of names and tags.
 #![tactic(auto)]
 
-mod construct;
 mod declared;
 mod kind;
 mod laws;
@@ -11,7 +10,6 @@ mod operand;
 mod scope;
 mod shapes;
 mod typing;
-mod unary;
 
 pub use declared::{Declared, Tag};
 pub use laws::{

@@ -1,5 +1,5 @@
 -- Every pointer that is known has a site: what its node asks of what it points to is among the sites of the program.
-use Rattle.std.proofs.Common.{◌≡◌, refl, subst, inl, inr, Bool, true, false, List, [], ◌∷◌, ◌++◌, nat_eq, if◌then◌else◌, Option, Some, None, arith}
+use Rattle.std.proofs.Common.{◌≡◌, refl, subst, inl, inr, Bool, true, false, List, [], ◌∷◌, ◌++◌, if◌then◌else◌, Option, Some, None, arith}
 use Rattle.std.specs.List.{Contains}
 use Rattle.std.proofs.lemmas.List.Elements.{Contains-append_left, Contains-append_right}
 use Rattle.cc_base.specs.declared.number.TypeId.{TypeId}
@@ -25,6 +25,7 @@ use Rattle.cil_form.specs.declared.instr.RuntimeCall.{RuntimeCall}
 use Rattle.cil_form.specs.declared.instr.RuntimeCall.TheVariants as runtime
 use Rattle.cil_form.specs.declared.instr.Instr.{Instr, Row_of-Instr, end_of-Instr, more_of-Instr}
 use Rattle.cil_form.specs.declared.instr.Instr.TheVariants as instr
+use Rattle.cil_form.specs.State.{is_same}
 use Rattle.cil_form.specs.Typing.{HeldType, IntegerOf, PointerTo, Typing, Context, Includes, held_shape, held_by, Leaves, Passes, IsShapedSet, IsShapedCalculate, IsShapedPoint, IsShapedConvert, IsShapedAccess, IsShapedAllocate, IsShapedRuntime, IsShaped, IsRowShaped, AreShaped}
 use Rattle.cil_form.specs.Sites.{Shows, IsAsked, AreAsked, TellsOf, sites_of_point, sites_of_allocate, sites_of, sites_of_row, sites_of_code}
 
@@ -39,7 +40,7 @@ asked-less sites types after h l = λ t x e. h t x (l t x e)
 
 asked-leaves : (sites : List Site) (types : Typing) (into : Temp) (o : Option HeldType) (after : Typing) → AreAsked sites types → ((x : HeldType) → o ≡ Some x → IsAsked sites x)
     → Leaves types into o after → AreAsked sites after
-asked-leaves sites types into o after h new l = λ t x e. asked-by sites (nat_eq t into.0) o (types t) x new (h t) (l.1 t x e)
+asked-leaves sites types into o after h new l = λ t x e. asked-by sites (is_same t into) o (types t) x new (h t) (l.1 t x e)
 
 -- what is written is asked
 asked-some : (sites : List Site) (x : HeldType) → IsAsked sites x → (y : HeldType) → Some x ≡ Some y → IsAsked sites y
@@ -66,7 +67,7 @@ set-asked (set.Integer into z t) k sites types after tells h l = asked-leaves si
 set-asked (set.Null into t) k sites types after tells h l = asked-leaves sites types into _ after h (asked-some sites (PointerTo l.0 l.1) (inl (tells.pointers t l.0 l.1 l.2.1))) l.3
 set-asked (set.Function into f t) k sites types after tells h l = asked-leaves sites types into _ after h (asked-some sites (PointerTo l.0 l.1) (inl (tells.pointers t l.0 l.1 l.3.1))) l.7
 set-asked (set.Object into o home t) k sites types after tells h l = asked-leaves sites types into _ after h (asked-some sites (PointerTo home t) (inr (tells.objects o home t l.0))) l.1
-set-asked (set.Copy into from) k sites types after tells h l = asked-leaves sites types into (types from.0) after h (h from.0) l.1
+set-asked (set.Copy into from) k sites types after tells h l = asked-leaves sites types into (types from) after h (h from) l.1
 
 calculate-asked : (i : Calculate) (k : Context) (sites : List Site) (types after : Typing) → AreAsked sites types → IsShapedCalculate i k types after → AreAsked sites after
 calculate-asked (calculate.Negate into a t) k sites types after h l = asked-leaves sites types into _ after h (asked-some sites (IntegerOf l.0) tt) l.3

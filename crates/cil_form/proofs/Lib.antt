@@ -2,6 +2,7 @@ pub mod RunLaws
 pub mod KeepLaws
 pub mod ComputesLaws
 pub mod TypingLaws
+pub mod HeldLaws
 pub mod ShapedPrograms
 pub mod EmptyProgram
 pub mod AskedLaws

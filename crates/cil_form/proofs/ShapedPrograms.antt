@@ -7,17 +7,19 @@ use Rattle.c_types.specs.Sound.{IsWellFormed}
 use Rattle.c_types.specs.Layouts.{layout_of}
 use Rattle.c_types.specs.Cells.{cells_at}
 use Rattle.c_types.specs.Equality.{physically_equal}
-use Rattle.cil_form.specs.Small.{code, node, type, int, temp}
+use Rattle.cil_form.specs.declared.number.Temp.TheVariants as temp
+use Rattle.cil_form.specs.Small.{code, node, type, int, value, kept}
 use Rattle.cil_form.specs.Machine.{variables_of}
 use Rattle.cil_form.specs.Programs.{loop_table, loop_round, loop_body, loop_main, loop_program, call_table, called_body, called, calling_body, calling, call_program, access_table, access_body, access_main, access_program, case_label, switch_labels, piece, write_character, first_round, first_loop, first_piece, switch_block, switch_body, switch_main, switch_program}
 use denote.Hole.Carrier
 use Rattle.cil_form.specs.declared.instr.Instr.TheBlock.{shape-the_row-Instr-0, hidden-the_row-Instr-0}
 use Rattle.cil_form.specs.Shape.{context_of, context_in, AreNodesOf, IsPlanInShape, IsFunctionInShape, IsInShape}
-use Rattle.cil_form.specs.Typing.{Typing, HeldType, IntegerOf, PointerTo, no_types, with_held, temporaries_limit, IsTemp, Includes, Leaves, inside, AreShaped, IsScalar, HoldsOf, AreArguments, same, Context, IsInteger}
-use Rattle.cil_form.proofs.TypingLaws.{includes-all, includes-more, includes-with, includes-over, shaped-if, shaped-block, shaped-loop, shaped-append, shaped-less}
+use Rattle.cil_form.specs.Typing.{Typing, HeldType, IntegerOf, PointerTo, no_types, with_held, IsTemp, IsBetweenStatements, Includes, Leaves, inside, AreShaped, IsScalar, HoldsOf, AreArguments, same, Context, IsInteger}
+use Rattle.cil_form.proofs.TypingLaws.{includes-all, includes-with, includes-over, shaped-if, shaped-block, shaped-loop, shaped-append, shaped-less}
 use Rattle.cil_form.specs.declared.instr.Instr.TheVariants as instr
 use Rattle.cil_form.specs.declared.instr.Set.TheVariants as set
 use Rattle.cil_form.specs.declared.instr.Code.{Code}
+use Rattle.cil_form.specs.declared.instr.Instr.{Instr}
 
 -- a property of each element, one by one
 abbrev pub Each : {X : Type 0} → (X → Type 0) → List X → Type 0
@@ -28,12 +30,15 @@ pub each-all : {X : Type 0} (P : X → Type 0) (xs : List X) → Each P xs → A
 each-all P [] h = All-nil P
 each-all P (x ∷ xs) h = All-cons P x xs h.0 (each-all P xs h.1)
 
-is-temp : (t : ℕ) → t < 3 → IsTemp (temp t)
-unfolding temporaries_limit
-is-temp t h = omega arith
+is-temp : (t : ℕ) → t < 3 → IsTemp (value t)
+is-temp t h = omega (arith, h)
 
-leaves-all : (types : Typing) (t : ℕ) (x : Option HeldType) → t < 3 → Leaves types (temp t) x (with_held t x types)
-leaves-all types t x h = (is-temp t h, includes-all (with_held t x types))
+leaves-all : (types : Typing) (t : ℕ) (x : Option HeldType) → t < 3 → Leaves types (value t) x (with_held (value t) x types)
+leaves-all types t x h = (is-temp t h, includes-all (with_held (value t) x types))
+
+-- nothing is known between statements
+between-none : IsBetweenStatements no_types
+between-none = λ t x e. absurd (cc (e))
 
 includes-none : (types : Typing) → Includes types no_types
 includes-none types = λ t x e. absurd (cc (e))
@@ -46,37 +51,37 @@ its_home = PointerTo (node 0) int
 
 -- what is known in the loop's round, instruction by instruction
 abbrev l1 : Typing
-l1 = with_held 0 (Some its_home) no_types
+l1 = with_held (value 0) (Some its_home) no_types
 
 abbrev l2 : Typing
-l2 = with_held 0 (Some an_int) l1
+l2 = with_held (value 0) (Some an_int) l1
 
 abbrev l3 : Typing
-l3 = with_held 1 (Some an_int) l2
+l3 = with_held (value 1) (Some an_int) l2
 
 abbrev l4 : Typing
-l4 = with_held 0 (Some an_int) l3
+l4 = with_held (value 0) (Some an_int) l3
 
 abbrev l5 : Typing
-l5 = with_held 0 (Some an_int) l4
+l5 = with_held (value 0) (Some an_int) l4
 
 abbrev l6 : Typing
-l6 = with_held 0 (Some an_int) l5
+l6 = with_held (value 0) (Some an_int) l5
 
 abbrev l7 : Typing
-l7 = with_held 0 (Some its_home) l6
+l7 = with_held (value 0) (Some its_home) l6
 
 abbrev l8 : Typing
-l8 = with_held 1 (Some its_home) l7
+l8 = with_held (value 1) (Some its_home) l7
 
 abbrev l9 : Typing
-l9 = with_held 1 (Some an_int) l8
+l9 = with_held (value 1) (Some an_int) l8
 
 abbrev l10 : Typing
-l10 = with_held 2 (Some an_int) l9
+l10 = with_held (value 2) (Some an_int) l9
 
 abbrev l11 : Typing
-l11 = with_held 1 (Some an_int) l10
+l11 = with_held (value 1) (Some an_int) l10
 
 loop_choice : (alloc : Global) → AreShaped (instr.Break 0 ∷ []) (inside (context_in (loop_program alloc) (loop_main alloc)) no_types) l4 l4
 loop_choice alloc = (l4, (lit< tt, includes-none l4, includes-all l4), includes-all l4)
@@ -96,7 +101,7 @@ loop_round-shaped alloc = (
         (integer.int, (lit< tt, refl), (is-temp 0 (lit< tt), refl), (is-temp 1 (lit< tt), refl), leaves-all l3 0 (Some an_int) (lit< tt)),
         (
           l4,
-          shaped-if (temp 0) _ _ _ l4 l4 (an_int, (is-temp 0 (lit< tt), refl)) (includes-all l4) (loop_choice alloc),
+          shaped-if (value 0) _ _ _ l4 l4 (an_int, (is-temp 0 (lit< tt), refl)) (includes-all l4) (loop_choice alloc),
           (
             l5,
             (integer.int, (lit< tt, refl), refl, leaves-all l4 0 (Some an_int) (lit< tt)),
@@ -140,7 +145,7 @@ pub loop_body-shaped : (alloc : Global) → AreShaped (loop_body alloc) (context
 loop_body-shaped alloc = (
   no_types,
   shaped-loop _ _ no_types no_types no_types
-      (record { begins = includes-all no_types; keeps = includes-all no_types; ends = includes-all no_types }) (loop_round-shaped alloc),
+      (record { between = between-none; begins = includes-all no_types; keeps = includes-all no_types; ends = includes-all no_types }) (loop_round-shaped alloc),
   (
     l1,
     (refl, leaves-all no_types 0 (Some its_home) (lit< tt)),
@@ -209,19 +214,19 @@ abbrev its_function : HeldType
 its_function = PointerTo (node 1) (type 9)
 
 abbrev c1 : Typing
-c1 = with_held 0 (Some its_function) no_types
+c1 = with_held (value 0) (Some its_function) no_types
 
 abbrev c2 : Typing
-c2 = with_held 1 (Some an_int) c1
+c2 = with_held (value 1) (Some an_int) c1
 
 abbrev c3 : Typing
-c3 = with_held 0 (Some an_int) c2
+c3 = with_held (value 0) (Some an_int) c2
 
-its_argument : (alloc : Global) → AreArguments (context_in (call_program alloc) (calling alloc)) c2 (temp 1) (int ∷ [])
+its_argument : (alloc : Global) → AreArguments (context_in (call_program alloc) (calling alloc)) c2 1 (int ∷ [])
 its_argument alloc zero t e =
     let it : int ≡ t = cc (e) in
-    let there : HoldsOf (context_in (call_program alloc) (calling alloc)) c2 (temp 1) int = ((lit< tt, refl), is-temp 1 (lit< tt), refl) in
-    subst (λ u. HoldsOf (context_in (call_program alloc) (calling alloc)) c2 (temp 1) u) it there
+    let there : HoldsOf (context_in (call_program alloc) (calling alloc)) c2 (value 1) int = ((lit< tt, refl), is-temp 1 (lit< tt), refl) in
+    subst (λ u. HoldsOf (context_in (call_program alloc) (calling alloc)) c2 (value 1) u) it there
 its_argument alloc (suc i) t e = absurd (cc (e))
 
 pub calling_body-shaped : (alloc : Global) → AreShaped calling_body (context_in (call_program alloc) (calling alloc)) no_types no_types
@@ -284,22 +289,22 @@ abbrev its_element : HeldType
 its_element = PointerTo (node 1) int
 
 abbrev a1 : Typing
-a1 = with_held 0 (Some its_array) no_types
+a1 = with_held (value 0) (Some its_array) no_types
 
 abbrev a2 : Typing
-a2 = with_held 0 (Some its_element) a1
+a2 = with_held (value 0) (Some its_element) a1
 
 abbrev a3 : Typing
-a3 = with_held 1 (Some an_int) a2
+a3 = with_held (value 1) (Some an_int) a2
 
 abbrev a4 : Typing
-a4 = with_held 0 (Some its_element) a3
+a4 = with_held (value 0) (Some its_element) a3
 
 abbrev a5 : Typing
-a5 = with_held 1 (Some an_int) a4
+a5 = with_held (value 1) (Some an_int) a4
 
 abbrev a6 : Typing
-a6 = with_held 0 (Some an_int) a5
+a6 = with_held (value 0) (Some an_int) a5
 
 pub access_body-shaped : (alloc : Global) → AreShaped access_body (context_in (access_program alloc) (access_main alloc)) no_types no_types
 access_body-shaped alloc = (
@@ -359,142 +364,144 @@ access_program-in_shape alloc formed = record {
   cells = lit≤ tt;
 }
 
--- the switch: what is known where its labels are tried, and in its pieces
+-- the switch: what it keeps, and what is known where its labels are tried
+abbrev s0 : Typing
+s0 = with_held (kept 0) (Some an_int) no_types
+
 abbrev s1 : Typing
-s1 = with_held 0 (Some an_int) no_types
+s1 = with_held (value 0) (Some an_int) no_types
 
 abbrev s2 : Typing
-s2 = with_held 1 (Some an_int) s1
+s2 = with_held (kept 0) (Some an_int) s1
 
 abbrev s3 : Typing
-s3 = with_held 2 (Some an_int) s2
+s3 = with_held (value 1) (Some an_int) s2
 
 abbrev s4 : Typing
-s4 = with_held 2 (Some an_int) s3
+s4 = with_held (value 1) (Some an_int) s3
 
-abbrev s5 : Typing
-s5 = with_held 1 (Some an_int) s2
+-- behind the condition of a piece
+abbrev p1 : Typing
+p1 = with_held (value 0) (Some an_int) s0
 
-s2-s1 : Includes s2 s1
-s2-s1 = includes-over s1 s1 1 (Some an_int) refl (includes-all s1)
+abbrev p2 : Typing
+p2 = with_held (value 0) (Some an_int) p1
+
+-- what the switch keeps lives across statements
+between-kept : IsBetweenStatements s0
+between-kept (temp.Value n) x e = absurd (cc (e))
+between-kept (temp.Switch n) x e = tt
+between-kept (temp.Work w) x e = absurd (cc (e))
+
+s2-s0 : Includes s2 s0
+s2-s0 = includes-with s1 no_types (kept 0) (Some an_int) (includes-none s1)
 
 s4-s2 : Includes s4 s2
-s4-s2 = includes-over s3 s2 2 (Some an_int) refl (includes-over s2 s2 2 (Some an_int) refl (includes-all s2))
+s4-s2 = includes-over s3 s2 (value 1) (Some an_int) refl (includes-over s2 s2 (value 1) (Some an_int) refl (includes-all s2))
 
-s5-s1 : Includes s5 s1
-s5-s1 = includes-over s2 s1 1 (Some an_int) refl s2-s1
+p2-s0 : Includes p2 s0
+p2-s0 = includes-over p1 s0 (value 0) (Some an_int) refl (includes-over s0 s0 (value 0) (Some an_int) refl (includes-all s0))
 
--- the context of the switch's block, of its labels, of its first piece's loop and of that loop's round
+-- the context of the switch's block, of its first piece's loop and of that loop's round
 abbrev in_switch : Global → Context
 in_switch alloc = inside (context_in (switch_program alloc) (switch_main alloc)) no_types
 
-abbrev in_labels : Global → Context
-in_labels alloc = inside (in_switch alloc) s2
-
 abbrev in_loop : Global → Context
-in_loop alloc = inside (in_switch alloc) s1
+in_loop alloc = inside (in_switch alloc) s0
 
 abbrev in_round : Global → Context
-in_round alloc = inside (in_loop alloc) s1
+in_round alloc = inside (in_loop alloc) s0
 
-chosen-kept : Includes (with_held 1 (Some an_int) s4) s2
-chosen-kept = includes-with s4 s1 1 (Some an_int) (includes-more s4 s2 s1 s4-s2 s2-s1)
+chosen-kept : Includes (with_held (kept 0) (Some an_int) s4) s2
+chosen-kept = includes-with s4 s1 (kept 0) (Some an_int)
+    (includes-over s3 s1 (value 1) (Some an_int) refl (includes-over s2 s1 (value 1) (Some an_int) refl (includes-over s1 s1 (kept 0) (Some an_int) refl (includes-all s1))))
 
-chosen : (alloc : Global) (k : ℕ) → integer.converted integer.int (pos k) ≡ pos k
-    → AreShaped (instr.Set (set.Integer (temp 1) (pos k) int) ∷ instr.Break 0 ∷ []) (in_labels alloc) s4 s2
-chosen alloc k fits = (
-  with_held 1 (Some an_int) s4,
-  (integer.int, (lit< tt, refl), fits, leaves-all s4 1 (Some an_int) (lit< tt)),
-  (s2, (lit< tt, chosen-kept, chosen-kept), includes-all s2),
-)
+chosen : (alloc : Global) (k : ℕ) → integer.converted integer.int (pos k) ≡ pos k → AreShaped (instr.Set (set.Integer (kept 0) (pos k) int) ∷ []) (in_switch alloc) s4 s2
+chosen alloc k fits = (s2, (integer.int, (lit< tt, refl), fits, (lit< tt, chosen-kept)), includes-all s2)
 
 label-shaped : (alloc : Global) (z k : ℕ) → integer.converted integer.int (pos z) ≡ pos z → integer.converted integer.int (pos k) ≡ pos k
-    → AreShaped (case_label alloc z k) (in_labels alloc) s2 s2
+    → AreShaped (case_label alloc z k) (in_switch alloc) s2 s2
 label-shaped alloc z k fits small = (
   s3,
-  (integer.int, (lit< tt, refl), fits, leaves-all s2 2 (Some an_int) (lit< tt)),
+  (integer.int, (lit< tt, refl), fits, leaves-all s2 1 (Some an_int) (lit< tt)),
   (
     s4,
-    (integer.int, (lit< tt, refl), (is-temp 0 (lit< tt), refl), (is-temp 2 (lit< tt), refl), leaves-all s3 2 (Some an_int) (lit< tt)),
+    (integer.int, (lit< tt, refl), (is-temp 0 (lit< tt), refl), (is-temp 1 (lit< tt), refl), leaves-all s3 1 (Some an_int) (lit< tt)),
     (
       s2,
-      shaped-if (temp 2) _ _ (in_labels alloc) s4 s2 (an_int, (is-temp 2 (lit< tt), refl)) (chosen alloc k small) s4-s2,
+      shaped-if (value 1) _ _ (in_switch alloc) s4 s2 (an_int, (is-temp 1 (lit< tt), refl)) (chosen alloc k small) s4-s2,
       includes-all s2,
     ),
   ),
 )
 
-write-shaped : (alloc : Global) (k : Context) (types : Typing) (z : ℕ) → IsInteger k int integer.int → integer.converted integer.int (pos z) ≡ pos z → Includes types s1 → AreShaped (write_character z) k types s1
+labels-shaped : (alloc : Global) → AreShaped (switch_labels alloc) (in_switch alloc) s1 s0
+labels-shaped alloc = (
+  s2,
+  (integer.int, (lit< tt, refl), refl, (lit< tt, includes-all s2)),
+  shaped-less (case_label alloc 98 1 ++ case_label alloc 97 0) (in_switch alloc) s2 s2 s0
+      (shaped-append (case_label alloc 98 1) (case_label alloc 97 0) (in_switch alloc) s2 s2 s2 (label-shaped alloc 98 1 refl refl) (label-shaped alloc 97 0 refl refl)) s2-s0,
+)
+
+write-shaped : (alloc : Global) (k : Context) (types : Typing) (z : ℕ) → IsInteger k int integer.int → integer.converted integer.int (pos z) ≡ pos z → Includes types s0 → AreShaped (write_character z) k types s0
 write-shaped alloc k types z it fits h = (
-  with_held 1 (Some an_int) types,
-  (integer.int, it, fits, leaves-all types 1 (Some an_int) (lit< tt)),
+  with_held (value 0) (Some an_int) types,
+  (integer.int, it, fits, leaves-all types 0 (Some an_int) (lit< tt)),
   (
-    s1,
-    ((is-temp 1 (lit< tt), refl), (is-temp 1 (lit< tt), includes-over (with_held 1 (Some an_int) types) s1 1 (Some an_int) refl (includes-over types s1 1 (Some an_int) refl h))),
-    includes-all s1,
+    s0,
+    ((is-temp 0 (lit< tt), refl), (is-temp 0 (lit< tt), includes-over (with_held (value 0) (Some an_int) types) s0 (value 0) (Some an_int) refl (includes-over types s0 (value 0) (Some an_int) refl h))),
+    includes-all s0,
   ),
 )
 
-round-shaped : (alloc : Global) → AreShaped first_round (in_round alloc) s1 s1
-round-shaped alloc = shaped-append (write_character 49) (instr.Break 1 ∷ []) (in_round alloc) s1 s1 s1
-    (write-shaped alloc (in_round alloc) s1 49 (lit< tt, refl) refl (includes-all s1)) (s1, (lit< tt, includes-all s1, includes-all s1), includes-all s1)
+round-shaped : (alloc : Global) → AreShaped first_round (in_round alloc) s0 s0
+round-shaped alloc = shaped-append (write_character 49) (instr.Break 1 ∷ []) (in_round alloc) s0 s0 s0
+    (write-shaped alloc (in_round alloc) s0 49 (lit< tt, refl) refl (includes-all s0)) (s0, (lit< tt, includes-all s0, includes-all s0), includes-all s0)
 
-first_loop-shaped : (alloc : Global) → AreShaped (first_loop alloc) (in_loop alloc) s1 s1
+first_loop-shaped : (alloc : Global) → AreShaped (first_loop alloc) (in_loop alloc) s0 s0
 first_loop-shaped alloc =
-    (s1, shaped-block _ (in_loop alloc) s1 s1 s1 (record { begins = includes-all s1; keeps = includes-all s1; ends = includes-all s1 }) (round-shaped alloc), includes-all s1)
+    (s0, shaped-block _ (in_loop alloc) s0 s0 s0 (record { between = between-kept; begins = includes-all s0; keeps = includes-all s0; ends = includes-all s0 }) (round-shaped alloc), includes-all s0)
 
-first_piece-shaped : (alloc : Global) → AreShaped (first_piece alloc) (in_switch alloc) s5 s1
+first_piece-shaped : (alloc : Global) → AreShaped (first_piece alloc) (in_switch alloc) p2 s0
 first_piece-shaped alloc =
-    (s1, shaped-loop _ (in_switch alloc) s5 s1 s1 (record { begins = s5-s1; keeps = includes-none s1; ends = includes-all s1 }) (first_loop-shaped alloc), includes-all s1)
+    (s0, shaped-loop _ (in_switch alloc) p2 s0 s0 (record { between = between-kept; begins = p2-s0; keeps = includes-none s0; ends = includes-all s0 }) (first_loop-shaped alloc), includes-all s0)
 
-piece-shaped : (alloc : Global) (k : ℕ) (body : Code) → integer.converted integer.int (pos k) ≡ pos k → AreShaped body.0.items (in_switch alloc) s5 s1
-    → AreShaped (piece alloc k body) (in_switch alloc) s1 s1
+piece-shaped : (alloc : Global) (k : ℕ) (body : Code) → integer.converted integer.int (pos k) ≡ pos k → AreShaped body.0.items (in_switch alloc) p2 s0
+    → AreShaped (piece alloc k body) (in_switch alloc) s0 s0
 piece-shaped alloc k body small h = (
-  s2,
-  (integer.int, (lit< tt, refl), small, leaves-all s1 1 (Some an_int) (lit< tt)),
+  p1,
+  (integer.int, (lit< tt, refl), small, leaves-all s0 0 (Some an_int) (lit< tt)),
   (
-    s5,
-    (integer.int, (lit< tt, refl), (is-temp 0 (lit< tt), refl), (is-temp 1 (lit< tt), refl), leaves-all s2 1 (Some an_int) (lit< tt)),
+    p2,
+    (integer.int, (lit< tt, refl), (lit< tt, refl), (is-temp 0 (lit< tt), refl), leaves-all p1 0 (Some an_int) (lit< tt)),
     (
-      s1,
-      shaped-if (temp 1) body _ (in_switch alloc) s5 s1 (an_int, (is-temp 1 (lit< tt), refl)) h s5-s1,
-      includes-all s1,
+      s0,
+      shaped-if (value 0) body _ (in_switch alloc) p2 s0 (an_int, (is-temp 0 (lit< tt), refl)) h p2-s0,
+      includes-all s0,
     ),
   ),
 )
 
-labels-shaped : (alloc : Global) → AreShaped (switch_labels alloc) (in_labels alloc) s2 s2
-labels-shaped alloc = shaped-append (case_label alloc 97 0) (case_label alloc 98 1) (in_labels alloc) s2 s2 s2 (label-shaped alloc 97 0 refl refl) (label-shaped alloc 98 1 refl refl)
+abbrev pieces : Global → List Instr
+pieces alloc = piece alloc 0 (code alloc (first_piece alloc) (lit< tt)) ++ piece alloc 1 (code alloc (write_character 50) (lit< tt))
 
-pieces-shaped : (alloc : Global) → AreShaped (piece alloc 0 (code alloc (first_piece alloc) (lit< tt)) ++ piece alloc 1 (code alloc (write_character 50) (lit< tt))) (in_switch alloc) s1 s1
-pieces-shaped alloc = shaped-append (piece alloc 0 (code alloc (first_piece alloc) (lit< tt))) (piece alloc 1 (code alloc (write_character 50) (lit< tt))) (in_switch alloc) s1 s1 s1
+pieces-shaped : (alloc : Global) → AreShaped (pieces alloc) (in_switch alloc) s0 s0
+pieces-shaped alloc = shaped-append (piece alloc 0 (code alloc (first_piece alloc) (lit< tt))) (piece alloc 1 (code alloc (write_character 50) (lit< tt))) (in_switch alloc) s0 s0 s0
     (piece-shaped alloc 0 (code alloc (first_piece alloc) (lit< tt)) refl (first_piece-shaped alloc))
-    (piece-shaped alloc 1 (code alloc (write_character 50) (lit< tt)) refl (write-shaped alloc (in_switch alloc) s5 50 (lit< tt, refl) refl s5-s1))
+    (piece-shaped alloc 1 (code alloc (write_character 50) (lit< tt)) refl (write-shaped alloc (in_switch alloc) p2 50 (lit< tt, refl) refl p2-s0))
 
 switch_block-shaped : (alloc : Global) → AreShaped (switch_block alloc) (in_switch alloc) no_types no_types
 switch_block-shaped alloc = (
   s1,
   leaves-all no_types 0 (Some an_int) (lit< tt),
-  (
-    s2,
-    (integer.int, (lit< tt, refl), refl, leaves-all s1 1 (Some an_int) (lit< tt)),
-    (
-      s2,
-      shaped-block _ (in_switch alloc) s2 s2 s2 (record { begins = includes-all s2; keeps = includes-none s2; ends = includes-all s2 }) (labels-shaped alloc),
-      (
-        s1,
-        (is-temp 1 (lit< tt), (is-temp 0 (lit< tt), includes-with s2 no_types 0 (Some an_int) (includes-none s2))),
-        shaped-less (piece alloc 0 (code alloc (first_piece alloc) (lit< tt)) ++ piece alloc 1 (code alloc (write_character 50) (lit< tt))) (in_switch alloc) s1 s1 no_types
-            (pieces-shaped alloc) (includes-none s1),
-      ),
-    ),
-  ),
+  shaped-less (switch_labels alloc ++ pieces alloc) (in_switch alloc) s1 s0 no_types
+      (shaped-append (switch_labels alloc) (pieces alloc) (in_switch alloc) s1 s0 s0 (labels-shaped alloc) (pieces-shaped alloc)) (includes-none s0),
 )
 
 switch_body-shaped : (alloc : Global) → AreShaped (switch_body alloc) (context_in (switch_program alloc) (switch_main alloc)) no_types no_types
 switch_body-shaped alloc = (
   no_types,
-  shaped-block _ _ no_types no_types no_types (record { begins = includes-all no_types; keeps = includes-all no_types; ends = includes-all no_types }) (switch_block-shaped alloc),
+  shaped-block _ _ no_types no_types no_types (record { between = between-none; begins = includes-all no_types; keeps = includes-all no_types; ends = includes-all no_types }) (switch_block-shaped alloc),
   (
     s1,
     (integer.int, (lit< tt, refl), refl, leaves-all no_types 0 (Some an_int) (lit< tt)),

@@ -1,6 +1,5 @@
 -- The laws of what is known of temporaries: more may be known before code than it asks, code after code, and the code that instructions hold.
-use Rattle.std.proofs.Common.{refl, ℕ, ◌≡◌, sym, subst, Bool, true, false, List, [], ◌∷◌, ◌++◌, nat_eq, if◌then◌else◌, Option, Some, None, IsSome, arith}
-use Rattle.std.proofs.lemmas.Bool.Decides.{nat_tests}
+use Rattle.std.proofs.Common.{refl, ◌≡◌, sym, subst, Bool, true, false, List, [], ◌∷◌, ◌++◌, if◌then◌else◌, Option, Some, None, IsSome}
 use Rattle.cc_base.specs.declared.number.TypeId.{TypeId}
 use Rattle.integers.specs.Arithmetic.{IntegerType}
 use Rattle.cil_form.specs.declared.number.Temp.{Temp}
@@ -27,6 +26,8 @@ use Rattle.cil_form.specs.declared.instr.Instr.{Instr, Row_of-Instr, end_of-Inst
 use Rattle.cil_form.specs.declared.instr.Instr.TheVariants as instr
 use Rattle.cil_form.specs.declared.instr.Instr.TheBlock.{hidden-the_row-Instr-0, items-the_row-Instr, items_hidden-the_row-Instr-0}
 use Rattle.cil_form.specs.declared.instr.Code.{Code}
+use Rattle.cil_form.specs.State.{is_same}
+use Rattle.cil_form.proofs.KeepLaws.{temp-one}
 use Rattle.cil_form.specs.Typing.{HeldType, IntegerOf, Typing, Context, Includes, with_held, held_by, Holds, HoldsInteger, HoldsScalar, HoldsOf, Leaves, IsShapedSet, IsRightOperand, IsShapedCalculate, IsShapedPoint, IsShapedConvert, IsTarget, IsShapedAccess, IsShapedAllocate, IsShapedCall, IsShapedRuntime, Passes, inside, IsShaped, IsRowShaped, AreShaped}
 
 -- What is known
@@ -42,8 +43,8 @@ known-by true x y z v h e = e
 known-by false x y z v h e = h e
 
 -- the same is written over both
-pub includes-with : (more less : Typing) (t : ℕ) (x : Option HeldType) → Includes more less → Includes (with_held t x more) (with_held t x less)
-includes-with more less t x h = λ u v e. known-by (nat_eq u t) x (less u) (more u) v (h u v) e
+pub includes-with : (more less : Typing) (t : Temp) (x : Option HeldType) → Includes more less → Includes (with_held t x more) (with_held t x less)
+includes-with more less t x h = λ u v e. known-by (is_same u t) x (less u) (more u) v (h u v) e
 
 copied-by : (b : Bool) (x x' y z : Option HeldType) (v : HeldType) → (x ≡ Some v → x' ≡ Some v) → (y ≡ Some v → z ≡ Some v) → (if b then x else y) ≡ Some v → (if b then x' else z) ≡ Some v
 copied-by true x x' y z v k h e = k e
@@ -52,23 +53,23 @@ copied-by false x x' y z v k h e = h e
 not-some : (o : Option HeldType) (v : HeldType) → o ≡ None → o ≡ Some v → ⊥
 not-some o v e d = absurd (cc (e, d))
 
-over-by : (b : Bool) (t u : ℕ) (x : Option HeldType) (less more : Typing) (v : HeldType) → nat_eq u t ≡ b → less t ≡ None → (less u ≡ Some v → more u ≡ Some v)
+over-by : (b : Bool) (t u : Temp) (x : Option HeldType) (less more : Typing) (v : HeldType) → is_same u t ≡ b → less t ≡ None → (less u ≡ Some v → more u ≡ Some v)
     → less u ≡ Some v → (if b then x else more u) ≡ Some v
-over-by true t u x less more v e none h d = let it : u ≡ t = grind (arith, nat_tests) in absurd (not-some (less t) v none (subst (λ n. less n ≡ Some v) it d))
+over-by true t u x less more v e none h d = let it : u ≡ t = temp-one u t e in absurd (not-some (less t) v none (subst (λ n. less n ≡ Some v) it d))
 over-by false t u x less more v e none h d = h d
 
 -- a temporary is written of which nothing has to be known
-pub includes-over : (more less : Typing) (t : ℕ) (x : Option HeldType) → less t ≡ None → Includes more less → Includes (with_held t x more) less
-includes-over more less t x none h = λ u v e. over-by (nat_eq u t) t u x less more v refl none (h u v) e
+pub includes-over : (more less : Typing) (t : Temp) (x : Option HeldType) → less t ≡ None → Includes more less → Includes (with_held t x more) less
+includes-over more less t x none h = λ u v e. over-by (is_same u t) t u x less more v refl none (h u v) e
 
 -- Each rule asks no more where more is known
 
 leaves-more : (more less : Typing) (into : Temp) (x : Option HeldType) (after : Typing) → Includes more less → Leaves less into x after → Leaves more into x after
 leaves-more more less into x after h l =
-    (l.0, includes-more (with_held into.0 x more) (with_held into.0 x less) after (includes-with more less into.0 x h) l.1)
+    (l.0, includes-more (with_held into x more) (with_held into x less) after (includes-with more less into x h) l.1)
 
 holds-more : (more less : Typing) (t : Temp) (x : HeldType) → Includes more less → Holds less t x → Holds more t x
-holds-more more less t x h l = (l.0, h t.0 x l.1)
+holds-more more less t x h l = (l.0, h t x l.1)
 
 integer-more : (more less : Typing) (t : Temp) → Includes more less → HoldsInteger less t → HoldsInteger more t
 integer-more more less t h l = (l.0, holds-more more less t (IntegerOf l.0) h l.1)
@@ -78,14 +79,14 @@ known-some (Some v) x y s h e = h v e
 known-some None x y s h e = absurd (cc (s))
 
 of-more : (k : Context) (more less : Typing) (v : Temp) (t : TypeId) → Includes more less → HoldsOf k less v t → HoldsOf k more v t
-of-more k more less v t h l = (l.0, l.1, known-some (held_by k t) (less v.0) (more v.0) l.0.1 (h v.0) l.2)
+of-more k more less v t h l = (l.0, l.1, known-some (held_by k t) (less v) (more v) l.0.1 (h v) l.2)
 
 set-more : (i : Set) (k : Context) (more less after : Typing) → Includes more less → IsShapedSet i k less after → IsShapedSet i k more after
 set-more (set.Integer into z t) k more less after h l = (l.0, l.1, l.2, leaves-more more less into _ after h l.3)
 set-more (set.Null into t) k more less after h l = (l.0, l.1, l.2, leaves-more more less into _ after h l.3)
 set-more (set.Function into f t) k more less after h l = (l.0, l.1, l.2, l.3, l.4, l.5, l.6, leaves-more more less into _ after h l.7)
 set-more (set.Object into o home t) k more less after h l = (l.0, leaves-more more less into _ after h l.1)
-set-more (set.Copy into from) k more less after h l = (l.0, (l.1.0, λ u v e. copied-by (nat_eq u into.0) (less from.0) (more from.0) (less u) (more u) v (h from.0 v) (h u v) (l.1.1 u v e)))
+set-more (set.Copy into from) k more less after h l = (l.0, (l.1.0, λ u v e. copied-by (is_same u into) (less from) (more from) (less u) (more u) v (h from v) (h u v) (l.1.1 u v e)))
 
 right-more : (operator : Operator) (more less : Typing) (t : Temp) (i : IntegerType) → Includes more less → IsRightOperand operator less t i → IsRightOperand operator more t i
 right-more operator.ShiftLeft more less t i h l = integer-more more less t h l
@@ -157,7 +158,7 @@ runtime-more (runtime.Putchar into v) k more less after h l = (holds-more more l
 runtime-more (runtime.Exit into v) k more less after h l = (holds-more more less v _ h l.0, leaves-more more less into _ after h l.1)
 
 passes-more : (more less entry : Typing) (k : Context) (after : Typing) → Includes more less → Passes less entry k after → Passes more entry k after
-passes-more more less entry k after h l = record { begins = includes-more more less entry h l.begins; keeps = l.keeps; ends = l.ends }
+passes-more more less entry k after h l = record { between = l.between; begins = includes-more more less entry h l.begins; keeps = l.keeps; ends = l.ends }
 
 mutual
   pub instr-more : (i : Instr) (k : Context) (more less after : Typing) → Includes more less → IsShaped i k less after → IsShaped i k more after

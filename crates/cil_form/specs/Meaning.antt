@@ -20,6 +20,7 @@ use Rattle.src_mem.specs.Uses.{read, write, copy_all, home, forward}
 use Rattle.src_mem.specs.Operations as operations
 use Rattle.src_mem.specs.Operations.{kind_in, pointee, integer_in, signed_by, moved, subtracted, compared, converted_pointer, allocated_for, member, decayed, size}
 use Rattle.cil_form.specs.declared.number.Temp.{Temp}
+use Rattle.cil_form.specs.declared.number.Temp.TheVariants as temp
 use Rattle.cil_form.specs.declared.number.Object.{Object}
 use Rattle.cil_form.specs.declared.number.Object.TheVariants as object
 use Rattle.cil_form.specs.declared.instr.Comparison.{Comparison}
@@ -72,7 +73,7 @@ set_value (set.Integer into z t) w temps = done (Integer z)
 set_value (set.Null into t) w temps = done (Address Null)
 set_value (set.Function into f t) w temps = done (Address (Function f.0))
 set_value (set.Object into o node t) w temps = done (Address (pointer_to w o t))
-set_value (set.Copy into from) w temps = done (temps from.0)
+set_value (set.Copy into from) w temps = done (temps from)
 
 -- Integers
 
@@ -119,11 +120,11 @@ into_of_calculate (calculate.Truth into a) = into
 into_of_calculate (calculate.Not into a) = into
 
 abbrev pub calculate_value : Calculate → Around → Temporaries → Act Value
-calculate_value (calculate.Negate into a t) w temps = prefixed w integer.Negate t (temps a.0)
-calculate_value (calculate.Complement into a t) w temps = prefixed w integer.Complement t (temps a.0)
-calculate_value (calculate.Binary into operator a b t at) w temps = calculated w at operator t (temps a.0) (temps b.0)
-calculate_value (calculate.Truth into a) w temps = done (Integer (truth (is_true (temps a.0))))
-calculate_value (calculate.Not into a) w temps = done (Integer (truth (not (is_true (temps a.0)))))
+calculate_value (calculate.Negate into a t) w temps = prefixed w integer.Negate t (temps a)
+calculate_value (calculate.Complement into a t) w temps = prefixed w integer.Complement t (temps a)
+calculate_value (calculate.Binary into operator a b t at) w temps = calculated w at operator t (temps a) (temps b)
+calculate_value (calculate.Truth into a) w temps = done (Integer (truth (is_true (temps a))))
+calculate_value (calculate.Not into a) w temps = done (Integer (truth (not (is_true (temps a)))))
 
 -- Pointers
 
@@ -179,12 +180,12 @@ into_of_point (point.Decay into from outer array check inner element at) = into
 into_of_point (point.Address into from outer inner t) = into
 
 abbrev pub point_value : Point → Around → Temporaries → Act Value
-point_value (point.Move into p n way t at) w temps = move_value w at way t (temps p.0) (temps n.0)
-point_value (point.Difference into a t b s at) w temps = difference_value w at t s (temps a.0) (temps b.0)
-point_value (point.Compare into comparison a t b s null at) w temps = compare_values w at comparison null t s (temps a.0) (temps b.0)
-point_value (point.Member into from outer t i inner u at) w temps = address_from (temps from.0) (member_of w at outer t i inner u)
-point_value (point.Decay into from outer array check inner element at) w temps = address_from (temps from.0) (element_of w at outer array check inner element)
-point_value (point.Address into from outer inner t) w temps = address_from (temps from.0) (address (w.setting.kind inner) 0 (size w.setting t) t)
+point_value (point.Move into p n way t at) w temps = move_value w at way t (temps p) (temps n)
+point_value (point.Difference into a t b s at) w temps = difference_value w at t s (temps a) (temps b)
+point_value (point.Compare into comparison a t b s null at) w temps = compare_values w at comparison null t s (temps a) (temps b)
+point_value (point.Member into from outer t i inner u at) w temps = address_from (temps from) (member_of w at outer t i inner u)
+point_value (point.Decay into from outer array check inner element at) w temps = address_from (temps from) (element_of w at outer array check inner element)
+point_value (point.Address into from outer inner t) w temps = address_from (temps from) (address (w.setting.kind inner) 0 (size w.setting t) t)
 
 -- Conversions
 
@@ -195,13 +196,13 @@ into_of_convert (convert.Pointer into from t u at) = into
 
 abbrev pub convert_value : Convert → Around → Temporaries → Act Value
 convert_value (convert.Integer into from t) w temps = do
-  z ← as_integer (temps from.0)
+  z ← as_integer (temps from)
   done (Integer (converted (integer_in w.setting t) z))
 convert_value (convert.ToPointer into from t at) w temps = do
-  z ← as_integer (temps from.0)
+  z ← as_integer (temps from)
   p ← pointer_from z
   done (Address p)
-convert_value (convert.Pointer into from t u at) w temps = address_from (temps from.0) (converted_pointer w.setting at t u)
+convert_value (convert.Pointer into from t u at) w temps = address_from (temps from) (converted_pointer w.setting at t u)
 
 -- Loads, stores and copies
 
@@ -210,7 +211,7 @@ target_kind w (target.Pointer p node) = w.setting.kind node
 target_kind w (target.Part o node t offset) = w.setting.kind node
 
 abbrev pub target_pointer : Around → Target → Temporaries → Act Pointer
-target_pointer w (target.Pointer p node) temps = as_pointer (temps p.0)
+target_pointer w (target.Pointer p node) temps = as_pointer (temps p)
 target_pointer w (target.Part o node t offset) temps = done (forward offset (pointer_to w o t))
 
 -- the scalar of type t that a pointer of the node points to
@@ -232,11 +233,11 @@ copied w to to_place node from_place t assignment temps v = do
   copy_all w.setting t from_place (w.setting.kind node) p to_place (target_kind w to) q assignment
 
 abbrev pub act_access : Access → Around → Step
-act_access (access.Load into from node t at) w = λ c. gives_to into.0 (loaded w at node t (c.temps from.0)) c
-act_access (access.Store to v t at assignment) w = λ c. changes_none (stored w to t at assignment c.temps (c.temps v.0)) c
+act_access (access.Load into from node t at) w = λ c. gives_to into (loaded w at node t (c.temps from)) c
+act_access (access.Store to v t at assignment) w = λ c. changes_none (stored w to t at assignment c.temps (c.temps v)) c
 act_access (access.Clear o) w = λ c. changes_none (clear (number_of w o)) c
 act_access (access.Copy to to_place from node from_place t assignment) w =
-    λ c. changes_none (copied w to to_place node from_place t assignment c.temps (c.temps from.0)) c
+    λ c. changes_none (copied w to to_place node from_place t assignment c.temps (c.temps from)) c
 
 -- Blocks and calls
 
@@ -253,12 +254,12 @@ into_of_allocate (allocate.Malloc into n node t at) = into
 into_of_allocate (allocate.Calloc into m n node t at) = into
 
 abbrev pub allocate_value : Allocate → Around → Temporaries → Act Value
-allocate_value (allocate.Malloc into n node t at) w temps = allocated w at node t (malloc w.setting node t (temps n.0 ∷ []))
-allocate_value (allocate.Calloc into m n node t at) w temps = allocated w at node t (calloc w.setting node t (temps m.0 ∷ temps n.0 ∷ []))
+allocate_value (allocate.Malloc into n node t at) w temps = allocated w at node t (malloc w.setting node t (temps n ∷ []))
+allocate_value (allocate.Calloc into m n node t at) w temps = allocated w at node t (calloc w.setting node t (temps m ∷ temps n ∷ []))
 
--- what so many temporaries hold, from `first` on
+-- so many values, from number `first` on
 abbrev pub row_of : Temporaries → ℕ → ℕ → List Value
-row_of temps first count = map temps (range_with_len first count)
+row_of temps first count = map (λ n. temps (temp.Value n)) (range_with_len first count)
 
 -- a call through a pointer of the type t
 abbrev pub call_value : Around → Place → TypeId → Value → List Value → Act Value
@@ -274,10 +275,10 @@ into_of_runtime (runtime.Putchar into v) = into
 into_of_runtime (runtime.Exit into v) = into
 
 abbrev pub runtime_value : RuntimeCall → Temporaries → Act Value
-runtime_value (runtime.Free into p) temps = free (temps p.0 ∷ [])
+runtime_value (runtime.Free into p) temps = free (temps p ∷ [])
 runtime_value (runtime.Getchar into) temps = getchar []
-runtime_value (runtime.Putchar into v) temps = putchar (temps v.0 ∷ [])
-runtime_value (runtime.Exit into v) temps = exits (temps v.0 ∷ [])
+runtime_value (runtime.Putchar into v) temps = putchar (temps v ∷ [])
+runtime_value (runtime.Exit into v) temps = exits (temps v ∷ [])
 
 -- Control
 
@@ -297,20 +298,20 @@ loop body c = rounds Turns c.state.turns (round_of body) c
 
 abbrev mutual
   pub act : Instr → Around → Step
-  act (instr.Set i) w = λ c. gives_to (into_of_set i).0 (set_value i w c.temps) c
-  act (instr.Calculate i) w = λ c. gives_to (into_of_calculate i).0 (calculate_value i w c.temps) c
-  act (instr.Point i) w = λ c. gives_to (into_of_point i).0 (point_value i w c.temps) c
-  act (instr.Convert i) w = λ c. gives_to (into_of_convert i).0 (convert_value i w c.temps) c
+  act (instr.Set i) w = λ c. gives_to (into_of_set i) (set_value i w c.temps) c
+  act (instr.Calculate i) w = λ c. gives_to (into_of_calculate i) (calculate_value i w c.temps) c
+  act (instr.Point i) w = λ c. gives_to (into_of_point i) (point_value i w c.temps) c
+  act (instr.Convert i) w = λ c. gives_to (into_of_convert i) (convert_value i w c.temps) c
   act (instr.Access i) w = act_access i w
-  act (instr.Allocate i) w = λ c. gives_to (into_of_allocate i).0 (allocate_value i w c.temps) c
-  act (instr.Call i) w = λ c. gives_to i.into.0 (call_value w i.place i.ty (c.temps i.callee.0) (row_of c.temps i.first.0 i.count)) c
-  act (instr.Runtime i) w = λ c. gives_to (into_of_runtime i).0 (runtime_value i c.temps) c
-  act (instr.If' t shape code shape' other) w = λ c. either (is_true (c.temps t.0)) (act_row code w) (act_row other w) c
+  act (instr.Allocate i) w = λ c. gives_to (into_of_allocate i) (allocate_value i w c.temps) c
+  act (instr.Call i) w = λ c. gives_to i.into (call_value w i.place i.ty (c.temps i.callee) (row_of c.temps i.first i.count)) c
+  act (instr.Runtime i) w = λ c. gives_to (into_of_runtime i) (runtime_value i c.temps) c
+  act (instr.If' t shape code shape' other) w = λ c. either (is_true (c.temps t)) (act_row code w) (act_row other w) c
   act (instr.Block' shape code) w = block (act_row code w)
   act (instr.Loop' shape code) w = loop (act_row code w)
   act (instr.Break k) w = done (Leaves k)
   act instr.Return w = done (Gives (Integer (pos 0)))
-  act (instr.ReturnValue v t at) w = λ c. on_state (returned w at t (c.temps v.0)) c
+  act (instr.ReturnValue v t at) w = λ c. on_state (returned w at t (c.temps v)) c
 
   -- instructions in order, as an instruction holds them
   pub act_row : {m : _} → Row_of-Instr m → Around → Step

@@ -23,13 +23,13 @@ use Rattle.cil_form.specs.declared.instr.Instr.TheVariants as instr
 use Rattle.cil_form.specs.declared.program.Function.{Function}
 use Rattle.cil_form.specs.declared.program.Program.{Program}
 use Rattle.cil_form.specs.Machine.{code_run}
-use Rattle.cil_form.specs.Small.{at, node, type, int, entry, kinds, temp, variable, code, parameter, local, program}
+use Rattle.cil_form.specs.Small.{at, node, type, int, entry, kinds, value, kept, variable, code, parameter, local, program}
 
--- an int of a variable, into temporary t: the address of the variable, and then a load
+-- an int of a variable, into value t: the address of the variable, and then a load
 abbrev read_int : ℕ → ℕ → ℕ → ℕ → List Instr
 read_int t k home column =
-    instr.Set (set.Object (temp t) (variable k) (node home) int)
-    ∷ instr.Access (access.Load (temp t) (temp t) (node home) int (at column))
+    instr.Set (set.Object (value t) (variable k) (node home) int)
+    ∷ instr.Access (access.Load (value t) (value t) (node home) int (at column))
     ∷ []
 
 -- int main(void){int i;while(i<3){putchar('a');i=i+1;}return i;}
@@ -41,21 +41,21 @@ loop_table = basic_table ++ entry (shape.Function [] int) ∷ []
 abbrev pub loop_round : Global → List Instr
 loop_round alloc =
     read_int 0 0 0 28
-    ++ instr.Set (set.Integer (temp 1) (pos 3) int)
-    ∷ instr.Calculate (calculate.Binary (temp 0) (operator.Compare comparison.Less) (temp 0) (temp 1) int (at 29))
-    ∷ instr.If (temp 0) (code alloc [] (lit< tt)) (code alloc (instr.Break 0 ∷ []) (lit< tt))
-    ∷ instr.Set (set.Integer (temp 0) (pos 97) int)
-    ∷ instr.Runtime (runtime.Putchar (temp 0) (temp 0))
-    ∷ instr.Set (set.Object (temp 0) (variable 0) (node 0) int)
-    ∷ instr.Set (set.Object (temp 1) (variable 0) (node 0) int)
-    ∷ instr.Access (access.Load (temp 1) (temp 1) (node 0) int (at 48))
-    ∷ instr.Set (set.Integer (temp 2) (pos 1) int)
-    ∷ instr.Calculate (calculate.Binary (temp 1) operator.Add (temp 1) (temp 2) int (at 49))
-    ∷ instr.Access (access.Store (target.Pointer (temp 0) (node 0)) (temp 1) int (at 46) (at 47))
+    ++ instr.Set (set.Integer (value 1) (pos 3) int)
+    ∷ instr.Calculate (calculate.Binary (value 0) (operator.Compare comparison.Less) (value 0) (value 1) int (at 29))
+    ∷ instr.If (value 0) (code alloc [] (lit< tt)) (code alloc (instr.Break 0 ∷ []) (lit< tt))
+    ∷ instr.Set (set.Integer (value 0) (pos 97) int)
+    ∷ instr.Runtime (runtime.Putchar (value 0) (value 0))
+    ∷ instr.Set (set.Object (value 0) (variable 0) (node 0) int)
+    ∷ instr.Set (set.Object (value 1) (variable 0) (node 0) int)
+    ∷ instr.Access (access.Load (value 1) (value 1) (node 0) int (at 48))
+    ∷ instr.Set (set.Integer (value 2) (pos 1) int)
+    ∷ instr.Calculate (calculate.Binary (value 1) operator.Add (value 1) (value 2) int (at 49))
+    ∷ instr.Access (access.Store (target.Pointer (value 0) (node 0)) (value 1) int (at 46) (at 47))
     ∷ []
 
 abbrev pub loop_body : Global → List Instr
-loop_body alloc = instr.Loop (code alloc (loop_round alloc) (lit< tt)) ∷ read_int 0 0 0 60 ++ instr.ReturnValue (temp 0) int (at 53) ∷ []
+loop_body alloc = instr.Loop (code alloc (loop_round alloc) (lit< tt)) ∷ read_int 0 0 0 60 ++ instr.ReturnValue (value 0) int (at 53) ∷ []
 
 abbrev pub loop_main : Global → Function
 loop_main alloc = record { ty = type 9; parameters = []; locals = local 0 int ∷ []; body = code alloc (loop_body alloc) (lit< tt) }
@@ -75,17 +75,17 @@ call_table = basic_table ++ entry (shape.Function (int ∷ []) int) ∷ entry (s
 abbrev pub called_body : List Instr
 called_body =
     read_int 0 0 0 21
-    ++ instr.Set (set.Integer (temp 1) (pos 1) int)
-    ∷ instr.Calculate (calculate.Binary (temp 0) operator.Add (temp 0) (temp 1) int (at 22))
-    ∷ instr.ReturnValue (temp 0) int (at 14)
+    ++ instr.Set (set.Integer (value 1) (pos 1) int)
+    ∷ instr.Calculate (calculate.Binary (value 0) operator.Add (value 0) (value 1) int (at 22))
+    ∷ instr.ReturnValue (value 0) int (at 14)
     ∷ []
 
 abbrev pub calling_body : List Instr
 calling_body =
-    instr.Set (set.Function (temp 0) (record { 0 = 0 }) (type 11))
-    ∷ instr.Set (set.Integer (temp 1) (pos 4) int)
-    ∷ instr.Call (record { into = temp 0; callee = temp 0; ty = type 11; first = temp 1; count = 1; place = at 49 })
-    ∷ instr.ReturnValue (temp 0) int (at 41)
+    instr.Set (set.Function (value 0) (record { 0 = 0 }) (type 11))
+    ∷ instr.Set (set.Integer (value 1) (pos 4) int)
+    ∷ instr.Call (record { into = value 0; callee = value 0; ty = type 11; first = 1; count = 1; place = at 49 })
+    ∷ instr.ReturnValue (value 0) int (at 41)
     ∷ []
 
 abbrev pub called : Global → Function
@@ -107,14 +107,14 @@ access_table = basic_table ++ entry (shape.Function [] int) ∷ entry (shape.Arr
 
 abbrev pub access_body : List Instr
 access_body =
-    instr.Set (set.Object (temp 0) (variable 0) (node 0) (type 10))
-    ∷ instr.Point (point.Decay (temp 0) (temp 0) (node 0) (type 10) false (node 1) int (at 25))
-    ∷ instr.Set (set.Integer (temp 1) (pos 3) int)
-    ∷ instr.Point (point.Move (temp 0) (temp 0) (temp 1) direction.Forward (type 11) (at 26))
-    ∷ instr.Set (set.Integer (temp 1) (pos 1) int)
-    ∷ instr.Access (access.Store (target.Pointer (temp 0) (node 1)) (temp 1) int (at 26) (at 29))
-    ∷ instr.Set (set.Integer (temp 0) (pos 0) int)
-    ∷ instr.ReturnValue (temp 0) int (at 32)
+    instr.Set (set.Object (value 0) (variable 0) (node 0) (type 10))
+    ∷ instr.Point (point.Decay (value 0) (value 0) (node 0) (type 10) false (node 1) int (at 25))
+    ∷ instr.Set (set.Integer (value 1) (pos 3) int)
+    ∷ instr.Point (point.Move (value 0) (value 0) (value 1) direction.Forward (type 11) (at 26))
+    ∷ instr.Set (set.Integer (value 1) (pos 1) int)
+    ∷ instr.Access (access.Store (target.Pointer (value 0) (node 1)) (value 1) int (at 26) (at 29))
+    ∷ instr.Set (set.Integer (value 0) (pos 0) int)
+    ∷ instr.ReturnValue (value 0) int (at 32)
     ∷ []
 
 abbrev pub access_main : Global → Function
@@ -129,29 +129,29 @@ access_run alloc = code_run (access_program alloc) (kinds (Safe ∷ Seq ∷ []))
 
 -- int main(void){switch(getchar()){case 97:for(;;){putchar(49);break;}case 98:putchar(50);}return 0;}
 
--- `case` z, behind which piece number k stands, where temporary 0 holds the value: the number goes into temporary 1
+-- `case` z, behind which piece number k stands, where value 0 is what the labels are compared with: the number is kept
 abbrev pub case_label : Global → ℕ → ℕ → List Instr
 case_label alloc z k =
-    instr.Set (set.Integer (temp 2) (pos z) int)
-    ∷ instr.Calculate (calculate.Binary (temp 2) (operator.Compare comparison.Equal) (temp 0) (temp 2) int (at 16))
-    ∷ instr.If (temp 2) (code alloc (instr.Set (set.Integer (temp 1) (pos k) int) ∷ instr.Break 0 ∷ []) (lit< tt)) (code alloc [] (lit< tt))
+    instr.Set (set.Integer (value 1) (pos z) int)
+    ∷ instr.Calculate (calculate.Binary (value 1) (operator.Compare comparison.Equal) (value 0) (value 1) int (at 16))
+    ∷ instr.If (value 1) (code alloc (instr.Set (set.Integer (kept 0) (pos k) int) ∷ []) (lit< tt)) (code alloc [] (lit< tt))
     ∷ []
 
--- the labels in order; where there is no `default`, the number of the pieces is that of none
+-- the labels, the last first; where none of them fits and there is no `default`, the number of the pieces is kept
 abbrev pub switch_labels : Global → List Instr
-switch_labels alloc = case_label alloc 97 0 ++ case_label alloc 98 1
+switch_labels alloc = instr.Set (set.Integer (kept 0) (pos 2) int) ∷ case_label alloc 98 1 ++ case_label alloc 97 0
 
--- a piece runs where the first that runs, whose number temporary 0 holds, is none behind it
+-- a piece runs where the first that runs, whose number is kept, is none behind it
 abbrev pub piece : Global → ℕ → Code → List Instr
 piece alloc k body =
-    instr.Set (set.Integer (temp 1) (pos k) int)
-    ∷ instr.Calculate (calculate.Binary (temp 1) (operator.Compare comparison.LessOrEqual) (temp 0) (temp 1) int (at 16))
-    ∷ instr.If (temp 1) body (code alloc [] (lit< tt))
+    instr.Set (set.Integer (value 0) (pos k) int)
+    ∷ instr.Calculate (calculate.Binary (value 0) (operator.Compare comparison.LessOrEqual) (kept 0) (value 0) int (at 16))
+    ∷ instr.If (value 0) body (code alloc [] (lit< tt))
     ∷ []
 
 -- the character of this number is written
 abbrev pub write_character : ℕ → List Instr
-write_character z = instr.Set (set.Integer (temp 1) (pos z) int) ∷ instr.Runtime (runtime.Putchar (temp 1) (temp 1)) ∷ []
+write_character z = instr.Set (set.Integer (value 0) (pos z) int) ∷ instr.Runtime (runtime.Putchar (value 0) (value 0)) ∷ []
 
 abbrev pub first_round : List Instr
 first_round = write_character 49 ++ instr.Break 1 ∷ []
@@ -164,18 +164,16 @@ first_piece alloc = instr.Loop (code alloc (first_loop alloc) (lit< tt)) ∷ []
 
 abbrev pub switch_block : Global → List Instr
 switch_block alloc =
-    instr.Runtime (runtime.Getchar (temp 0))
-    ∷ instr.Set (set.Integer (temp 1) (pos 2) int)
-    ∷ instr.Block (code alloc (switch_labels alloc) (lit< tt))
-    ∷ instr.Set (set.Copy (temp 0) (temp 1))
-    ∷ piece alloc 0 (code alloc (first_piece alloc) (lit< tt))
+    instr.Runtime (runtime.Getchar (value 0))
+    ∷ switch_labels alloc
+    ++ piece alloc 0 (code alloc (first_piece alloc) (lit< tt))
     ++ piece alloc 1 (code alloc (write_character 50) (lit< tt))
 
 abbrev pub switch_body : Global → List Instr
 switch_body alloc =
     instr.Block (code alloc (switch_block alloc) (lit< tt))
-    ∷ instr.Set (set.Integer (temp 0) (pos 0) int)
-    ∷ instr.ReturnValue (temp 0) int (at 90)
+    ∷ instr.Set (set.Integer (value 0) (pos 0) int)
+    ∷ instr.ReturnValue (value 0) int (at 90)
     ∷ []
 
 abbrev pub switch_main : Global → Function

@@ -12,6 +12,7 @@ use Rattle.c_types.specs.declared.site.Site.TheVariants.{Flow, Arith, Integer, L
 use Rattle.c_types.specs.Table.{Table, shape_at}
 use Rattle.c_types.specs.Solutions.{IsSolution, sites_of_table}
 use Rattle.src_mem.specs.Memory.{Planned}
+use Rattle.cil_form.specs.declared.number.Temp.{Temp}
 use Rattle.cil_form.specs.declared.instr.Comparison.{Comparison}
 use Rattle.cil_form.specs.declared.instr.Comparison.TheVariants as comparison
 use Rattle.cil_form.specs.declared.instr.Point.{Point}
@@ -108,7 +109,7 @@ IsAsked sites (PointerTo node t) = Contains sites (Pointee node t) ⊎ Contains 
 
 -- a site says so of each pointer that is known
 abbrev pub AreAsked : List Site → Typing → Type 0
-AreAsked sites types = (t : ℕ) (x : HeldType) → types t ≡ Some x → IsAsked sites x
+AreAsked sites types = (t : Temp) (x : HeldType) → types t ≡ Some x → IsAsked sites x
 
 -- the sites tell of the pointer types and of the objects that code may name
 pub record TellsOf (sites : List Site) (k : Context) : Type 0 where

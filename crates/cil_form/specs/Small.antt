@@ -11,6 +11,7 @@ use Rattle.cc_base.specs.declared.kind.Kind.TheVariants.{Safe}
 use Rattle.c_types.specs.declared.shape.TypeShape.{TypeShape}
 use Rattle.c_types.specs.Table.{Table, Entry}
 use Rattle.cil_form.specs.declared.number.Temp.{Temp}
+use Rattle.cil_form.specs.declared.number.Temp.TheVariants as temp
 use Rattle.cil_form.specs.declared.number.Planned.{Planned}
 use Rattle.cil_form.specs.declared.number.Object.{Object}
 use Rattle.cil_form.specs.declared.number.Object.TheVariants as object
@@ -44,9 +45,12 @@ entry shape = record { shape = shape; members = [] }
 abbrev pub kinds : List Kind → NodeId → Kind
 kinds list n = slice_index_or list n.0 Safe
 
--- temporary t, variable k of the call
-abbrev pub temp : ℕ → Temp
-temp t = record { 0 = t }
+-- value t, what the `switch` with so many others around it keeps, variable k of the call
+abbrev pub value : ℕ → Temp
+value t = temp.Value t
+
+abbrev pub kept : ℕ → Temp
+kept depth = temp.Switch depth
 
 abbrev pub variable : ℕ → Object
 variable k = object.Variable (record { 0 = k })

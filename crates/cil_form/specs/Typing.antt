@@ -1,6 +1,6 @@
 -- What the temporaries hold where code has come to, and what each instruction asks of them and leaves in them.
-use Rattle.std.specs.Prelude.{ℕ, suc, ◌+◌, ◌*◌, ◌<◌, ◌≡◌, ◌⊎◌, List, [], ◌∷◌, length, slice_get, Option, Some, None, IsSome, IsTrue, nat_eq, if◌then◌else◌}
-use Rattle.std.specs.List.{Contains}
+use Rattle.std.specs.Prelude.{ℕ, suc, ◌+◌, ◌*◌, ◌<◌, ◌≤◌, ◌≡◌, ◌⊎◌, List, [], ◌∷◌, length, slice_get, Option, Some, None, IsSome, IsTrue, All, nat_eq, if◌then◌else◌}
+use Rattle.std.specs.List.{Contains, IsDistinct}
 use Rattle.cc_base.specs.declared.number.NodeId.{NodeId}
 use Rattle.cc_base.specs.declared.number.TypeId.{TypeId}
 use Rattle.c_types.specs.declared.shape.TypeShape.{TypeShape}
@@ -13,6 +13,7 @@ use Rattle.c_types.specs.Equality.{physically_equal}
 use Rattle.integers.specs.Arithmetic.{IntegerType, int, long, unsigned_long, converted}
 use Rattle.src_mem.specs.Memory.{Planned}
 use Rattle.cil_form.specs.declared.number.Temp.{Temp}
+use Rattle.cil_form.specs.declared.number.Temp.TheVariants as temp
 use Rattle.cil_form.specs.declared.number.Object.{Object}
 use Rattle.cil_form.specs.declared.number.Object.TheVariants as object
 use Rattle.cil_form.specs.declared.instr.Comparison.{Comparison}
@@ -38,10 +39,15 @@ use Rattle.cil_form.specs.declared.instr.RuntimeCall.{RuntimeCall}
 use Rattle.cil_form.specs.declared.instr.RuntimeCall.TheVariants as runtime
 use Rattle.cil_form.specs.declared.instr.Instr.{Instr, Row_of-Instr, end_of-Instr, more_of-Instr}
 use Rattle.cil_form.specs.declared.instr.Instr.TheVariants as instr
+use Rattle.cil_form.specs.State.{is_same}
 
--- An expression holds at most 256 values, an operator works in two more, and each of at most 256 `switch` statements around keeps one.
-unfoldable pub temporaries_limit : ℕ
-temporaries_limit = 514
+-- How many values there are: at most so many are held at once.
+abbrev pub values_limit : ℕ
+values_limit = 256
+
+-- how many `switch` statements are nested, at most
+abbrev pub switches_limit : ℕ
+switches_limit = 256
 
 -- What a temporary holds: an integer that fits a type, or a pointer of a node to a type.
 pub data HeldType : Type 0 where
@@ -50,18 +56,18 @@ pub data HeldType : Type 0 where
 
 -- what is known of each temporary
 abbrev pub Typing : Type 0
-Typing = ℕ → Option HeldType
+Typing = Temp → Option HeldType
 
 abbrev pub no_types : Typing
 no_types t = None
 
 -- what is known once temporary t is written
-abbrev pub with_held : ℕ → Option HeldType → Typing → Typing
-with_held t x types u = if nat_eq u t then x else types u
+abbrev pub with_held : Temp → Option HeldType → Typing → Typing
+with_held t x types u = if is_same u t then x else types u
 
 -- what is known in `less` is known in `types`
 abbrev pub Includes : Typing → Typing → Type 0
-Includes types less = (t : ℕ) (x : HeldType) → less t ≡ Some x → types t ≡ Some x
+Includes types less = (t : Temp) (x : HeldType) → less t ≡ Some x → types t ≡ Some x
 
 -- What code may name, and what it stands in.
 pub record Context : Type 0 where
@@ -140,10 +146,30 @@ pub data IsPart (table : Table) : TypeId → ℕ → TypeId → Type 0 where
 -- Temporaries
 
 abbrev pub IsTemp : Temp → Type 0
-IsTemp t = t.0 < temporaries_limit
+IsTemp (temp.Value n) = n < values_limit
+IsTemp (temp.Switch n) = n < switches_limit
+IsTemp (temp.Work w) = Unit {0}
+
+-- what a `switch` keeps lives across statements, and nothing else does
+abbrev pub LivesAcrossStatements : Temp → Type 0
+LivesAcrossStatements (temp.Value n) = ⊥
+LivesAcrossStatements (temp.Switch n) = Unit {0}
+LivesAcrossStatements (temp.Work w) = ⊥
+
+-- what is known between two statements: no value
+abbrev pub IsBetweenStatements : Typing → Type 0
+IsBetweenStatements types = (t : Temp) (x : HeldType) → types t ≡ Some x → LivesAcrossStatements t
+
+-- what is known is of temporaries that there are
+abbrev pub AreTemps : Typing → Type 0
+AreTemps types = (t : Temp) (x : HeldType) → types t ≡ Some x → IsTemp t
+
+-- at most so many values are held, whichever of them are known
+abbrev pub HoldsAtMost : ℕ → Typing → Type 0
+HoldsAtMost limit types = (held : List ℕ) → IsDistinct nat_eq held → All (λ n. IsSome (types (temp.Value n))) held → length held ≤ limit
 
 abbrev pub Holds : Typing → Temp → HeldType → Type 0
-Holds types t x = IsTemp t × (types t.0 ≡ Some x)
+Holds types t x = IsTemp t × (types t ≡ Some x)
 
 -- an integer, or a pointer, of whatever type
 abbrev pub HoldsInteger : Typing → Temp → Type 0
@@ -158,11 +184,11 @@ HoldsScalar types t = (x : HeldType) × Holds types t x
 
 -- a value of type t
 abbrev pub HoldsOf : Context → Typing → Temp → TypeId → Type 0
-HoldsOf k types v t = IsScalar k t × IsTemp v × (types v.0 ≡ held_by k t)
+HoldsOf k types v t = IsScalar k t × IsTemp v × (types v ≡ held_by k t)
 
 -- what is known behind an instruction that writes a temporary; less may be kept of it
 abbrev pub Leaves : Typing → Temp → Option HeldType → Typing → Type 0
-Leaves types into x after = IsTemp into × Includes (with_held into.0 x types) after
+Leaves types into x after = IsTemp into × Includes (with_held into x types) after
 
 -- Instructions
 
@@ -173,7 +199,7 @@ IsShapedSet (set.Null into t) k types after = (node : NodeId) × (u : TypeId) ×
 IsShapedSet (set.Function into f t) k types after = (node : NodeId) × (u v : TypeId) × IsPointer k t node u
     × (slice_get k.functions f.0 ≡ Some v) × ArePhysicallyEqual k u v × AreDeclaredAlike k.sites u v × Leaves types into (Some (PointerTo node u)) after
 IsShapedSet (set.Object into o home t) k types after = IsObject k o home t × Leaves types into (Some (PointerTo home t)) after
-IsShapedSet (set.Copy into from) k types after = IsTemp from × Leaves types into (types from.0) after
+IsShapedSet (set.Copy into from) k types after = IsTemp from × Leaves types into (types from) after
 
 -- the right operand of a shift may have a type of its own (C99 6.5.7)
 abbrev pub IsRightOperand : Operator → Typing → Temp → IntegerType → Type 0
@@ -247,9 +273,9 @@ IsShapedAllocate (allocate.Malloc into n node t at) k types after = IsNode k nod
 IsShapedAllocate (allocate.Calloc into m n node t at) k types after = IsNode k node × IsBlockType k t
     × Holds types m (IntegerOf unsigned_long) × Holds types n (IntegerOf unsigned_long) × Leaves types into (Some (PointerTo node t)) after
 
--- the temporaries from `first` on hold values of the parameters' types
-abbrev pub AreArguments : Context → Typing → Temp → List TypeId → Type 0
-AreArguments k types first parameters = (i : ℕ) (t : TypeId) → slice_get parameters i ≡ Some t → HoldsOf k types (record { 0 = first.0 + i }) t
+-- the values from number `first` on are of the parameters' types
+abbrev pub AreArguments : Context → Typing → ℕ → List TypeId → Type 0
+AreArguments k types first parameters = (i : ℕ) (t : TypeId) → slice_get parameters i ≡ Some t → HoldsOf k types (temp.Value (first + i)) t
 
 -- calls are made in functions alone
 abbrev pub IsShapedCall : Call → Context → Typing → Typing → Type 0
@@ -270,8 +296,9 @@ abbrev pub inside : Context → Typing → Context
 inside k entry = record k { blocks = suc k.blocks; kept = entry }
 
 -- A block or loop that begins and ends with what `entry` knows stands between the two typings. It knows what is kept where the block around it
--- is left, which may be from inside it.
+-- is left, which may be from inside it. Statements begin and end with it, so that it knows no value.
 pub record Passes (types entry : Typing) (k : Context) (after : Typing) : Type 0 where
+  pub between : IsBetweenStatements entry
   pub begins : Includes types entry
   pub keeps : Includes entry k.kept
   pub ends : Includes entry after
@@ -280,7 +307,8 @@ pub record Passes (types entry : Typing) (k : Context) (after : Typing) : Type 0
 abbrev pub GivesNothing : Context → Type 0
 GivesNothing k = (t : TypeId) × (k.result ≡ Some t) × (shape_at k.table t ≡ shape.Void)
 
--- Code begins with what the first typing knows, and what the second knows holds behind it. A block and a loop end with what they began with, so that a value which is held in them is held until they are left.
+-- Code begins with what the first typing knows, and what the second knows holds behind it. A block and a loop end with what they began with, so
+-- that what the `switch` statements around keep is kept until they are left.
 abbrev mutual
   pub IsShaped : Instr → Context → Typing → Typing → Type 0
   IsShaped (instr.Set i) k types after = IsShapedSet i k types after

@@ -273,13 +273,13 @@ pub enum Allocate {
     },
 }
 
-/// A call through a pointer of the type (C99 6.5.2.2). The arguments stand in so many temporaries from `first` on.
+/// A call through a pointer of the type (C99 6.5.2.2). The arguments are so many values, one after another from number `first` on.
 #[derive(Clone, Copy)]
 pub struct Call {
     pub into: Temp,
     pub callee: Temp,
     pub ty: TypeId,
-    pub first: Temp,
+    pub first: u8,
     pub count: u32,
     pub place: Place,
 }

@@ -1,6 +1,6 @@
 //! Laws of three-address code. Each is the contract of a function that does nothing, so that it is proved once and can be cited.
 
-ghost use Rattle.std.specs.Prelude.{◌≡◌, ℕ, suc, List, [], ◌∷◌, ◌++◌};
+ghost use Rattle.std.specs.Prelude.{◌≡◌, ◌≤◌, ℕ, suc, List, [], ◌∷◌, ◌++◌};
 ghost use Rattle.std.specs.declared.alloc.Global.{Global};
 ghost use Rattle.cc_base.specs.declared.fault.Check.TheVariants.{Bounds};
 ghost use Rattle.runs.specs.Outcome.{Ended, Done, Matches, from, either};
@@ -8,19 +8,21 @@ ghost use Rattle.runs.specs.Control.{Control, Leaves, then_go, block, go_round, 
 ghost use Rattle.src_mem.specs.Pointers.{Value, is_true};
 ghost use Rattle.src_mem.specs.State.{State, Act, Exited, Turns, Stopped};
 ghost use Rattle.cil_form.specs.declared.number.Temp.{Temp};
+ghost use Rattle.cil_form.specs.declared.number.Temp.TheVariants as temp;
+ghost use Rattle.cil_form.specs.declared.number.Work.{Work};
 ghost use Rattle.cil_form.specs.declared.instr.Instr.{Instr};
 ghost use Rattle.cil_form.specs.declared.instr.Instr.TheVariants.{If, Block, Loop, Break};
 ghost use Rattle.cil_form.specs.declared.instr.Code.{Code};
 ghost use Rattle.cil_form.specs.State.{Temporaries, Local, Step, Around, gives_to};
 ghost use Rattle.cil_form.specs.Meaning.{act, run, round_of, loop};
-ghost use Rattle.cil_form.specs.Typing.{Typing, Context, Includes, HoldsScalar, Passes, inside, IsShaped, AreShaped};
+ghost use Rattle.cil_form.specs.Typing.{Typing, Context, Includes, AreTemps, HoldsAtMost, HoldsScalar, Passes, inside, IsShaped, AreShaped};
 ghost use Rattle.c_types.specs.declared.site.Site.{Site};
 ghost use Rattle.cil_form.specs.Sites.{TellsOf, Shows, AreAsked, sites_of_code, sites_in};
 ghost use Rattle.std.specs.List.{Contains};
 ghost use Rattle.cil_form.specs.declared.program.Function.{Function};
 ghost use Rattle.cil_form.specs.declared.program.Program.{Program};
-ghost use Rattle.cil_form.specs.Laws.{CodeWritesFrom, Keeps};
-ghost use Rattle.cil_form.specs.Computes.{EndsAlike, Held, Computes, Executes};
+ghost use Rattle.cil_form.specs.Laws.{IsBelow, IsAround, CodeSpares, Keeps};
+ghost use Rattle.cil_form.specs.Computes.{EndsAlike, Held, LeftAlike, Computes, Executes};
 ghost use Rattle.cil_form.specs.Small.{at, shown, access};
 ghost use Rattle.cil_form.specs.Programs.{loop_program, loop_run, call_program, call_run, access_program, access_run, switch_program, switch_run};
 ghost use Rattle.cil_form.specs.Shape.{IsInShape, context_of, context_in};
@@ -38,7 +40,7 @@ pub fn nothing_runs_behind_a_break()
 
 /// The code that an instruction holds runs as the list of its instructions does.
 pub fn held_code_runs_as_its_list()
-    ensures choice { (t : Temp) (x y : Code) (w : Around) (c : Local) → act (If t x y) w c ≡ either (is_true (c.temps t.0)) (run x.0.items w) (run y.0.items w) c }
+    ensures choice { (t : Temp) (x y : Code) (w : Around) (c : Local) → act (If t x y) w c ≡ either (is_true (c.temps t)) (run x.0.items w) (run y.0.items w) c }
     ensures once { (x : Code) (w : Around) (c : Local) → act (Block x) w c ≡ block (run x.0.items w) c }
     ensures again { (x : Code) (w : Around) (c : Local) → act (Loop x) w c ≡ loop (run x.0.items w) c }
 {}
@@ -49,30 +51,44 @@ pub fn a_loop_takes_a_turn_a_round()
     ensures round { (body : Step) (n : ℕ) (c : Local) → c.state.turns ≡ suc n → loop body c ≡ from (round_of body c) (λ x. go_round x (rounds Turns n (round_of body))) }
 {}
 
-/// Code that writes no temporary below a number keeps all below it, however it is left.
-pub fn temporaries_below_are_kept()
-    ensures { (is : List Instr) (w : Around) (low : ℕ) (c : Local) → CodeWritesFrom is low → Keeps low c.temps (run is w c) }
+/// Code that writes none of the temporaries which an expression or a statement has to leave alone keeps them all, however it is left.
+pub fn temporaries_that_are_not_written_are_kept()
+    ensures below { (is : List Instr) (w : Around) (t : ℕ) (c : Local) → CodeSpares is (IsBelow t) → Keeps (IsBelow t) c.temps (run is w c) }
+    ensures around { (is : List Instr) (w : Around) (depth : ℕ) (c : Local) → CodeSpares is (IsAround depth) → Keeps (IsAround depth) c.temps (run is w c) }
 {}
 
-/// What gives a value to a temporary computes it there.
+/// What gives a value to a temporary leaves it there. A value keeps those below it and what every `switch` keeps; so does what an operator
+/// works in. What a `switch` keeps leaves alone what the `switch` statements around it do.
 pub fn an_instruction_computes_its_value()
-    ensures { (t : ℕ) (m : Act Value) (c : Local) → Matches (Held t c.temps) EndsAlike (m c.state) (gives_to t m c) }
+    ensures value { (t : ℕ) (m : Act Value) (c : Local) → Matches (Held (temp.Value t) (IsBelow t) c.temps) EndsAlike (m c.state) (gives_to (temp.Value t) m c) }
+    ensures work { (v : Work) (t : ℕ) (m : Act Value) (c : Local) → Matches (Held (temp.Work v) (IsBelow t) c.temps) EndsAlike (m c.state) (gives_to (temp.Work v) m c) }
+    ensures switch { (depth : ℕ) (m : Act Value) (c : Local) → Matches (Held (temp.Switch depth) (IsAround depth) c.temps) EndsAlike (m c.state) (gives_to (temp.Switch depth) m c) }
 {}
 
 /// Code that computes an operation, and then code that does the next one on the value that it finds, compute both.
 pub fn code_after_code_computes()
-    ensures { (a b : List Instr) (w : Around) (m : Act Value) (f : Value → Act Value) (t : ℕ) → Computes a w m t → ((T : Temporaries) (s : State) → Matches (Held t T) EndsAlike (f (T t) s) (run b w (record { state = s; temps = T }))) → Computes (a ++ b) w (λ s. from (m s) f) t }
+    ensures { (a b : List Instr) (w : Around) (m : Act Value) (f : Value → Act Value) (t : ℕ) → Computes a w m t → ((T : Temporaries) (s : State) → Matches (Held (temp.Value t) (IsBelow t) T) EndsAlike (f (T (temp.Value t)) s) (run b w (record { state = s; temps = T }))) → Computes (a ++ b) w (λ s. from (m s) f) t }
 {}
 
-/// Code that executes a statement, and then code that executes the next one, execute both.
+/// Code that executes a statement, and then code that executes the next one, execute both. So do code that computes an expression, and then
+/// code that executes a statement on the value that it finds. The code of a statement inside a `switch` may stand where less has to be kept.
 pub fn code_after_code_executes()
-    ensures { (a b : List Instr) (w : Around) (m n : Act (Control Value)) (t : ℕ) → Executes a w m t → Executes b w n t → Executes (a ++ b) w (λ s. from (m s) (λ y. then_go y n)) t }
+    ensures statements { (a b : List Instr) (w : Around) (m n : Act (Control Value)) (depth : ℕ) → Executes a w m depth → Executes b w n depth → Executes (a ++ b) w (λ s. from (m s) (λ y. then_go y n)) depth }
+    ensures expression { (a b : List Instr) (w : Around) (m : Act Value) (f : Value → Act (Control Value)) (t depth : ℕ) → Computes a w m t → ((T : Temporaries) (s : State) → Matches (LeftAlike (IsAround depth) T) EndsAlike (f (T (temp.Value t)) s) (run b w (record { state = s; temps = T }))) → Executes (a ++ b) w (λ s. from (m s) f) depth }
+    ensures outside { (a : List Instr) (w : Around) (m : Act (Control Value)) (fewer depth : ℕ) → fewer ≤ depth → Executes a w m depth → Executes a w m fewer }
 {}
 
 /// Code that is in shape stays so where more is known of the temporaries before it, and where less is kept behind it.
 pub fn more_may_be_known()
     ensures before { (is : List Instr) (k : Context) (more less after : Typing) → Includes more less → AreShaped is k less after → AreShaped is k more after }
     ensures behind { (is : List Instr) (k : Context) (types after less : Typing) → AreShaped is k types after → Includes after less → AreShaped is k types less }
+{}
+
+/// Wherever code in shape has come to, what is known is of temporaries that there are, and at most 256 values are held. Where blocks and loops
+/// begin and are left none is held.
+pub fn at_most_256_values_are_held()
+    ensures anywhere { (is js : List Instr) (k : Context) (types after : Typing) → AreTemps types → AreShaped (is ++ js) k types after → (middle : Typing) × AreShaped is k types middle × AreShaped js k middle after × AreTemps middle × HoldsAtMost 256 middle }
+    ensures blocks { (k : Context) (types entry after : Typing) → AreTemps types → Passes types entry k after → AreTemps entry × HoldsAtMost 0 entry }
 {}
 
 /// Code after code is in shape where what the first leaves is what the second begins with.

@@ -12,7 +12,7 @@ pub use instr::{
     Access, Allocate, Calculate, Call, Code, Comparison, Convert, Direction, Instr, Operator,
     Point, RuntimeCall, Set, Target,
 };
-pub use number::{FunctionNumber, Object, Planned, StaticNumber, Temp, VariableNumber};
+pub use number::{FunctionNumber, Object, Planned, StaticNumber, Temp, VariableNumber, Work};
 pub use program::{
     Bytes, Function, Functions, Locals, Parameter, Parameters, Program, Sites, Static, Statics,
 };

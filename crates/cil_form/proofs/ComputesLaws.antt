@@ -1,10 +1,10 @@
 -- Code that does what the source does, put together from its parts.
-use Rattle.std.proofs.Common.{ℕ, ◌<◌, ◌≤◌, refl, ap, ◌∙◌, sym, Bool, true, false, List, ◌++◌, arith}
-use Rattle.runs.specs.Outcome.{Outcome, Ended, Done, from, either, Matches}
-use Rattle.runs.specs.Control.{Control, Goes, Leaves, Gives, then_go}
-use Rattle.runs.proofs.RunLaws.{matches-from, matches-as, matches-weaker}
+use Rattle.std.proofs.Common.{ℕ, zero, suc, ◌<◌, ◌≤◌, ◌≡◌, refl, ap, ◌∙◌, sym, Bool, true, false, List, [], ◌∷◌, ◌++◌, arith}
+use Rattle.runs.specs.Outcome.{Outcome, Ended, Done, done, from, either, Matches, ◌>>◌}
+use Rattle.runs.specs.Control.{Control, Goes, Leaves, Gives, then_go, out_of, block, go_round, rounds}
+use Rattle.runs.proofs.RunLaws.{from-done, from-same, matches-from, matches-as, matches-weaker}
 use Rattle.src_mem.specs.Pointers.{Value, is_true}
-use Rattle.src_mem.specs.State.{Ending, State, Act}
+use Rattle.src_mem.specs.State.{Ending, State, Act, Turns, turn}
 use Rattle.cil_form.specs.declared.number.Temp.{Temp}
 use Rattle.cil_form.specs.declared.number.Temp.TheVariants as temp
 use Rattle.cil_form.specs.declared.number.Work.{Work}
@@ -12,10 +12,10 @@ use Rattle.cil_form.specs.declared.instr.Instr.{Instr}
 use Rattle.cil_form.specs.declared.instr.Instr.TheVariants as instr
 use Rattle.cil_form.specs.declared.instr.Code.{Code}
 use Rattle.cil_form.specs.State.{Temporaries, Local, Step, Around, beside, with_temp, gives_to}
-use Rattle.cil_form.specs.Meaning.{act, run}
+use Rattle.cil_form.specs.Meaning.{act, run, round_of, loop}
 use Rattle.cil_form.specs.Laws.{IsBelow, IsAround, AreKept}
-use Rattle.cil_form.specs.Computes.{EndsAlike, Held, LeftAlike, Computes, Executes}
-use Rattle.cil_form.proofs.RunLaws.{run-append, act-if}
+use Rattle.cil_form.specs.Computes.{EndsAlike, Held, LeftAlike, Computes, Executes, looped}
+use Rattle.cil_form.proofs.RunLaws.{run-append, act-if, act-block, act-loop}
 use Rattle.cil_form.proofs.KeepLaws.{with_temp-same, with_temp-other}
 
 -- Which temporaries code leaves alone
@@ -98,19 +98,32 @@ computes-append a b w m f t h next = record {
 
 -- Statements
 
-after-left : (P : Temp → Type 0) (before : Temporaries) (f : Act (Control Value)) (g : Step) (y : Control Value) (s : State) (x : Control Value) (c : Local)
-    → LeftAlike P before y s x c → ((T : Temporaries) (r : State) → AreKept P before T → Matches (LeftAlike P before) EndsAlike (f r) (g (record { state = r; temps = T })))
-    → Matches (LeftAlike P before) EndsAlike (then_go y f s) (then_go x g c)
-after-left P before f g Goes s x c h next =
-    matches-as (LeftAlike P before) EndsAlike (f s) (f c.state) (then_go x g c) (g c) (ap f (sym h.state)) (ap (λ z. then_go z g c) h.exit) (next c.temps c.state h.kept)
-after-left P before f g (Leaves k) s x c h next =
-    matches-as (LeftAlike P before) EndsAlike (Done (Leaves k) s) (Done (Leaves k) s) (then_go x g c) (Done (Leaves k) c) refl (ap (λ z. then_go z g c) h.exit)
-    (record { exit = refl; state = h.state; kept = h.kept })
-after-left P before f g (Gives v) s x c h next =
-    matches-as (LeftAlike P before) EndsAlike (Done (Gives v) s) (Done (Gives v) s) (then_go x g c) (Done (Gives v) c) refl (ap (λ z. then_go z g c) h.exit)
-    (record { exit = refl; state = h.state; kept = h.kept })
+after-left : (P Q : Temp → Type 0) → ((u : Temp) → Q u → P u) → (before : Temporaries) (f : Act (Control Value)) (g : Step) (y : Control Value) (s : State) (x : Control Value) (c : Local)
+    → LeftAlike P before y s x c → ((T : Temporaries) (r : State) → AreKept P before T → Matches (LeftAlike Q before) EndsAlike (f r) (g (record { state = r; temps = T })))
+    → Matches (LeftAlike Q before) EndsAlike (then_go y f s) (then_go x g c)
+after-left P Q more before f g Goes s x c h next =
+    matches-as (LeftAlike Q before) EndsAlike (f s) (f c.state) (then_go x g c) (g c) (ap f (sym h.state)) (ap (λ z. then_go z g c) h.exit) (next c.temps c.state h.kept)
+after-left P Q more before f g (Leaves k) s x c h next =
+    matches-as (LeftAlike Q before) EndsAlike (Done (Leaves k) s) (Done (Leaves k) s) (then_go x g c) (Done (Leaves k) c) refl (ap (λ z. then_go z g c) h.exit)
+    (record { exit = refl; state = h.state; kept = λ u q. h.kept u (more u q) })
+after-left P Q more before f g (Gives v) s x c h next =
+    matches-as (LeftAlike Q before) EndsAlike (Done (Gives v) s) (Done (Gives v) s) (then_go x g c) (Done (Gives v) c) refl (ap (λ z. then_go z g c) h.exit)
+    (record { exit = refl; state = h.state; kept = λ u q. h.kept u (more u q) })
 
-left-over : (P Q : Temp → Type 0) (before T : Temporaries) → ((u : Temp) → Q u → P u) → AreKept Q before T → (m : Outcome Ending State (Control Value)) (n : Outcome Ending Local (Control Value))
+-- Behind a statement that code has executed, the next code finds what the statement kept, as the number of a `switch` whose pieces these are. What
+-- has to be kept behind both may be less.
+pub then-statement : (P Q : Temp → Type 0) → ((u : Temp) → Q u → P u) → (a b : List Instr) (w : Around) (m : Outcome Ending State (Control Value)) (n : Act (Control Value))
+    (c : Local) (before : Temporaries) → Matches (LeftAlike P before) EndsAlike m (run a w c)
+    → ((T : Temporaries) (s : State) → AreKept P before T → Matches (LeftAlike Q before) EndsAlike (n s) (run b w (record { state = s; temps = T })))
+    → Matches (LeftAlike Q before) EndsAlike (from m (λ y. then_go y n)) (run (a ++ b) w c)
+then-statement P Q more a b w m n c before h next =
+    matches-as (LeftAlike Q before) EndsAlike (from m (λ y. then_go y n)) (from m (λ y. then_go y n)) (run (a ++ b) w c) (from (run a w c) (λ x. then_go x (run b w)))
+    refl (run-append a b w c)
+    (matches-from (LeftAlike P before) EndsAlike (LeftAlike Q before) m (run a w c) (λ y. then_go y n) (λ x. then_go x (run b w)) h
+    (λ y s x d k. after-left P Q more before n (run b w) y s x d k next))
+
+-- what is kept of temporaries that were kept themselves; it may be less
+pub left-over : (P Q : Temp → Type 0) (before T : Temporaries) → ((u : Temp) → Q u → P u) → AreKept Q before T → (m : Outcome Ending State (Control Value)) (n : Outcome Ending Local (Control Value))
     → Matches (LeftAlike P T) EndsAlike m n → Matches (LeftAlike Q before) EndsAlike m n
 left-over P Q before T more h m n l =
     matches-weaker (LeftAlike P T) (LeftAlike Q before) EndsAlike EndsAlike m n
@@ -120,13 +133,8 @@ left-over P Q before T more h m n l =
 pub executes-append : (a b : List Instr) (w : Around) (m n : Act (Control Value)) (depth : ℕ) → Executes a w m depth → Executes b w n depth
     → Executes (a ++ b) w (λ s. from (m s) (λ y. then_go y n)) depth
 executes-append a b w m n depth h l = record {
-  by = λ s temps. matches-as (LeftAlike (IsAround depth) temps) EndsAlike
-      (from (m s) (λ y. then_go y n)) (from (m s) (λ y. then_go y n))
-      (run (a ++ b) w (record { state = s; temps = temps })) (from (run a w (record { state = s; temps = temps })) (λ x. then_go x (run b w)))
-      refl (run-append a b w (record { state = s; temps = temps }))
-      (matches-from (LeftAlike (IsAround depth) temps) EndsAlike (LeftAlike (IsAround depth) temps) (m s) (run a w (record { state = s; temps = temps })) (λ y. then_go y n) (λ x. then_go x (run b w)) (h.by s temps)
-      (λ y s' x c k. after-left (IsAround depth) temps n (run b w) y s' x c k
-          (λ T r kept. left-over (IsAround depth) (IsAround depth) temps T (λ u p. p) kept (n r) (run b w (record { state = r; temps = T })) (l.by r T))));
+  by = λ s temps. then-statement (IsAround depth) (IsAround depth) (λ u p. p) a b w (m s) n (record { state = s; temps = temps }) temps (h.by s temps)
+      (λ T r kept. left-over (IsAround depth) (IsAround depth) temps T (λ u p. p) kept (n r) (run b w (record { state = r; temps = T })) (l.by r T));
 }
 
 -- an expression, and then a statement on its value, which code finds in value t
@@ -162,3 +170,77 @@ if-matches R t x y w m n s T h l =
     (act (instr.If t x y) w (record { state = s; temps = T })) (either (is_true (T t)) (run x.0.items w) (run y.0.items w) (record { state = s; temps = T }))
     refl (act-if t x y w (record { state = s; temps = T }))
     (either-matches R (is_true (T t)) m n (run x.0.items w) (run y.0.items w) s (record { state = s; temps = T }) h l)
+
+-- The code that instructions hold
+
+abbrev no_more : Step
+no_more = done Goes
+
+goes-alone : (x : Control Value) (d : Local) → then_go x no_more d ≡ Done x d
+goes-alone Goes d = refl
+goes-alone (Leaves k) d = refl
+goes-alone (Gives v) d = refl
+
+-- one instruction runs alone
+run-one : (i : Instr) (w : Around) (c : Local) → run (i ∷ []) w c ≡ act i w c
+run-one i w c = from-same (act i w c) (λ x. then_go x no_more) (λ x d. Done x d) goes-alone ∙ from-done (act i w c)
+
+one-matches : (P : Temp → Type 0) (i : Instr) (w : Around) (m : Outcome Ending State (Control Value)) (c : Local) (n : Outcome Ending Local (Control Value))
+    → act i w c ≡ n → Matches (LeftAlike P c.temps) EndsAlike m n → Matches (LeftAlike P c.temps) EndsAlike m (run (i ∷ []) w c)
+one-matches P i w m c n e h = matches-as (LeftAlike P c.temps) EndsAlike m m (run (i ∷ []) w c) n refl (run-one i w c ∙ e) h
+
+-- a choice by the value of an expression
+pub executes-choice : (a : List Instr) (x y : Code) (w : Around) (m : Act Value) (n o : Act (Control Value)) (t depth : ℕ)
+    → Computes a w m t → Executes x.0.items w n depth → Executes y.0.items w o depth
+    → Executes (a ++ instr.If (temp.Value t) x y ∷ []) w (λ s. from (m s) (λ v. either (is_true v) n o)) depth
+executes-choice a x y w m n o t depth h l r =
+    executes-value a (instr.If (temp.Value t) x y ∷ []) w m (λ v. either (is_true v) n o) t depth h
+    (λ T s. one-matches (IsAround depth) (instr.If (temp.Value t) x y) w (either (is_true (T (temp.Value t))) n o s) (record { state = s; temps = T })
+        (act (instr.If (temp.Value t) x y) w (record { state = s; temps = T })) refl
+        (if-matches (LeftAlike (IsAround depth) T) (temp.Value t) x y w n o s T (l.by s T) (r.by s T)))
+
+-- a block
+pub executes-block : (x : Code) (w : Around) (m : Act (Control Value)) (depth : ℕ) → Executes x.0.items w m depth → Executes (instr.Block x ∷ []) w (block m) depth
+executes-block x w m depth h = record {
+  by = λ s T. one-matches (IsAround depth) (instr.Block x) w (block m s) (record { state = s; temps = T }) (block (run x.0.items w) (record { state = s; temps = T }))
+      (act-block x w (record { state = s; temps = T }))
+      (matches-from (LeftAlike (IsAround depth) T) EndsAlike (LeftAlike (IsAround depth) T) (m s) (run x.0.items w (record { state = s; temps = T })) (λ y. done (out_of y)) (λ z. done (out_of z))
+      (h.by s T) (λ y r z c k. record { exit = ap out_of k.exit; state = k.state; kept = k.kept }));
+}
+
+after-round : (P : Temp → Type 0) (before : Temporaries) (f : Act (Control Value)) (g : Step) (y : Control Value) (s : State) (x : Control Value) (c : Local)
+    → LeftAlike P before y s x c → ((T : Temporaries) (r : State) → AreKept P before T → Matches (LeftAlike P before) EndsAlike (f r) (g (record { state = r; temps = T })))
+    → Matches (LeftAlike P before) EndsAlike (go_round y f s) (go_round x g c)
+after-round P before f g Goes s x c h next =
+    matches-as (LeftAlike P before) EndsAlike (f s) (f c.state) (go_round x g c) (g c) (ap f (sym h.state)) (ap (λ z. go_round z g c) h.exit) (next c.temps c.state h.kept)
+after-round P before f g (Leaves zero) s x c h next =
+    matches-as (LeftAlike P before) EndsAlike (Done Goes s) (Done Goes s) (go_round x g c) (Done Goes c) refl (ap (λ z. go_round z g c) h.exit) (record { exit = refl; state = h.state; kept = h.kept })
+after-round P before f g (Leaves (suc k)) s x c h next =
+    matches-as (LeftAlike P before) EndsAlike (Done (Leaves k) s) (Done (Leaves k) s) (go_round x g c) (Done (Leaves k) c) refl (ap (λ z. go_round z g c) h.exit)
+    (record { exit = refl; state = h.state; kept = h.kept })
+after-round P before f g (Gives v) s x c h next =
+    matches-as (LeftAlike P before) EndsAlike (Done (Gives v) s) (Done (Gives v) s) (go_round x g c) (Done (Gives v) c) refl (ap (λ z. go_round z g c) h.exit)
+    (record { exit = refl; state = h.state; kept = h.kept })
+
+-- rounds of a loop, each of which keeps what the one before it kept
+rounds-match : (P : Temp → Type 0) (m : Act (Control Value)) (g : Step) → ((s : State) (T : Temporaries) → Matches (LeftAlike P T) EndsAlike (m s) (g (record { state = s; temps = T })))
+    → (n : ℕ) (s : State) (T : Temporaries) → Matches (LeftAlike P T) EndsAlike (rounds Turns n m s) (rounds Turns n g (record { state = s; temps = T }))
+rounds-match P m g h zero s T = (refl, refl)
+rounds-match P m g h (suc n) s T =
+    matches-from (LeftAlike P T) EndsAlike (LeftAlike P T) (m s) (g (record { state = s; temps = T })) (λ y. go_round y (rounds Turns n m)) (λ x. go_round x (rounds Turns n g)) (h s T)
+    (λ y r x c k. after-round P T (rounds Turns n m) (rounds Turns n g) y r x c k
+        (λ U q kept. left-over P P T U (λ u p. p) kept (rounds Turns n m q) (rounds Turns n g (record { state = q; temps = U })) (rounds-match P m g h n q U)))
+
+turned : (P : Temp → Type 0) (T : Temporaries) (m : Act (Control Value)) (g : Step) (o : Outcome Ending State (Unit {0}))
+    → ((s : State) → Matches (LeftAlike P T) EndsAlike (m s) (g (record { state = s; temps = T }))) → Matches (LeftAlike P T) EndsAlike (from o (λ _. m)) (from (beside T o) (λ _. g))
+turned P T m g (Ended e s) h = (refl, refl)
+turned P T m g (Done a s) h = h s
+
+-- a loop
+pub executes-loop : (x : Code) (w : Around) (m : Act (Control Value)) (depth : ℕ) → Executes x.0.items w m depth
+    → Executes (instr.Loop x ∷ []) w (looped m) depth
+executes-loop x w m depth h = record {
+  by = λ s T. one-matches (IsAround depth) (instr.Loop x) w (looped m s) (record { state = s; temps = T }) (loop (run x.0.items w) (record { state = s; temps = T }))
+      (act-loop x w (record { state = s; temps = T }))
+      (rounds-match (IsAround depth) (turn >> m) (round_of (run x.0.items w)) (λ r U. turned (IsAround depth) U m (run x.0.items w) (turn r) (λ q. h.by q U)) s.turns s T);
+}

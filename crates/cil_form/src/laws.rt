@@ -22,7 +22,7 @@ ghost use Rattle.std.specs.List.{Contains};
 ghost use Rattle.cil_form.specs.declared.program.Function.{Function};
 ghost use Rattle.cil_form.specs.declared.program.Program.{Program};
 ghost use Rattle.cil_form.specs.Laws.{IsBelow, IsAround, CodeSpares, Keeps};
-ghost use Rattle.cil_form.specs.Computes.{EndsAlike, Held, LeftAlike, Computes, Executes};
+ghost use Rattle.cil_form.specs.Computes.{EndsAlike, Held, LeftAlike, Computes, Executes, looped};
 ghost use Rattle.cil_form.specs.Small.{at, shown, access};
 ghost use Rattle.cil_form.specs.Programs.{loop_program, loop_run, call_program, call_run, access_program, access_run, switch_program, switch_run};
 ghost use Rattle.cil_form.specs.Shape.{IsInShape, context_of, context_in};
@@ -76,6 +76,14 @@ pub fn code_after_code_executes()
     ensures statements { (a b : List Instr) (w : Around) (m n : Act (Control Value)) (depth : ℕ) → Executes a w m depth → Executes b w n depth → Executes (a ++ b) w (λ s. from (m s) (λ y. then_go y n)) depth }
     ensures expression { (a b : List Instr) (w : Around) (m : Act Value) (f : Value → Act (Control Value)) (t depth : ℕ) → Computes a w m t → ((T : Temporaries) (s : State) → Matches (LeftAlike (IsAround depth) T) EndsAlike (f (T (temp.Value t)) s) (run b w (record { state = s; temps = T }))) → Executes (a ++ b) w (λ s. from (m s) f) depth }
     ensures outside { (a : List Instr) (w : Around) (m : Act (Control Value)) (fewer depth : ℕ) → fewer ≤ depth → Executes a w m depth → Executes a w m fewer }
+{}
+
+/// An instruction that holds code which executes a statement executes a choice, a block or a loop of it. A loop keeps, from round to round, what
+/// the `switch` statements around it do.
+pub fn held_code_executes()
+    ensures choice { (a : List Instr) (x y : Code) (w : Around) (m : Act Value) (n o : Act (Control Value)) (t depth : ℕ) → Computes a w m t → Executes x.0.items w n depth → Executes y.0.items w o depth → Executes (a ++ If (temp.Value t) x y ∷ []) w (λ s. from (m s) (λ v. either (is_true v) n o)) depth }
+    ensures once { (x : Code) (w : Around) (m : Act (Control Value)) (depth : ℕ) → Executes x.0.items w m depth → Executes (Block x ∷ []) w (block m) depth }
+    ensures again { (x : Code) (w : Around) (m : Act (Control Value)) (depth : ℕ) → Executes x.0.items w m depth → Executes (Loop x ∷ []) w (looped m) depth }
 {}
 
 /// Code that is in shape stays so where more is known of the temporaries before it, and where less is kept behind it.

@@ -144,7 +144,7 @@ pub executes-value : (a b : List Instr) (w : Around) (m : Act Value) (f : Value 
 executes-value a b w m f t depth h next = record {
   by = λ s temps. then-code (LeftAlike (IsAround depth) temps) a b w (temp.Value t) (IsBelow t) (m s) (record { state = s; temps = temps }) temps f (h.by s temps)
       (λ T r kept. left-over (IsAround depth) (IsAround depth) temps T (λ u p. p) (kept-around t depth temps T kept) (f (T (temp.Value t)) r)
-          (run b w (record { state = r; temps = T })) (next T r));
+      (run b w (record { state = r; temps = T })) (next T r));
 }
 
 -- the code of a statement inside more `switch` statements keeps what fewer do
@@ -196,8 +196,8 @@ pub executes-choice : (a : List Instr) (x y : Code) (w : Around) (m : Act Value)
 executes-choice a x y w m n o t depth h l r =
     executes-value a (instr.If (temp.Value t) x y ∷ []) w m (λ v. either (is_true v) n o) t depth h
     (λ T s. one-matches (IsAround depth) (instr.If (temp.Value t) x y) w (either (is_true (T (temp.Value t))) n o s) (record { state = s; temps = T })
-        (act (instr.If (temp.Value t) x y) w (record { state = s; temps = T })) refl
-        (if-matches (LeftAlike (IsAround depth) T) (temp.Value t) x y w n o s T (l.by s T) (r.by s T)))
+    (act (instr.If (temp.Value t) x y) w (record { state = s; temps = T })) refl
+    (if-matches (LeftAlike (IsAround depth) T) (temp.Value t) x y w n o s T (l.by s T) (r.by s T)))
 
 -- a block
 pub executes-block : (x : Code) (w : Around) (m : Act (Control Value)) (depth : ℕ) → Executes x.0.items w m depth → Executes (instr.Block x ∷ []) w (block m) depth
@@ -229,7 +229,7 @@ rounds-match P m g h zero s T = (refl, refl)
 rounds-match P m g h (suc n) s T =
     matches-from (LeftAlike P T) EndsAlike (LeftAlike P T) (m s) (g (record { state = s; temps = T })) (λ y. go_round y (rounds Turns n m)) (λ x. go_round x (rounds Turns n g)) (h s T)
     (λ y r x c k. after-round P T (rounds Turns n m) (rounds Turns n g) y r x c k
-        (λ U q kept. left-over P P T U (λ u p. p) kept (rounds Turns n m q) (rounds Turns n g (record { state = q; temps = U })) (rounds-match P m g h n q U)))
+    (λ U q kept. left-over P P T U (λ u p. p) kept (rounds Turns n m q) (rounds Turns n g (record { state = q; temps = U })) (rounds-match P m g h n q U)))
 
 turned : (P : Temp → Type 0) (T : Temporaries) (m : Act (Control Value)) (g : Step) (o : Outcome Ending State (Unit {0}))
     → ((s : State) → Matches (LeftAlike P T) EndsAlike (m s) (g (record { state = s; temps = T }))) → Matches (LeftAlike P T) EndsAlike (from o (λ _. m)) (from (beside T o) (λ _. g))

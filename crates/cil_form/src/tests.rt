@@ -48,3 +48,10 @@ fn a_program_tells_its_nodes_and_its_types(rt: HostRuntime) -> Result<(), Fail> 
     assert_eq!(rt; cil.program().main_place.col, 5);
     Ok(())
 }
+
+#[test]
+fn temporaries_of_different_sorts_are_different(rt: HostRuntime) {
+    assert_ne!(rt; Temp::Value(0), Temp::Switch(0));
+    assert_ne!(rt; Temp::Work(Work::First), Temp::Work(Work::Second));
+    assert_eq!(rt; Temp::Value(255), Temp::Value(255));
+}

@@ -1,5 +1,5 @@
 -- Code that does what the source does, put together from its parts.
-use Rattle.std.proofs.Common.{ℕ, zero, suc, ◌<◌, ◌≤◌, ◌≡◌, refl, ap, ◌∙◌, sym, Bool, true, false, List, [], ◌∷◌, ◌++◌, arith}
+use Rattle.std.proofs.Common.{ℕ, zero, suc, ◌≤◌, ◌≡◌, refl, ap, ◌∙◌, sym, Bool, true, false, List, [], ◌∷◌, ◌++◌, arith}
 use Rattle.runs.specs.Outcome.{Outcome, Ended, Done, done, from, either, Matches, ◌>>◌}
 use Rattle.runs.specs.Control.{Control, Goes, Leaves, Gives, then_go, out_of, block, go_round, rounds}
 use Rattle.runs.proofs.RunLaws.{from-done, from-same, matches-from, matches-as, matches-weaker}

@@ -1,5 +1,5 @@
 -- How many values are held: what is known is of temporaries that there are, and of values there are 256.
-use Rattle.std.proofs.Common.{ℕ, zero, suc, ◌<◌, ◌≤◌, ◌≡◌, refl, sym, subst, Bool, true, false, List, [], ◌∷◌, ◌++◌, length, All, nat_eq, if◌then◌else◌, Option, Some, None, IsSome, arith}
+use Rattle.std.proofs.Common.{ℕ, zero, suc, ◌<◌, ◌≤◌, ◌≡◌, refl, sym, subst, Bool, true, false, List, [], ◌∷◌, ◌++◌, length, nat_eq, if◌then◌else◌, Option, Some, None, IsSome, arith}
 use Rattle.std.specs.List.{IsDistinct, AllByRecursion}
 use Rattle.std.proofs.lemmas.Bool.Decides.{nat_tests}
 use Rattle.std.proofs.lemmas.List.Elements.{recursion_from_All}
@@ -21,10 +21,11 @@ use Rattle.cil_form.specs.declared.instr.RuntimeCall.{RuntimeCall}
 use Rattle.cil_form.specs.declared.instr.RuntimeCall.TheVariants as runtime
 use Rattle.cil_form.specs.declared.instr.Instr.{Instr, Row_of-Instr, end_of-Instr, more_of-Instr}
 use Rattle.cil_form.specs.declared.instr.Instr.TheVariants as instr
+use Rattle.cil_form.specs.declared.instr.Code.{Code}
 use Rattle.cil_form.specs.State.{is_same}
-use Rattle.cil_form.specs.Typing.{values_limit, HeldType, Typing, Context, Includes, IsTemp, LivesAcrossStatements, IsBetweenStatements, AreTemps, HoldsAtMost, Leaves, Passes, IsShapedSet, IsShapedCalculate, IsShapedPoint, IsShapedConvert, IsShapedAccess, IsShapedAllocate, IsShapedRuntime, IsShaped, IsRowShaped, AreShaped}
+use Rattle.cil_form.specs.Typing.{values_limit, HeldType, Typing, no_types, Context, Includes, IsTemp, IsBetweenStatements, AreTemps, HoldsAtMost, Leaves, Passes, inside, IsShapedSet, IsShapedCalculate, IsShapedPoint, IsShapedConvert, IsShapedAccess, IsShapedAllocate, IsShapedRuntime, IsShaped, IsRowShaped, AreShaped}
 use Rattle.cil_form.proofs.KeepLaws.{temp-one}
-use Rattle.cil_form.proofs.TypingLaws.{includes-all}
+use Rattle.cil_form.proofs.TypingLaws.{includes-all, shaped-held}
 
 -- Different numbers below a limit are no more than the limit
 
@@ -192,3 +193,19 @@ known-at [] js k types after h l = (types, includes-all types, l, h, temps-hold 
 known-at (i ∷ is) js k types after h l =
     let rest = known-at is js k l.0 after (instr-temps i k types l.0 h l.1) l.2 in
     (rest.0, (l.0, l.1, rest.1), rest.2, rest.3, rest.4)
+
+pub none-temps : AreTemps no_types
+none-temps = λ t x e. absurd (cc (e))
+
+-- both sides of an `if` begin with what is known before it
+pub if-sides : (t : Temp) (x y : Code) (k : Context) (types after : Typing) → IsShaped (instr.If t x y) k types after → AreShaped x.0.items k types after × AreShaped y.0.items k types after
+if-sides t x y k types after h = (shaped-held x k types after h.1, shaped-held y k types after h.2)
+
+-- blocks and loops begin with their entries, where no value is held
+pub block-entry : (x : Code) (k : Context) (types after : Typing) → AreTemps types → IsShaped (instr.Block x) k types after
+    → (entry : Typing) × AreShaped x.0.items (inside k entry) entry entry × AreTemps entry × HoldsAtMost 0 entry
+block-entry x k types after h l = (l.0, shaped-held x (inside k l.0) l.0 l.0 l.2, entry-temps types l.0 k after h l.1, between-hold l.0 l.1.between)
+
+pub loop-entry : (x : Code) (k : Context) (types after : Typing) → AreTemps types → IsShaped (instr.Loop x) k types after
+    → (entry : Typing) × AreShaped x.0.items (inside k entry) entry entry × AreTemps entry × HoldsAtMost 0 entry
+loop-entry x k types after h l = (l.0, shaped-held x (inside k l.0) l.0 l.0 l.2, entry-temps types l.0 k after h l.1, between-hold l.0 l.1.between)

@@ -1,6 +1,6 @@
 -- The sites of a program in three-address code: what its pointer types, its objects and its instructions ask of the kinds of the
 -- nodes, and what no instruction shows.
-use Rattle.std.specs.Prelude.{◌≡◌, ◌⊎◌, ℕ, Some, List, [], ◌∷◌, ◌++◌, flat_map, map}
+use Rattle.std.specs.Prelude.{◌≡◌, ◌⊎◌, Some, List, [], ◌∷◌, ◌++◌, flat_map, map}
 use Rattle.std.specs.List.{Contains}
 use Rattle.cc_base.specs.declared.kind.Kind.{Kind}
 use Rattle.cc_base.specs.declared.number.NodeId.{NodeId}

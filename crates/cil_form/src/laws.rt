@@ -15,7 +15,7 @@ ghost use Rattle.cil_form.specs.declared.instr.Instr.TheVariants.{If, Block, Loo
 ghost use Rattle.cil_form.specs.declared.instr.Code.{Code};
 ghost use Rattle.cil_form.specs.State.{Temporaries, Local, Step, Around, gives_to};
 ghost use Rattle.cil_form.specs.Meaning.{act, run, round_of, loop};
-ghost use Rattle.cil_form.specs.Typing.{Typing, Context, Includes, AreTemps, HoldsAtMost, HoldsScalar, Passes, inside, IsShaped, AreShaped};
+ghost use Rattle.cil_form.specs.Typing.{Typing, no_types, Context, Includes, AreTemps, HoldsAtMost, HoldsScalar, Passes, inside, IsShaped, AreShaped};
 ghost use Rattle.c_types.specs.declared.site.Site.{Site};
 ghost use Rattle.cil_form.specs.Sites.{TellsOf, Shows, AreAsked, sites_of_code, sites_in};
 ghost use Rattle.std.specs.List.{Contains};
@@ -92,11 +92,14 @@ pub fn more_may_be_known()
     ensures behind { (is : List Instr) (k : Context) (types after less : Typing) → AreShaped is k types after → Includes after less → AreShaped is k types less }
 {}
 
-/// Wherever code in shape has come to, what is known is of temporaries that there are, and at most 256 values are held. Where blocks and loops
-/// begin and are left none is held.
+/// Wherever code in shape has come to, what is known is of temporaries that there are, and at most 256 values are held. So it is where the code
+/// of a function begins, at each point of the code behind, on both sides of an `if`, and inside blocks and loops, which begin with none held.
 pub fn at_most_256_values_are_held()
-    ensures anywhere { (is js : List Instr) (k : Context) (types after : Typing) → AreTemps types → AreShaped (is ++ js) k types after → (middle : Typing) × AreShaped is k types middle × AreShaped js k middle after × AreTemps middle × HoldsAtMost 256 middle }
-    ensures blocks { (k : Context) (types entry after : Typing) → AreTemps types → Passes types entry k after → AreTemps entry × HoldsAtMost 0 entry }
+    ensures begins { AreTemps no_types }
+    ensures behind { (is js : List Instr) (k : Context) (types after : Typing) → AreTemps types → AreShaped (is ++ js) k types after → (middle : Typing) × AreShaped is k types middle × AreShaped js k middle after × AreTemps middle × HoldsAtMost 256 middle }
+    ensures sides { (t : Temp) (x y : Code) (k : Context) (types after : Typing) → IsShaped (If t x y) k types after → AreShaped x.0.items k types after × AreShaped y.0.items k types after }
+    ensures blocks { (x : Code) (k : Context) (types after : Typing) → AreTemps types → IsShaped (Block x) k types after → (entry : Typing) × AreShaped x.0.items (inside k entry) entry entry × AreTemps entry × HoldsAtMost 0 entry }
+    ensures loops { (x : Code) (k : Context) (types after : Typing) → AreTemps types → IsShaped (Loop x) k types after → (entry : Typing) × AreShaped x.0.items (inside k entry) entry entry × AreTemps entry × HoldsAtMost 0 entry }
 {}
 
 /// Code after code is in shape where what the first leaves is what the second begins with.

@@ -1,8 +1,17 @@
-use Rattle.cil_form.proofs.HeldLaws.{known-at, entry-temps, between-hold}
+use Rattle.cil_form.proofs.HeldLaws.{none-temps, known-at, if-sides, block-entry, loop-entry}
 use Rattle.cil_form.proofs.laws.at_most_256_values_are_held.Goals as goal
 
-pub returns-clause-anywhere : goal.returns-clause-anywhere
-returns-clause-anywhere c = known-at
+pub returns-clause-begins : goal.returns-clause-begins
+returns-clause-begins c = none-temps
+
+pub returns-clause-behind : goal.returns-clause-behind
+returns-clause-behind c = known-at
+
+pub returns-clause-sides : goal.returns-clause-sides
+returns-clause-sides c = if-sides
 
 pub returns-clause-blocks : goal.returns-clause-blocks
-returns-clause-blocks c k types entry after h l = (entry-temps types entry k after h l, between-hold entry l.between)
+returns-clause-blocks c = block-entry
+
+pub returns-clause-loops : goal.returns-clause-loops
+returns-clause-loops c = loop-entry

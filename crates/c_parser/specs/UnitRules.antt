@@ -25,7 +25,7 @@ function_body unit specifiers x (suc d) = do
 unfoldable pub after_declarator : (d : ℕ) → tree.TranslationUnit → tree.Specifiers → tree.Declarator → Option Place → Parser Symbol tree.TranslationUnit
 after_declarator d unit specifiers x (Some brace) = function_body unit specifiers x d
 after_declarator d unit specifiers x None = do
-  first ← by_first equals_sign (with_initialiser (type_names unit) (has_typedef specifiers) d tree.NoInitDeclarator x)
+  first ← by_first equals_sign (with_initialiser (names_after (has_typedef specifiers) (type_names unit) x) d tree.NoInitDeclarator x)
   declarators ← declarators_from (type_names unit) (has_typedef specifiers) d first
   expect is_semicolon
   pure (tree.AndExternal unit (tree.Declare specifiers declarators))

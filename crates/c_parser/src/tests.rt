@@ -48,13 +48,13 @@ fn is_too_deep_between(answer: Result<Unit, Fault>, first: u32, last: u32) -> bo
 #[test]
 fn programs_are_units(rt: HostRuntime) -> Result<(), Fail> {
     for (text, count) in &PROGRAMS {
-        assert!(has_externals(parsed(rt.alloc(), text), *count));
+        assert!(rt; has_externals(parsed(rt.alloc(), text), *count));
     }
     Ok(())
 }
 
 /// Texts of one line, the rule that refuses each, and the column at which it does.
-const REFUSALS: [(&[u8], Rule, u32); 38] = [
+const REFUSALS: [(&[u8], Rule, u32); 39] = [
     (b"int main(void){return 1", Rule::Syntax, 24),
     (b"long long x;", Rule::Unsupported, 6),
     (b"struct S{int a:3;};", Rule::Unsupported, 15),
@@ -95,6 +95,7 @@ const REFUSALS: [(&[u8], Rule, u32); 38] = [
     (b"int f(void){typedef int T;}", Rule::Syntax, 13),
     (b"typedef int T;int f(void){T=1;}", Rule::Syntax, 28),
     (b"typedef int T;int *T;", Rule::Syntax, 20),
+    (b"typedef int T;struct S{int T;};", Rule::Syntax, 29),
     (b"typedef int T=T;", Rule::Syntax, 15),
     (b"typedef int T,x=T;", Rule::Syntax, 17),
 ];
@@ -104,7 +105,7 @@ fn other_texts_are_refused_at_the_first_token_with_which_no_unit_begins(
     rt: HostRuntime,
 ) -> Result<(), Fail> {
     for (text, rule, col) in &REFUSALS {
-        assert!(is_refused(parsed(rt.alloc(), text), *rule, 1, *col));
+        assert!(rt; is_refused(parsed(rt.alloc(), text), *rule, 1, *col));
     }
     Ok(())
 }
@@ -157,7 +158,7 @@ fn is_front_answered(alloc: Global, count: usize) -> Result<bool, Fault> {
 #[test]
 fn each_front_of_a_unit_goes_on(rt: HostRuntime) -> Result<(), Fail> {
     for count in 0..41 {
-        assert!(is_front_answered(rt.alloc(), count) == Ok(true));
+        assert!(rt; is_front_answered(rt.alloc(), count) == Ok(true));
     }
     Ok(())
 }
@@ -175,13 +176,12 @@ fn first_statement(unit: &Unit) -> Option<&Statement> {
 
 #[test]
 fn an_else_belongs_to_the_nearest_if(rt: HostRuntime) -> Result<(), Fail> {
-    let Ok(unit) = parsed(rt.alloc(), b"int f(int x){if(x)if(x+1);else;}") else {
-        return Err(Fail);
+    let unit = parsed(rt.alloc(), b"int f(int x){if(x)if(x+1);else;}")?;
+    let first = first_statement(&unit).ok_or("no statement")?;
+    let Statement::If(_, _, _, inner) = first else {
+        return Err("an if with an else".into());
     };
-    let Some(Statement::If(_, _, _, inner)) = first_statement(&unit) else {
-        return Err(Fail);
-    };
-    assert!(matches!(inner.get(), Statement::IfElse(_, _, _, _, _)));
+    assert!(rt; matches!(inner.get(), Statement::IfElse(_, _, _, _, _)));
     Ok(())
 }
 
@@ -204,12 +204,12 @@ fn what_lies_too_deep_is_refused_at_a_token_that_does(rt: HostRuntime) -> Result
     let alloc = rt.alloc();
     // The 254th parenthesis is the first one too deep: above it are the block, the statement and 253 others.
     let text = text_with_many(alloc, b"int main(void){return ", b'(', 300)?;
-    assert!(is_too_deep_between(parsed(alloc, &text), 276, 322));
+    assert!(rt; is_too_deep_between(parsed(alloc, &text), 276, 322));
     let text = text_with_many(alloc, b"int main(void){return ", b'(', 100_000)?;
-    assert!(is_too_deep_between(parsed(alloc, &text), 276, 100_022));
+    assert!(rt; is_too_deep_between(parsed(alloc, &text), 276, 100_022));
     let text = text_with_many(alloc, b"int main(void){return ", b'~', 100_000)?;
-    assert!(is_too_deep_between(parsed(alloc, &text), 276, 100_022));
+    assert!(rt; is_too_deep_between(parsed(alloc, &text), 276, 100_022));
     let text = text_with_many(alloc, b"int main(void)", b'{', 100_000)?;
-    assert!(is_too_deep_between(parsed(alloc, &text), 271, 100_014));
+    assert!(rt; is_too_deep_between(parsed(alloc, &text), 271, 100_014));
     Ok(())
 }

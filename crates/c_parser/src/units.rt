@@ -56,7 +56,7 @@ pub fn parse_unit(alloc: Global, text: &[u8], toks: &[Token<'_>]) -> Result<Unit
     ensures accepts { (unit : TranslationUnit) → SpellsUnit Supported unit (map symbol_of toks.now) → unit_height unit ≤ 256
         → IsOkAnd result (λ u. unit_view u ≡ unit) ⊎ (result ≡ Err Fault.NoMemory) }
 {
-    let mut cursor = Cursor::new(toks);
+    let mut cursor = Cursor::new(&toks[..]);
     match read_unit(alloc, 256, &mut cursor) {
         Ok(unit) => Ok(unit),
         Err(stop) => Err(fault_of(text, toks, &cursor, stop)),

@@ -109,7 +109,7 @@ pub const PROGRAMS: [(&[u8], usize); 31] = [
     // A typedef's name is a type from the end of its declarator on, and no sooner.
     (b"typedef int T,*U;T x;int f(T n){return (T)n;}", 3),
     (b"typedef int T[sizeof(T)];", 1),
-    (b"typedef int T;struct T{int T;};int g(struct T *p){return p->T;}", 3),
+    (b"typedef int T;struct T{int t;};int g(struct T *p){return p->T;}", 3),
     // Such a name is no more than a type word, which the rules of types refuse here.
     (b"typedef int T;int T;", 2),
     // A definition has any declarator.

@@ -16,4 +16,5 @@ pub mod NameInsertion
 pub mod UnitCall
 pub mod StatementNodes
 pub mod ForLaws
+pub mod DeclarationRest
 pub mod Examples

@@ -1,7 +1,7 @@
 //! Declarations and functions at file scope, where the names of types are declared (C99 6.9).
-ghost use Rattle.std.specs.Prelude.{◌≡◌, [], IfOk, OnOk};
+ghost use Rattle.std.specs.Prelude.{◌≡◌, [], IfOk, None, OnOk};
 ghost use Rattle.std.specs.List.{list_any};
-ghost use Rattle.parse_rules.specs.Parsers.{by_first, loop, ◌>>=◌};
+ghost use Rattle.parse_rules.specs.Parsers.{by_first, loop};
 ghost use Rattle.c_tree.specs.Grammar as grammar;
 ghost use Rattle.c_tree.specs.Grammar.{declared_name, names_after, names_after_all, type_names};
 ghost use Rattle.c_tree.specs.Tree as tree;
@@ -141,7 +141,7 @@ fn declarator_after_comma(
 }
 
 /// The declarators of a declaration, of which the first was read.
-#[tactic(auto, unfolding(crate::specs::DeclarationRules::declarators_from))]
+#[tactic(auto, unfolding(crate::specs::UnitRules::declarators_after, crate::specs::DeclarationRules::declarators_from))]
 fn declarators(
     alloc: Global,
     names: &mut IndexSet<Vec<u8>>,
@@ -151,7 +151,7 @@ fn declarators(
     declarator: Declarator,
 ) -> Result<Items<InitDeclarator>, Stop>
     requires { IsNew (names_of names.old) (declared_name (declarator_view declarator)) }
-    ensures reads { Reads init_declarators_seen ((by_first tests.equals_sign (declarations.with_initialiser (names_after is_typedef (names_of names.old) (declarator_view declarator)) depth tree.NoInitDeclarator (declarator_view declarator)) >>= declarations.declarators_from (names_of names.old) is_typedef depth) cursor.old) result cursor.new }
+    ensures reads { Reads init_declarators_seen (spec.declarators_after (names_of names.old) is_typedef depth (declarator_view declarator) cursor.old) result cursor.new }
     ensures names { IfOk result (λ list. names_of names.new ≡ names_after_all is_typedef (names_of names.old) (init_declarators_seen list)) }
 {
     let none = Items::new(alloc);
@@ -169,15 +169,15 @@ fn declarators(
 /// The body of a function, which is a node. The function's name is declared before it.
 #[tactic(auto, using(c_tree::proofs::PushLaws::pushes, crate::proofs::StatementNodes::body_deeper, crate::proofs::StatementNodes::body_too_deep))]
 fn function_body(
-    reader: Reader<'_>,
+    reader: &Reader<'_>,
     cursor: &mut Cursor<'_>,
     mut unit: Items<External>,
     specifiers: Specifiers,
     declarator: Declarator,
 ) -> Result<Items<External>, Stop>
-    requires { names_of reader.names.now ≡ names_after (words.has_typedef (specifiers_view specifiers)) (type_names (unit_seen unit)) (declarator_view declarator) }
-    ensures reads { Reads unit_seen (spec.function_body (unit_seen unit) (specifiers_view specifiers) (declarator_view declarator) reader.depth cursor.old) result cursor.new }
-    ensures names { IfOk result (λ u. names_of reader.names.now ≡ type_names (unit_seen u)) }
+    requires { names_of reader.now.names.now ≡ names_after (words.has_typedef (specifiers_view specifiers)) (type_names (unit_seen unit)) (declarator_view declarator) }
+    ensures reads { Reads unit_seen (spec.function_body (unit_seen unit) (specifiers_view specifiers) (declarator_view declarator) reader.now.depth cursor.old) result cursor.new }
+    ensures names { IfOk result (λ u. names_of reader.now.names.now ≡ type_names (unit_seen u)) }
 {
     if reader.depth == 0 {
         return Err(too_deep(open_brace(cursor.peek()).is_some()));
@@ -202,9 +202,35 @@ fn function_body(
     Ok(unit)
 }
 
-/// What stands after specifiers and a declarator: the body of a function, or the rest of a declaration.
-#[tactic(auto, using(c_tree::proofs::PushLaws::pushes), unfolding(crate::specs::UnitRules::after_declarator))]
-fn after_declarator(
+/// A function from its body on. Its name is declared before the body.
+fn function(
+    alloc: Global,
+    names: &mut IndexSet<Vec<u8>>,
+    depth: u16,
+    cursor: &mut Cursor<'_>,
+    unit: Items<External>,
+    specifiers: Specifiers,
+    declarator: Declarator,
+) -> Result<Items<External>, Stop>
+    requires names { names_of names.old ≡ type_names (unit_seen unit) }
+    requires new { IsNew (names_of names.old) (declared_name (declarator_view declarator)) }
+    ensures reads { Reads unit_seen (spec.function_body (unit_seen unit) (specifiers_view specifiers) (declarator_view declarator) depth cursor.old) result cursor.new }
+    ensures names { IfOk result (λ u. names_of names.new ≡ type_names (unit_seen u)) }
+{
+    if declare(alloc, names, has_typedef(&specifiers), &declarator).is_err() {
+        return Err(Stop::NoMemory);
+    }
+    let reader = Reader {
+        alloc,
+        names: &*names,
+        depth,
+    };
+    function_body(&reader, cursor, unit, specifiers, declarator)
+}
+
+/// A declaration from what follows its first declarator on.
+#[tactic(auto, using(c_tree::proofs::PushLaws::pushes, crate::proofs::DeclarationRest::plain_declaration))]
+fn rest_of_declaration(
     alloc: Global,
     names: &mut IndexSet<Vec<u8>>,
     depth: u16,
@@ -215,21 +241,10 @@ fn after_declarator(
 ) -> Result<Items<External>, Stop>
     requires names { names_of names.old ≡ type_names (unit_seen unit) }
     requires new { IsNew (names_of names.old) (declared_name (declarator_view declarator)) }
-    ensures reads { Reads unit_seen (by_first tests.open_brace (spec.after_declarator depth (unit_seen unit) (specifiers_view specifiers) (declarator_view declarator)) cursor.old) result cursor.new }
+    ensures reads { Reads unit_seen (spec.after_declarator depth (unit_seen unit) (specifiers_view specifiers) (declarator_view declarator) None cursor.old) result cursor.new }
     ensures names { IfOk result (λ u. names_of names.new ≡ type_names (unit_seen u)) }
 {
     let is_typedef = has_typedef(&specifiers);
-    if open_brace(cursor.peek()).is_some() {
-        if declare(alloc, names, is_typedef, &declarator).is_err() {
-            return Err(Stop::NoMemory);
-        }
-        let reader = Reader {
-            alloc,
-            names: &*names,
-            depth,
-        };
-        return function_body(reader, cursor, unit, specifiers, declarator);
-    }
     let declarators = declarators(alloc, names, depth, is_typedef, cursor, declarator)?;
     expect_semicolon(cursor)?;
     unit.push(External::Declaration(Declaration {
@@ -237,6 +252,28 @@ fn after_declarator(
         declarators,
     }))?;
     Ok(unit)
+}
+
+/// What stands after specifiers and a declarator: the body of a function, or the rest of a declaration.
+#[tactic(auto, unfolding(crate::specs::UnitRules::after_declarator))]
+fn after_declarator(
+    alloc: Global,
+    names: &mut IndexSet<Vec<u8>>,
+    depth: u16,
+    cursor: &mut Cursor<'_>,
+    unit: Items<External>,
+    specifiers: Specifiers,
+    declarator: Declarator,
+) -> Result<Items<External>, Stop>
+    requires names { names_of names.old ≡ type_names (unit_seen unit) }
+    requires new { IsNew (names_of names.old) (declared_name (declarator_view declarator)) }
+    ensures reads { Reads unit_seen (by_first tests.open_brace (spec.after_declarator depth (unit_seen unit) (specifiers_view specifiers) (declarator_view declarator)) cursor.old) result cursor.new }
+    ensures names { IfOk result (λ u. names_of names.new ≡ type_names (unit_seen u)) }
+{
+    match open_brace(cursor.peek()) {
+        Some(_) => function(alloc, names, depth, cursor, unit, specifiers, declarator),
+        None => rest_of_declaration(alloc, names, depth, cursor, unit, specifiers, declarator),
+    }
 }
 
 /// A declaration or a function.

@@ -49,7 +49,6 @@ fn any_typedef(list: &[Specifier]) -> bool
 }
 
 /// Whether the declaration declares types.
-#[tactic(auto, using(c_tree::proofs::ViewLaws::expr_views, crate::proofs::TypedefFlag::any_is_typedef))]
 fn has_typedef(specifiers: &Specifiers) -> bool
     ensures { result ≡ words.has_typedef (specifiers_view specifiers.now) }
 {

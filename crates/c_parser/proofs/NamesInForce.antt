@@ -1,13 +1,13 @@
 -- Which typedef names are in force after declarations.
-use Rattle.std.proofs.Common.{◌≡◌, ◌≢◌, ℕ, Bool, true, false, ◌||◌, List, Option, Some, None, Result, Ok, Err, IfOk, refl, sym, subst, ap, ◌∙◌}
-use Rattle.parse_rules.specs.Parsers.{Answer, Read}
+use Rattle.std.proofs.Common.{◌≡◌, ℕ, true, false, List, Result, Ok, Err, IfOk, refl, subst}
+use Rattle.parse_rules.specs.Parsers.{Read}
 use Rattle.parse_rules.specs.Grammars.{Language}
 use Rattle.c_lexer.specs.declared.word.Keyword.{Keyword}
 use Rattle.c_lexer.specs.declared.word.Keyword.TheVariants as keyword
 use Rattle.c_tree.specs.Grammar.{WithName, AreSpecifiers, IsDeclarator, IsCore, declared_name, core_name, names_after_all}
 use Rattle.c_tree.specs.Symbols.{Symbol}
 use Rattle.c_tree.specs.Tree as tree
-use Rattle.c_tree.specs.Words.{TypeNames, InBlock, has_typedef, is_type_name, is_typedef, is_typedef_word, may_specify}
+use Rattle.c_tree.specs.Words.{TypeNames, InBlock, has_typedef, is_typedef, is_typedef_word, may_specify}
 use Rattle.c_expr_parse.specs.Answers.{SpecifiersAnswered, DeclaratorAnswered}
 use Rattle.c_expr_parse.specs.Rules.{rules}
 use Rattle.c_expr_parse.specs.Seen.{Reads}

@@ -1,12 +1,12 @@
 -- From what the rule for units answers to the symbols, to what the call says of a text.
-use Rattle.std.proofs.Common.{◌≡◌, ◌≢◌, ℕ, ◌+◌, ◌-◌, ◌≤◌, List, [], ◌∷◌, ◌++◌, length, map, take, drop, refl, sym, ap, ◌∙◌, subst, length-append, append-nil, append_assoc, arith}
+use Rattle.std.proofs.Common.{◌≡◌, ◌≢◌, ℕ, ◌+◌, ◌-◌, ◌≤◌, List, [], ◌∷◌, ◌++◌, length, map, take, drop, refl, sym, ap, ◌∙◌, subst, length-append, append_assoc, arith}
 use Rattle.std.proofs.lemmas.List.{length-map, drop-map, take-append-drop}
 use Rattle.std.proofs.lemmas.List.Prefix.{front_rest}
 use Rattle.cc_base.specs.declared.fault.Fault.{Fault}
 use Rattle.cc_base.specs.declared.place.Place.{Place}
 use Rattle.cc_base.specs.declared.fault.Fault.TheVariants.{NoMemory}
 use Rattle.parse_rules.specs.Parsers.{Answer, Read, Stopped, Reason, Syntax, Unsupported, Deep}
-use Rattle.parse_rules.specs.Grammars.{Language, Supported, Each, CanBegin}
+use Rattle.parse_rules.specs.Grammars.{Supported, Each, CanBegin}
 use Rattle.parse_rules.specs.Promises.{EndsBefore}
 use Rattle.c_lexer.specs.Cut.{Piece, Blank, BlockComment, LineComment, LineMarker, Spelled, AllStand, tokens_of, IsCut, piece_bytes, place_after}
 use Rattle.c_lexer.specs.Tokens.{Token}

@@ -1,5 +1,5 @@
 -- How the code sees what the next token begins, and its lists as the plain tree has them.
-use Rattle.std.specs.Prelude.{ℕ, List, map, Option, option_map}
+use Rattle.std.specs.Prelude.{List, map, Option, option_map}
 use Rattle.cc_base.specs.declared.place.Place.{Place}
 use Rattle.c_tree.specs.StatementViews.{declaration_view, external_view, init_declarator_view}
 use Rattle.c_tree.specs.Tree as tree

@@ -126,7 +126,10 @@ impl<
         requires { NestsStatements self.now.reader.names.now self.now.reader.depth (S.pre self.now.read_inner) (S.post self.now.read_inner) }
         ensures { Reads block_view (spec.unlabelled (names_of self.now.reader.names.now) self.now.reader.depth (spec.statement (names_of self.now.reader.names.now) self.now.reader.depth) (block_view items) cursor.old) result cursor.new }
     {
-        if self.reader.begins_declaration(items.as_slice(), cursor.peek()) {
+        if self
+            .reader
+            .begins_declaration(items.as_slice(), cursor.peek())
+        {
             self.reader.next_declaration(cursor, items)
         } else {
             self.next_statement(cursor, items)
@@ -157,7 +160,10 @@ impl<
     {
         let mut items = Items::new(self.reader.alloc);
         for _turn in 0..cursor.left() {
-            if !self.reader.begins_item(has_labels, items.as_slice(), cursor.peek()) {
+            if !self
+                .reader
+                .begins_item(has_labels, items.as_slice(), cursor.peek())
+            {
                 return Ok(items);
             }
             items = self.next_item(cursor, has_labels, items)?;

@@ -13,9 +13,7 @@ ghost use Rattle.c_parser.specs.Seen.{init_declarators_seen};
 
 use crate::reader::Reader;
 use crate::tokens::expect_semicolon;
-use c_expr_parse::{
-    Cursor, Naming, Scope, Stop, begins_declarator, equals_sign, is_comma,
-};
+use c_expr_parse::{Cursor, Naming, Scope, Stop, begins_declarator, equals_sign, is_comma};
 use c_tree::{Declaration, Declarator, InitDeclarator, Items, Specifiers};
 
 impl<'a> Reader<'a> {

@@ -44,13 +44,7 @@ impl<'a> Reader<'a> {
     pub fn declarator(&self, cursor: &mut Cursor<'_>) -> Result<Declarator, Stop>
         ensures { Reads declarator_view ((rules (names_of self.now.names.now) self.now.depth).declarator (naming_view Naming.WithName) cursor.old) result cursor.new }
     {
-        let part = read_declarator(
-            self.alloc,
-            self.names,
-            cursor,
-            self.depth,
-            Naming::WithName,
-        )?;
+        let part = read_declarator(self.alloc, self.names, cursor, self.depth, Naming::WithName)?;
         Ok(part.tree)
     }
 

@@ -10,9 +10,7 @@ ghost use Rattle.c_parser.specs.Tests as tests;
 
 use crate::lookahead::{StatementStart, begins_statement, is_else, statement_start, while_word};
 use crate::reader::Reader;
-use crate::tokens::{
-    expect_close_brace, expect_semicolon, take, take_open_brace, take_open_paren,
-};
+use crate::tokens::{expect_close_brace, expect_semicolon, take, take_open_brace, take_open_paren};
 use c_expr_parse::{Cursor, Scope, Stop, begins_specifier, too_deep};
 use c_tree::{Boxed, Declaration, Expr, Statement};
 use cc_base::Place;
@@ -173,12 +171,7 @@ impl<
     }
 
     #[tactic(auto, unfolding(crate::specs::StatementRules::for_expr))]
-    fn for_expr(
-        &self,
-        cursor: &mut Cursor<'_>,
-        at: Place,
-        paren: Place,
-    ) -> Result<Statement, Stop>
+    fn for_expr(&self, cursor: &mut Cursor<'_>, at: Place, paren: Place) -> Result<Statement, Stop>
         requires { NestsStatements self.now.reader.names.now self.now.reader.depth (S.pre self.now.read_inner) (S.post self.now.read_inner) }
         ensures { Reads statement_view (spec.for_expr (names_of self.now.reader.names.now) self.now.reader.depth (spec.statement (names_of self.now.reader.names.now) self.now.reader.depth) at paren cursor.old) result cursor.new }
     {

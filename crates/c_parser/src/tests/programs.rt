@@ -84,32 +84,80 @@ pub const PROGRAMS: [(&[u8], usize); 31] = [
     (FUNCTION_POINTERS, 2),
     (b"", 0),
     (b"int;", 1),
-    (b"int main(void){char *s=\"hi\\n\";while(*s){putchar(*s);s=s+1;}return 0;}", 1),
+    (
+        b"int main(void){char *s=\"hi\\n\";while(*s){putchar(*s);s=s+1;}return 0;}",
+        1,
+    ),
     (b"int main(void){int *p;p=0;return *p;}", 1),
-    (b"int main(void){int a[3];a[2]=7;putchar(a[2]+48);a[3]=1;return 0;}", 1),
-    (b"int main(void){int a[3];int *p=a-1;int n=0;while(++p<a+3)n++;return n;}", 1),
-    (b"int main(void){int a[3];int *p=&a[0];p++;*p=5;return a[1];}", 1),
-    (b"int main(void){long v[2];long *p=v;p=p+4611686018427387904;return 0;}", 1),
+    (
+        b"int main(void){int a[3];a[2]=7;putchar(a[2]+48);a[3]=1;return 0;}",
+        1,
+    ),
+    (
+        b"int main(void){int a[3];int *p=a-1;int n=0;while(++p<a+3)n++;return n;}",
+        1,
+    ),
+    (
+        b"int main(void){int a[3];int *p=&a[0];p++;*p=5;return a[1];}",
+        1,
+    ),
+    (
+        b"int main(void){long v[2];long *p=v;p=p+4611686018427387904;return 0;}",
+        1,
+    ),
     (b"int main(void){int i;int **q=(int **)&i;return 0;}", 1),
-    (b"union U{long n;char *p;};\nint main(void){union U u;u.n=0;if(u.p==0)putchar(48);u.n=5;return *u.p;}", 2),
+    (
+        b"union U{long n;char *p;};\nint main(void){union U u;u.n=0;if(u.p==0)putchar(48);u.n=5;return *u.p;}",
+        2,
+    ),
     (b"int *g;int main(void){int x;g=&x;return 0;}", 2),
-    (b"int f(int *s){int *l;l=s;return *l;}int main(void){int x;x=9;return f(&x);}", 2),
-    (b"int main(void){int *p=(int *)malloc(7);p[0]=72;putchar(p[0]);p[1]=1;return 0;}", 1),
-    (b"int main(void){char *p=(char *)malloc(4194289);if(!p)putchar(110);return 0;}", 1),
-    (b"int main(void){char *p=(char *)malloc(1);*p=107;free(p);putchar(*p);return 0;}", 1),
+    (
+        b"int f(int *s){int *l;l=s;return *l;}int main(void){int x;x=9;return f(&x);}",
+        2,
+    ),
+    (
+        b"int main(void){int *p=(int *)malloc(7);p[0]=72;putchar(p[0]);p[1]=1;return 0;}",
+        1,
+    ),
+    (
+        b"int main(void){char *p=(char *)malloc(4194289);if(!p)putchar(110);return 0;}",
+        1,
+    ),
+    (
+        b"int main(void){char *p=(char *)malloc(1);*p=107;free(p);putchar(*p);return 0;}",
+        1,
+    ),
     (b"int main(void){while(1)putchar('a');return 0;}", 1),
-    (b"int main(void){int c=getchar();if(c<0)putchar(45);return c;}", 1),
-    (b"int f(int n){return f(n+1);}int main(void){return f(0);}", 2),
-    (b"int main(void){putchar(getchar());putchar(getchar());return 0;}", 1),
-    (b"int main(void){char b[9];int *p=(int *)b;p[1]=65;putchar(b[4]);p[2]=1;return 0;}", 1),
+    (
+        b"int main(void){int c=getchar();if(c<0)putchar(45);return c;}",
+        1,
+    ),
+    (
+        b"int f(int n){return f(n+1);}int main(void){return f(0);}",
+        2,
+    ),
+    (
+        b"int main(void){putchar(getchar());putchar(getchar());return 0;}",
+        1,
+    ),
+    (
+        b"int main(void){char b[9];int *p=(int *)b;p[1]=65;putchar(b[4]);p[2]=1;return 0;}",
+        1,
+    ),
     (b"int main(void){int z=0;return 5/z;}", 1),
     (b"int main(void){char *q=\"ab\";q++;return sizeof(q);}", 1),
     // Every other kind of statement.
-    (b"int f(int x){switch(x){case 1:case 2:x=3;break;default:;}do x--;while(x);for(;;)continue;for(int i=0,j;i<3;i++);return;}", 1),
+    (
+        b"int f(int x){switch(x){case 1:case 2:x=3;break;default:;}do x--;while(x);for(;;)continue;for(int i=0,j;i<3;i++);return;}",
+        1,
+    ),
     // A typedef's name is a type from the end of its declarator on, and no sooner.
     (b"typedef int T,*U;T x;int f(T n){return (T)n;}", 3),
     (b"typedef int T[sizeof(T)];", 1),
-    (b"typedef int T;struct T{int t;};int g(struct T *p){return p->T;}", 3),
+    (
+        b"typedef int T;struct T{int t;};int g(struct T *p){return p->T;}",
+        3,
+    ),
     // Such a name is no more than a type word, which the rules of types refuse here.
     (b"typedef int T;int T;", 2),
     // A definition has any declarator.

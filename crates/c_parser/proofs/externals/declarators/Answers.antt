@@ -1,4 +1,4 @@
-use Rattle.std.proofs.Common.{refl, rules}
+use Rattle.std.proofs.Common.{rules}
 use Rattle.c_expr_parse.proofs.Rounds.{stops, goes, fails}
 use Rattle.c_parser.proofs.NameInsertion.{step_at}
 use Rattle.c_parser.proofs.externals.declarators.Goals as goal
@@ -12,6 +12,7 @@ returns-in_err-list-clause-reads c =
     search rules
 
 pub loop-turn-preserved : goal.loop-turn-preserved
-loop-turn-preserved c =
-    (goes c.loop-turn.invariant.0 _ c.peek.ensures _ c.is_comma.ensures c.loop-turn-test.true c.if-not-is_comma.false (step_at _ _ _ _ _ _ c.loop-turn.invariant.1 c.in_ok-list.ensures.reads),
-    c.in_ok-list.ensures.names _ c.loop-turn.invariant.1)
+loop-turn-preserved c = (
+  goes c.loop-turn.invariant.0 _ c.peek.ensures _ c.is_comma.ensures c.loop-turn-test.true c.if-not-is_comma.false (step_at _ _ _ _ _ _ c.loop-turn.invariant.1 c.in_ok-list.ensures.reads),
+  c.in_ok-list.ensures.names _ c.loop-turn.invariant.1,
+)

@@ -1,4 +1,4 @@
-use Rattle.std.proofs.Common.{ap, sym, ◌∙◌, ◌≡◌, Some, map, reverse, subst, true}
+use Rattle.std.proofs.Common.{ap, sym, ◌∙◌, ◌≡◌, Some, map, reverse}
 use Rattle.std.specs.Prelude.{option_map}
 use Rattle.c_tree.specs.Grammar.{declared_name, names_after}
 use Rattle.c_tree.specs.Views.{declarator_view}

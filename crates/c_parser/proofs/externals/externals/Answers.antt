@@ -12,12 +12,13 @@ returns-then-not-begins_specifier c =
 pub returns-in_err-unit : goal.returns-in_err-unit
 returns-in_err-unit c =
     let stopped =
-        state_fails c.loop-turn.invariant.0 _ c.peek.ensures _ (c.begins_specifier.ensures ∙ ap (λ names. begins_specifier names AtFile (next_view c.peek.result)) c.loop-turn.invariant.1) c.loop-turn-test.true c.if-not-begins_specifier.false
-        c.in_err-unit.ensures.reads in
+    state_fails c.loop-turn.invariant.0 _ c.peek.ensures _ (c.begins_specifier.ensures ∙ ap (λ names. begins_specifier names AtFile (next_view c.peek.result)) c.loop-turn.invariant.1) c.loop-turn-test.true c.if-not-begins_specifier.false
+    c.in_err-unit.ensures.reads in
     search rules
 
 pub loop-turn-preserved : goal.loop-turn-preserved
-loop-turn-preserved c =
-    (state_goes c.loop-turn.invariant.0 _ c.peek.ensures _ (c.begins_specifier.ensures ∙ ap (λ names. begins_specifier names AtFile (next_view c.peek.result)) c.loop-turn.invariant.1) c.loop-turn-test.true c.if-not-begins_specifier.false
-    c.in_ok-unit.ensures.reads,
-    c.in_ok-unit.ensures.names)
+loop-turn-preserved c = (
+  state_goes c.loop-turn.invariant.0 _ c.peek.ensures _ (c.begins_specifier.ensures ∙ ap (λ names. begins_specifier names AtFile (next_view c.peek.result)) c.loop-turn.invariant.1) c.loop-turn-test.true c.if-not-begins_specifier.false
+      c.in_ok-unit.ensures.reads,
+  c.in_ok-unit.ensures.names,
+)

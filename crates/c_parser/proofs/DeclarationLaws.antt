@@ -41,29 +41,29 @@ then_comma (tree.AndInitialised before x at value) e = simp append_assoc refl
 module _ {names : TypeNames} {d : ℕ} (is_typedef : Bool) where
   -- after a declarator, which was read as s1
   pub keeps_with : (before : tree.InitDeclarators) (x : tree.Declarator) (s s1 ts : List Symbol) (o : Option Place) → equals_sign (first ts) ≡ o
-      → Rule IsWritten true false (λ d'. by_first equals_sign (with_initialiser names is_typedef d' before x)) d
+      → Rule IsWritten true false (λ d'. by_first equals_sign (with_initialiser (names_after is_typedef (names_after_all is_typedef names before) x) d' before x)) d
       (λ g y s'. SpellsDeclarator (names_after_all is_typedef names before) WithName g x s1 → InitBefore names is_typedef g before s → InitIn names is_typedef g y (s ++ (s1 ++ s')))
       (λ y. declarator_height x ≤ d → init_declarators_height before ≤ d → init_declarators_height y ≤ d) Any ts
   unfolding with_initialiser
   keeps_with before x s s1 ts (Some at) e =
-      rule_told equals_sign (λ d'. with_initialiser names is_typedef d' before x) e
+      rule_told equals_sign (λ d'. with_initialiser (names_after is_typedef (names_after_all is_typedef names before) x) d' before x) e
       (rule_seq (rule_skip_the (Mark mark.Equal at) (equals_sign_here (first ts) at e)) (λ t s2 r2.
       rule_bind (keeps_initialiser (names_after is_typedef (names_after_all is_typedef names before) x) (inner_keeps (names_after is_typedef (names_after_all is_typedef names before) x)) d false r2 (λ m. cc)) (λ value s3 r3.
       rule_pure (λ g v equals u b. record { within = ((b.within, u.within, v.within), refl); spelled = rw (b.spelled, u.spelled, equals, v.spelled, append-nil) refl })
       (λ low_v _ low_x low_b. omega arith) tt)))
   keeps_with before x s s1 ts None e =
-      rule_told_end equals_sign (λ d'. with_initialiser names is_typedef d' before x) e
+      rule_told_end equals_sign (λ d'. with_initialiser (names_after is_typedef (names_after_all is_typedef names before) x) d' before x) e
       (rule_pure (λ g u b. record { within = ((b.within, u.within), refl); spelled = rw (b.spelled, u.spelled, append-nil) refl }) (λ low_x low_b. omega arith) tt)
 
   keeps_next : (before : tree.InitDeclarators) (s ts : List Symbol) (moves : Bool) → (moves ≡ true → begins_declarator (names_after_all is_typedef names before) WithName (first ts) ≡ true)
-      → Rule IsWritten true moves (λ d'. next_declarator names is_typedef d' before) d (λ g y s'. InitBefore names is_typedef g before s → InitIn names is_typedef g y (s ++ s'))
+      → Rule IsWritten true moves (λ d'. next_declarator (names_after_all is_typedef names before) is_typedef d' before) d (λ g y s'. InitBefore names is_typedef g before s → InitIn names is_typedef g y (s ++ s'))
       (λ y. init_declarators_height before ≤ d → init_declarators_height y ≤ d) Any ts
   unfolding next_declarator
   keeps_next before s ts moves moved =
       rule_bind ((inner_keeps (names_after_all is_typedef names before) d).declarator WithName moves ts moved) (λ x s1 r1.
       keeps_with before x s s1 r1 (equals_sign (first r1)) refl)
 
-  pub init_steps : Steps IsWritten true d (λ _. is_comma) (λ d' before. skip >> next_declarator names is_typedef d' before) (InitIn names is_typedef) (λ x. init_declarators_height x ≤ d) Any
+  pub init_steps : Steps IsWritten true d (λ _. is_comma) (λ d' before. skip >> next_declarator (names_after_all is_typedef names before) is_typedef d' before) (InitIn names is_typedef) (λ x. init_declarators_height x ≤ d) Any
   init_steps = record {
     never = λ _. refl;
     at_end = λ _. tt;

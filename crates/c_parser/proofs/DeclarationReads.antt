@@ -47,7 +47,7 @@ declaration_flat a b rest = simp append_assoc
 
 module _ (names : TypeNames) (d : ℕ) (g : Language) (is_typedef : Bool) where
   pub next_reads : (x : tree.InitDeclarators) (b : Separator) (rest : List Symbol) → AreInitDeclarators g names is_typedef x → is_no_init x ≡ false → init_declarators_height x ≤ d
-      → LeadsTo g (next_declarator names is_typedef d (before_last x) (last x ++ Bare b ∷ rest)) (Read x (Bare b ∷ rest))
+      → LeadsTo g (next_declarator (names_after_all is_typedef names (before_last x)) is_typedef d (before_last x) (last x ++ Bare b ∷ rest)) (Read x (Bare b ∷ rest))
   unfolding next_declarator with_initialiser last before_last
   next_reads tree.NoInitDeclarator b rest w some low = cc
   next_reads (tree.AndPlain before x) b rest w some low =
@@ -128,12 +128,12 @@ module _ (names : TypeNames) (d : ℕ) (g : Language) (is_typedef : Bool) where
       leads_passes _ (declarators_start x (Bare separator.Semicolon ∷ rest) w e)
       (chain (λ ts. next (next_declarator names is_typedef d tree.NoInitDeclarator ts) (declarators_from names is_typedef d)) (λ y r. Read y r) (λ y. one (tree.AndPlain tree.NoInitDeclarator y) refl (plain_first y)) (λ y at value. one (tree.AndInitialised tree.NoInitDeclarator y at value) refl (initialised_first y at value)) x separator.Semicolon rest w e low
       ▷ (equal (pure_same (declarators_from names is_typedef d x (Bare separator.Semicolon ∷ rest)))
-      ▷ leads_loop_stops (λ _. is_comma) (λ before. skip >> next_declarator names is_typedef d before) x (Bare separator.Semicolon ∷ rest) refl))
+      ▷ leads_loop_stops (λ _. is_comma) (λ before. skip >> next_declarator (names_after_all is_typedef names before) is_typedef d before) x (Bare separator.Semicolon ∷ rest) refl))
     where
       one : (y : tree.InitDeclarators) → is_no_init y ≡ false → before_last y ≡ tree.NoInitDeclarator → Leads (λ ts. next (next_declarator names is_typedef d tree.NoInitDeclarator ts) (declarators_from names is_typedef d)) (λ z r. Read z r) y
       one y some none b rest' w' some' low' =
           rw (one_declarator y some none)
-          (leads_next _ (subst (λ z. LeadsTo g (next_declarator names is_typedef d z (last y ++ Bare b ∷ rest')) (Read y (Bare b ∷ rest'))) none (next_reads y b rest' w' some' low'))
+          (leads_next _ (subst (λ z. LeadsTo g (next_declarator (names_after_all is_typedef names z) is_typedef d z (last y ++ Bare b ∷ rest')) (Read y (Bare b ∷ rest'))) none (next_reads y b rest' w' some' low'))
           (equal (sym (pure_same (declarators_from names is_typedef d y (Bare b ∷ rest'))))))
 
 -- what follows specifiers goes on with none of them

@@ -10,4 +10,11 @@ pub mod BlockReads
 pub mod StatementReads
 pub mod UnitReads
 pub mod UnitPromised
+pub mod NamesInForce
+pub mod TypedefFlag
+pub mod NameInsertion
+pub mod UnitCall
+pub mod StatementNodes
+pub mod ForLaws
+pub mod DeclarationRest
 pub mod Examples

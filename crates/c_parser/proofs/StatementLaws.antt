@@ -59,7 +59,7 @@ module _ {names : TypeNames} {d : ℕ} (inner : KeepsStatement names d) where
 
   -- of a `for`, after `for` and `(`
   keeps_for_rest : (at paren : Place) (start : Option tree.Expr) (s0 s1 s2 ts : List Symbol)
-      → Rule IsWritten true false (λ d'. for_rest names d' (statement names d') at paren start) d
+      → Rule IsWritten true false (λ d'. for_rest names d' (statement names d') (tree.For at paren start)) d
       (λ g y s'. Spells (IsOptional g names) (λ e. optional_spelling e ++ semicolon) start s2 → (s1 ≡ Mark mark.OpenParen paren ∷ []) → (s0 ≡ Word keyword.For at ∷ []) → StatementIn names g y (s0 ++ (s1 ++ (s2 ++ s'))))
       (λ y. optional_height start ≤ d → Unit {0} → Unit {0} → statement_height y ≤ suc d) Closed ts
   unfolding for_rest
@@ -88,7 +88,7 @@ module _ {names : TypeNames} {d : ℕ} (inner : KeepsStatement names d) where
   keeps_for_declaration : (at paren : Place) (s0 s1 ts : List Symbol) → begins_specifier names InBlock (first ts) ≡ true
       → Rule IsWritten true true (λ d'. for_declaration names d' (statement names d') at paren) d
       (λ g y s'. (s1 ≡ Mark mark.OpenParen paren ∷ []) → (s0 ≡ Word keyword.For at ∷ []) → StatementIn names g y (s0 ++ (s1 ++ s'))) (λ y. Unit {0} → Unit {0} → statement_height y ≤ suc d) Closed ts
-  unfolding for_declaration
+  unfolding for_declaration for_rest
   keeps_for_declaration at paren s0 s1 ts begins =
       rule_bind (keeps_declaration names d InBlock true ts (λ _. begins)) (λ start s2 r2.
       rule_bind (keeps_optional names d r2) (λ test s3 r3.

@@ -7,7 +7,7 @@ use Rattle.parse_rules.specs.Grammars.{Language}
 use Rattle.parse_rules.proofs.Completeness.{LeadsTo, equal, ◌▷◌, leads_next, leads_passes, leads_loop, leads_loop_stops}
 use Rattle.c_tree.specs.declared.leaf.Separator.TheVariants as separator
 use Rattle.c_tree.specs.Depth.{init_declarators_height, block_items_height, unit_height}
-use Rattle.c_tree.specs.Grammar.{WithName, AreInitDeclarators, IsUnit, names_after, type_names}
+use Rattle.c_tree.specs.Grammar.{WithName, AreInitDeclarators, IsUnit, names_after, names_after_all, type_names}
 use Rattle.c_tree.specs.Spelling.{close_brace, semicolon, specifiers_spelling, declarator_spelling, initialiser_spelling, init_declarators_spelling, block_items_spelling, unit_spelling}
 use Rattle.c_tree.specs.Symbols.{Symbol, Mark, Bare}
 use Rattle.c_tree.specs.Tree as tree
@@ -61,7 +61,7 @@ module _ (d : ℕ) (g : Language) (unit : tree.TranslationUnit) (specifiers : tr
   unfolding finish declarators_from
   declarators_read x rest w some low =
       chain (type_names unit) d g (has_typedef specifiers) start finish plain initialised x separator.Semicolon rest w some low
-      ▷ leads_next finish (leads_loop_stops (λ _. is_comma) (λ before. skip >> next_declarator (type_names unit) (has_typedef specifiers) d before) x (Bare separator.Semicolon ∷ rest) refl) (equal refl)
+      ▷ leads_next finish (leads_loop_stops (λ _. is_comma) (λ before. skip >> next_declarator (names_after_all (has_typedef specifiers) (type_names unit) before) (has_typedef specifiers) d before) x (Bare separator.Semicolon ∷ rest) refl) (equal refl)
 
   external_reads : (x : tree.InitDeclarators) (rest : List Symbol) → IsUnit g (tree.AndExternal unit (tree.Declare specifiers x)) → unit_height (tree.AndExternal unit (tree.Declare specifiers x)) ≤ d
       → LeadsTo g (external d unit (specifiers_spelling specifiers ++ (init_declarators_spelling x ++ Bare separator.Semicolon ∷ rest))) (Read (tree.AndExternal unit (tree.Declare specifiers x)) rest)

@@ -9,22 +9,23 @@ use Rattle.c_tree.specs.Words.{TypeNames, Scope, has_typedef}
 use Rattle.c_expr_parse.specs.Rules.{rules, initialiser}
 use Rattle.c_expr_parse.specs.Tests.{is_comma, is_semicolon, equals_sign, begins_declarator}
 
--- after a declarator: `=` and an initialiser, or nothing; the declarator's name is in force there
-unfoldable pub with_initialiser : TypeNames → (is_typedef : Bool) → (d : ℕ) → tree.InitDeclarators → tree.Declarator → Option Place → Parser Symbol tree.InitDeclarators
-with_initialiser names is_typedef d before x (Some at) = do
+-- after a declarator: `=` and an initialiser, or nothing. The names are those in force there.
+unfoldable pub with_initialiser : TypeNames → (d : ℕ) → tree.InitDeclarators → tree.Declarator → Option Place → Parser Symbol tree.InitDeclarators
+with_initialiser names d before x (Some at) = do
   skip
-  value ← initialiser (names_after is_typedef (names_after_all is_typedef names before) x) d
+  value ← initialiser names d
   pure (tree.AndInitialised before x at value)
-with_initialiser names is_typedef d before x None = pure (tree.AndPlain before x)
+with_initialiser names d before x None = pure (tree.AndPlain before x)
 
--- one declarator after others, whose names are in force
+-- one declarator after others, where these names are in force; its name is in force after it
 unfoldable pub next_declarator : TypeNames → (is_typedef : Bool) → (d : ℕ) → tree.InitDeclarators → Parser Symbol tree.InitDeclarators
 next_declarator names is_typedef d before = do
-  x ← (rules (names_after_all is_typedef names before) d).declarator WithName
-  by_first equals_sign (with_initialiser names is_typedef d before x)
+  x ← (rules names d).declarator WithName
+  by_first equals_sign (with_initialiser (names_after is_typedef names x) d before x)
 
+-- after the first declarators, whose names are in force
 unfoldable pub declarators_from : TypeNames → (is_typedef : Bool) → (d : ℕ) → tree.InitDeclarators → Parser Symbol tree.InitDeclarators
-declarators_from names is_typedef d first = loop (λ _. is_comma) (λ before. skip >> next_declarator names is_typedef d before) first
+declarators_from names is_typedef d first = loop (λ _. is_comma) (λ before. skip >> next_declarator (names_after_all is_typedef names before) is_typedef d before) first
 
 unfoldable pub init_declarators : TypeNames → (is_typedef : Bool) → (d : ℕ) → Parser Symbol tree.InitDeclarators
 init_declarators names is_typedef d = branch (begins_declarator names WithName) (do

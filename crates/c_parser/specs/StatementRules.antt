@@ -19,6 +19,13 @@ optional names d = branch (begins_expr names) (do
   pure (Some e))
     (pure None)
 
+-- the same, and the token that ends it
+unfoldable pub optional_then : TypeNames → ℕ → (ends : Option Symbol → Bool) → Parser Symbol (Option tree.Expr)
+optional_then names d ends = do
+  e ← optional names d
+  expect ends
+  pure e
+
 -- Blocks. The rule for the statements inside is a parameter.
 
 unfoldable pub with_label : TypeNames → ℕ → tree.BlockItems → LabelStart → Parser Symbol tree.BlockItems
@@ -75,31 +82,26 @@ with_else inner at paren test s = branch is_else (do
   pure (tree.IfElse at paren test s other))
     (pure (tree.If at paren test s))
 
--- after the first `;` of a `for`
-unfoldable pub for_rest : TypeNames → ℕ → Parser Symbol tree.Statement → (at paren : Place) → Option tree.Expr → Parser Symbol tree.Statement
-for_rest names d inner at paren first = do
+-- after the first part of a `for`, with which the others make the statement
+unfoldable pub for_rest : TypeNames → ℕ → Parser Symbol tree.Statement → (Option tree.Expr → Option tree.Expr → tree.Statement → tree.Statement) → Parser Symbol tree.Statement
+for_rest names d inner made = do
   test ← optional names d
   expect is_semicolon
   step ← optional names d
   expect is_close_paren
   s ← inner
-  pure (tree.For at paren first test step s)
+  pure (made test step s)
 
 unfoldable pub for_expr : TypeNames → ℕ → Parser Symbol tree.Statement → (at paren : Place) → Parser Symbol tree.Statement
 for_expr names d inner at paren = do
   first ← optional names d
   expect is_semicolon
-  for_rest names d inner at paren first
+  for_rest names d inner (tree.For at paren first)
 
 unfoldable pub for_declaration : TypeNames → ℕ → Parser Symbol tree.Statement → (at paren : Place) → Parser Symbol tree.Statement
 for_declaration names d inner at paren = do
   first ← declaration names InBlock d
-  test ← optional names d
-  expect is_semicolon
-  step ← optional names d
-  expect is_close_paren
-  s ← inner
-  pure (tree.ForDeclaration at paren first test step s)
+  for_rest names d inner (tree.ForDeclaration at paren first)
 
 unfoldable pub statement_from : TypeNames → ℕ → Parser Symbol tree.Statement → StatementStart → Parser Symbol tree.Statement
 statement_from names d inner (StartBlock brace) = do

@@ -1,11 +1,11 @@
 -- Units, read from the tokens that are left (C99 6.9). d nodes are allowed.
-use Rattle.std.specs.Prelude.{ℕ, zero, suc, false, Option, Some, None, is_some}
+use Rattle.std.specs.Prelude.{ℕ, zero, suc, Bool, false, Option, Some, None, is_some}
 use Rattle.cc_base.specs.declared.place.Place.{Place}
 use Rattle.parse_rules.specs.Parsers.{Parser, pure, refuse, expect, branch, by_first, too_deep, loop, ◌>>=◌, ◌>>◌}
 use Rattle.c_tree.specs.Grammar.{WithName, names_after, type_names}
 use Rattle.c_tree.specs.Symbols.{Symbol}
 use Rattle.c_tree.specs.Tree as tree
-use Rattle.c_tree.specs.Words.{AtFile, has_typedef}
+use Rattle.c_tree.specs.Words.{TypeNames, AtFile, has_typedef}
 use Rattle.c_expr_parse.specs.ExprRules.{take}
 use Rattle.c_expr_parse.specs.Rules.{rules}
 use Rattle.c_expr_parse.specs.Tests.{is_close_brace, is_semicolon, open_brace, equals_sign, begins_specifier, begins_declarator}
@@ -21,11 +21,17 @@ function_body unit specifiers x (suc d) = do
   expect is_close_brace
   pure (tree.AndFunctionBody unit specifiers x brace items)
 
+-- the declarators of a declaration of which the first was read, but not its initialiser
+unfoldable pub declarators_after : TypeNames → (is_typedef : Bool) → (d : ℕ) → tree.Declarator → Parser Symbol tree.InitDeclarators
+declarators_after names is_typedef d x = do
+  first ← by_first equals_sign (with_initialiser (names_after is_typedef names x) d tree.NoInitDeclarator x)
+  declarators_from names is_typedef d first
+
 -- after the first declarator
 unfoldable pub after_declarator : (d : ℕ) → tree.TranslationUnit → tree.Specifiers → tree.Declarator → Option Place → Parser Symbol tree.TranslationUnit
 after_declarator d unit specifiers x (Some brace) = function_body unit specifiers x d
 after_declarator d unit specifiers x None = do
-  first ← by_first equals_sign (with_initialiser (type_names unit) (has_typedef specifiers) d tree.NoInitDeclarator x)
+  first ← by_first equals_sign (with_initialiser (names_after (has_typedef specifiers) (type_names unit) x) d tree.NoInitDeclarator x)
   declarators ← declarators_from (type_names unit) (has_typedef specifiers) d first
   expect is_semicolon
   pure (tree.AndExternal unit (tree.Declare specifiers declarators))

@@ -8,6 +8,7 @@ use crate::tests_and_divisions::truth;
 use cured_code::Instr;
 use flat_mem::Flat;
 
+#[inline(always)]
 pub(crate) fn act_tags(instr: &Instr, flat: &mut Flat, frame: &mut [u64]) -> Row
     requires { IsNamed instr.now (length frame.old) (areas_in flat.old) }
     ensures { IsMemoryRow Tags instr.now flat.old flat.new frame.old frame.new result }

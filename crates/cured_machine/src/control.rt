@@ -7,7 +7,7 @@ ghost use Rattle.cured_code.specs.FlatMachine.{FlatOutcome};
 ghost use Rattle.cured_code.specs.FlatState.{Local};
 ghost use Rattle.cured_machine.specs.Stack.{Caller};
 ghost use Rattle.cured_machine.specs.Sizes.{Lessens};
-ghost use Rattle.cured_machine.specs.Spelled.{CanLeave, IsLast, IsLeaving, IsLess, IsReached, GoesOn, GoesIn, slices_of, is_if};
+ghost use Rattle.cured_machine.specs.Spelled.{CanLeave, IsLast, IsLeaving, IsLess, IsReached, GoesOn, GoesIn, IsIntoPart, slices_of, is_if};
 ghost use Rattle.cured_machine.specs.Rows.{IsNamed};
 
 use cured_code::Instr;
@@ -70,6 +70,26 @@ pub(crate) fn go_on<'a>(stack: &mut Vec<&'a [Instr]>, turns: &mut u64) -> Next<'
     }
 }
 
+/// Enters a part of the `if` that `here` begins with: an empty one is left at once.
+#[inline(always)]
+fn into_part<'a>(
+    here: &'a [Instr],
+    rest: &'a [Instr],
+    part: &'a [Instr],
+    stack: &mut Vec<&'a [Instr]>,
+) -> &'a [Instr]
+    requires room { vec_len stack.old < vec_capacity stack.old }
+    ensures goes { IsIntoPart stack.old.items stack.new.items here.entry rest.entry part.entry result }
+    ensures capacity { vec_capacity stack.new ≡ vec_capacity stack.old }
+{
+    if part.is_empty() {
+        rest
+    } else {
+        stack.push_reserved(here);
+        part
+    }
+}
+
 /// Enters the instruction that `here` begins with, where it is one that holds others: the first round of a loop takes a
 /// turn.
 #[inline(always)]
@@ -87,19 +107,15 @@ pub(crate) fn go_in<'a>(
     ensures less { IsLess turns.old (slices_of stack.old.items) here.now turns.new (slices_of stack.new.items) result }
     ensures capacity { vec_capacity stack.new ≡ vec_capacity stack.old }
 {
-    let Some((first, _)) = here.split_first() else {
+    let Some((first, rest)) = here.split_first() else {
         return Next::Over;
     };
     match first {
         Instr::If(a, x, y) => {
-            let part = x.0.as_slice();
-            let other = y.0.as_slice();
-            let holds = is_set(frame, *a as usize);
-            stack.push_reserved(here);
-            if holds {
-                Next::Code(part)
+            if is_set(frame, *a as usize) {
+                Next::Code(into_part(here, rest, x.0.as_slice(), stack))
             } else {
-                Next::Code(other)
+                Next::Code(into_part(here, rest, y.0.as_slice(), stack))
             }
         }
         Instr::Block(x) => {

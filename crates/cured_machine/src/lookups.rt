@@ -152,6 +152,34 @@ pub(crate) fn act_lookups(
     ensures { IsLookupRow parts.now instr.now flat.old flat.new frame.old frame.new result }
 {
     match *instr {
+        Instr::Frame(v, k) => {
+            frame[v as usize] = flat.frame_area(k as usize);
+            Row::Done
+        }
+        Instr::Depth(_, _)
+        | Instr::Below(_, _, _)
+        | Instr::Sigof(_, _)
+        | Instr::Room(_, _)
+        | Instr::New(_, _, _, _) => act_by_search(instr, parts, frames, flat, frame),
+        _ => Row::Other,
+    }
+}
+
+/// The same. It's a function of its own so that the loop's code stays small.
+#[inline(never)]
+fn act_by_search(
+    instr: &Instr,
+    parts: &Parts,
+    frames: &[AreaList],
+    flat: &mut Flat,
+    frame: &mut [u64],
+) -> Row
+    requires named { IsNamed instr.now (length frame.old) (areas_in flat.old) }
+    requires limit { flat.old.bounds.heap_limit < 2 ^ 64 }
+    requires areas { frames.now ≡ map frame_areas parts.now.functions }
+    ensures { IsLookupRow parts.now instr.now flat.old flat.new frame.old frame.new result }
+{
+    match *instr {
         Instr::Frame(v, k) => frame[v as usize] = flat.frame_area(k as usize),
         Instr::Depth(v, a) => frame[v as usize] = flat.depth_of(frame[a as usize]),
         Instr::Below(v, a, n) => {

@@ -6,6 +6,7 @@ ghost use Rattle.cured_machine.specs.Reading.{HasRead, HasFailed};
 use cc_io::{Failed, Source};
 
 /// The next byte, or the greatest word at the input's end, after which nothing more is read.
+#[inline(never)]
 pub(crate) fn next_byte<I: Source>(input: &mut I, ended: &mut bool) -> Result<u64, Failed>
     ensures read { IfOk result (λ word. HasRead (I.held input.old) (I.held input.new) ended.old ended.new word) }
     ensures failed { OnErr result (HasFailed (I.held input.old) (I.held input.new) ended.old ended.new) }

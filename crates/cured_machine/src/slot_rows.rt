@@ -3,8 +3,23 @@ ghost use Rattle.std.specs.Prelude.{◌≡◌, ◌+◌, ◌-◌, ◌≤◌, ◌+
 ghost use Rattle.flat_mem.specs.Bytes.{written, zeroed};
 ghost use Rattle.cured_machine.specs.Outer.{IsRowHeld, row_given};
 
-/// Writes the words into the slots from `at` on.
+/// Writes the words into the slots from `at` on. Mostly there is one: it is written with no loop.
+#[inline(always)]
 fn put_words(frame: &mut [u64], at: usize, words: &[u64])
+    requires { at + length words.now ≤ length frame.old }
+    ensures { frame.new ≡ written words.now frame.old at }
+{
+    if let Some((first, rest)) = words.split_first() {
+        frame[at] = *first;
+        if !rest.is_empty() {
+            put_each(frame, at + 1, rest);
+        }
+    }
+}
+
+/// Writes each of the words.
+#[inline(never)]
+fn put_each(frame: &mut [u64], at: usize, words: &[u64])
     requires { at + length words.now ≤ length frame.old }
     ensures { frame.new ≡ written words.now frame.old at }
 {

@@ -8,7 +8,28 @@ use crate::tests_and_divisions::truth;
 use cured_code::Instr;
 use flat_mem::Flat;
 
+/// Tells an instruction on tagged areas from others. What it does stands in a function of its own, so that the loop's code
+/// stays small.
+#[inline(always)]
 pub(crate) fn act_tags(instr: &Instr, flat: &mut Flat, frame: &mut [u64]) -> Row
+    requires { IsNamed instr.now (length frame.old) (areas_in flat.old) }
+    ensures { IsMemoryRow Tags instr.now flat.old flat.new frame.old frame.new result }
+{
+    match *instr {
+        Instr::Plain(_, _, _, _)
+        | Instr::Untag(_, _, _)
+        | Instr::Tagged(_, _, _)
+        | Instr::Base(_, _, _)
+        | Instr::Mark(_, _, _)
+        | Instr::Tmove(_, _, _, _, _)
+        | Instr::Tzero(_, _, _)
+        | Instr::Tdepth(_, _, _, _) => act_on_tags(instr, flat, frame),
+        _ => Row::Other,
+    }
+}
+
+#[inline(never)]
+fn act_on_tags(instr: &Instr, flat: &mut Flat, frame: &mut [u64]) -> Row
     requires { IsNamed instr.now (length frame.old) (areas_in flat.old) }
     ensures { IsMemoryRow Tags instr.now flat.old flat.new frame.old frame.new result }
 {

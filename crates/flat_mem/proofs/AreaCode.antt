@@ -136,3 +136,17 @@ pub addresses-done : (areas : List Area) (k : ℕ) (old now : List ℕ) (start a
 unfolding addresses
 addresses-done areas k old now start at is h =
     sym (append-nil now) ∙ (sym (ap (λ l. now ++ addresses l at) (drop_all k areas h)) ∙ is)
+
+-- no areas
+
+pub none-made : (areas : List Area) (bytes : List ℕ) (start : ℕ) → areas ≡ [] → bytes ≡ areas_made areas bytes start
+unfolding areas_made
+none-made areas bytes start is = rw is refl
+
+pub none-end : (areas : List Area) (start : ℕ) → areas ≡ [] → start ≡ start + areas_size areas
+unfolding areas_size
+none-end areas start is = rw is (omega arith)
+
+pub none-listed : (areas : List Area) (list : List ℕ) (start : ℕ) → areas ≡ [] → list ≡ list ++ addresses areas start
+unfolding addresses
+none-listed areas list start is = rw is (sym (append-nil list))

@@ -75,8 +75,23 @@ pub(crate) fn make_area(bytes: &mut [u8], area: Area, start: u64)
     numbers::store_at(bytes, start, 8, first_word_of(area));
 }
 
-// Makes the areas one after another from `start` on, and gives their end.
+// Makes the areas one after another from `start` on, and gives their end. Most frames have none.
+#[inline(always)]
 pub(crate) fn make_areas(bytes: &mut [u8], areas: &[Area], start: u64) -> u64
+    requires room { start + areas_size areas.now ≤ length bytes.old }
+    requires small { length bytes.old < 2 ^ 32 }
+    ensures made { bytes.new ≡ areas_made areas.now bytes.old start }
+    ensures end { result ≡ start + areas_size areas.now }
+{
+    if areas.is_empty() {
+        start
+    } else {
+        make_each(bytes, areas, start)
+    }
+}
+
+#[inline(never)]
+fn make_each(bytes: &mut [u8], areas: &[Area], start: u64) -> u64
     requires room { start + areas_size areas.now ≤ length bytes.old }
     requires small { length bytes.old < 2 ^ 32 }
     ensures made { bytes.new ≡ areas_made areas.now bytes.old start }
@@ -91,7 +106,20 @@ pub(crate) fn make_areas(bytes: &mut [u8], areas: &[Area], start: u64) -> u64
 }
 
 // Writes down the addresses of the areas that lie one after another from `start` on.
+#[inline(always)]
 pub(crate) fn list_addresses(list: &mut Vec<u64>, areas: &[Area], start: u64)
+    requires room { vec_len list.old + length areas.now ≤ vec_capacity list.old }
+    requires small { start + areas_size areas.now < 2 ^ 32 }
+    ensures added { list.new.items ≡ list.old.items ++ addresses areas.now start }
+    ensures capacity { vec_capacity list.new ≡ vec_capacity list.old }
+{
+    if !areas.is_empty() {
+        list_each(list, areas, start);
+    }
+}
+
+#[inline(never)]
+fn list_each(list: &mut Vec<u64>, areas: &[Area], start: u64)
     requires room { vec_len list.old + length areas.now ≤ vec_capacity list.old }
     requires small { start + areas_size areas.now < 2 ^ 32 }
     ensures added { list.new.items ≡ list.old.items ++ addresses areas.now start }

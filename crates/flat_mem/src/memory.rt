@@ -200,6 +200,7 @@ impl Flat {
 
     /// Whether a frame with these areas may be pushed and charged `charge`: fewer than 1,024 frames are live, the
     /// charges of all stay within the limit, and the frame lies in the stack's region.
+    #[inline(always)]
     pub fn fits(&self, areas: &[Area], charge: u64) -> bool
         ensures { result ≡ fits self.now areas.now charge }
     {
@@ -209,6 +210,7 @@ impl Flat {
     }
 
     /// Pushes a frame with these areas, each zeroed and its first word written.
+    #[inline(always)]
     pub fn push_frame(&mut self, areas: &[Area], charge: u64)
         requires { IsTrue (fits self.old areas.now charge) }
         ensures memory { self.new ≡ pushed self.old areas.now charge }
@@ -230,6 +232,7 @@ impl Flat {
     }
 
     /// Takes the newest frame away. Its bytes stay.
+    #[inline(always)]
     pub fn pop_frame(&mut self)
         requires { 0 < length self.old.frames }
         ensures { self.new ≡ popped self.old }

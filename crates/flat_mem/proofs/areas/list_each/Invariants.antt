@@ -1,6 +1,6 @@
 use Rattle.std.proofs.Common.{◌≡◌, ◌+◌, ◌++◌, drop, vec_len, vec_capacity}
 use Rattle.flat_mem.specs.Placement.{areas_size, addresses}
-use Rattle.flat_mem.proofs.areas.list_addresses.Given as goal
+use Rattle.flat_mem.proofs.areas.list_each.Given as goal
 
 abbrev pub invariant-loop-area : goal.invariant-loop-area
 invariant-loop-area l = record {

@@ -1,6 +1,6 @@
 use Rattle.std.proofs.Common.{◌≡◌, ◌+◌, drop}
 use Rattle.flat_mem.specs.Placement.{areas_size, areas_made}
-use Rattle.flat_mem.proofs.areas.make_areas.Given as goal
+use Rattle.flat_mem.proofs.areas.make_each.Given as goal
 
 abbrev pub invariant-loop-area : goal.invariant-loop-area
 invariant-loop-area l = record {

@@ -37,17 +37,20 @@ never = stop (TooLarge nowhere Types)
 abbrev pub declared_place : tree.Specifiers → tree.Declared → Place
 declared_place specifiers d = name_place (declaring.declared_name d) (specifiers_place specifiers)
 
+abbrev pub listed : TypedSpecifierList → TypeId
+listed list = specified_type (specifying.specified list)
+
 unfoldable mutual
   -- an expression; `called` says that it is what a call calls
   pub judge : (called : Bool) → tree.Expr → Judging Operand
   judge called (tree.Name name) = assignments.name called name
-  judge called (tree.Integer of value at) = operations.integer of value at
-  judge called (tree.Character value at) = operations.character value at
+  judge called (tree.Integer of number at) = operations.integer of number at
+  judge called (tree.Character number at) = operations.character number at
   judge called (tree.String pieces) = assignments.literal pieces
   judge called (tree.Paren at e) = judge called e >>= operations.paren at
   judge called (tree.Index a at b) = do
-    x ← judge_value a
-    y ← judge_value b
+    x ← judge false a >>= value
+    y ← judge false b >>= value
     operations.index x at y
   judge called (tree.Call f at arguments) = do
     x ← judge true f
@@ -58,7 +61,7 @@ unfoldable mutual
     x ← judge false e
     operations.member x at name
   judge called (tree.Member e member.Arrow at name) = do
-    x ← judge_value e
+    x ← judge false e >>= value
     operations.pointed_member x at name
   judge called (tree.Postfix e step at) = judge false e >>= operations.step_after step at
   judge called (tree.Prefix operator at e) = judge false e >>= operations.prefix operator at
@@ -68,13 +71,13 @@ unfoldable mutual
     x ← judge false e
     assignments.cast at to x
   judge called (tree.Infix operator a at b) = do
-    x ← judge_value a
-    y ← judge_value b
+    x ← judge false a >>= value
+    y ← judge false b >>= value
     operations.infix_of operator x at y
   judge called (tree.Conditional c at a b) = do
-    z ← judge_value c
-    x ← judge_value a
-    y ← judge_value b
+    z ← judge false c >>= value
+    x ← judge false a >>= value
+    y ← judge false b >>= value
     assignments.choice z at x y
   judge called (tree.Assign assignment.Assign a at b) = do
     x ← judge false a
@@ -82,37 +85,28 @@ unfoldable mutual
     assignments.assign x at y
   judge called (tree.Assign operator a at b) = do
     x ← judge false a
-    y ← judge_value b
+    y ← judge false b >>= value
     assignments.update_by operator x at y
   judge called (tree.Comma a b) = do
-    x ← judge_value a
-    y ← judge_value b
+    x ← judge false a >>= value
+    y ← judge false b >>= value
     assignments.comma x y
   judge called (tree.Compound at name brace) = never
   judge called (tree.SizeOfCompound at paren name brace) = never
-
-  -- an expression whose value is taken
-  pub judge_value : tree.Expr → Judging Value
-  judge_value e = judge false e >>= value
 
   pub judge_arguments : tree.Arguments → Judging (List Value)
   judge_arguments tree.NoArgument = pure []
   judge_arguments (tree.AndArgument all e) = do
     values ← judge_arguments all
-    v ← judge_value e
+    v ← judge false e >>= value
     pure (values ++ v ∷ [])
 
   pub judge_type_name : tree.TypeName → Judging TypedTypeName
   judge_type_name (tree.Named specifiers d) = do
-    list ← judge_specifiers specifiers
-    one ← judge_declared naming.None (declared_place specifiers d) d
-    t ← declaring.declared_makes (declared_place specifiers d) Written one (specified_type list)
-    pure (typed.Named list one t)
-
-  pub judge_specifiers : tree.Specifiers → Judging TypedSpecifiers
-  judge_specifiers specifiers = do
     list ← judge_list specifiers
-    pure (specifying.specified list)
+    one ← judge_declared naming.None (declared_place specifiers d) d
+    t ← declaring.declared_makes (declared_place specifiers d) Written one (listed list)
+    pure (typed.Named (specifying.specified list) one t)
 
   pub judge_list : tree.Specifiers → Judging TypedSpecifierList
   judge_list tree.NoSpecifier = pure typed.NoSpecifier
@@ -140,9 +134,9 @@ unfoldable mutual
   judge_members tree.NoMember = pure typed.NoMember
   judge_members (tree.AndMember all specifiers declarators) = do
     rows ← judge_members all
-    list ← judge_specifiers specifiers
-    row ← judge_member_declarators (specified_type list) (member_names rows) declarators
-    pure (typed.AndMember rows list row)
+    list ← judge_list specifiers
+    row ← judge_member_declarators (listed list) (member_names rows) declarators
+    pure (typed.AndMember rows (specifying.specified list) row)
 
   -- `names` are those of the rows before
   pub judge_member_declarators : TypeId → (names : List Name) → tree.MemberDeclarators → Judging TypedMemberDeclarators
@@ -161,7 +155,7 @@ unfoldable mutual
     specifying.enumerator list name
   judge_enumerators (tree.AndValued all name at e) = do
     list ← judge_enumerators all
-    v ← judge_value e
+    v ← judge false e >>= value
     specifying.valued_enumerator list name at v
 
   -- what stands in a declarator, whose name is to be this and whose type is named at the place
@@ -188,7 +182,7 @@ unfoldable mutual
     pure (typed.AndArray parts bracket words)
   judge_parts at (tree.AndSizedArray all bracket words e) = do
     parts ← judge_parts at all
-    v ← judge_value e
+    v ← judge false e >>= value
     declaring.sized parts bracket words v
   judge_parts at (tree.AndFunction all paren parameters) = do
     parts ← judge_parts at all
@@ -201,9 +195,9 @@ unfoldable mutual
   judge_parameters void tree.NoParameter = pure typed.NoParameter
   judge_parameters void (tree.AndParameter all specifiers d) = do
     list ← judge_parameters void all
-    own ← judge_specifiers specifiers
+    own ← judge_list specifiers
     one ← judge_declared naming.Parameter (declared_place specifiers d) d
-    declaring.parameter void (declared_place specifiers d) (λ base. declaring.adjusted_at (declaring.derived_by_declared d) base (declaring.typedef_place specifiers)) list own one
+    declaring.parameter void (declared_place specifiers d) (λ base. declaring.adjusted_at (declaring.derived_by_declared d) base (declaring.typedef_place specifiers)) list (specifying.specified own) one
 
   pub judge_declared : Naming → Place → tree.Declared → Judging TypedDeclared
   judge_declared which at tree.NotDeclared = pure typed.NotDeclared
@@ -217,6 +211,15 @@ judge_alone_list (tree.AndSpecifier tree.NoSpecifier (tree.Tagged which at name)
   one ← specifying.tagged_alone which at name
   pure (typed.AndSpecifier typed.NoSpecifier one)
 judge_alone_list specifiers = judge_list specifiers
+
+-- an expression whose value is taken
+unfoldable pub judge_value : tree.Expr → Judging Value
+judge_value e = judge false e >>= value
+
+unfoldable pub judge_specifiers : tree.Specifiers → Judging TypedSpecifiers
+judge_specifiers specifiers = do
+  list ← judge_list specifiers
+  pure (specifying.specified list)
 
 unfoldable pub judge_specifiers_of : (alone : Bool) → tree.Specifiers → Judging TypedSpecifiers
 judge_specifiers_of false specifiers = judge_specifiers specifiers

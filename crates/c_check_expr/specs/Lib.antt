@@ -20,3 +20,4 @@ pub mod Settled
 pub mod Specifying
 pub mod Declaring
 pub mod Walks
+pub mod Nests

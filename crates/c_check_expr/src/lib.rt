@@ -11,7 +11,7 @@ mod operand;
 mod scope;
 mod shapes;
 mod typing;
-mod walk;
+mod walker;
 
 pub use declared::{Declared, Tag};
 pub use laws::{

@@ -179,18 +179,22 @@ function_makes at outermost parameters result = obeying (λ s. tests.function_te
   f ← function_type at (taken_types parameters) result
   function_as at outermost f)
 
+-- what the last part makes
+unfoldable pub last_makes : Place → Outermost → TypedParts → TypeId → Judging TypeId
+last_makes at outermost typed.NoPart base = pure base
+last_makes at outermost (typed.AndArray all bracket words) base = array_makes at outermost bracket words None base
+last_makes at outermost (typed.AndSizedArray all bracket words e size) base = array_makes at outermost bracket words (Some size) base
+last_makes at outermost (typed.AndFunction all paren parameters) base = function_makes at outermost parameters base
+
 -- the last part first
 unfoldable pub parts_make : Place → Outermost → TypedParts → TypeId → Judging TypeId
 parts_make at outermost typed.NoPart base = pure base
-parts_make at outermost (typed.AndArray all bracket words) base = do
-  t ← array_makes at (nearest all outermost) bracket words None base
-  parts_make at outermost all t
-parts_make at outermost (typed.AndSizedArray all bracket words e size) base = do
-  t ← array_makes at (nearest all outermost) bracket words (Some size) base
-  parts_make at outermost all t
-parts_make at outermost (typed.AndFunction all paren parameters) base = do
-  t ← function_makes at (nearest all outermost) parameters base
-  parts_make at outermost all t
+parts_make at outermost (typed.AndArray all bracket words) base =
+    last_makes at (nearest all outermost) (typed.AndArray all bracket words) base >>= parts_make at outermost all
+parts_make at outermost (typed.AndSizedArray all bracket words e size) base =
+    last_makes at (nearest all outermost) (typed.AndSizedArray all bracket words e size) base >>= parts_make at outermost all
+parts_make at outermost (typed.AndFunction all paren parameters) base =
+    last_makes at (nearest all outermost) (typed.AndFunction all paren parameters) base >>= parts_make at outermost all
 
 -- the stars, then the parts, then what stands in parentheses round the name
 unfoldable mutual

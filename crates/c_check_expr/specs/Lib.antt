@@ -21,3 +21,4 @@ pub mod Specifying
 pub mod Declaring
 pub mod Walks
 pub mod Nests
+pub mod MakingViews

@@ -5,11 +5,13 @@ mod declared;
 mod kind;
 mod laws;
 mod level;
+mod making;
 mod member;
 mod naming;
 mod operand;
 mod scope;
 mod shapes;
+mod stops;
 mod typing;
 mod walker;
 

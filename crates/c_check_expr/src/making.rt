@@ -1,0 +1,406 @@
+//! The types that declarators give (C99 6.7.5).
+#![tactic(auto)]
+
+ghost use Rattle.std.specs.Prelude.{◌≡◌, map, option_map, option_copied, IfOk};
+ghost use Rattle.c_tree.specs.TypedTree.{TypedParts, NoPart, NoParameter};
+ghost use Rattle.c_tree.specs.TypedViews.{typed_core_view, typed_form_view, typed_parameter_view, typed_part_view, typed_specifier_view, typed_specifiers_of, typed_declared_of};
+ghost use Rattle.c_tree.specs.Views.{added};
+ghost use Rattle.c_check_expr.specs.Declarators.{is_pointed, is_void_list, is_void_word, taken_types, nearest, is_derived, is_derived_core};
+ghost use Rattle.c_check_expr.specs.Judging.{Answers, known};
+ghost use Rattle.c_check_expr.specs.Declaring as declaring;
+ghost use Rattle.c_check_expr.specs.MakingViews.{nearest_view};
+ghost use Rattle.c_check_expr.specs.Tests as tests;
+ghost use Rattle.c_check_expr.specs.Tests.{first_broken};
+
+use crate::scope::Scope;
+use crate::shapes::{is_complete_at, shape_at};
+use crate::stops::{no_room, refusal};
+use crate::typing::{pointer_type, type_with};
+use c_lexer::Keyword;
+use c_tree::{TypedCore, TypedForm, TypedParameter, TypedPart, TypedSpecifier, TypedStar, Word};
+use c_types::{TypeList, TypeShape, Types};
+use cc_base::{Fault, Limit, NoMemory, NodeId, Place, Rule, TypeId};
+
+/// The most parameters of one function.
+const MOST_PARAMETERS: usize = 127;
+
+/// What the part that stands nearest to the name is.
+#[derive(Clone, Copy)]
+pub(crate) enum Nearest {
+    /// An array or function as it is written.
+    Written,
+    /// An array whose missing size is known.
+    Counts(u64),
+    /// In a parameter, a pointer with this node in place of an array or a function.
+    Points(NodeId),
+}
+
+/// An array of elements of a complete type.
+#[tactic(auto, unfolding(crate::specs::Declaring::array_type))]
+fn array_type(
+    scope: &Scope,
+    types: &mut Types,
+    at: Place,
+    element: TypeId,
+    count: u64,
+) -> Result<TypeId, Fault>
+    ensures { Answers (λ t. t) (declaring.array_type at element count (known types.old scope.now)) result (known types.new scope.now) }
+{
+    if element.0 >= types.count() || !types.is_complete(element) || count == 0 {
+        return Err(no_room(at));
+    }
+    type_with(scope, types, at, TypeShape::Array(element, count))
+}
+
+/// What an array part makes of its elements' type.
+#[tactic(auto, unfolding(crate::specs::Declaring::array_of))]
+fn array_of(
+    scope: &Scope,
+    types: &mut Types,
+    at: Place,
+    nearest: Nearest,
+    count: Option<u64>,
+    element: TypeId,
+) -> Result<TypeId, Fault>
+    ensures { Answers (λ t. t) (declaring.array_of at (nearest_view nearest) count element (known types.old scope.now)) result (known types.new scope.now) }
+{
+    match nearest {
+        Nearest::Points(node) => pointer_type(scope, types, at, node, element),
+        Nearest::Counts(given) => match count {
+            Some(count) => array_type(scope, types, at, element, count),
+            None => array_type(scope, types, at, element, given),
+        },
+        Nearest::Written => match count {
+            Some(count) => array_type(scope, types, at, element, count),
+            None => Err(no_room(at)),
+        },
+    }
+}
+
+fn is_pointed(nearest: Nearest) -> bool
+    ensures { result ≡ is_pointed (nearest_view nearest) }
+{
+    matches!(nearest, Nearest::Points(_))
+}
+
+/// An array part with no size, that neither an initialiser nor a parameter gives one.
+fn lacks_size(nearest: Nearest, sized: bool) -> bool
+    ensures { result ≡ tests.lacks_size (nearest_view nearest) sized }
+{
+    matches!(nearest, Nearest::Written) && !sized
+}
+
+/// The rules of an array part with the `[` at a place.
+fn array_fault(
+    scope: &Scope,
+    types: &Types,
+    nearest: Nearest,
+    sized: bool,
+    bracket: Place,
+    words: &[Word],
+    element: TypeId,
+    at: Place,
+) -> Option<Fault>
+    ensures { result ≡ first_broken (tests.array_tests types.now scope.now.scopes (nearest_view nearest) sized bracket words.now element at) }
+{
+    if lacks_size(nearest, sized) {
+        return Some(refusal(bracket, Rule::Incomplete));
+    }
+    if !is_complete_at(scope, types, element) {
+        return Some(refusal(at, Rule::Incomplete));
+    }
+    match words.first() {
+        Some(word) if !is_pointed(nearest) => Some(refusal(word.place, Rule::Mismatch)),
+        _ => None,
+    }
+}
+
+/// What an array part with the `[` at a place makes of its elements' type.
+#[tactic(auto, unfolding(crate::specs::Declaring::array_makes))]
+fn array_makes(
+    scope: &Scope,
+    types: &mut Types,
+    at: Place,
+    nearest: Nearest,
+    bracket: Place,
+    words: &[Word],
+    count: Option<u64>,
+    element: TypeId,
+) -> Result<TypeId, Fault>
+    ensures { Answers (λ t. t) (declaring.array_makes at (nearest_view nearest) bracket words.now count element (known types.old scope.now)) result (known types.new scope.now) }
+{
+    if let Some(fault) = array_fault(
+        scope,
+        types,
+        nearest,
+        count.is_some(),
+        bracket,
+        words,
+        element,
+        at,
+    ) {
+        return Err(fault);
+    }
+    array_of(scope, types, at, nearest, count, element)
+}
+
+/// A function gives no array, no function, and no struct or union (C99 6.7.5.3).
+fn function_fault(types: &Types, gives: TypeId, at: Place) -> Option<Fault>
+    ensures { result ≡ first_broken (tests.function_tests types.now gives at) }
+{
+    match shape_at(types, gives) {
+        None | Some(TypeShape::Void | TypeShape::Integer { .. } | TypeShape::Pointer(_, _)) => None,
+        Some(_) => Some(refusal(at, Rule::Mismatch)),
+    }
+}
+
+/// Whether all of them are in the table.
+fn are_types(types: &Types, all: &[TypeId]) -> bool
+    ensures { result ≡ declaring.are_types types.now all.now }
+{
+    let count = types.count();
+    all.iter().all(|t| t.0 < count)
+}
+
+/// A function type. No function has more than 127 parameters.
+#[tactic(auto, unfolding(crate::specs::Declaring::function_type, crate::specs::Declaring::counting_parameters))]
+fn function_type(
+    scope: &Scope,
+    types: &mut Types,
+    at: Place,
+    parameters: Vec<TypeId>,
+    gives: TypeId,
+) -> Result<TypeId, Fault>
+    ensures { Answers (λ t. t) (declaring.function_type at parameters.items gives (known types.old scope.now)) result (known types.new scope.now) }
+{
+    if gives.0 >= types.count() || !are_types(types, &parameters) {
+        return Err(no_room(at));
+    }
+    let too_many = parameters.len() > MOST_PARAMETERS;
+    let t = type_with(
+        scope,
+        types,
+        at,
+        TypeShape::Function(TypeList::of(parameters), gives),
+    )?;
+    if too_many {
+        return Err(Fault::TooLarge {
+            place: at,
+            limit: Limit::Params,
+        });
+    }
+    Ok(t)
+}
+
+/// Whether a parameter is `void` by itself.
+#[tactic(auto, using(c_tree::proofs::TypedViewLaws::typed_views))]
+fn is_void_alone(parameters: &[TypedParameter]) -> bool
+    ensures { result ≡ is_void_list (added NoParameter (map typed_parameter_view parameters.now)) }
+{
+    match parameters {
+        [one] => one.declarator.is_none() && is_void_word(one.specifiers.list.as_slice()),
+        _ => false,
+    }
+}
+
+#[tactic(auto, using(c_tree::proofs::TypedViewLaws::typed_views))]
+fn is_void_word(specifiers: &[TypedSpecifier]) -> bool
+    ensures { result ≡ is_void_word (typed_specifiers_of (map typed_specifier_view specifiers.now)) }
+{
+    match specifiers {
+        [TypedSpecifier::Keyword(word)] => word.keyword == Keyword::Void,
+        _ => false,
+    }
+}
+
+/// The types that a function takes.
+fn taken_types(scope: &Scope, parameters: &[TypedParameter]) -> Result<Vec<TypeId>, NoMemory>
+    ensures { IfOk result (λ types. types.items ≡ taken_types (added NoParameter (map typed_parameter_view parameters.now))) }
+{
+    let mut types = Vec::new(scope.alloc());
+    if is_void_alone(parameters) {
+        return Ok(types);
+    }
+    for parameter in parameters {
+        types.push(parameter.ty)?;
+    }
+    Ok(types)
+}
+
+/// What a function part makes of the type that it gives.
+#[tactic(auto, unfolding(crate::specs::Declaring::function_makes, crate::specs::Declaring::function_as))]
+fn function_makes(
+    scope: &Scope,
+    types: &mut Types,
+    at: Place,
+    nearest: Nearest,
+    parameters: &[TypedParameter],
+    gives: TypeId,
+) -> Result<TypeId, Fault>
+    ensures { Answers (λ t. t) (declaring.function_makes at (nearest_view nearest) (added NoParameter (map typed_parameter_view parameters.now)) gives (known types.old scope.now)) result (known types.new scope.now) }
+{
+    if let Some(fault) = function_fault(types, gives, at) {
+        return Err(fault);
+    }
+    let taken = taken_types(scope, parameters)?;
+    let t = function_type(scope, types, at, taken, gives)?;
+    match nearest {
+        Nearest::Points(node) => pointer_type(scope, types, at, node, t),
+        _ => Ok(t),
+    }
+}
+
+/// What a part makes of the type that it stands behind, by whether it is the one nearest to the name.
+#[tactic(auto, using(c_tree::proofs::TypedViewLaws::typed_views), unfolding(crate::specs::Declaring::last_makes))]
+fn part_makes(
+    scope: &Scope,
+    types: &mut Types,
+    at: Place,
+    nearest: Nearest,
+    part: &TypedPart,
+    base: TypeId,
+) -> Result<TypeId, Fault>
+    ensures { (all : TypedParts) → Answers (λ t. t) (declaring.last_makes at (nearest_view nearest) (typed_part_view part.now all) base (known types.old scope.now)) result (known types.new scope.now) }
+{
+    match part {
+        TypedPart::Array(bracket, words) => array_makes(
+            scope,
+            types,
+            at,
+            nearest,
+            *bracket,
+            words.as_slice(),
+            None,
+            base,
+        ),
+        TypedPart::SizedArray(bracket, words, _, size) => array_makes(
+            scope,
+            types,
+            at,
+            nearest,
+            *bracket,
+            words.as_slice(),
+            Some(*size),
+            base,
+        ),
+        TypedPart::Function(_, parameters) => {
+            function_makes(scope, types, at, nearest, parameters.as_slice(), base)
+        }
+    }
+}
+
+fn nearest_of(before: &[TypedPart], nearest: Nearest) -> Nearest
+    ensures { nearest_view result ≡ nearest (added NoPart (map typed_part_view before.now)) (nearest_view nearest) }
+{
+    if before.is_empty() {
+        nearest
+    } else {
+        Nearest::Written
+    }
+}
+
+/// What the parts make, the last first.
+fn parts_make(
+    scope: &Scope,
+    types: &mut Types,
+    at: Place,
+    nearest: Nearest,
+    parts: &[TypedPart],
+    base: TypeId,
+) -> Result<TypeId, Fault>
+    ensures { Answers (λ t. t) (declaring.parts_make at (nearest_view nearest) (added NoPart (map typed_part_view parts.now)) base (known types.old scope.now)) result (known types.new scope.now) }
+{
+    let mut rest = parts;
+    let mut t = base;
+    'inwards: while let Some((part, before)) = rest.split_last() {
+        t = part_makes(scope, types, at, nearest_of(before, nearest), part, t)?;
+        rest = before;
+    }
+    Ok(t)
+}
+
+/// What the stars make, the first first.
+fn stars_make(
+    scope: &Scope,
+    types: &mut Types,
+    at: Place,
+    stars: &[TypedStar],
+    base: TypeId,
+) -> Result<TypeId, Fault>
+    ensures { Answers (λ t. t) (declaring.stars_make at stars.now base (known types.old scope.now)) result (known types.new scope.now) }
+{
+    let mut rest = stars;
+    let mut t = base;
+    'outwards: while let Some((star, after)) = rest.split_first() {
+        t = pointer_type(scope, types, at, star.node, t)?;
+        rest = after;
+    }
+    Ok(t)
+}
+
+/// Whether stars or parts stand round the name.
+#[tactic(auto, using(c_tree::proofs::TypedViewLaws::typed_views))]
+pub(crate) fn is_derived(form: &TypedForm) -> bool
+    ensures { result ≡ is_derived (typed_form_view form.now) }
+{
+    if !form.stars.is_empty() || !form.parts.is_empty() {
+        return true;
+    }
+    match &form.core {
+        TypedCore::Nested(_, inner) => is_derived(inner.get()),
+        _ => false,
+    }
+}
+
+#[tactic(auto, using(c_tree::proofs::TypedViewLaws::typed_views))]
+fn is_derived_core(core: &TypedCore) -> bool
+    ensures { result ≡ is_derived_core (typed_core_view core.now) }
+{
+    match core {
+        TypedCore::Nested(_, inner) => is_derived(inner.get()),
+        _ => false,
+    }
+}
+
+/// What a form makes of a type: its stars first, then its parts, then what stands in its parentheses.
+#[tactic(auto, using(c_tree::proofs::TypedViewLaws::typed_views), unfolding(crate::specs::Declaring::form_makes, crate::specs::Declaring::core_makes))]
+pub(crate) fn form_makes(
+    scope: &Scope,
+    types: &mut Types,
+    at: Place,
+    nearest: Nearest,
+    form: &TypedForm,
+    base: TypeId,
+) -> Result<TypeId, Fault>
+    ensures { Answers (λ t. t) (declaring.form_makes at (nearest_view nearest) (typed_form_view form.now) base (known types.old scope.now)) result (known types.new scope.now) }
+{
+    let t = stars_make(scope, types, at, form.stars.as_slice(), base)?;
+    let own = if is_derived_core(&form.core) {
+        Nearest::Written
+    } else {
+        nearest
+    };
+    let t = parts_make(scope, types, at, own, form.parts.as_slice(), t)?;
+    match &form.core {
+        TypedCore::Nested(_, inner) => form_makes(scope, types, at, nearest, inner.get(), t),
+        _ => Ok(t),
+    }
+}
+
+/// What a declarator that may be left out makes of a type.
+#[tactic(auto, using(c_tree::proofs::TypedViewLaws::typed_views), unfolding(crate::specs::Declaring::declared_makes))]
+pub(crate) fn declared_makes(
+    scope: &Scope,
+    types: &mut Types,
+    at: Place,
+    nearest: Nearest,
+    declared: Option<&TypedForm>,
+    base: TypeId,
+) -> Result<TypeId, Fault>
+    ensures { Answers (λ t. t) (declaring.declared_makes at (nearest_view nearest) (typed_declared_of (option_map typed_form_view (option_copied declared.entry))) base (known types.old scope.now)) result (known types.new scope.now) }
+{
+    match declared {
+        Some(form) => form_makes(scope, types, at, nearest, form, base),
+        None => Ok(base),
+    }
+}

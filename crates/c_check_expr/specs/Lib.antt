@@ -22,3 +22,4 @@ pub mod Declaring
 pub mod Walks
 pub mod Nests
 pub mod MakingViews
+pub mod WordViews

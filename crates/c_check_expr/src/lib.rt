@@ -1,6 +1,7 @@
 //! The typing of expressions, specifiers and declarators (C99 6.5, 6.7), and the scopes of names and tags.
 #![tactic(auto)]
 
+mod copies;
 mod declared;
 mod kind;
 mod laws;
@@ -11,9 +12,11 @@ mod naming;
 mod operand;
 mod scope;
 mod shapes;
+mod specifying;
 mod stops;
 mod typing;
 mod walker;
+mod words;
 
 pub use declared::{Declared, Tag};
 pub use laws::{

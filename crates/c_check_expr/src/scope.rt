@@ -163,6 +163,13 @@ impl Scope {
         self.defined.get_index_of(name)
     }
 
+    /// How many structs and unions are declared so far. Takes no memory.
+    pub(crate) fn aggregates(&self) -> usize
+        ensures { result ≡ length self.now.scopes.members }
+    {
+        self.members.len()
+    }
+
     /// Gives a new struct or union its number. It has no members so far.
     pub(crate) fn new_aggregate(&mut self) -> Result<usize, NoMemory>
         ensures number { IfOk result (λ number. number ≡ length self.old.scopes.members) }

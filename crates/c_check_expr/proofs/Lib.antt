@@ -7,3 +7,8 @@ pub mod InfixLaws
 pub mod TableGrowth
 pub mod TypeSearch
 pub mod TypedRows
+pub mod TagLaws
+pub mod SeriesLaws
+pub mod MakingLaws
+pub mod PlaceLaws
+pub mod DerivedLaws

@@ -1,5 +1,6 @@
 -- A tag that is not seen is not declared in the innermost scope.
-use Rattle.std.proofs.Common.{◌≡◌, List, [], ◌∷◌, Option, None, Some, absurd}
+use Rattle.std.proofs.Common.{◌≡◌, refl, sym, List, [], ◌∷◌, Option, None, Some}
+use Rattle.std.proofs.lemmas.Option.{none-some}
 use Rattle.c_check_expr.specs.declared.declared.Tag.{Tag}
 use Rattle.c_check_expr.specs.Scopes.{Name, Level, tag_in, tag_here, innermost, entry_of, or_outer}
 
@@ -10,7 +11,7 @@ none_first (Some a) y p = p
 
 pub none_second : {A : Type 0} (x y : Option A) → or_outer x y ≡ None → y ≡ None
 none_second None y p = p
-none_second (Some a) y p = absurd (cc p)
+none_second (Some a) y p = absurd (none-some (sym p))
 
 pub not_here : (levels : List Level) (name : Name) → tag_in levels name ≡ None → tag_here levels name ≡ None
 not_here [] name p = refl

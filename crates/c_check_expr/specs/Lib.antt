@@ -23,3 +23,5 @@ pub mod Walks
 pub mod Nests
 pub mod MakingViews
 pub mod WordViews
+pub mod DerivedViews
+pub mod NamedViews

@@ -118,7 +118,7 @@ is_definable T t members =
     && (is_aggregate_shape (shape_at T t)
     && (is_empty (members_at T t)
     && (not (is_empty members)
-    && list_all (λ m. is_complete (entry_at T m)) members)))
+    && list_all (λ m. nat_lt m.0 (length T) && is_complete (entry_at T m)) members)))
 
 unfoldable pub defined : Place → TypeId → List TypeId → Judging TypeId
 defined at t members = λ s.
@@ -149,8 +149,8 @@ ended before which at name brace begun members = obeying
 -- Enumerations
 
 -- `enum E`
-unfoldable pub enum : (before : Counted) → Place → Identifier → Judging TypedSpecifier
-enum before at name = obeying (λ s. tests.enum_tests s.seen.scopes name.bytes name.place ++ tests.word_tests at (one_named before))
+unfoldable pub enum_tag : (before : Counted) → Place → Identifier → Judging TypedSpecifier
+enum_tag before at name = obeying (λ s. tests.enum_tests s.seen.scopes name.bytes name.place ++ tests.word_tests at (one_named before))
     (pure (typed.Enum at name))
 
 -- an enumerator is declared

@@ -124,7 +124,7 @@ unfoldable mutual
     t ← specifying.begun which at name
     rows ← judge_members members
     specifying.ended before which at name brace t rows
-  judge_specifier before (tree.Enum at name) = specifying.enum before at name
+  judge_specifier before (tree.Enum at name) = specifying.enum_tag before at name
   judge_specifier before (tree.Enumeration at name brace all comma) = do
     found ← specifying.enumeration_begun name
     list ← judge_enumerators all
@@ -188,7 +188,8 @@ unfoldable mutual
     parts ← judge_parts at all
     in_prototype ← declaring.entered
     list ← judge_parameters (is_void_alone parameters) parameters
-    declaring.left at (typed.AndFunction parts paren list)
+    whole ← declaring.left at list
+    pure (typed.AndFunction parts paren whole)
 
   -- `void` says that the list is `(void)`
   pub judge_parameters : (void : Bool) → tree.Parameters → Judging TypedParameters
@@ -204,6 +205,13 @@ unfoldable mutual
   judge_declared which at (tree.DeclaredBy d) = do
     form ← judge_form which at d
     pure (typed.DeclaredBy form)
+
+-- parameters in a scope of their own
+unfoldable pub judge_prototype : Place → tree.Parameters → Judging TypedParameters
+judge_prototype at parameters = do
+  in_prototype ← declaring.entered
+  list ← judge_parameters (is_void_alone parameters) parameters
+  declaring.left at list
 
 -- Specifiers that no declarator follows (C99 6.7.2.3)
 abbrev pub judge_alone_list : tree.Specifiers → Judging TypedSpecifierList

@@ -1,19 +1,29 @@
 //! The typing of expressions, specifiers and declarators (C99 6.5, 6.7), and the scopes of names and tags.
 #![tactic(auto)]
 
+mod aggregates;
 mod copies;
+mod declarators;
 mod declared;
+mod derived;
+mod enumerators;
 mod kind;
 mod laws;
 mod level;
 mod making;
 mod member;
+mod members;
 mod naming;
 mod operand;
+mod parameters;
+mod pending;
+mod places;
 mod scope;
 mod shapes;
+mod specifiers;
 mod specifying;
 mod stops;
+mod type_names;
 mod typing;
 mod walker;
 mod words;

@@ -207,8 +207,11 @@ fn is_void_alone(parameters: &[TypedParameter]) -> bool
 fn is_void_word(specifiers: &[TypedSpecifier]) -> bool
     ensures { result ≡ is_void_word (typed_specifiers_of (map typed_specifier_view specifiers.now)) }
 {
-    match specifiers {
-        [TypedSpecifier::Keyword(word)] => word.keyword == Keyword::Void,
+    let Some((last, before)) = specifiers.split_last() else {
+        return false;
+    };
+    match last {
+        TypedSpecifier::Keyword(word) => before.is_empty() && word.keyword == Keyword::Void,
         _ => false,
     }
 }
@@ -289,17 +292,19 @@ fn part_makes(
     }
 }
 
-fn nearest_of(before: &[TypedPart], nearest: Nearest) -> Nearest
-    ensures { nearest_view result ≡ nearest (added NoPart (map typed_part_view before.now)) (nearest_view nearest) }
+/// What a part is that stands behind these others.
+#[tactic(auto, using(crate::proofs::MakingLaws::nearest_behind))]
+fn nearest_of(before: &[TypedPart], own: Nearest) -> Nearest
+    ensures { nearest_view result ≡ nearest (added NoPart (map typed_part_view before.now)) (nearest_view own) }
 {
-    if before.is_empty() {
-        nearest
-    } else {
-        Nearest::Written
+    match before.split_last() {
+        Some(_) => Nearest::Written,
+        None => own,
     }
 }
 
 /// What the parts make, the last first.
+#[tactic(auto, using(crate::proofs::MakingLaws::last_first), unfolding(crate::specs::Declaring::parts_make))]
 fn parts_make(
     scope: &Scope,
     types: &mut Types,
@@ -320,6 +325,7 @@ fn parts_make(
 }
 
 /// What the stars make, the first first.
+#[tactic(auto, unfolding(crate::specs::Declaring::stars_make))]
 fn stars_make(
     scope: &Scope,
     types: &mut Types,
@@ -339,19 +345,22 @@ fn stars_make(
 }
 
 /// Whether stars or parts stand round the name.
-#[tactic(auto, using(c_tree::proofs::TypedViewLaws::typed_views))]
+#[cycle(derived)]
+#[tactic(auto, using(c_tree::proofs::TypedViewLaws::typed_views, crate::proofs::MakingLaws::some_part))]
 pub(crate) fn is_derived(form: &TypedForm) -> bool
     ensures { result ≡ is_derived (typed_form_view form.now) }
 {
-    if !form.stars.is_empty() || !form.parts.is_empty() {
+    if let Some(_) = form.stars.as_slice().split_first() {
         return true;
     }
-    match &form.core {
-        TypedCore::Nested(_, inner) => is_derived(inner.get()),
-        _ => false,
+    if let Some(_) = form.parts.as_slice().split_last() {
+        return true;
     }
+    is_derived_core(&form.core)
 }
 
+/// Whether stars or parts stand in the parentheses round the name.
+#[cycle(derived)]
 #[tactic(auto, using(c_tree::proofs::TypedViewLaws::typed_views))]
 fn is_derived_core(core: &TypedCore) -> bool
     ensures { result ≡ is_derived_core (typed_core_view core.now) }

@@ -24,9 +24,9 @@ use cc_base::{Fault, NoMemory, Place, Rule, TypeId};
 
 /// A storage word, a qualifier, or a word for a type.
 #[tactic(auto, using(c_tree::proofs::TypedViewLaws::typed_views), unfolding(crate::specs::Specifying::word))]
-pub(crate) fn word(before: Words, w: Word) -> Result<(TypedSpecifier, Words), Fault>
-    ensures answers { (s : State) → Answers (λ r. typed_specifier_view r.0) (specifying.word before w s) result s }
-    ensures counts { IfOk result (λ r. r.1 ≡ counting (typed_specifier_view r.0) before) }
+pub(crate) fn word(before: &Words, w: Word) -> Result<(TypedSpecifier, Words), Fault>
+    ensures answers { (s : State) → Answers (λ r. typed_specifier_view r.0) (specifying.word before.now w s) result s }
+    ensures counts { IfOk result (λ r. r.1 ≡ counting (typed_specifier_view r.0) before.now) }
 {
     match before.with_word(w.keyword) {
         Some(words) => Ok((TypedSpecifier::Keyword(w), words)),
@@ -53,11 +53,11 @@ fn typedef_named(scope: &Scope, types: &Types, name: &Identifier) -> Result<Type
 pub(crate) fn typedef_name(
     scope: &Scope,
     types: &Types,
-    before: Words,
+    before: &Words,
     name: &Identifier,
 ) -> Result<(TypedSpecifier, Words), Fault>
-    ensures answers { Answers (λ r. typed_specifier_view r.0) (specifying.typedef_name before name.now (known types.now scope.now)) result (known types.now scope.now) }
-    ensures counts { IfOk result (λ r. r.1 ≡ one_named before) }
+    ensures answers { Answers (λ r. typed_specifier_view r.0) (specifying.typedef_name before.now name.now (known types.now scope.now)) result (known types.now scope.now) }
+    ensures counts { IfOk result (λ r. r.1 ≡ one_named before.now) }
 {
     let Some(words) = before.with_name() else {
         return Err(refusal(name.place, Rule::Mismatch));
@@ -80,7 +80,7 @@ fn declare_tag_of(
     name: Option<&Identifier>,
     what: Tag,
 ) -> Result<(), NoMemory>
-    requires { tag_named_here scope.old.scopes (option_copied name.entry) ≡ None }
+    requires { tag_named_here scope.old.scopes (option_copied name) ≡ None }
     ensures { OnOk result (scope.new ≡ with_scopes scope.old (tagging (option_copied name.entry) what scope.old.scopes)) }
 {
     match name {
@@ -91,14 +91,14 @@ fn declare_tag_of(
 
 /// A new struct or union, which is named at the place.
 #[tactic(auto, unfolding(crate::specs::Specifying::new_aggregate, crate::specs::Operations::numbered))]
-fn new_aggregate(
+pub(crate) fn new_aggregate(
     scope: &mut Scope,
     types: &mut Types,
     which: AggregateKind,
     at: Place,
     name: Option<&Identifier>,
 ) -> Result<TypeId, Fault>
-    requires { tag_named_here scope.old.scopes (option_copied name.entry) ≡ None }
+    requires { tag_named_here scope.old.scopes (option_copied name) ≡ None }
     ensures { Answers (λ t. t) (specifying.new_aggregate which at (option_copied name.entry) (known types.old scope.old)) result (known types.new scope.new) }
 {
     let Ok(number) = u32::try_from(scope.aggregates()) else {
@@ -111,7 +111,7 @@ fn new_aggregate(
 }
 
 /// Whether a tag is one of this keyword.
-fn is_tag_of(which: AggregateKind, tag: Tag) -> bool
+pub(crate) fn is_tag_of(which: AggregateKind, tag: Tag) -> bool
     ensures { result ≡ tests.is_tag_of which tag }
 {
     match tag {
@@ -167,13 +167,13 @@ fn tagged_as(
 pub(crate) fn tagged(
     scope: &mut Scope,
     types: &mut Types,
-    before: Words,
+    before: &Words,
     which: AggregateKind,
     at: Place,
     name: &Identifier,
 ) -> Result<(TypedSpecifier, Words), Fault>
-    ensures answers { Answers (λ r. typed_specifier_view r.0) (specifying.tagged before which at name.now (known types.old scope.old)) result (known types.new scope.new) }
-    ensures counts { IfOk result (λ r. r.1 ≡ one_named before) }
+    ensures answers { Answers (λ r. typed_specifier_view r.0) (specifying.tagged before.now which at name.now (known types.old scope.old)) result (known types.new scope.new) }
+    ensures counts { IfOk result (λ r. r.1 ≡ one_named before.now) }
 {
     if let Some(fault) = tag_fault(scope, which, name) {
         return Err(fault);
@@ -225,16 +225,16 @@ fn enum_fault(scope: &Scope, name: &Identifier) -> Option<Fault>
 }
 
 /// `enum E`.
-#[tactic(auto, using(c_tree::proofs::TypedViewLaws::typed_views), unfolding(crate::specs::Specifying::enum))]
+#[tactic(auto, using(c_tree::proofs::TypedViewLaws::typed_views), unfolding(crate::specs::Specifying::enum_tag))]
 pub(crate) fn enum_named(
     scope: &Scope,
     types: &Types,
-    before: Words,
+    before: &Words,
     at: Place,
     name: &Identifier,
 ) -> Result<(TypedSpecifier, Words), Fault>
-    ensures answers { Answers (λ r. typed_specifier_view r.0) (specifying.enum before at name.now (known types.now scope.now)) result (known types.now scope.now) }
-    ensures counts { IfOk result (λ r. r.1 ≡ one_named before) }
+    ensures answers { Answers (λ r. typed_specifier_view r.0) (specifying.enum_tag before.now at name.now (known types.now scope.now)) result (known types.now scope.now) }
+    ensures counts { IfOk result (λ r. r.1 ≡ one_named before.now) }
 {
     let _count = types.count();
     if let Some(fault) = enum_fault(scope, name) {

@@ -74,7 +74,7 @@ fn with_one_named(t: Tally) -> Tally
 }
 
 /// Words and names that may stand together.
-#[derive(Clone, Copy)]
+#[derive(Drop)]
 pub(crate) struct Words(Tally);
 
 impl Model for Words {
@@ -107,24 +107,24 @@ impl Words {
     }
 
     /// With a word more, if it goes with them.
-    pub(crate) fn with_word(self, word: Keyword) -> Option<Words>
-        ensures { result ≡ (if are_allowed (counting_word word self) then Some (counting_word word self) else None) }
+    pub(crate) fn with_word(&self, word: Keyword) -> Option<Words>
+        ensures { result ≡ (if are_allowed (counting_word word self.now) then Some (counting_word word self.now) else None) }
     {
         let t = with_type_word(self.0, word);
         if is_allowed(t) { Some(Words(t)) } else { None }
     }
 
     /// With a name of a type more, if it goes with them.
-    pub(crate) fn with_name(self) -> Option<Words>
-        ensures { result ≡ (if are_allowed (one_named self) then Some (one_named self) else None) }
+    pub(crate) fn with_name(&self) -> Option<Words>
+        ensures { result ≡ (if are_allowed (one_named self.now) then Some (one_named self.now) else None) }
     {
         let t = with_one_named(self.0);
         if is_allowed(t) { Some(Words(t)) } else { None }
     }
 
     /// The type that the words name, where no name of a type stands among them.
-    pub(crate) fn ty(self) -> TypeId
-        ensures { result ≡ words_type self }
+    pub(crate) fn ty(&self) -> TypeId
+        ensures { result ≡ words_type self.now }
     {
         let t = self.0;
         if t.void == 1 {

@@ -9,6 +9,4 @@ pub mod TypeSearch
 pub mod TypedRows
 pub mod TagLaws
 pub mod SeriesLaws
-pub mod MakingLaws
 pub mod PlaceLaws
-pub mod DerivedLaws

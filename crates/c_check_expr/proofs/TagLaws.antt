@@ -11,7 +11,7 @@ none_first (Some a) y p = p
 
 pub none_second : {A : Type 0} (x y : Option A) → or_outer x y ≡ None → y ≡ None
 none_second None y p = p
-none_second (Some a) y p = absurd (none-some (sym p))
+none_second (Some a) y p = absurd (none-some a (sym p))
 
 pub not_here : (levels : List Level) (name : Name) → tag_in levels name ≡ None → tag_here levels name ≡ None
 not_here [] name p = refl

@@ -24,4 +24,3 @@ pub mod Nests
 pub mod MakingViews
 pub mod WordViews
 pub mod DerivedViews
-pub mod NamedViews

@@ -3,13 +3,13 @@
 
 ghost use Rattle.std.specs.Prelude.{◌≡◌, map, option_map};
 ghost use Rattle.c_types.specs.Table.{shape_at};
-ghost use Rattle.c_tree.specs.Tree.{NoPart};
-ghost use Rattle.c_tree.specs.Views.{added, core_view, declarator_view, declared_of, part_view, specifiers_view};
+ghost use Rattle.c_tree.specs.Tree.{Parts, NoPart};
+ghost use Rattle.c_tree.specs.Views.{added, core_view, declarator_view, declared_of, part_view};
 ghost use Rattle.c_check_expr.specs.Declaring as declaring;
 ghost use Rattle.c_check_expr.specs.DerivedViews.{derived_view};
 
 use crate::shapes::{is_function, shape_at};
-use c_tree::{Core, Declarator, Part, Specifier, Specifiers};
+use c_tree::{Core, Declarator, Part};
 use c_types::{TypeShape, Types};
 use cc_base::{Place, TypeId};
 
@@ -22,24 +22,30 @@ pub(crate) enum Derived {
     ByFunction(Place),
 }
 
+/// What a part is that stands behind others.
 #[tactic(auto, using(c_tree::proofs::ViewLaws::expr_views))]
 fn by_part(part: &Part) -> Derived
-    ensures { (outer : declaring.Derived) → derived_view result ≡ declaring.by_parts (part_view part.now NoPart) outer }
+    ensures { (all : Parts) (outer : declaring.Derived) → declaring.by_parts (part_view part.now all) outer ≡ declaring.by_parts all (derived_view result) }
 {
     match part {
-        Part::Array(at, _, _) => Derived::ByArray(*at),
+        Part::Array(at, _, None) => Derived::ByArray(*at),
+        Part::Array(at, _, Some(_)) => Derived::ByArray(*at),
         Part::Function(at, _) => Derived::ByFunction(*at),
     }
 }
 
-#[tactic(auto, using(crate::proofs::DerivedLaws::first_part))]
+/// The first of several parts is the one nearest to the name.
+#[tactic(auto, using(c_tree::proofs::PushLaws::pushes))]
 fn by_parts(parts: &[Part], outer: Derived) -> Derived
     ensures { derived_view result ≡ declaring.by_parts (added NoPart (map part_view parts.now)) (derived_view outer) }
 {
-    match parts.split_first() {
-        Some((first, _)) => by_part(first),
-        None => outer,
+    let mut rest = parts;
+    let mut nearest = outer;
+    'inwards: while let Some((part, before)) = rest.split_last() {
+        nearest = by_part(part);
+        rest = before;
     }
+    nearest
 }
 
 #[cycle(derived_by)]

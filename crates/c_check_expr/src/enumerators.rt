@@ -1,13 +1,13 @@
 //! Enumerators (C99 6.7.2.2).
 #![tactic(auto)]
 
-ghost use Rattle.std.specs.Prelude.{◌≡◌, ◌≢◌, ◌++◌, IfOk, IfErr, map, Some, None};
+ghost use Rattle.std.specs.Prelude.{◌≡◌, ◌≢◌, ◌++◌, IfOk, IfErr, Some, None};
 ghost use Rattle.cc_base.specs.declared.fault.Fault.TheVariants.{NoMemory as no_memory};
 ghost use Rattle.c_types.specs.Table.{Table};
-ghost use Rattle.c_tree.specs.Tree.{Enumerators, NoEnumerator};
-ghost use Rattle.c_tree.specs.TypedTree.{TypedEnumerators, NoEnumerator as none_typed};
+ghost use Rattle.c_tree.specs.Tree.{Enumerators};
+ghost use Rattle.c_tree.specs.TypedTree.{TypedEnumerators};
 ghost use Rattle.c_tree.specs.TypedViews.{typed_enumerator_view};
-ghost use Rattle.c_tree.specs.Views.{added, enumerator_view};
+ghost use Rattle.c_tree.specs.Views.{enumerator_view};
 ghost use Rattle.c_check_expr.specs.Constants as constants;
 ghost use Rattle.c_check_expr.specs.Judging.{Answers, Gives, State, known};
 ghost use Rattle.c_check_expr.specs.Nests.{Nests};
@@ -27,7 +27,7 @@ use crate::scope::Scope;
 use crate::stops::refusal;
 use crate::walker::Walker;
 use c_tree::{
-    Declarator, Enumerator, Expr, Identifier, Items, Specifiers, TypedEnumerator, TypedForm,
+    Declarator, Enumerator, Expr, Identifier, Specifiers, TypedEnumerator, TypedForm,
     TypedSpecifiers,
 };
 use c_types::Types;
@@ -131,25 +131,5 @@ impl<
                 valued(scope, types, name, *at, v)
             }
         }
-    }
-
-    /// Enumerators, one after another.
-    pub(crate) fn enumerators(
-        &self,
-        scope: &mut Scope,
-        types: &mut Types,
-        list: &[Enumerator],
-    ) -> Result<Items<TypedEnumerator>, Fault>
-        requires nests { Nests self.now.depth (E.pre self.now.judge_expr) (E.post self.now.judge_expr) (S.pre self.now.judge_specifiers) (S.post self.now.judge_specifiers) (D.pre self.now.judge_form) (D.post self.now.judge_form) }
-        ensures { Answers (λ r. added none_typed (map typed_enumerator_view r)) (walks.judge_enumerators (added NoEnumerator (map enumerator_view list.now)) (known types.old scope.old)) result (known types.new scope.new) }
-    {
-        let mut found = Items::new(scope.alloc());
-        let mut last = None;
-        for e in list {
-            let (one, value) = self.enumerator(scope, types, last, e)?;
-            found.push(one)?;
-            last = Some(value);
-        }
-        Ok(found)
     }
 }

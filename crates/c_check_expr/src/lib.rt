@@ -20,7 +20,6 @@ mod pending;
 mod places;
 mod scope;
 mod shapes;
-mod specifiers;
 mod specifying;
 mod stops;
 mod type_names;

@@ -1,34 +1,18 @@
 //! Rows of members (C99 6.7.2.1).
 #![tactic(auto)]
 
-ghost use Rattle.std.specs.Prelude.{◌≡◌, ◌++◌, ◌∷◌, [], IfOk, OnOk, Some, None, map, option_copied};
-ghost use Rattle.cc_base.specs.declared.number.TypeId.{TypeId as PlainType};
-ghost use Rattle.c_types.specs.Table.{Table};
-ghost use Rattle.c_tree.specs.Tree.{Members, NoMember, MemberDeclarators};
-ghost use Rattle.c_tree.specs.TypedTree.{TypedMembers, NoMember as no_typed_member, TypedMemberDeclarators, AndDeclarator};
-ghost use Rattle.c_tree.specs.Views.{added, declarator_view, members_view, member_declarators_of};
-ghost use Rattle.c_tree.specs.TypedViews.{typed_declarator_view, typed_form_view, typed_members_view, typed_member_declarators_of};
-ghost use Rattle.c_check_expr.specs.Declarators.{declarator_names, member_names};
+ghost use Rattle.std.specs.Prelude.{◌≡◌, option_copied};
+ghost use Rattle.c_tree.specs.TypedTree.{TypedMemberDeclarators, AndDeclarator};
+ghost use Rattle.c_tree.specs.TypedViews.{typed_declarator_view, typed_form_view};
 ghost use Rattle.c_check_expr.specs.Declaring as declaring;
-ghost use Rattle.c_check_expr.specs.Judging.{Answers, Gives, State, known};
-ghost use Rattle.c_check_expr.specs.Nests.{Nests};
-ghost use Rattle.c_check_expr.specs.Refusals.{has_name};
-ghost use Rattle.c_check_expr.specs.Tests as tests;
-ghost use Rattle.c_check_expr.specs.Walks as walks;
+ghost use Rattle.c_check_expr.specs.Judging.{Answers, known};
 
 use crate::making::{Nearest, form_makes};
 use crate::member::MemberNames;
-use crate::naming::Naming;
-use crate::operand::Operand;
-use crate::places::{declarator_name, name_place};
 use crate::scope::Scope;
 use crate::shapes::is_complete_at;
 use crate::stops::{no_room, refusal};
-use crate::walker::Walker;
-use c_tree::{
-    Declarator, Expr, Identifier, Items, Members, Specifiers, TypedDeclarator, TypedForm,
-    TypedMembers, TypedSpecifiers,
-};
+use c_tree::{Identifier, TypedDeclarator, TypedForm};
 use c_types::Types;
 use cc_base::{Fault, Place, Rule, TypeId};
 

@@ -1,42 +1,28 @@
 //! Parameters (C99 6.7.5.3).
 #![tactic(auto)]
 
-ghost use Rattle.std.specs.Prelude.{◌≡◌, ◌≢◌, Some, None, IfOk, IfErr, map, option_map, option_copied};
-ghost use Rattle.cc_base.specs.declared.fault.Fault.TheVariants.{NoMemory as no_memory};
+ghost use Rattle.std.specs.Prelude.{◌≡◌, false, option_map, option_copied};
 ghost use Rattle.c_types.specs.Table.{Table, shape_at};
-ghost use Rattle.c_tree.specs.Tree.{Parameters, NoParameter, AndParameter, NotDeclared};
-ghost use Rattle.c_tree.specs.TypedTree.{TypedParameters, NoParameter as no_typed_parameter};
-ghost use Rattle.c_tree.specs.Views.{added, declarator_view, declared_of, parameter_view, specifier_view, specifiers_of, specifiers_view};
+ghost use Rattle.c_tree.specs.TypedTree.{TypedParameters};
 ghost use Rattle.c_tree.specs.TypedViews.{typed_core_view, typed_form_view, typed_declared_of, typed_parameter_view, typed_specifiers_view};
 ghost use Rattle.c_check_expr.specs.Declarators.{is_derived_declared};
 ghost use Rattle.c_check_expr.specs.Declaring as declaring;
-ghost use Rattle.c_check_expr.specs.Judging.{Answers, Gives, State, known};
-ghost use Rattle.c_check_expr.specs.KindViews.{shape_or_void};
-ghost use Rattle.c_check_expr.specs.Nests.{Nests};
-ghost use Rattle.c_check_expr.specs.Refusals.{declared_identifier, is_here, is_void_alone};
+ghost use Rattle.c_check_expr.specs.Judging.{Answers, known};
+ghost use Rattle.c_check_expr.specs.Refusals.{declared_identifier, is_here};
 ghost use Rattle.c_tree.specs.TypedParts.{home_of_core, home_of_form, name_of_core, name_of_form};
 ghost use Rattle.c_check_expr.specs.DerivedViews.{derived_view};
 ghost use Rattle.c_check_expr.specs.Tests as tests;
 ghost use Rattle.c_check_expr.specs.Tests.{first_broken};
-ghost use Rattle.c_check_expr.specs.Walks as walks;
 
 use crate::declarators::node_at;
-use crate::derived::{Derived, adjusted_at, derived_by_declared};
+use crate::derived::{Derived, adjusted_at};
 use crate::declared::Declared;
-use crate::places::declared_place;
 use crate::making::{Nearest, declared_makes, is_derived};
-use crate::naming::Naming;
-use crate::operand::Operand;
 use crate::scope::Scope;
 use crate::shapes::{is_aggregate, is_complete_at, shape_at};
 use crate::stops::{no_room, refusal};
 use crate::typing::pointer_type;
-use crate::walker::Walker;
-use c_lexer::Keyword;
-use c_tree::{
-    Adjusted, Declarator, Expr, Home, Identifier, Items, Parameter, Specifier, Specifiers,
-    TypedCore, TypedForm, TypedParameter, TypedSpecifiers,
-};
+use c_tree::{Adjusted, Home, Identifier, TypedCore, TypedForm, TypedParameter, TypedSpecifiers};
 use c_types::{TypeShape, Types};
 use cc_base::{Fault, NodeId, Place, Rule, TypeId};
 
@@ -164,20 +150,6 @@ fn parameter_declared(
     }
 }
 
-/// The place of the typedef's name in a list of specifiers.
-fn typedef_place(specifiers: &Specifiers) -> Place
-    ensures { result ≡ declaring.typedef_place (specifiers_view specifiers.now) }
-{
-    let mut rest = specifiers.list.as_slice();
-    'backwards: while let Some((last, before)) = rest.split_last() {
-        if let Specifier::Typedef(name) = last {
-            return name.place;
-        }
-        rest = before;
-    }
-    Place { line: 1, col: 1 }
-}
-
 /// The name of what a typed form declares.
 #[cycle(form_name)]
 #[tactic(auto, using(c_tree::proofs::TypedViewLaws::typed_views))]
@@ -270,91 +242,4 @@ fn made_parameter(
         adjusted,
         ty,
     })
-}
-
-impl<
-    E: Fn(&mut Scope, &mut Types, u16, bool, &Expr) -> Result<Operand, Fault>,
-    S: Fn(&mut Scope, &mut Types, u16, &Specifiers) -> Result<TypedSpecifiers, Fault>,
-    D: Fn(&mut Scope, &mut Types, u16, Naming, Place, &Declarator) -> Result<TypedForm, Fault>,
-> Walker<E, S, D> {
-    /// A parameter after those that are judged.
-    #[tactic(auto, using(c_tree::proofs::ViewLaws::expr_views), unfolding(crate::specs::Walks::judge_parameters, crate::specs::Walks::judge_specifiers))]
-    fn parameter(
-        &self,
-        scope: &mut Scope,
-        types: &mut Types,
-        void: bool,
-        one: &Parameter,
-    ) -> Result<TypedParameter, Fault>
-        requires nests { Nests self.now.depth (E.pre self.now.judge_expr) (E.post self.now.judge_expr) (S.pre self.now.judge_specifiers) (S.post self.now.judge_specifiers) (D.pre self.now.judge_form) (D.post self.now.judge_form) }
-        ensures { (start : State) (before : Parameters) (done : TypedParameters) → walks.judge_parameters void before start ≡ Gives done (known types.old scope.old) → Answers (λ made. typed_parameter_view made done) (walks.judge_parameters void (parameter_view one.now before) start) result (known types.new scope.new) }
-    {
-        let at = declared_place(&one.specifiers, &one.declarator);
-        let specifiers = self.specifiers(scope, types, &one.specifiers)?;
-        let declarator = self.declared(scope, types, Naming::Parameter, at, &one.declarator)?;
-        let derived = derived_by_declared(&one.declarator);
-        let named = typedef_place(&one.specifiers);
-        made_parameter(scope, types, void, at, derived, named, specifiers, declarator)
-    }
-
-    /// Parameters, one after another.
-    fn parameters(
-        &self,
-        scope: &mut Scope,
-        types: &mut Types,
-        void: bool,
-        list: &[Parameter],
-    ) -> Result<Items<TypedParameter>, Fault>
-        requires nests { Nests self.now.depth (E.pre self.now.judge_expr) (E.post self.now.judge_expr) (S.pre self.now.judge_specifiers) (S.post self.now.judge_specifiers) (D.pre self.now.judge_form) (D.post self.now.judge_form) }
-        ensures { Answers (λ found. added no_typed_parameter (map typed_parameter_view found)) (walks.judge_parameters void (added NoParameter (map parameter_view list.now)) (known types.old scope.old)) result (known types.new scope.new) }
-    {
-        let mut found = Items::new(scope.alloc());
-        for one in list {
-            found.push(self.parameter(scope, types, void, one)?)?;
-        }
-        Ok(found)
-    }
-
-    /// Parameters in a scope of their own.
-    #[tactic(auto, unfolding(crate::specs::Walks::judge_prototype, crate::specs::Declaring::entered, crate::specs::Declaring::left))]
-    pub(crate) fn prototype(
-        &self,
-        scope: &mut Scope,
-        types: &mut Types,
-        at: Place,
-        list: &[Parameter],
-    ) -> Result<Items<TypedParameter>, Fault>
-        requires nests { Nests self.now.depth (E.pre self.now.judge_expr) (E.post self.now.judge_expr) (S.pre self.now.judge_specifiers) (S.post self.now.judge_specifiers) (D.pre self.now.judge_form) (D.post self.now.judge_form) }
-        ensures { Answers (λ found. added no_typed_parameter (map typed_parameter_view found)) (walks.judge_prototype at (added NoParameter (map parameter_view list.now)) (known types.old scope.old)) result (known types.new scope.new) }
-    {
-        scope.enter()?;
-        let found = self.parameters(scope, types, is_void_alone(list), list)?;
-        if scope.depth() <= 1 {
-            return Err(no_room(at));
-        }
-        scope.leave();
-        Ok(found)
-    }
-}
-
-/// Whether the parameters are `(void)`.
-#[tactic(auto, using(c_tree::proofs::ViewLaws::expr_views))]
-fn is_void_alone(list: &[Parameter]) -> bool
-    ensures { result ≡ is_void_alone (added NoParameter (map parameter_view list.now)) }
-{
-    match list.split_first() {
-        Some((one, [])) => one.declarator.is_none() && is_void_word(one.specifiers.list.as_slice()),
-        _ => false,
-    }
-}
-
-/// Whether the specifiers are `void` by itself.
-#[tactic(auto, using(c_tree::proofs::ViewLaws::expr_views))]
-fn is_void_word(list: &[Specifier]) -> bool
-    ensures { result ≡ is_void_alone (AndParameter NoParameter (specifiers_of (map specifier_view list.now)) NotDeclared) }
-{
-    match list.split_first() {
-        Some((Specifier::Keyword(word), [])) => word.keyword == Keyword::Void,
-        _ => false,
-    }
 }

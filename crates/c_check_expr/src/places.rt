@@ -1,9 +1,9 @@
 //! Names of declarators as they are written, and the places at which their types are named.
 #![tactic(auto)]
 
-ghost use Rattle.std.specs.Prelude.{◌≡◌, option_copied, option_map};
+ghost use Rattle.std.specs.Prelude.{◌≡◌, map, option_copied, option_map};
 ghost use Rattle.c_tree.specs.Places.{specifier_place, specifiers_place};
-ghost use Rattle.c_tree.specs.Views.{core_view, declarator_view, declared_of, specifier_view, specifiers_view};
+ghost use Rattle.c_tree.specs.Views.{core_view, declarator_view, declared_of, specifier_view, specifiers_of, specifiers_view};
 ghost use Rattle.c_check_expr.specs.Declaring as declaring;
 ghost use Rattle.c_check_expr.specs.Refusals.{name_place};
 ghost use Rattle.c_check_expr.specs.Walks as walks;
@@ -61,14 +61,21 @@ fn specifier_place(specifier: &Specifier) -> Place
 }
 
 /// Where a list of specifiers begins.
-#[tactic(auto, using(c_tree::proofs::ViewLaws::expr_views, crate::proofs::PlaceLaws::first_of_list))]
-pub(crate) fn specifiers_place(specifiers: &Specifiers) -> Place
-    ensures { result ≡ specifiers_place (specifiers_view specifiers.now) }
+#[tactic(auto, using(crate::proofs::PlaceLaws::first_of_list))]
+fn list_place(list: &[Specifier]) -> Place
+    ensures { result ≡ specifiers_place (specifiers_of (map specifier_view list.now)) }
 {
-    match specifiers.list.as_slice().split_first() {
+    match list.split_first() {
         Some((first, _)) => specifier_place(first),
         None => NOWHERE,
     }
+}
+
+#[tactic(auto, using(c_tree::proofs::ViewLaws::expr_views))]
+pub(crate) fn specifiers_place(specifiers: &Specifiers) -> Place
+    ensures { result ≡ specifiers_place (specifiers_view specifiers.now) }
+{
+    list_place(specifiers.list.as_slice())
 }
 
 /// The place at which the type of a declarator is named: that of its name, or else of its first specifier.

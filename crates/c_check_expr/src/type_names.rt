@@ -1,12 +1,11 @@
 //! Type names (C99 6.7.6).
 #![tactic(auto)]
 
-ghost use Rattle.std.specs.Prelude.{◌≡◌, option_copied, option_map};
-ghost use Rattle.c_tree.specs.Views.{type_name_view, specifiers_view, declarator_view, declared_of};
+ghost use Rattle.std.specs.Prelude.{option_map};
+ghost use Rattle.c_tree.specs.Views.{type_name_view, declarator_view, declared_of};
 ghost use Rattle.c_tree.specs.TypedViews.{typed_type_name_view, typed_form_view, typed_declared_of};
 ghost use Rattle.c_check_expr.specs.Judging.{Answers, known};
 ghost use Rattle.c_check_expr.specs.Nests.{Nests};
-ghost use Rattle.c_check_expr.specs.Declaring as declaring;
 ghost use Rattle.c_check_expr.specs.Walks as walks;
 
 use crate::making::{Nearest, declared_makes};

@@ -8,5 +8,3 @@ pub mod TableGrowth
 pub mod TypeSearch
 pub mod TypedRows
 pub mod TagLaws
-pub mod SeriesLaws
-pub mod PlaceLaws

@@ -23,4 +23,3 @@ pub mod Walks
 pub mod Nests
 pub mod MakingViews
 pub mod WordViews
-pub mod DerivedViews

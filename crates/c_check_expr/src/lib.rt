@@ -3,26 +3,19 @@
 
 mod aggregates;
 mod copies;
-mod declarators;
 mod declared;
-mod derived;
-mod enumerators;
 mod kind;
 mod laws;
 mod level;
 mod making;
 mod member;
-mod members;
 mod naming;
 mod operand;
-mod parameters;
-mod pending;
 mod places;
 mod scope;
 mod shapes;
 mod specifying;
 mod stops;
-mod type_names;
 mod typing;
 mod walker;
 mod words;

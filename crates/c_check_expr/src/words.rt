@@ -54,11 +54,8 @@ fn with_type_word(t: Tally, word: Keyword) -> Tally
         Keyword::Long => t.long += 1,
         Keyword::Signed => t.signed += 1,
         Keyword::Unsigned => t.unsigned += 1,
-        Keyword::Auto
-        | Keyword::Register
-        | Keyword::Static
-        | Keyword::Extern
-        | Keyword::Typedef => t.storage += 1,
+        Keyword::Auto | Keyword::Register | Keyword::Static | Keyword::Extern | Keyword::Typedef =>
+            t.storage += 1,
         _ => {}
     }
     t
@@ -140,6 +137,10 @@ impl Words {
         } else {
             6
         };
-        if signed { TypeId(number - 1) } else { TypeId(number) }
+        if signed {
+            TypeId(number - 1)
+        } else {
+            TypeId(number)
+        }
     }
 }

@@ -7,3 +7,4 @@ pub mod InfixLaws
 pub mod TableGrowth
 pub mod TypeSearch
 pub mod TypedRows
+pub mod TagLaws

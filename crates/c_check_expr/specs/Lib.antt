@@ -17,3 +17,9 @@ pub mod OperandViews
 pub mod KindViews
 pub mod Extensions
 pub mod Settled
+pub mod Specifying
+pub mod Declaring
+pub mod Walks
+pub mod Nests
+pub mod MakingViews
+pub mod WordViews

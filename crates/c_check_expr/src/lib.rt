@@ -1,21 +1,31 @@
 //! The typing of expressions, specifiers and declarators (C99 6.5, 6.7), and the scopes of names and tags.
 #![tactic(auto)]
 
+mod aggregates;
+mod copies;
 mod declared;
 mod kind;
 mod laws;
 mod level;
+mod making;
 mod member;
+mod naming;
 mod operand;
+mod places;
 mod scope;
 mod shapes;
+mod specifying;
+mod stops;
 mod typing;
+mod walker;
+mod words;
 
 pub use declared::{Declared, Tag};
 pub use laws::{
     a_later_table_keeps_types, a_table_goes_on, an_unbroken_operator_is_well_typed,
     what_fits_is_converted,
 };
+pub use naming::Naming;
 pub use scope::Scope;
 
 #[cfg(test)]

@@ -1,7 +1,7 @@
 //! The scopes that are open, and what is counted.
 #![tactic(auto)]
 
-ghost use Rattle.std.specs.Prelude.{◌≡◌, ◌<◌, ◌≤◌, ◌+◌, true, false, not, OnOk, OnErr, IfOk, IfSome, None, option_copied, length, nat_le, map};
+ghost use Rattle.std.specs.Prelude.{◌≡◌, ◌<◌, ◌≤◌, ◌+◌, true, false, not, OnOk, OnErr, IfOk, IfSome, None, option_copied, length, nat_le, map, slice_set};
 ghost use Rattle.c_check_expr.specs.Scopes.{file_scope, with_scopes, entering, leaving, declaring, declaring_tag, here, tag_here, name_in, tag_in, place_among, members_named, is_no_list};
 ghost use Rattle.c_check_expr.specs.Typing.{counting_aggregate};
 
@@ -163,6 +163,13 @@ impl Scope {
         self.defined.get_index_of(name)
     }
 
+    /// How many structs and unions are declared so far. Takes no memory.
+    pub(crate) fn aggregates(&self) -> usize
+        ensures { result ≡ length self.now.scopes.members }
+    {
+        self.members.len()
+    }
+
     /// Gives a new struct or union its number. It has no members so far.
     pub(crate) fn new_aggregate(&mut self) -> Result<usize, NoMemory>
         ensures number { IfOk result (λ number. number ≡ length self.old.scopes.members) }
@@ -172,6 +179,15 @@ impl Scope {
         let number = self.members.len();
         self.members.push(MemberNames::new(self.alloc))?;
         Ok(number)
+    }
+
+    /// Gives a struct or union the names of its members. Takes no memory.
+    pub(crate) fn set_members(&mut self, number: usize, names: MemberNames)
+        ensures { self.new ≡ with_scopes self.old (record self.old.scopes { members = slice_set self.old.scopes.members number names }) }
+    {
+        if number < self.members.len() {
+            self.members[number] = names;
+        }
     }
 
     /// The place of a member of a struct or union by its name, counted from 0. Takes no memory.

@@ -39,7 +39,7 @@ pub(crate) fn type_with(
 
 /// The pointer type with a node to a type.
 #[tactic(auto, unfolding(crate::specs::Judging::pointer_type))]
-fn pointer_type(
+pub(crate) fn pointer_type(
     scope: &Scope,
     types: &mut Types,
     at: Place,

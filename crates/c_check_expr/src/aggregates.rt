@@ -1,0 +1,163 @@
+//! Structs and unions with their members (C99 6.7.2.1).
+#![tactic(auto)]
+
+ghost use Rattle.std.specs.Prelude.{◌≡◌, ◌&&◌, nat_lt, length, option_copied};
+ghost use Rattle.std.specs.List.{list_all};
+ghost use Rattle.c_types.specs.Table.{shape_at, is_complete, entry_at};
+ghost use Rattle.c_check_expr.specs.Judging.{Answers, known};
+ghost use Rattle.c_check_expr.specs.Refusals.{tag_place};
+ghost use Rattle.c_check_expr.specs.Rules.{number_of_shape};
+ghost use Rattle.c_check_expr.specs.Scopes.{with_scopes};
+ghost use Rattle.c_check_expr.specs.Specifying as specifying;
+ghost use Rattle.c_check_expr.specs.Tests as tests;
+ghost use Rattle.c_check_expr.specs.Tests.{first_broken};
+ghost use Rattle.c_check_expr.specs.Typing.{tag_named_here};
+
+use crate::declared::Tag;
+use crate::member::MemberNames;
+use crate::scope::Scope;
+use crate::shapes::{is_aggregate, is_complete_at, shape_at};
+use crate::specifying::{is_tag_of, new_aggregate};
+use crate::stops::{no_room, refusal};
+use c_tree::{AggregateKind, Identifier};
+use c_types::{TypeFault, TypeShape, Types};
+use cc_base::{Fault, Place, Rule, TypeId};
+
+/// The tag, or the keyword where there is none.
+pub(crate) fn tag_place(at: Place, name: Option<&Identifier>) -> Place
+    ensures { result ≡ tag_place at (option_copied name.entry) }
+{
+    match name {
+        Some(name) => name.place,
+        None => at,
+    }
+}
+
+/// What the innermost scope declares a tag as, where there is a tag.
+fn tag_named_here(scope: &Scope, name: Option<&Identifier>) -> Option<Tag>
+    ensures { result ≡ tag_named_here scope.now.scopes (option_copied name.entry) }
+{
+    match name {
+        Some(name) => scope.tag_here(name.bytes.as_slice()).copied(),
+        None => None,
+    }
+}
+
+/// Whether the innermost scope has the tag as something else, or complete.
+fn is_taken_tag(scope: &Scope, types: &Types, which: AggregateKind, found: Option<Tag>) -> bool
+    ensures { result ≡ tests.is_taken_tag types.now scope.now.scopes which found }
+{
+    match found {
+        None => false,
+        Some(Tag::Enumeration) => true,
+        Some(Tag::Aggregate(kind, t)) => {
+            !is_tag_of(which, Tag::Aggregate(kind, t)) || is_complete_at(scope, types, t)
+        }
+    }
+}
+
+/// `struct S { .. }` begins: with its type, or with none where the innermost scope has its tag as something else, or complete.
+#[tactic(auto, unfolding(crate::specs::Specifying::begun, crate::specs::Specifying::begun_as))]
+pub(crate) fn begun(
+    scope: &mut Scope,
+    types: &mut Types,
+    which: AggregateKind,
+    at: Place,
+    name: Option<&Identifier>,
+) -> Result<Option<TypeId>, Fault>
+    ensures { Answers (λ t. t) (specifying.begun which at (option_copied name.entry) (known types.old scope.old)) result (known types.new scope.new) }
+{
+    let found = tag_named_here(scope, name);
+    if is_taken_tag(scope, types, which, found) {
+        return Ok(None);
+    }
+    match found {
+        Some(Tag::Aggregate(_, t)) => Ok(Some(t)),
+        Some(Tag::Enumeration) => Ok(None),
+        None => {
+            let place = tag_place(at, name);
+            Ok(Some(new_aggregate(scope, types, which, place, name)?))
+        }
+    }
+}
+
+/// Whether it cannot end: it did not begin, or its own members complete it.
+fn is_taken_at_end(scope: &Scope, types: &Types, begun: Option<TypeId>) -> bool
+    ensures { result ≡ specifying.is_taken_at_end (known types.now scope.now) begun }
+{
+    match begun {
+        Some(t) => is_complete_at(scope, types, t),
+        None => true,
+    }
+}
+
+/// The rules of a struct or union, after its members.
+pub(crate) fn aggregate_fault(
+    scope: &Scope,
+    types: &Types,
+    place: Place,
+    begun: Option<TypeId>,
+    is_empty: bool,
+) -> Option<Fault>
+    ensures { result ≡ first_broken (tests.aggregate_tests (specifying.is_taken_at_end (known types.now scope.now) begun) place is_empty) }
+{
+    if is_taken_at_end(scope, types, begun) {
+        return Some(refusal(place, Rule::Redeclared));
+    }
+    if is_empty {
+        return Some(refusal(place, Rule::Mismatch));
+    }
+    None
+}
+
+/// Whether all of them are complete in the table.
+fn are_complete(types: &Types, members: &[TypeId]) -> bool
+    ensures { result ≡ list_all (λ m. nat_lt m.0 (length types.now) && is_complete (entry_at types.now m)) members.now }
+{
+    let count = types.count();
+    members.iter().all(|m| m.0 < count && types.is_complete(*m))
+}
+
+/// Whether the table can give a type these members.
+fn is_definable(types: &Types, t: TypeId, members: &[TypeId]) -> bool
+    ensures { result ≡ specifying.is_definable types.now t members.now }
+{
+    t.0 < types.count()
+        && is_aggregate(shape_at(types, t))
+        && types.fields(t) == 0
+        && !members.is_empty()
+        && are_complete(types, members)
+}
+
+/// Gives a struct or union its members.
+#[tactic(auto, unfolding(crate::specs::Specifying::defined))]
+fn defined(
+    scope: &Scope,
+    types: &mut Types,
+    at: Place,
+    t: TypeId,
+    members: Vec<TypeId>,
+) -> Result<TypeId, Fault>
+    ensures { Answers (λ t. t) (specifying.defined at t members.items (known types.old scope.now)) result (known types.new scope.now) }
+{
+    if !is_definable(types, t, &members) {
+        return Err(no_room(at));
+    }
+    match types.define(t, members) {
+        Ok(()) => Ok(t),
+        Err(TypeFault::TooLarge(limit)) => Err(Fault::TooLarge { place: at, limit }),
+        Err(TypeFault::NoMemory) => Err(Fault::NoMemory),
+    }
+}
+
+/// From here on the struct or union is complete.
+fn complete(scope: &mut Scope, types: &Types, t: TypeId, names: MemberNames)
+    ensures { scope.new ≡ with_scopes scope.old (specifying.completing (number_of_shape (shape_at types.now t)) names scope.old.scopes) }
+{
+    match shape_at(types, t) {
+        Some(TypeShape::Struct(number) | TypeShape::Union(number)) => {
+            scope.set_members(*number as usize, names)
+        }
+        _ => {}
+    }
+}

@@ -1,0 +1,57 @@
+//! Names of declarators as they are written, and the places at which their types are named.
+#![tactic(auto)]
+
+ghost use Rattle.std.specs.Prelude.{◌≡◌, option_copied};
+ghost use Rattle.c_tree.specs.Places.{specifier_place};
+ghost use Rattle.c_tree.specs.Views.{core_view, declarator_view, specifier_view};
+ghost use Rattle.c_check_expr.specs.Declaring as declaring;
+ghost use Rattle.c_check_expr.specs.Refusals.{name_place};
+
+use c_tree::{Core, Declarator, Identifier, Specifier};
+use cc_base::Place;
+
+/// The name that a declarator declares.
+#[cycle(names)]
+#[tactic(auto, using(c_tree::proofs::ViewLaws::expr_views))]
+pub(crate) fn declarator_name(d: &Declarator) -> Option<&Identifier>
+    ensures { option_copied result ≡ declaring.declarator_name (declarator_view d.now) }
+{
+    core_name(&d.core)
+}
+
+#[cycle(names)]
+#[tactic(auto, using(c_tree::proofs::ViewLaws::expr_views))]
+fn core_name(core: &Core) -> Option<&Identifier>
+    ensures { option_copied result ≡ declaring.core_name (core_view core.now) }
+{
+    match core {
+        Core::Names(name) => Some(name),
+        Core::Unnamed => None,
+        Core::Nested(_, d) => declarator_name(d.get()),
+    }
+}
+
+/// The place of the name, or another where there is none.
+pub(crate) fn name_place(name: Option<&Identifier>, at: Place) -> Place
+    ensures { result ≡ name_place (option_copied name.entry) at }
+{
+    match name {
+        Some(name) => name.place,
+        None => at,
+    }
+}
+
+/// Where a specifier begins.
+#[tactic(auto, using(c_tree::proofs::ViewLaws::expr_views))]
+fn specifier_place(specifier: &Specifier) -> Place
+    ensures { result ≡ specifier_place (specifier_view specifier.now) }
+{
+    match specifier {
+        Specifier::Keyword(word) => word.place,
+        Specifier::Typedef(name) => name.place,
+        Specifier::Tagged(_, at, _) => *at,
+        Specifier::Aggregate(_, at, _, _, _) => *at,
+        Specifier::Enum(at, _) => *at,
+        Specifier::Enumeration(at, _, _, _, _) => *at,
+    }
+}

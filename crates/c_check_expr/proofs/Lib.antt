@@ -7,3 +7,7 @@ pub mod InfixLaws
 pub mod TableGrowth
 pub mod TypeSearch
 pub mod TypedRows
+pub mod KeptTypes
+pub mod KeptConstants
+pub mod KeptConversions
+pub mod KeptRules

@@ -19,7 +19,7 @@ use Rattle.c_check_expr.specs.declared.declared.Declared.{Declared}
 use Rattle.c_check_expr.specs.declared.declared.Declared.TheVariants as declared
 use Rattle.c_check_expr.specs.declared.declared.Tag.{Tag}
 use Rattle.c_check_expr.specs.declared.declared.Tag.TheVariants as tag
-use Rattle.c_check_expr.specs.Shapes.{IsIntegerType, IsScalar}
+use Rattle.c_check_expr.specs.Shapes.{IsIntegerType, IsScalar, IsVoid}
 use Rattle.c_check_expr.specs.Integers.{constant_type}
 use Rattle.c_check_expr.specs.Scopes.{Name, Scopes, name_in, tag_in, here, tag_here, declaring, declaring_tag, entering, leaving, is_complete_at, is_no_list}
 use Rattle.c_check_expr.specs.Constants.{constant_value}
@@ -111,8 +111,9 @@ DeclaresParameter (typed.DeclaredBy form) t s s' = DeclaresForm (name_of_form fo
     DeclaresForm None home t s s' = s' ≡ s
     DeclaresForm name home t s s' = ⊥
 
+-- the type of a parameter, and of what stands in `(void)`
 abbrev pub IsTakenType : Bool → Table → Scopes → TypeId → Type 0
-IsTakenType true table s t = Unit {0}
+IsTakenType true table s t = IsVoid table t
 IsTakenType false table s t = IsScalar table t
 
 -- no object is declared by a type name or a member

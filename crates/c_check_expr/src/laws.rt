@@ -20,7 +20,7 @@ ghost use Rattle.c_check_expr.specs.Extensions.{IsExtended, IsTypeWith};
 ghost use Rattle.c_check_expr.specs.Judging.{State, Gives, type_with};
 ghost use Rattle.c_check_expr.specs.Operations.{pointed, element, is_arithmetic_prefix, operator_on, operation, size_type};
 ghost use Rattle.c_check_expr.specs.Scopes.{Scopes, is_complete_at};
-ghost use Rattle.c_check_expr.specs.Settled.{IsBasic, IsSettled, IsPartTyped};
+ghost use Rattle.c_check_expr.specs.Settled.{IsBasic, IsFollowed, IsSettled, IsPartTyped};
 ghost use Rattle.c_check_expr.specs.Shapes.{pointee_at, is_same_type};
 ghost use Rattle.c_check_expr.specs.Tests.{first_broken, target_tests, index_tests, prefix_tests, infix_tests, step_tests, size_tests, fits, AsPlace, AsValue};
 ghost use Rattle.c_check_expr.specs.Typing.{IsTyped, IsPlace};
@@ -38,7 +38,7 @@ pub fn an_unbroken_operator_is_well_typed()
     ensures prefix { (operator : Unary) (T : Table) (s0 s : Scopes) (at : Place) (e : TypedExpr) → is_arithmetic_prefix operator ≡ true → IsBasic T → IsSettled T e → IsTyped T e s0 s → first_broken (prefix_tests T s operator at (AsValue e)) ≡ None → IsTyped T (operator_on T operator at e) s0 s }
     ensures infix { (T : Table) (s0 m s : Scopes) (operator : Binary) (at begin : Place) (a b : TypedExpr) → IsBasic T → IsSettled T a → IsSettled T b → IsTyped T a s0 m → IsTyped T b m s → first_broken (infix_tests T s operator at begin (AsValue a) (AsValue b)) ≡ None → IsTyped T (operation T operator a at b) s0 s }
     ensures step { (T : Table) (s0 s : Scopes) (operator : Step) (at : Place) (p : TypedPlace) → IsPlace T p s0 s → first_broken (step_tests T s at (AsPlace p)) ≡ None → IsTyped T (StepBefore operator at p) s0 s × IsTyped T (StepAfter p operator at) s0 s }
-    ensures size { (T : Table) (s0 s : Scopes) (at : Place) (p : TypedPlace) → IsBasic T → IsPlace T p s0 s → first_broken (size_tests T s at (AsPlace p)) ≡ None → IsTyped T (SizeOfPlace at p (size_of T (place_type p)) size_type) s0 s }
+    ensures size { (T : Table) (s0 s : Scopes) (at : Place) (p : TypedPlace) → IsBasic T → IsFollowed T s → IsPlace T p s0 s → first_broken (size_tests T s at (AsPlace p)) ≡ None → IsTyped T (SizeOfPlace at p (size_of T (place_type p)) size_type) s0 s }
 {}
 
 /// A value that fits a type without being told is converted to it (C99 6.3, 6.5.16.1).
@@ -51,4 +51,9 @@ pub fn what_fits_is_converted()
 pub fn a_table_goes_on()
     ensures found { (at : Place) (x : TypeShape) (t : TypeId) (before after : State) → IsWellFormed before.table → All (IsComplete before.table) (parts_of_shape x []) → type_with at x before ≡ Gives t after → IsTypeWith x t before after }
     ensures next { (first second third : Table) → IsExtended first second → IsExtended second third → IsExtended first third }
+{}
+
+/// What the tree of a text is well typed over, it is over each table that goes on from it.
+pub fn a_later_table_keeps_the_judgement()
+    ensures same { (table later : Table) (t u : TypeId) → IsBasic table → IsExtended table later → IsType table t → IsType table u → is_same_type later t u ≡ is_same_type table t u }
 {}

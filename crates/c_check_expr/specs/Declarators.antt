@@ -7,7 +7,9 @@ use Rattle.c_types.specs.declared.shape.TypeShape.TheVariants.{Void, Integer, Po
 use Rattle.c_types.specs.Table.{Table, HasShape, shape_at}
 use Rattle.c_lexer.specs.declared.word.Keyword.{Keyword}
 use Rattle.c_lexer.specs.declared.word.Keyword.TheVariants as keyword
+use Rattle.cc_base.specs.declared.place.Place.{Place}
 use Rattle.c_tree.specs.declared.leaf.Identifier.{Identifier}
+use Rattle.c_tree.specs.declared.leaf.Word.{Word}
 use Rattle.c_tree.specs.declared.typed_word.Adjusted.{Adjusted}
 use Rattle.c_tree.specs.TypedTree as typed
 use Rattle.c_tree.specs.declared.typed_word.TypedStar.{TypedStar}
@@ -117,15 +119,24 @@ pub data Outermost : Type 0 where
   Counts : ℕ → Outermost
   Points : NodeId → Outermost
 
--- an array has elements of a complete type
+abbrev pub is_pointed : Outermost → Bool
+is_pointed (Points n) = true
+is_pointed outermost = false
+
+-- the first of the words that stand in an array part, or another place where there are none
+abbrev pub first_word_place : List Word → Place → Place
+first_word_place [] at = at
+first_word_place (w ∷ words) at = w.place
+
+-- an array has elements of a complete type; only in a parameter may the array part nearest to the name have `static` and qualifiers
 abbrev pub IsArrayOf : Table → Scopes → TypeId → ℕ → TypeId → Type 0
 IsArrayOf table s element count t = IsTrue (is_complete_at table s element) × HasShape table t (Array element count)
 
-abbrev pub MakesArray : Table → Scopes → Outermost → Option ℕ → TypeId → TypeId → Type 0
-MakesArray table s (Points n) count element t = IsTrue (is_complete_at table s element) × HasShape table t (Pointer n element)
-MakesArray table s outermost (Some count) element t = IsArrayOf table s element count t
-MakesArray table s (Counts count) None element t = IsArrayOf table s element count t
-MakesArray table s Written None element t = ⊥
+abbrev pub MakesArray : Table → Scopes → Outermost → List Word → Option ℕ → TypeId → TypeId → Type 0
+MakesArray table s (Points n) words count element t = IsTrue (is_complete_at table s element) × HasShape table t (Pointer n element)
+MakesArray table s outermost words (Some count) element t = (words ≡ []) × IsArrayOf table s element count t
+MakesArray table s (Counts count) words None element t = (words ≡ []) × IsArrayOf table s element count t
+MakesArray table s Written words None element t = ⊥
 
 -- a function gives no array, no function, and no struct or union (C99 6.7.5.3)
 abbrev pub is_result_shape : TypeShape → Bool
@@ -175,9 +186,9 @@ nearest parts outermost = Written
 abbrev pub PartsMake : Table → Scopes → TypedParts → Outermost → TypeId → TypeId → Type 0
 PartsMake table s typed.NoPart outermost base t = t ≡ base
 PartsMake table s (typed.AndArray all at words) outermost base t =
-    (u : TypeId) × MakesArray table s (nearest all outermost) None base u × PartsMake table s all outermost u t
+    (u : TypeId) × MakesArray table s (nearest all outermost) words None base u × PartsMake table s all outermost u t
 PartsMake table s (typed.AndSizedArray all at words e size) outermost base t =
-    (u : TypeId) × MakesArray table s (nearest all outermost) (Some size) base u × PartsMake table s all outermost u t
+    (u : TypeId) × MakesArray table s (nearest all outermost) words (Some size) base u × PartsMake table s all outermost u t
 PartsMake table s (typed.AndFunction all at parameters) outermost base t =
     (u : TypeId) × MakesFunction table (nearest all outermost) parameters base u × PartsMake table s all outermost u t
 

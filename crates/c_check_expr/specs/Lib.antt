@@ -17,3 +17,6 @@ pub mod OperandViews
 pub mod KindViews
 pub mod Extensions
 pub mod Settled
+pub mod Specifying
+pub mod Declaring
+pub mod Walks

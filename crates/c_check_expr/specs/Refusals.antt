@@ -25,7 +25,7 @@ use Rattle.c_check_expr.specs.Scopes.{Name, Scopes, here, entering, is_complete_
 use Rattle.c_check_expr.specs.Conversions.{is_plain, is_allocation, is_taken_over}
 use Rattle.c_check_expr.specs.Rules.{is_made_of_place, runtime_named}
 use Rattle.c_check_expr.specs.Declarators
-use Rattle.c_check_expr.specs.Typing.{IsTyped, IsPlace, IsTypeName, AreSpecifiers, AreListed, IsForm, IsCore, AreParts, AreParameters, IsDeclared, AreMembers, AreMemberDeclarators, AreEnumerators, BeginsAggregate, tag_named_here}
+use Rattle.c_check_expr.specs.Typing.{IsTyped, IsPlace, IsTypeName, AreSpecifiers, AreListed, IsForm, IsCore, AreParts, AreParameters, IsDeclared, AreMembers, AreMemberDeclarators, AreEnumerators, BeginsAggregate, tag_named_here, enumerating}
 use Rattle.c_check_expr.specs.Tests
 
 abbrev pub Fails : List Tests.Test → Fault → Type 0
@@ -67,25 +67,16 @@ abbrev pub name_place : Option Identifier → Place → Place
 name_place None at = at
 name_place (Some name) at = name.place
 
--- an array part: without its size at its `[`, or of elements of no complete type at the name, or at the first token where there is none
-abbrev pub ArrayFails : Table → Scopes → Declarators.Outermost → (sized : Bool) → Place → TypeId → Place → Fault → Type 0
-ArrayFails T s Declarators.Written false bracket element at f = f ≡ Refused bracket rule.Incomplete
-ArrayFails T s outermost sized bracket element at f = (is_complete_at T s element ≡ false) × (f ≡ Refused at rule.Incomplete)
-
--- a function part: it gives an array, a function, or a struct or union
-abbrev pub FunctionFails : Table → TypeId → Place → Fault → Type 0
-FunctionFails T result at f = (Declarators.is_result_shape (shape_at T result) ≡ false) × (f ≡ Refused at rule.Mismatch)
-
 abbrev pub PartsFail : Table → Scopes → TypedParts → Declarators.Outermost → TypeId → Place → Fault → Type 0
 PartsFail T s typed.NoPart outermost base at f = ⊥
 PartsFail T s (typed.AndArray all bracket words) outermost base at f =
-    ArrayFails T s (Declarators.nearest all outermost) false bracket base at f
-    ⊎ ((u : TypeId) × Declarators.MakesArray T s (Declarators.nearest all outermost) None base u × PartsFail T s all outermost u at f)
+    Fails (Tests.array_tests T s (Declarators.nearest all outermost) false bracket words base at) f
+    ⊎ ((u : TypeId) × Declarators.MakesArray T s (Declarators.nearest all outermost) words None base u × PartsFail T s all outermost u at f)
 PartsFail T s (typed.AndSizedArray all bracket words e size) outermost base at f =
-    ArrayFails T s (Declarators.nearest all outermost) true bracket base at f
-    ⊎ ((u : TypeId) × Declarators.MakesArray T s (Declarators.nearest all outermost) (Some size) base u × PartsFail T s all outermost u at f)
+    Fails (Tests.array_tests T s (Declarators.nearest all outermost) true bracket words base at) f
+    ⊎ ((u : TypeId) × Declarators.MakesArray T s (Declarators.nearest all outermost) words (Some size) base u × PartsFail T s all outermost u at f)
 PartsFail T s (typed.AndFunction all paren parameters) outermost base at f =
-    FunctionFails T base at f
+    Fails (Tests.function_tests T base at) f
     ⊎ ((u : TypeId) × Declarators.MakesFunction T (Declarators.nearest all outermost) parameters base u × PartsFail T s all outermost u at f)
 
 abbrev mutual
@@ -113,7 +104,7 @@ has_name names (Some name) = list_any (λ each. bytes_eq name.bytes each) names
 abbrev pub MemberTypeFails : Table → Scopes → TypedForm → TypeId → Place → Fault → Type 0
 MemberTypeFails T s form base at f =
     FormFails T s form Declarators.Written base at f
-    ⊎ ((t : TypeId) × Declarators.FormMakes T s form Declarators.Written base t × (is_complete_at T s t ≡ false) × (f ≡ Refused at rule.Incomplete))
+    ⊎ ((t : TypeId) × Declarators.FormMakes T s form Declarators.Written base t × Fails (Tests.member_type_tests T s t at) f)
 
 abbrev pub MemberFailsBy : Bool → Table → Scopes → TypedForm → TypeId → Place → Fault → Type 0
 MemberFailsBy true T s form base at f = f ≡ Refused at rule.Redeclared
@@ -135,8 +126,7 @@ abbrev pub ParameterTypeFails : Table → Scopes → (void : Bool) → TypedDecl
 ParameterTypeFails T s void d base at f =
     ((n : NodeId) × DeclaredFails T s d (Declarators.Points n) base at f)
     ⊎ ((adjusted : Option Adjusted) × (t : TypeId) × Declarators.ParameterMakes T s adjusted d base t
-    × Fails (Tests.broken_at rule.Incomplete at (not void && not (is_complete_at T s t))
-    ∷ Tests.broken_at rule.Mismatch at (is_aggregate_shape (shape_at T t)) ∷ []) f)
+    × Fails (Tests.parameter_type_tests T s void t at) f)
 
 abbrev pub ParameterFailsBy : Bool → Table → Scopes → Bool → TypedDeclared → TypeId → Place → Fault → Type 0
 ParameterFailsBy true T s void d base at f = f ≡ Refused at rule.Redeclared
@@ -238,13 +228,14 @@ abbrev mutual
       (t : TypeId) × (m : Scopes) × BeginsOrStays T which name t s m
       × (RefusesMembers T members m f
       ⊎ ((row : TypedMembers) × (n : Scopes) × AreMembers T row m n × (erased_members row ≡ members)
-      × Fails (Tests.aggregate_tests T s which (tag_named_here s name) (tag_place at name) (is_empty_row row) ++ Tests.word_tests at (one_named before)) f))
+      × Fails (Tests.aggregate_tests (Tests.is_taken_tag T s which (tag_named_here s name) || is_complete_at T n t) (tag_place at name) (is_empty_row row)
+      ++ Tests.word_tests at (one_named before)) f))
   RefusesSpecifier T before (tree.Enum at name) s f =
       Fails (Tests.enum_tests s name.bytes name.place ++ Tests.word_tests at (one_named before)) f
   RefusesSpecifier T before (tree.Enumeration at name brace all comma) s f =
-      RefusesEnumerators T all s f
-      ⊎ ((list : TypedEnumerators) × (m : Scopes) × AreEnumerators T list s m × (erased_enumerators list ≡ all)
-      × Fails (Tests.enumeration_tests (tag_named_here s name) (tag_place at name) ++ Tests.word_tests at (one_named before)) f)
+      RefusesEnumerators T all (enumerating name s) f
+      ⊎ ((list : TypedEnumerators) × (m : Scopes) × AreEnumerators T list (enumerating name s) m × (erased_enumerators list ≡ all)
+      × Fails (Tests.enumeration_tests (Tests.has_some (tag_named_here s name)) (tag_place at name) ++ Tests.word_tests at (one_named before)) f)
 
   pub RefusesMembers : Table → tree.Members → Scopes → Fault → Type 0
   RefusesMembers T tree.NoMember s f = ⊥
@@ -316,3 +307,9 @@ abbrev mutual
   pub RefusesDeclared : Table → tree.Declared → Scopes → Fault → Type 0
   RefusesDeclared T tree.NotDeclared s f = ⊥
   RefusesDeclared T (tree.DeclaredBy d) s f = RefusesDeclarator T d s f
+
+-- a list of specifiers that no declarator follows: `struct S` by itself declares its tag in the innermost scope
+abbrev pub RefusesAlone : Table → tree.Specifiers → Scopes → Fault → Type 0
+RefusesAlone T (tree.AndSpecifier tree.NoSpecifier (tree.Tagged which at name)) s f =
+    Fails (Tests.alone_tests s (Tests.is_tag_of which) name.bytes name.place) f
+RefusesAlone T specifiers s f = RefusesSpecifiers T specifiers s f

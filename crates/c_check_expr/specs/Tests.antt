@@ -29,11 +29,12 @@ use Rattle.c_check_expr.specs.declared.declared.Tag.{Tag}
 use Rattle.c_check_expr.specs.declared.declared.Tag.TheVariants as tag
 use Rattle.c_tree.specs.declared.operator.AggregateKind.{AggregateKind}
 use Rattle.c_tree.specs.declared.operator.AggregateKind.TheVariants as kind
-use Rattle.c_check_expr.specs.Declarators.{Counted, are_allowed}
+use Rattle.c_check_expr.specs.Declarators.{Counted, are_allowed, Outermost, Written, Counts, Points, is_pointed, first_word_place, is_result_shape}
+use Rattle.c_tree.specs.declared.leaf.Word.{Word}
 use Rattle.integers.specs.Arithmetic.{IntegerType, converted}
 use Rattle.c_check_expr.specs.Shapes.{is_same_type, is_data, is_integer_shape, is_pointer_shape, is_scalar_shape, is_void_shape, is_function_shape, integer_at}
 use Rattle.c_check_expr.specs.Integers.{is_order, is_equality, is_logical, assigning, left_type, right_type}
-use Rattle.c_check_expr.specs.Scopes.{Name, Scopes, name_in, tag_in, here, tag_here, place_among, members_named, is_complete_at}
+use Rattle.c_check_expr.specs.Scopes.{Name, Scopes, name_in, tag_in, here, tag_here, place_among, members_named, is_complete_at, is_no_list}
 use Rattle.c_check_expr.specs.Constants.{constant_value, is_null_constant, operator_of, cannot_divide}
 use Rattle.c_check_expr.specs.Conversions.{is_taken_as, implicit_between, cast_between}
 use Rattle.c_check_expr.specs.Rules.{is_lvalue, is_designator, is_compound, number_of_shape, runtime_named}
@@ -391,16 +392,21 @@ is_taken_tag T s which None = false
 is_taken_tag T s which (Some (tag.Aggregate k t)) = not (is_tag_of which (tag.Aggregate k t)) || is_complete_at T s t
 is_taken_tag T s which (Some what) = true
 
--- `struct S { .. }`, after its members: `at` is the tag, or the keyword where there is none
-abbrev pub aggregate_tests : Table → Scopes → AggregateKind → Option Tag → Place → (empty : Bool) → List Test
-aggregate_tests T s which found at empty =
-    broken_at rule.Redeclared at (is_taken_tag T s which found)
+-- `struct S` by itself: its tag is declared as something else in the same scope
+abbrev pub alone_tests : Scopes → (Tag → Bool) → Name → Place → List Test
+alone_tests s is_one name at = broken_at rule.Redeclared at (is_other_tag is_one (tag_here s.levels name)) ∷ []
+
+-- `struct S { .. }`, after its members: `taken` says that the innermost scope has the tag as something else, or that it is complete by
+-- then; `at` is the tag, or the keyword where there is none
+abbrev pub aggregate_tests : (taken : Bool) → Place → (empty : Bool) → List Test
+aggregate_tests taken at empty =
+    broken_at rule.Redeclared at taken
     ∷ broken_at rule.Mismatch at empty
     ∷ []
 
--- `enum E { .. }`, after its enumerators
-abbrev pub enumeration_tests : Option Tag → Place → List Test
-enumeration_tests found at = broken_at rule.Redeclared at (has_some found) ∷ []
+-- `enum E { .. }`, after its enumerators: `taken` says that the innermost scope had the tag before
+abbrev pub enumeration_tests : (taken : Bool) → Place → List Test
+enumeration_tests taken at = broken_at rule.Redeclared at taken ∷ []
 
 -- an enumerator, and its value where it has one
 abbrev pub enumerator_tests : Scopes → Name → Place → List Test
@@ -424,3 +430,39 @@ has_size T x = false
 
 abbrev pub array_size_tests : Table → Place → Elaborated → List Test
 array_size_tests T begin x = broken_at rule.NotConstant begin (not (has_size T x)) ∷ []
+
+-- Declarators (C99 6.7.5), where they give a type
+
+-- an array part without a size, that neither an initialiser nor a parameter gives one
+abbrev pub lacks_size : Outermost → (sized : Bool) → Bool
+lacks_size Written false = true
+lacks_size outermost sized = false
+
+-- an array part: without its size at its `[`, of elements of no complete type at the name, or with `static` or a qualifier at that word
+abbrev pub array_tests : Table → Scopes → Outermost → (sized : Bool) → Place → List Word → TypeId → Place → List Test
+array_tests T s outermost sized bracket words element at =
+    broken_at rule.Incomplete bracket (lacks_size outermost sized)
+    ∷ broken_at rule.Incomplete at (not (is_complete_at T s element))
+    ∷ broken_at rule.Mismatch (first_word_place words bracket) (not (is_no_list words) && not (is_pointed outermost))
+    ∷ []
+
+-- a function part: it gives an array, a function, or a struct or union
+abbrev pub function_tests : Table → TypeId → Place → List Test
+function_tests T result at = broken_at rule.Mismatch at (not (is_result_shape (shape_at T result))) ∷ []
+
+-- a second member or parameter of its name
+abbrev pub member_name_tests : (second : Bool) → Place → List Test
+member_name_tests second at = broken_at rule.Redeclared at second ∷ []
+
+abbrev pub parameter_name_tests : (second : Bool) → Place → List Test
+parameter_name_tests second at = broken_at rule.Redeclared at second ∷ []
+
+-- a member or a parameter: it is of no complete type, or a struct or union
+abbrev pub member_type_tests : Table → Scopes → TypeId → Place → List Test
+member_type_tests T s t at = broken_at rule.Incomplete at (not (is_complete_at T s t)) ∷ []
+
+abbrev pub parameter_type_tests : Table → Scopes → (void : Bool) → TypeId → Place → List Test
+parameter_type_tests T s void t at =
+    broken_at rule.Incomplete at (not void && not (is_complete_at T s t))
+    ∷ broken_at rule.Mismatch at (is_aggregate_shape (shape_at T t))
+    ∷ []

@@ -73,9 +73,19 @@ pub record EndsAggregate (table : Table) (members : TypedMembers) (t : TypeId) (
   pub some : is_no_list (member_names members) ≡ false
   pub distinct : AreDistinct (member_names members)
   pub types : members_at table t ≡ member_types members
+  -- no struct or union inside has the same tag and completes it
+  pub unfinished : is_complete_at table s t ≡ false
   pub after : s' ≡ record s { members = slice_set s.members number (member_names members) }
 
 -- Enumerators (C99 6.7.2.2)
+
+-- `enum E { .. }` begins: its tag is declared, unless the innermost scope has it
+abbrev pub enumerating : Option Identifier → Scopes → Scopes
+enumerating name s = unless_found (tag_named_here s name)
+  where
+    unless_found : Option Tag → Scopes
+    unless_found None = tagging name tag.Enumeration s
+    unless_found (Some found) = s
 
 -- the value after one; the next one of the greatest int wraps
 abbrev pub next_value : Option ℤ → ℤ
@@ -206,7 +216,7 @@ abbrev mutual
       (m n : Scopes) × BeginsAggregate T (tag_named_here s name) which name t s m × AreMembers T members m n × EndsAggregate T members t n s'
   IsSpecifier T (typed.Enum at name) s s' = (s' ≡ s) × (tag_in s.levels name.bytes ≡ Some tag.Enumeration)
   IsSpecifier T (typed.Enumeration at name brace all comma) s s' =
-      (tag_named_here s name ≡ None) × AreEnumerators T all (tagging name tag.Enumeration s) s'
+      (tag_named_here s name ≡ None) × AreEnumerators T all (enumerating name s) s'
 
   pub AreMembers : Table → TypedMembers → Scopes → Scopes → Type 0
   AreMembers T typed.NoMember s s' = s' ≡ s

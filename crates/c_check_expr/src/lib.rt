@@ -6,16 +6,19 @@ mod kind;
 mod laws;
 mod level;
 mod member;
+mod naming;
 mod operand;
 mod scope;
 mod shapes;
 mod typing;
+mod walk;
 
 pub use declared::{Declared, Tag};
 pub use laws::{
     a_later_table_keeps_types, a_table_goes_on, an_unbroken_operator_is_well_typed,
     what_fits_is_converted,
 };
+pub use naming::Naming;
 pub use scope::Scope;
 
 #[cfg(test)]

@@ -11,6 +11,7 @@ use Rattle.c_types.specs.declared.shape.TypeShape.TheVariants.{Void, Integer, Po
 use Rattle.c_types.specs.Table.{Table, Entry, IsType, IsComplete, HasShape, shape_at, members_at, named_by, is_empty, is_complete, is_complete_entry}
 use Rattle.c_types.proofs.Lists.{contains_head}
 use Rattle.c_tree.specs.declared.leaf.Identifier.{Identifier}
+use Rattle.c_tree.specs.declared.leaf.Word.{Word}
 use Rattle.c_tree.specs.declared.operator.AggregateKind.{AggregateKind}
 use Rattle.c_tree.specs.declared.typed_word.Adjusted.{Adjusted}
 use Rattle.c_tree.specs.declared.typed_word.TypedStar.{TypedStar}
@@ -99,12 +100,13 @@ module _ (T U : Table) (x : IsExtended T U) (basic : IsBasic T) where
   pub of_type-kept : (list : TypedSpecifierList) (t : TypeId) → AreOfType T list t → AreOfType U list t
   of_type-kept list t h = record { allowed = h.allowed; type = named_by-kept (Declarators.named_by_list list) list t h.type }
 
-  array-kept : (s : Scopes) (o : Outermost) (count : Option ℕ) (element t : TypeId) → MakesArray T s o count element t → MakesArray U s o count element t
-  array-kept s (Points n) count element t h = (complete_kept T U x s element h.0, has-kept T U x basic t (Pointer n element) h.1)
-  array-kept s Written (Some count) element t h = (complete_kept T U x s element h.0, has-kept T U x basic t (Array element count) h.1)
-  array-kept s (Counts k) (Some count) element t h = (complete_kept T U x s element h.0, has-kept T U x basic t (Array element count) h.1)
-  array-kept s (Counts count) None element t h = (complete_kept T U x s element h.0, has-kept T U x basic t (Array element count) h.1)
-  array-kept s Written None element t h = h
+  array-kept : (s : Scopes) (o : Outermost) (words : List Word) (count : Option ℕ) (element t : TypeId) → MakesArray T s o words count element t
+      → MakesArray U s o words count element t
+  array-kept s (Points n) words count element t h = (complete_kept T U x s element h.0, has-kept T U x basic t (Pointer n element) h.1)
+  array-kept s Written words (Some count) element t h = (h.0, (complete_kept T U x s element h.1.0, has-kept T U x basic t (Array element count) h.1.1))
+  array-kept s (Counts k) words (Some count) element t h = (h.0, (complete_kept T U x s element h.1.0, has-kept T U x basic t (Array element count) h.1.1))
+  array-kept s (Counts count) words None element t h = (h.0, (complete_kept T U x s element h.1.0, has-kept T U x basic t (Array element count) h.1.1))
+  array-kept s Written words None element t h = h
 
   function_of-kept : (parameters : TypedParameters) (result t : TypeId) → IsFunctionOf T parameters result t → IsFunctionOf U parameters result t
   function_of-kept parameters result t h =
@@ -119,9 +121,9 @@ module _ (T U : Table) (x : IsExtended T U) (basic : IsBasic T) where
 
   parts-kept : (s : Scopes) (parts : TypedParts) (o : Outermost) (base t : TypeId) → PartsMake T s parts o base t → PartsMake U s parts o base t
   parts-kept s typed.NoPart o base t h = h
-  parts-kept s (typed.AndArray all at words) o base t h = (h.0, array-kept s (nearest all o) None base h.0 h.1, parts-kept s all o h.0 t h.2)
+  parts-kept s (typed.AndArray all at words) o base t h = (h.0, array-kept s (nearest all o) words None base h.0 h.1, parts-kept s all o h.0 t h.2)
   parts-kept s (typed.AndSizedArray all at words e size) o base t h =
-      (h.0, array-kept s (nearest all o) (Some size) base h.0 h.1, parts-kept s all o h.0 t h.2)
+      (h.0, array-kept s (nearest all o) words (Some size) base h.0 h.1, parts-kept s all o h.0 t h.2)
   parts-kept s (typed.AndFunction all at parameters) o base t h =
       (h.0, function-kept (nearest all o) parameters base h.0 h.1, parts-kept s all o h.0 t h.2)
 
@@ -186,5 +188,6 @@ module _ (T U : Table) (x : IsExtended T U) (basic : IsBasic T) where
         some = h.some;
         distinct = h.distinct;
         types = ap (λ (d : Entry). d.members) same ∙ h.types;
+        unfinished = complete_exact T U x basic s t (ended-in T members t s s' h) ∙ h.unfinished;
         after = h.after;
       }

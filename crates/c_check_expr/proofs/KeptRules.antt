@@ -1,5 +1,5 @@
 -- What a table that goes on keeps: each rule of a construct.
-use Rattle.std.proofs.Common.{◌≡◌, ℕ, ◌++◌, Bool, true, false, ◌&&◌, ◌||◌, List, [], ◌∷◌, length, Option, Some, None, refl, ap, sym, subst, ◌∙◌, inl, inr, ◌⊎◌, ⊤, IsTrue, slice_index_or}
+use Rattle.std.proofs.Common.{◌≡◌, ℕ, ◌++◌, Bool, true, false, ◌&&◌, ◌||◌, List, [], ◌∷◌, length, Option, Some, None, refl, ap, sym, subst, ◌∙◌, inl, inr, ◌⊎◌, IsTrue, slice_index_or}
 use Rattle.std.specs.List.{AllZip}
 use Rattle.std.proofs.lemmas.Option.{none-some}
 use Rattle.cc_base.specs.declared.place.Place.{Place}
@@ -48,12 +48,12 @@ each_last : (P : TypedExpr → Type 0) (es : List TypedExpr) (e : TypedExpr) →
 each_last P [] e h p = (p, tt)
 each_last P (x ∷ es) e h p = (h.0, each_last P es e h.1 p)
 
-zip_kept : {A : Type 0} (P : TypedExpr → Type 0) (R S : A → TypedExpr → Type 0) → ((a : A) (e : TypedExpr) → P e → R a e → S a e) → (as : List A) (es : List TypedExpr)
-    → Each P es → AllZip R as es → AllZip S as es
+zip_kept : {A : Type 0} (P : TypedExpr → Type 0) (R S : A → TypedExpr → Type 0) → ((a : A) (e : TypedExpr) → P e → R a e → S a e) → (ks : List A) (es : List TypedExpr)
+    → Each P es → AllZip R ks es → AllZip S ks es
 zip_kept P R S more [] [] h z = tt
 zip_kept P R S more [] (e ∷ es) h z = absurd z
-zip_kept P R S more (a ∷ as) [] h z = absurd z
-zip_kept P R S more (a ∷ as) (e ∷ es) h z = (more a e h.0 z.0, zip_kept P R S more as es h.1 z.1)
+zip_kept P R S more (a ∷ ks) [] h z = absurd z
+zip_kept P R S more (a ∷ ks) (e ∷ es) h z = (more a e h.0 z.0, zip_kept P R S more ks es h.1 z.1)
 
 -- well typed between some scopes
 abbrev Somewhere : Table → TypedExpr → Type 0

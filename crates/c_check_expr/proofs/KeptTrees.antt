@@ -5,12 +5,11 @@ use Rattle.c_types.specs.Table.{Table, IsType}
 use Rattle.c_tree.specs.TypedTree as typed
 use Rattle.c_tree.specs.TypedTree.{TypedExpr, TypedPlace, TypedArguments, TypedTypeName, TypedSpecifiers, TypedSpecifierList, TypedSpecifier, TypedMembers, TypedMemberDeclarators, TypedEnumerators, TypedForm, TypedCore, TypedParts, TypedParameters, TypedDeclared}
 use Rattle.c_tree.specs.TypedParts.{type_of, place_type, named_type, specified_type}
-use Rattle.c_check_expr.specs.declared.declared.Tag.TheVariants as tag
 use Rattle.c_check_expr.specs.Declarators.{Written, is_void_list}
 use Rattle.c_check_expr.specs.Extensions.{IsExtended}
 use Rattle.c_check_expr.specs.Scopes.{Scopes, tag_in, entering}
 use Rattle.c_check_expr.specs.Settled.{IsBasic}
-use Rattle.c_check_expr.specs.Typing.{IsTyped, IsPlace, AreTyped, IsTypeName, AreSpecifiers, AreListed, IsSpecifier, AreMembers, AreMemberDeclarators, AreEnumerators, IsForm, IsCore, AreParts, AreParameters, IsDeclared, tag_named_here, tagging}
+use Rattle.c_check_expr.specs.Typing.{IsTyped, IsPlace, AreTyped, IsTypeName, AreSpecifiers, AreListed, IsSpecifier, AreMembers, AreMemberDeclarators, AreEnumerators, IsForm, IsCore, AreParts, AreParameters, IsDeclared, tag_named_here, enumerating}
 use Rattle.c_check_expr.proofs.ExtensionLaws.{complete_kept}
 use Rattle.c_check_expr.proofs.KeptConstants.{own-plain, constant-kept}
 use Rattle.c_check_expr.proofs.KeptRules
@@ -128,7 +127,7 @@ module _ (T U : Table) (x : IsExtended T U) (b : IsBasic T) where
       KeptDeclarators.ends-kept T U x b members t h.1 s' h.4,
     )
     specifier-kept (typed.Enum at name) s s' h = h
-    specifier-kept (typed.Enumeration at name brace all comma) s s' h = (h.0, enumerators-kept all (tagging name tag.Enumeration s) s' h.1)
+    specifier-kept (typed.Enumeration at name brace all comma) s s' h = (h.0, enumerators-kept all (enumerating name s) s' h.1)
 
     pub members-kept : (all : TypedMembers) (s s' : Scopes) → AreMembers T all s s' → AreMembers U all s s'
     members-kept typed.NoMember s s' h = h

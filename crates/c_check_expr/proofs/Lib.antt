@@ -11,3 +11,6 @@ pub mod KeptTypes
 pub mod KeptConstants
 pub mod KeptConversions
 pub mod KeptRules
+pub mod KeptDeclarators
+pub mod KeptTrees
+pub mod Outcomes

@@ -8,9 +8,15 @@ use Rattle.c_types.specs.Sound.{IsWellFormed, IsIntegerSize}
 use Rattle.c_tree.specs.TypedTree as typed
 use Rattle.c_tree.specs.TypedTree.{TypedExpr}
 use Rattle.c_tree.specs.TypedParts.{type_of}
+use Rattle.c_tree.specs.Erasure.{erased}
+use Rattle.c_tree.specs.Places.{expr_place}
+use Rattle.c_tree.specs.Tree as tree
 use Rattle.integers.specs.Arithmetic.{IntegerType}
 use Rattle.c_check_expr.specs.Conversions.{bare, IsPlain}
-use Rattle.c_check_expr.specs.Judging.{void_type, integer_type}
+use Rattle.c_check_expr.specs.Extensions.{IsExtended}
+use Rattle.c_check_expr.specs.Judging.{State, void_type, integer_type}
+use Rattle.c_check_expr.specs.Operands.{Operand}
+use Rattle.c_check_expr.specs.Refusals.{IsElaborated}
 use Rattle.c_check_expr.specs.Scopes.{Scopes, is_complete_at}
 use Rattle.c_check_expr.specs.Shapes.{is_scalar_shape}
 use Rattle.c_check_expr.specs.Tests.{Elaborated, AsPlace, AsValue, AsAllocation}
@@ -43,3 +49,30 @@ abbrev pub IsPartTyped : Table → Elaborated → Scopes → Scopes → Type 0
 IsPartTyped table (AsPlace p) s s' = IsPlace table p s s'
 IsPartTyped table (AsValue e) s s' = IsTyped table e s s'
 IsPartTyped table (AsAllocation e) s s' = IsTyped table e s s'
+
+-- v is the value of the expression
+pub record IsValueOf (table : Table) (e : tree.Expr) (v : TypedExpr) (s s' : Scopes) : Type 0 where
+  pub typed : IsTyped table v s s'
+  pub erases : erased v ≡ e
+  pub settled : IsSettled table v
+
+-- what is known between any two parts of a text
+pub record IsKnown (state : State) : Type 0 where
+  pub basic : IsBasic state.table
+  pub followed : IsFollowed state.table state.seen.scopes
+
+-- the types go on, and all is known again
+pub record GoesOn (before after : State) : Type 0 where
+  pub extends : IsExtended before.table after.table
+  pub known : IsKnown after
+
+-- so they do, and no name was declared
+pub record GoesOnThere (before after : State) : Type 0 where
+  pub goes : GoesOn before after
+  pub scopes : after.seen.scopes ≡ before.seen.scopes
+
+-- the expression, which begins among the scopes s, was judged
+pub record IsJudged (e : tree.Expr) (x : Operand) (s : Scopes) (before after : State) : Type 0 where
+  pub part : IsElaborated after.table e x.part s after.seen.scopes
+  pub place : x.place ≡ expr_place e
+  pub goes : GoesOn before after

@@ -1,6 +1,9 @@
 //! Laws of the definitions, each the contract of a function that does nothing.
 #![tactic(auto)]
 
+pub mod growth;
+pub mod judged;
+
 ghost use Rattle.std.specs.Prelude.{◌≡◌, true, [], None};
 ghost use Rattle.std.specs.List.{All};
 ghost use Rattle.cc_base.specs.declared.number.TypeId.{TypeId};
@@ -51,9 +54,4 @@ pub fn what_fits_is_converted()
 pub fn a_table_goes_on()
     ensures found { (at : Place) (x : TypeShape) (t : TypeId) (before after : State) → IsWellFormed before.table → All (IsComplete before.table) (parts_of_shape x []) → type_with at x before ≡ Gives t after → IsTypeWith x t before after }
     ensures next { (first second third : Table) → IsExtended first second → IsExtended second third → IsExtended first third }
-{}
-
-/// What the tree of a text is well typed over, it is over each table that goes on from it.
-pub fn a_later_table_keeps_the_judgement()
-    ensures same { (table later : Table) (t u : TypeId) → IsBasic table → IsExtended table later → IsType table t → IsType table u → is_same_type later t u ≡ is_same_type table t u }
 {}

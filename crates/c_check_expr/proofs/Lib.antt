@@ -14,3 +14,6 @@ pub mod KeptRules
 pub mod KeptDeclarators
 pub mod KeptTrees
 pub mod Outcomes
+pub mod KnownStates
+pub mod ValuesTaken
+pub mod JudgedOperators

@@ -2,6 +2,7 @@
 #![tactic(auto)]
 
 pub mod growth;
+pub mod operators;
 pub mod judged;
 
 ghost use Rattle.std.specs.Prelude.{◌≡◌, true, [], None};

@@ -27,7 +27,7 @@ use Rattle.c_check_expr.specs.Scopes.{Scopes, is_no_list, is_complete_at}
 use Rattle.c_check_expr.specs.Settled.{IsBasic}
 use Rattle.c_check_expr.specs.Shapes.{is_void_shape}
 use Rattle.c_check_expr.specs.Typing.{IsNewAggregate, IsTagged, BeginsAggregate, EndsAggregate, IsConstant, IsTakenType}
-use Rattle.c_check_expr.proofs.ExtensionLaws.{no_true, is_in, complete_kept}
+use Rattle.c_check_expr.proofs.ExtensionLaws.{no_true, is_in, complete_kept, still_in}
 use Rattle.c_check_expr.proofs.KeptTypes.{complete_exact}
 use Rattle.c_check_expr.proofs.KeptConstants.{scalar_in}
 use Rattle.c_check_expr.proofs.KeptRules.{has-kept, scalar-kept}
@@ -98,7 +98,7 @@ module _ (T U : Table) (x : IsExtended T U) (basic : IsBasic T) where
   named_by-kept IsEnumeration list t h = has-kept T U x basic t (Integer 4 true) h
 
   pub of_type-kept : (list : TypedSpecifierList) (t : TypeId) → AreOfType T list t → AreOfType U list t
-  of_type-kept list t h = record { allowed = h.allowed; type = named_by-kept (Declarators.named_by_list list) list t h.type }
+  of_type-kept list t h = record { allowed = h.allowed; there = still_in T U x t h.there; type = named_by-kept (Declarators.named_by_list list) list t h.type }
 
   array-kept : (s : Scopes) (o : Outermost) (words : List Word) (count : Option ℕ) (element t : TypeId) → MakesArray T s o words count element t
       → MakesArray U s o words count element t

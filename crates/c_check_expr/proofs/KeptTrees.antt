@@ -10,7 +10,7 @@ use Rattle.c_check_expr.specs.Extensions.{IsExtended}
 use Rattle.c_check_expr.specs.Scopes.{Scopes, tag_in, entering}
 use Rattle.c_check_expr.specs.Settled.{IsBasic}
 use Rattle.c_check_expr.specs.Typing.{IsTyped, IsPlace, AreTyped, IsTypeName, AreSpecifiers, AreListed, IsSpecifier, AreMembers, AreMemberDeclarators, AreEnumerators, IsForm, IsCore, AreParts, AreParameters, IsDeclared, tag_named_here, enumerating}
-use Rattle.c_check_expr.proofs.ExtensionLaws.{complete_kept}
+use Rattle.c_check_expr.proofs.ExtensionLaws.{complete_kept, still_in}
 use Rattle.c_check_expr.proofs.KeptConstants.{own-plain, constant-kept}
 use Rattle.c_check_expr.proofs.KeptRules
 use Rattle.c_check_expr.proofs.KeptDeclarators
@@ -73,7 +73,7 @@ module _ (T U : Table) (x : IsExtended T U) (b : IsBasic T) where
         (h.0, value-kept f s h.0 h.1, arguments-kept all h.0 s' h.2, KeptRules.allocation_for-kept T U x b function f all h.0 s' h.2 h.3)
 
     pub place-kept : (p : TypedPlace) (s s' : Scopes) → IsPlace T p s s' → IsPlace U p s s'
-    place-kept (typed.Variable name home t) s s' h = h
+    place-kept (typed.Variable name home t) s s' h = (h.0, h.1, still_in T U x t h.2)
     place-kept (typed.String pieces home t) s s' h = (h.0, KeptRules.string-kept T U x b pieces t h.1)
     place-kept (typed.ParenPlace at p) s s' h = place-kept p s s' h
     place-kept (typed.Target at e t) s s' h = (value-kept e s s' h.0, KeptRules.target-kept T U x b s' e t h.1)

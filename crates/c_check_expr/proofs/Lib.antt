@@ -17,3 +17,5 @@ pub mod Outcomes
 pub mod KnownStates
 pub mod ValuesTaken
 pub mod JudgedOperators
+pub mod JudgedMembers
+pub mod TypesThere

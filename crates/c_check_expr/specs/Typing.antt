@@ -5,7 +5,7 @@ use Rattle.std.specs.List.{All}
 use Rattle.cc_base.specs.declared.number.TypeId.{TypeId}
 use Rattle.c_types.specs.declared.shape.TypeShape.{TypeShape}
 use Rattle.c_types.specs.declared.shape.TypeShape.TheVariants.{Struct, Union}
-use Rattle.c_types.specs.Table.{Table, HasShape, IsAggregate, shape_at, members_at}
+use Rattle.c_types.specs.Table.{Table, HasShape, IsType, IsAggregate, shape_at, members_at}
 use Rattle.c_tree.specs.declared.leaf.Identifier.{Identifier}
 use Rattle.c_tree.specs.declared.operator.AggregateKind.{AggregateKind}
 use Rattle.c_tree.specs.declared.operator.AggregateKind.TheVariants as kind
@@ -180,7 +180,7 @@ abbrev mutual
 
   -- a place
   pub IsPlace : Table → TypedPlace → Scopes → Scopes → Type 0
-  IsPlace T (typed.Variable name home t) s s' = (s' ≡ s) × IsVariable s name home t
+  IsPlace T (typed.Variable name home t) s s' = (s' ≡ s) × IsVariable s name home t × IsType T t
   IsPlace T (typed.String pieces home t) s s' = (s' ≡ s) × IsStringType T pieces t
   IsPlace T (typed.ParenPlace at p) s s' = IsPlace T p s s'
   IsPlace T (typed.Target at e t) s s' = IsTyped T e s s' × IsTarget T s' e t

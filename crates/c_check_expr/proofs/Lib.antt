@@ -19,3 +19,4 @@ pub mod ValuesTaken
 pub mod JudgedOperators
 pub mod JudgedMembers
 pub mod TypesThere
+pub mod JudgedAssignments

@@ -2,6 +2,7 @@
 #![tactic(auto)]
 
 pub mod growth;
+pub mod assignments;
 pub mod members;
 pub mod operators;
 pub mod judged;

@@ -169,7 +169,7 @@ converted-erased at t e None = refl
 converted-erased at t e (Some conversion.IntegerToInteger) = to_integer-erased at t e
 converted-erased at t e (Some which) = refl
 
-decayed-same : (x : TypeShape) → is_array_shape x ≡ false → decayed x ≡ x
+pub decayed-same : (x : TypeShape) → is_array_shape x ≡ false → decayed x ≡ x
 decayed-same (Array t n) h = no_true (sym h)
 decayed-same x h = refl
 
@@ -197,7 +197,7 @@ pointed-scalar T s (Function ps r) h = no_true h
 pointed-scalar T s (Struct n) h = no_true h
 pointed-scalar T s (Union n) h = no_true h
 
-over-bare : (e : TypedExpr) → is_taken_over e ≡ true → (bare e ≡ e) × (is_allocation e ≡ true)
+pub over-bare : (e : TypedExpr) → is_taken_over e ≡ true → (bare e ≡ e) × (is_allocation e ≡ true)
 over-bare (typed.Paren at e) h = (refl, over_allocation e h)
   where
     over_allocation : (v : TypedExpr) → is_taken_over v ≡ true → is_allocation v ≡ true
@@ -211,7 +211,7 @@ or_nothing : (b : Bool) → (b || false) ≡ true → b ≡ true
 or_nothing true h = refl
 or_nothing false h = h
 
-or_else : (a b : Bool) → a ≡ false → (a || b) ≡ true → b ≡ true
+pub or_else : (a b : Bool) → a ≡ false → (a || b) ≡ true → b ≡ true
 or_else true b p h = no_true (sym p)
 or_else false b p h = h
 

@@ -82,7 +82,7 @@ cast_scalar false (Integer a s) (Pointer n u) which h = inr refl
 cast_scalar false (Pointer m t) (Pointer n u) which h = inr refl
 cast_scalar null x y which h = absurd (none-some which h)
 
-or_void : Option Conversion → Conversion
+abbrev or_void : Option Conversion → Conversion
 or_void None = conversion.ToVoid
 or_void (Some which) = which
 
@@ -143,12 +143,9 @@ module _ (T : Table) (name : tree.TypeName) (e : tree.Expr) (at : Place) (to : T
       )
 
 -- what is given may be dropped: it is no runtime function
-abbrev pub IsDropped : Elaborated → Type 0
-IsDropped y = is_droppable (part_expr y) ≡ true
-
 pub cast-judged : (name : tree.TypeName) (e : tree.Expr) (at : Place) (to : TypedTypeName) (x o : Operand) (s0 m : Scopes) (s r : State) → IsKnown s
     → IsTypeName s.table to s0 m → erased_type_name to ≡ name → IsType s.table (named_type to) → IsElaborated s.table e x.part m s.seen.scopes
-    → ((y : Elaborated) (q : State) → given (named_type to) x.place x.part s ≡ Gives y q → IsDropped y) → cast at to x s ≡ Gives o r
+    → ((y : Elaborated) (q : State) → given (named_type to) x.place x.part s ≡ Gives y q → is_droppable (part_expr y) ≡ true) → cast at to x s ≡ Gives o r
     → IsJudged (tree.Cast at name e) o s0 s r
 unfolding cast
 cast-judged name e at to x o s0 m s r k named called there el dropped h =

@@ -1,5 +1,5 @@
 -- What judging gives for `?:`, from what it gave for its operands.
-use Rattle.std.proofs.Common.{◌≡◌, ℕ, Bool, true, false, not, ◌&&◌, ◌||◌, ◌==◌, List, [], ◌∷◌, Option, Some, None, refl, ap, sym, subst, ◌∙◌, inl, inr, ◌⊎◌, IsTrue, if◌then◌else◌}
+use Rattle.std.proofs.Common.{◌≡◌, ℕ, Bool, true, false, not, ◌&&◌, ◌||◌, ◌==◌, nat_lt, List, [], ◌∷◌, Option, Some, None, refl, ap, sym, subst, ◌∙◌, inl, inr, ◌⊎◌, IsTrue, if◌then◌else◌}
 use Rattle.std.proofs.lemmas.Option.{none-some}
 use Rattle.cc_base.specs.declared.place.Place.{Place}
 use Rattle.cc_base.specs.declared.number.NodeId.{NodeId}
@@ -34,7 +34,6 @@ use Rattle.c_check_expr.specs.Tests.{Elaborated, AsPlace, AsValue, AsAllocation,
 use Rattle.c_check_expr.specs.Typing.{IsTyped, IsPlace}
 use Rattle.c_check_expr.proofs.ExtensionLaws.{no_true, and_left, and_right}
 use Rattle.c_check_expr.proofs.ConstructLaws.{one_unbroken, not_false, to_integer-typed, to_integer-bare, integer_size, promoted_size, operand}
-use Rattle.c_check_expr.proofs.InfixLaws.{wider_size}
 use Rattle.c_check_expr.proofs.KeptConstants.{own-plain}
 use Rattle.c_check_expr.proofs.KeptConversions.{Meets, meeting-kept}
 use Rattle.c_check_expr.proofs.KeptRules.{condition-kept}
@@ -59,6 +58,14 @@ and_no false b h = refl
 and_last : (a b : Bool) → b ≡ false → (a && b) ≡ false
 and_last true b h = h
 and_last false b h = refl
+
+wider_size : (j k : IntegerType) → IsIntegerSize j.bytes → IsIntegerSize k.bytes → IsIntegerSize (wider j k).bytes
+wider_size j k p q = by (nat_lt j.bytes k.bytes) (nat_lt k.bytes j.bytes)
+  where
+    by : (b c : Bool) → IsIntegerSize (if b then k else (if c then j else record { bytes = j.bytes; signed = j.signed && k.signed })).bytes
+    by true c = q
+    by false true = p
+    by false false = p
 
 common_size : (j k : IntegerType) → IsIntegerSize j.bytes → IsIntegerSize k.bytes → IsIntegerSize (common j k).bytes
 common_size j k p q = wider_size (promoted j) (promoted k) (promoted_size j p) (promoted_size k q)

@@ -94,6 +94,7 @@ module _ (at : Place) (x : TypeShape) (t : TypeId) (s r : State) (k : IsKnown s)
       let there : IsKnown after = record {
         basic = basic_after s.table x k.basic a parts new (lt_from (length s.table) 16384 p) (le_from (new_layout s.table x).size 1048576 q) grows;
         followed = followed_after s.table x k.basic a parts new (lt_from (length s.table) 16384 p) (le_from (new_layout s.table x).size 1048576 q) s.seen.scopes plain k.followed;
+        objects = λ name u home q. still_in s.table after.table grows u (k.objects name u home q);
       } in
       subst IsKnown same there
   fresh true false p q new h e = never-gives t (TooLarge at Object) s r h
@@ -173,7 +174,7 @@ pub node-there : (at : Place) (n : NodeId) (s r : State) → IsKnown s → new_n
 node-there at n s r k h =
     let after : State = record s { seen = record s.seen { node = s.seen.node + 1 } } in
     let here : GoesOnThere s after = record {
-      goes = record { extends = extended_refl s.table; known = record { basic = k.basic; followed = k.followed } };
+      goes = record { extends = extended_refl s.table; known = record { basic = k.basic; followed = k.followed; objects = k.objects } };
       scopes = refl;
     } in
     subst (GoesOnThere s) (sym (new_node-gives at n s r h).1) here

@@ -20,3 +20,7 @@ pub mod JudgedOperators
 pub mod JudgedMembers
 pub mod TypesThere
 pub mod JudgedAssignments
+pub mod JudgedCasts
+pub mod JudgedChoices
+pub mod JudgedNames
+pub mod JudgedCalls

@@ -1,9 +1,10 @@
 -- What laws of the constructs ask of the table and of operands.
-use Rattle.std.specs.Prelude.{◌≡◌, ◌<◌, Bool, true, false}
+use Rattle.std.specs.Prelude.{◌≡◌, ◌<◌, Bool, true, false, List, [], ◌∷◌, ◌++◌, Some}
 use Rattle.std.specs.List.{Contains}
+use Rattle.cc_base.specs.declared.number.NodeId.{NodeId}
 use Rattle.cc_base.specs.declared.number.TypeId.{TypeId}
 use Rattle.c_types.specs.declared.shape.TypeShape.TheVariants.{Void, Integer}
-use Rattle.c_types.specs.Table.{Table, HasShape, IsComplete, shape_at, named_by}
+use Rattle.c_types.specs.Table.{Table, HasShape, IsType, IsComplete, shape_at, named_by}
 use Rattle.c_types.specs.Sound.{IsWellFormed, IsIntegerSize}
 use Rattle.c_tree.specs.TypedTree as typed
 use Rattle.c_tree.specs.TypedTree.{TypedExpr}
@@ -15,9 +16,10 @@ use Rattle.integers.specs.Arithmetic.{IntegerType}
 use Rattle.c_check_expr.specs.Conversions.{bare, IsPlain}
 use Rattle.c_check_expr.specs.Extensions.{IsExtended}
 use Rattle.c_check_expr.specs.Judging.{State, void_type, integer_type}
-use Rattle.c_check_expr.specs.Operands.{Operand}
+use Rattle.c_check_expr.specs.Operands.{Operand, Value}
 use Rattle.c_check_expr.specs.Refusals.{IsElaborated}
-use Rattle.c_check_expr.specs.Scopes.{Scopes, is_complete_at}
+use Rattle.c_check_expr.specs.declared.declared.Declared.TheVariants as declared
+use Rattle.c_check_expr.specs.Scopes.{Name, Scopes, name_in, is_complete_at}
 use Rattle.c_check_expr.specs.Shapes.{is_scalar_shape}
 use Rattle.c_check_expr.specs.Tests.{Elaborated, AsPlace, AsValue, AsAllocation}
 use Rattle.c_check_expr.specs.Typing.{IsTyped, IsPlace}
@@ -56,10 +58,18 @@ pub record IsValueOf (table : Table) (e : tree.Expr) (v : TypedExpr) (s s' : Sco
   pub erases : erased v ≡ e
   pub settled : IsSettled table v
 
--- what is known between any two parts of a text
+-- the values are those of the arguments, one after another
+abbrev pub AreValuesOf : Table → tree.Arguments → List Value → Scopes → Scopes → Type 0
+AreValuesOf table tree.NoArgument values s s' = (values ≡ []) × (s' ≡ s)
+AreValuesOf table (tree.AndArgument all e) values s s' =
+    (before : List Value) × (m : Scopes) × (v : Value) × AreValuesOf table all before s m × IsValueOf table e v.expr m s' × (v.place ≡ expr_place e)
+    × (values ≡ before ++ v ∷ [])
+
+-- what is known between any two parts of a text: the types of the objects that are named are in the table
 pub record IsKnown (state : State) : Type 0 where
   pub basic : IsBasic state.table
   pub followed : IsFollowed state.table state.seen.scopes
+  pub objects : (name : Name) (t : TypeId) (home : NodeId) → name_in state.seen.scopes.levels name ≡ Some (declared.Object t home) → IsType state.table t
 
 -- the types go on, and all is known again
 pub record GoesOn (before after : State) : Type 0 where

@@ -2,6 +2,8 @@
 #![tactic(auto)]
 
 pub mod growth;
+pub mod calls;
+pub mod names;
 pub mod assignments;
 pub mod members;
 pub mod operators;

@@ -97,7 +97,7 @@ for-type t (typed.Paren at e) h = for-type t e h
 for-type t (typed.AllocateFor runtime f at arguments u) h = (refl, refl)
 for-type t e h = no_true h
 
-place-form : (at : Place) (p : TypedPlace) (how : Reading) (v : TypedExpr) (s r : State) → place_value at p how s ≡ Gives v r → is_made_of_place v ≡ true
+pub place-form : (at : Place) (p : TypedPlace) (how : Reading) (v : TypedExpr) (s r : State) → place_value at p how s ≡ Gives v r → is_made_of_place v ≡ true
 unfolding place_value
 place-form at p (reading.Decays element) v s r h =
     let one = bind-gives (new_pointer at element s) (λ made. pure (typed.Decay p made.node made.type)) v r h in

@@ -60,7 +60,7 @@ forward_last T (w ∷ vs) v e s m s' h val place = (h.0, h.1, h.2, h.3, forward_
 forward : (T : Table) (all : tree.Arguments) (values : List Value) (s s' : Scopes) → AreValuesOf T all values s s' → Forward T values s s'
 forward T tree.NoArgument values s s' h = subst (λ (vs : List Value). Forward T vs s s') (sym h.0) h.1
 forward T (tree.AndArgument all e) values s s' h =
-    subst (λ (vs : List Value). Forward T vs s s') (sym h.6) (forward_last T h.0 h.2 e s h.1 s' (forward T all h.0 s h.1 h.3) h.4 h.5)
+    subst (λ (vs : List Value). Forward T vs s s') (sym h.7) (forward_last T h.0 h.2 e s h.1 s' (forward T all h.0 s h.1 h.3) h.4 h.5)
 
 fold_last : {A B : Type 0} (f : B → A → B) (b : B) (xs : List A) (x : A) → fold f b (xs ++ x ∷ []) ≡ f (fold f b xs) x
 fold_last f b [] x = refl
@@ -72,7 +72,7 @@ trees T tree.NoArgument values s s' h = ap (λ (vs : List Value). fold tree.AndA
 trees T (tree.AndArgument all e) values s s' h =
     let before = trees T all h.0 s h.1 h.3 in
     let last = h.4.erases in
-    ap (λ (vs : List Value). fold tree.AndArgument tree.NoArgument (map (λ (v : Value). erased v.expr) vs)) h.6
+    ap (λ (vs : List Value). fold tree.AndArgument tree.NoArgument (map (λ (v : Value). erased v.expr) vs)) h.7
     ∙ ap (fold tree.AndArgument tree.NoArgument) (map-append (λ (v : Value). erased v.expr) h.0 (h.2 ∷ []))
     ∙ fold_last tree.AndArgument tree.NoArgument (map (λ (v : Value). erased v.expr) h.0) (erased h.2.expr)
     ∙ (λ i. tree.AndArgument (before i) (last i))

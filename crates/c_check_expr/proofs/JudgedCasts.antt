@@ -108,7 +108,7 @@ module _ (T : Table) (name : tree.TypeName) (e : tree.Expr) (at : Place) (to : T
         refl,
       )
 
-  cast_by : (y : Elaborated) (b : Bool) → is_void_shape (shape_at T (named_type to)) ≡ b → IsGiven T (named_type to) e y m s → is_droppable (part_expr y) ≡ true
+  cast_by : (y : Elaborated) (b : Bool) → is_void_shape (shape_at T (named_type to)) ≡ b → IsGiven T (named_type to) e y m s → ((w : TypedExpr) → y ≡ AsValue w → is_droppable w ≡ true)
       → is_castable T y (shape_at T (named_type to)) ≡ true
       → IsElaborated T (tree.Cast at name e) (AsValue (typed.Cast (cast_which T y (named_type to) b) at to (part_expr y))) s0 s
   cast_by (AsPlace q) true v g d h =
@@ -119,7 +119,7 @@ module _ (T : Table) (name : tree.TypeName) (e : tree.Expr) (at : Place) (to : T
       ∙ or_else (is_void_shape (shape_at T (named_type to))) (has_some (cast_between false (decayed (shape_at T (place_type q))) (shape_at T (named_type to)))) v h)
   cast_by (AsValue w) true v g d h =
       let second = g.value.erases in
-      ((m, named, g.value.typed, inl ((there, void_is (shape_at T (named_type to)) v), refl, d)), (λ i. tree.Cast at (called i) (second i)), refl)
+      ((m, named, g.value.typed, inl ((there, void_is (shape_at T (named_type to)) v), refl, d w refl)), (λ i. tree.Cast at (called i) (second i)), refl)
   cast_by (AsValue w) false v g d h =
       let some = some_of (cast_conversion T w (named_type to))
       (or_else (is_void_shape (shape_at T (named_type to))) (has_some (cast_conversion T w (named_type to))) v h) in
@@ -145,7 +145,7 @@ module _ (T : Table) (name : tree.TypeName) (e : tree.Expr) (at : Place) (to : T
 -- what is given may be dropped: it is no runtime function
 pub cast-judged : (name : tree.TypeName) (e : tree.Expr) (at : Place) (to : TypedTypeName) (x o : Operand) (s0 m : Scopes) (s r : State) → IsKnown s
     → IsTypeName s.table to s0 m → erased_type_name to ≡ name → IsType s.table (named_type to) → IsElaborated s.table e x.part m s.seen.scopes
-    → ((y : Elaborated) (q : State) → given (named_type to) x.place x.part s ≡ Gives y q → is_droppable (part_expr y) ≡ true) → cast at to x s ≡ Gives o r
+    → ((w : TypedExpr) (q : State) → given (named_type to) x.place x.part s ≡ Gives (AsValue w) q → is_droppable w ≡ true) → cast at to x s ≡ Gives o r
     → IsJudged (tree.Cast at name e) o s0 s r
 unfolding cast
 cast-judged name e at to x o s0 m s r k named called there el dropped h =
@@ -158,7 +158,7 @@ cast-judged name e at to x o s0 m s r k named called there el dropped h =
     let grows = got.1.goes.extends in
     made-later (tree.Cast at name e) (AsValue (cast_part n.table at to v)) o s0 s n r got.1.goes c.part c.place
     (cast_by n.table name e at to s0 m n.seen.scopes (type_name-kept s.table n.table grows k.basic to s0 m named) called (still_in s.table n.table grows (named_type to) there)
-    v (is_void_shape (shape_at n.table (named_type to))) refl got.0 (dropped v n one.2)
+    v (is_void_shape (shape_at n.table (named_type to))) refl got.0 (λ w alike. dropped w n (one.2 ∙ ap (λ (z : Elaborated). Gives z n) alike))
     (not_false (is_castable n.table v (shape_at n.table (named_type to))) (one_unbroken (not (is_castable n.table v (shape_at n.table (named_type to)))) (Refused at rule.Mismatch) c.unbroken)))
 
 -- Compound assignments

@@ -67,7 +67,7 @@ raw_type n t (typed.Paren at e) h = raw_type n t e h
 raw_type n t (typed.AllocateFor runtime f at arguments u) h = refl
 raw_type n t e h = no_true h
 
-raw_plain : (n : NodeId) (t : TypeId) (e : TypedExpr) → is_taken_over e ≡ true → is_plain (made_raw n t e) ≡ true
+pub raw_plain : (n : NodeId) (t : TypeId) (e : TypedExpr) → is_taken_over e ≡ true → is_plain (made_raw n t e) ≡ true
 raw_plain n t (typed.Paren at e) h = raw_plain n t e h
 raw_plain n t (typed.AllocateFor runtime f at arguments u) h = refl
 raw_plain n t e h = no_true h
@@ -77,7 +77,7 @@ raw_alone n t (typed.Paren at e) h = (refl, (raw_alone n t e h).1)
 raw_alone n t (typed.AllocateFor runtime f at arguments u) h = (refl, refl)
 raw_alone n t e h = no_true h
 
-raw_made : (at : Place) (w v : TypedExpr) (s r : State) → IsKnown s → raw_value at w s ≡ Gives v r
+pub raw_made : (at : Place) (w v : TypedExpr) (s r : State) → IsKnown s → raw_value at w s ≡ Gives v r
     → (n : NodeId) × (t : TypeId) × (v ≡ made_raw n t w) × HasShape r.table t (Pointer n void_type)
 unfolding raw_value
 raw_made at w v s r k q =

@@ -49,7 +49,7 @@ use Rattle.c_check_expr.proofs.KeptRules.{has-kept, aggregate-kept}
 use Rattle.c_check_expr.proofs.KeptTrees.{value-kept, place-kept, type_name-kept}
 use Rattle.c_check_expr.proofs.Outcomes.{construct-gives, gives-value, gives-state, never-gives, bind-gives}
 use Rattle.c_check_expr.proofs.KnownStates.{stays, goes-on}
-use Rattle.c_check_expr.proofs.ValuesTaken.{not_true, natural-no_place, natural-plain, runtime-void, part-kept, IsTaken, IsValue, value_of-gives, value-gives}
+use Rattle.c_check_expr.proofs.ValuesTaken.{not_true, natural-no_place, natural-plain, runtime-void, part-kept, given-same, IsTaken, IsValue, value_of-gives, value-gives}
 use Rattle.c_check_expr.proofs.JudgedOperators.{target-judged, index-judged, prefix-judged, infix-judged, before-judged, after-judged, paren-judged, integer-judged, character-judged, address-judged}
 use Rattle.c_check_expr.proofs.JudgedMembers.{raw_plain, raw_made, size-judged, size_of_type-judged, member-judged, pointed_member-judged}
 use Rattle.c_check_expr.proofs.JudgedAssignments.{place-form, assign-judged, comma-judged}
@@ -281,6 +281,212 @@ then e o s0 s m r g j = record { part = j.part; place = j.place; goes = goes-on 
 unnamed : (called : Bool) (e : tree.Expr) (o : Operand) (s r : State) → is_name e ≡ false → IsJudged e o s.seen.scopes s r → IsJudgedFree called e o s r
 unnamed called e o s r n j = record { judged = j; free = λ c. unnamed-free r.table e o.part s.seen.scopes r.seen.scopes j.part n }
 
-values-kept : (T U : Table) (x : IsExtended T U) (b : IsBasic T) (all : tree.Arguments) (values : List Value) (s s' : Scopes) → AreDone values → AreValuesOf T all values s s'
+values-kept : (T U : Table) (x : IsExtended T U) (b : IsBasic T) (all : tree.Arguments) (values : List Value) (s s' : Scopes) → AreValuesOf T all values s s'
     → AreValuesOf U all values s s'
-values-kept T U x b all values s s' d h = ?values_kept
+values-kept T U x b tree.NoArgument values s s' h = h
+values-kept T U x b (tree.AndArgument all e) values s s' h = (
+  h.0,
+  h.1,
+  h.2,
+  values-kept T U x b all h.0 s h.1 h.3,
+  valued-kept T U x b e h.2.expr h.1 s' (inl h.6) h.4,
+  h.5,
+  h.6,
+  h.7,
+)
+
+-- the value of a part that is judged next
+abbrev Judged : Bool → tree.Expr → State → Type 0
+Judged called e s = (o : Operand) (q : State) → judge called e s ≡ Gives o q → IsJudgedFree called e o s q
+
+taken : (e : tree.Expr) (v : Value) (s m : State) → Judged false e s → next (judge false e s) value ≡ Gives v m → IsValueFree false e v s m
+taken e v s m ih h = let one = bind-gives (judge false e s) value v m h in value-here false e one.0 v s one.1 m (ih one.0 one.1 one.2) one.3
+
+-- a value while another one is judged
+later : (called : Bool) (e : tree.Expr) (v : Value) (s m r : State) → IsValueFree called e v s m → GoesOn m r → IsValueOf r.table e v.expr s.seen.scopes m.seen.scopes
+later called e v s m r h g =
+    valued-kept m.table r.table g.extends h.value.goes.known.basic e v.expr s.seen.scopes m.seen.scopes h.value.done h.value.taken
+
+-- a part while another one is judged
+part-later : (e : tree.Expr) (o : Operand) (s m r : State) → IsJudged e o s.seen.scopes s m → GoesOn m r → IsElaborated r.table e o.part s.seen.scopes m.seen.scopes
+part-later e o s m r j g = part-kept m.table r.table g.extends j.goes.known.basic e o.part s.seen.scopes m.seen.scopes j.part
+
+prefix-any : (operator : Unary) (e : tree.Expr) (at : Place) (x o : Operand) (s m r : State) → IsJudgedFree false e x s m → prefix operator at x m ≡ Gives o r
+    → IsJudged (tree.Prefix operator at e) o s.seen.scopes s r
+unfolding prefix target
+prefix-any unary.Increment e at x o s m r j h =
+    then (tree.Prefix unary.Increment at e) o s.seen.scopes s m r j.judged.goes (before-judged step.Increment e at x o s.seen.scopes m r j.judged.goes.known j.judged.part h)
+prefix-any unary.Decrement e at x o s m r j h =
+    then (tree.Prefix unary.Decrement at e) o s.seen.scopes s m r j.judged.goes (before-judged step.Decrement e at x o s.seen.scopes m r j.judged.goes.known j.judged.part h)
+prefix-any unary.AddressOf e at x o s m r j h =
+    then (tree.Prefix unary.AddressOf at e) o s.seen.scopes s m r j.judged.goes (address-judged e at x o s.seen.scopes m r j.judged.goes.known j.judged.part h)
+prefix-any unary.SizeOf e at x o s m r j h =
+    then (tree.Prefix unary.SizeOf at e) o s.seen.scopes s m r j.judged.goes (size-judged e at x o s.seen.scopes m r j.judged.goes.known j.judged.part h)
+prefix-any unary.Dereference e at x o s m r j h =
+    let one = bind-gives (value x m) (target_of at) o r h in
+    let v = value-here false e x one.0 s m one.1 j one.2 in
+    then (tree.Prefix unary.Dereference at e) o s.seen.scopes s one.1 r v.value.goes (target-judged e at one.0 o s.seen.scopes one.1 r v.value.goes.known v.value.taken one.3)
+prefix-any unary.Plus e at x o s m r j h =
+    let one = bind-gives (value x m) (prefix_of unary.Plus at) o r h in
+    let v = value-here false e x one.0 s m one.1 j one.2 in
+    then (tree.Prefix unary.Plus at e) o s.seen.scopes s one.1 r v.value.goes (prefix-judged unary.Plus e at one.0 o s.seen.scopes one.1 r refl v.value.goes.known v.value.taken one.3)
+prefix-any unary.Minus e at x o s m r j h =
+    let one = bind-gives (value x m) (prefix_of unary.Minus at) o r h in
+    let v = value-here false e x one.0 s m one.1 j one.2 in
+    then (tree.Prefix unary.Minus at e) o s.seen.scopes s one.1 r v.value.goes (prefix-judged unary.Minus e at one.0 o s.seen.scopes one.1 r refl v.value.goes.known v.value.taken one.3)
+prefix-any unary.Complement e at x o s m r j h =
+    let one = bind-gives (value x m) (prefix_of unary.Complement at) o r h in
+    let v = value-here false e x one.0 s m one.1 j one.2 in
+    then (tree.Prefix unary.Complement at e) o s.seen.scopes s one.1 r v.value.goes (prefix-judged unary.Complement e at one.0 o s.seen.scopes one.1 r refl v.value.goes.known v.value.taken one.3)
+prefix-any unary.Not e at x o s m r j h =
+    let one = bind-gives (value x m) (prefix_of unary.Not at) o r h in
+    let v = value-here false e x one.0 s m one.1 j one.2 in
+    then (tree.Prefix unary.Not at e) o s.seen.scopes s one.1 r v.value.goes (prefix-judged unary.Not e at one.0 o s.seen.scopes one.1 r refl v.value.goes.known v.value.taken one.3)
+
+update-any : (operator : Assignment) (a : tree.Expr) (at : Place) (b : tree.Expr) (o : Operand) (s r : State) → is_compound operator ≡ true → Judged false a s
+    → ((m : State) → IsKnown m → Judged false b m)
+    → next (judge false a s) (λ x. λ m. next (next (judge false b m) value) (λ y. Assignments.update_by operator x at y)) ≡ Gives o r
+    → IsJudged (tree.Assign operator a at b) o s.seen.scopes s r
+update-any operator a at b o s r compound ja jb h =
+    let one = bind-gives (judge false a s) (λ x. λ m. next (next (judge false b m) value) (λ y. Assignments.update_by operator x at y)) o r h in
+    let x = ja one.0 one.1 one.2 in
+    let two = bind-gives (next (judge false b one.1) value) (λ y. Assignments.update_by operator one.0 at y) o r one.3 in
+    let y = taken b two.0 one.1 two.1 (jb one.1 x.judged.goes.known) two.2 in
+    then (tree.Assign operator a at b) o s.seen.scopes s two.1 r (goes-on s one.1 two.1 x.judged.goes y.value.goes)
+    (update-judged operator a b one.0 at two.0 o s.seen.scopes one.1.seen.scopes two.1 r compound y.value.goes.known
+    (part-later a one.0 s one.1 two.1 x.judged y.value.goes) y.value.taken x.judged.place two.3)
+
+module _ (names : TypeNamesAreJudged) where
+  mutual
+    unfolding judge judge_arguments
+    pub expr-judged : (e : tree.Expr) (called : Bool) (o : Operand) (s r : State) → IsKnown s → judge called e s ≡ Gives o r → IsJudgedFree called e o s r
+    expr-judged (tree.Name word) called o s r k h =
+        record { judged = name-judged called word o s r k h; free = λ c. name-free word o s r (subst (λ (b : Bool). Assignments.name b word s ≡ Gives o r) c h) }
+    expr-judged (tree.Integer of n at) called o s r k h = unnamed called (tree.Integer of n at) o s r refl (integer-judged of n at o s r k h)
+    expr-judged (tree.Character n at) called o s r k h = unnamed called (tree.Character n at) o s r refl (character-judged n at o s r k h)
+    expr-judged (tree.String pieces) called o s r k h = unnamed called (tree.String pieces) o s r refl (literal-judged pieces o s r k h)
+    expr-judged (tree.Paren at e) called o s r k h =
+        let one = bind-gives (judge called e s) (Operations.paren at) o r h in
+        let j = expr-judged e called one.0 s one.1 k one.2 in
+        record {
+          judged = then (tree.Paren at e) o s.seen.scopes s one.1 r j.judged.goes (paren-judged e at one.0 o s.seen.scopes one.1 r j.judged.goes.known j.judged.part one.3);
+          free = λ c. paren-free at one.0 o one.1 r one.3 (j.free c);
+        }
+    expr-judged (tree.Index a at b) called o s r k h =
+        let one = bind-gives (next (judge false a s) value) (λ x. λ m. next (next (judge false b m) value) (λ y. Operations.index x at y)) o r h in
+        let x = taken a one.0 s one.1 (λ p q t. expr-judged a false p s q k t) one.2 in
+        let two = bind-gives (next (judge false b one.1) value) (λ y. Operations.index one.0 at y) o r one.3 in
+        let y = taken b two.0 one.1 two.1 (λ p q t. expr-judged b false p one.1 q x.value.goes.known t) two.2 in
+        unnamed called (tree.Index a at b) o s r refl (then (tree.Index a at b) o s.seen.scopes s two.1 r (goes-on s one.1 two.1 x.value.goes y.value.goes)
+        (index-judged a b one.0 at two.0 o s.seen.scopes one.1.seen.scopes two.1 r y.value.goes.known (later false a one.0 s one.1 two.1 x y.value.goes) y.value.taken x.value.place two.3))
+    expr-judged (tree.Call f at all) called o s r k h =
+        let one = bind-gives (judge true f s) (λ x. λ m. next (value x m) (λ g. λ n. next (judge_arguments all n) (λ values. Assignments.call g at values))) o r h in
+        let j = expr-judged f true one.0 s one.1 k one.2 in
+        let two = bind-gives (value one.0 one.1) (λ g. λ n. next (judge_arguments all n) (λ values. Assignments.call g at values)) o r one.3 in
+        let g = value-here true f one.0 two.0 s one.1 two.1 j two.2 in
+        let three = bind-gives (judge_arguments all two.1) (λ values. Assignments.call two.0 at values) o r two.3 in
+        let args = arguments-judged all three.0 two.1 three.1 g.value.goes.known three.2 in
+        unnamed called (tree.Call f at all) o s r refl (then (tree.Call f at all) o s.seen.scopes s three.1 r (goes-on s two.1 three.1 g.value.goes args.1)
+        (call-judged f all two.0 at three.0 o s.seen.scopes two.1.seen.scopes three.1 r args.1.known (later true f two.0 s two.1 three.1 g args.1) args.0 g.value.place three.3))
+    expr-judged (tree.Member e member.Dot at name) called o s r k h =
+        let one = bind-gives (judge false e s) (λ x. Operations.member x at name) o r h in
+        let j = expr-judged e false one.0 s one.1 k one.2 in
+        unnamed called (tree.Member e member.Dot at name) o s r refl (then (tree.Member e member.Dot at name) o s.seen.scopes s one.1 r j.judged.goes
+        (member-judged e at name one.0 o s.seen.scopes one.1 r j.judged.goes.known j.judged.part j.judged.place one.3))
+    expr-judged (tree.Member e member.Arrow at name) called o s r k h =
+        let one = bind-gives (next (judge false e s) value) (λ x. Operations.pointed_member x at name) o r h in
+        let x = taken e one.0 s one.1 (λ p q t. expr-judged e false p s q k t) one.2 in
+        unnamed called (tree.Member e member.Arrow at name) o s r refl (then (tree.Member e member.Arrow at name) o s.seen.scopes s one.1 r x.value.goes
+        (pointed_member-judged e one.0 at name o s.seen.scopes one.1 r x.value.goes.known x.value.taken x.value.place one.3))
+    expr-judged (tree.Postfix e step at) called o s r k h =
+        let one = bind-gives (judge false e s) (Operations.step_after step at) o r h in
+        let j = expr-judged e false one.0 s one.1 k one.2 in
+        unnamed called (tree.Postfix e step at) o s r refl (then (tree.Postfix e step at) o s.seen.scopes s one.1 r j.judged.goes
+        (after-judged step e at one.0 o s.seen.scopes one.1 r j.judged.goes.known j.judged.part j.judged.place one.3))
+    expr-judged (tree.Prefix operator at e) called o s r k h =
+        let one = bind-gives (judge false e s) (prefix operator at) o r h in
+        let j = expr-judged e false one.0 s one.1 k one.2 in
+        unnamed called (tree.Prefix operator at e) o s r refl (prefix-any operator e at one.0 o s one.1 r j one.3)
+    expr-judged (tree.SizeOfType at paren name) called o s r k h =
+        let one = bind-gives (judge_type_name name s) (Assignments.size_of_type at paren) o r h in
+        let t = names name one.0 s one.1 k one.2 in
+        unnamed called (tree.SizeOfType at paren name) o s r refl (then (tree.SizeOfType at paren name) o s.seen.scopes s one.1 r t.3
+        (size_of_type-judged name at paren one.0 o s.seen.scopes one.1 r t.3.known t.0 t.1 one.3))
+    expr-judged (tree.Cast at name e) called o s r k h =
+        let one = bind-gives (judge_type_name name s) (λ to. λ m. next (judge false e m) (λ x. Assignments.cast at to x)) o r h in
+        let t = names name one.0 s one.1 k one.2 in
+        let two = bind-gives (judge false e one.1) (λ x. Assignments.cast at one.0 x) o r one.3 in
+        let j = expr-judged e false two.0 one.1 two.1 t.3.known two.2 in
+        let grows = j.judged.goes.extends in
+        unnamed called (tree.Cast at name e) o s r refl (then (tree.Cast at name e) o s.seen.scopes s two.1 r (goes-on s one.1 two.1 t.3 j.judged.goes)
+        (cast-judged name e at one.0 two.0 o s.seen.scopes one.1.seen.scopes two.1 r j.judged.goes.known
+        (type_name-kept one.1.table two.1.table grows t.3.known.basic one.0 s.seen.scopes one.1.seen.scopes t.0) t.1 (still_in one.1.table two.1.table grows (named_type one.0) t.2)
+        j.judged.part
+        (λ w q alike. given-dropped e (named_type one.0) two.0.place two.0.part w one.1.seen.scopes two.1 q j.judged.goes.known j.judged.part (j.free refl) alike) two.3))
+    expr-judged (tree.Infix operator a at b) called o s r k h =
+        let one = bind-gives (next (judge false a s) value) (λ x. λ m. next (next (judge false b m) value) (λ y. Operations.infix_of operator x at y)) o r h in
+        let x = taken a one.0 s one.1 (λ p q t. expr-judged a false p s q k t) one.2 in
+        let two = bind-gives (next (judge false b one.1) value) (λ y. Operations.infix_of operator one.0 at y) o r one.3 in
+        let y = taken b two.0 one.1 two.1 (λ p q t. expr-judged b false p one.1 q x.value.goes.known t) two.2 in
+        unnamed called (tree.Infix operator a at b) o s r refl (then (tree.Infix operator a at b) o s.seen.scopes s two.1 r (goes-on s one.1 two.1 x.value.goes y.value.goes)
+        (infix-judged operator a b one.0 at two.0 o s.seen.scopes one.1.seen.scopes two.1 r y.value.goes.known (later false a one.0 s one.1 two.1 x y.value.goes) y.value.taken x.value.place two.3))
+    expr-judged (tree.Conditional c at a b) called o s r k h =
+        let one = bind-gives (next (judge false c s) value)
+        (λ z. λ m. next (next (judge false a m) value) (λ x. λ n. next (next (judge false b n) value) (λ y. Assignments.choice z at x y))) o r h in
+        let z = taken c one.0 s one.1 (λ p q t. expr-judged c false p s q k t) one.2 in
+        let two = bind-gives (next (judge false a one.1) value) (λ x. λ n. next (next (judge false b n) value) (λ y. Assignments.choice one.0 at x y)) o r one.3 in
+        let x = taken a two.0 one.1 two.1 (λ p q t. expr-judged a false p one.1 q z.value.goes.known t) two.2 in
+        let three = bind-gives (next (judge false b two.1) value) (λ y. Assignments.choice one.0 at two.0 y) o r two.3 in
+        let y = taken b three.0 two.1 three.1 (λ p q t. expr-judged b false p two.1 q x.value.goes.known t) three.2 in
+        let last = goes-on one.1 two.1 three.1 x.value.goes y.value.goes in
+        unnamed called (tree.Conditional c at a b) o s r refl (then (tree.Conditional c at a b) o s.seen.scopes s three.1 r (goes-on s one.1 three.1 z.value.goes last)
+        (choice-judged c a b one.0 at two.0 three.0 o s.seen.scopes one.1.seen.scopes two.1.seen.scopes three.1 r y.value.goes.known
+        (later false c one.0 s one.1 three.1 z last) (later false a two.0 one.1 two.1 three.1 x y.value.goes) y.value.taken (x.free refl) (y.free refl) z.value.place three.3))
+    expr-judged (tree.Assign assignment.Assign a at b) called o s r k h =
+        let one = bind-gives (judge false a s) (λ x. λ m. next (judge false b m) (λ y. Assignments.assign x at y)) o r h in
+        let x = expr-judged a false one.0 s one.1 k one.2 in
+        let two = bind-gives (judge false b one.1) (λ y. Assignments.assign one.0 at y) o r one.3 in
+        let y = expr-judged b false two.0 one.1 two.1 x.judged.goes.known two.2 in
+        unnamed called (tree.Assign assignment.Assign a at b) o s r refl (then (tree.Assign assignment.Assign a at b) o s.seen.scopes s two.1 r (goes-on s one.1 two.1 x.judged.goes y.judged.goes)
+        (assign-judged a b one.0 at two.0 o s.seen.scopes one.1.seen.scopes two.1 r y.judged.goes.known (part-later a one.0 s one.1 two.1 x.judged y.judged.goes) y.judged.part x.judged.place two.3))
+    expr-judged (tree.Assign operator a at b) called o s r k h =
+        unnamed called (tree.Assign operator a at b) o s r refl
+        (update-any operator a at b o s r refl (λ p q t. expr-judged a false p s q k t) (λ m known p q t. expr-judged b false p m q known t) h)
+    expr-judged (tree.Comma a b) called o s r k h =
+        let one = bind-gives (next (judge false a s) value) (λ x. λ m. next (next (judge false b m) value) (λ y. Assignments.comma x y)) o r h in
+        let x = taken a one.0 s one.1 (λ p q t. expr-judged a false p s q k t) one.2 in
+        let two = bind-gives (next (judge false b one.1) value) (λ y. Assignments.comma one.0 y) o r one.3 in
+        let y = taken b two.0 one.1 two.1 (λ p q t. expr-judged b false p one.1 q x.value.goes.known t) two.2 in
+        unnamed called (tree.Comma a b) o s r refl (then (tree.Comma a b) o s.seen.scopes s two.1 r (goes-on s one.1 two.1 x.value.goes y.value.goes)
+        (comma-judged a b one.0 two.0 o s.seen.scopes one.1.seen.scopes two.1 r y.value.goes.known (later false a one.0 s one.1 two.1 x y.value.goes) y.value.taken
+        (x.free refl) (y.free refl) x.value.place two.3))
+    expr-judged (tree.Compound at name brace) called o s r k h = never-gives o (TooLarge nowhere Types) s r h
+    expr-judged (tree.SizeOfCompound at paren name brace) called o s r k h = never-gives o (TooLarge nowhere Types) s r h
+
+    pub arguments-judged : (all : tree.Arguments) (values : List Value) (s r : State) → IsKnown s → judge_arguments all s ≡ Gives values r
+        → AreValuesOf r.table all values s.seen.scopes r.seen.scopes × GoesOn s r
+    arguments-judged tree.NoArgument values s r k h =
+        let same = gives-state [] values s r h in
+        ((sym (gives-value [] values s r h), ap (λ (q : State). q.seen.scopes) (sym same)), subst (GoesOn s) same (stays s k).goes)
+    arguments-judged (tree.AndArgument all e) values s r k h =
+        let one = bind-gives (judge_arguments all s) (λ before. λ m. next (next (judge false e m) value) (λ v. pure (before ++ v ∷ []))) values r h in
+        let before = arguments-judged all one.0 s one.1 k one.2 in
+        let two = bind-gives (next (judge false e one.1) value) (λ v. pure (one.0 ++ v ∷ [])) values r one.3 in
+        let v = taken e two.0 one.1 two.1 (λ p q t. expr-judged e false p one.1 q before.1.known t) two.2 in
+        given-same (λ (vs : List Value) (q : State). AreValuesOf q.table (tree.AndArgument all e) vs s.seen.scopes q.seen.scopes × GoesOn s q) (one.0 ++ two.0 ∷ []) values two.1 r two.3 (
+          (
+            one.0,
+            one.1.seen.scopes,
+            two.0,
+            values-kept one.1.table two.1.table v.value.goes.extends before.1.known.basic all one.0 s.seen.scopes one.1.seen.scopes before.0,
+            v.value.taken,
+            v.value.place,
+            v.free refl,
+            refl,
+          ),
+          goes-on s one.1 two.1 before.1 v.value.goes,
+        )
+
+  -- an expression, as the law has it
+  pub expr-law : (called : Bool) (e : tree.Expr) (o : Operand) (s r : State) → IsKnown s → judge called e s ≡ Gives o r → IsJudged e o s.seen.scopes s r
+  expr-law called e o s r k h = (expr-judged e called o s r k h).judged

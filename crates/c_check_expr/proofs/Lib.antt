@@ -24,3 +24,4 @@ pub mod JudgedCasts
 pub mod JudgedChoices
 pub mod JudgedNames
 pub mod JudgedCalls
+pub mod JudgedTrees

@@ -7,22 +7,23 @@ use Rattle.c_types.specs.declared.shape.TypeShape.TheVariants.{Void, Integer}
 use Rattle.c_types.specs.Table.{Table, HasShape, IsType, IsComplete, shape_at, named_by}
 use Rattle.c_types.specs.Sound.{IsWellFormed, IsIntegerSize}
 use Rattle.c_tree.specs.TypedTree as typed
-use Rattle.c_tree.specs.TypedTree.{TypedExpr}
-use Rattle.c_tree.specs.TypedParts.{type_of}
-use Rattle.c_tree.specs.Erasure.{erased}
+use Rattle.c_tree.specs.TypedTree.{TypedExpr, TypedTypeName}
+use Rattle.c_tree.specs.TypedParts.{type_of, named_type}
+use Rattle.c_tree.specs.Erasure.{erased, erased_type_name}
 use Rattle.c_tree.specs.Places.{expr_place}
 use Rattle.c_tree.specs.Tree as tree
 use Rattle.integers.specs.Arithmetic.{IntegerType}
-use Rattle.c_check_expr.specs.Conversions.{bare, IsPlain}
+use Rattle.c_check_expr.specs.Conversions.{bare, is_droppable, IsPlain}
 use Rattle.c_check_expr.specs.Extensions.{IsExtended}
-use Rattle.c_check_expr.specs.Judging.{State, void_type, integer_type}
+use Rattle.c_check_expr.specs.Judging.{State, Gives, void_type, integer_type}
+use Rattle.c_check_expr.specs.Walks.{judge_type_name}
 use Rattle.c_check_expr.specs.Operands.{Operand, Value}
 use Rattle.c_check_expr.specs.Refusals.{IsElaborated}
 use Rattle.c_check_expr.specs.declared.declared.Declared.TheVariants as declared
 use Rattle.c_check_expr.specs.Scopes.{Name, Scopes, name_in, is_complete_at}
 use Rattle.c_check_expr.specs.Shapes.{is_scalar_shape}
 use Rattle.c_check_expr.specs.Tests.{Elaborated, AsPlace, AsValue, AsAllocation}
-use Rattle.c_check_expr.specs.Typing.{IsTyped, IsPlace}
+use Rattle.c_check_expr.specs.Typing.{IsTyped, IsPlace, IsTypeName}
 
 -- the table is well formed, a type names only types that were there before it, and `void` and the integer types are where every table
 -- has them
@@ -63,7 +64,7 @@ abbrev pub AreValuesOf : Table → tree.Arguments → List Value → Scopes → 
 AreValuesOf table tree.NoArgument values s s' = (values ≡ []) × (s' ≡ s)
 AreValuesOf table (tree.AndArgument all e) values s s' =
     (before : List Value) × (m : Scopes) × (v : Value) × AreValuesOf table all before s m × IsValueOf table e v.expr m s' × (v.place ≡ expr_place e)
-    × (values ≡ before ++ v ∷ [])
+    × (is_droppable v.expr ≡ true) × (values ≡ before ++ v ∷ [])
 
 -- what is known between any two parts of a text: the types of the objects that are named are in the table
 pub record IsKnown (state : State) : Type 0 where
@@ -86,3 +87,9 @@ pub record IsJudged (e : tree.Expr) (x : Operand) (s : Scopes) (before after : S
   pub part : IsElaborated after.table e x.part s after.seen.scopes
   pub place : x.place ≡ expr_place e
   pub goes : GoesOn before after
+
+-- what judging gives for type names is well typed: the law of expressions rests on it
+abbrev pub TypeNamesAreJudged : Type 0
+TypeNamesAreJudged =
+    (name : tree.TypeName) (t : TypedTypeName) (s r : State) → IsKnown s → judge_type_name name s ≡ Gives t r
+    → IsTypeName r.table t s.seen.scopes r.seen.scopes × (erased_type_name t ≡ name) × IsType r.table (named_type t) × GoesOn s r

@@ -1,6 +1,7 @@
 //! Laws of the definitions, each the contract of a function that does nothing.
 #![tactic(auto)]
 
+pub mod expressions;
 pub mod growth;
 pub mod calls;
 pub mod names;

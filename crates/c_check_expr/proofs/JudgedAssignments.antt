@@ -141,7 +141,7 @@ given-gives e t at (AsAllocation w) v s0 s r k there el h = by (is_pointer_to_co
 given-gives e t at (AsValue w) v s0 s r k there el h =
     given-same (λ (y : Elaborated) (m : State). IsGiven m.table t e y s0 m.seen.scopes × GoesOnThere s m) (side_of w) v s r h (
       side-free s.table t e w s0 s.seen.scopes (record { typed = el.0; erases = el.1; settled = natural-settled s.table w s0 s.seen.scopes el.0 el.2 })
-      (and_no (is_allocation w) (is_pointer_to_complete s.table s.seen.scopes t) (natural-no_allocation w el.2)),
+          (and_no (is_allocation w) (is_pointer_to_complete s.table s.seen.scopes t) (natural-no_allocation w el.2)),
       stays s k,
     )
 given-gives e t at (AsPlace p) v s0 s r k there el h =
@@ -267,7 +267,7 @@ assign_elaborated T ea eb p at v s0 m s place same given_v u = by v given_v (not
             record {
               scalar = implicit-scalar T (is_null_constant T w) (shape_at T (type_of w)) (shape_at T (place_type p)) fit;
               assigned = subst (λ (c : Bool). IsAssignedBy c T at (place_type p) (converted_to T at (place_type p) w)) (sym free)
-              (fits-converted T m s at (place_type p) w g.value.settled g.value.typed fit);
+                  (fits-converted T m s at (place_type p) w g.value.settled g.value.typed fit);
               lvalue = lvalue;
             },
           ),

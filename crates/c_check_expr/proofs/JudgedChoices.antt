@@ -178,8 +178,7 @@ module _ (ec ea eb : tree.Expr) (c : TypedExpr) (begin at : Place) (o : Operand)
         let qa = to_integer-erased at (integer_type (common j i)) a ∙ va.erases in
         let qb = to_integer-erased at (integer_type (common j i)) b ∙ vb.erases in
         made-here (tree.Conditional ec at ea eb)
-        (AsValue (typed.Conditional c at (to_integer at (integer_type (common j i)) a) (to_integer at (integer_type (common j i)) b) (integer_type (common j i)))) o s0 s r k q place
-        (
+        (AsValue (typed.Conditional c at (to_integer at (integer_type (common j i)) a) (to_integer at (integer_type (common j i)) b) (integer_type (common j i)))) o s0 s r k q place (
           (
             m,
             n,
@@ -211,8 +210,7 @@ module _ (ec ea eb : tree.Expr) (c : TypedExpr) (begin at : Place) (o : Operand)
         let qb = vb.erases in
         let x : TypeShape = shape_at s.table (type_of a) in
         let y : TypeShape = shape_at s.table (type_of b) in
-        made-here (tree.Conditional ec at ea eb) (AsValue (typed.Conditional c at a b void_type)) o s0 s r k q place
-        (
+        made-here (tree.Conditional ec at ea eb) (AsValue (typed.Conditional c at a b void_type)) o s0 s r k q place (
           (
             m,
             n,
@@ -246,8 +244,7 @@ module _ (ec ea eb : tree.Expr) (c : TypedExpr) (begin at : Place) (o : Operand)
         let qb = vb.erases in
         let later = subst (IsTyped one.1.table b n) (sym found.1.scopes) (value-kept s.table one.1.table x k.basic b n s.seen.scopes vb.typed) in
         made-later (tree.Conditional ec at ea eb)
-        (AsValue (typed.PointerConditional c at (into_choice one.1.table at one.0.type a) (into_choice one.1.table at one.0.type b) one.0.node one.0.type)) o s0 s one.1 r found.1.goes one.3 place
-        (
+        (AsValue (typed.PointerConditional c at (into_choice one.1.table at one.0.type a) (into_choice one.1.table at one.0.type b) one.0.node one.0.type)) o s0 s one.1 r found.1.goes one.3 place (
           (
             m,
             n,
@@ -259,7 +256,7 @@ module _ (ec ea eb : tree.Expr) (c : TypedExpr) (begin at : Place) (o : Operand)
               condition = condition-kept s.table one.1.table x k.basic c condition;
               plain = (pa, pb);
               meets = ap meeting_type (meeting-kept s.table one.1.table x k.basic a b m n n s.seen.scopes va.typed vb.typed (own-plain s.table a pa) (own-plain s.table b pb)
-              (type_meets (meeting s.table a b) to meets_at)) ∙ meets_at;
+                  (type_meets (meeting s.table a b) to meets_at)) ∙ meets_at;
               type = found.0;
               first = refl;
               second = refl;

@@ -113,8 +113,7 @@ size-judged e at x o s0 s r k el h =
     by (AsValue v) l u q place =
         let both = tested (AsValue v) u in
         let whole = and_left (is_complete_at s.table s.seen.scopes (type_of v)) (not (is_designator v)) both in
-        made-here (tree.Prefix unary.SizeOf at e) (AsValue (typed.SizeOfValue at v (size_of s.table (type_of v)) size_type)) o s0 s r k q place
-        (
+        made-here (tree.Prefix unary.SizeOf at e) (AsValue (typed.SizeOfValue at v (size_of s.table (type_of v)) size_type)) o s0 s r k q place (
           (
             l.0,
             record {
@@ -138,8 +137,7 @@ size-judged e at x o s0 s r k el h =
         let shape : shape_at one.1.table (type_of one.0) ≡ Pointer n void_type = ap (λ (w : TypedExpr). shape_at one.1.table (type_of w)) same
         ∙ ap (shape_at one.1.table) (raw_type n t v l.2) ∙ made.3.1 in
         let alone = raw_alone n t v l.2 in
-        made-later (tree.Prefix unary.SizeOf at e) (AsValue (typed.SizeOfValue at one.0 (size_of one.1.table (type_of one.0)) size_type)) o s0 s one.1 r taken.1.goes one.3 place
-        (
+        made-later (tree.Prefix unary.SizeOf at e) (AsValue (typed.SizeOfValue at one.0 (size_of one.1.table (type_of one.0)) size_type)) o s0 s one.1 r taken.1.goes one.3 place (
           (
             taken.0.typed,
             record {
@@ -234,7 +232,7 @@ member_rule s whole name i k h =
       number = known.0;
       declared = known.1;
       known = k.followed whole (named_whole s.seen.scopes (shape_at s.table whole) known.0 (members_at s.table whole) known.1
-      (some_named (members_named s.seen.scopes known.0) name.bytes i known.2));
+          (some_named (members_named s.seen.scopes known.0) name.bytes i known.2));
       named = known.2;
       type = refl;
     }
@@ -299,8 +297,7 @@ pointed_member-judged e v at name o s0 s r k val here h =
         made-later (tree.Member e member.Arrow at name) (AsPlace (typed.MemberAt v.expr at name f.member f.node (member_at one.1.table t f.member))) o s0 s one.1 r
         (node-goes s one.1 k known.1) one.3 place
         (subst (λ (m : State). IsElaborated m.table (tree.Member e member.Arrow at name) (AsPlace (typed.MemberAt v.expr at name f.member f.node (member_at m.table t f.member))) s0 m.seen.scopes)
-        (sym known.1)
-        (
+        (sym known.1) (
           (
             val.typed,
             record {

@@ -58,8 +58,7 @@ module _ (called : Bool) (word : Identifier) (o : Operand) (s r : State) (k : Is
       let first = numbered-gives word.place (place_among s.seen.scopes.defined word.bytes) one.0 s one.1 one.2 in
       let two = bind-gives (new_pointer word.place t one.1) (λ made. pure (AsValue (typed.FunctionName word one.0 made.node made.type))) o.part r one.3 in
       let found = new_pointer-gives word.place t two.0 s two.1 k (ap (new_pointer word.place t) (sym first.1) ∙ two.2) in
-      made-later (tree.Name word) (AsValue (typed.FunctionName word one.0 two.0.node two.0.type)) o s.seen.scopes s two.1 r found.1.goes two.3 place
-      (
+      made-later (tree.Name word) (AsValue (typed.FunctionName word one.0 two.0.node two.0.type)) o s.seen.scopes s two.1 r found.1.goes two.3 place (
         (
           found.1.scopes,
           record { function = t; known = known; defined = first.0; not_main = not_main word.bytes main; type = found.0 },
@@ -153,8 +152,7 @@ literal-judged pieces o s r k h =
     let third = count-gives at (count + 1) three.0 two.1 three.1 second.goes.known three.2 in
     let all = there-on s one.1 three.1 first (there-on one.1 two.1 three.1 second third) in
     let grows = third.goes.extends in
-    made-later (tree.String pieces) (AsPlace (typed.String pieces one.0 two.0)) o s.seen.scopes s three.1 r all.goes three.3 leaf.1
-    (
+    made-later (tree.String pieces) (AsPlace (typed.String pieces one.0 two.0)) o s.seen.scopes s three.1 r all.goes three.3 leaf.1 (
       (
         all.scopes,
         record {

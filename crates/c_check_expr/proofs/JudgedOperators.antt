@@ -353,8 +353,7 @@ address_behind-judged e at p o s0 s r (Some v) b k el lvalue q place =
 address_behind-judged e at p o s0 s r None b k el lvalue q place =
     let one = bind-gives (new_pointer at (place_type p) s) (λ made. pure (AsValue (typed.AddressOf at p made.node made.type))) o.part r q in
     let found = new_pointer-gives at (place_type p) one.0 s one.1 k one.2 in
-    made-later (tree.Prefix unary.AddressOf at e) (AsValue (typed.AddressOf at p one.0.node one.0.type)) o s0 s one.1 r found.1.goes one.3 place
-    (
+    made-later (tree.Prefix unary.AddressOf at e) (AsValue (typed.AddressOf at p one.0.node one.0.type)) o s0 s one.1 r found.1.goes one.3 place (
       (
         subst (IsPlace one.1.table p s0) (sym found.1.scopes) (place-kept s.table one.1.table found.1.goes.extends k.basic p s0 s.seen.scopes el.0),
         record { lvalue = lvalue; own = b; type = found.0 },

@@ -359,6 +359,7 @@ update-any operator a at b o s r compound ja jb h =
 module _ (names : TypeNamesAreJudged) where
   mutual
     unfolding judge judge_arguments
+
     pub expr-judged : (e : tree.Expr) (called : Bool) (o : Operand) (s r : State) → IsKnown s → judge called e s ≡ Gives o r → IsJudgedFree called e o s r
     expr-judged (tree.Name word) called o s r k h =
         record { judged = name-judged called word o s r k h; free = λ c. name-free word o s r (subst (λ (b : Bool). Assignments.name b word s ≡ Gives o r) c h) }

@@ -287,8 +287,11 @@ module _ (T U : Table) (x : IsExtended T U) (basic : IsBasic T) where
       → AreCompared T operator a at b → AreCompared U operator a at b
   compared_by operator a at b ta tb pa pb (inl h) = inl (h.0, ordered-kept a b h.1)
   compared_by operator a at b ta tb pa pb (inr h) =
-      inr (h.0, subst (λ (m : Meeting). AreEquated m at a b)
-      (sym (bare_meeting a b ta tb pa pb (equated_meets (meeting T (bare a) (bare b)) at a b h.1))) h.1)
+      inr (
+        h.0,
+        subst (λ (m : Meeting). AreEquated m at a b)
+            (sym (bare_meeting a b ta tb pa pb (equated_meets (meeting T (bare a) (bare b)) at a b h.1))) h.1,
+      )
 
   pub compared-kept : (operator : Binary) (a : TypedExpr) (at : Place) (b : TypedExpr) (t : TypeId) → Somewhere T a → Somewhere T b
       → IsCompared T operator a at b t → IsCompared U operator a at b t
@@ -412,7 +415,7 @@ module _ (T U : Table) (x : IsExtended T U) (basic : IsBasic T) where
   call_of-kept function f all s s' h c = record {
     named = c.named;
     each = zip_kept (Somewhere T) (IsRuntimeArgument T) (IsRuntimeArgument U) runtime_argument-kept (prototype_of function).parameters (listed_arguments all)
-    (each_typed T all s s' h) c.each;
+        (each_typed T all s s' h) c.each;
   }
 
   pub runtime_call-kept : (function : Runtime) (f : TypedExpr) (all : TypedArguments) (t : TypeId) (s s' : Scopes) → AreTyped T all s s'

@@ -49,10 +49,10 @@ module _ (T : Table) (x : TypeShape) (b : IsBasic T) (a : IsAddable T x) (parts 
   built_after : (t u : TypeId) → Contains (named_by (shape_at (T ++ basic_entry x ∷ []) t)) u → u.0 < t.0
   built_after t u c = elim (eqb_tells t.0 (length T)) [
     | inl s ↦
-      let there : u.0 < length T = All-contains (IsType T) (named_by x) u a.named
-      (subst (λ (e : Entry). Contains (named_by e.shape) u) (entry_last t s.1) c) in
-      let last = s.1 in
-      omega (arith, there, last)
+        let there : u.0 < length T = All-contains (IsType T) (named_by x) u a.named
+        (subst (λ (e : Entry). Contains (named_by e.shape) u) (entry_last t s.1) c) in
+        let last = s.1 in
+        omega (arith, there, last)
     | inr n ↦ b.built t u (subst (λ (e : Entry). Contains (named_by e.shape) u) (change.other t n.1) c)
   ]
 
@@ -67,12 +67,12 @@ module _ (T : Table) (x : TypeShape) (b : IsBasic T) (a : IsAddable T x) (parts 
   pub followed_after : (s : Scopes) → is_aggregate_shape x ≡ false → IsFollowed T s → IsFollowed (T ++ basic_entry x ∷ []) s
   followed_after s p f t h = elim (eqb_tells t.0 (length T)) [
     | inl q ↦
-      let own = entry_last t q.1 in
-      subst (λ (e : Entry). is_complete e ≡ true) (sym own)
-      (complete_by s x [] p (subst (λ (e : Entry). is_complete_shape_at s (is_complete e) e.shape ≡ true) own h))
+        let own = entry_last t q.1 in
+        subst (λ (e : Entry). is_complete e ≡ true) (sym own)
+        (complete_by s x [] p (subst (λ (e : Entry). is_complete_shape_at s (is_complete e) e.shape ≡ true) own h))
     | inr n ↦
-      let same = change.other t n.1 in
-      subst (λ (e : Entry). is_complete e ≡ true) (sym same) (f t (subst (λ (e : Entry). is_complete_shape_at s (is_complete e) e.shape ≡ true) same h))
+        let same = change.other t n.1 in
+        subst (λ (e : Entry). is_complete e ≡ true) (sym same) (f t (subst (λ (e : Entry). is_complete_shape_at s (is_complete e) e.shape ≡ true) same h))
   ]
 
 lt_from : (a b : ℕ) → nat_lt a b ≡ true → a < b
@@ -193,7 +193,7 @@ new_pointer-gives at to made s r k h =
     let value = gives-value (pointing one.0 two.0) made two.1 r two.3 in
     let state = gives-state (pointing one.0 two.0) made two.1 r two.3 in (
       subst (λ (v : State). HasShape v.table made.type (Pointer made.node to)) state
-      (subst (λ (p : Pointing). HasShape two.1.table p.type (Pointer p.node to)) value second.0),
+          (subst (λ (p : Pointing). HasShape two.1.table p.type (Pointer p.node to)) value second.0),
       subst (GoesOnThere s) state (there-on s one.1 two.1 first second.1),
     )
 

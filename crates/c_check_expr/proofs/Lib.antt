@@ -25,3 +25,7 @@ pub mod JudgedChoices
 pub mod JudgedNames
 pub mod JudgedCalls
 pub mod JudgedTrees
+pub mod RefusedConstructs
+pub mod TestsAlike
+pub mod InfixAlike
+pub mod FirstState

@@ -170,10 +170,10 @@ construct-refuses rules begin held made s p t r never h =
     inside q = elim (bind-stops (holding begin (held_with 0 held) s) (λ n. made >>= (λ x. pure (operand_with begin x n))) (Refused p t) r q) [
       | inl k ↦ holding-never begin (held_with 0 held) s p t r k
       | inr k ↦ let same = holding-gives begin (held_with 0 held) k.0 s k.1 k.2 in
-        elim (bind-stops (made k.1) (λ x. pure (operand_with begin x k.0)) (Refused p t) r k.3) [
-          | inl m ↦ never p t r (ap made (sym same.1) ∙ m)
-          | inr m ↦ never-stops (operand_with begin m.0 k.0) (Refused p t) m.1 r m.3
-        ]
+          elim (bind-stops (made k.1) (λ x. pure (operand_with begin x k.0)) (Refused p t) r k.3) [
+            | inl m ↦ never p t r (ap made (sym same.1) ∙ m)
+            | inr m ↦ never-stops (operand_with begin m.0 k.0) (Refused p t) m.1 r m.3
+          ]
     ]
 
 pub leaf-gives : (at : Place) (made : Judging Elaborated) (s : State) (o : Operand) (r : State) → leaf at made s ≡ Gives o r

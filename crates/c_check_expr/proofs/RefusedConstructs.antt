@@ -303,12 +303,12 @@ assign-refused x at y s p t r h =
     (λ v. construct (λ q. assign_tests q.table q.seen.scopes assignment.Assign at x.part v) x.place (x.held ∷ y.held ∷ []) (assign_part at x.part v)) (Refused p t) r h) [
       | inl q ↦ absurd (given-never (part_type x.part) y.place y.part s p t r q)
       | inr q ↦
-        let c = construct-refuses (λ (m : State). assign_tests m.table m.seen.scopes assignment.Assign at x.part q.0) x.place (x.held ∷ y.held ∷ []) (assign_part at x.part q.0) q.1 p t r
-        (assign-never at x.part q.0 q.1) q.3 in (
-          q.0,
-          q.2 ∙ ap (Gives q.0) (sym c.1),
-          subst (λ (m : State). first_broken (assign_tests m.table m.seen.scopes assignment.Assign at x.part q.0) ≡ Some (Refused p t)) (sym c.1) c.0,
-        )
+          let c = construct-refuses (λ (m : State). assign_tests m.table m.seen.scopes assignment.Assign at x.part q.0) x.place (x.held ∷ y.held ∷ []) (assign_part at x.part q.0) q.1 p t r
+          (assign-never at x.part q.0 q.1) q.3 in (
+            q.0,
+            q.2 ∙ ap (Gives q.0) (sym c.1),
+            subst (λ (m : State). first_broken (assign_tests m.table m.seen.scopes assignment.Assign at x.part q.0) ≡ Some (Refused p t)) (sym c.1) c.0,
+          )
     ]
 
 pub cast-refused : (at : Place) (to : TypedTypeName) (x : Operand) (s : State) (p : Place) (t : Rule) (r : State) → Assignments.cast at to x s ≡ Stops (Refused p t) r
@@ -319,10 +319,10 @@ cast-refused at to x s p t r h =
     (λ v. construct (λ q. cast_tests q.table at v (named_type to)) at (x.held ∷ []) (by_known (λ q. pure (AsValue (cast_part q.table at to v))))) (Refused p t) r h) [
       | inl q ↦ absurd (given-never (named_type to) x.place x.part s p t r q)
       | inr q ↦
-        let c = construct-refuses (λ (m : State). cast_tests m.table at q.0 (named_type to)) at (x.held ∷ []) (by_known (λ m. pure (AsValue (cast_part m.table at to q.0)))) q.1 p t r
-        (gives-never (AsValue (cast_part q.1.table at to q.0)) q.1) q.3 in (
-          q.0,
-          q.2 ∙ ap (Gives q.0) (sym c.1),
-          subst (λ (m : State). first_broken (cast_tests m.table at q.0 (named_type to)) ≡ Some (Refused p t)) (sym c.1) c.0,
-        )
+          let c = construct-refuses (λ (m : State). cast_tests m.table at q.0 (named_type to)) at (x.held ∷ []) (by_known (λ m. pure (AsValue (cast_part m.table at to q.0)))) q.1 p t r
+          (gives-never (AsValue (cast_part q.1.table at to q.0)) q.1) q.3 in (
+            q.0,
+            q.2 ∙ ap (Gives q.0) (sym c.1),
+            subst (λ (m : State). first_broken (cast_tests m.table at q.0 (named_type to)) ≡ Some (Refused p t)) (sym c.1) c.0,
+          )
     ]

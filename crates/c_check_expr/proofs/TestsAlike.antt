@@ -30,7 +30,7 @@ use Rattle.c_check_expr.specs.Operations.{is_arithmetic_prefix, target_of, prefi
 use Rattle.c_check_expr.specs.Refusals.{Fails, IsElaborated}
 use Rattle.c_check_expr.specs.Rules.{IsDecay}
 use Rattle.c_check_expr.specs.Scopes.{Scopes}
-use Rattle.c_check_expr.specs.Settled.{IsKnown}
+use Rattle.c_check_expr.specs.Settled.{IsKnown, flat, IsAlike}
 use Rattle.c_check_expr.specs.Shapes.{IsScalar, is_scalar_shape, is_integer_shape, is_pointer_shape, integer_at}
 use Rattle.c_check_expr.specs.Tests.{Elaborated, AsPlace, AsValue, AsAllocation, Test, broken_at, first_broken, decayed, shape_of, is_null_part, points_to_open, points_to_incomplete, is_index_pair, are_integers, is_moving, point_alike, point_to_data, meet, accepts, divides_as, divides_part, target_tests, prefix_tests, index_tests, infix_tests}
 use Rattle.c_check_expr.proofs.ExtensionLaws.{no_true}
@@ -40,28 +40,6 @@ use Rattle.c_check_expr.proofs.KnownStates.{new_pointer-gives}
 use Rattle.c_check_expr.proofs.KeptRules.{has-kept}
 use Rattle.c_check_expr.proofs.RefusedConstructs.{target-refused, prefix-refused, index-refused, infix-refused}
 use Rattle.c_check_expr.proofs.JudgedMembers.{raw_made}
-
--- shapes without the node
-
-abbrev pub flat : TypeShape → TypeShape
-flat (Pointer n t) = Pointer (record { 0 = 0 }) t
-flat x = x
-
--- what the tests read of a part and of its value is one
-pub record IsAlike (T : Table) (x : Elaborated) (v : TypedExpr) : Type 0 where
-  pub shape : flat (shape_of T x) ≡ flat (shape_at T (type_of v))
-  pub null : is_null_part T x ≡ is_null_constant T v
-  pub value : (x ≡ AsValue v) ⊎ ((constant_value T v ≡ None) × ((operator : Binary) (y : Elaborated) → (divides_part T operator x y ≡ false) × (divides_part T operator y x ≡ false)))
-
-no_division_left : (T : Table) (p : TypedPlace) (operator : Binary) (y : Elaborated) → (divides_part T operator (AsPlace p) y ≡ false) × (divides_part T operator y (AsPlace p) ≡ false)
-no_division_left T p operator (AsPlace q) = (refl, refl)
-no_division_left T p operator (AsValue q) = (refl, refl)
-no_division_left T p operator (AsAllocation q) = (refl, refl)
-
-no_division_raw : (T : Table) (w : TypedExpr) (operator : Binary) (y : Elaborated) → (divides_part T operator (AsAllocation w) y ≡ false) × (divides_part T operator y (AsAllocation w) ≡ false)
-no_division_raw T w operator (AsPlace q) = (refl, refl)
-no_division_raw T w operator (AsValue q) = (refl, refl)
-no_division_raw T w operator (AsAllocation q) = (refl, refl)
 
 scalar_flat : (x : TypeShape) → is_scalar_shape x ≡ true → flat (decayed x) ≡ flat x
 scalar_flat (Integer bytes signed) h = refl
@@ -95,12 +73,12 @@ module _ (at : Place) (p : TypedPlace) (v : TypedExpr) (s r : State) (k : IsKnow
   unread-alike : flat (decayed (shape_at s.table (place_type p))) ≡ flat (shape_at s.table (place_type p)) → Gives (typed.Unread p) s ≡ Gives v r → IsAlike r.table (AsPlace p) v
   unread-alike f q =
       subst (λ (m : State). IsAlike m.table (AsPlace p) v) (gives-state (typed.Unread p) v s r q)
-      (subst (IsAlike s.table (AsPlace p)) (gives-value (typed.Unread p) v s r q) (record { shape = f; null = refl; value = inr (refl, no_division_left s.table p) }))
+      (subst (IsAlike s.table (AsPlace p)) (gives-value (typed.Unread p) v s r q) (record { shape = f; null = refl; value = inr (refl, refl) }))
 
   read-alike : flat (decayed (shape_at s.table (place_type p))) ≡ flat (shape_at s.table (place_type p)) → Gives (typed.Read p) s ≡ Gives v r → IsAlike r.table (AsPlace p) v
   read-alike f q =
       subst (λ (m : State). IsAlike m.table (AsPlace p) v) (gives-state (typed.Read p) v s r q)
-      (subst (IsAlike s.table (AsPlace p)) (gives-value (typed.Read p) v s r q) (record { shape = f; null = refl; value = inr (refl, no_division_left s.table p) }))
+      (subst (IsAlike s.table (AsPlace p)) (gives-value (typed.Read p) v s r q) (record { shape = f; null = refl; value = inr (refl, refl) }))
 
   decayed-alike : (element : TypeId) (count : ℕ) → shape_at s.table (place_type p) ≡ Array element count
       → next (new_pointer at element s) (λ made. pure (typed.Decay p made.node made.type)) ≡ Gives v r → IsAlike r.table (AsPlace p) v
@@ -112,7 +90,7 @@ module _ (at : Place) (p : TypedPlace) (v : TypedExpr) (s r : State) (k : IsKnow
       (subst (IsAlike one.1.table (AsPlace p)) (gives-value (typed.Decay p one.0.node one.0.type) v one.1 r one.3) (record {
         shape = ap (λ (x : TypeShape). flat (decayed x)) array.1 ∙ sym (ap flat found.0.1);
         null = refl;
-        value = inr (refl, no_division_left one.1.table p);
+        value = inr (refl, refl);
       }))
 
   place-alike : (x : TypeShape) → shape_at s.table (place_type p) ≡ x → place_value at p (reading_of x) s ≡ Gives v r → IsAlike r.table (AsPlace p) v
@@ -140,7 +118,7 @@ value-alike e at (AsAllocation w) v s0 s r k el h =
     subst (IsAlike r.table (AsAllocation w)) (sym made.2) (record {
       shape = sym (ap (λ (u : TypeId). flat (shape_at r.table u)) (raw_type made.0 made.1 w el.2) ∙ ap flat made.3.1);
       null = sym ((λ i. is_zero_value (constant.0 i) || constant.1 i));
-      value = inr (constant.0, no_division_raw r.table w);
+      value = inr (refl, constant.0);
     })
 
 -- tests that read shapes alone

@@ -148,7 +148,7 @@ module _ (T : Table) (b : IsBasic T) where
   member_there s whole name i t h = subst (IsType T) (sym h.type) (elim (leb_tells (length (members_at T whole)) i) [
     | inl past ↦ subst (IsType T) (sym (get_or_past (members_at T whole) i whole past.1)) (complete_there whole h.known)
     | inr below ↦ complete_there (member_at T whole i)
-      (subst (All (IsComplete T)) (parts_are (shape_at T whole) h.number (members_at T whole) h.declared) (b.formed.each whole).parts i whole below.1)
+        (subst (All (IsComplete T)) (parts_are (shape_at T whole) h.number (members_at T whole) h.declared) (b.formed.each whole).parts i whole below.1)
   ])
 
   pointee_there : (t : TypeId) (e : TypedExpr) → IsPointer T t e → IsType T t

@@ -1,9 +1,10 @@
 -- What laws of the constructs ask of the table and of operands.
-use Rattle.std.specs.Prelude.{◌≡◌, ◌<◌, Bool, true, false, List, [], ◌∷◌, ◌++◌, Some}
+use Rattle.std.specs.Prelude.{◌≡◌, ◌⊎◌, ◌<◌, None, Bool, true, false, List, [], ◌∷◌, ◌++◌, Some}
 use Rattle.std.specs.List.{Contains}
 use Rattle.cc_base.specs.declared.number.NodeId.{NodeId}
 use Rattle.cc_base.specs.declared.number.TypeId.{TypeId}
-use Rattle.c_types.specs.declared.shape.TypeShape.TheVariants.{Void, Integer}
+use Rattle.c_types.specs.declared.shape.TypeShape.{TypeShape}
+use Rattle.c_types.specs.declared.shape.TypeShape.TheVariants.{Void, Integer, Pointer}
 use Rattle.c_types.specs.Table.{Table, HasShape, IsType, IsComplete, shape_at, named_by}
 use Rattle.c_types.specs.Sound.{IsWellFormed, IsIntegerSize}
 use Rattle.c_tree.specs.TypedTree as typed
@@ -22,7 +23,8 @@ use Rattle.c_check_expr.specs.Refusals.{IsElaborated}
 use Rattle.c_check_expr.specs.declared.declared.Declared.TheVariants as declared
 use Rattle.c_check_expr.specs.Scopes.{Name, Scopes, name_in, is_complete_at}
 use Rattle.c_check_expr.specs.Shapes.{is_scalar_shape}
-use Rattle.c_check_expr.specs.Tests.{Elaborated, AsPlace, AsValue, AsAllocation}
+use Rattle.c_check_expr.specs.Constants.{constant_value, is_null_constant}
+use Rattle.c_check_expr.specs.Tests.{Elaborated, AsPlace, AsValue, AsAllocation, shape_of, is_null_part}
 use Rattle.c_check_expr.specs.Typing.{IsTyped, IsPlace, IsTypeName}
 
 -- the table is well formed, a type names only types that were there before it, and `void` and the integer types are where every table
@@ -93,3 +95,18 @@ abbrev pub TypeNamesAreJudged : Type 0
 TypeNamesAreJudged =
     (name : tree.TypeName) (t : TypedTypeName) (s r : State) → IsKnown s → judge_type_name name s ≡ Gives t r
     → IsTypeName r.table t s.seen.scopes r.seen.scopes × (erased_type_name t ≡ name) × IsType r.table (named_type t) × GoesOn s r
+
+-- a shape whose node plays no part
+abbrev pub flat : TypeShape → TypeShape
+flat (Pointer n t) = Pointer (record { 0 = 0 }) t
+flat x = x
+
+abbrev pub is_value_part : Elaborated → Bool
+is_value_part (AsValue v) = true
+is_value_part x = false
+
+-- the rules of an operator read one thing of a part and of its value: their shapes, nodes apart, and whether they are constants
+pub record IsAlike (table : Table) (x : Elaborated) (v : TypedExpr) : Type 0 where
+  pub shape : flat (shape_of table x) ≡ flat (shape_at table (type_of v))
+  pub null : is_null_part table x ≡ is_null_constant table v
+  pub value : (x ≡ AsValue v) ⊎ ((is_value_part x ≡ false) × (constant_value table v ≡ None))

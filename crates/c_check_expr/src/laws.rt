@@ -1,14 +1,15 @@
 //! Laws of the definitions, each the contract of a function that does nothing.
 #![tactic(auto)]
 
+pub mod assignments;
+pub mod calls;
 pub mod expressions;
 pub mod growth;
-pub mod calls;
-pub mod names;
-pub mod assignments;
-pub mod members;
-pub mod operators;
 pub mod judged;
+pub mod members;
+pub mod names;
+pub mod operators;
+pub mod refused;
 
 ghost use Rattle.std.specs.Prelude.{◌≡◌, true, [], None};
 ghost use Rattle.std.specs.List.{All};

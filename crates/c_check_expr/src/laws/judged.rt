@@ -8,11 +8,13 @@ ghost use Rattle.cc_base.specs.declared.fault.Rule.{Rule};
 ghost use Rattle.cc_base.specs.declared.number.TypeId.{TypeId};
 ghost use Rattle.c_types.specs.declared.shape.TypeShape.TheVariants.{Pointer};
 ghost use Rattle.c_types.specs.Table.{HasShape};
+ghost use Rattle.c_types.specs.Calls.{basic_table};
+ghost use Rattle.c_types.specs.Sound.{IsWellFormed};
 ghost use Rattle.c_check_expr.specs.Judging.{State, Judging, Gives, Stops, Pointing, new_pointer};
 ghost use Rattle.c_tree.specs.Tree as tree;
 ghost use Rattle.c_check_expr.specs.Operands.{Operand, Value, value};
 ghost use Rattle.c_check_expr.specs.Refusals.{IsElaborated};
-ghost use Rattle.c_check_expr.specs.Scopes.{Scopes};
+ghost use Rattle.c_check_expr.specs.Scopes.{Name, Scopes, file_scope};
 ghost use Rattle.c_check_expr.specs.Settled.{IsKnown, GoesOnThere, IsValueOf};
 ghost use Rattle.c_check_expr.specs.Operations.{construct};
 ghost use Rattle.c_check_expr.specs.Tests.{Elaborated, Test, first_broken};
@@ -32,4 +34,9 @@ pub fn a_value_is_taken()
     ensures typed { (e : tree.Expr) (x : Operand) (v : Value) (s0 : Scopes) (s r : State) → IsKnown s → IsElaborated s.table e x.part s0 s.seen.scopes → value x s ≡ Gives v r → IsValueOf r.table e v.expr s0 r.seen.scopes }
     ensures there { (e : tree.Expr) (x : Operand) (v : Value) (s0 : Scopes) (s r : State) → IsKnown s → IsElaborated s.table e x.part s0 s.seen.scopes → value x s ≡ Gives v r → GoesOnThere s r }
     ensures never_refused { (x : Operand) (s : State) (p : Place) (t : Rule) (r : State) → value x s ≡ Stops (Refused p t) r → ⊥ }
+{}
+
+/// Where a unit begins, what laws ask of a state is known.
+pub fn the_first_state_is_known()
+    ensures { (defined : List Name) (s : State) → IsWellFormed basic_table → s.table ≡ basic_table → s.seen ≡ file_scope defined → IsKnown s }
 {}

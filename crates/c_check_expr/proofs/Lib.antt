@@ -29,3 +29,4 @@ pub mod RefusedConstructs
 pub mod TestsAlike
 pub mod InfixAlike
 pub mod FirstState
+pub mod HeldTrees

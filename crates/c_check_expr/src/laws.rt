@@ -5,6 +5,7 @@ pub mod assignments;
 pub mod calls;
 pub mod expressions;
 pub mod growth;
+pub mod held;
 pub mod judged;
 pub mod members;
 pub mod names;

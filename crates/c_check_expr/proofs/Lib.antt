@@ -30,3 +30,5 @@ pub mod TestsAlike
 pub mod InfixAlike
 pub mod FirstState
 pub mod HeldTrees
+pub mod SidesAlike
+pub mod SidesTaken

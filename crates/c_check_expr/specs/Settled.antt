@@ -24,7 +24,7 @@ use Rattle.c_check_expr.specs.declared.declared.Declared.TheVariants as declared
 use Rattle.c_check_expr.specs.Scopes.{Name, Scopes, name_in, is_complete_at}
 use Rattle.c_check_expr.specs.Shapes.{is_scalar_shape}
 use Rattle.c_check_expr.specs.Constants.{constant_value, is_null_constant}
-use Rattle.c_check_expr.specs.Tests.{Elaborated, AsPlace, AsValue, AsAllocation, shape_of, is_null_part}
+use Rattle.c_check_expr.specs.Tests.{Elaborated, AsPlace, AsValue, AsAllocation, shape_of, is_null_part, are_one_struct}
 use Rattle.c_check_expr.specs.Typing.{IsTyped, IsPlace, IsTypeName}
 
 -- the table is well formed, a type names only types that were there before it, and `void` and the integer types are where every table
@@ -110,3 +110,9 @@ pub record IsAlike (table : Table) (x : Elaborated) (v : TypedExpr) : Type 0 whe
   pub shape : flat (shape_of table x) ≡ flat (shape_at table (type_of v))
   pub null : is_null_part table x ≡ is_null_constant table v
   pub value : (x ≡ AsValue v) ⊎ ((is_value_part x ≡ false) × (constant_value table v ≡ None))
+
+-- so it is with an operand and what is given of it: a struct that is not read, a value, or an allocation
+pub record IsSideOf (table : Table) (x y : Elaborated) : Type 0 where
+  pub shape : flat (shape_of table x) ≡ flat (shape_of table y)
+  pub null : is_null_part table x ≡ is_null_part table y
+  pub structs : (z : Elaborated) → (are_one_struct table x z ≡ are_one_struct table y z) × (are_one_struct table z x ≡ are_one_struct table z y)

@@ -9,7 +9,7 @@ ghost use Rattle.c_check_expr.specs.Operations.{address, index, infix_of, is_ari
 ghost use Rattle.c_check_expr.specs.Refusals.{Fails, IsElaborated, type_size_tests};
 ghost use Rattle.c_check_expr.specs.Rules.{is_compound};
 ghost use Rattle.c_check_expr.specs.Scopes.{Scopes};
-ghost use Rattle.c_check_expr.specs.Settled.{IsAlike, IsKnown};
+ghost use Rattle.c_check_expr.specs.Settled.{IsAlike, IsKnown, IsSideOf};
 ghost use Rattle.c_check_expr.specs.Tests.{AsValue, Elaborated, address_tests, assign_tests, call_tests, cast_tests, choice_tests, has_some, index_tests, infix_tests, member_tests, name_tests, pointed_shape, prefix_tests, shape_of, size_tests, step_tests, target_tests};
 ghost use Rattle.c_tree.specs.TypedParts.{named_type, type_of};
 ghost use Rattle.c_tree.specs.TypedTree.{TypedExpr, TypedTypeName};
@@ -21,6 +21,7 @@ ghost use Rattle.c_tree.specs.declared.operator.Unary.{Unary};
 ghost use Rattle.c_types.specs.Table.{Table, shape_at};
 ghost use Rattle.cc_base.specs.declared.fault.Fault.TheVariants.{Refused};
 ghost use Rattle.cc_base.specs.declared.fault.Rule.{Rule};
+ghost use Rattle.cc_base.specs.declared.number.TypeId.{TypeId};
 ghost use Rattle.cc_base.specs.declared.place.Place.{Place};
 ghost use Rattle.runtime_calls.specs.Prototypes.{runtime_of};
 ghost use Rattle.c_check_expr.specs.Assignments;
@@ -77,4 +78,17 @@ pub fn a_refused_pair_breaks_its_rule()
     ensures infix { (operator : Binary) (x : Elaborated) (a : Value) (at : Place) (y : Elaborated) (b : Value) (s : State) (p : Place) (t : Rule) (r : State) → IsAlike s.table x a.expr → IsAlike s.table y b.expr → infix_of operator a at b s ≡ Stops (Refused p t) r → Fails (infix_tests s.table s.seen.scopes operator at a.place x y) (Refused p t) }
     ensures arrow { (x : Elaborated) (v : Value) (at : Place) (name : Identifier) (s : State) (p : Place) (t : Rule) (r : State) → IsAlike s.table x v.expr → pointed_member v at name s ≡ Stops (Refused p t) r → Fails (member_tests s.seen.scopes (pointed_shape s.table (shape_of s.table x)) at name.bytes name.place) (Refused p t) }
     ensures update { (operator : Assignment) (x : Operand) (at : Place) (y : Elaborated) (v : Value) (s : State) (p : Place) (t : Rule) (r : State) → is_compound operator ≡ true → IsAlike s.table y v.expr → update_by operator x at v s ≡ Stops (Refused p t) r → Fails (assign_tests s.table s.seen.scopes operator at x.part y) (Refused p t) }
+{}
+
+/// What is given of an operand breaks the rules that the operand breaks.
+pub fn a_side_breaks_what_its_operand_does()
+    ensures cast { (T : Table) (at : Place) (x y : Elaborated) (t : TypeId) → IsSideOf T x y → cast_tests T at x t ≡ cast_tests T at y t }
+    ensures assign { (T : Table) (s : Scopes) (at : Place) (z x y : Elaborated) → IsSideOf T x y → assign_tests T s assignment.Assign at z x ≡ assign_tests T s assignment.Assign at z y }
+    ensures choice { (T : Table) (at : Place) (c : Elaborated) (d : TypedExpr) (x y z w : Elaborated) → IsAlike T c d → IsSideOf T x y → IsSideOf T z w → choice_tests T at c x z ≡ choice_tests T at (AsValue d) y w }
+{}
+
+/// The value of an operand, and what is given of it to a type, are sides of it.
+pub fn what_is_given_is_a_side()
+    ensures value { (e : tree.Expr) (at : Place) (x : Elaborated) (v : TypedExpr) (s0 : Scopes) (s r : State) → IsKnown s → IsElaborated s.table e x s0 s.seen.scopes → value_of at x s ≡ Gives v r → IsSideOf r.table x (side_of v) }
+    ensures given { (e : tree.Expr) (t : TypeId) (at : Place) (x v : Elaborated) (s0 : Scopes) (s r : State) → IsKnown s → IsElaborated s.table e x s0 s.seen.scopes → given t at x s ≡ Gives v r → IsSideOf r.table x v }
 {}

@@ -42,7 +42,6 @@ use Rattle.c_check_expr.specs.Rules.{pointer_behind, meeting, meeting_type, into
 use Rattle.c_check_expr.specs.Scopes.{Scopes, name_in, place_among}
 use Rattle.c_check_expr.specs.Shapes.{integer_at, pointee_at, is_void_shape}
 use Rattle.c_check_expr.specs.Tests.{Elaborated, AsPlace, AsValue, AsAllocation, Test, first_broken, has_some, target_tests, address_tests, prefix_tests, size_tests, step_tests, index_tests, infix_tests, member_tests, shape_of, pointed_shape, choice_tests, assign_tests, cast_tests, call_tests, name_tests}
-
 use Rattle.c_tree.specs.declared.operator.MemberOperator.TheVariants as member
 use Rattle.c_tree.specs.declared.operator.Step.TheVariants as step
 use Rattle.c_tree.specs.declared.operator.Unary.TheVariants as unary
@@ -259,6 +258,7 @@ update-any operator a at b o s r ja jb h =
 
 mutual
   unfolding judge judge_arguments
+
   pub expr-held : (e : tree.Expr) (called : Bool) (o : Operand) (s r : State) → judge called e s ≡ Gives o r → o.held ≡ held e
   expr-held (tree.Name word) called o s r h = name-held called word s o r h
   expr-held (tree.Integer of n at) called o s r h = integer-held of n at s o r h

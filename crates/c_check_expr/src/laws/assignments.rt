@@ -2,7 +2,7 @@
 #![tactic(auto)]
 
 ghost use Rattle.std.specs.Prelude.{true, ◌≡◌};
-ghost use Rattle.c_check_expr.specs.Assignments.{assign, cast, choice, comma, part_expr, update_by};
+ghost use Rattle.c_check_expr.specs.Assignments.{assign, cast, choice, comma, update_by};
 ghost use Rattle.c_check_expr.specs.Conversions.{is_droppable};
 ghost use Rattle.c_check_expr.specs.Judging.{Gives, State};
 ghost use Rattle.c_check_expr.specs.Operands.{Operand, Value, given};
@@ -10,12 +10,12 @@ ghost use Rattle.c_check_expr.specs.Refusals.{IsElaborated};
 ghost use Rattle.c_check_expr.specs.Rules.{is_compound};
 ghost use Rattle.c_check_expr.specs.Scopes.{Scopes};
 ghost use Rattle.c_check_expr.specs.Settled.{IsJudged, IsKnown, IsValueOf};
-ghost use Rattle.c_check_expr.specs.Tests.{Elaborated};
+ghost use Rattle.c_check_expr.specs.Tests.{AsValue};
 ghost use Rattle.c_check_expr.specs.Typing.{IsTypeName};
 ghost use Rattle.c_tree.specs.Erasure.{erased_type_name};
 ghost use Rattle.c_tree.specs.Places.{expr_place};
 ghost use Rattle.c_tree.specs.TypedParts.{named_type};
-ghost use Rattle.c_tree.specs.TypedTree.{TypedTypeName};
+ghost use Rattle.c_tree.specs.TypedTree.{TypedExpr, TypedTypeName};
 ghost use Rattle.c_tree.specs.declared.operator.Assignment.{Assignment};
 ghost use Rattle.c_types.specs.Table.{IsType};
 ghost use Rattle.cc_base.specs.declared.place.Place.{Place};
@@ -34,7 +34,7 @@ pub fn a_comma_is_judged()
 
 /// What is judged of a cast (C99 6.5.4) and of a compound assignment (C99 6.5.16.2).
 pub fn a_cast_is_judged()
-    ensures cast { (name : tree.TypeName) (e : tree.Expr) (at : Place) (to : TypedTypeName) (x o : Operand) (s0 m : Scopes) (s r : State) → IsKnown s → IsTypeName s.table to s0 m → erased_type_name to ≡ name → IsType s.table (named_type to) → IsElaborated s.table e x.part m s.seen.scopes → ((y : Elaborated) (q : State) → given (named_type to) x.place x.part s ≡ Gives y q → is_droppable (part_expr y) ≡ true) → cast at to x s ≡ Gives o r → IsJudged (tree.Cast at name e) o s0 s r }
+    ensures cast { (name : tree.TypeName) (e : tree.Expr) (at : Place) (to : TypedTypeName) (x o : Operand) (s0 m : Scopes) (s r : State) → IsKnown s → IsTypeName s.table to s0 m → erased_type_name to ≡ name → IsType s.table (named_type to) → IsElaborated s.table e x.part m s.seen.scopes → ((w : TypedExpr) (q : State) → given (named_type to) x.place x.part s ≡ Gives (AsValue w) q → is_droppable w ≡ true) → cast at to x s ≡ Gives o r → IsJudged (tree.Cast at name e) o s0 s r }
     ensures update { (operator : Assignment) (ea eb : tree.Expr) (x : Operand) (at : Place) (v : Value) (o : Operand) (s0 m : Scopes) (s r : State) → is_compound operator ≡ true → IsKnown s → IsElaborated s.table ea x.part s0 m → IsValueOf s.table eb v.expr m s.seen.scopes → x.place ≡ expr_place ea → update_by operator x at v s ≡ Gives o r → IsJudged (tree.Assign operator ea at eb) o s0 s r }
 {}
 

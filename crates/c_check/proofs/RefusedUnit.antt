@@ -95,10 +95,10 @@ a-own Putchar h = not_from_Decides _ (bytes_eq-Decides (codes "putchar") (codes 
 a-own Exit h = not_from_Decides _ (bytes_eq-Decides (codes "exit") (codes "a")) refl h
 
 ints-typed : (s : Scopes) → AreSpecifiers table ints s s
-ints-typed s = ((s, refl, refl), record { allowed = refl; type = (lit< tt, refl) })
+ints-typed s = ((s, refl, refl), record { allowed = refl; there = lit< tt; type = (lit< tt, refl) })
 
 chars-typed : (s : Scopes) → AreSpecifiers table chars s s
-chars-typed s = ((s, refl, refl), record { allowed = refl; type = (lit< tt, refl) })
+chars-typed s = ((s, refl, refl), record { allowed = refl; there = lit< tt; type = (lit< tt, refl) })
 
 one-typed : IsUnitTyped table one before with_a
 one-typed = (

@@ -137,10 +137,10 @@ abbrev after : Known
 after = record inside { scopes = scopes (file_level ∷ []) }
 
 ints-typed : (col : ℕ) (s : Scopes) → AreSpecifiers table (ints col) s s
-ints-typed col s = ((s, refl, refl), record { allowed = refl; type = (lit< tt, refl) })
+ints-typed col s = ((s, refl, refl), record { allowed = refl; there = lit< tt; type = (lit< tt, refl) })
 
 voids-typed : (s : Scopes) → AreSpecifiers table voids s s
-voids-typed s = ((s, refl, refl), record { allowed = refl; type = (lit< tt, refl) })
+voids-typed s = ((s, refl, refl), record { allowed = refl; there = lit< tt; type = (lit< tt, refl) })
 
 not_typedef : Unstored ≡ AsTypedef → ⊥
 not_typedef e = cc (e)
@@ -159,7 +159,7 @@ prototype = scopes (empty ∷ empty ∷ [])
 clearing-typed : IsTyped table clearing with_p.scopes with_p.scopes
 clearing-typed = (
   with_p.scopes,
-  (refl, refl),
+  (refl, refl, lit< tt),
   ((refl, (lit< tt, refl)), refl),
   record {
     scalar = refl;
@@ -169,7 +169,7 @@ clearing-typed = (
 )
 
 reading-typed : IsTyped table reading with_p.scopes with_p.scopes
-reading-typed = ((((refl, refl), refl), record { pointer = record { plain = refl; type = (node 0, (lit< tt, refl)) }; complete = refl }), refl)
+reading-typed = ((((refl, refl, lit< tt), refl), record { pointer = record { plain = refl; type = (node 0, (lit< tt, refl)) }; complete = refl }), refl)
 
 p-declared : IsDeclarator table false Unstored (type 5) Written p_form (type 10) inside with_p
 p-declared = record {
@@ -198,7 +198,7 @@ main-defined = record {
     name = main_at 5;
     inside = before.scopes;
     named = refl;
-    parts = (before.scopes, refl, (before.scopes, prototype, refl, (prototype, prototype, prototype, refl, voids-typed prototype, refl, (refl, refl), tt, refl), refl));
+    parts = (before.scopes, refl, (before.scopes, prototype, refl, (prototype, prototype, prototype, refl, voids-typed prototype, refl, (refl, refl), (lit< tt, refl), refl), refl));
     type = (type 5, type 9, refl, (type 9, record { gives = refl; shape = (lit< tt, refl) }, refl), refl);
     declares = record { here_agrees = tt; linked_agrees = tt; runtime_agrees = λ function h. absurd (main-own function h); after = refl };
   };

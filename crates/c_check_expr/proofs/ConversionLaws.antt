@@ -21,7 +21,7 @@ use Rattle.c_check_expr.specs.Conversions.{bare, IsPlain, implicit, implicit_bet
 use Rattle.c_check_expr.specs.Operations.{size_type}
 use Rattle.c_check_expr.specs.Rules.{IsStep, is_steppable_shape, is_lvalue}
 use Rattle.c_check_expr.specs.Scopes.{Scopes, is_complete_at}
-use Rattle.c_check_expr.specs.Settled.{IsBasic, IsSettled}
+use Rattle.c_check_expr.specs.Settled.{IsBasic, IsFollowed, IsSettled}
 use Rattle.c_check_expr.specs.Shapes.{is_scalar_shape, is_array_shape}
 use Rattle.c_check_expr.specs.Tests.{AsPlace, AsValue, first_broken, step_tests, size_tests, fits, has_some, decayed, points_to_incomplete, is_array_part}
 use Rattle.c_check_expr.specs.Typing.{IsTyped, IsPlace}
@@ -100,12 +100,13 @@ step_typed T s0 s operator at p place h =
 
 -- `sizeof` of a place
 
-pub size_typed : (T : Table) (s0 s : Scopes) (at : Place) (p : TypedPlace) → IsBasic T → IsPlace T p s0 s → first_broken (size_tests T s at (AsPlace p)) ≡ None
+pub size_typed : (T : Table) (s0 s : Scopes) (at : Place) (p : TypedPlace) → IsBasic T → IsFollowed T s → IsPlace T p s0 s → first_broken (size_tests T s at (AsPlace p)) ≡ None
     → IsTyped T (typed.SizeOfPlace at p (size_of T (place_type p)) size_type) s0 s
-size_typed T s0 s at p basic place h = (
+size_typed T s0 s at p basic followed place h = (
   place,
   record {
     complete = not_false (is_complete_at T s (place_type p)) (one_unbroken (not (is_complete_at T s (place_type p))) (Refused at rule.Incomplete) h);
+    known = followed (place_type p) (not_false (is_complete_at T s (place_type p)) (one_unbroken (not (is_complete_at T s (place_type p))) (Refused at rule.Incomplete) h));
     given = refl;
     type = basic.integers unsigned_long (inr (inr (inr refl)));
   },

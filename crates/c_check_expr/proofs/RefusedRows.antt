@@ -65,14 +65,14 @@ pub size-of-void : Refuses table false (tree.SizeOfType (at 23) (at 29) (tree.Na
 size-of-void = inr (
   typed.Named (typed.Specified (typed.AndSpecifier typed.NoSpecifier (typed.Keyword (record { keyword = keyword.Void; place = at 30 }))) (type 0)) typed.NotDeclared (type 0),
   scopes,
-  (scopes, ((scopes, refl, refl), record { allowed = refl; type = (lit< tt, refl) }), refl, tt, refl),
+  (scopes, ((scopes, refl, refl), record { allowed = refl; there = lit< tt; type = (lit< tt, refl) }), refl, tt, refl),
   refl,
   refl,
 )
 
 -- `int main(void){int *p;return -p;}`
 pub minus-pointer : Refuses table false (tree.Prefix unary.Minus (at 30) (tree.Name (name (codes "p") 31))) scopes (Refused (at 30) rule.Mismatch)
-minus-pointer = inr (tests.AsPlace (typed.Variable (name (codes "p") 31) (node 1) (type 9)), scopes, ((refl, refl), refl), refl)
+minus-pointer = inr (tests.AsPlace (typed.Variable (name (codes "p") 31) (node 1) (type 9)), scopes, ((refl, refl, lit< tt), refl), refl)
 
 -- `int main(void){1=2;return 0;}`
 pub no-place : Refuses table false (tree.Assign assignment.Assign (number 1 16) (at 17) (number 2 18)) scopes (Refused (at 17) rule.NotPlace)

@@ -65,14 +65,14 @@ pub clearing-erased : erased clearing ≡ tree.Assign assignment.Assign (tree.Na
 clearing-erased = refl
 
 pub clearing-typed : IsTyped table clearing scopes scopes
-clearing-typed = (scopes, (refl, refl), ((refl, (lit< tt, refl)), refl), record { scalar = refl; assigned = record { plain = refl; made = refl }; lvalue = refl })
+clearing-typed = (scopes, (refl, refl, lit< tt), ((refl, (lit< tt, refl)), refl), record { scalar = refl; assigned = record { plain = refl; made = refl }; lvalue = refl })
 
 -- `*p`, which is read
 abbrev reading : TypedExpr
 reading = typed.Read (typed.Target (at 34) (typed.Read (p_place 35)) int_type)
 
 pub reading-typed : IsTyped table reading scopes scopes
-reading-typed = ((((refl, refl), refl), record { pointer = record { plain = refl; type = (node 0, (lit< tt, refl)) }; complete = refl }), refl)
+reading-typed = ((((refl, refl, lit< tt), refl), record { pointer = record { plain = refl; type = (node 0, (lit< tt, refl)) }; complete = refl }), refl)
 
 -- `-p`: a pointer is no operand of `-`, whatever type the whole is given
 abbrev negating : TypeId → TypedExpr

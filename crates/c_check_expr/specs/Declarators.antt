@@ -1,5 +1,5 @@
 -- The types that specifiers and declarators give (C99 6.7.2, 6.7.5), when what stands in them is well typed.
-use Rattle.std.specs.Prelude.{◌≡◌, ℕ, ◌+◌, Bool, true, false, not, ◌&&◌, ◌||◌, ◌==◌, nat_le, if◌then◌else◌, List, [], ◌∷◌, ◌++◌, Option, None, Some, IsTrue}
+use Rattle.std.specs.Prelude.{◌≡◌, ℕ, ◌+◌, Bool, true, false, not, ◌&&◌, ◌||◌, ◌==◌, nat_le, if◌then◌else◌, List, [], ◌∷◌, ◌++◌, Option, None, Some, IsTrue, ◌<◌, length}
 use Rattle.cc_base.specs.declared.number.NodeId.{NodeId}
 use Rattle.cc_base.specs.declared.number.TypeId.{TypeId}
 use Rattle.c_types.specs.declared.shape.TypeShape.{TypeShape}
@@ -100,9 +100,10 @@ IsNamedType table NoType list t = HasShape table t (words_shape (counted list))
 IsNamedType table (IsType u) list t = t ≡ u
 IsNamedType table IsEnumeration list t = HasShape table t (Integer 4 true)
 
--- t is the type that the specifiers name together
+-- t is the type of the table that the specifiers name together
 pub record AreOfType (table : Table) (list : TypedSpecifierList) (t : TypeId) : Type 0 where
   pub allowed : IsTrue (are_allowed (counted list))
+  pub there : t.0 < length table
   pub type : IsNamedType table (named_by_list list) list t
 
 abbrev pub is_typedef_list : TypedSpecifierList → Bool

@@ -6,7 +6,7 @@ use Rattle.cc_base.specs.declared.number.NodeId.{NodeId}
 use Rattle.cc_base.specs.declared.number.TypeId.{TypeId}
 use Rattle.c_types.specs.declared.shape.TypeShape.{TypeShape}
 use Rattle.c_types.specs.declared.shape.TypeShape.TheVariants.{Integer, Pointer, Array, Function, Struct, Union}
-use Rattle.c_types.specs.Table.{Table, HasShape, IsAggregate, shape_at}
+use Rattle.c_types.specs.Table.{Table, HasShape, IsAggregate, IsComplete, shape_at}
 use Rattle.c_types.specs.Layouts.{size_of, member_at}
 use Rattle.c_lexer.specs.Literals.{literal_bytes}
 use Rattle.c_tree.specs.declared.leaf.Identifier.{Identifier}
@@ -139,10 +139,11 @@ number_of_shape (Struct number) = Some number
 number_of_shape (Union number) = Some number
 number_of_shape shape = None
 
--- the struct or union `whole` has a member with this name, of the type t, as its i-th (C99 6.5.2.3)
+-- the struct or union `whole`, whose members the table has, has one with this name, of the type t, as its i-th (C99 6.5.2.3)
 pub record HasMember (table : Table) (s : Scopes) (whole : TypeId) (name : Identifier) (i : ℕ) (t : TypeId) : Type 0 where
   pub number : ℕ
   pub declared : number_of_shape (shape_at table whole) ≡ Some number
+  pub known : IsComplete table whole
   pub named : place_among (members_named s number) name.bytes ≡ Some i
   pub type : t ≡ member_at table whole i
 
@@ -220,9 +221,10 @@ IsPrefix unary.Minus table at e t = IsPromoted table at e t
 IsPrefix unary.Complement table at e t = IsPromoted table at e t
 IsPrefix operator table at e t = ⊥
 
--- `sizeof` gives the size of a complete type (C99 6.5.3.4)
+-- `sizeof` gives the size of a complete type (C99 6.5.3.4), whose layout the table knows
 pub record IsSize (table : Table) (s : Scopes) (of : TypeId) (size : ℕ) (t : TypeId) : Type 0 where
   pub complete : IsCompleteAt table s of
+  pub known : IsComplete table of
   pub given : size ≡ size_of table of
   pub type : IsIntegerType table unsigned_long t
 

@@ -1,24 +1,43 @@
 -- What laws of the constructs ask of the table and of operands.
-use Rattle.std.specs.Prelude.{◌≡◌, Bool, true, false}
-use Rattle.c_types.specs.declared.shape.TypeShape.TheVariants.{Void, Integer}
-use Rattle.c_types.specs.Table.{Table, HasShape, shape_at}
+use Rattle.std.specs.Prelude.{◌≡◌, ◌⊎◌, ◌<◌, None, Bool, true, false, List, [], ◌∷◌, ◌++◌, Some}
+use Rattle.std.specs.List.{Contains}
+use Rattle.cc_base.specs.declared.number.NodeId.{NodeId}
+use Rattle.cc_base.specs.declared.number.TypeId.{TypeId}
+use Rattle.c_types.specs.declared.shape.TypeShape.{TypeShape}
+use Rattle.c_types.specs.declared.shape.TypeShape.TheVariants.{Void, Integer, Pointer}
+use Rattle.c_types.specs.Table.{Table, HasShape, IsType, IsComplete, shape_at, named_by}
 use Rattle.c_types.specs.Sound.{IsWellFormed, IsIntegerSize}
 use Rattle.c_tree.specs.TypedTree as typed
-use Rattle.c_tree.specs.TypedTree.{TypedExpr}
-use Rattle.c_tree.specs.TypedParts.{type_of}
+use Rattle.c_tree.specs.TypedTree.{TypedExpr, TypedTypeName}
+use Rattle.c_tree.specs.TypedParts.{type_of, named_type}
+use Rattle.c_tree.specs.Erasure.{erased, erased_type_name}
+use Rattle.c_tree.specs.Places.{expr_place}
+use Rattle.c_tree.specs.Tree as tree
 use Rattle.integers.specs.Arithmetic.{IntegerType}
-use Rattle.c_check_expr.specs.Conversions.{bare, IsPlain}
-use Rattle.c_check_expr.specs.Judging.{void_type, integer_type}
-use Rattle.c_check_expr.specs.Scopes.{Scopes}
+use Rattle.c_check_expr.specs.Conversions.{bare, is_droppable, IsPlain}
+use Rattle.c_check_expr.specs.Extensions.{IsExtended}
+use Rattle.c_check_expr.specs.Judging.{State, Gives, void_type, integer_type}
+use Rattle.c_check_expr.specs.Walks.{judge_type_name}
+use Rattle.c_check_expr.specs.Operands.{Operand, Value}
+use Rattle.c_check_expr.specs.Refusals.{IsElaborated}
+use Rattle.c_check_expr.specs.declared.declared.Declared.TheVariants as declared
+use Rattle.c_check_expr.specs.Scopes.{Name, Scopes, name_in, is_complete_at}
 use Rattle.c_check_expr.specs.Shapes.{is_scalar_shape}
-use Rattle.c_check_expr.specs.Tests.{Elaborated, AsPlace, AsValue, AsAllocation}
-use Rattle.c_check_expr.specs.Typing.{IsTyped, IsPlace}
+use Rattle.c_check_expr.specs.Constants.{constant_value, is_null_constant}
+use Rattle.c_check_expr.specs.Tests.{Elaborated, AsPlace, AsValue, AsAllocation, shape_of, is_null_part, are_one_struct}
+use Rattle.c_check_expr.specs.Typing.{IsTyped, IsPlace, IsTypeName}
 
--- the table is well formed, and has `void` and the integer types where every table has them
+-- the table is well formed, a type names only types that were there before it, and `void` and the integer types are where every table
+-- has them
 pub record IsBasic (table : Table) : Type 0 where
   pub formed : IsWellFormed table
+  pub built : (t u : TypeId) → Contains (named_by (shape_at table t)) u → u.0 < t.0
   pub void : HasShape table void_type Void
   pub integers : (k : IntegerType) → IsIntegerSize k.bytes → HasShape table (integer_type k) (Integer k.bytes k.signed)
+
+-- what is complete at the point of the text has its members in the table
+abbrev pub IsFollowed : Table → Scopes → Type 0
+IsFollowed table s = (t : TypeId) → is_complete_at table s t ≡ true → IsComplete table t
 
 abbrev pub is_converted : TypedExpr → Bool
 is_converted (typed.Convert which at t e) = true
@@ -35,3 +54,65 @@ abbrev pub IsPartTyped : Table → Elaborated → Scopes → Scopes → Type 0
 IsPartTyped table (AsPlace p) s s' = IsPlace table p s s'
 IsPartTyped table (AsValue e) s s' = IsTyped table e s s'
 IsPartTyped table (AsAllocation e) s s' = IsTyped table e s s'
+
+-- v is the value of the expression
+pub record IsValueOf (table : Table) (e : tree.Expr) (v : TypedExpr) (s s' : Scopes) : Type 0 where
+  pub typed : IsTyped table v s s'
+  pub erases : erased v ≡ e
+  pub settled : IsSettled table v
+
+-- the values are those of the arguments, one after another
+abbrev pub AreValuesOf : Table → tree.Arguments → List Value → Scopes → Scopes → Type 0
+AreValuesOf table tree.NoArgument values s s' = (values ≡ []) × (s' ≡ s)
+AreValuesOf table (tree.AndArgument all e) values s s' =
+    (before : List Value) × (m : Scopes) × (v : Value) × AreValuesOf table all before s m × IsValueOf table e v.expr m s' × (v.place ≡ expr_place e)
+    × (is_droppable v.expr ≡ true) × (values ≡ before ++ v ∷ [])
+
+-- what is known between any two parts of a text: the types of the objects that are named are in the table
+pub record IsKnown (state : State) : Type 0 where
+  pub basic : IsBasic state.table
+  pub followed : IsFollowed state.table state.seen.scopes
+  pub objects : (name : Name) (t : TypeId) (home : NodeId) → name_in state.seen.scopes.levels name ≡ Some (declared.Object t home) → IsType state.table t
+
+-- the types go on, and all is known again
+pub record GoesOn (before after : State) : Type 0 where
+  pub extends : IsExtended before.table after.table
+  pub known : IsKnown after
+
+-- so they do, and no name was declared
+pub record GoesOnThere (before after : State) : Type 0 where
+  pub goes : GoesOn before after
+  pub scopes : after.seen.scopes ≡ before.seen.scopes
+
+-- the expression, which begins among the scopes s, was judged
+pub record IsJudged (e : tree.Expr) (x : Operand) (s : Scopes) (before after : State) : Type 0 where
+  pub part : IsElaborated after.table e x.part s after.seen.scopes
+  pub place : x.place ≡ expr_place e
+  pub goes : GoesOn before after
+
+-- what judging gives for type names is well typed: the law of expressions rests on it
+abbrev pub TypeNamesAreJudged : Type 0
+TypeNamesAreJudged =
+    (name : tree.TypeName) (t : TypedTypeName) (s r : State) → IsKnown s → judge_type_name name s ≡ Gives t r
+    → IsTypeName r.table t s.seen.scopes r.seen.scopes × (erased_type_name t ≡ name) × IsType r.table (named_type t) × GoesOn s r
+
+-- a shape whose node plays no part
+abbrev pub flat : TypeShape → TypeShape
+flat (Pointer n t) = Pointer (record { 0 = 0 }) t
+flat x = x
+
+abbrev pub is_value_part : Elaborated → Bool
+is_value_part (AsValue v) = true
+is_value_part x = false
+
+-- the rules of an operator read one thing of a part and of its value: their shapes, nodes apart, and whether they are constants
+pub record IsAlike (table : Table) (x : Elaborated) (v : TypedExpr) : Type 0 where
+  pub shape : flat (shape_of table x) ≡ flat (shape_at table (type_of v))
+  pub null : is_null_part table x ≡ is_null_constant table v
+  pub value : (x ≡ AsValue v) ⊎ ((is_value_part x ≡ false) × (constant_value table v ≡ None))
+
+-- so it is with an operand and what is given of it: a struct that is not read, a value, or an allocation
+pub record IsSideOf (table : Table) (x y : Elaborated) : Type 0 where
+  pub shape : flat (shape_of table x) ≡ flat (shape_of table y)
+  pub null : is_null_part table x ≡ is_null_part table y
+  pub structs : (z : Elaborated) → (are_one_struct table x z ≡ are_one_struct table y z) × (are_one_struct table z x ≡ are_one_struct table z y)

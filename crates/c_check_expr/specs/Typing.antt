@@ -5,7 +5,7 @@ use Rattle.std.specs.List.{All}
 use Rattle.cc_base.specs.declared.number.TypeId.{TypeId}
 use Rattle.c_types.specs.declared.shape.TypeShape.{TypeShape}
 use Rattle.c_types.specs.declared.shape.TypeShape.TheVariants.{Struct, Union}
-use Rattle.c_types.specs.Table.{Table, HasShape, IsAggregate, shape_at, members_at}
+use Rattle.c_types.specs.Table.{Table, HasShape, IsType, IsAggregate, shape_at, members_at}
 use Rattle.c_tree.specs.declared.leaf.Identifier.{Identifier}
 use Rattle.c_tree.specs.declared.operator.AggregateKind.{AggregateKind}
 use Rattle.c_tree.specs.declared.operator.AggregateKind.TheVariants as kind
@@ -19,7 +19,7 @@ use Rattle.c_check_expr.specs.declared.declared.Declared.{Declared}
 use Rattle.c_check_expr.specs.declared.declared.Declared.TheVariants as declared
 use Rattle.c_check_expr.specs.declared.declared.Tag.{Tag}
 use Rattle.c_check_expr.specs.declared.declared.Tag.TheVariants as tag
-use Rattle.c_check_expr.specs.Shapes.{IsIntegerType, IsScalar}
+use Rattle.c_check_expr.specs.Shapes.{IsIntegerType, IsScalar, IsVoid}
 use Rattle.c_check_expr.specs.Integers.{constant_type}
 use Rattle.c_check_expr.specs.Scopes.{Name, Scopes, name_in, tag_in, here, tag_here, declaring, declaring_tag, entering, leaving, is_complete_at, is_no_list}
 use Rattle.c_check_expr.specs.Constants.{constant_value}
@@ -121,8 +121,9 @@ DeclaresParameter (typed.DeclaredBy form) t s s' = DeclaresForm (name_of_form fo
     DeclaresForm None home t s s' = s' ≡ s
     DeclaresForm name home t s s' = ⊥
 
+-- the type of a parameter, and of what stands in `(void)`
 abbrev pub IsTakenType : Bool → Table → Scopes → TypeId → Type 0
-IsTakenType true table s t = Unit {0}
+IsTakenType true table s t = IsVoid table t
 IsTakenType false table s t = IsScalar table t
 
 -- no object is declared by a type name or a member
@@ -179,7 +180,7 @@ abbrev mutual
 
   -- a place
   pub IsPlace : Table → TypedPlace → Scopes → Scopes → Type 0
-  IsPlace T (typed.Variable name home t) s s' = (s' ≡ s) × IsVariable s name home t
+  IsPlace T (typed.Variable name home t) s s' = (s' ≡ s) × IsVariable s name home t × IsType T t
   IsPlace T (typed.String pieces home t) s s' = (s' ≡ s) × IsStringType T pieces t
   IsPlace T (typed.ParenPlace at p) s s' = IsPlace T p s s'
   IsPlace T (typed.Target at e t) s s' = IsTyped T e s s' × IsTarget T s' e t

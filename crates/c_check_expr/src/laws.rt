@@ -1,6 +1,17 @@
 //! Laws of the definitions, each the contract of a function that does nothing.
 #![tactic(auto)]
 
+pub mod assignments;
+pub mod calls;
+pub mod expressions;
+pub mod growth;
+pub mod held;
+pub mod judged;
+pub mod members;
+pub mod names;
+pub mod operators;
+pub mod refused;
+
 ghost use Rattle.std.specs.Prelude.{◌≡◌, true, [], None};
 ghost use Rattle.std.specs.List.{All};
 ghost use Rattle.cc_base.specs.declared.number.TypeId.{TypeId};
@@ -20,7 +31,7 @@ ghost use Rattle.c_check_expr.specs.Extensions.{IsExtended, IsTypeWith};
 ghost use Rattle.c_check_expr.specs.Judging.{State, Gives, type_with};
 ghost use Rattle.c_check_expr.specs.Operations.{pointed, element, is_arithmetic_prefix, operator_on, operation, size_type};
 ghost use Rattle.c_check_expr.specs.Scopes.{Scopes, is_complete_at};
-ghost use Rattle.c_check_expr.specs.Settled.{IsBasic, IsSettled, IsPartTyped};
+ghost use Rattle.c_check_expr.specs.Settled.{IsBasic, IsFollowed, IsSettled, IsPartTyped};
 ghost use Rattle.c_check_expr.specs.Shapes.{pointee_at, is_same_type};
 ghost use Rattle.c_check_expr.specs.Tests.{first_broken, target_tests, index_tests, prefix_tests, infix_tests, step_tests, size_tests, fits, AsPlace, AsValue};
 ghost use Rattle.c_check_expr.specs.Typing.{IsTyped, IsPlace};
@@ -38,7 +49,7 @@ pub fn an_unbroken_operator_is_well_typed()
     ensures prefix { (operator : Unary) (T : Table) (s0 s : Scopes) (at : Place) (e : TypedExpr) → is_arithmetic_prefix operator ≡ true → IsBasic T → IsSettled T e → IsTyped T e s0 s → first_broken (prefix_tests T s operator at (AsValue e)) ≡ None → IsTyped T (operator_on T operator at e) s0 s }
     ensures infix { (T : Table) (s0 m s : Scopes) (operator : Binary) (at begin : Place) (a b : TypedExpr) → IsBasic T → IsSettled T a → IsSettled T b → IsTyped T a s0 m → IsTyped T b m s → first_broken (infix_tests T s operator at begin (AsValue a) (AsValue b)) ≡ None → IsTyped T (operation T operator a at b) s0 s }
     ensures step { (T : Table) (s0 s : Scopes) (operator : Step) (at : Place) (p : TypedPlace) → IsPlace T p s0 s → first_broken (step_tests T s at (AsPlace p)) ≡ None → IsTyped T (StepBefore operator at p) s0 s × IsTyped T (StepAfter p operator at) s0 s }
-    ensures size { (T : Table) (s0 s : Scopes) (at : Place) (p : TypedPlace) → IsBasic T → IsPlace T p s0 s → first_broken (size_tests T s at (AsPlace p)) ≡ None → IsTyped T (SizeOfPlace at p (size_of T (place_type p)) size_type) s0 s }
+    ensures size { (T : Table) (s0 s : Scopes) (at : Place) (p : TypedPlace) → IsBasic T → IsFollowed T s → IsPlace T p s0 s → first_broken (size_tests T s at (AsPlace p)) ≡ None → IsTyped T (SizeOfPlace at p (size_of T (place_type p)) size_type) s0 s }
 {}
 
 /// A value that fits a type without being told is converted to it (C99 6.3, 6.5.16.1).

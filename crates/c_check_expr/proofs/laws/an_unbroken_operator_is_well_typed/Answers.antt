@@ -19,4 +19,4 @@ pub returns-clause-step : goal.returns-clause-step
 returns-clause-step c T s0 s operator at p place h = step_typed T s0 s operator at p place h
 
 pub returns-clause-size : goal.returns-clause-size
-returns-clause-size c T s0 s at p basic place h = size_typed T s0 s at p basic place h
+returns-clause-size c T s0 s at p basic followed place h = size_typed T s0 s at p basic followed place h

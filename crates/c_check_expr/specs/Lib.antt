@@ -21,3 +21,6 @@ pub mod Specifying
 pub mod Declaring
 pub mod Walks
 pub mod Nests
+pub mod Cells
+pub mod Checking
+pub mod CheckingViews

@@ -9,6 +9,7 @@ use Rattle.c_types.specs.declared.shape.TypeShape.TheVariants.{Integer, Pointer,
 use Rattle.c_types.specs.Table.{Table, IsAggregate, shape_at, members_at}
 use Rattle.c_types.specs.Layouts.{size_of, offset_of, member_at}
 use Rattle.c_tree.specs.declared.typed_word.Side.TheVariants as side
+use Rattle.c_tree.specs.Tree as tree
 use Rattle.c_tree.specs.TypedTree as typed
 use Rattle.c_tree.specs.TypedTree.{TypedExpr, TypedPlace, TypedInitialiser, TypedItems}
 use Rattle.c_tree.specs.TypedParts.{place_type, item_place}
@@ -99,6 +100,10 @@ abbrev mutual
 abbrev pub is_among : List NodeId → NodeId → Bool
 is_among homes n = list_any (λ each. each.0 == n.0) homes
 
+-- the homes, and one that may be new
+abbrev pub with_home : NodeId → List NodeId → List NodeId
+with_home n homes = if is_among homes n then homes else homes ++ n ∷ []
+
 abbrev pub has_value : Option ℤ → Bool
 has_value None = false
 has_value (Some z) = true
@@ -147,6 +152,36 @@ abbrev mutual
   pub are_constant_items : Table → List NodeId → TypedItems → Bool
   are_constant_items table homes typed.NoItem = true
   are_constant_items table homes (typed.AndItem all offset t i) = are_constant_items table homes all && is_constant_initialiser table homes i
+
+-- Whether the array part that stands nearest to a declarator's name, and that may have no size, is one of char: it is all that the
+-- declarator makes of a type of one byte.
+abbrev mutual
+  pub is_bare : tree.Declarator → Bool
+  is_bare (tree.Declares [] core tree.NoPart) = is_bare_core core
+  is_bare d = false
+
+  pub is_bare_core : tree.Core → Bool
+  is_bare_core (tree.Names name) = true
+  is_bare_core tree.Unnamed = true
+  is_bare_core (tree.Nested at d) = is_bare d
+
+abbrev mutual
+  pub is_one_array : tree.Declarator → Bool
+  is_one_array (tree.Declares [] core (tree.AndArray tree.NoPart at words)) = is_bare_core core
+  is_one_array (tree.Declares [] core tree.NoPart) = is_one_array_core core
+  is_one_array d = false
+
+  pub is_one_array_core : tree.Core → Bool
+  is_one_array_core (tree.Names name) = false
+  is_one_array_core tree.Unnamed = false
+  is_one_array_core (tree.Nested at d) = is_one_array d
+
+abbrev pub is_char_shape : TypeShape → Bool
+is_char_shape (Integer bytes signed) = bytes == 1
+is_char_shape shape = false
+
+abbrev pub makes_chars : Table → TypeId → tree.Declarator → Bool
+makes_chars table base d = is_one_array d && is_char_shape (shape_at table base)
 
 -- the size that an initialiser gives to an array part without one, of char or not (C99 6.7.8)
 abbrev pub listed_size : Bool → TypedItems → ℕ

@@ -34,8 +34,8 @@ use Rattle.c_check_expr.specs.Declarators.{Outermost, Written, FormMakes}
 use Rattle.c_check_expr.specs.Typing.{IsTyped, AreSpecifiers, IsForm}
 use Rattle.c_check_expr.specs.Rules.{pieces_bytes, IsPromoted}
 use Rattle.c_check_expr.specs.Tests
-use Rattle.c_check_expr.specs.Refusals.{Fails, Refuses, After, RefusesSpecifiers, RefusesDeclarator, FormFails}
-use Rattle.c_check.specs.Initialisers.{Slot, slot_of_shape, items_count, char_count_of_shape, is_char_array, is_constant, is_constant_place, AreItems}
+use Rattle.c_check_expr.specs.Refusals.{Fails, Refuses, After, RefusesSpecifiers, RefusesAlone, RefusesDeclarator, FormFails}
+use Rattle.c_check.specs.Initialisers.{Slot, slot_of_shape, items_count, char_count_of_shape, is_char_array, is_constant, is_constant_place, AreItems, makes_chars}
 use Rattle.c_check.specs.Units.{Known, Storage, AsTypedef, AsExtern, AsStatic, storage_of, with_scopes, is_one_of, outermost_of, IsDeclarator, AreDeclarators, IsDeclaration, Around, in_a_loop, in_a_switch, IsDropped, IsTested, IsTestedOrNone, entering_known, labels_of, defaults_in, IsStatement, AreBlockItems, parameters_of_form, with_parameters, IsUnitTyped}
 use Rattle.c_check.specs.WellTyped.{HasMain}
 
@@ -173,6 +173,10 @@ abbrev pub declared_as : Table → Storage → TypeId → Declared
 declared_as T AsTypedef t = declared.Typedef t
 declared_as T storage t = if is_function_shape (shape_at T t) then declared.Function t else declared.Object t (record { 0 = 0 })
 
+abbrev pub is_function_declared : Declared → Bool
+is_function_declared (declared.Function t) = true
+is_function_declared what = false
+
 abbrev pub is_object : Declared → Bool
 is_object (declared.Object t n) = true
 is_object what = false
@@ -232,7 +236,6 @@ is_lasting false AsStatic = true
 is_lasting false AsExtern = true
 is_lasting false storage = false
 
--- `of_char` says that the array part without a size is one of char
 abbrev pub RefusesDeclarators : Table → (file : Bool) → Storage → TypeId → tree.InitDeclarators → Known → Fault → Type 0
 RefusesDeclarators T file storage base tree.NoInitDeclarator k f = ⊥
 RefusesDeclarators T file storage base (tree.AndPlain all d) k f =
@@ -241,13 +244,14 @@ RefusesDeclarators T file storage base (tree.AndPlain all d) k f =
     × RefusesName T file storage base Written false d m f)
 RefusesDeclarators T file storage base (tree.AndInitialised all d at i) k f =
     RefusesDeclarators T file storage base all k f
-    ⊎ ((list : TypedInitDeclarators) × (m : Known) × (of_char : Bool) × AreDeclarators T file storage base list k m × (erased_init_declarators list ≡ all)
-    × (RefusesName T file storage base (outermost_of (size_written of_char i)) true d m f
-    ⊎ ((form : TypedForm) × (t : TypeId) × (n : Known) × IsDeclarator T file storage base (outermost_of (size_written of_char i)) form t m n
-    × (erased_form form ≡ d) × (is_char_array T t ≡ of_char)
+    ⊎ ((list : TypedInitDeclarators) × (m : Known) × AreDeclarators T file storage base list k m × (erased_init_declarators list ≡ all)
+    × (RefusesName T file storage base (outermost_of (size_written (makes_chars T base d) i)) true d m f
+    ⊎ ((form : TypedForm) × (t : TypeId) × (n : Known) × IsDeclarator T file storage base (outermost_of (size_written (makes_chars T base d) i)) form t m n
+    × (erased_form form ≡ d)
     × RefusesInitialiser T (record { constant = is_lasting file storage; homes = n.statics }) i at (Some t) false n.scopes f)))
 
 abbrev pub RefusesDeclaration : Table → (file : Bool) → tree.Declaration → Known → Fault → Type 0
+RefusesDeclaration T file (tree.Declare specifiers tree.NoInitDeclarator) k f = RefusesAlone T specifiers k.scopes f
 RefusesDeclaration T file (tree.Declare specifiers all) k f =
     RefusesSpecifiers T specifiers k.scopes f
     ⊎ ((t : TypedSpecifiers) × (s : Scopes) × AreSpecifiers T t k.scopes s × (erased_specifiers t ≡ specifiers)
@@ -337,12 +341,12 @@ abbrev mutual
 
 -- Units (C99 6.9)
 
--- the rules of the name of a function that is defined
+-- the rules of the name of a function that is defined; `written` says that the declarator has the function's own parameters
 abbrev pub definition_tests : Table → Known → Storage → (written : Bool) → Name → TypeId → Place → List Tests.Test
 definition_tests T k storage written name t at =
     Tests.broken_at rule.Redeclared at
     (is_redeclared T k true true name (declared_as T storage t) || Tests.has_some (runtime_of name))
-    ∷ Tests.broken_at rule.Mismatch at (not (written && is_function_shape (shape_at T t)))
+    ∷ Tests.broken_at rule.Mismatch at (not (written && is_function_declared (declared_as T storage t)))
     ∷ []
 
 abbrev pub RefusesDefinition : Table → tree.Specifiers → tree.Declarator → tree.BlockItems → Known → Fault → Type 0

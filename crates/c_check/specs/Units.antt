@@ -26,7 +26,7 @@ use Rattle.c_check_expr.specs.Conversions.{IsPlain, IsConverted}
 use Rattle.c_check_expr.specs.Rules.{IsCondition, IsPromoted, IsDroppable}
 use Rattle.c_check_expr.specs.Declarators.{Outermost, Written, Counts, FormMakes}
 use Rattle.c_check_expr.specs.Typing.{IsTyped, AreSpecifiers, AreAlone, IsForm, IsNewName}
-use Rattle.c_check.specs.Initialisers.{IsInitialiser, is_constant_initialiser, is_char_array, size_given}
+use Rattle.c_check.specs.Initialisers.{IsInitialiser, is_constant_initialiser, is_char_array, size_given, with_home}
 
 -- What is known at a point of a unit.
 pub record Known : Type 0 where
@@ -35,7 +35,7 @@ pub record Known : Type 0 where
   pub linked : List (Name × Declared)
   -- the names with linkage that have a definition: a body, or an initialiser (C99 6.9)
   pub defined : List Name
-  -- the homes of the objects that live as long as the program
+  -- the homes of the objects that live as long as the program, each once
   pub statics : List NodeId
 
 abbrev pub with_scopes : Known → Scopes → Known
@@ -121,7 +121,7 @@ pub record IsLinkedObject (table : Table) (name : Name) (h : Home) (t : TypeId) 
   pub complete : IsCompleteHere table k t
   pub home : IsLinkedHome (entry_of k.linked name) h node
   pub linked : IsLinked table name (declared.Object t node) k middle
-  pub after : k' ≡ record middle { statics = middle.statics ++ node ∷ [] }
+  pub after : k' ≡ record middle { statics = with_home node middle.statics }
 
 -- an object of a block: a new name in its scope
 pub record IsBlockObject (table : Table) (name : Name) (node : NodeId) (t : TypeId) (k : Known) (s : Scopes) : Type 0 where
@@ -130,7 +130,7 @@ pub record IsBlockObject (table : Table) (name : Name) (node : NodeId) (t : Type
 
 abbrev pub IsStaticOrLocal : Table → Storage → Home → Name → TypeId → Known → Known → Type 0
 IsStaticOrLocal table AsStatic (home.Static n) name t k k' =
-    (s : Scopes) × IsBlockObject table name n t k s × (k' ≡ record k { scopes = s; statics = k.statics ++ n ∷ [] })
+    (s : Scopes) × IsBlockObject table name n t k s × (k' ≡ record k { scopes = s; statics = with_home n k.statics })
 IsStaticOrLocal table Unstored (home.Local n) name t k k' = (s : Scopes) × IsBlockObject table name n t k s × (k' ≡ with_scopes k s)
 IsStaticOrLocal table AsAutomatic (home.Local n) name t k k' = (s : Scopes) × IsBlockObject table name n t k s × (k' ≡ with_scopes k s)
 IsStaticOrLocal table storage home name t k k' = ⊥

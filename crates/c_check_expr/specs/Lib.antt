@@ -23,3 +23,6 @@ pub mod Walks
 pub mod Nests
 pub mod MakingViews
 pub mod WordViews
+pub mod Cells
+pub mod Checking
+pub mod CheckingViews

@@ -5,7 +5,7 @@ mod aggregates;
 mod copies;
 mod declared;
 mod kind;
-mod laws;
+pub mod laws;
 mod level;
 mod making;
 mod member;

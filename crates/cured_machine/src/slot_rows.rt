@@ -47,13 +47,39 @@ fn put_zero_words(frame: &mut [u64], at: usize, count: usize)
     put_zeros(frame, at, count);
 }
 
+/// Makes the first `count` slots 0, where they are at most 8. Each is stored by itself: for so few a call costs more.
+#[inline(always)]
+fn put_few_zeros(frame: &mut [u64], count: usize)
+    requires few { count ≤ 8 }
+    requires room { count ≤ length frame.old }
+    ensures { frame.new ≡ zeroed count frame.old 0 }
+{
+    for i in 0..8_usize {
+        if i < count {
+            frame[i] = 0;
+        }
+    }
+}
+
+/// Makes all slots 0.
+#[inline(always)]
+fn clear(frame: &mut [u64])
+    ensures { frame.new ≡ zeroed (length frame.old) frame.old 0 }
+{
+    let count = frame.len();
+    if count <= 8 {
+        put_few_zeros(frame, count);
+    } else {
+        put_zeros(frame, 0, count);
+    }
+}
+
 /// Makes the slots those with which a function begins: its parameters first, all others 0.
 fn begin(frame: &mut [u64], words: &[u64])
     requires { length words.now ≤ length frame.old }
     ensures { frame.new ≡ written words.now (replicate (length frame.old) 0) 0 }
 {
-    let count = frame.len();
-    put_zeros(frame, 0, count);
+    clear(frame);
     put_words(frame, 0, words);
 }
 

@@ -7,3 +7,5 @@ pub mod InfixLaws
 pub mod TableGrowth
 pub mod TypeSearch
 pub mod TypedRows
+pub mod SameLaws
+pub mod ValueLaws

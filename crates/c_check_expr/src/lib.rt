@@ -7,9 +7,11 @@ mod laws;
 mod level;
 mod member;
 mod operand;
+mod same;
 mod scope;
 mod shapes;
 mod typing;
+mod value;
 
 pub use declared::{Declared, Tag};
 pub use laws::{

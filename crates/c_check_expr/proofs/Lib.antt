@@ -33,3 +33,5 @@ pub mod FirstState
 pub mod HeldTrees
 pub mod SidesAlike
 pub mod SidesTaken
+pub mod SameLaws
+pub mod ValueLaws

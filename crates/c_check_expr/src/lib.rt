@@ -12,11 +12,13 @@ mod member;
 mod naming;
 mod operand;
 mod places;
+mod same;
 mod scope;
 mod shapes;
 mod specifying;
 mod stops;
 mod typing;
+mod value;
 mod walker;
 mod words;
 

@@ -139,9 +139,11 @@ is_linked_by first home = false
 
 unfoldable pub defining : Option Identifier → TypedDeclarator → UnitJudging TypedDeclarator
 defining None one = pure one
-defining (Some name) one = λ s. Gives one (record s { linkage = record s.linkage {
-  defined = if is_linked_by (entry_of s.linkage.linked name.bytes) (home_of one) then with_name name.bytes s.linkage.defined else s.linkage.defined;
-} })
+defining (Some name) one = λ s. Gives one (record s {
+  linkage = record s.linkage {
+    defined = if is_linked_by (entry_of s.linkage.linked name.bytes) (home_of one) then with_name name.bytes s.linkage.defined else s.linkage.defined;
+  };
+})
 
 unfoldable pub judge_init_declarators : (file : Bool) → TypedSpecifiers → tree.InitDeclarators → UnitJudging TypedInitDeclarators
 judge_init_declarators file base tree.NoInitDeclarator = pure typed.NoInitDeclarator

@@ -40,10 +40,12 @@ fn is_same_shape(types: &Types, depth: u32, a: Option<&TypeShape>, b: Option<&Ty
         (None | Some(TypeShape::Void), None | Some(TypeShape::Void)) => true,
         (
             Some(TypeShape::Integer { bytes, signed }),
-            Some(TypeShape::Integer {
-                bytes: others,
-                signed: other,
-            }),
+            Some(
+                TypeShape::Integer {
+                    bytes: others,
+                    signed: other,
+                },
+            ),
         ) => bytes == others && signed == other,
         (Some(TypeShape::Pointer(_, t)), Some(TypeShape::Pointer(_, u))) => {
             is_same_within(types, depth, *t, *u)

@@ -81,7 +81,10 @@ fn operators_have_the_values_of_c(rt: HostRuntime) -> Result<(), Fail> {
     assert_eq!(rt; value::quotient(INT_KIND, -7, 2), -3);
     assert_eq!(rt; value::remainder(INT_KIND, -7, 2), -1);
     assert_eq!(rt; value::shifted_right(INT_KIND, -1, 1), -1);
-    assert_eq!(rt; value::shifted_right(UNSIGNED_KIND, 4_294_967_295, 1), 2_147_483_647);
+    assert_eq!(rt;
+        value::shifted_right(UNSIGNED_KIND, 4_294_967_295, 1),
+        2_147_483_647
+    );
     assert_eq!(rt; value::shifted_left(INT_KIND, 1, 31), -2_147_483_648);
     assert_eq!(rt; value::sum(INT_KIND, 2_147_483_647, 1), -2_147_483_648);
     assert_eq!(rt; value::difference(UNSIGNED_KIND, 0, 1), 4_294_967_295);

@@ -1,7 +1,7 @@
 -- What is known where a unit begins.
 use Rattle.std.proofs.Common.{◌≡◌, ℕ, zero, suc, ◌<◌, ◌≤◌, Bool, true, false, List, [], ◌∷◌, length, Option, Some, None, refl, ap, sym, subst, ◌∙◌, inl, inr, ◌⊎◌, lit<, arith}
 use Rattle.std.specs.List.{Contains}
-use Rattle.std.proofs.lemmas.Option.{none-some}
+use Rattle.std.proofs.lemmas.List.Elements.{All-nil, All-cons}
 use Rattle.cc_base.specs.declared.number.TypeId.{TypeId}
 use Rattle.c_types.specs.declared.shape.TypeShape.{TypeShape}
 use Rattle.c_types.specs.declared.shape.TypeShape.TheVariants.{Void, Integer, Pointer, Array, Function, Struct, Union}
@@ -10,9 +10,10 @@ use Rattle.c_types.specs.Sound.{IsWellFormed, IsIntegerSize}
 use Rattle.c_types.specs.Calls.{basic_table}
 use Rattle.integers.specs.Arithmetic.{IntegerType}
 use Rattle.c_check_expr.specs.Judging.{State, integer_number, void_type}
-use Rattle.c_check_expr.specs.Scopes.{Name, Scopes, file_scope, is_complete_shape_at, is_complete_at}
-use Rattle.c_check_expr.specs.Settled.{IsBasic, IsFollowed, IsKnown}
+use Rattle.c_check_expr.specs.Scopes.{Name, Scopes, file_scope, empty_level, is_complete_shape_at, is_complete_at}
+use Rattle.c_check_expr.specs.Settled.{IsBasic, IsFollowed, IsLevelThere, IsKnown}
 use Rattle.c_check_expr.proofs.ExtensionLaws.{no_true}
+use Rattle.c_check_expr.proofs.KnownScopes.{no-number, empty-there}
 
 abbrev number : ℕ → TypeId
 number n = record { 0 = n }
@@ -86,6 +87,10 @@ first-known defined s w t q =
         integers = λ k size. integer_there k.bytes k.signed size;
       };
       followed = λ a h. complete_by (file_scope defined).scopes (shape_at basic_table a) (members_at basic_table a) (no_aggregate a.0) h;
-      objects = λ name a home h. absurd (none-some (_) h);
+      levels = All-cons (IsLevelThere basic_table) empty_level [] (empty-there basic_table) (All-nil (IsLevelThere basic_table));
+      numbered = record {
+        given = λ a n h. no-number (shape_at basic_table a) n (no_aggregate a.0) h;
+        own = λ a u n h g. no-number (shape_at basic_table a) n (no_aggregate a.0) h;
+      };
     } in
     subst IsKnown (λ i. record { table = sym t i; seen = sym q i }) here

@@ -238,7 +238,7 @@ member_rule s whole name i k h =
     }
 
 after-known : (s : State) → IsKnown s → IsKnown (after_node s)
-after-known s k = record { basic = k.basic; followed = k.followed; objects = k.objects }
+after-known s k = record { basic = k.basic; followed = k.followed; levels = k.levels; numbered = k.numbered }
 
 node-goes : (s m : State) → IsKnown s → m ≡ after_node s → GoesOn s m
 node-goes s m k same = subst (GoesOn s) (sym same) (record { extends = (stays s k).goes.extends; known = after-known s k })

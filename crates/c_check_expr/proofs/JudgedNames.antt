@@ -37,6 +37,7 @@ use Rattle.c_check_expr.specs.Tests.{Elaborated, AsPlace, AsValue, first_broken,
 use Rattle.c_check_expr.proofs.ExtensionLaws.{no_true, extended_refl}
 use Rattle.c_check_expr.proofs.ConstructLaws.{two_unbroken, or_left, either_false}
 use Rattle.c_check_expr.proofs.Outcomes.{IsConstruct, construct-gives, leaf-gives, gives-value, gives-state, never-gives, bind-gives}
+use Rattle.c_check_expr.proofs.KnownScopes.{object-there}
 use Rattle.c_check_expr.proofs.KnownStates.{stays, goes-on, there-on, node-there, new_pointer-gives, type_with-found, type_with-there}
 use Rattle.c_check_expr.proofs.KeptRules.{has-kept}
 use Rattle.c_check_expr.proofs.JudgedOperators.{made-here, made-later}
@@ -77,7 +78,7 @@ module _ (called : Bool) (word : Identifier) (o : Operand) (s r : State) (k : Is
       → (is_function_declared what && is_main word.bytes) ≡ false → named_as word runtime what s ≡ Gives o.part r → IsJudged (tree.Name word) o s.seen.scopes s r
   unfolding named_as
   named-judged runtime (Some (declared.Object t home)) q p u h =
-      made-here (tree.Name word) (AsPlace (typed.Variable word home t)) o s.seen.scopes s r k h place ((refl, p, k.objects word.bytes t home p), refl)
+      made-here (tree.Name word) (AsPlace (typed.Variable word home t)) o s.seen.scopes s r k h place ((refl, p, object-there s k word.bytes t home p), refl)
   named-judged runtime (Some (declared.Enumerator n)) q p u h =
       made-here (tree.Name word) (AsValue (typed.Enumerator word n int_type)) o s.seen.scopes s r k h place
       ((refl, record { known = p; type = k.basic.integers int (inr (inr (inl refl))) }), refl, refl)
@@ -116,7 +117,7 @@ count-gives at bytes n s r k h = by (nat_le (s.seen.globals + (bytes + 16)) 4194
 
     here : GoesOnThere s after
     here = record {
-      goes = record { extends = extended_refl s.table; known = record { basic = k.basic; followed = k.followed; objects = k.objects } };
+      goes = record { extends = extended_refl s.table; known = record { basic = k.basic; followed = k.followed; levels = k.levels; numbered = k.numbered } };
       scopes = refl;
     }
 

@@ -17,9 +17,11 @@ use Rattle.c_types.proofs.Adding.{appends, formed_added}
 use Rattle.c_types.proofs.Growth.{Changes}
 use Rattle.c_check_expr.specs.Extensions.{IsExtended, IsTypeWith}
 use Rattle.c_check_expr.specs.Judging.{State, Outcome, Judging, Gives, Stops, next, ◌>>=◌, pure, new_node, type_among, there_or_added, type_with, pointer_type, Pointing, new_pointer}
+use Rattle.c_check_expr.specs.Rules.{number_of_shape}
 use Rattle.c_check_expr.specs.Scopes.{Scopes, Seen, is_complete_shape_at, is_complete_at}
-use Rattle.c_check_expr.specs.Settled.{IsBasic, IsFollowed, IsKnown, GoesOn, GoesOnThere}
+use Rattle.c_check_expr.specs.Settled.{IsBasic, IsFollowed, AreNumbered, IsKnown, GoesOn, GoesOnThere}
 use Rattle.c_check_expr.proofs.ExtensionLaws.{no_true, still_in, extended_refl}
+use Rattle.c_check_expr.proofs.KnownScopes.{levels-kept, no-number, numbered-from}
 use Rattle.c_check_expr.proofs.TableGrowth.{type_with-law, extended_trans}
 use Rattle.c_check_expr.proofs.TypeSearch.{type-absent}
 use Rattle.c_check_expr.proofs.Outcomes.{gives-value, gives-state, never-gives, bind-gives, new_node-gives, NeverRefuses, gives-never, large-never, next-never, new_node-never}
@@ -75,6 +77,15 @@ module _ (T : Table) (x : TypeShape) (b : IsBasic T) (a : IsAddable T x) (parts 
         subst (λ (e : Entry). is_complete e ≡ true) (sym same) (f t (subst (λ (e : Entry). is_complete_shape_at s (is_complete e) e.shape ≡ true) same h))
   ]
 
+  pub numbered_after : (s : Scopes) → is_aggregate_shape x ≡ false → AreNumbered T s → AreNumbered (T ++ basic_entry x ∷ []) s
+  numbered_after s p h = numbered-from T (T ++ basic_entry x ∷ []) s before h
+    where
+      before : (t : TypeId) (n : ℕ) → number_of_shape (shape_at (T ++ basic_entry x ∷ []) t) ≡ Some n → number_of_shape (shape_at T t) ≡ Some n
+      before t n q = elim (eqb_tells t.0 (length T)) [
+        | inl l ↦ no-number x n p (subst (λ (e : Entry). number_of_shape e.shape ≡ Some n) (entry_last t l.1) q)
+        | inr m ↦ subst (λ (e : Entry). number_of_shape e.shape ≡ Some n) (change.other t m.1) q
+      ]
+
 lt_from : (a b : ℕ) → nat_lt a b ≡ true → a < b
 lt_from a b h = grind (arith, nat_tests)
 
@@ -94,7 +105,8 @@ module _ (at : Place) (x : TypeShape) (t : TypeId) (s r : State) (k : IsKnown s)
       let there : IsKnown after = record {
         basic = basic_after s.table x k.basic a parts new (lt_from (length s.table) 16384 p) (le_from (new_layout s.table x).size 1048576 q) grows;
         followed = followed_after s.table x k.basic a parts new (lt_from (length s.table) 16384 p) (le_from (new_layout s.table x).size 1048576 q) s.seen.scopes plain k.followed;
-        objects = λ name u home q. still_in s.table after.table grows u (k.objects name u home q);
+        levels = levels-kept s.table after.table grows s.seen.scopes.levels k.levels;
+        numbered = numbered_after s.table x k.basic a parts new (lt_from (length s.table) 16384 p) (le_from (new_layout s.table x).size 1048576 q) s.seen.scopes plain k.numbered;
       } in
       subst IsKnown same there
   fresh true false p q new h e = never-gives t (TooLarge at Object) s r h
@@ -174,7 +186,7 @@ pub node-there : (at : Place) (n : NodeId) (s r : State) → IsKnown s → new_n
 node-there at n s r k h =
     let after : State = record s { seen = record s.seen { node = s.seen.node + 1 } } in
     let here : GoesOnThere s after = record {
-      goes = record { extends = extended_refl s.table; known = record { basic = k.basic; followed = k.followed; objects = k.objects } };
+      goes = record { extends = extended_refl s.table; known = record { basic = k.basic; followed = k.followed; levels = k.levels; numbered = k.numbered } };
       scopes = refl;
     } in
     subst (GoesOnThere s) (sym (new_node-gives at n s r h).1) here

@@ -15,6 +15,7 @@ pub mod KeptRules
 pub mod KeptDeclarators
 pub mod KeptTrees
 pub mod Outcomes
+pub mod KnownScopes
 pub mod KnownStates
 pub mod ValuesTaken
 pub mod JudgedOperators

@@ -1,7 +1,6 @@
 -- What laws of the constructs ask of the table and of operands.
-use Rattle.std.specs.Prelude.{◌≡◌, ◌⊎◌, ◌<◌, None, Bool, true, false, List, [], ◌∷◌, ◌++◌, Some}
-use Rattle.std.specs.List.{Contains}
-use Rattle.cc_base.specs.declared.number.NodeId.{NodeId}
+use Rattle.std.specs.Prelude.{◌≡◌, ◌⊎◌, ◌<◌, None, ℕ, Bool, true, false, List, [], ◌∷◌, ◌++◌, length, Some}
+use Rattle.std.specs.List.{All, Contains}
 use Rattle.cc_base.specs.declared.number.TypeId.{TypeId}
 use Rattle.c_types.specs.declared.shape.TypeShape.{TypeShape}
 use Rattle.c_types.specs.declared.shape.TypeShape.TheVariants.{Void, Integer, Pointer}
@@ -20,12 +19,16 @@ use Rattle.c_check_expr.specs.Judging.{State, Gives, void_type, integer_type}
 use Rattle.c_check_expr.specs.Walks.{judge_type_name}
 use Rattle.c_check_expr.specs.Operands.{Operand, Value}
 use Rattle.c_check_expr.specs.Refusals.{IsElaborated}
+use Rattle.c_check_expr.specs.declared.declared.Declared.{Declared}
 use Rattle.c_check_expr.specs.declared.declared.Declared.TheVariants as declared
-use Rattle.c_check_expr.specs.Scopes.{Name, Scopes, name_in, is_complete_at}
+use Rattle.c_check_expr.specs.declared.declared.Tag.{Tag}
+use Rattle.c_check_expr.specs.declared.declared.Tag.TheVariants as tag
+use Rattle.c_check_expr.specs.Rules.{number_of_shape}
+use Rattle.c_check_expr.specs.Scopes.{Name, Level, Scopes, is_complete_at}
 use Rattle.c_check_expr.specs.Shapes.{is_scalar_shape}
 use Rattle.c_check_expr.specs.Constants.{constant_value, is_null_constant}
 use Rattle.c_check_expr.specs.Tests.{Elaborated, AsPlace, AsValue, AsAllocation, shape_of, is_null_part, are_one_struct}
-use Rattle.c_check_expr.specs.Typing.{IsTyped, IsPlace, IsTypeName}
+use Rattle.c_check_expr.specs.Typing.{IsTyped, IsPlace, IsTypeName, shape_of_kind}
 
 -- the table is well formed, a type names only types that were there before it, and `void` and the integer types are where every table
 -- has them
@@ -68,11 +71,34 @@ AreValuesOf table (tree.AndArgument all e) values s s' =
     (before : List Value) × (m : Scopes) × (v : Value) × AreValuesOf table all before s m × IsValueOf table e v.expr m s' × (v.place ≡ expr_place e)
     × (is_droppable v.expr ≡ true) × (values ≡ before ++ v ∷ [])
 
--- what is known between any two parts of a text: the types of the objects that are named are in the table
+-- the type of what a name stands for is in the table
+abbrev pub IsThere : Table → Declared → Type 0
+IsThere table (declared.Typedef t) = IsType table t
+IsThere table (declared.Object t home) = IsType table t
+IsThere table (declared.Function t) = IsType table t
+IsThere table (declared.Enumerator value) = Unit {0}
+
+-- so is that of a tag, and it is a struct or a union as the tag says
+abbrev pub IsTagThere : Table → Tag → Type 0
+IsTagThere table (tag.Aggregate which t) = (number : ℕ) × HasShape table t (shape_of_kind which number)
+IsTagThere table tag.Enumeration = Unit {0}
+
+-- so it is with all that a scope declares
+pub record IsLevelThere (table : Table) (level : Level) : Type 0 where
+  pub names : All (λ (e : Name × Declared). IsThere table e.1) level.names
+  pub tags : All (λ (e : Name × Tag). IsTagThere table e.1) level.tags
+
+-- each struct and union of the table has a number of its own, which was given out
+pub record AreNumbered (table : Table) (s : Scopes) : Type 0 where
+  pub given : (t : TypeId) (n : ℕ) → number_of_shape (shape_at table t) ≡ Some n → n < length s.members
+  pub own : (t u : TypeId) (n : ℕ) → number_of_shape (shape_at table t) ≡ Some n → number_of_shape (shape_at table u) ≡ Some n → t ≡ u
+
+-- what is known between any two parts of a text: the types of all that is declared, in any scope, are in the table
 pub record IsKnown (state : State) : Type 0 where
   pub basic : IsBasic state.table
   pub followed : IsFollowed state.table state.seen.scopes
-  pub objects : (name : Name) (t : TypeId) (home : NodeId) → name_in state.seen.scopes.levels name ≡ Some (declared.Object t home) → IsType state.table t
+  pub levels : All (IsLevelThere state.table) state.seen.scopes.levels
+  pub numbered : AreNumbered state.table state.seen.scopes
 
 -- the types go on, and all is known again
 pub record GoesOn (before after : State) : Type 0 where

@@ -45,7 +45,7 @@ declarators_alike (typed.AndDeclarator all d) =
       length-append (declarator_types all) (declared_type d ∷ []),
     )
 
-members_alike : (all : TypedMembers) → length (member_names all) ≡ length (member_types all)
+pub members_alike : (all : TypedMembers) → length (member_names all) ≡ length (member_types all)
 members_alike typed.NoMember = refl
 members_alike (typed.AndMember all specifiers declarators) =
     let same = members_alike all in
@@ -57,7 +57,7 @@ no_empty [] ys e h = no_true (sym h)
 no_empty (x ∷ xs) [] e h = absurd (omega (arith, e))
 no_empty (x ∷ xs) (y ∷ ys) e h = refl
 
-whole_by : (x : TypeShape) (ms : List TypeId) (k : ℕ) → number_of_shape x ≡ Some k → is_empty ms ≡ false → is_complete_entry x ms ≡ true
+pub whole_by : (x : TypeShape) (ms : List TypeId) (k : ℕ) → number_of_shape x ≡ Some k → is_empty ms ≡ false → is_complete_entry x ms ≡ true
 whole_by (Struct n) ms k h e = ap not e
 whole_by (Union n) ms k h e = ap not e
 whole_by Void ms k h e = absurd (none-some k h)

@@ -17,6 +17,8 @@ pub mod KeptTrees
 pub mod Outcomes
 pub mod KnownScopes
 pub mod KnownStates
+pub mod KnownTags
+pub mod KnownMembers
 pub mod ValuesTaken
 pub mod JudgedOperators
 pub mod JudgedMembers

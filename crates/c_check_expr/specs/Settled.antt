@@ -1,19 +1,23 @@
 -- What laws of the constructs ask of the table and of operands.
-use Rattle.std.specs.Prelude.{◌≡◌, ◌⊎◌, ◌<◌, None, ℕ, Bool, true, false, List, [], ◌∷◌, ◌++◌, length, Some}
+use Rattle.std.specs.Prelude.{◌≡◌, ◌⊎◌, ◌<◌, Option, None, ℕ, Bool, true, false, List, [], ◌∷◌, ◌++◌, length, Some}
 use Rattle.std.specs.List.{All, Contains}
 use Rattle.cc_base.specs.declared.number.TypeId.{TypeId}
 use Rattle.c_types.specs.declared.shape.TypeShape.{TypeShape}
 use Rattle.c_types.specs.declared.shape.TypeShape.TheVariants.{Void, Integer, Pointer}
 use Rattle.c_types.specs.Table.{Table, HasShape, IsType, IsComplete, shape_at, named_by}
 use Rattle.c_types.specs.Sound.{IsWellFormed, IsIntegerSize}
+use Rattle.c_tree.specs.declared.leaf.Identifier.{Identifier}
+use Rattle.c_tree.specs.declared.operator.AggregateKind.{AggregateKind}
 use Rattle.c_tree.specs.TypedTree as typed
-use Rattle.c_tree.specs.TypedTree.{TypedExpr, TypedTypeName}
+use Rattle.c_tree.specs.TypedTree.{TypedExpr, TypedTypeName, TypedSpecifier, TypedSpecifierList, TypedEnumerators}
 use Rattle.c_tree.specs.TypedParts.{type_of, named_type}
-use Rattle.c_tree.specs.Erasure.{erased, erased_type_name}
+use Rattle.c_tree.specs.Erasure.{erased, erased_type_name, erased_specifier, erased_specifier_list, erased_enumerators}
 use Rattle.c_tree.specs.Places.{expr_place}
 use Rattle.c_tree.specs.Tree as tree
 use Rattle.integers.specs.Arithmetic.{IntegerType}
 use Rattle.c_check_expr.specs.Conversions.{bare, is_droppable, IsPlain}
+use Rattle.c_check_expr.specs.Declarators
+use Rattle.c_check_expr.specs.Declarators.{Counted, Named, NoType, IsEnumeration, counting, counted, named_by_specifier, named_by_list, are_allowed}
 use Rattle.c_check_expr.specs.Extensions.{IsExtended}
 use Rattle.c_check_expr.specs.Judging.{State, Gives, void_type, integer_type}
 use Rattle.c_check_expr.specs.Walks.{judge_type_name}
@@ -28,7 +32,7 @@ use Rattle.c_check_expr.specs.Scopes.{Name, Level, Scopes, is_complete_at}
 use Rattle.c_check_expr.specs.Shapes.{is_scalar_shape}
 use Rattle.c_check_expr.specs.Constants.{constant_value, is_null_constant}
 use Rattle.c_check_expr.specs.Tests.{Elaborated, AsPlace, AsValue, AsAllocation, shape_of, is_null_part, are_one_struct}
-use Rattle.c_check_expr.specs.Typing.{IsTyped, IsPlace, IsTypeName, shape_of_kind}
+use Rattle.c_check_expr.specs.Typing.{IsTyped, IsPlace, IsTypeName, IsSpecifier, AreListed, AreEnumerators, BeginsAggregate, shape_of_kind, tag_named_here}
 
 -- the table is well formed, a type names only types that were there before it, and `void` and the integer types are where every table
 -- has them
@@ -114,6 +118,40 @@ pub record GoesOnThere (before after : State) : Type 0 where
 pub record IsJudged (e : tree.Expr) (x : Operand) (s : Scopes) (before after : State) : Type 0 where
   pub part : IsElaborated after.table e x.part s after.seen.scopes
   pub place : x.place ≡ expr_place e
+  pub goes : GoesOn before after
+
+-- the type that specifiers name is in the table
+abbrev pub IsNamedThere : Table → Named → Type 0
+IsNamedThere table NoType = Unit {0}
+IsNamedThere table (Declarators.IsType t) = IsType table t
+IsNamedThere table IsEnumeration = Unit {0}
+
+-- a specifier that stands behind those that are counted, and begins among the scopes s, was judged
+pub record IsSpecifierJudged (counts : Counted) (specifier : tree.Specifier) (one : TypedSpecifier) (s : Scopes) (before after : State) : Type 0 where
+  pub typed : IsSpecifier after.table one s after.seen.scopes
+  pub erases : erased_specifier one ≡ specifier
+  pub allowed : are_allowed (counting one counts) ≡ true
+  pub there : (n : Named) → IsNamedThere after.table n → IsNamedThere after.table (named_by_specifier one n)
+  pub goes : GoesOn before after
+
+-- a struct or union began, where it does
+abbrev pub IsBegun : AggregateKind → Option Identifier → State → Option TypeId → State → Type 0
+IsBegun which name before None after = GoesOn before after
+IsBegun which name before (Some t) after =
+    BeginsAggregate after.table (tag_named_here before.seen.scopes name) which name t before.seen.scopes after.seen.scopes × IsType after.table t × GoesOn before after
+
+-- enumerators were judged, which begin among the scopes s
+pub record AreEnumeratorsJudged (all : tree.Enumerators) (list : TypedEnumerators) (s : Scopes) (before after : State) : Type 0 where
+  pub typed : AreEnumerators after.table list s after.seen.scopes
+  pub erases : erased_enumerators list ≡ all
+  pub goes : GoesOn before after
+
+-- a list of specifiers was judged
+pub record IsListJudged (specifiers : tree.Specifiers) (list : TypedSpecifierList) (before after : State) : Type 0 where
+  pub typed : AreListed after.table list before.seen.scopes after.seen.scopes
+  pub erases : erased_specifier_list list ≡ specifiers
+  pub allowed : are_allowed (counted list) ≡ true
+  pub there : IsNamedThere after.table (named_by_list list)
   pub goes : GoesOn before after
 
 -- what judging gives for type names is well typed: the law of expressions rests on it

@@ -11,6 +11,7 @@ pub mod members;
 pub mod names;
 pub mod operators;
 pub mod refused;
+pub mod specifiers;
 
 ghost use Rattle.std.specs.Prelude.{◌≡◌, true, [], None};
 ghost use Rattle.std.specs.List.{All};

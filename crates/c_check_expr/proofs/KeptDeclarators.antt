@@ -100,7 +100,7 @@ module _ (T U : Table) (x : IsExtended T U) (basic : IsBasic T) where
   pub of_type-kept : (list : TypedSpecifierList) (t : TypeId) → AreOfType T list t → AreOfType U list t
   of_type-kept list t h = record { allowed = h.allowed; there = still_in T U x t h.there; type = named_by-kept (Declarators.named_by_list list) list t h.type }
 
-  array-kept : (s : Scopes) (o : Outermost) (words : List Word) (count : Option ℕ) (element t : TypeId) → MakesArray T s o words count element t
+  pub array-kept : (s : Scopes) (o : Outermost) (words : List Word) (count : Option ℕ) (element t : TypeId) → MakesArray T s o words count element t
       → MakesArray U s o words count element t
   array-kept s (Points n) words count element t h = (complete_kept T U x s element h.0, has-kept T U x basic t (Pointer n element) h.1)
   array-kept s Written words (Some count) element t h = (h.0, (complete_kept T U x s element h.1.0, has-kept T U x basic t (Array element count) h.1.1))
@@ -114,12 +114,12 @@ module _ (T U : Table) (x : IsExtended T U) (basic : IsBasic T) where
       (subst (λ (y : TypeShape). Contains (named_by y) result) (sym h.shape.1) (contains_head result (taken_types parameters))) in
       record { gives = ap is_result_shape (x.shapes result there) ∙ h.gives; shape = has-kept T U x basic t (_) h.shape }
 
-  function-kept : (o : Outermost) (parameters : TypedParameters) (result t : TypeId) → MakesFunction T o parameters result t → MakesFunction U o parameters result t
+  pub function-kept : (o : Outermost) (parameters : TypedParameters) (result t : TypeId) → MakesFunction T o parameters result t → MakesFunction U o parameters result t
   function-kept (Points n) parameters result t h = (h.0, function_of-kept parameters result h.0 h.1, has-kept T U x basic t (Pointer n h.0) h.2)
   function-kept Written parameters result t h = function_of-kept parameters result t h
   function-kept (Counts k) parameters result t h = function_of-kept parameters result t h
 
-  parts-kept : (s : Scopes) (parts : TypedParts) (o : Outermost) (base t : TypeId) → PartsMake T s parts o base t → PartsMake U s parts o base t
+  pub parts-kept : (s : Scopes) (parts : TypedParts) (o : Outermost) (base t : TypeId) → PartsMake T s parts o base t → PartsMake U s parts o base t
   parts-kept s typed.NoPart o base t h = h
   parts-kept s (typed.AndArray all at words) o base t h = (h.0, array-kept s (nearest all o) words None base h.0 h.1, parts-kept s all o h.0 t h.2)
   parts-kept s (typed.AndSizedArray all at words e size) o base t h =
@@ -127,7 +127,7 @@ module _ (T U : Table) (x : IsExtended T U) (basic : IsBasic T) where
   parts-kept s (typed.AndFunction all at parameters) o base t h =
       (h.0, function-kept (nearest all o) parameters base h.0 h.1, parts-kept s all o h.0 t h.2)
 
-  stars-kept : (stars : List TypedStar) (base t : TypeId) → StarsMake T stars base t → StarsMake U stars base t
+  pub stars-kept : (stars : List TypedStar) (base t : TypeId) → StarsMake T stars base t → StarsMake U stars base t
   stars-kept [] base t h = h
   stars-kept (star ∷ stars) base t h = (h.0, has-kept T U x basic h.0 (Pointer star.node base) h.1, stars-kept stars h.0 t h.2)
 
@@ -136,7 +136,7 @@ module _ (T U : Table) (x : IsExtended T U) (basic : IsBasic T) where
     form_makes-kept s (typed.Form stars core parts) o base t h =
         (h.0, h.1, stars-kept stars base h.0 h.2, parts-kept s parts (outside core o) h.0 h.1 h.3, core_makes-kept s core o h.1 t h.4)
 
-    core_makes-kept : (s : Scopes) (core : TypedCore) (o : Outermost) (base t : TypeId) → CoreMakes T s core o base t → CoreMakes U s core o base t
+    pub core_makes-kept : (s : Scopes) (core : TypedCore) (o : Outermost) (base t : TypeId) → CoreMakes T s core o base t → CoreMakes U s core o base t
     core_makes-kept s (typed.Names name home) o base t h = h
     core_makes-kept s typed.Unnamed o base t h = h
     core_makes-kept s (typed.Nested at form) o base t h = form_makes-kept s form o base t h

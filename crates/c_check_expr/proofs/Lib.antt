@@ -19,6 +19,9 @@ pub mod KnownScopes
 pub mod KnownStates
 pub mod KnownTags
 pub mod KnownMembers
+pub mod JudgedSpecifiers
+pub mod JudgedLists
+pub mod JudgedForms
 pub mod ValuesTaken
 pub mod JudgedOperators
 pub mod JudgedMembers

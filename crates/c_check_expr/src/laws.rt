@@ -3,10 +3,12 @@
 
 pub mod assignments;
 pub mod calls;
+pub mod declarators;
 pub mod expressions;
 pub mod growth;
 pub mod held;
 pub mod judged;
+pub mod lists;
 pub mod members;
 pub mod names;
 pub mod operators;

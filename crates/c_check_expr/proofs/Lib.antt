@@ -7,3 +7,6 @@ pub mod InfixLaws
 pub mod TableGrowth
 pub mod TypeSearch
 pub mod TypedRows
+pub mod KindLaws
+pub mod SizeLaws
+pub mod ValueLaws

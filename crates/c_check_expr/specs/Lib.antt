@@ -15,5 +15,6 @@ pub mod Operations
 pub mod Assignments
 pub mod OperandViews
 pub mod KindViews
+pub mod ShapeViews
 pub mod Extensions
 pub mod Settled

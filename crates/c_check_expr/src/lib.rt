@@ -1,15 +1,30 @@
 //! The typing of expressions, specifiers and declarators (C99 6.5, 6.7), and the scopes of names and tags.
 #![tactic(auto)]
 
+mod address;
+mod assigning;
+mod binary;
+mod casting;
+mod choosing;
+mod constant;
+mod construct;
+mod conversion;
 mod declared;
 mod kind;
 mod laws;
 mod level;
+mod meeting;
 mod member;
 mod operand;
+mod operators;
+mod same;
 mod scope;
 mod shapes;
+mod step;
 mod typing;
+mod unary;
+mod value;
+mod value_shape;
 
 pub use declared::{Declared, Tag};
 pub use laws::{

@@ -8,5 +8,6 @@ pub mod TableGrowth
 pub mod TypeSearch
 pub mod TypedRows
 pub mod KindLaws
+pub mod SameLaws
 pub mod SizeLaws
 pub mod ValueLaws

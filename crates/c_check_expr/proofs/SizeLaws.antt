@@ -1,5 +1,5 @@
 -- The size of what is not complete.
-use Rattle.std.proofs.Common.{◌≡◌, ◌≤◌, Bool, true, false, true≢false, List, [], ◌∷◌, length, refl, ap, sym, ◌∙◌}
+use Rattle.std.proofs.Common.{◌≡◌, ◌≤◌, ℕ, zero, suc, get_or, arith, Bool, true, false, true≢false, List, [], ◌∷◌, length, refl, ap}
 use Rattle.cc_base.specs.declared.number.TypeId.{TypeId}
 use Rattle.c_types.specs.declared.layout.Layout.{Layout}
 use Rattle.c_types.specs.declared.shape.TypeShape.{TypeShape}
@@ -23,6 +23,11 @@ pub incomplete_size : (T : Table) (t : TypeId) → is_complete (entry_at T t) �
 unfolding layout_of
 incomplete_size T t h = no_size _ (shape_at T t) (members_at T t) h
 
+no_entry : (T : Table) (i : ℕ) → length T ≤ i → get_or T i void_entry ≡ void_entry
+no_entry [] i h = refl
+no_entry (e ∷ T) zero h = absurd (omega arith)
+no_entry (e ∷ T) (suc i) h = no_entry T i (omega arith)
+
 -- nor has what is no type
-pub untyped_size : (T : Table) (t : TypeId) → entry_at T t ≡ void_entry → size_of T t ≡ 0
-untyped_size T t e = incomplete_size T t (ap is_complete e)
+pub untyped_size : (T : Table) (t : TypeId) → length T ≤ t.0 → size_of T t ≡ 0
+untyped_size T t h = incomplete_size T t (ap is_complete (no_entry T t.0 h))

@@ -11,7 +11,8 @@ use Rattle.std.proofs.lemmas.Int.{quot_fits, ints}
 use Rattle.std.proofs.lemmas.Bool.Decides.{Decides-int_eq}
 use Rattle.std.proofs.lemmas.Bool.Decides.{nat_tests}
 use Rattle.integers.specs.Words.{residue, word, as_signed, as_unsigned, signed_of}
-use Rattle.integers.specs.Arithmetic.{IntegerType, converted, bits_of, least}
+use Rattle.integers.specs.Arithmetic.{IntegerType, Operator, converted, bits_of, least, divides}
+use Rattle.c_check_expr.specs.Constants.{cannot_divide}
 
 pub residue_wrapped_64 : (z : ℤ) → residue (int_wrap w128 z) (2 ^ 64) ≡ residue z (2 ^ 64)
 unfolding int_wrap
@@ -103,3 +104,16 @@ last_size n (inl e) h i j = absurd (h e)
 last_size n (inr (inl e)) h i j = absurd (i e)
 last_size n (inr (inr (inl e))) h i j = absurd (j e)
 last_size n (inr (inr (inr e))) h i j = e
+
+-- a divisor that is not 0
+pub not_zero : (y : ℤ) → int_eq y (pos 0) ≡ false → y ≢ pos 0
+not_zero y h e = true≢false (sym (ap (λ z. int_eq z (pos 0)) e) ∙ h)
+
+nonzero_by : (d z r : Bool) → (d && not (not z && r)) ≡ false → d ≡ true → z ≡ false
+nonzero_by true true r h e = absurd (true≢false h)
+nonzero_by true false r h e = refl
+nonzero_by false z r h e = absurd (true≢false (sym e))
+
+-- where a division has a result, its divisor is not 0
+pub divisor_is_some : (operator : Operator) (k : IntegerType) (x y : ℤ) → cannot_divide operator k x y ≡ false → divides operator ≡ true → int_eq y (pos 0) ≡ false
+divisor_is_some operator k x y = nonzero_by (divides operator) (int_eq y (pos 0)) (not (k.signed && (int_eq x (least k) && int_eq y (negsuc 0))))

@@ -147,7 +147,7 @@ pub(crate) fn address(scope: &mut Scope, types: &mut Types, at: Place, x: Operan
 }
 
 /// The size of a type, in bytes; 0 where it isn't complete.
-#[tactic(auto, using(crate::proofs::SizeLaws::incomplete_size, crate::proofs::SizeLaws::untyped_size))]
+#[tactic(auto, using(crate::proofs::SizeLaws::incomplete_size))]
 pub(crate) fn size_at(types: &Types, t: TypeId) -> u64
     ensures { result ≡ size_of types.now t }
 {

@@ -18,7 +18,7 @@ ghost use Rattle.c_check_expr.specs.Tests.{first_broken, AsValue};
 
 use crate::construct::{held_with_two, holding, refused};
 use crate::kind::{Kind, is_logical, is_order, left_kind, result_kind, right_kind};
-use crate::meeting::{Meeting, meeting};
+use crate::meeting::{Meeting, how_they_meet};
 use crate::operand::{Operand, Part, Value};
 use crate::operators::infix_fault;
 use crate::scope::Scope;
@@ -177,7 +177,7 @@ fn compared(
         let a = Boxed::new(alloc, a)?;
         return Ok(TypedExpr::Compared(operator, a, at, Boxed::new(alloc, b)?, INT));
     }
-    let how = meeting(types, &a, &b);
+    let how = how_they_meet(types, &a, &b);
     equated(scope, how, operator, a, at, b)
 }
 

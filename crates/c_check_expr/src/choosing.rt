@@ -1,7 +1,7 @@
 //! `?:` and `,` (C99 6.5.15, 6.5.17).
 #![tactic(auto)]
 
-ghost use Rattle.std.specs.Prelude.{◌≡◌, ◌&&◌, IfOk};
+ghost use Rattle.std.specs.Prelude.{◌≡◌, ◌&&◌, ◌||◌, IfOk};
 ghost use Rattle.c_types.specs.Table.{shape_at};
 ghost use Rattle.c_tree.specs.TypedParts.{type_of};
 ghost use Rattle.c_tree.specs.TypedTree as typed;
@@ -18,7 +18,7 @@ ghost use Rattle.c_check_expr.specs.Tests.{first_broken, AsPlace, AsValue};
 use crate::assigning::are_one_struct;
 use crate::constant::is_null_constant;
 use crate::construct::{held_with_three, held_with_two, holding, no_room, refused};
-use crate::meeting::{meet, meeting};
+use crate::meeting::{how_they_meet, meet};
 use crate::operand::{Operand, Part, PartRef, Value};
 use crate::scope::Scope;
 use crate::shapes::{are_integers, is_scalar, is_void, shape_at};
@@ -32,6 +32,18 @@ use cc_base::{Fault, NoMemory, Place, Rule, TypeId};
 /// `void`.
 const VOID: TypeId = TypeId(0);
 
+/// Whether a `?:` accepts these sides.
+fn are_alike(types: &Types, x: PartRef, y: PartRef) -> bool
+    ensures { result ≡ (tests.are_integers (tests.shape_of types.now (part_ref_view x.entry)) (tests.shape_of types.now (part_ref_view y.entry)) || ((is_void_shape (tests.shape_of types.now (part_ref_view x.entry)) && is_void_shape (tests.shape_of types.now (part_ref_view y.entry))) || (tests.are_one_struct types.now (part_ref_view x.entry) (part_ref_view y.entry) || tests.meet types.now (part_ref_view x.entry) (part_ref_view y.entry)))) }
+{
+    let left = shape_of(types, x);
+    let right = shape_of(types, y);
+    are_integers(left.get(), right.get())
+        || (is_void(left.get()) && is_void(right.get()))
+        || are_one_struct(types, x, y)
+        || meet(types, x, y)
+}
+
 /// The rules of `?:`.
 fn choice_fault(
     types: &Types,
@@ -42,13 +54,10 @@ fn choice_fault(
 ) -> Option<Fault>
     ensures { result ≡ first_broken (tests.choice_tests types.now at (AsValue (typed_expr_view c.now)) (part_ref_view x.entry) (part_ref_view y.entry)) }
 {
-    let left = shape_of(types, x);
-    let right = shape_of(types, y);
-    let fits = are_integers(left.get(), right.get())
-        || (is_void(left.get()) && is_void(right.get()))
-        || are_one_struct(types, x, y)
-        || meet(types, x, y);
-    if is_scalar(shape_at(types, c.ty())) && fits {
+    if !is_scalar(shape_at(types, c.ty())) {
+        return Some(refused(at, Rule::Mismatch));
+    }
+    if are_alike(types, x, y) {
         None
     } else {
         Some(refused(at, Rule::Mismatch))
@@ -139,7 +148,7 @@ fn choice_of_pointers(scope: &mut Scope, types: &mut Types, x: Chosen) -> Result
     if is_void(shape_at(types, x.a.ty())) && is_void(shape_at(types, x.b.ty())) {
         return Ok(conditional(scope, x.condition, x.at, x.a, x.b, VOID)?);
     }
-    let to = meeting(types, &x.a, &x.b).pointee();
+    let to = how_they_meet(types, &x.a, &x.b).pointee();
     pointer_choice(scope, types, x, to)
 }
 

@@ -16,9 +16,9 @@ use crate::kind::Kind;
 use crate::shapes::{is_void, shape_at};
 use crate::unary::{integer_at, pointee_at};
 use crate::value::{
-    both_bits, can_divide, complement, converted, difference, either_bits, equal, least, less,
-    less_or_equal, negated, other_bits, product, quotient, remainder, shifted_left, shifted_right,
-    sum, truth,
+    both_bits, can_divide, complement, converted, difference, either_bits, equal, less,
+    less_or_equal, negated, other_bits, product, quotient, remainder, same, shifted_left,
+    shifted_right, sum, truth,
 };
 use c_tree::{Binary, Conversion, TypedExpr, Unary};
 use c_types::Types;
@@ -43,7 +43,7 @@ fn computed(operator: Binary, kind: Kind, x: i128, y: i128) -> i128
         Binary::LessEqual => less_or_equal(x, y),
         Binary::GreaterEqual => less_or_equal(y, x),
         Binary::Equal => equal(x, y),
-        Binary::NotEqual => truth(x != y),
+        Binary::NotEqual => truth(!same(x, y)),
         Binary::BitAnd | Binary::LogicalAnd => both_bits(kind, x, y),
         Binary::BitXor => other_bits(kind, x, y),
         Binary::BitOr | Binary::LogicalOr => either_bits(kind, x, y),
@@ -55,7 +55,11 @@ pub(crate) fn cannot_divide(operator: Binary, kind: Kind, x: i128, y: i128) -> b
     requires { IsIntegerSize kind.bytes }
     ensures { result ≡ constants.cannot_divide (operator_of operator) (kind_view kind) x y }
 {
-    matches!(operator, Binary::Divide | Binary::Remainder) && !can_divide(kind, x, y)
+    match operator {
+        Binary::Divide => !can_divide(kind, x, y),
+        Binary::Remainder => !can_divide(kind, x, y),
+        _ => false,
+    }
 }
 
 /// The value of an operator on two values, where there is one.
@@ -69,6 +73,13 @@ fn checked(operator: Binary, kind: Kind, x: i128, y: i128) -> Option<i128>
     Some(computed(operator, kind, x, y))
 }
 
+/// Whether a value counts as true.
+fn is_true(z: i128) -> bool
+    ensures { result ≡ constants.is_true z }
+{
+    !same(z, 0)
+}
+
 /// The value of `+`, `-`, `~` and `!` on a value of a promoted type.
 fn alone(operator: Unary, kind: Kind, x: i128) -> i128
     requires { IsIntegerSize kind.bytes }
@@ -77,7 +88,7 @@ fn alone(operator: Unary, kind: Kind, x: i128) -> i128
     match operator {
         Unary::Minus => negated(kind, x),
         Unary::Complement => complement(kind, x),
-        Unary::Not => truth(x == 0),
+        Unary::Not => truth(!is_true(x)),
         _ => x,
     }
 }
@@ -87,8 +98,20 @@ fn logical(operator: Binary, x: i128, y: i128) -> i128
     ensures { result ≡ constants.logical operator x y }
 {
     match operator {
-        Binary::LogicalAnd => truth(x != 0 && y != 0),
-        _ => truth(x != 0 || y != 0),
+        Binary::LogicalAnd => {
+            if is_true(x) {
+                truth(is_true(y))
+            } else {
+                0
+            }
+        }
+        _ => {
+            if is_true(x) {
+                1
+            } else {
+                truth(is_true(y))
+            }
+        }
     }
 }
 
@@ -129,7 +152,11 @@ fn chosen_value(condition: Option<i128>, x: Option<i128>, y: Option<i128>) -> Op
     let condition = condition?;
     let x = x?;
     let y = y?;
-    if condition != 0 { Some(x) } else { Some(y) }
+    if is_true(condition) {
+        Some(x)
+    } else {
+        Some(y)
+    }
 }
 
 /// The value of an integer constant expression.
@@ -176,7 +203,10 @@ pub fn constant_value(types: &Types, e: &TypedExpr) -> Option<i128>
 fn is_zero_constant(types: &Types, e: &TypedExpr) -> bool
     ensures { result ≡ constants.is_zero_constant types.now (typed_expr_view e.now) }
 {
-    constant_value(types, e) == Some(0)
+    match constant_value(types, e) {
+        Some(z) => same(z, 0),
+        None => false,
+    }
 }
 
 fn is_void_pointer(types: &Types, t: TypeId) -> bool

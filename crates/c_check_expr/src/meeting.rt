@@ -101,7 +101,7 @@ fn meeting_of(
     }
 }
 
-pub(crate) fn meeting(types: &Types, a: &TypedExpr, b: &TypedExpr) -> Meeting
+pub(crate) fn how_they_meet(types: &Types, a: &TypedExpr, b: &TypedExpr) -> Meeting
     ensures { meeting_view result ≡ rules.meeting types.now (typed_expr_view a.now) (typed_expr_view b.now) }
 {
     let left_null = is_null_constant(types, a);

@@ -62,6 +62,7 @@ fn is_same_shape(types: &Types, depth: u32, a: Option<&TypeShape>, b: Option<&Ty
 
 /// Whether two types are the same, by so many steps through the types that they are built of.
 #[cycle(same)]
+#[tactic(auto, using(crate::proofs::SameLaws::same_within))]
 fn is_same_within(types: &Types, depth: u32, t: TypeId, u: TypeId) -> bool
     ensures { result ≡ descend (same_step types.now) (λ v. false) depth t u }
 {

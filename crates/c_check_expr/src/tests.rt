@@ -1,6 +1,7 @@
 #![tactic(auto)]
 
 use super::*;
+use crate::kind::Kind;
 use cc_base::{NodeId, TypeId};
 use indexmap::IndexSet;
 use std::process::Abort;
@@ -56,5 +57,46 @@ fn globals_are_counted_with_16_bytes_each_up_to_the_limit(rt: HostRuntime) -> Re
     assert!(rt; scope.add_global(16));
     assert!(rt; !scope.add_global(0));
     assert!(rt; !scope.add_global(18_446_744_073_709_551_615));
+    Ok(())
+}
+
+const INT_KIND: Kind = Kind {
+    bytes: 4,
+    signed: true,
+};
+
+const UNSIGNED_KIND: Kind = Kind {
+    bytes: 4,
+    signed: false,
+};
+
+const UNSIGNED_LONG_KIND: Kind = Kind {
+    bytes: 8,
+    signed: false,
+};
+
+/// The values are gcc's.
+#[test]
+fn operators_have_the_values_of_c(rt: HostRuntime) -> Result<(), Fail> {
+    assert_eq!(rt; value::quotient(INT_KIND, -7, 2), -3);
+    assert_eq!(rt; value::remainder(INT_KIND, -7, 2), -1);
+    assert_eq!(rt; value::shifted_right(INT_KIND, -1, 1), -1);
+    assert_eq!(rt; value::shifted_right(UNSIGNED_KIND, 4_294_967_295, 1), 2_147_483_647);
+    assert_eq!(rt; value::shifted_left(INT_KIND, 1, 31), -2_147_483_648);
+    assert_eq!(rt; value::sum(INT_KIND, 2_147_483_647, 1), -2_147_483_648);
+    assert_eq!(rt; value::difference(UNSIGNED_KIND, 0, 1), 4_294_967_295);
+    assert_eq!(rt; value::complement(INT_KIND, 0), -1);
+    assert_eq!(rt; value::product(INT_KIND, 65_536, 65_536), 0);
+    Ok(())
+}
+
+/// The product of the greatest values of 64 bits wraps to 1, as gcc has it.
+#[test]
+fn products_of_64_bits_wrap(rt: HostRuntime) -> Result<(), Fail> {
+    let most = 18_446_744_073_709_551_615;
+    assert_eq!(rt; value::product(UNSIGNED_LONG_KIND, most, most), 1);
+    assert!(rt; !value::can_divide(INT_KIND, -2_147_483_648, -1));
+    assert!(rt; value::can_divide(UNSIGNED_KIND, 2_147_483_648, 4_294_967_295));
+    assert!(rt; !value::can_divide(INT_KIND, 1, 0));
     Ok(())
 }

@@ -14,10 +14,10 @@ abbrev pub decreases-is_same_within : goal.decreases-is_same_within
 decreases-is_same_within l = 3 * l.depth
 
 -- the rest of the lists decides
-abbrev pub invariant-pairs : goal.invariant-pairs
-invariant-pairs l =
+abbrev pub invariant-are_same-pairs : goal.invariant-are_same-pairs
+invariant-are_same-pairs l =
     pointwise (descend (same_step l.types) (λ v. false) l.depth) l.fn.ts l.fn.us
     ≡ pointwise (descend (same_step l.types) (λ v. false) l.depth) l.ts l.us
 
-abbrev pub decreases-pairs : goal.decreases-pairs
-decreases-pairs l = length l.ts
+abbrev pub decreases-are_same-pairs : goal.decreases-are_same-pairs
+decreases-are_same-pairs l = length l.ts

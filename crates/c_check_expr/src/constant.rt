@@ -1,7 +1,7 @@
 //! Integer constant expressions (C99 6.6) and their values, and null pointer constants (C99 6.3.2.3).
 #![tactic(auto)]
 
-ghost use Rattle.std.specs.Prelude.{◌≡◌, pos, Some, None, if◌then◌else◌};
+ghost use Rattle.std.specs.Prelude.{◌≡◌, pos, true, false, Some, None, if◌then◌else◌};
 ghost use Rattle.std.specs.Ordering.{int_eq};
 ghost use Rattle.c_types.specs.Sound.{IsIntegerSize};
 ghost use Rattle.c_tree.specs.TypedParts.{type_of};

@@ -34,4 +34,6 @@ pub mod HeldTrees
 pub mod SidesAlike
 pub mod SidesTaken
 pub mod SameLaws
+pub mod KindLaws
+pub mod SizeLaws
 pub mod ValueLaws

@@ -63,10 +63,14 @@ part_type (AsPlace p) = place_type p
 part_type (AsValue e) = type_of e
 part_type (AsAllocation e) = void_type
 
+-- of what was given to the left side
+unfoldable pub assign_given : Operand → Place → Operand → Judging Operand
+assign_given x at y = construct (λ s. tests.assign_tests s.table s.seen.scopes assignment.Assign at x.part y.part) x.place (x.held ∷ y.held ∷ []) (assign_part at x.part y.part)
+
 unfoldable pub assign : Operand → Place → Operand → Judging Operand
 assign x at y = do
   v ← given (part_type x.part) y.place y.part
-  construct (λ s. tests.assign_tests s.table s.seen.scopes assignment.Assign at x.part v) x.place (x.held ∷ y.held ∷ []) (assign_part at x.part v)
+  assign_given x at (record y { part = v })
 
 -- of two integers, or of a pointer that an integer moves
 abbrev pub updated : Assignment → Place → TypedPlace → TypedExpr → Option IntegerType → Option IntegerType → TypedExpr
@@ -128,22 +132,31 @@ part_expr (AsPlace p) = typed.Unread p
 part_expr (AsValue e) = e
 part_expr (AsAllocation e) = e
 
-abbrev pub cast_which : Table → Elaborated → TypeId → Bool → Conversion
-cast_which T x t true = conversion.ToVoid
-cast_which T (AsAllocation e) t false = conversion.AllocationToPointer
-cast_which T x t false = conversion_or_void (cast_conversion T (part_expr x) t)
-  where
-    conversion_or_void : Option Conversion → Conversion
-    conversion_or_void None = conversion.ToVoid
-    conversion_or_void (Some which) = which
+abbrev pub is_allocation_part : Elaborated → Bool
+is_allocation_part (AsAllocation e) = true
+is_allocation_part x = false
+
+abbrev pub conversion_or_void : Option Conversion → Conversion
+conversion_or_void None = conversion.ToVoid
+conversion_or_void (Some which) = which
+
+-- `allocation` says that the type takes an allocation over, `void` that it is `void`
+abbrev pub cast_by : Table → (allocation : Bool) → TypedExpr → TypeId → (void : Bool) → Conversion
+cast_by T allocation e t true = conversion.ToVoid
+cast_by T true e t false = conversion.AllocationToPointer
+cast_by T false e t false = conversion_or_void (cast_conversion T e t)
 
 abbrev pub cast_part : Table → Place → TypedTypeName → Elaborated → TypedExpr
-cast_part T at to x = typed.Cast (cast_which T x (named_type to) (is_void_shape (shape_at T (named_type to)))) at to (part_expr x)
+cast_part T at to x = typed.Cast (cast_by T (is_allocation_part x) (part_expr x) (named_type to) (is_void_shape (shape_at T (named_type to)))) at to (part_expr x)
+
+-- of what was given to the type
+unfoldable pub cast_given : Place → TypedTypeName → Operand → Judging Operand
+cast_given at to x = construct (λ s. tests.cast_tests s.table at x.part (named_type to)) at (x.held ∷ []) (by_known (λ s. pure (AsValue (cast_part s.table at to x.part))))
 
 unfoldable pub cast : Place → TypedTypeName → Operand → Judging Operand
 cast at to x = do
   v ← given (named_type to) x.place x.part
-  construct (λ s. tests.cast_tests s.table at v (named_type to)) at (x.held ∷ []) (by_known (λ s. pure (AsValue (cast_part s.table at to v))))
+  cast_given at to (record x { part = v })
 
 unfoldable pub size_of_type : Place → Place → TypedTypeName → Judging Operand
 size_of_type at paren name = construct (λ s. type_size_tests s.table s.seen.scopes at (named_type name)) at []

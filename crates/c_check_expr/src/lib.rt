@@ -1,24 +1,37 @@
 //! The typing of expressions, specifiers and declarators (C99 6.5, 6.7), and the scopes of names and tags.
 #![tactic(auto)]
 
+mod address;
 mod aggregates;
+mod assigning;
+mod binary;
+mod casting;
+mod choosing;
+mod constant;
+mod construct;
+mod conversion;
 mod copies;
 mod declared;
 mod kind;
 pub mod laws;
 mod level;
 mod making;
+mod meeting;
 mod member;
 mod naming;
 mod operand;
+mod operators;
 mod places;
 mod same;
 mod scope;
 mod shapes;
 mod specifying;
+mod step;
 mod stops;
 mod typing;
+mod unary;
 mod value;
+mod value_shape;
 mod walker;
 mod words;
 

@@ -10,3 +10,7 @@ pub mod TypedRows
 pub mod KindLaws
 pub mod SizeLaws
 pub mod ValueLaws
+pub mod CallLaws
+pub mod LiteralLaws
+pub mod MemberLaws
+pub mod RuntimeLaws

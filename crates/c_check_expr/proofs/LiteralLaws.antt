@@ -14,3 +14,6 @@ no_quotes (a ∷ (b ∷ rest)) h = absurd (omega arith)
 pub next_piece : (bytes : List ℕ) (piece : StringPiece) (pieces : List StringPiece)
     → bytes ++ pieces_bytes (piece ∷ pieces) ≡ (bytes ++ literal_bytes piece.bytes) ++ pieces_bytes pieces
 next_piece bytes piece pieces = sym (append_assoc bytes (literal_bytes piece.bytes) (pieces_bytes pieces))
+
+pub next_copy : (copy : List StringPiece) (piece : StringPiece) (rest : List StringPiece) → copy ++ (piece ∷ rest) ≡ (copy ++ piece ∷ []) ++ rest
+next_copy copy piece rest = sym (append_assoc copy (piece ∷ []) rest)

@@ -1,6 +1,6 @@
 -- The number of a member and its node, as the code has them.
 use Rattle.c_check_expr.specs.Operations as operations
-use Rattle.c_check_expr.specs.declared.members.Found.{Found}
+use Rattle.c_check_expr.specs.declared.members.FoundMember.{FoundMember}
 
-abbrev pub found_view : Found → operations.Found
+abbrev pub found_view : FoundMember → operations.Found
 found_view f = record { member = f.member; node = f.node }

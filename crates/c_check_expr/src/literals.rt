@@ -44,6 +44,7 @@ fn piece_bytes(alloc: Global, literal: &[u8]) -> Result<Vec<u8>, NoMemory>
 }
 
 /// The bytes of adjacent string literals, which are one literal, without the zero byte after them.
+#[tactic(auto, using(crate::proofs::LiteralLaws::next_piece))]
 pub(crate) fn pieces_bytes(alloc: Global, pieces: &[StringPiece]) -> Result<Vec<u8>, NoMemory>
     ensures { IfOk result (λ bytes. bytes.items ≡ pieces_bytes pieces.now) }
 {
@@ -67,6 +68,7 @@ fn copied_piece(alloc: Global, piece: &StringPiece) -> Result<StringPiece, NoMem
     })
 }
 
+#[tactic(auto, using(crate::proofs::LiteralLaws::next_copy))]
 pub(crate) fn copied_pieces(alloc: Global, pieces: &[StringPiece]) -> Result<Items<StringPiece>, NoMemory>
     ensures { IfOk result (λ copy. copy ≡ pieces.now) }
 {

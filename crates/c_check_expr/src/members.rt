@@ -30,7 +30,7 @@ use cc_base::{Fault, NodeId, Place, Rule, TypeId};
 
 /// The number of a member, and a node for its place.
 #[derive(Clone, Copy)]
-pub(crate) struct Found {
+pub(crate) struct FoundMember {
     pub(crate) member: u32,
     pub(crate) node: NodeId,
 }
@@ -92,7 +92,7 @@ pub(crate) fn numbered(scope: &Scope, types: &Types, at: Place, place: Option<us
 
 /// The number of a member, and a node for its place.
 #[tactic(auto, unfolding(crate::specs::Operations::found, crate::specs::Judging::new_node))]
-fn found(scope: &mut Scope, types: &Types, begin: Place, whole: TypeId, name: &Identifier) -> Result<Found, Fault>
+fn found(scope: &mut Scope, types: &Types, begin: Place, whole: TypeId, name: &Identifier) -> Result<FoundMember, Fault>
     ensures { Answers found_view (operations.found begin (shape_at types.now whole) name.now (known types.now scope.old)) result (known types.now scope.new) }
 {
     let place = named_member(scope, shape_at(types, whole), name.bytes.as_slice());
@@ -100,7 +100,7 @@ fn found(scope: &mut Scope, types: &Types, begin: Place, whole: TypeId, name: &I
     let Some(node) = scope.new_node() else {
         return Err(no_room(begin));
     };
-    Ok(Found { member, node })
+    Ok(FoundMember { member, node })
 }
 
 /// The type of a member by its number.

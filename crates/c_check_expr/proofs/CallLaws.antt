@@ -77,7 +77,8 @@ converted_rest T ts values = converted_arguments T ts (map value_view values)
 abbrev pub runtime_rest : Table → List RuntimeType → List Value → List typed.TypedExpr
 runtime_rest T ts values = runtime_arguments T ts (map value_view values)
 
-pushed : (made : List TypedExpr) (e : TypedExpr) (x : typed.TypedExpr) (rest : List typed.TypedExpr) → typed_expr_view e ≡ x
+-- one more argument
+pub pushed : (made : List TypedExpr) (e : TypedExpr) (x : typed.TypedExpr) (rest : List typed.TypedExpr) → typed_expr_view e ≡ x
     → map typed_expr_view made ++ (x ∷ rest) ≡ map typed_expr_view (made ++ e ∷ []) ++ rest
 pushed made e x rest h = sym (
     ap (λ (l : List typed.TypedExpr). l ++ rest) (map_push typed_expr_view made e)

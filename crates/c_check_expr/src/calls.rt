@@ -55,16 +55,14 @@ fn argument_fault(types: &Types, parameters: &[TypeId], values: &[Value]) -> Opt
     let mut wanted = parameters;
     let mut given = values;
     'arguments: while let Some((t, later)) = wanted.split_first() {
-        match given.split_first() {
-            Some((v, others)) => {
-                if !fits_type(types, &v.expr, *t) {
-                    return Some(refused(v.place, Rule::Mismatch));
-                }
-                given = others;
-            }
-            None => return None,
+        let Some((v, others)) = given.split_first() else {
+            return None;
+        };
+        if !fits_type(types, &v.expr, *t) {
+            return Some(refused(v.place, Rule::Mismatch));
         }
         wanted = later;
+        given = others;
     }
     None
 }
@@ -102,16 +100,14 @@ fn runtime_argument_fault(types: &Types, parameters: &[RuntimeType], values: &[V
     let mut wanted = parameters;
     let mut given = values;
     'arguments: while let Some((t, later)) = wanted.split_first() {
-        match given.split_first() {
-            Some((v, others)) => {
-                if !is_taken_by(types, *t, &v.expr) {
-                    return Some(refused(v.place, Rule::Mismatch));
-                }
-                given = others;
-            }
-            None => return None,
+        let Some((v, others)) = given.split_first() else {
+            return None;
+        };
+        if !is_taken_by(types, *t, &v.expr) {
+            return Some(refused(v.place, Rule::Mismatch));
         }
         wanted = later;
+        given = others;
     }
     None
 }
@@ -128,6 +124,7 @@ fn count_fault(at: Place, wanted: usize, given: usize) -> Option<Fault>
 }
 
 /// The rules of a call of what has this shape.
+#[tactic(auto, using(crate::proofs::CallLaws::broken_first, crate::proofs::CallLaws::broken_then, crate::proofs::CallLaws::arguments_length))]
 fn function_fault(types: &Types, at: Place, shape: Option<&TypeShape>, values: &[Value]) -> Option<Fault>
     ensures { result ≡ first_broken (tests.call_tests_of types.now (shape_or_void (option_copied shape.entry)) at (map argument_of (map value_view values.now))) }
 {
@@ -144,6 +141,7 @@ fn function_fault(types: &Types, at: Place, shape: Option<&TypeShape>, values: &
 }
 
 /// The rules of a call of a runtime function.
+#[tactic(auto, using(crate::proofs::CallLaws::broken_first, crate::proofs::CallLaws::broken_then, crate::proofs::CallLaws::arguments_length))]
 fn runtime_fault(types: &Types, at: Place, function: Runtime, values: &[Value]) -> Option<Fault>
     ensures { result ≡ first_broken (tests.runtime_tests types.now (prototype_of function).parameters at (map argument_of (map value_view values.now))) }
 {
@@ -168,16 +166,17 @@ fn call_fault(types: &Types, at: Place, f: &TypedExpr, values: &[Value]) -> Opti
 }
 
 /// How many values arguments hold while the function and those before them are held.
+#[tactic(auto, using(crate::proofs::CallLaws::next_held))]
 fn arguments_held(values: &[Value]) -> u64
     ensures { result ≡ assignments.arguments_held 1 (map value_view values.now) }
 {
-    let mut most = 0;
+    let mut most: u64 = 0;
     let mut before: u64 = 1;
     for v in values {
-        most = u64::max(most, before + u64::from(v.held));
+        most = most.max(before + u64::from(v.held));
         before += 1;
     }
-    u64::max(most, before + 1)
+    most.max(before + 1)
 }
 
 /// How many values a call holds at once.
@@ -188,6 +187,7 @@ fn call_held(f: u32, values: &[Value]) -> u64
 }
 
 /// Each argument, converted to its parameter's type at its first token.
+#[tactic(auto, using(crate::proofs::CallLaws::pushed))]
 fn converted_arguments(
     scope: &Scope,
     types: &Types,
@@ -222,6 +222,7 @@ fn runtime_argument(scope: &Scope, types: &Types, wanted: RuntimeType, v: Value)
     }
 }
 
+#[tactic(auto, using(crate::proofs::CallLaws::pushed))]
 fn runtime_arguments(
     scope: &Scope,
     types: &Types,

@@ -37,3 +37,7 @@ pub mod SameLaws
 pub mod KindLaws
 pub mod SizeLaws
 pub mod ValueLaws
+pub mod CallLaws
+pub mod LiteralLaws
+pub mod MemberLaws
+pub mod RuntimeLaws

@@ -7,7 +7,7 @@ use Rattle.cc_base.specs.declared.fault.Fault.TheVariants.{TooLarge}
 use Rattle.cc_base.specs.declared.fault.Limit.TheVariants.{Types, Globals, Cells}
 use Rattle.c_types.specs.declared.shape.TypeShape.{TypeShape}
 use Rattle.c_types.specs.declared.shape.TypeShape.TheVariants as shape
-use Rattle.c_types.specs.Table.{Table, shape_at}
+use Rattle.c_types.specs.Table.{Table, shape_at, entry_at, is_complete}
 use Rattle.c_types.specs.Layouts.{size_of}
 use Rattle.c_tree.specs.declared.leaf.Identifier.{Identifier}
 use Rattle.c_tree.specs.declared.leaf.StringPiece.{StringPiece}
@@ -236,9 +236,20 @@ count_global at bytes = λ s. if nat_le (s.seen.globals + (bytes + 16)) 4194304
     then Gives bytes (record s { seen = record s.seen { globals = s.seen.globals + (bytes + 16) } })
     else Stops (TooLarge at Globals) s
 
+-- how many bytes a literal has, the zero byte at its end among them
+abbrev pub literal_size : List StringPiece → ℕ
+literal_size pieces = length (pieces_bytes pieces) + 1
+
+-- the type of a literal of so many bytes; every table has `char`
+abbrev pub is_char_array : Table → ℕ → Bool
+is_char_array T count = nat_lt 1 (length T) && (is_complete (entry_at T (integer_type char)) && nat_lt 0 count)
+
+unfoldable pub string_type : Place → ℕ → Judging TypeId
+string_type at count = λ s. if is_char_array s.table count then type_with at (shape.Array (integer_type char) count) s else Stops (TooLarge at Types) s
+
 unfoldable pub literal : List StringPiece → Judging Operand
 literal pieces = leaf (pieces_place pieces) (do
   n ← new_node (pieces_place pieces)
-  t ← type_with (pieces_place pieces) (shape.Array (integer_type char) (length (pieces_bytes pieces) + 1))
-  bytes ← count_global (pieces_place pieces) (length (pieces_bytes pieces) + 1)
+  t ← string_type (pieces_place pieces) (literal_size pieces)
+  bytes ← count_global (pieces_place pieces) (literal_size pieces)
   pure (AsPlace (typed.String pieces n t)))

@@ -15,6 +15,7 @@ pub mod Operations
 pub mod Assignments
 pub mod OperandViews
 pub mod KindViews
+pub mod MemberViews
 pub mod ShapeViews
 pub mod Extensions
 pub mod Settled

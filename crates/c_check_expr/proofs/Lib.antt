@@ -41,3 +41,5 @@ pub mod CallLaws
 pub mod LiteralLaws
 pub mod MemberLaws
 pub mod RuntimeLaws
+pub mod SeriesLaws
+pub mod PlaceLaws

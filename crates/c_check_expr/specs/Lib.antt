@@ -28,3 +28,5 @@ pub mod WordViews
 pub mod Cells
 pub mod Checking
 pub mod CheckingViews
+pub mod DerivedViews
+pub mod NamedViews

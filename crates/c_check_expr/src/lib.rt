@@ -7,6 +7,7 @@ mod assigning;
 mod binary;
 mod calls;
 mod casting;
+mod checking;
 mod choosing;
 mod constant;
 mod construct;
@@ -49,13 +50,21 @@ mod walk;
 mod walker;
 mod words;
 
+pub use checking::{
+    check_constant, check_declarator, check_expr, check_specifiers, check_value, count_cells,
+};
+pub use constant::constant_value;
 pub use declared::{Declared, Tag};
 pub use laws::{
     a_later_table_keeps_types, a_table_goes_on, an_unbroken_operator_is_well_typed,
     what_fits_is_converted,
 };
 pub use naming::Naming;
+pub use same::is_same_type;
 pub use scope::Scope;
+pub use shapes::{
+    is_aggregate, is_complete_at, is_function, is_integer, is_scalar, is_void, shape_at,
+};
 
 #[cfg(test)]
 mod tests;

@@ -42,7 +42,7 @@ pub(crate) enum Named {
 
 /// What a list names with a specifier more.
 #[tactic(auto, using(c_tree::proofs::TypedViewLaws::typed_views))]
-fn named_with(specifier: &TypedSpecifier, before: Named) -> Named
+pub(crate) fn named_with(specifier: &TypedSpecifier, before: Named) -> Named
     ensures { named_view result ≡ named_by_specifier (typed_specifier_view specifier.now) (named_view before) }
 {
     match specifier {
@@ -56,7 +56,7 @@ fn named_with(specifier: &TypedSpecifier, before: Named) -> Named
 }
 
 /// The type that specifiers name together.
-fn listed_type(named: Named, words: &Words) -> TypeId
+pub(crate) fn listed_type(named: Named, words: &Words) -> TypeId
     ensures { result ≡ specifying.listed_type (named_view named) words.now }
 {
     match named {

@@ -1,5 +1,5 @@
 -- Values of integer types.
-use Rattle.std.proofs.Common.{zero, suc, not, ◌&&◌, ◌≢◌, ◌-ℤ◌, ◌/◌, ◌≤◌, neg_ℤ, int_div, int_rem, FitsSigned, true≢false, ℕ, ℤ, pos, negsuc, ◌+◌, ◌-◌, ◌*◌, ◌%◌, ◌^◌, ◌<◌, ◌≡◌, ◌⊎◌, ◌+ℤ◌, Bool, true, false, refl, ap, subst, sym, ◌∙◌, arith, inl, inr, if◌then◌else◌, nat_lt}
+use Rattle.std.proofs.Common.{zero, suc, None, Some, not, ◌&&◌, ◌≢◌, ◌-ℤ◌, ◌/◌, ◌≤◌, neg_ℤ, int_div, int_rem, FitsSigned, true≢false, ℕ, ℤ, pos, negsuc, ◌+◌, ◌-◌, ◌*◌, ◌%◌, ◌^◌, ◌<◌, ◌≡◌, ◌⊎◌, ◌+ℤ◌, Bool, true, false, refl, ap, subst, sym, ◌∙◌, arith, inl, inr, if◌then◌else◌, nat_lt}
 use mir.Syntax.{w128}
 use mir.Val.{SFits}
 use lib.Signed.{mag}
@@ -117,3 +117,12 @@ nonzero_by false z r h e = absurd (true≢false (sym e))
 -- where a division has a result, its divisor is not 0
 pub divisor_is_some : (operator : Operator) (k : IntegerType) (x y : ℤ) → cannot_divide operator k x y ≡ false → divides operator ≡ true → int_eq y (pos 0) ≡ false
 divisor_is_some operator k x y = nonzero_by (divides operator) (int_eq y (pos 0)) (not (k.signed && (int_eq x (least k) && int_eq y (negsuc 0))))
+
+-- the value of an operator, where it has one
+pub checked_none : (b p : Bool) (z : ℤ) → p ≡ b → p ≡ true → None ≡ (if b then None else Some z)
+checked_none true p z e h = refl
+checked_none false p z e h = absurd (true≢false (sym h ∙ e))
+
+pub checked_some : (b p : Bool) (z w : ℤ) → p ≡ b → p ≡ false → w ≡ z → Some w ≡ (if b then None else Some z)
+checked_some false p z w e h f = ap Some f
+checked_some true p z w e h f = absurd (true≢false (sym e ∙ h))

@@ -1,10 +1,10 @@
 //! Parameters (C99 6.7.5.3).
 #![tactic(auto)]
 
-ghost use Rattle.std.specs.Prelude.{◌≡◌, ◌≢◌, Some, None, IfOk, IfErr, map, option_map, option_copied};
+ghost use Rattle.std.specs.Prelude.{◌≡◌, ◌≢◌, Some, None, IfSome, IfOk, IfErr, map, option_map, option_copied};
 ghost use Rattle.cc_base.specs.declared.fault.Fault.TheVariants.{NoMemory as no_memory};
 ghost use Rattle.c_types.specs.Table.{Table, shape_at};
-ghost use Rattle.c_tree.specs.Tree.{Parameters, NoParameter, AndParameter, NotDeclared};
+ghost use Rattle.c_tree.specs.Tree.{Parameters, NoParameter, AndParameter, NotDeclared, Specifiers as PlainSpecifiers, AndSpecifier};
 ghost use Rattle.c_tree.specs.TypedTree.{TypedParameters, NoParameter as no_typed_parameter};
 ghost use Rattle.c_tree.specs.Views.{added, declarator_view, declared_of, parameter_view, specifier_view, specifiers_of, specifiers_view};
 ghost use Rattle.c_tree.specs.TypedViews.{typed_core_view, typed_form_view, typed_declared_of, typed_parameter_view, typed_specifiers_view};
@@ -164,14 +164,27 @@ fn parameter_declared(
     }
 }
 
+/// The place of a specifier that is a typedef's name.
+#[tactic(auto, using(c_tree::proofs::ViewLaws::expr_views))]
+fn name_of_typedef(specifier: &Specifier) -> Option<Place>
+    ensures some { IfSome result (λ at. (all : PlainSpecifiers) → declaring.typedef_place (AndSpecifier all (specifier_view specifier.now)) ≡ at) }
+    ensures none { result ≡ None → (all : PlainSpecifiers) → declaring.typedef_place (AndSpecifier all (specifier_view specifier.now)) ≡ declaring.typedef_place all }
+{
+    match specifier {
+        Specifier::Typedef(name) => Some(name.place),
+        _ => None,
+    }
+}
+
 /// The place of the typedef's name in a list of specifiers.
+#[tactic(auto, using(c_tree::proofs::ViewLaws::expr_views, c_tree::proofs::PushLaws::pushes))]
 fn typedef_place(specifiers: &Specifiers) -> Place
     ensures { result ≡ declaring.typedef_place (specifiers_view specifiers.now) }
 {
     let mut rest = specifiers.list.as_slice();
     'backwards: while let Some((last, before)) = rest.split_last() {
-        if let Specifier::Typedef(name) = last {
-            return name.place;
+        if let Some(place) = name_of_typedef(last) {
+            return place;
         }
         rest = before;
     }

@@ -13,10 +13,11 @@ ghost use Rattle.c_check_expr.specs.Rules as rules;
 ghost use Rattle.c_check_expr.specs.Tests as tests;
 ghost use Rattle.c_check_expr.specs.Tests.{first_broken, AsPlace};
 
-use crate::construct::{held_with_one, holding, no_room, refused};
+use crate::construct::{held_with_one, holding};
 use crate::operand::{Operand, Part};
 use crate::scope::Scope;
 use crate::shapes::{is_complete_at, is_scalar, points_to_incomplete, shape_at};
+use crate::stops::{no_room, refusal};
 use crate::typing::{new_pointer, value_of};
 use c_tree::{Boxed, Side, Step, TypedExpr, TypedPlace};
 use c_types::{TypeShape, Types};
@@ -96,7 +97,7 @@ fn address_fault(at: Place, x: &Part) -> Option<Fault>
     if can_be_written(x) || is_function_part(x) {
         None
     } else {
-        Some(refused(at, Rule::NotPlace))
+        Some(refusal(at, Rule::NotPlace))
     }
 }
 
@@ -179,7 +180,7 @@ fn size_fault(scope: &Scope, types: &Types, at: Place, x: &Part) -> Option<Fault
     if is_complete_part(scope, types, x) {
         None
     } else {
-        Some(refused(at, Rule::Incomplete))
+        Some(refusal(at, Rule::Incomplete))
     }
 }
 

@@ -15,7 +15,7 @@ ghost use Rattle.c_check_expr.specs.Tests as tests;
 ghost use Rattle.c_check_expr.specs.Tests.{first_broken, AsValue};
 
 use crate::address::can_be_written;
-use crate::construct::{held_with_two, holding, no_room, refused};
+use crate::construct::{held_with_two, holding};
 use crate::conversion::{converted_to, fits, given};
 use crate::kind::{assigning, left_kind, right_kind};
 use crate::operand::{Operand, Part, PartRef, Value};
@@ -26,6 +26,7 @@ use crate::shapes::{
     are_integers, is_aggregate, is_integer, is_pointer, points_to_incomplete, shape_at,
 };
 use crate::step::is_array_part;
+use crate::stops::{no_room, refusal};
 use crate::unary::{integer_at, to_integer};
 use crate::value_shape::shape_of;
 use c_tree::{Assignment, Boxed, TypedExpr, TypedPlace};
@@ -74,10 +75,10 @@ fn assign_fault(
     ensures { result ≡ first_broken (tests.assign_tests types.now scope.now.scopes assignment.Assign at (part_view x.now) (part_view y.now)) }
 {
     if !is_assignable(types, x.as_ref(), y.as_ref()) {
-        return Some(refused(at, Rule::Mismatch));
+        return Some(refusal(at, Rule::Mismatch));
     }
     if !can_be_written(x) || is_array_part(types, x) {
-        return Some(refused(at, Rule::NotPlace));
+        return Some(refusal(at, Rule::NotPlace));
     }
     None
 }
@@ -95,14 +96,14 @@ fn update_fault(
     ensures { result ≡ first_broken (tests.assign_tests types.now scope.now.scopes operator at (part_view x.now) (AsValue (typed_expr_view e.now))) }
 {
     if !is_updatable(types, operator, x.as_ref(), PartRef::Value(e)) {
-        return Some(refused(at, Rule::Mismatch));
+        return Some(refusal(at, Rule::Mismatch));
     }
     let value = shape_of(types, x.as_ref());
     if points_to_incomplete(scope, types, value.get()) {
-        return Some(refused(at, Rule::Incomplete));
+        return Some(refusal(at, Rule::Incomplete));
     }
     if !can_be_written(x) || is_array_part(types, x) {
-        return Some(refused(at, Rule::NotPlace));
+        return Some(refusal(at, Rule::NotPlace));
     }
     None
 }

@@ -16,13 +16,14 @@ ghost use Rattle.c_check_expr.specs.ShapeViews.{meeting_view};
 ghost use Rattle.c_check_expr.specs.Tests as tests;
 ghost use Rattle.c_check_expr.specs.Tests.{first_broken, AsValue};
 
-use crate::construct::{held_with_two, holding, refused};
+use crate::construct::{held_with_two, holding};
 use crate::kind::{Kind, is_logical, is_order, left_kind, result_kind, right_kind};
 use crate::meeting::{Meeting, how_they_meet};
 use crate::operand::{Operand, Part, Value};
 use crate::operators::infix_fault;
 use crate::scope::Scope;
 use crate::shapes::{is_index_pair, is_pointer, points_to_incomplete, shape_at};
+use crate::stops::refusal;
 use crate::unary::{INT, integer_at, pointee_at, to_integer};
 use c_tree::{Binary, Boxed, Conversion, Side, TypedExpr, TypedPlace};
 use c_types::Types;
@@ -44,10 +45,10 @@ fn index_fault(
     let left = shape_at(types, a.ty());
     let right = shape_at(types, b.ty());
     if !is_index_pair(left, right) {
-        return Some(refused(at, Rule::Mismatch));
+        return Some(refusal(at, Rule::Mismatch));
     }
     if points_to_incomplete(scope, types, left) || points_to_incomplete(scope, types, right) {
-        return Some(refused(at, Rule::Incomplete));
+        return Some(refusal(at, Rule::Incomplete));
     }
     None
 }

@@ -18,11 +18,12 @@ ghost use Rattle.c_check_expr.specs.Tests as tests;
 ghost use Rattle.c_check_expr.specs.Tests.{first_broken, broken_at, AsValue};
 
 use crate::address::SIZE;
-use crate::construct::{holding, refused};
+use crate::construct::holding;
 use crate::conversion::{converted_to, fits, is_null_part};
 use crate::operand::{Operand, Part, PartRef, Value};
 use crate::scope::Scope;
 use crate::shapes::{point_to_data, pointed_shape, shape_at};
+use crate::stops::refusal;
 use crate::unary::INT;
 use c_tree::{Boxed, Items, Runtime, TypedExpr};
 use c_types::{TypeShape, Types};
@@ -59,7 +60,7 @@ fn argument_fault(types: &Types, parameters: &[TypeId], values: &[Value]) -> Opt
             return None;
         };
         if !fits_type(types, &v.expr, *t) {
-            return Some(refused(v.place, Rule::Mismatch));
+            return Some(refusal(v.place, Rule::Mismatch));
         }
         wanted = later;
         given = others;
@@ -104,7 +105,7 @@ fn runtime_argument_fault(types: &Types, parameters: &[RuntimeType], values: &[V
             return None;
         };
         if !is_taken_by(types, *t, &v.expr) {
-            return Some(refused(v.place, Rule::Mismatch));
+            return Some(refusal(v.place, Rule::Mismatch));
         }
         wanted = later;
         given = others;
@@ -119,7 +120,7 @@ fn count_fault(at: Place, wanted: usize, given: usize) -> Option<Fault>
     if wanted == given {
         None
     } else {
-        Some(refused(at, Rule::BadCall))
+        Some(refusal(at, Rule::BadCall))
     }
 }
 
@@ -136,7 +137,7 @@ fn function_fault(types: &Types, at: Place, shape: Option<&TypeShape>, values: &
                 None => count_fault(at, parameters.len(), values.len()),
             }
         }
-        _ => Some(refused(at, Rule::BadCall)),
+        _ => Some(refusal(at, Rule::BadCall)),
     }
 }
 

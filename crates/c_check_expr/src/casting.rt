@@ -15,11 +15,12 @@ ghost use Rattle.c_check_expr.specs.Tests as tests;
 ghost use Rattle.c_check_expr.specs.Tests.{first_broken};
 
 use crate::address::{SIZE, size_at};
-use crate::construct::{held_with_one, holding, refused};
+use crate::construct::{held_with_one, holding};
 use crate::conversion::{cast_conversion, given, is_castable};
 use crate::operand::{Operand, Part, PartRef};
 use crate::scope::Scope;
 use crate::shapes::{is_complete_at, is_void, shape_at};
+use crate::stops::refusal;
 use c_tree::{Boxed, Conversion, TypedExpr, TypedTypeName};
 use c_types::Types;
 use cc_base::{Fault, NoMemory, Place, Rule, TypeId};
@@ -31,7 +32,7 @@ fn cast_fault(types: &Types, at: Place, x: PartRef, t: TypeId) -> Option<Fault>
     if is_castable(types, x, shape_at(types, t)) {
         None
     } else {
-        Some(refused(at, Rule::Mismatch))
+        Some(refusal(at, Rule::Mismatch))
     }
 }
 
@@ -140,7 +141,7 @@ pub(crate) fn size_of_type(
 {
     let t = name.ty;
     if !is_complete_at(scope, types, t) {
-        return Err(refused(at, Rule::Incomplete));
+        return Err(refusal(at, Rule::Incomplete));
     }
     let size = size_at(types, t);
     let name = Boxed::new(scope.alloc(), name)?;

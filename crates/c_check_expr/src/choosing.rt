@@ -17,11 +17,12 @@ ghost use Rattle.c_check_expr.specs.Tests.{first_broken, AsPlace, AsValue};
 
 use crate::assigning::are_one_struct;
 use crate::constant::is_null_constant;
-use crate::construct::{held_with_three, held_with_two, holding, no_room, refused};
+use crate::construct::{held_with_three, held_with_two, holding};
 use crate::meeting::{how_they_meet, meet};
 use crate::operand::{Operand, Part, PartRef, Value};
 use crate::scope::Scope;
 use crate::shapes::{are_integers, is_scalar, is_void, shape_at};
+use crate::stops::{no_room, refusal};
 use crate::typing::{new_pointer, side_of};
 use crate::unary::{integer_at, to_integer};
 use crate::value_shape::shape_of;
@@ -55,12 +56,12 @@ fn choice_fault(
     ensures { result ≡ first_broken (tests.choice_tests types.now at (AsValue (typed_expr_view c.now)) (part_ref_view x.entry) (part_ref_view y.entry)) }
 {
     if !is_scalar(shape_at(types, c.ty())) {
-        return Some(refused(at, Rule::Mismatch));
+        return Some(refusal(at, Rule::Mismatch));
     }
     if are_alike(types, x, y) {
         None
     } else {
-        Some(refused(at, Rule::Mismatch))
+        Some(refusal(at, Rule::Mismatch))
     }
 }
 

@@ -2,11 +2,11 @@
 #![tactic(auto)]
 
 ghost use Rattle.std.specs.Prelude.{◌≡◌, ◌<◌, ◌≤◌, [], ◌∷◌, IfOk, IfErr};
-ghost use Rattle.cc_base.specs.declared.fault.Fault.TheVariants.{TooLarge, Refused};
-ghost use Rattle.cc_base.specs.declared.fault.Limit.TheVariants.{Held, Types as limit_types};
+ghost use Rattle.cc_base.specs.declared.fault.Fault.TheVariants.{TooLarge};
+ghost use Rattle.cc_base.specs.declared.fault.Limit.TheVariants.{Held};
 ghost use Rattle.c_check_expr.specs.Held.{held_with};
 
-use cc_base::{Fault, Limit, Place, Rule};
+use cc_base::{Fault, Limit, Place};
 
 /// The most values that an expression may hold at once.
 const MOST_HELD: u64 = 256;
@@ -44,20 +44,4 @@ pub(crate) fn held_with_three(a: u32, b: u32, c: u32) -> u64
     ensures { result ≡ held_with 0 (a ∷ b ∷ c ∷ []) }
 {
     u64::from(a).max((u64::from(b) + 1).max((u64::from(c) + 2).max(4)))
-}
-
-pub(crate) fn refused(place: Place, rule: Rule) -> Fault
-    ensures { result ≡ Refused place rule }
-{
-    Fault::Refused { place, rule }
-}
-
-/// What no unit leads to stops as if the table were full.
-pub(crate) fn no_room(at: Place) -> Fault
-    ensures { result ≡ TooLarge at limit_types }
-{
-    Fault::TooLarge {
-        place: at,
-        limit: Limit::Types,
-    }
 }

@@ -9,9 +9,9 @@ ghost use Rattle.c_check_expr.specs.Judging.{Answers, known};
 ghost use Rattle.c_check_expr.specs.OperandViews.{operand_view};
 ghost use Rattle.c_check_expr.specs.Rules.{pieces_bytes};
 
-use crate::construct::no_room;
 use crate::operand::{Operand, Part};
 use crate::scope::Scope;
+use crate::stops::no_room;
 use crate::typing::type_with;
 use c_lexer::literal_bytes;
 use c_tree::{Items, StringPiece, TypedPlace};

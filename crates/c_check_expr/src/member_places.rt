@@ -17,11 +17,12 @@ ghost use Rattle.c_check_expr.specs.Tests as tests;
 ghost use Rattle.c_check_expr.specs.Tests.{first_broken};
 ghost use Rattle.c_types.specs.Table.{shape_at};
 
-use crate::construct::{held_with_one, holding, no_room, refused};
+use crate::construct::{held_with_one, holding};
 use crate::copies::copied_name;
 use crate::operand::{Operand, Part, PartRef, Value};
 use crate::scope::Scope;
 use crate::shapes::{is_aggregate, pointed_shape, shape_at};
+use crate::stops::{no_room, refusal};
 use crate::unary::pointee_at;
 use crate::value_shape::shape_of;
 use c_tree::{Boxed, Identifier, TypedExpr, TypedPlace};
@@ -65,10 +66,10 @@ fn member_fault(scope: &Scope, shape: Option<&TypeShape>, at: Place, name: &Iden
 {
     let aggregate = is_aggregate(shape);
     if aggregate && !names_member(scope, shape, name.bytes.as_slice()) {
-        return Some(refused(name.place, Rule::UnknownName));
+        return Some(refusal(name.place, Rule::UnknownName));
     }
     if !aggregate {
-        return Some(refused(at, Rule::Mismatch));
+        return Some(refusal(at, Rule::Mismatch));
     }
     None
 }

@@ -10,12 +10,13 @@ ghost use Rattle.c_check_expr.specs.Scopes.{name_in, place_among};
 ghost use Rattle.c_check_expr.specs.Tests as tests;
 ghost use Rattle.c_check_expr.specs.Tests.{first_broken};
 
-use crate::construct::{holding, no_room, refused};
+use crate::construct::holding;
 use crate::copies::copied_name;
 use crate::declared::Declared;
 use crate::member_places::numbered;
 use crate::operand::{Operand, Part};
 use crate::scope::Scope;
+use crate::stops::{no_room, refusal};
 use crate::typing::new_pointer;
 use crate::unary::INT;
 use c_tree::{Identifier, Runtime, TypedExpr, TypedPlace};
@@ -85,10 +86,10 @@ fn name_fault(scope: &Scope, runtime: bool, called: bool, word: &Identifier) -> 
 {
     let name = word.bytes.as_slice();
     if is_unknown(scope, runtime, name) {
-        return Some(refused(word.place, Rule::UnknownName));
+        return Some(refusal(word.place, Rule::UnknownName));
     }
     if is_bad_call(scope, runtime, called, name) {
-        return Some(refused(word.place, Rule::BadCall));
+        return Some(refusal(word.place, Rule::BadCall));
     }
     None
 }

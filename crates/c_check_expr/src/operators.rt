@@ -11,7 +11,6 @@ ghost use Rattle.c_check_expr.specs.Tests as tests;
 ghost use Rattle.c_check_expr.specs.Tests.{first_broken, AsValue};
 
 use crate::constant::{cannot_divide, constant_value};
-use crate::construct::refused;
 use crate::kind::{Kind, is_equality, is_logical, is_order, left_kind, right_kind};
 use crate::meeting::meet;
 use crate::operand::PartRef;
@@ -21,6 +20,7 @@ use crate::shapes::{
     are_integers, is_index_pair, is_integer, is_pointer, is_scalar, point_to_data,
     points_to_incomplete, shape_at,
 };
+use crate::stops::refusal;
 use crate::unary::integer_at;
 use crate::value::converted;
 use crate::value_shape::shape_of;
@@ -151,13 +151,13 @@ pub(crate) fn infix_fault(
     let left = shape_at(types, a.ty());
     let right = shape_at(types, b.ty());
     if moves_incomplete(scope, types, operator, left, right) {
-        return Some(refused(at, Rule::Incomplete));
+        return Some(refusal(at, Rule::Incomplete));
     }
     if !accepts(types, operator, PartRef::Value(a), PartRef::Value(b)) {
-        return Some(refused(at, Rule::Mismatch));
+        return Some(refusal(at, Rule::Mismatch));
     }
     if divides_part(types, operator, a, b) {
-        return Some(refused(begin, Rule::NotConstant));
+        return Some(refusal(begin, Rule::NotConstant));
     }
     None
 }

@@ -10,10 +10,11 @@ ghost use Rattle.c_check_expr.specs.Tests as tests;
 ghost use Rattle.c_check_expr.specs.Tests.{first_broken};
 
 use crate::address::{address, can_be_written, size};
-use crate::construct::{held_with_one, holding, no_room, refused};
+use crate::construct::{held_with_one, holding};
 use crate::operand::{Operand, Part};
 use crate::scope::Scope;
 use crate::shapes::{is_scalar, points_to_incomplete, shape_at};
+use crate::stops::{no_room, refusal};
 use crate::unary::{computed, target};
 use crate::value_shape::shape_of;
 use c_tree::{Boxed, Step, TypedExpr, Unary};
@@ -37,13 +38,13 @@ fn step_fault(scope: &Scope, types: &Types, at: Place, x: &Part) -> Option<Fault
     let value = shape_of(types, x.as_ref());
     let shape = value.get();
     if points_to_incomplete(scope, types, shape) {
-        return Some(refused(at, Rule::Incomplete));
+        return Some(refusal(at, Rule::Incomplete));
     }
     if !is_scalar(shape) {
-        return Some(refused(at, Rule::Mismatch));
+        return Some(refusal(at, Rule::Mismatch));
     }
     if !can_be_written(x) || is_array_part(types, x) {
-        return Some(refused(at, Rule::NotPlace));
+        return Some(refusal(at, Rule::NotPlace));
     }
     None
 }

@@ -16,11 +16,12 @@ ghost use Rattle.c_check_expr.specs.Conversions.{to_integer};
 ghost use Rattle.c_check_expr.specs.Tests as tests;
 ghost use Rattle.c_check_expr.specs.Tests.{first_broken, AsValue};
 
-use crate::construct::{held_with_one, holding, refused};
+use crate::construct::{held_with_one, holding};
 use crate::kind::Kind;
 use crate::operand::{Operand, Part, Value};
 use crate::scope::Scope;
 use crate::shapes::{is_function, is_integer, is_pointer, is_scalar, points_to_open, shape_at};
+use crate::stops::refusal;
 use crate::typing::value;
 use c_tree::{Boxed, Conversion, TypedExpr, TypedPlace, Unary};
 use c_types::{TypeShape, Types};
@@ -63,10 +64,10 @@ fn target_fault(scope: &Scope, types: &Types, at: Place, e: &TypedExpr) -> Optio
 {
     let shape = shape_at(types, e.ty());
     if points_to_open(scope, types, shape) {
-        return Some(refused(at, Rule::Incomplete));
+        return Some(refusal(at, Rule::Incomplete));
     }
     if !is_pointer(shape) {
-        return Some(refused(at, Rule::Mismatch));
+        return Some(refusal(at, Rule::Mismatch));
     }
     None
 }
@@ -125,7 +126,7 @@ fn prefix_fault(scope: &Scope, types: &Types, operator: Unary, at: Place, e: &Ty
     if fits {
         None
     } else {
-        Some(refused(at, Rule::Mismatch))
+        Some(refusal(at, Rule::Mismatch))
     }
 }
 

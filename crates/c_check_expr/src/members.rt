@@ -2,7 +2,6 @@
 #![tactic(auto)]
 
 ghost use Rattle.std.specs.Prelude.{◌≡◌, ◌++◌, IfOk, List, map, option_copied};
-ghost use Rattle.cc_base.specs.declared.number.TypeId.{TypeId as PlainType};
 ghost use Rattle.c_tree.specs.Tree.{Members, NoMember, MemberDeclarators, AndDeclarator as and_declarator};
 ghost use Rattle.c_tree.specs.TypedTree.{TypedMembers, NoMember as no_typed_member, TypedMemberDeclarators, AndDeclarator};
 ghost use Rattle.c_tree.specs.Views.{added, declarator_view, members_view, member_declarators_of};

@@ -103,7 +103,12 @@ fn address_fault(at: Place, x: &Part) -> Option<Fault>
 
 /// `&` of a place.
 #[tactic(auto, using(c_tree::proofs::TypedViewLaws::typed_views), unfolding(crate::specs::Operations::address_of_part, crate::specs::Operations::address_behind))]
-fn address_of_place(scope: &mut Scope, types: &mut Types, at: Place, p: TypedPlace) -> Result<TypedExpr, Fault>
+fn address_of_place(
+    scope: &mut Scope,
+    types: &mut Types,
+    at: Place,
+    p: TypedPlace,
+) -> Result<TypedExpr, Fault>
     ensures { Answers (λ e. tests.AsValue (typed_expr_view e)) (operations.address_of_part at (AsPlace (typed_place_view p)) (known types.old scope.old)) result (known types.new scope.new) }
 {
     let alloc = scope.alloc();
@@ -132,7 +137,12 @@ fn address_of_part(scope: &mut Scope, types: &mut Types, at: Place, x: Part) -> 
 
 /// `&` (C99 6.5.3.2).
 #[tactic(auto, unfolding(crate::specs::Operations::address, crate::specs::Operations::construct, crate::specs::Judging::holding))]
-pub(crate) fn address(scope: &mut Scope, types: &mut Types, at: Place, x: Operand) -> Result<Operand, Fault>
+pub(crate) fn address(
+    scope: &mut Scope,
+    types: &mut Types,
+    at: Place,
+    x: Operand,
+) -> Result<Operand, Fault>
     ensures { Answers operand_view (operations.address at (operand_view x) (known types.old scope.old)) result (known types.new scope.new) }
 {
     if let Some(fault) = address_fault(at, &x.part) {
@@ -186,7 +196,13 @@ fn size_fault(scope: &Scope, types: &Types, at: Place, x: &Part) -> Option<Fault
 
 /// The size of an operand: that of a place as it is, else that of its value.
 #[tactic(auto, using(c_tree::proofs::TypedViewLaws::typed_views), unfolding(crate::specs::Operations::size_of_part))]
-fn size_of_part(scope: &mut Scope, types: &mut Types, at: Place, begin: Place, x: Part) -> Result<TypedExpr, Fault>
+fn size_of_part(
+    scope: &mut Scope,
+    types: &mut Types,
+    at: Place,
+    begin: Place,
+    x: Part,
+) -> Result<TypedExpr, Fault>
     ensures { Answers (λ e. tests.AsValue (typed_expr_view e)) (operations.size_of_part at begin (part_view x) (known types.old scope.old)) result (known types.new scope.new) }
 {
     let alloc = scope.alloc();
@@ -205,7 +221,12 @@ fn size_of_part(scope: &mut Scope, types: &mut Types, at: Place, begin: Place, x
 
 /// `sizeof` of an expression (C99 6.5.3.4).
 #[tactic(auto, unfolding(crate::specs::Operations::size, crate::specs::Operations::construct, crate::specs::Judging::holding))]
-pub(crate) fn size(scope: &mut Scope, types: &mut Types, at: Place, x: Operand) -> Result<Operand, Fault>
+pub(crate) fn size(
+    scope: &mut Scope,
+    types: &mut Types,
+    at: Place,
+    x: Operand,
+) -> Result<Operand, Fault>
     ensures { Answers operand_view (operations.size at (operand_view x) (known types.old scope.old)) result (known types.new scope.new) }
 {
     if let Some(fault) = size_fault(scope, types, at, &x.part) {

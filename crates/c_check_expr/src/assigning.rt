@@ -65,13 +65,7 @@ fn is_assignable(types: &Types, x: PartRef, y: PartRef) -> bool
 }
 
 /// The rules of `=`.
-fn assign_fault(
-    scope: &Scope,
-    types: &Types,
-    at: Place,
-    x: &Part,
-    y: &Part,
-) -> Option<Fault>
+fn assign_fault(scope: &Scope, types: &Types, at: Place, x: &Part, y: &Part) -> Option<Fault>
     ensures { result ≡ first_broken (tests.assign_tests types.now scope.now.scopes assignment.Assign at (part_view x.now) (part_view y.now)) }
 {
     if !is_assignable(types, x.as_ref(), y.as_ref()) {

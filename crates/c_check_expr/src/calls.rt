@@ -95,7 +95,11 @@ fn is_taken_by(types: &Types, wanted: RuntimeType, e: &TypedExpr) -> bool
 }
 
 /// The rules of the arguments of a runtime function.
-fn runtime_argument_fault(types: &Types, parameters: &[RuntimeType], values: &[Value]) -> Option<Fault>
+fn runtime_argument_fault(
+    types: &Types,
+    parameters: &[RuntimeType],
+    values: &[Value],
+) -> Option<Fault>
     ensures { result ≡ first_broken (tests.runtime_argument_tests types.now parameters.now (map argument_of (map value_view values.now))) }
 {
     let mut wanted = parameters;
@@ -126,7 +130,12 @@ fn count_fault(at: Place, wanted: usize, given: usize) -> Option<Fault>
 
 /// The rules of a call of what has this shape.
 #[tactic(auto, using(crate::proofs::CallLaws::broken_first, crate::proofs::CallLaws::broken_then, crate::proofs::CallLaws::arguments_length))]
-fn function_fault(types: &Types, at: Place, shape: Option<&TypeShape>, values: &[Value]) -> Option<Fault>
+fn function_fault(
+    types: &Types,
+    at: Place,
+    shape: Option<&TypeShape>,
+    values: &[Value],
+) -> Option<Fault>
     ensures { result ≡ first_broken (tests.call_tests_of types.now (shape_or_void (option_copied shape.entry)) at (map argument_of (map value_view values.now))) }
 {
     match shape {
@@ -212,7 +221,12 @@ fn converted_arguments(
 }
 
 /// An argument of a runtime function; what `free` is given stays as it is.
-fn runtime_argument(scope: &Scope, types: &Types, wanted: RuntimeType, v: Value) -> Result<TypedExpr, NoMemory>
+fn runtime_argument(
+    scope: &Scope,
+    types: &Types,
+    wanted: RuntimeType,
+    v: Value,
+) -> Result<TypedExpr, NoMemory>
     ensures { IfOk result (λ made. typed_expr_view made ≡ assignments.runtime_argument types.now wanted (value_view v)) }
 {
     match wanted {
@@ -259,7 +273,9 @@ fn runtime_call(
 {
     let f = Boxed::new(scope.alloc(), f)?;
     match result_of(function) {
-        RuntimeType::Int => Ok(Part::Value(TypedExpr::CallRuntime(function, f, at, arguments, INT))),
+        RuntimeType::Int => Ok(Part::Value(TypedExpr::CallRuntime(
+            function, f, at, arguments, INT,
+        ))),
         RuntimeType::VoidPointer => Ok(Part::Allocation(TypedExpr::AllocateFor(
             function,
             f,
@@ -267,8 +283,20 @@ fn runtime_call(
             arguments,
             TypeId(0),
         ))),
-        RuntimeType::Void => Ok(Part::Value(TypedExpr::CallRuntime(function, f, at, arguments, TypeId(0)))),
-        RuntimeType::UnsignedLong => Ok(Part::Value(TypedExpr::CallRuntime(function, f, at, arguments, TypeId(0)))),
+        RuntimeType::Void => Ok(Part::Value(TypedExpr::CallRuntime(
+            function,
+            f,
+            at,
+            arguments,
+            TypeId(0),
+        ))),
+        RuntimeType::UnsignedLong => Ok(Part::Value(TypedExpr::CallRuntime(
+            function,
+            f,
+            at,
+            arguments,
+            TypeId(0),
+        ))),
     }
 }
 
@@ -295,7 +323,13 @@ fn called_shape(
 }
 
 /// What a call makes.
-fn called(scope: &Scope, types: &Types, f: TypedExpr, at: Place, values: Vec<Value>) -> Result<Part, NoMemory>
+fn called(
+    scope: &Scope,
+    types: &Types,
+    f: TypedExpr,
+    at: Place,
+    values: Vec<Value>,
+) -> Result<Part, NoMemory>
     ensures { IfOk result (λ x. part_view x ≡ assignments.called types.now (typed_expr_view f) at (map value_view values.items) (rules.runtime_named (typed_expr_view f))) }
 {
     match runtime_named(&f) {
@@ -312,7 +346,13 @@ fn called(scope: &Scope, types: &Types, f: TypedExpr, at: Place, values: Vec<Val
 
 /// A call (C99 6.5.2.2).
 #[tactic(auto, unfolding(crate::specs::Assignments::call, crate::specs::Operations::construct, crate::specs::Judging::holding))]
-pub(crate) fn call(scope: &Scope, types: &Types, f: Value, at: Place, values: Vec<Value>) -> Result<Operand, Fault>
+pub(crate) fn call(
+    scope: &Scope,
+    types: &Types,
+    f: Value,
+    at: Place,
+    values: Vec<Value>,
+) -> Result<Operand, Fault>
     ensures { Answers operand_view (assignments.call (value_view f) at (map value_view values.items) (known types.now scope.now)) result (known types.now scope.now) }
 {
     if let Some(fault) = call_fault(types, at, &f.expr, &values) {

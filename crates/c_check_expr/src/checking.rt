@@ -213,12 +213,7 @@ pub fn check_declarator(
 }
 
 /// The pointers that the assignment of a struct or union moves are counted. NOT WRITTEN YET: a stub.
-pub fn count_cells(
-    scope: &mut Scope,
-    types: &Types,
-    at: Place,
-    t: TypeId,
-) -> Result<TypeId, Fault>
+pub fn count_cells(scope: &mut Scope, types: &Types, at: Place, t: TypeId) -> Result<TypeId, Fault>
     ensures { Answers (λ t. t) (cells.count_cells at t (known types.now scope.old)) result (known types.now scope.new) }
 {
     let _given = (scope.depth(), types.count(), at, t);

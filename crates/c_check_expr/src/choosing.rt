@@ -46,13 +46,7 @@ fn are_alike(types: &Types, x: PartRef, y: PartRef) -> bool
 }
 
 /// The rules of `?:`.
-fn choice_fault(
-    types: &Types,
-    at: Place,
-    c: &TypedExpr,
-    x: PartRef,
-    y: PartRef,
-) -> Option<Fault>
+fn choice_fault(types: &Types, at: Place, c: &TypedExpr, x: PartRef, y: PartRef) -> Option<Fault>
     ensures { result ≡ first_broken (tests.choice_tests types.now at (AsValue (typed_expr_view c.now)) (part_ref_view x.entry) (part_ref_view y.entry)) }
 {
     if !is_scalar(shape_at(types, c.ty())) {

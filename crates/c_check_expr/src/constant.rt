@@ -98,20 +98,8 @@ fn logical(operator: Binary, x: i128, y: i128) -> i128
     ensures { result ≡ constants.logical operator x y }
 {
     match operator {
-        Binary::LogicalAnd => {
-            if is_true(x) {
-                truth(is_true(y))
-            } else {
-                0
-            }
-        }
-        _ => {
-            if is_true(x) {
-                1
-            } else {
-                truth(is_true(y))
-            }
-        }
+        Binary::LogicalAnd => { if is_true(x) { truth(is_true(y)) } else { 0 } }
+        _ => { if is_true(x) { 1 } else { truth(is_true(y)) } }
     }
 }
 
@@ -133,7 +121,13 @@ fn alone_value(types: &Types, operator: Unary, t: TypeId, x: Option<i128>) -> Op
     Some(alone(operator, kind, x?))
 }
 
-fn computed_value(types: &Types, operator: Binary, t: TypeId, x: Option<i128>, y: Option<i128>) -> Option<i128>
+fn computed_value(
+    types: &Types,
+    operator: Binary,
+    t: TypeId,
+    x: Option<i128>,
+    y: Option<i128>,
+) -> Option<i128>
     ensures { result ≡ constants.with_type (integer_at types.now t) (λ k. constants.with_value x (λ a. constants.with_value y (λ b. if constants.cannot_divide (operator_of operator) k a b then None else Some (arithmetic.computed (operator_of operator) k a b)))) }
 {
     let kind = integer_at(types, t)?;
@@ -152,11 +146,7 @@ fn chosen_value(condition: Option<i128>, x: Option<i128>, y: Option<i128>) -> Op
     let condition = condition?;
     let x = x?;
     let y = y?;
-    if is_true(condition) {
-        Some(x)
-    } else {
-        Some(y)
-    }
+    if is_true(condition) { Some(x) } else { Some(y) }
 }
 
 /// The value of an integer constant expression.
@@ -173,7 +163,12 @@ pub fn constant_value(types: &Types, e: &TypedExpr) -> Option<i128>
             converted_value(types, *which, *t, constant_value(types, inner.get()))
         }
         TypedExpr::Cast(which, _, to, inner) => {
-            converted_value(types, *which, to.get().ty, constant_value(types, inner.get()))
+            converted_value(
+                types,
+                *which,
+                to.get().ty,
+                constant_value(types, inner.get()),
+            )
         }
         TypedExpr::Prefix(operator, _, inner, _) => {
             let x = constant_value(types, inner.get());

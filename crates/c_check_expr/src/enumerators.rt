@@ -74,12 +74,7 @@ fn plain(
 }
 
 /// The rules of an enumerator whose value is judged; else its value.
-fn constant(
-    scope: &Scope,
-    types: &Types,
-    name: &Identifier,
-    v: &Value,
-) -> Result<i128, Fault>
+fn constant(scope: &Scope, types: &Types, name: &Identifier, v: &Value) -> Result<i128, Fault>
     ensures ok { IfOk result (λ z. (Some z ≡ constants.constant_value types.now (value_view v.now).expr) × (first_broken (tests.enumerator_tests scope.now.scopes name.now.bytes name.now.place ++ tests.constant_tests types.now v.now.place (AsValue (value_view v.now).expr)) ≡ None)) }
     ensures err { IfErr result (λ fault. fault ≢ no_memory → first_broken (tests.enumerator_tests scope.now.scopes name.now.bytes name.now.place ++ tests.constant_tests types.now v.now.place (AsValue (value_view v.now).expr)) ≡ Some fault) }
 {

@@ -18,7 +18,13 @@ use cc_base::{Fault, NoMemory, Place};
 
 /// An integer constant (C99 6.4.4.1).
 #[tactic(auto, using(c_tree::proofs::TypedViewLaws::typed_views), unfolding(crate::specs::Operations::integer, crate::specs::Operations::leaf))]
-pub(crate) fn integer(scope: &Scope, types: &Types, of: IntegerType, value: u64, at: Place) -> Result<Operand, Fault>
+pub(crate) fn integer(
+    scope: &Scope,
+    types: &Types,
+    of: IntegerType,
+    value: u64,
+    at: Place,
+) -> Result<Operand, Fault>
     ensures { Answers operand_view (operations.integer of value at (known types.now scope.now)) result (known types.now scope.now) }
 {
     let t = constant_kind(of).ty();
@@ -31,7 +37,12 @@ pub(crate) fn integer(scope: &Scope, types: &Types, of: IntegerType, value: u64,
 
 /// A character constant (C99 6.4.4.4).
 #[tactic(auto, using(c_tree::proofs::TypedViewLaws::typed_views), unfolding(crate::specs::Operations::character, crate::specs::Operations::leaf))]
-pub(crate) fn character(scope: &Scope, types: &Types, value: i32, at: Place) -> Result<Operand, Fault>
+pub(crate) fn character(
+    scope: &Scope,
+    types: &Types,
+    value: i32,
+    at: Place,
+) -> Result<Operand, Fault>
     ensures { Answers operand_view (operations.character value at (known types.now scope.now)) result (known types.now scope.now) }
 {
     Ok(Operand {

@@ -69,7 +69,10 @@ fn copied_piece(alloc: Global, piece: &StringPiece) -> Result<StringPiece, NoMem
 }
 
 #[tactic(auto, using(crate::proofs::LiteralLaws::next_copy))]
-pub(crate) fn copied_pieces(alloc: Global, pieces: &[StringPiece]) -> Result<Items<StringPiece>, NoMemory>
+pub(crate) fn copied_pieces(
+    alloc: Global,
+    pieces: &[StringPiece],
+) -> Result<Items<StringPiece>, NoMemory>
     ensures { IfOk result (λ copy. copy ≡ pieces.now) }
 {
     let mut copy = Items::new(alloc);
@@ -95,7 +98,12 @@ fn string_type(scope: &Scope, types: &mut Types, at: Place, count: u64) -> Resul
 
 /// Counts the bytes of a static object, and 16 more.
 #[tactic(auto, unfolding(crate::specs::Assignments::count_global))]
-pub(crate) fn count_global(scope: &mut Scope, types: &Types, at: Place, bytes: u64) -> Result<u64, Fault>
+pub(crate) fn count_global(
+    scope: &mut Scope,
+    types: &Types,
+    at: Place,
+    bytes: u64,
+) -> Result<u64, Fault>
     ensures { Answers (λ n. n) (assignments.count_global at bytes (known types.now scope.old)) result (known types.now scope.new) }
 {
     if !scope.add_global(bytes) {
@@ -117,7 +125,11 @@ fn literal_size(alloc: Global, pieces: &[StringPiece]) -> Result<u64, NoMemory>
 
 /// Adjacent string literals (C99 6.4.5).
 #[tactic(auto, using(c_tree::proofs::TypedViewLaws::typed_views), unfolding(crate::specs::Assignments::literal, crate::specs::Operations::leaf, crate::specs::Judging::new_node))]
-pub(crate) fn literal(scope: &mut Scope, types: &mut Types, pieces: &[StringPiece]) -> Result<Operand, Fault>
+pub(crate) fn literal(
+    scope: &mut Scope,
+    types: &mut Types,
+    pieces: &[StringPiece],
+) -> Result<Operand, Fault>
     ensures { Answers operand_view (assignments.literal pieces.now (known types.old scope.old)) result (known types.new scope.new) }
 {
     let alloc = scope.alloc();

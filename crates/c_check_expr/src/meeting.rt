@@ -106,7 +106,13 @@ pub(crate) fn how_they_meet(types: &Types, a: &TypedExpr, b: &TypedExpr) -> Meet
 {
     let left_null = is_null_constant(types, a);
     let right_null = is_null_constant(types, b);
-    meeting_of(types, left_null, right_null, shape_at(types, a.ty()), shape_at(types, b.ty()))
+    meeting_of(
+        types,
+        left_null,
+        right_null,
+        shape_at(types, a.ty()),
+        shape_at(types, b.ty()),
+    )
 }
 
 /// Whether a pointer of the one shape is taken where one of the other is wanted.

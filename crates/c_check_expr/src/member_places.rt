@@ -61,7 +61,12 @@ fn names_member(scope: &Scope, shape: Option<&TypeShape>, name: &[u8]) -> bool
 }
 
 /// The rules of `.` and `->`, by the shape of what has the member.
-fn member_fault(scope: &Scope, shape: Option<&TypeShape>, at: Place, name: &Identifier) -> Option<Fault>
+fn member_fault(
+    scope: &Scope,
+    shape: Option<&TypeShape>,
+    at: Place,
+    name: &Identifier,
+) -> Option<Fault>
     ensures { result ≡ first_broken (tests.member_tests scope.now.scopes (shape_or_void (option_copied shape.entry)) at name.now.bytes name.now.place) }
 {
     let aggregate = is_aggregate(shape);
@@ -76,7 +81,12 @@ fn member_fault(scope: &Scope, shape: Option<&TypeShape>, at: Place, name: &Iden
 
 /// A place in a list that 32 bits can number.
 #[tactic(auto, unfolding(crate::specs::Operations::numbered))]
-pub(crate) fn numbered(scope: &Scope, types: &Types, at: Place, place: Option<usize>) -> Result<u32, Fault>
+pub(crate) fn numbered(
+    scope: &Scope,
+    types: &Types,
+    at: Place,
+    place: Option<usize>,
+) -> Result<u32, Fault>
     ensures { Answers (λ i. i) (operations.numbered at place (known types.now scope.now)) result (known types.now scope.now) }
 {
     match place {
@@ -93,7 +103,13 @@ pub(crate) fn numbered(scope: &Scope, types: &Types, at: Place, place: Option<us
 
 /// The number of a member, and a node for its place.
 #[tactic(auto, unfolding(crate::specs::Operations::found, crate::specs::Judging::new_node))]
-fn found(scope: &mut Scope, types: &Types, begin: Place, whole: TypeId, name: &Identifier) -> Result<FoundMember, Fault>
+fn found(
+    scope: &mut Scope,
+    types: &Types,
+    begin: Place,
+    whole: TypeId,
+    name: &Identifier,
+) -> Result<FoundMember, Fault>
     ensures { Answers found_view (operations.found begin (shape_at types.now whole) name.now (known types.now scope.old)) result (known types.now scope.new) }
 {
     let place = named_member(scope, shape_at(types, whole), name.bytes.as_slice());
@@ -149,7 +165,13 @@ fn member_of(
 }
 
 /// The rules of `.`.
-fn part_fault(scope: &Scope, types: &Types, x: PartRef, at: Place, name: &Identifier) -> Option<Fault>
+fn part_fault(
+    scope: &Scope,
+    types: &Types,
+    x: PartRef,
+    at: Place,
+    name: &Identifier,
+) -> Option<Fault>
     ensures { result ≡ first_broken (tests.member_tests scope.now.scopes (tests.shape_of types.now (part_ref_view x.entry)) at name.now.bytes name.now.place) }
 {
     let shape = shape_of(types, x);
@@ -177,7 +199,13 @@ pub(crate) fn member(
 }
 
 /// The rules of `->`.
-fn value_fault(scope: &Scope, types: &Types, e: &TypedExpr, at: Place, name: &Identifier) -> Option<Fault>
+fn value_fault(
+    scope: &Scope,
+    types: &Types,
+    e: &TypedExpr,
+    at: Place,
+    name: &Identifier,
+) -> Option<Fault>
     ensures { result ≡ first_broken (tests.member_tests scope.now.scopes (tests.pointed_shape types.now (shape_at types.now (type_of (typed_expr_view e.now)))) at name.now.bytes name.now.place) }
 {
     let shape = pointed_shape(types, shape_at(types, e.ty()));

@@ -104,7 +104,12 @@ fn runtime_of(name: &[u8]) -> Option<Runtime>
 
 /// A function's name is its address.
 #[tactic(auto, using(c_tree::proofs::TypedViewLaws::typed_views), unfolding(crate::specs::Assignments::function_name))]
-fn function_name(scope: &mut Scope, types: &mut Types, word: &Identifier, function: TypeId) -> Result<Part, Fault>
+fn function_name(
+    scope: &mut Scope,
+    types: &mut Types,
+    word: &Identifier,
+    function: TypeId,
+) -> Result<Part, Fault>
     ensures { Answers part_view (assignments.function_name word.now function (known types.old scope.old)) result (known types.new scope.new) }
 {
     let alloc = scope.alloc();
@@ -156,7 +161,12 @@ fn named_as(
 
 /// A name; `called` says that it is called (C99 6.5.1).
 #[tactic(auto, unfolding(crate::specs::Assignments::name, crate::specs::Operations::construct, crate::specs::Judging::holding))]
-pub(crate) fn name(scope: &mut Scope, types: &mut Types, called: bool, word: &Identifier) -> Result<Operand, Fault>
+pub(crate) fn name(
+    scope: &mut Scope,
+    types: &mut Types,
+    called: bool,
+    word: &Identifier,
+) -> Result<Operand, Fault>
     ensures { Answers operand_view (assignments.name called word.now (known types.old scope.old)) result (known types.new scope.new) }
 {
     let runtime = runtime_of(word.bytes.as_slice());

@@ -21,12 +21,12 @@ ghost use Rattle.c_check_expr.specs.Tests.{first_broken};
 ghost use Rattle.c_check_expr.specs.Walks as walks;
 
 use crate::declarators::node_at;
-use crate::derived::{Derived, adjusted_at, derived_by_declared};
 use crate::declared::Declared;
-use crate::places::declared_place;
+use crate::derived::{Derived, adjusted_at, derived_by_declared};
 use crate::making::{Nearest, declared_makes, is_derived};
 use crate::naming::Naming;
 use crate::operand::Operand;
+use crate::places::declared_place;
 use crate::scope::Scope;
 use crate::shapes::{is_aggregate, is_complete_at, shape_at};
 use crate::stops::{no_room, refusal};
@@ -112,13 +112,7 @@ fn adjusted_with_node(
 }
 
 /// The rules of a parameter's type.
-fn type_fault(
-    scope: &Scope,
-    types: &Types,
-    void: bool,
-    t: TypeId,
-    at: Place,
-) -> Option<Fault>
+fn type_fault(scope: &Scope, types: &Types, void: bool, t: TypeId, at: Place) -> Option<Fault>
     ensures { result ≡ first_broken (tests.parameter_type_tests types.now scope.now.scopes void t at) }
 {
     if !void && !is_complete_at(scope, types, t) {
@@ -271,7 +265,14 @@ fn made_parameter(
     }
     let place = adjusted_at(types, derived, specifiers.ty, named);
     let adjusted = adjusted_with_node(scope, at, place)?;
-    let ty = parameter_makes(scope, types, at, adjusted, declarator.as_ref(), specifiers.ty)?;
+    let ty = parameter_makes(
+        scope,
+        types,
+        at,
+        adjusted,
+        declarator.as_ref(),
+        specifiers.ty,
+    )?;
     if let Some(fault) = type_fault(scope, types, void, ty, at) {
         return Err(fault);
     }
@@ -307,7 +308,9 @@ impl<
         let declarator = self.declared(scope, types, Naming::Parameter, at, &one.declarator)?;
         let derived = derived_by_declared(&one.declarator);
         let named = typedef_place(&one.specifiers);
-        made_parameter(scope, types, void, at, derived, named, specifiers, declarator)
+        made_parameter(
+            scope, types, void, at, derived, named, specifiers, declarator,
+        )
     }
 
     /// Parameters, one after another.

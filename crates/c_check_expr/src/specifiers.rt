@@ -144,7 +144,10 @@ impl<
             return Err(refusal(at, Rule::Mismatch));
         };
         let name = copied_tag(scope.alloc(), name)?;
-        Ok((TypedSpecifier::Enumeration(at, name, brace, list, comma), words))
+        Ok((
+            TypedSpecifier::Enumeration(at, name, brace, list, comma),
+            words,
+        ))
     }
 
     /// A specifier after those that are judged, which are counted.

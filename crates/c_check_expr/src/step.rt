@@ -51,7 +51,13 @@ fn step_fault(scope: &Scope, types: &Types, at: Place, x: &Part) -> Option<Fault
 
 /// `++` or `--` before a place.
 #[tactic(auto, using(c_tree::proofs::TypedViewLaws::typed_views), unfolding(crate::specs::Operations::step_part))]
-fn part_before(scope: &Scope, types: &Types, operator: Step, at: Place, x: Part) -> Result<Part, Fault>
+fn part_before(
+    scope: &Scope,
+    types: &Types,
+    operator: Step,
+    at: Place,
+    x: Part,
+) -> Result<Part, Fault>
     ensures { Answers part_view (operations.step_part (λ p. typed.StepBefore operator at p) at (part_view x) (known types.now scope.now)) result (known types.now scope.now) }
 {
     match x {
@@ -65,7 +71,13 @@ fn part_before(scope: &Scope, types: &Types, operator: Step, at: Place, x: Part)
 
 /// `++` or `--` after a place.
 #[tactic(auto, using(c_tree::proofs::TypedViewLaws::typed_views), unfolding(crate::specs::Operations::step_part))]
-fn part_after(scope: &Scope, types: &Types, operator: Step, at: Place, x: Part) -> Result<Part, Fault>
+fn part_after(
+    scope: &Scope,
+    types: &Types,
+    operator: Step,
+    at: Place,
+    x: Part,
+) -> Result<Part, Fault>
     ensures { Answers part_view (operations.step_part (λ p. typed.StepAfter p operator at) at (part_view x) (known types.now scope.now)) result (known types.now scope.now) }
 {
     match x {
@@ -79,7 +91,13 @@ fn part_after(scope: &Scope, types: &Types, operator: Step, at: Place, x: Part) 
 
 /// `++` and `--` before their operand (C99 6.5.3.1).
 #[tactic(auto, unfolding(crate::specs::Operations::step_before, crate::specs::Operations::construct, crate::specs::Judging::holding))]
-fn step_before(scope: &mut Scope, types: &mut Types, operator: Step, at: Place, x: Operand) -> Result<Operand, Fault>
+fn step_before(
+    scope: &mut Scope,
+    types: &mut Types,
+    operator: Step,
+    at: Place,
+    x: Operand,
+) -> Result<Operand, Fault>
     ensures { Answers operand_view (operations.step_before operator at (operand_view x) (known types.old scope.old)) result (known types.new scope.new) }
 {
     if let Some(fault) = step_fault(scope, types, at, &x.part) {
@@ -96,7 +114,13 @@ fn step_before(scope: &mut Scope, types: &mut Types, operator: Step, at: Place, 
 
 /// `++` and `--` after their operand (C99 6.5.2.4).
 #[tactic(auto, unfolding(crate::specs::Operations::step_after, crate::specs::Operations::construct, crate::specs::Judging::holding))]
-pub(crate) fn step_after(scope: &mut Scope, types: &mut Types, operator: Step, at: Place, x: Operand) -> Result<Operand, Fault>
+pub(crate) fn step_after(
+    scope: &mut Scope,
+    types: &mut Types,
+    operator: Step,
+    at: Place,
+    x: Operand,
+) -> Result<Operand, Fault>
     ensures { Answers operand_view (operations.step_after operator at (operand_view x) (known types.old scope.old)) result (known types.new scope.new) }
 {
     if let Some(fault) = step_fault(scope, types, at, &x.part) {
@@ -113,7 +137,13 @@ pub(crate) fn step_after(scope: &mut Scope, types: &mut Types, operator: Step, a
 
 /// The operators of one operand that stand before it (C99 6.5.3).
 #[tactic(auto, unfolding(crate::specs::Operations::prefix))]
-pub(crate) fn prefix(scope: &mut Scope, types: &mut Types, operator: Unary, at: Place, x: Operand) -> Result<Operand, Fault>
+pub(crate) fn prefix(
+    scope: &mut Scope,
+    types: &mut Types,
+    operator: Unary,
+    at: Place,
+    x: Operand,
+) -> Result<Operand, Fault>
     ensures { Answers operand_view (operations.prefix operator at (operand_view x) (known types.old scope.old)) result (known types.new scope.new) }
 {
     match operator {

@@ -14,9 +14,7 @@ use crate::operand::Operand;
 use crate::places::declared_place;
 use crate::scope::Scope;
 use crate::walker::Walker;
-use c_tree::{
-    Declarator, Expr, Specifiers, TypeName, TypedForm, TypedSpecifiers, TypedTypeName,
-};
+use c_tree::{Declarator, Expr, Specifiers, TypeName, TypedForm, TypedSpecifiers, TypedTypeName};
 use c_types::Types;
 use cc_base::{Fault, Place};
 

@@ -106,7 +106,12 @@ fn target_of(scope: &mut Scope, types: &mut Types, at: Place, v: Value) -> Resul
 
 /// `*` (C99 6.5.3.2).
 #[tactic(auto, unfolding(crate::specs::Operations::target))]
-pub(crate) fn target(scope: &mut Scope, types: &mut Types, at: Place, x: Operand) -> Result<Operand, Fault>
+pub(crate) fn target(
+    scope: &mut Scope,
+    types: &mut Types,
+    at: Place,
+    x: Operand,
+) -> Result<Operand, Fault>
     ensures { Answers operand_view (operations.target at (operand_view x) (known types.old scope.old)) result (known types.new scope.new) }
 {
     let v = value(scope, types, x)?;
@@ -114,7 +119,13 @@ pub(crate) fn target(scope: &mut Scope, types: &mut Types, at: Place, x: Operand
 }
 
 /// The rules of `+`, `-`, `~` and `!`.
-fn prefix_fault(scope: &Scope, types: &Types, operator: Unary, at: Place, e: &TypedExpr) -> Option<Fault>
+fn prefix_fault(
+    scope: &Scope,
+    types: &Types,
+    operator: Unary,
+    at: Place,
+    e: &TypedExpr,
+) -> Option<Fault>
     requires { operations.is_arithmetic_prefix operator ≡ true }
     ensures { result ≡ first_broken (tests.prefix_tests types.now scope.now.scopes operator at (AsValue (typed_expr_view e.now))) }
 {
@@ -132,7 +143,12 @@ fn prefix_fault(scope: &Scope, types: &Types, operator: Unary, at: Place, e: &Ty
 
 /// An integer, converted to an integer type where it has another.
 #[tactic(auto, using(c_tree::proofs::TypedViewLaws::typed_views))]
-pub(crate) fn to_integer(scope: &Scope, at: Place, t: TypeId, e: TypedExpr) -> Result<TypedExpr, NoMemory>
+pub(crate) fn to_integer(
+    scope: &Scope,
+    at: Place,
+    t: TypeId,
+    e: TypedExpr,
+) -> Result<TypedExpr, NoMemory>
     ensures { IfOk result (λ made. typed_expr_view made ≡ to_integer at t (typed_expr_view e)) }
 {
     if e.ty().0 == t.0 {
@@ -144,7 +160,13 @@ pub(crate) fn to_integer(scope: &Scope, at: Place, t: TypeId, e: TypedExpr) -> R
 
 /// `+`, `-` and `~` of a value that is promoted.
 #[tactic(auto, using(c_tree::proofs::TypedViewLaws::typed_views))]
-fn promoted_operand(scope: &Scope, types: &Types, operator: Unary, at: Place, e: TypedExpr) -> Result<TypedExpr, NoMemory>
+fn promoted_operand(
+    scope: &Scope,
+    types: &Types,
+    operator: Unary,
+    at: Place,
+    e: TypedExpr,
+) -> Result<TypedExpr, NoMemory>
     ensures { IfOk result (λ made. typed_expr_view made ≡ operations.promoted_operand operator at (typed_expr_view e) (integer_at types.now (type_of (typed_expr_view e)))) }
 {
     let alloc = scope.alloc();
@@ -160,7 +182,13 @@ fn promoted_operand(scope: &Scope, types: &Types, operator: Unary, at: Place, e:
 
 /// What `+`, `-`, `~` and `!` make of a value.
 #[tactic(auto, using(c_tree::proofs::TypedViewLaws::typed_views))]
-fn operator_on(scope: &Scope, types: &Types, operator: Unary, at: Place, e: TypedExpr) -> Result<TypedExpr, NoMemory>
+fn operator_on(
+    scope: &Scope,
+    types: &Types,
+    operator: Unary,
+    at: Place,
+    e: TypedExpr,
+) -> Result<TypedExpr, NoMemory>
     ensures { IfOk result (λ made. typed_expr_view made ≡ operations.operator_on types.now operator at (typed_expr_view e)) }
 {
     match operator {
@@ -170,7 +198,13 @@ fn operator_on(scope: &Scope, types: &Types, operator: Unary, at: Place, e: Type
 }
 
 #[tactic(auto, unfolding(crate::specs::Operations::prefix_of, crate::specs::Operations::construct, crate::specs::Judging::holding))]
-fn prefix_of(scope: &mut Scope, types: &mut Types, operator: Unary, at: Place, v: Value) -> Result<Operand, Fault>
+fn prefix_of(
+    scope: &mut Scope,
+    types: &mut Types,
+    operator: Unary,
+    at: Place,
+    v: Value,
+) -> Result<Operand, Fault>
     requires { operations.is_arithmetic_prefix operator ≡ true }
     ensures { Answers operand_view (operations.prefix_of operator at (value_view v) (known types.old scope.old)) result (known types.new scope.new) }
 {
@@ -187,7 +221,13 @@ fn prefix_of(scope: &mut Scope, types: &mut Types, operator: Unary, at: Place, v
 }
 
 /// `+`, `-`, `~` and `!` (C99 6.5.3.3).
-pub(crate) fn computed(scope: &mut Scope, types: &mut Types, operator: Unary, at: Place, x: Operand) -> Result<Operand, Fault>
+pub(crate) fn computed(
+    scope: &mut Scope,
+    types: &mut Types,
+    operator: Unary,
+    at: Place,
+    x: Operand,
+) -> Result<Operand, Fault>
     requires { operations.is_arithmetic_prefix operator ≡ true }
     ensures { Answers operand_view (judging.next (operands.value (operand_view x) (known types.old scope.old)) (operations.prefix_of operator at)) result (known types.new scope.new) }
 {

@@ -75,7 +75,7 @@ pub(crate) fn make_area(bytes: &mut [u8], area: Area, start: u64)
     numbers::store_at(bytes, start, 8, first_word_of(area));
 }
 
-// Makes the areas one after another from `start` on, and gives their end. Most frames have none.
+// Makes the areas one after another from `start` on, and gives their end. A frame without areas takes no call.
 #[inline(always)]
 pub(crate) fn make_areas(bytes: &mut [u8], areas: &[Area], start: u64) -> u64
     requires room { start + areas_size areas.now ≤ length bytes.old }

@@ -57,6 +57,7 @@ use Rattle.c_typing_laws.specs.Numbers.{made_by_part, numbers_of}
 use Rattle.c_typing_laws.proofs.ConstructLaws.{two_unbroken, not_false}
 use Rattle.c_typing_laws.proofs.ExtensionLaws.{no_true}
 use Rattle.c_typing_laws.proofs.JudgedCalls.{last_ok, lengths, cut_length}
+use Rattle.c_typing_laws.proofs.JudgedOperators.{pair_some}
 use Rattle.c_typing_laws.proofs.NodeNumbers.{Numbers, two-made, made-as, made-to, made-none, node-made, address-made, type_with-node, new_pointer-made}
 use Rattle.c_typing_laws.proofs.Outcomes.{bind-gives, gives-value, gives-state, never-gives, construct-gives, leaf-gives, IsConstruct}
 
@@ -64,11 +65,11 @@ use Rattle.c_typing_laws.proofs.Outcomes.{bind-gives, gives-value, gives-state, 
 abbrev pub IsNumbered : ℕ → Elaborated → State → Type 0
 IsNumbered a x r = Numbers (made_by_part x) a r.seen.node
 
-numbered-same : (a : ℕ) (x y : Elaborated) (s r : State) → Gives x s ≡ Gives y r → IsNumbered a x s → IsNumbered a y r
+pub numbered-same : (a : ℕ) (x y : Elaborated) (s r : State) → Gives x s ≡ Gives y r → IsNumbered a x s → IsNumbered a y r
 numbered-same a x y s r h n =
     subst (λ (q : State). IsNumbered a y q) (gives-state x y s r h) (subst (λ (z : Elaborated). IsNumbered a z s) (gives-value x y s r h) n)
 
-part_as : (a : ℕ) (xs : List Made) (x y : Elaborated) (s r : State) → Gives x s ≡ Gives y r → made_by_part x ≡ xs → Numbers xs a s.seen.node → IsNumbered a y r
+pub part_as : (a : ℕ) (xs : List Made) (x y : Elaborated) (s r : State) → Gives x s ≡ Gives y r → made_by_part x ≡ xs → Numbers xs a s.seen.node → IsNumbered a y r
 part_as a xs x y s r h e n = numbered-same a x y s r h (made-as (made_by_part x) xs a s.seen.node e n)
 
 -- conversions make nothing
@@ -80,12 +81,12 @@ to_integer-made at t e = by ((type_of e).0 == t.0)
     by true = refl
     by false = refl
 
-converted-made : (at : Place) (t : TypeId) (e : TypedExpr) (o : Option Conversion) → made_by (converted_by o at t e) ≡ made_by e
+pub converted-made : (at : Place) (t : TypeId) (e : TypedExpr) (o : Option Conversion) → made_by (converted_by o at t e) ≡ made_by e
 converted-made at t e None = refl
 converted-made at t e (Some conversion.IntegerToInteger) = to_integer-made at t e
 converted-made at t e (Some which) = refl
 
-side-made : (v : TypedExpr) → made_by_part (side_of v) ≡ made_by v
+pub side-made : (v : TypedExpr) → made_by_part (side_of v) ≡ made_by v
 side-made (typed.Unread p) = refl
 side-made v = refl
 
@@ -153,7 +154,7 @@ value-numbered x v a s r w n h =
     subst (λ (q : State). Numbers (made_by v.expr) a q.seen.node) (gives-state (record { expr = one.0; place = x.place; held = x.held }) v one.1 r one.3)
     (subst (λ (e : TypedExpr). Numbers (made_by e) a one.1.seen.node) same made)
 
-given-numbered : (t : TypeId) (at : Place) (x y : Elaborated) (a : ℕ) (s r : State) → IsWhole x → IsNumbered a x s → given t at x s ≡ Gives y r → IsNumbered a y r
+pub given-numbered : (t : TypeId) (at : Place) (x y : Elaborated) (a : ℕ) (s r : State) → IsWhole x → IsNumbered a x s → given t at x s ≡ Gives y r → IsNumbered a y r
 unfolding given given_allocation
 given-numbered t at (AsAllocation e) y a s r w n h = by (is_pointer_to_complete s.table s.seen.scopes t) h
   where
@@ -359,11 +360,6 @@ element-made : (x : TypedExpr) (at : Place) (y : TypedExpr) (t u : Option TypeId
 element-made x at y (Some t) u h = refl
 element-made x at y None (Some u) h = refl
 element-made x at y None None h = no_true h
-
-pair_some : (x y : TypeShape) → is_index_pair x y ≡ true → (has_some (pointee_of_shape x) || has_some (pointee_of_shape y)) ≡ true
-pair_some (Pointer n t) (Integer w r) h = refl
-pair_some (Integer w r) (Pointer n t) h = refl
-pair_some x y h = no_true h
 
 pub index-numbered : (x : Value) (at : Place) (y : Value) (o : Operand) (a : ℕ) (s r : State) → Numbers (Both x.expr y.expr) a s.seen.node → index x at y s ≡ Gives o r
     → IsNumbered a o.part r

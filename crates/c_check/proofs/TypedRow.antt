@@ -198,7 +198,7 @@ main-defined = record {
     name = main_at 5;
     inside = before.scopes;
     named = refl;
-    parts = (before.scopes, refl, (before.scopes, prototype, refl, (prototype, prototype, prototype, refl, voids-typed prototype, refl, (refl, refl), (lit< tt, refl), refl), refl));
+    parts = (before.scopes, refl, (before.scopes, prototype, refl, (prototype, prototype, prototype, refl, voids-typed prototype, refl, refl, (refl, refl), (lit< tt, refl), refl), refl));
     type = (type 5, type 9, refl, (type 9, record { gives = refl; shape = (lit< tt, refl) }, refl), refl);
     declares = record { here_agrees = tt; linked_agrees = tt; runtime_agrees = λ function h. absurd (main-own function h); after = refl };
   };

@@ -1,4 +1,4 @@
--- How the parts of a unit are judged one after another: as parts of an expression are (c_check_expr), with what is known besides of names
+-- How the parts of a unit are judged one after another: as parts of an expression are (`c_typing`), with what is known besides of names
 -- that have linkage. Clauses inside the crate cite this; laws say that what is given is well typed, and that what is refused breaks the rule
 -- that is named.
 use Rattle.std.specs.Prelude.{◌≡◌, ◌≢◌, ℕ, Bool, true, false, List, [], ◌∷◌, ◌++◌, Option, Some, None, Result, Ok, Err, if◌then◌else◌}

@@ -1,2 +1,0 @@
-pub mod MemberViews
-pub mod ShapeViews

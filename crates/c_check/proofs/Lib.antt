@@ -1,2 +1,7 @@
+pub mod KeptInitialisers
+pub mod UnitOutcomes
+pub mod JudgedInitialisers
+pub mod JudgedTests
+pub mod JudgedSwitches
 pub mod RefusedUnit
 pub mod TypedRow

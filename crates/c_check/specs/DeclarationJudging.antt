@@ -1,5 +1,5 @@
 -- What declarations give, or where they stop (C99 6.2.2, 6.7).
-use Rattle.std.specs.Prelude.{ℕ, Bool, true, false, ◌&&◌, ◌||◌, List, [], ◌∷◌, ◌++◌, Option, Some, None, if◌then◌else◌}
+use Rattle.std.specs.Prelude.{ℕ, Bool, true, false, List, Option, Some, None, if◌then◌else◌}
 use Rattle.cc_base.specs.declared.place.Place.{Place}
 use Rattle.cc_base.specs.declared.number.NodeId.{NodeId}
 use Rattle.cc_base.specs.declared.number.TypeId.{TypeId}
@@ -10,6 +10,7 @@ use Rattle.c_types.specs.Layouts.{size_of}
 use Rattle.c_tree.specs.declared.leaf.Identifier.{Identifier}
 use Rattle.c_tree.specs.declared.typed_word.Home.{Home}
 use Rattle.c_tree.specs.declared.typed_word.Home.TheVariants as home
+use Rattle.c_tree.specs.Places.{nowhere}
 use Rattle.c_tree.specs.Tree as tree
 use Rattle.c_tree.specs.TypedTree as typed
 use Rattle.c_tree.specs.TypedTree.{TypedSpecifiers, TypedDeclarator, TypedInitialiser, TypedInitDeclarators, TypedDeclaration}
@@ -28,7 +29,7 @@ use Rattle.c_check.specs.Initialisers.{with_home, makes_chars}
 use Rattle.c_check.specs.Units.{Storage, AsTypedef, AsExtern, AsStatic, storage_of, unless_linked, unless_here, is_linked_home}
 use Rattle.c_check.specs.UnitRefusals.{declared_tests, size_written, is_lasting}
 use Rattle.c_check.specs.Linkage.{with_name}
-use Rattle.c_check.specs.UnitJudging.{UnitState, UnitJudging, UnitOutcome, Gives, Stops, known_of, pure, stop, obeying, by_known, lifted, ◌>>=◌, ◌>>◌}
+use Rattle.c_check.specs.UnitJudging.{UnitJudging, Gives, known_of, pure, stop, obeying, by_known, lifted, ◌>>=◌}
 use Rattle.c_check.specs.InitialiserJudging.{judge_initialiser}
 
 -- Homes
@@ -109,9 +110,9 @@ declare file storage name t home = by_known (λ s. declare_by (is_function_shape
 
 -- Declarators
 
--- the name of what was judged is tried and declared
+-- the name of what was judged is tried and declared; a declarator without a name declares nothing, and is never given
 unfoldable pub named : (file : Bool) → Storage → (initialised : Bool) → Option Identifier → TypedDeclarator → UnitJudging TypedDeclarator
-named file storage initialised None one = pure one
+named file storage initialised None one = stop (TooLarge nowhere Types)
 named file storage initialised (Some name) one = obeying
     (λ s. declared_tests s.table (known_of s) file storage initialised name.bytes (declared_type one) name.place)
     (do

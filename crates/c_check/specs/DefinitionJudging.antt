@@ -1,5 +1,5 @@
 -- What function definitions and units give, or where they stop (C99 6.9).
-use Rattle.std.specs.Prelude.{ℕ, ◌==◌, Bool, true, false, not, ◌&&◌, nat_lt, List, [], ◌∷◌, ◌++◌, Option, Some, None, codes, if◌then◌else◌}
+use Rattle.std.specs.Prelude.{ℕ, Bool, true, false, not, ◌&&◌, nat_lt, List, [], ◌∷◌, Option, Some, None, codes, if◌then◌else◌}
 use Rattle.cc_base.specs.declared.place.Place.{Place}
 use Rattle.cc_base.specs.declared.number.TypeId.{TypeId}
 use Rattle.cc_base.specs.declared.fault.Fault.TheVariants.{TooLarge}
@@ -22,9 +22,9 @@ use Rattle.c_typing.specs.Scopes.{Name, file_scope, place_among, entry_of}
 use Rattle.c_typing.specs.Tests.{Test, broken_at, has_some}
 use Rattle.c_typing.specs.Declaring.{declarator_name, entered, left}
 use Rattle.c_typing.specs.Walks.{judge_declarator, judge_specifiers_of}
-use Rattle.c_check.specs.Units.{Around, storage_of, parameters_of_form, declared_identifier}
+use Rattle.c_check.specs.Units.{storage_of, parameters_of_form, declared_identifier}
 use Rattle.c_check.specs.UnitRefusals.{definition_tests, start_of_text, is_integer_of}
-use Rattle.c_check.specs.Linkage.{Linkage, no_linkage, with_name}
+use Rattle.c_check.specs.Linkage.{no_linkage, with_name}
 use Rattle.c_check.specs.UnitJudging.{UnitState, UnitJudging, Gives, known_of, known, pure, stop, obeying, by_known, lifted, ◌>>=◌, ◌>>◌}
 use Rattle.c_check.specs.DeclarationJudging.{naming_for, linked_first, linked_name, new_name, judge_declaration}
 use Rattle.c_check.specs.StatementJudging.{judge_block_items}

@@ -1,5 +1,5 @@
 -- What initialisers give, or where they stop (C99 6.7.8).
-use Rattle.std.specs.Prelude.{ℕ, ◌+◌, Bool, true, false, not, ◌&&◌, nat_lt, List, [], ◌∷◌, ◌++◌, length, take, Option, Some, None, if◌then◌else◌}
+use Rattle.std.specs.Prelude.{ℕ, Bool, true, false, not, ◌&&◌, nat_lt, List, [], ◌∷◌, ◌++◌, length, take, Option, Some, None}
 use Rattle.cc_base.specs.declared.place.Place.{Place}
 use Rattle.cc_base.specs.declared.number.NodeId.{NodeId}
 use Rattle.cc_base.specs.declared.number.TypeId.{TypeId}
@@ -19,7 +19,7 @@ use Rattle.c_typing.specs.Tests.{Test, broken_at}
 use Rattle.c_typing.specs.Cells.{count_cells}
 use Rattle.c_typing.specs.Checking.{checked, checked_value}
 use Rattle.c_check.specs.Initialisers.{Slot, slot_of_shape, char_count_of_shape, is_char_array, items_count, is_constant}
-use Rattle.c_check.specs.UnitJudging.{UnitState, UnitJudging, pure, stop, obeying, by_known, lifted, ◌>>=◌, ◌>>◌}
+use Rattle.c_check.specs.UnitJudging.{UnitJudging, pure, stop, obeying, by_known, lifted, ◌>>=◌}
 
 -- A literal that initialises an array of so many characters, its zero byte where there is room for it
 

@@ -1,5 +1,5 @@
 -- What statements give, or where they stop (C99 6.8).
-use Rattle.std.specs.Prelude.{◌==◌, ℤ, Bool, true, false, not, List, [], ◌∷◌, Option, Some, None}
+use Rattle.std.specs.Prelude.{◌==◌, ℤ, Bool, false, not, List, [], ◌∷◌, Option, Some, None}
 use Rattle.std.specs.List.{list_any}
 use Rattle.std.specs.Ordering.{int_eq}
 use Rattle.cc_base.specs.declared.place.Place.{Place}
@@ -20,10 +20,10 @@ use Rattle.c_typing.specs.Conversions.{to_integer}
 use Rattle.c_typing.specs.Tests.{AsValue, broken_at}
 use Rattle.c_typing.specs.Judging.{integer_type}
 use Rattle.c_typing.specs.Declaring.{entered, left}
-use Rattle.c_typing.specs.Checking.{Constant, checked, checked_value, checked_constant}
+use Rattle.c_typing.specs.Checking.{checked, checked_value, checked_constant}
 use Rattle.c_check.specs.Units.{Around, in_a_loop, in_a_switch, labels_of, defaults_in}
 use Rattle.c_check.specs.UnitRefusals.{condition_tests, jump_tests, switch_tests}
-use Rattle.c_check.specs.UnitJudging.{UnitState, UnitJudging, pure, stop, obeying, by_known, lifted, ◌>>=◌, ◌>>◌}
+use Rattle.c_check.specs.UnitJudging.{UnitJudging, pure, stop, obeying, by_known, lifted, ◌>>=◌}
 use Rattle.c_check.specs.DeclarationJudging.{judge_declaration}
 
 -- Expressions in statements

@@ -1,13 +1,11 @@
 -- How the parts of a unit are judged one after another: as parts of an expression are (`c_typing`), with what is known besides of names
 -- that have linkage. Clauses inside the crate cite this; laws say that what is given is well typed, and that what is refused breaks the rule
 -- that is named.
-use Rattle.std.specs.Prelude.{◌≡◌, ◌≢◌, ℕ, Bool, true, false, List, [], ◌∷◌, ◌++◌, Option, Some, None, Result, Ok, Err, if◌then◌else◌}
-use Rattle.cc_base.specs.declared.number.NodeId.{NodeId}
+use Rattle.std.specs.Prelude.{◌≡◌, ◌≢◌, List, Option, Some, None, Result, Ok, Err}
 use Rattle.cc_base.specs.declared.fault.Fault.{Fault}
 use Rattle.cc_base.specs.declared.fault.Fault.TheVariants.{NoMemory}
 use Rattle.c_types.specs.Table.{Table}
-use Rattle.c_typing.specs.declared.declared.Declared.{Declared}
-use Rattle.c_typing.specs.Scopes.{Name, Seen}
+use Rattle.c_typing.specs.Scopes.{Seen}
 use Rattle.c_typing.specs.Tests.{Test, first_broken}
 use Rattle.c_typing.specs.Judging as judging
 use Rattle.c_typing.specs.Judging.{Judging, Outcome}

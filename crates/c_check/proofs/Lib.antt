@@ -1,2 +1,3 @@
 pub mod RefusedUnit
 pub mod TypedRow
+pub mod LinkageLaws

@@ -56,16 +56,16 @@ is_linked_object false storage = false
 
 -- a name that the innermost scope does not have
 abbrev pub new_in : Identifier → Declared → Option Declared → UnitJudging Declared
-new_in name what None = λ s. Gives what (record s { seen = scopes.with_scopes s.seen (declaring name.bytes what s.seen.scopes) })
+new_in name what None = λ s. Gives what (record s { scope = scopes.with_scopes s.scope (declaring name.bytes what s.scope.scopes) })
 new_in name what (Some other) = stop (TooLarge name.place Types)
 
 unfoldable pub new_name : Identifier → Declared → UnitJudging Declared
-new_name name what = by_known (λ s. new_in name what (here s.seen.scopes.levels name.bytes))
+new_name name what = by_known (λ s. new_in name what (here s.scope.scopes.levels name.bytes))
 
 -- a name with linkage: its first declaration stays, in its scope and everywhere
 unfoldable pub linked_name : Identifier → Declared → UnitJudging Declared
 linked_name name what = λ s. Gives what (record s {
-  seen = scopes.with_scopes s.seen (unless_here (here s.seen.scopes.levels name.bytes) name.bytes what s.seen.scopes);
+  scope = scopes.with_scopes s.scope (unless_here (here s.scope.scopes.levels name.bytes) name.bytes what s.scope.scopes);
   linkage = record s.linkage { linked = unless_linked (entry_of s.linkage.linked name.bytes) name.bytes what s.linkage.linked };
 })
 
@@ -86,7 +86,7 @@ lasting n = λ s. Gives n (record s { linkage = record s.linkage { statics = wit
 
 unfoldable pub new_static : Identifier → NodeId → TypeId → UnitJudging NodeId
 new_static name n t = do
-  bytes ← by_known (λ s. count_object name.place (complete_size s.table t))
+  bytes ← by_known (λ s. count_object name.place (complete_size s.types t))
   lasting n
 
 -- an object, by its home
@@ -105,7 +105,7 @@ declare_by false linked name t home = declare_object linked name t home
 -- a name is declared, with its type and its home
 unfoldable pub declare : (file : Bool) → Storage → Identifier → TypeId → Home → UnitJudging Declared
 declare file AsTypedef name t home = new_name name (declared.Typedef t)
-declare file storage name t home = by_known (λ s. declare_by (is_function_shape (shape_at s.table t)) (is_linked_object file storage) name t home)
+declare file storage name t home = by_known (λ s. declare_by (is_function_shape (shape_at s.types t)) (is_linked_object file storage) name t home)
 
 -- Declarators
 
@@ -113,7 +113,7 @@ declare file storage name t home = by_known (λ s. declare_by (is_function_shape
 unfoldable pub named : (file : Bool) → Storage → (initialised : Bool) → Option Identifier → TypedDeclarator → UnitJudging TypedDeclarator
 named file storage initialised None one = pure one
 named file storage initialised (Some name) one = obeying
-    (λ s. declared_tests s.table (known_of s) file storage initialised name.bytes (declared_type one) name.place)
+    (λ s. declared_tests s.types (known_of s) file storage initialised name.bytes (declared_type one) name.place)
     (do
       what ← declare file storage name (declared_type one) (home_of one)
       pure one)
@@ -153,7 +153,7 @@ judge_init_declarators file base (tree.AndPlain all d) = do
   pure (typed.AndPlain list one)
 judge_init_declarators file base (tree.AndInitialised all d at i) = do
   list ← judge_init_declarators file base all
-  one ← by_known (λ s. judge_named file base true (size_written (makes_chars s.table (specified_type base) d) i) d)
+  one ← by_known (λ s. judge_named file base true (size_written (makes_chars s.types (specified_type base) d) i) d)
   value ← judge_initialiser (is_lasting file (storage_of base)) i at (Some (declared_type one)) false
   again ← defining (declarator_name d) one
   pure (typed.AndInitialised list one at value)

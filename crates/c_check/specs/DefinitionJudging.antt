@@ -22,9 +22,9 @@ use Rattle.c_check_expr.specs.Scopes.{Name, file_scope, place_among, entry_of}
 use Rattle.c_check_expr.specs.Tests.{Test, broken_at, has_some}
 use Rattle.c_check_expr.specs.Declaring.{declarator_name, entered, left}
 use Rattle.c_check_expr.specs.Walks.{judge_declarator, judge_specifiers_of}
-use Rattle.c_check.specs.Units.{Around, storage_of, parameters_of_form, declared_identifier}
+use Rattle.c_check.specs.Units.{storage_of, parameters_of_form, declared_identifier}
 use Rattle.c_check.specs.UnitRefusals.{definition_tests, start_of_text, is_integer_of}
-use Rattle.c_check.specs.Linkage.{Linkage, no_linkage, with_name}
+use Rattle.c_check.specs.Linkage.{no_linkage, with_name}
 use Rattle.c_check.specs.UnitJudging.{UnitState, UnitJudging, Gives, known_of, known, pure, stop, obeying, by_known, lifted, ◌>>=◌, ◌>>◌}
 use Rattle.c_check.specs.DeclarationJudging.{naming_for, linked_first, linked_name, new_name, judge_declaration}
 use Rattle.c_check.specs.StatementJudging.{judge_block_items}
@@ -76,9 +76,9 @@ body brace result parameters items = stop (TooLarge brace Types)
 unfoldable pub defined_as : Option Identifier → TypedSpecifiers → TypedDeclarator → UnitJudging TypedDeclarator
 defined_as None base one = stop (TooLarge start_of_text Types)
 defined_as (Some name) base one = obeying
-    (λ s. definition_tests s.table (known_of s) (storage_of base) (has_some (parameters_of_form (form_of one) None)) name.bytes (declared_type one) name.place)
+    (λ s. definition_tests s.types (known_of s) (storage_of base) (has_some (parameters_of_form (form_of one) None)) name.bytes (declared_type one) name.place)
     (do
-      number ← by_known (λ s. counted name.place (place_among s.seen.scopes.defined name.bytes))
+      number ← by_known (λ s. counted name.place (place_among s.scope.scopes.defined name.bytes))
       what ← defined name (declared_type one)
       pure one)
 
@@ -87,7 +87,7 @@ judge_definition before specifiers d brace items = do
   base ← lifted (judge_specifiers_of false specifiers)
   one ← by_known (λ s. lifted (judge_declarator (naming_for true (storage_of base) (linked_first s.linkage.linked (declarator_name d))) base None d))
   again ← defined_as (declarator_name d) base one
-  list ← by_known (λ s. body brace (result_of (shape_at s.table (declared_type one))) (parameters_of_form (form_of one) None) items)
+  list ← by_known (λ s. body brace (result_of (shape_at s.types (declared_type one))) (parameters_of_form (form_of one) None) items)
   pure (typed.AndFunctionBody before base one brace list)
 
 -- Units
@@ -113,7 +113,7 @@ is_main T what = false
 
 abbrev pub main_tests : UnitState → List Test
 main_tests s = broken_at rule.NoMain start_of_text
-    (not (is_main s.table (entry_of s.linkage.linked (codes "main")) && has_some (place_among s.seen.scopes.defined (codes "main")))) ∷ []
+    (not (is_main s.types (entry_of s.linkage.linked (codes "main")) && has_some (place_among s.scope.scopes.defined (codes "main")))) ∷ []
 
 unfoldable pub judge_whole : tree.TranslationUnit → UnitJudging TypedTranslationUnit
 judge_whole u = do

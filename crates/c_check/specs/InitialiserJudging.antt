@@ -45,7 +45,7 @@ constant_tests T constant homes begin e = broken_at rule.NotConstant begin (cons
 unfoldable pub value_for : (constant : Bool) → Place → TypeId → tree.Expr → UnitJudging TypedInitialiser
 value_for constant at t e = do
   v ← lifted (checked_value t at true e)
-  obeying (λ s. constant_tests s.table constant s.linkage.statics (expr_place e) v) (initialised at v)
+  obeying (λ s. constant_tests s.types constant s.linkage.statics (expr_place e) v) (initialised at v)
 
 -- a literal for an array of char, by its count, or a value
 unfoldable pub value_or_text : (constant : Bool) → Place → TypeId → tree.Expr → Option ℕ → UnitJudging TypedInitialiser
@@ -61,7 +61,7 @@ excess at e = do
 -- an expression without braces
 unfoldable pub judge_plain : (constant : Bool) → tree.Expr → Place → Option TypeId → UnitJudging TypedInitialiser
 judge_plain constant e at None = excess at e
-judge_plain constant e at (Some t) = by_known (λ s. value_or_text constant at t e (char_count_of_shape s.table (shape_at s.table t)))
+judge_plain constant e at (Some t) = by_known (λ s. value_or_text constant at t e (char_count_of_shape s.types (shape_at s.types t)))
 
 -- Braces
 
@@ -91,7 +91,7 @@ unfoldable mutual
   judge_initialiser constant (tree.Listed brace items comma) at None single = stop (Refused brace rule.Mismatch)
   judge_initialiser constant (tree.Listed brace items comma) at (Some t) true = stop (Refused brace rule.Mismatch)
   judge_initialiser constant (tree.Listed brace items comma) at (Some t) false = do
-    text ← by_known (λ s. pure (is_only_literal items && is_char_array s.table t))
+    text ← by_known (λ s. pure (is_only_literal items && is_char_array s.types t))
     list ← judge_items constant items text t
     pure (typed.Listed brace list comma t)
 
@@ -99,8 +99,8 @@ unfoldable mutual
   judge_items constant tree.NoItem text t = pure typed.NoItem
   judge_items constant (tree.AndItem all i) text t = do
     list ← judge_items constant all text t
-    slot ← by_known (λ s. pure (item_slot s.table text t (items_count list)))
-    single ← by_known (λ s. pure (is_scalar_shape (shape_at s.table t)))
+    slot ← by_known (λ s. pure (item_slot s.types text t (items_count list)))
+    single ← by_known (λ s. pure (is_scalar_shape (shape_at s.types t)))
     one ← judge_initialiser constant i (initialiser_place i) (slot_type slot) single
     with_item list slot one
   judge_items constant (tree.AndMemberDesignator all at) text t = stop (TooLarge at Types)

@@ -98,7 +98,7 @@ abbrev mutual
 -- Constant initialisers (C99 6.6): of what lives as long as the program
 
 abbrev pub is_among : List NodeId → NodeId → Bool
-is_among homes n = list_any (λ each. each.0 == n.0) homes
+is_among homes n = list_any (λ each. n.0 == each.0) homes
 
 -- the homes, and one that may be new
 abbrev pub with_home : NodeId → List NodeId → List NodeId

@@ -3,15 +3,8 @@ use Rattle.std.specs.Prelude.{List, [], ◌∷◌, ◌++◌, if◌then◌else◌
 use Rattle.cc_base.specs.declared.number.NodeId.{NodeId}
 use Rattle.c_check_expr.specs.declared.declared.Declared.{Declared}
 use Rattle.c_check_expr.specs.Scopes.{Name}
+use Rattle.c_check.specs.declared.linkage.Linkage.{Linkage}
 use Rattle.c_check.specs.Units.{is_one_of}
-
-pub record Linkage : Type 0 where
-  -- what has linkage, wherever it was declared first
-  pub linked : List (Name × Declared)
-  -- the names with linkage that have a definition
-  pub defined : List Name
-  -- the homes of the objects that live as long as the program
-  pub statics : List NodeId
 
 -- before the text
 abbrev pub no_linkage : Linkage

@@ -21,7 +21,8 @@ use Rattle.c_check_expr.specs.Tests.{AsValue, broken_at}
 use Rattle.c_check_expr.specs.Judging.{integer_type}
 use Rattle.c_check_expr.specs.Declaring.{entered, left}
 use Rattle.c_check_expr.specs.Checking.{Constant, checked, checked_value, checked_constant}
-use Rattle.c_check.specs.Units.{Around, in_a_loop, in_a_switch, labels_of, defaults_in}
+use Rattle.c_check.specs.declared.around.Around.{Around}
+use Rattle.c_check.specs.Units.{in_a_loop, in_a_switch, labels_of, defaults_in}
 use Rattle.c_check.specs.UnitRefusals.{condition_tests, jump_tests, switch_tests}
 use Rattle.c_check.specs.UnitJudging.{UnitState, UnitJudging, pure, stop, obeying, by_known, lifted, ◌>>=◌, ◌>>◌}
 use Rattle.c_check.specs.DeclarationJudging.{judge_declaration}
@@ -32,7 +33,7 @@ use Rattle.c_check.specs.DeclarationJudging.{judge_declaration}
 unfoldable pub condition : Place → tree.Expr → UnitJudging TypedExpr
 condition at e = do
   c ← lifted (checked e)
-  obeying (λ s. condition_tests s.table at (AsValue c)) (pure c)
+  obeying (λ s. condition_tests s.types at (AsValue c)) (pure c)
 
 unfoldable pub condition_or_none : Place → Option tree.Expr → UnitJudging (Option TypedExpr)
 condition_or_none at None = pure None
@@ -49,7 +50,7 @@ dropped (Some e) = do
 
 -- what `return` gives to a function with this result
 unfoldable pub returned : Place → TypeId → Option tree.Expr → UnitJudging (Option TypedExpr)
-returned at t None = obeying (λ s. broken_at rule.Mismatch at (not (is_void_shape (shape_at s.table t))) ∷ []) (pure None)
+returned at t None = obeying (λ s. broken_at rule.Mismatch at (not (is_void_shape (shape_at s.types t))) ∷ []) (pure None)
 returned at t (Some e) = do
   v ← lifted (checked_value t at false e)
   pure (Some v)
@@ -62,7 +63,7 @@ promoted_by at e (Some k) = to_integer at (integer_type (promoted k)) e
 unfoldable pub switched : Place → tree.Expr → UnitJudging TypedExpr
 switched at e = do
   c ← lifted (checked e)
-  obeying (λ s. switch_tests s.table at (AsValue c)) (by_known (λ s. pure (promoted_by at c (integer_at s.table (type_of c)))))
+  obeying (λ s. switch_tests s.types at (AsValue c)) (by_known (λ s. pure (promoted_by at c (integer_at s.types (type_of c)))))
 
 -- Labels
 
@@ -80,7 +81,7 @@ labelled at labels list e (Some z) = obeying (λ s. broken_at rule.Redeclared at
 unfoldable pub case_label : (on : Option TypeId) → Place → tree.Expr → TypedBlockItems → UnitJudging TypedBlockItems
 case_label on at e list = do
   c ← lifted (checked_constant e)
-  by_known (λ s. labelled at (labels_of list) list c.expr (label_as s.table on c.value))
+  by_known (λ s. labelled at (labels_of list) list c.expr (label_as s.types on c.value))
 
 unfoldable pub default_label : Place → TypedBlockItems → UnitJudging TypedBlockItems
 default_label at list = obeying (λ s. broken_at rule.Redeclared at (not (defaults_in list == 0)) ∷ []) (pure (typed.AndDefault list at))

@@ -12,22 +12,21 @@ use Rattle.c_check_expr.specs.Tests.{Test, first_broken}
 use Rattle.c_check_expr.specs.Judging as judging
 use Rattle.c_check_expr.specs.Judging.{Judging, Outcome}
 use Rattle.c_check.specs.Units.{Known}
-use Rattle.c_check.specs.Linkage.{Linkage}
+use Rattle.c_check.specs.declared.context.Context.{Context}
+use Rattle.c_check.specs.declared.linkage.Linkage.{Linkage}
 
 infixr 20 ◌>>=◌
 infixr 20 ◌>>◌
 -- What is known where a part of a unit is judged: the types, what a `Scope` holds, and what is linked, defined and lasts.
-pub record UnitState : Type 0 where
-  pub table : Table
-  pub seen : Seen
-  pub linkage : Linkage
+abbrev pub UnitState : Type 0
+UnitState = Context
 
 abbrev pub known : Table → Seen → Linkage → UnitState
-known table seen linkage = record { table = table; seen = seen; linkage = linkage }
+known types scope linkage = record { types = types; scope = scope; linkage = linkage }
 
 -- as the rules of units have it
 abbrev pub known_of : UnitState → Known
-known_of s = record { scopes = s.seen.scopes; linked = s.linkage.linked; defined = s.linkage.defined; statics = s.linkage.statics }
+known_of s = record { scopes = s.scope.scopes; linked = s.linkage.linked; defined = s.linkage.defined; statics = s.linkage.statics }
 
 -- what a part gives, and what is known after it; or why it stops, and what is known there
 pub data UnitOutcome (A : Type 0) : Type 0 where
@@ -73,7 +72,7 @@ with_linkage l (judging.Gives a s) = Gives a (known s.table s.seen l)
 with_linkage l (judging.Stops fault s) = Stops fault (known s.table s.seen l)
 
 abbrev pub lifted : {A : Type 0} → Judging A → UnitJudging A
-lifted p = λ s. with_linkage s.linkage (p (judging.known s.table s.seen))
+lifted p = λ s. with_linkage s.linkage (p (judging.known s.types s.scope))
 
 -- What a call of the code answers: want of memory apart, the outcome.
 abbrev pub Answers : {A B : Type 0} → (B → A) → UnitOutcome A → Result B Fault → UnitState → Type 0

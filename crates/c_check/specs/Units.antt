@@ -26,6 +26,7 @@ use Rattle.c_check_expr.specs.Conversions.{IsPlain, IsConverted}
 use Rattle.c_check_expr.specs.Rules.{IsCondition, IsPromoted, IsDroppable}
 use Rattle.c_check_expr.specs.Declarators.{Outermost, Written, Counts, FormMakes}
 use Rattle.c_check_expr.specs.Typing.{IsTyped, AreSpecifiers, AreAlone, IsForm, IsNewName}
+use Rattle.c_check.specs.declared.around.Around.{Around}
 use Rattle.c_check.specs.Initialisers.{IsInitialiser, is_constant_initialiser, is_char_array, size_given, with_home}
 
 -- What is known at a point of a unit.
@@ -216,14 +217,6 @@ IsDeclaration T file (typed.Declare specifiers all) k k' =
     (s : Scopes) × AreSpecifiers T specifiers k.scopes s × AreDeclarators T file (storage_of specifiers) (specified_type specifiers) all (with_scopes k s) k'
 
 -- Statements (C99 6.8)
-
--- What a statement stands in.
-pub record Around : Type 0 where
-  -- the result of the function
-  pub result : TypeId
-  -- whether a loop, and whether a loop or a `switch`, stands around it
-  pub in_loop : Bool
-  pub breakable : Bool
 
 abbrev pub in_a_loop : Around → Around
 in_a_loop a = record a { in_loop = true; breakable = true }

@@ -1,2 +1,12 @@
-//! The typing of units (C99 6.7 to 6.9). So far the crate has the definitions: when a typed unit is well typed.
+//! The typing of units (C99 6.7 to 6.9).
 #![tactic(auto)]
+
+mod around;
+mod blocks;
+mod context;
+mod expressions;
+mod faults;
+mod labels;
+mod linkage;
+mod names;
+mod texts;

@@ -143,14 +143,14 @@ unfolding comma
 comma-held a b s o r h = (construct-gives (λ (q : State). []) a.place (a.held ∷ b.held ∷ []) (pure (comma_part a.expr (side_of b.expr))) s o r h).held
 
 assign-held : (x : Operand) (at : Place) (y : Operand) (s : State) (o : Operand) (r : State) → Assignments.assign x at y s ≡ Gives o r → o.held ≡ held_with 0 (x.held ∷ y.held ∷ [])
-unfolding Assignments.assign
+unfolding Assignments.assign Assignments.assign_given
 assign-held x at y s o r h =
     let one = bind-gives (given (part_type x.part) y.place y.part s)
     (λ v. construct (λ q. assign_tests q.table q.seen.scopes assignment.Assign at x.part v) x.place (x.held ∷ y.held ∷ []) (assign_part at x.part v)) o r h in
     (construct-gives (λ (q : State). assign_tests q.table q.seen.scopes assignment.Assign at x.part one.0) x.place (x.held ∷ y.held ∷ []) (assign_part at x.part one.0) one.1 o r one.3).held
 
 cast-held : (at : Place) (to : TypedTypeName) (x : Operand) (s : State) (o : Operand) (r : State) → Assignments.cast at to x s ≡ Gives o r → o.held ≡ held_with 0 (x.held ∷ [])
-unfolding Assignments.cast
+unfolding Assignments.cast Assignments.cast_given
 cast-held at to x s o r h =
     let one = bind-gives (given (named_type to) x.place x.part s)
     (λ v. construct (λ q. cast_tests q.table at v (named_type to)) at (x.held ∷ []) (by_known (λ q. pure (AsValue (cast_part q.table at to v))))) o r h in
@@ -167,7 +167,7 @@ character-held n at s o r h = (leaf-gives at (pure (AsValue (typed.Character n a
 literal-held : (pieces : List StringPiece) (s : State) (o : Operand) (r : State) → literal pieces s ≡ Gives o r → o.held ≡ 1
 unfolding literal
 literal-held pieces s o r h =
-    (leaf-gives (pieces_place pieces) (new_node (pieces_place pieces) >>= (λ n. type_with (pieces_place pieces) (Array (integer_type char) (length (pieces_bytes pieces) + 1))
+    (leaf-gives (pieces_place pieces) (new_node (pieces_place pieces) >>= (λ n. Assignments.string_type (pieces_place pieces) (length (pieces_bytes pieces) + 1)
     >>= (λ t. count_global (pieces_place pieces) (length (pieces_bytes pieces) + 1) >>= (λ bytes. pure (AsPlace (typed.String pieces n t)))))) s o r h).2
 
 abbrev value_with : Operand → TypedExpr → Value

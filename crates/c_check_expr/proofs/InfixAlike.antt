@@ -24,7 +24,7 @@ use Rattle.c_check_expr.specs.Refusals.{Fails}
 use Rattle.c_check_expr.specs.Scopes.{Scopes}
 use Rattle.c_check_expr.specs.Settled.{IsBasic, IsValueOf, flat, is_value_part, IsAlike}
 use Rattle.c_check_expr.specs.Shapes.{is_scalar_shape, is_integer_shape, is_pointer_shape, integer_at}
-use Rattle.c_check_expr.specs.Tests.{Elaborated, AsPlace, AsValue, AsAllocation, Test, broken_at, first_broken, decayed, shape_of, is_null_part, points_to_incomplete, is_index_pair, are_integers, is_moving, point_alike, point_to_data, divides_as, divides_part, infix_tests}
+use Rattle.c_check_expr.specs.Tests.{taken_as, Elaborated, AsPlace, AsValue, AsAllocation, Test, broken_at, first_broken, decayed, shape_of, is_null_part, points_to_incomplete, is_index_pair, are_integers, is_moving, point_alike, point_to_data, divides_as, divides_part, infix_tests}
 use Rattle.c_tree.specs.declared.leaf.Identifier.{Identifier}
 use Rattle.c_tree.specs.declared.operator.Assignment.{Assignment}
 use Rattle.c_tree.specs.declared.operator.Assignment.TheVariants as assignment
@@ -73,8 +73,7 @@ alike_flat T (Pointer n t) (Pointer m u) = refl
 alike_flat T x y = refl
 
 abbrev takes : Table → TypeShape → TypeShape → Bool
-takes T (Pointer n t) (Pointer w u) = is_taken_as T t u
-takes T x y = false
+takes = taken_as
 
 takes_flat : (T : Table) (x y : TypeShape) → takes T x y ≡ takes T (flat x) (flat y)
 takes_flat T (Pointer n t) (Pointer m u) = refl

@@ -28,7 +28,7 @@ use Rattle.c_check_expr.specs.Rules.{IsPointer, IsLogical, IsArithmetic, IsMoved
 use Rattle.c_check_expr.specs.Scopes.{Scopes, is_complete_at}
 use Rattle.c_check_expr.specs.Settled.{IsBasic, IsSettled, is_converted}
 use Rattle.c_check_expr.specs.Shapes.{integer_at, integer_of_shape, is_pointer_shape, is_integer_shape, is_scalar_shape, is_same_type, is_data}
-use Rattle.c_check_expr.specs.Tests.{first_broken, AsValue, infix_tests, accepts, is_moving, is_index_pair, are_integers, point_alike, point_to_data, points_to_incomplete, meet, divides_part, divides_as, constant_as, same_kind}
+use Rattle.c_check_expr.specs.Tests.{first_broken, AsValue, infix_tests, accepts, is_moving, is_index_pair, are_integers, point_alike, point_to_data, points_to_incomplete, meet, taken_as, divides_part, divides_as, constant_as, same_kind}
 use Rattle.c_check_expr.specs.Typing.{IsTyped}
 use Rattle.c_check_expr.proofs.ExtensionLaws.{no_true, and_left, and_right}
 use Rattle.c_check_expr.proofs.ConstructLaws.{three_unbroken, not_false, or_left, or_right, either_false, has_shape, pointer_value, integer_value, to_integer-typed, to_integer-bare, integer_size, promoted_size, operand}
@@ -321,8 +321,7 @@ module _ (T : Table) (s0 m s : Scopes) (operator : Binary) (at : Place) (a b : T
 
   -- what `meet` says of two shapes, by which of the two are null constants
   abbrev takes : TypeShape → TypeShape → Bool
-  takes (Pointer n t) (Pointer w u) = is_taken_as T t u
-  takes x y = false
+  takes = taken_as T
 
   abbrev meets : Bool → Bool → TypeShape → TypeShape → Bool
   meets one other x y = (other && is_pointer_shape x) || ((one && is_pointer_shape y) || takes x y)

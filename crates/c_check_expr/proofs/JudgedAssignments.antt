@@ -20,7 +20,7 @@ use Rattle.c_tree.specs.Tree as tree
 use Rattle.c_tree.specs.TypedTree as typed
 use Rattle.c_tree.specs.TypedTree.{TypedExpr, TypedPlace, TypedTypeName}
 use Rattle.c_tree.specs.TypedParts.{type_of, place_type, named_type}
-use Rattle.c_check_expr.specs.Assignments.{converted_by, converted_to, assigned, assign_part, part_type, assign, comma_part, comma}
+use Rattle.c_check_expr.specs.Assignments.{assign_given, converted_by, converted_to, assigned, assign_part, part_type, assign, comma_part, comma}
 use Rattle.c_check_expr.specs.Constants.{is_null_constant}
 use Rattle.c_check_expr.specs.Conversions.{bare, is_plain, IsPlain, is_droppable, IsTakenOver, is_allocation, is_taken_over, implicit, implicit_between, converting, is_pointer_to_complete, is_pointer_to_complete_shape, takes_over, IsAssignedBy, IsAssigned}
 use Rattle.c_check_expr.specs.Judging.{State, Outcome, Judging, Gives, Stops, next, ◌>>=◌, pure, stop, by_known, new_pointer, void_type}
@@ -297,7 +297,7 @@ assign_elaborated T ea eb p at v s0 m s place same given_v u = by v given_v (not
 pub assign-judged : (ea eb : tree.Expr) (x : Operand) (at : Place) (y o : Operand) (s0 m : Scopes) (s r : State) → IsKnown s → IsElaborated s.table ea x.part s0 m
     → IsElaborated s.table eb y.part m s.seen.scopes → x.place ≡ expr_place ea → assign x at y s ≡ Gives o r
     → IsJudged (tree.Assign assignment.Assign ea at eb) o s0 s r
-unfolding assign assign_part
+unfolding assign assign_given assign_part
 assign-judged ea eb x at y o s0 m s r k ex ey here h =
     let one = bind-gives (given (part_type x.part) y.place y.part s)
     (λ v. construct (λ q. assign_tests q.table q.seen.scopes assignment.Assign at x.part v) x.place (x.held ∷ y.held ∷ []) (assign_part at x.part v)) o r h in

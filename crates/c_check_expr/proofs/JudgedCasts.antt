@@ -24,7 +24,7 @@ use Rattle.c_tree.specs.TypedTree as typed
 use Rattle.c_tree.specs.TypedTree.{TypedExpr, TypedPlace, TypedTypeName}
 use Rattle.c_tree.specs.TypedParts.{type_of, place_type, named_type}
 use Rattle.integers.specs.Arithmetic.{IntegerType}
-use Rattle.c_check_expr.specs.Assignments.{part_expr, cast_which, cast_part, cast, updated, update_part, update_by}
+use Rattle.c_check_expr.specs.Assignments.{part_expr, conversion_or_void, cast_by, is_allocation_part, cast_part, cast, cast_given, updated, update_part, update_by}
 use Rattle.c_check_expr.specs.Constants.{is_null_constant}
 use Rattle.c_check_expr.specs.Conversions.{bare, is_plain, IsPlain, is_droppable, is_allocation, is_taken_over, is_pointer_to_complete, is_pointer_to_complete_shape, takes_over, cast_between, cast_conversion, to_integer}
 use Rattle.c_check_expr.specs.Integers.{assigning, left_type, right_type}
@@ -83,8 +83,7 @@ cast_scalar false (Pointer m t) (Pointer n u) which h = inr refl
 cast_scalar null x y which h = absurd (none-some which h)
 
 abbrev or_void : Option Conversion → Conversion
-or_void None = conversion.ToVoid
-or_void (Some which) = which
+or_void = conversion_or_void
 
 some_of : {A : Type 0} (o : Option A) → has_some o ≡ true → (a : A) × (o ≡ Some a)
 some_of (Some a) h = (a, refl)
@@ -108,26 +107,26 @@ module _ (T : Table) (name : tree.TypeName) (e : tree.Expr) (at : Place) (to : T
         refl,
       )
 
-  cast_by : (y : Elaborated) (b : Bool) → is_void_shape (shape_at T (named_type to)) ≡ b → IsGiven T (named_type to) e y m s → ((w : TypedExpr) → y ≡ AsValue w → is_droppable w ≡ true)
+  cast_as : (y : Elaborated) (b : Bool) → is_void_shape (shape_at T (named_type to)) ≡ b → IsGiven T (named_type to) e y m s → ((w : TypedExpr) → y ≡ AsValue w → is_droppable w ≡ true)
       → is_castable T y (shape_at T (named_type to)) ≡ true
-      → IsElaborated T (tree.Cast at name e) (AsValue (typed.Cast (cast_which T y (named_type to) b) at to (part_expr y))) s0 s
-  cast_by (AsPlace q) true v g d h =
+      → IsElaborated T (tree.Cast at name e) (AsValue (typed.Cast (cast_by T (is_allocation_part y) (part_expr y) (named_type to) b) at to (part_expr y))) s0 s
+  cast_as (AsPlace q) true v g d h =
       let second = g.2 in
       ((m, named, (g.0, g.1), inl ((there, void_is (shape_at T (named_type to)) v), refl, refl)), (λ i. tree.Cast at (called i) (second i)), refl)
-  cast_by (AsPlace q) false v g d h =
+  cast_as (AsPlace q) false v g d h =
       no_true (sym (struct_cast (shape_at T (place_type q)) (shape_at T (named_type to)) g.1)
       ∙ or_else (is_void_shape (shape_at T (named_type to))) (has_some (cast_between false (decayed (shape_at T (place_type q))) (shape_at T (named_type to)))) v h)
-  cast_by (AsValue w) true v g d h =
+  cast_as (AsValue w) true v g d h =
       let second = g.value.erases in
       ((m, named, g.value.typed, inl ((there, void_is (shape_at T (named_type to)) v), refl, d w refl)), (λ i. tree.Cast at (called i) (second i)), refl)
-  cast_by (AsValue w) false v g d h =
+  cast_as (AsValue w) false v g d h =
       let some = some_of (cast_conversion T w (named_type to))
       (or_else (is_void_shape (shape_at T (named_type to))) (has_some (cast_conversion T w (named_type to))) v h) in
-      let which : cast_which T (AsValue w) (named_type to) false ≡ some.0 = ap or_void some.1 in
+      let which : cast_by T false w (named_type to) false ≡ some.0 = ap or_void some.1 in
       subst (λ (k : Conversion). IsElaborated T (tree.Cast at name e) (AsValue (typed.Cast k at to w)) s0 s) (sym which)
       (cast_value w some.0 g.value g.free some.1)
-  cast_by (AsAllocation w) true v g d h = no_true (sym (pointed_no_void T s (shape_at T (named_type to)) g.pointer) ∙ v)
-  cast_by (AsAllocation w) false v g d h =
+  cast_as (AsAllocation w) true v g d h = no_true (sym (pointed_no_void T s (shape_at T (named_type to)) g.pointer) ∙ v)
+  cast_as (AsAllocation w) false v g d h =
       let block = over-bare w g.over in
       let over : takes_over T s (named_type to) w ≡ true =
       ap (λ (u : TypedExpr). is_allocation u && is_pointer_to_complete T s (named_type to)) block.0 ∙ (λ i. block.1 i && g.pointer i) in
@@ -147,7 +146,7 @@ pub cast-judged : (name : tree.TypeName) (e : tree.Expr) (at : Place) (to : Type
     → IsTypeName s.table to s0 m → erased_type_name to ≡ name → IsType s.table (named_type to) → IsElaborated s.table e x.part m s.seen.scopes
     → ((w : TypedExpr) (q : State) → given (named_type to) x.place x.part s ≡ Gives (AsValue w) q → is_droppable w ≡ true) → cast at to x s ≡ Gives o r
     → IsJudged (tree.Cast at name e) o s0 s r
-unfolding cast
+unfolding cast cast_given
 cast-judged name e at to x o s0 m s r k named called there el dropped h =
     let one = bind-gives (given (named_type to) x.place x.part s)
     (λ v. construct (λ q. cast_tests q.table at v (named_type to)) at (x.held ∷ []) (by_known (λ q. pure (AsValue (cast_part q.table at to v))))) o r h in
@@ -157,7 +156,7 @@ cast-judged name e at to x o s0 m s r k named called there el dropped h =
     let c = construct-gives (λ (q : State). cast_tests q.table at v (named_type to)) at (x.held ∷ []) (by_known (λ q. pure (AsValue (cast_part q.table at to v)))) n o r one.3 in
     let grows = got.1.goes.extends in
     made-later (tree.Cast at name e) (AsValue (cast_part n.table at to v)) o s0 s n r got.1.goes c.part c.place
-    (cast_by n.table name e at to s0 m n.seen.scopes (type_name-kept s.table n.table grows k.basic to s0 m named) called (still_in s.table n.table grows (named_type to) there)
+    (cast_as n.table name e at to s0 m n.seen.scopes (type_name-kept s.table n.table grows k.basic to s0 m named) called (still_in s.table n.table grows (named_type to) there)
     v (is_void_shape (shape_at n.table (named_type to))) refl got.0 (λ w alike. dropped w n (one.2 ∙ ap (λ (z : Elaborated). Gives z n) alike))
     (not_false (is_castable n.table v (shape_at n.table (named_type to))) (one_unbroken (not (is_castable n.table v (shape_at n.table (named_type to)))) (Refused at rule.Mismatch) c.unbroken)))
 

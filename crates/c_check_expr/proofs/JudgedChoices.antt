@@ -30,7 +30,7 @@ use Rattle.c_check_expr.specs.Rules.{IsCondition, Meeting, RightIsNull, LeftIsNu
 use Rattle.c_check_expr.specs.Scopes.{Scopes}
 use Rattle.c_check_expr.specs.Settled.{IsBasic, IsSettled, IsValueOf, IsKnown, GoesOn, GoesOnThere, IsJudged}
 use Rattle.c_check_expr.specs.Shapes.{is_scalar_shape, is_void_shape, is_integer_shape, is_pointer_shape, integer_at, integer_of_shape, is_same_type}
-use Rattle.c_check_expr.specs.Tests.{Elaborated, AsPlace, AsValue, AsAllocation, first_broken, choice_tests, are_integers, are_one_struct, meet, decayed, shape_of}
+use Rattle.c_check_expr.specs.Tests.{Elaborated, AsPlace, AsValue, AsAllocation, first_broken, choice_tests, are_integers, are_one_struct, meet, taken_as, decayed, shape_of}
 use Rattle.c_check_expr.specs.Typing.{IsTyped, IsPlace}
 use Rattle.c_check_expr.proofs.ExtensionLaws.{no_true, and_left, and_right}
 use Rattle.c_check_expr.proofs.ConstructLaws.{one_unbroken, not_false, to_integer-typed, to_integer-bare, integer_size, promoted_size, operand}
@@ -122,8 +122,7 @@ met_pointee false true false false t u h = no_true h
 met_pointee false false mine yours t u h = no_true h
 
 abbrev takes : Table → TypeShape → TypeShape → Bool
-takes T (Pointer n t) (Pointer w u) = is_taken_as T t u
-takes T x y = false
+takes = taken_as
 
 abbrev meets : Table → Bool → Bool → TypeShape → TypeShape → Bool
 meets T one other x y = (other && is_pointer_shape x) || ((one && is_pointer_shape y) || takes T x y)

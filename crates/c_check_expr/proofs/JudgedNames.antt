@@ -24,7 +24,7 @@ use Rattle.runtime_calls.specs.Prototypes.{IsNamed, IsNoName, runtime_of}
 use Rattle.runtime_calls.proofs.Found.{runtime_of-exact}
 use Rattle.c_check_expr.specs.declared.declared.Declared.{Declared}
 use Rattle.c_check_expr.specs.declared.declared.Declared.TheVariants as declared
-use Rattle.c_check_expr.specs.Assignments.{function_name, named_as, name, count_global, literal}
+use Rattle.c_check_expr.specs.Assignments.{string_type, is_char_array, function_name, named_as, name, count_global, literal}
 use Rattle.c_check_expr.specs.Integers.{char}
 use Rattle.c_check_expr.specs.Judging.{State, Outcome, Judging, Gives, Stops, next, ◌>>=◌, pure, stop, by_known, Pointing, new_node, new_pointer, type_with, void_type, integer_type}
 use Rattle.c_check_expr.specs.Operands.{Operand}
@@ -131,24 +131,34 @@ array_addable T t count h c = record { proper = omega arith; named = All-cons (I
 integer_complete : (T : Table) (t : TypeId) (w : ℕ) (g : Bool) → shape_at T t ≡ Integer w g → IsComplete T t
 integer_complete T t w g h = subst (λ (x : TypeShape). is_complete_entry x (members_at T t) ≡ true) (sym h) refl
 
+-- the type of a literal is added as any other
+string_type-gives : (at : Place) (n : ℕ) (t : TypeId) (s r : State) → string_type at n s ≡ Gives t r → type_with at (Array (integer_type char) n) s ≡ Gives t r
+unfolding string_type
+string_type-gives at n t s r h = by (is_char_array s.table n) h
+  where
+    by : (b : Bool) → (if b then type_with at (Array (integer_type char) n) s else Stops (TooLarge at Types) s) ≡ Gives t r → type_with at (Array (integer_type char) n) s ≡ Gives t r
+    by true q = q
+    by false q = never-gives t (TooLarge at Types) s r q
+
 pub literal-judged : (pieces : List StringPiece) (o : Operand) (s r : State) → IsKnown s → literal pieces s ≡ Gives o r
     → IsJudged (tree.String pieces) o s.seen.scopes s r
 unfolding literal
 literal-judged pieces o s r k h =
     let at : Place = pieces_place pieces in
     let count : ℕ = length (pieces_bytes pieces) in
-    let leaf = leaf-gives at (new_node at >>= (λ n. type_with at (Array (integer_type char) (count + 1)) >>= (λ t. count_global at (count + 1) >>= (λ bytes. pure (AsPlace (typed.String pieces n t))))))
+    let leaf = leaf-gives at (new_node at >>= (λ n. string_type at (count + 1) >>= (λ t. count_global at (count + 1) >>= (λ bytes. pure (AsPlace (typed.String pieces n t))))))
     s o r h in
-    let one = bind-gives (new_node at s) (λ n. type_with at (Array (integer_type char) (count + 1)) >>= (λ t. count_global at (count + 1) >>= (λ bytes. pure (AsPlace (typed.String pieces n t))))) o.part r leaf.0 in
+    let one = bind-gives (new_node at s) (λ n. string_type at (count + 1) >>= (λ t. count_global at (count + 1) >>= (λ bytes. pure (AsPlace (typed.String pieces n t))))) o.part r leaf.0 in
     let first = node-there at one.0 s one.1 k one.2 in
     let known = first.goes.known in
     let own = known.basic.integers char (inl refl) in
-    let two = bind-gives (type_with at (Array (integer_type char) (count + 1)) one.1) (λ t. count_global at (count + 1) >>= (λ bytes. pure (AsPlace (typed.String pieces one.0 t)))) o.part r one.3 in
+    let two = bind-gives (string_type at (count + 1) one.1) (λ t. count_global at (count + 1) >>= (λ bytes. pure (AsPlace (typed.String pieces one.0 t)))) o.part r one.3 in
+    let made = string_type-gives at (count + 1) two.0 one.1 two.1 two.2 in
     let whole = integer_complete one.1.table (integer_type char) 1 true own.1 in
     let addable = array_addable one.1.table (integer_type char) count own.0 whole in
     let parts = All-cons (IsComplete one.1.table) (integer_type char) [] whole (All-nil (IsComplete one.1.table)) in
-    let found = type_with-found at (Array (integer_type char) (count + 1)) two.0 one.1 two.1 known addable parts refl two.2 in
-    let second = type_with-there at (Array (integer_type char) (count + 1)) two.0 one.1 two.1 known addable parts refl two.2 in
+    let found = type_with-found at (Array (integer_type char) (count + 1)) two.0 one.1 two.1 known addable parts refl made in
+    let second = type_with-there at (Array (integer_type char) (count + 1)) two.0 one.1 two.1 known addable parts refl made in
     let three = bind-gives (count_global at (count + 1) two.1) (λ bytes. pure (AsPlace (typed.String pieces one.0 two.0))) o.part r two.3 in
     let third = count-gives at (count + 1) three.0 two.1 three.1 second.goes.known three.2 in
     let all = there-on s one.1 three.1 first (there-on one.1 two.1 three.1 second third) in

@@ -40,4 +40,12 @@ pub mod HeldTrees
 pub mod SidesAlike
 pub mod SidesTaken
 pub mod SameLaws
+pub mod KindLaws
+pub mod SizeLaws
 pub mod ValueLaws
+pub mod CallLaws
+pub mod LiteralLaws
+pub mod MemberLaws
+pub mod RuntimeLaws
+pub mod SeriesLaws
+pub mod PlaceLaws

@@ -297,7 +297,7 @@ given-never t at (AsPlace p) s = next-never (value_of at (AsPlace p) s) (λ v. p
 
 pub assign-refused : (x : Operand) (at : Place) (y : Operand) (s : State) (p : Place) (t : Rule) (r : State) → Assignments.assign x at y s ≡ Stops (Refused p t) r
     → (v : Elaborated) × (given (part_type x.part) y.place y.part s ≡ Gives v r) × Fails (assign_tests r.table r.seen.scopes assignment.Assign at x.part v) (Refused p t)
-unfolding Assignments.assign
+unfolding Assignments.assign Assignments.assign_given
 assign-refused x at y s p t r h =
     elim (bind-stops (given (part_type x.part) y.place y.part s)
     (λ v. construct (λ q. assign_tests q.table q.seen.scopes assignment.Assign at x.part v) x.place (x.held ∷ y.held ∷ []) (assign_part at x.part v)) (Refused p t) r h) [
@@ -313,7 +313,7 @@ assign-refused x at y s p t r h =
 
 pub cast-refused : (at : Place) (to : TypedTypeName) (x : Operand) (s : State) (p : Place) (t : Rule) (r : State) → Assignments.cast at to x s ≡ Stops (Refused p t) r
     → (v : Elaborated) × (given (named_type to) x.place x.part s ≡ Gives v r) × Fails (cast_tests r.table at v (named_type to)) (Refused p t)
-unfolding Assignments.cast
+unfolding Assignments.cast Assignments.cast_given
 cast-refused at to x s p t r h =
     elim (bind-stops (given (named_type to) x.place x.part s)
     (λ v. construct (λ q. cast_tests q.table at v (named_type to)) at (x.held ∷ []) (by_known (λ q. pure (AsValue (cast_part q.table at to v))))) (Refused p t) r h) [

@@ -1,5 +1,5 @@
 -- Values of integer types.
-use Rattle.std.proofs.Common.{zero, suc, not, ◌&&◌, ◌≢◌, ◌-ℤ◌, ◌/◌, ◌≤◌, neg_ℤ, int_div, int_rem, FitsSigned, true≢false, ℕ, ℤ, pos, negsuc, ◌+◌, ◌-◌, ◌*◌, ◌%◌, ◌^◌, ◌<◌, ◌≡◌, ◌⊎◌, ◌+ℤ◌, Bool, true, false, refl, ap, subst, sym, ◌∙◌, arith, inl, inr, if◌then◌else◌, nat_lt}
+use Rattle.std.proofs.Common.{zero, suc, None, Some, not, ◌&&◌, ◌≢◌, ◌-ℤ◌, ◌/◌, ◌≤◌, neg_ℤ, int_div, int_rem, FitsSigned, true≢false, ℕ, ℤ, pos, negsuc, ◌+◌, ◌-◌, ◌*◌, ◌%◌, ◌^◌, ◌<◌, ◌≡◌, ◌⊎◌, ◌+ℤ◌, Bool, true, false, refl, ap, subst, sym, ◌∙◌, arith, inl, inr, if◌then◌else◌, nat_lt}
 use mir.Syntax.{w128}
 use mir.Val.{SFits}
 use lib.Signed.{mag}
@@ -11,27 +11,31 @@ use Rattle.std.proofs.lemmas.Int.{quot_fits, ints}
 use Rattle.std.proofs.lemmas.Bool.Decides.{Decides-int_eq}
 use Rattle.std.proofs.lemmas.Bool.Decides.{nat_tests}
 use Rattle.integers.specs.Words.{residue, word, as_signed, as_unsigned, signed_of}
-use Rattle.integers.specs.Arithmetic.{IntegerType, converted, bits_of, least}
+use Rattle.integers.specs.Arithmetic.{IntegerType, Operator, converted, bits_of, least, divides}
+use Rattle.c_check_expr.specs.Constants.{cannot_divide}
 
-residue_wrapped_64 : (z : ℤ) → residue (int_wrap w128 z) (2 ^ 64) ≡ residue z (2 ^ 64)
+pub residue_wrapped_64 : (z : ℤ) → residue (int_wrap w128 z) (2 ^ 64) ≡ residue z (2 ^ 64)
 unfolding int_wrap
 residue_wrapped_64 (pos n) = grind (arith, nat_tests)
 residue_wrapped_64 (negsuc n) = grind (arith, nat_tests)
 
-residue_wrapped_32 : (z : ℤ) → residue (int_wrap w128 z) (2 ^ 32) ≡ residue z (2 ^ 32)
+pub residue_wrapped_32 : (z : ℤ) → residue (int_wrap w128 z) (2 ^ 32) ≡ residue z (2 ^ 32)
 unfolding int_wrap
 residue_wrapped_32 (pos n) = grind (arith, nat_tests)
 residue_wrapped_32 (negsuc n) = grind (arith, nat_tests)
 
-residue_wrapped_16 : (z : ℤ) → residue (int_wrap w128 z) (2 ^ 16) ≡ residue z (2 ^ 16)
+pub residue_wrapped_16 : (z : ℤ) → residue (int_wrap w128 z) (2 ^ 16) ≡ residue z (2 ^ 16)
 unfolding int_wrap
 residue_wrapped_16 (pos n) = grind (arith, nat_tests)
 residue_wrapped_16 (negsuc n) = grind (arith, nat_tests)
 
-residue_wrapped_8 : (z : ℤ) → residue (int_wrap w128 z) (2 ^ 8) ≡ residue z (2 ^ 8)
+pub residue_wrapped_8 : (z : ℤ) → residue (int_wrap w128 z) (2 ^ 8) ≡ residue z (2 ^ 8)
 unfolding int_wrap
 residue_wrapped_8 (pos n) = grind (arith, nat_tests)
 residue_wrapped_8 (negsuc n) = grind (arith, nat_tests)
+
+IsSize : ℕ → Type 0
+IsSize n = (n ≡ 1) ⊎ (n ≡ 2) ⊎ (n ≡ 4) ⊎ (n ≡ 8)
 
 residue_wrapped : (n : ℕ) → (n ≡ 1) ⊎ (n ≡ 2) ⊎ (n ≡ 4) ⊎ (n ≡ 8) → (z : ℤ) → residue (int_wrap w128 z) (2 ^ (8 * n)) ≡ residue z (2 ^ (8 * n))
 residue_wrapped n (inl e) z = rw e (residue_wrapped_8 z)
@@ -94,3 +98,31 @@ divides_by_first z l p hz hp = rw (← hz, hp) refl
 
 pub least_of : (k : IntegerType) (n : ℕ) → k.bytes ≡ n → least (record { bytes = n; signed = true }) ≡ least k
 least_of k n e = ap (λ m. neg_ℤ (pos (2 ^ (8 * m - 1)))) (sym e)
+
+pub last_size : (n : ℕ) → (n ≡ 1) ⊎ (n ≡ 2) ⊎ (n ≡ 4) ⊎ (n ≡ 8) → n ≢ 1 → n ≢ 2 → n ≢ 4 → n ≡ 8
+last_size n (inl e) h i j = absurd (h e)
+last_size n (inr (inl e)) h i j = absurd (i e)
+last_size n (inr (inr (inl e))) h i j = absurd (j e)
+last_size n (inr (inr (inr e))) h i j = e
+
+-- a divisor that is not 0
+pub not_zero : (y : ℤ) → int_eq y (pos 0) ≡ false → y ≢ pos 0
+not_zero y h e = true≢false (sym (ap (λ z. int_eq z (pos 0)) e) ∙ h)
+
+nonzero_by : (d z r : Bool) → (d && not (not z && r)) ≡ false → d ≡ true → z ≡ false
+nonzero_by true true r h e = absurd (true≢false h)
+nonzero_by true false r h e = refl
+nonzero_by false z r h e = absurd (true≢false (sym e))
+
+-- where a division has a result, its divisor is not 0
+pub divisor_is_some : (operator : Operator) (k : IntegerType) (x y : ℤ) → cannot_divide operator k x y ≡ false → divides operator ≡ true → int_eq y (pos 0) ≡ false
+divisor_is_some operator k x y = nonzero_by (divides operator) (int_eq y (pos 0)) (not (k.signed && (int_eq x (least k) && int_eq y (negsuc 0))))
+
+-- the value of an operator, where it has one
+pub checked_none : (b p : Bool) (z : ℤ) → p ≡ b → p ≡ true → None ≡ (if b then None else Some z)
+checked_none true p z e h = refl
+checked_none false p z e h = absurd (true≢false (sym h ∙ e))
+
+pub checked_some : (b p : Bool) (z w : ℤ) → p ≡ b → p ≡ false → w ≡ z → Some w ≡ (if b then None else Some z)
+checked_some false p z w e h f = ap Some f
+checked_some true p z w e h f = absurd (true≢false (sym e ∙ h))

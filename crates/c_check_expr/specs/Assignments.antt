@@ -7,7 +7,7 @@ use Rattle.cc_base.specs.declared.fault.Fault.TheVariants.{TooLarge}
 use Rattle.cc_base.specs.declared.fault.Limit.TheVariants.{Types, Globals, Cells}
 use Rattle.c_types.specs.declared.shape.TypeShape.{TypeShape}
 use Rattle.c_types.specs.declared.shape.TypeShape.TheVariants as shape
-use Rattle.c_types.specs.Table.{Table, shape_at}
+use Rattle.c_types.specs.Table.{Table, shape_at, entry_at, is_complete}
 use Rattle.c_types.specs.Layouts.{size_of}
 use Rattle.c_tree.specs.declared.leaf.Identifier.{Identifier}
 use Rattle.c_tree.specs.declared.leaf.StringPiece.{StringPiece}
@@ -63,10 +63,14 @@ part_type (AsPlace p) = place_type p
 part_type (AsValue e) = type_of e
 part_type (AsAllocation e) = void_type
 
+-- of what was given to the left side
+unfoldable pub assign_given : Operand → Place → Operand → Judging Operand
+assign_given x at y = construct (λ s. tests.assign_tests s.table s.seen.scopes assignment.Assign at x.part y.part) x.place (x.held ∷ y.held ∷ []) (assign_part at x.part y.part)
+
 unfoldable pub assign : Operand → Place → Operand → Judging Operand
 assign x at y = do
   v ← given (part_type x.part) y.place y.part
-  construct (λ s. tests.assign_tests s.table s.seen.scopes assignment.Assign at x.part v) x.place (x.held ∷ y.held ∷ []) (assign_part at x.part v)
+  assign_given x at (record y { part = v })
 
 -- of two integers, or of a pointer that an integer moves
 abbrev pub updated : Assignment → Place → TypedPlace → TypedExpr → Option IntegerType → Option IntegerType → TypedExpr
@@ -128,22 +132,31 @@ part_expr (AsPlace p) = typed.Unread p
 part_expr (AsValue e) = e
 part_expr (AsAllocation e) = e
 
-abbrev pub cast_which : Table → Elaborated → TypeId → Bool → Conversion
-cast_which T x t true = conversion.ToVoid
-cast_which T (AsAllocation e) t false = conversion.AllocationToPointer
-cast_which T x t false = conversion_or_void (cast_conversion T (part_expr x) t)
-  where
-    conversion_or_void : Option Conversion → Conversion
-    conversion_or_void None = conversion.ToVoid
-    conversion_or_void (Some which) = which
+abbrev pub is_allocation_part : Elaborated → Bool
+is_allocation_part (AsAllocation e) = true
+is_allocation_part x = false
+
+abbrev pub conversion_or_void : Option Conversion → Conversion
+conversion_or_void None = conversion.ToVoid
+conversion_or_void (Some which) = which
+
+-- `allocation` says that the type takes an allocation over, `void` that it is `void`
+abbrev pub cast_by : Table → (allocation : Bool) → TypedExpr → TypeId → (void : Bool) → Conversion
+cast_by T allocation e t true = conversion.ToVoid
+cast_by T true e t false = conversion.AllocationToPointer
+cast_by T false e t false = conversion_or_void (cast_conversion T e t)
 
 abbrev pub cast_part : Table → Place → TypedTypeName → Elaborated → TypedExpr
-cast_part T at to x = typed.Cast (cast_which T x (named_type to) (is_void_shape (shape_at T (named_type to)))) at to (part_expr x)
+cast_part T at to x = typed.Cast (cast_by T (is_allocation_part x) (part_expr x) (named_type to) (is_void_shape (shape_at T (named_type to)))) at to (part_expr x)
+
+-- of what was given to the type
+unfoldable pub cast_given : Place → TypedTypeName → Operand → Judging Operand
+cast_given at to x = construct (λ s. tests.cast_tests s.table at x.part (named_type to)) at (x.held ∷ []) (by_known (λ s. pure (AsValue (cast_part s.table at to x.part))))
 
 unfoldable pub cast : Place → TypedTypeName → Operand → Judging Operand
 cast at to x = do
   v ← given (named_type to) x.place x.part
-  construct (λ s. tests.cast_tests s.table at v (named_type to)) at (x.held ∷ []) (by_known (λ s. pure (AsValue (cast_part s.table at to v))))
+  cast_given at to (record x { part = v })
 
 unfoldable pub size_of_type : Place → Place → TypedTypeName → Judging Operand
 size_of_type at paren name = construct (λ s. type_size_tests s.table s.seen.scopes at (named_type name)) at []
@@ -223,9 +236,20 @@ count_global at bytes = λ s. if nat_le (s.seen.globals + (bytes + 16)) 4194304
     then Gives bytes (record s { seen = record s.seen { globals = s.seen.globals + (bytes + 16) } })
     else Stops (TooLarge at Globals) s
 
+-- how many bytes a literal has, the zero byte at its end among them
+abbrev pub literal_size : List StringPiece → ℕ
+literal_size pieces = length (pieces_bytes pieces) + 1
+
+-- the type of a literal of so many bytes; every table has `char`
+abbrev pub is_char_array : Table → ℕ → Bool
+is_char_array T count = nat_lt 1 (length T) && (is_complete (entry_at T (integer_type char)) && nat_lt 0 count)
+
+unfoldable pub string_type : Place → ℕ → Judging TypeId
+string_type at count = λ s. if is_char_array s.table count then type_with at (shape.Array (integer_type char) count) s else Stops (TooLarge at Types) s
+
 unfoldable pub literal : List StringPiece → Judging Operand
 literal pieces = leaf (pieces_place pieces) (do
   n ← new_node (pieces_place pieces)
-  t ← type_with (pieces_place pieces) (shape.Array (integer_type char) (length (pieces_bytes pieces) + 1))
-  bytes ← count_global (pieces_place pieces) (length (pieces_bytes pieces) + 1)
+  t ← string_type (pieces_place pieces) (literal_size pieces)
+  bytes ← count_global (pieces_place pieces) (literal_size pieces)
   pure (AsPlace (typed.String pieces n t)))

@@ -15,6 +15,8 @@ pub mod Operations
 pub mod Assignments
 pub mod OperandViews
 pub mod KindViews
+pub mod MemberViews
+pub mod ShapeViews
 pub mod Extensions
 pub mod Settled
 pub mod Specifying
@@ -26,3 +28,5 @@ pub mod WordViews
 pub mod Cells
 pub mod Checking
 pub mod CheckingViews
+pub mod DerivedViews
+pub mod NamedViews

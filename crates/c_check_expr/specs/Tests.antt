@@ -208,14 +208,15 @@ is_moving T binary.Add a b = is_index_pair a b
 is_moving T binary.Subtract a b = (is_pointer_shape a && is_integer_shape b) || point_alike T a b
 is_moving T operator a b = false
 
+-- a pointer of the one shape is taken where one of the other is wanted
+abbrev pub taken_as : Table → TypeShape → TypeShape → Bool
+taken_as T (Pointer n t) (Pointer m u) = is_taken_as T t u
+taken_as T a b = false
+
 -- pointers that may be compared by `==`, or meet in a `?:`
 abbrev pub meet : Table → Elaborated → Elaborated → Bool
 meet T x y = (is_null_part T y && is_pointer_shape (shape_of T x))
-    || ((is_null_part T x && is_pointer_shape (shape_of T y)) || taken (shape_of T x) (shape_of T y))
-  where
-    taken : TypeShape → TypeShape → Bool
-    taken (Pointer n t) (Pointer m u) = is_taken_as T t u
-    taken a b = false
+    || ((is_null_part T x && is_pointer_shape (shape_of T y)) || taken_as T (shape_of T x) (shape_of T y))
 
 -- what an operator on two operands accepts
 abbrev pub accepts : Table → Binary → Elaborated → Elaborated → Bool

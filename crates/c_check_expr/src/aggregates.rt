@@ -1,9 +1,13 @@
 //! Structs and unions with their members (C99 6.7.2.1).
 #![tactic(auto)]
 
-ghost use Rattle.std.specs.Prelude.{◌≡◌, ◌&&◌, nat_lt, length, option_copied};
+ghost use Rattle.std.specs.Prelude.{◌≡◌, ◌&&◌, ◌++◌, IfOk, OnOk, map, nat_lt, length, option_copied};
 ghost use Rattle.std.specs.List.{list_all};
 ghost use Rattle.c_types.specs.Table.{shape_at, is_complete, entry_at};
+ghost use Rattle.c_tree.specs.TypedTree.{NoMember};
+ghost use Rattle.c_tree.specs.TypedViews.{typed_declarator_view, typed_members_view, typed_member_declarators_of};
+ghost use Rattle.c_tree.specs.Views.{added};
+ghost use Rattle.c_check_expr.specs.Declarators.{declarator_types, member_names, member_types};
 ghost use Rattle.c_check_expr.specs.Judging.{Answers, known};
 ghost use Rattle.c_check_expr.specs.Refusals.{tag_place};
 ghost use Rattle.c_check_expr.specs.Rules.{number_of_shape};
@@ -19,9 +23,9 @@ use crate::scope::Scope;
 use crate::shapes::{is_aggregate, is_complete_at, shape_at};
 use crate::specifying::{is_tag_of, new_aggregate};
 use crate::stops::{no_room, refusal};
-use c_tree::{AggregateKind, Identifier};
+use c_tree::{AggregateKind, Identifier, TypedDeclarator, TypedMembers};
 use c_types::{TypeFault, TypeShape, Types};
-use cc_base::{Fault, Place, Rule, TypeId};
+use cc_base::{Fault, NoMemory, Place, Rule, TypeId};
 
 /// The tag, or the keyword where there is none.
 pub(crate) fn tag_place(at: Place, name: Option<&Identifier>) -> Place
@@ -34,7 +38,7 @@ pub(crate) fn tag_place(at: Place, name: Option<&Identifier>) -> Place
 }
 
 /// What the innermost scope declares a tag as, where there is a tag.
-fn tag_named_here(scope: &Scope, name: Option<&Identifier>) -> Option<Tag>
+pub(crate) fn tag_named_here(scope: &Scope, name: Option<&Identifier>) -> Option<Tag>
     ensures { result ≡ tag_named_here scope.now.scopes (option_copied name.entry) }
 {
     match name {
@@ -160,4 +164,47 @@ fn complete(scope: &mut Scope, types: &Types, t: TypeId, names: MemberNames)
         }
         _ => {}
     }
+}
+
+/// The types of the members of a row, behind those before it.
+fn push_row_types(types: &mut Vec<TypeId>, row: &[TypedDeclarator]) -> Result<(), NoMemory>
+    ensures { OnOk result (types.new.items ≡ types.old.items ++ declarator_types (typed_member_declarators_of (map typed_declarator_view row.now))) }
+{
+    for d in row {
+        types.push(d.ty)?;
+    }
+    Ok(())
+}
+
+/// The types of members, in the order of their declarations.
+fn member_types(scope: &Scope, rows: &[TypedMembers]) -> Result<Vec<TypeId>, NoMemory>
+    ensures { IfOk result (λ types. types.items ≡ member_types (added NoMember (map typed_members_view rows.now))) }
+{
+    let mut types = Vec::new(scope.alloc());
+    for row in rows {
+        push_row_types(&mut types, row.declarators.as_slice())?;
+    }
+    Ok(types)
+}
+
+/// The struct or union gets its members, where it began.
+#[tactic(auto, unfolding(crate::specs::Specifying::completed))]
+pub(crate) fn completed(
+    scope: &mut Scope,
+    types: &mut Types,
+    at: Place,
+    rows: &[TypedMembers],
+    names: MemberNames,
+    begun: Option<TypeId>,
+) -> Result<TypeId, Fault>
+    requires { names ≡ member_names (added NoMember (map typed_members_view rows.now)) }
+    ensures { Answers (λ t. t) (specifying.completed at (added NoMember (map typed_members_view rows.now)) begun (known types.old scope.old)) result (known types.new scope.new) }
+{
+    let Some(t) = begun else {
+        return Err(no_room(at));
+    };
+    let members = member_types(scope, rows)?;
+    let t = defined(scope, types, at, t, members)?;
+    complete(scope, types, t, names);
+    Ok(t)
 }

@@ -43,4 +43,15 @@ impl MemberNames {
     {
         self.0.get_index_of(name)
     }
+
+    /// Adds a name that is not among them.
+    pub(crate) fn push(&mut self, alloc: Global, name: &[u8]) -> Result<(), NoMemory>
+        requires { place_among self.old name.now ≡ None }
+        ensures pushed { OnOk result (self.new ≡ self.old ++ name.now ∷ []) }
+        ensures unchanged { OnErr result (self.new ≡ self.old) }
+    {
+        let name = Vec::from_slice(alloc, name)?;
+        self.0.insert(name)?;
+        Ok(())
+    }
 }

@@ -1,4 +1,10 @@
 //! Parts of an expression as they were judged.
+#![tactic(auto)]
+
+ghost use Rattle.std.specs.Prelude.{◌≡◌};
+ghost use Rattle.c_check_expr.specs.OperandViews.{part_view};
+ghost use Rattle.c_check_expr.specs.ShapeViews.{part_ref_view};
+
 use c_tree::{TypedExpr, TypedPlace};
 use cc_base::{NodeId, Place, TypeId};
 
@@ -9,6 +15,26 @@ pub(crate) enum Part {
     Value(TypedExpr),
     /// An allocation, which is a `void *` until something takes it over.
     Allocation(TypedExpr),
+}
+
+/// A part that is looked at.
+#[derive(Clone, Copy)]
+pub(crate) enum PartRef<'e> {
+    Place(&'e TypedPlace),
+    Value(&'e TypedExpr),
+    Allocation(&'e TypedExpr),
+}
+
+impl Part {
+    pub(crate) fn as_ref(&self) -> PartRef<'_>
+        ensures { part_ref_view result ≡ part_view self.now }
+    {
+        match self {
+            Part::Place(p) => PartRef::Place(p),
+            Part::Value(e) => PartRef::Value(e),
+            Part::Allocation(e) => PartRef::Allocation(e),
+        }
+    }
 }
 
 /// A part, the place of its first token, and how many values it holds at once.

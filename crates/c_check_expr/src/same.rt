@@ -76,7 +76,7 @@ fn is_same_within(types: &Types, depth: u32, t: TypeId, u: TypeId) -> bool
 
 /// Whether two types are the same.
 #[tactic(auto, unfolding(crate::specs::Shapes::is_same_type))]
-pub(crate) fn is_same_type(types: &Types, t: TypeId, u: TypeId) -> bool
+pub fn is_same_type(types: &Types, t: TypeId, u: TypeId) -> bool
     ensures { result ≡ is_same_type types.now t u }
 {
     is_same_within(types, types.count() + 1, t, u)

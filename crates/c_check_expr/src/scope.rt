@@ -157,7 +157,7 @@ impl Scope {
     }
 
     /// Where a function stands among those that the unit defines, counted from 0. Takes no memory.
-    pub(crate) fn function(&self, name: &[u8]) -> Option<usize>
+    pub fn function(&self, name: &[u8]) -> Option<usize>
         ensures { result ≡ place_among self.now.scopes.defined name.now }
     {
         self.defined.get_index_of(name)
@@ -211,7 +211,7 @@ impl Scope {
     }
 
     /// The allocator.
-    pub(crate) fn alloc(&self) -> Global {
+    pub fn alloc(&self) -> Global {
         self.alloc
     }
 

@@ -13,7 +13,7 @@ use c_types::{TypeShape, Types};
 use cc_base::TypeId;
 
 /// The shape of a type. What is no type has none, and is read as `void`.
-pub(crate) fn shape_at(types: &Types, t: TypeId) -> Option<&TypeShape>
+pub fn shape_at(types: &Types, t: TypeId) -> Option<&TypeShape>
     ensures { shape_or_void (option_copied result) ≡ shape_at types.now t }
 {
     if t.0 < types.count() {
@@ -23,7 +23,7 @@ pub(crate) fn shape_at(types: &Types, t: TypeId) -> Option<&TypeShape>
     }
 }
 
-pub(crate) fn is_integer(shape: Option<&TypeShape>) -> bool
+pub fn is_integer(shape: Option<&TypeShape>) -> bool
     ensures { result ≡ shapes.is_integer_shape (shape_or_void (option_copied shape.entry)) }
 {
     matches!(shape, Some(TypeShape::Integer { .. }))
@@ -36,7 +36,7 @@ pub(crate) fn is_pointer(shape: Option<&TypeShape>) -> bool
 }
 
 /// An integer or a pointer (C99 6.2.5).
-pub(crate) fn is_scalar(shape: Option<&TypeShape>) -> bool
+pub fn is_scalar(shape: Option<&TypeShape>) -> bool
     ensures { result ≡ shapes.is_scalar_shape (shape_or_void (option_copied shape.entry)) }
 {
     matches!(
@@ -45,27 +45,27 @@ pub(crate) fn is_scalar(shape: Option<&TypeShape>) -> bool
     )
 }
 
-pub(crate) fn is_void(shape: Option<&TypeShape>) -> bool
+pub fn is_void(shape: Option<&TypeShape>) -> bool
     ensures { result ≡ shapes.is_void_shape (shape_or_void (option_copied shape.entry)) }
 {
     matches!(shape, None | Some(TypeShape::Void))
 }
 
-pub(crate) fn is_function(shape: Option<&TypeShape>) -> bool
+pub fn is_function(shape: Option<&TypeShape>) -> bool
     ensures { result ≡ shapes.is_function_shape (shape_or_void (option_copied shape.entry)) }
 {
     matches!(shape, Some(TypeShape::Function(_, _)))
 }
 
 /// A struct or a union.
-pub(crate) fn is_aggregate(shape: Option<&TypeShape>) -> bool
+pub fn is_aggregate(shape: Option<&TypeShape>) -> bool
     ensures { result ≡ is_aggregate_shape (shape_or_void (option_copied shape.entry)) }
 {
     matches!(shape, Some(TypeShape::Struct(_) | TypeShape::Union(_)))
 }
 
 /// Whether a type is complete at this point of the text.
-pub(crate) fn is_complete_at(scope: &Scope, types: &Types, t: TypeId) -> bool
+pub fn is_complete_at(scope: &Scope, types: &Types, t: TypeId) -> bool
     ensures { result ≡ is_complete_at types.now scope.now.scopes t }
 {
     match shape_at(types, t) {

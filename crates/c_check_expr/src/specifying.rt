@@ -75,7 +75,11 @@ fn shape_of_kind(which: AggregateKind, number: u32) -> TypeShape
 }
 
 /// A tag is declared in the innermost scope, where there is one.
-fn declare_tag_of(scope: &mut Scope, name: Option<&Identifier>, what: Tag) -> Result<(), NoMemory>
+pub(crate) fn declare_tag_of(
+    scope: &mut Scope,
+    name: Option<&Identifier>,
+    what: Tag,
+) -> Result<(), NoMemory>
     requires { tag_named_here scope.old.scopes (option_copied name) ≡ None }
     ensures { OnOk result (scope.new ≡ with_scopes scope.old (tagging (option_copied name.entry) what scope.old.scopes)) }
 {

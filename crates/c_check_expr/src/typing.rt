@@ -156,7 +156,7 @@ fn place_value(
 
 /// An allocation that nothing takes over, with a node of its own.
 #[tactic(auto, unfolding(crate::specs::Operands::raw_value))]
-fn raw_value(
+pub(crate) fn raw_value(
     scope: &mut Scope,
     types: &mut Types,
     at: Place,
@@ -169,7 +169,12 @@ fn raw_value(
 }
 
 #[tactic(auto, unfolding(crate::specs::Operands::value_of))]
-fn value_of(scope: &mut Scope, types: &mut Types, at: Place, part: Part) -> Result<TypedExpr, Fault>
+pub(crate) fn value_of(
+    scope: &mut Scope,
+    types: &mut Types,
+    at: Place,
+    part: Part,
+) -> Result<TypedExpr, Fault>
     ensures { Answers typed_expr_view (operands.value_of at (part_view part) (known types.old scope.old)) result (known types.new scope.new) }
 {
     match part {

@@ -1,0 +1,33 @@
+//! Scopes of blocks.
+#![tactic(auto)]
+
+ghost use Rattle.std.specs.Prelude.{◌≡◌, true};
+ghost use Rattle.c_check_expr.specs.Declaring.{entered, left};
+ghost use Rattle.c_check.specs.UnitJudging.{Answers, lifted};
+
+use crate::context::Context;
+use crate::faults::never;
+use cc_base::{Fault, Place};
+
+impl Context {
+    /// A scope begins.
+    #[tactic(auto, unfolding(c_check_expr::specs::Declaring::entered))]
+    pub(crate) fn enter(&mut self) -> Result<(), Fault>
+        ensures { Answers (λ u. true) (lifted entered self.old) result self.new }
+    {
+        self.scope.enter()?;
+        Ok(())
+    }
+
+    /// The innermost scope ends; the file's never does.
+    #[tactic(auto, unfolding(c_check_expr::specs::Declaring::left))]
+    pub(crate) fn leave(&mut self, at: Place) -> Result<(), Fault>
+        ensures { Answers (λ u. true) (lifted (left at true) self.old) result self.new }
+    {
+        if self.scope.depth() < 2 {
+            return Err(never(at));
+        }
+        self.scope.leave();
+        Ok(())
+    }
+}

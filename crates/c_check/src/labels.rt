@@ -1,0 +1,102 @@
+//! The labels of a `switch` (C99 6.8.4.2).
+#![tactic(auto)]
+
+ghost use Rattle.std.specs.Prelude.{◌≡◌, [], ◌∷◌, ◌++◌, false, OnOk, IfOk};
+ghost use Rattle.std.specs.List.{list_any};
+ghost use Rattle.std.specs.Ordering.{int_eq};
+ghost use Rattle.c_tree.specs.Views.{expr_view};
+ghost use Rattle.c_tree.specs.TypedViews.{typed_expr_view};
+ghost use Rattle.c_tree.specs.TypedTree as typed;
+ghost use Rattle.c_tree.specs.TypedTree.{TypedBlockItems};
+ghost use Rattle.c_check.specs.Labels.{HoldsLabels};
+ghost use Rattle.c_check.specs.UnitJudging.{Answers};
+ghost use Rattle.c_check.specs.StatementJudging as judging;
+
+use crate::context::Context;
+use crate::faults::{never, refused};
+use c_tree::{Expr, TypedExpr};
+use cc_base::{Fault, NoMemory, Place, Rule, TypeId};
+use indexmap::IndexSet;
+use std::alloc::Global;
+use std::marker::Model;
+
+/// The values of labels. Contracts see the list of them.
+#[derive(Drop)]
+pub(crate) struct LabelValues(IndexSet<i128>);
+
+impl Model for LabelValues {
+    ghost use Rattle.std.specs.Prelude.{List, ℤ};
+
+    ghost Value = { List ℤ };
+
+    ghost view = { λ s. s.0.keys };
+}
+
+impl LabelValues {
+    fn has(&self, value: i128) -> bool
+        ensures { result ≡ list_any (λ each. int_eq value each) self.now }
+    {
+        self.0.contains(&value)
+    }
+
+    /// Adds a value that is new.
+    fn add(&mut self, value: i128) -> Result<(), NoMemory>
+        requires { list_any (λ each. int_eq value each) self.old ≡ false }
+        ensures { OnOk result (self.new ≡ self.old ++ value ∷ []) }
+    {
+        self.0.insert(value)?;
+        Ok(())
+    }
+}
+
+/// The labels of a block so far.
+#[derive(Drop)]
+pub(crate) struct Labels {
+    pub(crate) values: LabelValues,
+    /// Whether there is a `default`.
+    pub(crate) default: bool,
+}
+
+impl Labels {
+    /// None. Takes no memory.
+    pub(crate) fn new(alloc: Global) -> Labels
+        ensures { HoldsLabels result typed.NoBlockItem }
+    {
+        Labels {
+            values: LabelValues(IndexSet::new(alloc)),
+            default: false,
+        }
+    }
+}
+
+impl Context {
+    /// Stub.
+    fn label_value(&self, _on: Option<TypeId>, _value: i128) -> Result<Option<i128>, NoMemory>
+        ensures { IfOk result (λ o. o ≡ judging.label_as self.now.types _on _value) }
+    {
+        Err(NoMemory)
+    }
+
+    /// `case`: its expression, and its value in the type of the `switch`.
+    #[tactic(auto, unfolding(crate::specs::StatementJudging::case_label, crate::specs::StatementJudging::labelled))]
+    pub(crate) fn case_label(
+        &mut self,
+        on: Option<TypeId>,
+        labels: &mut Labels,
+        at: Place,
+        e: &Expr,
+    ) -> Result<(TypedExpr, i128), Fault>
+        ensures answers { (list : TypedBlockItems) → HoldsLabels labels.old list → Answers (λ c. typed.AndCase list at (typed_expr_view c.0) c.1) (judging.case_label on at (expr_view e.now) list self.old) result self.new }
+        ensures labels { IfOk result (λ c. labels.new ≡ record labels.old { values = labels.old.values ++ c.1 ∷ [] }) }
+    {
+        let (e, value) = self.constant(e)?;
+        let Some(value) = self.label_value(on, value)? else {
+            return Err(never(at));
+        };
+        if labels.values.has(value) {
+            return Err(refused(Rule::Redeclared, at));
+        }
+        labels.values.add(value)?;
+        Ok((e, value))
+    }
+}

@@ -1,0 +1,176 @@
+//! Initialisers (C99 6.7.8).
+#![tactic(auto)]
+
+ghost use Rattle.std.specs.Prelude.{◌≡◌, Some, map};
+ghost use Rattle.c_tree.specs.Views.{expr_view};
+ghost use Rattle.c_tree.specs.TypedTree as typed;
+ghost use Rattle.c_tree.specs.StatementViews.{initialiser_view, items_of};
+ghost use Rattle.c_tree.specs.TypedViews.{typed_expr_view};
+ghost use Rattle.c_tree.specs.TypedStatementViews.{typed_initialiser_view, typed_item_view};
+ghost use Rattle.c_tree.specs.Views.{added};
+ghost use Rattle.c_tree.specs.Tree as tree;
+ghost use Rattle.c_check.specs.Initialisers.{items_count};
+ghost use Rattle.c_check.specs.declared.context.Context.{Context as SeenContext};
+ghost use Rattle.c_check.specs.UnitJudging.{Answers, Gives};
+ghost use Rattle.c_check.specs.InitialiserJudging as judging;
+
+use crate::constants::is_constant;
+use crate::context::Context;
+use crate::faults::refused;
+use crate::slots::{char_count, item_slot};
+use c_check_expr::{is_scalar, shape_at};
+use c_tree::{Expr, Initialiser, Items, TypedExpr, TypedInitialiser, TypedItem};
+use cc_base::{Fault, Place, Rule, TypeId};
+
+/// Whether a literal stands in the braces by itself.
+fn is_only_literal(items: &[Initialiser]) -> bool
+    ensures { result ≡ judging.is_only_literal (items_of (map initialiser_view items.now)) }
+{
+    matches!(items, [Initialiser::Value(Expr::String(_))])
+}
+
+impl Context {
+    /// A struct is copied, and the pointers that it holds are counted.
+    #[tactic(auto, using(c_tree::proofs::TypedViewLaws::typed_views, c_tree::proofs::TypedStatementViewLaws::typed_statement_views), unfolding(crate::specs::InitialiserJudging::initialised))]
+    fn initialised(&mut self, at: Place, e: TypedExpr) -> Result<TypedInitialiser, Fault>
+        ensures { Answers typed_initialiser_view (judging.initialised at (typed_expr_view e) self.old) result self.new }
+    {
+        match e {
+            TypedExpr::Unread(p) => {
+                self.count_cells(at, p.get().ty())?;
+                Ok(TypedInitialiser::Copied(p.into_inner(), at))
+            }
+            _ => Ok(TypedInitialiser::Value(e)),
+        }
+    }
+
+    /// A value that is converted to the type at the place; `constant` says that it has to be constant.
+    #[tactic(auto, unfolding(crate::specs::InitialiserJudging::value_for))]
+    fn value_for(
+        &mut self,
+        constant: bool,
+        at: Place,
+        t: TypeId,
+        e: &Expr,
+    ) -> Result<TypedInitialiser, Fault>
+        ensures { Answers typed_initialiser_view (judging.value_for constant at t (expr_view e.now) self.old) result self.new }
+    {
+        let v = self.value(t, at, true, e)?;
+        if constant && !is_constant(&self.types, &self.linkage.statics, &v) {
+            return Err(refused(Rule::NotConstant, e.place()));
+        }
+        self.initialised(at, v)
+    }
+
+    /// A literal for an array of char, or a value.
+    #[tactic(auto, using(c_tree::proofs::ViewLaws::expr_views), unfolding(crate::specs::InitialiserJudging::value_or_text))]
+    fn value_or_text(
+        &mut self,
+        constant: bool,
+        at: Place,
+        t: TypeId,
+        e: &Expr,
+    ) -> Result<TypedInitialiser, Fault>
+        ensures { Answers typed_initialiser_view (judging.judge_plain constant (expr_view e.now) at (Some t) self.old) result self.new }
+    {
+        match (e, char_count(&self.types, t)) {
+            (Expr::String(pieces), Some(count)) => self.text(at, count, pieces.as_slice()),
+            _ => self.value_for(constant, at, t, e),
+        }
+    }
+
+    /// An expression without braces; it has no type where there is no room for it.
+    #[tactic(auto, unfolding(crate::specs::InitialiserJudging::judge_plain, crate::specs::InitialiserJudging::excess))]
+    fn plain(
+        &mut self,
+        constant: bool,
+        e: &Expr,
+        at: Place,
+        to: Option<TypeId>,
+    ) -> Result<TypedInitialiser, Fault>
+        ensures { Answers typed_initialiser_view (judging.judge_plain constant (expr_view e.now) at to self.old) result self.new }
+    {
+        match to {
+            Some(t) => self.value_or_text(constant, at, t, e),
+            None => {
+                self.expr(e)?;
+                Err(refused(Rule::Mismatch, at))
+            }
+        }
+    }
+
+    /// An initialiser of the type, of none where there is no room for it; `single` says that a scalar's braces stand around it.
+    #[cycle(initialisers)]
+    #[tactic(auto, using(c_tree::proofs::StatementViewLaws::statement_views, c_tree::proofs::TypedStatementViewLaws::typed_statement_views), unfolding(crate::specs::InitialiserJudging::judge_initialiser))]
+    pub(crate) fn initialiser(
+        &mut self,
+        constant: bool,
+        i: &Initialiser,
+        at: Place,
+        to: Option<TypeId>,
+        single: bool,
+    ) -> Result<TypedInitialiser, Fault>
+        ensures { Answers typed_initialiser_view (judging.judge_initialiser constant (initialiser_view i.now) at to single self.old) result self.new }
+    {
+        match i {
+            Initialiser::Value(e) => self.plain(constant, e, at, to),
+            Initialiser::Listed(brace, items, comma) => {
+                let Some(t) = to else {
+                    return Err(refused(Rule::Mismatch, *brace));
+                };
+                if single {
+                    return Err(refused(Rule::Mismatch, *brace));
+                }
+                let text = is_only_literal(items.as_slice()) && char_count(&self.types, t).is_some();
+                let list = self.items(constant, items.as_slice(), text, t)?;
+                Ok(TypedInitialiser::Listed(*brace, list, *comma, t))
+            }
+        }
+    }
+
+    /// What is listed in braces for the type; `text` says that it is a literal for the whole.
+    #[cycle(initialisers)]
+    fn items(
+        &mut self,
+        constant: bool,
+        items: &[Initialiser],
+        text: bool,
+        t: TypeId,
+    ) -> Result<Items<TypedItem>, Fault>
+        ensures { Answers (λ list. added typed.NoItem (map typed_item_view list)) (judging.judge_items constant (items_of (map initialiser_view items.now)) text t self.old) result self.new }
+    {
+        let mut list = Items::new(self.scope.alloc());
+        'items: for item in items {
+            let one = self.item(constant, item, text, t, list.len())?;
+            list.push(one)?;
+        }
+        Ok(list)
+    }
+
+    /// The item with this number.
+    #[cycle(initialisers)]
+    fn item(
+        &mut self,
+        constant: bool,
+        item: &Initialiser,
+        text: bool,
+        t: TypeId,
+        number: usize,
+    ) -> Result<TypedItem, Fault>
+        ensures { (all : tree.Items) (start : SeenContext) (list : typed.TypedItems) → judging.judge_items constant all text t start ≡ Gives list self.old → items_count list ≡ number → Answers (λ one. typed_item_view one list) (judging.judge_items constant (tree.AndItem all (initialiser_view item.now)) text t start) result self.new }
+    {
+        let slot = item_slot(&self.types, text, t, number as u64);
+        let single = is_scalar(shape_at(&self.types, t));
+        let at = item.place();
+        let Some(slot) = slot else {
+            self.initialiser(constant, item, at, None, single)?;
+            return Err(crate::faults::never(Place { line: 1, col: 1 }));
+        };
+        let initialiser = self.initialiser(constant, item, at, Some(slot.ty), single)?;
+        Ok(TypedItem {
+            offset: slot.offset,
+            ty: slot.ty,
+            initialiser,
+        })
+    }
+}

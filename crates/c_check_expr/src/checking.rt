@@ -1,0 +1,221 @@
+//! What a unit asks of its expressions, specifiers and declarators.
+#![tactic(auto)]
+
+ghost use Rattle.std.specs.Prelude.{◌≡◌, IfOk, true};
+ghost use Rattle.c_tree.specs.Views.{expr_view, specifiers_view, declarator_view};
+ghost use Rattle.c_tree.specs.TypedViews.{typed_expr_view, typed_specifiers_view, typed_declarator_view};
+ghost use Rattle.c_check_expr.specs.Cells as cells;
+ghost use Rattle.c_check_expr.specs.Checking as checking;
+ghost use Rattle.c_check_expr.specs.CheckingViews.{constant_view};
+ghost use Rattle.c_check_expr.specs.Judging.{Answers, known};
+ghost use Rattle.c_check_expr.specs.OperandViews.{operand_view, part_view, value_view};
+ghost use Rattle.c_check_expr.specs.ShapeViews.{part_ref_view};
+ghost use Rattle.c_check_expr.specs.Walks as walks;
+
+use crate::constant::constant_value;
+use crate::conversion::{converted_to, fits, given};
+use crate::derived::{Derived, derived_by, is_function_by};
+use crate::making::{Nearest, form_makes};
+use crate::naming::Naming;
+use crate::operand::{Operand, Part, PartRef, Value};
+use crate::places::{declarator_name, name_place};
+use crate::same::is_same_type;
+use crate::scope::Scope;
+use crate::shapes::{is_aggregate, shape_at};
+use crate::specifiers::{Named, listed_type, named_with};
+use crate::specifying::tagged_alone;
+use crate::stops::refusal;
+use crate::typing::{side_of, value};
+use crate::walk::{judge_expr, judge_form, judge_specifiers};
+use crate::words::Words;
+use c_tree::{
+    Boxed, Declarator, Expr, Items, Specifier, Specifiers, TypedDeclarator, TypedExpr,
+    TypedSpecifiers,
+};
+use c_types::Types;
+use cc_base::{Fault, NoMemory, Place, Rule, TypeId};
+
+/// More levels of expressions, specifiers and declarators than the parser lets lie in one another.
+const LEVELS: u16 = 512;
+
+/// The first place of a text.
+const NOWHERE: Place = Place { line: 1, col: 1 };
+
+/// An expression whose value is taken.
+#[tactic(auto, unfolding(crate::specs::Walks::judge_value))]
+fn judged_value(scope: &mut Scope, types: &mut Types, e: &Expr) -> Result<Value, Fault>
+    ensures { Answers value_view (walks.judge_value (expr_view e.now) (known types.old scope.old)) result (known types.new scope.new) }
+{
+    let x = judge_expr(scope, types, LEVELS, false, e)?;
+    value(scope, types, x)
+}
+
+/// The value of an expression; a struct is not read.
+#[tactic(auto, unfolding(crate::specs::Checking::checked))]
+pub fn check_expr(scope: &mut Scope, types: &mut Types, e: &Expr) -> Result<TypedExpr, Fault>
+    ensures { Answers typed_expr_view (checking.checked (expr_view e.now) (known types.old scope.old)) result (known types.new scope.new) }
+{
+    let v = judged_value(scope, types, e)?;
+    Ok(v.expr)
+}
+
+/// An initialiser takes an allocation over, a returned value does not.
+#[tactic(auto, unfolding(crate::specs::Checking::taken))]
+fn taken(
+    scope: &mut Scope,
+    types: &mut Types,
+    init: bool,
+    to: TypeId,
+    x: Operand,
+) -> Result<Part, Fault>
+    ensures { Answers part_view (checking.taken init to (operand_view x) (known types.old scope.old)) result (known types.new scope.new) }
+{
+    if init {
+        return given(scope, types, to, x.place, x.part);
+    }
+    let v = value(scope, types, x)?;
+    Ok(side_of(v.expr))
+}
+
+/// Whether a part becomes a value of the type, or is a struct of it.
+fn becomes(types: &Types, to: TypeId, x: PartRef) -> bool
+    ensures { result ≡ checking.becomes types.now to (part_ref_view x.entry) }
+{
+    match x {
+        PartRef::Place(p) => {
+            fits(types, x, shape_at(types, to))
+                || (is_aggregate(shape_at(types, to)) && is_same_type(types, to, p.ty()))
+        }
+        _ => fits(types, x, shape_at(types, to)),
+    }
+}
+
+/// A part that becomes a value of the type.
+fn converted_part(
+    scope: &Scope,
+    types: &Types,
+    to: TypeId,
+    at: Place,
+    x: Part,
+) -> Result<TypedExpr, NoMemory>
+    ensures { IfOk result (λ e. typed_expr_view e ≡ checking.converted_part types.now to at (part_view x)) }
+{
+    match x {
+        Part::Place(p) => Ok(TypedExpr::Unread(Boxed::new(scope.alloc(), p)?)),
+        Part::Value(e) => converted_to(scope, types, at, to, e),
+        Part::Allocation(e) => Ok(e),
+    }
+}
+
+/// An expression that is converted to a type at a place; `init` says that it is an initialiser and not a returned value.
+#[tactic(auto, unfolding(crate::specs::Checking::checked_value, crate::specs::Checking::converted_value))]
+pub fn check_value(
+    scope: &mut Scope,
+    types: &mut Types,
+    to: TypeId,
+    at: Place,
+    init: bool,
+    e: &Expr,
+) -> Result<TypedExpr, Fault>
+    ensures { Answers typed_expr_view (checking.checked_value to at init (expr_view e.now) (known types.old scope.old)) result (known types.new scope.new) }
+{
+    let x = judge_expr(scope, types, LEVELS, false, e)?;
+    let part = taken(scope, types, init, to, x)?;
+    if !becomes(types, to, part.as_ref()) {
+        return Err(refusal(at, Rule::Mismatch));
+    }
+    Ok(converted_part(scope, types, to, at, part)?)
+}
+
+/// An integer constant expression and its value.
+#[tactic(auto, unfolding(crate::specs::Checking::checked_constant, crate::specs::Checking::constant_as))]
+pub fn check_constant(
+    scope: &mut Scope,
+    types: &mut Types,
+    e: &Expr,
+) -> Result<(TypedExpr, i128), Fault>
+    ensures { Answers constant_view (checking.checked_constant (expr_view e.now) (known types.old scope.old)) result (known types.new scope.new) }
+{
+    let v = judged_value(scope, types, e)?;
+    match constant_value(types, &v.expr) {
+        Some(z) => Ok((v.expr, z)),
+        None => Err(refusal(v.place, Rule::NotConstant)),
+    }
+}
+
+/// Specifiers that no declarator follows (C99 6.7.2.3).
+#[tactic(auto, using(c_tree::proofs::ViewLaws::expr_views, c_tree::proofs::TypedViewLaws::typed_views), unfolding(crate::specs::Walks::judge_specifiers_of))]
+fn alone_specifiers(
+    scope: &mut Scope,
+    types: &mut Types,
+    specifiers: &Specifiers,
+) -> Result<TypedSpecifiers, Fault>
+    ensures { Answers typed_specifiers_view (walks.judge_specifiers_of true (specifiers_view specifiers.now) (known types.old scope.old)) result (known types.new scope.new) }
+{
+    match specifiers.list.as_slice() {
+        [Specifier::Tagged(which, at, name)] => {
+            let one = tagged_alone(scope, types, *which, *at, name)?;
+            let ty = listed_type(named_with(&one, Named::Nothing), &Words::none());
+            let mut list = Items::new(scope.alloc());
+            list.push(one)?;
+            Ok(TypedSpecifiers { list, ty })
+        }
+        _ => judge_specifiers(scope, types, LEVELS, specifiers),
+    }
+}
+
+/// Specifiers; `alone` says that no declarator follows.
+#[tactic(auto, unfolding(crate::specs::Walks::judge_specifiers_of))]
+pub fn check_specifiers(
+    scope: &mut Scope,
+    types: &mut Types,
+    specifiers: &Specifiers,
+    alone: bool,
+) -> Result<TypedSpecifiers, Fault>
+    ensures { Answers typed_specifiers_view (walks.judge_specifiers_of alone (specifiers_view specifiers.now) (known types.old scope.old)) result (known types.new scope.new) }
+{
+    if alone {
+        alone_specifiers(scope, types, specifiers)
+    } else {
+        judge_specifiers(scope, types, LEVELS, specifiers)
+    }
+}
+
+/// A declarator behind specifiers. `size` is what an initialiser gives to the array part that stands nearest to the name.
+#[tactic(auto, using(c_tree::proofs::TypedViewLaws::typed_views), unfolding(crate::specs::Walks::judge_declarator_at))]
+pub fn check_declarator(
+    scope: &mut Scope,
+    types: &mut Types,
+    naming: Naming,
+    base: &TypedSpecifiers,
+    size: Option<u64>,
+    d: &Declarator,
+) -> Result<TypedDeclarator, Fault>
+    ensures { Answers typed_declarator_view (walks.judge_declarator naming (typed_specifiers_view base.now) size (declarator_view d.now) (known types.old scope.old)) result (known types.new scope.new) }
+{
+    let at = name_place(declarator_name(d), NOWHERE);
+    let which = if is_function_by(types, derived_by(d, Derived::Nothing), base.ty) {
+        Naming::None
+    } else {
+        naming
+    };
+    let form = judge_form(scope, types, LEVELS, which, at, d)?;
+    let nearest = match size {
+        Some(count) => Nearest::Counts(count),
+        None => Nearest::Written,
+    };
+    let ty = form_makes(scope, types, at, nearest, &form, base.ty)?;
+    Ok(TypedDeclarator {
+        form,
+        ty,
+        home: None,
+    })
+}
+
+/// The pointers that the assignment of a struct or union moves are counted. NOT WRITTEN YET: a stub.
+pub fn count_cells(scope: &mut Scope, types: &Types, at: Place, t: TypeId) -> Result<TypeId, Fault>
+    ensures { Answers (λ t. t) (cells.count_cells at t (known types.now scope.old)) result (known types.now scope.new) }
+{
+    let _given = (scope.depth(), types.count(), at, t);
+    Err(Fault::NoMemory)
+}

@@ -1,0 +1,166 @@
+//! Rows of members (C99 6.7.2.1).
+#![tactic(auto)]
+
+ghost use Rattle.std.specs.Prelude.{◌≡◌, ◌++◌, IfOk, List, map, option_copied};
+ghost use Rattle.c_tree.specs.Tree.{Members, NoMember, MemberDeclarators, AndDeclarator as and_declarator};
+ghost use Rattle.c_tree.specs.TypedTree.{TypedMembers, NoMember as no_typed_member, TypedMemberDeclarators, AndDeclarator};
+ghost use Rattle.c_tree.specs.Views.{added, declarator_view, members_view, member_declarators_of};
+ghost use Rattle.c_tree.specs.TypedViews.{typed_declarator_view, typed_form_view, typed_members_view, typed_member_declarators_of};
+ghost use Rattle.c_check_expr.specs.Declarators.{declarator_names, member_names};
+ghost use Rattle.c_check_expr.specs.Declaring as declaring;
+ghost use Rattle.c_check_expr.specs.Judging.{Answers, Gives, State, known};
+ghost use Rattle.c_check_expr.specs.Nests.{Nests};
+ghost use Rattle.c_check_expr.specs.Scopes.{Name};
+ghost use Rattle.c_check_expr.specs.Walks as walks;
+
+use crate::making::{Nearest, form_makes};
+use crate::member::MemberNames;
+use crate::naming::Naming;
+use crate::operand::Operand;
+use crate::places::{declarator_name, name_place};
+use crate::scope::Scope;
+use crate::shapes::is_complete_at;
+use crate::stops::{no_room, refusal};
+use crate::walker::Walker;
+use c_tree::{
+    Declarator, Expr, Identifier, Items, Members, Specifiers, TypedDeclarator, TypedForm,
+    TypedMembers, TypedSpecifiers,
+};
+use c_types::Types;
+use cc_base::{Fault, Place, Rule, TypeId};
+
+/// The first place of a text.
+const NOWHERE: Place = Place { line: 1, col: 1 };
+
+/// The type of a member, which is complete.
+#[tactic(auto, unfolding(crate::specs::Declaring::member_type))]
+fn member_type(
+    scope: &Scope,
+    types: &mut Types,
+    at: Place,
+    form: &TypedForm,
+    base: TypeId,
+) -> Result<TypeId, Fault>
+    ensures { Answers (λ t. t) (declaring.member_type at (typed_form_view form.now) base (known types.old scope.now)) result (known types.new scope.now) }
+{
+    let t = form_makes(scope, types, at, Nearest::Written, form, base)?;
+    if !is_complete_at(scope, types, t) {
+        return Err(refusal(at, Rule::Incomplete));
+    }
+    Ok(t)
+}
+
+/// A member whose form is judged.
+#[tactic(auto, using(c_tree::proofs::TypedViewLaws::typed_views), unfolding(crate::specs::Declaring::member_named))]
+fn member_named(
+    scope: &Scope,
+    types: &mut Types,
+    names: &MemberNames,
+    form: TypedForm,
+    base: TypeId,
+    name: Option<&Identifier>,
+) -> Result<TypedDeclarator, Fault>
+    ensures { (all : TypedMemberDeclarators) → Answers (λ d. AndDeclarator all (typed_declarator_view d)) (declaring.member_named names.now all (typed_form_view form) base (option_copied name.entry) (known types.old scope.now)) result (known types.new scope.now) }
+{
+    let Some(name) = name else {
+        return Err(no_room(NOWHERE));
+    };
+    if names.place(name.bytes.as_slice()).is_some() {
+        return Err(refusal(name.place, Rule::Redeclared));
+    }
+    let ty = member_type(scope, types, name.place, &form, base)?;
+    Ok(TypedDeclarator {
+        form,
+        ty,
+        home: None,
+    })
+}
+
+impl<
+    E: Fn(&mut Scope, &mut Types, u16, bool, &Expr) -> Result<Operand, Fault>,
+    S: Fn(&mut Scope, &mut Types, u16, &Specifiers) -> Result<TypedSpecifiers, Fault>,
+    D: Fn(&mut Scope, &mut Types, u16, Naming, Place, &Declarator) -> Result<TypedForm, Fault>,
+> Walker<E, S, D> {
+    /// A member after those of its row, in which these names stand before it.
+    #[tactic(auto, unfolding(crate::specs::Walks::judge_member_declarators))]
+    fn member(
+        &self,
+        scope: &mut Scope,
+        types: &mut Types,
+        names: &MemberNames,
+        base: TypeId,
+        d: &Declarator,
+    ) -> Result<TypedDeclarator, Fault>
+        requires nests { Nests self.now.depth (E.pre self.now.judge_expr) (E.post self.now.judge_expr) (S.pre self.now.judge_specifiers) (S.post self.now.judge_specifiers) (D.pre self.now.judge_form) (D.post self.now.judge_form) }
+        ensures { (start : State) (first : List Name) (before : MemberDeclarators) (done : TypedMemberDeclarators) → first ++ declarator_names done ≡ names.now → walks.judge_member_declarators base first before start ≡ Gives done (known types.old scope.old) → Answers (λ made. AndDeclarator done (typed_declarator_view made)) (walks.judge_member_declarators base first (and_declarator before (declarator_view d.now)) start) result (known types.new scope.new) }
+    {
+        let name = declarator_name(d);
+        let form = self.form(scope, types, Naming::None, name_place(name, NOWHERE), d)?;
+        member_named(scope, types, names, form, base, name)
+    }
+
+    /// The members of a row; their names are added to those before.
+    fn row(
+        &self,
+        scope: &mut Scope,
+        types: &mut Types,
+        names: &mut MemberNames,
+        base: TypeId,
+        list: &[Declarator],
+    ) -> Result<Items<TypedDeclarator>, Fault>
+        requires nests { Nests self.now.depth (E.pre self.now.judge_expr) (E.post self.now.judge_expr) (S.pre self.now.judge_specifiers) (S.post self.now.judge_specifiers) (D.pre self.now.judge_form) (D.post self.now.judge_form) }
+        ensures answers { Answers (λ found. typed_member_declarators_of (map typed_declarator_view found)) (walks.judge_member_declarators base names.old (member_declarators_of (map declarator_view list.now)) (known types.old scope.old)) result (known types.new scope.new) }
+        ensures named { IfOk result (λ found. names.new ≡ names.old ++ declarator_names (typed_member_declarators_of (map typed_declarator_view found))) }
+    {
+        let mut found = Items::new(scope.alloc());
+        for d in list {
+            let one = self.member(scope, types, names, base, d)?;
+            if let Some(name) = declarator_name(d) {
+                names.push(scope.alloc(), name.bytes.as_slice())?;
+            }
+            found.push(one)?;
+        }
+        Ok(found)
+    }
+
+    /// A row after those that are judged, whose names are these.
+    #[tactic(auto, using(c_tree::proofs::ViewLaws::expr_views, c_tree::proofs::TypedViewLaws::typed_views), unfolding(crate::specs::Walks::judge_members, crate::specs::Walks::judge_specifiers))]
+    fn members_row(
+        &self,
+        scope: &mut Scope,
+        types: &mut Types,
+        names: &mut MemberNames,
+        row: &Members,
+    ) -> Result<TypedMembers, Fault>
+        requires nests { Nests self.now.depth (E.pre self.now.judge_expr) (E.post self.now.judge_expr) (S.pre self.now.judge_specifiers) (S.post self.now.judge_specifiers) (D.pre self.now.judge_form) (D.post self.now.judge_form) }
+        ensures answers { (start : State) (before : Members) (done : TypedMembers) → member_names done ≡ names.old → walks.judge_members before start ≡ Gives done (known types.old scope.old) → Answers (λ made. typed_members_view made done) (walks.judge_members (members_view row.now before) start) result (known types.new scope.new) }
+        ensures named { IfOk result (λ made. (done : TypedMembers) → member_names done ≡ names.old → member_names (typed_members_view made done) ≡ names.new) }
+    {
+        let specifiers = self.specifiers(scope, types, &row.specifiers)?;
+        let base = specifiers.ty;
+        let declarators = self.row(scope, types, names, base, row.declarators.as_slice())?;
+        Ok(TypedMembers {
+            specifiers,
+            declarators,
+        })
+    }
+
+    /// Rows of members, one after another.
+    pub(crate) fn members(
+        &self,
+        scope: &mut Scope,
+        types: &mut Types,
+        names: &mut MemberNames,
+        rows: &[Members],
+    ) -> Result<Items<TypedMembers>, Fault>
+        requires nests { Nests self.now.depth (E.pre self.now.judge_expr) (E.post self.now.judge_expr) (S.pre self.now.judge_specifiers) (S.post self.now.judge_specifiers) (D.pre self.now.judge_form) (D.post self.now.judge_form) }
+        ensures answers { member_names no_typed_member ≡ names.old → Answers (λ found. added no_typed_member (map typed_members_view found)) (walks.judge_members (added NoMember (map members_view rows.now)) (known types.old scope.old)) result (known types.new scope.new) }
+        ensures named { IfOk result (λ found. member_names no_typed_member ≡ names.old → member_names (added no_typed_member (map typed_members_view found)) ≡ names.new) }
+    {
+        let mut found = Items::new(scope.alloc());
+        for row in rows {
+            found.push(self.members_row(scope, types, names, row)?)?;
+        }
+        Ok(found)
+    }
+}

@@ -3,9 +3,9 @@ use Rattle.std.proofs.Common.{◌≡◌, ℕ, Bool, true, false, cond, ◌||◌,
 use Rattle.std.specs.List.{list_any}
 use Rattle.indexmap.specs.IndexMap.{insert_entry}
 use Rattle.indexmap.specs.IndexSet.{insert_key}
-use Rattle.c_check_expr.specs.declared.declared.Declared.{Declared}
-use Rattle.c_check_expr.specs.Scopes.{Name, entry_of, seen_entries}
-use Rattle.c_check_expr.proofs.ScopeLaws.{insert-seen}
+use Rattle.c_typing.specs.declared.declared.Declared.{Declared}
+use Rattle.c_typing.specs.Scopes.{Name, entry_of, seen_entries}
+use Rattle.c_typing.proofs.ScopeLaws.{insert-seen}
 use Rattle.c_check.specs.Units.{is_one_of}
 use Rattle.c_check.specs.Linkage.{with_name}
 

@@ -18,10 +18,10 @@ use Rattle.c_tree.specs.Tree as tree
 use Rattle.c_tree.specs.TypedTree as typed
 use Rattle.c_tree.specs.TypedTree.{TypedSpecifiers, TypedForm, TypedTranslationUnit}
 use Rattle.runtime_calls.specs.Prototypes.{IsNoName}
-use Rattle.c_check_expr.specs.declared.declared.Declared.TheVariants as declared
-use Rattle.c_check_expr.specs.Shapes.{is_same_type}
-use Rattle.c_check_expr.specs.Scopes.{Level, Scopes}
-use Rattle.c_check_expr.specs.Typing.{AreSpecifiers}
+use Rattle.c_typing.specs.declared.declared.Declared.TheVariants as declared
+use Rattle.c_typing.specs.Shapes.{is_same_type}
+use Rattle.c_typing.specs.Scopes.{Level, Scopes}
+use Rattle.c_typing.specs.Typing.{AreSpecifiers}
 use Rattle.c_check.specs.Units.{Known, IsUnitTyped}
 use Rattle.c_check.specs.WellTyped.{HasMain}
 use Rattle.c_check.specs.UnitRefusals.{RefusesUnit}

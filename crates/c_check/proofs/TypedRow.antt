@@ -23,10 +23,10 @@ use Rattle.c_tree.specs.TypedTree as typed
 use Rattle.c_tree.specs.TypedTree.{TypedExpr, TypedPlace, TypedSpecifiers, TypedForm, TypedParameters, TypedBlockItems, TypedTranslationUnit}
 use Rattle.c_tree.specs.Erasure.{erased_unit}
 use Rattle.runtime_calls.specs.Prototypes.{IsNoName}
-use Rattle.c_check_expr.specs.declared.declared.Declared.TheVariants as declared
-use Rattle.c_check_expr.specs.Scopes.{Level, Scopes}
-use Rattle.c_check_expr.specs.Declarators.{Written}
-use Rattle.c_check_expr.specs.Typing.{IsTyped, AreSpecifiers}
+use Rattle.c_typing.specs.declared.declared.Declared.TheVariants as declared
+use Rattle.c_typing.specs.Scopes.{Level, Scopes}
+use Rattle.c_typing.specs.Declarators.{Written}
+use Rattle.c_typing.specs.Typing.{IsTyped, AreSpecifiers}
 use Rattle.c_check.specs.Units.{Known, Unstored, AsTypedef, IsDeclarator, IsDefinition}
 use Rattle.c_check.specs.WellTyped.{IsWellTyped}
 

@@ -14,16 +14,16 @@ use Rattle.c_tree.specs.Tree as tree
 use Rattle.c_tree.specs.TypedTree as typed
 use Rattle.c_tree.specs.TypedTree.{TypedSpecifiers, TypedDeclarator, TypedInitialiser, TypedInitDeclarators, TypedDeclaration}
 use Rattle.c_tree.specs.TypedParts.{specified_type, declared_type, home_of}
-use Rattle.c_check_expr.specs.declared.declared.Declared.{Declared}
-use Rattle.c_check_expr.specs.declared.declared.Declared.TheVariants as declared
-use Rattle.c_check_expr.specs.declared.naming.Naming.{Naming}
-use Rattle.c_check_expr.specs.declared.naming.Naming.TheVariants as naming
-use Rattle.c_check_expr.specs.Shapes.{is_function_shape}
-use Rattle.c_check_expr.specs.Scopes as scopes
-use Rattle.c_check_expr.specs.Scopes.{Name, Scopes, here, declaring, entry_of}
-use Rattle.c_check_expr.specs.Assignments.{count_global}
-use Rattle.c_check_expr.specs.Declaring.{declarator_name}
-use Rattle.c_check_expr.specs.Walks.{judge_declarator, judge_specifiers_of}
+use Rattle.c_typing.specs.declared.declared.Declared.{Declared}
+use Rattle.c_typing.specs.declared.declared.Declared.TheVariants as declared
+use Rattle.c_typing.specs.declared.naming.Naming.{Naming}
+use Rattle.c_typing.specs.declared.naming.Naming.TheVariants as naming
+use Rattle.c_typing.specs.Shapes.{is_function_shape}
+use Rattle.c_typing.specs.Scopes as scopes
+use Rattle.c_typing.specs.Scopes.{Name, Scopes, here, declaring, entry_of}
+use Rattle.c_typing.specs.Assignments.{count_global}
+use Rattle.c_typing.specs.Declaring.{declarator_name}
+use Rattle.c_typing.specs.Walks.{judge_declarator, judge_specifiers_of}
 use Rattle.c_check.specs.Initialisers.{with_home, makes_chars}
 use Rattle.c_check.specs.Units.{Storage, AsTypedef, AsExtern, AsStatic, storage_of, unless_linked, unless_here, is_linked_home}
 use Rattle.c_check.specs.UnitRefusals.{declared_tests, size_written, is_lasting}

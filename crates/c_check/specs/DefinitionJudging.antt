@@ -16,12 +16,12 @@ use Rattle.c_tree.specs.Tree as tree
 use Rattle.c_tree.specs.TypedTree as typed
 use Rattle.c_tree.specs.TypedTree.{TypedSpecifiers, TypedDeclarator, TypedForm, TypedParameters, TypedBlockItems, TypedTranslationUnit}
 use Rattle.c_tree.specs.TypedParts.{declared_home, declared_type}
-use Rattle.c_check_expr.specs.declared.declared.Declared.{Declared}
-use Rattle.c_check_expr.specs.declared.declared.Declared.TheVariants as declared
-use Rattle.c_check_expr.specs.Scopes.{Name, file_scope, place_among, entry_of}
-use Rattle.c_check_expr.specs.Tests.{Test, broken_at, has_some}
-use Rattle.c_check_expr.specs.Declaring.{declarator_name, entered, left}
-use Rattle.c_check_expr.specs.Walks.{judge_declarator, judge_specifiers_of}
+use Rattle.c_typing.specs.declared.declared.Declared.{Declared}
+use Rattle.c_typing.specs.declared.declared.Declared.TheVariants as declared
+use Rattle.c_typing.specs.Scopes.{Name, file_scope, place_among, entry_of}
+use Rattle.c_typing.specs.Tests.{Test, broken_at, has_some}
+use Rattle.c_typing.specs.Declaring.{declarator_name, entered, left}
+use Rattle.c_typing.specs.Walks.{judge_declarator, judge_specifiers_of}
 use Rattle.c_check.specs.Units.{storage_of, parameters_of_form, declared_identifier}
 use Rattle.c_check.specs.UnitRefusals.{definition_tests, start_of_text, is_integer_of}
 use Rattle.c_check.specs.Linkage.{no_linkage, with_name}

@@ -1,7 +1,7 @@
 -- The most values that an expression of a part of the tree holds at once, those in its type names among them.
 use Rattle.std.specs.Prelude.{ℕ, max, Option, Some, None}
 use Rattle.c_tree.specs.Tree as tree
-use Rattle.c_check_expr.specs.Held.{held}
+use Rattle.c_typing.specs.Held.{held}
 
 abbrev mutual
   pub expr_holds : tree.Expr → ℕ

@@ -13,11 +13,11 @@ use Rattle.c_tree.specs.Tree as tree
 use Rattle.c_tree.specs.TypedTree as typed
 use Rattle.c_tree.specs.TypedTree.{TypedExpr, TypedInitialiser, TypedItems}
 use Rattle.c_tree.specs.TypedParts.{place_type}
-use Rattle.c_check_expr.specs.Rules.{pieces_bytes}
-use Rattle.c_check_expr.specs.Shapes.{is_scalar_shape}
-use Rattle.c_check_expr.specs.Tests.{Test, broken_at}
-use Rattle.c_check_expr.specs.Cells.{count_cells}
-use Rattle.c_check_expr.specs.Checking.{checked, checked_value}
+use Rattle.c_typing.specs.Rules.{pieces_bytes}
+use Rattle.c_typing.specs.Shapes.{is_scalar_shape}
+use Rattle.c_typing.specs.Tests.{Test, broken_at}
+use Rattle.c_typing.specs.Cells.{count_cells}
+use Rattle.c_typing.specs.Checking.{checked, checked_value}
 use Rattle.c_check.specs.Initialisers.{Slot, slot_of_shape, char_count_of_shape, is_char_array, items_count, is_constant}
 use Rattle.c_check.specs.UnitJudging.{UnitState, UnitJudging, pure, stop, obeying, by_known, lifted, ◌>>=◌, ◌>>◌}
 

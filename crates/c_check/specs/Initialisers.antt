@@ -13,12 +13,12 @@ use Rattle.c_tree.specs.Tree as tree
 use Rattle.c_tree.specs.TypedTree as typed
 use Rattle.c_tree.specs.TypedTree.{TypedExpr, TypedPlace, TypedInitialiser, TypedItems}
 use Rattle.c_tree.specs.TypedParts.{place_type, item_place}
-use Rattle.c_check_expr.specs.Shapes.{IsScalar, IsSameType, is_scalar_shape}
-use Rattle.c_check_expr.specs.Scopes.{Scopes}
-use Rattle.c_check_expr.specs.Constants.{constant_value}
-use Rattle.c_check_expr.specs.Conversions.{IsAssigned}
-use Rattle.c_check_expr.specs.Rules.{pieces_bytes}
-use Rattle.c_check_expr.specs.Typing.{IsTyped, IsPlace}
+use Rattle.c_typing.specs.Shapes.{IsScalar, IsSameType, is_scalar_shape}
+use Rattle.c_typing.specs.Scopes.{Scopes}
+use Rattle.c_typing.specs.Constants.{constant_value}
+use Rattle.c_typing.specs.Conversions.{IsAssigned}
+use Rattle.c_typing.specs.Rules.{pieces_bytes}
+use Rattle.c_typing.specs.Typing.{IsTyped, IsPlace}
 
 -- the number of the characters of an array of char, signed or not
 abbrev pub char_count_of_element : TypeShape → ℕ → Option ℕ

@@ -9,7 +9,7 @@ use Rattle.c_types.specs.Layouts.{size_of}
 use Rattle.c_tree.specs.TypedTree.{TypedTranslationUnit}
 use Rattle.c_tree.specs.TypedParts.{Made, Copy, made_by_unit, statics_of, functions_of}
 use Rattle.c_tree.specs.Erasure.{erased_unit}
-use Rattle.c_check_expr.specs.Cells.{pointers_in}
+use Rattle.c_typing.specs.Cells.{pointers_in}
 use Rattle.c_check.specs.Holding.{unit_holds}
 
 abbrev pub pointers_copied_by : Table → Made → List ℕ

@@ -1,8 +1,8 @@
 -- What is known of names with linkage (C99 6.2.2, 6.9), and of objects that live as long as the program.
 use Rattle.std.specs.Prelude.{List, [], ◌∷◌, ◌++◌, if◌then◌else◌}
 use Rattle.cc_base.specs.declared.number.NodeId.{NodeId}
-use Rattle.c_check_expr.specs.declared.declared.Declared.{Declared}
-use Rattle.c_check_expr.specs.Scopes.{Name}
+use Rattle.c_typing.specs.declared.declared.Declared.{Declared}
+use Rattle.c_typing.specs.Scopes.{Name}
 use Rattle.c_check.specs.declared.linkage.Linkage.{Linkage}
 use Rattle.c_check.specs.Units.{is_one_of}
 

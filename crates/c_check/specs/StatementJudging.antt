@@ -13,14 +13,14 @@ use Rattle.c_tree.specs.TypedTree as typed
 use Rattle.c_tree.specs.TypedTree.{TypedExpr, TypedStatement, TypedBlockItems}
 use Rattle.c_tree.specs.TypedParts.{type_of}
 use Rattle.integers.specs.Arithmetic.{IntegerType, converted}
-use Rattle.c_check_expr.specs.Integers.{promoted}
-use Rattle.c_check_expr.specs.Shapes.{integer_at, is_void_shape}
-use Rattle.c_check_expr.specs.Constants.{with_type}
-use Rattle.c_check_expr.specs.Conversions.{to_integer}
-use Rattle.c_check_expr.specs.Tests.{AsValue, broken_at}
-use Rattle.c_check_expr.specs.Judging.{integer_type}
-use Rattle.c_check_expr.specs.Declaring.{entered, left}
-use Rattle.c_check_expr.specs.Checking.{Constant, checked, checked_value, checked_constant}
+use Rattle.c_typing.specs.Integers.{promoted}
+use Rattle.c_typing.specs.Shapes.{integer_at, is_void_shape}
+use Rattle.c_typing.specs.Constants.{with_type}
+use Rattle.c_typing.specs.Conversions.{to_integer}
+use Rattle.c_typing.specs.Tests.{AsValue, broken_at}
+use Rattle.c_typing.specs.Judging.{integer_type}
+use Rattle.c_typing.specs.Declaring.{entered, left}
+use Rattle.c_typing.specs.Checking.{Constant, checked, checked_value, checked_constant}
 use Rattle.c_check.specs.declared.around.Around.{Around}
 use Rattle.c_check.specs.Units.{in_a_loop, in_a_switch, labels_of, defaults_in}
 use Rattle.c_check.specs.UnitRefusals.{condition_tests, jump_tests, switch_tests}

@@ -6,11 +6,11 @@ use Rattle.cc_base.specs.declared.number.NodeId.{NodeId}
 use Rattle.cc_base.specs.declared.fault.Fault.{Fault}
 use Rattle.cc_base.specs.declared.fault.Fault.TheVariants.{NoMemory}
 use Rattle.c_types.specs.Table.{Table}
-use Rattle.c_check_expr.specs.declared.declared.Declared.{Declared}
-use Rattle.c_check_expr.specs.Scopes.{Name, Seen}
-use Rattle.c_check_expr.specs.Tests.{Test, first_broken}
-use Rattle.c_check_expr.specs.Judging as judging
-use Rattle.c_check_expr.specs.Judging.{Judging, Outcome}
+use Rattle.c_typing.specs.declared.declared.Declared.{Declared}
+use Rattle.c_typing.specs.Scopes.{Name, Seen}
+use Rattle.c_typing.specs.Tests.{Test, first_broken}
+use Rattle.c_typing.specs.Judging as judging
+use Rattle.c_typing.specs.Judging.{Judging, Outcome}
 use Rattle.c_check.specs.Units.{Known}
 use Rattle.c_check.specs.declared.context.Context.{Context}
 use Rattle.c_check.specs.declared.linkage.Linkage.{Linkage}

@@ -25,16 +25,16 @@ use Rattle.integers.specs.Arithmetic.{converted}
 use Rattle.runtime_calls.specs.declared.function.RuntimeType.{RuntimeType}
 use Rattle.runtime_calls.specs.declared.function.RuntimeType.TheVariants as prototype
 use Rattle.runtime_calls.specs.Prototypes.{prototype_of, runtime_of}
-use Rattle.c_check_expr.specs.declared.declared.Declared.{Declared}
-use Rattle.c_check_expr.specs.declared.declared.Declared.TheVariants as declared
-use Rattle.c_check_expr.specs.Shapes.{is_same_type, integer_at, is_integer_shape, is_scalar_shape, is_void_shape, is_function_shape}
-use Rattle.c_check_expr.specs.Scopes.{Name, Scopes, here, entry_of, entering, is_complete_at}
-use Rattle.c_check_expr.specs.Constants.{constant_value, with_type, with_value, is_void_pointer}
-use Rattle.c_check_expr.specs.Declarators.{Outermost, Written, FormMakes}
-use Rattle.c_check_expr.specs.Typing.{IsTyped, AreSpecifiers, IsForm}
-use Rattle.c_check_expr.specs.Rules.{pieces_bytes, IsPromoted}
-use Rattle.c_check_expr.specs.Tests
-use Rattle.c_check_expr.specs.Refusals.{Fails, Refuses, After, RefusesSpecifiers, RefusesAlone, RefusesDeclarator, FormFails}
+use Rattle.c_typing.specs.declared.declared.Declared.{Declared}
+use Rattle.c_typing.specs.declared.declared.Declared.TheVariants as declared
+use Rattle.c_typing.specs.Shapes.{is_same_type, integer_at, is_integer_shape, is_scalar_shape, is_void_shape, is_function_shape}
+use Rattle.c_typing.specs.Scopes.{Name, Scopes, here, entry_of, entering, is_complete_at}
+use Rattle.c_typing.specs.Constants.{constant_value, with_type, with_value, is_void_pointer}
+use Rattle.c_typing.specs.Declarators.{Outermost, Written, FormMakes}
+use Rattle.c_typing.specs.Typing.{IsTyped, AreSpecifiers, IsForm}
+use Rattle.c_typing.specs.Rules.{pieces_bytes, IsPromoted}
+use Rattle.c_typing.specs.Tests
+use Rattle.c_typing.specs.Refusals.{Fails, Refuses, After, RefusesSpecifiers, RefusesAlone, RefusesDeclarator, FormFails}
 use Rattle.c_check.specs.Initialisers.{Slot, slot_of_shape, items_count, char_count_of_shape, is_char_array, is_constant, is_constant_place, AreItems, makes_chars}
 use Rattle.c_check.specs.declared.around.Around.{Around}
 use Rattle.c_check.specs.Units.{Known, Storage, AsTypedef, AsExtern, AsStatic, storage_of, with_scopes, is_one_of, outermost_of, is_linked_home, IsDeclarator, AreDeclarators, IsDeclaration, in_a_loop, in_a_switch, IsDropped, IsTested, IsTestedOrNone, entering_known, labels_of, defaults_in, IsStatement, AreBlockItems, parameters_of_form, with_parameters, IsUnitTyped}

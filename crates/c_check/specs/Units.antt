@@ -17,15 +17,15 @@ use Rattle.c_tree.specs.TypedParts.{type_of, specified_type, home_of, declared_h
 use Rattle.integers.specs.Arithmetic.{IntegerType, converted}
 use Rattle.c_tree.specs.declared.typed_word.Runtime.{Runtime}
 use Rattle.runtime_calls.specs.Prototypes.{IsNamed, IsNoName, HasPrototype}
-use Rattle.c_check_expr.specs.declared.declared.Declared.{Declared}
-use Rattle.c_check_expr.specs.declared.declared.Declared.TheVariants as declared
-use Rattle.c_check_expr.specs.Shapes.{IsSameType, integer_at, is_function_shape, is_void_shape}
-use Rattle.c_check_expr.specs.Scopes.{Name, Scopes, here, declaring, entering, leaving, entry_of, is_complete_at}
-use Rattle.c_check_expr.specs.Constants.{constant_value}
-use Rattle.c_check_expr.specs.Conversions.{IsPlain, IsConverted}
-use Rattle.c_check_expr.specs.Rules.{IsCondition, IsPromoted, IsDroppable}
-use Rattle.c_check_expr.specs.Declarators.{Outermost, Written, Counts, FormMakes}
-use Rattle.c_check_expr.specs.Typing.{IsTyped, AreSpecifiers, AreAlone, IsForm, IsNewName}
+use Rattle.c_typing.specs.declared.declared.Declared.{Declared}
+use Rattle.c_typing.specs.declared.declared.Declared.TheVariants as declared
+use Rattle.c_typing.specs.Shapes.{IsSameType, integer_at, is_function_shape, is_void_shape}
+use Rattle.c_typing.specs.Scopes.{Name, Scopes, here, declaring, entering, leaving, entry_of, is_complete_at}
+use Rattle.c_typing.specs.Constants.{constant_value}
+use Rattle.c_typing.specs.Conversions.{IsPlain, IsConverted}
+use Rattle.c_typing.specs.Rules.{IsCondition, IsPromoted, IsDroppable}
+use Rattle.c_typing.specs.Declarators.{Outermost, Written, Counts, FormMakes}
+use Rattle.c_typing.specs.Typing.{IsTyped, AreSpecifiers, AreAlone, IsForm, IsNewName}
 use Rattle.c_check.specs.declared.around.Around.{Around}
 use Rattle.c_check.specs.Initialisers.{IsInitialiser, is_constant_initialiser, is_char_array, size_given, with_home}
 

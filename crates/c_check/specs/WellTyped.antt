@@ -9,8 +9,8 @@ use Rattle.c_tree.specs.TypedTree.{TypedTranslationUnit}
 use Rattle.c_tree.specs.TypedParts.{made_by_unit, nodes_made, DefinedFunction, functions_of, name_of, declared_type}
 use Rattle.c_tree.specs.Erasure.{erased_unit}
 use Rattle.integers.specs.Arithmetic.{int}
-use Rattle.c_check_expr.specs.Shapes.{IsIntegerType}
-use Rattle.c_check_expr.specs.Scopes.{Name, empty_level}
+use Rattle.c_typing.specs.Shapes.{IsIntegerType}
+use Rattle.c_typing.specs.Scopes.{Name, empty_level}
 use Rattle.c_check.specs.Units.{Known, IsUnitTyped, bytes_of_name}
 
 -- the names of the functions that the unit defines, in order

@@ -2,7 +2,7 @@
 #![tactic(auto)]
 
 ghost use Rattle.std.specs.Prelude.{◌≡◌, true};
-ghost use Rattle.c_check_expr.specs.Declaring.{entered, left};
+ghost use Rattle.c_typing.specs.Declaring.{entered, left};
 ghost use Rattle.c_check.specs.UnitJudging.{Answers, lifted};
 
 use crate::context::Context;

@@ -4,10 +4,10 @@
 ghost use Rattle.std.specs.Prelude.{◌≡◌};
 ghost use Rattle.c_tree.specs.Views.{expr_view, specifiers_view, declarator_view};
 ghost use Rattle.c_tree.specs.TypedViews.{typed_expr_view, typed_specifiers_view, typed_declarator_view};
-ghost use Rattle.c_check_expr.specs.Cells.{count_cells};
-ghost use Rattle.c_check_expr.specs.Checking.{checked, checked_value, checked_constant};
+ghost use Rattle.c_typing.specs.Cells.{count_cells};
+ghost use Rattle.c_typing.specs.Checking.{checked, checked_value, checked_constant};
 ghost use Rattle.c_check_expr.specs.CheckingViews.{constant_view};
-ghost use Rattle.c_check_expr.specs.Walks.{judge_specifiers_of, judge_declarator};
+ghost use Rattle.c_typing.specs.Walks.{judge_specifiers_of, judge_declarator};
 ghost use Rattle.c_check.specs.UnitJudging.{Answers, lifted};
 
 use crate::linkage::Linkage;

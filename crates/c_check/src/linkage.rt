@@ -2,7 +2,7 @@
 #![tactic(auto)]
 
 ghost use Rattle.std.specs.Prelude.{◌≡◌, [], ◌∷◌, ◌++◌, OnOk, None, option_copied};
-ghost use Rattle.c_check_expr.specs.Scopes.{entry_of};
+ghost use Rattle.c_typing.specs.Scopes.{entry_of};
 ghost use Rattle.c_check.specs.Initialisers.{is_among, with_home};
 ghost use Rattle.c_check.specs.Linkage.{no_linkage, with_name};
 ghost use Rattle.c_check.specs.Units.{is_one_of};
@@ -19,8 +19,8 @@ pub(crate) struct FirstDeclarations(IndexMap<Vec<u8>, Declared>);
 
 impl Model for FirstDeclarations {
     ghost use Rattle.std.specs.Prelude.{List};
-    ghost use Rattle.c_check_expr.specs.declared.declared.Declared.{Declared};
-    ghost use Rattle.c_check_expr.specs.Scopes.{Name, seen_entries};
+    ghost use Rattle.c_typing.specs.declared.declared.Declared.{Declared};
+    ghost use Rattle.c_typing.specs.Scopes.{Name, seen_entries};
 
     ghost Value = { List (Name × Declared) };
 
@@ -52,7 +52,7 @@ pub(crate) struct Names(IndexSet<Vec<u8>>);
 
 impl Model for Names {
     ghost use Rattle.std.specs.Prelude.{List, map};
-    ghost use Rattle.c_check_expr.specs.Scopes.{Name};
+    ghost use Rattle.c_typing.specs.Scopes.{Name};
 
     ghost Value = { List Name };
 

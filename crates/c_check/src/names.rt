@@ -2,7 +2,7 @@
 #![tactic(auto)]
 
 ghost use Rattle.std.specs.Prelude.{◌≡◌, OnOk, OnErr};
-ghost use Rattle.c_check_expr.specs.Scopes.{here, with_scopes, entry_of};
+ghost use Rattle.c_typing.specs.Scopes.{here, with_scopes, entry_of};
 ghost use Rattle.c_check.specs.Units.{unless_here, unless_linked};
 ghost use Rattle.c_check.specs.Initialisers.{with_home};
 ghost use Rattle.c_check.specs.UnitJudging.{Answers};

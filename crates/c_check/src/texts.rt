@@ -3,7 +3,7 @@
 
 ghost use Rattle.std.specs.Prelude.{◌≡◌, IfOk};
 ghost use Rattle.c_tree.specs.TypedStatementViews.{typed_initialiser_view};
-ghost use Rattle.c_check_expr.specs.Rules.{pieces_bytes};
+ghost use Rattle.c_typing.specs.Rules.{pieces_bytes};
 ghost use Rattle.c_check.specs.UnitJudging.{Answers};
 ghost use Rattle.c_check.specs.InitialiserJudging as judging;
 

@@ -15,21 +15,21 @@ use Rattle.c_tree.specs.declared.operator.AggregateKind.TheVariants as kind
 use Rattle.c_tree.specs.Tree as tree
 use Rattle.c_tree.specs.TypedTree as typed
 use Rattle.c_tree.specs.TypedTree.{TypedTranslationUnit}
-use Rattle.c_check_expr.specs.declared.declared.Declared.{Declared}
-use Rattle.c_check_expr.specs.declared.declared.Declared.TheVariants as declared
-use Rattle.c_check_expr.specs.Scopes.{Name}
+use Rattle.c_typing.specs.declared.declared.Declared.{Declared}
+use Rattle.c_typing.specs.declared.declared.Declared.TheVariants as declared
+use Rattle.c_typing.specs.Scopes.{Name}
 use Rattle.c_unit.specs.UnitJudging.{UnitOutcome, UnitState, Gives, Stops}
 use Rattle.c_unit.specs.DefinitionJudging.{judged_unit}
-use Rattle.c_check_expr.specs.Judging.{new_node as u0_new_node, type_with as u0_type_with, pointer_type as u0_pointer_type, new_pointer as u0_new_pointer, holding as u0_holding}
-use Rattle.c_check_expr.specs.Operands.{place_value as u1_place_value, raw_value as u1_raw_value, value_of as u1_value_of, value as u1_value, given_allocation as u1_given_allocation, given as u1_given}
-use Rattle.c_check_expr.specs.Operations.{construct as u2_construct, leaf as u2_leaf, integer as u2_integer, character as u2_character, paren as u2_paren, target_of as u2_target_of, target as u2_target, address_behind as u2_address_behind, address_of_part as u2_address_of_part, address as u2_address, prefix_of as u2_prefix_of, size_of_part as u2_size_of_part, size as u2_size, step_part as u2_step_part, step_before as u2_step_before, step_after as u2_step_after, prefix as u2_prefix, index as u2_index, infix_of as u2_infix_of, numbered as u2_numbered, found as u2_found, member_of as u2_member_of, member as u2_member, member_at_pointer as u2_member_at_pointer, pointed_member as u2_pointed_member}
-use Rattle.c_check_expr.specs.Assignments.{assign_part as u3_assign_part, assign as u3_assign, update_part as u3_update_part, update_by as u3_update_by, pointer_choice as u3_pointer_choice, choice_of_pointers as u3_choice_of_pointers, choice_of_values as u3_choice_of_values, choice_of_parts as u3_choice_of_parts, choice as u3_choice, comma as u3_comma, cast as u3_cast, size_of_type as u3_size_of_type, call as u3_call, function_name as u3_function_name, named_as as u3_named_as, name as u3_name, count_global as u3_count_global, literal as u3_literal}
-use Rattle.c_check_expr.specs.Declaring.{home_as as u4_home_as, stars_with_nodes as u4_stars_with_nodes, sized_part as u4_sized_part, sized as u4_sized, stars_make as u4_stars_make, array_type as u4_array_type, array_of as u4_array_of, array_makes as u4_array_makes, counting_parameters as u4_counting_parameters, function_type as u4_function_type, function_as as u4_function_as, function_makes as u4_function_makes, parts_make as u4_parts_make, declared_makes as u4_declared_makes, member_type as u4_member_type, member_named as u4_member_named, adjusted_with_node as u4_adjusted_with_node, adjusted_shape as u4_adjusted_shape, adjusted_makes as u4_adjusted_makes, parameter_makes as u4_parameter_makes, parameter_declared as u4_parameter_declared, parameter as u4_parameter, entered as u4_entered, left as u4_left, form_makes as u4_form_makes, core_makes as u4_core_makes}
-use Rattle.c_check_expr.specs.Specifying.{word as u5_word, typedef_named as u5_typedef_named, typedef_name as u5_typedef_name, new_aggregate as u5_new_aggregate, tagged_as as u5_tagged_as, tagged_by as u5_tagged_by, tagged as u5_tagged, tagged_alone as u5_tagged_alone, begun_as as u5_begun_as, begun as u5_begun, defined as u5_defined, completed as u5_completed, ended as u5_ended, enum as u5_enum, enumerator as u5_enumerator, enumerator_with as u5_enumerator_with, valued_enumerator as u5_valued_enumerator, enumeration_begun as u5_enumeration_begun, enumeration as u5_enumeration}
-use Rattle.c_check_expr.specs.Walks.{judge_value as u6_judge_value, judge_specifiers as u6_judge_specifiers, judge_specifiers_of as u6_judge_specifiers_of, judge_declarator_at as u6_judge_declarator_at, judge as u6_judge, judge_arguments as u6_judge_arguments, judge_type_name as u6_judge_type_name, judge_list as u6_judge_list, judge_specifier as u6_judge_specifier, judge_members as u6_judge_members, judge_member_declarators as u6_judge_member_declarators, judge_enumerators as u6_judge_enumerators, judge_form as u6_judge_form, judge_core as u6_judge_core, judge_parts as u6_judge_parts, judge_parameters as u6_judge_parameters, judge_declared as u6_judge_declared}
-use Rattle.c_check_expr.specs.Checking.{checked as u7_checked, taken as u7_taken, converted_value as u7_converted_value, checked_value as u7_checked_value, constant_as as u7_constant_as, checked_constant as u7_checked_constant}
-use Rattle.c_check_expr.specs.Cells.{pointers_in as u8_pointers_in, count_cells as u8_count_cells}
-use Rattle.c_check_expr.specs.Shapes.{is_same_type as u9_is_same_type}
+use Rattle.c_typing.specs.Judging.{new_node as u0_new_node, type_with as u0_type_with, pointer_type as u0_pointer_type, new_pointer as u0_new_pointer, holding as u0_holding}
+use Rattle.c_typing.specs.Operands.{place_value as u1_place_value, raw_value as u1_raw_value, value_of as u1_value_of, value as u1_value, given_allocation as u1_given_allocation, given as u1_given}
+use Rattle.c_typing.specs.Operations.{construct as u2_construct, leaf as u2_leaf, integer as u2_integer, character as u2_character, paren as u2_paren, target_of as u2_target_of, target as u2_target, address_behind as u2_address_behind, address_of_part as u2_address_of_part, address as u2_address, prefix_of as u2_prefix_of, size_of_part as u2_size_of_part, size as u2_size, step_part as u2_step_part, step_before as u2_step_before, step_after as u2_step_after, prefix as u2_prefix, index as u2_index, infix_of as u2_infix_of, numbered as u2_numbered, found as u2_found, member_of as u2_member_of, member as u2_member, member_at_pointer as u2_member_at_pointer, pointed_member as u2_pointed_member}
+use Rattle.c_typing.specs.Assignments.{assign_part as u3_assign_part, assign as u3_assign, update_part as u3_update_part, update_by as u3_update_by, pointer_choice as u3_pointer_choice, choice_of_pointers as u3_choice_of_pointers, choice_of_values as u3_choice_of_values, choice_of_parts as u3_choice_of_parts, choice as u3_choice, comma as u3_comma, cast as u3_cast, size_of_type as u3_size_of_type, call as u3_call, function_name as u3_function_name, named_as as u3_named_as, name as u3_name, count_global as u3_count_global, literal as u3_literal}
+use Rattle.c_typing.specs.Declaring.{home_as as u4_home_as, stars_with_nodes as u4_stars_with_nodes, sized_part as u4_sized_part, sized as u4_sized, stars_make as u4_stars_make, array_type as u4_array_type, array_of as u4_array_of, array_makes as u4_array_makes, counting_parameters as u4_counting_parameters, function_type as u4_function_type, function_as as u4_function_as, function_makes as u4_function_makes, parts_make as u4_parts_make, declared_makes as u4_declared_makes, member_type as u4_member_type, member_named as u4_member_named, adjusted_with_node as u4_adjusted_with_node, adjusted_shape as u4_adjusted_shape, adjusted_makes as u4_adjusted_makes, parameter_makes as u4_parameter_makes, parameter_declared as u4_parameter_declared, parameter as u4_parameter, entered as u4_entered, left as u4_left, form_makes as u4_form_makes, core_makes as u4_core_makes}
+use Rattle.c_typing.specs.Specifying.{word as u5_word, typedef_named as u5_typedef_named, typedef_name as u5_typedef_name, new_aggregate as u5_new_aggregate, tagged_as as u5_tagged_as, tagged_by as u5_tagged_by, tagged as u5_tagged, tagged_alone as u5_tagged_alone, begun_as as u5_begun_as, begun as u5_begun, defined as u5_defined, completed as u5_completed, ended as u5_ended, enum as u5_enum, enumerator as u5_enumerator, enumerator_with as u5_enumerator_with, valued_enumerator as u5_valued_enumerator, enumeration_begun as u5_enumeration_begun, enumeration as u5_enumeration}
+use Rattle.c_typing.specs.Walks.{judge_value as u6_judge_value, judge_specifiers as u6_judge_specifiers, judge_specifiers_of as u6_judge_specifiers_of, judge_declarator_at as u6_judge_declarator_at, judge as u6_judge, judge_arguments as u6_judge_arguments, judge_type_name as u6_judge_type_name, judge_list as u6_judge_list, judge_specifier as u6_judge_specifier, judge_members as u6_judge_members, judge_member_declarators as u6_judge_member_declarators, judge_enumerators as u6_judge_enumerators, judge_form as u6_judge_form, judge_core as u6_judge_core, judge_parts as u6_judge_parts, judge_parameters as u6_judge_parameters, judge_declared as u6_judge_declared}
+use Rattle.c_typing.specs.Checking.{checked as u7_checked, taken as u7_taken, converted_value as u7_converted_value, checked_value as u7_checked_value, constant_as as u7_constant_as, checked_constant as u7_checked_constant}
+use Rattle.c_typing.specs.Cells.{pointers_in as u8_pointers_in, count_cells as u8_count_cells}
+use Rattle.c_typing.specs.Shapes.{is_same_type as u9_is_same_type}
 use Rattle.c_types.specs.Layouts.{layout_of as u10_layout_of}
 use Rattle.c_unit.specs.InitialiserJudging.{text as u11_text, initialised as u11_initialised, value_for as u11_value_for, value_or_text as u11_value_or_text, excess as u11_excess, judge_plain as u11_judge_plain, with_item as u11_with_item, judge_initialiser as u11_judge_initialiser, judge_items as u11_judge_items}
 use Rattle.c_unit.specs.DeclarationJudging.{new_name as u12_new_name, linked_name as u12_linked_name, object_name as u12_object_name, count_object as u12_count_object, lasting as u12_lasting, new_static as u12_new_static, declare_object as u12_declare_object, declare_by as u12_declare_by, declare as u12_declare, named as u12_named, judge_named as u12_judge_named, defining as u12_defining, judge_init_declarators as u12_judge_init_declarators, judge_declaration as u12_judge_declaration}

@@ -9,11 +9,11 @@ ghost use Rattle.c_tree.specs.Views.{added, declarator_view};
 ghost use Rattle.c_tree.specs.StatementViews.{declaration_view, init_declarator_view, initialiser_view};
 ghost use Rattle.c_tree.specs.TypedViews.{typed_declarator_view, typed_specifiers_view};
 ghost use Rattle.c_tree.specs.TypedStatementViews.{typed_declaration_view, typed_init_declarator_view};
-ghost use Rattle.c_check_expr.specs.Declaring.{declarator_name};
+ghost use Rattle.c_typing.specs.Declaring.{declarator_name};
 ghost use Rattle.c_check.specs.declared.context.Context.{Context as SeenContext};
 ghost use Rattle.c_check.specs.UnitJudging.{Answers, Gives, known_of};
 ghost use Rattle.c_check.specs.UnitRefusals.{declared_tests, size_written};
-ghost use Rattle.c_check_expr.specs.Tests.{first_broken};
+ghost use Rattle.c_typing.specs.Tests.{first_broken};
 ghost use Rattle.c_check.specs.DeclarationJudging as judging;
 
 use crate::context::Context;

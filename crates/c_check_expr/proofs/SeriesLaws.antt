@@ -2,7 +2,7 @@
 use Rattle.std.proofs.Common.{◌≡◌, refl, ap, sym, subst, ◌∙◌, ℕ, zero, suc, ◌+◌, ◌<◌, List, [], ◌∷◌, ◌++◌, map, take, get_or, length, arith}
 use Rattle.cc_base.specs.declared.fault.Fault.{Fault}
 use Rattle.c_tree.specs.Views.{added}
-use Rattle.c_check_expr.specs.Judging.{State, Judging, Gives, Stops}
+use Rattle.c_typing.specs.Judging.{State, Judging, Gives, Stops}
 
 -- where the list before stops, so does the list with one more
 abbrev pub Stays : {X A B : Type 0} → (A → Judging B) → (X → A → A) → Type 0

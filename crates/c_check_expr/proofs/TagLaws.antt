@@ -1,8 +1,8 @@
 -- A tag that is not seen is not declared in the innermost scope.
 use Rattle.std.proofs.Common.{◌≡◌, refl, sym, List, [], ◌∷◌, Option, None, Some}
 use Rattle.std.proofs.lemmas.Option.{none-some}
-use Rattle.c_check_expr.specs.declared.declared.Tag.{Tag}
-use Rattle.c_check_expr.specs.Scopes.{Name, Level, tag_in, tag_here, innermost, entry_of, or_outer}
+use Rattle.c_typing.specs.declared.declared.Tag.{Tag}
+use Rattle.c_typing.specs.Scopes.{Name, Level, tag_in, tag_here, innermost, entry_of, or_outer}
 
 -- the outer one is not there either, where the whole is not
 pub none_first : {A : Type 0} (x y : Option A) → or_outer x y ≡ None → x ≡ None

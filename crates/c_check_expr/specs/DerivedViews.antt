@@ -1,5 +1,5 @@
 -- What the code says of what stands nearest to a name, as plain data.
-use Rattle.c_check_expr.specs.Declaring as declaring
+use Rattle.c_typing.specs.Declaring as declaring
 use Rattle.c_check_expr.specs.declared.derived.Derived.{Derived}
 use Rattle.c_check_expr.specs.declared.derived.Derived.TheVariants as derived
 

@@ -1,5 +1,5 @@
 -- What the code says of the part that stands nearest to a name, as plain data.
-use Rattle.c_check_expr.specs.Declarators.{Outermost, Written, Counts, Points}
+use Rattle.c_typing.specs.Declarators.{Outermost, Written, Counts, Points}
 use Rattle.c_check_expr.specs.declared.making.Nearest.{Nearest}
 use Rattle.c_check_expr.specs.declared.making.Nearest.TheVariants as nearest
 

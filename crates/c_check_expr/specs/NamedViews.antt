@@ -1,5 +1,5 @@
 -- What the code says of the type that specifiers name, as plain data.
-use Rattle.c_check_expr.specs.Declarators as declarators
+use Rattle.c_typing.specs.Declarators as declarators
 use Rattle.c_check_expr.specs.declared.specifiers.Named.{Named}
 use Rattle.c_check_expr.specs.declared.specifiers.Named.TheVariants as named
 

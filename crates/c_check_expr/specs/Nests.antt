@@ -12,12 +12,12 @@ use Rattle.c_tree.specs.declared.expr.Specifiers.{Specifiers}
 use Rattle.c_tree.specs.declared.expr.Declarator.{Declarator}
 use Rattle.c_tree.specs.declared.typed_expr.TypedSpecifiers.{TypedSpecifiers}
 use Rattle.c_tree.specs.declared.typed_expr.TypedForm.{TypedForm}
-use Rattle.c_check_expr.specs.declared.naming.Naming.{Naming}
-use Rattle.c_check_expr.specs.declared.operand.Operand.{Operand}
-use Rattle.c_check_expr.specs.Scopes.{Seen}
-use Rattle.c_check_expr.specs.OperandViews.{operand_view}
-use Rattle.c_check_expr.specs.Judging.{Answers, known}
-use Rattle.c_check_expr.specs.Walks.{judge, judge_specifiers, judge_form}
+use Rattle.c_typing.specs.declared.naming.Naming.{Naming}
+use Rattle.c_typing.specs.declared.operand.Operand.{Operand}
+use Rattle.c_typing.specs.Scopes.{Seen}
+use Rattle.c_typing.specs.OperandViews.{operand_view}
+use Rattle.c_typing.specs.Judging.{Answers, known}
+use Rattle.c_typing.specs.Walks.{judge, judge_specifiers, judge_form}
 
 module _ (depth : ℕ) where
   pub record Nests

@@ -1,6 +1,6 @@
 -- What the code counts of words, as plain data.
 use Rattle.std.specs.Prelude.{ℕ, ◌<◌}
-use Rattle.c_check_expr.specs.Declarators.{Counted}
+use Rattle.c_typing.specs.Declarators.{Counted}
 use Rattle.c_check_expr.specs.declared.words.Tally.{Tally}
 
 abbrev pub tally_view : Tally → Counted

@@ -7,22 +7,22 @@ ghost use Rattle.c_types.specs.Table.{shape_at, is_complete, entry_at};
 ghost use Rattle.c_tree.specs.TypedTree.{NoMember};
 ghost use Rattle.c_tree.specs.TypedViews.{typed_declarator_view, typed_members_view, typed_member_declarators_of};
 ghost use Rattle.c_tree.specs.Views.{added};
-ghost use Rattle.c_check_expr.specs.Declarators.{declarator_types, member_names, member_types};
-ghost use Rattle.c_check_expr.specs.Judging.{Answers, known};
-ghost use Rattle.c_check_expr.specs.Refusals.{tag_place};
-ghost use Rattle.c_check_expr.specs.Rules.{number_of_shape};
-ghost use Rattle.c_check_expr.specs.Scopes.{with_scopes};
-ghost use Rattle.c_check_expr.specs.Specifying as specifying;
-ghost use Rattle.c_check_expr.specs.Tests as tests;
-ghost use Rattle.c_check_expr.specs.Tests.{first_broken};
-ghost use Rattle.c_check_expr.specs.Typing.{tag_named_here};
+ghost use Rattle.c_typing.specs.Declarators.{declarator_types, member_names, member_types};
+ghost use Rattle.c_typing.specs.Judging.{Answers, known};
+ghost use Rattle.c_typing.specs.Refusals.{tag_place};
+ghost use Rattle.c_typing.specs.Rules.{number_of_shape};
+ghost use Rattle.c_typing.specs.Scopes.{with_scopes};
+ghost use Rattle.c_typing.specs.Specifying as specifying;
+ghost use Rattle.c_typing.specs.Tests as tests;
+ghost use Rattle.c_typing.specs.Tests.{first_broken};
+ghost use Rattle.c_typing.specs.Typing.{tag_named_here};
 
-use crate::declared::Tag;
-use crate::member::MemberNames;
-use crate::scope::Scope;
-use crate::shapes::{is_aggregate, is_complete_at, shape_at};
+use c_typing::declared::Tag;
+use c_typing::member::MemberNames;
+use c_typing::scope::Scope;
+use c_typing::shapes::{is_aggregate, is_complete_at, shape_at};
 use crate::specifying::{is_tag_of, new_aggregate};
-use crate::stops::{no_room, refusal};
+use c_typing::stops::{no_room, refusal};
 use c_tree::{AggregateKind, Identifier, TypedDeclarator, TypedMembers};
 use c_types::{TypeFault, TypeShape, Types};
 use cc_base::{Fault, NoMemory, Place, Rule, TypeId};
@@ -61,7 +61,7 @@ fn is_taken_tag(scope: &Scope, types: &Types, which: AggregateKind, found: Optio
 }
 
 /// `struct S { .. }` begins: with its type, or with none where the innermost scope has its tag as something else, or complete.
-#[tactic(auto, unfolding(crate::specs::Specifying::begun, crate::specs::Specifying::begun_as))]
+#[tactic(auto, unfolding(c_typing::specs::Specifying::begun, c_typing::specs::Specifying::begun_as))]
 pub(crate) fn begun(
     scope: &mut Scope,
     types: &mut Types,
@@ -134,7 +134,7 @@ fn is_definable(types: &Types, t: TypeId, members: &[TypeId]) -> bool
 }
 
 /// Gives a struct or union its members.
-#[tactic(auto, unfolding(crate::specs::Specifying::defined))]
+#[tactic(auto, unfolding(c_typing::specs::Specifying::defined))]
 fn defined(
     scope: &Scope,
     types: &mut Types,
@@ -188,7 +188,7 @@ fn member_types(scope: &Scope, rows: &[TypedMembers]) -> Result<Vec<TypeId>, NoM
 }
 
 /// The struct or union gets its members, where it began.
-#[tactic(auto, unfolding(crate::specs::Specifying::completed))]
+#[tactic(auto, unfolding(c_typing::specs::Specifying::completed))]
 pub(crate) fn completed(
     scope: &mut Scope,
     types: &mut Types,

@@ -4,28 +4,27 @@
 ghost use Rattle.std.specs.Prelude.{◌≡◌, IfOk, true};
 ghost use Rattle.c_tree.specs.Views.{expr_view, specifiers_view, declarator_view};
 ghost use Rattle.c_tree.specs.TypedViews.{typed_expr_view, typed_specifiers_view, typed_declarator_view};
-ghost use Rattle.c_check_expr.specs.Cells as cells;
-ghost use Rattle.c_check_expr.specs.Checking as checking;
+ghost use Rattle.c_typing.specs.Cells as cells;
+ghost use Rattle.c_typing.specs.Checking as checking;
 ghost use Rattle.c_check_expr.specs.CheckingViews.{constant_view};
-ghost use Rattle.c_check_expr.specs.Judging.{Answers, known};
-ghost use Rattle.c_check_expr.specs.OperandViews.{operand_view, part_view, value_view};
-ghost use Rattle.c_check_expr.specs.ShapeViews.{part_ref_view};
-ghost use Rattle.c_check_expr.specs.Walks as walks;
+ghost use Rattle.c_typing.specs.Judging.{Answers, known};
+ghost use Rattle.c_typing.specs.OperandViews.{operand_view, part_view, value_view, part_ref_view};
+ghost use Rattle.c_typing.specs.Walks as walks;
 
-use crate::constant::constant_value;
-use crate::conversion::{converted_to, fits, given};
+use c_typing::constant::constant_value;
+use c_check_operators::conversion::{converted_to, fits, given};
 use crate::derived::{Derived, derived_by, is_function_by};
 use crate::making::{Nearest, form_makes};
-use crate::naming::Naming;
-use crate::operand::{Operand, Part, PartRef, Value};
+use c_typing::naming::Naming;
+use c_typing::operand::{Operand, Part, PartRef, Value};
 use crate::places::{declarator_name, name_place};
-use crate::same::is_same_type;
-use crate::scope::Scope;
-use crate::shapes::{is_aggregate, shape_at};
+use c_typing::same::is_same_type;
+use c_typing::scope::Scope;
+use c_typing::shapes::{is_aggregate, shape_at};
 use crate::specifiers::{Named, listed_type, named_with};
 use crate::specifying::tagged_alone;
-use crate::stops::refusal;
-use crate::typing::{side_of, value};
+use c_typing::stops::refusal;
+use c_typing::typing::{side_of, value};
 use crate::walk::{judge_expr, judge_form, judge_specifiers};
 use crate::words::Words;
 use c_tree::{
@@ -42,7 +41,7 @@ const LEVELS: u16 = 512;
 const NOWHERE: Place = Place { line: 1, col: 1 };
 
 /// An expression whose value is taken.
-#[tactic(auto, unfolding(crate::specs::Walks::judge_value))]
+#[tactic(auto, unfolding(c_typing::specs::Walks::judge_value))]
 fn judged_value(scope: &mut Scope, types: &mut Types, e: &Expr) -> Result<Value, Fault>
     ensures { Answers value_view (walks.judge_value (expr_view e.now) (known types.old scope.old)) result (known types.new scope.new) }
 {
@@ -51,7 +50,7 @@ fn judged_value(scope: &mut Scope, types: &mut Types, e: &Expr) -> Result<Value,
 }
 
 /// The value of an expression; a struct is not read.
-#[tactic(auto, unfolding(crate::specs::Checking::checked))]
+#[tactic(auto, unfolding(c_typing::specs::Checking::checked))]
 pub fn check_expr(scope: &mut Scope, types: &mut Types, e: &Expr) -> Result<TypedExpr, Fault>
     ensures { Answers typed_expr_view (checking.checked (expr_view e.now) (known types.old scope.old)) result (known types.new scope.new) }
 {
@@ -60,7 +59,7 @@ pub fn check_expr(scope: &mut Scope, types: &mut Types, e: &Expr) -> Result<Type
 }
 
 /// An initialiser takes an allocation over, a returned value does not.
-#[tactic(auto, unfolding(crate::specs::Checking::taken))]
+#[tactic(auto, unfolding(c_typing::specs::Checking::taken))]
 fn taken(
     scope: &mut Scope,
     types: &mut Types,
@@ -108,7 +107,7 @@ fn converted_part(
 }
 
 /// An expression that is converted to a type at a place; `init` says that it is an initialiser and not a returned value.
-#[tactic(auto, unfolding(crate::specs::Checking::checked_value, crate::specs::Checking::converted_value))]
+#[tactic(auto, unfolding(c_typing::specs::Checking::checked_value, c_typing::specs::Checking::converted_value))]
 pub fn check_value(
     scope: &mut Scope,
     types: &mut Types,
@@ -128,7 +127,7 @@ pub fn check_value(
 }
 
 /// An integer constant expression and its value.
-#[tactic(auto, unfolding(crate::specs::Checking::checked_constant, crate::specs::Checking::constant_as))]
+#[tactic(auto, unfolding(c_typing::specs::Checking::checked_constant, c_typing::specs::Checking::constant_as))]
 pub fn check_constant(
     scope: &mut Scope,
     types: &mut Types,
@@ -144,7 +143,7 @@ pub fn check_constant(
 }
 
 /// Specifiers that no declarator follows (C99 6.7.2.3).
-#[tactic(auto, using(c_tree::proofs::ViewLaws::expr_views, c_tree::proofs::TypedViewLaws::typed_views), unfolding(crate::specs::Walks::judge_specifiers_of))]
+#[tactic(auto, using(c_tree::proofs::ViewLaws::expr_views, c_tree::proofs::TypedViewLaws::typed_views), unfolding(c_typing::specs::Walks::judge_specifiers_of))]
 fn alone_specifiers(
     scope: &mut Scope,
     types: &mut Types,
@@ -165,7 +164,7 @@ fn alone_specifiers(
 }
 
 /// Specifiers; `alone` says that no declarator follows.
-#[tactic(auto, unfolding(crate::specs::Walks::judge_specifiers_of))]
+#[tactic(auto, unfolding(c_typing::specs::Walks::judge_specifiers_of))]
 pub fn check_specifiers(
     scope: &mut Scope,
     types: &mut Types,
@@ -182,7 +181,7 @@ pub fn check_specifiers(
 }
 
 /// A declarator behind specifiers. `size` is what an initialiser gives to the array part that stands nearest to the name.
-#[tactic(auto, using(c_tree::proofs::TypedViewLaws::typed_views), unfolding(crate::specs::Walks::judge_declarator_at))]
+#[tactic(auto, using(c_tree::proofs::TypedViewLaws::typed_views), unfolding(c_typing::specs::Walks::judge_declarator_at))]
 pub fn check_declarator(
     scope: &mut Scope,
     types: &mut Types,

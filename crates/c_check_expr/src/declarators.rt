@@ -8,21 +8,21 @@ ghost use Rattle.c_tree.specs.Tree.{Parts, NoPart};
 ghost use Rattle.c_tree.specs.TypedTree.{TypedParts, NoPart as no_typed_part};
 ghost use Rattle.c_tree.specs.Views.{added, core_view, declarator_view, part_view};
 ghost use Rattle.c_tree.specs.TypedViews.{typed_core_view, typed_form_view, typed_part_view};
-ghost use Rattle.c_check_expr.specs.Constants as constants;
-ghost use Rattle.c_check_expr.specs.Declaring as declaring;
-ghost use Rattle.c_check_expr.specs.Judging.{Answers, Gives, State, known, new_node};
+ghost use Rattle.c_typing.specs.Constants as constants;
+ghost use Rattle.c_typing.specs.Declaring as declaring;
+ghost use Rattle.c_typing.specs.Judging.{Answers, Gives, State, known, new_node};
 ghost use Rattle.c_check_expr.specs.Nests.{Nests};
-ghost use Rattle.c_check_expr.specs.OperandViews.{value_view};
-ghost use Rattle.c_check_expr.specs.Tests as tests;
-ghost use Rattle.c_check_expr.specs.Tests.{first_broken, AsValue};
-ghost use Rattle.c_check_expr.specs.Walks as walks;
+ghost use Rattle.c_typing.specs.OperandViews.{value_view};
+ghost use Rattle.c_typing.specs.Tests as tests;
+ghost use Rattle.c_typing.specs.Tests.{first_broken, AsValue};
+ghost use Rattle.c_typing.specs.Walks as walks;
 
-use crate::constant::constant_value;
-use crate::copies::{copied_name, copied_star, copied_words};
-use crate::naming::Naming;
-use crate::operand::{Operand, Value};
-use crate::scope::Scope;
-use crate::stops::{no_room, refusal};
+use c_typing::constant::constant_value;
+use c_typing::copies::{copied_name, copied_star, copied_words};
+use c_typing::naming::Naming;
+use c_typing::operand::{Operand, Value};
+use c_typing::scope::Scope;
+use c_typing::stops::{no_room, refusal};
 use crate::walker::Walker;
 use c_tree::{
     Boxed, Core, Declarator, Expr, Home, Items, Part, Specifiers, Star, TypedCore, TypedForm,
@@ -32,7 +32,7 @@ use c_types::Types;
 use cc_base::{Fault, NodeId, Place, Rule};
 
 /// A new node for what is named at the place.
-#[tactic(auto, unfolding(crate::specs::Judging::new_node))]
+#[tactic(auto, unfolding(c_typing::specs::Judging::new_node))]
 pub(crate) fn node_at(scope: &mut Scope, at: Place) -> Result<NodeId, Fault>
     ensures { (table : Table) → Answers (λ n. n) (new_node at (known table scope.old)) result (known table scope.new) }
 {
@@ -43,7 +43,7 @@ pub(crate) fn node_at(scope: &mut Scope, at: Place) -> Result<NodeId, Fault>
 }
 
 /// The home of a name, whose node is made where the name stands.
-#[tactic(auto, unfolding(crate::specs::Declaring::home_as))]
+#[tactic(auto, unfolding(c_typing::specs::Declaring::home_as))]
 fn home_as(scope: &mut Scope, at: Place, which: Naming) -> Result<Home, Fault>
     ensures { (table : Table) → Answers (λ home. home) (declaring.home_as at which (known table scope.old)) result (known table scope.new) }
 {
@@ -95,7 +95,7 @@ fn size_of_array(types: &Types, v: &Value) -> Result<u64, Fault>
 }
 
 /// An array part whose size is judged.
-#[tactic(auto, using(c_tree::proofs::TypedViewLaws::typed_views), unfolding(crate::specs::Declaring::sized, crate::specs::Declaring::sized_part))]
+#[tactic(auto, using(c_tree::proofs::TypedViewLaws::typed_views), unfolding(c_typing::specs::Declaring::sized, c_typing::specs::Declaring::sized_part))]
 fn sized(
     scope: &Scope,
     types: &Types,
@@ -116,7 +116,7 @@ impl<
     D: Fn(&mut Scope, &mut Types, u16, Naming, Place, &Declarator) -> Result<TypedForm, Fault>,
 > Walker<E, S, D> {
     /// A part after those that are judged.
-    #[tactic(auto, using(c_tree::proofs::ViewLaws::expr_views, c_tree::proofs::TypedViewLaws::typed_views), unfolding(crate::specs::Walks::judge_parts, crate::specs::Walks::judge_value))]
+    #[tactic(auto, using(c_tree::proofs::ViewLaws::expr_views, c_tree::proofs::TypedViewLaws::typed_views), unfolding(c_typing::specs::Walks::judge_parts, c_typing::specs::Walks::judge_value))]
     fn part(
         &self,
         scope: &mut Scope,
@@ -162,7 +162,7 @@ impl<
     }
 
     /// A name, nothing, or a declarator in parentheses.
-    #[tactic(auto, using(c_tree::proofs::ViewLaws::expr_views, c_tree::proofs::TypedViewLaws::typed_views), unfolding(crate::specs::Walks::judge_core))]
+    #[tactic(auto, using(c_tree::proofs::ViewLaws::expr_views, c_tree::proofs::TypedViewLaws::typed_views), unfolding(c_typing::specs::Walks::judge_core))]
     fn core(
         &self,
         scope: &mut Scope,
@@ -188,7 +188,7 @@ impl<
     }
 
     /// What stands in a declarator, whose name is to be this and whose type is named at the place.
-    #[tactic(auto, using(c_tree::proofs::ViewLaws::expr_views, c_tree::proofs::TypedViewLaws::typed_views), unfolding(crate::specs::Walks::judge_form))]
+    #[tactic(auto, using(c_tree::proofs::ViewLaws::expr_views, c_tree::proofs::TypedViewLaws::typed_views), unfolding(c_typing::specs::Walks::judge_form))]
     pub(crate) fn form_layer(
         &self,
         scope: &mut Scope,

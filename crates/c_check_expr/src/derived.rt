@@ -5,10 +5,10 @@ ghost use Rattle.std.specs.Prelude.{◌≡◌, map, option_map};
 ghost use Rattle.c_types.specs.Table.{shape_at};
 ghost use Rattle.c_tree.specs.Tree.{Parts, NoPart};
 ghost use Rattle.c_tree.specs.Views.{added, core_view, declarator_view, declared_of, part_view};
-ghost use Rattle.c_check_expr.specs.Declaring as declaring;
+ghost use Rattle.c_typing.specs.Declaring as declaring;
 ghost use Rattle.c_check_expr.specs.DerivedViews.{derived_view};
 
-use crate::shapes::{is_function, shape_at};
+use c_typing::shapes::{is_function, shape_at};
 use c_tree::{Core, Declarator, Part};
 use c_types::{TypeShape, Types};
 use cc_base::{Place, TypeId};

@@ -8,25 +8,25 @@ ghost use Rattle.c_tree.specs.Tree.{Enumerators, NoEnumerator};
 ghost use Rattle.c_tree.specs.TypedTree.{TypedEnumerators, NoEnumerator as none_typed};
 ghost use Rattle.c_tree.specs.TypedViews.{typed_enumerator_view};
 ghost use Rattle.c_tree.specs.Views.{added, enumerator_view};
-ghost use Rattle.c_check_expr.specs.Constants as constants;
-ghost use Rattle.c_check_expr.specs.Judging.{Answers, Gives, State, known};
+ghost use Rattle.c_typing.specs.Constants as constants;
+ghost use Rattle.c_typing.specs.Judging.{Answers, Gives, State, known};
 ghost use Rattle.c_check_expr.specs.Nests.{Nests};
-ghost use Rattle.c_check_expr.specs.OperandViews.{value_view};
-ghost use Rattle.c_check_expr.specs.Specifying as specifying;
-ghost use Rattle.c_check_expr.specs.Tests as tests;
-ghost use Rattle.c_check_expr.specs.Tests.{first_broken, AsValue};
-ghost use Rattle.c_check_expr.specs.Typing.{next_value, last_value};
-ghost use Rattle.c_check_expr.specs.Walks as walks;
+ghost use Rattle.c_typing.specs.OperandViews.{value_view};
+ghost use Rattle.c_typing.specs.Specifying as specifying;
+ghost use Rattle.c_typing.specs.Tests as tests;
+ghost use Rattle.c_typing.specs.Tests.{first_broken, AsValue};
+ghost use Rattle.c_typing.specs.Typing.{next_value, last_value};
+ghost use Rattle.c_typing.specs.Walks as walks;
 
-use crate::constant::constant_value;
-use crate::copies::copied_name;
-use crate::declared::Declared;
-use crate::kind::Kind;
-use crate::naming::Naming;
-use crate::operand::{Operand, Value};
-use crate::scope::Scope;
-use crate::stops::refusal;
-use crate::value::converted;
+use c_typing::constant::constant_value;
+use c_typing::copies::copied_name;
+use c_typing::declared::Declared;
+use c_typing::kind::Kind;
+use c_typing::naming::Naming;
+use c_typing::operand::{Operand, Value};
+use c_typing::scope::Scope;
+use c_typing::stops::refusal;
+use c_typing::value::converted;
 use crate::walker::Walker;
 use c_tree::{
     Declarator, Enumerator, Expr, Identifier, Items, Specifiers, TypedEnumerator, TypedForm,
@@ -55,7 +55,7 @@ fn next_value(last: Option<i128>) -> Result<i128, NoMemory>
 }
 
 /// An enumerator without a value, after one of this value.
-#[tactic(auto, using(c_tree::proofs::TypedViewLaws::typed_views), unfolding(crate::specs::Specifying::enumerator))]
+#[tactic(auto, using(c_tree::proofs::TypedViewLaws::typed_views), unfolding(c_typing::specs::Specifying::enumerator))]
 fn plain(
     scope: &mut Scope,
     last: Option<i128>,
@@ -88,7 +88,7 @@ fn constant(scope: &Scope, types: &Types, name: &Identifier, v: &Value) -> Resul
 }
 
 /// An enumerator with a value.
-#[tactic(auto, using(c_tree::proofs::TypedViewLaws::typed_views), unfolding(crate::specs::Specifying::valued_enumerator, crate::specs::Specifying::enumerator_with))]
+#[tactic(auto, using(c_tree::proofs::TypedViewLaws::typed_views), unfolding(c_typing::specs::Specifying::valued_enumerator, c_typing::specs::Specifying::enumerator_with))]
 fn valued(
     scope: &mut Scope,
     types: &Types,
@@ -115,7 +115,7 @@ impl<
     D: Fn(&mut Scope, &mut Types, u16, Naming, Place, &Declarator) -> Result<TypedForm, Fault>,
 > Walker<E, S, D> {
     /// An enumerator after those that are judged, of which the last has this value.
-    #[tactic(auto, using(c_tree::proofs::ViewLaws::expr_views), unfolding(crate::specs::Walks::judge_enumerators, crate::specs::Walks::judge_value))]
+    #[tactic(auto, using(c_tree::proofs::ViewLaws::expr_views), unfolding(c_typing::specs::Walks::judge_enumerators, c_typing::specs::Walks::judge_value))]
     fn enumerator(
         &self,
         scope: &mut Scope,

@@ -5,27 +5,27 @@ ghost use Rattle.std.specs.Prelude.{◌≡◌, ◌++◌, ◌∷◌, [], List, tr
 ghost use Rattle.c_tree.specs.declared.operator.Assignment.TheVariants as assignment;
 ghost use Rattle.c_tree.specs.Tree as tree;
 ghost use Rattle.c_tree.specs.Views.{arguments_of, expr_view, type_name_view};
-ghost use Rattle.c_check_expr.specs.Judging.{Answers, Gives, State, known};
+ghost use Rattle.c_typing.specs.Judging.{Answers, Gives, State, known};
 ghost use Rattle.c_check_expr.specs.Nests.{Nests};
-ghost use Rattle.c_check_expr.specs.Operands as operands;
-ghost use Rattle.c_check_expr.specs.OperandViews.{operand_view, value_view};
-ghost use Rattle.c_check_expr.specs.Rules as rules;
-ghost use Rattle.c_check_expr.specs.Walks as walks;
+ghost use Rattle.c_typing.specs.Operands as operands;
+ghost use Rattle.c_typing.specs.OperandViews.{operand_view, value_view};
+ghost use Rattle.c_typing.specs.Rules as rules;
+ghost use Rattle.c_typing.specs.Walks as walks;
 
-use crate::assigning::{assign, update_by};
-use crate::binary::{index, infix_of};
-use crate::calls::call;
-use crate::casting::{cast, size_of_type};
-use crate::choosing::{choice, comma};
-use crate::leaf::{character, integer, paren};
-use crate::literals::literal;
-use crate::member_places::{member, pointed_member};
-use crate::names::name;
-use crate::naming::Naming;
-use crate::operand::{Operand, Value};
-use crate::scope::Scope;
-use crate::step::{prefix, step_after};
-use crate::typing::value;
+use c_check_operators::assigning::{assign, update_by};
+use c_check_operators::binary::{index, infix_of};
+use c_check_operators::calls::call;
+use c_check_operators::casting::{cast, size_of_type};
+use c_check_operators::choosing::{choice, comma};
+use c_check_operators::leaf::{character, integer, paren};
+use c_check_operators::literals::literal;
+use c_check_operators::member_places::{member, pointed_member};
+use c_check_operators::names::name;
+use c_typing::naming::Naming;
+use c_typing::operand::{Operand, Value};
+use c_typing::scope::Scope;
+use c_check_operators::step::{prefix, step_after};
+use c_typing::typing::value;
 use crate::walker::Walker;
 use c_tree::{
     Assignment, Binary, Declarator, Expr, Identifier, MemberOperator, Specifiers, Step, TypeName,
@@ -40,7 +40,7 @@ impl<
     D: Fn(&mut Scope, &mut Types, u16, Naming, Place, &Declarator) -> Result<TypedForm, Fault>,
 > Walker<E, S, D> {
     /// `a[b]`.
-    #[tactic(auto, unfolding(crate::specs::Walks::judge, crate::specs::Walks::judge_value))]
+    #[tactic(auto, unfolding(c_typing::specs::Walks::judge, c_typing::specs::Walks::judge_value))]
     fn index_layer(
         &self,
         scope: &mut Scope,
@@ -59,7 +59,7 @@ impl<
     }
 
     /// An operator of two operands.
-    #[tactic(auto, unfolding(crate::specs::Walks::judge, crate::specs::Walks::judge_value))]
+    #[tactic(auto, unfolding(c_typing::specs::Walks::judge, c_typing::specs::Walks::judge_value))]
     fn infix_layer(
         &self,
         scope: &mut Scope,
@@ -79,7 +79,7 @@ impl<
     }
 
     /// `,`.
-    #[tactic(auto, unfolding(crate::specs::Walks::judge, crate::specs::Walks::judge_value))]
+    #[tactic(auto, unfolding(c_typing::specs::Walks::judge, c_typing::specs::Walks::judge_value))]
     fn comma_layer(
         &self,
         scope: &mut Scope,
@@ -97,7 +97,7 @@ impl<
     }
 
     /// An operator before its operand.
-    #[tactic(auto, unfolding(crate::specs::Walks::judge, crate::specs::Walks::judge_value))]
+    #[tactic(auto, unfolding(c_typing::specs::Walks::judge, c_typing::specs::Walks::judge_value))]
     fn prefix_layer(
         &self,
         scope: &mut Scope,
@@ -115,7 +115,7 @@ impl<
     }
 
     /// `++` or `--` after its operand.
-    #[tactic(auto, unfolding(crate::specs::Walks::judge, crate::specs::Walks::judge_value))]
+    #[tactic(auto, unfolding(c_typing::specs::Walks::judge, c_typing::specs::Walks::judge_value))]
     fn postfix_layer(
         &self,
         scope: &mut Scope,
@@ -133,7 +133,7 @@ impl<
     }
 
     /// `?:`.
-    #[tactic(auto, unfolding(crate::specs::Walks::judge, crate::specs::Walks::judge_value))]
+    #[tactic(auto, unfolding(c_typing::specs::Walks::judge, c_typing::specs::Walks::judge_value))]
     fn conditional_layer(
         &self,
         scope: &mut Scope,
@@ -154,7 +154,7 @@ impl<
     }
 
     /// `=`.
-    #[tactic(auto, unfolding(crate::specs::Walks::judge, crate::specs::Walks::judge_value))]
+    #[tactic(auto, unfolding(c_typing::specs::Walks::judge, c_typing::specs::Walks::judge_value))]
     fn assign_layer(
         &self,
         scope: &mut Scope,
@@ -173,7 +173,7 @@ impl<
     }
 
     /// A compound assignment.
-    #[tactic(auto, unfolding(crate::specs::Walks::judge, crate::specs::Walks::judge_value))]
+    #[tactic(auto, unfolding(c_typing::specs::Walks::judge, c_typing::specs::Walks::judge_value))]
     fn update_layer(
         &self,
         scope: &mut Scope,
@@ -194,7 +194,7 @@ impl<
     }
 
     /// `sizeof` of a type name.
-    #[tactic(auto, unfolding(crate::specs::Walks::judge, crate::specs::Walks::judge_value))]
+    #[tactic(auto, unfolding(c_typing::specs::Walks::judge, c_typing::specs::Walks::judge_value))]
     fn size_layer(
         &self,
         scope: &mut Scope,
@@ -212,7 +212,7 @@ impl<
     }
 
     /// A cast.
-    #[tactic(auto, unfolding(crate::specs::Walks::judge, crate::specs::Walks::judge_value))]
+    #[tactic(auto, unfolding(c_typing::specs::Walks::judge, c_typing::specs::Walks::judge_value))]
     fn cast_layer(
         &self,
         scope: &mut Scope,
@@ -231,7 +231,7 @@ impl<
     }
 
     /// An expression in parentheses.
-    #[tactic(auto, unfolding(crate::specs::Walks::judge))]
+    #[tactic(auto, unfolding(c_typing::specs::Walks::judge))]
     fn paren_layer(
         &self,
         scope: &mut Scope,
@@ -248,7 +248,7 @@ impl<
     }
 
     /// A member.
-    #[tactic(auto, unfolding(crate::specs::Walks::judge, crate::specs::Walks::judge_value))]
+    #[tactic(auto, unfolding(c_typing::specs::Walks::judge, c_typing::specs::Walks::judge_value))]
     fn member_layer(
         &self,
         scope: &mut Scope,
@@ -275,7 +275,7 @@ impl<
     }
 
     /// An argument after those that are judged.
-    #[tactic(auto, unfolding(crate::specs::Walks::judge_arguments, crate::specs::Walks::judge_value))]
+    #[tactic(auto, unfolding(c_typing::specs::Walks::judge_arguments, c_typing::specs::Walks::judge_value))]
     fn argument(&self, scope: &mut Scope, types: &mut Types, e: &Expr) -> Result<Value, Fault>
         requires nests { Nests self.now.depth (E.pre self.now.judge_expr) (E.post self.now.judge_expr) (S.pre self.now.judge_specifiers) (S.post self.now.judge_specifiers) (D.pre self.now.judge_form) (D.post self.now.judge_form) }
         ensures { (start : State) (before : tree.Arguments) (done : List operands.Value) → walks.judge_arguments before start ≡ Gives done (known types.old scope.old) → Answers (λ v. done ++ value_view v ∷ []) (walks.judge_arguments (tree.AndArgument before (expr_view e.now)) start) result (known types.new scope.new) }
@@ -301,7 +301,7 @@ impl<
     }
 
     /// A call.
-    #[tactic(auto, unfolding(crate::specs::Walks::judge))]
+    #[tactic(auto, unfolding(c_typing::specs::Walks::judge))]
     fn call_layer(
         &self,
         scope: &mut Scope,
@@ -341,7 +341,7 @@ impl<
     }
 
     /// An expression.
-    #[tactic(auto, using(c_tree::proofs::ViewLaws::expr_views), unfolding(crate::specs::Walks::judge))]
+    #[tactic(auto, using(c_tree::proofs::ViewLaws::expr_views), unfolding(c_typing::specs::Walks::judge))]
     pub(crate) fn expr_layer(
         &self,
         scope: &mut Scope,

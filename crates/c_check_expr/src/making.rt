@@ -5,17 +5,17 @@ ghost use Rattle.std.specs.Prelude.{◌≡◌, true, not, ◌++◌, ◌∷◌, [
 ghost use Rattle.c_tree.specs.TypedTree.{TypedParameters, TypedParts, NoPart, NoParameter};
 ghost use Rattle.c_tree.specs.TypedViews.{typed_core_view, typed_form_view, typed_parameter_view, typed_part_view, typed_specifier_view, typed_specifiers_of, typed_declared_of};
 ghost use Rattle.c_tree.specs.Views.{added};
-ghost use Rattle.c_check_expr.specs.Declarators.{Outermost, Written, is_no_part, is_pointed, is_void_list, is_void_word, parameter_types, taken_types, nearest, is_derived, is_derived_core};
-ghost use Rattle.c_check_expr.specs.Judging.{Answers, State, known, next};
-ghost use Rattle.c_check_expr.specs.Declaring as declaring;
+ghost use Rattle.c_typing.specs.Declarators.{Outermost, Written, is_no_part, is_pointed, is_void_list, is_void_word, parameter_types, taken_types, nearest, is_derived, is_derived_core};
+ghost use Rattle.c_typing.specs.Judging.{Answers, State, known, next};
+ghost use Rattle.c_typing.specs.Declaring as declaring;
 ghost use Rattle.c_check_expr.specs.MakingViews.{nearest_view};
-ghost use Rattle.c_check_expr.specs.Tests as tests;
-ghost use Rattle.c_check_expr.specs.Tests.{first_broken};
+ghost use Rattle.c_typing.specs.Tests as tests;
+ghost use Rattle.c_typing.specs.Tests.{first_broken};
 
-use crate::scope::Scope;
-use crate::shapes::{is_complete_at, shape_at};
-use crate::stops::{no_room, refusal};
-use crate::typing::{pointer_type, type_with};
+use c_typing::scope::Scope;
+use c_typing::shapes::{is_complete_at, shape_at};
+use c_typing::stops::{no_room, refusal};
+use c_typing::typing::{pointer_type, type_with};
 use c_lexer::Keyword;
 use c_tree::{TypedCore, TypedForm, TypedParameter, TypedPart, TypedSpecifier, TypedStar, Word};
 use c_types::{TypeList, TypeShape, Types};
@@ -36,7 +36,7 @@ pub(crate) enum Nearest {
 }
 
 /// An array of elements of a complete type.
-#[tactic(auto, unfolding(crate::specs::Declaring::array_type))]
+#[tactic(auto, unfolding(c_typing::specs::Declaring::array_type))]
 fn array_type(
     scope: &Scope,
     types: &mut Types,
@@ -53,7 +53,7 @@ fn array_type(
 }
 
 /// What an array part makes of its elements' type.
-#[tactic(auto, unfolding(crate::specs::Declaring::array_of))]
+#[tactic(auto, unfolding(c_typing::specs::Declaring::array_of))]
 fn array_of(
     scope: &Scope,
     types: &mut Types,
@@ -116,7 +116,7 @@ fn array_fault(
 }
 
 /// What an array part with the `[` at a place makes of its elements' type.
-#[tactic(auto, unfolding(crate::specs::Declaring::array_makes))]
+#[tactic(auto, unfolding(c_typing::specs::Declaring::array_makes))]
 fn array_makes(
     scope: &Scope,
     types: &mut Types,
@@ -163,7 +163,7 @@ fn are_types(types: &Types, all: &[TypeId]) -> bool
 }
 
 /// A function type. No function has more than 127 parameters.
-#[tactic(auto, unfolding(crate::specs::Declaring::function_type, crate::specs::Declaring::counting_parameters))]
+#[tactic(auto, unfolding(c_typing::specs::Declaring::function_type, c_typing::specs::Declaring::counting_parameters))]
 fn function_type(
     scope: &Scope,
     types: &mut Types,
@@ -264,7 +264,7 @@ fn taken_types(scope: &Scope, parameters: &[TypedParameter]) -> Result<Vec<TypeI
 }
 
 /// What a function part makes of the type that it gives.
-#[tactic(auto, unfolding(crate::specs::Declaring::function_makes, crate::specs::Declaring::function_as))]
+#[tactic(auto, unfolding(c_typing::specs::Declaring::function_makes, c_typing::specs::Declaring::function_as))]
 fn function_makes(
     scope: &Scope,
     types: &mut Types,
@@ -287,7 +287,7 @@ fn function_makes(
 }
 
 /// What a part makes of the type that it stands behind, where it is the last of the parts, and what it is is known.
-#[tactic(auto, using(c_tree::proofs::TypedViewLaws::typed_views), unfolding(crate::specs::Declaring::last_makes))]
+#[tactic(auto, using(c_tree::proofs::TypedViewLaws::typed_views), unfolding(c_typing::specs::Declaring::last_makes))]
 fn part_makes(
     scope: &Scope,
     types: &mut Types,
@@ -326,7 +326,7 @@ fn part_makes(
 }
 
 /// Whether it is a part, as each is; the parts behind it are not the nearest to the name.
-#[tactic(auto, using(c_tree::proofs::TypedViewLaws::typed_views), unfolding(crate::specs::Declaring::parts_make))]
+#[tactic(auto, using(c_tree::proofs::TypedViewLaws::typed_views), unfolding(c_typing::specs::Declaring::parts_make))]
 fn is_some_part(part: &TypedPart) -> bool
     ensures part { (all : TypedParts) → is_no_part (typed_part_view part.now all) ≡ not result }
     ensures nearest { (all : TypedParts) (outermost : Outermost) → result ≡ true → nearest (typed_part_view part.now all) outermost ≡ Written }
@@ -377,7 +377,7 @@ fn parts_make(
 }
 
 /// What the stars make, the first first.
-#[tactic(auto, unfolding(crate::specs::Declaring::stars_make))]
+#[tactic(auto, unfolding(c_typing::specs::Declaring::stars_make))]
 fn stars_make(
     scope: &Scope,
     types: &mut Types,
@@ -427,7 +427,7 @@ fn is_derived_core(core: &TypedCore) -> bool
 }
 
 /// What a form makes of a type: its stars first, then its parts, then what stands in its parentheses.
-#[tactic(auto, using(c_tree::proofs::TypedViewLaws::typed_views), unfolding(crate::specs::Declaring::form_makes, crate::specs::Declaring::core_makes))]
+#[tactic(auto, using(c_tree::proofs::TypedViewLaws::typed_views), unfolding(c_typing::specs::Declaring::form_makes, c_typing::specs::Declaring::core_makes))]
 pub(crate) fn form_makes(
     scope: &Scope,
     types: &mut Types,
@@ -452,7 +452,7 @@ pub(crate) fn form_makes(
 }
 
 /// What a declarator that may be left out makes of a type.
-#[tactic(auto, using(c_tree::proofs::TypedViewLaws::typed_views), unfolding(crate::specs::Declaring::declared_makes))]
+#[tactic(auto, using(c_tree::proofs::TypedViewLaws::typed_views), unfolding(c_typing::specs::Declaring::declared_makes))]
 pub(crate) fn declared_makes(
     scope: &Scope,
     types: &mut Types,

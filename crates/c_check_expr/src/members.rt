@@ -6,21 +6,21 @@ ghost use Rattle.c_tree.specs.Tree.{Members, NoMember, MemberDeclarators, AndDec
 ghost use Rattle.c_tree.specs.TypedTree.{TypedMembers, NoMember as no_typed_member, TypedMemberDeclarators, AndDeclarator};
 ghost use Rattle.c_tree.specs.Views.{added, declarator_view, members_view, member_declarators_of};
 ghost use Rattle.c_tree.specs.TypedViews.{typed_declarator_view, typed_form_view, typed_members_view, typed_member_declarators_of};
-ghost use Rattle.c_check_expr.specs.Declarators.{declarator_names, member_names};
-ghost use Rattle.c_check_expr.specs.Declaring as declaring;
-ghost use Rattle.c_check_expr.specs.Judging.{Answers, Gives, State, known};
+ghost use Rattle.c_typing.specs.Declarators.{declarator_names, member_names};
+ghost use Rattle.c_typing.specs.Declaring as declaring;
+ghost use Rattle.c_typing.specs.Judging.{Answers, Gives, State, known};
 ghost use Rattle.c_check_expr.specs.Nests.{Nests};
-ghost use Rattle.c_check_expr.specs.Scopes.{Name};
-ghost use Rattle.c_check_expr.specs.Walks as walks;
+ghost use Rattle.c_typing.specs.Scopes.{Name};
+ghost use Rattle.c_typing.specs.Walks as walks;
 
 use crate::making::{Nearest, form_makes};
-use crate::member::MemberNames;
-use crate::naming::Naming;
-use crate::operand::Operand;
+use c_typing::member::MemberNames;
+use c_typing::naming::Naming;
+use c_typing::operand::Operand;
 use crate::places::{declarator_name, name_place};
-use crate::scope::Scope;
-use crate::shapes::is_complete_at;
-use crate::stops::{no_room, refusal};
+use c_typing::scope::Scope;
+use c_typing::shapes::is_complete_at;
+use c_typing::stops::{no_room, refusal};
 use crate::walker::Walker;
 use c_tree::{
     Declarator, Expr, Identifier, Items, Members, Specifiers, TypedDeclarator, TypedForm,
@@ -33,7 +33,7 @@ use cc_base::{Fault, Place, Rule, TypeId};
 const NOWHERE: Place = Place { line: 1, col: 1 };
 
 /// The type of a member, which is complete.
-#[tactic(auto, unfolding(crate::specs::Declaring::member_type))]
+#[tactic(auto, unfolding(c_typing::specs::Declaring::member_type))]
 fn member_type(
     scope: &Scope,
     types: &mut Types,
@@ -51,7 +51,7 @@ fn member_type(
 }
 
 /// A member whose form is judged.
-#[tactic(auto, using(c_tree::proofs::TypedViewLaws::typed_views), unfolding(crate::specs::Declaring::member_named))]
+#[tactic(auto, using(c_tree::proofs::TypedViewLaws::typed_views), unfolding(c_typing::specs::Declaring::member_named))]
 fn member_named(
     scope: &Scope,
     types: &mut Types,
@@ -82,7 +82,7 @@ impl<
     D: Fn(&mut Scope, &mut Types, u16, Naming, Place, &Declarator) -> Result<TypedForm, Fault>,
 > Walker<E, S, D> {
     /// A member after those of its row, in which these names stand before it.
-    #[tactic(auto, unfolding(crate::specs::Walks::judge_member_declarators))]
+    #[tactic(auto, unfolding(c_typing::specs::Walks::judge_member_declarators))]
     fn member(
         &self,
         scope: &mut Scope,
@@ -124,7 +124,7 @@ impl<
     }
 
     /// A row after those that are judged, whose names are these.
-    #[tactic(auto, using(c_tree::proofs::ViewLaws::expr_views, c_tree::proofs::TypedViewLaws::typed_views), unfolding(crate::specs::Walks::judge_members, crate::specs::Walks::judge_specifiers))]
+    #[tactic(auto, using(c_tree::proofs::ViewLaws::expr_views, c_tree::proofs::TypedViewLaws::typed_views), unfolding(c_typing::specs::Walks::judge_members, c_typing::specs::Walks::judge_specifiers))]
     fn members_row(
         &self,
         scope: &mut Scope,

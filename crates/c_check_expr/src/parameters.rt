@@ -8,29 +8,29 @@ ghost use Rattle.c_tree.specs.Tree.{Parameters, NoParameter, AndParameter, NotDe
 ghost use Rattle.c_tree.specs.TypedTree.{TypedParameters, NoParameter as no_typed_parameter};
 ghost use Rattle.c_tree.specs.Views.{added, declarator_view, declared_of, parameter_view, specifier_view, specifiers_of, specifiers_view};
 ghost use Rattle.c_tree.specs.TypedViews.{typed_core_view, typed_form_view, typed_declared_of, typed_parameter_view, typed_specifiers_view};
-ghost use Rattle.c_check_expr.specs.Declarators.{is_derived_declared};
-ghost use Rattle.c_check_expr.specs.Declaring as declaring;
-ghost use Rattle.c_check_expr.specs.Judging.{Answers, Gives, State, known};
-ghost use Rattle.c_check_expr.specs.KindViews.{shape_or_void};
+ghost use Rattle.c_typing.specs.Declarators.{is_derived_declared};
+ghost use Rattle.c_typing.specs.Declaring as declaring;
+ghost use Rattle.c_typing.specs.Judging.{Answers, Gives, State, known};
+ghost use Rattle.c_typing.specs.KindViews.{shape_or_void};
 ghost use Rattle.c_check_expr.specs.Nests.{Nests};
-ghost use Rattle.c_check_expr.specs.Refusals.{declared_identifier, is_here, is_void_alone};
+ghost use Rattle.c_typing.specs.Refusals.{declared_identifier, is_here, is_void_alone};
 ghost use Rattle.c_tree.specs.TypedParts.{home_of_core, home_of_form, name_of_core, name_of_form};
 ghost use Rattle.c_check_expr.specs.DerivedViews.{derived_view};
-ghost use Rattle.c_check_expr.specs.Tests as tests;
-ghost use Rattle.c_check_expr.specs.Tests.{first_broken};
-ghost use Rattle.c_check_expr.specs.Walks as walks;
+ghost use Rattle.c_typing.specs.Tests as tests;
+ghost use Rattle.c_typing.specs.Tests.{first_broken};
+ghost use Rattle.c_typing.specs.Walks as walks;
 
 use crate::declarators::node_at;
-use crate::declared::Declared;
+use c_typing::declared::Declared;
 use crate::derived::{Derived, adjusted_at, derived_by_declared};
 use crate::making::{Nearest, declared_makes, is_derived};
-use crate::naming::Naming;
-use crate::operand::Operand;
+use c_typing::naming::Naming;
+use c_typing::operand::Operand;
 use crate::places::declared_place;
-use crate::scope::Scope;
-use crate::shapes::{is_aggregate, is_complete_at, shape_at};
-use crate::stops::{no_room, refusal};
-use crate::typing::pointer_type;
+use c_typing::scope::Scope;
+use c_typing::shapes::{is_aggregate, is_complete_at, shape_at};
+use c_typing::stops::{no_room, refusal};
+use c_typing::typing::pointer_type;
 use crate::walker::Walker;
 use c_lexer::Keyword;
 use c_tree::{
@@ -51,7 +51,7 @@ fn is_derived_declared(d: Option<&TypedForm>) -> bool
 }
 
 /// A type by a typedef's name becomes a pointer.
-#[tactic(auto, unfolding(crate::specs::Declaring::adjusted_shape))]
+#[tactic(auto, unfolding(c_typing::specs::Declaring::adjusted_shape))]
 fn adjusted_shape(
     scope: &Scope,
     types: &mut Types,
@@ -70,7 +70,7 @@ fn adjusted_shape(
 }
 
 /// The type of a parameter, which may be a pointer in place of an array or a function.
-#[tactic(auto, unfolding(crate::specs::Declaring::parameter_makes, crate::specs::Declaring::adjusted_makes))]
+#[tactic(auto, unfolding(c_typing::specs::Declaring::parameter_makes, c_typing::specs::Declaring::adjusted_makes))]
 fn parameter_makes(
     scope: &Scope,
     types: &mut Types,
@@ -94,7 +94,7 @@ fn parameter_makes(
 }
 
 /// Whether a parameter is made a pointer, by a node of its own.
-#[tactic(auto, unfolding(crate::specs::Declaring::adjusted_with_node))]
+#[tactic(auto, unfolding(c_typing::specs::Declaring::adjusted_with_node))]
 fn adjusted_with_node(
     scope: &mut Scope,
     at: Place,
@@ -135,7 +135,7 @@ fn is_here(scope: &Scope, name: Option<&Identifier>) -> bool
 }
 
 /// A parameter's name is declared in the scope of its list.
-#[tactic(auto, unfolding(crate::specs::Declaring::parameter_declared))]
+#[tactic(auto, unfolding(c_typing::specs::Declaring::parameter_declared))]
 fn parameter_declared(
     scope: &mut Scope,
     at: Place,
@@ -246,7 +246,7 @@ fn declared_home(d: Option<&TypedForm>) -> Home
 }
 
 /// A parameter whose specifiers and declarator are judged.
-#[tactic(auto, using(c_tree::proofs::TypedViewLaws::typed_views), unfolding(crate::specs::Declaring::parameter))]
+#[tactic(auto, using(c_tree::proofs::TypedViewLaws::typed_views), unfolding(c_typing::specs::Declaring::parameter))]
 fn made_parameter(
     scope: &mut Scope,
     types: &mut Types,
@@ -292,7 +292,7 @@ impl<
     D: Fn(&mut Scope, &mut Types, u16, Naming, Place, &Declarator) -> Result<TypedForm, Fault>,
 > Walker<E, S, D> {
     /// A parameter after those that are judged.
-    #[tactic(auto, using(c_tree::proofs::ViewLaws::expr_views), unfolding(crate::specs::Walks::judge_parameters, crate::specs::Walks::judge_specifiers))]
+    #[tactic(auto, using(c_tree::proofs::ViewLaws::expr_views), unfolding(c_typing::specs::Walks::judge_parameters, c_typing::specs::Walks::judge_specifiers))]
     fn parameter(
         &self,
         scope: &mut Scope,
@@ -332,7 +332,7 @@ impl<
     }
 
     /// Parameters in a scope of their own.
-    #[tactic(auto, unfolding(crate::specs::Walks::judge_prototype, crate::specs::Declaring::entered, crate::specs::Declaring::left))]
+    #[tactic(auto, unfolding(c_typing::specs::Walks::judge_prototype, c_typing::specs::Declaring::entered, c_typing::specs::Declaring::left))]
     pub(crate) fn prototype(
         &self,
         scope: &mut Scope,

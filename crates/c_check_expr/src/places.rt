@@ -4,9 +4,9 @@
 ghost use Rattle.std.specs.Prelude.{◌≡◌, map, option_copied, option_map};
 ghost use Rattle.c_tree.specs.Places.{specifier_place, specifiers_place};
 ghost use Rattle.c_tree.specs.Views.{core_view, declarator_view, declared_of, specifier_view, specifiers_of, specifiers_view};
-ghost use Rattle.c_check_expr.specs.Declaring as declaring;
-ghost use Rattle.c_check_expr.specs.Refusals.{name_place};
-ghost use Rattle.c_check_expr.specs.Walks as walks;
+ghost use Rattle.c_typing.specs.Declaring as declaring;
+ghost use Rattle.c_typing.specs.Refusals.{name_place};
+ghost use Rattle.c_typing.specs.Walks as walks;
 
 use c_tree::{Core, Declarator, Identifier, Specifier, Specifiers};
 use cc_base::Place;

@@ -6,23 +6,23 @@ ghost use Rattle.c_types.specs.Table.{Table};
 ghost use Rattle.c_tree.specs.Tree as tree;
 ghost use Rattle.c_tree.specs.Views.{added, enumerator_view, members_view, specifier_view, specifiers_view};
 ghost use Rattle.c_tree.specs.TypedViews.{typed_specifier_view, typed_specifiers_view};
-ghost use Rattle.c_check_expr.specs.Declarators.{counting, named_by_specifier};
-ghost use Rattle.c_check_expr.specs.Judging.{Answers, known};
+ghost use Rattle.c_typing.specs.Declarators.{counting, named_by_specifier};
+ghost use Rattle.c_typing.specs.Judging.{Answers, known};
 ghost use Rattle.c_check_expr.specs.Nests.{Nests};
 ghost use Rattle.c_check_expr.specs.NamedViews.{named_view};
-ghost use Rattle.c_check_expr.specs.Refusals.{one_named};
-ghost use Rattle.c_check_expr.specs.Specifying as specifying;
-ghost use Rattle.c_check_expr.specs.Walks as walks;
+ghost use Rattle.c_typing.specs.Refusals.{one_named};
+ghost use Rattle.c_typing.specs.Specifying as specifying;
+ghost use Rattle.c_typing.specs.Walks as walks;
 
 use crate::aggregates::{aggregate_fault, begun, completed, tag_named_here, tag_place};
-use crate::copies::copied_tag;
-use crate::declared::Tag;
-use crate::member::MemberNames;
-use crate::naming::Naming;
-use crate::operand::Operand;
-use crate::scope::Scope;
+use c_typing::copies::copied_tag;
+use c_typing::declared::Tag;
+use c_typing::member::MemberNames;
+use c_typing::naming::Naming;
+use c_typing::operand::Operand;
+use c_typing::scope::Scope;
 use crate::specifying::{declare_tag_of, enum_named, tagged, tagged_alone, typedef_name, word};
-use crate::stops::refusal;
+use c_typing::stops::refusal;
 use crate::walker::Walker;
 use crate::words::Words;
 use c_tree::{
@@ -67,7 +67,7 @@ pub(crate) fn listed_type(named: Named, words: &Words) -> TypeId
 }
 
 /// `enum E { .. }` begins: its tag is declared, unless the innermost scope has it; says whether that has it.
-#[tactic(auto, unfolding(crate::specs::Specifying::enumeration_begun))]
+#[tactic(auto, unfolding(c_typing::specs::Specifying::enumeration_begun))]
 fn enumeration_begun(scope: &mut Scope, name: Option<&Identifier>) -> Result<bool, Fault>
     ensures { (table : Table) → Answers (λ found. found) (specifying.enumeration_begun (option_copied name.entry) (known table scope.old)) result (known table scope.new) }
 {
@@ -84,7 +84,7 @@ impl<
     D: Fn(&mut Scope, &mut Types, u16, Naming, Place, &Declarator) -> Result<TypedForm, Fault>,
 > Walker<E, S, D> {
     /// A struct or union with its members.
-    #[tactic(auto, using(c_tree::proofs::TypedViewLaws::typed_views), unfolding(crate::specs::Walks::judge_specifier, crate::specs::Specifying::ended))]
+    #[tactic(auto, using(c_tree::proofs::TypedViewLaws::typed_views), unfolding(c_typing::specs::Walks::judge_specifier, c_typing::specs::Specifying::ended))]
     fn aggregate(
         &self,
         scope: &mut Scope,
@@ -119,7 +119,7 @@ impl<
     }
 
     /// An enumeration with its enumerators.
-    #[tactic(auto, using(c_tree::proofs::TypedViewLaws::typed_views), unfolding(crate::specs::Walks::judge_specifier, crate::specs::Specifying::enumeration))]
+    #[tactic(auto, using(c_tree::proofs::TypedViewLaws::typed_views), unfolding(c_typing::specs::Walks::judge_specifier, c_typing::specs::Specifying::enumeration))]
     fn enumeration(
         &self,
         scope: &mut Scope,
@@ -151,7 +151,7 @@ impl<
     }
 
     /// A specifier after those that are judged, which are counted.
-    #[tactic(auto, using(c_tree::proofs::ViewLaws::expr_views, c_tree::proofs::TypedViewLaws::typed_views), unfolding(crate::specs::Walks::judge_specifier))]
+    #[tactic(auto, using(c_tree::proofs::ViewLaws::expr_views, c_tree::proofs::TypedViewLaws::typed_views), unfolding(c_typing::specs::Walks::judge_specifier))]
     fn specifier(
         &self,
         scope: &mut Scope,
@@ -192,7 +192,7 @@ impl<
     }
 
     /// A list of specifiers.
-    #[tactic(auto, using(c_tree::proofs::ViewLaws::expr_views, c_tree::proofs::TypedViewLaws::typed_views), unfolding(crate::specs::Walks::judge_specifiers))]
+    #[tactic(auto, using(c_tree::proofs::ViewLaws::expr_views, c_tree::proofs::TypedViewLaws::typed_views), unfolding(c_typing::specs::Walks::judge_specifiers))]
     pub(crate) fn specifier_list(
         &self,
         scope: &mut Scope,

@@ -3,27 +3,27 @@
 
 ghost use Rattle.std.specs.Prelude.{◌≡◌, ◌++◌, OnOk, IfOk, None, option_copied};
 ghost use Rattle.c_tree.specs.TypedViews.{typed_specifier_view};
-ghost use Rattle.c_check_expr.specs.Declarators.{counting};
-ghost use Rattle.c_check_expr.specs.Judging.{Answers, State, known};
-ghost use Rattle.c_check_expr.specs.Specifying as specifying;
-ghost use Rattle.c_check_expr.specs.Tests as tests;
-ghost use Rattle.c_check_expr.specs.Tests.{first_broken};
-ghost use Rattle.c_check_expr.specs.Refusals.{one_named};
-ghost use Rattle.c_check_expr.specs.Scopes.{name_in, tag_in, tag_here, with_scopes};
-ghost use Rattle.c_check_expr.specs.Typing.{shape_of_kind, tagging, tag_named_here};
+ghost use Rattle.c_typing.specs.Declarators.{counting};
+ghost use Rattle.c_typing.specs.Judging.{Answers, State, known};
+ghost use Rattle.c_typing.specs.Specifying as specifying;
+ghost use Rattle.c_typing.specs.Tests as tests;
+ghost use Rattle.c_typing.specs.Tests.{first_broken};
+ghost use Rattle.c_typing.specs.Refusals.{one_named};
+ghost use Rattle.c_typing.specs.Scopes.{name_in, tag_in, tag_here, with_scopes};
+ghost use Rattle.c_typing.specs.Typing.{shape_of_kind, tagging, tag_named_here};
 
-use crate::copies::{copied_name, copied_tag};
-use crate::declared::{Declared, Tag};
-use crate::scope::Scope;
-use crate::stops::{no_room, refusal};
-use crate::typing::type_with;
+use c_typing::copies::{copied_name, copied_tag};
+use c_typing::declared::{Declared, Tag};
+use c_typing::scope::Scope;
+use c_typing::stops::{no_room, refusal};
+use c_typing::typing::type_with;
 use crate::words::Words;
 use c_tree::{AggregateKind, Identifier, TypedSpecifier, Word};
 use c_types::{TypeShape, Types};
 use cc_base::{Fault, NoMemory, Place, Rule, TypeId};
 
 /// A storage word, a qualifier, or a word for a type.
-#[tactic(auto, using(c_tree::proofs::TypedViewLaws::typed_views), unfolding(crate::specs::Specifying::word))]
+#[tactic(auto, using(c_tree::proofs::TypedViewLaws::typed_views), unfolding(c_typing::specs::Specifying::word))]
 pub(crate) fn word(before: &Words, w: Word) -> Result<(TypedSpecifier, Words), Fault>
     ensures answers { (s : State) → Answers (λ r. typed_specifier_view r.0) (specifying.word before.now w s) result s }
     ensures counts { IfOk result (λ r. r.1 ≡ counting (typed_specifier_view r.0) before.now) }
@@ -35,7 +35,7 @@ pub(crate) fn word(before: &Words, w: Word) -> Result<(TypedSpecifier, Words), F
 }
 
 /// The type that a typedef gave a name.
-#[tactic(auto, using(c_tree::proofs::TypedViewLaws::typed_views), unfolding(crate::specs::Specifying::typedef_named))]
+#[tactic(auto, using(c_tree::proofs::TypedViewLaws::typed_views), unfolding(c_typing::specs::Specifying::typedef_named))]
 fn typedef_named(scope: &Scope, types: &Types, name: &Identifier) -> Result<TypedSpecifier, Fault>
     ensures { Answers typed_specifier_view (specifying.typedef_named name.now (name_in scope.now.scopes.levels name.now.bytes) (known types.now scope.now)) result (known types.now scope.now) }
 {
@@ -49,7 +49,7 @@ fn typedef_named(scope: &Scope, types: &Types, name: &Identifier) -> Result<Type
 }
 
 /// A name of a type.
-#[tactic(auto, using(c_tree::proofs::TypedViewLaws::typed_views), unfolding(crate::specs::Specifying::typedef_name))]
+#[tactic(auto, using(c_tree::proofs::TypedViewLaws::typed_views), unfolding(c_typing::specs::Specifying::typedef_name))]
 pub(crate) fn typedef_name(
     scope: &Scope,
     types: &Types,
@@ -90,7 +90,7 @@ pub(crate) fn declare_tag_of(
 }
 
 /// A new struct or union, which is named at the place.
-#[tactic(auto, unfolding(crate::specs::Specifying::new_aggregate, crate::specs::Operations::numbered))]
+#[tactic(auto, unfolding(c_typing::specs::Specifying::new_aggregate, c_typing::specs::Operations::numbered))]
 pub(crate) fn new_aggregate(
     scope: &mut Scope,
     types: &mut Types,
@@ -144,7 +144,7 @@ fn tag_fault(scope: &Scope, which: AggregateKind, name: &Identifier) -> Option<F
 }
 
 /// The type of a tag that is not declared as something else.
-#[tactic(auto, unfolding(crate::specs::Specifying::tagged_as))]
+#[tactic(auto, unfolding(c_typing::specs::Specifying::tagged_as))]
 fn tagged_as(
     scope: &mut Scope,
     types: &mut Types,
@@ -163,7 +163,7 @@ fn tagged_as(
 }
 
 /// `struct S`, `union U`: the tag that is seen, or a new one in the innermost scope.
-#[tactic(auto, using(c_tree::proofs::TypedViewLaws::typed_views, crate::proofs::TagLaws::not_here), unfolding(crate::specs::Specifying::tagged, crate::specs::Specifying::tagged_by))]
+#[tactic(auto, using(c_tree::proofs::TypedViewLaws::typed_views, crate::proofs::TagLaws::not_here), unfolding(c_typing::specs::Specifying::tagged, c_typing::specs::Specifying::tagged_by))]
 pub(crate) fn tagged(
     scope: &mut Scope,
     types: &mut Types,
@@ -188,7 +188,7 @@ pub(crate) fn tagged(
 }
 
 /// `struct S` by itself declares its tag in the innermost scope.
-#[tactic(auto, using(c_tree::proofs::TypedViewLaws::typed_views), unfolding(crate::specs::Specifying::tagged_alone, crate::specs::Specifying::tagged_by))]
+#[tactic(auto, using(c_tree::proofs::TypedViewLaws::typed_views), unfolding(c_typing::specs::Specifying::tagged_alone, c_typing::specs::Specifying::tagged_by))]
 pub(crate) fn tagged_alone(
     scope: &mut Scope,
     types: &mut Types,
@@ -225,7 +225,7 @@ fn enum_fault(scope: &Scope, name: &Identifier) -> Option<Fault>
 }
 
 /// `enum E`.
-#[tactic(auto, using(c_tree::proofs::TypedViewLaws::typed_views), unfolding(crate::specs::Specifying::enum_tag))]
+#[tactic(auto, using(c_tree::proofs::TypedViewLaws::typed_views), unfolding(c_typing::specs::Specifying::enum_tag))]
 pub(crate) fn enum_named(
     scope: &Scope,
     types: &Types,

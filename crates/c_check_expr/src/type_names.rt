@@ -4,15 +4,15 @@
 ghost use Rattle.std.specs.Prelude.{option_map};
 ghost use Rattle.c_tree.specs.Views.{type_name_view, declarator_view, declared_of};
 ghost use Rattle.c_tree.specs.TypedViews.{typed_type_name_view, typed_form_view, typed_declared_of};
-ghost use Rattle.c_check_expr.specs.Judging.{Answers, known};
+ghost use Rattle.c_typing.specs.Judging.{Answers, known};
 ghost use Rattle.c_check_expr.specs.Nests.{Nests};
-ghost use Rattle.c_check_expr.specs.Walks as walks;
+ghost use Rattle.c_typing.specs.Walks as walks;
 
 use crate::making::{Nearest, declared_makes};
-use crate::naming::Naming;
-use crate::operand::Operand;
+use c_typing::naming::Naming;
+use c_typing::operand::Operand;
 use crate::places::declared_place;
-use crate::scope::Scope;
+use c_typing::scope::Scope;
 use crate::walker::Walker;
 use c_tree::{Declarator, Expr, Specifiers, TypeName, TypedForm, TypedSpecifiers, TypedTypeName};
 use c_types::Types;
@@ -24,7 +24,7 @@ impl<
     D: Fn(&mut Scope, &mut Types, u16, Naming, Place, &Declarator) -> Result<TypedForm, Fault>,
 > Walker<E, S, D> {
     /// A declarator that may be left out.
-    #[tactic(auto, unfolding(crate::specs::Walks::judge_declared))]
+    #[tactic(auto, unfolding(c_typing::specs::Walks::judge_declared))]
     pub(crate) fn declared(
         &self,
         scope: &mut Scope,
@@ -42,7 +42,7 @@ impl<
         }
     }
 
-    #[tactic(auto, using(c_tree::proofs::ViewLaws::expr_views, c_tree::proofs::TypedViewLaws::typed_views), unfolding(crate::specs::Walks::judge_type_name, crate::specs::Walks::judge_specifiers))]
+    #[tactic(auto, using(c_tree::proofs::ViewLaws::expr_views, c_tree::proofs::TypedViewLaws::typed_views), unfolding(c_typing::specs::Walks::judge_type_name, c_typing::specs::Walks::judge_specifiers))]
     pub(crate) fn type_name(
         &self,
         scope: &mut Scope,

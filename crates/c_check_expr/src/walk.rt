@@ -3,13 +3,13 @@
 
 ghost use Rattle.c_tree.specs.Views.{expr_view, specifiers_view, declarator_view};
 ghost use Rattle.c_tree.specs.TypedViews.{typed_specifiers_view, typed_form_view};
-ghost use Rattle.c_check_expr.specs.Judging.{Answers, known};
-ghost use Rattle.c_check_expr.specs.OperandViews.{operand_view};
-ghost use Rattle.c_check_expr.specs.Walks as walks;
+ghost use Rattle.c_typing.specs.Judging.{Answers, known};
+ghost use Rattle.c_typing.specs.OperandViews.{operand_view};
+ghost use Rattle.c_typing.specs.Walks as walks;
 
-use crate::naming::Naming;
-use crate::operand::Operand;
-use crate::scope::Scope;
+use c_typing::naming::Naming;
+use c_typing::operand::Operand;
+use c_typing::scope::Scope;
 use crate::walker::Walker;
 use c_tree::{Declarator, Expr, Specifiers, TypedForm, TypedSpecifiers};
 use c_types::Types;

@@ -3,15 +3,15 @@
 
 ghost use Rattle.c_tree.specs.Views.{expr_view, specifiers_view, declarator_view};
 ghost use Rattle.c_tree.specs.TypedViews.{typed_specifiers_view, typed_form_view};
-ghost use Rattle.c_check_expr.specs.Judging.{Answers, known};
+ghost use Rattle.c_typing.specs.Judging.{Answers, known};
 ghost use Rattle.c_check_expr.specs.Nests.{Nests};
-ghost use Rattle.c_check_expr.specs.OperandViews.{operand_view, value_view};
-ghost use Rattle.c_check_expr.specs.Walks as walks;
+ghost use Rattle.c_typing.specs.OperandViews.{operand_view, value_view};
+ghost use Rattle.c_typing.specs.Walks as walks;
 
-use crate::naming::Naming;
-use crate::operand::{Operand, Value};
-use crate::scope::Scope;
-use crate::typing::value;
+use c_typing::naming::Naming;
+use c_typing::operand::{Operand, Value};
+use c_typing::scope::Scope;
+use c_typing::typing::value;
 use c_tree::{Declarator, Expr, Specifiers, TypedForm, TypedSpecifiers};
 use c_types::Types;
 use cc_base::{Fault, Place};
@@ -48,7 +48,7 @@ impl<
     }
 
     /// An expression whose value is taken.
-    #[tactic(auto, unfolding(crate::specs::Walks::judge_value))]
+    #[tactic(auto, unfolding(c_typing::specs::Walks::judge_value))]
     pub(crate) fn value(
         &self,
         scope: &mut Scope,

@@ -2,10 +2,10 @@
 #![tactic(auto)]
 
 ghost use Rattle.std.specs.Prelude.{◌≡◌, ◌<◌, IfSome, None, Some, true, false, if◌then◌else◌};
-ghost use Rattle.c_check_expr.specs.Declarators.{are_allowed, counting_word, none_counted, words_shape};
+ghost use Rattle.c_typing.specs.Declarators.{are_allowed, counting_word, none_counted, words_shape};
 ghost use Rattle.c_check_expr.specs.WordViews.{tally_view, IsSmall};
-ghost use Rattle.c_check_expr.specs.Specifying.{words_type};
-ghost use Rattle.c_check_expr.specs.Refusals.{one_named};
+ghost use Rattle.c_typing.specs.Specifying.{words_type};
+ghost use Rattle.c_typing.specs.Refusals.{one_named};
 
 use c_lexer::Keyword;
 use cc_base::TypeId;
@@ -76,7 +76,7 @@ pub(crate) struct Words(Tally);
 
 impl Model for Words {
     ghost use Rattle.std.specs.Prelude.{IsTrue};
-    ghost use Rattle.c_check_expr.specs.Declarators.{Counted, are_allowed};
+    ghost use Rattle.c_typing.specs.Declarators.{Counted, are_allowed};
     ghost use Rattle.c_check_expr.specs.WordViews.{tally_view};
 
     ghost Value = { Counted };

@@ -1,7 +1,7 @@
 use Rattle.std.proofs.Common.{◌≡◌, ◌++◌, drop}
 use Rattle.c_types.specs.Table.{Table}
-use Rattle.c_check_expr.specs.Declaring as declaring
-use Rattle.c_check_expr.specs.Judging.{known, next, pure}
+use Rattle.c_typing.specs.Declaring as declaring
+use Rattle.c_typing.specs.Judging.{known, next, pure}
 use Rattle.c_check_expr.proofs.declarators.stars_with_nodes.Given as goal
 
 -- what the rest gives, behind those that are found, is what all give

@@ -1,7 +1,7 @@
 use Rattle.std.proofs.Common.{◌≡◌, map, length}
 use Rattle.c_tree.specs.Tree.{NoPart}
 use Rattle.c_tree.specs.Views.{added, part_view}
-use Rattle.c_check_expr.specs.Declaring as declaring
+use Rattle.c_typing.specs.Declaring as declaring
 use Rattle.c_check_expr.specs.DerivedViews.{derived_view}
 use Rattle.c_check_expr.proofs.derived.by_parts.Given as goal
 

@@ -2,8 +2,8 @@ use Rattle.std.proofs.Common.{◌≡◌, map, length}
 use Rattle.c_tree.specs.TypedTree.{NoPart}
 use Rattle.c_tree.specs.TypedViews.{typed_part_view}
 use Rattle.c_tree.specs.Views.{added}
-use Rattle.c_check_expr.specs.Declaring as declaring
-use Rattle.c_check_expr.specs.Judging.{known}
+use Rattle.c_typing.specs.Declaring as declaring
+use Rattle.c_typing.specs.Judging.{known}
 use Rattle.c_check_expr.specs.MakingViews.{nearest_view}
 use Rattle.c_check_expr.proofs.making.parts_make.Given as goal
 

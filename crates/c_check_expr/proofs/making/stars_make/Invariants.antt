@@ -1,6 +1,6 @@
 use Rattle.std.proofs.Common.{◌≡◌, length}
-use Rattle.c_check_expr.specs.Declaring as declaring
-use Rattle.c_check_expr.specs.Judging.{known}
+use Rattle.c_typing.specs.Declaring as declaring
+use Rattle.c_typing.specs.Judging.{known}
 use Rattle.c_check_expr.proofs.making.stars_make.Given as goal
 
 -- what the rest makes of this type is what all the stars make

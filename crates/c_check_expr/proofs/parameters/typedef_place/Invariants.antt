@@ -1,6 +1,6 @@
 use Rattle.std.proofs.Common.{◌≡◌, map, length}
 use Rattle.c_tree.specs.Views.{specifier_view, specifiers_of, specifiers_view}
-use Rattle.c_check_expr.specs.Declaring as declaring
+use Rattle.c_typing.specs.Declaring as declaring
 use Rattle.c_check_expr.proofs.parameters.typedef_place.Given as goal
 
 -- those behind the rest are no names of types

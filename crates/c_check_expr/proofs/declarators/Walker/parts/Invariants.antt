@@ -3,8 +3,8 @@ use Rattle.c_tree.specs.Tree.{NoPart}
 use Rattle.c_tree.specs.TypedTree.{NoPart as no_typed_part}
 use Rattle.c_tree.specs.TypedViews.{typed_part_view}
 use Rattle.c_tree.specs.Views.{added, part_view}
-use Rattle.c_check_expr.specs.Judging.{Gives, known}
-use Rattle.c_check_expr.specs.Walks as walks
+use Rattle.c_typing.specs.Judging.{Gives, known}
+use Rattle.c_typing.specs.Walks as walks
 use Rattle.c_check_expr.proofs.declarators.Walker.parts.Given as goal
 
 -- the parts so far are judged

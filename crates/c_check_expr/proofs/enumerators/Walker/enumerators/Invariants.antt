@@ -3,9 +3,9 @@ use Rattle.c_tree.specs.Tree.{NoEnumerator}
 use Rattle.c_tree.specs.TypedTree.{NoEnumerator as none_typed}
 use Rattle.c_tree.specs.TypedViews.{typed_enumerator_view}
 use Rattle.c_tree.specs.Views.{added, enumerator_view}
-use Rattle.c_check_expr.specs.Judging.{Gives, known}
-use Rattle.c_check_expr.specs.Typing.{last_value}
-use Rattle.c_check_expr.specs.Walks as walks
+use Rattle.c_typing.specs.Judging.{Gives, known}
+use Rattle.c_typing.specs.Typing.{last_value}
+use Rattle.c_typing.specs.Walks as walks
 use Rattle.c_check_expr.proofs.enumerators.Walker.enumerators.Given as goal
 
 -- those so far are judged, and the last has this value

@@ -1,8 +1,8 @@
 use Rattle.std.proofs.Common.{◌≡◌, map, take}
 use Rattle.c_tree.specs.Views.{arguments_of, expr_view}
-use Rattle.c_check_expr.specs.Judging.{Gives, known}
-use Rattle.c_check_expr.specs.OperandViews.{value_view}
-use Rattle.c_check_expr.specs.Walks as walks
+use Rattle.c_typing.specs.Judging.{Gives, known}
+use Rattle.c_typing.specs.OperandViews.{value_view}
+use Rattle.c_typing.specs.Walks as walks
 use Rattle.c_check_expr.proofs.expression.Walker.arguments.Given as goal
 
 -- the arguments so far are judged

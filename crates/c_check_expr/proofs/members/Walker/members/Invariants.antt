@@ -3,9 +3,9 @@ use Rattle.c_tree.specs.Tree.{NoMember}
 use Rattle.c_tree.specs.TypedTree.{NoMember as no_typed_member}
 use Rattle.c_tree.specs.TypedViews.{typed_members_view}
 use Rattle.c_tree.specs.Views.{added, members_view}
-use Rattle.c_check_expr.specs.Declarators.{member_names}
-use Rattle.c_check_expr.specs.Judging.{Gives, known}
-use Rattle.c_check_expr.specs.Walks as walks
+use Rattle.c_typing.specs.Declarators.{member_names}
+use Rattle.c_typing.specs.Judging.{Gives, known}
+use Rattle.c_typing.specs.Walks as walks
 use Rattle.c_check_expr.proofs.members.Walker.members.Given as goal
 
 -- the rows so far are judged, and the names are theirs

@@ -1,9 +1,9 @@
 use Rattle.std.proofs.Common.{◌≡◌, ◌++◌, map, take}
 use Rattle.c_tree.specs.TypedViews.{typed_declarator_view, typed_member_declarators_of}
 use Rattle.c_tree.specs.Views.{declarator_view, member_declarators_of}
-use Rattle.c_check_expr.specs.Declarators.{declarator_names}
-use Rattle.c_check_expr.specs.Judging.{Gives, known}
-use Rattle.c_check_expr.specs.Walks as walks
+use Rattle.c_typing.specs.Declarators.{declarator_names}
+use Rattle.c_typing.specs.Judging.{Gives, known}
+use Rattle.c_typing.specs.Walks as walks
 use Rattle.c_check_expr.proofs.members.Walker.row.Given as goal
 
 -- those so far are judged, and their names are behind those before the row

@@ -3,8 +3,8 @@ use Rattle.c_tree.specs.Tree.{NoParameter}
 use Rattle.c_tree.specs.TypedTree.{NoParameter as no_typed_parameter}
 use Rattle.c_tree.specs.TypedViews.{typed_parameter_view}
 use Rattle.c_tree.specs.Views.{added, parameter_view}
-use Rattle.c_check_expr.specs.Judging.{Gives, known}
-use Rattle.c_check_expr.specs.Walks as walks
+use Rattle.c_typing.specs.Judging.{Gives, known}
+use Rattle.c_typing.specs.Walks as walks
 use Rattle.c_check_expr.proofs.parameters.Walker.parameters.Given as goal
 
 -- the parameters so far are judged

@@ -1,10 +1,10 @@
 use Rattle.std.proofs.Common.{◌≡◌, map, take}
 use Rattle.c_tree.specs.TypedViews.{typed_specifier_view, typed_specifiers_of}
 use Rattle.c_tree.specs.Views.{specifier_view, specifiers_of}
-use Rattle.c_check_expr.specs.Declarators.{counted, named_by_list}
-use Rattle.c_check_expr.specs.Judging.{Gives, known}
+use Rattle.c_typing.specs.Declarators.{counted, named_by_list}
+use Rattle.c_typing.specs.Judging.{Gives, known}
 use Rattle.c_check_expr.specs.NamedViews.{named_view}
-use Rattle.c_check_expr.specs.Walks as walks
+use Rattle.c_typing.specs.Walks as walks
 use Rattle.c_check_expr.proofs.specifiers.Walker.specifier_list.Given as goal
 
 -- those so far are judged and counted, and they name this

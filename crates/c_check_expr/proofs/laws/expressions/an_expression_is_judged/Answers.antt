@@ -1,8 +1,0 @@
-use Rattle.c_check_expr.proofs.JudgedTrees.{expr-law, arguments-judged}
-use Rattle.c_check_expr.proofs.laws.expressions.an_expression_is_judged.Goals as goal
-
-pub returns-clause-expression : goal.returns-clause-expression
-returns-clause-expression c names called e o s r k h = expr-law names called e o s r k h
-
-pub returns-clause-arguments : goal.returns-clause-arguments
-returns-clause-arguments c names all values s r k h = arguments-judged names all values s r k h

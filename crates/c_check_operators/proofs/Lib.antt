@@ -1,0 +1,5 @@
+pub mod SizeLaws
+pub mod CallLaws
+pub mod LiteralLaws
+pub mod MemberLaws
+pub mod RuntimeLaws

@@ -1,0 +1,257 @@
+//! Assignments (C99 6.5.16).
+#![tactic(auto)]
+
+ghost use Rattle.std.specs.Prelude.{◌≡◌, true, IfOk};
+ghost use Rattle.c_tree.specs.declared.operator.Assignment.TheVariants as assignment;
+ghost use Rattle.c_tree.specs.TypedParts.{type_of, place_type};
+ghost use Rattle.c_tree.specs.TypedViews.{typed_expr_view, typed_place_view};
+ghost use Rattle.c_typing.specs.Assignments as assignments;
+ghost use Rattle.c_typing.specs.Judging.{Answers, known};
+ghost use Rattle.c_typing.specs.OperandViews.{part_view, operand_view, value_view, part_ref_view};
+ghost use Rattle.c_typing.specs.Rules as rules;
+ghost use Rattle.c_typing.specs.Shapes.{integer_at};
+ghost use Rattle.c_typing.specs.Tests as tests;
+ghost use Rattle.c_typing.specs.Tests.{first_broken, AsValue};
+
+use crate::address::can_be_written;
+use c_typing::construct::{held_with_two, holding};
+use crate::conversion::{converted_to, fits, given};
+use c_typing::kind::{assigning, left_kind, right_kind};
+use c_typing::operand::{Operand, Part, PartRef, Value};
+use crate::operators::is_moving;
+use c_typing::same::is_same_type;
+use c_typing::scope::Scope;
+use c_typing::shapes::{
+    are_integers, is_aggregate, is_integer, is_pointer, points_to_incomplete, shape_at,
+};
+use crate::step::is_array_part;
+use c_typing::stops::{no_room, refusal};
+use crate::unary::to_integer;
+use c_typing::shapes::integer_at;
+use crate::value_shape::shape_of;
+use c_tree::{Assignment, Boxed, TypedExpr, TypedPlace};
+use c_types::Types;
+use cc_base::{Fault, NoMemory, Place, Rule, TypeId};
+
+/// Two structs of one type.
+pub(crate) fn are_one_struct(types: &Types, x: PartRef, y: PartRef) -> bool
+    ensures { result ≡ tests.are_one_struct types.now (part_ref_view x.entry) (part_ref_view y.entry) }
+{
+    match (x, y) {
+        (PartRef::Place(p), PartRef::Place(q)) => {
+            is_aggregate(shape_at(types, p.ty())) && is_same_type(types, p.ty(), q.ty())
+        }
+        _ => false,
+    }
+}
+
+/// Whether a compound assignment takes these operands.
+fn is_updatable(types: &Types, operator: Assignment, x: PartRef, y: PartRef) -> bool
+    requires { rules.is_compound operator ≡ true }
+    ensures { result ≡ tests.is_assignable types.now operator (part_ref_view x.entry) (part_ref_view y.entry) }
+{
+    let left = shape_of(types, x);
+    let right = shape_of(types, y);
+    are_integers(left.get(), right.get())
+        || ((is_pointer(left.get()) && is_integer(right.get()))
+            && is_moving(types, assigning(operator), left.get(), right.get()))
+}
+
+fn is_assignable(types: &Types, x: PartRef, y: PartRef) -> bool
+    ensures { result ≡ tests.is_assignable types.now assignment.Assign (part_ref_view x.entry) (part_ref_view y.entry) }
+{
+    let left = shape_of(types, x);
+    fits(types, y, left.get()) || are_one_struct(types, x, y)
+}
+
+/// The rules of `=`.
+fn assign_fault(scope: &Scope, types: &Types, at: Place, x: &Part, y: &Part) -> Option<Fault>
+    ensures { result ≡ first_broken (tests.assign_tests types.now scope.now.scopes assignment.Assign at (part_view x.now) (part_view y.now)) }
+{
+    if !is_assignable(types, x.as_ref(), y.as_ref()) {
+        return Some(refusal(at, Rule::Mismatch));
+    }
+    if !can_be_written(x) || is_array_part(types, x) {
+        return Some(refusal(at, Rule::NotPlace));
+    }
+    None
+}
+
+/// The rules of a compound assignment.
+fn update_fault(
+    scope: &Scope,
+    types: &Types,
+    operator: Assignment,
+    at: Place,
+    x: &Part,
+    e: &TypedExpr,
+) -> Option<Fault>
+    requires { rules.is_compound operator ≡ true }
+    ensures { result ≡ first_broken (tests.assign_tests types.now scope.now.scopes operator at (part_view x.now) (AsValue (typed_expr_view e.now))) }
+{
+    if !is_updatable(types, operator, x.as_ref(), PartRef::Value(e)) {
+        return Some(refusal(at, Rule::Mismatch));
+    }
+    let value = shape_of(types, x.as_ref());
+    if points_to_incomplete(scope, types, value.get()) {
+        return Some(refusal(at, Rule::Incomplete));
+    }
+    if !can_be_written(x) || is_array_part(types, x) {
+        return Some(refusal(at, Rule::NotPlace));
+    }
+    None
+}
+
+/// The type of what is assigned to.
+fn part_type(x: &Part) -> TypeId
+    ensures { result ≡ assignments.part_type (part_view x.now) }
+{
+    match x {
+        Part::Place(p) => p.ty(),
+        Part::Value(e) => e.ty(),
+        Part::Allocation(_) => TypeId(0),
+    }
+}
+
+/// What `=` makes of a place and what is given to it.
+#[tactic(auto, using(c_tree::proofs::TypedViewLaws::typed_views))]
+fn assigned(
+    scope: &Scope,
+    types: &Types,
+    at: Place,
+    p: TypedPlace,
+    y: Part,
+) -> Result<Part, NoMemory>
+    ensures { IfOk result (λ x. part_view x ≡ assignments.assigned types.now at (typed_place_view p) (part_view y)) }
+{
+    let alloc = scope.alloc();
+    let t = p.ty();
+    let p = Boxed::new(alloc, p)?;
+    match y {
+        Part::Place(q) => Ok(Part::Place(TypedPlace::StructAssign(p, at, Boxed::new(alloc, q)?))),
+        Part::Value(e) => {
+            let e = converted_to(scope, types, at, t, e)?;
+            Ok(Part::Value(TypedExpr::Assign(p, at, Boxed::new(alloc, e)?)))
+        }
+        Part::Allocation(e) => Ok(Part::Value(TypedExpr::Assign(p, at, Boxed::new(alloc, e)?))),
+    }
+}
+
+#[tactic(auto, unfolding(c_typing::specs::Assignments::assign_part))]
+fn assign_part(scope: &Scope, types: &Types, at: Place, x: Part, y: Part) -> Result<Part, Fault>
+    ensures { Answers part_view (assignments.assign_part at (part_view x) (part_view y) (known types.now scope.now)) result (known types.now scope.now) }
+{
+    match x {
+        Part::Place(p) => Ok(assigned(scope, types, at, p, y)?),
+        _ => Err(no_room(at)),
+    }
+}
+
+/// `=` with what is given to its left side.
+#[tactic(auto, unfolding(c_typing::specs::Assignments::assign_given, c_typing::specs::Operations::construct, c_typing::specs::Judging::holding))]
+fn assign_given(
+    scope: &mut Scope,
+    types: &mut Types,
+    x: Operand,
+    at: Place,
+    y: Operand,
+) -> Result<Operand, Fault>
+    ensures { Answers operand_view (assignments.assign_given (operand_view x) at (operand_view y) (known types.old scope.old)) result (known types.new scope.new) }
+{
+    if let Some(fault) = assign_fault(scope, types, at, &x.part, &y.part) {
+        return Err(fault);
+    }
+    let held = holding(x.place, held_with_two(x.held, y.held))?;
+    let part = assign_part(scope, types, at, x.part, y.part)?;
+    Ok(Operand {
+        part,
+        place: x.place,
+        held,
+    })
+}
+
+/// `=` (C99 6.5.16.1).
+#[tactic(auto, unfolding(c_typing::specs::Assignments::assign))]
+pub fn assign(
+    scope: &mut Scope,
+    types: &mut Types,
+    x: Operand,
+    at: Place,
+    y: Operand,
+) -> Result<Operand, Fault>
+    ensures { Answers operand_view (assignments.assign (operand_view x) at (operand_view y) (known types.old scope.old)) result (known types.new scope.new) }
+{
+    let Operand { part, place, held } = y;
+    let part = given(scope, types, part_type(&x.part), place, part)?;
+    let y = Operand { part, place, held };
+    assign_given(scope, types, x, at, y)
+}
+
+/// What a compound assignment makes of a place and a value.
+#[tactic(auto, using(c_tree::proofs::TypedViewLaws::typed_views))]
+fn updated(
+    scope: &Scope,
+    types: &Types,
+    operator: Assignment,
+    at: Place,
+    p: TypedPlace,
+    e: TypedExpr,
+) -> Result<TypedExpr, NoMemory>
+    ensures { IfOk result (λ made. typed_expr_view made ≡ assignments.updated operator at (typed_place_view p) (typed_expr_view e) (integer_at types.now (place_type (typed_place_view p))) (integer_at types.now (type_of (typed_expr_view e)))) }
+{
+    let alloc = scope.alloc();
+    let t = p.ty();
+    let kinds = (integer_at(types, t), integer_at(types, e.ty()));
+    let p = Boxed::new(alloc, p)?;
+    match kinds {
+        (Some(left), Some(right)) => {
+            let binary = assigning(operator);
+            let e = to_integer(scope, at, right_kind(binary, left, right).ty(), e)?;
+            let t = left_kind(binary, left, right).ty();
+            Ok(TypedExpr::AssignWith(operator, p, at, Boxed::new(alloc, e)?, t))
+        }
+        _ => Ok(TypedExpr::AssignWith(operator, p, at, Boxed::new(alloc, e)?, t)),
+    }
+}
+
+#[tactic(auto, unfolding(c_typing::specs::Assignments::update_part))]
+fn update_part(
+    scope: &Scope,
+    types: &Types,
+    operator: Assignment,
+    at: Place,
+    x: Part,
+    e: TypedExpr,
+) -> Result<TypedExpr, Fault>
+    ensures { Answers (λ made. AsValue (typed_expr_view made)) (assignments.update_part operator at (part_view x) (typed_expr_view e) (known types.now scope.now)) result (known types.now scope.now) }
+{
+    match x {
+        Part::Place(p) => Ok(updated(scope, types, operator, at, p, e)?),
+        _ => Err(no_room(at)),
+    }
+}
+
+/// A compound assignment (C99 6.5.16.2).
+#[tactic(auto, unfolding(c_typing::specs::Assignments::update_by, c_typing::specs::Operations::construct, c_typing::specs::Judging::holding))]
+pub fn update_by(
+    scope: &mut Scope,
+    types: &mut Types,
+    operator: Assignment,
+    x: Operand,
+    at: Place,
+    v: Value,
+) -> Result<Operand, Fault>
+    requires { rules.is_compound operator ≡ true }
+    ensures { Answers operand_view (assignments.update_by operator (operand_view x) at (value_view v) (known types.old scope.old)) result (known types.new scope.new) }
+{
+    if let Some(fault) = update_fault(scope, types, operator, at, &x.part, &v.expr) {
+        return Err(fault);
+    }
+    let held = holding(x.place, held_with_two(x.held, v.held))?;
+    let made = update_part(scope, types, operator, at, x.part, v.expr)?;
+    Ok(Operand {
+        part: Part::Value(made),
+        place: x.place,
+        held,
+    })
+}

@@ -1,0 +1,292 @@
+//! Operators of two operands (C99 6.5.2.1, 6.5.5 to 6.5.14).
+#![tactic(auto)]
+
+ghost use Rattle.std.specs.Prelude.{◌≡◌, IfOk};
+ghost use Rattle.c_tree.specs.TypedParts.{type_of};
+ghost use Rattle.c_types.specs.Table.{shape_at};
+ghost use Rattle.c_tree.specs.TypedTree as typed;
+ghost use Rattle.c_tree.specs.TypedViews.{typed_expr_view};
+ghost use Rattle.c_typing.specs.Judging.{Answers, known};
+ghost use Rattle.c_typing.specs.KindViews.{kind_view};
+ghost use Rattle.c_typing.specs.Operations as operations;
+ghost use Rattle.c_typing.specs.OperandViews.{part_view, operand_view, value_view};
+ghost use Rattle.c_typing.specs.Rules as rules;
+ghost use Rattle.c_typing.specs.Shapes.{is_pointer_shape, pointee_at};
+ghost use Rattle.c_check_operators.specs.ShapeViews.{meeting_view};
+ghost use Rattle.c_typing.specs.Tests as tests;
+ghost use Rattle.c_typing.specs.Tests.{first_broken, AsValue};
+
+use c_typing::construct::{held_with_two, holding};
+use c_typing::kind::{Kind, is_logical, is_order, left_kind, result_kind, right_kind};
+use crate::meeting::{Meeting, how_they_meet};
+use c_typing::operand::{Operand, Part, Value};
+use crate::operators::infix_fault;
+use c_typing::scope::Scope;
+use c_typing::shapes::{is_index_pair, is_pointer, points_to_incomplete, shape_at};
+use c_typing::stops::refusal;
+use crate::unary::to_integer;
+use c_typing::shapes::{INT, integer_at, pointee_at};
+use c_tree::{Binary, Boxed, Conversion, Side, TypedExpr, TypedPlace};
+use c_types::Types;
+use cc_base::{Fault, NoMemory, Place, Rule, TypeId};
+
+/// `long`, the type of the difference of two pointers (C99 7.17).
+const LONG: TypeId = TypeId(7);
+
+/// The rules of `a[b]`.
+fn index_fault(
+    scope: &Scope,
+    types: &Types,
+    at: Place,
+    a: &TypedExpr,
+    b: &TypedExpr,
+) -> Option<Fault>
+    ensures { result ≡ first_broken (tests.index_tests types.now scope.now.scopes at (AsValue (typed_expr_view a.now)) (AsValue (typed_expr_view b.now))) }
+{
+    let left = shape_at(types, a.ty());
+    let right = shape_at(types, b.ty());
+    if !is_index_pair(left, right) {
+        return Some(refusal(at, Rule::Mismatch));
+    }
+    if points_to_incomplete(scope, types, left) || points_to_incomplete(scope, types, right) {
+        return Some(refusal(at, Rule::Incomplete));
+    }
+    None
+}
+
+/// `a[b]`, where one of the two is a pointer.
+#[tactic(auto, using(c_tree::proofs::TypedViewLaws::typed_views))]
+fn element(
+    scope: &Scope,
+    types: &Types,
+    a: TypedExpr,
+    at: Place,
+    b: TypedExpr,
+) -> Result<Part, NoMemory>
+    ensures { IfOk result (λ x. part_view x ≡ operations.element (typed_expr_view a) at (typed_expr_view b) (pointee_at types.now (type_of (typed_expr_view a))) (pointee_at types.now (type_of (typed_expr_view b)))) }
+{
+    let alloc = scope.alloc();
+    let left = pointee_at(types, a.ty());
+    let right = pointee_at(types, b.ty());
+    let (side, t) = match (left, right) {
+        (Some(t), _) => (Side::Left, t),
+        (None, Some(t)) => (Side::Right, t),
+        (None, None) => return Ok(Part::Value(a)),
+    };
+    let a = Boxed::new(alloc, a)?;
+    let b = Boxed::new(alloc, b)?;
+    Ok(Part::Place(TypedPlace::Element(side, a, at, b, t)))
+}
+
+/// `a[b]` (C99 6.5.2.1).
+#[tactic(auto, unfolding(c_typing::specs::Operations::index, c_typing::specs::Operations::construct, c_typing::specs::Judging::holding))]
+pub fn index(
+    scope: &mut Scope,
+    types: &mut Types,
+    a: Value,
+    at: Place,
+    b: Value,
+) -> Result<Operand, Fault>
+    ensures { Answers operand_view (operations.index (value_view a) at (value_view b) (known types.old scope.old)) result (known types.new scope.new) }
+{
+    if let Some(fault) = index_fault(scope, types, at, &a.expr, &b.expr) {
+        return Err(fault);
+    }
+    let held = holding(a.place, held_with_two(a.held, b.held))?;
+    let part = element(scope, types, a.expr, at, b.expr)?;
+    Ok(Operand {
+        part,
+        place: a.place,
+        held,
+    })
+}
+
+/// An operator on two integers, each converted to the type that it asks for.
+#[tactic(auto, using(c_tree::proofs::TypedViewLaws::typed_views))]
+fn arithmetic(
+    scope: &Scope,
+    operator: Binary,
+    a: TypedExpr,
+    at: Place,
+    b: TypedExpr,
+    kinds: (Kind, Kind),
+) -> Result<TypedExpr, NoMemory>
+    ensures { IfOk result (λ made. typed_expr_view made ≡ operations.arithmetic operator (typed_expr_view a) at (typed_expr_view b) (kind_view kinds.0) (kind_view kinds.1)) }
+{
+    let alloc = scope.alloc();
+    let (left, right) = kinds;
+    let a = to_integer(scope, at, left_kind(operator, left, right).ty(), a)?;
+    let b = to_integer(scope, at, right_kind(operator, left, right).ty(), b)?;
+    let t = result_kind(operator, left, right).ty();
+    let a = Boxed::new(alloc, a)?;
+    Ok(TypedExpr::Arithmetic(operator, a, at, Boxed::new(alloc, b)?, t))
+}
+
+/// A null constant, converted to a pointer type.
+#[tactic(auto, using(c_tree::proofs::TypedViewLaws::typed_views))]
+fn null_of(scope: &Scope, at: Place, t: TypeId, e: TypedExpr) -> Result<TypedExpr, NoMemory>
+    ensures { IfOk result (λ made. typed_expr_view made ≡ rules.null_of at t (typed_expr_view e)) }
+{
+    let inner = Boxed::new(scope.alloc(), e)?;
+    Ok(TypedExpr::Convert(Conversion::NullToPointer, at, t, inner))
+}
+
+/// `==` and `!=` of two that meet.
+#[tactic(auto, using(c_tree::proofs::TypedViewLaws::typed_views))]
+fn equated(
+    scope: &Scope,
+    how: Meeting,
+    operator: Binary,
+    a: TypedExpr,
+    at: Place,
+    b: TypedExpr,
+) -> Result<TypedExpr, NoMemory>
+    ensures { IfOk result (λ made. typed_expr_view made ≡ operations.equated (meeting_view how) operator (typed_expr_view a) at (typed_expr_view b)) }
+{
+    let alloc = scope.alloc();
+    match how {
+        Meeting::RightIsNull(_) => {
+            let b = null_of(scope, at, a.ty(), b)?;
+            let a = Boxed::new(alloc, a)?;
+            Ok(TypedExpr::Compared(operator, a, at, Boxed::new(alloc, b)?, INT))
+        }
+        Meeting::LeftIsNull(_) => {
+            let a = null_of(scope, at, b.ty(), a)?;
+            let a = Boxed::new(alloc, a)?;
+            Ok(TypedExpr::Compared(operator, a, at, Boxed::new(alloc, b)?, INT))
+        }
+        Meeting::BothPoint(_) | Meeting::NeverMeet => {
+            let a = Boxed::new(alloc, a)?;
+            Ok(TypedExpr::Compared(operator, a, at, Boxed::new(alloc, b)?, INT))
+        }
+    }
+}
+
+/// A comparison of two that are not both integers.
+#[tactic(auto, using(c_tree::proofs::TypedViewLaws::typed_views))]
+fn compared(
+    scope: &Scope,
+    types: &Types,
+    operator: Binary,
+    a: TypedExpr,
+    at: Place,
+    b: TypedExpr,
+) -> Result<TypedExpr, NoMemory>
+    ensures { IfOk result (λ made. typed_expr_view made ≡ operations.compared types.now operator (typed_expr_view a) at (typed_expr_view b)) }
+{
+    if is_order(operator) {
+        let alloc = scope.alloc();
+        let a = Boxed::new(alloc, a)?;
+        return Ok(TypedExpr::Compared(operator, a, at, Boxed::new(alloc, b)?, INT));
+    }
+    let how = how_they_meet(types, &a, &b);
+    equated(scope, how, operator, a, at, b)
+}
+
+/// A pointer that an integer moves.
+#[tactic(auto, using(c_tree::proofs::TypedViewLaws::typed_views))]
+fn moved(
+    scope: &Scope,
+    operator: Binary,
+    side: Side,
+    a: TypedExpr,
+    at: Place,
+    b: TypedExpr,
+    t: TypeId,
+) -> Result<TypedExpr, NoMemory>
+    ensures { IfOk result (λ made. typed_expr_view made ≡ typed.Moved operator side (typed_expr_view a) at (typed_expr_view b) t) }
+{
+    let alloc = scope.alloc();
+    let a = Boxed::new(alloc, a)?;
+    let b = Boxed::new(alloc, b)?;
+    Ok(TypedExpr::Moved(operator, side, a, at, b, t))
+}
+
+#[tactic(auto, using(c_tree::proofs::TypedViewLaws::typed_views))]
+fn subtracted(scope: &Scope, a: TypedExpr, at: Place, b: TypedExpr) -> Result<TypedExpr, NoMemory>
+    ensures { IfOk result (λ made. typed_expr_view made ≡ typed.Difference (typed_expr_view a) at (typed_expr_view b) operations.long_type) }
+{
+    let alloc = scope.alloc();
+    let a = Boxed::new(alloc, a)?;
+    let b = Boxed::new(alloc, b)?;
+    Ok(TypedExpr::Difference(a, at, b, LONG))
+}
+
+/// An operator on two that are not both integers.
+fn pointers(
+    scope: &Scope,
+    types: &Types,
+    operator: Binary,
+    a: TypedExpr,
+    at: Place,
+    b: TypedExpr,
+) -> Result<TypedExpr, NoMemory>
+    ensures { IfOk result (λ made. typed_expr_view made ≡ operations.pointers types.now operator (typed_expr_view a) at (typed_expr_view b) (is_pointer_shape (shape_at types.now (type_of (typed_expr_view a)))) (is_pointer_shape (shape_at types.now (type_of (typed_expr_view b))))) }
+{
+    let left = a.ty();
+    let right = b.ty();
+    match operator {
+        Binary::Add => {
+            if is_pointer(shape_at(types, left)) {
+                moved(scope, operator, Side::Left, a, at, b, left)
+            } else {
+                moved(scope, operator, Side::Right, a, at, b, right)
+            }
+        }
+        Binary::Subtract => {
+            if is_pointer(shape_at(types, right)) {
+                subtracted(scope, a, at, b)
+            } else {
+                moved(scope, operator, Side::Left, a, at, b, left)
+            }
+        }
+        _ => compared(scope, types, operator, a, at, b),
+    }
+}
+
+/// What an operator makes of two values.
+#[tactic(auto, using(c_tree::proofs::TypedViewLaws::typed_views))]
+fn operation(
+    scope: &Scope,
+    types: &Types,
+    operator: Binary,
+    a: TypedExpr,
+    at: Place,
+    b: TypedExpr,
+) -> Result<TypedExpr, NoMemory>
+    ensures { IfOk result (λ made. typed_expr_view made ≡ operations.operation types.now operator (typed_expr_view a) at (typed_expr_view b)) }
+{
+    if is_logical(operator) {
+        let alloc = scope.alloc();
+        let a = Boxed::new(alloc, a)?;
+        return Ok(TypedExpr::Logical(operator, a, at, Boxed::new(alloc, b)?, INT));
+    }
+    match (integer_at(types, a.ty()), integer_at(types, b.ty())) {
+        (Some(left), Some(right)) => arithmetic(scope, operator, a, at, b, (left, right)),
+        _ => pointers(scope, types, operator, a, at, b),
+    }
+}
+
+/// An operator of two operands (C99 6.5.5 to 6.5.14).
+#[tactic(auto, unfolding(c_typing::specs::Operations::infix_of, c_typing::specs::Operations::construct, c_typing::specs::Judging::holding))]
+pub fn infix_of(
+    scope: &mut Scope,
+    types: &mut Types,
+    operator: Binary,
+    a: Value,
+    at: Place,
+    b: Value,
+) -> Result<Operand, Fault>
+    ensures { Answers operand_view (operations.infix_of operator (value_view a) at (value_view b) (known types.old scope.old)) result (known types.new scope.new) }
+{
+    if let Some(fault) = infix_fault(scope, types, operator, at, a.place, &a.expr, &b.expr) {
+        return Err(fault);
+    }
+    let held = holding(a.place, held_with_two(a.held, b.held))?;
+    let made = operation(scope, types, operator, a.expr, at, b.expr)?;
+    Ok(Operand {
+        part: Part::Value(made),
+        place: a.place,
+        held,
+    })
+}

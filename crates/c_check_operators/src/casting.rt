@@ -1,0 +1,152 @@
+//! Casts, and `sizeof` of a type name (C99 6.5.3.4, 6.5.4).
+#![tactic(auto)]
+
+ghost use Rattle.std.specs.Prelude.{◌≡◌, IfOk};
+ghost use Rattle.c_types.specs.Table.{shape_at};
+ghost use Rattle.c_tree.specs.TypedParts.{named_type};
+ghost use Rattle.c_tree.specs.TypedViews.{typed_expr_view, typed_type_name_view};
+ghost use Rattle.c_typing.specs.Assignments as assignments;
+ghost use Rattle.c_typing.specs.Judging.{Answers, known};
+ghost use Rattle.c_typing.specs.OperandViews.{part_view, operand_view, part_ref_view};
+ghost use Rattle.c_typing.specs.Refusals.{type_size_tests};
+ghost use Rattle.c_typing.specs.Shapes.{is_void_shape};
+ghost use Rattle.c_typing.specs.Tests as tests;
+ghost use Rattle.c_typing.specs.Tests.{first_broken};
+
+use crate::address::{SIZE, size_at};
+use c_typing::construct::{held_with_one, holding};
+use crate::conversion::{cast_conversion, given, is_castable};
+use c_typing::operand::{Operand, Part, PartRef};
+use c_typing::scope::Scope;
+use c_typing::shapes::{is_complete_at, is_void, shape_at};
+use c_typing::stops::refusal;
+use c_tree::{Boxed, Conversion, TypedExpr, TypedTypeName};
+use c_types::Types;
+use cc_base::{Fault, NoMemory, Place, Rule, TypeId};
+
+/// The rules of a cast.
+fn cast_fault(types: &Types, at: Place, x: PartRef, t: TypeId) -> Option<Fault>
+    ensures { result ≡ first_broken (tests.cast_tests types.now at (part_ref_view x.entry) t) }
+{
+    if is_castable(types, x, shape_at(types, t)) {
+        None
+    } else {
+        Some(refusal(at, Rule::Mismatch))
+    }
+}
+
+/// A part as the operand of a cast.
+#[tactic(auto, using(c_tree::proofs::TypedViewLaws::typed_views))]
+fn part_expr(scope: &Scope, x: Part) -> Result<TypedExpr, NoMemory>
+    ensures { IfOk result (λ e. typed_expr_view e ≡ assignments.part_expr (part_view x)) }
+{
+    match x {
+        Part::Place(p) => Ok(TypedExpr::Unread(Boxed::new(scope.alloc(), p)?)),
+        Part::Value(e) => Ok(e),
+        Part::Allocation(e) => Ok(e),
+    }
+}
+
+/// The conversion that a cast makes; one to `void` where there is no other.
+fn cast_which(types: &Types, is_allocation: bool, e: &TypedExpr, t: TypeId) -> Conversion
+    ensures { result ≡ assignments.cast_by types.now is_allocation (typed_expr_view e.now) t (is_void_shape (shape_at types.now t)) }
+{
+    if is_void(shape_at(types, t)) {
+        return Conversion::ToVoid;
+    }
+    if is_allocation {
+        return Conversion::AllocationToPointer;
+    }
+    match cast_conversion(types, e, t) {
+        Some(which) => which,
+        None => Conversion::ToVoid,
+    }
+}
+
+fn is_allocation(x: &Part) -> bool
+    ensures { result ≡ assignments.is_allocation_part (part_view x.now) }
+{
+    matches!(x, Part::Allocation(_))
+}
+
+/// What a cast makes of what was given to its type.
+#[tactic(auto, using(c_tree::proofs::TypedViewLaws::typed_views))]
+fn cast_part(
+    scope: &Scope,
+    types: &Types,
+    at: Place,
+    to: TypedTypeName,
+    x: Part,
+) -> Result<TypedExpr, NoMemory>
+    ensures { IfOk result (λ e. typed_expr_view e ≡ assignments.cast_part types.now at (typed_type_name_view to) (part_view x)) }
+{
+    let alloc = scope.alloc();
+    let taken = is_allocation(&x);
+    let e = part_expr(scope, x)?;
+    let which = cast_which(types, taken, &e, to.ty);
+    let to = Boxed::new(alloc, to)?;
+    Ok(TypedExpr::Cast(which, at, to, Boxed::new(alloc, e)?))
+}
+
+/// A cast of what was given to its type.
+#[tactic(auto, unfolding(c_typing::specs::Assignments::cast_given, c_typing::specs::Operations::construct, c_typing::specs::Judging::holding), using(c_tree::proofs::TypedViewLaws::typed_views))]
+fn cast_given(
+    scope: &Scope,
+    types: &Types,
+    at: Place,
+    to: TypedTypeName,
+    x: Operand,
+) -> Result<Operand, Fault>
+    ensures { Answers operand_view (assignments.cast_given at (typed_type_name_view to) (operand_view x) (known types.now scope.now)) result (known types.now scope.now) }
+{
+    if let Some(fault) = cast_fault(types, at, x.part.as_ref(), to.ty) {
+        return Err(fault);
+    }
+    let held = holding(at, held_with_one(x.held))?;
+    let made = cast_part(scope, types, at, to, x.part)?;
+    Ok(Operand {
+        part: Part::Value(made),
+        place: at,
+        held,
+    })
+}
+
+/// A cast (C99 6.5.4).
+#[tactic(auto, unfolding(c_typing::specs::Assignments::cast), using(c_tree::proofs::TypedViewLaws::typed_views))]
+pub fn cast(
+    scope: &mut Scope,
+    types: &mut Types,
+    at: Place,
+    to: TypedTypeName,
+    x: Operand,
+) -> Result<Operand, Fault>
+    ensures { Answers operand_view (assignments.cast at (typed_type_name_view to) (operand_view x) (known types.old scope.old)) result (known types.new scope.new) }
+{
+    let Operand { part, place, held } = x;
+    let part = given(scope, types, to.ty, place, part)?;
+    cast_given(scope, types, at, to, Operand { part, place, held })
+}
+
+/// `sizeof` of a type name (C99 6.5.3.4).
+#[tactic(auto, unfolding(c_typing::specs::Assignments::size_of_type, c_typing::specs::Operations::construct, c_typing::specs::Judging::holding), using(c_tree::proofs::TypedViewLaws::typed_views))]
+pub fn size_of_type(
+    scope: &Scope,
+    types: &Types,
+    at: Place,
+    paren: Place,
+    name: TypedTypeName,
+) -> Result<Operand, Fault>
+    ensures { Answers operand_view (assignments.size_of_type at paren (typed_type_name_view name) (known types.now scope.now)) result (known types.now scope.now) }
+{
+    let t = name.ty;
+    if !is_complete_at(scope, types, t) {
+        return Err(refusal(at, Rule::Incomplete));
+    }
+    let size = size_at(types, t);
+    let name = Boxed::new(scope.alloc(), name)?;
+    Ok(Operand {
+        part: Part::Value(TypedExpr::SizeOfType(at, paren, name, size, SIZE)),
+        place: at,
+        held: 1,
+    })
+}

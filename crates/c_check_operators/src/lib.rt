@@ -1,0 +1,19 @@
+//! The typing of expressions, one construct at a time, over parts that are judged (C99 6.5).
+#![tactic(auto)]
+
+mod address;
+pub mod assigning;
+pub mod binary;
+pub mod calls;
+pub mod casting;
+pub mod choosing;
+pub mod conversion;
+pub mod leaf;
+pub mod literals;
+mod meeting;
+pub mod member_places;
+pub mod names;
+mod operators;
+pub mod step;
+mod unary;
+mod value_shape;

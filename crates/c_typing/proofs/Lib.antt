@@ -1,0 +1,5 @@
+pub mod ScopeLaws
+pub mod TypeSearch
+pub mod SameLaws
+pub mod KindLaws
+pub mod ValueLaws

@@ -1,0 +1,182 @@
+-- Laws on scopes, and on what is seen of the maps that keep them.
+use Rattle.std.proofs.Common.{◌≡◌, ℕ, suc, ◌+◌, ◌-◌, not, ◌<◌, Bool, true, false, cond, List, [], ◌∷◌, ◌++◌, length, take, get_or, slice_set, map, nat_lt, Result, Ok, Err, OnOk, Option, Some, None, refl, ap, sym, ◌∙◌, bytes_eq, subst, arith}
+use Rattle.std.specs.List.{position, position_or_len}
+use Rattle.std.specs.Map.{lookup}
+use Rattle.std.proofs.lemmas.List.{length-map}
+use Rattle.std.proofs.lemmas.Option.{none-some}
+use Rattle.indexmap.specs.IndexMap.{insert_entry}
+use Rattle.c_typing.specs.declared.declared.Declared.{Declared}
+use Rattle.c_typing.specs.declared.declared.Tag.{Tag}
+use Rattle.c_typing.specs.Scopes.{Name, Level, Seen, entry_of, seen_entries, with_name, with_tag, with_scopes, leaving, declaring, declaring_tag, here, tag_here, at_innermost, or_outer, name_in, tag_in, innermost, without_innermost}
+
+abbrev level : List (Name × Declared) → List (Name × Tag) → Level
+level names tags = record { names = names; tags = tags }
+
+-- what is found in a map is the entry of the name
+pub lookup-seen : {K A : Type 0} (bytes : K → Name) (test : K → Bool) (name : Name) → ((k : K) → test k ≡ bytes_eq name (bytes k))
+    → (es : List (K × A)) → lookup test es ≡ entry_of (seen_entries bytes es) name
+lookup-seen bytes test name same [] = refl
+lookup-seen bytes test name same (e ∷ es) =
+    ap (λ b. cond b (Some e.1) (lookup test es)) (same e.0)
+    ∙ ap (λ r. cond (bytes_eq name (bytes e.0)) (Some e.1) r) (lookup-seen bytes test name same es)
+
+inserted : {K A : Type 0} (bytes : K → Name) (e : K × A) (k : K) (v : A) (es changed : List (K × A)) (rest : Option A) (b : Bool)
+    → cond b (Some e.1) rest ≡ None
+    → (rest ≡ None → seen_entries bytes changed ≡ seen_entries bytes es ++ (bytes k, v) ∷ [])
+    → seen_entries bytes (cond b ((e.0, v) ∷ es) (e ∷ changed)) ≡ seen_entries bytes (e ∷ es) ++ (bytes k, v) ∷ []
+inserted bytes e k v es changed rest true h step = absurd (none-some e.1 (sym h))
+inserted bytes e k v es changed rest false h step = ap (λ r. (bytes e.0, e.1) ∷ r) (step h)
+
+-- a name that a map does not have is put at its end
+pub insert-seen : {K A : Type 0} (bytes : K → Name) (eq : K → K → Bool) (k : K) (v : A) → ((x : K) → eq k x ≡ bytes_eq (bytes k) (bytes x))
+    → (es : List (K × A)) → entry_of (seen_entries bytes es) (bytes k) ≡ None
+    → seen_entries bytes (insert_entry eq es k v) ≡ seen_entries bytes es ++ (bytes k, v) ∷ []
+insert-seen bytes eq k v same [] h = refl
+insert-seen bytes eq k v same (e ∷ es) h =
+    ap (λ b. seen_entries bytes (cond b ((e.0, v) ∷ es) (e ∷ insert_entry eq es k v))) (same e.0)
+    ∙ inserted bytes e k v es (insert_entry eq es k v) (entry_of (seen_entries bytes es) (bytes k)) (bytes_eq (bytes k) (bytes e.0)) h
+    (λ g. insert-seen bytes eq k v same es g)
+
+-- a map of names with one more
+pub names-declared : {K : Type 0} (bytes : K → Name) (eq : K → K → Bool) → ((k x : K) → eq k x ≡ bytes_eq (bytes k) (bytes x))
+    → (es changed : List (K × Declared)) (tags : List (Name × Tag)) (k : K) (name : Name) (what : Declared) (l : Level)
+    → level (seen_entries bytes es) tags ≡ l → bytes k ≡ name → changed ≡ insert_entry eq es k what → entry_of l.names name ≡ None
+    → level (seen_entries bytes changed) tags ≡ with_name name what l
+names-declared bytes eq same es changed tags k name what l seen named made =
+    let P : Level → Type 0 = λ m. entry_of m.names name ≡ None → level (seen_entries bytes changed) tags ≡ with_name name what m in
+    subst P seen (λ none. ap (λ ns. level ns tags) (ap (seen_entries bytes) made
+    ∙ insert-seen bytes eq k what (same k) es (ap (entry_of (seen_entries bytes es)) named ∙ none)
+    ∙ ap (λ n. seen_entries bytes es ++ (n, what) ∷ []) named))
+
+-- a map of tags with one more
+pub tags-declared : {K : Type 0} (bytes : K → Name) (eq : K → K → Bool) → ((k x : K) → eq k x ≡ bytes_eq (bytes k) (bytes x))
+    → (es changed : List (K × Tag)) (names : List (Name × Declared)) (k : K) (name : Name) (what : Tag) (l : Level)
+    → level names (seen_entries bytes es) ≡ l → bytes k ≡ name → changed ≡ insert_entry eq es k what → entry_of l.tags name ≡ None
+    → level names (seen_entries bytes changed) ≡ with_tag name what l
+tags-declared bytes eq same es changed names k name what l seen named made =
+    let P : Level → Type 0 = λ m. entry_of m.tags name ≡ None → level names (seen_entries bytes changed) ≡ with_tag name what m in
+    subst P seen (λ none. ap (λ ts. level names ts) (ap (seen_entries bytes) made
+    ∙ insert-seen bytes eq k what (same k) es (ap (entry_of (seen_entries bytes es)) named ∙ none)
+    ∙ ap (λ n. seen_entries bytes es ++ (n, what) ∷ []) named))
+
+-- the innermost scope is the last
+pub innermost-last : (l : Level) (ls : List Level) (d : Level) → 0 < length ls → innermost (l ∷ ls) ≡ get_or ls (length ls - 1) d
+innermost-last l [] d h = absurd (omega arith)
+innermost-last l (m ∷ []) d h = refl
+innermost-last l (m ∷ (k ∷ ls)) d h =
+    let e : length ls ≡ length (k ∷ ls) - 1 = omega arith in
+    let f : suc (length ls) ≡ length (m ∷ (k ∷ ls)) - 1 = omega arith in
+    innermost-last m (k ∷ ls) d (omega arith)
+    ∙ ap (λ i. get_or (k ∷ ls) i d) (sym e)
+    ∙ ap (λ i. get_or (m ∷ (k ∷ ls)) i d) f
+
+pub without-last : (l : Level) (ls : List Level) → 0 < length ls → without_innermost (l ∷ ls) ≡ l ∷ take (length ls - 1) ls
+without-last l [] h = absurd (omega arith)
+without-last l (m ∷ []) h = refl
+without-last l (m ∷ (k ∷ ls)) h =
+    let e : length ls ≡ length (k ∷ ls) - 1 = omega arith in
+    let f : suc (length ls) ≡ length (m ∷ (k ∷ ls)) - 1 = omega arith in
+    ap (λ r. l ∷ r) (without-last m (k ∷ ls) (omega arith)
+    ∙ ap (λ i. m ∷ take i (k ∷ ls)) (sym e)
+    ∙ ap (λ i. take i (m ∷ (k ∷ ls))) f)
+
+abbrev pub seen_of : Level → List Level → List Name → List (List Name) → ℕ → ℕ → ℕ → Seen
+seen_of file inner defined members node globals cells = record {
+  scopes = record { levels = file ∷ inner; defined = defined; members = members };
+  node = node;
+  globals = globals;
+  cells = cells;
+}
+
+-- the scopes without the last
+pub left : (file : Level) (inner changed : List Level) (defined : List Name) (members : List (List Name)) (node globals cells : ℕ) (now : Seen)
+    → seen_of file inner defined members node globals cells ≡ now → changed ≡ take (length inner - 1) inner → 1 < length now.scopes.levels
+    → seen_of file changed defined members node globals cells ≡ with_scopes now (leaving now.scopes)
+left file inner changed defined members node globals cells now seen made =
+    let P : Seen → Type 0 = λ t. 1 < length t.scopes.levels
+    → seen_of file changed defined members node globals cells ≡ with_scopes t (leaving t.scopes) in
+    subst P seen (λ more. ap (λ ls. with_scopes (seen_of file inner defined members node globals cells) (record { levels = ls; defined = defined; members = members }))
+    (ap (λ ls. file ∷ ls) made ∙ sym (without-last file inner (omega arith))))
+
+-- the declaration of a name in the last of the scopes
+pub here-last : (file : Level) (inner : List Level) (defined : List Name) (members : List (List Name)) (node globals cells : ℕ) (now : Seen) (name : Name) (m : Level)
+    → seen_of file inner defined members node globals cells ≡ now → 0 < length inner → m ≡ get_or inner (length inner - 1) m
+    → here now.scopes.levels name ≡ None → entry_of m.names name ≡ None
+here-last file inner defined members node globals cells now name m seen some last none =
+    ap (λ l. entry_of l.names name) (last ∙ sym (innermost-last file inner m some))
+    ∙ ap (λ t. here t.scopes.levels name) seen ∙ none
+
+-- the last of the scopes, changed
+pub at-last : (f : Level → Level) (l : Level) (ls : List Level) (m d : Level) → 0 < length ls → m ≡ f (get_or ls (length ls - 1) d)
+    → at_innermost f (l ∷ ls) ≡ l ∷ slice_set ls (length ls - 1) m
+at-last f l [] m d h e = absurd (omega arith)
+at-last f l (k ∷ []) m d h e = ap (λ x. l ∷ (x ∷ [])) (sym e)
+at-last f l (k ∷ (j ∷ ls)) m d h e =
+    let g : length ls ≡ length (j ∷ ls) - 1 = omega arith in
+    let i : suc (length ls) ≡ length (k ∷ (j ∷ ls)) - 1 = omega arith in
+    ap (λ r. l ∷ r) (at-last f k (j ∷ ls) m d (omega arith)
+    (e ∙ ap (λ n. f (get_or (k ∷ (j ∷ ls)) n d)) (sym i) ∙ ap (λ n. f (get_or (j ∷ ls) n d)) g)
+    ∙ ap (λ n. k ∷ slice_set (j ∷ ls) n m) (sym g)
+    ∙ ap (λ n. slice_set (k ∷ (j ∷ ls)) n m) i)
+
+pub declared-last : (file : Level) (inner : List Level) (defined : List Name) (members : List (List Name)) (node globals cells : ℕ) (now : Seen) (name : Name) (what : Declared) (m n : Level)
+    → seen_of file inner defined members node globals cells ≡ now → 0 < length inner → m ≡ get_or inner (length inner - 1) m → n ≡ with_name name what m
+    → seen_of file (slice_set inner (length inner - 1) n) defined members node globals cells ≡ with_scopes now (declaring name what now.scopes)
+declared-last file inner defined members node globals cells now name what m n seen some last new =
+    let P : Seen → Type 0 = λ t. seen_of file (slice_set inner (length inner - 1) n) defined members node globals cells ≡ with_scopes t (declaring name what t.scopes) in
+    subst P seen (ap (λ ls. with_scopes (seen_of file inner defined members node globals cells) (record { levels = ls; defined = defined; members = members }))
+    (sym (at-last (with_name name what) file inner n m some (new ∙ ap (with_name name what) last))))
+
+or-none : {A : Type 0} (o : Option A) → o ≡ or_outer o None
+or-none None = refl
+or-none (Some x) = refl
+
+or-assoc : {A : Type 0} (a b c : Option A) → or_outer (or_outer a b) c ≡ or_outer a (or_outer b c)
+or-assoc None b c = refl
+or-assoc (Some x) b c = refl
+
+-- a name in scopes of which one is the last
+pub name_in-push : (ls : List Level) (l : Level) (name : Name) → name_in (ls ++ l ∷ []) name ≡ or_outer (entry_of l.names name) (name_in ls name)
+name_in-push [] l name = or-none (entry_of l.names name)
+name_in-push (k ∷ ls) l name =
+    ap (λ o. or_outer o (entry_of k.names name)) (name_in-push ls l name)
+    ∙ or-assoc (entry_of l.names name) (name_in ls name) (entry_of k.names name)
+
+-- what holds where a call answered Ok
+pub on_ok : {T E : Type 0} (P Q : Type 0) (r : Result T E) → (P → Q) → OnOk r P → OnOk r Q
+on_ok P Q (Ok x) f p = f p
+on_ok P Q (Err e) f p = p
+
+-- the same of tags
+
+pub tag_here-last : (file : Level) (inner : List Level) (defined : List Name) (members : List (List Name)) (node globals cells : ℕ) (now : Seen) (name : Name) (m : Level)
+    → seen_of file inner defined members node globals cells ≡ now → 0 < length inner → m ≡ get_or inner (length inner - 1) m
+    → tag_here now.scopes.levels name ≡ None → entry_of m.tags name ≡ None
+tag_here-last file inner defined members node globals cells now name m seen some last none =
+    ap (λ l. entry_of l.tags name) (last ∙ sym (innermost-last file inner m some))
+    ∙ ap (λ t. tag_here t.scopes.levels name) seen ∙ none
+
+pub tag_declared-last : (file : Level) (inner : List Level) (defined : List Name) (members : List (List Name)) (node globals cells : ℕ) (now : Seen) (name : Name) (what : Tag) (m n : Level)
+    → seen_of file inner defined members node globals cells ≡ now → 0 < length inner → m ≡ get_or inner (length inner - 1) m → n ≡ with_tag name what m
+    → seen_of file (slice_set inner (length inner - 1) n) defined members node globals cells ≡ with_scopes now (declaring_tag name what now.scopes)
+tag_declared-last file inner defined members node globals cells now name what m n seen some last new =
+    let P : Seen → Type 0 = λ t. seen_of file (slice_set inner (length inner - 1) n) defined members node globals cells ≡ with_scopes t (declaring_tag name what t.scopes) in
+    subst P seen (ap (λ ls. with_scopes (seen_of file inner defined members node globals cells) (record { levels = ls; defined = defined; members = members }))
+    (sym (at-last (with_tag name what) file inner n m some (new ∙ ap (with_tag name what) last))))
+
+pub tag_in-push : (ls : List Level) (l : Level) (name : Name) → tag_in (ls ++ l ∷ []) name ≡ or_outer (entry_of l.tags name) (tag_in ls name)
+tag_in-push [] l name = or-none (entry_of l.tags name)
+tag_in-push (k ∷ ls) l name =
+    ap (λ o. or_outer o (entry_of k.tags name)) (tag_in-push ls l name)
+    ∙ or-assoc (entry_of l.tags name) (tag_in ls name) (entry_of k.tags name)
+
+-- the place of a name among the keys of a set
+
+place-map : {A B : Type 0} (f : A → B) (p : B → Bool) (xs : List A) → position_or_len p (map f xs) ≡ position_or_len (λ x. p (f x)) xs
+place-map f p [] = refl
+place-map f p (x ∷ xs) = ap (λ n. cond (not (p (f x))) (1 + n) 0) (place-map f p xs)
+
+pub position-map : {A B : Type 0} (f : A → B) (p : B → Bool) (xs : List A) → position p (map f xs) ≡ position (λ x. p (f x)) xs
+position-map f p xs =
+    ap (λ n. cond (nat_lt n (length (map f xs))) (Some n) None) (place-map f p xs)
+    ∙ ap (λ n. cond (nat_lt (position_or_len (λ x. p (f x)) xs) n) (Some (position_or_len (λ x. p (f x)) xs)) None) (length-map xs f)

@@ -1,0 +1,84 @@
+//! One scope: its names and its tags.
+#![tactic(auto)]
+
+ghost use Rattle.std.specs.Prelude.{◌≡◌, OnOk, OnErr, None, option_copied};
+ghost use Rattle.c_typing.specs.Scopes.{entry_of, with_name, with_tag, empty_level};
+
+use crate::declared::{Declared, Tag};
+use cc_base::NoMemory;
+use indexmap::IndexMap;
+use std::alloc::Global;
+use std::marker::Model;
+
+/// A scope. Contracts see its names and its tags as lists, in the order of their declarations.
+#[derive(Drop)]
+pub struct Level {
+    names: IndexMap<Vec<u8>, Declared>,
+    tags: IndexMap<Vec<u8>, Tag>,
+}
+
+impl Model for Level {
+    ghost use Rattle.c_typing.specs.Scopes.{Level as SeenLevel, seen_entries};
+
+    ghost Value = { SeenLevel };
+
+    ghost view = { λ l. record { names = seen_entries (λ k. k.items) l.names.entries; tags = seen_entries (λ k. k.items) l.tags.entries } };
+}
+
+impl Level {
+    /// A scope without names. Takes no memory.
+    pub fn new(alloc: Global) -> Level
+        ensures { result ≡ empty_level }
+    {
+        Level {
+            names: IndexMap::new(alloc),
+            tags: IndexMap::new(alloc),
+        }
+    }
+
+    /// What a name is declared as in this scope.
+    pub fn name(&self, name: &[u8]) -> Option<&Declared>
+        ensures { option_copied result ≡ entry_of self.now.names name.now }
+    {
+        self.names.get(name)
+    }
+
+    /// What a tag is declared as in this scope.
+    pub fn tag(&self, name: &[u8]) -> Option<&Tag>
+        ensures { option_copied result ≡ entry_of self.now.tags name.now }
+    {
+        self.tags.get(name)
+    }
+
+    /// Declares a name that this scope does not have.
+    pub fn declare(
+        &mut self,
+        alloc: Global,
+        name: &[u8],
+        what: Declared,
+    ) -> Result<(), NoMemory>
+        requires { entry_of self.old.names name.now ≡ None }
+        ensures declared { OnOk result (self.new ≡ with_name name.now what self.old) }
+        ensures unchanged { OnErr result (self.new ≡ self.old) }
+    {
+        let key = Vec::from_slice(alloc, name)?;
+        self.names.insert(key, what)?;
+        Ok(())
+    }
+
+    /// Declares a tag that this scope does not have.
+    pub fn declare_tag(
+        &mut self,
+        alloc: Global,
+        name: &[u8],
+        what: Tag,
+    ) -> Result<(), NoMemory>
+        requires { entry_of self.old.tags name.now ≡ None }
+        ensures declared { OnOk result (self.new ≡ with_tag name.now what self.old) }
+        ensures unchanged { OnErr result (self.new ≡ self.old) }
+    {
+        let key = Vec::from_slice(alloc, name)?;
+        self.tags.insert(key, what)?;
+        Ok(())
+    }
+}

@@ -1,13 +1,15 @@
 -- Laws on scopes, and on what is seen of the maps that keep them.
-use Rattle.std.proofs.Common.{◌≡◌, ℕ, suc, ◌+◌, ◌-◌, not, ◌<◌, Bool, true, false, cond, List, [], ◌∷◌, ◌++◌, length, take, get_or, slice_set, map, nat_lt, Result, Ok, Err, OnOk, Option, Some, None, refl, ap, sym, ◌∙◌, bytes_eq, subst, arith}
-use Rattle.std.specs.List.{position, position_or_len}
+use Rattle.std.proofs.Common.{◌≡◌, ℕ, suc, ◌+◌, ◌-◌, not, ◌<◌, Bool, true, false, cond, List, [], ◌∷◌, ◌++◌, length, take, get_or, slice_set, map, nat_lt, Result, Ok, Err, OnOk, Option, Some, None, refl, ap, sym, ◌∙◌, bytes_eq, subst, ◌||◌, arith}
+use Rattle.std.specs.List.{list_any, position, position_or_len}
 use Rattle.std.specs.Map.{lookup}
 use Rattle.std.proofs.lemmas.List.{length-map}
+use Rattle.std.proofs.lemmas.Bool.Decides.{nat_tests}
 use Rattle.std.proofs.lemmas.Option.{none-some}
 use Rattle.indexmap.specs.IndexMap.{insert_entry}
+use Rattle.indexmap.specs.IndexSet.{insert_key}
 use Rattle.c_typing.specs.declared.declared.Declared.{Declared}
 use Rattle.c_typing.specs.declared.declared.Tag.{Tag}
-use Rattle.c_typing.specs.Scopes.{Name, Level, Seen, entry_of, seen_entries, with_name, with_tag, with_scopes, leaving, declaring, declaring_tag, here, tag_here, at_innermost, or_outer, name_in, tag_in, innermost, without_innermost}
+use Rattle.c_typing.specs.Scopes.{Name, Level, Seen, entry_of, seen_entries, with_name, with_tag, with_scopes, leaving, declaring, declaring_tag, here, tag_here, at_innermost, or_outer, name_in, tag_in, innermost, without_innermost, place_among}
 
 abbrev level : List (Name × Declared) → List (Name × Tag) → Level
 level names tags = record { names = names; tags = tags }
@@ -180,3 +182,52 @@ pub position-map : {A B : Type 0} (f : A → B) (p : B → Bool) (xs : List A) �
 position-map f p xs =
     ap (λ n. cond (nat_lt n (length (map f xs))) (Some n) None) (place-map f p xs)
     ∙ ap (λ n. cond (nat_lt (position_or_len (λ x. p (f x)) xs) n) (Some (position_or_len (λ x. p (f x)) xs)) None) (length-map xs f)
+
+-- a set of names with one that it may have
+
+any-map : {A B : Type 0} (f : A → B) (p : B → Bool) (xs : List A) → list_any p (map f xs) ≡ list_any (λ x. p (f x)) xs
+any-map f p [] = refl
+any-map f p (x ∷ xs) = ap (λ b. p (f x) || b) (any-map f p xs)
+
+any-same : {A : Type 0} (p q : A → Bool) → ((x : A) → p x ≡ q x) → (xs : List A) → list_any p xs ≡ list_any q xs
+any-same p q same [] = refl
+any-same p q same (x ∷ xs) = ap (λ b. b || list_any p xs) (same x) ∙ ap (λ b. q x || b) (any-same p q same xs)
+
+map-push : {A B : Type 0} (f : A → B) (xs : List A) (x : A) → map f (xs ++ x ∷ []) ≡ map f xs ++ f x ∷ []
+map-push f [] x = refl
+map-push f (y ∷ ys) x = ap (λ r. f y ∷ r) (map-push f ys x)
+
+map-unless : {A B : Type 0} (f : A → B) (xs : List A) (x : A) (b : Bool) → map f (cond b xs (xs ++ x ∷ [])) ≡ cond b (map f xs) (map f xs ++ f x ∷ [])
+map-unless f xs x true = refl
+map-unless f xs x false = map-push f xs x
+
+pub names-added : {K : Type 0} (bytes : K → Name) (eq : K → K → Bool) → ((k x : K) → eq k x ≡ bytes_eq (bytes k) (bytes x))
+    → (ks changed : List K) (k : K) (name : Name) (l : List Name)
+    → map bytes ks ≡ l → bytes k ≡ name → changed ≡ insert_key eq ks k → map bytes changed ≡ cond (list_any (bytes_eq name) l) l (l ++ name ∷ [])
+names-added bytes eq same ks changed k name l seen named made =
+    let P : List Name → Type 0 = λ m. map bytes changed ≡ cond (list_any (bytes_eq name) m) m (m ++ name ∷ []) in
+    subst P seen (ap (map bytes) made ∙ map-unless bytes ks k (list_any (eq k) ks)
+    ∙ ap (λ b. cond b (map bytes ks) (map bytes ks ++ bytes k ∷ []))
+    (any-same (eq k) (λ x. bytes_eq (bytes k) (bytes x)) (same k) ks ∙ sym (any-map bytes (bytes_eq (bytes k)) ks))
+    ∙ ap (λ n. cond (list_any (bytes_eq n) (map bytes ks)) (map bytes ks) (map bytes ks ++ n ∷ [])) named)
+
+-- with one that it does not have
+
+missed_by : (b any : Bool) (n l : ℕ) → (nat_lt n l ≡ false → any ≡ false) → nat_lt (cond (not b) (1 + n) 0) (suc l) ≡ false → (b || any) ≡ false
+missed_by true any n l step h = absurd (grind (arith, nat_tests))
+missed_by false any n l step h = step (grind (arith, nat_tests))
+
+missed : {A : Type 0} (p : A → Bool) (xs : List A) → nat_lt (position_or_len p xs) (length xs) ≡ false → list_any p xs ≡ false
+missed p [] h = refl
+missed p (x ∷ xs) h = missed_by (p x) (list_any p xs) (position_or_len p xs) (length xs) (missed p xs) h
+
+no_some : (b : Bool) (n : ℕ) → cond b (Some n) None ≡ None → b ≡ false
+no_some true n h = absurd (none-some n (sym h))
+no_some false n h = refl
+
+pub names-pushed : {K : Type 0} (bytes : K → Name) (eq : K → K → Bool) → ((k x : K) → eq k x ≡ bytes_eq (bytes k) (bytes x))
+    → (ks changed : List K) (k : K) (name : Name) (l : List Name)
+    → map bytes ks ≡ l → bytes k ≡ name → changed ≡ insert_key eq ks k → place_among l name ≡ None → map bytes changed ≡ l ++ name ∷ []
+names-pushed bytes eq same ks changed k name l seen named made fresh =
+    names-added bytes eq same ks changed k name l seen named made
+    ∙ ap (λ b. cond b l (l ++ name ∷ [])) (missed (bytes_eq name) l (no_some (nat_lt (position_or_len (bytes_eq name) l) (length l)) (position_or_len (bytes_eq name) l) fresh))

@@ -1,5 +1,5 @@
 -- Values of integer types.
-use Rattle.std.proofs.Common.{zero, suc, None, Some, not, ◌&&◌, ◌≢◌, ◌-ℤ◌, ◌/◌, ◌≤◌, neg_ℤ, int_div, int_rem, FitsSigned, true≢false, ℕ, ℤ, pos, negsuc, ◌+◌, ◌-◌, ◌*◌, ◌%◌, ◌^◌, ◌<◌, ◌≡◌, ◌⊎◌, ◌+ℤ◌, Bool, true, false, refl, ap, subst, sym, ◌∙◌, arith, inl, inr, if◌then◌else◌, nat_lt}
+use Rattle.std.proofs.Common.{zero, suc, Option, None, Some, not, ◌&&◌, ◌≢◌, ◌-ℤ◌, ◌/◌, ◌≤◌, neg_ℤ, int_div, int_rem, FitsSigned, true≢false, ℕ, ℤ, pos, negsuc, ◌+◌, ◌-◌, ◌*◌, ◌%◌, ◌^◌, ◌<◌, ◌≡◌, ◌⊎◌, ◌+ℤ◌, Bool, true, false, refl, ap, subst, sym, ◌∙◌, arith, inl, inr, if◌then◌else◌, nat_lt}
 use mir.Syntax.{w128}
 use mir.Val.{SFits}
 use lib.Signed.{mag}
@@ -12,7 +12,7 @@ use Rattle.std.proofs.lemmas.Bool.Decides.{Decides-int_eq}
 use Rattle.std.proofs.lemmas.Bool.Decides.{nat_tests}
 use Rattle.integers.specs.Words.{residue, word, as_signed, as_unsigned, signed_of}
 use Rattle.integers.specs.Arithmetic.{IntegerType, Operator, converted, bits_of, least, divides}
-use Rattle.c_typing.specs.Constants.{cannot_divide}
+use Rattle.c_typing.specs.Constants.{cannot_divide, with_value}
 
 pub residue_wrapped_64 : (z : ℤ) → residue (int_wrap w128 z) (2 ^ 64) ≡ residue z (2 ^ 64)
 unfolding int_wrap
@@ -126,3 +126,9 @@ checked_none false p z e h = absurd (true≢false (sym h ∙ e))
 pub checked_some : (b p : Bool) (z w : ℤ) → p ≡ b → p ≡ false → w ≡ z → Some w ≡ (if b then None else Some z)
 checked_some false p z w e h f = ap Some f
 checked_some true p z w e h f = absurd (true≢false (sym e ∙ h))
+
+-- an operator on two values that are there
+pub values-there : (f : ℤ → ℤ → Option ℤ) (x y : Option ℤ) (a b : ℤ) (r : Option ℤ) → x ≡ Some a → y ≡ Some b → r ≡ f a b
+    → r ≡ with_value x (λ v. with_value y (λ w. f v w))
+values-there f x y a b r p q h =
+    h ∙ ap (λ z. with_value z (λ v. with_value (Some b) (λ w. f v w))) (sym p) ∙ ap (λ z. with_value x (λ v. with_value z (λ w. f v w))) (sym q)

@@ -13,8 +13,7 @@ ghost use Rattle.c_typing.specs.KindViews.{kind_view};
 ghost use Rattle.c_typing.specs.Shapes.{integer_at};
 
 use crate::kind::Kind;
-use crate::shapes::{is_void, shape_at};
-use crate::shapes::{integer_at, pointee_at};
+use crate::shapes::{integer_at, is_void, pointee_at, shape_at};
 use crate::value::{
     both_bits, can_divide, complement, converted, difference, either_bits, equal, less,
     less_or_equal, negated, other_bits, product, quotient, remainder, same, shifted_left,
@@ -121,6 +120,17 @@ fn alone_value(types: &Types, operator: Unary, t: TypeId, x: Option<i128>) -> Op
     Some(alone(operator, kind, x?))
 }
 
+/// The value of an operator on two values that may be there.
+fn checked_values(operator: Binary, kind: Kind, x: Option<i128>, y: Option<i128>) -> Option<i128>
+    requires { IsIntegerSize kind.bytes }
+    ensures { result ≡ constants.with_value x (λ a. constants.with_value y (λ b. if constants.cannot_divide (operator_of operator) (kind_view kind) a b then None else Some (arithmetic.computed (operator_of operator) (kind_view kind) a b))) }
+{
+    match (x, y) {
+        (Some(x), Some(y)) => checked(operator, kind, x, y),
+        _ => None,
+    }
+}
+
 fn computed_value(
     types: &Types,
     operator: Binary,
@@ -130,8 +140,10 @@ fn computed_value(
 ) -> Option<i128>
     ensures { result ≡ constants.with_type (integer_at types.now t) (λ k. constants.with_value x (λ a. constants.with_value y (λ b. if constants.cannot_divide (operator_of operator) k a b then None else Some (arithmetic.computed (operator_of operator) k a b)))) }
 {
-    let kind = integer_at(types, t)?;
-    checked(operator, kind, x?, y?)
+    match integer_at(types, t) {
+        Some(kind) => checked_values(operator, kind, x, y),
+        None => None,
+    }
 }
 
 fn logical_value(operator: Binary, x: Option<i128>, y: Option<i128>) -> Option<i128>

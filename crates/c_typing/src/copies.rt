@@ -18,10 +18,7 @@ pub fn copied_name(alloc: Global, name: &Identifier) -> Result<Identifier, NoMem
 }
 
 /// A tag that may be left out.
-pub fn copied_tag(
-    alloc: Global,
-    tag: Option<&Identifier>,
-) -> Result<Option<Identifier>, NoMemory>
+pub fn copied_tag(alloc: Global, tag: Option<&Identifier>) -> Result<Option<Identifier>, NoMemory>
     ensures { IfOk result (λ copy. copy ≡ option_copied tag.entry) }
 {
     match tag {

@@ -51,12 +51,7 @@ impl Level {
     }
 
     /// Declares a name that this scope does not have.
-    pub fn declare(
-        &mut self,
-        alloc: Global,
-        name: &[u8],
-        what: Declared,
-    ) -> Result<(), NoMemory>
+    pub fn declare(&mut self, alloc: Global, name: &[u8], what: Declared) -> Result<(), NoMemory>
         requires { entry_of self.old.names name.now ≡ None }
         ensures declared { OnOk result (self.new ≡ with_name name.now what self.old) }
         ensures unchanged { OnErr result (self.new ≡ self.old) }
@@ -67,12 +62,7 @@ impl Level {
     }
 
     /// Declares a tag that this scope does not have.
-    pub fn declare_tag(
-        &mut self,
-        alloc: Global,
-        name: &[u8],
-        what: Tag,
-    ) -> Result<(), NoMemory>
+    pub fn declare_tag(&mut self, alloc: Global, name: &[u8], what: Tag) -> Result<(), NoMemory>
         requires { entry_of self.old.tags name.now ≡ None }
         ensures declared { OnOk result (self.new ≡ with_tag name.now what self.old) }
         ensures unchanged { OnErr result (self.new ≡ self.old) }

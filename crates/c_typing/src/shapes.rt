@@ -140,10 +140,7 @@ pub fn point_to_data(types: &Types, shape: Option<&TypeShape>) -> bool
 }
 
 /// What is before a `->` points to what has this shape.
-pub fn pointed_shape<'t>(
-    types: &'t Types,
-    shape: Option<&TypeShape>,
-) -> Option<&'t TypeShape>
+pub fn pointed_shape<'t>(types: &'t Types, shape: Option<&TypeShape>) -> Option<&'t TypeShape>
     ensures { shape_or_void (option_copied result) ≡ tests.pointed_shape types.now (shape_or_void (option_copied shape.entry)) }
 {
     match shape {

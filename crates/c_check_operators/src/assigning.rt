@@ -14,23 +14,22 @@ ghost use Rattle.c_typing.specs.Tests as tests;
 ghost use Rattle.c_typing.specs.Tests.{first_broken, AsValue};
 
 use crate::address::can_be_written;
-use c_typing::construct::{held_with_two, holding};
 use crate::conversion::{converted_to, fits, given};
-use c_typing::kind::{assigning, left_kind, right_kind};
-use c_typing::operand::{Operand, Part, PartRef, Value};
 use crate::operators::is_moving;
-use c_typing::same::is_same_type;
-use c_typing::scope::Scope;
-use c_typing::shapes::{
-    are_integers, is_aggregate, is_integer, is_pointer, points_to_incomplete, shape_at,
-};
 use crate::step::is_array_part;
-use c_typing::stops::{no_room, refusal};
 use crate::unary::to_integer;
-use c_typing::shapes::integer_at;
 use crate::value_shape::shape_of;
 use c_tree::{Assignment, Boxed, TypedExpr, TypedPlace};
 use c_types::Types;
+use c_typing::construct::{held_with_two, holding};
+use c_typing::kind::{assigning, left_kind, right_kind};
+use c_typing::operand::{Operand, Part, PartRef, Value};
+use c_typing::same::is_same_type;
+use c_typing::scope::Scope;
+use c_typing::shapes::{
+    are_integers, integer_at, is_aggregate, is_integer, is_pointer, points_to_incomplete, shape_at,
+};
+use c_typing::stops::{no_room, refusal};
 use cc_base::{Fault, NoMemory, Place, Rule, TypeId};
 
 /// Two structs of one type.

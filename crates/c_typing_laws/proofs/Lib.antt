@@ -19,6 +19,7 @@ pub mod KnownMembers
 pub mod JudgedSpecifiers
 pub mod JudgedLists
 pub mod JudgedForms
+pub mod ParameterTypes
 pub mod ValuesTaken
 pub mod JudgedOperators
 pub mod JudgedMembers

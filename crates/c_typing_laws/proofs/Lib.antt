@@ -20,6 +20,7 @@ pub mod JudgedSpecifiers
 pub mod JudgedLists
 pub mod JudgedForms
 pub mod ParameterTypes
+pub mod JudgedDeclarators
 pub mod ValuesTaken
 pub mod JudgedOperators
 pub mod JudgedMembers

@@ -207,7 +207,7 @@ module _ (T : Table) (c : Scopes) (n : NodeId) where
 
 -- What is judged of a parameter's type
 
-abbrev ByParameter : Option Adjusted → TypedDeclared → TypeId → Table → Scopes → TypeId → Type 0
+abbrev pub ByParameter : Option Adjusted → TypedDeclared → TypeId → Table → Scopes → TypeId → Type 0
 ByParameter adjusted d base T s t = ParameterMakes T s adjusted d base t × (is_object_shape (shape_at T t) ≡ true)
 
 abbrev ByShape : NodeId → TypeId → Table → Scopes → TypeId → Type 0

@@ -280,7 +280,7 @@ function-step all parts made at paren parameters b list s0 m k n r j e p h =
 -- Parameters
 
 -- `void` is said of a list that is `(void)`, and of what stands before its end
-abbrev IsVoidOf : Bool → tree.Parameters → Type 0
+abbrev pub IsVoidOf : Bool → tree.Parameters → Type 0
 IsVoidOf void tree.NoParameter = Unit {0}
 IsVoidOf void all = void ≡ true → is_void_alone all ≡ true
 

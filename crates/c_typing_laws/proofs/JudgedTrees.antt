@@ -267,7 +267,7 @@ pub record IsValueFree (called : Bool) (e : tree.Expr) (v : Value) (s r : State)
   pub value : IsValueJudged e v s r
   pub free : called ≡ false → is_droppable v.expr ≡ true
 
-value-here : (called : Bool) (e : tree.Expr) (x : Operand) (v : Value) (s m r : State) → IsJudgedFree called e x s m → value x m ≡ Gives v r → IsValueFree called e v s r
+pub value-here : (called : Bool) (e : tree.Expr) (x : Operand) (v : Value) (s m r : State) → IsJudgedFree called e x s m → value x m ≡ Gives v r → IsValueFree called e v s r
 unfolding value
 value-here called e x v s m r j h =
     let k = j.judged.goes.known in
@@ -373,7 +373,7 @@ begun_goes : (which : AggregateKind) (name : Option Identifier) (o : Option Type
 begun_goes which name None s m b = b
 begun_goes which name (Some t) s m b = b.2
 
-void_self : (all : tree.Parameters) → IsVoidOf (is_void_alone all) all
+pub void_self : (all : tree.Parameters) → IsVoidOf (is_void_alone all) all
 void_self tree.NoParameter = tt
 void_self (tree.AndParameter all specifiers d) = λ e. e
 

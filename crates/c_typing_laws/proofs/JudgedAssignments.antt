@@ -155,7 +155,7 @@ given-gives e t at (AsPlace p) v s0 s r k there el h =
 
 -- Assignments
 
-converted-bare : (at : Place) (t : TypeId) (e : TypedExpr) (o : Option Conversion) → bare e ≡ e → bare (converted_by o at t e) ≡ e
+pub converted-bare : (at : Place) (t : TypeId) (e : TypedExpr) (o : Option Conversion) → bare e ≡ e → bare (converted_by o at t e) ≡ e
 converted-bare at t e None h = h
 converted-bare at t e (Some conversion.IntegerToInteger) h = by ((type_of e).0 == t.0)
   where
@@ -173,13 +173,13 @@ pub decayed-same : (x : TypeShape) → is_array_shape x ≡ false → decayed x 
 decayed-same (Array t n) h = no_true (sym h)
 decayed-same x h = refl
 
-implicit-scalar : (T : Table) (null : Bool) (x y : TypeShape) → has_some (implicit_between T null x y) ≡ true → is_scalar_shape y ≡ true
+pub implicit-scalar : (T : Table) (null : Bool) (x y : TypeShape) → has_some (implicit_between T null x y) ≡ true → is_scalar_shape y ≡ true
 implicit-scalar T null (Integer a s) (Integer b r) h = refl
 implicit-scalar T true x (Pointer n u) h = refl
 implicit-scalar T false (Pointer m t) (Pointer n u) h = refl
 implicit-scalar T null x y h = no_true h
 
-struct-fits : (T : Table) (x y : TypeShape) → is_aggregate_shape x ≡ true → has_some (implicit_between T false (decayed x) y) ≡ false
+pub struct-fits : (T : Table) (x y : TypeShape) → is_aggregate_shape x ≡ true → has_some (implicit_between T false (decayed x) y) ≡ false
 struct-fits T (Struct n) y h = refl
 struct-fits T (Union n) y h = refl
 struct-fits T Void y h = no_true h
@@ -188,7 +188,7 @@ struct-fits T (Pointer n t) y h = no_true h
 struct-fits T (Array t n) y h = no_true h
 struct-fits T (Function ps r) y h = no_true h
 
-pointed-scalar : (T : Table) (s : Scopes) (x : TypeShape) → is_pointer_to_complete_shape T s x ≡ true → is_scalar_shape x ≡ true
+pub pointed-scalar : (T : Table) (s : Scopes) (x : TypeShape) → is_pointer_to_complete_shape T s x ≡ true → is_scalar_shape x ≡ true
 pointed-scalar T s (Pointer n t) h = refl
 pointed-scalar T s Void h = no_true h
 pointed-scalar T s (Integer bytes signed) h = no_true h

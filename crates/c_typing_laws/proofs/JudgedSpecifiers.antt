@@ -377,7 +377,7 @@ enumerator-judged all list made name c s0 s r k l h =
       goes = goes-on s0 s after l.goes (declaring-goes s name.bytes value k);
     }))
 
-constant_plain : (T : Table) (e : TypedExpr) (z : ℤ) → is_droppable e ≡ true → constant_value T e ≡ Some z → is_plain e ≡ true
+pub constant_plain : (T : Table) (e : TypedExpr) (z : ℤ) → is_droppable e ≡ true → constant_value T e ≡ Some z → is_plain e ≡ true
 constant_plain T (typed.Unread p) z d h = absurd (none-some z h)
 constant_plain T e z d h = d
 

@@ -53,6 +53,7 @@ use Rattle.c_typing.specs.Tests
 use Rattle.c_typing.specs.Tests.{AsValue, has_some, has_size, first_broken}
 use Rattle.c_typing.specs.Typing.{IsTypeName, AreSpecifiers, AreMembers, AreMemberDeclarators, IsForm, IsCore, AreParts, AreParameters, IsDeclared, IsHomeless, IsHomelessDeclared, IsNewName, DeclaresParameter, IsTakenType, AreDistinct}
 use Rattle.c_typing.specs.Walks.{listed}
+use Rattle.c_typing_laws.specs.Judged.{IsTypeNameJudged}
 use Rattle.c_typing_laws.proofs.ConstructLaws.{not_false, one_unbroken, two_unbroken}
 use Rattle.c_typing_laws.proofs.ExtensionLaws.{no_true, complete_kept, still_in}
 use Rattle.c_typing_laws.proofs.JudgedForms.{IsMade, form-made, declared-made}
@@ -554,12 +555,6 @@ members-step all specifiers declarators rows list row s k m r a l j =
     }
 
 -- Type names
-
-pub record IsTypeNameJudged (name : tree.TypeName) (t : TypedTypeName) (s r : State) : Type 0 where
-  pub typed : IsTypeName r.table t s.seen.scopes r.seen.scopes
-  pub erases : erased_type_name t ≡ name
-  pub there : IsType r.table (named_type t)
-  pub goes : GoesOn s r
 
 pub type_name-step : (specifiers : tree.Specifiers) (d : tree.Declared) (at : Place) (list : TypedSpecifierList) (one : TypedDeclared) (made : TypedTypeName) (s0 m s r : State)
     → IsListJudged specifiers list s0 m → IsDeclaredJudged naming.None d one m s

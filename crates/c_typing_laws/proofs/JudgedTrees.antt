@@ -51,6 +51,7 @@ use Rattle.c_typing.specs.Shapes.{is_scalar_shape, is_void_shape}
 use Rattle.c_typing.specs.Tests.{Elaborated, AsPlace, AsValue, AsAllocation, has_some, runtime_part, first_broken, name_tests, is_none, is_function_declared, is_type_declared, is_main}
 use Rattle.c_typing.specs.Typing.{IsTyped, IsPlace, IsTypeName, AreEnumerators, AreDistinct}
 use Rattle.c_typing.specs.Walks.{listed, declared_place, judge, judge_arguments, judge_type_name, judge_list, judge_specifier, judge_members, judge_member_declarators, judge_enumerators, judge_form, judge_core, judge_parts, judge_parameters, judge_declared}
+use Rattle.c_typing_laws.specs.Judged.{IsTypeNameJudged}
 use Rattle.c_typing_laws.proofs.ExtensionLaws.{no_true, and_left, and_right, extended_refl, still_in}
 use Rattle.c_typing_laws.proofs.ConstructLaws.{two_unbroken, or_right}
 use Rattle.c_typing_laws.proofs.KeptRules.{has-kept, aggregate-kept}
@@ -67,7 +68,7 @@ use Rattle.c_typing_laws.proofs.JudgedNames.{name-judged, literal-judged}
 use Rattle.c_typing_laws.proofs.JudgedCalls.{call-judged}
 use Rattle.c_typing_laws.proofs.JudgedLists.{list-judged, list-typed, no_specifier-judged}
 use Rattle.c_typing_laws.proofs.JudgedSpecifiers.{word-judged, typedef-judged, tagged-judged, begun-judged, ended_by, enum-judged, enumeration_begun-judged, enumeration-judged, enumerator-judged, valued-judged}
-use Rattle.c_typing_laws.proofs.JudgedDeclarators.{IsFormJudged, IsCoreJudged, ArePartsJudged, AreParametersJudged, IsDeclaredJudged, IsRowJudged, AreMembersJudged, IsTypeNameJudged, IsVoidOf, first_alone, stars-judged, form-step, name-step, sized-step, entered-judged, function-step, parameter-step, member-step, members-step, type_name-step}
+use Rattle.c_typing_laws.proofs.JudgedDeclarators.{IsFormJudged, IsCoreJudged, ArePartsJudged, AreParametersJudged, IsDeclaredJudged, IsRowJudged, AreMembersJudged, IsVoidOf, first_alone, stars-judged, form-step, name-step, sized-step, entered-judged, function-step, parameter-step, member-step, members-step, type_name-step}
 
 -- What may be dropped
 

@@ -1,3 +1,4 @@
+pub mod DivisionLaws
 pub mod SizeLaws
 pub mod CallLaws
 pub mod LiteralLaws

@@ -14,6 +14,7 @@ ghost use Rattle.c_typing.specs.Tests as tests;
 ghost use Rattle.c_typing.specs.Tests.{first_broken, AsValue};
 
 use crate::address::can_be_written;
+use crate::cells::count_cells;
 use crate::conversion::{converted_to, fits, given};
 use crate::operators::is_moving;
 use crate::step::is_array_part;
@@ -136,12 +137,31 @@ fn assigned(
     }
 }
 
+/// The pointers that `=` moves are counted, where a struct is assigned.
+fn count_moved(
+    scope: &mut Scope,
+    types: &Types,
+    at: Place,
+    t: TypeId,
+    y: &Part,
+) -> Result<TypeId, Fault>
+    ensures { Answers (λ t. t) (assignments.moved at t (part_view y.now) (known types.now scope.old)) result (known types.now scope.new) }
+{
+    match y {
+        Part::Place(_) => count_cells(scope, types, at, t),
+        _ => Ok(t),
+    }
+}
+
 #[tactic(auto, unfolding(c_typing::specs::Assignments::assign_part))]
-fn assign_part(scope: &Scope, types: &Types, at: Place, x: Part, y: Part) -> Result<Part, Fault>
-    ensures { Answers part_view (assignments.assign_part at (part_view x) (part_view y) (known types.now scope.now)) result (known types.now scope.now) }
+fn assign_part(scope: &mut Scope, types: &Types, at: Place, x: Part, y: Part) -> Result<Part, Fault>
+    ensures { Answers part_view (assignments.assign_part at (part_view x) (part_view y) (known types.now scope.old)) result (known types.now scope.new) }
 {
     match x {
-        Part::Place(p) => Ok(assigned(scope, types, at, p, y)?),
+        Part::Place(p) => {
+            count_moved(scope, types, at, p.ty(), &y)?;
+            Ok(assigned(scope, types, at, p, y)?)
+        }
         _ => Err(no_room(at)),
     }
 }

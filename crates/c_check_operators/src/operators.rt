@@ -95,7 +95,6 @@ fn constant_as(from: Kind, to: Kind, z: i128) -> i128
 }
 
 /// Whether two values, each converted to the type that the operator asks for, have no quotient.
-#[tactic(auto, using(c_typing::proofs::KindLaws::left_sized, c_typing::proofs::KindLaws::right_sized))]
 fn divides_as(operator: Binary, left: Kind, right: Kind, x: i128, y: i128) -> bool
     requires left { IsIntegerSize left.bytes }
     requires right { IsIntegerSize right.bytes }

@@ -289,7 +289,7 @@ pub first_alone : (void : Bool) (all : tree.Parameters) (specifiers : tree.Speci
 first_alone void tree.NoParameter specifiers d h = tt
 first_alone void (tree.AndParameter all own one) specifiers d h = λ e. no_true (h e)
 
-adjusted-judged : (at : Place) (o : Option Place) (a : Option Adjusted) (s r : State) → IsKnown s → adjusted_with_node at o s ≡ Gives a r
+pub adjusted-judged : (at : Place) (o : Option Place) (a : Option Adjusted) (s r : State) → IsKnown s → adjusted_with_node at o s ≡ Gives a r
     → (adjusted_place a ≡ o) × GoesOnThere s r
 unfolding adjusted_with_node
 adjusted-judged at None a s r k h = given-same (λ (v : Option Adjusted) (q : State). (adjusted_place v ≡ None) × GoesOnThere s q) None a s r h (refl, stays s k)

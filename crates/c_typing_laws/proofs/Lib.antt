@@ -32,6 +32,7 @@ pub mod JudgedNames
 pub mod JudgedCalls
 pub mod JudgedTrees
 pub mod JudgedWhole
+pub mod RefusedDeclarators
 pub mod RefusedConstructs
 pub mod TestsAlike
 pub mod InfixAlike

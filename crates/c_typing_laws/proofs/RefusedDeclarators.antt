@@ -26,6 +26,7 @@ use Rattle.c_tree.specs.TypedTree as typed
 use Rattle.c_tree.specs.TypedTree.{TypedForm, TypedCore, TypedParts, TypedParameters, TypedDeclared, TypedMemberDeclarators, TypedSpecifierList}
 use Rattle.c_tree.specs.TypedParts.{specified_type, name_of_form}
 use Rattle.c_typing.specs.Adjusting.{Derived, NotDerived, ByStar, ByArray, ByFunction, by_stars, by_parts, derived_by, derived_by_core, derived_by_declared, typedef_place, adjusted_at, adjusted_place}
+use Rattle.c_typing.specs.Declarators
 use Rattle.c_typing.specs.Declarators.{Outermost, Written, Counts, Points, MakesArray, MakesFunction, nearest, is_no_part, PartsMake, StarsMake, is_derived, is_derived_core, outside, FormMakes, CoreMakes, is_derived_declared, taken_types, first_word_place}
 use Rattle.c_typing.specs.Declaring
 use Rattle.c_typing.specs.Declaring.{stars_make, is_element, array_type, array_of, array_makes, counting_parameters, are_types, function_type, function_as, function_makes, last_makes, parts_make, form_makes, core_makes, declared_makes, member_type, member_named, adjusted_with_node, adjusted_shape, adjusted_makes, parameter_makes, parameter_declared, declared_home, parameter}
@@ -44,7 +45,7 @@ use Rattle.c_typing_laws.proofs.JudgedForms.{IsMade, stars-made, array-made, fun
 use Rattle.c_typing_laws.proofs.KeptDeclarators.{array-kept, function-kept, parts-kept, stars-kept, form_makes-kept, parameter-kept}
 use Rattle.c_typing_laws.proofs.KnownStates.{type_with-never, pointer_type-never, there-on}
 use Rattle.c_typing_laws.proofs.Outcomes.{bind-stops, unless-stops, gives-value, gives-state, never-stops, NeverRefuses, gives-never, large-never, next-never, new_node-never}
-use Rattle.c_typing_laws.proofs.ParameterTypes.{ByParameter, parameter-made}
+use Rattle.c_typing_laws.proofs.ParameterTypes.{core_derived, ByParameter, parameter-made}
 use Rattle.c_typing_laws.proofs.TableGrowth.{extended_trans}
 
 -- what is refused in the state r, where judging began in the state s: so much is said over the table up to there
@@ -296,3 +297,224 @@ module _ (p : Place) (t : Rule) where
           → MemberFailsBy c T s.seen.scopes form base name.place (Refused p t)
       by_name T true n g = absurd (none-some (Refused name.place rule.Redeclared) (sym n))
       by_name T false n g = g
+
+-- Parameters: one that is not made a pointer has no array or function part, so that none fails
+
+abbrev is_arrayed : Derived → Bool
+is_arrayed (ByArray at) = true
+is_arrayed (ByFunction at) = true
+is_arrayed derived = false
+
+not_arrayed : (d : Derived) (x : TypeShape) (named : Place) → None ≡ adjusted_at d x named → is_arrayed d ≡ false
+not_arrayed NotDerived x named h = refl
+not_arrayed ByStar x named h = refl
+not_arrayed (ByArray at) x named h = absurd (none-some at h)
+not_arrayed (ByFunction at) x named h = absurd (none-some at h)
+
+stays_arrayed : (parts : TypedParts) (d : Derived) → is_arrayed d ≡ true → is_arrayed (by_parts (erased_parts parts) d) ≡ true
+stays_arrayed typed.NoPart d h = h
+stays_arrayed (typed.AndArray all at words) d h = stays_arrayed all (ByArray at) refl
+stays_arrayed (typed.AndSizedArray all at words e size) d h = stays_arrayed all (ByArray at) refl
+stays_arrayed (typed.AndFunction all at parameters) d h = stays_arrayed all (ByFunction at) refl
+
+parts_arrayed : (parts : TypedParts) (d : Derived) → is_no_part parts ≡ false → is_arrayed (by_parts (erased_parts parts) d) ≡ true
+parts_arrayed typed.NoPart d h = no_true (sym h)
+parts_arrayed (typed.AndArray all at words) d h = stays_arrayed all (ByArray at) refl
+parts_arrayed (typed.AndSizedArray all at words e size) d h = stays_arrayed all (ByArray at) refl
+parts_arrayed (typed.AndFunction all at parameters) d h = stays_arrayed all (ByFunction at) refl
+
+module _ (T : Table) (c : Scopes) (at : Place) (f : Fault) where
+  mutual
+    form_whole : (form : TypedForm) (o : Outermost) (base : TypeId) → is_derived form ≡ false → FormFails T c form o base at f → ⊥
+    form_whole (typed.Form [] core typed.NoPart) o base u h = elim h.2 [ inl q ↦ q | inr q ↦ core_whole core o q.0 u q.2 ]
+    form_whole (typed.Form [] core (typed.AndArray all b words)) o base u h = no_true (sym u)
+    form_whole (typed.Form [] core (typed.AndSizedArray all b words e size)) o base u h = no_true (sym u)
+    form_whole (typed.Form [] core (typed.AndFunction all b parameters)) o base u h = no_true (sym u)
+    form_whole (typed.Form (star ∷ stars) core parts) o base u h = no_true (sym u)
+
+    core_whole : (core : TypedCore) (o : Outermost) (base : TypeId) → is_derived_core core ≡ false → CoreFails T c core o base at f → ⊥
+    core_whole (typed.Names name home) o base u h = h
+    core_whole typed.Unnamed o base u h = h
+    core_whole (typed.Nested b form) o base u h = form_whole form o base u h
+
+  module _ (n : NodeId) where
+    pointed_by : (stars : List TypedStar) (core : TypedCore) (parts : TypedParts) (base : TypeId) (outer : Derived)
+        → is_arrayed (derived_by (erased_form (typed.Form stars core parts)) outer) ≡ false → FormFails T c (typed.Form stars core parts) Written base at f
+        → (b : Bool) → is_derived_core core ≡ b
+        → (is_derived_core core ≡ true → (w : Derived) (v : TypeId) → is_arrayed (derived_by_core (erased_core core) w) ≡ false → CoreFails T c core Written v at f
+        → CoreFails T c core (Points n) v at f)
+        → FormFails T c (typed.Form stars core parts) (Points n) base at f
+    pointed_by stars core parts base outer u h true p inner = (
+      h.0,
+      h.1,
+      elim h.2 [
+        | inl q ↦ inl (subst (λ (o : Outermost). PartsFail T c parts o h.0 at f) same q)
+        | inr q ↦ inr (
+          q.0,
+          subst (λ (o : Outermost). PartsMake T c parts o h.0 q.0) same q.1,
+          inner p (by_parts (erased_parts parts) (by_stars (erased_stars stars) outer)) q.0 u q.2,
+        )
+      ],
+    )
+      where
+        same : outside core Written ≡ outside core (Points n)
+        same = ap (λ (d : Bool). if d then Written else Written) p ∙ sym (ap (λ (d : Bool). if d then Written else Points n) p)
+    pointed_by stars core parts base outer u h false p inner = absurd (by parts refl u h)
+      where
+        some : (ps : TypedParts) → is_no_part ps ≡ false → is_arrayed (derived_by (erased_form (typed.Form stars core ps)) outer) ≡ false → ⊥
+        some ps q v =
+            no_true (sym v ∙ ap is_arrayed (core_derived core (by_parts (erased_parts ps) (by_stars (erased_stars stars) outer)) p)
+            ∙ parts_arrayed ps (by_stars (erased_stars stars) outer) q)
+
+        by : (ps : TypedParts) → ps ≡ parts → is_arrayed (derived_by (erased_form (typed.Form stars core ps)) outer) ≡ false
+            → FormFails T c (typed.Form stars core ps) Written base at f → ⊥
+        by typed.NoPart e v g = elim g.2 [ inl q ↦ q | inr q ↦ core_whole core Written q.0 p q.2 ]
+        by (typed.AndArray all b words) e v g = some (typed.AndArray all b words) refl v
+        by (typed.AndSizedArray all b words d size) e v g = some (typed.AndSizedArray all b words d size) refl v
+        by (typed.AndFunction all b parameters) e v g = some (typed.AndFunction all b parameters) refl v
+
+    mutual
+      form_pointed : (form : TypedForm) (base : TypeId) (outer : Derived) → is_arrayed (derived_by (erased_form form) outer) ≡ false
+          → FormFails T c form Written base at f → FormFails T c form (Points n) base at f
+      form_pointed (typed.Form stars core parts) base outer u h =
+          pointed_by stars core parts base outer u h (is_derived_core core) refl (λ p w v q g. core_pointed core v w q g)
+
+      core_pointed : (core : TypedCore) (base : TypeId) (outer : Derived) → is_arrayed (derived_by_core (erased_core core) outer) ≡ false
+          → CoreFails T c core Written base at f → CoreFails T c core (Points n) base at f
+      core_pointed (typed.Names name home) base outer u h = h
+      core_pointed typed.Unnamed base outer u h = h
+      core_pointed (typed.Nested b form) base outer u h = form_pointed form base outer u h
+
+declared_pointed : (T : Table) (c : Scopes) (at : Place) (f : Fault) (n : NodeId) (d : TypedDeclared) (base : TypeId)
+    → is_arrayed (derived_by_declared (erased_declared d)) ≡ false → DeclaredFails T c d Written base at f → DeclaredFails T c d (Points n) base at f
+declared_pointed T c at f n typed.NotDeclared base u h = h
+declared_pointed T c at f n (typed.DeclaredBy form) base u h = form_pointed T c (name_place (name_of_form form) at) f n form base NotDerived u h
+
+shape-never : (at : Place) (n : NodeId) (base : TypeId) (x : TypeShape) (s : State) → NeverRefuses (adjusted_shape at n base x s)
+unfolding adjusted_shape
+shape-never at n base (Array element count) s = pointer_type-never at n element s
+shape-never at n base (Function parameters result) s = pointer_type-never at n base s
+shape-never at n base Void s = large-never TypeId at Types s
+shape-never at n base (Integer bytes signed) s = large-never TypeId at Types s
+shape-never at n base (Pointer m u) s = large-never TypeId at Types s
+shape-never at n base (Struct m) s = large-never TypeId at Types s
+shape-never at n base (Union m) s = large-never TypeId at Types s
+
+with_node-never : (at : Place) (o : Option Place) (s : State) → NeverRefuses (adjusted_with_node at o s)
+unfolding adjusted_with_node
+with_node-never at None s = gives-never None s
+with_node-never at (Some place) s = next-never (new_node at s) (λ n. pure (Some (made n))) (new_node-never at s) (λ n q. gives-never (Some (made n)) q)
+  where
+    made : NodeId → Adjusted
+    made n = record { node = n; place = place }
+
+named-never : (at : Place) (name : Option Identifier) (h : Home) (u : TypeId) (s : State) → NeverRefuses (parameter_declared at name h u s)
+unfolding parameter_declared
+named-never at (Some name) (home.Parameter n) u s = gives-never u (_)
+named-never at None h u s = gives-never u s
+named-never at (Some name) home.None u s = large-never TypeId at Types s
+named-never at (Some name) (home.Static n) u s = large-never TypeId at Types s
+named-never at (Some name) (home.Local n) u s = large-never TypeId at Types s
+named-never at (Some name) (home.Known n) u s = large-never TypeId at Types s
+
+place_again : (name : Option Identifier) (at : Place) → name_place name (name_place name at) ≡ name_place name at
+place_again None at = refl
+place_again (Some name) at = refl
+
+module _ (p : Place) (t : Rule) (at : Place) (d : TypedDeclared) (base : TypeId) (named : Place) (s r : State) (k : IsKnown s) (b : IsType s.table base) where
+  here : Place
+  here = name_place (declared_identifier d) at
+
+  abbrev FailsPointed : Table → Type 0
+  FailsPointed T = (n : NodeId) × DeclaredFails T s.seen.scopes d (Points n) base (name_place (declared_identifier d) at) (Refused p t)
+
+  declared_here : (o : Outermost) → declared_makes (name_place (declared_identifier d) at) o d base s ≡ Stops (Refused p t) r
+      → IsRefused (λ T. DeclaredFails T s.seen.scopes d o base (name_place (declared_identifier d) at) (Refused p t)) s r
+  declared_here o h =
+      declared-refused p t (name_place (declared_identifier d) at) o d base s r k b
+      (ap (λ (q : Place). declared_makes q o d base s) (place_again (declared_identifier d) at) ∙ h)
+
+  adjusted-refused : (n : NodeId) (derived : Bool) → adjusted_makes (name_place (declared_identifier d) at) n d base derived s ≡ Stops (Refused p t) r → IsRefused FailsPointed s r
+  unfolding adjusted_makes
+  adjusted-refused n true h = let j = declared_here (Points n) h in record { fails = (n, j.fails); extends = j.extends }
+  adjusted-refused n false h = absurd (shape-never (name_place (declared_identifier d) at) n base (shape_at s.table base) s p t r h)
+
+  makes-refused : (adjusted : Option Adjusted) → adjusted_place adjusted ≡ adjusted_at (derived_by_declared (erased_declared d)) (shape_at s.table base) named
+      → parameter_makes (name_place (declared_identifier d) at) adjusted d base s ≡ Stops (Refused p t) r → IsRefused FailsPointed s r
+  unfolding parameter_makes
+  makes-refused None q h =
+      let j = declared_here Written h in
+      let n : NodeId = record { 0 = 0 } in
+      record {
+        fails = (
+          n,
+          declared_pointed r.table s.seen.scopes (name_place (declared_identifier d) at) (Refused p t) n d base
+              (not_arrayed (derived_by_declared (erased_declared d)) (shape_at s.table base) named q) j.fails,
+        );
+        extends = j.extends;
+      }
+  makes-refused (Some adjusted) q h = adjusted-refused adjusted.node (is_derived_declared d) h
+
+pub parameter-refused : (p : Place) (t : Rule) (void : Bool) (at : Place) (d : tree.Declared) (specifiers : tree.Specifiers) (list : TypedParameters) (own : TypedSpecifierList)
+    (one : TypedDeclared) (s r : State) → IsKnown s → IsType s.table (listed own) → erased_declared one ≡ d
+    → parameter void (name_place (declared_identifier one) at) (λ base. adjusted_at (derived_by_declared d) base (typedef_place specifiers)) list (specified own) one s ≡ Stops (Refused p t) r
+    → IsRefused (λ T. ParameterFails T s.seen.scopes void one (listed own) at (Refused p t)) s r
+unfolding parameter
+parameter-refused p t void at d specifiers list own one s r k b e h =
+    let base : TypeId = listed own in
+    let place : Place = name_place (declared_identifier one) at in
+    let P : Table → Type 0 = λ T. ParameterFails T s.seen.scopes void one (listed own) at (Refused p t) in
+    let adjusting : TypeShape → Option Place = λ x. adjusted_at (derived_by_declared d) x (typedef_place specifiers) in
+    let finish : Option Adjusted → TypeId → Judging TypedParameters = λ a u. pure (typed.AndParameter list (specified own) one a u) in
+    let check : TypeId → Judging TypeId = λ u q.
+    unless (first_broken (Tests.parameter_type_tests q.table q.seen.scopes void u place)) (parameter_declared place (declared_identifier one) (declared_home one) u) q in
+    elim (unless-stops (first_broken (Tests.parameter_name_tests (is_here s.seen.scopes (declared_identifier one)) place))
+    (λ q. next (adjusted_with_node place (adjusting (shape_at q.table base)) q) (λ a. λ v. next (parameter_makes place a one base v) (λ u. λ w. next (check u w) (finish a)))) s (Refused p t) r h) [
+      | inl q ↦
+          let c = one_broken (is_here s.seen.scopes (declared_identifier one)) (Refused place rule.Redeclared) (Refused p t) q.0 in
+          refused-here P s r q.1 (subst (λ (v : Bool). ParameterFailsBy v s.table s.seen.scopes void one (listed own) place (Refused p t)) (sym c.0) c.1)
+      | inr q ↦ elim (bind-stops (adjusted_with_node place (adjusting (shape_at s.table base)) s)
+        (λ a. λ v. next (parameter_makes place a one base v) (λ u. λ w. next (check u w) (finish a))) (Refused p t) r q.1) [
+            | inl a ↦ absurd (with_node-never place (adjusting (shape_at s.table base)) s p t r a)
+            | inr a ↦
+                let placed = adjusted-judged place (adjusting (shape_at s.table base)) a.0 s a.1 k a.2 in
+                let there = still_in s.table a.1.table placed.1.goes.extends base b in
+                let same : shape_at a.1.table base ≡ shape_at s.table base = placed.1.goes.extends.shapes base b in
+                let at_place : adjusted_place a.0 ≡ adjusted_at (derived_by_declared (erased_declared one)) (shape_at a.1.table base) (typedef_place specifiers) =
+                placed.0 ∙ (λ i. adjusted_at (derived_by_declared (sym e i)) (sym same i) (typedef_place specifiers)) in
+                refused-after P s a.1 r placed.1.goes.extends
+                (elim (bind-stops (parameter_makes place a.0 one base a.1) (λ u. λ w. next (check u w) (finish a.0)) (Refused p t) r a.3) [
+                  | inl w ↦
+                      let j = makes-refused p t at one base (typedef_place specifiers) a.1 r placed.1.goes.known there a.0 at_place w in
+                      record {
+                        fails = by_name r.table place (is_here s.seen.scopes (declared_identifier one)) q.0
+                            (inl (subst (λ (c : Scopes). (n : NodeId) × DeclaredFails r.table c one (Points n) (listed own) place (Refused p t)) placed.1.scopes j.fails));
+                        extends = j.extends;
+                      }
+                  | inr u ↦
+                      let made = parameter-made place a.0 one base u.0 (typedef_place specifiers) a.1 u.1 placed.1.goes.known there at_place u.2 in
+                      let scopes : u.1.seen.scopes ≡ s.seen.scopes = made.goes.scopes ∙ placed.1.scopes in
+                      elim (bind-stops (check u.0 u.1) (finish a.0) (Refused p t) r u.3) [
+                        | inl w ↦
+                            let c = obeying-refuses (λ m. Tests.parameter_type_tests m.table m.seen.scopes void u.0 place)
+                            (parameter_declared place (declared_identifier one) (declared_home one) u.0) u.1 p t r
+                            (named-never place (declared_identifier one) (declared_home one) u.0 u.1) w in
+                            let here_fails : P u.1.table =
+                            by_name u.1.table place (is_here s.seen.scopes (declared_identifier one)) q.0
+                            (inr (
+                              a.0,
+                              u.0,
+                              subst (λ (c : Scopes). Declarators.ParameterMakes u.1.table c a.0 one (listed own) u.0) scopes made.makes.0,
+                              subst (λ (c : Scopes). Fails (Tests.parameter_type_tests u.1.table c void u.0 place) (Refused p t)) scopes c.0,
+                            )) in
+                            refused-after P a.1 u.1 r made.goes.goes.extends (refused-here P u.1 r c.1 here_fails)
+                        | inr w ↦ never-stops (typed.AndParameter list (specified own) one a.0 w.0) (Refused p t) w.1 r w.3
+                      ]
+                ])
+          ]
+    ]
+  where
+    by_name : (T : Table) (place : Place) (c : Bool) → first_broken (Tests.parameter_name_tests c place) ≡ None
+        → ParameterTypeFails T s.seen.scopes void one (listed own) place (Refused p t) → ParameterFailsBy c T s.seen.scopes void one (listed own) place (Refused p t)
+    by_name T place true n g = absurd (none-some (Refused place rule.Redeclared) (sym n))
+    by_name T place false n g = g

@@ -102,7 +102,7 @@ natural_done : (v : TypedExpr) → is_natural v ≡ true → IsDone v
 natural_done v h = or_done v (is_plain v) refl (natural-plain v h)
 
 -- the value of a part is done, and may be dropped unless the part is a runtime function
-value_done : (e : tree.Expr) (at : Place) (x : Elaborated) (v : TypedExpr) (s0 : Scopes) (s r : State) → IsKnown s → IsElaborated s.table e x s0 s.seen.scopes
+pub value_done : (e : tree.Expr) (at : Place) (x : Elaborated) (v : TypedExpr) (s0 : Scopes) (s r : State) → IsKnown s → IsElaborated s.table e x s0 s.seen.scopes
     → value_of at x s ≡ Gives v r → IsDone v × (runtime_part x ≡ None → is_droppable v ≡ true)
 unfolding value_of
 value_done e at (AsPlace p) v s0 s r k el h =

@@ -33,6 +33,7 @@ pub mod JudgedCalls
 pub mod JudgedTrees
 pub mod JudgedWhole
 pub mod RefusedDeclarators
+pub mod PartsTaken
 pub mod RefusedConstructs
 pub mod TestsAlike
 pub mod InfixAlike

@@ -42,7 +42,7 @@ takes_flat : (T : Table) (x y : TypeShape) → takes T x y ≡ takes T (flat x) 
 takes_flat T (Pointer n t) (Pointer m u) = refl
 takes_flat T x y = refl
 
-fits_flat : (T : Table) (null : Bool) (x y : TypeShape) → has_some (implicit_between T null x y) ≡ has_some (implicit_between T null (flat x) y)
+pub fits_flat : (T : Table) (null : Bool) (x y : TypeShape) → has_some (implicit_between T null x y) ≡ has_some (implicit_between T null (flat x) y)
 fits_flat T null (Integer a s) (Integer b r) = refl
 fits_flat T true x (Pointer n u) = refl
 fits_flat T false (Pointer m t) (Pointer n u) = refl

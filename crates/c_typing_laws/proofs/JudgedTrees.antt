@@ -370,7 +370,7 @@ update-any operator a at b o s r compound ja jb h =
 
 -- What begins goes on, and a list that is `(void)` is
 
-begun_goes : (which : AggregateKind) (name : Option Identifier) (o : Option TypeId) (s m : State) → IsBegun which name s o m → GoesOn s m
+pub begun_goes : (which : AggregateKind) (name : Option Identifier) (o : Option TypeId) (s m : State) → IsBegun which name s o m → GoesOn s m
 begun_goes which name None s m b = b
 begun_goes which name (Some t) s m b = b.2
 

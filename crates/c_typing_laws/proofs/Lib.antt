@@ -34,6 +34,7 @@ pub mod JudgedTrees
 pub mod JudgedWhole
 pub mod RefusedDeclarators
 pub mod PartsTaken
+pub mod RefusedTrees
 pub mod RefusedConstructs
 pub mod TestsAlike
 pub mod InfixAlike

@@ -1,0 +1,211 @@
+-- What judging refuses: the first rule that is broken, by one recursion over the tree, in the order in which its parts are judged.
+use Rattle.std.proofs.Common.{◌≡◌, ◌≢◌, ℕ, ◌+◌, ℤ, Bool, true, false, not, ◌&&◌, ◌||◌, List, [], ◌∷◌, ◌++◌, map, length, Option, Some, None, refl, ap, sym, subst, ◌∙◌, inl, inr, ◌⊎◌, nat_le, nat_lt, if◌then◌else◌}
+use Rattle.std.proofs.lemmas.Option.{none-some}
+use Rattle.cc_base.specs.declared.place.Place.{Place}
+use Rattle.cc_base.specs.declared.number.NodeId.{NodeId}
+use Rattle.cc_base.specs.declared.number.TypeId.{TypeId}
+use Rattle.cc_base.specs.declared.fault.Fault.{Fault}
+use Rattle.cc_base.specs.declared.fault.Fault.TheVariants.{Refused, TooLarge}
+use Rattle.cc_base.specs.declared.fault.Limit.TheVariants.{Types, Globals, Object}
+use Rattle.cc_base.specs.declared.fault.Rule.{Rule}
+use Rattle.cc_base.specs.declared.fault.Rule.TheVariants as rule
+use Rattle.c_types.specs.declared.shape.TypeShape.{TypeShape}
+use Rattle.c_types.specs.declared.shape.TypeShape.TheVariants.{Array}
+use Rattle.c_types.specs.Table.{Table, IsType, shape_at}
+use Rattle.c_types.specs.Calls.{defined_layout, with_members}
+use Rattle.integers.specs.Arithmetic.{int, converted}
+use Rattle.c_typing.specs.Integers.{char}
+use Rattle.c_lexer.specs.declared.number.IntegerType.{IntegerType as ConstantType}
+use Rattle.c_tree.specs.declared.leaf.Identifier.{Identifier}
+use Rattle.c_tree.specs.declared.leaf.StringPiece.{StringPiece}
+use Rattle.c_tree.specs.declared.leaf.Star.{Star}
+use Rattle.c_tree.specs.declared.leaf.Word.{Word}
+use Rattle.c_tree.specs.declared.operator.AggregateKind.{AggregateKind}
+use Rattle.c_tree.specs.declared.operator.Assignment.{Assignment}
+use Rattle.c_tree.specs.declared.operator.Assignment.TheVariants as assignment
+use Rattle.c_tree.specs.declared.operator.MemberOperator.TheVariants as member
+use Rattle.c_tree.specs.declared.operator.Step.TheVariants as step
+use Rattle.c_tree.specs.declared.operator.Unary.{Unary}
+use Rattle.c_tree.specs.declared.operator.Unary.TheVariants as unary
+use Rattle.c_tree.specs.declared.typed_word.TypedStar.{TypedStar}
+use Rattle.c_tree.specs.Erasure.{erased_type_name, erased_declared, erased_specifier_list, erased_members, erased_member_declarators, erased_enumerators, erased_form, erased_core, erased_parts, erased_parameters}
+use Rattle.c_tree.specs.Places.{nowhere, expr_place, pieces_place, specifiers_place}
+use Rattle.c_tree.specs.Tree as tree
+use Rattle.c_tree.specs.TypedTree as typed
+use Rattle.c_tree.specs.TypedTree.{TypedExpr, TypedTypeName, TypedSpecifierList, TypedSpecifier, TypedMembers, TypedMemberDeclarators, TypedEnumerators, TypedForm, TypedCore, TypedParts, TypedParameters, TypedDeclared}
+use Rattle.c_tree.specs.TypedParts.{named_type, type_of, name_of_form}
+use Rattle.runtime_calls.specs.Prototypes.{runtime_of}
+use Rattle.c_typing.specs.declared.declared.Declared.{Declared}
+use Rattle.c_typing.specs.declared.declared.Declared.TheVariants as declared
+use Rattle.c_typing.specs.declared.declared.Tag.{Tag}
+use Rattle.c_typing.specs.declared.declared.Tag.TheVariants as tag
+use Rattle.c_typing.specs.declared.naming.Naming.{Naming}
+use Rattle.c_typing.specs.declared.naming.Naming.TheVariants as naming
+use Rattle.c_typing.specs.Adjusting.{derived_by_declared, typedef_place, adjusted_at}
+use Rattle.c_typing.specs.Assignments
+use Rattle.c_typing.specs.Assignments.{string_type, is_char_array, count_global, literal_size}
+use Rattle.c_typing.specs.Constants.{constant_value}
+use Rattle.c_typing.specs.Declarators.{Counted, Written, counted, counting_word, are_allowed, declarator_names, member_names}
+use Rattle.c_typing.specs.Declaring
+use Rattle.c_typing.specs.Declaring.{declarator_name, declared_name, home_as, stars_with_nodes, size_given, sized_part, sized, declared_makes, member_named, parameter, entered, left}
+use Rattle.c_typing.specs.Extensions.{IsExtended}
+use Rattle.c_typing.specs.Judging.{State, Outcome, Judging, Gives, Stops, next, ◌>>=◌, pure, stop, unless, by_known, new_node, type_with, integer_type}
+use Rattle.c_typing.specs.Operands.{Operand, Value, value, side_of, given, argument_of}
+use Rattle.c_typing.specs.Operations
+use Rattle.c_typing.specs.Operations.{construct, leaf, in_parens, prefix, target, target_of, prefix_of, numbered}
+use Rattle.c_typing.specs.Refusals.{IsElaborated, After, AfterTypeName, AreElaborated, Fails, member_shape_tests, type_size_tests, name_place, BeginsOrStays, one_named, tag_place, is_empty_row, is_void_alone, declared_identifier, DeclaredFails, MemberFails, ParameterFails, Refuses, RefusesArguments, RefusesTypeName, RefusesSpecifiers, RefusesSpecifier, RefusesMembers, RefusesMemberDeclarators, RefusesEnumerators, RefusesDeclarator, RefusesCore, RefusesParts, RefusesParameters, RefusesDeclared}
+use Rattle.c_typing.specs.Rules.{is_compound}
+use Rattle.c_typing.specs.Scopes.{Name, Scopes, here, tag_here, tag_in, name_in, entering, is_complete_at}
+use Rattle.c_typing.specs.Settled.{IsBasic, IsKnown, GoesOn, GoesOnThere, IsAlike, IsSideOf, IsBegun, IsTagThere}
+use Rattle.c_typing.specs.Specifying
+use Rattle.c_typing.specs.Specifying.{specified, listed_type, obeying, typedef_named, tagged_as, tagged_by, new_aggregate, begun_as, begun, is_taken_at_end, is_definable, defined, completed, ended, enum_tag, enumerator, enumerator_with, valued_enumerator, enumeration_begun, enumeration}
+use Rattle.c_typing.specs.Tests
+use Rattle.c_typing.specs.Tests.{Elaborated, AsPlace, AsValue, AsAllocation, Test, first_broken, has_some, is_tag_of, is_taken_tag}
+use Rattle.c_typing.specs.Typing.{IsTypeName, AreSpecifiers, AreListed, AreMembers, AreMemberDeclarators, AreEnumerators, IsForm, IsCore, AreParts, AreParameters, IsDeclared, tag_named_here, enumerating, shape_of_kind}
+use Rattle.c_typing.specs.Walks.{listed, declared_place, judge, judge_arguments, judge_type_name, judge_list, judge_specifier, judge_members, judge_member_declarators, judge_enumerators, judge_form, judge_core, judge_parts, judge_parameters, judge_declared}
+use Rattle.c_typing_laws.proofs.ExtensionLaws.{no_true, still_in, extended_refl}
+use Rattle.c_typing_laws.proofs.InfixAlike.{infix-refuses, pointed-refuses, update-refuses}
+use Rattle.c_typing_laws.proofs.JudgedDeclarators.{IsVoidOf, first_alone, form_name, stars-judged, entered-judged}
+use Rattle.c_typing_laws.proofs.JudgedLists.{list-typed}
+use Rattle.c_typing_laws.proofs.JudgedSpecifiers.{begun-judged, enumeration_begun-judged}
+use Rattle.c_typing_laws.proofs.JudgedTrees.{IsJudgedFree, expr-judged, arguments-judged, type_name-judged, specifiers-judged, specifier-judged, members-judged, row-judged, enumerators-judged, form-judged, core-judged, parts-judged, parameters-judged, declared-judged, begun_goes, void_self}
+use Rattle.c_typing_laws.proofs.KeptTrees.{value-kept, type_name-kept, specifiers-kept, listed-kept, members-kept, member_declarators-kept, enumerators-kept, form-kept, core-kept, parts-kept, parameters-kept, declared-kept}
+use Rattle.c_typing_laws.proofs.KeptTypes.{complete_exact}
+use Rattle.c_typing_laws.proofs.KnownStates.{stays, goes-on, node-there, type_with-never}
+use Rattle.c_typing_laws.proofs.Outcomes.{bind-gives, bind-stops, unless-stops, construct-refuses, gives-value, gives-state, never-gives, never-stops, NeverRefuses, gives-never, large-never, next-never, new_node-never}
+use Rattle.c_typing_laws.proofs.PartsTaken.{IsPartTaken, taken-part, constant-alike, size-alike, AreAlike, alike_last, call-alike}
+use Rattle.c_typing_laws.proofs.RefusedConstructs.{address-refused, size-refused, size_of_type-refused, before-refused, after-refused, index-refused, infix-refused, member-refused, pointed-refused, target-refused, prefix-refused, update-refused, choice-refused, call-refused, name-refused, assign-refused, cast-refused}
+use Rattle.c_typing_laws.proofs.RefusedDeclarators
+use Rattle.c_typing_laws.proofs.RefusedDeclarators.{IsRefused, refused-here, refused-after, obeying-refuses, declared-refused, parameter-refused}
+use Rattle.c_typing_laws.proofs.SidesAlike.{cast-side, assign-side, choice-side}
+use Rattle.c_typing_laws.proofs.SidesTaken.{given-side}
+use Rattle.c_typing_laws.proofs.TableGrowth.{extended_trans}
+use Rattle.c_typing_laws.proofs.TestsAlike.{target-refuses, prefix-refuses, index-refuses}
+use Rattle.c_typing_laws.proofs.ValuesTaken.{part-kept, value-never}
+
+-- Leaves refuse nothing
+
+leaf-never : (at : Place) (made : Judging Elaborated) (s : State) → NeverRefuses (made s) → NeverRefuses (leaf at made s)
+unfolding leaf
+leaf-never at made s h = next-never (made s) (λ x. pure (operand x)) h (λ x q. gives-never (operand x) q)
+  where
+    operand : Elaborated → Operand
+    operand x = record { part = x; place = at; held = 1 }
+
+integer-never : (of : ConstantType) (n : ℕ) (at : Place) (s : State) → NeverRefuses (Operations.integer of n at s)
+unfolding Operations.integer
+integer-never of n at s = leaf-never at (pure (AsValue (_))) s (gives-never (AsValue (_)) s)
+
+character-never : (n : ℤ) (at : Place) (s : State) → NeverRefuses (Operations.character n at s)
+unfolding Operations.character
+character-never n at s = leaf-never at (pure (AsValue (_))) s (gives-never (AsValue (_)) s)
+
+string_type-never : (at : Place) (count : ℕ) (s : State) → NeverRefuses (string_type at count s)
+unfolding string_type
+string_type-never at count s = by (is_char_array s.table count)
+  where
+    by : (b : Bool) → NeverRefuses (if b then type_with at (Array (integer_type char) count) s else Stops (TooLarge at Types) s)
+    by true = type_with-never at (Array (integer_type char) count) s
+    by false = large-never TypeId at Types s
+
+count-never : (at : Place) (bytes : ℕ) (s : State) → NeverRefuses (count_global at bytes s)
+unfolding count_global
+count-never at bytes s = by (nat_le (s.seen.globals + (bytes + 16)) 4194304)
+  where
+    by : (b : Bool) → NeverRefuses (if b then Gives bytes (record s { seen = record s.seen { globals = s.seen.globals + (bytes + 16) } }) else Stops (TooLarge at Globals) s)
+    by true = gives-never bytes (record s { seen = record s.seen { globals = s.seen.globals + (bytes + 16) } })
+    by false = large-never ℕ at Globals s
+
+literal-never : (pieces : List StringPiece) (s : State) → NeverRefuses (Assignments.literal pieces s)
+unfolding Assignments.literal
+literal-never pieces s =
+    let at = pieces_place pieces in
+    leaf-never at (new_node at >>= (λ n. string_type at (literal_size pieces) >>= (λ t. count_global at (literal_size pieces) >>= (λ b. pure (AsPlace (typed.String pieces n t)))))) s
+    (next-never (new_node at s) (λ n. string_type at (literal_size pieces) >>= (λ t. count_global at (literal_size pieces) >>= (λ b. pure (AsPlace (typed.String pieces n t)))))
+    (new_node-never at s)
+    (λ n q. next-never (string_type at (literal_size pieces) q) (λ t. count_global at (literal_size pieces) >>= (λ b. pure (AsPlace (typed.String pieces n t))))
+    (string_type-never at (literal_size pieces) q)
+    (λ t m. next-never (count_global at (literal_size pieces) m) (λ b. pure (AsPlace (typed.String pieces n t))) (count-never at (literal_size pieces) m)
+    (λ b w. gives-never (AsPlace (typed.String pieces n t)) w))))
+
+no_rule : {P : Type 0} (f : Fault) → first_broken [] ≡ Some f → P
+no_rule f h = absurd (none-some f h)
+
+paren-never : (at : Place) (x : Operand) (s : State) → NeverRefuses (Operations.paren at x s)
+unfolding Operations.paren
+paren-never at x s p t r h =
+    no_rule (Refused p t) (construct-refuses (λ q. []) at (x.held ∷ []) (pure (in_parens at x.part)) s p t r (gives-never (in_parens at x.part) s) h).0
+
+comma-never : (a b : Value) (s : State) → NeverRefuses (Assignments.comma a b s)
+unfolding Assignments.comma
+comma-never a b s p t r h =
+    no_rule (Refused p t) (construct-refuses (λ q. []) a.place (a.held ∷ b.held ∷ []) (pure (Assignments.comma_part a.expr (side_of b.expr))) s p t r
+    (gives-never (Assignments.comma_part a.expr (side_of b.expr)) s) h).0
+
+-- One step after another
+
+module _ (p : Place) (t : Rule) where
+  step-refused : {A B : Type 0} (m : Outcome A) (f : A → Judging B) (P : Table → Type 0) (s r : State) → (m ≡ Stops (Refused p t) r → IsRefused P s r)
+      → ((a : A) (q : State) → m ≡ Gives a q → f a q ≡ Stops (Refused p t) r → IsRefused P s r) → next m f ≡ Stops (Refused p t) r → IsRefused P s r
+  step-refused m f P s r first more h = elim (bind-stops m f (Refused p t) r h) [ inl q ↦ first q | inr q ↦ more q.0 q.1 q.2 q.3 ]
+
+  weaker : (P Q : Table → Type 0) (s r : State) → ((T : Table) → IsExtended s.table T → P T → Q T) → IsRefused P s r → IsRefused Q s r
+  weaker P Q s r f h = record { fails = f r.table h.extends h.fails; extends = h.extends }
+
+  abbrev FailsAt : Bool → tree.Expr → State → Table → Type 0
+  FailsAt called e s T = Refuses T called e s.seen.scopes (Refused p t)
+
+  abbrev IsRefusing : Bool → tree.Expr → State → Type 0
+  IsRefusing called e s = (q : State) → judge called e s ≡ Stops (Refused p t) q → IsRefused (FailsAt called e s) s q
+
+  -- an operand is judged first
+  operand-first : {B : Type 0} (called : Bool) (e : tree.Expr) (s r : State) (rest : Operand → Judging B) (P : Table → Type 0) → IsKnown s → IsRefusing called e s
+      → ((T : Table) → IsExtended s.table T → FailsAt called e s T → P T)
+      → ((o : Operand) (m : State) → IsJudgedFree called e o s m → rest o m ≡ Stops (Refused p t) r → IsRefused P m r)
+      → next (judge called e s) rest ≡ Stops (Refused p t) r → IsRefused P s r
+  operand-first called e s r rest P k ih first more h =
+      step-refused (judge called e s) rest P s r (λ q. weaker (FailsAt called e s) P s r first (ih r q))
+      (λ o m q g. let j = expr-judged e called o s m k q in refused-after P s m r j.judged.goes.extends (more o m j g)) h
+
+  -- the value of an operand is taken first
+  value-first : {B : Type 0} (e : tree.Expr) (s r : State) (rest : Value → Judging B) (P : Table → Type 0) → IsKnown s → IsRefusing false e s
+      → ((T : Table) → IsExtended s.table T → FailsAt false e s T → P T)
+      → ((v : Value) (m : State) → IsPartTaken e v s m → rest v m ≡ Stops (Refused p t) r → IsRefused P m r)
+      → next (next (judge false e s) value) rest ≡ Stops (Refused p t) r → IsRefused P s r
+  value-first e s r rest P k ih first more h =
+      step-refused (next (judge false e s) value) rest P s r
+      (λ q. operand-first false e s r value P k ih first (λ o m j g. absurd (value-never o m p t r g)) q)
+      (λ v m q g.
+      let one = bind-gives (judge false e s) value v m q in
+      let taken = taken-part false e one.0 v s one.1 m (expr-judged e false one.0 s one.1 k one.2) one.3 in
+      refused-after P s m r taken.goes.extends (more v m taken g)) h
+
+  -- what is refused of one operand as it stands
+  operand-fails : (e : tree.Expr) (s m r : State) (o : Operand) (called : Bool) (j : IsJudgedFree called e o s m) (Next : Table → Elaborated → Scopes → Type 0) → r ≡ m
+      → Next m.table o.part m.seen.scopes → IsRefused (λ T. After T e s.seen.scopes (Next T)) m r
+  operand-fails e s m r o called j Next same n =
+      refused-here (λ T. After T e s.seen.scopes (Next T)) m r same (o.part, m.seen.scopes, j.judged.part, n)
+
+  value-fails : (e : tree.Expr) (v : Value) (s m r : State) (a : IsPartTaken e v s m) (Next : Table → Elaborated → Scopes → Type 0) → r ≡ m
+      → Next m.table a.x m.seen.scopes → IsRefused (λ T. After T e s.seen.scopes (Next T)) m r
+  value-fails e v s m r a Next same n =
+      refused-here (λ T. After T e s.seen.scopes (Next T)) m r same (a.x, m.seen.scopes, a.part m.table (extended_refl m.table), n)
+
+  second : (F : Table → Type 0) (G : Table → Type 0) (s r : State) → IsRefused G s r → IsRefused (λ T. F T ⊎ G T) s r
+  second F G s r h = record { fails = inr h.fails; extends = h.extends }
+
+  -- what is refused behind one operand
+  behind : (e : tree.Expr) (v : Value) (s m r : State) (a : IsPartTaken e v s m) (Next : Table → Scopes → Type 0) → IsRefused (λ T. Next T m.seen.scopes) m r
+      → IsRefused (λ T. After T e s.seen.scopes (λ x c. Next T c)) m r
+  behind e v s m r a Next h = record { fails = (a.x, m.seen.scopes, a.part r.table h.extends, h.fails); extends = h.extends }
+
+  behind-operand : (e : tree.Expr) (s m r : State) (o : Operand) (called : Bool) (j : IsJudgedFree called e o s m) (Next : Table → Elaborated → Scopes → Type 0)
+      → IsRefused (λ T. Next T o.part m.seen.scopes) m r → IsRefused (λ T. After T e s.seen.scopes (Next T)) m r
+  behind-operand e s m r o called j Next h = record {
+    fails = (o.part, m.seen.scopes, part-kept m.table r.table h.extends j.judged.goes.known.basic e o.part s.seen.scopes m.seen.scopes j.judged.part, h.fails);
+    extends = h.extends;
+  }
+
+  behind-value : (e : tree.Expr) (v : Value) (s m r : State) (a : IsPartTaken e v s m) (Next : Table → Elaborated → Scopes → Type 0)
+      → IsRefused (λ T. Next T a.x m.seen.scopes) m r → IsRefused (λ T. After T e s.seen.scopes (Next T)) m r
+  behind-value e v s m r a Next h = record { fails = (a.x, m.seen.scopes, a.part r.table h.extends, h.fails); extends = h.extends }

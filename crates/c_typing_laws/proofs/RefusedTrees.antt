@@ -43,7 +43,7 @@ use Rattle.c_typing.specs.declared.naming.Naming.{Naming}
 use Rattle.c_typing.specs.declared.naming.Naming.TheVariants as naming
 use Rattle.c_typing.specs.Adjusting.{derived_by_declared, typedef_place, adjusted_at}
 use Rattle.c_typing.specs.Assignments
-use Rattle.c_typing.specs.Assignments.{string_type, is_char_array, count_global, literal_size}
+use Rattle.c_typing.specs.Assignments.{part_type, string_type, is_char_array, count_global, literal_size}
 use Rattle.c_typing.specs.Constants.{constant_value}
 use Rattle.c_typing.specs.Declarators.{Counted, Written, counted, counting_word, are_allowed, declarator_names, member_names}
 use Rattle.c_typing.specs.Declaring
@@ -81,7 +81,10 @@ use Rattle.c_typing_laws.proofs.SidesAlike.{cast-side, assign-side, choice-side}
 use Rattle.c_typing_laws.proofs.SidesTaken.{given-side}
 use Rattle.c_typing_laws.proofs.TableGrowth.{extended_trans}
 use Rattle.c_typing_laws.proofs.TestsAlike.{target-refuses, prefix-refuses, index-refuses}
+use Rattle.c_typing_laws.proofs.ValuesTaken
 use Rattle.c_typing_laws.proofs.ValuesTaken.{part-kept, value-never}
+use Rattle.c_typing_laws.proofs.TypesThere.{part-there}
+use Rattle.c_typing_laws.proofs.JudgedAssignments.{given-gives}
 
 -- Leaves refuse nothing
 
@@ -209,3 +212,135 @@ module _ (p : Place) (t : Rule) where
   behind-value : (e : tree.Expr) (v : Value) (s m r : State) (a : IsPartTaken e v s m) (Next : Table → Elaborated → Scopes → Type 0)
       → IsRefused (λ T. Next T a.x m.seen.scopes) m r → IsRefused (λ T. After T e s.seen.scopes (Next T)) m r
   behind-value e v s m r a Next h = record { fails = (a.x, m.seen.scopes, a.part r.table h.extends, h.fails); extends = h.extends }
+
+  -- what is refused of two operands whose values are taken
+  pair-refused : (a b : tree.Expr) (s r : State) (rest : Value → Value → Judging Operand) (Next : Table → Elaborated → Elaborated → Scopes → Type 0) → IsKnown s
+      → IsRefusing false a s → ((m : State) → IsKnown m → IsRefusing false b m)
+      → ((x y : Value) (m n : State) (A : IsPartTaken a x s m) (B : IsPartTaken b y m n) → rest x y n ≡ Stops (Refused p t) r → (r ≡ n) × Next n.table A.x B.x n.seen.scopes)
+      → next (next (judge false a s) value) (λ x. λ m. next (next (judge false b m) value) (λ y. rest x y)) ≡ Stops (Refused p t) r
+      → IsRefused (λ T. FailsAt false a s T ⊎ After T a s.seen.scopes (λ x c. Refuses T false b c (Refused p t) ⊎ After T b c (λ y d. Next T x y d))) s r
+  pair-refused a b s r rest Next k ia ib last h =
+      let N : Table → Elaborated → Scopes → Type 0 = λ T x c. Refuses T false b c (Refused p t) ⊎ After T b c (λ y d. Next T x y d) in
+      value-first a s r (λ x. λ m. next (next (judge false b m) value) (λ y. rest x y)) (λ T. FailsAt false a s T ⊎ After T a s.seen.scopes (N T)) k ia (λ T ext q. inl q)
+      (λ x m A g. second (FailsAt false a s) (λ T. After T a s.seen.scopes (N T)) m r (behind-value a x s m r A N
+      (value-first b m r (λ y. rest x y) (λ T. N T A.x m.seen.scopes) A.goes.known (ib m A.goes.known) (λ T ext q. inl q)
+      (λ y n B w. let c = last x y m n A B w in
+      second (FailsAt false b m) (λ T. After T b m.seen.scopes (λ z d. Next T A.x z d)) n r (value-fails b y m n r B (λ T z d. Next T A.x z d) c.0 c.1)) g))) h
+
+  -- arguments whose values are taken
+  record AreArgumentsTaken (all : tree.Arguments) (values : List Value) (s r : State) : Type 0 where
+    pub list : List Tests.Argument
+    pub parts : (U : Table) → IsExtended r.table U → AreElaborated U all list s.seen.scopes r.seen.scopes
+    pub alike : (U : Table) → IsExtended r.table U → AreAlike U list values
+    pub goes : GoesOn s r
+
+  arguments-taken : (all : tree.Arguments) (values : List Value) (s r : State) → IsKnown s → judge_arguments all s ≡ Gives values r → AreArgumentsTaken all values s r
+  unfolding judge_arguments
+  arguments-taken tree.NoArgument values s r k h =
+      let same = gives-value [] values s r h in
+      let state = gives-state [] values s r h in
+      subst (λ (v : List Value). AreArgumentsTaken tree.NoArgument v s r) same
+      (subst (AreArgumentsTaken tree.NoArgument [] s) state (record { list = []; parts = λ U ext. (refl, refl); alike = λ U ext. tt; goes = (stays s k).goes }))
+  arguments-taken (tree.AndArgument all e) values s r k h =
+      let one = bind-gives (judge_arguments all s) (λ before. λ m. next (next (judge false e m) value) (λ v. pure (before ++ v ∷ []))) values r h in
+      let before = arguments-taken all one.0 s one.1 k one.2 in
+      let two = bind-gives (next (judge false e one.1) value) (λ v. pure (one.0 ++ v ∷ [])) values r one.3 in
+      let three = bind-gives (judge false e one.1) value two.0 two.1 two.2 in
+      let A = taken-part false e three.0 two.0 one.1 three.1 two.1 (expr-judged e false three.0 one.1 three.1 before.goes.known three.2) three.3 in
+      let same = gives-value (one.0 ++ two.0 ∷ []) values two.1 r two.3 in
+      let state = gives-state (one.0 ++ two.0 ∷ []) values two.1 r two.3 in
+      let last : Tests.Argument = record { part = A.x; place = expr_place e } in
+      subst (λ (v : List Value). AreArgumentsTaken (tree.AndArgument all e) v s r) same
+      (subst (AreArgumentsTaken (tree.AndArgument all e) (one.0 ++ two.0 ∷ []) s) state (record {
+        list = before.list ++ last ∷ [];
+        parts = λ U ext. (
+          before.list,
+          one.1.seen.scopes,
+          A.x,
+          before.parts U (extended_trans one.1.table two.1.table U A.goes.extends ext),
+          A.part U ext,
+          refl,
+        );
+        alike = λ U ext. alike_last U before.list one.0 last two.0 (before.alike U (extended_trans one.1.table two.1.table U A.goes.extends ext)) (A.alike U ext) (sym A.place);
+        goes = goes-on s one.1 two.1 before.goes A.goes;
+      }))
+
+  -- operators on one operand
+  module _ (e : tree.Expr) (at : Place) (o : Operand) (s m r : State) (j : IsJudgedFree false e o s m) where
+    taken-refused : (operator : Unary) (rest : Value → Judging Operand) → next (value o m) rest ≡ Stops (Refused p t) r
+        → ((v : Value) (n : State) (A : IsPartTaken e v s n) → rest v n ≡ Stops (Refused p t) r → (r ≡ n) × Fails (Tests.prefix_tests n.table n.seen.scopes operator at A.x) (Refused p t))
+        → IsRefused (λ T. After T e s.seen.scopes (λ x c. Fails (Tests.prefix_tests T c operator at x) (Refused p t))) m r
+    taken-refused operator rest h last =
+        let P : Table → Type 0 = λ T. After T e s.seen.scopes (λ x c. Fails (Tests.prefix_tests T c operator at x) (Refused p t)) in
+        step-refused (value o m) rest P m r (λ q. absurd (value-never o m p t r q))
+        (λ v n q g.
+        let A = taken-part false e o v s m n j q in
+        let there = (ValuesTaken.value-gives e o v s.seen.scopes m n j.judged.goes.known j.judged.part q).goes in
+        let c = last v n A g in
+        refused-after P m n r there.goes.extends (value-fails e v s n r A (λ T x d. Fails (Tests.prefix_tests T d operator at x) (Refused p t)) c.0 c.1)) h
+
+    arithmetic-refused : (operator : Unary) → Operations.is_arithmetic_prefix operator ≡ true → next (value o m) (prefix_of operator at) ≡ Stops (Refused p t) r
+        → IsRefused (λ T. After T e s.seen.scopes (λ x c. Fails (Tests.prefix_tests T c operator at x) (Refused p t))) m r
+    arithmetic-refused operator a h = taken-refused operator (prefix_of operator at) h
+        (λ v n A g. ((prefix-refused operator at v n p t r g).1, prefix-refuses operator at A.x v n p t r a (A.alike n.table (extended_refl n.table)) g))
+
+    prefix-any : (operator : Unary) → prefix operator at o m ≡ Stops (Refused p t) r
+        → IsRefused (λ T. After T e s.seen.scopes (λ x c. Fails (Tests.prefix_tests T c operator at x) (Refused p t))) m r
+    unfolding prefix target
+    prefix-any unary.Increment h =
+        let c = before-refused step.Increment at o m p t r h in operand-fails e s m r o false j (λ T x d. Fails (Tests.step_tests T d at x) (Refused p t)) c.1 c.0
+    prefix-any unary.Decrement h =
+        let c = before-refused step.Decrement at o m p t r h in operand-fails e s m r o false j (λ T x d. Fails (Tests.step_tests T d at x) (Refused p t)) c.1 c.0
+    prefix-any unary.AddressOf h =
+        let c = address-refused at o m p t r h in operand-fails e s m r o false j (λ T x d. Fails (Tests.address_tests at x) (Refused p t)) c.1 c.0
+    prefix-any unary.SizeOf h =
+        let c = size-refused at o m p t r h in operand-fails e s m r o false j (λ T x d. Fails (Tests.size_tests T d at x) (Refused p t)) c.1 c.0
+    prefix-any unary.Dereference h = taken-refused unary.Dereference (target_of at) h
+        (λ v n A g. ((target-refused at v n p t r g).1, target-refuses at A.x v n p t r (A.alike n.table (extended_refl n.table)) g))
+    prefix-any unary.Plus h = arithmetic-refused unary.Plus refl h
+    prefix-any unary.Minus h = arithmetic-refused unary.Minus refl h
+    prefix-any unary.Complement h = arithmetic-refused unary.Complement refl h
+    prefix-any unary.Not h = arithmetic-refused unary.Not refl h
+
+  -- assignments
+  update-any : (operator : Assignment) (a : tree.Expr) (at : Place) (b : tree.Expr) (s r : State) → is_compound operator ≡ true → IsKnown s → IsRefusing false a s
+      → ((m : State) → IsKnown m → IsRefusing false b m)
+      → next (judge false a s) (λ x. λ m. next (next (judge false b m) value) (λ y. Assignments.update_by operator x at y)) ≡ Stops (Refused p t) r
+      → IsRefused (λ T. FailsAt false a s T ⊎ After T a s.seen.scopes (λ x c. Refuses T false b c (Refused p t)
+      ⊎ After T b c (λ y d. Fails (Tests.assign_tests T d operator at x y) (Refused p t)))) s r
+  update-any operator a at b s r compound k ia ib h =
+      let N : Table → Elaborated → Scopes → Type 0 = λ T x c. Refuses T false b c (Refused p t) ⊎ After T b c (λ y d. Fails (Tests.assign_tests T d operator at x y) (Refused p t)) in
+      operand-first false a s r (λ x. λ m. next (next (judge false b m) value) (λ y. Assignments.update_by operator x at y))
+      (λ T. FailsAt false a s T ⊎ After T a s.seen.scopes (N T)) k ia (λ T ext q. inl q)
+      (λ x m j g. second (FailsAt false a s) (λ T. After T a s.seen.scopes (N T)) m r (behind-operand a s m r x false j N
+      (value-first b m r (λ y. Assignments.update_by operator x at y) (λ T. N T x.part m.seen.scopes) j.judged.goes.known (ib m j.judged.goes.known) (λ T ext q. inl q)
+      (λ y n B w.
+      let c = update-refused operator x at y n p t r w in
+      let f = update-refuses operator x at B.x y n p t r compound (B.alike n.table (extended_refl n.table)) w in
+      second (FailsAt false b m) (λ T. After T b m.seen.scopes (λ z d. Fails (Tests.assign_tests T d operator at x.part z) (Refused p t))) n r
+      (value-fails b y m n r B (λ T z d. Fails (Tests.assign_tests T d operator at x.part z) (Refused p t)) c.1 f)) g))) h
+
+  assign-any : (a : tree.Expr) (at : Place) (b : tree.Expr) (s r : State) → IsKnown s → IsRefusing false a s → ((m : State) → IsKnown m → IsRefusing false b m)
+      → next (judge false a s) (λ x. λ m. next (judge false b m) (λ y. Assignments.assign x at y)) ≡ Stops (Refused p t) r
+      → IsRefused (λ T. FailsAt false a s T ⊎ After T a s.seen.scopes (λ x c. Refuses T false b c (Refused p t)
+      ⊎ After T b c (λ y d. Fails (Tests.assign_tests T d assignment.Assign at x y) (Refused p t)))) s r
+  assign-any a at b s r k ia ib h =
+      let N : Table → Elaborated → Scopes → Type 0 = λ T x c. Refuses T false b c (Refused p t) ⊎ After T b c (λ y d. Fails (Tests.assign_tests T d assignment.Assign at x y) (Refused p t)) in
+      operand-first false a s r (λ x. λ m. next (judge false b m) (λ y. Assignments.assign x at y))
+      (λ T. FailsAt false a s T ⊎ After T a s.seen.scopes (N T)) k ia (λ T ext q. inl q)
+      (λ x m j g. second (FailsAt false a s) (λ T. After T a s.seen.scopes (N T)) m r (behind-operand a s m r x false j N
+      (operand-first false b m r (λ y. Assignments.assign x at y) (λ T. N T x.part m.seen.scopes) j.judged.goes.known (ib m j.judged.goes.known) (λ T ext q. inl q)
+      (λ y n l w.
+      let c = assign-refused x at y n p t r w in
+      let known = l.judged.goes.known in
+      let there = part-there n.table known.basic a x.part s.seen.scopes m.seen.scopes
+      (part-kept m.table n.table l.judged.goes.extends j.judged.goes.known.basic a x.part s.seen.scopes m.seen.scopes j.judged.part) in
+      let got = (given-gives b (part_type x.part) y.place y.part c.0 m.seen.scopes n r known there l.judged.part c.1).1 in
+      let side = given-side b (part_type x.part) y.place y.part c.0 m.seen.scopes n r known l.judged.part c.1 in
+      let fails : Fails (Tests.assign_tests r.table n.seen.scopes assignment.Assign at x.part y.part) (Refused p t) =
+      subst (λ (d : Scopes). Fails (Tests.assign_tests r.table d assignment.Assign at x.part y.part) (Refused p t)) got.scopes
+      (ap first_broken (assign-side r.table r.seen.scopes at x.part y.part c.0 side) ∙ c.2) in
+      record {
+        fails = inr (y.part, n.seen.scopes, part-kept n.table r.table got.goes.extends known.basic b y.part m.seen.scopes n.seen.scopes l.judged.part, fails);
+        extends = got.goes.extends;
+      }) g))) h

@@ -77,7 +77,7 @@ size-never at begin (AsAllocation e) s =
     next-never (value_of begin (AsAllocation e) s) (λ v. by_known (λ q. pure (AsValue (typed.SizeOfValue at v (size_of q.table (type_of v)) size_type)))) (value_of-never begin (AsAllocation e) s)
     (λ v q. gives-never (AsValue (typed.SizeOfValue at v (size_of q.table (type_of v)) size_type)) q)
 
-numbered-never : (at : Place) (o : Option ℕ) (s : State) → NeverRefuses (numbered at o s)
+pub numbered-never : (at : Place) (o : Option ℕ) (s : State) → NeverRefuses (numbered at o s)
 unfolding numbered
 numbered-never at None s = large-never ℕ at Types s
 numbered-never at (Some i) s = by (nat_lt i 4294967296)

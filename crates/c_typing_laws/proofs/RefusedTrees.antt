@@ -27,6 +27,7 @@ use Rattle.c_tree.specs.declared.operator.MemberOperator.TheVariants as member
 use Rattle.c_tree.specs.declared.operator.Step.TheVariants as step
 use Rattle.c_tree.specs.declared.operator.Unary.{Unary}
 use Rattle.c_tree.specs.declared.operator.Unary.TheVariants as unary
+use Rattle.c_tree.specs.declared.typed_word.Home.TheVariants as home
 use Rattle.c_tree.specs.declared.typed_word.TypedStar.{TypedStar}
 use Rattle.c_tree.specs.Erasure.{erased_type_name, erased_declared, erased_specifier_list, erased_members, erased_member_declarators, erased_enumerators, erased_form, erased_core, erased_parts, erased_parameters}
 use Rattle.c_tree.specs.Places.{nowhere, expr_place, pieces_place, specifiers_place}
@@ -45,7 +46,7 @@ use Rattle.c_typing.specs.Adjusting.{derived_by_declared, typedef_place, adjuste
 use Rattle.c_typing.specs.Assignments
 use Rattle.c_typing.specs.Assignments.{part_type, string_type, is_char_array, count_global, literal_size}
 use Rattle.c_typing.specs.Constants.{constant_value}
-use Rattle.c_typing.specs.Declarators.{Counted, Written, counted, counting_word, are_allowed, declarator_names, member_names}
+use Rattle.c_typing.specs.Declarators.{Counted, Written, counted, counting_word, are_allowed, declarator_names, member_names, member_types}
 use Rattle.c_typing.specs.Declaring
 use Rattle.c_typing.specs.Declaring.{declarator_name, declared_name, home_as, stars_with_nodes, size_given, sized_part, sized, declared_makes, member_named, parameter, entered, left}
 use Rattle.c_typing.specs.Extensions.{IsExtended}
@@ -54,27 +55,28 @@ use Rattle.c_typing.specs.Operands.{Operand, Value, value, side_of, given, argum
 use Rattle.c_typing.specs.Operations
 use Rattle.c_typing.specs.Operations.{construct, leaf, in_parens, prefix, target, target_of, prefix_of, numbered}
 use Rattle.c_typing.specs.Refusals.{IsElaborated, After, AfterTypeName, AreElaborated, Fails, member_shape_tests, type_size_tests, name_place, BeginsOrStays, one_named, tag_place, is_empty_row, is_void_alone, declared_identifier, DeclaredFails, MemberFails, ParameterFails, Refuses, RefusesArguments, RefusesTypeName, RefusesSpecifiers, RefusesSpecifier, RefusesMembers, RefusesMemberDeclarators, RefusesEnumerators, RefusesDeclarator, RefusesCore, RefusesParts, RefusesParameters, RefusesDeclared}
-use Rattle.c_typing.specs.Rules.{is_compound}
-use Rattle.c_typing.specs.Scopes.{Name, Scopes, here, tag_here, tag_in, name_in, entering, is_complete_at}
+use Rattle.c_typing.specs.Rules.{is_compound, number_of_shape}
+use Rattle.c_typing.specs.Scopes.{Name, Scopes, here, tag_here, tag_in, name_in, entering, leaving, is_complete_at}
 use Rattle.c_typing.specs.Settled.{IsBasic, IsKnown, GoesOn, GoesOnThere, IsAlike, IsSideOf, IsBegun, IsTagThere}
 use Rattle.c_typing.specs.Specifying
 use Rattle.c_typing.specs.Specifying.{specified, listed_type, obeying, typedef_named, tagged_as, tagged_by, new_aggregate, begun_as, begun, is_taken_at_end, is_definable, defined, completed, ended, enum_tag, enumerator, enumerator_with, valued_enumerator, enumeration_begun, enumeration}
 use Rattle.c_typing.specs.Tests
 use Rattle.c_typing.specs.Tests.{Elaborated, AsPlace, AsValue, AsAllocation, Test, first_broken, has_some, is_tag_of, is_taken_tag}
-use Rattle.c_typing.specs.Typing.{IsTypeName, AreSpecifiers, AreListed, AreMembers, AreMemberDeclarators, AreEnumerators, IsForm, IsCore, AreParts, AreParameters, IsDeclared, tag_named_here, enumerating, shape_of_kind}
+use Rattle.c_typing.specs.Typing.{IsTypeName, AreSpecifiers, AreListed, AreMembers, AreMemberDeclarators, AreEnumerators, IsForm, IsCore, AreParts, AreParameters, IsDeclared, tag_named_here, enumerating, shape_of_kind, tagging, counting_aggregate}
 use Rattle.c_typing.specs.Walks.{listed, declared_place, judge, judge_arguments, judge_type_name, judge_list, judge_specifier, judge_members, judge_member_declarators, judge_enumerators, judge_form, judge_core, judge_parts, judge_parameters, judge_declared}
 use Rattle.c_typing_laws.proofs.ExtensionLaws.{no_true, still_in, extended_refl}
 use Rattle.c_typing_laws.proofs.InfixAlike.{infix-refuses, pointed-refuses, update-refuses}
 use Rattle.c_typing_laws.proofs.JudgedDeclarators.{IsVoidOf, first_alone, form_name, stars-judged, entered-judged}
 use Rattle.c_typing_laws.proofs.JudgedLists.{list-typed}
-use Rattle.c_typing_laws.proofs.JudgedSpecifiers.{begun-judged, enumeration_begun-judged}
+use Rattle.c_typing_laws.proofs.JudgedSpecifiers.{begun-judged, enumeration_begun-judged, named_here-there}
+use Rattle.c_typing_laws.proofs.KeptDeclarators.{begins-kept}
 use Rattle.c_typing_laws.proofs.JudgedTrees.{IsJudgedFree, expr-judged, arguments-judged, type_name-judged, specifiers-judged, specifier-judged, members-judged, row-judged, enumerators-judged, form-judged, core-judged, parts-judged, parameters-judged, declared-judged, begun_goes, void_self}
 use Rattle.c_typing_laws.proofs.KeptTrees.{value-kept, type_name-kept, specifiers-kept, listed-kept, members-kept, member_declarators-kept, enumerators-kept, form-kept, core-kept, parts-kept, parameters-kept, declared-kept}
 use Rattle.c_typing_laws.proofs.KeptTypes.{complete_exact}
 use Rattle.c_typing_laws.proofs.KnownStates.{stays, goes-on, node-there, type_with-never}
 use Rattle.c_typing_laws.proofs.Outcomes.{bind-gives, bind-stops, unless-stops, construct-refuses, gives-value, gives-state, never-gives, never-stops, NeverRefuses, gives-never, large-never, next-never, new_node-never}
 use Rattle.c_typing_laws.proofs.PartsTaken.{IsPartTaken, taken-part, constant-alike, size-alike, AreAlike, alike_last, call-alike}
-use Rattle.c_typing_laws.proofs.RefusedConstructs.{address-refused, size-refused, size_of_type-refused, before-refused, after-refused, index-refused, infix-refused, member-refused, pointed-refused, target-refused, prefix-refused, update-refused, choice-refused, call-refused, name-refused, assign-refused, cast-refused}
+use Rattle.c_typing_laws.proofs.RefusedConstructs.{numbered-never, address-refused, size-refused, size_of_type-refused, before-refused, after-refused, index-refused, infix-refused, member-refused, pointed-refused, target-refused, prefix-refused, update-refused, choice-refused, call-refused, name-refused, assign-refused, cast-refused}
 use Rattle.c_typing_laws.proofs.RefusedDeclarators
 use Rattle.c_typing_laws.proofs.RefusedDeclarators.{IsRefused, refused-here, refused-after, obeying-refuses, declared-refused, parameter-refused}
 use Rattle.c_typing_laws.proofs.SidesAlike.{cast-side, assign-side, choice-side}
@@ -82,7 +84,7 @@ use Rattle.c_typing_laws.proofs.SidesTaken.{given-side}
 use Rattle.c_typing_laws.proofs.TableGrowth.{extended_trans}
 use Rattle.c_typing_laws.proofs.TestsAlike.{target-refuses, prefix-refuses, index-refuses}
 use Rattle.c_typing_laws.proofs.ValuesTaken
-use Rattle.c_typing_laws.proofs.ValuesTaken.{part-kept, value-never}
+use Rattle.c_typing_laws.proofs.ValuesTaken.{given-same, part-kept, value-never}
 use Rattle.c_typing_laws.proofs.TypesThere.{part-there}
 use Rattle.c_typing_laws.proofs.JudgedAssignments.{given-gives}
 
@@ -144,6 +146,155 @@ unfolding Assignments.comma
 comma-never a b s p t r h =
     no_rule (Refused p t) (construct-refuses (λ q. []) a.place (a.held ∷ b.held ∷ []) (pure (Assignments.comma_part a.expr (side_of b.expr))) s p t r
     (gives-never (Assignments.comma_part a.expr (side_of b.expr)) s) h).0
+
+-- Specifiers refuse nothing but what breaks a rule
+
+typedef-never : (name : Identifier) (o : Option Declared) (s : State) → NeverRefuses (typedef_named name o s)
+unfolding typedef_named
+typedef-never name (Some (declared.Typedef u)) s = gives-never (typed.Typedef name u) s
+typedef-never name (Some (declared.Object u home)) s = large-never TypedSpecifier name.place Types s
+typedef-never name (Some (declared.Function u)) s = large-never TypedSpecifier name.place Types s
+typedef-never name (Some (declared.Enumerator n)) s = large-never TypedSpecifier name.place Types s
+typedef-never name None s = large-never TypedSpecifier name.place Types s
+
+new_aggregate-never : (which : AggregateKind) (at : Place) (name : Option Identifier) (s : State) → NeverRefuses (new_aggregate which at name s)
+unfolding new_aggregate
+new_aggregate-never which at name s =
+    next-never (numbered at (Some (length s.seen.scopes.members)) s)
+    (λ number. type_with at (shape_of_kind which number) >>= (λ u. Specifying.in_scopes (λ (c : Scopes). tagging name (tag.Aggregate which u) (counting_aggregate c)) u))
+    (numbered-never at (Some (length s.seen.scopes.members)) s)
+    (λ number q. next-never (type_with at (shape_of_kind which number) q) (λ u. Specifying.in_scopes (λ (c : Scopes). tagging name (tag.Aggregate which u) (counting_aggregate c)) u)
+    (type_with-never at (shape_of_kind which number) q) (λ u m. gives-never u (_)))
+
+tagged_as-never : (which : AggregateKind) (name : Identifier) (o : Option Tag) (s : State) → NeverRefuses (tagged_as which name o s)
+unfolding tagged_as
+tagged_as-never which name None s = new_aggregate-never which name.place (Some name) s
+tagged_as-never which name (Some (tag.Aggregate other u)) s = gives-never u s
+tagged_as-never which name (Some tag.Enumeration) s = large-never TypeId name.place Types s
+
+tagged_by-never : (which : AggregateKind) (at : Place) (name : Identifier) (found : State → Option Tag) (s : State) → NeverRefuses (tagged_by which at name found s)
+unfolding tagged_by
+tagged_by-never which at name found s =
+    next-never (tagged_as which name (found s) s) (λ u. pure (typed.Tagged which at name u)) (tagged_as-never which name (found s) s)
+    (λ u q. gives-never (typed.Tagged which at name u) q)
+
+begun-never : (which : AggregateKind) (at : Place) (name : Option Identifier) (s : State) → NeverRefuses (begun which at name s)
+unfolding begun begun_as
+begun-never which at name s = by (is_taken_tag s.table s.seen.scopes which (tag_named_here s.seen.scopes name)) (tag_named_here s.seen.scopes name)
+  where
+    by : (taken : Bool) (o : Option Tag) → NeverRefuses (begun_as which (tag_place at name) name o taken s)
+    by true o = gives-never None s
+    by false (Some (tag.Aggregate other u)) = gives-never (Some u) s
+    by false (Some tag.Enumeration) = gives-never None s
+    by false None =
+        next-never (new_aggregate which (tag_place at name) name s) (λ u. pure (Some u)) (new_aggregate-never which (tag_place at name) name s) (λ u q. gives-never (Some u) q)
+
+defined-never : (at : Place) (u : TypeId) (members : List TypeId) (s : State) → NeverRefuses (defined at u members s)
+unfolding defined
+defined-never at u members s = by (is_definable s.table u members) (nat_le (defined_layout s.table u members).size 1048576)
+  where
+    by : (may small : Bool) → NeverRefuses (if may
+        then (if small then Gives u (record s { table = with_members s.table u members }) else Stops (TooLarge at Object) s)
+        else Stops (TooLarge at Types) s)
+    by true true = gives-never u (record s { table = with_members s.table u members })
+    by true false = large-never TypeId at Object s
+    by false small = large-never TypeId at Types s
+
+completed-never : (at : Place) (members : TypedMembers) (o : Option TypeId) (s : State) → NeverRefuses (completed at members o s)
+unfolding completed
+completed-never at members None s = large-never TypeId at Types s
+completed-never at members (Some u) s =
+    next-never (defined at u (member_types members) s)
+    (λ v. by_known (λ q. Specifying.in_scopes (Specifying.completing (number_of_shape (shape_at q.table v)) (member_names members)) v))
+    (defined-never at u (member_types members) s) (λ v q. gives-never v (_))
+
+enumerator_with-never : (all : TypedEnumerators) (name : Identifier) (at : Place) (e : TypedExpr) (o : Option ℤ) (s : State) → NeverRefuses (enumerator_with all name at e o s)
+unfolding enumerator_with
+enumerator_with-never all name at e None s = large-never TypedEnumerators name.place Types s
+enumerator_with-never all name at e (Some z) s = gives-never (typed.AndValued all name at e (converted int z)) (_)
+
+sized_part-never : (all : TypedParts) (at : Place) (words : List Word) (v : Value) (o : Option ℕ) (s : State) → NeverRefuses (sized_part all at words v o s)
+unfolding sized_part
+sized_part-never all at words v None s = large-never TypedParts v.place Types s
+sized_part-never all at words v (Some n) s = gives-never (typed.AndSizedArray all at words v.expr n) s
+
+stars-never : (at : Place) (stars : List Star) (s : State) → NeverRefuses (stars_with_nodes at stars s)
+unfolding stars_with_nodes
+stars-never at [] s = gives-never [] s
+stars-never at (star ∷ stars) s =
+    next-never (new_node at s) (λ n. stars_with_nodes at stars >>= (λ rest. pure (starred n ∷ rest))) (new_node-never at s)
+    (λ n q. next-never (stars_with_nodes at stars q) (λ rest. pure (starred n ∷ rest)) (stars-never at stars q) (λ rest m. gives-never (starred n ∷ rest) m))
+  where
+    starred : NodeId → TypedStar
+    starred n = record { star = star; node = n }
+
+home-never : (at : Place) (which : Naming) (s : State) → NeverRefuses (home_as at which s)
+unfolding home_as
+home-never at naming.None s = gives-never home.None s
+home-never at naming.Static s = next-never (new_node at s) (λ n. pure (home.Static n)) (new_node-never at s) (λ n q. gives-never (home.Static n) q)
+home-never at naming.Local s = next-never (new_node at s) (λ n. pure (home.Local n)) (new_node-never at s) (λ n q. gives-never (home.Local n) q)
+home-never at naming.Parameter s = next-never (new_node at s) (λ n. pure (home.Parameter n)) (new_node-never at s) (λ n q. gives-never (home.Parameter n) q)
+home-never at (naming.Known n) s = gives-never (home.Known n) s
+
+left-never : {A : Type 0} (at : Place) (a : A) (s : State) → NeverRefuses (left at a s)
+unfolding left
+left-never {A = A} at a s = by (nat_lt 1 (length s.seen.scopes.levels))
+  where
+    by : (b : Bool) → NeverRefuses (if b then Specifying.in_scopes leaving a s else Stops (TooLarge at Types) s)
+    by true = gives-never a (_)
+    by false = large-never A at Types s
+
+declared_named : (one : TypedDeclared) → declared_name (erased_declared one) ≡ declared_identifier one
+declared_named typed.NotDeclared = refl
+declared_named (typed.DeclaredBy form) = form_name form
+
+-- Where a struct or union begins, or its tag stays
+
+abbrev or_void : Option TypeId → TypeId
+or_void None = record { 0 = 0 }
+or_void (Some u) = u
+
+abbrev IsStarted : AggregateKind → Option Identifier → State → Option TypeId → State → Type 0
+IsStarted which name s None m = (is_taken_tag s.table s.seen.scopes which (tag_named_here s.seen.scopes name) ≡ true) × (m.seen.scopes ≡ s.seen.scopes)
+IsStarted which name s (Some u) m = is_taken_tag s.table s.seen.scopes which (tag_named_here s.seen.scopes name) ≡ false
+
+module _ (which : AggregateKind) (at : Place) (name : Option Identifier) (o : Option TypeId) (s m : State) where
+  started_by : (taken : Bool) (found : Option Tag) → tag_named_here s.seen.scopes name ≡ found → is_taken_tag s.table s.seen.scopes which (tag_named_here s.seen.scopes name) ≡ taken
+      → begun_as which (tag_place at name) name found taken s ≡ Gives o m → IsStarted which name s o m
+  unfolding begun_as
+  started_by true found q u h = given-same (IsStarted which name s) None o s m h (u, refl)
+  started_by false (Some (tag.Aggregate other t)) q u h = given-same (IsStarted which name s) (Some t) o s m h u
+  started_by false (Some tag.Enumeration) q u h = no_true (sym u ∙ ap (is_taken_tag s.table s.seen.scopes which) q)
+  started_by false None q u h =
+      let two = bind-gives (new_aggregate which (tag_place at name) name s) (λ t. pure (Some t)) o m h in
+      given-same (IsStarted which name s) (Some two.0) o two.1 m two.3 u
+
+  started-judged : begun which at name s ≡ Gives o m → IsStarted which name s o m
+  unfolding begun
+  started-judged h =
+      started_by (is_taken_tag s.table s.seen.scopes which (tag_named_here s.seen.scopes name)) (tag_named_here s.seen.scopes name) refl refl h
+
+taken_exact : (T U : Table) (x : IsExtended T U) (b : IsBasic T) (c : Scopes) (which : AggregateKind) (o : Option Tag)
+    → ((what : Tag) → o ≡ Some what → IsTagThere T what) → is_taken_tag U c which o ≡ is_taken_tag T c which o
+taken_exact T U x b c which None h = refl
+taken_exact T U x b c which (Some (tag.Aggregate other u)) h =
+    ap (λ (v : Bool). not (is_tag_of which (tag.Aggregate other u)) || v) (complete_exact T U x b c u (h (tag.Aggregate other u) refl).1.0)
+taken_exact T U x b c which (Some tag.Enumeration) h = refl
+
+module _ (which : AggregateKind) (at : Place) (name : Option Identifier) (s m : State) (k : IsKnown s) where
+  stays_taken : (U : Table) → IsExtended s.table U
+      → is_taken_tag U s.seen.scopes which (tag_named_here s.seen.scopes name) ≡ is_taken_tag s.table s.seen.scopes which (tag_named_here s.seen.scopes name)
+  stays_taken U x = taken_exact s.table U x k.basic s.seen.scopes which (tag_named_here s.seen.scopes name) (λ what q. named_here-there s.table s.seen.scopes name what k.levels q)
+
+  begins_over : (o : Option TypeId) → IsBegun which name s o m → IsStarted which name s o m → (U : Table) → IsExtended m.table U
+      → BeginsOrStays U which name (or_void o) s.seen.scopes m.seen.scopes
+  begins_over None b st U x = inr (stays_taken U (extended_trans s.table m.table U b.extends x) ∙ st.0, st.1)
+  begins_over (Some u) b st U x = inl (begins-kept m.table U x b.2.known.basic (tag_named_here s.seen.scopes name) which name u s.seen.scopes m.seen.scopes b.1 b.0)
+
+  taken_over : (o : Option TypeId) (n : State) → IsStarted which name s o m → IsExtended s.table n.table
+      → is_taken_at_end n o ≡ (is_taken_tag n.table s.seen.scopes which (tag_named_here s.seen.scopes name) || is_complete_at n.table n.seen.scopes (or_void o))
+  taken_over None n st x = sym (ap (λ (v : Bool). v || is_complete_at n.table n.seen.scopes (or_void None)) (stays_taken n.table x ∙ st.0))
+  taken_over (Some u) n st x = sym (ap (λ (v : Bool). v || is_complete_at n.table n.seen.scopes u) (stays_taken n.table x ∙ st))
 
 -- One step after another
 

@@ -56,13 +56,13 @@ use Rattle.c_typing.specs.Operations
 use Rattle.c_typing.specs.Operations.{construct, leaf, in_parens, prefix, target, target_of, prefix_of, numbered}
 use Rattle.c_typing.specs.Refusals.{IsElaborated, After, AfterTypeName, AreElaborated, Fails, member_shape_tests, type_size_tests, name_place, BeginsOrStays, one_named, tag_place, is_empty_row, is_void_alone, declared_identifier, DeclaredFails, MemberFails, ParameterFails, Refuses, RefusesArguments, RefusesTypeName, RefusesSpecifiers, RefusesSpecifier, RefusesMembers, RefusesMemberDeclarators, RefusesEnumerators, RefusesDeclarator, RefusesCore, RefusesParts, RefusesParameters, RefusesDeclared}
 use Rattle.c_typing.specs.Rules.{is_compound, number_of_shape}
-use Rattle.c_typing.specs.Scopes.{Name, Scopes, here, tag_here, tag_in, name_in, entering, leaving, is_complete_at}
+use Rattle.c_typing.specs.Scopes.{Name, Scopes, here, tag_here, tag_in, name_in, declaring, entering, leaving, is_complete_at}
 use Rattle.c_typing.specs.Settled.{IsBasic, IsKnown, GoesOn, GoesOnThere, IsAlike, IsSideOf, IsBegun, IsTagThere}
 use Rattle.c_typing.specs.Specifying
 use Rattle.c_typing.specs.Specifying.{specified, listed_type, obeying, typedef_named, tagged_as, tagged_by, new_aggregate, begun_as, begun, is_taken_at_end, is_definable, defined, completed, ended, enum_tag, enumerator, enumerator_with, valued_enumerator, enumeration_begun, enumeration}
 use Rattle.c_typing.specs.Tests
 use Rattle.c_typing.specs.Tests.{Elaborated, AsPlace, AsValue, AsAllocation, Test, first_broken, has_some, is_tag_of, is_taken_tag}
-use Rattle.c_typing.specs.Typing.{IsTypeName, AreSpecifiers, AreListed, AreMembers, AreMemberDeclarators, AreEnumerators, IsForm, IsCore, AreParts, AreParameters, IsDeclared, tag_named_here, enumerating, shape_of_kind, tagging, counting_aggregate}
+use Rattle.c_typing.specs.Typing.{IsTypeName, AreSpecifiers, AreListed, AreMembers, AreMemberDeclarators, AreEnumerators, IsForm, IsCore, AreParts, AreParameters, IsDeclared, tag_named_here, enumerating, next_value, last_value, shape_of_kind, tagging, counting_aggregate}
 use Rattle.c_typing.specs.Walks.{listed, declared_place, judge, judge_arguments, judge_type_name, judge_list, judge_specifier, judge_members, judge_member_declarators, judge_enumerators, judge_form, judge_core, judge_parts, judge_parameters, judge_declared}
 use Rattle.c_typing_laws.proofs.ExtensionLaws.{no_true, still_in, extended_refl}
 use Rattle.c_typing_laws.proofs.InfixAlike.{infix-refuses, pointed-refuses, update-refuses}
@@ -495,3 +495,89 @@ module _ (p : Place) (t : Rule) where
         fails = inr (y.part, n.seen.scopes, part-kept n.table r.table got.goes.extends known.basic b y.part m.seen.scopes n.seen.scopes l.judged.part, fails);
         extends = got.goes.extends;
       }) g))) h
+
+  -- members' and enumerators' names and values
+  enumerator-fails : (all : TypedEnumerators) (name : Identifier) (s r : State) → enumerator all name s ≡ Stops (Refused p t) r
+      → Fails (Tests.enumerator_tests s.seen.scopes name.bytes name.place) (Refused p t) × (r ≡ s)
+  unfolding enumerator
+  enumerator-fails all name s r h =
+      obeying-refuses (λ q. Tests.enumerator_tests q.seen.scopes name.bytes name.place)
+      (Specifying.in_scopes (declaring name.bytes (declared.Enumerator (next_value (last_value all)))) (typed.AndEnumerator all name (next_value (last_value all)))) s p t r
+      (gives-never (typed.AndEnumerator all name (next_value (last_value all))) (_)) h
+
+  valued-fails : (all : TypedEnumerators) (name : Identifier) (at : Place) (e : tree.Expr) (v : Value) (s n r : State) (A : IsPartTaken e v s n)
+      → valued_enumerator all name at v n ≡ Stops (Refused p t) r
+      → (r ≡ n) × Fails (Tests.enumerator_tests n.seen.scopes name.bytes name.place ++ Tests.constant_tests n.table (expr_place e) A.x) (Refused p t)
+  unfolding valued_enumerator
+  valued-fails all name at e v s n r A h =
+      let c = obeying-refuses (λ q. Tests.enumerator_tests q.seen.scopes name.bytes name.place ++ Tests.constant_tests q.table v.place (AsValue v.expr))
+      (by_known (λ q. enumerator_with all name at v.expr (constant_value q.table v.expr))) n p t r
+      (enumerator_with-never all name at v.expr (constant_value n.table v.expr) n) h in
+      let alike = constant-alike n.table A.x v.expr (A.alike n.table (extended_refl n.table)) in
+      let place = A.place in
+      (c.1, (λ i. first_broken (Tests.enumerator_tests n.seen.scopes name.bytes name.place ++ Tests.broken_at rule.NotConstant (sym place i) (not (alike i)) ∷ [])) ∙ c.0)
+
+  sized-fails : (all : TypedParts) (bracket : Place) (words : List Word) (e : tree.Expr) (v : Value) (s n r : State) (A : IsPartTaken e v s n)
+      → sized all bracket words v n ≡ Stops (Refused p t) r → (r ≡ n) × Fails (Tests.array_size_tests n.table (expr_place e) A.x) (Refused p t)
+  unfolding sized
+  sized-fails all bracket words e v s n r A h =
+      let c = obeying-refuses (λ q. Tests.array_size_tests q.table v.place (AsValue v.expr))
+      (by_known (λ q. sized_part all bracket words v (size_given (constant_value q.table v.expr)))) n p t r
+      (sized_part-never all bracket words v (size_given (constant_value n.table v.expr)) n) h in
+      let alike = size-alike n.table A.x v.expr (A.alike n.table (extended_refl n.table)) in
+      let place = A.place in
+      (c.1, (λ i. first_broken (Tests.broken_at rule.NotConstant (sym place i) (not (alike i)) ∷ [])) ∙ c.0)
+
+  -- specifiers by themselves
+  word-fails : (counts : Counted) (w : Word) (s r : State) → Specifying.word counts w s ≡ Stops (Refused p t) r
+      → Fails (Tests.word_tests w.place (counting_word w.keyword counts)) (Refused p t) × (r ≡ s)
+  unfolding Specifying.word
+  word-fails counts w s r h =
+      obeying-refuses (λ q. Tests.word_tests w.place (counting_word w.keyword counts)) (pure (typed.Keyword w)) s p t r (gives-never (typed.Keyword w) s) h
+
+  typedef-fails : (counts : Counted) (name : Identifier) (s r : State) → Specifying.typedef_name counts name s ≡ Stops (Refused p t) r
+      → Fails (Tests.word_tests name.place (one_named counts)) (Refused p t) × (r ≡ s)
+  unfolding Specifying.typedef_name
+  typedef-fails counts name s r h =
+      obeying-refuses (λ q. Tests.word_tests name.place (one_named counts)) (by_known (λ q. typedef_named name (name_in q.seen.scopes.levels name.bytes))) s p t r
+      (typedef-never name (name_in s.seen.scopes.levels name.bytes) s) h
+
+  tagged-fails : (counts : Counted) (which : AggregateKind) (at : Place) (name : Identifier) (s r : State) → Specifying.tagged counts which at name s ≡ Stops (Refused p t) r
+      → Fails (Tests.tag_tests s.seen.scopes (is_tag_of which) name.bytes name.place ++ Tests.word_tests at (one_named counts)) (Refused p t) × (r ≡ s)
+  unfolding Specifying.tagged
+  tagged-fails counts which at name s r h =
+      obeying-refuses (λ q. Tests.tag_tests q.seen.scopes (is_tag_of which) name.bytes name.place ++ Tests.word_tests at (one_named counts))
+      (tagged_by which at name (λ q. tag_in q.seen.scopes.levels name.bytes)) s p t r (tagged_by-never which at name (λ q. tag_in q.seen.scopes.levels name.bytes) s) h
+
+  enum-fails : (counts : Counted) (at : Place) (name : Identifier) (s r : State) → enum_tag counts at name s ≡ Stops (Refused p t) r
+      → Fails (Tests.enum_tests s.seen.scopes name.bytes name.place ++ Tests.word_tests at (one_named counts)) (Refused p t) × (r ≡ s)
+  unfolding enum_tag
+  enum-fails counts at name s r h =
+      obeying-refuses (λ q. Tests.enum_tests q.seen.scopes name.bytes name.place ++ Tests.word_tests at (one_named counts)) (pure (typed.Enum at name)) s p t r
+      (gives-never (typed.Enum at name) s) h
+
+  enumeration-fails : (counts : Counted) (at : Place) (name : Option Identifier) (brace : Place) (found : Bool) (list : TypedEnumerators) (comma : Bool) (s r : State)
+      → enumeration counts at name brace found list comma s ≡ Stops (Refused p t) r
+      → Fails (Tests.enumeration_tests found (tag_place at name) ++ Tests.word_tests at (one_named counts)) (Refused p t) × (r ≡ s)
+  unfolding enumeration
+  enumeration-fails counts at name brace found list comma s r h =
+      obeying-refuses (λ q. Tests.enumeration_tests found (tag_place at name) ++ Tests.word_tests at (one_named counts)) (pure (typed.Enumeration at name brace list comma)) s p t r
+      (gives-never (typed.Enumeration at name brace list comma) s) h
+
+  ended-fails : (counts : Counted) (which : AggregateKind) (at : Place) (name : Option Identifier) (brace : Place) (o : Option TypeId) (rows : TypedMembers) (s r : State)
+      → ended counts which at name brace o rows s ≡ Stops (Refused p t) r
+      → Fails (Tests.aggregate_tests (is_taken_at_end s o) (tag_place at name) (is_empty_row rows) ++ Tests.word_tests at (one_named counts)) (Refused p t) × (r ≡ s)
+  unfolding ended
+  ended-fails counts which at name brace o rows s r h =
+      obeying-refuses (λ q. Tests.aggregate_tests (is_taken_at_end q o) (tag_place at name) (is_empty_row rows) ++ Tests.word_tests at (one_named counts))
+      (λ q. next (completed (tag_place at name) rows o q) (λ u. pure (typed.Aggregate which at name brace rows u))) s p t r
+      (next-never (completed (tag_place at name) rows o s) (λ u. pure (typed.Aggregate which at name brace rows u)) (completed-never (tag_place at name) rows o s)
+      (λ u q. gives-never (typed.Aggregate which at name brace rows u) q)) h
+
+  begun_enumeration-never : (name : Option Identifier) (s : State) → NeverRefuses (enumeration_begun name s)
+  unfolding enumeration_begun
+  begun_enumeration-never name s = gives-never (has_some (tag_named_here s.seen.scopes name)) (_)
+
+  entered-never : (s : State) → NeverRefuses (entered s)
+  unfolding entered
+  entered-never s = gives-never true (_)

@@ -35,6 +35,7 @@ pub mod JudgedWhole
 pub mod RefusedDeclarators
 pub mod PartsTaken
 pub mod RefusedTrees
+pub mod RefusedWhole
 pub mod RefusedConstructs
 pub mod TestsAlike
 pub mod InfixAlike

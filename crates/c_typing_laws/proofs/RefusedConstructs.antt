@@ -285,7 +285,7 @@ name-refused at_call word s p t r h =
 
 -- what is given to a type refuses nothing, so an assignment and a cast break a rule of their own
 
-given-never : (t : TypeId) (at : Place) (x : Elaborated) (s : State) → NeverRefuses (given t at x s)
+pub given-never : (t : TypeId) (at : Place) (x : Elaborated) (s : State) → NeverRefuses (given t at x s)
 unfolding given given_allocation
 given-never t at (AsAllocation e) s = by (is_pointer_to_complete s.table s.seen.scopes t)
   where

@@ -39,6 +39,7 @@ use Rattle.c_typing.specs.Specifying.{obeying, specified}
 use Rattle.c_typing.specs.Tests
 use Rattle.c_typing.specs.Tests.{Test, has_some, first_broken}
 use Rattle.c_typing.specs.Walks.{listed}
+use Rattle.c_typing_laws.specs.Judged.{IsRefused}
 use Rattle.c_typing_laws.proofs.ExtensionLaws.{no_true, still_in, extended_refl}
 use Rattle.c_typing_laws.proofs.JudgedDeclarators.{adjusted-judged}
 use Rattle.c_typing_laws.proofs.JudgedForms.{IsMade, stars-made, array-made, function-made, parts-made, form-made}
@@ -47,11 +48,6 @@ use Rattle.c_typing_laws.proofs.KnownStates.{type_with-never, pointer_type-never
 use Rattle.c_typing_laws.proofs.Outcomes.{bind-stops, unless-stops, gives-value, gives-state, never-stops, NeverRefuses, gives-never, large-never, next-never, new_node-never}
 use Rattle.c_typing_laws.proofs.ParameterTypes.{core_derived, ByParameter, parameter-made}
 use Rattle.c_typing_laws.proofs.TableGrowth.{extended_trans}
-
--- what is refused in the state r, where judging began in the state s: so much is said over the table up to there
-pub record IsRefused (P : Table → Type 0) (s r : State) : Type 0 where
-  pub fails : P r.table
-  pub extends : IsExtended s.table r.table
 
 pub refused-here : (P : Table → Type 0) (s r : State) → r ≡ s → P s.table → IsRefused P s r
 refused-here P s r same h = subst (IsRefused P s) (sym same) (record { fails = h; extends = extended_refl s.table })

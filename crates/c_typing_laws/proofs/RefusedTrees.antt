@@ -64,6 +64,7 @@ use Rattle.c_typing.specs.Tests
 use Rattle.c_typing.specs.Tests.{Elaborated, AsPlace, AsValue, AsAllocation, Test, first_broken, has_some, is_tag_of, is_taken_tag}
 use Rattle.c_typing.specs.Typing.{IsTypeName, AreSpecifiers, AreListed, AreMembers, AreMemberDeclarators, AreEnumerators, IsForm, IsCore, AreParts, AreParameters, IsDeclared, tag_named_here, enumerating, next_value, last_value, shape_of_kind, tagging, counting_aggregate}
 use Rattle.c_typing.specs.Walks.{listed, declared_place, judge, judge_arguments, judge_type_name, judge_list, judge_specifier, judge_members, judge_member_declarators, judge_enumerators, judge_form, judge_core, judge_parts, judge_parameters, judge_declared}
+use Rattle.c_typing_laws.specs.Judged.{IsRefused}
 use Rattle.c_typing_laws.proofs.ExtensionLaws.{no_true, still_in, extended_refl}
 use Rattle.c_typing_laws.proofs.InfixAlike.{infix-refuses, pointed-refuses, update-refuses}
 use Rattle.c_typing_laws.proofs.JudgedDeclarators.{IsVoidOf, first_alone, form_name, stars-judged, entered-judged}
@@ -78,7 +79,7 @@ use Rattle.c_typing_laws.proofs.Outcomes.{bind-gives, bind-stops, unless-stops, 
 use Rattle.c_typing_laws.proofs.PartsTaken.{IsPartTaken, taken-part, constant-alike, size-alike, AreAlike, alike_last, call-alike}
 use Rattle.c_typing_laws.proofs.RefusedConstructs.{numbered-never, address-refused, size-refused, size_of_type-refused, before-refused, after-refused, index-refused, infix-refused, member-refused, pointed-refused, target-refused, prefix-refused, update-refused, choice-refused, call-refused, name-refused, assign-refused, cast-refused}
 use Rattle.c_typing_laws.proofs.RefusedDeclarators
-use Rattle.c_typing_laws.proofs.RefusedDeclarators.{IsRefused, refused-here, refused-after, obeying-refuses, declared-refused, parameter-refused}
+use Rattle.c_typing_laws.proofs.RefusedDeclarators.{refused-here, refused-after, obeying-refuses, declared-refused, parameter-refused}
 use Rattle.c_typing_laws.proofs.SidesAlike.{cast-side, assign-side, choice-side}
 use Rattle.c_typing_laws.proofs.SidesTaken.{given-side}
 use Rattle.c_typing_laws.proofs.TableGrowth.{extended_trans}
@@ -172,7 +173,7 @@ tagged_as-never which name None s = new_aggregate-never which name.place (Some n
 tagged_as-never which name (Some (tag.Aggregate other u)) s = gives-never u s
 tagged_as-never which name (Some tag.Enumeration) s = large-never TypeId name.place Types s
 
-tagged_by-never : (which : AggregateKind) (at : Place) (name : Identifier) (found : State → Option Tag) (s : State) → NeverRefuses (tagged_by which at name found s)
+pub tagged_by-never : (which : AggregateKind) (at : Place) (name : Identifier) (found : State → Option Tag) (s : State) → NeverRefuses (tagged_by which at name found s)
 unfolding tagged_by
 tagged_by-never which at name found s =
     next-never (tagged_as which name (found s) s) (λ u. pure (typed.Tagged which at name u)) (tagged_as-never which name (found s) s)
@@ -236,7 +237,7 @@ home-never at naming.Local s = next-never (new_node at s) (λ n. pure (home.Loca
 home-never at naming.Parameter s = next-never (new_node at s) (λ n. pure (home.Parameter n)) (new_node-never at s) (λ n q. gives-never (home.Parameter n) q)
 home-never at (naming.Known n) s = gives-never (home.Known n) s
 
-left-never : {A : Type 0} (at : Place) (a : A) (s : State) → NeverRefuses (left at a s)
+pub left-never : {A : Type 0} (at : Place) (a : A) (s : State) → NeverRefuses (left at a s)
 unfolding left
 left-never {A = A} at a s = by (nat_lt 1 (length s.seen.scopes.levels))
   where
@@ -299,21 +300,21 @@ module _ (which : AggregateKind) (at : Place) (name : Option Identifier) (s m : 
 -- One step after another
 
 module _ (p : Place) (t : Rule) where
-  step-refused : {A B : Type 0} (m : Outcome A) (f : A → Judging B) (P : Table → Type 0) (s r : State) → (m ≡ Stops (Refused p t) r → IsRefused P s r)
+  pub step-refused : {A B : Type 0} (m : Outcome A) (f : A → Judging B) (P : Table → Type 0) (s r : State) → (m ≡ Stops (Refused p t) r → IsRefused P s r)
       → ((a : A) (q : State) → m ≡ Gives a q → f a q ≡ Stops (Refused p t) r → IsRefused P s r) → next m f ≡ Stops (Refused p t) r → IsRefused P s r
   step-refused m f P s r first more h = elim (bind-stops m f (Refused p t) r h) [ inl q ↦ first q | inr q ↦ more q.0 q.1 q.2 q.3 ]
 
   weaker : (P Q : Table → Type 0) (s r : State) → ((T : Table) → IsExtended s.table T → P T → Q T) → IsRefused P s r → IsRefused Q s r
   weaker P Q s r f h = record { fails = f r.table h.extends h.fails; extends = h.extends }
 
-  abbrev FailsAt : Bool → tree.Expr → State → Table → Type 0
+  abbrev pub FailsAt : Bool → tree.Expr → State → Table → Type 0
   FailsAt called e s T = Refuses T called e s.seen.scopes (Refused p t)
 
-  abbrev IsRefusing : Bool → tree.Expr → State → Type 0
+  abbrev pub IsRefusing : Bool → tree.Expr → State → Type 0
   IsRefusing called e s = (q : State) → judge called e s ≡ Stops (Refused p t) q → IsRefused (FailsAt called e s) s q
 
   -- an operand is judged first
-  operand-first : {B : Type 0} (called : Bool) (e : tree.Expr) (s r : State) (rest : Operand → Judging B) (P : Table → Type 0) → IsKnown s → IsRefusing called e s
+  pub operand-first : {B : Type 0} (called : Bool) (e : tree.Expr) (s r : State) (rest : Operand → Judging B) (P : Table → Type 0) → IsKnown s → IsRefusing called e s
       → ((T : Table) → IsExtended s.table T → FailsAt called e s T → P T)
       → ((o : Operand) (m : State) → IsJudgedFree called e o s m → rest o m ≡ Stops (Refused p t) r → IsRefused P m r)
       → next (judge called e s) rest ≡ Stops (Refused p t) r → IsRefused P s r
@@ -322,7 +323,7 @@ module _ (p : Place) (t : Rule) where
       (λ o m q g. let j = expr-judged e called o s m k q in refused-after P s m r j.judged.goes.extends (more o m j g)) h
 
   -- the value of an operand is taken first
-  value-first : {B : Type 0} (e : tree.Expr) (s r : State) (rest : Value → Judging B) (P : Table → Type 0) → IsKnown s → IsRefusing false e s
+  pub value-first : {B : Type 0} (e : tree.Expr) (s r : State) (rest : Value → Judging B) (P : Table → Type 0) → IsKnown s → IsRefusing false e s
       → ((T : Table) → IsExtended s.table T → FailsAt false e s T → P T)
       → ((v : Value) (m : State) → IsPartTaken e v s m → rest v m ≡ Stops (Refused p t) r → IsRefused P m r)
       → next (next (judge false e s) value) rest ≡ Stops (Refused p t) r → IsRefused P s r
@@ -340,12 +341,12 @@ module _ (p : Place) (t : Rule) where
   operand-fails e s m r o called j Next same n =
       refused-here (λ T. After T e s.seen.scopes (Next T)) m r same (o.part, m.seen.scopes, j.judged.part, n)
 
-  value-fails : (e : tree.Expr) (v : Value) (s m r : State) (a : IsPartTaken e v s m) (Next : Table → Elaborated → Scopes → Type 0) → r ≡ m
+  pub value-fails : (e : tree.Expr) (v : Value) (s m r : State) (a : IsPartTaken e v s m) (Next : Table → Elaborated → Scopes → Type 0) → r ≡ m
       → Next m.table a.x m.seen.scopes → IsRefused (λ T. After T e s.seen.scopes (Next T)) m r
   value-fails e v s m r a Next same n =
       refused-here (λ T. After T e s.seen.scopes (Next T)) m r same (a.x, m.seen.scopes, a.part m.table (extended_refl m.table), n)
 
-  second : (F : Table → Type 0) (G : Table → Type 0) (s r : State) → IsRefused G s r → IsRefused (λ T. F T ⊎ G T) s r
+  pub second : (F : Table → Type 0) (G : Table → Type 0) (s r : State) → IsRefused G s r → IsRefused (λ T. F T ⊎ G T) s r
   second F G s r h = record { fails = inr h.fails; extends = h.extends }
 
   -- what is refused behind one operand
@@ -353,7 +354,7 @@ module _ (p : Place) (t : Rule) where
       → IsRefused (λ T. After T e s.seen.scopes (λ x c. Next T c)) m r
   behind e v s m r a Next h = record { fails = (a.x, m.seen.scopes, a.part r.table h.extends, h.fails); extends = h.extends }
 
-  behind-operand : (e : tree.Expr) (s m r : State) (o : Operand) (called : Bool) (j : IsJudgedFree called e o s m) (Next : Table → Elaborated → Scopes → Type 0)
+  pub behind-operand : (e : tree.Expr) (s m r : State) (o : Operand) (called : Bool) (j : IsJudgedFree called e o s m) (Next : Table → Elaborated → Scopes → Type 0)
       → IsRefused (λ T. Next T o.part m.seen.scopes) m r → IsRefused (λ T. After T e s.seen.scopes (Next T)) m r
   behind-operand e s m r o called j Next h = record {
     fails = (o.part, m.seen.scopes, part-kept m.table r.table h.extends j.judged.goes.known.basic e o.part s.seen.scopes m.seen.scopes j.judged.part, h.fails);
@@ -578,7 +579,7 @@ module _ (p : Place) (t : Rule) where
   unfolding enumeration_begun
   begun_enumeration-never name s = gives-never (has_some (tag_named_here s.seen.scopes name)) (_)
 
-  entered-never : (s : State) → NeverRefuses (entered s)
+  pub entered-never : (s : State) → NeverRefuses (entered s)
   unfolding entered
   entered-never s = gives-never true (_)
 

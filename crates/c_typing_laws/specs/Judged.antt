@@ -2,9 +2,11 @@
 -- all is known again.
 use Rattle.std.specs.Prelude.{◌≡◌, ◌⊎◌, ℤ, Bool, true, false, Option, Some}
 use Rattle.cc_base.specs.declared.number.TypeId.{TypeId}
+use Rattle.cc_base.specs.declared.fault.Fault.{Fault}
 use Rattle.cc_base.specs.declared.place.Place.{Place}
 use Rattle.c_types.specs.Table.{Table, IsType, IsAggregate}
-use Rattle.c_tree.specs.Erasure.{erased, erased_type_name, erased_specifiers, erased_declarator, erased_parameters}
+use Rattle.c_tree.specs.Erasure.{erased, erased_type_name, erased_specifiers, erased_declarator, erased_form, erased_parameters}
+use Rattle.c_tree.specs.Places.{nowhere}
 use Rattle.c_tree.specs.Tree as tree
 use Rattle.c_tree.specs.TypedTree as typed
 use Rattle.c_tree.specs.TypedTree.{TypedExpr, TypedPlace, TypedTypeName, TypedSpecifiers, TypedDeclarator, TypedForm, TypedParameters}
@@ -13,7 +15,10 @@ use Rattle.c_typing.specs.Checking.{Constant}
 use Rattle.c_typing.specs.Constants.{constant_value}
 use Rattle.c_typing.specs.Conversions.{IsConverted, IsAssigned}
 use Rattle.c_typing.specs.Declarators.{Outermost, FormMakes, is_void_list}
+use Rattle.c_typing.specs.Declaring.{declarator_name}
+use Rattle.c_typing.specs.Extensions.{IsExtended}
 use Rattle.c_typing.specs.Judging.{State}
+use Rattle.c_typing.specs.Refusals.{RefusesDeclarator, FormFails, name_place}
 use Rattle.c_typing.specs.Rules.{IsDroppable}
 use Rattle.c_typing.specs.Scopes.{Scopes, entering, leaving}
 use Rattle.c_typing.specs.Settled.{GoesOn}
@@ -86,3 +91,15 @@ pub record IsCheckedFor (t : TypeId) (at : Place) (init : Bool) (e : tree.Expr) 
 pub record IsConstantJudged (e : tree.Expr) (c : Constant) (s r : State) : Type 0 where
   pub checked : IsChecked e c.expr s r
   pub value : constant_value r.table c.expr ≡ Some c.value
+
+-- what is refused in the state r, where judging began in the state s: so much is said over the table up to there
+pub record IsRefused (P : Table → Type 0) (s r : State) : Type 0 where
+  pub fails : P r.table
+  pub extends : IsExtended s.table r.table
+
+-- a declarator behind specifiers of the type `base` is refused: what stands in it, or the type that it makes, which is named at its name
+abbrev pub DeclaratorFails : Table → Outermost → TypeId → tree.Declarator → Scopes → Fault → Type 0
+DeclaratorFails T outermost base d s f =
+    RefusesDeclarator T d s f
+    ⊎ ((form : TypedForm) × (m : Scopes) × IsForm T form s m × (erased_form form ≡ d)
+    × FormFails T m form outermost base (name_place (declarator_name d) nowhere) f)

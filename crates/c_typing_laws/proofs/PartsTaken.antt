@@ -89,15 +89,15 @@ module _ (T : Table) (e : tree.Expr) (v : TypedExpr) (s s' : Scopes) where
   side_at (AsPlace p) el h m a = elim m [
     | inl q ↦
         let read = subst (λ (w : TypedExpr). IsTyped T w s s') q h in
-        subst (IsSideOf T (AsPlace p)) (sym (ap side_of q) )
+        subst (IsSideOf T (AsPlace p)) (sym (ap side_of q))
         (subst (λ (w : TypedExpr). IsSideOf T (AsPlace p) (AsValue w)) q (value_side p (scalar_flat (shape_at T (place_type p)) read.1).1 a))
     | inr w ↦ elim w [
-          | inl q ↦ subst (IsSideOf T (AsPlace p)) (sym (ap side_of q)) (side-same T (AsPlace p))
-          | inr q ↦
-              let decay = subst (λ (u : TypedExpr). IsTyped T u s s') q.2 h in
-              subst (IsSideOf T (AsPlace p)) (sym (ap side_of q.2))
-              (subst (λ (u : TypedExpr). IsSideOf T (AsPlace p) (AsValue u)) q.2 (value_side p (ap is_aggregate_shape decay.1.array.1) a))
-        ]
+      | inl q ↦ subst (IsSideOf T (AsPlace p)) (sym (ap side_of q)) (side-same T (AsPlace p))
+      | inr q ↦
+          let decay = subst (λ (u : TypedExpr). IsTyped T u s s') q.2 h in
+          subst (IsSideOf T (AsPlace p)) (sym (ap side_of q.2))
+          (subst (λ (u : TypedExpr). IsSideOf T (AsPlace p) (AsValue u)) q.2 (value_side p (ap is_aggregate_shape decay.1.array.1) a))
+    ]
   ]
   side_at (AsValue w) el h m a =
       subst (λ (u : TypedExpr). IsSideOf T (AsValue w) (side_of u)) m (subst (IsSideOf T (AsValue w)) (sym (side-natural w (natural-no_place w el.2))) (side-same T (AsValue w)))

@@ -282,11 +282,11 @@ module _ (p : Place) (t : Rule) where
             let c = one_broken (has_name names (Some name)) (Refused name.place rule.Redeclared) (Refused p t) q.0 in
             refused-here P s r q.1 (named s.table (subst (λ (v : Bool). Q s.table v (Some name)) (sym c.0) c.1))
         | inr q ↦ elim (bind-stops (member_type name.place form base s) finish (Refused p t) r q.1) [
-              | inl w ↦
-                  let j = member_type-refused name.place form base s r k b w in
-                  record { fails = named r.table (by_name r.table (has_name names (Some name)) q.0 j.fails); extends = j.extends }
-              | inr w ↦ never-stops (typed.AndDeclarator all (typed.Declares form w.0)) (Refused p t) w.1 r w.3
-            ]
+          | inl w ↦
+              let j = member_type-refused name.place form base s r k b w in
+              record { fails = named r.table (by_name r.table (has_name names (Some name)) q.0 j.fails); extends = j.extends }
+          | inr w ↦ never-stops (typed.AndDeclarator all (typed.Declares form w.0)) (Refused p t) w.1 r w.3
+        ]
       ]
     where
       by_name : (T : Table) (c : Bool) → first_broken (Tests.member_name_tests c name.place) ≡ None → MemberTypeFails T s.seen.scopes form base name.place (Refused p t)
@@ -470,7 +470,7 @@ parameter-refused p t void at d specifiers list own one s r k b e h =
           let c = one_broken (is_here s.seen.scopes (declared_identifier one)) (Refused place rule.Redeclared) (Refused p t) q.0 in
           refused-here P s r q.1 (subst (λ (v : Bool). ParameterFailsBy v s.table s.seen.scopes void one (listed own) place (Refused p t)) (sym c.0) c.1)
       | inr q ↦ elim (bind-stops (adjusted_with_node place (adjusting (shape_at s.table base)) s)
-        (λ a. λ v. next (parameter_makes place a one base v) (λ u. λ w. next (check u w) (finish a))) (Refused p t) r q.1) [
+          (λ a. λ v. next (parameter_makes place a one base v) (λ u. λ w. next (check u w) (finish a))) (Refused p t) r q.1) [
             | inl a ↦ absurd (with_node-never place (adjusting (shape_at s.table base)) s p t r a)
             | inr a ↦
                 let placed = adjusted-judged place (adjusting (shape_at s.table base)) a.0 s a.1 k a.2 in

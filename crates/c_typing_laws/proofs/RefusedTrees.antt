@@ -694,7 +694,7 @@ module _ (p : Place) (t : Rule) where
         let e = choice-refused z at x y n p t r w in (
           e.1,
           ap first_broken (choice-side n.table at Z.x z.expr A.x (side_of x.expr) B.x (side_of y.expr) (Z.alike n.table whole.extends) (A.side n.table B.goes.extends)
-          (B.side n.table (extended_refl n.table))) ∙ e.0,
+              (B.side n.table (extended_refl n.table))) ∙ e.0,
         )) g))) h
     expr-refuses (tree.Assign assignment.Assign a at b) called s r k h =
         assign-any a at b s r k (λ q g. expr-refuses a false s q k g) (λ m known q g. expr-refuses b false m q known g) h

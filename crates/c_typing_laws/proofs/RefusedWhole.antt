@@ -30,7 +30,7 @@ use Rattle.c_typing.specs.Tests
 use Rattle.c_typing.specs.Tests.{Elaborated, AsPlace, AsValue, AsAllocation, first_broken, fits, is_tag_of, are_one_struct, has_some}
 use Rattle.c_typing.specs.Walks
 use Rattle.c_typing.specs.Walks.{judge, judge_list, judge_alone_list, judge_value, judge_specifiers, judge_specifiers_of, judge_form, judge_parameters, judge_prototype, judge_declarator_at}
-use Rattle.c_typing_laws.specs.Judged.{IsRefused, DeclaratorFails}
+use Rattle.c_typing_laws.specs.Judged.{IsRefused, SpecifiersFail, DeclaratorFails, ValueFails, ConstantFails}
 use Rattle.c_typing_laws.proofs.ExtensionLaws.{no_true, extended_refl, still_in}
 use Rattle.c_typing_laws.proofs.JudgedAssignments.{given-gives}
 use Rattle.c_typing_laws.proofs.JudgedDeclarators.{entered-judged}
@@ -112,12 +112,8 @@ module _ (p : Place) (t : Rule) where
   alone_by (tree.AndSpecifier tree.NoSpecifier specifier) s r k h =
       listed-refuses (tree.AndSpecifier tree.NoSpecifier specifier) (λ T. RefusesAlone T (tree.AndSpecifier tree.NoSpecifier specifier) s.seen.scopes (Refused p t)) s r k (λ T q. q) h
 
-  abbrev FailsBy : Bool → tree.Specifiers → Scopes → Table → Type 0
-  FailsBy true all c T = RefusesAlone T all c (Refused p t)
-  FailsBy false all c T = RefusesSpecifiers T all c (Refused p t)
-
   pub specifiers_of-refuses : (alone : Bool) (all : tree.Specifiers) (s r : State) → IsKnown s → judge_specifiers_of alone all s ≡ Stops (Refused p t) r
-      → IsRefused (FailsBy alone all s.seen.scopes) s r
+      → IsRefused (λ T. SpecifiersFail alone T all s.seen.scopes (Refused p t)) s r
   unfolding judge_specifiers_of
   specifiers_of-refuses false all s r k h = let i = whole-refuses all s r k h in record { fails = i.fails; extends = i.extends }
   specifiers_of-refuses true all s r k h = let i = alone_by all s r k h in record { fails = i.fails; extends = i.extends }
@@ -168,23 +164,17 @@ module _ (p : Place) (t : Rule) where
       value-first p t e s r (λ v. pure v.expr) (λ T. Refuses T false e s.seen.scopes (Refused p t)) k (λ q g. expr-refuses p t e false s q k g) (λ T ext q. q)
       (λ v m A g. never-stops v.expr (Refused p t) m r g) h
 
-  abbrev FailsConstant : tree.Expr → Scopes → Table → Type 0
-  FailsConstant e c T = Refuses T false e c (Refused p t) ⊎ After T e c (λ x m. Fails (Tests.constant_tests T (expr_place e) x) (Refused p t))
-
-  pub constant-refuses : (e : tree.Expr) (s r : State) → IsKnown s → checked_constant e s ≡ Stops (Refused p t) r → IsRefused (FailsConstant e s.seen.scopes) s r
+  pub constant-refuses : (e : tree.Expr) (s r : State) → IsKnown s → checked_constant e s ≡ Stops (Refused p t) r → IsRefused (λ T. ConstantFails T e s.seen.scopes (Refused p t)) s r
   unfolding checked_constant judge_value
   constant-refuses e s r k h =
       let N : Table → Elaborated → Scopes → Type 0 = λ T x c. Fails (Tests.constant_tests T (expr_place e) x) (Refused p t) in
-      value-first p t e s r (λ v. λ m. constant_as v (constant_value m.table v.expr) m) (FailsConstant e s.seen.scopes) k (λ q g. expr-refuses p t e false s q k g) (λ T ext q. inl q)
+      value-first p t e s r (λ v. λ m. constant_as v (constant_value m.table v.expr) m) (λ T. ConstantFails T e s.seen.scopes (Refused p t)) k (λ q g. expr-refuses p t e false s q k g) (λ T ext q. inl q)
       (λ v m A g.
       let c = constant_fails v (constant_value m.table v.expr) m (Refused p t) r g in
       let alike = constant-alike m.table A.x v.expr (A.alike m.table (extended_refl m.table)) in
       let place = A.place in
       let f = (λ i. first_broken (Tests.broken_at rule.NotConstant (sym place i) (not (alike i)) ∷ [])) ∙ c.0 in
       second p t (λ T. Refuses T false e s.seen.scopes (Refused p t)) (λ T. After T e s.seen.scopes (N T)) m r (value-fails p t e v s m r A N c.1 f)) h
-
-  abbrev FailsFor : TypeId → Place → tree.Expr → Scopes → Table → Type 0
-  FailsFor u at e c T = Refuses T false e c (Refused p t) ⊎ After T e c (λ x m. Fails (value_tests T u at x) (Refused p t))
 
   converted-refuses : (u : TypeId) (at : Place) (y : Elaborated) (s r : State) → converted_value u at y s ≡ Stops (Refused p t) r
       → Fails (value_tests s.table u at y) (Refused p t) × (r ≡ s)
@@ -230,9 +220,9 @@ module _ (p : Place) (t : Rule) where
       (side_fails one.1.table u at A.x (side_of one.0.expr) (A.side one.1.table (extended_refl one.1.table)) c.0))) h
 
   pub checked_value-refuses : (u : TypeId) (at : Place) (init : Bool) (e : tree.Expr) (s r : State) → IsKnown s → IsType s.table u
-      → checked_value u at init e s ≡ Stops (Refused p t) r → IsRefused (FailsFor u at e s.seen.scopes) s r
+      → checked_value u at init e s ≡ Stops (Refused p t) r → IsRefused (λ T. ValueFails T u at e s.seen.scopes (Refused p t)) s r
   unfolding checked_value
   checked_value-refuses u at init e s r k b h =
-      operand-first p t false e s r (λ x. λ m. next (taken init u x m) (converted_value u at)) (FailsFor u at e s.seen.scopes) k (λ q g. expr-refuses p t e false s q k g) (λ T ext q. inl q)
+      operand-first p t false e s r (λ x. λ m. next (taken init u x m) (converted_value u at)) (λ T. ValueFails T u at e s.seen.scopes (Refused p t)) k (λ q g. expr-refuses p t e false s q k g) (λ T ext q. inl q)
       (λ o m j g. second p t (λ T. Refuses T false e s.seen.scopes (Refused p t)) (λ T. After T e s.seen.scopes (λ x c. Fails (value_tests T u at x) (Refused p t))) m r
       (taken-refuses init u at e o s m r j (still_in s.table m.table j.judged.goes.extends u b) g)) h

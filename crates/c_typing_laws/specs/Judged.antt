@@ -6,19 +6,20 @@ use Rattle.cc_base.specs.declared.fault.Fault.{Fault}
 use Rattle.cc_base.specs.declared.place.Place.{Place}
 use Rattle.c_types.specs.Table.{Table, IsType, IsAggregate}
 use Rattle.c_tree.specs.Erasure.{erased, erased_type_name, erased_specifiers, erased_declarator, erased_form, erased_parameters}
-use Rattle.c_tree.specs.Places.{nowhere}
+use Rattle.c_tree.specs.Places.{nowhere, expr_place}
 use Rattle.c_tree.specs.Tree as tree
 use Rattle.c_tree.specs.TypedTree as typed
 use Rattle.c_tree.specs.TypedTree.{TypedExpr, TypedPlace, TypedTypeName, TypedSpecifiers, TypedDeclarator, TypedForm, TypedParameters}
 use Rattle.c_tree.specs.TypedParts.{named_type, specified_type, declared_type, place_type}
-use Rattle.c_typing.specs.Checking.{Constant}
+use Rattle.c_typing.specs.Checking.{Constant, value_tests}
 use Rattle.c_typing.specs.Constants.{constant_value}
 use Rattle.c_typing.specs.Conversions.{IsConverted, IsAssigned}
 use Rattle.c_typing.specs.Declarators.{Outermost, FormMakes, is_void_list}
 use Rattle.c_typing.specs.Declaring.{declarator_name}
 use Rattle.c_typing.specs.Extensions.{IsExtended}
 use Rattle.c_typing.specs.Judging.{State}
-use Rattle.c_typing.specs.Refusals.{RefusesDeclarator, FormFails, name_place}
+use Rattle.c_typing.specs.Refusals.{Fails, After, Refuses, RefusesAlone, RefusesSpecifiers, RefusesDeclarator, FormFails, name_place}
+use Rattle.c_typing.specs.Tests.{constant_tests}
 use Rattle.c_typing.specs.Rules.{IsDroppable}
 use Rattle.c_typing.specs.Scopes.{Scopes, entering, leaving}
 use Rattle.c_typing.specs.Settled.{GoesOn}
@@ -103,3 +104,16 @@ DeclaratorFails T outermost base d s f =
     RefusesDeclarator T d s f
     ⊎ ((form : TypedForm) × (m : Scopes) × IsForm T form s m × (erased_form form ≡ d)
     × FormFails T m form outermost base (name_place (declarator_name d) nowhere) f)
+
+-- specifiers are refused: `alone` says that no declarator follows them
+abbrev pub SpecifiersFail : (alone : Bool) → Table → tree.Specifiers → Scopes → Fault → Type 0
+SpecifiersFail true table all s f = RefusesAlone table all s f
+SpecifiersFail false table all s f = RefusesSpecifiers table all s f
+
+-- an expression is refused, or that its value becomes one of the type t at the place
+abbrev pub ValueFails : Table → TypeId → Place → tree.Expr → Scopes → Fault → Type 0
+ValueFails table t at e s f = Refuses table false e s f ⊎ After table e s (λ x m. Fails (value_tests table t at x) f)
+
+-- an expression is refused, or it is no integer constant
+abbrev pub ConstantFails : Table → tree.Expr → Scopes → Fault → Type 0
+ConstantFails table e s f = Refuses table false e s f ⊎ After table e s (λ x m. Fails (constant_tests table (expr_place e) x) f)

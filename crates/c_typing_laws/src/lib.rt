@@ -14,6 +14,7 @@ pub mod lists;
 pub mod members;
 pub mod names;
 pub mod operators;
+pub mod refusals;
 pub mod refused;
 pub mod specifiers;
 

@@ -36,6 +36,7 @@ pub mod RefusedDeclarators
 pub mod PartsTaken
 pub mod RefusedTrees
 pub mod RefusedWhole
+pub mod NodeNumbers
 pub mod RefusedConstructs
 pub mod TestsAlike
 pub mod InfixAlike

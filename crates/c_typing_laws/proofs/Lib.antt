@@ -37,6 +37,7 @@ pub mod PartsTaken
 pub mod RefusedTrees
 pub mod RefusedWhole
 pub mod NodeNumbers
+pub mod NumberedConstructs
 pub mod RefusedConstructs
 pub mod TestsAlike
 pub mod InfixAlike

@@ -47,6 +47,7 @@ use Rattle.c_typing.specs.Judging.{State, Outcome, Judging, Gives, Stops, next, 
 use Rattle.c_typing.specs.Operands.{Operand, Value, value, value_of, place_value, reading_of, raw_value, made_raw, made_for, side_of, given_allocation, given, argument_of}
 use Rattle.c_typing.specs.Operations
 use Rattle.c_typing.specs.Operations.{construct, leaf, in_parens, pointed, pointed_place, target_of, address_behind, address_of_part, address, promoted_operand, operator_on, prefix_of, size_of_part, step_part, step_before, step_after, element, index, arithmetic, equated, compared, pointers, by_kinds, operation, infix_of, numbered, named_member, Found, found, member_of, member, member_at_pointer, pointed_member, int_type}
+use Rattle.c_typing.specs.Refusals
 use Rattle.c_typing.specs.Rules.{Meeting, RightIsNull, LeftIsNull, BothPoint, NeverMeet, meeting, meeting_type, pointer_behind, runtime_named, into_choice}
 use Rattle.c_typing.specs.Scopes.{name_in, place_among}
 use Rattle.c_typing.specs.Shapes.{integer_at, pointee_at, pointee_of_shape, is_function_shape, is_void_shape, is_pointer_shape}
@@ -55,6 +56,7 @@ use Rattle.c_typing.specs.Tests.{Elaborated, AsPlace, AsValue, AsAllocation, Tes
 use Rattle.c_typing_laws.specs.Numbers.{made_by_part, numbers_of}
 use Rattle.c_typing_laws.proofs.ConstructLaws.{two_unbroken, not_false}
 use Rattle.c_typing_laws.proofs.ExtensionLaws.{no_true}
+use Rattle.c_typing_laws.proofs.JudgedCalls.{last_ok, lengths, cut_length}
 use Rattle.c_typing_laws.proofs.NodeNumbers.{Numbers, two-made, made-as, made-to, made-none, node-made, address-made, type_with-node, new_pointer-made}
 use Rattle.c_typing_laws.proofs.Outcomes.{bind-gives, gives-value, gives-state, never-gives, construct-gives, leaf-gives, IsConstruct}
 
@@ -473,3 +475,234 @@ pointed-numbered v at name o a s r n h =
         numbered-same a (AsPlace (typed.MemberAt v.expr at name one.0.member one.0.node (member_at one.1.table t one.0.member))) o.part one.1 r one.3
         (two-made (made_by v.expr) (Address one.0.node ∷ []) a s.seen.node one.1.seen.node n (found-numbered v.place (shape_at s.table t) name one.0 s one.1 one.2))
     by_type None g = never-gives o.part (TooLarge v.place Types) s r g
+
+-- Assignments
+
+moved-node : (at : Place) (t : TypeId) (y : Elaborated) (u : TypeId) (s r : State) → moved at t y s ≡ Gives u r → r.seen.node ≡ s.seen.node
+unfolding count_cells
+moved-node at t (AsPlace q) u s r h = by (nat_le (s.seen.cells + pointers_in s.table t) 65536) h
+  where
+    by : (b : Bool) → (if b then Gives t (record s { seen = record s.seen { cells = s.seen.cells + pointers_in s.table t } }) else Stops (TooLarge at Cells) s) ≡ Gives u r
+        → r.seen.node ≡ s.seen.node
+    by true g = ap (λ (w : State). w.seen.node) (sym (gives-state t u (record s { seen = record s.seen { cells = s.seen.cells + pointers_in s.table t } }) r g))
+    by false g = never-gives u (TooLarge at Cells) s r g
+moved-node at t (AsValue e) u s r h = ap (λ (w : State). w.seen.node) (sym (gives-state t u s r h))
+moved-node at t (AsAllocation e) u s r h = ap (λ (w : State). w.seen.node) (sym (gives-state t u s r h))
+
+assigned-numbered : (T : Table) (at : Place) (p : TypedPlace) (y : Elaborated) (a m b : ℕ) → Numbers (made_by_place p) a m → Numbers (made_by_part y) m b
+    → Numbers (made_by_part (assigned T at p y)) a b
+assigned-numbered T at p (AsPlace q) a m b n k =
+    two-made (made_by_place p ++ made_by_place q) (Copy (place_type p) ∷ []) a b b (two-made (made_by_place p) (made_by_place q) a m b n k) refl
+assigned-numbered T at p (AsValue e) a m b n k =
+    two-made (made_by_place p) (made_by (converted_to T at (place_type p) e)) a m b n
+    (made-as (made_by (converted_to T at (place_type p) e)) (made_by e) m b (converted-made at (place_type p) e (implicit T e (place_type p))) k)
+assigned-numbered T at p (AsAllocation e) a m b n k = two-made (made_by_place p) (made_by e) a m b n k
+
+pub assign-numbered : (x : Operand) (at : Place) (y o : Operand) (a m : ℕ) (s r : State) → IsWhole y.part → Numbers (made_by_part x.part) a m → IsNumbered m y.part s
+    → assign x at y s ≡ Gives o r → IsNumbered a o.part r
+unfolding assign assign_given assign_part
+assign-numbered x at y o a m s r w n k h =
+    let one = bind-gives (given (Assignments.part_type x.part) y.place y.part s)
+    (λ v. construct (λ q. Tests.assign_tests q.table q.seen.scopes assignment.Assign at x.part v) x.place (x.held ∷ y.held ∷ []) (assign_part at x.part v)) o r h in
+    let v : Elaborated = one.0 in
+    let c = construct-gives (λ (q : State). Tests.assign_tests q.table q.seen.scopes assignment.Assign at x.part v) x.place (x.held ∷ y.held ∷ []) (assign_part at x.part v) one.1 o r one.3 in
+    by_part x.part n one.0 one.1 (given-numbered (Assignments.part_type x.part) y.place y.part one.0 m s one.1 w k one.2) c.part
+  where
+    by_part : (z : Elaborated) → Numbers (made_by_part z) a m → (v : Elaborated) (q : State) → IsNumbered m v q → assign_part at z v q ≡ Gives o.part r → IsNumbered a o.part r
+    by_part (AsPlace p) l v q j g =
+        let two = bind-gives (moved at (place_type p) v q) (λ t. by_known (λ k. pure (assigned k.table at p v))) o.part r g in
+        let stays = moved-node at (place_type p) v two.0 q two.1 two.2 in
+        numbered-same a (assigned two.1.table at p v) o.part two.1 r two.3
+        (assigned-numbered two.1.table at p v a m two.1.seen.node l (made-to (made_by_part v) m q.seen.node two.1.seen.node stays j))
+    by_part (AsValue e) l v q j g = never-gives o.part (TooLarge at Types) q r g
+    by_part (AsAllocation e) l v q j g = never-gives o.part (TooLarge at Types) q r g
+
+updated-made : (operator : Assignment) (at : Place) (p : TypedPlace) (e : TypedExpr) (j k : Option IntegerType) → made_by (updated operator at p e j k) ≡ made_by_place p ++ made_by e
+updated-made operator at p e (Some j) (Some k) = ap (λ (l : List Made). made_by_place p ++ l) (to_integer-made at (integer_type (right_type (assigning operator) j k)) e)
+updated-made operator at p e (Some j) None = refl
+updated-made operator at p e None k = refl
+
+pub update-numbered : (operator : Assignment) (x : Operand) (at : Place) (v : Value) (o : Operand) (a m : ℕ) (s r : State) → Numbers (made_by_part x.part) a m
+    → Numbers (made_by v.expr) m s.seen.node → update_by operator x at v s ≡ Gives o r → IsNumbered a o.part r
+unfolding update_by update_part
+update-numbered operator x at v o a m s r n k h =
+    let c = construct-gives (λ (q : State). Tests.assign_tests q.table q.seen.scopes operator at x.part (AsValue v.expr)) x.place (x.held ∷ v.held ∷ []) (update_part operator at x.part v.expr) s o r h in
+    by_part x.part n c.part
+  where
+    by_part : (z : Elaborated) → Numbers (made_by_part z) a m → update_part operator at z v.expr s ≡ Gives o.part r → IsNumbered a o.part r
+    by_part (AsPlace p) l g =
+        part_as a (made_by_place p ++ made_by v.expr) (AsValue (updated operator at p v.expr (integer_at s.table (place_type p)) (integer_at s.table (type_of v.expr)))) o.part s r g
+        (updated-made operator at p v.expr (integer_at s.table (place_type p)) (integer_at s.table (type_of v.expr))) (two-made (made_by_place p) (made_by v.expr) a m s.seen.node l k)
+    by_part (AsValue e) l g = never-gives o.part (TooLarge at Types) s r g
+    by_part (AsAllocation e) l g = never-gives o.part (TooLarge at Types) s r g
+
+-- Choices and commas
+
+abbrev Three : TypedExpr → Elaborated → Elaborated → List Made
+Three c x y = (made_by c ++ made_by_part x) ++ made_by_part y
+
+module _ (c : TypedExpr) (begin at : Place) (o : Elaborated) (a : ℕ) (s r : State) where
+  module _ (x y : TypedExpr) (n : Numbers ((made_by c ++ made_by x) ++ made_by y) a s.seen.node) where
+    pointer_choice-numbered : (t : Option TypeId) → pointer_choice c begin at x y t s ≡ Gives o r → IsNumbered a o r
+    unfolding pointer_choice
+    pointer_choice-numbered None h = never-gives o (TooLarge begin Types) s r h
+    pointer_choice-numbered (Some to) h =
+        let one = bind-gives (new_pointer begin to s)
+        (λ made. by_known (λ q. pure (AsValue (typed.PointerConditional c at (into_choice q.table at made.type x) (into_choice q.table at made.type y) made.node made.type)))) o r h in
+        numbered-same a (AsValue (typed.PointerConditional c at (into_choice one.1.table at one.0.type x) (into_choice one.1.table at one.0.type y) one.0.node one.0.type)) o one.1 r one.3
+        (two-made ((made_by c ++ made_by x) ++ made_by y) (Address one.0.node ∷ []) a s.seen.node one.1.seen.node n (new_pointer-made begin to one.0 s one.1 one.2))
+
+    pointers-numbered : (v : Bool) → choice_of_pointers c begin at x y v s ≡ Gives o r → IsNumbered a o r
+    unfolding choice_of_pointers
+    pointers-numbered true h = numbered-same a (AsValue (typed.Conditional c at x y void_type)) o s r h n
+    pointers-numbered false h = pointer_choice-numbered (meeting_type (meeting s.table x y)) h
+
+    values-numbered : (j k : Option IntegerType) → choice_of_values c begin at x y j k s ≡ Gives o r → IsNumbered a o r
+    unfolding choice_of_values
+    values-numbered (Some j) (Some k) h =
+        let t = integer_type (common j k) in
+        let one = to_integer-made at (integer_type (common j k)) x in
+        let two = to_integer-made at (integer_type (common j k)) y in
+        part_as a ((made_by c ++ made_by x) ++ made_by y) (AsValue (typed.Conditional c at (to_integer at (integer_type (common j k)) x) (to_integer at (integer_type (common j k)) y) (integer_type (common j k)))) o s r h
+        (λ i. (made_by c ++ one i) ++ two i) n
+    values-numbered (Some j) None h = pointers-numbered (is_void_shape (shape_at s.table (type_of x)) && is_void_shape (shape_at s.table (type_of y))) h
+    values-numbered None k h = pointers-numbered (is_void_shape (shape_at s.table (type_of x)) && is_void_shape (shape_at s.table (type_of y))) h
+
+  parts-numbered : (x y : Elaborated) → Numbers (Three c x y) a s.seen.node → choice_of_parts c begin at x y s ≡ Gives o r → IsNumbered a o r
+  unfolding choice_of_parts
+  parts-numbered (AsPlace p) (AsPlace q) n h = numbered-same a (AsPlace (typed.StructConditional c at p q)) o s r h n
+  parts-numbered (AsValue x) (AsValue y) n h = values-numbered x y n (integer_at s.table (type_of x)) (integer_at s.table (type_of y)) h
+  parts-numbered (AsPlace p) (AsValue y) n h = never-gives o (TooLarge begin Types) s r h
+  parts-numbered (AsPlace p) (AsAllocation y) n h = never-gives o (TooLarge begin Types) s r h
+  parts-numbered (AsValue x) (AsPlace q) n h = never-gives o (TooLarge begin Types) s r h
+  parts-numbered (AsValue x) (AsAllocation y) n h = never-gives o (TooLarge begin Types) s r h
+  parts-numbered (AsAllocation x) y n h = never-gives o (TooLarge begin Types) s r h
+
+pub choice-numbered : (c : Value) (at : Place) (x y : Value) (o : Operand) (a : ℕ) (s r : State) → Numbers ((made_by c.expr ++ made_by x.expr) ++ made_by y.expr) a s.seen.node
+    → choice c at x y s ≡ Gives o r → IsNumbered a o.part r
+unfolding choice
+choice-numbered c at x y o a s r n h =
+    let g = construct-gives (λ (q : State). Tests.choice_tests q.table at (AsValue c.expr) (side_of x.expr) (side_of y.expr)) c.place (c.held ∷ x.held ∷ y.held ∷ [])
+    (choice_of_parts c.expr c.place at (side_of x.expr) (side_of y.expr)) s o r h in
+    let one = side-made x.expr in
+    let two = side-made y.expr in
+    parts-numbered c.expr c.place at o.part a s r (side_of x.expr) (side_of y.expr)
+    (made-as (Three c.expr (side_of x.expr) (side_of y.expr)) ((made_by c.expr ++ made_by x.expr) ++ made_by y.expr) a s.seen.node (λ i. (made_by c.expr ++ one i) ++ two i) n) g.part
+
+comma-made : (x : TypedExpr) (y : Elaborated) → made_by_part (comma_part x y) ≡ made_by x ++ made_by_part y
+comma-made x (AsPlace p) = refl
+comma-made x (AsValue e) = refl
+comma-made x (AsAllocation e) = refl
+
+pub comma-numbered : (x y : Value) (o : Operand) (a : ℕ) (s r : State) → Numbers (Both x.expr y.expr) a s.seen.node → comma x y s ≡ Gives o r → IsNumbered a o.part r
+unfolding comma
+comma-numbered x y o a s r n h =
+    let c = construct-gives (λ (q : State). []) x.place (x.held ∷ y.held ∷ []) (pure (comma_part x.expr (side_of y.expr))) s o r h in
+    part_as a (Both x.expr y.expr) (comma_part x.expr (side_of y.expr)) o.part s r c.part
+    (comma-made x.expr (side_of y.expr) ∙ ap (λ (l : List Made). made_by x.expr ++ l) (side-made y.expr)) n
+
+-- Casts and sizes of types
+
+pub cast-numbered : (at : Place) (to : TypedTypeName) (x o : Operand) (a m : ℕ) (s r : State) → IsWhole x.part → Numbers (made_by_type_name to) a m → IsNumbered m x.part s
+    → cast at to x s ≡ Gives o r → IsNumbered a o.part r
+unfolding cast cast_given
+cast-numbered at to x o a m s r w n k h =
+    let one = bind-gives (given (named_type to) x.place x.part s)
+    (λ v. construct (λ q. Tests.cast_tests q.table at v (named_type to)) at (x.held ∷ []) (by_known (λ q. pure (AsValue (cast_part q.table at to v))))) o r h in
+    let c = construct-gives (λ (q : State). Tests.cast_tests q.table at one.0 (named_type to)) at (x.held ∷ []) (by_known (λ q. pure (AsValue (cast_part q.table at to one.0)))) one.1 o r one.3 in
+    let given_there = given-numbered (named_type to) x.place x.part one.0 m s one.1 w k one.2 in
+    numbered-same a (AsValue (cast_part one.1.table at to one.0)) o.part one.1 r c.part
+    (two-made (made_by_type_name to) (made_by (part_expr one.0)) a m one.1.seen.node n
+    (made-as (made_by (part_expr one.0)) (made_by_part one.0) m one.1.seen.node (expr-made one.0) given_there))
+
+pub size_of_type-numbered : (at paren : Place) (name : TypedTypeName) (o : Operand) (a : ℕ) (s r : State) → Numbers (made_by_type_name name) a s.seen.node
+    → size_of_type at paren name s ≡ Gives o r → IsNumbered a o.part r
+unfolding size_of_type
+size_of_type-numbered at paren name o a s r n h =
+    let c = construct-gives (λ (q : State). Refusals.type_size_tests q.table q.seen.scopes at (named_type name)) at []
+    (by_known (λ q. pure (AsValue (typed.SizeOfType at paren name (size_of q.table (named_type name)) Operations.size_type)))) s o r h in
+    numbered-same a (AsValue (typed.SizeOfType at paren name (size_of s.table (named_type name)) Operations.size_type)) o.part s r c.part n
+
+-- Calls
+
+abbrev pub made_by_values : List Value → List Made
+made_by_values [] = []
+made_by_values (v ∷ vs) = made_by v.expr ++ made_by_values vs
+
+pub values_last : (vs : List Value) (v : Value) → made_by_values (vs ++ v ∷ []) ≡ made_by_values vs ++ made_by v.expr
+values_last [] v = append-nil (made_by v.expr)
+values_last (w ∷ vs) v = ap (λ (l : List Made). made_by w.expr ++ l) (values_last vs v) ∙ sym (append_assoc (made_by w.expr) (made_by_values vs) (made_by v.expr))
+
+abbrev made_by_all : List TypedExpr → List Made
+made_by_all [] = []
+made_by_all (e ∷ es) = made_by e ++ made_by_all es
+
+fold-made : (acc : TypedArguments) (es : List TypedExpr) → made_by_arguments (fold typed.AndArgument acc es) ≡ made_by_arguments acc ++ made_by_all es
+fold-made acc [] = sym (append-nil (made_by_arguments acc))
+fold-made acc (e ∷ es) = fold-made (typed.AndArgument acc e) es ∙ append_assoc (made_by_arguments acc) (made_by e) (made_by_all es)
+
+arguments-made : (T : Table) (ts : List TypeId) (vs : List Value) → length ts ≡ length vs → made_by_all (converted_arguments T ts vs) ≡ made_by_values vs
+arguments-made T [] [] l = refl
+arguments-made T [] (v ∷ vs) l = absurd (omega (arith, l))
+arguments-made T (t ∷ ts) [] l = absurd (omega (arith, l))
+arguments-made T (t ∷ ts) (v ∷ vs) l =
+    let one = converted-made v.place t v.expr (implicit T v.expr t) in
+    let rest = arguments-made T ts vs (cut_length t ts v vs l) in
+    λ i. one i ++ rest i
+
+runtime-made : (T : Table) (t : RuntimeType) (v : Value) → made_by (runtime_argument T t v) ≡ made_by v.expr
+runtime-made T prototype.Int v = converted-made v.place int_type v.expr (implicit T v.expr int_type)
+runtime-made T prototype.UnsignedLong v = converted-made v.place Operations.size_type v.expr (implicit T v.expr Operations.size_type)
+runtime-made T prototype.Void v = refl
+runtime-made T prototype.VoidPointer v = refl
+
+runtimes-made : (T : Table) (ts : List RuntimeType) (vs : List Value) → length ts ≡ length vs → made_by_all (runtime_arguments T ts vs) ≡ made_by_values vs
+runtimes-made T [] [] l = refl
+runtimes-made T [] (v ∷ vs) l = absurd (omega (arith, l))
+runtimes-made T (t ∷ ts) [] l = absurd (omega (arith, l))
+runtimes-made T (t ∷ ts) (v ∷ vs) l =
+    let one = runtime-made T t v in
+    let rest = runtimes-made T ts vs (cut_length t ts v vs l) in
+    λ i. one i ++ rest i
+
+module _ (T : Table) (f : TypedExpr) (at : Place) (vs : List Value) where
+  broken_call : {P : Type 0} → first_broken (broken_at rule.BadCall at true ∷ []) ≡ None → P
+  broken_call h = absurd (none-some (Refused at rule.BadCall) (sym h))
+
+  shape-made : (y : TypeShape) → first_broken (Tests.call_tests_of T y at (map argument_of vs)) ≡ None → made_by_part (called_shape T f at vs y) ≡ made_by f ++ made_by_values vs
+  shape-made (Function ps r) u =
+      let last : Test = broken_at rule.BadCall at (not (length ps == length (map argument_of vs))) in
+      let alike = lengths ps vs (last_ok (Tests.argument_tests T ps (map argument_of vs)) last u) in
+      ap (λ (l : List Made). made_by f ++ l) (fold-made typed.NoArgument (converted_arguments T ps vs) ∙ arguments-made T ps vs alike)
+  shape-made Void u = broken_call u
+  shape-made (Integer bytes signed) u = broken_call u
+  shape-made (Pointer w v) u = broken_call u
+  shape-made (Array v w) u = broken_call u
+  shape-made (Struct w) u = broken_call u
+  shape-made (Union w) u = broken_call u
+
+  result-made : (function : Runtime) (arguments : TypedArguments) (t : RuntimeType) → made_by_part (runtime_call function f at arguments t) ≡ made_by f ++ made_by_arguments arguments
+  result-made function arguments prototype.Int = refl
+  result-made function arguments prototype.VoidPointer = refl
+  result-made function arguments prototype.Void = refl
+  result-made function arguments prototype.UnsignedLong = refl
+
+  call-made : (o : Option Runtime) → first_broken (Tests.call_tests_by o T at (shape_at T (type_of f)) (map argument_of vs)) ≡ None
+      → made_by_part (called T f at vs o) ≡ made_by f ++ made_by_values vs
+  call-made None u = shape-made (Tests.pointed_shape T (shape_at T (type_of f))) u
+  call-made (Some function) u =
+      let ps : List RuntimeType = (prototype_of function).parameters in
+      let last : Test = broken_at rule.BadCall at (not (length ps == length (map argument_of vs))) in
+      let alike = lengths ps vs (last_ok (Tests.runtime_argument_tests T ps (map argument_of vs)) last u) in
+      result-made function (arguments_as (runtime_arguments T (prototype_of function).parameters vs)) (prototype_of function).result
+      ∙ ap (λ (l : List Made). made_by f ++ l) (fold-made typed.NoArgument (runtime_arguments T (prototype_of function).parameters vs)
+      ∙ runtimes-made T (prototype_of function).parameters vs alike)
+
+pub call-numbered : (f : Value) (at : Place) (values : List Value) (o : Operand) (a m : ℕ) (s r : State) → Numbers (made_by f.expr) a m
+    → Numbers (made_by_values values) m s.seen.node → call f at values s ≡ Gives o r → IsNumbered a o.part r
+unfolding call
+call-numbered f at values o a m s r n k h =
+    let c = construct-gives (λ (q : State). Tests.call_tests q.table at (AsValue f.expr) (map argument_of values)) f.place (max f.held (arguments_held 1 values) ∷ [])
+    (by_known (λ q. pure (called q.table f.expr at values (runtime_named f.expr)))) s o r h in
+    part_as a (made_by f.expr ++ made_by_values values) (called s.table f.expr at values (runtime_named f.expr)) o.part s r c.part
+    (call-made s.table f.expr at values (runtime_named f.expr) c.unbroken) (two-made (made_by f.expr) (made_by_values values) a m s.seen.node n k)

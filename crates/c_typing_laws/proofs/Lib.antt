@@ -38,6 +38,7 @@ pub mod RefusedTrees
 pub mod RefusedWhole
 pub mod NodeNumbers
 pub mod NumberedConstructs
+pub mod NodesKept
 pub mod RefusedConstructs
 pub mod TestsAlike
 pub mod InfixAlike

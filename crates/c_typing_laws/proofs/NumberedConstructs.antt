@@ -213,7 +213,7 @@ literal-numbered pieces o s r h =
     let stays = counted-node at size four.0 three.1 four.1 four.2 ∙ string-node at size three.0 two.1 three.1 three.2 in
     numbered-same s.seen.node (AsPlace (typed.String pieces two.0 three.0)) o.part four.1 r four.3 (node.0, stays ∙ node.1)
 
-number-node : (at : Place) (o : Option ℕ) (i : ℕ) (s r : State) → numbered at o s ≡ Gives i r → r.seen.node ≡ s.seen.node
+pub number-node : (at : Place) (o : Option ℕ) (i : ℕ) (s r : State) → numbered at o s ≡ Gives i r → r.seen.node ≡ s.seen.node
 unfolding numbered
 number-node at None i s r h = never-gives i (TooLarge at Types) s r h
 number-node at (Some n) i s r h = by (nat_lt n 4294967296) h

@@ -39,6 +39,7 @@ pub mod RefusedWhole
 pub mod NodeNumbers
 pub mod NumberedConstructs
 pub mod NodesKept
+pub mod NumberedTrees
 pub mod RefusedConstructs
 pub mod TestsAlike
 pub mod InfixAlike

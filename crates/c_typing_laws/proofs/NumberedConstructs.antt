@@ -64,7 +64,7 @@ use Rattle.c_typing_laws.proofs.Outcomes.{bind-gives, gives-value, gives-state, 
 abbrev pub IsNumbered : ℕ → Elaborated → State → Type 0
 IsNumbered a x r = Numbers (made_by_part x) a r.seen.node
 
-numbered-same : (a : ℕ) (x y : Elaborated) (s r : State) → Gives x s ≡ Gives y r → IsNumbered a x s → IsNumbered a y r
+pub numbered-same : (a : ℕ) (x y : Elaborated) (s r : State) → Gives x s ≡ Gives y r → IsNumbered a x s → IsNumbered a y r
 numbered-same a x y s r h n =
     subst (λ (q : State). IsNumbered a y q) (gives-state x y s r h) (subst (λ (z : Elaborated). IsNumbered a z s) (gives-value x y s r h) n)
 

@@ -40,6 +40,7 @@ pub mod NodeNumbers
 pub mod NumberedConstructs
 pub mod NodesKept
 pub mod NumberedTrees
+pub mod NumberedWhole
 pub mod RefusedConstructs
 pub mod TestsAlike
 pub mod InfixAlike

@@ -264,7 +264,7 @@ typedef_name-keeps counts name s n e =
     obeying-keeps (λ q. Tests.word_tests name.place (one_named counts)) (by_known (λ q. typedef_named name (name_in q.seen.scopes.levels name.bytes))) s n
     (typedef-keeps name (name_in s.seen.scopes.levels name.bytes) s n e)
 
-tagged_by-keeps : (which : AggregateKind) (at : Place) (name : Identifier) (found : State → Option Tag) (s : State) (n : ℕ) → s.seen.node ≡ n
+pub tagged_by-keeps : (which : AggregateKind) (at : Place) (name : Identifier) (found : State → Option Tag) (s : State) (n : ℕ) → s.seen.node ≡ n
     → Keeps (tagged_by which at name found s) n
 unfolding tagged_by
 tagged_by-keeps which at name found s n e =

@@ -68,7 +68,7 @@ pub numbered-same : (a : ℕ) (x y : Elaborated) (s r : State) → Gives x s ≡
 numbered-same a x y s r h n =
     subst (λ (q : State). IsNumbered a y q) (gives-state x y s r h) (subst (λ (z : Elaborated). IsNumbered a z s) (gives-value x y s r h) n)
 
-part_as : (a : ℕ) (xs : List Made) (x y : Elaborated) (s r : State) → Gives x s ≡ Gives y r → made_by_part x ≡ xs → Numbers xs a s.seen.node → IsNumbered a y r
+pub part_as : (a : ℕ) (xs : List Made) (x y : Elaborated) (s r : State) → Gives x s ≡ Gives y r → made_by_part x ≡ xs → Numbers xs a s.seen.node → IsNumbered a y r
 part_as a xs x y s r h e n = numbered-same a x y s r h (made-as (made_by_part x) xs a s.seen.node e n)
 
 -- conversions make nothing
@@ -80,12 +80,12 @@ to_integer-made at t e = by ((type_of e).0 == t.0)
     by true = refl
     by false = refl
 
-converted-made : (at : Place) (t : TypeId) (e : TypedExpr) (o : Option Conversion) → made_by (converted_by o at t e) ≡ made_by e
+pub converted-made : (at : Place) (t : TypeId) (e : TypedExpr) (o : Option Conversion) → made_by (converted_by o at t e) ≡ made_by e
 converted-made at t e None = refl
 converted-made at t e (Some conversion.IntegerToInteger) = to_integer-made at t e
 converted-made at t e (Some which) = refl
 
-side-made : (v : TypedExpr) → made_by_part (side_of v) ≡ made_by v
+pub side-made : (v : TypedExpr) → made_by_part (side_of v) ≡ made_by v
 side-made (typed.Unread p) = refl
 side-made v = refl
 
@@ -153,7 +153,7 @@ value-numbered x v a s r w n h =
     subst (λ (q : State). Numbers (made_by v.expr) a q.seen.node) (gives-state (record { expr = one.0; place = x.place; held = x.held }) v one.1 r one.3)
     (subst (λ (e : TypedExpr). Numbers (made_by e) a one.1.seen.node) same made)
 
-given-numbered : (t : TypeId) (at : Place) (x y : Elaborated) (a : ℕ) (s r : State) → IsWhole x → IsNumbered a x s → given t at x s ≡ Gives y r → IsNumbered a y r
+pub given-numbered : (t : TypeId) (at : Place) (x y : Elaborated) (a : ℕ) (s r : State) → IsWhole x → IsNumbered a x s → given t at x s ≡ Gives y r → IsNumbered a y r
 unfolding given given_allocation
 given-numbered t at (AsAllocation e) y a s r w n h = by (is_pointer_to_complete s.table s.seen.scopes t) h
   where

@@ -67,13 +67,13 @@ use Rattle.c_typing_laws.proofs.Outcomes.{bind-gives, unless-gives, gives-value,
 use Rattle.c_typing_laws.proofs.ValuesTaken.{given-same}
 
 -- what a part makes has the numbers from the next one before to the next one after
-abbrev Makes : List Made → State → State → Type 0
+abbrev pub Makes : List Made → State → State → Type 0
 Makes made s r = Numbers made s.seen.node r.seen.node
 
-then_makes : (xs ys : List Made) (s m r : State) → Makes xs s m → Makes ys m r → Makes (xs ++ ys) s r
+pub then_makes : (xs ys : List Made) (s m r : State) → Makes xs s m → Makes ys m r → Makes (xs ++ ys) s r
 then_makes xs ys s m r p q = two-made xs ys s.seen.node m.seen.node r.seen.node p q
 
-still : (xs : List Made) (s m r : State) → r.seen.node ≡ m.seen.node → Makes xs s m → Makes xs s r
+pub still : (xs : List Made) (s m r : State) → r.seen.node ≡ m.seen.node → Makes xs s m → Makes xs s r
 still xs s m r e h = made-to xs s.seen.node m.seen.node r.seen.node e h
 
 whole_of : (T : Table) (e : tree.Expr) (x : Elaborated) (s s' : Scopes) → IsElaborated T e x s s' → IsWhole x
@@ -284,7 +284,7 @@ parameter-made void at adjusting list made own one s r h =
 
 -- The recursion
 
-left_same : {A : Type 0} (at : Place) (a b : A) (s r : State) → left at a s ≡ Gives b r → a ≡ b
+pub left_same : {A : Type 0} (at : Place) (a b : A) (s r : State) → left at a s ≡ Gives b r → a ≡ b
 unfolding left
 left_same {A = A} at a b s r h = by (nat_lt 1 (length s.seen.scopes.levels)) h
   where
@@ -295,7 +295,7 @@ left_same {A = A} at a b s r h = by (nat_lt 1 (length s.seen.scopes.levels)) h
 abbrev IsNumbering : tree.Expr → State → Type 0
 IsNumbering e s = (o : Operand) (q : State) → judge false e s ≡ Gives o q → IsNumbered s.seen.node o.part q
 
-value-makes : (e : tree.Expr) (v : Value) (s m : State) → IsKnown s → IsNumbering e s → next (judge false e s) value ≡ Gives v m → Makes (made_by v.expr) s m × IsKnown m
+pub value-makes : (e : tree.Expr) (v : Value) (s m : State) → IsKnown s → IsNumbering e s → next (judge false e s) value ≡ Gives v m → Makes (made_by v.expr) s m × IsKnown m
 value-makes e v s m k ih h =
     let one = bind-gives (judge false e s) value v m h in
     let j = expr-judged e false one.0 s one.1 k one.2 in (
@@ -303,7 +303,7 @@ value-makes e v s m k ih h =
       (value-here false e one.0 v s one.1 m j one.3).value.goes.known,
     )
 
-operand-whole : (called : Bool) (e : tree.Expr) (o : Operand) (s m : State) → IsKnown s → judge called e s ≡ Gives o m → IsWhole o.part × IsKnown m
+pub operand-whole : (called : Bool) (e : tree.Expr) (o : Operand) (s m : State) → IsKnown s → judge called e s ≡ Gives o m → IsWhole o.part × IsKnown m
 operand-whole called e o s m k h =
     let j = expr-judged e called o s m k h in
     (whole_of m.table e o.part s.seen.scopes m.seen.scopes j.judged.part, j.judged.goes.known)

@@ -344,7 +344,7 @@ enumeration-judged counts at name brace found all list comma one s0 s r k was l 
 
 -- Enumerators
 
-no_name : (o : Option Declared) → has_some o ≡ false → o ≡ None
+pub no_name : (o : Option Declared) → has_some o ≡ false → o ≡ None
 no_name None h = refl
 no_name (Some found) h = absurd (true≢false h)
 

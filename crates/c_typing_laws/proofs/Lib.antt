@@ -31,6 +31,7 @@ pub mod JudgedChoices
 pub mod JudgedNames
 pub mod JudgedCalls
 pub mod JudgedTrees
+pub mod FunctionNames
 pub mod JudgedWhole
 pub mod RefusedDeclarators
 pub mod PartsTaken

@@ -57,6 +57,7 @@ use Rattle.c_typing_laws.specs.Numbers.{made_by_part, numbers_of}
 use Rattle.c_typing_laws.proofs.ConstructLaws.{two_unbroken, not_false}
 use Rattle.c_typing_laws.proofs.ExtensionLaws.{no_true}
 use Rattle.c_typing_laws.proofs.JudgedCalls.{last_ok, lengths, cut_length}
+use Rattle.c_typing_laws.proofs.JudgedOperators.{pair_some}
 use Rattle.c_typing_laws.proofs.NodeNumbers.{Numbers, two-made, made-as, made-to, made-none, node-made, address-made, type_with-node, new_pointer-made}
 use Rattle.c_typing_laws.proofs.Outcomes.{bind-gives, gives-value, gives-state, never-gives, construct-gives, leaf-gives, IsConstruct}
 
@@ -359,11 +360,6 @@ element-made : (x : TypedExpr) (at : Place) (y : TypedExpr) (t u : Option TypeId
 element-made x at y (Some t) u h = refl
 element-made x at y None (Some u) h = refl
 element-made x at y None None h = no_true h
-
-pair_some : (x y : TypeShape) → is_index_pair x y ≡ true → (has_some (pointee_of_shape x) || has_some (pointee_of_shape y)) ≡ true
-pair_some (Pointer n t) (Integer w r) h = refl
-pair_some (Integer w r) (Pointer n t) h = refl
-pair_some x y h = no_true h
 
 pub index-numbered : (x : Value) (at : Place) (y : Value) (o : Operand) (a : ℕ) (s r : State) → Numbers (Both x.expr y.expr) a s.seen.node → index x at y s ≡ Gives o r
     → IsNumbered a o.part r

@@ -190,7 +190,7 @@ infix-refuses operator x a at y b s p t r ax ay h =
 
 -- members of what a pointer points to
 
-pointed_flat : (T : Table) (x : TypeShape) → pointed_shape T x ≡ pointed_shape T (flat x)
+pub pointed_flat : (T : Table) (x : TypeShape) → pointed_shape T x ≡ pointed_shape T (flat x)
 pointed_flat T (Pointer n t) = refl
 pointed_flat T x = refl
 

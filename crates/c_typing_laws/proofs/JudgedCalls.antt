@@ -146,14 +146,14 @@ first_ok : (b : Bool) (f : Fault) (rest : Option Fault) → (if b then Some f el
 first_ok true f rest h = absurd (none-some f (sym h))
 first_ok false f rest h = (refl, h)
 
-last_ok : (ts : List Test) (t : Test) → first_broken (ts ++ t ∷ []) ≡ None → t.broken ≡ false
+pub last_ok : (ts : List Test) (t : Test) → first_broken (ts ++ t ∷ []) ≡ None → t.broken ≡ false
 last_ok [] t h = (first_ok t.broken (Refused t.place t.rule) None h).0
 last_ok (u ∷ ts) t h = last_ok ts t (first_ok u.broken (Refused u.place u.rule) (first_broken (ts ++ t ∷ [])) h).1
 
 same_length : {A B : Type 0} (xs : List A) (ys : List B) → not (length xs == length ys) ≡ false → length xs ≡ length ys
 same_length xs ys h = (Decides-eqb (length xs) (length ys)).0 (not_false (length xs == length ys) h)
 
-cut_length : {A B : Type 0} (x : A) (xs : List A) (y : B) (ys : List B) → length (x ∷ xs) ≡ length (y ∷ ys) → length xs ≡ length ys
+pub cut_length : {A B : Type 0} (x : A) (xs : List A) (y : B) (ys : List B) → length (x ∷ xs) ≡ length (y ∷ ys) → length xs ≡ length ys
 cut_length x xs y ys h = omega (arith, h)
 
 module _ (T : Table) (basic : IsBasic T) where
@@ -229,7 +229,7 @@ module _ (T : Table) (basic : IsBasic T) where
 
 -- Calls
 
-lengths : {A : Type 0} (ts : List A) (vs : List Value) → not (length ts == length (map argument_of vs)) ≡ false → length ts ≡ length vs
+pub lengths : {A : Type 0} (ts : List A) (vs : List Value) → not (length ts == length (map argument_of vs)) ≡ false → length ts ≡ length vs
 lengths ts vs h = same_length ts (map argument_of vs) h ∙ length-map vs argument_of
 
 module _ (T : Table) (ef : tree.Expr) (all : tree.Arguments) (f : TypedExpr) (at : Place) (vs : List Value) (s0 m s : Scopes) (basic : IsBasic T)

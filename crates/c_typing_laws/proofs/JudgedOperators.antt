@@ -106,7 +106,7 @@ target-judged e at v o s0 s r k val h =
 
 -- `a[b]`
 
-pair_some : (x y : TypeShape) → is_index_pair x y ≡ true → (has_some (pointee_of_shape x) || has_some (pointee_of_shape y)) ≡ true
+pub pair_some : (x y : TypeShape) → is_index_pair x y ≡ true → (has_some (pointee_of_shape x) || has_some (pointee_of_shape y)) ≡ true
 pair_some (Pointer n t) (Integer w r) h = refl
 pair_some (Integer w r) (Pointer n t) h = refl
 pair_some x y h = no_true h

@@ -163,7 +163,7 @@ tagged-judged counts which at name one s r k h =
 
 -- Structs and unions with members
 
-named_here-there : (T : Table) (c : Scopes) (name : Option Identifier) (what : Tag) → All (IsLevelThere T) c.levels → tag_named_here c name ≡ Some what → IsTagThere T what
+pub named_here-there : (T : Table) (c : Scopes) (name : Option Identifier) (what : Tag) → All (IsLevelThere T) c.levels → tag_named_here c name ≡ Some what → IsTagThere T what
 named_here-there T c None what h q = absurd (none-some what q)
 named_here-there T c (Some name) what h q = tag_here-there T c.levels h name.bytes what q
 
@@ -344,7 +344,7 @@ enumeration-judged counts at name brace found all list comma one s0 s r k was l 
 
 -- Enumerators
 
-no_name : (o : Option Declared) → has_some o ≡ false → o ≡ None
+pub no_name : (o : Option Declared) → has_some o ≡ false → o ≡ None
 no_name None h = refl
 no_name (Some found) h = absurd (true≢false h)
 

@@ -25,7 +25,7 @@ use Rattle.c_tree.specs.Places.{expr_place, nowhere}
 use Rattle.c_tree.specs.Tree as tree
 use Rattle.c_tree.specs.TypedTree as typed
 use Rattle.c_tree.specs.TypedTree.{TypedExpr, TypedPlace, TypedTypeName, TypedSpecifierList, TypedSpecifier, TypedMembers, TypedMemberDeclarators, TypedEnumerators, TypedForm, TypedCore, TypedParts, TypedParameters, TypedDeclared}
-use Rattle.c_tree.specs.TypedParts.{type_of, place_type, named_type}
+use Rattle.c_tree.specs.TypedParts.{type_of, place_type, named_type, name_of_form, home_of_form}
 use Rattle.runtime_calls.specs.Prototypes.{runtime_of}
 use Rattle.c_typing.specs.declared.declared.Declared.{Declared}
 use Rattle.c_typing.specs.declared.declared.Declared.TheVariants as declared
@@ -51,7 +51,7 @@ use Rattle.c_typing.specs.Shapes.{is_scalar_shape, is_void_shape}
 use Rattle.c_typing.specs.Tests.{Elaborated, AsPlace, AsValue, AsAllocation, has_some, runtime_part, first_broken, name_tests, is_none, is_function_declared, is_type_declared, is_main}
 use Rattle.c_typing.specs.Typing.{IsTyped, IsPlace, IsTypeName, AreEnumerators, AreDistinct}
 use Rattle.c_typing.specs.Walks.{listed, declared_place, judge, judge_arguments, judge_type_name, judge_list, judge_specifier, judge_members, judge_member_declarators, judge_enumerators, judge_form, judge_core, judge_parts, judge_parameters, judge_declared}
-use Rattle.c_typing_laws.specs.Judged.{IsTypeNameJudged}
+use Rattle.c_typing_laws.specs.Judged.{IsTypeNameJudged, IsHomeOf}
 use Rattle.c_typing_laws.proofs.ExtensionLaws.{no_true, and_left, and_right, extended_refl, still_in}
 use Rattle.c_typing_laws.proofs.ConstructLaws.{two_unbroken, or_right}
 use Rattle.c_typing_laws.proofs.KeptRules.{has-kept, aggregate-kept}
@@ -68,7 +68,7 @@ use Rattle.c_typing_laws.proofs.JudgedNames.{name-judged, literal-judged}
 use Rattle.c_typing_laws.proofs.JudgedCalls.{call-judged}
 use Rattle.c_typing_laws.proofs.JudgedLists.{list-judged, list-typed, no_specifier-judged}
 use Rattle.c_typing_laws.proofs.JudgedSpecifiers.{word-judged, typedef-judged, tagged-judged, begun-judged, ended_by, enum-judged, enumeration_begun-judged, enumeration-judged, enumerator-judged, valued-judged}
-use Rattle.c_typing_laws.proofs.JudgedDeclarators.{IsFormJudged, IsCoreJudged, ArePartsJudged, AreParametersJudged, IsDeclaredJudged, IsRowJudged, AreMembersJudged, IsVoidOf, first_alone, stars-judged, form-step, name-step, sized-step, entered-judged, function-step, parameter-step, member-step, members-step, type_name-step}
+use Rattle.c_typing_laws.proofs.JudgedDeclarators.{IsFormJudged, IsCoreJudged, ArePartsJudged, AreParametersJudged, IsDeclaredJudged, IsRowJudged, AreMembersJudged, IsVoidOf, first_alone, no_home, stars-judged, form-step, name-step, sized-step, entered-judged, function-step, parameter-step, member-step, members-step, type_name-step}
 
 -- What may be dropped
 
@@ -102,7 +102,7 @@ natural_done : (v : TypedExpr) → is_natural v ≡ true → IsDone v
 natural_done v h = or_done v (is_plain v) refl (natural-plain v h)
 
 -- the value of a part is done, and may be dropped unless the part is a runtime function
-value_done : (e : tree.Expr) (at : Place) (x : Elaborated) (v : TypedExpr) (s0 : Scopes) (s r : State) → IsKnown s → IsElaborated s.table e x s0 s.seen.scopes
+pub value_done : (e : tree.Expr) (at : Place) (x : Elaborated) (v : TypedExpr) (s0 : Scopes) (s r : State) → IsKnown s → IsElaborated s.table e x s0 s.seen.scopes
     → value_of at x s ≡ Gives v r → IsDone v × (runtime_part x ≡ None → is_droppable v ≡ true)
 unfolding value_of
 value_done e at (AsPlace p) v s0 s r k el h =
@@ -370,7 +370,7 @@ update-any operator a at b o s r compound ja jb h =
 
 -- What begins goes on, and a list that is `(void)` is
 
-begun_goes : (which : AggregateKind) (name : Option Identifier) (o : Option TypeId) (s m : State) → IsBegun which name s o m → GoesOn s m
+pub begun_goes : (which : AggregateKind) (name : Option Identifier) (o : Option TypeId) (s m : State) → IsBegun which name s o m → GoesOn s m
 begun_goes which name None s m b = b
 begun_goes which name (Some t) s m b = b.2
 
@@ -622,12 +622,12 @@ mutual
   core-judged (tree.Names name) which at core s r k h = name-step at which name core s r k h
   core-judged tree.Unnamed which at core s r k h =
       given-same (λ (v : TypedCore) (q : State). IsCoreJudged which tree.Unnamed v s q) typed.Unnamed core s r h
-      (record { typed = refl; erases = refl; homeless = λ e. refl; goes = (stays s k).goes })
+      (record { typed = refl; erases = refl; home = refl; goes = (stays s k).goes })
   core-judged (tree.Nested paren d) which at core s r k h =
       let one = bind-gives (judge_form which at d s) (λ form. pure (typed.Nested paren form)) core r h in
       let j = form-judged d which at one.0 s one.1 k one.2 in
       given-same (λ (v : TypedCore) (q : State). IsCoreJudged which (tree.Nested paren d) v s q) (typed.Nested paren one.0) core one.1 r one.3
-      (record { typed = j.typed; erases = ap (tree.Nested paren) j.erases; homeless = j.homeless; goes = j.goes })
+      (record { typed = j.typed; erases = ap (tree.Nested paren) j.erases; home = j.home; goes = j.goes })
 
   pub parts-judged : (all : tree.Parts) (at : Place) (parts : TypedParts) (s r : State) → IsKnown s → judge_parts at all s ≡ Gives parts r → ArePartsJudged all parts s r
   parts-judged tree.NoPart at parts s r k h =
@@ -682,7 +682,7 @@ mutual
       let two = bind-gives (judge_form which at d s) (λ form. pure (typed.DeclaredBy form)) one r h in
       let j = form-judged d which at two.0 s two.1 k two.2 in
       given-same (λ (v : TypedDeclared) (q : State). IsDeclaredJudged which (tree.DeclaredBy d) v s q) (typed.DeclaredBy two.0) one two.1 r two.3
-      (record { typed = j.typed; erases = ap tree.DeclaredBy j.erases; homeless = j.homeless; goes = j.goes })
+      (record { typed = j.typed; erases = ap tree.DeclaredBy j.erases; homeless = λ e. no_home (name_of_form two.0) (home_of_form two.0) (subst (λ (w : Naming). IsHomeOf w (name_of_form two.0) (home_of_form two.0)) e j.home); goes = j.goes })
 
 -- an expression, as the law has it
 pub expr-law : (called : Bool) (e : tree.Expr) (o : Operand) (s r : State) → IsKnown s → judge called e s ≡ Gives o r → IsJudged e o s.seen.scopes s r

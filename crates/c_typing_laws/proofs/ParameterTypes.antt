@@ -139,7 +139,7 @@ mutual
   form_derived (typed.Form [] core (typed.AndFunction all at parameters)) outer u = no_true (sym u)
   form_derived (typed.Form (star ∷ stars) core parts) outer u = no_true (sym u)
 
-  core_derived : (core : TypedCore) (outer : Derived) → is_derived_core core ≡ false → derived_by_core (erased_core core) outer ≡ outer
+  pub core_derived : (core : TypedCore) (outer : Derived) → is_derived_core core ≡ false → derived_by_core (erased_core core) outer ≡ outer
   core_derived (typed.Names name home) outer u = refl
   core_derived typed.Unnamed outer u = refl
   core_derived (typed.Nested at form) outer u = form_derived form outer u

@@ -78,7 +78,7 @@ size-never at begin (AsAllocation e) s =
     next-never (value_of begin (AsAllocation e) s) (λ v. by_known (λ q. pure (AsValue (typed.SizeOfValue at v (size_of q.table (type_of v)) size_type)))) (value_of-never begin (AsAllocation e) s)
     (λ v q. gives-never (AsValue (typed.SizeOfValue at v (size_of q.table (type_of v)) size_type)) q)
 
-numbered-never : (at : Place) (o : Option ℕ) (s : State) → NeverRefuses (numbered at o s)
+pub numbered-never : (at : Place) (o : Option ℕ) (s : State) → NeverRefuses (numbered at o s)
 unfolding numbered
 numbered-never at None s = large-never ℕ at Types s
 numbered-never at (Some i) s = by (nat_lt i 4294967296)
@@ -301,7 +301,7 @@ name-refused at_call word s p t r h =
 
 -- what is given to a type refuses nothing, so an assignment and a cast break a rule of their own
 
-given-never : (t : TypeId) (at : Place) (x : Elaborated) (s : State) → NeverRefuses (given t at x s)
+pub given-never : (t : TypeId) (at : Place) (x : Elaborated) (s : State) → NeverRefuses (given t at x s)
 unfolding given given_allocation
 given-never t at (AsAllocation e) s = by (is_pointer_to_complete s.table s.seen.scopes t)
   where

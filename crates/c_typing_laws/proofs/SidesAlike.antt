@@ -42,7 +42,7 @@ takes_flat : (T : Table) (x y : TypeShape) → takes T x y ≡ takes T (flat x) 
 takes_flat T (Pointer n t) (Pointer m u) = refl
 takes_flat T x y = refl
 
-fits_flat : (T : Table) (null : Bool) (x y : TypeShape) → has_some (implicit_between T null x y) ≡ has_some (implicit_between T null (flat x) y)
+pub fits_flat : (T : Table) (null : Bool) (x y : TypeShape) → has_some (implicit_between T null x y) ≡ has_some (implicit_between T null (flat x) y)
 fits_flat T null (Integer a s) (Integer b r) = refl
 fits_flat T true x (Pointer n u) = refl
 fits_flat T false (Pointer m t) (Pointer n u) = refl
@@ -59,7 +59,7 @@ module _ (T : Table) (x y : Elaborated) (p : IsSideOf T x y) where
   one : (f : TypeShape → Bool) → ((z : TypeShape) → f z ≡ f (flat z)) → f (shape_of T x) ≡ f (shape_of T y)
   one f same = same (shape_of T x) ∙ ap f p.shape ∙ sym (same (shape_of T y))
 
-  fits_same : (to : TypeShape) → fits T x to ≡ fits T y to
+  pub fits_same : (to : TypeShape) → fits T x to ≡ fits T y to
   fits_same to =
       fits_flat T (is_null_part T x) (shape_of T x) to
       ∙ (λ i. has_some (implicit_between T (p.null i) (p.shape i) to))

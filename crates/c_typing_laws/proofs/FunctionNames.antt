@@ -1,17 +1,14 @@
 -- A declarator makes its name a function as its tree says, where no parameter makes a pointer of it.
-use Rattle.std.proofs.Common.{◌≡◌, ℕ, Bool, true, false, not, List, [], ◌∷◌, Option, Some, None, refl, ap, sym, subst, ◌∙◌, if◌then◌else◌}
-use Rattle.cc_base.specs.declared.place.Place.{Place}
-use Rattle.cc_base.specs.declared.number.NodeId.{NodeId}
+use Rattle.std.proofs.Common.{◌≡◌, ℕ, Bool, true, false, List, [], ◌∷◌, Option, Some, None, refl, ap, sym, ◌∙◌, if◌then◌else◌}
 use Rattle.cc_base.specs.declared.number.TypeId.{TypeId}
 use Rattle.c_types.specs.declared.shape.TypeShape.{TypeShape}
-use Rattle.c_types.specs.declared.shape.TypeShape.TheVariants.{Pointer, Array, Function}
-use Rattle.c_types.specs.Table.{Table, HasShape, shape_at}
+use Rattle.c_types.specs.Table.{Table, shape_at}
 use Rattle.c_tree.specs.declared.leaf.Word.{Word}
 use Rattle.c_tree.specs.declared.typed_word.TypedStar.{TypedStar}
 use Rattle.c_tree.specs.Erasure.{erased_stars, erased_form, erased_core, erased_parts}
 use Rattle.c_tree.specs.TypedTree as typed
 use Rattle.c_tree.specs.TypedTree.{TypedForm, TypedCore, TypedParts, TypedParameters}
-use Rattle.c_typing.specs.Adjusting.{Derived, NotDerived, ByStar, ByArray, ByFunction, by_stars, by_parts, derived_by, derived_by_core}
+use Rattle.c_typing.specs.Adjusting.{Derived, ByArray, ByFunction, by_stars, by_parts, derived_by, derived_by_core}
 use Rattle.c_typing.specs.Declarators.{Outermost, Written, Counts, Points, is_pointed, MakesArray, MakesFunction, nearest, PartsMake, StarsMake, is_derived_core, outside, FormMakes, CoreMakes}
 use Rattle.c_typing.specs.Declaring.{is_function_by}
 use Rattle.c_typing.specs.Scopes.{Scopes}

@@ -1,5 +1,5 @@
 -- What judging gives for calls, from what it gave for the function and the arguments.
-use Rattle.std.proofs.Common.{◌≡◌, ℕ, Bool, true, false, not, ◌&&◌, ◌||◌, ◌==◌, eqb, List, [], ◌∷◌, ◌++◌, map, fold, length, max, Option, Some, None, refl, ap, sym, subst, ◌∙◌, inl, inr, ◌⊎◌, IsTrue, if◌then◌else◌, arith}
+use Rattle.std.proofs.Common.{◌≡◌, Bool, true, false, not, ◌||◌, ◌==◌, List, [], ◌∷◌, ◌++◌, map, fold, length, max, Option, Some, None, refl, ap, sym, subst, ◌∙◌, inl, inr, if◌then◌else◌, arith}
 use Rattle.std.specs.List.{AllZip}
 use Rattle.std.proofs.lemmas.Bool.Decides.{Decides-eqb}
 use Rattle.std.proofs.lemmas.Option.{none-some}
@@ -12,7 +12,7 @@ use Rattle.cc_base.specs.declared.fault.Fault.TheVariants.{Refused}
 use Rattle.cc_base.specs.declared.fault.Rule.TheVariants as rule
 use Rattle.c_types.specs.declared.shape.TypeShape.{TypeShape}
 use Rattle.c_types.specs.declared.shape.TypeShape.TheVariants.{Void, Integer, Pointer, Array, Function, Struct, Union}
-use Rattle.c_types.specs.Table.{Table, HasShape, IsType, shape_at}
+use Rattle.c_types.specs.Table.{Table, shape_at}
 use Rattle.c_tree.specs.declared.typed_word.Runtime.{Runtime}
 use Rattle.c_tree.specs.declared.typed_word.Runtime.TheVariants as runtime
 use Rattle.c_tree.specs.Erasure.{erased, erased_arguments}
@@ -27,16 +27,16 @@ use Rattle.runtime_calls.specs.Prototypes.{prototype_of}
 use Rattle.integers.specs.Arithmetic.{int, unsigned_long}
 use Rattle.c_typing.specs.Assignments.{converted_to, arguments_as, converted_arguments, runtime_argument, runtime_arguments, runtime_call, called_shape, called, arguments_held, call}
 use Rattle.c_typing.specs.Constants.{is_null_constant}
-use Rattle.c_typing.specs.Conversions.{is_plain, implicit, IsConverted}
-use Rattle.c_typing.specs.Judging.{State, Judging, Gives, pure, by_known, void_type}
+use Rattle.c_typing.specs.Conversions.{implicit, IsConverted}
+use Rattle.c_typing.specs.Judging.{State, Gives, pure, by_known}
 use Rattle.c_typing.specs.Operands.{Operand, Value, argument_of}
 use Rattle.c_typing.specs.Operations.{int_type, size_type}
 use Rattle.c_typing.specs.Refusals.{IsElaborated}
-use Rattle.c_typing.specs.Rules.{listed_arguments, IsArgument, IsCall, runtime_named, IsFreed, IsRuntimeArgument, IsRuntimeCallOf}
+use Rattle.c_typing.specs.Rules.{listed_arguments, IsArgument, runtime_named, IsFreed, IsRuntimeArgument, IsRuntimeCallOf}
 use Rattle.c_typing.specs.Scopes.{Scopes}
 use Rattle.c_typing.specs.Settled.{IsBasic, IsSettled, IsValueOf, AreValuesOf, IsKnown, IsJudged}
-use Rattle.c_typing.specs.Shapes.{is_data, is_scalar_shape, IsPointerTo}
-use Rattle.c_typing.specs.Tests.{Elaborated, AsPlace, AsValue, AsAllocation, Test, Argument, broken_at, first_broken, fits, call_tests, call_tests_of, call_tests_by, argument_tests, runtime_argument_tests, runtime_tests, is_taken_by, pointed_shape, point_to_data}
+use Rattle.c_typing.specs.Shapes.{is_data, is_scalar_shape}
+use Rattle.c_typing.specs.Tests.{AsValue, Test, broken_at, first_broken, fits, call_tests, call_tests_of, call_tests_by, argument_tests, runtime_argument_tests, runtime_tests, is_taken_by, pointed_shape, point_to_data}
 use Rattle.c_typing.specs.Typing.{IsTyped, AreTyped}
 use Rattle.c_typing_laws.proofs.ExtensionLaws.{no_true}
 use Rattle.c_typing_laws.proofs.ConstructLaws.{not_false, has_shape}

@@ -1,10 +1,10 @@
 -- What judging gives for the parts of declarators, for members, parameters and type names, from what it gave for what stands in them.
-use Rattle.std.proofs.Common.{◌≡◌, ℕ, ◌<◌, ℤ, pos, negsuc, Bool, true, false, not, ◌&&◌, ◌||◌, List, [], ◌∷◌, ◌++◌, length, Option, Some, None, refl, ap, sym, subst, ◌∙◌, nat_lt, bytes_eq, if◌then◌else◌, arith}
-use Rattle.std.specs.List.{All, list_any}
+use Rattle.std.proofs.Common.{◌≡◌, ℕ, ◌<◌, ℤ, pos, negsuc, Bool, true, false, not, ◌||◌, List, [], ◌∷◌, ◌++◌, length, Option, Some, None, refl, ap, sym, subst, ◌∙◌, nat_lt, bytes_eq, if◌then◌else◌, arith}
+use Rattle.std.specs.List.{list_any}
 use Rattle.std.proofs.lemmas.Bool.Decides.{nat_tests}
 use Rattle.std.proofs.lemmas.Option.{none-some}
 use Rattle.std.proofs.lemmas.List.{append_assoc}
-use Rattle.std.proofs.lemmas.List.Elements.{All-nil, All-cons, All-push}
+use Rattle.std.proofs.lemmas.List.Elements.{All-nil, All-push}
 use Rattle.std.proofs.lemmas.Slice.Eq.{bytes_eq-Decides}
 use Rattle.cc_base.specs.declared.place.Place.{Place}
 use Rattle.cc_base.specs.declared.number.NodeId.{NodeId}
@@ -24,47 +24,44 @@ use Rattle.c_tree.specs.declared.typed_word.Adjusted.{Adjusted}
 use Rattle.c_tree.specs.declared.typed_word.Home.{Home}
 use Rattle.c_tree.specs.declared.typed_word.Home.TheVariants as home
 use Rattle.c_tree.specs.declared.typed_word.TypedStar.{TypedStar}
-use Rattle.c_tree.specs.Erasure.{erased, erased_stars, erased_form, erased_core, erased_parts, erased_parameters, erased_declared, erased_members, erased_member_declarators, erased_specifier_list, erased_type_name}
+use Rattle.c_tree.specs.Erasure.{erased_stars, erased_form, erased_core, erased_parts, erased_parameters, erased_declared, erased_members, erased_member_declarators}
 use Rattle.c_tree.specs.Places.{nowhere}
 use Rattle.c_tree.specs.Tree as tree
 use Rattle.c_tree.specs.TypedTree as typed
 use Rattle.c_tree.specs.TypedTree.{TypedExpr, TypedTypeName, TypedSpecifiers, TypedSpecifierList, TypedSpecifier, TypedMembers, TypedMemberDeclarators, TypedForm, TypedCore, TypedParts, TypedParameters, TypedDeclared}
-use Rattle.c_tree.specs.TypedParts.{named_type, specified_type, home_of_form, home_of_core, name_of_form, name_of_core}
+use Rattle.c_tree.specs.TypedParts.{home_of_form, home_of_core, name_of_form, name_of_core}
 use Rattle.c_typing.specs.declared.declared.Declared.{Declared}
 use Rattle.c_typing.specs.declared.declared.Declared.TheVariants as declared
 use Rattle.c_typing.specs.declared.naming.Naming.{Naming}
 use Rattle.c_typing.specs.declared.naming.Naming.TheVariants as naming
 use Rattle.c_typing.specs.Adjusting.{derived_by_declared, typedef_place, adjusted_at, adjusted_place}
 use Rattle.c_typing.specs.Constants.{constant_value}
-use Rattle.c_typing.specs.Conversions.{is_plain, is_droppable}
+use Rattle.c_typing.specs.Conversions.{is_droppable}
 use Rattle.c_typing.specs.Declarators
 use Rattle.c_typing.specs.Declarators.{Written, AreOfType, words_shape, none_counted, counting_word, is_void_keyword, is_void_word, is_void_list, is_object_shape, FormMakes, DeclaredMakes, ParameterMakes, name_bytes, declarator_names, member_names}
-use Rattle.c_typing.specs.Declaring
 use Rattle.c_typing.specs.Declaring.{declarator_name, core_name, home_as, stars_with_nodes, size_given, sized_part, sized, declared_makes, form_makes, member_type, member_named, adjusted_with_node, parameter_makes, parameter_declared, declared_home, parameter, entered, left}
-use Rattle.c_typing.specs.Extensions.{IsExtended}
-use Rattle.c_typing.specs.Judging.{State, Judging, Gives, Stops, next, ◌>>=◌, pure, stop, unless, by_known, new_node}
+use Rattle.c_typing.specs.Judging.{State, Judging, Gives, Stops, next, ◌>>=◌, pure, unless, by_known, new_node}
 use Rattle.c_typing.specs.Operands.{Value}
 use Rattle.c_typing.specs.Refusals.{has_name, declared_identifier, is_here, is_void_alone}
-use Rattle.c_typing.specs.Scopes.{Name, Scopes, here, declaring, entering, leaving, is_complete_at, with_scopes, empty_level, at_innermost, with_name}
+use Rattle.c_typing.specs.Scopes.{Name, Scopes, here, declaring, entering, leaving, is_complete_at, with_scopes}
 use Rattle.c_typing.specs.Settled.{IsKnown, GoesOn, GoesOnThere, IsValueOf, IsListJudged}
-use Rattle.c_typing.specs.Shapes.{is_scalar_shape}
 use Rattle.c_typing.specs.Specifying.{specified, in_scopes}
 use Rattle.c_typing.specs.Tests
 use Rattle.c_typing.specs.Tests.{AsValue, has_some, has_size, first_broken}
-use Rattle.c_typing.specs.Typing.{IsTypeName, AreSpecifiers, AreMembers, AreMemberDeclarators, IsForm, IsCore, AreParts, AreParameters, IsDeclared, IsHomeless, IsHomelessDeclared, IsNewName, DeclaresParameter, IsTakenType, AreDistinct}
+use Rattle.c_typing.specs.Typing.{AreMembers, AreMemberDeclarators, IsForm, IsCore, AreParts, AreParameters, IsDeclared, IsHomelessDeclared, IsNewName, DeclaresParameter, IsTakenType, AreDistinct}
 use Rattle.c_typing.specs.Walks.{listed}
 use Rattle.c_typing_laws.specs.Judged.{IsTypeNameJudged, IsHomeAs, IsHomeOf}
 use Rattle.c_typing_laws.proofs.ConstructLaws.{not_false, one_unbroken, two_unbroken}
-use Rattle.c_typing_laws.proofs.ExtensionLaws.{no_true, complete_kept, still_in}
+use Rattle.c_typing_laws.proofs.ExtensionLaws.{no_true, still_in}
 use Rattle.c_typing_laws.proofs.JudgedForms.{IsMade, form-made, declared-made}
 use Rattle.c_typing_laws.proofs.JudgedLists.{list-typed}
 use Rattle.c_typing_laws.proofs.JudgedSpecifiers.{scopes-known, constant_plain, no_name}
-use Rattle.c_typing_laws.proofs.KeptDeclarators.{form_makes-kept, parameter-kept, taken-kept}
+use Rattle.c_typing_laws.proofs.KeptDeclarators.{parameter-kept, taken-kept}
 use Rattle.c_typing_laws.proofs.KeptTrees.{specifiers-kept, members-kept, member_declarators-kept, form-kept, core-kept, parts-kept, parameters-kept, declared-kept}
 use Rattle.c_typing_laws.proofs.KnownScopes.{declared-there, entered-there, left-there}
 use Rattle.c_typing_laws.proofs.KnownStates.{stays, goes-on, there-on, node-there}
-use Rattle.c_typing_laws.proofs.Outcomes.{bind-gives, unless-gives, gives-value, gives-state, never-gives}
-use Rattle.c_typing_laws.proofs.ParameterTypes.{ByParameter, complete_object, parameter-made}
+use Rattle.c_typing_laws.proofs.Outcomes.{bind-gives, unless-gives, never-gives}
+use Rattle.c_typing_laws.proofs.ParameterTypes.{complete_object, parameter-made}
 use Rattle.c_typing_laws.proofs.ValuesTaken.{given-same}
 
 -- Stars and homes

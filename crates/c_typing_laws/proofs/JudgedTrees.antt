@@ -1,16 +1,14 @@
 -- What judging gives for whole expressions, by one recursion over the tree, from the law of type names.
-use Rattle.std.proofs.Common.{◌≡◌, ℕ, Bool, true, false, not, ◌&&◌, ◌||◌, List, [], ◌∷◌, ◌++◌, Option, Some, None, refl, ap, sym, subst, ◌∙◌, inl, inr, ◌⊎◌, true≢false}
-use Rattle.std.proofs.lemmas.Option.{none-some}
+use Rattle.std.proofs.Common.{◌≡◌, Bool, true, false, not, ◌&&◌, ◌||◌, List, [], ◌∷◌, ◌++◌, Option, Some, None, refl, ap, sym, subst, ◌∙◌, inl, inr, ◌⊎◌}
 use Rattle.std.proofs.lemmas.List.{append-nil}
 use Rattle.cc_base.specs.declared.place.Place.{Place}
-use Rattle.cc_base.specs.declared.number.NodeId.{NodeId}
 use Rattle.cc_base.specs.declared.number.TypeId.{TypeId}
 use Rattle.cc_base.specs.declared.fault.Fault.TheVariants.{Refused, TooLarge}
 use Rattle.cc_base.specs.declared.fault.Limit.TheVariants.{Types}
 use Rattle.cc_base.specs.declared.fault.Rule.TheVariants as rule
 use Rattle.c_types.specs.declared.shape.TypeShape.{TypeShape}
 use Rattle.c_types.specs.declared.shape.TypeShape.TheVariants.{Void, Integer, Pointer, Array, Function, Struct, Union}
-use Rattle.c_types.specs.Table.{Table, HasShape, IsType, shape_at, is_aggregate_shape}
+use Rattle.c_types.specs.Table.{Table, IsType, shape_at, is_aggregate_shape}
 use Rattle.c_tree.specs.declared.leaf.Identifier.{Identifier}
 use Rattle.c_tree.specs.declared.operator.AggregateKind.{AggregateKind}
 use Rattle.c_tree.specs.declared.operator.Assignment.{Assignment}
@@ -20,7 +18,7 @@ use Rattle.c_tree.specs.declared.operator.Step.TheVariants as step
 use Rattle.c_tree.specs.declared.operator.Unary.{Unary}
 use Rattle.c_tree.specs.declared.operator.Unary.TheVariants as unary
 use Rattle.c_tree.specs.declared.typed_word.Runtime.{Runtime}
-use Rattle.c_tree.specs.Erasure.{erased, erased_place, erased_type_name}
+use Rattle.c_tree.specs.Erasure.{erased}
 use Rattle.c_tree.specs.Places.{expr_place, nowhere}
 use Rattle.c_tree.specs.Tree as tree
 use Rattle.c_tree.specs.TypedTree as typed
@@ -36,29 +34,28 @@ use Rattle.c_typing.specs.declared.naming.Naming.TheVariants as naming
 use Rattle.c_typing.specs.Adjusting.{derived_by_declared, typedef_place, adjusted_at}
 use Rattle.c_typing.specs.Declarators.{Counted, Written, counted, declarator_names, member_names}
 use Rattle.c_typing.specs.Declaring.{declarator_name, stars_with_nodes, sized, declared_makes, member_named, parameter, entered, left}
-use Rattle.c_typing.specs.Conversions.{is_plain, is_droppable, is_taken_over, is_pointer_to_complete}
+use Rattle.c_typing.specs.Conversions.{is_plain, is_droppable, is_pointer_to_complete}
 use Rattle.c_typing.specs.Extensions.{IsExtended}
-use Rattle.c_typing.specs.Judging.{State, Outcome, Judging, Gives, Stops, next, ◌>>=◌, pure, stop, by_known, new_pointer, void_type}
-use Rattle.c_typing.specs.Operands.{Operand, Value, value_of, value, made_raw, made_for, raw_value, reading_of, place_value, side_of, given_allocation, given}
+use Rattle.c_typing.specs.Judging.{State, Gives, next, ◌>>=◌, pure, by_known, new_pointer}
+use Rattle.c_typing.specs.Operands.{Operand, Value, value_of, value, made_for, raw_value, reading_of, side_of, given_allocation, given}
 use Rattle.c_typing.specs.Operations
 use Rattle.c_typing.specs.Operations.{construct, numbered, in_parens, prefix, target, target_of, prefix_of}
 use Rattle.c_typing.specs.Refusals.{is_natural, IsElaborated, name_place, is_void_alone}
 use Rattle.c_typing.specs.Rules.{is_made_of_place, runtime_named, is_compound}
 use Rattle.c_typing.specs.Scopes.{Name, Scopes, name_in, place_among}
-use Rattle.c_typing.specs.Settled.{IsBasic, IsSettled, is_converted, IsValueOf, AreValuesOf, IsKnown, GoesOn, GoesOnThere, IsJudged, IsSpecifierJudged, IsBegun, AreEnumeratorsJudged, IsListJudged}
+use Rattle.c_typing.specs.Settled.{IsBasic, is_converted, IsValueOf, AreValuesOf, IsKnown, GoesOn, IsJudged, IsSpecifierJudged, IsBegun, AreEnumeratorsJudged, IsListJudged}
 use Rattle.c_typing.specs.Specifying.{specified, begun, ended, enumeration_begun, enumeration, enumerator, valued_enumerator}
 use Rattle.c_typing.specs.Shapes.{is_scalar_shape, is_void_shape}
-use Rattle.c_typing.specs.Tests.{Elaborated, AsPlace, AsValue, AsAllocation, has_some, runtime_part, first_broken, name_tests, is_none, is_function_declared, is_type_declared, is_main}
-use Rattle.c_typing.specs.Typing.{IsTyped, IsPlace, IsTypeName, AreEnumerators, AreDistinct}
+use Rattle.c_typing.specs.Tests.{Elaborated, AsPlace, AsValue, AsAllocation, has_some, runtime_part, name_tests, is_none, is_function_declared, is_type_declared, is_main}
+use Rattle.c_typing.specs.Typing.{IsTyped, AreEnumerators, AreDistinct}
 use Rattle.c_typing.specs.Walks.{listed, declared_place, judge, judge_arguments, judge_type_name, judge_list, judge_specifier, judge_members, judge_member_declarators, judge_enumerators, judge_form, judge_core, judge_parts, judge_parameters, judge_declared}
 use Rattle.c_typing_laws.specs.Judged.{IsTypeNameJudged, IsHomeOf}
-use Rattle.c_typing_laws.proofs.ExtensionLaws.{no_true, and_left, and_right, extended_refl, still_in}
+use Rattle.c_typing_laws.proofs.ExtensionLaws.{no_true, still_in}
 use Rattle.c_typing_laws.proofs.ConstructLaws.{two_unbroken, or_right}
-use Rattle.c_typing_laws.proofs.KeptRules.{has-kept, aggregate-kept}
-use Rattle.c_typing_laws.proofs.KeptTrees.{value-kept, place-kept, type_name-kept}
+use Rattle.c_typing_laws.proofs.KeptTrees.{value-kept, type_name-kept}
 use Rattle.c_typing_laws.proofs.Outcomes.{construct-gives, gives-value, gives-state, never-gives, bind-gives}
 use Rattle.c_typing_laws.proofs.KnownStates.{stays, goes-on}
-use Rattle.c_typing_laws.proofs.ValuesTaken.{not_true, natural-no_place, natural-plain, runtime-void, part-kept, given-same, IsTaken, IsValue, value_of-gives, value-gives}
+use Rattle.c_typing_laws.proofs.ValuesTaken.{natural-plain, runtime-void, part-kept, given-same, value_of-gives, value-gives}
 use Rattle.c_typing_laws.proofs.JudgedOperators.{target-judged, index-judged, prefix-judged, infix-judged, before-judged, after-judged, paren-judged, integer-judged, character-judged, address-judged}
 use Rattle.c_typing_laws.proofs.JudgedMembers.{raw_plain, raw_made, size-judged, size_of_type-judged, member-judged, pointed_member-judged}
 use Rattle.c_typing_laws.proofs.JudgedAssignments.{place-form, assign-judged, comma-judged}

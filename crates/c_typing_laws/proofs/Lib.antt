@@ -49,3 +49,4 @@ pub mod FirstState
 pub mod HeldTrees
 pub mod SidesAlike
 pub mod SidesTaken
+pub mod AnswerLaws

@@ -1,14 +1,14 @@
 -- Steps that make no node: the next one stays as it is.
-use Rattle.std.proofs.Common.{◌≡◌, ℕ, ◌+◌, ℤ, Bool, true, false, List, [], ◌∷◌, ◌++◌, length, Option, Some, None, refl, ap, sym, subst, ◌∙◌, nat_lt, nat_le, if◌then◌else◌}
+use Rattle.std.proofs.Common.{◌≡◌, ℕ, Bool, true, false, List, [], ◌∷◌, ◌++◌, length, Option, Some, None, ap, sym, ◌∙◌, nat_lt, nat_le, if◌then◌else◌}
 use Rattle.cc_base.specs.declared.place.Place.{Place}
 use Rattle.cc_base.specs.declared.number.NodeId.{NodeId}
 use Rattle.cc_base.specs.declared.number.TypeId.{TypeId}
 use Rattle.cc_base.specs.declared.fault.Fault.{Fault}
-use Rattle.cc_base.specs.declared.fault.Fault.TheVariants.{Refused, TooLarge}
+use Rattle.cc_base.specs.declared.fault.Fault.TheVariants.{TooLarge}
 use Rattle.cc_base.specs.declared.fault.Limit.TheVariants.{Types, Params, Object}
 use Rattle.c_types.specs.declared.shape.TypeShape.{TypeShape}
 use Rattle.c_types.specs.declared.shape.TypeShape.TheVariants.{Void, Integer, Pointer, Array, Function, Struct, Union}
-use Rattle.c_types.specs.Table.{Table, shape_at}
+use Rattle.c_types.specs.Table.{shape_at}
 use Rattle.c_types.specs.Calls.{defined_layout, with_members}
 use Rattle.c_tree.specs.declared.leaf.Identifier.{Identifier}
 use Rattle.c_tree.specs.declared.leaf.Word.{Word}
@@ -18,27 +18,25 @@ use Rattle.c_tree.specs.declared.typed_word.Home.TheVariants as home
 use Rattle.c_tree.specs.declared.typed_word.TypedStar.{TypedStar}
 use Rattle.c_tree.specs.TypedTree as typed
 use Rattle.c_tree.specs.TypedTree.{TypedForm, TypedCore, TypedParts, TypedParameters, TypedDeclared, TypedMembers, TypedSpecifier, TypedEnumerators}
-use Rattle.integers.specs.Arithmetic.{int, converted}
 use Rattle.c_typing.specs.declared.declared.Declared.{Declared}
 use Rattle.c_typing.specs.declared.declared.Declared.TheVariants as declared
 use Rattle.c_typing.specs.declared.declared.Tag.{Tag}
 use Rattle.c_typing.specs.declared.declared.Tag.TheVariants as tag
-use Rattle.c_typing.specs.Constants.{constant_value}
 use Rattle.c_typing.specs.Declarators.{Counted, Outermost, Written, Counts, Points, taken_types, nearest, outside, counting_word, member_names, member_types}
 use Rattle.c_typing.specs.Declaring.{stars_make, is_element, array_type, array_of, array_makes, counting_parameters, are_types, function_type, function_as, function_makes, last_makes, parts_make, form_makes, core_makes, declared_makes, adjusted_shape, adjusted_makes, parameter_declared, entered, left}
-use Rattle.c_typing.specs.Judging.{State, Outcome, Judging, Gives, Stops, next, ◌>>=◌, pure, stop, unless, by_known, type_with, pointer_type}
+use Rattle.c_typing.specs.Judging.{State, Outcome, Judging, Gives, Stops, next, ◌>>=◌, pure, stop, by_known, type_with, pointer_type}
 use Rattle.c_typing.specs.Operations.{numbered}
 use Rattle.c_typing.specs.Refusals.{one_named, tag_place, is_empty_row}
 use Rattle.c_typing.specs.Rules.{number_of_shape}
-use Rattle.c_typing.specs.Scopes.{Name, Scopes, name_in, tag_in, declaring, entering, leaving}
+use Rattle.c_typing.specs.Scopes.{Scopes, name_in, tag_in, leaving}
 use Rattle.c_typing.specs.Specifying
 use Rattle.c_typing.specs.Specifying.{obeying, in_scopes, typedef_named, tagged_as, tagged_by, new_aggregate, begun_as, begun, is_definable, defined, completing, completed, ended, is_taken_at_end, enumerator_with, enumeration_begun}
 use Rattle.c_typing.specs.Tests
 use Rattle.c_typing.specs.Tests.{Test, first_broken, has_some, is_tag_of, is_taken_tag}
-use Rattle.c_typing.specs.Typing.{shape_of_kind, tagging, counting_aggregate, tag_named_here, enumerating}
+use Rattle.c_typing.specs.Typing.{shape_of_kind, tagging, counting_aggregate, tag_named_here}
 use Rattle.c_typing_laws.proofs.NodeNumbers.{type_with-node, pointer-node}
 use Rattle.c_typing_laws.proofs.NumberedConstructs.{number-node}
-use Rattle.c_typing_laws.proofs.Outcomes.{bind-gives, unless-gives, gives-value, gives-state, never-gives}
+use Rattle.c_typing_laws.proofs.Outcomes.{bind-gives, unless-gives, gives-state, never-gives}
 
 -- where something is given, the next node is n
 abbrev pub Keeps : {A : Type 0} → Outcome A → ℕ → Type 0

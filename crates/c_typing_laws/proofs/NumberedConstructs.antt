@@ -1,5 +1,5 @@
 -- The nodes that constructs make, behind those of their operands: numbered one after another.
-use Rattle.std.proofs.Common.{◌≡◌, ℕ, ◌+◌, ℤ, suc, Bool, true, false, not, ◌&&◌, ◌||◌, ◌==◌, List, [], ◌∷◌, ◌++◌, map, length, fold, max, Option, Some, None, refl, ap, sym, subst, ◌∙◌, nat_lt, nat_le, if◌then◌else◌, arith}
+use Rattle.std.proofs.Common.{◌≡◌, ℕ, ◌+◌, ℤ, Bool, true, false, not, ◌&&◌, ◌||◌, ◌==◌, List, [], ◌∷◌, ◌++◌, map, length, fold, max, Option, Some, None, refl, ap, sym, subst, ◌∙◌, nat_lt, nat_le, if◌then◌else◌, arith}
 use Rattle.std.proofs.lemmas.Option.{none-some}
 use Rattle.std.proofs.lemmas.List.{append_assoc, append-nil}
 use Rattle.cc_base.specs.declared.place.Place.{Place}
@@ -28,7 +28,7 @@ use Rattle.c_tree.specs.declared.typed_word.Runtime.{Runtime}
 use Rattle.c_tree.specs.Places.{pieces_place}
 use Rattle.c_tree.specs.TypedTree as typed
 use Rattle.c_tree.specs.TypedTree.{TypedExpr, TypedPlace, TypedArguments, TypedTypeName}
-use Rattle.c_tree.specs.TypedParts.{type_of, place_type, named_type, Made, Address, Literal, Copy, made_by, made_by_place, made_by_arguments, made_by_type_name}
+use Rattle.c_tree.specs.TypedParts.{type_of, place_type, named_type, Made, Address, Copy, made_by, made_by_place, made_by_arguments, made_by_type_name}
 use Rattle.runtime_calls.specs.Prototypes.{runtime_of, prototype_of}
 use Rattle.runtime_calls.specs.declared.function.RuntimeType.{RuntimeType}
 use Rattle.runtime_calls.specs.declared.function.RuntimeType.TheVariants as prototype
@@ -40,26 +40,26 @@ use Rattle.c_typing.specs.declared.typing.Reading.TheVariants as reading
 use Rattle.c_typing.specs.Assignments
 use Rattle.c_typing.specs.Assignments.{converted_by, converted_to, assigned, moved, assign_part, assign_given, assign, updated, update_part, update_by, pointer_choice, choice_of_pointers, choice_of_values, choice_of_parts, choice, comma_part, comma, cast_part, part_expr, cast_given, cast, size_of_type, arguments_as, converted_arguments, runtime_argument, runtime_arguments, runtime_call, called_shape, called, arguments_held, call, function_name, named_as, count_global, literal_size, is_char_array, string_type, literal}
 use Rattle.c_typing.specs.Cells.{count_cells, pointers_in}
-use Rattle.c_typing.specs.Conversions.{to_integer, implicit, converting, is_taken_over, is_pointer_to_complete}
+use Rattle.c_typing.specs.Conversions.{to_integer, implicit, is_taken_over, is_pointer_to_complete}
 use Rattle.c_typing.specs.Integers
 use Rattle.c_typing.specs.Integers.{char, is_logical, is_order, promoted, left_type, right_type, result_type, common, assigning}
-use Rattle.c_typing.specs.Judging.{State, Outcome, Judging, Gives, Stops, next, ◌>>=◌, pure, stop, by_known, new_node, type_with, new_pointer, Pointing, void_type, integer_type}
+use Rattle.c_typing.specs.Judging.{State, Gives, Stops, next, ◌>>=◌, pure, stop, by_known, new_node, type_with, new_pointer, void_type, integer_type}
 use Rattle.c_typing.specs.Operands.{Operand, Value, value, value_of, place_value, reading_of, raw_value, made_raw, made_for, side_of, given_allocation, given, argument_of}
 use Rattle.c_typing.specs.Operations
 use Rattle.c_typing.specs.Operations.{construct, leaf, in_parens, pointed, pointed_place, target_of, address_behind, address_of_part, address, promoted_operand, operator_on, prefix_of, size_of_part, step_part, step_before, step_after, element, index, arithmetic, equated, compared, pointers, by_kinds, operation, infix_of, numbered, named_member, Found, found, member_of, member, member_at_pointer, pointed_member, int_type}
 use Rattle.c_typing.specs.Refusals
 use Rattle.c_typing.specs.Rules.{Meeting, RightIsNull, LeftIsNull, BothPoint, NeverMeet, meeting, meeting_type, pointer_behind, runtime_named, into_choice}
 use Rattle.c_typing.specs.Scopes.{name_in, place_among}
-use Rattle.c_typing.specs.Shapes.{integer_at, pointee_at, pointee_of_shape, is_function_shape, is_void_shape, is_pointer_shape}
+use Rattle.c_typing.specs.Shapes.{integer_at, pointee_at, is_function_shape, is_void_shape, is_pointer_shape}
 use Rattle.c_typing.specs.Tests
 use Rattle.c_typing.specs.Tests.{Elaborated, AsPlace, AsValue, AsAllocation, Test, broken_at, first_broken, has_some, is_index_pair, points_to_incomplete}
-use Rattle.c_typing_laws.specs.Numbers.{made_by_part, numbers_of}
+use Rattle.c_typing_laws.specs.Numbers.{made_by_part}
 use Rattle.c_typing_laws.proofs.ConstructLaws.{two_unbroken, not_false}
 use Rattle.c_typing_laws.proofs.ExtensionLaws.{no_true}
 use Rattle.c_typing_laws.proofs.JudgedCalls.{last_ok, lengths, cut_length}
 use Rattle.c_typing_laws.proofs.JudgedOperators.{pair_some}
-use Rattle.c_typing_laws.proofs.NodeNumbers.{Numbers, two-made, made-as, made-to, made-none, node-made, address-made, type_with-node, new_pointer-made}
-use Rattle.c_typing_laws.proofs.Outcomes.{bind-gives, gives-value, gives-state, never-gives, construct-gives, leaf-gives, IsConstruct}
+use Rattle.c_typing_laws.proofs.NodeNumbers.{Numbers, two-made, made-as, made-to, node-made, address-made, type_with-node, new_pointer-made}
+use Rattle.c_typing_laws.proofs.Outcomes.{bind-gives, gives-value, gives-state, never-gives, construct-gives, leaf-gives}
 
 -- what is given has what was made, and the next number
 abbrev pub IsNumbered : ℕ → Elaborated → State → Type 0

@@ -1,12 +1,10 @@
 -- The nodes that judging makes are numbered one after another, in the order of the text: by one recursion over the tree.
-use Rattle.std.proofs.Common.{◌≡◌, ℕ, ◌+◌, ℤ, Bool, true, false, not, ◌&&◌, ◌||◌, List, [], ◌∷◌, ◌++◌, Option, Some, None, refl, ap, sym, subst, ◌∙◌, nat_lt, length, if◌then◌else◌}
-use Rattle.std.proofs.lemmas.Option.{none-some}
+use Rattle.std.proofs.Common.{◌≡◌, ℕ, ◌+◌, ℤ, Bool, true, false, List, [], ◌∷◌, ◌++◌, Option, Some, None, refl, ap, sym, subst, ◌∙◌, nat_lt, length, if◌then◌else◌}
 use Rattle.cc_base.specs.declared.place.Place.{Place}
 use Rattle.cc_base.specs.declared.number.NodeId.{NodeId}
 use Rattle.cc_base.specs.declared.number.TypeId.{TypeId}
-use Rattle.cc_base.specs.declared.fault.Fault.TheVariants.{Refused, TooLarge}
+use Rattle.cc_base.specs.declared.fault.Fault.TheVariants.{TooLarge}
 use Rattle.cc_base.specs.declared.fault.Limit.TheVariants.{Types}
-use Rattle.cc_base.specs.declared.fault.Rule.TheVariants as rule
 use Rattle.c_types.specs.declared.shape.TypeShape.{TypeShape}
 use Rattle.c_types.specs.Table.{Table, IsType, shape_at}
 use Rattle.integers.specs.Arithmetic.{int, converted}
@@ -28,7 +26,7 @@ use Rattle.c_tree.specs.Places.{nowhere}
 use Rattle.c_tree.specs.Tree as tree
 use Rattle.c_tree.specs.TypedTree as typed
 use Rattle.c_tree.specs.TypedTree.{TypedExpr, TypedTypeName, TypedSpecifiers, TypedSpecifierList, TypedSpecifier, TypedMembers, TypedMemberDeclarators, TypedEnumerators, TypedForm, TypedCore, TypedParts, TypedParameters, TypedDeclared}
-use Rattle.c_tree.specs.TypedParts.{Made, Name, Written, made_by, made_by_type_name, made_by_specifier_list, made_by_specifier, made_by_members, made_by_member_declarators, made_by_enumerators, made_by_stars, made_by_form, made_by_core, made_by_parts, made_by_parameters, made_by_adjusted, made_by_declared}
+use Rattle.c_tree.specs.TypedParts.{Made, Name, made_by, made_by_type_name, made_by_specifier_list, made_by_specifier, made_by_members, made_by_member_declarators, made_by_enumerators, made_by_stars, made_by_form, made_by_core, made_by_parts, made_by_parameters, made_by_adjusted, made_by_declared}
 use Rattle.c_typing.specs.declared.declared.Declared.{Declared}
 use Rattle.c_typing.specs.declared.declared.Declared.TheVariants as declared
 use Rattle.c_typing.specs.declared.naming.Naming.{Naming}
@@ -38,31 +36,28 @@ use Rattle.c_typing.specs.Assignments
 use Rattle.c_typing.specs.Constants.{constant_value}
 use Rattle.c_typing.specs.Declarators.{Counted, counted, counting_word, declarator_names, member_names}
 use Rattle.c_typing.specs.Declarators
-use Rattle.c_typing.specs.Declaring.{declarator_name, home_as, stars_with_nodes, size_given, sized_part, sized, declared_makes, form_makes, member_type, member_named, adjusted_with_node, adjusted_makes, parameter_makes, parameter_declared, declared_home, parameter, entered, left}
-use Rattle.c_typing.specs.Judging.{State, Outcome, Judging, Gives, Stops, next, ◌>>=◌, pure, stop, unless, by_known, new_node}
+use Rattle.c_typing.specs.Declaring.{declarator_name, home_as, stars_with_nodes, size_given, sized_part, sized, declared_makes, form_makes, member_type, member_named, adjusted_with_node, parameter_makes, parameter_declared, declared_home, parameter, entered, left}
+use Rattle.c_typing.specs.Judging.{State, Judging, Gives, Stops, next, ◌>>=◌, pure, unless, by_known, new_node}
 use Rattle.c_typing.specs.Operands.{Operand, Value, value}
 use Rattle.c_typing.specs.Operations
 use Rattle.c_typing.specs.Operations.{prefix, target, target_of, prefix_of}
 use Rattle.c_typing.specs.Refusals.{IsElaborated, name_place, one_named, tag_place, is_empty_row, declared_identifier, is_here, is_void_alone, has_name}
-use Rattle.c_typing.specs.Rules.{is_compound}
 use Rattle.c_typing.specs.Scopes.{Scopes, name_in, tag_in, declaring, leaving}
 use Rattle.c_typing.specs.Scopes
-use Rattle.c_typing.specs.Settled.{IsKnown, GoesOn}
+use Rattle.c_typing.specs.Settled.{IsKnown}
 use Rattle.c_typing.specs.Specifying
 use Rattle.c_typing.specs.Specifying.{specified, typedef_named, tagged_by, tagged_as, begun, ended, is_taken_at_end, completed, enum_tag, enumerator, enumerator_with, valued_enumerator, enumeration_begun, enumeration}
 use Rattle.c_typing.specs.Tests
 use Rattle.c_typing.specs.Tests.{AsPlace, AsValue, AsAllocation, Elaborated, first_broken, is_tag_of}
 use Rattle.c_typing.specs.Typing.{next_value, last_value}
 use Rattle.c_typing.specs.Walks.{listed, declared_place, judge, judge_arguments, judge_type_name, judge_list, judge_specifier, judge_members, judge_member_declarators, judge_enumerators, judge_form, judge_core, judge_parts, judge_parameters, judge_declared}
-use Rattle.c_typing_laws.proofs.ExtensionLaws.{still_in}
 use Rattle.c_typing_laws.proofs.JudgedDeclarators.{IsVoidOf, first_alone, stars-judged, entered-judged}
 use Rattle.c_typing_laws.proofs.JudgedLists.{list-typed}
 use Rattle.c_typing_laws.proofs.JudgedSpecifiers.{begun-judged, enumeration_begun-judged}
-use Rattle.c_typing_laws.proofs.JudgedTrees.{value-here, expr-judged, arguments-judged, type_name-judged, specifiers-judged, specifier-judged, members-judged, row-judged, enumerators-judged, form-judged, core-judged, parts-judged, parameters-judged, declared-judged, begun_goes, void_self}
-use Rattle.c_typing_laws.proofs.KnownStates.{goes-on}
+use Rattle.c_typing_laws.proofs.JudgedTrees.{value-here, expr-judged, arguments-judged, type_name-judged, specifiers-judged, members-judged, row-judged, enumerators-judged, core-judged, parts-judged, parameters-judged, begun_goes, void_self}
 use Rattle.c_typing_laws.proofs.NodeNumbers.{Numbers, two-made, made-as, made-to, node-made}
 use Rattle.c_typing_laws.proofs.NodesKept.{form-keeps, declared-keeps, adjusted-keeps, named-keeps, entered-keeps, left-keeps, begun-keeps, ended-keeps, word-keeps, typedef_name-keeps, tagged-keeps, enum-keeps, begun_enumeration-keeps}
-use Rattle.c_typing_laws.proofs.NumberedConstructs.{IsNumbered, IsWhole, numbered-same, value-numbered, integer-numbered, character-numbered, literal-numbered, name-numbered, paren-numbered, target-numbered, address-numbered, prefix-numbered, size-numbered, before-numbered, after-numbered, index-numbered, infix-numbered, member-numbered, pointed-numbered, assign-numbered, update-numbered, choice-numbered, comma-numbered, cast-numbered, size_of_type-numbered, made_by_values, values_last, call-numbered}
+use Rattle.c_typing_laws.proofs.NumberedConstructs.{IsNumbered, IsWhole, value-numbered, integer-numbered, character-numbered, literal-numbered, name-numbered, paren-numbered, target-numbered, address-numbered, prefix-numbered, size-numbered, before-numbered, after-numbered, index-numbered, infix-numbered, member-numbered, pointed-numbered, assign-numbered, update-numbered, choice-numbered, comma-numbered, cast-numbered, size_of_type-numbered, made_by_values, values_last, call-numbered}
 use Rattle.c_typing_laws.proofs.Outcomes.{bind-gives, unless-gives, gives-value, gives-state, never-gives}
 use Rattle.c_typing_laws.proofs.ValuesTaken.{given-same}
 

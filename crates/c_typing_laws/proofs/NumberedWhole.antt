@@ -1,25 +1,24 @@
 -- The nodes of what stands by itself: lists of specifiers, declarators, prototypes, values, values for a type, and constants.
-use Rattle.std.proofs.Common.{◌≡◌, ℕ, ℤ, Bool, true, false, not, ◌||◌, List, [], ◌∷◌, Option, Some, None, refl, ap, sym, subst, ◌∙◌}
+use Rattle.std.proofs.Common.{◌≡◌, ℕ, ℤ, Bool, true, false, [], Option, Some, None, refl, ap, sym, subst}
 use Rattle.cc_base.specs.declared.place.Place.{Place}
 use Rattle.cc_base.specs.declared.number.TypeId.{TypeId}
 use Rattle.cc_base.specs.declared.fault.Fault.TheVariants.{Refused}
 use Rattle.cc_base.specs.declared.fault.Rule.TheVariants as rule
-use Rattle.c_types.specs.Table.{Table, IsType, shape_at}
+use Rattle.c_types.specs.Table.{Table, shape_at}
 use Rattle.c_tree.specs.declared.leaf.Identifier.{Identifier}
 use Rattle.c_tree.specs.declared.operator.AggregateKind.{AggregateKind}
-use Rattle.c_tree.specs.Places.{nowhere}
 use Rattle.c_tree.specs.Tree as tree
 use Rattle.c_tree.specs.TypedTree as typed
 use Rattle.c_tree.specs.TypedTree.{TypedExpr, TypedSpecifiers, TypedSpecifierList, TypedSpecifier, TypedDeclarator, TypedParameters}
-use Rattle.c_tree.specs.TypedParts.{Made, made_by, made_by_specifiers, made_by_specifier, made_by_specifier_list, made_by_declarator, made_by_form, made_by_parameters}
+use Rattle.c_tree.specs.TypedParts.{made_by, made_by_specifiers, made_by_specifier, made_by_specifier_list, made_by_declarator, made_by_form, made_by_parameters}
 use Rattle.c_typing.specs.declared.declared.Tag.{Tag}
 use Rattle.c_typing.specs.declared.naming.Naming.{Naming}
 use Rattle.c_typing.specs.Checking.{checked, taken, value_tests, converted_part, converted_value, checked_value, Constant, constant_as, checked_constant}
 use Rattle.c_typing.specs.Constants.{constant_value}
 use Rattle.c_typing.specs.Conversions.{implicit}
 use Rattle.c_typing.specs.Declaring.{NotDerived, derived_by, is_function_by, unless_function, form_makes, entered, left}
-use Rattle.c_typing.specs.Judging.{State, Judging, Gives, Stops, next, ◌>>=◌, pure, by_known}
-use Rattle.c_typing.specs.Operands.{Operand, Value, value, side_of, given}
+use Rattle.c_typing.specs.Judging.{State, Gives, next, pure}
+use Rattle.c_typing.specs.Operands.{Operand, Value, value, side_of}
 use Rattle.c_typing.specs.Refusals.{is_void_alone}
 use Rattle.c_typing.specs.Scopes.{tag_here}
 use Rattle.c_typing.specs.Settled.{IsKnown}
@@ -32,10 +31,10 @@ use Rattle.c_typing_laws.specs.Numbers.{made_by_part, AreNumberedFrom}
 use Rattle.c_typing_laws.proofs.JudgedDeclarators.{entered-judged}
 use Rattle.c_typing_laws.proofs.JudgedTrees.{void_self}
 use Rattle.c_typing_laws.proofs.NodeNumbers.{Numbers, made-as, made-to, numbered-from}
-use Rattle.c_typing_laws.proofs.NodesKept.{Keeps, obeying-keeps, tagged_by-keeps, form-keeps, entered-keeps, left-keeps}
+use Rattle.c_typing_laws.proofs.NodesKept.{obeying-keeps, tagged_by-keeps, form-keeps, entered-keeps, left-keeps}
 use Rattle.c_typing_laws.proofs.NumberedConstructs.{IsNumbered, IsWhole, part_as, value-numbered, given-numbered, converted-made, side-made}
 use Rattle.c_typing_laws.proofs.NumberedTrees.{Makes, still, value-makes, operand-whole, left_same, expr-makes, specifiers-make, form-makes, parameters-make}
-use Rattle.c_typing_laws.proofs.Outcomes.{bind-gives, unless-gives, gives-value, gives-state, never-gives}
+use Rattle.c_typing_laws.proofs.Outcomes.{bind-gives, unless-gives, gives-value, never-gives}
 use Rattle.c_typing_laws.proofs.ValuesTaken.{given-same}
 
 pub expr-numbers : (called : Bool) (e : tree.Expr) (o : Operand) (s r : State) → IsKnown s → judge called e s ≡ Gives o r → AreNumberedFrom (made_by_part o.part) s r

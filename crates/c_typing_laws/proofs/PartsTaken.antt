@@ -1,6 +1,5 @@
 -- A part whose value was taken, over any later table: it stands as it is in the rules that what follows breaks.
-use Rattle.std.proofs.Common.{◌≡◌, ℕ, suc, ◌+◌, ◌==◌, Bool, true, false, not, ◌&&◌, ◌||◌, List, [], ◌∷◌, ◌++◌, length, map, Option, Some, None, refl, ap, sym, subst, ◌∙◌, inl, inr, ◌⊎◌}
-use Rattle.std.proofs.lemmas.Option.{none-some}
+use Rattle.std.proofs.Common.{◌≡◌, suc, ◌==◌, Bool, true, false, not, ◌||◌, List, [], ◌∷◌, ◌++◌, length, map, Option, Some, None, refl, ap, sym, subst, ◌∙◌, inl, inr, ◌⊎◌}
 use Rattle.cc_base.specs.declared.place.Place.{Place}
 use Rattle.cc_base.specs.declared.number.NodeId.{NodeId}
 use Rattle.cc_base.specs.declared.number.TypeId.{TypeId}
@@ -8,7 +7,7 @@ use Rattle.cc_base.specs.declared.fault.Fault.TheVariants.{TooLarge}
 use Rattle.cc_base.specs.declared.fault.Limit.TheVariants.{Types}
 use Rattle.cc_base.specs.declared.fault.Rule.TheVariants as rule
 use Rattle.c_types.specs.declared.shape.TypeShape.{TypeShape}
-use Rattle.c_types.specs.declared.shape.TypeShape.TheVariants.{Void, Integer, Pointer, Array, Function, Struct, Union}
+use Rattle.c_types.specs.declared.shape.TypeShape.TheVariants.{Integer, Pointer, Function}
 use Rattle.c_types.specs.Table.{Table, shape_at, is_aggregate_shape}
 use Rattle.c_tree.specs.declared.typed_word.Runtime.{Runtime}
 use Rattle.c_tree.specs.Places.{expr_place}
@@ -21,28 +20,26 @@ use Rattle.runtime_calls.specs.declared.function.RuntimeType.{RuntimeType}
 use Rattle.runtime_calls.specs.declared.function.RuntimeType.TheVariants as prototype
 use Rattle.c_typing.specs.declared.typing.Reading.{Reading}
 use Rattle.c_typing.specs.declared.typing.Reading.TheVariants as reading
-use Rattle.c_typing.specs.Constants.{constant_value, is_null_constant}
-use Rattle.c_typing.specs.Conversions.{is_droppable, is_taken_over, implicit_between}
+use Rattle.c_typing.specs.Constants.{is_null_constant}
+use Rattle.c_typing.specs.Conversions.{is_taken_over, implicit_between}
 use Rattle.c_typing.specs.Extensions.{IsExtended}
-use Rattle.c_typing.specs.Judging.{State, Gives, Stops, next, pure, new_pointer}
+use Rattle.c_typing.specs.Judging.{State, Gives, pure, new_pointer}
 use Rattle.c_typing.specs.Operands.{Operand, Value, value, value_of, place_value, reading_of, side_of, made_raw, argument_of}
-use Rattle.c_typing.specs.Refusals.{is_natural, IsElaborated, AreElaborated}
+use Rattle.c_typing.specs.Refusals.{IsElaborated}
 use Rattle.c_typing.specs.Rules.{runtime_named}
 use Rattle.c_typing.specs.Scopes.{Scopes}
 use Rattle.c_typing.specs.Settled
 use Rattle.c_typing.specs.Settled.{IsBasic, IsValueOf, IsKnown, GoesOn, flat, IsAlike, IsSideOf}
-use Rattle.c_typing.specs.Tests
-use Rattle.c_typing.specs.Tests.{Elaborated, AsPlace, AsValue, AsAllocation, Test, broken_at, Argument, shape_of, is_null_part, has_some, fits, runtime_part, call_tests, call_tests_of, call_tests_by, argument_tests, runtime_argument_tests, is_taken_by, pointed_shape, point_to_data, has_constant, has_size, is_size}
+use Rattle.c_typing.specs.Tests.{Elaborated, AsPlace, AsValue, AsAllocation, broken_at, Argument, shape_of, is_null_part, has_some, fits, runtime_part, call_tests, call_tests_of, call_tests_by, argument_tests, runtime_argument_tests, is_taken_by, pointed_shape, point_to_data, has_constant, has_size, is_size}
 use Rattle.c_typing.specs.Typing.{IsTyped}
 use Rattle.c_typing_laws.proofs.ExtensionLaws.{no_true, extended_refl}
 use Rattle.c_typing_laws.proofs.InfixAlike.{alike-kept, pointed_flat}
 use Rattle.c_typing_laws.proofs.JudgedMembers.{raw_made}
-use Rattle.c_typing_laws.proofs.JudgedTrees.{IsJudgedFree, IsValueFree, value-here, value_done}
+use Rattle.c_typing_laws.proofs.JudgedTrees.{IsJudgedFree, value-here, value_done}
 use Rattle.c_typing_laws.proofs.KeptTrees.{value-kept}
 use Rattle.c_typing_laws.proofs.Outcomes.{bind-gives, gives-value, gives-state, never-gives}
 use Rattle.c_typing_laws.proofs.SidesAlike.{fits_flat}
 use Rattle.c_typing_laws.proofs.SidesTaken.{side-same, side-natural, side-raw, no_struct_raw, struct_left, struct_right, scalar_flat}
-use Rattle.c_typing_laws.proofs.TableGrowth.{extended_trans}
 use Rattle.c_typing_laws.proofs.TestsAlike.{value-alike}
 use Rattle.c_typing_laws.proofs.ValuesTaken.{natural-no_place, part-kept, value-gives}
 

@@ -1,5 +1,5 @@
 -- What judging refuses of what declarators, members and parameters make: the first rule that is broken, from the specifiers outwards to the name.
-use Rattle.std.proofs.Common.{◌≡◌, ◌≢◌, ℕ, Bool, true, false, not, ◌&&◌, ◌||◌, List, [], ◌∷◌, ◌++◌, length, Option, Some, None, refl, ap, sym, subst, ◌∙◌, inl, inr, ◌⊎◌, nat_lt, if◌then◌else◌}
+use Rattle.std.proofs.Common.{◌≡◌, ℕ, Bool, true, false, List, [], ◌∷◌, length, Option, Some, None, refl, ap, sym, subst, ◌∙◌, inl, inr, nat_lt, if◌then◌else◌}
 use Rattle.std.proofs.lemmas.Option.{none-some}
 use Rattle.cc_base.specs.declared.place.Place.{Place}
 use Rattle.cc_base.specs.declared.number.NodeId.{NodeId}
@@ -13,7 +13,6 @@ use Rattle.c_types.specs.declared.shape.TypeShape.{TypeShape}
 use Rattle.c_types.specs.declared.shape.TypeShape.TheVariants.{Void, Integer, Pointer, Array, Function, Struct, Union}
 use Rattle.c_types.specs.Table.{Table, IsType, shape_at}
 use Rattle.c_tree.specs.declared.leaf.Identifier.{Identifier}
-use Rattle.c_tree.specs.declared.leaf.Star.{Star}
 use Rattle.c_tree.specs.declared.leaf.Word.{Word}
 use Rattle.c_tree.specs.declared.typed_word.Adjusted.{Adjusted}
 use Rattle.c_tree.specs.declared.typed_word.Home.{Home}
@@ -24,17 +23,16 @@ use Rattle.c_tree.specs.Places.{nowhere}
 use Rattle.c_tree.specs.Tree as tree
 use Rattle.c_tree.specs.TypedTree as typed
 use Rattle.c_tree.specs.TypedTree.{TypedForm, TypedCore, TypedParts, TypedParameters, TypedDeclared, TypedMemberDeclarators, TypedSpecifierList}
-use Rattle.c_tree.specs.TypedParts.{specified_type, name_of_form}
+use Rattle.c_tree.specs.TypedParts.{name_of_form}
 use Rattle.c_typing.specs.Adjusting.{Derived, NotDerived, ByStar, ByArray, ByFunction, by_stars, by_parts, derived_by, derived_by_core, derived_by_declared, typedef_place, adjusted_at, adjusted_place}
 use Rattle.c_typing.specs.Declarators
 use Rattle.c_typing.specs.Declarators.{Outermost, Written, Counts, Points, MakesArray, MakesFunction, nearest, is_no_part, PartsMake, StarsMake, is_derived, is_derived_core, outside, FormMakes, CoreMakes, is_derived_declared, taken_types, first_word_place}
-use Rattle.c_typing.specs.Declaring
 use Rattle.c_typing.specs.Declaring.{stars_make, is_element, array_type, array_of, array_makes, counting_parameters, are_types, function_type, function_as, function_makes, last_makes, parts_make, form_makes, core_makes, declared_makes, member_type, member_named, adjusted_with_node, adjusted_shape, adjusted_makes, parameter_makes, parameter_declared, declared_home, parameter}
 use Rattle.c_typing.specs.Extensions.{IsExtended}
-use Rattle.c_typing.specs.Judging.{State, Outcome, Judging, Gives, Stops, next, ◌>>=◌, pure, stop, unless, by_known, new_node, type_with, pointer_type}
+use Rattle.c_typing.specs.Judging.{State, Judging, Stops, next, ◌>>=◌, pure, stop, unless, new_node, type_with, pointer_type}
 use Rattle.c_typing.specs.Refusals.{Fails, name_place, PartsFail, FormFails, CoreFails, DeclaredFails, has_name, MemberTypeFails, MemberFailsBy, MemberFails, declared_identifier, is_here, ParameterTypeFails, ParameterFailsBy, ParameterFails}
 use Rattle.c_typing.specs.Scopes.{Name, Scopes}
-use Rattle.c_typing.specs.Settled.{IsKnown, GoesOn, GoesOnThere}
+use Rattle.c_typing.specs.Settled.{IsKnown}
 use Rattle.c_typing.specs.Specifying.{obeying, specified}
 use Rattle.c_typing.specs.Tests
 use Rattle.c_typing.specs.Tests.{Test, has_some, first_broken}
@@ -42,11 +40,11 @@ use Rattle.c_typing.specs.Walks.{listed}
 use Rattle.c_typing_laws.specs.Judged.{IsRefused}
 use Rattle.c_typing_laws.proofs.ExtensionLaws.{no_true, still_in, extended_refl}
 use Rattle.c_typing_laws.proofs.JudgedDeclarators.{adjusted-judged}
-use Rattle.c_typing_laws.proofs.JudgedForms.{IsMade, stars-made, array-made, function-made, parts-made, form-made}
-use Rattle.c_typing_laws.proofs.KeptDeclarators.{array-kept, function-kept, parts-kept, stars-kept, form_makes-kept, parameter-kept}
-use Rattle.c_typing_laws.proofs.KnownStates.{type_with-never, pointer_type-never, there-on}
-use Rattle.c_typing_laws.proofs.Outcomes.{bind-stops, unless-stops, gives-value, gives-state, never-stops, NeverRefuses, gives-never, large-never, next-never, new_node-never}
-use Rattle.c_typing_laws.proofs.ParameterTypes.{core_derived, ByParameter, parameter-made}
+use Rattle.c_typing_laws.proofs.JudgedForms.{stars-made, array-made, function-made, parts-made, form-made}
+use Rattle.c_typing_laws.proofs.KeptDeclarators.{array-kept, function-kept, parts-kept, stars-kept}
+use Rattle.c_typing_laws.proofs.KnownStates.{type_with-never, pointer_type-never}
+use Rattle.c_typing_laws.proofs.Outcomes.{bind-stops, unless-stops, never-stops, NeverRefuses, gives-never, large-never, next-never, new_node-never}
+use Rattle.c_typing_laws.proofs.ParameterTypes.{core_derived, parameter-made}
 use Rattle.c_typing_laws.proofs.TableGrowth.{extended_trans}
 
 pub refused-here : (P : Table → Type 0) (s r : State) → r ≡ s → P s.table → IsRefused P s r

@@ -1,5 +1,5 @@
 -- What judging refuses: the first rule that is broken, by one recursion over the tree, in the order in which its parts are judged.
-use Rattle.std.proofs.Common.{◌≡◌, ◌≢◌, ℕ, ◌+◌, ℤ, Bool, true, false, not, ◌&&◌, ◌||◌, List, [], ◌∷◌, ◌++◌, map, length, Option, Some, None, refl, ap, sym, subst, ◌∙◌, inl, inr, ◌⊎◌, nat_le, nat_lt, if◌then◌else◌}
+use Rattle.std.proofs.Common.{◌≡◌, ℕ, ◌+◌, ℤ, Bool, true, false, not, ◌||◌, List, [], ◌∷◌, ◌++◌, length, Option, Some, None, refl, ap, sym, subst, ◌∙◌, inl, inr, ◌⊎◌, nat_le, nat_lt, if◌then◌else◌}
 use Rattle.std.proofs.lemmas.Option.{none-some}
 use Rattle.cc_base.specs.declared.place.Place.{Place}
 use Rattle.cc_base.specs.declared.number.NodeId.{NodeId}
@@ -29,13 +29,12 @@ use Rattle.c_tree.specs.declared.operator.Unary.{Unary}
 use Rattle.c_tree.specs.declared.operator.Unary.TheVariants as unary
 use Rattle.c_tree.specs.declared.typed_word.Home.TheVariants as home
 use Rattle.c_tree.specs.declared.typed_word.TypedStar.{TypedStar}
-use Rattle.c_tree.specs.Erasure.{erased_type_name, erased_declared, erased_specifier_list, erased_members, erased_member_declarators, erased_enumerators, erased_form, erased_core, erased_parts, erased_parameters}
+use Rattle.c_tree.specs.Erasure.{erased_declared}
 use Rattle.c_tree.specs.Places.{nowhere, expr_place, pieces_place, specifiers_place}
 use Rattle.c_tree.specs.Tree as tree
 use Rattle.c_tree.specs.TypedTree as typed
 use Rattle.c_tree.specs.TypedTree.{TypedExpr, TypedTypeName, TypedSpecifierList, TypedSpecifier, TypedMembers, TypedMemberDeclarators, TypedEnumerators, TypedForm, TypedCore, TypedParts, TypedParameters, TypedDeclared}
-use Rattle.c_tree.specs.TypedParts.{named_type, type_of, name_of_form}
-use Rattle.runtime_calls.specs.Prototypes.{runtime_of}
+use Rattle.c_tree.specs.TypedParts.{named_type}
 use Rattle.c_typing.specs.declared.declared.Declared.{Declared}
 use Rattle.c_typing.specs.declared.declared.Declared.TheVariants as declared
 use Rattle.c_typing.specs.declared.declared.Tag.{Tag}
@@ -46,23 +45,22 @@ use Rattle.c_typing.specs.Adjusting.{derived_by_declared, typedef_place, adjuste
 use Rattle.c_typing.specs.Assignments
 use Rattle.c_typing.specs.Assignments.{part_type, string_type, is_char_array, count_global, literal_size}
 use Rattle.c_typing.specs.Constants.{constant_value}
-use Rattle.c_typing.specs.Declarators.{Counted, Written, counted, counting_word, are_allowed, declarator_names, member_names, member_types}
-use Rattle.c_typing.specs.Declaring
+use Rattle.c_typing.specs.Declarators.{Counted, Written, counted, counting_word, declarator_names, member_names, member_types}
 use Rattle.c_typing.specs.Declaring.{declarator_name, declared_name, home_as, stars_with_nodes, size_given, sized_part, sized, declared_makes, member_named, parameter, entered, left}
 use Rattle.c_typing.specs.Extensions.{IsExtended}
-use Rattle.c_typing.specs.Judging.{State, Outcome, Judging, Gives, Stops, next, ◌>>=◌, pure, stop, unless, by_known, new_node, type_with, integer_type}
-use Rattle.c_typing.specs.Operands.{Operand, Value, value, side_of, given, argument_of}
+use Rattle.c_typing.specs.Judging.{State, Outcome, Judging, Gives, Stops, next, ◌>>=◌, pure, by_known, new_node, type_with, integer_type}
+use Rattle.c_typing.specs.Operands.{Operand, Value, value, side_of}
 use Rattle.c_typing.specs.Operations
 use Rattle.c_typing.specs.Operations.{construct, leaf, in_parens, prefix, target, target_of, prefix_of, numbered}
-use Rattle.c_typing.specs.Refusals.{IsElaborated, After, AfterTypeName, AreElaborated, Fails, member_shape_tests, type_size_tests, name_place, BeginsOrStays, one_named, tag_place, is_empty_row, is_void_alone, declared_identifier, DeclaredFails, MemberFails, ParameterFails, Refuses, RefusesArguments, RefusesTypeName, RefusesSpecifiers, RefusesSpecifier, RefusesMembers, RefusesMemberDeclarators, RefusesEnumerators, RefusesDeclarator, RefusesCore, RefusesParts, RefusesParameters, RefusesDeclared}
+use Rattle.c_typing.specs.Refusals.{After, AfterTypeName, AreElaborated, Fails, member_shape_tests, type_size_tests, name_place, BeginsOrStays, one_named, tag_place, is_empty_row, is_void_alone, declared_identifier, Refuses, RefusesArguments, RefusesTypeName, RefusesSpecifiers, RefusesSpecifier, RefusesMembers, RefusesMemberDeclarators, RefusesEnumerators, RefusesDeclarator, RefusesCore, RefusesParts, RefusesParameters, RefusesDeclared}
 use Rattle.c_typing.specs.Rules.{is_compound, number_of_shape}
-use Rattle.c_typing.specs.Scopes.{Name, Scopes, here, tag_here, tag_in, name_in, declaring, entering, leaving, is_complete_at}
-use Rattle.c_typing.specs.Settled.{IsBasic, IsKnown, GoesOn, GoesOnThere, IsAlike, IsSideOf, IsBegun, IsTagThere}
+use Rattle.c_typing.specs.Scopes.{Name, Scopes, tag_in, name_in, declaring, leaving, is_complete_at}
+use Rattle.c_typing.specs.Settled.{IsBasic, IsKnown, GoesOn, IsBegun, IsTagThere}
 use Rattle.c_typing.specs.Specifying
 use Rattle.c_typing.specs.Specifying.{specified, listed_type, obeying, typedef_named, tagged_as, tagged_by, new_aggregate, begun_as, begun, is_taken_at_end, is_definable, defined, completed, ended, enum_tag, enumerator, enumerator_with, valued_enumerator, enumeration_begun, enumeration}
 use Rattle.c_typing.specs.Tests
 use Rattle.c_typing.specs.Tests.{Elaborated, AsPlace, AsValue, AsAllocation, Test, first_broken, has_some, is_tag_of, is_taken_tag}
-use Rattle.c_typing.specs.Typing.{IsTypeName, AreSpecifiers, AreListed, AreMembers, AreMemberDeclarators, AreEnumerators, IsForm, IsCore, AreParts, AreParameters, IsDeclared, tag_named_here, enumerating, next_value, last_value, shape_of_kind, tagging, counting_aggregate}
+use Rattle.c_typing.specs.Typing.{AreEnumerators, IsCore, AreParts, tag_named_here, next_value, last_value, shape_of_kind, tagging, counting_aggregate}
 use Rattle.c_typing.specs.Walks.{listed, declared_place, judge, judge_arguments, judge_type_name, judge_list, judge_specifier, judge_members, judge_member_declarators, judge_enumerators, judge_form, judge_core, judge_parts, judge_parameters, judge_declared}
 use Rattle.c_typing_laws.specs.Judged.{IsRefused}
 use Rattle.c_typing_laws.proofs.ExtensionLaws.{no_true, still_in, extended_refl}
@@ -71,11 +69,11 @@ use Rattle.c_typing_laws.proofs.JudgedDeclarators.{IsVoidOf, first_alone, form_n
 use Rattle.c_typing_laws.proofs.JudgedLists.{list-typed}
 use Rattle.c_typing_laws.proofs.JudgedSpecifiers.{begun-judged, enumeration_begun-judged, named_here-there}
 use Rattle.c_typing_laws.proofs.KeptDeclarators.{begins-kept}
-use Rattle.c_typing_laws.proofs.JudgedTrees.{IsJudgedFree, expr-judged, arguments-judged, type_name-judged, specifiers-judged, specifier-judged, members-judged, row-judged, enumerators-judged, form-judged, core-judged, parts-judged, parameters-judged, declared-judged, begun_goes, void_self}
-use Rattle.c_typing_laws.proofs.KeptTrees.{value-kept, type_name-kept, specifiers-kept, listed-kept, members-kept, member_declarators-kept, enumerators-kept, form-kept, core-kept, parts-kept, parameters-kept, declared-kept}
+use Rattle.c_typing_laws.proofs.JudgedTrees.{IsJudgedFree, expr-judged, type_name-judged, specifiers-judged, members-judged, row-judged, enumerators-judged, form-judged, core-judged, parts-judged, parameters-judged, declared-judged, begun_goes, void_self}
+use Rattle.c_typing_laws.proofs.KeptTrees.{type_name-kept, specifiers-kept, listed-kept, members-kept, member_declarators-kept, enumerators-kept, form-kept, core-kept, parts-kept, parameters-kept, declared-kept}
 use Rattle.c_typing_laws.proofs.KeptTypes.{complete_exact}
-use Rattle.c_typing_laws.proofs.KnownStates.{stays, goes-on, node-there, type_with-never}
-use Rattle.c_typing_laws.proofs.Outcomes.{bind-gives, bind-stops, unless-stops, construct-refuses, gives-value, gives-state, never-gives, never-stops, NeverRefuses, gives-never, large-never, next-never, new_node-never}
+use Rattle.c_typing_laws.proofs.KnownStates.{stays, goes-on, type_with-never}
+use Rattle.c_typing_laws.proofs.Outcomes.{bind-gives, bind-stops, construct-refuses, gives-value, gives-state, never-stops, NeverRefuses, gives-never, large-never, next-never, new_node-never}
 use Rattle.c_typing_laws.proofs.PartsTaken.{IsPartTaken, taken-part, constant-alike, size-alike, AreAlike, alike_last, call-alike}
 use Rattle.c_typing_laws.proofs.RefusedConstructs.{numbered-never, address-refused, size-refused, size_of_type-refused, before-refused, after-refused, index-refused, infix-refused, member-refused, pointed-refused, target-refused, prefix-refused, update-refused, choice-refused, call-refused, name-refused, assign-refused, cast-refused}
 use Rattle.c_typing_laws.proofs.RefusedDeclarators

@@ -1,45 +1,42 @@
 -- What judging refuses of what stands by itself: lists of specifiers, declarators, prototypes, values, values for a type, and constants.
-use Rattle.std.proofs.Common.{◌≡◌, ℕ, ℤ, Bool, true, false, not, ◌&&◌, ◌||◌, List, [], ◌∷◌, ◌++◌, Option, Some, None, refl, ap, sym, subst, ◌∙◌, inl, inr, ◌⊎◌}
-use Rattle.std.proofs.lemmas.Option.{none-some}
+use Rattle.std.proofs.Common.{◌≡◌, ℕ, ℤ, Bool, true, false, not, ◌||◌, [], ◌∷◌, Option, Some, None, refl, ap, sym, subst, ◌∙◌, inl, inr}
 use Rattle.cc_base.specs.declared.place.Place.{Place}
 use Rattle.cc_base.specs.declared.number.TypeId.{TypeId}
 use Rattle.cc_base.specs.declared.fault.Fault.{Fault}
 use Rattle.cc_base.specs.declared.fault.Fault.TheVariants.{Refused}
 use Rattle.cc_base.specs.declared.fault.Rule.{Rule}
 use Rattle.cc_base.specs.declared.fault.Rule.TheVariants as rule
-use Rattle.c_types.specs.Table.{Table, IsType, shape_at, is_aggregate_shape}
+use Rattle.c_types.specs.Table.{Table, IsType, shape_at}
 use Rattle.c_tree.specs.declared.leaf.Identifier.{Identifier}
 use Rattle.c_tree.specs.declared.operator.AggregateKind.{AggregateKind}
 use Rattle.c_tree.specs.Places.{nowhere, expr_place}
 use Rattle.c_tree.specs.Tree as tree
 use Rattle.c_tree.specs.TypedTree as typed
 use Rattle.c_tree.specs.TypedTree.{TypedExpr, TypedSpecifierList}
-use Rattle.c_tree.specs.TypedParts.{place_type}
 use Rattle.c_typing.specs.declared.naming.Naming.{Naming}
 use Rattle.c_typing.specs.Checking.{checked, taken, becomes, value_tests, converted_part, converted_value, checked_value, Constant, constant_as, checked_constant}
 use Rattle.c_typing.specs.Constants.{constant_value}
 use Rattle.c_typing.specs.Declaring.{NotDerived, derived_by, declarator_name, is_function_by, unless_function, form_makes, entered, left}
-use Rattle.c_typing.specs.Judging.{State, Outcome, Judging, Gives, Stops, next, ◌>>=◌, pure, stop, by_known}
+use Rattle.c_typing.specs.Judging.{State, Stops, next, pure, by_known}
 use Rattle.c_typing.specs.Operands.{Operand, Value, value, side_of, given}
-use Rattle.c_typing.specs.Refusals.{After, Fails, Refuses, RefusesSpecifiers, RefusesAlone, RefusesDeclarator, RefusesParameters, FormFails, name_place, is_void_alone}
+use Rattle.c_typing.specs.Refusals.{After, Fails, Refuses, RefusesSpecifiers, RefusesAlone, RefusesParameters, name_place, is_void_alone}
 use Rattle.c_typing.specs.Scopes.{Scopes, tag_here, entering}
-use Rattle.c_typing.specs.Settled.{IsKnown, GoesOn, IsSideOf}
-use Rattle.c_typing.specs.Shapes.{is_same_type}
+use Rattle.c_typing.specs.Settled.{IsKnown, IsSideOf}
 use Rattle.c_typing.specs.Specifying.{specified, tagged_by, tagged_alone}
 use Rattle.c_typing.specs.Tests
 use Rattle.c_typing.specs.Tests.{Elaborated, AsPlace, AsValue, AsAllocation, first_broken, fits, is_tag_of, are_one_struct, has_some}
 use Rattle.c_typing.specs.Walks
 use Rattle.c_typing.specs.Walks.{judge, judge_list, judge_alone_list, judge_value, judge_specifiers, judge_specifiers_of, judge_form, judge_parameters, judge_prototype, judge_declarator_at}
 use Rattle.c_typing_laws.specs.Judged.{IsRefused, SpecifiersFail, DeclaratorFails, ValueFails, ConstantFails}
-use Rattle.c_typing_laws.proofs.ExtensionLaws.{no_true, extended_refl, still_in}
+use Rattle.c_typing_laws.proofs.ExtensionLaws.{extended_refl, still_in}
 use Rattle.c_typing_laws.proofs.JudgedAssignments.{given-gives}
 use Rattle.c_typing_laws.proofs.JudgedDeclarators.{entered-judged}
 use Rattle.c_typing_laws.proofs.JudgedTrees.{IsJudgedFree, form-judged, void_self}
 use Rattle.c_typing_laws.proofs.KeptTrees.{form-kept}
-use Rattle.c_typing_laws.proofs.Outcomes.{bind-gives, gives-value, gives-state, never-stops, stops-fault, stops-state, NeverRefuses, gives-never, large-never, next-never}
-use Rattle.c_typing_laws.proofs.PartsTaken.{IsPartTaken, taken-part, constant-alike}
+use Rattle.c_typing_laws.proofs.Outcomes.{bind-gives, gives-value, gives-state, never-stops, stops-fault, stops-state, gives-never, next-never}
+use Rattle.c_typing_laws.proofs.PartsTaken.{taken-part, constant-alike}
 use Rattle.c_typing_laws.proofs.RefusedConstructs.{given-never}
-use Rattle.c_typing_laws.proofs.RefusedDeclarators.{refused-here, refused-after, obeying-refuses, one_broken, form-refused}
+use Rattle.c_typing_laws.proofs.RefusedDeclarators.{refused-here, refused-after, obeying-refuses, form-refused}
 use Rattle.c_typing_laws.proofs.RefusedTrees.{tagged_by-never, left-never, entered-never, step-refused, operand-first, value-first, value-fails, second, expr-refuses, specifiers-refuses, form-refuses, parameters-refuses}
 use Rattle.c_typing_laws.proofs.SidesAlike.{fits_same}
 use Rattle.c_typing_laws.proofs.SidesTaken.{given-side}

@@ -1,13 +1,12 @@
 -- The rules of choices, assignments and casts are broken by what is made of their operands exactly where they are broken by the operands as
 -- they stand.
-use Rattle.std.proofs.Common.{◌≡◌, ℕ, Bool, true, false, not, ◌&&◌, ◌||◌, List, [], ◌∷◌, Option, Some, None, refl, ap, sym, subst, ◌∙◌, inl, inr, ◌⊎◌}
+use Rattle.std.proofs.Common.{◌≡◌, Bool, true, false, not, ◌&&◌, ◌||◌, [], ◌∷◌, refl, ap, sym, ◌∙◌}
 use Rattle.cc_base.specs.declared.place.Place.{Place}
-use Rattle.cc_base.specs.declared.number.NodeId.{NodeId}
 use Rattle.cc_base.specs.declared.number.TypeId.{TypeId}
 use Rattle.cc_base.specs.declared.fault.Rule.TheVariants as rule
 use Rattle.c_types.specs.declared.shape.TypeShape.{TypeShape}
-use Rattle.c_types.specs.declared.shape.TypeShape.TheVariants.{Void, Integer, Pointer, Array, Function, Struct, Union}
-use Rattle.c_types.specs.Table.{Table, shape_at, is_aggregate_shape}
+use Rattle.c_types.specs.declared.shape.TypeShape.TheVariants.{Integer, Pointer}
+use Rattle.c_types.specs.Table.{Table, shape_at}
 use Rattle.c_tree.specs.declared.operator.Assignment.TheVariants as assignment
 use Rattle.c_tree.specs.TypedTree.{TypedExpr}
 use Rattle.c_tree.specs.TypedParts.{type_of}
@@ -15,8 +14,7 @@ use Rattle.c_typing.specs.Conversions.{is_taken_as, implicit_between, cast_betwe
 use Rattle.c_typing.specs.Scopes.{Scopes}
 use Rattle.c_typing.specs.Settled.{flat, IsAlike, IsSideOf}
 use Rattle.c_typing.specs.Shapes.{is_scalar_shape, is_integer_shape, is_pointer_shape, is_void_shape}
-use Rattle.c_typing.specs.Tests.{Elaborated, AsPlace, AsValue, AsAllocation, Test, broken_at, first_broken, shape_of, is_null_part, points_to_incomplete, are_one_struct, meet, has_some, fits, is_castable, is_assignable, choice_tests, assign_tests, cast_tests, can_be_written, is_array_part}
-use Rattle.c_typing.specs.Rules.{is_compound}
+use Rattle.c_typing.specs.Tests.{Elaborated, AsValue, broken_at, shape_of, is_null_part, has_some, fits, choice_tests, assign_tests, cast_tests, can_be_written, is_array_part}
 
 scalar_flat : (x : TypeShape) → is_scalar_shape x ≡ is_scalar_shape (flat x)
 scalar_flat (Pointer n t) = refl

@@ -1,5 +1,5 @@
 -- What is given of an operand is a side of it: its rules are the operand's.
-use Rattle.std.proofs.Common.{◌≡◌, ℕ, Bool, true, false, not, ◌&&◌, ◌||◌, List, [], ◌∷◌, Option, Some, None, refl, ap, sym, subst, ◌∙◌, inl, inr, ◌⊎◌, length}
+use Rattle.std.proofs.Common.{◌≡◌, ℕ, Bool, true, false, ◌&&◌, refl, ap, sym, subst, ◌∙◌, length}
 use Rattle.cc_base.specs.declared.place.Place.{Place}
 use Rattle.cc_base.specs.declared.number.NodeId.{NodeId}
 use Rattle.cc_base.specs.declared.number.TypeId.{TypeId}
@@ -11,20 +11,20 @@ use Rattle.c_types.specs.Table.{Table, shape_at, is_aggregate_shape, descend}
 use Rattle.c_tree.specs.Tree as tree
 use Rattle.c_tree.specs.TypedTree as typed
 use Rattle.c_tree.specs.TypedTree.{TypedExpr, TypedPlace}
-use Rattle.c_tree.specs.TypedParts.{type_of, place_type}
+use Rattle.c_tree.specs.TypedParts.{place_type}
 use Rattle.c_typing.specs.Conversions.{is_taken_over, is_pointer_to_complete}
-use Rattle.c_typing.specs.Judging.{State, Outcome, Judging, Gives, Stops, next, ◌>>=◌, pure, new_pointer, void_type}
+use Rattle.c_typing.specs.Judging.{State, Gives, next, pure, new_pointer}
 use Rattle.c_typing.specs.Operands.{made_raw, made_for, raw_value, reading_of, place_value, value_of, side_of, given_allocation, given}
 use Rattle.c_typing.specs.Refusals.{IsElaborated}
 use Rattle.c_typing.specs.Rules.{is_made_of_place}
 use Rattle.c_typing.specs.Scopes.{Scopes}
-use Rattle.c_typing.specs.Settled.{IsKnown, flat, IsAlike, IsSideOf}
+use Rattle.c_typing.specs.Settled.{IsKnown, flat, IsSideOf}
 use Rattle.c_typing.specs.Shapes.{same_shape, same_step, is_same_type, is_scalar_shape}
 use Rattle.c_typing.specs.Tests.{Elaborated, AsPlace, AsValue, AsAllocation, decayed, are_one_struct}
 use Rattle.c_typing_laws.proofs.ExtensionLaws.{no_true}
 use Rattle.c_typing_laws.proofs.ConstructLaws.{has_shape}
 use Rattle.c_typing_laws.proofs.KeptRules.{has-kept}
-use Rattle.c_typing_laws.proofs.Outcomes.{gives-value, gives-state, never-gives, bind-gives}
+use Rattle.c_typing_laws.proofs.Outcomes.{never-gives, bind-gives}
 use Rattle.c_typing_laws.proofs.KnownStates.{new_pointer-gives}
 use Rattle.c_typing_laws.proofs.ValuesTaken.{given-same, natural-no_place}
 use Rattle.c_typing_laws.proofs.JudgedMembers.{raw_made}

@@ -1,5 +1,5 @@
 -- The numbers of nodes: what judging makes is numbered one after another, in the order of the text.
-use Rattle.std.specs.Prelude.{◌≡◌, ℕ, ◌+◌, List, [], ◌∷◌, map, length}
+use Rattle.std.specs.Prelude.{◌≡◌, ℕ, ◌+◌, List, map, length}
 use Rattle.std.specs.List.{range_with_len}
 use Rattle.c_tree.specs.TypedParts.{Made, made_by, made_by_place, nodes_made}
 use Rattle.c_typing.specs.Judging.{State}

@@ -4,3 +4,4 @@ pub mod CallLaws
 pub mod LiteralLaws
 pub mod MemberLaws
 pub mod RuntimeLaws
+pub mod CellLaws

@@ -37,6 +37,7 @@ use Rattle.c_typing.specs.Tests.{Elaborated, AsPlace, AsValue, AsAllocation}
 use Rattle.c_typing.specs.Refusals.{type_size_tests}
 use Rattle.c_typing.specs.Judging.{State, Judging, Gives, Stops, pure, stop, unless, by_known, ◌>>=◌, ◌>>◌, Pointing, new_node, new_pointer, pointer_type, type_with, void_type, integer_type, holding}
 use Rattle.c_typing.specs.Operands.{Operand, Value, value, value_of, side_of, given, argument_of}
+use Rattle.c_typing.specs.Cells.{count_cells}
 use Rattle.c_typing.specs.Operations.{construct, leaf, int_type, size_type, numbered}
 
 -- Assignments (C99 6.5.16)
@@ -54,8 +55,15 @@ assigned T at p (AsPlace q) = AsPlace (typed.StructAssign p at q)
 assigned T at p (AsValue e) = AsValue (typed.Assign p at (converted_to T at (place_type p) e))
 assigned T at p (AsAllocation e) = AsValue (typed.Assign p at e)
 
+-- the pointers that a struct of the type holds are moved, and counted
+abbrev pub moved : Place → TypeId → Elaborated → Judging TypeId
+moved at t (AsPlace q) = count_cells at t
+moved at t y = pure t
+
 unfoldable pub assign_part : Place → Elaborated → Elaborated → Judging Elaborated
-assign_part at (AsPlace p) y = by_known (λ s. pure (assigned s.table at p y))
+assign_part at (AsPlace p) y = do
+  t ← moved at (place_type p) y
+  by_known (λ s. pure (assigned s.table at p y))
 assign_part at x y = stop (TooLarge at Types)
 
 abbrev pub part_type : Elaborated → TypeId

@@ -80,8 +80,24 @@ fn is_allocation(x: &Part) -> bool
     matches!(x, Part::Allocation(_))
 }
 
-/// What a cast makes of what was given to its type.
+/// A cast by this conversion.
 #[tactic(auto, using(c_tree::proofs::TypedViewLaws::typed_views))]
+fn cast_by(
+    scope: &Scope,
+    which: Conversion,
+    at: Place,
+    to: TypedTypeName,
+    e: TypedExpr,
+) -> Result<TypedExpr, NoMemory>
+    ensures { IfOk result (λ made. typed_expr_view made ≡ typed.Cast which at (typed_type_name_view to) (typed_expr_view e)) }
+{
+    let alloc = scope.alloc();
+    let to = Boxed::new(alloc, to)?;
+    let e = Boxed::new(alloc, e)?;
+    Ok(TypedExpr::Cast(which, at, to, e))
+}
+
+/// What a cast makes of what was given to its type.
 fn cast_part(
     scope: &Scope,
     types: &Types,
@@ -91,12 +107,10 @@ fn cast_part(
 ) -> Result<TypedExpr, NoMemory>
     ensures { IfOk result (λ e. typed_expr_view e ≡ assignments.cast_part types.now at (typed_type_name_view to) (part_view x)) }
 {
-    let alloc = scope.alloc();
     let taken = is_allocation(&x);
     let e = part_expr(scope, x)?;
-    let which = cast_which(types, taken, &e, to.ty);
-    let to = Boxed::new(alloc, to)?;
-    Ok(TypedExpr::Cast(which, at, to, Boxed::new(alloc, e)?))
+    let which = cast_which(types, taken, &e, type_named(&to));
+    cast_by(scope, which, at, to, e)
 }
 
 /// A cast of what was given to its type.
@@ -110,11 +124,12 @@ fn cast_given(
 ) -> Result<Operand, Fault>
     ensures { Answers operand_view (assignments.cast_given at (typed_type_name_view to) (operand_view x) (known types.now scope.now)) result (known types.now scope.now) }
 {
-    if let Some(fault) = cast_fault(types, at, x.part.as_ref(), type_named(&to)) {
+    let Operand { part, held, .. } = x;
+    if let Some(fault) = cast_fault(types, at, part.as_ref(), type_named(&to)) {
         return Err(fault);
     }
-    let held = holding(at, held_with_one(x.held))?;
-    let made = cast_part(scope, types, at, to, x.part)?;
+    let held = holding(at, held_with_one(held))?;
+    let made = cast_part(scope, types, at, to, part)?;
     Ok(Operand {
         part: Part::Value(made),
         place: at,

@@ -7,7 +7,10 @@ ghost use Rattle.c_tree.specs.TypedParts.{type_of};
 ghost use Rattle.c_tree.specs.TypedTree as typed;
 ghost use Rattle.c_tree.specs.TypedViews.{typed_expr_view, typed_place_view};
 ghost use Rattle.c_typing.specs.Assignments as assignments;
-ghost use Rattle.c_typing.specs.Judging.{Answers, known};
+ghost use Rattle.c_typing.specs.Conversions.{to_integer};
+ghost use Rattle.c_typing.specs.Integers.{common};
+ghost use Rattle.c_typing.specs.Judging.{Answers, integer_type, known, void_type};
+ghost use Rattle.c_typing.specs.KindViews.{kind_view};
 ghost use Rattle.c_typing.specs.OperandViews.{part_view, operand_view, value_view, part_ref_view};
 ghost use Rattle.c_typing.specs.Rules as rules;
 ghost use Rattle.c_typing.specs.Shapes.{integer_at, is_void_shape};
@@ -15,6 +18,7 @@ ghost use Rattle.c_typing.specs.Tests as tests;
 ghost use Rattle.c_typing.specs.Tests.{first_broken, AsPlace, AsValue};
 
 use crate::assigning::are_one_struct;
+use crate::boxes::{boxed_pair, boxed_places};
 use crate::meeting::{how_they_meet, meet};
 use crate::unary::to_integer;
 use crate::value_shape::shape_of;
@@ -22,7 +26,8 @@ use c_tree::{Boxed, Conversion, TypedExpr, TypedPlace};
 use c_types::Types;
 use c_typing::constant::is_null_constant;
 use c_typing::construct::{held_with_three, held_with_two, holding};
-use c_typing::operand::{Operand, Part, PartRef, Value};
+use c_typing::kind::Kind;
+use c_typing::operand::{Operand, Part, PartRef, Pointing, Value};
 use c_typing::scope::Scope;
 use c_typing::shapes::{are_integers, integer_at, is_scalar, is_void, shape_at};
 use c_typing::stops::{no_room, refusal};
@@ -87,8 +92,46 @@ struct Chosen {
     b: TypedExpr,
 }
 
+/// `?:` of pointers that have this type.
+#[tactic(auto, using(c_tree::proofs::TypedViewLaws::typed_views))]
+fn pointer_conditional(
+    scope: &Scope,
+    condition: TypedExpr,
+    at: Place,
+    a: TypedExpr,
+    b: TypedExpr,
+    made: Pointing,
+) -> Result<TypedExpr, NoMemory>
+    ensures { IfOk result (λ e. typed_expr_view e ≡ typed.PointerConditional (typed_expr_view condition) at (typed_expr_view a) (typed_expr_view b) made.node made.ty) }
+{
+    let (a, b) = boxed_pair(scope, a, b)?;
+    let condition = Boxed::new(scope.alloc(), condition)?;
+    Ok(TypedExpr::PointerConditional(condition, at, a, b, made.node, made.ty))
+}
+
+/// `?:` of two that flow into this pointer type.
+fn chosen_pointer(
+    scope: &Scope,
+    types: &Types,
+    x: Chosen,
+    made: Pointing,
+) -> Result<TypedExpr, NoMemory>
+    ensures { IfOk result (λ e. typed_expr_view e ≡ typed.PointerConditional (typed_expr_view x.condition) x.at (rules.into_choice types.now x.at made.ty (typed_expr_view x.a)) (rules.into_choice types.now x.at made.ty (typed_expr_view x.b)) made.node made.ty) }
+{
+    let Chosen {
+        condition,
+        at,
+        a,
+        b,
+        ..
+    } = x;
+    let a = into_choice(scope, types, at, made.ty, a)?;
+    let b = into_choice(scope, types, at, made.ty, b)?;
+    pointer_conditional(scope, condition, at, a, b, made)
+}
+
 /// `?:` of pointers to what both sides point to.
-#[tactic(auto, using(c_tree::proofs::TypedViewLaws::typed_views), unfolding(c_typing::specs::Assignments::pointer_choice))]
+#[tactic(auto, unfolding(c_typing::specs::Assignments::pointer_choice))]
 fn pointer_choice(
     scope: &mut Scope,
     types: &mut Types,
@@ -97,22 +140,12 @@ fn pointer_choice(
 ) -> Result<TypedExpr, Fault>
     ensures { Answers (λ e. AsValue (typed_expr_view e)) (assignments.pointer_choice (typed_expr_view x.condition) x.begin x.at (typed_expr_view x.a) (typed_expr_view x.b) to (known types.old scope.old)) result (known types.new scope.new) }
 {
-    let Chosen {
-        condition,
-        begin,
-        at,
-        a,
-        b,
-    } = x;
+    let begin = x.begin;
     let Some(to) = to else {
         return Err(no_room(begin));
     };
-    let alloc = scope.alloc();
     let made = new_pointer(scope, types, begin, to)?;
-    let a = Boxed::new(alloc, into_choice(scope, types, at, made.ty, a)?)?;
-    let b = Boxed::new(alloc, into_choice(scope, types, at, made.ty, b)?)?;
-    let condition = Boxed::new(alloc, condition)?;
-    Ok(TypedExpr::PointerConditional(condition, at, a, b, made.node, made.ty))
+    Ok(chosen_pointer(scope, types, x, made)?)
 }
 
 /// `?:` of two that have this type.
@@ -127,11 +160,23 @@ fn conditional(
 ) -> Result<TypedExpr, NoMemory>
     ensures { IfOk result (λ e. typed_expr_view e ≡ typed.Conditional (typed_expr_view condition) at (typed_expr_view a) (typed_expr_view b) t) }
 {
-    let alloc = scope.alloc();
-    let condition = Boxed::new(alloc, condition)?;
-    let a = Boxed::new(alloc, a)?;
-    let b = Boxed::new(alloc, b)?;
+    let (a, b) = boxed_pair(scope, a, b)?;
+    let condition = Boxed::new(scope.alloc(), condition)?;
     Ok(TypedExpr::Conditional(condition, at, a, b, t))
+}
+
+/// `?:` of two without a value.
+fn void_choice(scope: &Scope, x: Chosen) -> Result<TypedExpr, NoMemory>
+    ensures { IfOk result (λ e. typed_expr_view e ≡ typed.Conditional (typed_expr_view x.condition) x.at (typed_expr_view x.a) (typed_expr_view x.b) void_type) }
+{
+    let Chosen {
+        condition,
+        at,
+        a,
+        b,
+        ..
+    } = x;
+    conditional(scope, condition, at, a, b, VOID)
 }
 
 /// `?:` of two that are not both integers.
@@ -140,10 +185,32 @@ fn choice_of_pointers(scope: &mut Scope, types: &mut Types, x: Chosen) -> Result
     ensures { Answers (λ e. AsValue (typed_expr_view e)) (assignments.choice_of_pointers (typed_expr_view x.condition) x.begin x.at (typed_expr_view x.a) (typed_expr_view x.b) (is_void_shape (shape_at types.old (type_of (typed_expr_view x.a))) && is_void_shape (shape_at types.old (type_of (typed_expr_view x.b)))) (known types.old scope.old)) result (known types.new scope.new) }
 {
     if is_void(shape_at(types, x.a.ty())) && is_void(shape_at(types, x.b.ty())) {
-        return Ok(conditional(scope, x.condition, x.at, x.a, x.b, VOID)?);
+        return Ok(void_choice(scope, x)?);
     }
     let to = how_they_meet(types, &x.a, &x.b).pointee();
     pointer_choice(scope, types, x, to)
+}
+
+/// `?:` of two integers, each converted to the type in which they meet.
+fn integer_choice(
+    scope: &Scope,
+    x: Chosen,
+    left: Kind,
+    right: Kind,
+) -> Result<TypedExpr, NoMemory>
+    ensures { IfOk result (λ e. typed_expr_view e ≡ typed.Conditional (typed_expr_view x.condition) x.at (to_integer x.at (integer_type (common (kind_view left) (kind_view right))) (typed_expr_view x.a)) (to_integer x.at (integer_type (common (kind_view left) (kind_view right))) (typed_expr_view x.b)) (integer_type (common (kind_view left) (kind_view right)))) }
+{
+    let Chosen {
+        condition,
+        at,
+        a,
+        b,
+        ..
+    } = x;
+    let t = left.common(right).ty();
+    let a = to_integer(scope, at, t, a)?;
+    let b = to_integer(scope, at, t, b)?;
+    conditional(scope, condition, at, a, b, t)
 }
 
 /// `?:` of two values.
@@ -152,12 +219,7 @@ fn choice_of_values(scope: &mut Scope, types: &mut Types, x: Chosen) -> Result<T
     ensures { Answers (λ e. AsValue (typed_expr_view e)) (assignments.choice_of_values (typed_expr_view x.condition) x.begin x.at (typed_expr_view x.a) (typed_expr_view x.b) (integer_at types.old (type_of (typed_expr_view x.a))) (integer_at types.old (type_of (typed_expr_view x.b))) (known types.old scope.old)) result (known types.new scope.new) }
 {
     match (integer_at(types, x.a.ty()), integer_at(types, x.b.ty())) {
-        (Some(left), Some(right)) => {
-            let t = left.common(right).ty();
-            let a = to_integer(scope, x.at, t, x.a)?;
-            let b = to_integer(scope, x.at, t, x.b)?;
-            Ok(conditional(scope, x.condition, x.at, a, b, t)?)
-        }
+        (Some(left), Some(right)) => Ok(integer_choice(scope, x, left, right)?),
         _ => choice_of_pointers(scope, types, x),
     }
 }
@@ -173,10 +235,8 @@ fn struct_choice(
 ) -> Result<Part, NoMemory>
     ensures { IfOk result (λ x. part_view x ≡ AsPlace (typed.StructConditional (typed_expr_view condition) at (typed_place_view p) (typed_place_view q))) }
 {
-    let alloc = scope.alloc();
-    let condition = Boxed::new(alloc, condition)?;
-    let p = Boxed::new(alloc, p)?;
-    let q = Boxed::new(alloc, q)?;
+    let (p, q) = boxed_places(scope, p, q)?;
+    let condition = Boxed::new(scope.alloc(), condition)?;
     Ok(Part::Place(TypedPlace::StructConditional(condition, at, p, q)))
 }
 
@@ -219,31 +279,49 @@ pub fn choice(
 ) -> Result<Operand, Fault>
     ensures { Answers operand_view (assignments.choice (value_view c) at (value_view a) (value_view b) (known types.old scope.old)) result (known types.new scope.new) }
 {
+    let Value {
+        expr: condition,
+        place,
+        held,
+    } = c;
+    let counts = held_with_three(held, a.held, b.held);
     let x = side_of(a.expr);
     let y = side_of(b.expr);
-    if let Some(fault) = choice_fault(types, at, &c.expr, x.as_ref(), y.as_ref()) {
+    if let Some(fault) = choice_fault(types, at, &condition, x.as_ref(), y.as_ref()) {
         return Err(fault);
     }
-    let held = holding(c.place, held_with_three(c.held, a.held, b.held))?;
-    let part = choice_of_parts(scope, types, c.expr, c.place, at, (x, y))?;
-    Ok(Operand {
-        part,
-        place: c.place,
-        held,
-    })
+    let held = holding(place, counts)?;
+    let part = choice_of_parts(scope, types, condition, place, at, (x, y))?;
+    Ok(Operand { part, place, held })
 }
 
-/// What `,` makes of a value and what follows it.
+/// `,` before a struct.
 #[tactic(auto, using(c_tree::proofs::TypedViewLaws::typed_views))]
-fn comma_part(scope: &Scope, a: TypedExpr, b: Part) -> Result<Part, NoMemory>
-    ensures { IfOk result (λ x. part_view x ≡ assignments.comma_part (typed_expr_view a) (part_view b)) }
+fn before_struct(scope: &Scope, a: TypedExpr, p: TypedPlace) -> Result<Part, NoMemory>
+    ensures { IfOk result (λ x. part_view x ≡ AsPlace (typed.StructComma (typed_expr_view a) (typed_place_view p))) }
 {
     let alloc = scope.alloc();
     let a = Boxed::new(alloc, a)?;
+    let p = Boxed::new(alloc, p)?;
+    Ok(Part::Place(TypedPlace::StructComma(a, p)))
+}
+
+/// `,` before a value.
+#[tactic(auto, using(c_tree::proofs::TypedViewLaws::typed_views))]
+fn before_value(scope: &Scope, a: TypedExpr, b: TypedExpr) -> Result<Part, NoMemory>
+    ensures { IfOk result (λ x. part_view x ≡ AsValue (typed.Comma (typed_expr_view a) (typed_expr_view b))) }
+{
+    let (a, b) = boxed_pair(scope, a, b)?;
+    Ok(Part::Value(TypedExpr::Comma(a, b)))
+}
+
+/// What `,` makes of a value and what follows it.
+fn comma_part(scope: &Scope, a: TypedExpr, b: Part) -> Result<Part, NoMemory>
+    ensures { IfOk result (λ x. part_view x ≡ assignments.comma_part (typed_expr_view a) (part_view b)) }
+{
     match b {
-        Part::Place(p) => Ok(Part::Place(TypedPlace::StructComma(a, Boxed::new(alloc, p)?))),
-        Part::Value(b) => Ok(Part::Value(TypedExpr::Comma(a, Boxed::new(alloc, b)?))),
-        Part::Allocation(b) => Ok(Part::Value(TypedExpr::Comma(a, Boxed::new(alloc, b)?))),
+        Part::Place(p) => before_struct(scope, a, p),
+        Part::Value(b) | Part::Allocation(b) => before_value(scope, a, b),
     }
 }
 
@@ -252,11 +330,13 @@ fn comma_part(scope: &Scope, a: TypedExpr, b: Part) -> Result<Part, NoMemory>
 pub fn comma(scope: &Scope, types: &Types, a: Value, b: Value) -> Result<Operand, Fault>
     ensures { Answers operand_view (assignments.comma (value_view a) (value_view b) (known types.now scope.now)) result (known types.now scope.now) }
 {
-    let held = holding(a.place, held_with_two(a.held, b.held))?;
-    let part = comma_part(scope, a.expr, side_of(b.expr))?;
-    Ok(Operand {
-        part,
-        place: a.place,
-        held,
-    })
+    let Value { expr, place, held } = a;
+    let Value {
+        expr: last,
+        held: held_after,
+        ..
+    } = b;
+    let held = holding(place, held_with_two(held, held_after))?;
+    let part = comma_part(scope, expr, side_of(last))?;
+    Ok(Operand { part, place, held })
 }

@@ -4,6 +4,7 @@
 mod address;
 pub mod assigning;
 pub mod binary;
+mod boxes;
 pub mod calls;
 pub mod casting;
 pub mod cells;

@@ -13,7 +13,8 @@ use Rattle.runtime_calls.specs.declared.function.RuntimeType.{RuntimeType}
 use Rattle.c_typing.specs.declared.operand.Value.{Value}
 use Rattle.c_typing.specs.OperandViews.{value_view}
 use Rattle.c_typing.specs.Operands.{argument_of}
-use Rattle.c_typing.specs.Tests.{Test, first_broken, AsValue, fits, is_taken_by, argument_tests, runtime_argument_tests}
+use Rattle.cc_base.specs.declared.place.Place.{Place}
+use Rattle.c_typing.specs.Tests.{Test, first_broken, AsValue, fits, is_taken_by, argument_tests, runtime_argument_tests, runtime_tests}
 use Rattle.c_typing.specs.Assignments.{arguments_held, converted_to, converted_arguments, runtime_argument, runtime_arguments}
 
 or_else : Option Fault → Option Fault → Option Fault
@@ -68,6 +69,12 @@ next_runtime T t ts v values h = ap (λ (b : Bool). if not b then Some (Refused 
 pub bad_runtime : (T : Table) (t : RuntimeType) (ts : List RuntimeType) (v : Value) (values : List Value) → is_taken_by T t (AsValue (typed_expr_view v.expr)) ≡ false
     → runtime_broken T (t ∷ ts) (v ∷ values) ≡ Some (Refused v.place Mismatch)
 bad_runtime T t ts v values h = ap (λ (b : Bool). if not b then Some (Refused v.place Mismatch) else runtime_broken T ts values) h
+
+-- the first argument that a runtime function doesn't take is the first rule that is broken
+pub runtime_first : (T : Table) (ps qs : List RuntimeType) (at : Place) (values : List Value) (f : Fault) → ps ≡ qs → Some f ≡ runtime_broken T ps values
+    → Some f ≡ first_broken (runtime_tests T qs at (map argument_of (map value_view values)))
+runtime_first T ps qs at values f h e = broken_first (runtime_argument_tests T qs (map argument_of (map value_view values))) _ f
+    (e ∙ ap (λ (l : List RuntimeType). runtime_broken T l values) h)
 
 -- Arguments that are converted
 

@@ -20,3 +20,8 @@ one_named name Free e = ap runtime_of e
 one_named name Getchar e = ap runtime_of e
 one_named name Putchar e = ap runtime_of e
 one_named name Exit e = ap runtime_of e
+
+-- what the search by a name finds
+pub found_named : (name : List ℕ) (o : Option Runtime) → MatchOption o (IsNoName name) (IsNamed name) → o ≡ runtime_of name
+found_named name None n = none_named name n
+found_named name (Some r) e = one_named name r e

@@ -13,12 +13,12 @@ ghost use Rattle.c_typing.specs.Rules as rules;
 ghost use Rattle.c_typing.specs.Tests as tests;
 ghost use Rattle.c_typing.specs.Tests.{first_broken, AsPlace};
 
-use c_tree::{Boxed, Side, Step, TypedExpr, TypedPlace};
-use c_types::{TypeShape, Types};
-use c_typing::construct::{held_with_one, holding};
+use crate::allowed::allowed;
+use c_tree::{Boxed, Side, TypedExpr, TypedPlace};
+use c_types::Types;
 use c_typing::operand::{Operand, Part};
 use c_typing::scope::Scope;
-use c_typing::shapes::{is_complete_at, is_scalar, points_to_incomplete, shape_at};
+use c_typing::shapes::is_complete_at;
 use c_typing::stops::{no_room, refusal};
 use c_typing::typing::{new_pointer, value_of};
 use cc_base::{Fault, Place, Rule, TypeId};
@@ -145,15 +145,13 @@ pub(crate) fn address(
 ) -> Result<Operand, Fault>
     ensures { Answers operand_view (operations.address at (operand_view x) (known types.old scope.old)) result (known types.new scope.new) }
 {
-    if let Some(fault) = address_fault(at, &x.part) {
-        return Err(fault);
-    }
-    let held = holding(at, held_with_one(x.held))?;
-    let part = address_of_part(scope, types, at, x.part)?;
+    let fault = address_fault(at, &x.part);
+    let allowed = allowed(fault, at, x)?;
+    let part = address_of_part(scope, types, at, allowed.part)?;
     Ok(Operand {
         part,
         place: at,
-        held,
+        held: allowed.held,
     })
 }
 
@@ -229,14 +227,13 @@ pub(crate) fn size(
 ) -> Result<Operand, Fault>
     ensures { Answers operand_view (operations.size at (operand_view x) (known types.old scope.old)) result (known types.new scope.new) }
 {
-    if let Some(fault) = size_fault(scope, types, at, &x.part) {
-        return Err(fault);
-    }
-    let held = holding(at, held_with_one(x.held))?;
-    let made = size_of_part(scope, types, at, x.place, x.part)?;
+    let begin = x.place;
+    let fault = size_fault(scope, types, at, &x.part);
+    let allowed = allowed(fault, at, x)?;
+    let made = size_of_part(scope, types, at, begin, allowed.part)?;
     Ok(Operand {
         part: Part::Value(made),
         place: at,
-        held,
+        held: allowed.held,
     })
 }

@@ -2,6 +2,7 @@
 #![tactic(auto)]
 
 mod address;
+mod allowed;
 pub mod assigning;
 pub mod binary;
 mod boxes;

@@ -1,10 +1,11 @@
 //! Members of structs and unions (C99 6.5.2.3).
 #![tactic(auto)]
 
-ghost use Rattle.std.specs.Prelude.{◌≡◌, option_copied};
+ghost use Rattle.std.specs.Prelude.{◌≡◌, IfOk, option_copied};
 ghost use Rattle.c_types.specs.Layouts.{member_at};
 ghost use Rattle.c_tree.specs.TypedParts.{type_of};
-ghost use Rattle.c_tree.specs.TypedViews.{typed_expr_view};
+ghost use Rattle.c_tree.specs.TypedTree as typed;
+ghost use Rattle.c_tree.specs.TypedViews.{typed_expr_view, typed_place_view};
 ghost use Rattle.c_typing.specs.Judging.{Answers, known};
 ghost use Rattle.c_typing.specs.KindViews.{shape_or_void};
 ghost use Rattle.c_check_operators.specs.MemberViews.{found_view};
@@ -13,9 +14,10 @@ ghost use Rattle.c_typing.specs.OperandViews.{part_view, operand_view, value_vie
 ghost use Rattle.c_typing.specs.Rules.{number_of_shape};
 ghost use Rattle.c_typing.specs.Shapes.{pointee_at};
 ghost use Rattle.c_typing.specs.Tests as tests;
-ghost use Rattle.c_typing.specs.Tests.{first_broken};
+ghost use Rattle.c_typing.specs.Tests.{first_broken, AsPlace};
 ghost use Rattle.c_types.specs.Table.{shape_at};
 
+use crate::allowed::allowed;
 use crate::value_shape::shape_of;
 use c_tree::{Boxed, Identifier, TypedExpr, TypedPlace};
 use c_types::{TypeShape, Types};
@@ -25,7 +27,7 @@ use c_typing::operand::{Operand, Part, PartRef, Value};
 use c_typing::scope::Scope;
 use c_typing::shapes::{is_aggregate, pointed_shape, pointee_at, shape_at};
 use c_typing::stops::{no_room, refusal};
-use cc_base::{Fault, NodeId, Place, Rule, TypeId};
+use cc_base::{Fault, NoMemory, NodeId, Place, Rule, TypeId};
 
 /// The number of a member, and a node for its place.
 #[derive(Clone, Copy)]
@@ -135,8 +137,44 @@ fn member_at(types: &Types, t: TypeId, i: u32) -> TypeId
     types.field(t, i as usize).ty
 }
 
+/// The place of a member that was found, in a place.
+#[tactic(auto, using(c_tree::proofs::TypedViewLaws::typed_views))]
+fn place_in(
+    scope: &Scope,
+    p: TypedPlace,
+    at: Place,
+    name: &Identifier,
+    found: FoundMember,
+    t: TypeId,
+) -> Result<TypedPlace, NoMemory>
+    ensures { IfOk result (λ made. typed_place_view made ≡ typed.Member (typed_place_view p) at name.now found.member found.node t) }
+{
+    let alloc = scope.alloc();
+    let name = copied_name(alloc, name)?;
+    let inner = Boxed::new(alloc, p)?;
+    Ok(TypedPlace::Member(inner, at, name, found.member, found.node, t))
+}
+
 /// A member of a place.
-#[tactic(auto, using(c_tree::proofs::TypedViewLaws::typed_views), unfolding(c_typing::specs::Operations::member_of))]
+#[tactic(auto, unfolding(c_typing::specs::Operations::member_of))]
+fn member_of_place(
+    scope: &mut Scope,
+    types: &Types,
+    begin: Place,
+    at: Place,
+    name: &Identifier,
+    p: TypedPlace,
+) -> Result<Part, Fault>
+    ensures { Answers part_view (operations.member_of begin at name.now (AsPlace (typed_place_view p)) (known types.now scope.old)) result (known types.now scope.new) }
+{
+    let whole = p.ty();
+    let i = found(scope, types, begin, whole, name)?;
+    let t = member_at(types, whole, i.member);
+    Ok(Part::Place(place_in(scope, p, at, name, i, t)?))
+}
+
+/// A member of a part, which is a place.
+#[tactic(auto, unfolding(c_typing::specs::Operations::member_of))]
 fn member_of(
     scope: &mut Scope,
     types: &Types,
@@ -148,17 +186,8 @@ fn member_of(
     ensures { Answers part_view (operations.member_of begin at name.now (part_view x) (known types.now scope.old)) result (known types.now scope.new) }
 {
     match x {
-        Part::Place(p) => {
-            let alloc = scope.alloc();
-            let whole = p.ty();
-            let i = found(scope, types, begin, whole, name)?;
-            let t = member_at(types, whole, i.member);
-            let name = copied_name(alloc, name)?;
-            let inner = Boxed::new(alloc, p)?;
-            Ok(Part::Place(TypedPlace::Member(inner, at, name, i.member, i.node, t)))
-        }
-        Part::Value(_) => Err(no_room(begin)),
-        Part::Allocation(_) => Err(no_room(begin)),
+        Part::Place(p) => member_of_place(scope, types, begin, at, name, p),
+        _ => Err(no_room(begin)),
     }
 }
 
@@ -187,13 +216,15 @@ pub fn member(
 ) -> Result<Operand, Fault>
     ensures { Answers operand_view (operations.member (operand_view x) at name.now (known types.now scope.old)) result (known types.now scope.new) }
 {
-    if let Some(fault) = part_fault(scope, types, x.part.as_ref(), at, name) {
-        return Err(fault);
-    }
     let place = x.place;
-    let held = holding(place, held_with_one(x.held))?;
-    let part = member_of(scope, types, place, at, name, x.part)?;
-    Ok(Operand { part, place, held })
+    let fault = part_fault(scope, types, x.part.as_ref(), at, name);
+    let allowed = allowed(fault, place, x)?;
+    let part = member_of(scope, types, place, at, name, allowed.part)?;
+    Ok(Operand {
+        part,
+        place,
+        held: allowed.held,
+    })
 }
 
 /// The rules of `->`.
@@ -210,8 +241,26 @@ fn value_fault(
     member_fault(scope, shape, at, name)
 }
 
+/// The place of a member that was found, in what a pointer points to.
+#[tactic(auto, using(c_tree::proofs::TypedViewLaws::typed_views))]
+fn place_behind(
+    scope: &Scope,
+    e: TypedExpr,
+    at: Place,
+    name: &Identifier,
+    found: FoundMember,
+    t: TypeId,
+) -> Result<TypedPlace, NoMemory>
+    ensures { IfOk result (λ made. typed_place_view made ≡ typed.MemberAt (typed_expr_view e) at name.now found.member found.node t) }
+{
+    let alloc = scope.alloc();
+    let name = copied_name(alloc, name)?;
+    let inner = Boxed::new(alloc, e)?;
+    Ok(TypedPlace::MemberAt(inner, at, name, found.member, found.node, t))
+}
+
 /// A member of what a pointer points to.
-#[tactic(auto, using(c_tree::proofs::TypedViewLaws::typed_views), unfolding(c_typing::specs::Operations::member_at_pointer))]
+#[tactic(auto, unfolding(c_typing::specs::Operations::member_at_pointer))]
 fn member_at_pointer(
     scope: &mut Scope,
     types: &Types,
@@ -222,17 +271,12 @@ fn member_at_pointer(
 ) -> Result<Part, Fault>
     ensures { Answers part_view (operations.member_at_pointer begin at name.now (typed_expr_view e) (pointee_at types.now (type_of (typed_expr_view e))) (known types.now scope.old)) result (known types.now scope.new) }
 {
-    let alloc = scope.alloc();
-    match pointee_at(types, e.ty()) {
-        Some(whole) => {
-            let i = found(scope, types, begin, whole, name)?;
-            let t = member_at(types, whole, i.member);
-            let name = copied_name(alloc, name)?;
-            let inner = Boxed::new(alloc, e)?;
-            Ok(Part::Place(TypedPlace::MemberAt(inner, at, name, i.member, i.node, t)))
-        }
-        None => Err(no_room(begin)),
-    }
+    let Some(whole) = pointee_at(types, e.ty()) else {
+        return Err(no_room(begin));
+    };
+    let i = found(scope, types, begin, whole, name)?;
+    let t = member_at(types, whole, i.member);
+    Ok(Part::Place(place_behind(scope, e, at, name, i, t)?))
 }
 
 /// `->` (C99 6.5.2.3).

@@ -95,7 +95,6 @@ fn name_fault(scope: &Scope, runtime: bool, called: bool, word: &Identifier) -> 
 }
 
 /// The runtime function with a name.
-#[tactic(auto, using(crate::proofs::RuntimeLaws::none_named, crate::proofs::RuntimeLaws::one_named))]
 fn runtime_of(name: &[u8]) -> Option<Runtime>
     ensures { result ≡ runtime_of name.now }
 {

@@ -10,11 +10,11 @@ ghost use Rattle.c_typing.specs.Tests as tests;
 ghost use Rattle.c_typing.specs.Tests.{first_broken};
 
 use crate::address::{address, can_be_written, size};
+use crate::allowed::allowed;
 use crate::unary::{computed, target};
 use crate::value_shape::shape_of;
 use c_tree::{Boxed, Step, TypedExpr, Unary};
 use c_types::{TypeShape, Types};
-use c_typing::construct::{held_with_one, holding};
 use c_typing::operand::{Operand, Part};
 use c_typing::scope::Scope;
 use c_typing::shapes::{is_scalar, points_to_incomplete, shape_at};
@@ -100,15 +100,13 @@ fn step_before(
 ) -> Result<Operand, Fault>
     ensures { Answers operand_view (operations.step_before operator at (operand_view x) (known types.old scope.old)) result (known types.new scope.new) }
 {
-    if let Some(fault) = step_fault(scope, types, at, &x.part) {
-        return Err(fault);
-    }
-    let held = holding(at, held_with_one(x.held))?;
-    let part = part_before(scope, types, operator, at, x.part)?;
+    let fault = step_fault(scope, types, at, &x.part);
+    let allowed = allowed(fault, at, x)?;
+    let part = part_before(scope, types, operator, at, allowed.part)?;
     Ok(Operand {
         part,
         place: at,
-        held,
+        held: allowed.held,
     })
 }
 
@@ -123,15 +121,14 @@ pub fn step_after(
 ) -> Result<Operand, Fault>
     ensures { Answers operand_view (operations.step_after operator at (operand_view x) (known types.old scope.old)) result (known types.new scope.new) }
 {
-    if let Some(fault) = step_fault(scope, types, at, &x.part) {
-        return Err(fault);
-    }
-    let held = holding(x.place, held_with_one(x.held))?;
-    let part = part_after(scope, types, operator, at, x.part)?;
+    let begin = x.place;
+    let fault = step_fault(scope, types, at, &x.part);
+    let allowed = allowed(fault, begin, x)?;
+    let part = part_after(scope, types, operator, at, allowed.part)?;
     Ok(Operand {
         part,
-        place: x.place,
-        held,
+        place: begin,
+        held: allowed.held,
     })
 }
 

@@ -1,5 +1,5 @@
 -- What declarators and parameters make of a type, where no rule is broken, and where they stop else (C99 6.7.5).
-use Rattle.std.specs.Prelude.{ℕ, ℤ, pos, Bool, true, false, not, ◌&&◌, nat_lt, List, [], ◌∷◌, length, Option, Some, None, if◌then◌else◌}
+use Rattle.std.specs.Prelude.{ℕ, ℤ, pos, Bool, true, false, ◌&&◌, nat_lt, List, [], ◌∷◌, length, Option, Some, None, if◌then◌else◌}
 use Rattle.std.specs.List.{list_all}
 use Rattle.cc_base.specs.declared.place.Place.{Place}
 use Rattle.cc_base.specs.declared.number.NodeId.{NodeId}
@@ -20,19 +20,19 @@ use Rattle.c_tree.specs.Tree as tree
 use Rattle.c_tree.specs.Places.{nowhere}
 use Rattle.c_tree.specs.TypedTree as typed
 use Rattle.c_tree.specs.TypedTree.{TypedExpr, TypedSpecifiers, TypedForm, TypedCore, TypedParts, TypedParameters, TypedDeclared, TypedMemberDeclarators}
-use Rattle.c_tree.specs.TypedParts.{specified_type, home_of_form, name_of_form}
+use Rattle.c_tree.specs.TypedParts.{specified_type, home_of_form}
 use Rattle.c_typing.specs.declared.declared.Declared.TheVariants as declared
 use Rattle.c_typing.specs.declared.naming.Naming.{Naming}
 use Rattle.c_typing.specs.declared.naming.Naming.TheVariants as naming
 pub use Rattle.c_typing.specs.Adjusting.{Derived, NotDerived, ByStar, ByArray, ByFunction, by_stars, by_parts, derived_by, derived_by_core, derived_by_declared, typedef_place, adjusted_at}
-use Rattle.c_typing.specs.Scopes.{Name, Scopes, declaring, entering, leaving}
+use Rattle.c_typing.specs.Scopes.{Name, declaring, entering, leaving}
 use Rattle.c_typing.specs.Constants.{constant_value}
 use Rattle.c_typing.specs.Shapes.{is_function_shape}
 use Rattle.c_typing.specs.Declarators.{Outermost, Written, Counts, Points, nearest, outside, taken_types, is_derived_declared}
 use Rattle.c_typing.specs.Tests as tests
 use Rattle.c_typing.specs.Tests.{AsValue}
 use Rattle.c_typing.specs.Refusals.{has_name, is_here, declared_identifier}
-use Rattle.c_typing.specs.Judging.{State, Judging, Gives, Stops, pure, stop, unless, by_known, ◌>>=◌, ◌>>◌, new_node, type_with, pointer_type}
+use Rattle.c_typing.specs.Judging.{Judging, Stops, pure, stop, by_known, ◌>>=◌, new_node, type_with, pointer_type}
 use Rattle.c_typing.specs.Operands.{Value}
 use Rattle.c_typing.specs.Specifying.{obeying, in_scopes}
 

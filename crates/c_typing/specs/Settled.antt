@@ -19,7 +19,7 @@ use Rattle.c_typing.specs.Conversions.{bare, is_droppable, IsPlain}
 use Rattle.c_typing.specs.Declarators
 use Rattle.c_typing.specs.Declarators.{Counted, Named, NoType, IsEnumeration, counting, counted, named_by_specifier, named_by_list, are_allowed}
 use Rattle.c_typing.specs.Extensions.{IsExtended}
-use Rattle.c_typing.specs.Judging.{State, Gives, void_type, integer_type}
+use Rattle.c_typing.specs.Judging.{State, void_type, integer_type}
 use Rattle.c_typing.specs.Operands.{Operand, Value}
 use Rattle.c_typing.specs.Refusals.{IsElaborated}
 use Rattle.c_typing.specs.declared.declared.Declared.{Declared}

@@ -16,6 +16,7 @@ ghost use Rattle.c_typing.specs.Tests as tests;
 ghost use Rattle.c_typing.specs.Tests.{first_broken, AsPlace, AsValue};
 
 use crate::address::can_be_written;
+use crate::allowed::held_within;
 use crate::boxes::boxed_places;
 use crate::cells::count_cells;
 use crate::conversion::{converted_to, fits, given};
@@ -25,7 +26,7 @@ use crate::unary::to_integer;
 use crate::value_shape::shape_of;
 use c_tree::{Assignment, Boxed, TypedExpr, TypedPlace};
 use c_types::Types;
-use c_typing::construct::{held_with_two, holding};
+use c_typing::construct::held_with_two;
 use c_typing::kind::{Kind, assigning, left_kind, right_kind};
 use c_typing::operand::{Operand, Part, PartRef, Value};
 use c_typing::same::is_same_type;
@@ -118,12 +119,7 @@ fn part_type(x: &Part) -> TypeId
 
 /// `=` of two structs.
 #[tactic(auto, using(c_tree::proofs::TypedViewLaws::typed_views))]
-fn struct_assigned(
-    scope: &Scope,
-    at: Place,
-    p: TypedPlace,
-    q: TypedPlace,
-) -> Result<Part, NoMemory>
+fn struct_assigned(scope: &Scope, at: Place, p: TypedPlace, q: TypedPlace) -> Result<Part, NoMemory>
     ensures { IfOk result (λ x. part_view x ≡ AsPlace (typed.StructAssign (typed_place_view p) at (typed_place_view q))) }
 {
     let (p, q) = boxed_places(scope, p, q)?;
@@ -132,12 +128,7 @@ fn struct_assigned(
 
 /// `=` of a value that has the type of the place.
 #[tactic(auto, using(c_tree::proofs::TypedViewLaws::typed_views))]
-fn value_assigned(
-    scope: &Scope,
-    at: Place,
-    p: TypedPlace,
-    e: TypedExpr,
-) -> Result<Part, NoMemory>
+fn value_assigned(scope: &Scope, at: Place, p: TypedPlace, e: TypedExpr) -> Result<Part, NoMemory>
     ensures { IfOk result (λ x. part_view x ≡ AsValue (typed.Assign (typed_place_view p) at (typed_expr_view e))) }
 {
     let alloc = scope.alloc();
@@ -193,15 +184,27 @@ fn count_moved(
     }
 }
 
+/// `=` of a place and what is given to it.
+#[tactic(auto, unfolding(c_typing::specs::Assignments::assign_part))]
+fn assign_place(
+    scope: &mut Scope,
+    types: &Types,
+    at: Place,
+    p: TypedPlace,
+    y: Part,
+) -> Result<Part, Fault>
+    ensures { Answers part_view (assignments.assign_part at (AsPlace (typed_place_view p)) (part_view y) (known types.now scope.old)) result (known types.now scope.new) }
+{
+    count_moved(scope, types, at, p.ty(), &y)?;
+    Ok(assigned(scope, types, at, p, y)?)
+}
+
 #[tactic(auto, unfolding(c_typing::specs::Assignments::assign_part))]
 fn assign_part(scope: &mut Scope, types: &Types, at: Place, x: Part, y: Part) -> Result<Part, Fault>
     ensures { Answers part_view (assignments.assign_part at (part_view x) (part_view y) (known types.now scope.old)) result (known types.now scope.new) }
 {
     match x {
-        Part::Place(p) => {
-            count_moved(scope, types, at, p.ty(), &y)?;
-            Ok(assigned(scope, types, at, p, y)?)
-        }
+        Part::Place(p) => assign_place(scope, types, at, p, y),
         _ => Err(no_room(at)),
     }
 }
@@ -223,10 +226,8 @@ fn assign_given(
         held: held_after,
         ..
     } = y;
-    if let Some(fault) = assign_fault(scope, types, at, &part, &given) {
-        return Err(fault);
-    }
-    let held = holding(place, held_with_two(held, held_after))?;
+    let fault = assign_fault(scope, types, at, &part, &given);
+    let held = held_within(fault, place, held_with_two(held, held_after))?;
     let part = assign_part(scope, types, at, part, given)?;
     Ok(Operand { part, place, held })
 }
@@ -338,10 +339,8 @@ pub fn update_by(
         held: held_after,
         ..
     } = v;
-    if let Some(fault) = update_fault(scope, types, operator, at, &part, &expr) {
-        return Err(fault);
-    }
-    let held = holding(place, held_with_two(held, held_after))?;
+    let fault = update_fault(scope, types, operator, at, &part, &expr);
+    let held = held_within(fault, place, held_with_two(held, held_after))?;
     let made = update_part(scope, types, operator, at, part, expr)?;
     Ok(Operand {
         part: Part::Value(made),

@@ -16,13 +16,14 @@ ghost use Rattle.c_check_operators.specs.ShapeViews.{meeting_view};
 ghost use Rattle.c_typing.specs.Tests as tests;
 ghost use Rattle.c_typing.specs.Tests.{first_broken, AsPlace, AsValue};
 
+use crate::allowed::held_within;
 use crate::boxes::boxed_pair;
 use crate::meeting::{Meeting, how_they_meet};
 use crate::operators::infix_fault;
 use crate::unary::to_integer;
 use c_tree::{Binary, Boxed, Conversion, Side, TypedExpr, TypedPlace};
 use c_types::Types;
-use c_typing::construct::{held_with_two, holding};
+use c_typing::construct::held_with_two;
 use c_typing::kind::{Kind, is_logical, is_order, left_kind, result_kind, right_kind};
 use c_typing::operand::{Operand, Part, Value};
 use c_typing::scope::Scope;
@@ -110,10 +111,8 @@ pub fn index(
         held: held_after,
         ..
     } = b;
-    if let Some(fault) = index_fault(scope, types, at, &left, &right) {
-        return Err(fault);
-    }
-    let held = holding(place, held_with_two(held, held_after))?;
+    let fault = index_fault(scope, types, at, &left, &right);
+    let held = held_within(fault, place, held_with_two(held, held_after))?;
     let part = element(scope, types, left, at, right)?;
     Ok(Operand { part, place, held })
 }
@@ -354,10 +353,8 @@ pub fn infix_of(
         held: held_after,
         ..
     } = b;
-    if let Some(fault) = infix_fault(scope, types, operator, at, place, &left, &right) {
-        return Err(fault);
-    }
-    let held = holding(place, held_with_two(held, held_after))?;
+    let fault = infix_fault(scope, types, operator, at, place, &left, &right);
+    let held = held_within(fault, place, held_with_two(held, held_after))?;
     let made = operation(scope, types, operator, left, at, right)?;
     Ok(Operand {
         part: Part::Value(made),

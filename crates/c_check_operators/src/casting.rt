@@ -17,10 +17,10 @@ ghost use Rattle.c_typing.specs.Tests as tests;
 ghost use Rattle.c_typing.specs.Tests.{first_broken};
 
 use crate::address::{SIZE, size_at};
+use crate::allowed::allowed;
 use crate::conversion::{cast_conversion, given, is_castable};
 use c_tree::{Boxed, Conversion, TypedExpr, TypedTypeName};
 use c_types::Types;
-use c_typing::construct::{held_with_one, holding};
 use c_typing::operand::{Operand, Part, PartRef};
 use c_typing::scope::Scope;
 use c_typing::shapes::{is_complete_at, is_void, shape_at};
@@ -124,16 +124,13 @@ fn cast_given(
 ) -> Result<Operand, Fault>
     ensures { Answers operand_view (assignments.cast_given at (typed_type_name_view to) (operand_view x) (known types.now scope.now)) result (known types.now scope.now) }
 {
-    let Operand { part, held, .. } = x;
-    if let Some(fault) = cast_fault(types, at, part.as_ref(), type_named(&to)) {
-        return Err(fault);
-    }
-    let held = holding(at, held_with_one(held))?;
-    let made = cast_part(scope, types, at, to, part)?;
+    let fault = cast_fault(types, at, x.part.as_ref(), type_named(&to));
+    let allowed = allowed(fault, at, x)?;
+    let made = cast_part(scope, types, at, to, allowed.part)?;
     Ok(Operand {
         part: Part::Value(made),
         place: at,
-        held,
+        held: allowed.held,
     })
 }
 

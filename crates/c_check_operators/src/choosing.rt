@@ -1,7 +1,9 @@
 //! `?:` and `,` (C99 6.5.15, 6.5.17).
 #![tactic(auto)]
 
-ghost use Rattle.std.specs.Prelude.{◌≡◌, ◌&&◌, ◌||◌, IfOk};
+ghost use Rattle.std.specs.Prelude.{◌≡◌, ◌<◌, ◌≤◌, ◌⊎◌, ◌&&◌, ◌||◌, IfOk, IfErr, Some, None};
+ghost use Rattle.cc_base.specs.declared.fault.Fault.TheVariants.{TooLarge};
+ghost use Rattle.cc_base.specs.declared.fault.Limit.TheVariants.{Held};
 ghost use Rattle.c_types.specs.Table.{shape_at};
 ghost use Rattle.c_tree.specs.TypedParts.{type_of};
 ghost use Rattle.c_tree.specs.TypedTree as typed;
@@ -17,6 +19,7 @@ ghost use Rattle.c_typing.specs.Shapes.{integer_at, is_void_shape};
 ghost use Rattle.c_typing.specs.Tests as tests;
 ghost use Rattle.c_typing.specs.Tests.{first_broken, AsPlace, AsValue};
 
+use crate::allowed::held_within;
 use crate::assigning::are_one_struct;
 use crate::boxes::{boxed_pair, boxed_places};
 use crate::meeting::{how_they_meet, meet};
@@ -130,6 +133,20 @@ fn chosen_pointer(
     pointer_conditional(scope, condition, at, a, b, made)
 }
 
+/// `?:` of pointers to this type.
+#[tactic(auto, unfolding(c_typing::specs::Assignments::pointer_choice))]
+fn choice_to(
+    scope: &mut Scope,
+    types: &mut Types,
+    x: Chosen,
+    to: TypeId,
+) -> Result<TypedExpr, Fault>
+    ensures { Answers (λ e. AsValue (typed_expr_view e)) (assignments.pointer_choice (typed_expr_view x.condition) x.begin x.at (typed_expr_view x.a) (typed_expr_view x.b) (Some to) (known types.old scope.old)) result (known types.new scope.new) }
+{
+    let made = new_pointer(scope, types, x.begin, to)?;
+    Ok(chosen_pointer(scope, types, x, made)?)
+}
+
 /// `?:` of pointers to what both sides point to.
 #[tactic(auto, unfolding(c_typing::specs::Assignments::pointer_choice))]
 fn pointer_choice(
@@ -140,12 +157,10 @@ fn pointer_choice(
 ) -> Result<TypedExpr, Fault>
     ensures { Answers (λ e. AsValue (typed_expr_view e)) (assignments.pointer_choice (typed_expr_view x.condition) x.begin x.at (typed_expr_view x.a) (typed_expr_view x.b) to (known types.old scope.old)) result (known types.new scope.new) }
 {
-    let begin = x.begin;
-    let Some(to) = to else {
-        return Err(no_room(begin));
-    };
-    let made = new_pointer(scope, types, begin, to)?;
-    Ok(chosen_pointer(scope, types, x, made)?)
+    match to {
+        Some(to) => choice_to(scope, types, x, to),
+        None => Err(no_room(x.begin)),
+    }
 }
 
 /// `?:` of two that have this type.
@@ -192,12 +207,7 @@ fn choice_of_pointers(scope: &mut Scope, types: &mut Types, x: Chosen) -> Result
 }
 
 /// `?:` of two integers, each converted to the type in which they meet.
-fn integer_choice(
-    scope: &Scope,
-    x: Chosen,
-    left: Kind,
-    right: Kind,
-) -> Result<TypedExpr, NoMemory>
+fn integer_choice(scope: &Scope, x: Chosen, left: Kind, right: Kind) -> Result<TypedExpr, NoMemory>
     ensures { IfOk result (λ e. typed_expr_view e ≡ typed.Conditional (typed_expr_view x.condition) x.at (to_integer x.at (integer_type (common (kind_view left) (kind_view right))) (typed_expr_view x.a)) (to_integer x.at (integer_type (common (kind_view left) (kind_view right))) (typed_expr_view x.b)) (integer_type (common (kind_view left) (kind_view right)))) }
 {
     let Chosen {
@@ -240,20 +250,74 @@ fn struct_choice(
     Ok(Part::Place(TypedPlace::StructConditional(condition, at, p, q)))
 }
 
-#[tactic(auto, unfolding(c_typing::specs::Assignments::choice_of_parts))]
-fn choice_of_parts(
-    scope: &mut Scope,
-    types: &mut Types,
+/// The parts of a `?:`: its condition, its first token, its `?` and its sides.
+#[derive(Drop)]
+struct Choice {
     condition: TypedExpr,
     begin: Place,
     at: Place,
-    sides: (Part, Part),
+    x: Part,
+    y: Part,
+}
+
+/// `?:` of two structs, as a part.
+#[tactic(auto, unfolding(c_typing::specs::Assignments::choice_of_parts))]
+fn place_choice(
+    scope: &Scope,
+    types: &Types,
+    condition: TypedExpr,
+    places: (Place, Place),
+    p: TypedPlace,
+    q: TypedPlace,
 ) -> Result<Part, Fault>
-    ensures { Answers part_view (assignments.choice_of_parts (typed_expr_view condition) begin at (part_view sides.0) (part_view sides.1) (known types.old scope.old)) result (known types.new scope.new) }
+    ensures { Answers part_view (assignments.choice_of_parts (typed_expr_view condition) places.0 places.1 (AsPlace (typed_place_view p)) (AsPlace (typed_place_view q)) (known types.now scope.now)) result (known types.now scope.now) }
 {
-    match sides {
-        (Part::Place(p), Part::Place(q)) => Ok(struct_choice(scope, condition, at, p, q)?),
-        (Part::Value(a), Part::Value(b)) => {
+    let made = struct_choice(scope, condition, places.1, p, q)?;
+    Ok(made)
+}
+
+/// `?:` whose first side is a struct.
+#[tactic(auto, unfolding(c_typing::specs::Assignments::choice_of_parts))]
+fn choice_of_structs(
+    scope: &Scope,
+    types: &Types,
+    condition: TypedExpr,
+    places: (Place, Place),
+    p: TypedPlace,
+    y: Part,
+) -> Result<Part, Fault>
+    ensures { Answers part_view (assignments.choice_of_parts (typed_expr_view condition) places.0 places.1 (AsPlace (typed_place_view p)) (part_view y) (known types.now scope.now)) result (known types.now scope.now) }
+{
+    match y {
+        Part::Place(q) => place_choice(scope, types, condition, places, p, q),
+        _ => Err(no_room(places.0)),
+    }
+}
+
+/// `?:` of two values, as a part.
+#[tactic(auto, unfolding(c_typing::specs::Assignments::choice_of_parts))]
+fn value_choice(scope: &mut Scope, types: &mut Types, x: Chosen) -> Result<Part, Fault>
+    ensures { Answers part_view (assignments.choice_of_parts (typed_expr_view x.condition) x.begin x.at (AsValue (typed_expr_view x.a)) (AsValue (typed_expr_view x.b)) (known types.old scope.old)) result (known types.new scope.new) }
+{
+    let made = choice_of_values(scope, types, x)?;
+    Ok(Part::Value(made))
+}
+
+/// `?:` whose first side is a value.
+#[tactic(auto, unfolding(c_typing::specs::Assignments::choice_of_parts))]
+fn choice_with_value(
+    scope: &mut Scope,
+    types: &mut Types,
+    condition: TypedExpr,
+    places: (Place, Place),
+    a: TypedExpr,
+    y: Part,
+) -> Result<Part, Fault>
+    ensures { Answers part_view (assignments.choice_of_parts (typed_expr_view condition) places.0 places.1 (AsValue (typed_expr_view a)) (part_view y) (known types.old scope.old)) result (known types.new scope.new) }
+{
+    let (begin, at) = places;
+    match y {
+        Part::Value(b) => {
             let x = Chosen {
                 condition,
                 begin,
@@ -261,9 +325,41 @@ fn choice_of_parts(
                 a,
                 b,
             };
-            Ok(Part::Value(choice_of_values(scope, types, x)?))
+            value_choice(scope, types, x)
         }
         _ => Err(no_room(begin)),
+    }
+}
+
+#[tactic(auto, unfolding(c_typing::specs::Assignments::choice_of_parts))]
+fn choice_of_parts(scope: &mut Scope, types: &mut Types, sides: Choice) -> Result<Part, Fault>
+    ensures { Answers part_view (assignments.choice_of_parts (typed_expr_view sides.condition) sides.begin sides.at (part_view sides.x) (part_view sides.y) (known types.old scope.old)) result (known types.new scope.new) }
+{
+    let Choice {
+        condition,
+        begin,
+        at,
+        x,
+        y,
+    } = sides;
+    match x {
+        Part::Place(p) => choice_of_structs(scope, types, condition, (begin, at), p, y),
+        Part::Value(a) => choice_with_value(scope, types, condition, (begin, at), a, y),
+        Part::Allocation(_) => Err(no_room(begin)),
+    }
+}
+
+/// A `?:` that breaks no rule, and how many values it holds at once.
+fn allowed_choice(types: &Types, sides: Choice, held: u64) -> Result<(Choice, u32), Fault>
+    ensures ok { IfOk result (λ r. (first_broken (tests.choice_tests types.now sides.at (AsValue (typed_expr_view sides.condition)) (part_view sides.x) (part_view sides.y)) ≡ None) × (r.0 ≡ sides) × (r.1 ≡ held) × (held ≤ 256)) }
+    ensures err { IfErr result (λ f. (first_broken (tests.choice_tests types.now sides.at (AsValue (typed_expr_view sides.condition)) (part_view sides.x) (part_view sides.y)) ≡ Some f) ⊎ ((first_broken (tests.choice_tests types.now sides.at (AsValue (typed_expr_view sides.condition)) (part_view sides.x) (part_view sides.y)) ≡ None) × (256 < held) × (f ≡ TooLarge sides.begin Held))) }
+{
+    let x = sides.x.as_ref();
+    let y = sides.y.as_ref();
+    let fault = choice_fault(types, sides.at, &sides.condition, x, y);
+    match held_within(fault, sides.begin, held) {
+        Ok(held) => Ok((sides, held)),
+        Err(fault) => Err(fault),
     }
 }
 
@@ -279,19 +375,17 @@ pub fn choice(
 ) -> Result<Operand, Fault>
     ensures { Answers operand_view (assignments.choice (value_view c) at (value_view a) (value_view b) (known types.old scope.old)) result (known types.new scope.new) }
 {
-    let Value {
-        expr: condition,
-        place,
-        held,
-    } = c;
-    let counts = held_with_three(held, a.held, b.held);
-    let x = side_of(a.expr);
-    let y = side_of(b.expr);
-    if let Some(fault) = choice_fault(types, at, &condition, x.as_ref(), y.as_ref()) {
-        return Err(fault);
-    }
-    let held = holding(place, counts)?;
-    let part = choice_of_parts(scope, types, condition, place, at, (x, y))?;
+    let place = c.place;
+    let held = held_with_three(c.held, a.held, b.held);
+    let sides = Choice {
+        condition: c.expr,
+        begin: place,
+        at,
+        x: side_of(a.expr),
+        y: side_of(b.expr),
+    };
+    let (sides, held) = allowed_choice(types, sides, held)?;
+    let part = choice_of_parts(scope, types, sides)?;
     Ok(Operand { part, place, held })
 }
 

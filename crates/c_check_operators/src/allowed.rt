@@ -11,7 +11,7 @@ use c_typing::operand::Operand;
 use cc_base::{Fault, Place};
 
 /// How many values a construct holds at once, where it breaks no rule. The place is that of its first token.
-fn held_within(fault: Option<Fault>, begin: Place, held: u64) -> Result<u32, Fault>
+pub(crate) fn held_within(fault: Option<Fault>, begin: Place, held: u64) -> Result<u32, Fault>
     ensures ok { IfOk result (λ h. (fault ≡ None) × (h ≡ held) × (held ≤ 256)) }
     ensures err { IfErr result (λ f. (fault ≡ Some f) ⊎ ((fault ≡ None) × (256 < held) × (f ≡ TooLarge begin Held))) }
 {

@@ -1,19 +1,23 @@
 //! Assignments (C99 6.5.16).
 #![tactic(auto)]
 
-ghost use Rattle.std.specs.Prelude.{◌≡◌, true, IfOk};
+ghost use Rattle.std.specs.Prelude.{◌≡◌, true, IfOk, Some};
 ghost use Rattle.c_tree.specs.declared.operator.Assignment.TheVariants as assignment;
 ghost use Rattle.c_tree.specs.TypedParts.{type_of, place_type};
+ghost use Rattle.c_tree.specs.TypedTree as typed;
 ghost use Rattle.c_tree.specs.TypedViews.{typed_expr_view, typed_place_view};
 ghost use Rattle.c_typing.specs.Assignments as assignments;
 ghost use Rattle.c_typing.specs.Judging.{Answers, known};
+ghost use Rattle.c_typing.specs.KindViews.{kind_view};
 ghost use Rattle.c_typing.specs.OperandViews.{part_view, operand_view, value_view, part_ref_view};
 ghost use Rattle.c_typing.specs.Rules as rules;
 ghost use Rattle.c_typing.specs.Shapes.{integer_at};
 ghost use Rattle.c_typing.specs.Tests as tests;
-ghost use Rattle.c_typing.specs.Tests.{first_broken, AsValue};
+ghost use Rattle.c_typing.specs.Tests.{first_broken, AsPlace, AsValue};
 
 use crate::address::can_be_written;
+use crate::allowed::held_within;
+use crate::boxes::boxed_places;
 use crate::cells::count_cells;
 use crate::conversion::{converted_to, fits, given};
 use crate::operators::is_moving;
@@ -22,8 +26,8 @@ use crate::unary::to_integer;
 use crate::value_shape::shape_of;
 use c_tree::{Assignment, Boxed, TypedExpr, TypedPlace};
 use c_types::Types;
-use c_typing::construct::{held_with_two, holding};
-use c_typing::kind::{assigning, left_kind, right_kind};
+use c_typing::construct::held_with_two;
+use c_typing::kind::{Kind, assigning, left_kind, right_kind};
 use c_typing::operand::{Operand, Part, PartRef, Value};
 use c_typing::same::is_same_type;
 use c_typing::scope::Scope;
@@ -113,8 +117,41 @@ fn part_type(x: &Part) -> TypeId
     }
 }
 
-/// What `=` makes of a place and what is given to it.
+/// `=` of two structs.
 #[tactic(auto, using(c_tree::proofs::TypedViewLaws::typed_views))]
+fn struct_assigned(scope: &Scope, at: Place, p: TypedPlace, q: TypedPlace) -> Result<Part, NoMemory>
+    ensures { IfOk result (λ x. part_view x ≡ AsPlace (typed.StructAssign (typed_place_view p) at (typed_place_view q))) }
+{
+    let (p, q) = boxed_places(scope, p, q)?;
+    Ok(Part::Place(TypedPlace::StructAssign(p, at, q)))
+}
+
+/// `=` of a value that has the type of the place.
+#[tactic(auto, using(c_tree::proofs::TypedViewLaws::typed_views))]
+fn value_assigned(scope: &Scope, at: Place, p: TypedPlace, e: TypedExpr) -> Result<Part, NoMemory>
+    ensures { IfOk result (λ x. part_view x ≡ AsValue (typed.Assign (typed_place_view p) at (typed_expr_view e))) }
+{
+    let alloc = scope.alloc();
+    let p = Boxed::new(alloc, p)?;
+    let e = Boxed::new(alloc, e)?;
+    Ok(Part::Value(TypedExpr::Assign(p, at, e)))
+}
+
+/// `=` of a value, converted to the type of the place.
+fn converted_assigned(
+    scope: &Scope,
+    types: &Types,
+    at: Place,
+    p: TypedPlace,
+    e: TypedExpr,
+) -> Result<Part, NoMemory>
+    ensures { IfOk result (λ x. part_view x ≡ AsValue (typed.Assign (typed_place_view p) at (assignments.converted_to types.now at (place_type (typed_place_view p)) (typed_expr_view e)))) }
+{
+    let e = converted_to(scope, types, at, p.ty(), e)?;
+    value_assigned(scope, at, p, e)
+}
+
+/// What `=` makes of a place and what is given to it.
 fn assigned(
     scope: &Scope,
     types: &Types,
@@ -124,16 +161,10 @@ fn assigned(
 ) -> Result<Part, NoMemory>
     ensures { IfOk result (λ x. part_view x ≡ assignments.assigned types.now at (typed_place_view p) (part_view y)) }
 {
-    let alloc = scope.alloc();
-    let t = p.ty();
-    let p = Boxed::new(alloc, p)?;
     match y {
-        Part::Place(q) => Ok(Part::Place(TypedPlace::StructAssign(p, at, Boxed::new(alloc, q)?))),
-        Part::Value(e) => {
-            let e = converted_to(scope, types, at, t, e)?;
-            Ok(Part::Value(TypedExpr::Assign(p, at, Boxed::new(alloc, e)?)))
-        }
-        Part::Allocation(e) => Ok(Part::Value(TypedExpr::Assign(p, at, Boxed::new(alloc, e)?))),
+        Part::Place(q) => struct_assigned(scope, at, p, q),
+        Part::Value(e) => converted_assigned(scope, types, at, p, e),
+        Part::Allocation(e) => value_assigned(scope, at, p, e),
     }
 }
 
@@ -153,15 +184,27 @@ fn count_moved(
     }
 }
 
+/// `=` of a place and what is given to it.
+#[tactic(auto, unfolding(c_typing::specs::Assignments::assign_part))]
+fn assign_place(
+    scope: &mut Scope,
+    types: &Types,
+    at: Place,
+    p: TypedPlace,
+    y: Part,
+) -> Result<Part, Fault>
+    ensures { Answers part_view (assignments.assign_part at (AsPlace (typed_place_view p)) (part_view y) (known types.now scope.old)) result (known types.now scope.new) }
+{
+    count_moved(scope, types, at, p.ty(), &y)?;
+    Ok(assigned(scope, types, at, p, y)?)
+}
+
 #[tactic(auto, unfolding(c_typing::specs::Assignments::assign_part))]
 fn assign_part(scope: &mut Scope, types: &Types, at: Place, x: Part, y: Part) -> Result<Part, Fault>
     ensures { Answers part_view (assignments.assign_part at (part_view x) (part_view y) (known types.now scope.old)) result (known types.now scope.new) }
 {
     match x {
-        Part::Place(p) => {
-            count_moved(scope, types, at, p.ty(), &y)?;
-            Ok(assigned(scope, types, at, p, y)?)
-        }
+        Part::Place(p) => assign_place(scope, types, at, p, y),
         _ => Err(no_room(at)),
     }
 }
@@ -177,16 +220,16 @@ fn assign_given(
 ) -> Result<Operand, Fault>
     ensures { Answers operand_view (assignments.assign_given (operand_view x) at (operand_view y) (known types.old scope.old)) result (known types.new scope.new) }
 {
-    if let Some(fault) = assign_fault(scope, types, at, &x.part, &y.part) {
-        return Err(fault);
-    }
-    let held = holding(x.place, held_with_two(x.held, y.held))?;
-    let part = assign_part(scope, types, at, x.part, y.part)?;
-    Ok(Operand {
-        part,
-        place: x.place,
-        held,
-    })
+    let Operand { part, place, held } = x;
+    let Operand {
+        part: given,
+        held: held_after,
+        ..
+    } = y;
+    let fault = assign_fault(scope, types, at, &part, &given);
+    let held = held_within(fault, place, held_with_two(held, held_after))?;
+    let part = assign_part(scope, types, at, part, given)?;
+    Ok(Operand { part, place, held })
 }
 
 /// `=` (C99 6.5.16.1).
@@ -206,8 +249,43 @@ pub fn assign(
     assign_given(scope, types, x, at, y)
 }
 
-/// What a compound assignment makes of a place and a value.
+/// A compound assignment whose operator gives this type.
 #[tactic(auto, using(c_tree::proofs::TypedViewLaws::typed_views))]
+fn updated_as(
+    scope: &Scope,
+    operator: Assignment,
+    at: Place,
+    p: TypedPlace,
+    e: TypedExpr,
+    t: TypeId,
+) -> Result<TypedExpr, NoMemory>
+    ensures { IfOk result (λ made. typed_expr_view made ≡ typed.AssignWith operator (typed_place_view p) at (typed_expr_view e) t) }
+{
+    let alloc = scope.alloc();
+    let p = Boxed::new(alloc, p)?;
+    let e = Boxed::new(alloc, e)?;
+    Ok(TypedExpr::AssignWith(operator, p, at, e, t))
+}
+
+/// A compound assignment of integers, of which the right one is converted to the type that the operator asks for.
+fn updated_integer(
+    scope: &Scope,
+    operator: Assignment,
+    at: Place,
+    p: TypedPlace,
+    e: TypedExpr,
+    kinds: (Kind, Kind),
+) -> Result<TypedExpr, NoMemory>
+    ensures { IfOk result (λ made. typed_expr_view made ≡ assignments.updated operator at (typed_place_view p) (typed_expr_view e) (Some (kind_view kinds.0)) (Some (kind_view kinds.1))) }
+{
+    let (left, right) = kinds;
+    let binary = assigning(operator);
+    let e = to_integer(scope, at, right_kind(binary, left, right).ty(), e)?;
+    let t = left_kind(binary, left, right).ty();
+    updated_as(scope, operator, at, p, e, t)
+}
+
+/// What a compound assignment makes of a place and a value.
 fn updated(
     scope: &Scope,
     types: &Types,
@@ -218,18 +296,10 @@ fn updated(
 ) -> Result<TypedExpr, NoMemory>
     ensures { IfOk result (λ made. typed_expr_view made ≡ assignments.updated operator at (typed_place_view p) (typed_expr_view e) (integer_at types.now (place_type (typed_place_view p))) (integer_at types.now (type_of (typed_expr_view e)))) }
 {
-    let alloc = scope.alloc();
     let t = p.ty();
-    let kinds = (integer_at(types, t), integer_at(types, e.ty()));
-    let p = Boxed::new(alloc, p)?;
-    match kinds {
-        (Some(left), Some(right)) => {
-            let binary = assigning(operator);
-            let e = to_integer(scope, at, right_kind(binary, left, right).ty(), e)?;
-            let t = left_kind(binary, left, right).ty();
-            Ok(TypedExpr::AssignWith(operator, p, at, Boxed::new(alloc, e)?, t))
-        }
-        _ => Ok(TypedExpr::AssignWith(operator, p, at, Boxed::new(alloc, e)?, t)),
+    match (integer_at(types, t), integer_at(types, e.ty())) {
+        (Some(left), Some(right)) => updated_integer(scope, operator, at, p, e, (left, right)),
+        _ => updated_as(scope, operator, at, p, e, t),
     }
 }
 
@@ -263,14 +333,18 @@ pub fn update_by(
     requires { rules.is_compound operator ≡ true }
     ensures { Answers operand_view (assignments.update_by operator (operand_view x) at (value_view v) (known types.old scope.old)) result (known types.new scope.new) }
 {
-    if let Some(fault) = update_fault(scope, types, operator, at, &x.part, &v.expr) {
-        return Err(fault);
-    }
-    let held = holding(x.place, held_with_two(x.held, v.held))?;
-    let made = update_part(scope, types, operator, at, x.part, v.expr)?;
+    let Operand { part, place, held } = x;
+    let Value {
+        expr,
+        held: held_after,
+        ..
+    } = v;
+    let fault = update_fault(scope, types, operator, at, &part, &expr);
+    let held = held_within(fault, place, held_with_two(held, held_after))?;
+    let made = update_part(scope, types, operator, at, part, expr)?;
     Ok(Operand {
         part: Part::Value(made),
-        place: x.place,
+        place,
         held,
     })
 }

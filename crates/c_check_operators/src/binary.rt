@@ -14,14 +14,16 @@ ghost use Rattle.c_typing.specs.Rules as rules;
 ghost use Rattle.c_typing.specs.Shapes.{is_pointer_shape, pointee_at};
 ghost use Rattle.c_check_operators.specs.ShapeViews.{meeting_view};
 ghost use Rattle.c_typing.specs.Tests as tests;
-ghost use Rattle.c_typing.specs.Tests.{first_broken, AsValue};
+ghost use Rattle.c_typing.specs.Tests.{first_broken, AsPlace, AsValue};
 
+use crate::allowed::held_within;
+use crate::boxes::boxed_pair;
 use crate::meeting::{Meeting, how_they_meet};
 use crate::operators::infix_fault;
 use crate::unary::to_integer;
 use c_tree::{Binary, Boxed, Conversion, Side, TypedExpr, TypedPlace};
 use c_types::Types;
-use c_typing::construct::{held_with_two, holding};
+use c_typing::construct::held_with_two;
 use c_typing::kind::{Kind, is_logical, is_order, left_kind, result_kind, right_kind};
 use c_typing::operand::{Operand, Part, Value};
 use c_typing::scope::Scope;
@@ -55,8 +57,23 @@ fn index_fault(
     None
 }
 
-/// `a[b]`, where one of the two is a pointer.
+/// `a[b]` with the pointer on this side.
 #[tactic(auto, using(c_tree::proofs::TypedViewLaws::typed_views))]
+fn element_on(
+    scope: &Scope,
+    side: Side,
+    a: TypedExpr,
+    at: Place,
+    b: TypedExpr,
+    t: TypeId,
+) -> Result<Part, NoMemory>
+    ensures { IfOk result (λ x. part_view x ≡ AsPlace (typed.Element side (typed_expr_view a) at (typed_expr_view b) t)) }
+{
+    let (a, b) = boxed_pair(scope, a, b)?;
+    Ok(Part::Place(TypedPlace::Element(side, a, at, b, t)))
+}
+
+/// `a[b]`, where one of the two is a pointer.
 fn element(
     scope: &Scope,
     types: &Types,
@@ -66,17 +83,11 @@ fn element(
 ) -> Result<Part, NoMemory>
     ensures { IfOk result (λ x. part_view x ≡ operations.element (typed_expr_view a) at (typed_expr_view b) (pointee_at types.now (type_of (typed_expr_view a))) (pointee_at types.now (type_of (typed_expr_view b)))) }
 {
-    let alloc = scope.alloc();
-    let left = pointee_at(types, a.ty());
-    let right = pointee_at(types, b.ty());
-    let (side, t) = match (left, right) {
-        (Some(t), _) => (Side::Left, t),
-        (None, Some(t)) => (Side::Right, t),
-        (None, None) => return Ok(Part::Value(a)),
-    };
-    let a = Boxed::new(alloc, a)?;
-    let b = Boxed::new(alloc, b)?;
-    Ok(Part::Place(TypedPlace::Element(side, a, at, b, t)))
+    match (pointee_at(types, a.ty()), pointee_at(types, b.ty())) {
+        (Some(t), _) => element_on(scope, Side::Left, a, at, b, t),
+        (None, Some(t)) => element_on(scope, Side::Right, a, at, b, t),
+        (None, None) => Ok(Part::Value(a)),
+    }
 }
 
 /// `a[b]` (C99 6.5.2.1).
@@ -90,20 +101,39 @@ pub fn index(
 ) -> Result<Operand, Fault>
     ensures { Answers operand_view (operations.index (value_view a) at (value_view b) (known types.old scope.old)) result (known types.new scope.new) }
 {
-    if let Some(fault) = index_fault(scope, types, at, &a.expr, &b.expr) {
-        return Err(fault);
-    }
-    let held = holding(a.place, held_with_two(a.held, b.held))?;
-    let part = element(scope, types, a.expr, at, b.expr)?;
-    Ok(Operand {
-        part,
-        place: a.place,
+    let Value {
+        expr: left,
+        place,
         held,
-    })
+    } = a;
+    let Value {
+        expr: right,
+        held: held_after,
+        ..
+    } = b;
+    let fault = index_fault(scope, types, at, &left, &right);
+    let held = held_within(fault, place, held_with_two(held, held_after))?;
+    let part = element(scope, types, left, at, right)?;
+    Ok(Operand { part, place, held })
+}
+
+/// An operator on two integers.
+#[tactic(auto, using(c_tree::proofs::TypedViewLaws::typed_views))]
+fn arithmetic_of(
+    scope: &Scope,
+    operator: Binary,
+    a: TypedExpr,
+    at: Place,
+    b: TypedExpr,
+    t: TypeId,
+) -> Result<TypedExpr, NoMemory>
+    ensures { IfOk result (λ made. typed_expr_view made ≡ typed.Arithmetic operator (typed_expr_view a) at (typed_expr_view b) t) }
+{
+    let (a, b) = boxed_pair(scope, a, b)?;
+    Ok(TypedExpr::Arithmetic(operator, a, at, b, t))
 }
 
 /// An operator on two integers, each converted to the type that it asks for.
-#[tactic(auto, using(c_tree::proofs::TypedViewLaws::typed_views))]
 fn arithmetic(
     scope: &Scope,
     operator: Binary,
@@ -114,13 +144,11 @@ fn arithmetic(
 ) -> Result<TypedExpr, NoMemory>
     ensures { IfOk result (λ made. typed_expr_view made ≡ operations.arithmetic operator (typed_expr_view a) at (typed_expr_view b) (kind_view kinds.0) (kind_view kinds.1)) }
 {
-    let alloc = scope.alloc();
     let (left, right) = kinds;
     let a = to_integer(scope, at, left_kind(operator, left, right).ty(), a)?;
     let b = to_integer(scope, at, right_kind(operator, left, right).ty(), b)?;
     let t = result_kind(operator, left, right).ty();
-    let a = Boxed::new(alloc, a)?;
-    Ok(TypedExpr::Arithmetic(operator, a, at, Boxed::new(alloc, b)?, t))
+    arithmetic_of(scope, operator, a, at, b, t)
 }
 
 /// A null constant, converted to a pointer type.
@@ -132,8 +160,50 @@ fn null_of(scope: &Scope, at: Place, t: TypeId, e: TypedExpr) -> Result<TypedExp
     Ok(TypedExpr::Convert(Conversion::NullToPointer, at, t, inner))
 }
 
-/// `==` and `!=` of two that meet.
+/// A comparison of two pointers.
 #[tactic(auto, using(c_tree::proofs::TypedViewLaws::typed_views))]
+fn comparison(
+    scope: &Scope,
+    operator: Binary,
+    a: TypedExpr,
+    at: Place,
+    b: TypedExpr,
+) -> Result<TypedExpr, NoMemory>
+    ensures { IfOk result (λ made. typed_expr_view made ≡ typed.Compared operator (typed_expr_view a) at (typed_expr_view b) operations.int_type) }
+{
+    let (a, b) = boxed_pair(scope, a, b)?;
+    Ok(TypedExpr::Compared(operator, a, at, b, INT))
+}
+
+/// A comparison whose right side is a null constant.
+fn compared_with_null(
+    scope: &Scope,
+    operator: Binary,
+    a: TypedExpr,
+    at: Place,
+    b: TypedExpr,
+) -> Result<TypedExpr, NoMemory>
+    ensures { IfOk result (λ made. typed_expr_view made ≡ typed.Compared operator (typed_expr_view a) at (rules.null_of at (type_of (typed_expr_view a)) (typed_expr_view b)) operations.int_type) }
+{
+    let b = null_of(scope, at, a.ty(), b)?;
+    comparison(scope, operator, a, at, b)
+}
+
+/// A comparison whose left side is a null constant.
+fn null_compared(
+    scope: &Scope,
+    operator: Binary,
+    a: TypedExpr,
+    at: Place,
+    b: TypedExpr,
+) -> Result<TypedExpr, NoMemory>
+    ensures { IfOk result (λ made. typed_expr_view made ≡ typed.Compared operator (rules.null_of at (type_of (typed_expr_view b)) (typed_expr_view a)) at (typed_expr_view b) operations.int_type) }
+{
+    let a = null_of(scope, at, b.ty(), a)?;
+    comparison(scope, operator, a, at, b)
+}
+
+/// `==` and `!=` of two that meet.
 fn equated(
     scope: &Scope,
     how: Meeting,
@@ -144,27 +214,14 @@ fn equated(
 ) -> Result<TypedExpr, NoMemory>
     ensures { IfOk result (λ made. typed_expr_view made ≡ operations.equated (meeting_view how) operator (typed_expr_view a) at (typed_expr_view b)) }
 {
-    let alloc = scope.alloc();
     match how {
-        Meeting::RightIsNull(_) => {
-            let b = null_of(scope, at, a.ty(), b)?;
-            let a = Boxed::new(alloc, a)?;
-            Ok(TypedExpr::Compared(operator, a, at, Boxed::new(alloc, b)?, INT))
-        }
-        Meeting::LeftIsNull(_) => {
-            let a = null_of(scope, at, b.ty(), a)?;
-            let a = Boxed::new(alloc, a)?;
-            Ok(TypedExpr::Compared(operator, a, at, Boxed::new(alloc, b)?, INT))
-        }
-        Meeting::BothPoint(_) | Meeting::NeverMeet => {
-            let a = Boxed::new(alloc, a)?;
-            Ok(TypedExpr::Compared(operator, a, at, Boxed::new(alloc, b)?, INT))
-        }
+        Meeting::RightIsNull(_) => compared_with_null(scope, operator, a, at, b),
+        Meeting::LeftIsNull(_) => null_compared(scope, operator, a, at, b),
+        Meeting::BothPoint(_) | Meeting::NeverMeet => comparison(scope, operator, a, at, b),
     }
 }
 
 /// A comparison of two that are not both integers.
-#[tactic(auto, using(c_tree::proofs::TypedViewLaws::typed_views))]
 fn compared(
     scope: &Scope,
     types: &Types,
@@ -176,9 +233,7 @@ fn compared(
     ensures { IfOk result (λ made. typed_expr_view made ≡ operations.compared types.now operator (typed_expr_view a) at (typed_expr_view b)) }
 {
     if is_order(operator) {
-        let alloc = scope.alloc();
-        let a = Boxed::new(alloc, a)?;
-        return Ok(TypedExpr::Compared(operator, a, at, Boxed::new(alloc, b)?, INT));
+        return comparison(scope, operator, a, at, b);
     }
     let how = how_they_meet(types, &a, &b);
     equated(scope, how, operator, a, at, b)
@@ -197,9 +252,7 @@ fn moved(
 ) -> Result<TypedExpr, NoMemory>
     ensures { IfOk result (λ made. typed_expr_view made ≡ typed.Moved operator side (typed_expr_view a) at (typed_expr_view b) t) }
 {
-    let alloc = scope.alloc();
-    let a = Boxed::new(alloc, a)?;
-    let b = Boxed::new(alloc, b)?;
+    let (a, b) = boxed_pair(scope, a, b)?;
     Ok(TypedExpr::Moved(operator, side, a, at, b, t))
 }
 
@@ -207,9 +260,7 @@ fn moved(
 fn subtracted(scope: &Scope, a: TypedExpr, at: Place, b: TypedExpr) -> Result<TypedExpr, NoMemory>
     ensures { IfOk result (λ made. typed_expr_view made ≡ typed.Difference (typed_expr_view a) at (typed_expr_view b) operations.long_type) }
 {
-    let alloc = scope.alloc();
-    let a = Boxed::new(alloc, a)?;
-    let b = Boxed::new(alloc, b)?;
+    let (a, b) = boxed_pair(scope, a, b)?;
     Ok(TypedExpr::Difference(a, at, b, LONG))
 }
 
@@ -245,8 +296,22 @@ fn pointers(
     }
 }
 
-/// What an operator makes of two values.
+/// `&&` and `||`.
 #[tactic(auto, using(c_tree::proofs::TypedViewLaws::typed_views))]
+fn logical(
+    scope: &Scope,
+    operator: Binary,
+    a: TypedExpr,
+    at: Place,
+    b: TypedExpr,
+) -> Result<TypedExpr, NoMemory>
+    ensures { IfOk result (λ made. typed_expr_view made ≡ typed.Logical operator (typed_expr_view a) at (typed_expr_view b) operations.int_type) }
+{
+    let (a, b) = boxed_pair(scope, a, b)?;
+    Ok(TypedExpr::Logical(operator, a, at, b, INT))
+}
+
+/// What an operator makes of two values.
 fn operation(
     scope: &Scope,
     types: &Types,
@@ -258,9 +323,7 @@ fn operation(
     ensures { IfOk result (λ made. typed_expr_view made ≡ operations.operation types.now operator (typed_expr_view a) at (typed_expr_view b)) }
 {
     if is_logical(operator) {
-        let alloc = scope.alloc();
-        let a = Boxed::new(alloc, a)?;
-        return Ok(TypedExpr::Logical(operator, a, at, Boxed::new(alloc, b)?, INT));
+        return logical(scope, operator, a, at, b);
     }
     match (integer_at(types, a.ty()), integer_at(types, b.ty())) {
         (Some(left), Some(right)) => arithmetic(scope, operator, a, at, b, (left, right)),
@@ -280,14 +343,22 @@ pub fn infix_of(
 ) -> Result<Operand, Fault>
     ensures { Answers operand_view (operations.infix_of operator (value_view a) at (value_view b) (known types.old scope.old)) result (known types.new scope.new) }
 {
-    if let Some(fault) = infix_fault(scope, types, operator, at, a.place, &a.expr, &b.expr) {
-        return Err(fault);
-    }
-    let held = holding(a.place, held_with_two(a.held, b.held))?;
-    let made = operation(scope, types, operator, a.expr, at, b.expr)?;
+    let Value {
+        expr: left,
+        place,
+        held,
+    } = a;
+    let Value {
+        expr: right,
+        held: held_after,
+        ..
+    } = b;
+    let fault = infix_fault(scope, types, operator, at, place, &left, &right);
+    let held = held_within(fault, place, held_with_two(held, held_after))?;
+    let made = operation(scope, types, operator, left, at, right)?;
     Ok(Operand {
         part: Part::Value(made),
-        place: a.place,
+        place,
         held,
     })
 }

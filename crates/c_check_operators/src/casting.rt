@@ -2,11 +2,14 @@
 #![tactic(auto)]
 
 ghost use Rattle.std.specs.Prelude.{◌≡◌, IfOk};
+ghost use Rattle.c_types.specs.Layouts.{size_of};
 ghost use Rattle.c_types.specs.Table.{shape_at};
+ghost use Rattle.c_tree.specs.TypedTree as typed;
 ghost use Rattle.c_tree.specs.TypedParts.{named_type};
 ghost use Rattle.c_tree.specs.TypedViews.{typed_expr_view, typed_type_name_view};
 ghost use Rattle.c_typing.specs.Assignments as assignments;
 ghost use Rattle.c_typing.specs.Judging.{Answers, known};
+ghost use Rattle.c_typing.specs.Operations as operations;
 ghost use Rattle.c_typing.specs.OperandViews.{part_view, operand_view, part_ref_view};
 ghost use Rattle.c_typing.specs.Refusals.{type_size_tests};
 ghost use Rattle.c_typing.specs.Shapes.{is_void_shape};
@@ -14,15 +17,23 @@ ghost use Rattle.c_typing.specs.Tests as tests;
 ghost use Rattle.c_typing.specs.Tests.{first_broken};
 
 use crate::address::{SIZE, size_at};
+use crate::allowed::allowed;
 use crate::conversion::{cast_conversion, given, is_castable};
 use c_tree::{Boxed, Conversion, TypedExpr, TypedTypeName};
 use c_types::Types;
-use c_typing::construct::{held_with_one, holding};
 use c_typing::operand::{Operand, Part, PartRef};
 use c_typing::scope::Scope;
 use c_typing::shapes::{is_complete_at, is_void, shape_at};
 use c_typing::stops::refusal;
 use cc_base::{Fault, NoMemory, Place, Rule, TypeId};
+
+/// The type that a type name is.
+#[tactic(auto, using(c_tree::proofs::TypedViewLaws::typed_views))]
+fn type_named(name: &TypedTypeName) -> TypeId
+    ensures { result ≡ named_type (typed_type_name_view name.now) }
+{
+    name.ty
+}
 
 /// The rules of a cast.
 fn cast_fault(types: &Types, at: Place, x: PartRef, t: TypeId) -> Option<Fault>
@@ -69,8 +80,24 @@ fn is_allocation(x: &Part) -> bool
     matches!(x, Part::Allocation(_))
 }
 
-/// What a cast makes of what was given to its type.
+/// A cast by this conversion.
 #[tactic(auto, using(c_tree::proofs::TypedViewLaws::typed_views))]
+fn cast_by(
+    scope: &Scope,
+    which: Conversion,
+    at: Place,
+    to: TypedTypeName,
+    e: TypedExpr,
+) -> Result<TypedExpr, NoMemory>
+    ensures { IfOk result (λ made. typed_expr_view made ≡ typed.Cast which at (typed_type_name_view to) (typed_expr_view e)) }
+{
+    let alloc = scope.alloc();
+    let to = Boxed::new(alloc, to)?;
+    let e = Boxed::new(alloc, e)?;
+    Ok(TypedExpr::Cast(which, at, to, e))
+}
+
+/// What a cast makes of what was given to its type.
 fn cast_part(
     scope: &Scope,
     types: &Types,
@@ -80,16 +107,14 @@ fn cast_part(
 ) -> Result<TypedExpr, NoMemory>
     ensures { IfOk result (λ e. typed_expr_view e ≡ assignments.cast_part types.now at (typed_type_name_view to) (part_view x)) }
 {
-    let alloc = scope.alloc();
     let taken = is_allocation(&x);
     let e = part_expr(scope, x)?;
-    let which = cast_which(types, taken, &e, to.ty);
-    let to = Boxed::new(alloc, to)?;
-    Ok(TypedExpr::Cast(which, at, to, Boxed::new(alloc, e)?))
+    let which = cast_which(types, taken, &e, type_named(&to));
+    cast_by(scope, which, at, to, e)
 }
 
 /// A cast of what was given to its type.
-#[tactic(auto, unfolding(c_typing::specs::Assignments::cast_given, c_typing::specs::Operations::construct, c_typing::specs::Judging::holding), using(c_tree::proofs::TypedViewLaws::typed_views))]
+#[tactic(auto, unfolding(c_typing::specs::Assignments::cast_given, c_typing::specs::Operations::construct, c_typing::specs::Judging::holding))]
 fn cast_given(
     scope: &Scope,
     types: &Types,
@@ -99,20 +124,18 @@ fn cast_given(
 ) -> Result<Operand, Fault>
     ensures { Answers operand_view (assignments.cast_given at (typed_type_name_view to) (operand_view x) (known types.now scope.now)) result (known types.now scope.now) }
 {
-    if let Some(fault) = cast_fault(types, at, x.part.as_ref(), to.ty) {
-        return Err(fault);
-    }
-    let held = holding(at, held_with_one(x.held))?;
-    let made = cast_part(scope, types, at, to, x.part)?;
+    let fault = cast_fault(types, at, x.part.as_ref(), type_named(&to));
+    let allowed = allowed(fault, at, x)?;
+    let made = cast_part(scope, types, at, to, allowed.part)?;
     Ok(Operand {
         part: Part::Value(made),
         place: at,
-        held,
+        held: allowed.held,
     })
 }
 
 /// A cast (C99 6.5.4).
-#[tactic(auto, unfolding(c_typing::specs::Assignments::cast), using(c_tree::proofs::TypedViewLaws::typed_views))]
+#[tactic(auto, unfolding(c_typing::specs::Assignments::cast))]
 pub fn cast(
     scope: &mut Scope,
     types: &mut Types,
@@ -123,12 +146,39 @@ pub fn cast(
     ensures { Answers operand_view (assignments.cast at (typed_type_name_view to) (operand_view x) (known types.old scope.old)) result (known types.new scope.new) }
 {
     let Operand { part, place, held } = x;
-    let part = given(scope, types, to.ty, place, part)?;
+    let part = given(scope, types, type_named(&to), place, part)?;
     cast_given(scope, types, at, to, Operand { part, place, held })
 }
 
+/// The rules of `sizeof` of a type name.
+fn type_size_fault(scope: &Scope, types: &Types, at: Place, t: TypeId) -> Option<Fault>
+    ensures { result ≡ first_broken (type_size_tests types.now scope.now.scopes at t) }
+{
+    if is_complete_at(scope, types, t) {
+        None
+    } else {
+        Some(refusal(at, Rule::Incomplete))
+    }
+}
+
+/// The size that a type name has.
+#[tactic(auto, using(c_tree::proofs::TypedViewLaws::typed_views))]
+fn named_size(
+    scope: &Scope,
+    types: &Types,
+    at: Place,
+    paren: Place,
+    name: TypedTypeName,
+) -> Result<TypedExpr, NoMemory>
+    ensures { IfOk result (λ e. typed_expr_view e ≡ typed.SizeOfType at paren (typed_type_name_view name) (size_of types.now (named_type (typed_type_name_view name))) operations.size_type) }
+{
+    let size = size_at(types, type_named(&name));
+    let name = Boxed::new(scope.alloc(), name)?;
+    Ok(TypedExpr::SizeOfType(at, paren, name, size, SIZE))
+}
+
 /// `sizeof` of a type name (C99 6.5.3.4).
-#[tactic(auto, unfolding(c_typing::specs::Assignments::size_of_type, c_typing::specs::Operations::construct, c_typing::specs::Judging::holding), using(c_tree::proofs::TypedViewLaws::typed_views))]
+#[tactic(auto, unfolding(c_typing::specs::Assignments::size_of_type, c_typing::specs::Operations::construct, c_typing::specs::Judging::holding))]
 pub fn size_of_type(
     scope: &Scope,
     types: &Types,
@@ -138,14 +188,12 @@ pub fn size_of_type(
 ) -> Result<Operand, Fault>
     ensures { Answers operand_view (assignments.size_of_type at paren (typed_type_name_view name) (known types.now scope.now)) result (known types.now scope.now) }
 {
-    let t = name.ty;
-    if !is_complete_at(scope, types, t) {
-        return Err(refusal(at, Rule::Incomplete));
+    if let Some(fault) = type_size_fault(scope, types, at, type_named(&name)) {
+        return Err(fault);
     }
-    let size = size_at(types, t);
-    let name = Boxed::new(scope.alloc(), name)?;
+    let made = named_size(scope, types, at, paren, name)?;
     Ok(Operand {
-        part: Part::Value(TypedExpr::SizeOfType(at, paren, name, size, SIZE)),
+        part: Part::Value(made),
         place: at,
         held: 1,
     })

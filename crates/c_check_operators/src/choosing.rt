@@ -1,20 +1,27 @@
 //! `?:` and `,` (C99 6.5.15, 6.5.17).
 #![tactic(auto)]
 
-ghost use Rattle.std.specs.Prelude.{◌≡◌, ◌&&◌, ◌||◌, IfOk};
+ghost use Rattle.std.specs.Prelude.{◌≡◌, ◌<◌, ◌≤◌, ◌⊎◌, ◌&&◌, ◌||◌, IfOk, IfErr, Some, None};
+ghost use Rattle.cc_base.specs.declared.fault.Fault.TheVariants.{TooLarge};
+ghost use Rattle.cc_base.specs.declared.fault.Limit.TheVariants.{Held};
 ghost use Rattle.c_types.specs.Table.{shape_at};
 ghost use Rattle.c_tree.specs.TypedParts.{type_of};
 ghost use Rattle.c_tree.specs.TypedTree as typed;
 ghost use Rattle.c_tree.specs.TypedViews.{typed_expr_view, typed_place_view};
 ghost use Rattle.c_typing.specs.Assignments as assignments;
-ghost use Rattle.c_typing.specs.Judging.{Answers, known};
+ghost use Rattle.c_typing.specs.Conversions.{to_integer};
+ghost use Rattle.c_typing.specs.Integers.{common};
+ghost use Rattle.c_typing.specs.Judging.{Answers, integer_type, known, void_type};
+ghost use Rattle.c_typing.specs.KindViews.{kind_view};
 ghost use Rattle.c_typing.specs.OperandViews.{part_view, operand_view, value_view, part_ref_view};
 ghost use Rattle.c_typing.specs.Rules as rules;
 ghost use Rattle.c_typing.specs.Shapes.{integer_at, is_void_shape};
 ghost use Rattle.c_typing.specs.Tests as tests;
 ghost use Rattle.c_typing.specs.Tests.{first_broken, AsPlace, AsValue};
 
+use crate::allowed::held_within;
 use crate::assigning::are_one_struct;
+use crate::boxes::{boxed_pair, boxed_places};
 use crate::meeting::{how_they_meet, meet};
 use crate::unary::to_integer;
 use crate::value_shape::shape_of;
@@ -22,7 +29,8 @@ use c_tree::{Boxed, Conversion, TypedExpr, TypedPlace};
 use c_types::Types;
 use c_typing::constant::is_null_constant;
 use c_typing::construct::{held_with_three, held_with_two, holding};
-use c_typing::operand::{Operand, Part, PartRef, Value};
+use c_typing::kind::Kind;
+use c_typing::operand::{Operand, Part, PartRef, Pointing, Value};
 use c_typing::scope::Scope;
 use c_typing::shapes::{are_integers, integer_at, is_scalar, is_void, shape_at};
 use c_typing::stops::{no_room, refusal};
@@ -87,8 +95,60 @@ struct Chosen {
     b: TypedExpr,
 }
 
+/// `?:` of pointers that have this type.
+#[tactic(auto, using(c_tree::proofs::TypedViewLaws::typed_views))]
+fn pointer_conditional(
+    scope: &Scope,
+    condition: TypedExpr,
+    at: Place,
+    a: TypedExpr,
+    b: TypedExpr,
+    made: Pointing,
+) -> Result<TypedExpr, NoMemory>
+    ensures { IfOk result (λ e. typed_expr_view e ≡ typed.PointerConditional (typed_expr_view condition) at (typed_expr_view a) (typed_expr_view b) made.node made.ty) }
+{
+    let (a, b) = boxed_pair(scope, a, b)?;
+    let condition = Boxed::new(scope.alloc(), condition)?;
+    Ok(TypedExpr::PointerConditional(condition, at, a, b, made.node, made.ty))
+}
+
+/// `?:` of two that flow into this pointer type.
+fn chosen_pointer(
+    scope: &Scope,
+    types: &Types,
+    x: Chosen,
+    made: Pointing,
+) -> Result<TypedExpr, NoMemory>
+    ensures { IfOk result (λ e. typed_expr_view e ≡ typed.PointerConditional (typed_expr_view x.condition) x.at (rules.into_choice types.now x.at made.ty (typed_expr_view x.a)) (rules.into_choice types.now x.at made.ty (typed_expr_view x.b)) made.node made.ty) }
+{
+    let Chosen {
+        condition,
+        at,
+        a,
+        b,
+        ..
+    } = x;
+    let a = into_choice(scope, types, at, made.ty, a)?;
+    let b = into_choice(scope, types, at, made.ty, b)?;
+    pointer_conditional(scope, condition, at, a, b, made)
+}
+
+/// `?:` of pointers to this type.
+#[tactic(auto, unfolding(c_typing::specs::Assignments::pointer_choice))]
+fn choice_to(
+    scope: &mut Scope,
+    types: &mut Types,
+    x: Chosen,
+    to: TypeId,
+) -> Result<TypedExpr, Fault>
+    ensures { Answers (λ e. AsValue (typed_expr_view e)) (assignments.pointer_choice (typed_expr_view x.condition) x.begin x.at (typed_expr_view x.a) (typed_expr_view x.b) (Some to) (known types.old scope.old)) result (known types.new scope.new) }
+{
+    let made = new_pointer(scope, types, x.begin, to)?;
+    Ok(chosen_pointer(scope, types, x, made)?)
+}
+
 /// `?:` of pointers to what both sides point to.
-#[tactic(auto, using(c_tree::proofs::TypedViewLaws::typed_views), unfolding(c_typing::specs::Assignments::pointer_choice))]
+#[tactic(auto, unfolding(c_typing::specs::Assignments::pointer_choice))]
 fn pointer_choice(
     scope: &mut Scope,
     types: &mut Types,
@@ -97,22 +157,10 @@ fn pointer_choice(
 ) -> Result<TypedExpr, Fault>
     ensures { Answers (λ e. AsValue (typed_expr_view e)) (assignments.pointer_choice (typed_expr_view x.condition) x.begin x.at (typed_expr_view x.a) (typed_expr_view x.b) to (known types.old scope.old)) result (known types.new scope.new) }
 {
-    let Chosen {
-        condition,
-        begin,
-        at,
-        a,
-        b,
-    } = x;
-    let Some(to) = to else {
-        return Err(no_room(begin));
-    };
-    let alloc = scope.alloc();
-    let made = new_pointer(scope, types, begin, to)?;
-    let a = Boxed::new(alloc, into_choice(scope, types, at, made.ty, a)?)?;
-    let b = Boxed::new(alloc, into_choice(scope, types, at, made.ty, b)?)?;
-    let condition = Boxed::new(alloc, condition)?;
-    Ok(TypedExpr::PointerConditional(condition, at, a, b, made.node, made.ty))
+    match to {
+        Some(to) => choice_to(scope, types, x, to),
+        None => Err(no_room(x.begin)),
+    }
 }
 
 /// `?:` of two that have this type.
@@ -127,11 +175,23 @@ fn conditional(
 ) -> Result<TypedExpr, NoMemory>
     ensures { IfOk result (λ e. typed_expr_view e ≡ typed.Conditional (typed_expr_view condition) at (typed_expr_view a) (typed_expr_view b) t) }
 {
-    let alloc = scope.alloc();
-    let condition = Boxed::new(alloc, condition)?;
-    let a = Boxed::new(alloc, a)?;
-    let b = Boxed::new(alloc, b)?;
+    let (a, b) = boxed_pair(scope, a, b)?;
+    let condition = Boxed::new(scope.alloc(), condition)?;
     Ok(TypedExpr::Conditional(condition, at, a, b, t))
+}
+
+/// `?:` of two without a value.
+fn void_choice(scope: &Scope, x: Chosen) -> Result<TypedExpr, NoMemory>
+    ensures { IfOk result (λ e. typed_expr_view e ≡ typed.Conditional (typed_expr_view x.condition) x.at (typed_expr_view x.a) (typed_expr_view x.b) void_type) }
+{
+    let Chosen {
+        condition,
+        at,
+        a,
+        b,
+        ..
+    } = x;
+    conditional(scope, condition, at, a, b, VOID)
 }
 
 /// `?:` of two that are not both integers.
@@ -140,10 +200,27 @@ fn choice_of_pointers(scope: &mut Scope, types: &mut Types, x: Chosen) -> Result
     ensures { Answers (λ e. AsValue (typed_expr_view e)) (assignments.choice_of_pointers (typed_expr_view x.condition) x.begin x.at (typed_expr_view x.a) (typed_expr_view x.b) (is_void_shape (shape_at types.old (type_of (typed_expr_view x.a))) && is_void_shape (shape_at types.old (type_of (typed_expr_view x.b)))) (known types.old scope.old)) result (known types.new scope.new) }
 {
     if is_void(shape_at(types, x.a.ty())) && is_void(shape_at(types, x.b.ty())) {
-        return Ok(conditional(scope, x.condition, x.at, x.a, x.b, VOID)?);
+        return Ok(void_choice(scope, x)?);
     }
     let to = how_they_meet(types, &x.a, &x.b).pointee();
     pointer_choice(scope, types, x, to)
+}
+
+/// `?:` of two integers, each converted to the type in which they meet.
+fn integer_choice(scope: &Scope, x: Chosen, left: Kind, right: Kind) -> Result<TypedExpr, NoMemory>
+    ensures { IfOk result (λ e. typed_expr_view e ≡ typed.Conditional (typed_expr_view x.condition) x.at (to_integer x.at (integer_type (common (kind_view left) (kind_view right))) (typed_expr_view x.a)) (to_integer x.at (integer_type (common (kind_view left) (kind_view right))) (typed_expr_view x.b)) (integer_type (common (kind_view left) (kind_view right)))) }
+{
+    let Chosen {
+        condition,
+        at,
+        a,
+        b,
+        ..
+    } = x;
+    let t = left.common(right).ty();
+    let a = to_integer(scope, at, t, a)?;
+    let b = to_integer(scope, at, t, b)?;
+    conditional(scope, condition, at, a, b, t)
 }
 
 /// `?:` of two values.
@@ -152,12 +229,7 @@ fn choice_of_values(scope: &mut Scope, types: &mut Types, x: Chosen) -> Result<T
     ensures { Answers (λ e. AsValue (typed_expr_view e)) (assignments.choice_of_values (typed_expr_view x.condition) x.begin x.at (typed_expr_view x.a) (typed_expr_view x.b) (integer_at types.old (type_of (typed_expr_view x.a))) (integer_at types.old (type_of (typed_expr_view x.b))) (known types.old scope.old)) result (known types.new scope.new) }
 {
     match (integer_at(types, x.a.ty()), integer_at(types, x.b.ty())) {
-        (Some(left), Some(right)) => {
-            let t = left.common(right).ty();
-            let a = to_integer(scope, x.at, t, x.a)?;
-            let b = to_integer(scope, x.at, t, x.b)?;
-            Ok(conditional(scope, x.condition, x.at, a, b, t)?)
-        }
+        (Some(left), Some(right)) => Ok(integer_choice(scope, x, left, right)?),
         _ => choice_of_pointers(scope, types, x),
     }
 }
@@ -173,27 +245,79 @@ fn struct_choice(
 ) -> Result<Part, NoMemory>
     ensures { IfOk result (λ x. part_view x ≡ AsPlace (typed.StructConditional (typed_expr_view condition) at (typed_place_view p) (typed_place_view q))) }
 {
-    let alloc = scope.alloc();
-    let condition = Boxed::new(alloc, condition)?;
-    let p = Boxed::new(alloc, p)?;
-    let q = Boxed::new(alloc, q)?;
+    let (p, q) = boxed_places(scope, p, q)?;
+    let condition = Boxed::new(scope.alloc(), condition)?;
     Ok(Part::Place(TypedPlace::StructConditional(condition, at, p, q)))
 }
 
-#[tactic(auto, unfolding(c_typing::specs::Assignments::choice_of_parts))]
-fn choice_of_parts(
-    scope: &mut Scope,
-    types: &mut Types,
+/// The parts of a `?:`: its condition, its first token, its `?` and its sides.
+#[derive(Drop)]
+struct Choice {
     condition: TypedExpr,
     begin: Place,
     at: Place,
-    sides: (Part, Part),
+    x: Part,
+    y: Part,
+}
+
+/// `?:` of two structs, as a part.
+#[tactic(auto, unfolding(c_typing::specs::Assignments::choice_of_parts))]
+fn place_choice(
+    scope: &Scope,
+    types: &Types,
+    condition: TypedExpr,
+    places: (Place, Place),
+    p: TypedPlace,
+    q: TypedPlace,
 ) -> Result<Part, Fault>
-    ensures { Answers part_view (assignments.choice_of_parts (typed_expr_view condition) begin at (part_view sides.0) (part_view sides.1) (known types.old scope.old)) result (known types.new scope.new) }
+    ensures { Answers part_view (assignments.choice_of_parts (typed_expr_view condition) places.0 places.1 (AsPlace (typed_place_view p)) (AsPlace (typed_place_view q)) (known types.now scope.now)) result (known types.now scope.now) }
 {
-    match sides {
-        (Part::Place(p), Part::Place(q)) => Ok(struct_choice(scope, condition, at, p, q)?),
-        (Part::Value(a), Part::Value(b)) => {
+    let made = struct_choice(scope, condition, places.1, p, q)?;
+    Ok(made)
+}
+
+/// `?:` whose first side is a struct.
+#[tactic(auto, unfolding(c_typing::specs::Assignments::choice_of_parts))]
+fn choice_of_structs(
+    scope: &Scope,
+    types: &Types,
+    condition: TypedExpr,
+    places: (Place, Place),
+    p: TypedPlace,
+    y: Part,
+) -> Result<Part, Fault>
+    ensures { Answers part_view (assignments.choice_of_parts (typed_expr_view condition) places.0 places.1 (AsPlace (typed_place_view p)) (part_view y) (known types.now scope.now)) result (known types.now scope.now) }
+{
+    match y {
+        Part::Place(q) => place_choice(scope, types, condition, places, p, q),
+        _ => Err(no_room(places.0)),
+    }
+}
+
+/// `?:` of two values, as a part.
+#[tactic(auto, unfolding(c_typing::specs::Assignments::choice_of_parts))]
+fn value_choice(scope: &mut Scope, types: &mut Types, x: Chosen) -> Result<Part, Fault>
+    ensures { Answers part_view (assignments.choice_of_parts (typed_expr_view x.condition) x.begin x.at (AsValue (typed_expr_view x.a)) (AsValue (typed_expr_view x.b)) (known types.old scope.old)) result (known types.new scope.new) }
+{
+    let made = choice_of_values(scope, types, x)?;
+    Ok(Part::Value(made))
+}
+
+/// `?:` whose first side is a value.
+#[tactic(auto, unfolding(c_typing::specs::Assignments::choice_of_parts))]
+fn choice_with_value(
+    scope: &mut Scope,
+    types: &mut Types,
+    condition: TypedExpr,
+    places: (Place, Place),
+    a: TypedExpr,
+    y: Part,
+) -> Result<Part, Fault>
+    ensures { Answers part_view (assignments.choice_of_parts (typed_expr_view condition) places.0 places.1 (AsValue (typed_expr_view a)) (part_view y) (known types.old scope.old)) result (known types.new scope.new) }
+{
+    let (begin, at) = places;
+    match y {
+        Part::Value(b) => {
             let x = Chosen {
                 condition,
                 begin,
@@ -201,9 +325,41 @@ fn choice_of_parts(
                 a,
                 b,
             };
-            Ok(Part::Value(choice_of_values(scope, types, x)?))
+            value_choice(scope, types, x)
         }
         _ => Err(no_room(begin)),
+    }
+}
+
+#[tactic(auto, unfolding(c_typing::specs::Assignments::choice_of_parts))]
+fn choice_of_parts(scope: &mut Scope, types: &mut Types, sides: Choice) -> Result<Part, Fault>
+    ensures { Answers part_view (assignments.choice_of_parts (typed_expr_view sides.condition) sides.begin sides.at (part_view sides.x) (part_view sides.y) (known types.old scope.old)) result (known types.new scope.new) }
+{
+    let Choice {
+        condition,
+        begin,
+        at,
+        x,
+        y,
+    } = sides;
+    match x {
+        Part::Place(p) => choice_of_structs(scope, types, condition, (begin, at), p, y),
+        Part::Value(a) => choice_with_value(scope, types, condition, (begin, at), a, y),
+        Part::Allocation(_) => Err(no_room(begin)),
+    }
+}
+
+/// A `?:` that breaks no rule, and how many values it holds at once.
+fn allowed_choice(types: &Types, sides: Choice, held: u64) -> Result<(Choice, u32), Fault>
+    ensures ok { IfOk result (λ r. (first_broken (tests.choice_tests types.now sides.at (AsValue (typed_expr_view sides.condition)) (part_view sides.x) (part_view sides.y)) ≡ None) × (r.0 ≡ sides) × (r.1 ≡ held) × (held ≤ 256)) }
+    ensures err { IfErr result (λ f. (first_broken (tests.choice_tests types.now sides.at (AsValue (typed_expr_view sides.condition)) (part_view sides.x) (part_view sides.y)) ≡ Some f) ⊎ ((first_broken (tests.choice_tests types.now sides.at (AsValue (typed_expr_view sides.condition)) (part_view sides.x) (part_view sides.y)) ≡ None) × (256 < held) × (f ≡ TooLarge sides.begin Held))) }
+{
+    let x = sides.x.as_ref();
+    let y = sides.y.as_ref();
+    let fault = choice_fault(types, sides.at, &sides.condition, x, y);
+    match held_within(fault, sides.begin, held) {
+        Ok(held) => Ok((sides, held)),
+        Err(fault) => Err(fault),
     }
 }
 
@@ -219,31 +375,47 @@ pub fn choice(
 ) -> Result<Operand, Fault>
     ensures { Answers operand_view (assignments.choice (value_view c) at (value_view a) (value_view b) (known types.old scope.old)) result (known types.new scope.new) }
 {
-    let x = side_of(a.expr);
-    let y = side_of(b.expr);
-    if let Some(fault) = choice_fault(types, at, &c.expr, x.as_ref(), y.as_ref()) {
-        return Err(fault);
-    }
-    let held = holding(c.place, held_with_three(c.held, a.held, b.held))?;
-    let part = choice_of_parts(scope, types, c.expr, c.place, at, (x, y))?;
-    Ok(Operand {
-        part,
-        place: c.place,
-        held,
-    })
+    let place = c.place;
+    let held = held_with_three(c.held, a.held, b.held);
+    let sides = Choice {
+        condition: c.expr,
+        begin: place,
+        at,
+        x: side_of(a.expr),
+        y: side_of(b.expr),
+    };
+    let (sides, held) = allowed_choice(types, sides, held)?;
+    let part = choice_of_parts(scope, types, sides)?;
+    Ok(Operand { part, place, held })
 }
 
-/// What `,` makes of a value and what follows it.
+/// `,` before a struct.
 #[tactic(auto, using(c_tree::proofs::TypedViewLaws::typed_views))]
-fn comma_part(scope: &Scope, a: TypedExpr, b: Part) -> Result<Part, NoMemory>
-    ensures { IfOk result (λ x. part_view x ≡ assignments.comma_part (typed_expr_view a) (part_view b)) }
+fn before_struct(scope: &Scope, a: TypedExpr, p: TypedPlace) -> Result<Part, NoMemory>
+    ensures { IfOk result (λ x. part_view x ≡ AsPlace (typed.StructComma (typed_expr_view a) (typed_place_view p))) }
 {
     let alloc = scope.alloc();
     let a = Boxed::new(alloc, a)?;
+    let p = Boxed::new(alloc, p)?;
+    Ok(Part::Place(TypedPlace::StructComma(a, p)))
+}
+
+/// `,` before a value.
+#[tactic(auto, using(c_tree::proofs::TypedViewLaws::typed_views))]
+fn before_value(scope: &Scope, a: TypedExpr, b: TypedExpr) -> Result<Part, NoMemory>
+    ensures { IfOk result (λ x. part_view x ≡ AsValue (typed.Comma (typed_expr_view a) (typed_expr_view b))) }
+{
+    let (a, b) = boxed_pair(scope, a, b)?;
+    Ok(Part::Value(TypedExpr::Comma(a, b)))
+}
+
+/// What `,` makes of a value and what follows it.
+fn comma_part(scope: &Scope, a: TypedExpr, b: Part) -> Result<Part, NoMemory>
+    ensures { IfOk result (λ x. part_view x ≡ assignments.comma_part (typed_expr_view a) (part_view b)) }
+{
     match b {
-        Part::Place(p) => Ok(Part::Place(TypedPlace::StructComma(a, Boxed::new(alloc, p)?))),
-        Part::Value(b) => Ok(Part::Value(TypedExpr::Comma(a, Boxed::new(alloc, b)?))),
-        Part::Allocation(b) => Ok(Part::Value(TypedExpr::Comma(a, Boxed::new(alloc, b)?))),
+        Part::Place(p) => before_struct(scope, a, p),
+        Part::Value(b) | Part::Allocation(b) => before_value(scope, a, b),
     }
 }
 
@@ -252,11 +424,13 @@ fn comma_part(scope: &Scope, a: TypedExpr, b: Part) -> Result<Part, NoMemory>
 pub fn comma(scope: &Scope, types: &Types, a: Value, b: Value) -> Result<Operand, Fault>
     ensures { Answers operand_view (assignments.comma (value_view a) (value_view b) (known types.now scope.now)) result (known types.now scope.now) }
 {
-    let held = holding(a.place, held_with_two(a.held, b.held))?;
-    let part = comma_part(scope, a.expr, side_of(b.expr))?;
-    Ok(Operand {
-        part,
-        place: a.place,
-        held,
-    })
+    let Value { expr, place, held } = a;
+    let Value {
+        expr: last,
+        held: held_after,
+        ..
+    } = b;
+    let held = holding(place, held_with_two(held, held_after))?;
+    let part = comma_part(scope, expr, side_of(last))?;
+    Ok(Operand { part, place, held })
 }

@@ -5,6 +5,7 @@ mod address;
 mod allowed;
 pub mod assigning;
 pub mod binary;
+mod boxes;
 pub mod calls;
 pub mod casting;
 pub mod cells;

@@ -5,3 +5,5 @@ pub mod LiteralLaws
 pub mod MemberLaws
 pub mod RuntimeLaws
 pub mod CellLaws
+pub mod ConstructLaws
+pub mod StepLaws

@@ -1,5 +1,5 @@
 -- Where no rule of a construct is broken, what is made of its operands is well typed.
-use Rattle.std.proofs.Common.{◌≡◌, ℕ, ◌<◌, ◌≤◌, ◌==◌, nat_lt, Bool, true, false, not, ◌&&◌, ◌||◌, List, [], ◌∷◌, Option, Some, None, refl, ap, sym, subst, ◌∙◌, inl, inr, ◌⊎◌, true≢false, IsTrue, if◌then◌else◌, arith}
+use Rattle.std.proofs.Common.{◌≡◌, ℕ, ◌==◌, nat_lt, Bool, true, false, not, ◌&&◌, ◌||◌, List, Some, None, refl, ap, sym, subst, ◌∙◌, inl, inr, if◌then◌else◌}
 use Rattle.cc_base.specs.declared.place.Place.{Place}
 use Rattle.cc_base.specs.declared.number.NodeId.{NodeId}
 use Rattle.cc_base.specs.declared.number.TypeId.{TypeId}
@@ -9,26 +9,25 @@ use Rattle.cc_base.specs.declared.fault.Rule.TheVariants as rule
 use Rattle.std.proofs.lemmas.Option.{none-some}
 use Rattle.c_types.specs.declared.shape.TypeShape.{TypeShape}
 use Rattle.c_types.specs.declared.shape.TypeShape.TheVariants.{Void, Integer, Pointer, Array, Function, Struct, Union}
-use Rattle.c_types.specs.Table.{Table, HasShape, IsType, shape_at}
+use Rattle.c_types.specs.Table.{Table, HasShape, shape_at}
 use Rattle.c_types.specs.Sound.{IsWellFormed, IsIntegerSize, IsProper}
 use Rattle.c_tree.specs.declared.operator.Unary.{Unary}
 use Rattle.c_tree.specs.declared.operator.Unary.TheVariants as unary
 use Rattle.c_tree.specs.declared.typed_word.Conversion.TheVariants as conversion
-use Rattle.c_tree.specs.declared.typed_word.Side.TheVariants as side
 use Rattle.c_tree.specs.TypedTree as typed
 use Rattle.c_tree.specs.TypedTree.{TypedExpr, TypedPlace}
-use Rattle.c_tree.specs.TypedParts.{type_of, place_type}
+use Rattle.c_tree.specs.TypedParts.{type_of}
 use Rattle.integers.specs.Arithmetic.{IntegerType, int}
-use Rattle.c_typing.specs.Conversions.{bare, IsPlain, is_plain, to_integer, IsOperand}
+use Rattle.c_typing.specs.Conversions.{bare, IsPlain, to_integer, IsOperand}
 use Rattle.c_typing.specs.Integers.{promoted}
-use Rattle.c_typing.specs.Judging.{void_type, integer_type}
-use Rattle.c_typing.specs.Operations.{pointed, pointed_place, element, is_arithmetic_prefix, promoted_operand, operator_on, int_type}
-use Rattle.c_typing.specs.Rules.{IsTarget, IsFunctionAt, IsElement, IsPointer, IsInteger, IsPromoted, IsPrefix, IsCondition}
+use Rattle.c_typing.specs.Judging.{integer_type}
+use Rattle.c_typing.specs.Operations.{pointed, pointed_place, element, is_arithmetic_prefix, promoted_operand, operator_on}
+use Rattle.c_typing.specs.Rules.{IsPointer, IsInteger, IsPromoted, IsPrefix}
 use Rattle.c_typing.specs.Scopes.{Scopes, is_complete_at}
 use Rattle.c_typing.specs.Settled.{IsBasic, IsSettled, IsPartTyped}
-use Rattle.c_typing.specs.Shapes.{integer_at, integer_of_shape, pointee_at, pointee_of_shape, is_pointer_shape, is_integer_shape, is_scalar_shape, is_void_shape, is_function_shape, IsPointerTo, IsIntegerType}
-use Rattle.c_typing.specs.Tests.{Test, first_broken, Elaborated, AsPlace, AsValue, target_tests, index_tests, prefix_tests, points_to_open, points_to_incomplete, points_to_function, is_index_pair}
-use Rattle.c_typing.specs.Typing.{IsTyped, IsPlace}
+use Rattle.c_typing.specs.Shapes.{integer_at, integer_of_shape, pointee_at, pointee_of_shape, is_pointer_shape, is_integer_shape, is_scalar_shape, is_void_shape, is_function_shape}
+use Rattle.c_typing.specs.Tests.{first_broken, AsValue, target_tests, index_tests, prefix_tests, points_to_open, points_to_incomplete, is_index_pair}
+use Rattle.c_typing.specs.Typing.{IsTyped}
 use Rattle.c_typing_laws.proofs.ExtensionLaws.{no_true, is_in}
 
 -- no rule of a list of one, two or three is broken

@@ -1,6 +1,6 @@
 -- What a table that goes on from another one keeps.
-use Rattle.std.proofs.Common.{◌≡◌, ◌≢◌, ℕ, zero, suc, ◌+◌, ◌<◌, ◌≤◌, Bool, true, false, not, ◌&&◌, ◌||◌, ◌==◌, List, [], ◌∷◌, length, Option, Some, None, refl, ap, sym, subst, ◌∙◌, inl, inr, get_or, true≢false, IsTrue, arith}
-use Rattle.std.specs.List.{All, Contains}
+use Rattle.std.proofs.Common.{◌≡◌, ℕ, zero, suc, ◌≤◌, Bool, true, false, ◌&&◌, ◌==◌, List, [], ◌∷◌, length, Some, refl, ap, sym, subst, ◌∙◌, inl, inr, true≢false, arith}
+use Rattle.std.specs.List.{Contains}
 use Rattle.std.proofs.lemmas.Bool.Decides.{leb_tells}
 use Rattle.std.proofs.lemmas.List.{get_or_past}
 use Rattle.std.proofs.lemmas.List.Elements.{All-contains}
@@ -9,13 +9,11 @@ use Rattle.cc_base.specs.declared.number.NodeId.{NodeId}
 use Rattle.cc_base.specs.declared.number.TypeId.{TypeId}
 use Rattle.c_types.specs.declared.shape.TypeShape.{TypeShape}
 use Rattle.c_types.specs.declared.shape.TypeShape.TheVariants.{Void, Integer, Pointer, Array, Function, Struct, Union}
-use Rattle.c_types.specs.Table.{Table, Entry, IsType, IsComplete, HasShape, entry_at, shape_at, members_at, named_by, void_entry, is_complete, is_complete_entry, descend, is_aggregate_shape}
-use Rattle.c_types.specs.Layouts.{layout_of, size_of}
+use Rattle.c_types.specs.Table.{Table, Entry, IsType, HasShape, shape_at, members_at, named_by, void_entry, is_complete_entry, descend}
 use Rattle.c_types.specs.Sound.{IsWellFormed}
 use Rattle.c_types.proofs.Lists.{contains_head, contains_tail}
 use Rattle.integers.specs.Arithmetic.{IntegerType}
-use Rattle.c_typing.specs.Shapes.{same_shape, same_step, is_same_type, integer_of_shape, integer_at, is_void_shape, is_scalar_shape, is_pointer_shape, pointee_of_shape, pointee_at, IsPointerTo, is_data, is_function_shape}
-use Rattle.c_types.specs.Equality.{same_bool}
+use Rattle.c_typing.specs.Shapes.{same_shape, same_step, is_same_type, integer_of_shape, integer_at, is_void_shape, IsPointerTo}
 use Rattle.c_typing.specs.Scopes.{Scopes, is_complete_shape_at, is_complete_at}
 use Rattle.c_typing.specs.Extensions.{IsExtended}
 

@@ -1,17 +1,16 @@
 -- What is known where a unit begins.
-use Rattle.std.proofs.Common.{◌≡◌, ℕ, zero, suc, ◌<◌, ◌≤◌, Bool, true, false, List, [], ◌∷◌, length, Option, Some, None, refl, ap, sym, subst, ◌∙◌, inl, inr, ◌⊎◌, lit<, arith}
+use Rattle.std.proofs.Common.{◌≡◌, ℕ, zero, suc, Bool, true, false, List, [], refl, sym, subst, inl, inr, lit<, arith}
 use Rattle.std.specs.List.{Contains}
 use Rattle.std.proofs.lemmas.List.Elements.{All-nil, All-cons}
 use Rattle.cc_base.specs.declared.number.TypeId.{TypeId}
 use Rattle.c_types.specs.declared.shape.TypeShape.{TypeShape}
 use Rattle.c_types.specs.declared.shape.TypeShape.TheVariants.{Void, Integer, Pointer, Array, Function, Struct, Union}
-use Rattle.c_types.specs.Table.{Table, HasShape, IsType, IsComplete, shape_at, members_at, named_by, is_aggregate_shape, is_complete_entry}
+use Rattle.c_types.specs.Table.{HasShape, shape_at, members_at, named_by, is_aggregate_shape, is_complete_entry}
 use Rattle.c_types.specs.Sound.{IsWellFormed, IsIntegerSize}
 use Rattle.c_types.specs.Calls.{basic_table}
-use Rattle.integers.specs.Arithmetic.{IntegerType}
-use Rattle.c_typing.specs.Judging.{State, integer_number, void_type}
-use Rattle.c_typing.specs.Scopes.{Name, Scopes, file_scope, empty_level, is_complete_shape_at, is_complete_at}
-use Rattle.c_typing.specs.Settled.{IsBasic, IsFollowed, IsLevelThere, IsKnown}
+use Rattle.c_typing.specs.Judging.{State, integer_number}
+use Rattle.c_typing.specs.Scopes.{Name, Scopes, file_scope, empty_level, is_complete_shape_at}
+use Rattle.c_typing.specs.Settled.{IsLevelThere, IsKnown}
 use Rattle.c_typing_laws.proofs.ExtensionLaws.{no_true}
 use Rattle.c_typing_laws.proofs.KnownScopes.{no-number, empty-there}
 

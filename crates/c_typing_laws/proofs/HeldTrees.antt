@@ -1,18 +1,12 @@
 -- How many values a judged expression holds at once.
-use Rattle.std.proofs.Common.{◌≡◌, ℕ, ℤ, ◌+◌, Bool, true, false, not, ◌&&◌, ◌||◌, nat_lt, nat_le, List, [], ◌∷◌, map, length, max, ◌++◌, arith, Option, Some, None, refl, ap, sym, subst, ◌∙◌, inl, inr, ◌⊎◌, if◌then◌else◌}
+use Rattle.std.proofs.Common.{◌≡◌, ℕ, ℤ, ◌+◌, Bool, true, false, List, [], ◌∷◌, map, length, max, ◌++◌, arith, refl, ap, sym, subst, ◌∙◌}
 use Rattle.std.proofs.lemmas.List.{length-append}
 use Rattle.cc_base.specs.declared.place.Place.{Place}
-use Rattle.cc_base.specs.declared.number.NodeId.{NodeId}
-use Rattle.cc_base.specs.declared.number.TypeId.{TypeId}
-use Rattle.cc_base.specs.declared.fault.Fault.{Fault}
-use Rattle.cc_base.specs.declared.fault.Fault.TheVariants.{Refused, TooLarge}
-use Rattle.cc_base.specs.declared.fault.Limit.TheVariants.{Types, Globals}
-use Rattle.cc_base.specs.declared.fault.Rule.{Rule}
+use Rattle.cc_base.specs.declared.fault.Fault.TheVariants.{TooLarge}
+use Rattle.cc_base.specs.declared.fault.Limit.TheVariants.{Types}
 use Rattle.c_lexer.specs.declared.number.IntegerType.{IntegerType as ConstantType}
-use Rattle.c_types.specs.declared.shape.TypeShape.{TypeShape}
-use Rattle.c_types.specs.declared.shape.TypeShape.TheVariants.{Array}
-use Rattle.c_types.specs.Table.{Table, shape_at}
-use Rattle.c_types.specs.Layouts.{size_of, member_at}
+use Rattle.c_types.specs.Table.{shape_at}
+use Rattle.c_types.specs.Layouts.{size_of}
 use Rattle.c_tree.specs.declared.leaf.Identifier.{Identifier}
 use Rattle.c_tree.specs.declared.leaf.StringPiece.{StringPiece}
 use Rattle.c_tree.specs.declared.operator.Assignment.{Assignment}
@@ -20,35 +14,30 @@ use Rattle.c_tree.specs.declared.operator.Assignment.TheVariants as assignment
 use Rattle.c_tree.specs.declared.operator.Binary.{Binary}
 use Rattle.c_tree.specs.declared.operator.Step.{Step}
 use Rattle.c_tree.specs.declared.operator.Unary.{Unary}
-use Rattle.c_tree.specs.declared.typed_word.Runtime.{Runtime}
 use Rattle.c_tree.specs.Places.{nowhere, pieces_place}
 use Rattle.c_tree.specs.TypedTree as typed
 use Rattle.c_tree.specs.TypedTree.{TypedExpr, TypedPlace, TypedTypeName}
-use Rattle.c_tree.specs.TypedParts.{type_of, place_type, named_type}
+use Rattle.c_tree.specs.TypedParts.{type_of, named_type}
 use Rattle.runtime_calls.specs.Prototypes.{runtime_of}
-use Rattle.integers.specs.Arithmetic.{IntegerType}
-use Rattle.c_typing.specs.declared.declared.Declared.{Declared}
-use Rattle.c_typing.specs.declared.declared.Declared.TheVariants as declared
 use Rattle.c_typing.specs.Assignments
 use Rattle.c_typing.specs.Assignments.{assigned, assign_part, part_type, updated, update_part, update_by, pointer_choice, choice_of_pointers, choice_of_values, choice_of_parts, choice, comma_part, comma, cast_part, size_of_type, called, arguments_held, function_name, named_as, count_global, literal}
-use Rattle.c_typing.specs.Conversions.{is_pointer_to_complete, to_integer}
-use Rattle.c_typing.specs.Integers.{char, common, constant_type}
-use Rattle.c_typing.specs.Judging.{State, Outcome, Judging, Gives, Stops, next, ◌>>=◌, pure, stop, by_known, Pointing, new_node, new_pointer, type_with, void_type, integer_type}
-use Rattle.c_typing.specs.Operands.{Operand, Value, value, made_for, raw_value, value_of, side_of, given_allocation, given, argument_of}
+use Rattle.c_typing.specs.Integers.{constant_type}
+use Rattle.c_typing.specs.Judging.{State, Gives, next, ◌>>=◌, pure, by_known, new_node, integer_type}
+use Rattle.c_typing.specs.Operands.{Operand, Value, value, value_of, side_of, given, argument_of}
 use Rattle.c_typing.specs.Operations
 use Rattle.c_typing.specs.Operations.{construct, leaf, prefix, target, size_type, int_type, pointed, target_of, address_behind, address_of_part, address, operator_on, prefix_of, size_of_part, step_part, step_before, step_after, element, index, operation, infix_of, numbered, named_member, Found, found, member_of, member_at_pointer, pointed_member, in_parens, paren, integer, character}
-use Rattle.c_typing.specs.Refusals.{Fails, type_size_tests}
-use Rattle.c_typing.specs.Rules.{pointer_behind, meeting, meeting_type, into_choice, runtime_named, pieces_bytes}
-use Rattle.c_typing.specs.Scopes.{Scopes, name_in, place_among}
-use Rattle.c_typing.specs.Shapes.{integer_at, pointee_at, is_void_shape}
-use Rattle.c_typing.specs.Tests.{Elaborated, AsPlace, AsValue, AsAllocation, Test, first_broken, has_some, target_tests, address_tests, prefix_tests, size_tests, step_tests, index_tests, infix_tests, member_tests, shape_of, pointed_shape, choice_tests, assign_tests, cast_tests, call_tests, name_tests}
+use Rattle.c_typing.specs.Refusals.{type_size_tests}
+use Rattle.c_typing.specs.Rules.{runtime_named, pieces_bytes}
+use Rattle.c_typing.specs.Scopes.{name_in}
+use Rattle.c_typing.specs.Shapes.{pointee_at}
+use Rattle.c_typing.specs.Tests.{AsPlace, AsValue, has_some, target_tests, address_tests, prefix_tests, size_tests, step_tests, index_tests, infix_tests, member_tests, shape_of, pointed_shape, choice_tests, assign_tests, cast_tests, call_tests, name_tests}
 use Rattle.c_tree.specs.declared.operator.MemberOperator.TheVariants as member
 use Rattle.c_tree.specs.declared.operator.Step.TheVariants as step
 use Rattle.c_tree.specs.declared.operator.Unary.TheVariants as unary
 use Rattle.c_tree.specs.Tree as tree
 use Rattle.c_typing.specs.Held.{held_with, held, held_by_arguments, count_of}
 use Rattle.c_typing.specs.Walks.{judge, judge_arguments, judge_type_name}
-use Rattle.c_typing_laws.proofs.Outcomes.{construct-gives, leaf-gives, gives-value, gives-state, never-gives, bind-gives}
+use Rattle.c_typing_laws.proofs.Outcomes.{construct-gives, leaf-gives, gives-value, never-gives, bind-gives}
 
 target-held : (at : Place) (v : Value) (s : State) (o : Operand) (r : State) → target_of at v s ≡ Gives o r → o.held ≡ held_with 0 (v.held ∷ [])
 unfolding target_of

@@ -1,21 +1,18 @@
 -- The rules of an operator on two operands are broken by their values exactly where they are broken by the operands as they stand.
-use Rattle.std.proofs.Common.{◌≡◌, ℕ, ℤ, Bool, true, false, not, ◌&&◌, ◌||◌, List, [], ◌∷◌, Option, Some, None, refl, ap, sym, subst, ◌∙◌, inl, inr, ◌⊎◌, if◌then◌else◌}
+use Rattle.std.proofs.Common.{◌≡◌, ℤ, Bool, true, false, not, ◌&&◌, ◌||◌, List, [], ◌∷◌, Option, Some, None, refl, ap, sym, ◌∙◌, inl, inr, if◌then◌else◌}
 use Rattle.cc_base.specs.declared.place.Place.{Place}
-use Rattle.cc_base.specs.declared.number.NodeId.{NodeId}
-use Rattle.cc_base.specs.declared.number.TypeId.{TypeId}
 use Rattle.cc_base.specs.declared.fault.Fault.TheVariants.{Refused}
 use Rattle.cc_base.specs.declared.fault.Rule.{Rule}
 use Rattle.cc_base.specs.declared.fault.Rule.TheVariants as rule
 use Rattle.c_types.specs.declared.shape.TypeShape.{TypeShape}
-use Rattle.c_types.specs.declared.shape.TypeShape.TheVariants.{Void, Integer, Pointer, Array, Function, Struct, Union}
+use Rattle.c_types.specs.declared.shape.TypeShape.TheVariants.{Pointer}
 use Rattle.c_types.specs.Table.{Table, shape_at}
 use Rattle.c_tree.specs.declared.operator.Binary.{Binary}
 use Rattle.c_tree.specs.declared.operator.Binary.TheVariants as binary
 use Rattle.c_tree.specs.TypedTree.{TypedExpr}
 use Rattle.c_tree.specs.TypedParts.{type_of, place_type}
 use Rattle.integers.specs.Arithmetic.{IntegerType}
-use Rattle.c_typing.specs.Constants.{constant_value, is_null_constant}
-use Rattle.c_typing.specs.Conversions.{is_taken_as}
+use Rattle.c_typing.specs.Constants.{constant_value}
 use Rattle.c_typing.specs.Integers.{is_logical, is_order, is_equality}
 use Rattle.c_typing.specs.Judging.{State, Stops}
 use Rattle.c_typing.specs.Operands.{Value}
@@ -24,25 +21,25 @@ use Rattle.c_typing.specs.Refusals.{Fails}
 use Rattle.c_typing.specs.Scopes.{Scopes}
 use Rattle.c_typing.specs.Settled.{IsBasic, IsValueOf, flat, is_value_part, IsAlike}
 use Rattle.c_typing.specs.Shapes.{is_scalar_shape, is_integer_shape, is_pointer_shape, integer_at}
-use Rattle.c_typing.specs.Tests.{taken_as, Elaborated, AsPlace, AsValue, AsAllocation, Test, broken_at, first_broken, decayed, shape_of, is_null_part, points_to_incomplete, is_index_pair, are_integers, is_moving, point_alike, point_to_data, divides_as, divides_part, infix_tests}
+use Rattle.c_typing.specs.Tests.{taken_as, Elaborated, AsPlace, AsValue, AsAllocation, Test, broken_at, first_broken, decayed, shape_of, is_null_part, points_to_incomplete, is_index_pair, is_moving, point_alike, point_to_data, divides_as, divides_part, infix_tests}
 use Rattle.c_tree.specs.declared.leaf.Identifier.{Identifier}
 use Rattle.c_tree.specs.declared.operator.Assignment.{Assignment}
 use Rattle.c_tree.specs.declared.operator.Assignment.TheVariants as assignment
 use Rattle.c_tree.specs.TypedTree as typed
 use Rattle.c_tree.specs.Tree as tree
-use Rattle.c_types.specs.Table.{IsType, is_aggregate_shape}
-use Rattle.c_typing.specs.Conversions.{is_plain, is_droppable}
+use Rattle.c_types.specs.Table.{IsType}
+use Rattle.c_typing.specs.Conversions.{is_droppable}
 use Rattle.c_typing.specs.Extensions.{IsExtended}
 use Rattle.c_typing.specs.Integers.{assigning}
 use Rattle.c_typing.specs.Operands.{Operand}
 use Rattle.c_typing.specs.Operations.{pointed_member}
-use Rattle.c_typing.specs.Assignments.{part_type, update_by}
-use Rattle.c_typing.specs.Refusals.{is_natural, IsElaborated}
-use Rattle.c_typing.specs.Rules.{is_compound, is_made_of_place}
+use Rattle.c_typing.specs.Assignments.{update_by}
+use Rattle.c_typing.specs.Refusals.{IsElaborated}
+use Rattle.c_typing.specs.Rules.{is_compound}
 use Rattle.c_typing.specs.Settled.{is_converted}
 use Rattle.c_typing.specs.Tests.{pointed_shape, member_tests, assign_tests, is_assignable, can_be_written, is_array_part}
 use Rattle.c_typing.specs.Typing.{IsTyped}
-use Rattle.c_typing_laws.proofs.ExtensionLaws.{no_true, is_in, not_void}
+use Rattle.c_typing_laws.proofs.ExtensionLaws.{no_true}
 use Rattle.c_typing_laws.proofs.KeptConstants.{Own, own-no_place, constant-kept, null-kept}
 use Rattle.c_typing_laws.proofs.TypesThere.{value-there, place-there, part-there}
 use Rattle.c_typing_laws.proofs.ValuesTaken.{natural-no_place}
@@ -190,7 +187,7 @@ infix-refuses operator x a at y b s p t r ax ay h =
 
 -- members of what a pointer points to
 
-pointed_flat : (T : Table) (x : TypeShape) → pointed_shape T x ≡ pointed_shape T (flat x)
+pub pointed_flat : (T : Table) (x : TypeShape) → pointed_shape T x ≡ pointed_shape T (flat x)
 pointed_flat T (Pointer n t) = refl
 pointed_flat T x = refl
 

@@ -1,6 +1,6 @@
 -- Where no rule of an operator on two operands is broken, what is made of them is well typed.
-use Rattle.std.proofs.Common.{◌≡◌, ℕ, ◌<◌, ◌≤◌, ◌==◌, nat_lt, eqb, ℤ, Bool, true, false, not, ◌&&◌, ◌||◌, List, [], ◌∷◌, Option, Some, None, refl, ap, sym, subst, ◌∙◌, inl, inr, ◌⊎◌, true≢false, IsTrue, if◌then◌else◌, arith}
-use Rattle.std.proofs.lemmas.Bool.Decides.{Decides-eqb, eqb_tells}
+use Rattle.std.proofs.Common.{◌≡◌, ℕ, nat_lt, eqb, ℤ, Bool, true, false, not, ◌&&◌, ◌||◌, Option, Some, None, refl, ap, sym, subst, ◌∙◌, inl, inr, ◌⊎◌, if◌then◌else◌}
+use Rattle.std.proofs.lemmas.Bool.Decides.{Decides-eqb}
 use Rattle.cc_base.specs.declared.place.Place.{Place}
 use Rattle.cc_base.specs.declared.number.NodeId.{NodeId}
 use Rattle.cc_base.specs.declared.number.TypeId.{TypeId}
@@ -8,30 +8,29 @@ use Rattle.cc_base.specs.declared.fault.Fault.TheVariants.{Refused}
 use Rattle.cc_base.specs.declared.fault.Rule.TheVariants as rule
 use Rattle.c_types.specs.declared.shape.TypeShape.{TypeShape}
 use Rattle.c_types.specs.declared.shape.TypeShape.TheVariants.{Void, Integer, Pointer, Array, Function, Struct, Union}
-use Rattle.c_types.specs.Table.{Table, HasShape, IsType, shape_at}
+use Rattle.c_types.specs.Table.{Table, HasShape, shape_at}
 use Rattle.c_types.specs.Sound.{IsIntegerSize}
 use Rattle.c_types.specs.Equality.{same_bool}
 use Rattle.c_tree.specs.declared.operator.Binary.{Binary}
 use Rattle.c_tree.specs.declared.operator.Binary.TheVariants as binary
 use Rattle.c_tree.specs.declared.typed_word.Conversion.TheVariants as conversion
-use Rattle.c_tree.specs.declared.typed_word.Side.TheVariants as side
 use Rattle.c_tree.specs.TypedTree as typed
 use Rattle.c_tree.specs.TypedTree.{TypedExpr, TypedPlace}
 use Rattle.c_tree.specs.TypedParts.{type_of}
 use Rattle.integers.specs.Arithmetic.{IntegerType, int, long, converted}
 use Rattle.c_typing.specs.Constants.{constant_value, is_null_constant, divides_badly}
-use Rattle.c_typing.specs.Conversions.{bare, IsPlain, is_plain, to_integer, IsOperand, is_taken_as, are_data, points_to_void}
+use Rattle.c_typing.specs.Conversions.{bare, IsPlain, to_integer, are_data, points_to_void}
 use Rattle.c_typing.specs.Integers.{promoted, wider, common, left_type, right_type, result_type, is_shift, is_logical, is_order, is_equality}
 use Rattle.c_typing.specs.Judging.{integer_type}
-use Rattle.c_typing.specs.Operations.{int_type, long_type, arithmetic, equated, compared, pointers, by_kinds, operation}
-use Rattle.c_typing.specs.Rules.{IsPointer, IsLogical, IsArithmetic, IsMoved, IsDifference, IsCompared, AreOrdered, AreEquated, Meeting, RightIsNull, LeftIsNull, BothPoint, NeverMeet, meeting_pointee, meeting_of, meeting, null_of, is_made_of_place}
+use Rattle.c_typing.specs.Operations.{int_type, arithmetic, equated, compared, pointers, by_kinds, operation}
+use Rattle.c_typing.specs.Rules.{AreEquated, Meeting, RightIsNull, LeftIsNull, BothPoint, NeverMeet, meeting_of, meeting, null_of, is_made_of_place}
 use Rattle.c_typing.specs.Scopes.{Scopes, is_complete_at}
 use Rattle.c_typing.specs.Settled.{IsBasic, IsSettled, is_converted}
 use Rattle.c_typing.specs.Shapes.{integer_at, integer_of_shape, is_pointer_shape, is_integer_shape, is_scalar_shape, is_same_type, is_data}
 use Rattle.c_typing.specs.Tests.{first_broken, AsValue, infix_tests, accepts, is_moving, is_index_pair, are_integers, point_alike, point_to_data, points_to_incomplete, meet, taken_as, divides_part, divides_as, constant_as, same_kind}
 use Rattle.c_typing.specs.Typing.{IsTyped}
 use Rattle.c_typing_laws.proofs.ExtensionLaws.{no_true, and_left, and_right}
-use Rattle.c_typing_laws.proofs.ConstructLaws.{three_unbroken, not_false, or_left, or_right, either_false, has_shape, pointer_value, integer_value, to_integer-typed, to_integer-bare, integer_size, promoted_size, operand}
+use Rattle.c_typing_laws.proofs.ConstructLaws.{three_unbroken, not_false, or_left, either_false, has_shape, pointer_value, integer_value, to_integer-typed, to_integer-bare, integer_size, promoted_size, operand}
 
 or_true : (a b : Bool) → (a || b) ≡ true → (a ≡ true) ⊎ ((a ≡ false) × (b ≡ true))
 or_true true b h = inl refl

@@ -1,49 +1,46 @@
 -- What judging gives for assignments, casts and commas, from what it gave for their operands.
-use Rattle.std.proofs.Common.{◌≡◌, ℕ, Bool, true, false, not, ◌&&◌, ◌||◌, ◌==◌, ◌+◌, nat_le, List, [], ◌∷◌, Option, Some, None, refl, ap, sym, subst, ◌∙◌, inl, inr, ◌⊎◌, IsTrue, if◌then◌else◌}
-use Rattle.std.proofs.lemmas.Option.{none-some}
+use Rattle.std.proofs.Common.{◌≡◌, Bool, true, false, not, ◌&&◌, ◌||◌, ◌==◌, ◌+◌, nat_le, [], ◌∷◌, Option, Some, None, refl, ap, sym, subst, ◌∙◌, if◌then◌else◌}
 use Rattle.cc_base.specs.declared.place.Place.{Place}
-use Rattle.cc_base.specs.declared.number.NodeId.{NodeId}
 use Rattle.cc_base.specs.declared.number.TypeId.{TypeId}
 use Rattle.cc_base.specs.declared.fault.Fault.TheVariants.{Refused, TooLarge}
 use Rattle.cc_base.specs.declared.fault.Limit.TheVariants.{Types, Cells}
 use Rattle.cc_base.specs.declared.fault.Rule.TheVariants as rule
 use Rattle.c_types.specs.declared.shape.TypeShape.{TypeShape}
 use Rattle.c_types.specs.declared.shape.TypeShape.TheVariants.{Void, Integer, Pointer, Array, Function, Struct, Union}
-use Rattle.c_types.specs.Table.{Table, HasShape, IsType, IsAggregate, shape_at, is_aggregate_shape}
-use Rattle.c_tree.specs.declared.operator.Assignment.{Assignment}
+use Rattle.c_types.specs.Table.{Table, IsType, IsAggregate, shape_at, is_aggregate_shape}
 use Rattle.c_tree.specs.declared.operator.Assignment.TheVariants as assignment
 use Rattle.c_tree.specs.declared.typed_word.Conversion.{Conversion}
 use Rattle.c_tree.specs.declared.typed_word.Conversion.TheVariants as conversion
-use Rattle.c_tree.specs.Erasure.{erased, erased_place, erased_type_name}
+use Rattle.c_tree.specs.Erasure.{erased, erased_place}
 use Rattle.c_tree.specs.Places.{expr_place}
 use Rattle.c_tree.specs.Tree as tree
 use Rattle.c_tree.specs.TypedTree as typed
 use Rattle.c_tree.specs.TypedTree.{TypedExpr, TypedPlace, TypedTypeName}
-use Rattle.c_tree.specs.TypedParts.{type_of, place_type, named_type}
+use Rattle.c_tree.specs.TypedParts.{type_of, place_type}
 use Rattle.c_typing.specs.Assignments.{assign_given, converted_by, converted_to, assigned, moved, assign_part, part_type, assign, comma_part, comma}
 use Rattle.c_typing.specs.Cells.{count_cells, pointers_in}
 use Rattle.c_typing.specs.Constants.{is_null_constant}
-use Rattle.c_typing.specs.Conversions.{bare, is_plain, IsPlain, is_droppable, IsTakenOver, is_allocation, is_taken_over, implicit, implicit_between, converting, is_pointer_to_complete, is_pointer_to_complete_shape, takes_over, IsAssignedBy, IsAssigned}
-use Rattle.c_typing.specs.Judging.{State, Outcome, Judging, Gives, Stops, next, ◌>>=◌, pure, stop, by_known, new_pointer, void_type}
+use Rattle.c_typing.specs.Conversions.{bare, is_droppable, is_allocation, is_taken_over, implicit, implicit_between, is_pointer_to_complete, is_pointer_to_complete_shape, takes_over, IsAssignedBy}
+use Rattle.c_typing.specs.Judging.{State, Gives, Stops, pure, by_known, new_pointer}
 use Rattle.c_typing.specs.declared.typing.Reading.{Reading}
 use Rattle.c_typing.specs.declared.typing.Reading.TheVariants as reading
 use Rattle.c_typing.specs.Operands.{Operand, Value, reading_of, place_value, made_for, raw_value, value_of, side_of, given_allocation, given}
 use Rattle.c_typing.specs.Operations.{construct}
-use Rattle.c_typing.specs.Refusals.{is_natural, IsElaborated}
+use Rattle.c_typing.specs.Refusals.{IsElaborated}
 use Rattle.c_typing.specs.Rules.{is_lvalue, is_made_of_place}
 use Rattle.c_typing.specs.Scopes.{Scopes}
-use Rattle.c_typing.specs.Settled.{IsBasic, IsSettled, IsValueOf, IsKnown, GoesOn, GoesOnThere, IsJudged}
-use Rattle.c_typing.specs.Shapes.{is_scalar_shape, is_array_shape, is_same_type, is_void_shape}
-use Rattle.c_typing.specs.Tests.{Elaborated, AsPlace, AsValue, AsAllocation, first_broken, assign_tests, is_assignable, fits, are_one_struct, decayed, shape_of, has_some, can_be_written, is_array_part, points_to_incomplete}
+use Rattle.c_typing.specs.Settled.{IsValueOf, IsKnown, GoesOn, GoesOnThere, IsJudged}
+use Rattle.c_typing.specs.Shapes.{is_scalar_shape, is_array_shape, is_same_type}
+use Rattle.c_typing.specs.Tests.{Elaborated, AsPlace, AsValue, AsAllocation, first_broken, assign_tests, is_assignable, fits, are_one_struct, decayed, has_some, is_array_part}
 use Rattle.c_typing.specs.Typing.{IsTyped, IsPlace}
 use Rattle.c_typing_laws.proofs.ExtensionLaws.{no_true, and_left, and_right, extended_refl}
-use Rattle.c_typing_laws.proofs.ConstructLaws.{two_unbroken, three_unbroken, not_false, or_left, or_right}
+use Rattle.c_typing_laws.proofs.ConstructLaws.{two_unbroken, not_false, or_left, or_right}
 use Rattle.c_typing_laws.proofs.ConversionLaws.{fits-converted, fits-typed}
 use Rattle.c_typing_laws.proofs.KeptTypes.{pointed_exact}
 use Rattle.c_typing_laws.proofs.KeptTrees.{place-kept}
-use Rattle.c_typing_laws.proofs.Outcomes.{IsConstruct, construct-gives, gives-value, gives-state, never-gives, bind-gives}
+use Rattle.c_typing_laws.proofs.Outcomes.{construct-gives, gives-value, gives-state, never-gives, bind-gives}
 use Rattle.c_typing_laws.proofs.KnownStates.{stays, goes-on}
-use Rattle.c_typing_laws.proofs.ValuesTaken.{given-same, natural-settled, natural-no_allocation, natural-no_place, value_of-gives, raw_value-gives, IsTaken, not_true}
+use Rattle.c_typing_laws.proofs.ValuesTaken.{given-same, natural-settled, natural-no_allocation, value_of-gives, raw_value-gives}
 use Rattle.c_typing_laws.proofs.TypesThere.{part-there}
 use Rattle.c_typing_laws.proofs.JudgedOperators.{made-here, made-later, to_integer-erased}
 

@@ -1,5 +1,5 @@
 -- What judging gives for calls, from what it gave for the function and the arguments.
-use Rattle.std.proofs.Common.{◌≡◌, ℕ, Bool, true, false, not, ◌&&◌, ◌||◌, ◌==◌, eqb, List, [], ◌∷◌, ◌++◌, map, fold, length, max, Option, Some, None, refl, ap, sym, subst, ◌∙◌, inl, inr, ◌⊎◌, IsTrue, if◌then◌else◌, arith}
+use Rattle.std.proofs.Common.{◌≡◌, Bool, true, false, not, ◌||◌, ◌==◌, List, [], ◌∷◌, ◌++◌, map, fold, length, max, Option, Some, None, refl, ap, sym, subst, ◌∙◌, inl, inr, if◌then◌else◌, arith}
 use Rattle.std.specs.List.{AllZip}
 use Rattle.std.proofs.lemmas.Bool.Decides.{Decides-eqb}
 use Rattle.std.proofs.lemmas.Option.{none-some}
@@ -12,7 +12,7 @@ use Rattle.cc_base.specs.declared.fault.Fault.TheVariants.{Refused}
 use Rattle.cc_base.specs.declared.fault.Rule.TheVariants as rule
 use Rattle.c_types.specs.declared.shape.TypeShape.{TypeShape}
 use Rattle.c_types.specs.declared.shape.TypeShape.TheVariants.{Void, Integer, Pointer, Array, Function, Struct, Union}
-use Rattle.c_types.specs.Table.{Table, HasShape, IsType, shape_at}
+use Rattle.c_types.specs.Table.{Table, shape_at}
 use Rattle.c_tree.specs.declared.typed_word.Runtime.{Runtime}
 use Rattle.c_tree.specs.declared.typed_word.Runtime.TheVariants as runtime
 use Rattle.c_tree.specs.Erasure.{erased, erased_arguments}
@@ -27,16 +27,16 @@ use Rattle.runtime_calls.specs.Prototypes.{prototype_of}
 use Rattle.integers.specs.Arithmetic.{int, unsigned_long}
 use Rattle.c_typing.specs.Assignments.{converted_to, arguments_as, converted_arguments, runtime_argument, runtime_arguments, runtime_call, called_shape, called, arguments_held, call}
 use Rattle.c_typing.specs.Constants.{is_null_constant}
-use Rattle.c_typing.specs.Conversions.{is_plain, implicit, IsConverted}
-use Rattle.c_typing.specs.Judging.{State, Judging, Gives, pure, by_known, void_type}
+use Rattle.c_typing.specs.Conversions.{implicit, IsConverted}
+use Rattle.c_typing.specs.Judging.{State, Gives, pure, by_known}
 use Rattle.c_typing.specs.Operands.{Operand, Value, argument_of}
 use Rattle.c_typing.specs.Operations.{int_type, size_type}
 use Rattle.c_typing.specs.Refusals.{IsElaborated}
-use Rattle.c_typing.specs.Rules.{listed_arguments, IsArgument, IsCall, runtime_named, IsFreed, IsRuntimeArgument, IsRuntimeCallOf}
+use Rattle.c_typing.specs.Rules.{listed_arguments, IsArgument, runtime_named, IsFreed, IsRuntimeArgument, IsRuntimeCallOf}
 use Rattle.c_typing.specs.Scopes.{Scopes}
 use Rattle.c_typing.specs.Settled.{IsBasic, IsSettled, IsValueOf, AreValuesOf, IsKnown, IsJudged}
-use Rattle.c_typing.specs.Shapes.{is_data, is_scalar_shape, IsPointerTo}
-use Rattle.c_typing.specs.Tests.{Elaborated, AsPlace, AsValue, AsAllocation, Test, Argument, broken_at, first_broken, fits, call_tests, call_tests_of, call_tests_by, argument_tests, runtime_argument_tests, runtime_tests, is_taken_by, pointed_shape, point_to_data}
+use Rattle.c_typing.specs.Shapes.{is_data, is_scalar_shape}
+use Rattle.c_typing.specs.Tests.{AsValue, Test, broken_at, first_broken, fits, call_tests, call_tests_of, call_tests_by, argument_tests, runtime_argument_tests, runtime_tests, is_taken_by, pointed_shape, point_to_data}
 use Rattle.c_typing.specs.Typing.{IsTyped, AreTyped}
 use Rattle.c_typing_laws.proofs.ExtensionLaws.{no_true}
 use Rattle.c_typing_laws.proofs.ConstructLaws.{not_false, has_shape}
@@ -146,14 +146,14 @@ first_ok : (b : Bool) (f : Fault) (rest : Option Fault) → (if b then Some f el
 first_ok true f rest h = absurd (none-some f (sym h))
 first_ok false f rest h = (refl, h)
 
-last_ok : (ts : List Test) (t : Test) → first_broken (ts ++ t ∷ []) ≡ None → t.broken ≡ false
+pub last_ok : (ts : List Test) (t : Test) → first_broken (ts ++ t ∷ []) ≡ None → t.broken ≡ false
 last_ok [] t h = (first_ok t.broken (Refused t.place t.rule) None h).0
 last_ok (u ∷ ts) t h = last_ok ts t (first_ok u.broken (Refused u.place u.rule) (first_broken (ts ++ t ∷ [])) h).1
 
 same_length : {A B : Type 0} (xs : List A) (ys : List B) → not (length xs == length ys) ≡ false → length xs ≡ length ys
 same_length xs ys h = (Decides-eqb (length xs) (length ys)).0 (not_false (length xs == length ys) h)
 
-cut_length : {A B : Type 0} (x : A) (xs : List A) (y : B) (ys : List B) → length (x ∷ xs) ≡ length (y ∷ ys) → length xs ≡ length ys
+pub cut_length : {A B : Type 0} (x : A) (xs : List A) (y : B) (ys : List B) → length (x ∷ xs) ≡ length (y ∷ ys) → length xs ≡ length ys
 cut_length x xs y ys h = omega (arith, h)
 
 module _ (T : Table) (basic : IsBasic T) where
@@ -229,7 +229,7 @@ module _ (T : Table) (basic : IsBasic T) where
 
 -- Calls
 
-lengths : {A : Type 0} (ts : List A) (vs : List Value) → not (length ts == length (map argument_of vs)) ≡ false → length ts ≡ length vs
+pub lengths : {A : Type 0} (ts : List A) (vs : List Value) → not (length ts == length (map argument_of vs)) ≡ false → length ts ≡ length vs
 lengths ts vs h = same_length ts (map argument_of vs) h ∙ length-map vs argument_of
 
 module _ (T : Table) (ef : tree.Expr) (all : tree.Arguments) (f : TypedExpr) (at : Place) (vs : List Value) (s0 m s : Scopes) (basic : IsBasic T)

@@ -1,5 +1,5 @@
 -- What judging gives for casts and compound assignments, from what it gave for their operands.
-use Rattle.std.proofs.Common.{◌≡◌, ℕ, Bool, true, false, not, ◌&&◌, ◌||◌, ◌==◌, List, [], ◌∷◌, Option, Some, None, refl, ap, sym, subst, ◌∙◌, inl, inr, ◌⊎◌, IsTrue, if◌then◌else◌}
+use Rattle.std.proofs.Common.{◌≡◌, ℕ, Bool, true, false, not, ◌&&◌, ◌||◌, [], ◌∷◌, Option, Some, None, refl, ap, sym, subst, ◌∙◌, inl, inr, ◌⊎◌}
 use Rattle.std.proofs.lemmas.Option.{none-some}
 use Rattle.cc_base.specs.declared.place.Place.{Place}
 use Rattle.cc_base.specs.declared.number.NodeId.{NodeId}
@@ -9,7 +9,7 @@ use Rattle.cc_base.specs.declared.fault.Limit.TheVariants.{Types}
 use Rattle.cc_base.specs.declared.fault.Rule.TheVariants as rule
 use Rattle.c_types.specs.declared.shape.TypeShape.{TypeShape}
 use Rattle.c_types.specs.declared.shape.TypeShape.TheVariants.{Void, Integer, Pointer, Array, Function, Struct, Union}
-use Rattle.c_types.specs.Table.{Table, HasShape, IsType, IsAggregate, shape_at, is_aggregate_shape}
+use Rattle.c_types.specs.Table.{Table, IsType, shape_at, is_aggregate_shape}
 use Rattle.c_tree.specs.declared.operator.Assignment.{Assignment}
 use Rattle.c_tree.specs.declared.operator.Assignment.TheVariants as assignment
 use Rattle.c_tree.specs.declared.operator.Binary.{Binary}
@@ -26,23 +26,23 @@ use Rattle.c_tree.specs.TypedParts.{type_of, place_type, named_type}
 use Rattle.integers.specs.Arithmetic.{IntegerType}
 use Rattle.c_typing.specs.Assignments.{part_expr, conversion_or_void, cast_by, is_allocation_part, cast_part, cast, cast_given, updated, update_part, update_by}
 use Rattle.c_typing.specs.Constants.{is_null_constant}
-use Rattle.c_typing.specs.Conversions.{bare, is_plain, IsPlain, is_droppable, is_allocation, is_taken_over, is_pointer_to_complete, is_pointer_to_complete_shape, takes_over, cast_between, cast_conversion, to_integer}
+use Rattle.c_typing.specs.Conversions.{bare, is_plain, is_droppable, is_allocation, is_pointer_to_complete, is_pointer_to_complete_shape, takes_over, cast_between, cast_conversion, to_integer}
 use Rattle.c_typing.specs.Integers.{assigning, left_type, right_type}
-use Rattle.c_typing.specs.Judging.{State, Outcome, Judging, Gives, Stops, next, ◌>>=◌, pure, stop, by_known, integer_type}
+use Rattle.c_typing.specs.Judging.{State, Gives, pure, by_known, integer_type}
 use Rattle.c_typing.specs.Operands.{Operand, Value, given}
 use Rattle.c_typing.specs.Operations.{construct}
-use Rattle.c_typing.specs.Refusals.{is_natural, IsElaborated}
-use Rattle.c_typing.specs.Rules.{is_lvalue, is_compound, is_move, IsScalarCast, IsCast, IsUpdate}
+use Rattle.c_typing.specs.Refusals.{IsElaborated}
+use Rattle.c_typing.specs.Rules.{is_lvalue, is_compound, is_move, IsScalarCast}
 use Rattle.c_typing.specs.Scopes.{Scopes, is_complete_at}
-use Rattle.c_typing.specs.Settled.{IsBasic, IsSettled, is_converted, IsValueOf, IsKnown, GoesOn, GoesOnThere, IsJudged}
-use Rattle.c_typing.specs.Shapes.{is_scalar_shape, is_void_shape, is_array_shape, is_integer_shape, is_pointer_shape, integer_at, integer_of_shape}
-use Rattle.c_typing.specs.Tests.{Elaborated, AsPlace, AsValue, AsAllocation, first_broken, cast_tests, is_castable, is_null_part, shape_of, decayed, has_some, assign_tests, is_assignable, are_integers, is_moving, is_array_part, points_to_incomplete}
-use Rattle.c_typing.specs.Typing.{IsTyped, IsPlace, IsTypeName}
-use Rattle.c_typing_laws.proofs.ExtensionLaws.{no_true, and_left, and_right, still_in}
-use Rattle.c_typing_laws.proofs.ConstructLaws.{one_unbroken, three_unbroken, not_false, or_left, or_right, either_false, has_shape, pointer_value, integer_value, to_integer-typed, to_integer-bare, integer_size, operand}
+use Rattle.c_typing.specs.Settled.{IsBasic, IsValueOf, IsKnown, IsJudged}
+use Rattle.c_typing.specs.Shapes.{is_scalar_shape, is_void_shape, is_integer_shape, is_pointer_shape, integer_at, integer_of_shape}
+use Rattle.c_typing.specs.Tests.{Elaborated, AsPlace, AsValue, AsAllocation, first_broken, cast_tests, is_castable, shape_of, decayed, has_some, assign_tests, is_assignable, are_integers, is_moving, is_array_part, points_to_incomplete}
+use Rattle.c_typing.specs.Typing.{IsPlace, IsTypeName}
+use Rattle.c_typing_laws.proofs.ExtensionLaws.{no_true, still_in}
+use Rattle.c_typing_laws.proofs.ConstructLaws.{one_unbroken, three_unbroken, not_false, or_left, or_right, either_false, has_shape, integer_value, to_integer-typed, to_integer-bare, integer_size, operand}
 use Rattle.c_typing_laws.proofs.InfixLaws.{null_plain, left_size, right_size}
 use Rattle.c_typing_laws.proofs.KeptTrees.{type_name-kept}
-use Rattle.c_typing_laws.proofs.Outcomes.{IsConstruct, construct-gives, gives-value, gives-state, never-gives, bind-gives}
+use Rattle.c_typing_laws.proofs.Outcomes.{construct-gives, never-gives, bind-gives}
 use Rattle.c_typing_laws.proofs.JudgedOperators.{made-here, made-later, to_integer-erased}
 use Rattle.c_typing_laws.proofs.JudgedAssignments.{IsGiven, given-gives, over-bare, decayed-same, or_else}
 

@@ -1,17 +1,16 @@
 -- What judging gives for `?:`, from what it gave for its operands.
-use Rattle.std.proofs.Common.{◌≡◌, ℕ, Bool, true, false, not, ◌&&◌, ◌||◌, ◌==◌, nat_lt, List, [], ◌∷◌, Option, Some, None, refl, ap, sym, subst, ◌∙◌, inl, inr, ◌⊎◌, IsTrue, if◌then◌else◌}
+use Rattle.std.proofs.Common.{◌≡◌, Bool, true, false, not, ◌&&◌, ◌||◌, nat_lt, [], ◌∷◌, Option, Some, None, refl, ap, sym, subst, ◌∙◌, inl, inr, if◌then◌else◌}
 use Rattle.std.proofs.lemmas.Option.{none-some}
 use Rattle.cc_base.specs.declared.place.Place.{Place}
-use Rattle.cc_base.specs.declared.number.NodeId.{NodeId}
 use Rattle.cc_base.specs.declared.number.TypeId.{TypeId}
 use Rattle.cc_base.specs.declared.fault.Fault.TheVariants.{Refused, TooLarge}
 use Rattle.cc_base.specs.declared.fault.Limit.TheVariants.{Types}
 use Rattle.cc_base.specs.declared.fault.Rule.TheVariants as rule
 use Rattle.c_types.specs.declared.shape.TypeShape.{TypeShape}
 use Rattle.c_types.specs.declared.shape.TypeShape.TheVariants.{Void, Integer, Pointer, Array, Function, Struct, Union}
-use Rattle.c_types.specs.Table.{Table, HasShape, IsType, IsAggregate, shape_at, is_aggregate_shape}
+use Rattle.c_types.specs.Table.{Table, IsAggregate, shape_at, is_aggregate_shape}
 use Rattle.c_types.specs.Sound.{IsIntegerSize}
-use Rattle.c_tree.specs.Erasure.{erased, erased_place}
+use Rattle.c_tree.specs.Erasure.{erased_place}
 use Rattle.c_tree.specs.Places.{expr_place}
 use Rattle.c_tree.specs.Tree as tree
 use Rattle.c_tree.specs.TypedTree as typed
@@ -20,17 +19,15 @@ use Rattle.c_tree.specs.TypedParts.{type_of, place_type}
 use Rattle.integers.specs.Arithmetic.{IntegerType}
 use Rattle.c_typing.specs.Assignments.{pointer_choice, choice_of_pointers, choice_of_values, choice_of_parts, choice}
 use Rattle.c_typing.specs.Constants.{is_null_constant}
-use Rattle.c_typing.specs.Conversions.{bare, is_plain, IsPlain, is_droppable, is_taken_as, are_data, points_to_void, to_integer}
+use Rattle.c_typing.specs.Conversions.{is_plain, is_droppable, are_data, points_to_void, to_integer}
 use Rattle.c_typing.specs.Integers.{promoted, wider, common}
-use Rattle.c_typing.specs.Judging.{State, Outcome, Judging, Gives, Stops, next, ◌>>=◌, pure, stop, by_known, new_pointer, void_type, integer_type}
+use Rattle.c_typing.specs.Judging.{State, Gives, pure, by_known, new_pointer, void_type, integer_type}
 use Rattle.c_typing.specs.Operands.{Operand, Value, side_of}
-use Rattle.c_typing.specs.Operations.{construct}
-use Rattle.c_typing.specs.Refusals.{IsElaborated}
-use Rattle.c_typing.specs.Rules.{IsCondition, Meeting, RightIsNull, LeftIsNull, BothPoint, NeverMeet, meeting_pointee, meeting_of, meeting, meeting_type, into_choice}
+use Rattle.c_typing.specs.Rules.{IsCondition, Meeting, RightIsNull, LeftIsNull, BothPoint, NeverMeet, meeting_of, meeting, meeting_type, into_choice}
 use Rattle.c_typing.specs.Scopes.{Scopes}
-use Rattle.c_typing.specs.Settled.{IsBasic, IsSettled, IsValueOf, IsKnown, GoesOn, GoesOnThere, IsJudged}
+use Rattle.c_typing.specs.Settled.{IsValueOf, IsKnown, IsJudged}
 use Rattle.c_typing.specs.Shapes.{is_scalar_shape, is_void_shape, is_integer_shape, is_pointer_shape, integer_at, integer_of_shape, is_same_type}
-use Rattle.c_typing.specs.Tests.{Elaborated, AsPlace, AsValue, AsAllocation, first_broken, choice_tests, are_integers, are_one_struct, meet, taken_as, decayed, shape_of}
+use Rattle.c_typing.specs.Tests.{Elaborated, AsPlace, AsValue, AsAllocation, choice_tests, are_integers, are_one_struct, meet, taken_as, decayed, shape_of}
 use Rattle.c_typing.specs.Typing.{IsTyped, IsPlace}
 use Rattle.c_typing_laws.proofs.ExtensionLaws.{no_true, and_left, and_right}
 use Rattle.c_typing_laws.proofs.ConstructLaws.{one_unbroken, not_false, to_integer-typed, to_integer-bare, integer_size, promoted_size, operand}
@@ -38,7 +35,7 @@ use Rattle.c_typing_laws.proofs.KeptConstants.{own-plain}
 use Rattle.c_typing_laws.proofs.KeptConversions.{Meets, meeting-kept}
 use Rattle.c_typing_laws.proofs.KeptRules.{condition-kept}
 use Rattle.c_typing_laws.proofs.KeptTrees.{value-kept}
-use Rattle.c_typing_laws.proofs.Outcomes.{IsConstruct, construct-gives, gives-value, gives-state, never-gives, bind-gives}
+use Rattle.c_typing_laws.proofs.Outcomes.{construct-gives, never-gives, bind-gives}
 use Rattle.c_typing_laws.proofs.KnownStates.{new_pointer-gives}
 use Rattle.c_typing_laws.proofs.TypesThere.{value-there}
 use Rattle.c_typing_laws.proofs.JudgedOperators.{made-here, made-later, to_integer-erased}

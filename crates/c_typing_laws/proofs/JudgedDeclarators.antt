@@ -1,10 +1,10 @@
 -- What judging gives for the parts of declarators, for members, parameters and type names, from what it gave for what stands in them.
-use Rattle.std.proofs.Common.{◌≡◌, ℕ, ◌<◌, ℤ, pos, negsuc, Bool, true, false, not, ◌&&◌, ◌||◌, List, [], ◌∷◌, ◌++◌, length, Option, Some, None, refl, ap, sym, subst, ◌∙◌, nat_lt, bytes_eq, if◌then◌else◌, arith}
-use Rattle.std.specs.List.{All, list_any}
+use Rattle.std.proofs.Common.{◌≡◌, ℕ, ◌<◌, ℤ, pos, negsuc, Bool, true, false, not, ◌||◌, List, [], ◌∷◌, ◌++◌, length, Option, Some, None, refl, ap, sym, subst, ◌∙◌, nat_lt, bytes_eq, if◌then◌else◌, arith}
+use Rattle.std.specs.List.{list_any}
 use Rattle.std.proofs.lemmas.Bool.Decides.{nat_tests}
 use Rattle.std.proofs.lemmas.Option.{none-some}
 use Rattle.std.proofs.lemmas.List.{append_assoc}
-use Rattle.std.proofs.lemmas.List.Elements.{All-nil, All-cons, All-push}
+use Rattle.std.proofs.lemmas.List.Elements.{All-nil, All-push}
 use Rattle.std.proofs.lemmas.Slice.Eq.{bytes_eq-Decides}
 use Rattle.cc_base.specs.declared.place.Place.{Place}
 use Rattle.cc_base.specs.declared.number.NodeId.{NodeId}
@@ -24,47 +24,44 @@ use Rattle.c_tree.specs.declared.typed_word.Adjusted.{Adjusted}
 use Rattle.c_tree.specs.declared.typed_word.Home.{Home}
 use Rattle.c_tree.specs.declared.typed_word.Home.TheVariants as home
 use Rattle.c_tree.specs.declared.typed_word.TypedStar.{TypedStar}
-use Rattle.c_tree.specs.Erasure.{erased, erased_stars, erased_form, erased_core, erased_parts, erased_parameters, erased_declared, erased_members, erased_member_declarators, erased_specifier_list, erased_type_name}
+use Rattle.c_tree.specs.Erasure.{erased_stars, erased_form, erased_core, erased_parts, erased_parameters, erased_declared, erased_members, erased_member_declarators}
 use Rattle.c_tree.specs.Places.{nowhere}
 use Rattle.c_tree.specs.Tree as tree
 use Rattle.c_tree.specs.TypedTree as typed
 use Rattle.c_tree.specs.TypedTree.{TypedExpr, TypedTypeName, TypedSpecifiers, TypedSpecifierList, TypedSpecifier, TypedMembers, TypedMemberDeclarators, TypedForm, TypedCore, TypedParts, TypedParameters, TypedDeclared}
-use Rattle.c_tree.specs.TypedParts.{named_type, specified_type, home_of_form, home_of_core, name_of_form, name_of_core}
+use Rattle.c_tree.specs.TypedParts.{home_of_form, home_of_core, name_of_form, name_of_core}
 use Rattle.c_typing.specs.declared.declared.Declared.{Declared}
 use Rattle.c_typing.specs.declared.declared.Declared.TheVariants as declared
 use Rattle.c_typing.specs.declared.naming.Naming.{Naming}
 use Rattle.c_typing.specs.declared.naming.Naming.TheVariants as naming
 use Rattle.c_typing.specs.Adjusting.{derived_by_declared, typedef_place, adjusted_at, adjusted_place}
 use Rattle.c_typing.specs.Constants.{constant_value}
-use Rattle.c_typing.specs.Conversions.{is_plain, is_droppable}
+use Rattle.c_typing.specs.Conversions.{is_droppable}
 use Rattle.c_typing.specs.Declarators
 use Rattle.c_typing.specs.Declarators.{Written, AreOfType, words_shape, none_counted, counting_word, is_void_keyword, is_void_word, is_void_list, is_object_shape, FormMakes, DeclaredMakes, ParameterMakes, name_bytes, declarator_names, member_names}
-use Rattle.c_typing.specs.Declaring
 use Rattle.c_typing.specs.Declaring.{declarator_name, core_name, home_as, stars_with_nodes, size_given, sized_part, sized, declared_makes, form_makes, member_type, member_named, adjusted_with_node, parameter_makes, parameter_declared, declared_home, parameter, entered, left}
-use Rattle.c_typing.specs.Extensions.{IsExtended}
-use Rattle.c_typing.specs.Judging.{State, Judging, Gives, Stops, next, ◌>>=◌, pure, stop, unless, by_known, new_node}
+use Rattle.c_typing.specs.Judging.{State, Judging, Gives, Stops, next, ◌>>=◌, pure, unless, by_known, new_node}
 use Rattle.c_typing.specs.Operands.{Value}
 use Rattle.c_typing.specs.Refusals.{has_name, declared_identifier, is_here, is_void_alone}
-use Rattle.c_typing.specs.Scopes.{Name, Scopes, here, declaring, entering, leaving, is_complete_at, with_scopes, empty_level, at_innermost, with_name}
+use Rattle.c_typing.specs.Scopes.{Name, Scopes, here, declaring, entering, leaving, is_complete_at, with_scopes}
 use Rattle.c_typing.specs.Settled.{IsKnown, GoesOn, GoesOnThere, IsValueOf, IsListJudged}
-use Rattle.c_typing.specs.Shapes.{is_scalar_shape}
 use Rattle.c_typing.specs.Specifying.{specified, in_scopes}
 use Rattle.c_typing.specs.Tests
 use Rattle.c_typing.specs.Tests.{AsValue, has_some, has_size, first_broken}
-use Rattle.c_typing.specs.Typing.{IsTypeName, AreSpecifiers, AreMembers, AreMemberDeclarators, IsForm, IsCore, AreParts, AreParameters, IsDeclared, IsHomeless, IsHomelessDeclared, IsNewName, DeclaresParameter, IsTakenType, AreDistinct}
+use Rattle.c_typing.specs.Typing.{AreMembers, AreMemberDeclarators, IsForm, IsCore, AreParts, AreParameters, IsDeclared, IsHomelessDeclared, IsNewName, DeclaresParameter, IsTakenType, AreDistinct}
 use Rattle.c_typing.specs.Walks.{listed}
-use Rattle.c_typing_laws.specs.Judged.{IsTypeNameJudged}
+use Rattle.c_typing_laws.specs.Judged.{IsTypeNameJudged, IsHomeAs, IsHomeOf}
 use Rattle.c_typing_laws.proofs.ConstructLaws.{not_false, one_unbroken, two_unbroken}
-use Rattle.c_typing_laws.proofs.ExtensionLaws.{no_true, complete_kept, still_in}
+use Rattle.c_typing_laws.proofs.ExtensionLaws.{no_true, still_in}
 use Rattle.c_typing_laws.proofs.JudgedForms.{IsMade, form-made, declared-made}
 use Rattle.c_typing_laws.proofs.JudgedLists.{list-typed}
-use Rattle.c_typing_laws.proofs.JudgedSpecifiers.{scopes-known, constant_plain}
-use Rattle.c_typing_laws.proofs.KeptDeclarators.{form_makes-kept, parameter-kept, taken-kept}
+use Rattle.c_typing_laws.proofs.JudgedSpecifiers.{scopes-known, constant_plain, no_name}
+use Rattle.c_typing_laws.proofs.KeptDeclarators.{parameter-kept, taken-kept}
 use Rattle.c_typing_laws.proofs.KeptTrees.{specifiers-kept, members-kept, member_declarators-kept, form-kept, core-kept, parts-kept, parameters-kept, declared-kept}
 use Rattle.c_typing_laws.proofs.KnownScopes.{declared-there, entered-there, left-there}
 use Rattle.c_typing_laws.proofs.KnownStates.{stays, goes-on, there-on, node-there}
-use Rattle.c_typing_laws.proofs.Outcomes.{bind-gives, unless-gives, gives-value, gives-state, never-gives}
-use Rattle.c_typing_laws.proofs.ParameterTypes.{ByParameter, complete_object, parameter-made}
+use Rattle.c_typing_laws.proofs.Outcomes.{bind-gives, unless-gives, never-gives}
+use Rattle.c_typing_laws.proofs.ParameterTypes.{complete_object, parameter-made}
 use Rattle.c_typing_laws.proofs.ValuesTaken.{given-same}
 
 -- Stars and homes
@@ -84,39 +81,40 @@ stars-judged at (star ∷ stars) all s r k h =
     given-same (λ (v : List TypedStar) (q : State). (erased_stars v ≡ star ∷ stars) × GoesOnThere s q) (starred star one.0 ∷ two.0) all two.1 r two.3
     (ap (λ (l : List Star). star ∷ l) rest.0, there-on s one.1 two.1 first rest.1)
 
-abbrev is_unnamed : Naming → Bool
-is_unnamed naming.None = true
-is_unnamed which = false
+abbrev IsHomeJudged : Naming → State → Home → State → Type 0
+IsHomeJudged which s h r = IsHomeAs which h × GoesOnThere s r
 
-abbrev IsHomeAs : Naming → State → Home → State → Type 0
-IsHomeAs which s h r = (which ≡ naming.None → h ≡ home.None) × GoesOnThere s r
+node_home : (at : Place) (which : Naming) (f : NodeId → Home) (h : Home) (s r : State) → IsKnown s → ((n : NodeId) → IsHomeAs which (f n))
+    → next (new_node at s) (λ n. pure (f n)) ≡ Gives h r → IsHomeJudged which s h r
+node_home at which f h s r k own q =
+    let one = bind-gives (new_node at s) (λ n. pure (f n)) h r q in
+    given-same (IsHomeJudged which s) (f one.0) h one.1 r one.3 (own one.0, node-there at one.0 s one.1 k one.2)
 
-module _ (at : Place) (which : Naming) (h : Home) (s r : State) (k : IsKnown s) (named : is_unnamed which ≡ false) where
-  node_home : (f : NodeId → Home) → next (new_node at s) (λ n. pure (f n)) ≡ Gives h r → IsHomeAs which s h r
-  node_home f q =
-      let one = bind-gives (new_node at s) (λ n. pure (f n)) h r q in
-      given-same (IsHomeAs which s) (f one.0) h one.1 r one.3 (λ e. no_true (sym named ∙ ap is_unnamed e), node-there at one.0 s one.1 k one.2)
-
-pub home-judged : (at : Place) (which : Naming) (h : Home) (s r : State) → IsKnown s → home_as at which s ≡ Gives h r → IsHomeAs which s h r
+pub home-judged : (at : Place) (which : Naming) (h : Home) (s r : State) → IsKnown s → home_as at which s ≡ Gives h r → IsHomeJudged which s h r
 unfolding home_as
-home-judged at naming.None h s r k q = given-same (IsHomeAs naming.None s) home.None h s r q (λ e. refl, stays s k)
-home-judged at naming.Static h s r k q = node_home at naming.Static h s r k refl home.Static q
-home-judged at naming.Local h s r k q = node_home at naming.Local h s r k refl home.Local q
-home-judged at naming.Parameter h s r k q = node_home at naming.Parameter h s r k refl home.Parameter q
-home-judged at (naming.Known n) h s r k q = given-same (IsHomeAs (naming.Known n) s) (home.Known n) h s r q (λ e. no_true (ap is_unnamed e), stays s k)
+home-judged at naming.None h s r k q = given-same (IsHomeJudged naming.None s) home.None h s r q (refl, stays s k)
+home-judged at naming.Static h s r k q = node_home at naming.Static home.Static h s r k (λ n. (n, refl)) q
+home-judged at naming.Local h s r k q = node_home at naming.Local home.Local h s r k (λ n. (n, refl)) q
+home-judged at naming.Parameter h s r k q = node_home at naming.Parameter home.Parameter h s r k (λ n. (n, refl)) q
+home-judged at (naming.Known n) h s r k q = given-same (IsHomeJudged (naming.Known n) s) (home.Known n) h s r q (refl, stays s k)
+
+-- a name that is to be none has no home
+pub no_home : (name : Option Identifier) (h : Home) → IsHomeOf naming.None name h → h ≡ home.None
+no_home None h q = q
+no_home (Some name) h q = q
 
 -- Forms, cores and parts
 
 pub record IsFormJudged (which : Naming) (d : tree.Declarator) (form : TypedForm) (s r : State) : Type 0 where
   pub typed : IsForm r.table form s.seen.scopes r.seen.scopes
   pub erases : erased_form form ≡ d
-  pub homeless : which ≡ naming.None → home_of_form form ≡ home.None
+  pub home : IsHomeOf which (name_of_form form) (home_of_form form)
   pub goes : GoesOn s r
 
 pub record IsCoreJudged (which : Naming) (d : tree.Core) (core : TypedCore) (s r : State) : Type 0 where
   pub typed : IsCore r.table core s.seen.scopes r.seen.scopes
   pub erases : erased_core core ≡ d
-  pub homeless : which ≡ naming.None → home_of_core core ≡ home.None
+  pub home : IsHomeOf which (name_of_core core) (home_of_core core)
   pub goes : GoesOn s r
 
 pub record ArePartsJudged (all : tree.Parts) (parts : TypedParts) (s r : State) : Type 0 where
@@ -146,7 +144,7 @@ form-step which stars core parts list one all s k m r a b c = record {
     c.typed,
   );
   erases = λ i. tree.Declares (a.0 i) (b.erases i) (c.erases i);
-  homeless = b.homeless;
+  home = b.home;
   goes = goes-on s k r a.1.goes (goes-on k m r b.goes c.goes);
 }
 
@@ -156,7 +154,7 @@ name-step at which name core s r k h =
     let one = bind-gives (home_as at which s) (λ v. pure (typed.Names name v)) core r h in
     let j = home-judged at which one.0 s one.1 k one.2 in
     given-same (λ (v : TypedCore) (q : State). IsCoreJudged which (tree.Names name) v s q) (typed.Names name one.0) core one.1 r one.3
-    (record { typed = j.1.scopes; erases = refl; homeless = j.0; goes = j.1.goes })
+    (record { typed = j.1.scopes; erases = refl; home = j.0; goes = j.1.goes })
 
 -- the size of an array part
 
@@ -289,7 +287,7 @@ pub first_alone : (void : Bool) (all : tree.Parameters) (specifiers : tree.Speci
 first_alone void tree.NoParameter specifiers d h = tt
 first_alone void (tree.AndParameter all own one) specifiers d h = λ e. no_true (h e)
 
-adjusted-judged : (at : Place) (o : Option Place) (a : Option Adjusted) (s r : State) → IsKnown s → adjusted_with_node at o s ≡ Gives a r
+pub adjusted-judged : (at : Place) (o : Option Place) (a : Option Adjusted) (s r : State) → IsKnown s → adjusted_with_node at o s ≡ Gives a r
     → (adjusted_place a ≡ o) × GoesOnThere s r
 unfolding adjusted_with_node
 adjusted-judged at None a s r k h = given-same (λ (v : Option Adjusted) (q : State). (adjusted_place v ≡ None) × GoesOnThere s q) None a s r h (refl, stays s k)
@@ -300,10 +298,6 @@ adjusted-judged at (Some place) a s r k h =
   where
     adjusted_by : NodeId → Adjusted
     adjusted_by n = record { node = n; place = place }
-
-no_name : (o : Option Declared) → has_some o ≡ false → o ≡ None
-no_name None h = refl
-no_name (Some found) h = no_true (sym h)
 
 -- where a parameter's name is declared
 abbrev DeclaresName : Option Identifier → Home → TypeId → Scopes → Scopes → Type 0
@@ -521,7 +515,7 @@ module _ (base : TypeId) (names : List Name) (all : tree.MemberDeclarators) (d :
           m.seen.scopes,
           member_declarators-kept m.table T from_m.extends rows.goes.known.basic base row s0.seen.scopes m.seen.scopes rows.typed,
           subst (IsForm T form m.seen.scopes) (sym t.goes.scopes) (form-kept s.table T t.goes.goes.extends j.goes.known.basic form m.seen.scopes s.seen.scopes j.typed),
-          j.homeless refl,
+          no_home (name_of_form form) (home_of_form form) j.home,
           t.makes.0,
           t.makes.1,
         );

@@ -4,14 +4,13 @@ use Rattle.std.specs.List.{All, list_all}
 use Rattle.std.proofs.lemmas.Bool.Decides.{nat_tests}
 use Rattle.std.proofs.lemmas.List.Elements.{All-nil, All-cons, All-head}
 use Rattle.cc_base.specs.declared.place.Place.{Place}
-use Rattle.cc_base.specs.declared.number.NodeId.{NodeId}
 use Rattle.cc_base.specs.declared.number.TypeId.{TypeId}
 use Rattle.cc_base.specs.declared.fault.Fault.TheVariants.{Refused, TooLarge}
 use Rattle.cc_base.specs.declared.fault.Limit.TheVariants.{Types, Params}
 use Rattle.cc_base.specs.declared.fault.Rule.TheVariants as rule
 use Rattle.c_types.specs.declared.shape.TypeShape.{TypeShape}
 use Rattle.c_types.specs.declared.shape.TypeShape.TheVariants.{Pointer, Array, Function}
-use Rattle.c_types.specs.Table.{Table, HasShape, IsType, IsComplete, entry_at, shape_at, is_complete, parts_of_shape}
+use Rattle.c_types.specs.Table.{Table, HasShape, IsType, IsComplete, entry_at, shape_at, is_complete}
 use Rattle.c_types.specs.Calls.{IsAddable}
 use Rattle.c_tree.specs.declared.leaf.Word.{Word}
 use Rattle.c_tree.specs.declared.typed_word.TypedStar.{TypedStar}
@@ -19,13 +18,13 @@ use Rattle.c_tree.specs.TypedTree as typed
 use Rattle.c_tree.specs.TypedTree.{TypedForm, TypedCore, TypedParts, TypedParameters, TypedDeclared}
 use Rattle.c_typing.specs.Declarators.{Outermost, Written, Counts, Points, MakesArray, is_result_shape, is_pointed, first_word_place, taken_types, IsFunctionOf, MakesFunction, nearest, PartsMake, StarsMake, outside, FormMakes, CoreMakes, DeclaredMakes}
 use Rattle.c_typing.specs.Declaring.{stars_make, is_element, array_type, array_of, array_makes, counting_parameters, are_types, function_type, function_as, function_makes, last_makes, parts_make, form_makes, core_makes, declared_makes}
-use Rattle.c_typing.specs.Judging.{State, Outcome, Judging, Gives, Stops, next, ◌>>=◌, pure, stop, type_with, pointer_type}
+use Rattle.c_typing.specs.Judging.{State, Gives, Stops, next, ◌>>=◌, pure, stop, type_with, pointer_type}
 use Rattle.c_typing.specs.Scopes.{Scopes, is_no_list, is_complete_at}
-use Rattle.c_typing.specs.Settled.{IsKnown, GoesOn, GoesOnThere}
+use Rattle.c_typing.specs.Settled.{IsKnown, GoesOnThere}
 use Rattle.c_typing.specs.Tests
 use Rattle.c_typing.specs.Tests.{lacks_size, has_some, first_broken}
 use Rattle.c_typing_laws.proofs.ConstructLaws.{one_unbroken, three_unbroken}
-use Rattle.c_typing_laws.proofs.ExtensionLaws.{no_true, still_in, complete_kept, and_left, and_right}
+use Rattle.c_typing_laws.proofs.ExtensionLaws.{no_true, complete_kept, and_left, and_right}
 use Rattle.c_typing_laws.proofs.KeptDeclarators.{array-kept, function-kept, parts-kept, stars-kept}
 use Rattle.c_typing_laws.proofs.KeptRules.{has-kept}
 use Rattle.c_typing_laws.proofs.KnownStates.{type_with-found, type_with-there, stays, there-on, pointer_type-gives}

@@ -1,6 +1,5 @@
 -- What judging gives for a list of specifiers, one behind another, and the type that they name together.
-use Rattle.std.proofs.Common.{◌≡◌, ℕ, ◌<◌, ◌==◌, Bool, true, false, length, refl, ap, inl, inr, if◌then◌else◌}
-use Rattle.cc_base.specs.declared.number.TypeId.{TypeId}
+use Rattle.std.proofs.Common.{◌==◌, Bool, true, false, refl, inl, inr, if◌then◌else◌}
 use Rattle.c_types.specs.declared.shape.TypeShape.TheVariants.{Void, Integer}
 use Rattle.c_types.specs.Table.{Table, HasShape, IsType}
 use Rattle.c_types.specs.Sound.{IsIntegerSize}

@@ -1,5 +1,5 @@
 -- What judging gives for `sizeof` and for members, from what it gave for their operands.
-use Rattle.std.proofs.Common.{◌≡◌, ℕ, ◌+◌, Bool, true, false, not, ◌&&◌, ◌||◌, nat_lt, List, [], ◌∷◌, Option, Some, None, refl, ap, sym, subst, ◌∙◌, inl, inr, ◌⊎◌, IsTrue, if◌then◌else◌}
+use Rattle.std.proofs.Common.{◌≡◌, ℕ, ◌+◌, Bool, true, false, not, ◌||◌, nat_lt, List, [], ◌∷◌, Option, Some, None, refl, ap, sym, subst, ◌∙◌, inr, if◌then◌else◌}
 use Rattle.std.proofs.lemmas.Option.{none-some}
 use Rattle.cc_base.specs.declared.place.Place.{Place}
 use Rattle.cc_base.specs.declared.number.NodeId.{NodeId}
@@ -9,12 +9,12 @@ use Rattle.cc_base.specs.declared.fault.Limit.TheVariants.{Types}
 use Rattle.cc_base.specs.declared.fault.Rule.TheVariants as rule
 use Rattle.c_types.specs.declared.shape.TypeShape.{TypeShape}
 use Rattle.c_types.specs.declared.shape.TypeShape.TheVariants.{Void, Integer, Pointer, Array, Function, Struct, Union}
-use Rattle.c_types.specs.Table.{Table, HasShape, IsComplete, shape_at, members_at, entry_at, is_complete, is_complete_entry}
+use Rattle.c_types.specs.Table.{Table, HasShape, shape_at, members_at, is_complete_entry}
 use Rattle.c_types.specs.Layouts.{size_of, member_at}
 use Rattle.c_tree.specs.declared.leaf.Identifier.{Identifier}
 use Rattle.c_tree.specs.declared.operator.MemberOperator.TheVariants as member
 use Rattle.c_tree.specs.declared.operator.Unary.TheVariants as unary
-use Rattle.c_tree.specs.Erasure.{erased, erased_place, erased_type_name}
+use Rattle.c_tree.specs.Erasure.{erased_type_name}
 use Rattle.c_tree.specs.Places.{expr_place}
 use Rattle.c_tree.specs.Tree as tree
 use Rattle.c_tree.specs.TypedTree as typed
@@ -23,24 +23,23 @@ use Rattle.c_tree.specs.TypedParts.{type_of, place_type, named_type}
 use Rattle.integers.specs.Arithmetic.{unsigned_long}
 use Rattle.c_typing.specs.Assignments.{size_of_type}
 use Rattle.c_typing.specs.Conversions.{is_plain, is_taken_over}
-use Rattle.c_typing.specs.Judging.{State, Outcome, Judging, Gives, Stops, next, ◌>>=◌, pure, stop, by_known, Pointing, new_node, new_pointer, void_type}
+use Rattle.c_typing.specs.Judging.{State, Gives, ◌>>=◌, pure, stop, by_known, new_node, new_pointer, void_type}
 use Rattle.c_typing.specs.Operands.{Operand, Value, made_raw, raw_value, value_of}
 use Rattle.c_typing.specs.Operations
 use Rattle.c_typing.specs.Operations.{size_type, size_of_part, size, numbered, named_member, Found, found, member_of, member_at_pointer, pointed_member}
 use Rattle.c_typing.specs.Refusals.{is_natural, IsElaborated, type_size_tests}
 use Rattle.c_typing.specs.Rules.{is_designator, is_made_of_place, runtime_named, number_of_shape, HasMember, IsSize}
 use Rattle.c_typing.specs.Scopes.{Scopes, is_complete_shape_at, is_complete_at, members_named, place_among, is_no_list}
-use Rattle.c_typing.specs.Settled.{IsBasic, IsFollowed, IsSettled, IsValueOf, IsKnown, GoesOn, GoesOnThere, IsJudged}
-use Rattle.c_typing.specs.Shapes.{pointee_at, pointee_of_shape, is_pointer_shape, is_void_shape, is_scalar_shape}
+use Rattle.c_typing.specs.Settled.{IsValueOf, IsKnown, GoesOn, IsJudged}
+use Rattle.c_typing.specs.Shapes.{pointee_at, pointee_of_shape, is_void_shape}
 use Rattle.c_typing.specs.Tests.{Elaborated, AsPlace, AsValue, AsAllocation, first_broken, size_tests, is_complete_part, has_some, member_tests, shape_of, pointed_shape}
-use Rattle.c_typing.specs.Typing.{IsTyped, IsPlace, IsTypeName}
+use Rattle.c_typing.specs.Typing.{IsTyped, IsTypeName}
 use Rattle.c_typing_laws.proofs.ExtensionLaws.{no_true, and_left, and_right}
 use Rattle.c_typing_laws.proofs.ConstructLaws.{one_unbroken, not_false, pointer_value}
 use Rattle.c_typing_laws.proofs.ConversionLaws.{size_typed}
-use Rattle.c_typing_laws.proofs.KeptTrees.{value-kept}
-use Rattle.c_typing_laws.proofs.Outcomes.{IsConstruct, construct-gives, gives-value, gives-state, never-gives, bind-gives, new_node-gives}
-use Rattle.c_typing_laws.proofs.KnownStates.{stays, node-there, new_pointer-gives}
-use Rattle.c_typing_laws.proofs.ValuesTaken.{not_true, given-same, natural-no_place, natural-plain, runtime-void, IsTaken, value_of-gives}
+use Rattle.c_typing_laws.proofs.Outcomes.{construct-gives, gives-value, gives-state, never-gives, bind-gives, new_node-gives}
+use Rattle.c_typing_laws.proofs.KnownStates.{stays, new_pointer-gives}
+use Rattle.c_typing_laws.proofs.ValuesTaken.{not_true, natural-no_place, natural-plain, runtime-void, value_of-gives}
 use Rattle.c_typing_laws.proofs.JudgedOperators.{made-here, made-later}
 
 -- `sizeof` of a value

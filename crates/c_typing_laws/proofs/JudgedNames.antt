@@ -1,22 +1,19 @@
 -- What judging gives for names and string literals.
-use Rattle.std.proofs.Common.{◌≡◌, ◌≢◌, ℕ, ◌+◌, ◌<◌, Bool, true, false, not, ◌&&◌, ◌||◌, nat_le, List, [], ◌∷◌, length, Option, Some, None, refl, ap, sym, subst, ◌∙◌, inl, inr, ◌⊎◌, IsTrue, if◌then◌else◌, codes, bytes_eq, MatchOption, arith, true≢false}
-use Rattle.std.specs.List.{All}
-use Rattle.std.proofs.lemmas.Option.{none-some}
+use Rattle.std.proofs.Common.{◌≡◌, ◌≢◌, ℕ, ◌+◌, Bool, true, false, not, ◌&&◌, ◌||◌, nat_le, List, [], length, Option, Some, None, refl, ap, sym, subst, ◌∙◌, inl, inr, if◌then◌else◌, codes, MatchOption, arith, true≢false}
 use Rattle.std.proofs.lemmas.List.Elements.{All-nil, All-cons}
 use Rattle.cc_base.specs.declared.place.Place.{Place}
-use Rattle.cc_base.specs.declared.number.NodeId.{NodeId}
 use Rattle.cc_base.specs.declared.number.TypeId.{TypeId}
 use Rattle.cc_base.specs.declared.fault.Fault.TheVariants.{Refused, TooLarge}
 use Rattle.cc_base.specs.declared.fault.Limit.TheVariants.{Types, Globals}
 use Rattle.cc_base.specs.declared.fault.Rule.TheVariants as rule
 use Rattle.c_types.specs.declared.shape.TypeShape.{TypeShape}
-use Rattle.c_types.specs.declared.shape.TypeShape.TheVariants.{Void, Integer, Pointer, Array}
-use Rattle.c_types.specs.Table.{Table, Entry, HasShape, IsType, IsComplete, shape_at, members_at, entry_at, is_complete_entry}
+use Rattle.c_types.specs.declared.shape.TypeShape.TheVariants.{Integer, Array}
+use Rattle.c_types.specs.Table.{Table, IsType, IsComplete, shape_at, members_at, is_complete_entry}
 use Rattle.c_types.specs.Calls.{IsAddable}
 use Rattle.c_tree.specs.declared.leaf.Identifier.{Identifier}
 use Rattle.c_tree.specs.declared.leaf.StringPiece.{StringPiece}
 use Rattle.c_tree.specs.declared.typed_word.Runtime.{Runtime}
-use Rattle.c_tree.specs.Places.{pieces_place, expr_place}
+use Rattle.c_tree.specs.Places.{pieces_place}
 use Rattle.c_tree.specs.Tree as tree
 use Rattle.c_tree.specs.TypedTree as typed
 use Rattle.integers.specs.Arithmetic.{int}
@@ -26,19 +23,18 @@ use Rattle.c_typing.specs.declared.declared.Declared.{Declared}
 use Rattle.c_typing.specs.declared.declared.Declared.TheVariants as declared
 use Rattle.c_typing.specs.Assignments.{string_type, is_char_array, function_name, named_as, name, count_global, literal}
 use Rattle.c_typing.specs.Integers.{char}
-use Rattle.c_typing.specs.Judging.{State, Outcome, Judging, Gives, Stops, next, ◌>>=◌, pure, stop, by_known, Pointing, new_node, new_pointer, type_with, void_type, integer_type}
+use Rattle.c_typing.specs.Judging.{State, Gives, Stops, ◌>>=◌, pure, by_known, new_node, new_pointer, type_with, void_type, integer_type}
 use Rattle.c_typing.specs.Operands.{Operand}
 use Rattle.c_typing.specs.Operations.{int_type, numbered}
-use Rattle.c_typing.specs.Refusals.{IsElaborated}
 use Rattle.c_typing.specs.Rules.{pieces_bytes, is_hidden}
-use Rattle.c_typing.specs.Scopes.{Scopes, name_in, place_among}
-use Rattle.c_typing.specs.Settled.{IsBasic, IsKnown, GoesOn, GoesOnThere, IsJudged}
-use Rattle.c_typing.specs.Tests.{Elaborated, AsPlace, AsValue, first_broken, name_tests, has_some, is_main, is_none, is_function_declared, is_type_declared}
-use Rattle.c_typing_laws.proofs.ExtensionLaws.{no_true, extended_refl}
-use Rattle.c_typing_laws.proofs.ConstructLaws.{two_unbroken, or_left, either_false}
-use Rattle.c_typing_laws.proofs.Outcomes.{IsConstruct, construct-gives, leaf-gives, gives-value, gives-state, never-gives, bind-gives}
+use Rattle.c_typing.specs.Scopes.{name_in, place_among}
+use Rattle.c_typing.specs.Settled.{IsKnown, GoesOnThere, IsJudged}
+use Rattle.c_typing.specs.Tests.{AsPlace, AsValue, name_tests, has_some, is_main, is_none, is_function_declared, is_type_declared}
+use Rattle.c_typing_laws.proofs.ExtensionLaws.{extended_refl}
+use Rattle.c_typing_laws.proofs.ConstructLaws.{two_unbroken, or_left}
+use Rattle.c_typing_laws.proofs.Outcomes.{construct-gives, leaf-gives, gives-state, never-gives, bind-gives}
 use Rattle.c_typing_laws.proofs.KnownScopes.{object-there}
-use Rattle.c_typing_laws.proofs.KnownStates.{stays, goes-on, there-on, node-there, new_pointer-gives, type_with-found, type_with-there}
+use Rattle.c_typing_laws.proofs.KnownStates.{there-on, node-there, new_pointer-gives, type_with-found, type_with-there}
 use Rattle.c_typing_laws.proofs.KeptRules.{has-kept}
 use Rattle.c_typing_laws.proofs.JudgedOperators.{made-here, made-later}
 use Rattle.c_typing_laws.proofs.JudgedMembers.{numbered-gives}

@@ -1,8 +1,6 @@
 -- What judging gives for operators, from what it gave for their operands.
-use Rattle.std.proofs.Common.{◌≡◌, ℕ, ℤ, Bool, true, false, not, ◌&&◌, ◌||◌, ◌==◌, List, [], ◌∷◌, Option, Some, None, refl, ap, sym, subst, ◌∙◌, inl, inr, ◌⊎◌, IsTrue, if◌then◌else◌}
-use Rattle.std.proofs.lemmas.Option.{none-some}
+use Rattle.std.proofs.Common.{◌≡◌, ℕ, ℤ, Bool, true, false, not, ◌&&◌, ◌||◌, ◌==◌, [], ◌∷◌, Option, Some, None, refl, ap, sym, subst, ◌∙◌, inl, inr, if◌then◌else◌}
 use Rattle.cc_base.specs.declared.place.Place.{Place}
-use Rattle.cc_base.specs.declared.number.NodeId.{NodeId}
 use Rattle.cc_base.specs.declared.number.TypeId.{TypeId}
 use Rattle.cc_base.specs.declared.fault.Fault.TheVariants.{Refused, TooLarge}
 use Rattle.cc_base.specs.declared.fault.Limit.TheVariants.{Types}
@@ -11,10 +9,9 @@ use Rattle.c_lexer.specs.declared.number.IntegerType.{IntegerType as ConstantTyp
 use Rattle.c_lexer.specs.declared.number.IntegerType.TheVariants as constant
 use Rattle.c_types.specs.declared.shape.TypeShape.{TypeShape}
 use Rattle.c_types.specs.declared.shape.TypeShape.TheVariants.{Void, Integer, Pointer, Array, Function, Struct, Union}
-use Rattle.c_types.specs.Table.{Table, HasShape, shape_at}
-use Rattle.c_types.specs.Layouts.{size_of}
+use Rattle.c_types.specs.Table.{Table, shape_at}
 use Rattle.c_types.specs.Sound.{IsIntegerSize}
-use Rattle.c_tree.specs.Erasure.{erased, erased_place, step_operator}
+use Rattle.c_tree.specs.Erasure.{erased, step_operator}
 use Rattle.c_tree.specs.Places.{expr_place}
 use Rattle.c_tree.specs.Tree as tree
 use Rattle.c_tree.specs.declared.operator.Binary.{Binary}
@@ -23,34 +20,30 @@ use Rattle.c_tree.specs.declared.operator.Step.{Step}
 use Rattle.c_tree.specs.declared.operator.Unary.{Unary}
 use Rattle.c_tree.specs.declared.operator.Unary.TheVariants as unary
 use Rattle.c_tree.specs.declared.typed_word.Conversion.TheVariants as conversion
-use Rattle.c_tree.specs.declared.typed_word.Side.TheVariants as side
 use Rattle.c_tree.specs.TypedTree as typed
 use Rattle.c_tree.specs.TypedTree.{TypedExpr, TypedPlace, TypedTypeName}
-use Rattle.c_tree.specs.TypedParts.{type_of, place_type, named_type}
-use Rattle.integers.specs.Arithmetic.{IntegerType, int, long, unsigned_long}
-use Rattle.c_typing.specs.Conversions.{bare, is_plain, IsPlain, is_droppable, is_allocation, is_taken_over, to_integer}
-use Rattle.c_typing.specs.Integers.{constant_type, promoted, left_type, right_type, result_type, is_logical, is_order}
-use Rattle.c_typing.specs.Judging.{State, Outcome, Judging, Gives, Stops, next, ◌>>=◌, pure, by_known, Pointing, new_pointer, void_type, integer_type}
-use Rattle.c_typing.specs.Operands.{Operand, Value, value_of, side_of, made_raw}
-use Rattle.c_typing.specs.Operations
-use Rattle.c_typing.specs.Operations.{int_type, size_type, construct, pointed, pointed_place, target_of, address_behind, address_of_part, address, is_arithmetic_prefix, promoted_operand, operator_on, prefix_of, size_of_part, size, step_part, step_before, step_after, element, index, arithmetic, equated, compared, pointers, by_kinds, operation, infix_of, in_parens, paren, integer, character}
+use Rattle.c_tree.specs.TypedParts.{type_of, place_type}
+use Rattle.integers.specs.Arithmetic.{IntegerType, int}
+use Rattle.c_typing.specs.Conversions.{is_plain, is_allocation, is_taken_over, to_integer}
+use Rattle.c_typing.specs.Integers.{constant_type, promoted, left_type, right_type, is_logical, is_order}
+use Rattle.c_typing.specs.Judging.{State, Gives, pure, by_known, new_pointer, integer_type}
+use Rattle.c_typing.specs.Operands.{Operand, Value}
+use Rattle.c_typing.specs.Operations.{int_type, pointed, pointed_place, target_of, address_behind, address_of_part, address, is_arithmetic_prefix, promoted_operand, operator_on, prefix_of, step_part, step_before, step_after, element, index, equated, compared, pointers, by_kinds, operation, infix_of, in_parens, paren, integer, character}
 use Rattle.c_typing.specs.Refusals.{is_natural, IsElaborated}
-use Rattle.c_typing.specs.Rules.{is_designator, is_lvalue, is_made_of_place, pointer_behind, runtime_named, Meeting, RightIsNull, LeftIsNull, BothPoint, NeverMeet, meeting}
-use Rattle.c_typing.specs.Scopes.{Scopes, is_complete_at}
-use Rattle.c_typing.specs.Settled.{IsBasic, IsSettled, IsPartTyped, IsValueOf, IsKnown, GoesOn, GoesOnThere, IsJudged}
-use Rattle.c_typing.specs.Shapes.{integer_at, is_pointer_shape, is_integer_shape, pointee_at, pointee_of_shape, is_function_shape, is_void_shape}
-use Rattle.c_typing.specs.Tests
-use Rattle.c_typing.specs.Tests.{Elaborated, AsPlace, AsValue, AsAllocation, Test, first_broken, target_tests, index_tests, prefix_tests, infix_tests, step_tests, size_tests, address_tests, has_some, is_index_pair, points_to_open, points_to_incomplete, can_be_written, is_function_part, is_complete_part}
-use Rattle.c_typing.specs.Typing.{IsTyped, IsPlace}
-use Rattle.c_typing_laws.proofs.ExtensionLaws.{no_true, and_left, and_right, complete_kept, extended_refl}
-use Rattle.c_typing_laws.proofs.ConstructLaws.{one_unbroken, two_unbroken, not_false, has_shape, target_typed, index_typed, prefix_typed}
-use Rattle.c_typing_laws.proofs.ConversionLaws.{step_typed, size_typed}
+use Rattle.c_typing.specs.Rules.{is_lvalue, is_made_of_place, pointer_behind, runtime_named, Meeting, RightIsNull, LeftIsNull, BothPoint, NeverMeet, meeting}
+use Rattle.c_typing.specs.Scopes.{Scopes}
+use Rattle.c_typing.specs.Settled.{IsPartTyped, IsValueOf, IsKnown, GoesOn, IsJudged}
+use Rattle.c_typing.specs.Shapes.{integer_at, is_pointer_shape, pointee_at, pointee_of_shape, is_function_shape}
+use Rattle.c_typing.specs.Tests.{Elaborated, AsPlace, AsValue, AsAllocation, first_broken, target_tests, index_tests, prefix_tests, infix_tests, step_tests, address_tests, has_some, is_index_pair, points_to_open, points_to_incomplete, can_be_written, is_function_part}
+use Rattle.c_typing.specs.Typing.{IsPlace}
+use Rattle.c_typing_laws.proofs.ExtensionLaws.{no_true, and_right}
+use Rattle.c_typing_laws.proofs.ConstructLaws.{one_unbroken, two_unbroken, not_false, target_typed, index_typed, prefix_typed}
+use Rattle.c_typing_laws.proofs.ConversionLaws.{step_typed}
 use Rattle.c_typing_laws.proofs.InfixLaws.{infix_typed}
-use Rattle.c_typing_laws.proofs.KeptRules.{has-kept}
-use Rattle.c_typing_laws.proofs.KeptTrees.{value-kept, place-kept}
-use Rattle.c_typing_laws.proofs.Outcomes.{IsConstruct, construct-gives, leaf-gives, gives-value, gives-state, never-gives, bind-gives}
+use Rattle.c_typing_laws.proofs.KeptTrees.{place-kept}
+use Rattle.c_typing_laws.proofs.Outcomes.{construct-gives, leaf-gives, gives-state, never-gives, bind-gives}
 use Rattle.c_typing_laws.proofs.KnownStates.{stays, new_pointer-gives}
-use Rattle.c_typing_laws.proofs.ValuesTaken.{not_true, given-same, natural-no_place, natural-no_allocation, natural-plain, runtime-void, raw-typed, value_of-gives, IsTaken}
+use Rattle.c_typing_laws.proofs.ValuesTaken.{given-same, natural-no_place}
 
 -- what is made of the operands alone
 pub made-here : (e : tree.Expr) (x : Elaborated) (o : Operand) (s0 : Scopes) (s r : State) → IsKnown s → Gives x s ≡ Gives o.part r → o.place ≡ expr_place e
@@ -106,7 +99,7 @@ target-judged e at v o s0 s r k val h =
 
 -- `a[b]`
 
-pair_some : (x y : TypeShape) → is_index_pair x y ≡ true → (has_some (pointee_of_shape x) || has_some (pointee_of_shape y)) ≡ true
+pub pair_some : (x y : TypeShape) → is_index_pair x y ≡ true → (has_some (pointee_of_shape x) || has_some (pointee_of_shape y)) ≡ true
 pair_some (Pointer n t) (Integer w r) h = refl
 pair_some (Integer w r) (Pointer n t) h = refl
 pair_some x y h = no_true h

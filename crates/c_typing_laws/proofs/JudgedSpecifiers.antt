@@ -1,5 +1,5 @@
 -- What judging gives for one specifier: words, names of types, tags, structs and unions, and enumerations.
-use Rattle.std.proofs.Common.{◌≡◌, ℕ, ℤ, Bool, true, false, not, ◌&&◌, ◌||◌, List, [], ◌∷◌, ◌++◌, Option, Some, None, refl, ap, sym, subst, ◌∙◌, true≢false, ◌<◌, length, if◌then◌else◌}
+use Rattle.std.proofs.Common.{◌≡◌, ℤ, Bool, true, false, not, List, ◌++◌, Option, Some, None, refl, ap, sym, subst, ◌∙◌, true≢false, ◌<◌, length, if◌then◌else◌}
 use Rattle.std.specs.List.{All}
 use Rattle.std.proofs.lemmas.Option.{none-some}
 use Rattle.cc_base.specs.declared.place.Place.{Place}
@@ -15,7 +15,7 @@ use Rattle.c_tree.specs.declared.leaf.Identifier.{Identifier}
 use Rattle.c_tree.specs.declared.leaf.Word.{Word}
 use Rattle.c_tree.specs.declared.operator.AggregateKind.{AggregateKind}
 use Rattle.c_tree.specs.declared.operator.AggregateKind.TheVariants as kind
-use Rattle.c_tree.specs.Erasure.{erased_members, erased_enumerators}
+use Rattle.c_tree.specs.Erasure.{erased_members}
 use Rattle.c_tree.specs.Tree as tree
 use Rattle.c_tree.specs.TypedTree as typed
 use Rattle.c_tree.specs.TypedTree.{TypedExpr, TypedSpecifier, TypedMembers, TypedEnumerators}
@@ -27,18 +27,16 @@ use Rattle.c_typing.specs.declared.declared.Declared.{Declared}
 use Rattle.c_typing.specs.declared.declared.Declared.TheVariants as declared
 use Rattle.c_typing.specs.declared.declared.Tag.{Tag}
 use Rattle.c_typing.specs.declared.declared.Tag.TheVariants as tag
-use Rattle.c_typing.specs.Declarators
-use Rattle.c_typing.specs.Declarators.{Counted, Named, counting_word, are_allowed, member_names}
-use Rattle.c_typing.specs.Extensions.{IsExtended}
-use Rattle.c_typing.specs.Judging.{State, Outcome, Judging, Gives, Stops, next, pure, by_known}
+use Rattle.c_typing.specs.Declarators.{Counted, counting_word, are_allowed, member_names}
+use Rattle.c_typing.specs.Judging.{State, Gives, next, pure, by_known}
 use Rattle.c_typing.specs.Refusals.{one_named, tag_place, is_empty_row}
-use Rattle.c_typing.specs.Scopes.{Name, Level, Scopes, name_in, tag_in, here, tag_here, declaring, is_no_list, members_named, is_complete_shape_at, is_complete_at, with_scopes}
-use Rattle.c_typing.specs.Settled.{IsBasic, IsThere, IsTagThere, IsLevelThere, IsNamedThere, IsKnown, GoesOn, IsSpecifierJudged, IsBegun, AreEnumeratorsJudged, IsValueOf}
+use Rattle.c_typing.specs.Scopes.{Name, Scopes, name_in, tag_in, here, tag_here, declaring, is_no_list, members_named, is_complete_shape_at, is_complete_at, with_scopes}
+use Rattle.c_typing.specs.Settled.{IsTagThere, IsLevelThere, IsKnown, GoesOn, IsSpecifierJudged, IsBegun, AreEnumeratorsJudged, IsValueOf}
 use Rattle.c_typing.specs.Specifying
 use Rattle.c_typing.specs.Specifying.{in_scopes, typedef_named, tagged_as, tagged_by, begun_as, begun, ended, is_taken_at_end, enum_tag, enumeration_begun, enumeration, enumerator, enumerator_with, valued_enumerator, new_aggregate, completed}
 use Rattle.c_typing.specs.Tests
 use Rattle.c_typing.specs.Tests.{is_tag_of, is_other_tag, is_enumeration, is_taken_tag, is_none, has_some, first_broken}
-use Rattle.c_typing.specs.Typing.{IsSpecifier, IsTagged, BeginsAggregate, EndsAggregate, IsNewAggregate, AreMembers, AreEnumerators, AreDistinct, tag_named_here, tagging, enumerating, next_value, last_value}
+use Rattle.c_typing.specs.Typing.{IsTagged, BeginsAggregate, AreMembers, AreDistinct, tag_named_here, tagging, enumerating, next_value, last_value}
 use Rattle.c_typing_laws.proofs.ConstructLaws.{one_unbroken, two_unbroken, three_unbroken, or_left, or_right}
 use Rattle.c_typing_laws.proofs.ExtensionLaws.{no_true, still_in, extended_refl}
 use Rattle.c_typing_laws.proofs.KeptTrees.{members-kept, enumerators-kept}
@@ -48,7 +46,6 @@ use Rattle.c_typing_laws.proofs.KnownScopes.{typedef-there, tag-there, tag_here-
 use Rattle.c_typing_laws.proofs.KnownStates.{stays, goes-on}
 use Rattle.c_typing_laws.proofs.KnownTags.{new_aggregate-judged}
 use Rattle.c_typing_laws.proofs.Outcomes.{bind-gives, unless-gives, gives-value, gives-state, never-gives}
-use Rattle.c_typing_laws.proofs.ValuesTaken.{not_true}
 
 not_false : (b : Bool) → not b ≡ false → b ≡ true
 not_false true h = refl
@@ -163,7 +160,7 @@ tagged-judged counts which at name one s r k h =
 
 -- Structs and unions with members
 
-named_here-there : (T : Table) (c : Scopes) (name : Option Identifier) (what : Tag) → All (IsLevelThere T) c.levels → tag_named_here c name ≡ Some what → IsTagThere T what
+pub named_here-there : (T : Table) (c : Scopes) (name : Option Identifier) (what : Tag) → All (IsLevelThere T) c.levels → tag_named_here c name ≡ Some what → IsTagThere T what
 named_here-there T c None what h q = absurd (none-some what q)
 named_here-there T c (Some name) what h q = tag_here-there T c.levels h name.bytes what q
 
@@ -344,7 +341,7 @@ enumeration-judged counts at name brace found all list comma one s0 s r k was l 
 
 -- Enumerators
 
-no_name : (o : Option Declared) → has_some o ≡ false → o ≡ None
+pub no_name : (o : Option Declared) → has_some o ≡ false → o ≡ None
 no_name None h = refl
 no_name (Some found) h = absurd (true≢false h)
 

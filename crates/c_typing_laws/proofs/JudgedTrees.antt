@@ -1,16 +1,14 @@
 -- What judging gives for whole expressions, by one recursion over the tree, from the law of type names.
-use Rattle.std.proofs.Common.{◌≡◌, ℕ, Bool, true, false, not, ◌&&◌, ◌||◌, List, [], ◌∷◌, ◌++◌, Option, Some, None, refl, ap, sym, subst, ◌∙◌, inl, inr, ◌⊎◌, true≢false}
-use Rattle.std.proofs.lemmas.Option.{none-some}
+use Rattle.std.proofs.Common.{◌≡◌, Bool, true, false, not, ◌&&◌, ◌||◌, List, [], ◌∷◌, ◌++◌, Option, Some, None, refl, ap, sym, subst, ◌∙◌, inl, inr, ◌⊎◌}
 use Rattle.std.proofs.lemmas.List.{append-nil}
 use Rattle.cc_base.specs.declared.place.Place.{Place}
-use Rattle.cc_base.specs.declared.number.NodeId.{NodeId}
 use Rattle.cc_base.specs.declared.number.TypeId.{TypeId}
 use Rattle.cc_base.specs.declared.fault.Fault.TheVariants.{Refused, TooLarge}
 use Rattle.cc_base.specs.declared.fault.Limit.TheVariants.{Types}
 use Rattle.cc_base.specs.declared.fault.Rule.TheVariants as rule
 use Rattle.c_types.specs.declared.shape.TypeShape.{TypeShape}
 use Rattle.c_types.specs.declared.shape.TypeShape.TheVariants.{Void, Integer, Pointer, Array, Function, Struct, Union}
-use Rattle.c_types.specs.Table.{Table, HasShape, IsType, shape_at, is_aggregate_shape}
+use Rattle.c_types.specs.Table.{Table, IsType, shape_at, is_aggregate_shape}
 use Rattle.c_tree.specs.declared.leaf.Identifier.{Identifier}
 use Rattle.c_tree.specs.declared.operator.AggregateKind.{AggregateKind}
 use Rattle.c_tree.specs.declared.operator.Assignment.{Assignment}
@@ -20,12 +18,12 @@ use Rattle.c_tree.specs.declared.operator.Step.TheVariants as step
 use Rattle.c_tree.specs.declared.operator.Unary.{Unary}
 use Rattle.c_tree.specs.declared.operator.Unary.TheVariants as unary
 use Rattle.c_tree.specs.declared.typed_word.Runtime.{Runtime}
-use Rattle.c_tree.specs.Erasure.{erased, erased_place, erased_type_name}
+use Rattle.c_tree.specs.Erasure.{erased}
 use Rattle.c_tree.specs.Places.{expr_place, nowhere}
 use Rattle.c_tree.specs.Tree as tree
 use Rattle.c_tree.specs.TypedTree as typed
 use Rattle.c_tree.specs.TypedTree.{TypedExpr, TypedPlace, TypedTypeName, TypedSpecifierList, TypedSpecifier, TypedMembers, TypedMemberDeclarators, TypedEnumerators, TypedForm, TypedCore, TypedParts, TypedParameters, TypedDeclared}
-use Rattle.c_tree.specs.TypedParts.{type_of, place_type, named_type}
+use Rattle.c_tree.specs.TypedParts.{type_of, place_type, named_type, name_of_form, home_of_form}
 use Rattle.runtime_calls.specs.Prototypes.{runtime_of}
 use Rattle.c_typing.specs.declared.declared.Declared.{Declared}
 use Rattle.c_typing.specs.declared.declared.Declared.TheVariants as declared
@@ -36,29 +34,28 @@ use Rattle.c_typing.specs.declared.naming.Naming.TheVariants as naming
 use Rattle.c_typing.specs.Adjusting.{derived_by_declared, typedef_place, adjusted_at}
 use Rattle.c_typing.specs.Declarators.{Counted, Written, counted, declarator_names, member_names}
 use Rattle.c_typing.specs.Declaring.{declarator_name, stars_with_nodes, sized, declared_makes, member_named, parameter, entered, left}
-use Rattle.c_typing.specs.Conversions.{is_plain, is_droppable, is_taken_over, is_pointer_to_complete}
+use Rattle.c_typing.specs.Conversions.{is_plain, is_droppable, is_pointer_to_complete}
 use Rattle.c_typing.specs.Extensions.{IsExtended}
-use Rattle.c_typing.specs.Judging.{State, Outcome, Judging, Gives, Stops, next, ◌>>=◌, pure, stop, by_known, new_pointer, void_type}
-use Rattle.c_typing.specs.Operands.{Operand, Value, value_of, value, made_raw, made_for, raw_value, reading_of, place_value, side_of, given_allocation, given}
+use Rattle.c_typing.specs.Judging.{State, Gives, next, ◌>>=◌, pure, by_known, new_pointer}
+use Rattle.c_typing.specs.Operands.{Operand, Value, value_of, value, made_for, raw_value, reading_of, side_of, given_allocation, given}
 use Rattle.c_typing.specs.Operations
 use Rattle.c_typing.specs.Operations.{construct, numbered, in_parens, prefix, target, target_of, prefix_of}
 use Rattle.c_typing.specs.Refusals.{is_natural, IsElaborated, name_place, is_void_alone}
 use Rattle.c_typing.specs.Rules.{is_made_of_place, runtime_named, is_compound}
 use Rattle.c_typing.specs.Scopes.{Name, Scopes, name_in, place_among}
-use Rattle.c_typing.specs.Settled.{IsBasic, IsSettled, is_converted, IsValueOf, AreValuesOf, IsKnown, GoesOn, GoesOnThere, IsJudged, IsSpecifierJudged, IsBegun, AreEnumeratorsJudged, IsListJudged}
+use Rattle.c_typing.specs.Settled.{IsBasic, is_converted, IsValueOf, AreValuesOf, IsKnown, GoesOn, IsJudged, IsSpecifierJudged, IsBegun, AreEnumeratorsJudged, IsListJudged}
 use Rattle.c_typing.specs.Specifying.{specified, begun, ended, enumeration_begun, enumeration, enumerator, valued_enumerator}
 use Rattle.c_typing.specs.Shapes.{is_scalar_shape, is_void_shape}
-use Rattle.c_typing.specs.Tests.{Elaborated, AsPlace, AsValue, AsAllocation, has_some, runtime_part, first_broken, name_tests, is_none, is_function_declared, is_type_declared, is_main}
-use Rattle.c_typing.specs.Typing.{IsTyped, IsPlace, IsTypeName, AreEnumerators, AreDistinct}
+use Rattle.c_typing.specs.Tests.{Elaborated, AsPlace, AsValue, AsAllocation, has_some, runtime_part, name_tests, is_none, is_function_declared, is_type_declared, is_main}
+use Rattle.c_typing.specs.Typing.{IsTyped, AreEnumerators, AreDistinct}
 use Rattle.c_typing.specs.Walks.{listed, declared_place, judge, judge_arguments, judge_type_name, judge_list, judge_specifier, judge_members, judge_member_declarators, judge_enumerators, judge_form, judge_core, judge_parts, judge_parameters, judge_declared}
-use Rattle.c_typing_laws.specs.Judged.{IsTypeNameJudged}
-use Rattle.c_typing_laws.proofs.ExtensionLaws.{no_true, and_left, and_right, extended_refl, still_in}
+use Rattle.c_typing_laws.specs.Judged.{IsTypeNameJudged, IsHomeOf}
+use Rattle.c_typing_laws.proofs.ExtensionLaws.{no_true, still_in}
 use Rattle.c_typing_laws.proofs.ConstructLaws.{two_unbroken, or_right}
-use Rattle.c_typing_laws.proofs.KeptRules.{has-kept, aggregate-kept}
-use Rattle.c_typing_laws.proofs.KeptTrees.{value-kept, place-kept, type_name-kept}
+use Rattle.c_typing_laws.proofs.KeptTrees.{value-kept, type_name-kept}
 use Rattle.c_typing_laws.proofs.Outcomes.{construct-gives, gives-value, gives-state, never-gives, bind-gives}
 use Rattle.c_typing_laws.proofs.KnownStates.{stays, goes-on}
-use Rattle.c_typing_laws.proofs.ValuesTaken.{not_true, natural-no_place, natural-plain, runtime-void, part-kept, given-same, IsTaken, IsValue, value_of-gives, value-gives}
+use Rattle.c_typing_laws.proofs.ValuesTaken.{natural-plain, runtime-void, part-kept, given-same, value_of-gives, value-gives}
 use Rattle.c_typing_laws.proofs.JudgedOperators.{target-judged, index-judged, prefix-judged, infix-judged, before-judged, after-judged, paren-judged, integer-judged, character-judged, address-judged}
 use Rattle.c_typing_laws.proofs.JudgedMembers.{raw_plain, raw_made, size-judged, size_of_type-judged, member-judged, pointed_member-judged}
 use Rattle.c_typing_laws.proofs.JudgedAssignments.{place-form, assign-judged, comma-judged}
@@ -68,7 +65,7 @@ use Rattle.c_typing_laws.proofs.JudgedNames.{name-judged, literal-judged}
 use Rattle.c_typing_laws.proofs.JudgedCalls.{call-judged}
 use Rattle.c_typing_laws.proofs.JudgedLists.{list-judged, list-typed, no_specifier-judged}
 use Rattle.c_typing_laws.proofs.JudgedSpecifiers.{word-judged, typedef-judged, tagged-judged, begun-judged, ended_by, enum-judged, enumeration_begun-judged, enumeration-judged, enumerator-judged, valued-judged}
-use Rattle.c_typing_laws.proofs.JudgedDeclarators.{IsFormJudged, IsCoreJudged, ArePartsJudged, AreParametersJudged, IsDeclaredJudged, IsRowJudged, AreMembersJudged, IsVoidOf, first_alone, stars-judged, form-step, name-step, sized-step, entered-judged, function-step, parameter-step, member-step, members-step, type_name-step}
+use Rattle.c_typing_laws.proofs.JudgedDeclarators.{IsFormJudged, IsCoreJudged, ArePartsJudged, AreParametersJudged, IsDeclaredJudged, IsRowJudged, AreMembersJudged, IsVoidOf, first_alone, no_home, stars-judged, form-step, name-step, sized-step, entered-judged, function-step, parameter-step, member-step, members-step, type_name-step}
 
 -- What may be dropped
 
@@ -102,7 +99,7 @@ natural_done : (v : TypedExpr) → is_natural v ≡ true → IsDone v
 natural_done v h = or_done v (is_plain v) refl (natural-plain v h)
 
 -- the value of a part is done, and may be dropped unless the part is a runtime function
-value_done : (e : tree.Expr) (at : Place) (x : Elaborated) (v : TypedExpr) (s0 : Scopes) (s r : State) → IsKnown s → IsElaborated s.table e x s0 s.seen.scopes
+pub value_done : (e : tree.Expr) (at : Place) (x : Elaborated) (v : TypedExpr) (s0 : Scopes) (s r : State) → IsKnown s → IsElaborated s.table e x s0 s.seen.scopes
     → value_of at x s ≡ Gives v r → IsDone v × (runtime_part x ≡ None → is_droppable v ≡ true)
 unfolding value_of
 value_done e at (AsPlace p) v s0 s r k el h =
@@ -370,7 +367,7 @@ update-any operator a at b o s r compound ja jb h =
 
 -- What begins goes on, and a list that is `(void)` is
 
-begun_goes : (which : AggregateKind) (name : Option Identifier) (o : Option TypeId) (s m : State) → IsBegun which name s o m → GoesOn s m
+pub begun_goes : (which : AggregateKind) (name : Option Identifier) (o : Option TypeId) (s m : State) → IsBegun which name s o m → GoesOn s m
 begun_goes which name None s m b = b
 begun_goes which name (Some t) s m b = b.2
 
@@ -622,12 +619,12 @@ mutual
   core-judged (tree.Names name) which at core s r k h = name-step at which name core s r k h
   core-judged tree.Unnamed which at core s r k h =
       given-same (λ (v : TypedCore) (q : State). IsCoreJudged which tree.Unnamed v s q) typed.Unnamed core s r h
-      (record { typed = refl; erases = refl; homeless = λ e. refl; goes = (stays s k).goes })
+      (record { typed = refl; erases = refl; home = refl; goes = (stays s k).goes })
   core-judged (tree.Nested paren d) which at core s r k h =
       let one = bind-gives (judge_form which at d s) (λ form. pure (typed.Nested paren form)) core r h in
       let j = form-judged d which at one.0 s one.1 k one.2 in
       given-same (λ (v : TypedCore) (q : State). IsCoreJudged which (tree.Nested paren d) v s q) (typed.Nested paren one.0) core one.1 r one.3
-      (record { typed = j.typed; erases = ap (tree.Nested paren) j.erases; homeless = j.homeless; goes = j.goes })
+      (record { typed = j.typed; erases = ap (tree.Nested paren) j.erases; home = j.home; goes = j.goes })
 
   pub parts-judged : (all : tree.Parts) (at : Place) (parts : TypedParts) (s r : State) → IsKnown s → judge_parts at all s ≡ Gives parts r → ArePartsJudged all parts s r
   parts-judged tree.NoPart at parts s r k h =
@@ -682,7 +679,7 @@ mutual
       let two = bind-gives (judge_form which at d s) (λ form. pure (typed.DeclaredBy form)) one r h in
       let j = form-judged d which at two.0 s two.1 k two.2 in
       given-same (λ (v : TypedDeclared) (q : State). IsDeclaredJudged which (tree.DeclaredBy d) v s q) (typed.DeclaredBy two.0) one two.1 r two.3
-      (record { typed = j.typed; erases = ap tree.DeclaredBy j.erases; homeless = j.homeless; goes = j.goes })
+      (record { typed = j.typed; erases = ap tree.DeclaredBy j.erases; homeless = λ e. no_home (name_of_form two.0) (home_of_form two.0) (subst (λ (w : Naming). IsHomeOf w (name_of_form two.0) (home_of_form two.0)) e j.home); goes = j.goes })
 
 -- an expression, as the law has it
 pub expr-law : (called : Bool) (e : tree.Expr) (o : Operand) (s r : State) → IsKnown s → judge called e s ≡ Gives o r → IsJudged e o s.seen.scopes s r

@@ -1,47 +1,42 @@
 -- What judging gives for what stands by itself: lists of specifiers, declarators, prototypes, values, values for a type, and constants.
-use Rattle.std.proofs.Common.{◌≡◌, ℕ, ℤ, Bool, true, false, not, ◌&&◌, ◌||◌, List, [], ◌∷◌, ◌++◌, Option, Some, None, refl, ap, sym, subst, ◌∙◌, inl, inr, ◌⊎◌, true≢false}
-use Rattle.std.specs.List.{All}
+use Rattle.std.proofs.Common.{◌≡◌, ℕ, ℤ, Bool, true, false, not, ◌&&◌, Option, Some, None, refl, ap, sym, subst, ◌∙◌, inl, inr}
 use Rattle.cc_base.specs.declared.place.Place.{Place}
 use Rattle.cc_base.specs.declared.number.TypeId.{TypeId}
-use Rattle.cc_base.specs.declared.fault.Fault.TheVariants.{Refused, TooLarge}
-use Rattle.cc_base.specs.declared.fault.Limit.TheVariants.{Types}
+use Rattle.cc_base.specs.declared.fault.Fault.TheVariants.{Refused}
 use Rattle.cc_base.specs.declared.fault.Rule.TheVariants as rule
-use Rattle.c_types.specs.declared.shape.TypeShape.{TypeShape}
 use Rattle.c_types.specs.Table.{Table, IsType, IsAggregate, shape_at, is_aggregate_shape}
 use Rattle.c_tree.specs.declared.leaf.Identifier.{Identifier}
 use Rattle.c_tree.specs.declared.operator.AggregateKind.{AggregateKind}
-use Rattle.c_tree.specs.Erasure.{erased, erased_place, erased_specifier_list}
-use Rattle.c_tree.specs.Places.{nowhere}
+use Rattle.c_tree.specs.Erasure.{erased_place, erased_specifier_list, erased_form}
 use Rattle.c_tree.specs.Tree as tree
 use Rattle.c_tree.specs.TypedTree as typed
 use Rattle.c_tree.specs.TypedTree.{TypedExpr, TypedPlace, TypedSpecifiers, TypedSpecifierList, TypedSpecifier, TypedDeclarator, TypedForm, TypedParameters}
-use Rattle.c_tree.specs.TypedParts.{specified_type, place_type, type_of}
-use Rattle.c_typing.specs.declared.declared.Tag.{Tag}
-use Rattle.c_typing.specs.declared.declared.Tag.TheVariants as tag
+use Rattle.c_tree.specs.TypedParts.{specified_type, place_type, type_of, name_of_form, home_of_form}
 use Rattle.c_typing.specs.declared.naming.Naming.{Naming}
 use Rattle.c_typing.specs.Assignments.{converted_to}
 use Rattle.c_typing.specs.Checking.{checked, taken, becomes, value_tests, converted_part, converted_value, checked_value, Constant, constant_as, checked_constant}
 use Rattle.c_typing.specs.Constants.{constant_value, is_null_constant}
-use Rattle.c_typing.specs.Conversions.{bare, implicit, is_allocation, is_pointer_to_complete, takes_over, IsAssignedBy}
-use Rattle.c_typing.specs.Declarators.{Outermost, is_void_list}
-use Rattle.c_typing.specs.Declaring.{Derived, NotDerived, derived_by, declarator_name, is_function_by, unless_function, form_makes, entered, left}
-use Rattle.c_typing.specs.Judging.{State, Judging, Gives, Stops, next, ◌>>=◌, pure, stop, by_known}
-use Rattle.c_typing.specs.Operands.{Operand, Value, value, side_of, given}
-use Rattle.c_typing.specs.Refusals.{IsElaborated, is_void_alone}
+use Rattle.c_typing.specs.Conversions.{implicit, is_allocation, is_pointer_to_complete, takes_over, IsAssignedBy}
+use Rattle.c_typing.specs.Declarators.{is_pointed, is_void_list}
+use Rattle.c_typing.specs.Declaring.{NotDerived, derived_by, is_function_by, unless_function, form_makes, entered, left}
+use Rattle.c_typing.specs.Judging.{State, Gives, next, pure}
+use Rattle.c_typing.specs.Operands.{Operand, Value, value, side_of}
+use Rattle.c_typing.specs.Refusals.{is_void_alone}
 use Rattle.c_typing.specs.Scopes.{Scopes, tag_here, entering}
-use Rattle.c_typing.specs.Settled.{IsKnown, GoesOn, GoesOnThere, IsValueOf, IsListJudged, IsTagThere}
-use Rattle.c_typing.specs.Shapes.{is_scalar_shape, is_same_type}
+use Rattle.c_typing.specs.Settled.{IsKnown, GoesOn, IsValueOf}
+use Rattle.c_typing.specs.Shapes.{is_same_type, is_function_shape}
 use Rattle.c_typing.specs.Specifying.{specified, tagged_as, tagged_by, tagged_alone}
 use Rattle.c_typing.specs.Tests
 use Rattle.c_typing.specs.Tests.{Elaborated, AsPlace, AsValue, AsAllocation, first_broken, fits, is_tag_of, is_other_tag}
-use Rattle.c_typing.specs.Typing.{IsTyped, IsPlace, AreSpecifiers, AreAlone, AreParameters, IsForm, IsTagged}
+use Rattle.c_typing.specs.Typing.{IsPlace, AreSpecifiers, AreAlone, AreParameters, IsForm}
 use Rattle.c_typing.specs.Walks
 use Rattle.c_typing.specs.Walks.{judge, judge_list, judge_alone_list, judge_value, judge_specifiers, judge_specifiers_of, judge_form, judge_parameters, judge_prototype, judge_declarator_at}
-use Rattle.c_typing_laws.specs.Judged.{AreSpecifiersBy, AreSpecifiersJudged, IsDeclaratorJudged, IsPrototypeJudged, IsChecked, IsUnreadOf, BecomesBy, IsCheckedFor, IsConstantJudged}
+use Rattle.c_typing_laws.specs.Judged.{IsHomeOf, AreSpecifiersJudged, IsDeclaratorJudged, IsPrototypeJudged, IsChecked, BecomesBy, IsCheckedFor, IsConstantJudged}
 use Rattle.c_typing_laws.proofs.ConstructLaws.{not_false, one_unbroken}
 use Rattle.c_typing_laws.proofs.ConversionLaws.{fits-converted, fits-typed}
 use Rattle.c_typing_laws.proofs.ExtensionLaws.{no_true, and_left, and_right, still_in}
-use Rattle.c_typing_laws.proofs.JudgedAssignments.{IsFreeValue, IsOver, IsGiven, given-gives, converted-bare, converted-erased, implicit-scalar, struct-fits, pointed-scalar, over-bare, or_else}
+use Rattle.c_typing_laws.proofs.FunctionNames.{form_tells}
+use Rattle.c_typing_laws.proofs.JudgedAssignments.{IsGiven, given-gives, converted-bare, converted-erased, implicit-scalar, struct-fits, pointed-scalar, over-bare, or_else}
 use Rattle.c_typing_laws.proofs.JudgedDeclarators.{entered-judged, left-judged, voids-alike}
 use Rattle.c_typing_laws.proofs.JudgedForms.{form-made}
 use Rattle.c_typing_laws.proofs.JudgedLists.{list-typed}
@@ -49,8 +44,8 @@ use Rattle.c_typing_laws.proofs.JudgedTrees.{IsJudgedFree, IsValueFree, value-he
 use Rattle.c_typing_laws.proofs.KeptTrees.{form-kept, parameters-kept}
 use Rattle.c_typing_laws.proofs.JudgedSpecifiers.{tagged_as-judged}
 use Rattle.c_typing_laws.proofs.KnownScopes.{tag_here-there}
-use Rattle.c_typing_laws.proofs.KnownStates.{stays, goes-on}
-use Rattle.c_typing_laws.proofs.Outcomes.{bind-gives, unless-gives, gives-value, gives-state, never-gives}
+use Rattle.c_typing_laws.proofs.KnownStates.{goes-on}
+use Rattle.c_typing_laws.proofs.Outcomes.{bind-gives, unless-gives, never-gives}
 use Rattle.c_typing_laws.proofs.ValuesTaken.{given-same}
 
 -- Lists of specifiers
@@ -137,8 +132,12 @@ specifiers_of-judged true all t s r k h = alone_by all t s r k h
 
 -- Declarators
 
+unpointed : (size : Option ℕ) → is_pointed (Walks.outermost_of size) ≡ false
+unpointed None = refl
+unpointed (Some count) = refl
+
 pub declarator-at : (at : Place) (which : Naming) (base : TypeId) (size : Option ℕ) (d : tree.Declarator) (one : TypedDeclarator) (s r : State) → IsKnown s
-    → IsType s.table base → judge_declarator_at at which base size d s ≡ Gives one r → IsDeclaratorJudged (Walks.outermost_of size) base d one s r
+    → IsType s.table base → judge_declarator_at at which base size d s ≡ Gives one r → IsDeclaratorJudged which (Walks.outermost_of size) base d one s r
 unfolding judge_declarator_at
 declarator-at at which base size d one s r k b h =
     let naming : Naming = unless_function (is_function_by (derived_by d NotDerived) (shape_at s.table base)) which in
@@ -146,10 +145,16 @@ declarator-at at which base size d one s r k b h =
     let j = form-judged d naming at first.0 s first.1 k first.2 in
     let two = bind-gives (form_makes at (Walks.outermost_of size) first.0 base first.1) (λ t. pure (typed.Declares first.0 t)) one r first.3 in
     let made = form-made at (Walks.outermost_of size) first.0 base two.0 first.1 two.1 j.goes.known (still_in s.table first.1.table j.goes.extends base b) two.2 in
-    given-same (λ (v : TypedDeclarator) (q : State). IsDeclaratorJudged (Walks.outermost_of size) base d v s q) (typed.Declares first.0 two.0) one two.1 r two.3 (record {
+    let same_base : shape_at two.1.table base ≡ shape_at s.table base = (goes-on s first.1 two.1 j.goes made.goes.goes).extends.shapes base b in
+    let told : is_function_by (derived_by d NotDerived) (shape_at s.table base) ≡ is_function_shape (shape_at two.1.table two.0) =
+    ap (λ (e : tree.Declarator). is_function_by (derived_by e NotDerived) (shape_at s.table base)) (sym j.erases)
+    ∙ ap (is_function_by (derived_by (erased_form first.0) NotDerived)) (sym same_base)
+    ∙ form_tells two.1.table two.1.seen.scopes (shape_at two.1.table base) first.0 (Walks.outermost_of size) base two.0 NotDerived (unpointed size) made.makes refl in
+    given-same (λ (v : TypedDeclarator) (q : State). IsDeclaratorJudged which (Walks.outermost_of size) base d v s q) (typed.Declares first.0 two.0) one two.1 r two.3 (record {
       typed = subst (IsForm two.1.table first.0 s.seen.scopes) (sym made.goes.scopes)
           (form-kept first.1.table two.1.table made.goes.goes.extends j.goes.known.basic first.0 s.seen.scopes first.1.seen.scopes j.typed);
       makes = made.makes;
+      home = subst (λ (f : Bool). IsHomeOf (unless_function f which) (name_of_form first.0) (home_of_form first.0)) told j.home;
       erases = j.erases;
       there = made.there;
       goes = goes-on s first.1 two.1 j.goes made.goes.goes;

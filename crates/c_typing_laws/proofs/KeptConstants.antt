@@ -1,15 +1,13 @@
 -- What a table that goes on keeps of what is well typed over it: the values of constants, which expressions are null constants, and so
 -- the conversions.
-use Rattle.std.proofs.Common.{◌≡◌, ℕ, ℤ, Bool, true, false, not, ◌&&◌, ◌||◌, ◌==◌, eqb, List, [], ◌∷◌, Option, Some, None, refl, ap, sym, subst, ◌∙◌, inl, inr, ◌⊎◌, IsTrue, if◌then◌else◌}
+use Rattle.std.proofs.Common.{◌≡◌, ℕ, ℤ, Bool, true, false, ◌&&◌, ◌||◌, eqb, Option, Some, None, refl, ap, sym, subst, ◌∙◌, inl, inr, ◌⊎◌, if◌then◌else◌}
 use Rattle.std.proofs.lemmas.Bool.Decides.{Decides-eqb}
 use Rattle.std.proofs.lemmas.Option.{none-some}
 use Rattle.cc_base.specs.declared.place.Place.{Place}
-use Rattle.cc_base.specs.declared.number.NodeId.{NodeId}
 use Rattle.cc_base.specs.declared.number.TypeId.{TypeId}
 use Rattle.c_types.specs.declared.shape.TypeShape.{TypeShape}
 use Rattle.c_types.specs.declared.shape.TypeShape.TheVariants.{Void, Integer, Pointer, Array, Function, Struct, Union}
-use Rattle.c_types.specs.Table.{Table, IsType, HasShape, shape_at}
-use Rattle.c_tree.specs.declared.operator.Binary.{Binary}
+use Rattle.c_types.specs.Table.{Table, IsType, shape_at}
 use Rattle.c_tree.specs.declared.operator.Unary.{Unary}
 use Rattle.c_tree.specs.declared.operator.Unary.TheVariants as unary
 use Rattle.c_tree.specs.declared.typed_word.Conversion.{Conversion}
@@ -19,9 +17,9 @@ use Rattle.c_tree.specs.TypedTree.{TypedExpr}
 use Rattle.c_tree.specs.TypedParts.{type_of, named_type}
 use Rattle.integers.specs.Arithmetic.{IntegerType, converted, computed}
 use Rattle.c_typing.specs.Constants.{constant_value, converted_value, is_to_integer, with_type, with_value, alone, operator_of, cannot_divide, logical, is_true, is_zero_value, is_zero_constant, is_cast_zero, is_null_constant, is_void_pointer, is_void_pointer_shape}
-use Rattle.c_typing.specs.Conversions.{bare, is_plain, IsPlain, to_integer, IsOperand, is_pointer_to_complete, is_pointer_to_complete_shape, is_allocation, takes_over, IsTakenOver, cast_between, cast_conversion}
+use Rattle.c_typing.specs.Conversions.{bare, IsPlain, IsOperand, is_pointer_to_complete, is_pointer_to_complete_shape, is_allocation, takes_over, cast_between}
 use Rattle.c_typing.specs.Extensions.{IsExtended}
-use Rattle.c_typing.specs.Rules.{IsCast, IsScalarCast, IsPrefix, IsPromoted, IsCondition, IsChoice, IsIntegerChoice, IsVoidChoice, is_made_of_place}
+use Rattle.c_typing.specs.Rules.{IsCast, IsScalarCast, IsPrefix, IsIntegerChoice, IsVoidChoice, is_made_of_place}
 use Rattle.c_typing.specs.Scopes.{Scopes}
 use Rattle.c_typing.specs.Settled.{IsBasic}
 use Rattle.c_typing.specs.Shapes.{integer_at, integer_of_shape, is_void_shape, is_scalar_shape}

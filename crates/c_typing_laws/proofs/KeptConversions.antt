@@ -1,26 +1,26 @@
 -- What a table that goes on keeps: conversions, and how pointers meet.
-use Rattle.std.proofs.Common.{◌≡◌, Bool, true, false, ◌&&◌, ◌||◌, Option, Some, None, refl, ap, sym, subst, ◌∙◌, inl, inr, ◌⊎◌, IsTrue, if◌then◌else◌}
+use Rattle.std.proofs.Common.{◌≡◌, Bool, true, false, ◌&&◌, Option, Some, None, refl, ap, sym, subst, ◌∙◌, inl, inr, ◌⊎◌, if◌then◌else◌}
 use Rattle.std.proofs.lemmas.Option.{none-some}
 use Rattle.cc_base.specs.declared.place.Place.{Place}
 use Rattle.cc_base.specs.declared.number.TypeId.{TypeId}
 use Rattle.c_types.specs.declared.shape.TypeShape.{TypeShape}
-use Rattle.c_types.specs.declared.shape.TypeShape.TheVariants.{Void, Integer, Pointer, Array, Function, Struct, Union}
+use Rattle.c_types.specs.declared.shape.TypeShape.TheVariants.{Integer, Pointer}
 use Rattle.c_types.specs.Table.{Table, IsType, shape_at}
 use Rattle.c_tree.specs.declared.typed_word.Conversion.{Conversion}
 use Rattle.c_tree.specs.declared.typed_word.Conversion.TheVariants as conversion
 use Rattle.c_tree.specs.TypedTree as typed
 use Rattle.c_tree.specs.TypedTree.{TypedExpr}
-use Rattle.c_tree.specs.TypedParts.{type_of, first_place}
+use Rattle.c_tree.specs.TypedParts.{type_of}
 use Rattle.c_typing.specs.Constants.{is_null_constant}
-use Rattle.c_typing.specs.Conversions.{bare, IsPlain, is_taken_as, implicit_between, implicit, converting_by, IsConverted, is_allocation, is_pointer_to_complete, takes_over, IsAssignedBy, IsAssigned, cast_between, cast_conversion}
+use Rattle.c_typing.specs.Conversions.{bare, implicit_between, implicit, converting_by, IsConverted, is_allocation, takes_over, IsAssignedBy, IsAssigned, cast_between, cast_conversion}
 use Rattle.c_typing.specs.Extensions.{IsExtended}
-use Rattle.c_typing.specs.Rules.{Meeting, RightIsNull, LeftIsNull, BothPoint, NeverMeet, meeting_pointee, meeting_of, meeting}
+use Rattle.c_typing.specs.Rules.{Meeting, NeverMeet, meeting_of, meeting}
 use Rattle.c_typing.specs.Scopes.{Scopes}
 use Rattle.c_typing.specs.Settled.{IsBasic}
 use Rattle.c_typing.specs.Shapes.{is_void_shape}
 use Rattle.c_typing.specs.Tests.{has_some}
 use Rattle.c_typing.specs.Typing.{IsTyped}
-use Rattle.c_typing_laws.proofs.ExtensionLaws.{no_true, is_in, shape_kept}
+use Rattle.c_typing_laws.proofs.ExtensionLaws.{no_true, shape_kept}
 use Rattle.c_typing_laws.proofs.KeptTypes.{PointsIn, points-in, taken_exact, pointees_exact, pointed_exact}
 use Rattle.c_typing_laws.proofs.KeptConstants.{Own, own-plain, null-in, null-kept, cast-to}
 

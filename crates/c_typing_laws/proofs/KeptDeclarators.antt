@@ -1,6 +1,6 @@
 -- What a table that goes on keeps: the types that specifiers and declarators give.
-use Rattle.std.proofs.Common.{◌≡◌, ◌≢◌, ℕ, suc, ◌+◌, ◌++◌, Bool, true, false, not, ◌&&◌, List, [], ◌∷◌, length, Option, Some, None, refl, ap, sym, subst, ◌∙◌, IsTrue, arith}
-use Rattle.std.specs.List.{All, Contains}
+use Rattle.std.proofs.Common.{◌≡◌, ℕ, Bool, true, false, not, List, [], ◌∷◌, length, Option, Some, None, refl, ap, sym, subst, ◌∙◌, arith}
+use Rattle.std.specs.List.{Contains}
 use Rattle.std.proofs.lemmas.Option.{none-some}
 use Rattle.std.proofs.lemmas.List.{length-append}
 use Rattle.std.proofs.lemmas.List.Elements.{All-contains}
@@ -8,7 +8,7 @@ use Rattle.cc_base.specs.declared.number.NodeId.{NodeId}
 use Rattle.cc_base.specs.declared.number.TypeId.{TypeId}
 use Rattle.c_types.specs.declared.shape.TypeShape.{TypeShape}
 use Rattle.c_types.specs.declared.shape.TypeShape.TheVariants.{Void, Integer, Pointer, Array, Function, Struct, Union}
-use Rattle.c_types.specs.Table.{Table, Entry, IsType, IsComplete, HasShape, shape_at, members_at, named_by, is_empty, is_complete, is_complete_entry}
+use Rattle.c_types.specs.Table.{Table, Entry, IsType, IsComplete, shape_at, members_at, named_by, is_empty, is_complete_entry}
 use Rattle.c_types.proofs.Lists.{contains_head}
 use Rattle.c_tree.specs.declared.leaf.Identifier.{Identifier}
 use Rattle.c_tree.specs.declared.leaf.Word.{Word}
@@ -23,10 +23,10 @@ use Rattle.c_typing.specs.Declarators
 use Rattle.c_typing.specs.Declarators.{Named, NoType, IsEnumeration, IsNamedType, AreOfType, Outermost, Written, Counts, Points, MakesArray, is_result_shape, IsFunctionOf, MakesFunction, nearest, PartsMake, StarsMake, outside, FormMakes, CoreMakes, DeclaredMakes, AdjustedShape, is_derived_declared, is_object_shape, MakesAdjusted, ParameterMakes, taken_types, declarator_names, declarator_types, member_names, member_types}
 use Rattle.c_typing.specs.Extensions.{IsExtended}
 use Rattle.c_typing.specs.Rules.{number_of_shape}
-use Rattle.c_typing.specs.Scopes.{Scopes, is_no_list, is_complete_at}
+use Rattle.c_typing.specs.Scopes.{Scopes, is_no_list}
 use Rattle.c_typing.specs.Settled.{IsBasic}
 use Rattle.c_typing.specs.Shapes.{is_void_shape}
-use Rattle.c_typing.specs.Typing.{IsNewAggregate, IsTagged, BeginsAggregate, EndsAggregate, IsConstant, IsTakenType}
+use Rattle.c_typing.specs.Typing.{IsNewAggregate, IsTagged, BeginsAggregate, EndsAggregate, IsTakenType}
 use Rattle.c_typing_laws.proofs.ExtensionLaws.{no_true, is_in, complete_kept, still_in}
 use Rattle.c_typing_laws.proofs.KeptTypes.{complete_exact}
 use Rattle.c_typing_laws.proofs.KeptConstants.{scalar_in}

@@ -1,5 +1,5 @@
 -- What a table that goes on keeps: each rule of a construct.
-use Rattle.std.proofs.Common.{◌≡◌, ℕ, ◌++◌, Bool, true, false, ◌&&◌, ◌||◌, List, [], ◌∷◌, length, Option, Some, None, refl, ap, sym, subst, ◌∙◌, inl, inr, ◌⊎◌, IsTrue, slice_index_or}
+use Rattle.std.proofs.Common.{◌≡◌, ℕ, ◌++◌, Bool, true, false, List, [], ◌∷◌, length, Some, refl, ap, sym, subst, ◌∙◌, inl, inr, ◌⊎◌, IsTrue, slice_index_or}
 use Rattle.std.specs.List.{AllZip}
 use Rattle.std.proofs.lemmas.Option.{none-some}
 use Rattle.cc_base.specs.declared.place.Place.{Place}
@@ -24,12 +24,12 @@ use Rattle.c_tree.specs.TypedParts.{type_of, place_type, first_place}
 use Rattle.runtime_calls.specs.declared.function.RuntimeType.{RuntimeType}
 use Rattle.runtime_calls.specs.declared.function.RuntimeType.TheVariants as prototype
 use Rattle.runtime_calls.specs.Prototypes.{prototype_of}
-use Rattle.integers.specs.Arithmetic.{IntegerType, int}
-use Rattle.c_typing.specs.Constants.{constant_value, divides_badly, is_null_constant}
-use Rattle.c_typing.specs.Conversions.{bare, IsPlain, IsOperand, takes_over, cast_conversion}
+use Rattle.integers.specs.Arithmetic.{IntegerType}
+use Rattle.c_typing.specs.Constants.{is_null_constant}
+use Rattle.c_typing.specs.Conversions.{bare, IsPlain, IsOperand, takes_over}
 use Rattle.c_typing.specs.Extensions.{IsExtended}
-use Rattle.c_typing.specs.Rules.{IsCompleteAt, IsCondition, IsInteger, IsPointer, IsEnumerator, IsFunctionName, IsRuntimeName, IsStringType, IsTarget, IsElement, HasMember, IsMemberAt, number_of_shape, AreOneStruct, IsDecay, IsAddress, IsFunctionAt, IsPromoted, IsPrefix, IsSize, is_steppable_shape, IsStep, IsArithmetic, IsMoved, IsDifference, AreOrdered, Meeting, RightIsNull, LeftIsNull, BothPoint, NeverMeet, meeting, AreEquated, AreCompared, IsCompared, IsLogical, IsIntegerChoice, IsVoidChoice, IsChoice, meeting_type, side_conversion, into_choice, IsPointerChoice, IsAssignment, IsStructAssignment, IsIntegerUpdate, IsPointerUpdate, IsUpdate, IsScalarCast, IsCast, listed_arguments, IsArgument, IsCall, IsFreed, IsRuntimeArgument, IsRuntimeResult, IsRuntimeCallOf, IsRuntimeCall, IsAllocation, IsAllocationFor}
-use Rattle.c_typing.specs.Scopes.{Scopes, is_complete_at}
+use Rattle.c_typing.specs.Rules.{IsCondition, IsInteger, IsPointer, IsEnumerator, IsFunctionName, IsRuntimeName, IsStringType, IsTarget, IsElement, HasMember, IsMemberAt, number_of_shape, AreOneStruct, IsDecay, IsAddress, IsFunctionAt, IsPromoted, IsPrefix, IsSize, is_steppable_shape, IsStep, IsArithmetic, IsMoved, IsDifference, AreOrdered, Meeting, RightIsNull, LeftIsNull, BothPoint, NeverMeet, meeting, AreEquated, AreCompared, IsCompared, IsLogical, IsIntegerChoice, IsVoidChoice, IsChoice, meeting_type, side_conversion, into_choice, IsPointerChoice, IsAssignment, IsStructAssignment, IsIntegerUpdate, IsPointerUpdate, IsUpdate, IsScalarCast, IsCast, listed_arguments, IsArgument, IsCall, IsRuntimeArgument, IsRuntimeResult, IsRuntimeCallOf, IsRuntimeCall, IsAllocation, IsAllocationFor}
+use Rattle.c_typing.specs.Scopes.{Scopes}
 use Rattle.c_typing.specs.Settled.{IsBasic}
 use Rattle.c_typing.specs.Shapes.{IsScalar, IsPointerTo, is_scalar_shape, is_void_shape, integer_at, integer_of_shape, is_same_type, same_shape, same_step, is_data}
 use Rattle.c_typing.specs.Typing.{IsTyped, AreTyped}

@@ -1,8 +1,8 @@
 -- A table that goes on keeps the whole judgement: what is well typed over one is well typed over each that goes on from it.
-use Rattle.std.proofs.Common.{◌≡◌, Bool, true, false, Option, refl, ap, sym, subst, ◌∙◌}
+use Rattle.std.proofs.Common.{Bool, Option, ap, sym, ◌∙◌}
 use Rattle.cc_base.specs.declared.number.TypeId.{TypeId}
 use Rattle.c_types.specs.declared.shape.TypeShape.{TypeShape}
-use Rattle.c_types.specs.Table.{Table, IsType}
+use Rattle.c_types.specs.Table.{Table}
 use Rattle.c_tree.specs.declared.typed_word.Adjusted.{Adjusted}
 use Rattle.c_tree.specs.Erasure.{erased_declared, erased_specifier_list}
 use Rattle.c_tree.specs.TypedTree as typed

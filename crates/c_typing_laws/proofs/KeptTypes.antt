@@ -1,19 +1,18 @@
 -- What a table that goes on keeps of the types that were there, whether it is so or not: which are the same, which are data, and which
 -- are complete.
-use Rattle.std.proofs.Common.{◌≡◌, ℕ, zero, suc, ◌+◌, ◌<◌, ◌≤◌, Bool, true, false, not, ◌&&◌, ◌||◌, ◌==◌, List, [], ◌∷◌, length, refl, ap, sym, subst, ◌∙◌, if◌then◌else◌, arith}
+use Rattle.std.proofs.Common.{◌≡◌, ℕ, zero, suc, ◌<◌, Bool, false, not, ◌&&◌, ◌||◌, ◌==◌, List, [], ◌∷◌, length, refl, ap, ◌∙◌, if◌then◌else◌, arith}
 use Rattle.std.specs.List.{Contains}
 use Rattle.std.proofs.lemmas.List.Elements.{All-contains}
 use lib.Pointwise.{pointwise}
-use Rattle.cc_base.specs.declared.number.NodeId.{NodeId}
 use Rattle.cc_base.specs.declared.number.TypeId.{TypeId}
 use Rattle.c_types.specs.declared.shape.TypeShape.{TypeShape}
 use Rattle.c_types.specs.declared.shape.TypeShape.TheVariants.{Void, Integer, Pointer, Array, Function, Struct, Union}
 use Rattle.c_types.specs.Table.{Table, IsType, shape_at, members_at, named_by, descend, is_complete_entry}
 use Rattle.c_types.proofs.Lists.{contains_head, contains_tail}
-use Rattle.c_typing.specs.Conversions.{is_taken_as, are_data, points_to_void, is_pointer_to_complete, is_pointer_to_complete_shape}
+use Rattle.c_typing.specs.Conversions.{is_taken_as, points_to_void, is_pointer_to_complete, is_pointer_to_complete_shape}
 use Rattle.c_typing.specs.Constants.{is_void_pointer, is_void_pointer_shape}
 use Rattle.c_typing.specs.Extensions.{IsExtended}
-use Rattle.c_typing.specs.Rules.{Meeting, meeting_pointee, BothPoint, NeverMeet}
+use Rattle.c_typing.specs.Rules.{meeting_pointee, BothPoint, NeverMeet}
 use Rattle.c_typing.specs.Scopes.{Scopes, is_complete_shape_at, is_complete_at}
 use Rattle.c_typing.specs.Settled.{IsBasic}
 use Rattle.c_typing.specs.Shapes.{same_shape, same_step, is_same_type, is_data, is_function_shape, is_void_shape}

@@ -1,5 +1,5 @@
 -- What is known where a struct or union gets its members.
-use Rattle.std.proofs.Common.{◌≡◌, ◌≢◌, ℕ, zero, suc, ◌+◌, ◌<◌, ◌≤◌, Bool, true, false, not, ◌&&◌, List, [], ◌∷◌, length, slice_set, Option, Some, None, refl, ap, sym, subst, ◌∙◌, inl, inr, nat_lt, nat_le, if◌then◌else◌, arith}
+use Rattle.std.proofs.Common.{◌≡◌, ◌≢◌, ℕ, zero, suc, ◌<◌, ◌≤◌, Bool, true, false, not, ◌&&◌, List, [], ◌∷◌, length, slice_set, Option, Some, refl, ap, sym, subst, ◌∙◌, inl, inr, nat_lt, nat_le, if◌then◌else◌, arith}
 use Rattle.std.specs.List.{All, Contains, list_all}
 use Rattle.std.proofs.lemmas.Bool.Decides.{eqb_tells, nat_tests}
 use Rattle.std.proofs.lemmas.List.{length-set}
@@ -10,16 +10,16 @@ use Rattle.cc_base.specs.declared.fault.Fault.TheVariants.{TooLarge}
 use Rattle.cc_base.specs.declared.fault.Limit.TheVariants.{Types, Object}
 use Rattle.c_types.specs.declared.shape.TypeShape.{TypeShape}
 use Rattle.c_types.specs.declared.shape.TypeShape.TheVariants.{Void, Integer, Pointer, Array, Function, Struct, Union}
-use Rattle.c_types.specs.Table.{Table, Entry, HasShape, IsType, IsComplete, entry_at, shape_at, members_at, named_by, is_complete, is_aggregate_shape, is_empty}
+use Rattle.c_types.specs.Table.{Table, Entry, IsType, IsComplete, entry_at, shape_at, members_at, named_by, is_complete, is_aggregate_shape, is_empty}
 use Rattle.c_types.specs.Calls.{with_members, defined_layout}
 use Rattle.c_types.proofs.Defining.{defines, formed_defined}
 use Rattle.c_types.proofs.Growth.{Changes, not_here, layout_other}
 use Rattle.c_tree.specs.TypedTree.{TypedMembers}
 use Rattle.c_typing.specs.Declarators.{member_names, member_types}
 use Rattle.c_typing.specs.Extensions.{IsExtended}
-use Rattle.c_typing.specs.Judging.{State, Outcome, Judging, Gives, Stops, next, by_known}
+use Rattle.c_typing.specs.Judging.{State, Judging, Gives, Stops, next, by_known}
 use Rattle.c_typing.specs.Rules.{number_of_shape}
-use Rattle.c_typing.specs.Scopes.{Name, Scopes, Seen, members_named, is_no_list, is_complete_shape_at, is_complete_at, with_scopes}
+use Rattle.c_typing.specs.Scopes.{Name, Scopes, members_named, is_no_list, is_complete_shape_at, is_complete_at, with_scopes}
 use Rattle.c_typing.specs.Settled.{IsBasic, IsFollowed, AreNumbered, IsKnown, GoesOn}
 use Rattle.c_typing.specs.Specifying.{in_scopes, is_definable, defined, completing, completed}
 use Rattle.c_typing.specs.Typing.{AreDistinct, EndsAggregate}
@@ -27,7 +27,7 @@ use Rattle.c_typing_laws.proofs.ExtensionLaws.{no_true, still_in, and_left, and_
 use Rattle.c_typing_laws.proofs.KeptDeclarators.{whole_by, members_alike}
 use Rattle.c_typing_laws.proofs.KeptTypes.{complete_exact}
 use Rattle.c_typing_laws.proofs.KnownScopes.{levels-kept}
-use Rattle.c_typing_laws.proofs.Outcomes.{bind-gives, gives-value, gives-state, never-gives}
+use Rattle.c_typing_laws.proofs.Outcomes.{gives-value, gives-state, never-gives}
 
 lt_from : (a b : ℕ) → nat_lt a b ≡ true → a < b
 lt_from a b h = grind (arith, nat_tests)

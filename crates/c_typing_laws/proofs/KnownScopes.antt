@@ -1,5 +1,5 @@
 -- What is declared in scopes has its type in the table: where it is looked for, where scopes change, and where the table goes on.
-use Rattle.std.proofs.Common.{◌≡◌, ℕ, ◌<◌, Bool, true, false, List, [], ◌∷◌, ◌++◌, length, Option, Some, None, refl, ap, sym, subst, ◌∙◌, bytes_eq, if◌then◌else◌, arith}
+use Rattle.std.proofs.Common.{◌≡◌, ℕ, Bool, true, false, List, [], ◌∷◌, ◌++◌, Option, Some, None, sym, subst, ◌∙◌, bytes_eq, if◌then◌else◌}
 use Rattle.std.specs.List.{All}
 use Rattle.std.proofs.lemmas.Option.{none-some}
 use Rattle.std.proofs.lemmas.List.Elements.{All-nil, All-cons, All-head, All-tail, All-push, All-weaker}
@@ -15,7 +15,7 @@ use Rattle.c_typing.specs.declared.declared.Tag.TheVariants as tag
 use Rattle.c_typing.specs.Extensions.{IsExtended}
 use Rattle.c_typing.specs.Judging.{State}
 use Rattle.c_typing.specs.Rules.{number_of_shape}
-use Rattle.c_typing.specs.Scopes.{Name, Level, Scopes, entry_of, or_outer, name_in, tag_in, at_innermost, innermost, without_innermost, here, tag_here, empty_level, with_name, with_tag}
+use Rattle.c_typing.specs.Scopes.{Name, Level, Scopes, entry_of, or_outer, name_in, tag_in, at_innermost, innermost, without_innermost, tag_here, empty_level, with_name, with_tag}
 use Rattle.c_typing.specs.Settled.{IsThere, IsTagThere, IsLevelThere, AreNumbered, IsKnown}
 use Rattle.c_typing_laws.proofs.ExtensionLaws.{no_true, still_in}
 

@@ -1,5 +1,5 @@
 -- What is known of the types stays known where one is looked for or added.
-use Rattle.std.proofs.Common.{◌≡◌, ◌≢◌, ℕ, ◌+◌, ◌<◌, ◌≤◌, Bool, true, false, List, [], ◌∷◌, ◌++◌, length, Option, Some, None, refl, ap, sym, subst, ◌∙◌, inl, inr, ◌⊎◌, nat_lt, nat_le, eqb, if◌then◌else◌, arith}
+use Rattle.std.proofs.Common.{◌≡◌, ℕ, ◌+◌, ◌<◌, ◌≤◌, Bool, true, false, List, [], ◌∷◌, ◌++◌, length, Option, Some, None, refl, ap, sym, subst, ◌∙◌, inl, inr, nat_lt, nat_le, if◌then◌else◌, arith}
 use Rattle.std.specs.List.{All, Contains}
 use Rattle.std.proofs.lemmas.Bool.Decides.{eqb_tells, nat_tests}
 use Rattle.std.proofs.lemmas.List.Elements.{All-nil, All-cons, All-contains}
@@ -11,14 +11,13 @@ use Rattle.cc_base.specs.declared.fault.Limit.TheVariants.{Types, Object}
 use Rattle.c_types.specs.declared.shape.TypeShape.{TypeShape}
 use Rattle.c_types.specs.declared.shape.TypeShape.TheVariants.{Void, Integer, Pointer, Array, Function, Struct, Union}
 use Rattle.c_types.specs.Table.{Table, Entry, HasShape, IsType, IsComplete, entry_at, shape_at, named_by, is_complete, is_complete_entry, is_aggregate_shape, parts_of_shape}
-use Rattle.c_types.specs.Sound.{IsWellFormed}
 use Rattle.c_types.specs.Calls.{IsNew, IsAddable, basic_entry, new_layout}
 use Rattle.c_types.proofs.Adding.{appends, formed_added}
 use Rattle.c_types.proofs.Growth.{Changes}
 use Rattle.c_typing.specs.Extensions.{IsExtended, IsTypeWith}
-use Rattle.c_typing.specs.Judging.{State, Outcome, Judging, Gives, Stops, next, ◌>>=◌, pure, new_node, type_among, there_or_added, type_with, pointer_type, Pointing, new_pointer}
+use Rattle.c_typing.specs.Judging.{State, Gives, Stops, ◌>>=◌, pure, new_node, type_among, there_or_added, type_with, pointer_type, Pointing, new_pointer}
 use Rattle.c_typing.specs.Rules.{number_of_shape}
-use Rattle.c_typing.specs.Scopes.{Scopes, Seen, is_complete_shape_at, is_complete_at}
+use Rattle.c_typing.specs.Scopes.{Scopes, Seen, is_complete_shape_at}
 use Rattle.c_typing.specs.Settled.{IsBasic, IsFollowed, AreNumbered, IsKnown, GoesOn, GoesOnThere}
 use Rattle.c_typing_laws.proofs.ExtensionLaws.{no_true, still_in, extended_refl}
 use Rattle.c_typing_laws.proofs.KnownScopes.{levels-kept, no-number, numbered-from}

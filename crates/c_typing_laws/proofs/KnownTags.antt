@@ -1,8 +1,7 @@
 -- What is known where structs and unions are declared, begun and ended.
-use Rattle.std.proofs.Common.{◌≡◌, ◌≢◌, ℕ, zero, suc, ◌+◌, ◌<◌, ◌≤◌, Bool, true, false, not, List, [], ◌∷◌, ◌++◌, length, slice_get, Option, Some, None, refl, ap, sym, subst, ◌∙◌, inl, inr, ◌⊎◌, nat_lt, nat_le, if◌then◌else◌, arith}
-use Rattle.std.specs.List.{All, Contains}
+use Rattle.std.proofs.Common.{◌≡◌, ℕ, zero, suc, ◌+◌, ◌<◌, ◌≤◌, Bool, true, false, not, List, [], ◌∷◌, ◌++◌, length, Option, Some, None, refl, ap, sym, subst, ◌∙◌, inl, inr, ◌⊎◌, nat_lt, nat_le, if◌then◌else◌, arith}
+use Rattle.std.specs.List.{All}
 use Rattle.std.proofs.lemmas.Bool.Decides.{eqb_tells, nat_tests}
-use Rattle.std.proofs.lemmas.Option.{none-some}
 use Rattle.std.proofs.lemmas.List.{length-append}
 use Rattle.std.proofs.lemmas.List.Elements.{All-nil}
 use Rattle.cc_base.specs.declared.place.Place.{Place}
@@ -20,15 +19,15 @@ use Rattle.c_tree.specs.declared.operator.AggregateKind.{AggregateKind}
 use Rattle.c_tree.specs.declared.operator.AggregateKind.TheVariants as kind
 use Rattle.c_typing.specs.declared.declared.Tag.{Tag}
 use Rattle.c_typing.specs.declared.declared.Tag.TheVariants as tag
-use Rattle.c_typing.specs.Extensions.{IsExtended, IsTypeWith}
-use Rattle.c_typing.specs.Judging.{State, Outcome, Judging, Gives, Stops, next, ◌>>=◌, pure, by_known, type_among, there_or_added, type_with}
+use Rattle.c_typing.specs.Extensions.{IsExtended}
+use Rattle.c_typing.specs.Judging.{State, Judging, Gives, Stops, next, ◌>>=◌, type_among, there_or_added, type_with}
 use Rattle.c_typing.specs.Operations.{numbered}
 use Rattle.c_typing.specs.Rules.{number_of_shape}
-use Rattle.c_typing.specs.Scopes.{Name, Level, Scopes, Seen, members_named, is_no_list, is_complete_shape_at, is_complete_at, at_innermost, with_tag, with_scopes}
+use Rattle.c_typing.specs.Scopes.{Name, Scopes, members_named, is_no_list, is_complete_shape_at, with_scopes}
 use Rattle.c_typing.specs.Settled.{IsBasic, IsFollowed, IsLevelThere, IsTagThere, AreNumbered, IsKnown, GoesOn}
 use Rattle.c_typing.specs.Specifying.{in_scopes, new_aggregate}
 use Rattle.c_typing.specs.Typing.{shape_of_kind, counting_aggregate, tagging, IsNewAggregate}
-use Rattle.c_typing_laws.proofs.ExtensionLaws.{no_true, still_in}
+use Rattle.c_typing_laws.proofs.ExtensionLaws.{no_true}
 use Rattle.c_typing_laws.proofs.JudgedMembers.{numbered-gives}
 use Rattle.c_typing_laws.proofs.KnownScopes.{levels-kept, tagged-there}
 use Rattle.c_typing_laws.proofs.KnownStates.{basic_after}

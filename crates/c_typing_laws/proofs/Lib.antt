@@ -31,7 +31,17 @@ pub mod JudgedChoices
 pub mod JudgedNames
 pub mod JudgedCalls
 pub mod JudgedTrees
+pub mod FunctionNames
 pub mod JudgedWhole
+pub mod RefusedDeclarators
+pub mod PartsTaken
+pub mod RefusedTrees
+pub mod RefusedWhole
+pub mod NodeNumbers
+pub mod NumberedConstructs
+pub mod NodesKept
+pub mod NumberedTrees
+pub mod NumberedWhole
 pub mod RefusedConstructs
 pub mod TestsAlike
 pub mod InfixAlike
@@ -39,3 +49,4 @@ pub mod FirstState
 pub mod HeldTrees
 pub mod SidesAlike
 pub mod SidesTaken
+pub mod AnswerLaws

@@ -1,5 +1,5 @@
 -- The type of a parameter: an object's, where what would be an array or a function is made a pointer (C99 6.7.5.3).
-use Rattle.std.proofs.Common.{◌≡◌, ℕ, Bool, true, false, not, ◌&&◌, ◌||◌, List, [], ◌∷◌, Option, Some, None, refl, ap, sym, subst, ◌∙◌, if◌then◌else◌}
+use Rattle.std.proofs.Common.{◌≡◌, ℕ, Bool, true, false, List, [], ◌∷◌, Option, Some, None, refl, ap, sym, subst, ◌∙◌, if◌then◌else◌}
 use Rattle.std.proofs.lemmas.Option.{none-some}
 use Rattle.cc_base.specs.declared.place.Place.{Place}
 use Rattle.cc_base.specs.declared.number.NodeId.{NodeId}
@@ -8,8 +8,7 @@ use Rattle.cc_base.specs.declared.fault.Fault.TheVariants.{TooLarge}
 use Rattle.cc_base.specs.declared.fault.Limit.TheVariants.{Types}
 use Rattle.c_types.specs.declared.shape.TypeShape.{TypeShape}
 use Rattle.c_types.specs.declared.shape.TypeShape.TheVariants.{Void, Integer, Pointer, Array, Function, Struct, Union}
-use Rattle.c_types.specs.Table.{Table, Entry, HasShape, IsType, shape_at, is_complete_entry, is_aggregate_shape}
-use Rattle.c_tree.specs.declared.leaf.Star.{Star}
+use Rattle.c_types.specs.Table.{Table, HasShape, IsType, shape_at, is_complete_entry, is_aggregate_shape}
 use Rattle.c_tree.specs.declared.leaf.Word.{Word}
 use Rattle.c_tree.specs.declared.typed_word.Adjusted.{Adjusted}
 use Rattle.c_tree.specs.declared.typed_word.TypedStar.{TypedStar}
@@ -17,13 +16,12 @@ use Rattle.c_tree.specs.Erasure.{erased_stars, erased_form, erased_core, erased_
 use Rattle.c_tree.specs.TypedTree as typed
 use Rattle.c_tree.specs.TypedTree.{TypedForm, TypedCore, TypedParts, TypedParameters, TypedDeclared}
 use Rattle.c_typing.specs.Adjusting.{Derived, NotDerived, ByStar, ByArray, ByFunction, by_stars, by_parts, derived_by, derived_by_core, derived_by_declared, adjusted_at, adjusted_place}
-use Rattle.c_typing.specs.Declarators.{Outermost, Written, Points, MakesArray, MakesFunction, nearest, is_no_part, PartsMake, StarsMake, is_derived, is_derived_core, outside, FormMakes, CoreMakes, DeclaredMakes, AdjustedShape, is_derived_declared, is_object_shape, MakesAdjusted, ParameterMakes}
-use Rattle.c_typing.specs.Declaring.{declared_makes, adjusted_shape, adjusted_makes, parameter_makes}
-use Rattle.c_typing.specs.Judging.{State, Gives, Stops, pointer_type}
+use Rattle.c_typing.specs.Declarators.{Outermost, Written, Points, MakesArray, MakesFunction, is_no_part, PartsMake, StarsMake, is_derived, is_derived_core, outside, FormMakes, CoreMakes, DeclaredMakes, AdjustedShape, is_derived_declared, is_object_shape, MakesAdjusted, ParameterMakes}
+use Rattle.c_typing.specs.Declaring.{adjusted_shape, adjusted_makes, parameter_makes}
+use Rattle.c_typing.specs.Judging.{State, Gives}
 use Rattle.c_typing.specs.Scopes.{Scopes, is_complete_shape_at}
-use Rattle.c_typing.specs.Settled.{IsKnown, GoesOnThere}
+use Rattle.c_typing.specs.Settled.{IsKnown}
 use Rattle.c_typing.specs.Shapes.{is_scalar_shape}
-use Rattle.c_typing_laws.proofs.ConstructLaws.{or_left, or_right}
 use Rattle.c_typing_laws.proofs.ExtensionLaws.{no_true}
 use Rattle.c_typing_laws.proofs.JudgedForms.{IsMade, declared-made}
 use Rattle.c_typing_laws.proofs.KnownStates.{pointer_type-gives}
@@ -139,7 +137,7 @@ mutual
   form_derived (typed.Form [] core (typed.AndFunction all at parameters)) outer u = no_true (sym u)
   form_derived (typed.Form (star ∷ stars) core parts) outer u = no_true (sym u)
 
-  core_derived : (core : TypedCore) (outer : Derived) → is_derived_core core ≡ false → derived_by_core (erased_core core) outer ≡ outer
+  pub core_derived : (core : TypedCore) (outer : Derived) → is_derived_core core ≡ false → derived_by_core (erased_core core) outer ≡ outer
   core_derived (typed.Names name home) outer u = refl
   core_derived typed.Unnamed outer u = refl
   core_derived (typed.Nested at form) outer u = form_derived form outer u

@@ -1,27 +1,20 @@
 -- Where judging a construct refuses, the first of its rules that is broken is the one that is named.
-use Rattle.std.proofs.Common.{◌≡◌, ℕ, ℤ, ◌+◌, Bool, true, false, not, ◌&&◌, ◌||◌, nat_lt, nat_le, List, [], ◌∷◌, map, length, max, Option, Some, None, refl, ap, sym, subst, ◌∙◌, inl, inr, ◌⊎◌, if◌then◌else◌}
-use Rattle.std.proofs.lemmas.Option.{none-some}
+use Rattle.std.proofs.Common.{◌≡◌, ℕ, ◌+◌, Bool, true, false, ◌&&◌, nat_lt, nat_le, List, [], ◌∷◌, map, max, Option, Some, None, ap, sym, subst, ◌∙◌, inl, inr, if◌then◌else◌}
 use Rattle.cc_base.specs.declared.place.Place.{Place}
-use Rattle.cc_base.specs.declared.number.NodeId.{NodeId}
 use Rattle.cc_base.specs.declared.number.TypeId.{TypeId}
-use Rattle.cc_base.specs.declared.fault.Fault.{Fault}
 use Rattle.cc_base.specs.declared.fault.Fault.TheVariants.{Refused, TooLarge}
-use Rattle.cc_base.specs.declared.fault.Limit.TheVariants.{Types, Globals, Cells}
+use Rattle.cc_base.specs.declared.fault.Limit.TheVariants.{Types, Cells}
 use Rattle.cc_base.specs.declared.fault.Rule.{Rule}
-use Rattle.c_lexer.specs.declared.number.IntegerType.{IntegerType as ConstantType}
 use Rattle.c_types.specs.declared.shape.TypeShape.{TypeShape}
-use Rattle.c_types.specs.declared.shape.TypeShape.TheVariants.{Array}
-use Rattle.c_types.specs.Table.{Table, shape_at}
+use Rattle.c_types.specs.Table.{shape_at}
 use Rattle.c_types.specs.Layouts.{size_of, member_at}
 use Rattle.c_tree.specs.declared.leaf.Identifier.{Identifier}
-use Rattle.c_tree.specs.declared.leaf.StringPiece.{StringPiece}
 use Rattle.c_tree.specs.declared.operator.Assignment.{Assignment}
 use Rattle.c_tree.specs.declared.operator.Assignment.TheVariants as assignment
 use Rattle.c_tree.specs.declared.operator.Binary.{Binary}
 use Rattle.c_tree.specs.declared.operator.Step.{Step}
 use Rattle.c_tree.specs.declared.operator.Unary.{Unary}
 use Rattle.c_tree.specs.declared.typed_word.Runtime.{Runtime}
-use Rattle.c_tree.specs.Places.{pieces_place}
 use Rattle.c_tree.specs.TypedTree as typed
 use Rattle.c_tree.specs.TypedTree.{TypedExpr, TypedPlace, TypedTypeName}
 use Rattle.c_tree.specs.TypedParts.{type_of, place_type, named_type}
@@ -33,18 +26,18 @@ use Rattle.c_typing.specs.Assignments
 use Rattle.c_typing.specs.Cells.{count_cells, pointers_in}
 use Rattle.c_typing.specs.Assignments.{assigned, moved, assign_part, part_type, updated, update_part, update_by, pointer_choice, choice_of_pointers, choice_of_values, choice_of_parts, choice, comma_part, comma, cast_part, size_of_type, called, arguments_held, function_name, named_as, count_global, literal}
 use Rattle.c_typing.specs.Conversions.{is_pointer_to_complete, to_integer}
-use Rattle.c_typing.specs.Integers.{char, common}
-use Rattle.c_typing.specs.Judging.{State, Outcome, Judging, Gives, Stops, next, ◌>>=◌, pure, stop, by_known, Pointing, new_node, new_pointer, type_with, void_type, integer_type}
+use Rattle.c_typing.specs.Integers.{common}
+use Rattle.c_typing.specs.Judging.{State, Gives, Stops, ◌>>=◌, pure, stop, by_known, new_node, new_pointer, void_type, integer_type}
 use Rattle.c_typing.specs.Operands.{Operand, Value, made_for, raw_value, value_of, side_of, given_allocation, given, argument_of}
 use Rattle.c_typing.specs.Operations
 use Rattle.c_typing.specs.Operations.{construct, leaf, size_type, int_type, pointed, target_of, address_behind, address_of_part, address, operator_on, prefix_of, size_of_part, step_part, step_before, step_after, element, index, operation, infix_of, numbered, named_member, Found, found, member_of, member_at_pointer, pointed_member, in_parens, paren, integer, character}
 use Rattle.c_typing.specs.Refusals.{Fails, type_size_tests}
-use Rattle.c_typing.specs.Rules.{pointer_behind, meeting, meeting_type, into_choice, runtime_named, pieces_bytes}
-use Rattle.c_typing.specs.Scopes.{Scopes, name_in, place_among}
+use Rattle.c_typing.specs.Rules.{pointer_behind, meeting, meeting_type, into_choice, runtime_named}
+use Rattle.c_typing.specs.Scopes.{name_in, place_among}
 use Rattle.c_typing.specs.Shapes.{integer_at, pointee_at, is_void_shape}
-use Rattle.c_typing.specs.Tests.{Elaborated, AsPlace, AsValue, AsAllocation, Test, first_broken, has_some, target_tests, address_tests, prefix_tests, size_tests, step_tests, index_tests, infix_tests, member_tests, shape_of, pointed_shape, choice_tests, assign_tests, cast_tests, call_tests, name_tests}
-use Rattle.c_typing_laws.proofs.Outcomes.{NeverRefuses, construct-refuses, gives-never, large-never, next-never, bind-stops, new_node-never, holding-never, never-stops}
-use Rattle.c_typing_laws.proofs.KnownStates.{new_pointer-never, type_with-never}
+use Rattle.c_typing.specs.Tests.{Elaborated, AsPlace, AsValue, AsAllocation, first_broken, has_some, target_tests, address_tests, prefix_tests, size_tests, step_tests, index_tests, infix_tests, member_tests, shape_of, pointed_shape, choice_tests, assign_tests, cast_tests, call_tests, name_tests}
+use Rattle.c_typing_laws.proofs.Outcomes.{NeverRefuses, construct-refuses, gives-never, large-never, next-never, bind-stops, new_node-never}
+use Rattle.c_typing_laws.proofs.KnownStates.{new_pointer-never}
 use Rattle.c_typing_laws.proofs.ValuesTaken.{value_of-never, raw_value-never}
 
 -- steps that refuse nothing
@@ -78,7 +71,7 @@ size-never at begin (AsAllocation e) s =
     next-never (value_of begin (AsAllocation e) s) (λ v. by_known (λ q. pure (AsValue (typed.SizeOfValue at v (size_of q.table (type_of v)) size_type)))) (value_of-never begin (AsAllocation e) s)
     (λ v q. gives-never (AsValue (typed.SizeOfValue at v (size_of q.table (type_of v)) size_type)) q)
 
-numbered-never : (at : Place) (o : Option ℕ) (s : State) → NeverRefuses (numbered at o s)
+pub numbered-never : (at : Place) (o : Option ℕ) (s : State) → NeverRefuses (numbered at o s)
 unfolding numbered
 numbered-never at None s = large-never ℕ at Types s
 numbered-never at (Some i) s = by (nat_lt i 4294967296)
@@ -301,7 +294,7 @@ name-refused at_call word s p t r h =
 
 -- what is given to a type refuses nothing, so an assignment and a cast break a rule of their own
 
-given-never : (t : TypeId) (at : Place) (x : Elaborated) (s : State) → NeverRefuses (given t at x s)
+pub given-never : (t : TypeId) (at : Place) (x : Elaborated) (s : State) → NeverRefuses (given t at x s)
 unfolding given given_allocation
 given-never t at (AsAllocation e) s = by (is_pointer_to_complete s.table s.seen.scopes t)
   where

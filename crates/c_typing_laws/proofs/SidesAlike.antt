@@ -1,13 +1,12 @@
 -- The rules of choices, assignments and casts are broken by what is made of their operands exactly where they are broken by the operands as
 -- they stand.
-use Rattle.std.proofs.Common.{◌≡◌, ℕ, Bool, true, false, not, ◌&&◌, ◌||◌, List, [], ◌∷◌, Option, Some, None, refl, ap, sym, subst, ◌∙◌, inl, inr, ◌⊎◌}
+use Rattle.std.proofs.Common.{◌≡◌, Bool, true, false, not, ◌&&◌, ◌||◌, [], ◌∷◌, refl, ap, sym, ◌∙◌}
 use Rattle.cc_base.specs.declared.place.Place.{Place}
-use Rattle.cc_base.specs.declared.number.NodeId.{NodeId}
 use Rattle.cc_base.specs.declared.number.TypeId.{TypeId}
 use Rattle.cc_base.specs.declared.fault.Rule.TheVariants as rule
 use Rattle.c_types.specs.declared.shape.TypeShape.{TypeShape}
-use Rattle.c_types.specs.declared.shape.TypeShape.TheVariants.{Void, Integer, Pointer, Array, Function, Struct, Union}
-use Rattle.c_types.specs.Table.{Table, shape_at, is_aggregate_shape}
+use Rattle.c_types.specs.declared.shape.TypeShape.TheVariants.{Integer, Pointer}
+use Rattle.c_types.specs.Table.{Table, shape_at}
 use Rattle.c_tree.specs.declared.operator.Assignment.TheVariants as assignment
 use Rattle.c_tree.specs.TypedTree.{TypedExpr}
 use Rattle.c_tree.specs.TypedParts.{type_of}
@@ -15,8 +14,7 @@ use Rattle.c_typing.specs.Conversions.{is_taken_as, implicit_between, cast_betwe
 use Rattle.c_typing.specs.Scopes.{Scopes}
 use Rattle.c_typing.specs.Settled.{flat, IsAlike, IsSideOf}
 use Rattle.c_typing.specs.Shapes.{is_scalar_shape, is_integer_shape, is_pointer_shape, is_void_shape}
-use Rattle.c_typing.specs.Tests.{Elaborated, AsPlace, AsValue, AsAllocation, Test, broken_at, first_broken, shape_of, is_null_part, points_to_incomplete, are_one_struct, meet, has_some, fits, is_castable, is_assignable, choice_tests, assign_tests, cast_tests, can_be_written, is_array_part}
-use Rattle.c_typing.specs.Rules.{is_compound}
+use Rattle.c_typing.specs.Tests.{Elaborated, AsValue, broken_at, shape_of, is_null_part, has_some, fits, choice_tests, assign_tests, cast_tests, can_be_written, is_array_part}
 
 scalar_flat : (x : TypeShape) → is_scalar_shape x ≡ is_scalar_shape (flat x)
 scalar_flat (Pointer n t) = refl
@@ -42,7 +40,7 @@ takes_flat : (T : Table) (x y : TypeShape) → takes T x y ≡ takes T (flat x) 
 takes_flat T (Pointer n t) (Pointer m u) = refl
 takes_flat T x y = refl
 
-fits_flat : (T : Table) (null : Bool) (x y : TypeShape) → has_some (implicit_between T null x y) ≡ has_some (implicit_between T null (flat x) y)
+pub fits_flat : (T : Table) (null : Bool) (x y : TypeShape) → has_some (implicit_between T null x y) ≡ has_some (implicit_between T null (flat x) y)
 fits_flat T null (Integer a s) (Integer b r) = refl
 fits_flat T true x (Pointer n u) = refl
 fits_flat T false (Pointer m t) (Pointer n u) = refl
@@ -59,7 +57,7 @@ module _ (T : Table) (x y : Elaborated) (p : IsSideOf T x y) where
   one : (f : TypeShape → Bool) → ((z : TypeShape) → f z ≡ f (flat z)) → f (shape_of T x) ≡ f (shape_of T y)
   one f same = same (shape_of T x) ∙ ap f p.shape ∙ sym (same (shape_of T y))
 
-  fits_same : (to : TypeShape) → fits T x to ≡ fits T y to
+  pub fits_same : (to : TypeShape) → fits T x to ≡ fits T y to
   fits_same to =
       fits_flat T (is_null_part T x) (shape_of T x) to
       ∙ (λ i. has_some (implicit_between T (p.null i) (p.shape i) to))

@@ -1,5 +1,5 @@
 -- What is given of an operand is a side of it: its rules are the operand's.
-use Rattle.std.proofs.Common.{◌≡◌, ℕ, Bool, true, false, not, ◌&&◌, ◌||◌, List, [], ◌∷◌, Option, Some, None, refl, ap, sym, subst, ◌∙◌, inl, inr, ◌⊎◌, length}
+use Rattle.std.proofs.Common.{◌≡◌, ℕ, Bool, true, false, ◌&&◌, refl, ap, sym, subst, ◌∙◌, length}
 use Rattle.cc_base.specs.declared.place.Place.{Place}
 use Rattle.cc_base.specs.declared.number.NodeId.{NodeId}
 use Rattle.cc_base.specs.declared.number.TypeId.{TypeId}
@@ -11,26 +11,26 @@ use Rattle.c_types.specs.Table.{Table, shape_at, is_aggregate_shape, descend}
 use Rattle.c_tree.specs.Tree as tree
 use Rattle.c_tree.specs.TypedTree as typed
 use Rattle.c_tree.specs.TypedTree.{TypedExpr, TypedPlace}
-use Rattle.c_tree.specs.TypedParts.{type_of, place_type}
+use Rattle.c_tree.specs.TypedParts.{place_type}
 use Rattle.c_typing.specs.Conversions.{is_taken_over, is_pointer_to_complete}
-use Rattle.c_typing.specs.Judging.{State, Outcome, Judging, Gives, Stops, next, ◌>>=◌, pure, new_pointer, void_type}
+use Rattle.c_typing.specs.Judging.{State, Gives, next, pure, new_pointer}
 use Rattle.c_typing.specs.Operands.{made_raw, made_for, raw_value, reading_of, place_value, value_of, side_of, given_allocation, given}
 use Rattle.c_typing.specs.Refusals.{IsElaborated}
 use Rattle.c_typing.specs.Rules.{is_made_of_place}
 use Rattle.c_typing.specs.Scopes.{Scopes}
-use Rattle.c_typing.specs.Settled.{IsKnown, flat, IsAlike, IsSideOf}
+use Rattle.c_typing.specs.Settled.{IsKnown, flat, IsSideOf}
 use Rattle.c_typing.specs.Shapes.{same_shape, same_step, is_same_type, is_scalar_shape}
 use Rattle.c_typing.specs.Tests.{Elaborated, AsPlace, AsValue, AsAllocation, decayed, are_one_struct}
 use Rattle.c_typing_laws.proofs.ExtensionLaws.{no_true}
 use Rattle.c_typing_laws.proofs.ConstructLaws.{has_shape}
 use Rattle.c_typing_laws.proofs.KeptRules.{has-kept}
-use Rattle.c_typing_laws.proofs.Outcomes.{gives-value, gives-state, never-gives, bind-gives}
+use Rattle.c_typing_laws.proofs.Outcomes.{never-gives, bind-gives}
 use Rattle.c_typing_laws.proofs.KnownStates.{new_pointer-gives}
 use Rattle.c_typing_laws.proofs.ValuesTaken.{given-same, natural-no_place}
 use Rattle.c_typing_laws.proofs.JudgedMembers.{raw_made}
 use Rattle.c_typing_laws.proofs.TestsAlike.{value-alike}
 
-side-same : (T : Table) (x : Elaborated) → IsSideOf T x x
+pub side-same : (T : Table) (x : Elaborated) → IsSideOf T x x
 side-same T x = record { shape = refl; null = refl; structs = λ z. (refl, refl) }
 
 same_aggregate : (f : TypeId → TypeId → Bool) (y z : TypeShape) → same_shape f y z ≡ true → is_aggregate_shape y ≡ true → is_aggregate_shape z ≡ true
@@ -48,7 +48,7 @@ unfolding is_same_type
 aggregate_too T t u h v = same_aggregate (descend (same_step T) (λ w. false) (length T)) (shape_at T t) (shape_at T u) h v
 
 module _ (T : Table) (p : TypedPlace) (v : TypedExpr) (h : is_aggregate_shape (shape_at T (place_type p)) ≡ false) where
-  struct_left : (z : Elaborated) → are_one_struct T (AsPlace p) z ≡ are_one_struct T (AsValue v) z
+  pub struct_left : (z : Elaborated) → are_one_struct T (AsPlace p) z ≡ are_one_struct T (AsValue v) z
   struct_left (AsPlace q) = ap (λ (b : Bool). b && is_same_type T (place_type p) (place_type q)) h
   struct_left (AsValue w) = refl
   struct_left (AsAllocation w) = refl
@@ -58,12 +58,12 @@ module _ (T : Table) (p : TypedPlace) (v : TypedExpr) (h : is_aggregate_shape (s
   struct_by q true false x y = refl
   struct_by q false b x y = refl
 
-  struct_right : (z : Elaborated) → are_one_struct T z (AsPlace p) ≡ are_one_struct T z (AsValue v)
+  pub struct_right : (z : Elaborated) → are_one_struct T z (AsPlace p) ≡ are_one_struct T z (AsValue v)
   struct_right (AsPlace q) = struct_by q (is_aggregate_shape (shape_at T (place_type q))) (is_same_type T (place_type q) (place_type p)) refl refl
   struct_right (AsValue w) = refl
   struct_right (AsAllocation w) = refl
 
-scalar_flat : (x : TypeShape) → is_scalar_shape x ≡ true → (flat (decayed x) ≡ flat x) × (is_aggregate_shape x ≡ false)
+pub scalar_flat : (x : TypeShape) → is_scalar_shape x ≡ true → (flat (decayed x) ≡ flat x) × (is_aggregate_shape x ≡ false)
 scalar_flat (Integer bytes signed) h = (refl, refl)
 scalar_flat (Pointer n t) h = (refl, refl)
 scalar_flat Void h = no_true h
@@ -105,16 +105,16 @@ module _ (at : Place) (p : TypedPlace) (v : TypedExpr) (s r : State) (k : IsKnow
   place-side Void a q = never-gives v (TooLarge at Types) s r q
   place-side (Function ps result) a q = never-gives v (TooLarge at Types) s r q
 
-side-natural : (v : TypedExpr) → is_made_of_place v ≡ false → side_of v ≡ AsValue v
+pub side-natural : (v : TypedExpr) → is_made_of_place v ≡ false → side_of v ≡ AsValue v
 side-natural (typed.Unread p) h = no_true (sym h)
 side-natural v h = refl
 
-side-raw : (n : NodeId) (t : TypeId) (e : TypedExpr) → is_taken_over e ≡ true → side_of (made_raw n t e) ≡ AsValue (made_raw n t e)
+pub side-raw : (n : NodeId) (t : TypeId) (e : TypedExpr) → is_taken_over e ≡ true → side_of (made_raw n t e) ≡ AsValue (made_raw n t e)
 side-raw n t (typed.Paren at e) h = refl
 side-raw n t (typed.AllocateFor runtime f at arguments u) h = refl
 side-raw n t e h = no_true h
 
-no_struct_raw : (T : Table) (w v : TypedExpr) (z : Elaborated) → (are_one_struct T (AsAllocation w) z ≡ are_one_struct T (AsValue v) z) × (are_one_struct T z (AsAllocation w) ≡ are_one_struct T z (AsValue v))
+pub no_struct_raw : (T : Table) (w v : TypedExpr) (z : Elaborated) → (are_one_struct T (AsAllocation w) z ≡ are_one_struct T (AsValue v) z) × (are_one_struct T z (AsAllocation w) ≡ are_one_struct T z (AsValue v))
 no_struct_raw T w v (AsPlace q) = (refl, refl)
 no_struct_raw T w v (AsValue u) = (refl, refl)
 no_struct_raw T w v (AsAllocation u) = (refl, refl)

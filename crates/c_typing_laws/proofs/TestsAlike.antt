@@ -1,6 +1,6 @@
 -- The rules of an operator are broken by the values of its operands exactly where they are broken by the operands as they stand: the node
 -- of an array's address plays no part.
-use Rattle.std.proofs.Common.{◌≡◌, ℕ, ℤ, Bool, true, false, not, ◌&&◌, ◌||◌, List, [], ◌∷◌, Option, Some, None, refl, ap, sym, subst, ◌∙◌, inl, inr, ◌⊎◌, if◌then◌else◌}
+use Rattle.std.proofs.Common.{◌≡◌, ℕ, Bool, true, false, not, ◌&&◌, ◌||◌, List, [], ◌∷◌, None, refl, ap, sym, subst, ◌∙◌, inl, inr}
 use Rattle.cc_base.specs.declared.place.Place.{Place}
 use Rattle.cc_base.specs.declared.number.NodeId.{NodeId}
 use Rattle.cc_base.specs.declared.number.TypeId.{TypeId}
@@ -10,35 +10,29 @@ use Rattle.cc_base.specs.declared.fault.Rule.{Rule}
 use Rattle.cc_base.specs.declared.fault.Rule.TheVariants as rule
 use Rattle.c_types.specs.declared.shape.TypeShape.{TypeShape}
 use Rattle.c_types.specs.declared.shape.TypeShape.TheVariants.{Void, Integer, Pointer, Array, Function, Struct, Union}
-use Rattle.c_types.specs.Table.{Table, HasShape, IsAggregate, shape_at, is_aggregate_shape}
-use Rattle.c_tree.specs.declared.operator.Binary.{Binary}
+use Rattle.c_types.specs.Table.{Table, shape_at, is_aggregate_shape}
 use Rattle.c_tree.specs.declared.operator.Unary.{Unary}
 use Rattle.c_tree.specs.declared.operator.Unary.TheVariants as unary
 use Rattle.c_tree.specs.Tree as tree
 use Rattle.c_tree.specs.TypedTree as typed
 use Rattle.c_tree.specs.TypedTree.{TypedExpr, TypedPlace}
 use Rattle.c_tree.specs.TypedParts.{type_of, place_type}
-use Rattle.integers.specs.Arithmetic.{IntegerType}
-use Rattle.c_typing.specs.declared.typing.Reading.{Reading}
-use Rattle.c_typing.specs.declared.typing.Reading.TheVariants as reading
-use Rattle.c_typing.specs.Constants.{constant_value, is_cast_zero, is_null_constant, is_zero_value}
-use Rattle.c_typing.specs.Conversions.{is_taken_as, is_taken_over}
-use Rattle.c_typing.specs.Integers.{is_logical, is_order, is_equality}
-use Rattle.c_typing.specs.Judging.{State, Outcome, Judging, Gives, Stops, next, ◌>>=◌, pure, Pointing, new_pointer, void_type}
-use Rattle.c_typing.specs.Operands.{Operand, Value, made_raw, reading_of, place_value, value_of}
-use Rattle.c_typing.specs.Operations.{is_arithmetic_prefix, target_of, prefix_of, index, infix_of}
+use Rattle.c_typing.specs.Constants.{constant_value, is_cast_zero, is_zero_value}
+use Rattle.c_typing.specs.Conversions.{is_taken_over}
+use Rattle.c_typing.specs.Judging.{State, Gives, Stops, next, pure, new_pointer}
+use Rattle.c_typing.specs.Operands.{Value, made_raw, reading_of, place_value, value_of}
+use Rattle.c_typing.specs.Operations.{is_arithmetic_prefix, target_of, prefix_of, index}
 use Rattle.c_typing.specs.Refusals.{Fails, IsElaborated}
-use Rattle.c_typing.specs.Rules.{IsDecay}
 use Rattle.c_typing.specs.Scopes.{Scopes}
 use Rattle.c_typing.specs.Settled.{IsKnown, flat, IsAlike}
-use Rattle.c_typing.specs.Shapes.{IsScalar, is_scalar_shape, is_integer_shape, is_pointer_shape, integer_at}
-use Rattle.c_typing.specs.Tests.{Elaborated, AsPlace, AsValue, AsAllocation, Test, broken_at, first_broken, decayed, shape_of, is_null_part, points_to_open, points_to_incomplete, is_index_pair, are_integers, is_moving, point_alike, point_to_data, meet, accepts, divides_as, divides_part, target_tests, prefix_tests, index_tests, infix_tests}
+use Rattle.c_typing.specs.Shapes.{is_scalar_shape, is_integer_shape, is_pointer_shape}
+use Rattle.c_typing.specs.Tests.{Elaborated, AsPlace, AsValue, AsAllocation, Test, broken_at, first_broken, decayed, shape_of, points_to_open, points_to_incomplete, is_index_pair, target_tests, prefix_tests, index_tests}
 use Rattle.c_typing_laws.proofs.ExtensionLaws.{no_true}
 use Rattle.c_typing_laws.proofs.ConstructLaws.{has_shape}
 use Rattle.c_typing_laws.proofs.Outcomes.{gives-value, gives-state, never-gives, bind-gives}
 use Rattle.c_typing_laws.proofs.KnownStates.{new_pointer-gives}
 use Rattle.c_typing_laws.proofs.KeptRules.{has-kept}
-use Rattle.c_typing_laws.proofs.RefusedConstructs.{target-refused, prefix-refused, index-refused, infix-refused}
+use Rattle.c_typing_laws.proofs.RefusedConstructs.{target-refused, prefix-refused, index-refused}
 use Rattle.c_typing_laws.proofs.JudgedMembers.{raw_made}
 
 scalar_flat : (x : TypeShape) → is_scalar_shape x ≡ true → flat (decayed x) ≡ flat x

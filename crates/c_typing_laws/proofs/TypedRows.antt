@@ -4,7 +4,7 @@ use Rattle.std.proofs.lemmas.Option.{none-some}
 use Rattle.cc_base.specs.declared.place.Place.{Place}
 use Rattle.cc_base.specs.declared.number.NodeId.{NodeId}
 use Rattle.cc_base.specs.declared.number.TypeId.{TypeId}
-use Rattle.c_types.specs.declared.shape.TypeShape.TheVariants.{Integer, Pointer}
+use Rattle.c_types.specs.declared.shape.TypeShape.TheVariants.{Pointer}
 use Rattle.c_types.specs.Table.{Table}
 use Rattle.c_types.specs.Calls.{basic_table, basic_entry}
 use Rattle.c_lexer.specs.declared.number.IntegerType.TheVariants as constant
@@ -13,7 +13,6 @@ use Rattle.c_tree.specs.declared.operator.Assignment.TheVariants as assignment
 use Rattle.c_tree.specs.declared.operator.Binary.TheVariants as binary
 use Rattle.c_tree.specs.declared.operator.Unary.TheVariants as unary
 use Rattle.c_tree.specs.declared.typed_word.Conversion.TheVariants as conversion
-use Rattle.c_tree.specs.declared.typed_word.Side.TheVariants as side
 use Rattle.c_tree.specs.Tree as tree
 use Rattle.c_tree.specs.TypedTree as typed
 use Rattle.c_tree.specs.TypedTree.{TypedExpr, TypedPlace}
@@ -22,7 +21,7 @@ use Rattle.c_tree.specs.TypedParts.{made_by, nodes_made}
 use Rattle.c_typing.specs.declared.declared.Declared.TheVariants as declared
 use Rattle.c_typing.specs.Scopes.{Scopes}
 use Rattle.c_typing.specs.Constants.{constant_value}
-use Rattle.c_typing.specs.Typing.{IsTyped, IsPlace}
+use Rattle.c_typing.specs.Typing.{IsTyped}
 
 abbrev type : ℕ → TypeId
 type n = record { 0 = n }

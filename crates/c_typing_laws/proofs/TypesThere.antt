@@ -1,38 +1,35 @@
 -- The type of what is well typed is in the table.
-use Rattle.std.proofs.Common.{◌≡◌, ℕ, ◌<◌, ◌≤◌, length, slice_index_or, arith, Bool, true, false, not, ◌&&◌, ◌||◌, List, [], ◌∷◌, Option, Some, None, refl, ap, sym, subst, ◌∙◌, inl, inr, ◌⊎◌, IsTrue}
+use Rattle.std.proofs.Common.{◌≡◌, ℕ, length, Bool, true, false, ◌||◌, List, Some, refl, sym, subst, inl, inr, ◌⊎◌}
 use Rattle.std.specs.List.{All, Contains}
 use Rattle.std.proofs.lemmas.Option.{none-some}
 use Rattle.std.proofs.lemmas.Bool.Decides.{leb_tells}
 use Rattle.std.proofs.lemmas.List.{get_or_past}
 use Rattle.std.proofs.lemmas.List.Elements.{All-contains}
 use Rattle.cc_base.specs.declared.place.Place.{Place}
-use Rattle.cc_base.specs.declared.number.NodeId.{NodeId}
 use Rattle.cc_base.specs.declared.number.TypeId.{TypeId}
 use Rattle.c_types.specs.declared.shape.TypeShape.{TypeShape}
 use Rattle.c_types.specs.declared.shape.TypeShape.TheVariants.{Void, Integer, Pointer, Array, Function, Struct, Union}
-use Rattle.c_types.specs.Table.{Table, HasShape, IsType, IsComplete, shape_at, members_at, entry_at, is_complete, is_complete_entry, named_by, parts_of_shape, is_aggregate_shape}
+use Rattle.c_types.specs.Table.{Table, HasShape, IsType, IsComplete, shape_at, members_at, is_complete_entry, named_by, parts_of_shape}
 use Rattle.c_types.specs.Layouts.{member_at}
 use Rattle.c_types.proofs.Lists.{contains_head}
 use Rattle.c_tree.specs.declared.leaf.Identifier.{Identifier}
 use Rattle.c_tree.specs.declared.operator.Binary.{Binary}
-use Rattle.c_tree.specs.declared.typed_word.Side.{Side}
-use Rattle.c_tree.specs.declared.typed_word.Side.TheVariants as side
 use Rattle.c_tree.specs.TypedTree as typed
 use Rattle.c_tree.specs.TypedTree.{TypedExpr, TypedPlace}
 use Rattle.c_tree.specs.TypedParts.{type_of, place_type, pointer_side}
 use Rattle.runtime_calls.specs.declared.function.RuntimeType.{RuntimeType}
 use Rattle.runtime_calls.specs.declared.function.RuntimeType.TheVariants as prototype
 use Rattle.runtime_calls.specs.Prototypes.{prototype_of}
-use Rattle.c_typing.specs.Conversions.{is_plain, IsPlain}
-use Rattle.c_typing.specs.Rules.{IsPointer, IsStep, is_steppable_shape, IsMoved, IsChoice, IsIntegerChoice, IsVoidChoice, IsUpdate, IsIntegerUpdate, IsPointerUpdate, IsCall, IsRuntimeResult, is_designator, pointer_behind, number_of_shape, HasMember, runtime_named}
+use Rattle.c_typing.specs.Conversions.{is_plain}
+use Rattle.c_typing.specs.Rules.{IsPointer, IsStep, is_steppable_shape, IsIntegerChoice, IsVoidChoice, IsIntegerUpdate, IsPointerUpdate, IsRuntimeResult, is_designator, pointer_behind, number_of_shape, HasMember, runtime_named}
 use Rattle.c_typing.specs.Scopes.{Scopes}
 use Rattle.c_typing.specs.Assignments.{part_type}
-use Rattle.c_typing.specs.Refusals.{is_natural, IsElaborated}
+use Rattle.c_typing.specs.Refusals.{IsElaborated}
 use Rattle.c_typing.specs.Settled.{IsBasic}
 use Rattle.c_typing.specs.Tests.{Elaborated, AsPlace, AsValue, AsAllocation, has_some}
 use Rattle.c_typing_laws.proofs.ValuesTaken.{natural-plain}
 use Rattle.c_tree.specs.Tree as tree
-use Rattle.c_typing.specs.Shapes.{is_void_shape, is_scalar_shape}
+use Rattle.c_typing.specs.Shapes.{is_void_shape}
 use Rattle.c_typing.specs.Typing.{IsTyped, IsPlace}
 use Rattle.c_typing_laws.proofs.ExtensionLaws.{no_true, is_in, not_void, pointer_in}
 use Rattle.c_typing_laws.proofs.KeptConstants.{integer_in, scalar_in, prefix-type, cast-in}

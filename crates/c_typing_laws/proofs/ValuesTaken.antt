@@ -1,6 +1,5 @@
 -- The value of a part is well typed, and erases to what the part erases to.
-use Rattle.std.proofs.Common.{◌≡◌, ℕ, Bool, true, false, not, ◌&&◌, ◌||◌, List, [], ◌∷◌, Option, Some, None, refl, ap, sym, subst, ◌∙◌, inl, inr, ◌⊎◌, IsTrue}
-use Rattle.std.proofs.lemmas.Option.{none-some}
+use Rattle.std.proofs.Common.{◌≡◌, ℕ, Bool, true, false, not, ◌&&◌, ◌||◌, refl, ap, sym, subst, ◌∙◌}
 use Rattle.cc_base.specs.declared.place.Place.{Place}
 use Rattle.cc_base.specs.declared.number.NodeId.{NodeId}
 use Rattle.cc_base.specs.declared.number.TypeId.{TypeId}
@@ -8,7 +7,7 @@ use Rattle.cc_base.specs.declared.fault.Fault.TheVariants.{TooLarge}
 use Rattle.cc_base.specs.declared.fault.Limit.TheVariants.{Types}
 use Rattle.c_types.specs.declared.shape.TypeShape.{TypeShape}
 use Rattle.c_types.specs.declared.shape.TypeShape.TheVariants.{Void, Integer, Pointer, Array, Function, Struct, Union}
-use Rattle.c_types.specs.Table.{Table, HasShape, IsType, IsAggregate, shape_at, is_aggregate_shape}
+use Rattle.c_types.specs.Table.{Table, HasShape, shape_at, is_aggregate_shape}
 use Rattle.c_tree.specs.Erasure.{erased, erased_place}
 use Rattle.c_tree.specs.Tree as tree
 use Rattle.c_tree.specs.TypedTree as typed
@@ -16,23 +15,23 @@ use Rattle.c_tree.specs.TypedTree.{TypedExpr, TypedPlace}
 use Rattle.c_tree.specs.TypedParts.{type_of, place_type}
 use Rattle.c_typing.specs.declared.typing.Reading.{Reading}
 use Rattle.c_typing.specs.declared.typing.Reading.TheVariants as reading
-use Rattle.c_typing.specs.Conversions.{bare, is_plain, IsPlain, is_allocation, is_taken_over}
+use Rattle.c_typing.specs.Conversions.{bare, is_plain, is_allocation, is_taken_over}
 use Rattle.c_typing.specs.Extensions.{IsExtended}
-use Rattle.c_typing.specs.Judging.{State, Outcome, Judging, Gives, Stops, next, ◌>>=◌, pure, by_known, Pointing, new_pointer, void_type}
-use Rattle.c_typing.specs.Operands.{Operand, Value, made_raw, made_for, reading_of, place_value, raw_value, value_of, value}
+use Rattle.c_typing.specs.Judging.{State, Gives, next, pure, new_pointer, void_type}
+use Rattle.c_typing.specs.Operands.{Operand, Value, made_raw, reading_of, place_value, raw_value, value_of, value}
 use Rattle.c_typing.specs.Refusals.{is_natural, IsElaborated}
-use Rattle.c_typing.specs.Rules.{is_made_of_place, runtime_named, IsDecay, IsRuntimeCallOf}
+use Rattle.c_typing.specs.Rules.{is_made_of_place, runtime_named}
 use Rattle.c_typing.specs.Scopes.{Scopes}
-use Rattle.c_typing.specs.Settled.{IsBasic, IsSettled, is_converted, IsValueOf, IsKnown, GoesOn, GoesOnThere}
+use Rattle.c_typing.specs.Settled.{IsBasic, IsSettled, is_converted, IsValueOf, IsKnown, GoesOnThere}
 use Rattle.c_typing.specs.Shapes.{is_scalar_shape, is_void_shape}
 use Rattle.c_typing.specs.Tests.{Elaborated, AsPlace, AsValue, AsAllocation, has_some}
 use Rattle.c_typing.specs.Typing.{IsTyped, IsPlace}
 use Rattle.c_typing_laws.proofs.ExtensionLaws.{no_true, and_left, and_right}
-use Rattle.c_typing_laws.proofs.ConstructLaws.{not_false, has_shape}
+use Rattle.c_typing_laws.proofs.ConstructLaws.{has_shape}
 use Rattle.c_typing_laws.proofs.KeptRules.{has-kept}
 use Rattle.c_typing_laws.proofs.KeptTrees.{value-kept, place-kept}
 use Rattle.c_typing_laws.proofs.Outcomes.{gives-value, gives-state, never-gives, bind-gives, NeverRefuses, gives-never, large-never, next-never}
-use Rattle.c_typing_laws.proofs.KnownStates.{stays, goes-on, there-on, new_pointer-gives, new_pointer-never}
+use Rattle.c_typing_laws.proofs.KnownStates.{stays, new_pointer-gives, new_pointer-never}
 
 pub not_true : (b : Bool) → not b ≡ true → b ≡ false
 not_true false h = refl

@@ -28,6 +28,6 @@ pub fn a_type_name_is_judged()
 
 /// What is judged of a declarator behind specifiers, and of a function's parameters by themselves (C99 6.7.5).
 pub fn a_declarator_is_judged()
-    ensures declarator { (which : Naming) (base : TypedSpecifiers) (size : Option ℕ) (d : tree.Declarator) (one : TypedDeclarator) (s r : State) → IsKnown s → IsType s.table (specified_type base) → judge_declarator which base size d s ≡ Gives one r → IsDeclaratorJudged (outermost_of size) (specified_type base) d one s r }
+    ensures declarator { (which : Naming) (base : TypedSpecifiers) (size : Option ℕ) (d : tree.Declarator) (one : TypedDeclarator) (s r : State) → IsKnown s → IsType s.table (specified_type base) → judge_declarator which base size d s ≡ Gives one r → IsDeclaratorJudged which (outermost_of size) (specified_type base) d one s r }
     ensures prototype { (at : Place) (all : tree.Parameters) (list : TypedParameters) (s r : State) → IsKnown s → judge_prototype at all s ≡ Gives list r → IsPrototypeJudged all list s r }
 {}

@@ -13,7 +13,9 @@ pub mod judged;
 pub mod lists;
 pub mod members;
 pub mod names;
+pub mod numbers;
 pub mod operators;
+pub mod refusals;
 pub mod refused;
 pub mod specifiers;
 

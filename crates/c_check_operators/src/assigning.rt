@@ -1,7 +1,7 @@
 //! Assignments (C99 6.5.16).
 #![tactic(auto)]
 
-ghost use Rattle.std.specs.Prelude.{◌≡◌, true, IfOk, Some};
+ghost use Rattle.std.specs.Prelude.{◌≡◌, ◌&&◌, ◌||◌, true, IfOk, Some};
 ghost use Rattle.c_tree.specs.declared.operator.Assignment.TheVariants as assignment;
 ghost use Rattle.c_tree.specs.TypedParts.{type_of, place_type};
 ghost use Rattle.c_tree.specs.TypedTree as typed;
@@ -11,7 +11,7 @@ ghost use Rattle.c_typing.specs.Judging.{Answers, known};
 ghost use Rattle.c_typing.specs.KindViews.{kind_view};
 ghost use Rattle.c_typing.specs.OperandViews.{part_view, operand_view, value_view, part_ref_view};
 ghost use Rattle.c_typing.specs.Rules as rules;
-ghost use Rattle.c_typing.specs.Shapes.{integer_at};
+ghost use Rattle.c_typing.specs.Shapes.{integer_at, is_integer_shape, is_pointer_shape};
 ghost use Rattle.c_typing.specs.Tests as tests;
 ghost use Rattle.c_typing.specs.Tests.{first_broken, AsPlace, AsValue};
 
@@ -24,7 +24,7 @@ use crate::operators::is_moving;
 use crate::step::is_array_part;
 use crate::unary::to_integer;
 use crate::value_shape::shape_of;
-use c_tree::{Assignment, Boxed, TypedExpr, TypedPlace};
+use c_tree::{Assignment, Binary, Boxed, TypedExpr, TypedPlace};
 use c_types::Types;
 use c_typing::construct::held_with_two;
 use c_typing::kind::{Kind, assigning, left_kind, right_kind};
@@ -49,16 +49,24 @@ pub(crate) fn are_one_struct(types: &Types, x: PartRef, y: PartRef) -> bool
     }
 }
 
-/// Whether a compound assignment takes these operands.
-fn is_updatable(types: &Types, operator: Assignment, x: PartRef, y: PartRef) -> bool
-    requires { rules.is_compound operator ≡ true }
-    ensures { result ≡ tests.is_assignable types.now operator (part_ref_view x.entry) (part_ref_view y.entry) }
+/// Whether an assignment by this operator takes these operands.
+fn are_updatable(types: &Types, operator: Binary, x: PartRef, y: PartRef) -> bool
+    ensures { result ≡ (tests.are_integers (tests.shape_of types.now (part_ref_view x.entry)) (tests.shape_of types.now (part_ref_view y.entry)) || ((is_pointer_shape (tests.shape_of types.now (part_ref_view x.entry)) && is_integer_shape (tests.shape_of types.now (part_ref_view y.entry))) && tests.is_moving types.now operator (tests.shape_of types.now (part_ref_view x.entry)) (tests.shape_of types.now (part_ref_view y.entry)))) }
 {
     let left = shape_of(types, x);
     let right = shape_of(types, y);
     are_integers(left.get(), right.get())
         || ((is_pointer(left.get()) && is_integer(right.get()))
-            && is_moving(types, assigning(operator), left.get(), right.get()))
+            && is_moving(types, operator, left.get(), right.get()))
+}
+
+/// Whether a compound assignment takes these operands.
+fn is_updatable(types: &Types, operator: Assignment, x: PartRef, y: PartRef) -> bool
+    requires { rules.is_compound operator ≡ true }
+    ensures { result ≡ tests.is_assignable types.now operator (part_ref_view x.entry) (part_ref_view y.entry) }
+{
+    let binary = assigning(operator);
+    are_updatable(types, binary, x, y)
 }
 
 fn is_assignable(types: &Types, x: PartRef, y: PartRef) -> bool

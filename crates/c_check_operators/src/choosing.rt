@@ -252,7 +252,7 @@ fn struct_choice(
 
 /// The parts of a `?:`: its condition, its first token, its `?` and its sides.
 #[derive(Drop)]
-struct Choice {
+struct Sides {
     condition: TypedExpr,
     begin: Place,
     at: Place,
@@ -332,10 +332,10 @@ fn choice_with_value(
 }
 
 #[tactic(auto, unfolding(c_typing::specs::Assignments::choice_of_parts))]
-fn choice_of_parts(scope: &mut Scope, types: &mut Types, sides: Choice) -> Result<Part, Fault>
+fn choice_of_parts(scope: &mut Scope, types: &mut Types, sides: Sides) -> Result<Part, Fault>
     ensures { Answers part_view (assignments.choice_of_parts (typed_expr_view sides.condition) sides.begin sides.at (part_view sides.x) (part_view sides.y) (known types.old scope.old)) result (known types.new scope.new) }
 {
-    let Choice {
+    let Sides {
         condition,
         begin,
         at,
@@ -350,7 +350,7 @@ fn choice_of_parts(scope: &mut Scope, types: &mut Types, sides: Choice) -> Resul
 }
 
 /// A `?:` that breaks no rule, and how many values it holds at once.
-fn allowed_choice(types: &Types, sides: Choice, held: u64) -> Result<(Choice, u32), Fault>
+fn allowed_choice(types: &Types, sides: Sides, held: u64) -> Result<(Sides, u32), Fault>
     ensures ok { IfOk result (λ r. (first_broken (tests.choice_tests types.now sides.at (AsValue (typed_expr_view sides.condition)) (part_view sides.x) (part_view sides.y)) ≡ None) × (r.0 ≡ sides) × (r.1 ≡ held) × (held ≤ 256)) }
     ensures err { IfErr result (λ f. (first_broken (tests.choice_tests types.now sides.at (AsValue (typed_expr_view sides.condition)) (part_view sides.x) (part_view sides.y)) ≡ Some f) ⊎ ((first_broken (tests.choice_tests types.now sides.at (AsValue (typed_expr_view sides.condition)) (part_view sides.x) (part_view sides.y)) ≡ None) × (256 < held) × (f ≡ TooLarge sides.begin Held))) }
 {
@@ -377,7 +377,7 @@ pub fn choice(
 {
     let place = c.place;
     let held = held_with_three(c.held, a.held, b.held);
-    let sides = Choice {
+    let sides = Sides {
         condition: c.expr,
         begin: place,
         at,

@@ -112,6 +112,22 @@ fn pointer_conditional(
     Ok(TypedExpr::PointerConditional(condition, at, a, b, made.node, made.ty))
 }
 
+/// Both sides of a `?:` of pointers, which flow into the type of the whole.
+fn both_into_choice(
+    scope: &Scope,
+    types: &Types,
+    at: Place,
+    t: TypeId,
+    a: TypedExpr,
+    b: TypedExpr,
+) -> Result<(TypedExpr, TypedExpr), NoMemory>
+    ensures { IfOk result (λ pair. (typed_expr_view pair.0 ≡ rules.into_choice types.now at t (typed_expr_view a)) × (typed_expr_view pair.1 ≡ rules.into_choice types.now at t (typed_expr_view b))) }
+{
+    let a = into_choice(scope, types, at, t, a)?;
+    let b = into_choice(scope, types, at, t, b)?;
+    Ok((a, b))
+}
+
 /// `?:` of two that flow into this pointer type.
 fn chosen_pointer(
     scope: &Scope,
@@ -121,16 +137,8 @@ fn chosen_pointer(
 ) -> Result<TypedExpr, NoMemory>
     ensures { IfOk result (λ e. typed_expr_view e ≡ typed.PointerConditional (typed_expr_view x.condition) x.at (rules.into_choice types.now x.at made.ty (typed_expr_view x.a)) (rules.into_choice types.now x.at made.ty (typed_expr_view x.b)) made.node made.ty) }
 {
-    let Chosen {
-        condition,
-        at,
-        a,
-        b,
-        ..
-    } = x;
-    let a = into_choice(scope, types, at, made.ty, a)?;
-    let b = into_choice(scope, types, at, made.ty, b)?;
-    pointer_conditional(scope, condition, at, a, b, made)
+    let (a, b) = both_into_choice(scope, types, x.at, made.ty, x.a, x.b)?;
+    pointer_conditional(scope, x.condition, x.at, a, b, made)
 }
 
 /// `?:` of pointers to this type.
@@ -206,21 +214,28 @@ fn choice_of_pointers(scope: &mut Scope, types: &mut Types, x: Chosen) -> Result
     pointer_choice(scope, types, x, to)
 }
 
+/// Two integers, each converted to this type.
+fn both_to_integer(
+    scope: &Scope,
+    at: Place,
+    t: TypeId,
+    a: TypedExpr,
+    b: TypedExpr,
+) -> Result<(TypedExpr, TypedExpr), NoMemory>
+    ensures { IfOk result (λ pair. (typed_expr_view pair.0 ≡ to_integer at t (typed_expr_view a)) × (typed_expr_view pair.1 ≡ to_integer at t (typed_expr_view b))) }
+{
+    let a = to_integer(scope, at, t, a)?;
+    let b = to_integer(scope, at, t, b)?;
+    Ok((a, b))
+}
+
 /// `?:` of two integers, each converted to the type in which they meet.
 fn integer_choice(scope: &Scope, x: Chosen, left: Kind, right: Kind) -> Result<TypedExpr, NoMemory>
     ensures { IfOk result (λ e. typed_expr_view e ≡ typed.Conditional (typed_expr_view x.condition) x.at (to_integer x.at (integer_type (common (kind_view left) (kind_view right))) (typed_expr_view x.a)) (to_integer x.at (integer_type (common (kind_view left) (kind_view right))) (typed_expr_view x.b)) (integer_type (common (kind_view left) (kind_view right)))) }
 {
-    let Chosen {
-        condition,
-        at,
-        a,
-        b,
-        ..
-    } = x;
     let t = left.common(right).ty();
-    let a = to_integer(scope, at, t, a)?;
-    let b = to_integer(scope, at, t, b)?;
-    conditional(scope, condition, at, a, b, t)
+    let (a, b) = both_to_integer(scope, x.at, t, x.a, x.b)?;
+    conditional(scope, x.condition, x.at, a, b, t)
 }
 
 /// `?:` of two values.

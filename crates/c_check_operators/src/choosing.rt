@@ -1,9 +1,7 @@
 //! `?:` and `,` (C99 6.5.15, 6.5.17).
 #![tactic(auto)]
 
-ghost use Rattle.std.specs.Prelude.{◌≡◌, ◌<◌, ◌≤◌, ◌⊎◌, ◌&&◌, ◌||◌, IfOk, IfErr, Some, None};
-ghost use Rattle.cc_base.specs.declared.fault.Fault.TheVariants.{TooLarge};
-ghost use Rattle.cc_base.specs.declared.fault.Limit.TheVariants.{Held};
+ghost use Rattle.std.specs.Prelude.{◌≡◌, ◌&&◌, ◌||◌, IfOk, Some};
 ghost use Rattle.c_types.specs.Table.{shape_at};
 ghost use Rattle.c_tree.specs.TypedParts.{type_of};
 ghost use Rattle.c_tree.specs.TypedTree as typed;
@@ -11,7 +9,7 @@ ghost use Rattle.c_tree.specs.TypedViews.{typed_expr_view, typed_place_view};
 ghost use Rattle.c_typing.specs.Assignments as assignments;
 ghost use Rattle.c_typing.specs.Conversions.{to_integer};
 ghost use Rattle.c_typing.specs.Integers.{common};
-ghost use Rattle.c_typing.specs.Judging.{Answers, integer_type, known, void_type};
+ghost use Rattle.c_typing.specs.Judging.{Answers, integer_type, known, next, pure, void_type};
 ghost use Rattle.c_typing.specs.KindViews.{kind_view};
 ghost use Rattle.c_typing.specs.OperandViews.{part_view, operand_view, value_view, part_ref_view};
 ghost use Rattle.c_typing.specs.Rules as rules;
@@ -364,18 +362,18 @@ fn choice_of_parts(scope: &mut Scope, types: &mut Types, sides: Sides) -> Result
     }
 }
 
-/// A `?:` that breaks no rule, and how many values it holds at once.
-fn allowed_choice(types: &Types, sides: Sides, held: u64) -> Result<(Sides, u32), Fault>
-    ensures ok { IfOk result (λ r. (first_broken (tests.choice_tests types.now sides.at (AsValue (typed_expr_view sides.condition)) (part_view sides.x) (part_view sides.y)) ≡ None) × (r.0 ≡ sides) × (r.1 ≡ held) × (held ≤ 256)) }
-    ensures err { IfErr result (λ f. (first_broken (tests.choice_tests types.now sides.at (AsValue (typed_expr_view sides.condition)) (part_view sides.x) (part_view sides.y)) ≡ Some f) ⊎ ((first_broken (tests.choice_tests types.now sides.at (AsValue (typed_expr_view sides.condition)) (part_view sides.x) (part_view sides.y)) ≡ None) × (256 < held) × (f ≡ TooLarge sides.begin Held))) }
+/// A `?:` that breaks no rule and holds so many values at once.
+fn allowed_choice(
+    scope: &mut Scope,
+    types: &mut Types,
+    sides: Sides,
+    held: u32,
+) -> Result<Operand, Fault>
+    ensures { Answers operand_view (next (assignments.choice_of_parts (typed_expr_view sides.condition) sides.begin sides.at (part_view sides.x) (part_view sides.y) (known types.old scope.old)) (λ x. pure (record { part = x; place = sides.begin; held = held }))) result (known types.new scope.new) }
 {
-    let x = sides.x.as_ref();
-    let y = sides.y.as_ref();
-    let fault = choice_fault(types, sides.at, &sides.condition, x, y);
-    match held_within(fault, sides.begin, held) {
-        Ok(held) => Ok((sides, held)),
-        Err(fault) => Err(fault),
-    }
+    let place = sides.begin;
+    let part = choice_of_parts(scope, types, sides)?;
+    Ok(Operand { part, place, held })
 }
 
 /// `?:` (C99 6.5.15).
@@ -390,18 +388,23 @@ pub fn choice(
 ) -> Result<Operand, Fault>
     ensures { Answers operand_view (assignments.choice (value_view c) at (value_view a) (value_view b) (known types.old scope.old)) result (known types.new scope.new) }
 {
-    let place = c.place;
+    let begin = c.place;
     let held = held_with_three(c.held, a.held, b.held);
+    let condition = c.expr;
+    let x = side_of(a.expr);
+    let y = side_of(b.expr);
+    let fault = choice_fault(types, at, &condition, x.as_ref(), y.as_ref());
     let sides = Sides {
-        condition: c.expr,
-        begin: place,
+        condition,
+        begin,
         at,
-        x: side_of(a.expr),
-        y: side_of(b.expr),
+        x,
+        y,
     };
-    let (sides, held) = allowed_choice(types, sides, held)?;
-    let part = choice_of_parts(scope, types, sides)?;
-    Ok(Operand { part, place, held })
+    match held_within(fault, begin, held) {
+        Ok(held) => allowed_choice(scope, types, sides, held),
+        Err(fault) => Err(fault),
+    }
 }
 
 /// `,` before a struct.

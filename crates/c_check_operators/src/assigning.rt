@@ -7,7 +7,7 @@ ghost use Rattle.c_tree.specs.TypedParts.{type_of, place_type};
 ghost use Rattle.c_tree.specs.TypedTree as typed;
 ghost use Rattle.c_tree.specs.TypedViews.{typed_expr_view, typed_place_view};
 ghost use Rattle.c_typing.specs.Assignments as assignments;
-ghost use Rattle.c_typing.specs.Judging.{Answers, known};
+ghost use Rattle.c_typing.specs.Judging.{Answers, known, next, pure};
 ghost use Rattle.c_typing.specs.KindViews.{kind_view};
 ghost use Rattle.c_typing.specs.OperandViews.{part_view, operand_view, value_view, part_ref_view};
 ghost use Rattle.c_typing.specs.Rules as rules;
@@ -217,6 +217,22 @@ fn assign_part(scope: &mut Scope, types: &Types, at: Place, x: Part, y: Part) ->
     }
 }
 
+/// `=` that breaks no rule and holds so many values at once.
+fn allowed_assign(
+    scope: &mut Scope,
+    types: &mut Types,
+    x: Operand,
+    at: Place,
+    y: Operand,
+    held: u32,
+) -> Result<Operand, Fault>
+    ensures { Answers operand_view (next (assignments.assign_part at (part_view x.part) (part_view y.part) (known types.old scope.old)) (λ made. pure (record { part = made; place = x.place; held = held }))) result (known types.new scope.new) }
+{
+    let place = x.place;
+    let part = assign_part(scope, types, at, x.part, y.part)?;
+    Ok(Operand { part, place, held })
+}
+
 /// `=` with what is given to its left side.
 #[tactic(auto, unfolding(c_typing::specs::Assignments::assign_given, c_typing::specs::Operations::construct, c_typing::specs::Judging::holding))]
 fn assign_given(
@@ -228,16 +244,12 @@ fn assign_given(
 ) -> Result<Operand, Fault>
     ensures { Answers operand_view (assignments.assign_given (operand_view x) at (operand_view y) (known types.old scope.old)) result (known types.new scope.new) }
 {
-    let Operand { part, place, held } = x;
-    let Operand {
-        part: given,
-        held: held_after,
-        ..
-    } = y;
-    let fault = assign_fault(scope, types, at, &part, &given);
-    let held = held_within(fault, place, held_with_two(held, held_after))?;
-    let part = assign_part(scope, types, at, part, given)?;
-    Ok(Operand { part, place, held })
+    let held = held_with_two(x.held, y.held);
+    let fault = assign_fault(scope, types, at, &x.part, &y.part);
+    match held_within(fault, x.place, held) {
+        Ok(held) => allowed_assign(scope, types, x, at, y, held),
+        Err(fault) => Err(fault),
+    }
 }
 
 /// `=` (C99 6.5.16.1).

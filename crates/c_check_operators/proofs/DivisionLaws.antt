@@ -1,5 +1,5 @@
 -- The quotient of two constants, each in the type that the operator asks for.
-use Rattle.std.proofs.Common.{◌≡◌, ℤ, Bool, Some, sym}
+use Rattle.std.proofs.Common.{◌≡◌, ℤ, Bool, Some, refl}
 use Rattle.c_types.specs.Sound.{IsIntegerSize}
 use Rattle.c_tree.specs.declared.operator.Binary.{Binary}
 use Rattle.integers.specs.Arithmetic.{IntegerType}

@@ -1,3 +1,4 @@
+pub mod AssigningLaws
 pub mod DivisionLaws
 pub mod SizeLaws
 pub mod CallLaws

@@ -1,17 +1,17 @@
 //! Assignments (C99 6.5.16).
 #![tactic(auto)]
 
-ghost use Rattle.std.specs.Prelude.{◌≡◌, true, IfOk, Some};
+ghost use Rattle.std.specs.Prelude.{◌≡◌, ◌&&◌, ◌||◌, true, IfOk, Some};
 ghost use Rattle.c_tree.specs.declared.operator.Assignment.TheVariants as assignment;
 ghost use Rattle.c_tree.specs.TypedParts.{type_of, place_type};
 ghost use Rattle.c_tree.specs.TypedTree as typed;
 ghost use Rattle.c_tree.specs.TypedViews.{typed_expr_view, typed_place_view};
 ghost use Rattle.c_typing.specs.Assignments as assignments;
-ghost use Rattle.c_typing.specs.Judging.{Answers, known};
+ghost use Rattle.c_typing.specs.Judging.{Answers, known, next, pure};
 ghost use Rattle.c_typing.specs.KindViews.{kind_view};
 ghost use Rattle.c_typing.specs.OperandViews.{part_view, operand_view, value_view, part_ref_view};
 ghost use Rattle.c_typing.specs.Rules as rules;
-ghost use Rattle.c_typing.specs.Shapes.{integer_at};
+ghost use Rattle.c_typing.specs.Shapes.{integer_at, is_integer_shape, is_pointer_shape};
 ghost use Rattle.c_typing.specs.Tests as tests;
 ghost use Rattle.c_typing.specs.Tests.{first_broken, AsPlace, AsValue};
 
@@ -24,7 +24,7 @@ use crate::operators::is_moving;
 use crate::step::is_array_part;
 use crate::unary::to_integer;
 use crate::value_shape::shape_of;
-use c_tree::{Assignment, Boxed, TypedExpr, TypedPlace};
+use c_tree::{Assignment, Binary, Boxed, TypedExpr, TypedPlace};
 use c_types::Types;
 use c_typing::construct::held_with_two;
 use c_typing::kind::{Kind, assigning, left_kind, right_kind};
@@ -49,16 +49,24 @@ pub(crate) fn are_one_struct(types: &Types, x: PartRef, y: PartRef) -> bool
     }
 }
 
-/// Whether a compound assignment takes these operands.
-fn is_updatable(types: &Types, operator: Assignment, x: PartRef, y: PartRef) -> bool
-    requires { rules.is_compound operator ≡ true }
-    ensures { result ≡ tests.is_assignable types.now operator (part_ref_view x.entry) (part_ref_view y.entry) }
+/// Whether an assignment by this operator takes these operands.
+fn are_updatable(types: &Types, operator: Binary, x: PartRef, y: PartRef) -> bool
+    ensures { result ≡ (tests.are_integers (tests.shape_of types.now (part_ref_view x.entry)) (tests.shape_of types.now (part_ref_view y.entry)) || ((is_pointer_shape (tests.shape_of types.now (part_ref_view x.entry)) && is_integer_shape (tests.shape_of types.now (part_ref_view y.entry))) && tests.is_moving types.now operator (tests.shape_of types.now (part_ref_view x.entry)) (tests.shape_of types.now (part_ref_view y.entry)))) }
 {
     let left = shape_of(types, x);
     let right = shape_of(types, y);
     are_integers(left.get(), right.get())
         || ((is_pointer(left.get()) && is_integer(right.get()))
-            && is_moving(types, assigning(operator), left.get(), right.get()))
+            && is_moving(types, operator, left.get(), right.get()))
+}
+
+/// Whether a compound assignment takes these operands.
+fn is_updatable(types: &Types, operator: Assignment, x: PartRef, y: PartRef) -> bool
+    requires { rules.is_compound operator ≡ true }
+    ensures { result ≡ tests.is_assignable types.now operator (part_ref_view x.entry) (part_ref_view y.entry) }
+{
+    let binary = assigning(operator);
+    are_updatable(types, binary, x, y)
 }
 
 fn is_assignable(types: &Types, x: PartRef, y: PartRef) -> bool
@@ -209,6 +217,22 @@ fn assign_part(scope: &mut Scope, types: &Types, at: Place, x: Part, y: Part) ->
     }
 }
 
+/// `=` that breaks no rule and holds so many values at once.
+fn allowed_assign(
+    scope: &mut Scope,
+    types: &mut Types,
+    x: Operand,
+    at: Place,
+    y: Operand,
+    held: u32,
+) -> Result<Operand, Fault>
+    ensures { Answers operand_view (next (assignments.assign_part at (part_view x.part) (part_view y.part) (known types.old scope.old)) (λ made. pure (record { part = made; place = x.place; held = held }))) result (known types.new scope.new) }
+{
+    let place = x.place;
+    let part = assign_part(scope, types, at, x.part, y.part)?;
+    Ok(Operand { part, place, held })
+}
+
 /// `=` with what is given to its left side.
 #[tactic(auto, unfolding(c_typing::specs::Assignments::assign_given, c_typing::specs::Operations::construct, c_typing::specs::Judging::holding))]
 fn assign_given(
@@ -220,16 +244,12 @@ fn assign_given(
 ) -> Result<Operand, Fault>
     ensures { Answers operand_view (assignments.assign_given (operand_view x) at (operand_view y) (known types.old scope.old)) result (known types.new scope.new) }
 {
-    let Operand { part, place, held } = x;
-    let Operand {
-        part: given,
-        held: held_after,
-        ..
-    } = y;
-    let fault = assign_fault(scope, types, at, &part, &given);
-    let held = held_within(fault, place, held_with_two(held, held_after))?;
-    let part = assign_part(scope, types, at, part, given)?;
-    Ok(Operand { part, place, held })
+    let held = held_with_two(x.held, y.held);
+    let fault = assign_fault(scope, types, at, &x.part, &y.part);
+    match held_within(fault, x.place, held) {
+        Ok(held) => allowed_assign(scope, types, x, at, y, held),
+        Err(fault) => Err(fault),
+    }
 }
 
 /// `=` (C99 6.5.16.1).

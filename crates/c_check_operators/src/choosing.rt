@@ -1,9 +1,7 @@
 //! `?:` and `,` (C99 6.5.15, 6.5.17).
 #![tactic(auto)]
 
-ghost use Rattle.std.specs.Prelude.{◌≡◌, ◌<◌, ◌≤◌, ◌⊎◌, ◌&&◌, ◌||◌, IfOk, IfErr, Some, None};
-ghost use Rattle.cc_base.specs.declared.fault.Fault.TheVariants.{TooLarge};
-ghost use Rattle.cc_base.specs.declared.fault.Limit.TheVariants.{Held};
+ghost use Rattle.std.specs.Prelude.{◌≡◌, ◌&&◌, ◌||◌, IfOk, Some};
 ghost use Rattle.c_types.specs.Table.{shape_at};
 ghost use Rattle.c_tree.specs.TypedParts.{type_of};
 ghost use Rattle.c_tree.specs.TypedTree as typed;
@@ -11,7 +9,7 @@ ghost use Rattle.c_tree.specs.TypedViews.{typed_expr_view, typed_place_view};
 ghost use Rattle.c_typing.specs.Assignments as assignments;
 ghost use Rattle.c_typing.specs.Conversions.{to_integer};
 ghost use Rattle.c_typing.specs.Integers.{common};
-ghost use Rattle.c_typing.specs.Judging.{Answers, integer_type, known, void_type};
+ghost use Rattle.c_typing.specs.Judging.{Answers, integer_type, known, next, pure, void_type};
 ghost use Rattle.c_typing.specs.KindViews.{kind_view};
 ghost use Rattle.c_typing.specs.OperandViews.{part_view, operand_view, value_view, part_ref_view};
 ghost use Rattle.c_typing.specs.Rules as rules;
@@ -112,6 +110,22 @@ fn pointer_conditional(
     Ok(TypedExpr::PointerConditional(condition, at, a, b, made.node, made.ty))
 }
 
+/// Both sides of a `?:` of pointers, which flow into the type of the whole.
+fn both_into_choice(
+    scope: &Scope,
+    types: &Types,
+    at: Place,
+    t: TypeId,
+    a: TypedExpr,
+    b: TypedExpr,
+) -> Result<(TypedExpr, TypedExpr), NoMemory>
+    ensures { IfOk result (λ pair. (typed_expr_view pair.0 ≡ rules.into_choice types.now at t (typed_expr_view a)) × (typed_expr_view pair.1 ≡ rules.into_choice types.now at t (typed_expr_view b))) }
+{
+    let a = into_choice(scope, types, at, t, a)?;
+    let b = into_choice(scope, types, at, t, b)?;
+    Ok((a, b))
+}
+
 /// `?:` of two that flow into this pointer type.
 fn chosen_pointer(
     scope: &Scope,
@@ -121,16 +135,8 @@ fn chosen_pointer(
 ) -> Result<TypedExpr, NoMemory>
     ensures { IfOk result (λ e. typed_expr_view e ≡ typed.PointerConditional (typed_expr_view x.condition) x.at (rules.into_choice types.now x.at made.ty (typed_expr_view x.a)) (rules.into_choice types.now x.at made.ty (typed_expr_view x.b)) made.node made.ty) }
 {
-    let Chosen {
-        condition,
-        at,
-        a,
-        b,
-        ..
-    } = x;
-    let a = into_choice(scope, types, at, made.ty, a)?;
-    let b = into_choice(scope, types, at, made.ty, b)?;
-    pointer_conditional(scope, condition, at, a, b, made)
+    let (a, b) = both_into_choice(scope, types, x.at, made.ty, x.a, x.b)?;
+    pointer_conditional(scope, x.condition, x.at, a, b, made)
 }
 
 /// `?:` of pointers to this type.
@@ -206,21 +212,28 @@ fn choice_of_pointers(scope: &mut Scope, types: &mut Types, x: Chosen) -> Result
     pointer_choice(scope, types, x, to)
 }
 
+/// Two integers, each converted to this type.
+fn both_to_integer(
+    scope: &Scope,
+    at: Place,
+    t: TypeId,
+    a: TypedExpr,
+    b: TypedExpr,
+) -> Result<(TypedExpr, TypedExpr), NoMemory>
+    ensures { IfOk result (λ pair. (typed_expr_view pair.0 ≡ to_integer at t (typed_expr_view a)) × (typed_expr_view pair.1 ≡ to_integer at t (typed_expr_view b))) }
+{
+    let a = to_integer(scope, at, t, a)?;
+    let b = to_integer(scope, at, t, b)?;
+    Ok((a, b))
+}
+
 /// `?:` of two integers, each converted to the type in which they meet.
 fn integer_choice(scope: &Scope, x: Chosen, left: Kind, right: Kind) -> Result<TypedExpr, NoMemory>
     ensures { IfOk result (λ e. typed_expr_view e ≡ typed.Conditional (typed_expr_view x.condition) x.at (to_integer x.at (integer_type (common (kind_view left) (kind_view right))) (typed_expr_view x.a)) (to_integer x.at (integer_type (common (kind_view left) (kind_view right))) (typed_expr_view x.b)) (integer_type (common (kind_view left) (kind_view right)))) }
 {
-    let Chosen {
-        condition,
-        at,
-        a,
-        b,
-        ..
-    } = x;
     let t = left.common(right).ty();
-    let a = to_integer(scope, at, t, a)?;
-    let b = to_integer(scope, at, t, b)?;
-    conditional(scope, condition, at, a, b, t)
+    let (a, b) = both_to_integer(scope, x.at, t, x.a, x.b)?;
+    conditional(scope, x.condition, x.at, a, b, t)
 }
 
 /// `?:` of two values.
@@ -252,7 +265,7 @@ fn struct_choice(
 
 /// The parts of a `?:`: its condition, its first token, its `?` and its sides.
 #[derive(Drop)]
-struct Choice {
+struct Sides {
     condition: TypedExpr,
     begin: Place,
     at: Place,
@@ -332,10 +345,10 @@ fn choice_with_value(
 }
 
 #[tactic(auto, unfolding(c_typing::specs::Assignments::choice_of_parts))]
-fn choice_of_parts(scope: &mut Scope, types: &mut Types, sides: Choice) -> Result<Part, Fault>
+fn choice_of_parts(scope: &mut Scope, types: &mut Types, sides: Sides) -> Result<Part, Fault>
     ensures { Answers part_view (assignments.choice_of_parts (typed_expr_view sides.condition) sides.begin sides.at (part_view sides.x) (part_view sides.y) (known types.old scope.old)) result (known types.new scope.new) }
 {
-    let Choice {
+    let Sides {
         condition,
         begin,
         at,
@@ -349,18 +362,18 @@ fn choice_of_parts(scope: &mut Scope, types: &mut Types, sides: Choice) -> Resul
     }
 }
 
-/// A `?:` that breaks no rule, and how many values it holds at once.
-fn allowed_choice(types: &Types, sides: Choice, held: u64) -> Result<(Choice, u32), Fault>
-    ensures ok { IfOk result (λ r. (first_broken (tests.choice_tests types.now sides.at (AsValue (typed_expr_view sides.condition)) (part_view sides.x) (part_view sides.y)) ≡ None) × (r.0 ≡ sides) × (r.1 ≡ held) × (held ≤ 256)) }
-    ensures err { IfErr result (λ f. (first_broken (tests.choice_tests types.now sides.at (AsValue (typed_expr_view sides.condition)) (part_view sides.x) (part_view sides.y)) ≡ Some f) ⊎ ((first_broken (tests.choice_tests types.now sides.at (AsValue (typed_expr_view sides.condition)) (part_view sides.x) (part_view sides.y)) ≡ None) × (256 < held) × (f ≡ TooLarge sides.begin Held))) }
+/// A `?:` that breaks no rule and holds so many values at once.
+fn allowed_choice(
+    scope: &mut Scope,
+    types: &mut Types,
+    sides: Sides,
+    held: u32,
+) -> Result<Operand, Fault>
+    ensures { Answers operand_view (next (assignments.choice_of_parts (typed_expr_view sides.condition) sides.begin sides.at (part_view sides.x) (part_view sides.y) (known types.old scope.old)) (λ x. pure (record { part = x; place = sides.begin; held = held }))) result (known types.new scope.new) }
 {
-    let x = sides.x.as_ref();
-    let y = sides.y.as_ref();
-    let fault = choice_fault(types, sides.at, &sides.condition, x, y);
-    match held_within(fault, sides.begin, held) {
-        Ok(held) => Ok((sides, held)),
-        Err(fault) => Err(fault),
-    }
+    let place = sides.begin;
+    let part = choice_of_parts(scope, types, sides)?;
+    Ok(Operand { part, place, held })
 }
 
 /// `?:` (C99 6.5.15).
@@ -375,18 +388,23 @@ pub fn choice(
 ) -> Result<Operand, Fault>
     ensures { Answers operand_view (assignments.choice (value_view c) at (value_view a) (value_view b) (known types.old scope.old)) result (known types.new scope.new) }
 {
-    let place = c.place;
+    let begin = c.place;
     let held = held_with_three(c.held, a.held, b.held);
-    let sides = Choice {
-        condition: c.expr,
-        begin: place,
+    let condition = c.expr;
+    let x = side_of(a.expr);
+    let y = side_of(b.expr);
+    let fault = choice_fault(types, at, &condition, x.as_ref(), y.as_ref());
+    let sides = Sides {
+        condition,
+        begin,
         at,
-        x: side_of(a.expr),
-        y: side_of(b.expr),
+        x,
+        y,
     };
-    let (sides, held) = allowed_choice(types, sides, held)?;
-    let part = choice_of_parts(scope, types, sides)?;
-    Ok(Operand { part, place, held })
+    match held_within(fault, begin, held) {
+        Ok(held) => allowed_choice(scope, types, sides, held),
+        Err(fault) => Err(fault),
+    }
 }
 
 /// `,` before a struct.

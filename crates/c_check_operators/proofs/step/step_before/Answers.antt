@@ -5,8 +5,11 @@ use Rattle.c_check_operators.proofs.step.step_before.Goals as goal
 
 pub returns-in_err-part : goal.returns-in_err-part
 returns-in_err-part c =
-    search (rules, before_stops c.args.operator c.args.at c.args.x c.in_ok-allowed.allowed.part (known c.args.types.now c.args.scope.now) (known c.args.types.now c.args.scope.now)
-    (sym c.step_fault-fault.ensures ∙ c.in_ok-allowed.ensures.ok.0) c.in_ok-allowed.ensures.ok.3 c.in_ok-allowed.ensures.ok.1)
+    search (
+      rules,
+      before_stops c.args.operator c.args.at c.args.x c.in_ok-allowed.allowed.part (known c.args.types.now c.args.scope.now) (known c.args.types.now c.args.scope.now)
+          (sym c.step_fault-fault.ensures ∙ c.in_ok-allowed.ensures.ok.0) c.in_ok-allowed.ensures.ok.3 c.in_ok-allowed.ensures.ok.1,
+    )
 
 pub returns : goal.returns
 returns c =

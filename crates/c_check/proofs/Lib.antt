@@ -1,3 +1,5 @@
-pub mod RefusedUnit
-pub mod TypedRow
 pub mod LinkageLaws
+pub mod SlotLaws
+pub mod SeriesLaws
+pub mod LiteralLaws
+pub mod DeclaratorLaws

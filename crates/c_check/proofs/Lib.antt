@@ -3,3 +3,5 @@ pub mod SlotLaws
 pub mod SeriesLaws
 pub mod LiteralLaws
 pub mod DeclaratorLaws
+pub mod RefusedUnit
+pub mod TypedRow

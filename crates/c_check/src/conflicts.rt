@@ -100,7 +100,11 @@ fn conflicts_with_runtime(types: &Types, function: Option<Runtime>, what: Declar
 {
     match (function, what) {
         (None, _) => false,
-        (Some(function), Declared::Function(t)) => !is_prototype(types, function, shape_at(types, t)),
+        (Some(function), Declared::Function(t)) => !is_prototype(
+            types,
+            function,
+            shape_at(types, t),
+        ),
         (Some(_), _) => true,
     }
 }

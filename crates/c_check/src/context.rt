@@ -13,10 +13,10 @@ ghost use Rattle.c_check.specs.UnitJudging.{Answers, lifted};
 
 use crate::linkage::Linkage;
 use c_check_expr::{check_constant, check_declarator, check_expr, check_specifiers, check_value};
-use c_typing::{Naming, Scope};
 use c_check_operators::literals::count_global;
 use c_tree::{Declarator, Expr, Specifiers, TypedDeclarator, TypedExpr, TypedSpecifiers};
 use c_types::Types;
+use c_typing::{Naming, Scope};
 use cc_base::{Fault, Place, TypeId};
 
 /// The types, what names stand for, and what has linkage.

@@ -10,10 +10,10 @@ ghost use Rattle.c_check.specs.UnitJudging.{Answers};
 ghost use Rattle.c_check.specs.StatementJudging as judging;
 
 use crate::context::Context;
-use c_typing::stops::refusal;
 use c_check_operators::unary::to_integer;
-use c_typing::shapes::{integer_at, is_integer, is_scalar, is_void, shape_at};
 use c_tree::{Expr, TypedExpr};
+use c_typing::shapes::{integer_at, is_integer, is_scalar, is_void, shape_at};
+use c_typing::stops::refusal;
 use cc_base::{Fault, NoMemory, Place, Rule, TypeId};
 
 impl Context {

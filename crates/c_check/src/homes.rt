@@ -91,10 +91,18 @@ pub(crate) fn naming_for(file: bool, storage: Storage, first: Option<&Declared>)
         Storage::AsTypedef => Naming::None,
         Storage::AsExtern => first_home(first),
         Storage::AsStatic => {
-            if file { first_home(first) } else { Naming::Static }
+            if file {
+                first_home(first)
+            } else {
+                Naming::Static
+            }
         }
         Storage::Unstored | Storage::AsAutomatic => {
-            if file { first_home(first) } else { Naming::Local }
+            if file {
+                first_home(first)
+            } else {
+                Naming::Local
+            }
         }
     }
 }

@@ -13,9 +13,9 @@ ghost use Rattle.c_check.specs.UnitJudging.{Answers};
 ghost use Rattle.c_check.specs.StatementJudging as judging;
 
 use crate::context::Context;
-use c_typing::stops::{no_room, refusal};
 use c_tree::{Expr, TypedExpr};
 use c_typing::shapes::integer_at;
+use c_typing::stops::{no_room, refusal};
 use c_typing::value::converted;
 use cc_base::{Fault, NoMemory, Place, Rule, TypeId};
 use indexmap::IndexSet;

@@ -9,10 +9,10 @@ ghost use Rattle.c_check.specs.UnitJudging.{Answers};
 ghost use Rattle.c_check.specs.DeclarationJudging as judging;
 
 use crate::context::Context;
-use c_typing::stops::no_room;
 use crate::linkage::Linkage;
-use c_typing::{Declared, Scope};
 use c_tree::Identifier;
+use c_typing::stops::no_room;
+use c_typing::{Declared, Scope};
 use cc_base::{Fault, NoMemory, NodeId};
 use std::alloc::Global;
 

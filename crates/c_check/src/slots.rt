@@ -26,9 +26,7 @@ fn char_count_of_element(element: Option<&TypeShape>, count: u64) -> Option<u64>
     ensures { result ≡ initialisers.char_count_of_element (shape_or_void (option_copied element.entry)) count }
 {
     match element {
-        Some(TypeShape::Integer { bytes, .. }) => {
-            if *bytes == 1 { Some(count) } else { None }
-        }
+        Some(TypeShape::Integer { bytes, .. }) => { if *bytes == 1 { Some(count) } else { None } }
         _ => None,
     }
 }

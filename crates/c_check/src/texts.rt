@@ -7,9 +7,9 @@ ghost use Rattle.c_check.specs.UnitJudging.{Answers};
 ghost use Rattle.c_check.specs.InitialiserJudging as judging;
 
 use crate::context::Context;
-use c_typing::stops::refusal;
 use c_check_operators::literals::{copied_pieces, pieces_bytes};
 use c_tree::{Items, StringPiece, TypedInitialiser};
+use c_typing::stops::refusal;
 use cc_base::{Fault, NoMemory, Place, Rule};
 
 /// The bytes of a literal and its zero byte, as far as so many characters hold them.

@@ -1,3 +1,7 @@
+pub mod LinkageLaws
+pub mod SlotLaws
+pub mod SeriesLaws
+pub mod LiteralLaws
+pub mod DeclaratorLaws
 pub mod RefusedUnit
 pub mod TypedRow
-pub mod LinkageLaws

@@ -46,3 +46,8 @@ names-added bytes eq same ks changed k name l seen named made =
     ∙ ap (λ b. cond b (map bytes ks) (map bytes ks ++ bytes k ∷ []))
     (any-same (eq k) (λ x. bytes_eq (bytes k) (bytes x)) (same k) ks ∙ sym (any-map bytes (bytes_eq (bytes k)) ks))
     ∙ ap (λ n. with_name n (map bytes ks)) named)
+
+-- a set with a new key
+pub value-added : {K : Type 0} (eq : K → K → Bool) (ks changed l : List K) (k : K)
+    → ks ≡ l → changed ≡ insert_key eq ks k → list_any (eq k) l ≡ false → changed ≡ l ++ k ∷ []
+value-added eq ks changed l k seen made new = made ∙ ap (λ m. insert_key eq m k) seen ∙ ap (λ b. cond b l (l ++ k ∷ [])) new

@@ -11,3 +11,4 @@ pub mod DeclarationJudging
 pub mod StatementJudging
 pub mod DefinitionJudging
 pub mod Labels
+pub mod CodeViews

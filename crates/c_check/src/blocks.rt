@@ -6,12 +6,12 @@ ghost use Rattle.c_typing.specs.Declaring.{entered, left};
 ghost use Rattle.c_check.specs.UnitJudging.{Answers, lifted};
 
 use crate::context::Context;
-use crate::faults::never;
+use c_typing::stops::no_room;
 use cc_base::{Fault, Place};
 
 impl Context {
     /// A scope begins.
-    #[tactic(auto, unfolding(c_check_expr::specs::Declaring::entered))]
+    #[tactic(auto, unfolding(c_typing::specs::Declaring::entered))]
     pub(crate) fn enter(&mut self) -> Result<(), Fault>
         ensures { Answers (λ u. true) (lifted entered self.old) result self.new }
     {
@@ -20,12 +20,12 @@ impl Context {
     }
 
     /// The innermost scope ends; the file's never does.
-    #[tactic(auto, unfolding(c_check_expr::specs::Declaring::left))]
+    #[tactic(auto, unfolding(c_typing::specs::Declaring::left))]
     pub(crate) fn leave(&mut self, at: Place) -> Result<(), Fault>
         ensures { Answers (λ u. true) (lifted (left at true) self.old) result self.new }
     {
         if self.scope.depth() < 2 {
-            return Err(never(at));
+            return Err(no_room(at));
         }
         self.scope.leave();
         Ok(())

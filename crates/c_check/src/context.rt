@@ -4,6 +4,7 @@
 ghost use Rattle.std.specs.Prelude.{◌≡◌};
 ghost use Rattle.c_tree.specs.Views.{expr_view, specifiers_view, declarator_view};
 ghost use Rattle.c_tree.specs.TypedViews.{typed_expr_view, typed_specifiers_view, typed_declarator_view};
+ghost use Rattle.c_typing.specs.Assignments.{count_global};
 ghost use Rattle.c_typing.specs.Cells.{count_cells};
 ghost use Rattle.c_typing.specs.Checking.{checked, checked_value, checked_constant};
 ghost use Rattle.c_check_expr.specs.CheckingViews.{constant_view};
@@ -11,11 +12,11 @@ ghost use Rattle.c_typing.specs.Walks.{judge_specifiers_of, judge_declarator};
 ghost use Rattle.c_check.specs.UnitJudging.{Answers, lifted};
 
 use crate::linkage::Linkage;
-use c_check_expr::{
-    Naming, Scope, check_constant, check_declarator, check_expr, check_specifiers, check_value,
-};
+use c_check_expr::{check_constant, check_declarator, check_expr, check_specifiers, check_value};
+use c_check_operators::literals::count_global;
 use c_tree::{Declarator, Expr, Specifiers, TypedDeclarator, TypedExpr, TypedSpecifiers};
 use c_types::Types;
+use c_typing::{Naming, Scope};
 use cc_base::{Fault, Place, TypeId};
 
 /// The types, what names stand for, and what has linkage.
@@ -83,5 +84,12 @@ impl Context {
         ensures { Answers (λ u. u) (lifted (count_cells at t) self.old) result self.new }
     {
         c_check_expr::count_cells(&mut self.scope, &self.types, at, t)
+    }
+
+    /// The bytes of an object that lives as long as the program are counted.
+    pub(crate) fn count_global(&mut self, at: Place, bytes: u64) -> Result<u64, Fault>
+        ensures { Answers (λ n. n) (lifted (count_global at bytes) self.old) result self.new }
+    {
+        count_global(&mut self.scope, &self.types, at, bytes)
     }
 }

@@ -13,8 +13,10 @@ ghost use Rattle.c_check.specs.UnitJudging.{Answers};
 ghost use Rattle.c_check.specs.StatementJudging as judging;
 
 use crate::context::Context;
-use crate::faults::{never, refused};
 use c_tree::{Expr, TypedExpr};
+use c_typing::shapes::integer_at;
+use c_typing::stops::{no_room, refusal};
+use c_typing::value::converted;
 use cc_base::{Fault, NoMemory, Place, Rule, TypeId};
 use indexmap::IndexSet;
 use std::alloc::Global;
@@ -70,11 +72,12 @@ impl Labels {
 }
 
 impl Context {
-    /// Stub.
-    fn label_value(&self, _on: Option<TypeId>, _value: i128) -> Result<Option<i128>, NoMemory>
-        ensures { IfOk result (λ o. o ≡ judging.label_as self.now.types _on _value) }
+    /// A constant as a label of a `switch` on a value of the type.
+    fn label_value(&self, on: Option<TypeId>, value: i128) -> Option<i128>
+        ensures { result ≡ judging.label_as self.now.types on value }
     {
-        Err(NoMemory)
+        let kind = integer_at(&self.types, on?)?;
+        Some(converted(kind, value))
     }
 
     /// `case`: its expression, and its value in the type of the `switch`.
@@ -90,11 +93,11 @@ impl Context {
         ensures labels { IfOk result (λ c. labels.new ≡ record labels.old { values = labels.old.values ++ c.1 ∷ [] }) }
     {
         let (e, value) = self.constant(e)?;
-        let Some(value) = self.label_value(on, value)? else {
-            return Err(never(at));
+        let Some(value) = self.label_value(on, value) else {
+            return Err(no_room(at));
         };
         if labels.values.has(value) {
-            return Err(refused(Rule::Redeclared, at));
+            return Err(refusal(at, Rule::Redeclared));
         }
         labels.values.add(value)?;
         Ok((e, value))

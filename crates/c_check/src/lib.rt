@@ -3,10 +3,17 @@
 
 mod around;
 mod blocks;
+mod conflicts;
+mod constants;
 mod context;
+mod declarations;
 mod expressions;
-mod faults;
+mod homes;
+mod initialisers;
 mod labels;
 mod linkage;
 mod names;
+mod objects;
+mod sizes;
+mod slots;
 mod texts;

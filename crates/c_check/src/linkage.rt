@@ -1,13 +1,13 @@
 //! What is known of names with linkage (C99 6.2.2, 6.9), and of objects that live as long as the program.
 #![tactic(auto)]
 
-ghost use Rattle.std.specs.Prelude.{◌≡◌, [], ◌∷◌, ◌++◌, OnOk, None, option_copied};
+ghost use Rattle.std.specs.Prelude.{◌≡◌, [], ◌∷◌, ◌++◌, OnOk, None, map, option_copied};
 ghost use Rattle.c_typing.specs.Scopes.{entry_of};
 ghost use Rattle.c_check.specs.Initialisers.{is_among, with_home};
 ghost use Rattle.c_check.specs.Linkage.{no_linkage, with_name};
 ghost use Rattle.c_check.specs.Units.{is_one_of};
 
-use c_check_expr::Declared;
+use c_typing::Declared;
 use cc_base::{NoMemory, NodeId};
 use indexmap::{IndexMap, IndexSet};
 use std::alloc::Global;
@@ -60,6 +60,20 @@ impl Model for Names {
 }
 
 impl Names {
+    /// No name. Takes no memory.
+    pub(crate) fn new(alloc: Global) -> Names
+        ensures { result ≡ [] }
+    {
+        Names(IndexSet::new(alloc))
+    }
+
+    /// The set itself.
+    pub(crate) fn into_set(self) -> IndexSet<Vec<u8>>
+        ensures { map (λ k. k.items) result.keys ≡ self }
+    {
+        self.0
+    }
+
     pub(crate) fn has(&self, name: &[u8]) -> bool
         ensures { result ≡ is_one_of self.now name.now }
     {

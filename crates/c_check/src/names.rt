@@ -9,10 +9,10 @@ ghost use Rattle.c_check.specs.UnitJudging.{Answers};
 ghost use Rattle.c_check.specs.DeclarationJudging as judging;
 
 use crate::context::Context;
-use crate::faults::never;
 use crate::linkage::Linkage;
-use c_check_expr::{Declared, Scope};
 use c_tree::Identifier;
+use c_typing::stops::no_room;
+use c_typing::{Declared, Scope};
 use cc_base::{Fault, NoMemory, NodeId};
 use std::alloc::Global;
 
@@ -48,7 +48,7 @@ impl Context {
         ensures { Answers (λ u. what) (judging.new_name name.now what self.old) result self.new }
     {
         if self.scope.here(name.bytes.as_slice()).is_some() {
-            return Err(never(name.place));
+            return Err(no_room(name.place));
         }
         self.scope.declare(name.bytes.as_slice(), what)?;
         Ok(())

@@ -1,32 +1,41 @@
 //! Initialisers (C99 6.7.8).
 #![tactic(auto)]
 
-ghost use Rattle.std.specs.Prelude.{◌≡◌, Some, map};
-ghost use Rattle.c_tree.specs.Views.{expr_view};
+ghost use Rattle.std.specs.Prelude.{◌≡◌, ◌&&◌, map};
+ghost use Rattle.c_types.specs.Table.{shape_at};
+ghost use Rattle.c_tree.specs.Tree as tree;
 ghost use Rattle.c_tree.specs.TypedTree as typed;
+ghost use Rattle.c_tree.specs.Views.{added, expr_view};
 ghost use Rattle.c_tree.specs.StatementViews.{initialiser_view, items_of};
 ghost use Rattle.c_tree.specs.TypedViews.{typed_expr_view};
 ghost use Rattle.c_tree.specs.TypedStatementViews.{typed_initialiser_view, typed_item_view};
-ghost use Rattle.c_tree.specs.Views.{added};
-ghost use Rattle.c_tree.specs.Tree as tree;
-ghost use Rattle.c_check.specs.Initialisers.{items_count};
+ghost use Rattle.c_check.specs.Initialisers.{items_count, is_char_array};
 ghost use Rattle.c_check.specs.declared.context.Context.{Context as SeenContext};
 ghost use Rattle.c_check.specs.UnitJudging.{Answers, Gives};
 ghost use Rattle.c_check.specs.InitialiserJudging as judging;
 
 use crate::constants::is_constant;
 use crate::context::Context;
-use crate::faults::refused;
+use crate::sizes::only_literal;
 use crate::slots::{char_count, item_slot};
-use c_check_expr::{is_scalar, shape_at};
 use c_tree::{Expr, Initialiser, Items, TypedExpr, TypedInitialiser, TypedItem};
+use c_types::Types;
+use c_typing::shapes::{is_scalar, shape_at};
+use c_typing::stops::{no_room, refusal};
 use cc_base::{Fault, Place, Rule, TypeId};
 
-/// Whether a literal stands in the braces by itself.
-fn is_only_literal(items: &[Initialiser]) -> bool
-    ensures { result ≡ judging.is_only_literal (items_of (map initialiser_view items.now)) }
+/// The first place of a text.
+const NOWHERE: Place = Place { line: 1, col: 1 };
+
+/// Whether what is listed for a type is a literal for the whole of it.
+#[tactic(auto, using(crate::proofs::LiteralLaws::is_literal, crate::proofs::LiteralLaws::is_no_literal))]
+fn is_text(types: &Types, items: &[Initialiser], t: TypeId) -> bool
+    ensures { result ≡ (judging.is_only_literal (items_of (map initialiser_view items.now)) && is_char_array types.now t) }
 {
-    matches!(items, [Initialiser::Value(Expr::String(_))])
+    match only_literal(items) {
+        Some(_) => char_count(types, t).is_some(),
+        None => false,
+    }
 }
 
 impl Context {
@@ -57,12 +66,12 @@ impl Context {
     {
         let v = self.value(t, at, true, e)?;
         if constant && !is_constant(&self.types, &self.linkage.statics, &v) {
-            return Err(refused(Rule::NotConstant, e.place()));
+            return Err(refusal(e.place(), Rule::NotConstant));
         }
         self.initialised(at, v)
     }
 
-    /// A literal for an array of char, or a value.
+    /// A literal for an array of so many characters, or a value.
     #[tactic(auto, using(c_tree::proofs::ViewLaws::expr_views), unfolding(crate::specs::InitialiserJudging::value_or_text))]
     fn value_or_text(
         &mut self,
@@ -70,17 +79,27 @@ impl Context {
         at: Place,
         t: TypeId,
         e: &Expr,
+        count: Option<u64>,
     ) -> Result<TypedInitialiser, Fault>
-        ensures { Answers typed_initialiser_view (judging.judge_plain constant (expr_view e.now) at (Some t) self.old) result self.new }
+        ensures { Answers typed_initialiser_view (judging.value_or_text constant at t (expr_view e.now) count self.old) result self.new }
     {
-        match (e, char_count(&self.types, t)) {
+        match (e, count) {
             (Expr::String(pieces), Some(count)) => self.text(at, count, pieces.as_slice()),
             _ => self.value_for(constant, at, t, e),
         }
     }
 
+    /// What there is no room for.
+    #[tactic(auto, unfolding(crate::specs::InitialiserJudging::excess))]
+    fn excess(&mut self, at: Place, e: &Expr) -> Result<TypedInitialiser, Fault>
+        ensures { Answers typed_initialiser_view (judging.excess at (expr_view e.now) self.old) result self.new }
+    {
+        self.expr(e)?;
+        Err(refusal(at, Rule::Mismatch))
+    }
+
     /// An expression without braces; it has no type where there is no room for it.
-    #[tactic(auto, unfolding(crate::specs::InitialiserJudging::judge_plain, crate::specs::InitialiserJudging::excess))]
+    #[tactic(auto, unfolding(crate::specs::InitialiserJudging::judge_plain))]
     fn plain(
         &mut self,
         constant: bool,
@@ -91,11 +110,11 @@ impl Context {
         ensures { Answers typed_initialiser_view (judging.judge_plain constant (expr_view e.now) at to self.old) result self.new }
     {
         match to {
-            Some(t) => self.value_or_text(constant, at, t, e),
-            None => {
-                self.expr(e)?;
-                Err(refused(Rule::Mismatch, at))
+            Some(t) => {
+                let count = char_count(&self.types, t);
+                self.value_or_text(constant, at, t, e, count)
             }
+            None => self.excess(at, e),
         }
     }
 
@@ -116,12 +135,12 @@ impl Context {
             Initialiser::Value(e) => self.plain(constant, e, at, to),
             Initialiser::Listed(brace, items, comma) => {
                 let Some(t) = to else {
-                    return Err(refused(Rule::Mismatch, *brace));
+                    return Err(refusal(*brace, Rule::Mismatch));
                 };
                 if single {
-                    return Err(refused(Rule::Mismatch, *brace));
+                    return Err(refusal(*brace, Rule::Mismatch));
                 }
-                let text = is_only_literal(items.as_slice()) && char_count(&self.types, t).is_some();
+                let text = is_text(&self.types, items.as_slice(), t);
                 let list = self.items(constant, items.as_slice(), text, t)?;
                 Ok(TypedInitialiser::Listed(*brace, list, *comma, t))
             }
@@ -140,8 +159,8 @@ impl Context {
         ensures { Answers (λ list. added typed.NoItem (map typed_item_view list)) (judging.judge_items constant (items_of (map initialiser_view items.now)) text t self.old) result self.new }
     {
         let mut list = Items::new(self.scope.alloc());
-        'items: for item in items {
-            let one = self.item(constant, item, text, t, list.len())?;
+        for item in items {
+            let one = self.item(constant, item, text, t, list.len() as u64)?;
             list.push(one)?;
         }
         Ok(list)
@@ -149,28 +168,28 @@ impl Context {
 
     /// The item with this number.
     #[cycle(initialisers)]
+    #[tactic(auto, using(c_tree::proofs::TypedStatementViewLaws::typed_statement_views), unfolding(crate::specs::InitialiserJudging::judge_initialiser, crate::specs::InitialiserJudging::with_item))]
     fn item(
         &mut self,
         constant: bool,
         item: &Initialiser,
         text: bool,
         t: TypeId,
-        number: usize,
+        number: u64,
     ) -> Result<TypedItem, Fault>
         ensures { (all : tree.Items) (start : SeenContext) (list : typed.TypedItems) → judging.judge_items constant all text t start ≡ Gives list self.old → items_count list ≡ number → Answers (λ one. typed_item_view one list) (judging.judge_items constant (tree.AndItem all (initialiser_view item.now)) text t start) result self.new }
     {
-        let slot = item_slot(&self.types, text, t, number as u64);
+        let slot = item_slot(&self.types, text, t, number);
         let single = is_scalar(shape_at(&self.types, t));
-        let at = item.place();
-        let Some(slot) = slot else {
-            self.initialiser(constant, item, at, None, single)?;
-            return Err(crate::faults::never(Place { line: 1, col: 1 }));
-        };
-        let initialiser = self.initialiser(constant, item, at, Some(slot.ty), single)?;
-        Ok(TypedItem {
-            offset: slot.offset,
-            ty: slot.ty,
-            initialiser,
-        })
+        let to = slot.map(|slot| slot.ty);
+        let initialiser = self.initialiser(constant, item, item.place(), to, single)?;
+        match slot {
+            Some(slot) => Ok(TypedItem {
+                offset: slot.offset,
+                ty: slot.ty,
+                initialiser,
+            }),
+            None => Err(no_room(NOWHERE)),
+        }
     }
 }

@@ -1,0 +1,11 @@
+use Rattle.std.proofs.Common.{◌≡◌, take}
+use Rattle.c_check.specs.CodeViews.{declares_last, parameters_seen}
+use Rattle.c_check.specs.UnitJudging.{Gives}
+use Rattle.c_check.specs.DefinitionJudging.{declare_parameters}
+use Rattle.c_check.proofs.context.Context.declare_parameters.Given as goal
+
+-- the parameters so far are declared
+abbrev pub invariant-loop-parameter : goal.invariant-loop-parameter
+invariant-loop-parameter l =
+    declare_parameters (parameters_seen (take l.parameter-index l.parameters)) l.fn.self
+    ≡ Gives (declares_last (parameters_seen (take l.parameter-index l.parameters))) l.self

@@ -1,3 +1,4 @@
 pub mod TagLaws
 pub mod SeriesLaws
+pub mod StayLaws
 pub mod PlaceLaws

@@ -6,7 +6,7 @@ use Rattle.c_tree.specs.Views.{added, enumerator_view}
 use Rattle.c_typing.specs.Judging.{Gives, known}
 use Rattle.c_typing.specs.Typing.{last_value}
 use Rattle.c_typing.specs.Walks as walks
-use Rattle.c_check_expr.proofs.enumerators.Walker.enumerators.Given as goal
+use Rattle.c_check_expr.proofs.walker.Walker.enumerators.Given as goal
 
 -- those so far are judged, and the last has this value
 abbrev pub invariant-loop-e : goal.invariant-loop-e

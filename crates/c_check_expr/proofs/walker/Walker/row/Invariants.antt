@@ -4,7 +4,7 @@ use Rattle.c_tree.specs.Views.{declarator_view, member_declarators_of}
 use Rattle.c_typing.specs.Declarators.{declarator_names}
 use Rattle.c_typing.specs.Judging.{Gives, known}
 use Rattle.c_typing.specs.Walks as walks
-use Rattle.c_check_expr.proofs.members.Walker.row.Given as goal
+use Rattle.c_check_expr.proofs.walker.Walker.row.Given as goal
 
 -- those so far are judged, and their names are behind those before the row
 abbrev pub invariant-loop-d : goal.invariant-loop-d

@@ -6,7 +6,7 @@ use Rattle.c_tree.specs.Views.{added, members_view}
 use Rattle.c_typing.specs.Declarators.{member_names}
 use Rattle.c_typing.specs.Judging.{Gives, known}
 use Rattle.c_typing.specs.Walks as walks
-use Rattle.c_check_expr.proofs.members.Walker.members.Given as goal
+use Rattle.c_check_expr.proofs.walker.Walker.members.Given as goal
 
 -- the rows so far are judged, and the names are theirs
 abbrev pub invariant-loop-row : goal.invariant-loop-row

@@ -5,7 +5,7 @@ use Rattle.c_tree.specs.TypedViews.{typed_parameter_view}
 use Rattle.c_tree.specs.Views.{added, parameter_view}
 use Rattle.c_typing.specs.Judging.{Gives, known}
 use Rattle.c_typing.specs.Walks as walks
-use Rattle.c_check_expr.proofs.parameters.Walker.parameters.Given as goal
+use Rattle.c_check_expr.proofs.walker.Walker.parameters.Given as goal
 
 -- the parameters so far are judged
 abbrev pub invariant-loop-one : goal.invariant-loop-one

@@ -5,7 +5,7 @@ use Rattle.c_typing.specs.Declarators.{counted, named_by_list}
 use Rattle.c_typing.specs.Judging.{Gives, known}
 use Rattle.c_check_expr.specs.NamedViews.{named_view}
 use Rattle.c_typing.specs.Walks as walks
-use Rattle.c_check_expr.proofs.specifiers.Walker.specifier_list.Given as goal
+use Rattle.c_check_expr.proofs.walker.Walker.specifier_list.Given as goal
 
 -- those so far are judged and counted, and they name this
 abbrev pub invariant-loop-one : goal.invariant-loop-one

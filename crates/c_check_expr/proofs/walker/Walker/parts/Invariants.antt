@@ -5,7 +5,7 @@ use Rattle.c_tree.specs.TypedViews.{typed_part_view}
 use Rattle.c_tree.specs.Views.{added, part_view}
 use Rattle.c_typing.specs.Judging.{Gives, known}
 use Rattle.c_typing.specs.Walks as walks
-use Rattle.c_check_expr.proofs.declarators.Walker.parts.Given as goal
+use Rattle.c_check_expr.proofs.walker.Walker.parts.Given as goal
 
 -- the parts so far are judged
 abbrev pub invariant-loop-part : goal.invariant-loop-part

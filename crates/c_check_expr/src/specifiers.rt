@@ -192,7 +192,7 @@ impl<
     }
 
     /// A list of specifiers.
-    #[tactic(auto, using(c_tree::proofs::ViewLaws::expr_views, c_tree::proofs::TypedViewLaws::typed_views), unfolding(c_typing::specs::Walks::judge_specifiers))]
+    #[tactic(auto, using(c_tree::proofs::ViewLaws::expr_views, c_tree::proofs::TypedViewLaws::typed_views, c_tree::proofs::PushLaws::pushes, c_tree::proofs::TypedPushLaws::typed_pushes, crate::proofs::StayLaws::none_judged), unfolding(c_typing::specs::Walks::judge_specifiers))]
     pub(crate) fn specifier_list(
         &self,
         scope: &mut Scope,

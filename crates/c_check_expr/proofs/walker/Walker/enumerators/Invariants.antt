@@ -10,7 +10,7 @@ use Rattle.c_check_expr.proofs.walker.Walker.enumerators.Given as goal
 
 -- those so far are judged, and the last has this value
 abbrev pub invariant-loop-e : goal.invariant-loop-e
-invariant-loop-e l =
+invariant-loop-e g l =
     (walks.judge_enumerators (added NoEnumerator (map enumerator_view (take l.e-index l.list))) (known l.fn.types l.fn.scope)
     ≡ Gives (added none_typed (map typed_enumerator_view l.found)) (known l.types l.scope))
     × (last_value (added none_typed (map typed_enumerator_view l.found)) ≡ l.last)

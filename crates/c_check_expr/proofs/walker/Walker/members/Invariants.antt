@@ -10,7 +10,7 @@ use Rattle.c_check_expr.proofs.walker.Walker.members.Given as goal
 
 -- the rows so far are judged, and the names are theirs
 abbrev pub invariant-loop-row : goal.invariant-loop-row
-invariant-loop-row l =
+invariant-loop-row g l =
     (member_names no_typed_member ≡ l.fn.names
     → walks.judge_members (added NoMember (map members_view (take l.row-index l.rows))) (known l.fn.types l.fn.scope)
     ≡ Gives (added no_typed_member (map typed_members_view l.found)) (known l.types l.scope))

@@ -9,6 +9,6 @@ use Rattle.c_check_expr.proofs.walker.Walker.parameters.Given as goal
 
 -- the parameters so far are judged
 abbrev pub invariant-loop-one : goal.invariant-loop-one
-invariant-loop-one l =
+invariant-loop-one g l =
     walks.judge_parameters l.void (added NoParameter (map parameter_view (take l.one-index l.list))) (known l.fn.types l.fn.scope)
     ≡ Gives (added no_typed_parameter (map typed_parameter_view l.found)) (known l.types l.scope)

@@ -9,6 +9,6 @@ use Rattle.c_check_expr.proofs.walker.Walker.parts.Given as goal
 
 -- the parts so far are judged
 abbrev pub invariant-loop-part : goal.invariant-loop-part
-invariant-loop-part l =
+invariant-loop-part g l =
     walks.judge_parts l.at (added NoPart (map part_view (take l.part-index l.parts))) (known l.fn.types l.fn.scope)
     ≡ Gives (added no_typed_part (map typed_part_view l.found)) (known l.types l.scope)

@@ -8,7 +8,7 @@ use Rattle.c_check_expr.proofs.walker.Walker.row.Given as goal
 
 -- those so far are judged, and their names are behind those before the row
 abbrev pub invariant-loop-d : goal.invariant-loop-d
-invariant-loop-d l =
+invariant-loop-d g l =
     (walks.judge_member_declarators l.base l.fn.names (member_declarators_of (map declarator_view (take l.d-index l.list))) (known l.fn.types l.fn.scope)
     ≡ Gives (typed_member_declarators_of (map typed_declarator_view l.found)) (known l.types l.scope))
     × (l.names ≡ l.fn.names ++ declarator_names (typed_member_declarators_of (map typed_declarator_view l.found)))

@@ -9,7 +9,7 @@ use Rattle.c_check_expr.proofs.walker.Walker.specifier_list.Given as goal
 
 -- those so far are judged and counted, and they name this
 abbrev pub invariant-loop-one : goal.invariant-loop-one
-invariant-loop-one l =
+invariant-loop-one g l =
     (walks.judge_list (specifiers_of (map specifier_view (take l.one-index l.specifiers.list))) (known l.fn.types l.fn.scope)
     ≡ Gives (typed_specifiers_of (map typed_specifier_view l.list)) (known l.types l.scope))
     × ((counted (typed_specifiers_of (map typed_specifier_view l.list)) ≡ l.words)

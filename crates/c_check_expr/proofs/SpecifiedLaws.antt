@@ -1,43 +1,45 @@
--- What begins with a list of specifiers is judged by the specifiers that the list gives.
-use Rattle.std.proofs.Common.{◌≡◌, refl, sym, Bool}
+-- Lists of specifiers, and the specifiers that they give.
+use Rattle.std.proofs.Common.{◌≡◌, ◌≢◌, refl, sym, ap, ◌∙◌, Result, Ok, Err}
+use Rattle.cc_base.specs.declared.fault.Fault.{Fault}
+use Rattle.cc_base.specs.declared.fault.Fault.TheVariants.{NoMemory}
 use Rattle.c_tree.specs.Tree as tree
 use Rattle.c_tree.specs.TypedTree as typed
-use Rattle.c_tree.specs.TypedTree.{TypedSpecifiers, TypedSpecifierList, TypedParameters, TypedMembers}
-use Rattle.c_tree.specs.TypedParts.{specified_type}
-use Rattle.c_typing.specs.declared.naming.Naming.TheVariants as naming
-use Rattle.c_typing.specs.Declarators.{Written, member_names}
-use Rattle.c_typing.specs.Declaring as declaring
+use Rattle.c_tree.specs.TypedTree.{TypedSpecifier, TypedSpecifierList}
+use Rattle.c_tree.specs.TypedViews.{typed_specifiers_view}
+use Rattle.c_tree.specs.declared.typed_expr.TypedSpecifiers.{TypedSpecifiers}
+use Rattle.c_typing.specs.Declarators.{Counted, counted}
 use Rattle.c_typing.specs.Specifying.{specified}
-use Rattle.c_typing.specs.Judging.{State, Judging, next, pure}
-use Rattle.c_typing.specs.Walks.{judge, judge_arguments, judge_list, judge_declared, judge_parameters, judge_members, judge_member_declarators, judge_type_name, judge_specifiers, declared_place}
-use Rattle.c_check_expr.proofs.OutcomeLaws.{next-next}
+use Rattle.c_typing.specs.Judging.{State, Outcome, Gives, Stops, Answers, next, pure}
+use Rattle.c_typing.specs.Walks.{judge, judge_arguments, judge_list, judge_specifier, judge_specifiers}
+use Rattle.c_check_expr.specs.Listed.{IsListed}
+use Rattle.c_check_expr.proofs.OutcomeLaws.{next-gives, gives-value, gives-state, made-stops}
 
--- a step that takes what the list gives
-after_list : {B : Type 0} (specifiers : tree.Specifiers) (f : TypedSpecifiers → Judging B) (s : State)
-    → next (judge_list specifiers s) (λ list. f (specified list)) ≡ next (judge_specifiers specifiers s) f
+pub listed_from : (specifiers : tree.Specifiers) (s t : State) (r : Result TypedSpecifiers Fault)
+    → Answers typed_specifiers_view (judge_specifiers specifiers s) r t → IsListed (judge_list specifiers s) r t
 unfolding judge_specifiers
-after_list specifiers f s = sym (next-next (judge_list specifiers s) (λ list. pure (specified list)) f)
+listed_from specifiers s t (Ok made) given =
+    let one = next-gives (judge_list specifiers s) (λ list. pure (specified list)) (typed_specifiers_view made) t given in
+    (one.0, one.2 ∙ ap (λ m. Gives one.0 m) (gives-state (specified one.0) (typed_specifiers_view made) one.1 t one.3), gives-value (specified one.0) (typed_specifiers_view made) one.1 t one.3)
+listed_from specifiers s t (Err fault) stopped = λ real. made-stops (judge_list specifiers s) specified fault t (stopped real)
 
-pub parameter_judged : (void : Bool) (all : tree.Parameters) (specifiers : tree.Specifiers) (d : tree.Declared) (start : State)
-    → judge_parameters void (tree.AndParameter all specifiers d) start
-    ≡ next (judge_parameters void all start) (λ list. λ s. next (judge_specifiers specifiers s) (λ own. λ m. next (judge_declared naming.Parameter (declared_place specifiers d) d m)
-    (λ one. declaring.parameter void (declared_place specifiers d) (λ base. declaring.adjusted_at (declaring.derived_by_declared d) base (declaring.typedef_place specifiers)) list own one)))
-unfolding judge judge_arguments
-parameter_judged void all specifiers d start = λ i. next (judge_parameters void all start) (λ list. λ s. after_list specifiers (λ own. λ m. next (judge_declared naming.Parameter (declared_place specifiers d) d m)
-    (λ one. declaring.parameter void (declared_place specifiers d) (λ base. declaring.adjusted_at (declaring.derived_by_declared d) base (declaring.typedef_place specifiers)) list own one)) s i)
+-- a list that gives specifiers, or stops
 
-pub row_judged : (all : tree.Members) (specifiers : tree.Specifiers) (row : tree.MemberDeclarators) (start : State)
-    → judge_members (tree.AndMember all specifiers row) start
-    ≡ next (judge_members all start) (λ rows. λ s. next (judge_specifiers specifiers s) (λ own. λ m. next (judge_member_declarators (specified_type own) (member_names rows) row m)
-    (λ one. pure (typed.AndMember rows own one))))
-unfolding judge judge_arguments
-row_judged all specifiers row start = λ i. next (judge_members all start) (λ rows. λ s. after_list specifiers (λ own. λ m. next (judge_member_declarators (specified_type own) (member_names rows) row m)
-    (λ one. pure (typed.AndMember rows own one))) s i)
+pub specifiers_end : (specifiers : tree.Specifiers) (list : TypedSpecifierList) (s t : State)
+    → judge_list specifiers s ≡ Gives list t → judge_specifiers specifiers s ≡ Gives (specified list) t
+unfolding judge_specifiers
+specifiers_end specifiers list s t given = rw given refl
 
-pub type_name_judged : (specifiers : tree.Specifiers) (d : tree.Declared) (s : State)
-    → judge_type_name (tree.Named specifiers d) s
-    ≡ next (judge_specifiers specifiers s) (λ own. λ m. next (judge_declared naming.None (declared_place specifiers d) d m)
-    (λ one. λ r. next (declaring.declared_makes (declared_place specifiers d) Written one (specified_type own) r) (λ t. pure (typed.Named own one t))))
+pub specifiers_stop : (specifiers : tree.Specifiers) (fault : Fault) (s t : State)
+    → (fault ≢ NoMemory → judge_list specifiers s ≡ Stops fault t) → fault ≢ NoMemory → judge_specifiers specifiers s ≡ Stops fault t
+unfolding judge_specifiers
+specifiers_stop specifiers fault s t stopped real = rw (stopped real) refl
+
+-- one specifier more, before which these are counted
+pub specifier_goes : (all : tree.Specifiers) (one : tree.Specifier) (list : TypedSpecifierList) (before : Counted) (s m : State)
+    → judge_list all s ≡ Gives list m → counted list ≡ before → (o : Outcome TypedSpecifier) → judge_specifier before one m ≡ o
+    → judge_list (tree.AndSpecifier all one) s ≡ next o (λ made. pure (typed.AndSpecifier list made))
 unfolding judge judge_arguments
-type_name_judged specifiers d s = after_list specifiers (λ own. λ m. next (judge_declared naming.None (declared_place specifiers d) d m)
-    (λ one. λ r. next (declaring.declared_makes (declared_place specifiers d) Written one (specified_type own) r) (λ t. pure (typed.Named own one t)))) s
+specifier_goes all one list before s m given count o judged =
+    ap (λ (r : Outcome TypedSpecifierList). next r (λ l. λ n. next (judge_specifier (counted l) one n) (λ made. pure (typed.AndSpecifier l made)))) given
+    ∙ ap (λ k. next (judge_specifier k one m) (λ made. pure (typed.AndSpecifier list made))) count
+    ∙ ap (λ (r : Outcome TypedSpecifier). next r (λ made. pure (typed.AndSpecifier list made))) judged

@@ -139,7 +139,7 @@ impl<
     }
 
     /// A row after those that are judged, whose names are these.
-    #[tactic(auto, using(c_tree::proofs::ViewLaws::expr_views, c_tree::proofs::TypedViewLaws::typed_views, crate::proofs::SpecifiedLaws::row_judged))]
+    #[tactic(auto, using(c_tree::proofs::ViewLaws::expr_views, c_tree::proofs::TypedViewLaws::typed_views), unfolding(c_typing::specs::Walks::judge_members))]
     fn members_row(
         &self,
         scope: &mut Scope,

@@ -303,7 +303,7 @@ impl<
     D: Fn(&mut Scope, &mut Types, u16, Naming, Place, &Declarator) -> Result<TypedForm, Fault>,
 > Walker<E, S, D> {
     /// A parameter after those that are judged.
-    #[tactic(auto, using(c_tree::proofs::ViewLaws::expr_views, crate::proofs::SpecifiedLaws::parameter_judged))]
+    #[tactic(auto, using(c_tree::proofs::ViewLaws::expr_views, c_tree::proofs::TypedViewLaws::typed_views), unfolding(c_typing::specs::Walks::judge_parameters))]
     fn parameter(
         &self,
         scope: &mut Scope,

@@ -8,7 +8,6 @@ ghost use Rattle.c_typing.specs.Judging.{Answers, State, known};
 ghost use Rattle.c_typing.specs.Specifying as specifying;
 ghost use Rattle.c_typing.specs.Tests as tests;
 ghost use Rattle.c_typing.specs.Tests.{first_broken};
-ghost use Rattle.c_typing.specs.Refusals.{one_named};
 ghost use Rattle.c_typing.specs.Scopes.{name_in, tag_in, tag_here, with_scopes};
 ghost use Rattle.c_typing.specs.Typing.{shape_of_kind, tagging, tag_named_here};
 
@@ -57,7 +56,7 @@ pub(crate) fn typedef_name(
     name: &Identifier,
 ) -> Result<(TypedSpecifier, Words), Fault>
     ensures answers { Answers (λ r. typed_specifier_view r.0) (specifying.typedef_name before.now name.now (known types.now scope.now)) result (known types.now scope.now) }
-    ensures counts { IfOk result (λ r. r.1 ≡ one_named before.now) }
+    ensures counts { IfOk result (λ r. r.1 ≡ counting (typed_specifier_view r.0) before.now) }
 {
     let Some(words) = before.with_name() else {
         return Err(refusal(name.place, Rule::Mismatch));
@@ -173,7 +172,7 @@ pub(crate) fn tagged(
     name: &Identifier,
 ) -> Result<(TypedSpecifier, Words), Fault>
     ensures answers { Answers (λ r. typed_specifier_view r.0) (specifying.tagged before.now which at name.now (known types.old scope.old)) result (known types.new scope.new) }
-    ensures counts { IfOk result (λ r. r.1 ≡ one_named before.now) }
+    ensures counts { IfOk result (λ r. r.1 ≡ counting (typed_specifier_view r.0) before.now) }
 {
     if let Some(fault) = tag_fault(scope, which, name) {
         return Err(fault);
@@ -234,7 +233,7 @@ pub(crate) fn enum_named(
     name: &Identifier,
 ) -> Result<(TypedSpecifier, Words), Fault>
     ensures answers { Answers (λ r. typed_specifier_view r.0) (specifying.enum_tag before.now at name.now (known types.now scope.now)) result (known types.now scope.now) }
-    ensures counts { IfOk result (λ r. r.1 ≡ one_named before.now) }
+    ensures counts { IfOk result (λ r. r.1 ≡ counting (typed_specifier_view r.0) before.now) }
 {
     let _count = types.count();
     if let Some(fault) = enum_fault(scope, name) {

@@ -42,7 +42,7 @@ impl<
         }
     }
 
-    #[tactic(auto, using(c_tree::proofs::ViewLaws::expr_views, c_tree::proofs::TypedViewLaws::typed_views, crate::proofs::SpecifiedLaws::type_name_judged))]
+    #[tactic(auto, using(c_tree::proofs::ViewLaws::expr_views, c_tree::proofs::TypedViewLaws::typed_views), unfolding(c_typing::specs::Walks::judge_type_name))]
     pub(crate) fn type_name(
         &self,
         scope: &mut Scope,

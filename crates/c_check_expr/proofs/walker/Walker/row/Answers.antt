@@ -7,8 +7,11 @@ use Rattle.c_tree.specs.Views.{declarator_view, member_declarators_of}
 use Rattle.c_typing.specs.Judging.{known}
 use Rattle.c_typing.specs.Walks.{judge_member_declarators}
 use Rattle.c_check_expr.proofs.SeriesLaws.{goes_on, fails_on}
-use Rattle.c_check_expr.proofs.StayLaws.{row-stays}
+use Rattle.c_check_expr.proofs.StayLaws.{none_judged, row-stays}
 use Rattle.c_check_expr.proofs.walker.Walker.row.Goals as goal
+
+pub loop-d-init : goal.loop-d-init
+loop-d-init g c = (first_of (grind (arith, common_steps, none_judged), search (rules, none_judged)), first_of (grind (arith, common_steps), search rules))
 
 pub returns-in_err-member-clause-answers : goal.returns-in_err-member-clause-answers
 returns-in_err-member-clause-answers g c =

@@ -1,7 +1,7 @@
 -- What was given by steps, and where they stopped.
-use Rattle.std.proofs.Common.{◌≡◌, refl, ap, Bool, true, false}
+use Rattle.std.proofs.Common.{◌≡◌, refl, ap, subst, Bool, true, false, Result}
 use Rattle.cc_base.specs.declared.fault.Fault.{Fault}
-use Rattle.c_typing.specs.Judging.{State, Outcome, Judging, Gives, Stops, next, pure}
+use Rattle.c_typing.specs.Judging.{State, Outcome, Judging, Gives, Stops, Answers, next, pure}
 
 value_in : {A : Type 0} → A → Outcome A → A
 value_in d (Gives a s) = a
@@ -55,3 +55,7 @@ made-stops {A = A} {B = B} (Stops other s) f fault r h = stops-too A B other fau
 pub next-next : {A B C : Type 0} (o : Outcome A) (f : A → Judging B) (h : B → Judging C) → next (next o f) h ≡ next o (λ a. λ s. next (f a s) h)
 next-next (Gives a s) f h = refl
 next-next (Stops fault s) f h = refl
+
+-- what answers the judging of one thing answers that of another that is the same
+pub answers-moved : {X A B : Type 0} (view : B → A) (judge : X → Outcome A) (x y : X) (r : Result B Fault) (t : State) → Answers view (judge x) r t → x ≡ y → Answers view (judge y) r t
+answers-moved view judge x y r t answers same = subst (λ z. Answers view (judge z) r t) same answers

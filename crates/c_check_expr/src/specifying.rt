@@ -2,6 +2,7 @@
 #![tactic(auto)]
 
 ghost use Rattle.std.specs.Prelude.{◌≡◌, ◌++◌, OnOk, IfOk, None, option_copied};
+ghost use Rattle.c_tree.specs.TypedTree.{Typedef};
 ghost use Rattle.c_tree.specs.TypedViews.{typed_specifier_view};
 ghost use Rattle.c_typing.specs.Declarators.{counting};
 ghost use Rattle.c_typing.specs.Judging.{Answers, State, known};
@@ -34,15 +35,12 @@ pub(crate) fn word(before: &Words, w: Word) -> Result<(TypedSpecifier, Words), F
 }
 
 /// The type that a typedef gave a name.
-#[tactic(auto, using(c_tree::proofs::TypedViewLaws::typed_views), unfolding(c_typing::specs::Specifying::typedef_named))]
-fn typedef_named(scope: &Scope, types: &Types, name: &Identifier) -> Result<TypedSpecifier, Fault>
-    ensures { Answers typed_specifier_view (specifying.typedef_named name.now (name_in scope.now.scopes.levels name.now.bytes) (known types.now scope.now)) result (known types.now scope.now) }
+#[tactic(auto, unfolding(c_typing::specs::Specifying::typedef_named))]
+fn typedef_named(scope: &Scope, name: &Identifier) -> Result<TypeId, Fault>
+    ensures { (s : State) → Answers (Typedef name.now) (specifying.typedef_named name.now (name_in scope.now.scopes.levels name.now.bytes) s) result s }
 {
     match scope.name(name.bytes.as_slice()) {
-        Some(Declared::Typedef(t)) => {
-            let t = *t;
-            Ok(TypedSpecifier::Typedef(copied_name(scope.alloc(), name)?, t))
-        }
+        Some(Declared::Typedef(t)) => Ok(*t),
         _ => Err(no_room(name.place)),
     }
 }
@@ -58,10 +56,13 @@ pub(crate) fn typedef_name(
     ensures answers { Answers (λ r. typed_specifier_view r.0) (specifying.typedef_name before.now name.now (known types.now scope.now)) result (known types.now scope.now) }
     ensures counts { IfOk result (λ r. r.1 ≡ counting (typed_specifier_view r.0) before.now) }
 {
+    let _count = types.count();
     let Some(words) = before.with_name() else {
         return Err(refusal(name.place, Rule::Mismatch));
     };
-    Ok((typedef_named(scope, types, name)?, words))
+    let t = typedef_named(scope, name)?;
+    let name = copied_name(scope.alloc(), name)?;
+    Ok((TypedSpecifier::Typedef(name, t), words))
 }
 
 fn shape_of_kind(which: AggregateKind, number: u32) -> TypeShape

@@ -8,3 +8,4 @@ pub mod StarLaws
 pub mod PartLaws
 pub mod MemberLaws
 pub mod SpecifiedLaws
+pub mod ParameterLaws

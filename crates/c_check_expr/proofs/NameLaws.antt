@@ -13,6 +13,7 @@ use Rattle.c_check_expr.proofs.OutcomeLaws.{gives-value, next-gives}
 
 mutual
   unfolding judge judge_arguments
+
   pub form_name_kept : (which : Naming) (at : Place) (d : tree.Declarator) (s t : State) (form : TypedForm)
       → judge_form which at d s ≡ Gives form t → name_of_form form ≡ declarator_name d
   form_name_kept which at (tree.Declares stars core parts) s t form given =

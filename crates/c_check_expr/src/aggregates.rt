@@ -18,15 +18,15 @@ ghost use Rattle.c_typing.specs.Tests as tests;
 ghost use Rattle.c_typing.specs.Tests.{first_broken};
 ghost use Rattle.c_typing.specs.Typing.{tag_named_here};
 
+use crate::specifying::{is_tag_of, new_aggregate};
+use crate::words::Words;
+use c_tree::{AggregateKind, Identifier, TypedDeclarator, TypedMembers};
+use c_types::{TypeFault, TypeShape, Types};
 use c_typing::declared::Tag;
 use c_typing::member::MemberNames;
 use c_typing::scope::Scope;
 use c_typing::shapes::{is_aggregate, is_complete_at, shape_at};
-use crate::specifying::{is_tag_of, new_aggregate};
-use crate::words::Words;
 use c_typing::stops::{no_room, refusal};
-use c_tree::{AggregateKind, Identifier, TypedDeclarator, TypedMembers};
-use c_types::{TypeFault, TypeShape, Types};
 use cc_base::{Fault, NoMemory, Place, Rule, TypeId};
 
 /// The tag, or the keyword where there is none.

@@ -16,18 +16,18 @@ ghost use Rattle.c_typing.specs.Tests as tests;
 ghost use Rattle.c_typing.specs.Tests.{first_broken, AsValue};
 ghost use Rattle.c_typing.specs.Walks as walks;
 
+use crate::walker::Walker;
+use c_tree::{
+    Boxed, Core, Declarator, Expr, Home, Items, Parameter, Part, Specifiers, Star, TypedCore,
+    TypedForm, TypedPart, TypedSpecifiers, TypedStar, Word,
+};
+use c_types::Types;
 use c_typing::constant::constant_value;
 use c_typing::copies::{copied_name, copied_star, copied_words};
 use c_typing::naming::Naming;
 use c_typing::operand::{Operand, Value};
 use c_typing::scope::Scope;
 use c_typing::stops::{no_room, refusal};
-use crate::walker::Walker;
-use c_tree::{
-    Boxed, Core, Declarator, Expr, Home, Items, Parameter, Part, Specifiers, Star, TypedCore, TypedForm,
-    TypedPart, TypedSpecifiers, TypedStar, Word,
-};
-use c_types::Types;
 use cc_base::{Fault, NodeId, Place, Rule};
 
 /// A new node for what is named at the place.

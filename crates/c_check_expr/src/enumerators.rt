@@ -20,6 +20,12 @@ ghost use Rattle.c_typing.specs.Tests.{first_broken, AsValue};
 ghost use Rattle.c_typing.specs.Typing.{next_value, last_value};
 ghost use Rattle.c_typing.specs.Walks as walks;
 
+use crate::walker::Walker;
+use c_tree::{
+    Declarator, Enumerator, Expr, Identifier, Items, Specifiers, TypedEnumerator, TypedForm,
+    TypedSpecifiers,
+};
+use c_types::Types;
 use c_typing::constant::constant_value;
 use c_typing::copies::copied_name;
 use c_typing::declared::Declared;
@@ -29,12 +35,6 @@ use c_typing::operand::{Operand, Value};
 use c_typing::scope::Scope;
 use c_typing::stops::{no_room, refusal};
 use c_typing::value::converted;
-use crate::walker::Walker;
-use c_tree::{
-    Declarator, Enumerator, Expr, Identifier, Items, Specifiers, TypedEnumerator, TypedForm,
-    TypedSpecifiers,
-};
-use c_types::Types;
 use cc_base::{Fault, NoMemory, Place, Rule};
 
 /// `int`.

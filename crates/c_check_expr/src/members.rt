@@ -18,19 +18,19 @@ ghost use Rattle.c_typing.specs.Scopes.{Name, place_among};
 ghost use Rattle.c_typing.specs.Walks as walks;
 
 use crate::making::{Nearest, form_makes};
-use c_typing::member::MemberNames;
-use c_typing::naming::Naming;
-use c_typing::operand::Operand;
 use crate::places::{declarator_name, name_place};
-use c_typing::scope::Scope;
-use c_typing::shapes::is_complete_at;
-use c_typing::stops::{no_room, refusal};
 use crate::walker::Walker;
 use c_tree::{
     Declarator, Expr, Identifier, Items, Members, Specifiers, TypedDeclarator, TypedForm,
     TypedMembers, TypedSpecifiers,
 };
 use c_types::Types;
+use c_typing::member::MemberNames;
+use c_typing::naming::Naming;
+use c_typing::operand::Operand;
+use c_typing::scope::Scope;
+use c_typing::shapes::is_complete_at;
+use c_typing::stops::{no_room, refusal};
 use cc_base::{Fault, Place, Rule, TypeId};
 
 /// The first place of a text.

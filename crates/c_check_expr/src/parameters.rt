@@ -22,16 +22,9 @@ ghost use Rattle.c_typing.specs.Tests.{first_broken};
 ghost use Rattle.c_typing.specs.Walks as walks;
 
 use crate::declarators::node_at;
-use c_typing::declared::Declared;
 use crate::derived::{Derived, adjusted_at, derived_by_declared};
 use crate::making::{Nearest, declared_makes, is_derived};
-use c_typing::naming::Naming;
-use c_typing::operand::Operand;
 use crate::places::declared_place;
-use c_typing::scope::Scope;
-use c_typing::shapes::{is_aggregate, is_complete_at, shape_at};
-use c_typing::stops::{no_room, refusal};
-use c_typing::typing::pointer_type;
 use crate::walker::Walker;
 use c_lexer::Keyword;
 use c_tree::{
@@ -39,6 +32,13 @@ use c_tree::{
     TypedCore, TypedForm, TypedParameter, TypedSpecifiers,
 };
 use c_types::{TypeShape, Types};
+use c_typing::declared::Declared;
+use c_typing::naming::Naming;
+use c_typing::operand::Operand;
+use c_typing::scope::Scope;
+use c_typing::shapes::{is_aggregate, is_complete_at, shape_at};
+use c_typing::stops::{no_room, refusal};
+use c_typing::typing::pointer_type;
 use cc_base::{Fault, NodeId, Place, Rule, TypeId};
 
 /// Whether a typed declarator that may be left out has stars or parts.

@@ -14,14 +14,7 @@ ghost use Rattle.c_typing.specs.Specifying as specifying;
 ghost use Rattle.c_typing.specs.Walks as walks;
 
 use crate::aggregates::{begun, ended, tag_named_here, tag_place};
-use c_typing::copies::copied_tag;
-use c_typing::declared::Tag;
-use c_typing::member::MemberNames;
-use c_typing::naming::Naming;
-use c_typing::operand::Operand;
-use c_typing::scope::Scope;
 use crate::specifying::{declare_tag_of, enum_named, tagged, tagged_alone, typedef_name, word};
-use c_typing::stops::refusal;
 use crate::walker::Walker;
 use crate::words::Words;
 use c_tree::{
@@ -29,6 +22,13 @@ use c_tree::{
     TypedForm, TypedSpecifier, TypedSpecifiers,
 };
 use c_types::Types;
+use c_typing::copies::copied_tag;
+use c_typing::declared::Tag;
+use c_typing::member::MemberNames;
+use c_typing::naming::Naming;
+use c_typing::operand::Operand;
+use c_typing::scope::Scope;
+use c_typing::stops::refusal;
 use cc_base::{Fault, Place, Rule, TypeId};
 
 /// What a specifier names besides words.

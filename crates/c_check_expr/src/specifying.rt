@@ -12,14 +12,14 @@ ghost use Rattle.c_typing.specs.Tests.{first_broken};
 ghost use Rattle.c_typing.specs.Scopes.{name_in, tag_in, tag_here, with_scopes};
 ghost use Rattle.c_typing.specs.Typing.{shape_of_kind, tagging, tag_named_here};
 
+use crate::words::Words;
+use c_tree::{AggregateKind, Identifier, TypedSpecifier, Word};
+use c_types::{TypeShape, Types};
 use c_typing::copies::{copied_name, copied_tag};
 use c_typing::declared::{Declared, Tag};
 use c_typing::scope::Scope;
 use c_typing::stops::{no_room, refusal};
 use c_typing::typing::type_with;
-use crate::words::Words;
-use c_tree::{AggregateKind, Identifier, TypedSpecifier, Word};
-use c_types::{TypeShape, Types};
 use cc_base::{Fault, NoMemory, Place, Rule, TypeId};
 
 /// A storage word, a qualifier, or a word for a type.

@@ -9,12 +9,12 @@ ghost use Rattle.c_check_expr.specs.Nests.{Nests};
 ghost use Rattle.c_typing.specs.OperandViews.{operand_view, value_view};
 ghost use Rattle.c_typing.specs.Walks as walks;
 
+use c_tree::{Declarator, Expr, Specifiers, TypedForm, TypedSpecifiers};
+use c_types::Types;
 use c_typing::naming::Naming;
 use c_typing::operand::{Operand, Value};
 use c_typing::scope::Scope;
 use c_typing::typing::value;
-use c_tree::{Declarator, Expr, Specifiers, TypedForm, TypedSpecifiers};
-use c_types::Types;
 use cc_base::{Fault, Place};
 
 /// What the rules of a part stand on.

@@ -13,14 +13,14 @@ ghost use Rattle.c_typing.specs.Rules as rules;
 ghost use Rattle.c_typing.specs.Tests as tests;
 ghost use Rattle.c_typing.specs.Tests.{first_broken, AsPlace};
 
+use c_tree::{Boxed, Side, Step, TypedExpr, TypedPlace};
+use c_types::{TypeShape, Types};
 use c_typing::construct::{held_with_one, holding};
 use c_typing::operand::{Operand, Part};
 use c_typing::scope::Scope;
 use c_typing::shapes::{is_complete_at, is_scalar, points_to_incomplete, shape_at};
 use c_typing::stops::{no_room, refusal};
 use c_typing::typing::{new_pointer, value_of};
-use c_tree::{Boxed, Side, Step, TypedExpr, TypedPlace};
-use c_types::{TypeShape, Types};
 use cc_base::{Fault, Place, Rule, TypeId};
 
 /// `unsigned long`, the type of sizes (C99 7.17).

@@ -14,23 +14,23 @@ ghost use Rattle.c_typing.specs.Tests as tests;
 ghost use Rattle.c_typing.specs.Tests.{first_broken, AsValue};
 
 use crate::address::can_be_written;
-use c_typing::construct::{held_with_two, holding};
+use crate::cells::count_cells;
 use crate::conversion::{converted_to, fits, given};
-use c_typing::kind::{assigning, left_kind, right_kind};
-use c_typing::operand::{Operand, Part, PartRef, Value};
 use crate::operators::is_moving;
-use c_typing::same::is_same_type;
-use c_typing::scope::Scope;
-use c_typing::shapes::{
-    are_integers, is_aggregate, is_integer, is_pointer, points_to_incomplete, shape_at,
-};
 use crate::step::is_array_part;
-use c_typing::stops::{no_room, refusal};
 use crate::unary::to_integer;
-use c_typing::shapes::integer_at;
 use crate::value_shape::shape_of;
 use c_tree::{Assignment, Boxed, TypedExpr, TypedPlace};
 use c_types::Types;
+use c_typing::construct::{held_with_two, holding};
+use c_typing::kind::{assigning, left_kind, right_kind};
+use c_typing::operand::{Operand, Part, PartRef, Value};
+use c_typing::same::is_same_type;
+use c_typing::scope::Scope;
+use c_typing::shapes::{
+    are_integers, integer_at, is_aggregate, is_integer, is_pointer, points_to_incomplete, shape_at,
+};
+use c_typing::stops::{no_room, refusal};
 use cc_base::{Fault, NoMemory, Place, Rule, TypeId};
 
 /// Two structs of one type.
@@ -137,12 +137,31 @@ fn assigned(
     }
 }
 
+/// The pointers that `=` moves are counted, where a struct is assigned.
+fn count_moved(
+    scope: &mut Scope,
+    types: &Types,
+    at: Place,
+    t: TypeId,
+    y: &Part,
+) -> Result<TypeId, Fault>
+    ensures { Answers (λ t. t) (assignments.moved at t (part_view y.now) (known types.now scope.old)) result (known types.now scope.new) }
+{
+    match y {
+        Part::Place(_) => count_cells(scope, types, at, t),
+        _ => Ok(t),
+    }
+}
+
 #[tactic(auto, unfolding(c_typing::specs::Assignments::assign_part))]
-fn assign_part(scope: &Scope, types: &Types, at: Place, x: Part, y: Part) -> Result<Part, Fault>
-    ensures { Answers part_view (assignments.assign_part at (part_view x) (part_view y) (known types.now scope.now)) result (known types.now scope.now) }
+fn assign_part(scope: &mut Scope, types: &Types, at: Place, x: Part, y: Part) -> Result<Part, Fault>
+    ensures { Answers part_view (assignments.assign_part at (part_view x) (part_view y) (known types.now scope.old)) result (known types.now scope.new) }
 {
     match x {
-        Part::Place(p) => Ok(assigned(scope, types, at, p, y)?),
+        Part::Place(p) => {
+            count_moved(scope, types, at, p.ty(), &y)?;
+            Ok(assigned(scope, types, at, p, y)?)
+        }
         _ => Err(no_room(at)),
     }
 }

@@ -16,18 +16,19 @@ ghost use Rattle.c_check_operators.specs.ShapeViews.{meeting_view};
 ghost use Rattle.c_typing.specs.Tests as tests;
 ghost use Rattle.c_typing.specs.Tests.{first_broken, AsValue};
 
-use c_typing::construct::{held_with_two, holding};
-use c_typing::kind::{Kind, is_logical, is_order, left_kind, result_kind, right_kind};
 use crate::meeting::{Meeting, how_they_meet};
-use c_typing::operand::{Operand, Part, Value};
 use crate::operators::infix_fault;
-use c_typing::scope::Scope;
-use c_typing::shapes::{is_index_pair, is_pointer, points_to_incomplete, shape_at};
-use c_typing::stops::refusal;
 use crate::unary::to_integer;
-use c_typing::shapes::{INT, integer_at, pointee_at};
 use c_tree::{Binary, Boxed, Conversion, Side, TypedExpr, TypedPlace};
 use c_types::Types;
+use c_typing::construct::{held_with_two, holding};
+use c_typing::kind::{Kind, is_logical, is_order, left_kind, result_kind, right_kind};
+use c_typing::operand::{Operand, Part, Value};
+use c_typing::scope::Scope;
+use c_typing::shapes::{
+    INT, integer_at, is_index_pair, is_pointer, pointee_at, points_to_incomplete, shape_at,
+};
+use c_typing::stops::refusal;
 use cc_base::{Fault, NoMemory, Place, Rule, TypeId};
 
 /// `long`, the type of the difference of two pointers (C99 7.17).

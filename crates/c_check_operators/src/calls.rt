@@ -18,15 +18,14 @@ ghost use Rattle.c_typing.specs.Tests as tests;
 ghost use Rattle.c_typing.specs.Tests.{first_broken, broken_at, AsValue};
 
 use crate::address::SIZE;
-use c_typing::construct::holding;
 use crate::conversion::{converted_to, fits, is_null_part};
-use c_typing::operand::{Operand, Part, PartRef, Value};
-use c_typing::scope::Scope;
-use c_typing::shapes::{point_to_data, pointed_shape, shape_at};
-use c_typing::stops::refusal;
-use c_typing::shapes::INT;
 use c_tree::{Boxed, Items, Runtime, TypedExpr};
 use c_types::{TypeShape, Types};
+use c_typing::construct::holding;
+use c_typing::operand::{Operand, Part, PartRef, Value};
+use c_typing::scope::Scope;
+use c_typing::shapes::{INT, point_to_data, pointed_shape, shape_at};
+use c_typing::stops::refusal;
 use cc_base::{Fault, NoMemory, Place, Rule, TypeId};
 use runtime_calls::{RuntimeType, parameters_of, result_of};
 

@@ -14,14 +14,14 @@ ghost use Rattle.c_typing.specs.Tests as tests;
 ghost use Rattle.c_typing.specs.Tests.{first_broken};
 
 use crate::address::{SIZE, size_at};
-use c_typing::construct::{held_with_one, holding};
 use crate::conversion::{cast_conversion, given, is_castable};
+use c_tree::{Boxed, Conversion, TypedExpr, TypedTypeName};
+use c_types::Types;
+use c_typing::construct::{held_with_one, holding};
 use c_typing::operand::{Operand, Part, PartRef};
 use c_typing::scope::Scope;
 use c_typing::shapes::{is_complete_at, is_void, shape_at};
 use c_typing::stops::refusal;
-use c_tree::{Boxed, Conversion, TypedExpr, TypedTypeName};
-use c_types::Types;
 use cc_base::{Fault, NoMemory, Place, Rule, TypeId};
 
 /// The rules of a cast.

@@ -15,19 +15,18 @@ ghost use Rattle.c_typing.specs.Tests as tests;
 ghost use Rattle.c_typing.specs.Tests.{first_broken, AsPlace, AsValue};
 
 use crate::assigning::are_one_struct;
-use c_typing::constant::is_null_constant;
-use c_typing::construct::{held_with_three, held_with_two, holding};
 use crate::meeting::{how_they_meet, meet};
-use c_typing::operand::{Operand, Part, PartRef, Value};
-use c_typing::scope::Scope;
-use c_typing::shapes::{are_integers, is_scalar, is_void, shape_at};
-use c_typing::stops::{no_room, refusal};
-use c_typing::typing::{new_pointer, side_of};
 use crate::unary::to_integer;
-use c_typing::shapes::integer_at;
 use crate::value_shape::shape_of;
 use c_tree::{Boxed, Conversion, TypedExpr, TypedPlace};
 use c_types::Types;
+use c_typing::constant::is_null_constant;
+use c_typing::construct::{held_with_three, held_with_two, holding};
+use c_typing::operand::{Operand, Part, PartRef, Value};
+use c_typing::scope::Scope;
+use c_typing::shapes::{are_integers, integer_at, is_scalar, is_void, shape_at};
+use c_typing::stops::{no_room, refusal};
+use c_typing::typing::{new_pointer, side_of};
 use cc_base::{Fault, NoMemory, Place, Rule, TypeId};
 
 /// `void`.

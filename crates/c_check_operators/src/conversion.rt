@@ -13,16 +13,16 @@ ghost use Rattle.c_typing.specs.Operands as operands;
 ghost use Rattle.c_typing.specs.OperandViews.{part_view, part_ref_view};
 ghost use Rattle.c_typing.specs.Tests as tests;
 
+use crate::unary::to_integer;
+use crate::value_shape::shape_of;
+use c_tree::{Boxed, Conversion, TypedExpr};
+use c_types::{TypeShape, Types};
 use c_typing::constant::is_null_constant;
 use c_typing::operand::{Part, PartRef};
 use c_typing::same::is_same_type;
 use c_typing::scope::Scope;
 use c_typing::shapes::{is_complete_at, is_data, is_void, shape_at};
 use c_typing::typing::{made_for, raw_value, side_of, value_of};
-use crate::unary::to_integer;
-use crate::value_shape::shape_of;
-use c_tree::{Boxed, Conversion, TypedExpr};
-use c_types::{TypeShape, Types};
 use cc_base::{Fault, NoMemory, Place, TypeId};
 
 pub(crate) fn points_to_void(types: &Types, t: TypeId) -> bool

@@ -6,14 +6,14 @@ ghost use Rattle.c_typing.specs.Judging.{Answers, known};
 ghost use Rattle.c_typing.specs.Operations as operations;
 ghost use Rattle.c_typing.specs.OperandViews.{part_view, operand_view};
 
+use c_lexer::IntegerType;
+use c_tree::{Boxed, TypedExpr, TypedPlace};
+use c_types::Types;
 use c_typing::construct::{held_with_one, holding};
 use c_typing::kind::constant_kind;
 use c_typing::operand::{Operand, Part};
 use c_typing::scope::Scope;
 use c_typing::shapes::INT;
-use c_lexer::IntegerType;
-use c_tree::{Boxed, TypedExpr, TypedPlace};
-use c_types::Types;
 use cc_base::{Fault, NoMemory, Place};
 
 /// An integer constant (C99 6.4.4.1).
@@ -37,12 +37,7 @@ pub fn integer(
 
 /// A character constant (C99 6.4.4.4).
 #[tactic(auto, using(c_tree::proofs::TypedViewLaws::typed_views), unfolding(c_typing::specs::Operations::character, c_typing::specs::Operations::leaf))]
-pub fn character(
-    scope: &Scope,
-    types: &Types,
-    value: i32,
-    at: Place,
-) -> Result<Operand, Fault>
+pub fn character(scope: &Scope, types: &Types, value: i32, at: Place) -> Result<Operand, Fault>
     ensures { Answers operand_view (operations.character value at (known types.now scope.now)) result (known types.now scope.now) }
 {
     Ok(Operand {

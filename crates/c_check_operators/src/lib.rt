@@ -6,6 +6,7 @@ pub mod assigning;
 pub mod binary;
 pub mod calls;
 pub mod casting;
+pub mod cells;
 pub mod choosing;
 pub mod conversion;
 pub mod leaf;

@@ -9,13 +9,13 @@ ghost use Rattle.c_typing.specs.Judging.{Answers, known};
 ghost use Rattle.c_typing.specs.OperandViews.{operand_view};
 ghost use Rattle.c_typing.specs.Rules.{pieces_bytes};
 
+use c_lexer::literal_bytes;
+use c_tree::{Items, StringPiece, TypedPlace};
+use c_types::{TypeShape, Types};
 use c_typing::operand::{Operand, Part};
 use c_typing::scope::Scope;
 use c_typing::stops::no_room;
 use c_typing::typing::type_with;
-use c_lexer::literal_bytes;
-use c_tree::{Items, StringPiece, TypedPlace};
-use c_types::{TypeShape, Types};
 use cc_base::{Fault, Limit, NoMemory, Place, TypeId};
 use std::alloc::Global;
 

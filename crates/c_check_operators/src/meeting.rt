@@ -11,14 +11,14 @@ ghost use Rattle.c_check_operators.specs.ShapeViews.{meeting_view};
 ghost use Rattle.c_typing.specs.OperandViews.{part_ref_view};
 ghost use Rattle.c_typing.specs.Tests as tests;
 
-use c_typing::constant::is_null_constant;
 use crate::conversion::{are_data, is_null_part, is_taken_as, points_to_void};
-use c_typing::operand::PartRef;
-use c_typing::same::is_same_type;
-use c_typing::shapes::{is_pointer, shape_at};
 use crate::value_shape::shape_of;
 use c_tree::TypedExpr;
 use c_types::{TypeShape, Types};
+use c_typing::constant::is_null_constant;
+use c_typing::operand::PartRef;
+use c_typing::same::is_same_type;
+use c_typing::shapes::{is_pointer, shape_at};
 use cc_base::TypeId;
 
 /// How two operands of `==` or of a `?:` that are no integers meet, and the type that they both point to.

@@ -16,16 +16,15 @@ ghost use Rattle.c_typing.specs.Tests as tests;
 ghost use Rattle.c_typing.specs.Tests.{first_broken};
 ghost use Rattle.c_types.specs.Table.{shape_at};
 
+use crate::value_shape::shape_of;
+use c_tree::{Boxed, Identifier, TypedExpr, TypedPlace};
+use c_types::{TypeShape, Types};
 use c_typing::construct::{held_with_one, holding};
 use c_typing::copies::copied_name;
 use c_typing::operand::{Operand, Part, PartRef, Value};
 use c_typing::scope::Scope;
-use c_typing::shapes::{is_aggregate, pointed_shape, shape_at};
+use c_typing::shapes::{is_aggregate, pointed_shape, pointee_at, shape_at};
 use c_typing::stops::{no_room, refusal};
-use c_typing::shapes::pointee_at;
-use crate::value_shape::shape_of;
-use c_tree::{Boxed, Identifier, TypedExpr, TypedPlace};
-use c_types::{TypeShape, Types};
 use cc_base::{Fault, NodeId, Place, Rule, TypeId};
 
 /// The number of a member, and a node for its place.

@@ -10,17 +10,17 @@ ghost use Rattle.c_typing.specs.Scopes.{name_in, place_among};
 ghost use Rattle.c_typing.specs.Tests as tests;
 ghost use Rattle.c_typing.specs.Tests.{first_broken};
 
+use crate::member_places::numbered;
+use c_tree::{Identifier, Runtime, TypedExpr, TypedPlace};
+use c_types::Types;
 use c_typing::construct::holding;
 use c_typing::copies::copied_name;
 use c_typing::declared::Declared;
-use crate::member_places::numbered;
 use c_typing::operand::{Operand, Part};
 use c_typing::scope::Scope;
+use c_typing::shapes::INT;
 use c_typing::stops::{no_room, refusal};
 use c_typing::typing::new_pointer;
-use c_typing::shapes::INT;
-use c_tree::{Identifier, Runtime, TypedExpr, TypedPlace};
-use c_types::Types;
 use cc_base::{Fault, Place, Rule, TypeId};
 use runtime_calls::runtime;
 

@@ -10,22 +10,21 @@ ghost use Rattle.c_typing.specs.OperandViews.{part_ref_view};
 ghost use Rattle.c_typing.specs.Tests as tests;
 ghost use Rattle.c_typing.specs.Tests.{first_broken, AsValue};
 
+use crate::meeting::meet;
+use crate::value_shape::shape_of;
+use c_tree::{Binary, TypedExpr};
+use c_types::{TypeShape, Types};
 use c_typing::constant::{cannot_divide, constant_value};
 use c_typing::kind::{Kind, is_equality, is_logical, is_order, left_kind, right_kind};
-use crate::meeting::meet;
 use c_typing::operand::PartRef;
 use c_typing::same::is_same_type;
 use c_typing::scope::Scope;
 use c_typing::shapes::{
-    are_integers, is_index_pair, is_integer, is_pointer, is_scalar, point_to_data,
+    are_integers, integer_at, is_index_pair, is_integer, is_pointer, is_scalar, point_to_data,
     points_to_incomplete, shape_at,
 };
 use c_typing::stops::refusal;
-use c_typing::shapes::integer_at;
 use c_typing::value::converted;
-use crate::value_shape::shape_of;
-use c_tree::{Binary, TypedExpr};
-use c_types::{TypeShape, Types};
 use cc_base::{Fault, Place, Rule};
 
 /// Pointers to one type.
@@ -96,7 +95,6 @@ fn constant_as(from: Kind, to: Kind, z: i128) -> i128
 }
 
 /// Whether two values, each converted to the type that the operator asks for, have no quotient.
-#[tactic(auto, using(c_typing::proofs::KindLaws::left_sized, c_typing::proofs::KindLaws::right_sized))]
 fn divides_as(operator: Binary, left: Kind, right: Kind, x: i128, y: i128) -> bool
     requires left { IsIntegerSize left.bytes }
     requires right { IsIntegerSize right.bytes }

@@ -10,15 +10,15 @@ ghost use Rattle.c_typing.specs.Tests as tests;
 ghost use Rattle.c_typing.specs.Tests.{first_broken};
 
 use crate::address::{address, can_be_written, size};
+use crate::unary::{computed, target};
+use crate::value_shape::shape_of;
+use c_tree::{Boxed, Step, TypedExpr, Unary};
+use c_types::{TypeShape, Types};
 use c_typing::construct::{held_with_one, holding};
 use c_typing::operand::{Operand, Part};
 use c_typing::scope::Scope;
 use c_typing::shapes::{is_scalar, points_to_incomplete, shape_at};
 use c_typing::stops::{no_room, refusal};
-use crate::unary::{computed, target};
-use crate::value_shape::shape_of;
-use c_tree::{Boxed, Step, TypedExpr, Unary};
-use c_types::{TypeShape, Types};
 use cc_base::{Fault, Place, Rule};
 
 /// Whether a part is an array.

@@ -16,15 +16,18 @@ ghost use Rattle.c_typing.specs.Conversions.{to_integer};
 ghost use Rattle.c_typing.specs.Tests as tests;
 ghost use Rattle.c_typing.specs.Tests.{first_broken, AsValue};
 
+use c_tree::{Boxed, Conversion, TypedExpr, TypedPlace, Unary};
+use c_types::{TypeShape, Types};
 use c_typing::construct::{held_with_one, holding};
 use c_typing::kind::Kind;
 use c_typing::operand::{Operand, Part, Value};
 use c_typing::scope::Scope;
-use c_typing::shapes::{is_function, is_integer, is_pointer, is_scalar, points_to_open, shape_at};
+use c_typing::shapes::{
+    INT, integer_at, is_function, is_integer, is_pointer, is_scalar, pointee_at, points_to_open,
+    shape_at,
+};
 use c_typing::stops::refusal;
 use c_typing::typing::value;
-use c_tree::{Boxed, Conversion, TypedExpr, TypedPlace, Unary};
-use c_types::{TypeShape, Types};
 use cc_base::{Fault, NoMemory, Place, Rule, TypeId};
 
 /// The rules of `*`.

@@ -7,9 +7,9 @@ ghost use Rattle.c_check_operators.specs.ShapeViews.{value_shape_view};
 ghost use Rattle.c_typing.specs.OperandViews.{part_ref_view};
 ghost use Rattle.c_typing.specs.Tests as tests;
 
+use c_types::{TypeShape, Types};
 use c_typing::operand::PartRef;
 use c_typing::shapes::shape_at;
-use c_types::{TypeShape, Types};
 use cc_base::{NodeId, TypeId};
 
 /// The shape of the value of a part.

@@ -1,7 +1,6 @@
 -- The sizes of integer types.
 use Rattle.std.proofs.Common.{◌≡◌, ℕ, Bool, true, false, subst, sym, inl, inr, refl, nat_lt, if◌then◌else◌}
 use Rattle.cc_base.specs.declared.number.TypeId.{TypeId}
-use Rattle.c_types.specs.declared.shape.TypeShape.{TypeShape}
 use Rattle.c_types.specs.declared.shape.TypeShape.TheVariants.{Integer}
 use Rattle.c_types.specs.Table.{Table, shape_at}
 use Rattle.c_types.specs.Sound.{IsWellFormed, IsProper, IsIntegerSize}

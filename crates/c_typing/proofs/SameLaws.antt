@@ -1,5 +1,5 @@
 -- Which types are the same, step by step.
-use Rattle.std.proofs.Common.{◌≡◌, ◌≢◌, ℕ, zero, suc, ◌+◌, ◌-◌, length, false, refl, ap, sym, arith}
+use Rattle.std.proofs.Common.{◌≡◌, ◌≢◌, ℕ, zero, suc, ◌+◌, ◌-◌, length, false, refl, ap, arith}
 use Rattle.cc_base.specs.declared.number.TypeId.{TypeId}
 use Rattle.c_types.specs.Table.{Table, shape_at, descend}
 use Rattle.c_typing.specs.Shapes.{is_same_type, same_step, same_shape}

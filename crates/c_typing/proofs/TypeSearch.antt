@@ -1,5 +1,5 @@
 -- The search of the table for a shape, and what a call of `Types::add` does by it.
-use Rattle.std.proofs.Common.{◌≡◌, ◌≢◌, ℕ, zero, suc, ◌+◌, ◌-◌, ◌<◌, ◌≤◌, Bool, true, false, List, [], ◌∷◌, ◌++◌, length, Option, Some, None, Result, Ok, Err, IfOk, OnErr, refl, ap, sym, subst, ◌∙◌, inl, inr, ◌↔◌, nat_lt, nat_le, get_or, ◌⊎◌, true≢false, if◌then◌else◌, arith}
+use Rattle.std.proofs.Common.{◌≡◌, ℕ, zero, suc, ◌+◌, ◌-◌, ◌<◌, ◌≤◌, Bool, true, false, [], ◌∷◌, ◌++◌, length, Option, Some, None, Result, Ok, Err, IfOk, OnErr, refl, ap, sym, ◌∙◌, inl, inr, ◌↔◌, nat_lt, nat_le, get_or, true≢false, if◌then◌else◌, arith}
 use Rattle.std.proofs.lemmas.Bool.Decides.{Decides-ltb, leb_tells}
 use Rattle.cc_base.specs.declared.place.Place.{Place}
 use Rattle.cc_base.specs.declared.number.TypeId.{TypeId}
@@ -10,11 +10,11 @@ use Rattle.c_types.specs.declared.fault.TypeFault.{TypeFault}
 use Rattle.c_types.specs.declared.fault.TypeFault.TheVariants as type_fault
 use Rattle.c_types.specs.declared.shape.TypeShape.{TypeShape}
 use Rattle.c_types.specs.declared.shape.TypeShape.TheVariants.{Void, Integer, Pointer, Array, Function, Struct, Union}
-use Rattle.c_types.specs.Table.{Table, Entry, HasShape, IsType, void_entry, shape_at}
+use Rattle.c_types.specs.Table.{Table, Entry, HasShape, void_entry}
 use Rattle.c_types.specs.Calls.{IsNew, IsTypeFault, basic_entry, new_layout}
 use Rattle.c_types.proofs.Shapes.{shape_eq, same_shape, own_shape}
 use Rattle.c_typing.specs.Scopes.{Seen}
-use Rattle.c_typing.specs.Judging.{State, known, Outcome, Gives, Stops, Answers, is_shape, type_among, there_or_added, type_with}
+use Rattle.c_typing.specs.Judging.{known, Gives, Stops, is_shape, type_among, there_or_added, type_with}
 
 -- the test is the derived one
 is_shape-eq : (a b : TypeShape) → is_shape a b ≡ shape_eq a b

@@ -1,17 +1,15 @@
 -- Values of integer types.
-use Rattle.std.proofs.Common.{zero, suc, Option, None, Some, not, ◌&&◌, ◌≢◌, ◌-ℤ◌, ◌/◌, ◌≤◌, neg_ℤ, int_div, int_rem, FitsSigned, true≢false, ℕ, ℤ, pos, negsuc, ◌+◌, ◌-◌, ◌*◌, ◌%◌, ◌^◌, ◌<◌, ◌≡◌, ◌⊎◌, ◌+ℤ◌, Bool, true, false, refl, ap, subst, sym, ◌∙◌, arith, inl, inr, if◌then◌else◌, nat_lt}
+use Rattle.std.proofs.Common.{zero, suc, Option, None, Some, not, ◌&&◌, ◌≢◌, ◌-ℤ◌, ◌/◌, neg_ℤ, int_div, FitsSigned, true≢false, ℕ, ℤ, pos, negsuc, ◌-◌, ◌*◌, ◌^◌, ◌<◌, ◌≡◌, ◌⊎◌, Bool, true, false, refl, ap, sym, ◌∙◌, arith, inl, inr, if◌then◌else◌}
 use mir.Syntax.{w128}
-use mir.Val.{SFits}
 use lib.Signed.{mag}
 use Rattle.std.specs.Int.{int_wrap}
 use Rattle.std.specs.Ordering.{int_eq}
 use Rattle.std.proofs.lemmas.Nat.{div_below}
 use Rattle.std.proofs.Math.Nat.{div-le_self}
 use Rattle.std.proofs.lemmas.Int.{quot_fits, ints}
-use Rattle.std.proofs.lemmas.Bool.Decides.{Decides-int_eq}
 use Rattle.std.proofs.lemmas.Bool.Decides.{nat_tests}
-use Rattle.integers.specs.Words.{residue, word, as_signed, as_unsigned, signed_of}
-use Rattle.integers.specs.Arithmetic.{IntegerType, Operator, converted, bits_of, least, divides}
+use Rattle.integers.specs.Words.{residue, signed_of}
+use Rattle.integers.specs.Arithmetic.{IntegerType, Operator, converted, least, divides}
 use Rattle.c_typing.specs.Constants.{cannot_divide, with_value}
 
 pub residue_wrapped_64 : (z : ℤ) → residue (int_wrap w128 z) (2 ^ 64) ≡ residue z (2 ^ 64)

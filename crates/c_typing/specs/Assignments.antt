@@ -1,10 +1,9 @@
 -- What assignments, choices, casts, calls and names make, where no rule is broken, and where they stop else (C99 6.5).
-use Rattle.std.specs.Prelude.{ℕ, ◌+◌, Bool, true, false, ◌&&◌, nat_lt, nat_le, List, [], ◌∷◌, ◌++◌, map, fold, length, max, Option, Some, None, if◌then◌else◌}
+use Rattle.std.specs.Prelude.{ℕ, ◌+◌, Bool, true, false, ◌&&◌, nat_lt, nat_le, List, [], ◌∷◌, map, fold, length, max, Option, Some, None, if◌then◌else◌}
 use Rattle.cc_base.specs.declared.place.Place.{Place}
-use Rattle.cc_base.specs.declared.number.NodeId.{NodeId}
 use Rattle.cc_base.specs.declared.number.TypeId.{TypeId}
 use Rattle.cc_base.specs.declared.fault.Fault.TheVariants.{TooLarge}
-use Rattle.cc_base.specs.declared.fault.Limit.TheVariants.{Types, Globals, Cells}
+use Rattle.cc_base.specs.declared.fault.Limit.TheVariants.{Types, Globals}
 use Rattle.c_types.specs.declared.shape.TypeShape.{TypeShape}
 use Rattle.c_types.specs.declared.shape.TypeShape.TheVariants as shape
 use Rattle.c_types.specs.Table.{Table, shape_at, entry_at, is_complete}
@@ -13,7 +12,6 @@ use Rattle.c_tree.specs.declared.leaf.Identifier.{Identifier}
 use Rattle.c_tree.specs.declared.leaf.StringPiece.{StringPiece}
 use Rattle.c_tree.specs.declared.operator.Assignment.{Assignment}
 use Rattle.c_tree.specs.declared.operator.Assignment.TheVariants as assignment
-use Rattle.c_tree.specs.declared.operator.Binary.{Binary}
 use Rattle.c_tree.specs.declared.typed_word.Conversion.{Conversion}
 use Rattle.c_tree.specs.declared.typed_word.Conversion.TheVariants as conversion
 use Rattle.c_tree.specs.declared.typed_word.Runtime.{Runtime}
@@ -24,19 +22,20 @@ use Rattle.c_tree.specs.TypedParts.{type_of, place_type, named_type}
 use Rattle.runtime_calls.specs.declared.function.RuntimeType.{RuntimeType}
 use Rattle.runtime_calls.specs.declared.function.RuntimeType.TheVariants as prototype
 use Rattle.runtime_calls.specs.Prototypes.{prototype_of, runtime_of}
-use Rattle.integers.specs.Arithmetic.{IntegerType, int, unsigned_long}
+use Rattle.integers.specs.Arithmetic.{IntegerType}
 use Rattle.c_typing.specs.declared.declared.Declared.{Declared}
 use Rattle.c_typing.specs.declared.declared.Declared.TheVariants as declared
 use Rattle.c_typing.specs.Integers.{char, common, left_type, right_type, assigning}
 use Rattle.c_typing.specs.Shapes.{is_void_shape, integer_at}
-use Rattle.c_typing.specs.Scopes.{Scopes, Name, name_in, place_among}
-use Rattle.c_typing.specs.Conversions.{to_integer, implicit, converting, cast_conversion, is_pointer_to_complete}
-use Rattle.c_typing.specs.Rules.{Meeting, meeting, meeting_type, into_choice, pieces_bytes, runtime_named, IsTarget}
+use Rattle.c_typing.specs.Scopes.{name_in, place_among}
+use Rattle.c_typing.specs.Conversions.{to_integer, implicit, converting, cast_conversion}
+use Rattle.c_typing.specs.Rules.{meeting, meeting_type, into_choice, pieces_bytes, runtime_named}
 use Rattle.c_typing.specs.Tests as tests
 use Rattle.c_typing.specs.Tests.{Elaborated, AsPlace, AsValue, AsAllocation}
 use Rattle.c_typing.specs.Refusals.{type_size_tests}
-use Rattle.c_typing.specs.Judging.{State, Judging, Gives, Stops, pure, stop, unless, by_known, ◌>>=◌, ◌>>◌, Pointing, new_node, new_pointer, pointer_type, type_with, void_type, integer_type, holding}
-use Rattle.c_typing.specs.Operands.{Operand, Value, value, value_of, side_of, given, argument_of}
+use Rattle.c_typing.specs.Judging.{Judging, Gives, Stops, pure, stop, by_known, ◌>>=◌, new_node, new_pointer, type_with, void_type, integer_type}
+use Rattle.c_typing.specs.Operands.{Operand, Value, value, side_of, given, argument_of}
+use Rattle.c_typing.specs.Cells.{count_cells}
 use Rattle.c_typing.specs.Operations.{construct, leaf, int_type, size_type, numbered}
 
 -- Assignments (C99 6.5.16)
@@ -54,8 +53,15 @@ assigned T at p (AsPlace q) = AsPlace (typed.StructAssign p at q)
 assigned T at p (AsValue e) = AsValue (typed.Assign p at (converted_to T at (place_type p) e))
 assigned T at p (AsAllocation e) = AsValue (typed.Assign p at e)
 
+-- the pointers that a struct of the type holds are moved, and counted
+abbrev pub moved : Place → TypeId → Elaborated → Judging TypeId
+moved at t (AsPlace q) = count_cells at t
+moved at t y = pure t
+
 unfoldable pub assign_part : Place → Elaborated → Elaborated → Judging Elaborated
-assign_part at (AsPlace p) y = by_known (λ s. pure (assigned s.table at p y))
+assign_part at (AsPlace p) y = do
+  t ← moved at (place_type p) y
+  by_known (λ s. pure (assigned s.table at p y))
 assign_part at x y = stop (TooLarge at Types)
 
 abbrev pub part_type : Elaborated → TypeId

@@ -13,7 +13,7 @@ use Rattle.c_typing.specs.Shapes.{is_same_type}
 use Rattle.c_typing.specs.Constants.{constant_value}
 use Rattle.c_typing.specs.Tests as tests
 use Rattle.c_typing.specs.Tests.{Test, Elaborated, AsPlace, AsValue, AsAllocation}
-use Rattle.c_typing.specs.Judging.{Judging, pure, stop, by_known, ◌>>=◌, ◌>>◌}
+use Rattle.c_typing.specs.Judging.{Judging, pure, stop, by_known, ◌>>=◌}
 use Rattle.c_typing.specs.Operands.{Operand, Value, value, side_of, given}
 use Rattle.c_typing.specs.Assignments.{converted_to}
 use Rattle.c_typing.specs.Specifying.{obeying}

@@ -1,5 +1,5 @@
 -- What declarators and parameters make of a type, where no rule is broken, and where they stop else (C99 6.7.5).
-use Rattle.std.specs.Prelude.{ℕ, ℤ, pos, Bool, true, false, not, ◌&&◌, nat_lt, List, [], ◌∷◌, length, Option, Some, None, if◌then◌else◌}
+use Rattle.std.specs.Prelude.{ℕ, ℤ, pos, Bool, true, false, ◌&&◌, nat_lt, List, [], ◌∷◌, length, Option, Some, None, if◌then◌else◌}
 use Rattle.std.specs.List.{list_all}
 use Rattle.cc_base.specs.declared.place.Place.{Place}
 use Rattle.cc_base.specs.declared.number.NodeId.{NodeId}
@@ -20,18 +20,19 @@ use Rattle.c_tree.specs.Tree as tree
 use Rattle.c_tree.specs.Places.{nowhere}
 use Rattle.c_tree.specs.TypedTree as typed
 use Rattle.c_tree.specs.TypedTree.{TypedExpr, TypedSpecifiers, TypedForm, TypedCore, TypedParts, TypedParameters, TypedDeclared, TypedMemberDeclarators}
-use Rattle.c_tree.specs.TypedParts.{specified_type, home_of_form, name_of_form}
+use Rattle.c_tree.specs.TypedParts.{specified_type, home_of_form}
 use Rattle.c_typing.specs.declared.declared.Declared.TheVariants as declared
 use Rattle.c_typing.specs.declared.naming.Naming.{Naming}
 use Rattle.c_typing.specs.declared.naming.Naming.TheVariants as naming
-use Rattle.c_typing.specs.Scopes.{Name, Scopes, declaring, entering, leaving}
+pub use Rattle.c_typing.specs.Adjusting.{Derived, NotDerived, ByStar, ByArray, ByFunction, by_stars, by_parts, derived_by, derived_by_core, derived_by_declared, typedef_place, adjusted_at}
+use Rattle.c_typing.specs.Scopes.{Name, declaring, entering, leaving}
 use Rattle.c_typing.specs.Constants.{constant_value}
 use Rattle.c_typing.specs.Shapes.{is_function_shape}
 use Rattle.c_typing.specs.Declarators.{Outermost, Written, Counts, Points, nearest, outside, taken_types, is_derived_declared}
 use Rattle.c_typing.specs.Tests as tests
 use Rattle.c_typing.specs.Tests.{AsValue}
 use Rattle.c_typing.specs.Refusals.{has_name, is_here, declared_identifier}
-use Rattle.c_typing.specs.Judging.{State, Judging, Gives, Stops, pure, stop, unless, by_known, ◌>>=◌, ◌>>◌, new_node, type_with, pointer_type}
+use Rattle.c_typing.specs.Judging.{Judging, Stops, pure, stop, by_known, ◌>>=◌, new_node, type_with, pointer_type}
 use Rattle.c_typing.specs.Operands.{Value}
 use Rattle.c_typing.specs.Specifying.{obeying, in_scopes}
 
@@ -49,37 +50,6 @@ abbrev mutual
 abbrev pub declared_name : tree.Declared → Option Identifier
 declared_name tree.NotDeclared = None
 declared_name (tree.DeclaredBy d) = declarator_name d
-
--- What stands nearest to the name: nothing, a star, or an array or function part with its place.
-pub data Derived : Type 0 where
-  NotDerived : Derived
-  ByStar : Derived
-  ByArray : Place → Derived
-  ByFunction : Place → Derived
-
-abbrev pub by_stars : List Star → Derived → Derived
-by_stars [] outer = outer
-by_stars (star ∷ stars) outer = ByStar
-
--- the first part is the nearest
-abbrev pub by_parts : tree.Parts → Derived → Derived
-by_parts tree.NoPart outer = outer
-by_parts (tree.AndArray all at words) outer = by_parts all (ByArray at)
-by_parts (tree.AndSizedArray all at words e) outer = by_parts all (ByArray at)
-by_parts (tree.AndFunction all at parameters) outer = by_parts all (ByFunction at)
-
-abbrev mutual
-  pub derived_by : tree.Declarator → Derived → Derived
-  derived_by (tree.Declares stars core parts) outer = derived_by_core core (by_parts parts (by_stars stars outer))
-
-  pub derived_by_core : tree.Core → Derived → Derived
-  derived_by_core (tree.Names name) outer = outer
-  derived_by_core tree.Unnamed outer = outer
-  derived_by_core (tree.Nested at d) outer = derived_by d outer
-
-abbrev pub derived_by_declared : tree.Declared → Derived
-derived_by_declared tree.NotDeclared = NotDerived
-derived_by_declared (tree.DeclaredBy d) = derived_by d NotDerived
 
 -- a declarator makes its name a function, of a type with this shape
 abbrev pub is_function_by : Derived → TypeShape → Bool
@@ -228,21 +198,6 @@ member_named names all form base (Some name) = obeying (λ s. tests.member_name_
   pure (typed.AndDeclarator all (typed.Declares form t)))
 
 -- Parameters
-
--- the place of the typedef's name in a list of specifiers
-abbrev pub typedef_place : tree.Specifiers → Place
-typedef_place tree.NoSpecifier = nowhere
-typedef_place (tree.AndSpecifier all (tree.Typedef name)) = name.place
-typedef_place (tree.AndSpecifier all specifier) = typedef_place all
-
--- whether a parameter is made a pointer, and the place of that
-abbrev pub adjusted_at : Derived → TypeShape → Place → Option Place
-adjusted_at (ByArray at) base named = Some at
-adjusted_at (ByFunction at) base named = Some at
-adjusted_at ByStar base named = None
-adjusted_at NotDerived (shape.Array element count) named = Some named
-adjusted_at NotDerived (shape.Function parameters result) named = Some named
-adjusted_at NotDerived base named = None
 
 unfoldable pub adjusted_with_node : Place → Option Place → Judging (Option Adjusted)
 adjusted_with_node at None = pure None

@@ -1,17 +1,16 @@
 -- How the parts of a text are judged one after another: what a part gives, or where it stops, from what is known before it. Clauses
 -- inside the crate cite this; laws say that what is given is well typed, and that what is refused breaks the rule that is named.
-use Rattle.std.specs.Prelude.{◌≡◌, ◌≢◌, ℕ, ◌+◌, Bool, ◌==◌, ◌&&◌, true, false, nat_lt, nat_le, List, [], ◌∷◌, ◌++◌, length, Option, Some, None, Result, Ok, Err, if◌then◌else◌}
+use Rattle.std.specs.Prelude.{◌≡◌, ◌≢◌, ℕ, ◌+◌, Bool, ◌==◌, ◌&&◌, true, false, nat_lt, nat_le, [], ◌∷◌, ◌++◌, length, Option, Some, None, Result, Ok, Err, if◌then◌else◌}
 use lib.Pointwise.{pointwise}
 use Rattle.cc_base.specs.declared.place.Place.{Place}
 use Rattle.cc_base.specs.declared.number.NodeId.{NodeId}
 use Rattle.cc_base.specs.declared.number.TypeId.{TypeId}
 use Rattle.cc_base.specs.declared.fault.Fault.{Fault}
 use Rattle.cc_base.specs.declared.fault.Fault.TheVariants.{TooLarge, NoMemory}
-use Rattle.cc_base.specs.declared.fault.Limit.{Limit}
 use Rattle.cc_base.specs.declared.fault.Limit.TheVariants.{Held, Types, Object}
 use Rattle.c_types.specs.declared.shape.TypeShape.{TypeShape}
 use Rattle.c_types.specs.declared.shape.TypeShape.TheVariants as shape
-use Rattle.c_types.specs.Table.{Table, Entry}
+use Rattle.c_types.specs.Table.{Table}
 use Rattle.c_types.specs.Calls.{basic_entry, new_layout}
 use Rattle.c_types.specs.Equality.{same_bool}
 use Rattle.integers.specs.Arithmetic.{IntegerType}

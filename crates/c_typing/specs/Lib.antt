@@ -6,6 +6,7 @@ pub mod Conversions
 pub mod Held
 pub mod Rules
 pub mod Declarators
+pub mod Adjusting
 pub mod Typing
 pub mod Tests
 pub mod Refusals

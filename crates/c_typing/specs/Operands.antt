@@ -1,5 +1,5 @@
 -- Operands: parts of an expression as they were judged, and the values that are taken of them (C99 6.3.2.1).
-use Rattle.std.specs.Prelude.{ℕ, Bool, true, false, List, [], ◌∷◌, map, Option, Some, None, if◌then◌else◌}
+use Rattle.std.specs.Prelude.{ℕ, Bool, true, false}
 use Rattle.cc_base.specs.declared.place.Place.{Place}
 use Rattle.cc_base.specs.declared.number.NodeId.{NodeId}
 use Rattle.cc_base.specs.declared.number.TypeId.{TypeId}
@@ -7,17 +7,16 @@ use Rattle.cc_base.specs.declared.fault.Fault.TheVariants.{TooLarge}
 use Rattle.cc_base.specs.declared.fault.Limit.TheVariants.{Types}
 use Rattle.c_types.specs.declared.shape.TypeShape.{TypeShape}
 use Rattle.c_types.specs.declared.shape.TypeShape.TheVariants as shape
-use Rattle.c_types.specs.Table.{Table, shape_at}
+use Rattle.c_types.specs.Table.{shape_at}
 use Rattle.c_tree.specs.TypedTree as typed
 use Rattle.c_tree.specs.TypedTree.{TypedExpr, TypedPlace}
-use Rattle.c_tree.specs.TypedParts.{type_of, place_type}
+use Rattle.c_tree.specs.TypedParts.{place_type}
 use Rattle.c_typing.specs.declared.typing.Reading.{Reading}
 use Rattle.c_typing.specs.declared.typing.Reading.TheVariants as reading
-use Rattle.c_typing.specs.Scopes.{Scopes}
 use Rattle.c_typing.specs.Conversions.{is_pointer_to_complete}
 use Rattle.c_typing.specs.Tests as tests
 use Rattle.c_typing.specs.Tests.{Elaborated, AsPlace, AsValue, AsAllocation}
-use Rattle.c_typing.specs.Judging.{Judging, pure, stop, by_known, ◌>>=◌, Pointing, new_pointer, void_type}
+use Rattle.c_typing.specs.Judging.{Judging, pure, stop, by_known, ◌>>=◌, new_pointer, void_type}
 
 -- A part, the place of its first token, and how many values it holds at once.
 pub record Operand : Type 0 where

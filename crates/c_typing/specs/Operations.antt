@@ -1,41 +1,35 @@
 -- What each construct makes of its operands, where no rule is broken, and where it stops else (C99 6.5).
-use Rattle.std.specs.Prelude.{ℕ, ◌+◌, ℤ, pos, Bool, true, false, nat_lt, List, [], ◌∷◌, map, length, max, Option, Some, None, if◌then◌else◌}
+use Rattle.std.specs.Prelude.{ℕ, ℤ, Bool, true, false, nat_lt, List, [], ◌∷◌, Option, Some, None, if◌then◌else◌}
 use Rattle.cc_base.specs.declared.place.Place.{Place}
 use Rattle.cc_base.specs.declared.number.NodeId.{NodeId}
 use Rattle.cc_base.specs.declared.number.TypeId.{TypeId}
 use Rattle.cc_base.specs.declared.fault.Fault.TheVariants.{TooLarge}
-use Rattle.cc_base.specs.declared.fault.Limit.TheVariants.{Types, Globals}
+use Rattle.cc_base.specs.declared.fault.Limit.TheVariants.{Types}
 use Rattle.c_lexer.specs.declared.number.IntegerType.{IntegerType as ConstantType}
 use Rattle.c_types.specs.declared.shape.TypeShape.{TypeShape}
-use Rattle.c_types.specs.declared.shape.TypeShape.TheVariants as shape
 use Rattle.c_types.specs.Table.{Table, shape_at}
 use Rattle.c_types.specs.Layouts.{size_of, member_at}
 use Rattle.c_tree.specs.declared.leaf.Identifier.{Identifier}
-use Rattle.c_tree.specs.declared.operator.Assignment.{Assignment}
-use Rattle.c_tree.specs.declared.operator.Assignment.TheVariants as assignment
 use Rattle.c_tree.specs.declared.operator.Binary.{Binary}
 use Rattle.c_tree.specs.declared.operator.Binary.TheVariants as binary
 use Rattle.c_tree.specs.declared.operator.Step.{Step}
 use Rattle.c_tree.specs.declared.operator.Step.TheVariants as step
 use Rattle.c_tree.specs.declared.operator.Unary.{Unary}
 use Rattle.c_tree.specs.declared.operator.Unary.TheVariants as unary
-use Rattle.c_tree.specs.declared.typed_word.Conversion.{Conversion}
-use Rattle.c_tree.specs.declared.typed_word.Conversion.TheVariants as conversion
-use Rattle.c_tree.specs.declared.typed_word.Side.{Side}
 use Rattle.c_tree.specs.declared.typed_word.Side.TheVariants as side
 use Rattle.c_tree.specs.TypedTree as typed
 use Rattle.c_tree.specs.TypedTree.{TypedExpr, TypedPlace, TypedTypeName}
-use Rattle.c_tree.specs.TypedParts.{type_of, place_type, named_type}
+use Rattle.c_tree.specs.TypedParts.{type_of, place_type}
 use Rattle.integers.specs.Arithmetic.{IntegerType, int, long, unsigned_long}
 use Rattle.c_typing.specs.Held.{held_with}
 use Rattle.c_typing.specs.Integers.{promoted, left_type, right_type, result_type, constant_type, is_logical, is_order}
 use Rattle.c_typing.specs.Shapes.{integer_at, pointee_at, is_pointer_shape, is_function_shape}
 use Rattle.c_typing.specs.Scopes.{Scopes, place_among, members_named}
 use Rattle.c_typing.specs.Conversions.{to_integer}
-use Rattle.c_typing.specs.Rules.{number_of_shape, pointer_behind, is_move, Meeting, RightIsNull, LeftIsNull, BothPoint, NeverMeet, meeting, null_of}
+use Rattle.c_typing.specs.Rules.{number_of_shape, pointer_behind, Meeting, RightIsNull, LeftIsNull, BothPoint, NeverMeet, meeting, null_of}
 use Rattle.c_typing.specs.Tests as tests
 use Rattle.c_typing.specs.Tests.{Elaborated, AsPlace, AsValue, AsAllocation, Test, first_broken}
-use Rattle.c_typing.specs.Judging.{State, Judging, pure, stop, unless, by_known, ◌>>=◌, ◌>>◌, Pointing, new_node, new_pointer, void_type, integer_type, holding}
+use Rattle.c_typing.specs.Judging.{State, Judging, pure, stop, unless, by_known, ◌>>=◌, new_node, new_pointer, integer_type, holding}
 use Rattle.c_typing.specs.Operands.{Operand, Value, value, value_of}
 
 abbrev pub int_type : TypeId

@@ -8,7 +8,7 @@ use Rattle.cc_base.specs.declared.number.TypeId.{TypeId}
 use Rattle.cc_base.specs.declared.fault.Fault.{Fault}
 use Rattle.cc_base.specs.declared.fault.Fault.TheVariants.{Refused}
 use Rattle.cc_base.specs.declared.fault.Rule.TheVariants as rule
-use Rattle.c_types.specs.Table.{Table, shape_at, is_aggregate_shape}
+use Rattle.c_types.specs.Table.{Table}
 use Rattle.c_tree.specs.declared.leaf.Identifier.{Identifier}
 use Rattle.c_tree.specs.declared.operator.AggregateKind.{AggregateKind}
 use Rattle.c_tree.specs.declared.operator.MemberOperator.{MemberOperator}

@@ -9,9 +9,9 @@ use Rattle.c_types.specs.Sound.{IsWellFormed, IsIntegerSize}
 use Rattle.c_tree.specs.declared.leaf.Identifier.{Identifier}
 use Rattle.c_tree.specs.declared.operator.AggregateKind.{AggregateKind}
 use Rattle.c_tree.specs.TypedTree as typed
-use Rattle.c_tree.specs.TypedTree.{TypedExpr, TypedTypeName, TypedSpecifier, TypedSpecifierList, TypedEnumerators}
-use Rattle.c_tree.specs.TypedParts.{type_of, named_type}
-use Rattle.c_tree.specs.Erasure.{erased, erased_type_name, erased_specifier, erased_specifier_list, erased_enumerators}
+use Rattle.c_tree.specs.TypedTree.{TypedExpr, TypedSpecifier, TypedSpecifierList, TypedEnumerators}
+use Rattle.c_tree.specs.TypedParts.{type_of}
+use Rattle.c_tree.specs.Erasure.{erased, erased_specifier, erased_specifier_list, erased_enumerators}
 use Rattle.c_tree.specs.Places.{expr_place}
 use Rattle.c_tree.specs.Tree as tree
 use Rattle.integers.specs.Arithmetic.{IntegerType}
@@ -19,8 +19,7 @@ use Rattle.c_typing.specs.Conversions.{bare, is_droppable, IsPlain}
 use Rattle.c_typing.specs.Declarators
 use Rattle.c_typing.specs.Declarators.{Counted, Named, NoType, IsEnumeration, counting, counted, named_by_specifier, named_by_list, are_allowed}
 use Rattle.c_typing.specs.Extensions.{IsExtended}
-use Rattle.c_typing.specs.Judging.{State, Gives, void_type, integer_type}
-use Rattle.c_typing.specs.Walks.{judge_type_name}
+use Rattle.c_typing.specs.Judging.{State, void_type, integer_type}
 use Rattle.c_typing.specs.Operands.{Operand, Value}
 use Rattle.c_typing.specs.Refusals.{IsElaborated}
 use Rattle.c_typing.specs.declared.declared.Declared.{Declared}
@@ -32,7 +31,7 @@ use Rattle.c_typing.specs.Scopes.{Name, Level, Scopes, is_complete_at}
 use Rattle.c_typing.specs.Shapes.{is_scalar_shape}
 use Rattle.c_typing.specs.Constants.{constant_value, is_null_constant}
 use Rattle.c_typing.specs.Tests.{Elaborated, AsPlace, AsValue, AsAllocation, shape_of, is_null_part, are_one_struct}
-use Rattle.c_typing.specs.Typing.{IsTyped, IsPlace, IsTypeName, IsSpecifier, AreListed, AreEnumerators, BeginsAggregate, shape_of_kind, tag_named_here}
+use Rattle.c_typing.specs.Typing.{IsTyped, IsPlace, IsSpecifier, AreListed, AreEnumerators, BeginsAggregate, shape_of_kind, tag_named_here}
 
 -- the table is well formed, a type names only types that were there before it, and `void` and the integer types are where every table
 -- has them
@@ -153,12 +152,6 @@ pub record IsListJudged (specifiers : tree.Specifiers) (list : TypedSpecifierLis
   pub allowed : are_allowed (counted list) ≡ true
   pub there : IsNamedThere after.table (named_by_list list)
   pub goes : GoesOn before after
-
--- what judging gives for type names is well typed: the law of expressions rests on it
-abbrev pub TypeNamesAreJudged : Type 0
-TypeNamesAreJudged =
-    (name : tree.TypeName) (t : TypedTypeName) (s r : State) → IsKnown s → judge_type_name name s ≡ Gives t r
-    → IsTypeName r.table t s.seen.scopes r.seen.scopes × (erased_type_name t ≡ name) × IsType r.table (named_type t) × GoesOn s r
 
 -- a shape whose node plays no part
 abbrev pub flat : TypeShape → TypeShape

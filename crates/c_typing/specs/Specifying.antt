@@ -1,5 +1,5 @@
 -- What specifiers, struct and union bodies and enumerators make, where no rule is broken, and where they stop else (C99 6.7.2).
-use Rattle.std.specs.Prelude.{ℕ, ℤ, ◌==◌, Bool, true, false, not, ◌&&◌, ◌||◌, nat_lt, nat_le, List, [], ◌∷◌, ◌++◌, length, slice_set, Option, Some, None, if◌then◌else◌}
+use Rattle.std.specs.Prelude.{ℕ, ℤ, ◌==◌, Bool, true, false, not, ◌&&◌, nat_lt, nat_le, List, ◌++◌, length, slice_set, Option, Some, None, if◌then◌else◌}
 use Rattle.std.specs.List.{list_all}
 use Rattle.cc_base.specs.declared.place.Place.{Place}
 use Rattle.cc_base.specs.declared.number.TypeId.{TypeId}
@@ -25,7 +25,7 @@ use Rattle.c_typing.specs.Typing.{shape_of_kind, counting_aggregate, tagging, ta
 use Rattle.c_typing.specs.Tests as tests
 use Rattle.c_typing.specs.Tests.{Test, AsValue, first_broken, has_some}
 use Rattle.c_typing.specs.Refusals.{one_named, tag_place, is_empty_row}
-use Rattle.c_typing.specs.Judging.{State, Judging, Gives, Stops, pure, stop, unless, by_known, ◌>>=◌, ◌>>◌, type_with, void_type, integer_type}
+use Rattle.c_typing.specs.Judging.{State, Judging, Gives, Stops, pure, stop, unless, by_known, ◌>>=◌, type_with, void_type, integer_type}
 use Rattle.c_typing.specs.Operands.{Value}
 use Rattle.c_typing.specs.Operations.{numbered}
 

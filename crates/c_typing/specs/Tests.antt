@@ -29,7 +29,7 @@ use Rattle.c_typing.specs.declared.declared.Tag.{Tag}
 use Rattle.c_typing.specs.declared.declared.Tag.TheVariants as tag
 use Rattle.c_tree.specs.declared.operator.AggregateKind.{AggregateKind}
 use Rattle.c_tree.specs.declared.operator.AggregateKind.TheVariants as kind
-use Rattle.c_typing.specs.Declarators.{Counted, are_allowed, Outermost, Written, Counts, Points, is_pointed, first_word_place, is_result_shape}
+use Rattle.c_typing.specs.Declarators.{Counted, are_allowed, Outermost, Written, is_pointed, first_word_place, is_result_shape}
 use Rattle.c_tree.specs.declared.leaf.Word.{Word}
 use Rattle.integers.specs.Arithmetic.{IntegerType, converted}
 use Rattle.c_typing.specs.Shapes.{is_same_type, is_data, is_integer_shape, is_pointer_shape, is_scalar_shape, is_void_shape, is_function_shape, integer_at}

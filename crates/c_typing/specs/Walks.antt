@@ -6,11 +6,8 @@ use Rattle.cc_base.specs.declared.number.TypeId.{TypeId}
 use Rattle.cc_base.specs.declared.fault.Fault.TheVariants.{TooLarge}
 use Rattle.cc_base.specs.declared.fault.Limit.TheVariants.{Types}
 use Rattle.c_types.specs.Table.{shape_at}
-use Rattle.c_tree.specs.declared.operator.Assignment.{Assignment}
 use Rattle.c_tree.specs.declared.operator.Assignment.TheVariants as assignment
-use Rattle.c_tree.specs.declared.operator.MemberOperator.{MemberOperator}
 use Rattle.c_tree.specs.declared.operator.MemberOperator.TheVariants as member
-use Rattle.c_tree.specs.declared.leaf.Identifier.{Identifier}
 use Rattle.c_tree.specs.Places.{nowhere, specifiers_place}
 use Rattle.c_tree.specs.Tree as tree
 use Rattle.c_tree.specs.TypedTree as typed
@@ -21,7 +18,7 @@ use Rattle.c_typing.specs.declared.naming.Naming.TheVariants as naming
 use Rattle.c_typing.specs.Scopes.{Name}
 use Rattle.c_typing.specs.Declarators.{Counted, Outermost, Written, Counts, counted, declarator_names, member_names}
 use Rattle.c_typing.specs.Refusals.{name_place, is_void_alone}
-use Rattle.c_typing.specs.Judging.{Judging, pure, stop, by_known, ◌>>=◌, ◌>>◌}
+use Rattle.c_typing.specs.Judging.{Judging, pure, stop, by_known, ◌>>=◌}
 use Rattle.c_typing.specs.Operands.{Operand, Value, value}
 use Rattle.c_typing.specs.Operations as operations
 use Rattle.c_typing.specs.Assignments as assignments

@@ -7,6 +7,7 @@ use c_tree::{Identifier, Items, Star, Word};
 use cc_base::NoMemory;
 use std::alloc::Global;
 
+/// A copy of a name.
 pub fn copied_name(alloc: Global, name: &Identifier) -> Result<Identifier, NoMemory>
     ensures { IfOk result (λ copy. copy ≡ name.now) }
 {
@@ -27,12 +28,14 @@ pub fn copied_tag(alloc: Global, tag: Option<&Identifier>) -> Result<Option<Iden
     }
 }
 
+/// A copy of the words of an array part.
 pub fn copied_words(alloc: Global, words: &[Word]) -> Result<Items<Word>, NoMemory>
     ensures { IfOk result (λ copy. copy ≡ words.now) }
 {
     Ok(Items::from_slice(alloc, words)?)
 }
 
+/// A copy of a star with its qualifiers.
 pub fn copied_star(alloc: Global, star: &Star) -> Result<Star, NoMemory>
     ensures { IfOk result (λ copy. copy ≡ star.now) }
 {

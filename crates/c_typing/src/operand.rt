@@ -25,6 +25,7 @@ pub enum PartRef<'e> {
 }
 
 impl Part {
+    /// The part, looked at.
     pub fn as_ref(&self) -> PartRef<'_>
         ensures { part_ref_view result ≡ part_view self.now }
     {

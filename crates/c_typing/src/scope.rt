@@ -16,6 +16,9 @@ use std::marker::Model;
 /// The most bytes of static objects and literals, with 16 for each.
 const MOST_GLOBALS: u64 = 4_194_304;
 
+/// The most pointers that all assignments of structs and unions move.
+const MOST_CELLS: u64 = 65_536;
+
 /// What names and tags stand for, scope by scope, and the number of the next node.
 #[derive(Drop)]
 pub struct Scope {
@@ -246,6 +249,19 @@ impl Scope {
             return false;
         }
         self.globals += bytes + 16;
+        true
+    }
+
+    /// Counts pointers that the assignment of a struct moves. False comes exactly where the limit would be passed. Takes no memory.
+    pub fn add_cells(&mut self, count: u64) -> bool
+        ensures fits { result ≡ nat_le (self.old.cells + count) 65536 }
+        ensures counted { result ≡ true → self.new ≡ record self.old { cells = self.old.cells + count } }
+        ensures unchanged { result ≡ false → self.new ≡ self.old }
+    {
+        if count > MOST_CELLS || self.cells > MOST_CELLS - count {
+            return false;
+        }
+        self.cells += count;
         true
     }
 }

@@ -29,12 +29,14 @@ pub fn shape_at(types: &Types, t: TypeId) -> Option<&TypeShape>
     }
 }
 
+/// An integer type (C99 6.2.5).
 pub fn is_integer(shape: Option<&TypeShape>) -> bool
     ensures { result ≡ shapes.is_integer_shape (shape_or_void (option_copied shape.entry)) }
 {
     matches!(shape, Some(TypeShape::Integer { .. }))
 }
 
+/// A pointer type (C99 6.2.5).
 pub fn is_pointer(shape: Option<&TypeShape>) -> bool
     ensures { result ≡ shapes.is_pointer_shape (shape_or_void (option_copied shape.entry)) }
 {
@@ -51,12 +53,14 @@ pub fn is_scalar(shape: Option<&TypeShape>) -> bool
     )
 }
 
+/// `void`, and what is no type.
 pub fn is_void(shape: Option<&TypeShape>) -> bool
     ensures { result ≡ shapes.is_void_shape (shape_or_void (option_copied shape.entry)) }
 {
     matches!(shape, None | Some(TypeShape::Void))
 }
 
+/// A function type (C99 6.2.5).
 pub fn is_function(shape: Option<&TypeShape>) -> bool
     ensures { result ≡ shapes.is_function_shape (shape_or_void (option_copied shape.entry)) }
 {
@@ -117,6 +121,7 @@ pub fn is_index_pair(a: Option<&TypeShape>, b: Option<&TypeShape>) -> bool
     (is_pointer(a) && is_integer(b)) || (is_integer(a) && is_pointer(b))
 }
 
+/// Whether both are integer types.
 pub fn are_integers(a: Option<&TypeShape>, b: Option<&TypeShape>) -> bool
     ensures { result ≡ tests.are_integers (shape_or_void (option_copied a.entry)) (shape_or_void (option_copied b.entry)) }
 {
@@ -130,6 +135,7 @@ pub fn is_data(types: &Types, t: TypeId) -> bool
     !is_function(shape_at(types, t))
 }
 
+/// Whether it is a pointer to what is no function, `void` included.
 pub fn point_to_data(types: &Types, shape: Option<&TypeShape>) -> bool
     ensures { result ≡ tests.point_to_data types.now (shape_or_void (option_copied shape.entry)) }
 {

@@ -1,7 +1,7 @@
 #![tactic(auto)]
 
 use super::*;
-use c_typing::kind::Kind;
+use crate::kind::Kind;
 use cc_base::{NodeId, TypeId};
 use indexmap::IndexSet;
 use std::process::Abort;

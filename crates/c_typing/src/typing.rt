@@ -2,8 +2,6 @@
 #![tactic(auto)]
 
 ghost use Rattle.std.specs.Prelude.{◌≡◌, ◌<◌, ◌≤◌, length, None, IfSome, IfOk};
-ghost use Rattle.cc_base.specs.declared.fault.Fault.TheVariants.{TooLarge};
-ghost use Rattle.cc_base.specs.declared.fault.Limit.TheVariants.{Types as limit_types};
 ghost use Rattle.c_types.specs.Table.{shape_at};
 ghost use Rattle.c_tree.specs.TypedParts.{place_type};
 ghost use Rattle.c_types.specs.Calls.{IsAddable};
@@ -16,9 +14,10 @@ ghost use Rattle.c_typing.specs.OperandViews.{part_view, operand_view, value_vie
 use crate::operand::{Operand, Part, Pointing, Value};
 use crate::scope::Scope;
 use crate::shapes::shape_at;
+use crate::stops::no_room;
 use c_tree::{Boxed, TypedExpr, TypedPlace};
 use c_types::{TypeFault, TypeShape, Types};
-use cc_base::{Fault, Limit, NoMemory, NodeId, Place, TypeId};
+use cc_base::{Fault, NoMemory, NodeId, Place, TypeId};
 
 /// The type with a shape, which is added where there is none.
 pub fn type_with(
@@ -49,10 +48,7 @@ pub fn pointer_type(
     ensures { Answers (λ t. t) (judging.pointer_type at node to (known types.old scope.now)) result (known types.new scope.now) }
 {
     if to.0 >= types.count() {
-        return Err(Fault::TooLarge {
-            place: at,
-            limit: Limit::Types,
-        });
+        return Err(no_room(at));
     }
     type_with(scope, types, at, TypeShape::Pointer(node, to))
 }
@@ -68,10 +64,7 @@ pub fn new_pointer(
     ensures { Answers pointing_view (judging.new_pointer at to (known types.old scope.old)) result (known types.new scope.new) }
 {
     let Some(node) = scope.new_node() else {
-        return Err(Fault::TooLarge {
-            place: at,
-            limit: Limit::Types,
-        });
+        return Err(no_room(at));
     };
     let ty = pointer_type(scope, types, at, node, to)?;
     Ok(Pointing { node, ty })
@@ -122,16 +115,6 @@ fn reading_at(types: &Types, t: TypeId) -> Reading
     }
 }
 
-/// A place of no type that a place can have stands for a table without room for it.
-fn no_place(at: Place) -> Fault
-    ensures { result ≡ TooLarge at limit_types }
-{
-    Fault::TooLarge {
-        place: at,
-        limit: Limit::Types,
-    }
-}
-
 /// The value of a place: an array's is its address.
 #[tactic(auto, using(c_tree::proofs::TypedViewLaws::typed_views), unfolding(crate::specs::Operands::place_value))]
 fn place_value(
@@ -150,7 +133,8 @@ fn place_value(
         }
         Reading::Reads => Ok(TypedExpr::Read(Boxed::new(alloc, p)?)),
         Reading::Stays => Ok(TypedExpr::Unread(Boxed::new(alloc, p)?)),
-        Reading::Nothing => Err(no_place(at)),
+        // no place has the type
+        Reading::Nothing => Err(no_room(at)),
     }
 }
 
@@ -168,6 +152,7 @@ pub fn raw_value(
     Ok(made_raw(scope, made, e)?)
 }
 
+/// The value of a part whose first token has the place (C99 6.3.2.1).
 #[tactic(auto, unfolding(crate::specs::Operands::value_of))]
 pub fn value_of(
     scope: &mut Scope,

@@ -1,11 +1,11 @@
 -- What judging gives for assignments, casts and commas, from what it gave for their operands.
-use Rattle.std.proofs.Common.{◌≡◌, ℕ, Bool, true, false, not, ◌&&◌, ◌||◌, ◌==◌, List, [], ◌∷◌, Option, Some, None, refl, ap, sym, subst, ◌∙◌, inl, inr, ◌⊎◌, IsTrue, if◌then◌else◌}
+use Rattle.std.proofs.Common.{◌≡◌, ℕ, Bool, true, false, not, ◌&&◌, ◌||◌, ◌==◌, ◌+◌, nat_le, List, [], ◌∷◌, Option, Some, None, refl, ap, sym, subst, ◌∙◌, inl, inr, ◌⊎◌, IsTrue, if◌then◌else◌}
 use Rattle.std.proofs.lemmas.Option.{none-some}
 use Rattle.cc_base.specs.declared.place.Place.{Place}
 use Rattle.cc_base.specs.declared.number.NodeId.{NodeId}
 use Rattle.cc_base.specs.declared.number.TypeId.{TypeId}
 use Rattle.cc_base.specs.declared.fault.Fault.TheVariants.{Refused, TooLarge}
-use Rattle.cc_base.specs.declared.fault.Limit.TheVariants.{Types}
+use Rattle.cc_base.specs.declared.fault.Limit.TheVariants.{Types, Cells}
 use Rattle.cc_base.specs.declared.fault.Rule.TheVariants as rule
 use Rattle.c_types.specs.declared.shape.TypeShape.{TypeShape}
 use Rattle.c_types.specs.declared.shape.TypeShape.TheVariants.{Void, Integer, Pointer, Array, Function, Struct, Union}
@@ -20,7 +20,8 @@ use Rattle.c_tree.specs.Tree as tree
 use Rattle.c_tree.specs.TypedTree as typed
 use Rattle.c_tree.specs.TypedTree.{TypedExpr, TypedPlace, TypedTypeName}
 use Rattle.c_tree.specs.TypedParts.{type_of, place_type, named_type}
-use Rattle.c_typing.specs.Assignments.{assign_given, converted_by, converted_to, assigned, assign_part, part_type, assign, comma_part, comma}
+use Rattle.c_typing.specs.Assignments.{assign_given, converted_by, converted_to, assigned, moved, assign_part, part_type, assign, comma_part, comma}
+use Rattle.c_typing.specs.Cells.{count_cells, pointers_in}
 use Rattle.c_typing.specs.Constants.{is_null_constant}
 use Rattle.c_typing.specs.Conversions.{bare, is_plain, IsPlain, is_droppable, IsTakenOver, is_allocation, is_taken_over, implicit, implicit_between, converting, is_pointer_to_complete, is_pointer_to_complete_shape, takes_over, IsAssignedBy, IsAssigned}
 use Rattle.c_typing.specs.Judging.{State, Outcome, Judging, Gives, Stops, next, ◌>>=◌, pure, stop, by_known, new_pointer, void_type}
@@ -35,7 +36,7 @@ use Rattle.c_typing.specs.Settled.{IsBasic, IsSettled, IsValueOf, IsKnown, GoesO
 use Rattle.c_typing.specs.Shapes.{is_scalar_shape, is_array_shape, is_same_type, is_void_shape}
 use Rattle.c_typing.specs.Tests.{Elaborated, AsPlace, AsValue, AsAllocation, first_broken, assign_tests, is_assignable, fits, are_one_struct, decayed, shape_of, has_some, can_be_written, is_array_part, points_to_incomplete}
 use Rattle.c_typing.specs.Typing.{IsTyped, IsPlace}
-use Rattle.c_typing_laws.proofs.ExtensionLaws.{no_true, and_left, and_right}
+use Rattle.c_typing_laws.proofs.ExtensionLaws.{no_true, and_left, and_right, extended_refl}
 use Rattle.c_typing_laws.proofs.ConstructLaws.{two_unbroken, three_unbroken, not_false, or_left, or_right}
 use Rattle.c_typing_laws.proofs.ConversionLaws.{fits-converted, fits-typed}
 use Rattle.c_typing_laws.proofs.KeptTypes.{pointed_exact}
@@ -155,7 +156,7 @@ given-gives e t at (AsPlace p) v s0 s r k there el h =
 
 -- Assignments
 
-converted-bare : (at : Place) (t : TypeId) (e : TypedExpr) (o : Option Conversion) → bare e ≡ e → bare (converted_by o at t e) ≡ e
+pub converted-bare : (at : Place) (t : TypeId) (e : TypedExpr) (o : Option Conversion) → bare e ≡ e → bare (converted_by o at t e) ≡ e
 converted-bare at t e None h = h
 converted-bare at t e (Some conversion.IntegerToInteger) h = by ((type_of e).0 == t.0)
   where
@@ -173,13 +174,13 @@ pub decayed-same : (x : TypeShape) → is_array_shape x ≡ false → decayed x 
 decayed-same (Array t n) h = no_true (sym h)
 decayed-same x h = refl
 
-implicit-scalar : (T : Table) (null : Bool) (x y : TypeShape) → has_some (implicit_between T null x y) ≡ true → is_scalar_shape y ≡ true
+pub implicit-scalar : (T : Table) (null : Bool) (x y : TypeShape) → has_some (implicit_between T null x y) ≡ true → is_scalar_shape y ≡ true
 implicit-scalar T null (Integer a s) (Integer b r) h = refl
 implicit-scalar T true x (Pointer n u) h = refl
 implicit-scalar T false (Pointer m t) (Pointer n u) h = refl
 implicit-scalar T null x y h = no_true h
 
-struct-fits : (T : Table) (x y : TypeShape) → is_aggregate_shape x ≡ true → has_some (implicit_between T false (decayed x) y) ≡ false
+pub struct-fits : (T : Table) (x y : TypeShape) → is_aggregate_shape x ≡ true → has_some (implicit_between T false (decayed x) y) ≡ false
 struct-fits T (Struct n) y h = refl
 struct-fits T (Union n) y h = refl
 struct-fits T Void y h = no_true h
@@ -188,7 +189,7 @@ struct-fits T (Pointer n t) y h = no_true h
 struct-fits T (Array t n) y h = no_true h
 struct-fits T (Function ps r) y h = no_true h
 
-pointed-scalar : (T : Table) (s : Scopes) (x : TypeShape) → is_pointer_to_complete_shape T s x ≡ true → is_scalar_shape x ≡ true
+pub pointed-scalar : (T : Table) (s : Scopes) (x : TypeShape) → is_pointer_to_complete_shape T s x ≡ true → is_scalar_shape x ≡ true
 pointed-scalar T s (Pointer n t) h = refl
 pointed-scalar T s Void h = no_true h
 pointed-scalar T s (Integer bytes signed) h = no_true h
@@ -294,6 +295,28 @@ assign_elaborated T ea eb p at v s0 m s place same given_v u = by v given_v (not
           refl,
         )
 
+-- counting what is moved leaves all else as it was
+pub moved-gives : (at : Place) (t : TypeId) (y : Elaborated) (s : State) (u : TypeId) (r : State) → IsKnown s → moved at t y s ≡ Gives u r
+    → GoesOnThere s r × (r.table ≡ s.table)
+unfolding count_cells
+moved-gives at t (AsPlace q) s u r k h = by (nat_le (s.seen.cells + pointers_in s.table t) 65536) h
+  where
+    after : State
+    after = record s { seen = record s.seen { cells = s.seen.cells + pointers_in s.table t } }
+
+    here : GoesOnThere s after
+    here = record {
+      goes = record { extends = extended_refl s.table; known = record { basic = k.basic; followed = k.followed; levels = k.levels; numbered = k.numbered } };
+      scopes = refl;
+    }
+
+    by : (b : Bool) → (if b then Gives t (record s { seen = record s.seen { cells = s.seen.cells + pointers_in s.table t } }) else Stops (TooLarge at Cells) s) ≡ Gives u r
+        → GoesOnThere s r × (r.table ≡ s.table)
+    by true q = let same = gives-state t u after r q in (subst (GoesOnThere s) same here, ap (λ (x : State). x.table) (sym same))
+    by false q = never-gives u (TooLarge at Cells) s r q
+moved-gives at t (AsValue e) s u r k h = let same = gives-state t u s r h in (subst (GoesOnThere s) same (stays s k), ap (λ (x : State). x.table) (sym same))
+moved-gives at t (AsAllocation e) s u r k h = let same = gives-state t u s r h in (subst (GoesOnThere s) same (stays s k), ap (λ (x : State). x.table) (sym same))
+
 pub assign-judged : (ea eb : tree.Expr) (x : Operand) (at : Place) (y o : Operand) (s0 m : Scopes) (s r : State) → IsKnown s → IsElaborated s.table ea x.part s0 m
     → IsElaborated s.table eb y.part m s.seen.scopes → x.place ≡ expr_place ea → assign x at y s ≡ Gives o r
     → IsJudged (tree.Assign assignment.Assign ea at eb) o s0 s r
@@ -310,8 +333,12 @@ assign-judged ea eb x at y o s0 m s r k ex ey here h =
         → first_broken (assign_tests n.table n.seen.scopes assignment.Assign at z v) ≡ None → assign_part at z v n ≡ Gives o.part r → o.place ≡ expr_place ea
         → IsJudged (tree.Assign assignment.Assign ea at eb) o s0 s r
     by (AsPlace p) v n l g goes u q place =
-        made-later (tree.Assign assignment.Assign ea at eb) (assigned n.table at p v) o s0 s n r goes q place
-        (assign_elaborated n.table ea eb p at v s0 m n.seen.scopes (place-kept s.table n.table goes.extends k.basic p s0 m l.0) l.1 g u)
+        let one = bind-gives (moved at (place_type p) v n) (λ t. by_known (λ k. pure (assigned k.table at p v))) o.part r q in
+        let counted = moved-gives at (place_type p) v n one.0 one.1 goes.known one.2 in
+        made-later (tree.Assign assignment.Assign ea at eb) (assigned one.1.table at p v) o s0 s one.1 r (goes-on s n one.1 goes counted.0.goes) one.3 place
+        (subst (IsElaborated one.1.table (tree.Assign assignment.Assign ea at eb) (assigned one.1.table at p v) s0) (sym counted.0.scopes)
+        (subst (λ (T : Table). IsElaborated T (tree.Assign assignment.Assign ea at eb) (assigned T at p v) s0 n.seen.scopes) (sym counted.1)
+        (assign_elaborated n.table ea eb p at v s0 m n.seen.scopes (place-kept s.table n.table goes.extends k.basic p s0 m l.0) l.1 g u)))
     by (AsValue w) v n l g goes u q place = never-gives o.part (TooLarge at Types) n r q
     by (AsAllocation w) v n l g goes u q place = never-gives o.part (TooLarge at Types) n r q
 

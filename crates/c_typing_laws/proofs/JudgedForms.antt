@@ -278,13 +278,13 @@ parts-made at outermost (typed.AndFunction all paren parameters) base t s r k b 
 
 -- The whole
 
-abbrev ByForm : TypedForm → Outermost → TypeId → Table → Scopes → TypeId → Type 0
+abbrev pub ByForm : TypedForm → Outermost → TypeId → Table → Scopes → TypeId → Type 0
 ByForm form outermost base T s t = FormMakes T s form outermost base t
 
 abbrev ByCore : TypedCore → Outermost → TypeId → Table → Scopes → TypeId → Type 0
 ByCore core outermost base T s t = CoreMakes T s core outermost base t
 
-abbrev ByDeclared : TypedDeclared → Outermost → TypeId → Table → Scopes → TypeId → Type 0
+abbrev pub ByDeclared : TypedDeclared → Outermost → TypeId → Table → Scopes → TypeId → Type 0
 ByDeclared d outermost base T s t = DeclaredMakes T s d outermost base t
 
 mutual

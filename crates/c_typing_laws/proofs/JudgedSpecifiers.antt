@@ -116,39 +116,34 @@ tag_kind kind.Union kind.Union t h = refl
 tag_kind kind.Struct kind.Union t h = no_true h
 tag_kind kind.Union kind.Struct t h = no_true h
 
+-- by what its tag stands for, among the scopes that were looked through
+pub tagged_as-judged : (which : AggregateKind) (name : Identifier) (t : TypeId) (s m : State) (o : Option Tag) → IsKnown s
+    → ((what : Tag) → o ≡ Some what → IsTagThere s.table what) → is_other_tag (is_tag_of which) o ≡ false → tagged_as which name o s ≡ Gives t m
+    → IsTagged m.table o which name t s.seen.scopes m.seen.scopes × IsType m.table t × GoesOn s m
+unfolding tagged_as
+tagged_as-judged which name t s m None k there fits h =
+    let made = new_aggregate-judged which name.place (Some name) t s m k h in
+    (made.declared, made.declared.shape.0, made.goes)
+tagged_as-judged which name t s m (Some (tag.Aggregate other u)) k there fits h =
+    let is_one = tag_kind which other u (not_false (is_tag_of which (tag.Aggregate other u)) fits) in
+    let P : TypeId → State → Type 0 = λ v p. IsTagged p.table (Some (tag.Aggregate other u)) which name v s.seen.scopes p.seen.scopes × IsType p.table v × GoesOn s p in
+    subst (λ (v : TypeId). P v m) (gives-value u t s m h) (subst (P u) (gives-state u t s m h) (
+      (is_one, refl),
+      (there (tag.Aggregate other u) refl).1.0,
+      (stays s k).goes,
+    ))
+tagged_as-judged which name t s m (Some tag.Enumeration) k there fits h = never-gives t (TooLarge name.place Types) s m h
+
 module _ (counts : Counted) (which : AggregateKind) (at : Place) (name : Identifier) (one : TypedSpecifier) (s r : State) (k : IsKnown s)
     (allowed : are_allowed (one_named counts) ≡ true) where
-  tagged_by_tag : (t : TypeId) (m : State) (o : Option Tag) → tag_in s.seen.scopes.levels name.bytes ≡ o → is_other_tag (is_tag_of which) o ≡ false
-      → tagged_as which name o s ≡ Gives t m
-      → IsTagged m.table (tag_in s.seen.scopes.levels name.bytes) which name t s.seen.scopes m.seen.scopes × IsType m.table t × GoesOn s m
-  unfolding tagged_as
-  tagged_by_tag t m None q fits h =
-      let made = new_aggregate-judged which name.place (Some name) t s m k h in (
-        subst (λ (o : Option Tag). IsTagged m.table o which name t s.seen.scopes m.seen.scopes) (sym q) made.declared,
-        made.declared.shape.0,
-        made.goes,
-      )
-  tagged_by_tag t m (Some (tag.Aggregate other u)) q fits h =
-      let same = gives-value u t s m h in
-      let state = gives-state u t s m h in
-      let there = tag-there s.table s.seen.scopes.levels k.levels name.bytes (tag.Aggregate other u) q in
-      let is_one = tag_kind which other u (not_false (is_tag_of which (tag.Aggregate other u)) fits) in
-      let P : TypeId → State → Type 0 = λ v p.
-      IsTagged p.table (tag_in s.seen.scopes.levels name.bytes) which name v s.seen.scopes p.seen.scopes × IsType p.table v × GoesOn s p in
-      subst (λ (v : TypeId). P v m) same (subst (P u) state (
-        subst (λ (o : Option Tag). IsTagged s.table o which name u s.seen.scopes s.seen.scopes) (sym q) (is_one, refl),
-        there.1.0,
-        (stays s k).goes,
-      ))
-  tagged_by_tag t m (Some tag.Enumeration) q fits h = never-gives t (TooLarge name.place Types) s m h
-
   pub tagged_by-judged : is_other_tag (is_tag_of which) (tag_in s.seen.scopes.levels name.bytes) ≡ false
       → tagged_by which at name (λ (q : State). tag_in q.seen.scopes.levels name.bytes) s ≡ Gives one r
       → IsSpecifierJudged counts (tree.Tagged which at name) one s.seen.scopes s r
   unfolding tagged_by
   tagged_by-judged fits h =
       let two = bind-gives (tagged_as which name (tag_in s.seen.scopes.levels name.bytes) s) (λ t. pure (typed.Tagged which at name t)) one r h in
-      let made = tagged_by_tag two.0 two.1 (tag_in s.seen.scopes.levels name.bytes) refl fits two.2 in
+      let made = tagged_as-judged which name two.0 s two.1 (tag_in s.seen.scopes.levels name.bytes) k
+      (λ what q. tag-there s.table s.seen.scopes.levels k.levels name.bytes what q) fits two.2 in
       let part : TypedSpecifier = typed.Tagged which at name two.0 in
       subst (λ (v : TypedSpecifier). IsSpecifierJudged counts (tree.Tagged which at name) v s.seen.scopes s r) (gives-value part one two.1 r two.3)
       (subst (λ (v : State). IsSpecifierJudged counts (tree.Tagged which at name) part s.seen.scopes s v) (gives-state part one two.1 r two.3)
@@ -377,7 +372,7 @@ enumerator-judged all list made name c s0 s r k l h =
       goes = goes-on s0 s after l.goes (declaring-goes s name.bytes value k);
     }))
 
-constant_plain : (T : Table) (e : TypedExpr) (z : ℤ) → is_droppable e ≡ true → constant_value T e ≡ Some z → is_plain e ≡ true
+pub constant_plain : (T : Table) (e : TypedExpr) (z : ℤ) → is_droppable e ≡ true → constant_value T e ≡ Some z → is_plain e ≡ true
 constant_plain T (typed.Unread p) z d h = absurd (none-some z h)
 constant_plain T e z d h = d
 

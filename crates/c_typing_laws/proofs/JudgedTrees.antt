@@ -1,6 +1,7 @@
 -- What judging gives for whole expressions, by one recursion over the tree, from the law of type names.
 use Rattle.std.proofs.Common.{◌≡◌, ℕ, Bool, true, false, not, ◌&&◌, ◌||◌, List, [], ◌∷◌, ◌++◌, Option, Some, None, refl, ap, sym, subst, ◌∙◌, inl, inr, ◌⊎◌, true≢false}
 use Rattle.std.proofs.lemmas.Option.{none-some}
+use Rattle.std.proofs.lemmas.List.{append-nil}
 use Rattle.cc_base.specs.declared.place.Place.{Place}
 use Rattle.cc_base.specs.declared.number.NodeId.{NodeId}
 use Rattle.cc_base.specs.declared.number.TypeId.{TypeId}
@@ -11,6 +12,7 @@ use Rattle.c_types.specs.declared.shape.TypeShape.{TypeShape}
 use Rattle.c_types.specs.declared.shape.TypeShape.TheVariants.{Void, Integer, Pointer, Array, Function, Struct, Union}
 use Rattle.c_types.specs.Table.{Table, HasShape, IsType, shape_at, is_aggregate_shape}
 use Rattle.c_tree.specs.declared.leaf.Identifier.{Identifier}
+use Rattle.c_tree.specs.declared.operator.AggregateKind.{AggregateKind}
 use Rattle.c_tree.specs.declared.operator.Assignment.{Assignment}
 use Rattle.c_tree.specs.declared.operator.Assignment.TheVariants as assignment
 use Rattle.c_tree.specs.declared.operator.MemberOperator.TheVariants as member
@@ -22,27 +24,34 @@ use Rattle.c_tree.specs.Erasure.{erased, erased_place, erased_type_name}
 use Rattle.c_tree.specs.Places.{expr_place, nowhere}
 use Rattle.c_tree.specs.Tree as tree
 use Rattle.c_tree.specs.TypedTree as typed
-use Rattle.c_tree.specs.TypedTree.{TypedExpr, TypedPlace, TypedTypeName}
+use Rattle.c_tree.specs.TypedTree.{TypedExpr, TypedPlace, TypedTypeName, TypedSpecifierList, TypedSpecifier, TypedMembers, TypedMemberDeclarators, TypedEnumerators, TypedForm, TypedCore, TypedParts, TypedParameters, TypedDeclared}
 use Rattle.c_tree.specs.TypedParts.{type_of, place_type, named_type}
 use Rattle.runtime_calls.specs.Prototypes.{runtime_of}
 use Rattle.c_typing.specs.declared.declared.Declared.{Declared}
 use Rattle.c_typing.specs.declared.declared.Declared.TheVariants as declared
 use Rattle.c_typing.specs.Assignments
 use Rattle.c_typing.specs.Assignments.{part_expr, function_name, named_as}
+use Rattle.c_typing.specs.declared.naming.Naming.{Naming}
+use Rattle.c_typing.specs.declared.naming.Naming.TheVariants as naming
+use Rattle.c_typing.specs.Adjusting.{derived_by_declared, typedef_place, adjusted_at}
+use Rattle.c_typing.specs.Declarators.{Counted, Written, counted, declarator_names, member_names}
+use Rattle.c_typing.specs.Declaring.{declarator_name, stars_with_nodes, sized, declared_makes, member_named, parameter, entered, left}
 use Rattle.c_typing.specs.Conversions.{is_plain, is_droppable, is_taken_over, is_pointer_to_complete}
 use Rattle.c_typing.specs.Extensions.{IsExtended}
 use Rattle.c_typing.specs.Judging.{State, Outcome, Judging, Gives, Stops, next, ◌>>=◌, pure, stop, by_known, new_pointer, void_type}
 use Rattle.c_typing.specs.Operands.{Operand, Value, value_of, value, made_raw, made_for, raw_value, reading_of, place_value, side_of, given_allocation, given}
 use Rattle.c_typing.specs.Operations
 use Rattle.c_typing.specs.Operations.{construct, numbered, in_parens, prefix, target, target_of, prefix_of}
-use Rattle.c_typing.specs.Refusals.{is_natural, IsElaborated}
+use Rattle.c_typing.specs.Refusals.{is_natural, IsElaborated, name_place, is_void_alone}
 use Rattle.c_typing.specs.Rules.{is_made_of_place, runtime_named, is_compound}
-use Rattle.c_typing.specs.Scopes.{Scopes, name_in, place_among}
-use Rattle.c_typing.specs.Settled.{IsBasic, IsSettled, is_converted, IsValueOf, AreValuesOf, IsKnown, GoesOn, GoesOnThere, IsJudged, TypeNamesAreJudged}
+use Rattle.c_typing.specs.Scopes.{Name, Scopes, name_in, place_among}
+use Rattle.c_typing.specs.Settled.{IsBasic, IsSettled, is_converted, IsValueOf, AreValuesOf, IsKnown, GoesOn, GoesOnThere, IsJudged, IsSpecifierJudged, IsBegun, AreEnumeratorsJudged, IsListJudged}
+use Rattle.c_typing.specs.Specifying.{specified, begun, ended, enumeration_begun, enumeration, enumerator, valued_enumerator}
 use Rattle.c_typing.specs.Shapes.{is_scalar_shape, is_void_shape}
 use Rattle.c_typing.specs.Tests.{Elaborated, AsPlace, AsValue, AsAllocation, has_some, runtime_part, first_broken, name_tests, is_none, is_function_declared, is_type_declared, is_main}
-use Rattle.c_typing.specs.Typing.{IsTyped, IsPlace, IsTypeName}
-use Rattle.c_typing.specs.Walks.{judge, judge_arguments, judge_type_name}
+use Rattle.c_typing.specs.Typing.{IsTyped, IsPlace, IsTypeName, AreEnumerators, AreDistinct}
+use Rattle.c_typing.specs.Walks.{listed, declared_place, judge, judge_arguments, judge_type_name, judge_list, judge_specifier, judge_members, judge_member_declarators, judge_enumerators, judge_form, judge_core, judge_parts, judge_parameters, judge_declared}
+use Rattle.c_typing_laws.specs.Judged.{IsTypeNameJudged}
 use Rattle.c_typing_laws.proofs.ExtensionLaws.{no_true, and_left, and_right, extended_refl, still_in}
 use Rattle.c_typing_laws.proofs.ConstructLaws.{two_unbroken, or_right}
 use Rattle.c_typing_laws.proofs.KeptRules.{has-kept, aggregate-kept}
@@ -57,6 +66,9 @@ use Rattle.c_typing_laws.proofs.JudgedCasts.{cast-judged, update-judged}
 use Rattle.c_typing_laws.proofs.JudgedChoices.{choice-judged}
 use Rattle.c_typing_laws.proofs.JudgedNames.{name-judged, literal-judged}
 use Rattle.c_typing_laws.proofs.JudgedCalls.{call-judged}
+use Rattle.c_typing_laws.proofs.JudgedLists.{list-judged, list-typed, no_specifier-judged}
+use Rattle.c_typing_laws.proofs.JudgedSpecifiers.{word-judged, typedef-judged, tagged-judged, begun-judged, ended_by, enum-judged, enumeration_begun-judged, enumeration-judged, enumerator-judged, valued-judged}
+use Rattle.c_typing_laws.proofs.JudgedDeclarators.{IsFormJudged, IsCoreJudged, ArePartsJudged, AreParametersJudged, IsDeclaredJudged, IsRowJudged, AreMembersJudged, IsVoidOf, first_alone, stars-judged, form-step, name-step, sized-step, entered-judged, function-step, parameter-step, member-step, members-step, type_name-step}
 
 -- What may be dropped
 
@@ -256,7 +268,7 @@ pub record IsValueFree (called : Bool) (e : tree.Expr) (v : Value) (s r : State)
   pub value : IsValueJudged e v s r
   pub free : called ≡ false → is_droppable v.expr ≡ true
 
-value-here : (called : Bool) (e : tree.Expr) (x : Operand) (v : Value) (s m r : State) → IsJudgedFree called e x s m → value x m ≡ Gives v r → IsValueFree called e v s r
+pub value-here : (called : Bool) (e : tree.Expr) (x : Operand) (v : Value) (s m r : State) → IsJudgedFree called e x s m → value x m ≡ Gives v r → IsValueFree called e v s r
 unfolding value
 value-here called e x v s m r j h =
     let k = j.judged.goes.known in
@@ -356,138 +368,322 @@ update-any operator a at b o s r compound ja jb h =
     (update-judged operator a b one.0 at two.0 o s.seen.scopes one.1.seen.scopes two.1 r compound y.value.goes.known
     (part-later a one.0 s one.1 two.1 x.judged y.value.goes) y.value.taken x.judged.place two.3)
 
-module _ (names : TypeNamesAreJudged) where
-  mutual
-    unfolding judge judge_arguments
+-- What begins goes on, and a list that is `(void)` is
 
-    pub expr-judged : (e : tree.Expr) (called : Bool) (o : Operand) (s r : State) → IsKnown s → judge called e s ≡ Gives o r → IsJudgedFree called e o s r
-    expr-judged (tree.Name word) called o s r k h =
-        record { judged = name-judged called word o s r k h; free = λ c. name-free word o s r (subst (λ (b : Bool). Assignments.name b word s ≡ Gives o r) c h) }
-    expr-judged (tree.Integer of n at) called o s r k h = unnamed called (tree.Integer of n at) o s r refl (integer-judged of n at o s r k h)
-    expr-judged (tree.Character n at) called o s r k h = unnamed called (tree.Character n at) o s r refl (character-judged n at o s r k h)
-    expr-judged (tree.String pieces) called o s r k h = unnamed called (tree.String pieces) o s r refl (literal-judged pieces o s r k h)
-    expr-judged (tree.Paren at e) called o s r k h =
-        let one = bind-gives (judge called e s) (Operations.paren at) o r h in
-        let j = expr-judged e called one.0 s one.1 k one.2 in
-        record {
-          judged = then (tree.Paren at e) o s.seen.scopes s one.1 r j.judged.goes (paren-judged e at one.0 o s.seen.scopes one.1 r j.judged.goes.known j.judged.part one.3);
-          free = λ c. paren-free at one.0 o one.1 r one.3 (j.free c);
-        }
-    expr-judged (tree.Index a at b) called o s r k h =
-        let one = bind-gives (next (judge false a s) value) (λ x. λ m. next (next (judge false b m) value) (λ y. Operations.index x at y)) o r h in
-        let x = taken a one.0 s one.1 (λ p q t. expr-judged a false p s q k t) one.2 in
-        let two = bind-gives (next (judge false b one.1) value) (λ y. Operations.index one.0 at y) o r one.3 in
-        let y = taken b two.0 one.1 two.1 (λ p q t. expr-judged b false p one.1 q x.value.goes.known t) two.2 in
-        unnamed called (tree.Index a at b) o s r refl (then (tree.Index a at b) o s.seen.scopes s two.1 r (goes-on s one.1 two.1 x.value.goes y.value.goes)
-        (index-judged a b one.0 at two.0 o s.seen.scopes one.1.seen.scopes two.1 r y.value.goes.known (later false a one.0 s one.1 two.1 x y.value.goes) y.value.taken x.value.place two.3))
-    expr-judged (tree.Call f at all) called o s r k h =
-        let one = bind-gives (judge true f s) (λ x. λ m. next (value x m) (λ g. λ n. next (judge_arguments all n) (λ values. Assignments.call g at values))) o r h in
-        let j = expr-judged f true one.0 s one.1 k one.2 in
-        let two = bind-gives (value one.0 one.1) (λ g. λ n. next (judge_arguments all n) (λ values. Assignments.call g at values)) o r one.3 in
-        let g = value-here true f one.0 two.0 s one.1 two.1 j two.2 in
-        let three = bind-gives (judge_arguments all two.1) (λ values. Assignments.call two.0 at values) o r two.3 in
-        let args = arguments-judged all three.0 two.1 three.1 g.value.goes.known three.2 in
-        unnamed called (tree.Call f at all) o s r refl (then (tree.Call f at all) o s.seen.scopes s three.1 r (goes-on s two.1 three.1 g.value.goes args.1)
-        (call-judged f all two.0 at three.0 o s.seen.scopes two.1.seen.scopes three.1 r args.1.known (later true f two.0 s two.1 three.1 g args.1) args.0 g.value.place three.3))
-    expr-judged (tree.Member e member.Dot at name) called o s r k h =
-        let one = bind-gives (judge false e s) (λ x. Operations.member x at name) o r h in
-        let j = expr-judged e false one.0 s one.1 k one.2 in
-        unnamed called (tree.Member e member.Dot at name) o s r refl (then (tree.Member e member.Dot at name) o s.seen.scopes s one.1 r j.judged.goes
-        (member-judged e at name one.0 o s.seen.scopes one.1 r j.judged.goes.known j.judged.part j.judged.place one.3))
-    expr-judged (tree.Member e member.Arrow at name) called o s r k h =
-        let one = bind-gives (next (judge false e s) value) (λ x. Operations.pointed_member x at name) o r h in
-        let x = taken e one.0 s one.1 (λ p q t. expr-judged e false p s q k t) one.2 in
-        unnamed called (tree.Member e member.Arrow at name) o s r refl (then (tree.Member e member.Arrow at name) o s.seen.scopes s one.1 r x.value.goes
-        (pointed_member-judged e one.0 at name o s.seen.scopes one.1 r x.value.goes.known x.value.taken x.value.place one.3))
-    expr-judged (tree.Postfix e step at) called o s r k h =
-        let one = bind-gives (judge false e s) (Operations.step_after step at) o r h in
-        let j = expr-judged e false one.0 s one.1 k one.2 in
-        unnamed called (tree.Postfix e step at) o s r refl (then (tree.Postfix e step at) o s.seen.scopes s one.1 r j.judged.goes
-        (after-judged step e at one.0 o s.seen.scopes one.1 r j.judged.goes.known j.judged.part j.judged.place one.3))
-    expr-judged (tree.Prefix operator at e) called o s r k h =
-        let one = bind-gives (judge false e s) (prefix operator at) o r h in
-        let j = expr-judged e false one.0 s one.1 k one.2 in
-        unnamed called (tree.Prefix operator at e) o s r refl (prefix-any operator e at one.0 o s one.1 r j one.3)
-    expr-judged (tree.SizeOfType at paren name) called o s r k h =
-        let one = bind-gives (judge_type_name name s) (Assignments.size_of_type at paren) o r h in
-        let t = names name one.0 s one.1 k one.2 in
-        unnamed called (tree.SizeOfType at paren name) o s r refl (then (tree.SizeOfType at paren name) o s.seen.scopes s one.1 r t.3
-        (size_of_type-judged name at paren one.0 o s.seen.scopes one.1 r t.3.known t.0 t.1 one.3))
-    expr-judged (tree.Cast at name e) called o s r k h =
-        let one = bind-gives (judge_type_name name s) (λ to. λ m. next (judge false e m) (λ x. Assignments.cast at to x)) o r h in
-        let t = names name one.0 s one.1 k one.2 in
-        let two = bind-gives (judge false e one.1) (λ x. Assignments.cast at one.0 x) o r one.3 in
-        let j = expr-judged e false two.0 one.1 two.1 t.3.known two.2 in
-        let grows = j.judged.goes.extends in
-        unnamed called (tree.Cast at name e) o s r refl (then (tree.Cast at name e) o s.seen.scopes s two.1 r (goes-on s one.1 two.1 t.3 j.judged.goes)
-        (cast-judged name e at one.0 two.0 o s.seen.scopes one.1.seen.scopes two.1 r j.judged.goes.known
-        (type_name-kept one.1.table two.1.table grows t.3.known.basic one.0 s.seen.scopes one.1.seen.scopes t.0) t.1 (still_in one.1.table two.1.table grows (named_type one.0) t.2)
-        j.judged.part
-        (λ w q alike. given-dropped e (named_type one.0) two.0.place two.0.part w one.1.seen.scopes two.1 q j.judged.goes.known j.judged.part (j.free refl) alike) two.3))
-    expr-judged (tree.Infix operator a at b) called o s r k h =
-        let one = bind-gives (next (judge false a s) value) (λ x. λ m. next (next (judge false b m) value) (λ y. Operations.infix_of operator x at y)) o r h in
-        let x = taken a one.0 s one.1 (λ p q t. expr-judged a false p s q k t) one.2 in
-        let two = bind-gives (next (judge false b one.1) value) (λ y. Operations.infix_of operator one.0 at y) o r one.3 in
-        let y = taken b two.0 one.1 two.1 (λ p q t. expr-judged b false p one.1 q x.value.goes.known t) two.2 in
-        unnamed called (tree.Infix operator a at b) o s r refl (then (tree.Infix operator a at b) o s.seen.scopes s two.1 r (goes-on s one.1 two.1 x.value.goes y.value.goes)
-        (infix-judged operator a b one.0 at two.0 o s.seen.scopes one.1.seen.scopes two.1 r y.value.goes.known (later false a one.0 s one.1 two.1 x y.value.goes) y.value.taken x.value.place two.3))
-    expr-judged (tree.Conditional c at a b) called o s r k h =
-        let one = bind-gives (next (judge false c s) value)
-        (λ z. λ m. next (next (judge false a m) value) (λ x. λ n. next (next (judge false b n) value) (λ y. Assignments.choice z at x y))) o r h in
-        let z = taken c one.0 s one.1 (λ p q t. expr-judged c false p s q k t) one.2 in
-        let two = bind-gives (next (judge false a one.1) value) (λ x. λ n. next (next (judge false b n) value) (λ y. Assignments.choice one.0 at x y)) o r one.3 in
-        let x = taken a two.0 one.1 two.1 (λ p q t. expr-judged a false p one.1 q z.value.goes.known t) two.2 in
-        let three = bind-gives (next (judge false b two.1) value) (λ y. Assignments.choice one.0 at two.0 y) o r two.3 in
-        let y = taken b three.0 two.1 three.1 (λ p q t. expr-judged b false p two.1 q x.value.goes.known t) three.2 in
-        let last = goes-on one.1 two.1 three.1 x.value.goes y.value.goes in
-        unnamed called (tree.Conditional c at a b) o s r refl (then (tree.Conditional c at a b) o s.seen.scopes s three.1 r (goes-on s one.1 three.1 z.value.goes last)
-        (choice-judged c a b one.0 at two.0 three.0 o s.seen.scopes one.1.seen.scopes two.1.seen.scopes three.1 r y.value.goes.known
-        (later false c one.0 s one.1 three.1 z last) (later false a two.0 one.1 two.1 three.1 x y.value.goes) y.value.taken (x.free refl) (y.free refl) z.value.place three.3))
-    expr-judged (tree.Assign assignment.Assign a at b) called o s r k h =
-        let one = bind-gives (judge false a s) (λ x. λ m. next (judge false b m) (λ y. Assignments.assign x at y)) o r h in
-        let x = expr-judged a false one.0 s one.1 k one.2 in
-        let two = bind-gives (judge false b one.1) (λ y. Assignments.assign one.0 at y) o r one.3 in
-        let y = expr-judged b false two.0 one.1 two.1 x.judged.goes.known two.2 in
-        unnamed called (tree.Assign assignment.Assign a at b) o s r refl (then (tree.Assign assignment.Assign a at b) o s.seen.scopes s two.1 r (goes-on s one.1 two.1 x.judged.goes y.judged.goes)
-        (assign-judged a b one.0 at two.0 o s.seen.scopes one.1.seen.scopes two.1 r y.judged.goes.known (part-later a one.0 s one.1 two.1 x.judged y.judged.goes) y.judged.part x.judged.place two.3))
-    expr-judged (tree.Assign operator a at b) called o s r k h =
-        unnamed called (tree.Assign operator a at b) o s r refl
-        (update-any operator a at b o s r refl (λ p q t. expr-judged a false p s q k t) (λ m known p q t. expr-judged b false p m q known t) h)
-    expr-judged (tree.Comma a b) called o s r k h =
-        let one = bind-gives (next (judge false a s) value) (λ x. λ m. next (next (judge false b m) value) (λ y. Assignments.comma x y)) o r h in
-        let x = taken a one.0 s one.1 (λ p q t. expr-judged a false p s q k t) one.2 in
-        let two = bind-gives (next (judge false b one.1) value) (λ y. Assignments.comma one.0 y) o r one.3 in
-        let y = taken b two.0 one.1 two.1 (λ p q t. expr-judged b false p one.1 q x.value.goes.known t) two.2 in
-        unnamed called (tree.Comma a b) o s r refl (then (tree.Comma a b) o s.seen.scopes s two.1 r (goes-on s one.1 two.1 x.value.goes y.value.goes)
-        (comma-judged a b one.0 two.0 o s.seen.scopes one.1.seen.scopes two.1 r y.value.goes.known (later false a one.0 s one.1 two.1 x y.value.goes) y.value.taken
-        (x.free refl) (y.free refl) x.value.place two.3))
-    expr-judged (tree.Compound at name brace) called o s r k h = never-gives o (TooLarge nowhere Types) s r h
-    expr-judged (tree.SizeOfCompound at paren name brace) called o s r k h = never-gives o (TooLarge nowhere Types) s r h
+begun_goes : (which : AggregateKind) (name : Option Identifier) (o : Option TypeId) (s m : State) → IsBegun which name s o m → GoesOn s m
+begun_goes which name None s m b = b
+begun_goes which name (Some t) s m b = b.2
 
-    pub arguments-judged : (all : tree.Arguments) (values : List Value) (s r : State) → IsKnown s → judge_arguments all s ≡ Gives values r
-        → AreValuesOf r.table all values s.seen.scopes r.seen.scopes × GoesOn s r
-    arguments-judged tree.NoArgument values s r k h =
-        let same = gives-state [] values s r h in
-        ((sym (gives-value [] values s r h), ap (λ (q : State). q.seen.scopes) (sym same)), subst (GoesOn s) same (stays s k).goes)
-    arguments-judged (tree.AndArgument all e) values s r k h =
-        let one = bind-gives (judge_arguments all s) (λ before. λ m. next (next (judge false e m) value) (λ v. pure (before ++ v ∷ []))) values r h in
-        let before = arguments-judged all one.0 s one.1 k one.2 in
-        let two = bind-gives (next (judge false e one.1) value) (λ v. pure (one.0 ++ v ∷ [])) values r one.3 in
-        let v = taken e two.0 one.1 two.1 (λ p q t. expr-judged e false p one.1 q before.1.known t) two.2 in
-        given-same (λ (vs : List Value) (q : State). AreValuesOf q.table (tree.AndArgument all e) vs s.seen.scopes q.seen.scopes × GoesOn s q) (one.0 ++ two.0 ∷ []) values two.1 r two.3 (
-          (
-            one.0,
-            one.1.seen.scopes,
-            two.0,
-            values-kept one.1.table two.1.table v.value.goes.extends before.1.known.basic all one.0 s.seen.scopes one.1.seen.scopes before.0,
-            v.value.taken,
-            v.value.place,
-            v.free refl,
-            refl,
-          ),
-          goes-on s one.1 two.1 before.1 v.value.goes,
-        )
+pub void_self : (all : tree.Parameters) → IsVoidOf (is_void_alone all) all
+void_self tree.NoParameter = tt
+void_self (tree.AndParameter all specifiers d) = λ e. e
 
-  -- an expression, as the law has it
-  pub expr-law : (called : Bool) (e : tree.Expr) (o : Operand) (s r : State) → IsKnown s → judge called e s ≡ Gives o r → IsJudged e o s.seen.scopes s r
-  expr-law called e o s r k h = (expr-judged e called o s r k h).judged
+mutual
+  unfolding judge judge_arguments judge_type_name judge_list judge_specifier judge_members judge_member_declarators judge_enumerators judge_form judge_core judge_parts judge_parameters judge_declared
+
+  pub expr-judged : (e : tree.Expr) (called : Bool) (o : Operand) (s r : State) → IsKnown s → judge called e s ≡ Gives o r → IsJudgedFree called e o s r
+  expr-judged (tree.Name word) called o s r k h =
+      record { judged = name-judged called word o s r k h; free = λ c. name-free word o s r (subst (λ (b : Bool). Assignments.name b word s ≡ Gives o r) c h) }
+  expr-judged (tree.Integer of n at) called o s r k h = unnamed called (tree.Integer of n at) o s r refl (integer-judged of n at o s r k h)
+  expr-judged (tree.Character n at) called o s r k h = unnamed called (tree.Character n at) o s r refl (character-judged n at o s r k h)
+  expr-judged (tree.String pieces) called o s r k h = unnamed called (tree.String pieces) o s r refl (literal-judged pieces o s r k h)
+  expr-judged (tree.Paren at e) called o s r k h =
+      let one = bind-gives (judge called e s) (Operations.paren at) o r h in
+      let j = expr-judged e called one.0 s one.1 k one.2 in
+      record {
+        judged = then (tree.Paren at e) o s.seen.scopes s one.1 r j.judged.goes (paren-judged e at one.0 o s.seen.scopes one.1 r j.judged.goes.known j.judged.part one.3);
+        free = λ c. paren-free at one.0 o one.1 r one.3 (j.free c);
+      }
+  expr-judged (tree.Index a at b) called o s r k h =
+      let one = bind-gives (next (judge false a s) value) (λ x. λ m. next (next (judge false b m) value) (λ y. Operations.index x at y)) o r h in
+      let x = taken a one.0 s one.1 (λ p q t. expr-judged a false p s q k t) one.2 in
+      let two = bind-gives (next (judge false b one.1) value) (λ y. Operations.index one.0 at y) o r one.3 in
+      let y = taken b two.0 one.1 two.1 (λ p q t. expr-judged b false p one.1 q x.value.goes.known t) two.2 in
+      unnamed called (tree.Index a at b) o s r refl (then (tree.Index a at b) o s.seen.scopes s two.1 r (goes-on s one.1 two.1 x.value.goes y.value.goes)
+      (index-judged a b one.0 at two.0 o s.seen.scopes one.1.seen.scopes two.1 r y.value.goes.known (later false a one.0 s one.1 two.1 x y.value.goes) y.value.taken x.value.place two.3))
+  expr-judged (tree.Call f at all) called o s r k h =
+      let one = bind-gives (judge true f s) (λ x. λ m. next (value x m) (λ g. λ n. next (judge_arguments all n) (λ values. Assignments.call g at values))) o r h in
+      let j = expr-judged f true one.0 s one.1 k one.2 in
+      let two = bind-gives (value one.0 one.1) (λ g. λ n. next (judge_arguments all n) (λ values. Assignments.call g at values)) o r one.3 in
+      let g = value-here true f one.0 two.0 s one.1 two.1 j two.2 in
+      let three = bind-gives (judge_arguments all two.1) (λ values. Assignments.call two.0 at values) o r two.3 in
+      let args = arguments-judged all three.0 two.1 three.1 g.value.goes.known three.2 in
+      unnamed called (tree.Call f at all) o s r refl (then (tree.Call f at all) o s.seen.scopes s three.1 r (goes-on s two.1 three.1 g.value.goes args.1)
+      (call-judged f all two.0 at three.0 o s.seen.scopes two.1.seen.scopes three.1 r args.1.known (later true f two.0 s two.1 three.1 g args.1) args.0 g.value.place three.3))
+  expr-judged (tree.Member e member.Dot at name) called o s r k h =
+      let one = bind-gives (judge false e s) (λ x. Operations.member x at name) o r h in
+      let j = expr-judged e false one.0 s one.1 k one.2 in
+      unnamed called (tree.Member e member.Dot at name) o s r refl (then (tree.Member e member.Dot at name) o s.seen.scopes s one.1 r j.judged.goes
+      (member-judged e at name one.0 o s.seen.scopes one.1 r j.judged.goes.known j.judged.part j.judged.place one.3))
+  expr-judged (tree.Member e member.Arrow at name) called o s r k h =
+      let one = bind-gives (next (judge false e s) value) (λ x. Operations.pointed_member x at name) o r h in
+      let x = taken e one.0 s one.1 (λ p q t. expr-judged e false p s q k t) one.2 in
+      unnamed called (tree.Member e member.Arrow at name) o s r refl (then (tree.Member e member.Arrow at name) o s.seen.scopes s one.1 r x.value.goes
+      (pointed_member-judged e one.0 at name o s.seen.scopes one.1 r x.value.goes.known x.value.taken x.value.place one.3))
+  expr-judged (tree.Postfix e step at) called o s r k h =
+      let one = bind-gives (judge false e s) (Operations.step_after step at) o r h in
+      let j = expr-judged e false one.0 s one.1 k one.2 in
+      unnamed called (tree.Postfix e step at) o s r refl (then (tree.Postfix e step at) o s.seen.scopes s one.1 r j.judged.goes
+      (after-judged step e at one.0 o s.seen.scopes one.1 r j.judged.goes.known j.judged.part j.judged.place one.3))
+  expr-judged (tree.Prefix operator at e) called o s r k h =
+      let one = bind-gives (judge false e s) (prefix operator at) o r h in
+      let j = expr-judged e false one.0 s one.1 k one.2 in
+      unnamed called (tree.Prefix operator at e) o s r refl (prefix-any operator e at one.0 o s one.1 r j one.3)
+  expr-judged (tree.SizeOfType at paren name) called o s r k h =
+      let one = bind-gives (judge_type_name name s) (Assignments.size_of_type at paren) o r h in
+      let t = type_name-judged name one.0 s one.1 k one.2 in
+      unnamed called (tree.SizeOfType at paren name) o s r refl (then (tree.SizeOfType at paren name) o s.seen.scopes s one.1 r t.goes
+      (size_of_type-judged name at paren one.0 o s.seen.scopes one.1 r t.goes.known t.typed t.erases one.3))
+  expr-judged (tree.Cast at name e) called o s r k h =
+      let one = bind-gives (judge_type_name name s) (λ to. λ m. next (judge false e m) (λ x. Assignments.cast at to x)) o r h in
+      let t = type_name-judged name one.0 s one.1 k one.2 in
+      let two = bind-gives (judge false e one.1) (λ x. Assignments.cast at one.0 x) o r one.3 in
+      let j = expr-judged e false two.0 one.1 two.1 t.goes.known two.2 in
+      let grows = j.judged.goes.extends in
+      unnamed called (tree.Cast at name e) o s r refl (then (tree.Cast at name e) o s.seen.scopes s two.1 r (goes-on s one.1 two.1 t.goes j.judged.goes)
+      (cast-judged name e at one.0 two.0 o s.seen.scopes one.1.seen.scopes two.1 r j.judged.goes.known
+      (type_name-kept one.1.table two.1.table grows t.goes.known.basic one.0 s.seen.scopes one.1.seen.scopes t.typed) t.erases (still_in one.1.table two.1.table grows (named_type one.0) t.there)
+      j.judged.part
+      (λ w q alike. given-dropped e (named_type one.0) two.0.place two.0.part w one.1.seen.scopes two.1 q j.judged.goes.known j.judged.part (j.free refl) alike) two.3))
+  expr-judged (tree.Infix operator a at b) called o s r k h =
+      let one = bind-gives (next (judge false a s) value) (λ x. λ m. next (next (judge false b m) value) (λ y. Operations.infix_of operator x at y)) o r h in
+      let x = taken a one.0 s one.1 (λ p q t. expr-judged a false p s q k t) one.2 in
+      let two = bind-gives (next (judge false b one.1) value) (λ y. Operations.infix_of operator one.0 at y) o r one.3 in
+      let y = taken b two.0 one.1 two.1 (λ p q t. expr-judged b false p one.1 q x.value.goes.known t) two.2 in
+      unnamed called (tree.Infix operator a at b) o s r refl (then (tree.Infix operator a at b) o s.seen.scopes s two.1 r (goes-on s one.1 two.1 x.value.goes y.value.goes)
+      (infix-judged operator a b one.0 at two.0 o s.seen.scopes one.1.seen.scopes two.1 r y.value.goes.known (later false a one.0 s one.1 two.1 x y.value.goes) y.value.taken x.value.place two.3))
+  expr-judged (tree.Conditional c at a b) called o s r k h =
+      let one = bind-gives (next (judge false c s) value)
+      (λ z. λ m. next (next (judge false a m) value) (λ x. λ n. next (next (judge false b n) value) (λ y. Assignments.choice z at x y))) o r h in
+      let z = taken c one.0 s one.1 (λ p q t. expr-judged c false p s q k t) one.2 in
+      let two = bind-gives (next (judge false a one.1) value) (λ x. λ n. next (next (judge false b n) value) (λ y. Assignments.choice one.0 at x y)) o r one.3 in
+      let x = taken a two.0 one.1 two.1 (λ p q t. expr-judged a false p one.1 q z.value.goes.known t) two.2 in
+      let three = bind-gives (next (judge false b two.1) value) (λ y. Assignments.choice one.0 at two.0 y) o r two.3 in
+      let y = taken b three.0 two.1 three.1 (λ p q t. expr-judged b false p two.1 q x.value.goes.known t) three.2 in
+      let last = goes-on one.1 two.1 three.1 x.value.goes y.value.goes in
+      unnamed called (tree.Conditional c at a b) o s r refl (then (tree.Conditional c at a b) o s.seen.scopes s three.1 r (goes-on s one.1 three.1 z.value.goes last)
+      (choice-judged c a b one.0 at two.0 three.0 o s.seen.scopes one.1.seen.scopes two.1.seen.scopes three.1 r y.value.goes.known
+      (later false c one.0 s one.1 three.1 z last) (later false a two.0 one.1 two.1 three.1 x y.value.goes) y.value.taken (x.free refl) (y.free refl) z.value.place three.3))
+  expr-judged (tree.Assign assignment.Assign a at b) called o s r k h =
+      let one = bind-gives (judge false a s) (λ x. λ m. next (judge false b m) (λ y. Assignments.assign x at y)) o r h in
+      let x = expr-judged a false one.0 s one.1 k one.2 in
+      let two = bind-gives (judge false b one.1) (λ y. Assignments.assign one.0 at y) o r one.3 in
+      let y = expr-judged b false two.0 one.1 two.1 x.judged.goes.known two.2 in
+      unnamed called (tree.Assign assignment.Assign a at b) o s r refl (then (tree.Assign assignment.Assign a at b) o s.seen.scopes s two.1 r (goes-on s one.1 two.1 x.judged.goes y.judged.goes)
+      (assign-judged a b one.0 at two.0 o s.seen.scopes one.1.seen.scopes two.1 r y.judged.goes.known (part-later a one.0 s one.1 two.1 x.judged y.judged.goes) y.judged.part x.judged.place two.3))
+  expr-judged (tree.Assign operator a at b) called o s r k h =
+      unnamed called (tree.Assign operator a at b) o s r refl
+      (update-any operator a at b o s r refl (λ p q t. expr-judged a false p s q k t) (λ m known p q t. expr-judged b false p m q known t) h)
+  expr-judged (tree.Comma a b) called o s r k h =
+      let one = bind-gives (next (judge false a s) value) (λ x. λ m. next (next (judge false b m) value) (λ y. Assignments.comma x y)) o r h in
+      let x = taken a one.0 s one.1 (λ p q t. expr-judged a false p s q k t) one.2 in
+      let two = bind-gives (next (judge false b one.1) value) (λ y. Assignments.comma one.0 y) o r one.3 in
+      let y = taken b two.0 one.1 two.1 (λ p q t. expr-judged b false p one.1 q x.value.goes.known t) two.2 in
+      unnamed called (tree.Comma a b) o s r refl (then (tree.Comma a b) o s.seen.scopes s two.1 r (goes-on s one.1 two.1 x.value.goes y.value.goes)
+      (comma-judged a b one.0 two.0 o s.seen.scopes one.1.seen.scopes two.1 r y.value.goes.known (later false a one.0 s one.1 two.1 x y.value.goes) y.value.taken
+      (x.free refl) (y.free refl) x.value.place two.3))
+  expr-judged (tree.Compound at name brace) called o s r k h = never-gives o (TooLarge nowhere Types) s r h
+  expr-judged (tree.SizeOfCompound at paren name brace) called o s r k h = never-gives o (TooLarge nowhere Types) s r h
+
+  pub arguments-judged : (all : tree.Arguments) (values : List Value) (s r : State) → IsKnown s → judge_arguments all s ≡ Gives values r
+      → AreValuesOf r.table all values s.seen.scopes r.seen.scopes × GoesOn s r
+  arguments-judged tree.NoArgument values s r k h =
+      let same = gives-state [] values s r h in
+      ((sym (gives-value [] values s r h), ap (λ (q : State). q.seen.scopes) (sym same)), subst (GoesOn s) same (stays s k).goes)
+  arguments-judged (tree.AndArgument all e) values s r k h =
+      let one = bind-gives (judge_arguments all s) (λ before. λ m. next (next (judge false e m) value) (λ v. pure (before ++ v ∷ []))) values r h in
+      let before = arguments-judged all one.0 s one.1 k one.2 in
+      let two = bind-gives (next (judge false e one.1) value) (λ v. pure (one.0 ++ v ∷ [])) values r one.3 in
+      let v = taken e two.0 one.1 two.1 (λ p q t. expr-judged e false p one.1 q before.1.known t) two.2 in
+      given-same (λ (vs : List Value) (q : State). AreValuesOf q.table (tree.AndArgument all e) vs s.seen.scopes q.seen.scopes × GoesOn s q) (one.0 ++ two.0 ∷ []) values two.1 r two.3 (
+        (
+          one.0,
+          one.1.seen.scopes,
+          two.0,
+          values-kept one.1.table two.1.table v.value.goes.extends before.1.known.basic all one.0 s.seen.scopes one.1.seen.scopes before.0,
+          v.value.taken,
+          v.value.place,
+          v.free refl,
+          refl,
+        ),
+        goes-on s one.1 two.1 before.1 v.value.goes,
+      )
+
+  pub type_name-judged : (name : tree.TypeName) (made : TypedTypeName) (s r : State) → IsKnown s → judge_type_name name s ≡ Gives made r → IsTypeNameJudged name made s r
+  type_name-judged (tree.Named specifiers d) made s r k h =
+      let at = declared_place specifiers d in
+      let one = bind-gives (judge_list specifiers s) (λ list. λ m. next (judge_declared naming.None at d m)
+      (λ v. λ n. next (declared_makes at Written v (listed list) n) (λ t. pure (typed.Named (specified list) v t)))) made r h in
+      let l = specifiers-judged specifiers one.0 s one.1 k one.2 in
+      let two = bind-gives (judge_declared naming.None at d one.1)
+      (λ v. λ n. next (declared_makes at Written v (listed one.0) n) (λ t. pure (typed.Named (specified one.0) v t))) made r one.3 in
+      let j = declared-judged d naming.None at two.0 one.1 two.1 l.goes.known two.2 in
+      type_name-step specifiers d at one.0 two.0 made s one.1 two.1 r l j two.3
+
+  pub specifiers-judged : (all : tree.Specifiers) (list : TypedSpecifierList) (s r : State) → IsKnown s → judge_list all s ≡ Gives list r → IsListJudged all list s r
+  specifiers-judged tree.NoSpecifier list s r k h =
+      given-same (λ (v : TypedSpecifierList) (q : State). IsListJudged tree.NoSpecifier v s q) typed.NoSpecifier list s r h (no_specifier-judged s k)
+  specifiers-judged (tree.AndSpecifier all specifier) list s r k h =
+      let one = bind-gives (judge_list all s) (λ l. λ m. next (judge_specifier (counted l) specifier m) (λ v. pure (typed.AndSpecifier l v))) list r h in
+      let before = specifiers-judged all one.0 s one.1 k one.2 in
+      let two = bind-gives (judge_specifier (counted one.0) specifier one.1) (λ v. pure (typed.AndSpecifier one.0 v)) list r one.3 in
+      let j = specifier-judged specifier (counted one.0) two.0 one.1 two.1 before.goes.known two.2 in
+      given-same (λ (v : TypedSpecifierList) (q : State). IsListJudged (tree.AndSpecifier all specifier) v s q) (typed.AndSpecifier one.0 two.0) list two.1 r two.3
+      (list-judged all specifier one.0 two.0 s one.1 two.1 before j)
+
+  pub specifier-judged : (specifier : tree.Specifier) (counts : Counted) (one : TypedSpecifier) (s r : State) → IsKnown s → judge_specifier counts specifier s ≡ Gives one r
+      → IsSpecifierJudged counts specifier one s.seen.scopes s r
+  specifier-judged (tree.Keyword word) counts one s r k h = word-judged counts word one s r k h
+  specifier-judged (tree.Typedef name) counts one s r k h = typedef-judged counts name one s r k h
+  specifier-judged (tree.Tagged which at name) counts one s r k h = tagged-judged counts which at name one s r k h
+  specifier-judged (tree.Aggregate which at name brace members) counts one s r k h =
+      let start = bind-gives (begun which at name s) (λ t. λ m. next (judge_members members m) (λ rows. ended counts which at name brace t rows)) one r h in
+      let b = begun-judged which at name start.0 s start.1 k start.2 in
+      let rows = bind-gives (judge_members members start.1) (λ v. ended counts which at name brace start.0 v) one r start.3 in
+      let m = members-judged members rows.0 start.1 rows.1 (begun_goes which name start.0 s start.1 b).known rows.2 in
+      ended_by counts which at name brace members rows.0 one s start.1 rows.1 r m.goes.known m.goes m.typed m.distinct m.erases start.0 b rows.3
+  specifier-judged (tree.Enum at name) counts one s r k h = enum-judged counts at name one s r k h
+  specifier-judged (tree.Enumeration at name brace all comma) counts one s r k h =
+      let start = bind-gives (enumeration_begun name s) (λ f. λ m. next (judge_enumerators all m) (λ list. enumeration counts at name brace f list comma)) one r h in
+      let b = enumeration_begun-judged name start.0 s start.1 k start.2 in
+      let two = bind-gives (judge_enumerators all start.1) (λ list. enumeration counts at name brace start.0 list comma) one r start.3 in
+      let e = enumerators-judged all two.0 start.1 two.1 b.2.known two.2 in
+      enumeration-judged counts at name brace start.0 all two.0 comma one s two.1 r e.goes.known b.0 (record {
+        typed = subst (λ (c : Scopes). AreEnumerators two.1.table two.0 c two.1.seen.scopes) b.1 e.typed;
+        erases = e.erases;
+        goes = goes-on s start.1 two.1 b.2 e.goes;
+      }) two.3
+
+  pub members-judged : (all : tree.Members) (rows : TypedMembers) (s r : State) → IsKnown s → judge_members all s ≡ Gives rows r → AreMembersJudged all rows s r
+  members-judged tree.NoMember rows s r k h =
+      given-same (λ (v : TypedMembers) (q : State). AreMembersJudged tree.NoMember v s q) typed.NoMember rows s r h
+      (record { typed = refl; erases = refl; distinct = tt; goes = (stays s k).goes })
+  members-judged (tree.AndMember all specifiers declarators) rows s r k h =
+      let one = bind-gives (judge_members all s) (λ a. λ m. next (judge_list specifiers m)
+      (λ l. λ n. next (judge_member_declarators (listed l) (member_names a) declarators n) (λ row. pure (typed.AndMember a (specified l) row)))) rows r h in
+      let before = members-judged all one.0 s one.1 k one.2 in
+      let two = bind-gives (judge_list specifiers one.1)
+      (λ l. λ n. next (judge_member_declarators (listed l) (member_names one.0) declarators n) (λ row. pure (typed.AndMember one.0 (specified l) row))) rows r one.3 in
+      let l = specifiers-judged specifiers two.0 one.1 two.1 before.goes.known two.2 in
+      let named = list-typed specifiers two.0 one.1 two.1 l in
+      let three = bind-gives (judge_member_declarators (listed two.0) (member_names one.0) declarators two.1) (λ row. pure (typed.AndMember one.0 (specified two.0) row)) rows r two.3 in
+      let row = row-judged declarators (listed two.0) (member_names one.0) three.0 two.1 three.1 l.goes.known named.1 three.2 in
+      given-same (λ (v : TypedMembers) (q : State). AreMembersJudged (tree.AndMember all specifiers declarators) v s q)
+      (typed.AndMember one.0 (specified two.0) three.0) rows three.1 r three.3
+      (members-step all specifiers declarators one.0 two.0 three.0 s one.1 two.1 three.1 before l row)
+
+  pub row-judged : (all : tree.MemberDeclarators) (base : TypeId) (names : List Name) (row : TypedMemberDeclarators) (s r : State) → IsKnown s → IsType s.table base
+      → judge_member_declarators base names all s ≡ Gives row r → IsRowJudged base names all row s r
+  row-judged tree.NoDeclarator base names row s r k b h =
+      given-same (λ (v : TypedMemberDeclarators) (q : State). IsRowJudged base names tree.NoDeclarator v s q) typed.NoDeclarator row s r h
+      (record { typed = refl; erases = refl; distinct = λ d. subst AreDistinct (sym (append-nil names)) d; goes = (stays s k).goes })
+  row-judged (tree.AndDeclarator all d) base names row s r k b h =
+      let at = name_place (declarator_name d) nowhere in
+      let one = bind-gives (judge_member_declarators base names all s)
+      (λ v. λ m. next (judge_form naming.None at d m) (λ form. member_named (names ++ declarator_names v) v form base (declarator_name d))) row r h in
+      let before = row-judged all base names one.0 s one.1 k b one.2 in
+      let two = bind-gives (judge_form naming.None at d one.1) (λ form. member_named (names ++ declarator_names one.0) one.0 form base (declarator_name d)) row r one.3 in
+      let j = form-judged d naming.None at two.0 one.1 two.1 before.goes.known two.2 in
+      let there = still_in s.table two.1.table (goes-on s one.1 two.1 before.goes j.goes).extends base b in
+      member-step base names all d one.0 row two.0 s one.1 two.1 r before j there two.3
+  row-judged (tree.AndBitField all d) base names row s r k b h = never-gives row (TooLarge nowhere Types) s r h
+  row-judged (tree.AndUnnamedBitField all) base names row s r k b h = never-gives row (TooLarge nowhere Types) s r h
+
+  pub enumerators-judged : (all : tree.Enumerators) (list : TypedEnumerators) (s r : State) → IsKnown s → judge_enumerators all s ≡ Gives list r
+      → AreEnumeratorsJudged all list s.seen.scopes s r
+  enumerators-judged tree.NoEnumerator list s r k h =
+      given-same (λ (v : TypedEnumerators) (q : State). AreEnumeratorsJudged tree.NoEnumerator v s.seen.scopes s q) typed.NoEnumerator list s r h
+      (record { typed = refl; erases = refl; goes = (stays s k).goes })
+  enumerators-judged (tree.AndEnumerator all name) list s r k h =
+      let one = bind-gives (judge_enumerators all s) (λ l. enumerator l name) list r h in
+      let before = enumerators-judged all one.0 s one.1 k one.2 in
+      enumerator-judged all one.0 list name s.seen.scopes s one.1 r before.goes.known before one.3
+  enumerators-judged (tree.AndValued all name at e) list s r k h =
+      let one = bind-gives (judge_enumerators all s) (λ l. λ m. next (next (judge false e m) value) (λ v. valued_enumerator l name at v)) list r h in
+      let before = enumerators-judged all one.0 s one.1 k one.2 in
+      let two = bind-gives (next (judge false e one.1) value) (λ v. valued_enumerator one.0 name at v) list r one.3 in
+      let v = taken e two.0 one.1 two.1 (λ p q t. expr-judged e false p one.1 q before.goes.known t) two.2 in
+      valued-judged all one.0 list name at e two.0 s.seen.scopes s one.1 two.1 r v.value.goes.known before v.value.goes v.value.taken (v.free refl) two.3
+
+  pub form-judged : (d : tree.Declarator) (which : Naming) (at : Place) (form : TypedForm) (s r : State) → IsKnown s → judge_form which at d s ≡ Gives form r
+      → IsFormJudged which d form s r
+  form-judged (tree.Declares stars core parts) which at form s r k h =
+      let one = bind-gives (stars_with_nodes at stars s) (λ l. λ m. next (judge_core which at core m) (λ c. λ n. next (judge_parts at parts n) (λ a. pure (typed.Form l c a)))) form r h in
+      let first = stars-judged at stars one.0 s one.1 k one.2 in
+      let two = bind-gives (judge_core which at core one.1) (λ c. λ n. next (judge_parts at parts n) (λ a. pure (typed.Form one.0 c a))) form r one.3 in
+      let c = core-judged core which at two.0 one.1 two.1 first.1.goes.known two.2 in
+      let three = bind-gives (judge_parts at parts two.1) (λ a. pure (typed.Form one.0 two.0 a)) form r two.3 in
+      let a = parts-judged parts at three.0 two.1 three.1 c.goes.known three.2 in
+      given-same (λ (v : TypedForm) (q : State). IsFormJudged which (tree.Declares stars core parts) v s q) (typed.Form one.0 two.0 three.0) form three.1 r three.3
+      (form-step which stars core parts one.0 two.0 three.0 s one.1 two.1 three.1 first c a)
+
+  pub core-judged : (d : tree.Core) (which : Naming) (at : Place) (core : TypedCore) (s r : State) → IsKnown s → judge_core which at d s ≡ Gives core r
+      → IsCoreJudged which d core s r
+  core-judged (tree.Names name) which at core s r k h = name-step at which name core s r k h
+  core-judged tree.Unnamed which at core s r k h =
+      given-same (λ (v : TypedCore) (q : State). IsCoreJudged which tree.Unnamed v s q) typed.Unnamed core s r h
+      (record { typed = refl; erases = refl; homeless = λ e. refl; goes = (stays s k).goes })
+  core-judged (tree.Nested paren d) which at core s r k h =
+      let one = bind-gives (judge_form which at d s) (λ form. pure (typed.Nested paren form)) core r h in
+      let j = form-judged d which at one.0 s one.1 k one.2 in
+      given-same (λ (v : TypedCore) (q : State). IsCoreJudged which (tree.Nested paren d) v s q) (typed.Nested paren one.0) core one.1 r one.3
+      (record { typed = j.typed; erases = ap (tree.Nested paren) j.erases; homeless = j.homeless; goes = j.goes })
+
+  pub parts-judged : (all : tree.Parts) (at : Place) (parts : TypedParts) (s r : State) → IsKnown s → judge_parts at all s ≡ Gives parts r → ArePartsJudged all parts s r
+  parts-judged tree.NoPart at parts s r k h =
+      given-same (λ (v : TypedParts) (q : State). ArePartsJudged tree.NoPart v s q) typed.NoPart parts s r h (record { typed = refl; erases = refl; goes = (stays s k).goes })
+  parts-judged (tree.AndArray all bracket words) at parts s r k h =
+      let one = bind-gives (judge_parts at all s) (λ p. pure (typed.AndArray p bracket words)) parts r h in
+      let j = parts-judged all at one.0 s one.1 k one.2 in
+      given-same (λ (v : TypedParts) (q : State). ArePartsJudged (tree.AndArray all bracket words) v s q) (typed.AndArray one.0 bracket words) parts one.1 r one.3
+      (record { typed = j.typed; erases = ap (λ (p : tree.Parts). tree.AndArray p bracket words) j.erases; goes = j.goes })
+  parts-judged (tree.AndSizedArray all bracket words e) at parts s r k h =
+      let one = bind-gives (judge_parts at all s) (λ p. λ m. next (next (judge false e m) value) (λ v. sized p bracket words v)) parts r h in
+      let j = parts-judged all at one.0 s one.1 k one.2 in
+      let two = bind-gives (next (judge false e one.1) value) (λ v. sized one.0 bracket words v) parts r one.3 in
+      let v = taken e two.0 one.1 two.1 (λ p q t. expr-judged e false p one.1 q j.goes.known t) two.2 in
+      sized-step all one.0 parts bracket words e two.0 s one.1 two.1 r j v.value.goes v.value.taken (v.free refl) two.3
+  parts-judged (tree.AndFunction all paren parameters) at parts s r k h =
+      let void = is_void_alone parameters in
+      let one = bind-gives (judge_parts at all s) (λ p. λ m. next (entered m)
+      (λ b. λ i. next (judge_parameters void parameters i) (λ list. λ n. next (left at list n) (λ whole. pure (typed.AndFunction p paren whole))))) parts r h in
+      let j = parts-judged all at one.0 s one.1 k one.2 in
+      let two = bind-gives (entered one.1)
+      (λ b. λ i. next (judge_parameters void parameters i) (λ list. λ n. next (left at list n) (λ whole. pure (typed.AndFunction one.0 paren whole)))) parts r one.3 in
+      let inside = entered-judged two.0 one.1 two.1 j.goes.known two.2 in
+      let three = bind-gives (judge_parameters void parameters two.1) (λ list. λ n. next (left at list n) (λ whole. pure (typed.AndFunction one.0 paren whole))) parts r two.3 in
+      let p = parameters-judged parameters void three.0 two.1 three.1 (void_self parameters) inside.1.known three.2 in
+      function-step all one.0 parts at paren parameters two.0 three.0 s one.1 two.1 three.1 r j two.2 p three.3
+
+  pub parameters-judged : (all : tree.Parameters) (void : Bool) (list : TypedParameters) (s r : State) → IsVoidOf void all → IsKnown s
+      → judge_parameters void all s ≡ Gives list r → AreParametersJudged void all list s r
+  parameters-judged tree.NoParameter void list s r fits k h =
+      given-same (λ (v : TypedParameters) (q : State). AreParametersJudged void tree.NoParameter v s q) typed.NoParameter list s r h
+      (record { typed = refl; erases = refl; goes = (stays s k).goes })
+  parameters-judged (tree.AndParameter all specifiers d) void list s r fits k h =
+      let at = declared_place specifiers d in
+      let adjusting : TypeShape → Option Place = λ base. adjusted_at (derived_by_declared d) base (typedef_place specifiers) in
+      let one = bind-gives (judge_parameters void all s) (λ a. λ m. next (judge_list specifiers m)
+      (λ own. λ n. next (judge_declared naming.Parameter at d n) (λ v. parameter void at adjusting a (specified own) v))) list r h in
+      let before = parameters-judged all void one.0 s one.1 (first_alone void all specifiers d fits) k one.2 in
+      let two = bind-gives (judge_list specifiers one.1)
+      (λ own. λ n. next (judge_declared naming.Parameter at d n) (λ v. parameter void at adjusting one.0 (specified own) v)) list r one.3 in
+      let l = specifiers-judged specifiers two.0 one.1 two.1 before.goes.known two.2 in
+      let three = bind-gives (judge_declared naming.Parameter at d two.1) (λ v. parameter void at adjusting one.0 (specified two.0) v) list r two.3 in
+      let j = declared-judged d naming.Parameter at three.0 two.1 three.1 l.goes.known three.2 in
+      parameter-step void all specifiers d naming.Parameter at one.0 list two.0 three.0 s one.1 two.1 three.1 r fits before l j three.3
+
+  pub declared-judged : (d : tree.Declared) (which : Naming) (at : Place) (one : TypedDeclared) (s r : State) → IsKnown s → judge_declared which at d s ≡ Gives one r
+      → IsDeclaredJudged which d one s r
+  declared-judged tree.NotDeclared which at one s r k h =
+      given-same (λ (v : TypedDeclared) (q : State). IsDeclaredJudged which tree.NotDeclared v s q) typed.NotDeclared one s r h
+      (record { typed = refl; erases = refl; homeless = λ e. tt; goes = (stays s k).goes })
+  declared-judged (tree.DeclaredBy d) which at one s r k h =
+      let two = bind-gives (judge_form which at d s) (λ form. pure (typed.DeclaredBy form)) one r h in
+      let j = form-judged d which at two.0 s two.1 k two.2 in
+      given-same (λ (v : TypedDeclared) (q : State). IsDeclaredJudged which (tree.DeclaredBy d) v s q) (typed.DeclaredBy two.0) one two.1 r two.3
+      (record { typed = j.typed; erases = ap tree.DeclaredBy j.erases; homeless = j.homeless; goes = j.goes })
+
+-- an expression, as the law has it
+pub expr-law : (called : Bool) (e : tree.Expr) (o : Operand) (s r : State) → IsKnown s → judge called e s ≡ Gives o r → IsJudged e o s.seen.scopes s r
+expr-law called e o s r k h = (expr-judged e called o s r k h).judged

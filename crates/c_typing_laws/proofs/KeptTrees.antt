@@ -1,10 +1,14 @@
 -- A table that goes on keeps the whole judgement: what is well typed over one is well typed over each that goes on from it.
-use Rattle.std.proofs.Common.{◌≡◌, Bool, true, false, refl, ap, sym, subst, ◌∙◌}
+use Rattle.std.proofs.Common.{◌≡◌, Bool, true, false, Option, refl, ap, sym, subst, ◌∙◌}
 use Rattle.cc_base.specs.declared.number.TypeId.{TypeId}
+use Rattle.c_types.specs.declared.shape.TypeShape.{TypeShape}
 use Rattle.c_types.specs.Table.{Table, IsType}
+use Rattle.c_tree.specs.declared.typed_word.Adjusted.{Adjusted}
+use Rattle.c_tree.specs.Erasure.{erased_declared, erased_specifier_list}
 use Rattle.c_tree.specs.TypedTree as typed
 use Rattle.c_tree.specs.TypedTree.{TypedExpr, TypedPlace, TypedArguments, TypedTypeName, TypedSpecifiers, TypedSpecifierList, TypedSpecifier, TypedMembers, TypedMemberDeclarators, TypedEnumerators, TypedForm, TypedCore, TypedParts, TypedParameters, TypedDeclared}
 use Rattle.c_tree.specs.TypedParts.{type_of, place_type, named_type, specified_type}
+use Rattle.c_typing.specs.Adjusting.{IsAdjusted, derived_by_declared, typedef_place, adjusted_at}
 use Rattle.c_typing.specs.Declarators.{Written, is_void_list}
 use Rattle.c_typing.specs.Extensions.{IsExtended}
 use Rattle.c_typing.specs.Scopes.{Scopes, tag_in, entering}
@@ -16,6 +20,11 @@ use Rattle.c_typing_laws.proofs.KeptRules
 use Rattle.c_typing_laws.proofs.KeptDeclarators
 
 module _ (T U : Table) (x : IsExtended T U) (b : IsBasic T) where
+  adjusted-kept : (specifiers : TypedSpecifiers) (d : TypedDeclared) (a : Option Adjusted) (s s' : Scopes) → AreSpecifiers T specifiers s s'
+      → IsAdjusted T specifiers d a → IsAdjusted U specifiers d a
+  adjusted-kept (typed.Specified list t) d a s s' h q =
+      q ∙ ap (λ (y : TypeShape). adjusted_at (derived_by_declared (erased_declared d)) y (typedef_place (erased_specifier_list list))) (sym (x.shapes t h.1.there))
+
   mutual
     pub value-kept : (e : TypedExpr) (s s' : Scopes) → IsTyped T e s s' → IsTyped U e s s'
     value-kept (typed.Integer of value at t) s s' h = (h.0, KeptRules.has-kept T U x b t (_) h.1)
@@ -193,9 +202,10 @@ module _ (T U : Table) (x : IsExtended T U) (b : IsBasic T) where
       parameters-kept void all s h.0 h.3,
       specifiers-kept specifiers h.0 h.1 h.4,
       declared-kept declared h.1 h.2 h.5,
-      KeptDeclarators.parameter-kept T U x b h.2 adjusted declared (specified_type specifiers) t (KeptDeclarators.taken-in void T h.2 t h.7) h.6,
-      KeptDeclarators.taken-kept T U x b void h.2 t h.7,
-      h.8,
+      adjusted-kept specifiers declared adjusted h.0 h.1 h.4 h.6,
+      KeptDeclarators.parameter-kept T U x b h.2 adjusted declared (specified_type specifiers) t (KeptDeclarators.taken-in void T h.2 t h.8) h.7,
+      KeptDeclarators.taken-kept T U x b void h.2 t h.8,
+      h.9,
     )
 
     pub declared-kept : (d : TypedDeclared) (s s' : Scopes) → IsDeclared T d s s' → IsDeclared U d s s'

@@ -19,6 +19,8 @@ pub mod KnownMembers
 pub mod JudgedSpecifiers
 pub mod JudgedLists
 pub mod JudgedForms
+pub mod ParameterTypes
+pub mod JudgedDeclarators
 pub mod ValuesTaken
 pub mod JudgedOperators
 pub mod JudgedMembers
@@ -29,6 +31,7 @@ pub mod JudgedChoices
 pub mod JudgedNames
 pub mod JudgedCalls
 pub mod JudgedTrees
+pub mod JudgedWhole
 pub mod RefusedConstructs
 pub mod TestsAlike
 pub mod InfixAlike

@@ -6,7 +6,7 @@ use Rattle.cc_base.specs.declared.number.NodeId.{NodeId}
 use Rattle.cc_base.specs.declared.number.TypeId.{TypeId}
 use Rattle.cc_base.specs.declared.fault.Fault.{Fault}
 use Rattle.cc_base.specs.declared.fault.Fault.TheVariants.{Refused, TooLarge}
-use Rattle.cc_base.specs.declared.fault.Limit.TheVariants.{Types, Globals}
+use Rattle.cc_base.specs.declared.fault.Limit.TheVariants.{Types, Globals, Cells}
 use Rattle.cc_base.specs.declared.fault.Rule.{Rule}
 use Rattle.c_lexer.specs.declared.number.IntegerType.{IntegerType as ConstantType}
 use Rattle.c_types.specs.declared.shape.TypeShape.{TypeShape}
@@ -30,7 +30,8 @@ use Rattle.integers.specs.Arithmetic.{IntegerType}
 use Rattle.c_typing.specs.declared.declared.Declared.{Declared}
 use Rattle.c_typing.specs.declared.declared.Declared.TheVariants as declared
 use Rattle.c_typing.specs.Assignments
-use Rattle.c_typing.specs.Assignments.{assigned, assign_part, part_type, updated, update_part, update_by, pointer_choice, choice_of_pointers, choice_of_values, choice_of_parts, choice, comma_part, comma, cast_part, size_of_type, called, arguments_held, function_name, named_as, count_global, literal}
+use Rattle.c_typing.specs.Cells.{count_cells, pointers_in}
+use Rattle.c_typing.specs.Assignments.{assigned, moved, assign_part, part_type, updated, update_part, update_by, pointer_choice, choice_of_pointers, choice_of_values, choice_of_parts, choice, comma_part, comma, cast_part, size_of_type, called, arguments_held, function_name, named_as, count_global, literal}
 use Rattle.c_typing.specs.Conversions.{is_pointer_to_complete, to_integer}
 use Rattle.c_typing.specs.Integers.{char, common}
 use Rattle.c_typing.specs.Judging.{State, Outcome, Judging, Gives, Stops, next, ◌>>=◌, pure, stop, by_known, Pointing, new_node, new_pointer, type_with, void_type, integer_type}
@@ -112,9 +113,24 @@ pointed-never begin at name e (Some t) s =
     (λ f q. gives-never (AsPlace (typed.MemberAt e at name f.member f.node (member_at q.table t f.member))) q)
 pointed-never begin at name e None s = large-never Elaborated begin Types s
 
+moved-never : (at : Place) (t : TypeId) (y : Elaborated) (s : State) → NeverRefuses (moved at t y s)
+unfolding count_cells
+moved-never at t (AsPlace q) s = by (nat_le (s.seen.cells + pointers_in s.table t) 65536)
+  where
+    after : State
+    after = record s { seen = record s.seen { cells = s.seen.cells + pointers_in s.table t } }
+
+    by : (b : Bool) → NeverRefuses {A = TypeId} (if b then Gives t (record s { seen = record s.seen { cells = s.seen.cells + pointers_in s.table t } }) else Stops (TooLarge at Cells) s)
+    by true = gives-never t after
+    by false = large-never TypeId at Cells s
+moved-never at t (AsValue e) s = gives-never t s
+moved-never at t (AsAllocation e) s = gives-never t s
+
 assign-never : (at : Place) (x y : Elaborated) (s : State) → NeverRefuses (assign_part at x y s)
 unfolding assign_part
-assign-never at (AsPlace p) y s = gives-never (assigned s.table at p y) s
+assign-never at (AsPlace p) y s =
+    next-never (moved at (place_type p) y s) (λ (t : TypeId). by_known (λ q. pure (assigned q.table at p y))) (moved-never at (place_type p) y s)
+    (λ t q. gives-never (assigned q.table at p y) q)
 assign-never at (AsValue e) y s = large-never Elaborated at Types s
 assign-never at (AsAllocation e) y s = large-never Elaborated at Types s
 

@@ -3,6 +3,8 @@
 
 pub mod assignments;
 pub mod calls;
+pub mod checking;
+pub mod declarations;
 pub mod declarators;
 pub mod expressions;
 pub mod growth;

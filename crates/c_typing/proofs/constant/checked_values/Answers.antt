@@ -1,7 +1,7 @@
-use Rattle.std.proofs.Common.{◌≡◌, Some, None, if◌then◌else◌, arith, rules}
+use Rattle.std.proofs.Common.{Some, None, if◌then◌else◌, rules}
 use mir.Syntax.{w128}
-use mir.Val.{to_z, of_z, SFits}
-use Rattle.std.proofs.lemmas.Int.{ints, to_z-of_z}
+use mir.Val.{SFits}
+use Rattle.std.proofs.lemmas.Int.{to_z-of_z}
 use Rattle.integers.specs.Arithmetic.{computed}
 use Rattle.c_typing.specs.Constants.{operator_of, cannot_divide}
 use Rattle.c_typing.specs.KindViews.{kind_view}

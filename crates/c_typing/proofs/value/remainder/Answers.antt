@@ -1,9 +1,8 @@
-use Rattle.std.proofs.Common.{◌∙◌, ap, sym}
+use Rattle.std.proofs.Common.{◌∙◌, ap}
 use mir.Syntax.{w128}
 use Rattle.std.proofs.lemmas.Int.{to_z-of_z, rem_is}
 use Rattle.integers.specs.Arithmetic.{converted}
 use Rattle.c_typing.specs.KindViews.{kind_view}
-use Rattle.c_typing.proofs.ValueLaws.{converted_wrapped}
 use Rattle.c_typing.proofs.value.remainder.Goals as goal
 
 pub returns : goal.returns

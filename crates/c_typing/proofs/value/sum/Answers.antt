@@ -1,4 +1,4 @@
-use Rattle.std.proofs.Common.{sym, ◌∙◌, ap, ◌+ℤ◌}
+use Rattle.std.proofs.Common.{◌∙◌, ap, ◌+ℤ◌}
 use mir.Syntax.{w128}
 use Rattle.std.proofs.lemmas.Int.{to_z-of_z, wrapping_add_is}
 use Rattle.integers.specs.Arithmetic.{converted}

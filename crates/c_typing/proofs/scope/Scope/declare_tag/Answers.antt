@@ -1,4 +1,4 @@
-use Rattle.std.proofs.Common.{◌≡◌, ap, ◌∙◌, ◌-◌, ◌<◌, length, get_or, slice_set, map, [], arith}
+use Rattle.std.proofs.Common.{◌≡◌, ap, ◌∙◌, ◌-◌, ◌<◌, length, get_or, slice_set, map, arith}
 use Rattle.c_typing.proofs.ScopeLaws.{seen_of, tag_here-last, tag_declared-last, on_ok}
 use Rattle.c_typing.proofs.scope.Scope.declare_tag.Goals as goal
 

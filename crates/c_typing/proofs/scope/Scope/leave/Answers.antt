@@ -1,4 +1,4 @@
-use Rattle.std.proofs.Common.{ap, ◌∙◌, ◌-◌, take, map, []}
+use Rattle.std.proofs.Common.{ap, ◌∙◌, ◌-◌, take, map}
 use Rattle.c_typing.proofs.ScopeLaws.{left}
 use Rattle.c_typing.proofs.scope.Scope.leave.Goals as goal
 

@@ -9,3 +9,4 @@ pub mod PartLaws
 pub mod MemberLaws
 pub mod SpecifiedLaws
 pub mod ParameterLaws
+pub mod ExprLaws

@@ -4,7 +4,7 @@
 ghost use Rattle.std.specs.Prelude.{◌≡◌, ◌++◌, OnOk, IfOk, None, option_copied};
 ghost use Rattle.c_tree.specs.TypedTree.{Typedef};
 ghost use Rattle.c_tree.specs.TypedViews.{typed_specifier_view};
-ghost use Rattle.c_typing.specs.Declarators.{counting};
+ghost use Rattle.c_typing.specs.Declarators.{Counted, Named, counting, named_by_specifier};
 ghost use Rattle.c_typing.specs.Judging.{Answers, State, known};
 ghost use Rattle.c_typing.specs.Specifying as specifying;
 ghost use Rattle.c_typing.specs.Tests as tests;
@@ -187,7 +187,7 @@ pub(crate) fn tagged(
     Ok((TypedSpecifier::Tagged(which, at, name, t), words))
 }
 
-/// `struct S` by itself declares its tag in the innermost scope.
+/// `struct S` by itself declares its tag in the innermost scope. Its type comes beside it, which is that of the list.
 #[tactic(auto, using(c_tree::proofs::TypedViewLaws::typed_views), unfolding(c_typing::specs::Specifying::tagged_alone, c_typing::specs::Specifying::tagged_by))]
 pub(crate) fn tagged_alone(
     scope: &mut Scope,
@@ -195,8 +195,9 @@ pub(crate) fn tagged_alone(
     which: AggregateKind,
     at: Place,
     name: &Identifier,
-) -> Result<TypedSpecifier, Fault>
-    ensures { Answers typed_specifier_view (specifying.tagged_alone which at name.now (known types.old scope.old)) result (known types.new scope.new) }
+) -> Result<(TypedSpecifier, TypeId), Fault>
+    ensures answers { Answers (λ r. typed_specifier_view r.0) (specifying.tagged_alone which at name.now (known types.old scope.old)) result (known types.new scope.new) }
+    ensures listed { IfOk result (λ r. (named : Named) (words : Counted) → specifying.listed_type (named_by_specifier (typed_specifier_view r.0) named) words ≡ r.1) }
 {
     if is_other_tag(which, scope.tag_here(name.bytes.as_slice())) {
         return Err(refusal(name.place, Rule::Redeclared));
@@ -204,7 +205,7 @@ pub(crate) fn tagged_alone(
     let found = scope.tag_here(name.bytes.as_slice()).copied();
     let t = tagged_as(scope, types, which, name, found)?;
     let name = copied_name(scope.alloc(), name)?;
-    Ok(TypedSpecifier::Tagged(which, at, name, t))
+    Ok((TypedSpecifier::Tagged(which, at, name, t), t))
 }
 
 /// The rules of `enum E` without a list.

@@ -4,3 +4,4 @@ pub mod WordViews
 pub mod CheckingViews
 pub mod DerivedViews
 pub mod NamedViews
+pub mod Listed

@@ -1,15 +1,16 @@
 //! Structs and unions with their members (C99 6.7.2.1).
 #![tactic(auto)]
 
-ghost use Rattle.std.specs.Prelude.{◌≡◌, ◌&&◌, ◌++◌, IfOk, OnOk, map, nat_lt, length, option_copied};
+ghost use Rattle.std.specs.Prelude.{◌≡◌, not, ◌&&◌, ◌++◌, IfOk, OnOk, map, nat_lt, length, option_copied};
 ghost use Rattle.std.specs.List.{list_all};
 ghost use Rattle.c_types.specs.Table.{shape_at, is_complete, entry_at};
+ghost use Rattle.c_tree.specs.TypedTree as typed;
 ghost use Rattle.c_tree.specs.TypedTree.{NoMember};
 ghost use Rattle.c_tree.specs.TypedViews.{typed_declarator_view, typed_members_view, typed_member_declarators_of};
 ghost use Rattle.c_tree.specs.Views.{added};
 ghost use Rattle.c_typing.specs.Declarators.{declarator_types, member_names, member_types};
 ghost use Rattle.c_typing.specs.Judging.{Answers, known};
-ghost use Rattle.c_typing.specs.Refusals.{tag_place};
+ghost use Rattle.c_typing.specs.Refusals.{is_empty_row, one_named, tag_place};
 ghost use Rattle.c_typing.specs.Rules.{number_of_shape};
 ghost use Rattle.c_typing.specs.Scopes.{with_scopes};
 ghost use Rattle.c_typing.specs.Specifying as specifying;
@@ -17,14 +18,15 @@ ghost use Rattle.c_typing.specs.Tests as tests;
 ghost use Rattle.c_typing.specs.Tests.{first_broken};
 ghost use Rattle.c_typing.specs.Typing.{tag_named_here};
 
+use crate::specifying::{is_tag_of, new_aggregate};
+use crate::words::Words;
+use c_tree::{AggregateKind, Identifier, TypedDeclarator, TypedMembers};
+use c_types::{TypeFault, TypeShape, Types};
 use c_typing::declared::Tag;
 use c_typing::member::MemberNames;
 use c_typing::scope::Scope;
 use c_typing::shapes::{is_aggregate, is_complete_at, shape_at};
-use crate::specifying::{is_tag_of, new_aggregate};
 use c_typing::stops::{no_room, refusal};
-use c_tree::{AggregateKind, Identifier, TypedDeclarator, TypedMembers};
-use c_types::{TypeFault, TypeShape, Types};
 use cc_base::{Fault, NoMemory, Place, Rule, TypeId};
 
 /// The tag, or the keyword where there is none.
@@ -96,7 +98,7 @@ fn is_taken_at_end(scope: &Scope, types: &Types, begun: Option<TypeId>) -> bool
 }
 
 /// The rules of a struct or union, after its members.
-pub(crate) fn aggregate_fault(
+fn aggregate_fault(
     scope: &Scope,
     types: &Types,
     place: Place,
@@ -187,9 +189,29 @@ fn member_types(scope: &Scope, rows: &[TypedMembers]) -> Result<Vec<TypeId>, NoM
     Ok(types)
 }
 
+/// Whether it is a row, as each is.
+#[tactic(auto, using(c_tree::proofs::TypedViewLaws::typed_views))]
+fn is_some_row(row: &TypedMembers) -> bool
+    ensures { (all : typed.TypedMembers) → is_empty_row (typed_members_view row.now all) ≡ not result }
+{
+    let _declarators = row.declarators.is_empty();
+    true
+}
+
+/// Whether there are no rows.
+#[tactic(auto, using(c_tree::proofs::PushLaws::pushes))]
+fn is_empty_row(rows: &[TypedMembers]) -> bool
+    ensures { result ≡ is_empty_row (added NoMember (map typed_members_view rows.now)) }
+{
+    match rows.split_last() {
+        Some((last, _)) => !is_some_row(last),
+        None => true,
+    }
+}
+
 /// The struct or union gets its members, where it began.
 #[tactic(auto, unfolding(c_typing::specs::Specifying::completed))]
-pub(crate) fn completed(
+fn completed(
     scope: &mut Scope,
     types: &mut Types,
     at: Place,
@@ -207,4 +229,31 @@ pub(crate) fn completed(
     let t = defined(scope, types, at, t, members)?;
     complete(scope, types, t, names);
     Ok(t)
+}
+
+/// `struct S { .. }` ends, with the words and names that stand before it and itself.
+#[tactic(auto, unfolding(c_typing::specs::Specifying::ended))]
+pub(crate) fn ended(
+    scope: &mut Scope,
+    types: &mut Types,
+    before: &Words,
+    at: Place,
+    name: Option<&Identifier>,
+    begun: Option<TypeId>,
+    rows: &[TypedMembers],
+    names: MemberNames,
+) -> Result<(TypeId, Words), Fault>
+    requires { names ≡ member_names (added NoMember (map typed_members_view rows.now)) }
+    ensures answers { (which : AggregateKind) (brace : Place) → let members = added NoMember (map typed_members_view rows.now) in Answers (λ r. typed.Aggregate which at (option_copied name.entry) brace members r.0) (specifying.ended before.now which at (option_copied name.entry) brace begun members (known types.old scope.old)) result (known types.new scope.new) }
+    ensures counts { IfOk result (λ r. r.1 ≡ one_named before.now) }
+{
+    let place = tag_place(at, name);
+    if let Some(fault) = aggregate_fault(scope, types, place, begun, is_empty_row(rows)) {
+        return Err(fault);
+    }
+    let Some(words) = before.with_name() else {
+        return Err(refusal(at, Rule::Mismatch));
+    };
+    let t = completed(scope, types, place, rows, names, begun)?;
+    Ok((t, words))
 }

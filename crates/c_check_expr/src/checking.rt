@@ -1,12 +1,16 @@
 //! What a unit asks of its expressions, specifiers and declarators.
 #![tactic(auto)]
 
-ghost use Rattle.std.specs.Prelude.{◌≡◌, IfOk, true};
-ghost use Rattle.c_tree.specs.Views.{expr_view, specifiers_view, declarator_view};
+ghost use Rattle.std.specs.Prelude.{◌≡◌, IfOk, IfSome, None, map, true};
+ghost use Rattle.c_types.specs.Table as table;
+ghost use Rattle.c_tree.specs.Tree.{AndSpecifier, NoSpecifier, Tagged};
+ghost use Rattle.c_tree.specs.Views.{expr_view, specifier_view, specifiers_of, specifiers_view, declarator_view};
 ghost use Rattle.c_tree.specs.TypedViews.{typed_expr_view, typed_specifiers_view, typed_declarator_view};
 ghost use Rattle.c_typing.specs.Cells as cells;
 ghost use Rattle.c_typing.specs.Checking as checking;
+ghost use Rattle.c_typing.specs.Declaring as declaring;
 ghost use Rattle.c_check_expr.specs.CheckingViews.{constant_view};
+ghost use Rattle.c_check_expr.specs.MakingViews.{nearest_view};
 ghost use Rattle.c_typing.specs.Judging.{Answers, known};
 ghost use Rattle.c_typing.specs.OperandViews.{operand_view, part_view, value_view, part_ref_view};
 ghost use Rattle.c_typing.specs.Walks as walks;
@@ -21,15 +25,13 @@ use crate::places::{declarator_name, name_place};
 use c_typing::same::is_same_type;
 use c_typing::scope::Scope;
 use c_typing::shapes::{is_aggregate, shape_at};
-use crate::specifiers::{Named, listed_type, named_with};
 use crate::specifying::tagged_alone;
 use c_typing::stops::refusal;
 use c_typing::typing::{side_of, value};
 use crate::walk::{judge_expr, judge_form, judge_specifiers};
-use crate::words::Words;
 use c_tree::{
-    Boxed, Declarator, Expr, Items, Specifier, Specifiers, TypedDeclarator, TypedExpr,
-    TypedSpecifiers,
+    AggregateKind, Boxed, Declarator, Expr, Identifier, Items, Specifier, Specifiers,
+    TypedDeclarator, TypedExpr, TypedSpecifiers,
 };
 use c_types::Types;
 use cc_base::{Fault, NoMemory, Place, Rule, TypeId};
@@ -142,8 +144,37 @@ pub fn check_constant(
     }
 }
 
+/// The parts of `struct S` or `union U`.
+#[tactic(auto, using(c_tree::proofs::ViewLaws::expr_views))]
+fn tag_of(one: &Specifier) -> Option<(AggregateKind, Place, &Identifier)>
+    ensures some { IfSome result (λ t. specifier_view one.now ≡ Tagged t.0 t.1 t.2.now) }
+    ensures none { result ≡ None → walks.judge_alone_list (AndSpecifier NoSpecifier (specifier_view one.now)) ≡ walks.judge_list (AndSpecifier NoSpecifier (specifier_view one.now)) }
+{
+    match one {
+        Specifier::Tagged(which, at, name) => Some((*which, *at, name)),
+        Specifier::Keyword(_) => None,
+        Specifier::Typedef(_) => None,
+        Specifier::Aggregate(_, _, _, _, _) => None,
+        Specifier::Enum(_, _) => None,
+        Specifier::Enumeration(_, _, _, _, _) => None,
+    }
+}
+
+/// The tag that specifiers declare which no declarator follows, if they are `struct S` or `union U` by itself.
+#[tactic(auto, using(c_tree::proofs::PushLaws::pushes))]
+fn tag_alone(list: &[Specifier]) -> Option<(AggregateKind, Place, &Identifier)>
+    ensures some { IfSome result (λ t. specifiers_of (map specifier_view list.now) ≡ AndSpecifier NoSpecifier (Tagged t.0 t.1 t.2.now)) }
+    ensures none { result ≡ None → walks.judge_alone_list (specifiers_of (map specifier_view list.now)) ≡ walks.judge_list (specifiers_of (map specifier_view list.now)) }
+{
+    let (last, before) = list.split_last()?;
+    if before.split_last().is_some() {
+        return None;
+    }
+    tag_of(last)
+}
+
 /// Specifiers that no declarator follows (C99 6.7.2.3).
-#[tactic(auto, using(c_tree::proofs::ViewLaws::expr_views, c_tree::proofs::TypedViewLaws::typed_views), unfolding(c_typing::specs::Walks::judge_specifiers_of))]
+#[tactic(auto, using(c_tree::proofs::ViewLaws::expr_views, c_tree::proofs::TypedViewLaws::typed_views), unfolding(c_typing::specs::Walks::judge_specifiers_of, c_typing::specs::Walks::judge_specifiers))]
 fn alone_specifiers(
     scope: &mut Scope,
     types: &mut Types,
@@ -151,16 +182,13 @@ fn alone_specifiers(
 ) -> Result<TypedSpecifiers, Fault>
     ensures { Answers typed_specifiers_view (walks.judge_specifiers_of true (specifiers_view specifiers.now) (known types.old scope.old)) result (known types.new scope.new) }
 {
-    match specifiers.list.as_slice() {
-        [Specifier::Tagged(which, at, name)] => {
-            let one = tagged_alone(scope, types, *which, *at, name)?;
-            let ty = listed_type(named_with(&one, Named::Nothing), &Words::none());
-            let mut list = Items::new(scope.alloc());
-            list.push(one)?;
-            Ok(TypedSpecifiers { list, ty })
-        }
-        _ => judge_specifiers(scope, types, LEVELS, specifiers),
-    }
+    let Some((which, at, name)) = tag_alone(specifiers.list.as_slice()) else {
+        return judge_specifiers(scope, types, LEVELS, specifiers);
+    };
+    let (one, ty) = tagged_alone(scope, types, which, at, name)?;
+    let mut list = Items::new(scope.alloc());
+    list.push(one)?;
+    Ok(TypedSpecifiers { list, ty })
 }
 
 /// Specifiers; `alone` says that no declarator follows.
@@ -180,6 +208,27 @@ pub fn check_specifiers(
     }
 }
 
+/// What the name of a declarator is to be, unless it is a function.
+fn naming_of(types: &Types, naming: Naming, base: TypeId, d: &Declarator) -> Naming
+    ensures { result ≡ declaring.unless_function (declaring.is_function_by (declaring.derived_by (declarator_view d.now) declaring.NotDerived) (table.shape_at types.now base)) naming }
+{
+    if is_function_by(types, derived_by(d, Derived::Nothing), base) {
+        Naming::None
+    } else {
+        naming
+    }
+}
+
+/// What stands nearest to the name, where an initialiser gives a size, or none.
+fn nearest_of(size: Option<u64>) -> Nearest
+    ensures { nearest_view result ≡ walks.outermost_of size }
+{
+    match size {
+        Some(count) => Nearest::Counts(count),
+        None => Nearest::Written,
+    }
+}
+
 /// A declarator behind specifiers. `size` is what an initialiser gives to the array part that stands nearest to the name.
 #[tactic(auto, using(c_tree::proofs::TypedViewLaws::typed_views), unfolding(c_typing::specs::Walks::judge_declarator_at))]
 pub fn check_declarator(
@@ -193,17 +242,9 @@ pub fn check_declarator(
     ensures { Answers typed_declarator_view (walks.judge_declarator naming (typed_specifiers_view base.now) size (declarator_view d.now) (known types.old scope.old)) result (known types.new scope.new) }
 {
     let at = name_place(declarator_name(d), NOWHERE);
-    let which = if is_function_by(types, derived_by(d, Derived::Nothing), base.ty) {
-        Naming::None
-    } else {
-        naming
-    };
+    let which = naming_of(types, naming, base.ty, d);
     let form = judge_form(scope, types, LEVELS, which, at, d)?;
-    let nearest = match size {
-        Some(count) => Nearest::Counts(count),
-        None => Nearest::Written,
-    };
-    let ty = form_makes(scope, types, at, nearest, &form, base.ty)?;
+    let ty = form_makes(scope, types, at, nearest_of(size), &form, base.ty)?;
     Ok(TypedDeclarator {
         form,
         ty,

@@ -1,40 +1,40 @@
 //! What stands in a declarator (C99 6.7.5): nodes, homes, sizes and parameters, in the order of the text.
 #![tactic(auto)]
 
-ghost use Rattle.std.specs.Prelude.{◌≡◌, ◌≢◌, ◌++◌, [], ◌∷◌, IfOk, IfErr, Some, None, map, option_map};
-ghost use Rattle.cc_base.specs.declared.fault.Fault.TheVariants.{NoMemory as no_memory};
+ghost use Rattle.std.specs.Prelude.{◌≡◌, IfOk, List, map};
 ghost use Rattle.c_types.specs.Table.{Table};
-ghost use Rattle.c_tree.specs.Tree.{Parts, NoPart};
-ghost use Rattle.c_tree.specs.TypedTree.{TypedParts, NoPart as no_typed_part};
-ghost use Rattle.c_tree.specs.Views.{added, core_view, declarator_view, part_view};
+ghost use Rattle.c_tree.specs.Tree.{Parts, NoPart, AndFunction, NoParameter};
+ghost use Rattle.c_tree.specs.TypedTree.{TypedParts, AndSizedArray, NoPart as no_typed_part};
+ghost use Rattle.c_tree.specs.Views.{added, core_view, declarator_view, parameter_view, part_view};
 ghost use Rattle.c_tree.specs.TypedViews.{typed_core_view, typed_form_view, typed_part_view};
-ghost use Rattle.c_typing.specs.Constants as constants;
 ghost use Rattle.c_typing.specs.Declaring as declaring;
 ghost use Rattle.c_typing.specs.Judging.{Answers, Gives, State, known, new_node};
 ghost use Rattle.c_check_expr.specs.Nests.{Nests};
 ghost use Rattle.c_typing.specs.OperandViews.{value_view};
+ghost use Rattle.c_typing.specs.Scopes.{Seen};
 ghost use Rattle.c_typing.specs.Tests as tests;
 ghost use Rattle.c_typing.specs.Tests.{first_broken, AsValue};
 ghost use Rattle.c_typing.specs.Walks as walks;
 
+use crate::walker::Walker;
+use c_tree::{
+    Boxed, Core, Declarator, Expr, Home, Items, Parameter, Part, Specifiers, Star, TypedCore,
+    TypedForm, TypedPart, TypedSpecifiers, TypedStar, Word,
+};
+use c_types::Types;
 use c_typing::constant::constant_value;
 use c_typing::copies::{copied_name, copied_star, copied_words};
 use c_typing::naming::Naming;
 use c_typing::operand::{Operand, Value};
 use c_typing::scope::Scope;
 use c_typing::stops::{no_room, refusal};
-use crate::walker::Walker;
-use c_tree::{
-    Boxed, Core, Declarator, Expr, Home, Items, Part, Specifiers, Star, TypedCore, TypedForm,
-    TypedPart, TypedSpecifiers, TypedStar, Word,
-};
-use c_types::Types;
 use cc_base::{Fault, NodeId, Place, Rule};
 
 /// A new node for what is named at the place.
 #[tactic(auto, unfolding(c_typing::specs::Judging::new_node))]
 pub(crate) fn node_at(scope: &mut Scope, at: Place) -> Result<NodeId, Fault>
-    ensures { (table : Table) → Answers (λ n. n) (new_node at (known table scope.old)) result (known table scope.new) }
+    ensures answers { (table : Table) → Answers (λ n. n) (new_node at (known table scope.old)) result (known table scope.new) }
+    ensures same { scope.new.scopes ≡ scope.old.scopes }
 {
     match scope.new_node() {
         Some(node) => Ok(node),
@@ -77,25 +77,53 @@ fn stars_with_nodes(scope: &mut Scope, at: Place, stars: &[Star]) -> Result<Item
     Ok(found)
 }
 
-/// The size of an array: a constant above 0.
-fn size_of_array(types: &Types, v: &Value) -> Result<u64, Fault>
-    ensures ok { IfOk result (λ n. (declaring.size_given (constants.constant_value types.now (value_view v.now).expr) ≡ Some n) × (first_broken (tests.array_size_tests types.now v.now.place (AsValue (value_view v.now).expr)) ≡ None)) }
-    ensures err { IfErr result (λ fault. fault ≢ no_memory → (s : State) (all : TypedParts) (at : Place) (words : List Word) → s.table ≡ types.now → declaring.sized all at words (value_view v.now) s ≡ Stops fault s) }
+/// Whether a constant is the size of an array.
+fn is_size(size: Option<i128>) -> bool
+    ensures { result ≡ tests.is_size size }
 {
-    let Some(z) = constant_value(types, &v.expr) else {
-        return Err(refusal(v.place, Rule::NotConstant));
-    };
-    if z <= 0 {
-        return Err(refusal(v.place, Rule::NotConstant));
+    match size {
+        Some(z) => z > 0,
+        None => false,
     }
-    match u64::try_from(z) {
-        Ok(n) => Ok(n),
-        Err(_) => Err(no_room(v.place)),
+}
+
+/// The rules of an array part's size: it is constant, and above 0.
+fn size_fault(types: &Types, v: &Value) -> Option<Fault>
+    ensures { result ≡ first_broken (tests.array_size_tests types.now v.now.place (AsValue (value_view v.now).expr)) }
+{
+    if is_size(constant_value(types, &v.expr)) {
+        None
+    } else {
+        Some(refusal(v.place, Rule::NotConstant))
+    }
+}
+
+/// The size that a constant gives.
+fn size_given(size: Option<i128>) -> Option<u64>
+    ensures { result ≡ declaring.size_given size }
+{
+    match size {
+        Some(z) => u64::try_from(z).ok(),
+        None => None,
+    }
+}
+
+/// The size of an array part.
+#[tactic(auto, unfolding(c_typing::specs::Declaring::sized, c_typing::specs::Declaring::sized_part))]
+fn size_of_array(types: &Types, v: &Value) -> Result<u64, Fault>
+    ensures { (seen : Seen) (all : TypedParts) (at : Place) (words : List Word) → Answers (AndSizedArray all at words (value_view v.now).expr) (declaring.sized all at words (value_view v.now) (known types.now seen)) result (known types.now seen) }
+{
+    if let Some(fault) = size_fault(types, v) {
+        return Err(fault);
+    }
+    match size_given(constant_value(types, &v.expr)) {
+        Some(size) => Ok(size),
+        None => Err(no_room(v.place)),
     }
 }
 
 /// An array part whose size is judged.
-#[tactic(auto, using(c_tree::proofs::TypedViewLaws::typed_views), unfolding(c_typing::specs::Declaring::sized, c_typing::specs::Declaring::sized_part))]
+#[tactic(auto, using(c_tree::proofs::TypedViewLaws::typed_views))]
 fn sized(
     scope: &Scope,
     types: &Types,
@@ -115,6 +143,23 @@ impl<
     S: Fn(&mut Scope, &mut Types, u16, &Specifiers) -> Result<TypedSpecifiers, Fault>,
     D: Fn(&mut Scope, &mut Types, u16, Naming, Place, &Declarator) -> Result<TypedForm, Fault>,
 > Walker<E, S, D> {
+    /// A function part after the parts that are judged.
+    #[tactic(auto, using(c_tree::proofs::TypedViewLaws::typed_views, crate::proofs::PartLaws::function_judged))]
+    fn function_part(
+        &self,
+        scope: &mut Scope,
+        types: &mut Types,
+        at: Place,
+        paren: Place,
+        parameters: &[Parameter],
+    ) -> Result<TypedPart, Fault>
+        requires nests { Nests self.now.depth (E.pre self.now.judge_expr) (E.post self.now.judge_expr) (S.pre self.now.judge_specifiers) (S.post self.now.judge_specifiers) (D.pre self.now.judge_form) (D.post self.now.judge_form) }
+        ensures { (start : State) (before : Parts) (done : TypedParts) → walks.judge_parts at before start ≡ Gives done (known types.old scope.old) → Answers (λ made. typed_part_view made done) (walks.judge_parts at (AndFunction before paren (added NoParameter (map parameter_view parameters.now))) start) result (known types.new scope.new) }
+    {
+        let list = self.prototype(scope, types, at, parameters)?;
+        Ok(TypedPart::Function(paren, list))
+    }
+
     /// A part after those that are judged.
     #[tactic(auto, using(c_tree::proofs::ViewLaws::expr_views, c_tree::proofs::TypedViewLaws::typed_views), unfolding(c_typing::specs::Walks::judge_parts, c_typing::specs::Walks::judge_value))]
     fn part(
@@ -137,13 +182,13 @@ impl<
                 sized(scope, types, *bracket, words.as_slice(), v)
             }
             Part::Function(paren, parameters) => {
-                let list = self.prototype(scope, types, at, parameters.as_slice())?;
-                Ok(TypedPart::Function(*paren, list))
+                self.function_part(scope, types, at, *paren, parameters.as_slice())
             }
         }
     }
 
     /// Parts, one after another.
+    #[tactic(auto, using(c_tree::proofs::PushLaws::pushes, crate::proofs::StayLaws::none_judged))]
     fn parts(
         &self,
         scope: &mut Scope,

@@ -8,9 +8,9 @@ ghost use Rattle.c_tree.specs.Views.{added, core_view, declarator_view, declared
 ghost use Rattle.c_typing.specs.Declaring as declaring;
 ghost use Rattle.c_check_expr.specs.DerivedViews.{derived_view};
 
-use c_typing::shapes::{is_function, shape_at};
 use c_tree::{Core, Declarator, Part};
 use c_types::{TypeShape, Types};
+use c_typing::shapes::{is_function, shape_at};
 use cc_base::{Place, TypeId};
 
 /// What stands nearest to the name: nothing, a star, or a part with its place.

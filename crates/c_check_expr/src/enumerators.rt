@@ -5,11 +5,13 @@ ghost use Rattle.std.specs.Prelude.{◌≡◌, ◌≢◌, ◌++◌, IfOk, IfErr,
 ghost use Rattle.cc_base.specs.declared.fault.Fault.TheVariants.{NoMemory as no_memory};
 ghost use Rattle.c_types.specs.Table.{Table};
 ghost use Rattle.c_tree.specs.Tree.{Enumerators, NoEnumerator};
-ghost use Rattle.c_tree.specs.TypedTree.{TypedEnumerators, NoEnumerator as none_typed};
+ghost use Rattle.c_tree.specs.TypedTree.{TypedEnumerators, AndValued, NoEnumerator as none_typed};
 ghost use Rattle.c_tree.specs.TypedViews.{typed_enumerator_view};
 ghost use Rattle.c_tree.specs.Views.{added, enumerator_view};
-ghost use Rattle.c_typing.specs.Constants as constants;
-ghost use Rattle.c_typing.specs.Judging.{Answers, Gives, State, known};
+ghost use Rattle.integers.specs.Arithmetic.{int, converted};
+ghost use Rattle.c_typing.specs.declared.declared.Declared.TheVariants as declared;
+ghost use Rattle.c_typing.specs.Scopes.{declaring, here, with_scopes};
+ghost use Rattle.c_typing.specs.Judging.{Answers, Gives, State, Stops, known};
 ghost use Rattle.c_check_expr.specs.Nests.{Nests};
 ghost use Rattle.c_typing.specs.OperandViews.{value_view};
 ghost use Rattle.c_typing.specs.Specifying as specifying;
@@ -18,6 +20,12 @@ ghost use Rattle.c_typing.specs.Tests.{first_broken, AsValue};
 ghost use Rattle.c_typing.specs.Typing.{next_value, last_value};
 ghost use Rattle.c_typing.specs.Walks as walks;
 
+use crate::walker::Walker;
+use c_tree::{
+    Declarator, Enumerator, Expr, Identifier, Items, Specifiers, TypedEnumerator, TypedForm,
+    TypedSpecifiers,
+};
+use c_types::Types;
 use c_typing::constant::constant_value;
 use c_typing::copies::copied_name;
 use c_typing::declared::Declared;
@@ -25,14 +33,8 @@ use c_typing::kind::Kind;
 use c_typing::naming::Naming;
 use c_typing::operand::{Operand, Value};
 use c_typing::scope::Scope;
-use c_typing::stops::refusal;
+use c_typing::stops::{no_room, refusal};
 use c_typing::value::converted;
-use crate::walker::Walker;
-use c_tree::{
-    Declarator, Enumerator, Expr, Identifier, Items, Specifiers, TypedEnumerator, TypedForm,
-    TypedSpecifiers,
-};
-use c_types::Types;
 use cc_base::{Fault, NoMemory, Place, Rule};
 
 /// `int`.
@@ -73,22 +75,51 @@ fn plain(
     Ok((TypedEnumerator::Plain(name, value), value))
 }
 
-/// The rules of an enumerator whose value is judged; else its value.
-fn constant(scope: &Scope, types: &Types, name: &Identifier, v: &Value) -> Result<i128, Fault>
-    ensures ok { IfOk result (λ z. (Some z ≡ constants.constant_value types.now (value_view v.now).expr) × (first_broken (tests.enumerator_tests scope.now.scopes name.now.bytes name.now.place ++ tests.constant_tests types.now v.now.place (AsValue (value_view v.now).expr)) ≡ None)) }
-    ensures err { IfErr result (λ fault. fault ≢ no_memory → first_broken (tests.enumerator_tests scope.now.scopes name.now.bytes name.now.place ++ tests.constant_tests types.now v.now.place (AsValue (value_view v.now).expr)) ≡ Some fault) }
+/// The rules of an enumerator whose value is judged.
+fn value_fault(scope: &Scope, types: &Types, name: &Identifier, v: &Value) -> Option<Fault>
+    ensures { result ≡ first_broken (tests.enumerator_tests scope.now.scopes name.now.bytes name.now.place ++ tests.constant_tests types.now v.now.place (AsValue (value_view v.now).expr)) }
 {
     if scope.here(name.bytes.as_slice()).is_some() {
-        return Err(refusal(name.place, Rule::Redeclared));
+        return Some(refusal(name.place, Rule::Redeclared));
     }
     match constant_value(types, &v.expr) {
-        Some(z) => Ok(z),
-        None => Err(refusal(v.place, Rule::NotConstant)),
+        Some(_) => None,
+        None => Some(refusal(v.place, Rule::NotConstant)),
     }
 }
 
+/// The constant that gives an enumerator its value.
+#[tactic(auto, unfolding(c_typing::specs::Specifying::valued_enumerator, c_typing::specs::Specifying::enumerator_with))]
+fn constant_of(scope: &Scope, types: &Types, name: &Identifier, v: &Value) -> Result<i128, Fault>
+    ensures fresh { IfOk result (λ z. here scope.now.scopes.levels name.now.bytes ≡ None) }
+    ensures ok { IfOk result (λ z. (all : TypedEnumerators) (at : Place) → specifying.valued_enumerator all name.now at (value_view v.now) (known types.now scope.now) ≡ Gives (AndValued all name.now at (value_view v.now).expr (converted int z)) (known types.now (with_scopes scope.now (declaring name.now.bytes (declared.Enumerator (converted int z)) scope.now.scopes)))) }
+    ensures err { IfErr result (λ fault. fault ≢ no_memory → (all : TypedEnumerators) (at : Place) → specifying.valued_enumerator all name.now at (value_view v.now) (known types.now scope.now) ≡ Stops fault (known types.now scope.now)) }
+{
+    if let Some(fault) = value_fault(scope, types, name, v) {
+        return Err(fault);
+    }
+    match constant_value(types, &v.expr) {
+        Some(z) => Ok(z),
+        None => Err(no_room(name.place)),
+    }
+}
+
+/// A name is declared as an enumerator with the value that a constant has as an `int`.
+fn declared_constant(
+    scope: &mut Scope,
+    name: &Identifier,
+    z: i128,
+) -> Result<(Identifier, i128), NoMemory>
+    requires { here scope.old.scopes.levels name.now.bytes ≡ None }
+    ensures { IfOk result (λ r. (r.0 ≡ name.now) × (r.1 ≡ converted int z) × (scope.new ≡ with_scopes scope.old (declaring name.now.bytes (declared.Enumerator (converted int z)) scope.old.scopes))) }
+{
+    let value = converted(INT, z);
+    scope.declare(name.bytes.as_slice(), Declared::Enumerator(value))?;
+    Ok((copied_name(scope.alloc(), name)?, value))
+}
+
 /// An enumerator with a value.
-#[tactic(auto, using(c_tree::proofs::TypedViewLaws::typed_views), unfolding(c_typing::specs::Specifying::valued_enumerator, c_typing::specs::Specifying::enumerator_with))]
+#[tactic(auto, using(c_tree::proofs::TypedViewLaws::typed_views))]
 fn valued(
     scope: &mut Scope,
     types: &Types,
@@ -99,13 +130,8 @@ fn valued(
     ensures answers { (all : TypedEnumerators) → Answers (λ r. typed_enumerator_view r.0 all) (specifying.valued_enumerator all name.now at (value_view v) (known types.now scope.old)) result (known types.now scope.new) }
     ensures value { IfOk result (λ r. (all : TypedEnumerators) → last_value (typed_enumerator_view r.0 all) ≡ Some r.1) }
 {
-    let z = constant(scope, types, name, &v)?;
-    if scope.here(name.bytes.as_slice()).is_some() {
-        return Err(refusal(name.place, Rule::Redeclared));
-    }
-    let value = converted(INT, z);
-    scope.declare(name.bytes.as_slice(), Declared::Enumerator(value))?;
-    let name = copied_name(scope.alloc(), name)?;
+    let z = constant_of(scope, types, name, &v)?;
+    let (name, value) = declared_constant(scope, name, z)?;
     Ok((TypedEnumerator::Valued(name, at, v.expr, value), value))
 }
 
@@ -137,6 +163,7 @@ impl<
     }
 
     /// Enumerators, one after another.
+    #[tactic(auto, using(c_tree::proofs::PushLaws::pushes, crate::proofs::StayLaws::none_judged))]
     pub(crate) fn enumerators(
         &self,
         scope: &mut Scope,

@@ -1,13 +1,12 @@
 //! The rules of an expression, over those of its parts, which are judged in the order of the text (C99 6.5).
 #![tactic(auto)]
 
-ghost use Rattle.std.specs.Prelude.{◌≡◌, ◌++◌, ◌∷◌, [], List, true, map};
+ghost use Rattle.std.specs.Prelude.{◌≡◌, true, map};
 ghost use Rattle.c_tree.specs.declared.operator.Assignment.TheVariants as assignment;
 ghost use Rattle.c_tree.specs.Tree as tree;
 ghost use Rattle.c_tree.specs.Views.{arguments_of, expr_view, type_name_view};
-ghost use Rattle.c_typing.specs.Judging.{Answers, Gives, State, known};
+ghost use Rattle.c_typing.specs.Judging.{Answers, known};
 ghost use Rattle.c_check_expr.specs.Nests.{Nests};
-ghost use Rattle.c_typing.specs.Operands as operands;
 ghost use Rattle.c_typing.specs.OperandViews.{operand_view, value_view};
 ghost use Rattle.c_typing.specs.Rules as rules;
 ghost use Rattle.c_typing.specs.Walks as walks;
@@ -173,7 +172,7 @@ impl<
     }
 
     /// A compound assignment.
-    #[tactic(auto, unfolding(c_typing::specs::Walks::judge, c_typing::specs::Walks::judge_value))]
+    #[tactic(auto, using(crate::proofs::ExprLaws::update_judged))]
     fn update_layer(
         &self,
         scope: &mut Scope,
@@ -274,16 +273,8 @@ impl<
         }
     }
 
-    /// An argument after those that are judged.
-    #[tactic(auto, unfolding(c_typing::specs::Walks::judge_arguments, c_typing::specs::Walks::judge_value))]
-    fn argument(&self, scope: &mut Scope, types: &mut Types, e: &Expr) -> Result<Value, Fault>
-        requires nests { Nests self.now.depth (E.pre self.now.judge_expr) (E.post self.now.judge_expr) (S.pre self.now.judge_specifiers) (S.post self.now.judge_specifiers) (D.pre self.now.judge_form) (D.post self.now.judge_form) }
-        ensures { (start : State) (before : tree.Arguments) (done : List operands.Value) → walks.judge_arguments before start ≡ Gives done (known types.old scope.old) → Answers (λ v. done ++ value_view v ∷ []) (walks.judge_arguments (tree.AndArgument before (expr_view e.now)) start) result (known types.new scope.new) }
-    {
-        self.value(scope, types, e)
-    }
-
     /// Arguments, one after another.
+    #[tactic(auto, using(crate::proofs::StayLaws::none_judged))]
     fn arguments(
         &self,
         scope: &mut Scope,
@@ -295,7 +286,7 @@ impl<
     {
         let mut values = Vec::new(scope.alloc());
         for e in list {
-            values.push(self.argument(scope, types, e)?)?;
+            values.push(self.value(scope, types, e)?)?;
         }
         Ok(values)
     }
@@ -341,7 +332,7 @@ impl<
     }
 
     /// An expression.
-    #[tactic(auto, using(c_tree::proofs::ViewLaws::expr_views), unfolding(c_typing::specs::Walks::judge))]
+    #[tactic(auto, using(c_tree::proofs::ViewLaws::expr_views))]
     pub(crate) fn expr_layer(
         &self,
         scope: &mut Scope,

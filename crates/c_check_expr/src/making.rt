@@ -12,13 +12,13 @@ ghost use Rattle.c_check_expr.specs.MakingViews.{nearest_view};
 ghost use Rattle.c_typing.specs.Tests as tests;
 ghost use Rattle.c_typing.specs.Tests.{first_broken};
 
+use c_lexer::Keyword;
+use c_tree::{TypedCore, TypedForm, TypedParameter, TypedPart, TypedSpecifier, TypedStar, Word};
+use c_types::{TypeList, TypeShape, Types};
 use c_typing::scope::Scope;
 use c_typing::shapes::{is_complete_at, shape_at};
 use c_typing::stops::{no_room, refusal};
 use c_typing::typing::{pointer_type, type_with};
-use c_lexer::Keyword;
-use c_tree::{TypedCore, TypedForm, TypedParameter, TypedPart, TypedSpecifier, TypedStar, Word};
-use c_types::{TypeList, TypeShape, Types};
 use cc_base::{Fault, Limit, NoMemory, NodeId, Place, Rule, TypeId};
 
 /// The most parameters of one function.

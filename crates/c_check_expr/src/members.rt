@@ -1,32 +1,36 @@
 //! Rows of members (C99 6.7.2.1).
 #![tactic(auto)]
 
-ghost use Rattle.std.specs.Prelude.{◌≡◌, ◌++◌, IfOk, List, map, option_copied};
-ghost use Rattle.c_tree.specs.Tree.{Members, NoMember, MemberDeclarators, AndDeclarator as and_declarator};
-ghost use Rattle.c_tree.specs.TypedTree.{TypedMembers, NoMember as no_typed_member, TypedMemberDeclarators, AndDeclarator};
+ghost use Rattle.std.specs.Prelude.{◌≡◌, ◌++◌, ◌∷◌, [], false, None, Some, IfOk, List, map, option_copied};
+ghost use Rattle.c_tree.specs.Tree as tree;
+ghost use Rattle.c_tree.specs.Tree.{NoMember, MemberDeclarators, AndDeclarator as and_declarator};
+ghost use Rattle.c_tree.specs.TypedParts.{name_of, name_of_form};
+ghost use Rattle.c_tree.specs.TypedTree as typed;
+ghost use Rattle.c_tree.specs.TypedTree.{NoMember as no_typed_member, TypedMemberDeclarators, AndDeclarator, Declares};
 ghost use Rattle.c_tree.specs.Views.{added, declarator_view, members_view, member_declarators_of};
 ghost use Rattle.c_tree.specs.TypedViews.{typed_declarator_view, typed_form_view, typed_members_view, typed_member_declarators_of};
-ghost use Rattle.c_typing.specs.Declarators.{declarator_names, member_names};
+ghost use Rattle.c_typing.specs.Declarators.{declarator_names, member_names, name_bytes};
 ghost use Rattle.c_typing.specs.Declaring as declaring;
 ghost use Rattle.c_typing.specs.Judging.{Answers, Gives, State, known};
 ghost use Rattle.c_check_expr.specs.Nests.{Nests};
-ghost use Rattle.c_typing.specs.Scopes.{Name};
+ghost use Rattle.c_typing.specs.Refusals.{has_name};
+ghost use Rattle.c_typing.specs.Scopes.{Name, place_among};
 ghost use Rattle.c_typing.specs.Walks as walks;
 
 use crate::making::{Nearest, form_makes};
-use c_typing::member::MemberNames;
-use c_typing::naming::Naming;
-use c_typing::operand::Operand;
 use crate::places::{declarator_name, name_place};
-use c_typing::scope::Scope;
-use c_typing::shapes::is_complete_at;
-use c_typing::stops::{no_room, refusal};
 use crate::walker::Walker;
 use c_tree::{
     Declarator, Expr, Identifier, Items, Members, Specifiers, TypedDeclarator, TypedForm,
     TypedMembers, TypedSpecifiers,
 };
 use c_types::Types;
+use c_typing::member::MemberNames;
+use c_typing::naming::Naming;
+use c_typing::operand::Operand;
+use c_typing::scope::Scope;
+use c_typing::shapes::is_complete_at;
+use c_typing::stops::{no_room, refusal};
 use cc_base::{Fault, Place, Rule, TypeId};
 
 /// The first place of a text.
@@ -50,30 +54,38 @@ fn member_type(
     Ok(t)
 }
 
-/// A member whose form is judged.
-#[tactic(auto, using(c_tree::proofs::TypedViewLaws::typed_views), unfolding(c_typing::specs::Declaring::member_named))]
+/// Whether one of the names is this.
+#[tactic(auto, using(crate::proofs::MemberLaws::named_at))]
+fn has_name(names: &MemberNames, name: &Identifier) -> bool
+    ensures has { result ≡ has_name names.now (Some name.now) }
+    ensures fresh { result ≡ false → place_among names.now name.now.bytes ≡ None }
+{
+    names.place(name.bytes.as_slice()).is_some()
+}
+
+/// The type of a member whose form is judged; its name is added to those before it.
+#[tactic(auto, unfolding(c_typing::specs::Declaring::member_named))]
 fn member_named(
     scope: &Scope,
     types: &mut Types,
-    names: &MemberNames,
-    form: TypedForm,
+    names: &mut MemberNames,
+    form: &TypedForm,
     base: TypeId,
     name: Option<&Identifier>,
-) -> Result<TypedDeclarator, Fault>
-    ensures { (all : TypedMemberDeclarators) → Answers (λ d. AndDeclarator all (typed_declarator_view d)) (declaring.member_named names.now all (typed_form_view form) base (option_copied name.entry) (known types.old scope.now)) result (known types.new scope.now) }
+) -> Result<TypeId, Fault>
+    requires { name_of_form (typed_form_view form.now) ≡ option_copied name }
+    ensures answers { (all : TypedMemberDeclarators) → Answers (λ t. AndDeclarator all (Declares (typed_form_view form.now) t)) (declaring.member_named names.old all (typed_form_view form.now) base (option_copied name.entry) (known types.old scope.now)) result (known types.new scope.now) }
+    ensures named { IfOk result (λ t. names.new ≡ names.old ++ name_bytes (name_of_form (typed_form_view form.now)) ∷ []) }
 {
     let Some(name) = name else {
         return Err(no_room(NOWHERE));
     };
-    if names.place(name.bytes.as_slice()).is_some() {
+    if has_name(names, name) {
         return Err(refusal(name.place, Rule::Redeclared));
     }
-    let ty = member_type(scope, types, name.place, &form, base)?;
-    Ok(TypedDeclarator {
-        form,
-        ty,
-        home: None,
-    })
+    let t = member_type(scope, types, name.place, form, base)?;
+    names.push(scope.alloc(), name.bytes.as_slice())?;
+    Ok(t)
 }
 
 impl<
@@ -81,25 +93,32 @@ impl<
     S: Fn(&mut Scope, &mut Types, u16, &Specifiers) -> Result<TypedSpecifiers, Fault>,
     D: Fn(&mut Scope, &mut Types, u16, Naming, Place, &Declarator) -> Result<TypedForm, Fault>,
 > Walker<E, S, D> {
-    /// A member after those of its row, in which these names stand before it.
-    #[tactic(auto, unfolding(c_typing::specs::Walks::judge_member_declarators))]
+    /// A member after those of its row; its name is added to those before it.
+    #[tactic(auto, using(c_tree::proofs::TypedViewLaws::typed_views, crate::proofs::NameLaws::form_name_kept), unfolding(c_typing::specs::Walks::judge_member_declarators))]
     fn member(
         &self,
         scope: &mut Scope,
         types: &mut Types,
-        names: &MemberNames,
+        names: &mut MemberNames,
         base: TypeId,
         d: &Declarator,
     ) -> Result<TypedDeclarator, Fault>
         requires nests { Nests self.now.depth (E.pre self.now.judge_expr) (E.post self.now.judge_expr) (S.pre self.now.judge_specifiers) (S.post self.now.judge_specifiers) (D.pre self.now.judge_form) (D.post self.now.judge_form) }
-        ensures { (start : State) (first : List Name) (before : MemberDeclarators) (done : TypedMemberDeclarators) → first ++ declarator_names done ≡ names.now → walks.judge_member_declarators base first before start ≡ Gives done (known types.old scope.old) → Answers (λ made. AndDeclarator done (typed_declarator_view made)) (walks.judge_member_declarators base first (and_declarator before (declarator_view d.now)) start) result (known types.new scope.new) }
+        ensures answers { (start : State) (first : List Name) (before : MemberDeclarators) (done : TypedMemberDeclarators) → first ++ declarator_names done ≡ names.old → walks.judge_member_declarators base first before start ≡ Gives done (known types.old scope.old) → Answers (λ made. AndDeclarator done (typed_declarator_view made)) (walks.judge_member_declarators base first (and_declarator before (declarator_view d.now)) start) result (known types.new scope.new) }
+        ensures named { IfOk result (λ made. names.new ≡ names.old ++ name_bytes (name_of (typed_declarator_view made)) ∷ []) }
     {
         let name = declarator_name(d);
         let form = self.form(scope, types, Naming::None, name_place(name, NOWHERE), d)?;
-        member_named(scope, types, names, form, base, name)
+        let ty = member_named(scope, types, names, &form, base, name)?;
+        Ok(TypedDeclarator {
+            form,
+            ty,
+            home: None,
+        })
     }
 
     /// The members of a row; their names are added to those before.
+    #[tactic(auto, using(c_tree::proofs::PushLaws::pushes, c_tree::proofs::TypedPushLaws::typed_pushes, crate::proofs::StayLaws::none_judged))]
     fn row(
         &self,
         scope: &mut Scope,
@@ -114,17 +133,13 @@ impl<
     {
         let mut found = Items::new(scope.alloc());
         for d in list {
-            let one = self.member(scope, types, names, base, d)?;
-            if let Some(name) = declarator_name(d) {
-                names.push(scope.alloc(), name.bytes.as_slice())?;
-            }
-            found.push(one)?;
+            found.push(self.member(scope, types, names, base, d)?)?;
         }
         Ok(found)
     }
 
     /// A row after those that are judged, whose names are these.
-    #[tactic(auto, using(c_tree::proofs::ViewLaws::expr_views, c_tree::proofs::TypedViewLaws::typed_views), unfolding(c_typing::specs::Walks::judge_members, c_typing::specs::Walks::judge_specifiers))]
+    #[tactic(auto, using(c_tree::proofs::ViewLaws::expr_views, c_tree::proofs::TypedViewLaws::typed_views), unfolding(c_typing::specs::Walks::judge_members))]
     fn members_row(
         &self,
         scope: &mut Scope,
@@ -133,8 +148,8 @@ impl<
         row: &Members,
     ) -> Result<TypedMembers, Fault>
         requires nests { Nests self.now.depth (E.pre self.now.judge_expr) (E.post self.now.judge_expr) (S.pre self.now.judge_specifiers) (S.post self.now.judge_specifiers) (D.pre self.now.judge_form) (D.post self.now.judge_form) }
-        ensures answers { (start : State) (before : Members) (done : TypedMembers) → member_names done ≡ names.old → walks.judge_members before start ≡ Gives done (known types.old scope.old) → Answers (λ made. typed_members_view made done) (walks.judge_members (members_view row.now before) start) result (known types.new scope.new) }
-        ensures named { IfOk result (λ made. (done : TypedMembers) → member_names done ≡ names.old → member_names (typed_members_view made done) ≡ names.new) }
+        ensures answers { (start : State) (before : tree.Members) (done : typed.TypedMembers) → member_names done ≡ names.old → walks.judge_members before start ≡ Gives done (known types.old scope.old) → Answers (λ made. typed_members_view made done) (walks.judge_members (members_view row.now before) start) result (known types.new scope.new) }
+        ensures named { IfOk result (λ made. (done : typed.TypedMembers) → member_names done ≡ names.old → member_names (typed_members_view made done) ≡ names.new) }
     {
         let specifiers = self.specifiers(scope, types, &row.specifiers)?;
         let base = specifiers.ty;
@@ -146,6 +161,7 @@ impl<
     }
 
     /// Rows of members, one after another.
+    #[tactic(auto, using(c_tree::proofs::PushLaws::pushes, crate::proofs::StayLaws::none_judged))]
     pub(crate) fn members(
         &self,
         scope: &mut Scope,

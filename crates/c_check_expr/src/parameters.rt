@@ -1,7 +1,7 @@
 //! Parameters (C99 6.7.5.3).
 #![tactic(auto)]
 
-ghost use Rattle.std.specs.Prelude.{◌≡◌, ◌≢◌, Some, None, IfSome, IfOk, IfErr, map, option_map, option_copied};
+ghost use Rattle.std.specs.Prelude.{◌≡◌, ◌≢◌, false, Some, None, IfSome, IfOk, IfErr, map, option_map, option_copied};
 ghost use Rattle.cc_base.specs.declared.fault.Fault.TheVariants.{NoMemory as no_memory};
 ghost use Rattle.c_types.specs.Table.{Table, shape_at};
 ghost use Rattle.c_tree.specs.Tree.{Parameters, NoParameter, AndParameter, NotDeclared, Specifiers as PlainSpecifiers, AndSpecifier};
@@ -10,27 +10,21 @@ ghost use Rattle.c_tree.specs.Views.{added, declarator_view, declared_of, parame
 ghost use Rattle.c_tree.specs.TypedViews.{typed_core_view, typed_form_view, typed_declared_of, typed_parameter_view, typed_specifiers_view};
 ghost use Rattle.c_typing.specs.Declarators.{is_derived_declared};
 ghost use Rattle.c_typing.specs.Declaring as declaring;
-ghost use Rattle.c_typing.specs.Judging.{Answers, Gives, State, known};
+ghost use Rattle.c_typing.specs.Judging.{Answers, Gives, State, known, next};
 ghost use Rattle.c_typing.specs.KindViews.{shape_or_void};
 ghost use Rattle.c_check_expr.specs.Nests.{Nests};
 ghost use Rattle.c_typing.specs.Refusals.{declared_identifier, is_here, is_void_alone};
 ghost use Rattle.c_tree.specs.TypedParts.{home_of_core, home_of_form, name_of_core, name_of_form};
 ghost use Rattle.c_check_expr.specs.DerivedViews.{derived_view};
+ghost use Rattle.c_typing.specs.Specifying.{obeying};
 ghost use Rattle.c_typing.specs.Tests as tests;
 ghost use Rattle.c_typing.specs.Tests.{first_broken};
 ghost use Rattle.c_typing.specs.Walks as walks;
 
 use crate::declarators::node_at;
-use c_typing::declared::Declared;
 use crate::derived::{Derived, adjusted_at, derived_by_declared};
 use crate::making::{Nearest, declared_makes, is_derived};
-use c_typing::naming::Naming;
-use c_typing::operand::Operand;
 use crate::places::declared_place;
-use c_typing::scope::Scope;
-use c_typing::shapes::{is_aggregate, is_complete_at, shape_at};
-use c_typing::stops::{no_room, refusal};
-use c_typing::typing::pointer_type;
 use crate::walker::Walker;
 use c_lexer::Keyword;
 use c_tree::{
@@ -38,6 +32,13 @@ use c_tree::{
     TypedCore, TypedForm, TypedParameter, TypedSpecifiers,
 };
 use c_types::{TypeShape, Types};
+use c_typing::declared::Declared;
+use c_typing::naming::Naming;
+use c_typing::operand::Operand;
+use c_typing::scope::Scope;
+use c_typing::shapes::{is_aggregate, is_complete_at, shape_at};
+use c_typing::stops::{no_room, refusal};
+use c_typing::typing::pointer_type;
 use cc_base::{Fault, NodeId, Place, Rule, TypeId};
 
 /// Whether a typed declarator that may be left out has stars or parts.
@@ -100,7 +101,8 @@ fn adjusted_with_node(
     at: Place,
     place: Option<Place>,
 ) -> Result<Option<Adjusted>, Fault>
-    ensures { (table : Table) → Answers (λ adjusted. adjusted) (declaring.adjusted_with_node at place (known table scope.old)) result (known table scope.new) }
+    ensures answers { (table : Table) → Answers (λ adjusted. adjusted) (declaring.adjusted_with_node at place (known table scope.old)) result (known table scope.new) }
+    ensures same { scope.new.scopes ≡ scope.old.scopes }
 {
     match place {
         None => Ok(None),
@@ -245,6 +247,26 @@ fn declared_home(d: Option<&TypedForm>) -> Home
     }
 }
 
+/// The type of a parameter, whose name is declared.
+fn declared_type(
+    scope: &mut Scope,
+    types: &mut Types,
+    void: bool,
+    at: Place,
+    adjusted: Option<Adjusted>,
+    d: Option<&TypedForm>,
+    base: TypeId,
+) -> Result<TypeId, Fault>
+    requires { is_here scope.old.scopes (declared_identifier (typed_declared_of (option_map typed_form_view (option_copied d)))) ≡ false }
+    ensures { let one = typed_declared_of (option_map typed_form_view (option_copied d.entry)) in Answers (λ t. t) (next (declaring.parameter_makes at adjusted one base (known types.old scope.old)) (λ t. obeying (λ s. tests.parameter_type_tests s.table s.seen.scopes void t at) (declaring.parameter_declared at (declared_identifier one) (declaring.declared_home one) t))) result (known types.new scope.new) }
+{
+    let t = parameter_makes(scope, types, at, adjusted, d, base)?;
+    if let Some(fault) = type_fault(scope, types, void, t, at) {
+        return Err(fault);
+    }
+    parameter_declared(scope, at, declared_name(d), declared_home(d), t)
+}
+
 /// A parameter whose specifiers and declarator are judged.
 #[tactic(auto, using(c_tree::proofs::TypedViewLaws::typed_views), unfolding(c_typing::specs::Declaring::parameter))]
 fn made_parameter(
@@ -259,25 +281,14 @@ fn made_parameter(
 ) -> Result<TypedParameter, Fault>
     ensures { (all : TypedParameters) → Answers (λ made. typed_parameter_view made all) (declaring.parameter void at (λ base. declaring.adjusted_at (derived_view derived) base named) all (typed_specifiers_view specifiers) (typed_declared_of (option_map typed_form_view declarator)) (known types.old scope.old)) result (known types.new scope.new) }
 {
-    let name = declared_name(declarator.as_ref());
-    if is_here(scope, name) {
+    let d = declarator.as_ref();
+    if is_here(scope, declared_name(d)) {
         return Err(refusal(at, Rule::Redeclared));
     }
-    let place = adjusted_at(types, derived, specifiers.ty, named);
+    let base = specifiers.ty;
+    let place = adjusted_at(types, derived, base, named);
     let adjusted = adjusted_with_node(scope, at, place)?;
-    let ty = parameter_makes(
-        scope,
-        types,
-        at,
-        adjusted,
-        declarator.as_ref(),
-        specifiers.ty,
-    )?;
-    if let Some(fault) = type_fault(scope, types, void, ty, at) {
-        return Err(fault);
-    }
-    let home = declared_home(declarator.as_ref());
-    let ty = parameter_declared(scope, at, name, home, ty)?;
+    let ty = declared_type(scope, types, void, at, adjusted, d, base)?;
     Ok(TypedParameter {
         specifiers,
         declarator,
@@ -292,7 +303,7 @@ impl<
     D: Fn(&mut Scope, &mut Types, u16, Naming, Place, &Declarator) -> Result<TypedForm, Fault>,
 > Walker<E, S, D> {
     /// A parameter after those that are judged.
-    #[tactic(auto, using(c_tree::proofs::ViewLaws::expr_views), unfolding(c_typing::specs::Walks::judge_parameters, c_typing::specs::Walks::judge_specifiers))]
+    #[tactic(auto, using(c_tree::proofs::ViewLaws::expr_views, c_tree::proofs::TypedViewLaws::typed_views), unfolding(c_typing::specs::Walks::judge_parameters))]
     fn parameter(
         &self,
         scope: &mut Scope,
@@ -314,6 +325,7 @@ impl<
     }
 
     /// Parameters, one after another.
+    #[tactic(auto, using(c_tree::proofs::PushLaws::pushes, crate::proofs::StayLaws::none_judged))]
     fn parameters(
         &self,
         scope: &mut Scope,
@@ -353,24 +365,50 @@ impl<
     }
 }
 
-/// Whether the parameters are `(void)`.
-#[tactic(auto, using(c_tree::proofs::ViewLaws::expr_views))]
-fn is_void_alone(list: &[Parameter]) -> bool
-    ensures { result ≡ is_void_alone (added NoParameter (map parameter_view list.now)) }
+/// Whether the specifiers are `void` by itself.
+#[tactic(auto, using(c_tree::proofs::ViewLaws::expr_views, c_tree::proofs::PushLaws::pushes))]
+fn is_void_word(list: &[Specifier]) -> bool
+    ensures { result ≡ is_void_alone (AndParameter NoParameter (specifiers_of (map specifier_view list.now)) NotDeclared) }
 {
-    match list.split_first() {
-        Some((one, [])) => one.declarator.is_none() && is_void_word(one.specifiers.list.as_slice()),
+    let Some((last, before)) = list.split_last() else {
+        return false;
+    };
+    if before.split_last().is_some() {
+        return false;
+    }
+    match last {
+        Specifier::Keyword(word) => word.keyword == Keyword::Void,
         _ => false,
     }
 }
 
-/// Whether the specifiers are `void` by itself.
+/// Whether a parameter that stands alone is `void`.
 #[tactic(auto, using(c_tree::proofs::ViewLaws::expr_views))]
-fn is_void_word(list: &[Specifier]) -> bool
-    ensures { result ≡ is_void_alone (AndParameter NoParameter (specifiers_of (map specifier_view list.now)) NotDeclared) }
+fn is_void_itself(one: &Parameter) -> bool
+    ensures { result ≡ is_void_alone (parameter_view one.now NoParameter) }
 {
-    match list.split_first() {
-        Some((Specifier::Keyword(word), [])) => word.keyword == Keyword::Void,
-        _ => false,
+    one.declarator.is_none() && is_void_word(one.specifiers.list.as_slice())
+}
+
+/// Of two parameters none is `void`.
+#[tactic(auto, using(c_tree::proofs::ViewLaws::expr_views))]
+fn is_void_behind(last: &Parameter, other: &Parameter) -> bool
+    ensures { (all : Parameters) → result ≡ is_void_alone (parameter_view last.now (parameter_view other.now all)) }
+{
+    let (_last, _other) = (&last.declarator, &other.declarator);
+    false
+}
+
+/// Whether the parameters are `(void)`.
+#[tactic(auto, using(c_tree::proofs::PushLaws::pushes))]
+fn is_void_alone(parameters: &[Parameter]) -> bool
+    ensures { result ≡ is_void_alone (added NoParameter (map parameter_view parameters.now)) }
+{
+    let Some((last, before)) = parameters.split_last() else {
+        return false;
+    };
+    match before.split_last() {
+        Some((other, _)) => is_void_behind(last, other),
+        None => is_void_itself(last),
     }
 }

@@ -4,25 +4,17 @@
 ghost use Rattle.std.specs.Prelude.{◌≡◌, IfOk, map, option_copied};
 ghost use Rattle.c_types.specs.Table.{Table};
 ghost use Rattle.c_tree.specs.Tree as tree;
-ghost use Rattle.c_tree.specs.Views.{added, enumerator_view, members_view, specifier_view, specifiers_view};
+ghost use Rattle.c_tree.specs.Views.{added, enumerator_view, members_view, specifier_view, specifiers_of, specifiers_view};
 ghost use Rattle.c_tree.specs.TypedViews.{typed_specifier_view, typed_specifiers_view};
 ghost use Rattle.c_typing.specs.Declarators.{counting, named_by_specifier};
 ghost use Rattle.c_typing.specs.Judging.{Answers, known};
 ghost use Rattle.c_check_expr.specs.Nests.{Nests};
 ghost use Rattle.c_check_expr.specs.NamedViews.{named_view};
-ghost use Rattle.c_typing.specs.Refusals.{one_named};
 ghost use Rattle.c_typing.specs.Specifying as specifying;
 ghost use Rattle.c_typing.specs.Walks as walks;
 
-use crate::aggregates::{aggregate_fault, begun, completed, tag_named_here, tag_place};
-use c_typing::copies::copied_tag;
-use c_typing::declared::Tag;
-use c_typing::member::MemberNames;
-use c_typing::naming::Naming;
-use c_typing::operand::Operand;
-use c_typing::scope::Scope;
+use crate::aggregates::{begun, ended, tag_named_here, tag_place};
 use crate::specifying::{declare_tag_of, enum_named, tagged, tagged_alone, typedef_name, word};
-use c_typing::stops::refusal;
 use crate::walker::Walker;
 use crate::words::Words;
 use c_tree::{
@@ -30,6 +22,13 @@ use c_tree::{
     TypedForm, TypedSpecifier, TypedSpecifiers,
 };
 use c_types::Types;
+use c_typing::copies::copied_tag;
+use c_typing::declared::Tag;
+use c_typing::member::MemberNames;
+use c_typing::naming::Naming;
+use c_typing::operand::Operand;
+use c_typing::scope::Scope;
+use c_typing::stops::refusal;
 use cc_base::{Fault, Place, Rule, TypeId};
 
 /// What a specifier names besides words.
@@ -84,7 +83,7 @@ impl<
     D: Fn(&mut Scope, &mut Types, u16, Naming, Place, &Declarator) -> Result<TypedForm, Fault>,
 > Walker<E, S, D> {
     /// A struct or union with its members.
-    #[tactic(auto, using(c_tree::proofs::TypedViewLaws::typed_views), unfolding(c_typing::specs::Walks::judge_specifier, c_typing::specs::Specifying::ended))]
+    #[tactic(auto, using(c_tree::proofs::TypedViewLaws::typed_views), unfolding(c_typing::specs::Walks::judge_specifier))]
     fn aggregate(
         &self,
         scope: &mut Scope,
@@ -98,19 +97,12 @@ impl<
     ) -> Result<(TypedSpecifier, Words), Fault>
         requires nests { Nests self.now.depth (E.pre self.now.judge_expr) (E.post self.now.judge_expr) (S.pre self.now.judge_specifiers) (S.post self.now.judge_specifiers) (D.pre self.now.judge_form) (D.post self.now.judge_form) }
         ensures answers { Answers (λ r. typed_specifier_view r.0) (walks.judge_specifier before.now (tree.Aggregate which at (option_copied name.entry) brace (added tree.NoMember (map members_view rows.now))) (known types.old scope.old)) result (known types.new scope.new) }
-        ensures counts { IfOk result (λ r. r.1 ≡ one_named before.now) }
+        ensures counts { IfOk result (λ r. r.1 ≡ counting (typed_specifier_view r.0) before.now) }
     {
         let t = begun(scope, types, which, at, name)?;
         let mut names = MemberNames::new(scope.alloc());
         let rows = self.members(scope, types, &mut names, rows)?;
-        let place = tag_place(at, name);
-        if let Some(fault) = aggregate_fault(scope, types, place, t, rows.is_empty()) {
-            return Err(fault);
-        }
-        let Some(words) = before.with_name() else {
-            return Err(refusal(at, Rule::Mismatch));
-        };
-        let t = completed(scope, types, place, rows.as_slice(), names, t)?;
+        let (t, words) = ended(scope, types, before, at, name, t, rows.as_slice(), names)?;
         let name = copied_tag(scope.alloc(), name)?;
         Ok((
             TypedSpecifier::Aggregate(which, at, name, brace, rows, t),
@@ -133,7 +125,7 @@ impl<
     ) -> Result<(TypedSpecifier, Words), Fault>
         requires nests { Nests self.now.depth (E.pre self.now.judge_expr) (E.post self.now.judge_expr) (S.pre self.now.judge_specifiers) (S.post self.now.judge_specifiers) (D.pre self.now.judge_form) (D.post self.now.judge_form) }
         ensures answers { Answers (λ r. typed_specifier_view r.0) (walks.judge_specifier before.now (tree.Enumeration at (option_copied name.entry) brace (added tree.NoEnumerator (map enumerator_view list.now)) comma) (known types.old scope.old)) result (known types.new scope.new) }
-        ensures counts { IfOk result (λ r. r.1 ≡ one_named before.now) }
+        ensures counts { IfOk result (λ r. r.1 ≡ counting (typed_specifier_view r.0) before.now) }
     {
         let found = enumeration_begun(scope, name)?;
         let list = self.enumerators(scope, types, list)?;
@@ -191,8 +183,32 @@ impl<
         }
     }
 
+    /// Specifiers, one after another.
+    #[tactic(auto, using(crate::proofs::StayLaws::none_judged))]
+    fn listed(
+        &self,
+        scope: &mut Scope,
+        types: &mut Types,
+        specifiers: &[Specifier],
+    ) -> Result<TypedSpecifiers, Fault>
+        requires nests { Nests self.now.depth (E.pre self.now.judge_expr) (E.post self.now.judge_expr) (S.pre self.now.judge_specifiers) (S.post self.now.judge_specifiers) (D.pre self.now.judge_form) (D.post self.now.judge_form) }
+        ensures { Answers typed_specifiers_view (walks.judge_specifiers (specifiers_of (map specifier_view specifiers.now)) (known types.old scope.old)) result (known types.new scope.new) }
+    {
+        let mut list = Items::new(scope.alloc());
+        let mut words = Words::none();
+        let mut named = Named::Nothing;
+        for one in specifiers {
+            let (specifier, counted) = self.specifier(scope, types, &words, one)?;
+            named = named_with(&specifier, named);
+            words = counted;
+            list.push(specifier)?;
+        }
+        let ty = listed_type(named, &words);
+        Ok(TypedSpecifiers { list, ty })
+    }
+
     /// A list of specifiers.
-    #[tactic(auto, using(c_tree::proofs::ViewLaws::expr_views, c_tree::proofs::TypedViewLaws::typed_views), unfolding(c_typing::specs::Walks::judge_specifiers))]
+    #[tactic(auto, using(c_tree::proofs::ViewLaws::expr_views))]
     pub(crate) fn specifier_list(
         &self,
         scope: &mut Scope,
@@ -202,16 +218,6 @@ impl<
         requires nests { Nests self.now.depth (E.pre self.now.judge_expr) (E.post self.now.judge_expr) (S.pre self.now.judge_specifiers) (S.post self.now.judge_specifiers) (D.pre self.now.judge_form) (D.post self.now.judge_form) }
         ensures { Answers typed_specifiers_view (walks.judge_specifiers (specifiers_view specifiers.now) (known types.old scope.old)) result (known types.new scope.new) }
     {
-        let mut list = Items::new(scope.alloc());
-        let mut words = Words::none();
-        let mut named = Named::Nothing;
-        for one in specifiers.list.as_slice() {
-            let (specifier, counted) = self.specifier(scope, types, &words, one)?;
-            named = named_with(&specifier, named);
-            words = counted;
-            list.push(specifier)?;
-        }
-        let ty = listed_type(named, &words);
-        Ok(TypedSpecifiers { list, ty })
+        self.listed(scope, types, specifiers.list.as_slice())
     }
 }

@@ -2,24 +2,24 @@
 #![tactic(auto)]
 
 ghost use Rattle.std.specs.Prelude.{◌≡◌, ◌++◌, OnOk, IfOk, None, option_copied};
+ghost use Rattle.c_tree.specs.TypedTree.{Typedef};
 ghost use Rattle.c_tree.specs.TypedViews.{typed_specifier_view};
-ghost use Rattle.c_typing.specs.Declarators.{counting};
+ghost use Rattle.c_typing.specs.Declarators.{Counted, Named, counting, named_by_specifier};
 ghost use Rattle.c_typing.specs.Judging.{Answers, State, known};
 ghost use Rattle.c_typing.specs.Specifying as specifying;
 ghost use Rattle.c_typing.specs.Tests as tests;
 ghost use Rattle.c_typing.specs.Tests.{first_broken};
-ghost use Rattle.c_typing.specs.Refusals.{one_named};
 ghost use Rattle.c_typing.specs.Scopes.{name_in, tag_in, tag_here, with_scopes};
 ghost use Rattle.c_typing.specs.Typing.{shape_of_kind, tagging, tag_named_here};
 
+use crate::words::Words;
+use c_tree::{AggregateKind, Identifier, TypedSpecifier, Word};
+use c_types::{TypeShape, Types};
 use c_typing::copies::{copied_name, copied_tag};
 use c_typing::declared::{Declared, Tag};
 use c_typing::scope::Scope;
 use c_typing::stops::{no_room, refusal};
 use c_typing::typing::type_with;
-use crate::words::Words;
-use c_tree::{AggregateKind, Identifier, TypedSpecifier, Word};
-use c_types::{TypeShape, Types};
 use cc_base::{Fault, NoMemory, Place, Rule, TypeId};
 
 /// A storage word, a qualifier, or a word for a type.
@@ -35,15 +35,12 @@ pub(crate) fn word(before: &Words, w: Word) -> Result<(TypedSpecifier, Words), F
 }
 
 /// The type that a typedef gave a name.
-#[tactic(auto, using(c_tree::proofs::TypedViewLaws::typed_views), unfolding(c_typing::specs::Specifying::typedef_named))]
-fn typedef_named(scope: &Scope, types: &Types, name: &Identifier) -> Result<TypedSpecifier, Fault>
-    ensures { Answers typed_specifier_view (specifying.typedef_named name.now (name_in scope.now.scopes.levels name.now.bytes) (known types.now scope.now)) result (known types.now scope.now) }
+#[tactic(auto, unfolding(c_typing::specs::Specifying::typedef_named))]
+fn typedef_named(scope: &Scope, name: &Identifier) -> Result<TypeId, Fault>
+    ensures { (s : State) → Answers (Typedef name.now) (specifying.typedef_named name.now (name_in scope.now.scopes.levels name.now.bytes) s) result s }
 {
     match scope.name(name.bytes.as_slice()) {
-        Some(Declared::Typedef(t)) => {
-            let t = *t;
-            Ok(TypedSpecifier::Typedef(copied_name(scope.alloc(), name)?, t))
-        }
+        Some(Declared::Typedef(t)) => Ok(*t),
         _ => Err(no_room(name.place)),
     }
 }
@@ -57,12 +54,15 @@ pub(crate) fn typedef_name(
     name: &Identifier,
 ) -> Result<(TypedSpecifier, Words), Fault>
     ensures answers { Answers (λ r. typed_specifier_view r.0) (specifying.typedef_name before.now name.now (known types.now scope.now)) result (known types.now scope.now) }
-    ensures counts { IfOk result (λ r. r.1 ≡ one_named before.now) }
+    ensures counts { IfOk result (λ r. r.1 ≡ counting (typed_specifier_view r.0) before.now) }
 {
+    let _count = types.count();
     let Some(words) = before.with_name() else {
         return Err(refusal(name.place, Rule::Mismatch));
     };
-    Ok((typedef_named(scope, types, name)?, words))
+    let t = typedef_named(scope, name)?;
+    let name = copied_name(scope.alloc(), name)?;
+    Ok((TypedSpecifier::Typedef(name, t), words))
 }
 
 fn shape_of_kind(which: AggregateKind, number: u32) -> TypeShape
@@ -173,7 +173,7 @@ pub(crate) fn tagged(
     name: &Identifier,
 ) -> Result<(TypedSpecifier, Words), Fault>
     ensures answers { Answers (λ r. typed_specifier_view r.0) (specifying.tagged before.now which at name.now (known types.old scope.old)) result (known types.new scope.new) }
-    ensures counts { IfOk result (λ r. r.1 ≡ one_named before.now) }
+    ensures counts { IfOk result (λ r. r.1 ≡ counting (typed_specifier_view r.0) before.now) }
 {
     if let Some(fault) = tag_fault(scope, which, name) {
         return Err(fault);
@@ -187,7 +187,7 @@ pub(crate) fn tagged(
     Ok((TypedSpecifier::Tagged(which, at, name, t), words))
 }
 
-/// `struct S` by itself declares its tag in the innermost scope.
+/// `struct S` by itself declares its tag in the innermost scope. Its type comes beside it, which is that of the list.
 #[tactic(auto, using(c_tree::proofs::TypedViewLaws::typed_views), unfolding(c_typing::specs::Specifying::tagged_alone, c_typing::specs::Specifying::tagged_by))]
 pub(crate) fn tagged_alone(
     scope: &mut Scope,
@@ -195,8 +195,9 @@ pub(crate) fn tagged_alone(
     which: AggregateKind,
     at: Place,
     name: &Identifier,
-) -> Result<TypedSpecifier, Fault>
-    ensures { Answers typed_specifier_view (specifying.tagged_alone which at name.now (known types.old scope.old)) result (known types.new scope.new) }
+) -> Result<(TypedSpecifier, TypeId), Fault>
+    ensures answers { Answers (λ r. typed_specifier_view r.0) (specifying.tagged_alone which at name.now (known types.old scope.old)) result (known types.new scope.new) }
+    ensures listed { IfOk result (λ r. (named : Named) (words : Counted) → specifying.listed_type (named_by_specifier (typed_specifier_view r.0) named) words ≡ r.1) }
 {
     if is_other_tag(which, scope.tag_here(name.bytes.as_slice())) {
         return Err(refusal(name.place, Rule::Redeclared));
@@ -204,7 +205,7 @@ pub(crate) fn tagged_alone(
     let found = scope.tag_here(name.bytes.as_slice()).copied();
     let t = tagged_as(scope, types, which, name, found)?;
     let name = copied_name(scope.alloc(), name)?;
-    Ok(TypedSpecifier::Tagged(which, at, name, t))
+    Ok((TypedSpecifier::Tagged(which, at, name, t), t))
 }
 
 /// The rules of `enum E` without a list.
@@ -234,7 +235,7 @@ pub(crate) fn enum_named(
     name: &Identifier,
 ) -> Result<(TypedSpecifier, Words), Fault>
     ensures answers { Answers (λ r. typed_specifier_view r.0) (specifying.enum_tag before.now at name.now (known types.now scope.now)) result (known types.now scope.now) }
-    ensures counts { IfOk result (λ r. r.1 ≡ one_named before.now) }
+    ensures counts { IfOk result (λ r. r.1 ≡ counting (typed_specifier_view r.0) before.now) }
 {
     let _count = types.count();
     if let Some(fault) = enum_fault(scope, name) {

@@ -9,13 +9,13 @@ ghost use Rattle.c_check_expr.specs.Nests.{Nests};
 ghost use Rattle.c_typing.specs.Walks as walks;
 
 use crate::making::{Nearest, declared_makes};
-use c_typing::naming::Naming;
-use c_typing::operand::Operand;
 use crate::places::declared_place;
-use c_typing::scope::Scope;
 use crate::walker::Walker;
 use c_tree::{Declarator, Expr, Specifiers, TypeName, TypedForm, TypedSpecifiers, TypedTypeName};
 use c_types::Types;
+use c_typing::naming::Naming;
+use c_typing::operand::Operand;
+use c_typing::scope::Scope;
 use cc_base::{Fault, Place};
 
 impl<
@@ -42,7 +42,7 @@ impl<
         }
     }
 
-    #[tactic(auto, using(c_tree::proofs::ViewLaws::expr_views, c_tree::proofs::TypedViewLaws::typed_views), unfolding(c_typing::specs::Walks::judge_type_name, c_typing::specs::Walks::judge_specifiers))]
+    #[tactic(auto, using(c_tree::proofs::ViewLaws::expr_views, c_tree::proofs::TypedViewLaws::typed_views), unfolding(c_typing::specs::Walks::judge_type_name))]
     pub(crate) fn type_name(
         &self,
         scope: &mut Scope,

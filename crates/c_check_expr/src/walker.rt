@@ -4,16 +4,17 @@
 ghost use Rattle.c_tree.specs.Views.{expr_view, specifiers_view, declarator_view};
 ghost use Rattle.c_tree.specs.TypedViews.{typed_specifiers_view, typed_form_view};
 ghost use Rattle.c_typing.specs.Judging.{Answers, known};
+ghost use Rattle.c_check_expr.specs.Listed.{IsListed};
 ghost use Rattle.c_check_expr.specs.Nests.{Nests};
 ghost use Rattle.c_typing.specs.OperandViews.{operand_view, value_view};
 ghost use Rattle.c_typing.specs.Walks as walks;
 
+use c_tree::{Declarator, Expr, Specifiers, TypedForm, TypedSpecifiers};
+use c_types::Types;
 use c_typing::naming::Naming;
 use c_typing::operand::{Operand, Value};
 use c_typing::scope::Scope;
 use c_typing::typing::value;
-use c_tree::{Declarator, Expr, Specifiers, TypedForm, TypedSpecifiers};
-use c_types::Types;
 use cc_base::{Fault, Place};
 
 /// What the rules of a part stand on.
@@ -69,7 +70,8 @@ impl<
         specifiers: &Specifiers,
     ) -> Result<TypedSpecifiers, Fault>
         requires nests { Nests self.now.depth (E.pre self.now.judge_expr) (E.post self.now.judge_expr) (S.pre self.now.judge_specifiers) (S.post self.now.judge_specifiers) (D.pre self.now.judge_form) (D.post self.now.judge_form) }
-        ensures { Answers typed_specifiers_view (walks.judge_specifiers (specifiers_view specifiers.now) (known types.old scope.old)) result (known types.new scope.new) }
+        ensures answers { Answers typed_specifiers_view (walks.judge_specifiers (specifiers_view specifiers.now) (known types.old scope.old)) result (known types.new scope.new) }
+        ensures listed { IsListed (walks.judge_list (specifiers_view specifiers.now) (known types.old scope.old)) result (known types.new scope.new) }
     {
         (self.judge_specifiers)(scope, types, self.depth, specifiers)
     }

@@ -1,2 +1,5 @@
+pub mod KeptInitialisers
+pub mod UnitOutcomes
+pub mod JudgedInitialisers
 pub mod RefusedUnit
 pub mod TypedRow

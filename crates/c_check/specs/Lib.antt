@@ -10,3 +10,4 @@ pub mod InitialiserJudging
 pub mod DeclarationJudging
 pub mod StatementJudging
 pub mod DefinitionJudging
+pub mod UnitJudged

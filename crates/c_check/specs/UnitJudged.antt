@@ -1,0 +1,31 @@
+-- What laws say of what the judging of units gives: it is well typed from what is known before to what is known after, it erases to the
+-- tree that was judged, and all is known again.
+use Rattle.std.specs.Prelude.{◌≡◌, Bool}
+use Rattle.cc_base.specs.declared.number.TypeId.{TypeId}
+use Rattle.cc_base.specs.declared.place.Place.{Place}
+use Rattle.c_tree.specs.Erasure.{erased_initialiser, erased_items}
+use Rattle.c_tree.specs.Tree as tree
+use Rattle.c_tree.specs.TypedTree.{TypedInitialiser, TypedItems}
+use Rattle.c_typing.specs.Judging as judging
+use Rattle.c_typing.specs.Judging.{State}
+use Rattle.c_typing.specs.Settled.{GoesOn}
+use Rattle.c_check.specs.Initialisers.{IsInitialiser, AreItems}
+use Rattle.c_check.specs.UnitJudging.{UnitState}
+
+-- what is known of types and names
+abbrev pub state_of : UnitState → State
+state_of s = judging.known s.table s.seen
+
+-- an initialiser of an object of the type t; what is linked stays as it is
+pub record IsInitialiserJudged (i : tree.Initialiser) (at : Place) (t : TypeId) (one : TypedInitialiser) (s r : UnitState) : Type 0 where
+  pub typed : IsInitialiser r.table one at t s.seen.scopes r.seen.scopes
+  pub erases : erased_initialiser one ≡ i
+  pub linkage : r.linkage ≡ s.linkage
+  pub goes : GoesOn (state_of s) (state_of r)
+
+-- the items in the braces of an initialiser of the type t; `text` says that a literal by itself initialises the whole
+pub record AreItemsJudged (all : tree.Items) (text : Bool) (t : TypeId) (list : TypedItems) (s r : UnitState) : Type 0 where
+  pub typed : AreItems r.table list text t s.seen.scopes r.seen.scopes
+  pub erases : erased_items list ≡ all
+  pub linkage : r.linkage ≡ s.linkage
+  pub goes : GoesOn (state_of s) (state_of r)

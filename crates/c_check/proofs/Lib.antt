@@ -1,5 +1,6 @@
 pub mod KeptInitialisers
 pub mod UnitOutcomes
 pub mod JudgedInitialisers
+pub mod JudgedTests
 pub mod RefusedUnit
 pub mod TypedRow

@@ -1,16 +1,19 @@
 -- What laws say of what the judging of units gives: it is well typed from what is known before to what is known after, it erases to the
 -- tree that was judged, and all is known again.
-use Rattle.std.specs.Prelude.{◌≡◌, Bool}
+use Rattle.std.specs.Prelude.{◌≡◌, Bool, true, false, Option}
 use Rattle.cc_base.specs.declared.number.TypeId.{TypeId}
 use Rattle.cc_base.specs.declared.place.Place.{Place}
-use Rattle.c_tree.specs.Erasure.{erased_initialiser, erased_items}
+use Rattle.c_types.specs.Table.{Table, IsType, shape_at, is_aggregate_shape}
+use Rattle.c_tree.specs.Erasure.{erased, erased_initialiser, erased_items, erased_optional}
 use Rattle.c_tree.specs.Tree as tree
-use Rattle.c_tree.specs.TypedTree.{TypedInitialiser, TypedItems}
+use Rattle.c_tree.specs.TypedTree.{TypedExpr, TypedInitialiser, TypedItems}
+use Rattle.c_typing.specs.Extensions.{IsExtended}
 use Rattle.c_typing.specs.Judging as judging
 use Rattle.c_typing.specs.Judging.{State}
 use Rattle.c_typing.specs.Settled.{GoesOn}
 use Rattle.c_check.specs.Initialisers.{IsInitialiser, AreItems}
-use Rattle.c_check.specs.UnitJudging.{UnitState}
+use Rattle.c_check.specs.Units.{Known, IsDropped, IsTested, IsTestedOrNone, IsReturned}
+use Rattle.c_check.specs.UnitJudging.{UnitState, known_of}
 
 -- what is known of types and names
 abbrev pub state_of : UnitState → State
@@ -29,3 +32,26 @@ pub record AreItemsJudged (all : tree.Items) (text : Bool) (t : TypeId) (list : 
   pub erases : erased_items list ≡ all
   pub linkage : r.linkage ≡ s.linkage
   pub goes : GoesOn (state_of s) (state_of r)
+
+-- so it is over each table that goes on from this one: what is judged later adds types
+abbrev pub OverLater : Table → (Table → Type 0) → Type 0
+OverLater table P = (later : Table) → IsExtended table later → P later
+
+-- a condition
+pub record IsConditionJudged (e : tree.Expr) (c : TypedExpr) (s r : UnitState) : Type 0 where
+  pub typed : OverLater r.table (λ T. IsTested T c (known_of s) (known_of r))
+  pub erases : erased c ≡ e
+  pub linkage : r.linkage ≡ s.linkage
+  pub goes : GoesOn (state_of s) (state_of r)
+
+-- an expression of a statement, or none, of which so much is said
+pub record IsOptionJudged (P : Table → Option TypedExpr → Known → Known → Type 0) (e : Option tree.Expr) (v : Option TypedExpr) (s r : UnitState) : Type 0 where
+  pub typed : OverLater r.table (λ T. P T v (known_of s) (known_of r))
+  pub erases : erased_optional v ≡ e
+  pub linkage : r.linkage ≡ s.linkage
+  pub goes : GoesOn (state_of s) (state_of r)
+
+-- what a function may give: no struct
+pub record IsResult (table : Table) (t : TypeId) : Type 0 where
+  pub there : IsType table t
+  pub no_struct : is_aggregate_shape (shape_at table t) ≡ false

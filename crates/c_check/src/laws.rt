@@ -3,3 +3,4 @@
 
 pub mod growth;
 pub mod initialisers;
+pub mod statements;

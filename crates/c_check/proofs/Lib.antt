@@ -2,5 +2,6 @@ pub mod KeptInitialisers
 pub mod UnitOutcomes
 pub mod JudgedInitialisers
 pub mod JudgedTests
+pub mod JudgedStatements
 pub mod RefusedUnit
 pub mod TypedRow

@@ -1,19 +1,23 @@
 -- What laws say of what the judging of units gives: it is well typed from what is known before to what is known after, it erases to the
 -- tree that was judged, and all is known again.
-use Rattle.std.specs.Prelude.{◌≡◌, Bool, true, false, Option}
+use Rattle.std.specs.Prelude.{◌≡◌, ◌≤◌, Bool, true, false, Option}
 use Rattle.cc_base.specs.declared.number.TypeId.{TypeId}
 use Rattle.cc_base.specs.declared.place.Place.{Place}
 use Rattle.c_types.specs.Table.{Table, IsType, shape_at, is_aggregate_shape}
-use Rattle.c_tree.specs.Erasure.{erased, erased_initialiser, erased_items, erased_optional}
+use Rattle.c_tree.specs.Erasure.{erased, erased_initialiser, erased_items, erased_optional, erased_declaration, erased_statement, erased_block_items}
 use Rattle.c_tree.specs.Tree as tree
-use Rattle.c_tree.specs.TypedTree.{TypedExpr, TypedInitialiser, TypedItems}
+use Rattle.c_tree.specs.TypedTree.{TypedExpr, TypedInitialiser, TypedItems, TypedDeclaration, TypedStatement, TypedBlockItems}
+use Rattle.c_tree.specs.TypedParts.{type_of}
 use Rattle.c_typing.specs.Extensions.{IsExtended}
 use Rattle.c_typing.specs.Judging as judging
 use Rattle.c_typing.specs.Judging.{State}
-use Rattle.c_typing.specs.Settled.{GoesOn}
+use Rattle.c_typing.specs.Rules.{IsPromoted}
+use Rattle.c_typing.specs.Settled.{IsKnown, GoesOn}
+use Rattle.c_typing.specs.Typing.{IsTyped}
 use Rattle.c_check.specs.Initialisers.{IsInitialiser, AreItems}
-use Rattle.c_check.specs.Units.{Known, IsDropped, IsTested, IsTestedOrNone, IsReturned}
-use Rattle.c_check.specs.UnitJudging.{UnitState, known_of}
+use Rattle.c_check.specs.DeclarationJudging.{judge_declaration}
+use Rattle.c_check.specs.Units.{Known, Around, IsDropped, IsTested, IsTestedOrNone, IsReturned, IsDeclaration, IsStatement, AreBlockItems, AreDifferent, labels_of, defaults_in}
+use Rattle.c_check.specs.UnitJudging.{UnitState, Gives, known_of}
 
 -- what is known of types and names
 abbrev pub state_of : UnitState → State
@@ -55,3 +59,34 @@ pub record IsOptionJudged (P : Table → Option TypedExpr → Known → Known �
 pub record IsResult (table : Table) (t : TypeId) : Type 0 where
   pub there : IsType table t
   pub no_struct : is_aggregate_shape (shape_at table t) ≡ false
+
+-- what a `switch` is on: a promoted integer
+pub record IsSwitchJudged (at : Place) (e : tree.Expr) (c : TypedExpr) (s r : UnitState) : Type 0 where
+  pub typed : OverLater r.table (λ T. IsTyped T c s.seen.scopes r.seen.scopes × IsPromoted T at c (type_of c))
+  pub erases : erased c ≡ e
+  pub linkage : r.linkage ≡ s.linkage
+  pub goes : GoesOn (state_of s) (state_of r)
+
+pub record IsDeclarationJudged (file : Bool) (d : tree.Declaration) (one : TypedDeclaration) (s r : UnitState) : Type 0 where
+  pub typed : OverLater r.table (λ T. IsDeclaration T file one (known_of s) (known_of r))
+  pub erases : erased_declaration one ≡ d
+  pub goes : GoesOn (state_of s) (state_of r)
+
+-- each declaration that is judged is well typed
+abbrev pub DeclarationsAreJudged : (file : Bool) → Type 0
+DeclarationsAreJudged file =
+    (d : tree.Declaration) (one : TypedDeclaration) (s r : UnitState) → IsKnown (state_of s) → judge_declaration file d s ≡ Gives one r
+    → IsDeclarationJudged file d one s r
+
+pub record IsStatementJudged (a : Around) (t : tree.Statement) (one : TypedStatement) (s r : UnitState) : Type 0 where
+  pub typed : OverLater r.table (λ T. IsStatement T a one (known_of s) (known_of r))
+  pub erases : erased_statement one ≡ t
+  pub goes : GoesOn (state_of s) (state_of r)
+
+-- what a block holds; no two of its labels are alike
+pub record AreBlockItemsJudged (a : Around) (on : Option TypeId) (all : tree.BlockItems) (list : TypedBlockItems) (s r : UnitState) : Type 0 where
+  pub typed : OverLater r.table (λ T. AreBlockItems T a on list (known_of s) (known_of r))
+  pub labels : AreDifferent (labels_of list)
+  pub defaults : defaults_in list ≤ 1
+  pub erases : erased_block_items list ≡ all
+  pub goes : GoesOn (state_of s) (state_of r)

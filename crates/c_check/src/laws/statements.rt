@@ -8,8 +8,8 @@ ghost use Rattle.cc_base.specs.declared.place.Place.{Place};
 ghost use Rattle.c_tree.specs.Tree as tree;
 ghost use Rattle.c_tree.specs.TypedTree.{TypedExpr};
 ghost use Rattle.c_typing.specs.Settled.{IsKnown};
-ghost use Rattle.c_check.specs.StatementJudging.{condition, condition_or_none, dropped, returned};
-ghost use Rattle.c_check.specs.UnitJudged.{state_of, IsConditionJudged, IsOptionJudged, IsResult};
+ghost use Rattle.c_check.specs.StatementJudging.{condition, condition_or_none, dropped, returned, switched};
+ghost use Rattle.c_check.specs.UnitJudged.{state_of, IsConditionJudged, IsOptionJudged, IsResult, IsSwitchJudged};
 ghost use Rattle.c_check.specs.UnitJudging.{UnitState, Gives};
 ghost use Rattle.c_check.specs.Units.{IsDropped, IsTestedOrNone, IsReturned};
 
@@ -19,4 +19,9 @@ pub fn the_expressions_of_statements_are_judged()
     ensures optional { (at : Place) (e : Option tree.Expr) (c : Option TypedExpr) (s r : UnitState) → IsKnown (state_of s) → condition_or_none at e s ≡ Gives c r → IsOptionJudged IsTestedOrNone e c s r }
     ensures dropped { (e : Option tree.Expr) (v : Option TypedExpr) (s r : UnitState) → IsKnown (state_of s) → dropped e s ≡ Gives v r → IsOptionJudged IsDropped e v s r }
     ensures returned { (at : Place) (t : TypeId) (e : Option tree.Expr) (v : Option TypedExpr) (s r : UnitState) → IsKnown (state_of s) → IsResult s.table t → returned at t e s ≡ Gives v r → IsOptionJudged (λ T. IsReturned T at t) e v s r }
+{}
+
+/// The integer of a `switch` is promoted (C99 6.8.4.2).
+pub fn the_integer_of_a_switch_is_judged()
+    ensures { (at : Place) (e : tree.Expr) (c : TypedExpr) (s r : UnitState) → IsKnown (state_of s) → switched at e s ≡ Gives c r → IsSwitchJudged at e c s r }
 {}

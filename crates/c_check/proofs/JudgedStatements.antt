@@ -49,7 +49,7 @@ use Rattle.c_check.specs.StatementJudging.{condition, condition_or_none, dropped
 use Rattle.c_check.specs.UnitJudged.{state_of, OverLater, IsConditionJudged, IsOptionJudged, IsResult, IsSwitchJudged, IsDeclarationJudged, DeclarationsAreJudged, IsStatementJudged, AreBlockItemsJudged}
 use Rattle.c_check.specs.UnitJudging.{UnitState, UnitOutcome, UnitJudging, Gives, Stops, known_of, next, pure, obeying, lifted}
 use Rattle.c_check.specs.UnitRefusals.{jump_tests, switch_tests}
-use Rattle.c_check.specs.Units.{Known, Around, with_scopes, in_a_loop, in_a_switch, entering_known, leaving_known, labels_of, defaults_in, AreDifferent, IsStatement, AreBlockItems}
+use Rattle.c_check.specs.Units.{Known, Around, with_scopes, in_a_loop, in_a_switch, entering_known, leaving_known, labels_of, defaults_in, AreDifferent, IsDeclaration, IsStatement, AreBlockItems}
 use Rattle.c_check.proofs.JudgedTests.{scopes-alone, scalar-plain, condition-judged, condition_or_none-judged, dropped_here, dropped-judged, returned-judged}
 use Rattle.c_check.proofs.UnitOutcomes.{gives-value, gives-state, never-gives, bind-gives, unless-gives, given-same, lifted-gives}
 
@@ -263,3 +263,222 @@ default-judged a on all before list at s m r j h =
       erases = ap (λ (w : tree.BlockItems). tree.AndDefault w at) j.erases;
       goes = j.goes;
     })
+
+-- Statements, where declarations are judged
+
+mutual
+  unfolding judge_statement judge_block_items
+  pub statement-judged : (t : tree.Statement) (decl : DeclarationsAreJudged false) (a : Around) (one : TypedStatement) (s r : UnitState) → IsKnown (state_of s)
+      → IsResult s.table a.result → judge_statement a t s ≡ Gives one r → IsStatementJudged a t one s r
+  statement-judged (tree.Block brace items) decl a one s r k b h =
+      let e1 = bind-gives (lifted entered s) (λ inside. λ m. next (judge_block_items a None items m) (λ list. lifted (left brace (typed.Block brace list)))) one r h in
+      let en = enter-judged e1.0 s e1.1 k e1.2 in
+      let e2 = bind-gives (judge_block_items a None items e1.1) (λ list. lifted (left brace (typed.Block brace list))) one r e1.3 in
+      let j = items-judged items decl a None e2.0 e1.1 e2.1 en.1.known (result-kept s.table e1.1.table a.result en.1.extends b) e2.2 in
+      let out = leave-judged brace (typed.Block brace e2.0) one e2.1 r j.goes.known e2.3 in
+      subst (λ (v : TypedStatement). IsStatementJudged a (tree.Block brace items) v s r) out.0 (record {
+        typed = λ U x. (
+          known_of e2.1,
+          subst (λ (c : Known). AreBlockItems U a None e2.0 c (known_of e2.1)) en.0 (j.typed U (extended_trans e2.1.table r.table U out.2.extends x)),
+          out.1,
+        );
+        erases = ap (tree.Block brace) j.erases;
+        goes = goes-on (state_of s) (state_of e1.1) (state_of r) en.1 (goes-on (state_of e1.1) (state_of e2.1) (state_of r) j.goes out.2);
+      })
+  statement-judged (tree.Express e) decl a one s r k b h =
+      let e1 = bind-gives (lifted (checked e) s) (λ v. pure (typed.Express v)) one r h in
+      let l = lifted-gives (checked e) e1.0 s e1.1 e1.2 in
+      let c = checked-judged e e1.0 (state_of s) (state_of e1.1) k l.0 in
+      let j = dropped_here e e1.0 s e1.1 k e1.2 in
+      given-same (λ (v : TypedStatement) (q : UnitState). IsStatementJudged a (tree.Express e) v s q) (typed.Express e1.0) one e1.1 r e1.3
+      (record { typed = j.typed; erases = ap tree.Express c.erases; goes = j.goes })
+  statement-judged tree.Empty decl a one s r k b h =
+      given-same (λ (v : TypedStatement) (q : UnitState). IsStatementJudged a tree.Empty v s q) typed.Empty one s r h
+      (record { typed = λ U x. refl; erases = refl; goes = (stays (state_of s) k).goes })
+  statement-judged (tree.If at paren c t) decl a one s r k b h =
+      let e1 = bind-gives (condition at c s) (λ test. λ m. next (judge_statement a t m) (λ inner. pure (typed.If at paren test inner))) one r h in
+      let j = condition-judged at c e1.0 s e1.1 k e1.2 in
+      let e2 = bind-gives (judge_statement a t e1.1) (λ inner. pure (typed.If at paren e1.0 inner)) one r e1.3 in
+      let i = statement-judged t decl a e2.0 e1.1 e2.1 j.goes.known (result-kept s.table e1.1.table a.result j.goes.extends b) e2.2 in
+      given-same (λ (v : TypedStatement) (q : UnitState). IsStatementJudged a (tree.If at paren c t) v s q) (typed.If at paren e1.0 e2.0) one e2.1 r e2.3 (record {
+        typed = λ U x. (known_of e1.1, j.typed U (extended_trans e1.1.table e2.1.table U i.goes.extends x), i.typed U x);
+        erases = λ z. tree.If at paren (j.erases z) (i.erases z);
+        goes = goes-on (state_of s) (state_of e1.1) (state_of e2.1) j.goes i.goes;
+      })
+  statement-judged (tree.IfElse at paren c t u) decl a one s r k b h =
+      let e1 = bind-gives (condition at c s) (λ test. λ m. next (judge_statement a t m) (λ inner. λ n. next (judge_statement a u n) (λ other. pure (typed.IfElse at paren test inner other)))) one r h in
+      let j = condition-judged at c e1.0 s e1.1 k e1.2 in
+      let b1 = result-kept s.table e1.1.table a.result j.goes.extends b in
+      let e2 = bind-gives (judge_statement a t e1.1) (λ inner. λ n. next (judge_statement a u n) (λ other. pure (typed.IfElse at paren e1.0 inner other))) one r e1.3 in
+      let i = statement-judged t decl a e2.0 e1.1 e2.1 j.goes.known b1 e2.2 in
+      let e3 = bind-gives (judge_statement a u e2.1) (λ other. pure (typed.IfElse at paren e1.0 e2.0 other)) one r e2.3 in
+      let o = statement-judged u decl a e3.0 e2.1 e3.1 i.goes.known (result-kept e1.1.table e2.1.table a.result i.goes.extends b1) e3.2 in
+      given-same (λ (v : TypedStatement) (q : UnitState). IsStatementJudged a (tree.IfElse at paren c t u) v s q) (typed.IfElse at paren e1.0 e2.0 e3.0) one e3.1 r e3.3 (record {
+        typed = λ U x.
+        let y = extended_trans e2.1.table e3.1.table U o.goes.extends x in
+        (known_of e1.1, known_of e2.1, j.typed U (extended_trans e1.1.table e2.1.table U i.goes.extends y), i.typed U y, o.typed U x);
+        erases = λ z. tree.IfElse at paren (j.erases z) (i.erases z) (o.erases z);
+        goes = goes-on (state_of s) (state_of e1.1) (state_of e3.1) j.goes (goes-on (state_of e1.1) (state_of e2.1) (state_of e3.1) i.goes o.goes);
+      })
+  statement-judged (tree.Switch at paren e brace items) decl a one s r k b h =
+      let e1 = bind-gives (switched at e s) (λ on. λ m. next (lifted entered m) (λ inside. λ n.
+      next (judge_block_items (in_a_switch a) (Some (type_of on)) items n) (λ list. lifted (left brace (typed.Switch at paren on brace list))))) one r h in
+      let on = e1.0 in
+      let j = switched-judged at e on s e1.1 k e1.2 in
+      let e2 = bind-gives (lifted entered e1.1) (λ inside. λ n.
+      next (judge_block_items (in_a_switch a) (Some (type_of on)) items n) (λ list. lifted (left brace (typed.Switch at paren on brace list)))) one r e1.3 in
+      let en = enter-judged e2.0 e1.1 e2.1 j.goes.known e2.2 in
+      let e3 = bind-gives (judge_block_items (in_a_switch a) (Some (type_of on)) items e2.1) (λ list. lifted (left brace (typed.Switch at paren on brace list))) one r e2.3 in
+      let b2 = result-kept e1.1.table e2.1.table a.result en.1.extends (result-kept s.table e1.1.table a.result j.goes.extends b) in
+      let i = items-judged items decl (in_a_switch a) (Some (type_of on)) e3.0 e2.1 e3.1 en.1.known b2 e3.2 in
+      let out = leave-judged brace (typed.Switch at paren on brace e3.0) one e3.1 r i.goes.known e3.3 in
+      let begins : known_of e2.1 ≡ entering_known (with_scopes (known_of s) e1.1.seen.scopes) = en.0 ∙ ap entering_known (scopes-alone s e1.1 j.linkage) in
+      subst (λ (v : TypedStatement). IsStatementJudged a (tree.Switch at paren e brace items) v s r) out.0 (record {
+        typed = λ U x.
+        let y = extended_trans e3.1.table r.table U out.2.extends x in
+        let z = extended_trans e1.1.table e2.1.table U en.1.extends (extended_trans e2.1.table e3.1.table U i.goes.extends y) in
+        let head = j.typed U z in
+        (
+          e1.1.seen.scopes,
+          known_of e3.1,
+          head.0,
+          record { operand = head.1; labels = i.labels; defaults = i.defaults },
+          subst (λ (c : Known). AreBlockItems U (in_a_switch a) (Some (type_of on)) e3.0 c (known_of e3.1)) begins (i.typed U y),
+          out.1,
+        );
+        erases = λ z. tree.Switch at paren (j.erases z) brace (i.erases z);
+        goes = goes-on (state_of s) (state_of e1.1) (state_of r) j.goes
+            (goes-on (state_of e1.1) (state_of e2.1) (state_of r) en.1 (goes-on (state_of e2.1) (state_of e3.1) (state_of r) i.goes out.2));
+      })
+  statement-judged (tree.While at paren c t) decl a one s r k b h =
+      let e1 = bind-gives (condition at c s) (λ test. λ m. next (judge_statement (in_a_loop a) t m) (λ inner. pure (typed.While at paren test inner))) one r h in
+      let j = condition-judged at c e1.0 s e1.1 k e1.2 in
+      let e2 = bind-gives (judge_statement (in_a_loop a) t e1.1) (λ inner. pure (typed.While at paren e1.0 inner)) one r e1.3 in
+      let i = statement-judged t decl (in_a_loop a) e2.0 e1.1 e2.1 j.goes.known (result-kept s.table e1.1.table a.result j.goes.extends b) e2.2 in
+      given-same (λ (v : TypedStatement) (q : UnitState). IsStatementJudged a (tree.While at paren c t) v s q) (typed.While at paren e1.0 e2.0) one e2.1 r e2.3 (record {
+        typed = λ U x. (known_of e1.1, j.typed U (extended_trans e1.1.table e2.1.table U i.goes.extends x), i.typed U x);
+        erases = λ z. tree.While at paren (j.erases z) (i.erases z);
+        goes = goes-on (state_of s) (state_of e1.1) (state_of e2.1) j.goes i.goes;
+      })
+  statement-judged (tree.DoWhile t at paren c) decl a one s r k b h =
+      let e1 = bind-gives (judge_statement (in_a_loop a) t s) (λ inner. λ m. next (condition at c m) (λ test. pure (typed.DoWhile inner at paren test))) one r h in
+      let i = statement-judged t decl (in_a_loop a) e1.0 s e1.1 k b e1.2 in
+      let e2 = bind-gives (condition at c e1.1) (λ test. pure (typed.DoWhile e1.0 at paren test)) one r e1.3 in
+      let j = condition-judged at c e2.0 e1.1 e2.1 i.goes.known e2.2 in
+      given-same (λ (v : TypedStatement) (q : UnitState). IsStatementJudged a (tree.DoWhile t at paren c) v s q) (typed.DoWhile e1.0 at paren e2.0) one e2.1 r e2.3 (record {
+        typed = λ U x. (known_of e1.1, i.typed U (extended_trans e1.1.table e2.1.table U j.goes.extends x), j.typed U x);
+        erases = λ z. tree.DoWhile (i.erases z) at paren (j.erases z);
+        goes = goes-on (state_of s) (state_of e1.1) (state_of e2.1) i.goes j.goes;
+      })
+  statement-judged (tree.For at paren first test step t) decl a one s r k b h =
+      let e1 = bind-gives (dropped first s) (λ f. λ m. next (condition_or_none at test m) (λ c. λ n. next (dropped step n) (λ g. λ p.
+      next (judge_statement (in_a_loop a) t p) (λ inner. pure (typed.For at paren f c g inner))))) one r h in
+      let j1 = dropped-judged first e1.0 s e1.1 k e1.2 in
+      let b1 = result-kept s.table e1.1.table a.result j1.goes.extends b in
+      let e2 = bind-gives (condition_or_none at test e1.1) (λ c. λ n. next (dropped step n) (λ g. λ p.
+      next (judge_statement (in_a_loop a) t p) (λ inner. pure (typed.For at paren e1.0 c g inner)))) one r e1.3 in
+      let j2 = condition_or_none-judged at test e2.0 e1.1 e2.1 j1.goes.known e2.2 in
+      let b2 = result-kept e1.1.table e2.1.table a.result j2.goes.extends b1 in
+      let e3 = bind-gives (dropped step e2.1) (λ g. λ p. next (judge_statement (in_a_loop a) t p) (λ inner. pure (typed.For at paren e1.0 e2.0 g inner))) one r e2.3 in
+      let j3 = dropped-judged step e3.0 e2.1 e3.1 j2.goes.known e3.2 in
+      let b3 = result-kept e2.1.table e3.1.table a.result j3.goes.extends b2 in
+      let e4 = bind-gives (judge_statement (in_a_loop a) t e3.1) (λ inner. pure (typed.For at paren e1.0 e2.0 e3.0 inner)) one r e3.3 in
+      let i = statement-judged t decl (in_a_loop a) e4.0 e3.1 e4.1 j3.goes.known b3 e4.2 in
+      given-same (λ (v : TypedStatement) (q : UnitState). IsStatementJudged a (tree.For at paren first test step t) v s q) (typed.For at paren e1.0 e2.0 e3.0 e4.0) one e4.1 r e4.3 (record {
+        typed = λ U x.
+        let y = extended_trans e3.1.table e4.1.table U i.goes.extends x in
+        let z = extended_trans e2.1.table e3.1.table U j3.goes.extends y in
+        let w = extended_trans e1.1.table e2.1.table U j2.goes.extends z in
+        (known_of e1.1, known_of e2.1, known_of e3.1, j1.typed U w, j2.typed U z, j3.typed U y, i.typed U x);
+        erases = λ z. tree.For at paren (j1.erases z) (j2.erases z) (j3.erases z) (i.erases z);
+        goes = goes-on (state_of s) (state_of e1.1) (state_of e4.1) j1.goes (goes-on (state_of e1.1) (state_of e2.1) (state_of e4.1) j2.goes
+            (goes-on (state_of e2.1) (state_of e3.1) (state_of e4.1) j3.goes i.goes));
+      })
+  statement-judged (tree.ForDeclaration at paren d test step t) decl a one s r k b h =
+      let e0 = bind-gives (lifted entered s) (λ inside. λ l. next (judge_declaration false d l) (λ f. λ m. next (condition_or_none at test m) (λ c. λ n. next (dropped step n) (λ g. λ p.
+      next (judge_statement (in_a_loop a) t p) (λ inner. lifted (left at (typed.ForDeclaration at paren f c g inner))))))) one r h in
+      let en = enter-judged e0.0 s e0.1 k e0.2 in
+      let b0 = result-kept s.table e0.1.table a.result en.1.extends b in
+      let e1 = bind-gives (judge_declaration false d e0.1) (λ f. λ m. next (condition_or_none at test m) (λ c. λ n. next (dropped step n) (λ g. λ p.
+      next (judge_statement (in_a_loop a) t p) (λ inner. lifted (left at (typed.ForDeclaration at paren f c g inner)))))) one r e0.3 in
+      let j1 = decl d e1.0 e0.1 e1.1 en.1.known e1.2 in
+      let b1 = result-kept e0.1.table e1.1.table a.result j1.goes.extends b0 in
+      let e2 = bind-gives (condition_or_none at test e1.1) (λ c. λ n. next (dropped step n) (λ g. λ p.
+      next (judge_statement (in_a_loop a) t p) (λ inner. lifted (left at (typed.ForDeclaration at paren e1.0 c g inner))))) one r e1.3 in
+      let j2 = condition_or_none-judged at test e2.0 e1.1 e2.1 j1.goes.known e2.2 in
+      let b2 = result-kept e1.1.table e2.1.table a.result j2.goes.extends b1 in
+      let e3 = bind-gives (dropped step e2.1) (λ g. λ p. next (judge_statement (in_a_loop a) t p) (λ inner. lifted (left at (typed.ForDeclaration at paren e1.0 e2.0 g inner)))) one r e2.3 in
+      let j3 = dropped-judged step e3.0 e2.1 e3.1 j2.goes.known e3.2 in
+      let b3 = result-kept e2.1.table e3.1.table a.result j3.goes.extends b2 in
+      let e4 = bind-gives (judge_statement (in_a_loop a) t e3.1) (λ inner. lifted (left at (typed.ForDeclaration at paren e1.0 e2.0 e3.0 inner))) one r e3.3 in
+      let i = statement-judged t decl (in_a_loop a) e4.0 e3.1 e4.1 j3.goes.known b3 e4.2 in
+      let out = leave-judged at (typed.ForDeclaration at paren e1.0 e2.0 e3.0 e4.0) one e4.1 r i.goes.known e4.3 in
+      subst (λ (v : TypedStatement). IsStatementJudged a (tree.ForDeclaration at paren d test step t) v s r) out.0 (record {
+        typed = λ U x0.
+        let x = extended_trans e4.1.table r.table U out.2.extends x0 in
+        let y = extended_trans e3.1.table e4.1.table U i.goes.extends x in
+        let z = extended_trans e2.1.table e3.1.table U j3.goes.extends y in
+        let w = extended_trans e1.1.table e2.1.table U j2.goes.extends z in
+        (
+          known_of e1.1,
+          known_of e2.1,
+          known_of e3.1,
+          known_of e4.1,
+          subst (λ (c : Known). IsDeclaration U false e1.0 c (known_of e1.1)) en.0 (j1.typed U w),
+          j2.typed U z,
+          j3.typed U y,
+          i.typed U x,
+          out.1,
+        );
+        erases = λ z. tree.ForDeclaration at paren (j1.erases z) (j2.erases z) (j3.erases z) (i.erases z);
+        goes = goes-on (state_of s) (state_of e0.1) (state_of r) en.1 (goes-on (state_of e0.1) (state_of e1.1) (state_of r) j1.goes
+            (goes-on (state_of e1.1) (state_of e2.1) (state_of r) j2.goes (goes-on (state_of e2.1) (state_of e3.1) (state_of r) j3.goes
+            (goes-on (state_of e3.1) (state_of e4.1) (state_of r) i.goes out.2))));
+      })
+  statement-judged (tree.Break at) decl a one s r k b h =
+      jump-judged at a.breakable a (tree.Break at) (typed.Break at) one s r
+      (λ yes. record { typed = λ U x. (refl, yes); erases = refl; goes = (stays (state_of s) k).goes }) h
+  statement-judged (tree.Continue at) decl a one s r k b h =
+      jump-judged at a.in_loop a (tree.Continue at) (typed.Continue at) one s r
+      (λ yes. record { typed = λ U x. (refl, yes); erases = refl; goes = (stays (state_of s) k).goes }) h
+  statement-judged (tree.Return at e) decl a one s r k b h =
+      let e1 = bind-gives (returned at a.result e s) (λ v. pure (typed.Return at v)) one r h in
+      let j = returned-judged at a.result e e1.0 s e1.1 k b e1.2 in
+      given-same (λ (v : TypedStatement) (q : UnitState). IsStatementJudged a (tree.Return at e) v s q) (typed.Return at e1.0) one e1.1 r e1.3
+      (record { typed = j.typed; erases = ap (tree.Return at) j.erases; goes = j.goes })
+
+  pub items-judged : (all : tree.BlockItems) (decl : DeclarationsAreJudged false) (a : Around) (on : Option TypeId) (list : TypedBlockItems) (s r : UnitState) → IsKnown (state_of s)
+      → IsResult s.table a.result → judge_block_items a on all s ≡ Gives list r → AreBlockItemsJudged a on all list s r
+  items-judged tree.NoBlockItem decl a on list s r k b h =
+      given-same (λ (v : TypedBlockItems) (q : UnitState). AreBlockItemsJudged a on tree.NoBlockItem v s q) typed.NoBlockItem list s r h
+      (record { typed = λ U x. refl; labels = tt; defaults = omega arith; erases = refl; goes = (stays (state_of s) k).goes })
+  items-judged (tree.AndStatement all t) decl a on list s r k b h =
+      let e1 = bind-gives (judge_block_items a on all s) (λ before. λ m. next (judge_statement a t m) (λ one. pure (typed.AndStatement before one))) list r h in
+      let j = items-judged all decl a on e1.0 s e1.1 k b e1.2 in
+      let e2 = bind-gives (judge_statement a t e1.1) (λ one. pure (typed.AndStatement e1.0 one)) list r e1.3 in
+      let i = statement-judged t decl a e2.0 e1.1 e2.1 j.goes.known (result-kept s.table e1.1.table a.result j.goes.extends b) e2.2 in
+      given-same (λ (v : TypedBlockItems) (q : UnitState). AreBlockItemsJudged a on (tree.AndStatement all t) v s q) (typed.AndStatement e1.0 e2.0) list e2.1 r e2.3 (record {
+        typed = λ U x. (known_of e1.1, j.typed U (extended_trans e1.1.table e2.1.table U i.goes.extends x), i.typed U x);
+        labels = j.labels;
+        defaults = j.defaults;
+        erases = λ z. tree.AndStatement (j.erases z) (i.erases z);
+        goes = goes-on (state_of s) (state_of e1.1) (state_of e2.1) j.goes i.goes;
+      })
+  items-judged (tree.AndDeclaration all d) decl a on list s r k b h =
+      let e1 = bind-gives (judge_block_items a on all s) (λ before. λ m. next (judge_declaration false d m) (λ one. pure (typed.AndDeclaration before one))) list r h in
+      let j = items-judged all decl a on e1.0 s e1.1 k b e1.2 in
+      let e2 = bind-gives (judge_declaration false d e1.1) (λ one. pure (typed.AndDeclaration e1.0 one)) list r e1.3 in
+      let i = decl d e2.0 e1.1 e2.1 j.goes.known e2.2 in
+      given-same (λ (v : TypedBlockItems) (q : UnitState). AreBlockItemsJudged a on (tree.AndDeclaration all d) v s q) (typed.AndDeclaration e1.0 e2.0) list e2.1 r e2.3 (record {
+        typed = λ U x. (known_of e1.1, j.typed U (extended_trans e1.1.table e2.1.table U i.goes.extends x), i.typed U x);
+        labels = j.labels;
+        defaults = j.defaults;
+        erases = λ z. tree.AndDeclaration (j.erases z) (i.erases z);
+        goes = goes-on (state_of s) (state_of e1.1) (state_of e2.1) j.goes i.goes;
+      })
+  items-judged (tree.AndCase all at e) decl a on list s r k b h =
+      let e1 = bind-gives (judge_block_items a on all s) (case_label on at e) list r h in
+      case-judged a on all e1.0 list at e s e1.1 r (items-judged all decl a on e1.0 s e1.1 k b e1.2) e1.3
+  items-judged (tree.AndDefault all at) decl a on list s r k b h =
+      let e1 = bind-gives (judge_block_items a on all s) (default_label at) list r h in
+      default-judged a on all e1.0 list at s e1.1 r (items-judged all decl a on e1.0 s e1.1 k b e1.2) e1.3

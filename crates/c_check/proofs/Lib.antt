@@ -3,5 +3,6 @@ pub mod UnitOutcomes
 pub mod JudgedInitialisers
 pub mod JudgedTests
 pub mod JudgedStatements
+pub mod JudgedUnits
 pub mod RefusedUnit
 pub mod TypedRow

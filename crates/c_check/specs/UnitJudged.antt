@@ -4,9 +4,10 @@ use Rattle.std.specs.Prelude.{◌≡◌, ◌≤◌, Bool, true, false, Option}
 use Rattle.cc_base.specs.declared.number.TypeId.{TypeId}
 use Rattle.cc_base.specs.declared.place.Place.{Place}
 use Rattle.c_types.specs.Table.{Table, IsType, shape_at, is_aggregate_shape}
-use Rattle.c_tree.specs.Erasure.{erased, erased_initialiser, erased_items, erased_optional, erased_declaration, erased_statement, erased_block_items}
+use Rattle.c_tree.specs.Erasure.{erased, erased_initialiser, erased_items, erased_optional, erased_declaration, erased_statement, erased_block_items, erased_specifiers, erased_declarator, erased_unit}
 use Rattle.c_tree.specs.Tree as tree
-use Rattle.c_tree.specs.TypedTree.{TypedExpr, TypedInitialiser, TypedItems, TypedDeclaration, TypedStatement, TypedBlockItems}
+use Rattle.c_tree.specs.TypedTree as typed
+use Rattle.c_tree.specs.TypedTree.{TypedExpr, TypedInitialiser, TypedItems, TypedDeclaration, TypedStatement, TypedBlockItems, TypedSpecifiers, TypedForm, TypedTranslationUnit}
 use Rattle.c_tree.specs.TypedParts.{type_of}
 use Rattle.c_typing.specs.Extensions.{IsExtended}
 use Rattle.c_typing.specs.Judging as judging
@@ -16,7 +17,8 @@ use Rattle.c_typing.specs.Settled.{IsKnown, GoesOn}
 use Rattle.c_typing.specs.Typing.{IsTyped}
 use Rattle.c_check.specs.Initialisers.{IsInitialiser, AreItems}
 use Rattle.c_check.specs.DeclarationJudging.{judge_declaration}
-use Rattle.c_check.specs.Units.{Known, Around, IsDropped, IsTested, IsTestedOrNone, IsReturned, IsDeclaration, IsStatement, AreBlockItems, AreDifferent, labels_of, defaults_in}
+use Rattle.c_check.specs.DefinitionJudging.{judge_definition}
+use Rattle.c_check.specs.Units.{Known, Around, IsDropped, IsTested, IsTestedOrNone, IsReturned, IsDeclaration, IsStatement, AreBlockItems, AreDifferent, labels_of, defaults_in, IsDefinition, IsUnitTyped}
 use Rattle.c_check.specs.UnitJudging.{UnitState, Gives, known_of}
 
 -- what is known of types and names
@@ -89,4 +91,28 @@ pub record AreBlockItemsJudged (a : Around) (on : Option TypeId) (all : tree.Blo
   pub labels : AreDifferent (labels_of list)
   pub defaults : defaults_in list ≤ 1
   pub erases : erased_block_items list ≡ all
+  pub goes : GoesOn (state_of s) (state_of r)
+
+-- a function with its body, behind the unit `before`
+pub record IsDefinitionJudged (before : TypedTranslationUnit) (all : tree.Specifiers) (d : tree.Declarator) (brace : Place) (items : tree.BlockItems) (whole : TypedTranslationUnit) (s r : UnitState) : Type 0 where
+  pub specifiers : TypedSpecifiers
+  pub form : TypedForm
+  pub type : TypeId
+  pub body : TypedBlockItems
+  pub made : whole ≡ typed.AndFunctionBody before specifiers (typed.Declares form type) brace body
+  pub specifiers_erase : erased_specifiers specifiers ≡ all
+  pub declarator_erases : erased_declarator (typed.Declares form type) ≡ d
+  pub body_erases : erased_block_items body ≡ items
+  pub typed : OverLater r.table (λ T. IsDefinition T specifiers form type body (known_of s) (known_of r))
+  pub goes : GoesOn (state_of s) (state_of r)
+
+-- each function that is judged is well typed
+abbrev pub DefinitionsAreJudged : Type 0
+DefinitionsAreJudged =
+    (before : TypedTranslationUnit) (all : tree.Specifiers) (d : tree.Declarator) (brace : Place) (items : tree.BlockItems) (whole : TypedTranslationUnit) (s r : UnitState)
+    → IsKnown (state_of s) → judge_definition before all d brace items s ≡ Gives whole r → IsDefinitionJudged before all d brace items whole s r
+
+pub record IsUnitJudged (u : tree.TranslationUnit) (whole : TypedTranslationUnit) (s r : UnitState) : Type 0 where
+  pub typed : OverLater r.table (λ T. IsUnitTyped T whole (known_of s) (known_of r))
+  pub erases : erased_unit whole ≡ u
   pub goes : GoesOn (state_of s) (state_of r)

@@ -36,7 +36,7 @@ use Rattle.c_typing.specs.Rules.{pieces_bytes, IsPromoted}
 use Rattle.c_typing.specs.Tests
 use Rattle.c_typing.specs.Refusals.{Fails, Refuses, After, RefusesSpecifiers, RefusesAlone, RefusesDeclarator, FormFails}
 use Rattle.c_check.specs.Initialisers.{Slot, slot_of_shape, items_count, char_count_of_shape, is_char_array, is_constant, is_constant_place, AreItems, makes_chars}
-use Rattle.c_check.specs.Units.{Known, Storage, AsTypedef, AsExtern, AsStatic, storage_of, with_scopes, is_one_of, outermost_of, IsDeclarator, AreDeclarators, IsDeclaration, Around, in_a_loop, in_a_switch, IsDropped, IsTested, IsTestedOrNone, entering_known, labels_of, defaults_in, IsStatement, AreBlockItems, parameters_of_form, with_parameters, IsUnitTyped}
+use Rattle.c_check.specs.Units.{Known, Storage, AsTypedef, AsExtern, AsStatic, storage_of, with_scopes, is_one_of, outermost_of, is_linked_home, IsDeclarator, AreDeclarators, IsDeclaration, Around, in_a_loop, in_a_switch, IsDropped, IsTested, IsTestedOrNone, entering_known, labels_of, defaults_in, IsStatement, AreBlockItems, parameters_of_form, with_parameters, IsUnitTyped}
 use Rattle.c_check.specs.WellTyped.{HasMain}
 
 -- Initialisers (C99 6.7.8)
@@ -188,12 +188,18 @@ has_linkage true storage (declared.Object t n) = true
 has_linkage false AsExtern (declared.Object t n) = true
 has_linkage file storage what = false
 
+-- an object of the innermost scope that is not the one with linkage
+abbrev pub is_unlinked : Option Declared → (linked : Option Declared) → Bool
+is_unlinked (Some (declared.Object t n)) linked = not (is_linked_home linked n)
+is_unlinked what linked = false
+
 -- the name is declared before in a way that this declaration does not agree with, or defined before and again here
 abbrev pub is_redeclared : Table → Known → (linked defines : Bool) → Name → Declared → Bool
 is_redeclared T k true defines name what =
     conflicts T (here k.scopes.levels name) what
+    || (is_unlinked (here k.scopes.levels name) (entry_of k.linked name)
     || (conflicts T (entry_of k.linked name) what
-    || (conflicts_with_runtime T (runtime_of name) what || (defines && is_one_of k.defined name)))
+    || (conflicts_with_runtime T (runtime_of name) what || (defines && is_one_of k.defined name))))
 is_redeclared T k false defines name what = Tests.has_some (here k.scopes.levels name)
 
 -- the rules of a declarator's name, once it has its type

@@ -4,3 +4,4 @@
 pub mod growth;
 pub mod initialisers;
 pub mod statements;
+pub mod units;

@@ -1,20 +1,18 @@
 -- What judging gives for initialisers is well typed and erases to what was judged.
-use Rattle.std.proofs.Common.{◌≡◌, ℕ, ◌+◌, ◌<◌, ◌≤◌, ◌==◌, ◌*◌, nat_lt, Bool, true, false, not, ◌&&◌, List, [], ◌∷◌, ◌++◌, length, take, Option, Some, None, refl, ap, sym, subst, ◌∙◌, inl, inr, ◌⊎◌, if◌then◌else◌, IsTrue, true≢false, arith}
+use Rattle.std.proofs.Common.{◌≡◌, ℕ, ◌≤◌, ◌==◌, nat_lt, Bool, true, false, ◌&&◌, List, [], ◌∷◌, ◌++◌, length, take, Option, Some, None, refl, ap, sym, subst, ◌∙◌, inl, inr, true≢false, arith}
 use Rattle.std.proofs.lemmas.Bool.Decides.{nat_tests}
 use Rattle.std.proofs.lemmas.Option.{none-some}
 use Rattle.cc_base.specs.declared.place.Place.{Place}
-use Rattle.cc_base.specs.declared.number.NodeId.{NodeId}
 use Rattle.cc_base.specs.declared.number.TypeId.{TypeId}
 use Rattle.cc_base.specs.declared.fault.Fault.TheVariants.{Refused, TooLarge}
 use Rattle.cc_base.specs.declared.fault.Limit.TheVariants.{Types}
 use Rattle.cc_base.specs.declared.fault.Rule.TheVariants as rule
 use Rattle.c_types.specs.declared.shape.TypeShape.{TypeShape}
 use Rattle.c_types.specs.declared.shape.TypeShape.TheVariants.{Void, Integer, Pointer, Array, Function, Struct, Union}
-use Rattle.c_types.specs.Table.{Table, IsType, IsComplete, IsAggregate, shape_at, members_at, descend, is_aggregate_shape}
-use Rattle.c_types.specs.Layouts.{offset_of, member_at}
+use Rattle.c_types.specs.Table.{Table, IsComplete, shape_at, descend, is_aggregate_shape}
 use Rattle.c_tree.specs.declared.leaf.StringPiece.{StringPiece}
-use Rattle.c_tree.specs.Erasure.{erased, erased_initialiser, erased_items}
-use Rattle.c_tree.specs.Places.{expr_place, initialiser_place, nowhere}
+use Rattle.c_tree.specs.Erasure.{erased_items}
+use Rattle.c_tree.specs.Places.{expr_place, initialiser_place}
 use Rattle.c_tree.specs.Tree as tree
 use Rattle.c_tree.specs.TypedTree as typed
 use Rattle.c_tree.specs.TypedTree.{TypedExpr, TypedPlace, TypedInitialiser, TypedItems}
@@ -22,25 +20,23 @@ use Rattle.c_tree.specs.TypedParts.{place_type, item_place}
 use Rattle.c_typing.specs.Cells.{count_cells}
 use Rattle.c_typing.specs.Checking.{checked, checked_value}
 use Rattle.c_typing.specs.Conversions.{IsAssigned}
-use Rattle.c_typing.specs.Judging.{State}
 use Rattle.c_typing.specs.Rules.{pieces_bytes}
 use Rattle.c_typing.specs.Scopes.{Scopes}
-use Rattle.c_typing.specs.Settled.{IsKnown, GoesOn, GoesOnThere}
+use Rattle.c_typing.specs.Settled.{IsKnown, GoesOnThere}
 use Rattle.c_typing.specs.Shapes.{IsScalar, is_scalar_shape, is_same_type, same_shape, same_step}
 use Rattle.c_typing.specs.Tests.{AsPlace, first_broken}
-use Rattle.c_typing.specs.Typing.{IsTyped, IsPlace}
 use Rattle.c_typing_laws.specs.Judged.{IsCheckedFor, IsUnreadOf}
 use Rattle.c_typing_laws.proofs.ConstructLaws.{one_unbroken}
 use Rattle.c_typing_laws.proofs.ExtensionLaws.{no_true}
 use Rattle.c_typing_laws.proofs.JudgedAssignments.{moved-gives}
 use Rattle.c_typing_laws.proofs.JudgedWhole.{checked_value-judged}
 use Rattle.c_typing_laws.proofs.KnownStates.{stays, goes-on}
-use Rattle.c_check.specs.Initialisers.{Slot, slot_of_shape, slot_of_members, char_count_of_shape, char_count_of_element, has_count, is_char_array, is_only_text, items_count, IsText, IsItemFor, IsSlot, IsInitialiser, AreItems}
+use Rattle.c_check.specs.Initialisers.{Slot, slot_of_shape, char_count_of_shape, has_count, is_char_array, is_only_text, items_count, IsText, IsItemFor, IsSlot, IsInitialiser, AreItems}
 use Rattle.c_check.specs.InitialiserJudging.{text_tests, text, initialised, constant_tests, value_for, value_or_text, excess, judge_plain, is_only_literal, item_slot, slot_type, with_item, judge_initialiser, judge_items}
 use Rattle.c_check.specs.UnitJudged.{state_of, IsInitialiserJudged, AreItemsJudged}
-use Rattle.c_check.specs.UnitJudging.{UnitState, UnitOutcome, UnitJudging, Gives, Stops, known, next, pure, obeying, lifted}
-use Rattle.c_check.proofs.KeptInitialisers.{when-some, complete-in, slot-complete, slot-kept, scalar-same, complete-kept, is_chars-same, initialiser-kept, items-kept}
-use Rattle.c_check.proofs.UnitOutcomes.{gives-value, gives-state, never-gives, bind-gives, unless-gives, given-same, lifted-gives}
+use Rattle.c_check.specs.UnitJudging.{UnitState, Gives, Stops, next, pure, obeying, lifted}
+use Rattle.c_check.proofs.KeptInitialisers.{when-some, complete-in, slot-complete, slot-kept, scalar-same, complete-kept, is_chars-same, items-kept}
+use Rattle.c_check.proofs.UnitOutcomes.{never-gives, bind-gives, unless-gives, given-same, lifted-gives}
 
 -- Expressions without braces
 
@@ -347,6 +343,7 @@ item-judged (Some slot) all i constant text t before s m rec k c j q one n h lis
 
 mutual
   unfolding judge_initialiser judge_items
+
   pub initialiser-judged : (i : tree.Initialiser) (constant : Bool) → IsJudgedAs constant i
   initialiser-judged (tree.Value e) constant at t single one s r k c h = (plain-judged constant e at t one s r k c h).judged
   initialiser-judged (tree.Listed brace items comma) constant at t true one s r k c h = never-gives one (Refused brace rule.Mismatch) s r h

@@ -1,6 +1,6 @@
 -- What judging gives for statements, where declarations are judged, is well typed and erases to what was judged.
-use Rattle.std.proofs.Common.{◌≡◌, ℕ, ℤ, ◌+◌, ◌≤◌, ◌==◌, Bool, true, false, not, ◌||◌, List, [], ◌∷◌, ◌++◌, Option, Some, None, refl, ap, sym, subst, ◌∙◌, inl, inr, ◌⊎◌, IsTrue, true≢false, if◌then◌else◌, arith}
-use Rattle.std.specs.List.{All, list_any}
+use Rattle.std.proofs.Common.{◌≡◌, ℕ, ℤ, ◌==◌, Bool, true, false, not, List, [], ◌∷◌, ◌++◌, Option, Some, None, refl, ap, sym, subst, ◌∙◌, true≢false, if◌then◌else◌, arith}
+use Rattle.std.specs.List.{list_any}
 use Rattle.std.specs.Ordering.{int_eq}
 use Rattle.std.proofs.lemmas.Bool.Decides.{nat_tests, Decides-int_eq}
 use Rattle.std.proofs.lemmas.List.Elements.{All-nil, All-cons, All-append}
@@ -12,7 +12,7 @@ use Rattle.cc_base.specs.declared.fault.Limit.TheVariants.{Types}
 use Rattle.cc_base.specs.declared.fault.Rule.TheVariants as rule
 use Rattle.c_types.specs.declared.shape.TypeShape.{TypeShape}
 use Rattle.c_types.specs.declared.shape.TypeShape.TheVariants.{Void, Integer, Pointer, Array, Function, Struct, Union}
-use Rattle.c_types.specs.Table.{Table, IsType, HasShape, shape_at, is_aggregate_shape}
+use Rattle.c_types.specs.Table.{Table, shape_at, is_aggregate_shape}
 use Rattle.c_tree.specs.declared.operator.Unary.TheVariants as unary
 use Rattle.c_tree.specs.declared.typed_word.Conversion.TheVariants as conversion
 use Rattle.c_tree.specs.Erasure.{erased}
@@ -23,17 +23,15 @@ use Rattle.c_tree.specs.TypedParts.{type_of}
 use Rattle.integers.specs.Arithmetic.{IntegerType, converted}
 use Rattle.c_typing.specs.Checking.{Constant, checked, checked_constant}
 use Rattle.c_typing.specs.Constants.{constant_value, with_type}
-use Rattle.c_typing.specs.Conversions.{bare, is_plain, IsPlain, is_droppable, to_integer}
+use Rattle.c_typing.specs.Conversions.{bare, is_plain, is_droppable, to_integer}
 use Rattle.c_typing.specs.Declaring.{entered, left}
 use Rattle.c_typing.specs.Extensions.{IsExtended}
 use Rattle.c_typing.specs.Integers.{promoted}
 use Rattle.c_typing.specs.Judging.{integer_type}
 use Rattle.c_typing.specs.Rules.{IsPromoted}
-use Rattle.c_typing.specs.Scopes.{Scopes, entering, leaving}
 use Rattle.c_typing.specs.Settled.{IsKnown, GoesOn}
 use Rattle.c_typing.specs.Shapes.{is_scalar_shape, is_integer_shape, integer_of_shape, integer_at}
 use Rattle.c_typing.specs.Tests.{AsValue, first_broken, broken_at}
-use Rattle.c_typing.specs.Typing.{IsTyped}
 use Rattle.c_typing_laws.specs.Judged.{IsChecked, IsConstantJudged}
 use Rattle.c_typing_laws.proofs.ConstructLaws.{one_unbroken, not_false, or_left, or_right, operand, promoted_size, integer_size, to_integer-typed, to_integer-bare}
 use Rattle.c_typing_laws.proofs.ExtensionLaws.{no_true, still_in, integer_kept}
@@ -46,12 +44,12 @@ use Rattle.c_typing_laws.proofs.KnownStates.{stays, goes-on}
 use Rattle.c_typing_laws.proofs.TableGrowth.{extended_trans}
 use Rattle.c_check.specs.DeclarationJudging.{judge_declaration}
 use Rattle.c_check.specs.StatementJudging.{condition, condition_or_none, dropped, returned, promoted_by, switched, label_as, labelled, case_label, default_label, jump, judge_statement, judge_block_items}
-use Rattle.c_check.specs.UnitJudged.{state_of, OverLater, IsConditionJudged, IsOptionJudged, IsResult, IsSwitchJudged, IsDeclarationJudged, DeclarationsAreJudged, IsStatementJudged, AreBlockItemsJudged}
-use Rattle.c_check.specs.UnitJudging.{UnitState, UnitOutcome, UnitJudging, Gives, Stops, known_of, next, pure, obeying, lifted}
+use Rattle.c_check.specs.UnitJudged.{state_of, OverLater, IsResult, IsSwitchJudged, DeclarationsAreJudged, IsStatementJudged, AreBlockItemsJudged}
+use Rattle.c_check.specs.UnitJudging.{UnitState, Gives, known_of, next, pure, obeying, lifted}
 use Rattle.c_check.specs.UnitRefusals.{jump_tests, switch_tests}
-use Rattle.c_check.specs.Units.{Known, Around, with_scopes, in_a_loop, in_a_switch, entering_known, leaving_known, labels_of, defaults_in, AreDifferent, IsDeclaration, IsStatement, AreBlockItems}
+use Rattle.c_check.specs.Units.{Known, Around, with_scopes, in_a_loop, in_a_switch, entering_known, leaving_known, labels_of, defaults_in, AreDifferent, IsDeclaration, AreBlockItems}
 use Rattle.c_check.proofs.JudgedTests.{scopes-alone, scalar-plain, condition-judged, condition_or_none-judged, dropped_here, dropped-judged, returned-judged}
-use Rattle.c_check.proofs.UnitOutcomes.{gives-value, gives-state, never-gives, bind-gives, unless-gives, given-same, lifted-gives}
+use Rattle.c_check.proofs.UnitOutcomes.{never-gives, bind-gives, unless-gives, given-same, lifted-gives}
 
 -- Tables that follow
 
@@ -268,6 +266,7 @@ default-judged a on all before list at s m r j h =
 
 mutual
   unfolding judge_statement judge_block_items
+
   pub statement-judged : (t : tree.Statement) (decl : DeclarationsAreJudged false) (a : Around) (one : TypedStatement) (s r : UnitState) → IsKnown (state_of s)
       → IsResult s.table a.result → judge_statement a t s ≡ Gives one r → IsStatementJudged a t one s r
   statement-judged (tree.Block brace items) decl a one s r k b h =
@@ -315,8 +314,8 @@ mutual
       let o = statement-judged u decl a e3.0 e2.1 e3.1 i.goes.known (result-kept e1.1.table e2.1.table a.result i.goes.extends b1) e3.2 in
       given-same (λ (v : TypedStatement) (q : UnitState). IsStatementJudged a (tree.IfElse at paren c t u) v s q) (typed.IfElse at paren e1.0 e2.0 e3.0) one e3.1 r e3.3 (record {
         typed = λ U x.
-        let y = extended_trans e2.1.table e3.1.table U o.goes.extends x in
-        (known_of e1.1, known_of e2.1, j.typed U (extended_trans e1.1.table e2.1.table U i.goes.extends y), i.typed U y, o.typed U x);
+            let y = extended_trans e2.1.table e3.1.table U o.goes.extends x in
+            (known_of e1.1, known_of e2.1, j.typed U (extended_trans e1.1.table e2.1.table U i.goes.extends y), i.typed U y, o.typed U x);
         erases = λ z. tree.IfElse at paren (j.erases z) (i.erases z) (o.erases z);
         goes = goes-on (state_of s) (state_of e1.1) (state_of e3.1) j.goes (goes-on (state_of e1.1) (state_of e2.1) (state_of e3.1) i.goes o.goes);
       })
@@ -335,17 +334,16 @@ mutual
       let begins : known_of e2.1 ≡ entering_known (with_scopes (known_of s) e1.1.seen.scopes) = en.0 ∙ ap entering_known (scopes-alone s e1.1 j.linkage) in
       subst (λ (v : TypedStatement). IsStatementJudged a (tree.Switch at paren e brace items) v s r) out.0 (record {
         typed = λ U x.
-        let y = extended_trans e3.1.table r.table U out.2.extends x in
-        let z = extended_trans e1.1.table e2.1.table U en.1.extends (extended_trans e2.1.table e3.1.table U i.goes.extends y) in
-        let head = j.typed U z in
-        (
-          e1.1.seen.scopes,
-          known_of e3.1,
-          head.0,
-          record { operand = head.1; labels = i.labels; defaults = i.defaults },
-          subst (λ (c : Known). AreBlockItems U (in_a_switch a) (Some (type_of on)) e3.0 c (known_of e3.1)) begins (i.typed U y),
-          out.1,
-        );
+            let y = extended_trans e3.1.table r.table U out.2.extends x in
+            let z = extended_trans e1.1.table e2.1.table U en.1.extends (extended_trans e2.1.table e3.1.table U i.goes.extends y) in
+            let head = j.typed U z in (
+              e1.1.seen.scopes,
+              known_of e3.1,
+              head.0,
+              record { operand = head.1; labels = i.labels; defaults = i.defaults },
+              subst (λ (c : Known). AreBlockItems U (in_a_switch a) (Some (type_of on)) e3.0 c (known_of e3.1)) begins (i.typed U y),
+              out.1,
+            );
         erases = λ z. tree.Switch at paren (j.erases z) brace (i.erases z);
         goes = goes-on (state_of s) (state_of e1.1) (state_of r) j.goes
             (goes-on (state_of e1.1) (state_of e2.1) (state_of r) en.1 (goes-on (state_of e2.1) (state_of e3.1) (state_of r) i.goes out.2));
@@ -386,10 +384,10 @@ mutual
       let i = statement-judged t decl (in_a_loop a) e4.0 e3.1 e4.1 j3.goes.known b3 e4.2 in
       given-same (λ (v : TypedStatement) (q : UnitState). IsStatementJudged a (tree.For at paren first test step t) v s q) (typed.For at paren e1.0 e2.0 e3.0 e4.0) one e4.1 r e4.3 (record {
         typed = λ U x.
-        let y = extended_trans e3.1.table e4.1.table U i.goes.extends x in
-        let z = extended_trans e2.1.table e3.1.table U j3.goes.extends y in
-        let w = extended_trans e1.1.table e2.1.table U j2.goes.extends z in
-        (known_of e1.1, known_of e2.1, known_of e3.1, j1.typed U w, j2.typed U z, j3.typed U y, i.typed U x);
+            let y = extended_trans e3.1.table e4.1.table U i.goes.extends x in
+            let z = extended_trans e2.1.table e3.1.table U j3.goes.extends y in
+            let w = extended_trans e1.1.table e2.1.table U j2.goes.extends z in
+            (known_of e1.1, known_of e2.1, known_of e3.1, j1.typed U w, j2.typed U z, j3.typed U y, i.typed U x);
         erases = λ z. tree.For at paren (j1.erases z) (j2.erases z) (j3.erases z) (i.erases z);
         goes = goes-on (state_of s) (state_of e1.1) (state_of e4.1) j1.goes (goes-on (state_of e1.1) (state_of e2.1) (state_of e4.1) j2.goes
             (goes-on (state_of e2.1) (state_of e3.1) (state_of e4.1) j3.goes i.goes));
@@ -415,21 +413,20 @@ mutual
       let out = leave-judged at (typed.ForDeclaration at paren e1.0 e2.0 e3.0 e4.0) one e4.1 r i.goes.known e4.3 in
       subst (λ (v : TypedStatement). IsStatementJudged a (tree.ForDeclaration at paren d test step t) v s r) out.0 (record {
         typed = λ U x0.
-        let x = extended_trans e4.1.table r.table U out.2.extends x0 in
-        let y = extended_trans e3.1.table e4.1.table U i.goes.extends x in
-        let z = extended_trans e2.1.table e3.1.table U j3.goes.extends y in
-        let w = extended_trans e1.1.table e2.1.table U j2.goes.extends z in
-        (
-          known_of e1.1,
-          known_of e2.1,
-          known_of e3.1,
-          known_of e4.1,
-          subst (λ (c : Known). IsDeclaration U false e1.0 c (known_of e1.1)) en.0 (j1.typed U w),
-          j2.typed U z,
-          j3.typed U y,
-          i.typed U x,
-          out.1,
-        );
+            let x = extended_trans e4.1.table r.table U out.2.extends x0 in
+            let y = extended_trans e3.1.table e4.1.table U i.goes.extends x in
+            let z = extended_trans e2.1.table e3.1.table U j3.goes.extends y in
+            let w = extended_trans e1.1.table e2.1.table U j2.goes.extends z in (
+              known_of e1.1,
+              known_of e2.1,
+              known_of e3.1,
+              known_of e4.1,
+              subst (λ (c : Known). IsDeclaration U false e1.0 c (known_of e1.1)) en.0 (j1.typed U w),
+              j2.typed U z,
+              j3.typed U y,
+              i.typed U x,
+              out.1,
+            );
         erases = λ z. tree.ForDeclaration at paren (j1.erases z) (j2.erases z) (j3.erases z) (i.erases z);
         goes = goes-on (state_of s) (state_of e0.1) (state_of r) en.1 (goes-on (state_of e0.1) (state_of e1.1) (state_of r) j1.goes
             (goes-on (state_of e1.1) (state_of e2.1) (state_of r) j2.goes (goes-on (state_of e2.1) (state_of e3.1) (state_of r) j3.goes

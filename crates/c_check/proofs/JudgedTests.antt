@@ -1,13 +1,12 @@
 -- What judging gives for the expressions of statements: conditions, what is dropped, and what is returned.
-use Rattle.std.proofs.Common.{◌≡◌, Bool, true, false, not, List, [], ◌∷◌, Option, Some, None, refl, ap, sym, subst, ◌∙◌, inl, inr, ◌⊎◌, IsTrue, true≢false}
+use Rattle.std.proofs.Common.{◌≡◌, true, false, not, [], ◌∷◌, Option, Some, None, refl, ap, sym, ◌∙◌, inl, inr, true≢false}
 use Rattle.cc_base.specs.declared.place.Place.{Place}
 use Rattle.cc_base.specs.declared.number.TypeId.{TypeId}
 use Rattle.cc_base.specs.declared.fault.Fault.TheVariants.{Refused}
 use Rattle.cc_base.specs.declared.fault.Rule.TheVariants as rule
 use Rattle.c_types.specs.declared.shape.TypeShape.{TypeShape}
 use Rattle.c_types.specs.declared.shape.TypeShape.TheVariants.{Void, Integer, Pointer, Array, Function, Struct, Union}
-use Rattle.c_types.specs.Table.{Table, IsType, shape_at, is_aggregate_shape}
-use Rattle.c_tree.specs.Erasure.{erased, erased_optional}
+use Rattle.c_types.specs.Table.{Table, shape_at, is_aggregate_shape}
 use Rattle.c_tree.specs.Tree as tree
 use Rattle.c_tree.specs.TypedTree as typed
 use Rattle.c_tree.specs.TypedTree.{TypedExpr}
@@ -15,9 +14,8 @@ use Rattle.c_tree.specs.TypedParts.{type_of}
 use Rattle.c_typing.specs.Checking.{checked, checked_value}
 use Rattle.c_typing.specs.Conversions.{is_plain, is_droppable, IsConverted}
 use Rattle.c_typing.specs.Extensions.{IsExtended}
-use Rattle.c_typing.specs.Rules.{IsCondition}
 use Rattle.c_typing.specs.Scopes.{Scopes}
-use Rattle.c_typing.specs.Settled.{IsKnown, GoesOn}
+use Rattle.c_typing.specs.Settled.{IsKnown}
 use Rattle.c_typing.specs.Shapes.{is_scalar_shape, is_void_shape}
 use Rattle.c_typing.specs.Tests.{AsValue, first_broken, broken_at}
 use Rattle.c_typing.specs.Typing.{IsTyped}
@@ -30,12 +28,12 @@ use Rattle.c_typing_laws.proofs.KeptRules
 use Rattle.c_typing_laws.proofs.KeptTrees.{value-kept}
 use Rattle.c_typing_laws.proofs.KnownStates.{stays}
 use Rattle.c_check.specs.Linkage.{Linkage}
-use Rattle.c_check.specs.Units.{Known, with_scopes, IsDropped, IsTested, IsTestedOrNone, IsReturned}
+use Rattle.c_check.specs.Units.{Known, with_scopes, IsDropped, IsTestedOrNone, IsReturned}
 use Rattle.c_check.specs.UnitRefusals.{condition_tests}
 use Rattle.c_check.specs.StatementJudging.{condition, condition_or_none, dropped, returned}
-use Rattle.c_check.specs.UnitJudged.{state_of, OverLater, IsConditionJudged, IsOptionJudged, IsResult}
-use Rattle.c_check.specs.UnitJudging.{UnitState, UnitOutcome, UnitJudging, Gives, Stops, known, known_of, next, pure, obeying, lifted}
-use Rattle.c_check.proofs.UnitOutcomes.{gives-value, gives-state, never-gives, bind-gives, unless-gives, given-same, lifted-gives}
+use Rattle.c_check.specs.UnitJudged.{state_of, IsConditionJudged, IsOptionJudged, IsResult}
+use Rattle.c_check.specs.UnitJudging.{UnitState, Gives, known, known_of, pure, obeying, lifted}
+use Rattle.c_check.proofs.UnitOutcomes.{bind-gives, unless-gives, given-same, lifted-gives}
 
 -- where what is linked stays, names alone were declared
 pub scopes-alone : (s r : UnitState) → r.linkage ≡ s.linkage → known_of r ≡ with_scopes (known_of s) r.seen.scopes

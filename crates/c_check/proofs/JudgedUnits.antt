@@ -1,10 +1,9 @@
 -- What judging gives for a unit, where its declarations and functions are judged, is well typed and erases to what was judged.
-use Rattle.std.proofs.Common.{◌≡◌, true, false, refl, ap, sym, subst, ◌∙◌}
-use Rattle.c_tree.specs.Erasure.{erased_unit}
+use Rattle.std.proofs.Common.{◌≡◌, true, refl, sym, subst}
 use Rattle.c_tree.specs.Tree as tree
 use Rattle.c_tree.specs.TypedTree as typed
 use Rattle.c_tree.specs.TypedTree.{TypedTranslationUnit}
-use Rattle.c_typing.specs.Settled.{IsKnown, GoesOn}
+use Rattle.c_typing.specs.Settled.{IsKnown}
 use Rattle.c_typing.specs.Tests.{first_broken}
 use Rattle.c_typing_laws.proofs.KnownStates.{stays, goes-on}
 use Rattle.c_typing_laws.proofs.TableGrowth.{extended_trans}

@@ -1,6 +1,6 @@
 -- A table that goes on keeps initialisers of complete types well typed.
-use Rattle.std.proofs.Common.{◌≡◌, ℕ, ◌<◌, ◌≤◌, ◌*◌, ◌==◌, nat_lt, Bool, true, false, ◌&&◌, List, [], ◌∷◌, length, take, map, slice_index_or, Option, Some, None, refl, ap, sym, subst, ◌∙◌, inl, inr, if◌then◌else◌, IsTrue}
-use Rattle.std.specs.List.{All, Contains}
+use Rattle.std.proofs.Common.{◌≡◌, ℕ, ◌*◌, ◌==◌, nat_lt, Bool, true, false, ◌&&◌, List, [], ◌∷◌, length, take, map, slice_index_or, Option, Some, None, refl, ap, sym, subst, ◌∙◌, inl, inr, if◌then◌else◌}
+use Rattle.std.specs.List.{All}
 use Rattle.std.proofs.lemmas.Option.{none-some}
 use Rattle.std.proofs.lemmas.Bool.Decides.{leb_tells}
 use Rattle.std.proofs.lemmas.List.{get_or_past}
@@ -10,7 +10,7 @@ use Rattle.cc_base.specs.declared.number.TypeId.{TypeId}
 use Rattle.c_types.specs.declared.layout.Layout.{Layout}
 use Rattle.c_types.specs.declared.shape.TypeShape.{TypeShape}
 use Rattle.c_types.specs.declared.shape.TypeShape.TheVariants.{Void, Integer, Pointer, Array, Function, Struct, Union}
-use Rattle.c_types.specs.Table.{Table, Entry, IsType, IsComplete, entry_at, shape_at, members_at, is_complete, is_complete_entry, parts_of_shape}
+use Rattle.c_types.specs.Table.{Table, Entry, IsType, IsComplete, shape_at, members_at, is_complete, is_complete_entry, parts_of_shape}
 use Rattle.c_types.specs.Layouts.{layout_of, size_of, offset_of, offset_of_shape, member_at}
 use Rattle.c_types.proofs.Lists.{map_same, contains_head, contains_take}
 use Rattle.c_tree.specs.TypedTree as typed

@@ -1,5 +1,5 @@
 -- Outcomes of the judging of units, by the steps that they are made of.
-use Rattle.std.proofs.Common.{◌≡◌, Bool, true, false, Option, Some, None, refl, ap, sym, subst, ◌∙◌}
+use Rattle.std.proofs.Common.{◌≡◌, Bool, true, false, Option, Some, None, refl, ap, sym, subst}
 use Rattle.cc_base.specs.declared.fault.Fault.{Fault}
 use Rattle.c_typing.specs.Judging as judging
 use Rattle.c_typing.specs.Judging.{State, Judging, Outcome}

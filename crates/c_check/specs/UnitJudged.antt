@@ -1,6 +1,6 @@
 -- What laws say of what the judging of units gives: it is well typed from what is known before to what is known after, it erases to the
 -- tree that was judged, and all is known again.
-use Rattle.std.specs.Prelude.{◌≡◌, ◌≤◌, Bool, true, false, Option}
+use Rattle.std.specs.Prelude.{◌≡◌, ◌≤◌, Bool, false, Option}
 use Rattle.cc_base.specs.declared.number.TypeId.{TypeId}
 use Rattle.cc_base.specs.declared.place.Place.{Place}
 use Rattle.c_types.specs.Table.{Table, IsType, shape_at, is_aggregate_shape}
@@ -18,7 +18,7 @@ use Rattle.c_typing.specs.Typing.{IsTyped}
 use Rattle.c_check.specs.Initialisers.{IsInitialiser, AreItems}
 use Rattle.c_check.specs.DeclarationJudging.{judge_declaration}
 use Rattle.c_check.specs.DefinitionJudging.{judge_definition}
-use Rattle.c_check.specs.Units.{Known, Around, IsDropped, IsTested, IsTestedOrNone, IsReturned, IsDeclaration, IsStatement, AreBlockItems, AreDifferent, labels_of, defaults_in, IsDefinition, IsUnitTyped}
+use Rattle.c_check.specs.Units.{Known, Around, IsTested, IsDeclaration, IsStatement, AreBlockItems, AreDifferent, labels_of, defaults_in, IsDefinition, IsUnitTyped}
 use Rattle.c_check.specs.UnitJudging.{UnitState, Gives, known_of}
 
 -- what is known of types and names

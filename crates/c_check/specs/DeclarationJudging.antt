@@ -10,6 +10,7 @@ use Rattle.c_types.specs.Layouts.{size_of}
 use Rattle.c_tree.specs.declared.leaf.Identifier.{Identifier}
 use Rattle.c_tree.specs.declared.typed_word.Home.{Home}
 use Rattle.c_tree.specs.declared.typed_word.Home.TheVariants as home
+use Rattle.c_tree.specs.Places.{nowhere}
 use Rattle.c_tree.specs.Tree as tree
 use Rattle.c_tree.specs.TypedTree as typed
 use Rattle.c_tree.specs.TypedTree.{TypedSpecifiers, TypedDeclarator, TypedInitialiser, TypedInitDeclarators, TypedDeclaration}
@@ -109,9 +110,9 @@ declare file storage name t home = by_known (λ s. declare_by (is_function_shape
 
 -- Declarators
 
--- the name of what was judged is tried and declared
+-- the name of what was judged is tried and declared; a declarator without a name declares nothing, and is never given
 unfoldable pub named : (file : Bool) → Storage → (initialised : Bool) → Option Identifier → TypedDeclarator → UnitJudging TypedDeclarator
-named file storage initialised None one = pure one
+named file storage initialised None one = stop (TooLarge nowhere Types)
 named file storage initialised (Some name) one = obeying
     (λ s. declared_tests s.table (known_of s) file storage initialised name.bytes (declared_type one) name.place)
     (do

@@ -1,5 +1,26 @@
-//! The typing of units (C99 6.7 to 6.9). So far the crate has the definitions, of when a typed unit is well typed and of how one is judged,
-//! and laws of them.
+//! The typing of units (C99 6.7 to 6.9).
 #![tactic(auto)]
 
-pub mod laws;
+mod around;
+mod blocks;
+mod calls;
+mod checking;
+mod conflicts;
+mod constants;
+mod context;
+mod declarations;
+mod definitions;
+mod expressions;
+mod homes;
+mod initialisers;
+mod labels;
+mod linkage;
+mod names;
+mod objects;
+mod sizes;
+mod slots;
+mod statements;
+mod texts;
+mod units;
+
+pub use calls::check;

@@ -4,16 +4,16 @@
 ghost use Rattle.std.specs.Prelude.{◌≡◌};
 ghost use Rattle.c_typing.specs.OperandViews.{part_view, part_ref_view};
 
-use c_tree::{TypedExpr, TypedPlace};
+use c_tree::{Boxed, TypedExpr, TypedPlace};
 use cc_base::{NodeId, Place, TypeId};
 
 /// A part as its own rules leave it, before what is around it reads it or converts it.
 #[derive(Drop)]
 pub enum Part {
-    Place(TypedPlace),
-    Value(TypedExpr),
+    Place(Boxed<TypedPlace>),
+    Value(Boxed<TypedExpr>),
     /// An allocation, which is a `void *` until something takes it over.
-    Allocation(TypedExpr),
+    Allocation(Boxed<TypedExpr>),
 }
 
 /// A part that is looked at.
@@ -30,9 +30,9 @@ impl Part {
         ensures { part_ref_view result ≡ part_view self.now }
     {
         match self {
-            Part::Place(p) => PartRef::Place(p),
-            Part::Value(e) => PartRef::Value(e),
-            Part::Allocation(e) => PartRef::Allocation(e),
+            Part::Place(p) => PartRef::Place(p.get()),
+            Part::Value(e) => PartRef::Value(e.get()),
+            Part::Allocation(e) => PartRef::Allocation(e.get()),
         }
     }
 }
@@ -48,7 +48,7 @@ pub struct Operand {
 /// The value of an operand.
 #[derive(Drop)]
 pub struct Value {
-    pub expr: TypedExpr,
+    pub expr: Boxed<TypedExpr>,
     pub place: Place,
     pub held: u32,
 }

@@ -72,24 +72,21 @@ pub fn new_pointer(
 
 /// An allocation that nothing takes over is of raw bytes.
 #[tactic(auto, using(c_tree::proofs::TypedViewLaws::typed_views))]
-fn made_raw(scope: &Scope, pointing: Pointing, e: TypedExpr) -> Result<TypedExpr, NoMemory>
+fn made_raw(
+    scope: &Scope,
+    pointing: Pointing,
+    e: Boxed<TypedExpr>,
+) -> Result<Boxed<TypedExpr>, NoMemory>
     ensures { IfOk result (λ made. typed_expr_view made ≡ operands.made_raw pointing.node pointing.ty (typed_expr_view e)) }
 {
-    match e {
-        TypedExpr::Paren(at, inner) => {
-            let inner = made_raw(scope, pointing, inner.into_inner())?;
-            Ok(TypedExpr::Paren(at, Boxed::new(scope.alloc(), inner)?))
+    let made = match e.into_inner() {
+        TypedExpr::Paren(at, inner) => TypedExpr::Paren(at, made_raw(scope, pointing, inner)?),
+        TypedExpr::AllocateFor(function, f, at, arguments, _) => {
+            TypedExpr::Allocate(function, f, at, arguments, pointing.node, pointing.ty)
         }
-        TypedExpr::AllocateFor(function, f, at, arguments, _) => Ok(TypedExpr::Allocate(
-            function,
-            f,
-            at,
-            arguments,
-            pointing.node,
-            pointing.ty,
-        )),
-        _ => Ok(e),
-    }
+        other => other,
+    };
+    Ok(Boxed::new(scope.alloc(), made)?)
 }
 
 /// How the value of a place is taken, by its type.
@@ -121,18 +118,18 @@ fn place_value(
     scope: &mut Scope,
     types: &mut Types,
     at: Place,
-    p: TypedPlace,
-) -> Result<TypedExpr, Fault>
+    p: Boxed<TypedPlace>,
+) -> Result<Boxed<TypedExpr>, Fault>
     ensures { Answers typed_expr_view (operands.place_value at (typed_place_view p) (operands.reading_of (shape_at types.old (place_type (typed_place_view p)))) (known types.old scope.old)) result (known types.new scope.new) }
 {
     let alloc = scope.alloc();
-    match reading_at(types, p.ty()) {
+    match reading_at(types, p.get().ty()) {
         Reading::Decays(element) => {
             let made = new_pointer(scope, types, at, element)?;
-            Ok(TypedExpr::Decay(Boxed::new(alloc, p)?, made.node, made.ty))
+            Ok(Boxed::new(alloc, TypedExpr::Decay(p, made.node, made.ty))?)
         }
-        Reading::Reads => Ok(TypedExpr::Read(Boxed::new(alloc, p)?)),
-        Reading::Stays => Ok(TypedExpr::Unread(Boxed::new(alloc, p)?)),
+        Reading::Reads => Ok(Boxed::new(alloc, TypedExpr::Read(p))?),
+        Reading::Stays => Ok(Boxed::new(alloc, TypedExpr::Unread(p))?),
         // no place has the type
         Reading::Nothing => Err(no_room(at)),
     }
@@ -144,8 +141,8 @@ pub fn raw_value(
     scope: &mut Scope,
     types: &mut Types,
     at: Place,
-    e: TypedExpr,
-) -> Result<TypedExpr, Fault>
+    e: Boxed<TypedExpr>,
+) -> Result<Boxed<TypedExpr>, Fault>
     ensures { Answers typed_expr_view (operands.raw_value at (typed_expr_view e) (known types.old scope.old)) result (known types.new scope.new) }
 {
     let made = new_pointer(scope, types, at, TypeId(0))?;
@@ -159,7 +156,7 @@ pub fn value_of(
     types: &mut Types,
     at: Place,
     part: Part,
-) -> Result<TypedExpr, Fault>
+) -> Result<Boxed<TypedExpr>, Fault>
     ensures { Answers typed_expr_view (operands.value_of at (part_view part) (known types.old scope.old)) result (known types.new scope.new) }
 {
     match part {
@@ -181,28 +178,29 @@ pub fn value(scope: &mut Scope, types: &mut Types, x: Operand) -> Result<Value, 
 
 /// An allocation for what a pointer type points to.
 #[tactic(auto, using(c_tree::proofs::TypedViewLaws::typed_views))]
-pub fn made_for(scope: &Scope, t: TypeId, e: TypedExpr) -> Result<TypedExpr, NoMemory>
+pub fn made_for(scope: &Scope, t: TypeId, e: Boxed<TypedExpr>) -> Result<Boxed<TypedExpr>, NoMemory>
     ensures { IfOk result (λ made. typed_expr_view made ≡ operands.made_for t (typed_expr_view e)) }
 {
-    match e {
-        TypedExpr::Paren(at, inner) => {
-            let inner = made_for(scope, t, inner.into_inner())?;
-            Ok(TypedExpr::Paren(at, Boxed::new(scope.alloc(), inner)?))
-        }
+    let made = match e.into_inner() {
+        TypedExpr::Paren(at, inner) => TypedExpr::Paren(at, made_for(scope, t, inner)?),
         TypedExpr::AllocateFor(function, f, at, arguments, _) => {
-            Ok(TypedExpr::AllocateFor(function, f, at, arguments, t))
+            TypedExpr::AllocateFor(function, f, at, arguments, t)
         }
-        _ => Ok(e),
-    }
+        other => other,
+    };
+    Ok(Boxed::new(scope.alloc(), made)?)
 }
 
 /// A value where a struct may stand: a struct that is not read is the place that it is.
 #[tactic(auto, using(c_tree::proofs::TypedViewLaws::typed_views))]
-pub fn side_of(e: TypedExpr) -> Part
+pub fn side_of(e: Boxed<TypedExpr>) -> Part
     ensures { part_view result ≡ operands.side_of (typed_expr_view e) }
 {
-    match e {
-        TypedExpr::Unread(p) => Part::Place(p.into_inner()),
-        _ => Part::Value(e),
+    if !matches!(e.get(), TypedExpr::Unread(_)) {
+        return Part::Value(e);
     }
+    let TypedExpr::Unread(p) = e.into_inner() else {
+        unreachable!()
+    };
+    Part::Place(p)
 }

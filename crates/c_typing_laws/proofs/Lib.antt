@@ -35,6 +35,7 @@ pub mod FunctionNames
 pub mod JudgedWhole
 pub mod RefusedDeclarators
 pub mod PartsTaken
+pub mod RefusedSteps
 pub mod RefusedTrees
 pub mod RefusedWhole
 pub mod NodeNumbers

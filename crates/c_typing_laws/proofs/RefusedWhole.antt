@@ -37,7 +37,8 @@ use Rattle.c_typing_laws.proofs.Outcomes.{bind-gives, gives-value, gives-state, 
 use Rattle.c_typing_laws.proofs.PartsTaken.{taken-part, constant-alike}
 use Rattle.c_typing_laws.proofs.RefusedConstructs.{given-never}
 use Rattle.c_typing_laws.proofs.RefusedDeclarators.{refused-here, refused-after, obeying-refuses, form-refused}
-use Rattle.c_typing_laws.proofs.RefusedTrees.{tagged_by-never, left-never, entered-never, step-refused, operand-first, value-first, value-fails, second, expr-refuses, specifiers-refuses, form-refuses, parameters-refuses}
+use Rattle.c_typing_laws.proofs.RefusedSteps.{tagged_by-never, left-never, entered-never, step-refused, operand-first, value-first, value-fails, second}
+use Rattle.c_typing_laws.proofs.RefusedTrees.{expr-refuses, specifiers-refuses, form-refuses, parameters-refuses}
 use Rattle.c_typing_laws.proofs.SidesAlike.{fits_same}
 use Rattle.c_typing_laws.proofs.SidesTaken.{given-side}
 use Rattle.c_typing_laws.proofs.ValuesTaken

@@ -1,0 +1,50 @@
+use Rattle.std.proofs.Common.{◌≡◌, length}
+use Rattle.c_tree.specs.Erasure.{erased_unit}
+use Rattle.c_tree.specs.StatementViews.{unit_view}
+use Rattle.c_tree.specs.TypedParts.{made_by_unit, nodes_made}
+use Rattle.c_tree.specs.TypedStatementViews.{typed_unit_view}
+use Rattle.c_tree.specs.TypedTree.{TypedTranslationUnit}
+use Rattle.c_printed.specs.Printing.{AreInOrder, HasPrinted}
+use Rattle.c_unit_typing.specs.WellTyped.{IsWellTyped}
+use Rattle.c_check.specs.KeptLimits.{KeepsLimits}
+use Rattle.c_check.proofs.UnitFacts.{answered-ok, breaks-rule, counts-nodes, erases, is-only, is-well-typed, keeps-limits}
+use Rattle.c_check.proofs.calls.check.Goals as goal
+
+pub returns-clause-typed : goal.returns-clause-typed
+returns-clause-typed c =
+    let u = unit_view c.args.unit.now in
+    answered-ok u c.checked.result (λ t. IsWellTyped t.types (typed_unit_view t.unit)) (is-well-typed u) c.checked.ensures
+
+pub returns-clause-erases : goal.returns-clause-erases
+returns-clause-erases c =
+    let u = unit_view c.args.unit.now in
+    answered-ok u c.checked.result (λ t. erased_unit (typed_unit_view t.unit) ≡ u) (erases u) c.checked.ensures
+
+pub returns-clause-only : goal.returns-clause-only
+returns-clause-only c =
+    let u = unit_view c.args.unit.now in
+    answered-ok u c.checked.result
+    (λ t. (other : TypedTranslationUnit) → IsWellTyped t.types other → erased_unit other ≡ u → other ≡ typed_unit_view t.unit) (is-only u) c.checked.ensures
+
+pub returns-clause-nodes : goal.returns-clause-nodes
+returns-clause-nodes c =
+    let u = unit_view c.args.unit.now in
+    answered-ok u c.checked.result (λ t. t.nodes ≡ length (nodes_made (made_by_unit (typed_unit_view t.unit)))) (counts-nodes u) c.checked.ensures
+
+pub returns-clause-printed : goal.returns-clause-printed
+returns-clause-printed c =
+    let u = unit_view c.args.unit.now in
+    answered-ok u c.checked.result (λ t. HasPrinted (typed_unit_view t.unit) t.printed) (λ t j. j.printed) c.checked.ensures
+
+pub returns-clause-ordered : goal.returns-clause-ordered
+returns-clause-ordered c =
+    let u = unit_view c.args.unit.now in
+    answered-ok u c.checked.result (λ t. AreInOrder t.printed) (λ t j. j.sorted) c.checked.ensures
+
+pub returns-clause-limited : goal.returns-clause-limited
+returns-clause-limited c =
+    let u = unit_view c.args.unit.now in
+    answered-ok u c.checked.result (λ t. KeepsLimits t.types (typed_unit_view t.unit)) (keeps-limits u) c.checked.ensures
+
+pub returns-clause-refused : goal.returns-clause-refused
+returns-clause-refused c p rule e = breaks-rule (unit_view c.args.unit.now) c.checked.result p rule c.checked.ensures e

@@ -1,0 +1,303 @@
+//! Function definitions (C99 6.9.1).
+#![tactic(auto)]
+
+ghost use Rattle.std.specs.Prelude.{◌≡◌, ◌&&◌, map, Option, Some, option_copied, option_map};
+ghost use Rattle.c_types.specs.Table.{shape_at};
+ghost use Rattle.c_tree.specs.TypedTree as typed;
+ghost use Rattle.c_tree.specs.TypedTree.{TypedParts as SeenParts, TypedParameters as SeenParameters, TypedTranslationUnit};
+ghost use Rattle.c_tree.specs.Views.{added, declarator_view, specifiers_view};
+ghost use Rattle.c_tree.specs.StatementViews.{block_view};
+ghost use Rattle.c_tree.specs.TypedViews.{typed_core_view, typed_declarator_view, typed_form_view, typed_parameter_view, typed_part_view, typed_specifiers_view};
+ghost use Rattle.c_tree.specs.TypedStatementViews.{typed_block_view};
+ghost use Rattle.c_typing.specs.KindViews.{shape_or_void};
+ghost use Rattle.c_typing.specs.declared.declared.Declared.TheVariants as declared;
+ghost use Rattle.c_typing.specs.Scopes.{place_among};
+ghost use Rattle.c_typing.specs.Tests.{first_broken, has_some};
+ghost use Rattle.runtime_calls.specs.Prototypes.{runtime_of};
+ghost use Rattle.c_check.specs.CodeViews.{declares_last, parameters_seen, storage_view};
+ghost use Rattle.c_check.specs.ContextViews.{state_of};
+ghost use Rattle.c_unit_typing.specs.UnitJudging.{Answers, Gives, known_of, UnitState};
+ghost use Rattle.c_unit_typing.specs.UnitRefusals.{definition_tests, is_function_declared};
+ghost use Rattle.c_unit_typing.specs.Units as units;
+ghost use Rattle.c_unit_typing.specs.DefinitionJudging as judging;
+
+use crate::around::Around;
+use crate::conflicts::{declared_as, runtime_of};
+use crate::context::Context;
+use crate::homes::{Storage, home_of, name_of, naming_for, storage_of};
+use c_check_expr::places::declarator_name;
+use c_tree::{
+    BlockItem, FunctionDefinition, Home, Identifier, Items, TypedBlockItem, TypedCore,
+    TypedDeclarator, TypedForm, TypedFunction, TypedParameter, TypedPart, TypedSpecifiers,
+};
+use c_types::TypeShape;
+use c_typing::Declared;
+use c_typing::shapes::shape_at;
+use c_typing::stops::{no_room, refusal};
+use cc_base::{Fault, Limit, Place, Rule, TypeId};
+
+/// The most functions that a unit defines.
+const MOST_FUNCTIONS: usize = 65_535;
+
+/// The first place of a text.
+const NOWHERE: Place = Place { line: 1, col: 1 };
+
+/// The parameters of a part that stands behind others, if it is a function part.
+#[tactic(auto, using(c_tree::proofs::TypedViewLaws::typed_views))]
+fn own_parameters(part: &TypedPart) -> Option<&[TypedParameter]>
+    ensures { (all : SeenParts) (outer : Option SeenParameters) → units.declares_parameters (typed_part_view part.now all) outer ≡ units.declares_parameters all (option_map (λ p. parameters_seen p.now) result) }
+{
+    match part {
+        TypedPart::Array(_, _) => None,
+        TypedPart::SizedArray(_, _, _, _) => None,
+        TypedPart::Function(_, parameters) => Some(parameters.as_slice()),
+    }
+}
+
+/// The parameters of the first part, which stands nearest to the name.
+#[tactic(auto, using(c_tree::proofs::PushLaws::pushes))]
+fn nearest_parameters<'f>(
+    parts: &'f [TypedPart],
+    outer: Option<&'f [TypedParameter]>,
+) -> Option<&'f [TypedParameter]>
+    ensures { option_map (λ p. parameters_seen p.now) result ≡ units.declares_parameters (added typed.NoPart (map typed_part_view parts.now)) (option_map (λ p. parameters_seen p.now) outer.entry) }
+{
+    let mut rest = parts;
+    let mut found = outer;
+    'inwards: while let Some((part, before)) = rest.split_last() {
+        found = own_parameters(part);
+        rest = before;
+    }
+    found
+}
+
+/// The parameters that a definition begins with: those of the function part that stands nearest to the name.
+#[cycle(parameters)]
+#[tactic(auto, using(c_tree::proofs::TypedViewLaws::typed_views))]
+fn parameters_of<'f>(
+    form: &'f TypedForm,
+    outer: Option<&'f [TypedParameter]>,
+) -> Option<&'f [TypedParameter]>
+    ensures { option_map (λ p. parameters_seen p.now) result ≡ units.parameters_of_form (typed_form_view form.now) (option_map (λ p. parameters_seen p.now) outer.entry) }
+{
+    let outer = match form.stars.as_slice().split_first() {
+        None => outer,
+        Some(_) => None,
+    };
+    let found = nearest_parameters(form.parts.as_slice(), outer);
+    parameters_of_core(&form.core, found)
+}
+
+#[cycle(parameters)]
+#[tactic(auto, using(c_tree::proofs::TypedViewLaws::typed_views))]
+fn parameters_of_core<'f>(
+    core: &'f TypedCore,
+    found: Option<&'f [TypedParameter]>,
+) -> Option<&'f [TypedParameter]>
+    ensures { option_map (λ p. parameters_seen p.now) result ≡ units.parameters_of_core (typed_core_view core.now) (option_map (λ p. parameters_seen p.now) found.entry) }
+{
+    match core {
+        TypedCore::Names(_, _) => found,
+        TypedCore::Unnamed => found,
+        TypedCore::Nested(_, form) => parameters_of(form.get(), found),
+    }
+}
+
+fn is_function_declared(what: Declared) -> bool
+    ensures { result ≡ is_function_declared what }
+{
+    match what {
+        Declared::Function(_) => true,
+        _ => false,
+    }
+}
+
+/// Whether a name is that of a runtime function.
+fn is_runtime_name(name: &Identifier) -> bool
+    ensures { result ≡ has_some (runtime_of name.now.bytes) }
+{
+    runtime_of(name.bytes.as_slice()).is_some()
+}
+
+/// Whether a definition has its own parameters, and makes a function.
+fn is_defined_as_function(written: bool, what: Declared) -> bool
+    ensures { result ≡ (written && is_function_declared what) }
+{
+    written && is_function_declared(what)
+}
+
+/// The result of a function type.
+fn result_of(shape: Option<&TypeShape>) -> Option<TypeId>
+    ensures { result ≡ judging.result_of (shape_or_void (option_copied shape.entry)) }
+{
+    match shape {
+        Some(TypeShape::Function(_, to)) => Some(*to),
+        _ => None,
+    }
+}
+
+impl Context {
+    /// A parameter is a name of the body's scope, where it has a name.
+    #[tactic(auto, using(c_tree::proofs::TypedViewLaws::typed_views), unfolding(c_unit_typing::specs::DefinitionJudging::declare_parameters, c_unit_typing::specs::DefinitionJudging::declare_parameter))]
+    fn declare_parameter(&mut self, parameter: &TypedParameter) -> Result<(), Fault>
+        ensures { (all : SeenParameters) (start : UnitState) → judging.declare_parameters all start ≡ Gives (declares_last all) (state_of self.old) → Answers (λ u. declares_last (typed_parameter_view parameter.now all)) (judging.declare_parameters (typed_parameter_view parameter.now all) start) result (state_of self.new) }
+    {
+        let Some(form) = &parameter.declarator else {
+            return Ok(());
+        };
+        let Home::Parameter(n) = home_of(form) else {
+            return Ok(());
+        };
+        match name_of(form) {
+            Some(name) => self.new_name(name, Declared::Object(parameter.ty, n)),
+            None => Ok(()),
+        }
+    }
+
+    /// The parameters are the first names of the body's scope.
+    #[tactic(auto, unfolding(c_unit_typing::specs::DefinitionJudging::declare_parameters))]
+    fn declare_parameters(&mut self, parameters: &[TypedParameter]) -> Result<(), Fault>
+        ensures { Answers (λ u. declares_last (parameters_seen parameters.now)) (judging.declare_parameters (parameters_seen parameters.now) (state_of self.old)) result (state_of self.new) }
+    {
+        for parameter in parameters {
+            self.declare_parameter(parameter)?;
+        }
+        Ok(())
+    }
+
+    /// The body of a function with this result, in a scope that begins with the parameters.
+    #[tactic(auto, unfolding(c_unit_typing::specs::DefinitionJudging::body))]
+    fn body_with(
+        &mut self,
+        brace: Place,
+        to: TypeId,
+        parameters: &[TypedParameter],
+        items: &[BlockItem],
+    ) -> Result<Items<TypedBlockItem>, Fault>
+        ensures { Answers typed_block_view (judging.body brace (Some to) (Some (parameters_seen parameters.now)) (block_view items.now) (state_of self.old)) result (state_of self.new) }
+    {
+        self.enter()?;
+        self.declare_parameters(parameters)?;
+        let around = Around {
+            result: to,
+            in_loop: false,
+            breakable: false,
+        };
+        let list = self.block_items(around, None, items)?;
+        self.leave(brace)?;
+        Ok(list)
+    }
+
+    /// The body, if its function has a result and parameters of its own.
+    #[tactic(auto, unfolding(c_unit_typing::specs::DefinitionJudging::body))]
+    fn body(
+        &mut self,
+        brace: Place,
+        to: Option<TypeId>,
+        parameters: Option<&[TypedParameter]>,
+        items: &[BlockItem],
+    ) -> Result<Items<TypedBlockItem>, Fault>
+        ensures { Answers typed_block_view (judging.body brace to (option_map (λ p. parameters_seen p.now) parameters.entry) (block_view items.now) (state_of self.old)) result (state_of self.new) }
+    {
+        match (to, parameters) {
+            (Some(to), Some(parameters)) => self.body_with(brace, to, parameters, items),
+            _ => Err(no_room(brace)),
+        }
+    }
+
+    /// The first rule that the name of a function with a body breaks.
+    fn broken_by_definition(
+        &self,
+        storage: Storage,
+        written: bool,
+        name: &Identifier,
+        t: TypeId,
+    ) -> Option<Fault>
+        ensures { result ≡ first_broken (definition_tests self.now.types (known_of (state_of self.now)) (storage_view storage) written name.now.bytes t name.now.place) }
+    {
+        let what = declared_as(&self.types, storage, t);
+        if self.is_redeclared(true, true, name, what) {
+            return Some(refusal(name.place, Rule::Redeclared));
+        }
+        if is_runtime_name(name) {
+            return Some(refusal(name.place, Rule::Redeclared));
+        }
+        if is_defined_as_function(written, what) {
+            return None;
+        }
+        Some(refusal(name.place, Rule::Mismatch))
+    }
+
+    /// A unit defines no more than 65,535 functions. The answer is how many come before.
+    #[tactic(auto, unfolding(c_unit_typing::specs::DefinitionJudging::counted))]
+    fn counted(&mut self, name: &Identifier) -> Result<usize, Fault>
+        ensures { Answers (λ number. number) (judging.counted name.now.place (place_among self.old.scope.scopes.defined name.now.bytes) (state_of self.old)) result (state_of self.new) }
+    {
+        match self.scope.function(name.bytes.as_slice()) {
+            None => Err(no_room(name.place)),
+            Some(number) => {
+                if number < MOST_FUNCTIONS {
+                    Ok(number)
+                } else {
+                    Err(Fault::TooLarge {
+                        place: name.place,
+                        limit: Limit::Functions,
+                    })
+                }
+            }
+        }
+    }
+
+    /// The name of a function is declared, and defined.
+    #[tactic(auto, unfolding(c_unit_typing::specs::DefinitionJudging::defined))]
+    fn define(&mut self, name: &Identifier, t: TypeId) -> Result<(), Fault>
+        ensures { Answers (λ u. declared.Function t) (judging.defined name.now t (state_of self.old)) result (state_of self.new) }
+    {
+        self.linked_name(name, Declared::Function(t))?;
+        let alloc = self.scope.alloc();
+        self.linkage.defined.add(alloc, name.bytes.as_slice())?;
+        Ok(())
+    }
+
+    /// What was judged before a body is tried and defined.
+    #[tactic(auto, using(c_tree::proofs::TypedViewLaws::typed_views), unfolding(c_unit_typing::specs::DefinitionJudging::defined_as))]
+    fn define_as(
+        &mut self,
+        name: Option<&Identifier>,
+        base: &TypedSpecifiers,
+        one: &TypedDeclarator,
+    ) -> Result<(), Fault>
+        ensures { Answers (λ u. typed_declarator_view one.now) (judging.defined_as (option_copied name.entry) (typed_specifiers_view base.now) (typed_declarator_view one.now) (state_of self.old)) result (state_of self.new) }
+    {
+        let Some(name) = name else {
+            return Err(no_room(NOWHERE));
+        };
+        let written = parameters_of(&one.form, None).is_some();
+        if let Some(fault) = self.broken_by_definition(storage_of(base), written, name, one.ty) {
+            return Err(fault);
+        }
+        self.counted(name)?;
+        self.define(name, one.ty)
+    }
+
+    /// A function with its body.
+    #[tactic(auto, using(c_tree::proofs::TypedViewLaws::typed_views), unfolding(c_unit_typing::specs::DefinitionJudging::judge_definition))]
+    pub(crate) fn definition(&mut self, f: &FunctionDefinition) -> Result<TypedFunction, Fault>
+        ensures { (before : TypedTranslationUnit) → Answers (λ made. typed.AndFunctionBody before (typed_specifiers_view made.specifiers) (typed_declarator_view made.declarator) made.brace (typed_block_view made.body)) (judging.judge_definition before (specifiers_view f.now.specifiers) (declarator_view f.now.declarator) f.now.brace (block_view f.now.body) (state_of self.old)) result (state_of self.new) }
+    {
+        let specifiers = self.specifiers(&f.specifiers, false)?;
+        let name = declarator_name(&f.declarator);
+        let naming = naming_for(true, storage_of(&specifiers), self.first_linked(name));
+        let declarator = self.declarator(naming, &specifiers, None, &f.declarator)?;
+        self.define_as(name, &specifiers, &declarator)?;
+        let to = result_of(shape_at(&self.types, declarator.ty));
+        let parameters = parameters_of(&declarator.form, None);
+        let body = self.body(f.brace, to, parameters, f.body.as_slice())?;
+        Ok(TypedFunction {
+            specifiers,
+            declarator,
+            brace: f.brace,
+            body,
+        })
+    }
+}

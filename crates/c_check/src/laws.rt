@@ -1,6 +1,0 @@
-//! Laws of the definitions: what the judging of units gives is well typed, and erases to what was judged.
-#![tactic(auto)]
-
-pub mod growth;
-pub mod initialisers;
-pub mod statements;

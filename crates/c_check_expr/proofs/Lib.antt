@@ -1,0 +1,12 @@
+pub mod TagLaws
+pub mod SeriesLaws
+pub mod StayLaws
+pub mod PlaceLaws
+pub mod OutcomeLaws
+pub mod NameLaws
+pub mod StarLaws
+pub mod PartLaws
+pub mod MemberLaws
+pub mod SpecifiedLaws
+pub mod ParameterLaws
+pub mod ExprLaws

@@ -1,0 +1,25 @@
+use Rattle.cc_base.specs.declared.fault.Fault.TheVariants.{Refused}
+use Rattle.c_tree.specs.TypedParts.{made_by}
+use Rattle.c_tree.specs.Views.{expr_view}
+use Rattle.c_typing.specs.Judging.{known}
+use Rattle.c_typing_laws.specs.Judged.{IsConstantJudged, ConstantFails, IsRefused}
+use Rattle.c_typing_laws.specs.Numbers.{AreNumberedFrom}
+use Rattle.c_typing_laws.proofs.AnswerLaws.{given-ok, refused-err}
+use Rattle.c_typing_laws.proofs.JudgedWhole.{constant-judged}
+use Rattle.c_typing_laws.proofs.NumberedWhole.{constant-numbers}
+use Rattle.c_typing_laws.proofs.RefusedWhole.{constant-refuses}
+use Rattle.c_typing.specs.Checking.{checked_constant}
+use Rattle.c_check_expr.specs.CheckingViews.{constant_view}
+use Rattle.c_check_expr.proofs.calls.check_constant.Goals as goal
+
+pub returns-clause-typed : goal.returns-clause-typed
+returns-clause-typed c k =
+    given-ok constant_view (checked_constant (expr_view c.args.e.now) (known c.args.types.now c.args.scope.now)) c.checked_constant.result (known c.checked_constant.new.types c.checked_constant.new.scope) (λ v. IsConstantJudged (expr_view c.args.e.now) v (known c.args.types.now c.args.scope.now) (known c.checked_constant.new.types c.checked_constant.new.scope)) (λ v h. constant-judged (expr_view c.args.e.now) v (known c.args.types.now c.args.scope.now) (known c.checked_constant.new.types c.checked_constant.new.scope) k h) c.checked_constant.ensures
+
+pub returns-clause-numbered : goal.returns-clause-numbered
+returns-clause-numbered c k =
+    given-ok constant_view (checked_constant (expr_view c.args.e.now) (known c.args.types.now c.args.scope.now)) c.checked_constant.result (known c.checked_constant.new.types c.checked_constant.new.scope) (λ v. AreNumberedFrom (made_by v.expr) (known c.args.types.now c.args.scope.now) (known c.checked_constant.new.types c.checked_constant.new.scope)) (λ v h. constant-numbers (expr_view c.args.e.now) v (known c.args.types.now c.args.scope.now) (known c.checked_constant.new.types c.checked_constant.new.scope) k h) c.checked_constant.ensures
+
+pub returns-clause-refused : goal.returns-clause-refused
+returns-clause-refused c k =
+    refused-err constant_view (checked_constant (expr_view c.args.e.now) (known c.args.types.now c.args.scope.now)) c.checked_constant.result (known c.checked_constant.new.types c.checked_constant.new.scope) (λ p t. IsRefused (λ T. ConstantFails T (expr_view c.args.e.now) c.args.scope.now.scopes (Refused p t)) (known c.args.types.now c.args.scope.now) (known c.checked_constant.new.types c.checked_constant.new.scope)) (λ p t h. constant-refuses p t (expr_view c.args.e.now) (known c.args.types.now c.args.scope.now) (known c.checked_constant.new.types c.checked_constant.new.scope) k h) c.checked_constant.ensures

@@ -1,0 +1,18 @@
+use Rattle.std.proofs.Common.{rules, map, take}
+use Rattle.c_tree.specs.Tree.{NoEnumerator}
+use Rattle.c_tree.specs.TypedTree.{NoEnumerator as none_typed}
+use Rattle.c_tree.specs.TypedViews.{typed_enumerator_view}
+use Rattle.c_tree.specs.Views.{added, enumerator_view}
+use Rattle.c_typing.specs.Judging.{known}
+use Rattle.c_typing.specs.Walks.{judge_enumerators}
+use Rattle.c_check_expr.proofs.SeriesLaws.{fails}
+use Rattle.c_check_expr.proofs.StayLaws.{enumerators-stay}
+use Rattle.c_check_expr.proofs.walker.Walker.enumerators.Goals as goal
+
+pub returns-in_err-one : goal.returns-in_err-one
+returns-in_err-one g c =
+    let stopped = fails judge_enumerators enumerator_view enumerators-stay c.args.list.now c.loop-e.e-index c.e-item.result c.loop-e-test.true c.e-item.is NoEnumerator
+    (known c.args.types.now c.args.scope.now) (known c.enumerator.new.types c.enumerator.new.scope) c.in_err-one.field-0.0
+    (c.in_err-one.ensures.answers (known c.args.types.now c.args.scope.now) (added NoEnumerator (map enumerator_view (take c.loop-e.e-index c.args.list.now)))
+    (added none_typed (map typed_enumerator_view c.loop-e.found)) c.loop-e.invariant.1 c.loop-e.invariant.0) in
+    search rules

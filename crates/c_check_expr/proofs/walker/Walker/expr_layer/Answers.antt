@@ -1,0 +1,90 @@
+use Rattle.std.proofs.Common.{rules, arith}
+use Rattle.std.proofs.lemmas.Grind.{common_steps}
+use Rattle.c_tree.proofs.ViewLaws.{view_expr-Name, view_expr-Integer, view_expr-Character, view_expr-String, view_expr-Paren, view_expr-Index, view_expr-Call, view_expr-Member, view_expr-Postfix, view_expr-Prefix, view_expr-SizeOfType, view_expr-Cast, view_expr-Infix, view_expr-Conditional, view_expr-Assign, view_expr-Comma}
+use Rattle.c_tree.specs.Views.{expr_view}
+use Rattle.c_typing.specs.Judging.{known}
+use Rattle.c_typing.specs.OperandViews.{operand_view}
+use Rattle.c_typing.specs.Walks.{judge}
+use Rattle.c_check_expr.proofs.ExprLaws.{leaves_judged}
+use Rattle.c_check_expr.proofs.OutcomeLaws.{answers-moved}
+use Rattle.c_check_expr.proofs.walker.Walker.expr_layer.Goals as goal
+
+pub returns-in-Name : goal.returns-in-Name
+returns-in-Name g c =
+    answers-moved operand_view (λ o. o) _ (judge c.args.called (expr_view c.args.e.now) (known c.args.types.now c.args.scope.now)) c.name.result
+    (known c.name.new.types c.name.new.scope) c.name.ensures (first_of (grind (arith, common_steps, leaves_judged, view_expr-Name), search (rules, leaves_judged, view_expr-Name)))
+
+pub returns-in-Integer : goal.returns-in-Integer
+returns-in-Integer g c =
+    answers-moved operand_view (λ o. o) _ (judge c.args.called (expr_view c.args.e.now) (known c.args.types.now c.args.scope.now)) c.integer.result
+    (known c.args.types.now c.args.scope.now) c.integer.ensures (first_of (grind (arith, common_steps, leaves_judged, view_expr-Integer), search (rules, leaves_judged, view_expr-Integer)))
+
+pub returns-in-Character : goal.returns-in-Character
+returns-in-Character g c =
+    answers-moved operand_view (λ o. o) _ (judge c.args.called (expr_view c.args.e.now) (known c.args.types.now c.args.scope.now)) c.character.result
+    (known c.args.types.now c.args.scope.now) c.character.ensures (first_of (grind (arith, common_steps, leaves_judged, view_expr-Character), search (rules, leaves_judged, view_expr-Character)))
+
+pub returns-in-String : goal.returns-in-String
+returns-in-String g c =
+    answers-moved operand_view (λ o. o) _ (judge c.args.called (expr_view c.args.e.now) (known c.args.types.now c.args.scope.now)) c.literal.result
+    (known c.literal.new.types c.literal.new.scope) c.literal.ensures (first_of (grind (arith, common_steps, leaves_judged, view_expr-String), search (rules, leaves_judged, view_expr-String)))
+
+pub returns-in-Paren : goal.returns-in-Paren
+returns-in-Paren g c =
+    answers-moved operand_view (λ e. judge c.args.called e (known c.args.types.now c.args.scope.now)) _ (expr_view c.args.e.now) c.paren_layer.result
+    (known c.paren_layer.new.types c.paren_layer.new.scope) c.paren_layer.ensures (first_of (grind (arith, common_steps, view_expr-Paren), search (rules, view_expr-Paren)))
+
+pub returns-in-Index : goal.returns-in-Index
+returns-in-Index g c =
+    answers-moved operand_view (λ e. judge c.args.called e (known c.args.types.now c.args.scope.now)) _ (expr_view c.args.e.now) c.index_layer.result
+    (known c.index_layer.new.types c.index_layer.new.scope) c.index_layer.ensures (first_of (grind (arith, common_steps, view_expr-Index), search (rules, view_expr-Index)))
+
+pub returns-in-Call : goal.returns-in-Call
+returns-in-Call g c =
+    answers-moved operand_view (λ e. judge c.args.called e (known c.args.types.now c.args.scope.now)) _ (expr_view c.args.e.now) c.call_layer.result
+    (known c.call_layer.new.types c.call_layer.new.scope) c.call_layer.ensures (first_of (grind (arith, common_steps, view_expr-Call), search (rules, view_expr-Call)))
+
+pub returns-in-Member : goal.returns-in-Member
+returns-in-Member g c =
+    answers-moved operand_view (λ e. judge c.args.called e (known c.args.types.now c.args.scope.now)) _ (expr_view c.args.e.now) c.member_layer.result
+    (known c.member_layer.new.types c.member_layer.new.scope) c.member_layer.ensures (first_of (grind (arith, common_steps, view_expr-Member), search (rules, view_expr-Member)))
+
+pub returns-in-Postfix : goal.returns-in-Postfix
+returns-in-Postfix g c =
+    answers-moved operand_view (λ e. judge c.args.called e (known c.args.types.now c.args.scope.now)) _ (expr_view c.args.e.now) c.postfix_layer.result
+    (known c.postfix_layer.new.types c.postfix_layer.new.scope) c.postfix_layer.ensures (first_of (grind (arith, common_steps, view_expr-Postfix), search (rules, view_expr-Postfix)))
+
+pub returns-in-Prefix : goal.returns-in-Prefix
+returns-in-Prefix g c =
+    answers-moved operand_view (λ e. judge c.args.called e (known c.args.types.now c.args.scope.now)) _ (expr_view c.args.e.now) c.prefix_layer.result
+    (known c.prefix_layer.new.types c.prefix_layer.new.scope) c.prefix_layer.ensures (first_of (grind (arith, common_steps, view_expr-Prefix), search (rules, view_expr-Prefix)))
+
+pub returns-in-SizeOfType : goal.returns-in-SizeOfType
+returns-in-SizeOfType g c =
+    answers-moved operand_view (λ e. judge c.args.called e (known c.args.types.now c.args.scope.now)) _ (expr_view c.args.e.now) c.size_layer.result
+    (known c.size_layer.new.types c.size_layer.new.scope) c.size_layer.ensures (first_of (grind (arith, common_steps, view_expr-SizeOfType), search (rules, view_expr-SizeOfType)))
+
+pub returns-in-Cast : goal.returns-in-Cast
+returns-in-Cast g c =
+    answers-moved operand_view (λ e. judge c.args.called e (known c.args.types.now c.args.scope.now)) _ (expr_view c.args.e.now) c.cast_layer.result
+    (known c.cast_layer.new.types c.cast_layer.new.scope) c.cast_layer.ensures (first_of (grind (arith, common_steps, view_expr-Cast), search (rules, view_expr-Cast)))
+
+pub returns-in-Infix : goal.returns-in-Infix
+returns-in-Infix g c =
+    answers-moved operand_view (λ e. judge c.args.called e (known c.args.types.now c.args.scope.now)) _ (expr_view c.args.e.now) c.infix_layer.result
+    (known c.infix_layer.new.types c.infix_layer.new.scope) c.infix_layer.ensures (first_of (grind (arith, common_steps, view_expr-Infix), search (rules, view_expr-Infix)))
+
+pub returns-in-Conditional : goal.returns-in-Conditional
+returns-in-Conditional g c =
+    answers-moved operand_view (λ e. judge c.args.called e (known c.args.types.now c.args.scope.now)) _ (expr_view c.args.e.now) c.conditional_layer.result
+    (known c.conditional_layer.new.types c.conditional_layer.new.scope) c.conditional_layer.ensures (first_of (grind (arith, common_steps, view_expr-Conditional), search (rules, view_expr-Conditional)))
+
+pub returns-in-Assign : goal.returns-in-Assign
+returns-in-Assign g c =
+    answers-moved operand_view (λ e. judge c.args.called e (known c.args.types.now c.args.scope.now)) _ (expr_view c.args.e.now) c.assignment_layer.result
+    (known c.assignment_layer.new.types c.assignment_layer.new.scope) c.assignment_layer.ensures (first_of (grind (arith, common_steps, view_expr-Assign), search (rules, view_expr-Assign)))
+
+pub returns-in-Comma : goal.returns-in-Comma
+returns-in-Comma g c =
+    answers-moved operand_view (λ e. judge c.args.called e (known c.args.types.now c.args.scope.now)) _ (expr_view c.args.e.now) c.comma_layer.result
+    (known c.comma_layer.new.types c.comma_layer.new.scope) c.comma_layer.ensures (first_of (grind (arith, common_steps, view_expr-Comma), search (rules, view_expr-Comma)))

@@ -1,0 +1,33 @@
+use Rattle.std.proofs.Common.{rules, arith, map, take}
+use Rattle.std.proofs.lemmas.Grind.{common_steps}
+use Rattle.c_tree.proofs.PushLaws.{pushes}
+use Rattle.c_tree.specs.Tree.{NoMember}
+use Rattle.c_tree.specs.TypedTree.{NoMember as none_typed}
+use Rattle.c_tree.specs.TypedViews.{typed_members_view}
+use Rattle.c_tree.specs.Views.{added, members_view}
+use Rattle.c_typing.specs.Judging.{known}
+use Rattle.c_typing.specs.Walks.{judge_members}
+use Rattle.c_check_expr.proofs.SeriesLaws.{goes, fails}
+use Rattle.c_check_expr.proofs.StayLaws.{rows-stay}
+use Rattle.c_check_expr.proofs.walker.Walker.members.Goals as goal
+
+pub returns-in_err-members_row-clause-answers : goal.returns-in_err-members_row-clause-answers
+returns-in_err-members_row-clause-answers g c = λ first.
+    let stopped = fails judge_members members_view rows-stay c.args.rows.now c.loop-row.row-index c.row-item.result c.loop-row-test.true c.row-item.is NoMember
+    (known c.args.types.now c.args.scope.now) (known c.members_row.new.types c.members_row.new.scope) c.in_err-members_row.field-0.0
+    (c.in_err-members_row.ensures.answers (known c.args.types.now c.args.scope.now) (added NoMember (map members_view (take c.loop-row.row-index c.args.rows.now)))
+    (added none_typed (map typed_members_view c.loop-row.found)) (c.loop-row.invariant.1 first) (c.loop-row.invariant.0 first)) in
+    search rules
+
+pub loop-row-preserved : goal.loop-row-preserved
+loop-row-preserved g c = (
+  λ first.
+      let judged = goes judge_members members_view c.args.rows.now c.loop-row.row-index c.row-item.result c.loop-row-test.true c.row-item.is NoMember
+      (known c.args.types.now c.args.scope.now) _
+      (c.in_ok-members_row.ensures.answers (known c.args.types.now c.args.scope.now) (added NoMember (map members_view (take c.loop-row.row-index c.args.rows.now)))
+      (added none_typed (map typed_members_view c.loop-row.found)) (c.loop-row.invariant.1 first) (c.loop-row.invariant.0 first)) in
+      first_of (grind (arith, common_steps, pushes), search (rules, pushes)),
+  λ first.
+      let named = c.in_ok-members_row.ensures.named (added none_typed (map typed_members_view c.loop-row.found)) (c.loop-row.invariant.1 first) in
+      first_of (grind (arith, common_steps, pushes), search (rules, pushes)),
+)

@@ -1,0 +1,102 @@
+//! The calls of a unit: what it asks of its expressions, specifiers and declarators, with what each answer means.
+#![tactic(auto)]
+
+ghost use Rattle.std.specs.Prelude.{◌≡◌, Err, IfOk, false};
+ghost use Rattle.cc_base.specs.declared.fault.Fault.TheVariants.{Refused};
+ghost use Rattle.cc_base.specs.declared.fault.Rule.{Rule as Broken};
+ghost use Rattle.cc_base.specs.declared.place.Place.{Place as At};
+ghost use Rattle.c_types.specs.Table.{IsType};
+ghost use Rattle.c_tree.specs.TypedParts.{made_by, made_by_declarator, made_by_specifiers, specified_type};
+ghost use Rattle.c_tree.specs.TypedViews.{typed_declarator_view, typed_expr_view, typed_specifiers_view};
+ghost use Rattle.c_tree.specs.Views.{declarator_view, expr_view, specifiers_view};
+ghost use Rattle.c_typing.specs.Checking as checking;
+ghost use Rattle.c_typing.specs.Judging.{Answers, known};
+ghost use Rattle.c_typing.specs.Refusals.{Refuses};
+ghost use Rattle.c_typing.specs.Settled.{IsKnown};
+ghost use Rattle.c_typing.specs.Walks as walks;
+ghost use Rattle.c_typing_laws.specs.Judged.{AreSpecifiersJudged, ConstantFails, DeclaratorFails, IsChecked, IsCheckedFor, IsConstantJudged, IsDeclaratorJudged, IsRefused, SpecifiersFail, ValueFails};
+ghost use Rattle.c_typing_laws.specs.Numbers.{AreNumberedFrom};
+ghost use Rattle.c_check_expr.specs.CheckingViews.{constant_view};
+
+use crate::checking::{checked, checked_constant, checked_for, declarator_behind, specifiers_by};
+use c_tree::{Declarator, Expr, Specifiers, TypedDeclarator, TypedExpr, TypedSpecifiers};
+use c_types::Types;
+use c_typing::naming::Naming;
+use c_typing::scope::Scope;
+use cc_base::{Fault, Place, TypeId};
+
+/// The value of an expression; a struct is not read (C99 6.5). Tags and enumerators that it declares are added to the scope. A refusal is
+/// that of the first rule that fails in the order of the text; after it types, tags, enumerators and nodes of what stands before may be there.
+pub fn check_expr(scope: &mut Scope, types: &mut Types, e: &Expr) -> Result<TypedExpr, Fault>
+    ensures judged { Answers typed_expr_view (checking.checked (expr_view e.now) (known types.old scope.old)) result (known types.new scope.new) }
+    ensures typed { IsKnown (known types.old scope.old) → IfOk result (λ v. IsChecked (expr_view e.now) (typed_expr_view v) (known types.old scope.old) (known types.new scope.new)) }
+    ensures numbered { IsKnown (known types.old scope.old) → IfOk result (λ v. AreNumberedFrom (made_by (typed_expr_view v)) (known types.old scope.old) (known types.new scope.new)) }
+    ensures refused { IsKnown (known types.old scope.old) → (p : At) (t : Broken) → result ≡ Err (Refused p t) → IsRefused (λ T. Refuses T false (expr_view e.now) scope.old.scopes (Refused p t)) (known types.old scope.old) (known types.new scope.new) }
+{
+    checked(scope, types, e)
+}
+
+/// An expression that is converted to a type at a place (C99 6.5.16.1); `init` says that it is an initialiser and not a returned value. What
+/// does not become one of the type is a mismatch at the place.
+pub fn check_value(
+    scope: &mut Scope,
+    types: &mut Types,
+    to: TypeId,
+    at: Place,
+    init: bool,
+    e: &Expr,
+) -> Result<TypedExpr, Fault>
+    ensures judged { Answers typed_expr_view (checking.checked_value to at init (expr_view e.now) (known types.old scope.old)) result (known types.new scope.new) }
+    ensures typed { IsKnown (known types.old scope.old) → IsType types.old to → IfOk result (λ v. IsCheckedFor to at init (expr_view e.now) (typed_expr_view v) (known types.old scope.old) (known types.new scope.new)) }
+    ensures numbered { IsKnown (known types.old scope.old) → IfOk result (λ v. AreNumberedFrom (made_by (typed_expr_view v)) (known types.old scope.old) (known types.new scope.new)) }
+    ensures refused { IsKnown (known types.old scope.old) → IsType types.old to → (p : At) (t : Broken) → result ≡ Err (Refused p t) → IsRefused (λ T. ValueFails T to at (expr_view e.now) scope.old.scopes (Refused p t)) (known types.old scope.old) (known types.new scope.new) }
+{
+    checked_for(scope, types, to, at, init, e)
+}
+
+/// An integer constant expression and its value (C99 6.6). What is no such expression is refused at its first token.
+pub fn check_constant(
+    scope: &mut Scope,
+    types: &mut Types,
+    e: &Expr,
+) -> Result<(TypedExpr, i128), Fault>
+    ensures judged { Answers constant_view (checking.checked_constant (expr_view e.now) (known types.old scope.old)) result (known types.new scope.new) }
+    ensures typed { IsKnown (known types.old scope.old) → IfOk result (λ c. IsConstantJudged (expr_view e.now) (constant_view c) (known types.old scope.old) (known types.new scope.new)) }
+    ensures numbered { IsKnown (known types.old scope.old) → IfOk result (λ c. AreNumberedFrom (made_by (constant_view c).expr) (known types.old scope.old) (known types.new scope.new)) }
+    ensures refused { IsKnown (known types.old scope.old) → (p : At) (t : Broken) → result ≡ Err (Refused p t) → IsRefused (λ T. ConstantFails T (expr_view e.now) scope.old.scopes (Refused p t)) (known types.old scope.old) (known types.new scope.new) }
+{
+    checked_constant(scope, types, e)
+}
+
+/// A list of specifiers (C99 6.7.2). `alone` says that no declarator follows; then `struct S` by itself declares the tag (C99 6.7.2.3).
+pub fn check_specifiers(
+    scope: &mut Scope,
+    types: &mut Types,
+    specifiers: &Specifiers,
+    alone: bool,
+) -> Result<TypedSpecifiers, Fault>
+    ensures judged { Answers typed_specifiers_view (walks.judge_specifiers_of alone (specifiers_view specifiers.now) (known types.old scope.old)) result (known types.new scope.new) }
+    ensures typed { IsKnown (known types.old scope.old) → IfOk result (λ t. AreSpecifiersJudged alone (specifiers_view specifiers.now) (typed_specifiers_view t) (known types.old scope.old) (known types.new scope.new)) }
+    ensures numbered { IsKnown (known types.old scope.old) → IfOk result (λ t. AreNumberedFrom (made_by_specifiers (typed_specifiers_view t)) (known types.old scope.old) (known types.new scope.new)) }
+    ensures refused { IsKnown (known types.old scope.old) → (p : At) (t : Broken) → result ≡ Err (Refused p t) → IsRefused (λ T. SpecifiersFail alone T (specifiers_view specifiers.now) scope.old.scopes (Refused p t)) (known types.old scope.old) (known types.new scope.new) }
+{
+    specifiers_by(scope, types, specifiers, alone)
+}
+
+/// A declarator behind specifiers (C99 6.7.5). `naming` says what its name is to be, and `size` is the count that an initialiser gives to the
+/// array part without a size that stands nearest to the name.
+pub fn check_declarator(
+    scope: &mut Scope,
+    types: &mut Types,
+    naming: Naming,
+    base: &TypedSpecifiers,
+    size: Option<u64>,
+    d: &Declarator,
+) -> Result<TypedDeclarator, Fault>
+    ensures judged { Answers typed_declarator_view (walks.judge_declarator naming (typed_specifiers_view base.now) size (declarator_view d.now) (known types.old scope.old)) result (known types.new scope.new) }
+    ensures typed { IsKnown (known types.old scope.old) → IsType types.old (specified_type (typed_specifiers_view base.now)) → IfOk result (λ one. IsDeclaratorJudged naming (walks.outermost_of size) (specified_type (typed_specifiers_view base.now)) (declarator_view d.now) (typed_declarator_view one) (known types.old scope.old) (known types.new scope.new)) }
+    ensures numbered { IsKnown (known types.old scope.old) → IfOk result (λ one. AreNumberedFrom (made_by_declarator (typed_declarator_view one)) (known types.old scope.old) (known types.new scope.new)) }
+    ensures refused { IsKnown (known types.old scope.old) → IsType types.old (specified_type (typed_specifiers_view base.now)) → (p : At) (t : Broken) → result ≡ Err (Refused p t) → IsRefused (λ T. DeclaratorFails T (walks.outermost_of size) (specified_type (typed_specifiers_view base.now)) (declarator_view d.now) scope.old.scopes (Refused p t)) (known types.old scope.old) (known types.new scope.new) }
+{
+    declarator_behind(scope, types, naming, base, size, d)
+}

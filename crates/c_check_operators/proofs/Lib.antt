@@ -1,0 +1,10 @@
+pub mod AssigningLaws
+pub mod DivisionLaws
+pub mod SizeLaws
+pub mod CallLaws
+pub mod LiteralLaws
+pub mod MemberLaws
+pub mod RuntimeLaws
+pub mod CellLaws
+pub mod ConstructLaws
+pub mod StepLaws

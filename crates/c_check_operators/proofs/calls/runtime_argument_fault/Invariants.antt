@@ -1,0 +1,9 @@
+use Rattle.std.proofs.Common.{◌≡◌, length}
+use Rattle.c_check_operators.proofs.CallLaws.{runtime_broken}
+use Rattle.c_check_operators.proofs.calls.runtime_argument_fault.Given as goal
+
+abbrev pub invariant-arguments : goal.invariant-arguments
+invariant-arguments l = runtime_broken l.types l.wanted l.given ≡ runtime_broken l.types l.parameters l.values
+
+abbrev pub decreases-arguments : goal.decreases-arguments
+decreases-arguments l = length l.wanted

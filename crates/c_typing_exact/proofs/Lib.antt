@@ -1,0 +1,15 @@
+pub mod Unbroken
+pub mod InfixPasses
+pub mod OperatorPasses
+pub mod ConversionPasses
+pub mod ChoicePasses
+pub mod CallPasses
+pub mod NamePasses
+pub mod DeclaratorPasses
+pub mod SameParts
+pub mod ExprExact
+pub mod MixedExact
+pub mod SpecifierExact
+pub mod MemberExact
+pub mod DeclaratorExact
+pub mod ExactTrees

@@ -1,0 +1,3 @@
+pub mod Passing
+pub mod Numbered
+pub mod Exactness

@@ -1,0 +1,16 @@
+pub mod Numbering
+pub mod Shapes
+pub mod Reading
+pub mod OperatorLaws
+pub mod ValueLaws
+pub mod CallLaws
+pub mod Readings
+pub mod ExprSteps
+pub mod MixedSteps
+pub mod FormLaws
+pub mod DeclaratorSteps
+pub mod PartSteps
+pub mod SpecifierSteps
+pub mod MemberSteps
+pub mod UniqueTrees
+pub mod UniqueWhole

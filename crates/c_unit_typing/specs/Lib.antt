@@ -1,0 +1,13 @@
+pub mod Initialisers
+pub mod Units
+pub mod WellTyped
+pub mod Holding
+pub mod Limits
+pub mod UnitRefusals
+pub mod Linkage
+pub mod UnitJudging
+pub mod InitialiserJudging
+pub mod DeclarationJudging
+pub mod StatementJudging
+pub mod DefinitionJudging
+pub mod UnitJudged

@@ -1,0 +1,7 @@
+pub mod Initialisers
+pub mod SizedForms
+pub mod HomeLaws
+pub mod DeclarationSteps
+pub mod StatementValues
+pub mod StatementSteps
+pub mod UnitSteps

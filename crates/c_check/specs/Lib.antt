@@ -1,5 +1,3 @@
 pub mod Labels
 pub mod CodeViews
-pub mod ContextViews
 pub mod Judged
-pub mod KeptLimits

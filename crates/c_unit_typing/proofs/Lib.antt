@@ -2,6 +2,8 @@ pub mod KeptInitialisers
 pub mod UnitOutcomes
 pub mod UnitStates
 pub mod NumberedTests
+pub mod TypesOfTests
+pub mod TypesOfInitialisers
 pub mod LimitedUnits
 pub mod RefusedUnits
 pub mod RefusedDefinitions
@@ -22,6 +24,7 @@ pub mod JudgedDefinitions
 pub mod FunctionParameters
 pub mod JudgedLabels
 pub mod JudgedStatements
+pub mod StatementParts
 pub mod JudgedDeclarations
 pub mod JudgedDeclarators
 pub mod HomeNumbers

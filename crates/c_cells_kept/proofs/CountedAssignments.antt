@@ -1,31 +1,22 @@
 -- The pointers that assignments move are those that their sides move, and those of a struct that is assigned; so it is with choices, casts and calls.
-use Rattle.std.proofs.Common.{◌≡◌, ℕ, ◌+◌, Bool, true, false, not, ◌&&◌, ◌==◌, List, [], ◌∷◌, ◌++◌, map, length, fold, max, Option, Some, None, refl, ap, sym, subst, ◌∙◌, nat_le, if◌then◌else◌, arith}
-use Rattle.std.proofs.lemmas.Option.{none-some}
-use Rattle.std.proofs.lemmas.List.{append_assoc, append-nil}
+use Rattle.std.proofs.Common.{◌≡◌, ℕ, ◌+◌, Bool, true, false, ◌&&◌, List, [], ◌∷◌, ◌++◌, map, max, Option, Some, None, ap, subst, ◌∙◌, nat_le, if◌then◌else◌, arith}
 use Rattle.cc_base.specs.declared.place.Place.{Place}
 use Rattle.cc_base.specs.declared.number.TypeId.{TypeId}
-use Rattle.cc_base.specs.declared.fault.Fault.TheVariants.{Refused, TooLarge}
+use Rattle.cc_base.specs.declared.fault.Fault.TheVariants.{TooLarge}
 use Rattle.cc_base.specs.declared.fault.Limit.TheVariants.{Types, Cells}
-use Rattle.cc_base.specs.declared.fault.Rule.TheVariants as rule
-use Rattle.c_types.specs.declared.shape.TypeShape.{TypeShape}
-use Rattle.c_types.specs.declared.shape.TypeShape.TheVariants.{Void, Integer, Pointer, Array, Function, Struct, Union}
 use Rattle.c_types.specs.Layouts.{size_of}
-use Rattle.c_types.specs.Table.{Table, IsComplete, shape_at}
+use Rattle.c_types.specs.Table.{IsComplete, shape_at}
 use Rattle.c_tree.specs.declared.operator.Assignment.{Assignment}
 use Rattle.c_tree.specs.declared.operator.Assignment.TheVariants as assignment
-use Rattle.c_tree.specs.declared.typed_word.Runtime.{Runtime}
 use Rattle.c_tree.specs.TypedTree as typed
 use Rattle.c_tree.specs.TypedTree.{TypedExpr, TypedPlace, TypedArguments, TypedTypeName}
-use Rattle.c_tree.specs.TypedParts.{type_of, place_type, named_type, Made, Address, Copy, made_by, made_by_place, made_by_arguments, made_by_type_name}
-use Rattle.runtime_calls.specs.Prototypes.{prototype_of}
-use Rattle.runtime_calls.specs.declared.function.RuntimeType.{RuntimeType}
-use Rattle.runtime_calls.specs.declared.function.RuntimeType.TheVariants as prototype
+use Rattle.c_tree.specs.TypedParts.{type_of, place_type, named_type, Made, Address, Copy, made_by, made_by_place, made_by_type_name}
 use Rattle.integers.specs.Arithmetic.{IntegerType}
 use Rattle.c_typing.specs.Assignments
 use Rattle.c_typing.specs.Assignments.{converted_to, assigned, assign_part, assign_given, assign, updated, update_part, update_by, pointer_choice, choice_of_pointers, choice_of_values, choice_of_parts, choice, comma_part, comma, cast_part, part_expr, cast_given, cast, size_of_type, arguments_as, converted_arguments, runtime_argument, runtime_arguments, runtime_call, called_shape, called, arguments_held, call}
 use Rattle.c_typing.specs.Cells.{count_cells, pointers_in}
 use Rattle.c_typing.specs.Conversions.{to_integer, implicit}
-use Rattle.c_typing.specs.Integers.{right_type, common, assigning}
+use Rattle.c_typing.specs.Integers.{common}
 use Rattle.c_typing.specs.Judging.{State, Gives, Stops, pure, by_known, new_pointer, void_type, integer_type}
 use Rattle.c_typing.specs.Operands.{Operand, Value, side_of, given, argument_of}
 use Rattle.c_typing.specs.Operations
@@ -37,14 +28,14 @@ use Rattle.c_typing.specs.Tests
 use Rattle.c_typing.specs.Tests.{Elaborated, AsPlace, AsValue, AsAllocation, Test, broken_at, first_broken}
 use Rattle.c_typing_laws.specs.Numbers.{made_by_part}
 use Rattle.c_typing_laws.proofs.ExtensionLaws.{extended_refl}
-use Rattle.c_typing_laws.proofs.JudgedCalls.{last_ok, lengths, cut_length}
 use Rattle.c_typing_laws.proofs.NumberedConstructs.{IsWhole, converted-made, side-made, made_by_values}
 use Rattle.c_cells_kept.specs.Counted.{IsReady, Moves}
 use Rattle.c_cells_kept.proofs.CellsMoved.{complete_later, two-made, made-as, new_pointer-made}
 use Rattle.c_cells_kept.proofs.PointersKept.{pointers-kept}
 use Rattle.c_typing_laws.proofs.Outcomes.{bind-gives, gives-state, never-gives, construct-gives}
-use Rattle.c_cells_kept.proofs.CountedValues.{IsCounted, expr-made, given-moves, moves-same, part_as, to_integer-made}
+use Rattle.c_cells_kept.proofs.CountedValues.{IsCounted, given-moves, moves-same, part_as}
 use Rattle.c_cells_kept.proofs.CountedOperators.{Both}
+use Rattle.c_typing_laws.proofs.NumberedConstructs.{updated-made, comma-made, call-made, expr-made, to_integer-made}
 
 -- Assignments
 
@@ -95,11 +86,6 @@ assign-moves x at y o a m s r w whole n k h =
         moves-same a (AsValue (typed.Assign p at e)) o.part q r g (two-made (made_by_place p) (made_by e) a m q l j)
     by_part (AsValue e) c l v q j g = never-gives o.part (TooLarge at Types) q r g
     by_part (AsAllocation e) c l v q j g = never-gives o.part (TooLarge at Types) q r g
-
-updated-made : (operator : Assignment) (at : Place) (p : TypedPlace) (e : TypedExpr) (j k : Option IntegerType) → made_by (updated operator at p e j k) ≡ made_by_place p ++ made_by e
-updated-made operator at p e (Some j) (Some k) = ap (λ (l : List Made). made_by_place p ++ l) (to_integer-made at (integer_type (right_type (assigning operator) j k)) e)
-updated-made operator at p e (Some j) None = refl
-updated-made operator at p e None k = refl
 
 pub update-moves : (operator : Assignment) (x : Operand) (at : Place) (v : Value) (o : Operand) (a m : State) (s r : State) → Moves (made_by_part x.part) a m
     → Moves (made_by v.expr) m s → update_by operator x at v s ≡ Gives o r → IsCounted a o.part r
@@ -168,11 +154,6 @@ choice-moves c at x y o a s r n h =
     parts-moves c.expr c.place at o.part a s r (side_of x.expr) (side_of y.expr)
     (made-as (Three c.expr (side_of x.expr) (side_of y.expr)) ((made_by c.expr ++ made_by x.expr) ++ made_by y.expr) a s (λ i. (made_by c.expr ++ one i) ++ two i) n) g.part
 
-comma-made : (x : TypedExpr) (y : Elaborated) → made_by_part (comma_part x y) ≡ made_by x ++ made_by_part y
-comma-made x (AsPlace p) = refl
-comma-made x (AsValue e) = refl
-comma-made x (AsAllocation e) = refl
-
 pub comma-moves : (x y : Value) (o : Operand) (a : State) (s r : State) → Moves (Both x.expr y.expr) a s → comma x y s ≡ Gives o r → IsCounted a o.part r
 unfolding comma
 comma-moves x y o a s r n h =
@@ -203,71 +184,6 @@ size_of_type-moves at paren name o a s r n h =
     moves-same a (AsValue (typed.SizeOfType at paren name (size_of s.table (named_type name)) Operations.size_type)) o.part s r c.part n
 
 -- Calls
-
-abbrev made_by_all : List TypedExpr → List Made
-made_by_all [] = []
-made_by_all (e ∷ es) = made_by e ++ made_by_all es
-
-fold-made : (acc : TypedArguments) (es : List TypedExpr) → made_by_arguments (fold typed.AndArgument acc es) ≡ made_by_arguments acc ++ made_by_all es
-fold-made acc [] = sym (append-nil (made_by_arguments acc))
-fold-made acc (e ∷ es) = fold-made (typed.AndArgument acc e) es ∙ append_assoc (made_by_arguments acc) (made_by e) (made_by_all es)
-
-arguments-made : (T : Table) (ts : List TypeId) (vs : List Value) → length ts ≡ length vs → made_by_all (converted_arguments T ts vs) ≡ made_by_values vs
-arguments-made T [] [] l = refl
-arguments-made T [] (v ∷ vs) l = absurd (omega (arith, l))
-arguments-made T (t ∷ ts) [] l = absurd (omega (arith, l))
-arguments-made T (t ∷ ts) (v ∷ vs) l =
-    let one = converted-made v.place t v.expr (implicit T v.expr t) in
-    let rest = arguments-made T ts vs (cut_length t ts v vs l) in
-    λ i. one i ++ rest i
-
-runtime-made : (T : Table) (t : RuntimeType) (v : Value) → made_by (runtime_argument T t v) ≡ made_by v.expr
-runtime-made T prototype.Int v = converted-made v.place int_type v.expr (implicit T v.expr int_type)
-runtime-made T prototype.UnsignedLong v = converted-made v.place Operations.size_type v.expr (implicit T v.expr Operations.size_type)
-runtime-made T prototype.Void v = refl
-runtime-made T prototype.VoidPointer v = refl
-
-runtimes-made : (T : Table) (ts : List RuntimeType) (vs : List Value) → length ts ≡ length vs → made_by_all (runtime_arguments T ts vs) ≡ made_by_values vs
-runtimes-made T [] [] l = refl
-runtimes-made T [] (v ∷ vs) l = absurd (omega (arith, l))
-runtimes-made T (t ∷ ts) [] l = absurd (omega (arith, l))
-runtimes-made T (t ∷ ts) (v ∷ vs) l =
-    let one = runtime-made T t v in
-    let rest = runtimes-made T ts vs (cut_length t ts v vs l) in
-    λ i. one i ++ rest i
-
-module _ (T : Table) (f : TypedExpr) (at : Place) (vs : List Value) where
-  broken_call : {P : Type 0} → first_broken (broken_at rule.BadCall at true ∷ []) ≡ None → P
-  broken_call h = absurd (none-some (Refused at rule.BadCall) (sym h))
-
-  shape-made : (y : TypeShape) → first_broken (Tests.call_tests_of T y at (map argument_of vs)) ≡ None → made_by_part (called_shape T f at vs y) ≡ made_by f ++ made_by_values vs
-  shape-made (Function ps r) u =
-      let last : Test = broken_at rule.BadCall at (not (length ps == length (map argument_of vs))) in
-      let alike = lengths ps vs (last_ok (Tests.argument_tests T ps (map argument_of vs)) last u) in
-      ap (λ (l : List Made). made_by f ++ l) (fold-made typed.NoArgument (converted_arguments T ps vs) ∙ arguments-made T ps vs alike)
-  shape-made Void u = broken_call u
-  shape-made (Integer bytes signed) u = broken_call u
-  shape-made (Pointer w v) u = broken_call u
-  shape-made (Array v w) u = broken_call u
-  shape-made (Struct w) u = broken_call u
-  shape-made (Union w) u = broken_call u
-
-  result-made : (function : Runtime) (arguments : TypedArguments) (t : RuntimeType) → made_by_part (runtime_call function f at arguments t) ≡ made_by f ++ made_by_arguments arguments
-  result-made function arguments prototype.Int = refl
-  result-made function arguments prototype.VoidPointer = refl
-  result-made function arguments prototype.Void = refl
-  result-made function arguments prototype.UnsignedLong = refl
-
-  call-made : (o : Option Runtime) → first_broken (Tests.call_tests_by o T at (shape_at T (type_of f)) (map argument_of vs)) ≡ None
-      → made_by_part (called T f at vs o) ≡ made_by f ++ made_by_values vs
-  call-made None u = shape-made (Tests.pointed_shape T (shape_at T (type_of f))) u
-  call-made (Some function) u =
-      let ps : List RuntimeType = (prototype_of function).parameters in
-      let last : Test = broken_at rule.BadCall at (not (length ps == length (map argument_of vs))) in
-      let alike = lengths ps vs (last_ok (Tests.runtime_argument_tests T ps (map argument_of vs)) last u) in
-      result-made function (arguments_as (runtime_arguments T (prototype_of function).parameters vs)) (prototype_of function).result
-      ∙ ap (λ (l : List Made). made_by f ++ l) (fold-made typed.NoArgument (runtime_arguments T (prototype_of function).parameters vs)
-      ∙ runtimes-made T (prototype_of function).parameters vs alike)
 
 pub call-moves : (f : Value) (at : Place) (values : List Value) (o : Operand) (a m : State) (s r : State) → Moves (made_by f.expr) a m
     → Moves (made_by_values values) m s → call f at values s ≡ Gives o r → IsCounted a o.part r

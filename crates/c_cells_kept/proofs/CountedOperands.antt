@@ -1,7 +1,6 @@
 -- The values of parts, and places of complete types, as they are counted while an expression is judged.
 use Rattle.std.proofs.Common.{◌≡◌, false}
 use Rattle.cc_base.specs.declared.place.Place.{Place}
-use Rattle.c_types.specs.Table.{Table}
 use Rattle.c_tree.specs.declared.operator.Assignment.{Assignment}
 use Rattle.c_tree.specs.declared.operator.Step.TheVariants as step
 use Rattle.c_tree.specs.declared.operator.Unary.{Unary}
@@ -26,13 +25,9 @@ use Rattle.c_cells_kept.proofs.CountedValues.{IsCounted, value-moves}
 use Rattle.c_cells_kept.proofs.CountedOperators.{target-moves, address-moves, prefix-moves, size-moves, before-moves}
 use Rattle.c_cells_kept.proofs.CountedAssignments.{IsPlaceWhole, update-moves}
 use Rattle.c_typing_laws.proofs.Outcomes.{bind-gives}
+use Rattle.c_typing_laws.proofs.NumberedTrees.{whole_of}
 
 -- Values and operands
-
-whole_of : (T : Table) (e : tree.Expr) (x : Elaborated) (s s' : Scopes) → IsElaborated T e x s s' → IsWhole x
-whole_of T e (AsPlace p) s s' h = tt
-whole_of T e (AsValue v) s s' h = tt
-whole_of T e (AsAllocation v) s s' h = h.2
 
 abbrev IsCounting : tree.Expr → State → Type 0
 IsCounting e s = (o : Operand) (q : State) → judge false e s ≡ Gives o q → IsCounted s o.part q

@@ -1,5 +1,5 @@
 -- The pointers that operators and members move are those that their operands move.
-use Rattle.std.proofs.Common.{◌≡◌, ℕ, Bool, true, false, not, ◌&&◌, ◌||◌, List, [], ◌∷◌, ◌++◌, Option, Some, None, refl, ap, subst, if◌then◌else◌}
+use Rattle.std.proofs.Common.{◌≡◌, ℕ, Bool, true, false, not, ◌&&◌, ◌||◌, List, [], ◌∷◌, ◌++◌, Option, Some, None, refl, ap, subst}
 use Rattle.cc_base.specs.declared.place.Place.{Place}
 use Rattle.cc_base.specs.declared.number.NodeId.{NodeId}
 use Rattle.cc_base.specs.declared.number.TypeId.{TypeId}
@@ -11,32 +11,28 @@ use Rattle.c_types.specs.Layouts.{size_of, member_at}
 use Rattle.c_types.specs.Table.{Table, shape_at}
 use Rattle.c_tree.specs.declared.leaf.Identifier.{Identifier}
 use Rattle.c_tree.specs.declared.operator.Binary.{Binary}
-use Rattle.c_tree.specs.declared.operator.Binary.TheVariants as binary
 use Rattle.c_tree.specs.declared.operator.Step.{Step}
 use Rattle.c_tree.specs.declared.operator.Unary.{Unary}
-use Rattle.c_tree.specs.declared.operator.Unary.TheVariants as unary
 use Rattle.c_tree.specs.TypedTree as typed
 use Rattle.c_tree.specs.TypedTree.{TypedExpr, TypedPlace}
 use Rattle.c_tree.specs.TypedParts.{type_of, place_type, Made, Address, made_by, made_by_place}
-use Rattle.integers.specs.Arithmetic.{IntegerType}
-use Rattle.c_typing.specs.Integers.{is_logical, is_order, promoted, left_type, right_type}
-use Rattle.c_typing.specs.Judging.{State, Gives, next, ◌>>=◌, pure, by_known, new_node, new_pointer, integer_type}
+use Rattle.c_typing.specs.Judging.{State, Gives, next, ◌>>=◌, pure, by_known, new_node, new_pointer}
 use Rattle.c_typing.specs.Operands.{Operand, Value, value_of}
 use Rattle.c_typing.specs.Operations
 use Rattle.c_typing.specs.Operations.{in_parens, pointed, pointed_place, target_of, address_behind, address_of_part, address, promoted_operand, operator_on, prefix_of, size_of_part, step_part, step_before, step_after, element, index, arithmetic, equated, compared, pointers, by_kinds, operation, infix_of, numbered, named_member, Found, found, member_of, member, member_at_pointer, pointed_member, int_type}
-use Rattle.c_typing.specs.Rules.{Meeting, RightIsNull, LeftIsNull, BothPoint, NeverMeet, meeting, pointer_behind}
-use Rattle.c_typing.specs.Shapes.{integer_at, pointee_at, is_function_shape, is_pointer_shape}
+use Rattle.c_typing.specs.Rules.{pointer_behind}
+use Rattle.c_typing.specs.Shapes.{pointee_at, is_function_shape}
 use Rattle.c_typing.specs.Tests
 use Rattle.c_typing.specs.Tests.{Elaborated, AsPlace, AsValue, AsAllocation, has_some, is_index_pair, points_to_incomplete}
 use Rattle.c_typing_laws.specs.Numbers.{made_by_part}
 use Rattle.c_typing_laws.proofs.ConstructLaws.{two_unbroken, not_false}
-use Rattle.c_typing_laws.proofs.ExtensionLaws.{no_true}
 use Rattle.c_typing_laws.proofs.JudgedOperators.{pair_some}
 use Rattle.c_typing_laws.proofs.NumberedConstructs.{IsWhole}
 use Rattle.c_cells_kept.specs.Counted.{Moves}
 use Rattle.c_cells_kept.proofs.CellsMoved.{two-made, made-from, address-made, new_pointer-made}
 use Rattle.c_typing_laws.proofs.Outcomes.{bind-gives, gives-value, gives-state, never-gives, construct-gives}
-use Rattle.c_cells_kept.proofs.CountedValues.{IsCounted, moves-same, number-stays, part_as, to_integer-made, value_of-moves}
+use Rattle.c_cells_kept.proofs.CountedValues.{IsCounted, moves-same, number-stays, part_as, value_of-moves}
+use Rattle.c_typing_laws.proofs.NumberedConstructs.{operator-made, element-made, operation-made}
 
 -- Operators on one operand
 
@@ -83,17 +79,6 @@ address-moves at x o a s r n h =
     by_part (AsPlace p) m g = behind p (pointer_behind p) m g
     by_part (AsValue e) m g = part_as a (made_by e) (AsValue (typed.AddressOfFunction at e)) o.part s r g refl m
     by_part (AsAllocation e) m g = never-gives o.part (TooLarge at Types) s r g
-
-operator-made : (operator : Unary) (T : Table) (at : Place) (e : TypedExpr) → made_by (operator_on T operator at e) ≡ made_by e
-operator-made operator T at e = by operator
-  where
-    promoted_by : (u : Unary) (k : Option IntegerType) → made_by (promoted_operand u at e k) ≡ made_by e
-    promoted_by u (Some k) = to_integer-made at (integer_type (promoted k)) e
-    promoted_by u None = refl
-
-    by : (u : Unary) → made_by (operator_on T u at e) ≡ made_by e
-    by unary.Not = refl
-    by u = promoted_by u (integer_at T (type_of e))
 
 pub prefix-moves : (operator : Unary) (at : Place) (v : Value) (o : Operand) (a : State) (s r : State) → Moves (made_by v.expr) a s
     → prefix_of operator at v s ≡ Gives o r → IsCounted a o.part r
@@ -146,11 +131,6 @@ after-moves operator at x o a s r n h =
 abbrev pub Both : TypedExpr → TypedExpr → List Made
 Both x y = made_by x ++ made_by y
 
-element-made : (x : TypedExpr) (at : Place) (y : TypedExpr) (t u : Option TypeId) → (has_some t || has_some u) ≡ true → made_by_part (element x at y t u) ≡ Both x y
-element-made x at y (Some t) u h = refl
-element-made x at y None (Some u) h = refl
-element-made x at y None None h = no_true h
-
 pub index-moves : (x : Value) (at : Place) (y : Value) (o : Operand) (a : State) (s r : State) → Moves (Both x.expr y.expr) a s → index x at y s ≡ Gives o r
     → IsCounted a o.part r
 unfolding index
@@ -164,46 +144,6 @@ index-moves x at y o a s r n h =
     (Refused at rule.Incomplete) (Refused at rule.Mismatch) c.unbroken in
     part_as a (Both x.expr y.expr) (element x.expr at y.expr (pointee_at T (type_of x.expr)) (pointee_at T (type_of y.expr))) o.part s r c.part
     (element-made x.expr at y.expr (pointee_at T (type_of x.expr)) (pointee_at T (type_of y.expr)) (pair_some z w (not_false (is_index_pair z w) two.1))) n
-
-module _ (T : Table) (x : TypedExpr) (at : Place) (y : TypedExpr) where
-  arithmetic-made : (operator : Binary) (j k : IntegerType) → made_by (arithmetic operator x at y j k) ≡ Both x y
-  arithmetic-made operator j k =
-      let one = to_integer-made at (integer_type (left_type operator j k)) x in
-      let two = to_integer-made at (integer_type (right_type operator j k)) y in
-      λ i. one i ++ two i
-
-  equated-made : (z : Meeting) (operator : Binary) → made_by (equated z operator x at y) ≡ Both x y
-  equated-made (RightIsNull t) operator = refl
-  equated-made (LeftIsNull t) operator = refl
-  equated-made (BothPoint t) operator = refl
-  equated-made NeverMeet operator = refl
-
-  compared-made : (operator : Binary) → made_by (compared T operator x at y) ≡ Both x y
-  compared-made operator = by (is_order operator)
-    where
-      by : (b : Bool) → made_by (if b then typed.Compared operator x at y int_type else equated (meeting T x y) operator x at y) ≡ Both x y
-      by true = refl
-      by false = equated-made (meeting T x y) operator
-
-  pointers-made : (operator : Binary) (b c : Bool) → made_by (pointers T operator x at y b c) ≡ Both x y
-  pointers-made binary.Add true c = refl
-  pointers-made binary.Add false c = refl
-  pointers-made binary.Subtract b true = refl
-  pointers-made binary.Subtract b false = refl
-  pointers-made operator b c = compared-made operator
-
-  kinds-made : (operator : Binary) (j k : Option IntegerType) (b c : Bool) → made_by (by_kinds T operator x at y j k b c) ≡ Both x y
-  kinds-made operator (Some j) (Some k) b c = arithmetic-made operator j k
-  kinds-made operator (Some j) None b c = pointers-made operator b c
-  kinds-made operator None k b c = pointers-made operator b c
-
-  operation-made : (operator : Binary) → made_by (operation T operator x at y) ≡ Both x y
-  operation-made operator = by (is_logical operator)
-    where
-      by : (b : Bool) → made_by (if b then typed.Logical operator x at y int_type
-          else by_kinds T operator x at y (integer_at T (type_of x)) (integer_at T (type_of y)) (is_pointer_shape (shape_at T (type_of x))) (is_pointer_shape (shape_at T (type_of y)))) ≡ Both x y
-      by true = refl
-      by false = kinds-made operator (integer_at T (type_of x)) (integer_at T (type_of y)) (is_pointer_shape (shape_at T (type_of x))) (is_pointer_shape (shape_at T (type_of y)))
 
 pub infix-moves : (operator : Binary) (x : Value) (at : Place) (y : Value) (o : Operand) (a : State) (s r : State) → Moves (Both x.expr y.expr) a s
     → infix_of operator x at y s ≡ Gives o r → IsCounted a o.part r

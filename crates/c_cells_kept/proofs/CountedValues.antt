@@ -1,7 +1,6 @@
 -- The pointers that values, names and literals move are those that their parts move.
-use Rattle.std.proofs.Common.{◌≡◌, ℕ, ◌+◌, ℤ, Bool, true, false, ◌==◌, List, [], ◌∷◌, ◌++◌, Option, Some, None, refl, ap, subst, nat_lt, nat_le, if◌then◌else◌}
+use Rattle.std.proofs.Common.{◌≡◌, ℕ, ◌+◌, ℤ, Bool, true, false, List, [], ◌∷◌, ◌++◌, Option, Some, None, refl, ap, subst, nat_lt, nat_le, if◌then◌else◌}
 use Rattle.cc_base.specs.declared.place.Place.{Place}
-use Rattle.cc_base.specs.declared.number.NodeId.{NodeId}
 use Rattle.cc_base.specs.declared.number.TypeId.{TypeId}
 use Rattle.cc_base.specs.declared.fault.Fault.TheVariants.{TooLarge}
 use Rattle.cc_base.specs.declared.fault.Limit.TheVariants.{Types, Globals}
@@ -10,12 +9,11 @@ use Rattle.c_types.specs.Table.{shape_at}
 use Rattle.c_lexer.specs.declared.number.IntegerType.{IntegerType as ConstantType}
 use Rattle.c_tree.specs.declared.leaf.Identifier.{Identifier}
 use Rattle.c_tree.specs.declared.leaf.StringPiece.{StringPiece}
-use Rattle.c_tree.specs.declared.typed_word.Conversion.TheVariants as conversion
 use Rattle.c_tree.specs.declared.typed_word.Runtime.{Runtime}
 use Rattle.c_tree.specs.Places.{pieces_place}
 use Rattle.c_tree.specs.TypedTree as typed
 use Rattle.c_tree.specs.TypedTree.{TypedExpr, TypedPlace}
-use Rattle.c_tree.specs.TypedParts.{type_of, place_type, Made, Address, made_by, made_by_place, Literal}
+use Rattle.c_tree.specs.TypedParts.{place_type, Made, Address, made_by, made_by_place, Literal}
 use Rattle.runtime_calls.specs.Prototypes.{runtime_of}
 use Rattle.c_typing.specs.declared.declared.Declared.{Declared}
 use Rattle.c_typing.specs.declared.declared.Declared.TheVariants as declared
@@ -23,7 +21,7 @@ use Rattle.c_typing.specs.declared.typing.Reading.{Reading}
 use Rattle.c_typing.specs.declared.typing.Reading.TheVariants as reading
 use Rattle.c_typing.specs.Assignments
 use Rattle.c_typing.specs.Assignments.{part_expr, called, function_name, named_as, count_global, literal_size, is_char_array, string_type, literal}
-use Rattle.c_typing.specs.Conversions.{to_integer, is_taken_over, is_pointer_to_complete}
+use Rattle.c_typing.specs.Conversions.{is_taken_over, is_pointer_to_complete}
 use Rattle.c_typing.specs.Integers
 use Rattle.c_typing.specs.Integers.{char}
 use Rattle.c_typing.specs.Judging.{State, Gives, Stops, ◌>>=◌, pure, stop, by_known, new_node, type_with, new_pointer, void_type, integer_type}
@@ -34,11 +32,11 @@ use Rattle.c_typing.specs.Scopes.{name_in, place_among}
 use Rattle.c_typing.specs.Tests
 use Rattle.c_typing.specs.Tests.{Elaborated, AsPlace, AsValue, AsAllocation, has_some}
 use Rattle.c_typing_laws.specs.Numbers.{made_by_part}
-use Rattle.c_typing_laws.proofs.ExtensionLaws.{no_true}
 use Rattle.c_typing_laws.proofs.NumberedConstructs.{IsWhole, side-made}
 use Rattle.c_cells_kept.specs.Counted.{Stays, Moves}
 use Rattle.c_cells_kept.proofs.CellsMoved.{stays-same, stays-on, two-made, made-as, made-from, made-none, moves-none, node-stays, type_with-stays, array_may, new_pointer-made}
 use Rattle.c_typing_laws.proofs.Outcomes.{bind-gives, gives-value, gives-state, never-gives, construct-gives, leaf-gives}
+use Rattle.c_typing_laws.proofs.NumberedConstructs.{for-made, raw-made}
 
 -- what is given has what was counted
 abbrev pub IsCounted : State → Elaborated → State → Type 0
@@ -50,30 +48,6 @@ moves-same a x y s r h n =
 
 pub part_as : (a : State) (xs : List Made) (x y : Elaborated) (s r : State) → Gives x s ≡ Gives y r → made_by_part x ≡ xs → Moves xs a s → IsCounted a y r
 part_as a xs x y s r h e n = moves-same a x y s r h (made-as (made_by_part x) xs a s e n)
-
--- conversions make nothing
-
-pub to_integer-made : (at : Place) (t : TypeId) (e : TypedExpr) → made_by (to_integer at t e) ≡ made_by e
-to_integer-made at t e = by ((type_of e).0 == t.0)
-  where
-    by : (b : Bool) → made_by (if b then e else typed.Convert conversion.IntegerToInteger at t e) ≡ made_by e
-    by true = refl
-    by false = refl
-
-pub expr-made : (x : Elaborated) → made_by (part_expr x) ≡ made_by_part x
-expr-made (AsPlace p) = refl
-expr-made (AsValue e) = refl
-expr-made (AsAllocation e) = refl
-
-for-made : (t : TypeId) (e : TypedExpr) → made_by (made_for t e) ≡ made_by e
-for-made t (typed.Paren at e) = for-made t e
-for-made t (typed.AllocateFor runtime f at arguments u) = refl
-for-made t e = refl
-
-raw-made : (n : NodeId) (t : TypeId) (e : TypedExpr) → is_taken_over e ≡ true → made_by (made_raw n t e) ≡ made_by e ++ Address n ∷ []
-raw-made n t (typed.Paren at e) h = raw-made n t e h
-raw-made n t (typed.AllocateFor runtime f at arguments u) h = refl
-raw-made n t e h = no_true h
 
 -- Values
 

@@ -4,7 +4,7 @@ use Rattle.cc_base.specs.declared.place.Place.{Place}
 use Rattle.cc_base.specs.declared.number.TypeId.{TypeId}
 use Rattle.cc_base.specs.declared.fault.Fault.TheVariants.{Refused}
 use Rattle.cc_base.specs.declared.fault.Rule.TheVariants as rule
-use Rattle.c_types.specs.Table.{Table, shape_at}
+use Rattle.c_types.specs.Table.{shape_at}
 use Rattle.c_tree.specs.declared.leaf.Identifier.{Identifier}
 use Rattle.c_tree.specs.declared.operator.AggregateKind.{AggregateKind}
 use Rattle.c_tree.specs.Tree as tree
@@ -15,7 +15,6 @@ use Rattle.c_typing.specs.declared.declared.Tag.{Tag}
 use Rattle.c_typing.specs.declared.naming.Naming.{Naming}
 use Rattle.c_typing.specs.Checking.{checked, taken, value_tests, converted_part, converted_value, checked_value, Constant, constant_as, checked_constant}
 use Rattle.c_typing.specs.Constants.{constant_value}
-use Rattle.c_typing.specs.Conversions.{implicit}
 use Rattle.c_typing.specs.Declaring.{NotDerived, derived_by, is_function_by, unless_function, form_makes, entered, left}
 use Rattle.c_typing.specs.Judging.{State, Gives, next, pure}
 use Rattle.c_typing.specs.Operands.{Operand, Value, value, side_of}
@@ -30,7 +29,7 @@ use Rattle.c_typing.specs.Walks.{judge, judge_list, judge_alone_list, judge_valu
 use Rattle.c_typing_laws.specs.Numbers.{made_by_part}
 use Rattle.c_typing_laws.proofs.JudgedDeclarators.{entered-judged}
 use Rattle.c_typing_laws.proofs.JudgedTrees.{void_self}
-use Rattle.c_typing_laws.proofs.NumberedConstructs.{IsWhole, converted-made, side-made}
+use Rattle.c_typing_laws.proofs.NumberedConstructs.{IsWhole, side-made}
 use Rattle.c_typing_laws.proofs.NumberedTrees.{operand-whole, left_same}
 use Rattle.c_typing_laws.proofs.Outcomes.{bind-gives, unless-gives, gives-value, never-gives}
 use Rattle.c_typing_laws.proofs.ValuesTaken.{given-same}
@@ -40,6 +39,7 @@ use Rattle.c_cells_kept.proofs.CountedValues.{IsCounted, part_as, value-moves, g
 use Rattle.c_cells_kept.proofs.CountedOperands.{value-makes}
 use Rattle.c_cells_kept.proofs.CountedTrees.{expr-makes, specifiers-make, type_name-makes, form-makes, parameters-make}
 use Rattle.c_cells_kept.proofs.StepsKept.{obeying-keeps, tagged_by-keeps, form-keeps, entered-keeps, left-keeps}
+use Rattle.c_typing_laws.proofs.NumberedWhole.{converted_made}
 
 pub expr-moves : (called : Bool) (e : tree.Expr) (o : Operand) (s r : State) → IsKnown s → judge called e s ≡ Gives o r → Moves (made_by_part o.part) s r
 expr-moves called e o s r k h = expr-makes e called o s r k h
@@ -140,11 +140,6 @@ unfolding checked_constant
 constant-moves e c s r k h =
     let one = bind-gives (judge_value e s) (λ v. λ m. constant_as v (constant_value m.table v.expr) m) c r h in
     constant_by one.0 (constant_value one.1.table one.0.expr) c s one.1 r (value_here e one.0 s one.1 k one.2) one.3
-
-converted_made : (T : Table) (t : TypeId) (at : Place) (y : Elaborated) → made_by (converted_part T t at y) ≡ made_by_part y
-converted_made T t at (AsPlace p) = refl
-converted_made T t at (AsValue e) = converted-made at t e (implicit T e t)
-converted_made T t at (AsAllocation e) = refl
 
 taken-moves : (init : Bool) (t : TypeId) (x : Operand) (y : Elaborated) (a : State) (s r : State) → IsWhole x.part → IsCounted a x.part s → taken init t x s ≡ Gives y r → IsCounted a y r
 unfolding taken

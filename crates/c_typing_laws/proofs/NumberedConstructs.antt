@@ -74,7 +74,7 @@ part_as a xs x y s r h e n = numbered-same a x y s r h (made-as (made_by_part x)
 
 -- conversions make nothing
 
-to_integer-made : (at : Place) (t : TypeId) (e : TypedExpr) → made_by (to_integer at t e) ≡ made_by e
+pub to_integer-made : (at : Place) (t : TypeId) (e : TypedExpr) → made_by (to_integer at t e) ≡ made_by e
 to_integer-made at t e = by ((type_of e).0 == t.0)
   where
     by : (b : Bool) → made_by (if b then e else typed.Convert conversion.IntegerToInteger at t e) ≡ made_by e
@@ -90,17 +90,17 @@ pub side-made : (v : TypedExpr) → made_by_part (side_of v) ≡ made_by v
 side-made (typed.Unread p) = refl
 side-made v = refl
 
-expr-made : (x : Elaborated) → made_by (part_expr x) ≡ made_by_part x
+pub expr-made : (x : Elaborated) → made_by (part_expr x) ≡ made_by_part x
 expr-made (AsPlace p) = refl
 expr-made (AsValue e) = refl
 expr-made (AsAllocation e) = refl
 
-for-made : (t : TypeId) (e : TypedExpr) → made_by (made_for t e) ≡ made_by e
+pub for-made : (t : TypeId) (e : TypedExpr) → made_by (made_for t e) ≡ made_by e
 for-made t (typed.Paren at e) = for-made t e
 for-made t (typed.AllocateFor runtime f at arguments u) = refl
 for-made t e = refl
 
-raw-made : (n : NodeId) (t : TypeId) (e : TypedExpr) → is_taken_over e ≡ true → made_by (made_raw n t e) ≡ made_by e ++ Address n ∷ []
+pub raw-made : (n : NodeId) (t : TypeId) (e : TypedExpr) → is_taken_over e ≡ true → made_by (made_raw n t e) ≡ made_by e ++ Address n ∷ []
 raw-made n t (typed.Paren at e) h = raw-made n t e h
 raw-made n t (typed.AllocateFor runtime f at arguments u) h = refl
 raw-made n t e h = no_true h
@@ -294,7 +294,7 @@ address-numbered at x o a s r n h =
     by_part (AsValue e) m g = part_as a (made_by e) (AsValue (typed.AddressOfFunction at e)) o.part s r g refl m
     by_part (AsAllocation e) m g = never-gives o.part (TooLarge at Types) s r g
 
-operator-made : (operator : Unary) (T : Table) (at : Place) (e : TypedExpr) → made_by (operator_on T operator at e) ≡ made_by e
+pub operator-made : (operator : Unary) (T : Table) (at : Place) (e : TypedExpr) → made_by (operator_on T operator at e) ≡ made_by e
 operator-made operator T at e = by operator
   where
     promoted_by : (u : Unary) (k : Option IntegerType) → made_by (promoted_operand u at e k) ≡ made_by e
@@ -356,7 +356,7 @@ after-numbered operator at x o a s r n h =
 abbrev Both : TypedExpr → TypedExpr → List Made
 Both x y = made_by x ++ made_by y
 
-element-made : (x : TypedExpr) (at : Place) (y : TypedExpr) (t u : Option TypeId) → (has_some t || has_some u) ≡ true → made_by_part (element x at y t u) ≡ Both x y
+pub element-made : (x : TypedExpr) (at : Place) (y : TypedExpr) (t u : Option TypeId) → (has_some t || has_some u) ≡ true → made_by_part (element x at y t u) ≡ Both x y
 element-made x at y (Some t) u h = refl
 element-made x at y None (Some u) h = refl
 element-made x at y None None h = no_true h
@@ -407,7 +407,7 @@ module _ (T : Table) (x : TypedExpr) (at : Place) (y : TypedExpr) where
   kinds-made operator (Some j) None b c = pointers-made operator b c
   kinds-made operator None k b c = pointers-made operator b c
 
-  operation-made : (operator : Binary) → made_by (operation T operator x at y) ≡ Both x y
+  pub operation-made : (operator : Binary) → made_by (operation T operator x at y) ≡ Both x y
   operation-made operator = by (is_logical operator)
     where
       by : (b : Bool) → made_by (if b then typed.Logical operator x at y int_type
@@ -513,7 +513,7 @@ assign-numbered x at y o a m s r w n k h =
     by_part (AsValue e) l v q j g = never-gives o.part (TooLarge at Types) q r g
     by_part (AsAllocation e) l v q j g = never-gives o.part (TooLarge at Types) q r g
 
-updated-made : (operator : Assignment) (at : Place) (p : TypedPlace) (e : TypedExpr) (j k : Option IntegerType) → made_by (updated operator at p e j k) ≡ made_by_place p ++ made_by e
+pub updated-made : (operator : Assignment) (at : Place) (p : TypedPlace) (e : TypedExpr) (j k : Option IntegerType) → made_by (updated operator at p e j k) ≡ made_by_place p ++ made_by e
 updated-made operator at p e (Some j) (Some k) = ap (λ (l : List Made). made_by_place p ++ l) (to_integer-made at (integer_type (right_type (assigning operator) j k)) e)
 updated-made operator at p e (Some j) None = refl
 updated-made operator at p e None k = refl
@@ -585,7 +585,7 @@ choice-numbered c at x y o a s r n h =
     parts-numbered c.expr c.place at o.part a s r (side_of x.expr) (side_of y.expr)
     (made-as (Three c.expr (side_of x.expr) (side_of y.expr)) ((made_by c.expr ++ made_by x.expr) ++ made_by y.expr) a s.seen.node (λ i. (made_by c.expr ++ one i) ++ two i) n) g.part
 
-comma-made : (x : TypedExpr) (y : Elaborated) → made_by_part (comma_part x y) ≡ made_by x ++ made_by_part y
+pub comma-made : (x : TypedExpr) (y : Elaborated) → made_by_part (comma_part x y) ≡ made_by x ++ made_by_part y
 comma-made x (AsPlace p) = refl
 comma-made x (AsValue e) = refl
 comma-made x (AsAllocation e) = refl
@@ -683,7 +683,7 @@ module _ (T : Table) (f : TypedExpr) (at : Place) (vs : List Value) where
   result-made function arguments prototype.Void = refl
   result-made function arguments prototype.UnsignedLong = refl
 
-  call-made : (o : Option Runtime) → first_broken (Tests.call_tests_by o T at (shape_at T (type_of f)) (map argument_of vs)) ≡ None
+  pub call-made : (o : Option Runtime) → first_broken (Tests.call_tests_by o T at (shape_at T (type_of f)) (map argument_of vs)) ≡ None
       → made_by_part (called T f at vs o) ≡ made_by f ++ made_by_values vs
   call-made None u = shape-made (Tests.pointed_shape T (shape_at T (type_of f))) u
   call-made (Some function) u =

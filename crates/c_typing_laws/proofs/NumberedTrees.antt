@@ -71,7 +71,7 @@ then_makes xs ys s m r p q = two-made xs ys s.seen.node m.seen.node r.seen.node 
 pub still : (xs : List Made) (s m r : State) → r.seen.node ≡ m.seen.node → Makes xs s m → Makes xs s r
 still xs s m r e h = made-to xs s.seen.node m.seen.node r.seen.node e h
 
-whole_of : (T : Table) (e : tree.Expr) (x : Elaborated) (s s' : Scopes) → IsElaborated T e x s s' → IsWhole x
+pub whole_of : (T : Table) (e : tree.Expr) (x : Elaborated) (s s' : Scopes) → IsElaborated T e x s s' → IsWhole x
 whole_of T e (AsPlace p) s s' h = tt
 whole_of T e (AsValue v) s s' h = tt
 whole_of T e (AsAllocation v) s s' h = h.2

@@ -134,7 +134,7 @@ constant-numbers e c s r k h =
     let one = bind-gives (judge_value e s) (λ v. λ m. constant_as v (constant_value m.table v.expr) m) c r h in
     constant_by one.0 (constant_value one.1.table one.0.expr) c s one.1 r (value_here e one.0 s one.1 k one.2) one.3
 
-converted_made : (T : Table) (t : TypeId) (at : Place) (y : Elaborated) → made_by (converted_part T t at y) ≡ made_by_part y
+pub converted_made : (T : Table) (t : TypeId) (at : Place) (y : Elaborated) → made_by (converted_part T t at y) ≡ made_by_part y
 converted_made T t at (AsPlace p) = refl
 converted_made T t at (AsValue e) = converted-made at t e (implicit T e t)
 converted_made T t at (AsAllocation e) = refl

@@ -1,4 +1,4 @@
 mod code;
 mod memory;
-mod runs;
+mod programs;
 mod tags;

@@ -1,0 +1,4 @@
+pub mod Uses
+pub mod Spending
+pub mod Given
+pub mod Limits

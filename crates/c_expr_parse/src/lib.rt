@@ -51,6 +51,3 @@ pub use nesting::{read_declarator, read_expr, read_specifiers};
 pub use next::Next;
 pub use stop::{Stop, too_deep};
 pub use words::Scope;
-
-#[cfg(test)]
-mod tests;

@@ -20,6 +20,3 @@ pub use position::end_of;
 pub use punctuator::Punctuator;
 pub use token::{Token, TokenKind};
 pub use word::Keyword;
-
-#[cfg(test)]
-mod tests;

@@ -13,6 +13,3 @@ mod units;
 
 pub use laws::{one_answer_is_right, units_are_spelled_once};
 pub use units::parse_unit;
-
-#[cfg(test)]
-mod tests;

@@ -35,6 +35,3 @@ pub use typed_statement::{
 };
 pub use typed_unit::{Printed, Typed};
 pub use typed_word::{Adjusted, Conversion, Home, Runtime, Side, TypedStar};
-
-#[cfg(test)]
-mod tests;

@@ -16,6 +16,3 @@ pub use layout::Layout;
 pub use shape::{TypeList, TypeShape};
 pub use site::Site;
 pub use table::Types;
-
-#[cfg(test)]
-mod tests;

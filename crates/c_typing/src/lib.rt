@@ -21,6 +21,3 @@ pub mod value;
 pub use declared::{Declared, Tag};
 pub use naming::Naming;
 pub use scope::Scope;
-
-#[cfg(test)]
-mod tests;

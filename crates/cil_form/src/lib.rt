@@ -16,6 +16,3 @@ pub use number::{FunctionNumber, Object, Planned, StaticNumber, Temp, VariableNu
 pub use program::{
     Bytes, Function, Functions, Locals, Parameter, Parameters, Program, Sites, Static, Statics,
 };
-
-#[cfg(test)]
-mod tests;

@@ -10,6 +10,3 @@ mod verdict;
 pub use building::{Built, build};
 pub use top::ccured;
 pub use verdict::Verdict;
-
-#[cfg(test)]
-mod tests;

@@ -12,6 +12,3 @@ pub use instr::{Code, Instr, Narrow};
 pub use parts::{
     AreaLine, Bytes, Function, Functions, GlobalLine, Globals, Locals, Parents, Parts, Sig, Sigs,
 };
-
-#[cfg(test)]
-mod tests;

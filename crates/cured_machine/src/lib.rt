@@ -21,6 +21,3 @@ mod words;
 
 pub use ending::Ending;
 pub use machine::Machine;
-
-#[cfg(test)]
-mod tests;

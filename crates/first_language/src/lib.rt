@@ -13,6 +13,3 @@ mod tree;
 
 pub use programs::{parse, text_is_one_program};
 pub use tree::{Item, Program, Value};
-
-#[cfg(test)]
-mod tests;

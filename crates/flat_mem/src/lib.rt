@@ -62,6 +62,3 @@ pub struct Plan {
     pub stack: u64,
     pub heap: u64,
 }
-
-#[cfg(test)]
-mod tests;

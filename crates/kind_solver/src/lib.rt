@@ -12,8 +12,6 @@ mod sets;
 mod solved;
 mod solver;
 mod spreading;
-#[cfg(test)]
-mod tests;
 
 pub use cause::Cause;
 pub use causes::Causes;

@@ -16,8 +16,6 @@ mod order;
 mod phys;
 mod round;
 mod spot;
-#[cfg(test)]
-mod tests;
 mod tiling;
 mod top;
 

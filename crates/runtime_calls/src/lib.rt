@@ -7,6 +7,3 @@ mod naming;
 pub use c_tree::Runtime;
 pub use function::{RuntimeType, name_of, parameters_of, result_of};
 pub use naming::runtime;
-
-#[cfg(test)]
-mod tests;

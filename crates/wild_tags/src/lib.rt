@@ -134,6 +134,3 @@ pub fn tdepth(flat: &Flat, a: u64, b: u64, n: u64) -> u64
     }
     depth
 }
-
-#[cfg(test)]
-mod tests;

@@ -1,0 +1,3 @@
+mod curing;
+mod language;
+mod top;

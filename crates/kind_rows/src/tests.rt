@@ -1,0 +1,3 @@
+mod blocks;
+mod pairs;
+mod solutions;

@@ -1,0 +1,4 @@
+mod code;
+mod memory;
+mod runs;
+mod tags;

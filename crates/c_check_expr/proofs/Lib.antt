@@ -1,7 +1,5 @@
-pub mod TagLaws
 pub mod SeriesLaws
 pub mod StayLaws
-pub mod PlaceLaws
 pub mod OutcomeLaws
 pub mod NameLaws
 pub mod StarLaws

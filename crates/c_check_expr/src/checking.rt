@@ -9,16 +9,16 @@ ghost use Rattle.c_tree.specs.TypedViews.{typed_expr_view, typed_specifiers_view
 ghost use Rattle.c_typing.specs.Checking as checking;
 ghost use Rattle.c_typing.specs.Declaring as declaring;
 ghost use Rattle.c_check_expr.specs.CheckingViews.{constant_view};
-ghost use Rattle.c_check_expr.specs.MakingViews.{nearest_view};
+ghost use Rattle.c_check_declarators.specs.MakingViews.{nearest_view};
 ghost use Rattle.c_typing.specs.Judging.{Answers, known};
 ghost use Rattle.c_typing.specs.OperandViews.{operand_view, part_view, value_view, part_ref_view};
 ghost use Rattle.c_typing.specs.Walks as walks;
 
-use crate::derived::{Derived, derived_by, is_function_by};
-use crate::making::{Nearest, form_makes};
-use crate::places::{declarator_name, name_place};
-use crate::specifying::tagged_alone;
 use crate::walk::{judge_expr, judge_form, judge_specifiers};
+use c_check_declarators::derived::{Derived, derived_by, is_function_by};
+use c_check_declarators::making::{Nearest, form_makes};
+use c_check_declarators::places::{declarator_name, name_place};
+use c_check_declarators::specifying::tagged_alone;
 use c_check_operators::conversion::{converted_to, fits, given};
 use c_tree::{
     AggregateKind, Boxed, Declarator, Expr, Identifier, Items, Specifier, Specifiers,

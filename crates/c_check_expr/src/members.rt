@@ -17,9 +17,9 @@ ghost use Rattle.c_typing.specs.Refusals.{has_name};
 ghost use Rattle.c_typing.specs.Scopes.{Name, place_among};
 ghost use Rattle.c_typing.specs.Walks as walks;
 
-use crate::making::{Nearest, form_makes};
-use crate::places::{declarator_name, name_place};
 use crate::walker::Walker;
+use c_check_declarators::making::{Nearest, form_makes};
+use c_check_declarators::places::{declarator_name, name_place};
 use c_tree::{
     Declarator, Expr, Identifier, Items, Members, Specifiers, TypedDeclarator, TypedForm,
     TypedMembers, TypedSpecifiers,

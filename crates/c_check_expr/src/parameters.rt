@@ -15,17 +15,17 @@ ghost use Rattle.c_typing.specs.KindViews.{shape_or_void};
 ghost use Rattle.c_check_expr.specs.Nests.{Nests};
 ghost use Rattle.c_typing.specs.Refusals.{declared_identifier, is_here, is_void_alone};
 ghost use Rattle.c_tree.specs.TypedParts.{home_of_core, home_of_form, name_of_core, name_of_form};
-ghost use Rattle.c_check_expr.specs.DerivedViews.{derived_view};
+ghost use Rattle.c_check_declarators.specs.DerivedViews.{derived_view};
 ghost use Rattle.c_typing.specs.Specifying.{obeying};
 ghost use Rattle.c_typing.specs.Tests as tests;
 ghost use Rattle.c_typing.specs.Tests.{first_broken};
 ghost use Rattle.c_typing.specs.Walks as walks;
 
 use crate::declarators::node_at;
-use crate::derived::{Derived, adjusted_at, derived_by_declared};
-use crate::making::{Nearest, declared_makes, is_derived};
-use crate::places::declared_place;
 use crate::walker::Walker;
+use c_check_declarators::derived::{Derived, adjusted_at, derived_by_declared};
+use c_check_declarators::making::{Nearest, declared_makes, is_derived};
+use c_check_declarators::places::declared_place;
 use c_lexer::Keyword;
 use c_tree::{
     Adjusted, Declarator, Expr, Home, Identifier, Items, Parameter, Specifier, Specifiers,

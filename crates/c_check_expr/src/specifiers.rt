@@ -13,10 +13,10 @@ ghost use Rattle.c_check_expr.specs.NamedViews.{named_view};
 ghost use Rattle.c_typing.specs.Specifying as specifying;
 ghost use Rattle.c_typing.specs.Walks as walks;
 
-use crate::aggregates::{begun, ended, tag_named_here, tag_place};
-use crate::specifying::{declare_tag_of, enum_named, tagged, tagged_alone, typedef_name, word};
 use crate::walker::Walker;
-use crate::words::Words;
+use c_check_declarators::aggregates::{begun, ended, tag_named_here, tag_place};
+use c_check_declarators::specifying::{declare_tag_of, enum_named, tagged, typedef_name, word};
+use c_check_declarators::words::Words;
 use c_tree::{
     AggregateKind, Declarator, Enumerator, Expr, Identifier, Items, Members, Specifier, Specifiers,
     TypedForm, TypedSpecifier, TypedSpecifiers,

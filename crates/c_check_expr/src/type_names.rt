@@ -8,9 +8,9 @@ ghost use Rattle.c_typing.specs.Judging.{Answers, known};
 ghost use Rattle.c_check_expr.specs.Nests.{Nests};
 ghost use Rattle.c_typing.specs.Walks as walks;
 
-use crate::making::{Nearest, declared_makes};
-use crate::places::declared_place;
 use crate::walker::Walker;
+use c_check_declarators::making::{Nearest, declared_makes};
+use c_check_declarators::places::declared_place;
 use c_tree::{
     Boxed, Declarator, Expr, Specifiers, TypeName, TypedForm, TypedSpecifiers, TypedTypeName,
 };

@@ -3,7 +3,7 @@ use Rattle.c_tree.specs.TypedViews.{typed_parameter_view}
 use Rattle.c_tree.specs.Views.{parameter_view}
 use Rattle.c_typing.specs.Judging.{known}
 use Rattle.c_typing.specs.Walks.{judge_parameters}
-use Rattle.c_check_expr.specs.DerivedViews.{derived_view}
+use Rattle.c_check_declarators.specs.DerivedViews.{derived_view}
 use Rattle.c_check_expr.proofs.OutcomeLaws.{answers-moved}
 use Rattle.c_check_expr.proofs.ParameterLaws.{parameter_seen}
 use Rattle.c_check_expr.proofs.SpecifiedLaws.{parameter_goes}

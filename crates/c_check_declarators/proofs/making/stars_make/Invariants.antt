@@ -1,7 +1,7 @@
 use Rattle.std.proofs.Common.{◌≡◌, length}
 use Rattle.c_typing.specs.Declaring as declaring
 use Rattle.c_typing.specs.Judging.{known}
-use Rattle.c_check_expr.proofs.making.stars_make.Given as goal
+use Rattle.c_check_declarators.proofs.making.stars_make.Given as goal
 
 -- what the rest makes of this type is what all the stars make
 abbrev pub invariant-outwards : goal.invariant-outwards

@@ -3,7 +3,7 @@
 
 ghost use Rattle.std.specs.Prelude.{◌≡◌, ◌<◌, IfSome, None, Some, true, false, if◌then◌else◌};
 ghost use Rattle.c_typing.specs.Declarators.{are_allowed, counting_word, none_counted, words_shape};
-ghost use Rattle.c_check_expr.specs.WordViews.{tally_view, IsSmall};
+ghost use Rattle.c_check_declarators.specs.WordViews.{tally_view, IsSmall};
 ghost use Rattle.c_typing.specs.Specifying.{words_type};
 ghost use Rattle.c_typing.specs.Refusals.{one_named};
 
@@ -72,12 +72,12 @@ fn with_one_named(t: Tally) -> Tally
 
 /// Words and names that may stand together.
 #[derive(Drop)]
-pub(crate) struct Words(Tally);
+pub struct Words(Tally);
 
 impl Model for Words {
     ghost use Rattle.std.specs.Prelude.{IsTrue};
     ghost use Rattle.c_typing.specs.Declarators.{Counted, are_allowed};
-    ghost use Rattle.c_check_expr.specs.WordViews.{tally_view};
+    ghost use Rattle.c_check_declarators.specs.WordViews.{tally_view};
 
     ghost Value = { Counted };
 
@@ -87,7 +87,8 @@ impl Model for Words {
 }
 
 impl Words {
-    pub(crate) fn none() -> Words
+    /// No words and no names.
+    pub fn none() -> Words
         ensures { result ≡ none_counted }
     {
         Words(Tally {
@@ -112,7 +113,7 @@ impl Words {
     }
 
     /// With a name of a type more, if it goes with them.
-    pub(crate) fn with_name(&self) -> Option<Words>
+    pub fn with_name(&self) -> Option<Words>
         ensures { result ≡ (if are_allowed (one_named self.now) then Some (one_named self.now) else None) }
     {
         let t = with_one_named(self.0);
@@ -120,7 +121,7 @@ impl Words {
     }
 
     /// The type that the words name, where no name of a type stands among them.
-    pub(crate) fn ty(&self) -> TypeId
+    pub fn ty(&self) -> TypeId
         ensures { result ≡ words_type self.now }
     {
         let t = self.0;

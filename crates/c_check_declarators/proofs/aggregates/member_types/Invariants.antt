@@ -3,7 +3,7 @@ use Rattle.c_tree.specs.TypedTree.{NoMember}
 use Rattle.c_tree.specs.TypedViews.{typed_members_view}
 use Rattle.c_tree.specs.Views.{added}
 use Rattle.c_typing.specs.Declarators.{member_types}
-use Rattle.c_check_expr.proofs.aggregates.member_types.Given as goal
+use Rattle.c_check_declarators.proofs.aggregates.member_types.Given as goal
 
 -- the types of the rows so far
 abbrev pub invariant-loop-row : goal.invariant-loop-row

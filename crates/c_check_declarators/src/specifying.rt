@@ -24,7 +24,7 @@ use cc_base::{Fault, NoMemory, Place, Rule, TypeId};
 
 /// A storage word, a qualifier, or a word for a type.
 #[tactic(auto, using(c_tree::proofs::TypedViewLaws::typed_views), unfolding(c_typing::specs::Specifying::word))]
-pub(crate) fn word(before: &Words, w: Word) -> Result<(TypedSpecifier, Words), Fault>
+pub fn word(before: &Words, w: Word) -> Result<(TypedSpecifier, Words), Fault>
     ensures answers { (s : State) → Answers (λ r. typed_specifier_view r.0) (specifying.word before.now w s) result s }
     ensures counts { IfOk result (λ r. r.1 ≡ counting (typed_specifier_view r.0) before.now) }
 {
@@ -47,7 +47,7 @@ fn typedef_named(scope: &Scope, name: &Identifier) -> Result<TypeId, Fault>
 
 /// A name of a type.
 #[tactic(auto, using(c_tree::proofs::TypedViewLaws::typed_views), unfolding(c_typing::specs::Specifying::typedef_name))]
-pub(crate) fn typedef_name(
+pub fn typedef_name(
     scope: &Scope,
     types: &Types,
     before: &Words,
@@ -75,7 +75,7 @@ fn shape_of_kind(which: AggregateKind, number: u32) -> TypeShape
 }
 
 /// A tag is declared in the innermost scope, where there is one.
-pub(crate) fn declare_tag_of(
+pub fn declare_tag_of(
     scope: &mut Scope,
     name: Option<&Identifier>,
     what: Tag,
@@ -164,7 +164,7 @@ fn tagged_as(
 
 /// `struct S`, `union U`: the tag that is seen, or a new one in the innermost scope.
 #[tactic(auto, using(c_tree::proofs::TypedViewLaws::typed_views, crate::proofs::TagLaws::not_here), unfolding(c_typing::specs::Specifying::tagged, c_typing::specs::Specifying::tagged_by))]
-pub(crate) fn tagged(
+pub fn tagged(
     scope: &mut Scope,
     types: &mut Types,
     before: &Words,
@@ -189,7 +189,7 @@ pub(crate) fn tagged(
 
 /// `struct S` by itself declares its tag in the innermost scope. Its type comes beside it, which is that of the list.
 #[tactic(auto, using(c_tree::proofs::TypedViewLaws::typed_views), unfolding(c_typing::specs::Specifying::tagged_alone, c_typing::specs::Specifying::tagged_by))]
-pub(crate) fn tagged_alone(
+pub fn tagged_alone(
     scope: &mut Scope,
     types: &mut Types,
     which: AggregateKind,
@@ -227,7 +227,7 @@ fn enum_fault(scope: &Scope, name: &Identifier) -> Option<Fault>
 
 /// `enum E`.
 #[tactic(auto, using(c_tree::proofs::TypedViewLaws::typed_views), unfolding(c_typing::specs::Specifying::enum_tag))]
-pub(crate) fn enum_named(
+pub fn enum_named(
     scope: &Scope,
     types: &Types,
     before: &Words,

@@ -36,7 +36,7 @@ fn core_name(core: &Core) -> Option<&Identifier>
 }
 
 /// The place of the name, or another where there is none.
-pub(crate) fn name_place(name: Option<&Identifier>, at: Place) -> Place
+pub fn name_place(name: Option<&Identifier>, at: Place) -> Place
     ensures { result ≡ name_place (option_copied name.entry) at }
 {
     match name {
@@ -80,7 +80,7 @@ pub(crate) fn specifiers_place(specifiers: &Specifiers) -> Place
 
 /// The place at which the type of a declarator is named: that of its name, or else of its first specifier.
 #[tactic(auto, using(c_tree::proofs::ViewLaws::expr_views))]
-pub(crate) fn declared_place(specifiers: &Specifiers, d: &Option<Declarator>) -> Place
+pub fn declared_place(specifiers: &Specifiers, d: &Option<Declarator>) -> Place
     ensures { result ≡ walks.declared_place (specifiers_view specifiers.now) (declared_of (option_map declarator_view d.now)) }
 {
     let at = specifiers_place(specifiers);

@@ -4,8 +4,8 @@ use Rattle.c_tree.specs.TypedViews.{typed_part_view}
 use Rattle.c_tree.specs.Views.{added}
 use Rattle.c_typing.specs.Declaring as declaring
 use Rattle.c_typing.specs.Judging.{known}
-use Rattle.c_check_expr.specs.MakingViews.{nearest_view}
-use Rattle.c_check_expr.proofs.making.parts_make.Given as goal
+use Rattle.c_check_declarators.specs.MakingViews.{nearest_view}
+use Rattle.c_check_declarators.proofs.making.parts_make.Given as goal
 
 -- what the rest makes of this type is what all the parts make
 abbrev pub invariant-inwards : goal.invariant-inwards

@@ -1,8 +1,8 @@
 use Rattle.std.proofs.Common.{◌≡◌, ◌∙◌, length, rules}
 use Rattle.c_typing.specs.Judging.{known}
-use Rattle.c_check_expr.specs.MakingViews.{nearest_view}
-use Rattle.c_check_expr.proofs.PartLaws.{no_part_makes}
-use Rattle.c_check_expr.proofs.making.parts_make.Goals as goal
+use Rattle.c_check_declarators.specs.MakingViews.{nearest_view}
+use Rattle.c_check_declarators.proofs.PartLaws.{no_part_makes}
+use Rattle.c_check_declarators.proofs.making.parts_make.Goals as goal
 
 pub returns : goal.returns
 returns c =

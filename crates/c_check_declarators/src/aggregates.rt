@@ -30,7 +30,7 @@ use c_typing::stops::{no_room, refusal};
 use cc_base::{Fault, NoMemory, Place, Rule, TypeId};
 
 /// The tag, or the keyword where there is none.
-pub(crate) fn tag_place(at: Place, name: Option<&Identifier>) -> Place
+pub fn tag_place(at: Place, name: Option<&Identifier>) -> Place
     ensures { result ≡ tag_place at (option_copied name.entry) }
 {
     match name {
@@ -40,7 +40,7 @@ pub(crate) fn tag_place(at: Place, name: Option<&Identifier>) -> Place
 }
 
 /// What the innermost scope declares a tag as, where there is a tag.
-pub(crate) fn tag_named_here(scope: &Scope, name: Option<&Identifier>) -> Option<Tag>
+pub fn tag_named_here(scope: &Scope, name: Option<&Identifier>) -> Option<Tag>
     ensures { result ≡ tag_named_here scope.now.scopes (option_copied name.entry) }
 {
     match name {
@@ -64,7 +64,7 @@ fn is_taken_tag(scope: &Scope, types: &Types, which: AggregateKind, found: Optio
 
 /// `struct S { .. }` begins: with its type, or with none where the innermost scope has its tag as something else, or complete.
 #[tactic(auto, unfolding(c_typing::specs::Specifying::begun, c_typing::specs::Specifying::begun_as))]
-pub(crate) fn begun(
+pub fn begun(
     scope: &mut Scope,
     types: &mut Types,
     which: AggregateKind,
@@ -233,7 +233,7 @@ fn completed(
 
 /// `struct S { .. }` ends, with the words and names that stand before it and itself.
 #[tactic(auto, unfolding(c_typing::specs::Specifying::ended))]
-pub(crate) fn ended(
+pub fn ended(
     scope: &mut Scope,
     types: &mut Types,
     before: &Words,

@@ -8,7 +8,7 @@ ghost use Rattle.c_tree.specs.Views.{added};
 ghost use Rattle.c_typing.specs.Declarators.{Outermost, Written, is_no_part, is_pointed, is_void_list, is_void_word, parameter_types, taken_types, nearest, is_derived, is_derived_core};
 ghost use Rattle.c_typing.specs.Judging.{Answers, State, known, next};
 ghost use Rattle.c_typing.specs.Declaring as declaring;
-ghost use Rattle.c_check_expr.specs.MakingViews.{nearest_view};
+ghost use Rattle.c_check_declarators.specs.MakingViews.{nearest_view};
 ghost use Rattle.c_typing.specs.Tests as tests;
 ghost use Rattle.c_typing.specs.Tests.{first_broken};
 
@@ -26,7 +26,7 @@ const MOST_PARAMETERS: usize = 127;
 
 /// What the part that stands nearest to the name is.
 #[derive(Clone, Copy)]
-pub(crate) enum Nearest {
+pub enum Nearest {
     /// An array or function as it is written.
     Written,
     /// An array whose missing size is known.
@@ -398,7 +398,7 @@ fn stars_make(
 
 /// Whether stars or parts stand round the name.
 #[tactic(auto, using(c_tree::proofs::TypedViewLaws::typed_views, c_tree::proofs::PushLaws::pushes))]
-pub(crate) fn is_derived(form: &TypedForm) -> bool
+pub fn is_derived(form: &TypedForm) -> bool
     ensures { result ≡ is_derived (typed_form_view form.now) }
 {
     if let Some((_star, _)) = form.stars.as_slice().split_first() {
@@ -428,7 +428,7 @@ fn is_derived_core(core: &TypedCore) -> bool
 
 /// What a form makes of a type: its stars first, then its parts, then what stands in its parentheses.
 #[tactic(auto, using(c_tree::proofs::TypedViewLaws::typed_views), unfolding(c_typing::specs::Declaring::form_makes, c_typing::specs::Declaring::core_makes))]
-pub(crate) fn form_makes(
+pub fn form_makes(
     scope: &Scope,
     types: &mut Types,
     at: Place,
@@ -453,7 +453,7 @@ pub(crate) fn form_makes(
 
 /// What a declarator that may be left out makes of a type.
 #[tactic(auto, using(c_tree::proofs::TypedViewLaws::typed_views), unfolding(c_typing::specs::Declaring::declared_makes))]
-pub(crate) fn declared_makes(
+pub fn declared_makes(
     scope: &Scope,
     types: &mut Types,
     at: Place,

@@ -6,7 +6,7 @@ ghost use Rattle.c_types.specs.Table.{shape_at};
 ghost use Rattle.c_tree.specs.Tree.{Parts, NoPart};
 ghost use Rattle.c_tree.specs.Views.{added, core_view, declarator_view, declared_of, part_view};
 ghost use Rattle.c_typing.specs.Declaring as declaring;
-ghost use Rattle.c_check_expr.specs.DerivedViews.{derived_view};
+ghost use Rattle.c_check_declarators.specs.DerivedViews.{derived_view};
 
 use c_tree::{Core, Declarator, Part};
 use c_types::{TypeShape, Types};
@@ -15,7 +15,7 @@ use cc_base::{Place, TypeId};
 
 /// What stands nearest to the name: nothing, a star, or a part with its place.
 #[derive(Clone, Copy)]
-pub(crate) enum Derived {
+pub enum Derived {
     Nothing,
     ByStar,
     ByArray(Place),
@@ -48,9 +48,10 @@ fn by_parts(parts: &[Part], outer: Derived) -> Derived
     nearest
 }
 
+/// What stands nearest to the name, where this stands round the declarator.
 #[cycle(derived_by)]
 #[tactic(auto, using(c_tree::proofs::ViewLaws::expr_views))]
-pub(crate) fn derived_by(d: &Declarator, outer: Derived) -> Derived
+pub fn derived_by(d: &Declarator, outer: Derived) -> Derived
     ensures { derived_view result ≡ declaring.derived_by (declarator_view d.now) (derived_view outer) }
 {
     let stars = match d.stars.as_slice().split_first() {
@@ -72,7 +73,8 @@ fn derived_by_core(core: &Core, outer: Derived) -> Derived
     }
 }
 
-pub(crate) fn derived_by_declared(d: &Option<Declarator>) -> Derived
+/// What stands nearest to the name of a declarator that may be left out.
+pub fn derived_by_declared(d: &Option<Declarator>) -> Derived
     ensures { derived_view result ≡ declaring.derived_by_declared (declared_of (option_map declarator_view d.now)) }
 {
     match d {
@@ -82,7 +84,7 @@ pub(crate) fn derived_by_declared(d: &Option<Declarator>) -> Derived
 }
 
 /// Whether a declarator makes its name a function, of a type.
-pub(crate) fn is_function_by(types: &Types, derived: Derived, base: TypeId) -> bool
+pub fn is_function_by(types: &Types, derived: Derived, base: TypeId) -> bool
     ensures { result ≡ declaring.is_function_by (derived_view derived) (shape_at types.now base) }
 {
     match derived {
@@ -94,12 +96,7 @@ pub(crate) fn is_function_by(types: &Types, derived: Derived, base: TypeId) -> b
 }
 
 /// The place at which a parameter is made a pointer, if it is.
-pub(crate) fn adjusted_at(
-    types: &Types,
-    derived: Derived,
-    base: TypeId,
-    named: Place,
-) -> Option<Place>
+pub fn adjusted_at(types: &Types, derived: Derived, base: TypeId, named: Place) -> Option<Place>
     ensures { result ≡ declaring.adjusted_at (derived_view derived) (shape_at types.now base) named }
 {
     match derived {

@@ -1,7 +1,7 @@
 -- What the code counts of words, as plain data.
 use Rattle.std.specs.Prelude.{◌<◌}
 use Rattle.c_typing.specs.Declarators.{Counted}
-use Rattle.c_check_expr.specs.declared.words.Tally.{Tally}
+use Rattle.c_check_declarators.specs.declared.words.Tally.{Tally}
 
 abbrev pub tally_view : Tally → Counted
 tally_view t = record {

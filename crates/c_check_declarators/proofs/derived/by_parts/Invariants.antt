@@ -2,8 +2,8 @@ use Rattle.std.proofs.Common.{◌≡◌, map, length}
 use Rattle.c_tree.specs.Tree.{NoPart}
 use Rattle.c_tree.specs.Views.{added, part_view}
 use Rattle.c_typing.specs.Declaring as declaring
-use Rattle.c_check_expr.specs.DerivedViews.{derived_view}
-use Rattle.c_check_expr.proofs.derived.by_parts.Given as goal
+use Rattle.c_check_declarators.specs.DerivedViews.{derived_view}
+use Rattle.c_check_declarators.proofs.derived.by_parts.Given as goal
 
 -- from the rest on the whole gives the same
 abbrev pub invariant-inwards : goal.invariant-inwards

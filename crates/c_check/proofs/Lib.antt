@@ -1,11 +1,7 @@
-pub mod LinkageLaws
-pub mod SlotLaws
-pub mod SeriesLaws
-pub mod LiteralLaws
-pub mod DeclaratorLaws
+pub mod StayLaws
 pub mod ParameterLaws
 pub mod LabelLaws
-pub mod ConflictLaws
+pub mod DefinitionLaws
 pub mod LeaveLaws
 pub mod WholeLaws
 pub mod UnitFacts

@@ -6,7 +6,7 @@ use Rattle.c_tree.specs.declared.typed_expr.TypedCore.TheFolds.{fold_out-TypedPa
 use Rattle.c_tree.specs.declared.typed_expr.TypedParameter.{TypedParameter}
 use Rattle.c_unit_typing.specs.UnitJudging.{Stops}
 use Rattle.c_unit_typing.specs.DefinitionJudging.{declare_parameters}
-use Rattle.c_check.proofs.SeriesLaws.{Stays}
+use Rattle.c_check_declarations.proofs.SeriesLaws.{Stays}
 
 pub parameters-stay : Stays {X = TypedParameter} declare_parameters typed_parameter_view
 unfolding declare_parameters

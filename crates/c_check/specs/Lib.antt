@@ -1,5 +1,4 @@
 pub mod Labels
 pub mod CodeViews
-pub mod ContextViews
 pub mod Judged
 pub mod KeptLimits

@@ -2,7 +2,7 @@
 #![tactic(auto)]
 
 ghost use Rattle.std.specs.Prelude.{◌≡◌};
-ghost use Rattle.c_check.specs.ContextViews.{around_view};
+ghost use Rattle.c_check.specs.CodeViews.{around_view};
 ghost use Rattle.c_unit_typing.specs.Units as units;
 
 use cc_base::TypeId;

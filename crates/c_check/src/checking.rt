@@ -4,14 +4,14 @@
 ghost use Rattle.std.specs.Prelude.{◌≡◌, IfOk};
 ghost use Rattle.c_tree.specs.StatementViews.{unit_view};
 ghost use Rattle.c_tree.specs.TypedStatementViews.{typed_unit_view};
-ghost use Rattle.c_check.specs.ContextViews.{state_of};
+ghost use Rattle.c_check_context.specs.ContextViews.{state_of};
 ghost use Rattle.c_check.specs.Judged.{IsAnswered};
 ghost use Rattle.c_printed.specs.Printing.{AreInOrder, HasPrinted};
 ghost use Rattle.c_unit_typing.specs.DefinitionJudging.{judged_unit};
 ghost use Rattle.c_unit_typing.specs.UnitJudging.{Gives};
 
-use crate::context::Context;
-use crate::units::before_unit;
+use crate::units::{before_unit, whole};
+use c_check_context::Context;
 use c_printed::printed_nodes;
 use c_tree::{Typed, TypedUnit, Unit};
 use cc_base::{Fault, NoMemory};
@@ -47,7 +47,7 @@ pub(crate) fn checked(alloc: Global, unit: &Unit) -> Result<Typed, Fault>
     ensures { IsAnswered (unit_view unit.now) result }
 {
     let mut context = before_unit(alloc, unit)?;
-    match context.whole(unit) {
+    match whole(&mut context, unit) {
         Ok(whole) => finished(alloc, unit, context, whole),
         Err(fault) => Err(fault),
     }

@@ -14,17 +14,20 @@ ghost use Rattle.c_typing.specs.declared.declared.Declared.TheVariants as declar
 ghost use Rattle.c_typing.specs.Scopes.{place_among};
 ghost use Rattle.c_typing.specs.Tests.{first_broken, has_some};
 ghost use Rattle.runtime_calls.specs.Prototypes.{runtime_of};
-ghost use Rattle.c_check.specs.CodeViews.{declares_last, parameters_seen, storage_view};
-ghost use Rattle.c_check.specs.ContextViews.{state_of};
+ghost use Rattle.c_check.specs.CodeViews.{declares_last, parameters_seen};
+ghost use Rattle.c_check_context.specs.CodeViews.{storage_view};
+ghost use Rattle.c_check_context.specs.ContextViews.{state_of};
 ghost use Rattle.c_unit_typing.specs.UnitJudging.{Answers, Gives, known_of, UnitState};
 ghost use Rattle.c_unit_typing.specs.UnitRefusals.{definition_tests, is_function_declared};
 ghost use Rattle.c_unit_typing.specs.Units as units;
 ghost use Rattle.c_unit_typing.specs.DefinitionJudging as judging;
 
 use crate::around::Around;
-use crate::conflicts::{declared_as, runtime_of};
-use crate::context::Context;
-use crate::homes::{Storage, home_of, name_of, naming_for, storage_of};
+use crate::blocks::{enter, leave};
+use crate::statements::block_items;
+use c_check_context::Context;
+use c_check_context::conflicts::{declared_as, runtime_of};
+use c_check_context::homes::{Storage, home_of, name_of, naming_for, storage_of};
 use c_check_expr::places::declarator_name;
 use c_tree::{
     BlockItem, FunctionDefinition, Home, Identifier, Items, TypedBlockItem, TypedCore,
@@ -136,168 +139,169 @@ fn result_of(shape: Option<&TypeShape>) -> Option<TypeId>
     }
 }
 
-impl Context {
-    /// A parameter is a name of the body's scope, where it has a name.
-    #[tactic(auto, using(c_tree::proofs::TypedViewLaws::typed_views), unfolding(c_unit_typing::specs::DefinitionJudging::declare_parameters, c_unit_typing::specs::DefinitionJudging::declare_parameter))]
-    fn declare_parameter(&mut self, parameter: &TypedParameter) -> Result<(), Fault>
-        ensures { (all : SeenParameters) (start : UnitState) → judging.declare_parameters all start ≡ Gives (declares_last all) (state_of self.old) → Answers (λ u. declares_last (typed_parameter_view parameter.now all)) (judging.declare_parameters (typed_parameter_view parameter.now all) start) result (state_of self.new) }
-    {
-        let Some(form) = &parameter.declarator else {
-            return Ok(());
-        };
-        let Home::Parameter(n) = home_of(form) else {
-            return Ok(());
-        };
-        match name_of(form) {
-            Some(name) => self.new_name(name, Declared::Object(parameter.ty, n)),
-            None => Ok(()),
-        }
+/// A parameter is a name of the body's scope, where it has a name.
+#[tactic(auto, using(c_tree::proofs::TypedViewLaws::typed_views), unfolding(c_unit_typing::specs::DefinitionJudging::declare_parameters, c_unit_typing::specs::DefinitionJudging::declare_parameter))]
+fn declare_parameter(context: &mut Context, parameter: &TypedParameter) -> Result<(), Fault>
+    ensures { (all : SeenParameters) (start : UnitState) → judging.declare_parameters all start ≡ Gives (declares_last all) (state_of context.old) → Answers (λ u. declares_last (typed_parameter_view parameter.now all)) (judging.declare_parameters (typed_parameter_view parameter.now all) start) result (state_of context.new) }
+{
+    let Some(form) = &parameter.declarator else {
+        return Ok(());
+    };
+    let Home::Parameter(n) = home_of(form) else {
+        return Ok(());
+    };
+    match name_of(form) {
+        Some(name) => context.new_name(name, Declared::Object(parameter.ty, n)),
+        None => Ok(()),
     }
+}
 
-    /// The parameters are the first names of the body's scope.
-    #[tactic(auto, unfolding(c_unit_typing::specs::DefinitionJudging::declare_parameters))]
-    fn declare_parameters(&mut self, parameters: &[TypedParameter]) -> Result<(), Fault>
-        ensures { Answers (λ u. declares_last (parameters_seen parameters.now)) (judging.declare_parameters (parameters_seen parameters.now) (state_of self.old)) result (state_of self.new) }
-    {
-        for parameter in parameters {
-            self.declare_parameter(parameter)?;
-        }
-        Ok(())
+/// The parameters are the first names of the body's scope.
+#[tactic(auto, unfolding(c_unit_typing::specs::DefinitionJudging::declare_parameters))]
+fn declare_parameters(context: &mut Context, parameters: &[TypedParameter]) -> Result<(), Fault>
+    ensures { Answers (λ u. declares_last (parameters_seen parameters.now)) (judging.declare_parameters (parameters_seen parameters.now) (state_of context.old)) result (state_of context.new) }
+{
+    for parameter in parameters {
+        declare_parameter(context, parameter)?;
     }
+    Ok(())
+}
 
-    /// The body of a function with this result, in a scope that begins with the parameters.
-    #[tactic(auto, unfolding(c_unit_typing::specs::DefinitionJudging::body))]
-    fn body_with(
-        &mut self,
-        brace: Place,
-        to: TypeId,
-        parameters: &[TypedParameter],
-        items: &[BlockItem],
-    ) -> Result<Items<TypedBlockItem>, Fault>
-        ensures { Answers typed_block_view (judging.body brace (Some to) (Some (parameters_seen parameters.now)) (block_view items.now) (state_of self.old)) result (state_of self.new) }
-    {
-        self.enter()?;
-        self.declare_parameters(parameters)?;
-        let around = Around {
-            result: to,
-            in_loop: false,
-            breakable: false,
-        };
-        let list = self.block_items(around, None, items)?;
-        self.leave(brace)?;
-        Ok(list)
+/// The body of a function with this result, in a scope that begins with the parameters.
+#[tactic(auto, unfolding(c_unit_typing::specs::DefinitionJudging::body))]
+fn body_with(
+    context: &mut Context,
+    brace: Place,
+    to: TypeId,
+    parameters: &[TypedParameter],
+    items: &[BlockItem],
+) -> Result<Items<TypedBlockItem>, Fault>
+    ensures { Answers typed_block_view (judging.body brace (Some to) (Some (parameters_seen parameters.now)) (block_view items.now) (state_of context.old)) result (state_of context.new) }
+{
+    enter(context)?;
+    declare_parameters(context, parameters)?;
+    let around = Around {
+        result: to,
+        in_loop: false,
+        breakable: false,
+    };
+    let list = block_items(context, around, None, items)?;
+    leave(context, brace)?;
+    Ok(list)
+}
+
+/// The body, if its function has a result and parameters of its own.
+#[tactic(auto, unfolding(c_unit_typing::specs::DefinitionJudging::body))]
+fn body(
+    context: &mut Context,
+    brace: Place,
+    to: Option<TypeId>,
+    parameters: Option<&[TypedParameter]>,
+    items: &[BlockItem],
+) -> Result<Items<TypedBlockItem>, Fault>
+    ensures { Answers typed_block_view (judging.body brace to (option_map (λ p. parameters_seen p.now) parameters.entry) (block_view items.now) (state_of context.old)) result (state_of context.new) }
+{
+    match (to, parameters) {
+        (Some(to), Some(parameters)) => body_with(context, brace, to, parameters, items),
+        _ => Err(no_room(brace)),
     }
+}
 
-    /// The body, if its function has a result and parameters of its own.
-    #[tactic(auto, unfolding(c_unit_typing::specs::DefinitionJudging::body))]
-    fn body(
-        &mut self,
-        brace: Place,
-        to: Option<TypeId>,
-        parameters: Option<&[TypedParameter]>,
-        items: &[BlockItem],
-    ) -> Result<Items<TypedBlockItem>, Fault>
-        ensures { Answers typed_block_view (judging.body brace to (option_map (λ p. parameters_seen p.now) parameters.entry) (block_view items.now) (state_of self.old)) result (state_of self.new) }
-    {
-        match (to, parameters) {
-            (Some(to), Some(parameters)) => self.body_with(brace, to, parameters, items),
-            _ => Err(no_room(brace)),
-        }
+/// The first rule that the name of a function with a body breaks.
+fn broken_by_definition(
+    context: &Context,
+    storage: Storage,
+    written: bool,
+    name: &Identifier,
+    t: TypeId,
+) -> Option<Fault>
+    ensures { result ≡ first_broken (definition_tests context.now.types (known_of (state_of context.now)) (storage_view storage) written name.now.bytes t name.now.place) }
+{
+    let what = declared_as(&context.types, storage, t);
+    if context.is_redeclared(true, true, name, what) {
+        return Some(refusal(name.place, Rule::Redeclared));
     }
-
-    /// The first rule that the name of a function with a body breaks.
-    fn broken_by_definition(
-        &self,
-        storage: Storage,
-        written: bool,
-        name: &Identifier,
-        t: TypeId,
-    ) -> Option<Fault>
-        ensures { result ≡ first_broken (definition_tests self.now.types (known_of (state_of self.now)) (storage_view storage) written name.now.bytes t name.now.place) }
-    {
-        let what = declared_as(&self.types, storage, t);
-        if self.is_redeclared(true, true, name, what) {
-            return Some(refusal(name.place, Rule::Redeclared));
-        }
-        if is_runtime_name(name) {
-            return Some(refusal(name.place, Rule::Redeclared));
-        }
-        if is_defined_as_function(written, what) {
-            return None;
-        }
-        Some(refusal(name.place, Rule::Mismatch))
+    if is_runtime_name(name) {
+        return Some(refusal(name.place, Rule::Redeclared));
     }
+    if is_defined_as_function(written, what) {
+        return None;
+    }
+    Some(refusal(name.place, Rule::Mismatch))
+}
 
-    /// A unit defines no more than 65,535 functions. The answer is how many come before.
-    #[tactic(auto, unfolding(c_unit_typing::specs::DefinitionJudging::counted))]
-    fn counted(&mut self, name: &Identifier) -> Result<usize, Fault>
-        ensures { Answers (λ number. number) (judging.counted name.now.place (place_among self.old.scope.scopes.defined name.now.bytes) (state_of self.old)) result (state_of self.new) }
-    {
-        match self.scope.function(name.bytes.as_slice()) {
-            None => Err(no_room(name.place)),
-            Some(number) => {
-                if number < MOST_FUNCTIONS {
-                    Ok(number)
-                } else {
-                    Err(Fault::TooLarge {
-                        place: name.place,
-                        limit: Limit::Functions,
-                    })
-                }
+/// A unit defines no more than 65,535 functions. The answer is how many come before.
+#[tactic(auto, unfolding(c_unit_typing::specs::DefinitionJudging::counted))]
+fn counted(context: &mut Context, name: &Identifier) -> Result<usize, Fault>
+    ensures { Answers (λ number. number) (judging.counted name.now.place (place_among context.old.scope.scopes.defined name.now.bytes) (state_of context.old)) result (state_of context.new) }
+{
+    match context.scope.function(name.bytes.as_slice()) {
+        None => Err(no_room(name.place)),
+        Some(number) => {
+            if number < MOST_FUNCTIONS {
+                Ok(number)
+            } else {
+                Err(Fault::TooLarge {
+                    place: name.place,
+                    limit: Limit::Functions,
+                })
             }
         }
     }
+}
 
-    /// The name of a function is declared, and defined.
-    #[tactic(auto, unfolding(c_unit_typing::specs::DefinitionJudging::defined))]
-    fn define(&mut self, name: &Identifier, t: TypeId) -> Result<(), Fault>
-        ensures { Answers (λ u. declared.Function t) (judging.defined name.now t (state_of self.old)) result (state_of self.new) }
-    {
-        self.linked_name(name, Declared::Function(t))?;
-        let alloc = self.scope.alloc();
-        self.linkage.defined.add(alloc, name.bytes.as_slice())?;
-        Ok(())
-    }
+/// The name of a function is declared, and defined.
+#[tactic(auto, unfolding(c_unit_typing::specs::DefinitionJudging::defined))]
+fn define(context: &mut Context, name: &Identifier, t: TypeId) -> Result<(), Fault>
+    ensures { Answers (λ u. declared.Function t) (judging.defined name.now t (state_of context.old)) result (state_of context.new) }
+{
+    context.linked_name(name, Declared::Function(t))?;
+    let alloc = context.scope.alloc();
+    context.linkage.defined.add(alloc, name.bytes.as_slice())?;
+    Ok(())
+}
 
-    /// What was judged before a body is tried and defined.
-    #[tactic(auto, using(c_tree::proofs::TypedViewLaws::typed_views), unfolding(c_unit_typing::specs::DefinitionJudging::defined_as))]
-    fn define_as(
-        &mut self,
-        name: Option<&Identifier>,
-        base: &TypedSpecifiers,
-        one: &TypedDeclarator,
-    ) -> Result<(), Fault>
-        ensures { Answers (λ u. typed_declarator_view one.now) (judging.defined_as (option_copied name.entry) (typed_specifiers_view base.now) (typed_declarator_view one.now) (state_of self.old)) result (state_of self.new) }
-    {
-        let Some(name) = name else {
-            return Err(no_room(NOWHERE));
-        };
-        let written = parameters_of(&one.form, None).is_some();
-        if let Some(fault) = self.broken_by_definition(storage_of(base), written, name, one.ty) {
-            return Err(fault);
-        }
-        self.counted(name)?;
-        self.define(name, one.ty)
+/// What was judged before a body is tried and defined.
+#[tactic(auto, using(c_tree::proofs::TypedViewLaws::typed_views), unfolding(c_unit_typing::specs::DefinitionJudging::defined_as))]
+fn define_as(
+    context: &mut Context,
+    name: Option<&Identifier>,
+    base: &TypedSpecifiers,
+    one: &TypedDeclarator,
+) -> Result<(), Fault>
+    ensures { Answers (λ u. typed_declarator_view one.now) (judging.defined_as (option_copied name.entry) (typed_specifiers_view base.now) (typed_declarator_view one.now) (state_of context.old)) result (state_of context.new) }
+{
+    let Some(name) = name else {
+        return Err(no_room(NOWHERE));
+    };
+    let written = parameters_of(&one.form, None).is_some();
+    if let Some(fault) = broken_by_definition(context, storage_of(base), written, name, one.ty) {
+        return Err(fault);
     }
+    counted(context, name)?;
+    define(context, name, one.ty)
+}
 
-    /// A function with its body.
-    #[tactic(auto, using(c_tree::proofs::TypedViewLaws::typed_views), unfolding(c_unit_typing::specs::DefinitionJudging::judge_definition))]
-    pub(crate) fn definition(&mut self, f: &FunctionDefinition) -> Result<TypedFunction, Fault>
-        ensures { (before : TypedTranslationUnit) → Answers (λ made. typed.AndFunctionBody before (typed_specifiers_view made.specifiers) (typed_declarator_view made.declarator) made.brace (typed_block_view made.body)) (judging.judge_definition before (specifiers_view f.now.specifiers) (declarator_view f.now.declarator) f.now.brace (block_view f.now.body) (state_of self.old)) result (state_of self.new) }
-    {
-        let specifiers = self.specifiers(&f.specifiers, false)?;
-        let name = declarator_name(&f.declarator);
-        let naming = naming_for(true, storage_of(&specifiers), self.first_linked(name));
-        let declarator = self.declarator(naming, &specifiers, None, &f.declarator)?;
-        self.define_as(name, &specifiers, &declarator)?;
-        let to = result_of(shape_at(&self.types, declarator.ty));
-        let parameters = parameters_of(&declarator.form, None);
-        let body = self.body(f.brace, to, parameters, f.body.as_slice())?;
-        Ok(TypedFunction {
-            specifiers,
-            declarator,
-            brace: f.brace,
-            body,
-        })
-    }
+/// A function with its body.
+#[tactic(auto, using(c_tree::proofs::TypedViewLaws::typed_views), unfolding(c_unit_typing::specs::DefinitionJudging::judge_definition))]
+pub(crate) fn definition(
+    context: &mut Context,
+    f: &FunctionDefinition,
+) -> Result<TypedFunction, Fault>
+    ensures { (before : TypedTranslationUnit) → Answers (λ made. typed.AndFunctionBody before (typed_specifiers_view made.specifiers) (typed_declarator_view made.declarator) made.brace (typed_block_view made.body)) (judging.judge_definition before (specifiers_view f.now.specifiers) (declarator_view f.now.declarator) f.now.brace (block_view f.now.body) (state_of context.old)) result (state_of context.new) }
+{
+    let specifiers = context.specifiers(&f.specifiers, false)?;
+    let name = declarator_name(&f.declarator);
+    let naming = naming_for(true, storage_of(&specifiers), context.first_linked(name));
+    let declarator = context.declarator(naming, &specifiers, None, &f.declarator)?;
+    define_as(context, name, &specifiers, &declarator)?;
+    let to = result_of(shape_at(&context.types, declarator.ty));
+    let parameters = parameters_of(&declarator.form, None);
+    let items = body(context, f.brace, to, parameters, f.body.as_slice())?;
+    Ok(TypedFunction {
+        specifiers,
+        declarator,
+        brace: f.brace,
+        body: items,
+    })
 }

@@ -9,11 +9,11 @@ ghost use Rattle.c_tree.specs.TypedViews.{typed_expr_view};
 ghost use Rattle.c_tree.specs.TypedTree as typed;
 ghost use Rattle.c_tree.specs.TypedTree.{TypedBlockItems};
 ghost use Rattle.c_check.specs.Labels.{HoldsLabels};
-ghost use Rattle.c_check.specs.ContextViews.{state_of};
+ghost use Rattle.c_check_context.specs.ContextViews.{state_of};
 ghost use Rattle.c_unit_typing.specs.UnitJudging.{Answers};
 ghost use Rattle.c_unit_typing.specs.StatementJudging as judging;
 
-use crate::context::Context;
+use c_check_context::Context;
 use c_tree::{Boxed, Expr, TypedExpr};
 use c_typing::shapes::integer_at;
 use c_typing::stops::{no_room, refusal};
@@ -72,37 +72,35 @@ impl Labels {
     }
 }
 
-impl Context {
-    /// A constant as a label of a `switch` on a value of the type; where that is no integer it stays as it is.
-    fn label_value(&self, on: Option<TypeId>, value: i128) -> Option<i128>
-        ensures { result ≡ judging.label_as self.now.types on value }
-    {
-        match integer_at(&self.types, on?) {
-            None => Some(value),
-            Some(kind) => Some(converted(kind, value)),
-        }
+/// A constant as a label of a `switch` on a value of the type; where that is no integer it stays as it is.
+fn label_value(context: &Context, on: Option<TypeId>, value: i128) -> Option<i128>
+    ensures { result ≡ judging.label_as context.now.types on value }
+{
+    match integer_at(&context.types, on?) {
+        None => Some(value),
+        Some(kind) => Some(converted(kind, value)),
     }
+}
 
-    /// `case`: its expression, and its value in the type of the `switch`.
-    #[tactic(auto, unfolding(c_unit_typing::specs::StatementJudging::case_label, c_unit_typing::specs::StatementJudging::labelled))]
-    pub(crate) fn case_label(
-        &mut self,
-        on: Option<TypeId>,
-        labels: &mut Labels,
-        at: Place,
-        e: &Expr,
-    ) -> Result<(Boxed<TypedExpr>, i128), Fault>
-        ensures answers { (list : TypedBlockItems) → HoldsLabels labels.old list → Answers (λ c. typed.AndCase list at (typed_expr_view c.0) c.1) (judging.case_label on at (expr_view e.now) list (state_of self.old)) result (state_of self.new) }
-        ensures labels { IfOk result (λ c. labels.new ≡ record labels.old { values = labels.old.values ++ c.1 ∷ [] }) }
-    {
-        let (e, value) = self.constant(e)?;
-        let Some(value) = self.label_value(on, value) else {
-            return Err(no_room(at));
-        };
-        if labels.values.has(value) {
-            return Err(refusal(at, Rule::Redeclared));
-        }
-        labels.values.add(value)?;
-        Ok((e, value))
+/// `case`: its expression, and its value in the type of the `switch`.
+#[tactic(auto, unfolding(c_unit_typing::specs::StatementJudging::case_label, c_unit_typing::specs::StatementJudging::labelled))]
+pub(crate) fn case_label(
+    context: &mut Context,
+    on: Option<TypeId>,
+    labels: &mut Labels,
+    at: Place,
+    e: &Expr,
+) -> Result<(Boxed<TypedExpr>, i128), Fault>
+    ensures answers { (list : TypedBlockItems) → HoldsLabels labels.old list → Answers (λ c. typed.AndCase list at (typed_expr_view c.0) c.1) (judging.case_label on at (expr_view e.now) list (state_of context.old)) result (state_of context.new) }
+    ensures labels { IfOk result (λ c. labels.new ≡ record labels.old { values = labels.old.values ++ c.1 ∷ [] }) }
+{
+    let (e, value) = context.constant(e)?;
+    let Some(value) = label_value(context, on, value) else {
+        return Err(no_room(at));
+    };
+    if labels.values.has(value) {
+        return Err(refusal(at, Rule::Redeclared));
     }
+    labels.values.add(value)?;
+    Ok((e, value))
 }

@@ -8,13 +8,19 @@ ghost use Rattle.c_tree.specs.Views.{expr_view};
 ghost use Rattle.c_tree.specs.StatementViews.{statement_view, block_view, block_item_view, declaration_view};
 ghost use Rattle.c_tree.specs.TypedStatementViews.{typed_statement_view, typed_block_view, typed_block_item_view};
 ghost use Rattle.c_check.specs.Labels.{HoldsLabels};
-ghost use Rattle.c_check.specs.ContextViews.{around_view, state_of};
+ghost use Rattle.c_check.specs.CodeViews.{around_view};
+ghost use Rattle.c_check_context.specs.ContextViews.{state_of};
 ghost use Rattle.c_unit_typing.specs.UnitJudging.{Answers, Gives, UnitState};
 ghost use Rattle.c_unit_typing.specs.StatementJudging as judging;
 
 use crate::around::Around;
-use crate::context::Context;
-use crate::labels::Labels;
+use crate::blocks::{enter, leave};
+use crate::expressions::{
+    dropped, promoted, returned, try_condition, try_condition_or_none, try_integer,
+};
+use crate::labels::{Labels, case_label};
+use c_check_context::Context;
+use c_check_declarations::declaration;
 use c_tree::{
     BlockItem, Boxed, Declaration, Expr, Items, Statement, TypedBlockItem, TypedExpr,
     TypedStatement,
@@ -32,299 +38,316 @@ fn unboxed(e: Option<Boxed<TypedExpr>>) -> Option<TypedExpr>
     }
 }
 
-impl Context {
-    /// A statement on the heap.
-    fn boxed(&self, one: TypedStatement) -> Result<Boxed<TypedStatement>, NoMemory>
-        ensures { IfOk result (λ made. made ≡ one) }
-    {
-        Ok(Boxed::new(self.scope.alloc(), one)?)
-    }
+/// A statement on the heap.
+fn boxed(context: &Context, one: TypedStatement) -> Result<Boxed<TypedStatement>, NoMemory>
+    ensures { IfOk result (λ made. made ≡ one) }
+{
+    Ok(Boxed::new(context.scope.alloc(), one)?)
+}
 
-    /// `break`, where it may stand.
-    #[tactic(auto, using(c_tree::proofs::TypedStatementViewLaws::typed_statement_views), unfolding(c_unit_typing::specs::StatementJudging::judge_statement, c_unit_typing::specs::StatementJudging::jump))]
-    fn break_from(&mut self, around: Around, at: Place) -> Result<Boxed<TypedStatement>, Fault>
-        ensures { Answers typed_statement_view (judging.judge_statement (around_view around) (tree.Break at) (state_of self.old)) result (state_of self.new) }
-    {
-        if !around.breakable {
-            return Err(refusal(at, Rule::Mismatch));
+/// `break`, where it may stand.
+#[tactic(auto, using(c_tree::proofs::TypedStatementViewLaws::typed_statement_views), unfolding(c_unit_typing::specs::StatementJudging::judge_statement, c_unit_typing::specs::StatementJudging::jump))]
+fn break_from(
+    context: &mut Context,
+    around: Around,
+    at: Place,
+) -> Result<Boxed<TypedStatement>, Fault>
+    ensures { Answers typed_statement_view (judging.judge_statement (around_view around) (tree.Break at) (state_of context.old)) result (state_of context.new) }
+{
+    if !around.breakable {
+        return Err(refusal(at, Rule::Mismatch));
+    }
+    Ok(boxed(context, TypedStatement::Break(at))?)
+}
+
+/// `continue`, where it may stand.
+#[tactic(auto, using(c_tree::proofs::TypedStatementViewLaws::typed_statement_views), unfolding(c_unit_typing::specs::StatementJudging::judge_statement, c_unit_typing::specs::StatementJudging::jump))]
+fn continue_in(
+    context: &mut Context,
+    around: Around,
+    at: Place,
+) -> Result<Boxed<TypedStatement>, Fault>
+    ensures { Answers typed_statement_view (judging.judge_statement (around_view around) (tree.Continue at) (state_of context.old)) result (state_of context.new) }
+{
+    if !around.in_loop {
+        return Err(refusal(at, Rule::Mismatch));
+    }
+    Ok(boxed(context, TypedStatement::Continue(at))?)
+}
+
+/// `return` (C99 6.8.6.4).
+#[tactic(auto, using(c_tree::proofs::TypedStatementViewLaws::typed_statement_views), unfolding(c_unit_typing::specs::StatementJudging::judge_statement))]
+fn return_from(
+    context: &mut Context,
+    around: Around,
+    at: Place,
+    e: &Option<Expr>,
+) -> Result<Boxed<TypedStatement>, Fault>
+    ensures { Answers typed_statement_view (judging.judge_statement (around_view around) (tree.Return at (option_map expr_view e.now)) (state_of context.old)) result (state_of context.new) }
+{
+    let v = returned(context, at, around.result, e)?;
+    Ok(boxed(context, TypedStatement::Return(at, unboxed(v)))?)
+}
+
+/// A block.
+#[cycle(statements)]
+#[tactic(auto, using(c_tree::proofs::TypedStatementViewLaws::typed_statement_views), unfolding(c_unit_typing::specs::StatementJudging::judge_statement))]
+fn block(
+    context: &mut Context,
+    around: Around,
+    brace: Place,
+    items: &[BlockItem],
+) -> Result<Boxed<TypedStatement>, Fault>
+    ensures { Answers typed_statement_view (judging.judge_statement (around_view around) (tree.Block brace (block_view items.now)) (state_of context.old)) result (state_of context.new) }
+{
+    enter(context)?;
+    let list = block_items(context, around, None, items)?;
+    leave(context, brace)?;
+    Ok(boxed(context, TypedStatement::Block(brace, list))?)
+}
+
+/// `if` without `else`.
+#[cycle(statements)]
+#[tactic(auto, using(c_tree::proofs::TypedStatementViewLaws::typed_statement_views), unfolding(c_unit_typing::specs::StatementJudging::judge_statement))]
+fn if_alone(
+    context: &mut Context,
+    around: Around,
+    s: &Statement,
+    at: Place,
+    paren: Place,
+    c: &Expr,
+) -> Result<Boxed<TypedStatement>, Fault>
+    ensures { Answers typed_statement_view (judging.judge_statement (around_view around) (tree.If at paren (expr_view c.now) (statement_view s.now)) (state_of context.old)) result (state_of context.new) }
+{
+    let test = context.expr(c)?;
+    let one = statement(context, around, s)?;
+    try_condition(context, at, test.get())?;
+    Ok(boxed(
+        context,
+        TypedStatement::If(at, paren, test.into_inner(), one),
+    )?)
+}
+
+/// `switch` (C99 6.8.4.2).
+#[cycle(statements)]
+#[tactic(auto, using(c_tree::proofs::TypedStatementViewLaws::typed_statement_views), unfolding(c_unit_typing::specs::StatementJudging::judge_statement))]
+fn switch(
+    context: &mut Context,
+    around: Around,
+    items: &[BlockItem],
+    at: Place,
+    paren: Place,
+    e: &Expr,
+    brace: Place,
+) -> Result<Boxed<TypedStatement>, Fault>
+    ensures { Answers typed_statement_view (judging.judge_statement (around_view around) (tree.Switch at paren (expr_view e.now) brace (block_view items.now)) (state_of context.old)) result (state_of context.new) }
+{
+    let value = context.expr(e)?;
+    let from = value.get().ty();
+    let on = promoted(context, at, value)?;
+    enter(context)?;
+    let list = block_items(context, around.in_a_switch(), Some(on.get().ty()), items)?;
+    try_integer(context, at, from)?;
+    leave(context, brace)?;
+    Ok(boxed(
+        context,
+        TypedStatement::Switch(at, paren, on.into_inner(), brace, list),
+    )?)
+}
+
+#[cycle(statements)]
+#[tactic(auto, using(c_tree::proofs::TypedStatementViewLaws::typed_statement_views), unfolding(c_unit_typing::specs::StatementJudging::judge_statement))]
+fn while_loop(
+    context: &mut Context,
+    around: Around,
+    s: &Statement,
+    at: Place,
+    paren: Place,
+    c: &Expr,
+) -> Result<Boxed<TypedStatement>, Fault>
+    ensures { Answers typed_statement_view (judging.judge_statement (around_view around) (tree.While at paren (expr_view c.now) (statement_view s.now)) (state_of context.old)) result (state_of context.new) }
+{
+    let test = context.expr(c)?;
+    let one = statement(context, around.in_a_loop(), s)?;
+    try_condition(context, at, test.get())?;
+    Ok(boxed(
+        context,
+        TypedStatement::While(at, paren, test.into_inner(), one),
+    )?)
+}
+
+#[cycle(statements)]
+#[tactic(auto, using(c_tree::proofs::TypedStatementViewLaws::typed_statement_views), unfolding(c_unit_typing::specs::StatementJudging::judge_statement))]
+fn do_while(
+    context: &mut Context,
+    around: Around,
+    s: &Statement,
+    at: Place,
+    paren: Place,
+    c: &Expr,
+) -> Result<Boxed<TypedStatement>, Fault>
+    ensures { Answers typed_statement_view (judging.judge_statement (around_view around) (tree.DoWhile (statement_view s.now) at paren (expr_view c.now)) (state_of context.old)) result (state_of context.new) }
+{
+    let one = statement(context, around.in_a_loop(), s)?;
+    let test = context.expr(c)?;
+    try_condition(context, at, test.get())?;
+    Ok(boxed(
+        context,
+        TypedStatement::DoWhile(one, at, paren, test.into_inner()),
+    )?)
+}
+
+/// `for` that begins with an expression or with none (C99 6.8.5.3).
+#[cycle(statements)]
+#[tactic(auto, using(c_tree::proofs::TypedStatementViewLaws::typed_statement_views), unfolding(c_unit_typing::specs::StatementJudging::judge_statement))]
+fn for_loop(
+    context: &mut Context,
+    around: Around,
+    s: &Statement,
+    at: Place,
+    paren: Place,
+    first: &Option<Expr>,
+    test: &Option<Expr>,
+    step: &Option<Expr>,
+) -> Result<Boxed<TypedStatement>, Fault>
+    ensures { Answers typed_statement_view (judging.judge_statement (around_view around) (tree.For at paren (option_map expr_view first.now) (option_map expr_view test.now) (option_map expr_view step.now) (statement_view s.now)) (state_of context.old)) result (state_of context.new) }
+{
+    let before = dropped(context, first)?;
+    let c = dropped(context, test)?;
+    let after = dropped(context, step)?;
+    let one = statement(context, around.in_a_loop(), s)?;
+    try_condition_or_none(context, at, &c)?;
+    Ok(boxed(
+        context,
+        TypedStatement::For(at, paren, unboxed(before), unboxed(c), unboxed(after), one),
+    )?)
+}
+
+/// `for` that begins with a declaration, in a scope of its own (C99 6.8.5.3).
+#[cycle(statements)]
+#[tactic(auto, using(c_tree::proofs::TypedStatementViewLaws::typed_statement_views), unfolding(c_unit_typing::specs::StatementJudging::judge_statement))]
+fn for_declaration(
+    context: &mut Context,
+    around: Around,
+    s: &Statement,
+    at: Place,
+    paren: Place,
+    d: &Declaration,
+    test: &Option<Expr>,
+    step: &Option<Expr>,
+) -> Result<Boxed<TypedStatement>, Fault>
+    ensures { Answers typed_statement_view (judging.judge_statement (around_view around) (tree.ForDeclaration at paren (declaration_view d.now) (option_map expr_view test.now) (option_map expr_view step.now) (statement_view s.now)) (state_of context.old)) result (state_of context.new) }
+{
+    enter(context)?;
+    let before = declaration(context, false, d)?;
+    let c = dropped(context, test)?;
+    let after = dropped(context, step)?;
+    let one = statement(context, around.in_a_loop(), s)?;
+    try_condition_or_none(context, at, &c)?;
+    leave(context, at)?;
+    Ok(boxed(
+        context,
+        TypedStatement::ForDeclaration(at, paren, before, unboxed(c), unboxed(after), one),
+    )?)
+}
+
+/// A statement.
+#[cycle(statements)]
+#[tactic(auto, using(c_tree::proofs::StatementViewLaws::statement_views, c_tree::proofs::TypedStatementViewLaws::typed_statement_views), unfolding(c_unit_typing::specs::StatementJudging::judge_statement))]
+fn statement(
+    context: &mut Context,
+    around: Around,
+    s: &Statement,
+) -> Result<Boxed<TypedStatement>, Fault>
+    ensures { Answers typed_statement_view (judging.judge_statement (around_view around) (statement_view s.now) (state_of context.old)) result (state_of context.new) }
+{
+    match s {
+        Statement::Block(brace, items) => block(context, around, *brace, items.as_slice()),
+        Statement::Express(e) => {
+            let v = context.expr(e)?;
+            Ok(boxed(context, TypedStatement::Express(v.into_inner()))?)
         }
-        Ok(self.boxed(TypedStatement::Break(at))?)
-    }
-
-    /// `continue`, where it may stand.
-    #[tactic(auto, using(c_tree::proofs::TypedStatementViewLaws::typed_statement_views), unfolding(c_unit_typing::specs::StatementJudging::judge_statement, c_unit_typing::specs::StatementJudging::jump))]
-    fn continue_in(&mut self, around: Around, at: Place) -> Result<Boxed<TypedStatement>, Fault>
-        ensures { Answers typed_statement_view (judging.judge_statement (around_view around) (tree.Continue at) (state_of self.old)) result (state_of self.new) }
-    {
-        if !around.in_loop {
-            return Err(refusal(at, Rule::Mismatch));
+        Statement::Empty => Ok(boxed(context, TypedStatement::Empty)?),
+        Statement::If(at, paren, c, s) => if_alone(context, around, s.get(), *at, *paren, c),
+        Statement::IfElse(at, paren, c, s, r) => {
+            let test = context.expr(c)?;
+            let one = statement(context, around, s.get())?;
+            let other = statement(context, around, r.get())?;
+            try_condition(context, *at, test.get())?;
+            Ok(boxed(
+                context,
+                TypedStatement::IfElse(*at, *paren, test.into_inner(), one, other),
+            )?)
         }
-        Ok(self.boxed(TypedStatement::Continue(at))?)
-    }
-
-    /// `return` (C99 6.8.6.4).
-    #[tactic(auto, using(c_tree::proofs::TypedStatementViewLaws::typed_statement_views), unfolding(c_unit_typing::specs::StatementJudging::judge_statement))]
-    fn return_from(
-        &mut self,
-        around: Around,
-        at: Place,
-        e: &Option<Expr>,
-    ) -> Result<Boxed<TypedStatement>, Fault>
-        ensures { Answers typed_statement_view (judging.judge_statement (around_view around) (tree.Return at (option_map expr_view e.now)) (state_of self.old)) result (state_of self.new) }
-    {
-        let v = self.returned(at, around.result, e)?;
-        Ok(self.boxed(TypedStatement::Return(at, unboxed(v)))?)
-    }
-
-    /// A block.
-    #[cycle(statements)]
-    #[tactic(auto, using(c_tree::proofs::TypedStatementViewLaws::typed_statement_views), unfolding(c_unit_typing::specs::StatementJudging::judge_statement))]
-    fn block(
-        &mut self,
-        around: Around,
-        brace: Place,
-        items: &[BlockItem],
-    ) -> Result<Boxed<TypedStatement>, Fault>
-        ensures { Answers typed_statement_view (judging.judge_statement (around_view around) (tree.Block brace (block_view items.now)) (state_of self.old)) result (state_of self.new) }
-    {
-        self.enter()?;
-        let list = self.block_items(around, None, items)?;
-        self.leave(brace)?;
-        Ok(self.boxed(TypedStatement::Block(brace, list))?)
-    }
-
-    /// `if` without `else`.
-    #[cycle(statements)]
-    #[tactic(auto, using(c_tree::proofs::TypedStatementViewLaws::typed_statement_views), unfolding(c_unit_typing::specs::StatementJudging::judge_statement))]
-    fn if_alone(
-        &mut self,
-        around: Around,
-        s: &Statement,
-        at: Place,
-        paren: Place,
-        c: &Expr,
-    ) -> Result<Boxed<TypedStatement>, Fault>
-        ensures { Answers typed_statement_view (judging.judge_statement (around_view around) (tree.If at paren (expr_view c.now) (statement_view s.now)) (state_of self.old)) result (state_of self.new) }
-    {
-        let test = self.expr(c)?;
-        let one = self.statement(around, s)?;
-        self.try_condition(at, test.get())?;
-        Ok(self.boxed(TypedStatement::If(at, paren, test.into_inner(), one))?)
-    }
-
-    /// `switch` (C99 6.8.4.2).
-    #[cycle(statements)]
-    #[tactic(auto, using(c_tree::proofs::TypedStatementViewLaws::typed_statement_views), unfolding(c_unit_typing::specs::StatementJudging::judge_statement))]
-    fn switch(
-        &mut self,
-        around: Around,
-        items: &[BlockItem],
-        at: Place,
-        paren: Place,
-        e: &Expr,
-        brace: Place,
-    ) -> Result<Boxed<TypedStatement>, Fault>
-        ensures { Answers typed_statement_view (judging.judge_statement (around_view around) (tree.Switch at paren (expr_view e.now) brace (block_view items.now)) (state_of self.old)) result (state_of self.new) }
-    {
-        let value = self.expr(e)?;
-        let from = value.get().ty();
-        let on = self.promoted(at, value)?;
-        self.enter()?;
-        let list = self.block_items(around.in_a_switch(), Some(on.get().ty()), items)?;
-        self.try_integer(at, from)?;
-        self.leave(brace)?;
-        Ok(self.boxed(TypedStatement::Switch(at, paren, on.into_inner(), brace, list))?)
-    }
-
-    #[cycle(statements)]
-    #[tactic(auto, using(c_tree::proofs::TypedStatementViewLaws::typed_statement_views), unfolding(c_unit_typing::specs::StatementJudging::judge_statement))]
-    fn while_loop(
-        &mut self,
-        around: Around,
-        s: &Statement,
-        at: Place,
-        paren: Place,
-        c: &Expr,
-    ) -> Result<Boxed<TypedStatement>, Fault>
-        ensures { Answers typed_statement_view (judging.judge_statement (around_view around) (tree.While at paren (expr_view c.now) (statement_view s.now)) (state_of self.old)) result (state_of self.new) }
-    {
-        let test = self.expr(c)?;
-        let one = self.statement(around.in_a_loop(), s)?;
-        self.try_condition(at, test.get())?;
-        Ok(self.boxed(TypedStatement::While(at, paren, test.into_inner(), one))?)
-    }
-
-    #[cycle(statements)]
-    #[tactic(auto, using(c_tree::proofs::TypedStatementViewLaws::typed_statement_views), unfolding(c_unit_typing::specs::StatementJudging::judge_statement))]
-    fn do_while(
-        &mut self,
-        around: Around,
-        s: &Statement,
-        at: Place,
-        paren: Place,
-        c: &Expr,
-    ) -> Result<Boxed<TypedStatement>, Fault>
-        ensures { Answers typed_statement_view (judging.judge_statement (around_view around) (tree.DoWhile (statement_view s.now) at paren (expr_view c.now)) (state_of self.old)) result (state_of self.new) }
-    {
-        let one = self.statement(around.in_a_loop(), s)?;
-        let test = self.expr(c)?;
-        self.try_condition(at, test.get())?;
-        Ok(self.boxed(TypedStatement::DoWhile(one, at, paren, test.into_inner()))?)
-    }
-
-    /// `for` that begins with an expression or with none (C99 6.8.5.3).
-    #[cycle(statements)]
-    #[tactic(auto, using(c_tree::proofs::TypedStatementViewLaws::typed_statement_views), unfolding(c_unit_typing::specs::StatementJudging::judge_statement))]
-    fn for_loop(
-        &mut self,
-        around: Around,
-        s: &Statement,
-        at: Place,
-        paren: Place,
-        first: &Option<Expr>,
-        test: &Option<Expr>,
-        step: &Option<Expr>,
-    ) -> Result<Boxed<TypedStatement>, Fault>
-        ensures { Answers typed_statement_view (judging.judge_statement (around_view around) (tree.For at paren (option_map expr_view first.now) (option_map expr_view test.now) (option_map expr_view step.now) (statement_view s.now)) (state_of self.old)) result (state_of self.new) }
-    {
-        let before = self.dropped(first)?;
-        let c = self.dropped(test)?;
-        let after = self.dropped(step)?;
-        let one = self.statement(around.in_a_loop(), s)?;
-        self.try_condition_or_none(at, &c)?;
-        Ok(self.boxed(TypedStatement::For(
-            at,
-            paren,
-            unboxed(before),
-            unboxed(c),
-            unboxed(after),
-            one,
-        ))?)
-    }
-
-    /// `for` that begins with a declaration, in a scope of its own (C99 6.8.5.3).
-    #[cycle(statements)]
-    #[tactic(auto, using(c_tree::proofs::TypedStatementViewLaws::typed_statement_views), unfolding(c_unit_typing::specs::StatementJudging::judge_statement))]
-    fn for_declaration(
-        &mut self,
-        around: Around,
-        s: &Statement,
-        at: Place,
-        paren: Place,
-        d: &Declaration,
-        test: &Option<Expr>,
-        step: &Option<Expr>,
-    ) -> Result<Boxed<TypedStatement>, Fault>
-        ensures { Answers typed_statement_view (judging.judge_statement (around_view around) (tree.ForDeclaration at paren (declaration_view d.now) (option_map expr_view test.now) (option_map expr_view step.now) (statement_view s.now)) (state_of self.old)) result (state_of self.new) }
-    {
-        self.enter()?;
-        let before = self.declaration(false, d)?;
-        let c = self.dropped(test)?;
-        let after = self.dropped(step)?;
-        let one = self.statement(around.in_a_loop(), s)?;
-        self.try_condition_or_none(at, &c)?;
-        self.leave(at)?;
-        Ok(self.boxed(TypedStatement::ForDeclaration(
-            at,
-            paren,
-            before,
-            unboxed(c),
-            unboxed(after),
-            one,
-        ))?)
-    }
-
-    /// A statement.
-    #[cycle(statements)]
-    #[tactic(auto, using(c_tree::proofs::StatementViewLaws::statement_views, c_tree::proofs::TypedStatementViewLaws::typed_statement_views), unfolding(c_unit_typing::specs::StatementJudging::judge_statement))]
-    fn statement(&mut self, around: Around, s: &Statement) -> Result<Boxed<TypedStatement>, Fault>
-        ensures { Answers typed_statement_view (judging.judge_statement (around_view around) (statement_view s.now) (state_of self.old)) result (state_of self.new) }
-    {
-        match s {
-            Statement::Block(brace, items) => self.block(around, *brace, items.as_slice()),
-            Statement::Express(e) => {
-                let v = self.expr(e)?;
-                Ok(self.boxed(TypedStatement::Express(v.into_inner()))?)
-            }
-            Statement::Empty => Ok(self.boxed(TypedStatement::Empty)?),
-            Statement::If(at, paren, c, s) => self.if_alone(around, s.get(), *at, *paren, c),
-            Statement::IfElse(at, paren, c, s, r) => {
-                let test = self.expr(c)?;
-                let one = self.statement(around, s.get())?;
-                let other = self.statement(around, r.get())?;
-                self.try_condition(*at, test.get())?;
-                Ok(self.boxed(TypedStatement::IfElse(*at, *paren, test.into_inner(), one, other))?)
-            }
-            Statement::Switch(at, paren, e, brace, items) => {
-                self.switch(around, items.as_slice(), *at, *paren, e, *brace)
-            }
-            Statement::Break(at) => self.break_from(around, *at),
-            Statement::Continue(at) => self.continue_in(around, *at),
-            Statement::Return(at, e) => self.return_from(around, *at, e),
-            Statement::While(at, paren, c, s) => self.while_loop(around, s.get(), *at, *paren, c),
-            Statement::DoWhile(s, at, paren, c) => self.do_while(around, s.get(), *at, *paren, c),
-            Statement::For(at, paren, first, test, step, s) => {
-                self.for_loop(around, s.get(), *at, *paren, first, test, step)
-            }
-            Statement::ForDeclaration(at, paren, d, test, step, s) => {
-                self.for_declaration(around, s.get(), *at, *paren, d, test, step)
-            }
+        Statement::Switch(at, paren, e, brace, items) => {
+            switch(context, around, items.as_slice(), *at, *paren, e, *brace)
         }
-    }
-
-    /// What a block holds after these items, which have these labels; `on` is the type of the `switch` whose block it is.
-    #[cycle(statements)]
-    #[tactic(auto, using(c_tree::proofs::StatementViewLaws::statement_views, c_tree::proofs::TypedStatementViewLaws::typed_statement_views), unfolding(c_unit_typing::specs::StatementJudging::judge_statement, c_unit_typing::specs::StatementJudging::default_label))]
-    fn block_item(
-        &mut self,
-        around: Around,
-        on: Option<TypeId>,
-        labels: &mut Labels,
-        item: &BlockItem,
-    ) -> Result<TypedBlockItem, Fault>
-        ensures answers { (all : tree.BlockItems) (start : UnitState) (list : TypedBlockItems) → judging.judge_block_items (around_view around) on all start ≡ Gives list (state_of self.old) → HoldsLabels labels.old list → Answers (λ one. typed_block_item_view one list) (judging.judge_block_items (around_view around) on (block_item_view item.now all) start) result (state_of self.new) }
-        ensures labels { (list : TypedBlockItems) → HoldsLabels labels.old list → IfOk result (λ one. HoldsLabels labels.new (typed_block_item_view one list)) }
-    {
-        match item {
-            BlockItem::Statement(s) => {
-                let one = self.statement(around, s)?;
-                Ok(TypedBlockItem::Statement(one.into_inner()))
-            }
-            BlockItem::Declaration(d) => {
-                let one = self.declaration(false, d)?;
-                Ok(TypedBlockItem::Declaration(one))
-            }
-            BlockItem::Case(at, e) => {
-                let (e, value) = self.case_label(on, labels, *at, e)?;
-                Ok(TypedBlockItem::Case(*at, e.into_inner(), value))
-            }
-            BlockItem::Default(at) => {
-                if labels.default {
-                    return Err(refusal(*at, Rule::Redeclared));
-                }
-                labels.default = true;
-                Ok(TypedBlockItem::Default(*at))
-            }
+        Statement::Break(at) => break_from(context, around, *at),
+        Statement::Continue(at) => continue_in(context, around, *at),
+        Statement::Return(at, e) => return_from(context, around, *at, e),
+        Statement::While(at, paren, c, s) => while_loop(context, around, s.get(), *at, *paren, c),
+        Statement::DoWhile(s, at, paren, c) => do_while(context, around, s.get(), *at, *paren, c),
+        Statement::For(at, paren, first, test, step, s) => {
+            for_loop(context, around, s.get(), *at, *paren, first, test, step)
+        }
+        Statement::ForDeclaration(at, paren, d, test, step, s) => {
+            for_declaration(context, around, s.get(), *at, *paren, d, test, step)
         }
     }
+}
 
-    /// What a block holds; `on` is the type of the `switch` whose block it is.
-    #[cycle(statements)]
-    #[tactic(auto, unfolding(c_unit_typing::specs::StatementJudging::judge_block_items))]
-    pub(crate) fn block_items(
-        &mut self,
-        around: Around,
-        on: Option<TypeId>,
-        items: &[BlockItem],
-    ) -> Result<Items<TypedBlockItem>, Fault>
-        ensures { Answers typed_block_view (judging.judge_block_items (around_view around) on (block_view items.now) (state_of self.old)) result (state_of self.new) }
-    {
-        let mut labels = Labels::new(self.scope.alloc());
-        let mut list = Items::new(self.scope.alloc());
-        for item in items {
-            let one = self.block_item(around, on, &mut labels, item)?;
-            list.push(one)?;
+/// What a block holds after these items, which have these labels; `on` is the type of the `switch` whose block it is.
+#[cycle(statements)]
+#[tactic(auto, using(c_tree::proofs::StatementViewLaws::statement_views, c_tree::proofs::TypedStatementViewLaws::typed_statement_views), unfolding(c_unit_typing::specs::StatementJudging::judge_statement, c_unit_typing::specs::StatementJudging::default_label))]
+fn block_item(
+    context: &mut Context,
+    around: Around,
+    on: Option<TypeId>,
+    labels: &mut Labels,
+    item: &BlockItem,
+) -> Result<TypedBlockItem, Fault>
+    ensures answers { (all : tree.BlockItems) (start : UnitState) (list : TypedBlockItems) → judging.judge_block_items (around_view around) on all start ≡ Gives list (state_of context.old) → HoldsLabels labels.old list → Answers (λ one. typed_block_item_view one list) (judging.judge_block_items (around_view around) on (block_item_view item.now all) start) result (state_of context.new) }
+    ensures labels { (list : TypedBlockItems) → HoldsLabels labels.old list → IfOk result (λ one. HoldsLabels labels.new (typed_block_item_view one list)) }
+{
+    match item {
+        BlockItem::Statement(s) => {
+            let one = statement(context, around, s)?;
+            Ok(TypedBlockItem::Statement(one.into_inner()))
         }
-        Ok(list)
+        BlockItem::Declaration(d) => {
+            let one = declaration(context, false, d)?;
+            Ok(TypedBlockItem::Declaration(one))
+        }
+        BlockItem::Case(at, e) => {
+            let (e, value) = case_label(context, on, labels, *at, e)?;
+            Ok(TypedBlockItem::Case(*at, e.into_inner(), value))
+        }
+        BlockItem::Default(at) => {
+            if labels.default {
+                return Err(refusal(*at, Rule::Redeclared));
+            }
+            labels.default = true;
+            Ok(TypedBlockItem::Default(*at))
+        }
     }
+}
+
+/// What a block holds; `on` is the type of the `switch` whose block it is.
+#[cycle(statements)]
+#[tactic(auto, unfolding(c_unit_typing::specs::StatementJudging::judge_block_items))]
+pub(crate) fn block_items(
+    context: &mut Context,
+    around: Around,
+    on: Option<TypeId>,
+    items: &[BlockItem],
+) -> Result<Items<TypedBlockItem>, Fault>
+    ensures { Answers typed_block_view (judging.judge_block_items (around_view around) on (block_view items.now) (state_of context.old)) result (state_of context.new) }
+{
+    let mut labels = Labels::new(context.scope.alloc());
+    let mut list = Items::new(context.scope.alloc());
+    for item in items {
+        let one = block_item(context, around, on, &mut labels, item)?;
+        list.push(one)?;
+    }
+    Ok(list)
 }

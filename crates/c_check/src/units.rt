@@ -12,13 +12,15 @@ ghost use Rattle.c_tree.specs.TypedStatementViews.{typed_external_view, typed_un
 ghost use Rattle.c_typing.specs.KindViews.{shape_or_void};
 ghost use Rattle.c_typing.specs.Scopes.{entry_of, place_among};
 ghost use Rattle.c_typing.specs.Tests.{has_some};
-ghost use Rattle.c_check.specs.ContextViews.{state_of};
+ghost use Rattle.c_check_context.specs.ContextViews.{state_of};
 ghost use Rattle.c_unit_typing.specs.UnitJudging.{Answers, Gives, UnitState};
 ghost use Rattle.c_unit_typing.specs.DefinitionJudging as judging;
 
-use crate::conflicts::is_int;
-use crate::context::Context;
-use crate::linkage::{Linkage, Names};
+use crate::definitions::definition;
+use c_check_context::Context;
+use c_check_context::conflicts::is_int;
+use c_check_context::linkage::{Linkage, Names};
+use c_check_declarations::declaration;
 use c_check_expr::places::declarator_name;
 use c_tree::{External, Items, TypedExternal, TypedUnit, Unit};
 use c_types::{TypeShape, Types};
@@ -90,54 +92,52 @@ fn is_main(types: &Types, what: Option<&Declared>) -> bool
     }
 }
 
-impl Context {
-    /// Whether `int main(void)` is defined (C99 5.1.2.2.1).
-    fn has_main(&self) -> bool
-        ensures { result ≡ (judging.is_main self.now.types (entry_of self.now.linkage.linked (codes "main")) && has_some (place_among self.now.scope.scopes.defined (codes "main"))) }
-    {
-        is_main(&self.types, self.linkage.linked.of(b"main"))
-            && self.scope.function(b"main").is_some()
-    }
+/// Whether `int main(void)` is defined (C99 5.1.2.2.1).
+fn has_main(context: &Context) -> bool
+    ensures { result ≡ (judging.is_main context.now.types (entry_of context.now.linkage.linked (codes "main")) && has_some (place_among context.now.scope.scopes.defined (codes "main"))) }
+{
+    is_main(&context.types, context.linkage.linked.of(b"main"))
+        && context.scope.function(b"main").is_some()
+}
 
-    /// A declaration or a function, after those before it.
-    #[tactic(auto, unfolding(c_unit_typing::specs::DefinitionJudging::judge_unit))]
-    fn external(&mut self, external: &External) -> Result<TypedExternal, Fault>
-        ensures { (all : tree.TranslationUnit) (start : UnitState) (list : TypedTranslationUnit) → judging.judge_unit all start ≡ Gives list (state_of self.old) → Answers (λ one. typed_external_view one list) (judging.judge_unit (external_view external.now all) start) result (state_of self.new) }
-    {
-        match external {
-            External::Declaration(d) => {
-                let one = self.declaration(true, d)?;
-                Ok(TypedExternal::Declaration(one))
-            }
-            External::Function(f) => {
-                let one = self.definition(f)?;
-                Ok(TypedExternal::Function(one))
-            }
+/// A declaration or a function, after those before it.
+#[tactic(auto, unfolding(c_unit_typing::specs::DefinitionJudging::judge_unit))]
+fn judged_external(context: &mut Context, external: &External) -> Result<TypedExternal, Fault>
+    ensures { (all : tree.TranslationUnit) (start : UnitState) (list : TypedTranslationUnit) → judging.judge_unit all start ≡ Gives list (state_of context.old) → Answers (λ one. typed_external_view one list) (judging.judge_unit (external_view external.now all) start) result (state_of context.new) }
+{
+    match external {
+        External::Declaration(d) => {
+            let one = declaration(context, true, d)?;
+            Ok(TypedExternal::Declaration(one))
+        }
+        External::Function(f) => {
+            let one = definition(context, f)?;
+            Ok(TypedExternal::Function(one))
         }
     }
+}
 
-    /// The declarations and functions of a unit, one after another.
-    #[tactic(auto, unfolding(c_unit_typing::specs::DefinitionJudging::judge_unit))]
-    fn externals(&mut self, externals: &[External]) -> Result<Items<TypedExternal>, Fault>
-        ensures { Answers (λ list. added typed.NoExternal (map typed_external_view list)) (judging.judge_unit (added tree.NoExternal (map external_view externals.now)) (state_of self.old)) result (state_of self.new) }
-    {
-        let mut list = Items::new(self.scope.alloc());
-        for external in externals {
-            let one = self.external(external)?;
-            list.push(one)?;
-        }
-        Ok(list)
+/// The declarations and functions of a unit, one after another.
+#[tactic(auto, unfolding(c_unit_typing::specs::DefinitionJudging::judge_unit))]
+fn externals(context: &mut Context, externals: &[External]) -> Result<Items<TypedExternal>, Fault>
+    ensures { Answers (λ list. added typed.NoExternal (map typed_external_view list)) (judging.judge_unit (added tree.NoExternal (map external_view externals.now)) (state_of context.old)) result (state_of context.new) }
+{
+    let mut list = Items::new(context.scope.alloc());
+    for external in externals {
+        let one = judged_external(context, external)?;
+        list.push(one)?;
     }
+    Ok(list)
+}
 
-    /// A unit. That it has a `main` is tried last.
-    #[tactic(auto, unfolding(c_unit_typing::specs::DefinitionJudging::judge_whole))]
-    pub(crate) fn whole(&mut self, unit: &Unit) -> Result<TypedUnit, Fault>
-        ensures { Answers typed_unit_view (judging.judge_whole (unit_view unit.now) (state_of self.old)) result (state_of self.new) }
-    {
-        let externals = self.externals(unit.externals.as_slice())?;
-        if !self.has_main() {
-            return Err(refusal(NOWHERE, Rule::NoMain));
-        }
-        Ok(TypedUnit { externals })
+/// A unit. That it has a `main` is tried last.
+#[tactic(auto, unfolding(c_unit_typing::specs::DefinitionJudging::judge_whole))]
+pub(crate) fn whole(context: &mut Context, unit: &Unit) -> Result<TypedUnit, Fault>
+    ensures { Answers typed_unit_view (judging.judge_whole (unit_view unit.now) (state_of context.old)) result (state_of context.new) }
+{
+    let list = externals(context, unit.externals.as_slice())?;
+    if !has_main(context) {
+        return Err(refusal(NOWHERE, Rule::NoMain));
     }
+    Ok(TypedUnit { externals: list })
 }

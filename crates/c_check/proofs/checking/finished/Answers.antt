@@ -1,5 +1,5 @@
 use Rattle.c_tree.specs.StatementViews.{unit_view}
-use Rattle.c_check.specs.ContextViews.{state_of}
+use Rattle.c_check_context.specs.ContextViews.{state_of}
 use Rattle.c_check.proofs.WholeLaws.{whole_gives}
 use Rattle.c_check.proofs.checking.finished.Goals as goal
 

@@ -1,7 +1,7 @@
 use mir.Syntax.{w128}
 use Rattle.std.proofs.lemmas.Int.{to_z-of_z}
 use Rattle.std.specs.Ordering.{int_eq}
-use Rattle.c_check.proofs.LinkageLaws.{value-added}
+use Rattle.c_check_context.proofs.LinkageLaws.{value-added}
 use Rattle.c_check.proofs.labels.LabelValues.add.Goals as goal
 
 pub returns : goal.returns

@@ -1,0 +1,2 @@
+pub mod LinkageLaws
+pub mod ConflictLaws

@@ -1,0 +1,2 @@
+pub mod CodeViews
+pub mod ContextViews

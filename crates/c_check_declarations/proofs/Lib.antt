@@ -1,0 +1,4 @@
+pub mod SlotLaws
+pub mod SeriesLaws
+pub mod LiteralLaws
+pub mod DeclaratorLaws

@@ -1,5 +1,5 @@
 -- The rules of calls are over an earlier table what they are over each that goes on from it.
-use Rattle.std.proofs.Common.{◌≡◌, Bool, true, false, not, ◌||◌, ◌==◌, List, [], ◌∷◌, ◌++◌, length, Option, None, Some, refl, ap, ◌∙◌}
+use Rattle.std.proofs.Common.{◌≡◌, true, false, not, ◌||◌, ◌==◌, List, [], ◌∷◌, ◌++◌, length, Option, None, Some, refl, ap, ◌∙◌}
 use Rattle.std.specs.List.{All, Contains}
 use Rattle.std.proofs.lemmas.List.Elements.{All-contains, All-nil}
 use Rattle.cc_base.specs.declared.place.Place.{Place}
@@ -7,7 +7,7 @@ use Rattle.cc_base.specs.declared.number.TypeId.{TypeId}
 use Rattle.cc_base.specs.declared.fault.Rule.TheVariants as rule
 use Rattle.c_types.specs.declared.shape.TypeShape.{TypeShape}
 use Rattle.c_types.specs.declared.shape.TypeShape.TheVariants.{Void, Integer, Pointer, Array, Function, Struct, Union}
-use Rattle.c_types.specs.Table.{Table, IsType, shape_at, named_by}
+use Rattle.c_types.specs.Table.{Table, IsType, named_by}
 use Rattle.c_types.proofs.Lists.{contains_head, contains_tail}
 use Rattle.c_tree.specs.declared.typed_word.Runtime.{Runtime}
 use Rattle.runtime_calls.specs.declared.function.RuntimeType.{RuntimeType}
@@ -15,9 +15,8 @@ use Rattle.runtime_calls.specs.declared.function.RuntimeType.TheVariants as prot
 use Rattle.runtime_calls.specs.Prototypes.{prototype_of}
 use Rattle.c_typing.specs.Extensions.{IsExtended}
 use Rattle.c_typing.specs.Settled.{IsBasic}
-use Rattle.c_typing.specs.Tests.{Elaborated, Argument, Test, broken_at, shape_of, pointed_shape, fits, argument_tests, call_tests_of, is_taken_by, runtime_argument_tests, runtime_tests, call_tests_by, runtime_part, call_tests}
+use Rattle.c_typing.specs.Tests.{Elaborated, Argument, Test, broken_at, shape_of, pointed_shape, argument_tests, call_tests_of, is_taken_by, runtime_argument_tests, call_tests_by, runtime_part, call_tests}
 use Rattle.c_rules_alike.specs.PartsThere.{IsPartThere, AreArgumentsThere}
-use Rattle.c_rules_alike.proofs.TypesAlike
 use Rattle.c_rules_alike.proofs.PartsAlike
 
 module _ (J T : Table) (x : IsExtended J T) (b : IsBasic J) where

@@ -1,11 +1,10 @@
 -- The rules of assignments, of `?:`, of casts and of values that become one of a type are over an earlier table what they are over each that
 -- goes on from it.
-use Rattle.std.proofs.Common.{◌≡◌, Bool, true, false, not, ◌&&◌, ◌||◌, List, [], ◌∷◌, refl, ap, ◌∙◌}
+use Rattle.std.proofs.Common.{◌≡◌, Bool, not, ◌&&◌, ◌||◌, [], ◌∷◌, ap}
 use Rattle.cc_base.specs.declared.place.Place.{Place}
 use Rattle.cc_base.specs.declared.number.TypeId.{TypeId}
 use Rattle.cc_base.specs.declared.fault.Rule.TheVariants as rule
-use Rattle.c_types.specs.declared.shape.TypeShape.{TypeShape}
-use Rattle.c_types.specs.Table.{Table, IsType, shape_at, is_aggregate_shape}
+use Rattle.c_types.specs.Table.{Table, IsType, is_aggregate_shape}
 use Rattle.c_tree.specs.declared.operator.Assignment.{Assignment}
 use Rattle.c_tree.specs.declared.operator.Assignment.TheVariants as assignment
 use Rattle.c_tree.specs.TypedParts.{place_type}
@@ -17,7 +16,7 @@ use Rattle.c_typing.specs.Rules.{is_compound}
 use Rattle.c_typing.specs.Scopes.{Scopes}
 use Rattle.c_typing.specs.Settled.{IsBasic}
 use Rattle.c_typing.specs.Shapes.{is_integer_shape, is_pointer_shape, is_scalar_shape, is_void_shape}
-use Rattle.c_typing.specs.Tests.{Elaborated, AsPlace, AsValue, AsAllocation, Test, broken_at, has_some, can_be_written, is_assignable, assign_tests, choice_tests, cast_tests}
+use Rattle.c_typing.specs.Tests.{Elaborated, AsPlace, AsValue, AsAllocation, broken_at, has_some, can_be_written, is_assignable, assign_tests, choice_tests, cast_tests}
 use Rattle.c_rules_alike.specs.PartsThere.{IsPartThere}
 use Rattle.c_rules_alike.proofs.TypesAlike
 use Rattle.c_rules_alike.proofs.PartsAlike

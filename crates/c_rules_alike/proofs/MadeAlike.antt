@@ -5,7 +5,7 @@ use Rattle.std.proofs.lemmas.List.Elements.{All-contains}
 use Rattle.cc_base.specs.declared.place.Place.{Place}
 use Rattle.cc_base.specs.declared.number.TypeId.{TypeId}
 use Rattle.c_types.specs.declared.shape.TypeShape.{TypeShape}
-use Rattle.c_types.specs.declared.shape.TypeShape.TheVariants.{Void, Integer, Pointer, Array, Function, Struct, Union}
+use Rattle.c_types.specs.declared.shape.TypeShape.TheVariants.{Pointer, Function}
 use Rattle.c_types.specs.Table.{Table, IsType, shape_at, named_by}
 use Rattle.c_types.proofs.Lists.{contains_head, contains_tail}
 use Rattle.c_tree.specs.declared.operator.Assignment.{Assignment}
@@ -29,8 +29,8 @@ use Rattle.c_typing.specs.Conversions.{implicit_between, implicit, cast_between,
 use Rattle.c_typing.specs.Extensions.{IsExtended}
 use Rattle.c_typing.specs.Integers.{is_logical, is_order}
 use Rattle.c_typing.specs.Operands.{Value, argument_of}
-use Rattle.c_typing.specs.Operations.{int_type, size_type, pointed_place, pointed, promoted_operand, operator_on, element, arithmetic, equated, compared, pointers, by_kinds, operation}
-use Rattle.c_typing.specs.Rules.{Meeting, meeting_of, meeting, meeting_pointee, side_conversion, into_choice, runtime_named}
+use Rattle.c_typing.specs.Operations.{int_type, size_type, pointed_place, pointed, promoted_operand, operator_on, element, equated, compared, pointers, by_kinds, operation}
+use Rattle.c_typing.specs.Rules.{Meeting, meeting_of, meeting, side_conversion, into_choice, runtime_named}
 use Rattle.c_typing.specs.Settled.{IsBasic}
 use Rattle.c_typing.specs.Shapes.{is_function_shape, is_pointer_shape, is_void_shape, integer_at, pointee_at}
 use Rattle.c_typing.specs.Tests.{Elaborated, AsPlace, AsValue, AsAllocation, pointed_shape}
@@ -105,7 +105,7 @@ module _ (J T : Table) (x : IsExtended J T) (b : IsBasic J) where
       let first = TypesAlike.integer-over J T x b (type_of a) h.type in
       let second = TypesAlike.integer-over J T x b (type_of c) k.type in
       let same : by_kinds J operator a at c (integer_at J (type_of a)) (integer_at J (type_of c)) (is_pointer_shape (shape_at J (type_of a))) (is_pointer_shape (shape_at J (type_of c)))
-          ≡ by_kinds T operator a at c (integer_at T (type_of a)) (integer_at T (type_of c)) (is_pointer_shape (shape_at T (type_of a))) (is_pointer_shape (shape_at T (type_of c))) =
+      ≡ by_kinds T operator a at c (integer_at T (type_of a)) (integer_at T (type_of c)) (is_pointer_shape (shape_at T (type_of a))) (is_pointer_shape (shape_at T (type_of c))) =
       kinds_by operator a at c (integer_at J (type_of a)) (integer_at J (type_of c)) (is_pointer_shape (shape_at J (type_of a))) (is_pointer_shape (shape_at J (type_of c))) h k
       ∙ (λ i. by_kinds T operator a at c (first i) (second i) (is_pointer_shape (left i)) (is_pointer_shape (right i))) in
       ap (λ (e : TypedExpr). if is_logical operator then typed.Logical operator a at c int_type else e) same

@@ -1,5 +1,5 @@
 -- The rules of operators, of `sizeof` and of members are over an earlier table what they are over each that goes on from it.
-use Rattle.std.proofs.Common.{◌≡◌, Bool, true, false, not, ◌&&◌, ◌||◌, List, [], ◌∷◌, refl, ap, ◌∙◌, if◌then◌else◌}
+use Rattle.std.proofs.Common.{◌≡◌, Bool, not, ◌&&◌, ◌||◌, [], ◌∷◌, refl, ap, if◌then◌else◌}
 use Rattle.cc_base.specs.declared.place.Place.{Place}
 use Rattle.cc_base.specs.declared.number.TypeId.{TypeId}
 use Rattle.cc_base.specs.declared.fault.Rule.TheVariants as rule
@@ -18,7 +18,7 @@ use Rattle.c_typing.specs.Refusals.{member_shape_tests, type_size_tests}
 use Rattle.c_typing.specs.Scopes.{Scopes}
 use Rattle.c_typing.specs.Settled.{IsBasic}
 use Rattle.c_typing.specs.Shapes.{is_integer_shape, is_pointer_shape, is_scalar_shape}
-use Rattle.c_typing.specs.Tests.{Elaborated, Test, broken_at, shape_of, can_be_written, is_index_pair, is_moving, accepts, target_tests, size_tests, step_tests, prefix_tests, index_tests, infix_tests, member_tests}
+use Rattle.c_typing.specs.Tests.{Elaborated, broken_at, shape_of, can_be_written, is_index_pair, is_moving, accepts, target_tests, size_tests, step_tests, prefix_tests, index_tests, infix_tests, member_tests}
 use Rattle.c_rules_alike.specs.PartsThere.{IsPartThere}
 use Rattle.c_rules_alike.proofs.TypesAlike
 use Rattle.c_rules_alike.proofs.PartsAlike

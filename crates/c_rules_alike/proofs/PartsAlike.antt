@@ -1,14 +1,13 @@
 -- What rules read of a part whose type is in an earlier table: its shape, what that points to, whether it is a null constant, and its
 -- constant are over that table what they are over each that goes on from it.
-use Rattle.std.proofs.Common.{◌≡◌, ℤ, Bool, true, false, not, ◌&&◌, ◌||◌, Option, None, Some, refl, ap, sym, ◌∙◌, if◌then◌else◌}
+use Rattle.std.proofs.Common.{◌≡◌, Bool, true, false, not, ◌&&◌, ◌||◌, None, Some, refl, ap, sym, ◌∙◌, if◌then◌else◌}
 use Rattle.cc_base.specs.declared.number.TypeId.{TypeId}
 use Rattle.c_types.specs.declared.shape.TypeShape.{TypeShape}
 use Rattle.c_types.specs.declared.shape.TypeShape.TheVariants.{Void, Integer, Pointer, Array, Function, Struct, Union}
 use Rattle.c_types.specs.Table.{Table, IsType, shape_at, is_aggregate_shape}
 use Rattle.c_tree.specs.declared.operator.Binary.{Binary}
-use Rattle.c_tree.specs.declared.typed_word.Conversion.{Conversion}
 use Rattle.c_tree.specs.declared.typed_word.Conversion.TheVariants as conversion
-use Rattle.c_tree.specs.TypedTree.{TypedExpr, TypedPlace}
+use Rattle.c_tree.specs.TypedTree.{TypedExpr}
 use Rattle.c_tree.specs.TypedParts.{type_of, place_type}
 use Rattle.c_typing.specs.Constants.{constant_value, is_null_constant}
 use Rattle.c_typing.specs.Conversions.{implicit_between}

@@ -1,5 +1,5 @@
 -- A type that is in an earlier table is there what it is in each that goes on from it.
-use Rattle.std.proofs.Common.{◌≡◌, ℕ, Bool, true, ◌&&◌, ◌==◌, Option, Some, refl, ap, sym, subst, ◌∙◌, slice_index_or}
+use Rattle.std.proofs.Common.{◌≡◌, ℕ, Bool, true, ◌&&◌, Some, ap, sym, subst, slice_index_or}
 use Rattle.cc_base.specs.declared.number.TypeId.{TypeId}
 use Rattle.c_types.specs.declared.layout.Layout.{Layout}
 use Rattle.c_types.specs.declared.shape.TypeShape.{TypeShape}
@@ -7,7 +7,6 @@ use Rattle.c_types.specs.declared.shape.TypeShape.TheVariants.{Void, Integer, Po
 use Rattle.c_types.specs.Table.{Table, Entry, IsType, IsComplete, shape_at}
 use Rattle.c_types.specs.Layouts.{size_of, member_at}
 use Rattle.c_tree.specs.TypedTree.{TypedExpr}
-use Rattle.integers.specs.Arithmetic.{IntegerType}
 use Rattle.c_typing.specs.Constants.{is_void_pointer}
 use Rattle.c_typing.specs.Conversions.{bare, is_allocation, is_taken_as, is_pointer_to_complete, takes_over}
 use Rattle.c_typing.specs.Extensions.{IsExtended}

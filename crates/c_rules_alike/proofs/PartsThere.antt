@@ -1,9 +1,13 @@
 -- The parts that judging gives, their values, and what is given of them to a type, are well typed, and their types are in the table.
-use Rattle.std.proofs.Common.{◌≡◌, Bool, true, false, List, [], ◌∷◌, ◌++◌, map, Option, None, Some, refl, sym, subst, inl, inr}
+use Rattle.std.proofs.Common.{◌≡◌, ◌==◌, Bool, true, false, List, [], ◌∷◌, ◌++◌, map, Option, None, Some, refl, ap, sym, subst, ◌∙◌, inl, inr, if◌then◌else◌}
+use Rattle.std.proofs.lemmas.Bool.Decides.{Decides-eqb}
+use Rattle.std.proofs.lemmas.Option.{none-some}
 use Rattle.cc_base.specs.declared.place.Place.{Place}
 use Rattle.cc_base.specs.declared.number.TypeId.{TypeId}
 use Rattle.c_types.specs.Table.{Table, IsType}
 use Rattle.c_tree.specs.declared.leaf.Identifier.{Identifier}
+use Rattle.c_tree.specs.declared.typed_word.Conversion.{Conversion}
+use Rattle.c_tree.specs.declared.typed_word.Conversion.TheVariants as conversion
 use Rattle.c_tree.specs.Places.{expr_place}
 use Rattle.c_tree.specs.Tree as tree
 use Rattle.c_tree.specs.TypedTree as typed
@@ -11,7 +15,7 @@ use Rattle.c_tree.specs.TypedTree.{TypedExpr}
 use Rattle.c_tree.specs.TypedParts.{type_of}
 use Rattle.c_typing.specs.declared.declared.Tag.{Tag}
 use Rattle.c_typing.specs.Assignments.{part_type}
-use Rattle.c_typing.specs.Conversions.{is_droppable, is_pointer_to_complete}
+use Rattle.c_typing.specs.Conversions.{bare, is_droppable, implicit, converting, converting_by, is_pointer_to_complete, takes_over, IsAssignedBy}
 use Rattle.c_typing.specs.Extensions.{IsExtended}
 use Rattle.c_typing.specs.Judging.{State, Gives, pure}
 use Rattle.c_typing.specs.Operands.{Value, made_for, raw_value, value_of, side_of, given_allocation, given, argument_of}
@@ -24,11 +28,13 @@ use Rattle.c_typing.specs.Typing.{IsTyped, tag_named_here}
 use Rattle.c_typing_laws.proofs.ExtensionLaws.{no_true, still_in}
 use Rattle.c_typing_laws.proofs.JudgedAssignments.{IsGiven, given-gives}
 use Rattle.c_typing_laws.proofs.JudgedTrees.{value_done}
+use Rattle.c_typing_laws.proofs.KeptConstants.{same_type, scalar_in}
 use Rattle.c_typing_laws.proofs.KeptTrees.{value-kept, place-kept}
 use Rattle.c_typing_laws.proofs.KnownScopes.{tag_here-there}
 use Rattle.c_typing_laws.proofs.Outcomes.{bind-gives, gives-value}
 use Rattle.c_typing_laws.proofs.TypesThere as there
 use Rattle.c_typing_laws.proofs.ValuesTaken.{value_of-gives, given-same}
+use Rattle.c_typing_laws.specs.Judged.{IsChecked, IsCheckedFor, BecomesBy}
 use Rattle.c_rules_alike.specs.PartsThere.{IsPartThere, AreArgumentsThere, IsTagThereIf}
 
 part_typed : (T : Table) (e : tree.Expr) (p : Elaborated) (s s' : Scopes) → IsElaborated T e p s s' → IsPartTyped T p s s'
@@ -104,6 +110,43 @@ given-there e t at (AsValue w) y s0 s r k there el h =
 given-there e t at (AsPlace p) y s0 s r k there el h =
     let one = bind-gives (value_of at (AsPlace p) s) (λ u. pure (side_of u)) y r h in
     gives_part (side_of one.0) y one.1 r one.3 (taken_side-there e at (AsPlace p) one.0 s0 s one.1 k el one.2)
+
+-- What a unit asks of its expressions
+
+pub converting-type : (w : Conversion) (at : Place) (t : TypeId) (e : TypedExpr) → type_of (converting w at t e) ≡ t
+converting-type conversion.IntegerToInteger at t e = by ((type_of e).0 == t.0) refl
+  where
+    by : (c : Bool) → ((type_of e).0 == t.0) ≡ c → type_of (if c then e else typed.Convert conversion.IntegerToInteger at t e) ≡ t
+    by true h = same_type (type_of e) t ((Decides-eqb (type_of e).0 t.0).0 h)
+    by false h = refl
+converting-type w at t e = refl
+
+made_type : (o : Option Conversion) (at : Place) (t : TypeId) (e v : TypedExpr) → converting_by o at t e ≡ Some v → type_of v ≡ t
+made_type None at t e v h = absurd (none-some v h)
+made_type (Some w) at t e v h = ap type_of (some_same (converting w at t e) v h) ∙ converting-type w at t e
+  where
+    some_same : (a c : TypedExpr) → Some a ≡ Some c → c ≡ a
+    some_same a c p = cc
+
+assigned_type : (c : Bool) (T : Table) (at : Place) (t : TypeId) (v : TypedExpr) → IsAssignedBy c T at t v → type_of v ≡ t
+assigned_type true T at t v h = h.type
+assigned_type false T at t v h = made_type (implicit T (bare v) t) at t (bare v) v h.made
+
+becomes_type : (init : Bool) (T : Table) (s : Scopes) (at : Place) (t : TypeId) (v : TypedExpr) → BecomesBy init T s at t v → type_of v ≡ t
+becomes_type true T s at t v h = assigned_type (takes_over T s t v) T at t v h
+becomes_type false T s at t v h = made_type (implicit T (bare v) t) at t (bare v) v h.made
+
+-- the value of an expression
+pub checked-there : (e : tree.Expr) (v : TypedExpr) (s r : State) → IsChecked e v s r → IsPartThere r.table (AsValue v)
+checked-there e v s r j = value-there r.table j.goes.known.basic v s.seen.scopes r.seen.scopes j.typed j.droppable
+
+-- its value where it becomes one of a type
+pub checked_for-there : (t : TypeId) (at : Place) (init : Bool) (e : tree.Expr) (v : TypedExpr) (s r : State) → IsCheckedFor t at init e v s r
+    → IsPartThere r.table (AsValue v)
+checked_for-there t at init e v s r j = value_part r.table v s.seen.scopes r.seen.scopes j.typed (elim j.becomes [
+  | inl u ↦ dropped_in r.table j.goes.known.basic v s.seen.scopes r.seen.scopes j.typed (ap is_droppable u.unread)
+  | inr c ↦ subst (IsType r.table) (sym (becomes_type init r.table r.seen.scopes at t v c.1)) (scalar_in r.table t c.0)
+])
 
 -- Arguments
 

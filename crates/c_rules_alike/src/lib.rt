@@ -36,6 +36,7 @@ ghost use Rattle.c_typing.specs.Settled.{AreValuesOf, IsBasic, IsKnown};
 ghost use Rattle.c_typing.specs.Shapes.{integer_at, pointee_at};
 ghost use Rattle.c_typing.specs.Tests.{Argument, AsPlace, AsValue, Elaborated, are_one_struct, array_size_tests, array_tests, assign_tests, call_tests, cast_tests, choice_tests, constant_tests, fits, function_tests, index_tests, infix_tests, is_null_part, is_taken_tag, meet, member_type_tests, parameter_type_tests, prefix_tests, shape_of, size_tests, step_tests, target_tests};
 ghost use Rattle.c_typing.specs.Typing.{IsTyped, tag_named_here};
+ghost use Rattle.c_typing_laws.specs.Judged.{IsChecked, IsCheckedFor};
 ghost use Rattle.c_rules_alike.specs.PartsThere.{AreArgumentsThere, IsPartThere, IsTagThereIf};
 
 /// A type that is in a table is in each later one what it is there: its shape, whether it is complete, what it takes without being told (C99 6.2.5,
@@ -59,6 +60,12 @@ pub fn what_judging_gives_is_there()
     ensures arguments { (T : Table) → IsBasic T → (all : tree.Arguments) (list : List Argument) (s s' : Scopes) → AreElaborated T all list s s' → AreArgumentsThere T list }
     ensures values { (T : Table) → IsBasic T → (all : tree.Arguments) (values : List Value) (s s' : Scopes) → AreValuesOf T all values s s' → AreArgumentsThere T (map argument_of values) }
     ensures later { (J T : Table) → IsExtended J T → IsBasic J → (p : Elaborated) → IsPartThere J p → IsPartThere T p }
+{}
+
+/// The value of an expression that a unit asks for, and its value where it becomes one of a type, are there (C99 6.7.8, 6.8).
+pub fn what_is_checked_is_there()
+    ensures value { (e : tree.Expr) (v : TypedExpr) (s r : State) → IsChecked e v s r → IsPartThere r.table (AsValue v) }
+    ensures becomes { (t : TypeId) (at : Place) (init : Bool) (e : tree.Expr) (v : TypedExpr) (s r : State) → IsCheckedFor t at init e v s r → IsPartThere r.table (AsValue v) }
 {}
 
 /// The value of a part, with a struct that is not read, and what is given of a part to a type are there; so is a tag of the innermost scope.

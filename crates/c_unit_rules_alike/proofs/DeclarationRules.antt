@@ -1,6 +1,6 @@
 -- The rules of declared names, of definitions and of `main` are over an earlier table what they are over each that goes on from it.
-use Rattle.std.proofs.Common.{◌≡◌, ℕ, Bool, true, false, not, ◌&&◌, ◌||◌, List, [], ◌∷◌, Option, None, Some, codes, refl, ap, ◌∙◌, if◌then◌else◌}
-use Rattle.std.specs.List.{All, Contains}
+use Rattle.std.proofs.Common.{◌≡◌, Bool, true, false, not, ◌&&◌, ◌||◌, List, [], ◌∷◌, Option, None, Some, codes, refl, ap, ◌∙◌, if◌then◌else◌}
+use Rattle.std.specs.List.{Contains}
 use Rattle.std.proofs.lemmas.List.Elements.{All-contains}
 use Rattle.cc_base.specs.declared.number.TypeId.{TypeId}
 use Rattle.cc_base.specs.declared.place.Place.{Place}
@@ -105,7 +105,7 @@ module _ (J T : Table) (x : IsExtended J T) (b : IsBasic J) where
   declared-over k file storage initialised name t at n h =
       let what = declared_as-over storage t h in
       let again : is_redeclared J k (has_linkage file storage (declared_as J storage t)) initialised name (declared_as J storage t)
-          ≡ is_redeclared T k (has_linkage file storage (declared_as T storage t)) initialised name (declared_as T storage t) =
+      ≡ is_redeclared T k (has_linkage file storage (declared_as T storage t)) initialised name (declared_as T storage t) =
       redeclared-over k (has_linkage file storage (declared_as J storage t)) initialised name (declared_as J storage t) n (declared_as-there storage t h)
       ∙ ap (λ (w : Declared). is_redeclared T k (has_linkage file storage w) initialised name w) what in
       let complete = TypesAlike.complete-over J T x b k.scopes t h in

@@ -1,14 +1,12 @@
 -- The rules of initialisers, and what they read of types, are over an earlier table what they are over each that goes on from it.
-use Rattle.std.proofs.Common.{◌≡◌, ℕ, Bool, true, false, not, ◌&&◌, ◌||◌, ◌==◌, List, [], ◌∷◌, Option, None, Some, refl, ap, sym, ◌∙◌, if◌then◌else◌}
+use Rattle.std.proofs.Common.{◌≡◌, ℕ, Bool, true, false, not, ◌&&◌, ◌||◌, List, [], ◌∷◌, None, Some, refl, ap, sym, ◌∙◌, if◌then◌else◌}
 use Rattle.cc_base.specs.declared.number.NodeId.{NodeId}
 use Rattle.cc_base.specs.declared.number.TypeId.{TypeId}
 use Rattle.cc_base.specs.declared.place.Place.{Place}
 use Rattle.cc_base.specs.declared.fault.Rule.TheVariants as rule
-use Rattle.c_types.specs.declared.layout.Layout.{Layout}
 use Rattle.c_types.specs.declared.shape.TypeShape.{TypeShape}
 use Rattle.c_types.specs.declared.shape.TypeShape.TheVariants.{Void, Integer, Pointer, Array, Function, Struct, Union}
-use Rattle.c_types.specs.Table.{Table, Entry, IsType, IsComplete, shape_at, entry_at, is_complete, is_aggregate_shape}
-use Rattle.c_types.specs.Layouts.{size_of}
+use Rattle.c_types.specs.Table.{Table, IsType, IsComplete, shape_at, is_complete, is_aggregate_shape}
 use Rattle.c_tree.specs.declared.typed_word.Side.TheVariants as side
 use Rattle.c_tree.specs.Tree as tree
 use Rattle.c_tree.specs.TypedTree as typed
@@ -17,7 +15,6 @@ use Rattle.c_tree.specs.TypedParts.{place_type}
 use Rattle.c_typing.specs.Extensions.{IsExtended}
 use Rattle.c_typing.specs.Scopes.{Scopes}
 use Rattle.c_typing.specs.Settled.{IsBasic}
-use Rattle.c_typing.specs.Shapes.{is_scalar_shape}
 use Rattle.c_typing.specs.Tests.{Elaborated, AsPlace, AsValue, AsAllocation, broken_at}
 use Rattle.c_typing.specs.Typing.{IsTyped, IsPlace}
 use Rattle.c_typing_laws.proofs.ExtensionLaws.{array_in}
@@ -27,7 +24,7 @@ use Rattle.c_rules_alike.proofs.TypesAlike
 use Rattle.c_rules_alike.proofs.PartsAlike
 use Rattle.c_unit_typing.specs.DeclarationJudging.{complete_size}
 use Rattle.c_unit_typing.specs.InitialiserJudging.{constant_tests, item_slot}
-use Rattle.c_unit_typing.specs.Initialisers.{Slot, slot_of_shape, char_count_of_shape, char_count_of_element, has_count, has_value, is_char_array, is_integer_constant, is_constant_place, is_constant_array, is_constant, is_one_array, is_char_shape, makes_chars}
+use Rattle.c_unit_typing.specs.Initialisers.{slot_of_shape, char_count_of_shape, char_count_of_element, has_count, has_value, is_char_array, is_integer_constant, is_constant_place, is_constant_array, is_constant, is_one_array, is_char_shape, makes_chars}
 use Rattle.c_unit_typing.specs.UnitRefusals.{Asked, is_constant_part, initialises_type, value_tests}
 use Rattle.c_unit_typing.proofs.KeptInitialisers.{slot-same}
 

@@ -55,7 +55,8 @@ module _ (J T : Table) (x : IsExtended J T) (b : IsBasic J) where
       let null = PartsAlike.null-over J T x b p h in
       λ i. objects i || null i
 
-  runtimes_over : (rs : List RuntimeType) (list : List Argument) → AreArgumentsThere J list → runtime_argument_tests J rs list ≡ runtime_argument_tests T rs list
+  runtimes_over : (rs : List RuntimeType) (list : List Argument) → AreArgumentsThere J list
+      → runtime_argument_tests J rs list ≡ runtime_argument_tests T rs list
   runtimes_over [] list h = refl
   runtimes_over (r ∷ rs) [] h = refl
   runtimes_over (r ∷ rs) (a ∷ list) h =
@@ -72,5 +73,6 @@ module _ (J T : Table) (x : IsExtended J T) (b : IsBasic J) where
       ap (λ (tests : List Test). tests ++ broken_at rule.BadCall at (not (length (prototype_of function).parameters == length list)) ∷ [])
       (runtimes_over (prototype_of function).parameters list k)
 
-  pub call-over : (at : Place) (f : Elaborated) (list : List Argument) → IsPartThere J f → AreArgumentsThere J list → call_tests J at f list ≡ call_tests T at f list
+  pub call-over : (at : Place) (f : Elaborated) (list : List Argument) → IsPartThere J f → AreArgumentsThere J list
+      → call_tests J at f list ≡ call_tests T at f list
   call-over at f list h k = by_over (runtime_part f) at f list h k

@@ -23,7 +23,8 @@ use Rattle.c_rules_alike.proofs.PartsAlike
 use Rattle.c_rules_alike.proofs.OperatorRules
 
 module _ (J T : Table) (x : IsExtended J T) (b : IsBasic J) where
-  pub assignable-over : (operator : Assignment) (p q : Elaborated) → IsPartThere J p → IsPartThere J q → is_assignable J operator p q ≡ is_assignable T operator p q
+  pub assignable-over : (operator : Assignment) (p q : Elaborated) → IsPartThere J p → IsPartThere J q
+      → is_assignable J operator p q ≡ is_assignable T operator p q
   assignable-over assignment.Assign p q h k =
       let fit = PartsAlike.fits_part-over J T x b q p k h in
       let struct = PartsAlike.struct-over J T x b p q h k in
@@ -45,7 +46,8 @@ module _ (J T : Table) (x : IsExtended J T) (b : IsBasic J) where
       ∷ broken_at rule.NotPlace at (not (can_be_written p) || array i)
       ∷ []
 
-  pub choice-over : (at : Place) (c p q : Elaborated) → IsPartThere J c → IsPartThere J p → IsPartThere J q → choice_tests J at c p q ≡ choice_tests T at c p q
+  pub choice-over : (at : Place) (c p q : Elaborated) → IsPartThere J c → IsPartThere J p → IsPartThere J q
+      → choice_tests J at c p q ≡ choice_tests T at c p q
   choice-over at c p q l h k =
       let condition = PartsAlike.shape_of-over J T x b c l in
       let left = PartsAlike.shape_of-over J T x b p h in

@@ -12,9 +12,11 @@ use Rattle.c_typing.specs.declared.declared.Tag.{Tag}
 use Rattle.c_typing.specs.declared.declared.Tag.TheVariants as tag
 use Rattle.c_typing.specs.Declarators.{Outermost, first_word_place, is_pointed, is_result_shape}
 use Rattle.c_typing.specs.Extensions.{IsExtended}
-use Rattle.c_typing.specs.Scopes.{Scopes, is_no_list}
+use Rattle.c_typing.specs.Judging.{known}
+use Rattle.c_typing.specs.Scopes.{Scopes, Seen, is_no_list, is_complete_at}
 use Rattle.c_typing.specs.Settled.{IsBasic}
-use Rattle.c_typing.specs.Tests.{Elaborated, broken_at, is_tag_of, is_taken_tag, lacks_size, constant_tests, array_size_tests, array_tests, function_tests, member_type_tests, parameter_type_tests}
+use Rattle.c_typing.specs.Specifying.{is_taken_at_end}
+use Rattle.c_typing.specs.Tests.{Elaborated, broken_at, aggregate_tests, is_tag_of, is_taken_tag, lacks_size, constant_tests, array_size_tests, array_tests, function_tests, member_type_tests, parameter_type_tests}
 use Rattle.c_rules_alike.specs.PartsThere.{IsPartThere, IsTagThereIf}
 use Rattle.c_rules_alike.proofs.TypesAlike
 use Rattle.c_rules_alike.proofs.PartsAlike
@@ -30,8 +32,8 @@ module _ (J T : Table) (x : IsExtended J T) (b : IsBasic J) where
 
   -- the types that a declarator makes
 
-  pub array_tests-over : (s : Scopes) (outermost : Outermost) (sized : Bool) (bracket : Place) (words : List Word) (t : TypeId) (at : Place) → IsType J t
-      → array_tests J s outermost sized bracket words t at ≡ array_tests T s outermost sized bracket words t at
+  pub array_tests-over : (s : Scopes) (outermost : Outermost) (sized : Bool) (bracket : Place) (words : List Word) (t : TypeId) (at : Place)
+      → IsType J t → array_tests J s outermost sized bracket words t at ≡ array_tests T s outermost sized bracket words t at
   array_tests-over s outermost sized bracket words t at h =
       let complete = TypesAlike.complete-over J T x b s t h in
       λ i. broken_at rule.Incomplete bracket (lacks_size outermost sized)
@@ -45,7 +47,8 @@ module _ (J T : Table) (x : IsExtended J T) (b : IsBasic J) where
   pub member_type-over : (s : Scopes) (t : TypeId) (at : Place) → IsType J t → member_type_tests J s t at ≡ member_type_tests T s t at
   member_type-over s t at h = ap (λ (c : Bool). broken_at rule.Incomplete at (not c) ∷ []) (TypesAlike.complete-over J T x b s t h)
 
-  pub parameter_type-over : (s : Scopes) (void : Bool) (t : TypeId) (at : Place) → IsType J t → parameter_type_tests J s void t at ≡ parameter_type_tests T s void t at
+  pub parameter_type-over : (s : Scopes) (void : Bool) (t : TypeId) (at : Place) → IsType J t
+      → parameter_type_tests J s void t at ≡ parameter_type_tests T s void t at
   parameter_type-over s void t at h =
       let complete = TypesAlike.complete-over J T x b s t h in
       let shape = TypesAlike.shape-over J T x b t h in
@@ -58,3 +61,16 @@ module _ (J T : Table) (x : IsExtended J T) (b : IsBasic J) where
   tag-over s which (Some (tag.Aggregate k t)) h =
       ap (λ (c : Bool). not (is_tag_of which (tag.Aggregate k t)) || c) (TypesAlike.complete-over J T x b s t h.1.0)
   tag-over s which (Some tag.Enumeration) h = refl
+
+  -- whether a struct or union is taken by the end of its members, and the rules of its end
+  pub end-over : (seen : Seen) (begun : Option TypeId) → ((t : TypeId) → begun ≡ Some t → IsType J t)
+      → is_taken_at_end (known J seen) begun ≡ is_taken_at_end (known T seen) begun
+  end-over seen None h = refl
+  end-over seen (Some t) h = TypesAlike.complete-over J T x b seen.scopes t (h t refl)
+
+  pub aggregate-over : (s n : Scopes) (which : AggregateKind) (o : Option Tag) (t : TypeId) (at : Place) (empty : Bool) → IsTagThereIf J o → IsType J t
+      → aggregate_tests (is_taken_tag J s which o || is_complete_at J n t) at empty ≡ aggregate_tests (is_taken_tag T s which o || is_complete_at T n t) at empty
+  aggregate-over s n which o t at empty h k =
+      let tagged = tag-over s which o h in
+      let complete = TypesAlike.complete-over J T x b n t k in
+      λ i. aggregate_tests (tagged i || complete i) at empty

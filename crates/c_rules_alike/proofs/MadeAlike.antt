@@ -40,6 +40,12 @@ use Rattle.c_rules_alike.proofs.TypesAlike
 use Rattle.c_rules_alike.proofs.PartsAlike
 use Rattle.c_rules_alike.proofs.CallRules
 
+-- an operation on two operands, by their kinds
+abbrev kinds_of : Table → Binary → TypedExpr → Place → TypedExpr → TypedExpr
+kinds_of U operator a at c =
+    by_kinds U operator a at c (integer_at U (type_of a)) (integer_at U (type_of c)) (is_pointer_shape (shape_at U (type_of a)))
+    (is_pointer_shape (shape_at U (type_of c)))
+
 module _ (J T : Table) (x : IsExtended J T) (b : IsBasic J) where
   -- operators
 
@@ -47,7 +53,8 @@ module _ (J T : Table) (x : IsExtended J T) (b : IsBasic J) where
   pointed_by at e None h = refl
   pointed_by at e (Some t) h = ap (λ (y : TypeShape). pointed_place at e t (is_function_shape y)) (TypesAlike.shape-over J T x b t (h t refl))
 
-  pub pointed-over : (at : Place) (e : TypedExpr) → IsPartThere J (AsValue e) → pointed J at e (pointee_at J (type_of e)) ≡ pointed T at e (pointee_at T (type_of e))
+  pub pointed-over : (at : Place) (e : TypedExpr) → IsPartThere J (AsValue e)
+      → pointed J at e (pointee_at J (type_of e)) ≡ pointed T at e (pointee_at T (type_of e))
   pointed-over at e h =
       pointed_by at e (pointee_at J (type_of e)) (TypesAlike.pointee-in J T x b (type_of e))
       ∙ ap (pointed T at e) (TypesAlike.pointee-over J T x b (type_of e) h.type)
@@ -59,7 +66,8 @@ module _ (J T : Table) (x : IsExtended J T) (b : IsBasic J) where
       let right = TypesAlike.pointee-over J T x b (type_of c) k.type in
       λ i. element a at c (left i) (right i)
 
-  pub operator_on-over : (operator : Unary) (at : Place) (e : TypedExpr) → IsPartThere J (AsValue e) → operator_on J operator at e ≡ operator_on T operator at e
+  pub operator_on-over : (operator : Unary) (at : Place) (e : TypedExpr) → IsPartThere J (AsValue e)
+      → operator_on J operator at e ≡ operator_on T operator at e
   operator_on-over unary.Not at e h = refl
   operator_on-over operator at e h = ap (promoted_operand operator at e) (TypesAlike.integer-over J T x b (type_of e) h.type)
 
@@ -104,9 +112,9 @@ module _ (J T : Table) (x : IsExtended J T) (b : IsBasic J) where
       let right = TypesAlike.shape-over J T x b (type_of c) k.type in
       let first = TypesAlike.integer-over J T x b (type_of a) h.type in
       let second = TypesAlike.integer-over J T x b (type_of c) k.type in
-      let same : by_kinds J operator a at c (integer_at J (type_of a)) (integer_at J (type_of c)) (is_pointer_shape (shape_at J (type_of a))) (is_pointer_shape (shape_at J (type_of c)))
-      ≡ by_kinds T operator a at c (integer_at T (type_of a)) (integer_at T (type_of c)) (is_pointer_shape (shape_at T (type_of a))) (is_pointer_shape (shape_at T (type_of c))) =
-      kinds_by operator a at c (integer_at J (type_of a)) (integer_at J (type_of c)) (is_pointer_shape (shape_at J (type_of a))) (is_pointer_shape (shape_at J (type_of c))) h k
+      let y : Bool = is_pointer_shape (shape_at J (type_of a)) in
+      let z : Bool = is_pointer_shape (shape_at J (type_of c)) in
+      let same : kinds_of J operator a at c ≡ kinds_of T operator a at c = kinds_by operator a at c (integer_at J (type_of a)) (integer_at J (type_of c)) y z h k
       ∙ (λ i. by_kinds T operator a at c (first i) (second i) (is_pointer_shape (left i)) (is_pointer_shape (right i))) in
       ap (λ (e : TypedExpr). if is_logical operator then typed.Logical operator a at c int_type else e) same
 
@@ -143,7 +151,8 @@ module _ (J T : Table) (x : IsExtended J T) (b : IsBasic J) where
   cast_by-over (AsValue e) t false h k = ap conversion_or_void (cast_conversion-over e t h k)
   cast_by-over (AsAllocation e) t false h k = refl
 
-  pub cast_part-over : (at : Place) (to : TypedTypeName) (p : Elaborated) → IsPartThere J p → IsType J (named_type to) → cast_part J at to p ≡ cast_part T at to p
+  pub cast_part-over : (at : Place) (to : TypedTypeName) (p : Elaborated) → IsPartThere J p → IsType J (named_type to)
+      → cast_part J at to p ≡ cast_part T at to p
   cast_part-over at to p h k =
       ap (λ (w : Conversion). typed.Cast w at to (part_expr p)) (
       cast_by-over p (named_type to) (is_void_shape (shape_at J (named_type to))) h k
@@ -185,7 +194,8 @@ module _ (J T : Table) (x : IsExtended J T) (b : IsBasic J) where
   runtime_by prototype.Void v h = refl
   runtime_by prototype.VoidPointer v h = refl
 
-  runtimes_by : (rs : List RuntimeType) (values : List Value) → AreArgumentsThere J (map argument_of values) → runtime_arguments J rs values ≡ runtime_arguments T rs values
+  runtimes_by : (rs : List RuntimeType) (values : List Value) → AreArgumentsThere J (map argument_of values)
+      → runtime_arguments J rs values ≡ runtime_arguments T rs values
   runtimes_by [] values h = refl
   runtimes_by (r ∷ rs) [] h = refl
   runtimes_by (r ∷ rs) (v ∷ values) h =
@@ -199,7 +209,8 @@ module _ (J T : Table) (x : IsExtended J T) (b : IsBasic J) where
       ap (λ (es : List TypedExpr). AsValue (typed.Call f at (arguments_as es) r)) (arguments_by ps values (λ u c. k u (contains_tail r ps u c)) h)
   shape_by f at values y k h = refl
 
-  called_by : (f : TypedExpr) (at : Place) (values : List Value) (o : Option Runtime) → IsPartThere J (AsValue f) → AreArgumentsThere J (map argument_of values)
+  called_by : (f : TypedExpr) (at : Place) (values : List Value) (o : Option Runtime) → IsPartThere J (AsValue f)
+      → AreArgumentsThere J (map argument_of values)
       → called J f at values o ≡ called T f at values o
   called_by f at values None h k =
       let y : TypeShape = pointed_shape J (shape_at J (type_of f)) in

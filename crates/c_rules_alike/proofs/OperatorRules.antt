@@ -52,7 +52,8 @@ module _ (J T : Table) (x : IsExtended J T) (b : IsBasic J) where
       → broken_at rule.Mismatch at (not (f (shape_of J p))) ∷ [] ≡ broken_at rule.Mismatch at (not (f (shape_of T p))) ∷ []
   one f at p h = ap (λ (y : TypeShape). broken_at rule.Mismatch at (not (f y)) ∷ []) (PartsAlike.shape_of-over J T x b p h)
 
-  pub prefix-over : (operator : Unary) (s : Scopes) (at : Place) (p : Elaborated) → IsPartThere J p → prefix_tests J s operator at p ≡ prefix_tests T s operator at p
+  pub prefix-over : (operator : Unary) (s : Scopes) (at : Place) (p : Elaborated) → IsPartThere J p
+      → prefix_tests J s operator at p ≡ prefix_tests T s operator at p
   prefix-over unary.Increment s at p h = step-over s at p h
   prefix-over unary.Decrement s at p h = step-over s at p h
   prefix-over unary.AddressOf s at p h = refl

@@ -125,10 +125,12 @@ module _ (J T : Table) (x : IsExtended J T) (b : IsBasic J) where
   pub pointed-over : (p : Elaborated) → IsPartThere J p → pointed_shape J (shape_of J p) ≡ pointed_shape T (shape_of T p)
   pointed-over = over_part pointed_shape pointed_at
 
-  pub point_alike-over : (p q : Elaborated) → IsPartThere J p → IsPartThere J q → point_alike J (shape_of J p) (shape_of J q) ≡ point_alike T (shape_of T p) (shape_of T q)
+  pub point_alike-over : (p q : Elaborated) → IsPartThere J p → IsPartThere J q
+      → point_alike J (shape_of J p) (shape_of J q) ≡ point_alike T (shape_of T p) (shape_of T q)
   point_alike-over = over_two point_alike alike_at
 
-  pub taken_as-over : (p q : Elaborated) → IsPartThere J p → IsPartThere J q → taken_as J (shape_of J p) (shape_of J q) ≡ taken_as T (shape_of T p) (shape_of T q)
+  pub taken_as-over : (p q : Elaborated) → IsPartThere J p → IsPartThere J q
+      → taken_as J (shape_of J p) (shape_of J q) ≡ taken_as T (shape_of T p) (shape_of T q)
   taken_as-over = over_two taken_as taken_at
 
   pub array-over : (p : Elaborated) → IsPartThere J p → is_array_part J p ≡ is_array_part T p

@@ -4,7 +4,7 @@
 //! Each law is the contract of a function that does nothing.
 #![tactic(auto)]
 
-ghost use Rattle.std.specs.Prelude.{Bool, List, Option, map, true, ◌≡◌, ℕ};
+ghost use Rattle.std.specs.Prelude.{Bool, List, Option, Some, map, true, ◌||◌, ◌≡◌, ℕ};
 ghost use Rattle.cc_base.specs.declared.number.TypeId.{TypeId};
 ghost use Rattle.cc_base.specs.declared.place.Place.{Place};
 ghost use Rattle.c_types.specs.Layouts.{member_at, size_of};
@@ -26,15 +26,16 @@ ghost use Rattle.c_typing.specs.Constants.{constant_value};
 ghost use Rattle.c_typing.specs.Conversions.{is_droppable, is_pointer_to_complete, is_taken_as, takes_over};
 ghost use Rattle.c_typing.specs.Declarators.{Outermost};
 ghost use Rattle.c_typing.specs.Extensions.{IsExtended};
-ghost use Rattle.c_typing.specs.Judging.{Gives, State};
+ghost use Rattle.c_typing.specs.Judging.{Gives, State, known};
 ghost use Rattle.c_typing.specs.Operands.{Value, argument_of, given, side_of, value_of};
 ghost use Rattle.c_typing.specs.Operations.{element, operation, operator_on, pointed};
 ghost use Rattle.c_typing.specs.Refusals.{AreElaborated, IsElaborated, member_shape_tests, type_size_tests};
 ghost use Rattle.c_typing.specs.Rules.{into_choice, meeting, runtime_named};
-ghost use Rattle.c_typing.specs.Scopes.{Scopes, is_complete_at};
+ghost use Rattle.c_typing.specs.Scopes.{Scopes, Seen, is_complete_at};
 ghost use Rattle.c_typing.specs.Settled.{AreValuesOf, IsBasic, IsKnown};
 ghost use Rattle.c_typing.specs.Shapes.{integer_at, pointee_at};
-ghost use Rattle.c_typing.specs.Tests.{Argument, AsPlace, AsValue, Elaborated, are_one_struct, array_size_tests, array_tests, assign_tests, call_tests, cast_tests, choice_tests, constant_tests, fits, function_tests, index_tests, infix_tests, is_null_part, is_taken_tag, meet, member_type_tests, parameter_type_tests, prefix_tests, shape_of, size_tests, step_tests, target_tests};
+ghost use Rattle.c_typing.specs.Specifying.{is_taken_at_end};
+ghost use Rattle.c_typing.specs.Tests.{Argument, AsPlace, AsValue, Elaborated, aggregate_tests, are_one_struct, array_size_tests, array_tests, assign_tests, call_tests, cast_tests, choice_tests, constant_tests, fits, function_tests, index_tests, infix_tests, is_null_part, is_taken_tag, meet, member_type_tests, parameter_type_tests, prefix_tests, shape_of, size_tests, step_tests, target_tests};
 ghost use Rattle.c_typing.specs.Typing.{IsTyped, tag_named_here};
 ghost use Rattle.c_typing_laws.specs.Judged.{IsChecked, IsCheckedFor};
 ghost use Rattle.c_rules_alike.specs.PartsThere.{AreArgumentsThere, IsPartThere, IsTagThereIf};
@@ -116,6 +117,8 @@ pub fn a_later_table_keeps_the_rules_of_declarators()
     ensures function { (J T : Table) → IsExtended J T → IsBasic J → (t : TypeId) (at : Place) → IsType J t → function_tests J t at ≡ function_tests T t at }
     ensures member { (J T : Table) → IsExtended J T → IsBasic J → (s : Scopes) (t : TypeId) (at : Place) → IsType J t → member_type_tests J s t at ≡ member_type_tests T s t at }
     ensures parameter { (J T : Table) → IsExtended J T → IsBasic J → (s : Scopes) (void : Bool) (t : TypeId) (at : Place) → IsType J t → parameter_type_tests J s void t at ≡ parameter_type_tests T s void t at }
+    ensures aggregate { (J T : Table) → IsExtended J T → IsBasic J → (s n : Scopes) (which : AggregateKind) (o : Option Tag) (t : TypeId) (at : Place) (empty : Bool) → IsTagThereIf J o → IsType J t → aggregate_tests (is_taken_tag J s which o || is_complete_at J n t) at empty ≡ aggregate_tests (is_taken_tag T s which o || is_complete_at T n t) at empty }
+    ensures end { (J T : Table) → IsExtended J T → IsBasic J → (seen : Seen) (begun : Option TypeId) → ((t : TypeId) → begun ≡ Some t → IsType J t) → is_taken_at_end (known J seen) begun ≡ is_taken_at_end (known T seen) begun }
     ensures tag { (J T : Table) → IsExtended J T → IsBasic J → (s : Scopes) (which : AggregateKind) (o : Option Tag) → IsTagThereIf J o → is_taken_tag J s which o ≡ is_taken_tag T s which o }
 {}
 

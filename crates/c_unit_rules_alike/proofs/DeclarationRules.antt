@@ -58,7 +58,8 @@ module _ (J T : Table) (x : IsExtended J T) (b : IsBasic J) where
   runtime_type-over prototype.UnsignedLong t h = ap (λ (y : TypeShape). is_integer_of y 8 false) (TypesAlike.shape-over J T x b t h)
   runtime_type-over prototype.VoidPointer t h = TypesAlike.void_pointer-over J T x b t h
 
-  runtime_types_over : (rs : List RuntimeType) (ts : List TypeId) → ((u : TypeId) → Contains ts u → IsType J u) → are_runtime_types J rs ts ≡ are_runtime_types T rs ts
+  runtime_types_over : (rs : List RuntimeType) (ts : List TypeId) → ((u : TypeId) → Contains ts u → IsType J u)
+      → are_runtime_types J rs ts ≡ are_runtime_types T rs ts
   runtime_types_over [] [] k = refl
   runtime_types_over [] (t ∷ ts) k = refl
   runtime_types_over (r ∷ rs) [] k = refl
@@ -67,7 +68,8 @@ module _ (J T : Table) (x : IsExtended J T) (b : IsBasic J) where
       let rest = runtime_types_over rs ts (λ u c. k u (contains_tail t ts u c)) in
       λ i. one i && rest i
 
-  prototype_over : (function : Runtime) (y : TypeShape) → ((u : TypeId) → Contains (named_by y) u → IsType J u) → is_prototype_shape J function y ≡ is_prototype_shape T function y
+  prototype_over : (function : Runtime) (y : TypeShape) → ((u : TypeId) → Contains (named_by y) u → IsType J u)
+      → is_prototype_shape J function y ≡ is_prototype_shape T function y
   prototype_over function (Function ps r) k =
       let each = runtime_types_over (prototype_of function).parameters ps (λ u c. k u (contains_tail r ps u c)) in
       let last = runtime_type-over (prototype_of function).result r (k r (contains_head r ps)) in
@@ -77,7 +79,8 @@ module _ (J T : Table) (x : IsExtended J T) (b : IsBasic J) where
   named : (t u : TypeId) → Contains (named_by (shape_at J t)) u → IsType J u
   named t u c = All-contains (IsType J) (named_by (shape_at J t)) u (b.formed.each t).named c
 
-  pub prototype-over : (function : Runtime) (t : TypeId) → IsType J t → is_prototype_shape J function (shape_at J t) ≡ is_prototype_shape T function (shape_at T t)
+  pub prototype-over : (function : Runtime) (t : TypeId) → IsType J t
+      → is_prototype_shape J function (shape_at J t) ≡ is_prototype_shape T function (shape_at T t)
   prototype-over function t h =
       prototype_over function (shape_at J t) (named t) ∙ ap (is_prototype_shape T function) (TypesAlike.shape-over J T x b t h)
 
@@ -100,7 +103,8 @@ module _ (J T : Table) (x : IsExtended J T) (b : IsBasic J) where
 
   -- rules
 
-  pub declared-over : (k : Known) (file : Bool) (storage : Storage) (initialised : Bool) (name : Name) (t : TypeId) (at : Place) → IsNameThere J k name → IsType J t
+  pub declared-over : (k : Known) (file : Bool) (storage : Storage) (initialised : Bool) (name : Name) (t : TypeId) (at : Place)
+      → IsNameThere J k name → IsType J t
       → declared_tests J k file storage initialised name t at ≡ declared_tests T k file storage initialised name t at
   declared-over k file storage initialised name t at n h =
       let what = declared_as-over storage t h in

@@ -35,7 +35,8 @@ module _ (J T : Table) (x : IsExtended J T) (b : IsBasic J) where
   integer_over e s s' j o = ap has_value (sym (constant-kept J T x b e s s' j o))
 
   mutual
-    pub constant_place-over : (homes : List NodeId) (p : TypedPlace) (s s' : Scopes) → IsPlace J p s s' → is_constant_place J homes p ≡ is_constant_place T homes p
+    pub constant_place-over : (homes : List NodeId) (p : TypedPlace) (s s' : Scopes) → IsPlace J p s s'
+        → is_constant_place J homes p ≡ is_constant_place T homes p
     constant_place-over homes (typed.ParenPlace at p) s s' j = constant_place-over homes p s s' j
     constant_place-over homes (typed.Member p at name i n t) s s' j = constant_place-over homes p s s' j.0
     constant_place-over homes (typed.Element side.Left a at c t) s s' j =
@@ -48,7 +49,8 @@ module _ (J T : Table) (x : IsExtended J T) (b : IsBasic J) where
         λ i. one i && other i
     constant_place-over homes p s s' j = refl
 
-    constant_array-over : (homes : List NodeId) (e : TypedExpr) (s s' : Scopes) → IsTyped J e s s' → is_constant_array J homes e ≡ is_constant_array T homes e
+    constant_array-over : (homes : List NodeId) (e : TypedExpr) (s s' : Scopes) → IsTyped J e s s'
+        → is_constant_array J homes e ≡ is_constant_array T homes e
     constant_array-over homes (typed.Paren at e) s s' j = constant_array-over homes e s s' j.0
     constant_array-over homes (typed.Decay p n t) s s' j = constant_place-over homes p s s' j.0
     constant_array-over homes e s s' j = refl

@@ -1,0 +1,4 @@
+pub mod NamesThere
+pub mod DeclarationRules
+pub mod InitialiserRules
+pub mod StatementRules

@@ -6,3 +6,4 @@ pub mod CountedConstructs
 pub mod StepsKept
 pub mod CountedSteps
 pub mod CountedTrees
+pub mod CountedWhole

@@ -31,26 +31,26 @@ use Rattle.c_unit_limits.proofs.LastingSteps.{Lasts, lasts-none, lasts-on, lasts
 
 -- A statement's own rule, once it is kept, changes nothing
 
-tested_same : (at : Place) (c : TypedExpr) (one whole : TypedStatement) (s r : UnitState) → tested at c one s ≡ Gives whole r → Gives one s ≡ Gives whole r
+pub tested_same : (at : Place) (c : TypedExpr) (one whole : TypedStatement) (s r : UnitState) → tested at c one s ≡ Gives whole r → Gives one s ≡ Gives whole r
 unfolding tested
 tested_same at c one whole s r h = (unless-gives (first_broken (condition_tests s.table at (AsValue c))) (pure one) s whole r h).1
 
-tested_or_none_same : (at : Place) (c : Option TypedExpr) (one whole : TypedStatement) (s r : UnitState) → tested_or_none at c one s ≡ Gives whole r → Gives one s ≡ Gives whole r
+pub tested_or_none_same : (at : Place) (c : Option TypedExpr) (one whole : TypedStatement) (s r : UnitState) → tested_or_none at c one s ≡ Gives whole r → Gives one s ≡ Gives whole r
 unfolding tested_or_none
 tested_or_none_same at None one whole s r h = h
 tested_or_none_same at (Some c) one whole s r h = tested_same at c one whole s r h
 
-switched_same : (at : Place) (c : TypedExpr) (one whole : TypedStatement) (s r : UnitState) → switched at c one s ≡ Gives whole r → Gives one s ≡ Gives whole r
+pub switched_same : (at : Place) (c : TypedExpr) (one whole : TypedStatement) (s r : UnitState) → switched at c one s ≡ Gives whole r → Gives one s ≡ Gives whole r
 unfolding switched
 switched_same at c one whole s r h = (unless-gives (first_broken (switch_tests s.table at (AsValue c))) (pure one) s whole r h).1
 
-jump_same : (at : Place) (allowed : Bool) (one whole : TypedStatement) (s r : UnitState) → jump at allowed one s ≡ Gives whole r → Gives one s ≡ Gives whole r
+pub jump_same : (at : Place) (allowed : Bool) (one whole : TypedStatement) (s r : UnitState) → jump at allowed one s ≡ Gives whole r → Gives one s ≡ Gives whole r
 unfolding jump
 jump_same at allowed one whole s r h = (unless-gives (first_broken (jump_tests at allowed)) (pure one) s whole r h).1
 
 -- Labels
 
-labelled_same : (at : Place) (labels : List ℤ) (before list : TypedBlockItems) (e : TypedExpr) (o : Option ℤ) (s r : UnitState) → labelled at labels before e o s ≡ Gives list r
+pub labelled_same : (at : Place) (labels : List ℤ) (before list : TypedBlockItems) (e : TypedExpr) (o : Option ℤ) (s r : UnitState) → labelled at labels before e o s ≡ Gives list r
     → (z : ℤ) × (Gives (typed.AndCase before at e z) s ≡ Gives list r)
 unfolding labelled
 labelled_same at labels before list e None s r h = never-gives list (TooLarge at Types) s r h

@@ -22,3 +22,10 @@ pub mod LastingNames
 pub mod LastingDeclarations
 pub mod LastingStatements
 pub mod LastingUnits
+pub mod CellsSteps
+pub mod CellsInitialisers
+pub mod CellsNames
+pub mod CellsDeclarations
+pub mod CellsStatements
+pub mod CellsParameters
+pub mod CellsUnits

@@ -1,0 +1,5 @@
+//! The pointers that assignments of structs move: what judging counts of a part of the text is what the assignments in it move.
+#![tactic(auto)]
+
+pub mod cells;
+pub mod places;

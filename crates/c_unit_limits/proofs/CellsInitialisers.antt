@@ -1,0 +1,131 @@
+-- What judging counts of an initialiser is the pointers that its values move, and those of a struct that it copies.
+use Rattle.std.proofs.Common.{◌≡◌, ℕ, Bool, true, false, ◌&&◌, ◌+◌, List, [], ◌∷◌, ◌++◌, take, Option, Some, None, refl, subst, ◌∙◌, arith}
+use Rattle.cc_base.specs.declared.place.Place.{Place}
+use Rattle.cc_base.specs.declared.number.TypeId.{TypeId}
+use Rattle.cc_base.specs.declared.fault.Fault.TheVariants.{Refused, TooLarge}
+use Rattle.cc_base.specs.declared.fault.Limit.TheVariants.{Types}
+use Rattle.cc_base.specs.declared.fault.Rule.TheVariants as rule
+use Rattle.c_types.specs.Table.{IsType, IsComplete, shape_at}
+use Rattle.c_tree.specs.Places.{expr_place, initialiser_place, nowhere}
+use Rattle.c_tree.specs.Tree as tree
+use Rattle.c_tree.specs.TypedTree as typed
+use Rattle.c_tree.specs.TypedTree.{TypedExpr, TypedPlace, TypedInitialiser, TypedItems}
+use Rattle.c_tree.specs.TypedParts.{Made, Copy, place_type, made_by, made_by_place, made_by_initialiser, made_by_items}
+use Rattle.c_typing.specs.Cells.{count_cells}
+use Rattle.c_typing.specs.Checking.{checked_value}
+use Rattle.c_typing.specs.Judging as judging
+use Rattle.c_typing.specs.Judging.{State, Outcome}
+use Rattle.c_typing.specs.Rules.{pieces_bytes}
+use Rattle.c_typing.specs.Settled.{IsKnown}
+use Rattle.c_typing.specs.Shapes.{is_scalar_shape}
+use Rattle.c_typing.specs.Scopes.{Scopes}
+use Rattle.c_typing.specs.Tests.{first_broken}
+use Rattle.c_typing.specs.Typing.{IsTyped}
+use Rattle.c_typing_laws.proofs.JudgedWhole.{checked_value-judged}
+use Rattle.c_cells_kept.proofs.CellsMoved.{two-made}
+use Rattle.c_cells_kept.proofs.CompletePlaces.{place-whole}
+use Rattle.c_cells_kept.proofs.CountedConstructs.{count-moves}
+use Rattle.c_cells_kept.proofs.CountedWhole.{checked_value-moves}
+use Rattle.c_unit_limits.proofs.CellsSteps.{UnitMoves, unit-none, unit-then}
+use Rattle.c_unit_typing.specs.Initialisers.{Slot, char_count_of_shape, is_char_array, items_count}
+use Rattle.c_unit_typing.specs.InitialiserJudging.{text_tests, text, initialised, constant_tests, value_for, value_or_text, judge_plain, is_only_literal, item_slot, slot_type, with_item, judge_initialiser, judge_items}
+use Rattle.c_unit_typing.specs.UnitJudged.{state_of}
+use Rattle.c_unit_typing.specs.UnitJudging.{UnitState, Gives, next, pure, obeying, lifted}
+use Rattle.c_unit_typing.proofs.JudgedInitialisers.{slot_is, items-judged}
+use Rattle.c_unit_typing.proofs.KeptInitialisers.{complete-in, complete-kept, slot-complete}
+use Rattle.c_unit_typing.proofs.UnitOutcomes.{never-gives, bind-gives, unless-gives, given-same, lifted-gives}
+
+abbrev AreMade : TypedInitialiser → UnitState → UnitState → Type 0
+AreMade i s r = UnitMoves (made_by_initialiser i) s r
+
+value-moves : (v : TypedExpr) (one : TypedInitialiser) (s m r : UnitState) → UnitMoves (made_by v) s m → pure (typed.Value v) m ≡ Gives one r → AreMade one s r
+value-moves v one s m r n h = given-same (λ (i : TypedInitialiser) (q : UnitState). AreMade i s q) (typed.Value v) one m r h n
+
+initialised-moves : (at : Place) (v : TypedExpr) (one : TypedInitialiser) (c : Scopes) (s m r : UnitState) → IsKnown (state_of m) → IsTyped m.table v c m.seen.scopes
+    → UnitMoves (made_by v) s m → initialised at v m ≡ Gives one r → AreMade one s r
+unfolding initialised
+initialised-moves at (typed.Unread p) one c s m r k typed_there n h =
+    let two = bind-gives (lifted (count_cells at (place_type p)) m) (λ c. pure (typed.Copied p at)) one r h in
+    let counted = lifted-gives (count_cells at (place_type p)) two.0 m two.1 two.2 in
+    given-same (λ (i : TypedInitialiser) (q : UnitState). AreMade i s q) (typed.Copied p at) one two.1 r two.3
+    (record {
+      moves = λ ready.
+          let there = n.moves ready in
+          let whole = place-whole m.table m.seen.scopes there.1.0.formed k.followed k.numbered there.1.1 p c typed_there.0 in
+          two-made (made_by_place p) (Copy (place_type p) ∷ []) (state_of s) (state_of m) (state_of two.1) n.moves
+          (count-moves at (place_type p) two.0 (state_of m) (state_of two.1) whole counted.0) ready;
+    })
+initialised-moves at v one c s m r k typed_there n h = value-moves v one s m r n h
+
+value_for-moves : (constant : Bool) (at : Place) (t : TypeId) (e : tree.Expr) (one : TypedInitialiser) (s r : UnitState) → IsKnown (state_of s) → IsType s.table t
+    → value_for constant at t e s ≡ Gives one r → AreMade one s r
+unfolding value_for
+value_for-moves constant at t e one s r k b h =
+    let first = bind-gives (lifted (checked_value t at true e) s)
+    (λ v. obeying (λ q. constant_tests q.table constant q.linkage.statics (expr_place e) v) (initialised at v)) one r h in
+    let v = first.0 in
+    let m = first.1 in
+    let l = lifted-gives (checked_value t at true e) v s m first.2 in
+    let go = unless-gives (first_broken (constant_tests m.table constant m.linkage.statics (expr_place e) v)) (initialised at v) m one r first.3 in
+    let j = checked_value-judged t at true e v (state_of s) (state_of m) k b l.0 in
+    initialised-moves at v one s.seen.scopes s m r j.goes.known j.typed (record { moves = checked_value-moves t at true e v (state_of s) (state_of m) k l.0 }) go.1
+
+value_or_text-moves : (constant : Bool) (at : Place) (t : TypeId) (e : tree.Expr) (count : Option ℕ) (one : TypedInitialiser) (s r : UnitState) → IsKnown (state_of s) → IsType s.table t
+    → value_or_text constant at t e count s ≡ Gives one r → AreMade one s r
+unfolding value_or_text text
+value_or_text-moves constant at t (tree.String pieces) (Some count) one s r k b h =
+    let bytes : List ℕ = take count (pieces_bytes pieces ++ 0 ∷ []) in
+    let go = unless-gives (first_broken (text_tests at count pieces)) (pure (typed.Text pieces bytes)) s one r h in
+    given-same (λ (i : TypedInitialiser) (q : UnitState). AreMade i s q) (typed.Text pieces bytes) one s r go.1 (unit-none s)
+value_or_text-moves constant at t (tree.String pieces) None one s r k b h = value_for-moves constant at t (tree.String pieces) one s r k b h
+value_or_text-moves constant at t e count one s r k b h = value_for-moves constant at t e one s r k b h
+
+plain-moves : (constant : Bool) (e : tree.Expr) (at : Place) (t : TypeId) (one : TypedInitialiser) (s r : UnitState) → IsKnown (state_of s) → IsType s.table t
+    → judge_plain constant e at (Some t) s ≡ Gives one r → AreMade one s r
+unfolding judge_plain
+plain-moves constant e at t one s r k b h = value_or_text-moves constant at t e (char_count_of_shape s.table (shape_at s.table t)) one s r k b h
+
+abbrev IsMadeAs : Bool → tree.Initialiser → Type 0
+IsMadeAs constant i = (at : Place) (t : TypeId) (single : Bool) (one : TypedInitialiser) (s r : UnitState) → IsKnown (state_of s) → IsComplete s.table t
+    → judge_initialiser constant i at (Some t) single s ≡ Gives one r → AreMade one s r
+
+item-moves : (slot : Option Slot) (i : tree.Initialiser) (constant text : Bool) (t : TypeId) (before : TypedItems) (s m : UnitState) → IsMadeAs constant i → IsKnown (state_of m)
+    → IsComplete m.table t → UnitMoves (made_by_items before) s m → item_slot m.table text t (items_count before) ≡ slot
+    → (one : TypedInitialiser) (n : UnitState) → judge_initialiser constant i (initialiser_place i) (slot_type slot) (is_scalar_shape (shape_at m.table t)) m ≡ Gives one n
+    → (list : TypedItems) (r : UnitState) → with_item before slot one n ≡ Gives list r → UnitMoves (made_by_items list) s r
+unfolding with_item
+item-moves None i constant text t before s m rec k c made q one n h list r g = never-gives list (TooLarge nowhere Types) n r g
+item-moves (Some slot) i constant text t before s m rec k c made q one n h list r g =
+    let whole = slot-complete m.table k.basic text t (items_count before) slot.offset slot.type c (slot_is m.table text t (items_count before) slot q) in
+    given-same (λ (v : TypedItems) (w : UnitState). UnitMoves (made_by_items v) s w) (typed.AndItem before slot.offset slot.type one) list n r g
+    (unit-then (made_by_items before) (made_by_initialiser one) s m n made
+    (rec (initialiser_place i) slot.type (is_scalar_shape (shape_at m.table t)) one m n k whole h))
+
+mutual
+  unfolding judge_initialiser judge_items
+
+  pub initialiser-moves : (i : tree.Initialiser) (constant : Bool) → IsMadeAs constant i
+  initialiser-moves (tree.Value e) constant at t single one s r k c h = plain-moves constant e at t one s r k (complete-in s.table t c) h
+  initialiser-moves (tree.Listed brace items comma) constant at t true one s r k c h = never-gives one (Refused brace rule.Mismatch) s r h
+  initialiser-moves (tree.Listed brace items comma) constant at t false one s r k c h =
+      let text = is_only_literal items && is_char_array s.table t in
+      let two = bind-gives (judge_items constant items text t s) (λ list. pure (typed.Listed brace list comma t)) one r h in
+      given-same (λ (v : TypedInitialiser) (q : UnitState). AreMade v s q) (typed.Listed brace two.0 comma t) one two.1 r two.3
+      (items-moves items constant text t two.0 s two.1 k c two.2)
+
+  pub items-moves : (all : tree.Items) (constant text : Bool) (t : TypeId) (list : TypedItems) (s r : UnitState) → IsKnown (state_of s) → IsComplete s.table t
+      → judge_items constant all text t s ≡ Gives list r → UnitMoves (made_by_items list) s r
+  items-moves tree.NoItem constant text t list s r k c h =
+      given-same (λ (v : TypedItems) (q : UnitState). UnitMoves (made_by_items v) s q) typed.NoItem list s r h (unit-none s)
+  items-moves (tree.AndItem all i) constant text t list s r k c h =
+      let one = bind-gives (judge_items constant all text t s) (λ before. λ m.
+      next (judge_initialiser constant i (initialiser_place i) (slot_type (item_slot m.table text t (items_count before))) (is_scalar_shape (shape_at m.table t)) m)
+      (λ v. with_item before (item_slot m.table text t (items_count before)) v)) list r h in
+      let j = items-judged all constant text t one.0 s one.1 k c one.2 in
+      let slot = item_slot one.1.table text t (items_count one.0) in
+      let two = bind-gives (judge_initialiser constant i (initialiser_place i) (slot_type slot) (is_scalar_shape (shape_at one.1.table t)) one.1)
+      (λ v. with_item one.0 slot v) list r one.3 in
+      item-moves slot i constant text t one.0 s one.1 (initialiser-moves i constant) j.goes.known (complete-kept s.table one.1.table j.goes.extends k.basic t c)
+      (items-moves all constant text t one.0 s one.1 k c one.2) refl two.0 two.1 two.2 list r two.3
+  items-moves (tree.AndMemberDesignator all at) constant text t list s r k c h = never-gives list (TooLarge at Types) s r h
+  items-moves (tree.AndIndexDesignator all at) constant text t list s r k c h = never-gives list (TooLarge at Types) s r h

@@ -1,6 +1,7 @@
 -- Where `s` is a struct: `if(s) z;` is refused at the unknown `z`, `if(s) ;` at the `if`, and `switch(s){case 1:case 1:}` at the second
 -- `case`, since a statement's own rule comes after those of its parts.
-use Rattle.std.proofs.Common.{ℕ, false, pos, [], ◌∷◌, ◌++◌, Some, refl, codes, lit<, inl, inr}
+use Rattle.std.proofs.Common.{ℕ, false, pos, [], ◌∷◌, ◌++◌, Some, refl, codes, lit<, lit≤, inl, inr, ◌≡◌, ℤ}
+use Rattle.std.proofs.lemmas.List.Elements.{All-nil}
 use Rattle.cc_base.specs.declared.place.Place.{Place}
 use Rattle.cc_base.specs.declared.number.TypeId.{TypeId}
 use Rattle.cc_base.specs.declared.fault.Fault.TheVariants.{Refused}
@@ -84,6 +85,8 @@ label-first = inr (
     typed.AndCase typed.NoBlockItem (at 11) (typed_one 16) (pos 1),
     block,
     (block, block.scopes, refl, one-typed 16 block.scopes, (pos 1, refl, refl, refl), refl),
+    (All-nil (λ (other : ℤ). pos 1 ≡ other → ⊥), tt),
+    lit≤ tt,
     refl,
     inr (AsValue (typed_one 23), block.scopes, (one-typed 23 block.scopes, refl, refl), refl),
   )),

@@ -66,7 +66,7 @@ module _ (p : Place) (t : Rule) where
       → AreBlockItemsJudged a on all list s m → IsStopped (λ T. Next T list (known_of m)) m r → IsStopped (λ T. AfterItems T a on all (known_of s) (Next T)) s r
   after_items a on all list Next s m r j h =
       stopped-after p t (λ T. AfterItems T a on all (known_of s) (Next T)) s m r j.goes.goes.extends
-      (stopped-as p t (λ T. Next T list (known_of m)) (λ T. AfterItems T a on all (known_of s) (Next T)) m r (λ x f. (list, known_of m, j.typed r.table x, j.erases, f)) h)
+      (stopped-as p t (λ T. Next T list (known_of m)) (λ T. AfterItems T a on all (known_of s) (Next T)) m r (λ x f. (list, known_of m, j.typed r.table x, j.labels, j.defaults, j.erases, f)) h)
 
   -- the first of two or the second
   first_refused : (P Q : Table → Type 0) (s r : UnitState) → IsStopped P s r → IsStopped (λ T. P T ⊎ Q T) s r

@@ -1,6 +1,6 @@
 -- Which refusal a unit gets that is not well typed: its parts are judged in the order of the text, and the first rule that is broken is
 -- named. A statement's own rule comes after those of its parts, a declarator before its initialiser, a function's name before its body.
-use Rattle.std.specs.Prelude.{◌≡◌, ◌⊎◌, ◌==◌, ℕ, ◌+◌, ℤ, Bool, true, false, not, ◌&&◌, ◌||◌, nat_lt, List, [], ◌∷◌, ◌++◌, length, Option, None, Some, if◌then◌else◌}
+use Rattle.std.specs.Prelude.{◌≡◌, ◌≤◌, ◌⊎◌, ◌==◌, ℕ, ◌+◌, ℤ, Bool, true, false, not, ◌&&◌, ◌||◌, nat_lt, List, [], ◌∷◌, ◌++◌, length, Option, None, Some, if◌then◌else◌}
 use Rattle.std.specs.List.{list_any}
 use Rattle.std.specs.Ordering.{int_eq}
 use Rattle.cc_base.specs.declared.place.Place.{Place}
@@ -40,7 +40,7 @@ use Rattle.c_typing.specs.Judging.{integer_type}
 use Rattle.c_typing.specs.Tests
 use Rattle.c_typing.specs.Refusals.{Fails, Refuses, After, name_place, RefusesSpecifiers, RefusesAlone, RefusesDeclarator, FormFails}
 use Rattle.c_unit_typing.specs.Initialisers.{Slot, slot_of_shape, items_count, char_count_of_shape, is_char_array, is_constant, is_constant_place, AreItems, makes_chars}
-use Rattle.c_unit_typing.specs.Units.{Known, Storage, AsTypedef, AsExtern, AsStatic, storage_of, with_scopes, is_one_of, outermost_of, is_linked_home, IsDeclarator, AreDeclarators, IsDeclaration, Around, in_a_loop, in_a_switch, IsDropped, entering_known, labels_of, defaults_in, IsStatement, parameters_of_form, with_parameters, IsUnitTyped}
+use Rattle.c_unit_typing.specs.Units.{Known, Storage, AsTypedef, AsExtern, AsStatic, storage_of, with_scopes, is_one_of, outermost_of, is_linked_home, IsDeclarator, AreDeclarators, IsDeclaration, Around, in_a_loop, in_a_switch, IsDropped, entering_known, AreDifferent, labels_of, defaults_in, IsStatement, parameters_of_form, with_parameters, IsUnitTyped}
 use Rattle.c_unit_typing.specs.WellTyped.{HasMain}
 
 -- Initialisers (C99 6.7.8)
@@ -309,8 +309,11 @@ AreItemsSoFar T a on (typed.AndCase all at e value) k k' =
     (m : Known) × (s : Scopes) × AreItemsSoFar T a on all k m × IsTyped T e m.scopes s × IsLabelSoFar T on e value × (k' ≡ with_scopes m s)
 AreItemsSoFar T a on (typed.AndDefault all at) k k' = AreItemsSoFar T a on all k k'
 
+-- they are, no two labels of them are alike, and what follows them is refused
 abbrev pub AfterItems : Table → Around → Option TypeId → tree.BlockItems → Known → (TypedBlockItems → Known → Type 0) → Type 0
-AfterItems T a on items k Next = (list : TypedBlockItems) × (m : Known) × AreItemsSoFar T a on list k m × (erased_block_items list ≡ items) × Next list m
+AfterItems T a on items k Next =
+    (list : TypedBlockItems) × (m : Known) × AreItemsSoFar T a on list k m × AreDifferent (labels_of list) × (defaults_in list ≤ 1) × (erased_block_items list ≡ items)
+    × Next list m
 
 -- the type of a `switch`: that of its integer, promoted; any other type stays
 abbrev pub promoted_type : Option IntegerType → TypeId → TypeId

@@ -46,7 +46,7 @@ use Rattle.c_type_order.proofs.UsedOperators.{BothUsed}
 
 -- Assignments
 
-moved-table : (at : Place) (t : TypeId) (y : Elaborated) (u : TypeId) (s r : State) → moved at t y s ≡ Gives u r → r.table ≡ s.table
+pub moved-table : (at : Place) (t : TypeId) (y : Elaborated) (u : TypeId) (s r : State) → moved at t y s ≡ Gives u r → r.table ≡ s.table
 unfolding count_cells
 moved-table at t (AsPlace q) u s r h = by (nat_le (s.seen.cells + pointers_in s.table t) 65536) h
   where

@@ -12,6 +12,7 @@ use Rattle.c_tree.specs.Tree as tree
 use Rattle.c_tree.specs.TypedTree as typed
 use Rattle.c_tree.specs.TypedTree.{TypedSpecifiers, TypedSpecifierList, TypedForm, TypedDeclarator, TypedInitialiser, TypedInitDeclarators, TypedDeclaration}
 use Rattle.c_tree.specs.TypedParts.{specified_type, declared_type, home_of, home_of_form, name_of, name_of_form, made_by_specifiers, made_by_declarator, made_by_initialiser, made_by_init_declarators}
+use Rattle.c_typing.specs.Declarators
 use Rattle.c_typing.specs.Declarators.{FormMakes}
 use Rattle.c_typing.specs.Declaring.{declarator_name}
 use Rattle.c_typing.specs.Extensions.{IsExtended}
@@ -27,6 +28,10 @@ use Rattle.c_typing_laws.proofs.KeptDeclarators.{tagged-kept}
 use Rattle.c_typing_laws.proofs.KeptTrees.{specifiers-kept}
 use Rattle.c_typing_laws.proofs.NumberedWhole.{specifiers-numbers}
 use Rattle.c_typing_laws.proofs.TableGrowth.{extended_trans}
+use Rattle.c_type_order.specs.TypesUsed.{used_by_specifiers, used_by_declarator}
+use Rattle.c_type_order.specs.Uses.{IsUsed}
+use Rattle.c_type_order.proofs.Uses.{used-none, then_used, used-still}
+use Rattle.c_type_order.proofs.UsedWhole.{SpecifiersUsed, specifiers_of-used, DeclaratorUsed}
 use Rattle.c_unit_typing.specs.DeclarationJudging.{is_linked_by, defining, judge_named, judge_init_declarators, is_none, judge_declaration}
 use Rattle.c_unit_typing.specs.InitialiserJudging.{judge_initialiser}
 use Rattle.c_unit_typing.specs.Initialisers.{is_char_array, is_char_shape, is_one_array, makes_chars, size_given, is_constant_initialiser, IsInitialiser}
@@ -46,6 +51,8 @@ use Rattle.c_unit_typing.proofs.NumberedInitialisers.{initialiser-made}
 use Rattle.c_unit_typing.proofs.UnitOutcomes.{bind-gives, given-same, gives-state, lifted-gives}
 use Rattle.c_unit_typing.proofs.UnitStates.{numbers-on, numbers-none, numbers-before, numbers-rise, all-linked_known, linkage-stays, unit-stays, unit-on}
 use Rattle.c_unit_typing.proofs.WrittenSizes.{IsTextAsWritten, size-given, text-as-written}
+use Rattle.c_unit_typing.specs.TypesUsed.{used_by_initialiser, used_by_init_declarators}
+use Rattle.c_unit_typing.proofs.TypesOfInitialisers.{initialiser-types}
 
 -- A name that is defined by its initialiser
 
@@ -112,6 +119,9 @@ module _ (file : Bool) (base : TypedSpecifiers) (i : tree.Initialiser) (at : Pla
 
   value_numbers : AreNumberedFrom (made_by_initialiser v) (state_of m) (state_of q)
   value_numbers = initialiser-made i (is_lasting file (storage_of base)) at (declared_type one) false v m q j.goes.known.known (j.complete refl) given
+
+  value_types : IsUsed (λ U. used_by_initialiser U v) m.table q.table
+  value_types = initialiser-types i (is_lasting file (storage_of base)) at (declared_type one) false v m q j.goes.known.known (j.complete refl) given
 
   value_goes : UnitGoesOn m q
   value_goes = linkage-stays m q j.goes.known value.goes value.linkage (numbers-rise (made_by_initialiser v) (state_of m) (state_of q) value_numbers)
@@ -196,6 +206,12 @@ module _ (file : Bool) (base : TypedSpecifiers) (i : tree.Initialiser) (at : Pla
           (numbers-on (made_by_init_declarators list ++ made_by_declarator (typed.Declares form t)) (made_by_initialiser v) (state_of s0) (state_of m) (state_of q)
           (numbers-on (made_by_init_declarators list) (made_by_declarator (typed.Declares form t)) (state_of s0) (state_of s) (state_of m) l.numbers made) value_numbers)
           (ap (λ (w : UnitState). w.seen.node) after);
+      types =
+          let made = subst (λ (w : TypedDeclarator). DeclaratorUsed w s.table m.table) e j.types in
+          used-still (λ U. used_by_init_declarators U list ++ used_by_declarator U Declarators.Written (typed.Declares form t) ++ used_by_initialiser U v) s0.table q.table r.table
+          (ap (λ (w : UnitState). w.table) after)
+          (then_used (λ U. used_by_init_declarators U list ++ used_by_declarator U Declarators.Written (typed.Declares form t)) (λ U. used_by_initialiser U v) s0.table m.table q.table
+          (then_used (λ U. used_by_init_declarators U list) (λ U. used_by_declarator U Declarators.Written (typed.Declares form t)) s0.table s.table m.table l.types made) value_types);
       goes = unit-on s0 s r l.goes (unit-on s m r j.goes (unit-on m q r value_goes
           (subst (λ (w : UnitState). UnitGoesOn q w) (sym after) (defined-goes (is_linked_by (entry_of q.linkage.linked j.name.bytes) (home_of one)) j.name.bytes q value_goes.known))));
     }
@@ -207,6 +223,7 @@ and_plain file base all d list (typed.Declares form t) s0 s r l j = record {
   typed = λ T x. (known_of s, l.typed T (extended_trans s.table r.table T j.goes.goes.extends x), j.typed T x);
   erases = λ z. tree.AndPlain (l.erases z) (j.erases z);
   numbers = numbers-on (made_by_init_declarators list) (made_by_declarator (typed.Declares form t)) (state_of s0) (state_of s) (state_of r) l.numbers j.numbers;
+  types = then_used (λ U. used_by_init_declarators U list) (λ U. used_by_declarator U Declarators.Written (typed.Declares form t)) s0.table s.table r.table l.types j.types;
   goes = unit-on s0 s r l.goes j.goes;
 }
 
@@ -215,7 +232,7 @@ pub declarators-judged : (all : tree.InitDeclarators) (file : Bool) (base : Type
 unfolding judge_init_declarators
 declarators-judged tree.NoInitDeclarator file base list s r k b h =
     given-same (λ (v : TypedInitDeclarators) (q : UnitState). AreDeclaratorsJudged file base tree.NoInitDeclarator v s q) typed.NoInitDeclarator list s r h
-    (record { typed = λ T x. refl; erases = refl; numbers = numbers-none (state_of s) (state_of s) refl; goes = unit-stays s k })
+    (record { typed = λ T x. refl; erases = refl; numbers = numbers-none (state_of s) (state_of s) refl; types = used-none s.table; goes = unit-stays s k })
 declarators-judged (tree.AndPlain all d) file base list s r k b h =
     let e1 = bind-gives (judge_init_declarators file base all s) (λ before. λ m. next (judge_named file base false None d m) (λ one. pure (typed.AndPlain before one))) list r h in
     let l = declarators-judged all file base e1.0 s e1.1 k b e1.2 in
@@ -256,6 +273,7 @@ pub record AreBaseJudged (alone : Bool) (all : tree.Specifiers) (base : TypedSpe
   pub judged : AreSpecifiersJudged alone all base (state_of s) (state_of m)
   pub linkage : m.linkage ≡ s.linkage
   pub numbers : AreNumberedFrom (made_by_specifiers base) (state_of s) (state_of m)
+  pub types : SpecifiersUsed base s.table m.table
   pub goes : UnitGoesOn s m
 
 pub base-judged : (alone : Bool) (all : tree.Specifiers) (base : TypedSpecifiers) (s m : UnitState) → IsUnitKnown s → lifted (judge_specifiers_of alone all) s ≡ Gives base m
@@ -264,7 +282,13 @@ base-judged alone all base s m k h =
     let l = lifted-gives (judge_specifiers_of alone all) base s m h in
     let j = specifiers_of-judged alone all base (state_of s) (state_of m) k.known l.0 in
     let n = specifiers-numbers alone all base (state_of s) (state_of m) k.known l.0 in
-    record { judged = j; linkage = l.1; numbers = n; goes = linkage-stays s m k j.goes l.1 (numbers-rise (made_by_specifiers base) (state_of s) (state_of m) n) }
+    record {
+      judged = j;
+      linkage = l.1;
+      numbers = n;
+      types = specifiers_of-used alone all base (state_of s) (state_of m) k.known l.0;
+      goes = linkage-stays s m k j.goes l.1 (numbers-rise (made_by_specifiers base) (state_of s) (state_of m) n);
+    }
 
 declaration_typed : (T : Table) (file : Bool) (base : TypedSpecifiers) (list : TypedInitDeclarators) (k k' : Known) (s : Scopes) → is_none (erased_init_declarators list) ≡ false
     → AreSpecifiers T base k.scopes s → AreDeclarators T file (storage_of base) (specified_type base) list (with_scopes k s) k' → IsDeclaration T file (typed.Declare base list) k k'
@@ -285,6 +309,7 @@ module _ (file : Bool) (specifiers : tree.Specifiers) (base : TypedSpecifiers) (
         );
         erases = ap (λ (w : tree.Specifiers). tree.Declare w tree.NoInitDeclarator) b.judged.erases;
         numbers = numbers-on (made_by_specifiers base) [] (state_of s) (state_of m) (state_of m) b.numbers (numbers-none (state_of m) (state_of m) refl);
+        types = then_used (λ U. used_by_specifiers U base) (λ U. []) s.table m.table m.table b.types (used-none m.table);
         goes = b.goes;
       })
 
@@ -299,6 +324,7 @@ module _ (file : Bool) (specifiers : tree.Specifiers) (base : TypedSpecifiers) (
             (subst (λ (c : Known). AreDeclarators T file (storage_of base) (specified_type base) list c (known_of r)) (scopes-alone s m b.linkage) (l.typed T x));
         erases = λ z. tree.Declare (b.judged.erases z) (l.erases z);
         numbers = numbers-on (made_by_specifiers base) (made_by_init_declarators list) (state_of s) (state_of m) (state_of r) b.numbers l.numbers;
+        types = then_used (λ U. used_by_specifiers U base) (λ U. used_by_init_declarators U list) s.table m.table r.table b.types l.types;
         goes = unit-on s m r b.goes l.goes;
       }
 

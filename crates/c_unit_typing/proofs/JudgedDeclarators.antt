@@ -12,6 +12,7 @@ use Rattle.c_tree.specs.Tree as tree
 use Rattle.c_tree.specs.TypedTree as typed
 use Rattle.c_tree.specs.TypedTree.{TypedSpecifiers, TypedForm, TypedDeclarator}
 use Rattle.c_tree.specs.TypedParts.{specified_type, declared_type, home_of, home_of_form, name_of, name_of_form, made_by_declarator}
+use Rattle.c_typing.specs.Declarators
 use Rattle.c_typing.specs.declared.declared.Declared.TheVariants as declared
 use Rattle.c_typing.specs.declared.naming.Naming.{Naming}
 use Rattle.c_typing.specs.Declarators.{Outermost, FormMakes}
@@ -31,6 +32,9 @@ use Rattle.c_typing_laws.proofs.JudgedWhole.{declarator-at}
 use Rattle.c_typing_laws.proofs.KeptDeclarators.{form_makes-kept}
 use Rattle.c_typing_laws.proofs.KeptTrees.{form-kept}
 use Rattle.c_typing_laws.proofs.NumberedWhole.{declarator-numbers}
+use Rattle.c_type_order.specs.TypesUsed.{used_by_declarator}
+use Rattle.c_type_order.proofs.Uses.{used-still}
+use Rattle.c_type_order.proofs.UsedWhole.{DeclaratorUsed, declarator-used}
 use Rattle.c_unit_typing.specs.DeclarationJudging.{naming_for, linked_first, declare, named, judge_named}
 use Rattle.c_unit_typing.specs.Linkage.{Linkage}
 use Rattle.c_unit_typing.specs.Units.{Known, Storage, is_one_of, is_linked_home, storage_of, outermost_of, IsNameDeclared, IsDeclarator}
@@ -61,6 +65,7 @@ pub record IsOneJudged (file : Bool) (storage : Storage) (base : TypeId) (initia
   pub erases : erased_declarator one ≡ d
   pub there : IsType r.table (declared_type one)
   pub numbers : AreNumberedFrom (made_by_declarator one) (state_of s) (state_of r)
+  pub types : DeclaratorUsed one s.table r.table
   pub goes : UnitGoesOn s r
   pub complete : initialised ≡ true → IsComplete r.table (declared_type one)
   pub lasting : initialised ≡ true → IsLastingHome (is_lasting file storage) (home_of one)
@@ -72,6 +77,7 @@ pub record IsFormKnown (which : Naming) (base : TypeId) (size : Option ℕ) (d :
   pub judged : IsDeclaratorJudged which (Walks.outermost_of size) base d (typed.Declares form t) (state_of s) (state_of m)
   pub linkage : m.linkage ≡ s.linkage
   pub numbers : AreNumberedFrom (made_by_declarator (typed.Declares form t)) (state_of s) (state_of m)
+  pub types : DeclaratorUsed (typed.Declares form t) s.table m.table
   pub goes : UnitGoesOn s m
 
 pub form-known : (which : Naming) (base : TypedSpecifiers) (size : Option ℕ) (d : tree.Declarator) (form : TypedForm) (t : TypeId) (s m : UnitState) → IsUnitKnown s
@@ -86,6 +92,7 @@ form-known which base size d form t s m k b h =
       judged = j;
       linkage = l.1;
       numbers = n;
+      types = declarator-used at which (specified_type base) size d (typed.Declares form t) (state_of s) (state_of m) k.known l.0;
       goes = linkage-stays s m k j.goes l.1 (numbers-rise (made_by_declarator (typed.Declares form t)) (state_of s) (state_of m) n);
     }
 
@@ -145,6 +152,7 @@ module _ (file : Bool) (storage : Storage) (base : TypeId) (initialised : Bool) 
         erases = j.judged.erases;
         there = subst (λ (U : Table). IsType U t) (sym n.table) j.judged.there;
         numbers = numbers-before (made_by_declarator (typed.Declares form t)) (state_of s) (state_of m) (state_of r) j.numbers n.node;
+        types = used-still (λ U. used_by_declarator U Declarators.Written (typed.Declares form t)) s.table m.table r.table n.table j.types;
         goes = unit-on s m r j.goes n.goes;
         complete = λ i. subst (λ (U : Table). IsComplete U t) (sym n.table) (n.complete i);
         lasting = n.lasting;

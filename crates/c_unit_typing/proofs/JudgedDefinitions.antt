@@ -39,6 +39,9 @@ use Rattle.c_typing_laws.proofs.KeptRules.{has-kept}
 use Rattle.c_typing_laws.proofs.KeptTypes.{same_exact}
 use Rattle.c_typing_laws.proofs.KeptTrees.{specifiers-kept}
 use Rattle.c_typing_laws.proofs.TableGrowth.{extended_trans}
+use Rattle.c_type_order.specs.TypesUsed.{used_by_specifiers, used_by_declarator}
+use Rattle.c_type_order.specs.Uses.{IsUsed}
+use Rattle.c_type_order.proofs.Uses.{then_used}
 use Rattle.c_unit_typing.specs.DeclarationJudging.{naming_for, linked_first, linked_name}
 use Rattle.c_unit_typing.specs.DefinitionJudging.{declare_parameters, form_of, counted, defined, result_of, body, defined_as, judge_definition}
 use Rattle.c_unit_typing.specs.Linkage.{Linkage, with_name}
@@ -58,6 +61,8 @@ use Rattle.c_unit_typing.proofs.NameSteps.{entry-own, linked-there, linked_state
 use Rattle.c_unit_typing.proofs.StillDefined.{specifiers-defined, form-defined}
 use Rattle.c_unit_typing.proofs.UnitOutcomes.{never-gives, bind-gives, unless-gives, given-same, gives-state}
 use Rattle.c_unit_typing.proofs.UnitStates.{numbers-on, numbers-before, numbers-after, unit-on}
+use Rattle.c_unit_typing.specs.TypesUsed.{used_by_block_items}
+use Rattle.c_unit_typing.proofs.TypesOfTests.{inside-types, enter-table, leave-table}
 
 -- The name of a function that is defined
 
@@ -171,6 +176,8 @@ pub record IsDefinitionJudged (before : TypedTranslationUnit) (all : tree.Specif
   pub body_erases : erased_block_items body ≡ items
   pub numbers : (xs : List Made) (s0 : State) → AreNumberedFrom xs s0 (state_of s)
       → AreNumberedFrom (xs ++ made_by_specifiers specifiers ++ made_by_declarator (typed.Declares form type) ++ made_by_block_items body) s0 (state_of r)
+  pub types : (f : Table → List TypeId) (S : Table) → IsUsed f S s.table
+      → IsUsed (λ U. f U ++ used_by_specifiers U specifiers ++ used_by_declarator U Written (typed.Declares form type) ++ used_by_block_items U body) S r.table
   pub goes : UnitGoesOn s r
   pub written : declarator_name d ≡ Some name
   pub named : name_of_form form ≡ Some name
@@ -186,6 +193,7 @@ record IsBodyJudged (result : TypeId) (ps : TypedParameters) (items : tree.Block
   after : Known
   erases : erased_block_items list ≡ items
   numbers : AreNumberedFrom (made_by_block_items list) (state_of s) (state_of r)
+  types : IsUsed (λ U. used_by_block_items U list) s.table r.table
   goes : UnitGoesOn s r
   leaves : known_of r ≡ leaving_known after
   typed : OverLater r.table (λ T. AreBlockItems T (inside_function result) None list (record (known_of s) { scopes = with_parameters ps (entering s.seen.scopes) }) after)
@@ -210,6 +218,8 @@ body_by brace result ps items list s r k b there h =
       erases = i.erases;
       numbers = numbers-before (made_by_block_items e3.0) (state_of s) (state_of e3.1) (state_of r)
           (numbers-after (made_by_block_items e3.0) (state_of s) (state_of e2.1) (state_of e3.1) (p.node ∙ en.2) i.numbers) out.3;
+      types = inside-types (λ U. used_by_block_items U e3.0) s.table e2.1.table e3.1.table r.table (p.table ∙ enter-table e1.0 s e1.1 e1.2)
+          (leave-table brace e3.0 list e3.1 r e3.3) i.types;
       goes = unit-on s e2.1 r from_s (unit-on e2.1 e3.1 r i.goes out.2);
       leaves = out.1;
       typed = λ T x. subst (λ (c : Known). AreBlockItems T a None e3.0 c (known_of e3.1)) begins
@@ -370,6 +380,10 @@ module _ (before : TypedTranslationUnit) (all : tree.Specifiers) (d : tree.Decla
             (numbers-on (xs ++ made_by_specifiers base) (made_by_declarator (typed.Declares form t)) from (state_of s) (state_of m)
             (numbers-on xs (made_by_specifiers base) from (state_of s0) (state_of s) p b.numbers) j.numbers)
             (numbers-after (made_by_block_items list) (state_of m) (state_of q) (state_of r) refl i.numbers);
+        types = λ f S p.
+            then_used (λ U. f U ++ used_by_specifiers U base ++ used_by_declarator U Written (typed.Declares form t)) (λ U. used_by_block_items U list) S m.table r.table
+            (then_used (λ U. f U ++ used_by_specifiers U base) (λ U. used_by_declarator U Written (typed.Declares form t)) S s.table m.table
+            (then_used f (λ U. used_by_specifiers U base) S s0.table s.table p b.types) j.types) i.types;
         goes = unit-on s0 s r b.goes (unit-on s m r j.goes on_m);
         written = c.written;
         named = named base d form t s m k j c.name c.written c.tried;

@@ -29,6 +29,9 @@ use Rattle.c_typing_laws.proofs.KeptConstants.{constant-kept, own-plain}
 use Rattle.c_typing_laws.proofs.KeptTrees.{value-kept}
 use Rattle.c_typing_laws.proofs.NumberedWhole.{constant-numbers}
 use Rattle.c_typing_laws.proofs.TableGrowth.{extended_trans}
+use Rattle.c_type_order.specs.TypesUsed.{used_by}
+use Rattle.c_type_order.proofs.Uses.{then_used}
+use Rattle.c_type_order.proofs.UsedWhole.{constant-used}
 use Rattle.c_unit_typing.specs.StatementJudging.{label_as, labelled, case_label, default_label, jump}
 use Rattle.c_unit_typing.specs.UnitJudged.{state_of, IsOnInteger, IsStatementJudged, IsSwitchThere, AreBlockItemsJudged}
 use Rattle.c_unit_typing.specs.UnitJudging.{UnitState, Gives, known_of, pure, lifted}
@@ -37,6 +40,7 @@ use Rattle.c_unit_typing.specs.Units.{Known, Around, labels_of, defaults_in, Are
 use Rattle.c_unit_typing.proofs.JudgedTests.{scopes-alone}
 use Rattle.c_unit_typing.proofs.UnitOutcomes.{never-gives, bind-gives, unless-gives, given-same, lifted-gives}
 use Rattle.c_unit_typing.proofs.UnitStates.{numbers-on, numbers-rise, linkage-stays, unit-on}
+use Rattle.c_unit_typing.specs.TypesUsed.{used_by_block_items}
 
 -- `break` and `continue`
 
@@ -115,6 +119,8 @@ case-judged a (Some t) all before list at e s m r there j h =
       defaults = j.defaults;
       erases = λ i. tree.AndCase (j.erases i) at (v.checked.erases i);
       numbers = numbers-on (made_by_block_items before) (made_by c.expr) (state_of s) (state_of m) (state_of n) j.numbers made;
+      types = then_used (λ U. used_by_block_items U before) (λ U. used_by U c.expr) s.table m.table n.table j.types
+          (constant-used e c (state_of m) (state_of n) j.goes.known.known l.0);
       goes = unit-on s m n j.goes (linkage-stays m n j.goes.known v.checked.goes l.1 (numbers-rise (made_by c.expr) (state_of m) (state_of n) made));
     })
 
@@ -132,5 +138,6 @@ default-judged a on all before list at s m r j h =
       defaults = omega (arith, zero);
       erases = ap (λ (w : tree.BlockItems). tree.AndDefault w at) j.erases;
       numbers = j.numbers;
+      types = j.types;
       goes = j.goes;
     })

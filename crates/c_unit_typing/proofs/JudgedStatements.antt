@@ -18,6 +18,9 @@ use Rattle.c_typing_laws.proofs.JudgedWhole.{checked-judged}
 use Rattle.c_typing_laws.proofs.JudgedDeclarators.{entered-judged, left-judged}
 use Rattle.c_typing_laws.proofs.NodesKept.{entered-keeps, left-keeps}
 use Rattle.c_typing_laws.proofs.TableGrowth.{extended_trans}
+use Rattle.c_type_order.specs.TypesUsed.{used_by}
+use Rattle.c_type_order.specs.Uses.{IsUsed}
+use Rattle.c_type_order.proofs.Uses.{used-none, then_used}
 use Rattle.c_unit_typing.specs.DeclarationJudging.{judge_declaration}
 use Rattle.c_unit_typing.specs.StatementJudging.{dropped, returned, promoted_by, promotion, tested, tested_or_none, switched, case_label, default_label, judge_statement, judge_block_items}
 use Rattle.c_unit_typing.specs.UnitJudged.{state_of, OverLater, IsResult, IsUnitKnown, UnitGoesOn, IsOptionJudged, IsStatementJudged, IsSwitchThere, AreBlockItemsJudged}
@@ -30,6 +33,8 @@ use Rattle.c_unit_typing.proofs.JudgedTests.{scopes-alone, tested-judged, tested
 use Rattle.c_unit_typing.proofs.NumberedTests.{value-numbers, dropped-numbers, returned-numbers, switched-numbers}
 use Rattle.c_unit_typing.proofs.UnitOutcomes.{bind-gives, given-same, given-before, lifted-gives}
 use Rattle.c_unit_typing.proofs.UnitStates.{numbers-on, numbers-none, numbers-before, numbers-after, numbers-rise, linkage-stays, unit-stays, unit-on}
+use Rattle.c_unit_typing.specs.TypesUsed.{used_by_declaration, used_by_optional, used_by_statement, used_by_block_items}
+use Rattle.c_unit_typing.proofs.TypesOfTests.{OptionUsed, inside-types, enter-table, leave-table, value-types, dropped-types, returned-types, switched-types}
 
 -- Tables that follow
 
@@ -60,35 +65,43 @@ leave-judged at a b s r k h =
 -- Expressions of statements
 
 -- an expression of a statement, of which so much is said
-pub record IsPart (P : Table → Type 0) (Erases : Type 0) (made : List Made) (s r : UnitState) : Type 0 where
+pub record IsPart (P : Table → Type 0) (Erases : Type 0) (made : List Made) (used : Table → List TypeId) (s r : UnitState) : Type 0 where
   pub typed : OverLater r.table P
   pub erases : Erases
   pub linkage : r.linkage ≡ s.linkage
   pub numbers : AreNumberedFrom made (state_of s) (state_of r)
+  pub types : IsUsed used s.table r.table
   pub goes : UnitGoesOn s r
 
 option-part : (P : Table → Option TypedExpr → Known → Known → Type 0) (e : Option tree.Expr) (v : Option TypedExpr) (s r : UnitState) → IsUnitKnown s → IsOptionJudged P e v s r
-    → AreNumberedFrom (made_by_optional v) (state_of s) (state_of r)
-    → IsPart (λ T. P T v (known_of s) (known_of r)) (erased_optional v ≡ e) (made_by_optional v) s r
-option-part P e v s r k j n =
-    record { typed = j.typed; erases = j.erases; linkage = j.linkage; numbers = n; goes = linkage-stays s r k j.goes j.linkage (numbers-rise (made_by_optional v) (state_of s) (state_of r) n) }
+    → AreNumberedFrom (made_by_optional v) (state_of s) (state_of r) → OptionUsed v s.table r.table
+    → IsPart (λ T. P T v (known_of s) (known_of r)) (erased_optional v ≡ e) (made_by_optional v) (λ U. used_by_optional U v) s r
+option-part P e v s r k j n u = record {
+  typed = j.typed;
+  erases = j.erases;
+  linkage = j.linkage;
+  numbers = n;
+  types = u;
+  goes = linkage-stays s r k j.goes j.linkage (numbers-rise (made_by_optional v) (state_of s) (state_of r) n);
+}
 
 -- an expression of which the value is taken
 pub value-part : (e : tree.Expr) (v : TypedExpr) (s r : UnitState) → IsUnitKnown s → lifted (checked e) s ≡ Gives v r
-    → IsPart (λ T. IsDropped T (Some v) (known_of s) (known_of r)) (erased v ≡ e) (made_by v) s r
+    → IsPart (λ T. IsDropped T (Some v) (known_of s) (known_of r)) (erased v ≡ e) (made_by v) (λ U. used_by U v) s r
 value-part e v s r k h =
     let c = checked-judged e v (state_of s) (state_of r) k.known (lifted-gives (checked e) v s r h).0 in
     let n = value-numbers e v s r k.known h in
-    let j = option-part IsDropped (Some e) (Some v) s r k (dropped_here e v s r k.known h) n in
-    record { typed = j.typed; erases = c.erases; linkage = j.linkage; numbers = n; goes = j.goes }
+    let j = option-part IsDropped (Some e) (Some v) s r k (dropped_here e v s r k.known h) n (value-types e v s r k.known h) in
+    record { typed = j.typed; erases = c.erases; linkage = j.linkage; numbers = n; types = j.types; goes = j.goes }
 
 pub dropped-part : (e : Option tree.Expr) (v : Option TypedExpr) (s r : UnitState) → IsUnitKnown s → dropped e s ≡ Gives v r
-    → IsPart (λ T. IsDropped T v (known_of s) (known_of r)) (erased_optional v ≡ e) (made_by_optional v) s r
-dropped-part e v s r k h = option-part IsDropped e v s r k (dropped-judged e v s r k.known h) (dropped-numbers e v s r k.known h)
+    → IsPart (λ T. IsDropped T v (known_of s) (known_of r)) (erased_optional v ≡ e) (made_by_optional v) (λ U. used_by_optional U v) s r
+dropped-part e v s r k h = option-part IsDropped e v s r k (dropped-judged e v s r k.known h) (dropped-numbers e v s r k.known h) (dropped-types e v s r k.known h)
 
 returned-part : (at : Place) (t : TypeId) (e : Option tree.Expr) (v : Option TypedExpr) (s r : UnitState) → IsUnitKnown s → IsResult s.table t → returned at t e s ≡ Gives v r
-    → IsPart (λ T. IsReturned T at t v (known_of s) (known_of r)) (erased_optional v ≡ e) (made_by_optional v) s r
+    → IsPart (λ T. IsReturned T at t v (known_of s) (known_of r)) (erased_optional v ≡ e) (made_by_optional v) (λ U. used_by_optional U v) s r
 returned-part at t e v s r k b h = option-part (λ T. IsReturned T at t) e v s r k (returned-judged at t e v s r k.known b h) (returned-numbers at t e v s r k.known h)
+    (returned-types at t e v s r k.known h)
 
 -- Statements
 
@@ -112,16 +125,17 @@ mutual
         );
         erases = ap (tree.Block brace) j.erases;
         numbers = numbers-before (made_by_block_items e2.0) (state_of s) (state_of e2.1) (state_of r) (numbers-after (made_by_block_items e2.0) (state_of s) (state_of e1.1) (state_of e2.1) en.2 j.numbers) out.3;
+        types = inside-types (λ U. used_by_block_items U e2.0) s.table e1.1.table e2.1.table r.table (enter-table e1.0 s e1.1 e1.2) (leave-table brace (typed.Block brace e2.0) one e2.1 r e2.3) j.types;
         goes = unit-on s e1.1 r en.1 (unit-on e1.1 e2.1 r j.goes out.2);
       })
   statement-judged (tree.Express e) a one s r k b h =
       let e1 = bind-gives (lifted (checked e) s) (λ v. pure (typed.Express v)) one r h in
       let j = value-part e e1.0 s e1.1 k e1.2 in
       given-same (λ (v : TypedStatement) (q : UnitState). IsStatementJudged a (tree.Express e) v s q) (typed.Express e1.0) one e1.1 r e1.3
-      (record { typed = j.typed; erases = ap tree.Express j.erases; numbers = j.numbers; goes = j.goes })
+      (record { typed = j.typed; erases = ap tree.Express j.erases; numbers = j.numbers; types = j.types; goes = j.goes })
   statement-judged tree.Empty a one s r k b h =
       given-same (λ (v : TypedStatement) (q : UnitState). IsStatementJudged a tree.Empty v s q) typed.Empty one s r h
-      (record { typed = λ U x. refl; erases = refl; numbers = numbers-none (state_of s) (state_of s) refl; goes = unit-stays s k })
+      (record { typed = λ U x. refl; erases = refl; numbers = numbers-none (state_of s) (state_of s) refl; types = used-none s.table; goes = unit-stays s k })
   statement-judged (tree.If at paren c t) a one s r k b h =
       let e1 = bind-gives (lifted (checked c) s) (λ test. λ m. next (judge_statement a t m) (λ inner. tested at test (typed.If at paren test inner))) one r h in
       let j = value-part c e1.0 s e1.1 k e1.2 in
@@ -132,6 +146,7 @@ mutual
         typed = λ U x. (known_of e1.1, p.typed U x, i.typed U x);
         erases = λ z. tree.If at paren (j.erases z) (i.erases z);
         numbers = numbers-on (made_by e1.0) (made_by_statement e2.0) (state_of s) (state_of e1.1) (state_of e2.1) j.numbers i.numbers;
+        types = then_used (λ U. used_by U e1.0) (λ U. used_by_statement U e2.0) s.table e1.1.table e2.1.table j.types i.types;
         goes = unit-on s e1.1 e2.1 j.goes i.goes;
       })
   statement-judged (tree.IfElse at paren c t u) a one s r k b h =
@@ -149,6 +164,8 @@ mutual
         erases = λ z. tree.IfElse at paren (j.erases z) (i.erases z) (o.erases z);
         numbers = numbers-on (made_by e1.0 ++ made_by_statement e2.0) (made_by_statement e3.0) (state_of s) (state_of e2.1) (state_of e3.1)
             (numbers-on (made_by e1.0) (made_by_statement e2.0) (state_of s) (state_of e1.1) (state_of e2.1) j.numbers i.numbers) o.numbers;
+        types = then_used (λ U. used_by U e1.0 ++ used_by_statement U e2.0) (λ U. used_by_statement U e3.0) s.table e2.1.table e3.1.table
+            (then_used (λ U. used_by U e1.0) (λ U. used_by_statement U e2.0) s.table e1.1.table e2.1.table j.types i.types) o.types;
         goes = unit-on s e1.1 e3.1 j.goes (unit-on e1.1 e2.1 e3.1 i.goes o.goes);
       })
   statement-judged (tree.Switch at paren e brace items) a one s r k b h =
@@ -188,6 +205,9 @@ mutual
         erases = λ z. tree.Switch at paren (j.erases z) brace (i.erases z);
         numbers = numbers-on (made_by on) (made_by_block_items e3.0) (state_of s) (state_of e1.1) (state_of r) made
             (numbers-before (made_by_block_items e3.0) (state_of e1.1) (state_of e3.1) (state_of r) (numbers-after (made_by_block_items e3.0) (state_of e1.1) (state_of e2.1) (state_of e3.1) en.2 i.numbers) out.3);
+        types = then_used (λ U. used_by U on) (λ U. used_by_block_items U e3.0) s.table e1.1.table r.table (switched-types at e c s e1.1 k.known e1.2)
+            (inside-types (λ U. used_by_block_items U e3.0) e1.1.table e2.1.table e3.1.table r.table (enter-table e2.0 e1.1 e2.1 e2.2)
+            (leave-table brace (typed.Switch at paren on brace e3.0) one e3.1 r last) i.types);
         goes = unit-on s e1.1 r v.goes
             (unit-on e1.1 e2.1 r en.1 (unit-on e2.1 e3.1 r i.goes out.2));
       })
@@ -201,6 +221,7 @@ mutual
         typed = λ U x. (known_of e1.1, p.typed U x, i.typed U x);
         erases = λ z. tree.While at paren (j.erases z) (i.erases z);
         numbers = numbers-on (made_by e1.0) (made_by_statement e2.0) (state_of s) (state_of e1.1) (state_of e2.1) j.numbers i.numbers;
+        types = then_used (λ U. used_by U e1.0) (λ U. used_by_statement U e2.0) s.table e1.1.table e2.1.table j.types i.types;
         goes = unit-on s e1.1 e2.1 j.goes i.goes;
       })
   statement-judged (tree.DoWhile t at paren c) a one s r k b h =
@@ -213,6 +234,7 @@ mutual
         typed = λ U x. (known_of e1.1, i.typed U (extended_trans e1.1.table e2.1.table U j.goes.goes.extends x), p.typed U x);
         erases = λ z. tree.DoWhile (i.erases z) at paren (j.erases z);
         numbers = numbers-on (made_by_statement e1.0) (made_by e2.0) (state_of s) (state_of e1.1) (state_of e2.1) i.numbers j.numbers;
+        types = then_used (λ U. used_by_statement U e1.0) (λ U. used_by U e2.0) s.table e1.1.table e2.1.table i.types j.types;
         goes = unit-on s e1.1 e2.1 i.goes j.goes;
       })
   statement-judged (tree.For at paren first test step t) a one s r k b h =
@@ -241,6 +263,9 @@ mutual
         numbers = numbers-on (made_by_optional e1.0 ++ made_by_optional e2.0 ++ made_by_optional e3.0) (made_by_statement e4.0) (state_of s) (state_of e3.1) (state_of e4.1)
             (numbers-on (made_by_optional e1.0 ++ made_by_optional e2.0) (made_by_optional e3.0) (state_of s) (state_of e2.1) (state_of e3.1)
             (numbers-on (made_by_optional e1.0) (made_by_optional e2.0) (state_of s) (state_of e1.1) (state_of e2.1) j1.numbers j2.numbers) j3.numbers) i.numbers;
+        types = then_used (λ U. used_by_optional U e1.0 ++ used_by_optional U e2.0 ++ used_by_optional U e3.0) (λ U. used_by_statement U e4.0) s.table e3.1.table e4.1.table
+            (then_used (λ U. used_by_optional U e1.0 ++ used_by_optional U e2.0) (λ U. used_by_optional U e3.0) s.table e2.1.table e3.1.table
+            (then_used (λ U. used_by_optional U e1.0) (λ U. used_by_optional U e2.0) s.table e1.1.table e2.1.table j1.types j2.types) j3.types) i.types;
         goes = unit-on s e1.1 e4.1 j1.goes (unit-on e1.1 e2.1 e4.1 j2.goes
             (unit-on e2.1 e3.1 e4.1 j3.goes i.goes));
       })
@@ -290,27 +315,32 @@ mutual
             (numbers-on (made_by_declaration e1.0 ++ made_by_optional e2.0 ++ made_by_optional e3.0) (made_by_statement e4.0) (state_of e0.1) (state_of e3.1) (state_of e4.1)
             (numbers-on (made_by_declaration e1.0 ++ made_by_optional e2.0) (made_by_optional e3.0) (state_of e0.1) (state_of e2.1) (state_of e3.1)
             (numbers-on (made_by_declaration e1.0) (made_by_optional e2.0) (state_of e0.1) (state_of e1.1) (state_of e2.1) j1.numbers j2.numbers) j3.numbers) i.numbers)) out.3;
+        types = inside-types (λ U. used_by_declaration U e1.0 ++ used_by_optional U e2.0 ++ used_by_optional U e3.0 ++ used_by_statement U e4.0) s.table e0.1.table e4.1.table r.table
+            (enter-table e0.0 s e0.1 e0.2) (leave-table at all one e4.1 r last)
+            (then_used (λ U. used_by_declaration U e1.0 ++ used_by_optional U e2.0 ++ used_by_optional U e3.0) (λ U. used_by_statement U e4.0) e0.1.table e3.1.table e4.1.table
+            (then_used (λ U. used_by_declaration U e1.0 ++ used_by_optional U e2.0) (λ U. used_by_optional U e3.0) e0.1.table e2.1.table e3.1.table
+            (then_used (λ U. used_by_declaration U e1.0) (λ U. used_by_optional U e2.0) e0.1.table e1.1.table e2.1.table j1.types j2.types) j3.types) i.types);
         goes = unit-on s e0.1 r en.1 (unit-on e0.1 e1.1 r j1.goes
             (unit-on e1.1 e2.1 r j2.goes (unit-on e2.1 e3.1 r j3.goes
             (unit-on e3.1 e4.1 r i.goes out.2))));
       })
   statement-judged (tree.Break at) a one s r k b h =
       jump-judged at a.breakable a (tree.Break at) (typed.Break at) one s r
-      (λ yes. record { typed = λ U x. (refl, yes); erases = refl; numbers = numbers-none (state_of s) (state_of s) refl; goes = unit-stays s k }) h
+      (λ yes. record { typed = λ U x. (refl, yes); erases = refl; numbers = numbers-none (state_of s) (state_of s) refl; types = used-none s.table; goes = unit-stays s k }) h
   statement-judged (tree.Continue at) a one s r k b h =
       jump-judged at a.in_loop a (tree.Continue at) (typed.Continue at) one s r
-      (λ yes. record { typed = λ U x. (refl, yes); erases = refl; numbers = numbers-none (state_of s) (state_of s) refl; goes = unit-stays s k }) h
+      (λ yes. record { typed = λ U x. (refl, yes); erases = refl; numbers = numbers-none (state_of s) (state_of s) refl; types = used-none s.table; goes = unit-stays s k }) h
   statement-judged (tree.Return at e) a one s r k b h =
       let e1 = bind-gives (returned at a.result e s) (λ v. pure (typed.Return at v)) one r h in
       let j = returned-part at a.result e e1.0 s e1.1 k b e1.2 in
       given-same (λ (v : TypedStatement) (q : UnitState). IsStatementJudged a (tree.Return at e) v s q) (typed.Return at e1.0) one e1.1 r e1.3
-      (record { typed = j.typed; erases = ap (tree.Return at) j.erases; numbers = j.numbers; goes = j.goes })
+      (record { typed = j.typed; erases = ap (tree.Return at) j.erases; numbers = j.numbers; types = j.types; goes = j.goes })
 
   pub items-judged : (all : tree.BlockItems) (a : Around) (on : Option TypeId) (list : TypedBlockItems) (s r : UnitState) → IsUnitKnown s
       → IsResult s.table a.result → IsSwitchThere s.table on → judge_block_items a on all s ≡ Gives list r → AreBlockItemsJudged a on all list s r
   items-judged tree.NoBlockItem a on list s r k b w h =
       given-same (λ (v : TypedBlockItems) (q : UnitState). AreBlockItemsJudged a on tree.NoBlockItem v s q) typed.NoBlockItem list s r h
-      (record { typed = λ U x. refl; labels = tt; defaults = omega arith; erases = refl; numbers = numbers-none (state_of s) (state_of s) refl; goes = unit-stays s k })
+      (record { typed = λ U x. refl; labels = tt; defaults = omega arith; erases = refl; numbers = numbers-none (state_of s) (state_of s) refl; types = used-none s.table; goes = unit-stays s k })
   items-judged (tree.AndStatement all t) a on list s r k b w h =
       let e1 = bind-gives (judge_block_items a on all s) (λ before. λ m. next (judge_statement a t m) (λ one. pure (typed.AndStatement before one))) list r h in
       let j = items-judged all a on e1.0 s e1.1 k b w e1.2 in
@@ -322,6 +352,7 @@ mutual
         defaults = j.defaults;
         erases = λ z. tree.AndStatement (j.erases z) (i.erases z);
         numbers = numbers-on (made_by_block_items e1.0) (made_by_statement e2.0) (state_of s) (state_of e1.1) (state_of e2.1) j.numbers i.numbers;
+        types = then_used (λ U. used_by_block_items U e1.0) (λ U. used_by_statement U e2.0) s.table e1.1.table e2.1.table j.types i.types;
         goes = unit-on s e1.1 e2.1 j.goes i.goes;
       })
   items-judged (tree.AndDeclaration all d) a on list s r k b w h =
@@ -335,6 +366,7 @@ mutual
         defaults = j.defaults;
         erases = λ z. tree.AndDeclaration (j.erases z) (i.erases z);
         numbers = numbers-on (made_by_block_items e1.0) (made_by_declaration e2.0) (state_of s) (state_of e1.1) (state_of e2.1) j.numbers i.numbers;
+        types = then_used (λ U. used_by_block_items U e1.0) (λ U. used_by_declaration U e2.0) s.table e1.1.table e2.1.table j.types i.types;
         goes = unit-on s e1.1 e2.1 j.goes i.goes;
       })
   items-judged (tree.AndCase all at e) a on list s r k b w h =

@@ -16,6 +16,7 @@ use Rattle.c_typing.specs.Scopes.{Name}
 use Rattle.c_typing_laws.proofs.ExtensionLaws.{no_true, still_in}
 use Rattle.c_typing_laws.proofs.KeptTypes.{same_exact}
 use Rattle.c_typing_laws.proofs.TableGrowth.{extended_trans}
+use Rattle.c_type_order.proofs.Uses.{used-none, then_used}
 use Rattle.c_unit_typing.specs.DeclarationJudging.{judge_declaration}
 use Rattle.c_unit_typing.specs.DefinitionJudging.{judge_definition, judge_unit, with_named, functions_written}
 use Rattle.c_unit_typing.specs.Linkage.{with_name}
@@ -37,6 +38,7 @@ use Rattle.c_unit_typing.proofs.JudgedDefinitions.{IsPlaced}
 use Rattle.c_unit_typing.proofs.NameSteps.{some-same}
 use Rattle.c_unit_typing.proofs.UnitStillDefined.{unit-defined}
 use Rattle.c_unit_typing.proofs.UnitStates.{numbers-on, numbers-none, unit-stays, unit-on}
+use Rattle.c_unit_typing.specs.TypesUsed.{used_by_declaration, used_by_unit}
 
 -- Functions that were defined
 
@@ -126,7 +128,7 @@ pub unit-judged : (u : tree.TranslationUnit) (whole : TypedTranslationUnit) (s r
 unfolding judge_unit
 unit-judged tree.NoExternal whole s r k h =
     given-same (λ (v : TypedTranslationUnit) (q : UnitState). IsWholeJudged tree.NoExternal v s q) typed.NoExternal whole s r h (record {
-      judged = record { typed = λ T x. refl; erases = refl; numbers = numbers-none (state_of s) (state_of s) refl; goes = unit-stays s k };
+      judged = record { typed = λ T x. refl; erases = refl; numbers = numbers-none (state_of s) (state_of s) refl; types = used-none s.table; goes = unit-stays s k };
       names = refl;
       defined = λ name e. no_true e;
       functions = All-nil (IsFunctionHere s);
@@ -143,6 +145,7 @@ unit-judged (tree.AndExternal u d) whole s r k h =
         typed = λ T x. (known_of e1.1, j.typed T (extended_trans e1.1.table e2.1.table T i.goes.goes.extends x), i.typed T x);
         erases = λ z. tree.AndExternal (j.erases z) (i.erases z);
         numbers = numbers-on (made_by_unit e1.0) (made_by_declaration e2.0) (state_of s) (state_of e1.1) (state_of e2.1) j.numbers i.numbers;
+        types = then_used (λ U. used_by_unit U e1.0) (λ U. used_by_declaration U e2.0) s.table e1.1.table e2.1.table j.types i.types;
         goes = unit-on s e1.1 e2.1 j.goes i.goes;
       };
       names = w.names;
@@ -165,6 +168,7 @@ unit-judged (tree.AndFunctionBody u specifiers d brace items) whole s r k h =
         typed = λ T x. (known_of m, j.typed T (extended_trans m.table r.table T i.goes.goes.extends x), i.typed T x);
         erases = λ z. tree.AndFunctionBody (j.erases z) (i.specifiers_erase z) (i.declarator_erases z) brace (i.body_erases z);
         numbers = i.numbers (made_by_unit e1.0) (state_of s) j.numbers;
+        types = i.types (λ U. used_by_unit U e1.0) s.table j.types;
         goes = unit-on s m r j.goes i.goes;
       };
       names = map-append name_in_bytes (functions_of e1.0) (one ∷ []) ∙ ((λ z. w.names z ++ bytes z ∷ []) ∙ sym written);

@@ -2,6 +2,8 @@ pub mod KeptInitialisers
 pub mod UnitOutcomes
 pub mod UnitStates
 pub mod NumberedTests
+pub mod TypesOfTests
+pub mod TypesOfInitialisers
 pub mod LimitedUnits
 pub mod RefusedUnits
 pub mod RefusedDefinitions

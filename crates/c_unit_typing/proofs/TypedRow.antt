@@ -1,5 +1,5 @@
 -- A whole unit, written out: `int main(void){int *p;p=0;return *p;}` is well typed, and its typed tree erases to it.
-use Rattle.std.proofs.Common.{◌≡◌, ℕ, false, List, [], ◌∷◌, ◌++◌, Some, None, refl, codes, lit<}
+use Rattle.std.proofs.Common.{◌≡◌, ℕ, false, List, [], ◌∷◌, ◌++◌, Some, None, refl, inr, codes, lit<}
 use Rattle.std.proofs.lemmas.Slice.Eq.{bytes_eq-Decides}
 use Rattle.std.proofs.lemmas.Bool.Decides.{not_from_Decides}
 use Rattle.cc_base.specs.declared.place.Place.{Place}
@@ -222,6 +222,7 @@ unit-typed = record {
   after = after;
   typed = (before, refl, main-defined);
   numbered = refl;
+  types = (10, inr (refl, refl), (11, inr (refl, refl), refl));
   main = record {
     main = record { declarator = typed.Declares main_form (type 9); body = body };
     there = (0, lit< tt, refl);

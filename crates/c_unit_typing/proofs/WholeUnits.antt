@@ -26,6 +26,7 @@ use Rattle.c_typing.specs.Tests.{first_broken, has_some}
 use Rattle.c_typing_laws.proofs.ConstructLaws.{one_unbroken, not_false}
 use Rattle.c_typing_laws.proofs.ExtensionLaws.{no_true, and_left, and_right, extended_refl}
 use Rattle.c_typing_laws.proofs.FirstState.{first-known}
+use Rattle.c_type_order.proofs.Uses.{later-self}
 use Rattle.c_unit_typing.specs.DefinitionJudging.{judge_unit, judge_whole, is_main, is_main_shape, main_tests, functions_written, before_unit, judged_unit}
 use Rattle.c_unit_typing.specs.Units.{Known, is_one_of, IsUnitTyped}
 use Rattle.c_unit_typing.specs.UnitJudged.{state_of, IsLinkedKnown, IsUnitKnown}
@@ -184,6 +185,7 @@ whole-judged u whole r h =
         after = known_of m;
         typed = subst (λ (names : List Name). IsUnitTyped m.table e1.0 (before_with names) (known_of m)) (sym w.names) (w.judged.typed m.table (extended_refl m.table));
         numbered = w.judged.numbers.numbers;
+        types = w.judged.types.uses m.table (later-self m.table);
         main = has-main u e1.0 m w w.judged.goes.known yes;
       },
       w.judged.erases,

@@ -1,5 +1,6 @@
 pub mod Initialisers
 pub mod Units
+pub mod TypesUsed
 pub mod WellTyped
 pub mod Holding
 pub mod Limits

@@ -21,8 +21,10 @@ use Rattle.c_typing.specs.Settled.{IsThere, IsKnown, GoesOn}
 use Rattle.c_typing.specs.Shapes.{integer_at}
 use Rattle.c_typing.specs.Typing.{IsTyped}
 use Rattle.c_typing_laws.specs.Numbers.{AreNumberedFrom}
+use Rattle.c_type_order.specs.Uses.{IsUsed}
 use Rattle.c_unit_typing.specs.Initialisers.{IsInitialiser, AreItems, is_among}
 use Rattle.c_unit_typing.specs.Units.{Known, Around, IsTestedOrNone, is_one_of, storage_of, AreDeclarators, IsDeclaration, IsStatement, AreDifferent, labels_of, defaults_in, IsUnitTyped}
+use Rattle.c_unit_typing.specs.TypesUsed.{used_by_init_declarators, used_by_declaration, used_by_statement, used_by_block_items, used_by_unit}
 use Rattle.c_unit_typing.specs.UnitJudging.{UnitState, Gives, known_of}
 use Rattle.c_unit_typing.specs.UnitRefusals.{AreItemsSoFar}
 
@@ -107,18 +109,21 @@ pub record AreDeclaratorsJudged (file : Bool) (base : TypedSpecifiers) (all : tr
   pub typed : OverLater r.table (λ T. AreDeclarators T file (storage_of base) (specified_type base) list (known_of s) (known_of r))
   pub erases : erased_init_declarators list ≡ all
   pub numbers : AreNumberedFrom (made_by_init_declarators list) (state_of s) (state_of r)
+  pub types : IsUsed (λ U. used_by_init_declarators U list) s.table r.table
   pub goes : UnitGoesOn s r
 
 pub record IsDeclarationJudged (file : Bool) (d : tree.Declaration) (one : TypedDeclaration) (s r : UnitState) : Type 0 where
   pub typed : OverLater r.table (λ T. IsDeclaration T file one (known_of s) (known_of r))
   pub erases : erased_declaration one ≡ d
   pub numbers : AreNumberedFrom (made_by_declaration one) (state_of s) (state_of r)
+  pub types : IsUsed (λ U. used_by_declaration U one) s.table r.table
   pub goes : UnitGoesOn s r
 
 pub record IsStatementJudged (a : Around) (t : tree.Statement) (one : TypedStatement) (s r : UnitState) : Type 0 where
   pub typed : OverLater r.table (λ T. IsStatement T a one (known_of s) (known_of r))
   pub erases : erased_statement one ≡ t
   pub numbers : AreNumberedFrom (made_by_statement one) (state_of s) (state_of r)
+  pub types : IsUsed (λ U. used_by_statement U one) s.table r.table
   pub goes : UnitGoesOn s r
 
 -- what a block holds, where its `switch` may be on no integer; no two of its labels are alike
@@ -128,6 +133,7 @@ pub record AreBlockItemsJudged (a : Around) (on : Option TypeId) (all : tree.Blo
   pub defaults : defaults_in list ≤ 1
   pub erases : erased_block_items list ≡ all
   pub numbers : AreNumberedFrom (made_by_block_items list) (state_of s) (state_of r)
+  pub types : IsUsed (λ U. used_by_block_items U list) s.table r.table
   pub goes : UnitGoesOn s r
 
 -- a unit
@@ -135,4 +141,5 @@ pub record IsUnitJudged (u : tree.TranslationUnit) (whole : TypedTranslationUnit
   pub typed : OverLater r.table (λ T. IsUnitTyped T whole (known_of s) (known_of r))
   pub erases : erased_unit whole ≡ u
   pub numbers : AreNumberedFrom (made_by_unit whole) (state_of s) (state_of r)
+  pub types : IsUsed (λ U. used_by_unit U whole) s.table r.table
   pub goes : UnitGoesOn s r

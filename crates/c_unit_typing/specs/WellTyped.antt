@@ -4,6 +4,7 @@ use Rattle.std.specs.List.{Contains, range_with_len}
 use Rattle.cc_base.specs.declared.number.TypeId.{TypeId}
 use Rattle.c_types.specs.declared.shape.TypeShape.TheVariants.{Function}
 use Rattle.c_types.specs.Table.{Table, HasShape}
+use Rattle.c_types.specs.Calls.{basic_table}
 use Rattle.c_tree.specs.Tree as tree
 use Rattle.c_tree.specs.TypedTree.{TypedTranslationUnit}
 use Rattle.c_tree.specs.TypedParts.{made_by_unit, nodes_made, DefinedFunction, functions_of, name_of, declared_type}
@@ -11,6 +12,8 @@ use Rattle.c_tree.specs.Erasure.{erased_unit}
 use Rattle.integers.specs.Arithmetic.{int}
 use Rattle.c_typing.specs.Shapes.{IsIntegerType}
 use Rattle.c_typing.specs.Scopes.{Name, empty_level}
+use Rattle.c_type_order.specs.TypesUsed.{AreUses}
+use Rattle.c_unit_typing.specs.TypesUsed.{used_by_unit}
 use Rattle.c_unit_typing.specs.Units.{Known, IsUnitTyped, bytes_of_name}
 
 -- the names of the functions that the unit defines, in order
@@ -39,11 +42,14 @@ pub record HasMain (table : Table) (unit : TypedTranslationUnit) : Type 0 where
   pub gives : IsIntegerType table int result
   pub shape : HasShape table (declared_type main.declarator) (Function [] result)
 
--- A typed unit is well typed, over a table of types: each of its parts is (C99 6.5 to 6.9), its nodes are numbered, and it has a `main`.
+-- A typed unit is well typed, over a table of types: each of its parts is (C99 6.5 to 6.9), its nodes are numbered, its types are numbered by
+-- their first use behind `void` and the integer types, and it has a `main`.
 pub record IsWellTyped (table : Table) (unit : TypedTranslationUnit) : Type 0 where
   pub after : Known
   pub typed : IsUnitTyped table unit (known_before unit) after
   pub numbered : AreNumbered unit
+  -- types are numbered by first use
+  pub types : AreUses (used_by_unit table unit) (length basic_table) (length table)
   pub main : HasMain table unit
 
 -- A unit is well typed where a well typed tree erases to it.

@@ -1,0 +1,9 @@
+pub mod Uses
+pub mod UsedConstructs
+pub mod UsedOperators
+pub mod UsedAssignments
+pub mod UsedChains
+pub mod UsedSteps
+pub mod UsedParameters
+pub mod UsedTrees
+pub mod UsedWhole

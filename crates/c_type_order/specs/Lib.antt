@@ -1,0 +1,2 @@
+pub mod TypesUsed
+pub mod Uses

@@ -48,7 +48,6 @@ use Rattle.c_cells_kept.proofs.CompletePlaces.{place-whole}
 use Rattle.c_cells_kept.proofs.CountedConstructs.{IsCounted, IsPlaceWhole, value-moves, integer-moves, character-moves, literal-moves, name-moves, paren-moves, target-moves, address-moves, prefix-moves, size-moves, before-moves, after-moves, index-moves, infix-moves, member-moves, pointed-moves, assign-moves, update-moves, choice-moves, comma-moves, cast-moves, size_of_type-moves, call-moves}
 use Rattle.c_typing_laws.proofs.Outcomes.{bind-gives, never-gives}
 use Rattle.c_typing_laws.proofs.ValuesTaken.{given-same}
-
 use Rattle.c_cells_kept.proofs.CountedSteps.{ended-made, enum-made, enumeration-made, enumerator-made, home-made, makes-with, member-made, parameter-made, sized-made, stars-made, tagged-made, typedef-made, valued-made, void_unnamed, word-made}
 
 -- Values and operands

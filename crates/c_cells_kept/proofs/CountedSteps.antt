@@ -261,6 +261,10 @@ void_unnamed tree.NoParameter (tree.AndSpecifier tree.NoSpecifier (tree.Enumerat
 void_unnamed tree.NoParameter (tree.AndSpecifier (tree.AndSpecifier more other) specifier) (tree.DeclaredBy d) which at one s r v h = no_true v
 void_unnamed (tree.AndParameter all own one_) specifiers (tree.DeclaredBy d) which at one s r v h = no_true v
 
+parameter_parts : (list : TypedParameters) (own : TypedSpecifierList) (one : TypedDeclared) (a : Option Adjusted) (u : TypeId)
+    → made_by_parameters (typed.AndParameter list (specified own) one a u) ≡ ((made_by_parameters list ++ made_by_specifier_list own) ++ made_by_declared one u) ++ made_by_adjusted a
+parameter_parts list own one a u = refl
+
 -- a parameter that has a name is a scalar
 parameter_whole : (T : Table) (c : Scopes) (void : Bool) (name : Option Identifier) (t : TypeId) (at : Place) → (void ≡ true → name ≡ None)
     → first_broken (Tests.parameter_type_tests T c void t at) ≡ None → has_some name ≡ true → IsComplete T t
@@ -289,4 +293,4 @@ parameter-made void at adjusting list made own one s r unnamed h =
     (parameter_whole t.1.table t.1.seen.scopes void (declared_identifier one) t.0 at unnamed tested.0) (stays-refl t.1) u.0 u.1 tested.1 in
     let stays = stays-on a.1 t.1 u.1 (makes-node at a.0 one base t.0 a.1 t.1 t.2) kept in
     given-same (λ (w : TypedParameters) (q : State). IsParameterMade list own one w s q) (typed.AndParameter list (specified own) one a.0 u.0) made u.1 r u.3
-    (record { type = u.0; adjusted = a.0; whole = refl; node = made-to (made_by_adjusted a.0) s a.1 u.1 stays nodes })
+    (record { type = u.0; adjusted = a.0; whole = parameter_parts list own one a.0 u.0; node = made-to (made_by_adjusted a.0) s a.1 u.1 stays nodes })

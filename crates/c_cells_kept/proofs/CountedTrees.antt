@@ -45,7 +45,9 @@ use Rattle.c_typing_laws.proofs.NumberedTrees.{operand-whole, left_same}
 use Rattle.c_cells_kept.specs.Counted.{Moves}
 use Rattle.c_cells_kept.proofs.CellsMoved.{stays-refl, two-made, made-as, made-to, made-from, made-none, moves-none}
 use Rattle.c_cells_kept.proofs.CompletePlaces.{place-whole}
-use Rattle.c_cells_kept.proofs.CountedConstructs.{IsCounted, IsPlaceWhole, value-moves, integer-moves, character-moves, literal-moves, name-moves, paren-moves, target-moves, address-moves, prefix-moves, size-moves, before-moves, after-moves, index-moves, infix-moves, member-moves, pointed-moves, assign-moves, update-moves, choice-moves, comma-moves, cast-moves, size_of_type-moves, call-moves}
+use Rattle.c_cells_kept.proofs.CountedValues.{IsCounted, value-moves, integer-moves, character-moves, literal-moves, name-moves}
+use Rattle.c_cells_kept.proofs.CountedOperators.{paren-moves, target-moves, address-moves, prefix-moves, size-moves, before-moves, after-moves, index-moves, infix-moves, member-moves, pointed-moves}
+use Rattle.c_cells_kept.proofs.CountedAssignments.{IsPlaceWhole, assign-moves, update-moves, choice-moves, comma-moves, cast-moves, size_of_type-moves, call-moves}
 use Rattle.c_typing_laws.proofs.Outcomes.{bind-gives, never-gives}
 use Rattle.c_typing_laws.proofs.ValuesTaken.{given-same}
 use Rattle.c_cells_kept.proofs.CountedSteps.{ended-made, enum-made, enumeration-made, enumerator-made, home-made, makes-with, member-made, parameter-made, sized-made, stars-made, tagged-made, typedef-made, valued-made, void_unnamed, word-made}

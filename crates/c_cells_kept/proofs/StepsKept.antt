@@ -36,7 +36,7 @@ use Rattle.c_typing.specs.Tests.{Test, first_broken, has_some, is_tag_of, is_tak
 use Rattle.c_typing.specs.Typing.{shape_of_kind, tagging, counting_aggregate, tag_named_here}
 use Rattle.c_cells_kept.specs.Counted.{Stays}
 use Rattle.c_cells_kept.proofs.CellsMoved.{MayStand, stays-on, type_with-stays, pointer-stays, array_may, function_may, kind_may}
-use Rattle.c_cells_kept.proofs.CountedConstructs.{number-stays}
+use Rattle.c_cells_kept.proofs.CountedValues.{number-stays}
 use Rattle.c_cells_kept.proofs.WholeScopes.{tagging_stays, completing_stays, members_stay, entered_stays, left_stays, enumerating_stays, declared_stays}
 use Rattle.c_typing_laws.proofs.Outcomes.{bind-gives, unless-gives, gives-state, never-gives}
 

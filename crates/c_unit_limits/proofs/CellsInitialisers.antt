@@ -22,7 +22,7 @@ use Rattle.c_typing.specs.Typing.{IsTyped}
 use Rattle.c_typing_laws.proofs.JudgedWhole.{checked_value-judged}
 use Rattle.c_cells_kept.proofs.CellsMoved.{two-made}
 use Rattle.c_cells_kept.proofs.CompletePlaces.{place-whole}
-use Rattle.c_cells_kept.proofs.CountedConstructs.{count-moves}
+use Rattle.c_cells_kept.proofs.CountedAssignments.{count-moves}
 use Rattle.c_cells_kept.proofs.CountedWhole.{checked_value-moves}
 use Rattle.c_unit_limits.proofs.CellsSteps.{UnitMoves, unit-none, unit-then}
 use Rattle.c_unit_typing.specs.Initialisers.{Slot, char_count_of_shape, is_char_array, items_count}

@@ -133,5 +133,7 @@ one-moves file base initialised size d one s r k b h =
     let j = declarator-at at which (specified_type base) size d first.0 (state_of s) (state_of first.1) k.known b l.0 in
     let n = named_stays file (storage_of base) initialised (declarator_name d) first.0 one first.1 r j.goes.known.followed first.3 in
     subst (λ (v : TypedDeclarator). UnitMoves (made_by_declarator v) s r) n.same
-    (record { moves = made-to (made_by_declarator first.0) (state_of s) (state_of first.1) (state_of r) n.stays.stays
-        (declarator-moves at which (specified_type base) size d first.0 (state_of s) (state_of first.1) k.known l.0) })
+    (record {
+      moves = made-to (made_by_declarator first.0) (state_of s) (state_of first.1) (state_of r) n.stays.stays
+          (declarator-moves at which (specified_type base) size d first.0 (state_of s) (state_of first.1) k.known l.0);
+    })

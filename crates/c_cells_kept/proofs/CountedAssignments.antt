@@ -22,19 +22,19 @@ use Rattle.runtime_calls.specs.declared.function.RuntimeType.{RuntimeType}
 use Rattle.runtime_calls.specs.declared.function.RuntimeType.TheVariants as prototype
 use Rattle.integers.specs.Arithmetic.{IntegerType}
 use Rattle.c_typing.specs.Assignments
-use Rattle.c_typing.specs.Assignments.{converted_by, converted_to, assigned, moved, assign_part, assign_given, assign, updated, update_part, update_by, pointer_choice, choice_of_pointers, choice_of_values, choice_of_parts, choice, comma_part, comma, cast_part, part_expr, cast_given, cast, size_of_type, arguments_as, converted_arguments, runtime_argument, runtime_arguments, runtime_call, called_shape, called, arguments_held, call, function_name, named_as, count_global, literal_size, is_char_array, string_type, literal}
+use Rattle.c_typing.specs.Assignments.{converted_to, assigned, assign_part, assign_given, assign, updated, update_part, update_by, pointer_choice, choice_of_pointers, choice_of_values, choice_of_parts, choice, comma_part, comma, cast_part, part_expr, cast_given, cast, size_of_type, arguments_as, converted_arguments, runtime_argument, runtime_arguments, runtime_call, called_shape, called, arguments_held, call}
 use Rattle.c_typing.specs.Cells.{count_cells, pointers_in}
 use Rattle.c_typing.specs.Conversions.{to_integer, implicit}
 use Rattle.c_typing.specs.Integers.{right_type, common, assigning}
 use Rattle.c_typing.specs.Judging.{State, Gives, Stops, pure, by_known, new_pointer, void_type, integer_type}
 use Rattle.c_typing.specs.Operands.{Operand, Value, side_of, given, argument_of}
 use Rattle.c_typing.specs.Operations
-use Rattle.c_typing.specs.Operations.{construct, leaf, in_parens, pointed, pointed_place, target_of, address_behind, address_of_part, address, promoted_operand, operator_on, prefix_of, size_of_part, step_part, step_before, step_after, element, index, arithmetic, equated, compared, pointers, by_kinds, operation, infix_of, numbered, named_member, Found, found, member_of, member, member_at_pointer, pointed_member, int_type}
+use Rattle.c_typing.specs.Operations.{construct, pointers, int_type}
 use Rattle.c_typing.specs.Refusals
 use Rattle.c_typing.specs.Rules.{meeting, meeting_type, runtime_named, into_choice}
 use Rattle.c_typing.specs.Shapes.{integer_at, is_void_shape}
 use Rattle.c_typing.specs.Tests
-use Rattle.c_typing.specs.Tests.{Elaborated, AsPlace, AsValue, AsAllocation, Test, broken_at, first_broken, has_some, is_index_pair, points_to_incomplete}
+use Rattle.c_typing.specs.Tests.{Elaborated, AsPlace, AsValue, AsAllocation, Test, broken_at, first_broken}
 use Rattle.c_typing_laws.specs.Numbers.{made_by_part}
 use Rattle.c_typing_laws.proofs.ExtensionLaws.{extended_refl}
 use Rattle.c_typing_laws.proofs.JudgedCalls.{last_ok, lengths, cut_length}

@@ -21,25 +21,25 @@ use Rattle.c_tree.specs.declared.typed_word.TypedStar.{TypedStar}
 use Rattle.c_tree.specs.Places.{nowhere}
 use Rattle.c_tree.specs.Tree as tree
 use Rattle.c_tree.specs.TypedTree as typed
-use Rattle.c_tree.specs.TypedTree.{TypedExpr, TypedTypeName, TypedSpecifiers, TypedSpecifierList, TypedSpecifier, TypedMembers, TypedMemberDeclarators, TypedEnumerators, TypedForm, TypedCore, TypedParts, TypedParameters, TypedDeclared}
+use Rattle.c_tree.specs.TypedTree.{TypedSpecifierList, TypedSpecifier, TypedMembers, TypedMemberDeclarators, TypedEnumerators, TypedForm, TypedParts, TypedParameters, TypedDeclared}
 use Rattle.c_tree.specs.TypedParts.{Made, Name, Written, made_by, made_by_specifier_list, made_by_specifier, made_by_members, made_by_member_declarators, made_by_enumerators, made_by_stars, made_by_form, made_by_parts, made_by_parameters, made_by_adjusted, made_by_declared}
 use Rattle.c_typing.specs.declared.declared.Declared.{Declared}
 use Rattle.c_typing.specs.declared.declared.Declared.TheVariants as declared
 use Rattle.c_typing.specs.declared.naming.Naming.{Naming}
 use Rattle.c_typing.specs.declared.naming.Naming.TheVariants as naming
 use Rattle.c_typing.specs.Constants.{constant_value}
-use Rattle.c_typing.specs.Declarators.{Counted, counted, counting_word, declarator_names, member_names}
+use Rattle.c_typing.specs.Declarators.{Counted, counted, counting_word}
 use Rattle.c_typing.specs.Declarators
 use Rattle.c_typing.specs.Declaring.{home_as, stars_with_nodes, size_given, sized_part, sized, form_makes, member_type, member_named, adjusted_with_node, parameter_makes, parameter_declared, declared_home, parameter}
 use Rattle.c_typing.specs.Judging.{State, Judging, Gives, next, ◌>>=◌, pure, unless, by_known, new_node}
 use Rattle.c_typing.specs.Operands.{Value}
 use Rattle.c_typing.specs.Refusals.{one_named, tag_place, is_empty_row, declared_identifier, is_here, is_void_alone, has_name}
-use Rattle.c_typing.specs.Scopes.{Scopes, name_in, tag_in, declaring, leaving, is_complete_at, is_complete_shape_at}
+use Rattle.c_typing.specs.Scopes.{Scopes, name_in, tag_in, declaring, is_complete_at, is_complete_shape_at}
 use Rattle.c_typing.specs.Scopes
 use Rattle.c_typing.specs.Specifying
-use Rattle.c_typing.specs.Specifying.{specified, typedef_named, tagged_by, tagged_as, begun, ended, is_taken_at_end, completed, enum_tag, enumerator, enumerator_with, valued_enumerator, enumeration_begun, enumeration}
+use Rattle.c_typing.specs.Specifying.{specified, typedef_named, tagged_by, tagged_as, ended, is_taken_at_end, completed, enum_tag, enumerator, enumerator_with, valued_enumerator, enumeration}
 use Rattle.c_typing.specs.Tests
-use Rattle.c_typing.specs.Tests.{AsPlace, AsValue, AsAllocation, Elaborated, first_broken, is_tag_of, has_some}
+use Rattle.c_typing.specs.Tests.{AsValue, first_broken, is_tag_of, has_some}
 use Rattle.c_typing.specs.Typing.{next_value, last_value}
 use Rattle.c_typing.specs.Walks.{listed, judge_declared}
 use Rattle.c_cells_kept.proofs.StepsKept.{form-keeps, declared-keeps, adjusted-keeps, named-keeps}

@@ -15,13 +15,13 @@ use Rattle.c_tree.specs.declared.operator.Unary.TheVariants as unary
 use Rattle.c_tree.specs.Places.{nowhere}
 use Rattle.c_tree.specs.Tree as tree
 use Rattle.c_tree.specs.TypedTree as typed
-use Rattle.c_tree.specs.TypedTree.{TypedExpr, TypedTypeName, TypedSpecifiers, TypedSpecifierList, TypedSpecifier, TypedMembers, TypedMemberDeclarators, TypedEnumerators, TypedForm, TypedCore, TypedParts, TypedParameters, TypedDeclared}
+use Rattle.c_tree.specs.TypedTree.{TypedTypeName, TypedSpecifierList, TypedSpecifier, TypedMembers, TypedMemberDeclarators, TypedEnumerators, TypedForm, TypedCore, TypedParts, TypedParameters, TypedDeclared}
 use Rattle.c_tree.specs.TypedParts.{made_by, made_by_type_name, made_by_specifier_list, made_by_specifier, made_by_members, made_by_member_declarators, made_by_enumerators, made_by_stars, made_by_form, made_by_core, made_by_parts, made_by_parameters, made_by_adjusted, made_by_declared}
 use Rattle.c_typing.specs.declared.naming.Naming.{Naming}
 use Rattle.c_typing.specs.declared.naming.Naming.TheVariants as naming
 use Rattle.c_typing.specs.Adjusting.{derived_by_declared, typedef_place, adjusted_at}
 use Rattle.c_typing.specs.Assignments
-use Rattle.c_typing.specs.Declarators.{Counted, counted, counting_word, declarator_names, member_names}
+use Rattle.c_typing.specs.Declarators.{Counted, counted, declarator_names, member_names}
 use Rattle.c_typing.specs.Declarators
 use Rattle.c_typing.specs.Declaring.{declarator_name, home_as, stars_with_nodes, sized, declared_makes, member_named, parameter, entered, left}
 use Rattle.c_typing.specs.Judging.{State, Gives, next, pure}
@@ -29,7 +29,7 @@ use Rattle.c_typing.specs.Operands.{Operand, Value, value}
 use Rattle.c_typing.specs.Operations
 use Rattle.c_typing.specs.Operations.{prefix, target, target_of, prefix_of}
 use Rattle.c_typing.specs.Refusals.{IsElaborated, name_place, is_void_alone}
-use Rattle.c_typing.specs.Scopes.{Scopes, name_in, tag_in, declaring, leaving, is_complete_at, is_complete_shape_at}
+use Rattle.c_typing.specs.Scopes.{Scopes}
 use Rattle.c_typing.specs.Scopes
 use Rattle.c_typing.specs.Settled.{IsKnown}
 use Rattle.c_typing.specs.Specifying.{specified, begun, ended, enumerator, valued_enumerator, enumeration_begun, enumeration}

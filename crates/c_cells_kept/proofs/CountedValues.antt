@@ -14,7 +14,7 @@ use Rattle.c_tree.specs.declared.typed_word.Conversion.TheVariants as conversion
 use Rattle.c_tree.specs.declared.typed_word.Runtime.{Runtime}
 use Rattle.c_tree.specs.Places.{pieces_place}
 use Rattle.c_tree.specs.TypedTree as typed
-use Rattle.c_tree.specs.TypedTree.{TypedExpr, TypedPlace, TypedArguments, TypedTypeName}
+use Rattle.c_tree.specs.TypedTree.{TypedExpr, TypedPlace}
 use Rattle.c_tree.specs.TypedParts.{type_of, place_type, Made, Address, made_by, made_by_place, Literal}
 use Rattle.runtime_calls.specs.Prototypes.{runtime_of}
 use Rattle.c_typing.specs.declared.declared.Declared.{Declared}
@@ -22,17 +22,17 @@ use Rattle.c_typing.specs.declared.declared.Declared.TheVariants as declared
 use Rattle.c_typing.specs.declared.typing.Reading.{Reading}
 use Rattle.c_typing.specs.declared.typing.Reading.TheVariants as reading
 use Rattle.c_typing.specs.Assignments
-use Rattle.c_typing.specs.Assignments.{converted_by, converted_to, assigned, moved, assign_part, assign_given, assign, updated, update_part, update_by, pointer_choice, choice_of_pointers, choice_of_values, choice_of_parts, choice, comma_part, comma, cast_part, part_expr, cast_given, cast, size_of_type, arguments_as, converted_arguments, runtime_argument, runtime_arguments, runtime_call, called_shape, called, arguments_held, call, function_name, named_as, count_global, literal_size, is_char_array, string_type, literal}
+use Rattle.c_typing.specs.Assignments.{part_expr, called, function_name, named_as, count_global, literal_size, is_char_array, string_type, literal}
 use Rattle.c_typing.specs.Conversions.{to_integer, is_taken_over, is_pointer_to_complete}
 use Rattle.c_typing.specs.Integers
-use Rattle.c_typing.specs.Integers.{char, is_logical, is_order, promoted, left_type, right_type, result_type, common, assigning}
+use Rattle.c_typing.specs.Integers.{char}
 use Rattle.c_typing.specs.Judging.{State, Gives, Stops, ◌>>=◌, pure, stop, by_known, new_node, type_with, new_pointer, void_type, integer_type}
 use Rattle.c_typing.specs.Operands.{Operand, Value, value, value_of, place_value, reading_of, raw_value, made_raw, made_for, side_of, given_allocation, given}
 use Rattle.c_typing.specs.Operations
-use Rattle.c_typing.specs.Operations.{construct, leaf, in_parens, pointed, pointed_place, target_of, address_behind, address_of_part, address, promoted_operand, operator_on, prefix_of, size_of_part, step_part, step_before, step_after, element, index, arithmetic, equated, compared, pointers, by_kinds, operation, infix_of, numbered, named_member, Found, found, member_of, member, member_at_pointer, pointed_member, int_type}
+use Rattle.c_typing.specs.Operations.{element, pointers, numbered, int_type}
 use Rattle.c_typing.specs.Scopes.{name_in, place_among}
 use Rattle.c_typing.specs.Tests
-use Rattle.c_typing.specs.Tests.{Elaborated, AsPlace, AsValue, AsAllocation, Test, broken_at, first_broken, has_some, is_index_pair, points_to_incomplete}
+use Rattle.c_typing.specs.Tests.{Elaborated, AsPlace, AsValue, AsAllocation, has_some}
 use Rattle.c_typing_laws.specs.Numbers.{made_by_part}
 use Rattle.c_typing_laws.proofs.ExtensionLaws.{no_true}
 use Rattle.c_typing_laws.proofs.NumberedConstructs.{IsWhole, side-made}

@@ -9,7 +9,7 @@ use Rattle.c_types.specs.Table.{IsType, IsComplete, shape_at}
 use Rattle.c_tree.specs.Places.{expr_place, initialiser_place, nowhere}
 use Rattle.c_tree.specs.Tree as tree
 use Rattle.c_tree.specs.TypedTree as typed
-use Rattle.c_tree.specs.TypedTree.{TypedExpr, TypedPlace, TypedInitialiser, TypedItems}
+use Rattle.c_tree.specs.TypedTree.{TypedExpr, TypedInitialiser, TypedItems}
 use Rattle.c_tree.specs.TypedParts.{Copy, place_type, made_by, made_by_place, made_by_initialiser, made_by_items}
 use Rattle.c_typing.specs.Cells.{count_cells}
 use Rattle.c_typing.specs.Checking.{checked_value}

@@ -7,5 +7,6 @@ pub mod CountedOperators
 pub mod CountedAssignments
 pub mod StepsKept
 pub mod CountedSteps
+pub mod CountedOperands
 pub mod CountedTrees
 pub mod CountedWhole

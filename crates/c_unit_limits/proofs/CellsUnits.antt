@@ -29,6 +29,7 @@ use Rattle.c_unit_typing.proofs.JudgedUnits.{unit-judged}
 use Rattle.c_unit_typing.proofs.UnitOutcomes.{bind-gives, given-same, lifted-gives}
 use Rattle.c_unit_typing.proofs.UnitStates.{unit-on}
 use Rattle.c_unit_typing.proofs.WholeUnits.{before-known}
+use Rattle.c_unit_limits.proofs.StaticBytes.{none_more}
 use Rattle.c_unit_limits.proofs.WholeUnits.{whole-given, whole-bounded}
 use Rattle.std.specs.Prelude.{sum, flat_map}
 use Rattle.std.proofs.lemmas.List.Sums.{sum_by-cons}
@@ -148,9 +149,6 @@ unit-moves (tree.AndFunctionBody u specifiers d brace items) whole s r k h =
     definition-moves e1.0 specifiers d brace items whole e1.1 r j.goes.known e1.3 s (unit-moves u e1.0 s e1.1 k e1.2)
 
 -- The limit
-
-none_more : {a b : ℕ} → a ≡ b → a ≡ 0 + b
-none_more {a} {b} e = omega (arith, e)
 
 copies : (T : Table) (made : List Made) → sum (flat_map (pointers_copied_by T) made) ≡ copied T made
 copies T [] = refl

@@ -124,10 +124,10 @@ node-stays at n s r h =
 pub address-made : (at : Place) (n : NodeId) (s r : State) → new_node at s ≡ Gives n r → Moves (Address n ∷ []) s r
 address-made at n s r h = made-none (Address n ∷ []) s r (λ U. refl) (node-stays at n s r h)
 
-lt_from : (a b : ℕ) → nat_lt a b ≡ true → a < b
+pub lt_from : (a b : ℕ) → nat_lt a b ≡ true → a < b
 lt_from a b h = grind (arith, nat_tests)
 
-le_from : (a b : ℕ) → nat_le a b ≡ true → a ≤ b
+pub le_from : (a b : ℕ) → nat_le a b ≡ true → a ≤ b
 le_from a b h = grind (arith, nat_tests)
 
 -- the shape may stand in the table

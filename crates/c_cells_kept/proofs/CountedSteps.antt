@@ -21,25 +21,25 @@ use Rattle.c_tree.specs.declared.typed_word.TypedStar.{TypedStar}
 use Rattle.c_tree.specs.Places.{nowhere}
 use Rattle.c_tree.specs.Tree as tree
 use Rattle.c_tree.specs.TypedTree as typed
-use Rattle.c_tree.specs.TypedTree.{TypedExpr, TypedTypeName, TypedSpecifiers, TypedSpecifierList, TypedSpecifier, TypedMembers, TypedMemberDeclarators, TypedEnumerators, TypedForm, TypedCore, TypedParts, TypedParameters, TypedDeclared}
+use Rattle.c_tree.specs.TypedTree.{TypedSpecifierList, TypedSpecifier, TypedMembers, TypedMemberDeclarators, TypedEnumerators, TypedForm, TypedParts, TypedParameters, TypedDeclared}
 use Rattle.c_tree.specs.TypedParts.{Made, Name, Written, made_by, made_by_specifier_list, made_by_specifier, made_by_members, made_by_member_declarators, made_by_enumerators, made_by_stars, made_by_form, made_by_parts, made_by_parameters, made_by_adjusted, made_by_declared}
 use Rattle.c_typing.specs.declared.declared.Declared.{Declared}
 use Rattle.c_typing.specs.declared.declared.Declared.TheVariants as declared
 use Rattle.c_typing.specs.declared.naming.Naming.{Naming}
 use Rattle.c_typing.specs.declared.naming.Naming.TheVariants as naming
 use Rattle.c_typing.specs.Constants.{constant_value}
-use Rattle.c_typing.specs.Declarators.{Counted, counted, counting_word, declarator_names, member_names}
+use Rattle.c_typing.specs.Declarators.{Counted, counted, counting_word}
 use Rattle.c_typing.specs.Declarators
 use Rattle.c_typing.specs.Declaring.{home_as, stars_with_nodes, size_given, sized_part, sized, form_makes, member_type, member_named, adjusted_with_node, parameter_makes, parameter_declared, declared_home, parameter}
 use Rattle.c_typing.specs.Judging.{State, Judging, Gives, next, ◌>>=◌, pure, unless, by_known, new_node}
 use Rattle.c_typing.specs.Operands.{Value}
 use Rattle.c_typing.specs.Refusals.{one_named, tag_place, is_empty_row, declared_identifier, is_here, is_void_alone, has_name}
-use Rattle.c_typing.specs.Scopes.{Scopes, name_in, tag_in, declaring, leaving, is_complete_at, is_complete_shape_at}
+use Rattle.c_typing.specs.Scopes.{Scopes, name_in, tag_in, declaring, is_complete_at, is_complete_shape_at}
 use Rattle.c_typing.specs.Scopes
 use Rattle.c_typing.specs.Specifying
-use Rattle.c_typing.specs.Specifying.{specified, typedef_named, tagged_by, tagged_as, begun, ended, is_taken_at_end, completed, enum_tag, enumerator, enumerator_with, valued_enumerator, enumeration_begun, enumeration}
+use Rattle.c_typing.specs.Specifying.{specified, typedef_named, tagged_by, tagged_as, ended, is_taken_at_end, completed, enum_tag, enumerator, enumerator_with, valued_enumerator, enumeration}
 use Rattle.c_typing.specs.Tests
-use Rattle.c_typing.specs.Tests.{AsPlace, AsValue, AsAllocation, Elaborated, first_broken, is_tag_of, has_some}
+use Rattle.c_typing.specs.Tests.{AsValue, first_broken, is_tag_of, has_some}
 use Rattle.c_typing.specs.Typing.{next_value, last_value}
 use Rattle.c_typing.specs.Walks.{listed, judge_declared}
 use Rattle.c_cells_kept.proofs.StepsKept.{form-keeps, declared-keeps, adjusted-keeps, named-keeps}
@@ -261,6 +261,10 @@ void_unnamed tree.NoParameter (tree.AndSpecifier tree.NoSpecifier (tree.Enumerat
 void_unnamed tree.NoParameter (tree.AndSpecifier (tree.AndSpecifier more other) specifier) (tree.DeclaredBy d) which at one s r v h = no_true v
 void_unnamed (tree.AndParameter all own one_) specifiers (tree.DeclaredBy d) which at one s r v h = no_true v
 
+parameter_parts : (list : TypedParameters) (own : TypedSpecifierList) (one : TypedDeclared) (a : Option Adjusted) (u : TypeId)
+    → made_by_parameters (typed.AndParameter list (specified own) one a u) ≡ ((made_by_parameters list ++ made_by_specifier_list own) ++ made_by_declared one u) ++ made_by_adjusted a
+parameter_parts list own one a u = refl
+
 -- a parameter that has a name is a scalar
 parameter_whole : (T : Table) (c : Scopes) (void : Bool) (name : Option Identifier) (t : TypeId) (at : Place) → (void ≡ true → name ≡ None)
     → first_broken (Tests.parameter_type_tests T c void t at) ≡ None → has_some name ≡ true → IsComplete T t
@@ -289,4 +293,4 @@ parameter-made void at adjusting list made own one s r unnamed h =
     (parameter_whole t.1.table t.1.seen.scopes void (declared_identifier one) t.0 at unnamed tested.0) (stays-refl t.1) u.0 u.1 tested.1 in
     let stays = stays-on a.1 t.1 u.1 (makes-node at a.0 one base t.0 a.1 t.1 t.2) kept in
     given-same (λ (w : TypedParameters) (q : State). IsParameterMade list own one w s q) (typed.AndParameter list (specified own) one a.0 u.0) made u.1 r u.3
-    (record { type = u.0; adjusted = a.0; whole = refl; node = made-to (made_by_adjusted a.0) s a.1 u.1 stays nodes })
+    (record { type = u.0; adjusted = a.0; whole = parameter_parts list own one a.0 u.0; node = made-to (made_by_adjusted a.0) s a.1 u.1 stays nodes })

@@ -5,107 +5,47 @@ use Rattle.cc_base.specs.declared.number.TypeId.{TypeId}
 use Rattle.cc_base.specs.declared.fault.Fault.TheVariants.{TooLarge}
 use Rattle.cc_base.specs.declared.fault.Limit.TheVariants.{Types}
 use Rattle.c_types.specs.declared.shape.TypeShape.{TypeShape}
-use Rattle.c_types.specs.Table.{Table, IsType}
-use Rattle.c_tree.specs.declared.operator.Assignment.{Assignment}
+use Rattle.c_types.specs.Table.{IsType}
 use Rattle.c_tree.specs.declared.operator.Assignment.TheVariants as assignment
 use Rattle.c_tree.specs.declared.operator.MemberOperator.TheVariants as member
-use Rattle.c_tree.specs.declared.operator.Step.TheVariants as step
-use Rattle.c_tree.specs.declared.operator.Unary.{Unary}
-use Rattle.c_tree.specs.declared.operator.Unary.TheVariants as unary
 use Rattle.c_tree.specs.Places.{nowhere}
 use Rattle.c_tree.specs.Tree as tree
 use Rattle.c_tree.specs.TypedTree as typed
-use Rattle.c_tree.specs.TypedTree.{TypedExpr, TypedTypeName, TypedSpecifiers, TypedSpecifierList, TypedSpecifier, TypedMembers, TypedMemberDeclarators, TypedEnumerators, TypedForm, TypedCore, TypedParts, TypedParameters, TypedDeclared}
+use Rattle.c_tree.specs.TypedTree.{TypedTypeName, TypedSpecifierList, TypedSpecifier, TypedMembers, TypedMemberDeclarators, TypedEnumerators, TypedForm, TypedCore, TypedParts, TypedParameters, TypedDeclared}
 use Rattle.c_tree.specs.TypedParts.{made_by, made_by_type_name, made_by_specifier_list, made_by_specifier, made_by_members, made_by_member_declarators, made_by_enumerators, made_by_stars, made_by_form, made_by_core, made_by_parts, made_by_parameters, made_by_adjusted, made_by_declared}
 use Rattle.c_typing.specs.declared.naming.Naming.{Naming}
 use Rattle.c_typing.specs.declared.naming.Naming.TheVariants as naming
 use Rattle.c_typing.specs.Adjusting.{derived_by_declared, typedef_place, adjusted_at}
 use Rattle.c_typing.specs.Assignments
-use Rattle.c_typing.specs.Declarators.{Counted, counted, counting_word, declarator_names, member_names}
+use Rattle.c_typing.specs.Declarators.{Counted, counted, declarator_names, member_names}
 use Rattle.c_typing.specs.Declarators
 use Rattle.c_typing.specs.Declaring.{declarator_name, home_as, stars_with_nodes, sized, declared_makes, member_named, parameter, entered, left}
 use Rattle.c_typing.specs.Judging.{State, Gives, next, pure}
 use Rattle.c_typing.specs.Operands.{Operand, Value, value}
 use Rattle.c_typing.specs.Operations
-use Rattle.c_typing.specs.Operations.{prefix, target, target_of, prefix_of}
-use Rattle.c_typing.specs.Refusals.{IsElaborated, name_place, is_void_alone}
-use Rattle.c_typing.specs.Scopes.{Scopes, name_in, tag_in, declaring, leaving, is_complete_at, is_complete_shape_at}
+use Rattle.c_typing.specs.Operations.{prefix}
+use Rattle.c_typing.specs.Refusals.{name_place, is_void_alone}
+use Rattle.c_typing.specs.Scopes.{Scopes}
 use Rattle.c_typing.specs.Scopes
 use Rattle.c_typing.specs.Settled.{IsKnown}
 use Rattle.c_typing.specs.Specifying.{specified, begun, ended, enumerator, valued_enumerator, enumeration_begun, enumeration}
-use Rattle.c_typing.specs.Tests.{AsPlace, AsValue, AsAllocation, Elaborated}
 use Rattle.c_typing.specs.Walks.{listed, declared_place, judge, judge_arguments, judge_type_name, judge_list, judge_specifier, judge_members, judge_member_declarators, judge_enumerators, judge_form, judge_core, judge_parts, judge_parameters, judge_declared}
 use Rattle.c_typing_laws.proofs.JudgedDeclarators.{IsVoidOf, first_alone, stars-judged, entered-judged}
 use Rattle.c_typing_laws.proofs.JudgedLists.{list-typed}
 use Rattle.c_typing_laws.proofs.JudgedSpecifiers.{begun-judged, enumeration_begun-judged}
 use Rattle.c_typing_laws.proofs.JudgedTrees.{value-here, expr-judged, arguments-judged, type_name-judged, specifiers-judged, members-judged, row-judged, enumerators-judged, core-judged, parts-judged, parameters-judged, begun_goes, void_self}
 use Rattle.c_cells_kept.proofs.StepsKept.{declared-keeps, entered-keeps, left-keeps, begun-keeps, ended-keeps, word-keeps, typedef_name-keeps, tagged-keeps, enum-keeps, begun_enumeration-keeps}
-use Rattle.c_typing_laws.proofs.NumberedConstructs.{IsWhole, made_by_values, values_last}
+use Rattle.c_typing_laws.proofs.NumberedConstructs.{made_by_values, values_last}
 use Rattle.c_typing_laws.proofs.NumberedTrees.{operand-whole, left_same}
 use Rattle.c_cells_kept.specs.Counted.{Moves}
 use Rattle.c_cells_kept.proofs.CellsMoved.{stays-refl, two-made, made-as, made-to, made-from, made-none, moves-none}
-use Rattle.c_cells_kept.proofs.CompletePlaces.{place-whole}
-use Rattle.c_cells_kept.proofs.CountedConstructs.{IsCounted, IsPlaceWhole, value-moves, integer-moves, character-moves, literal-moves, name-moves, paren-moves, target-moves, address-moves, prefix-moves, size-moves, before-moves, after-moves, index-moves, infix-moves, member-moves, pointed-moves, assign-moves, update-moves, choice-moves, comma-moves, cast-moves, size_of_type-moves, call-moves}
+use Rattle.c_cells_kept.proofs.CountedValues.{IsCounted, value-moves, integer-moves, character-moves, literal-moves, name-moves}
+use Rattle.c_cells_kept.proofs.CountedOperators.{paren-moves, after-moves, index-moves, infix-moves, member-moves, pointed-moves}
+use Rattle.c_cells_kept.proofs.CountedAssignments.{assign-moves, choice-moves, comma-moves, cast-moves, size_of_type-moves, call-moves}
 use Rattle.c_typing_laws.proofs.Outcomes.{bind-gives, never-gives}
 use Rattle.c_typing_laws.proofs.ValuesTaken.{given-same}
-
 use Rattle.c_cells_kept.proofs.CountedSteps.{ended-made, enum-made, enumeration-made, enumerator-made, home-made, makes-with, member-made, parameter-made, sized-made, stars-made, tagged-made, typedef-made, valued-made, void_unnamed, word-made}
-
--- Values and operands
-
-whole_of : (T : Table) (e : tree.Expr) (x : Elaborated) (s s' : Scopes) → IsElaborated T e x s s' → IsWhole x
-whole_of T e (AsPlace p) s s' h = tt
-whole_of T e (AsValue v) s s' h = tt
-whole_of T e (AsAllocation v) s s' h = h.2
-
-abbrev IsCounting : tree.Expr → State → Type 0
-IsCounting e s = (o : Operand) (q : State) → judge false e s ≡ Gives o q → IsCounted s o.part q
-
-pub value-makes : (e : tree.Expr) (v : Value) (s m : State) → IsKnown s → IsCounting e s → next (judge false e s) value ≡ Gives v m → Moves (made_by v.expr) s m × IsKnown m
-value-makes e v s m k ih h =
-    let one = bind-gives (judge false e s) value v m h in
-    let j = expr-judged e false one.0 s one.1 k one.2 in (
-      value-moves one.0 v s one.1 m (whole_of one.1.table e one.0.part s.seen.scopes one.1.seen.scopes j.judged.part) (ih one.0 one.1 one.2) one.3,
-      (value-here false e one.0 v s one.1 m j one.3).value.goes.known,
-    )
-
--- a place that is given is of a complete type
-part_place : (m : State) (e : tree.Expr) (x : Elaborated) (s : Scopes) → IsKnown m → IsElaborated m.table e x s m.seen.scopes → IsPlaceWhole m x
-part_place m e (AsPlace p) s k h = λ ready. place-whole m.table m.seen.scopes ready.0.formed k.followed k.numbered ready.1 p s h.0
-part_place m e (AsValue v) s k h = tt
-part_place m e (AsAllocation v) s k h = tt
-
-pub operand-place : (e : tree.Expr) (o : Operand) (s m : State) → IsKnown s → judge false e s ≡ Gives o m → IsPlaceWhole m o.part
-operand-place e o s m k h =
-    let j = expr-judged e false o s m k h in
-    part_place m e o.part s.seen.scopes j.judged.goes.known j.judged.part
-
-prefix-makes : (operator : Unary) (at : Place) (x o : Operand) (a : State) (s r : State) → IsWhole x.part → IsCounted a x.part s → prefix operator at x s ≡ Gives o r → IsCounted a o.part r
-unfolding prefix target
-prefix-makes unary.Increment at x o a s r w n h = before-moves step.Increment at x o a s r n h
-prefix-makes unary.Decrement at x o a s r w n h = before-moves step.Decrement at x o a s r n h
-prefix-makes unary.AddressOf at x o a s r w n h = address-moves at x o a s r n h
-prefix-makes unary.SizeOf at x o a s r w n h = size-moves at x o a s r w n h
-prefix-makes unary.Dereference at x o a s r w n h =
-    let one = bind-gives (value x s) (target_of at) o r h in target-moves at one.0 o a one.1 r (value-moves x one.0 a s one.1 w n one.2) one.3
-prefix-makes unary.Plus at x o a s r w n h =
-    let one = bind-gives (value x s) (prefix_of unary.Plus at) o r h in prefix-moves unary.Plus at one.0 o a one.1 r (value-moves x one.0 a s one.1 w n one.2) one.3
-prefix-makes unary.Minus at x o a s r w n h =
-    let one = bind-gives (value x s) (prefix_of unary.Minus at) o r h in prefix-moves unary.Minus at one.0 o a one.1 r (value-moves x one.0 a s one.1 w n one.2) one.3
-prefix-makes unary.Complement at x o a s r w n h =
-    let one = bind-gives (value x s) (prefix_of unary.Complement at) o r h in prefix-moves unary.Complement at one.0 o a one.1 r (value-moves x one.0 a s one.1 w n one.2) one.3
-prefix-makes unary.Not at x o a s r w n h =
-    let one = bind-gives (value x s) (prefix_of unary.Not at) o r h in prefix-moves unary.Not at one.0 o a one.1 r (value-moves x one.0 a s one.1 w n one.2) one.3
-
-update-makes : (operator : Assignment) (a : tree.Expr) (at : Place) (b : tree.Expr) (o : Operand) (s r : State) → IsKnown s → IsCounting a s
-    → ((m : State) → IsKnown m → IsCounting b m)
-    → next (judge false a s) (λ x. λ m. next (next (judge false b m) value) (λ y. Assignments.update_by operator x at y)) ≡ Gives o r → IsCounted s o.part r
-update-makes operator a at b o s r k ia ib h =
-    let one = bind-gives (judge false a s) (λ x. λ m. next (next (judge false b m) value) (λ y. Assignments.update_by operator x at y)) o r h in
-    let x = operand-whole false a one.0 s one.1 k one.2 in
-    let two = bind-gives (next (judge false b one.1) value) (λ y. Assignments.update_by operator one.0 at y) o r one.3 in
-    let y = value-makes b two.0 one.1 two.1 x.1 (ib one.1 x.1) two.2 in
-    update-moves operator one.0 at two.0 o s one.1 two.1 r (ia one.0 one.1 one.2) y.0 two.3
+use Rattle.c_cells_kept.proofs.CountedOperands.{operand-place, prefix-makes, update-makes, value-makes}
 
 mutual
   unfolding judge judge_arguments judge_type_name judge_list judge_specifier judge_members judge_member_declarators judge_enumerators judge_form judge_core judge_parts judge_parameters judge_declared

@@ -36,8 +36,9 @@ use Rattle.c_typing_laws.proofs.Outcomes.{bind-gives, unless-gives, gives-value,
 use Rattle.c_typing_laws.proofs.ValuesTaken.{given-same}
 use Rattle.c_cells_kept.specs.Counted.{Moves}
 use Rattle.c_cells_kept.proofs.CellsMoved.{stays-refl, made-as, made-to, made-from, made-none}
-use Rattle.c_cells_kept.proofs.CountedConstructs.{IsCounted, part_as, value-moves, given-moves}
-use Rattle.c_cells_kept.proofs.CountedTrees.{value-makes, expr-makes, specifiers-make, type_name-makes, form-makes, parameters-make}
+use Rattle.c_cells_kept.proofs.CountedValues.{IsCounted, part_as, value-moves, given-moves}
+use Rattle.c_cells_kept.proofs.CountedOperands.{value-makes}
+use Rattle.c_cells_kept.proofs.CountedTrees.{expr-makes, specifiers-make, type_name-makes, form-makes, parameters-make}
 use Rattle.c_cells_kept.proofs.StepsKept.{obeying-keeps, tagged_by-keeps, form-keeps, entered-keeps, left-keeps}
 
 pub expr-moves : (called : Bool) (e : tree.Expr) (o : Operand) (s r : State) → IsKnown s → judge called e s ≡ Gives o r → Moves (made_by_part o.part) s r

@@ -2,8 +2,11 @@ pub mod PointersKept
 pub mod CompletePlaces
 pub mod CellsMoved
 pub mod WholeScopes
-pub mod CountedConstructs
+pub mod CountedValues
+pub mod CountedOperators
+pub mod CountedAssignments
 pub mod StepsKept
 pub mod CountedSteps
+pub mod CountedOperands
 pub mod CountedTrees
 pub mod CountedWhole

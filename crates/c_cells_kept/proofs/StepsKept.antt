@@ -17,7 +17,7 @@ use Rattle.c_tree.specs.declared.typed_word.Home.{Home}
 use Rattle.c_tree.specs.declared.typed_word.Home.TheVariants as home
 use Rattle.c_tree.specs.declared.typed_word.TypedStar.{TypedStar}
 use Rattle.c_tree.specs.TypedTree as typed
-use Rattle.c_tree.specs.TypedTree.{TypedForm, TypedCore, TypedParts, TypedParameters, TypedDeclared, TypedMembers, TypedSpecifier, TypedEnumerators}
+use Rattle.c_tree.specs.TypedTree.{TypedForm, TypedCore, TypedParts, TypedParameters, TypedDeclared, TypedMembers, TypedSpecifier}
 use Rattle.c_typing.specs.declared.declared.Declared.{Declared}
 use Rattle.c_typing.specs.declared.declared.Declared.TheVariants as declared
 use Rattle.c_typing.specs.declared.declared.Tag.{Tag}
@@ -30,13 +30,13 @@ use Rattle.c_typing.specs.Refusals.{one_named, tag_place, is_empty_row}
 use Rattle.c_typing.specs.Rules.{number_of_shape}
 use Rattle.c_typing.specs.Scopes.{Scopes, name_in, tag_in, leaving}
 use Rattle.c_typing.specs.Specifying
-use Rattle.c_typing.specs.Specifying.{obeying, in_scopes, typedef_named, tagged_as, tagged_by, new_aggregate, begun_as, begun, is_definable, defined, completing, completed, ended, is_taken_at_end, enumerator_with, enumeration_begun}
+use Rattle.c_typing.specs.Specifying.{obeying, in_scopes, typedef_named, tagged_as, tagged_by, new_aggregate, begun_as, begun, is_definable, defined, completing, completed, ended, is_taken_at_end, enumeration_begun}
 use Rattle.c_typing.specs.Tests
 use Rattle.c_typing.specs.Tests.{Test, first_broken, has_some, is_tag_of, is_taken_tag}
 use Rattle.c_typing.specs.Typing.{shape_of_kind, tagging, counting_aggregate, tag_named_here}
 use Rattle.c_cells_kept.specs.Counted.{Stays}
 use Rattle.c_cells_kept.proofs.CellsMoved.{MayStand, stays-on, type_with-stays, pointer-stays, array_may, function_may, kind_may}
-use Rattle.c_cells_kept.proofs.CountedConstructs.{number-stays}
+use Rattle.c_cells_kept.proofs.CountedValues.{number-stays}
 use Rattle.c_cells_kept.proofs.WholeScopes.{tagging_stays, completing_stays, members_stay, entered_stays, left_stays, enumerating_stays, declared_stays}
 use Rattle.c_typing_laws.proofs.Outcomes.{bind-gives, unless-gives, gives-state, never-gives}
 

@@ -1,7 +1,6 @@
 -- Objects that are declared are of complete types: where scopes change, and where a struct or union gets its members.
-use Rattle.std.proofs.Common.{◌≡◌, ℕ, ◌<◌, ◌≤◌, true, not, ◌&&◌, List, [], ◌∷◌, length, Option, Some, None, refl, subst, nat_lt, nat_le, arith}
+use Rattle.std.proofs.Common.{◌≡◌, ℕ, ◌<◌, true, not, ◌&&◌, List, [], ◌∷◌, length, Option, Some, None, refl, subst, nat_lt, nat_le, arith}
 use Rattle.std.specs.List.{All, list_all}
-use Rattle.std.proofs.lemmas.Bool.Decides.{nat_tests}
 use Rattle.std.proofs.lemmas.List.Elements.{All-nil, All-cons, All-head, All-tail, All-push}
 use Rattle.cc_base.specs.declared.number.NodeId.{NodeId}
 use Rattle.cc_base.specs.declared.number.TypeId.{TypeId}
@@ -19,7 +18,7 @@ use Rattle.c_typing.specs.declared.declared.Tag.TheVariants as tag
 use Rattle.c_typing_laws.proofs.ExtensionLaws.{no_true, and_left, and_right}
 use Rattle.c_typing_laws.proofs.KnownMembers.{grown, defined-basic}
 use Rattle.c_cells_kept.specs.Counted.{IsObjectWhole, IsLevelWhole, AreWhole, Stays}
-use Rattle.c_cells_kept.proofs.CellsMoved.{whole-later}
+use Rattle.c_cells_kept.proofs.CellsMoved.{lt_from, le_from, whole-later}
 
 -- Scopes
 
@@ -101,12 +100,6 @@ pub constant_stays : (name : Name) (what : Declared) (n s : State) → IsObjectW
 constant_stays name what n s c e = scoped (declaring name what s.seen.scopes) n s (declared-whole s.table name what s.seen.scopes.levels c) e
 
 -- Members
-
-lt_from : (a b : ℕ) → nat_lt a b ≡ true → a < b
-lt_from a b h = grind (arith, nat_tests)
-
-le_from : (a b : ℕ) → nat_le a b ≡ true → a ≤ b
-le_from a b h = grind (arith, nat_tests)
 
 empty_is : (xs : List TypeId) → is_empty xs ≡ true → xs ≡ []
 empty_is [] h = refl

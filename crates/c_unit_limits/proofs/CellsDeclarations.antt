@@ -1,22 +1,15 @@
 -- What judging counts of a declaration is the pointers that assignments of structs in it move.
-use Rattle.std.proofs.Common.{◌≡◌, ℕ, Bool, true, false, ◌++◌, Option, Some, None, refl, ap, sym, subst, if◌then◌else◌}
-use Rattle.c_types.specs.Sound.{IsWellFormed}
-use Rattle.c_types.specs.Table.{Table, IsType}
+use Rattle.std.proofs.Common.{◌≡◌, ℕ, Bool, true, false, ◌++◌, Option, Some, None, refl, subst, if◌then◌else◌}
+use Rattle.c_types.specs.Table.{IsType}
 use Rattle.c_tree.specs.declared.leaf.Identifier.{Identifier}
 use Rattle.c_tree.specs.Tree as tree
 use Rattle.c_tree.specs.TypedTree as typed
 use Rattle.c_tree.specs.TypedTree.{TypedSpecifiers, TypedDeclarator, TypedInitDeclarators, TypedDeclaration}
 use Rattle.c_tree.specs.TypedParts.{specified_type, declared_type, home_of, made_by_specifiers, made_by_declarator, made_by_initialiser, made_by_init_declarators, made_by_declaration}
 use Rattle.c_typing.specs.Declaring.{declarator_name}
-use Rattle.c_typing.specs.Extensions.{IsExtended}
-use Rattle.c_typing.specs.Scopes.{Scopes, entry_of}
-use Rattle.c_typing.specs.Settled.{IsBasic}
-use Rattle.c_typing.specs.Typing.{AreAlone}
+use Rattle.c_typing.specs.Scopes.{entry_of}
 use Rattle.c_typing.specs.Walks.{judge_specifiers_of}
-use Rattle.c_typing_laws.specs.Judged.{AreSpecifiersBy}
-use Rattle.c_typing_laws.proofs.ExtensionLaws.{still_in, extended_refl}
-use Rattle.c_typing_laws.proofs.KeptTrees.{specifiers-kept}
-use Rattle.c_typing_laws.proofs.TableGrowth.{extended_trans}
+use Rattle.c_typing_laws.proofs.ExtensionLaws.{still_in}
 use Rattle.c_unit_typing.specs.DeclarationJudging.{is_linked_by, defining, judge_named, judge_init_declarators, is_none, judge_declaration}
 use Rattle.c_unit_typing.specs.InitialiserJudging.{judge_initialiser}
 use Rattle.c_unit_typing.specs.Initialisers.{makes_chars}
@@ -25,7 +18,7 @@ use Rattle.c_unit_typing.specs.Units.{storage_of}
 use Rattle.c_unit_typing.specs.UnitJudged.{state_of, IsUnitKnown}
 use Rattle.c_unit_typing.specs.UnitJudging.{UnitState, Gives, next, pure, lifted}
 use Rattle.c_unit_typing.specs.UnitRefusals.{is_lasting, size_written}
-use Rattle.c_unit_typing.proofs.JudgedDeclarations.{alone-kept, base-judged, declarators-judged}
+use Rattle.c_unit_typing.proofs.JudgedDeclarations.{base-judged, declarators-judged}
 use Rattle.c_unit_typing.proofs.JudgedDeclarators.{one-judged}
 use Rattle.c_unit_typing.proofs.UnitOutcomes.{bind-gives, given-same, gives-state, lifted-gives}
 use Rattle.c_cells_kept.proofs.CellsMoved.{stays-refl}

@@ -1,5 +1,5 @@
 -- What judging counts of an initialiser is the pointers that its values move, and those of a struct that it copies.
-use Rattle.std.proofs.Common.{◌≡◌, ℕ, Bool, true, false, ◌&&◌, ◌+◌, List, [], ◌∷◌, ◌++◌, take, Option, Some, None, refl, subst, ◌∙◌, arith}
+use Rattle.std.proofs.Common.{◌≡◌, ℕ, Bool, true, false, ◌&&◌, List, [], ◌∷◌, ◌++◌, take, Option, Some, None, refl}
 use Rattle.cc_base.specs.declared.place.Place.{Place}
 use Rattle.cc_base.specs.declared.number.TypeId.{TypeId}
 use Rattle.cc_base.specs.declared.fault.Fault.TheVariants.{Refused, TooLarge}
@@ -9,12 +9,10 @@ use Rattle.c_types.specs.Table.{IsType, IsComplete, shape_at}
 use Rattle.c_tree.specs.Places.{expr_place, initialiser_place, nowhere}
 use Rattle.c_tree.specs.Tree as tree
 use Rattle.c_tree.specs.TypedTree as typed
-use Rattle.c_tree.specs.TypedTree.{TypedExpr, TypedPlace, TypedInitialiser, TypedItems}
-use Rattle.c_tree.specs.TypedParts.{Made, Copy, place_type, made_by, made_by_place, made_by_initialiser, made_by_items}
+use Rattle.c_tree.specs.TypedTree.{TypedExpr, TypedInitialiser, TypedItems}
+use Rattle.c_tree.specs.TypedParts.{Copy, place_type, made_by, made_by_place, made_by_initialiser, made_by_items}
 use Rattle.c_typing.specs.Cells.{count_cells}
 use Rattle.c_typing.specs.Checking.{checked_value}
-use Rattle.c_typing.specs.Judging as judging
-use Rattle.c_typing.specs.Judging.{State, Outcome}
 use Rattle.c_typing.specs.Rules.{pieces_bytes}
 use Rattle.c_typing.specs.Settled.{IsKnown}
 use Rattle.c_typing.specs.Shapes.{is_scalar_shape}
@@ -24,7 +22,7 @@ use Rattle.c_typing.specs.Typing.{IsTyped}
 use Rattle.c_typing_laws.proofs.JudgedWhole.{checked_value-judged}
 use Rattle.c_cells_kept.proofs.CellsMoved.{two-made}
 use Rattle.c_cells_kept.proofs.CompletePlaces.{place-whole}
-use Rattle.c_cells_kept.proofs.CountedConstructs.{count-moves}
+use Rattle.c_cells_kept.proofs.CountedAssignments.{count-moves}
 use Rattle.c_cells_kept.proofs.CountedWhole.{checked_value-moves}
 use Rattle.c_unit_limits.proofs.CellsSteps.{UnitMoves, unit-none, unit-then}
 use Rattle.c_unit_typing.specs.Initialisers.{Slot, char_count_of_shape, is_char_array, items_count}

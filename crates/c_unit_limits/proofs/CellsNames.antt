@@ -1,11 +1,10 @@
 -- The name of what is declared: an object is of a complete type, and no pointers are counted.
-use Rattle.std.proofs.Common.{◌≡◌, ℕ, Bool, true, false, not, ◌&&◌, Option, Some, None, refl, ap, sym, subst, ◌∙◌, if◌then◌else◌}
+use Rattle.std.proofs.Common.{◌≡◌, ℕ, Bool, true, false, not, ◌&&◌, Option, Some, None, refl, sym, subst, if◌then◌else◌}
 use Rattle.std.proofs.lemmas.Option.{none-some}
 use Rattle.cc_base.specs.declared.number.NodeId.{NodeId}
 use Rattle.cc_base.specs.declared.number.TypeId.{TypeId}
-use Rattle.cc_base.specs.declared.fault.Fault.TheVariants.{TooLarge, Refused}
+use Rattle.cc_base.specs.declared.fault.Fault.TheVariants.{TooLarge}
 use Rattle.cc_base.specs.declared.fault.Limit.TheVariants.{Types}
-use Rattle.cc_base.specs.declared.fault.Rule.TheVariants as rule
 use Rattle.c_types.specs.Table.{IsType, IsComplete, shape_at}
 use Rattle.c_tree.specs.declared.leaf.Identifier.{Identifier}
 use Rattle.c_tree.specs.declared.typed_word.Home.{Home}
@@ -36,7 +35,7 @@ use Rattle.c_unit_typing.specs.UnitJudged.{state_of, IsUnitKnown}
 use Rattle.c_unit_typing.specs.UnitJudging.{UnitState, Gives, known_of, next, pure, lifted}
 use Rattle.c_unit_typing.specs.UnitRefusals.{declared_tests, declared_as, is_object}
 use Rattle.c_unit_typing.specs.Units.{Storage, AsTypedef, storage_of, unless_here}
-use Rattle.c_unit_typing.proofs.NameSteps.{new-name-gives, linked-name-gives, named_state, linked_state, static-gives}
+use Rattle.c_unit_typing.proofs.NameSteps.{new-name-gives, linked-name-gives, static-gives}
 use Rattle.c_unit_typing.proofs.UnitOutcomes.{never-gives, bind-gives, unless-gives, gives-value, gives-state, lifted-gives}
 use Rattle.c_unit_limits.proofs.CellsSteps.{UnitMoves, UnitStays}
 
@@ -134,5 +133,7 @@ one-moves file base initialised size d one s r k b h =
     let j = declarator-at at which (specified_type base) size d first.0 (state_of s) (state_of first.1) k.known b l.0 in
     let n = named_stays file (storage_of base) initialised (declarator_name d) first.0 one first.1 r j.goes.known.followed first.3 in
     subst (λ (v : TypedDeclarator). UnitMoves (made_by_declarator v) s r) n.same
-    (record { moves = made-to (made_by_declarator first.0) (state_of s) (state_of first.1) (state_of r) n.stays.stays
-        (declarator-moves at which (specified_type base) size d first.0 (state_of s) (state_of first.1) k.known l.0) })
+    (record {
+      moves = made-to (made_by_declarator first.0) (state_of s) (state_of first.1) (state_of r) n.stays.stays
+          (declarator-moves at which (specified_type base) size d first.0 (state_of s) (state_of first.1) k.known l.0);
+    })

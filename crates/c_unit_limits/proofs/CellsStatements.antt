@@ -1,9 +1,7 @@
 -- What judging counts of a statement is the pointers that assignments of structs in it move.
-use Rattle.std.proofs.Common.{◌≡◌, ℤ, ◌==◌, Bool, false, not, List, [], ◌∷◌, ◌++◌, Option, Some, None, subst}
+use Rattle.std.proofs.Common.{◌≡◌, ◌==◌, false, not, [], ◌∷◌, ◌++◌, Option, Some, None, subst}
 use Rattle.cc_base.specs.declared.place.Place.{Place}
 use Rattle.cc_base.specs.declared.number.TypeId.{TypeId}
-use Rattle.cc_base.specs.declared.fault.Fault.TheVariants.{TooLarge}
-use Rattle.cc_base.specs.declared.fault.Limit.TheVariants.{Types}
 use Rattle.cc_base.specs.declared.fault.Rule.TheVariants as rule
 use Rattle.c_tree.specs.Tree as tree
 use Rattle.c_tree.specs.TypedTree as typed
@@ -12,19 +10,17 @@ use Rattle.c_tree.specs.TypedParts.{type_of, made_by, made_by_optional, made_by_
 use Rattle.c_typing.specs.Checking.{checked, checked_constant}
 use Rattle.c_typing.specs.Declaring.{entered, left}
 use Rattle.c_typing.specs.Shapes.{integer_at}
-use Rattle.c_typing.specs.Tests.{AsValue, first_broken, broken_at}
+use Rattle.c_typing.specs.Tests.{first_broken, broken_at}
 use Rattle.c_typing_laws.proofs.ExtensionLaws.{still_in}
-use Rattle.c_typing_laws.proofs.TableGrowth.{extended_trans}
 use Rattle.c_unit_typing.specs.DeclarationJudging.{judge_declaration}
-use Rattle.c_unit_typing.specs.StatementJudging.{dropped, returned, promoted_by, promotion, tested, tested_or_none, switched, label_as, labelled, case_label, default_label, jump, judge_statement, judge_block_items}
+use Rattle.c_unit_typing.specs.StatementJudging.{dropped, returned, promoted_by, promotion, tested, tested_or_none, switched, label_as, labelled, case_label, default_label, judge_statement, judge_block_items}
 use Rattle.c_unit_typing.specs.UnitJudged.{IsResult, IsSwitchThere, IsUnitKnown}
 use Rattle.c_unit_typing.specs.UnitJudging.{UnitState, Gives, next, pure, lifted}
-use Rattle.c_unit_typing.specs.UnitRefusals.{condition_tests, jump_tests, switch_tests}
 use Rattle.c_unit_typing.specs.Units.{Around, in_a_loop, in_a_switch, labels_of, defaults_in}
 use Rattle.c_unit_typing.proofs.JudgedDeclarations.{declaration-judged}
 use Rattle.c_unit_typing.proofs.JudgedStatements.{result-kept, enter-judged, leave-judged, value-part, dropped-part, statement-judged, items-judged}
 use Rattle.c_unit_typing.proofs.JudgedSwitches.{switch-there}
-use Rattle.c_unit_typing.proofs.UnitOutcomes.{never-gives, bind-gives, unless-gives, given-same, given-before}
+use Rattle.c_unit_typing.proofs.UnitOutcomes.{bind-gives, unless-gives, given-same, given-before}
 use Rattle.c_unit_limits.proofs.CellsDeclarations.{declaration-moves}
 use Rattle.c_unit_limits.proofs.CellsSteps.{UnitMoves, unit-none, unit-then, unit-inside, enter-stays, leave-stays, value-moves, switched-moves, dropped-moves, returned-moves, constant-counted}
 use Rattle.c_unit_limits.proofs.LastingStatements.{tested_same, tested_or_none_same, switched_same, jump_same, labelled_same}

@@ -1,5 +1,5 @@
 -- What judging counts of the parts of a unit is what the assignments of structs in it move: step by step.
-use Rattle.std.proofs.Common.{◌≡◌, Bool, false, List, [], ◌∷◌, ◌++◌, Option, Some, None, sym, subst}
+use Rattle.std.proofs.Common.{◌≡◌, false, List, [], ◌++◌, Option, Some, None, sym, subst}
 use Rattle.cc_base.specs.declared.place.Place.{Place}
 use Rattle.cc_base.specs.declared.number.TypeId.{TypeId}
 use Rattle.c_tree.specs.Tree as tree
@@ -7,8 +7,7 @@ use Rattle.c_tree.specs.TypedTree.{TypedExpr}
 use Rattle.c_tree.specs.TypedParts.{Made, type_of, made_by, made_by_optional}
 use Rattle.c_typing.specs.Checking.{Constant, checked, checked_constant, checked_value}
 use Rattle.c_typing.specs.Declaring.{entered, left}
-use Rattle.c_typing.specs.Shapes.{integer_at, is_void_shape}
-use Rattle.c_typing.specs.Tests.{first_broken}
+use Rattle.c_typing.specs.Shapes.{integer_at}
 use Rattle.c_cells_kept.specs.Counted.{Stays, Moves}
 use Rattle.c_cells_kept.proofs.CellsMoved.{stays-refl, two-made, made-to, made-from, moves-none}
 use Rattle.c_cells_kept.proofs.CountedWhole.{checked-moves, checked_value-moves, constant-moves}

@@ -1,41 +1,36 @@
 -- What judging counts of a unit is the pointers that its assignments of structs move, and so they are within the limit.
-use Rattle.std.proofs.Common.{◌≡◌, ℕ, ◌+◌, ◌≤◌, Bool, true, false, List, [], ◌∷◌, ◌++◌, Option, Some, None, refl, ap, sym, subst, ◌∙◌, arith}
+use Rattle.std.proofs.Common.{◌≡◌, ℕ, ◌+◌, ◌≤◌, true, false, List, [], ◌∷◌, ◌++◌, Option, Some, None, refl, ap, sym, subst, ◌∙◌, arith}
 use Rattle.cc_base.specs.declared.place.Place.{Place}
 use Rattle.cc_base.specs.declared.number.TypeId.{TypeId}
 use Rattle.c_types.specs.Calls.{basic_table}
 use Rattle.c_types.specs.Table.{Table, shape_at}
-use Rattle.c_tree.specs.declared.leaf.Identifier.{Identifier}
-use Rattle.c_tree.specs.declared.typed_word.Home.{Home}
-use Rattle.c_tree.specs.declared.typed_word.Home.TheVariants as home
 use Rattle.c_tree.specs.Tree as tree
 use Rattle.c_tree.specs.TypedTree as typed
 use Rattle.c_tree.specs.TypedTree.{TypedSpecifiers, TypedForm, TypedDeclarator, TypedParameters, TypedBlockItems, TypedTranslationUnit}
-use Rattle.c_tree.specs.TypedParts.{specified_type, declared_type, home_of_form, name_of_form, made_by_specifiers, made_by_declarator, made_by_declaration, made_by_block_items, made_by_unit}
+use Rattle.c_tree.specs.TypedParts.{specified_type, declared_type, made_by_specifiers, made_by_declarator, made_by_declaration, made_by_block_items, made_by_unit}
 use Rattle.c_typing.specs.declared.declared.Declared.TheVariants as declared
 use Rattle.c_typing.specs.declared.naming.Naming.{Naming}
-use Rattle.c_typing.specs.Declaring.{declarator_name, entered, left, unless_function}
-use Rattle.c_typing.specs.Extensions.{IsExtended}
+use Rattle.c_typing.specs.Declaring.{declarator_name, entered, left}
 use Rattle.c_typing.specs.Walks.{judge_declarator, judge_specifiers_of}
-use Rattle.c_typing_laws.specs.Judged.{IsHomeOf}
 use Rattle.c_typing_laws.proofs.ExtensionLaws.{still_in, extended_refl}
-use Rattle.c_typing_laws.proofs.JudgedDeclarators.{no_home}
-use Rattle.c_unit_typing.specs.DeclarationJudging.{naming_for, linked_first, new_name, judge_declaration}
-use Rattle.c_unit_typing.specs.DefinitionJudging.{declare_parameter, declare_parameters, form_of, result_of, body, defined_as, judge_definition, judge_unit, before_unit, judged_unit}
+use Rattle.c_unit_typing.specs.DeclarationJudging.{naming_for, linked_first, judge_declaration}
+use Rattle.c_unit_typing.specs.DefinitionJudging.{declare_parameters, form_of, result_of, body, defined_as, judge_definition, judge_unit, before_unit, judged_unit}
 use Rattle.c_unit_typing.specs.Limits.{pointers_copied_by, pointers_copied}
 use Rattle.c_unit_typing.specs.StatementJudging.{judge_block_items}
 use Rattle.c_unit_typing.specs.Units.{Around, storage_of, parameters_of_form}
 use Rattle.c_unit_typing.specs.UnitJudged.{state_of, IsResult, IsUnitKnown}
 use Rattle.c_unit_typing.specs.UnitJudging.{UnitState, Gives, next, pure, lifted}
 use Rattle.c_unit_typing.proofs.FunctionParameters.{AreParametersThere, result-is, parameters-there, there-later, parameters-declared}
-use Rattle.c_unit_typing.proofs.JudgedDeclarations.{AreBaseJudged, base-judged, declaration-judged}
-use Rattle.c_unit_typing.proofs.JudgedDeclarators.{IsFormKnown, form-known, form-later}
+use Rattle.c_unit_typing.proofs.JudgedDeclarations.{AreBaseJudged, base-judged}
+use Rattle.c_unit_typing.proofs.JudgedDeclarators.{IsFormKnown, form-known}
 use Rattle.c_unit_typing.proofs.JudgedDefinitions.{inside_function, defined_function, IsNameDefined, name-defined, parameters, with_parameters_made, defined_goes}
 use Rattle.c_unit_typing.proofs.JudgedStatements.{result-kept, enter-judged, leave-judged, items-judged}
 use Rattle.c_unit_typing.proofs.JudgedUnits.{unit-judged}
-use Rattle.c_unit_typing.proofs.UnitOutcomes.{bind-gives, given-same, gives-state, lifted-gives}
+use Rattle.c_unit_typing.proofs.UnitOutcomes.{bind-gives, given-same, lifted-gives}
 use Rattle.c_unit_typing.proofs.UnitStates.{unit-on}
 use Rattle.c_unit_typing.proofs.WholeUnits.{before-known}
-use Rattle.c_unit_limits.proofs.WholeUnits.{whole-given, whole-formed, whole-bounded}
+use Rattle.c_unit_limits.proofs.StaticBytes.{none_more}
+use Rattle.c_unit_limits.proofs.WholeUnits.{whole-given, whole-bounded}
 use Rattle.std.specs.Prelude.{sum, flat_map}
 use Rattle.std.proofs.lemmas.List.Sums.{sum_by-cons}
 use Rattle.std.proofs.lemmas.List.Elements.{All-nil, All-cons}
@@ -154,9 +149,6 @@ unit-moves (tree.AndFunctionBody u specifiers d brace items) whole s r k h =
     definition-moves e1.0 specifiers d brace items whole e1.1 r j.goes.known e1.3 s (unit-moves u e1.0 s e1.1 k e1.2)
 
 -- The limit
-
-none_more : {a b : ℕ} → a ≡ b → a ≡ 0 + b
-none_more {a} {b} e = omega (arith, e)
 
 copies : (T : Table) (made : List Made) → sum (flat_map (pointers_copied_by T) made) ≡ copied T made
 copies T [] = refl

@@ -29,3 +29,4 @@ pub mod CellsDeclarations
 pub mod CellsStatements
 pub mod CellsParameters
 pub mod CellsUnits
+pub mod UnitLimits

@@ -13,7 +13,7 @@ use Rattle.c_unit_limits.specs.Literals.{statics_made}
 bytes_with : Table → MadeObject → ℕ
 bytes_with T o = size_of T o.type + 16
 
-none_more : {a b : ℕ} → a ≡ b → a ≡ 0 + b
+pub none_more : {a b : ℕ} → a ≡ b → a ≡ 0 + b
 none_more {a} {b} e = omega (arith, e)
 
 one_more : (n : ℕ) (ns : List ℕ) {b : ℕ} → sum ns ≡ b → sum (n ∷ ns) ≡ n + b

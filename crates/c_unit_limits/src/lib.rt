@@ -1,6 +1,7 @@
-//! Laws on the limits of a unit: what judging gives for a unit is within them. That of the pointers which assignments of structs move is not among them yet.
+//! Laws on the limits of a unit: what judging gives for a unit is within them.
 #![tactic(auto)]
 
+pub mod cells;
 pub mod lasting;
 pub mod literals;
 pub mod units;

@@ -9,10 +9,10 @@ use Rattle.c_tree.specs.Symbols.{Symbol}
 use Rattle.c_tree.specs.declared.expr.Expr.{Expr}
 use Rattle.c_tree.specs.declared.expr.Specifiers.{Specifiers}
 use Rattle.c_tree.specs.declared.expr.Declarator.{Declarator}
-use Rattle.c_expr_parse.specs.declared.measured.Measured.{Measured}
-use Rattle.c_expr_parse.specs.declared.stop.Stop.{Stop}
-use Rattle.c_expr_parse.specs.declared.words.Scope.{Scope}
-use Rattle.c_expr_parse.specs.declared.lookahead.Naming.{Naming}
+use Rattle.c_parse_words.specs.declared.measured.Measured.{Measured}
+use Rattle.c_parse_words.specs.declared.stop.Stop.{Stop}
+use Rattle.c_parse_words.specs.declared.words.Scope.{Scope}
+use Rattle.c_parse_words.specs.declared.begins.Naming.{Naming}
 use Rattle.c_expr_parse.specs.Nests.{Nests}
 
 within : {d low depth : ℕ} → low ≤ depth → d ≤ low → d ≤ depth

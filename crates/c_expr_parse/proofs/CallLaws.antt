@@ -8,12 +8,12 @@ use Rattle.parse_rules.specs.Parsers.{Answer, Read, Stopped, Reason, Syntax, Uns
 use Rattle.parse_rules.specs.Grammars.{Language}
 use Rattle.parse_rules.specs.Promises.{Answered}
 use Rattle.c_tree.specs.Symbols.{Symbol, symbol_of}
+use Rattle.c_parse_words.specs.Faults.{place_of_first, told, fault_of, IsTold}
+use Rattle.c_parse_words.specs.Seen.{reason_of}
+use Rattle.c_parse_words.specs.Written.{IsWritten}
+use Rattle.c_parse_words.specs.declared.stop.Stop.{Stop}
+use Rattle.c_parse_words.specs.declared.stop.Stop.TheVariants as stop
 use Rattle.c_expr_parse.specs.Calls.{symbols_from, IsReadTo, IsFault}
-use Rattle.c_expr_parse.specs.Faults.{place_of_first, told, fault_of, IsTold}
-use Rattle.c_expr_parse.specs.Seen.{reason_of}
-use Rattle.c_expr_parse.specs.Written.{IsWritten}
-use Rattle.c_expr_parse.specs.declared.stop.Stop.{Stop}
-use Rattle.c_expr_parse.specs.declared.stop.Stop.TheVariants as stop
 
 -- what is left of the tokens from one on are the tokens from a later one on
 record IsLaterPart (tokens : List Token) (from : ℕ) (left : List Symbol) : Type 0 where

@@ -12,9 +12,9 @@ use Rattle.c_tree.specs.Spelling.{expr_spelling, specifiers_spelling, declarator
 use Rattle.c_tree.specs.Symbols.{Symbol, Mark}
 use Rattle.c_tree.specs.Tree as tree
 use Rattle.c_tree.specs.Words.{TypeNames, Scope, has_type}
-use Rattle.c_expr_parse.specs.ExprRules.{question_after}
+use Rattle.c_parse_words.specs.Levels.{question_after}
+use Rattle.c_parse_words.specs.Tests.{Operator, assignment_operator, is_comma, open_brace, star_sign, qualifier_word, string_piece, binds, has_suffix, begins_specifier, begins_part, core_start, is_core}
 use Rattle.c_expr_parse.specs.Rules.{rules}
-use Rattle.c_expr_parse.specs.Tests.{Operator, assignment_operator, is_comma, open_brace, star_sign, qualifier_word, string_piece, binds, has_suffix, begins_specifier, begins_part, core_start, is_core}
 
 -- the next token goes on with no operand
 pub record EndsOperand (next : Option Symbol) : Type 0 where

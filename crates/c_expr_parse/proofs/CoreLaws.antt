@@ -7,9 +7,9 @@ use Rattle.c_tree.specs.Symbols.{Symbol}
 use Rattle.c_tree.specs.Tree as tree
 use Rattle.c_tree.specs.Words.{TypeNames}
 use Rattle.c_tree.specs.declared.leaf.Star.{Star}
+use Rattle.c_parse_words.specs.Tests.{begins_parameters, may_omit_name, open_bracket}
 use Rattle.c_expr_parse.specs.DeclaratorRules.{after_core_paren, nested, parts_from, unnamed, unnamed_function}
 use Rattle.c_expr_parse.specs.ExprRules.{Inner}
-use Rattle.c_expr_parse.specs.Tests.{begins_parameters, may_omit_name, open_bracket}
 
 pub parameters_come : (names : TypeNames) (inner : Inner) (naming : Naming) (stars : List Star) (at : Place) (ts : List Symbol)
     → may_omit_name naming ≡ true → begins_parameters names (first ts) ≡ true → after_core_paren names inner naming stars at ts ≡ unnamed_function names inner stars at ts

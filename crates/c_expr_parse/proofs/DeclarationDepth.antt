@@ -19,22 +19,23 @@ use Rattle.c_tree.specs.Spelling.{name_symbol, word_symbol}
 use Rattle.c_tree.specs.Symbols.{Symbol, Word, Mark, Bare}
 use Rattle.c_tree.specs.Tree as tree
 use Rattle.c_tree.specs.Words.{TypeNames, Scope, is_long}
-use Rattle.c_expr_parse.specs.DeclaratorRules.{declarator_layer, with_core, unnamed, star_step}
+use Rattle.c_parse_words.specs.WordRules.{star_step}
+use Rattle.c_parse_words.specs.Tests.{begins_specifier, SpecifierStart, StartWord, StartTypedef, StartAggregate, StartEnum, NoSpecifierStart, specifier_start, is_specifier_start, begins_declarator, star_sign, open_bracket, core_start, is_core, CoreStart, CoreName, CoreParen, NoCore, may_omit_name}
+use Rattle.c_parse_words.specs.Written.{IsWritten}
+use Rattle.c_parse_words.proofs.DeclaratorTokens.{core_name_here, core_paren_here, may_have_name, may_have_none}
+use Rattle.c_parse_words.proofs.Fresh.{fresh_name, fresh_name_is_new, written_fresh_name}
+use Rattle.c_parse_words.proofs.SpecifierTokens.{start_word_here, start_typedef_here, start_aggregate_here, start_enum_here}
+use Rattle.c_parse_words.proofs.TokenLaws.{open_bracket_here, star_sign_here}
+use Rattle.c_parse_words.proofs.Written.{some_place, written_int, written_close_paren, written_close_bracket, written_open_bracket}
+use Rattle.c_expr_parse.specs.DeclaratorRules.{declarator_layer, with_core, unnamed}
 use Rattle.c_expr_parse.specs.ExprRules.{Inner}
 use Rattle.c_expr_parse.specs.Parts.{SpellsSpecifiers, SpellsDeclarator}
 use Rattle.c_expr_parse.specs.Rules.{rules}
-use Rattle.c_expr_parse.specs.Tests.{begins_specifier, SpecifierStart, StartWord, StartTypedef, StartAggregate, StartEnum, NoSpecifierStart, specifier_start, is_specifier_start, begins_declarator, star_sign, open_bracket, core_start, is_core, CoreStart, CoreName, CoreParen, NoCore, may_omit_name}
 use Rattle.c_expr_parse.specs.TypeRules.{specifiers_layer, specifier_step, with_type}
-use Rattle.c_expr_parse.specs.Written.{IsWritten}
 use Rattle.c_expr_parse.proofs.Declarators.{keeps_declarator}
-use Rattle.c_expr_parse.proofs.DeclaratorTokens.{core_name_here, core_paren_here, may_have_name, may_have_none}
 use Rattle.c_expr_parse.proofs.ExprDepth.{keeps_expr_zero, keeps_paren_zero, keeps_expr_suc, keeps_paren_suc}
-use Rattle.c_expr_parse.proofs.Fresh.{fresh_name, fresh_name_is_new, written_fresh_name}
 use Rattle.c_expr_parse.proofs.Kept.{InnerKeeps}
 use Rattle.c_expr_parse.proofs.Specifiers.{keeps_specifiers}
-use Rattle.c_expr_parse.proofs.SpecifierTokens.{start_word_here, start_typedef_here, start_aggregate_here, start_enum_here}
-use Rattle.c_expr_parse.proofs.TokenLaws.{open_bracket_here, star_sign_here}
-use Rattle.c_expr_parse.proofs.Written.{some_place, written_int, written_close_paren, written_close_bracket, written_open_bracket}
 
 some_same : {X : Type 0} {x y : X} → Some x ≡ Some y → x ≡ y
 some_same e = cc

@@ -16,7 +16,7 @@ use Rattle.c_tree.specs.Spelling.{specifiers_spelling, specifier_spelling, parts
 use Rattle.c_tree.specs.Symbols.{Symbol, Name, Word, Mark}
 use Rattle.c_tree.specs.Tree as tree
 use Rattle.c_tree.specs.Words.{TypeNames, Scope, may_specify, has_type, is_type_name}
-use Rattle.c_expr_parse.specs.Tests.{begins_specifier, is_specifier_start, specifier_start_of_word, StartWord, StartTypedef, NoSpecifierStart, begins_declarator, open_brace, begins_part, is_core, CoreName, NoCore, may_name, may_omit_name}
+use Rattle.c_parse_words.specs.Tests.{begins_specifier, is_specifier_start, specifier_start_of_word, StartWord, StartTypedef, NoSpecifierStart, begins_declarator, open_brace, begins_part, is_core, CoreName, NoCore, may_name, may_omit_name}
 use Rattle.c_expr_parse.proofs.Complete.{EndsSpecifiers}
 
 -- Specifiers.

@@ -15,16 +15,16 @@ use Rattle.c_tree.specs.Spelling.{name_symbol, close_paren, core_spelling, decla
 use Rattle.c_tree.specs.Symbols.{Symbol, Name, Mark, Bare}
 use Rattle.c_tree.specs.Tree as tree
 use Rattle.c_tree.specs.Words.{TypeNames, InBlock, is_type_name}
+use Rattle.c_parse_words.specs.Tests.{is_close_paren, open_bracket, star_sign, qualifier_word, begins_declarator, begins_part, begins_parameters, CoreStart, CoreName, NoCore, core_start, is_core, may_name, may_omit_name}
+use Rattle.c_parse_words.proofs.WordReads.{stars_read}
 use Rattle.c_expr_parse.specs.DeclaratorRules.{part_step, parts_from, nested, unnamed_function, after_core_paren, unnamed, with_core, declarator_layer}
 use Rattle.c_expr_parse.specs.Rules.{rules}
-use Rattle.c_expr_parse.specs.Tests.{is_close_paren, open_bracket, star_sign, qualifier_word, begins_declarator, begins_part, begins_parameters, CoreStart, CoreName, NoCore, core_start, is_core, may_name, may_omit_name}
 use Rattle.c_expr_parse.proofs.Complete.{EndsDeclarator, InnerReads}
 use Rattle.c_expr_parse.proofs.DeclarationStarts.{declarator_starts, declarator_apart}
 use Rattle.c_expr_parse.proofs.InitialiserReads.{leads_then}
 use Rattle.c_expr_parse.proofs.Kept.{InnerKeeps}
 use Rattle.c_expr_parse.proofs.PartReads.{FirstPart, NothingFirst, ArrayFirst, FunctionFirst, first_part, after_open, function_lead, parts_lead, parts_loop}
 use Rattle.c_expr_parse.proofs.TypeNameReads.{bare_declarator, bare_begins_none, parameters_start}
-use Rattle.c_expr_parse.proofs.WordReads.{stars_read}
 
 -- How parts begin.
 

@@ -18,17 +18,19 @@ use Rattle.c_tree.specs.Spelling.{name_symbol, stars_spelling, core_spelling, pa
 use Rattle.c_tree.specs.Symbols.{Symbol, Mark, Bare}
 use Rattle.c_tree.specs.Tree as tree
 use Rattle.c_tree.specs.Words.{TypeNames}
-use Rattle.c_expr_parse.specs.DeclaratorRules.{part_step, parts_from, star_step, nested, unnamed_function, after_core_paren, unnamed, with_core, declarator_layer}
+use Rattle.c_parse_words.specs.WordRules.{star_step}
+use Rattle.c_parse_words.specs.Tests.{star_sign, open_bracket, begins_parameters, begins_part, part_start, begins_declarator, CoreStart, CoreName, CoreParen, NoCore, core_start, is_core, may_omit_name}
+use Rattle.c_parse_words.specs.Written.{IsWritten}
+use Rattle.c_parse_words.proofs.Closers.{keeps_close_paren}
+use Rattle.c_parse_words.proofs.DeclaratorTokens.{core_name_here, core_paren_here, may_have_name, may_have_none}
+use Rattle.c_parse_words.proofs.Fresh.{fresh_name, fresh_name_is_new, written_fresh_name}
+use Rattle.c_parse_words.proofs.WordLaws.{StarsIn, star_steps}
+use Rattle.c_parse_words.proofs.Written.{some_place, written_close_bracket, written_open_bracket}
+use Rattle.c_expr_parse.specs.DeclaratorRules.{part_step, parts_from, nested, unnamed_function, after_core_paren, unnamed, with_core, declarator_layer}
 use Rattle.c_expr_parse.specs.Parts.{SpellsDeclarator}
 use Rattle.c_expr_parse.specs.Rules.{rules}
-use Rattle.c_expr_parse.specs.Tests.{star_sign, open_bracket, begins_parameters, begins_part, part_start, begins_declarator, CoreStart, CoreName, CoreParen, NoCore, core_start, is_core, may_omit_name}
-use Rattle.c_expr_parse.specs.Written.{IsWritten}
-use Rattle.c_expr_parse.proofs.Closers.{keeps_close_paren}
-use Rattle.c_expr_parse.proofs.DeclaratorTokens.{core_name_here, core_paren_here, may_have_name, may_have_none}
-use Rattle.c_expr_parse.proofs.Fresh.{fresh_name, fresh_name_is_new, written_fresh_name}
 use Rattle.c_expr_parse.proofs.Kept.{InnerKeeps}
-use Rattle.c_expr_parse.proofs.Parts.{NextPart, is_no_part, keeps_function_here, keeps_part, StarsIn, star_steps}
-use Rattle.c_expr_parse.proofs.Written.{some_place, written_close_bracket, written_open_bracket}
+use Rattle.c_expr_parse.proofs.Parts.{NextPart, is_no_part, keeps_function_here, keeps_part}
 
 -- a declarator with a part, a name, a nested one or a star is some declarator
 some_part : (stars : List Star) (core : tree.Core) (x : tree.Parts) → is_no_part x ≡ false → IsSome stars core x

@@ -15,15 +15,15 @@ use Rattle.c_tree.specs.Spelling.{name_symbol, comma, enumerators_spelling, befo
 use Rattle.c_tree.specs.Symbols.{Symbol, Mark, Bare}
 use Rattle.c_tree.specs.Tree as tree
 use Rattle.c_tree.specs.Words.{TypeNames, is_type_name}
-use Rattle.c_expr_parse.specs.Parts.{Spells}
+use Rattle.c_parse_words.specs.Spells.{Spells}
+use Rattle.c_parse_words.specs.Tests.{equals_sign, plain_name}
+use Rattle.c_parse_words.specs.Written.{IsWritten}
+use Rattle.c_parse_words.proofs.Fresh.{fresh_name, fresh_name_is_new, written_fresh_name}
+use Rattle.c_parse_words.proofs.TokenLaws.{comma_here, equals_sign_here}
+use Rattle.c_parse_words.proofs.SpecifierTokens.{plain_name_here}
 use Rattle.c_expr_parse.specs.Rules.{rules}
-use Rattle.c_expr_parse.specs.Tests.{equals_sign, plain_name}
 use Rattle.c_expr_parse.specs.TypeRules.{Series, Upto, goes_on_series, with_value, with_name, next_enumerator, enumerator_step, enumerators}
-use Rattle.c_expr_parse.specs.Written.{IsWritten}
-use Rattle.c_expr_parse.proofs.Fresh.{fresh_name, fresh_name_is_new, written_fresh_name}
 use Rattle.c_expr_parse.proofs.Kept.{InnerKeeps}
-use Rattle.c_expr_parse.proofs.TokenLaws.{comma_here, equals_sign_here}
-use Rattle.c_expr_parse.proofs.SpecifierTokens.{plain_name_here}
 
 abbrev Before : TypeNames → Language → tree.Enumerators → List Symbol → Type 0
 Before names g = Spells (AreEnumerators g names) before_enumerator

@@ -13,8 +13,8 @@ use Rattle.c_tree.specs.Spelling.{name_symbol, comma, expr_spelling, enumerators
 use Rattle.c_tree.specs.Symbols.{Symbol, Mark, Bare}
 use Rattle.c_tree.specs.Tree as tree
 use Rattle.c_tree.specs.Words.{TypeNames, is_type_name}
+use Rattle.c_parse_words.specs.Tests.{plain_name}
 use Rattle.c_expr_parse.specs.Rules.{rules}
-use Rattle.c_expr_parse.specs.Tests.{plain_name}
 use Rattle.c_expr_parse.specs.TypeRules.{Series, Upto, goes_on_series, with_value, with_name, next_enumerator, enumerator_step, enumerators}
 use Rattle.c_expr_parse.proofs.Complete.{InnerReads}
 use Rattle.c_expr_parse.proofs.Enumerators.{then_comma, series_steps}

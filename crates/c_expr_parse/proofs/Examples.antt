@@ -13,9 +13,10 @@ use Rattle.c_tree.specs.Symbols.{Symbol, Name, Word, Mark, Bare}
 use Rattle.c_tree.specs.Tree as tree
 use Rattle.c_tree.specs.Words.{TypeNames, AtFile}
 use Rattle.parse_rules.specs.Parsers.{Read, Stopped, Unsupported, Deep}
-use Rattle.c_expr_parse.specs.ExprRules.{take, declared, type_name, next_argument, arguments, with_suffix, postfix_step, postfix, next_piece, after_paren, after_cast_paren, after_sizeof_paren, after_sizeof, operand_from, operand, with_operator, infix_step, with_question, with_assignment, comma_step, expr_layer}
+use Rattle.c_parse_words.specs.WordRules.{take, next_piece, star_step, next_qualifier, next_array_word}
+use Rattle.c_expr_parse.specs.ExprRules.{declared, type_name, next_argument, arguments, with_suffix, postfix_step, postfix, after_paren, after_cast_paren, after_sizeof_paren, after_sizeof, operand_from, operand, with_operator, infix_step, with_question, with_assignment, comma_step, expr_layer}
 use Rattle.c_expr_parse.specs.TypeRules.{specifiers_layer, with_type, specifier_step, with_specifier, after_aggregate, after_aggregate_tag, aggregate_without_tag, aggregate_body, members, next_members, member_declarators, next_member, after_enum, after_enum_tag, enum_without_tag, enumeration_body, enumeration, enumerators, enumerator_step, next_enumerator, with_name, with_value}
-use Rattle.c_expr_parse.specs.DeclaratorRules.{declarator_layer, with_core, unnamed, after_core_paren, unnamed_function, nested, star_step, next_qualifier, parts_from, part_step, with_part, function_part, array_part, without_size, next_array_word, parameters, next_parameter}
+use Rattle.c_expr_parse.specs.DeclaratorRules.{declarator_layer, with_core, unnamed, after_core_paren, unnamed_function, nested, parts_from, part_step, with_part, function_part, array_part, without_size, parameters, next_parameter}
 use Rattle.c_expr_parse.specs.Rules.{rules}
 
 abbrev p : Place

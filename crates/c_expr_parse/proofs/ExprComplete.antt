@@ -14,9 +14,9 @@ use Rattle.c_tree.specs.Spelling.{expr_spelling}
 use Rattle.c_tree.specs.Symbols.{Symbol, Mark}
 use Rattle.c_tree.specs.Tree as tree
 use Rattle.c_tree.specs.Words.{TypeNames}
+use Rattle.c_parse_words.specs.Tests.{is_comma}
 use Rattle.c_expr_parse.specs.ExprRules.{comma_step, operand, operand_from}
 use Rattle.c_expr_parse.specs.Rules.{rules}
-use Rattle.c_expr_parse.specs.Tests.{is_comma}
 use Rattle.c_expr_parse.proofs.Complete.{EndsOperand, EndsExpr, InnerReads}
 use Rattle.c_expr_parse.proofs.ExprReads.{Reading}
 use Rattle.c_expr_parse.proofs.Kept.{InnerKeeps}

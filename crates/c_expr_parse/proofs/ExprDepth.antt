@@ -15,16 +15,16 @@ use Rattle.c_tree.specs.Spelling.{expr_spelling}
 use Rattle.c_tree.specs.Symbols.{Symbol, Integer, Mark, Bare}
 use Rattle.c_tree.specs.Tree as tree
 use Rattle.c_tree.specs.Words.{TypeNames}
+use Rattle.c_parse_words.specs.Tests.{begins_expr, Start, StartName, StartInteger, StartCharacter, StartString, StartParen, StartPrefix, StartSizeOf, NoStart, start, is_start}
+use Rattle.c_parse_words.specs.Written.{IsWritten}
+use Rattle.c_parse_words.proofs.TokenLaws.{start_here, start_is}
+use Rattle.c_parse_words.proofs.Written.{some_place, written_close_paren}
 use Rattle.c_expr_parse.specs.ExprRules.{expr_layer, operand, operand_from, after_paren}
 use Rattle.c_expr_parse.specs.Parts.{SpellsExpr}
 use Rattle.c_expr_parse.specs.Rules.{rules}
-use Rattle.c_expr_parse.specs.Tests.{begins_expr, Start, StartName, StartInteger, StartCharacter, StartString, StartParen, StartPrefix, StartSizeOf, NoStart, start, is_start}
-use Rattle.c_expr_parse.specs.Written.{IsWritten}
 use Rattle.c_expr_parse.proofs.ExprLaws.{zero_expr, written_zero, operand_low, keeps_after_paren}
 use Rattle.c_expr_parse.proofs.Kept.{NoOperator, InnerKeeps}
 use Rattle.c_expr_parse.proofs.OperatorLaws.{keeps_layer}
-use Rattle.c_expr_parse.proofs.TokenLaws.{start_here, start_is}
-use Rattle.c_expr_parse.proofs.Written.{some_place, written_close_paren}
 
 -- Each token that may begin an expression does.
 

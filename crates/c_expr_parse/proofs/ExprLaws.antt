@@ -26,15 +26,18 @@ use Rattle.c_tree.specs.Spelling.{expr_spelling, arguments_spelling, before_argu
 use Rattle.c_tree.specs.Symbols.{Symbol, Name, Integer, Character, Mark, Word, Bare}
 use Rattle.c_tree.specs.Tree as tree
 use Rattle.c_tree.specs.Words.{TypeNames, InType}
-use Rattle.c_expr_parse.specs.ExprRules.{declared, type_name, next_argument, arguments, with_suffix, postfix_step, postfix, next_piece, after_paren, after_cast_paren, after_sizeof_paren, after_sizeof, begins_cast, operand_from, operand}
-use Rattle.c_expr_parse.specs.Parts.{Spells, SpellsExpr}
+use Rattle.c_parse_words.specs.WordRules.{next_piece}
+use Rattle.c_parse_words.specs.Levels.{begins_cast}
+use Rattle.c_parse_words.specs.Spells.{Spells}
+use Rattle.c_parse_words.specs.Tests.{is_close_paren, is_close_bracket, is_comma, begins_expr, begins_specifier, begins_declarator, Suffix, IndexAt, CallAt, MemberAt, StepAt, NoSuffix, suffix, is_suffix, has_suffix, word_name, string_piece, open_paren, open_brace, Start, StartName, StartInteger, StartCharacter, StartString, StartParen, StartPrefix, StartSizeOf, NoStart, start, is_start, begins_type, binds, binds_at, binary_operator, Operator, At}
+use Rattle.c_parse_words.specs.Written.{IsWritten}
+use Rattle.c_parse_words.proofs.Take.{Tells, rule_take, rule_take_here}
+use Rattle.c_parse_words.proofs.TokenLaws.{comma_here, suffix_here, word_name_here, string_piece_here, close_bracket_only, close_paren_only, open_paren_here, open_brace_here, start_here, start_is}
+use Rattle.c_parse_words.proofs.Written.{some_place, written_close_paren, written_close_bracket}
+use Rattle.c_expr_parse.specs.ExprRules.{declared, type_name, next_argument, arguments, with_suffix, postfix_step, postfix, after_paren, after_cast_paren, after_sizeof_paren, after_sizeof, operand_from, operand}
+use Rattle.c_expr_parse.specs.Parts.{SpellsExpr}
 use Rattle.c_expr_parse.specs.Rules.{rules}
-use Rattle.c_expr_parse.specs.Tests.{is_close_paren, is_close_bracket, is_comma, begins_expr, begins_specifier, begins_declarator, Suffix, IndexAt, CallAt, MemberAt, StepAt, NoSuffix, suffix, is_suffix, has_suffix, word_name, string_piece, open_paren, open_brace, Start, StartName, StartInteger, StartCharacter, StartString, StartParen, StartPrefix, StartSizeOf, NoStart, start, is_start, begins_type, binds, binds_at, binary_operator, Operator, At}
-use Rattle.c_expr_parse.specs.Written.{IsWritten}
 use Rattle.c_expr_parse.proofs.Kept.{InnerKeeps}
-use Rattle.c_expr_parse.proofs.Take.{Tells, rule_take, rule_take_here}
-use Rattle.c_expr_parse.proofs.TokenLaws.{comma_here, suffix_here, word_name_here, string_piece_here, close_bracket_only, close_paren_only, open_paren_here, open_brace_here, start_here, start_is}
-use Rattle.c_expr_parse.proofs.Written.{some_place, written_close_paren, written_close_bracket}
 
 -- Type names.
 

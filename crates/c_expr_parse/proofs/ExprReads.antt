@@ -14,13 +14,14 @@ use Rattle.c_tree.specs.Spelling.{expr_spelling, arguments_spelling, before_argu
 use Rattle.c_tree.specs.Symbols.{Symbol, Bare}
 use Rattle.c_tree.specs.Tree as tree
 use Rattle.c_tree.specs.Words.{TypeNames}
-use Rattle.c_expr_parse.specs.ExprRules.{next_argument, arguments, postfix_step, postfix, operand, infix_step, question_after, with_question, assignment_after, with_assignment, comma_step, expr_layer}
+use Rattle.c_parse_words.specs.Levels.{question_after, assignment_after}
+use Rattle.c_parse_words.specs.Tests.{Operator, At, is_comma, binds, binds_at, binary_operator, assignment_operator, has_suffix, string_piece, begins_expr}
+use Rattle.c_parse_words.proofs.Starts.{expr_starts}
+use Rattle.c_expr_parse.specs.ExprRules.{next_argument, arguments, postfix_step, postfix, operand, infix_step, with_question, with_assignment, comma_step, expr_layer}
 use Rattle.c_expr_parse.specs.Rules.{rules}
-use Rattle.c_expr_parse.specs.Tests.{Operator, At, is_comma, binds, binds_at, binary_operator, assignment_operator, has_suffix, string_piece, begins_expr}
 use Rattle.c_expr_parse.proofs.Complete.{EndsOperand, EndsExpr, assignment_at, InnerReads}
 use Rattle.c_expr_parse.proofs.ExprLaws.{Fits, argument_steps, before_some}
 use Rattle.c_expr_parse.proofs.Kept.{InnerKeeps}
-use Rattle.c_expr_parse.proofs.Starts.{expr_starts}
 
 -- Next tokens that go on with nothing.
 

@@ -4,11 +4,11 @@ use Rattle.cc_base.specs.declared.place.Place.{Place}
 use Rattle.parse_rules.specs.Parsers.{Stopped, first, next, skip}
 use Rattle.c_tree.specs.Symbols.{Symbol}
 use Rattle.c_tree.specs.Words.{TypeNames}
+use Rattle.c_parse_words.specs.Seen.{reason_of}
+use Rattle.c_parse_words.specs.Tests.{open_brace, begins_initialiser}
+use Rattle.c_parse_words.specs.declared.stop.Stop.{Stop}
+use Rattle.c_parse_words.specs.declared.stop.Stop.TheVariants as stop
 use Rattle.c_expr_parse.specs.Rules.{rules, initialiser, initialiser_from, initialiser_list, value}
-use Rattle.c_expr_parse.specs.Seen.{reason_of}
-use Rattle.c_expr_parse.specs.Tests.{open_brace, begins_initialiser}
-use Rattle.c_expr_parse.specs.declared.stop.Stop.{Stop}
-use Rattle.c_expr_parse.specs.declared.stop.Stop.TheVariants as stop
 use Rattle.c_expr_parse.proofs.Layers.{none_allowed}
 
 pub no_initialiser : (names : TypeNames) (depth : ℕ) (ts : List Symbol) (begins : Bool) (why : Stop) → depth ≡ 0 → begins ≡ begins_initialiser names (first ts) → why ≡ cond begins stop.Deep stop.Syntax

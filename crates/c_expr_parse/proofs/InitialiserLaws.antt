@@ -16,18 +16,19 @@ use Rattle.c_tree.specs.Spelling.{comma, items_spelling, before_item}
 use Rattle.c_tree.specs.Symbols.{Symbol, Integer, Mark, Bare}
 use Rattle.c_tree.specs.Tree as tree
 use Rattle.c_tree.specs.Words.{TypeNames}
-use Rattle.c_expr_parse.specs.Parts.{Spells, SpellsInitialiser}
+use Rattle.c_parse_words.specs.Spells.{Spells}
+use Rattle.c_parse_words.specs.Tests.{is_designator, open_brace, begins_expr, begins_initialiser}
+use Rattle.c_parse_words.specs.Written.{IsWritten}
+use Rattle.c_parse_words.proofs.Closers.{keeps_close_brace}
+use Rattle.c_parse_words.proofs.TokenLaws.{comma_here, open_brace_here}
+use Rattle.c_parse_words.proofs.Written.{some_place, written_close_brace}
+use Rattle.c_expr_parse.specs.Parts.{SpellsInitialiser}
 use Rattle.c_expr_parse.specs.Rules.{rules, next_item, item_step, listed, initialiser_list, value, initialiser_from, initialiser}
-use Rattle.c_expr_parse.specs.Tests.{is_designator, open_brace, begins_expr, begins_initialiser}
 use Rattle.c_expr_parse.specs.TypeRules.{Series, Upto, goes_on_series}
-use Rattle.c_expr_parse.specs.Written.{IsWritten}
-use Rattle.c_expr_parse.proofs.Closers.{keeps_close_brace}
 use Rattle.c_expr_parse.proofs.ExprDepth.{begun, expr_refuses}
 use Rattle.c_expr_parse.proofs.ExprLaws.{join, zero_expr, written_zero}
 use Rattle.c_expr_parse.proofs.Kept.{InnerKeeps}
 use Rattle.c_expr_parse.proofs.OperatorLaws.{keeps_layer}
-use Rattle.c_expr_parse.proofs.TokenLaws.{comma_here, open_brace_here}
-use Rattle.c_expr_parse.proofs.Written.{some_place, written_close_brace}
 
 -- Lists of items.
 

@@ -15,15 +15,15 @@ use Rattle.c_tree.specs.Spelling.{close_brace, items_spelling, before_item, init
 use Rattle.c_tree.specs.Symbols.{Symbol, Name, Mark, Bare}
 use Rattle.c_tree.specs.Tree as tree
 use Rattle.c_tree.specs.Words.{TypeNames}
+use Rattle.c_parse_words.specs.Tests.{is_close_brace, is_designator, open_brace, begins_initialiser, start_of, is_start}
+use Rattle.c_parse_words.proofs.Starts.{expr_starts}
 use Rattle.c_expr_parse.specs.Rules.{rules, next_item, item_step, listed, initialiser_list, value, initialiser_from, initialiser}
-use Rattle.c_expr_parse.specs.Tests.{is_close_brace, is_designator, open_brace, begins_initialiser, start_of, is_start}
 use Rattle.c_expr_parse.specs.TypeRules.{Series, Upto, goes_on_series}
 use Rattle.c_expr_parse.proofs.Complete.{EndsExpr, InnerReads}
 use Rattle.c_expr_parse.proofs.ExprComplete.{expr_high}
 use Rattle.c_expr_parse.proofs.ExprReads.{bare_expr, leads_before}
 use Rattle.c_expr_parse.proofs.InitialiserLaws.{KeepsInside, before_some_item, item_keeps, keeps_initialiser}
 use Rattle.c_expr_parse.proofs.Kept.{InnerKeeps}
-use Rattle.c_expr_parse.proofs.Starts.{expr_starts}
 use Rattle.c_expr_parse.proofs.UnaryReads.{expr_no_brace}
 
 -- How initialisers begin.

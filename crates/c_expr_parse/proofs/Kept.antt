@@ -10,10 +10,10 @@ use Rattle.c_tree.specs.Grammar.{Naming}
 use Rattle.c_tree.specs.Symbols.{Symbol, Mark}
 use Rattle.c_tree.specs.Tree as tree
 use Rattle.c_tree.specs.Words.{TypeNames, Scope}
+use Rattle.c_parse_words.specs.Tests.{binds, begins_expr, begins_specifier, begins_declarator}
+use Rattle.c_parse_words.specs.Written.{IsWritten}
 use Rattle.c_expr_parse.specs.Parts.{SpellsExpr, SpellsSpecifiers, SpellsDeclarator}
 use Rattle.c_expr_parse.specs.Rules.{rules}
-use Rattle.c_expr_parse.specs.Tests.{binds, begins_expr, begins_specifier, begins_declarator}
-use Rattle.c_expr_parse.specs.Written.{IsWritten}
 
 -- after an expression of at least this level comes no operator that would make a longer one
 abbrev pub NoOperator : ℕ → tree.Expr → List Symbol → Type 0

@@ -6,13 +6,13 @@ use Rattle.c_tree.specs.Grammar.{Naming}
 use Rattle.c_tree.specs.Symbols.{Symbol}
 use Rattle.c_tree.specs.Tree as tree
 use Rattle.c_tree.specs.Words.{TypeNames, Scope}
-use Rattle.c_expr_parse.specs.declared.stop.Stop.{Stop}
-use Rattle.c_expr_parse.specs.declared.stop.Stop.TheVariants as stop
+use Rattle.c_parse_words.specs.declared.stop.Stop.{Stop}
+use Rattle.c_parse_words.specs.declared.stop.Stop.TheVariants as stop
+use Rattle.c_parse_words.specs.Seen.{Reads, reason_of}
+use Rattle.c_parse_words.specs.Tests.{begins_expr, begins_specifier, begins_declarator}
 use Rattle.c_expr_parse.specs.DeclaratorRules.{declarator_layer}
 use Rattle.c_expr_parse.specs.ExprRules.{expr_layer, after_paren}
 use Rattle.c_expr_parse.specs.Rules.{rules}
-use Rattle.c_expr_parse.specs.Seen.{Reads, reason_of}
-use Rattle.c_expr_parse.specs.Tests.{begins_expr, begins_specifier, begins_declarator}
 use Rattle.c_expr_parse.specs.TypeRules.{specifiers_layer}
 
 one_less : (depth : ℕ) → (depth ≡ 0 → ⊥) → depth ≡ suc (depth - 1)

@@ -12,15 +12,15 @@ use Rattle.c_tree.specs.Spelling.{name_symbol, comma, members_spelling, member_d
 use Rattle.c_tree.specs.Symbols.{Symbol, Bare}
 use Rattle.c_tree.specs.Tree as tree
 use Rattle.c_tree.specs.Words.{TypeNames, InType}
-use Rattle.c_expr_parse.specs.Parts.{Spells}
+use Rattle.c_parse_words.specs.Spells.{Spells}
+use Rattle.c_parse_words.specs.Tests.{is_comma, is_colon, begins_specifier}
+use Rattle.c_parse_words.specs.Written.{IsWritten}
+use Rattle.c_parse_words.proofs.Closers.{keeps_semicolon}
+use Rattle.c_parse_words.proofs.Fresh.{fresh_name, written_fresh_name, fresh_declarator, fresh_declares, fresh_spelling}
+use Rattle.c_parse_words.proofs.TokenLaws.{colon_only, comma_here}
 use Rattle.c_expr_parse.specs.Rules.{rules}
-use Rattle.c_expr_parse.specs.Tests.{is_comma, is_colon, begins_specifier}
 use Rattle.c_expr_parse.specs.TypeRules.{next_member, member_declarators, next_members, members}
-use Rattle.c_expr_parse.specs.Written.{IsWritten}
-use Rattle.c_expr_parse.proofs.Closers.{keeps_semicolon}
-use Rattle.c_expr_parse.proofs.Fresh.{fresh_name, written_fresh_name, fresh_declarator, fresh_declares, fresh_spelling}
 use Rattle.c_expr_parse.proofs.Kept.{InnerKeeps}
-use Rattle.c_expr_parse.proofs.TokenLaws.{colon_only, comma_here}
 
 -- Declarators of members: those read so far, with a comma after each or between them.
 

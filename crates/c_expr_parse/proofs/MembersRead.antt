@@ -11,8 +11,8 @@ use Rattle.c_tree.specs.Spelling.{colon, semicolon, members_spelling, member_dec
 use Rattle.c_tree.specs.Symbols.{Symbol, Bare}
 use Rattle.c_tree.specs.Tree as tree
 use Rattle.c_tree.specs.Words.{TypeNames, Scope, InType}
+use Rattle.c_parse_words.specs.Tests.{is_comma, is_colon, begins_specifier, begins_declarator, may_omit_name}
 use Rattle.c_expr_parse.specs.Rules.{rules}
-use Rattle.c_expr_parse.specs.Tests.{is_comma, is_colon, begins_specifier, begins_declarator, may_omit_name}
 use Rattle.c_expr_parse.specs.TypeRules.{next_member, member_declarators, next_members, members}
 use Rattle.c_expr_parse.proofs.Complete.{EndsSpecifiers, EndsDeclarator, InnerReads}
 use Rattle.c_expr_parse.proofs.DeclarationStarts.{and_none, declarator_starts, declarator_apart, specifiers_start}

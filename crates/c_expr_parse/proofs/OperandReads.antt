@@ -21,14 +21,16 @@ use Rattle.c_tree.specs.Spelling.{expr_spelling, arguments_spelling, name_symbol
 use Rattle.c_tree.specs.Symbols.{Symbol, Mark, Bare}
 use Rattle.c_tree.specs.Tree as tree
 use Rattle.c_tree.specs.Words.{TypeNames, InType, is_type_name}
-use Rattle.c_expr_parse.specs.ExprRules.{with_suffix, postfix_step, postfix, next_piece, after_paren, begins_cast, operand_from, operand, take}
+use Rattle.c_parse_words.specs.WordRules.{next_piece, take}
+use Rattle.c_parse_words.specs.Levels.{begins_cast}
+use Rattle.c_parse_words.specs.Tests.{string_piece, begins_type, start, StartName, suffix, is_suffix, MemberAt, StepAt}
+use Rattle.c_parse_words.proofs.Starts.{expr_starts, expr_apart}
+use Rattle.c_expr_parse.specs.ExprRules.{with_suffix, postfix_step, postfix, after_paren, operand_from, operand}
 use Rattle.c_expr_parse.specs.Rules.{rules}
-use Rattle.c_expr_parse.specs.Tests.{string_piece, begins_type, start, StartName, suffix, is_suffix, MemberAt, StepAt}
 use Rattle.c_expr_parse.proofs.Complete.{InnerReads}
 use Rattle.c_expr_parse.proofs.ExprLaws.{Fits, postfix_steps, piece_steps}
 use Rattle.c_expr_parse.proofs.ExprReads.{bare_expr, arguments_read, Reading, reading_postfix}
 use Rattle.c_expr_parse.proofs.Kept.{InnerKeeps}
-use Rattle.c_expr_parse.proofs.Starts.{expr_starts, expr_apart}
 
 -- Primary expressions.
 

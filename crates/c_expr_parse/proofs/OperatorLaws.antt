@@ -16,15 +16,16 @@ use Rattle.c_tree.specs.Operators.{precedence, binary_mark, assignment_mark}
 use Rattle.c_tree.specs.Symbols.{Symbol, Mark, Bare}
 use Rattle.c_tree.specs.Tree as tree
 use Rattle.c_tree.specs.Words.{TypeNames}
-use Rattle.c_expr_parse.specs.ExprRules.{with_operator, infix_step, question_after, with_question, assignment_after, with_assignment, comma_step, expr_layer}
+use Rattle.c_parse_words.specs.Levels.{question_after, assignment_after}
+use Rattle.c_parse_words.specs.Tests.{is_comma, is_colon, question_mark, begins_expr, binds, binds_at, binary_operator, assignment_operator, Operator, At}
+use Rattle.c_parse_words.specs.Written.{IsWritten}
+use Rattle.c_parse_words.proofs.TokenLaws.{binary_operator_here, assignment_operator_here, question_mark_here, comma_here, colon_only}
+use Rattle.c_parse_words.proofs.Written.{written_colon}
+use Rattle.c_expr_parse.specs.ExprRules.{with_operator, infix_step, with_question, with_assignment, comma_step, expr_layer}
 use Rattle.c_expr_parse.specs.Parts.{SpellsExpr}
 use Rattle.c_expr_parse.specs.Rules.{rules}
-use Rattle.c_expr_parse.specs.Tests.{is_comma, is_colon, question_mark, begins_expr, binds, binds_at, binary_operator, assignment_operator, Operator, At}
-use Rattle.c_expr_parse.specs.Written.{IsWritten}
 use Rattle.c_expr_parse.proofs.ExprLaws.{deeper, respell, Fits, precedence_high, precedence_low, keeps_operand}
 use Rattle.c_expr_parse.proofs.Kept.{NoOperator, InnerKeeps}
-use Rattle.c_expr_parse.proofs.TokenLaws.{binary_operator_here, assignment_operator_here, question_mark_here, comma_here, colon_only}
-use Rattle.c_expr_parse.proofs.Written.{written_colon}
 
 -- Binary operators.
 

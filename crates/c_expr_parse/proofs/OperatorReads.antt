@@ -18,9 +18,10 @@ use Rattle.c_tree.specs.Spelling.{expr_spelling}
 use Rattle.c_tree.specs.Symbols.{Symbol, Mark, Bare}
 use Rattle.c_tree.specs.Tree as tree
 use Rattle.c_tree.specs.Words.{TypeNames}
-use Rattle.c_expr_parse.specs.ExprRules.{with_operator, infix_step, question_after, with_question, assignment_after, with_assignment, comma_step, expr_layer}
+use Rattle.c_parse_words.specs.Levels.{question_after, assignment_after}
+use Rattle.c_parse_words.specs.Tests.{question_mark, At, binary_operator, assignment_operator, binds, binds_at}
+use Rattle.c_expr_parse.specs.ExprRules.{with_operator, infix_step, with_question, with_assignment, comma_step, expr_layer}
 use Rattle.c_expr_parse.specs.Rules.{rules}
-use Rattle.c_expr_parse.specs.Tests.{question_mark, At, binary_operator, assignment_operator, binds, binds_at}
 use Rattle.c_expr_parse.proofs.Complete.{EndsOperand, EndsExpr, assignment_at, InnerReads}
 use Rattle.c_expr_parse.proofs.ExprLaws.{precedence_low, precedence_high}
 use Rattle.c_expr_parse.proofs.ExprReads.{none_of, bare_expr, leads_before, commas, after_question, after_infix, no_assignment_after, Reading, reading_infix, reading_expr}

@@ -12,14 +12,14 @@ use Rattle.c_tree.specs.Spelling.{comma, parameters_spelling, before_parameter}
 use Rattle.c_tree.specs.Symbols.{Symbol, Bare}
 use Rattle.c_tree.specs.Tree as tree
 use Rattle.c_tree.specs.Words.{TypeNames, InBlock}
+use Rattle.c_parse_words.specs.Spells.{Spells}
+use Rattle.c_parse_words.specs.Tests.{is_comma, begins_specifier}
+use Rattle.c_parse_words.specs.Written.{IsWritten}
+use Rattle.c_parse_words.proofs.TokenLaws.{comma_here}
 use Rattle.c_expr_parse.specs.DeclaratorRules.{next_parameter, parameters}
-use Rattle.c_expr_parse.specs.Parts.{Spells}
 use Rattle.c_expr_parse.specs.Rules.{rules}
-use Rattle.c_expr_parse.specs.Tests.{is_comma, begins_specifier}
-use Rattle.c_expr_parse.specs.Written.{IsWritten}
 use Rattle.c_expr_parse.proofs.ExprLaws.{keeps_declared}
 use Rattle.c_expr_parse.proofs.Kept.{InnerKeeps}
-use Rattle.c_expr_parse.proofs.TokenLaws.{comma_here}
 
 abbrev Before : TypeNames → Language → tree.Parameters → List Symbol → Type 0
 Before names g = Spells (AreParameters g names) before_parameter

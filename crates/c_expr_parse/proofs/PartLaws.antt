@@ -9,7 +9,7 @@ use Rattle.c_tree.specs.declared.expr.Part.TheVariants as part
 use Rattle.c_tree.specs.declared.leaf.Word.{Word}
 use Rattle.c_tree.proofs.PushLaws.{added-push}
 use Rattle.c_tree.proofs.ViewLaws.{view_part-Array}
-use Rattle.c_expr_parse.specs.Lists.{parts_seen}
+use Rattle.c_parse_words.specs.Lists.{parts_seen}
 
 pub sized_array-push : (before after : List Part) (at : Place) (words : List Word) (e : Expr) → after ≡ before ++ part.Array at words (Some e) ∷ []
     → parts_seen after ≡ tree.AndSizedArray (parts_seen before) at words (expr_view e)

@@ -16,16 +16,16 @@ use Rattle.c_tree.specs.Spelling.{word_symbol, expr_spelling, parameters_spellin
 use Rattle.c_tree.specs.Symbols.{Symbol, Mark, Bare}
 use Rattle.c_tree.specs.Tree as tree
 use Rattle.c_tree.specs.Words.{TypeNames, is_qualifier, is_static_word, are_qualifiers, end_in_static, are_array_words, has_static}
+use Rattle.c_parse_words.specs.Tests.{begins_part}
+use Rattle.c_parse_words.proofs.Starts.{expr_starts}
+use Rattle.c_parse_words.proofs.WordReads.{words_read, expr_no_word}
 use Rattle.c_expr_parse.specs.DeclaratorRules.{part_step, with_part, array_part, without_size, function_part}
 use Rattle.c_expr_parse.specs.Rules.{rules}
-use Rattle.c_expr_parse.specs.Tests.{begins_part}
 use Rattle.c_expr_parse.proofs.Complete.{InnerReads}
 use Rattle.c_expr_parse.proofs.Declarators.{part_steps}
 use Rattle.c_expr_parse.proofs.ExprReads.{bare_expr}
 use Rattle.c_expr_parse.proofs.Kept.{InnerKeeps}
-use Rattle.c_expr_parse.proofs.Starts.{expr_starts}
 use Rattle.c_expr_parse.proofs.TypeNameReads.{parameters_read}
-use Rattle.c_expr_parse.proofs.WordReads.{words_read, expr_no_word}
 
 -- Qualifiers alone are words of an array part.
 

@@ -20,19 +20,20 @@ use Rattle.c_tree.specs.Spelling.{name_symbol, word_symbol, tag_spelling, member
 use Rattle.c_tree.specs.Symbols.{Symbol, Word, Mark, Bare}
 use Rattle.c_tree.specs.Tree as tree
 use Rattle.c_tree.specs.Words.{TypeNames, Scope, has_type, has_long, is_long, is_long_word}
-use Rattle.c_expr_parse.specs.Parts.{Spells, SpellsSpecifiers}
+use Rattle.c_parse_words.specs.Spells.{Spells}
+use Rattle.c_parse_words.specs.Tests.{open_brace, word_name, SpecifierStart, StartWord, StartTypedef, StartAggregate, StartEnum, NoSpecifierStart, specifier_start, is_specifier_start, begins_specifier, is_long_next}
+use Rattle.c_parse_words.specs.Written.{IsWritten}
+use Rattle.c_parse_words.proofs.Closers.{keeps_close_brace}
+use Rattle.c_parse_words.proofs.Fresh.{fresh_name, written_fresh_name}
+use Rattle.c_parse_words.proofs.SpecifierTokens.{start_word_here, start_typedef_here, start_aggregate_here, start_enum_here, long_here}
+use Rattle.c_parse_words.proofs.TokenLaws.{word_name_here, open_brace_here}
+use Rattle.c_parse_words.proofs.Written.{some_place, written_int}
+use Rattle.c_expr_parse.specs.Parts.{SpellsSpecifiers}
 use Rattle.c_expr_parse.specs.Rules.{rules}
-use Rattle.c_expr_parse.specs.Tests.{open_brace, word_name, SpecifierStart, StartWord, StartTypedef, StartAggregate, StartEnum, NoSpecifierStart, specifier_start, is_specifier_start, begins_specifier, is_long_next}
 use Rattle.c_expr_parse.specs.TypeRules.{Series, Upto, aggregate_body, after_aggregate_tag, aggregate_without_tag, after_aggregate, enumeration, enumeration_body, after_enum_tag, enum_without_tag, after_enum, with_specifier, specifier_step, with_type, specifiers_layer}
-use Rattle.c_expr_parse.specs.Written.{IsWritten}
-use Rattle.c_expr_parse.proofs.Closers.{keeps_close_brace}
 use Rattle.c_expr_parse.proofs.Enumerators.{SeriesIn, elements, keeps_enumerators}
-use Rattle.c_expr_parse.proofs.Fresh.{fresh_name, written_fresh_name}
 use Rattle.c_expr_parse.proofs.Kept.{InnerKeeps}
 use Rattle.c_expr_parse.proofs.Members.{keeps_members}
-use Rattle.c_expr_parse.proofs.SpecifierTokens.{start_word_here, start_typedef_here, start_aggregate_here, start_enum_here, long_here}
-use Rattle.c_expr_parse.proofs.TokenLaws.{word_name_here, open_brace_here}
-use Rattle.c_expr_parse.proofs.Written.{some_place, written_int}
 
 abbrev pub ListIn : TypeNames → Scope → Language → tree.Specifiers → List Symbol → Type 0
 ListIn names scope g = Spells (AreSpecifiers g names scope) specifiers_spelling

@@ -17,8 +17,8 @@ use Rattle.c_tree.specs.Spelling.{specifiers_spelling, specifier_spelling, membe
 use Rattle.c_tree.specs.Symbols.{Symbol, Word, Bare}
 use Rattle.c_tree.specs.Tree as tree
 use Rattle.c_tree.specs.Words.{TypeNames, Scope, AtFile, InBlock, InType, may_specify, has_type, has_long, is_long}
+use Rattle.c_parse_words.specs.Tests.{open_brace, StartWord, StartAggregate, NoSpecifierStart, specifier_start, specifier_start_of_word, begins_specifier, is_long_next}
 use Rattle.c_expr_parse.specs.Rules.{rules}
-use Rattle.c_expr_parse.specs.Tests.{open_brace, StartWord, StartAggregate, NoSpecifierStart, specifier_start, specifier_start_of_word, begins_specifier, is_long_next}
 use Rattle.c_expr_parse.specs.TypeRules.{aggregate_body, after_aggregate_tag, aggregate_without_tag, after_aggregate, enumeration, enumeration_body, after_enum_tag, enum_without_tag, after_enum, with_specifier, specifier_step, with_type, specifiers_layer}
 use Rattle.c_expr_parse.proofs.Complete.{EndsSpecifiers, InnerReads}
 use Rattle.c_expr_parse.proofs.DeclarationStarts.{specifier_starts}

@@ -11,10 +11,10 @@ use Rattle.c_tree.specs.Spelling.{declared_spelling, specifiers_spelling, type_n
 use Rattle.c_tree.specs.Symbols.{Symbol, Bare}
 use Rattle.c_tree.specs.Tree as tree
 use Rattle.c_tree.specs.Words.{TypeNames, Scope, InBlock, InType, has_type}
+use Rattle.c_parse_words.specs.Tests.{is_comma, begins_specifier, begins_declarator, begins_type}
 use Rattle.c_expr_parse.specs.DeclaratorRules.{next_parameter, parameters}
 use Rattle.c_expr_parse.specs.ExprRules.{declared, type_name}
 use Rattle.c_expr_parse.specs.Rules.{rules}
-use Rattle.c_expr_parse.specs.Tests.{is_comma, begins_specifier, begins_declarator, begins_type}
 use Rattle.c_expr_parse.proofs.Complete.{EndsSpecifiers, EndsDeclarator, InnerReads}
 use Rattle.c_expr_parse.proofs.DeclarationStarts.{specifiers_start, declarator_starts, declarator_apart}
 use Rattle.c_expr_parse.proofs.Kept.{InnerKeeps}

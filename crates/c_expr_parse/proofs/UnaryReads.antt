@@ -17,14 +17,14 @@ use Rattle.c_tree.specs.Spelling.{expr_spelling, type_name_spelling}
 use Rattle.c_tree.specs.Symbols.{Symbol, Name, Mark, Bare}
 use Rattle.c_tree.specs.Tree as tree
 use Rattle.c_tree.specs.Words.{TypeNames, InType}
+use Rattle.c_parse_words.specs.Tests.{open_paren, open_brace, begins_expr, begins_type, binary_operator, start, start_of, is_start, StartPrefix}
+use Rattle.c_parse_words.proofs.Starts.{expr_starts, expr_apart}
+use Rattle.c_parse_words.proofs.TokenLaws.{open_paren_here}
 use Rattle.c_expr_parse.specs.ExprRules.{type_name, after_cast_paren, after_sizeof_paren, after_sizeof, operand_from, operand}
 use Rattle.c_expr_parse.specs.Rules.{rules}
-use Rattle.c_expr_parse.specs.Tests.{open_paren, open_brace, begins_expr, begins_type, binary_operator, start, start_of, is_start, StartPrefix}
 use Rattle.c_expr_parse.proofs.Complete.{EndsOperand, EndsExpr, InnerReads}
 use Rattle.c_expr_parse.proofs.ExprLaws.{above_all, operand_low, precedence_high}
 use Rattle.c_expr_parse.proofs.ExprReads.{Reading, reading_operand}
-use Rattle.c_expr_parse.proofs.Starts.{expr_starts, expr_apart}
-use Rattle.c_expr_parse.proofs.TokenLaws.{open_paren_here}
 
 -- What ends an operand ends an expression of a high level.
 pub high_expr : (least : ℕ) (next : Option Symbol) → 13 ≤ least → EndsOperand next → EndsExpr least next

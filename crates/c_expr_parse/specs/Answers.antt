@@ -7,8 +7,8 @@ use Rattle.c_tree.specs.Grammar.{Naming}
 use Rattle.c_tree.specs.Symbols.{Symbol}
 use Rattle.c_tree.specs.Tree as tree
 use Rattle.c_tree.specs.Words.{TypeNames, Scope}
+use Rattle.c_parse_words.specs.Written.{IsWritten}
 use Rattle.c_expr_parse.specs.Parts.{SpellsExpr, SpellsSpecifiers, SpellsDeclarator, SpellsInitialiser}
-use Rattle.c_expr_parse.specs.Written.{IsWritten}
 
 -- an expression of at least this level
 abbrev pub ExprAnswered : TypeNames → (least d : ℕ) → List Symbol → Answer Symbol tree.Expr → Type 0

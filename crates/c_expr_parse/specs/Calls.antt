@@ -7,7 +7,7 @@ use Rattle.parse_rules.specs.Parsers.{Answer, Read}
 use Rattle.c_tree.specs.Operators.{comma_level, assignment_level, conditional_level}
 use Rattle.c_tree.specs.Symbols.{Symbol, symbol_of}
 use Rattle.c_tree.specs.Words.{Scope, AtFile, InBlock}
-use Rattle.c_expr_parse.specs.Faults.{IsTold}
+use Rattle.c_parse_words.specs.Faults.{IsTold}
 use Rattle.c_expr_parse.specs.declared.calls.Level.{Level}
 use Rattle.c_expr_parse.specs.declared.calls.Level.TheVariants as level
 

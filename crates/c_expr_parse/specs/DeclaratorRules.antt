@@ -1,5 +1,5 @@
 -- Declarators and parameters, read from the tokens that are left (C99 6.7.5, 6.7.6).
-use Rattle.std.specs.Prelude.{List, [], ◌∷◌, ◌++◌, is_some, if◌then◌else◌}
+use Rattle.std.specs.Prelude.{List, [], ◌∷◌, is_some, if◌then◌else◌}
 use Rattle.cc_base.specs.declared.place.Place.{Place}
 use Rattle.parse_rules.specs.Parsers.{Parser, pure, refuse, skip, expect, branch, by_first, loop, ◌>>=◌, ◌>>◌}
 use Rattle.c_tree.specs.declared.leaf.Star.{Star}
@@ -8,8 +8,9 @@ use Rattle.c_tree.specs.Grammar.{Naming, WithName, WithOrWithout}
 use Rattle.c_tree.specs.Symbols.{Symbol}
 use Rattle.c_tree.specs.Tree as tree
 use Rattle.c_tree.specs.Words.{TypeNames, InBlock, has_static}
-use Rattle.c_expr_parse.specs.Tests.{is_close_paren, is_close_bracket, is_comma, open_bracket, star_sign, qualifier_word, array_word, begins_expr, begins_specifier, CoreStart, CoreName, CoreParen, NoCore, may_omit_name, core_start, begins_parameters, PartStart, ArrayAt, FunctionAt, NoPartStart, part_start, begins_part}
-use Rattle.c_expr_parse.specs.ExprRules.{Inner, take, declared}
+use Rattle.c_parse_words.specs.WordRules.{next_array_word, star_step}
+use Rattle.c_parse_words.specs.Tests.{is_close_paren, is_close_bracket, is_comma, open_bracket, star_sign, array_word, begins_expr, begins_specifier, CoreStart, CoreName, CoreParen, NoCore, may_omit_name, core_start, begins_parameters, PartStart, ArrayAt, FunctionAt, NoPartStart, part_start, begins_part}
+use Rattle.c_expr_parse.specs.ExprRules.{Inner, declared}
 
 -- Parameters.
 
@@ -26,11 +27,6 @@ parameters names inner = branch (begins_specifier names InBlock) (do
     (pure tree.NoParameter)
 
 -- Array and function parts.
-
-unfoldable pub next_array_word : List Word → Parser Symbol (List Word)
-next_array_word words = do
-  word ← take (array_word words)
-  pure (words ++ word ∷ [])
 
 -- `static` asks for a size
 unfoldable pub without_size : tree.Parts → Place → List Word → Parser Symbol tree.Parts
@@ -70,19 +66,6 @@ unfoldable pub parts_from : TypeNames → Inner → List Star → tree.Core → 
 parts_from names inner stars core before = do
   parts ← loop (λ _. begins_part) (part_step names inner) before
   pure (tree.Declares stars core parts)
-
--- Stars.
-
-unfoldable pub next_qualifier : List Word → Parser Symbol (List Word)
-next_qualifier words = do
-  word ← take qualifier_word
-  pure (words ++ word ∷ [])
-
-unfoldable pub star_step : List Star → Parser Symbol (List Star)
-star_step stars = do
-  at ← take star_sign
-  qualifiers ← loop (λ _ next. is_some (qualifier_word next)) next_qualifier []
-  pure (stars ++ record { place = at; qualifiers = qualifiers } ∷ [])
 
 -- The middle of a declarator.
 

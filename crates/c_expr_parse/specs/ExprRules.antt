@@ -1,8 +1,7 @@
 -- Expressions, read from the tokens that are left (C99 6.5).
-use Rattle.std.specs.Prelude.{ℕ, suc, Bool, ◌&&◌, ◌==◌, List, [], ◌∷◌, ◌++◌, Option, Some, None, is_some, nat_le, if◌then◌else◌}
+use Rattle.std.specs.Prelude.{ℕ, suc, ◌&&◌, ◌==◌, [], ◌∷◌, Option, Some, None, is_some, if◌then◌else◌}
 use Rattle.cc_base.specs.declared.place.Place.{Place}
 use Rattle.parse_rules.specs.Parsers.{Parser, pure, refuse, skip, expect, branch, by_first, take_above, unsupported, loop, ◌>>=◌, ◌>>◌}
-use Rattle.c_tree.specs.declared.leaf.StringPiece.{StringPiece}
 use Rattle.c_tree.specs.declared.operator.Assignment.{Assignment}
 use Rattle.c_tree.specs.declared.operator.Binary.{Binary}
 use Rattle.c_tree.specs.declared.operator.Unary.TheVariants.{SizeOf}
@@ -12,15 +11,9 @@ use Rattle.c_tree.specs.Operators.{precedence, operand_level}
 use Rattle.c_tree.specs.Symbols.{Symbol}
 use Rattle.c_tree.specs.Tree as tree
 use Rattle.c_tree.specs.Words.{TypeNames, Scope, InType}
-use Rattle.c_expr_parse.specs.Tests.{is_close_paren, is_close_bracket, is_comma, is_colon, open_paren, open_brace, question_mark, word_name, string_piece, Operator, At, binary_operator, assignment_operator, binds, Suffix, IndexAt, CallAt, MemberAt, StepAt, NoSuffix, suffix, has_suffix, Start, StartName, StartInteger, StartCharacter, StartString, StartParen, StartPrefix, StartSizeOf, NoStart, start, begins_expr, begins_type, begins_declarator}
-
--- the token that tells x
-unfoldable pub take : {X : Type 0} → (Option Symbol → Option X) → Parser Symbol X
-take tells = by_first tells taken
-  where
-    taken : {X : Type 0} → Option X → Parser Symbol X
-    taken (Some x) = skip >> pure x
-    taken None = refuse
+use Rattle.c_parse_words.specs.Levels.{begins_cast, question_after, assignment_after}
+use Rattle.c_parse_words.specs.WordRules.{take, next_piece}
+use Rattle.c_parse_words.specs.Tests.{is_close_paren, is_close_bracket, is_comma, is_colon, open_paren, open_brace, word_name, string_piece, Operator, At, binary_operator, binds, Suffix, IndexAt, CallAt, MemberAt, StepAt, NoSuffix, suffix, has_suffix, Start, StartName, StartInteger, StartCharacter, StartString, StartParen, StartPrefix, StartSizeOf, NoStart, start, begins_expr, begins_type, begins_declarator}
 
 -- What is read where one node less is allowed: an expression of at least a level; an expression whose `(` was read, as far
 -- as it is a unary one; specifiers; a declarator.
@@ -83,11 +76,6 @@ postfix_step names d inner e = by_first suffix (with_suffix names d inner e)
 unfoldable pub postfix : TypeNames → ℕ → Inner → tree.Expr → Parser Symbol tree.Expr
 postfix names d inner e = loop (λ _. has_suffix) (postfix_step names d inner) e
 
-unfoldable pub next_piece : List StringPiece → Parser Symbol (List StringPiece)
-next_piece pieces = do
-  piece ← take string_piece
-  pure (pieces ++ piece ∷ [])
-
 -- after the `(` of an expression in parentheses
 unfoldable pub after_paren : TypeNames → ℕ → Inner → Place → Parser Symbol tree.Expr
 after_paren names d inner at = do
@@ -122,10 +110,6 @@ after_sizeof names inner at (Some paren) = do
 after_sizeof names inner at None = do
   e ← inner.expr 14
   pure (tree.Prefix SizeOf at e)
-
--- a cast may stand where the level is at most that of a cast
-abbrev pub begins_cast : TypeNames → (least : ℕ) → Option Symbol → Bool
-begins_cast names least next = nat_le least 13 && begins_type names next
 
 -- an expression of at least the level of a unary expression or a cast, by its first token
 unfoldable pub operand_from : TypeNames → ℕ → Inner → (least : ℕ) → Start → Parser Symbol tree.Expr
@@ -169,9 +153,6 @@ with_operator d inner left None = refuse
 unfoldable pub infix_step : ℕ → Inner → tree.Expr → Parser Symbol tree.Expr
 infix_step d inner left = by_first binary_operator (with_operator d inner left)
 
-abbrev pub question_after : (least : ℕ) → Option Symbol → Option Place
-question_after least next = if nat_le least 2 then question_mark next else None
-
 unfoldable pub with_question : ℕ → Inner → tree.Expr → Option Place → Parser Symbol tree.Expr
 with_question d inner test (Some at) = do
   take_above d (expr_height test)
@@ -180,10 +161,6 @@ with_question d inner test (Some at) = do
   else_ ← inner.expr 2
   pure (tree.Conditional test at then_ else_)
 with_question d inner test None = pure test
-
--- the left side of an assignment is a unary expression
-abbrev pub assignment_after : (least : ℕ) → tree.Expr → Option Symbol → Option (Operator Assignment)
-assignment_after least left next = if nat_le least 1 && nat_le 14 (level left) then assignment_operator next else None
 
 unfoldable pub with_assignment : ℕ → Inner → tree.Expr → Option (Operator Assignment) → Parser Symbol tree.Expr
 with_assignment d inner left (Some (At op at)) = do

@@ -1,14 +1,9 @@
 pub mod DeclaratorRules
 pub mod ExprRules
-pub mod Lists
 pub mod Nests
 pub mod Parts
 pub mod Rules
-pub mod Seen
-pub mod Tests
 pub mod TypeRules
-pub mod Written
-pub mod Faults
 pub mod Answers
 pub mod Calls
 pub mod Operands

@@ -12,12 +12,12 @@ use Rattle.c_tree.specs.declared.expr.Specifiers.{Specifiers}
 use Rattle.c_tree.specs.declared.expr.Declarator.{Declarator}
 use Rattle.c_tree.specs.declared.statement.Initialiser.{Initialiser}
 use Rattle.c_tree.specs.StatementViews.{initialiser_view}
-use Rattle.c_expr_parse.specs.declared.measured.Measured.{Measured}
-use Rattle.c_expr_parse.specs.declared.stop.Stop.{Stop}
-use Rattle.c_expr_parse.specs.declared.words.Scope.{Scope}
-use Rattle.c_expr_parse.specs.declared.lookahead.Naming.{Naming}
+use Rattle.c_parse_words.specs.declared.measured.Measured.{Measured}
+use Rattle.c_parse_words.specs.declared.stop.Stop.{Stop}
+use Rattle.c_parse_words.specs.declared.words.Scope.{Scope}
+use Rattle.c_parse_words.specs.declared.begins.Naming.{Naming}
+use Rattle.c_parse_words.specs.Seen.{names_of, scope_view, naming_view, Reads}
 use Rattle.c_expr_parse.specs.Rules.{rules, initialiser}
-use Rattle.c_expr_parse.specs.Seen.{names_of, scope_view, naming_view, Reads}
 
 -- the height that is said is right, and it is at most what is allowed
 abbrev pub IsMeasured : (depth height said : ℕ) → Type 0

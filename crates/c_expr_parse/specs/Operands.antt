@@ -6,8 +6,8 @@ use Rattle.c_tree.specs.declared.operator.Unary.{Unary}
 use Rattle.c_tree.specs.Operators.{operand_level}
 use Rattle.c_tree.specs.Symbols.{Symbol}
 use Rattle.c_tree.specs.Tree as tree
+use Rattle.c_parse_words.specs.Tests.{open_brace}
 use Rattle.c_expr_parse.specs.ExprRules.{Inner}
-use Rattle.c_expr_parse.specs.Tests.{open_brace}
 
 -- after an operator
 abbrev pub prefixed : Inner → Unary → Place → Parser Symbol tree.Expr

@@ -6,11 +6,7 @@ use Rattle.c_tree.specs.Spelling.{expr_spelling, specifiers_spelling, declarator
 use Rattle.c_tree.specs.Symbols.{Symbol}
 use Rattle.c_tree.specs.Tree as tree
 use Rattle.c_tree.specs.Words.{TypeNames, Scope, has_type}
-
--- the part is one of those, and spells the tokens
-pub record Spells {A : Type 0} (Is : A → Type 0) (spelling : A → List Symbol) (a : A) (s : List Symbol) : Type 0 where
-  pub within : Is a
-  pub spelled : s ≡ spelling a
+use Rattle.c_parse_words.specs.Spells.{Spells}
 
 -- an expression of at least this level
 abbrev pub SpellsExpr : TypeNames → (least : ℕ) → Language → tree.Expr → List Symbol → Type 0

@@ -5,7 +5,7 @@ use Rattle.parse_rules.specs.Parsers.{Parser, pure, skip, expect, branch, by_fir
 use Rattle.c_tree.specs.Symbols.{Symbol}
 use Rattle.c_tree.specs.Tree as tree
 use Rattle.c_tree.specs.Words.{TypeNames}
-use Rattle.c_expr_parse.specs.Tests.{is_close_brace, open_brace, begins_expr, begins_specifier, begins_declarator, begins_initialiser, is_designator}
+use Rattle.c_parse_words.specs.Tests.{is_close_brace, open_brace, begins_expr, begins_specifier, begins_declarator, begins_initialiser, is_designator}
 use Rattle.c_expr_parse.specs.ExprRules.{Inner, expr_layer, after_paren}
 use Rattle.c_expr_parse.specs.TypeRules.{specifiers_layer, Series, Upto, goes_on_series}
 use Rattle.c_expr_parse.specs.DeclaratorRules.{declarator_layer}

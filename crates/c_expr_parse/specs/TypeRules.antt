@@ -8,7 +8,7 @@ use Rattle.c_tree.specs.Grammar.{WithName}
 use Rattle.c_tree.specs.Symbols.{Symbol}
 use Rattle.c_tree.specs.Tree as tree
 use Rattle.c_tree.specs.Words.{TypeNames, Scope, InType, has_type, has_long}
-use Rattle.c_expr_parse.specs.Tests.{is_close_brace, is_comma, is_colon, is_semicolon, open_brace, equals_sign, word_name, plain_name, SpecifierStart, StartWord, StartTypedef, StartAggregate, StartEnum, NoSpecifierStart, specifier_start, begins_specifier, is_long_next}
+use Rattle.c_parse_words.specs.Tests.{is_close_brace, is_comma, is_colon, is_semicolon, open_brace, equals_sign, word_name, plain_name, SpecifierStart, StartWord, StartTypedef, StartAggregate, StartEnum, NoSpecifierStart, specifier_start, begins_specifier, is_long_next}
 use Rattle.c_expr_parse.specs.ExprRules.{Inner}
 
 -- Members.

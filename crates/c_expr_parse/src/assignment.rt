@@ -1,71 +1,28 @@
 //! Conditionals, assignments and commas (C99 6.5.15 to 6.5.17).
-ghost use Rattle.std.specs.Prelude.{◌≡◌, ◌&&◌, ◌==◌, suc, Some, nat_le, IfOk};
+ghost use Rattle.std.specs.Prelude.{◌≡◌, ◌&&◌, ◌==◌, suc, Some, IfOk};
 ghost use Rattle.parse_rules.specs.Parsers.{by_first, loop};
 ghost use Rattle.c_tree.specs.Depth.{expr_height};
-ghost use Rattle.c_tree.specs.Grammar.{level};
 ghost use Rattle.c_tree.specs.Tree as tree;
 ghost use Rattle.c_tree.specs.Views.{expr_view};
+ghost use Rattle.c_parse_words.specs.Levels as levels;
+ghost use Rattle.c_parse_words.specs.Seen.{names_of, Reads};
+ghost use Rattle.c_parse_words.specs.Tests as tests;
 ghost use Rattle.c_expr_parse.specs.ExprRules as spec;
 ghost use Rattle.c_expr_parse.specs.Rules.{rules};
-ghost use Rattle.c_expr_parse.specs.Seen.{names_of, next_view, placed_view, Reads};
-ghost use Rattle.c_expr_parse.specs.Tests as tests;
 ghost use Rattle.c_expr_parse.specs.Nests.{Nests, IsMeasured};
 
-use crate::cursor::Cursor;
 use crate::grammar::Grammar;
-use crate::lookahead::{Naming, Placed, assignment_operator, is_colon, is_comma, question_mark};
-use crate::measured::Measured;
-use crate::next::Next;
-use crate::stop::Stop;
-use crate::words::Scope;
+use c_parse_words::begins::Naming;
+use c_parse_words::cursor::Cursor;
+use c_parse_words::levels::{assignment_after, comma_goes_on, question_after};
+use c_parse_words::lookahead::is_colon;
+use c_parse_words::measured::Measured;
+use c_parse_words::stop::Stop;
+use c_parse_words::words::Scope;
 use c_tree::{Assignment, Boxed, Declarator, Expr, Specifiers};
 use cc_base::Place;
 use indexmap::IndexSet;
 use std::alloc::{AllocError, Global};
-
-/// Whether the expression may stand to the left of an assignment operator: it is a unary one.
-#[tactic(auto, using(c_tree::proofs::ViewLaws::expr_views))]
-fn is_unary(e: &Expr) -> bool
-    ensures { result ≡ nat_le 14 (level (expr_view e.now)) }
-{
-    !matches!(
-        e,
-        Expr::Cast(..)
-            | Expr::Infix(..)
-            | Expr::Conditional(..)
-            | Expr::Assign(..)
-            | Expr::Comma(..)
-    )
-}
-
-/// The `?` that goes on, where a conditional may stand.
-fn question_after(least: u8, next: Next<'_>) -> Option<Place>
-    ensures { result ≡ spec.question_after least (next_view next.entry) }
-{
-    if least <= 2 {
-        question_mark(next)
-    } else {
-        None
-    }
-}
-
-/// The assignment operator that goes on from an expression, where an assignment may stand.
-fn assignment_after(least: u8, left: &Expr, next: Next<'_>) -> Option<Placed<Assignment>>
-    ensures { placed_view result ≡ spec.assignment_after least (expr_view left.now) (next_view next.entry) }
-{
-    if least <= 1 && is_unary(left) {
-        assignment_operator(next)
-    } else {
-        None
-    }
-}
-
-/// Whether a comma goes on, where a comma operator may stand.
-fn comma_goes_on(least: u8, next: Next<'_>) -> bool
-    ensures { result ≡ (least == 0 && tests.is_comma (next_view next.entry)) }
-{
-    least == 0 && is_comma(next)
-}
 
 /// The conditional of three expressions.
 #[tactic(auto, using(c_tree::proofs::ViewLaws::expr_views))]
@@ -137,7 +94,7 @@ impl<
     ) -> Result<Measured<Expr>, Stop>
         requires nests { Nests self.now.names.now self.now.depth (E.pre self.now.read_expr) (E.post self.now.read_expr) (S.pre self.now.read_specifiers) (S.post self.now.read_specifiers) (D.pre self.now.read_declarator) (D.post self.now.read_declarator) }
         requires measured { IsMeasured (suc self.now.depth) (expr_height (expr_view test.tree)) test.height }
-        ensures reads { Reads (λ m. expr_view m.tree) (by_first (spec.question_after least) (spec.with_question self.now.depth (rules (names_of self.now.names.now) self.now.depth) (expr_view test.tree)) cursor.old) result cursor.new }
+        ensures reads { Reads (λ m. expr_view m.tree) (by_first (levels.question_after least) (spec.with_question self.now.depth (rules (names_of self.now.names.now) self.now.depth) (expr_view test.tree)) cursor.old) result cursor.new }
         ensures height { IfOk result (λ m. IsMeasured (suc self.now.depth) (expr_height (expr_view m.tree)) m.height) }
     {
         match question_after(least, cursor.peek()) {
@@ -182,7 +139,7 @@ impl<
     ) -> Result<Measured<Expr>, Stop>
         requires nests { Nests self.now.names.now self.now.depth (E.pre self.now.read_expr) (E.post self.now.read_expr) (S.pre self.now.read_specifiers) (S.post self.now.read_specifiers) (D.pre self.now.read_declarator) (D.post self.now.read_declarator) }
         requires measured { IsMeasured (suc self.now.depth) (expr_height (expr_view left.tree)) left.height }
-        ensures reads { Reads (λ m. expr_view m.tree) (by_first (spec.assignment_after least (expr_view left.tree)) (spec.with_assignment self.now.depth (rules (names_of self.now.names.now) self.now.depth) (expr_view left.tree)) cursor.old) result cursor.new }
+        ensures reads { Reads (λ m. expr_view m.tree) (by_first (levels.assignment_after least (expr_view left.tree)) (spec.with_assignment self.now.depth (rules (names_of self.now.names.now) self.now.depth) (expr_view left.tree)) cursor.old) result cursor.new }
         ensures height { IfOk result (λ m. IsMeasured (suc self.now.depth) (expr_height (expr_view m.tree)) m.height) }
     {
         match assignment_after(least, &left.tree, cursor.peek()) {

@@ -2,17 +2,17 @@
 ghost use Rattle.std.specs.Prelude.{◌≡◌, ◌≤◌, ◌-◌, IfOk, IfErr, length};
 ghost use Rattle.c_tree.specs.Grammar.{WithName};
 ghost use Rattle.c_tree.specs.Views.{expr_view, specifiers_view, declarator_view};
+ghost use Rattle.c_parse_words.specs.Seen.{names_of, scope_view};
 ghost use Rattle.c_expr_parse.specs.Answers.{ExprAnswered, SpecifiersAnswered, DeclaratorAnswered};
 ghost use Rattle.c_expr_parse.specs.Calls as spec;
 ghost use Rattle.c_expr_parse.specs.Calls.{symbols_from, IsReadTo, IsFault};
-ghost use Rattle.c_expr_parse.specs.Seen.{names_of, scope_view};
 
-use crate::cursor::Cursor;
-use crate::fault::fault_of;
-use crate::lookahead::Naming;
 use crate::nesting::{read_declarator, read_expr, read_specifiers};
-use crate::words::Scope;
 use c_lexer::Token;
+use c_parse_words::begins::Naming;
+use c_parse_words::cursor::Cursor;
+use c_parse_words::fault::fault_of;
+use c_parse_words::words::Scope;
 use c_tree::{Declarator, Expr, Specifiers};
 use cc_base::Fault;
 use indexmap::IndexSet;

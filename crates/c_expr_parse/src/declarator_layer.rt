@@ -3,21 +3,20 @@ ghost use Rattle.std.specs.Prelude.{◌≡◌, suc, IfOk};
 ghost use Rattle.c_tree.specs.Depth.{core_height, declarator_height, parts_height};
 ghost use Rattle.c_tree.specs.Tree as tree;
 ghost use Rattle.c_tree.specs.Views.{core_view, declarator_view};
+ghost use Rattle.c_parse_words.specs.Lists.{parts_seen};
+ghost use Rattle.c_parse_words.specs.Seen.{names_of, naming_view, core_start_view, Reads};
 ghost use Rattle.c_expr_parse.specs.DeclaratorRules as spec;
-ghost use Rattle.c_expr_parse.specs.Lists.{parts_seen};
 ghost use Rattle.c_expr_parse.specs.Rules.{rules};
-ghost use Rattle.c_expr_parse.specs.Seen.{names_of, naming_view, core_start_view, Reads};
 ghost use Rattle.c_expr_parse.specs.Nests.{Nests, IsMeasured};
 
-use crate::cursor::Cursor;
 use crate::grammar::Grammar;
-use crate::lookahead::{
-    CoreStart, Naming, begins_parameters, is_close_paren, may_omit_name, next_core, open_bracket,
-};
-use crate::measured::Measured;
-use crate::stars::stars;
-use crate::stop::Stop;
-use crate::words::Scope;
+use c_parse_words::begins::{CoreStart, Naming, begins_parameters, may_omit_name, next_core};
+use c_parse_words::cursor::Cursor;
+use c_parse_words::lookahead::{is_close_paren, open_bracket};
+use c_parse_words::measured::Measured;
+use c_parse_words::stars::stars;
+use c_parse_words::stop::Stop;
+use c_parse_words::words::Scope;
 use c_tree::{Boxed, Core, Declarator, Expr, Identifier, Items, Part, Specifiers, Star};
 use cc_base::Place;
 use indexmap::IndexSet;

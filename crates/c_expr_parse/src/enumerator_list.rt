@@ -1,37 +1,27 @@
 //! Enumerators (C99 6.7.2.2).
-ghost use Rattle.std.specs.Prelude.{◌≡◌, IfOk, false};
+ghost use Rattle.std.specs.Prelude.{IfOk, false};
 ghost use Rattle.parse_rules.specs.Parsers.{by_first, loop};
 ghost use Rattle.c_tree.specs.Depth.{enumerators_height};
+ghost use Rattle.c_parse_words.specs.Lists.{enumerators_seen};
+ghost use Rattle.c_parse_words.specs.Seen.{names_of, Reads};
 ghost use Rattle.c_expr_parse.specs.TypeRules as spec;
 ghost use Rattle.c_expr_parse.specs.TypeRules.{Upto};
-ghost use Rattle.c_expr_parse.specs.Lists.{enumerators_seen};
 ghost use Rattle.c_expr_parse.specs.Rules.{rules};
-ghost use Rattle.c_expr_parse.specs.Seen.{names_of, next_view, Reads};
-ghost use Rattle.std.specs.Option.{is_some};
-ghost use Rattle.c_expr_parse.specs.Tests as tests;
+ghost use Rattle.c_parse_words.specs.Tests as tests;
 ghost use Rattle.c_expr_parse.specs.Nests.{Nests, IsMeasured};
 
-use crate::cursor::Cursor;
 use crate::grammar::Grammar;
-use crate::lookahead::{Naming, equals_sign};
-use crate::measured::Measured;
-use crate::next::Next;
-use crate::series::{Series, series_goes_on};
-use crate::stop::Stop;
-use crate::words::{Scope, is_type_name};
+use c_parse_words::begins::{Naming, begins_enumerator};
+use c_parse_words::cursor::Cursor;
+use c_parse_words::lookahead::equals_sign;
+use c_parse_words::measured::Measured;
+use c_parse_words::next::Next;
+use c_parse_words::series::{Series, series_goes_on};
+use c_parse_words::stop::Stop;
+use c_parse_words::words::{Scope, is_type_name};
 use c_tree::{Declarator, Enumerator, Expr, Identifier, Items, Specifiers};
 use indexmap::IndexSet;
 use std::alloc::Global;
-
-/// Whether a name comes that is no type.
-fn begins_enumerator(names: &IndexSet<Vec<u8>>, next: Next<'_>) -> bool
-    ensures { result ≡ is_some (tests.plain_name (names_of names.now) (next_view next.entry)) }
-{
-    match next {
-        Next::Name(bytes, _) => !is_type_name(names, bytes),
-        _ => false,
-    }
-}
 
 impl<
     'a,

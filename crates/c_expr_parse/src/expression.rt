@@ -2,17 +2,17 @@
 ghost use Rattle.std.specs.Prelude.{suc, IfOk};
 ghost use Rattle.c_tree.specs.Depth.{expr_height};
 ghost use Rattle.c_tree.specs.Views.{expr_view};
+ghost use Rattle.c_parse_words.specs.Seen.{names_of, Reads};
 ghost use Rattle.c_expr_parse.specs.ExprRules as spec;
 ghost use Rattle.c_expr_parse.specs.Rules.{rules};
-ghost use Rattle.c_expr_parse.specs.Seen.{names_of, Reads};
 ghost use Rattle.c_expr_parse.specs.Nests.{Nests, IsMeasured};
 
-use crate::cursor::Cursor;
 use crate::grammar::Grammar;
-use crate::lookahead::Naming;
-use crate::measured::Measured;
-use crate::stop::Stop;
-use crate::words::Scope;
+use c_parse_words::begins::Naming;
+use c_parse_words::cursor::Cursor;
+use c_parse_words::measured::Measured;
+use c_parse_words::stop::Stop;
+use c_parse_words::words::Scope;
 use c_tree::{Declarator, Expr, Specifiers};
 use indexmap::IndexSet;
 use std::alloc::Global;

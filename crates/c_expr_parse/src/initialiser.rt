@@ -2,17 +2,18 @@
 ghost use Rattle.std.specs.Prelude.{IfOk};
 ghost use Rattle.c_tree.specs.Depth.{initialiser_height};
 ghost use Rattle.c_tree.specs.StatementViews.{initialiser_view};
+ghost use Rattle.c_parse_words.specs.Seen.{names_of, Reads};
 ghost use Rattle.c_expr_parse.specs.Rules as spec;
 ghost use Rattle.c_expr_parse.specs.Rules.{rules};
-ghost use Rattle.c_expr_parse.specs.Seen.{names_of, Reads};
 ghost use Rattle.c_expr_parse.specs.Nests.{IsMeasured};
 
-use crate::cursor::Cursor;
 use crate::initialiser_list::Braces;
-use crate::lookahead::{begins_initialiser, open_brace};
-use crate::measured::Measured;
 use crate::nesting::read_expr;
-use crate::stop::{Stop, too_deep};
+use c_parse_words::begins::begins_initialiser;
+use c_parse_words::cursor::Cursor;
+use c_parse_words::lookahead::open_brace;
+use c_parse_words::measured::Measured;
+use c_parse_words::stop::{Stop, too_deep};
 use c_tree::Initialiser;
 use indexmap::IndexSet;
 use std::alloc::Global;

@@ -5,9 +5,9 @@ ghost use Rattle.c_tree.specs.Grammar.{Naming};
 ghost use Rattle.c_tree.specs.Symbols.{Symbol};
 ghost use Rattle.c_tree.specs.Tree as tree;
 ghost use Rattle.c_tree.specs.Words.{TypeNames, Scope};
+ghost use Rattle.c_parse_words.specs.Written.{IsWritten};
 ghost use Rattle.c_expr_parse.specs.Answers.{OneIsRight, ReadOrDeep, ExprAnswered, SpecifiersAnswered, DeclaratorAnswered, InitialiserAnswered};
 ghost use Rattle.c_expr_parse.specs.Parts.{SpellsExpr, SpellsSpecifiers, SpellsDeclarator, SpellsInitialiser};
-ghost use Rattle.c_expr_parse.specs.Written.{IsWritten};
 
 /// No two expressions in the grammar spell the same tokens.
 pub fn expressions_are_spelled_once()

@@ -2,16 +2,16 @@
 ghost use Rattle.std.specs.Prelude.{suc, IfOk};
 ghost use Rattle.c_tree.specs.Depth.{expr_height, specifiers_height, declarator_height};
 ghost use Rattle.c_tree.specs.Views.{expr_view, specifiers_view, declarator_view};
+ghost use Rattle.c_parse_words.specs.Seen.{names_of, scope_view, naming_view, Reads};
 ghost use Rattle.c_expr_parse.specs.Rules.{rules};
-ghost use Rattle.c_expr_parse.specs.Seen.{names_of, scope_view, naming_view, Reads};
 ghost use Rattle.c_expr_parse.specs.Nests.{IsMeasured};
 
-use crate::cursor::Cursor;
 use crate::grammar::Grammar;
-use crate::lookahead::{Naming, begins_declarator, begins_expr, begins_specifier};
-use crate::measured::Measured;
-use crate::stop::{Stop, too_deep};
-use crate::words::Scope;
+use c_parse_words::begins::{Naming, begins_declarator, begins_expr, begins_specifier};
+use c_parse_words::cursor::Cursor;
+use c_parse_words::measured::Measured;
+use c_parse_words::stop::{Stop, too_deep};
+use c_parse_words::words::Scope;
 use c_tree::{Declarator, Expr, Specifiers};
 use indexmap::IndexSet;
 use std::alloc::Global;

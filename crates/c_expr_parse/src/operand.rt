@@ -3,38 +3,29 @@ ghost use Rattle.std.specs.Prelude.{◌≡◌, suc, true, IfOk};
 ghost use Rattle.parse_rules.specs.Parsers.{by_first, first};
 ghost use Rattle.c_tree.specs.Depth.{expr_height, type_name_height};
 ghost use Rattle.c_tree.specs.Views.{expr_view, type_name_view};
+ghost use Rattle.c_parse_words.specs.Seen.{names_of, start_view, after_skip, Reads};
+ghost use Rattle.c_parse_words.specs.Tests as tests;
 ghost use Rattle.c_expr_parse.specs.ExprRules as spec;
 ghost use Rattle.c_expr_parse.specs.Operands as operands;
 ghost use Rattle.c_expr_parse.specs.Rules.{rules};
-ghost use Rattle.c_expr_parse.specs.Seen.{names_of, next_view, start_view, after_skip, Reads};
-ghost use Rattle.c_expr_parse.specs.Tests as tests;
 ghost use Rattle.c_expr_parse.specs.Nests.{Nests, IsMeasured};
 
-use crate::cursor::Cursor;
 use crate::grammar::Grammar;
-use crate::lookahead::{
-    Naming, Start, begins_expr, begins_specifier, is_close_paren, next_start, open_brace,
-    open_paren,
-};
-use crate::measured::Measured;
-use crate::next::Next;
-use crate::operators::operand_level;
-use crate::stop::{Stop, too_deep};
-use crate::string_pieces::more_pieces;
-use crate::words::Scope;
+use c_parse_words::begins::{Naming, Start, begins_expr, begins_specifier, next_start};
+use c_parse_words::cursor::Cursor;
+use c_parse_words::levels::begins_cast;
+use c_parse_words::lookahead::{is_close_paren, open_brace, open_paren};
+use c_parse_words::measured::Measured;
+use c_parse_words::operators::operand_level;
+use c_parse_words::stop::{Stop, too_deep};
+use c_parse_words::string_pieces::more_pieces;
+use c_parse_words::words::Scope;
 use c_tree::{
     Boxed, Declarator, Expr, Identifier, Items, Specifiers, StringPiece, TypeName, Unary,
 };
 use cc_base::Place;
 use indexmap::IndexSet;
 use std::alloc::Global;
-
-/// Whether a type comes behind a `(`, where a cast may stand.
-fn begins_cast(names: &IndexSet<Vec<u8>>, least: u8, next: Next<'_>) -> bool
-    ensures { result ≡ spec.begins_cast (names_of names.now) least (next_view next.entry) }
-{
-    least <= 13 && begins_specifier(names, Scope::InType, next)
-}
 
 impl<
     'a,

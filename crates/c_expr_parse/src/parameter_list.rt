@@ -2,19 +2,20 @@
 ghost use Rattle.std.specs.Prelude.{IfOk};
 ghost use Rattle.parse_rules.specs.Parsers.{loop};
 ghost use Rattle.c_tree.specs.Depth.{parameters_height};
+ghost use Rattle.c_parse_words.specs.Lists.{parameters_seen};
+ghost use Rattle.c_parse_words.specs.Seen.{names_of, after_skip, Reads};
+ghost use Rattle.c_parse_words.specs.Tests as tests;
 ghost use Rattle.c_expr_parse.specs.DeclaratorRules as spec;
-ghost use Rattle.c_expr_parse.specs.Lists.{parameters_seen};
 ghost use Rattle.c_expr_parse.specs.Rules.{rules};
-ghost use Rattle.c_expr_parse.specs.Seen.{names_of, after_skip, Reads};
-ghost use Rattle.c_expr_parse.specs.Tests as tests;
 ghost use Rattle.c_expr_parse.specs.Nests.{Nests, IsMeasured};
 
-use crate::cursor::Cursor;
 use crate::grammar::Grammar;
-use crate::lookahead::{Naming, begins_specifier, is_comma};
-use crate::measured::Measured;
-use crate::stop::Stop;
-use crate::words::Scope;
+use c_parse_words::begins::{Naming, begins_specifier};
+use c_parse_words::cursor::Cursor;
+use c_parse_words::lookahead::is_comma;
+use c_parse_words::measured::Measured;
+use c_parse_words::stop::Stop;
+use c_parse_words::words::Scope;
 use c_tree::{Declarator, Expr, Items, Parameter, Specifiers};
 use indexmap::IndexSet;
 use std::alloc::Global;

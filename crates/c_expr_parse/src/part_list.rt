@@ -2,22 +2,21 @@
 ghost use Rattle.std.specs.Prelude.{◌≡◌, IfOk};
 ghost use Rattle.parse_rules.specs.Parsers.{loop};
 ghost use Rattle.c_tree.specs.Depth.{parts_height};
+ghost use Rattle.c_parse_words.specs.Lists.{parts_seen, AreArrayWords};
+ghost use Rattle.c_parse_words.specs.Seen.{names_of, part_start_view, Reads};
+ghost use Rattle.c_parse_words.specs.Tests as tests;
 ghost use Rattle.c_expr_parse.specs.DeclaratorRules as spec;
-ghost use Rattle.c_expr_parse.specs.Lists.{parts_seen, AreArrayWords};
 ghost use Rattle.c_expr_parse.specs.Rules.{rules};
-ghost use Rattle.c_expr_parse.specs.Seen.{names_of, part_start_view, Reads};
-ghost use Rattle.c_expr_parse.specs.Tests as tests;
 ghost use Rattle.c_expr_parse.specs.Nests.{Nests, IsMeasured};
 
-use crate::array_words::{ArrayWords, array_words};
-use crate::cursor::Cursor;
 use crate::grammar::Grammar;
-use crate::lookahead::{
-    Naming, PartStart, begins_expr, begins_part, is_close_bracket, is_close_paren, next_part,
-};
-use crate::measured::Measured;
-use crate::stop::Stop;
-use crate::words::Scope;
+use c_parse_words::array_words::{ArrayWords, array_words};
+use c_parse_words::begins::{Naming, PartStart, begins_expr, begins_part, next_part};
+use c_parse_words::cursor::Cursor;
+use c_parse_words::lookahead::{is_close_bracket, is_close_paren};
+use c_parse_words::measured::Measured;
+use c_parse_words::stop::Stop;
+use c_parse_words::words::Scope;
 use c_tree::{Declarator, Expr, Items, Part, Specifiers};
 use cc_base::Place;
 use indexmap::IndexSet;

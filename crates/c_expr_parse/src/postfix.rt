@@ -2,19 +2,20 @@
 ghost use Rattle.std.specs.Prelude.{suc, IfOk};
 ghost use Rattle.c_tree.specs.Depth.{expr_height};
 ghost use Rattle.c_tree.specs.Views.{expr_view};
+ghost use Rattle.c_parse_words.specs.Seen.{names_of, suffix_view, Reads};
+ghost use Rattle.c_parse_words.specs.Tests as tests;
 ghost use Rattle.c_expr_parse.specs.ExprRules as spec;
 ghost use Rattle.c_expr_parse.specs.Rules.{rules};
-ghost use Rattle.c_expr_parse.specs.Seen.{names_of, suffix_view, Reads};
-ghost use Rattle.c_expr_parse.specs.Tests as tests;
 ghost use Rattle.c_expr_parse.specs.Nests.{Nests, IsMeasured};
 ghost use Rattle.parse_rules.specs.Parsers.{loop};
 
-use crate::cursor::Cursor;
 use crate::grammar::Grammar;
-use crate::lookahead::{Naming, Suffix, has_suffix, is_close_bracket, is_close_paren, next_suffix};
-use crate::measured::Measured;
-use crate::stop::Stop;
-use crate::words::Scope;
+use c_parse_words::begins::Naming;
+use c_parse_words::cursor::Cursor;
+use c_parse_words::lookahead::{Suffix, has_suffix, is_close_bracket, is_close_paren, next_suffix};
+use c_parse_words::measured::Measured;
+use c_parse_words::stop::Stop;
+use c_parse_words::words::Scope;
 use c_tree::{Boxed, Declarator, Expr, MemberOperator, Specifiers, Step};
 use cc_base::Place;
 use indexmap::IndexSet;

@@ -1,76 +1,30 @@
 //! Specifiers (C99 6.7.1 to 6.7.3).
-ghost use Rattle.std.specs.Prelude.{◌≡◌, ◌&&◌, IfOk, None, suc};
-ghost use Rattle.std.specs.List.{list_any};
+ghost use Rattle.std.specs.Prelude.{IfOk, None, suc};
 ghost use Rattle.parse_rules.specs.Parsers.{by_first, loop};
 ghost use Rattle.c_tree.specs.Depth.{specifiers_height};
 ghost use Rattle.c_tree.specs.Tree as tree;
-ghost use Rattle.c_tree.specs.Views.{specifier_view, specifiers_view};
-ghost use Rattle.c_tree.specs.Words as words;
+ghost use Rattle.c_tree.specs.Views.{specifiers_view};
+ghost use Rattle.c_parse_words.specs.Lists.{specifiers_seen};
+ghost use Rattle.c_parse_words.specs.Seen.{names_of, scope_view, specifier_start_view, Reads};
+ghost use Rattle.c_parse_words.specs.Tests as tests;
 ghost use Rattle.c_expr_parse.specs.TypeRules as spec;
-ghost use Rattle.c_expr_parse.specs.Lists.{specifiers_seen};
 ghost use Rattle.c_expr_parse.specs.Rules.{rules};
-ghost use Rattle.c_expr_parse.specs.Seen.{names_of, next_view, scope_view, specifier_start_view, Reads};
-ghost use Rattle.c_expr_parse.specs.Tests as tests;
 ghost use Rattle.c_expr_parse.specs.Nests.{Nests, IsMeasured};
 
-use crate::cursor::Cursor;
 use crate::grammar::Grammar;
-use crate::lookahead::{
-    Naming, SpecifierStart, begins_specifier, is_close_brace, is_long_next, next_specifier,
-    open_brace,
-};
-use crate::measured::Measured;
-use crate::next::Next;
-use crate::series::Series;
-use crate::stop::Stop;
-use crate::words::{Scope, is_long_word, is_type_word};
+use c_parse_words::begins::{Naming, SpecifierStart, begins_specifier, next_specifier};
+use c_parse_words::cursor::Cursor;
+use c_parse_words::lookahead::{is_close_brace, open_brace};
+use c_parse_words::measured::Measured;
+use c_parse_words::next::Next;
+use c_parse_words::series::Series;
+use c_parse_words::specifier_words::{has_type, is_further_long};
+use c_parse_words::stop::Stop;
+use c_parse_words::words::Scope;
 use c_tree::{AggregateKind, Declarator, Expr, Identifier, Items, Specifier, Specifiers};
 use cc_base::Place;
 use indexmap::IndexSet;
 use std::alloc::Global;
-
-#[tactic(auto, using(c_tree::proofs::ViewLaws::expr_views))]
-fn is_long(specifier: &Specifier) -> bool
-    ensures { result ≡ words.is_long (specifier_view specifier.now) }
-{
-    match specifier {
-        Specifier::Keyword(word) => is_long_word(word.keyword),
-        _ => false,
-    }
-}
-
-#[tactic(auto, using(c_tree::proofs::ViewLaws::expr_views))]
-fn names_type(specifier: &Specifier) -> bool
-    ensures { result ≡ words.names_type (specifier_view specifier.now) }
-{
-    match specifier {
-        Specifier::Keyword(word) => is_type_word(word.keyword),
-        _ => true,
-    }
-}
-
-fn has_long(list: &[Specifier]) -> bool
-    ensures { result ≡ list_any (λ specifier. words.is_long (specifier_view specifier)) list.now }
-{
-    list.iter().any(|specifier| is_long(specifier))
-}
-
-fn has_type(list: &[Specifier]) -> bool
-    ensures { result ≡ list_any (λ specifier. words.names_type (specifier_view specifier)) list.now }
-{
-    list.iter().any(|specifier| names_type(specifier))
-}
-
-/// Whether `long` comes and stands in the list already.
-#[tactic(auto, using(crate::proofs::SpecifierFlags::any_long, crate::proofs::SpecifierFlags::no_long, crate::proofs::SpecifierFlags::long_too))]
-fn is_further_long(list: &[Specifier], next: Next<'_>) -> bool
-    ensures { result ≡ (words.has_long (specifiers_seen list.now) && tests.is_long_next (next_view next.entry)) }
-{
-    if !is_long_next(next) {
-        return false;
-    }
-    has_long(list)
-}
 
 impl<
     'a,
@@ -354,7 +308,7 @@ impl<
     }
 
     /// Specifiers, one of which says a type.
-    #[tactic(auto, using(c_tree::proofs::ViewLaws::expr_views, crate::proofs::SpecifierFlags::any_type), unfolding(crate::specs::TypeRules::specifiers_layer, crate::specs::TypeRules::with_type))]
+    #[tactic(auto, using(c_tree::proofs::ViewLaws::expr_views, c_parse_words::proofs::SpecifierFlags::any_type), unfolding(crate::specs::TypeRules::specifiers_layer, crate::specs::TypeRules::with_type))]
     pub fn specifier_list(
         &self,
         cursor: &mut Cursor<'_>,

@@ -2,17 +2,17 @@
 ghost use Rattle.std.specs.Prelude.{IfOk, option_map};
 ghost use Rattle.c_tree.specs.Depth.{type_name_height, declared_height};
 ghost use Rattle.c_tree.specs.Views.{declared_of, declarator_view, type_name_view};
+ghost use Rattle.c_parse_words.specs.Seen.{names_of, naming_view, Reads};
 ghost use Rattle.c_expr_parse.specs.ExprRules as spec;
 ghost use Rattle.c_expr_parse.specs.Rules.{rules};
-ghost use Rattle.c_expr_parse.specs.Seen.{names_of, naming_view, Reads};
 ghost use Rattle.c_expr_parse.specs.Nests.{Nests, IsMeasured};
 
-use crate::cursor::Cursor;
 use crate::grammar::Grammar;
-use crate::lookahead::{Naming, begins_declarator};
-use crate::measured::Measured;
-use crate::stop::Stop;
-use crate::words::Scope;
+use c_parse_words::begins::{Naming, begins_declarator};
+use c_parse_words::cursor::Cursor;
+use c_parse_words::measured::Measured;
+use c_parse_words::stop::Stop;
+use c_parse_words::words::Scope;
 use c_tree::{Declarator, Expr, Specifiers, TypeName};
 use indexmap::IndexSet;
 use std::alloc::Global;

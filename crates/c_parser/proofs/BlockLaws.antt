@@ -13,13 +13,13 @@ use Rattle.c_tree.specs.Spelling.{close_paren, expr_spelling, optional_spelling,
 use Rattle.c_tree.specs.Symbols.{Symbol, Word, Bare}
 use Rattle.c_tree.specs.Tree as tree
 use Rattle.c_tree.specs.Words.{TypeNames, InBlock}
-use Rattle.c_expr_parse.specs.Parts.{Spells}
-use Rattle.c_expr_parse.specs.Tests.{begins_expr, begins_specifier}
-use Rattle.c_expr_parse.specs.Written.{IsWritten}
-use Rattle.c_expr_parse.proofs.Closers.{keeps_close_paren, keeps_colon}
+use Rattle.c_parse_words.specs.Spells.{Spells}
+use Rattle.c_parse_words.specs.Tests.{begins_expr, begins_specifier}
+use Rattle.c_parse_words.specs.Written.{IsWritten}
+use Rattle.c_parse_words.proofs.Closers.{keeps_close_paren, keeps_colon}
+use Rattle.c_parse_words.proofs.Written.{written_semicolon}
 use Rattle.c_expr_parse.proofs.DeclarationDepth.{inner_keeps}
 use Rattle.c_expr_parse.proofs.ExprLaws.{deeper}
-use Rattle.c_expr_parse.proofs.Written.{written_semicolon}
 use Rattle.c_parser.specs.StatementRules.{optional, condition, with_label, next_declaration, next_statement, unlabelled, item_step, end_of_items, block_items, statement}
 use Rattle.c_parser.specs.Tests.{is_else, LabelStart, StartCase, StartDefault, NoLabelStart, label_start, is_label_start, begins_declaration, begins_statement, begins_item}
 use Rattle.c_parser.proofs.DeclarationLaws.{keeps_declaration}

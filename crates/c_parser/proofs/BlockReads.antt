@@ -14,11 +14,11 @@ use Rattle.c_tree.specs.Spelling.{colon, semicolon, expr_spelling, optional_spel
 use Rattle.c_tree.specs.Symbols.{Symbol, Word, Bare}
 use Rattle.c_tree.specs.Tree as tree
 use Rattle.c_tree.specs.Words.{TypeNames, InBlock}
-use Rattle.c_expr_parse.specs.Tests.{is_comma, begins_specifier, is_specifier_start, specifier_start_of_word}
+use Rattle.c_parse_words.specs.Tests.{is_comma, begins_specifier, is_specifier_start, specifier_start_of_word}
+use Rattle.c_parse_words.proofs.Starts.{expr_starts}
 use Rattle.c_expr_parse.proofs.AllReads.{inner_reads}
 use Rattle.c_expr_parse.proofs.DeclarationStarts.{and_none, specifiers_start}
 use Rattle.c_expr_parse.proofs.ExprReads.{bare_expr}
-use Rattle.c_expr_parse.proofs.Starts.{expr_starts}
 use Rattle.c_parser.specs.StatementRules.{optional, condition, with_label, next_declaration, next_statement, unlabelled, item_step, end_of_items, block_items, statement}
 use Rattle.c_parser.specs.Tests.{is_else, label_start, label_of_keyword, is_label_start, begins_declaration, begins_item}
 use Rattle.c_parser.proofs.BlockLaws.{item_steps}

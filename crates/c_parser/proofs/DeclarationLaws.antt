@@ -14,13 +14,14 @@ use Rattle.c_tree.specs.Spelling.{comma, init_declarators_spelling, before_init_
 use Rattle.c_tree.specs.Symbols.{Symbol, Mark, Bare}
 use Rattle.c_tree.specs.Tree as tree
 use Rattle.c_tree.specs.Words.{TypeNames, Scope, has_typedef}
-use Rattle.c_expr_parse.specs.Parts.{Spells, SpellsDeclarator}
-use Rattle.c_expr_parse.specs.Tests.{is_comma, equals_sign, begins_specifier, begins_declarator}
-use Rattle.c_expr_parse.specs.Written.{IsWritten}
-use Rattle.c_expr_parse.proofs.Closers.{keeps_semicolon}
+use Rattle.c_parse_words.specs.Spells.{Spells}
+use Rattle.c_parse_words.specs.Tests.{is_comma, equals_sign, begins_specifier, begins_declarator}
+use Rattle.c_parse_words.specs.Written.{IsWritten}
+use Rattle.c_parse_words.proofs.Closers.{keeps_semicolon}
+use Rattle.c_parse_words.proofs.TokenLaws.{comma_here, equals_sign_here}
+use Rattle.c_expr_parse.specs.Parts.{SpellsDeclarator}
 use Rattle.c_expr_parse.proofs.DeclarationDepth.{inner_keeps}
 use Rattle.c_expr_parse.proofs.InitialiserLaws.{keeps_initialiser}
-use Rattle.c_expr_parse.proofs.TokenLaws.{comma_here, equals_sign_here}
 use Rattle.c_parser.specs.DeclarationRules.{with_initialiser, next_declarator, declarators_from, init_declarators, declaration}
 
 abbrev pub is_no_init : tree.InitDeclarators → Bool

@@ -13,7 +13,7 @@ use Rattle.c_tree.specs.Spelling.{semicolon, declarator_spelling, initialiser_sp
 use Rattle.c_tree.specs.Symbols.{Symbol, Mark, Bare}
 use Rattle.c_tree.specs.Tree as tree
 use Rattle.c_tree.specs.Words.{TypeNames, Scope, has_typedef}
-use Rattle.c_expr_parse.specs.Tests.{is_comma, begins_declarator}
+use Rattle.c_parse_words.specs.Tests.{is_comma, begins_declarator}
 use Rattle.c_expr_parse.proofs.AllReads.{inner_reads}
 use Rattle.c_expr_parse.proofs.Complete.{EndsSpecifiers}
 use Rattle.c_expr_parse.proofs.DeclarationDepth.{inner_keeps}

@@ -5,7 +5,7 @@ use Rattle.c_tree.specs.Grammar.{names_after, type_names}
 use Rattle.c_tree.specs.Symbols.{Symbol}
 use Rattle.c_tree.specs.Tree as tree
 use Rattle.c_tree.specs.Words.{has_typedef}
-use Rattle.c_expr_parse.specs.Tests.{is_semicolon, equals_sign}
+use Rattle.c_parse_words.specs.Tests.{is_semicolon, equals_sign}
 use Rattle.c_parser.specs.DeclarationRules.{with_initialiser, declarators_from}
 use Rattle.c_parser.specs.UnitRules.{after_declarator, declarators_after}
 

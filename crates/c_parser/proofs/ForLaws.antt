@@ -4,7 +4,7 @@ use Rattle.parse_rules.specs.Parsers.{Answer, Read, Stopped, Parser, next, expec
 use Rattle.c_tree.specs.Symbols.{Symbol}
 use Rattle.c_tree.specs.Tree as tree
 use Rattle.c_tree.specs.Words.{TypeNames}
-use Rattle.c_expr_parse.specs.Tests.{is_close_paren, is_semicolon}
+use Rattle.c_parse_words.specs.Tests.{is_close_paren, is_semicolon}
 use Rattle.c_parser.specs.StatementRules.{for_rest, optional, optional_then}
 
 module _ {A B C : Type 0} (k k' : A → Parser Symbol B) (same : (a : A) (ts : List Symbol) → k a ts ≡ k' a ts) where

@@ -9,9 +9,9 @@ use Rattle.c_tree.specs.Tree as tree
 use Rattle.c_tree.specs.Words.{TypeNames, is_type_name}
 use Rattle.c_tree.specs.Symbols.{Symbol}
 use Rattle.parse_rules.specs.Parsers.{Answer}
-use Rattle.c_expr_parse.specs.Seen.{after_skip}
+use Rattle.c_parse_words.specs.Seen.{after_skip}
 use Rattle.c_parser.specs.DeclarationRules.{next_declarator}
-use Rattle.c_expr_parse.proofs.NameLaws.{is_type_name-listed}
+use Rattle.c_parse_words.proofs.NameLaws.{is_type_name-listed}
 use Rattle.c_parser.specs.Names.{IsNew}
 
 pub of_success : {T E : Type 0} (P : Type 0) (outcome : Result T E) → is_err outcome ≡ false → OnOk outcome P → P

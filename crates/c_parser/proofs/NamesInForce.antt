@@ -8,10 +8,10 @@ use Rattle.c_tree.specs.Grammar.{WithName, AreSpecifiers, IsDeclarator, IsCore, 
 use Rattle.c_tree.specs.Symbols.{Symbol}
 use Rattle.c_tree.specs.Tree as tree
 use Rattle.c_tree.specs.Words.{TypeNames, InBlock, has_typedef, is_typedef, is_typedef_word, may_specify}
+use Rattle.c_parse_words.specs.Seen.{Reads}
+use Rattle.c_parse_words.specs.declared.stop.Stop.{Stop}
 use Rattle.c_expr_parse.specs.Answers.{SpecifiersAnswered, DeclaratorAnswered}
 use Rattle.c_expr_parse.specs.Rules.{rules}
-use Rattle.c_expr_parse.specs.Seen.{Reads}
-use Rattle.c_expr_parse.specs.declared.stop.Stop.{Stop}
 use Rattle.c_tree.specs.Views.{declarator_view, specifiers_view}
 use Rattle.c_tree.specs.declared.expr.Declarator.{Declarator}
 use Rattle.c_tree.specs.declared.expr.Specifiers.{Specifiers}

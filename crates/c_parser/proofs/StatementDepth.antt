@@ -11,11 +11,11 @@ use Rattle.c_tree.specs.declared.leaf.Separator.TheVariants as separator
 use Rattle.c_tree.specs.Symbols.{Symbol, Integer, Word, Mark, Bare}
 use Rattle.c_tree.specs.Tree as tree
 use Rattle.c_tree.specs.Words.{TypeNames}
-use Rattle.c_expr_parse.specs.Tests.{begins_expr}
-use Rattle.c_expr_parse.specs.Written.{IsWritten}
+use Rattle.c_parse_words.specs.Tests.{begins_expr}
+use Rattle.c_parse_words.specs.Written.{IsWritten}
+use Rattle.c_parse_words.proofs.Written.{some_place, written_close_paren, written_close_brace, written_open_brace, written_semicolon}
 use Rattle.c_expr_parse.proofs.ExprDepth.{begun, expr_refuses}
 use Rattle.c_expr_parse.proofs.ExprLaws.{zero_expr, written_zero}
-use Rattle.c_expr_parse.proofs.Written.{some_place, written_close_paren, written_close_brace, written_open_brace, written_semicolon}
 use Rattle.c_parser.specs.StatementRules.{statement_from, statement}
 use Rattle.c_parser.specs.Tests.{StatementStart, StartBlock, StartEmpty, StartIf, StartSwitch, StartWhile, StartDo, StartFor, StartBreak, StartContinue, StartReturn, NoStatementStart, statement_start, is_statement_start, begins_statement}
 use Rattle.c_parser.proofs.BlockLaws.{StatementIn, KeepsStatement}

@@ -14,15 +14,15 @@ use Rattle.c_tree.specs.Spelling.{close_paren, semicolon, expr_spelling, optiona
 use Rattle.c_tree.specs.Symbols.{Symbol, Word, Mark, Bare}
 use Rattle.c_tree.specs.Tree as tree
 use Rattle.c_tree.specs.Words.{TypeNames, InBlock}
-use Rattle.c_expr_parse.specs.Parts.{Spells}
-use Rattle.c_expr_parse.specs.Tests.{open_paren, open_brace, begins_expr, begins_specifier}
-use Rattle.c_expr_parse.specs.Written.{IsWritten}
-use Rattle.c_expr_parse.proofs.Closers.{keeps_close_paren, keeps_close_brace, keeps_semicolon}
+use Rattle.c_parse_words.specs.Spells.{Spells}
+use Rattle.c_parse_words.specs.Tests.{open_paren, open_brace, begins_expr, begins_specifier}
+use Rattle.c_parse_words.specs.Written.{IsWritten}
+use Rattle.c_parse_words.proofs.Closers.{keeps_close_paren, keeps_close_brace, keeps_semicolon}
+use Rattle.c_parse_words.specs.WordRules.{take}
+use Rattle.c_parse_words.proofs.Take.{IsTold, rule_take}
+use Rattle.c_parse_words.proofs.Written.{some_place, written_open_brace}
 use Rattle.c_expr_parse.proofs.DeclarationDepth.{inner_keeps}
 use Rattle.c_expr_parse.proofs.ExprLaws.{deeper}
-use Rattle.c_expr_parse.specs.ExprRules.{take}
-use Rattle.c_expr_parse.proofs.Take.{IsTold, rule_take}
-use Rattle.c_expr_parse.proofs.Written.{some_place, written_open_brace}
 use Rattle.c_parser.specs.StatementRules.{with_else, for_rest, for_expr, for_declaration, statement_from, statement}
 use Rattle.c_parser.specs.Tests.{is_else, while_word, StatementStart, StartBlock, StartEmpty, StartIf, StartSwitch, StartWhile, StartDo, StartFor, StartBreak, StartContinue, StartReturn, NoStatementStart, statement_start, is_statement_start, begins_statement}
 use Rattle.c_parser.proofs.BlockLaws.{StatementIn, Closed, KeepsStatement, keeps_optional, keeps_condition, keeps_block_items}

@@ -7,11 +7,11 @@ use Rattle.c_tree.specs.Symbols.{Symbol}
 use Rattle.c_tree.specs.Tree as tree
 use Rattle.c_tree.specs.Words.{TypeNames, has_typedef}
 use Rattle.c_tree.specs.declared.statement.Statement.{Statement}
-use Rattle.c_expr_parse.specs.ExprRules.{take}
-use Rattle.c_expr_parse.specs.Seen.{Reads, reason_of}
-use Rattle.c_expr_parse.specs.Tests.{is_close_brace, open_brace}
-use Rattle.c_expr_parse.specs.declared.stop.Stop.{Stop}
-use Rattle.c_expr_parse.specs.declared.stop.Stop.TheVariants as stop
+use Rattle.c_parse_words.specs.WordRules.{take}
+use Rattle.c_parse_words.specs.Seen.{Reads, reason_of}
+use Rattle.c_parse_words.specs.Tests.{is_close_brace, open_brace}
+use Rattle.c_parse_words.specs.declared.stop.Stop.{Stop}
+use Rattle.c_parse_words.specs.declared.stop.Stop.TheVariants as stop
 use Rattle.c_expr_parse.proofs.Layers.{none_allowed}
 use Rattle.c_parser.specs.StatementRules.{block_items, statement, statement_from}
 use Rattle.c_parser.specs.Tests.{StatementStart, begins_statement, statement_start}

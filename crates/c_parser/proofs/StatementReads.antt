@@ -12,11 +12,11 @@ use Rattle.c_tree.specs.Spelling.{close_brace, semicolon, expr_spelling, optiona
 use Rattle.c_tree.specs.Symbols.{Symbol, Word, Mark, Bare}
 use Rattle.c_tree.specs.Tree as tree
 use Rattle.c_tree.specs.Words.{TypeNames, InBlock}
-use Rattle.c_expr_parse.specs.ExprRules.{take}
-use Rattle.c_expr_parse.specs.Tests.{begins_specifier}
+use Rattle.c_parse_words.specs.WordRules.{take}
+use Rattle.c_parse_words.specs.Tests.{begins_specifier}
+use Rattle.c_parse_words.proofs.Starts.{expr_starts, expr_apart}
 use Rattle.c_expr_parse.proofs.AllReads.{inner_reads}
 use Rattle.c_expr_parse.proofs.ExprReads.{bare_expr}
-use Rattle.c_expr_parse.proofs.Starts.{expr_starts, expr_apart}
 use Rattle.c_parser.specs.StatementRules.{with_else, for_rest, for_expr, for_declaration, statement_from, statement}
 use Rattle.c_parser.specs.Tests.{is_else, statement_start}
 use Rattle.c_parser.proofs.BlockReads.{ReadsStatement, declaration_starts, optional_reads, condition_reads, block_items_read}

@@ -12,8 +12,8 @@ use Rattle.c_tree.specs.Spelling.{semicolon, expr_spelling, statement_spelling}
 use Rattle.c_tree.specs.Symbols.{Symbol, Name, Integer, Character, Quoted, Word, Mark, Bare}
 use Rattle.c_tree.specs.Tree as tree
 use Rattle.c_tree.specs.Words.{TypeNames, InBlock}
-use Rattle.c_expr_parse.specs.Tests.{begins_expr, begins_specifier, is_start, start_of_word, is_specifier_start, specifier_start_of_word}
-use Rattle.c_expr_parse.proofs.Starts.{expr_starts, expr_apart}
+use Rattle.c_parse_words.specs.Tests.{begins_expr, begins_specifier, is_start, start_of_word, is_specifier_start, specifier_start_of_word}
+use Rattle.c_parse_words.proofs.Starts.{expr_starts, expr_apart}
 use Rattle.c_parser.specs.Tests.{is_else, statement_start, start_of_keyword, is_statement_start, NoStatementStart, begins_statement, label_start, label_of_keyword, is_label_start}
 
 -- an expression begins with none of the words of statements

@@ -7,10 +7,10 @@ use Rattle.c_lexer.specs.declared.punctuator.Punctuator.TheVariants as mark
 use Rattle.c_lexer.specs.declared.token.TokenKind.TheVariants as kind
 use Rattle.c_tree.specs.declared.leaf.Separator.TheVariants as separator
 use Rattle.c_tree.specs.Symbols.{Symbol, Word, Mark, Bare}
-use Rattle.c_expr_parse.specs.Tests.{open_paren, open_brace}
-use Rattle.c_expr_parse.specs.Written.{IsWritten}
-use Rattle.c_expr_parse.proofs.Take.{Tells}
-use Rattle.c_expr_parse.proofs.TokenLaws.{open_paren_here, open_brace_here}
+use Rattle.c_parse_words.specs.Tests.{open_paren, open_brace}
+use Rattle.c_parse_words.specs.Written.{IsWritten}
+use Rattle.c_parse_words.proofs.Take.{Tells}
+use Rattle.c_parse_words.proofs.TokenLaws.{open_paren_here, open_brace_here}
 use Rattle.c_parser.specs.Tests.{is_else, while_word, StatementStart, StartBlock, StartEmpty, StartIf, StartSwitch, StartWhile, StartDo, StartFor, StartBreak, StartContinue, StartReturn, NoStatementStart, start_of_keyword, statement_start, LabelStart, StartCase, StartDefault, NoLabelStart, label_of_keyword, label_start}
 
 -- the symbol of a statement's first token

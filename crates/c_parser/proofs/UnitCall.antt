@@ -13,12 +13,12 @@ use Rattle.c_lexer.specs.Tokens.{Token}
 use Rattle.c_tree.specs.Depth.{unit_height}
 use Rattle.c_tree.specs.Symbols.{Symbol, symbol_of}
 use Rattle.c_tree.specs.Tree as tree
+use Rattle.c_parse_words.specs.Faults.{place_of_first, told, fault_of, IsTold}
+use Rattle.c_parse_words.specs.Seen.{reason_of}
+use Rattle.c_parse_words.specs.Written.{IsWritten}
+use Rattle.c_parse_words.specs.declared.stop.Stop.{Stop}
+use Rattle.c_parse_words.specs.declared.stop.Stop.TheVariants as stop
 use Rattle.c_expr_parse.specs.Calls.{IsFault}
-use Rattle.c_expr_parse.specs.Faults.{place_of_first, told, fault_of, IsTold}
-use Rattle.c_expr_parse.specs.Seen.{reason_of}
-use Rattle.c_expr_parse.specs.Written.{IsWritten}
-use Rattle.c_expr_parse.specs.declared.stop.Stop.{Stop}
-use Rattle.c_expr_parse.specs.declared.stop.Stop.TheVariants as stop
 use Rattle.c_parser.specs.Answers.{SpellsUnit, UnitAnswered}
 use Rattle.c_parser.specs.UnitRules.{unit_rule}
 use Rattle.c_parser.proofs.UnitPromised.{one_unit, unit_answered}

@@ -14,15 +14,16 @@ use Rattle.c_tree.specs.Spelling.{semicolon, specifiers_spelling, init_declarato
 use Rattle.c_tree.specs.Symbols.{Symbol, Mark, Bare}
 use Rattle.c_tree.specs.Tree as tree
 use Rattle.c_tree.specs.Words.{AtFile, has_typedef}
-use Rattle.c_expr_parse.specs.ExprRules.{take}
-use Rattle.c_expr_parse.specs.Parts.{Spells, SpellsSpecifiers, SpellsDeclarator}
-use Rattle.c_expr_parse.specs.Tests.{open_brace, equals_sign, begins_specifier, begins_declarator}
-use Rattle.c_expr_parse.specs.Written.{IsWritten}
-use Rattle.c_expr_parse.proofs.Closers.{keeps_close_brace, keeps_semicolon}
+use Rattle.c_parse_words.specs.WordRules.{take}
+use Rattle.c_parse_words.specs.Spells.{Spells}
+use Rattle.c_parse_words.specs.Tests.{open_brace, equals_sign, begins_specifier, begins_declarator}
+use Rattle.c_parse_words.specs.Written.{IsWritten}
+use Rattle.c_parse_words.proofs.Closers.{keeps_close_brace, keeps_semicolon}
+use Rattle.c_parse_words.proofs.Take.{rule_take_here}
+use Rattle.c_parse_words.proofs.TokenLaws.{open_brace_here}
+use Rattle.c_parse_words.proofs.Written.{some_place, written_open_brace, written_close_brace}
+use Rattle.c_expr_parse.specs.Parts.{SpellsSpecifiers, SpellsDeclarator}
 use Rattle.c_expr_parse.proofs.DeclarationDepth.{inner_keeps}
-use Rattle.c_expr_parse.proofs.Take.{rule_take_here}
-use Rattle.c_expr_parse.proofs.TokenLaws.{open_brace_here}
-use Rattle.c_expr_parse.proofs.Written.{some_place, written_open_brace, written_close_brace}
 use Rattle.c_parser.specs.UnitRules.{function_body, after_declarator, external, at_end, unit_rule}
 use Rattle.c_parser.proofs.BlockLaws.{keeps_block_items}
 use Rattle.c_parser.proofs.DeclarationLaws.{InitIn, keeps_with, keeps_from}

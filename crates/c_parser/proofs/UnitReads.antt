@@ -12,9 +12,9 @@ use Rattle.c_tree.specs.Spelling.{close_brace, semicolon, specifiers_spelling, d
 use Rattle.c_tree.specs.Symbols.{Symbol, Mark, Bare}
 use Rattle.c_tree.specs.Tree as tree
 use Rattle.c_tree.specs.Words.{AtFile, has_typedef}
-use Rattle.c_expr_parse.specs.ExprRules.{take}
+use Rattle.c_parse_words.specs.WordRules.{take}
+use Rattle.c_parse_words.specs.Tests.{is_comma, is_semicolon, open_brace, begins_specifier, begins_declarator}
 use Rattle.c_expr_parse.specs.Rules.{rules}
-use Rattle.c_expr_parse.specs.Tests.{is_comma, is_semicolon, open_brace, begins_specifier, begins_declarator}
 use Rattle.c_expr_parse.proofs.AllReads.{inner_reads}
 use Rattle.c_expr_parse.proofs.DeclarationDepth.{inner_keeps}
 use Rattle.c_expr_parse.proofs.DeclarationStarts.{declarator_starts, declarator_apart, specifiers_start}

@@ -8,8 +8,8 @@ use Rattle.c_tree.specs.Grammar.{IsUnit}
 use Rattle.c_tree.specs.Spelling.{unit_spelling}
 use Rattle.c_tree.specs.Symbols.{Symbol}
 use Rattle.c_tree.specs.Tree as tree
-use Rattle.c_expr_parse.specs.Parts.{Spells}
-use Rattle.c_expr_parse.specs.Written.{IsWritten}
+use Rattle.c_parse_words.specs.Spells.{Spells}
+use Rattle.c_parse_words.specs.Written.{IsWritten}
 
 -- the unit is in the grammar and spells the tokens
 abbrev pub SpellsUnit : Language → tree.TranslationUnit → List Symbol → Type 0

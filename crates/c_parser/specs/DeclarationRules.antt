@@ -6,8 +6,8 @@ use Rattle.c_tree.specs.Grammar.{WithName, names_after, names_after_all}
 use Rattle.c_tree.specs.Symbols.{Symbol}
 use Rattle.c_tree.specs.Tree as tree
 use Rattle.c_tree.specs.Words.{TypeNames, Scope, has_typedef}
+use Rattle.c_parse_words.specs.Tests.{is_comma, is_semicolon, equals_sign, begins_declarator}
 use Rattle.c_expr_parse.specs.Rules.{rules, initialiser}
-use Rattle.c_expr_parse.specs.Tests.{is_comma, is_semicolon, equals_sign, begins_declarator}
 
 -- after a declarator: `=` and an initialiser, or nothing. The names are those in force there.
 unfoldable pub with_initialiser : TypeNames → (d : ℕ) → tree.InitDeclarators → tree.Declarator → Option Place → Parser Symbol tree.InitDeclarators

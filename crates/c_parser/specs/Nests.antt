@@ -7,8 +7,8 @@ use Rattle.indexmap.specs.IndexSet.{IndexSet}
 use Rattle.c_tree.specs.StatementViews.{statement_view}
 use Rattle.c_tree.specs.Symbols.{Symbol}
 use Rattle.c_tree.specs.declared.statement.Statement.{Statement}
-use Rattle.c_expr_parse.specs.Seen.{names_of, Reads}
-use Rattle.c_expr_parse.specs.declared.stop.Stop.{Stop}
+use Rattle.c_parse_words.specs.Seen.{names_of, Reads}
+use Rattle.c_parse_words.specs.declared.stop.Stop.{Stop}
 use Rattle.c_parser.specs.StatementRules.{statement}
 
 pub record NestsStatements {H : Type 0} (names : IndexSet (Vec ℕ Global) H) (depth : ℕ)

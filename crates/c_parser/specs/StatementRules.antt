@@ -6,9 +6,9 @@ use Rattle.c_tree.specs.Grammar.{ends_in_label}
 use Rattle.c_tree.specs.Symbols.{Symbol}
 use Rattle.c_tree.specs.Tree as tree
 use Rattle.c_tree.specs.Words.{TypeNames, InBlock}
-use Rattle.c_expr_parse.specs.ExprRules.{take}
+use Rattle.c_parse_words.specs.WordRules.{take}
+use Rattle.c_parse_words.specs.Tests.{is_close_paren, is_close_brace, is_semicolon, is_colon, open_paren, open_brace, begins_expr, begins_specifier}
 use Rattle.c_expr_parse.specs.Rules.{rules}
-use Rattle.c_expr_parse.specs.Tests.{is_close_paren, is_close_brace, is_semicolon, is_colon, open_paren, open_brace, begins_expr, begins_specifier}
 use Rattle.c_parser.specs.DeclarationRules.{declaration}
 use Rattle.c_parser.specs.Tests.{is_else, while_word, StatementStart, StartBlock, StartEmpty, StartIf, StartSwitch, StartWhile, StartDo, StartFor, StartBreak, StartContinue, StartReturn, NoStatementStart, statement_start, begins_statement, LabelStart, StartCase, StartDefault, NoLabelStart, label_start, is_label_start, begins_declaration, begins_item}
 

@@ -9,7 +9,7 @@ use Rattle.c_tree.specs.Grammar.{ends_in_label}
 use Rattle.c_tree.specs.Symbols.{Symbol, Word, Mark, Bare}
 use Rattle.c_tree.specs.Tree as tree
 use Rattle.c_tree.specs.Words.{TypeNames, InBlock}
-use Rattle.c_expr_parse.specs.Tests.{begins_expr, begins_specifier}
+use Rattle.c_parse_words.specs.Tests.{begins_expr, begins_specifier}
 
 abbrev pub is_else : Option Symbol → Bool
 is_else (Some (Bare separator.Else)) = true

@@ -6,9 +6,9 @@ use Rattle.c_tree.specs.Grammar.{WithName, names_after, type_names}
 use Rattle.c_tree.specs.Symbols.{Symbol}
 use Rattle.c_tree.specs.Tree as tree
 use Rattle.c_tree.specs.Words.{TypeNames, AtFile, has_typedef}
-use Rattle.c_expr_parse.specs.ExprRules.{take}
+use Rattle.c_parse_words.specs.WordRules.{take}
+use Rattle.c_parse_words.specs.Tests.{is_close_brace, is_semicolon, open_brace, equals_sign, begins_specifier, begins_declarator}
 use Rattle.c_expr_parse.specs.Rules.{rules}
-use Rattle.c_expr_parse.specs.Tests.{is_close_brace, is_semicolon, open_brace, equals_sign, begins_specifier, begins_declarator}
 use Rattle.c_parser.specs.DeclarationRules.{with_initialiser, declarators_from}
 use Rattle.c_parser.specs.StatementRules.{block_items, statement}
 

@@ -5,15 +5,19 @@ ghost use Rattle.c_tree.specs.Grammar.{names_after, names_after_all};
 ghost use Rattle.c_tree.specs.StatementViews.{declaration_view};
 ghost use Rattle.c_tree.specs.Views.{declarator_view, specifiers_view};
 ghost use Rattle.c_tree.specs.Words.{InBlock, TypeNames, has_typedef};
+ghost use Rattle.c_parse_words.specs.Seen.{after_skip, names_of, Reads};
+ghost use Rattle.c_parse_words.specs.Tests as tests;
 ghost use Rattle.c_expr_parse.specs.Rules.{rules};
-ghost use Rattle.c_expr_parse.specs.Seen.{after_skip, names_of, Reads};
-ghost use Rattle.c_expr_parse.specs.Tests as tests;
 ghost use Rattle.c_parser.specs.DeclarationRules as spec;
 ghost use Rattle.c_parser.specs.Seen.{init_declarators_seen};
 
 use crate::reader::Reader;
 use crate::tokens::expect_semicolon;
-use c_expr_parse::{Cursor, Naming, Scope, Stop, begins_declarator, equals_sign, is_comma};
+use c_parse_words::begins::{Naming, begins_declarator};
+use c_parse_words::cursor::Cursor;
+use c_parse_words::lookahead::{equals_sign, is_comma};
+use c_parse_words::stop::Stop;
+use c_parse_words::words::Scope;
 use c_tree::{Declaration, Declarator, InitDeclarator, Items, Specifiers};
 
 impl<'a> Reader<'a> {

@@ -8,9 +8,9 @@ ghost use Rattle.c_tree.specs.Tree as tree;
 ghost use Rattle.c_tree.specs.Views.{declarator_view, specifier_view, specifiers_view};
 ghost use Rattle.c_tree.specs.Words as words;
 ghost use Rattle.c_tree.specs.Words.{TypeNames};
+ghost use Rattle.c_parse_words.specs.Seen.{after_skip, names_of, Reads};
+ghost use Rattle.c_parse_words.specs.Tests as tests;
 ghost use Rattle.c_expr_parse.specs.Rules.{rules};
-ghost use Rattle.c_expr_parse.specs.Seen.{after_skip, names_of, Reads};
-ghost use Rattle.c_expr_parse.specs.Tests as tests;
 ghost use Rattle.c_parser.specs.DeclarationRules as declarations;
 ghost use Rattle.c_parser.specs.Names.{IsNew};
 ghost use Rattle.c_parser.specs.Seen.{init_declarators_seen, unit_seen};
@@ -19,11 +19,12 @@ ghost use Rattle.c_parser.specs.UnitRules as spec;
 use crate::reader::Reader;
 use crate::statements::{Statements, read_statement};
 use crate::tokens::{expect_close_brace, expect_semicolon, take_open_brace};
-use c_expr_parse::{
-    Cursor, Naming, Scope, Stop, begins_declarator, begins_specifier, is_comma, open_brace,
-    too_deep,
-};
 use c_lexer::Keyword;
+use c_parse_words::begins::{Naming, begins_declarator, begins_specifier};
+use c_parse_words::cursor::Cursor;
+use c_parse_words::lookahead::{is_comma, open_brace};
+use c_parse_words::stop::{Stop, too_deep};
+use c_parse_words::words::Scope;
 use c_tree::{
     Declaration, Declarator, External, FunctionDefinition, InitDeclarator, Items, Specifier,
     Specifiers,

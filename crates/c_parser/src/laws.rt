@@ -4,7 +4,7 @@ ghost use Rattle.std.specs.Prelude.{◌≡◌, ℕ, false, List};
 ghost use Rattle.parse_rules.specs.Parsers.{Answer};
 ghost use Rattle.parse_rules.specs.Promises.{is_deep};
 ghost use Rattle.parse_rules.specs.Grammars.{Supported, Each};
-ghost use Rattle.c_expr_parse.specs.Written.{IsWritten};
+ghost use Rattle.c_parse_words.specs.Written.{IsWritten};
 ghost use Rattle.c_tree.specs.Symbols.{Symbol};
 ghost use Rattle.c_tree.specs.Tree.{TranslationUnit};
 ghost use Rattle.c_parser.specs.Answers.{SpellsUnit, UnitAnswered};

@@ -1,11 +1,12 @@
 //! What the next token says of statements (C99 6.8).
 ghost use Rattle.std.specs.Prelude.{◌≡◌};
-ghost use Rattle.c_expr_parse.specs.Seen.{names_of, next_view};
+ghost use Rattle.c_parse_words.specs.Seen.{names_of, next_view};
 ghost use Rattle.c_parser.specs.Seen.{label_view, start_view};
 ghost use Rattle.c_parser.specs.Tests as spec;
 
-use c_expr_parse::{Next, begins_expr};
 use c_lexer::{Keyword, Punctuator};
+use c_parse_words::begins::begins_expr;
+use c_parse_words::next::Next;
 use c_tree::Separator;
 use cc_base::Place;
 use indexmap::IndexSet;

@@ -2,16 +2,17 @@
 ghost use Rattle.std.specs.Prelude.{◌≡◌, option_map};
 ghost use Rattle.c_tree.specs.StatementViews.{initialiser_view};
 ghost use Rattle.c_tree.specs.Views.{declarator_view, expr_view, specifiers_view};
+ghost use Rattle.c_parse_words.specs.Seen.{names_of, naming_view, scope_view, Reads};
+ghost use Rattle.c_parse_words.specs.Tests.{is_close_paren, is_semicolon};
 ghost use Rattle.c_expr_parse.specs.Rules.{rules, initialiser};
-ghost use Rattle.c_expr_parse.specs.Seen.{names_of, naming_view, scope_view, Reads};
-ghost use Rattle.c_expr_parse.specs.Tests.{is_close_paren, is_semicolon};
 ghost use Rattle.c_parser.specs.StatementRules as spec;
 
 use crate::tokens::{expect_close_paren, expect_semicolon};
-use c_expr_parse::{
-    Cursor, Naming, Scope, Stop, begins_expr, read_declarator, read_expr, read_initialiser,
-    read_specifiers,
-};
+use c_expr_parse::{read_declarator, read_expr, read_initialiser, read_specifiers};
+use c_parse_words::begins::{Naming, begins_expr};
+use c_parse_words::cursor::Cursor;
+use c_parse_words::stop::Stop;
+use c_parse_words::words::Scope;
 use c_tree::{Declarator, Expr, Initialiser, Specifiers};
 use indexmap::IndexSet;
 use std::alloc::Global;

@@ -2,7 +2,7 @@
 ghost use Rattle.std.specs.Prelude.{◌≡◌, option_map};
 ghost use Rattle.c_tree.specs.StatementViews.{statement_view};
 ghost use Rattle.c_tree.specs.Views.{expr_view};
-ghost use Rattle.c_expr_parse.specs.Seen.{names_of, Reads};
+ghost use Rattle.c_parse_words.specs.Seen.{names_of, Reads};
 ghost use Rattle.c_parser.specs.Nests.{NestsStatements};
 ghost use Rattle.c_parser.specs.Seen.{for_made, start_view};
 ghost use Rattle.c_parser.specs.StatementRules as spec;
@@ -11,7 +11,10 @@ ghost use Rattle.c_parser.specs.Tests as tests;
 use crate::lookahead::{StatementStart, begins_statement, is_else, statement_start, while_word};
 use crate::reader::Reader;
 use crate::tokens::{expect_close_brace, expect_semicolon, take, take_open_brace, take_open_paren};
-use c_expr_parse::{Cursor, Scope, Stop, begins_specifier, too_deep};
+use c_parse_words::begins::begins_specifier;
+use c_parse_words::cursor::Cursor;
+use c_parse_words::stop::{Stop, too_deep};
+use c_parse_words::words::Scope;
 use c_tree::{Boxed, Declaration, Expr, Statement};
 use cc_base::Place;
 use indexmap::IndexSet;
@@ -99,7 +102,7 @@ impl<
         Ok(Statement::IfElse(at, paren, test, then, other))
     }
 
-    #[tactic(auto, unfolding(crate::specs::StatementRules::statement_from, c_expr_parse::specs::ExprRules::take))]
+    #[tactic(auto, unfolding(crate::specs::StatementRules::statement_from, c_parse_words::specs::WordRules::take))]
     fn if_statement(&self, cursor: &mut Cursor<'_>, at: Place) -> Result<Statement, Stop>
         requires { NestsStatements self.now.reader.names.now self.now.reader.depth (S.pre self.now.read_inner) (S.post self.now.read_inner) }
         ensures { Reads statement_view (spec.statement_from (names_of self.now.reader.names.now) self.now.reader.depth (spec.statement (names_of self.now.reader.names.now) self.now.reader.depth) (tests.StartIf at) cursor.old) result cursor.new }
@@ -111,7 +114,7 @@ impl<
         self.with_else(cursor, at, paren, test, then)
     }
 
-    #[tactic(auto, using(c_tree::proofs::StatementViewLaws::statement_views), unfolding(crate::specs::StatementRules::statement_from, c_expr_parse::specs::ExprRules::take))]
+    #[tactic(auto, using(c_tree::proofs::StatementViewLaws::statement_views), unfolding(crate::specs::StatementRules::statement_from, c_parse_words::specs::WordRules::take))]
     fn switch_statement(&self, cursor: &mut Cursor<'_>, at: Place) -> Result<Statement, Stop>
         requires { NestsStatements self.now.reader.names.now self.now.reader.depth (S.pre self.now.read_inner) (S.post self.now.read_inner) }
         ensures { Reads statement_view (spec.statement_from (names_of self.now.reader.names.now) self.now.reader.depth (spec.statement (names_of self.now.reader.names.now) self.now.reader.depth) (tests.StartSwitch at) cursor.old) result cursor.new }
@@ -125,7 +128,7 @@ impl<
         Ok(Statement::Switch(at, paren, e, brace, items))
     }
 
-    #[tactic(auto, using(c_tree::proofs::StatementViewLaws::statement_views), unfolding(crate::specs::StatementRules::statement_from, c_expr_parse::specs::ExprRules::take))]
+    #[tactic(auto, using(c_tree::proofs::StatementViewLaws::statement_views), unfolding(crate::specs::StatementRules::statement_from, c_parse_words::specs::WordRules::take))]
     fn while_statement(&self, cursor: &mut Cursor<'_>, at: Place) -> Result<Statement, Stop>
         requires { NestsStatements self.now.reader.names.now self.now.reader.depth (S.pre self.now.read_inner) (S.post self.now.read_inner) }
         ensures { Reads statement_view (spec.statement_from (names_of self.now.reader.names.now) self.now.reader.depth (spec.statement (names_of self.now.reader.names.now) self.now.reader.depth) (tests.StartWhile at) cursor.old) result cursor.new }
@@ -137,7 +140,7 @@ impl<
         Ok(Statement::While(at, paren, test, body))
     }
 
-    #[tactic(auto, using(c_tree::proofs::StatementViewLaws::statement_views), unfolding(crate::specs::StatementRules::statement_from, c_expr_parse::specs::ExprRules::take))]
+    #[tactic(auto, using(c_tree::proofs::StatementViewLaws::statement_views), unfolding(crate::specs::StatementRules::statement_from, c_parse_words::specs::WordRules::take))]
     fn do_statement(&self, cursor: &mut Cursor<'_>) -> Result<Statement, Stop>
         requires { NestsStatements self.now.reader.names.now self.now.reader.depth (S.pre self.now.read_inner) (S.post self.now.read_inner) }
         ensures { Reads statement_view (spec.statement_from (names_of self.now.reader.names.now) self.now.reader.depth (spec.statement (names_of self.now.reader.names.now) self.now.reader.depth) tests.StartDo cursor.old) result cursor.new }
@@ -194,7 +197,7 @@ impl<
         self.for_rest(cursor, at, paren, ForStart::Declaration(first))
     }
 
-    #[tactic(auto, unfolding(crate::specs::StatementRules::statement_from, c_expr_parse::specs::ExprRules::take))]
+    #[tactic(auto, unfolding(crate::specs::StatementRules::statement_from, c_parse_words::specs::WordRules::take))]
     fn for_statement(&self, cursor: &mut Cursor<'_>, at: Place) -> Result<Statement, Stop>
         requires { NestsStatements self.now.reader.names.now self.now.reader.depth (S.pre self.now.read_inner) (S.post self.now.read_inner) }
         ensures { Reads statement_view (spec.statement_from (names_of self.now.reader.names.now) self.now.reader.depth (spec.statement (names_of self.now.reader.names.now) self.now.reader.depth) (tests.StartFor at) cursor.old) result cursor.new }

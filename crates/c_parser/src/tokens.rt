@@ -1,17 +1,19 @@
 //! Single tokens that a rule asks for.
 ghost use Rattle.std.specs.Prelude.{◌≡◌, Bool};
 ghost use Rattle.parse_rules.specs.Parsers.{expect};
-ghost use Rattle.c_expr_parse.specs.ExprRules as parts;
-ghost use Rattle.c_expr_parse.specs.Seen.{head, Reads};
-ghost use Rattle.c_expr_parse.specs.Tests as tests;
+ghost use Rattle.c_parse_words.specs.WordRules as parts;
+ghost use Rattle.c_parse_words.specs.Seen.{head, Reads};
+ghost use Rattle.c_parse_words.specs.Tests as tests;
 
-use c_expr_parse::{
-    Cursor, Stop, is_close_brace, is_close_paren, is_colon, is_semicolon, open_brace, open_paren,
+use c_parse_words::cursor::Cursor;
+use c_parse_words::lookahead::{
+    is_close_brace, is_close_paren, is_colon, is_semicolon, open_brace, open_paren,
 };
+use c_parse_words::stop::Stop;
 use cc_base::Place;
 
 /// Goes past the token that was found to be the one wanted, and gives its place; refuses any other.
-#[tactic(auto, unfolding(c_expr_parse::specs::ExprRules::take))]
+#[tactic(auto, unfolding(c_parse_words::specs::WordRules::take))]
 pub fn take(cursor: &mut Cursor<'_>, found: Option<Place>) -> Result<Place, Stop>
     ensures { Reads (λ at. at) (parts.take (λ _. found) cursor.old) result cursor.new }
 {
@@ -22,7 +24,7 @@ pub fn take(cursor: &mut Cursor<'_>, found: Option<Place>) -> Result<Place, Stop
     Ok(at)
 }
 
-#[tactic(auto, unfolding(c_expr_parse::specs::ExprRules::take))]
+#[tactic(auto, unfolding(c_parse_words::specs::WordRules::take))]
 pub fn take_open_paren(cursor: &mut Cursor<'_>) -> Result<Place, Stop>
     ensures { Reads (λ at. at) (parts.take tests.open_paren cursor.old) result cursor.new }
 {
@@ -30,7 +32,7 @@ pub fn take_open_paren(cursor: &mut Cursor<'_>) -> Result<Place, Stop>
     take(cursor, found)
 }
 
-#[tactic(auto, unfolding(c_expr_parse::specs::ExprRules::take))]
+#[tactic(auto, unfolding(c_parse_words::specs::WordRules::take))]
 pub fn take_open_brace(cursor: &mut Cursor<'_>) -> Result<Place, Stop>
     ensures { Reads (λ at. at) (parts.take tests.open_brace cursor.old) result cursor.new }
 {

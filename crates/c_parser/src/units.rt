@@ -7,14 +7,16 @@ ghost use Rattle.c_tree.specs.Depth.{unit_height};
 ghost use Rattle.c_tree.specs.StatementViews.{unit_view};
 ghost use Rattle.c_tree.specs.Symbols.{symbol_of};
 ghost use Rattle.c_tree.specs.Tree.{TranslationUnit};
+ghost use Rattle.c_parse_words.specs.Seen.{Reads};
 ghost use Rattle.c_expr_parse.specs.Calls.{IsFault};
-ghost use Rattle.c_expr_parse.specs.Seen.{Reads};
 ghost use Rattle.c_parser.specs.Answers.{SpellsUnit, UnitAnswered};
 ghost use Rattle.c_parser.specs.UnitRules as spec;
 
 use crate::externals::externals;
-use c_expr_parse::{Cursor, Stop, fault_of};
 use c_lexer::Token;
+use c_parse_words::cursor::Cursor;
+use c_parse_words::fault::fault_of;
+use c_parse_words::stop::Stop;
 use c_tree::Unit;
 use cc_base::Fault;
 use indexmap::IndexSet;

@@ -2,8 +2,8 @@ use Rattle.std.proofs.Common.{◌-◌}
 use Rattle.c_tree.specs.Depth.{declarator_height}
 use Rattle.c_tree.specs.Grammar.{WithName}
 use Rattle.c_tree.specs.Views.{declarator_view}
+use Rattle.c_parse_words.specs.Seen.{names_of}
 use Rattle.c_expr_parse.specs.Parts.{SpellsDeclarator}
-use Rattle.c_expr_parse.specs.Seen.{names_of}
 use Rattle.c_expr_parse.proofs.CallAnswers.{declarator_right}
 use Rattle.c_expr_parse.proofs.CallLaws.{read_inside, read_to, stopped_at}
 use Rattle.c_expr_parse.proofs.calls.parse_declarator.Goals as goal

@@ -1,9 +1,9 @@
 use Rattle.std.proofs.Common.{◌-◌}
 use Rattle.c_tree.specs.Depth.{expr_height}
 use Rattle.c_tree.specs.Views.{expr_view}
+use Rattle.c_parse_words.specs.Seen.{names_of}
 use Rattle.c_expr_parse.specs.Calls as spec
 use Rattle.c_expr_parse.specs.Parts.{SpellsExpr}
-use Rattle.c_expr_parse.specs.Seen.{names_of}
 use Rattle.c_expr_parse.proofs.CallAnswers.{expr_right}
 use Rattle.c_expr_parse.proofs.CallLaws.{read_inside, read_to, stopped_at}
 use Rattle.c_expr_parse.proofs.calls.parse_expr.Goals as goal

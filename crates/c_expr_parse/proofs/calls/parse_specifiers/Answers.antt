@@ -1,10 +1,9 @@
 use Rattle.std.proofs.Common.{◌-◌}
 use Rattle.c_tree.specs.Depth.{specifier_list_height}
 use Rattle.c_tree.specs.Views.{specifiers_view}
+use Rattle.c_parse_words.specs.Seen.{scope_view, names_of}
 use Rattle.c_expr_parse.specs.Calls as spec
 use Rattle.c_expr_parse.specs.Parts.{SpellsSpecifiers}
-use Rattle.c_expr_parse.specs.Seen.{scope_view}
-use Rattle.c_expr_parse.specs.Seen.{names_of}
 use Rattle.c_expr_parse.proofs.CallAnswers.{specifiers_right}
 use Rattle.c_expr_parse.proofs.CallLaws.{read_inside, read_to, stopped_at}
 use Rattle.c_expr_parse.proofs.calls.parse_specifiers.Goals as goal

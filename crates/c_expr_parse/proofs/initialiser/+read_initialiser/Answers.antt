@@ -1,7 +1,7 @@
 use Rattle.std.proofs.Common.{◌≡◌, ◌∙◌, Some, None, sym, ap, arith}
 use Rattle.parse_rules.specs.Parsers.{first}
-use Rattle.c_expr_parse.specs.Seen.{names_of}
-use Rattle.c_expr_parse.specs.Tests.{open_brace, begins_initialiser}
+use Rattle.c_parse_words.specs.Seen.{names_of}
+use Rattle.c_parse_words.specs.Tests.{open_brace, begins_initialiser}
 use Rattle.c_expr_parse.proofs.InitialiserCases.{no_initialiser, value_comes, list_comes}
 use Rattle.c_expr_parse.proofs.initialiser.+read_initialiser.Goals as goal
 

@@ -1,7 +1,7 @@
 use Rattle.parse_rules.proofs.OneAnswer.{one_answer, read_not_deep}
 use Rattle.c_tree.specs.Depth.{initialiser_height}
+use Rattle.c_parse_words.specs.Written.{IsWritten}
 use Rattle.c_expr_parse.specs.Parts.{SpellsInitialiser}
-use Rattle.c_expr_parse.specs.Written.{IsWritten}
 use Rattle.c_expr_parse.proofs.AllReads.{inner_reads}
 use Rattle.c_expr_parse.proofs.Promised.{one_initialiser}
 use Rattle.c_expr_parse.proofs.laws.initialisers_are_answered_once.Goals as goal

@@ -1,7 +1,7 @@
 use Rattle.parse_rules.proofs.OneAnswer.{one_answer, read_not_deep}
 use Rattle.c_tree.specs.Depth.{specifier_list_height}
+use Rattle.c_parse_words.specs.Written.{IsWritten}
 use Rattle.c_expr_parse.specs.Parts.{SpellsSpecifiers}
-use Rattle.c_expr_parse.specs.Written.{IsWritten}
 use Rattle.c_expr_parse.proofs.AllReads.{inner_reads}
 use Rattle.c_expr_parse.proofs.Promised.{one_list}
 use Rattle.c_expr_parse.proofs.laws.specifiers_are_answered_once.Goals as goal

@@ -1,7 +1,7 @@
 use Rattle.std.proofs.Common.{◌∙◌, ap}
 use Rattle.c_tree.specs.Views.{expr_view, specifiers_view, declarator_view}
-use Rattle.c_expr_parse.specs.Seen.{names_of, scope_view, naming_view}
-use Rattle.c_expr_parse.specs.Tests as tests
+use Rattle.c_parse_words.specs.Seen.{names_of, scope_view, naming_view}
+use Rattle.c_parse_words.specs.Tests as tests
 use Rattle.c_expr_parse.proofs.Layers.{no_expr, no_specifiers, no_declarator, some_expr, some_specifiers, some_declarator}
 use Rattle.c_expr_parse.proofs.nesting.+parts.Goals as goal
 

@@ -1,5 +1,5 @@
 use Rattle.std.proofs.Common.{rules}
-use Rattle.c_expr_parse.proofs.Rounds.{stops, goes, fails}
+use Rattle.c_parse_words.proofs.Rounds.{stops, goes, fails}
 use Rattle.c_parser.proofs.NameInsertion.{step_at}
 use Rattle.c_parser.proofs.externals.declarators.Goals as goal
 

@@ -1,9 +1,9 @@
 use Rattle.std.proofs.Common.{◌≡◌}
 use Rattle.c_tree.specs.Grammar.{names_after_all}
 use Rattle.c_tree.specs.Views.{declarator_view}
-use Rattle.c_expr_parse.specs.Seen.{after_skip, names_of}
-use Rattle.c_expr_parse.specs.Tests.{is_comma}
-use Rattle.c_expr_parse.proofs.Rounds.{IsInRound}
+use Rattle.c_parse_words.specs.Seen.{after_skip, names_of}
+use Rattle.c_parse_words.specs.Tests.{is_comma}
+use Rattle.c_parse_words.proofs.Rounds.{IsInRound}
 use Rattle.c_parser.specs.DeclarationRules.{next_declarator}
 use Rattle.c_parser.specs.Seen.{init_declarators_seen}
 use Rattle.c_parser.specs.UnitRules.{declarators_after}

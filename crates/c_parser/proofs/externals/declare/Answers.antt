@@ -2,7 +2,7 @@ use Rattle.std.proofs.Common.{ap, sym, ◌∙◌, ◌≡◌, Some, map, reverse}
 use Rattle.std.specs.Prelude.{option_map}
 use Rattle.c_tree.specs.Grammar.{declared_name, names_after}
 use Rattle.c_tree.specs.Views.{declarator_view}
-use Rattle.c_expr_parse.specs.Seen.{names_of}
+use Rattle.c_parse_words.specs.Seen.{names_of}
 use Rattle.c_parser.proofs.NameInsertion.{declared_after, inserted, name_is}
 use Rattle.c_parser.proofs.externals.declare.Goals as goal
 

@@ -1,8 +1,8 @@
 use Rattle.std.proofs.Common.{ap, ◌∙◌, rules}
 use Rattle.c_tree.specs.Words.{AtFile}
-use Rattle.c_expr_parse.specs.Seen.{next_view}
-use Rattle.c_expr_parse.specs.Tests.{begins_specifier}
-use Rattle.c_expr_parse.proofs.StateRounds.{state_stops, state_goes, state_fails}
+use Rattle.c_parse_words.specs.Seen.{next_view}
+use Rattle.c_parse_words.specs.Tests.{begins_specifier}
+use Rattle.c_parse_words.proofs.StateRounds.{state_stops, state_goes, state_fails}
 use Rattle.c_parser.proofs.externals.externals.Goals as goal
 
 pub returns-then-not-begins_specifier : goal.returns-then-not-begins_specifier

@@ -3,9 +3,9 @@ use Rattle.parse_rules.specs.Parsers.{loop}
 use Rattle.c_tree.specs.Grammar.{type_names}
 use Rattle.c_tree.specs.Tree.{NoExternal}
 use Rattle.c_tree.specs.Words.{AtFile}
-use Rattle.c_expr_parse.specs.Seen.{names_of}
-use Rattle.c_expr_parse.specs.Tests.{begins_specifier}
-use Rattle.c_expr_parse.proofs.StateRounds.{IsInStateRound}
+use Rattle.c_parse_words.specs.Seen.{names_of}
+use Rattle.c_parse_words.specs.Tests.{begins_specifier}
+use Rattle.c_parse_words.proofs.StateRounds.{IsInStateRound}
 use Rattle.c_parser.specs.Seen.{unit_seen}
 use Rattle.c_parser.specs.UnitRules.{external}
 use Rattle.c_parser.proofs.externals.externals.Given as goal

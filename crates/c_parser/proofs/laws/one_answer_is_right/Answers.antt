@@ -1,6 +1,6 @@
 use Rattle.parse_rules.proofs.OneAnswer.{one_whole_answer}
 use Rattle.c_tree.specs.Depth.{unit_height}
-use Rattle.c_expr_parse.specs.Written.{IsWritten}
+use Rattle.c_parse_words.specs.Written.{IsWritten}
 use Rattle.c_parser.specs.Answers.{SpellsUnit}
 use Rattle.c_parser.proofs.UnitPromised.{one_unit}
 use Rattle.c_parser.proofs.laws.one_answer_is_right.Goals as goal

@@ -1,5 +1,5 @@
 use Rattle.std.proofs.Common.{◌∙◌, ap}
-use Rattle.c_expr_parse.specs.Seen.{names_of}
+use Rattle.c_parse_words.specs.Seen.{names_of}
 use Rattle.c_parser.specs.Seen.{start_view}
 use Rattle.c_parser.specs.Tests.{begins_statement, statement_start}
 use Rattle.c_parser.proofs.StatementNodes.{no_statement, some_statement}

@@ -1,5 +1,5 @@
 use Rattle.std.proofs.Common.{rules}
-use Rattle.c_expr_parse.proofs.Rounds.{stops, goes, fails}
+use Rattle.c_parse_words.proofs.Rounds.{stops, goes, fails}
 use Rattle.c_expr_parse.proofs.grammar.Grammar.more_arguments.Goals as goal
 
 pub returns-then-not-is_comma-clause-reads : goal.returns-then-not-is_comma-clause-reads

@@ -2,12 +2,12 @@ use Rattle.std.proofs.Common.{map}
 use Rattle.parse_rules.specs.Parsers.{loop}
 use Rattle.c_tree.specs.Depth.{arguments_height}
 use Rattle.c_tree.specs.Views.{arguments_of, expr_view}
+use Rattle.c_parse_words.specs.Tests as tests
+use Rattle.c_parse_words.specs.Seen.{names_of, after_skip}
+use Rattle.c_parse_words.proofs.Rounds.{IsInRound}
 use Rattle.c_expr_parse.specs.ExprRules as spec
-use Rattle.c_expr_parse.specs.Tests as tests
 use Rattle.c_expr_parse.specs.Rules.{rules}
-use Rattle.c_expr_parse.specs.Seen.{names_of, after_skip}
 use Rattle.c_expr_parse.specs.Nests.{IsMeasured}
-use Rattle.c_expr_parse.proofs.Rounds.{IsInRound}
 use Rattle.c_expr_parse.proofs.grammar.Grammar.more_arguments.Given as goal
 
 abbrev pub invariant-loop-turn : goal.invariant-loop-turn

@@ -1,12 +1,12 @@
 use Rattle.parse_rules.specs.Parsers.{loop}
 use Rattle.c_tree.specs.Depth.{enumerators_height}
-use Rattle.c_expr_parse.specs.Lists.{enumerators_seen}
+use Rattle.c_parse_words.specs.Lists.{enumerators_seen}
+use Rattle.c_parse_words.specs.Seen.{names_of}
+use Rattle.c_parse_words.proofs.StateRounds.{IsInStateRound}
 use Rattle.c_expr_parse.specs.TypeRules as spec
 use Rattle.c_expr_parse.specs.TypeRules.{Upto}
 use Rattle.c_expr_parse.specs.Rules.{rules}
-use Rattle.c_expr_parse.specs.Seen.{names_of}
 use Rattle.c_expr_parse.specs.Nests.{IsMeasured}
-use Rattle.c_expr_parse.proofs.StateRounds.{IsInStateRound}
 use Rattle.c_expr_parse.proofs.grammar.Grammar.more_enumerators.Given as goal
 
 abbrev pub invariant-loop-turn : goal.invariant-loop-turn

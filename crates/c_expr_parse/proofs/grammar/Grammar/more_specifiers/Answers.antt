@@ -1,5 +1,5 @@
 use Rattle.std.proofs.Common.{rules}
-use Rattle.c_expr_parse.proofs.Rounds.{stops, goes, fails}
+use Rattle.c_parse_words.proofs.Rounds.{stops, goes, fails}
 use Rattle.c_expr_parse.proofs.grammar.Grammar.more_specifiers.Goals as goal
 
 pub returns-then-not-begins_specifier-clause-reads : goal.returns-then-not-begins_specifier-clause-reads

@@ -1,7 +1,7 @@
 use Rattle.std.proofs.Common.{◌∙◌, ap}
 use Rattle.c_tree.specs.Views.{expr_view}
-use Rattle.c_expr_parse.specs.Seen.{names_of}
-use Rattle.c_expr_parse.specs.Tests as tests
+use Rattle.c_parse_words.specs.Seen.{names_of}
+use Rattle.c_parse_words.specs.Tests as tests
 use Rattle.c_expr_parse.proofs.Layers.{no_paren, some_paren}
 use Rattle.c_expr_parse.proofs.grammar.Grammar.paren_below.Goals as goal
 

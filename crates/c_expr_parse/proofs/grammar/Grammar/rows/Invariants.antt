@@ -1,13 +1,13 @@
 use Rattle.parse_rules.specs.Parsers.{loop}
 use Rattle.c_tree.specs.Depth.{members_height}
-use Rattle.c_expr_parse.specs.Lists.{members_seen}
+use Rattle.c_parse_words.specs.Lists.{members_seen}
 use Rattle.c_tree.specs.Words.{InType}
+use Rattle.c_parse_words.specs.Tests as tests
+use Rattle.c_parse_words.specs.Seen.{names_of}
+use Rattle.c_parse_words.proofs.Rounds.{IsInRound}
 use Rattle.c_expr_parse.specs.TypeRules as spec
-use Rattle.c_expr_parse.specs.Tests as tests
 use Rattle.c_expr_parse.specs.Rules.{rules}
-use Rattle.c_expr_parse.specs.Seen.{names_of}
 use Rattle.c_expr_parse.specs.Nests.{IsMeasured}
-use Rattle.c_expr_parse.proofs.Rounds.{IsInRound}
 use Rattle.c_expr_parse.proofs.grammar.Grammar.rows.Given as goal
 
 abbrev pub invariant-loop-turn : goal.invariant-loop-turn

@@ -1,8 +1,8 @@
 use Rattle.std.proofs.Common.{◌≡◌, ◌∙◌, Bool, true, false, Option, refl, rules}
 use Rattle.c_tree.specs.Symbols.{Symbol}
-use Rattle.c_expr_parse.specs.Lists.{items_seen, series_goes_on}
+use Rattle.c_parse_words.specs.Lists.{items_seen, series_goes_on}
+use Rattle.c_parse_words.proofs.StateRounds.{state_stops, state_goes, state_fails}
 use Rattle.c_expr_parse.specs.TypeRules.{Upto, goes_on_series}
-use Rattle.c_expr_parse.proofs.StateRounds.{state_stops, state_goes, state_fails}
 use Rattle.c_expr_parse.proofs.initialiser_list.Braces.more_items.Goals as goal
 
 same : {A : Type 0} (x : A) (comma : Bool) (next : Option Symbol) → series_goes_on comma next ≡ goes_on_series (Upto x comma) next

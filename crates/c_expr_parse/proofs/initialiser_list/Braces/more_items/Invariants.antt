@@ -1,11 +1,11 @@
 use Rattle.parse_rules.specs.Parsers.{loop}
 use Rattle.c_tree.specs.Depth.{items_height}
-use Rattle.c_expr_parse.specs.Lists.{items_seen}
+use Rattle.c_parse_words.specs.Lists.{items_seen}
+use Rattle.c_parse_words.specs.Seen.{names_of}
+use Rattle.c_parse_words.proofs.StateRounds.{IsInStateRound}
 use Rattle.c_expr_parse.specs.Rules as spec
 use Rattle.c_expr_parse.specs.TypeRules.{goes_on_series, Upto}
-use Rattle.c_expr_parse.specs.Seen.{names_of}
 use Rattle.c_expr_parse.specs.Nests.{IsMeasured}
-use Rattle.c_expr_parse.proofs.StateRounds.{IsInStateRound}
 use Rattle.c_expr_parse.proofs.initialiser_list.Braces.more_items.Given as goal
 
 abbrev pub invariant-loop-turn : goal.invariant-loop-turn

@@ -1,5 +1,5 @@
 use Rattle.std.proofs.Common.{rules}
-use Rattle.c_expr_parse.proofs.Rounds.{stops, goes, fails}
+use Rattle.c_parse_words.proofs.Rounds.{stops, goes, fails}
 use Rattle.c_parser.proofs.reader.Reader.more_declarators.Goals as goal
 
 pub returns-then-not-is_comma : goal.returns-then-not-is_comma

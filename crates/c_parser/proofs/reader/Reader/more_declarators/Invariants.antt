@@ -1,8 +1,8 @@
 use Rattle.std.proofs.Common.{false}
 use Rattle.c_tree.specs.Grammar.{names_after_all}
-use Rattle.c_expr_parse.specs.Seen.{names_of, after_skip}
-use Rattle.c_expr_parse.specs.Tests.{is_comma}
-use Rattle.c_expr_parse.proofs.Rounds.{IsInRound}
+use Rattle.c_parse_words.specs.Seen.{names_of, after_skip}
+use Rattle.c_parse_words.specs.Tests.{is_comma}
+use Rattle.c_parse_words.proofs.Rounds.{IsInRound}
 use Rattle.c_parser.specs.DeclarationRules.{declarators_from, next_declarator}
 use Rattle.c_parser.specs.Seen.{init_declarators_seen}
 use Rattle.c_parser.proofs.reader.Reader.more_declarators.Given as goal

@@ -2,9 +2,9 @@ use Rattle.std.proofs.Common.{◌≡◌, ◌∙◌, ap, Bool, List, rules}
 use Rattle.c_tree.specs.StatementViews.{block_view}
 use Rattle.c_tree.specs.Words.{TypeNames}
 use Rattle.c_tree.specs.declared.statement.BlockItem.{BlockItem}
-use Rattle.c_expr_parse.specs.Seen.{names_of, next_view}
-use Rattle.c_expr_parse.specs.declared.next.Next.{Next}
-use Rattle.c_expr_parse.proofs.StateRounds.{state_stops, state_goes, state_fails}
+use Rattle.c_parse_words.specs.Seen.{names_of, next_view}
+use Rattle.c_parse_words.specs.declared.next.Next.{Next}
+use Rattle.c_parse_words.proofs.StateRounds.{state_stops, state_goes, state_fails}
 use Rattle.c_parser.specs.Tests.{begins_item}
 use Rattle.c_parser.proofs.statements.Statements.items.Goals as goal
 

@@ -1,8 +1,8 @@
 use Rattle.parse_rules.specs.Parsers.{loop}
 use Rattle.c_tree.specs.StatementViews.{block_view}
 use Rattle.c_tree.specs.Tree.{NoBlockItem}
-use Rattle.c_expr_parse.specs.Seen.{names_of}
-use Rattle.c_expr_parse.proofs.StateRounds.{IsInStateRound}
+use Rattle.c_parse_words.specs.Seen.{names_of}
+use Rattle.c_parse_words.proofs.StateRounds.{IsInStateRound}
 use Rattle.c_parser.specs.StatementRules.{item_step, statement}
 use Rattle.c_parser.specs.Tests.{begins_item}
 use Rattle.c_parser.proofs.statements.Statements.items.Given as goal

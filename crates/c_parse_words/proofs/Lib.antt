@@ -1,0 +1,16 @@
+pub mod ArrayWordLaws
+pub mod Closers
+pub mod DeclaratorTokens
+pub mod Fresh
+pub mod Memory
+pub mod NameLaws
+pub mod Rounds
+pub mod SpecifierFlags
+pub mod SpecifierTokens
+pub mod Starts
+pub mod StateRounds
+pub mod Take
+pub mod TokenLaws
+pub mod WordLaws
+pub mod WordReads
+pub mod Written

@@ -2,4 +2,3 @@ pub mod Labels
 pub mod CodeViews
 pub mod ContextViews
 pub mod Judged
-pub mod KeptLimits

@@ -15,10 +15,9 @@ use Rattle.c_tree.specs.TypedTree.{TypedTranslationUnit}
 use Rattle.c_tree.specs.declared.typed_unit.Typed.{Typed}
 use Rattle.c_typing.specs.Tests.{first_broken}
 use Rattle.c_check.specs.Judged.{IsAnswered, IsJudged, fault_of}
-use Rattle.c_check.specs.KeptLimits.{KeepsLimits}
-use Rattle.c_unit_limits.proofs.LastingUnits.{whole-globals}
-use Rattle.c_unit_limits.proofs.WholeUnits.{whole-bounded, whole-formed, whole-functions, whole-held}
+use Rattle.c_unit_limits.proofs.UnitLimits.{whole-limits}
 use Rattle.c_unit_typing.specs.DefinitionJudging.{before_unit, judge_unit, judge_whole, judged_unit, main_tests}
+use Rattle.c_unit_typing.specs.Limits.{IsWithinLimits}
 use Rattle.c_unit_typing.specs.UnitJudged.{IsUnitJudged}
 use Rattle.c_unit_typing.specs.UnitJudging.{UnitState, UnitOutcome, Gives, Stops, known_of, obeying, pure}
 use Rattle.c_unit_typing.specs.UnitRefusals.{RefusesUnit}
@@ -93,16 +92,6 @@ breaks-rule u result p t h e =
     let stopped = answered-stops u result p t h e in
     (stopped.0.table, whole-stopped p t u stopped.0 stopped.1)
 
--- the limits that it keeps
-pub keeps-limits : (u : tree.TranslationUnit) (t : Typed) → IsJudged u t → KeepsLimits t.types (typed_unit_view t.unit)
-keeps-limits u t j =
-    let whole = typed_unit_view t.unit in
-    let r = j.after in
-    subst (λ (T : Table). KeepsLimits T whole) (sym j.types) (record {
-      holds = whole-held u whole r j.gives;
-      types = (whole-formed u whole r j.gives).small;
-      objects = λ of d. ((whole-formed u whole r j.gives).sized of d).most;
-      parameters = (whole-bounded u whole r j.gives).0;
-      functions = whole-functions u whole r j.gives;
-      globals = whole-globals u whole r j.gives;
-    })
+-- the limits that it is within
+pub within-limits : (u : tree.TranslationUnit) (t : Typed) → IsJudged u t → IsWithinLimits t.types (typed_unit_view t.unit)
+within-limits u t j = subst (λ (T : Table). IsWithinLimits T (typed_unit_view t.unit)) (sym j.types) (whole-limits u (typed_unit_view t.unit) j.after j.gives)

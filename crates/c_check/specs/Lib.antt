@@ -1,4 +1,3 @@
 pub mod Labels
 pub mod CodeViews
 pub mod Judged
-pub mod KeptLimits

@@ -12,9 +12,9 @@ ghost use Rattle.c_tree.specs.TypedParts.{made_by_unit, nodes_made};
 ghost use Rattle.c_tree.specs.TypedStatementViews.{typed_unit_view};
 ghost use Rattle.c_tree.specs.TypedTree.{TypedTranslationUnit};
 ghost use Rattle.c_check.specs.Judged.{IsAnswered};
-ghost use Rattle.c_check.specs.KeptLimits.{KeepsLimits};
 ghost use Rattle.c_printed.specs.Printing.{AreInOrder, HasPrinted};
 ghost use Rattle.c_unit_typing.specs.DefinitionJudging.{before_unit};
+ghost use Rattle.c_unit_typing.specs.Limits.{IsWithinLimits};
 ghost use Rattle.c_unit_typing.specs.UnitJudging.{known_of};
 ghost use Rattle.c_unit_typing.specs.UnitRefusals.{RefusesUnit};
 ghost use Rattle.c_unit_typing.specs.WellTyped.{IsWellTyped};
@@ -38,7 +38,7 @@ pub fn check(alloc: Global, unit: &Unit) -> Result<Typed, Fault>
     ensures nodes { IfOk result (λ t. t.nodes ≡ length (nodes_made (made_by_unit (typed_unit_view t.unit)))) }
     ensures printed { IfOk result (λ t. HasPrinted (typed_unit_view t.unit) t.printed) }
     ensures ordered { IfOk result (λ t. AreInOrder t.printed) }
-    ensures limited { IfOk result (λ t. KeepsLimits t.types (typed_unit_view t.unit)) }
+    ensures limited { IfOk result (λ t. IsWithinLimits t.types (typed_unit_view t.unit)) }
     ensures refused { (p : At) (rule : Broken) → result ≡ Err (Refused p rule) → (T : Table) × RefusesUnit T (unit_view unit.now) (known_of (before_unit (unit_view unit.now))) (Refused p rule) }
 {
     checked(alloc, unit)

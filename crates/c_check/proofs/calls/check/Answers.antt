@@ -5,9 +5,9 @@ use Rattle.c_tree.specs.TypedParts.{made_by_unit, nodes_made}
 use Rattle.c_tree.specs.TypedStatementViews.{typed_unit_view}
 use Rattle.c_tree.specs.TypedTree.{TypedTranslationUnit}
 use Rattle.c_printed.specs.Printing.{AreInOrder, HasPrinted}
+use Rattle.c_unit_typing.specs.Limits.{IsWithinLimits}
 use Rattle.c_unit_typing.specs.WellTyped.{IsWellTyped}
-use Rattle.c_check.specs.KeptLimits.{KeepsLimits}
-use Rattle.c_check.proofs.UnitFacts.{answered-ok, breaks-rule, counts-nodes, erases, is-only, is-well-typed, keeps-limits}
+use Rattle.c_check.proofs.UnitFacts.{answered-ok, breaks-rule, counts-nodes, erases, is-only, is-well-typed, within-limits}
 use Rattle.c_check.proofs.calls.check.Goals as goal
 
 pub returns-clause-typed : goal.returns-clause-typed
@@ -44,7 +44,7 @@ returns-clause-ordered c =
 pub returns-clause-limited : goal.returns-clause-limited
 returns-clause-limited c =
     let u = unit_view c.args.unit.now in
-    answered-ok u c.checked.result (λ t. KeepsLimits t.types (typed_unit_view t.unit)) (keeps-limits u) c.checked.ensures
+    answered-ok u c.checked.result (λ t. IsWithinLimits t.types (typed_unit_view t.unit)) (within-limits u) c.checked.ensures
 
 pub returns-clause-refused : goal.returns-clause-refused
 returns-clause-refused c p rule e = breaks-rule (unit_view c.args.unit.now) c.checked.result p rule c.checked.ensures e

@@ -7,3 +7,5 @@ pub mod UsedSteps
 pub mod UsedParameters
 pub mod UsedTrees
 pub mod UsedWhole
+pub mod SameChains
+pub mod SameUses

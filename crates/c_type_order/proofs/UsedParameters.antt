@@ -132,6 +132,9 @@ named-same at (Some name) (home.Static k) t u s r q = never-gives u (TooLarge at
 named-same at (Some name) (home.Local k) t u s r q = never-gives u (TooLarge at Types) s r q
 named-same at (Some name) (home.Known k) t u s r q = never-gives u (TooLarge at Types) s r q
 
+made_as : (n : ℕ) (t u : TypeId) (S R : Table) → u ≡ t → IsUsed (λ U. made_in U n t) S R → IsUsed (λ U. made_in U n u) S R
+made_as n t u S R e p = subst (λ (v : TypeId). IsUsed (λ U. made_in U n v) S R) (sym e) p
+
 pub parameter-used : (void : Bool) (at : Place) (adjusting : TypeShape → Option Place) (list made : TypedParameters) (own : TypedSpecifierList) (one : TypedDeclared) (S : Table) (s r : State)
     → IsUsed (λ U. used_by_parameters U list ++ used_by_specifier_list U own ++ used_by_declared U one) S s.table
     → parameter void at adjusting list (specified own) one s ≡ Gives made r → IsUsed (λ U. used_by_parameters U made) S r.table
@@ -154,7 +157,7 @@ parameter-used void at adjusting list made own one S s r p h =
     let types = used-still (λ U. made_in U (parameter_steps a.0 one) t.0) a.1.table t.1.table u.1.table kept.1 (parameter_makes-used at a.0 one base t.0 a.1 t.1 t.2) in
     given-same (λ (w : TypedParameters) (q : State). IsUsed (λ U. used_by_parameters U w) S q.table) (typed.AndParameter list (specified own) one a.0 u.0) made u.1 r u.3
     (then_used (λ U. used_by_parameters U list ++ used_by_specifier_list U own ++ used_by_declared U one) (λ U. made_in U (parameter_steps a.0 one) u.0) S a.1.table u.1.table before
-    (subst (λ (v : TypeId). IsUsed (λ U. made_in U (parameter_steps a.0 one) v) a.1.table u.1.table) (sym kept.0) types))
+    (made_as (parameter_steps a.0 one) t.0 u.0 a.1.table u.1.table kept.0 types))
 
 -- Scopes of prototypes
 

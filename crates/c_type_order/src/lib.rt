@@ -6,3 +6,4 @@
 
 pub mod declarations;
 pub mod expressions;
+pub mod growth;

@@ -9,3 +9,4 @@ pub mod UsedTrees
 pub mod UsedWhole
 pub mod SameChains
 pub mod SameUses
+pub mod UsedValues

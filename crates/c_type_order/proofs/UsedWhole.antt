@@ -40,7 +40,8 @@ use Rattle.c_type_order.proofs.UsedConstructs.{PartUsed, ValueUsed, part_as, val
 use Rattle.c_type_order.proofs.UsedChains.{chain-used, form-chain}
 use Rattle.c_type_order.proofs.UsedSteps.{SpecifierUsed, tagged_by-used}
 use Rattle.c_type_order.proofs.UsedParameters.{scoped}
-use Rattle.c_type_order.proofs.UsedTrees.{value-uses, expr-uses, specifiers-use, form-uses, parameters-use}
+use Rattle.c_type_order.proofs.UsedValues.{value-uses}
+use Rattle.c_type_order.proofs.UsedTrees.{expr-uses, specifiers-use, form-uses, parameters-use}
 
 -- Lists of specifiers
 

@@ -24,6 +24,7 @@ pub mod JudgedDefinitions
 pub mod FunctionParameters
 pub mod JudgedLabels
 pub mod JudgedStatements
+pub mod StatementParts
 pub mod JudgedDeclarations
 pub mod JudgedDeclarators
 pub mod HomeNumbers

@@ -1,0 +1,2 @@
+mod UnitRoom
+mod Runs

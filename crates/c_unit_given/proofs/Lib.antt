@@ -1,2 +1,5 @@
 mod UnitRoom
 mod Runs
+mod Texts
+mod CellsCounted
+mod InitialisersGiven

@@ -73,23 +73,23 @@ unfolding value_or_text
 no_text constant at t (tree.String pieces) s = refl
 no_text constant at t e s = refl
 
-no_chars : (T : Table) (x : TypeShape) → is_scalar_shape x ≡ true → char_count_of_shape T x ≡ None
-no_chars T (Integer bytes signed) h = refl
-no_chars T (Pointer n t) h = refl
-no_chars T Void h = refl
-no_chars T (Array t n) h = no_true h
-no_chars T (Function ps r) h = refl
-no_chars T (Struct n) h = refl
-no_chars T (Union n) h = refl
+pub no-chars : (T : Table) (x : TypeShape) → is_scalar_shape x ≡ true → char_count_of_shape T x ≡ None
+no-chars T (Integer bytes signed) h = refl
+no-chars T (Pointer n t) h = refl
+no-chars T Void h = refl
+no-chars T (Array t n) h = no_true h
+no-chars T (Function ps r) h = refl
+no-chars T (Struct n) h = refl
+no-chars T (Union n) h = refl
 
-no_chars_struct : (T : Table) (x : TypeShape) → is_aggregate_shape x ≡ true → char_count_of_shape T x ≡ None
-no_chars_struct T (Struct n) h = refl
-no_chars_struct T (Union n) h = refl
-no_chars_struct T (Integer bytes signed) h = refl
-no_chars_struct T (Pointer n t) h = refl
-no_chars_struct T Void h = refl
-no_chars_struct T (Array t n) h = no_true h
-no_chars_struct T (Function ps r) h = refl
+pub no-chars-struct : (T : Table) (x : TypeShape) → is_aggregate_shape x ≡ true → char_count_of_shape T x ≡ None
+no-chars-struct T (Struct n) h = refl
+no-chars-struct T (Union n) h = refl
+no-chars-struct T (Integer bytes signed) h = refl
+no-chars-struct T (Pointer n t) h = refl
+no-chars-struct T Void h = refl
+no-chars-struct T (Array t n) h = no_true h
+no-chars-struct T (Function ps r) h = refl
 
 and_not_false : (a b : Bool) → (a ≡ true → b ≡ true) → (a && not b) ≡ false
 and_not_false true b h = ap not (h refl)
@@ -106,10 +106,10 @@ and_right false b h = no_true h
 never : {P : Type 0} (c : Bool) → (c ≡ true → false ≡ true) → c ≡ true → P
 never c h q = no_true (h q)
 
-left-held : (a b n : ℕ) → max a b ≤ n → a ≤ n
+pub left-held : (a b n : ℕ) → max a b ≤ n → a ≤ n
 left-held a b n h = omega (arith, h)
 
-right-held : (a b n : ℕ) → max a b ≤ n → b ≤ n
+pub right-held : (a b n : ℕ) → max a b ≤ n → b ≤ n
 right-held a b n h = omega (arith, h)
 
 module _ (T : Table) (basic : IsBasic T) (exprs : AreExpressionsGiven T) where
@@ -140,10 +140,10 @@ module _ (T : Table) (basic : IsBasic T) (exprs : AreExpressionsGiven T) where
         (and_not_false constant (is_constant r.table homes e)
         (λ q. constant-over r.table T here.here.first here.here.known.basic homes e s0 r.seen.scopes j ∙ h q))
 
-    value_run : (e : TypedExpr) → IsScalar T t → initialiser_holds (tree.Value (erased e)) ≤ 256
+    pub value-run : (e : TypedExpr) → IsScalar T t → initialiser_holds (tree.Value (erased e)) ≤ 256
         → IsRun T (IsWhole t) Nothing (IsInitialising constant (typed.Value e) at t) (made_by e) (used_by T e) (value_for constant at t (erased e)) (typed.Value e)
     unfolding value_for
-    value_run e scalar holds s k n count here c h numbers uses room =
+    value-run e scalar holds s k n count here c h numbers uses room =
         let assigned = h.0.1.2 in
         let one =
         run-lifted T (IsWhole t) Nothing (λ a b. IsTyped T e a b × IsAssigned T b at t e) (made_by e) (used_by T e) _ (checked_value t at true (erased e)) e
@@ -162,3 +162,153 @@ module _ (T : Table) (basic : IsBasic T) (exprs : AreExpressionsGiven T) where
           reached = one.reached;
           gains = tt;
         }
+
+    -- a struct is copied, and its pointers are counted
+    pub copied-run : (p : TypedPlace) → is_aggregate_shape (shape_at T (place_type p)) ≡ true → Rattle.c_typing.specs.Shapes.IsSameType T t (place_type p) → initialiser_holds (tree.Value (erased_place p)) ≤ 256
+        → IsRun T (IsWhole t) Nothing (IsInitialising constant (typed.Copied p at) at t) (made_by_place p ++ Copy (place_type p) ∷ []) (used_by_place T p) (value_for constant at t (erased_place p))
+        (typed.Copied p at)
+    unfolding value_for initialised
+    copied-run p aggregate same holds s k n count here c h numbers uses room =
+        let u : TypeId = place_type p in
+        let cut = two-parts (made_by_place p) (Copy u ∷ []) s.seen.node n numbers in
+        let one =
+        run-lifted T (IsWhole t) Nothing (IsPlace T p) (made_by_place p) (used_by_place T p) _ (checked_value t at true (erased_place p)) (typed.Unread p)
+        (exprs.copied t at p aggregate same holds) (λ q w. needs_type q w) (λ q r y w g. tt) s k cut.0 count here c (h.0.0, h.0.1.0, h.0.2) cut.1 uses (unit-room-first T (made_by_place p) (Copy u ∷ []) s room) in
+        let r : UnitState = one.after in
+        let l = lifted-gives (checked_value t at true (erased_place p)) (typed.Unread p) s r one.gives in
+        let j = checked_value-judged t at true (erased_place p) (typed.Unread p) (state_of s) (state_of r) here.here.known (complete-in s.table t c) l.0 in
+        let pass = constant_passes (expr_place (erased_place p)) (typed.Unread p) r.linkage.statics s.seen.scopes r one.reached.here j.typed (λ q. no_true (h.1 q)) in
+        let known_there = one.reached.here.here in
+        let most = pointers-most T r.table u known_there.first known_there.known.basic j.typed.1 in
+        let rest = (unit-room-then T (made_by_place p) (Copy u ∷ []) s r room one.reached.spent).cells in
+        let counted : State = counting_cells u (state_of r) in
+        let after : UnitState = known counted.table counted.seen r.linkage in
+        let all_known : IsKnown (state_of after) =
+        record { basic = known_there.known.basic; followed = known_there.known.followed; levels = known_there.known.levels; numbered = known_there.known.numbered } in
+        record {
+          after = after;
+          gives = then-is (lifted (checked_value t at true (erased_place p)))
+              (λ v. obeying (λ (q : UnitState). constant_tests q.table constant q.linkage.statics (expr_place (erased_place p)) v) (initialised at v)) (typed.Unread p) s r (Gives (typed.Copied p at) after) one.gives
+              (obeying-is (λ (q : UnitState). constant_tests q.table constant q.linkage.statics (expr_place (erased_place p)) (typed.Unread p)) (initialised at (typed.Unread p)) r
+              (Gives (typed.Copied p at) after) pass
+              (then-is (lifted (count_cells at u)) (λ w. pure (typed.Copied p at)) u r after (Gives (typed.Copied p at) after)
+              (lifted-is (count_cells at u) u r counted (cells-counted at u (state_of r) (omega (arith, most, rest)))) refl));
+          reached = record {
+            here = record {
+              here = record { known = all_known; first = known_there.first; small = small-kept (state_of r) (state_of after) known_there.small refl refl (omega arith); own = known_there.own };
+              unit = record { known = all_known; linked = one.reached.here.unit.linked };
+            };
+            grown = one.reached.grown;
+            known = one.reached.known;
+            node = one.reached.node ∙ sym cut.2;
+            types = one.reached.types;
+            spent = unit-spent-both T (made_by_place p) (Copy u ∷ []) s r after one.reached.spent (record { nodes = omega arith; globals = omega arith; cells = omega (arith, most) });
+          };
+          gains = tt;
+        }
+
+    -- without a count of characters it is a value
+    plain_none : (e : tree.Expr) (s : UnitState) → IsUnitHere T s → IsComplete s.table t → char_count_of_shape T (shape_at T t) ≡ None
+        → judge_plain constant e at (Some t) s ≡ value_for constant at t e s
+    unfolding judge_plain
+    plain_none e s here c q =
+        ap (λ (o : Option ℕ). value_or_text constant at t e o s) (char_count-over s.table T here.here.first here.here.known.basic t (complete-in s.table t c) ∙ q)
+        ∙ no_text constant at t e s
+
+    pub plain-run : (e : tree.Expr) (i : TypedInitialiser) (made : List Made) (us : List Use) → char_count_of_shape T (shape_at T t) ≡ None
+        → IsRun T (IsWhole t) Nothing (IsInitialising constant i at t) made us (value_for constant at t e) i
+        → IsRun T (IsWhole t) Nothing (IsInitialising constant i at t) made us (judge_plain constant e at (Some t)) i
+    plain-run e i made us q p s k n count here c h numbers uses room =
+        let one = p s k n count here c h numbers uses room in
+        record { after = one.after; gives = plain_none e s here c q ∙ one.gives; reached = one.reached; gains = tt }
+
+    -- a text
+    text_is : (pieces : List StringPiece) (bytes : List ℕ) (o : Option ℕ) → char_count_of_shape T (shape_at T t) ≡ o → IsText o (pieces_bytes pieces) bytes → (s : UnitState) → IsUnitHere T s
+        → IsComplete s.table t → judge_plain constant (tree.String pieces) at (Some t) s ≡ Gives (typed.Text pieces bytes) s
+    unfolding judge_plain value_or_text text
+    text_is pieces bytes None q h s here c = absurd h
+    text_is pieces bytes (Some count) q h s here c =
+        let short = h.0 in
+        let fits : nat_lt count (length (pieces_bytes pieces)) ≡ false = not_longer count (length (pieces_bytes pieces)) short in
+        ap (λ (o : Option ℕ). value_or_text constant at t (tree.String pieces) o s) (char_count-over s.table T here.here.first here.here.known.basic t (complete-in s.table t c) ∙ q)
+        ∙ obeying-is (λ (r : UnitState). text_tests at count pieces) (pure (typed.Text pieces (take count (pieces_bytes pieces ++ 0 ∷ [])))) s (Gives (typed.Text pieces bytes) s)
+        (passes_one rule.Mismatch at (nat_lt count (length (pieces_bytes pieces))) fits) (ap (λ (w : List ℕ). Gives (typed.Text pieces w) s) (sym h.1))
+      where
+        not_longer : (a b : ℕ) → b ≤ a → nat_lt a b ≡ false
+        not_longer a b h = grind (arith, nat_tests)
+
+    pub text-run : (pieces : List StringPiece) (bytes : List ℕ)
+        → IsRun T (IsWhole t) Nothing (IsInitialising constant (typed.Text pieces bytes) at t) [] [] (judge_plain constant (tree.String pieces) at (Some t)) (typed.Text pieces bytes)
+    text-run pieces bytes s k n count here c h numbers uses room =
+        run-none T (IsWhole t) Nothing (judge_plain constant (tree.String pieces) at (Some t)) (typed.Text pieces bytes)
+        (λ q there w. (text_is pieces bytes (char_count_of_shape T (shape_at T t)) refl h.0.1.1 q there w, tt)) s k n count here c
+        (h.0.2 ∙ ap (with_scopes (known_of s)) h.0.1.0) numbers uses room
+
+  -- Braces
+
+  abbrev pub IsInitialiserRun : TypedInitialiser → Type 0
+  IsInitialiserRun i =
+      (constant : Bool) (at : Place) (t : TypeId) (single : Bool) → IsItemFor single i → initialiser_holds (erased_initialiser i) ≤ 256
+      → IsRun T (IsWhole t) Nothing (IsInitialising constant i at t) (made_by_initialiser i) (used_by_initialiser T i) (judge_initialiser constant (erased_initialiser i) at (Some t) single) i
+
+  abbrev pub AreItemsRun : TypedItems → Type 0
+  AreItemsRun list =
+      (constant text : Bool) (t : TypeId) → items_holds (erased_items list) ≤ 256
+      → IsRun T (IsWhole t) Nothing (AreInitialising constant list text t) (made_by_items list) (used_by_items T list) (judge_items constant (erased_items list) text t) list
+
+  pub no-item-run : AreItemsRun typed.NoItem
+  unfolding judge_items
+  no-item-run constant text t holds s k n count here c h numbers uses room =
+      run-none T (IsWhole t) Nothing (judge_items constant tree.NoItem text t) typed.NoItem (λ q there w. (refl, tt)) s k n count here c
+      (h.0.2 ∙ ap (with_scopes (known_of s)) h.0.1) numbers uses room
+
+  slot_as : (text : Bool) (t : TypeId) (i offset : ℕ) (u : TypeId) → IsSlot text T t i offset u → item_slot T text t i ≡ Some (record { offset = offset; type = u })
+  slot_as true t i offset u h = (λ j. Some (record { offset = (sym h.0) j; type = (sym h.1) j }))
+  slot_as false t i offset u h = h
+
+  pub item-run : (all : TypedItems) (offset : ℕ) (u : TypeId) (i : TypedInitialiser) → AreItemsRun all → IsInitialiserRun i → AreItemsRun (typed.AndItem all offset u i)
+  unfolding judge_items with_item
+  item-run all offset u i pa pi constant text t holds s k n count here c h numbers uses room =
+      let typed_here = h.0.1 in
+      let slot : Slot = record { offset = offset; type = u } in
+      let single : Bool = is_scalar_shape (shape_at T t) in
+      let few = right-held (items_holds (erased_items all)) (initialiser_holds (erased_initialiser i)) 256 holds in
+      let more = left-held (items_holds (erased_items all)) (initialiser_holds (erased_initialiser i)) 256 holds in
+      let place : Place = item_place i in
+      let last : IsRun T (And (And (And (IsWhole t) Nothing) (IsWhole u)) Nothing) Nothing (IsInitialising constant i place u) (made_by_initialiser i) (used_by_initialiser T i)
+          (judge_initialiser constant (erased_initialiser i) place (Some u) single >>= (λ one. with_item all (Some slot) one)) (typed.AndItem all offset u i) =
+      run-as T (IsWhole u) (And (And (And (IsWhole t) Nothing) (IsWhole u)) Nothing) Nothing Nothing (IsInitialising constant i place u) (IsInitialising constant i place u) (made_by_initialiser i)
+      (used_by_initialiser T i) (judge_initialiser constant (erased_initialiser i) place (Some u) single >>= (λ one. with_item all (Some slot) one)) (typed.AndItem all offset u i)
+      (λ J w. w.0.1) (λ J w. w) (λ a b w. w)
+      (run-last T (IsWhole u) Nothing Nothing (whole-kept u) (IsInitialising constant i place u) (made_by_initialiser i) (used_by_initialiser T i)
+      (judge_initialiser constant (erased_initialiser i) place (Some u) single) (λ one. with_item all (Some slot) one) i (typed.AndItem all offset u i) (pi constant place u single typed_here.4 few)
+      (λ r there w v. (refl, tt))) in
+      let scalar : (q : UnitState) → IsUnitHere T q → IsComplete q.table t → is_scalar_shape (shape_at q.table t) ≡ single =
+      λ q there w. ap is_scalar_shape (sym (there.here.first.shapes t (complete-in q.table t w))) in
+      let slots : (q : UnitState) → IsUnitHere T q → IsComplete q.table t → item_slot q.table text t (items_count all) ≡ Some slot =
+      λ q there w. item_slot-over q.table T there.here.first there.here.known.basic text t (items_count all) w ∙ slot_as text t (items_count all) offset u typed_here.3 in
+      let middle : IsRun T (And (And (IsWhole t) Nothing) (IsWhole u)) Nothing (IsInitialising constant i place u) (made_by_initialiser i) (used_by_initialiser T i)
+          (by_known (λ q. pure (is_scalar_shape (shape_at q.table t))) >>= (λ one. judge_initialiser constant (erased_initialiser i) place (Some u) one >>= (λ v. with_item all (Some slot) v)))
+          (typed.AndItem all offset u i) =
+      run-first T (And (And (IsWhole t) Nothing) (IsWhole u)) Nothing Nothing (IsInitialising constant i place u) (made_by_initialiser i) (used_by_initialiser T i)
+      (by_known (λ q. pure (is_scalar_shape (shape_at q.table t)))) (λ one. judge_initialiser constant (erased_initialiser i) place (Some u) one >>= (λ v. with_item all (Some slot) v)) single
+      (typed.AndItem all offset u i) (λ q there w. (ap (λ (b : Bool). Gives b q) (scalar q there w.0.0), tt)) last in
+      let rest : IsRun T (And (IsWhole t) Nothing) Nothing (IsInitialising constant i place u) (made_by_initialiser i) (used_by_initialiser T i)
+          (by_known (λ q. pure (item_slot q.table text t (items_count all))) >>= (λ o. by_known (λ q. pure (is_scalar_shape (shape_at q.table t)))
+          >>= (λ one. judge_initialiser constant (erased_initialiser i) place (slot_type o) one >>= (λ v. with_item all o v))))
+          (typed.AndItem all offset u i) =
+      run-first T (And (IsWhole t) Nothing) (IsWhole u) Nothing (IsInitialising constant i place u) (made_by_initialiser i) (used_by_initialiser T i)
+      (by_known (λ q. pure (item_slot q.table text t (items_count all))))
+      (λ o. by_known (λ q. pure (is_scalar_shape (shape_at q.table t))) >>= (λ one. judge_initialiser constant (erased_initialiser i) place (slot_type o) one >>= (λ v. with_item all o v))) (Some slot)
+      (typed.AndItem all offset u i)
+      (λ q there w. (ap (λ (o : Option Slot). Gives o q) (slots q there w.0),
+        slot-complete q.table there.here.known.basic text t (items_count all) offset u w.0 (slot_is q.table text t (items_count all) slot (slots q there w.0)))) middle in
+      run-then T (IsWhole t) Nothing Nothing (whole-kept t) (AreInitialising constant all text t) (IsInitialising constant i place u) (made_by_items all) (made_by_initialiser i)
+      (used_by_items T all) (used_by_initialiser T i) (judge_items constant (erased_items all) text t)
+      (λ list. by_known (λ q. pure (item_slot q.table text t (items_count list))) >>= (λ o. by_known (λ q. pure (is_scalar_shape (shape_at q.table t)))
+      >>= (λ one. judge_initialiser constant (erased_initialiser i) place (slot_type o) one >>= (λ v. with_item list o v))))
+      all (typed.AndItem all offset u i) (pa constant text t more) rest s k n count here c
+      (with_scopes (known_of s) typed_here.0,
+        ((typed_here.0, typed_here.1, refl), λ q. and_left (are_constant_items T s.linkage.statics all) (is_constant_initialiser T s.linkage.statics i) (h.1 q)),
+        ((h.0.0, typed_here.2, h.0.2), λ q. and_right (are_constant_items T s.linkage.statics all) (is_constant_initialiser T s.linkage.statics i) (h.1 q)))
+      numbers uses room

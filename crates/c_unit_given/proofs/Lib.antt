@@ -3,3 +3,4 @@ mod Runs
 mod Texts
 mod CellsCounted
 mod InitialisersGiven
+mod InitialiserTrees

@@ -46,7 +46,7 @@ use Rattle.c_unit_typing.specs.UnitJudging.{UnitState, UnitJudging, Gives, known
 use Rattle.c_unit_typing.proofs.JudgedInitialisers.{slot_is}
 use Rattle.c_unit_typing.proofs.KeptInitialisers.{complete-in, complete-kept, slot-complete}
 use Rattle.c_unit_typing.proofs.UnitOutcomes.{lifted-gives}
-use Rattle.c_unit_given.specs.UnitGiven.{HasUnitRoom, IsUnitHere, IsUnitReached, IsUnitGivenAs, IsRun, IsPartRun, IsKept, Nothing, And, AreExpressionsGiven}
+use Rattle.c_unit_given.specs.UnitGiven.{HasUnitRoom, IsUnitHere, IsUnitReached, IsUnitGivenAs, IsRun, IsPartRun, IsKept, Nothing, And, AreScopesKept, AreExpressionsGiven}
 use Rattle.c_unit_given.specs.UnitUses.{used_by_initialiser, used_by_items}
 use Rattle.c_unit_given.proofs.CellsCounted.{pointers-most, counting_cells, cells-counted}
 use Rattle.c_unit_given.proofs.Runs.{then-is, obeying-is, lifted-is, Among, Then, Stays, run-then, run-last, run-first, run-as, run-none, run-lifted}
@@ -112,7 +112,7 @@ left-held a b n h = omega (arith, h)
 pub right-held : (a b n : ℕ) → max a b ≤ n → b ≤ n
 right-held a b n h = omega (arith, h)
 
-module _ (T : Table) (basic : IsBasic T) (exprs : AreExpressionsGiven T) where
+module _ (T : Table) (basic : IsBasic T) (exprs : AreExpressionsGiven T) (scopes : AreScopesKept T) where
   abbrev pub IsWhole : TypeId → Table → Type 0
   IsWhole t J = IsComplete J t
 
@@ -147,7 +147,7 @@ module _ (T : Table) (basic : IsBasic T) (exprs : AreExpressionsGiven T) where
         let assigned = h.0.1.2 in
         let one =
         run-lifted T (IsWhole t) Nothing (λ a b. IsTyped T e a b × IsAssigned T b at t e) (made_by e) (used_by T e) _ (checked_value t at true (erased e)) e
-        (exprs.initial t at e scalar holds) (λ q w. needs_type q w) (λ q r y w g. tt) s k n count here c (h.0.0, (h.0.1.0, assigned), h.0.2) numbers uses room in
+        (λ x y w. scopes.value e x y w.0) (exprs.initial t at e scalar holds) (λ q w. needs_type q w) (λ q r y w g. tt) s k n count here c (h.0.0, (h.0.1.0, assigned), h.0.2) numbers uses room in
         let r : UnitState = one.after in
         let l = lifted-gives (checked_value t at true (erased e)) e s r one.gives in
         let j = checked_value-judged t at true (erased e) e (state_of s) (state_of r) here.here.known (complete-in s.table t c) l.0 in
@@ -173,7 +173,7 @@ module _ (T : Table) (basic : IsBasic T) (exprs : AreExpressionsGiven T) where
         let cut = two-parts (made_by_place p) (Copy u ∷ []) s.seen.node n numbers in
         let one =
         run-lifted T (IsWhole t) Nothing (IsPlace T p) (made_by_place p) (used_by_place T p) _ (checked_value t at true (erased_place p)) (typed.Unread p)
-        (exprs.copied t at p aggregate same holds) (λ q w. needs_type q w) (λ q r y w g. tt) s k cut.0 count here c (h.0.0, h.0.1.0, h.0.2) cut.1 uses (unit-room-first T (made_by_place p) (Copy u ∷ []) s room) in
+        (λ x y w. scopes.place p x y w) (exprs.copied t at p aggregate same holds) (λ q w. needs_type q w) (λ q r y w g. tt) s k cut.0 count here c (h.0.0, h.0.1.0, h.0.2) cut.1 uses (unit-room-first T (made_by_place p) (Copy u ∷ []) s room) in
         let r : UnitState = one.after in
         let l = lifted-gives (checked_value t at true (erased_place p)) (typed.Unread p) s r one.gives in
         let j = checked_value-judged t at true (erased_place p) (typed.Unread p) (state_of s) (state_of r) here.here.known (complete-in s.table t c) l.0 in
@@ -197,11 +197,14 @@ module _ (T : Table) (basic : IsBasic T) (exprs : AreExpressionsGiven T) where
             here = record {
               here = record { known = all_known; first = known_there.first; small = small-kept (state_of r) (state_of after) known_there.small refl refl (omega arith); own = known_there.own };
               unit = record { known = all_known; linked = one.reached.here.unit.linked };
+              open_ = one.reached.here.open_;
+              homes = one.reached.here.homes;
             };
             grown = one.reached.grown;
             known = one.reached.known;
             node = one.reached.node ∙ sym cut.2;
             types = one.reached.types;
+            outer = one.reached.outer;
             spent = unit-spent-both T (made_by_place p) (Copy u ∷ []) s r after one.reached.spent (record { nodes = omega arith; globals = omega arith; cells = omega (arith, most) });
           };
           gains = tt;

@@ -1,11 +1,15 @@
 -- Runs of judging that give, one after another.
 use Rattle.std.proofs.Common.{◌≡◌, ◌≤◌, ◌+◌, ℕ, List, [], ◌∷◌, ◌++◌, length, Option, None, refl, ap, sym, subst, ◌∙◌, append_assoc, arith}
+use Rattle.std.specs.List.{All}
+use Rattle.std.proofs.lemmas.List.Elements.{All-weaker}
 use Rattle.cc_base.specs.declared.fault.Fault.{Fault}
 use Rattle.c_types.specs.Table.{Table}
 use Rattle.c_tree.specs.TypedParts.{Made}
+use Rattle.c_typing.specs.declared.declared.Declared.{Declared}
+use Rattle.c_typing.specs.declared.declared.Declared.TheVariants as declared
 use Rattle.c_typing.specs.Judging as judging
 use Rattle.c_typing.specs.Judging.{State, Judging}
-use Rattle.c_typing.specs.Scopes.{Scopes}
+use Rattle.c_typing.specs.Scopes.{Level, Scopes}
 use Rattle.c_typing.specs.Tests.{Test, first_broken}
 use Rattle.c_typing_laws.proofs.ExtensionLaws.{extended_refl, still_in}
 use Rattle.c_typing_laws.proofs.TableGrowth.{extended_trans}
@@ -18,7 +22,7 @@ use Rattle.c_unit_typing.specs.Units.{Known, with_scopes}
 use Rattle.c_unit_typing.specs.UnitJudged.{state_of, IsUnitKnown}
 use Rattle.c_unit_typing.specs.UnitJudging.{UnitState, UnitJudging, UnitOutcome, Gives, ◌>>=◌, next, pure, unless, known, known_of, obeying, lifted, with_linkage}
 use Rattle.c_unit_typing.proofs.UnitStates.{linkage-stays}
-use Rattle.c_unit_given.specs.UnitGiven.{HasUnitRoom, HasUnitSpent, IsUnitHere, IsUnitReached, IsUnitGivenAs, IsRun, IsPartRun, IsKept, Nothing, And, HasType}
+use Rattle.c_unit_given.specs.UnitGiven.{IsHomeBelow, AreHomesBelow, IsScopeKept, HasUnitRoom, HasUnitSpent, IsUnitHere, IsUnitReached, IsUnitGivenAs, IsRun, IsPartRun, IsKept, Nothing, And, HasType}
 use Rattle.c_unit_given.proofs.UnitRoom.{part-room, part-spent, unit-room-first, unit-room-then, unit-spent-both, unit-spent-none}
 
 pub then-is : {A B : Type 0} (m : UnitJudging A) (f : A → UnitJudging B) (a : A) (s k : UnitState) (o : UnitOutcome B) → m s ≡ Gives a k → f a k ≡ o → (m >>= f) s ≡ o
@@ -30,6 +34,19 @@ obeying-is rules go s o h k = ap (λ (f : Option Fault). unless f go s) h ∙ k
 
 pub lifted-is : {A : Type 0} (p : Judging A) (a : A) (s : UnitState) (q : State) → p (state_of s) ≡ judging.Gives a q → lifted p s ≡ Gives a (known q.table q.seen s.linkage)
 lifted-is p a s q h = ap (with_linkage s.linkage) h
+
+-- Homes
+
+below_later : (n m : ℕ) (what : Declared) → n ≤ m → IsHomeBelow n what → IsHomeBelow m what
+below_later n m (declared.Object t k) up h = omega (arith, up, h)
+below_later n m (declared.Typedef t) up h = tt
+below_later n m (declared.Function t) up h = tt
+below_later n m (declared.Enumerator z) up h = tt
+
+pub homes-later : (n m : ℕ) (levels : List Level) → n ≤ m → AreHomesBelow n levels → AreHomesBelow m levels
+homes-later n m levels up h =
+    All-weaker (λ (l : Level). All (λ (e : List ℕ × Declared). IsHomeBelow n e.1) l.names) (λ (l : Level). All (λ (e : List ℕ × Declared). IsHomeBelow m e.1) l.names)
+    (λ l. All-weaker (λ (e : List ℕ × Declared). IsHomeBelow n e.1) (λ (e : List ℕ × Declared). IsHomeBelow m e.1) (λ e. below_later n m e.1 up) l.names) levels h
 
 -- What is needed and gained
 
@@ -62,6 +79,7 @@ module _ (T : Table) where
     known = q.known;
     node = q.node;
     types = q.types;
+    outer = q.outer ∙ p.outer;
     spent = unit-spent-both T xs ys s m r p.spent q.spent;
   }
 
@@ -111,18 +129,28 @@ module _ (T : Table) where
         }
 
   -- a part of types and names
-  lift_reached : (made : List Made) (s : UnitState) (q : State) (b : Point) (count : ℕ) → IsUnitHere T s → IsReached T made (state_of s) q b count
+  lift_reached : (made : List Made) (s : UnitState) (q : State) (b : Point) (count : ℕ) → IsUnitHere T s → IsReached T made (state_of s) q b count → IsScopeKept s.seen.scopes b.scopes
       → IsUnitReached T made s (known q.table q.seen s.linkage) (with_scopes (known_of s) b.scopes) b.node count
-  lift_reached made s q b count here h =
+  lift_reached made s q b count here h keeps =
       let spent = h.way.spent in
       let up : s.seen.node ≤ q.seen.node = let e = spent.nodes in omega (arith, e) in
       let r : UnitState = known q.table q.seen s.linkage in
+      let same : q.seen.scopes ≡ b.scopes = ap (λ (p : Point). p.scopes) h.point in
+      let kept = subst (IsScopeKept s.seen.scopes) (sym same) keeps in
+      let deep = kept.deep in
+      let was = here.open_ in
       record {
-        here = record { here = h.here; unit = (linkage-stays s r here.unit (record { extends = h.grown; known = h.here.known }) refl up).known };
+        here = record {
+          here = h.here;
+          unit = (linkage-stays s r here.unit (record { extends = h.grown; known = h.here.known }) refl up).known;
+          open_ = omega (arith, deep, was);
+          homes = homes-later s.seen.node q.seen.node q.seen.scopes.levels up (kept.homes s.seen.node here.homes);
+        };
         grown = h.grown;
         known = ap (λ (p : Point). with_scopes (known_of s) p.scopes) h.point;
         node = ap (λ (p : Point). p.node) h.point;
         types = h.way.types;
+        outer = kept.outer;
         spent = part-spent T made s r spent;
       }
 
@@ -154,21 +182,22 @@ module _ (T : Table) where
             known = sym h;
             node = sym numbers;
             types = sym uses;
+            outer = refl;
             spent = unit-spent-none T s s refl refl refl;
           };
           gains = one.1;
         }
 
     pub run-lifted : (N G : Table → Type 0) (P : Scopes → Scopes → Type 0) (made : List Made) (uses : List Use) (Needs : State → Type 0) (p : Judging A) (a : A)
-        → IsPartRun T P made uses Needs p a → ((s : State) → N s.table → Needs s) → ((s q : State) → IsHere T s → N s.table → p s ≡ judging.Gives a q → G q.table)
+        → ((x y : Scopes) → P x y → IsScopeKept x y) → IsPartRun T P made uses Needs p a → ((s : State) → N s.table → Needs s) → ((s q : State) → IsHere T s → N s.table → p s ≡ judging.Gives a q → G q.table)
         → IsRun T N G (Among P) made uses (lifted p) a
-    run-lifted N G P made uses Needs p a run needs gains s k n count here h typed numbers used room =
+    run-lifted N G P made uses Needs p a keeps run needs gains s k n count here h typed numbers used room =
         let b : Point = record { scopes = typed.0; node = n } in
         let one = run (state_of s) b count here.here (needs (state_of s) h) typed.1 numbers used (part-room T made s room) in
         let r : UnitState = known one.after.table one.after.seen s.linkage in
         record {
           after = r;
           gives = lifted-is p a s one.after one.gives;
-          reached = subst (λ (l : Known). IsUnitReached T made s r l n count) (sym typed.2) (lift_reached made s one.after b count here one.reached);
+          reached = subst (λ (l : Known). IsUnitReached T made s r l n count) (sym typed.2) (lift_reached made s one.after b count here one.reached (keeps s.seen.scopes typed.0 typed.1));
           gains = gains (state_of s) one.after here.here h one.gives;
         }

@@ -1,5 +1,6 @@
 -- What it is that judging gives what is well typed of a unit: from a state at a point of a text whose table is T, the tree that stands there.
-use Rattle.std.specs.Prelude.{◌≡◌, ◌≤◌, ◌+◌, ℕ, ℤ, Bool, true, false, List, [], ◌∷◌, length, Option, Some, None}
+use Rattle.std.specs.Prelude.{◌≡◌, ◌≤◌, ◌<◌, ◌+◌, ℕ, ℤ, Bool, true, false, List, [], ◌∷◌, length, Option, Some, None}
+use Rattle.std.specs.List.{All}
 use Rattle.cc_base.specs.declared.place.Place.{Place}
 use Rattle.cc_base.specs.declared.number.TypeId.{TypeId}
 use Rattle.c_types.specs.Table.{Table, IsType, shape_at, IsAggregate}
@@ -11,6 +12,8 @@ use Rattle.c_tree.specs.TypedTree as typed
 use Rattle.c_tree.specs.TypedTree.{TypedExpr, TypedPlace, TypedSpecifiers, TypedForm}
 use Rattle.c_tree.specs.TypedParts.{Made, Name, made_by, made_by_place, made_by_specifiers, made_by_form, place_type, specified_type, name_of_form, home_of_form}
 use Rattle.integers.specs.Arithmetic.{IntegerType}
+use Rattle.c_typing.specs.declared.declared.Declared.{Declared}
+use Rattle.c_typing.specs.declared.declared.Declared.TheVariants as declared
 use Rattle.c_typing.specs.declared.naming.Naming.{Naming}
 use Rattle.c_typing.specs.Checking.{Constant, checked, checked_value, checked_constant}
 use Rattle.c_typing.specs.Constants.{constant_value}
@@ -20,7 +23,7 @@ use Rattle.c_typing.specs.Declarators.{FormMakes, Written}
 use Rattle.c_typing.specs.Extensions.{IsExtended}
 use Rattle.c_typing.specs.Judging.{State}
 use Rattle.c_typing.specs.Rules.{runtime_named}
-use Rattle.c_typing.specs.Scopes.{Scopes}
+use Rattle.c_typing.specs.Scopes.{Level, Scopes, without_innermost}
 use Rattle.c_typing.specs.Settled.{IsBasic}
 use Rattle.c_typing.specs.Shapes.{IsScalar, IsSameType, is_function_shape}
 use Rattle.c_typing.specs.Typing.{IsTyped, IsPlace, AreSpecifiers, AreAlone, IsForm}
@@ -52,12 +55,38 @@ pub record HasUnitSpent (T : Table) (made : List Made) (s r : UnitState) : Type 
   pub globals : r.seen.globals ≤ s.seen.globals + total (object_cost T) made
   pub cells : r.seen.cells ≤ s.seen.cells + total (cell_cost T) made
 
+-- Scopes
+
+-- the home of an object was given out before the node n
+abbrev pub IsHomeBelow : ℕ → Declared → Type 0
+IsHomeBelow n (declared.Object t m) = m.0 < n
+IsHomeBelow n what = Unit {0}
+
+abbrev pub AreHomesBelow : ℕ → List Level → Type 0
+AreHomesBelow n levels = All (λ (l : Level). All (λ (e : List ℕ × Declared). IsHomeBelow n e.1) l.names) levels
+
+-- a part that declares no object leaves the outer scopes as they are
+pub record IsScopeKept (s s' : Scopes) : Type 0 where
+  pub outer : without_innermost s'.levels ≡ without_innermost s.levels
+  pub deep : length s'.levels ≡ length s.levels
+  pub homes : (n : ℕ) → AreHomesBelow n s.levels → AreHomesBelow n s'.levels
+
+pub record AreScopesKept (T : Table) : Type 0 where
+  pub value : (e : TypedExpr) (s s' : Scopes) → IsTyped T e s s' → IsScopeKept s s'
+  pub place : (p : TypedPlace) (s s' : Scopes) → IsPlace T p s s' → IsScopeKept s s'
+  pub specifiers : (x : TypedSpecifiers) (s s' : Scopes) → AreSpecifiers T x s s' → IsScopeKept s s'
+  pub alone : (x : TypedSpecifiers) (s s' : Scopes) → AreAlone T x s s' → IsScopeKept s s'
+  pub form : (form : TypedForm) (s s' : Scopes) → IsForm T form s s' → IsScopeKept s s'
+
 -- Points of a unit
 
 -- the state is what is known at a point of a unit whose table is T
 pub record IsUnitHere (T : Table) (s : UnitState) : Type 0 where
   pub here : IsHere T (state_of s)
   pub unit : IsUnitKnown s
+  -- a scope is open, and the homes of the objects that are declared were given out
+  pub open_ : 1 ≤ length s.seen.scopes.levels
+  pub homes : AreHomesBelow s.seen.node s.seen.scopes.levels
 
 -- from one such state another one was reached, where so much is known, n is the next node and there are so many types
 pub record IsUnitReached (T : Table) (made : List Made) (s r : UnitState) (k : Known) (n count : ℕ) : Type 0 where
@@ -66,6 +95,7 @@ pub record IsUnitReached (T : Table) (made : List Made) (s r : UnitState) (k : K
   pub known : known_of r ≡ k
   pub node : r.seen.node ≡ n
   pub types : length r.table ≡ count
+  pub outer : without_innermost r.seen.scopes.levels ≡ without_innermost s.seen.scopes.levels
   pub spent : HasUnitSpent T made s r
 
 -- judging gives what stands there, and so much is true of the types after it

@@ -2,5 +2,7 @@ mod UnitRoom
 mod Runs
 mod Texts
 mod CellsCounted
+mod NameRules
+mod NamesGiven
 mod InitialisersGiven
 mod InitialiserTrees

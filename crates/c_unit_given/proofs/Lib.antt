@@ -4,5 +4,6 @@ mod Texts
 mod CellsCounted
 mod NameRules
 mod NamesGiven
+mod NamesDeclared
 mod InitialisersGiven
 mod InitialiserTrees

@@ -140,8 +140,8 @@ module _ (T : Table) where
         f.outer,
       )
 
-  static_here : (s : UnitState) (g : ℕ) (n : NodeId) → IsUnitHere T s → IsUnitHere T (static_state s g n)
-  static_here s g n here = record {
+  pub static-here : (s : UnitState) (g : ℕ) (n : NodeId) → IsUnitHere T s → IsUnitHere T (static_state s g n)
+  static-here s g n here = record {
     here = record {
       known = (static-goes g n s here.unit).known.known;
       first = here.here.first;
@@ -189,13 +189,13 @@ module _ (T : Table) where
   IsMadeBelow n h = Unit {0}
 
   module _ (name : Identifier) (t : TypeId) (s : UnitState) (k' : Known) (here : IsUnitHere T s) (there : IsType s.table t) where
-    whole : is_complete_at T s.seen.scopes t ≡ true → IsComplete s.table t
-    whole c = here.here.known.followed t (complete-over s.table T here.here.first here.here.known.basic s.seen.scopes t there ∙ c)
+    pub whole-type : is_complete_at T s.seen.scopes t ≡ true → IsComplete s.table t
+    whole-type c = here.here.known.followed t (complete-over s.table T here.here.first here.here.known.basic s.seen.scopes t there ∙ c)
 
     -- a new name without a home of its own to be counted
-    new_given : (what : Declared) (run : UnitOutcome Declared) → run ≡ new_name name what s → IsThere s.table what → IsHomeBelow s.seen.node what
+    pub new-given : (what : Declared) (run : UnitOutcome Declared) → run ≡ new_name name what s → IsThere s.table what → IsHomeBelow s.seen.node what
         → Rattle.c_typing.specs.Scopes.here s.seen.scopes.levels name.bytes ≡ None → k' ≡ with_scopes (known_of s) (declaring name.bytes what s.seen.scopes) → IsDeclaredGiven 0 run s k'
-    new_given what run q i low fresh after = record {
+    new-given what run q i low fresh after = record {
       what = what;
       after = named_state s name.bytes what;
       gives = q ∙ new_name_is name what s fresh;
@@ -208,9 +208,9 @@ module _ (T : Table) where
       outer = outer-same (with_name name.bytes what) s.seen.scopes.levels;
     }
 
-    linked_given : (what : Declared) (run : UnitOutcome Declared) → run ≡ linked_name name what s → IsLinkedKnown s what → IsHomeBelow s.seen.node what
+    pub linked-given : (what : Declared) (run : UnitOutcome Declared) → run ≡ linked_name name what s → IsLinkedKnown s what → IsHomeBelow s.seen.node what
         → known_of (linked_state s name.bytes what) ≡ k' → IsDeclaredGiven 0 run s k'
-    linked_given what run q i low after =
+    linked-given what run q i low after =
         let l = linked_here s name.bytes what here (linked-goes name.bytes what s here.unit i) low in
         record {
           what = what;
@@ -226,23 +226,23 @@ module _ (T : Table) where
         }
 
     -- what is known where an object with linkage was declared
-    abbrev known_linked : NodeId → Known
+    abbrev pub known_linked : NodeId → Known
     known_linked n = record (known_of s) {
       scopes = unless_here (Rattle.c_typing.specs.Scopes.here s.seen.scopes.levels name.bytes) name.bytes (declared.Object t n) s.seen.scopes;
       linked = unless_linked (entry_of s.linkage.linked name.bytes) name.bytes (declared.Object t n) s.linkage.linked;
       statics = with_home n s.linkage.statics;
     }
 
-    after_linked : (h : Home) (d : IsLinkedObject T name.bytes h t (known_of s) k') (n : NodeId) → n ≡ d.node → known_linked n ≡ k'
-    after_linked h d n q =
+    pub after-linked : (h : Home) (d : IsLinkedObject T name.bytes h t (known_of s) k') (n : NodeId) → n ≡ d.node → known_linked n ≡ k'
+    after-linked h d n q =
         ap known_linked q ∙ sym (ap (λ (m : Known). record m { statics = with_home d.node m.statics }) d.linked.after) ∙ sym d.after
 
-    static_given : (linked : Bool) (n : NodeId) (run : UnitOutcome Declared) → run ≡ declare_object linked name t (home.Static n) s → IsComplete s.table t → n.0 < s.seen.node
+    pub static-given : (linked : Bool) (n : NodeId) (run : UnitOutcome Declared) → run ≡ declare_object linked name t (home.Static n) s → IsComplete s.table t → n.0 < s.seen.node
         → s.seen.globals + (size_of T t + 16) ≤ 4194304
         → IsDeclaredGiven 0 (object_name linked name (declared.Object t n) (static_state s (s.seen.globals + (size_of T t + 16)) n)) (static_state s (s.seen.globals + (size_of T t + 16)) n) k'
         → IsDeclaredGiven (size_of T t + 16) run s k'
     unfolding declare_object
-    static_given linked n run q c low room d =
+    static-given linked n run q c low room d =
         let g : ℕ = s.seen.globals + (size_of T t + 16) in
         let same = d.globals in
         record {

@@ -5,5 +5,6 @@ mod CellsCounted
 mod NameRules
 mod NamesGiven
 mod NamesDeclared
+mod DeclaratorHomes
 mod InitialisersGiven
 mod InitialiserTrees

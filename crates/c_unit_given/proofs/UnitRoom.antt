@@ -8,9 +8,9 @@ use Rattle.c_unit_typing.specs.UnitJudged.{state_of}
 use Rattle.c_unit_typing.specs.UnitJudging.{UnitState}
 use Rattle.c_unit_given.specs.UnitGiven.{object_cost, HasUnitRoom, HasUnitSpent}
 
-total_append : (cost : Made → ℕ) (xs ys : List Made) → total cost (xs ++ ys) ≡ total cost xs + total cost ys
-total_append cost [] ys = omega arith
-total_append cost (x ∷ xs) ys = let h = total_append cost xs ys in omega (arith, h)
+pub total-append : (cost : Made → ℕ) (xs ys : List Made) → total cost (xs ++ ys) ≡ total cost xs + total cost ys
+total-append cost [] ys = omega arith
+total-append cost (x ∷ xs) ys = let h = total-append cost xs ys in omega (arith, h)
 
 module _ (T : Table) where
   -- a literal is an object
@@ -25,43 +25,43 @@ module _ (T : Table) where
   literal_object (Address n) = omega arith
   literal_object (Copy t) = omega arith
 
-  literals_objects : (made : List Made) → total literal_cost made ≤ total (object_cost T) made
-  literals_objects [] = omega arith
-  literals_objects (m ∷ made) = let a = literal_object m in let b = literals_objects made in omega (arith, a, b)
+  pub literals-objects : (made : List Made) → total literal_cost made ≤ total (object_cost T) made
+  literals-objects [] = omega arith
+  literals-objects (m ∷ made) = let a = literal_object m in let b = literals-objects made in omega (arith, a, b)
 
   pub part-room : (made : List Made) (s : UnitState) → HasUnitRoom T made s → HasRoom T made (state_of s)
   part-room made s h = record {
     nodes = h.nodes;
-    globals = let a = h.globals in let b = literals_objects made in omega (arith, a, b);
+    globals = let a = h.globals in let b = literals-objects made in omega (arith, a, b);
     cells = h.cells;
   }
 
   pub part-spent : (made : List Made) (s r : UnitState) → HasSpent T made (state_of s) (state_of r) → HasUnitSpent T made s r
   part-spent made s r h = record {
     nodes = h.nodes;
-    globals = let a = h.globals in let b = literals_objects made in omega (arith, a, b);
+    globals = let a = h.globals in let b = literals-objects made in omega (arith, a, b);
     cells = h.cells;
   }
 
   pub unit-room-first : (xs ys : List Made) (s : UnitState) → HasUnitRoom T (xs ++ ys) s → HasUnitRoom T xs s
   unit-room-first xs ys s h = record {
-    nodes = let a = h.nodes in omega (arith, a, total_append node_cost xs ys);
-    globals = let a = h.globals in omega (arith, a, total_append (object_cost T) xs ys);
-    cells = let a = h.cells in omega (arith, a, total_append (cell_cost T) xs ys);
+    nodes = let a = h.nodes in omega (arith, a, total-append node_cost xs ys);
+    globals = let a = h.globals in omega (arith, a, total-append (object_cost T) xs ys);
+    cells = let a = h.cells in omega (arith, a, total-append (cell_cost T) xs ys);
   }
 
   pub unit-room-then : (xs ys : List Made) (s r : UnitState) → HasUnitRoom T (xs ++ ys) s → HasUnitSpent T xs s r → HasUnitRoom T ys r
   unit-room-then xs ys s r h k = record {
-    nodes = let a = h.nodes in let b = k.nodes in omega (arith, a, b, total_append node_cost xs ys);
-    globals = let a = h.globals in let b = k.globals in omega (arith, a, b, total_append (object_cost T) xs ys);
-    cells = let a = h.cells in let b = k.cells in omega (arith, a, b, total_append (cell_cost T) xs ys);
+    nodes = let a = h.nodes in let b = k.nodes in omega (arith, a, b, total-append node_cost xs ys);
+    globals = let a = h.globals in let b = k.globals in omega (arith, a, b, total-append (object_cost T) xs ys);
+    cells = let a = h.cells in let b = k.cells in omega (arith, a, b, total-append (cell_cost T) xs ys);
   }
 
   pub unit-spent-both : (xs ys : List Made) (s m r : UnitState) → HasUnitSpent T xs s m → HasUnitSpent T ys m r → HasUnitSpent T (xs ++ ys) s r
   unit-spent-both xs ys s m r h k = record {
-    nodes = let a = h.nodes in let b = k.nodes in omega (arith, a, b, total_append node_cost xs ys);
-    globals = let a = h.globals in let b = k.globals in omega (arith, a, b, total_append (object_cost T) xs ys);
-    cells = let a = h.cells in let b = k.cells in omega (arith, a, b, total_append (cell_cost T) xs ys);
+    nodes = let a = h.nodes in let b = k.nodes in omega (arith, a, b, total-append node_cost xs ys);
+    globals = let a = h.globals in let b = k.globals in omega (arith, a, b, total-append (object_cost T) xs ys);
+    cells = let a = h.cells in let b = k.cells in omega (arith, a, b, total-append (cell_cost T) xs ys);
   }
 
   pub unit-spent-none : (s r : UnitState) → r.seen.node ≡ s.seen.node → r.seen.globals ≡ s.seen.globals → r.seen.cells ≡ s.seen.cells → HasUnitSpent T [] s r

@@ -6,5 +6,6 @@ mod NameRules
 mod NamesGiven
 mod NamesDeclared
 mod DeclaratorHomes
+mod DeclaratorsGiven
 mod InitialisersGiven
 mod InitialiserTrees

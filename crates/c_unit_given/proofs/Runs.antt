@@ -129,9 +129,9 @@ module _ (T : Table) where
         }
 
   -- a part of types and names
-  lift_reached : (made : List Made) (s : UnitState) (q : State) (b : Point) (count : ℕ) → IsUnitHere T s → IsReached T made (state_of s) q b count → IsScopeKept s.seen.scopes b.scopes
+  pub lift-reached : (made : List Made) (s : UnitState) (q : State) (b : Point) (count : ℕ) → IsUnitHere T s → IsReached T made (state_of s) q b count → IsScopeKept s.seen.scopes b.scopes
       → IsUnitReached T made s (known q.table q.seen s.linkage) (with_scopes (known_of s) b.scopes) b.node count
-  lift_reached made s q b count here h keeps =
+  lift-reached made s q b count here h keeps =
       let spent = h.way.spent in
       let up : s.seen.node ≤ q.seen.node = let e = spent.nodes in omega (arith, e) in
       let r : UnitState = known q.table q.seen s.linkage in
@@ -198,6 +198,6 @@ module _ (T : Table) where
         record {
           after = r;
           gives = lifted-is p a s one.after one.gives;
-          reached = subst (λ (l : Known). IsUnitReached T made s r l n count) (sym typed.2) (lift_reached made s one.after b count here one.reached (keeps s.seen.scopes typed.0 typed.1));
+          reached = subst (λ (l : Known). IsUnitReached T made s r l n count) (sym typed.2) (lift-reached made s one.after b count here one.reached (keeps s.seen.scopes typed.0 typed.1));
           gains = gains (state_of s) one.after here.here h one.gives;
         }

@@ -7,5 +7,7 @@ mod NamesGiven
 mod NamesDeclared
 mod DeclaratorHomes
 mod DeclaratorsGiven
+mod DefinedNames
+mod DeclarationsGiven
 mod InitialisersGiven
 mod InitialiserTrees

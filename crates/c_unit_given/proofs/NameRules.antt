@@ -62,15 +62,15 @@ function_linked T (Some (declared.Object u l)) first t h = absurd h
 function_linked T (Some (declared.Typedef u)) first t h = absurd h
 function_linked T (Some (declared.Enumerator z)) first t h = absurd h
 
-equal_numbers : (a b : NodeId) → a ≡ b → (a.0 == b.0) ≡ true
-equal_numbers a b h = let e : a.0 ≡ b.0 = ap (λ (n : NodeId). n.0) h in grind (arith, nat_tests)
+pub equal-numbers : (a b : NodeId) → a ≡ b → (a.0 == b.0) ≡ true
+equal-numbers a b h = let e : a.0 ≡ b.0 = ap (λ (n : NodeId). n.0) h in grind (arith, nat_tests)
 
 -- a new home is none of those before
 abbrev pub IsNotBefore : Home → NodeId → Type 0
 IsNotBefore h m = (n : NodeId) → h ≡ home.Static n → m ≡ n → ⊥
 
 home_linked : (first : Option Declared) (h : Home) (node m : NodeId) → IsLinkedHome first h node → m ≡ node → IsNotBefore h m → is_linked_home first m ≡ true
-home_linked (Some (declared.Object t n)) (home.Known l) node m h e apart = equal_numbers n m (h.0 ∙ h.1 ∙ sym e)
+home_linked (Some (declared.Object t n)) (home.Known l) node m h e apart = equal-numbers n m (h.0 ∙ h.1 ∙ sym e)
 home_linked None (home.Static n) node m h e apart = absurd (apart n refl (e ∙ sym h))
 home_linked first other node m h e apart = absurd h
 

@@ -138,14 +138,14 @@ module _ (T : Table) (D : IsDistinct T) where
         two-sorts is_integer_shape is_aggregate_shape integer_no_aggregate (shape_at T u) (shape_at T u) refl (first_char t (shape_at T t) (record { offset = offset; type = u }) c g.3)
         (same_struct T u (place_type p) g.2.3 g.2.2)
 
-  text_flag : (t : TypeId) (list : TypedItems) (a b : Point) → is_char_array T t ≡ true → AreItems T list (is_only_text list && is_char_array T t) t a.scopes b.scopes
+  pub text-flag : (t : TypeId) (list : TypedItems) (a b : Point) → is_char_array T t ≡ true → AreItems T list (is_only_text list && is_char_array T t) t a.scopes b.scopes
       → Numbers (made_by_items list) a.node b.node → IsFlagSame list
-  text_flag t typed.NoItem a b c h k = refl
-  text_flag t (typed.AndItem typed.NoItem offset u (typed.Text pieces bytes)) a b c h k = refl
-  text_flag t (typed.AndItem typed.NoItem offset u (typed.Value e)) a b c h k = value_flag t c offset u a b e h k
-  text_flag t (typed.AndItem typed.NoItem offset u (typed.Copied p at)) a b c h k = copied_flag t c offset u a b p at h
-  text_flag t (typed.AndItem typed.NoItem offset u (typed.Listed brace items comma v)) a b c h k = refl
-  text_flag t (typed.AndItem (typed.AndItem all o v j) offset u i) a b c h k = refl
+  text-flag t typed.NoItem a b c h k = refl
+  text-flag t (typed.AndItem typed.NoItem offset u (typed.Text pieces bytes)) a b c h k = refl
+  text-flag t (typed.AndItem typed.NoItem offset u (typed.Value e)) a b c h k = value_flag t c offset u a b e h k
+  text-flag t (typed.AndItem typed.NoItem offset u (typed.Copied p at)) a b c h k = copied_flag t c offset u a b p at h
+  text-flag t (typed.AndItem typed.NoItem offset u (typed.Listed brace items comma v)) a b c h k = refl
+  text-flag t (typed.AndItem (typed.AndItem all o v j) offset u i) a b c h k = refl
 
   -- a literal by itself is written where a text stands in the tree
   pub only-text : (t : TypeId) (list : TypedItems) (a b : Point) → AreItems T list (is_only_text list && is_char_array T t) t a.scopes b.scopes → Numbers (made_by_items list) a.node b.node
@@ -157,7 +157,7 @@ module _ (T : Table) (D : IsDistinct T) where
       no_flag false = refl
 
       by : (v : Bool) → is_char_array T t ≡ v → (is_only_literal (erased_items list) && is_char_array T t) ≡ (is_only_text list && is_char_array T t)
-      by true e = ap (λ (f : Bool). f && is_char_array T t) (text_flag t list a b e h k)
+      by true e = ap (λ (f : Bool). f && is_char_array T t) (text-flag t list a b e h k)
       by false e =
           ap (λ (v : Bool). is_only_literal (erased_items list) && v) e ∙ no_flag (is_only_literal (erased_items list)) ∙ sym (no_flag (is_only_text list))
           ∙ ap (λ (v : Bool). is_only_text list && v) (sym e)

@@ -7,9 +7,9 @@ use Rattle.c_types.specs.Table.{Table, IsType, shape_at, IsAggregate}
 use Rattle.c_types.specs.Layouts.{size_of}
 use Rattle.c_tree.specs.declared.leaf.Identifier.{Identifier}
 use Rattle.c_tree.specs.declared.typed_word.Home.TheVariants as home
-use Rattle.c_tree.specs.Erasure.{erased, erased_place, erased_specifiers, erased_form}
+use Rattle.c_tree.specs.Erasure.{erased, erased_place, erased_specifiers, erased_form, erased_initialiser, erased_items}
 use Rattle.c_tree.specs.TypedTree as typed
-use Rattle.c_tree.specs.TypedTree.{TypedExpr, TypedPlace, TypedSpecifiers, TypedForm}
+use Rattle.c_tree.specs.TypedTree.{TypedExpr, TypedPlace, TypedSpecifiers, TypedForm, TypedInitialiser}
 use Rattle.c_tree.specs.TypedParts.{Made, Name, made_by, made_by_place, made_by_specifiers, made_by_form, place_type, specified_type, name_of_form, home_of_form}
 use Rattle.integers.specs.Arithmetic.{IntegerType}
 use Rattle.c_typing.specs.declared.declared.Declared.{Declared}
@@ -34,9 +34,17 @@ use Rattle.c_typing_given.specs.Given.{point_at, IsHere, IsGivenAs}
 use Rattle.c_typing_given.specs.Holding.{expr_holds, specifiers_holds, declarator_holds}
 use Rattle.c_typing_given.specs.Spending.{HasRoom, node_cost, literal_cost, cell_cost, total}
 use Rattle.c_typing_given.specs.Uses.{Use, AreUses, used_by, used_by_place, used_by_specifiers, used_by_declarator}
+use Rattle.c_unit_typing.specs.Initialisers.{IsInitialiser, is_char_array, is_only_text, size_given, makes_chars}
+use Rattle.c_unit_typing.specs.InitialiserJudging.{is_only_literal}
+use Rattle.c_unit_typing.specs.UnitRefusals.{size_written}
 use Rattle.c_unit_typing.specs.Units.{Known, outermost_of}
 use Rattle.c_unit_typing.specs.UnitJudged.{state_of, IsUnitKnown}
 use Rattle.c_unit_typing.specs.UnitJudging.{UnitState, UnitOutcome, UnitJudging, Gives, known_of}
+
+-- a literal by itself in braces is a text as it is typed too
+abbrev pub IsTextAsWritten : TypedInitialiser → Type 0
+IsTextAsWritten (typed.Listed brace items comma t) = is_only_text items ≡ is_only_literal (erased_items items)
+IsTextAsWritten i = Unit {0}
 
 -- What is counted
 
@@ -164,3 +172,10 @@ pub record AreDeclaratorsGiven (T : Table) : Type 0 where
       → IsHomeOf (unless_function (is_function_shape (shape_at T t)) which) (name_of_form form) (home_of_form form) → declarator_holds (erased_form form) ≤ 256
       → IsPartRun T (λ s s'. IsForm T form s s' × FormMakes T s' form (outermost_of size) (specified_type base) t) (made_by_form form t) (used_by_declarator T Written (typed.Declares form t))
       (Has (specified_type base)) (judge_declarator which base size (erased_form form)) (typed.Declares form t)
+
+-- what a declarator makes with the size that an initialiser gives, it makes with the size that is written
+abbrev pub AreSizesWritten : Table → Type 0
+AreSizesWritten T =
+    (c : Scopes) (form : TypedForm) (base t : TypeId) (i : TypedInitialiser) (at : Place) (s s' : Scopes) → IsInitialiser T i at t s s' → (is_char_array T t ≡ true → IsTextAsWritten i)
+    → FormMakes T c form (outermost_of (size_given (is_char_array T t) i)) base t
+    → FormMakes T c form (outermost_of (size_written (makes_chars T base (erased_form form)) (erased_initialiser i))) base t

@@ -38,10 +38,10 @@ use Rattle.c_unit_given.proofs.InitialiserTrees.{initialiser-run}
 use Rattle.c_unit_given.proofs.Runs.{then-is, Then, Stays, run-then, run-last, run-as, run-none, run-three, type-kept, both-kept}
 use Rattle.c_unit_given.proofs.Texts.{text-flag}
 
-left-held : (a b n : ℕ) → max a b ≤ n → a ≤ n
+pub left-held : (a b n : ℕ) → max a b ≤ n → a ≤ n
 left-held a b n h = omega (arith, h)
 
-right-held : (a b n : ℕ) → max a b ≤ n → b ≤ n
+pub right-held : (a b n : ℕ) → max a b ≤ n → b ≤ n
 right-held a b n h = omega (arith, h)
 
 module _ (T : Table) (basic : IsBasic T) (exprs : AreExpressionsGiven T) (scopes : AreScopesKept T) (decls : AreDeclaratorsGiven T) (sizes : AreSizesWritten T) where
@@ -66,7 +66,7 @@ module _ (T : Table) (basic : IsBasic T) (exprs : AreExpressionsGiven T) (scopes
       let R : Known → Known → Type 0 = λ k k'. IsDeclarator T file (storage_of base) u Written form t k k' in
       let a = init_declarators_holds (erased_init_declarators all) in
       let b = declarator_holds (erased_form form) in
-      let give = λ one. pure (typed.AndPlain all one) in
+      let give : typed.TypedDeclarator → UnitJudging TypedInitDeclarators = λ one. pure (typed.AndPlain all one) in
       let d = typed.Declares form t in
       let one = declarator-run T basic scopes decls file base false None form t (right-held a b 256 holds) in
       let last =
@@ -93,7 +93,7 @@ module _ (T : Table) (basic : IsBasic T) (exprs : AreExpressionsGiven T) (scopes
 
     value_run : IsRun T (IsWholeIf T basic scopes decls true t) Nothing IsConstantIf (made_by_initialiser i) (used_by_initialiser T i)
         (judge_initialiser (is_lasting file (storage_of base)) (erased_initialiser i) at (Some t) false
-        >>= (λ value. defining (declarator_name (erased_form form)) d >>= (λ again. pure (typed.AndInitialised all again at value))))
+        >>= (λ value. defining (declarator_name (erased_form form)) d >>= (λ again. pure (typed.AndInitialised all d at value))))
         (typed.AndInitialised all d at i)
     unfolding defining
     value_run s k' n count here c h numbers uses room =
@@ -109,8 +109,8 @@ module _ (T : Table) (basic : IsBasic T) (exprs : AreExpressionsGiven T) (scopes
         record {
           after = after;
           gives = then-is (judge_initialiser (is_lasting file (storage_of base)) (erased_initialiser i) at (Some t) false)
-              (λ value. defining (declarator_name (erased_form form)) d >>= (λ again. pure (typed.AndInitialised all again at value))) i s r (Gives (typed.AndInitialised all d at i) after) one.gives
-              (ap (λ (o : Option Identifier). (defining o d >>= (λ again. pure (typed.AndInitialised all again at i))) r) written);
+              (λ value. defining (declarator_name (erased_form form)) d >>= (λ again. pure (typed.AndInitialised all d at value))) i s r (Gives (typed.AndInitialised all d at i) after) one.gives
+              (ap (λ (o : Option Identifier). (defining o d >>= (λ again. pure (typed.AndInitialised all d at i))) r) written);
           reached = record {
             here = record {
               here = one.reached.here.here;
@@ -135,3 +135,95 @@ module _ (T : Table) (basic : IsBasic T) (exprs : AreExpressionsGiven T) (scopes
         item (typed.Copied p q) = tt
         item (typed.Text pieces bytes) = tt
         item (typed.Listed brace items comma u) = tt
+
+  text_written : (i : TypedInitialiser) (at : Place) (t : TypeId) (a b : Point) → IsInitialiser T i at t a.scopes b.scopes → Numbers (made_by_initialiser i) a.node b.node → is_char_array T t ≡ true
+      → IsTextAsWritten i
+  text_written (typed.Listed brace items comma u) at t a b h n q = sym (text-flag T (distinct T basic) t items a b q h.1 n)
+  text_written (typed.Value e) at t a b h n q = tt
+  text_written (typed.Copied p seat) at t a b h n q = tt
+  text_written (typed.Text pieces bytes) at t a b h n q = tt
+
+  initialised_declarator_run : (all : TypedInitDeclarators) (form : TypedForm) (t : TypeId) (at : Place) (i : TypedInitialiser) → AreDeclaratorsRun all
+      → AreDeclaratorsRun (typed.AndInitialised all (typed.Declares form t) at i)
+  unfolding judge_init_declarators
+  initialised_declarator_run all form t at i p file base holds s k' n count here c h numbers uses room =
+      let u = specified_type base in
+      let x : tree.Declarator = erased_form form in
+      let j : tree.Initialiser = erased_initialiser i in
+      let d : typed.TypedDeclarator = typed.Declares form t in
+      let one_tree : TypedInitDeclarators = typed.AndInitialised all d at i in
+      let size : Option ℕ = size_written (makes_chars T u x) j in
+      let W = IsWholeIf T basic scopes decls true t in
+      let N = HasType u in
+      let N0 = And N Nothing in
+      let P1 = AreDeclarators T file (storage_of base) u all in
+      let P2 = IsDeclaring T basic scopes decls file (storage_of base) u true size form t in
+      let P3 = IsConstantIf file base form t at i all h.4.name h.4.named (rest_held holds) in
+      let xs = made_by_init_declarators all in
+      let ys = made_by_form form t in
+      let zs = made_by_initialiser i in
+      let us = used_by_init_declarators T all in
+      let vs = used_by_declarator T Written d in
+      let ws = used_by_initialiser T i in
+      let cut = two-parts (xs ++ ys) zs s.seen.node n numbers in
+      let a : Point = record { scopes = h.1.scopes; node = cut.0 } in
+      let b : Point = record { scopes = h.2; node = n } in
+      let decl : IsDeclarator T file (storage_of base) u (outermost_of size) form t h.0 h.1 =
+      record {
+        name = h.4.name;
+        inside = h.4.inside;
+        named = h.4.named;
+        parts = h.4.parts;
+        type = sizes h.4.inside form u t i at h.1.scopes h.2 h.5 (text_written i at t a b h.5 cut.2) h.4.type;
+        declares = h.4.declares;
+      } in
+      let value : IsInitialised T (home_of_form form) (with_scopes h.1 h.2) h.4.name.bytes i k' =
+      subst (λ (o : Option Identifier). IsInitialised T (home_of_form form) (with_scopes h.1 h.2) (bytes_of_name o) i k') h.4.named h.6 in
+      let before : Known = with_scopes h.0 h.4.inside in
+      let run = declarator-run T basic scopes decls file base true size form t (middle_held holds) in
+      let values = value_run file base form t at i all h.4.name h.4.named (rest_held holds) in
+      let tail : typed.TypedDeclarator → UnitJudging TypedInitDeclarators = λ one. judge_initialiser (is_lasting file (storage_of base)) j at (Some (Rattle.c_tree.specs.TypedParts.declared_type one)) false
+      >>= (λ v. defining (declarator_name x) one >>= (λ again. pure (typed.AndInitialised all one at v))) in
+      let named_run : IsRun T N0 W P2 ys vs (by_known (λ q. judge_named file base true (size_written (makes_chars q.table u x) j) x)) d =
+      λ q l m o there w g f e r.
+          let one = run q l m o there w.0 g f e r in
+          record {
+            after = one.after;
+            gives = ap (λ (y : Bool). judge_named file base true (size_written y j) x q) (makes_chars-over q.table T there.here.first there.here.known.basic u x w.0) ∙ one.gives;
+            reached = one.reached;
+            gains = one.gains;
+          } in
+      let last : IsRun T N0 Nothing (Then P2 P3) (ys ++ zs) (vs ++ ws) (by_known (λ q. judge_named file base true (size_written (makes_chars q.table u x) j) x) >>= tail) one_tree =
+      run-then T N0 W Nothing (both-kept N Nothing (type-kept u) (λ J U q w e. tt)) P2 P3 ys zs vs ws (by_known (λ q. judge_named file base true (size_written (makes_chars q.table u x) j) x)) tail d one_tree named_run
+      (run-as T W (And N0 W) Nothing Nothing P3 P3 zs ws (tail d) one_tree (λ J w. w.1) (λ J w. w) (λ e f w. w) values) in
+      let whole =
+      run-three T N Nothing (Then P1 (Then P2 P3)) xs ys zs us vs ws (judge_init_declarators file base (erased_init_declarators one_tree)) one_tree
+      (run-then T N Nothing Nothing (type-kept u) P1 (Then P2 P3) xs (ys ++ zs) us (vs ++ ws) (judge_init_declarators file base (erased_init_declarators all))
+      (λ list. by_known (λ q. judge_named file base true (size_written (makes_chars q.table u x) j) x) >>= (λ one. judge_initialiser (is_lasting file (storage_of base)) j at (Some (Rattle.c_tree.specs.TypedParts.declared_type one)) false
+      >>= (λ v. defining (declarator_name x) one >>= (λ again. pure (typed.AndInitialised list one at v))))) all one_tree (p file base (first_held holds)) last) in
+      whole s k' n count here c
+      (h.0, h.3, (h.1,
+        (decl, λ q. (object-home T (home_of_form form) (with_scopes h.1 h.2) h.4.name.bytes i k' value,
+          λ l. ap (λ (o : Option Identifier). Rattle.c_unit_typing.specs.Units.is_one_of h.0.defined (bytes_of_name o)) h.4.named
+          ∙ named-once T h.4.name.bytes t before h.1 (home_of_form form) (with_scopes h.1 h.2) i k' refl refl value file (storage_of base) h.4.declares l)),
+        ((h.2, h.5, h.6), named-constant T h.4.name.bytes t before h.1 file (storage_of base) (home_of_form form) (with_scopes h.1 h.2) i k' h.4.declares value)))
+      numbers uses room
+    where
+      first_held : init_declarators_holds (erased_init_declarators (typed.AndInitialised all (typed.Declares form t) at i)) ≤ 256 → init_declarators_holds (erased_init_declarators all) ≤ 256
+      first_held q = left-held (init_declarators_holds (erased_init_declarators all)) (max (declarator_holds (erased_form form)) (initialiser_holds (erased_initialiser i))) 256 q
+
+      middle_held : init_declarators_holds (erased_init_declarators (typed.AndInitialised all (typed.Declares form t) at i)) ≤ 256 → declarator_holds (erased_form form) ≤ 256
+      middle_held q =
+          left-held (declarator_holds (erased_form form)) (initialiser_holds (erased_initialiser i)) 256
+          (right-held (init_declarators_holds (erased_init_declarators all)) (max (declarator_holds (erased_form form)) (initialiser_holds (erased_initialiser i))) 256 q)
+
+      rest_held : init_declarators_holds (erased_init_declarators (typed.AndInitialised all (typed.Declares form t) at i)) ≤ 256 → initialiser_holds (erased_initialiser i) ≤ 256
+      rest_held q =
+          right-held (declarator_holds (erased_form form)) (initialiser_holds (erased_initialiser i)) 256
+          (right-held (init_declarators_holds (erased_init_declarators all)) (max (declarator_holds (erased_form form)) (initialiser_holds (erased_initialiser i))) 256 q)
+
+  -- initialised declarators that are well typed are given
+  pub declarators-run : (list : TypedInitDeclarators) → AreDeclaratorsRun list
+  declarators-run typed.NoInitDeclarator = no_declarator_run
+  declarators-run (typed.AndPlain all (typed.Declares form t)) = plain_declarator_run all form t (declarators-run all)
+  declarators-run (typed.AndInitialised all (typed.Declares form t) at i) = initialised_declarator_run all form t at i (declarators-run all)

@@ -9,5 +9,7 @@ mod DeclaratorHomes
 mod DeclaratorsGiven
 mod DefinedNames
 mod DeclarationsGiven
+mod DeclarationTrees
+mod StatementsGiven
 mod InitialisersGiven
 mod InitialiserTrees

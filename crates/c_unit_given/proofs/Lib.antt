@@ -11,5 +11,6 @@ mod DefinedNames
 mod DeclarationsGiven
 mod DeclarationTrees
 mod StatementsGiven
+mod ScopesGiven
 mod InitialisersGiven
 mod InitialiserTrees

@@ -12,5 +12,6 @@ mod DeclarationsGiven
 mod DeclarationTrees
 mod StatementsGiven
 mod ScopesGiven
+mod BlockItemsGiven
 mod InitialisersGiven
 mod InitialiserTrees

@@ -45,7 +45,7 @@ module _ (T : Table) (basic : IsBasic T) (exprs : AreExpressionsGiven T) (scopes
   abbrev pub NeedsOf : Around → Option TypeId → Table → Type 0
   NeedsOf a on = And (HasType a.result) (λ J. IsTypeIf J on)
 
-  needs-kept : (a : Around) (on : Option TypeId) → IsKept (NeedsOf a on)
+  pub needs-kept : (a : Around) (on : Option TypeId) → IsKept (NeedsOf a on)
   needs-kept a on = both-kept (HasType a.result) (λ J. IsTypeIf J on) (type-kept a.result) (if-kept on)
 
   -- no two labels of it are alike

@@ -13,5 +13,7 @@ mod DeclarationTrees
 mod StatementsGiven
 mod ScopesGiven
 mod BlockItemsGiven
+mod ReturnsGiven
+mod LoopsGiven
 mod InitialisersGiven
 mod InitialiserTrees

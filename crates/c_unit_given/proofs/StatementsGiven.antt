@@ -52,9 +52,9 @@ droppable_runtime : (e : TypedExpr) → is_droppable e ≡ true → runtime_name
 droppable_runtime (typed.Unread p) h = refl
 droppable_runtime e h = plain_runtime e h
 
-plain_droppable : (e : TypedExpr) → is_plain e ≡ true → is_droppable e ≡ true
-plain_droppable (typed.Unread p) h = refl
-plain_droppable e h = h
+pub plain-droppable : (e : TypedExpr) → is_plain e ≡ true → is_droppable e ≡ true
+plain-droppable (typed.Unread p) h = refl
+plain-droppable e h = h
 
 module _ (T : Table) (basic : IsBasic T) (exprs : AreExpressionsGiven T) (scopes : AreScopesKept T) where
   pub dropped-run : (e : TypedExpr) → is_droppable e ≡ true → expr_holds (erased e) ≤ 256
@@ -81,7 +81,7 @@ module _ (T : Table) (basic : IsBasic T) (exprs : AreExpressionsGiven T) (scopes
     test-then c condition holds Q ys vs f y rest =
         run-then T N (HasType (type_of c)) Nothing keep (IsTested T c) Q (made_by c) ys (used_by T c) vs (lifted (checked (erased c))) f c y
         (run-as T Nothing N (HasType (type_of c)) (HasType (type_of c)) (Among (IsTyped T c)) (IsTested T c) (made_by c) (used_by T c) (lifted (checked (erased c))) c (λ J w. tt) (λ J w. w)
-        (λ k k' w. (w.0, w.1, w.3)) (dropped-run c (plain_droppable c condition.plain) holds)) rest
+        (λ k k' w. (w.0, w.1, w.3)) (dropped-run c (plain-droppable c condition.plain) holds)) rest
 
     -- a part, and then the rule of a condition
     pub tested-last : (c : TypedExpr) → IsCondition T c → (at : Place) (P : Known → Known → Type 0) (ys : List Made) (vs : List Use) (m : UnitJudging TypedStatement) (s : TypedStatement)
@@ -177,7 +177,7 @@ module _ (T : Table) (basic : IsBasic T) (exprs : AreExpressionsGiven T) (scopes
       run-last T (And N Nothing) (HasType tc) Nothing (both-kept N Nothing (type-kept a.result) nothing-kept) (IsTested T c) (made_by c) (used_by T c) (lifted (checked (erased c)))
       (λ test. tested at test (typed.DoWhile x at paren test)) c (typed.DoWhile x at paren c)
       (run-as T Nothing (And N Nothing) (HasType tc) (HasType tc) (Among (IsTyped T c)) (IsTested T c) (made_by c) (used_by T c) (lifted (checked (erased c))) c (λ J e. tt) (λ J e. e)
-      (λ i j e. (e.0, e.1, e.3)) (dropped-run c (plain_droppable c h.2.2.plain) (right-held v u 256 holds)))
+      (λ i j e. (e.0, e.1, e.3)) (dropped-run c (plain-droppable c h.2.2.plain) (right-held v u 256 holds)))
       (λ r there e f. (tested-gives at c (typed.DoWhile x at paren c) r there f h.2.2.scalar, tt)) in
       run-then T N Nothing Nothing (type-kept a.result) (IsStatement T b x) (IsTested T c) (made_by_statement x) (made_by c) (used_by_statement T x) (used_by T c) (judge_statement b (erased_statement x))
       (λ one. lifted (checked (erased c)) >>= (λ test. tested at test (typed.DoWhile one at paren test))) x (typed.DoWhile x at paren c) (p b (left-held v u 256 holds)) last

@@ -15,5 +15,6 @@ mod ScopesGiven
 mod BlockItemsGiven
 mod ReturnsGiven
 mod LoopsGiven
+mod ForsGiven
 mod InitialisersGiven
 mod InitialiserTrees

@@ -35,7 +35,7 @@ abbrev pub IsScalarIf : Table → Option TypedExpr → Type 0
 IsScalarIf T None = Unit {0}
 IsScalarIf T (Some e) = IsScalar T (type_of e)
 
-scalar-if : (T : Table) (e : Option TypedExpr) (k k' : Known) → IsTestedOrNone T e k k' → IsScalarIf T e
+pub scalar-if : (T : Table) (e : Option TypedExpr) (k k' : Known) → IsTestedOrNone T e k k' → IsScalarIf T e
 scalar-if T None k k' h = tt
 scalar-if T (Some e) k k' h = h.2.scalar
 
@@ -136,21 +136,21 @@ module _ (T : Table) (basic : IsBasic T) (exprs : AreExpressionsGiven T) (scopes
 
   -- Loops with a scope of their own
 
-  next_same : {A B : Type 0} (o : UnitOutcome A) (f g : A → UnitJudging B) → ((v : A) (s : UnitState) → f v s ≡ g v s) → next o f ≡ next o g
-  next_same (Gives v s) f g h = h v s
-  next_same (Stops x s) f g h = refl
+  pub next-same : {A B : Type 0} (o : UnitOutcome A) (f g : A → UnitJudging B) → ((v : A) (s : UnitState) → f v s ≡ g v s) → next o f ≡ next o g
+  next-same (Gives v s) f g h = h v s
+  next-same (Stops x s) f g h = refl
 
   -- what ends a scope stands behind all that it holds
-  loop_joined : (a : Around) (at : Place) (test step : Option TypedExpr) (x : TypedStatement) (g : Option TypedExpr → Option TypedExpr → TypedStatement → TypedStatement)
+  pub loop-joined : (a : Around) (at : Place) (test step : Option TypedExpr) (x : TypedStatement) (g : Option TypedExpr → Option TypedExpr → TypedStatement → TypedStatement)
       (end : TypedStatement → UnitJudging TypedStatement) (s : UnitState)
       → ((dropped (erased_optional test) >>= (λ c. dropped (erased_optional step) >>= (λ after. judge_statement (in_a_loop a) (erased_statement x) >>= (λ one. tested_or_none at c (g c after one))))) >>= end) s
       ≡ (dropped (erased_optional test) >>= (λ c. dropped (erased_optional step) >>= (λ after. judge_statement (in_a_loop a) (erased_statement x) >>= (λ one. tested_or_none at c (g c after one) >>= end)))) s
-  loop_joined a at test step x g end s =
+  loop-joined a at test step x g end s =
       let b : Around = in_a_loop a in
       let body : Option TypedExpr → Option TypedExpr → UnitJudging TypedStatement = λ c after. judge_statement b (erased_statement x) >>= (λ one. tested_or_none at c (g c after one)) in
       let ended : Option TypedExpr → Option TypedExpr → UnitJudging TypedStatement = λ c after. judge_statement b (erased_statement x) >>= (λ one. tested_or_none at c (g c after one) >>= end) in
       bind-assoc (dropped (erased_optional test) s) (λ c. dropped (erased_optional step) >>= body c) end
-      ∙ next_same (dropped (erased_optional test) s) (λ c. (dropped (erased_optional step) >>= body c) >>= end) (λ c. dropped (erased_optional step) >>= ended c)
+      ∙ next-same (dropped (erased_optional test) s) (λ c. (dropped (erased_optional step) >>= body c) >>= end) (λ c. dropped (erased_optional step) >>= ended c)
       (λ c q. bind-assoc (dropped (erased_optional step) q) (body c) end
-      ∙ next_same (dropped (erased_optional step) q) (λ after. body c after >>= end) (ended c)
+      ∙ next-same (dropped (erased_optional step) q) (λ after. body c after >>= end) (ended c)
       (λ after r. bind-assoc (judge_statement b (erased_statement x) r) (λ one. tested_or_none at c (g c after one)) end))

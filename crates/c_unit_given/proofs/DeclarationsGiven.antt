@@ -186,13 +186,13 @@ module _ (T : Table) (basic : IsBasic T) (exprs : AreExpressionsGiven T) (scopes
       >>= (λ v. defining (declarator_name x) one >>= (λ again. pure (typed.AndInitialised all one at v))) in
       let named_run : IsRun T N0 W P2 ys vs (by_known (λ q. judge_named file base true (size_written (makes_chars q.table u x) j) x)) d =
       λ q l m o there w g f e r.
-          let one = run q l m o there w.0 g f e r in
-          record {
-            after = one.after;
-            gives = ap (λ (y : Bool). judge_named file base true (size_written y j) x q) (makes_chars-over q.table T there.here.first there.here.known.basic u x w.0) ∙ one.gives;
-            reached = one.reached;
-            gains = one.gains;
-          } in
+      let one = run q l m o there w.0 g f e r in
+      record {
+        after = one.after;
+        gives = ap (λ (y : Bool). judge_named file base true (size_written y j) x q) (makes_chars-over q.table T there.here.first there.here.known.basic u x w.0) ∙ one.gives;
+        reached = one.reached;
+        gains = one.gains;
+      } in
       let last : IsRun T N0 Nothing (Then P2 P3) (ys ++ zs) (vs ++ ws) (by_known (λ q. judge_named file base true (size_written (makes_chars q.table u x) j) x) >>= tail) one_tree =
       run-then T N0 W Nothing (both-kept N Nothing (type-kept u) (λ J U q w e. tt)) P2 P3 ys zs vs ws (by_known (λ q. judge_named file base true (size_written (makes_chars q.table u x) j) x)) tail d one_tree named_run
       (run-as T W (And N0 W) Nothing Nothing P3 P3 zs ws (tail d) one_tree (λ J w. w.1) (λ J w. w) (λ e f w. w) values) in
@@ -201,12 +201,22 @@ module _ (T : Table) (basic : IsBasic T) (exprs : AreExpressionsGiven T) (scopes
       (run-then T N Nothing Nothing (type-kept u) P1 (Then P2 P3) xs (ys ++ zs) us (vs ++ ws) (judge_init_declarators file base (erased_init_declarators all))
       (λ list. by_known (λ q. judge_named file base true (size_written (makes_chars q.table u x) j) x) >>= (λ one. judge_initialiser (is_lasting file (storage_of base)) j at (Some (Rattle.c_tree.specs.TypedParts.declared_type one)) false
       >>= (λ v. defining (declarator_name x) one >>= (λ again. pure (typed.AndInitialised list one at v))))) all one_tree (p file base (first_held holds)) last) in
-      whole s k' n count here c
-      (h.0, h.3, (h.1,
-        (decl, λ q. (object-home T (home_of_form form) (with_scopes h.1 h.2) h.4.name.bytes i k' value,
-          λ l. ap (λ (o : Option Identifier). Rattle.c_unit_typing.specs.Units.is_one_of h.0.defined (bytes_of_name o)) h.4.named
-          ∙ named-once T h.4.name.bytes t before h.1 (home_of_form form) (with_scopes h.1 h.2) i k' refl refl value file (storage_of base) h.4.declares l)),
-        ((h.2, h.5, h.6), named-constant T h.4.name.bytes t before h.1 file (storage_of base) (home_of_form form) (with_scopes h.1 h.2) i k' h.4.declares value)))
+      whole s k' n count here c (
+        h.0,
+        h.3,
+        (
+          h.1,
+          (
+            decl,
+            λ q. (
+              object-home T (home_of_form form) (with_scopes h.1 h.2) h.4.name.bytes i k' value,
+              λ l. ap (λ (o : Option Identifier). Rattle.c_unit_typing.specs.Units.is_one_of h.0.defined (bytes_of_name o)) h.4.named
+                  ∙ named-once T h.4.name.bytes t before h.1 (home_of_form form) (with_scopes h.1 h.2) i k' refl refl value file (storage_of base) h.4.declares l,
+            ),
+          ),
+          ((h.2, h.5, h.6), named-constant T h.4.name.bytes t before h.1 file (storage_of base) (home_of_form form) (with_scopes h.1 h.2) i k' h.4.declares value),
+        ),
+      )
       numbers uses room
     where
       first_held : init_declarators_holds (erased_init_declarators (typed.AndInitialised all (typed.Declares form t) at i)) ≤ 256 → init_declarators_holds (erased_init_declarators all) ≤ 256

@@ -279,7 +279,7 @@ module _ (T : Table) (basic : IsBasic T) (exprs : AreExpressionsGiven T) (scopes
       let more = left-held (items_holds (erased_items all)) (initialiser_holds (erased_initialiser i)) 256 holds in
       let place : Place = item_place i in
       let last : IsRun T (And (And (And (IsWhole t) Nothing) (IsWhole u)) Nothing) Nothing (IsInitialising constant i place u) (made_by_initialiser i) (used_by_initialiser T i)
-          (judge_initialiser constant (erased_initialiser i) place (Some u) single >>= (λ one. with_item all (Some slot) one)) (typed.AndItem all offset u i) =
+      (judge_initialiser constant (erased_initialiser i) place (Some u) single >>= (λ one. with_item all (Some slot) one)) (typed.AndItem all offset u i) =
       run-as T (IsWhole u) (And (And (And (IsWhole t) Nothing) (IsWhole u)) Nothing) Nothing Nothing (IsInitialising constant i place u) (IsInitialising constant i place u) (made_by_initialiser i)
       (used_by_initialiser T i) (judge_initialiser constant (erased_initialiser i) place (Some u) single >>= (λ one. with_item all (Some slot) one)) (typed.AndItem all offset u i)
       (λ J w. w.0.1) (λ J w. w) (λ a b w. w)
@@ -291,27 +291,30 @@ module _ (T : Table) (basic : IsBasic T) (exprs : AreExpressionsGiven T) (scopes
       let slots : (q : UnitState) → IsUnitHere T q → IsComplete q.table t → item_slot q.table text t (items_count all) ≡ Some slot =
       λ q there w. item_slot-over q.table T there.here.first there.here.known.basic text t (items_count all) w ∙ slot_as text t (items_count all) offset u typed_here.3 in
       let middle : IsRun T (And (And (IsWhole t) Nothing) (IsWhole u)) Nothing (IsInitialising constant i place u) (made_by_initialiser i) (used_by_initialiser T i)
-          (by_known (λ q. pure (is_scalar_shape (shape_at q.table t))) >>= (λ one. judge_initialiser constant (erased_initialiser i) place (Some u) one >>= (λ v. with_item all (Some slot) v)))
-          (typed.AndItem all offset u i) =
+      (by_known (λ q. pure (is_scalar_shape (shape_at q.table t))) >>= (λ one. judge_initialiser constant (erased_initialiser i) place (Some u) one >>= (λ v. with_item all (Some slot) v)))
+      (typed.AndItem all offset u i) =
       run-first T (And (And (IsWhole t) Nothing) (IsWhole u)) Nothing Nothing (IsInitialising constant i place u) (made_by_initialiser i) (used_by_initialiser T i)
       (by_known (λ q. pure (is_scalar_shape (shape_at q.table t)))) (λ one. judge_initialiser constant (erased_initialiser i) place (Some u) one >>= (λ v. with_item all (Some slot) v)) single
       (typed.AndItem all offset u i) (λ q there w. (ap (λ (b : Bool). Gives b q) (scalar q there w.0.0), tt)) last in
       let rest : IsRun T (And (IsWhole t) Nothing) Nothing (IsInitialising constant i place u) (made_by_initialiser i) (used_by_initialiser T i)
-          (by_known (λ q. pure (item_slot q.table text t (items_count all))) >>= (λ o. by_known (λ q. pure (is_scalar_shape (shape_at q.table t)))
-          >>= (λ one. judge_initialiser constant (erased_initialiser i) place (slot_type o) one >>= (λ v. with_item all o v))))
-          (typed.AndItem all offset u i) =
+      (by_known (λ q. pure (item_slot q.table text t (items_count all))) >>= (λ o. by_known (λ q. pure (is_scalar_shape (shape_at q.table t)))
+      >>= (λ one. judge_initialiser constant (erased_initialiser i) place (slot_type o) one >>= (λ v. with_item all o v))))
+      (typed.AndItem all offset u i) =
       run-first T (And (IsWhole t) Nothing) (IsWhole u) Nothing (IsInitialising constant i place u) (made_by_initialiser i) (used_by_initialiser T i)
       (by_known (λ q. pure (item_slot q.table text t (items_count all))))
       (λ o. by_known (λ q. pure (is_scalar_shape (shape_at q.table t))) >>= (λ one. judge_initialiser constant (erased_initialiser i) place (slot_type o) one >>= (λ v. with_item all o v))) (Some slot)
       (typed.AndItem all offset u i)
-      (λ q there w. (ap (λ (o : Option Slot). Gives o q) (slots q there w.0),
-        slot-complete q.table there.here.known.basic text t (items_count all) offset u w.0 (slot_is q.table text t (items_count all) slot (slots q there w.0)))) middle in
+      (λ q there w. (
+        ap (λ (o : Option Slot). Gives o q) (slots q there w.0),
+        slot-complete q.table there.here.known.basic text t (items_count all) offset u w.0 (slot_is q.table text t (items_count all) slot (slots q there w.0)),
+      )) middle in
       run-then T (IsWhole t) Nothing Nothing (whole-kept t) (AreInitialising constant all text t) (IsInitialising constant i place u) (made_by_items all) (made_by_initialiser i)
       (used_by_items T all) (used_by_initialiser T i) (judge_items constant (erased_items all) text t)
       (λ list. by_known (λ q. pure (item_slot q.table text t (items_count list))) >>= (λ o. by_known (λ q. pure (is_scalar_shape (shape_at q.table t)))
       >>= (λ one. judge_initialiser constant (erased_initialiser i) place (slot_type o) one >>= (λ v. with_item list o v))))
-      all (typed.AndItem all offset u i) (pa constant text t more) rest s k n count here c
-      (with_scopes (known_of s) typed_here.0,
+      all (typed.AndItem all offset u i) (pa constant text t more) rest s k n count here c (
+        with_scopes (known_of s) typed_here.0,
         ((typed_here.0, typed_here.1, refl), λ q. and_left (are_constant_items T s.linkage.statics all) (is_constant_initialiser T s.linkage.statics i) (h.1 q)),
-        ((h.0.0, typed_here.2, h.0.2), λ q. and_right (are_constant_items T s.linkage.statics all) (is_constant_initialiser T s.linkage.statics i) (h.1 q)))
+        ((h.0.0, typed_here.2, h.0.2), λ q. and_right (are_constant_items T s.linkage.statics all) (is_constant_initialiser T s.linkage.statics i) (h.1 q)),
+      )
       numbers uses room

@@ -89,7 +89,7 @@ module _ (T : Table) (basic : IsBasic T) (exprs : AreExpressionsGiven T) (scopes
       (run-as T N (And NC Nothing) Nothing Nothing R R zs ws (judge_statement b (erased_statement x)) x (λ J w. w.0.0) (λ J w. w) (λ k k' w. w) (p b hold_body))
       (λ r here w v. (tested-or-none-gives at test (g test step x) r here w.0.1 scalar, tt)) in
       let steps : IsRun T NC Nothing (Then Q R) (ys ++ zs) (vs ++ ws)
-          (dropped (erased_optional step) >>= (λ after. judge_statement b (erased_statement x) >>= (λ one. tested_or_none at test (g test after one)))) (g test step x) =
+      (dropped (erased_optional step) >>= (λ after. judge_statement b (erased_statement x) >>= (λ one. tested_or_none at test (g test after one)))) (g test step x) =
       run-then T NC Nothing Nothing keep Q R ys zs vs ws (dropped (erased_optional step)) (λ after. judge_statement b (erased_statement x) >>= (λ one. tested_or_none at test (g test after one))) step (g test step x)
       (run-as T Nothing NC Nothing Nothing Q Q ys vs (dropped (erased_optional step)) step (λ J w. tt) (λ J w. w) (λ k k' w. w) (option-run step hold_step)) body in
       run-then T N C Nothing (type-kept a.result) P (Then Q R) xs (ys ++ zs) us (vs ++ ws) (dropped (erased_optional test))

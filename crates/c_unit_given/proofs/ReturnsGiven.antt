@@ -93,7 +93,7 @@ module _ (T : Table) (basic : IsBasic T) (exprs : AreExpressionsGiven T) (scopes
       run-lifted T (And N Nothing) Nothing (IsTyped T e) (made_by e) (used_by T e) Always (checked_constant (erased e)) c (scopes.value e) (exprs.constant e z h.4.2 h.4.4 (right-held u v 256 holds))
       (λ q i. tt) (λ q r i j g. tt) in
       let last : IsRun T (And N Nothing) Nothing (Among (IsTyped T e)) (made_by e) (used_by T e)
-          (lifted (checked_constant (erased e)) >>= (λ x. by_known (λ q. labelled at (labels_of all) all x.expr (label_as q.table on x.value)))) one =
+      (lifted (checked_constant (erased e)) >>= (λ x. by_known (λ q. labelled at (labels_of all) all x.expr (label_as q.table on x.value)))) one =
       run-last T (And N Nothing) Nothing Nothing (both-kept N Nothing keep nothing-kept) (Among (IsTyped T e)) (made_by e) (used_by T e) (lifted (checked_constant (erased e)))
       (λ x. by_known (λ q. labelled at (labels_of all) all x.expr (label_as q.table on x.value))) c one constant
       (λ r there i j. (label_gives t at all e z value r there i.0.1 same labels, tt)) in
@@ -107,11 +107,12 @@ module _ (T : Table) (basic : IsBasic T) (exprs : AreExpressionsGiven T) (scopes
   unfolding judge_statement returned
   return-run at None a holds s k n count here w h numbers uses room =
       run-none T (HasType a.result) Nothing (judge_statement a (tree.Return at None)) (typed.Return at None)
-      (λ r there i.
-        (ap (λ (o : Option _). (Rattle.c_unit_typing.specs.UnitJudging.unless o (pure None) >>= (λ v. pure (typed.Return at v))) r)
-          (ap first_broken (return_none-over r.table T there.here.first there.here.known.basic at a.result i)
-          ∙ passes_one rule.Mismatch at (not (is_void_shape (shape_at T a.result))) (off (is_void_shape (shape_at T a.result)) h.1)),
-          tt)) s k n count here w h.0 numbers uses room
+      (λ r there i. (
+        ap (λ (o : Option _). (Rattle.c_unit_typing.specs.UnitJudging.unless o (pure None) >>= (λ v. pure (typed.Return at v))) r)
+            (ap first_broken (return_none-over r.table T there.here.first there.here.known.basic at a.result i)
+            ∙ passes_one rule.Mismatch at (not (is_void_shape (shape_at T a.result))) (off (is_void_shape (shape_at T a.result)) h.1)),
+        tt,
+      )) s k n count here w h.0 numbers uses room
   return-run at (Some e) a holds s k n count here w h numbers uses room =
       let t = a.result in
       let N = HasType t in

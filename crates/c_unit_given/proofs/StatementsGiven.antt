@@ -154,7 +154,7 @@ module _ (T : Table) (basic : IsBasic T) (exprs : AreExpressionsGiven T) (scopes
       let whole : TypedStatement = typed.IfElse at paren c x y in
       let other = tested-last N (type-kept a.result) c h.2.2 at Q zs ws (judge_statement a (erased_statement y)) y (typed.IfElse at paren c x) (q a (right-held v1 v2 256 rest)) in
       let both : IsRun T (And N (HasType tc)) Nothing (Then P Q) (ys ++ zs) (vs ++ ws)
-          (judge_statement a (erased_statement x) >>= (λ one. judge_statement a (erased_statement y) >>= (λ two. tested at c (typed.IfElse at paren c one two)))) whole =
+      (judge_statement a (erased_statement x) >>= (λ one. judge_statement a (erased_statement y) >>= (λ two. tested at c (typed.IfElse at paren c one two)))) whole =
       run-then T (And N (HasType tc)) Nothing Nothing (both-kept N (HasType tc) (type-kept a.result) (type-kept tc)) P Q ys zs vs ws (judge_statement a (erased_statement x))
       (λ one. judge_statement a (erased_statement y) >>= (λ two. tested at c (typed.IfElse at paren c one two))) x whole
       (run-as T N (And N (HasType tc)) Nothing Nothing P P ys vs (judge_statement a (erased_statement x)) x (λ J e. e.0) (λ J e. e) (λ i j e. e) (p a (left-held v1 v2 256 rest)))

@@ -1,7 +1,5 @@
 -- What blocks hold is given, and blocks.
-use Rattle.std.proofs.Common.{◌≡◌, ◌≤◌, ◌+◌, ◌==◌, ℕ, ℤ, max, Bool, true, false, not, List, [], ◌∷◌, ◌++◌, Option, Some, None, refl, ap, sym, subst, ◌∙◌, arith}
-use Rattle.std.specs.List.{All, list_any}
-use Rattle.std.proofs.lemmas.List.Elements.{All-head, All-tail, All-nil, All-cons}
+use Rattle.std.proofs.Common.{◌≡◌, ◌≤◌, ◌+◌, ◌==◌, ℕ, true, false, not, [], ◌∷◌, Option, Some, None, refl, ap, sym, subst, arith}
 use Rattle.std.proofs.lemmas.Bool.Decides.{nat_tests}
 use Rattle.cc_base.specs.declared.number.TypeId.{TypeId}
 use Rattle.cc_base.specs.declared.place.Place.{Place}
@@ -21,12 +19,12 @@ use Rattle.c_unit_typing.specs.Holding.{statement_holds, declaration_holds, bloc
 use Rattle.c_unit_typing.specs.StatementJudging.{default_label, judge_statement, judge_block_items}
 use Rattle.c_unit_typing.specs.Units.{Known, Around, IsDeclaration, IsStatement, AreBlockItems, AreDifferent, labels_of, defaults_in}
 use Rattle.c_unit_typing.specs.UnitJudging.{UnitState, UnitJudging, Gives, pure, ◌>>=◌}
-use Rattle.c_unit_given.specs.UnitGiven.{IsUnitHere, IsRun, IsKept, Nothing, And, HasType, AreSizesWritten, AreScopesKept, AreExpressionsGiven, AreDeclaratorsGiven}
+use Rattle.c_unit_given.specs.UnitGiven.{IsRun, IsKept, Nothing, And, HasType, AreSizesWritten, AreScopesKept, AreExpressionsGiven, AreDeclaratorsGiven}
 use Rattle.c_unit_given.specs.UnitUses.{used_by_statement, used_by_declaration, used_by_block_items}
 use Rattle.c_unit_given.proofs.DeclarationsGiven.{left-held, right-held}
 use Rattle.c_unit_given.proofs.DeclarationTrees.{declaration-run}
-use Rattle.c_unit_given.proofs.Runs.{Then, Stays, obeying-is, run-then, run-last, run-as, run-none, nothing-kept, type-kept, both-kept}
-use Rattle.c_unit_given.proofs.ScopesGiven.{Inside, scoped-run}
+use Rattle.c_unit_given.proofs.Runs.{obeying-is, run-then, run-last, run-as, run-none, nothing-kept, type-kept, both-kept}
+use Rattle.c_unit_given.proofs.ScopesGiven.{scoped-run}
 use Rattle.c_unit_given.proofs.StatementsGiven.{IsStatementRun}
 
 -- a `case` stands in a `switch` only

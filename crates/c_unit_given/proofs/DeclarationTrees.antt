@@ -1,6 +1,5 @@
 -- Declarations are given: specifiers, and the declarators behind them.
-use Rattle.std.proofs.Common.{◌≡◌, ◌≤◌, ℕ, max, Bool, true, false, List, [], ◌∷◌, ◌++◌, Option, Some, None, refl, ap, sym, subst, ◌∙◌}
-use Rattle.cc_base.specs.declared.number.TypeId.{TypeId}
+use Rattle.std.proofs.Common.{◌≡◌, ◌≤◌, max, Bool, true, false, ◌++◌, refl}
 use Rattle.c_types.specs.Table.{Table}
 use Rattle.c_tree.specs.Erasure.{erased_specifiers, erased_init_declarators, erased_declaration}
 use Rattle.c_tree.specs.TypedTree as typed
@@ -18,7 +17,7 @@ use Rattle.c_typing_given.specs.Holding.{specifiers_holds}
 use Rattle.c_typing_given.specs.Uses.{used_by_specifiers}
 use Rattle.c_unit_typing.specs.DeclarationJudging.{judge_init_declarators, judge_declaration}
 use Rattle.c_unit_typing.specs.Holding.{init_declarators_holds, declaration_holds}
-use Rattle.c_unit_typing.specs.Units.{Known, with_scopes, storage_of, AreDeclarators, IsDeclaration}
+use Rattle.c_unit_typing.specs.Units.{with_scopes, storage_of, AreDeclarators, IsDeclaration}
 use Rattle.c_unit_typing.specs.UnitJudging.{UnitJudging, known_of, pure, lifted, ◌>>=◌}
 use Rattle.c_unit_given.specs.UnitGiven.{AreSizesWritten, IsRun, Nothing, And, HasType, IsPartRun, Always, IsScopeKept, AreScopesKept, AreExpressionsGiven, AreDeclaratorsGiven}
 use Rattle.c_unit_given.specs.UnitUses.{used_by_init_declarators, used_by_declaration}

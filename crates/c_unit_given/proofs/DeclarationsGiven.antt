@@ -1,10 +1,10 @@
 -- Declarations are given.
-use Rattle.std.proofs.Common.{◌≡◌, ◌≤◌, ◌+◌, ℕ, max, Bool, true, false, List, [], ◌∷◌, ◌++◌, Option, Some, None, refl, ap, sym, subst, ◌∙◌, if◌then◌else◌, arith}
+use Rattle.std.proofs.Common.{◌≡◌, ◌≤◌, ℕ, max, Bool, true, false, ◌++◌, Option, Some, None, refl, ap, sym, subst, ◌∙◌, if◌then◌else◌, arith}
 use Rattle.cc_base.specs.declared.number.TypeId.{TypeId}
 use Rattle.cc_base.specs.declared.place.Place.{Place}
-use Rattle.c_types.specs.Table.{Table, IsType}
+use Rattle.c_types.specs.Table.{Table}
 use Rattle.c_tree.specs.declared.leaf.Identifier.{Identifier}
-use Rattle.c_tree.specs.Erasure.{erased_form, erased_initialiser, erased_items, erased_specifiers, erased_init_declarators, erased_declaration}
+use Rattle.c_tree.specs.Erasure.{erased_form, erased_initialiser, erased_init_declarators}
 use Rattle.c_tree.specs.Tree as tree
 use Rattle.c_tree.specs.TypedTree as typed
 use Rattle.c_tree.specs.TypedTree.{TypedSpecifiers, TypedForm, TypedInitialiser, TypedInitDeclarators, TypedDeclaration}
@@ -19,23 +19,22 @@ use Rattle.c_typing_unique.proofs.Numbering.{two-parts}
 use Rattle.c_typing_unique.proofs.Shapes.{no_true}
 use Rattle.c_typing_exact.proofs.SameParts.{distinct}
 use Rattle.c_typing_given.specs.Holding.{declarator_holds}
-use Rattle.c_typing_given.specs.Uses.{Use, AreUses, used_by_declarator}
+use Rattle.c_typing_given.specs.Uses.{used_by_declarator}
 use Rattle.c_unit_rules_alike.proofs.InitialiserRules.{makes_chars-over}
-use Rattle.c_unit_typing.specs.DeclarationJudging.{defining, is_linked_by, judge_named, judge_init_declarators, judge_declaration}
+use Rattle.c_unit_typing.specs.DeclarationJudging.{defining, is_linked_by, judge_named, judge_init_declarators}
 use Rattle.c_unit_typing.specs.Holding.{initialiser_holds, init_declarators_holds}
 use Rattle.c_unit_typing.specs.InitialiserJudging.{judge_initialiser}
 use Rattle.c_unit_typing.specs.Initialisers.{IsInitialiser, is_char_array, is_only_text, size_given, makes_chars}
 use Rattle.c_unit_typing.specs.Linkage.{with_name}
 use Rattle.c_unit_typing.specs.Units.{Known, Storage, with_scopes, storage_of, outermost_of, IsDeclarator, IsInitialised, AreDeclarators, bytes_of_name}
-use Rattle.c_unit_typing.specs.UnitJudged.{state_of}
 use Rattle.c_unit_typing.specs.UnitJudging.{UnitState, UnitJudging, Gives, known_of, by_known, pure, ◌>>=◌}
 use Rattle.c_unit_typing.specs.UnitRefusals.{size_written, is_lasting}
-use Rattle.c_unit_given.specs.UnitGiven.{IsTextAsWritten, AreSizesWritten, IsUnitHere, IsUnitReached, IsUnitGivenAs, IsRun, IsKept, Nothing, And, HasType, AreScopesKept, AreExpressionsGiven, AreDeclaratorsGiven}
+use Rattle.c_unit_given.specs.UnitGiven.{IsTextAsWritten, AreSizesWritten, IsRun, Nothing, And, HasType, AreScopesKept, AreExpressionsGiven, AreDeclaratorsGiven}
 use Rattle.c_unit_given.specs.UnitUses.{used_by_initialiser, used_by_init_declarators}
 use Rattle.c_unit_given.proofs.DeclaratorsGiven.{IsDeclaring, IsWholeIf, declarator-run}
 use Rattle.c_unit_given.proofs.DefinedNames.{defining_known, defines, object-home, named-once, named-constant}
 use Rattle.c_unit_given.proofs.InitialiserTrees.{initialiser-run}
-use Rattle.c_unit_given.proofs.Runs.{then-is, Then, Stays, run-then, run-last, run-as, run-none, run-three, type-kept, both-kept}
+use Rattle.c_unit_given.proofs.Runs.{then-is, Then, run-then, run-last, run-as, run-none, run-three, type-kept, both-kept}
 use Rattle.c_unit_given.proofs.Texts.{text-flag}
 
 pub left-held : (a b n : ℕ) → max a b ≤ n → a ≤ n

@@ -1,5 +1,5 @@
 -- The home of what a declarator declares: which one it is, and that it is new.
-use Rattle.std.proofs.Common.{◌≡◌, ◌≤◌, ◌<◌, ◌+◌, ℕ, Bool, true, false, List, [], ◌∷◌, ◌++◌, length, Option, Some, None, refl, ap, sym, subst, ◌∙◌, arith}
+use Rattle.std.proofs.Common.{◌≡◌, ◌≤◌, ◌<◌, ◌+◌, ℕ, Bool, true, false, List, [], ◌∷◌, ◌++◌, Option, Some, None, refl, ap, sym, arith}
 use Rattle.std.specs.List.{All}
 use Rattle.std.proofs.lemmas.List.Elements.{All-head, All-tail, All-nil}
 use Rattle.cc_base.specs.declared.number.NodeId.{NodeId}
@@ -9,10 +9,9 @@ use Rattle.c_tree.specs.declared.typed_word.Home.{Home}
 use Rattle.c_tree.specs.declared.typed_word.Home.TheVariants as home
 use Rattle.c_tree.specs.TypedTree as typed
 use Rattle.c_tree.specs.TypedTree.{TypedForm, TypedCore, TypedParts}
-use Rattle.c_tree.specs.TypedParts.{Made, Name, made_by_stars, made_by_form, made_by_core, made_by_parts, home_of_form, home_of_core}
+use Rattle.c_tree.specs.TypedParts.{Name, made_by_stars, made_by_form, made_by_core, made_by_parts, home_of_form, home_of_core}
 use Rattle.c_typing.specs.declared.declared.Declared.{Declared}
 use Rattle.c_typing.specs.declared.declared.Declared.TheVariants as declared
-use Rattle.c_typing.specs.declared.naming.Naming.{Naming}
 use Rattle.c_typing.specs.declared.naming.Naming.TheVariants as naming
 use Rattle.c_typing.specs.Declaring.{unless_function}
 use Rattle.c_typing.specs.Scopes as scopes

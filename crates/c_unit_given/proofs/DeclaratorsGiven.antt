@@ -1,5 +1,5 @@
 -- Declarators that declare a name are given.
-use Rattle.std.proofs.Common.{◌≡◌, ◌≤◌, ◌<◌, ◌+◌, ℕ, Bool, true, false, List, [], ◌∷◌, ◌++◌, length, Option, Some, None, refl, ap, sym, subst, ◌∙◌, arith}
+use Rattle.std.proofs.Common.{◌≡◌, ◌≤◌, ◌<◌, ℕ, Bool, true, false, List, length, Option, Some, refl, ap, sym, subst, ◌∙◌, arith}
 use Rattle.cc_base.specs.declared.number.NodeId.{NodeId}
 use Rattle.cc_base.specs.declared.number.TypeId.{TypeId}
 use Rattle.c_types.specs.Table.{Table, IsType, IsComplete, shape_at}
@@ -10,14 +10,12 @@ use Rattle.c_tree.specs.Erasure.{erased_form}
 use Rattle.c_tree.specs.TypedTree as typed
 use Rattle.c_tree.specs.TypedTree.{TypedSpecifiers, TypedForm, TypedDeclarator}
 use Rattle.c_tree.specs.TypedParts.{Made, made_by_form, specified_type, name_of_form, home_of_form}
-use Rattle.c_typing.specs.declared.declared.Declared.{Declared}
 use Rattle.c_typing.specs.declared.declared.Declared.TheVariants as declared
 use Rattle.c_typing.specs.declared.naming.Naming.{Naming}
 use Rattle.c_typing.specs.Declarators.{Written}
 use Rattle.c_typing.specs.Declaring.{declarator_name, unless_function}
 use Rattle.c_typing.specs.Extensions.{IsExtended}
-use Rattle.c_typing.specs.Judging.{State}
-use Rattle.c_typing.specs.Scopes.{Scopes, entry_of}
+use Rattle.c_typing.specs.Scopes.{Scopes}
 use Rattle.c_typing.specs.Settled.{IsBasic}
 use Rattle.c_typing.specs.Shapes.{is_function_shape}
 use Rattle.c_typing.specs.Tests.{first_broken}
@@ -26,23 +24,21 @@ use Rattle.c_typing_laws.specs.Judged.{IsHomeOf}
 use Rattle.c_typing_laws.proofs.JudgedDeclarators.{form_name}
 use Rattle.c_typing_unique.specs.Points.{Point, Numbers}
 use Rattle.c_typing_exact.specs.Passing.{Passes}
-use Rattle.c_typing_given.specs.Given.{IsReached}
 use Rattle.c_typing_given.specs.Holding.{declarator_holds}
-use Rattle.c_typing_given.specs.Spending.{literal_cost, total}
-use Rattle.c_typing_given.specs.Uses.{Use, AreUses, used_by_declarator}
+use Rattle.c_typing_given.specs.Uses.{AreUses, used_by_declarator}
 use Rattle.c_unit_rules_alike.proofs.DeclarationRules.{declared-over}
 use Rattle.c_unit_rules_alike.proofs.NamesThere.{name-there}
 use Rattle.c_unit_typing.specs.DeclarationJudging.{naming_for, linked_first, declare, named, judge_named, is_linked_object}
 use Rattle.c_unit_typing.specs.Units.{Known, Storage, with_scopes, storage_of, outermost_of, is_one_of, IsNameDeclared, IsDeclarator, bytes_of_name}
-use Rattle.c_unit_typing.specs.UnitJudged.{state_of, IsUnitKnown}
-use Rattle.c_unit_typing.specs.UnitJudging.{UnitState, UnitJudging, Gives, known_of, known, by_known, pure, lifted, ◌>>=◌}
+use Rattle.c_unit_typing.specs.UnitJudged.{state_of}
+use Rattle.c_unit_typing.specs.UnitJudging.{UnitState, Gives, known_of, known, by_known, pure, lifted, ◌>>=◌}
 use Rattle.c_unit_typing.specs.UnitRefusals.{declared_tests}
 use Rattle.c_unit_typing.proofs.JudgedDeclarators.{form-known, one-judged}
 use Rattle.c_unit_given.specs.UnitGiven.{HasUnitRoom, IsUnitHere, IsUnitReached, IsUnitGivenAs, IsRun, And, HasType, AreScopesKept, AreDeclaratorsGiven}
 use Rattle.c_unit_given.proofs.DeclaratorHomes.{home-as, IsMadeBetween, form-between, form-cost, here-below}
 use Rattle.c_unit_given.proofs.NameRules.{IsObjectHome, IsNotBefore, name-passes}
 use Rattle.c_unit_given.proofs.NamesDeclared.{declare-given}
-use Rattle.c_unit_given.proofs.NamesGiven.{home_cost, IsMadeBelow}
+use Rattle.c_unit_given.proofs.NamesGiven.{IsMadeBelow}
 use Rattle.c_unit_given.proofs.Runs.{then-is, obeying-is, lifted-is, lift-reached}
 use Rattle.c_unit_given.proofs.UnitRoom.{part-room}
 

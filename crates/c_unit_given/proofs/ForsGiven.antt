@@ -1,5 +1,5 @@
 -- `for` with a declaration, whose names are in a scope of its own, is given.
-use Rattle.std.proofs.Common.{◌≡◌, ◌≤◌, ℕ, max, Bool, true, false, List, [], ◌∷◌, ◌++◌, Option, Some, None, refl, ap, sym, subst, ◌∙◌}
+use Rattle.std.proofs.Common.{◌≡◌, max, false, ◌++◌, Option, sym, ◌∙◌}
 use Rattle.cc_base.specs.declared.place.Place.{Place}
 use Rattle.c_types.specs.Table.{Table}
 use Rattle.c_tree.specs.Erasure.{erased_optional, erased_statement, erased_declaration}
@@ -11,15 +11,15 @@ use Rattle.c_typing.specs.Settled.{IsBasic}
 use Rattle.c_unit_typing.specs.DeclarationJudging.{judge_declaration}
 use Rattle.c_unit_typing.specs.Holding.{optional_holds, statement_holds, declaration_holds}
 use Rattle.c_unit_typing.specs.StatementJudging.{dropped, tested_or_none, judge_statement}
-use Rattle.c_unit_typing.specs.Units.{Known, Around, in_a_loop, IsDropped, IsTestedOrNone, IsDeclaration, IsStatement, entering_known}
-use Rattle.c_unit_typing.specs.UnitJudging.{UnitState, UnitJudging, Gives, lifted, known_of, ◌>>=◌}
-use Rattle.c_unit_given.specs.UnitGiven.{IsUnitHere, IsUnitGivenAs, IsRun, Nothing, And, HasType, AreSizesWritten, AreScopesKept, AreExpressionsGiven, AreDeclaratorsGiven}
+use Rattle.c_unit_typing.specs.Units.{Around, in_a_loop, IsDropped, IsTestedOrNone, IsDeclaration, IsStatement}
+use Rattle.c_unit_typing.specs.UnitJudging.{UnitJudging, lifted, ◌>>=◌}
+use Rattle.c_unit_given.specs.UnitGiven.{Nothing, And, HasType, AreSizesWritten, AreScopesKept, AreExpressionsGiven, AreDeclaratorsGiven}
 use Rattle.c_unit_given.specs.UnitUses.{used_by_optional, used_by_statement, used_by_declaration}
 use Rattle.c_unit_given.proofs.DeclarationsGiven.{left-held, right-held}
 use Rattle.c_unit_given.proofs.DeclarationTrees.{declaration-run}
 use Rattle.c_unit_given.proofs.LoopsGiven.{scalar-if, next-same, loop-joined, loop-run}
 use Rattle.c_unit_given.proofs.Runs.{Then, run-then, run-as, run-three, type-kept}
-use Rattle.c_unit_given.proofs.ScopesGiven.{bind-assoc, Inside, scoped-run}
+use Rattle.c_unit_given.proofs.ScopesGiven.{bind-assoc, scoped-run}
 use Rattle.c_unit_given.proofs.StatementsGiven.{IsStatementRun}
 
 module _ (T : Table) (basic : IsBasic T) (exprs : AreExpressionsGiven T) (scopes : AreScopesKept T) (decls : AreDeclaratorsGiven T) (sizes : AreSizesWritten T) where

@@ -1,25 +1,24 @@
 -- Initialisers are given, by one recursion over the tree.
-use Rattle.std.proofs.Common.{◌≡◌, ◌≤◌, ℕ, Bool, true, false, ◌&&◌, List, Option, None, Some, refl, ap, sym, subst, ◌∙◌}
+use Rattle.std.proofs.Common.{◌≡◌, ◌≤◌, ℕ, Bool, true, false, ◌&&◌, List, Some, refl, ap, sym, subst, ◌∙◌}
 use Rattle.cc_base.specs.declared.place.Place.{Place}
 use Rattle.cc_base.specs.declared.number.TypeId.{TypeId}
 use Rattle.c_types.specs.Table.{Table, shape_at, is_aggregate_shape}
-use Rattle.c_tree.specs.Erasure.{erased, erased_place, erased_initialiser, erased_items}
+use Rattle.c_tree.specs.Erasure.{erased, erased_place, erased_items}
 use Rattle.c_tree.specs.Tree as tree
 use Rattle.c_tree.specs.TypedTree as typed
 use Rattle.c_tree.specs.TypedTree.{TypedExpr, TypedPlace, TypedInitialiser, TypedItems}
 use Rattle.c_tree.specs.TypedParts.{place_type, made_by_initialiser, made_by_items}
 use Rattle.c_typing.specs.Settled.{IsBasic}
-use Rattle.c_typing.specs.Shapes.{IsSameType}
 use Rattle.c_typing_unique.specs.Points.{Point}
 use Rattle.c_typing_exact.proofs.SameParts.{distinct}
 use Rattle.c_unit_rules_alike.proofs.InitialiserRules.{is_char_array-over}
-use Rattle.c_unit_typing.specs.Holding.{initialiser_holds, items_holds}
-use Rattle.c_unit_typing.specs.Initialisers.{is_char_array, is_only_text, IsItemFor, IsInitialiser}
-use Rattle.c_unit_typing.specs.InitialiserJudging.{judge_plain, is_only_literal, judge_initialiser, judge_items}
-use Rattle.c_unit_typing.specs.UnitJudging.{UnitState, UnitJudging, Gives, known_of, pure, by_known, ◌>>=◌}
+use Rattle.c_unit_typing.specs.Holding.{items_holds}
+use Rattle.c_unit_typing.specs.Initialisers.{is_char_array, is_only_text}
+use Rattle.c_unit_typing.specs.InitialiserJudging.{is_only_literal, judge_initialiser, judge_items}
+use Rattle.c_unit_typing.specs.UnitJudging.{UnitState, Gives, pure, by_known, ◌>>=◌}
 use Rattle.c_unit_typing.proofs.KeptInitialisers.{complete-in}
 use Rattle.c_unit_given.specs.UnitGiven.{IsUnitHere, IsUnitGivenAs, IsRun, Nothing, And, AreScopesKept, AreExpressionsGiven}
-use Rattle.c_unit_given.specs.UnitUses.{used_by_initialiser, used_by_items}
+use Rattle.c_unit_given.specs.UnitUses.{used_by_items}
 use Rattle.c_unit_given.proofs.InitialisersGiven.{IsWhole, whole-kept, IsInitialising, AreInitialising, IsInitialiserRun, AreItemsRun, no-chars, no-chars-struct, value-run, copied-run, plain-run, text-run, no-item-run, item-run}
 use Rattle.c_unit_given.proofs.Runs.{run-last, run-first, run-as}
 use Rattle.c_unit_given.proofs.Texts.{same_struct, only-text}

@@ -1,5 +1,5 @@
 -- Initialisers are given.
-use Rattle.std.proofs.Common.{◌≡◌, ◌≤◌, ◌+◌, ℕ, max, Bool, true, false, not, ◌&&◌, nat_lt, List, [], ◌∷◌, ◌++◌, length, take, Option, Some, None, refl, ap, sym, subst, ◌∙◌, inl, inr, arith}
+use Rattle.std.proofs.Common.{◌≡◌, ◌≤◌, ℕ, max, Bool, true, false, not, ◌&&◌, nat_lt, List, [], ◌∷◌, ◌++◌, length, take, Option, Some, None, refl, ap, sym, ◌∙◌, arith}
 use Rattle.std.proofs.lemmas.Bool.Decides.{nat_tests}
 use Rattle.cc_base.specs.declared.place.Place.{Place}
 use Rattle.cc_base.specs.declared.number.NodeId.{NodeId}
@@ -10,47 +10,41 @@ use Rattle.c_types.specs.declared.shape.TypeShape.TheVariants.{Void, Integer, Po
 use Rattle.c_types.specs.Table.{Table, IsComplete, shape_at, is_aggregate_shape}
 use Rattle.c_tree.specs.declared.leaf.StringPiece.{StringPiece}
 use Rattle.c_tree.specs.Erasure.{erased, erased_place, erased_initialiser, erased_items}
-use Rattle.c_tree.specs.Places.{expr_place, initialiser_place}
+use Rattle.c_tree.specs.Places.{expr_place}
 use Rattle.c_tree.specs.Tree as tree
 use Rattle.c_tree.specs.TypedTree as typed
 use Rattle.c_tree.specs.TypedTree.{TypedExpr, TypedPlace, TypedInitialiser, TypedItems}
 use Rattle.c_tree.specs.TypedParts.{Made, Copy, place_type, item_place, made_by, made_by_place, made_by_initialiser, made_by_items}
-use Rattle.c_typing.specs.Cells.{count_cells, pointers_in}
+use Rattle.c_typing.specs.Cells.{count_cells}
 use Rattle.c_typing.specs.Checking.{checked_value}
 use Rattle.c_typing.specs.Conversions.{IsAssigned}
-use Rattle.c_typing.specs.Judging as judging
 use Rattle.c_typing.specs.Judging.{State}
 use Rattle.c_typing.specs.Rules.{pieces_bytes}
 use Rattle.c_typing.specs.Scopes.{Scopes}
 use Rattle.c_typing.specs.Settled.{IsBasic, IsKnown}
 use Rattle.c_typing.specs.Shapes.{IsScalar, is_scalar_shape}
-use Rattle.c_typing.specs.Tests.{first_broken, broken_at}
 use Rattle.c_typing.specs.Typing.{IsTyped, IsPlace}
-use Rattle.c_typing_laws.specs.Judged.{IsCheckedFor}
 use Rattle.c_typing_laws.proofs.JudgedWhole.{checked_value-judged}
-use Rattle.c_typing_unique.specs.Points.{Point, Numbers}
 use Rattle.c_typing_unique.proofs.Numbering.{two-parts}
 use Rattle.c_typing_unique.proofs.Shapes.{no_true}
 use Rattle.c_typing_exact.specs.Passing.{Passes}
 use Rattle.c_typing_exact.proofs.Unbroken.{passes_one}
-use Rattle.c_typing_given.specs.Given.{point_at, IsHere}
-use Rattle.c_typing_given.specs.Uses.{Use, AreUses, used_by, used_by_place}
+use Rattle.c_typing_given.specs.Uses.{Use, used_by, used_by_place}
 use Rattle.c_typing_given.proofs.Settling.{small-kept}
-use Rattle.c_unit_rules_alike.proofs.InitialiserRules.{constant-over, char_count-over, is_char_array-over, item_slot-over}
+use Rattle.c_unit_rules_alike.proofs.InitialiserRules.{constant-over, char_count-over, item_slot-over}
 use Rattle.c_unit_typing.specs.Holding.{initialiser_holds, items_holds}
-use Rattle.c_unit_typing.specs.Initialisers.{Slot, char_count_of_shape, is_char_array, is_only_text, items_count, is_constant, is_constant_initialiser, are_constant_items, IsText, IsSlot, IsItemFor, IsInitialiser, AreItems, slot_of_shape}
-use Rattle.c_unit_typing.specs.InitialiserJudging.{text_tests, text, initialised, constant_tests, value_for, value_or_text, judge_plain, is_only_literal, item_slot, slot_type, with_item, judge_initialiser, judge_items}
+use Rattle.c_unit_typing.specs.Initialisers.{Slot, char_count_of_shape, items_count, is_constant, is_constant_initialiser, are_constant_items, IsText, IsSlot, IsItemFor, IsInitialiser, AreItems}
+use Rattle.c_unit_typing.specs.InitialiserJudging.{text_tests, text, initialised, constant_tests, value_for, value_or_text, judge_plain, item_slot, slot_type, with_item, judge_initialiser, judge_items}
 use Rattle.c_unit_typing.specs.Units.{Known, with_scopes}
 use Rattle.c_unit_typing.specs.UnitJudged.{state_of}
-use Rattle.c_unit_typing.specs.UnitJudging.{UnitState, UnitJudging, Gives, known, known_of, pure, obeying, by_known, lifted, ◌>>=◌}
+use Rattle.c_unit_typing.specs.UnitJudging.{UnitState, Gives, known, known_of, pure, obeying, by_known, lifted, ◌>>=◌}
 use Rattle.c_unit_typing.proofs.JudgedInitialisers.{slot_is}
 use Rattle.c_unit_typing.proofs.KeptInitialisers.{complete-in, complete-kept, slot-complete}
 use Rattle.c_unit_typing.proofs.UnitOutcomes.{lifted-gives}
-use Rattle.c_unit_given.specs.UnitGiven.{HasUnitRoom, IsUnitHere, IsUnitReached, IsUnitGivenAs, IsRun, IsPartRun, IsKept, Nothing, And, AreScopesKept, AreExpressionsGiven}
+use Rattle.c_unit_given.specs.UnitGiven.{IsUnitHere, IsRun, IsKept, Nothing, And, AreScopesKept, AreExpressionsGiven}
 use Rattle.c_unit_given.specs.UnitUses.{used_by_initialiser, used_by_items}
 use Rattle.c_unit_given.proofs.CellsCounted.{pointers-most, counting_cells, cells-counted}
-use Rattle.c_unit_given.proofs.Runs.{then-is, obeying-is, lifted-is, Among, Then, Stays, run-then, run-last, run-first, run-as, run-none, run-lifted}
-use Rattle.c_unit_given.proofs.Texts.{only-text}
+use Rattle.c_unit_given.proofs.Runs.{then-is, obeying-is, lifted-is, Among, run-then, run-last, run-first, run-as, run-none, run-lifted}
 use Rattle.c_unit_given.proofs.UnitRoom.{unit-room-first, unit-room-then, unit-spent-both}
 
 is_unread : TypedExpr → Bool

@@ -1,5 +1,5 @@
 -- `for` is given.
-use Rattle.std.proofs.Common.{◌≡◌, ◌≤◌, ℕ, max, Bool, true, false, List, [], ◌∷◌, ◌++◌, Option, Some, None, refl, ap, sym, subst, ◌∙◌}
+use Rattle.std.proofs.Common.{◌≡◌, ◌≤◌, max, ◌++◌, Option, Some, None, refl, ◌∙◌}
 use Rattle.cc_base.specs.declared.place.Place.{Place}
 use Rattle.c_types.specs.Table.{Table}
 use Rattle.c_tree.specs.Erasure.{erased, erased_optional, erased_statement}

@@ -1,6 +1,6 @@
 -- A name that is declared as the rules have it breaks no rule of names (C99 6.2.2, 6.7, 6.9).
-use Rattle.std.proofs.Common.{◌≡◌, ℕ, ◌==◌, Bool, true, false, not, ◌&&◌, ◌||◌, List, [], ◌∷◌, Option, Some, None, refl, ap, sym, subst, ◌∙◌, arith}
-use Rattle.std.specs.List.{All, AllZip}
+use Rattle.std.proofs.Common.{◌≡◌, ◌==◌, Bool, true, false, not, ◌&&◌, ◌||◌, List, [], ◌∷◌, Option, Some, None, refl, ap, sym, subst, ◌∙◌, arith}
+use Rattle.std.specs.List.{AllZip}
 use Rattle.std.specs.Prelude.{MatchOption}
 use Rattle.std.proofs.lemmas.Bool.Decides.{nat_tests}
 use Rattle.cc_base.specs.declared.number.NodeId.{NodeId}
@@ -8,8 +8,7 @@ use Rattle.cc_base.specs.declared.number.TypeId.{TypeId}
 use Rattle.cc_base.specs.declared.place.Place.{Place}
 use Rattle.cc_base.specs.declared.fault.Rule.TheVariants as rule
 use Rattle.c_types.specs.declared.shape.TypeShape.{TypeShape}
-use Rattle.c_types.specs.declared.shape.TypeShape.TheVariants.{Integer, Pointer, Void, Function}
-use Rattle.c_types.specs.Table.{Table, HasShape, shape_at}
+use Rattle.c_types.specs.Table.{Table, shape_at}
 use Rattle.c_tree.specs.declared.typed_word.Home.{Home}
 use Rattle.c_tree.specs.declared.typed_word.Home.TheVariants as home
 use Rattle.c_tree.specs.declared.typed_word.Runtime.{Runtime}
@@ -19,17 +18,17 @@ use Rattle.runtime_calls.specs.Prototypes.{IsNamed, IsNoName, IsRuntimeType, Has
 use Rattle.runtime_calls.proofs.Found.{runtime_of-exact}
 use Rattle.c_typing.specs.declared.declared.Declared.{Declared}
 use Rattle.c_typing.specs.declared.declared.Declared.TheVariants as declared
-use Rattle.c_typing.specs.Constants.{is_void_pointer, is_void_pointer_shape}
+use Rattle.c_typing.specs.Constants.{is_void_pointer_shape}
 use Rattle.c_typing.specs.Scopes.{Name, here, entry_of, is_complete_at}
-use Rattle.c_typing.specs.Shapes.{is_same_type, is_function_shape, is_void_shape}
+use Rattle.c_typing.specs.Shapes.{is_function_shape, is_void_shape}
 use Rattle.c_typing.specs.Tests.{Test, broken_at, has_some}
 use Rattle.c_typing_unique.proofs.Shapes.{no_true}
 use Rattle.c_typing_exact.specs.Passing.{Passes}
 use Rattle.c_typing_exact.proofs.Unbroken.{passes_one, passes_and}
 use Rattle.c_unit_typing.specs.DeclarationJudging.{is_linked_object}
-use Rattle.c_unit_typing.specs.Units.{Known, Storage, Unstored, AsTypedef, AsExtern, AsStatic, AsAutomatic, AgreesWith, AgreesWithRuntime, IsLinkedHome, IsLinked, IsLinkedObject, IsStaticOrLocal, IsTypedefDeclared, IsFunctionDeclared, IsObjectDeclared, IsOrdinaryDeclared, IsNameDeclared, is_one_of, is_linked_home}
-use Rattle.c_unit_typing.specs.UnitRefusals.{conflicts, conflicts_with_runtime, declared_as, has_linkage, is_unlinked, is_redeclared, is_object, is_integer_of, is_runtime_type, are_runtime_types, is_prototype_shape, declared_tests}
-use Rattle.c_unit_typing.proofs.DeclaredNames.{is_typedef, zero_home, as_made, declared-as, linkage_of_function, linkage_of_object}
+use Rattle.c_unit_typing.specs.Units.{Known, Storage, Unstored, AsTypedef, AsExtern, AsStatic, AsAutomatic, AgreesWith, AgreesWithRuntime, IsLinkedHome, IsLinked, IsLinkedObject, IsTypedefDeclared, IsFunctionDeclared, IsObjectDeclared, IsOrdinaryDeclared, IsNameDeclared, is_one_of, is_linked_home}
+use Rattle.c_unit_typing.specs.UnitRefusals.{conflicts, conflicts_with_runtime, has_linkage, is_unlinked, is_redeclared, is_object, is_integer_of, is_runtime_type, are_runtime_types, is_prototype_shape, declared_tests}
+use Rattle.c_unit_typing.proofs.DeclaredNames.{is_typedef, zero_home, declared-as, linkage_of_function, linkage_of_object}
 
 or_off : (a b : Bool) → a ≡ false → b ≡ false → (a || b) ≡ false
 or_off true b h k = h

@@ -1,5 +1,5 @@
 -- A name that the tree declares is declared by judging.
-use Rattle.std.proofs.Common.{◌≡◌, ◌≤◌, ◌<◌, ◌+◌, ℕ, Bool, true, false, List, [], ◌∷◌, ◌++◌, Option, Some, None, refl, ap, sym, subst, ◌∙◌, if◌then◌else◌}
+use Rattle.std.proofs.Common.{◌≡◌, ◌≤◌, ◌<◌, ◌+◌, Bool, true, false, List, [], ◌∷◌, ◌++◌, Option, Some, None, refl, ap, sym, subst, ◌∙◌, if◌then◌else◌}
 use Rattle.cc_base.specs.declared.number.NodeId.{NodeId}
 use Rattle.cc_base.specs.declared.number.TypeId.{TypeId}
 use Rattle.c_types.specs.Layouts.{size_of}
@@ -9,7 +9,7 @@ use Rattle.c_tree.specs.declared.typed_word.Home.{Home}
 use Rattle.c_tree.specs.declared.typed_word.Home.TheVariants as home
 use Rattle.c_typing.specs.declared.declared.Declared.{Declared}
 use Rattle.c_typing.specs.declared.declared.Declared.TheVariants as declared
-use Rattle.c_typing.specs.Scopes.{Scopes, entry_of, declaring}
+use Rattle.c_typing.specs.Scopes.{Scopes, entry_of}
 use Rattle.c_typing.specs.Shapes.{is_function_shape}
 use Rattle.c_typing_unique.proofs.Shapes.{no_true}
 use Rattle.c_unit_typing.specs.DeclarationJudging.{object_name, declare_object, declare_by, declare, is_linked_object}

@@ -1,41 +1,34 @@
 -- Names are declared as the tree has them: a state after it, and what is counted.
-use Rattle.std.proofs.Common.{◌≡◌, ◌≤◌, ◌<◌, ◌+◌, ℕ, Bool, true, false, List, [], ◌∷◌, ◌++◌, length, Option, Some, None, refl, ap, sym, subst, ◌∙◌, if◌then◌else◌, arith}
+use Rattle.std.proofs.Common.{◌≡◌, ◌≤◌, ◌<◌, ◌+◌, ℕ, Bool, true, List, [], ◌∷◌, length, Option, Some, None, refl, ap, sym, ◌∙◌, if◌then◌else◌, arith}
 use Rattle.std.specs.List.{All}
 use Rattle.std.proofs.lemmas.List.Elements.{All-head, All-tail, All-cons, All-nil, All-push}
 use Rattle.cc_base.specs.declared.number.NodeId.{NodeId}
 use Rattle.cc_base.specs.declared.number.TypeId.{TypeId}
 use Rattle.cc_base.specs.declared.place.Place.{Place}
 use Rattle.c_types.specs.Layouts.{size_of}
-use Rattle.c_types.specs.Table.{Table, IsType, IsComplete, shape_at}
+use Rattle.c_types.specs.Table.{Table, IsType, IsComplete}
 use Rattle.c_tree.specs.declared.leaf.Identifier.{Identifier}
 use Rattle.c_tree.specs.declared.typed_word.Home.{Home}
 use Rattle.c_tree.specs.declared.typed_word.Home.TheVariants as home
 use Rattle.c_typing.specs.declared.declared.Declared.{Declared}
 use Rattle.c_typing.specs.declared.declared.Declared.TheVariants as declared
 use Rattle.c_typing.specs.Assignments.{count_global}
-use Rattle.c_typing.specs.Extensions.{IsExtended}
-use Rattle.c_typing.specs.Judging as judging
-use Rattle.c_typing.specs.Judging.{State}
 use Rattle.c_typing.specs.Scopes.{Name, Level, Scopes, here, entry_of, at_innermost, with_name, without_innermost, declaring, place_among, is_complete_at}
-use Rattle.c_typing.specs.Settled.{IsBasic, IsThere}
-use Rattle.c_typing.specs.Shapes.{is_function_shape}
+use Rattle.c_typing.specs.Settled.{IsThere}
 use Rattle.c_typing_unique.specs.Sameness.{HasOwnFunctions}
-use Rattle.c_typing_unique.proofs.Shapes.{no_true}
-use Rattle.c_typing_given.specs.Given.{point_at, IsHere}
 use Rattle.c_typing_given.proofs.Settling.{small-kept}
 use Rattle.c_typing_given.proofs.TypeGiven.{le_true}
 use Rattle.c_rules_alike.proofs.TypesAlike.{complete-over}
 use Rattle.c_unit_rules_alike.proofs.InitialiserRules.{complete_size-over}
-use Rattle.c_unit_typing.specs.DeclarationJudging.{complete_size, new_in, new_name, linked_name, object_name, count_object, lasting, new_static, declare_object, declare_by, declare, is_linked_object}
-use Rattle.c_unit_typing.specs.Initialisers.{is_among, with_home}
-use Rattle.c_unit_typing.specs.Units.{Known, Storage, Unstored, AsTypedef, AsExtern, AsStatic, AsAutomatic, with_scopes, unless_here, unless_linked, IsLinkedHome, IsLinkedObject, IsOrdinaryDeclared, IsObjectDeclared, IsFunctionDeclared, IsNameDeclared}
-use Rattle.c_unit_typing.specs.UnitJudged.{state_of, IsLinkedKnown, IsUnitKnown, UnitGoesOn}
-use Rattle.c_unit_typing.specs.UnitJudging.{UnitState, UnitOutcome, Gives, known_of, known, lifted, ◌>>=◌}
-use Rattle.c_unit_typing.proofs.DeclaredNames.{is_typedef}
+use Rattle.c_unit_typing.specs.DeclarationJudging.{complete_size, new_in, new_name, linked_name, object_name, count_object, lasting, new_static, declare_object}
+use Rattle.c_unit_typing.specs.Initialisers.{with_home}
+use Rattle.c_unit_typing.specs.Units.{Known, with_scopes, unless_here, unless_linked, IsLinkedObject}
+use Rattle.c_unit_typing.specs.UnitJudged.{state_of, IsLinkedKnown, UnitGoesOn}
+use Rattle.c_unit_typing.specs.UnitJudging.{UnitState, UnitOutcome, Gives, known_of}
 use Rattle.c_unit_typing.proofs.KeptInitialisers.{complete-kept}
-use Rattle.c_unit_typing.proofs.NameSteps.{named_state, linked_state, static_state, named-goes, linked-goes, static-goes, linked-there, home-own}
+use Rattle.c_unit_typing.proofs.NameSteps.{named_state, linked_state, static_state, named-goes, linked-goes, static-goes}
 use Rattle.c_unit_given.specs.UnitGiven.{IsHomeBelow, AreHomesBelow, IsUnitHere}
-use Rattle.c_unit_given.proofs.Runs.{then-is, lifted-is}
+use Rattle.c_unit_given.proofs.Runs.{then-is}
 
 -- Scopes
 

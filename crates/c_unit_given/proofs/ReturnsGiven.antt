@@ -1,5 +1,5 @@
 -- Labels of a `switch` and returned values are given.
-use Rattle.std.proofs.Common.{◌≡◌, ◌≤◌, ◌+◌, ℕ, ℤ, max, Bool, true, false, not, ◌||◌, List, [], ◌∷◌, ◌++◌, Option, Some, None, refl, ap, sym, subst, ◌∙◌}
+use Rattle.std.proofs.Common.{◌≡◌, ℤ, Bool, true, false, not, ◌||◌, List, [], ◌∷◌, ◌++◌, Option, Some, None, refl, ap, sym, ◌∙◌}
 use Rattle.std.specs.List.{All, list_any}
 use Rattle.std.specs.Ordering.{int_eq}
 use Rattle.std.proofs.lemmas.List.Elements.{All-head, All-tail, All-nil, All-cons}
@@ -25,14 +25,14 @@ use Rattle.c_typing_given.specs.Uses.{used_by}
 use Rattle.c_unit_rules_alike.proofs.StatementRules.{return_none-over, label_as-over}
 use Rattle.c_unit_typing.specs.Holding.{block_items_holds}
 use Rattle.c_unit_typing.specs.StatementJudging.{label_as, labelled, case_label, returned, judge_statement, judge_block_items}
-use Rattle.c_unit_typing.specs.Units.{Known, Around, IsReturned, IsLabel, AreBlockItems, AreDifferent, labels_of, defaults_in}
+use Rattle.c_unit_typing.specs.Units.{AreBlockItems, AreDifferent, labels_of}
 use Rattle.c_unit_typing.specs.UnitJudging.{UnitState, UnitJudging, Gives, pure, by_known, lifted, ◌>>=◌}
 use Rattle.c_unit_typing.specs.UnitRefusals.{converted_label}
-use Rattle.c_unit_given.specs.UnitGiven.{IsUnitHere, IsUnitGivenAs, IsRun, Nothing, And, Has, HasType, Always, AreSizesWritten, AreScopesKept, AreExpressionsGiven, AreDeclaratorsGiven}
+use Rattle.c_unit_given.specs.UnitGiven.{IsUnitHere, IsRun, Nothing, And, Has, HasType, Always, AreSizesWritten, AreScopesKept, AreExpressionsGiven, AreDeclaratorsGiven}
 use Rattle.c_unit_given.specs.UnitUses.{used_by_block_items}
 use Rattle.c_unit_given.proofs.BlockItemsGiven.{NeedsOf, needs-kept, AreBlockItemsRun}
 use Rattle.c_unit_given.proofs.DeclarationsGiven.{left-held, right-held}
-use Rattle.c_unit_given.proofs.Runs.{Among, Then, Stays, obeying-is, run-then, run-last, run-as, run-none, run-lifted, nothing-kept, type-kept, both-kept}
+use Rattle.c_unit_given.proofs.Runs.{Among, obeying-is, run-then, run-last, run-none, run-lifted, nothing-kept, type-kept, both-kept}
 use Rattle.c_unit_given.proofs.StatementsGiven.{IsStatementRun}
 
 -- Labels

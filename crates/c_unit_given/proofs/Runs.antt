@@ -1,5 +1,5 @@
 -- Runs of judging that give, one after another.
-use Rattle.std.proofs.Common.{◌≡◌, ◌≤◌, ◌+◌, ℕ, List, [], ◌∷◌, ◌++◌, length, Option, None, refl, ap, sym, subst, ◌∙◌, append_assoc, arith}
+use Rattle.std.proofs.Common.{◌≡◌, ◌≤◌, ℕ, List, [], ◌++◌, length, Option, None, refl, ap, sym, subst, ◌∙◌, append_assoc, arith}
 use Rattle.std.specs.List.{All}
 use Rattle.std.proofs.lemmas.List.Elements.{All-weaker}
 use Rattle.cc_base.specs.declared.fault.Fault.{Fault}
@@ -15,14 +15,14 @@ use Rattle.c_typing_laws.proofs.ExtensionLaws.{extended_refl, still_in}
 use Rattle.c_typing_laws.proofs.TableGrowth.{extended_trans}
 use Rattle.c_typing_unique.specs.Points.{Point, Numbers}
 use Rattle.c_typing_unique.proofs.Numbering.{two-parts}
-use Rattle.c_typing_given.specs.Given.{point_at, IsHere, IsReached, IsGivenAs}
+use Rattle.c_typing_given.specs.Given.{IsHere, IsReached}
 use Rattle.c_typing_given.specs.Uses.{Use, AreUses}
 use Rattle.c_typing_given.proofs.ValuesGiven.{uses-first}
 use Rattle.c_unit_typing.specs.Units.{Known, with_scopes}
-use Rattle.c_unit_typing.specs.UnitJudged.{state_of, IsUnitKnown}
-use Rattle.c_unit_typing.specs.UnitJudging.{UnitState, UnitJudging, UnitOutcome, Gives, ◌>>=◌, next, pure, unless, known, known_of, obeying, lifted, with_linkage}
+use Rattle.c_unit_typing.specs.UnitJudged.{state_of}
+use Rattle.c_unit_typing.specs.UnitJudging.{UnitState, UnitJudging, UnitOutcome, Gives, ◌>>=◌, next, unless, known, known_of, obeying, lifted, with_linkage}
 use Rattle.c_unit_typing.proofs.UnitStates.{linkage-stays}
-use Rattle.c_unit_given.specs.UnitGiven.{IsHomeBelow, AreHomesBelow, IsScopeKept, HasUnitRoom, HasUnitSpent, IsUnitHere, IsUnitReached, IsUnitGivenAs, IsRun, IsPartRun, IsKept, Nothing, And, HasType}
+use Rattle.c_unit_given.specs.UnitGiven.{IsHomeBelow, AreHomesBelow, IsScopeKept, IsUnitHere, IsUnitReached, IsRun, IsPartRun, IsKept, Nothing, And, HasType}
 use Rattle.c_unit_given.proofs.UnitRoom.{part-room, part-spent, unit-room-first, unit-room-then, unit-spent-both, unit-spent-none}
 
 pub then-is : {A B : Type 0} (m : UnitJudging A) (f : A → UnitJudging B) (a : A) (s k : UnitState) (o : UnitOutcome B) → m s ≡ Gives a k → f a k ≡ o → (m >>= f) s ≡ o

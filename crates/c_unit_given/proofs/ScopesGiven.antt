@@ -1,5 +1,5 @@
 -- What is judged in a scope of its own is given.
-use Rattle.std.proofs.Common.{◌≡◌, ◌≤◌, ◌<◌, ◌+◌, ℕ, Bool, true, false, nat_lt, List, [], ◌∷◌, ◌++◌, length, refl, ap, sym, subst, ◌∙◌, arith}
+use Rattle.std.proofs.Common.{◌≡◌, ◌≤◌, ◌<◌, ℕ, true, List, [], ◌∷◌, ◌++◌, length, refl, ap, sym, subst, ◌∙◌, arith}
 use Rattle.std.specs.List.{All}
 use Rattle.std.proofs.lemmas.List.{length-append}
 use Rattle.std.proofs.lemmas.List.Elements.{All-head, All-tail, All-cons, All-nil, All-push}
@@ -11,18 +11,16 @@ use Rattle.c_typing.specs.Declaring.{entered, left}
 use Rattle.c_typing.specs.Judging.{State}
 use Rattle.c_typing.specs.Scopes as scopes
 use Rattle.c_typing.specs.Scopes.{Name, Level, empty_level, entering, leaving, without_innermost}
-use Rattle.c_typing_laws.proofs.ExtensionLaws.{extended_refl}
 use Rattle.c_typing_laws.proofs.JudgedDeclarators.{entered-judged, left-judged}
 use Rattle.c_typing_given.specs.Uses.{Use}
 use Rattle.c_typing_given.proofs.Settling.{small-kept}
 use Rattle.c_typing_given.proofs.TypeGiven.{lt_true}
 use Rattle.c_unit_typing.specs.Units.{Known, entering_known, leaving_known}
-use Rattle.c_unit_typing.specs.UnitJudged.{state_of, IsUnitKnown}
-use Rattle.c_unit_typing.specs.UnitJudging.{UnitState, UnitJudging, UnitOutcome, Gives, Stops, known, known_of, next, lifted, ◌>>=◌}
+use Rattle.c_unit_typing.specs.UnitJudged.{state_of}
+use Rattle.c_unit_typing.specs.UnitJudging.{UnitState, UnitJudging, UnitOutcome, Gives, Stops, next, lifted, ◌>>=◌}
 use Rattle.c_unit_typing.proofs.UnitStates.{linkage-stays}
-use Rattle.c_unit_given.specs.UnitGiven.{IsHomeBelow, AreHomesBelow, IsUnitHere, IsUnitGivenAs, IsRun, IsKept, Nothing}
+use Rattle.c_unit_given.specs.UnitGiven.{IsHomeBelow, AreHomesBelow, IsUnitHere, IsRun}
 use Rattle.c_unit_given.proofs.Runs.{then-is, lifted-is}
-use Rattle.c_unit_given.proofs.UnitRoom.{unit-spent-both, unit-spent-none}
 
 -- Levels
 

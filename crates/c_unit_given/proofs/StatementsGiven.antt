@@ -1,42 +1,36 @@
 -- Statements are given: one lemma for each.
-use Rattle.std.proofs.Common.{◌≡◌, ◌≤◌, ℕ, max, Bool, true, false, not, List, [], ◌∷◌, ◌++◌, Option, Some, None, refl, ap, sym, subst, ◌∙◌}
-use Rattle.cc_base.specs.declared.number.TypeId.{TypeId}
+use Rattle.std.proofs.Common.{◌≡◌, ◌≤◌, max, Bool, true, false, not, List, ◌++◌, None, refl, ap, sym, subst, ◌∙◌}
 use Rattle.cc_base.specs.declared.place.Place.{Place}
 use Rattle.cc_base.specs.declared.fault.Rule.TheVariants as rule
-use Rattle.c_types.specs.declared.shape.TypeShape.{TypeShape}
 use Rattle.c_types.specs.Table.{Table, IsType, shape_at}
-use Rattle.c_tree.specs.Erasure.{erased, erased_statement, erased_declaration, erased_block_items}
+use Rattle.c_tree.specs.Erasure.{erased, erased_statement}
 use Rattle.c_tree.specs.Tree as tree
 use Rattle.c_tree.specs.TypedTree as typed
 use Rattle.c_tree.specs.TypedTree.{TypedExpr, TypedDeclaration, TypedStatement, TypedBlockItems}
-use Rattle.c_tree.specs.TypedParts.{Made, made_by, made_by_statement, made_by_declaration, made_by_block_items, type_of}
+use Rattle.c_tree.specs.TypedParts.{Made, made_by, made_by_statement, type_of}
 use Rattle.c_typing.specs.Checking.{checked}
-use Rattle.c_typing.specs.Conversions.{bare, is_droppable, is_plain, is_taken_over, IsPlain}
-use Rattle.c_typing.specs.Judging as judging
-use Rattle.c_typing.specs.Judging.{State}
+use Rattle.c_typing.specs.Conversions.{bare, is_droppable, is_plain, is_taken_over}
 use Rattle.c_typing.specs.Rules.{IsCondition, runtime_named}
 use Rattle.c_typing.specs.Settled.{IsBasic}
 use Rattle.c_typing.specs.Shapes.{IsScalar, is_scalar_shape}
-use Rattle.c_typing.specs.Tests.{AsValue, broken_at}
+use Rattle.c_typing.specs.Tests.{AsValue}
 use Rattle.c_typing.specs.Typing.{IsTyped}
 use Rattle.c_typing_laws.proofs.JudgedWhole.{checked-judged}
 use Rattle.c_typing_unique.proofs.Reading.{plain-bare, plain-over}
 use Rattle.c_typing_exact.proofs.SameParts.{plain_runtime}
 use Rattle.c_typing_exact.proofs.Unbroken.{passes_one, off}
 use Rattle.c_rules_alike.proofs.PartsThere.{checked-there}
-use Rattle.c_typing_given.specs.Given.{IsHere}
 use Rattle.c_typing_given.specs.Holding.{expr_holds}
 use Rattle.c_typing_given.specs.Uses.{Use, used_by}
-use Rattle.c_unit_typing.specs.DeclarationJudging.{judge_declaration}
-use Rattle.c_unit_typing.specs.Holding.{statement_holds, declaration_holds, block_items_holds}
-use Rattle.c_unit_typing.specs.StatementJudging.{tested, jump, judge_statement, judge_block_items}
-use Rattle.c_unit_typing.specs.Units.{Known, Around, in_a_loop, IsTested, IsDeclaration, IsStatement, AreBlockItems}
+use Rattle.c_unit_typing.specs.Holding.{statement_holds}
+use Rattle.c_unit_typing.specs.StatementJudging.{tested, jump, judge_statement}
+use Rattle.c_unit_typing.specs.Units.{Known, Around, in_a_loop, IsTested, IsStatement}
 use Rattle.c_unit_typing.specs.UnitJudging.{UnitState, UnitJudging, Gives, pure, lifted, ◌>>=◌}
 use Rattle.c_unit_typing.specs.UnitRefusals.{condition_tests, jump_tests}
 use Rattle.c_unit_given.specs.UnitGiven.{IsUnitHere, IsRun, IsPartRun, IsKept, Nothing, And, HasType, Always, AreScopesKept, AreExpressionsGiven}
-use Rattle.c_unit_given.specs.UnitUses.{used_by_statement, used_by_declaration, used_by_block_items}
+use Rattle.c_unit_given.specs.UnitUses.{used_by_statement}
 use Rattle.c_unit_given.proofs.DeclarationsGiven.{left-held, right-held}
-use Rattle.c_unit_given.proofs.Runs.{Among, Then, Stays, obeying-is, run-then, run-last, run-as, run-none, run-three, run-lifted, nothing-kept, type-kept, both-kept}
+use Rattle.c_unit_given.proofs.Runs.{Among, Then, obeying-is, run-then, run-last, run-as, run-none, run-three, run-lifted, nothing-kept, type-kept, both-kept}
 
 -- Values that may be dropped
 

@@ -1,5 +1,5 @@
 -- A string literal that stands in braces by itself for an array of char is its text, and no value of its first character.
-use Rattle.std.proofs.Common.{◌≡◌, ℕ, Bool, true, false, ◌&&◌, ◌*◌, ◌⊎◌, inl, inr, nat_lt, if◌then◌else◌, List, [], ◌∷◌, length, Option, Some, None, refl, ap, sym, subst, ◌∙◌}
+use Rattle.std.proofs.Common.{◌≡◌, ℕ, Bool, true, false, ◌&&◌, ◌*◌, ◌⊎◌, inl, inr, nat_lt, if◌then◌else◌, List, length, Option, Some, None, refl, ap, sym, subst, ◌∙◌}
 use Rattle.cc_base.specs.declared.place.Place.{Place}
 use Rattle.cc_base.specs.declared.number.TypeId.{TypeId}
 use Rattle.c_types.specs.declared.shape.TypeShape.{TypeShape}
@@ -8,7 +8,7 @@ use Rattle.c_types.specs.Layouts.{size_of}
 use Rattle.c_types.specs.Table.{Table, descend, is_aggregate_shape, shape_at}
 use Rattle.c_tree.specs.declared.leaf.StringPiece.{StringPiece}
 use Rattle.c_tree.specs.declared.typed_word.Conversion.{Conversion}
-use Rattle.c_tree.specs.Erasure.{erased, erased_place, erased_initialiser, erased_items}
+use Rattle.c_tree.specs.Erasure.{erased, erased_items}
 use Rattle.c_tree.specs.Tree as tree
 use Rattle.c_tree.specs.TypedTree as typed
 use Rattle.c_tree.specs.TypedTree.{TypedExpr, TypedInitialiser, TypedItems}

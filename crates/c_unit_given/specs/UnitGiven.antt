@@ -1,21 +1,19 @@
 -- What it is that judging gives what is well typed of a unit: from a state at a point of a text whose table is T, the tree that stands there.
-use Rattle.std.specs.Prelude.{◌≡◌, ◌≤◌, ◌<◌, ◌+◌, ℕ, ℤ, Bool, true, false, List, [], ◌∷◌, length, Option, Some, None}
+use Rattle.std.specs.Prelude.{◌≡◌, ◌≤◌, ◌<◌, ◌+◌, ℕ, ℤ, true, false, List, length, Option, Some, None}
 use Rattle.std.specs.List.{All}
 use Rattle.cc_base.specs.declared.place.Place.{Place}
 use Rattle.cc_base.specs.declared.number.TypeId.{TypeId}
 use Rattle.c_types.specs.Table.{Table, IsType, shape_at, IsAggregate}
 use Rattle.c_types.specs.Layouts.{size_of}
-use Rattle.c_tree.specs.declared.leaf.Identifier.{Identifier}
 use Rattle.c_tree.specs.declared.typed_word.Home.TheVariants as home
 use Rattle.c_tree.specs.Erasure.{erased, erased_place, erased_specifiers, erased_form, erased_initialiser, erased_items}
 use Rattle.c_tree.specs.TypedTree as typed
 use Rattle.c_tree.specs.TypedTree.{TypedExpr, TypedPlace, TypedSpecifiers, TypedForm, TypedInitialiser}
 use Rattle.c_tree.specs.TypedParts.{Made, Name, made_by, made_by_place, made_by_specifiers, made_by_form, place_type, specified_type, name_of_form, home_of_form}
-use Rattle.integers.specs.Arithmetic.{IntegerType}
 use Rattle.c_typing.specs.declared.declared.Declared.{Declared}
 use Rattle.c_typing.specs.declared.declared.Declared.TheVariants as declared
 use Rattle.c_typing.specs.declared.naming.Naming.{Naming}
-use Rattle.c_typing.specs.Checking.{Constant, checked, checked_value, checked_constant}
+use Rattle.c_typing.specs.Checking.{checked, checked_value, checked_constant}
 use Rattle.c_typing.specs.Constants.{constant_value}
 use Rattle.c_typing.specs.Conversions.{bare, is_taken_over, IsPlain, IsAssigned, IsConverted}
 use Rattle.c_typing.specs.Declaring.{unless_function}
@@ -30,7 +28,7 @@ use Rattle.c_typing.specs.Typing.{IsTyped, IsPlace, AreSpecifiers, AreAlone, IsF
 use Rattle.c_typing.specs.Walks.{judge_specifiers_of, judge_declarator}
 use Rattle.c_typing_laws.specs.Judged.{IsHomeOf}
 use Rattle.c_typing_unique.specs.Points.{Point, Numbers}
-use Rattle.c_typing_given.specs.Given.{point_at, IsHere, IsGivenAs}
+use Rattle.c_typing_given.specs.Given.{IsHere, IsGivenAs}
 use Rattle.c_typing_given.specs.Holding.{expr_holds, specifiers_holds, declarator_holds}
 use Rattle.c_typing_given.specs.Spending.{HasRoom, node_cost, literal_cost, cell_cost, total}
 use Rattle.c_typing_given.specs.Uses.{Use, AreUses, used_by, used_by_place, used_by_specifiers, used_by_declarator}

@@ -1,0 +1,205 @@
+//! Typed statements and units.
+#![tactic(auto)]
+
+ghost use Rattle.std.specs.Prelude.{◌≡◌, [], ◌∷◌, ◌++◌, length, IfOk, OnOk};
+
+use c_tree::{Boxed, Items, TypedBlockItem, TypedExternal, TypedStatement, TypedUnit};
+use cc_base::NoMemory;
+use std::alloc::Global;
+use std::marker::Model;
+
+/// A statement.
+pub struct OwnedStatement(Boxed<TypedStatement>);
+
+impl Model for OwnedStatement {
+    ghost use Rattle.c_tree.specs.declared.typed_statement.TypedStatement.{TypedStatement};
+
+    ghost Value = { TypedStatement };
+
+    ghost view = { λ o. o.0 };
+}
+
+impl Drop for OwnedStatement {
+    fn drop(self) {
+        let OwnedStatement(_tree) = self;
+    }
+}
+
+impl OwnedStatement {
+    /// Takes the tree onto the heap.
+    pub fn new(alloc: Global, tree: TypedStatement) -> Result<OwnedStatement, NoMemory>
+        ensures { IfOk result (λ made. made ≡ tree) }
+    {
+        Ok(OwnedStatement(Boxed::new(alloc, tree)?))
+    }
+
+    /// The tree.
+    pub fn get(&self) -> &TypedStatement
+        ensures { result.now ≡ self.now }
+    {
+        self.0.get()
+    }
+
+    /// The tree itself, off the heap.
+    pub fn into_inner(self) -> TypedStatement
+        ensures { result ≡ self }
+    {
+        let OwnedStatement(tree) = self;
+        tree.into_inner()
+    }
+
+    /// What is on the heap already.
+    pub fn of_boxed(tree: Boxed<TypedStatement>) -> OwnedStatement
+        ensures { result ≡ tree }
+    {
+        OwnedStatement(tree)
+    }
+
+    /// The tree on the heap.
+    pub fn into_boxed(self) -> Boxed<TypedStatement>
+        ensures { result ≡ self }
+    {
+        let OwnedStatement(tree) = self;
+        tree
+    }
+}
+
+/// What a block holds.
+pub struct OwnedBlock(Items<TypedBlockItem>);
+
+impl Model for OwnedBlock {
+    ghost use Rattle.std.specs.Prelude.{List};
+    ghost use Rattle.c_tree.specs.declared.typed_statement.TypedBlockItem.{TypedBlockItem};
+
+    ghost Value = { List TypedBlockItem };
+
+    ghost view = { λ o. o.0 };
+}
+
+impl Drop for OwnedBlock {
+    fn drop(self) {
+        let OwnedBlock(_list) = self;
+    }
+}
+
+impl OwnedBlock {
+    /// None. Takes no memory.
+    pub fn new(alloc: Global) -> OwnedBlock
+        ensures { result ≡ [] }
+    {
+        OwnedBlock(Items::new(alloc))
+    }
+
+    /// How many there are.
+    pub fn len(&self) -> usize
+        ensures { result ≡ length self.now }
+    {
+        self.0.len()
+    }
+
+    /// Adds one at the end.
+    pub fn push(&mut self, one: TypedBlockItem) -> Result<(), NoMemory>
+        ensures { OnOk result (self.new ≡ self.old ++ one ∷ []) }
+    {
+        self.0.push(one)?;
+        Ok(())
+    }
+
+    /// The list itself.
+    pub fn into_items(self) -> Items<TypedBlockItem>
+        ensures { result ≡ self }
+    {
+        let OwnedBlock(list) = self;
+        list
+    }
+}
+
+/// Declarations and functions.
+pub struct OwnedExternals(Items<TypedExternal>);
+
+impl Model for OwnedExternals {
+    ghost use Rattle.std.specs.Prelude.{List};
+    ghost use Rattle.c_tree.specs.declared.typed_statement.TypedExternal.{TypedExternal};
+
+    ghost Value = { List TypedExternal };
+
+    ghost view = { λ o. o.0 };
+}
+
+impl Drop for OwnedExternals {
+    fn drop(self) {
+        let OwnedExternals(_list) = self;
+    }
+}
+
+impl OwnedExternals {
+    /// None. Takes no memory.
+    pub fn new(alloc: Global) -> OwnedExternals
+        ensures { result ≡ [] }
+    {
+        OwnedExternals(Items::new(alloc))
+    }
+
+    /// How many there are.
+    pub fn len(&self) -> usize
+        ensures { result ≡ length self.now }
+    {
+        self.0.len()
+    }
+
+    /// Adds one at the end.
+    pub fn push(&mut self, one: TypedExternal) -> Result<(), NoMemory>
+        ensures { OnOk result (self.new ≡ self.old ++ one ∷ []) }
+    {
+        self.0.push(one)?;
+        Ok(())
+    }
+
+    /// The list itself.
+    pub fn into_items(self) -> Items<TypedExternal>
+        ensures { result ≡ self }
+    {
+        let OwnedExternals(list) = self;
+        list
+    }
+}
+
+/// A unit.
+pub struct OwnedUnit(TypedUnit);
+
+impl Model for OwnedUnit {
+    ghost use Rattle.c_tree.specs.declared.typed_statement.TypedUnit.{TypedUnit};
+
+    ghost Value = { TypedUnit };
+
+    ghost view = { λ o. o.0 };
+}
+
+impl Drop for OwnedUnit {
+    fn drop(self) {
+        let OwnedUnit(_tree) = self;
+    }
+}
+
+impl OwnedUnit {
+    pub fn new(tree: TypedUnit) -> OwnedUnit
+        ensures { result ≡ tree }
+    {
+        OwnedUnit(tree)
+    }
+
+    /// The tree.
+    pub fn get(&self) -> &TypedUnit
+        ensures { result.now ≡ self.now }
+    {
+        &self.0
+    }
+
+    /// The tree itself.
+    pub fn into_inner(self) -> TypedUnit
+        ensures { result ≡ self }
+    {
+        let OwnedUnit(tree) = self;
+        tree
+    }
+}

@@ -1,5 +1,5 @@
 -- What judging gives for the definition of a function is well typed and erases to what was judged.
-use Rattle.std.proofs.Common.{◌≡◌, ℕ, nat_lt, Bool, true, false, not, ◌&&◌, ◌||◌, List, [], ◌∷◌, ◌++◌, Option, Some, None, MatchOption, refl, ap, sym, subst, ◌∙◌, ◌⊎◌, inl, inr, if◌then◌else◌, ◌<◌, arith}
+use Rattle.std.proofs.Common.{◌≡◌, ℕ, nat_lt, Bool, true, false, not, ◌&&◌, ◌||◌, List, [], ◌∷◌, ◌++◌, Option, Some, None, MatchOption, refl, ap, sym, subst, ◌∙◌, ◌⊎◌, inl, inr, if◌then◌else◌, ◌<◌, ◌≤◌, arith}
 use Rattle.std.proofs.lemmas.Bool.Decides.{nat_tests}
 use Rattle.cc_base.specs.declared.place.Place.{Place}
 use Rattle.cc_base.specs.declared.number.TypeId.{TypeId}
@@ -46,7 +46,7 @@ use Rattle.c_unit_typing.specs.DeclarationJudging.{naming_for, linked_first, lin
 use Rattle.c_unit_typing.specs.DefinitionJudging.{declare_parameters, form_of, counted, defined, result_of, body, defined_as, judge_definition}
 use Rattle.c_unit_typing.specs.Linkage.{Linkage, with_name}
 use Rattle.c_unit_typing.specs.StatementJudging.{judge_block_items}
-use Rattle.c_unit_typing.specs.Units.{Known, Storage, AsTypedef, Around, is_one_of, storage_of, with_scopes, leaving_known, unless_linked, IsNameDeclared, IsDeclarator, parameters_of_form, with_parameters, AreBlockItems, IsDefinition}
+use Rattle.c_unit_typing.specs.Units.{Known, Storage, AsTypedef, Around, is_one_of, storage_of, with_scopes, leaving_known, unless_linked, IsNameDeclared, IsDeclarator, parameters_of_form, with_parameters, defaults_in, AreBlockItems, IsDefinition}
 use Rattle.c_unit_typing.specs.UnitJudged.{state_of, OverLater, IsResult, IsUnitKnown, UnitGoesOn}
 use Rattle.c_unit_typing.specs.UnitJudging.{UnitState, Gives, known_of, next, pure, stop, lifted}
 use Rattle.c_unit_typing.specs.UnitRefusals.{conflicts, declared_as, is_function_declared, is_redeclared, definition_tests, start_of_text}
@@ -196,6 +196,7 @@ record IsBodyJudged (result : TypeId) (ps : TypedParameters) (items : tree.Block
   types : IsUsed (λ U. used_by_block_items U list) s.table r.table
   goes : UnitGoesOn s r
   leaves : known_of r ≡ leaving_known after
+  defaults : defaults_in list ≤ 1
   typed : OverLater r.table (λ T. AreBlockItems T (inside_function result) None list (record (known_of s) { scopes = with_parameters ps (entering s.seen.scopes) }) after)
 
 body_by : (brace : Place) (result : TypeId) (ps : TypedParameters) (items : tree.BlockItems) (list : TypedBlockItems) (s r : UnitState) → IsUnitKnown s → IsResult s.table result
@@ -222,6 +223,7 @@ body_by brace result ps items list s r k b there h =
           (leave-table brace e3.0 list e3.1 r e3.3) i.types;
       goes = unit-on s e2.1 r from_s (unit-on e2.1 e3.1 r i.goes out.2);
       leaves = out.1;
+      defaults = i.defaults;
       typed = λ T x. subst (λ (c : Known). AreBlockItems T a None e3.0 c (known_of e3.1)) begins
           (items-on T a None tt e3.0 (known_of e2.1) (known_of e3.1) (i.typed T (extended_trans e3.1.table r.table T out.2.goes.extends x)));
     })
@@ -321,6 +323,7 @@ module _ (base : TypedSpecifiers) (d : tree.Declarator) (form : TypedForm) (t : 
             scopes = with_parameters parameters.0 (entering (linked_state m name.bytes (declared.Function t)).seen.scopes);
             defined = names;
           }) body-judged.after) (ap (λ (b : Bool). if b then m.linkage.defined else m.linkage.defined ++ name.bytes ∷ []) once) (body-judged.typed T x);
+          defaults = body-judged.defaults;
           leaves = body-judged.leaves;
         }
 

@@ -47,6 +47,7 @@ mutual
           subst (λ (c : Known). AreBlockItems U a None e2.0 c (known_of e2.1)) en.0
               (items-on U a None tt e2.0 (known_of e1.1) (known_of e2.1) (j.typed U (extended_trans e2.1.table r.table U out.2.goes.extends x))),
           out.1,
+          j.defaults,
         );
         erases = ap (tree.Block brace) j.erases;
         numbers = numbers-before (made_by_block_items e2.0) (state_of s) (state_of e2.1) (state_of r) (numbers-after (made_by_block_items e2.0) (state_of s) (state_of e1.1) (state_of e2.1) en.2 j.numbers) out.3;

@@ -1,5 +1,5 @@
 -- A whole unit, written out: `int main(void){int *p;p=0;return *p;}` is well typed, and its typed tree erases to it.
-use Rattle.std.proofs.Common.{◌≡◌, ℕ, false, List, [], ◌∷◌, ◌++◌, Some, None, refl, inr, codes, lit<}
+use Rattle.std.proofs.Common.{◌≡◌, ℕ, false, List, [], ◌∷◌, ◌++◌, Some, None, refl, inr, codes, lit<, arith}
 use Rattle.std.proofs.lemmas.Slice.Eq.{bytes_eq-Decides}
 use Rattle.std.proofs.lemmas.Bool.Decides.{not_from_Decides}
 use Rattle.cc_base.specs.declared.place.Place.{Place}
@@ -214,6 +214,7 @@ main-defined = record {
     ),
     (with_p.scopes, reading-typed, record { plain = refl; made = refl }, refl),
   );
+  defaults = omega arith;
   leaves = refl;
 }
 

@@ -286,9 +286,11 @@ IsLabel T None e value = ⊥
 IsLabel T (Some t) e value =
     (k : IntegerType) × (z : ℤ) × IsPlain e × (integer_at T t ≡ Some k) × (constant_value T e ≡ Some z) × (value ≡ converted k z)
 
+-- each block has one `default` at most (C99 6.8.4.2)
 abbrev mutual
   pub IsStatement : Table → Around → TypedStatement → Known → Known → Type 0
-  IsStatement T a (typed.Block brace items) k k' = (m : Known) × AreBlockItems T a None items (entering_known k) m × (k' ≡ leaving_known m)
+  IsStatement T a (typed.Block brace items) k k' =
+      (m : Known) × AreBlockItems T a None items (entering_known k) m × (k' ≡ leaving_known m) × (defaults_in items ≤ 1)
   IsStatement T a (typed.Express e) k k' = IsDropped T (Some e) k k'
   IsStatement T a typed.Empty k k' = k' ≡ k
   IsStatement T a (typed.If at paren c s) k k' = (m : Known) × IsTested T c k m × IsStatement T a s m k'
@@ -375,6 +377,7 @@ pub record IsDefinition (T : Table) (specifiers : TypedSpecifiers) (form : Typed
         scopes = with_parameters parameters (entering declared.scopes);
         defined = declared.defined ++ name.bytes ∷ [];
       }) after
+  pub defaults : defaults_in body ≤ 1
   pub leaves : k' ≡ leaving_known after
 
 abbrev pub IsUnitTyped : Table → TypedTranslationUnit → Known → Known → Type 0

@@ -1,0 +1,120 @@
+-- What is judged in a scope of its own is given.
+use Rattle.std.proofs.Common.{◌≡◌, ◌≤◌, ◌<◌, ℕ, true, List, [], ◌∷◌, ◌++◌, length, refl, ap, sym, subst, ◌∙◌, arith}
+use Rattle.std.specs.List.{All}
+use Rattle.std.proofs.lemmas.List.{length-append}
+use Rattle.std.proofs.lemmas.List.Elements.{All-head, All-tail, All-cons, All-nil, All-push}
+use Rattle.cc_base.specs.declared.place.Place.{Place}
+use Rattle.c_types.specs.Table.{Table}
+use Rattle.c_tree.specs.TypedParts.{Made}
+use Rattle.c_typing.specs.declared.declared.Declared.{Declared}
+use Rattle.c_typing.specs.Declaring.{entered, left}
+use Rattle.c_typing.specs.Judging.{State}
+use Rattle.c_typing.specs.Scopes as scopes
+use Rattle.c_typing.specs.Scopes.{Name, Level, empty_level, entering, leaving, without_innermost}
+use Rattle.c_typing_laws.proofs.JudgedDeclarators.{entered-judged, left-judged}
+use Rattle.c_typing_given.specs.Uses.{Use}
+use Rattle.c_typing_given.proofs.Settling.{small-kept}
+use Rattle.c_typing_given.proofs.TypeGiven.{lt_true}
+use Rattle.c_unit_typing.specs.Units.{Known, entering_known, leaving_known}
+use Rattle.c_unit_typing.specs.UnitJudged.{state_of}
+use Rattle.c_unit_typing.specs.UnitJudging.{UnitState, UnitJudging, UnitOutcome, Gives, Stops, next, lifted, ◌>>=◌}
+use Rattle.c_unit_typing.proofs.UnitStates.{linkage-stays}
+use Rattle.c_unit_given.specs.UnitGiven.{IsHomeBelow, AreHomesBelow, IsUnitHere, IsRun}
+use Rattle.c_unit_given.proofs.Runs.{then-is, lifted-is}
+
+-- Levels
+
+outer_of : (ls : List Level) (l : Level) → without_innermost (ls ++ l ∷ []) ≡ ls
+outer_of [] l = refl
+outer_of (m ∷ []) l = refl
+outer_of (m ∷ (k ∷ ls)) l = ap (λ (rest : List Level). m ∷ rest) (outer_of (k ∷ ls) l)
+
+two_levels : (ls : List Level) → 1 ≤ length (without_innermost ls) → 1 < length ls
+two_levels [] h = omega (arith, h)
+two_levels (l ∷ []) h = omega (arith, h)
+two_levels (l ∷ (m ∷ ls)) h = omega arith
+
+abbrev IsLevelBelow : ℕ → Level → Type 0
+IsLevelBelow n l = All (λ (e : Name × Declared). IsHomeBelow n e.1) l.names
+
+homes_outer : (n : ℕ) (ls : List Level) → AreHomesBelow n ls → AreHomesBelow n (without_innermost ls)
+homes_outer n [] h = h
+homes_outer n (l ∷ []) h = All-nil (IsLevelBelow n)
+homes_outer n (l ∷ (m ∷ ls)) h =
+    All-cons (IsLevelBelow n) l (without_innermost (m ∷ ls)) (All-head (IsLevelBelow n) l (m ∷ ls) h) (homes_outer n (m ∷ ls) (All-tail (IsLevelBelow n) l (m ∷ ls) h))
+
+low : (n : ℕ) → n ≤ n
+low n = omega arith
+
+-- States
+
+abbrev in_scopes : (scopes.Scopes → scopes.Scopes) → UnitState → UnitState
+in_scopes change s = record s { seen = scopes.with_scopes s.seen (change s.seen.scopes) }
+
+enter_is : (s : UnitState) → entered (state_of s) ≡ Rattle.c_typing.specs.Judging.Gives true (state_of (in_scopes entering s))
+unfolding entered
+enter_is s = refl
+
+leave_is : {A : Type 0} (at : Place) (a : A) (s : UnitState) → 1 < length s.seen.scopes.levels → left at a (state_of s) ≡ Rattle.c_typing.specs.Judging.Gives a (state_of (in_scopes leaving s))
+unfolding left
+leave_is at a s h = rw (lt_true 1 (length s.seen.scopes.levels) h) refl
+
+pub bind-assoc : {A B C : Type 0} (o : UnitOutcome A) (f : A → UnitJudging B) (g : B → UnitJudging C) → next (next o f) g ≡ next o (λ a. f a >>= g)
+bind-assoc (Gives a s) f g = refl
+bind-assoc (Stops x s) f g = refl
+
+module _ (T : Table) where
+  enter_here : (s : UnitState) → IsUnitHere T s → IsUnitHere T (in_scopes entering s)
+  enter_here s here =
+      let r : UnitState = in_scopes entering s in
+      let goes = (entered-judged true (state_of s) (state_of r) here.here.known (enter_is s)).1 in
+      let was = here.open_ in
+      record {
+        here = record { known = goes.known; first = here.here.first; small = small-kept (state_of s) (state_of r) here.here.small refl refl (low (length s.table)); own = here.here.own };
+        unit = (linkage-stays s r here.unit goes refl (low s.seen.node)).known;
+        open_ = omega (arith, was, length-append s.seen.scopes.levels (empty_level ∷ []));
+        homes = All-push (IsLevelBelow s.seen.node) s.seen.scopes.levels empty_level here.homes (All-nil (λ (e : Name × Declared). IsHomeBelow s.seen.node e.1));
+      }
+
+  leave_here : (s : UnitState) → IsUnitHere T s → 1 ≤ length (without_innermost s.seen.scopes.levels) → IsUnitHere T (in_scopes leaving s)
+  leave_here s here open_ =
+      let r : UnitState = in_scopes leaving s in
+      let goes = (left-judged (Rattle.c_tree.specs.Places.nowhere) true true (state_of s) (state_of r) here.here.known
+      (leave_is Rattle.c_tree.specs.Places.nowhere true s (two_levels s.seen.scopes.levels open_))).2 in
+      record {
+        here = record { known = goes.known; first = here.here.first; small = small-kept (state_of s) (state_of r) here.here.small refl refl (low (length s.table)); own = here.here.own };
+        unit = (linkage-stays s r here.unit goes refl (low s.seen.node)).known;
+        open_ = open_;
+        homes = homes_outer s.seen.node s.seen.scopes.levels here.homes;
+      }
+
+  -- what is known outside of a scope, where so much is known inside
+  abbrev pub Inside : (Known → Known → Type 0) → Known → Known → Type 0
+  Inside P k k' = (l : Known) × P (entering_known k) l × (k' ≡ leaving_known l)
+
+  pub scoped-run : {A B : Type 0} (N G : Table → Type 0) (P : Known → Known → Type 0) (made : List Made) (uses : List Use) (m : UnitJudging A) (a : A) (at : Place) (g : A → B)
+      → IsRun T N G P made uses m a → IsRun T N G (Inside P) made uses (lifted entered >>= (λ inside. m >>= (λ x. lifted (left at (g x))))) (g a)
+  scoped-run N G P made uses m a at g p s k n count here needs h numbers used room =
+      let s1 : UnitState = in_scopes entering s in
+      let one = p s1 h.0 n count (enter_here s here) needs h.1 numbers used (record { nodes = room.nodes; globals = room.globals; cells = room.cells }) in
+      let r : UnitState = one.after in
+      let outer : without_innermost r.seen.scopes.levels ≡ s.seen.scopes.levels = one.reached.outer ∙ outer_of s.seen.scopes.levels empty_level in
+      let was = here.open_ in
+      let open_ : 1 ≤ length (without_innermost r.seen.scopes.levels) = subst (λ (ls : List Level). 1 ≤ length ls) (sym outer) was in
+      let after : UnitState = in_scopes leaving r in
+      record {
+        after = after;
+        gives = then-is (lifted entered) (λ inside. m >>= (λ x. lifted (left at (g x)))) true s s1 (Gives (g a) after) (lifted-is entered true s (state_of s1) (enter_is s))
+            (then-is m (λ x. lifted (left at (g x))) a s1 r (Gives (g a) after) one.gives
+            (lifted-is (left at (g a)) (g a) r (state_of after) (leave_is at (g a) r (two_levels r.seen.scopes.levels open_))));
+        reached = record {
+          here = leave_here r one.reached.here open_;
+          grown = one.reached.grown;
+          known = ap leaving_known one.reached.known ∙ sym h.2;
+          node = one.reached.node;
+          types = one.reached.types;
+          outer = ap without_innermost outer;
+          spent = record { nodes = one.reached.spent.nodes; globals = one.reached.spent.globals; cells = one.reached.spent.cells };
+        };
+        gains = one.gains;
+      }

@@ -1,0 +1,2 @@
+pub mod UnitUses
+pub mod UnitGiven

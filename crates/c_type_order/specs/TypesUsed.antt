@@ -1,11 +1,14 @@
--- Which types the parts of a typed tree use, in the order of the text, and when types are numbered by their first use. A part that makes a
--- type uses it after the types of its own parts; `void` and the integer types stand before all others, and their uses are not told.
-use Rattle.std.specs.Prelude.{◌≡◌, ◌<◌, ◌+◌, ◌⊎◌, ℕ, zero, suc, Bool, true, false, List, [], ◌∷◌, ◌++◌, length, Option, None, Some}
+-- Which types, which sizes of arrays and which members the parts of a typed tree use, in the order of the text, and when types are numbered by
+-- their first use. A part that makes a type uses it after the types of its own parts; `void` and the integer types stand before all others, and
+-- their uses are not told. The size that stands in an array part is a number of 64 bits, and a member has a name.
+use Rattle.std.specs.Prelude.{◌≡◌, ◌<◌, ◌+◌, ◌⊎◌, ℕ, zero, suc, Bool, true, false, List, [], ◌∷◌, ◌++◌, map, Option, None, Some}
 use Rattle.cc_base.specs.declared.number.TypeId.{TypeId}
 use Rattle.c_types.specs.declared.shape.TypeShape.{TypeShape}
 use Rattle.c_types.specs.declared.shape.TypeShape.TheVariants as shape
 use Rattle.c_types.specs.Table.{Table, shape_at}
+use Rattle.c_tree.specs.declared.leaf.Identifier.{Identifier}
 use Rattle.c_tree.specs.declared.typed_word.Adjusted.{Adjusted}
+use Rattle.c_tree.specs.TypedParts.{name_of}
 use Rattle.c_tree.specs.TypedTree as typed
 use Rattle.c_tree.specs.TypedTree.{TypedExpr, TypedPlace, TypedArguments, TypedTypeName, TypedSpecifiers, TypedSpecifierList, TypedSpecifier, TypedMembers, TypedMemberDeclarators, TypedEnumerators, TypedDeclarator, TypedForm, TypedCore, TypedParts, TypedParameters, TypedDeclared}
 use Rattle.c_typing.specs.Declarators.{Outermost, Written, Points, is_derived_declared, nearest, outside}
@@ -16,10 +19,22 @@ use Rattle.c_typing.specs.Declarators.{Outermost, Written, Points, is_derived_de
 abbrev pub IsUse : TypeId → ℕ → ℕ → Type 0
 IsUse t n m = ((t.0 < n) × (m ≡ n)) ⊎ ((t.0 ≡ n) × (m ≡ n + 1))
 
--- types are used one after another: n are there before, m after
-abbrev pub AreUses : List TypeId → ℕ → ℕ → Type 0
+-- what a part uses: a type, the size that stands in an array part, the name of a member.
+pub data Use : Type 0 where
+  OfType : TypeId → Use
+  OfSize : ℕ → Use
+  OfMember : Option Identifier → Use
+
+abbrev pub types_of : List TypeId → List Use
+types_of ts = map OfType ts
+
+-- so much is used one after another: n types are there before, m after
+abbrev pub AreUses : List Use → ℕ → ℕ → Type 0
 AreUses [] n m = m ≡ n
-AreUses (t ∷ ts) n m = (k : ℕ) × IsUse t n k × AreUses ts k m
+AreUses (OfType t ∷ us) n m = (k : ℕ) × IsUse t n k × AreUses us k m
+AreUses (OfSize size ∷ us) n m = (size < 18446744073709551616) × AreUses us n m
+AreUses (OfMember (Some name) ∷ us) n m = AreUses us n m
+AreUses (OfMember None ∷ us) n m = ⊥
 
 -- Types that a declarator makes
 
@@ -72,19 +87,19 @@ parameter_steps (Some adjusted) d = adjusted_steps (is_derived_declared d) (Poin
 -- Uses
 
 abbrev mutual
-  pub used_by : Table → TypedExpr → List TypeId
+  pub used_by : Table → TypedExpr → List Use
   used_by T (typed.Integer of value at t) = []
   used_by T (typed.Character value at t) = []
   used_by T (typed.Enumerator name value t) = []
-  used_by T (typed.FunctionName name number n t) = t ∷ []
+  used_by T (typed.FunctionName name number n t) = OfType t ∷ []
   used_by T (typed.RuntimeName name runtime t) = []
   used_by T (typed.Paren at e) = used_by T e
   used_by T (typed.Read p) = used_by_place T p
   used_by T (typed.Unread p) = used_by_place T p
-  used_by T (typed.Decay p n t) = used_by_place T p ++ t ∷ []
+  used_by T (typed.Decay p n t) = used_by_place T p ++ OfType t ∷ []
   used_by T (typed.Convert which at t e) = used_by T e
   used_by T (typed.Cast which at to e) = used_by_type_name T to ++ used_by T e
-  used_by T (typed.AddressOf at p n t) = used_by_place T p ++ t ∷ []
+  used_by T (typed.AddressOf at p n t) = used_by_place T p ++ OfType t ∷ []
   used_by T (typed.AddressOfElement at p t) = used_by_place T p
   used_by T (typed.AddressOfFunction at e) = used_by T e
   used_by T (typed.FunctionAt at e) = used_by T e
@@ -100,18 +115,18 @@ abbrev mutual
   used_by T (typed.Compared operator a at b t) = used_by T a ++ used_by T b
   used_by T (typed.Logical operator a at b t) = used_by T a ++ used_by T b
   used_by T (typed.Conditional c at a b t) = used_by T c ++ used_by T a ++ used_by T b
-  used_by T (typed.PointerConditional c at a b n t) = used_by T c ++ used_by T a ++ used_by T b ++ t ∷ []
+  used_by T (typed.PointerConditional c at a b n t) = used_by T c ++ used_by T a ++ used_by T b ++ OfType t ∷ []
   used_by T (typed.Comma a b) = used_by T a ++ used_by T b
   used_by T (typed.Assign p at e) = used_by_place T p ++ used_by T e
   used_by T (typed.AssignWith operator p at e t) = used_by_place T p ++ used_by T e
   used_by T (typed.Call f at arguments t) = used_by T f ++ used_by_arguments T arguments
   used_by T (typed.CallRuntime runtime f at arguments t) = used_by T f ++ used_by_arguments T arguments
-  used_by T (typed.Allocate runtime f at arguments n t) = used_by T f ++ used_by_arguments T arguments ++ t ∷ []
+  used_by T (typed.Allocate runtime f at arguments n t) = used_by T f ++ used_by_arguments T arguments ++ OfType t ∷ []
   used_by T (typed.AllocateFor runtime f at arguments t) = used_by T f ++ used_by_arguments T arguments
 
-  pub used_by_place : Table → TypedPlace → List TypeId
+  pub used_by_place : Table → TypedPlace → List Use
   used_by_place T (typed.Variable name home t) = []
-  used_by_place T (typed.String pieces home t) = t ∷ []
+  used_by_place T (typed.String pieces home t) = OfType t ∷ []
   used_by_place T (typed.ParenPlace at p) = used_by_place T p
   used_by_place T (typed.Target at e t) = used_by T e
   used_by_place T (typed.Element which a at b t) = used_by T a ++ used_by T b
@@ -121,67 +136,67 @@ abbrev mutual
   used_by_place T (typed.StructConditional c at p q) = used_by T c ++ used_by_place T p ++ used_by_place T q
   used_by_place T (typed.StructComma e p) = used_by T e ++ used_by_place T p
 
-  pub used_by_arguments : Table → TypedArguments → List TypeId
+  pub used_by_arguments : Table → TypedArguments → List Use
   used_by_arguments T typed.NoArgument = []
   used_by_arguments T (typed.AndArgument all e) = used_by_arguments T all ++ used_by T e
 
-  pub used_by_type_name : Table → TypedTypeName → List TypeId
+  pub used_by_type_name : Table → TypedTypeName → List Use
   used_by_type_name T (typed.Named specifiers declared t) =
-      used_by_specifiers T specifiers ++ used_by_declared T declared ++ made_in T (declared_steps Written declared) t
+      used_by_specifiers T specifiers ++ used_by_declared T declared ++ types_of (made_in T (declared_steps Written declared) t)
 
-  pub used_by_specifiers : Table → TypedSpecifiers → List TypeId
+  pub used_by_specifiers : Table → TypedSpecifiers → List Use
   used_by_specifiers T (typed.Specified list t) = used_by_specifier_list T list
 
-  pub used_by_specifier_list : Table → TypedSpecifierList → List TypeId
+  pub used_by_specifier_list : Table → TypedSpecifierList → List Use
   used_by_specifier_list T typed.NoSpecifier = []
   used_by_specifier_list T (typed.AndSpecifier all specifier) = used_by_specifier_list T all ++ used_by_specifier T specifier
 
   -- a struct or union is used before its members
-  pub used_by_specifier : Table → TypedSpecifier → List TypeId
+  pub used_by_specifier : Table → TypedSpecifier → List Use
   used_by_specifier T (typed.Keyword word) = []
   used_by_specifier T (typed.Typedef name t) = []
-  used_by_specifier T (typed.Tagged kind at name t) = t ∷ []
-  used_by_specifier T (typed.Aggregate kind at name brace members t) = t ∷ used_by_members T members
+  used_by_specifier T (typed.Tagged kind at name t) = OfType t ∷ []
+  used_by_specifier T (typed.Aggregate kind at name brace members t) = OfType t ∷ used_by_members T members
   used_by_specifier T (typed.Enum at name) = []
   used_by_specifier T (typed.Enumeration at name brace all comma) = used_by_enumerators T all
 
-  pub used_by_members : Table → TypedMembers → List TypeId
+  pub used_by_members : Table → TypedMembers → List Use
   used_by_members T typed.NoMember = []
   used_by_members T (typed.AndMember all specifiers declarators) =
       used_by_members T all ++ used_by_specifiers T specifiers ++ used_by_member_declarators T declarators
 
-  pub used_by_member_declarators : Table → TypedMemberDeclarators → List TypeId
+  pub used_by_member_declarators : Table → TypedMemberDeclarators → List Use
   used_by_member_declarators T typed.NoDeclarator = []
-  used_by_member_declarators T (typed.AndDeclarator all d) = used_by_member_declarators T all ++ used_by_declarator T Written d
+  used_by_member_declarators T (typed.AndDeclarator all d) = used_by_member_declarators T all ++ used_by_declarator T Written d ++ OfMember (name_of d) ∷ []
 
-  pub used_by_enumerators : Table → TypedEnumerators → List TypeId
+  pub used_by_enumerators : Table → TypedEnumerators → List Use
   used_by_enumerators T typed.NoEnumerator = []
   used_by_enumerators T (typed.AndEnumerator all name value) = used_by_enumerators T all
   used_by_enumerators T (typed.AndValued all name at e value) = used_by_enumerators T all ++ used_by T e
 
   -- a declarator: what stands in it, then the types that it makes
-  pub used_by_declarator : Table → Outermost → TypedDeclarator → List TypeId
-  used_by_declarator T outermost (typed.Declares form t) = used_by_form T form ++ made_in T (form_steps outermost form) t
+  pub used_by_declarator : Table → Outermost → TypedDeclarator → List Use
+  used_by_declarator T outermost (typed.Declares form t) = used_by_form T form ++ types_of (made_in T (form_steps outermost form) t)
 
-  pub used_by_form : Table → TypedForm → List TypeId
+  pub used_by_form : Table → TypedForm → List Use
   used_by_form T (typed.Form stars core parts) = used_by_core T core ++ used_by_parts T parts
 
-  pub used_by_core : Table → TypedCore → List TypeId
+  pub used_by_core : Table → TypedCore → List Use
   used_by_core T (typed.Names name home) = []
   used_by_core T typed.Unnamed = []
   used_by_core T (typed.Nested at form) = used_by_form T form
 
-  pub used_by_parts : Table → TypedParts → List TypeId
+  pub used_by_parts : Table → TypedParts → List Use
   used_by_parts T typed.NoPart = []
   used_by_parts T (typed.AndArray all at words) = used_by_parts T all
-  used_by_parts T (typed.AndSizedArray all at words e size) = used_by_parts T all ++ used_by T e
+  used_by_parts T (typed.AndSizedArray all at words e size) = used_by_parts T all ++ used_by T e ++ OfSize size ∷ []
   used_by_parts T (typed.AndFunction all at parameters) = used_by_parts T all ++ used_by_parameters T parameters
 
-  pub used_by_parameters : Table → TypedParameters → List TypeId
+  pub used_by_parameters : Table → TypedParameters → List Use
   used_by_parameters T typed.NoParameter = []
   used_by_parameters T (typed.AndParameter all specifiers declared adjusted t) =
-      used_by_parameters T all ++ used_by_specifiers T specifiers ++ used_by_declared T declared ++ made_in T (parameter_steps adjusted declared) t
+      used_by_parameters T all ++ used_by_specifiers T specifiers ++ used_by_declared T declared ++ types_of (made_in T (parameter_steps adjusted declared) t)
 
-  pub used_by_declared : Table → TypedDeclared → List TypeId
+  pub used_by_declared : Table → TypedDeclared → List Use
   used_by_declared T typed.NotDeclared = []
   used_by_declared T (typed.DeclaredBy form) = used_by_form T form

@@ -43,7 +43,7 @@ use Rattle.c_rules_alike.proofs.PartsAlike.{pointed-over}
 use Rattle.c_rules_alike.proofs.TypesAlike.{pointee-over, pointee-in}
 use Rattle.c_typing_given.specs.Given.{point_at, IsHere, IsPartGiven, IsGiven, IsValueGiven}
 use Rattle.c_unit_typing.specs.Holding.{expr_holds}
-use Rattle.c_typing_given.specs.Uses.{used_by_place, OfType}
+use Rattle.c_type_order.specs.TypesUsed.{used_by_place, OfType}
 use Rattle.c_typing_given.proofs.Constructing.{as-place, as-value, of-part, finish, uses-as, room-as, alike-as, scopes-at, plain-given, max-left, max-right, held-as}
 use Rattle.c_typing_given.proofs.OperatorsGiven.{judges-prefix}
 use Rattle.c_typing_given.proofs.PlacesGiven.{found-is, way-node, node-few, place-there}

@@ -41,10 +41,9 @@ use Rattle.c_typing_exact.proofs.SpecifierExact.{word_passes}
 use Rattle.c_typing_exact.proofs.Unbroken.{passes_one, passes_and, passes_append}
 use Rattle.c_rules_alike.proofs.TypesAlike.{complete-over}
 use Rattle.c_unit_typing.specs.Holding.{members_holds}
-use Rattle.c_type_order.specs.TypesUsed.{IsUse}
+use Rattle.c_type_order.specs.TypesUsed.{IsUse, AreUses, used_by_specifier, used_by_members}
 use Rattle.c_typing_given.specs.Given.{point_at, IsHere, IsReached, IsGivenAs}
 use Rattle.c_typing_given.specs.Spending.{HasRoom, IsSmall}
-use Rattle.c_typing_given.specs.Uses.{AreUses, used_by_specifier, used_by_members}
 use Rattle.c_typing_given.proofs.CallsGiven.{reached-none}
 use Rattle.c_typing_given.proofs.Constructing.{reached-both, uses-at}
 use Rattle.c_typing_given.proofs.Defined.{IsOpen, members-open, defined-first, defined-length, defined-number, defined-is, defined-finished, finished, completed-is}

@@ -38,10 +38,11 @@ use Rattle.c_rules_alike.specs.PartsThere.{IsPartThere}
 use Rattle.c_rules_alike.proofs.ConversionRules.{assign-over}
 use Rattle.c_rules_alike.proofs.PartsThere.{part_there-kept}
 use Rattle.c_cells_kept.proofs.PointersKept.{pointers-kept}
-use Rattle.c_typing_given.specs.Given.{point_at, IsHere, IsPartGiven, IsGiven, used_by_part}
+use Rattle.c_type_order.specs.Uses.{used_by_part}
+use Rattle.c_typing_given.specs.Given.{point_at, IsHere, IsPartGiven, IsGiven}
 use Rattle.c_unit_typing.specs.Holding.{expr_holds}
 use Rattle.c_typing_given.specs.Spending.{HasRoom}
-use Rattle.c_typing_given.specs.Uses.{AreUses, used_by, used_by_place, Use}
+use Rattle.c_type_order.specs.TypesUsed.{AreUses, used_by, used_by_place, Use}
 use Rattle.c_typing_given.proofs.Constructing.{as-place, as-value, of-part, finish, uses-as, room-as, uses-at, alike-as, scopes-at, reached-both, plain-given, plain-simple, max-left, max-right, held-as}
 use Rattle.c_typing_given.proofs.GivenTo.{given-for, given-as}
 use Rattle.c_typing_given.proofs.PlacesGiven.{place-there}

@@ -34,10 +34,11 @@ use Rattle.c_typing_exact.proofs.CallPasses.{call-passes, runtime-call-passes}
 use Rattle.c_typing_exact.proofs.SameParts.{distinct}
 use Rattle.c_rules_alike.proofs.CallRules.{call-over}
 use Rattle.c_rules_alike.proofs.PartsThere.{part_there-kept, values-there}
-use Rattle.c_typing_given.specs.Given.{point_at, IsHere, IsOnWay, IsReached, IsPartGiven, IsGiven, used_by_part}
+use Rattle.c_type_order.specs.Uses.{used_by_part}
+use Rattle.c_typing_given.specs.Given.{point_at, IsHere, IsOnWay, IsReached, IsPartGiven, IsGiven}
 use Rattle.c_unit_typing.specs.Holding.{expr_holds, arguments_holds}
 use Rattle.c_typing_given.specs.Spending.{HasRoom}
-use Rattle.c_typing_given.specs.Uses.{AreUses, used_by, used_by_arguments, Use}
+use Rattle.c_type_order.specs.TypesUsed.{AreUses, used_by, used_by_arguments, Use}
 use Rattle.c_typing_given.proofs.Constructing.{part-value, as-value, as-block, of-part, finish, uses-as, room-as, uses-at, alike-as, reached-both, plain-given, max-left, max-right}
 use Rattle.c_typing_given.proofs.OperatorsGiven.{then-again, stay}
 use Rattle.c_typing_given.proofs.Settling.{of_part}

@@ -38,7 +38,7 @@ use Rattle.c_rules_alike.proofs.ConversionRules.{cast-over}
 use Rattle.c_rules_alike.proofs.OperatorRules.{type_size-over}
 use Rattle.c_typing_given.specs.Given.{point_at, IsPartGiven, IsGiven, IsNameGiven}
 use Rattle.c_unit_typing.specs.Holding.{expr_holds, type_name_holds}
-use Rattle.c_typing_given.specs.Uses.{used_by, used_by_type_name}
+use Rattle.c_type_order.specs.TypesUsed.{used_by, used_by_type_name}
 use Rattle.c_typing_given.proofs.Constructing.{as-value, of-part, finish, uses-as, room-as, uses-at, scopes-at, reached-both, plain-simple, IsSimple, max-left, max-right, held-as}
 use Rattle.c_typing_given.proofs.GivenTo.{IsGivenFor, given-for, given-as}
 use Rattle.c_typing_given.proofs.Settling.{of_part}

@@ -19,7 +19,7 @@ use Rattle.c_rules_alike.proofs.PartsAlike.{constant-over}
 use Rattle.c_typing_given.specs.Given.{point_at, IsHere, IsGiven, IsGivenAs}
 use Rattle.c_unit_typing.specs.Holding.{expr_holds}
 use Rattle.c_typing_given.specs.Spending.{HasRoom}
-use Rattle.c_typing_given.specs.Uses.{AreUses, used_by, used_by_place}
+use Rattle.c_type_order.specs.TypesUsed.{AreUses, used_by, used_by_place}
 use Rattle.c_typing_given.proofs.GivenTo.{given-for}
 use Rattle.c_rules_alike.specs.PartsThere.{IsPartThere}
 use Rattle.c_typing_unique.proofs.Shapes.{no_true}

@@ -24,10 +24,11 @@ use Rattle.c_typing_exact.specs.Numbered.{IsElaboratedAt}
 use Rattle.c_typing_exact.proofs.SameParts.{plain_runtime, over_allocation}
 use Rattle.c_rules_alike.specs.PartsThere.{IsPartThere}
 use Rattle.c_rules_alike.proofs.PartsThere.{part_there-kept}
-use Rattle.c_typing_given.specs.Given.{point_at, IsHere, IsOnWay, IsReached, IsPartGiven, IsGiven, IsValueGiven, used_by_part}
+use Rattle.c_type_order.specs.Uses.{used_by_part}
+use Rattle.c_typing_given.specs.Given.{point_at, IsHere, IsOnWay, IsReached, IsPartGiven, IsGiven, IsValueGiven}
 use Rattle.c_unit_typing.specs.Holding.{expr_holds}
 use Rattle.c_typing_given.specs.Spending.{HasRoom}
-use Rattle.c_typing_given.specs.Uses.{AreUses, used_by, Use}
+use Rattle.c_type_order.specs.TypesUsed.{AreUses, used_by, Use}
 use Rattle.c_typing_given.proofs.Settling.{of_part, part-read, settle}
 use Rattle.c_typing_given.proofs.Spent.{room-first, room-then, spent-both}
 use Rattle.c_typing_given.proofs.ValuesGiven.{uses-first, value-given}

@@ -38,7 +38,7 @@ use Rattle.c_rules_alike.proofs.PartsAlike.{constant-over}
 use Rattle.c_typing_given.specs.Given.{point_at, IsHere, IsReached, IsGiven, IsGivenAs}
 use Rattle.c_unit_typing.specs.Holding.{expr_holds, enumerators_holds}
 use Rattle.c_typing_given.specs.Spending.{HasRoom}
-use Rattle.c_typing_given.specs.Uses.{AreUses, used_by, used_by_enumerators, used_by_specifier}
+use Rattle.c_type_order.specs.TypesUsed.{AreUses, used_by, used_by_enumerators, used_by_specifier}
 use Rattle.c_typing_given.proofs.CallsGiven.{reached-none}
 use Rattle.c_typing_given.proofs.Constructing.{reached-both, uses-at, plain-given, max-left, max-right}
 use Rattle.c_typing_given.proofs.LevelsKept.{length-innermost, enumerating-levels}

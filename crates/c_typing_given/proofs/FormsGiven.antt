@@ -40,7 +40,7 @@ use Rattle.c_rules_alike.proofs.PartsAlike.{constant-over}
 use Rattle.c_typing_given.specs.Given.{point_at, IsHere, IsReached, IsGiven, IsGivenAs}
 use Rattle.c_unit_typing.specs.Holding.{expr_holds, declarator_holds, core_holds, parts_holds, declared_holds}
 use Rattle.c_typing_given.specs.Spending.{HasRoom, HasSpent}
-use Rattle.c_typing_given.specs.Uses.{AreUses, OfSize, used_by, used_by_form, used_by_core, used_by_parts, used_by_declared}
+use Rattle.c_type_order.specs.TypesUsed.{AreUses, OfSize, used_by, used_by_form, used_by_core, used_by_parts, used_by_declared}
 use Rattle.c_typing_given.proofs.CallsGiven.{reached-none, reached-as}
 use Rattle.c_typing_given.proofs.Constructing.{reached-both, uses-at, plain-given, max-left, max-right}
 use Rattle.c_typing_given.proofs.Settling.{small-kept, point-after}

@@ -31,7 +31,7 @@ use Rattle.c_rules_alike.proofs.TypesAlike.{pointer_to_complete-over}
 use Rattle.c_typing_given.specs.Given.{point_at, IsHere, IsReached, IsGiven, IsValueGiven}
 use Rattle.c_unit_typing.specs.Holding.{expr_holds}
 use Rattle.c_typing_given.specs.Spending.{HasRoom}
-use Rattle.c_typing_given.specs.Uses.{AreUses, used_by}
+use Rattle.c_type_order.specs.TypesUsed.{AreUses, used_by}
 use Rattle.c_typing_given.proofs.AddressesGiven.{IsTakenApart, taken-apart}
 use Rattle.c_typing_given.proofs.Constructing.{scopes-at, simple-given, IsSimple}
 use Rattle.c_typing_given.proofs.SequencesGiven.{side-plain}

@@ -23,8 +23,7 @@ use Rattle.c_typing_laws.proofs.KnownStates.{pointer_type-gives}
 use Rattle.c_typing_exact.proofs.Unbroken.{passes_one, off}
 use Rattle.c_rules_alike.proofs.DeclaratorRules.{array_tests-over, function-over}
 use Rattle.c_rules_alike.proofs.TypesAlike.{complete-over}
-use Rattle.c_type_order.specs.TypesUsed.{IsUse, made_in, function_steps, parts_steps, form_steps, core_steps, declared_steps}
-use Rattle.c_typing_given.specs.Uses.{AreUses, Use, OfType, types_of}
+use Rattle.c_type_order.specs.TypesUsed.{IsUse, made_in, function_steps, parts_steps, form_steps, core_steps, declared_steps, AreUses, Use, OfType, types_of}
 use Rattle.c_typing_given.proofs.PointersGiven.{pointer-given, array-given, function-given}
 use Rattle.c_typing_given.proofs.Steps.{then-is}
 use Rattle.c_typing_given.proofs.TypeGiven.{IsTypeGiven, DefinesNone, none-same, none-both}

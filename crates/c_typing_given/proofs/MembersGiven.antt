@@ -38,10 +38,9 @@ use Rattle.c_typing_exact.proofs.SameParts.{distinct}
 use Rattle.c_typing_exact.proofs.Unbroken.{passes_one, off}
 use Rattle.c_rules_alike.proofs.TypesAlike.{complete-over}
 use Rattle.c_unit_typing.specs.Holding.{specifiers_holds, declarator_holds, members_holds, member_declarators_holds}
-use Rattle.c_type_order.specs.TypesUsed.{made_in, form_steps}
+use Rattle.c_type_order.specs.TypesUsed.{made_in, form_steps, Use, AreUses, OfMember, types_of, used_by_form, used_by_specifier_list, used_by_members, used_by_member_declarators}
 use Rattle.c_typing_given.specs.Given.{point_at, IsHere, IsReached, IsGivenAs}
 use Rattle.c_typing_given.specs.Spending.{HasRoom}
-use Rattle.c_typing_given.specs.Uses.{Use, AreUses, OfMember, types_of, used_by_form, used_by_specifier_list, used_by_members, used_by_member_declarators}
 use Rattle.c_typing_given.proofs.CallsGiven.{reached-none}
 use Rattle.c_typing_given.proofs.Constructing.{reached-both, uses-at, max-left, max-right}
 use Rattle.c_typing_given.proofs.FormsGiven.{IsFormGiven}

@@ -38,10 +38,11 @@ use Rattle.c_typing_exact.specs.Passing.{Passes}
 use Rattle.c_typing_exact.proofs.InfixPasses.{arithmetic-passes, moved-passes, difference-passes, compared-passes, logical-passes}
 use Rattle.c_typing_exact.proofs.OperatorPasses.{index-passes, target-passes, function-passes, prefix-passes}
 use Rattle.c_rules_alike.proofs.OperatorRules.{index-over, infix-over, prefix-over, target-over}
-use Rattle.c_typing_given.specs.Given.{point_at, IsHere, IsOnWay, IsCallableAs, IsPartGiven, IsGiven, used_by_part}
+use Rattle.c_type_order.specs.Uses.{used_by_part}
+use Rattle.c_typing_given.specs.Given.{point_at, IsHere, IsOnWay, IsCallableAs, IsPartGiven, IsGiven}
 use Rattle.c_unit_typing.specs.Holding.{expr_holds}
 use Rattle.c_typing_given.specs.Spending.{HasRoom, HasSpent}
-use Rattle.c_typing_given.specs.Uses.{AreUses, used_by, Use}
+use Rattle.c_type_order.specs.TypesUsed.{AreUses, used_by, Use}
 use Rattle.c_typing_given.proofs.Constructing.{part-value, as-place, as-value, of-part, finish, uses-as, room-as, alike-as, scopes-at, plain-given, two-given, max-left, max-right, held-as}
 use Rattle.c_typing_given.proofs.Settling.{of_part, part-read}
 use Rattle.c_typing_given.proofs.Spent.{spent-none}

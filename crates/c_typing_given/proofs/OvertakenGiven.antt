@@ -27,7 +27,7 @@ use Rattle.c_rules_alike.proofs.ConversionRules.{becomes-over}
 use Rattle.c_unit_typing.specs.Holding.{expr_holds}
 use Rattle.c_typing_given.specs.Given.{point_at, IsHere, IsGiven, IsGivenAs}
 use Rattle.c_typing_given.specs.Spending.{HasRoom}
-use Rattle.c_typing_given.specs.Uses.{AreUses, used_by}
+use Rattle.c_type_order.specs.TypesUsed.{AreUses, used_by}
 use Rattle.c_typing_given.proofs.CheckedGiven.{checks-value, initialises-taken, initialised-given}
 use Rattle.c_typing_given.proofs.GivenTo.{IsGivenFor, given-for, given-as}
 use Rattle.c_typing_given.proofs.Settling.{numbered-at}

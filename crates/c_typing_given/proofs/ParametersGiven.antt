@@ -43,10 +43,9 @@ use Rattle.c_typing_exact.proofs.SameParts.{distinct}
 use Rattle.c_typing_exact.proofs.Unbroken.{passes_one}
 use Rattle.c_rules_alike.proofs.DeclaratorRules.{parameter_type-over}
 use Rattle.c_unit_typing.specs.Holding.{specifiers_holds, declared_holds, parameters_holds}
-use Rattle.c_type_order.specs.TypesUsed.{IsUse, made_in, parameter_steps, adjusted_steps}
+use Rattle.c_type_order.specs.TypesUsed.{IsUse, made_in, parameter_steps, adjusted_steps, AreUses, types_of, used_by_specifier_list, used_by_declared, used_by_parameters}
 use Rattle.c_typing_given.specs.Given.{point_at, IsHere, IsReached, IsGivenAs}
 use Rattle.c_typing_given.specs.Spending.{HasRoom, HasSpent}
-use Rattle.c_typing_given.specs.Uses.{AreUses, types_of, used_by_specifier_list, used_by_declared, used_by_parameters}
 use Rattle.c_typing_given.proofs.CallsGiven.{reached-none}
 use Rattle.c_typing_given.proofs.Constructing.{reached-both, uses-at, max-left, max-right}
 use Rattle.c_typing_given.proofs.EnumeratorsGiven.{in_state, reached-in}

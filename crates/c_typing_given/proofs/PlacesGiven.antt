@@ -40,10 +40,11 @@ use Rattle.c_rules_alike.specs.PartsThere.{IsPartThere}
 use Rattle.c_rules_alike.proofs.OperatorRules.{step-over}
 use Rattle.c_rules_alike.proofs.PartsAlike.{shape_of-over}
 use Rattle.c_rules_alike.proofs.PartsThere.{elaborated-there}
-use Rattle.c_typing_given.specs.Given.{point_at, IsHere, IsOnWay, IsPartGiven, IsGiven, used_by_part}
+use Rattle.c_type_order.specs.Uses.{used_by_part}
+use Rattle.c_typing_given.specs.Given.{point_at, IsHere, IsOnWay, IsPartGiven, IsGiven}
 use Rattle.c_unit_typing.specs.Holding.{expr_holds}
 use Rattle.c_typing_given.specs.Spending.{HasRoom, HasSpent, IsSmall}
-use Rattle.c_typing_given.specs.Uses.{AreUses}
+use Rattle.c_type_order.specs.TypesUsed.{AreUses}
 use Rattle.c_typing_given.proofs.Constructing.{as-place, as-value, of-part, finish, uses-as, room-as, scopes-at, max-left, max-right, held-as}
 use Rattle.c_typing_given.proofs.OperatorsGiven.{judges-prefix}
 use Rattle.c_typing_given.proofs.Settling.{of_part, small-kept}

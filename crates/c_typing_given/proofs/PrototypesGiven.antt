@@ -24,7 +24,7 @@ use Rattle.c_typing_exact.proofs.SameParts.{distinct}
 use Rattle.c_unit_typing.specs.Holding.{parts_holds, parameters_holds}
 use Rattle.c_typing_given.specs.Given.{point_at, IsHere, IsReached, IsGivenAs}
 use Rattle.c_typing_given.specs.Spending.{HasRoom}
-use Rattle.c_typing_given.specs.Uses.{AreUses, used_by_parts, used_by_parameters}
+use Rattle.c_type_order.specs.TypesUsed.{AreUses, used_by_parts, used_by_parameters}
 use Rattle.c_typing_given.proofs.CallsGiven.{reached-none}
 use Rattle.c_typing_given.proofs.Constructing.{reached-both, uses-at, max-left, max-right}
 use Rattle.c_typing_given.proofs.EnumeratorsGiven.{in_state, reached-in}

@@ -32,10 +32,11 @@ use Rattle.c_rules_alike.proofs.ConversionRules.{choice-over}
 use Rattle.c_rules_alike.proofs.MadeAlike.{meeting-over}
 use Rattle.c_rules_alike.proofs.PartsThere.{part_there-kept}
 use Rattle.c_rules_alike.proofs.TypesAlike.{integer-over, shape-over}
-use Rattle.c_typing_given.specs.Given.{point_at, IsHere, IsOnWay, IsReached, IsPartGiven, IsGiven, used_by_part}
+use Rattle.c_type_order.specs.Uses.{used_by_part}
+use Rattle.c_typing_given.specs.Given.{point_at, IsHere, IsOnWay, IsReached, IsPartGiven, IsGiven}
 use Rattle.c_unit_typing.specs.Holding.{expr_holds}
 use Rattle.c_typing_given.specs.Spending.{HasRoom}
-use Rattle.c_typing_given.specs.Uses.{AreUses, used_by, Use, OfType}
+use Rattle.c_type_order.specs.TypesUsed.{AreUses, used_by, Use, OfType}
 use Rattle.c_typing_given.proofs.Constructing.{as-place, as-value, of-part, finish, uses-as, room-as, uses-at, alike-as, reached-both, IsSimple, plain-simple, simple-given, two-simple, max-left, max-right, held-as}
 use Rattle.c_typing_given.proofs.Settling.{of_part}
 use Rattle.c_typing_given.proofs.Spent.{room-first, room-then}

@@ -36,8 +36,7 @@ use Rattle.c_typing_exact.specs.Passing.{Passes}
 use Rattle.c_typing_given.specs.Given.{point_at, IsHere, IsGivenAs}
 use Rattle.c_unit_typing.specs.Holding.{specifiers_holds, specifier_holds}
 use Rattle.c_typing_given.specs.Spending.{HasRoom}
-use Rattle.c_type_order.specs.TypesUsed.{IsUse}
-use Rattle.c_typing_given.specs.Uses.{AreUses, used_by_specifier_list, used_by_specifier}
+use Rattle.c_type_order.specs.TypesUsed.{IsUse, AreUses, used_by_specifier_list, used_by_specifier}
 use Rattle.c_typing_given.proofs.AllowedWords.{allowed-without}
 use Rattle.c_typing_given.proofs.CallsGiven.{reached-none}
 use Rattle.c_typing_given.proofs.Constructing.{reached-both, uses-at, max-left, max-right}

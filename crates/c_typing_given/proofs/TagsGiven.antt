@@ -37,8 +37,7 @@ use Rattle.c_typing_exact.proofs.SpecifierExact.{word_passes}
 use Rattle.c_typing_exact.proofs.Unbroken.{passes_append}
 use Rattle.c_typing_given.specs.Given.{point_at, IsHere, IsGivenAs}
 use Rattle.c_typing_given.specs.Spending.{HasSpent, IsSmall}
-use Rattle.c_type_order.specs.TypesUsed.{IsUse}
-use Rattle.c_typing_given.specs.Uses.{AreUses, used_by_specifier}
+use Rattle.c_type_order.specs.TypesUsed.{IsUse, AreUses, used_by_specifier}
 use Rattle.c_typing_given.proofs.LevelsKept.{tagging-levels}
 use Rattle.c_typing_given.proofs.PlacesGiven.{numbered-is}
 use Rattle.c_typing_given.proofs.Settling.{naming}

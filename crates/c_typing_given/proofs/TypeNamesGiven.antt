@@ -37,8 +37,7 @@ use Rattle.c_typing_exact.proofs.SameParts.{distinct}
 use Rattle.c_typing_given.specs.Given.{point_at, IsReached, IsNameGiven}
 use Rattle.c_unit_typing.specs.Holding.{specifiers_holds, declared_holds}
 use Rattle.c_typing_given.specs.Spending.{node_cost, literal_cost, cell_cost, total, HasRoom, HasSpent}
-use Rattle.c_type_order.specs.TypesUsed.{made_in, declared_steps}
-use Rattle.c_typing_given.specs.Uses.{AreUses, types_of, used_by_specifier_list, used_by_declared}
+use Rattle.c_type_order.specs.TypesUsed.{made_in, declared_steps, AreUses, types_of, used_by_specifier_list, used_by_declared}
 use Rattle.c_typing_given.proofs.Constructing.{reached-both, uses-at, scopes-at, max-left, max-right}
 use Rattle.c_typing_given.proofs.FormsGiven.{IsDeclaredGiven}
 use Rattle.c_typing_given.proofs.MakesGiven.{IsMakeGiven, declared-given}

@@ -25,8 +25,7 @@ use Rattle.c_typing_unique.proofs.Shapes.{no_true}
 use Rattle.c_typing_exact.proofs.ExprExact.{droppable_over}
 use Rattle.c_typing_exact.proofs.SameParts.{over_no_place, over_runtime}
 use Rattle.c_typing_given.specs.Given.{AreSame}
-use Rattle.c_type_order.specs.TypesUsed.{IsUse}
-use Rattle.c_typing_given.specs.Uses.{AreUses, used_by, Use, OfType, OfSize, OfMember}
+use Rattle.c_type_order.specs.TypesUsed.{IsUse, AreUses, used_by, Use, OfType, OfSize, OfMember}
 
 -- Uses one after another
 

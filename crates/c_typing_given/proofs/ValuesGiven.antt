@@ -39,7 +39,7 @@ use Rattle.c_rules_alike.proofs.PartsThere.{taken-there}
 use Rattle.c_typing_given.specs.Given.{point_at, IsHere, IsOnWay, IsReached, IsCallableAs, IsPartGiven, IsGiven, IsValueGiven}
 use Rattle.c_unit_typing.specs.Holding.{expr_holds}
 use Rattle.c_typing_given.specs.Spending.{HasRoom}
-use Rattle.c_typing_given.specs.Uses.{AreUses, used_by, used_by_place, Use, OfType}
+use Rattle.c_type_order.specs.TypesUsed.{AreUses, used_by, used_by_place, Use, OfType}
 use Rattle.c_typing_given.proofs.Settling.{small-kept, numbered-at}
 use Rattle.c_typing_given.proofs.Spent.{room-first, room-then, spent-both}
 use Rattle.c_typing_given.proofs.Steps.{then-is, pointing, IsPointerGiven, new_pointer-given}

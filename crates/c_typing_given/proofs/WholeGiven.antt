@@ -43,10 +43,9 @@ use Rattle.c_typing_unique.proofs.Reading.{point-same}
 use Rattle.c_typing_exact.proofs.SameParts.{distinct}
 use Rattle.c_typing_exact.proofs.Unbroken.{passes_one}
 use Rattle.c_unit_typing.specs.Holding.{specifiers_holds, declarator_holds}
-use Rattle.c_type_order.specs.TypesUsed.{IsUse, made_in, form_steps, core_steps, parts_steps, function_steps}
+use Rattle.c_type_order.specs.TypesUsed.{IsUse, made_in, form_steps, core_steps, parts_steps, function_steps, AreUses, types_of, used_by_form, used_by_specifiers, used_by_specifier_list}
 use Rattle.c_typing_given.specs.Given.{point_at, IsHere, IsReached, IsGivenAs}
 use Rattle.c_typing_given.specs.Spending.{HasRoom}
-use Rattle.c_typing_given.specs.Uses.{AreUses, types_of, used_by_form, used_by_specifiers, used_by_specifier_list}
 use Rattle.c_typing_given.proofs.AggregatesGiven.{old-use}
 use Rattle.c_typing_given.proofs.CallsGiven.{reached-none}
 use Rattle.c_typing_given.proofs.Constructing.{uses-at}

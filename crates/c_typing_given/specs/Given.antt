@@ -23,7 +23,8 @@ use Rattle.c_typing_exact.specs.Numbered.{IsElaboratedAt}
 use Rattle.c_rules_alike.specs.PartsThere.{IsPartThere}
 use Rattle.c_unit_typing.specs.Holding.{expr_holds, type_name_holds}
 use Rattle.c_typing_given.specs.Spending.{HasRoom, HasSpent, IsSmall}
-use Rattle.c_typing_given.specs.Uses.{AreUses, used_by, used_by_place, used_by_type_name, Use}
+use Rattle.c_type_order.specs.Uses.{used_by_part}
+use Rattle.c_type_order.specs.TypesUsed.{AreUses, used_by, used_by_place, used_by_type_name, Use}
 
 abbrev pub point_at : State → Point
 point_at s = record { scopes = s.seen.scopes; node = s.seen.node }
@@ -50,11 +51,6 @@ pub record IsReached (T : Table) (made : List Made) (s r : State) (b : Point) (c
   pub way : IsOnWay T made s r count
 
 -- Expressions
-
-abbrev pub used_by_part : Table → Elaborated → List Use
-used_by_part T (AsPlace p) = used_by_place T p
-used_by_part T (AsValue e) = used_by T e
-used_by_part T (AsAllocation e) = used_by T e
 
 -- one part is the other; an allocation is any that something will take over
 abbrev pub AreSame : Elaborated → Elaborated → Type 0

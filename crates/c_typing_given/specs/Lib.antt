@@ -1,4 +1,3 @@
-pub mod Uses
 pub mod Spending
 pub mod Given
 pub mod Limits

@@ -25,7 +25,7 @@ ghost use Rattle.c_unit_typing.specs.Holding.{declarator_holds, parameters_holds
 ghost use Rattle.c_typing_given.specs.Given.{IsGivenAs, IsHere, point_at};
 ghost use Rattle.c_typing_given.specs.Limits.{IsLimited};
 ghost use Rattle.c_typing_given.specs.Spending.{HasRoom};
-ghost use Rattle.c_typing_given.specs.Uses.{AreUses, used_by_declarator, used_by_parameters, used_by_specifiers};
+ghost use Rattle.c_type_order.specs.TypesUsed.{AreUses, used_by_declarator, used_by_parameters, used_by_specifiers};
 
 /// Specifiers are given, with a declarator after them or alone (C99 6.7.2.3).
 pub fn specifiers_are_given()

@@ -22,7 +22,7 @@ ghost use Rattle.c_unit_typing.specs.Holding.{expr_holds};
 ghost use Rattle.c_typing_given.specs.Given.{IsGiven, IsGivenAs, IsHere, IsNameGiven, point_at};
 ghost use Rattle.c_typing_given.specs.Limits.{IsLimited};
 ghost use Rattle.c_typing_given.specs.Spending.{HasRoom};
-ghost use Rattle.c_typing_given.specs.Uses.{AreUses, used_by, used_by_place};
+ghost use Rattle.c_type_order.specs.TypesUsed.{AreUses, used_by, used_by_place};
 
 /// What is well typed of an expression is given, and so is a type name.
 pub fn an_expression_is_given()

@@ -22,8 +22,7 @@ ghost use Rattle.c_typing.specs.Declaring.{declared_makes, form_makes, stars_mak
 ghost use Rattle.c_typing.specs.Extensions.{IsExtended};
 ghost use Rattle.c_typing.specs.Judging.{Gives, State, type_with};
 ghost use Rattle.c_typing.specs.Settled.{IsBasic, IsKnown};
-ghost use Rattle.c_type_order.specs.TypesUsed.{IsUse, declared_steps, form_steps, made_in};
-ghost use Rattle.c_typing_given.specs.Uses.{AreUses, types_of};
+ghost use Rattle.c_type_order.specs.TypesUsed.{AreUses, IsUse, declared_steps, form_steps, made_in, types_of};
 
 /// A type that the table of the whole text has is found, or it is the next one, and is added; T goes on from the table after it.
 pub fn a_type_is_given()

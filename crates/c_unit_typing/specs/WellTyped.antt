@@ -48,7 +48,7 @@ pub record IsWellTyped (table : Table) (unit : TypedTranslationUnit) : Type 0 wh
   pub after : Known
   pub typed : IsUnitTyped table unit (known_before unit) after
   pub numbered : AreNumbered unit
-  -- types are numbered by first use
+  -- types are numbered by first use; the size that stands in an array part is one of 64 bits, and a member has a name
   pub types : AreUses (used_by_unit table unit) (length basic_table) (length table)
   pub main : HasMain table unit
 

@@ -125,3 +125,42 @@ fn an_expression_holds_256_values(rt: HostRuntime) -> Result<(), Fail> {
     assert!(rt; is_fault(checked(rt.alloc(), &text), too_large(Limit::Held, 1_325)));
     Ok(())
 }
+
+/// So many functions with an empty body, each 13 columns wide, and then `main`.
+fn with_functions(alloc: Global, count: usize) -> Result<Vec<u8>, AllocError> {
+    let mut text = Vec::new(alloc);
+    with_names(&mut text, b"void ", count, b"(){}")?;
+    text.extend_from_slice(b"int main(void){return 0;}")?;
+    Ok(text)
+}
+
+#[test]
+fn a_unit_defines_65535_functions(rt: HostRuntime) -> Result<(), Fail> {
+    let text = with_functions(rt.alloc(), 65_534)?;
+    assert!(rt; checked(rt.alloc(), &text).is_ok());
+    let text = with_functions(rt.alloc(), 65_535)?;
+    let main = 13 * 65_535 + 5;
+    assert!(rt; is_fault(checked(rt.alloc(), &text), too_large(Limit::Functions, main)));
+    Ok(())
+}
+
+/// So many pointers and one more, whose types are all different, since each `*` has a node of its own. The type of `main` comes first; the
+/// first name stands at column 30, and each further one six columns on.
+fn with_pointers(alloc: Global, count: usize) -> Result<Vec<u8>, AllocError> {
+    let mut text = Vec::new(alloc);
+    text.extend_from_slice(b"int main(void){return 0;}int")?;
+    with_names(&mut text, b"*", count, b",")?;
+    with_names(&mut text, b"*A", 1, b";")?;
+    Ok(text)
+}
+
+#[test]
+fn a_unit_has_16384_types(rt: HostRuntime) -> Result<(), Fail> {
+    // `void`, the eight integer types and the type of `main` are ten of them.
+    let text = with_pointers(rt.alloc(), 16_373)?;
+    assert!(rt; checked(rt.alloc(), &text).is_ok());
+    let text = with_pointers(rt.alloc(), 16_374)?;
+    let last = 30 + 6 * 16_374;
+    assert!(rt; is_fault(checked(rt.alloc(), &text), too_large(Limit::Types, last)));
+    Ok(())
+}

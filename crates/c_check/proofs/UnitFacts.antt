@@ -1,6 +1,6 @@
 -- What an answer of the typing of a unit means.
 use Rattle.std.proofs.lemmas.Option.{none-some}
-use Rattle.std.proofs.Common.{◌≡◌, Option, None, Some, ◌∙◌, Bool, true, false, true≢false, Result, Ok, Err, IfOk, length, ap, sym, subst, arith}
+use Rattle.std.proofs.Common.{◌≡◌, ◌≢◌, Option, None, Some, ◌∙◌, Bool, true, false, true≢false, refl, Result, Ok, Err, IfOk, length, ap, sym, subst, arith}
 use Rattle.cc_base.specs.declared.fault.Fault.{Fault}
 use Rattle.cc_base.specs.declared.fault.Fault.TheVariants.{Refused, TooLarge, NoMemory}
 use Rattle.cc_base.specs.declared.fault.Rule.{Rule}
@@ -13,8 +13,11 @@ use Rattle.c_tree.specs.TypedParts.{made_by_unit, nodes_made}
 use Rattle.c_tree.specs.TypedStatementViews.{typed_unit_view}
 use Rattle.c_tree.specs.TypedTree.{TypedTranslationUnit}
 use Rattle.c_tree.specs.declared.typed_unit.Typed.{Typed}
+use Rattle.c_typing.specs.Settled.{IsBasic}
 use Rattle.c_typing.specs.Tests.{first_broken}
-use Rattle.c_check.specs.Judged.{IsAnswered, IsJudged, fault_of}
+use Rattle.c_check.specs.Judged.{IsAccepted, IsAnswered, IsJudged, fault_of}
+use Rattle.c_unit_given.specs.Countable.{IsCountable}
+use Rattle.c_unit_given.proofs.WholeGiven.{whole-given}
 use Rattle.c_unit_limits.proofs.UnitLimits.{whole-limits}
 use Rattle.c_unit_typing.specs.DefinitionJudging.{before_unit, judge_unit, judge_whole, judged_unit, main_tests}
 use Rattle.c_unit_typing.specs.Limits.{IsWithinLimits}
@@ -75,8 +78,11 @@ is-well-typed u t j =
 pub erases : (u : tree.TranslationUnit) (t : Typed) → IsJudged u t → erased_unit (typed_unit_view t.unit) ≡ u
 erases u t j = (whole-judged u (typed_unit_view t.unit) j.after j.gives).1
 
+pub is-basic : (u : tree.TranslationUnit) (t : Typed) → IsJudged u t → IsBasic t.types
+is-basic u t j = subst IsBasic (sym j.types) (parts-judged u (typed_unit_view t.unit) j.after j.gives).goes.goes.known.basic
+
 pub well-formed : (u : tree.TranslationUnit) (t : Typed) → IsJudged u t → IsWellFormed t.types
-well-formed u t j = subst IsWellFormed (sym j.types) (parts-judged u (typed_unit_view t.unit) j.after j.gives).goes.goes.known.basic.formed
+well-formed u t j = (is-basic u t j).formed
 
 -- no other tree of the unit is well typed
 pub is-only : (u : tree.TranslationUnit) (t : Typed) → IsJudged u t → (other : TypedTranslationUnit) → IsWellTyped t.types other → erased_unit other ≡ u → other ≡ typed_unit_view t.unit
@@ -95,3 +101,25 @@ breaks-rule u result p t h e =
 -- the limits that it is within
 pub within-limits : (u : tree.TranslationUnit) (t : Typed) → IsJudged u t → IsWithinLimits t.types (typed_unit_view t.unit)
 within-limits u t j = subst (λ (T : Table). IsWithinLimits T (typed_unit_view t.unit)) (sym j.types) (whole-limits u (typed_unit_view t.unit) j.after j.gives)
+
+-- Acceptance
+
+given_of : UnitOutcome TypedTranslationUnit → TypedTranslationUnit → TypedTranslationUnit
+given_of (Gives a s) other = a
+given_of (Stops f s) other = other
+
+memory_alone : (f : Fault) → (f ≢ NoMemory → ⊥) → f ≡ NoMemory
+memory_alone NoMemory h = refl
+memory_alone (Refused p t) h = absurd (h (λ e. true≢false (ap is_wanting (sym e))))
+memory_alone (TooLarge p l) h = absurd (h (λ e. true≢false (ap is_wanting (sym e))))
+
+-- what judging gives is the answer, unless memory is wanted
+pub is-accepted : (u : tree.TranslationUnit) (result : Result Typed Fault) (whole : TypedTranslationUnit) (r : UnitState) → judged_unit u ≡ Gives whole r → IsAnswered u result → IsAccepted whole result
+is-accepted u (Ok t) whole r g h = ap (λ (o : UnitOutcome TypedTranslationUnit). given_of o whole) (sym h.gives ∙ g)
+is-accepted u (Err f) whole r g h = memory_alone f (λ n. none-some f (ap fault_of (sym g) ∙ h n))
+
+pub accepts : (u : tree.TranslationUnit) (result : Result Typed Fault) → IsAnswered u result → (T : Table) (whole : TypedTranslationUnit) → IsBasic T → IsWellTyped T whole → IsWithinLimits T whole
+    → IsCountable T whole → erased_unit whole ≡ u → IsAccepted whole result
+accepts u result h T whole basic typed limits countable e =
+    let given = whole-given T whole basic typed limits countable in
+    is-accepted u result whole given.0 (ap judged_unit (sym e) ∙ given.1) h

@@ -4,6 +4,7 @@ use Rattle.cc_base.specs.declared.fault.Fault.{Fault}
 use Rattle.cc_base.specs.declared.fault.Fault.TheVariants.{NoMemory}
 use Rattle.c_tree.specs.Tree.{TranslationUnit}
 use Rattle.c_tree.specs.TypedStatementViews.{typed_unit_view}
+use Rattle.c_tree.specs.TypedTree.{TypedTranslationUnit}
 use Rattle.c_tree.specs.declared.typed_unit.Typed.{Typed}
 use Rattle.c_printed.specs.Printing.{AreInOrder, HasPrinted}
 use Rattle.c_unit_typing.specs.UnitJudging.{UnitOutcome, UnitState, Gives, Stops}
@@ -28,3 +29,8 @@ fault_of (Stops fault s) = Some fault
 abbrev pub IsAnswered : TranslationUnit → Result Typed Fault → Type 0
 IsAnswered u (Ok t) = IsJudged u t
 IsAnswered u (Err fault) = fault ≢ NoMemory → fault_of (judged_unit u) ≡ Some fault
+
+-- the answer is this tree, or memory was wanted
+abbrev pub IsAccepted : TypedTranslationUnit → Result Typed Fault → Type 0
+IsAccepted whole (Ok t) = typed_unit_view t.unit ≡ whole
+IsAccepted whole (Err fault) = fault ≡ NoMemory

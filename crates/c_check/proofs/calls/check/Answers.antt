@@ -7,7 +7,8 @@ use Rattle.c_tree.specs.TypedTree.{TypedTranslationUnit}
 use Rattle.c_printed.specs.Printing.{AreInOrder, HasPrinted}
 use Rattle.c_unit_typing.specs.Limits.{IsWithinLimits}
 use Rattle.c_unit_typing.specs.WellTyped.{IsWellTyped}
-use Rattle.c_check.proofs.UnitFacts.{answered-ok, breaks-rule, counts-nodes, erases, is-only, is-well-typed, within-limits}
+use Rattle.c_typing.specs.Settled.{IsBasic}
+use Rattle.c_check.proofs.UnitFacts.{accepts, answered-ok, breaks-rule, counts-nodes, erases, is-basic, is-only, is-well-typed, within-limits}
 use Rattle.c_check.proofs.calls.check.Goals as goal
 
 pub returns-clause-typed : goal.returns-clause-typed
@@ -45,6 +46,14 @@ pub returns-clause-limited : goal.returns-clause-limited
 returns-clause-limited c =
     let u = unit_view c.args.unit.now in
     answered-ok u c.checked.result (λ t. IsWithinLimits t.types (typed_unit_view t.unit)) (within-limits u) c.checked.ensures
+
+pub returns-clause-basic : goal.returns-clause-basic
+returns-clause-basic c =
+    let u = unit_view c.args.unit.now in
+    answered-ok u c.checked.result (λ t. IsBasic t.types) (is-basic u) c.checked.ensures
+
+pub returns-clause-accepts : goal.returns-clause-accepts
+returns-clause-accepts c = accepts (unit_view c.args.unit.now) c.checked.result c.checked.ensures
 
 pub returns-clause-refused : goal.returns-clause-refused
 returns-clause-refused c p rule e = breaks-rule (unit_view c.args.unit.now) c.checked.result p rule c.checked.ensures e

@@ -1,4 +1,4 @@
--- The types that the expressions of statements use; scopes that begin and end use none.
+-- What the expressions of statements use; scopes that begin and end use nothing.
 use Rattle.std.proofs.Common.{◌≡◌, Bool, false, not, List, [], ◌∷◌, Option, Some, None, refl, subst}
 use Rattle.cc_base.specs.declared.place.Place.{Place}
 use Rattle.cc_base.specs.declared.number.TypeId.{TypeId}

@@ -1,18 +1,18 @@
--- What is well typed over a table uses the same types, one after another, over each later table: by one recursion over the typed tree.
+-- What is well typed over a table uses the same, one after another, over each later table: by one recursion over the typed tree.
 use Rattle.std.proofs.Common.{◌≡◌, Bool, List, [], ◌∷◌, ◌++◌, refl, ap}
 use Rattle.cc_base.specs.declared.number.TypeId.{TypeId}
 use Rattle.c_types.specs.Table.{Table}
 use Rattle.c_tree.specs.TypedTree as typed
 use Rattle.c_tree.specs.TypedTree.{TypedExpr, TypedPlace, TypedArguments, TypedTypeName, TypedSpecifiers, TypedSpecifierList, TypedSpecifier, TypedMembers, TypedMemberDeclarators, TypedEnumerators, TypedDeclarator, TypedForm, TypedCore, TypedParts, TypedParameters, TypedDeclared}
-use Rattle.c_tree.specs.TypedParts.{specified_type}
+use Rattle.c_tree.specs.TypedParts.{specified_type, name_of_form}
 use Rattle.c_typing.specs.Declarators.{Outermost, Written, is_void_list, FormMakes}
 use Rattle.c_typing.specs.Scopes.{Scopes, entering}
 use Rattle.c_typing.specs.Typing.{IsTyped, IsPlace, AreTyped, IsTypeName, AreSpecifiers, AreListed, IsSpecifier, AreMembers, AreMemberDeclarators, AreEnumerators, IsForm, IsCore, AreParts, AreParameters, IsDeclared, AreAlone, enumerating}
-use Rattle.c_type_order.specs.TypesUsed.{used_by, used_by_place, used_by_arguments, used_by_type_name, used_by_specifiers, used_by_specifier_list, used_by_specifier, used_by_members, used_by_member_declarators, used_by_enumerators, used_by_declarator, used_by_form, used_by_core, used_by_parts, used_by_parameters, used_by_declared}
+use Rattle.c_type_order.specs.TypesUsed.{Use, OfType, OfSize, OfMember, types_of, used_by, used_by_place, used_by_arguments, used_by_type_name, used_by_specifiers, used_by_specifier_list, used_by_specifier, used_by_members, used_by_member_declarators, used_by_enumerators, used_by_declarator, used_by_form, used_by_core, used_by_parts, used_by_parameters, used_by_declared}
 use Rattle.c_type_order.specs.Uses.{IsLater}
 use Rattle.c_type_order.proofs.SameChains.{form-made, declared-made, parameter-made}
 
-two_same : (a b c d : List TypeId) → a ≡ b → c ≡ d → a ++ c ≡ b ++ d
+two_same : (a b c d : List Use) → a ≡ b → c ≡ d → a ++ c ≡ b ++ d
 two_same a b c d p q = λ i. p i ++ q i
 
 module _ (T U : Table) (l : IsLater T U) where
@@ -25,8 +25,8 @@ module _ (T U : Table) (l : IsLater T U) where
   both : (a c : TypedExpr) → Same a → Same c → used_by U a ++ used_by U c ≡ used_by T a ++ used_by T c
   both a c p q = two_same (used_by U a) (used_by T a) (used_by U c) (used_by T c) p q
 
-  with_type : (us ts : List TypeId) (t : TypeId) → us ≡ ts → us ++ t ∷ [] ≡ ts ++ t ∷ []
-  with_type us ts t p = ap (λ (xs : List TypeId). xs ++ t ∷ []) p
+  with_type : (us ts : List Use) (t : TypeId) → us ≡ ts → us ++ OfType t ∷ [] ≡ ts ++ OfType t ∷ []
+  with_type us ts t p = ap (λ (xs : List Use). xs ++ OfType t ∷ []) p
 
   called : (f : TypedExpr) (all : TypedArguments) → Same f → used_by_arguments U all ≡ used_by_arguments T all
       → used_by U f ++ used_by_arguments U all ≡ used_by T f ++ used_by_arguments T all
@@ -106,7 +106,7 @@ module _ (T U : Table) (l : IsLater T U) where
         let one = specifiers-same specifiers s h.0 h.1 in
         let two = declared-same d h.0 s' h.2 in
         let three = declared-made T U l s' d Written (specified_type specifiers) t h.4 in
-        λ i. one i ++ two i ++ three i
+        λ i. one i ++ two i ++ types_of (three i)
 
     pub specifiers-same : (all : TypedSpecifiers) (s s' : Scopes) → AreSpecifiers T all s s' → used_by_specifiers U all ≡ used_by_specifiers T all
     specifiers-same (typed.Specified list t) s s' h = listed-same list s s' h.0
@@ -121,7 +121,7 @@ module _ (T U : Table) (l : IsLater T U) where
     specifier-same (typed.Keyword word) s s' h = refl
     specifier-same (typed.Typedef name t) s s' h = refl
     specifier-same (typed.Tagged which at name t) s s' h = refl
-    specifier-same (typed.Aggregate which at name brace members t) s s' h = ap (λ (ts : List TypeId). t ∷ ts) (members-same members h.0 h.1 h.3)
+    specifier-same (typed.Aggregate which at name brace members t) s s' h = ap (λ (us : List Use). OfType t ∷ us) (members-same members h.0 h.1 h.3)
     specifier-same (typed.Enum at name) s s' h = refl
     specifier-same (typed.Enumeration at name brace all comma) s s' h = enumerators-same all (enumerating name s) s' h.1
 
@@ -140,7 +140,7 @@ module _ (T U : Table) (l : IsLater T U) where
         let one = row-same base all s h.0 h.1 in
         let two = form-same form h.0 s' h.2 in
         let three = form-made T U l s' form Written base t h.4 in
-        λ i. one i ++ (two i ++ three i)
+        λ i. one i ++ (two i ++ types_of (three i)) ++ OfMember (name_of_form form) ∷ []
 
     pub enumerators-same : (all : TypedEnumerators) (s s' : Scopes) → AreEnumerators T all s s' → used_by_enumerators U all ≡ used_by_enumerators T all
     enumerators-same typed.NoEnumerator s s' h = refl
@@ -161,7 +161,9 @@ module _ (T U : Table) (l : IsLater T U) where
     parts-same typed.NoPart s s' h = refl
     parts-same (typed.AndArray all at words) s s' h = parts-same all s s' h
     parts-same (typed.AndSizedArray all at words e size) s s' h =
-        two_same (used_by_parts U all) (used_by_parts T all) (used_by U e) (used_by T e) (parts-same all s h.0 h.1) (value-same e h.0 s' h.2)
+        let one = parts-same all s h.0 h.1 in
+        let two = value-same e h.0 s' h.2 in
+        λ i. one i ++ two i ++ OfSize size ∷ []
     parts-same (typed.AndFunction all at parameters) s s' h =
         two_same (used_by_parts U all) (used_by_parts T all) (used_by_parameters U parameters) (used_by_parameters T parameters)
         (parts-same all s h.0 h.2) (parameters-same (is_void_list parameters) parameters (entering h.0) h.1 h.3)
@@ -173,7 +175,7 @@ module _ (T U : Table) (l : IsLater T U) where
         let two = specifiers-same specifiers h.0 h.1 h.4 in
         let three = declared-same d h.1 h.2 h.5 in
         let four = parameter-made T U l h.2 adjusted d (specified_type specifiers) t h.7 in
-        λ i. one i ++ two i ++ three i ++ four i
+        λ i. one i ++ two i ++ three i ++ types_of (four i)
 
     declared-same : (d : TypedDeclared) (s s' : Scopes) → IsDeclared T d s s' → used_by_declared U d ≡ used_by_declared T d
     declared-same typed.NotDeclared s s' h = refl
@@ -184,7 +186,7 @@ module _ (T U : Table) (l : IsLater T U) where
   declarator-same o base t form s s' m h g =
       let one = form-same form s s' h in
       let two = form-made T U l m form o base t g in
-      λ i. one i ++ two i
+      λ i. one i ++ types_of (two i)
 
   pub alone-same : (all : TypedSpecifiers) (s s' : Scopes) → AreAlone T all s s' → used_by_specifiers U all ≡ used_by_specifiers T all
   alone-same (typed.Specified (typed.AndSpecifier typed.NoSpecifier (typed.Tagged which at name t)) u) s s' h = refl

@@ -38,7 +38,7 @@ use Rattle.c_typing.specs.Tests.{Elaborated, AsPlace, AsValue, AsAllocation, Tes
 use Rattle.c_typing_laws.proofs.JudgedCalls.{last_ok, lengths, cut_length}
 use Rattle.c_typing_laws.proofs.Outcomes.{bind-gives, gives-state, never-gives, construct-gives}
 use Rattle.c_typing_laws.proofs.NumberedConstructs.{IsWhole}
-use Rattle.c_type_order.specs.TypesUsed.{used_by, used_by_place, used_by_arguments, used_by_type_name}
+use Rattle.c_type_order.specs.TypesUsed.{Use, used_by, used_by_place, used_by_arguments, used_by_type_name}
 use Rattle.c_type_order.specs.Uses.{IsUsed, used_by_part, used_by_values}
 use Rattle.c_type_order.proofs.Uses.{then_used, used-as, used-still, new_pointer-used}
 use Rattle.c_type_order.proofs.UsedConstructs.{PartUsed, ValueUsed, Alone, part-same, part_as, to_integer-used, converted-used, side-used, expr-used, given-used}
@@ -59,7 +59,7 @@ moved-table at t (AsAllocation e) u s r h = ap (λ (w : State). w.table) (sym (g
 
 assigned-used : (U T : Table) (at : Place) (p : TypedPlace) (y : Elaborated) → used_by_part U (assigned T at p y) ≡ used_by_place U p ++ used_by_part U y
 assigned-used U T at p (AsPlace q) = refl
-assigned-used U T at p (AsValue e) = ap (λ (l : List TypeId). used_by_place U p ++ l) (converted-used U at (place_type p) e (implicit T e (place_type p)))
+assigned-used U T at p (AsValue e) = ap (λ (l : List Use). used_by_place U p ++ l) (converted-used U at (place_type p) e (implicit T e (place_type p)))
 assigned-used U T at p (AsAllocation e) = refl
 
 pub assign-used : (x : Operand) (at : Place) (y o : Operand) (S M : Table) (s r : State) → IsWhole y.part → PartUsed x.part S M → PartUsed y.part M s.table
@@ -84,7 +84,7 @@ assign-used x at y o S M s r w n k h =
 
 updated-used : (U : Table) (operator : Assignment) (at : Place) (p : TypedPlace) (e : TypedExpr) (j k : Option IntegerType)
     → used_by U (updated operator at p e j k) ≡ used_by_place U p ++ used_by U e
-updated-used U operator at p e (Some j) (Some k) = ap (λ (l : List TypeId). used_by_place U p ++ l) (to_integer-used U at (integer_type (right_type (assigning operator) j k)) e)
+updated-used U operator at p e (Some j) (Some k) = ap (λ (l : List Use). used_by_place U p ++ l) (to_integer-used U at (integer_type (right_type (assigning operator) j k)) e)
 updated-used U operator at p e (Some j) None = refl
 updated-used U operator at p e None k = refl
 
@@ -105,7 +105,7 @@ update-used operator x at v o S M s r n k h =
 
 -- Choices and commas
 
-abbrev pub ThreeUsed : TypedExpr → Elaborated → Elaborated → Table → List TypeId
+abbrev pub ThreeUsed : TypedExpr → Elaborated → Elaborated → Table → List Use
 ThreeUsed c x y U = used_by U c ++ used_by_part U x ++ used_by_part U y
 
 module _ (c : TypedExpr) (begin at : Place) (o : Elaborated) (S : Table) (s r : State) where
@@ -175,7 +175,7 @@ unfolding comma
 comma-used x y o S s r n h =
     let c = construct-gives (λ (q : State). []) x.place (x.held ∷ y.held ∷ []) (pure (comma_part x.expr (side_of y.expr))) s o r h in
     part_as S (BothUsed x.expr y.expr) (comma_part x.expr (side_of y.expr)) o.part s r c.part
-    (λ U. comma-part U x.expr (side_of y.expr) ∙ ap (λ (l : List TypeId). used_by U x.expr ++ l) (side-used U y.expr)) n
+    (λ U. comma-part U x.expr (side_of y.expr) ∙ ap (λ (l : List Use). used_by U x.expr ++ l) (side-used U y.expr)) n
 
 -- Casts and sizes of types
 
@@ -206,9 +206,9 @@ size_of_type-used at paren name o S s r n h =
 
 pub values_last : (U : Table) (vs : List Value) (v : Value) → used_by_values (vs ++ v ∷ []) U ≡ used_by_values vs U ++ used_by U v.expr
 values_last U [] v = append-nil (used_by U v.expr)
-values_last U (w ∷ vs) v = ap (λ (l : List TypeId). used_by U w.expr ++ l) (values_last U vs v) ∙ sym (append_assoc (used_by U w.expr) (used_by_values vs U) (used_by U v.expr))
+values_last U (w ∷ vs) v = ap (λ (l : List Use). used_by U w.expr ++ l) (values_last U vs v) ∙ sym (append_assoc (used_by U w.expr) (used_by_values vs U) (used_by U v.expr))
 
-abbrev used_by_all : Table → List TypedExpr → List TypeId
+abbrev used_by_all : Table → List TypedExpr → List Use
 used_by_all U [] = []
 used_by_all U (e ∷ es) = used_by U e ++ used_by_all U es
 
@@ -249,7 +249,7 @@ module _ (U T : Table) (f : TypedExpr) (at : Place) (vs : List Value) where
   shape-used (Function ps r) u =
       let last : Test = broken_at rule.BadCall at (not (length ps == length (map argument_of vs))) in
       let alike = lengths ps vs (last_ok (Tests.argument_tests T ps (map argument_of vs)) last u) in
-      ap (λ (l : List TypeId). used_by U f ++ l) (fold-used U typed.NoArgument (converted_arguments T ps vs) ∙ arguments-used U T ps vs alike)
+      ap (λ (l : List Use). used_by U f ++ l) (fold-used U typed.NoArgument (converted_arguments T ps vs) ∙ arguments-used U T ps vs alike)
   shape-used Void u = broken_call u
   shape-used (Integer bytes signed) u = broken_call u
   shape-used (Pointer w v) u = broken_call u
@@ -272,7 +272,7 @@ module _ (U T : Table) (f : TypedExpr) (at : Place) (vs : List Value) where
       let last : Test = broken_at rule.BadCall at (not (length ps == length (map argument_of vs))) in
       let alike = lengths ps vs (last_ok (Tests.runtime_argument_tests T ps (map argument_of vs)) last u) in
       result-used function (arguments_as (runtime_arguments T (prototype_of function).parameters vs)) (prototype_of function).result
-      ∙ ap (λ (l : List TypeId). used_by U f ++ l) (fold-used U typed.NoArgument (runtime_arguments T (prototype_of function).parameters vs)
+      ∙ ap (λ (l : List Use). used_by U f ++ l) (fold-used U typed.NoArgument (runtime_arguments T (prototype_of function).parameters vs)
       ∙ runtimes-used U T (prototype_of function).parameters vs alike)
 
 pub call-used : (f : Value) (at : Place) (values : List Value) (o : Operand) (S M : Table) (s r : State) → ValueUsed f.expr S M

@@ -1,5 +1,6 @@
 -- The types that declarators make, each of the one before: stars first, then parts, then what stands in the parentheses round the name.
 use Rattle.std.proofs.Common.{◌≡◌, ℕ, suc, ◌+◌, Bool, true, false, List, [], ◌∷◌, length, Option, Some, None, refl, ap, sym, subst, ◌∙◌, nat_lt, if◌then◌else◌, arith}
+use Rattle.std.proofs.lemmas.List.{map-append}
 use Rattle.cc_base.specs.declared.place.Place.{Place}
 use Rattle.cc_base.specs.declared.number.NodeId.{NodeId}
 use Rattle.cc_base.specs.declared.number.TypeId.{TypeId}
@@ -21,17 +22,17 @@ use Rattle.c_typing.specs.Tests.{first_broken, has_some}
 use Rattle.c_typing_laws.proofs.Outcomes.{bind-gives, unless-gives, never-gives}
 use Rattle.c_typing_laws.proofs.ValuesTaken.{given-same}
 use Rattle.c_type_order.specs.Uses.{IsLater, IsUsed}
-use Rattle.c_type_order.specs.TypesUsed.{AreUses, derived_from, made_in, function_steps, parts_steps, form_steps, core_steps, declared_steps, adjusted_steps, parameter_steps}
+use Rattle.c_type_order.specs.TypesUsed.{Use, OfType, types_of, AreUses, derived_from, made_in, function_steps, parts_steps, form_steps, core_steps, declared_steps, adjusted_steps, parameter_steps}
 use Rattle.c_type_order.proofs.Uses.{later-self, later-on, uses_append, one_use, IsMade, made-used, type_with-made, pointer-made}
 
 -- t is made of base in n steps: what base was made in comes before
 pub record IsChain (n : ℕ) (base t : TypeId) (S R : Table) : Type 0 where
-  pub uses : (U : Table) → IsLater R U → (k a : ℕ) → AreUses (made_in U k base) a (length S) → AreUses (made_in U (k + n) t) a (length R)
+  pub uses : (U : Table) → IsLater R U → (k a : ℕ) → AreUses (types_of (made_in U k base)) a (length S) → AreUses (types_of (made_in U (k + n) t)) a (length R)
   pub later : IsLater S R
 
 pub chain-none : (base : TypeId) (S : Table) → IsChain 0 base base S S
 chain-none base S = record {
-  uses = λ U l k a h. let whole : k ≡ k + 0 = omega arith in subst (λ (m : ℕ). AreUses (made_in U m base) a (length S)) whole h;
+  uses = λ U l k a h. let whole : k ≡ k + 0 = omega arith in subst (λ (m : ℕ). AreUses (types_of (made_in U m base)) a (length S)) whole h;
   later = later-self S;
 }
 
@@ -40,9 +41,10 @@ chain-step x base t S R d m = record {
   uses = λ U l k a h.
       let of : derived_from (shape_at U t) t ≡ base = ap (λ (y : TypeShape). derived_from y t) (l.shapes t m.shape.0 ∙ m.shape.1) ∙ d in
       let whole : suc k ≡ k + 1 = omega arith in
-      subst (λ (m : ℕ). AreUses (made_in U m t) a (length R)) whole
-      (uses_append (made_in U k (derived_from (shape_at U t) t)) (t ∷ []) a (length S) (length R)
-      (subst (λ (b : TypeId). AreUses (made_in U k b) a (length S)) (sym of) h) (one_use t (length S) (length R) m.taken));
+      subst (λ (m : ℕ). AreUses (types_of (made_in U m t)) a (length R)) whole
+      (subst (λ (us : List Use). AreUses us a (length R)) (sym (map-append OfType (made_in U k (derived_from (shape_at U t) t)) (t ∷ [])))
+      (uses_append (types_of (made_in U k (derived_from (shape_at U t) t))) (OfType t ∷ []) a (length S) (length R)
+      (subst (λ (b : TypeId). AreUses (types_of (made_in U k b)) a (length S)) (sym of) h) (one_use t (length S) (length R) m.taken)));
   later = m.later;
 }
 
@@ -50,15 +52,15 @@ chain-then : (n p q : ℕ) (base u t : TypeId) (S M R : Table) → q ≡ n + p �
 chain-then n p q base u t S M R e c d = record {
   uses = λ U l k a h.
       let whole : k + n + p ≡ k + q = omega (arith, e) in
-      subst (λ (m : ℕ). AreUses (made_in U m t) a (length R)) whole (d.uses U l (k + n) a (c.uses U (later-on M R U d.later l) k a h));
+      subst (λ (m : ℕ). AreUses (types_of (made_in U m t)) a (length R)) whole (d.uses U l (k + n) a (c.uses U (later-on M R U d.later l) k a h));
   later = later-on S M R c.later d.later;
 }
 
-pub chain-used : (n : ℕ) (base t : TypeId) (S R : Table) → IsChain n base t S R → IsUsed (λ U. made_in U n t) S R
+pub chain-used : (n : ℕ) (base t : TypeId) (S R : Table) → IsChain n base t S R → IsUsed (λ U. types_of (made_in U n t)) S R
 chain-used n base t S R c = record {
   uses = λ U l.
       let whole : 0 + n ≡ n = omega arith in
-      subst (λ (m : ℕ). AreUses (made_in U m t) (length S) (length R)) whole (c.uses U l 0 (length S) refl);
+      subst (λ (m : ℕ). AreUses (types_of (made_in U m t)) (length S) (length R)) whole (c.uses U l 0 (length S) refl);
   later = c.later;
 }
 
@@ -179,7 +181,7 @@ declared-chain at o (typed.DeclaredBy form) base t s r h = form-chain at o form 
 
 -- Parameters
 
-shape-used : (at : Place) (k : NodeId) (base : TypeId) (x : TypeShape) (t : TypeId) (s r : State) → adjusted_shape at k base x s ≡ Gives t r → IsUsed (λ U. t ∷ []) s.table r.table
+shape-used : (at : Place) (k : NodeId) (base : TypeId) (x : TypeShape) (t : TypeId) (s r : State) → adjusted_shape at k base x s ≡ Gives t r → IsUsed (λ U. OfType t ∷ []) s.table r.table
 unfolding adjusted_shape
 shape-used at k base (Array element count) t s r h = made-used (Pointer k element) t s.table r.table (pointer-made at k element t s r h)
 shape-used at k base (Function parameters result) t s r h = made-used (Pointer k base) t s.table r.table (pointer-made at k base t s r h)
@@ -190,13 +192,13 @@ shape-used at k base (Struct m) t s r h = never-gives t (TooLarge at Types) s r 
 shape-used at k base (Union m) t s r h = never-gives t (TooLarge at Types) s r h
 
 adjusted-used : (at : Place) (k : NodeId) (d : TypedDeclared) (base : TypeId) (b : Bool) (t : TypeId) (s r : State) → adjusted_makes at k d base b s ≡ Gives t r
-    → IsUsed (λ U. made_in U (adjusted_steps b (Points k) d) t) s.table r.table
+    → IsUsed (λ U. types_of (made_in U (adjusted_steps b (Points k) d) t)) s.table r.table
 unfolding adjusted_makes
 adjusted-used at k d base true t s r h = chain-used (declared_steps (Points k) d) base t s.table r.table (declared-chain at (Points k) d base t s r h)
 adjusted-used at k d base false t s r h = shape-used at k base (shape_at s.table base) t s r h
 
 pub parameter_makes-used : (at : Place) (a : Option Adjusted) (d : TypedDeclared) (base t : TypeId) (s r : State) → parameter_makes at a d base s ≡ Gives t r
-    → IsUsed (λ U. made_in U (parameter_steps a d) t) s.table r.table
+    → IsUsed (λ U. types_of (made_in U (parameter_steps a d) t)) s.table r.table
 unfolding parameter_makes
 parameter_makes-used at None d base t s r h = chain-used (declared_steps Written d) base t s.table r.table (declared-chain at Written d base t s r h)
 parameter_makes-used at (Some adjusted) d base t s r h = adjusted-used at adjusted.node d base (is_derived_declared d) t s r h

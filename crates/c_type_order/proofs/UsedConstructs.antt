@@ -45,7 +45,7 @@ use Rattle.c_typing_laws.proofs.ExtensionLaws.{no_true}
 use Rattle.c_typing_laws.proofs.Outcomes.{bind-gives, gives-state, never-gives, construct-gives, leaf-gives}
 use Rattle.c_typing_laws.proofs.NumberedConstructs.{IsWhole}
 use Rattle.c_typing_laws.proofs.ValuesTaken.{given-same}
-use Rattle.c_type_order.specs.TypesUsed.{used_by, used_by_place}
+use Rattle.c_type_order.specs.TypesUsed.{Use, OfType, used_by, used_by_place}
 use Rattle.c_type_order.specs.Uses.{IsUsed, used_by_part}
 use Rattle.c_type_order.proofs.Uses.{used-none, then_used, used-as, used-still, IsMade, made-used, type_with-made, node-table, new_pointer-used}
 
@@ -60,13 +60,13 @@ ValueUsed e S R = IsUsed (λ U. used_by U e) S R
 abbrev pub PlaceUsed : TypedPlace → Table → Table → Type 0
 PlaceUsed p S R = IsUsed (λ U. used_by_place U p) S R
 
-abbrev pub Alone : TypeId → Table → List TypeId
-Alone t U = t ∷ []
+abbrev pub Alone : TypeId → Table → List Use
+Alone t U = OfType t ∷ []
 
 pub part-same : (S : Table) (x y : Elaborated) (s r : State) → Gives x s ≡ Gives y r → PartUsed x S s.table → PartUsed y S r.table
 part-same S x y s r h n = given-same (λ (z : Elaborated) (q : State). PartUsed z S q.table) x y s r h n
 
-pub part_as : (S : Table) (f : Table → List TypeId) (x y : Elaborated) (s r : State) → Gives x s ≡ Gives y r → ((U : Table) → used_by_part U x ≡ f U) → IsUsed f S s.table
+pub part_as : (S : Table) (f : Table → List Use) (x y : Elaborated) (s r : State) → Gives x s ≡ Gives y r → ((U : Table) → used_by_part U x ≡ f U) → IsUsed f S s.table
     → PartUsed y S r.table
 part_as S f x y s r h e n = part-same S x y s r h (used-as f (λ U. used_by_part U x) S s.table e n)
 
@@ -98,7 +98,7 @@ for-used U t (typed.Paren at e) = for-used U t e
 for-used U t (typed.AllocateFor runtime f at arguments u) = refl
 for-used U t e = refl
 
-raw-used : (U : Table) (n : NodeId) (t : TypeId) (e : TypedExpr) → is_taken_over e ≡ true → used_by U (made_raw n t e) ≡ used_by U e ++ t ∷ []
+raw-used : (U : Table) (n : NodeId) (t : TypeId) (e : TypedExpr) → is_taken_over e ≡ true → used_by U (made_raw n t e) ≡ used_by U e ++ OfType t ∷ []
 raw-used U n t (typed.Paren at e) h = raw-used U n t e h
 raw-used U n t (typed.AllocateFor runtime f at arguments u) h = refl
 raw-used U n t e h = no_true h
@@ -121,7 +121,7 @@ raw_value-used at e v S s r o n h =
     let one = bind-gives (new_pointer at void_type s) (λ made. pure (made_raw made.node made.type e)) v r h in
     let both = then_used (λ U. used_by U e) (Alone one.0.type) S s.table one.1.table n (new_pointer-used at void_type one.0 s one.1 one.2) in
     given-same (λ (w : TypedExpr) (q : State). ValueUsed w S q.table) (made_raw one.0.node one.0.type e) v one.1 r one.3
-    (used-as (λ U. used_by U e ++ one.0.type ∷ []) (λ U. used_by U (made_raw one.0.node one.0.type e)) S one.1.table (λ U. raw-used U one.0.node one.0.type e o) both)
+    (used-as (λ U. used_by U e ++ OfType one.0.type ∷ []) (λ U. used_by U (made_raw one.0.node one.0.type e)) S one.1.table (λ U. raw-used U one.0.node one.0.type e o) both)
 
 value_of-used : (at : Place) (x : Elaborated) (v : TypedExpr) (S : Table) (s r : State) → IsWhole x → PartUsed x S s.table → value_of at x s ≡ Gives v r → ValueUsed v S r.table
 unfolding value_of

@@ -28,14 +28,14 @@ use Rattle.c_typing_laws.proofs.ConstructLaws.{two_unbroken, not_false}
 use Rattle.c_typing_laws.proofs.ExtensionLaws.{no_true}
 use Rattle.c_typing_laws.proofs.JudgedOperators.{pair_some}
 use Rattle.c_typing_laws.proofs.Outcomes.{bind-gives, gives-state, never-gives, construct-gives}
-use Rattle.c_type_order.specs.TypesUsed.{used_by, used_by_place}
+use Rattle.c_type_order.specs.TypesUsed.{Use, used_by, used_by_place}
 use Rattle.c_type_order.specs.Uses.{IsUsed, used_by_part}
 use Rattle.c_type_order.proofs.Uses.{used-still, node-table}
 use Rattle.c_type_order.proofs.UsedConstructs.{PartUsed, ValueUsed, part-same, part_as, to_integer-used, number-table}
 
 -- Operators on two operands
 
-abbrev pub BothUsed : TypedExpr → TypedExpr → Table → List TypeId
+abbrev pub BothUsed : TypedExpr → TypedExpr → Table → List Use
 BothUsed x y U = used_by U x ++ used_by U y
 
 element-used : (U : Table) (x : TypedExpr) (at : Place) (y : TypedExpr) (t u : Option TypeId) → (has_some t || has_some u) ≡ true → used_by_part U (element x at y t u) ≡ BothUsed x y U

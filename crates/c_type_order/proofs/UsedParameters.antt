@@ -1,6 +1,7 @@
--- The types that parts of declarators, members and parameters use, behind those of what stands in them.
-use Rattle.std.proofs.Common.{◌≡◌, ℕ, Bool, true, false, List, [], ◌∷◌, ◌++◌, length, Option, Some, None, refl, ap, sym, subst, ◌∙◌, nat_lt, if◌then◌else◌}
+-- What parts of declarators, members and parameters use, behind what stands in them: types, sizes of 64 bits, and names of members.
+use Rattle.std.proofs.Common.{◌≡◌, ◌<◌, ℕ, ℤ, pos, negsuc, Bool, true, false, List, [], ◌∷◌, ◌++◌, length, Option, Some, None, refl, ap, sym, subst, ◌∙◌, nat_lt, if◌then◌else◌}
 use Rattle.std.proofs.lemmas.List.{append_assoc}
+use Rattle.std.proofs.lemmas.Option.{none-some}
 use Rattle.cc_base.specs.declared.place.Place.{Place}
 use Rattle.cc_base.specs.declared.number.NodeId.{NodeId}
 use Rattle.cc_base.specs.declared.number.TypeId.{TypeId}
@@ -16,6 +17,7 @@ use Rattle.c_tree.specs.declared.typed_word.Home.{Home}
 use Rattle.c_tree.specs.declared.typed_word.Home.TheVariants as home
 use Rattle.c_tree.specs.declared.typed_word.TypedStar.{TypedStar}
 use Rattle.c_tree.specs.Places.{nowhere}
+use Rattle.c_tree.specs.TypedParts.{name_of_form}
 use Rattle.c_tree.specs.TypedTree as typed
 use Rattle.c_tree.specs.TypedTree.{TypedSpecifierList, TypedMemberDeclarators, TypedForm, TypedParts, TypedParameters, TypedDeclared}
 use Rattle.c_typing.specs.declared.naming.Naming.{Naming}
@@ -36,18 +38,34 @@ use Rattle.c_typing.specs.Walks.{listed}
 use Rattle.c_typing_laws.proofs.Outcomes.{bind-gives, unless-gives, gives-state, never-gives}
 use Rattle.c_typing_laws.proofs.ValuesTaken.{given-same}
 use Rattle.c_type_order.specs.Uses.{IsUsed}
-use Rattle.c_type_order.specs.TypesUsed.{made_in, form_steps, parameter_steps, used_by, used_by_specifier_list, used_by_member_declarators, used_by_form, used_by_parts, used_by_parameters, used_by_declared}
-use Rattle.c_type_order.proofs.Uses.{then_used, used-as, used-still, node-table}
+use Rattle.c_type_order.specs.TypesUsed.{OfSize, OfMember, types_of, made_in, form_steps, parameter_steps, used_by, used_by_specifier_list, used_by_member_declarators, used_by_declarator, used_by_form, used_by_parts, used_by_parameters, used_by_declared}
+use Rattle.c_type_order.proofs.Uses.{then_used, used-as, used-still, node-table, sized_use, named_use}
 use Rattle.c_type_order.proofs.UsedChains.{chain-used, form-chain, parameter_makes-used}
+use Rattle.c_type_order.proofs.UsedSteps.{below}
 
 -- Parts of declarators
 
-pub sized_by : (all parts : TypedParts) (bracket : Place) (words : List Word) (v : Value) (o : Option ℕ) (S : Table) (s r : State)
+-- a size that is given is one of 64 bits
+given_small : (o : Option ℤ) (size : ℕ) → size_given o ≡ Some size → size < 18446744073709551616
+given_small None size h = absurd (none-some size h)
+given_small (Some (negsuc n)) size h = absurd (none-some size h)
+given_small (Some (pos n)) size h = by (nat_lt n 18446744073709551616) refl h
+  where
+    some_same : Some n ≡ Some size → n ≡ size
+    some_same e = cc
+
+    by : (b : Bool) → nat_lt n 18446744073709551616 ≡ b → (if b then Some n else None) ≡ Some size → size < 18446744073709551616
+    by true small e = subst (λ (m : ℕ). m < 18446744073709551616) (some_same e) (below n 18446744073709551616 small)
+    by false small e = absurd (none-some size e)
+
+sized_by : (all parts : TypedParts) (bracket : Place) (words : List Word) (v : Value) (o : Option ℕ) (S : Table) (s r : State)
+    → ((size : ℕ) → o ≡ Some size → size < 18446744073709551616)
     → IsUsed (λ U. used_by_parts U all ++ used_by U v.expr) S s.table → sized_part all bracket words v o s ≡ Gives parts r → IsUsed (λ U. used_by_parts U parts) S r.table
 unfolding sized_part
-sized_by all parts bracket words v None S s r p h = never-gives parts (TooLarge v.place Types) s r h
-sized_by all parts bracket words v (Some n) S s r p h =
-    given-same (λ (w : TypedParts) (q : State). IsUsed (λ U. used_by_parts U w) S q.table) (typed.AndSizedArray all bracket words v.expr n) parts s r h p
+sized_by all parts bracket words v None S s r small p h = never-gives parts (TooLarge v.place Types) s r h
+sized_by all parts bracket words v (Some n) S s r small p h =
+    given-same (λ (w : TypedParts) (q : State). IsUsed (λ U. used_by_parts U w) S q.table) (typed.AndSizedArray all bracket words v.expr n) parts s r h
+    (then_used (λ U. used_by_parts U all ++ used_by U v.expr) (λ U. OfSize n ∷ []) S s.table s.table p (sized_use n s.table (small n refl)))
 
 pub sized-used : (all parts : TypedParts) (bracket : Place) (words : List Word) (v : Value) (S : Table) (s r : State)
     → IsUsed (λ U. used_by_parts U all ++ used_by U v.expr) S s.table → sized all bracket words v s ≡ Gives parts r → IsUsed (λ U. used_by_parts U parts) S r.table
@@ -55,7 +73,7 @@ unfolding sized
 sized-used all parts bracket words v S s r p h =
     let go = unless-gives (first_broken (Tests.array_size_tests s.table v.place (AsValue v.expr)))
     (by_known (λ (q : State). sized_part all bracket words v (size_given (constant_value q.table v.expr)))) s parts r h in
-    sized_by all parts bracket words v (size_given (constant_value s.table v.expr)) S s r p go.1
+    sized_by all parts bracket words v (size_given (constant_value s.table v.expr)) S s r (given_small (constant_value s.table v.expr)) p go.1
 
 pub stars-table : (at : Place) (stars : List Star) (all : List TypedStar) (s r : State) → stars_with_nodes at stars s ≡ Gives all r → r.table ≡ s.table
 unfolding stars_with_nodes
@@ -86,11 +104,11 @@ module _ (at : Place) (h : Home) (s r : State) where
 -- Members
 
 pub member-used : (names : List Scopes.Name) (all made : TypedMemberDeclarators) (form : TypedForm) (base : TypeId) (o : Option Identifier) (S : Table) (s r : State)
-    → IsUsed (λ U. used_by_member_declarators U all ++ used_by_form U form) S s.table → member_named names all form base o s ≡ Gives made r
+    → name_of_form form ≡ o → IsUsed (λ U. used_by_member_declarators U all ++ used_by_form U form) S s.table → member_named names all form base o s ≡ Gives made r
     → IsUsed (λ U. used_by_member_declarators U made) S r.table
 unfolding member_named member_type
-member-used names all made form base None S s r p h = never-gives made (TooLarge nowhere Types) s r h
-member-used names all made form base (Some name) S s r p h =
+member-used names all made form base None S s r same p h = never-gives made (TooLarge nowhere Types) s r h
+member-used names all made form base (Some name) S s r same p h =
     let check : TypeId → Judging TypeId = λ u q. unless (first_broken (Tests.member_type_tests q.table q.seen.scopes u name.place)) (pure u) q in
     let finish : TypeId → Judging TypedMemberDeclarators = λ u. pure (typed.AndDeclarator all (typed.Declares form u)) in
     let go = unless-gives (first_broken (Tests.member_name_tests (has_name names (Some name)) name.place))
@@ -98,14 +116,15 @@ member-used names all made form base (Some name) S s r p h =
     let one = bind-gives (next (form_makes name.place Declarators.Written form base s) check) finish made r go.1 in
     let two = bind-gives (form_makes name.place Declarators.Written form base s) check one.0 one.1 one.2 in
     let tested = unless-gives (first_broken (Tests.member_type_tests two.1.table two.1.seen.scopes two.0 name.place)) (pure two.0) two.1 one.0 one.1 two.3 in
-    let steps = form_steps Declarators.Written form in
     let chain = chain-used (form_steps Declarators.Written form) base two.0 s.table two.1.table (form-chain name.place Declarators.Written form base two.0 s two.1 two.2) in
-    let types = given-same (λ (u : TypeId) (q : State). IsUsed (λ U. made_in U (form_steps Declarators.Written form) u) s.table q.table) two.0 one.0 two.1 one.1 tested.1 chain in
+    let types = given-same (λ (u : TypeId) (q : State). IsUsed (λ U. types_of (made_in U (form_steps Declarators.Written form) u)) s.table q.table) two.0 one.0 two.1 one.1 tested.1 chain in
     given-same (λ (w : TypedMemberDeclarators) (q : State). IsUsed (λ U. used_by_member_declarators U w) S q.table) (typed.AndDeclarator all (typed.Declares form one.0)) made one.1 r one.3
-    (used-as (λ U. used_by_member_declarators U all ++ used_by_form U form ++ made_in U (form_steps Declarators.Written form) one.0)
-    (λ U. used_by_member_declarators U (typed.AndDeclarator all (typed.Declares form one.0))) S one.1.table
-    (λ U. sym (append_assoc (used_by_member_declarators U all) (used_by_form U form) (made_in U (form_steps Declarators.Written form) one.0)))
-    (then_used (λ U. used_by_member_declarators U all ++ used_by_form U form) (λ U. made_in U (form_steps Declarators.Written form) one.0) S s.table one.1.table p types))
+    (then_used (λ U. used_by_member_declarators U all ++ used_by_declarator U Declarators.Written (typed.Declares form one.0)) (λ U. OfMember (name_of_form form) ∷ []) S one.1.table one.1.table
+    (used-as (λ U. used_by_member_declarators U all ++ used_by_form U form ++ types_of (made_in U (form_steps Declarators.Written form) one.0))
+    (λ U. used_by_member_declarators U all ++ used_by_declarator U Declarators.Written (typed.Declares form one.0)) S one.1.table
+    (λ U. sym (append_assoc (used_by_member_declarators U all) (used_by_form U form) (types_of (made_in U (form_steps Declarators.Written form) one.0))))
+    (then_used (λ U. used_by_member_declarators U all ++ used_by_form U form) (λ U. types_of (made_in U (form_steps Declarators.Written form) one.0)) S s.table one.1.table p types))
+    (named_use (name_of_form form) name one.1.table same))
 
 -- Parameters
 
@@ -132,8 +151,8 @@ named-same at (Some name) (home.Static k) t u s r q = never-gives u (TooLarge at
 named-same at (Some name) (home.Local k) t u s r q = never-gives u (TooLarge at Types) s r q
 named-same at (Some name) (home.Known k) t u s r q = never-gives u (TooLarge at Types) s r q
 
-made_as : (n : ℕ) (t u : TypeId) (S R : Table) → u ≡ t → IsUsed (λ U. made_in U n t) S R → IsUsed (λ U. made_in U n u) S R
-made_as n t u S R e p = subst (λ (v : TypeId). IsUsed (λ U. made_in U n v) S R) (sym e) p
+made_as : (n : ℕ) (t u : TypeId) (S R : Table) → u ≡ t → IsUsed (λ U. types_of (made_in U n t)) S R → IsUsed (λ U. types_of (made_in U n u)) S R
+made_as n t u S R e p = subst (λ (v : TypeId). IsUsed (λ U. types_of (made_in U n v)) S R) (sym e) p
 
 pub parameter-used : (void : Bool) (at : Place) (adjusting : TypeShape → Option Place) (list made : TypedParameters) (own : TypedSpecifierList) (one : TypedDeclared) (S : Table) (s r : State)
     → IsUsed (λ U. used_by_parameters U list ++ used_by_specifier_list U own ++ used_by_declared U one) S s.table
@@ -154,9 +173,9 @@ parameter-used void at adjusting list made own one S s r p h =
     let kept = named-same at (declared_identifier one) (declared_home one) t.0 u.0 t.1 u.1 tested.1 in
     let before = used-still (λ U. used_by_parameters U list ++ used_by_specifier_list U own ++ used_by_declared U one) S s.table a.1.table
     (adjusted-table at (adjusting (shape_at s.table base)) a.0 s a.1 a.2) p in
-    let types = used-still (λ U. made_in U (parameter_steps a.0 one) t.0) a.1.table t.1.table u.1.table kept.1 (parameter_makes-used at a.0 one base t.0 a.1 t.1 t.2) in
+    let types = used-still (λ U. types_of (made_in U (parameter_steps a.0 one) t.0)) a.1.table t.1.table u.1.table kept.1 (parameter_makes-used at a.0 one base t.0 a.1 t.1 t.2) in
     given-same (λ (w : TypedParameters) (q : State). IsUsed (λ U. used_by_parameters U w) S q.table) (typed.AndParameter list (specified own) one a.0 u.0) made u.1 r u.3
-    (then_used (λ U. used_by_parameters U list ++ used_by_specifier_list U own ++ used_by_declared U one) (λ U. made_in U (parameter_steps a.0 one) u.0) S a.1.table u.1.table before
+    (then_used (λ U. used_by_parameters U list ++ used_by_specifier_list U own ++ used_by_declared U one) (λ U. types_of (made_in U (parameter_steps a.0 one) u.0)) S a.1.table u.1.table before
     (made_as (parameter_steps a.0 one) t.0 u.0 a.1.table u.1.table kept.0 types))
 
 -- Scopes of prototypes

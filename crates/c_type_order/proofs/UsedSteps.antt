@@ -38,7 +38,7 @@ use Rattle.c_typing_laws.proofs.KnownScopes.{tag-there}
 use Rattle.c_typing_laws.proofs.Outcomes.{bind-gives, unless-gives, gives-state, never-gives}
 use Rattle.c_typing_laws.proofs.ValuesTaken.{given-same}
 use Rattle.c_type_order.specs.Uses.{IsLater, IsUsed}
-use Rattle.c_type_order.specs.TypesUsed.{AreUses, used_by, used_by_specifier, used_by_members, used_by_enumerators}
+use Rattle.c_type_order.specs.TypesUsed.{Use, OfType, AreUses, used_by, used_by_specifier, used_by_members, used_by_enumerators}
 use Rattle.c_type_order.proofs.Uses.{later-self, later-on, members-later, members-length, one_use, used-none, made-used, type_with-made}
 use Rattle.c_type_order.proofs.UsedConstructs.{Alone, number-table}
 
@@ -47,7 +47,7 @@ there-used : (T : Table) (t : TypeId) → IsType T t → IsUsed (Alone t) T T
 there-used T t h = record { uses = λ U l. one_use t (length T) (length T) (inl (h, refl)); later = later-self T }
 
 -- the table goes on, with as many types
-used-longer : (f : Table → List TypeId) (S M R : Table) → IsLater M R → length R ≡ length M → IsUsed f S M → IsUsed f S R
+used-longer : (f : Table → List Use) (S M R : Table) → IsLater M R → length R ≡ length M → IsUsed f S M → IsUsed f S R
 used-longer f S M R l e p = record {
   uses = λ U k. subst (λ (n : ℕ). AreUses (f U) (length S) n) (sym e) (p.uses U (later-on M R U l k));
   later = later-on S M R p.later l;
@@ -126,9 +126,9 @@ tagged-used counts which at name one s r k h =
     tagged_by-used which at name (λ (q : State). tag_in q.seen.scopes.levels name.bytes) one s r
     (λ what q. tag-there s.table s.seen.scopes.levels k.levels name.bytes what q) go.1
 
-abbrev pub begun_uses : Option TypeId → Table → List TypeId
+abbrev pub begun_uses : Option TypeId → Table → List Use
 begun_uses None U = []
-begun_uses (Some t) U = t ∷ []
+begun_uses (Some t) U = OfType t ∷ []
 
 module _ (which : AggregateKind) (at : Place) (name : Option Identifier) (o : Option TypeId) (s m : State) (k : IsKnown s) where
   begun-same : (p : Option TypeId) (q : State) → Gives p q ≡ Gives o m → IsUsed (begun_uses p) s.table q.table → IsUsed (begun_uses o) s.table m.table
@@ -155,7 +155,7 @@ record IsCompleted (t u : TypeId) (s r : State) : Type 0 where
   pub later : IsLater s.table r.table
   pub long : length r.table ≡ length s.table
 
-below : (a b : ℕ) → nat_lt a b ≡ true → a < b
+pub below : (a b : ℕ) → nat_lt a b ≡ true → a < b
 below a b h = grind (arith, nat_tests)
 
 defined-completed : (at : Place) (t : TypeId) (members : List TypeId) (u : TypeId) (s r : State) → defined at t members s ≡ Gives u r → IsCompleted t u s r
@@ -197,7 +197,7 @@ ended-used counts which at name brace (Some t) rows one S s r p h =
     let done = completed-same (tag_place at name) rows t two.0 s two.1 two.2 in
     specifier-same (typed.Aggregate which at name brace rows two.0) one S two.1 r two.3
     (subst (λ (v : TypeId). SpecifierUsed (typed.Aggregate which at name brace rows v) S two.1.table) (sym done.same)
-    (used-longer (λ U. t ∷ used_by_members U rows) S s.table two.1.table done.later done.long p))
+    (used-longer (λ U. OfType t ∷ used_by_members U rows) S s.table two.1.table done.later done.long p))
 
 -- Enumerations
 

@@ -1,5 +1,5 @@
--- The types that judging uses, one after another in the order of the text: by one recursion over the tree.
-use Rattle.std.proofs.Common.{◌≡◌, Bool, true, false, List, [], ◌∷◌, ◌++◌, Option, subst}
+-- What judging uses, one after another in the order of the text: by one recursion over the tree.
+use Rattle.std.proofs.Common.{◌≡◌, Bool, true, false, List, [], ◌∷◌, ◌++◌, Option, ap, sym, subst, ◌∙◌}
 use Rattle.cc_base.specs.declared.place.Place.{Place}
 use Rattle.cc_base.specs.declared.number.TypeId.{TypeId}
 use Rattle.cc_base.specs.declared.fault.Fault.TheVariants.{TooLarge}
@@ -29,14 +29,14 @@ use Rattle.c_typing.specs.Scopes
 use Rattle.c_typing.specs.Settled.{IsKnown}
 use Rattle.c_typing.specs.Specifying.{specified, begun, ended, enumerator, valued_enumerator, enumeration_begun, enumeration}
 use Rattle.c_typing.specs.Walks.{listed, declared_place, judge, judge_arguments, judge_type_name, judge_list, judge_specifier, judge_members, judge_member_declarators, judge_enumerators, judge_form, judge_core, judge_parts, judge_parameters, judge_declared}
-use Rattle.c_typing_laws.proofs.JudgedDeclarators.{IsVoidOf, first_alone, stars-judged, entered-judged}
+use Rattle.c_typing_laws.proofs.JudgedDeclarators.{IsVoidOf, first_alone, form_name, stars-judged, entered-judged}
 use Rattle.c_typing_laws.proofs.JudgedLists.{list-typed}
 use Rattle.c_typing_laws.proofs.JudgedSpecifiers.{begun-judged, enumeration_begun-judged}
-use Rattle.c_typing_laws.proofs.JudgedTrees.{value-here, expr-judged, arguments-judged, type_name-judged, specifiers-judged, members-judged, row-judged, enumerators-judged, core-judged, parts-judged, parameters-judged, begun_goes, void_self}
+use Rattle.c_typing_laws.proofs.JudgedTrees.{value-here, expr-judged, arguments-judged, type_name-judged, specifiers-judged, members-judged, row-judged, enumerators-judged, form-judged, core-judged, parts-judged, parameters-judged, begun_goes, void_self}
 use Rattle.c_typing_laws.proofs.Outcomes.{bind-gives, never-gives}
 use Rattle.c_typing_laws.proofs.ValuesTaken.{given-same}
 use Rattle.c_typing_laws.proofs.NumberedTrees.{operand-whole}
-use Rattle.c_type_order.specs.TypesUsed.{made_in, declared_steps, used_by, used_by_specifier_list, used_by_specifier, used_by_members, used_by_member_declarators, used_by_enumerators, used_by_form, used_by_core, used_by_parts, used_by_parameters, used_by_declared}
+use Rattle.c_type_order.specs.TypesUsed.{types_of, made_in, declared_steps, used_by, used_by_specifier_list, used_by_specifier, used_by_members, used_by_member_declarators, used_by_enumerators, used_by_form, used_by_core, used_by_parts, used_by_parameters, used_by_declared}
 use Rattle.c_type_order.specs.Uses.{IsUsed, used_by_values}
 use Rattle.c_type_order.proofs.Uses.{used-none, then_used, used-as, used-still}
 use Rattle.c_type_order.proofs.UsedConstructs.{PartUsed, value-used, integer-used, character-used, literal-used, name-used, paren-used, after-used}
@@ -155,7 +155,7 @@ mutual
       let types = chain-used (declared_steps Declarators.Written two.0) (listed one.0) three.0 two.1.table three.1.table
       (declared-chain at Declarators.Written two.0 (listed one.0) three.0 two.1 three.1 three.2) in
       given-same (λ (v : TypedTypeName) (q : State). NameUsed v s.table q.table) (typed.Named (specified one.0) two.0 three.0) made three.1 r three.3
-      (then_used (λ U. used_by_specifier_list U one.0 ++ used_by_declared U two.0) (λ U. made_in U (declared_steps Declarators.Written two.0) three.0) s.table two.1.table three.1.table
+      (then_used (λ U. used_by_specifier_list U one.0 ++ used_by_declared U two.0) (λ U. types_of (made_in U (declared_steps Declarators.Written two.0) three.0)) s.table two.1.table three.1.table
       (then_used (λ U. used_by_specifier_list U one.0) (λ U. used_by_declared U two.0) s.table one.1.table two.1.table (specifiers-use specifiers one.0 s one.1 k one.2)
       (declared-uses d naming.None at two.0 one.1 two.1 known two.2)) types)
 
@@ -220,7 +220,8 @@ mutual
       (λ v. λ m. next (judge_form naming.None at d m) (λ form. member_named (names ++ declarator_names v) v form base (declarator_name d))) row r h in
       let known = (row-judged all base names one.0 s one.1 k b one.2).goes.known in
       let two = bind-gives (judge_form naming.None at d one.1) (λ form. member_named (names ++ declarator_names one.0) one.0 form base (declarator_name d)) row r one.3 in
-      member-used (names ++ declarator_names one.0) one.0 row two.0 base (declarator_name d) s.table two.1 r
+      let named = sym (form_name two.0) ∙ ap declarator_name (form-judged d naming.None at two.0 one.1 two.1 known two.2).erases in
+      member-used (names ++ declarator_names one.0) one.0 row two.0 base (declarator_name d) s.table two.1 r named
       (then_used (λ U. used_by_member_declarators U one.0) (λ U. used_by_form U two.0) s.table one.1.table two.1.table (row-uses all base names one.0 s one.1 k b one.2)
       (form-uses d naming.None at two.0 one.1 two.1 known two.2)) two.3
   row-uses (tree.AndBitField all d) base names row s r k b h = never-gives row (TooLarge nowhere Types) s r h

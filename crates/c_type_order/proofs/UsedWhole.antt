@@ -33,7 +33,7 @@ use Rattle.c_typing_laws.proofs.NumberedConstructs.{IsWhole}
 use Rattle.c_typing_laws.proofs.NumberedTrees.{operand-whole}
 use Rattle.c_typing_laws.proofs.Outcomes.{bind-gives, unless-gives, never-gives}
 use Rattle.c_typing_laws.proofs.ValuesTaken.{given-same}
-use Rattle.c_type_order.specs.TypesUsed.{made_in, function_steps, parts_steps, form_steps, core_steps, used_by, used_by_specifiers, used_by_specifier_list, used_by_declarator, used_by_form, used_by_parameters}
+use Rattle.c_type_order.specs.TypesUsed.{types_of, made_in, function_steps, parts_steps, form_steps, core_steps, used_by, used_by_specifiers, used_by_specifier_list, used_by_declarator, used_by_form, used_by_parameters}
 use Rattle.c_type_order.specs.Uses.{IsUsed, used_by_part}
 use Rattle.c_type_order.proofs.Uses.{then_used, used-as}
 use Rattle.c_type_order.proofs.UsedConstructs.{PartUsed, ValueUsed, part_as, value-used, given-used, converted-used, side-used}
@@ -128,10 +128,10 @@ declarator-used at which base size d one s r k h =
     let types = chain-used (form_steps (Walks.outermost_of size) first.0) base two.0 first.1.table two.1.table
     (form-chain at (Walks.outermost_of size) first.0 base two.0 first.1 two.1 two.2) in
     given-same (λ (v : TypedDeclarator) (q : State). DeclaratorUsed v s.table q.table) (typed.Declares first.0 two.0) one two.1 r two.3
-    (then_used (λ U. used_by_form U first.0) (λ U. made_in U (form_steps Written first.0) two.0) s.table first.1.table two.1.table
+    (then_used (λ U. used_by_form U first.0) (λ U. types_of (made_in U (form_steps Written first.0) two.0)) s.table first.1.table two.1.table
     (form-uses d naming at first.0 s first.1 k first.2)
-    (used-as (λ U. made_in U (form_steps (Walks.outermost_of size) first.0) two.0) (λ U. made_in U (form_steps Written first.0) two.0) first.1.table two.1.table
-    (λ U. ap (λ (n : ℕ). made_in U n two.0) steps) types))
+    (used-as (λ U. types_of (made_in U (form_steps (Walks.outermost_of size) first.0) two.0)) (λ U. types_of (made_in U (form_steps Written first.0) two.0)) first.1.table two.1.table
+    (λ U. ap (λ (n : ℕ). types_of (made_in U n two.0)) steps) types))
 
 pub prototype-used : (at : Place) (all : tree.Parameters) (list : TypedParameters) (s r : State) → IsKnown s → judge_prototype at all s ≡ Gives list r
     → IsUsed (λ U. used_by_parameters U list) s.table r.table

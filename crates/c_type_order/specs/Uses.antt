@@ -1,4 +1,4 @@
--- The types that judging a part uses are numbered by their first use.
+-- The types that judging a part uses are numbered by their first use; the sizes of arrays are of 64 bits, and members have names.
 use Rattle.std.specs.Prelude.{◌≡◌, ◌≤◌, List, [], ◌∷◌, ◌++◌, length}
 use Rattle.cc_base.specs.declared.number.TypeId.{TypeId}
 use Rattle.c_types.specs.Table.{Table, IsType, shape_at}

@@ -1,4 +1,4 @@
-//! The types that expressions use.
+//! What expressions use: types, and in their type names sizes of arrays, which are of 64 bits, and members, which have names.
 #![tactic(auto)]
 
 ghost use Rattle.std.specs.Prelude.{Bool, List, ◌≡◌};
@@ -14,7 +14,7 @@ ghost use Rattle.c_typing.specs.Walks.{judge, judge_arguments};
 ghost use Rattle.c_type_order.specs.TypesUsed.{used_by};
 ghost use Rattle.c_type_order.specs.Uses.{IsUsed, used_by_part, used_by_values};
 
-/// The types of an expression, of arguments, of a value, of a value that becomes one of a type, and of a constant.
+/// What an expression, arguments, a value, a value that becomes one of a type, and a constant use.
 pub fn types_of_expressions_are_used_in_order()
     ensures expression { (called : Bool) (e : tree.Expr) (o : Operand) (s r : State) → IsKnown s → judge called e s ≡ Gives o r → IsUsed (λ T. used_by_part T o.part) s.table r.table }
     ensures arguments { (all : tree.Arguments) (values : List Value) (s r : State) → IsKnown s → judge_arguments all s ≡ Gives values r → IsUsed (used_by_values values) s.table r.table }

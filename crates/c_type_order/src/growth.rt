@@ -1,4 +1,4 @@
-//! What is well typed over a table uses the same types over each later one.
+//! What is well typed over a table uses the same types, sizes of arrays and members over each later one.
 #![tactic(auto)]
 
 ghost use Rattle.std.specs.Prelude.{Bool, ◌≡◌};

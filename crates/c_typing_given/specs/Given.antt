@@ -24,7 +24,7 @@ use Rattle.c_rules_alike.specs.PartsThere.{IsPartThere}
 use Rattle.c_unit_typing.specs.Holding.{expr_holds, type_name_holds}
 use Rattle.c_typing_given.specs.Spending.{HasRoom, HasSpent, IsSmall}
 use Rattle.c_type_order.specs.Uses.{used_by_part}
-use Rattle.c_type_order.specs.TypesUsed.{AreUses, used_by, used_by_place, used_by_type_name, Use}
+use Rattle.c_type_order.specs.TypesUsed.{AreUses, used_by_type_name}
 
 abbrev pub point_at : State → Point
 point_at s = record { scopes = s.seen.scopes; node = s.seen.node }

@@ -39,7 +39,7 @@ use Rattle.c_typing_laws.proofs.KeptRules.{has-kept}
 use Rattle.c_typing_laws.proofs.KeptTypes.{same_exact}
 use Rattle.c_typing_laws.proofs.KeptTrees.{specifiers-kept}
 use Rattle.c_typing_laws.proofs.TableGrowth.{extended_trans}
-use Rattle.c_type_order.specs.TypesUsed.{used_by_specifiers, used_by_declarator}
+use Rattle.c_type_order.specs.TypesUsed.{Use, used_by_specifiers, used_by_declarator}
 use Rattle.c_type_order.specs.Uses.{IsUsed}
 use Rattle.c_type_order.proofs.Uses.{then_used}
 use Rattle.c_unit_typing.specs.DeclarationJudging.{naming_for, linked_first, linked_name}
@@ -176,7 +176,7 @@ pub record IsDefinitionJudged (before : TypedTranslationUnit) (all : tree.Specif
   pub body_erases : erased_block_items body ≡ items
   pub numbers : (xs : List Made) (s0 : State) → AreNumberedFrom xs s0 (state_of s)
       → AreNumberedFrom (xs ++ made_by_specifiers specifiers ++ made_by_declarator (typed.Declares form type) ++ made_by_block_items body) s0 (state_of r)
-  pub types : (f : Table → List TypeId) (S : Table) → IsUsed f S s.table
+  pub types : (f : Table → List Use) (S : Table) → IsUsed f S s.table
       → IsUsed (λ U. f U ++ used_by_specifiers U specifiers ++ used_by_declarator U Written (typed.Declares form type) ++ used_by_block_items U body) S r.table
   pub goes : UnitGoesOn s r
   pub written : declarator_name d ≡ Some name

@@ -15,7 +15,7 @@ use Rattle.c_typing_laws.proofs.ExtensionLaws.{still_in}
 use Rattle.c_typing_laws.proofs.JudgedWhole.{checked-judged}
 use Rattle.c_typing_laws.proofs.JudgedDeclarators.{entered-judged, left-judged}
 use Rattle.c_typing_laws.proofs.NodesKept.{entered-keeps, left-keeps}
-use Rattle.c_type_order.specs.TypesUsed.{used_by}
+use Rattle.c_type_order.specs.TypesUsed.{Use, used_by}
 use Rattle.c_type_order.specs.Uses.{IsUsed}
 use Rattle.c_unit_typing.specs.StatementJudging.{dropped, returned}
 use Rattle.c_unit_typing.specs.UnitJudged.{state_of, OverLater, IsResult, IsUnitKnown, UnitGoesOn, IsOptionJudged}
@@ -54,7 +54,7 @@ leave-judged at a b s r k h =
 -- Expressions of statements
 
 -- an expression of a statement, of which so much is said
-pub record IsPart (P : Table → Type 0) (Erases : Type 0) (made : List Made) (used : Table → List TypeId) (s r : UnitState) : Type 0 where
+pub record IsPart (P : Table → Type 0) (Erases : Type 0) (made : List Made) (used : Table → List Use) (s r : UnitState) : Type 0 where
   pub typed : OverLater r.table P
   pub erases : Erases
   pub linkage : r.linkage ≡ s.linkage

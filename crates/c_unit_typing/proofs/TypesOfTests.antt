@@ -1,4 +1,4 @@
--- The types that the expressions of statements use; scopes that begin and end use none.
+-- What the expressions of statements use; scopes that begin and end use nothing.
 use Rattle.std.proofs.Common.{◌≡◌, Bool, false, not, List, [], ◌∷◌, Option, Some, None, refl, subst}
 use Rattle.cc_base.specs.declared.place.Place.{Place}
 use Rattle.cc_base.specs.declared.number.TypeId.{TypeId}
@@ -15,7 +15,7 @@ use Rattle.c_typing.specs.Judging.{integer_type}
 use Rattle.c_typing.specs.Settled.{IsKnown}
 use Rattle.c_typing.specs.Shapes.{integer_at, is_void_shape}
 use Rattle.c_typing.specs.Tests.{broken_at, first_broken}
-use Rattle.c_type_order.specs.TypesUsed.{used_by}
+use Rattle.c_type_order.specs.TypesUsed.{Use, used_by}
 use Rattle.c_type_order.specs.Uses.{IsUsed}
 use Rattle.c_type_order.proofs.Uses.{used-none, used-as, used-still}
 use Rattle.c_type_order.proofs.UsedConstructs.{ValueUsed, to_integer-used}
@@ -34,7 +34,7 @@ pub leave-table : {A : Type 0} (at : Place) (a b : A) (s r : UnitState) → lift
 leave-table at a b s r h = (left-same at a b (state_of s) (state_of r) (lifted-gives (left at a) b s r h).0).1
 
 -- what is used between is used by the whole
-pub inside-types : (f : Table → List TypeId) (S M N R : Table) → M ≡ S → R ≡ N → IsUsed f M N → IsUsed f S R
+pub inside-types : (f : Table → List Use) (S M N R : Table) → M ≡ S → R ≡ N → IsUsed f M N → IsUsed f S R
 inside-types f S M N R e g p = used-still f S N R g (subst (λ (T : Table). IsUsed f T N) e p)
 
 abbrev pub OptionUsed : Option TypedExpr → Table → Table → Type 0

@@ -1,4 +1,4 @@
--- Which types the parts of a unit use, in the order of the text (`c_type_order` has those of expressions and declarators).
+-- Which types, sizes of arrays and members the parts of a unit use, in the order of the text (`c_type_order` has those of expressions and declarators).
 use Rattle.std.specs.Prelude.{List, [], ◌++◌, Option, Some, None}
 use Rattle.c_types.specs.Table.{Table}
 use Rattle.c_tree.specs.TypedTree as typed

@@ -18,3 +18,5 @@ mod LoopsGiven
 mod ForsGiven
 mod InitialisersGiven
 mod InitialiserTrees
+mod SwitchesGiven
+mod StatementTrees

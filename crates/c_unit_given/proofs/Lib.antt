@@ -18,3 +18,5 @@ mod LoopsGiven
 mod ForsGiven
 mod InitialisersGiven
 mod InitialiserTrees
+mod LawsGiven
+mod SizesWritten

@@ -5,7 +5,7 @@ use Rattle.cc_base.specs.declared.number.NodeId.{NodeId}
 use Rattle.cc_base.specs.declared.number.TypeId.{TypeId}
 use Rattle.c_types.specs.declared.shape.TypeShape.{TypeShape}
 use Rattle.c_types.specs.declared.shape.TypeShape.TheVariants.{Void, Integer, Pointer, Array, Function, Struct, Union}
-use Rattle.c_types.specs.Table.{Table, HasShape, IsComplete, shape_at, is_aggregate_shape}
+use Rattle.c_types.specs.Table.{Table, HasShape, shape_at, is_aggregate_shape}
 use Rattle.c_tree.specs.declared.leaf.Word.{Word}
 use Rattle.c_tree.specs.declared.typed_word.TypedStar.{TypedStar}
 use Rattle.c_tree.specs.Erasure.{erased_form, erased_core, erased, erased_place, erased_initialiser, erased_items}
@@ -15,20 +15,14 @@ use Rattle.c_tree.specs.TypedTree.{TypedForm, TypedCore, TypedParts, TypedParame
 use Rattle.c_tree.specs.TypedParts.{place_type}
 use Rattle.c_typing.specs.Declarators.{Outermost, Written, Counts, Points, is_pointed, MakesArray, MakesFunction, nearest, PartsMake, StarsMake, is_no_part, is_derived, is_derived_core, outside, FormMakes, CoreMakes}
 use Rattle.c_typing.specs.Scopes.{Scopes}
-use Rattle.c_typing.specs.Settled.{IsKnown}
 use Rattle.c_typing.specs.Shapes.{is_scalar_shape}
 use Rattle.c_typing_laws.proofs.ConstructLaws.{either_false}
 use Rattle.c_typing_laws.proofs.ExtensionLaws.{no_true, and_left, and_right}
-use Rattle.c_unit_typing.specs.Initialisers.{is_char_array, has_count, char_count_of_shape, char_count_of_element, is_bare, is_bare_core, is_one_array, is_one_array_core, is_char_shape, makes_chars, is_only_text, items_count, listed_size, size_given, IsInitialiser, AreItems}
-use Rattle.c_unit_typing.specs.InitialiserJudging.{is_only_literal, judge_initialiser, judge_items}
+use Rattle.c_unit_typing.specs.Initialisers.{is_char_array, has_count, char_count_of_shape, char_count_of_element, is_bare, is_bare_core, is_one_array, is_one_array_core, is_char_shape, makes_chars, is_only_text, items_count, listed_size, size_given, IsInitialiser}
+use Rattle.c_unit_typing.specs.InitialiserJudging.{is_only_literal}
 use Rattle.c_unit_typing.specs.Units.{outermost_of}
-use Rattle.c_unit_typing.specs.UnitJudged.{state_of}
-use Rattle.c_unit_typing.specs.UnitJudging.{UnitState, Gives, pure}
 use Rattle.c_unit_typing.specs.UnitRefusals.{count_written, listed_written, size_written}
-use Rattle.c_unit_typing.proofs.JudgedInitialisers.{chars_no_scalar, array_not_struct, only_text, and_unit, initialiser-judged, items-judged}
-use Rattle.c_unit_typing.proofs.KeptInitialisers.{is_chars-same}
-use Rattle.c_unit_typing.proofs.UnitOutcomes.{bind-gives, given-same}
-
+use Rattle.c_unit_typing.proofs.JudgedInitialisers.{chars_no_scalar, array_not_struct}
 use Rattle.c_unit_given.specs.UnitGiven.{IsTextAsWritten, AreSizesWritten}
 
 -- Shapes that are no character
@@ -182,7 +176,6 @@ module _ (T : Table) (c : Scopes) where
     nearest_plain (typed.AndSizedArray all at words e size) a x = refl
     nearest_plain (typed.AndFunction all at ps) a x = refl
 
-    -- an array part without a size, of what is no character, or behind which others stand
     -- an array part without a size, of what is no character, or behind which others stand
     open_any : (a : Outermost) (words : List Word) (element t : TypeId) {P : Type 0} → is_pointed a ≡ false → is_char_shape (shape_at T element) ≡ false → is_char_array T t ≡ true
         → MakesArray T c a words None element t → P

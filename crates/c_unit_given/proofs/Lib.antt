@@ -20,3 +20,5 @@ mod InitialisersGiven
 mod InitialiserTrees
 mod SwitchesGiven
 mod StatementTrees
+mod LawsGiven
+mod SizesWritten

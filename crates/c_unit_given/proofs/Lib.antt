@@ -1,4 +1,5 @@
 mod UnitRoom
+mod LevelsBelow
 mod Runs
 mod Texts
 mod CellsCounted
@@ -18,3 +19,4 @@ mod LoopsGiven
 mod ForsGiven
 mod InitialisersGiven
 mod InitialiserTrees
+mod ScopesKept

@@ -1,4 +1,5 @@
 mod UnitRoom
+mod LevelsBelow
 mod Runs
 mod Texts
 mod CellsCounted
@@ -22,3 +23,4 @@ mod SwitchesGiven
 mod StatementTrees
 mod LawsGiven
 mod SizesWritten
+mod ScopesKept

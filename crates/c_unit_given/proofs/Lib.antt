@@ -1,4 +1,5 @@
 mod UnitRoom
+mod LevelsBelow
 mod Runs
 mod Texts
 mod CellsCounted
@@ -18,3 +19,8 @@ mod LoopsGiven
 mod ForsGiven
 mod InitialisersGiven
 mod InitialiserTrees
+mod SwitchesGiven
+mod StatementTrees
+mod LawsGiven
+mod SizesWritten
+mod ScopesKept

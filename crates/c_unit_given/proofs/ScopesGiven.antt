@@ -1,8 +1,7 @@
 -- What is judged in a scope of its own is given.
-use Rattle.std.proofs.Common.{◌≡◌, ◌≤◌, ◌<◌, ℕ, true, List, [], ◌∷◌, ◌++◌, length, refl, ap, sym, subst, ◌∙◌, arith}
-use Rattle.std.specs.List.{All}
+use Rattle.std.proofs.Common.{◌≡◌, ◌≤◌, ◌<◌, ℕ, true, List, [], ◌∷◌, length, refl, ap, sym, subst, ◌∙◌, arith}
 use Rattle.std.proofs.lemmas.List.{length-append}
-use Rattle.std.proofs.lemmas.List.Elements.{All-head, All-tail, All-cons, All-nil, All-push}
+use Rattle.std.proofs.lemmas.List.Elements.{All-nil, All-push}
 use Rattle.cc_base.specs.declared.place.Place.{Place}
 use Rattle.c_types.specs.Table.{Table}
 use Rattle.c_tree.specs.TypedParts.{Made}
@@ -14,34 +13,21 @@ use Rattle.c_typing.specs.Scopes.{Name, Level, empty_level, entering, leaving, w
 use Rattle.c_typing_laws.proofs.JudgedDeclarators.{entered-judged, left-judged}
 use Rattle.c_typing_given.specs.Uses.{Use}
 use Rattle.c_typing_given.proofs.Settling.{small-kept}
-use Rattle.c_typing_given.proofs.TypeGiven.{lt_true}
+use Rattle.c_typing_given.proofs.TypeGiven.{lt_true, none-same}
 use Rattle.c_unit_typing.specs.Units.{Known, entering_known, leaving_known}
 use Rattle.c_unit_typing.specs.UnitJudged.{state_of}
 use Rattle.c_unit_typing.specs.UnitJudging.{UnitState, UnitJudging, UnitOutcome, Gives, Stops, next, lifted, ◌>>=◌}
 use Rattle.c_unit_typing.proofs.UnitStates.{linkage-stays}
-use Rattle.c_unit_given.specs.UnitGiven.{IsHomeBelow, AreHomesBelow, IsUnitHere, IsRun}
+use Rattle.c_unit_given.specs.UnitGiven.{IsHomeBelow, IsUnitHere, IsRun}
+use Rattle.c_unit_given.proofs.LevelsBelow.{IsLevelBelow, outer-of, homes-outer}
 use Rattle.c_unit_given.proofs.Runs.{then-is, lifted-is}
 
 -- Levels
-
-outer_of : (ls : List Level) (l : Level) → without_innermost (ls ++ l ∷ []) ≡ ls
-outer_of [] l = refl
-outer_of (m ∷ []) l = refl
-outer_of (m ∷ (k ∷ ls)) l = ap (λ (rest : List Level). m ∷ rest) (outer_of (k ∷ ls) l)
 
 two_levels : (ls : List Level) → 1 ≤ length (without_innermost ls) → 1 < length ls
 two_levels [] h = omega (arith, h)
 two_levels (l ∷ []) h = omega (arith, h)
 two_levels (l ∷ (m ∷ ls)) h = omega arith
-
-abbrev IsLevelBelow : ℕ → Level → Type 0
-IsLevelBelow n l = All (λ (e : Name × Declared). IsHomeBelow n e.1) l.names
-
-homes_outer : (n : ℕ) (ls : List Level) → AreHomesBelow n ls → AreHomesBelow n (without_innermost ls)
-homes_outer n [] h = h
-homes_outer n (l ∷ []) h = All-nil (IsLevelBelow n)
-homes_outer n (l ∷ (m ∷ ls)) h =
-    All-cons (IsLevelBelow n) l (without_innermost (m ∷ ls)) (All-head (IsLevelBelow n) l (m ∷ ls) h) (homes_outer n (m ∷ ls) (All-tail (IsLevelBelow n) l (m ∷ ls) h))
 
 low : (n : ℕ) → n ≤ n
 low n = omega arith
@@ -70,7 +56,12 @@ module _ (T : Table) where
       let goes = (entered-judged true (state_of s) (state_of r) here.here.known (enter_is s)).1 in
       let was = here.open_ in
       record {
-        here = record { known = goes.known; first = here.here.first; small = small-kept (state_of s) (state_of r) here.here.small refl refl (low (length s.table)); own = here.here.own };
+        here = record {
+          known = goes.known;
+          first = here.here.first;
+          small = small-kept (state_of s) (state_of r) here.here.small refl refl (low (length s.table)) (λ p. omega (arith, length-append s.seen.scopes.levels (empty_level ∷ []))) (none-same s.table);
+          own = here.here.own;
+        };
         unit = (linkage-stays s r here.unit goes refl (low s.seen.node)).known;
         open_ = omega (arith, was, length-append s.seen.scopes.levels (empty_level ∷ []));
         homes = All-push (IsLevelBelow s.seen.node) s.seen.scopes.levels empty_level here.homes (All-nil (λ (e : Name × Declared). IsHomeBelow s.seen.node e.1));
@@ -82,10 +73,15 @@ module _ (T : Table) where
       let goes = (left-judged (Rattle.c_tree.specs.Places.nowhere) true true (state_of s) (state_of r) here.here.known
       (leave_is Rattle.c_tree.specs.Places.nowhere true s (two_levels s.seen.scopes.levels open_))).2 in
       record {
-        here = record { known = goes.known; first = here.here.first; small = small-kept (state_of s) (state_of r) here.here.small refl refl (low (length s.table)); own = here.here.own };
+        here = record {
+          known = goes.known;
+          first = here.here.first;
+          small = small-kept (state_of s) (state_of r) here.here.small refl refl (low (length s.table)) (λ p. omega (arith, open_)) (none-same s.table);
+          own = here.here.own;
+        };
         unit = (linkage-stays s r here.unit goes refl (low s.seen.node)).known;
         open_ = open_;
-        homes = homes_outer s.seen.node s.seen.scopes.levels here.homes;
+        homes = homes-outer s.seen.node s.seen.scopes.levels here.homes;
       }
 
   -- what is known outside of a scope, where so much is known inside
@@ -98,7 +94,7 @@ module _ (T : Table) where
       let s1 : UnitState = in_scopes entering s in
       let one = p s1 h.0 n count (enter_here s here) needs h.1 numbers used (record { nodes = room.nodes; globals = room.globals; cells = room.cells }) in
       let r : UnitState = one.after in
-      let outer : without_innermost r.seen.scopes.levels ≡ s.seen.scopes.levels = one.reached.outer ∙ outer_of s.seen.scopes.levels empty_level in
+      let outer : without_innermost r.seen.scopes.levels ≡ s.seen.scopes.levels = one.reached.outer ∙ outer-of s.seen.scopes.levels empty_level in
       let was = here.open_ in
       let open_ : 1 ≤ length (without_innermost r.seen.scopes.levels) = subst (λ (ls : List Level). 1 ≤ length ls) (sym outer) was in
       let after : UnitState = in_scopes leaving r in

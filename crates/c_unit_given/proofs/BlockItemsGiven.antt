@@ -19,8 +19,8 @@ use Rattle.c_unit_typing.specs.Holding.{statement_holds, declaration_holds, bloc
 use Rattle.c_unit_typing.specs.StatementJudging.{default_label, judge_statement, judge_block_items}
 use Rattle.c_unit_typing.specs.Units.{Known, Around, IsDeclaration, IsStatement, AreBlockItems, AreDifferent, labels_of, defaults_in}
 use Rattle.c_unit_typing.specs.UnitJudging.{UnitState, UnitJudging, Gives, pure, ◌>>=◌}
-use Rattle.c_unit_given.specs.UnitGiven.{IsRun, IsKept, Nothing, And, HasType, AreSizesWritten, AreScopesKept, AreExpressionsGiven, AreDeclaratorsGiven}
-use Rattle.c_unit_given.specs.UnitUses.{used_by_statement, used_by_declaration, used_by_block_items}
+use Rattle.c_unit_given.proofs.UnitGiven.{IsRun, IsKept, Nothing, And, HasType, AreSizesWritten, AreScopesKept, AreExpressionsGiven, AreDeclaratorsGiven}
+use Rattle.c_unit_typing.specs.TypesUsed.{used_by_statement, used_by_declaration, used_by_block_items}
 use Rattle.c_unit_given.proofs.DeclarationsGiven.{left-held, right-held}
 use Rattle.c_unit_given.proofs.DeclarationTrees.{declaration-run}
 use Rattle.c_unit_given.proofs.Runs.{obeying-is, run-then, run-last, run-as, run-none, nothing-kept, type-kept, both-kept}

@@ -14,12 +14,12 @@ use Rattle.c_typing.specs.Walks.{judge_specifiers_of}
 use Rattle.c_typing_laws.proofs.JudgedWhole.{specifiers_of-judged}
 use Rattle.c_typing_given.specs.Given.{IsHere}
 use Rattle.c_unit_typing.specs.Holding.{specifiers_holds, init_declarators_holds, declaration_holds}
-use Rattle.c_typing_given.specs.Uses.{used_by_specifiers}
+use Rattle.c_type_order.specs.TypesUsed.{used_by_specifiers}
 use Rattle.c_unit_typing.specs.DeclarationJudging.{judge_init_declarators, judge_declaration}
 use Rattle.c_unit_typing.specs.Units.{with_scopes, storage_of, AreDeclarators, IsDeclaration}
 use Rattle.c_unit_typing.specs.UnitJudging.{UnitJudging, known_of, pure, lifted, ◌>>=◌}
-use Rattle.c_unit_given.specs.UnitGiven.{AreSizesWritten, IsRun, Nothing, And, HasType, IsPartRun, Always, IsScopeKept, AreScopesKept, AreExpressionsGiven, AreDeclaratorsGiven}
-use Rattle.c_unit_given.specs.UnitUses.{used_by_init_declarators, used_by_declaration}
+use Rattle.c_unit_given.proofs.UnitGiven.{AreSizesWritten, IsRun, Nothing, And, HasType, IsPartRun, Always, IsScopeKept, AreScopesKept, AreExpressionsGiven, AreDeclaratorsGiven}
+use Rattle.c_unit_typing.specs.TypesUsed.{used_by_init_declarators, used_by_declaration}
 use Rattle.c_unit_given.proofs.DeclarationsGiven.{left-held, right-held, declarators-run}
 use Rattle.c_unit_given.proofs.Runs.{Among, Then, run-then, run-last, run-as, run-lifted, nothing-kept, type-kept}
 

@@ -19,7 +19,7 @@ use Rattle.c_typing_unique.proofs.Numbering.{two-parts}
 use Rattle.c_typing_unique.proofs.Shapes.{no_true}
 use Rattle.c_typing_exact.proofs.SameParts.{distinct}
 use Rattle.c_unit_typing.specs.Holding.{declarator_holds, initialiser_holds, init_declarators_holds}
-use Rattle.c_typing_given.specs.Uses.{used_by_declarator}
+use Rattle.c_type_order.specs.TypesUsed.{used_by_declarator}
 use Rattle.c_unit_rules_alike.proofs.InitialiserRules.{makes_chars-over}
 use Rattle.c_unit_typing.specs.DeclarationJudging.{defining, is_linked_by, judge_named, judge_init_declarators}
 use Rattle.c_unit_typing.specs.InitialiserJudging.{judge_initialiser}
@@ -28,8 +28,9 @@ use Rattle.c_unit_typing.specs.Linkage.{with_name}
 use Rattle.c_unit_typing.specs.Units.{Known, Storage, with_scopes, storage_of, outermost_of, IsDeclarator, IsInitialised, AreDeclarators, bytes_of_name}
 use Rattle.c_unit_typing.specs.UnitJudging.{UnitState, UnitJudging, Gives, known_of, by_known, pure, ◌>>=◌}
 use Rattle.c_unit_typing.specs.UnitRefusals.{size_written, is_lasting}
-use Rattle.c_unit_given.specs.UnitGiven.{IsTextAsWritten, AreSizesWritten, IsRun, Nothing, And, HasType, AreScopesKept, AreExpressionsGiven, AreDeclaratorsGiven}
-use Rattle.c_unit_given.specs.UnitUses.{used_by_initialiser, used_by_init_declarators}
+use Rattle.c_unit_typing.proofs.WrittenSizes.{IsTextAsWritten}
+use Rattle.c_unit_given.proofs.UnitGiven.{AreSizesWritten, IsRun, Nothing, And, HasType, AreScopesKept, AreExpressionsGiven, AreDeclaratorsGiven}
+use Rattle.c_unit_typing.specs.TypesUsed.{used_by_initialiser, used_by_init_declarators}
 use Rattle.c_unit_given.proofs.DeclaratorsGiven.{IsDeclaring, IsWholeIf, declarator-run}
 use Rattle.c_unit_given.proofs.DefinedNames.{defining_known, defines, object-home, named-once, named-constant}
 use Rattle.c_unit_given.proofs.InitialiserTrees.{initialiser-run}

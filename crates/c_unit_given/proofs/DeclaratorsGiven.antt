@@ -25,7 +25,7 @@ use Rattle.c_typing_laws.proofs.JudgedDeclarators.{form_name}
 use Rattle.c_typing_unique.specs.Points.{Point, Numbers}
 use Rattle.c_typing_exact.specs.Passing.{Passes}
 use Rattle.c_unit_typing.specs.Holding.{declarator_holds}
-use Rattle.c_typing_given.specs.Uses.{AreUses, used_by_declarator}
+use Rattle.c_type_order.specs.TypesUsed.{AreUses, used_by_declarator}
 use Rattle.c_unit_rules_alike.proofs.DeclarationRules.{declared-over}
 use Rattle.c_unit_rules_alike.proofs.NamesThere.{name-there}
 use Rattle.c_unit_typing.specs.DeclarationJudging.{naming_for, linked_first, declare, named, judge_named, is_linked_object}
@@ -34,7 +34,7 @@ use Rattle.c_unit_typing.specs.UnitJudged.{state_of}
 use Rattle.c_unit_typing.specs.UnitJudging.{UnitState, Gives, known_of, known, by_known, pure, lifted, ◌>>=◌}
 use Rattle.c_unit_typing.specs.UnitRefusals.{declared_tests}
 use Rattle.c_unit_typing.proofs.JudgedDeclarators.{form-known, one-judged}
-use Rattle.c_unit_given.specs.UnitGiven.{HasUnitRoom, IsUnitHere, IsUnitReached, IsUnitGivenAs, IsRun, And, HasType, AreScopesKept, AreDeclaratorsGiven}
+use Rattle.c_unit_given.proofs.UnitGiven.{HasUnitRoom, IsUnitHere, IsUnitReached, IsUnitGivenAs, IsRun, And, HasType, AreScopesKept, AreDeclaratorsGiven}
 use Rattle.c_unit_given.proofs.DeclaratorHomes.{home-as, IsMadeBetween, form-between, form-cost, here-below}
 use Rattle.c_unit_given.proofs.NameRules.{IsObjectHome, IsNotBefore, name-passes}
 use Rattle.c_unit_given.proofs.NamesDeclared.{declare-given}
@@ -106,7 +106,7 @@ module _ (T : Table) (basic : IsBasic T) (scopes : AreScopesKept T) (decls : Are
         subst (λ (l : Known). IsNameDeclared T file (storage_of base) it name.bytes t l k) (sym reach.known) h.0.declares in
         let between = form-between form t s.seen.node n numbers in
         let inner : one.after.seen.scopes ≡ h.0.inside = ap (λ (p : Point). p.scopes) one.reached.point in
-        let homes = subst (λ (q : Scopes). Rattle.c_unit_given.specs.UnitGiven.AreHomesBelow s.seen.node q.levels) (sym inner) (kept.homes s.seen.node here.homes) in
+        let homes = subst (λ (q : Scopes). Rattle.c_unit_given.proofs.UnitGiven.AreHomesBelow s.seen.node q.levels) (sym inner) (kept.homes s.seen.node here.homes) in
         let once : initialised ≡ true → is_linked_object file (storage_of base) ≡ true → is_one_of s.linkage.defined name.bytes ≡ false =
         λ q l. ap (λ (o : Option Identifier). is_one_of s.linkage.defined (bytes_of_name o)) (sym h.0.named) ∙ (h.1 q).1 l in
         let passes =

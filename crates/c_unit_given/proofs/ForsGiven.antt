@@ -13,8 +13,8 @@ use Rattle.c_unit_typing.specs.Holding.{optional_holds, statement_holds, declara
 use Rattle.c_unit_typing.specs.StatementJudging.{dropped, tested_or_none, judge_statement}
 use Rattle.c_unit_typing.specs.Units.{Around, in_a_loop, IsDropped, IsTestedOrNone, IsDeclaration, IsStatement}
 use Rattle.c_unit_typing.specs.UnitJudging.{UnitJudging, lifted, ◌>>=◌}
-use Rattle.c_unit_given.specs.UnitGiven.{Nothing, And, HasType, AreSizesWritten, AreScopesKept, AreExpressionsGiven, AreDeclaratorsGiven}
-use Rattle.c_unit_given.specs.UnitUses.{used_by_optional, used_by_statement, used_by_declaration}
+use Rattle.c_unit_given.proofs.UnitGiven.{Nothing, And, HasType, AreSizesWritten, AreScopesKept, AreExpressionsGiven, AreDeclaratorsGiven}
+use Rattle.c_unit_typing.specs.TypesUsed.{used_by_optional, used_by_statement, used_by_declaration}
 use Rattle.c_unit_given.proofs.DeclarationsGiven.{left-held, right-held}
 use Rattle.c_unit_given.proofs.DeclarationTrees.{declaration-run}
 use Rattle.c_unit_given.proofs.LoopsGiven.{scalar-if, next-same, loop-joined, loop-run}

@@ -11,15 +11,15 @@ use Rattle.c_tree.specs.TypedParts.{place_type, made_by, made_by_initialiser, ma
 use Rattle.c_typing.specs.Settled.{IsBasic}
 use Rattle.c_typing_unique.specs.Points.{Point}
 use Rattle.c_typing_exact.proofs.SameParts.{distinct}
-use Rattle.c_typing_given.specs.Uses.{used_by, used_by_place}
+use Rattle.c_type_order.specs.TypesUsed.{used_by, used_by_place}
 use Rattle.c_unit_rules_alike.proofs.InitialiserRules.{is_char_array-over}
 use Rattle.c_unit_typing.specs.Holding.{items_holds}
 use Rattle.c_unit_typing.specs.Initialisers.{is_char_array, is_only_text}
 use Rattle.c_unit_typing.specs.InitialiserJudging.{is_only_literal, judge_initialiser, judge_items}
 use Rattle.c_unit_typing.specs.UnitJudging.{UnitState, Gives, pure, by_known, ◌>>=◌}
 use Rattle.c_unit_typing.proofs.KeptInitialisers.{complete-in}
-use Rattle.c_unit_given.specs.UnitGiven.{IsUnitHere, IsUnitGivenAs, IsRun, Nothing, And, AreScopesKept, AreExpressionsGiven}
-use Rattle.c_unit_given.specs.UnitUses.{used_by_items}
+use Rattle.c_unit_given.proofs.UnitGiven.{IsUnitHere, IsUnitGivenAs, IsRun, Nothing, And, AreScopesKept, AreExpressionsGiven}
+use Rattle.c_unit_typing.specs.TypesUsed.{used_by_items}
 use Rattle.c_unit_given.proofs.InitialisersGiven.{IsWhole, whole-kept, IsInitialising, AreInitialising, IsInitialiserRun, AreItemsRun, no-chars, no-chars-struct, value-run, copied-run, plain-run, text-run, no-item-run, item-run}
 use Rattle.c_unit_given.proofs.Runs.{run-last, run-first, run-as}
 use Rattle.c_unit_given.proofs.Texts.{same_struct, only-text}

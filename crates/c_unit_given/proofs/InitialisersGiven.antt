@@ -29,7 +29,7 @@ use Rattle.c_typing_unique.proofs.Numbering.{two-parts}
 use Rattle.c_typing_unique.proofs.Shapes.{no_true}
 use Rattle.c_typing_exact.specs.Passing.{Passes}
 use Rattle.c_typing_exact.proofs.Unbroken.{passes_one}
-use Rattle.c_typing_given.specs.Uses.{Use, used_by, used_by_place}
+use Rattle.c_type_order.specs.TypesUsed.{Use, used_by, used_by_place}
 use Rattle.c_typing_given.proofs.Settling.{small-kept}
 use Rattle.c_typing_given.proofs.TypeGiven.{none-same}
 use Rattle.c_unit_rules_alike.proofs.InitialiserRules.{constant-over, char_count-over, item_slot-over}
@@ -42,8 +42,8 @@ use Rattle.c_unit_typing.specs.UnitJudging.{UnitState, Gives, known, known_of, p
 use Rattle.c_unit_typing.proofs.JudgedInitialisers.{slot_is}
 use Rattle.c_unit_typing.proofs.KeptInitialisers.{complete-in, complete-kept, slot-complete}
 use Rattle.c_unit_typing.proofs.UnitOutcomes.{lifted-gives}
-use Rattle.c_unit_given.specs.UnitGiven.{IsUnitHere, IsRun, IsKept, Nothing, And, AreScopesKept, AreExpressionsGiven}
-use Rattle.c_unit_given.specs.UnitUses.{used_by_initialiser, used_by_items}
+use Rattle.c_unit_given.proofs.UnitGiven.{IsUnitHere, IsRun, IsKept, Nothing, And, AreScopesKept, AreExpressionsGiven}
+use Rattle.c_unit_typing.specs.TypesUsed.{used_by_initialiser, used_by_items}
 use Rattle.c_unit_given.proofs.CellsCounted.{pointers-most, counting_cells, cells-counted}
 use Rattle.c_unit_given.proofs.Runs.{then-is, obeying-is, lifted-is, Among, run-then, run-last, run-first, run-as, run-none, run-lifted}
 use Rattle.c_unit_given.proofs.UnitRoom.{unit-room-first, unit-room-then, unit-spent-both}

@@ -13,7 +13,7 @@ use Rattle.c_typing_given.proofs.CheckedGiven.{dropped-given, returned-given, co
 use Rattle.c_typing_given.proofs.OvertakenGiven.{assigned-given}
 use Rattle.c_typing_given.proofs.TreesGiven.{expr-given, all-specifiers-given, any-form-given}
 use Rattle.c_typing_given.proofs.WholeGiven.{listed-given, alone-given, declarator-given}
-use Rattle.c_unit_given.specs.UnitGiven.{AreExpressionsGiven, AreDeclaratorsGiven}
+use Rattle.c_unit_given.proofs.UnitGiven.{AreExpressionsGiven, AreDeclaratorsGiven}
 use Rattle.c_unit_given.proofs.Texts.{same_struct}
 
 pub expressions-given : (T : Table) → IsBasic T → IsLimited T → AreExpressionsGiven T

@@ -4,7 +4,7 @@ use Rattle.std.specs.List.{All}
 use Rattle.std.proofs.lemmas.List.Elements.{All-head, All-tail, All-cons, All-nil, All-push}
 use Rattle.c_typing.specs.declared.declared.Declared.{Declared}
 use Rattle.c_typing.specs.Scopes.{Name, Level, at_innermost, with_name, without_innermost}
-use Rattle.c_unit_given.specs.UnitGiven.{IsHomeBelow, AreHomesBelow}
+use Rattle.c_unit_given.proofs.UnitGiven.{IsHomeBelow, AreHomesBelow}
 
 pub outer-same : (f : Level → Level) (ls : List Level) → without_innermost (at_innermost f ls) ≡ without_innermost ls
 outer-same f [] = refl

@@ -1,3 +1,4 @@
+mod UnitGiven
 mod UnitRoom
 mod LevelsBelow
 mod Runs

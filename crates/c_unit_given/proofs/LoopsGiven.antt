@@ -10,13 +10,13 @@ use Rattle.c_typing.specs.Checking.{checked}
 use Rattle.c_typing.specs.Settled.{IsBasic}
 use Rattle.c_typing.specs.Shapes.{IsScalar}
 use Rattle.c_typing.specs.Typing.{IsTyped}
-use Rattle.c_typing_given.specs.Uses.{used_by}
+use Rattle.c_type_order.specs.TypesUsed.{used_by}
 use Rattle.c_unit_typing.specs.Holding.{optional_holds, statement_holds}
 use Rattle.c_unit_typing.specs.StatementJudging.{dropped, tested_or_none, judge_statement}
 use Rattle.c_unit_typing.specs.Units.{Known, Around, in_a_loop, IsDropped, IsTestedOrNone, IsStatement}
 use Rattle.c_unit_typing.specs.UnitJudging.{UnitState, UnitJudging, UnitOutcome, Gives, Stops, next, pure, lifted, ◌>>=◌}
-use Rattle.c_unit_given.specs.UnitGiven.{IsUnitHere, IsRun, IsKept, Nothing, And, HasType, AreScopesKept, AreExpressionsGiven}
-use Rattle.c_unit_given.specs.UnitUses.{used_by_optional, used_by_statement}
+use Rattle.c_unit_given.proofs.UnitGiven.{IsUnitHere, IsRun, IsKept, Nothing, And, HasType, AreScopesKept, AreExpressionsGiven}
+use Rattle.c_unit_typing.specs.TypesUsed.{used_by_optional, used_by_statement}
 use Rattle.c_unit_given.proofs.DeclarationsGiven.{left-held, right-held}
 use Rattle.c_unit_given.proofs.Runs.{Among, Then, run-then, run-last, run-as, run-none, run-three, nothing-kept, type-kept, both-kept}
 use Rattle.c_unit_given.proofs.ScopesGiven.{bind-assoc}

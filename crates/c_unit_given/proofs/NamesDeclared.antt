@@ -18,7 +18,7 @@ use Rattle.c_unit_typing.specs.Units.{Known, Storage, Unstored, AsTypedef, AsExt
 use Rattle.c_unit_typing.specs.UnitJudging.{UnitState, known_of}
 use Rattle.c_unit_typing.proofs.DeclaredNames.{is_typedef}
 use Rattle.c_unit_typing.proofs.NameSteps.{static_state, linked-there, home-own}
-use Rattle.c_unit_given.specs.UnitGiven.{IsUnitHere}
+use Rattle.c_unit_given.proofs.UnitGiven.{IsUnitHere}
 use Rattle.c_unit_given.proofs.NamesGiven.{home_cost, IsDeclaredGiven, IsMadeBelow, static-here, new-given, linked-given, static-given, known_linked, after-linked, whole-type}
 
 module _ (T : Table) (name : Identifier) (t : TypeId) (s : UnitState) (k' : Known) (here : IsUnitHere T s) (there : IsType s.table t) where

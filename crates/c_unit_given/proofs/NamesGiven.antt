@@ -26,7 +26,7 @@ use Rattle.c_unit_typing.specs.UnitJudged.{state_of, IsLinkedKnown, UnitGoesOn}
 use Rattle.c_unit_typing.specs.UnitJudging.{UnitState, UnitOutcome, Gives, known_of}
 use Rattle.c_unit_typing.proofs.KeptInitialisers.{complete-kept}
 use Rattle.c_unit_typing.proofs.NameSteps.{named_state, linked_state, static_state, named-goes, linked-goes, static-goes}
-use Rattle.c_unit_given.specs.UnitGiven.{IsHomeBelow, AreHomesBelow, IsUnitHere}
+use Rattle.c_unit_given.proofs.UnitGiven.{IsHomeBelow, AreHomesBelow, IsUnitHere}
 use Rattle.c_unit_given.proofs.LevelsBelow.{outer-same, homes-more}
 use Rattle.c_unit_given.proofs.Runs.{then-is}
 

@@ -21,14 +21,14 @@ use Rattle.c_typing.specs.Tests.{broken_at, first_broken}
 use Rattle.c_typing.specs.Typing.{IsTyped}
 use Rattle.c_typing_exact.proofs.Unbroken.{passes_one, off}
 use Rattle.c_unit_typing.specs.Holding.{expr_holds, block_items_holds}
-use Rattle.c_typing_given.specs.Uses.{used_by}
+use Rattle.c_type_order.specs.TypesUsed.{used_by}
 use Rattle.c_unit_rules_alike.proofs.StatementRules.{return_none-over, label_as-over}
 use Rattle.c_unit_typing.specs.StatementJudging.{label_as, labelled, case_label, returned, judge_statement, judge_block_items}
 use Rattle.c_unit_typing.specs.Units.{AreBlockItems, AreDifferent, labels_of}
 use Rattle.c_unit_typing.specs.UnitJudging.{UnitState, UnitJudging, Gives, pure, by_known, lifted, ◌>>=◌}
 use Rattle.c_unit_typing.specs.UnitRefusals.{converted_label}
-use Rattle.c_unit_given.specs.UnitGiven.{IsUnitHere, IsRun, Nothing, And, Has, HasType, Always, AreSizesWritten, AreScopesKept, AreExpressionsGiven, AreDeclaratorsGiven}
-use Rattle.c_unit_given.specs.UnitUses.{used_by_block_items}
+use Rattle.c_unit_given.proofs.UnitGiven.{IsUnitHere, IsRun, Nothing, And, Has, HasType, Always, AreSizesWritten, AreScopesKept, AreExpressionsGiven, AreDeclaratorsGiven}
+use Rattle.c_unit_typing.specs.TypesUsed.{used_by_block_items}
 use Rattle.c_unit_given.proofs.BlockItemsGiven.{NeedsOf, needs-kept, AreBlockItemsRun}
 use Rattle.c_unit_given.proofs.DeclarationsGiven.{left-held, right-held}
 use Rattle.c_unit_given.proofs.Runs.{Among, obeying-is, run-then, run-last, run-none, run-lifted, nothing-kept, type-kept, both-kept}

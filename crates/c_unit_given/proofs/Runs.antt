@@ -16,13 +16,13 @@ use Rattle.c_typing_laws.proofs.TableGrowth.{extended_trans}
 use Rattle.c_typing_unique.specs.Points.{Point, Numbers}
 use Rattle.c_typing_unique.proofs.Numbering.{two-parts}
 use Rattle.c_typing_given.specs.Given.{IsHere, IsReached}
-use Rattle.c_typing_given.specs.Uses.{Use, AreUses}
+use Rattle.c_type_order.specs.TypesUsed.{Use, AreUses}
 use Rattle.c_typing_given.proofs.ValuesGiven.{uses-first}
 use Rattle.c_unit_typing.specs.Units.{Known, with_scopes}
 use Rattle.c_unit_typing.specs.UnitJudged.{state_of}
 use Rattle.c_unit_typing.specs.UnitJudging.{UnitState, UnitJudging, UnitOutcome, Gives, ◌>>=◌, next, unless, known, known_of, obeying, lifted, with_linkage}
 use Rattle.c_unit_typing.proofs.UnitStates.{linkage-stays}
-use Rattle.c_unit_given.specs.UnitGiven.{IsHomeBelow, AreHomesBelow, IsScopeKept, IsUnitHere, IsUnitReached, IsRun, IsPartRun, IsKept, Nothing, And, HasType}
+use Rattle.c_unit_given.proofs.UnitGiven.{IsHomeBelow, AreHomesBelow, IsScopeKept, IsUnitHere, IsUnitReached, IsRun, IsPartRun, IsKept, Nothing, And, HasType}
 use Rattle.c_unit_given.proofs.UnitRoom.{part-room, part-spent, unit-room-first, unit-room-then, unit-spent-both, unit-spent-none}
 
 pub then-is : {A B : Type 0} (m : UnitJudging A) (f : A → UnitJudging B) (a : A) (s k : UnitState) (o : UnitOutcome B) → m s ≡ Gives a k → f a k ≡ o → (m >>= f) s ≡ o

@@ -16,7 +16,7 @@ use Rattle.c_typing.specs.Declarators.{is_void_list}
 use Rattle.c_typing.specs.Scopes.{Name, Level, Scopes, empty_level, at_innermost, without_innermost, with_name, with_tag, tag_in, tag_here, entering, leaving}
 use Rattle.c_typing.specs.Typing.{IsTyped, IsPlace, AreTyped, IsTypeName, AreSpecifiers, AreAlone, AreListed, IsSpecifier, AreMembers, AreMemberDeclarators, AreEnumerators, IsForm, IsCore, AreParts, AreParameters, IsDeclared, IsNewName, IsNewAggregate, IsTagged, BeginsAggregate, DeclaresParameter, tagging, counting_aggregate, tag_named_here, enumerating}
 use Rattle.c_typing_given.proofs.LevelsKept.{length-innermost}
-use Rattle.c_unit_given.specs.UnitGiven.{AreHomesBelow, IsScopeKept, AreScopesKept}
+use Rattle.c_unit_given.proofs.UnitGiven.{AreHomesBelow, IsScopeKept, AreScopesKept}
 use Rattle.c_unit_given.proofs.LevelsBelow.{IsLevelBelow, outer-same, outer-of, homes-changed, level-more}
 
 -- Scopes

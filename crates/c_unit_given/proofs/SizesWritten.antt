@@ -8,7 +8,7 @@ use Rattle.c_unit_typing.specs.Initialisers.{is_char_array, is_one_array, is_cha
 use Rattle.c_unit_typing.specs.Units.{outermost_of}
 use Rattle.c_unit_typing.specs.UnitRefusals.{size_written}
 use Rattle.c_unit_typing.proofs.WrittenSizes.{both_false, form_any, one_array_char, size_plain, size_chars, outermost_plain}
-use Rattle.c_unit_given.specs.UnitGiven.{AreSizesWritten}
+use Rattle.c_unit_given.proofs.UnitGiven.{AreSizesWritten}
 
 pub sizes-written : (T : Table) → AreSizesWritten T
 sizes-written T c form base t i at s s' typed_here w h = by (makes_chars T base (erased_form form)) (is_char_array T t) refl refl h

@@ -3,7 +3,7 @@ use Rattle.c_types.specs.Table.{Table}
 use Rattle.c_tree.specs.TypedTree as typed
 use Rattle.c_tree.specs.TypedTree.{TypedStatement, TypedBlockItems}
 use Rattle.c_typing.specs.Settled.{IsBasic}
-use Rattle.c_unit_given.specs.UnitGiven.{AreSizesWritten, AreScopesKept, AreExpressionsGiven, AreDeclaratorsGiven}
+use Rattle.c_unit_given.proofs.UnitGiven.{AreSizesWritten, AreScopesKept, AreExpressionsGiven, AreDeclaratorsGiven}
 use Rattle.c_unit_given.proofs.BlockItemsGiven.{AreBlockItemsRun, no-item-run, and-statement-run, and-declaration-run, and-default-run, block-run}
 use Rattle.c_unit_given.proofs.ForsGiven.{for-declaration-run}
 use Rattle.c_unit_given.proofs.LoopsGiven.{for-run}

@@ -21,13 +21,13 @@ use Rattle.c_typing_exact.proofs.SameParts.{plain_runtime}
 use Rattle.c_typing_exact.proofs.Unbroken.{passes_one, off}
 use Rattle.c_rules_alike.proofs.PartsThere.{checked-there}
 use Rattle.c_unit_typing.specs.Holding.{expr_holds, statement_holds}
-use Rattle.c_typing_given.specs.Uses.{Use, used_by}
+use Rattle.c_type_order.specs.TypesUsed.{Use, used_by}
 use Rattle.c_unit_typing.specs.StatementJudging.{tested, jump, judge_statement}
 use Rattle.c_unit_typing.specs.Units.{Known, Around, in_a_loop, IsTested, IsStatement}
 use Rattle.c_unit_typing.specs.UnitJudging.{UnitState, UnitJudging, Gives, pure, lifted, ◌>>=◌}
 use Rattle.c_unit_typing.specs.UnitRefusals.{condition_tests, jump_tests}
-use Rattle.c_unit_given.specs.UnitGiven.{IsUnitHere, IsRun, IsPartRun, IsKept, Nothing, And, HasType, Always, AreScopesKept, AreExpressionsGiven}
-use Rattle.c_unit_given.specs.UnitUses.{used_by_statement}
+use Rattle.c_unit_given.proofs.UnitGiven.{IsUnitHere, IsRun, IsPartRun, IsKept, Nothing, And, HasType, Always, AreScopesKept, AreExpressionsGiven}
+use Rattle.c_unit_typing.specs.TypesUsed.{used_by_statement}
 use Rattle.c_unit_given.proofs.DeclarationsGiven.{left-held, right-held}
 use Rattle.c_unit_given.proofs.Runs.{Among, Then, obeying-is, run-then, run-last, run-as, run-none, run-three, run-lifted, nothing-kept, type-kept, both-kept}
 

@@ -28,14 +28,14 @@ use Rattle.c_typing_exact.proofs.InfixPasses.{integer_shape}
 use Rattle.c_typing_exact.proofs.SameParts.{plain_runtime}
 use Rattle.c_typing_exact.proofs.Unbroken.{passes_one, off}
 use Rattle.c_rules_alike.proofs.PartsThere.{checked-there}
-use Rattle.c_typing_given.specs.Uses.{used_by}
+use Rattle.c_type_order.specs.TypesUsed.{used_by}
 use Rattle.c_unit_typing.specs.Holding.{expr_holds, block_items_holds}
 use Rattle.c_unit_typing.specs.StatementJudging.{promoted_by, promotion, switched, judge_statement, judge_block_items}
 use Rattle.c_unit_typing.specs.UnitJudging.{UnitState, UnitJudging, Gives, known_of, pure, lifted, ◌>>=◌}
 use Rattle.c_unit_typing.specs.UnitRefusals.{switch_tests}
 use Rattle.c_unit_typing.specs.Units.{Around, with_scopes, in_a_switch, AreBlockItems, AreDifferent, labels_of, defaults_in}
-use Rattle.c_unit_given.specs.UnitGiven.{IsUnitHere, IsRun, Nothing, And, HasType, Always, AreSizesWritten, AreScopesKept, AreExpressionsGiven, AreDeclaratorsGiven}
-use Rattle.c_unit_given.specs.UnitUses.{used_by_block_items}
+use Rattle.c_unit_given.proofs.UnitGiven.{IsUnitHere, IsRun, Nothing, And, HasType, Always, AreSizesWritten, AreScopesKept, AreExpressionsGiven, AreDeclaratorsGiven}
+use Rattle.c_unit_typing.specs.TypesUsed.{used_by_block_items}
 use Rattle.c_unit_given.proofs.BlockItemsGiven.{NeedsOf, AreBlockItemsRun}
 use Rattle.c_unit_given.proofs.DeclarationsGiven.{left-held, right-held}
 use Rattle.c_unit_given.proofs.LoopsGiven.{next-same}

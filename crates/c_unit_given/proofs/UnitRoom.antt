@@ -6,7 +6,7 @@ use Rattle.c_tree.specs.TypedParts.{Made, Written, Name, Literal, Address, Copy}
 use Rattle.c_typing_given.specs.Spending.{node_cost, literal_cost, cell_cost, total, HasRoom, HasSpent}
 use Rattle.c_unit_typing.specs.UnitJudged.{state_of}
 use Rattle.c_unit_typing.specs.UnitJudging.{UnitState}
-use Rattle.c_unit_given.specs.UnitGiven.{object_cost, HasUnitRoom, HasUnitSpent}
+use Rattle.c_unit_given.proofs.UnitGiven.{object_cost, HasUnitRoom, HasUnitSpent}
 
 pub total-append : (cost : Made → ℕ) (xs ys : List Made) → total cost (xs ++ ys) ≡ total cost xs + total cost ys
 total-append cost [] ys = omega arith

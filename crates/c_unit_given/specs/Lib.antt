@@ -1,3 +1,1 @@
 pub mod Countable
-pub mod UnitUses
-pub mod UnitGiven

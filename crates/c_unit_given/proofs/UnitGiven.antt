@@ -1,5 +1,5 @@
 -- What it is that judging gives what is well typed of a unit: from a state at a point of a text whose table is T, the tree that stands there.
-use Rattle.std.specs.Prelude.{◌≡◌, ◌≤◌, ◌<◌, ◌+◌, ℕ, ℤ, true, false, List, length, Option, Some, None}
+use Rattle.std.proofs.Common.{◌≡◌, ◌≤◌, ◌<◌, ◌+◌, ℕ, ℤ, true, false, List, length, Option, Some, None}
 use Rattle.std.specs.List.{All}
 use Rattle.cc_base.specs.declared.place.Place.{Place}
 use Rattle.cc_base.specs.declared.number.TypeId.{TypeId}
@@ -31,18 +31,14 @@ use Rattle.c_typing_unique.specs.Points.{Point, Numbers}
 use Rattle.c_typing_given.specs.Given.{IsHere, IsGivenAs}
 use Rattle.c_unit_typing.specs.Holding.{expr_holds, specifiers_holds, declarator_holds}
 use Rattle.c_typing_given.specs.Spending.{HasRoom, node_cost, literal_cost, cell_cost, total}
-use Rattle.c_typing_given.specs.Uses.{Use, AreUses, used_by, used_by_place, used_by_specifiers, used_by_declarator}
+use Rattle.c_type_order.specs.TypesUsed.{Use, AreUses, used_by, used_by_place, used_by_specifiers, used_by_declarator}
 use Rattle.c_unit_typing.specs.Initialisers.{IsInitialiser, is_char_array, is_only_text, size_given, makes_chars}
 use Rattle.c_unit_typing.specs.InitialiserJudging.{is_only_literal}
 use Rattle.c_unit_typing.specs.UnitRefusals.{size_written}
 use Rattle.c_unit_typing.specs.Units.{Known, outermost_of}
 use Rattle.c_unit_typing.specs.UnitJudged.{state_of, IsUnitKnown}
 use Rattle.c_unit_typing.specs.UnitJudging.{UnitState, UnitOutcome, UnitJudging, Gives, known_of}
-
--- a literal by itself in braces is a text as it is typed too
-abbrev pub IsTextAsWritten : TypedInitialiser → Type 0
-IsTextAsWritten (typed.Listed brace items comma t) = is_only_text items ≡ is_only_literal (erased_items items)
-IsTextAsWritten i = Unit {0}
+use Rattle.c_unit_typing.proofs.WrittenSizes.{IsTextAsWritten}
 
 -- What is counted
 

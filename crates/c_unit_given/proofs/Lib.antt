@@ -1,5 +1,6 @@
 mod UnitRoom
 mod LevelsBelow
+mod InnermostNames
 mod Runs
 mod Texts
 mod CellsCounted
@@ -20,3 +21,7 @@ mod ForsGiven
 mod InitialisersGiven
 mod InitialiserTrees
 mod ScopesKept
+mod ParametersDeclared
+mod ParameterNames
+mod FunctionsDefined
+mod DefinitionsGiven

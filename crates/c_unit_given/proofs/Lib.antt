@@ -25,3 +25,5 @@ mod ParametersDeclared
 mod ParameterNames
 mod FunctionsDefined
 mod DefinitionsGiven
+mod SwitchesGiven
+mod StatementTrees

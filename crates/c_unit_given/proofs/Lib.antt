@@ -1,6 +1,7 @@
 mod UnitGiven
 mod UnitRoom
 mod LevelsBelow
+mod InnermostNames
 mod Runs
 mod Texts
 mod CellsCounted
@@ -20,6 +21,11 @@ mod LoopsGiven
 mod ForsGiven
 mod InitialisersGiven
 mod InitialiserTrees
+mod ScopesKept
+mod ParametersDeclared
+mod ParameterNames
+mod FunctionsDefined
+mod DefinitionsGiven
 mod SwitchesGiven
 mod StatementTrees
 mod LawsGiven

@@ -13,11 +13,12 @@ use Rattle.c_typing.specs.declared.declared.Declared.TheVariants as declared
 use Rattle.c_typing.specs.declared.declared.Tag.{Tag}
 use Rattle.c_typing.specs.declared.declared.Tag.TheVariants as tag
 use Rattle.c_typing.specs.Declarators.{is_void_list}
-use Rattle.c_typing.specs.Scopes.{Name, Level, Scopes, empty_level, at_innermost, without_innermost, with_name, with_tag, tag_in, tag_here, entering, leaving}
+use Rattle.c_typing.specs.Scopes.{Name, Level, Scopes, empty_level, at_innermost, without_innermost, with_name, with_tag, tag_in, tag_here, here, entry_of, entering, leaving}
 use Rattle.c_typing.specs.Typing.{IsTyped, IsPlace, AreTyped, IsTypeName, AreSpecifiers, AreAlone, AreListed, IsSpecifier, AreMembers, AreMemberDeclarators, AreEnumerators, IsForm, IsCore, AreParts, AreParameters, IsDeclared, IsNewName, IsNewAggregate, IsTagged, BeginsAggregate, DeclaresParameter, tagging, counting_aggregate, tag_named_here, enumerating}
 use Rattle.c_typing_given.proofs.LevelsKept.{length-innermost}
 use Rattle.c_unit_given.proofs.UnitGiven.{AreHomesBelow, IsScopeKept, AreScopesKept}
 use Rattle.c_unit_given.proofs.LevelsBelow.{IsLevelBelow, outer-same, outer-of, homes-changed, level-more}
+use Rattle.c_unit_given.proofs.InnermostNames.{entry-before, here-before}
 
 -- Scopes
 
@@ -26,19 +27,22 @@ levels-kept s s' h = record {
   outer = ap (λ (ls : List Level). without_innermost ls) h;
   deep = ap (λ (ls : List Level). length ls) h;
   homes = λ n below. subst (λ (ls : List Level). AreHomesBelow n ls) (sym h) below;
+  names = λ name none. subst (λ (ls : List Level). here ls name ≡ None) h none;
 }
 
 same : (s s' : Scopes) → s' ≡ s → IsScopeKept s s'
 same s s' h = levels-kept s s' (ap (λ (q : Scopes). q.levels) h)
 
 both : {a b c : Scopes} → IsScopeKept a b → IsScopeKept b c → IsScopeKept a c
-both p q = record { outer = q.outer ∙ p.outer; deep = q.deep ∙ p.deep; homes = λ n below. q.homes n (p.homes n below) }
+both p q = record { outer = q.outer ∙ p.outer; deep = q.deep ∙ p.deep; homes = λ n below. q.homes n (p.homes n below); names = λ name none. p.names name (q.names name none) }
 
-innermost-kept : (f : Level → Level) → ((n : ℕ) (l : Level) → IsLevelBelow n l → IsLevelBelow n (f l)) → (s s' : Scopes) → s'.levels ≡ at_innermost f s.levels → IsScopeKept s s'
-innermost-kept f more s s' h = record {
+innermost-kept : (f : Level → Level) → ((n : ℕ) (l : Level) → IsLevelBelow n l → IsLevelBelow n (f l))
+    → ((l : Level) (name : Name) → entry_of (f l).names name ≡ None → entry_of l.names name ≡ None) → (s s' : Scopes) → s'.levels ≡ at_innermost f s.levels → IsScopeKept s s'
+innermost-kept f more fresh s s' h = record {
   outer = ap (λ (ls : List Level). without_innermost ls) h ∙ outer-same f s.levels;
   deep = ap (λ (ls : List Level). length ls) h ∙ length-innermost f s.levels;
   homes = λ n below. subst (λ (ls : List Level). AreHomesBelow n ls) (sym h) (homes-changed n f (more n) s.levels below);
+  names = λ name none. here-before f name (λ l. fresh l name) s.levels (subst (λ (ls : List Level). here ls name ≡ None) h none);
 }
 
 -- the scope of a prototype was entered and is left
@@ -49,7 +53,7 @@ left-kept m n s' outer h = levels-kept m s' (ap (λ (q : Scopes). q.levels) h �
 
 tagging-kept : (name : Option Identifier) (what : Tag) (s : Scopes) → IsScopeKept s (tagging name what s)
 tagging-kept None what s = same s s refl
-tagging-kept (Some name) what s = innermost-kept (with_tag name.bytes what) (λ n l own. own) s (tagging (Some name) what s) refl
+tagging-kept (Some name) what s = innermost-kept (with_tag name.bytes what) (λ n l own. own) (λ l other none. none) s (tagging (Some name) what s) refl
 
 new-kept : (T : Table) (which : AggregateKind) (name : Option Identifier) (t : TypeId) (s s' : Scopes) → IsNewAggregate T which name t s s' → IsScopeKept s s'
 new-kept T which name t s s' h =
@@ -70,7 +74,8 @@ enumerating-kept (Some name) s h = rw h (tagging-kept (Some name) tag.Enumeratio
 
 enumerator-kept : (name : Name) (value : ℤ) (s s' : Scopes) → IsNewName name (declared.Enumerator value) s s' → IsScopeKept s s'
 enumerator-kept name value s s' h =
-    innermost-kept (with_name name (declared.Enumerator value)) (λ n l own. level-more n name (declared.Enumerator value) l tt own) s s' (ap (λ (q : Scopes). q.levels) h.after)
+    innermost-kept (with_name name (declared.Enumerator value)) (λ n l own. level-more n name (declared.Enumerator value) l tt own)
+    (λ l other none. (entry-before l.names name other (declared.Enumerator value) none).0) s s' (ap (λ (q : Scopes). q.levels) h.after)
 
 -- Parameters
 

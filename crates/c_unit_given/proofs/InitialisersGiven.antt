@@ -31,6 +31,7 @@ use Rattle.c_typing_exact.specs.Passing.{Passes}
 use Rattle.c_typing_exact.proofs.Unbroken.{passes_one}
 use Rattle.c_typing_given.specs.Uses.{Use, used_by, used_by_place}
 use Rattle.c_typing_given.proofs.Settling.{small-kept}
+use Rattle.c_typing_given.proofs.TypeGiven.{none-same}
 use Rattle.c_unit_rules_alike.proofs.InitialiserRules.{constant-over, char_count-over, item_slot-over}
 use Rattle.c_unit_typing.specs.Holding.{initialiser_holds, items_holds}
 use Rattle.c_unit_typing.specs.Initialisers.{Slot, char_count_of_shape, items_count, is_constant, is_constant_initialiser, are_constant_items, IsText, IsSlot, IsItemFor, IsInitialiser, AreItems}
@@ -189,7 +190,7 @@ module _ (T : Table) (basic : IsBasic T) (exprs : AreExpressionsGiven T) (scopes
               (lifted-is (count_cells at u) u r counted (cells-counted at u (state_of r) (omega (arith, most, rest)))) refl));
           reached = record {
             here = record {
-              here = record { known = all_known; first = known_there.first; small = small-kept (state_of r) (state_of after) known_there.small refl refl (omega arith); own = known_there.own };
+              here = record { known = all_known; first = known_there.first; small = small-kept (state_of r) (state_of after) known_there.small refl refl (omega arith) (λ p. p) (none-same r.table); own = known_there.own };
               unit = record { known = all_known; linked = one.reached.here.unit.linked };
               open_ = one.reached.here.open_;
               homes = one.reached.here.homes;

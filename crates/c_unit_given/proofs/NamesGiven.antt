@@ -17,7 +17,7 @@ use Rattle.c_typing.specs.Scopes.{Name, Level, Scopes, here, entry_of, at_innerm
 use Rattle.c_typing.specs.Settled.{IsThere}
 use Rattle.c_typing_unique.specs.Sameness.{HasOwnFunctions}
 use Rattle.c_typing_given.proofs.Settling.{small-kept}
-use Rattle.c_typing_given.proofs.TypeGiven.{le_true}
+use Rattle.c_typing_given.proofs.TypeGiven.{le_true, none-same}
 use Rattle.c_rules_alike.proofs.TypesAlike.{complete-over}
 use Rattle.c_unit_rules_alike.proofs.InitialiserRules.{complete_size-over}
 use Rattle.c_unit_typing.specs.DeclarationJudging.{complete_size, new_in, new_name, linked_name, object_name, count_object, lasting, new_static, declare_object}
@@ -82,7 +82,7 @@ module _ (T : Table) where
         here = record {
           known = goes.known.known;
           first = here.here.first;
-          small = small-kept (state_of s) (state_of (named_state s name what)) here.here.small refl refl (omega arith);
+          small = small-kept (state_of s) (state_of (named_state s name what)) here.here.small refl refl (omega arith) (λ p. omega (arith, p, deep)) (none-same s.table);
           own = here.here.own;
         };
         unit = goes.known;
@@ -123,7 +123,7 @@ module _ (T : Table) where
           here = record {
             known = goes.known.known;
             first = here.here.first;
-            small = small-kept (state_of s) (state_of r) here.here.small f.members f.defined (omega arith);
+            small = small-kept (state_of s) (state_of r) here.here.small f.members f.defined (omega arith) (λ p. let some = f.open_ in omega (arith, some)) (none-same s.table);
             own = own_at s.seen.scopes r.seen.scopes f.defined here.here.own;
           };
           unit = goes.known;
@@ -138,7 +138,7 @@ module _ (T : Table) where
     here = record {
       known = (static-goes g n s here.unit).known.known;
       first = here.here.first;
-      small = small-kept (state_of s) (state_of (static_state s g n)) here.here.small refl refl (omega arith);
+      small = small-kept (state_of s) (state_of (static_state s g n)) here.here.small refl refl (omega arith) (λ p. p) (none-same s.table);
       own = here.here.own;
     };
     unit = (static-goes g n s here.unit).known;

@@ -14,7 +14,7 @@ use Rattle.c_typing.specs.Scopes.{Name, Level, empty_level, entering, leaving, w
 use Rattle.c_typing_laws.proofs.JudgedDeclarators.{entered-judged, left-judged}
 use Rattle.c_typing_given.specs.Uses.{Use}
 use Rattle.c_typing_given.proofs.Settling.{small-kept}
-use Rattle.c_typing_given.proofs.TypeGiven.{lt_true}
+use Rattle.c_typing_given.proofs.TypeGiven.{lt_true, none-same}
 use Rattle.c_unit_typing.specs.Units.{Known, entering_known, leaving_known}
 use Rattle.c_unit_typing.specs.UnitJudged.{state_of}
 use Rattle.c_unit_typing.specs.UnitJudging.{UnitState, UnitJudging, UnitOutcome, Gives, Stops, next, lifted, ◌>>=◌}
@@ -70,7 +70,12 @@ module _ (T : Table) where
       let goes = (entered-judged true (state_of s) (state_of r) here.here.known (enter_is s)).1 in
       let was = here.open_ in
       record {
-        here = record { known = goes.known; first = here.here.first; small = small-kept (state_of s) (state_of r) here.here.small refl refl (low (length s.table)); own = here.here.own };
+        here = record {
+          known = goes.known;
+          first = here.here.first;
+          small = small-kept (state_of s) (state_of r) here.here.small refl refl (low (length s.table)) (λ p. omega (arith, length-append s.seen.scopes.levels (empty_level ∷ []))) (none-same s.table);
+          own = here.here.own;
+        };
         unit = (linkage-stays s r here.unit goes refl (low s.seen.node)).known;
         open_ = omega (arith, was, length-append s.seen.scopes.levels (empty_level ∷ []));
         homes = All-push (IsLevelBelow s.seen.node) s.seen.scopes.levels empty_level here.homes (All-nil (λ (e : Name × Declared). IsHomeBelow s.seen.node e.1));
@@ -82,7 +87,12 @@ module _ (T : Table) where
       let goes = (left-judged (Rattle.c_tree.specs.Places.nowhere) true true (state_of s) (state_of r) here.here.known
       (leave_is Rattle.c_tree.specs.Places.nowhere true s (two_levels s.seen.scopes.levels open_))).2 in
       record {
-        here = record { known = goes.known; first = here.here.first; small = small-kept (state_of s) (state_of r) here.here.small refl refl (low (length s.table)); own = here.here.own };
+        here = record {
+          known = goes.known;
+          first = here.here.first;
+          small = small-kept (state_of s) (state_of r) here.here.small refl refl (low (length s.table)) (λ p. omega (arith, open_)) (none-same s.table);
+          own = here.here.own;
+        };
         unit = (linkage-stays s r here.unit goes refl (low s.seen.node)).known;
         open_ = open_;
         homes = homes_outer s.seen.node s.seen.scopes.levels here.homes;

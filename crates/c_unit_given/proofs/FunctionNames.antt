@@ -1,8 +1,8 @@
 -- The names of the functions that a unit defines: none is a runtime function, and each has a number.
 use Rattle.std.proofs.Common.{◌≡◌, ◌≤◌, ◌<◌, ℕ, Bool, true, false, not, List, [], ◌∷◌, ◌++◌, length, Option, Some, None, refl, ap, sym, subst, ◌∙◌, bytes_eq, nat_lt, if◌then◌else◌, append_assoc, arith}
-use Rattle.std.specs.List.{All, position_or_len}
+use Rattle.std.specs.List.{All, Contains, position_or_len}
 use Rattle.std.proofs.lemmas.List.{map-append, length-append}
-use Rattle.std.proofs.lemmas.List.Elements.{All-nil, All-push, All-get_or}
+use Rattle.std.proofs.lemmas.List.Elements.{All-nil, All-push, All-get_or, All-contains}
 use Rattle.std.proofs.lemmas.List.Quantifiers.{position-Some}
 use Rattle.std.proofs.lemmas.Slice.Eq.{bytes_eq-Decides}
 use Rattle.c_types.specs.Table.{Table}
@@ -70,3 +70,12 @@ all-placed names few (typed.AndFunctionBody u x d brace body) rest e =
     let whole : names ≡ defined_names u ++ name ∷ rest =
     e ∙ (ap (λ (all : List Name). all ++ rest) (map-append name_in_bytes (functions_of u) (this ∷ [])) ∙ append_assoc (defined_names u) (name ∷ []) rest) in
     (all-placed names few u (name ∷ rest) whole, placed names (defined_names u) name rest whole few)
+
+numbers_placed : (names : List Name) (u : TypedTranslationUnit) → ArePlaced names u → All (λ (f : DefinedFunction). IsPlaced (place_among names (name_in_bytes f))) (functions_of u)
+numbers_placed names typed.NoExternal h = All-nil (λ (f : DefinedFunction). IsPlaced (place_among names (name_in_bytes f)))
+numbers_placed names (typed.AndExternal u d) h = numbers_placed names u h
+numbers_placed names (typed.AndFunctionBody u x d brace body) h =
+    All-push (λ (f : DefinedFunction). IsPlaced (place_among names (name_in_bytes f))) (functions_of u) (record { declarator = d; body = body }) (numbers_placed names u h.0) h.1
+
+pub function-placed : (names : List Name) (u : TypedTranslationUnit) → ArePlaced names u → (f : DefinedFunction) → Contains (functions_of u) f → IsPlaced (place_among names (name_in_bytes f))
+function-placed names u h f c = All-contains (λ (g : DefinedFunction). IsPlaced (place_among names (name_in_bytes g))) (functions_of u) f (numbers_placed names u h) c

@@ -18,3 +18,10 @@ mod LoopsGiven
 mod ForsGiven
 mod InitialisersGiven
 mod InitialiserTrees
+mod FirstTypes
+mod BeforeText
+mod FunctionNames
+mod UnitCosts
+mod MainGiven
+mod UnitsGiven
+mod WholeGiven

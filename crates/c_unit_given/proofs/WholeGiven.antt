@@ -30,9 +30,6 @@ use Rattle.c_unit_given.proofs.UnitsGiven.{IsDefinitionRun, unit-run}
 
 module _ (T : Table) (basic : IsBasic T) (exprs : AreExpressionsGiven T) (scopes : AreScopesKept T) (decls : AreDeclaratorsGiven T) (sizes : AreSizesWritten T)
     (whole : TypedTranslationUnit) (typed : IsWellTyped T whole) (limits : IsWithinLimits T whole) (countable : IsCountable T whole) where
-  names : List Name
-  names = defined_names whole
-
   few_names : length (defined_names whole) ≤ 65535
   few_names = let few = limits.functions in let count = length-map (functions_of whole) name_in_bytes in omega (arith, few, count)
 

@@ -27,20 +27,20 @@ use Rattle.c_unit_given.proofs.Runs.{Then, Stays, run-then, run-last, run-as, ru
 
 module _ (T : Table) (names : List Name) where
   -- a part of a unit that defines these functions
-  abbrev pub Among : (Known → Known → Type 0) → Known → Known → Type 0
-  Among P k k' = (k.scopes.defined ≡ names) × P k k'
+  abbrev pub OfUnit : (Known → Known → Type 0) → Known → Known → Type 0
+  OfUnit P k k' = (k.scopes.defined ≡ names) × P k k'
 
   -- a function with its body, whose name has a number
   abbrev pub IsDefinitionRun : Type 0
   IsDefinitionRun =
       (before : TypedTranslationUnit) (x : TypedSpecifiers) (form : TypedForm) (t : TypeId) (brace : Place) (body : TypedBlockItems) → IsPlaced (place_among names (bytes_of_name (name_of_form form)))
       → max (specifiers_holds (erased_specifiers x)) (max (declarator_holds (erased_form form)) (block_items_holds (erased_block_items body))) ≤ 256
-      → IsRun T Nothing Nothing (Among (IsDefinition T x form t body)) (made_by_specifiers x ++ made_by_form form t ++ made_by_block_items body)
+      → IsRun T Nothing Nothing (OfUnit (IsDefinition T x form t body)) (made_by_specifiers x ++ made_by_form form t ++ made_by_block_items body)
       (used_by_specifiers T x ++ used_by_declarator T Written (typed.Declares form t) ++ used_by_block_items T body)
       (judge_definition before (erased_specifiers x) (erased_form form) brace (erased_block_items body)) (typed.AndFunctionBody before x (typed.Declares form t) brace body)
 
   abbrev pub IsUnitRun : TypedTranslationUnit → Type 0
-  IsUnitRun u = IsRun T Nothing Nothing (Among (IsUnitTyped T u)) (made_by_unit u) (used_by_unit T u) (judge_unit (erased_unit u)) u
+  IsUnitRun u = IsRun T Nothing Nothing (OfUnit (IsUnitTyped T u)) (made_by_unit u) (used_by_unit T u) (judge_unit (erased_unit u)) u
 
   -- four parts, however they are joined
   four : {A : Type 0} (P : Known → Known → Type 0) (ws xs ys zs : List Made) (ts us vs qs : List Use) (m : UnitJudging A) (a : A)
@@ -56,7 +56,7 @@ module _ (T : Table) (names : List Name) where
     and_declaration_run : (u : TypedTranslationUnit) (d : TypedDeclaration) → max (unit_holds (erased_unit u)) (declaration_holds (erased_declaration d)) ≤ 256 → IsUnitRun u → IsUnitRun (typed.AndExternal u d)
     unfolding judge_unit
     and_declaration_run u d holds p =
-        let P = Among (IsUnitTyped T u) in
+        let P = OfUnit (IsUnitTyped T u) in
         let Q = IsDeclaration T true d in
         let xs = made_by_unit u in
         let ys = made_by_declaration d in
@@ -70,7 +70,7 @@ module _ (T : Table) (names : List Name) where
         (declaration-run T basic exprs scopes decls sizes d true few) in
         let last =
         run-last T (And Nothing Nothing) Nothing Nothing (λ J U x b w. w) Q ys vs (judge_declaration true (erased_declaration d)) give d (typed.AndExternal u d) one (λ r here w e. (refl, tt)) in
-        run-as T Nothing Nothing Nothing Nothing (Then P Q) (Among (IsUnitTyped T (typed.AndExternal u d))) (xs ++ ys) (us ++ vs) (judge_unit (erased_unit u) >>= rest) (typed.AndExternal u d)
+        run-as T Nothing Nothing Nothing Nothing (Then P Q) (OfUnit (IsUnitTyped T (typed.AndExternal u d))) (xs ++ ys) (us ++ vs) (judge_unit (erased_unit u) >>= rest) (typed.AndExternal u d)
         (λ J w. w) (λ J w. w) (λ k k' h. (h.1.0, (h.0, h.1.1), h.1.2))
         (run-then T Nothing Nothing Nothing nothing-kept P Q xs ys us vs (judge_unit (erased_unit u)) rest u (typed.AndExternal u d) p last)
 
@@ -79,8 +79,8 @@ module _ (T : Table) (names : List Name) where
         → IsPlaced (place_among names (bytes_of_name (name_of_form form))) → IsUnitRun u → IsUnitRun (typed.AndFunctionBody u x (typed.Declares form t) brace body)
     unfolding judge_unit
     and_function_run u x form t brace body holds placed p =
-        let P = Among (IsUnitTyped T u) in
-        let Q = Among (IsDefinition T x form t body) in
+        let P = OfUnit (IsUnitTyped T u) in
+        let Q = OfUnit (IsDefinition T x form t body) in
         let whole : TypedTranslationUnit = typed.AndFunctionBody u x (typed.Declares form t) brace body in
         let words = made_by_specifiers x in
         let own = made_by_form form t in
@@ -93,8 +93,8 @@ module _ (T : Table) (names : List Name) where
         let one =
         run-as T Nothing (And Nothing Nothing) Nothing Nothing Q Q (words ++ own ++ items) (us ++ vs ++ qs) (rest u) whole (λ J w. w.0) (λ J w. w) (λ a b w. w)
         (definitions u x form t brace body placed (right-held (unit_holds (erased_unit u)) most 256 holds)) in
-        four (Among (IsUnitTyped T whole)) (made_by_unit u) words own items (used_by_unit T u) us vs qs (judge_unit (erased_unit u) >>= rest) whole
-        (run-as T Nothing Nothing Nothing Nothing (Then P Q) (Among (IsUnitTyped T whole)) (made_by_unit u ++ (words ++ own ++ items)) (used_by_unit T u ++ (us ++ vs ++ qs))
+        four (OfUnit (IsUnitTyped T whole)) (made_by_unit u) words own items (used_by_unit T u) us vs qs (judge_unit (erased_unit u) >>= rest) whole
+        (run-as T Nothing Nothing Nothing Nothing (Then P Q) (OfUnit (IsUnitTyped T whole)) (made_by_unit u ++ (words ++ own ++ items)) (used_by_unit T u ++ (us ++ vs ++ qs))
         (judge_unit (erased_unit u) >>= rest) whole (λ J w. w) (λ J w. w) (λ k k' h. (h.1.0, (h.0, h.1.1), (unit-defined T u k h.1.0 h.1.1 ∙ h.0, h.1.2)))
         (run-then T Nothing Nothing Nothing nothing-kept P Q (made_by_unit u) (words ++ own ++ items) (used_by_unit T u) (us ++ vs ++ qs) (judge_unit (erased_unit u)) rest u whole p one))
 
@@ -102,7 +102,7 @@ module _ (T : Table) (names : List Name) where
     pub unit-run : (u : TypedTranslationUnit) → unit_holds (erased_unit u) ≤ 256 → ArePlaced names u → IsUnitRun u
     unfolding judge_unit
     unit-run typed.NoExternal holds placed =
-        run-as T Nothing Nothing Nothing Nothing Stays (Among (IsUnitTyped T typed.NoExternal)) [] [] (pure typed.NoExternal) typed.NoExternal (λ J w. w) (λ J w. w) (λ k k' h. h.1)
+        run-as T Nothing Nothing Nothing Nothing Stays (OfUnit (IsUnitTyped T typed.NoExternal)) [] [] (pure typed.NoExternal) typed.NoExternal (λ J w. w) (λ J w. w) (λ k k' h. h.1)
         (run-none T Nothing Nothing (pure typed.NoExternal) typed.NoExternal (λ s here w. (refl, tt)))
     unit-run (typed.AndExternal u d) holds placed =
         and_declaration_run u d holds (unit-run u (left-held (unit_holds (erased_unit u)) (declaration_holds (erased_declaration d)) 256 holds) placed)

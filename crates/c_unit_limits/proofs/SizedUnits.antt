@@ -1,5 +1,5 @@
 -- Each literal in a well typed unit has the size of its type.
-use Rattle.std.proofs.Common.{Bool, false, [], ◌∷◌, ◌++◌, Option, Some, None}
+use Rattle.std.proofs.Common.{Bool, true, false, [], ◌∷◌, ◌++◌, Option, Some, None}
 use Rattle.cc_base.specs.declared.number.TypeId.{TypeId}
 use Rattle.c_types.specs.Sound.{IsWellFormed}
 use Rattle.c_types.specs.Table.{Table}

@@ -85,20 +85,21 @@ module _ (T : Table) (k k' : Known) (name : scopes.Name) (t : TypeId) where
 abbrev pub IsMadeBetween : ℕ → ℕ → Home → Type 0
 IsMadeBetween a b (home.Static m) = (a ≤ m.0) × (m.0 < b)
 IsMadeBetween a b (home.Local m) = (a ≤ m.0) × (m.0 < b)
+IsMadeBetween a b (home.Parameter m) = (a ≤ m.0) × (m.0 < b)
 IsMadeBetween a b h = Unit {0}
 
 wider : (a b c d : ℕ) (h : Home) → c ≤ a → b ≤ d → IsMadeBetween a b h → IsMadeBetween c d h
 wider a b c d (home.Static m) p q h = let l = h.0 in let r = h.1 in (omega (arith, p, l), omega (arith, q, r))
 wider a b c d (home.Local m) p q h = let l = h.0 in let r = h.1 in (omega (arith, p, l), omega (arith, q, r))
 wider a b c d home.None p q h = tt
-wider a b c d (home.Parameter m) p q h = tt
+wider a b c d (home.Parameter m) p q h = let l = h.0 in let r = h.1 in (omega (arith, p, l), omega (arith, q, r))
 wider a b c d (home.Known m) p q h = tt
 
 named_between : (name : _) (h : Home) (t : TypeId) (a b : ℕ) → Numbers (Name name h t ∷ []) a b → IsMadeBetween a b h
 named_between name (home.Static m) t a b n = let e = n.0 in let f = n.1 in (omega (arith, e), omega (arith, e, f))
 named_between name (home.Local m) t a b n = let e = n.0 in let f = n.1 in (omega (arith, e), omega (arith, e, f))
 named_between name home.None t a b n = tt
-named_between name (home.Parameter m) t a b n = tt
+named_between name (home.Parameter m) t a b n = let e = n.0 in let f = n.1 in (omega (arith, e), omega (arith, e, f))
 named_between name (home.Known m) t a b n = tt
 
 mutual

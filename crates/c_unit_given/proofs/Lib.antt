@@ -1,4 +1,6 @@
 mod UnitRoom
+mod LevelsBelow
+mod InnermostNames
 mod Runs
 mod Texts
 mod CellsCounted
@@ -25,3 +27,8 @@ mod UnitCosts
 mod MainGiven
 mod UnitsGiven
 mod WholeGiven
+mod ScopesKept
+mod ParametersDeclared
+mod ParameterNames
+mod FunctionsDefined
+mod DefinitionsGiven

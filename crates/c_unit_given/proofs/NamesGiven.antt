@@ -1,7 +1,5 @@
 -- Names are declared as the tree has them: a state after it, and what is counted.
-use Rattle.std.proofs.Common.{◌≡◌, ◌≤◌, ◌<◌, ◌+◌, ℕ, Bool, true, List, [], ◌∷◌, length, Option, Some, None, refl, ap, sym, ◌∙◌, if◌then◌else◌, arith}
-use Rattle.std.specs.List.{All}
-use Rattle.std.proofs.lemmas.List.Elements.{All-head, All-tail, All-cons, All-nil, All-push}
+use Rattle.std.proofs.Common.{◌≡◌, ◌≤◌, ◌<◌, ◌+◌, ℕ, Bool, true, List, length, Option, Some, None, refl, ap, sym, ◌∙◌, if◌then◌else◌, arith}
 use Rattle.cc_base.specs.declared.number.NodeId.{NodeId}
 use Rattle.cc_base.specs.declared.number.TypeId.{TypeId}
 use Rattle.cc_base.specs.declared.place.Place.{Place}
@@ -13,9 +11,10 @@ use Rattle.c_tree.specs.declared.typed_word.Home.TheVariants as home
 use Rattle.c_typing.specs.declared.declared.Declared.{Declared}
 use Rattle.c_typing.specs.declared.declared.Declared.TheVariants as declared
 use Rattle.c_typing.specs.Assignments.{count_global}
-use Rattle.c_typing.specs.Scopes.{Name, Level, Scopes, here, entry_of, at_innermost, with_name, without_innermost, declaring, place_among, is_complete_at}
+use Rattle.c_typing.specs.Scopes.{Name, Scopes, here, entry_of, with_name, without_innermost, declaring, place_among, is_complete_at}
 use Rattle.c_typing.specs.Settled.{IsThere}
 use Rattle.c_typing_unique.specs.Sameness.{HasOwnFunctions}
+use Rattle.c_typing_given.proofs.LevelsKept.{length-innermost}
 use Rattle.c_typing_given.proofs.Settling.{small-kept}
 use Rattle.c_typing_given.proofs.TypeGiven.{le_true, none-same}
 use Rattle.c_rules_alike.proofs.TypesAlike.{complete-over}
@@ -28,32 +27,8 @@ use Rattle.c_unit_typing.specs.UnitJudging.{UnitState, UnitOutcome, Gives, known
 use Rattle.c_unit_typing.proofs.KeptInitialisers.{complete-kept}
 use Rattle.c_unit_typing.proofs.NameSteps.{named_state, linked_state, static_state, named-goes, linked-goes, static-goes}
 use Rattle.c_unit_given.specs.UnitGiven.{IsHomeBelow, AreHomesBelow, IsUnitHere}
+use Rattle.c_unit_given.proofs.LevelsBelow.{outer-same, homes-more}
 use Rattle.c_unit_given.proofs.Runs.{then-is}
-
--- Scopes
-
-pub outer-same : (f : Level → Level) (ls : List Level) → without_innermost (at_innermost f ls) ≡ without_innermost ls
-outer-same f [] = refl
-outer-same f (l ∷ []) = refl
-outer-same f (l ∷ (m ∷ [])) = refl
-outer-same f (l ∷ (m ∷ (n ∷ ls))) = ap (λ (rest : List Level). l ∷ rest) (outer-same f (m ∷ (n ∷ ls)))
-
-pub deep-same : (f : Level → Level) (ls : List Level) → length (at_innermost f ls) ≡ length ls
-deep-same f [] = refl
-deep-same f (l ∷ []) = refl
-deep-same f (l ∷ (m ∷ ls)) = let h = deep-same f (m ∷ ls) in omega (arith, h)
-
-abbrev IsLevelBelow : ℕ → Level → Type 0
-IsLevelBelow n l = All (λ (e : Name × Declared). IsHomeBelow n e.1) l.names
-
-pub homes-more : (n : ℕ) (name : Name) (what : Declared) (ls : List Level) → IsHomeBelow n what → AreHomesBelow n ls → AreHomesBelow n (at_innermost (with_name name what) ls)
-homes-more n name what [] h k = k
-homes-more n name what (l ∷ []) h k =
-    All-cons (IsLevelBelow n) (with_name name what l) [] (All-push (λ (e : Name × Declared). IsHomeBelow n e.1) l.names (name, what) (All-head (IsLevelBelow n) l [] k) h)
-    (All-nil (IsLevelBelow n))
-homes-more n name what (l ∷ (m ∷ ls)) h k =
-    All-cons (IsLevelBelow n) l (at_innermost (with_name name what) (m ∷ ls)) (All-head (IsLevelBelow n) l (m ∷ ls) k)
-    (homes-more n name what (m ∷ ls) h (All-tail (IsLevelBelow n) l (m ∷ ls) k))
 
 -- the bytes of an object that lives as long as the program, with 16 more
 abbrev pub home_cost : Table → Home → TypeId → ℕ
@@ -77,7 +52,7 @@ module _ (T : Table) where
   named_here : (s : UnitState) (name : Name) (what : Declared) → IsUnitHere T s → UnitGoesOn s (named_state s name what) → IsHomeBelow s.seen.node what → IsUnitHere T (named_state s name what)
   named_here s name what here goes low =
       let was = here.open_ in
-      let deep = deep-same (with_name name what) s.seen.scopes.levels in
+      let deep = length-innermost (with_name name what) s.seen.scopes.levels in
       record {
         here = record {
           known = goes.known.known;
@@ -101,7 +76,7 @@ module _ (T : Table) where
   unless_after : (s : UnitState) (name : Name) (what : Declared) → IsUnitHere T s → IsHomeBelow s.seen.node what → (o : Option Declared) → IsScopeAfter s (unless_here o name what s.seen.scopes)
   unless_after s name what here low None =
       let was = here.open_ in
-      let deep = deep-same (with_name name what) s.seen.scopes.levels in
+      let deep = length-innermost (with_name name what) s.seen.scopes.levels in
       record {
         open_ = omega (arith, was, deep);
         homes = homes-more s.seen.node name what s.seen.scopes.levels low here.homes;

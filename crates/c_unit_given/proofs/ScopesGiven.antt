@@ -1,8 +1,7 @@
 -- What is judged in a scope of its own is given.
-use Rattle.std.proofs.Common.{◌≡◌, ◌≤◌, ◌<◌, ℕ, true, List, [], ◌∷◌, ◌++◌, length, refl, ap, sym, subst, ◌∙◌, arith}
-use Rattle.std.specs.List.{All}
+use Rattle.std.proofs.Common.{◌≡◌, ◌≤◌, ◌<◌, ℕ, true, List, [], ◌∷◌, length, refl, ap, sym, subst, ◌∙◌, arith}
 use Rattle.std.proofs.lemmas.List.{length-append}
-use Rattle.std.proofs.lemmas.List.Elements.{All-head, All-tail, All-cons, All-nil, All-push}
+use Rattle.std.proofs.lemmas.List.Elements.{All-nil, All-push}
 use Rattle.cc_base.specs.declared.place.Place.{Place}
 use Rattle.c_types.specs.Table.{Table}
 use Rattle.c_tree.specs.TypedParts.{Made}
@@ -19,36 +18,23 @@ use Rattle.c_unit_typing.specs.Units.{Known, entering_known, leaving_known}
 use Rattle.c_unit_typing.specs.UnitJudged.{state_of}
 use Rattle.c_unit_typing.specs.UnitJudging.{UnitState, UnitJudging, UnitOutcome, Gives, Stops, next, lifted, ◌>>=◌}
 use Rattle.c_unit_typing.proofs.UnitStates.{linkage-stays}
-use Rattle.c_unit_given.specs.UnitGiven.{IsHomeBelow, AreHomesBelow, IsUnitHere, IsRun}
+use Rattle.c_unit_given.specs.UnitGiven.{IsHomeBelow, IsUnitHere, IsUnitGivenAs, IsRun}
+use Rattle.c_unit_given.proofs.LevelsBelow.{IsLevelBelow, outer-of, homes-outer}
 use Rattle.c_unit_given.proofs.Runs.{then-is, lifted-is}
 
 -- Levels
-
-outer_of : (ls : List Level) (l : Level) → without_innermost (ls ++ l ∷ []) ≡ ls
-outer_of [] l = refl
-outer_of (m ∷ []) l = refl
-outer_of (m ∷ (k ∷ ls)) l = ap (λ (rest : List Level). m ∷ rest) (outer_of (k ∷ ls) l)
 
 two_levels : (ls : List Level) → 1 ≤ length (without_innermost ls) → 1 < length ls
 two_levels [] h = omega (arith, h)
 two_levels (l ∷ []) h = omega (arith, h)
 two_levels (l ∷ (m ∷ ls)) h = omega arith
 
-abbrev IsLevelBelow : ℕ → Level → Type 0
-IsLevelBelow n l = All (λ (e : Name × Declared). IsHomeBelow n e.1) l.names
-
-homes_outer : (n : ℕ) (ls : List Level) → AreHomesBelow n ls → AreHomesBelow n (without_innermost ls)
-homes_outer n [] h = h
-homes_outer n (l ∷ []) h = All-nil (IsLevelBelow n)
-homes_outer n (l ∷ (m ∷ ls)) h =
-    All-cons (IsLevelBelow n) l (without_innermost (m ∷ ls)) (All-head (IsLevelBelow n) l (m ∷ ls) h) (homes_outer n (m ∷ ls) (All-tail (IsLevelBelow n) l (m ∷ ls) h))
-
 low : (n : ℕ) → n ≤ n
 low n = omega arith
 
 -- States
 
-abbrev in_scopes : (scopes.Scopes → scopes.Scopes) → UnitState → UnitState
+abbrev pub in_scopes : (scopes.Scopes → scopes.Scopes) → UnitState → UnitState
 in_scopes change s = record s { seen = scopes.with_scopes s.seen (change s.seen.scopes) }
 
 enter_is : (s : UnitState) → entered (state_of s) ≡ Rattle.c_typing.specs.Judging.Gives true (state_of (in_scopes entering s))
@@ -64,8 +50,8 @@ bind-assoc (Gives a s) f g = refl
 bind-assoc (Stops x s) f g = refl
 
 module _ (T : Table) where
-  enter_here : (s : UnitState) → IsUnitHere T s → IsUnitHere T (in_scopes entering s)
-  enter_here s here =
+  pub enter-here : (s : UnitState) → IsUnitHere T s → IsUnitHere T (in_scopes entering s)
+  enter-here s here =
       let r : UnitState = in_scopes entering s in
       let goes = (entered-judged true (state_of s) (state_of r) here.here.known (enter_is s)).1 in
       let was = here.open_ in
@@ -95,20 +81,21 @@ module _ (T : Table) where
         };
         unit = (linkage-stays s r here.unit goes refl (low s.seen.node)).known;
         open_ = open_;
-        homes = homes_outer s.seen.node s.seen.scopes.levels here.homes;
+        homes = homes-outer s.seen.node s.seen.scopes.levels here.homes;
       }
 
   -- what is known outside of a scope, where so much is known inside
   abbrev pub Inside : (Known → Known → Type 0) → Known → Known → Type 0
   Inside P k k' = (l : Known) × P (entering_known k) l × (k' ≡ leaving_known l)
 
-  pub scoped-run : {A B : Type 0} (N G : Table → Type 0) (P : Known → Known → Type 0) (made : List Made) (uses : List Use) (m : UnitJudging A) (a : A) (at : Place) (g : A → B)
-      → IsRun T N G P made uses m a → IsRun T N G (Inside P) made uses (lifted entered >>= (λ inside. m >>= (λ x. lifted (left at (g x))))) (g a)
-  scoped-run N G P made uses m a at g p s k n count here needs h numbers used room =
+  -- a part is judged in a scope of its own: it is given from the state inside
+  pub scoped-given : {A B : Type 0} (G : Table → Type 0) (made : List Made) (m : UnitJudging A) (a : A) (at : Place) (g : A → B) (s : UnitState) (l k : Known) (n count : ℕ) → IsUnitHere T s
+      → IsUnitGivenAs T G made (m (in_scopes entering s)) a (in_scopes entering s) l n count → k ≡ leaving_known l
+      → IsUnitGivenAs T G made ((lifted entered >>= (λ inside. m >>= (λ x. lifted (left at (g x))))) s) (g a) s k n count
+  scoped-given G made m a at g s l k n count here one leaves =
       let s1 : UnitState = in_scopes entering s in
-      let one = p s1 h.0 n count (enter_here s here) needs h.1 numbers used (record { nodes = room.nodes; globals = room.globals; cells = room.cells }) in
       let r : UnitState = one.after in
-      let outer : without_innermost r.seen.scopes.levels ≡ s.seen.scopes.levels = one.reached.outer ∙ outer_of s.seen.scopes.levels empty_level in
+      let outer : without_innermost r.seen.scopes.levels ≡ s.seen.scopes.levels = one.reached.outer ∙ outer-of s.seen.scopes.levels empty_level in
       let was = here.open_ in
       let open_ : 1 ≤ length (without_innermost r.seen.scopes.levels) = subst (λ (ls : List Level). 1 ≤ length ls) (sym outer) was in
       let after : UnitState = in_scopes leaving r in
@@ -120,7 +107,7 @@ module _ (T : Table) where
         reached = record {
           here = leave_here r one.reached.here open_;
           grown = one.reached.grown;
-          known = ap leaving_known one.reached.known ∙ sym h.2;
+          known = ap leaving_known one.reached.known ∙ sym leaves;
           node = one.reached.node;
           types = one.reached.types;
           outer = ap without_innermost outer;
@@ -128,3 +115,9 @@ module _ (T : Table) where
         };
         gains = one.gains;
       }
+
+  pub scoped-run : {A B : Type 0} (N G : Table → Type 0) (P : Known → Known → Type 0) (made : List Made) (uses : List Use) (m : UnitJudging A) (a : A) (at : Place) (g : A → B)
+      → IsRun T N G P made uses m a → IsRun T N G (Inside P) made uses (lifted entered >>= (λ inside. m >>= (λ x. lifted (left at (g x))))) (g a)
+  scoped-run N G P made uses m a at g p s k n count here needs h numbers used room =
+      scoped-given G made m a at g s h.0 k n count here
+      (p (in_scopes entering s) h.0 n count (enter-here s here) needs h.1 numbers used (record { nodes = room.nodes; globals = room.globals; cells = room.cells })) h.2

@@ -1,0 +1,40 @@
+-- The outer scopes and the homes of objects where the innermost scope changes, and where one is entered or left.
+use Rattle.std.proofs.Common.{◌≡◌, ℕ, List, [], ◌∷◌, ◌++◌, refl, ap}
+use Rattle.std.specs.List.{All}
+use Rattle.std.proofs.lemmas.List.Elements.{All-head, All-tail, All-cons, All-nil, All-push}
+use Rattle.c_typing.specs.declared.declared.Declared.{Declared}
+use Rattle.c_typing.specs.Scopes.{Name, Level, at_innermost, with_name, without_innermost}
+use Rattle.c_unit_given.specs.UnitGiven.{IsHomeBelow, AreHomesBelow}
+
+pub outer-same : (f : Level → Level) (ls : List Level) → without_innermost (at_innermost f ls) ≡ without_innermost ls
+outer-same f [] = refl
+outer-same f (l ∷ []) = refl
+outer-same f (l ∷ (m ∷ [])) = refl
+outer-same f (l ∷ (m ∷ (n ∷ ls))) = ap (λ (rest : List Level). l ∷ rest) (outer-same f (m ∷ (n ∷ ls)))
+
+pub outer-of : (ls : List Level) (l : Level) → without_innermost (ls ++ l ∷ []) ≡ ls
+outer-of [] l = refl
+outer-of (m ∷ []) l = refl
+outer-of (m ∷ (k ∷ ls)) l = ap (λ (rest : List Level). m ∷ rest) (outer-of (k ∷ ls) l)
+
+abbrev pub IsLevelBelow : ℕ → Level → Type 0
+IsLevelBelow n l = All (λ (e : Name × Declared). IsHomeBelow n e.1) l.names
+
+pub homes-changed : (n : ℕ) (f : Level → Level) → ((l : Level) → IsLevelBelow n l → IsLevelBelow n (f l)) → (ls : List Level) → AreHomesBelow n ls → AreHomesBelow n (at_innermost f ls)
+homes-changed n f more [] h = h
+homes-changed n f more (l ∷ []) h = All-cons (IsLevelBelow n) (f l) [] (more l (All-head (IsLevelBelow n) l [] h)) (All-nil (IsLevelBelow n))
+homes-changed n f more (l ∷ (m ∷ ls)) h =
+    All-cons (IsLevelBelow n) l (at_innermost f (m ∷ ls)) (All-head (IsLevelBelow n) l (m ∷ ls) h)
+    (homes-changed n f more (m ∷ ls) (All-tail (IsLevelBelow n) l (m ∷ ls) h))
+
+pub level-more : (n : ℕ) (name : Name) (what : Declared) (l : Level) → IsHomeBelow n what → IsLevelBelow n l → IsLevelBelow n (with_name name what l)
+level-more n name what l h own = All-push (λ (e : Name × Declared). IsHomeBelow n e.1) l.names (name, what) own h
+
+pub homes-more : (n : ℕ) (name : Name) (what : Declared) (ls : List Level) → IsHomeBelow n what → AreHomesBelow n ls → AreHomesBelow n (at_innermost (with_name name what) ls)
+homes-more n name what ls h below = homes-changed n (with_name name what) (λ l own. level-more n name what l h own) ls below
+
+pub homes-outer : (n : ℕ) (ls : List Level) → AreHomesBelow n ls → AreHomesBelow n (without_innermost ls)
+homes-outer n [] h = h
+homes-outer n (l ∷ []) h = All-nil (IsLevelBelow n)
+homes-outer n (l ∷ (m ∷ ls)) h =
+    All-cons (IsLevelBelow n) l (without_innermost (m ∷ ls)) (All-head (IsLevelBelow n) l (m ∷ ls) h) (homes-outer n (m ∷ ls) (All-tail (IsLevelBelow n) l (m ∷ ls) h))

@@ -1,7 +1,7 @@
--- The names of the functions that a unit defines: none is a runtime function, and each has a number.
-use Rattle.std.proofs.Common.{◌≡◌, ◌≤◌, ◌<◌, ℕ, Bool, true, false, not, List, [], ◌∷◌, ◌++◌, length, Option, Some, None, refl, ap, sym, subst, ◌∙◌, bytes_eq, nat_lt, if◌then◌else◌, append_assoc, arith}
-use Rattle.std.specs.List.{All, Contains, position_or_len}
-use Rattle.std.proofs.lemmas.List.{map-append, length-append}
+-- The names of the functions that a unit defines: none is a runtime function.
+use Rattle.std.proofs.Common.{◌≡◌, ℕ, Bool, true, false, ◌||◌, List, [], ◌∷◌, ◌++◌, Some, refl, ap, sym, subst, ◌∙◌, bytes_eq, append_assoc}
+use Rattle.std.specs.List.{All, Contains}
+use Rattle.std.proofs.lemmas.List.{map-append}
 use Rattle.std.proofs.lemmas.List.Elements.{All-nil, All-push, All-get_or, All-contains}
 use Rattle.std.proofs.lemmas.List.Quantifiers.{position-Some}
 use Rattle.std.proofs.lemmas.Slice.Eq.{bytes_eq-Decides}
@@ -11,10 +11,8 @@ use Rattle.c_tree.specs.TypedTree.{TypedTranslationUnit}
 use Rattle.c_tree.specs.TypedParts.{DefinedFunction, functions_of, name_of, name_of_form}
 use Rattle.runtime_calls.specs.Prototypes.{IsNoName}
 use Rattle.c_typing.specs.Scopes.{Name, place_among}
-use Rattle.c_typing_given.proofs.TypeGiven.{lt_true}
-use Rattle.c_unit_typing.specs.Units.{Known, bytes_of_name, IsUnitTyped}
+use Rattle.c_unit_typing.specs.Units.{Known, is_one_of, bytes_of_name, IsUnitTyped}
 use Rattle.c_unit_typing.specs.WellTyped.{defined_names}
-use Rattle.c_unit_typing.proofs.JudgedDefinitions.{IsPlaced}
 use Rattle.c_unit_typing.proofs.JudgedUnits.{name_in_bytes}
 
 -- none is a runtime function
@@ -32,50 +30,39 @@ place-own names own name number h =
     let at = position-Some (bytes_eq name) names number [] h in
     subst IsNoName (sym ((bytes_eq-Decides name _).0 at.1)) (All-get_or IsNoName names number [] at.0 own)
 
--- each has a number
+-- each is one of them
 
-place_most : (before : List Name) (name : Name) (rest : List Name) → position_or_len (bytes_eq name) (before ++ name ∷ rest) ≤ length before
-place_most [] name rest = rw ((bytes_eq-Decides name name).1 refl) (omega arith)
-place_most (other ∷ before) name rest = by (bytes_eq name other) (place_most before name rest)
-  where
-    by : (b : Bool) → position_or_len (bytes_eq name) (before ++ name ∷ rest) ≤ length before
-        → (if not b then 1 + position_or_len (bytes_eq name) (before ++ name ∷ rest) else 0) ≤ length (other ∷ before)
-    by true h = omega arith
-    by false h = omega (arith, h)
+or_true : (a b : Bool) → b ≡ true → (a || b) ≡ true
+or_true true b h = refl
+or_true false b h = h
 
-placed_by : (p n : ℕ) → p < n → (if nat_lt p n then Some p else None) ≡ Some p
-placed_by p n h = ap (λ (b : Bool). if b then Some p else None) (lt_true p n h)
+among_own : (before : List Name) (name : Name) (rest : List Name) → is_one_of (before ++ name ∷ rest) name ≡ true
+among_own [] name rest = ap (λ (b : Bool). b || is_one_of rest name) ((bytes_eq-Decides name name).1 refl)
+among_own (other ∷ before) name rest = or_true (bytes_eq name other) (is_one_of (before ++ name ∷ rest) name) (among_own before name rest)
 
-placed : (names before : List Name) (name : Name) (rest : List Name) → names ≡ before ++ name ∷ rest → length names ≤ 65535 → IsPlaced (place_among names name)
-placed names before name rest e few =
-    let p : ℕ = position_or_len (bytes_eq name) names in
-    let most : p ≤ length before = subst (λ (all : List Name). position_or_len (bytes_eq name) all ≤ length before) (sym e) (place_most before name rest) in
-    let count : length names ≡ length (before ++ name ∷ rest) = ap length e in
-    let both = length-append before (name ∷ rest) in
-    let below : p < length names = omega (arith, most, count, both) in
-    (p, placed_by p (length names) below, omega (arith, below, few))
+-- the functions that the unit defines are among these
+abbrev pub AreAmong : List Name → TypedTranslationUnit → Type 0
+AreAmong names typed.NoExternal = Unit {0}
+AreAmong names (typed.AndExternal u d) = AreAmong names u
+AreAmong names (typed.AndFunctionBody u x d brace body) = AreAmong names u × (is_one_of names (bytes_of_name (name_of d)) ≡ true)
 
--- the number of each function that the unit defines is below the limit
-abbrev pub ArePlaced : List Name → TypedTranslationUnit → Type 0
-ArePlaced names typed.NoExternal = Unit {0}
-ArePlaced names (typed.AndExternal u d) = ArePlaced names u
-ArePlaced names (typed.AndFunctionBody u x d brace body) = ArePlaced names u × IsPlaced (place_among names (bytes_of_name (name_of d)))
-
-pub all-placed : (names : List Name) → length names ≤ 65535 → (u : TypedTranslationUnit) (rest : List Name) → names ≡ defined_names u ++ rest → ArePlaced names u
-all-placed names few typed.NoExternal rest e = tt
-all-placed names few (typed.AndExternal u d) rest e = all-placed names few u rest e
-all-placed names few (typed.AndFunctionBody u x d brace body) rest e =
+pub all-among : (names : List Name) (u : TypedTranslationUnit) (rest : List Name) → names ≡ defined_names u ++ rest → AreAmong names u
+all-among names typed.NoExternal rest e = tt
+all-among names (typed.AndExternal u d) rest e = all-among names u rest e
+all-among names (typed.AndFunctionBody u x d brace body) rest e =
     let this : DefinedFunction = record { declarator = d; body = body } in
     let name : Name = bytes_of_name (name_of d) in
     let whole : names ≡ defined_names u ++ name ∷ rest =
     e ∙ (ap (λ (all : List Name). all ++ rest) (map-append name_in_bytes (functions_of u) (this ∷ [])) ∙ append_assoc (defined_names u) (name ∷ []) rest) in
-    (all-placed names few u (name ∷ rest) whole, placed names (defined_names u) name rest whole few)
+    (all-among names u (name ∷ rest) whole, ap (λ (all : List Name). is_one_of all name) whole ∙ among_own (defined_names u) name rest)
 
-numbers_placed : (names : List Name) (u : TypedTranslationUnit) → ArePlaced names u → All (λ (f : DefinedFunction). IsPlaced (place_among names (name_in_bytes f))) (functions_of u)
-numbers_placed names typed.NoExternal h = All-nil (λ (f : DefinedFunction). IsPlaced (place_among names (name_in_bytes f)))
-numbers_placed names (typed.AndExternal u d) h = numbers_placed names u h
-numbers_placed names (typed.AndFunctionBody u x d brace body) h =
-    All-push (λ (f : DefinedFunction). IsPlaced (place_among names (name_in_bytes f))) (functions_of u) (record { declarator = d; body = body }) (numbers_placed names u h.0) h.1
+abbrev IsAmong : List Name → DefinedFunction → Type 0
+IsAmong names f = is_one_of names (name_in_bytes f) ≡ true
 
-pub function-placed : (names : List Name) (u : TypedTranslationUnit) → ArePlaced names u → (f : DefinedFunction) → Contains (functions_of u) f → IsPlaced (place_among names (name_in_bytes f))
-function-placed names u h f c = All-contains (λ (g : DefinedFunction). IsPlaced (place_among names (name_in_bytes g))) (functions_of u) f (numbers_placed names u h) c
+each_among : (names : List Name) (u : TypedTranslationUnit) → AreAmong names u → All (IsAmong names) (functions_of u)
+each_among names typed.NoExternal h = All-nil (IsAmong names)
+each_among names (typed.AndExternal u d) h = each_among names u h
+each_among names (typed.AndFunctionBody u x d brace body) h = All-push (IsAmong names) (functions_of u) (record { declarator = d; body = body }) (each_among names u h.0) h.1
+
+pub function-among : (names : List Name) (u : TypedTranslationUnit) → AreAmong names u → (f : DefinedFunction) → Contains (functions_of u) f → is_one_of names (name_in_bytes f) ≡ true
+function-among names u h f c = All-contains (IsAmong names) (functions_of u) f (each_among names u h) c

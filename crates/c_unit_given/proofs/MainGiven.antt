@@ -28,7 +28,8 @@ use Rattle.c_unit_typing.specs.UnitRefusals.{is_integer_of, start_of_text}
 use Rattle.c_unit_typing.specs.WellTyped.{HasMain}
 use Rattle.c_unit_typing.proofs.JudgedUnits.{name_in_bytes, IsFunctionHere, IsWholeJudged}
 use Rattle.c_unit_typing.proofs.NameSteps.{linked-there}
-use Rattle.c_unit_given.proofs.FunctionNames.{ArePlaced, function-placed}
+use Rattle.c_unit_given.proofs.FunctionNames.{AreAmong, function-among}
+use Rattle.c_unit_given.proofs.FunctionsDefined.{placed}
 
 -- The type of `main`
 
@@ -65,7 +66,7 @@ module _ (T : Table) where
 
 -- what judging has of a whole unit passes the test of `main`
 pub main-passes : (T : Table) (u : tree.TranslationUnit) (whole : TypedTranslationUnit) (s r : UnitState) → IsExtended r.table T → IsUnitKnown r → IsWholeJudged u whole s r → HasMain T whole
-    → ArePlaced r.seen.scopes.defined whole → first_broken (main_tests r) ≡ None
+    → AreAmong r.seen.scopes.defined whole → first_broken (main_tests r) ≡ None
 main-passes T u whole s r x k w m p =
     let t : TypeId = declared_type m.main.declarator in
     let here = All-contains (IsFunctionHere r) (functions_of whole) m.main w.functions m.there in
@@ -79,7 +80,7 @@ main-passes T u whole s r x k w m p =
     let linked : is_main r.table (entry_of r.linkage.linked (codes "main")) ≡ true =
     is_main-over r.table T x k.known.basic (entry_of r.linkage.linked (codes "main")) (linked-if r k (codes "main"))
     ∙ (ap (is_main T) found ∙ main_same T first t m.result m.shape.1 m.gives.1 same) in
-    let place = function-placed r.seen.scopes.defined whole p m.main m.there in
+    let place = placed r.seen.scopes.defined (name_in_bytes m.main) (function-among r.seen.scopes.defined whole p m.main m.there) in
     let defined : has_some (place_among r.seen.scopes.defined (codes "main")) ≡ true =
     ap has_some (ap (λ (name : Name). place_among r.seen.scopes.defined name) (sym m.named) ∙ place.1) in
     let both : (is_main r.table (entry_of r.linkage.linked (codes "main")) && has_some (place_among r.seen.scopes.defined (codes "main"))) ≡ true = (λ i. linked i && defined i) in

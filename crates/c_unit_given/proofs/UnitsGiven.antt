@@ -8,21 +8,20 @@ use Rattle.c_tree.specs.TypedTree as typed
 use Rattle.c_tree.specs.TypedTree.{TypedSpecifiers, TypedForm, TypedDeclaration, TypedBlockItems, TypedTranslationUnit}
 use Rattle.c_tree.specs.TypedParts.{Made, name_of_form, made_by_specifiers, made_by_form, made_by_declaration, made_by_block_items, made_by_unit}
 use Rattle.c_typing.specs.Declarators.{Written}
-use Rattle.c_typing.specs.Scopes.{Name, place_among}
+use Rattle.c_typing.specs.Scopes.{Name}
 use Rattle.c_typing.specs.Settled.{IsBasic}
 use Rattle.c_typing_given.specs.Uses.{Use, used_by_specifiers, used_by_declarator}
 use Rattle.c_unit_typing.specs.DeclarationJudging.{judge_declaration}
 use Rattle.c_unit_typing.specs.DefinitionJudging.{judge_definition, judge_unit}
 use Rattle.c_unit_typing.specs.Holding.{specifiers_holds, declarator_holds, declaration_holds, block_items_holds, unit_holds}
-use Rattle.c_unit_typing.specs.Units.{Known, bytes_of_name, IsDeclaration, IsDefinition, IsUnitTyped}
+use Rattle.c_unit_typing.specs.Units.{Known, is_one_of, bytes_of_name, IsDeclaration, IsDefinition, IsUnitTyped}
 use Rattle.c_unit_typing.specs.UnitJudging.{UnitJudging, pure, ◌>>=◌}
-use Rattle.c_unit_typing.proofs.JudgedDefinitions.{IsPlaced}
 use Rattle.c_unit_typing.proofs.UnitStillDefined.{unit-defined}
 use Rattle.c_unit_given.specs.UnitGiven.{AreSizesWritten, IsRun, Nothing, And, AreScopesKept, AreExpressionsGiven, AreDeclaratorsGiven}
 use Rattle.c_unit_given.specs.UnitUses.{used_by_declaration, used_by_block_items, used_by_unit}
 use Rattle.c_unit_given.proofs.DeclarationsGiven.{left-held, right-held}
 use Rattle.c_unit_given.proofs.DeclarationTrees.{declaration-run}
-use Rattle.c_unit_given.proofs.FunctionNames.{ArePlaced}
+use Rattle.c_unit_given.proofs.FunctionNames.{AreAmong}
 use Rattle.c_unit_given.proofs.Runs.{Then, Stays, run-then, run-last, run-as, run-none, nothing-kept}
 
 module _ (T : Table) (names : List Name) where
@@ -30,10 +29,10 @@ module _ (T : Table) (names : List Name) where
   abbrev pub OfUnit : (Known → Known → Type 0) → Known → Known → Type 0
   OfUnit P k k' = (k.scopes.defined ≡ names) × P k k'
 
-  -- a function with its body, whose name has a number
+  -- a function with its body, whose name is one of them
   abbrev pub IsDefinitionRun : Type 0
   IsDefinitionRun =
-      (before : TypedTranslationUnit) (x : TypedSpecifiers) (form : TypedForm) (t : TypeId) (brace : Place) (body : TypedBlockItems) → IsPlaced (place_among names (bytes_of_name (name_of_form form)))
+      (before : TypedTranslationUnit) (x : TypedSpecifiers) (form : TypedForm) (t : TypeId) (brace : Place) (body : TypedBlockItems) → is_one_of names (bytes_of_name (name_of_form form)) ≡ true
       → max (specifiers_holds (erased_specifiers x)) (max (declarator_holds (erased_form form)) (block_items_holds (erased_block_items body))) ≤ 256
       → IsRun T Nothing Nothing (OfUnit (IsDefinition T x form t body)) (made_by_specifiers x ++ made_by_form form t ++ made_by_block_items body)
       (used_by_specifiers T x ++ used_by_declarator T Written (typed.Declares form t) ++ used_by_block_items T body)
@@ -76,9 +75,9 @@ module _ (T : Table) (names : List Name) where
 
     and_function_run : (u : TypedTranslationUnit) (x : TypedSpecifiers) (form : TypedForm) (t : TypeId) (brace : Place) (body : TypedBlockItems)
         → max (unit_holds (erased_unit u)) (max (specifiers_holds (erased_specifiers x)) (max (declarator_holds (erased_form form)) (block_items_holds (erased_block_items body)))) ≤ 256
-        → IsPlaced (place_among names (bytes_of_name (name_of_form form))) → IsUnitRun u → IsUnitRun (typed.AndFunctionBody u x (typed.Declares form t) brace body)
+        → is_one_of names (bytes_of_name (name_of_form form)) ≡ true → IsUnitRun u → IsUnitRun (typed.AndFunctionBody u x (typed.Declares form t) brace body)
     unfolding judge_unit
-    and_function_run u x form t brace body holds placed p =
+    and_function_run u x form t brace body holds among p =
         let P = OfUnit (IsUnitTyped T u) in
         let Q = OfUnit (IsDefinition T x form t body) in
         let whole : TypedTranslationUnit = typed.AndFunctionBody u x (typed.Declares form t) brace body in
@@ -92,21 +91,21 @@ module _ (T : Table) (names : List Name) where
         let most = max (specifiers_holds (erased_specifiers x)) (max (declarator_holds (erased_form form)) (block_items_holds (erased_block_items body))) in
         let one =
         run-as T Nothing (And Nothing Nothing) Nothing Nothing Q Q (words ++ own ++ items) (us ++ vs ++ qs) (rest u) whole (λ J w. w.0) (λ J w. w) (λ a b w. w)
-        (definitions u x form t brace body placed (right-held (unit_holds (erased_unit u)) most 256 holds)) in
+        (definitions u x form t brace body among (right-held (unit_holds (erased_unit u)) most 256 holds)) in
         four (OfUnit (IsUnitTyped T whole)) (made_by_unit u) words own items (used_by_unit T u) us vs qs (judge_unit (erased_unit u) >>= rest) whole
         (run-as T Nothing Nothing Nothing Nothing (Then P Q) (OfUnit (IsUnitTyped T whole)) (made_by_unit u ++ (words ++ own ++ items)) (used_by_unit T u ++ (us ++ vs ++ qs))
         (judge_unit (erased_unit u) >>= rest) whole (λ J w. w) (λ J w. w) (λ k k' h. (h.1.0, (h.0, h.1.1), (unit-defined T u k h.1.0 h.1.1 ∙ h.0, h.1.2)))
         (run-then T Nothing Nothing Nothing nothing-kept P Q (made_by_unit u) (words ++ own ++ items) (used_by_unit T u) (us ++ vs ++ qs) (judge_unit (erased_unit u)) rest u whole p one))
 
-    -- a unit that is well typed is given, where each function that it defines has a number
-    pub unit-run : (u : TypedTranslationUnit) → unit_holds (erased_unit u) ≤ 256 → ArePlaced names u → IsUnitRun u
+    -- a unit that is well typed is given, where these are the functions that it defines
+    pub unit-run : (u : TypedTranslationUnit) → unit_holds (erased_unit u) ≤ 256 → AreAmong names u → IsUnitRun u
     unfolding judge_unit
-    unit-run typed.NoExternal holds placed =
+    unit-run typed.NoExternal holds among =
         run-as T Nothing Nothing Nothing Nothing Stays (OfUnit (IsUnitTyped T typed.NoExternal)) [] [] (pure typed.NoExternal) typed.NoExternal (λ J w. w) (λ J w. w) (λ k k' h. h.1)
         (run-none T Nothing Nothing (pure typed.NoExternal) typed.NoExternal (λ s here w. (refl, tt)))
-    unit-run (typed.AndExternal u d) holds placed =
-        and_declaration_run u d holds (unit-run u (left-held (unit_holds (erased_unit u)) (declaration_holds (erased_declaration d)) 256 holds) placed)
-    unit-run (typed.AndFunctionBody u x (typed.Declares form t) brace body) holds placed =
-        and_function_run u x form t brace body holds placed.1
+    unit-run (typed.AndExternal u d) holds among =
+        and_declaration_run u d holds (unit-run u (left-held (unit_holds (erased_unit u)) (declaration_holds (erased_declaration d)) 256 holds) among)
+    unit-run (typed.AndFunctionBody u x (typed.Declares form t) brace body) holds among =
+        and_function_run u x form t brace body holds among.1
         (unit-run u
-        (left-held (unit_holds (erased_unit u)) (max (specifiers_holds (erased_specifiers x)) (max (declarator_holds (erased_form form)) (block_items_holds (erased_block_items body)))) 256 holds) placed.0)
+        (left-held (unit_holds (erased_unit u)) (max (specifiers_holds (erased_specifiers x)) (max (declarator_holds (erased_form form)) (block_items_holds (erased_block_items body)))) 256 holds) among.0)

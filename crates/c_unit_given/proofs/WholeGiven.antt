@@ -22,7 +22,7 @@ use Rattle.c_unit_given.specs.Countable.{IsCountable}
 use Rattle.c_unit_given.specs.UnitGiven.{AreSizesWritten, IsUnitGivenAs, Nothing, AreScopesKept, AreExpressionsGiven, AreDeclaratorsGiven}
 use Rattle.c_unit_given.specs.UnitUses.{used_by_unit}
 use Rattle.c_unit_given.proofs.BeforeText.{before_text, text-known, text-here}
-use Rattle.c_unit_given.proofs.FunctionNames.{ArePlaced, names-own, place-own, all-placed}
+use Rattle.c_unit_given.proofs.FunctionNames.{AreAmong, names-own, place-own, all-among}
 use Rattle.c_unit_given.proofs.MainGiven.{main-passes}
 use Rattle.c_unit_given.proofs.Runs.{then-is, obeying-is}
 use Rattle.c_unit_given.proofs.UnitCosts.{text-room}
@@ -33,8 +33,8 @@ module _ (T : Table) (basic : IsBasic T) (exprs : AreExpressionsGiven T) (scopes
   few_names : length (defined_names whole) ≤ 65535
   few_names = let few = limits.functions in let count = length-map (functions_of whole) name_in_bytes in omega (arith, few, count)
 
-  placed : ArePlaced (defined_names whole) whole
-  placed = all-placed (defined_names whole) few_names whole [] (sym (append-nil (defined_names whole)))
+  among : AreAmong (defined_names whole) whole
+  among = all-among (defined_names whole) whole [] (sym (append-nil (defined_names whole)))
 
   abbrev nodes : ℕ
   nodes = 0 + length (nodes_made (made_by_unit whole))
@@ -48,7 +48,7 @@ module _ (T : Table) (basic : IsBasic T) (exprs : AreExpressionsGiven T) (scopes
   -- from a state that has the names of its functions
   parts_given : IsDefinitionRun T (defined_names whole) → AreUses (used_by_unit T whole) (length basic_table) (length T) → IsGivenFrom (before_text (defined_names whole))
   parts_given definitions uses =
-      unit-run T (defined_names whole) basic exprs scopes decls sizes definitions whole limits.holds placed (before_text (defined_names whole)) typed.after nodes (length T)
+      unit-run T (defined_names whole) basic exprs scopes decls sizes definitions whole limits.holds among (before_text (defined_names whole)) typed.after nodes (length T)
       (text-here T basic (defined_names whole) few_names (place-own (defined_names whole) (names-own T whole (known_before whole) typed.after typed.typed))) tt (refl, typed.typed) numbers uses
       (text-room T basic.formed whole (known_before whole) typed.after typed.typed limits countable numbers (defined_names whole))
 
@@ -68,7 +68,7 @@ module _ (T : Table) (basic : IsBasic T) (exprs : AreExpressionsGiven T) (scopes
         then-is (judge_unit (erased_unit whole)) (λ w. obeying main_tests (pure w)) whole (before_text (defined_names whole)) g.after (Gives whole g.after) g.gives
         (obeying-is main_tests (pure whole) g.after (Gives whole g.after)
         (main-passes T (erased_unit whole) whole (before_text (defined_names whole)) g.after g.reached.here.here.first g.reached.here.unit judged typed.main
-        (subst (λ (all : List Name). ArePlaced all whole) (sym same_names) placed)) refl)
+        (subst (λ (all : List Name). AreAmong all whole) (sym same_names) among)) refl)
 
     -- the names are those of the text
     whole_given : judged_unit (erased_unit whole) ≡ Gives whole g.after

@@ -21,6 +21,13 @@ mod LoopsGiven
 mod ForsGiven
 mod InitialisersGiven
 mod InitialiserTrees
+mod FirstTypes
+mod BeforeText
+mod FunctionNames
+mod UnitCosts
+mod MainGiven
+mod UnitsGiven
+mod WholeGiven
 mod ScopesKept
 mod ParametersDeclared
 mod ParameterNames

@@ -150,13 +150,13 @@ unit-moves (tree.AndFunctionBody u specifiers d brace items) whole s r k h =
 
 -- The limit
 
-copies : (T : Table) (made : List Made) → sum (flat_map (pointers_copied_by T) made) ≡ copied T made
-copies T [] = refl
-copies T (Copy t ∷ made) = sum_by-cons (λ (k : ℕ). k) (pointers_in T t) (flat_map (pointers_copied_by T) made) ∙ ap (λ (k : ℕ). pointers_in T t + k) (copies T made)
-copies T (Written place n ∷ made) = none_more (copies T made)
-copies T (Address n ∷ made) = none_more (copies T made)
-copies T (Literal pieces home t ∷ made) = none_more (copies T made)
-copies T (NameMade name h t ∷ made) = none_more (copies T made)
+pub copies-sum : (T : Table) (made : List Made) → sum (flat_map (pointers_copied_by T) made) ≡ copied T made
+copies-sum T [] = refl
+copies-sum T (Copy t ∷ made) = sum_by-cons (λ (k : ℕ). k) (pointers_in T t) (flat_map (pointers_copied_by T) made) ∙ ap (λ (k : ℕ). pointers_in T t + k) (copies-sum T made)
+copies-sum T (Written place n ∷ made) = none_more (copies-sum T made)
+copies-sum T (Address n ∷ made) = none_more (copies-sum T made)
+copies-sum T (Literal pieces home t ∷ made) = none_more (copies-sum T made)
+copies-sum T (NameMade name h t ∷ made) = none_more (copies-sum T made)
 
 first_whole : AreWhole basic_table (empty_level ∷ [])
 first_whole =
@@ -174,7 +174,7 @@ pub whole-cells : (u : tree.TranslationUnit) (whole : TypedTranslationUnit) (r :
 whole-cells u whole r h =
     let known = before-known u in
     let made = (unit-moves u whole (before_unit u) r known (whole-given u whole r h).parts).moves (known.known.basic, first_whole) in
-    counted r.seen.cells (copied r.table (made_by_unit whole)) (pointers_copied r.table whole) (made.2 r.table (extended_refl r.table)) (copies r.table (made_by_unit whole))
+    counted r.seen.cells (copied r.table (made_by_unit whole)) (pointers_copied r.table whole) (made.2 r.table (extended_refl r.table)) (copies-sum r.table (made_by_unit whole))
 
 pub whole-copied : (u : tree.TranslationUnit) (whole : TypedTranslationUnit) (r : UnitState) → judged_unit u ≡ Gives whole r → pointers_copied r.table whole ≤ 65536
 whole-copied u whole r h = within r.seen.cells (pointers_copied r.table whole) (whole-cells u whole r h) (whole-bounded u whole r h).2

@@ -30,22 +30,22 @@ use Rattle.c_unit_typing.proofs.JudgedDeclarators.{one-judged}
 use Rattle.c_unit_typing.proofs.UnitOutcomes.{bind-gives, given-same, gives-state, lifted-gives}
 use Rattle.c_unit_limits.proofs.CountedLiterals.{specifiers-counted}
 use Rattle.c_unit_limits.proofs.LastingNames.{IsSame, one-lasts}
-use Rattle.c_unit_limits.proofs.LastingSteps.{Lasts, lasts-none, lasts-on, lasts-inside, literals-last, nothing-alike, initialiser-lasts}
-use Rattle.c_unit_limits.proofs.StaticsMade.{IsAlike, specifiers-alike}
+use Rattle.c_unit_limits.proofs.LastingSteps.{Lasts, lasts-none, lasts-on, lasts-inside, literals-last, initialiser-lasts}
+use Rattle.c_unit_limits.proofs.StaticsMade.{IsAlike, none, specifiers-alike}
 
 -- Specifiers
 
-alone_alike : (T : Table) → IsWellFormed T → (all : TypedSpecifiers) (s s' : Scopes) → AreAlone T all s s' → IsAlike T (made_by_specifiers all) 0
-alone_alike T w (typed.Specified (typed.AndSpecifier typed.NoSpecifier (typed.Tagged which at name t)) u) s s' h = nothing-alike T
-alone_alike T w (typed.Specified typed.NoSpecifier u) s s' h = nothing-alike T
-alone_alike T w (typed.Specified (typed.AndSpecifier (typed.AndSpecifier all other) one) u) s s' h =
+pub alone-alike : (T : Table) → IsWellFormed T → (all : TypedSpecifiers) (s s' : Scopes) → AreAlone T all s s' → IsAlike T (made_by_specifiers all) 0
+alone-alike T w (typed.Specified (typed.AndSpecifier typed.NoSpecifier (typed.Tagged which at name t)) u) s s' h = none T
+alone-alike T w (typed.Specified typed.NoSpecifier u) s s' h = none T
+alone-alike T w (typed.Specified (typed.AndSpecifier (typed.AndSpecifier all other) one) u) s s' h =
     specifiers-alike T w (typed.Specified (typed.AndSpecifier (typed.AndSpecifier all other) one) u) s s' h
-alone_alike T w (typed.Specified (typed.AndSpecifier typed.NoSpecifier one) u) s s' h =
+alone-alike T w (typed.Specified (typed.AndSpecifier typed.NoSpecifier one) u) s s' h =
     specifiers-alike T w (typed.Specified (typed.AndSpecifier typed.NoSpecifier one) u) s s' h
 
 base_alike : (alone : Bool) (T U : Table) → IsExtended T U → IsBasic T → IsWellFormed U → (all : TypedSpecifiers) (s s' : Scopes) → AreSpecifiersBy alone T all s s'
     → IsAlike U (made_by_specifiers all) 0
-base_alike true T U x b w all s s' h = alone_alike U w all s s' (alone-kept T U x b all s s' h)
+base_alike true T U x b w all s s' h = alone-alike U w all s s' (alone-kept T U x b all s s' h)
 base_alike false T U x b w all s s' h = specifiers-alike U w all s s' (specifiers-kept T U x b all s s' h)
 
 pub base-lasts : (alone : Bool) (all : tree.Specifiers) (base : TypedSpecifiers) (s m : UnitState) → IsUnitKnown s → lifted (judge_specifiers_of alone all) s ≡ Gives base m

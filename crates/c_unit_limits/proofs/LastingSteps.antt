@@ -32,7 +32,7 @@ use Rattle.c_unit_limits.proofs.CountedInitialisers.{Counts, initialiser-counts}
 use Rattle.c_unit_limits.proofs.CountedLiterals.{constant-counted}
 use Rattle.c_unit_limits.proofs.CountedTests.{value-counts, dropped-counts, returned-counts, promoted-made}
 use Rattle.c_unit_limits.proofs.Kept.{Kept, IsKept}
-use Rattle.c_unit_limits.proofs.StaticsMade.{IsAlike, statics-append, two, value-alike, place-alike}
+use Rattle.c_unit_limits.proofs.StaticsMade.{IsAlike, statics-append, none, alone, two, value-alike, place-alike}
 
 -- so much is counted from the state s to the state r
 pub record Lasts (made : List Made) (s r : UnitState) : Type 0 where
@@ -67,9 +67,6 @@ literals-last made s r n alike = record {
 pub lifted-still : {A : Type 0} (p : Judging A) → IsKept p → (a : A) (s r : UnitState) → lifted p s ≡ Gives a r → r.seen.globals ≡ s.seen.globals
 lifted-still p k a s r h = (subst (λ (m : Outcome _). Kept m (state_of s)) (lifted-gives p a s r h).0 (k.kept (state_of s))).1
 
-pub nothing-alike : (T : Table) → IsAlike T [] 0
-nothing-alike T = record { same = refl }
-
 -- Expressions
 
 pub value-lasts : (e : tree.Expr) (v : TypedExpr) (s r : UnitState) → IsUnitKnown s → lifted (checked e) s ≡ Gives v r → Lasts (made_by v) s r
@@ -81,24 +78,24 @@ pub switched-lasts : (at : Place) (e : tree.Expr) (c : TypedExpr) (s m : UnitSta
     → Lasts (made_by (promoted_by at c (integer_at m.table (type_of c)))) s m
 switched-lasts at e c s m k h = subst (λ (made : List Made). Lasts made s m) (sym (promoted-made at c (integer_at m.table (type_of c)))) (value-lasts e c s m k h)
 
-dropped_alike : (T : Table) → IsWellFormed T → (v : Option TypedExpr) (k k' : Known) → IsDropped T v k k' → IsAlike T (made_by_optional v) 0
-dropped_alike T w None k k' h = nothing-alike T
-dropped_alike T w (Some e) k k' h = value-alike T w e k.scopes h.0 h.1
+pub dropped-alike : (T : Table) → IsWellFormed T → (v : Option TypedExpr) (k k' : Known) → IsDropped T v k k' → IsAlike T (made_by_optional v) 0
+dropped-alike T w None k k' h = none T
+dropped-alike T w (Some e) k k' h = value-alike T w e k.scopes h.0 h.1
 
 pub dropped-lasts : (e : Option tree.Expr) (v : Option TypedExpr) (s r : UnitState) → IsUnitKnown s → dropped e s ≡ Gives v r → Lasts (made_by_optional v) s r
 dropped-lasts e v s r k h =
     let j = dropped-part e v s r k h in
-    literals-last (made_by_optional v) s r (dropped-counts e v s r k.known h) (λ T x w. dropped_alike T w v (known_of s) (known_of r) (j.typed T x))
+    literals-last (made_by_optional v) s r (dropped-counts e v s r k.known h) (λ T x w. dropped-alike T w v (known_of s) (known_of r) (j.typed T x))
 
-returned_alike : (T : Table) → IsWellFormed T → (at : Place) (t : TypeId) (v : Option TypedExpr) (k k' : Known) → IsReturned T at t v k k' → IsAlike T (made_by_optional v) 0
-returned_alike T w at t None k k' h = nothing-alike T
-returned_alike T w at t (Some e) k k' h = value-alike T w e k.scopes h.0 h.1
+pub returned-alike : (T : Table) → IsWellFormed T → (at : Place) (t : TypeId) (v : Option TypedExpr) (k k' : Known) → IsReturned T at t v k k' → IsAlike T (made_by_optional v) 0
+returned-alike T w at t None k k' h = none T
+returned-alike T w at t (Some e) k k' h = value-alike T w e k.scopes h.0 h.1
 
 pub returned-lasts : (at : Place) (t : TypeId) (e : Option tree.Expr) (v : Option TypedExpr) (s r : UnitState) → IsUnitKnown s → IsResult s.table t
     → returned at t e s ≡ Gives v r → Lasts (made_by_optional v) s r
 returned-lasts at t e v s r k b h =
     let j = returned-judged at t e v s r k.known b h in
-    literals-last (made_by_optional v) s r (returned-counts at t e v s r k.known b.there h) (λ T x w. returned_alike T w at t v (known_of s) (known_of r) (j.typed T x))
+    literals-last (made_by_optional v) s r (returned-counts at t e v s r k.known b.there h) (λ T x w. returned-alike T w at t v (known_of s) (known_of r) (j.typed T x))
 
 -- the constant of a label; its table goes on
 pub constant-lasts : (e : tree.Expr) (c : Constant) (s r : UnitState) → IsUnitKnown s → lifted (checked_constant e) s ≡ Gives c r
@@ -113,22 +110,19 @@ constant-lasts e c s r k h =
 
 -- Initialisers
 
-copy_alike : (T : Table) (t : TypeId) → IsAlike T (Copy t ∷ []) 0
-copy_alike T t = record { same = refl }
-
 module _ (T : Table) (w : IsWellFormed T) where
   mutual
-    initialiser_alike : (i : TypedInitialiser) (at : Place) (t : TypeId) (s s' : Scopes) → IsInitialiser T i at t s s' → IsAlike T (made_by_initialiser i) 0
-    initialiser_alike (typed.Value e) at t s s' h = value-alike T w e s s' h.0
-    initialiser_alike (typed.Copied p seat) at t s s' h =
-        two T (place-alike T w p s s' h.0) (copy_alike T (place_type p))
-    initialiser_alike (typed.Text pieces bytes) at t s s' h = nothing-alike T
-    initialiser_alike (typed.Listed brace items comma u) at t s s' h = items_alike items (_) t s s' h.1
+    pub initialiser-alike : (i : TypedInitialiser) (at : Place) (t : TypeId) (s s' : Scopes) → IsInitialiser T i at t s s' → IsAlike T (made_by_initialiser i) 0
+    initialiser-alike (typed.Value e) at t s s' h = value-alike T w e s s' h.0
+    initialiser-alike (typed.Copied p seat) at t s s' h =
+        two T (place-alike T w p s s' h.0) (alone T (Copy (place_type p)) refl)
+    initialiser-alike (typed.Text pieces bytes) at t s s' h = none T
+    initialiser-alike (typed.Listed brace items comma u) at t s s' h = items_alike items (_) t s s' h.1
 
     items_alike : (all : TypedItems) (text : Bool) (t : TypeId) (s s' : Scopes) → AreItems T all text t s s' → IsAlike T (made_by_items all) 0
-    items_alike typed.NoItem text t s s' h = nothing-alike T
+    items_alike typed.NoItem text t s s' h = none T
     items_alike (typed.AndItem all offset u i) text t s s' h =
-        two T (items_alike all text t s h.0 h.1) (initialiser_alike i (item_place i) u h.0 s' h.2)
+        two T (items_alike all text t s h.0 h.1) (initialiser-alike i (item_place i) u h.0 s' h.2)
 
 -- an initialiser of an object of a complete type; its table goes on
 pub initialiser-lasts : (constant : Bool) (i : tree.Initialiser) (at : Place) (t : TypeId) (single : Bool) (v : TypedInitialiser) (s r : UnitState) → IsUnitKnown s → IsComplete s.table t
@@ -136,7 +130,7 @@ pub initialiser-lasts : (constant : Bool) (i : tree.Initialiser) (at : Place) (t
 initialiser-lasts constant i at t single v s r k c h =
     let j = initialiser-judged i constant at t single v s r k.known c h in (
       literals-last (made_by_initialiser v) s r (initialiser-counts i constant at t single v s r k.known c h)
-          (λ T x w. initialiser_alike T w v at t s.seen.scopes r.seen.scopes
+          (λ T x w. initialiser-alike T w v at t s.seen.scopes r.seen.scopes
           (initialiser-kept r.table T x j.goes.known.basic v at t s.seen.scopes r.seen.scopes (complete-kept s.table r.table j.goes.extends k.known.basic t c) j.typed)),
       j.goes.extends,
     )

@@ -22,6 +22,7 @@ pub mod LastingNames
 pub mod LastingDeclarations
 pub mod LastingStatements
 pub mod LastingUnits
+pub mod SizedUnits
 pub mod CellsSteps
 pub mod CellsInitialisers
 pub mod CellsNames

@@ -1,5 +1,7 @@
 -- The objects that last in what is well typed are its literals, and what its own name declares: a literal has the size of its type.
 use Rattle.std.proofs.Common.{◌≡◌, ℕ, ◌+◌, ◌*◌, Bool, List, [], ◌∷◌, ◌++◌, length, Option, Some, None, refl, ap, ◌∙◌, arith}
+use Rattle.std.specs.List.{All}
+use Rattle.std.proofs.lemmas.List.Elements.{All-nil, All-cons, All-append}
 use Rattle.cc_base.specs.declared.number.TypeId.{TypeId}
 use Rattle.c_types.specs.declared.layout.Layout.{Layout}
 use Rattle.c_types.specs.declared.shape.TypeShape.{TypeShape}
@@ -14,7 +16,7 @@ use Rattle.c_tree.specs.declared.typed_word.Home.TheVariants as home
 use Rattle.c_tree.specs.declared.typed_word.TypedStar.{TypedStar}
 use Rattle.c_tree.specs.TypedTree as typed
 use Rattle.c_tree.specs.TypedTree.{TypedExpr, TypedPlace, TypedArguments, TypedTypeName, TypedSpecifiers, TypedSpecifierList, TypedSpecifier, TypedMembers, TypedMemberDeclarators, TypedEnumerators, TypedForm, TypedCore, TypedParts, TypedParameters, TypedDeclared}
-use Rattle.c_tree.specs.TypedParts.{Made, Address, Literal, specified_type, home_of_form, home_of_core, made_by, made_by_place, made_by_arguments, made_by_type_name, made_by_specifiers, made_by_specifier_list, made_by_specifier, made_by_members, made_by_member_declarators, made_by_enumerators, made_by_stars, made_by_adjusted, made_by_form, made_by_core, made_by_parts, made_by_parameters, made_by_declared}
+use Rattle.c_tree.specs.TypedParts.{Made, Written, Name, Address, Literal, specified_type, home_of_form, home_of_core, made_by, made_by_place, made_by_arguments, made_by_type_name, made_by_specifiers, made_by_specifier_list, made_by_specifier, made_by_members, made_by_member_declarators, made_by_enumerators, made_by_stars, made_by_adjusted, made_by_form, made_by_core, made_by_parts, made_by_parameters, made_by_declared}
 use Rattle.c_typing.specs.Assignments.{literal_size}
 use Rattle.c_typing.specs.Declarators.{is_void_list}
 use Rattle.c_typing.specs.Rules.{IsStringType, pieces_bytes}
@@ -23,9 +25,18 @@ use Rattle.c_typing.specs.Typing.{IsTyped, IsPlace, AreTyped, IsTypeName, AreSpe
 use Rattle.c_unit_limits.specs.Literals.{literal_bytes, literals_made, static_bytes, statics_made, own_bytes}
 use Rattle.c_unit_limits.proofs.LiteralsMade.{literals-append}
 
--- what lasts is the literals, and n bytes more
+-- a literal has the size of its type
+abbrev pub IsLiteralSized : Table → Made → Type 0
+IsLiteralSized T (Literal pieces home t) = size_of T t ≡ literal_size pieces
+IsLiteralSized T made = Unit {0}
+
+pub record AreSized (T : Table) (made : List Made) : Type 0 where
+  pub each : All (IsLiteralSized T) made
+
+-- what lasts is the literals, each of the size of its type, and n bytes more
 pub record IsAlike (T : Table) (made : List Made) (n : ℕ) : Type 0 where
   pub same : statics_made T made ≡ literals_made made + n
+  pub sized : AreSized T made
 
 pub statics-append : (T : Table) (xs ys : List Made) → statics_made T (xs ++ ys) ≡ statics_made T xs + statics_made T ys
 statics-append T [] ys = none (statics_made T ys)
@@ -38,14 +49,27 @@ statics-append T (x ∷ xs) ys = ap (λ (n : ℕ). static_bytes T x + n) (static
     apart a b c = omega arith
 
 module _ (T : Table) where
+  pub nothing-sized : AreSized T []
+  nothing-sized = record { each = All-nil (IsLiteralSized T) }
+
+  pub one-sized : (m : Made) → IsLiteralSized T m → AreSized T (m ∷ [])
+  one-sized m h = record { each = All-cons (IsLiteralSized T) m [] h (All-nil (IsLiteralSized T)) }
+
+  pub two-sized : {xs ys : List Made} → AreSized T xs → AreSized T ys → AreSized T (xs ++ ys)
+  two-sized {xs} {ys} h k = record { each = All-append (IsLiteralSized T) xs ys h.each k.each }
+
+  sized_by : (m : Made) → static_bytes T m ≡ literal_bytes m → IsLiteralSized T m
+  sized_by (Literal pieces home t) e = omega (arith, e)
+  sized_by m e = tt
+
   pub alike-as : {xs : List Made} {m : ℕ} (n : ℕ) → m ≡ n → IsAlike T xs m → IsAlike T xs n
-  alike-as {xs} n e h = record { same = h.same ∙ ap (λ (k : ℕ). literals_made xs + k) e }
+  alike-as {xs} n e h = record { same = h.same ∙ ap (λ (k : ℕ). literals_made xs + k) e; sized = h.sized }
 
-  none : IsAlike T [] 0
-  none = record { same = refl }
+  pub none : IsAlike T [] 0
+  none = record { same = refl; sized = nothing-sized }
 
-  alone : (m : Made) → static_bytes T m ≡ literal_bytes m → IsAlike T (m ∷ []) 0
-  alone m e = record { same = ap (λ (n : ℕ). n + 0) e ∙ more (literal_bytes m + 0) }
+  pub alone : (m : Made) → static_bytes T m ≡ literal_bytes m → IsAlike T (m ∷ []) 0
+  alone m e = record { same = ap (λ (n : ℕ). n + 0) e ∙ more (literal_bytes m + 0); sized = one-sized m (sized_by m e) }
     where
       more : (n : ℕ) → n ≡ n + 0
       more n = omega arith
@@ -58,6 +82,7 @@ module _ (T : Table) where
         let s = statics-append T xs ys in
         let l = literals-append xs ys in
         omega (arith, p, q, s, l);
+    sized = two-sized h.sized k.sized;
   }
 
   pub two : {xs ys : List Made} → IsAlike T xs 0 → IsAlike T ys 0 → IsAlike T (xs ++ ys) 0
@@ -65,7 +90,10 @@ module _ (T : Table) where
 
   stars_alike : (stars : List TypedStar) → IsAlike T (made_by_stars stars) 0
   stars_alike [] = none
-  stars_alike (s ∷ stars) = record { same = ap (λ (n : ℕ). 0 + n) (stars_alike stars).same ∙ apart (literals_made (made_by_stars stars)) }
+  stars_alike (s ∷ stars) = record {
+    same = ap (λ (n : ℕ). 0 + n) (stars_alike stars).same ∙ apart (literals_made (made_by_stars stars));
+    sized = record { each = All-cons (IsLiteralSized T) (Written s.star.place s.node) (made_by_stars stars) tt (stars_alike stars).sized.each };
+  }
     where
       apart : (n : ℕ) → 0 + (n + 0) ≡ 0 + n + 0
       apart n = omega arith
@@ -198,7 +226,7 @@ module _ (T : Table) (w : IsWellFormed T) where
 
     core-alike : (core : TypedCore) (t : TypeId) (s s' : Scopes) → IsCore T core s s' → IsAlike T (made_by_core core t) (own_bytes T (home_of_core core) t)
     core-alike (typed.Names name home.None) t s s' h = alone T (_) refl
-    core-alike (typed.Names name (home.Static n)) t s s' h = record { same = static_own (size_of T t + 16) }
+    core-alike (typed.Names name (home.Static n)) t s s' h = record { same = static_own (size_of T t + 16); sized = one-sized T (Name name (home.Static n) t) tt }
       where
         static_own : (n : ℕ) → n + 0 ≡ 0 + 0 + n
         static_own n = omega arith

@@ -1,0 +1,78 @@
+-- A unit that is well typed over a table of types, within its limits and countable, is given.
+use Rattle.std.proofs.Common.{◌≡◌, ◌≤◌, ◌+◌, ℕ, List, [], ◌++◌, length, refl, ap, sym, subst, ◌∙◌, arith}
+use Rattle.std.proofs.lemmas.List.{append-nil, length-map}
+use Rattle.c_types.specs.Calls.{basic_table}
+use Rattle.c_types.specs.Table.{Table}
+use Rattle.c_tree.specs.Erasure.{erased_unit}
+use Rattle.c_tree.specs.TypedTree.{TypedTranslationUnit}
+use Rattle.c_tree.specs.TypedParts.{functions_of, made_by_unit, nodes_made}
+use Rattle.c_typing.specs.Scopes.{Name}
+use Rattle.c_typing.specs.Settled.{IsBasic}
+use Rattle.c_typing_unique.specs.Points.{Numbers}
+use Rattle.c_typing_unique.proofs.Numbering.{numbers-from}
+use Rattle.c_typing_given.specs.Uses.{AreUses}
+use Rattle.c_unit_typing.specs.DefinitionJudging.{functions_written, main_tests, judge_unit, judge_whole, judged_unit}
+use Rattle.c_unit_typing.specs.Limits.{IsWithinLimits}
+use Rattle.c_unit_typing.specs.Units.{Known}
+use Rattle.c_unit_typing.specs.UnitJudging.{UnitState, Gives, pure, obeying}
+use Rattle.c_unit_typing.specs.WellTyped.{defined_names, known_before, IsWellTyped}
+use Rattle.c_unit_typing.proofs.JudgedUnits.{name_in_bytes, IsWholeJudged, unit-judged}
+use Rattle.c_unit_typing.proofs.UnitStillDefined.{unit-defined}
+use Rattle.c_unit_given.specs.Countable.{IsCountable}
+use Rattle.c_unit_given.specs.UnitGiven.{AreSizesWritten, IsUnitGivenAs, Nothing, AreScopesKept, AreExpressionsGiven, AreDeclaratorsGiven}
+use Rattle.c_unit_given.specs.UnitUses.{used_by_unit}
+use Rattle.c_unit_given.proofs.BeforeText.{before_text, text-known, text-here}
+use Rattle.c_unit_given.proofs.FunctionNames.{AreAmong, names-own, place-own, all-among}
+use Rattle.c_unit_given.proofs.MainGiven.{main-passes}
+use Rattle.c_unit_given.proofs.Runs.{then-is, obeying-is}
+use Rattle.c_unit_given.proofs.UnitCosts.{text-room}
+use Rattle.c_unit_given.proofs.UnitsGiven.{IsDefinitionRun, unit-run}
+
+module _ (T : Table) (basic : IsBasic T) (exprs : AreExpressionsGiven T) (scopes : AreScopesKept T) (decls : AreDeclaratorsGiven T) (sizes : AreSizesWritten T)
+    (whole : TypedTranslationUnit) (typed : IsWellTyped T whole) (limits : IsWithinLimits T whole) (countable : IsCountable T whole) where
+  few_names : length (defined_names whole) ≤ 65535
+  few_names = let few = limits.functions in let count = length-map (functions_of whole) name_in_bytes in omega (arith, few, count)
+
+  among : AreAmong (defined_names whole) whole
+  among = all-among (defined_names whole) whole [] (sym (append-nil (defined_names whole)))
+
+  abbrev nodes : ℕ
+  nodes = 0 + length (nodes_made (made_by_unit whole))
+
+  numbers : Numbers (made_by_unit whole) 0 nodes
+  numbers = numbers-from (made_by_unit whole) 0 typed.numbered
+
+  abbrev IsGivenFrom : UnitState → Type 0
+  IsGivenFrom s = IsUnitGivenAs T Nothing (made_by_unit whole) (judge_unit (erased_unit whole) s) whole s typed.after nodes (length T)
+
+  -- from a state that has the names of its functions
+  parts_given : IsDefinitionRun T (defined_names whole) → AreUses (used_by_unit T whole) (length basic_table) (length T) → IsGivenFrom (before_text (defined_names whole))
+  parts_given definitions uses =
+      unit-run T (defined_names whole) basic exprs scopes decls sizes definitions whole limits.holds among (before_text (defined_names whole)) typed.after nodes (length T)
+      (text-here T basic (defined_names whole) few_names (place-own (defined_names whole) (names-own T whole (known_before whole) typed.after typed.typed))) tt (refl, typed.typed) numbers uses
+      (text-room T basic.formed whole (known_before whole) typed.after typed.typed limits countable numbers (defined_names whole))
+
+  abbrev WholeFrom : List Name → UnitState → Type 0
+  WholeFrom all r = judge_whole (erased_unit whole) (before_text all) ≡ Gives whole r
+
+  module _ (g : IsGivenFrom (before_text (defined_names whole))) where
+    judged : IsWholeJudged (erased_unit whole) whole (before_text (defined_names whole)) g.after
+    judged = unit-judged (erased_unit whole) whole (before_text (defined_names whole)) g.after (text-known (defined_names whole)) g.gives
+
+    same_names : g.after.seen.scopes.defined ≡ defined_names whole
+    same_names = ap (λ (k : Known). k.scopes.defined) g.reached.known ∙ unit-defined T whole (known_before whole) typed.after typed.typed
+
+    whole_from : WholeFrom (defined_names whole) g.after
+    unfolding judge_whole
+    whole_from =
+        then-is (judge_unit (erased_unit whole)) (λ w. obeying main_tests (pure w)) whole (before_text (defined_names whole)) g.after (Gives whole g.after) g.gives
+        (obeying-is main_tests (pure whole) g.after (Gives whole g.after)
+        (main-passes T (erased_unit whole) whole (before_text (defined_names whole)) g.after g.reached.here.here.first g.reached.here.unit judged typed.main
+        (subst (λ (all : List Name). AreAmong all whole) (sym same_names) among)) refl)
+
+    -- the names are those of the text
+    whole_given : judged_unit (erased_unit whole) ≡ Gives whole g.after
+    whole_given = subst (λ (all : List Name). WholeFrom all g.after) judged.names whole_from
+
+  pub unit-given : IsDefinitionRun T (defined_names whole) → AreUses (used_by_unit T whole) (length basic_table) (length T) → (r : UnitState) × (judged_unit (erased_unit whole) ≡ Gives whole r)
+  unit-given definitions uses = let g = parts_given definitions uses in (g.after, whole_given g)

@@ -13,7 +13,7 @@ use Rattle.c_unit_typing.specs.Linkage.{no_linkage}
 use Rattle.c_unit_typing.specs.UnitJudged.{state_of, IsLinkedKnown, IsUnitKnown}
 use Rattle.c_unit_typing.specs.UnitJudging.{UnitState, known}
 use Rattle.c_unit_typing.proofs.BasicTable.{basic-formed}
-use Rattle.c_unit_given.specs.UnitGiven.{IsHomeBelow, IsUnitHere}
+use Rattle.c_unit_given.proofs.UnitGiven.{IsHomeBelow, IsUnitHere}
 use Rattle.c_unit_given.proofs.FirstTypes.{first-types}
 
 -- the state before the text of a unit that defines these functions

@@ -36,7 +36,7 @@ use Rattle.c_typing_unique.specs.Points.{Point, Numbers}
 use Rattle.c_typing_unique.proofs.Shapes.{no_true}
 use Rattle.c_typing_unique.proofs.Numbering.{two-parts}
 use Rattle.c_typing_given.specs.Given.{IsHere}
-use Rattle.c_typing_given.specs.Uses.{Use, AreUses, used_by_specifiers, used_by_declarator}
+use Rattle.c_type_order.specs.TypesUsed.{Use, AreUses, used_by_specifiers, used_by_declarator}
 use Rattle.c_typing_given.proofs.ValuesGiven.{uses-first}
 use Rattle.c_unit_typing.specs.DeclarationJudging.{naming_for, linked_first}
 use Rattle.c_unit_typing.specs.DefinitionJudging.{declare_parameters, form_of, result_of, body, defined_as, judge_definition}
@@ -50,8 +50,8 @@ use Rattle.c_unit_typing.proofs.FunctionParameters.{IsFunctionWith, function-wit
 use Rattle.c_unit_typing.proofs.JudgedDeclarators.{IsFormKnown, form-known, makes-later}
 use Rattle.c_unit_typing.proofs.NameSteps.{some-same}
 use Rattle.c_unit_typing.proofs.StillDefined.{specifiers-defined, form-defined}
-use Rattle.c_unit_given.specs.UnitGiven.{HasUnitRoom, IsUnitHere, IsUnitReached, IsUnitGivenAs, IsRun, Nothing, And, HasType, Always, AreSizesWritten, AreScopesKept, AreExpressionsGiven, AreDeclaratorsGiven}
-use Rattle.c_unit_given.specs.UnitUses.{used_by_block_items}
+use Rattle.c_unit_given.proofs.UnitGiven.{HasUnitRoom, IsUnitHere, IsUnitReached, IsUnitGivenAs, IsRun, Nothing, And, HasType, Always, AreSizesWritten, AreScopesKept, AreExpressionsGiven, AreDeclaratorsGiven}
+use Rattle.c_unit_typing.specs.TypesUsed.{used_by_block_items}
 use Rattle.c_unit_given.proofs.BlockItemsGiven.{AreBlockItemsRun, no-labels}
 use Rattle.c_unit_given.proofs.DeclarationsGiven.{left-held, right-held}
 use Rattle.c_unit_given.proofs.FunctionsDefined.{placed, no-typedef, IsFunctionLinked, function-linked, defining_function, defined-given}

@@ -33,7 +33,7 @@ use Rattle.c_unit_typing.specs.UnitJudging.{UnitState, UnitJudging, Gives, known
 use Rattle.c_unit_typing.specs.UnitRefusals.{is_redeclared, is_function_declared, definition_tests}
 use Rattle.c_unit_typing.proofs.DeclaredNames.{is_typedef, declared-as}
 use Rattle.c_unit_typing.proofs.JudgedDeclarations.{defined-goes}
-use Rattle.c_unit_given.specs.UnitGiven.{IsUnitHere, IsUnitGivenAs, Nothing}
+use Rattle.c_unit_given.proofs.UnitGiven.{IsUnitHere, IsUnitGivenAs, Nothing}
 use Rattle.c_unit_given.proofs.NameRules.{named-runtime, function-agrees}
 use Rattle.c_unit_given.proofs.NamesGiven.{linked-given}
 use Rattle.c_unit_given.proofs.Runs.{then-is, obeying-is}

@@ -37,4 +37,3 @@ mod SwitchesGiven
 mod StatementTrees
 mod LawsGiven
 mod SizesWritten
-mod ScopesKept

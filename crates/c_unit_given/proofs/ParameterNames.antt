@@ -22,7 +22,7 @@ use Rattle.c_typing_given.proofs.LevelsKept.{length-innermost, entered-levels}
 use Rattle.c_typing_given.proofs.Settling.{numbers-end}
 use Rattle.c_unit_typing.specs.Units.{declares_parameters, unless_pointer, parameters_of_form, parameters_of_core, parameter_declared, declared_identifier, with_parameters}
 use Rattle.c_unit_typing.proofs.NameSteps.{some-same}
-use Rattle.c_unit_given.specs.UnitGiven.{AreScopesKept, IsScopeKept}
+use Rattle.c_unit_given.proofs.UnitGiven.{AreScopesKept, IsScopeKept}
 use Rattle.c_unit_given.proofs.DeclaratorHomes.{IsMadeBetween, form-between}
 use Rattle.c_unit_given.proofs.InnermostNames.{AreNewToo, new-declared, new-entered}
 use Rattle.c_unit_given.proofs.ParametersDeclared.{IsNewParameter, AreNewParameters}

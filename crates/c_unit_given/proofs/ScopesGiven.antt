@@ -11,14 +11,14 @@ use Rattle.c_typing.specs.Judging.{State}
 use Rattle.c_typing.specs.Scopes as scopes
 use Rattle.c_typing.specs.Scopes.{Name, Level, empty_level, entering, leaving, without_innermost}
 use Rattle.c_typing_laws.proofs.JudgedDeclarators.{entered-judged, left-judged}
-use Rattle.c_typing_given.specs.Uses.{Use}
+use Rattle.c_type_order.specs.TypesUsed.{Use}
 use Rattle.c_typing_given.proofs.Settling.{small-kept}
 use Rattle.c_typing_given.proofs.TypeGiven.{lt_true, none-same}
 use Rattle.c_unit_typing.specs.Units.{Known, entering_known, leaving_known}
 use Rattle.c_unit_typing.specs.UnitJudged.{state_of}
 use Rattle.c_unit_typing.specs.UnitJudging.{UnitState, UnitJudging, UnitOutcome, Gives, Stops, next, lifted, ◌>>=◌}
 use Rattle.c_unit_typing.proofs.UnitStates.{linkage-stays}
-use Rattle.c_unit_given.specs.UnitGiven.{IsHomeBelow, IsUnitHere, IsUnitGivenAs, IsRun}
+use Rattle.c_unit_given.proofs.UnitGiven.{IsHomeBelow, IsUnitHere, IsUnitGivenAs, IsRun}
 use Rattle.c_unit_given.proofs.LevelsBelow.{IsLevelBelow, outer-of, homes-outer}
 use Rattle.c_unit_given.proofs.Runs.{then-is, lifted-is}
 

@@ -26,7 +26,7 @@ use Rattle.c_unit_limits.proofs.SizedUnits.{unit-sized}
 use Rattle.c_unit_limits.proofs.StaticBytes.{global-bytes}
 use Rattle.c_unit_limits.proofs.StaticsMade.{IsLiteralSized}
 use Rattle.c_unit_given.specs.Countable.{IsCountable}
-use Rattle.c_unit_given.specs.UnitGiven.{object_cost, HasUnitRoom}
+use Rattle.c_unit_given.proofs.UnitGiven.{object_cost, HasUnitRoom}
 use Rattle.c_unit_given.proofs.BeforeText.{before_text}
 
 module _ (T : Table) where

@@ -10,15 +10,15 @@ use Rattle.c_tree.specs.TypedParts.{Made, name_of_form, made_by_specifiers, made
 use Rattle.c_typing.specs.Declarators.{Written}
 use Rattle.c_typing.specs.Scopes.{Name}
 use Rattle.c_typing.specs.Settled.{IsBasic}
-use Rattle.c_typing_given.specs.Uses.{Use, used_by_specifiers, used_by_declarator}
+use Rattle.c_type_order.specs.TypesUsed.{Use, used_by_specifiers, used_by_declarator}
 use Rattle.c_unit_typing.specs.DeclarationJudging.{judge_declaration}
 use Rattle.c_unit_typing.specs.DefinitionJudging.{judge_definition, judge_unit}
 use Rattle.c_unit_typing.specs.Holding.{specifiers_holds, declarator_holds, declaration_holds, block_items_holds, unit_holds}
 use Rattle.c_unit_typing.specs.Units.{Known, is_one_of, bytes_of_name, IsDeclaration, IsDefinition, IsUnitTyped}
 use Rattle.c_unit_typing.specs.UnitJudging.{UnitJudging, pure, ◌>>=◌}
 use Rattle.c_unit_typing.proofs.UnitStillDefined.{unit-defined}
-use Rattle.c_unit_given.specs.UnitGiven.{AreSizesWritten, IsRun, Nothing, And, AreScopesKept, AreExpressionsGiven, AreDeclaratorsGiven}
-use Rattle.c_unit_given.specs.UnitUses.{used_by_declaration, used_by_block_items, used_by_unit}
+use Rattle.c_unit_given.proofs.UnitGiven.{AreSizesWritten, IsRun, Nothing, And, AreScopesKept, AreExpressionsGiven, AreDeclaratorsGiven}
+use Rattle.c_unit_typing.specs.TypesUsed.{used_by_declaration, used_by_block_items, used_by_unit}
 use Rattle.c_unit_given.proofs.DeclarationsGiven.{left-held, right-held}
 use Rattle.c_unit_given.proofs.DeclarationTrees.{declaration-run}
 use Rattle.c_unit_given.proofs.FunctionNames.{AreAmong}

@@ -10,7 +10,7 @@ use Rattle.c_typing.specs.Scopes.{Name}
 use Rattle.c_typing.specs.Settled.{IsBasic}
 use Rattle.c_typing_unique.specs.Points.{Numbers}
 use Rattle.c_typing_unique.proofs.Numbering.{numbers-from}
-use Rattle.c_typing_given.specs.Uses.{AreUses}
+use Rattle.c_type_order.specs.TypesUsed.{AreUses}
 use Rattle.c_unit_typing.specs.DefinitionJudging.{functions_written, main_tests, judge_unit, judge_whole, judged_unit}
 use Rattle.c_unit_typing.specs.Limits.{IsWithinLimits}
 use Rattle.c_unit_typing.specs.Units.{Known}
@@ -19,8 +19,8 @@ use Rattle.c_unit_typing.specs.WellTyped.{defined_names, known_before, IsWellTyp
 use Rattle.c_unit_typing.proofs.JudgedUnits.{name_in_bytes, IsWholeJudged, unit-judged}
 use Rattle.c_unit_typing.proofs.UnitStillDefined.{unit-defined}
 use Rattle.c_unit_given.specs.Countable.{IsCountable}
-use Rattle.c_unit_given.specs.UnitGiven.{AreSizesWritten, IsUnitGivenAs, Nothing, AreScopesKept, AreExpressionsGiven, AreDeclaratorsGiven}
-use Rattle.c_unit_given.specs.UnitUses.{used_by_unit}
+use Rattle.c_unit_given.proofs.UnitGiven.{AreSizesWritten, IsUnitGivenAs, Nothing, AreScopesKept, AreExpressionsGiven, AreDeclaratorsGiven}
+use Rattle.c_unit_typing.specs.TypesUsed.{used_by_unit}
 use Rattle.c_unit_given.proofs.BeforeText.{before_text, text-known, text-here}
 use Rattle.c_unit_given.proofs.FunctionNames.{AreAmong, names-own, place-own, all-among}
 use Rattle.c_unit_given.proofs.MainGiven.{main-passes}

@@ -14,18 +14,23 @@ use Rattle.c_type_order.specs.TypesUsed.{AreUses}
 use Rattle.c_unit_typing.specs.DefinitionJudging.{functions_written, main_tests, judge_unit, judge_whole, judged_unit}
 use Rattle.c_unit_typing.specs.Limits.{IsWithinLimits}
 use Rattle.c_unit_typing.specs.Units.{Known}
-use Rattle.c_unit_typing.specs.UnitJudging.{UnitState, Gives, pure, obeying}
+use Rattle.c_unit_typing.specs.UnitJudging.{UnitState, UnitOutcome, Gives, Stops, pure, obeying}
 use Rattle.c_unit_typing.specs.WellTyped.{defined_names, known_before, IsWellTyped}
 use Rattle.c_unit_typing.proofs.JudgedUnits.{name_in_bytes, IsWholeJudged, unit-judged}
 use Rattle.c_unit_typing.proofs.UnitStillDefined.{unit-defined}
 use Rattle.c_unit_given.specs.Countable.{IsCountable}
 use Rattle.c_unit_given.proofs.UnitGiven.{AreSizesWritten, IsUnitGivenAs, Nothing, AreScopesKept, AreExpressionsGiven, AreDeclaratorsGiven}
 use Rattle.c_unit_typing.specs.TypesUsed.{used_by_unit}
+use Rattle.c_unit_given.proofs.DefinitionsGiven.{definition-run}
+use Rattle.c_unit_given.proofs.LawsGiven.{expressions-given, declarators-given}
+use Rattle.c_unit_given.proofs.ScopesKept.{scopes-kept}
+use Rattle.c_unit_given.proofs.SizesWritten.{sizes-written}
+use Rattle.c_unit_given.proofs.StatementTrees.{block-items-run}
 use Rattle.c_unit_given.proofs.BeforeText.{before_text, text-known, text-here}
 use Rattle.c_unit_given.proofs.FunctionNames.{AreAmong, names-own, place-own, all-among}
 use Rattle.c_unit_given.proofs.MainGiven.{main-passes}
 use Rattle.c_unit_given.proofs.Runs.{then-is, obeying-is}
-use Rattle.c_unit_given.proofs.UnitCosts.{text-room}
+use Rattle.c_unit_given.proofs.UnitCosts.{text-room, unit-limited}
 use Rattle.c_unit_given.proofs.UnitsGiven.{IsDefinitionRun, unit-run}
 
 module _ (T : Table) (basic : IsBasic T) (exprs : AreExpressionsGiven T) (scopes : AreScopesKept T) (decls : AreDeclaratorsGiven T) (sizes : AreSizesWritten T)
@@ -76,3 +81,31 @@ module _ (T : Table) (basic : IsBasic T) (exprs : AreExpressionsGiven T) (scopes
 
   pub unit-given : IsDefinitionRun T (defined_names whole) → AreUses (used_by_unit T whole) (length basic_table) (length T) → (r : UnitState) × (judged_unit (erased_unit whole) ≡ Gives whole r)
   unit-given definitions uses = let g = parts_given definitions uses in (g.after, whole_given g)
+
+-- a unit that is well typed, within its limits and countable is given
+pub whole-given : (T : Table) (whole : TypedTranslationUnit) → IsBasic T → IsWellTyped T whole → IsWithinLimits T whole → IsCountable T whole
+    → (r : UnitState) × (judged_unit (erased_unit whole) ≡ Gives whole r)
+whole-given T whole basic typed limits countable =
+    let limited = unit-limited T whole limits countable in
+    let exprs = expressions-given T basic limited in
+    let decls = declarators-given T basic limited in
+    let scopes = scopes-kept T in
+    let sizes = sizes-written T in
+    let names : List Name = defined_names whole in
+    let few : length names ≤ 65535 = few_names T basic exprs scopes decls sizes whole typed limits countable in
+    unit-given T basic exprs scopes decls sizes whole typed limits countable
+    (λ before x form t brace body among holds.
+    definition-run T basic exprs scopes decls sizes names few before x form t brace body among (block-items-run T basic exprs scopes decls sizes body) holds) typed.types
+
+-- so two such units that erase to one tree are one, over whichever tables
+
+given_of : UnitOutcome TypedTranslationUnit → TypedTranslationUnit → TypedTranslationUnit
+given_of (Gives a s) other = a
+given_of (Stops f s) other = other
+
+pub one-given : (T U : Table) (one other : TypedTranslationUnit) → IsBasic T → IsWellTyped T one → IsWithinLimits T one → IsCountable T one → IsBasic U → IsWellTyped U other
+    → IsWithinLimits U other → IsCountable U other → erased_unit one ≡ erased_unit other → one ≡ other
+one-given T U one other b w l c b' w' l' c' e =
+    let left = whole-given T one b w l c in
+    let right = whole-given U other b' w' l' c' in
+    ap (λ (o : UnitOutcome TypedTranslationUnit). given_of o one) (sym left.1 ∙ ap judged_unit e ∙ right.1)

@@ -1,5 +1,5 @@
 -- The name of a function that is defined: it breaks no rule, it has its number, and it is declared and defined.
-use Rattle.std.proofs.Common.{◌≡◌, ◌<◌, ℕ, suc, Bool, true, false, not, ◌&&◌, ◌||◌, List, [], ◌∷◌, ◌++◌, length, Option, Some, None, refl, ap, sym, subst, ◌∙◌, bytes_eq, nat_lt, if◌then◌else◌, arith}
+use Rattle.std.proofs.Common.{◌≡◌, ◌<◌, ◌+◌, ℕ, suc, Bool, true, false, not, ◌&&◌, ◌||◌, List, [], ◌∷◌, ◌++◌, length, Option, Some, None, refl, ap, sym, subst, ◌∙◌, bytes_eq, nat_lt, if◌then◌else◌, arith}
 use Rattle.std.specs.List.{list_any, position_or_len}
 use Rattle.cc_base.specs.declared.place.Place.{Place}
 use Rattle.cc_base.specs.declared.number.TypeId.{TypeId}
@@ -119,7 +119,7 @@ module _ (T : Table) (name : Identifier) (base : TypedSpecifiers) (form : TypedF
     what : Declared
     after : UnitState
     gives : defined name t s ≡ Gives what after
-    here : IsUnitHere T after
+    known_here : IsUnitHere T after
     table : after.table ≡ s.table
     known : known_of after ≡ defining_function name.bytes k
     node : after.seen.node ≡ s.seen.node
@@ -140,7 +140,7 @@ module _ (T : Table) (name : Identifier) (base : TypedSpecifiers) (form : TypedF
         after = r;
         gives = then-is (linked_name name first) (λ (w : Declared) (m : UnitState). Gives w (record m { linkage = record m.linkage { defined = with_name name.bytes m.linkage.defined } })) one.what s q
             (Gives one.what r) one.gives refl;
-        here = record { here = one.here.here; unit = (defined-goes true name.bytes q one.here.unit).known; open_ = one.here.open_; homes = one.here.homes };
+        known_here = record { here = one.here.here; unit = (defined-goes true name.bytes q one.here.unit).known; open_ = one.here.open_; homes = one.here.homes };
         table = one.table;
         known = ap (λ (c : Known). record c { defined = with_name name.bytes c.defined }) one.known
             ∙ ap (λ (b : Bool). record k { defined = if b then k.defined else k.defined ++ name.bytes ∷ [] }) once;
@@ -174,7 +174,7 @@ module _ (T : Table) (name : Identifier) (base : TypedSpecifiers) (form : TypedF
             (ap (λ (o : Option ℕ). counted name.place o s) place ∙ counted_is name.place i s low)
             (then-is (defined name t) (λ (what : Declared). pure one) f.what s r (Gives one r) f.gives refl));
         reached = record {
-          here = f.here;
+          here = f.known_here;
           grown = subst (IsExtended s.table) (sym f.table) (extended_refl s.table);
           known = f.known;
           node = f.node;

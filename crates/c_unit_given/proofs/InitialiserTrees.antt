@@ -7,10 +7,11 @@ use Rattle.c_tree.specs.Erasure.{erased, erased_place, erased_items}
 use Rattle.c_tree.specs.Tree as tree
 use Rattle.c_tree.specs.TypedTree as typed
 use Rattle.c_tree.specs.TypedTree.{TypedExpr, TypedPlace, TypedInitialiser, TypedItems}
-use Rattle.c_tree.specs.TypedParts.{place_type, made_by_initialiser, made_by_items}
+use Rattle.c_tree.specs.TypedParts.{place_type, made_by, made_by_initialiser, made_by_items}
 use Rattle.c_typing.specs.Settled.{IsBasic}
 use Rattle.c_typing_unique.specs.Points.{Point}
 use Rattle.c_typing_exact.proofs.SameParts.{distinct}
+use Rattle.c_typing_given.specs.Uses.{used_by, used_by_place}
 use Rattle.c_unit_rules_alike.proofs.InitialiserRules.{is_char_array-over}
 use Rattle.c_unit_typing.specs.Holding.{items_holds}
 use Rattle.c_unit_typing.specs.Initialisers.{is_char_array, is_only_text}
@@ -27,14 +28,14 @@ module _ (T : Table) (basic : IsBasic T) (exprs : AreExpressionsGiven T) (scopes
   value_given : (e : TypedExpr) → IsInitialiserRun T basic exprs scopes (typed.Value e)
   unfolding judge_initialiser
   value_given e constant at t single item holds s k n count here c h numbers uses room =
-      plain-run T basic exprs scopes constant at t (erased e) (typed.Value e) _ _ (no-chars T (shape_at T t) h.0.1.1) (value-run T basic exprs scopes constant at t e h.0.1.1 holds) s k n count here c h numbers uses room
+      plain-run T basic exprs scopes constant at t (erased e) (typed.Value e) (made_by e) (used_by T e) (no-chars T (shape_at T t) h.0.1.1) (value-run T basic exprs scopes constant at t e h.0.1.1 holds) s k n count here c h numbers uses room
 
   copied_given : (p : TypedPlace) (seat : Place) → IsInitialiserRun T basic exprs scopes (typed.Copied p seat)
   unfolding judge_initialiser
   copied_given p seat constant at t single item holds s k n count here c h numbers uses room =
       let aggregate : is_aggregate_shape (shape_at T t) ≡ true = same_struct T t (place_type p) h.0.1.3 h.0.1.2 in
       subst (λ (o : Place). IsUnitGivenAs T Nothing (made_by_initialiser (typed.Copied p o)) (judge_initialiser constant (tree.Value (erased_place p)) at (Some t) single s) (typed.Copied p o) s k n count) (sym h.0.1.1)
-      (plain-run T basic exprs scopes constant at t (erased_place p) (typed.Copied p at) _ _ (no-chars-struct T (shape_at T t) aggregate)
+      (plain-run T basic exprs scopes constant at t (erased_place p) (typed.Copied p at) _ (used_by_place T p) (no-chars-struct T (shape_at T t) aggregate)
       (copied-run T basic exprs scopes constant at t p h.0.1.2 h.0.1.3 holds) s k n count here c ((h.0.0, (h.0.1.0, refl, h.0.1.2, h.0.1.3), h.0.2), h.1) numbers uses room)
 
   listed_as : (brace : Place) (items : TypedItems) (comma : Bool) (u : TypeId) → AreItemsRun T basic exprs scopes items → (constant : Bool) (at : Place) (t : TypeId) → items_holds (erased_items items) ≤ 256

@@ -32,3 +32,5 @@ mod ParametersDeclared
 mod ParameterNames
 mod FunctionsDefined
 mod DefinitionsGiven
+mod SwitchesGiven
+mod StatementTrees

@@ -1,11 +1,11 @@
 -- `switch`, whose labels are in a scope of their own, is given.
-use Rattle.std.proofs.Common.{◌≡◌, ◌≤◌, true, not, ◌++◌, Option, Some, refl, ap, sym, subst, ◌∙◌}
+use Rattle.std.proofs.Common.{◌≡◌, ◌≤◌, true, not, Option, Some, refl, ap, sym, subst, ◌∙◌}
 use Rattle.cc_base.specs.declared.number.TypeId.{TypeId}
 use Rattle.cc_base.specs.declared.place.Place.{Place}
 use Rattle.cc_base.specs.declared.fault.Rule.TheVariants as rule
 use Rattle.c_types.specs.Table.{Table, IsType, shape_at}
 use Rattle.c_types.specs.Sound.{IsIntegerSize}
-use Rattle.c_tree.specs.Erasure.{erased, erased_statement, erased_block_items}
+use Rattle.c_tree.specs.Erasure.{erased, erased_block_items}
 use Rattle.c_tree.specs.TypedTree as typed
 use Rattle.c_tree.specs.TypedTree.{TypedExpr, TypedStatement, TypedBlockItems}
 use Rattle.c_tree.specs.TypedParts.{made_by, made_by_block_items, type_of}

@@ -21,7 +21,7 @@ use Rattle.c_typing.specs.Declarators.{FormMakes, Written}
 use Rattle.c_typing.specs.Extensions.{IsExtended}
 use Rattle.c_typing.specs.Judging.{State}
 use Rattle.c_typing.specs.Rules.{runtime_named}
-use Rattle.c_typing.specs.Scopes.{Name, Level, Scopes, here as named_here, without_innermost}
+use Rattle.c_typing.specs.Scopes.{Level, Scopes, here as named_here, without_innermost}
 use Rattle.c_typing.specs.Settled.{IsBasic}
 use Rattle.c_typing.specs.Shapes.{IsScalar, IsSameType, is_function_shape}
 use Rattle.c_typing.specs.Typing.{IsTyped, IsPlace, AreSpecifiers, AreAlone, IsForm}
@@ -77,7 +77,7 @@ pub record IsScopeKept (s s' : Scopes) : Type 0 where
   pub deep : length s'.levels ≡ length s.levels
   pub homes : (n : ℕ) → AreHomesBelow n s.levels → AreHomesBelow n s'.levels
   -- what is no name of the innermost scope after it was none before
-  pub names : (name : Name) → named_here s'.levels name ≡ None → named_here s.levels name ≡ None
+  pub names : (name : List ℕ) → named_here s'.levels name ≡ None → named_here s.levels name ≡ None
 
 pub record AreScopesKept (T : Table) : Type 0 where
   pub value : (e : TypedExpr) (s s' : Scopes) → IsTyped T e s s' → IsScopeKept s s'

@@ -6,7 +6,7 @@ use Rattle.cc_base.specs.declared.place.Place.{Place}
 use Rattle.cc_base.specs.declared.number.TypeId.{TypeId}
 use Rattle.c_types.specs.declared.shape.TypeShape.{TypeShape}
 use Rattle.c_types.specs.declared.shape.TypeShape.TheVariants.{Function}
-use Rattle.c_types.specs.Table.{Table, IsType, shape_at, triedby}
+use Rattle.c_types.specs.Table.{Table, IsType, shape_at, named_by}
 use Rattle.c_tree.specs.declared.leaf.Identifier.{Identifier}
 use Rattle.c_tree.specs.declared.typed_word.Home.{Home}
 use Rattle.c_tree.specs.declared.typed_word.Home.TheVariants as home
@@ -234,7 +234,7 @@ module _ (T : Table) (basic : IsBasic T) (exprs : AreExpressionsGiven T) (scopes
           (own-parameters T scopes cut.0 form t s.seen.scopes one.inside s.seen.node ps one.parts cut.1 q.1.written r.seen.scopes) in
           let known_result =
           All-head (IsType r.table) q.1.result q.1.types
-          (subst (λ (y : TypeShape). All (IsType r.table) (triedby y)) shape_there (tried.reached.here.here.known.basic.formed.each t).named) in
+          (subst (λ (y : TypeShape). All (IsType r.table) (named_by y)) shape_there (tried.reached.here.here.known.basic.formed.each t).named) in
           body_given brace q.1.result ps list run items_held r q.1.after k n count tried.reached.here known_result there new
           (subst (λ (l : Known). AreBlockItems T (inside_function q.1.result) None list (with_scopes l (with_parameters ps (entering l.scopes))) q.1.after) (sym tried.reached.known) q.1.statements) q.1.defaults
           q.1.leaves (subst (λ (i : ℕ). Numbers ys i n) (sym node) cut.2) (subst (λ (i : ℕ). AreUses (used_by_block_items T list) i count) (sym types) parts.2)

@@ -34,3 +34,5 @@ mod FunctionsDefined
 mod DefinitionsGiven
 mod SwitchesGiven
 mod StatementTrees
+mod LawsGiven
+mod SizesWritten

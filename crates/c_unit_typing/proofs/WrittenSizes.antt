@@ -57,7 +57,7 @@ char_element (Function ps r) count h = no_true h
 char_element (Struct n) count h = no_true h
 char_element (Union n) count h = no_true h
 
-both_false : {P : Type 0} (a : Bool) → a ≡ false → a ≡ true → P
+pub both_false : {P : Type 0} (a : Bool) → a ≡ false → a ≡ true → P
 both_false a f t = absurd (true≢false (sym t ∙ f))
 
 and_falls : (a b : Bool) → b ≡ false → (a && b) ≡ false
@@ -181,7 +181,6 @@ module _ (T : Table) (c : Scopes) where
     nearest_plain (typed.AndFunction all at ps) a x = refl
 
     -- an array part without a size, of what is no character, or behind which others stand
-    -- an array part without a size, of what is no character, or behind which others stand
     open_any : (a : Outermost) (words : List Word) (element t : TypeId) {P : Type 0} → is_pointed a ≡ false → is_char_shape (shape_at T element) ≡ false → is_char_array T t ≡ true
         → MakesArray T c a words None element t → P
     open_any (Points n) words element t x f y h = no_true (sym x)
@@ -234,7 +233,7 @@ module _ (T : Table) (c : Scopes) where
     outside_any core parts u v t false q n y g h = parts_top parts u v (n refl) (ap (is_char_array T) (sym (bare_core_same core o v t q g)) ∙ y) h
 
     mutual
-      form_any : (form : TypedForm) (base t : TypeId) → is_char_array T t ≡ true → (is_one_array (erased_form form) && is_char_shape (shape_at T base)) ≡ false
+      pub form_any : (form : TypedForm) (base t : TypeId) → is_char_array T t ≡ true → (is_one_array (erased_form form) && is_char_shape (shape_at T base)) ≡ false
           → FormMakes T c form o base t → FormMakes T c form p base t
       form_any (typed.Form stars core parts) base t y n h = (
         h.0,
@@ -259,7 +258,7 @@ module _ (T : Table) (c : Scopes) where
   counted_chars (Counts g) words u w x y h = ap (λ (z : TypeShape). has_count (char_count_of_shape T z)) h.1.1.1 ∙ char_element (shape_at T u) g y
 
   mutual
-    one_array_char : (form : TypedForm) (o : Outermost) (base t : TypeId) → is_one_array (erased_form form) ≡ true → is_pointed o ≡ false → is_char_shape (shape_at T base) ≡ true
+    pub one_array_char : (form : TypedForm) (o : Outermost) (base t : TypeId) → is_one_array (erased_form form) ≡ true → is_pointed o ≡ false → is_char_shape (shape_at T base) ≡ true
         → FormMakes T c form o base t → is_char_array T t ≡ true
     one_array_char (typed.Form [] core (typed.AndArray typed.NoPart at words)) o base t n x y h =
         let q = underived_core core n in
@@ -282,7 +281,7 @@ count_same : (items : TypedItems) → count_written (erased_items items) ≡ ite
 count_same typed.NoItem = refl
 count_same (typed.AndItem all offset t i) = ap (λ (n : ℕ). n + 1) (count_same all)
 
-size_plain : (i : TypedInitialiser) → size_written false (erased_initialiser i) ≡ size_given false i
+pub size_plain : (i : TypedInitialiser) → size_written false (erased_initialiser i) ≡ size_given false i
 size_plain (typed.Value e) = refl
 size_plain (typed.Copied p at) = refl
 size_plain (typed.Text pieces bytes) = refl
@@ -305,14 +304,14 @@ abbrev pub IsTextAsWritten : TypedInitialiser → Type 0
 IsTextAsWritten (typed.Listed brace items comma t) = is_only_text items ≡ is_only_literal (erased_items items)
 IsTextAsWritten i = Unit {0}
 
-size_chars : (T : Table) (i : TypedInitialiser) (at : Place) (t : TypeId) (s s' : Scopes) → is_char_array T t ≡ true → IsInitialiser T i at t s s' → IsTextAsWritten i
+pub size_chars : (T : Table) (i : TypedInitialiser) (at : Place) (t : TypeId) (s s' : Scopes) → is_char_array T t ≡ true → IsInitialiser T i at t s s' → IsTextAsWritten i
     → size_written true (erased_initialiser i) ≡ size_given true i
 size_chars T (typed.Value e) at t s s' y h w = both_false (is_scalar_shape (shape_at T t)) (chars_no_scalar T (shape_at T t) y) h.1
 size_chars T (typed.Copied p seat) at t s s' y h w = both_false (is_aggregate_shape (shape_at T (place_type p))) (array_not_struct T t (place_type p) y h.3) h.2
 size_chars T (typed.Text pieces bytes) at t s s' y h w = refl
 size_chars T (typed.Listed brace items comma u) at t s s' y h w = ap Some (listed_same items w)
 
-outermost_plain : (o : Option ℕ) → is_pointed (outermost_of o) ≡ false
+pub outermost_plain : (o : Option ℕ) → is_pointed (outermost_of o) ≡ false
 outermost_plain None = refl
 outermost_plain (Some n) = refl
 

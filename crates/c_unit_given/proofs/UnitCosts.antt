@@ -1,11 +1,10 @@
 -- What a unit that is within its limits costs: there is room for it where its text begins.
-use Rattle.std.proofs.Common.{◌≡◌, ◌≤◌, ◌+◌, ℕ, List, [], ◌∷◌, length, refl, ap, sym, subst, ◌∙◌, arith}
+use Rattle.std.proofs.Common.{◌≡◌, ◌≤◌, ◌+◌, ℕ, List, [], ◌∷◌, length, refl, ap, sym, subst, arith}
 use Rattle.std.specs.List.{All}
 use Rattle.std.proofs.lemmas.List.Elements.{All-head, All-tail, All-get_or}
 use Rattle.cc_base.specs.declared.number.TypeId.{TypeId}
 use Rattle.c_types.specs.declared.shape.TypeShape.{TypeShape}
-use Rattle.c_types.specs.declared.shape.TypeShape.TheVariants.{Function}
-use Rattle.c_types.specs.Table.{Table, Entry, HasShape, void_entry}
+use Rattle.c_types.specs.Table.{Table, Entry, void_entry}
 use Rattle.c_tree.specs.declared.leaf.Identifier.{Identifier}
 use Rattle.c_tree.specs.declared.typed_word.Home.{Home}
 use Rattle.c_tree.specs.declared.typed_word.Home.TheVariants as home
@@ -15,7 +14,7 @@ use Rattle.c_types.specs.Sound.{IsWellFormed}
 use Rattle.c_typing.specs.Scopes as scopes
 use Rattle.c_typing_unique.specs.Points.{Numbers}
 use Rattle.c_typing_given.specs.Limits.{IsLimited}
-use Rattle.c_typing_given.specs.Spending.{node_cost, cell_cost, total}
+use Rattle.c_typing_given.specs.Spending.{cell_cost, total}
 use Rattle.c_typing_given.proofs.Settling.{numbers-end}
 use Rattle.c_cells_kept.specs.Counted.{copied_by, copied}
 use Rattle.c_unit_typing.specs.Limits.{IsWithinLimits, parameters_of_shape}

@@ -1,5 +1,5 @@
 -- Units are given: one declaration or function definition after another.
-use Rattle.std.proofs.Common.{◌≡◌, ◌≤◌, max, true, List, [], ◌++◌, Option, None, refl, sym, subst, ◌∙◌, append_assoc}
+use Rattle.std.proofs.Common.{◌≡◌, ◌≤◌, max, true, List, [], ◌++◌, refl, sym, subst, ◌∙◌, append_assoc}
 use Rattle.cc_base.specs.declared.number.TypeId.{TypeId}
 use Rattle.cc_base.specs.declared.place.Place.{Place}
 use Rattle.c_types.specs.Table.{Table}

@@ -1,5 +1,5 @@
 -- A unit that is well typed over a table of types, within its limits and countable, is given.
-use Rattle.std.proofs.Common.{◌≡◌, ◌≤◌, ◌+◌, ℕ, List, [], ◌++◌, length, refl, ap, sym, subst, ◌∙◌, arith}
+use Rattle.std.proofs.Common.{◌≡◌, ◌≤◌, ◌+◌, ℕ, List, [], length, refl, ap, sym, subst, ◌∙◌, arith}
 use Rattle.std.proofs.lemmas.List.{append-nil, length-map}
 use Rattle.c_types.specs.Calls.{basic_table}
 use Rattle.c_types.specs.Table.{Table}
@@ -10,8 +10,8 @@ use Rattle.c_typing.specs.Scopes.{Name}
 use Rattle.c_typing.specs.Settled.{IsBasic}
 use Rattle.c_typing_unique.specs.Points.{Numbers}
 use Rattle.c_typing_unique.proofs.Numbering.{numbers-from}
-use Rattle.c_type_order.specs.TypesUsed.{AreUses}
-use Rattle.c_unit_typing.specs.DefinitionJudging.{functions_written, main_tests, judge_unit, judge_whole, judged_unit}
+use Rattle.c_typing_given.specs.Uses.{AreUses}
+use Rattle.c_unit_typing.specs.DefinitionJudging.{main_tests, judge_unit, judge_whole, judged_unit}
 use Rattle.c_unit_typing.specs.Limits.{IsWithinLimits}
 use Rattle.c_unit_typing.specs.Units.{Known}
 use Rattle.c_unit_typing.specs.UnitJudging.{UnitState, UnitOutcome, Gives, Stops, pure, obeying}

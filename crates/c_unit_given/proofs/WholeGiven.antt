@@ -10,7 +10,7 @@ use Rattle.c_typing.specs.Scopes.{Name}
 use Rattle.c_typing.specs.Settled.{IsBasic}
 use Rattle.c_typing_unique.specs.Points.{Numbers}
 use Rattle.c_typing_unique.proofs.Numbering.{numbers-from}
-use Rattle.c_typing_given.specs.Uses.{AreUses}
+use Rattle.c_type_order.specs.TypesUsed.{AreUses}
 use Rattle.c_unit_typing.specs.DefinitionJudging.{main_tests, judge_unit, judge_whole, judged_unit}
 use Rattle.c_unit_typing.specs.Limits.{IsWithinLimits}
 use Rattle.c_unit_typing.specs.Units.{Known}

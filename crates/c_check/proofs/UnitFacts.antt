@@ -17,7 +17,7 @@ use Rattle.c_typing.specs.Settled.{IsBasic}
 use Rattle.c_typing.specs.Tests.{first_broken}
 use Rattle.c_check.specs.Judged.{IsAccepted, IsAnswered, IsJudged, fault_of}
 use Rattle.c_unit_given.specs.Countable.{IsCountable}
-use Rattle.c_unit_given.proofs.WholeGiven.{whole-given}
+use Rattle.c_unit_given.proofs.WholeGiven.{given-of, whole-given}
 use Rattle.c_unit_limits.proofs.UnitLimits.{whole-limits}
 use Rattle.c_unit_typing.specs.DefinitionJudging.{before_unit, judge_unit, judge_whole, judged_unit, main_tests}
 use Rattle.c_unit_typing.specs.Limits.{IsWithinLimits}
@@ -104,10 +104,6 @@ within-limits u t j = subst (λ (T : Table). IsWithinLimits T (typed_unit_view t
 
 -- Acceptance
 
-given_of : UnitOutcome TypedTranslationUnit → TypedTranslationUnit → TypedTranslationUnit
-given_of (Gives a s) other = a
-given_of (Stops f s) other = other
-
 memory_alone : (f : Fault) → (f ≢ NoMemory → ⊥) → f ≡ NoMemory
 memory_alone NoMemory h = refl
 memory_alone (Refused p t) h = absurd (h (λ e. true≢false (ap is_wanting (sym e))))
@@ -115,7 +111,7 @@ memory_alone (TooLarge p l) h = absurd (h (λ e. true≢false (ap is_wanting (sy
 
 -- what judging gives is the answer, unless memory is wanted
 pub is-accepted : (u : tree.TranslationUnit) (result : Result Typed Fault) (whole : TypedTranslationUnit) (r : UnitState) → judged_unit u ≡ Gives whole r → IsAnswered u result → IsAccepted whole result
-is-accepted u (Ok t) whole r g h = ap (λ (o : UnitOutcome TypedTranslationUnit). given_of o whole) (sym h.gives ∙ g)
+is-accepted u (Ok t) whole r g h = ap (λ (o : UnitOutcome TypedTranslationUnit). given-of o whole) (sym h.gives ∙ g)
 is-accepted u (Err f) whole r g h = memory_alone f (λ n. none-some f (ap fault_of (sym g) ∙ h n))
 
 pub accepts : (u : tree.TranslationUnit) (result : Result Typed Fault) → IsAnswered u result → (T : Table) (whole : TypedTranslationUnit) → IsBasic T → IsWellTyped T whole → IsWithinLimits T whole

@@ -99,13 +99,13 @@ whole-given T whole basic typed limits countable =
 
 -- so two such units that erase to one tree are one, over whichever tables
 
-given_of : UnitOutcome TypedTranslationUnit → TypedTranslationUnit → TypedTranslationUnit
-given_of (Gives a s) other = a
-given_of (Stops f s) other = other
+abbrev pub given-of : UnitOutcome TypedTranslationUnit → TypedTranslationUnit → TypedTranslationUnit
+given-of (Gives a s) other = a
+given-of (Stops f s) other = other
 
 pub one-given : (T U : Table) (one other : TypedTranslationUnit) → IsBasic T → IsWellTyped T one → IsWithinLimits T one → IsCountable T one → IsBasic U → IsWellTyped U other
     → IsWithinLimits U other → IsCountable U other → erased_unit one ≡ erased_unit other → one ≡ other
 one-given T U one other b w l c b' w' l' c' e =
     let left = whole-given T one b w l c in
     let right = whole-given U other b' w' l' c' in
-    ap (λ (o : UnitOutcome TypedTranslationUnit). given_of o one) (sym left.1 ∙ ap judged_unit e ∙ right.1)
+    ap (λ (o : UnitOutcome TypedTranslationUnit). given-of o one) (sym left.1 ∙ ap judged_unit e ∙ right.1)

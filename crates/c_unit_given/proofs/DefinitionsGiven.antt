@@ -35,7 +35,7 @@ use Rattle.c_typing_unique.specs.Points.{Point, Numbers}
 use Rattle.c_typing_unique.proofs.Shapes.{no_true}
 use Rattle.c_typing_unique.proofs.Numbering.{two-parts}
 use Rattle.c_typing_given.specs.Given.{IsHere}
-use Rattle.c_typing_given.specs.Uses.{AreUses, used_by_specifiers, used_by_declarator}
+use Rattle.c_type_order.specs.TypesUsed.{AreUses, used_by_specifiers, used_by_declarator}
 use Rattle.c_typing_given.proofs.ValuesGiven.{uses-first}
 use Rattle.c_unit_typing.specs.DeclarationJudging.{naming_for, linked_first}
 use Rattle.c_unit_typing.specs.DefinitionJudging.{declare_parameters, form_of, result_of, body, defined_as, judge_definition}

@@ -18,7 +18,7 @@ use Rattle.c_unit_typing.specs.DefinitionJudging.{declare_parameter, declare_par
 use Rattle.c_unit_typing.specs.Units.{Known, with_scopes, parameter_declared, declared_identifier, with_parameters}
 use Rattle.c_unit_typing.specs.UnitJudging.{UnitState, UnitJudging, Gives, known_of, pure}
 use Rattle.c_unit_typing.proofs.FunctionParameters.{AreParametersThere}
-use Rattle.c_unit_given.specs.UnitGiven.{IsUnitHere, IsUnitGivenAs, Nothing}
+use Rattle.c_unit_given.proofs.UnitGiven.{IsUnitHere, IsUnitGivenAs, Nothing}
 use Rattle.c_unit_given.proofs.NamesGiven.{new-given}
 use Rattle.c_unit_given.proofs.Runs.{then-is, reached-then}
 use Rattle.c_unit_given.proofs.UnitRoom.{unit-spent-none}

@@ -6,7 +6,7 @@ use Rattle.cc_base.specs.declared.number.TypeId.{TypeId}
 use Rattle.c_types.specs.Table.{Table, IsType, shape_at, IsAggregate}
 use Rattle.c_types.specs.Layouts.{size_of}
 use Rattle.c_tree.specs.declared.typed_word.Home.TheVariants as home
-use Rattle.c_tree.specs.Erasure.{erased, erased_place, erased_specifiers, erased_form, erased_initialiser, erased_items}
+use Rattle.c_tree.specs.Erasure.{erased, erased_place, erased_specifiers, erased_form, erased_initialiser}
 use Rattle.c_tree.specs.TypedTree as typed
 use Rattle.c_tree.specs.TypedTree.{TypedExpr, TypedPlace, TypedSpecifiers, TypedForm, TypedInitialiser}
 use Rattle.c_tree.specs.TypedParts.{Made, Name, made_by, made_by_place, made_by_specifiers, made_by_form, place_type, specified_type, name_of_form, home_of_form}
@@ -32,8 +32,7 @@ use Rattle.c_typing_given.specs.Given.{IsHere, IsGivenAs}
 use Rattle.c_unit_typing.specs.Holding.{expr_holds, specifiers_holds, declarator_holds}
 use Rattle.c_typing_given.specs.Spending.{HasRoom, node_cost, literal_cost, cell_cost, total}
 use Rattle.c_type_order.specs.TypesUsed.{Use, AreUses, used_by, used_by_place, used_by_specifiers, used_by_declarator}
-use Rattle.c_unit_typing.specs.Initialisers.{IsInitialiser, is_char_array, is_only_text, size_given, makes_chars}
-use Rattle.c_unit_typing.specs.InitialiserJudging.{is_only_literal}
+use Rattle.c_unit_typing.specs.Initialisers.{IsInitialiser, is_char_array, size_given, makes_chars}
 use Rattle.c_unit_typing.specs.UnitRefusals.{size_written}
 use Rattle.c_unit_typing.specs.Units.{Known, outermost_of}
 use Rattle.c_unit_typing.specs.UnitJudged.{state_of, IsUnitKnown}

@@ -22,10 +22,15 @@ use Rattle.c_unit_given.specs.Countable.{IsCountable}
 use Rattle.c_unit_given.specs.UnitGiven.{AreSizesWritten, IsUnitGivenAs, Nothing, AreScopesKept, AreExpressionsGiven, AreDeclaratorsGiven}
 use Rattle.c_unit_given.specs.UnitUses.{used_by_unit}
 use Rattle.c_unit_given.proofs.BeforeText.{before_text, text-known, text-here}
+use Rattle.c_unit_given.proofs.DefinitionsGiven.{definition-run}
 use Rattle.c_unit_given.proofs.FunctionNames.{AreAmong, names-own, place-own, all-among}
+use Rattle.c_unit_given.proofs.LawsGiven.{expressions-given, declarators-given}
 use Rattle.c_unit_given.proofs.MainGiven.{main-passes}
 use Rattle.c_unit_given.proofs.Runs.{then-is, obeying-is}
-use Rattle.c_unit_given.proofs.UnitCosts.{text-room}
+use Rattle.c_unit_given.proofs.ScopesKept.{scopes-kept}
+use Rattle.c_unit_given.proofs.SizesWritten.{sizes-written}
+use Rattle.c_unit_given.proofs.StatementTrees.{block-items-run}
+use Rattle.c_unit_given.proofs.UnitCosts.{text-room, unit-limited}
 use Rattle.c_unit_given.proofs.UnitsGiven.{IsDefinitionRun, unit-run}
 
 module _ (T : Table) (basic : IsBasic T) (exprs : AreExpressionsGiven T) (scopes : AreScopesKept T) (decls : AreDeclaratorsGiven T) (sizes : AreSizesWritten T)
@@ -71,8 +76,19 @@ module _ (T : Table) (basic : IsBasic T) (exprs : AreExpressionsGiven T) (scopes
         (subst (λ (all : List Name). AreAmong all whole) (sym same_names) among)) refl)
 
     -- the names are those of the text
-    whole_given : judged_unit (erased_unit whole) ≡ Gives whole g.after
-    whole_given = subst (λ (all : List Name). WholeFrom all g.after) judged.names whole_from
+    text_given : judged_unit (erased_unit whole) ≡ Gives whole g.after
+    text_given = subst (λ (all : List Name). WholeFrom all g.after) judged.names whole_from
 
-  pub unit-given : IsDefinitionRun T (defined_names whole) → AreUses (used_by_unit T whole) (length basic_table) (length T) → (r : UnitState) × (judged_unit (erased_unit whole) ≡ Gives whole r)
-  unit-given definitions uses = let g = parts_given definitions uses in (g.after, whole_given g)
+  definitions : IsDefinitionRun T (defined_names whole)
+  definitions before x form t brace body one holds =
+      definition-run T basic exprs scopes decls sizes (defined_names whole) few_names before x form t brace body one (block-items-run T basic exprs scopes decls sizes body) holds
+
+  pub unit-given : AreUses (used_by_unit T whole) (length basic_table) (length T) → (r : UnitState) × (judged_unit (erased_unit whole) ≡ Gives whole r)
+  unit-given uses = let g = parts_given definitions uses in (g.after, text_given g)
+
+-- a unit is given, by what is given of its expressions and declarators
+pub whole-given : (T : Table) (whole : TypedTranslationUnit) → IsBasic T → IsWellTyped T whole → IsWithinLimits T whole → IsCountable T whole
+    → AreUses (used_by_unit T whole) (length basic_table) (length T) → (r : UnitState) × (judged_unit (erased_unit whole) ≡ Gives whole r)
+whole-given T whole basic typed limits countable uses =
+    let limited = unit-limited T whole limits countable in
+    unit-given T basic (expressions-given T basic limited) (scopes-kept T) (declarators-given T basic limited) (sizes-written T) whole typed limits countable uses

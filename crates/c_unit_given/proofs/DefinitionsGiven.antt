@@ -1,5 +1,5 @@
 -- The definition of a function that is well typed is given.
-use Rattle.std.proofs.Common.{◌≡◌, ◌≤◌, ◌<◌, ℕ, Bool, true, false, max, List, [], ◌∷◌, ◌++◌, length, Option, Some, None, refl, ap, sym, subst, ◌∙◌, arith}
+use Rattle.std.proofs.Common.{◌≡◌, ◌≤◌, ℕ, Bool, true, false, max, List, [], ◌++◌, length, Option, Some, None, refl, ap, sym, subst, ◌∙◌, arith}
 use Rattle.std.specs.List.{All}
 use Rattle.std.proofs.lemmas.List.Elements.{All-head}
 use Rattle.cc_base.specs.declared.place.Place.{Place}
@@ -14,10 +14,9 @@ use Rattle.c_tree.specs.Erasure.{erased_specifiers, erased_form, erased_block_it
 use Rattle.c_tree.specs.Tree as tree
 use Rattle.c_tree.specs.TypedTree as typed
 use Rattle.c_tree.specs.TypedTree.{TypedSpecifiers, TypedForm, TypedDeclarator, TypedParameters, TypedBlockItems, TypedTranslationUnit}
-use Rattle.c_tree.specs.TypedParts.{Made, made_by_specifiers, made_by_form, made_by_block_items, specified_type, declared_type, name_of_form, home_of_form}
+use Rattle.c_tree.specs.TypedParts.{made_by_specifiers, made_by_form, made_by_block_items, specified_type, declared_type, name_of_form, home_of_form}
 use Rattle.c_typing.specs.declared.declared.Declared.TheVariants as declared
 use Rattle.c_typing.specs.declared.naming.Naming.{Naming}
-use Rattle.c_typing.specs.declared.naming.Naming.TheVariants as naming
 use Rattle.c_typing.specs.Declarators.{Written}
 use Rattle.c_typing.specs.Declaring.{declarator_name, entered, left, unless_function}
 use Rattle.c_typing.specs.Judging as judging
@@ -36,13 +35,13 @@ use Rattle.c_typing_unique.specs.Points.{Point, Numbers}
 use Rattle.c_typing_unique.proofs.Shapes.{no_true}
 use Rattle.c_typing_unique.proofs.Numbering.{two-parts}
 use Rattle.c_typing_given.specs.Given.{IsHere}
-use Rattle.c_typing_given.specs.Uses.{Use, AreUses, used_by_specifiers, used_by_declarator}
+use Rattle.c_typing_given.specs.Uses.{AreUses, used_by_specifiers, used_by_declarator}
 use Rattle.c_typing_given.proofs.ValuesGiven.{uses-first}
 use Rattle.c_unit_typing.specs.DeclarationJudging.{naming_for, linked_first}
 use Rattle.c_unit_typing.specs.DefinitionJudging.{declare_parameters, form_of, result_of, body, defined_as, judge_definition}
 use Rattle.c_unit_typing.specs.Holding.{specifiers_holds, declarator_holds, block_items_holds}
 use Rattle.c_unit_typing.specs.StatementJudging.{judge_block_items}
-use Rattle.c_unit_typing.specs.Units.{Known, Around, with_scopes, leaving_known, storage_of, is_one_of, bytes_of_name, parameters_of_form, with_parameters, labels_of, defaults_in, AreDifferent, IsLinked, IsDeclarator, AreBlockItems, IsDefinition}
+use Rattle.c_unit_typing.specs.Units.{Known, Around, with_scopes, leaving_known, storage_of, is_one_of, bytes_of_name, parameters_of_form, with_parameters, defaults_in, AreDifferent, IsLinked, IsDeclarator, AreBlockItems, IsDefinition}
 use Rattle.c_unit_typing.specs.UnitJudged.{state_of}
 use Rattle.c_unit_typing.specs.UnitJudging.{UnitState, UnitJudging, Gives, known_of, known, next, by_known, pure, lifted, ◌>>=◌}
 use Rattle.c_unit_typing.proofs.DeclaredNames.{is_typedef}

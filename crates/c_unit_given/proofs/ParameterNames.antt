@@ -1,7 +1,6 @@
 -- The parameters that a declarator has itself: their names are new in any scope that begins empty, and their homes were given out.
-use Rattle.std.proofs.Common.{◌≡◌, ◌≤◌, ◌<◌, ℕ, Bool, true, false, List, [], ◌∷◌, ◌++◌, length, Option, Some, None, refl, ap, sym, subst, ◌∙◌, arith}
+use Rattle.std.proofs.Common.{◌≡◌, ◌≤◌, ◌<◌, ℕ, Bool, List, [], ◌∷◌, ◌++◌, length, Option, Some, None, refl, sym, subst, arith}
 use Rattle.std.proofs.lemmas.Option.{none-some}
-use Rattle.cc_base.specs.declared.number.NodeId.{NodeId}
 use Rattle.cc_base.specs.declared.number.TypeId.{TypeId}
 use Rattle.c_types.specs.Table.{Table}
 use Rattle.c_tree.specs.declared.leaf.Identifier.{Identifier}
@@ -10,11 +9,11 @@ use Rattle.c_tree.specs.declared.typed_word.Home.TheVariants as home
 use Rattle.c_tree.specs.declared.typed_word.TypedStar.{TypedStar}
 use Rattle.c_tree.specs.TypedTree as typed
 use Rattle.c_tree.specs.TypedTree.{TypedForm, TypedCore, TypedParts, TypedParameters, TypedDeclared}
-use Rattle.c_tree.specs.TypedParts.{Made, made_by, made_by_stars, made_by_specifiers, made_by_form, made_by_core, made_by_parts, made_by_parameters, made_by_declared, made_by_adjusted, declared_home}
+use Rattle.c_tree.specs.TypedParts.{made_by, made_by_stars, made_by_specifiers, made_by_form, made_by_core, made_by_parts, made_by_parameters, made_by_declared, made_by_adjusted, declared_home}
 use Rattle.c_typing.specs.declared.declared.Declared.TheVariants as declared
 use Rattle.c_typing.specs.Declarators.{is_void_list}
 use Rattle.c_typing.specs.Scopes.{Scopes, with_name, declaring, entering}
-use Rattle.c_typing.specs.Typing.{IsForm, IsCore, AreParts, AreParameters, IsDeclared, IsNewName}
+use Rattle.c_typing.specs.Typing.{IsForm, IsCore, AreParts, AreParameters, IsDeclared}
 use Rattle.c_typing_unique.specs.Points.{Numbers}
 use Rattle.c_typing_unique.proofs.DeclaratorSteps.{name_declared, DeclaresName, declares-by}
 use Rattle.c_typing_unique.proofs.Numbering.{two-parts}

@@ -16,10 +16,10 @@ use Rattle.c_typing_laws.proofs.ExtensionLaws.{extended_refl, still_in}
 use Rattle.c_unit_typing.specs.DeclarationJudging.{new_name}
 use Rattle.c_unit_typing.specs.DefinitionJudging.{declare_parameter, declare_parameters}
 use Rattle.c_unit_typing.specs.Units.{Known, with_scopes, parameter_declared, declared_identifier, with_parameters}
-use Rattle.c_unit_typing.specs.UnitJudging.{UnitState, UnitJudging, UnitOutcome, Gives, known_of, pure}
+use Rattle.c_unit_typing.specs.UnitJudging.{UnitState, UnitJudging, Gives, known_of, pure}
 use Rattle.c_unit_typing.proofs.FunctionParameters.{AreParametersThere}
 use Rattle.c_unit_given.specs.UnitGiven.{IsUnitHere, IsUnitGivenAs, Nothing}
-use Rattle.c_unit_given.proofs.NamesGiven.{IsDeclaredGiven, new-given}
+use Rattle.c_unit_given.proofs.NamesGiven.{new-given}
 use Rattle.c_unit_given.proofs.Runs.{then-is, reached-then}
 use Rattle.c_unit_given.proofs.UnitRoom.{unit-spent-none}
 

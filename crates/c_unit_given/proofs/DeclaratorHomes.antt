@@ -27,9 +27,10 @@ use Rattle.c_unit_typing.specs.DeclarationJudging.{first_home, naming_for}
 use Rattle.c_unit_typing.specs.Units.{Known, Storage, Unstored, AsTypedef, AsExtern, AsStatic, AsAutomatic, IsLinkedHome, IsOrdinaryDeclared, IsObjectDeclared, IsFunctionDeclared, IsTypedefDeclared, IsNameDeclared}
 use Rattle.c_unit_typing.proofs.DeclaredNames.{is_typedef}
 use Rattle.c_unit_typing.proofs.NameSteps.{entry-there}
+use Rattle.c_typing_given.proofs.Spent.{total-append}
 use Rattle.c_unit_given.specs.UnitGiven.{IsHomeBelow, AreHomesBelow, object_cost}
 use Rattle.c_unit_given.proofs.NamesGiven.{home_cost}
-use Rattle.c_unit_given.proofs.UnitRoom.{total-append, literals-objects}
+use Rattle.c_unit_given.proofs.UnitRoom.{literals-objects}
 
 -- Which home
 

@@ -1,5 +1,5 @@
 -- What one part of a unit after another costs.
-use Rattle.std.proofs.Common.{◌≡◌, ◌≤◌, ◌+◌, ℕ, List, [], ◌∷◌, ◌++◌, arith}
+use Rattle.std.proofs.Common.{◌≡◌, ◌≤◌, List, [], ◌∷◌, ◌++◌, arith}
 use Rattle.c_types.specs.Table.{Table}
 use Rattle.c_tree.specs.declared.typed_word.Home.TheVariants as home
 use Rattle.c_tree.specs.TypedParts.{Made, Written, Name, Literal, Address, Copy}

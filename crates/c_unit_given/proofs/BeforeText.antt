@@ -1,12 +1,11 @@
 -- What is known where the text of a unit begins.
 use Rattle.std.proofs.Common.{◌≡◌, ◌≤◌, ℕ, List, [], length, Some, refl, lit<, lit≤, arith}
-use Rattle.std.specs.List.{All}
 use Rattle.std.proofs.lemmas.List.Elements.{All-nil, All-cons}
 use Rattle.c_types.specs.Calls.{basic_table}
 use Rattle.c_types.specs.Table.{Table}
 use Rattle.runtime_calls.specs.Prototypes.{IsNoName}
 use Rattle.c_typing.specs.declared.declared.Declared.{Declared}
-use Rattle.c_typing.specs.Scopes.{Name, Level, file_scope, empty_level, place_among}
+use Rattle.c_typing.specs.Scopes.{Name, file_scope, empty_level, place_among}
 use Rattle.c_typing.specs.Settled.{IsBasic, IsKnown}
 use Rattle.c_typing_laws.proofs.FirstState.{first-known}
 use Rattle.c_unit_typing.specs.Linkage.{no_linkage}
@@ -15,6 +14,7 @@ use Rattle.c_unit_typing.specs.UnitJudging.{UnitState, known}
 use Rattle.c_unit_typing.proofs.BasicTable.{basic-formed}
 use Rattle.c_unit_given.proofs.UnitGiven.{IsHomeBelow, IsUnitHere}
 use Rattle.c_unit_given.proofs.FirstTypes.{first-types}
+use Rattle.c_unit_given.proofs.LevelsBelow.{IsLevelBelow}
 
 -- the state before the text of a unit that defines these functions
 abbrev pub before_text : List Name → UnitState
@@ -25,9 +25,6 @@ types_known names = first-known names (state_of (before_text names)) basic-forme
 
 pub text-known : (names : List Name) → IsUnitKnown (before_text names)
 text-known names = record { known = types_known names; linked = All-nil (λ (e : Name × Declared). IsLinkedKnown (before_text names) e.1) }
-
-abbrev IsLevelBelow : ℕ → Level → Type 0
-IsLevelBelow n l = All (λ (e : Name × Declared). IsHomeBelow n e.1) l.names
 
 pub text-here : (T : Table) → IsBasic T → (names : List Name) → length names ≤ 65535 → ((name : Name) (number : ℕ) → place_among names name ≡ Some number → IsNoName name)
     → IsUnitHere T (before_text names)

@@ -1,16 +1,13 @@
 -- What one part of a unit after another costs.
-use Rattle.std.proofs.Common.{◌≡◌, ◌≤◌, ◌+◌, ℕ, List, [], ◌∷◌, ◌++◌, arith}
+use Rattle.std.proofs.Common.{◌≡◌, ◌≤◌, List, [], ◌∷◌, ◌++◌, arith}
 use Rattle.c_types.specs.Table.{Table}
 use Rattle.c_tree.specs.declared.typed_word.Home.TheVariants as home
 use Rattle.c_tree.specs.TypedParts.{Made, Written, Name, Literal, Address, Copy}
 use Rattle.c_typing_given.specs.Spending.{node_cost, literal_cost, cell_cost, total, HasRoom, HasSpent}
+use Rattle.c_typing_given.proofs.Spent.{total-append}
 use Rattle.c_unit_typing.specs.UnitJudged.{state_of}
 use Rattle.c_unit_typing.specs.UnitJudging.{UnitState}
 use Rattle.c_unit_given.proofs.UnitGiven.{object_cost, HasUnitRoom, HasUnitSpent}
-
-pub total-append : (cost : Made → ℕ) (xs ys : List Made) → total cost (xs ++ ys) ≡ total cost xs + total cost ys
-total-append cost [] ys = omega arith
-total-append cost (x ∷ xs) ys = let h = total-append cost xs ys in omega (arith, h)
 
 module _ (T : Table) where
   -- a literal is an object

@@ -27,9 +27,7 @@ use Rattle.c_unit_given.proofs.ScopesKept.{scopes-kept}
 use Rattle.c_unit_given.proofs.SizesWritten.{sizes-written}
 use Rattle.c_unit_given.proofs.StatementTrees.{block-items-run}
 use Rattle.c_unit_given.proofs.BeforeText.{before_text, text-known, text-here}
-use Rattle.c_unit_given.proofs.DefinitionsGiven.{definition-run}
 use Rattle.c_unit_given.proofs.FunctionNames.{AreAmong, names-own, place-own, all-among}
-use Rattle.c_unit_given.proofs.LawsGiven.{expressions-given, declarators-given}
 use Rattle.c_unit_given.proofs.MainGiven.{main-passes}
 use Rattle.c_unit_given.proofs.Runs.{then-is, obeying-is}
 use Rattle.c_unit_given.proofs.UnitCosts.{text-room, unit-limited}
@@ -78,8 +76,8 @@ module _ (T : Table) (basic : IsBasic T) (exprs : AreExpressionsGiven T) (scopes
         (subst (λ (all : List Name). AreAmong all whole) (sym same_names) among)) refl)
 
     -- the names are those of the text
-    text_given : judged_unit (erased_unit whole) ≡ Gives whole g.after
-    text_given = subst (λ (all : List Name). WholeFrom all g.after) judged.names whole_from
+    whole_given : judged_unit (erased_unit whole) ≡ Gives whole g.after
+    whole_given = subst (λ (all : List Name). WholeFrom all g.after) judged.names whole_from
 
   pub unit-given : IsDefinitionRun T (defined_names whole) → AreUses (used_by_unit T whole) (length basic_table) (length T) → (r : UnitState) × (judged_unit (erased_unit whole) ≡ Gives whole r)
   unit-given definitions uses = let g = parts_given definitions uses in (g.after, whole_given g)

@@ -29,6 +29,7 @@ use Rattle.c_unit_typing.proofs.DeclaredNames.{is_typedef}
 use Rattle.c_unit_typing.proofs.NameSteps.{entry-there}
 use Rattle.c_unit_given.proofs.UnitGiven.{IsHomeBelow, AreHomesBelow, object_cost}
 use Rattle.c_unit_given.proofs.NamesGiven.{home_cost}
+use Rattle.c_typing_given.proofs.Spent.{total-append}
 use Rattle.c_unit_given.proofs.UnitRoom.{literals-objects}
 
 -- Which home

@@ -27,7 +27,7 @@ mod FunctionNames
 mod UnitCosts
 mod MainGiven
 mod UnitsGiven
-mod WholeGiven
+pub mod WholeGiven
 mod ScopesKept
 mod ParametersDeclared
 mod ParameterNames

@@ -140,7 +140,12 @@ fn a_unit_defines_65535_functions(rt: HostRuntime) -> Result<(), Fail> {
     assert!(rt; checked(rt.alloc(), &text).is_ok());
     let text = with_functions(rt.alloc(), 65_535)?;
     let main = 13 * 65_535 + 5;
-    assert!(rt; is_fault(checked(rt.alloc(), &text), too_large(Limit::Functions, main)));
+    assert!(rt;
+        is_fault(
+            checked(rt.alloc(), &text),
+            too_large(Limit::Functions, main)
+        )
+    );
     Ok(())
 }
 

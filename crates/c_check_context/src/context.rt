@@ -16,7 +16,8 @@ use crate::linkage::Linkage;
 use c_check_expr::{check_constant, check_declarator, check_expr, check_specifiers, check_value};
 use c_check_operators::cells::count_cells;
 use c_check_operators::literals::count_global;
-use c_tree::{Boxed, Declarator, Expr, Specifiers, TypedDeclarator, TypedExpr, TypedSpecifiers};
+use c_owned_trees::expressions::{OwnedDeclarator, OwnedExpr, OwnedSpecifiers};
+use c_tree::{Declarator, Expr, Specifiers, TypedSpecifiers};
 use c_types::Types;
 use c_typing::{Naming, Scope};
 use cc_base::{Fault, Place, TypeId};
@@ -34,33 +35,27 @@ pub struct Context {
 
 impl Context {
     /// The value of an expression; a struct is not read.
-    pub fn expr(&mut self, e: &Expr) -> Result<Boxed<TypedExpr>, Fault>
+    pub fn expr(&mut self, e: &Expr) -> Result<OwnedExpr, Fault>
         ensures { Answers typed_expr_view (lifted (checked (expr_view e.now)) (state_of self.old)) result (state_of self.new) }
     {
         let v = check_expr(&mut self.scope, &mut self.types, e)?;
-        Ok(Boxed::new(self.scope.alloc(), v)?)
+        Ok(OwnedExpr::new(self.scope.alloc(), v)?)
     }
 
     /// An expression that is converted to a type at a place.
-    pub fn value(
-        &mut self,
-        to: TypeId,
-        at: Place,
-        init: bool,
-        e: &Expr,
-    ) -> Result<Boxed<TypedExpr>, Fault>
+    pub fn value(&mut self, to: TypeId, at: Place, init: bool, e: &Expr) -> Result<OwnedExpr, Fault>
         ensures { Answers typed_expr_view (lifted (checked_value to at init (expr_view e.now)) (state_of self.old)) result (state_of self.new) }
     {
         let v = check_value(&mut self.scope, &mut self.types, to, at, init, e)?;
-        Ok(Boxed::new(self.scope.alloc(), v)?)
+        Ok(OwnedExpr::new(self.scope.alloc(), v)?)
     }
 
     /// An integer constant expression and its value.
-    pub fn constant(&mut self, e: &Expr) -> Result<(Boxed<TypedExpr>, i128), Fault>
+    pub fn constant(&mut self, e: &Expr) -> Result<(OwnedExpr, i128), Fault>
         ensures { Answers constant_view (lifted (checked_constant (expr_view e.now)) (state_of self.old)) result (state_of self.new) }
     {
         let (v, value) = check_constant(&mut self.scope, &mut self.types, e)?;
-        Ok((Boxed::new(self.scope.alloc(), v)?, value))
+        Ok((OwnedExpr::new(self.scope.alloc(), v)?, value))
     }
 
     /// Specifiers; `alone` says that no declarator follows.
@@ -68,10 +63,11 @@ impl Context {
         &mut self,
         specifiers: &Specifiers,
         alone: bool,
-    ) -> Result<TypedSpecifiers, Fault>
+    ) -> Result<OwnedSpecifiers, Fault>
         ensures { Answers typed_specifiers_view (lifted (judge_specifiers_of alone (specifiers_view specifiers.now)) (state_of self.old)) result (state_of self.new) }
     {
-        check_specifiers(&mut self.scope, &mut self.types, specifiers, alone)
+        let made = check_specifiers(&mut self.scope, &mut self.types, specifiers, alone)?;
+        Ok(OwnedSpecifiers::new(made))
     }
 
     /// A declarator behind specifiers.
@@ -81,10 +77,11 @@ impl Context {
         base: &TypedSpecifiers,
         size: Option<u64>,
         d: &Declarator,
-    ) -> Result<TypedDeclarator, Fault>
+    ) -> Result<OwnedDeclarator, Fault>
         ensures { Answers typed_declarator_view (lifted (judge_declarator naming (typed_specifiers_view base.now) size (declarator_view d.now)) (state_of self.old)) result (state_of self.new) }
     {
-        check_declarator(&mut self.scope, &mut self.types, naming, base, size, d)
+        let made = check_declarator(&mut self.scope, &mut self.types, naming, base, size, d)?;
+        Ok(OwnedDeclarator::new(made))
     }
 
     /// The pointers that the copy of a struct moves are counted.

@@ -21,9 +21,11 @@ use c_check_context::Context;
 use c_check_context::conflicts::is_linked_home;
 use c_check_context::homes::{Storage, home_of, is_lasting, naming_for, storage_of};
 use c_check_expr::places::declarator_name;
+use c_owned_trees::declarations::{OwnedDeclaration, OwnedDeclarators};
+use c_owned_trees::expressions::OwnedDeclarator;
 use c_tree::{
-    Declaration, Declarator, Home, Identifier, InitDeclarator, Initialiser, Items,
-    TypedDeclaration, TypedDeclarator, TypedInitDeclarator, TypedSpecifiers,
+    Declaration, Declarator, Home, Identifier, InitDeclarator, Initialiser, TypedDeclaration,
+    TypedInitDeclarator, TypedSpecifiers,
 };
 use c_typing::Declared;
 use c_typing::stops::no_room;
@@ -51,17 +53,17 @@ fn named(
     storage: Storage,
     initialised: bool,
     name: Option<&Identifier>,
-    one: TypedDeclarator,
-) -> Result<TypedDeclarator, Fault>
+    one: OwnedDeclarator,
+) -> Result<OwnedDeclarator, Fault>
     ensures { Answers typed_declarator_view (judging.named file (storage_view storage) initialised (option_copied name.entry) (typed_declarator_view one) (state_of context.old)) result (state_of context.new) }
 {
     let Some(name) = name else {
         return Err(no_room(NOWHERE));
     };
-    if let Some(fault) = context.broken_by_name(file, storage, initialised, name, one.ty) {
+    if let Some(fault) = context.broken_by_name(file, storage, initialised, name, one.get().ty) {
         return Err(fault);
     }
-    context.declare(file, storage, name, one.ty, home_of(&one.form))?;
+    context.declare(file, storage, name, one.get().ty, home_of(&one.get().form))?;
     Ok(one)
 }
 
@@ -74,7 +76,7 @@ fn declared(
     initialised: bool,
     size: Option<u64>,
     d: &Declarator,
-) -> Result<TypedDeclarator, Fault>
+) -> Result<OwnedDeclarator, Fault>
     ensures { Answers typed_declarator_view (judging.judge_named file (typed_specifiers_view base.now) initialised size (declarator_view d.now) (state_of context.old)) result (state_of context.new) }
 {
     let storage = storage_of(base);
@@ -116,9 +118,9 @@ fn initialised_declarator(
     let size = size_written(context.scope.alloc(), chars, i)?;
     let one = declared(context, file, base, true, size, d)?;
     let lasting = is_lasting(file, storage_of(base));
-    let value = initialiser(context, lasting, i, at, Some(one.ty), false)?;
-    defining(context, declarator_name(d), home_of(&one.form))?;
-    Ok(TypedInitDeclarator::Initialised(one, at, value.into_inner()))
+    let value = initialiser(context, lasting, i, at, Some(one.get().ty), false)?;
+    defining(context, declarator_name(d), home_of(&one.get().form))?;
+    Ok(TypedInitDeclarator::Initialised(one.into_inner(), at, value.into_inner()))
 }
 
 /// A declarator with or without an initialiser, after those before it.
@@ -134,7 +136,7 @@ fn init_declarator(
     match d {
         InitDeclarator::Plain(d) => {
             let one = declared(context, file, base, false, None, d)?;
-            Ok(TypedInitDeclarator::Plain(one))
+            Ok(TypedInitDeclarator::Plain(one.into_inner()))
         }
         InitDeclarator::Initialised(d, at, i) => {
             initialised_declarator(context, file, base, d, *at, i)
@@ -149,10 +151,10 @@ fn init_declarators(
     file: bool,
     base: &TypedSpecifiers,
     declarators: &[InitDeclarator],
-) -> Result<Items<TypedInitDeclarator>, Fault>
+) -> Result<OwnedDeclarators, Fault>
     ensures { Answers (λ list. added typed.NoInitDeclarator (map typed_init_declarator_view list)) (judging.judge_init_declarators file (typed_specifiers_view base.now) (added tree.NoInitDeclarator (map init_declarator_view declarators.now)) (state_of context.old)) result (state_of context.new) }
 {
-    let mut list = Items::new(context.scope.alloc());
+    let mut list = OwnedDeclarators::new(context.scope.alloc());
     for d in declarators {
         let one = init_declarator(context, file, base, d)?;
         list.push(one)?;
@@ -166,14 +168,14 @@ pub fn declaration(
     context: &mut Context,
     file: bool,
     d: &Declaration,
-) -> Result<TypedDeclaration, Fault>
+) -> Result<OwnedDeclaration, Fault>
     ensures { Answers typed_declaration_view (judging.judge_declaration file (declaration_view d.now) (state_of context.old)) result (state_of context.new) }
 {
     let alone = d.declarators.as_slice().split_last().is_none();
     let specifiers = context.specifiers(&d.specifiers, alone)?;
-    let declarators = init_declarators(context, file, &specifiers, d.declarators.as_slice())?;
-    Ok(TypedDeclaration {
-        specifiers,
-        declarators,
-    })
+    let declarators = init_declarators(context, file, specifiers.get(), d.declarators.as_slice())?;
+    Ok(OwnedDeclaration::new(TypedDeclaration {
+        specifiers: specifiers.into_inner(),
+        declarators: declarators.into_items(),
+    }))
 }

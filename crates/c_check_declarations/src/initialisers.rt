@@ -19,7 +19,9 @@ use crate::sizes::only_literal;
 use crate::slots::{char_count, item_slot};
 use crate::texts::text;
 use c_check_context::Context;
-use c_tree::{Boxed, Expr, Initialiser, Items, TypedExpr, TypedInitialiser, TypedItem, TypedPlace};
+use c_owned_trees::declarations::{OwnedInitialiser, OwnedItems};
+use c_owned_trees::expressions::{OwnedExpr, OwnedPlace};
+use c_tree::{Expr, Initialiser, TypedExpr, TypedInitialiser, TypedItem};
 use c_types::Types;
 use c_typing::shapes::{is_scalar, shape_at};
 use c_typing::stops::{no_room, refusal};
@@ -41,30 +43,22 @@ fn is_text(types: &Types, items: &[Initialiser], t: TypeId) -> bool
 
 /// A struct is copied, and the pointers that it holds are counted.
 #[tactic(auto, using(c_tree::proofs::TypedViewLaws::typed_views, c_tree::proofs::TypedStatementViewLaws::typed_statement_views), unfolding(c_unit_typing::specs::InitialiserJudging::initialised))]
-fn copied(
-    context: &mut Context,
-    at: Place,
-    p: Boxed<TypedPlace>,
-) -> Result<Boxed<TypedInitialiser>, Fault>
+fn copied(context: &mut Context, at: Place, p: OwnedPlace) -> Result<OwnedInitialiser, Fault>
     ensures { Answers typed_initialiser_view (judging.initialised at (typed.Unread (typed_place_view p)) (state_of context.old)) result (state_of context.new) }
 {
     context.count_cells(at, p.get().ty())?;
     let copied = TypedInitialiser::Copied(p.into_inner(), at);
-    Ok(Boxed::new(context.scope.alloc(), copied)?)
+    Ok(OwnedInitialiser::new(context.scope.alloc(), copied)?)
 }
 
 /// A struct is copied, a value is taken.
 #[tactic(auto, using(c_tree::proofs::TypedViewLaws::typed_views, c_tree::proofs::TypedStatementViewLaws::typed_statement_views), unfolding(c_unit_typing::specs::InitialiserJudging::initialised))]
-fn initialised(
-    context: &mut Context,
-    at: Place,
-    e: Boxed<TypedExpr>,
-) -> Result<Boxed<TypedInitialiser>, Fault>
+fn initialised(context: &mut Context, at: Place, e: OwnedExpr) -> Result<OwnedInitialiser, Fault>
     ensures { Answers typed_initialiser_view (judging.initialised at (typed_expr_view e) (state_of context.old)) result (state_of context.new) }
 {
     match e.into_inner() {
-        TypedExpr::Unread(p) => copied(context, at, p),
-        e => Ok(Boxed::new(context.scope.alloc(), TypedInitialiser::Value(e))?),
+        TypedExpr::Unread(p) => copied(context, at, OwnedPlace::from_boxed(p)),
+        e => Ok(OwnedInitialiser::new(context.scope.alloc(), TypedInitialiser::Value(e))?),
     }
 }
 
@@ -76,7 +70,7 @@ fn value_for(
     at: Place,
     t: TypeId,
     e: &Expr,
-) -> Result<Boxed<TypedInitialiser>, Fault>
+) -> Result<OwnedInitialiser, Fault>
     ensures { Answers typed_initialiser_view (judging.value_for constant at t (expr_view e.now) (state_of context.old)) result (state_of context.new) }
 {
     let v = context.value(t, at, true, e)?;
@@ -95,7 +89,7 @@ fn value_or_text(
     t: TypeId,
     e: &Expr,
     count: Option<u64>,
-) -> Result<Boxed<TypedInitialiser>, Fault>
+) -> Result<OwnedInitialiser, Fault>
     ensures { Answers typed_initialiser_view (judging.value_or_text constant at t (expr_view e.now) count (state_of context.old)) result (state_of context.new) }
 {
     match (e, count) {
@@ -106,7 +100,7 @@ fn value_or_text(
 
 /// What there is no room for.
 #[tactic(auto, unfolding(c_unit_typing::specs::InitialiserJudging::excess))]
-fn excess(context: &mut Context, at: Place, e: &Expr) -> Result<Boxed<TypedInitialiser>, Fault>
+fn excess(context: &mut Context, at: Place, e: &Expr) -> Result<OwnedInitialiser, Fault>
     ensures { Answers typed_initialiser_view (judging.excess at (expr_view e.now) (state_of context.old)) result (state_of context.new) }
 {
     context.expr(e)?;
@@ -121,7 +115,7 @@ fn plain(
     e: &Expr,
     at: Place,
     to: Option<TypeId>,
-) -> Result<Boxed<TypedInitialiser>, Fault>
+) -> Result<OwnedInitialiser, Fault>
     ensures { Answers typed_initialiser_view (judging.judge_plain constant (expr_view e.now) at to (state_of context.old)) result (state_of context.new) }
 {
     match to {
@@ -143,7 +137,7 @@ pub(crate) fn initialiser(
     at: Place,
     to: Option<TypeId>,
     single: bool,
-) -> Result<Boxed<TypedInitialiser>, Fault>
+) -> Result<OwnedInitialiser, Fault>
     ensures { Answers typed_initialiser_view (judging.judge_initialiser constant (initialiser_view i.now) at to single (state_of context.old)) result (state_of context.new) }
 {
     match i {
@@ -157,8 +151,8 @@ pub(crate) fn initialiser(
             }
             let text = is_text(&context.types, items.as_slice(), t);
             let list = judged_items(context, constant, items.as_slice(), text, t)?;
-            let listed = TypedInitialiser::Listed(*brace, list, *comma, t);
-            Ok(Boxed::new(context.scope.alloc(), listed)?)
+            let listed = TypedInitialiser::Listed(*brace, list.into_items(), *comma, t);
+            Ok(OwnedInitialiser::new(context.scope.alloc(), listed)?)
         }
     }
 }
@@ -172,10 +166,10 @@ fn judged_items(
     items: &[Initialiser],
     text: bool,
     t: TypeId,
-) -> Result<Items<TypedItem>, Fault>
+) -> Result<OwnedItems, Fault>
     ensures { Answers (λ list. added typed.NoItem (map typed_item_view list)) (judging.judge_items constant (items_of (map initialiser_view items.now)) text t (state_of context.old)) result (state_of context.new) }
 {
-    let mut list = Items::new(context.scope.alloc());
+    let mut list = OwnedItems::new(context.scope.alloc());
     for item in items {
         let one = judged_item(context, constant, item, text, t, list.len() as u64)?;
         list.push(one)?;

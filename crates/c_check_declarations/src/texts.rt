@@ -9,7 +9,8 @@ ghost use Rattle.c_unit_typing.specs.InitialiserJudging as judging;
 
 use c_check_context::Context;
 use c_check_operators::literals::{copied_pieces, pieces_bytes};
-use c_tree::{Boxed, Items, StringPiece, TypedInitialiser};
+use c_owned_trees::declarations::OwnedInitialiser;
+use c_tree::{Items, StringPiece, TypedInitialiser};
 use c_typing::stops::refusal;
 use cc_base::{Fault, NoMemory, Place, Rule};
 
@@ -30,7 +31,7 @@ pub(crate) fn text(
     at: Place,
     count: u64,
     pieces: &[StringPiece],
-) -> Result<Boxed<TypedInitialiser>, Fault>
+) -> Result<OwnedInitialiser, Fault>
     ensures { Answers typed_initialiser_view (judging.text at count pieces.now (state_of context.old)) result (state_of context.new) }
 {
     let alloc = context.scope.alloc();
@@ -41,5 +42,5 @@ pub(crate) fn text(
     let bytes = with_zero(bytes, count)?;
     let pieces = copied_pieces(alloc, pieces)?;
     let text = TypedInitialiser::Text(pieces, Items::from_vec(bytes));
-    Ok(Boxed::new(alloc, text)?)
+    Ok(OwnedInitialiser::new(alloc, text)?)
 }

@@ -12,22 +12,23 @@ ghost use Rattle.c_unit_typing.specs.UnitJudging.{Gives};
 
 use crate::units::{before_unit, whole};
 use c_check_context::Context;
+use c_owned_trees::statements::OwnedUnit;
 use c_printed::printed_nodes;
-use c_tree::{Typed, TypedUnit, Unit};
+use c_tree::{Typed, Unit};
 use cc_base::{Fault, NoMemory};
 use std::alloc::Global;
 
 /// What was judged, with its types, the number of its nodes and those that are printed.
-fn typed(alloc: Global, context: Context, unit: TypedUnit) -> Result<Typed, NoMemory>
+fn typed(alloc: Global, context: Context, unit: OwnedUnit) -> Result<Typed, NoMemory>
     ensures unit { IfOk result (λ t. t.unit ≡ unit) }
     ensures types { IfOk result (λ t. t.types ≡ context.types) }
     ensures nodes { IfOk result (λ t. t.nodes ≡ context.scope.node) }
     ensures printed { IfOk result (λ t. HasPrinted (typed_unit_view unit) t.printed) }
     ensures sorted { IfOk result (λ t. AreInOrder t.printed) }
 {
-    let printed = printed_nodes(alloc, &unit)?;
+    let printed = printed_nodes(alloc, unit.get())?;
     Ok(Typed {
-        unit,
+        unit: unit.into_inner(),
         nodes: context.scope.next_node(),
         types: context.types,
         printed,
@@ -35,7 +36,7 @@ fn typed(alloc: Global, context: Context, unit: TypedUnit) -> Result<Typed, NoMe
 }
 
 /// The answer for a unit that is well typed.
-fn finished(alloc: Global, unit: &Unit, context: Context, whole: TypedUnit) -> Result<Typed, Fault>
+fn finished(alloc: Global, unit: &Unit, context: Context, whole: OwnedUnit) -> Result<Typed, Fault>
     requires { judged_unit (unit_view unit.now) ≡ Gives (typed_unit_view whole) (state_of context) }
     ensures { IsAnswered (unit_view unit.now) result }
 {

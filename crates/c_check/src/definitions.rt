@@ -29,9 +29,10 @@ use c_check_context::Context;
 use c_check_context::conflicts::{declared_as, runtime_of};
 use c_check_context::homes::{Storage, home_of, name_of, naming_for, storage_of};
 use c_check_expr::places::declarator_name;
+use c_owned_trees::statements::OwnedBlock;
 use c_tree::{
-    BlockItem, FunctionDefinition, Home, Identifier, Items, TypedBlockItem, TypedCore,
-    TypedDeclarator, TypedForm, TypedFunction, TypedParameter, TypedPart, TypedSpecifiers,
+    BlockItem, FunctionDefinition, Home, Identifier, TypedCore, TypedDeclarator, TypedForm,
+    TypedFunction, TypedParameter, TypedPart, TypedSpecifiers,
 };
 use c_types::TypeShape;
 use c_typing::Declared;
@@ -175,7 +176,7 @@ fn body_with(
     to: TypeId,
     parameters: &[TypedParameter],
     items: &[BlockItem],
-) -> Result<Items<TypedBlockItem>, Fault>
+) -> Result<OwnedBlock, Fault>
     ensures { Answers typed_block_view (judging.body brace (Some to) (Some (parameters_seen parameters.now)) (block_view items.now) (state_of context.old)) result (state_of context.new) }
 {
     enter(context)?;
@@ -198,7 +199,7 @@ fn body(
     to: Option<TypeId>,
     parameters: Option<&[TypedParameter]>,
     items: &[BlockItem],
-) -> Result<Items<TypedBlockItem>, Fault>
+) -> Result<OwnedBlock, Fault>
     ensures { Answers typed_block_view (judging.body brace to (option_map (λ p. parameters_seen p.now) parameters.entry) (block_view items.now) (state_of context.old)) result (state_of context.new) }
 {
     match (to, parameters) {
@@ -292,16 +293,20 @@ pub(crate) fn definition(
 {
     let specifiers = context.specifiers(&f.specifiers, false)?;
     let name = declarator_name(&f.declarator);
-    let naming = naming_for(true, storage_of(&specifiers), context.first_linked(name));
-    let declarator = context.declarator(naming, &specifiers, None, &f.declarator)?;
-    define_as(context, name, &specifiers, &declarator)?;
-    let to = result_of(shape_at(&context.types, declarator.ty));
-    let parameters = parameters_of(&declarator.form, None);
+    let naming = naming_for(
+        true,
+        storage_of(specifiers.get()),
+        context.first_linked(name),
+    );
+    let declarator = context.declarator(naming, specifiers.get(), None, &f.declarator)?;
+    define_as(context, name, specifiers.get(), declarator.get())?;
+    let to = result_of(shape_at(&context.types, declarator.get().ty));
+    let parameters = parameters_of(&declarator.get().form, None);
     let items = body(context, f.brace, to, parameters, f.body.as_slice())?;
     Ok(TypedFunction {
-        specifiers,
-        declarator,
+        specifiers: specifiers.into_inner(),
+        declarator: declarator.into_inner(),
         brace: f.brace,
-        body: items,
+        body: items.into_items(),
     })
 }

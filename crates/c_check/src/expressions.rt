@@ -12,7 +12,8 @@ ghost use Rattle.c_unit_typing.specs.StatementJudging as judging;
 
 use c_check_context::Context;
 use c_check_operators::unary::to_integer;
-use c_tree::{Boxed, Expr, TypedExpr};
+use c_owned_trees::expressions::OwnedExpr;
+use c_tree::{Expr, TypedExpr};
 use c_typing::shapes::{integer_at, is_integer, is_scalar, is_void, shape_at};
 use c_typing::stops::refusal;
 use cc_base::{Fault, NoMemory, Place, Rule, TypeId};
@@ -33,7 +34,7 @@ pub(crate) fn try_condition(context: &Context, at: Place, c: &TypedExpr) -> Resu
 pub(crate) fn try_condition_or_none(
     context: &Context,
     at: Place,
-    c: &Option<Boxed<TypedExpr>>,
+    c: &Option<OwnedExpr>,
 ) -> Result<(), Fault>
     ensures { (one : typed.TypedStatement) → Answers (λ u. one) (judging.tested_or_none at (option_map typed_expr_view c.now) one (state_of context.now)) result (state_of context.now) }
 {
@@ -45,10 +46,7 @@ pub(crate) fn try_condition_or_none(
 
 /// An expression whose value is dropped, or none.
 #[tactic(auto, unfolding(c_unit_typing::specs::StatementJudging::dropped))]
-pub(crate) fn dropped(
-    context: &mut Context,
-    e: &Option<Expr>,
-) -> Result<Option<Boxed<TypedExpr>>, Fault>
+pub(crate) fn dropped(context: &mut Context, e: &Option<Expr>) -> Result<Option<OwnedExpr>, Fault>
     ensures { Answers (option_map typed_expr_view) (judging.dropped (option_map expr_view e.now) (state_of context.old)) result (state_of context.new) }
 {
     match e {
@@ -67,7 +65,7 @@ pub(crate) fn returned(
     at: Place,
     to: TypeId,
     e: &Option<Expr>,
-) -> Result<Option<Boxed<TypedExpr>>, Fault>
+) -> Result<Option<OwnedExpr>, Fault>
     ensures { Answers (option_map typed_expr_view) (judging.returned at to (option_map expr_view e.now) (state_of context.old)) result (state_of context.new) }
 {
     match e {
@@ -86,16 +84,15 @@ pub(crate) fn returned(
 
 /// What a `switch` is on: its integer, promoted. A value of another type stays as it is.
 #[tactic(auto, unfolding(c_unit_typing::specs::StatementJudging::promotion))]
-pub(crate) fn promoted(
-    context: &Context,
-    at: Place,
-    e: Boxed<TypedExpr>,
-) -> Result<Boxed<TypedExpr>, NoMemory>
+pub(crate) fn promoted(context: &Context, at: Place, e: OwnedExpr) -> Result<OwnedExpr, NoMemory>
     ensures { IfOk result (λ made. judging.promotion at (typed_expr_view e) (state_of context.now) ≡ Gives (typed_expr_view made) (state_of context.now)) }
 {
     match integer_at(&context.types, e.get().ty()) {
         None => Ok(e),
-        Some(kind) => to_integer(&context.scope, at, kind.promoted().ty(), e),
+        Some(kind) => {
+            let made = to_integer(&context.scope, at, kind.promoted().ty(), e.into_boxed())?;
+            Ok(OwnedExpr::from_boxed(made))
+        }
     }
 }
 

@@ -14,7 +14,8 @@ ghost use Rattle.c_unit_typing.specs.UnitJudging.{Answers};
 ghost use Rattle.c_unit_typing.specs.StatementJudging as judging;
 
 use c_check_context::Context;
-use c_tree::{Boxed, Expr, TypedExpr};
+use c_owned_trees::expressions::OwnedExpr;
+use c_tree::Expr;
 use c_typing::shapes::integer_at;
 use c_typing::stops::{no_room, refusal};
 use c_typing::value::converted;
@@ -90,7 +91,7 @@ pub(crate) fn case_label(
     labels: &mut Labels,
     at: Place,
     e: &Expr,
-) -> Result<(Boxed<TypedExpr>, i128), Fault>
+) -> Result<(OwnedExpr, i128), Fault>
     ensures answers { (list : TypedBlockItems) → HoldsLabels labels.old list → Answers (λ c. typed.AndCase list at (typed_expr_view c.0) c.1) (judging.case_label on at (expr_view e.now) list (state_of context.old)) result (state_of context.new) }
     ensures labels { IfOk result (λ c. labels.new ≡ record labels.old { values = labels.old.values ++ c.1 ∷ [] }) }
 {

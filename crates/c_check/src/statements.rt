@@ -21,15 +21,14 @@ use crate::expressions::{
 use crate::labels::{Labels, case_label};
 use c_check_context::Context;
 use c_check_declarations::declaration;
-use c_tree::{
-    BlockItem, Boxed, Declaration, Expr, Items, Statement, TypedBlockItem, TypedExpr,
-    TypedStatement,
-};
+use c_owned_trees::expressions::OwnedExpr;
+use c_owned_trees::statements::{OwnedBlock, OwnedStatement};
+use c_tree::{BlockItem, Declaration, Expr, Statement, TypedBlockItem, TypedExpr, TypedStatement};
 use c_typing::stops::refusal;
 use cc_base::{Fault, NoMemory, Place, Rule, TypeId};
 
 /// What may be left out, off the heap.
-fn unboxed(e: Option<Boxed<TypedExpr>>) -> Option<TypedExpr>
+fn unboxed(e: Option<OwnedExpr>) -> Option<TypedExpr>
     ensures { result ≡ e }
 {
     match e {
@@ -39,19 +38,15 @@ fn unboxed(e: Option<Boxed<TypedExpr>>) -> Option<TypedExpr>
 }
 
 /// A statement on the heap.
-fn boxed(context: &Context, one: TypedStatement) -> Result<Boxed<TypedStatement>, NoMemory>
+fn boxed(context: &Context, one: TypedStatement) -> Result<OwnedStatement, NoMemory>
     ensures { IfOk result (λ made. made ≡ one) }
 {
-    Ok(Boxed::new(context.scope.alloc(), one)?)
+    Ok(OwnedStatement::new(context.scope.alloc(), one)?)
 }
 
 /// `break`, where it may stand.
 #[tactic(auto, using(c_tree::proofs::TypedStatementViewLaws::typed_statement_views), unfolding(c_unit_typing::specs::StatementJudging::judge_statement, c_unit_typing::specs::StatementJudging::jump))]
-fn break_from(
-    context: &mut Context,
-    around: Around,
-    at: Place,
-) -> Result<Boxed<TypedStatement>, Fault>
+fn break_from(context: &mut Context, around: Around, at: Place) -> Result<OwnedStatement, Fault>
     ensures { Answers typed_statement_view (judging.judge_statement (around_view around) (tree.Break at) (state_of context.old)) result (state_of context.new) }
 {
     if !around.breakable {
@@ -62,11 +57,7 @@ fn break_from(
 
 /// `continue`, where it may stand.
 #[tactic(auto, using(c_tree::proofs::TypedStatementViewLaws::typed_statement_views), unfolding(c_unit_typing::specs::StatementJudging::judge_statement, c_unit_typing::specs::StatementJudging::jump))]
-fn continue_in(
-    context: &mut Context,
-    around: Around,
-    at: Place,
-) -> Result<Boxed<TypedStatement>, Fault>
+fn continue_in(context: &mut Context, around: Around, at: Place) -> Result<OwnedStatement, Fault>
     ensures { Answers typed_statement_view (judging.judge_statement (around_view around) (tree.Continue at) (state_of context.old)) result (state_of context.new) }
 {
     if !around.in_loop {
@@ -82,7 +73,7 @@ fn return_from(
     around: Around,
     at: Place,
     e: &Option<Expr>,
-) -> Result<Boxed<TypedStatement>, Fault>
+) -> Result<OwnedStatement, Fault>
     ensures { Answers typed_statement_view (judging.judge_statement (around_view around) (tree.Return at (option_map expr_view e.now)) (state_of context.old)) result (state_of context.new) }
 {
     let v = returned(context, at, around.result, e)?;
@@ -97,13 +88,13 @@ fn block(
     around: Around,
     brace: Place,
     items: &[BlockItem],
-) -> Result<Boxed<TypedStatement>, Fault>
+) -> Result<OwnedStatement, Fault>
     ensures { Answers typed_statement_view (judging.judge_statement (around_view around) (tree.Block brace (block_view items.now)) (state_of context.old)) result (state_of context.new) }
 {
     enter(context)?;
     let list = block_items(context, around, None, items)?;
     leave(context, brace)?;
-    Ok(boxed(context, TypedStatement::Block(brace, list))?)
+    Ok(boxed(context, TypedStatement::Block(brace, list.into_items()))?)
 }
 
 /// `if` without `else`.
@@ -116,7 +107,7 @@ fn if_alone(
     at: Place,
     paren: Place,
     c: &Expr,
-) -> Result<Boxed<TypedStatement>, Fault>
+) -> Result<OwnedStatement, Fault>
     ensures { Answers typed_statement_view (judging.judge_statement (around_view around) (tree.If at paren (expr_view c.now) (statement_view s.now)) (state_of context.old)) result (state_of context.new) }
 {
     let test = context.expr(c)?;
@@ -124,7 +115,7 @@ fn if_alone(
     try_condition(context, at, test.get())?;
     Ok(boxed(
         context,
-        TypedStatement::If(at, paren, test.into_inner(), one),
+        TypedStatement::If(at, paren, test.into_inner(), one.into_boxed()),
     )?)
 }
 
@@ -139,7 +130,7 @@ fn switch(
     paren: Place,
     e: &Expr,
     brace: Place,
-) -> Result<Boxed<TypedStatement>, Fault>
+) -> Result<OwnedStatement, Fault>
     ensures { Answers typed_statement_view (judging.judge_statement (around_view around) (tree.Switch at paren (expr_view e.now) brace (block_view items.now)) (state_of context.old)) result (state_of context.new) }
 {
     let value = context.expr(e)?;
@@ -151,7 +142,7 @@ fn switch(
     leave(context, brace)?;
     Ok(boxed(
         context,
-        TypedStatement::Switch(at, paren, on.into_inner(), brace, list),
+        TypedStatement::Switch(at, paren, on.into_inner(), brace, list.into_items()),
     )?)
 }
 
@@ -164,7 +155,7 @@ fn while_loop(
     at: Place,
     paren: Place,
     c: &Expr,
-) -> Result<Boxed<TypedStatement>, Fault>
+) -> Result<OwnedStatement, Fault>
     ensures { Answers typed_statement_view (judging.judge_statement (around_view around) (tree.While at paren (expr_view c.now) (statement_view s.now)) (state_of context.old)) result (state_of context.new) }
 {
     let test = context.expr(c)?;
@@ -172,7 +163,7 @@ fn while_loop(
     try_condition(context, at, test.get())?;
     Ok(boxed(
         context,
-        TypedStatement::While(at, paren, test.into_inner(), one),
+        TypedStatement::While(at, paren, test.into_inner(), one.into_boxed()),
     )?)
 }
 
@@ -185,7 +176,7 @@ fn do_while(
     at: Place,
     paren: Place,
     c: &Expr,
-) -> Result<Boxed<TypedStatement>, Fault>
+) -> Result<OwnedStatement, Fault>
     ensures { Answers typed_statement_view (judging.judge_statement (around_view around) (tree.DoWhile (statement_view s.now) at paren (expr_view c.now)) (state_of context.old)) result (state_of context.new) }
 {
     let one = statement(context, around.in_a_loop(), s)?;
@@ -193,7 +184,7 @@ fn do_while(
     try_condition(context, at, test.get())?;
     Ok(boxed(
         context,
-        TypedStatement::DoWhile(one, at, paren, test.into_inner()),
+        TypedStatement::DoWhile(one.into_boxed(), at, paren, test.into_inner()),
     )?)
 }
 
@@ -209,7 +200,7 @@ fn for_loop(
     first: &Option<Expr>,
     test: &Option<Expr>,
     step: &Option<Expr>,
-) -> Result<Boxed<TypedStatement>, Fault>
+) -> Result<OwnedStatement, Fault>
     ensures { Answers typed_statement_view (judging.judge_statement (around_view around) (tree.For at paren (option_map expr_view first.now) (option_map expr_view test.now) (option_map expr_view step.now) (statement_view s.now)) (state_of context.old)) result (state_of context.new) }
 {
     let before = dropped(context, first)?;
@@ -219,7 +210,14 @@ fn for_loop(
     try_condition_or_none(context, at, &c)?;
     Ok(boxed(
         context,
-        TypedStatement::For(at, paren, unboxed(before), unboxed(c), unboxed(after), one),
+        TypedStatement::For(
+            at,
+            paren,
+            unboxed(before),
+            unboxed(c),
+            unboxed(after),
+            one.into_boxed(),
+        ),
     )?)
 }
 
@@ -235,7 +233,7 @@ fn for_declaration(
     d: &Declaration,
     test: &Option<Expr>,
     step: &Option<Expr>,
-) -> Result<Boxed<TypedStatement>, Fault>
+) -> Result<OwnedStatement, Fault>
     ensures { Answers typed_statement_view (judging.judge_statement (around_view around) (tree.ForDeclaration at paren (declaration_view d.now) (option_map expr_view test.now) (option_map expr_view step.now) (statement_view s.now)) (state_of context.old)) result (state_of context.new) }
 {
     enter(context)?;
@@ -247,18 +245,21 @@ fn for_declaration(
     leave(context, at)?;
     Ok(boxed(
         context,
-        TypedStatement::ForDeclaration(at, paren, before, unboxed(c), unboxed(after), one),
+        TypedStatement::ForDeclaration(
+            at,
+            paren,
+            before.into_inner(),
+            unboxed(c),
+            unboxed(after),
+            one.into_boxed(),
+        ),
     )?)
 }
 
 /// A statement.
 #[cycle(statements)]
 #[tactic(auto, using(c_tree::proofs::StatementViewLaws::statement_views, c_tree::proofs::TypedStatementViewLaws::typed_statement_views), unfolding(c_unit_typing::specs::StatementJudging::judge_statement))]
-fn statement(
-    context: &mut Context,
-    around: Around,
-    s: &Statement,
-) -> Result<Boxed<TypedStatement>, Fault>
+fn statement(context: &mut Context, around: Around, s: &Statement) -> Result<OwnedStatement, Fault>
     ensures { Answers typed_statement_view (judging.judge_statement (around_view around) (statement_view s.now) (state_of context.old)) result (state_of context.new) }
 {
     match s {
@@ -276,7 +277,13 @@ fn statement(
             try_condition(context, *at, test.get())?;
             Ok(boxed(
                 context,
-                TypedStatement::IfElse(*at, *paren, test.into_inner(), one, other),
+                TypedStatement::IfElse(
+                    *at,
+                    *paren,
+                    test.into_inner(),
+                    one.into_boxed(),
+                    other.into_boxed(),
+                ),
             )?)
         }
         Statement::Switch(at, paren, e, brace, items) => {
@@ -316,7 +323,7 @@ fn block_item(
         }
         BlockItem::Declaration(d) => {
             let one = declaration(context, false, d)?;
-            Ok(TypedBlockItem::Declaration(one))
+            Ok(TypedBlockItem::Declaration(one.into_inner()))
         }
         BlockItem::Case(at, e) => {
             let (e, value) = case_label(context, on, labels, *at, e)?;
@@ -340,11 +347,11 @@ pub(crate) fn block_items(
     around: Around,
     on: Option<TypeId>,
     items: &[BlockItem],
-) -> Result<Items<TypedBlockItem>, Fault>
+) -> Result<OwnedBlock, Fault>
     ensures { Answers typed_block_view (judging.judge_block_items (around_view around) on (block_view items.now) (state_of context.old)) result (state_of context.new) }
 {
     let mut labels = Labels::new(context.scope.alloc());
-    let mut list = Items::new(context.scope.alloc());
+    let mut list = OwnedBlock::new(context.scope.alloc());
     for item in items {
         let one = block_item(context, around, on, &mut labels, item)?;
         list.push(one)?;

@@ -22,7 +22,8 @@ use c_check_context::conflicts::is_int;
 use c_check_context::linkage::{Linkage, Names};
 use c_check_declarations::declaration;
 use c_check_expr::places::declarator_name;
-use c_tree::{External, Items, TypedExternal, TypedUnit, Unit};
+use c_owned_trees::statements::{OwnedExternals, OwnedUnit};
+use c_tree::{External, TypedExternal, TypedUnit, Unit};
 use c_types::{TypeShape, Types};
 use c_typing::shapes::shape_at;
 use c_typing::stops::refusal;
@@ -108,7 +109,7 @@ fn judged_external(context: &mut Context, external: &External) -> Result<TypedEx
     match external {
         External::Declaration(d) => {
             let one = declaration(context, true, d)?;
-            Ok(TypedExternal::Declaration(one))
+            Ok(TypedExternal::Declaration(one.into_inner()))
         }
         External::Function(f) => {
             let one = definition(context, f)?;
@@ -119,10 +120,10 @@ fn judged_external(context: &mut Context, external: &External) -> Result<TypedEx
 
 /// The declarations and functions of a unit, one after another.
 #[tactic(auto, unfolding(c_unit_typing::specs::DefinitionJudging::judge_unit))]
-fn externals(context: &mut Context, externals: &[External]) -> Result<Items<TypedExternal>, Fault>
+fn externals(context: &mut Context, externals: &[External]) -> Result<OwnedExternals, Fault>
     ensures { Answers (λ list. added typed.NoExternal (map typed_external_view list)) (judging.judge_unit (added tree.NoExternal (map external_view externals.now)) (state_of context.old)) result (state_of context.new) }
 {
-    let mut list = Items::new(context.scope.alloc());
+    let mut list = OwnedExternals::new(context.scope.alloc());
     for external in externals {
         let one = judged_external(context, external)?;
         list.push(one)?;
@@ -132,12 +133,14 @@ fn externals(context: &mut Context, externals: &[External]) -> Result<Items<Type
 
 /// A unit. That it has a `main` is tried last.
 #[tactic(auto, unfolding(c_unit_typing::specs::DefinitionJudging::judge_whole))]
-pub(crate) fn whole(context: &mut Context, unit: &Unit) -> Result<TypedUnit, Fault>
+pub(crate) fn whole(context: &mut Context, unit: &Unit) -> Result<OwnedUnit, Fault>
     ensures { Answers typed_unit_view (judging.judge_whole (unit_view unit.now) (state_of context.old)) result (state_of context.new) }
 {
     let list = externals(context, unit.externals.as_slice())?;
     if !has_main(context) {
         return Err(refusal(NOWHERE, Rule::NoMain));
     }
-    Ok(TypedUnit { externals: list })
+    Ok(OwnedUnit::new(TypedUnit {
+        externals: list.into_items(),
+    }))
 }

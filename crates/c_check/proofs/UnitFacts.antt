@@ -16,7 +16,7 @@ use Rattle.c_tree.specs.declared.typed_unit.Typed.{Typed}
 use Rattle.c_typing.specs.Settled.{IsBasic}
 use Rattle.c_typing.specs.Tests.{first_broken}
 use Rattle.c_check.specs.Judged.{IsAccepted, IsAnswered, IsJudged, fault_of}
-use Rattle.c_unit_given.specs.Countable.{IsCountable}
+use Rattle.c_unit_given.specs.Tokens.{HasFewTokens}
 use Rattle.c_unit_given.proofs.WholeGiven.{given-of, whole-given}
 use Rattle.c_unit_limits.proofs.UnitLimits.{whole-limits}
 use Rattle.c_unit_typing.specs.DefinitionJudging.{before_unit, judge_unit, judge_whole, judged_unit, main_tests}
@@ -114,8 +114,8 @@ pub is-accepted : (u : tree.TranslationUnit) (result : Result Typed Fault) (whol
 is-accepted u (Ok t) whole r g h = ap (λ (o : UnitOutcome TypedTranslationUnit). given-of o whole) (sym h.gives ∙ g)
 is-accepted u (Err f) whole r g h = memory_alone f (λ n. none-some f (ap fault_of (sym g) ∙ h n))
 
-pub accepts : (u : tree.TranslationUnit) (result : Result Typed Fault) → IsAnswered u result → (T : Table) (whole : TypedTranslationUnit) → IsBasic T → IsWellTyped T whole → IsWithinLimits T whole
-    → IsCountable T whole → erased_unit whole ≡ u → IsAccepted whole result
-accepts u result h T whole basic typed limits countable e =
-    let given = whole-given T whole basic typed limits countable in
+pub accepts : (u : tree.TranslationUnit) (result : Result Typed Fault) → IsAnswered u result → HasFewTokens u → (T : Table) (whole : TypedTranslationUnit)
+    → IsBasic T → IsWellTyped T whole → IsWithinLimits T whole → erased_unit whole ≡ u → IsAccepted whole result
+accepts u result h few T whole basic typed limits e =
+    let given = whole-given T whole basic typed limits (subst HasFewTokens (sym e) few) in
     is-accepted u result whole given.0 (ap judged_unit (sym e) ∙ given.1) h

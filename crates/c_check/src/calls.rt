@@ -14,7 +14,7 @@ ghost use Rattle.c_tree.specs.TypedTree.{TypedTranslationUnit};
 ghost use Rattle.c_check.specs.Judged.{IsAccepted, IsAnswered};
 ghost use Rattle.c_printed.specs.Printing.{AreInOrder, HasPrinted};
 ghost use Rattle.c_typing.specs.Settled.{IsBasic};
-ghost use Rattle.c_unit_given.specs.Countable.{IsCountable};
+ghost use Rattle.c_unit_given.specs.Tokens.{HasFewTokens};
 ghost use Rattle.c_unit_typing.specs.DefinitionJudging.{before_unit};
 ghost use Rattle.c_unit_typing.specs.Limits.{IsWithinLimits};
 ghost use Rattle.c_unit_typing.specs.UnitJudging.{known_of};
@@ -33,8 +33,8 @@ use std::alloc::Global;
 /// first rule that fails gives the fault and its place: `UnknownName`, `Redeclared`, `Incomplete`, `Mismatch`, `NotPlace`, `NotConstant`, `BadCall`, or
 /// `TooLarge` with the limit that is passed. `NoMain` comes last, at 1:1.
 ///
-/// A unit that is well typed over some table of types, and within its limits, is given, with the very tree that is well typed: no other fault
-/// comes than want of memory.
+/// A unit of fewer than 2^29 tokens that is well typed over some table of types, and within its limits, is given, with the very tree that is
+/// well typed: no other fault comes than want of memory.
 pub fn check(alloc: Global, unit: &Unit) -> Result<Typed, Fault>
     ensures judged { IsAnswered (unit_view unit.now) result }
     ensures typed { IfOk result (λ t. IsWellTyped t.types (typed_unit_view t.unit)) }
@@ -45,7 +45,7 @@ pub fn check(alloc: Global, unit: &Unit) -> Result<Typed, Fault>
     ensures ordered { IfOk result (λ t. AreInOrder t.printed) }
     ensures limited { IfOk result (λ t. IsWithinLimits t.types (typed_unit_view t.unit)) }
     ensures basic { IfOk result (λ t. IsBasic t.types) }
-    ensures accepts { (T : Table) (whole : TypedTranslationUnit) → IsBasic T → IsWellTyped T whole → IsWithinLimits T whole → IsCountable T whole → erased_unit whole ≡ unit_view unit.now → IsAccepted whole result }
+    ensures accepts { HasFewTokens (unit_view unit.now) → (T : Table) (whole : TypedTranslationUnit) → IsBasic T → IsWellTyped T whole → IsWithinLimits T whole → erased_unit whole ≡ unit_view unit.now → IsAccepted whole result }
     ensures refused { (p : At) (rule : Broken) → result ≡ Err (Refused p rule) → (T : Table) × RefusesUnit T (unit_view unit.now) (known_of (before_unit (unit_view unit.now))) (Refused p rule) }
 {
     checked(alloc, unit)

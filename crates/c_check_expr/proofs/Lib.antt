@@ -8,3 +8,6 @@ pub mod MemberLaws
 pub mod SpecifiedLaws
 pub mod ParameterLaws
 pub mod ExprLaws
+pub mod AcceptedLaws
+pub mod GivenLaws
+pub mod LimitFacts

@@ -27,7 +27,7 @@ never-gives : {A P : Type 0} (a : A) (f : Fault) (s r : State) → Stops f s ≡
 unfolding is_given
 never-gives a f s r h = absurd (let e : false ≡ true = ap is_given h in cc)
 
-never-stops : {A P : Type 0} (a : A) (f : Fault) (s r : State) → Gives a s ≡ Stops f r → P
+pub never-stops : {A P : Type 0} (a : A) (f : Fault) (s r : State) → Gives a s ≡ Stops f r → P
 unfolding is_given
 never-stops a f s r h = absurd (let e : true ≡ false = ap is_given h in cc)
 

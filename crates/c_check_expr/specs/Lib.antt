@@ -2,3 +2,5 @@ pub mod Nests
 pub mod CheckingViews
 pub mod NamedViews
 pub mod Listed
+pub mod Accepted
+pub mod Limited

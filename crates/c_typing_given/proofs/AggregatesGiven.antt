@@ -7,7 +7,7 @@ use Rattle.cc_base.specs.declared.fault.Rule.TheVariants as rule
 use Rattle.cc_base.specs.declared.place.Place.{Place}
 use Rattle.cc_base.specs.declared.number.TypeId.{TypeId}
 use Rattle.c_types.specs.declared.shape.TypeShape.TheVariants.{Function}
-use Rattle.c_types.specs.Table.{Table, HasShape, IsType, shape_at, members_at}
+use Rattle.c_types.specs.Table.{Table, HasShape, IsType, shape_at}
 use Rattle.c_types.specs.Calls.{with_members}
 use Rattle.c_tree.specs.declared.leaf.Identifier.{Identifier}
 use Rattle.c_tree.specs.declared.operator.AggregateKind.{AggregateKind}
@@ -49,6 +49,7 @@ use Rattle.c_typing_given.proofs.Constructing.{reached-both, uses-at}
 use Rattle.c_typing_given.proofs.Defined.{IsOpen, members-open, defined-first, defined-length, defined-number, defined-is, defined-finished, finished, completed-is}
 use Rattle.c_typing_given.proofs.MemberSteps as members
 use Rattle.c_typing_given.proofs.MembersGiven.{AreMembersGiven}
+use Rattle.c_typing_given.proofs.MembersMade.{members-made}
 use Rattle.c_typing_given.proofs.SpecifiersGiven.{IsSpecifierGiven, own-tag}
 use Rattle.c_typing_given.proofs.Spent.{room-then, spent-none}
 use Rattle.c_typing_given.proofs.Steps.{then-is, obeying-is}
@@ -109,8 +110,7 @@ pub old-use : (t : TypeId) (n m : ℕ) → IsUse t n m → t.0 < n → m ≡ n
 old-use t n m (inl u) l = u.1
 old-use t n m (inr u) l = let q = u.0 in absurd (omega (arith, q, l))
 
-module _ (T : Table) (basic : IsBasic T) (few : (t : TypeId) (parameters : List TypeId) (result : TypeId) → HasShape T t (Function parameters result) → length parameters ≤ 127)
-    (short : (t : TypeId) → length (members_at T t) ≤ 4294967296) where
+module _ (T : Table) (basic : IsBasic T) (few : (t : TypeId) (parameters : List TypeId) (result : TypeId) → HasShape T t (Function parameters result) → length parameters ≤ 127) where
   -- it begins
   begin_given : (which : AggregateKind) (at : Place) (name : Option Identifier) (t : TypeId) (s : State) (c : Scopes) (count : ℕ) → IsHere T s
       → BeginsAggregate T (tag_named_here s.seen.scopes name) which name t s.seen.scopes c → IsUse t (length s.table) count
@@ -150,7 +150,7 @@ module _ (T : Table) (basic : IsBasic T) (few : (t : TypeId) (parameters : List 
 
   -- it ends
   module _ (t : TypeId) (rows : TypedMembers) (k : State) (b : Point) (here : IsHere T k) (ends : EndsAggregate T rows t k.seen.scopes b.scopes) (there : IsType k.table t)
-      (whole : All (members.IsWhole k.table) (member_types rows)) (node : b.node ≡ k.seen.node) where
+      (whole : All (members.IsWhole k.table) (member_types rows)) (node : b.node ≡ k.seen.node) (most : length (member_names rows) ≤ 4294967296) where
     number_here : number_of_shape (shape_at k.table t) ≡ Some ends.number
     number_here = ap number_of_shape (sym (here.first.shapes t there)) ∙ ends.declared
 
@@ -186,8 +186,7 @@ module _ (T : Table) (basic : IsBasic T) (few : (t : TypeId) (parameters : List 
           let m = length-set k.seen.scopes.members ends.number (member_names rows) in
           omega (arith, f, l, m);
       short =
-          All-set (λ (names : List Name). length names ≤ 4294967296) k.seen.scopes.members ends.number (member_names rows)
-          (let a = short t in let e = ap (λ (l : List TypeId). length l) ends.types in let m = members_alike rows in omega (arith, a, e, m)) here.small.short;
+          All-set (λ (names : List Name). length names ≤ 4294967296) k.seen.scopes.members ends.number (member_names rows) most here.small.short;
       functions = here.small.functions;
       opened = here.small.opened;
       finished =
@@ -224,8 +223,9 @@ module _ (T : Table) (basic : IsBasic T) (few : (t : TypeId) (parameters : List 
     end_given : (rows : TypedMembers) (t : TypeId) (j k : State) (inside : Scopes) (c : ℕ) → are_allowed (one_named before) ≡ true
         → begun which at name s ≡ Gives (Some t) j → judge_members all j ≡ Gives rows k → IsReached T (made_by_members rows) s k (record { scopes = inside; node = b.node }) count
         → EndsAggregate T rows t inside b.scopes → IsType k.table t → All (members.IsWhole k.table) (member_types rows)
+        → length (member_names rows) ≤ 4294967296
         → IsGivenAs T (made_by_members rows) (judge_specifier before (tree.Aggregate which at name brace all) s) (typed.Aggregate which at name brace rows t) s b count
-    end_given rows t j k inside c ok begins gives reached ends there whole =
+    end_given rows t j k inside c ok begins gives reached ends there whole most =
         let scopes : k.seen.scopes ≡ inside = ap (λ (a : Point). a.scopes) reached.point in
         let node : k.seen.node ≡ b.node = ap (λ (a : Point). a.node) reached.point in
         let ends_here : EndsAggregate T rows t k.seen.scopes b.scopes = subst (λ (q : Scopes). EndsAggregate T rows t q b.scopes) (sym scopes) ends in
@@ -237,12 +237,12 @@ module _ (T : Table) (basic : IsBasic T) (few : (t : TypeId) (parameters : List 
           after = finished t (member_types rows) e.number (member_names rows) k;
           gives =
               judges_aggregate before which at name brace all t rows s j k (Gives (typed.Aggregate which at name brace rows t) (finished t (member_types rows) e.number (member_names rows) k)) begins gives
-              (ended_is before which at name brace t rows k (finished t (member_types rows) e.number (member_names rows) k) (end_passes t rows k b reached.here e there whole n before at name ok)
-              (last_gives t rows k b reached.here e there whole n (tag_place at name)));
+              (ended_is before which at name brace t rows k (finished t (member_types rows) e.number (member_names rows) k) (end_passes t rows k b reached.here e there whole n most before at name ok)
+              (last_gives t rows k b reached.here e there whole n most (tag_place at name)));
           reached =
               subst (λ (made : List Made). IsReached T made s (finished t (member_types rows) e.number (member_names rows) k) b count) (append-nil (made_by_members rows))
               (reached-both T basic (made_by_members rows) [] s k (finished t (member_types rows) e.number (member_names rows) k) (record { scopes = inside; node = b.node }) b count count reached
-              (subst (IsReached T [] k (finished t (member_types rows) e.number (member_names rows) k) b) reached.way.types (last_reached t rows k b reached.here e there whole n (tag_place at name))));
+              (subst (IsReached T [] k (finished t (member_types rows) e.number (member_names rows) k) b) reached.way.types (last_reached t rows k b reached.here e there whole n most (tag_place at name))));
         }
 
     aggregate_with : (rows : TypedMembers) (t : TypeId) → IsWhole T (distinct T basic) which name all rows t (point_at s) b → are_allowed (one_named before) ≡ true
@@ -259,9 +259,11 @@ module _ (T : Table) (basic : IsBasic T) (few : (t : TypeId) (parameters : List 
         let types = g.reached.way.types in
         let l = used_there t (length s.table) uses.0 uses.1 in
         let there : IsType g.after.table t = omega (arith, types, l) in
+        let names = members-made T rows uses.0 count uses.2 in
+        let things = room.things in
         end_given rows t g.after m.given.after w.inside count ok g.gives m.given.gives
         (reached-both T basic [] (made_by_members rows) s g.after m.given.after (record { scopes = w.middle; node = s.seen.node }) (record { scopes = w.inside; node = b.node }) uses.0 count g.reached m.given.reached)
-        w.ends (still_in g.after.table m.given.after.table m.given.reached.grown t there) m.whole
+        w.ends (still_in g.after.table m.given.after.table m.given.reached.grown t there) m.whole (omega (arith, names, things))
 
   pub aggregate-whole-given : (which : AggregateKind) (at : Place) (name : Option Identifier) (brace : Place) (all : tree.Members) → AreMembersGiven T basic few all
       → IsSpecifierGiven T basic (tree.Aggregate which at name brace all)

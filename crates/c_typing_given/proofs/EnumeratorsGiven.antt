@@ -232,4 +232,4 @@ module _ (T : Table) (basic : IsBasic T) where
       own_kept name c h = λ word number p. h word number (ap (λ (all : List Name). place_among all word) (sym (enumerating_keeps name c).1) ∙ p)
 
       room_in : {made : List Made} → HasRoom T made s → HasRoom T made (in_state (enumerating name s.seen.scopes) s)
-      room_in r = record { nodes = r.nodes; globals = r.globals; cells = r.cells }
+      room_in r = record { things = r.things; nodes = r.nodes; globals = r.globals; cells = r.cells }

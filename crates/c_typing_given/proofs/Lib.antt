@@ -33,6 +33,7 @@ pub mod EnumeratorsGiven
 pub mod MemberNames
 pub mod MemberSteps
 pub mod MembersGiven
+pub mod MembersMade
 pub mod Defined
 pub mod AggregatesGiven
 pub mod ParameterSteps

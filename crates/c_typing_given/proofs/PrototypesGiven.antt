@@ -95,7 +95,7 @@ module _ (T : Table) (basic : IsBasic T) (few : (t : TypeId) (parameters : List 
       let read : AreParametersRead T (distinct T basic) (is_void_alone parameters) parameters list (point_at (inside s)) n =
       subst (λ (v : Bool). AreParametersRead T (distinct T basic) v parameters list (point_at (inside s)) n) void h in
       let g =
-      gp (is_void_alone parameters) list (inside s) n count (void_self parameters) began.here read uses (record { nodes = room.nodes; globals = room.globals; cells = room.cells }) holds in
+      gp (is_void_alone parameters) list (inside s) n count (void_self parameters) began.here read uses (record { things = room.things; nodes = room.nodes; globals = room.globals; cells = room.cells }) holds in
       let both = reached-both T basic [] (made_by_parameters list) s (inside s) g.after (entered (point_at s)) n (length s.table) count began g.reached in
       let kept = parameters-levels T (is_void_list list) list (entering s.seen.scopes) n.scopes h.1 in
       let more = entered-levels s.seen.scopes in

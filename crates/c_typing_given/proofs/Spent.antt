@@ -1,5 +1,6 @@
 -- What one part after another costs.
-use Rattle.std.proofs.Common.{◌≡◌, ◌+◌, ℕ, List, [], ◌∷◌, ◌++◌, arith}
+use Rattle.std.proofs.Common.{◌≡◌, ◌+◌, ℕ, List, [], ◌∷◌, ◌++◌, length, arith}
+use Rattle.std.proofs.lemmas.List.{length-append}
 use Rattle.c_types.specs.Table.{Table}
 use Rattle.c_tree.specs.TypedParts.{Made}
 use Rattle.c_typing.specs.Judging.{State}
@@ -9,9 +10,15 @@ pub total-append : (cost : Made → ℕ) (xs ys : List Made) → total cost (xs 
 total-append cost [] ys = omega arith
 total-append cost (x ∷ xs) ys = let h = total-append cost xs ys in omega (arith, h)
 
+-- what is made, each at the cost of 1
+pub total-ones : (made : List Made) → total (λ m. 1) made ≡ length made
+total-ones [] = omega arith
+total-ones (m ∷ made) = let h = total-ones made in omega (arith, h)
+
 module _ (T : Table) where
   pub room-first : (xs ys : List Made) (s : State) → HasRoom T (xs ++ ys) s → HasRoom T xs s
   room-first xs ys s h = record {
+    things = let a = h.things in omega (arith, a, length-append xs ys);
     nodes = let a = h.nodes in omega (arith, a, total-append node_cost xs ys);
     globals = let a = h.globals in omega (arith, a, total-append literal_cost xs ys);
     cells = let a = h.cells in omega (arith, a, total-append (cell_cost T) xs ys);
@@ -19,6 +26,7 @@ module _ (T : Table) where
 
   pub room-then : (xs ys : List Made) (s r : State) → HasRoom T (xs ++ ys) s → HasSpent T xs s r → HasRoom T ys r
   room-then xs ys s r h k = record {
+    things = let a = h.things in omega (arith, a, length-append xs ys);
     nodes = let a = h.nodes in let b = k.nodes in omega (arith, a, b, total-append node_cost xs ys);
     globals = let a = h.globals in let b = k.globals in omega (arith, a, b, total-append literal_cost xs ys);
     cells = let a = h.cells in let b = k.cells in omega (arith, a, b, total-append (cell_cost T) xs ys);

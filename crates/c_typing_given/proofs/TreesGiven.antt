@@ -1,5 +1,4 @@
--- What is well typed is given: one recursion over the tree. No function has more than 127 parameters, and 32 bits can number the members of each
--- struct and union.
+-- What is well typed is given: one recursion over the tree. No function has more than 127 parameters.
 use Rattle.c_types.specs.Table.{Table}
 use Rattle.c_tree.specs.declared.operator.MemberOperator.TheVariants as member_operator
 use Rattle.c_tree.specs.Tree as tree
@@ -12,7 +11,7 @@ use Rattle.c_typing_given.proofs.SequencesGiven.{comma-given, conditional-given}
 use Rattle.cc_base.specs.declared.number.TypeId.{TypeId}
 use Rattle.std.specs.Prelude.{◌≤◌, List, length}
 use Rattle.c_types.specs.declared.shape.TypeShape.TheVariants.{Function}
-use Rattle.c_types.specs.Table.{HasShape, members_at}
+use Rattle.c_types.specs.Table.{HasShape}
 use Rattle.c_typing_given.specs.Given.{IsGiven, IsNameGiven}
 use Rattle.c_typing_given.proofs.AddressesGiven.{arrow-given}
 use Rattle.c_typing_given.proofs.EnumeratorsGiven.{AreEnumeratorsGiven, no-enumerator-given, enumerator-given, valued-given, enumeration-given}
@@ -28,8 +27,7 @@ use Rattle.c_typing_given.proofs.SpecifiersGiven.{AreListGiven, IsSpecifierGiven
 use Rattle.c_typing_given.proofs.TagsGiven.{tagged-given}
 use Rattle.c_typing_given.proofs.TypeNamesGiven.{type-name-given}
 
-module _ (T : Table) (basic : IsBasic T) (few : (t : TypeId) (parameters : List TypeId) (result : TypeId) → HasShape T t (Function parameters result) → length parameters ≤ 127)
-    (short : (t : TypeId) → length (members_at T t) ≤ 4294967296) where
+module _ (T : Table) (basic : IsBasic T) (few : (t : TypeId) (parameters : List TypeId) (result : TypeId) → HasShape T t (Function parameters result) → length parameters ≤ 127) where
   mutual
     pub expr-given : (x : tree.Expr) → IsGiven T x
     expr-given (tree.Name name) = name-given T basic name
@@ -68,7 +66,7 @@ module _ (T : Table) (basic : IsBasic T) (few : (t : TypeId) (parameters : List 
     any-specifier-given (tree.Typedef name) = typedef-given T basic name
     any-specifier-given (tree.Tagged which at name) = tagged-given T basic which at name
     any-specifier-given (tree.Aggregate which at name brace members) =
-        aggregate-whole-given T basic few short which at name brace members (all-members-given members)
+        aggregate-whole-given T basic few which at name brace members (all-members-given members)
     any-specifier-given (tree.Enum at name) = enum-given T basic at name
     any-specifier-given (tree.Enumeration at name brace all comma) = enumeration-given T basic at name brace all comma (all-enumerators-given all)
 

@@ -43,7 +43,7 @@ use Rattle.c_typing_given.proofs.FormsGiven.{IsDeclaredGiven}
 use Rattle.c_typing_given.proofs.MakesGiven.{IsMakeGiven, declared-given}
 use Rattle.c_typing_given.proofs.Settling.{small-kept}
 use Rattle.c_typing_given.proofs.SpecifiersGiven.{AreListGiven}
-use Rattle.c_typing_given.proofs.Spent.{room-first, room-then, total-append}
+use Rattle.c_typing_given.proofs.Spent.{room-first, room-then, total-append, total-ones}
 use Rattle.c_typing_given.proofs.Steps.{then-is}
 use Rattle.c_typing_given.proofs.ValuesGiven.{uses-first}
 
@@ -75,6 +75,9 @@ module _ (cost : Made → ℕ) (same : (name : Identifier) (h : Home) (t u : Typ
 module _ (T : Table) where
   pub declared-room : (x : TypedDeclared) (t u : TypeId) (s : State) → HasRoom T (made_by_declared x t) s → HasRoom T (made_by_declared x u) s
   declared-room x t u s h = record {
+    things =
+        let a = h.things in
+        omega (arith, a, declared_cost (λ m. 1) (λ n k v w. refl) x t u, total-ones (made_by_declared x t), total-ones (made_by_declared x u));
     nodes = let a = h.nodes in omega (arith, a, declared_cost node_cost (λ n k v w. refl) x t u);
     globals = let a = h.globals in omega (arith, a, declared_cost literal_cost (λ n k v w. refl) x t u);
     cells = let a = h.cells in omega (arith, a, declared_cost (cell_cost T) (λ n k v w. refl) x t u);

@@ -28,6 +28,8 @@ total cost [] = 0
 total cost (m ∷ made) = cost m + total cost made
 
 pub record HasRoom (T : Table) (made : List Made) (s : State) : Type 0 where
+  -- 32 bits can number what is made
+  pub things : length made ≤ 4294967296
   pub nodes : s.seen.node + total node_cost made ≤ 4294967295
   pub globals : s.seen.globals + total literal_cost made ≤ 4194304
   pub cells : s.seen.cells + total (cell_cost T) made ≤ 65536

@@ -102,7 +102,7 @@ module _ (T : Table) (basic : IsBasic T) (exprs : AreExpressionsGiven T) (scopes
         run a None (subst AreDifferent (sym none) tt) defaults holds s2 after n count one.reached.here (still_in s.table s2.table one.reached.grown result known_result, tt)
         (subst (λ (c : Known). AreBlockItems T a None list c after) (sym one.reached.known) well) (subst (λ (i : ℕ). Numbers (made_by_block_items list) i n) (sym one.reached.node) numbers)
         (subst (λ (i : ℕ). AreUses (used_by_block_items T list) i count) (sym one.reached.types) uses)
-        (unit-room-then T [] (made_by_block_items list) s1 s2 (record { nodes = room.nodes; globals = room.globals; cells = room.cells }) one.reached.spent) in
+        (unit-room-then T [] (made_by_block_items list) s1 s2 (record { things = room.things; nodes = room.nodes; globals = room.globals; cells = room.cells }) one.reached.spent) in
         record {
           after = two.after;
           gives = then-is (declare_parameters ps) (λ (declared : Bool). judge_block_items a None items) first.0 s1 s2 (Gives list two.after) one.gives two.gives;

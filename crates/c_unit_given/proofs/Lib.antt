@@ -24,6 +24,8 @@ mod InitialiserTrees
 mod FirstTypes
 mod BeforeText
 mod FunctionNames
+mod Countable
+mod TokensCounted
 mod UnitCosts
 mod MainGiven
 mod UnitsGiven

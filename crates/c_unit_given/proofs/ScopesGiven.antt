@@ -120,4 +120,4 @@ module _ (T : Table) where
       → IsRun T N G P made uses m a → IsRun T N G (Inside P) made uses (lifted entered >>= (λ inside. m >>= (λ x. lifted (left at (g x))))) (g a)
   scoped-run N G P made uses m a at g p s k n count here needs h numbers used room =
       scoped-given G made m a at g s h.0 k n count here
-      (p (in_scopes entering s) h.0 n count (enter-here s here) needs h.1 numbers used (record { nodes = room.nodes; globals = room.globals; cells = room.cells })) h.2
+      (p (in_scopes entering s) h.0 n count (enter-here s here) needs h.1 numbers used (record { things = room.things; nodes = room.nodes; globals = room.globals; cells = room.cells })) h.2

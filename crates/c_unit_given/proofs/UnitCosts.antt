@@ -9,13 +9,11 @@ use Rattle.c_tree.specs.declared.leaf.Identifier.{Identifier}
 use Rattle.c_tree.specs.declared.typed_word.Home.{Home}
 use Rattle.c_tree.specs.declared.typed_word.Home.TheVariants as home
 use Rattle.c_tree.specs.TypedTree.{TypedTranslationUnit}
-use Rattle.c_tree.specs.TypedParts.{Made, Written, Name, Literal, Address, Copy, made_by_unit, nodes_made}
+use Rattle.c_tree.specs.TypedParts.{Made, Written, Name, Literal, Address, Copy, made_by_unit}
 use Rattle.c_types.specs.Sound.{IsWellFormed}
 use Rattle.c_typing.specs.Scopes as scopes
-use Rattle.c_typing_unique.specs.Points.{Numbers}
 use Rattle.c_typing_given.specs.Limits.{IsLimited}
-use Rattle.c_typing_given.specs.Spending.{cell_cost, total}
-use Rattle.c_typing_given.proofs.Settling.{numbers-end}
+use Rattle.c_typing_given.specs.Spending.{node_cost, cell_cost, total}
 use Rattle.c_cells_kept.specs.Counted.{copied_by, copied}
 use Rattle.c_unit_typing.specs.Limits.{IsWithinLimits, parameters_of_shape}
 use Rattle.c_unit_typing.specs.Units.{Known, IsUnitTyped}
@@ -24,9 +22,29 @@ use Rattle.c_unit_limits.proofs.CellsUnits.{copies-sum}
 use Rattle.c_unit_limits.proofs.SizedUnits.{unit-sized}
 use Rattle.c_unit_limits.proofs.StaticBytes.{global-bytes}
 use Rattle.c_unit_limits.proofs.StaticsMade.{IsLiteralSized}
-use Rattle.c_unit_given.specs.Countable.{IsCountable}
+use Rattle.c_unit_given.proofs.Countable.{IsCountable}
 use Rattle.c_unit_given.proofs.UnitGiven.{object_cost, HasUnitRoom}
 use Rattle.c_unit_given.proofs.BeforeText.{before_text}
+
+-- each thing makes one node at most
+
+name_node : (name : Identifier) (h : Home) (t : TypeId) → node_cost (Name name h t) ≤ 1
+name_node name home.None t = omega arith
+name_node name (home.Static n) t = omega arith
+name_node name (home.Local n) t = omega arith
+name_node name (home.Parameter n) t = omega arith
+name_node name (home.Known n) t = omega arith
+
+node_least : (m : Made) → node_cost m ≤ 1
+node_least (Written at n) = omega arith
+node_least (Name name h t) = name_node name h t
+node_least (Literal pieces n t) = omega arith
+node_least (Address n) = omega arith
+node_least (Copy t) = omega arith
+
+nodes_least : (made : List Made) → total node_cost made ≤ length made
+nodes_least [] = omega arith
+nodes_least (m ∷ made) = let one = node_least m in let rest = nodes_least made in omega (arith, one, rest)
 
 module _ (T : Table) where
   -- a literal of the size of its type is counted as the limit counts it
@@ -63,13 +81,13 @@ module _ (T : Table) where
   copies_counted [] = refl
   copies_counted (m ∷ made) = let one = copy_counted m in let rest = copies_counted made in (λ i. one i + rest i)
 
-  -- the nodes from 0 up to n are as many as 32 bits count
-  pub text-room : IsWellFormed T → (whole : TypedTranslationUnit) (k l : Known) → IsUnitTyped T whole k l → IsWithinLimits T whole → IsCountable T whole
-      → Numbers (made_by_unit whole) 0 (0 + length (nodes_made (made_by_unit whole))) → (names : List scopes.Name) → HasUnitRoom T (made_by_unit whole) (before_text names)
-  text-room formed whole k l typed limits countable numbers names =
+  pub text-room : IsWellFormed T → (whole : TypedTranslationUnit) (k l : Known) → IsUnitTyped T whole k l → IsWithinLimits T whole → IsCountable whole
+      → (names : List scopes.Name) → HasUnitRoom T (made_by_unit whole) (before_text names)
+  text-room formed whole k l typed limits countable names =
       let made = made_by_unit whole in
       record {
-        nodes = let few = countable.nodes in let count = numbers-end made 0 (0 + length (nodes_made made)) numbers in omega (arith, few, count);
+        things = omega (arith, countable);
+        nodes = let least = nodes_least made in omega (arith, countable, least);
         globals =
             let few = limits.globals in
             let bytes = global-bytes T whole in
@@ -78,9 +96,8 @@ module _ (T : Table) where
         cells = let few = limits.cells in let sum = copies-sum T made in let count = copies_counted made in omega (arith, few, sum, count);
       }
 
-pub unit-limited : (T : Table) (whole : TypedTranslationUnit) → IsWithinLimits T whole → IsCountable T whole → IsLimited T
-unit-limited T whole limits countable = record {
+pub unit-limited : (T : Table) (whole : TypedTranslationUnit) → IsWithinLimits T whole → IsLimited T
+unit-limited T whole limits = record {
   few = λ t parameters result h.
       subst (λ (x : TypeShape). parameters_of_shape x ≤ 127) h.1 (All-get_or (λ (e : Entry). parameters_of_shape e.shape ≤ 127) T t.0 void_entry h.0 limits.parameters);
-  short = countable.members;
 }

@@ -47,6 +47,7 @@ object_cost T (Name name (home.Static n) t) = size_of T t + 16
 object_cost T made = literal_cost made
 
 pub record HasUnitRoom (T : Table) (made : List Made) (s : UnitState) : Type 0 where
+  pub things : length made ≤ 4294967296
   pub nodes : s.seen.node + total node_cost made ≤ 4294967295
   pub globals : s.seen.globals + total (object_cost T) made ≤ 4194304
   pub cells : s.seen.cells + total (cell_cost T) made ≤ 65536

@@ -1,5 +1,6 @@
 -- What one part of a unit after another costs.
 use Rattle.std.proofs.Common.{◌≡◌, ◌≤◌, List, [], ◌∷◌, ◌++◌, arith}
+use Rattle.std.proofs.lemmas.List.{length-append}
 use Rattle.c_types.specs.Table.{Table}
 use Rattle.c_tree.specs.declared.typed_word.Home.TheVariants as home
 use Rattle.c_tree.specs.TypedParts.{Made, Written, Name, Literal, Address, Copy}
@@ -28,6 +29,7 @@ module _ (T : Table) where
 
   pub part-room : (made : List Made) (s : UnitState) → HasUnitRoom T made s → HasRoom T made (state_of s)
   part-room made s h = record {
+    things = h.things;
     nodes = h.nodes;
     globals = let a = h.globals in let b = literals-objects made in omega (arith, a, b);
     cells = h.cells;
@@ -42,6 +44,7 @@ module _ (T : Table) where
 
   pub unit-room-first : (xs ys : List Made) (s : UnitState) → HasUnitRoom T (xs ++ ys) s → HasUnitRoom T xs s
   unit-room-first xs ys s h = record {
+    things = let a = h.things in omega (arith, a, length-append xs ys);
     nodes = let a = h.nodes in omega (arith, a, total-append node_cost xs ys);
     globals = let a = h.globals in omega (arith, a, total-append (object_cost T) xs ys);
     cells = let a = h.cells in omega (arith, a, total-append (cell_cost T) xs ys);
@@ -49,6 +52,7 @@ module _ (T : Table) where
 
   pub unit-room-then : (xs ys : List Made) (s r : UnitState) → HasUnitRoom T (xs ++ ys) s → HasUnitSpent T xs s r → HasUnitRoom T ys r
   unit-room-then xs ys s r h k = record {
+    things = let a = h.things in omega (arith, a, length-append xs ys);
     nodes = let a = h.nodes in let b = k.nodes in omega (arith, a, b, total-append node_cost xs ys);
     globals = let a = h.globals in let b = k.globals in omega (arith, a, b, total-append (object_cost T) xs ys);
     cells = let a = h.cells in let b = k.cells in omega (arith, a, b, total-append (cell_cost T) xs ys);

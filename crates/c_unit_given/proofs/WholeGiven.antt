@@ -1,4 +1,4 @@
--- A unit that is well typed over a table of types, within its limits and countable, is given.
+-- A unit of few tokens that is well typed over a table of types, and within its limits, is given.
 use Rattle.std.proofs.Common.{◌≡◌, ◌≤◌, ◌+◌, ℕ, List, [], length, refl, ap, sym, subst, ◌∙◌, arith}
 use Rattle.std.proofs.lemmas.List.{append-nil, length-map}
 use Rattle.c_types.specs.Calls.{basic_table}
@@ -18,7 +18,9 @@ use Rattle.c_unit_typing.specs.UnitJudging.{UnitState, UnitOutcome, Gives, Stops
 use Rattle.c_unit_typing.specs.WellTyped.{defined_names, known_before, IsWellTyped}
 use Rattle.c_unit_typing.proofs.JudgedUnits.{name_in_bytes, IsWholeJudged, unit-judged}
 use Rattle.c_unit_typing.proofs.UnitStillDefined.{unit-defined}
-use Rattle.c_unit_given.specs.Countable.{IsCountable}
+use Rattle.c_unit_given.specs.Tokens.{HasFewTokens}
+use Rattle.c_unit_given.proofs.Countable.{IsCountable}
+use Rattle.c_unit_given.proofs.TokensCounted.{tokens-countable}
 use Rattle.c_unit_given.proofs.UnitGiven.{AreSizesWritten, IsUnitGivenAs, Nothing, AreScopesKept, AreExpressionsGiven, AreDeclaratorsGiven}
 use Rattle.c_unit_typing.specs.TypesUsed.{used_by_unit}
 use Rattle.c_unit_given.proofs.DefinitionsGiven.{definition-run}
@@ -34,7 +36,7 @@ use Rattle.c_unit_given.proofs.UnitCosts.{text-room, unit-limited}
 use Rattle.c_unit_given.proofs.UnitsGiven.{IsDefinitionRun, unit-run}
 
 module _ (T : Table) (basic : IsBasic T) (exprs : AreExpressionsGiven T) (scopes : AreScopesKept T) (decls : AreDeclaratorsGiven T) (sizes : AreSizesWritten T)
-    (whole : TypedTranslationUnit) (typed : IsWellTyped T whole) (limits : IsWithinLimits T whole) (countable : IsCountable T whole) where
+    (whole : TypedTranslationUnit) (typed : IsWellTyped T whole) (limits : IsWithinLimits T whole) (countable : IsCountable whole) where
   few_names : length (defined_names whole) ≤ 65535
   few_names = let few = limits.functions in let count = length-map (functions_of whole) name_in_bytes in omega (arith, few, count)
 
@@ -55,7 +57,7 @@ module _ (T : Table) (basic : IsBasic T) (exprs : AreExpressionsGiven T) (scopes
   parts_given definitions uses =
       unit-run T (defined_names whole) basic exprs scopes decls sizes definitions whole limits.holds among (before_text (defined_names whole)) typed.after nodes (length T)
       (text-here T basic (defined_names whole) few_names (place-own (defined_names whole) (names-own T whole (known_before whole) typed.after typed.typed))) tt (refl, typed.typed) numbers uses
-      (text-room T basic.formed whole (known_before whole) typed.after typed.typed limits countable numbers (defined_names whole))
+      (text-room T basic.formed whole (known_before whole) typed.after typed.typed limits countable (defined_names whole))
 
   abbrev WholeFrom : List Name → UnitState → Type 0
   WholeFrom all r = judge_whole (erased_unit whole) (before_text all) ≡ Gives whole r
@@ -82,11 +84,11 @@ module _ (T : Table) (basic : IsBasic T) (exprs : AreExpressionsGiven T) (scopes
   pub unit-given : IsDefinitionRun T (defined_names whole) → AreUses (used_by_unit T whole) (length basic_table) (length T) → (r : UnitState) × (judged_unit (erased_unit whole) ≡ Gives whole r)
   unit-given definitions uses = let g = parts_given definitions uses in (g.after, whole_given g)
 
--- a unit that is well typed, within its limits and countable is given
-pub whole-given : (T : Table) (whole : TypedTranslationUnit) → IsBasic T → IsWellTyped T whole → IsWithinLimits T whole → IsCountable T whole
+-- where 32 bits count what it makes
+countable_given : (T : Table) (whole : TypedTranslationUnit) → IsBasic T → IsWellTyped T whole → IsWithinLimits T whole → IsCountable whole
     → (r : UnitState) × (judged_unit (erased_unit whole) ≡ Gives whole r)
-whole-given T whole basic typed limits countable =
-    let limited = unit-limited T whole limits countable in
+countable_given T whole basic typed limits countable =
+    let limited = unit-limited T whole limits in
     let exprs = expressions-given T basic limited in
     let decls = declarators-given T basic limited in
     let scopes = scopes-kept T in
@@ -97,14 +99,19 @@ whole-given T whole basic typed limits countable =
     (λ before x form t brace body among holds.
     definition-run T basic exprs scopes decls sizes names few before x form t brace body among (block-items-run T basic exprs scopes decls sizes body) holds) typed.types
 
+-- a unit of few tokens that is well typed, and within its limits, is given
+pub whole-given : (T : Table) (whole : TypedTranslationUnit) → IsBasic T → IsWellTyped T whole → IsWithinLimits T whole → HasFewTokens (erased_unit whole)
+    → (r : UnitState) × (judged_unit (erased_unit whole) ≡ Gives whole r)
+whole-given T whole basic typed limits few = countable_given T whole basic typed limits (tokens-countable T whole limits few)
+
 -- so two such units that erase to one tree are one, over whichever tables
 
 abbrev pub given-of : UnitOutcome TypedTranslationUnit → TypedTranslationUnit → TypedTranslationUnit
 given-of (Gives a s) other = a
 given-of (Stops f s) other = other
 
-pub one-given : (T U : Table) (one other : TypedTranslationUnit) → IsBasic T → IsWellTyped T one → IsWithinLimits T one → IsCountable T one → IsBasic U → IsWellTyped U other
-    → IsWithinLimits U other → IsCountable U other → erased_unit one ≡ erased_unit other → one ≡ other
+pub one-given : (T U : Table) (one other : TypedTranslationUnit) → IsBasic T → IsWellTyped T one → IsWithinLimits T one → HasFewTokens (erased_unit one)
+    → IsBasic U → IsWellTyped U other → IsWithinLimits U other → HasFewTokens (erased_unit other) → erased_unit one ≡ erased_unit other → one ≡ other
 one-given T U one other b w l c b' w' l' c' e =
     let left = whole-given T one b w l c in
     let right = whole-given U other b' w' l' c' in

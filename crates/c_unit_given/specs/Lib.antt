@@ -1,1 +1,1 @@
-pub mod Countable
+pub mod Tokens

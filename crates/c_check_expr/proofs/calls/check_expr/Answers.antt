@@ -12,6 +12,12 @@ use Rattle.c_typing_laws.proofs.NumberedWhole.{checked-numbers}
 use Rattle.c_typing_laws.proofs.RefusedWhole.{checked-refuses}
 use Rattle.c_typing.specs.Checking.{checked}
 use Rattle.c_typing.specs.Refusals.{Refuses}
+use Rattle.c_typing.specs.Conversions.{bare}
+use Rattle.c_check_expr.proofs.GivenLaws.{value-given}
+use Rattle.c_check_expr.proofs.AcceptedLaws.{accepted}
+use Rattle.c_unit_typing.specs.Holding.{expr_holds}
+use Rattle.c_check_expr.specs.Limited.{IsWithin}
+use Rattle.c_check_expr.proofs.LimitFacts.{expr-within}
 use Rattle.c_check_expr.proofs.calls.check_expr.Goals as goal
 
 pub returns-clause-typed : goal.returns-clause-typed
@@ -25,3 +31,16 @@ returns-clause-numbered c k =
 pub returns-clause-refused : goal.returns-clause-refused
 returns-clause-refused c k =
     refused-err typed_expr_view (checked (expr_view c.args.e.now) (known c.args.types.now c.args.scope.now)) c.checked.result (known c.checked.new.types c.checked.new.scope) (λ p t. IsRefused (λ T. Refuses T false (expr_view c.args.e.now) c.args.scope.now.scopes (Refused p t)) (known c.args.types.now c.args.scope.now) (known c.checked.new.types c.checked.new.scope)) (λ p t h. checked-refuses p t (expr_view c.args.e.now) (known c.args.types.now c.args.scope.now) (known c.checked.new.types c.checked.new.scope) k h) c.checked.ensures
+
+pub returns-clause-accepts : goal.returns-clause-accepts
+returns-clause-accepts c T v b count can read over runtime =
+    let s = known c.args.types.now c.args.scope.now in
+    accepted typed_expr_view (checked (expr_view c.args.e.now) s) (bare v) T (made_by v) s b count c.checked.result (known c.checked.new.types c.checked.new.scope)
+    (value-given T (expr_view c.args.e.now) v s b count can read over runtime) c.checked.ensures
+
+pub returns-clause-limited : goal.returns-clause-limited
+returns-clause-limited c =
+    let s = known c.args.types.now c.args.scope.now in
+    let r = known c.checked.new.types c.checked.new.scope in
+    given-ok typed_expr_view (checked (expr_view c.args.e.now) s) c.checked.result r (λ v. IsWithin (expr_holds (expr_view c.args.e.now)) s r)
+    (λ v h. expr-within (expr_view c.args.e.now) v s r h) c.checked.ensures

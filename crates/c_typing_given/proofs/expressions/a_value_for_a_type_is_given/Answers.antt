@@ -5,12 +5,12 @@ use Rattle.c_typing_given.proofs.expressions.a_value_for_a_type_is_given.Goals a
 
 pub returns-clause-returned : goal.returns-clause-returned
 returns-clause-returned c = λ T t at e v s b count basic limits here there h uses room holds converted.
-    returned-given T basic t at e (expr-given T basic limits.few limits.short e) v s b count here there h uses room holds converted
+    returned-given T basic t at e (expr-given T basic limits.few e) v s b count here there h uses room holds converted
 
 pub returns-clause-initial : goal.returns-clause-initial
 returns-clause-initial c = λ T t at e v s b count basic limits here there h uses room holds assigned.
-    assigned-given T basic t at e (expr-given T basic limits.few limits.short e) v s b count here there h uses room holds assigned
+    assigned-given T basic t at e (expr-given T basic limits.few e) v s b count here there h uses room holds assigned
 
 pub returns-clause-copied : goal.returns-clause-copied
 returns-clause-copied c = λ T t at e p s b count basic limits here there h uses room holds aggregate shaped same.
-    copied-given T basic t at e (expr-given T basic limits.few limits.short e) p s b count here there h uses room holds aggregate shaped same
+    copied-given T basic t at e (expr-given T basic limits.few e) p s b count here there h uses room holds aggregate shaped same

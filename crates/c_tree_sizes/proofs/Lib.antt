@@ -1,0 +1,5 @@
+pub mod Paying
+pub mod Commas
+pub mod PaidTrees
+pub mod PaidStatements
+pub mod PaidUnits

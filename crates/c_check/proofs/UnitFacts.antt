@@ -1,8 +1,8 @@
 -- What an answer of the typing of a unit means.
 use Rattle.std.proofs.lemmas.Option.{none-some}
-use Rattle.std.proofs.Common.{◌≡◌, ◌≢◌, Option, None, Some, ◌∙◌, Bool, true, false, true≢false, refl, Result, Ok, Err, IfOk, length, ap, sym, subst, arith}
+use Rattle.std.proofs.Common.{◌≡◌, Option, None, Some, ◌∙◌, true≢false, Result, Ok, Err, IfOk, length, ap, sym, subst, arith}
 use Rattle.cc_base.specs.declared.fault.Fault.{Fault}
-use Rattle.cc_base.specs.declared.fault.Fault.TheVariants.{Refused, TooLarge, NoMemory}
+use Rattle.cc_base.specs.declared.fault.Fault.TheVariants.{Refused, NoMemory}
 use Rattle.cc_base.specs.declared.fault.Rule.{Rule}
 use Rattle.cc_base.specs.declared.place.Place.{Place}
 use Rattle.c_types.specs.Sound.{IsWellFormed}
@@ -16,6 +16,7 @@ use Rattle.c_tree.specs.declared.typed_unit.Typed.{Typed}
 use Rattle.c_typing.specs.Settled.{IsBasic}
 use Rattle.c_typing.specs.Tests.{first_broken}
 use Rattle.c_check.specs.Judged.{IsAccepted, IsAnswered, IsJudged, fault_of}
+use Rattle.c_check_expr.proofs.AcceptedLaws.{is_wanting, memory_alone}
 use Rattle.c_unit_given.specs.Tokens.{HasFewTokens}
 use Rattle.c_unit_given.proofs.WholeGiven.{given-of, whole-given}
 use Rattle.c_unit_limits.proofs.UnitLimits.{whole-limits}
@@ -35,11 +36,6 @@ use Rattle.c_unit_unique.proofs.UnitSteps.{unit-whole}
 pub answered-ok : (u : tree.TranslationUnit) (result : Result Typed Fault) (P : Typed → Type 0) → ((t : Typed) → IsJudged u t → P t) → IsAnswered u result → IfOk result P
 answered-ok u (Ok t) P law h = law t h
 answered-ok u (Err f) P law h = tt
-
-abbrev is_wanting : Fault → Bool
-is_wanting NoMemory = true
-is_wanting (Refused p t) = false
-is_wanting (TooLarge p l) = false
 
 abbrev err_of : Result Typed Fault → Fault
 err_of (Ok t) = NoMemory
@@ -103,11 +99,6 @@ pub within-limits : (u : tree.TranslationUnit) (t : Typed) → IsJudged u t → 
 within-limits u t j = subst (λ (T : Table). IsWithinLimits T (typed_unit_view t.unit)) (sym j.types) (whole-limits u (typed_unit_view t.unit) j.after j.gives)
 
 -- Acceptance
-
-memory_alone : (f : Fault) → (f ≢ NoMemory → ⊥) → f ≡ NoMemory
-memory_alone NoMemory h = refl
-memory_alone (Refused p t) h = absurd (h (λ e. true≢false (ap is_wanting (sym e))))
-memory_alone (TooLarge p l) h = absurd (h (λ e. true≢false (ap is_wanting (sym e))))
 
 -- what judging gives is the answer, unless memory is wanted
 pub is-accepted : (u : tree.TranslationUnit) (result : Result Typed Fault) (whole : TypedTranslationUnit) (r : UnitState) → judged_unit u ≡ Gives whole r → IsAnswered u result → IsAccepted whole result

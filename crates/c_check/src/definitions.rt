@@ -27,7 +27,8 @@ use crate::blocks::{enter, leave};
 use crate::statements::block_items;
 use c_check_context::Context;
 use c_check_context::conflicts::{declared_as, runtime_of};
-use c_check_context::homes::{Storage, home_of, name_of, naming_for, storage_of};
+use c_check_context::homes::{Storage, naming_for, storage_of};
+use c_check_expr::homes::{home_of, name_of};
 use c_check_expr::places::declarator_name;
 use c_tree::{
     BlockItem, FunctionDefinition, Home, Identifier, Items, TypedBlockItem, TypedCore,

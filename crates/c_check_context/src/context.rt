@@ -84,7 +84,7 @@ impl Context {
     ) -> Result<TypedDeclarator, Fault>
         ensures { Answers typed_declarator_view (lifted (judge_declarator naming (typed_specifiers_view base.now) size (declarator_view d.now)) (state_of self.old)) result (state_of self.new) }
     {
-        check_declarator(&mut self.scope, &mut self.types, naming, base, size, d)
+        check_declarator(&mut self.scope, &mut self.types, base, d, size, naming)
     }
 
     /// The pointers that the copy of a struct moves are counted.

@@ -1,11 +1,10 @@
-//! The home of what a declarator declares, and the storage that its specifiers ask for (C99 6.2.2, 6.7.1).
+//! The storage that specifiers ask for, and what it makes of the home of a name (C99 6.2.2, 6.7.1).
 #![tactic(auto)]
 
 ghost use Rattle.std.specs.Prelude.{◌≡◌, map, option_copied, option_map};
-ghost use Rattle.c_tree.specs.TypedViews.{typed_form_view, typed_core_view, typed_specifiers_view, typed_specifier_view, typed_specifiers_of};
+ghost use Rattle.c_tree.specs.TypedViews.{typed_specifiers_view, typed_specifier_view, typed_specifiers_of};
 ghost use Rattle.c_tree.specs.TypedTree as typed;
 ghost use Rattle.c_tree.specs.TypedTree.{TypedSpecifierList};
-ghost use Rattle.c_tree.specs.TypedParts.{home_of_form, home_of_core, name_of_form, name_of_core};
 ghost use Rattle.c_check_context.specs.CodeViews.{storage_view, stored_or};
 ghost use Rattle.c_unit_typing.specs.DeclarationJudging as judging;
 ghost use Rattle.c_unit_typing.specs.UnitRefusals as refusals;
@@ -13,7 +12,7 @@ ghost use Rattle.c_unit_typing.specs.Units as units;
 ghost use Rattle.c_unit_typing.specs.Units.{Storage as SeenStorage};
 
 use c_lexer::Keyword;
-use c_tree::{Home, Identifier, TypedCore, TypedForm, TypedSpecifier, TypedSpecifiers};
+use c_tree::{TypedSpecifier, TypedSpecifiers};
 use c_typing::{Declared, Naming};
 
 /// What the storage word of a declaration asks for.
@@ -128,47 +127,5 @@ pub fn is_lasting(file: bool, storage: Storage) -> bool
     match storage {
         Storage::AsStatic | Storage::AsExtern => true,
         _ => file,
-    }
-}
-
-/// The name in a form.
-#[cycle(names)]
-#[tactic(auto, using(c_tree::proofs::TypedViewLaws::typed_views))]
-pub fn name_of(form: &TypedForm) -> Option<&Identifier>
-    ensures { option_copied result ≡ name_of_form (typed_form_view form.now) }
-{
-    name_of_core(&form.core)
-}
-
-#[cycle(names)]
-#[tactic(auto, using(c_tree::proofs::TypedViewLaws::typed_views))]
-fn name_of_core(core: &TypedCore) -> Option<&Identifier>
-    ensures { option_copied result ≡ name_of_core (typed_core_view core.now) }
-{
-    match core {
-        TypedCore::Names(name, _) => Some(name),
-        TypedCore::Unnamed => None,
-        TypedCore::Nested(_, form) => name_of(form.get()),
-    }
-}
-
-/// The home of the name in a form.
-#[cycle(homes)]
-#[tactic(auto, using(c_tree::proofs::TypedViewLaws::typed_views))]
-pub fn home_of(form: &TypedForm) -> Home
-    ensures { result ≡ home_of_form (typed_form_view form.now) }
-{
-    home_of_core(&form.core)
-}
-
-#[cycle(homes)]
-#[tactic(auto, using(c_tree::proofs::TypedViewLaws::typed_views))]
-fn home_of_core(core: &TypedCore) -> Home
-    ensures { result ≡ home_of_core (typed_core_view core.now) }
-{
-    match core {
-        TypedCore::Names(_, home) => *home,
-        TypedCore::Unnamed => Home::None,
-        TypedCore::Nested(_, form) => home_of(form.get()),
     }
 }

@@ -19,7 +19,8 @@ use crate::initialisers::initialiser;
 use crate::sizes::{makes_chars, size_written};
 use c_check_context::Context;
 use c_check_context::conflicts::is_linked_home;
-use c_check_context::homes::{Storage, home_of, is_lasting, naming_for, storage_of};
+use c_check_context::homes::{Storage, is_lasting, naming_for, storage_of};
+use c_check_expr::homes::home_of;
 use c_check_expr::places::declarator_name;
 use c_tree::{
     Declaration, Declarator, Home, Identifier, InitDeclarator, Initialiser, Items,

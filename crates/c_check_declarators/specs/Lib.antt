@@ -1,3 +1,4 @@
 pub mod WordViews
 pub mod DerivedViews
 pub mod MakingViews
+pub mod HomeNodes

@@ -9,5 +9,6 @@ pub mod SpecifiedLaws
 pub mod ParameterLaws
 pub mod ExprLaws
 pub mod AcceptedLaws
+pub mod RoomLaws
 pub mod GivenLaws
 pub mod LimitFacts

@@ -8,7 +8,8 @@ ghost use Rattle.cc_base.specs.declared.fault.Rule.{Rule as Broken};
 ghost use Rattle.cc_base.specs.declared.place.Place.{Place as At};
 ghost use Rattle.c_types.specs.Table.{IsAggregate, IsType, Table, is_aggregate_shape, shape_at};
 ghost use Rattle.c_tree.specs.Erasure.{erased_specifiers};
-ghost use Rattle.c_tree.specs.TypedParts.{made_by, made_by_declarator, made_by_place, made_by_specifiers, place_type, specified_type};
+ghost use Rattle.c_tree.specs.Spelling.{declarator_spelling, expr_spelling, specifiers_spelling};
+ghost use Rattle.c_tree.specs.TypedParts.{home_of, made_by, made_by_declarator, made_by_place, made_by_specifiers, place_type, specified_type};
 ghost use Rattle.c_tree.specs.TypedTree as typed_tree;
 ghost use Rattle.c_tree.specs.TypedViews.{typed_declarator_view, typed_expr_view, typed_specifiers_view};
 ghost use Rattle.c_tree.specs.Views.{declarator_view, expr_view, specifiers_view};
@@ -28,7 +29,8 @@ ghost use Rattle.c_typing_laws.specs.Judged.{AreSpecifiersBy, AreSpecifiersJudge
 ghost use Rattle.c_typing_laws.specs.Numbers.{AreNumberedFrom};
 ghost use Rattle.c_typing_unique.specs.Points.{IsRead, IsReadAs, IsReadPlace, Point};
 ghost use Rattle.c_unit_typing.specs.Holding.{declarator_holds, expr_holds, specifiers_holds};
-ghost use Rattle.c_check_expr.specs.Accepted.{CanBeGiven, IsAccepted, IsDeclaratorRead};
+ghost use Rattle.c_check_declarators.specs.HomeNodes.{home_node};
+ghost use Rattle.c_check_expr.specs.Accepted.{CanBeGiven, IsDeclaratorRead, IsTaken};
 ghost use Rattle.c_check_expr.specs.Limited.{IsWithin};
 ghost use Rattle.c_check_expr.specs.CheckingViews.{constant_view};
 
@@ -47,7 +49,7 @@ pub fn check_expr(scope: &mut Scope, types: &mut Types, e: &Expr) -> Result<Type
     ensures numbered { IsKnown (known types.old scope.old) → IfOk result (λ v. AreNumberedFrom (made_by (typed_expr_view v)) (known types.old scope.old) (known types.new scope.new)) }
     ensures limited { IfOk result (λ v. IsWithin (expr_holds (expr_view e.now)) (known types.old scope.old) (known types.new scope.new)) }
     ensures refused { IsKnown (known types.old scope.old) → (p : At) (t : Broken) → result ≡ Err (Refused p t) → IsRefused (λ T. Refuses T false (expr_view e.now) scope.old.scopes (Refused p t)) (known types.old scope.old) (known types.new scope.new) }
-    ensures accepts { (T : Table) (v : typed_tree.TypedExpr) (b : Point) (count : ℕ) → CanBeGiven T (made_by v) (used_by T v) (expr_holds (expr_view e.now)) (known types.old scope.old) count → IsRead T (expr_view e.now) v (point_at (known types.old scope.old)) b → is_taken_over (bare v) ≡ false → runtime_named (bare v) ≡ None → IsAccepted typed_expr_view (bare v) T (made_by v) (known types.old scope.old) b count result (known types.new scope.new) }
+    ensures accepts { (T : Table) (v : typed_tree.TypedExpr) (b : Point) (count : ℕ) → CanBeGiven T (expr_spelling (expr_view e.now)) (made_by v) (used_by T v) (expr_holds (expr_view e.now)) (known types.old scope.old) count → IsRead T (expr_view e.now) v (point_at (known types.old scope.old)) b → is_taken_over (bare v) ≡ false → runtime_named (bare v) ≡ None → IsTaken typed_expr_view (bare v) T (made_by v) (known types.old scope.old) b count result (known types.new scope.new) }
 {
     checked(scope, types, e)
 }
@@ -67,8 +69,8 @@ pub fn check_value(
     ensures numbered { IsKnown (known types.old scope.old) → IfOk result (λ v. AreNumberedFrom (made_by (typed_expr_view v)) (known types.old scope.old) (known types.new scope.new)) }
     ensures limited { IfOk result (λ v. IsWithin (expr_holds (expr_view e.now)) (known types.old scope.old) (known types.new scope.new)) }
     ensures refused { IsKnown (known types.old scope.old) → IsType types.old to → (p : At) (t : Broken) → result ≡ Err (Refused p t) → IsRefused (λ T. ValueFails T to at (expr_view e.now) scope.old.scopes (Refused p t)) (known types.old scope.old) (known types.new scope.new) }
-    ensures accepts { (T : Table) (v : typed_tree.TypedExpr) (b : Point) (count : ℕ) → CanBeGiven T (made_by v) (used_by T v) (expr_holds (expr_view e.now)) (known types.old scope.old) count → IsRead T (expr_view e.now) v (point_at (known types.old scope.old)) b → IsType types.old to → BecomesBy init T b.scopes at to v → IsAccepted typed_expr_view v T (made_by v) (known types.old scope.old) b count result (known types.new scope.new) }
-    ensures accepts_copied { (T : Table) (p : typed_tree.TypedPlace) (b : Point) (count : ℕ) → CanBeGiven T (made_by_place p) (used_by_place T p) (expr_holds (expr_view e.now)) (known types.old scope.old) count → IsReadPlace T (expr_view e.now) p (point_at (known types.old scope.old)) b → init ≡ true → IsType types.old to → IsAggregate T (place_type p) → is_aggregate_shape (shape_at T to) ≡ true → is_same_type T to (place_type p) ≡ true → IsAccepted typed_expr_view (typed_tree.Unread p) T (made_by_place p) (known types.old scope.old) b count result (known types.new scope.new) }
+    ensures accepts { (T : Table) (v : typed_tree.TypedExpr) (b : Point) (count : ℕ) → CanBeGiven T (expr_spelling (expr_view e.now)) (made_by v) (used_by T v) (expr_holds (expr_view e.now)) (known types.old scope.old) count → IsRead T (expr_view e.now) v (point_at (known types.old scope.old)) b → IsType types.old to → BecomesBy init T b.scopes at to v → IsTaken typed_expr_view v T (made_by v) (known types.old scope.old) b count result (known types.new scope.new) }
+    ensures accepts_copied { (T : Table) (p : typed_tree.TypedPlace) (b : Point) (count : ℕ) → CanBeGiven T (expr_spelling (expr_view e.now)) (made_by_place p) (used_by_place T p) (expr_holds (expr_view e.now)) (known types.old scope.old) count → IsReadPlace T (expr_view e.now) p (point_at (known types.old scope.old)) b → init ≡ true → IsType types.old to → IsAggregate T (place_type p) → is_aggregate_shape (shape_at T to) ≡ true → is_same_type T to (place_type p) ≡ true → IsTaken typed_expr_view (typed_tree.Unread p) T (made_by_place p) (known types.old scope.old) b count result (known types.new scope.new) }
 {
     checked_for(scope, types, to, at, init, e)
 }
@@ -84,7 +86,7 @@ pub fn check_constant(
     ensures numbered { IsKnown (known types.old scope.old) → IfOk result (λ c. AreNumberedFrom (made_by (constant_view c).expr) (known types.old scope.old) (known types.new scope.new)) }
     ensures limited { IfOk result (λ v. IsWithin (expr_holds (expr_view e.now)) (known types.old scope.old) (known types.new scope.new)) }
     ensures refused { IsKnown (known types.old scope.old) → (p : At) (t : Broken) → result ≡ Err (Refused p t) → IsRefused (λ T. ConstantFails T (expr_view e.now) scope.old.scopes (Refused p t)) (known types.old scope.old) (known types.new scope.new) }
-    ensures accepts { (T : Table) (v : typed_tree.TypedExpr) (z : ℤ) (b : Point) (count : ℕ) → CanBeGiven T (made_by v) (used_by T v) (expr_holds (expr_view e.now)) (known types.old scope.old) count → IsRead T (expr_view e.now) v (point_at (known types.old scope.old)) b → IsPlain v → constant_value T v ≡ Some z → IsAccepted constant_view (record { expr = v; value = z }) T (made_by v) (known types.old scope.old) b count result (known types.new scope.new) }
+    ensures accepts { (T : Table) (v : typed_tree.TypedExpr) (z : ℤ) (b : Point) (count : ℕ) → CanBeGiven T (expr_spelling (expr_view e.now)) (made_by v) (used_by T v) (expr_holds (expr_view e.now)) (known types.old scope.old) count → IsRead T (expr_view e.now) v (point_at (known types.old scope.old)) b → IsPlain v → constant_value T v ≡ Some z → IsTaken constant_view (record { expr = v; value = z }) T (made_by v) (known types.old scope.old) b count result (known types.new scope.new) }
 {
     checked_constant(scope, types, e)
 }
@@ -101,27 +103,29 @@ pub fn check_specifiers(
     ensures numbered { IsKnown (known types.old scope.old) → IfOk result (λ t. AreNumberedFrom (made_by_specifiers (typed_specifiers_view t)) (known types.old scope.old) (known types.new scope.new)) }
     ensures limited { IfOk result (λ v. IsWithin (specifiers_holds (specifiers_view specifiers.now)) (known types.old scope.old) (known types.new scope.new)) }
     ensures refused { IsKnown (known types.old scope.old) → (p : At) (t : Broken) → result ≡ Err (Refused p t) → IsRefused (λ T. SpecifiersFail alone T (specifiers_view specifiers.now) scope.old.scopes (Refused p t)) (known types.old scope.old) (known types.new scope.new) }
-    ensures accepts { (T : Table) (t : typed_tree.TypedSpecifiers) (b : Point) (count : ℕ) → CanBeGiven T (made_by_specifiers t) (used_by_specifiers T t) (specifiers_holds (specifiers_view specifiers.now)) (known types.old scope.old) count → IsReadAs erased_specifiers made_by_specifiers (AreSpecifiersBy alone T) (specifiers_view specifiers.now) t (point_at (known types.old scope.old)) b → IsAccepted typed_specifiers_view t T (made_by_specifiers t) (known types.old scope.old) b count result (known types.new scope.new) }
+    ensures accepts { (T : Table) (t : typed_tree.TypedSpecifiers) (b : Point) (count : ℕ) → CanBeGiven T (specifiers_spelling (specifiers_view specifiers.now)) (made_by_specifiers t) (used_by_specifiers T t) (specifiers_holds (specifiers_view specifiers.now)) (known types.old scope.old) count → IsReadAs erased_specifiers made_by_specifiers (AreSpecifiersBy alone T) (specifiers_view specifiers.now) t (point_at (known types.old scope.old)) b → IsTaken typed_specifiers_view t T (made_by_specifiers t) (known types.old scope.old) b count result (known types.new scope.new) }
 {
     specifiers_by(scope, types, specifiers, alone)
 }
 
-/// A declarator behind specifiers (C99 6.7.5). `naming` says what its name is to be, and `size` is the count that an initialiser gives to the
-/// array part without a size that stands nearest to the name.
+/// A declarator behind specifiers (C99 6.7.5). `size` is the count that an initialiser gives to the array part without a size that stands
+/// nearest to the name, and `naming` says what the name is to be. The answer's `home` is the node of the object that is declared; a function
+/// and a typedef have none.
 pub fn check_declarator(
     scope: &mut Scope,
     types: &mut Types,
-    naming: Naming,
     base: &TypedSpecifiers,
-    size: Option<u64>,
     d: &Declarator,
+    size: Option<u64>,
+    naming: Naming,
 ) -> Result<TypedDeclarator, Fault>
     ensures judged { Answers typed_declarator_view (walks.judge_declarator naming (typed_specifiers_view base.now) size (declarator_view d.now) (known types.old scope.old)) result (known types.new scope.new) }
     ensures typed { IsKnown (known types.old scope.old) → IsType types.old (specified_type (typed_specifiers_view base.now)) → IfOk result (λ one. IsDeclaratorJudged naming (walks.outermost_of size) (specified_type (typed_specifiers_view base.now)) (declarator_view d.now) (typed_declarator_view one) (known types.old scope.old) (known types.new scope.new)) }
+    ensures home { IfOk result (λ one. one.home ≡ home_node (home_of (typed_declarator_view one))) }
     ensures numbered { IsKnown (known types.old scope.old) → IfOk result (λ one. AreNumberedFrom (made_by_declarator (typed_declarator_view one)) (known types.old scope.old) (known types.new scope.new)) }
     ensures limited { IfOk result (λ v. IsWithin (declarator_holds (declarator_view d.now)) (known types.old scope.old) (known types.new scope.new)) }
     ensures refused { IsKnown (known types.old scope.old) → IsType types.old (specified_type (typed_specifiers_view base.now)) → (p : At) (t : Broken) → result ≡ Err (Refused p t) → IsRefused (λ T. DeclaratorFails T (walks.outermost_of size) (specified_type (typed_specifiers_view base.now)) (declarator_view d.now) scope.old.scopes (Refused p t)) (known types.old scope.old) (known types.new scope.new) }
-    ensures accepts { (T : Table) (one : typed_tree.TypedDeclarator) (b : Point) (count : ℕ) → CanBeGiven T (made_by_declarator one) (used_by_declarator T Written one) (declarator_holds (declarator_view d.now)) (known types.old scope.old) count → IsType types.old (specified_type (typed_specifiers_view base.now)) → IsDeclaratorRead T naming (walks.outermost_of size) (specified_type (typed_specifiers_view base.now)) (declarator_view d.now) one (point_at (known types.old scope.old)) b → IsAccepted typed_declarator_view one T (made_by_declarator one) (known types.old scope.old) b count result (known types.new scope.new) }
+    ensures accepts { (T : Table) (one : typed_tree.TypedDeclarator) (b : Point) (count : ℕ) → CanBeGiven T (declarator_spelling (declarator_view d.now)) (made_by_declarator one) (used_by_declarator T Written one) (declarator_holds (declarator_view d.now)) (known types.old scope.old) count → IsType types.old (specified_type (typed_specifiers_view base.now)) → IsDeclaratorRead T naming (walks.outermost_of size) (specified_type (typed_specifiers_view base.now)) (declarator_view d.now) one (point_at (known types.old scope.old)) b → IsTaken typed_declarator_view one T (made_by_declarator one) (known types.old scope.old) b count result (known types.new scope.new) }
 {
     declarator_behind(scope, types, naming, base, size, d)
 }

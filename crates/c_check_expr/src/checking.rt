@@ -3,12 +3,14 @@
 
 ghost use Rattle.std.specs.Prelude.{◌≡◌, IfOk, IfSome, None, map, true};
 ghost use Rattle.c_types.specs.Table as table;
+ghost use Rattle.c_tree.specs.TypedParts.{home_of};
 ghost use Rattle.c_tree.specs.Tree.{AndSpecifier, NoSpecifier, Tagged};
 ghost use Rattle.c_tree.specs.Views.{expr_view, specifier_view, specifiers_of, specifiers_view, declarator_view};
 ghost use Rattle.c_tree.specs.TypedViews.{typed_expr_view, typed_specifiers_view, typed_declarator_view};
 ghost use Rattle.c_typing.specs.Checking as checking;
 ghost use Rattle.c_typing.specs.Declaring as declaring;
 ghost use Rattle.c_check_expr.specs.CheckingViews.{constant_view};
+ghost use Rattle.c_check_declarators.specs.HomeNodes.{home_node};
 ghost use Rattle.c_check_declarators.specs.MakingViews.{nearest_view};
 ghost use Rattle.c_typing.specs.Judging.{Answers, known};
 ghost use Rattle.c_typing.specs.OperandViews.{operand_view, part_view, value_view, part_ref_view};
@@ -16,6 +18,7 @@ ghost use Rattle.c_typing.specs.Walks as walks;
 
 use crate::walk::{judge_expr, judge_form, judge_specifiers};
 use c_check_declarators::derived::{Derived, derived_by, is_function_by};
+use c_check_declarators::homes::{home_node, home_of};
 use c_check_declarators::making::{Nearest, form_makes};
 use c_check_declarators::places::{declarator_name, name_place};
 use c_check_declarators::specifying::tagged_alone;
@@ -238,15 +241,13 @@ pub(crate) fn declarator_behind(
     size: Option<u64>,
     d: &Declarator,
 ) -> Result<TypedDeclarator, Fault>
-    ensures { Answers typed_declarator_view (walks.judge_declarator naming (typed_specifiers_view base.now) size (declarator_view d.now) (known types.old scope.old)) result (known types.new scope.new) }
+    ensures judged { Answers typed_declarator_view (walks.judge_declarator naming (typed_specifiers_view base.now) size (declarator_view d.now) (known types.old scope.old)) result (known types.new scope.new) }
+    ensures home { IfOk result (λ one. one.home ≡ home_node (home_of (typed_declarator_view one))) }
 {
     let at = name_place(declarator_name(d), NOWHERE);
     let which = naming_of(types, naming, base.ty, d);
     let form = judge_form(scope, types, LEVELS, which, at, d)?;
     let ty = form_makes(scope, types, at, nearest_of(size), &form, base.ty)?;
-    Ok(TypedDeclarator {
-        form,
-        ty,
-        home: None,
-    })
+    let home = home_node(home_of(&form));
+    Ok(TypedDeclarator { form, ty, home })
 }

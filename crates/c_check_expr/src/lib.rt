@@ -13,6 +13,6 @@ mod type_names;
 mod walk;
 mod walker;
 
-pub use c_check_declarators::places;
+pub use c_check_declarators::{homes, places};
 pub use c_typing::{Declared, Naming, Scope, Tag};
 pub use calls::{check_constant, check_declarator, check_expr, check_specifiers, check_value};

@@ -7,14 +7,13 @@ ghost use Rattle.c_types.specs.Table.{Table, shape_at};
 ghost use Rattle.c_tree.specs.Tree.{Parameters, NoParameter, AndParameter, NotDeclared, Specifiers as PlainSpecifiers, AndSpecifier};
 ghost use Rattle.c_tree.specs.TypedTree.{TypedParameters, NoParameter as no_typed_parameter};
 ghost use Rattle.c_tree.specs.Views.{added, declarator_view, declared_of, parameter_view, specifier_view, specifiers_of, specifiers_view};
-ghost use Rattle.c_tree.specs.TypedViews.{typed_core_view, typed_form_view, typed_declared_of, typed_parameter_view, typed_specifiers_view};
+ghost use Rattle.c_tree.specs.TypedViews.{typed_form_view, typed_declared_of, typed_parameter_view, typed_specifiers_view};
 ghost use Rattle.c_typing.specs.Declarators.{is_derived_declared};
 ghost use Rattle.c_typing.specs.Declaring as declaring;
 ghost use Rattle.c_typing.specs.Judging.{Answers, Gives, State, known, next};
 ghost use Rattle.c_typing.specs.KindViews.{shape_or_void};
 ghost use Rattle.c_check_expr.specs.Nests.{Nests};
 ghost use Rattle.c_typing.specs.Refusals.{declared_identifier, is_here, is_void_alone};
-ghost use Rattle.c_tree.specs.TypedParts.{home_of_core, home_of_form, name_of_core, name_of_form};
 ghost use Rattle.c_check_declarators.specs.DerivedViews.{derived_view};
 ghost use Rattle.c_typing.specs.Specifying.{obeying};
 ghost use Rattle.c_typing.specs.Tests as tests;
@@ -24,12 +23,13 @@ ghost use Rattle.c_typing.specs.Walks as walks;
 use crate::declarators::node_at;
 use crate::walker::Walker;
 use c_check_declarators::derived::{Derived, adjusted_at, derived_by_declared};
+use c_check_declarators::homes::{home_of, name_of};
 use c_check_declarators::making::{Nearest, declared_makes, is_derived};
 use c_check_declarators::places::declared_place;
 use c_lexer::Keyword;
 use c_tree::{
     Adjusted, Declarator, Expr, Home, Identifier, Items, Parameter, Specifier, Specifiers,
-    TypedCore, TypedForm, TypedParameter, TypedSpecifiers,
+    TypedForm, TypedParameter, TypedSpecifiers,
 };
 use c_types::{TypeShape, Types};
 use c_typing::declared::Declared;
@@ -187,53 +187,11 @@ fn typedef_place(specifiers: &Specifiers) -> Place
     Place { line: 1, col: 1 }
 }
 
-/// The name of what a typed form declares.
-#[cycle(form_name)]
-#[tactic(auto, using(c_tree::proofs::TypedViewLaws::typed_views))]
-fn form_name(form: &TypedForm) -> Option<&Identifier>
-    ensures { option_copied result ≡ name_of_form (typed_form_view form.now) }
-{
-    core_name(&form.core)
-}
-
-#[cycle(form_name)]
-#[tactic(auto, using(c_tree::proofs::TypedViewLaws::typed_views))]
-fn core_name(core: &TypedCore) -> Option<&Identifier>
-    ensures { option_copied result ≡ name_of_core (typed_core_view core.now) }
-{
-    match core {
-        TypedCore::Names(name, _) => Some(name),
-        TypedCore::Unnamed => None,
-        TypedCore::Nested(_, form) => form_name(form.get()),
-    }
-}
-
-/// The home of what a typed form declares.
-#[cycle(form_home)]
-#[tactic(auto, using(c_tree::proofs::TypedViewLaws::typed_views))]
-fn form_home(form: &TypedForm) -> Home
-    ensures { result ≡ home_of_form (typed_form_view form.now) }
-{
-    core_home(&form.core)
-}
-
-#[cycle(form_home)]
-#[tactic(auto, using(c_tree::proofs::TypedViewLaws::typed_views))]
-fn core_home(core: &TypedCore) -> Home
-    ensures { result ≡ home_of_core (typed_core_view core.now) }
-{
-    match core {
-        TypedCore::Names(_, home) => *home,
-        TypedCore::Unnamed => Home::None,
-        TypedCore::Nested(_, form) => form_home(form.get()),
-    }
-}
-
 fn declared_name(d: Option<&TypedForm>) -> Option<&Identifier>
     ensures { option_copied result ≡ declared_identifier (typed_declared_of (option_map typed_form_view (option_copied d.entry))) }
 {
     match d {
-        Some(form) => form_name(form),
+        Some(form) => name_of(form),
         None => None,
     }
 }
@@ -242,7 +200,7 @@ fn declared_home(d: Option<&TypedForm>) -> Home
     ensures { result ≡ declaring.declared_home (typed_declared_of (option_map typed_form_view (option_copied d.entry))) }
 {
     match d {
-        Some(form) => form_home(form),
+        Some(form) => home_of(form),
         None => Home::None,
     }
 }

@@ -60,7 +60,7 @@ mutual
 
   pub place-paid : (p : TypedPlace) → IsPaid 1 (made_by_place p) (expr_spelling (erased_place p))
   place-paid (typed.Variable name home t) = token nothing
-  place-paid (typed.String pieces home t) = literal
+  place-paid (typed.String pieces home t) = literal pieces
   place-paid (typed.ParenPlace at p) = more (followed _ (place-paid p))
   place-paid (typed.Target at e t) = token (expr-paid e)
   place-paid (typed.Element which a at b t) = then (expr-paid a) (token (followed _ (expr-paid b)))

@@ -21,7 +21,8 @@ unit-paid (typed.AndFunctionBody u specifiers d brace items) =
 spare-static : (m : Made) → spare m ≤ length (static_made m) + length (static_made m)
 spare-static (made.Written place n) = omega arith
 spare-static (made.Name name home t) = omega arith
-spare-static (made.Literal pieces home t) = omega arith
+spare-static (made.Literal [] home t) = omega arith
+spare-static (made.Literal (p ∷ pieces) home t) = omega arith
 spare-static (made.Address n) = omega arith
 spare-static (made.Copy t) = omega arith
 

@@ -1,14 +1,15 @@
--- What is made is paid for by tokens, two things for each, and by string literals, two things for each.
-use Rattle.std.proofs.Common.{◌≡◌, ◌≤◌, ◌+◌, ℕ, suc, List, [], ◌∷◌, ◌++◌, length, arith, length-append}
+-- What is made is paid for by tokens, two things for each. A string literal with no piece has no token: it pays for two things itself.
+use Rattle.std.proofs.Common.{◌≡◌, ◌≤◌, ◌+◌, ℕ, suc, List, [], ◌∷◌, ◌++◌, length, map, arith, length-append}
 use Rattle.cc_base.specs.declared.number.NodeId.{NodeId}
 use Rattle.cc_base.specs.declared.number.TypeId.{TypeId}
 use Rattle.c_tree.specs.declared.leaf.StringPiece.{StringPiece}
+use Rattle.c_tree.specs.Spelling.{piece_symbol}
 use Rattle.c_tree.specs.Symbols.{Symbol}
 use Rattle.c_tree.specs.TypedParts.{Made, Literal}
 
--- what a thing pays for, itself among them
+-- what a thing pays for that has no token
 abbrev pub spare : Made → ℕ
-spare (Literal pieces home t) = 2
+spare (Literal [] home t) = 2
 spare made = 0
 
 abbrev pub total : List Made → ℕ
@@ -29,8 +30,9 @@ nothing {ts} = record { enough = omega arith }
 pub one : {m : Made} {t : Symbol} {ts : List Symbol} → IsPaid 0 (m ∷ []) (t ∷ ts)
 one {m} {t} {ts} = record { enough = omega arith }
 
-pub literal : {pieces : List StringPiece} {home : NodeId} {t : TypeId} {ts : List Symbol} → IsPaid 1 (Literal pieces home t ∷ []) ts
-literal {pieces} {home} {t} {ts} = record { enough = omega arith }
+pub literal : (pieces : List StringPiece) {home : NodeId} {t : TypeId} → IsPaid 1 (Literal pieces home t ∷ []) (map piece_symbol pieces)
+literal [] {home} {t} = record { enough = omega arith }
+literal (p ∷ pieces) {home} {t} = record { enough = omega arith }
 
 pub less : {k : ℕ} {xs : List Made} {ts : List Symbol} → IsPaid (suc k) xs ts → IsPaid k xs ts
 less {k} {xs} {ts} p = record { enough = let a = p.enough in omega (arith, a) }

@@ -4,9 +4,9 @@ use c_check_expr::{
 };
 use c_expr_parse::{Level, parse_declarator, parse_expr, parse_specifiers};
 use c_lexer::tokens;
-use c_tree::{Expr, TypedSpecifiers};
+use c_tree::{Declarator, Expr, TypedSpecifiers};
 use c_types::{TypeShape, Types};
-use cc_base::{Fault, Place, TypeId};
+use cc_base::{Fault, NodeId, Place, TypeId};
 use indexmap::IndexSet;
 use std::alloc::Global;
 use std::process::Abort;
@@ -38,6 +38,15 @@ fn read_expr(alloc: Global, text: &[u8]) -> Result<Expr, Fault> {
         Level::Comma,
     )?;
     Ok(e)
+}
+
+fn read_declarator(alloc: Global, text: &[u8]) -> Result<Declarator, Fault> {
+    if text.len() > 1_048_576 {
+        return Err(Fault::NoMemory);
+    }
+    let list = tokens(alloc, text)?;
+    let (d, _) = parse_declarator(alloc, text, &list, 0, 0, &IndexSet::new(alloc))?;
+    Ok(d)
 }
 
 /// The specifiers that a text is.
@@ -87,14 +96,11 @@ fn a_constant_has_its_value(rt: HostRuntime) -> Result<(), Fail> {
 #[test]
 fn a_pointer_is_declared_with_its_node(rt: HostRuntime) -> Result<(), Fail> {
     let (mut scope, mut types) = before(&rt);
-    let text = b"*p";
     let base = specifiers(rt.alloc(), &mut scope, &mut types, b"unsigned char").expect(
         &rt, "typed",
     );
-    let list = tokens(rt.alloc(), text).expect(&rt, "cut");
-    let names = IndexSet::new(rt.alloc());
-    let (d, _) = parse_declarator(rt.alloc(), text, &list, 0, 0, &names).expect(&rt, "read");
-    let made = check_declarator(&mut scope, &mut types, Naming::Local, &base, None, &d).expect(
+    let d = read_declarator(rt.alloc(), b"*p").expect(&rt, "read");
+    let made = check_declarator(&mut scope, &mut types, &base, &d, None, Naming::Local).expect(
         &rt, "typed",
     );
     assert!(rt; made.ty.0 < types.count());
@@ -102,5 +108,41 @@ fn a_pointer_is_declared_with_its_node(rt: HostRuntime) -> Result<(), Fail> {
         matches!(types.shape(made.ty), TypeShape::Pointer(n, to) if n.0 == 0 && *to == base.ty)
     );
     assert!(rt; scope.next_node() == 2);
+    Ok(())
+}
+
+/// The home of what a text declares, of the type `int`.
+fn home(
+    alloc: Global,
+    scope: &mut Scope,
+    types: &mut Types,
+    naming: Naming,
+    text: &[u8],
+) -> Result<Option<NodeId>, Fault> {
+    let base = specifiers(alloc, scope, types, b"int")?;
+    let d = read_declarator(alloc, text)?;
+    let made = check_declarator(scope, types, &base, &d, None, naming)?;
+    Ok(made.home)
+}
+
+#[test]
+fn an_object_has_a_home_and_a_function_and_a_typedef_have_none(
+    rt: HostRuntime,
+) -> Result<(), Fail> {
+    let (mut scope, mut types) = before(&rt);
+    let alloc = rt.alloc();
+    let new = home(alloc, &mut scope, &mut types, Naming::Static, b"*p").expect(&rt, "typed");
+    assert!(rt; new == Some(NodeId(1)));
+    let local = home(alloc, &mut scope, &mut types, Naming::Local, b"(a)[3]").expect(&rt, "typed");
+    assert!(rt; local == Some(NodeId(2)));
+    let known = Naming::Known(NodeId(1));
+    let again = home(alloc, &mut scope, &mut types, known, b"*p").expect(&rt, "typed");
+    assert!(rt; again == Some(NodeId(1)));
+    let function = home(alloc, &mut scope, &mut types, Naming::Static, b"f(void)").expect(
+        &rt, "typed",
+    );
+    assert!(rt; function.is_none());
+    let typedef = home(alloc, &mut scope, &mut types, Naming::None, b"t").expect(&rt, "typed");
+    assert!(rt; typedef.is_none());
     Ok(())
 }

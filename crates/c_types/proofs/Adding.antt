@@ -8,7 +8,7 @@ use Rattle.std.proofs.lemmas.Bool.{cases_lt}
 use Rattle.std.proofs.lemmas.List.{get_or_past, get_or_append_left, map-append, length-map, length-append, get_or-map}
 use Rattle.std.proofs.lemmas.List.Quantifiers.{position-Some}
 use Rattle.std.proofs.lemmas.List.Sums.{sum_by_push}
-use Rattle.std.proofs.lemmas.List.Elements.{All-nil, All-cons}
+use Rattle.std.proofs.lemmas.List.Elements.{All-nil, All-cons, All-contains}
 use Rattle.std.proofs.Math.Seq.{get_or-append_seam}
 use Rattle.indexmap.specs.IndexMap.{insert_entry}
 use Rattle.cc_base.specs.declared.number.TypeId.{TypeId}
@@ -17,10 +17,10 @@ use Rattle.c_types.specs.declared.kept.FieldPlace.{FieldPlace}
 use Rattle.c_types.specs.declared.kept.Kept.{Kept}
 use Rattle.c_types.specs.declared.shape.TypeShape.{TypeShape}
 use Rattle.c_types.specs.declared.shape.TypeShape.TheVariants.{Void, Integer, Pointer, Array, Function, Struct, Union}
-use Rattle.c_types.specs.Table.{Table, Entry, void_entry, entry_at, shape_at, members_at, parts_of_shape, IsType, IsComplete, is_complete, HasShape}
+use Rattle.c_types.specs.Table.{Table, Entry, void_entry, entry_at, shape_at, members_at, parts_of_shape, named_by, IsType, IsComplete, is_complete, HasShape}
 use Rattle.c_types.specs.Layouts.{layout_of}
 use Rattle.c_types.specs.Sound.{IsFormed, IsSized, IsWellFormed}
-use Rattle.c_types.specs.Kept.{KeptEntry, IsSound, IsKeptOf, table_of, entry_of}
+use Rattle.c_types.specs.Kept.{KeptEntry, KnownShape, AreFirst, IsSound, IsKeptOf, table_of, entry_of, firsts_of}
 use Rattle.c_types.specs.Calls.{IsNew, IsAddable, basic_entry, new_layout}
 use Rattle.c_types.proofs.Shapes.{shape_eq, same_shape, own_shape, other_shape}
 use Rattle.c_types.proofs.Growth.{Changes}
@@ -123,6 +123,22 @@ new_formed table shape a = record { proper = a.proper; named = a.named; parts = 
 same_number : (t u : TypeId) → t.0 ≡ u.0 → t ≡ u
 same_number t u s = ap (λ (n : ℕ). record { 0 = n }) s
 
+module _ (old : Table) (shape : TypeShape) where
+  -- a type of the longer table is the last or one of the others
+  pub place : (u : TypeId) → IsType (old ++ basic_entry shape ∷ []) u → (u.0 ≡ length old) ⊎ (u.0 < length old)
+  place u h = elim (cases_lt u.0 (length old)) [
+    | inl l ↦ inr l
+    | inr g ↦ inl (omega (arith, length-append old (basic_entry shape ∷ [])))
+  ]
+
+  pub shape_old : (u : TypeId) → u.0 < length old → shape_at (old ++ basic_entry shape ∷ []) u ≡ shape_at old u
+  shape_old u l = ap (λ (d : Entry). d.shape) (get_or_append_left old (basic_entry shape ∷ []) void_entry u.0 l)
+
+  pub shape_last : (u : TypeId) → u.0 ≡ length old → shape_at (old ++ basic_entry shape ∷ []) u ≡ shape
+  shape_last u s =
+      ap (λ (i : ℕ). shape_at (old ++ basic_entry shape ∷ []) (record { 0 = i })) s
+      ∙ ap (λ (d : Entry). d.shape) (get_or-append_seam old (basic_entry shape) [] void_entry)
+
 module _ (old : Table) (shape : TypeShape) (w : IsWellFormed old) (n : IsNew old shape) (a : IsAddable old shape) where
   e : Entry
   e = basic_entry shape
@@ -130,31 +146,16 @@ module _ (old : Table) (shape : TypeShape) (w : IsWellFormed old) (n : IsNew old
   change : Changes old (old ++ basic_entry shape ∷ []) (record { 0 = length old }) (basic_entry shape)
   change = appends old (basic_entry shape) (new_parts old shape a)
 
-  -- a type of the longer table is the last or one of the others
-  place : (u : TypeId) → IsType (old ++ basic_entry shape ∷ []) u → (u.0 ≡ length old) ⊎ (u.0 < length old)
-  place u h = elim (cases_lt u.0 (length old)) [
-    | inl l ↦ inr l
-    | inr g ↦ inl (omega (arith, length-append old (basic_entry shape ∷ [])))
-  ]
-
-  shape_old : (u : TypeId) → u.0 < length old → shape_at (old ++ basic_entry shape ∷ []) u ≡ shape_at old u
-  shape_old u l = ap (λ (d : Entry). d.shape) (get_or_append_left old (basic_entry shape ∷ []) void_entry u.0 l)
-
-  shape_last : (u : TypeId) → u.0 ≡ length old → shape_at (old ++ basic_entry shape ∷ []) u ≡ shape
-  shape_last u s =
-      ap (λ (i : ℕ). shape_at (old ++ basic_entry shape ∷ []) (record { 0 = i })) s
-      ∙ ap (λ (d : Entry). d.shape) (get_or-append_seam old (basic_entry shape) [] void_entry)
-
   distinct_after : (u v : TypeId) → IsType (old ++ basic_entry shape ∷ []) u
       → HasShape (old ++ basic_entry shape ∷ []) v (shape_at (old ++ basic_entry shape ∷ []) u) → u ≡ v
-  distinct_after u v h k = elim (place u h) [
-    | inl s ↦ elim (place v k.0) [
+  distinct_after u v h k = elim (place old shape u h) [
+    | inl s ↦ elim (place old shape v k.0) [
       | inl r ↦ same_number u v (s ∙ sym r)
-      | inr l ↦ absurd (n v (l, sym (shape_old v l) ∙ k.1 ∙ shape_last u s))
+      | inr l ↦ absurd (n v (l, sym (shape_old old shape v l) ∙ k.1 ∙ shape_last old shape u s))
     ]
-    | inr l ↦ elim (place v k.0) [
-      | inl r ↦ absurd (n u (l, sym (shape_old u l) ∙ sym k.1 ∙ shape_last v r))
-      | inr m ↦ w.distinct u v l (m, sym (shape_old v m) ∙ k.1 ∙ shape_old u l)
+    | inr l ↦ elim (place old shape v k.0) [
+      | inl r ↦ absurd (n u (l, sym (shape_old old shape u l) ∙ sym k.1 ∙ shape_last old shape v r))
+      | inr m ↦ w.distinct u v l (m, sym (shape_old old shape v m) ∙ k.1 ∙ shape_old old shape u l)
     ]
   ]
 
@@ -178,6 +179,7 @@ module _ (old : Table) (shape : TypeShape) (w : IsWellFormed old) (n : IsNew old
   formed_added room most =
       formed_after old (old ++ basic_entry shape ∷ []) (record { 0 = length old }) (basic_entry shape) change w (new_formed old shape a)
       (omega (arith, length-append old (basic_entry shape ∷ []))) distinct_after (sized_last most)
+      (λ u c. All-contains (IsType old) (named_by shape) u a.named c)
 
   pub kept_others : (u : TypeId) (k : Kept) → u.0 < length old → map (λ (p : FieldPlace). p.ty) k.fields.items ≡ members_at old u
       → IsKeptOf old u k → IsKeptOf (old ++ basic_entry shape ∷ []) u k
@@ -192,7 +194,8 @@ module _ (es : List KeptEntry) (shape : TypeShape) (kept : Kept) (empty : kept.f
       map-append entry_of es ((shape, kept) ∷ [])
       ∙ ap (λ (xs : List FieldPlace). table_of es ++ (record { shape = shape; members = map (λ (p : FieldPlace). p.ty) xs }) ∷ []) empty
 
-  module _ (s : IsSound es) (n : IsNew (table_of es) shape) (a : IsAddable (table_of es) shape) (l : kept.layout ≡ new_layout (table_of es) shape) where
+  module _ (known after : List KnownShape) (s : IsSound es known) (n : IsNew (table_of es) shape) (a : IsAddable (table_of es) shape)
+      (l : kept.layout ≡ new_layout (table_of es) shape) where
     kept_old : (i : ℕ) (d : KeptEntry) → i < length es → IsKeptOf (table_of es ++ basic_entry shape ∷ []) (record { 0 = i }) (get_or es i d).1
     kept_old i d b =
         kept_others (table_of es) shape s.formed n a (record { 0 = i }) (get_or es i d).1 (omega (arith, length-map es entry_of))
@@ -219,27 +222,41 @@ module _ (es : List KeptEntry) (shape : TypeShape) (kept : Kept) (empty : kept.f
           subst P e (subst Q (sym (get_or-append_seam es (shape, kept) [] d)) kept_last)
     ]
 
-    pub sound_added : length (table_of es) < 16384 → kept.layout.size ≤ 1048576 → IsSound (es ++ (shape, kept) ∷ [])
-    sound_added room most = record {
+    pub sound_added : length (table_of es) < 16384 → kept.layout.size ≤ 1048576
+        → AreFirst (table_of es ++ basic_entry shape ∷ []) (firsts_of es ++ kept.first ∷ []) after → IsSound (es ++ (shape, kept) ∷ []) after
+    sound_added room most f = record {
       formed = subst IsWellFormed (sym table_added) (formed_added (table_of es) shape s.formed n a room (subst (λ (k : Layout). k.size ≤ 1048576) l most));
       kept = λ i d b. let P : Table → Type 0 = λ table. IsKeptOf table (record { 0 = i }) (get_or (es ++ (shape, kept) ∷ []) i d).1 in subst P (sym table_added) (kept_each i d b);
+      first =
+          subst (λ (table : Table). AreFirst table (firsts_of (es ++ (shape, kept) ∷ [])) after) (sym table_added)
+          (subst (λ (firsts : List TypeId). AreFirst (table_of es ++ basic_entry shape ∷ []) firsts after)
+          (sym (map-append (λ (p : KeptEntry). p.1.first) es ((shape, kept) ∷ []))) f);
     }
 
 -- the empty table
-pub sound_empty : (es : List KeptEntry) → es ≡ [] → IsSound es
-sound_empty es e = subst IsSound (sym e) nothing
-  where
-    formed_empty : (t : TypeId) → IsFormed [] (entry_at [] t)
-    formed_empty t = record { proper = tt; named = All-nil (IsType []); parts = All-nil (IsComplete []); plain = inr refl }
+each_empty : (t : TypeId) → IsFormed [] (entry_at [] t)
+each_empty t = record { proper = tt; named = All-nil (IsType []); parts = All-nil (IsComplete []); plain = inr refl }
 
-    nothing : IsSound []
+pub formed_empty : IsWellFormed []
+formed_empty = record {
+  small = omega arith;
+  each = each_empty;
+  distinct = λ t u b h. absurd (omega arith);
+  sized = λ t h. absurd (true≢false (sym h));
+  order = (λ t. 0, record { below = λ t. omega arith; complete = λ t h. absurd (true≢false (sym h)); falls = λ t part c. absurd (omega (arith, c.1)) });
+  built = λ t u c. absurd (omega (arith, c.1));
+}
+
+pub sound_empty : (es : List KeptEntry) (known : List KnownShape) → es ≡ [] → known ≡ [] → IsSound es known
+sound_empty es known e f = subst (λ (xs : List KeptEntry). IsSound xs known) (sym e) (subst (IsSound []) (sym f) nothing)
+  where
+    nothing : IsSound [] []
     nothing = record {
-      formed = record {
-        small = omega arith;
-        each = formed_empty;
-        distinct = λ t u b h. absurd (omega arith);
-        sized = λ t h. absurd (true≢false (sym h));
-        order = (λ t. 0, record { below = λ t. omega arith; complete = λ t h. absurd (true≢false (sym h)); falls = λ t part c. absurd (omega (arith, c.1)) });
-      };
+      formed = formed_empty;
       kept = λ i d b. absurd (omega arith);
+      first = record {
+        each = λ t b. absurd (omega arith);
+        shaped = λ shape t c. absurd (omega (arith, c.1));
+        unique = λ shape t u c d. absurd (omega (arith, c.1));
+      };
     }

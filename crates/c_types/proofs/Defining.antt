@@ -14,9 +14,10 @@ use Rattle.c_types.specs.declared.shape.TypeShape.TheVariants.{Void, Integer, Po
 use Rattle.c_types.specs.Table.{Table, Entry, void_entry, entry_at, shape_at, members_at, parts_of_shape, is_aggregate_shape, IsAggregate, IsType, IsComplete, is_complete, is_complete_entry, HasShape}
 use Rattle.c_types.specs.Layouts.{rounded, layout_of_shape, layout_of}
 use Rattle.c_types.specs.Sound.{IsFormed, IsSized, IsWellFormed}
-use Rattle.c_types.specs.Kept.{KeptEntry, IsSound, IsKeptOf, ArePlaces, table_of, entry_of}
+use Rattle.c_types.specs.Kept.{KeptEntry, KnownShape, AreFirst, IsSound, IsKeptOf, ArePlaces, table_of, entry_of, first_at, firsts_of}
 use Rattle.c_types.specs.Calls.{with_members, defined_layout}
 use Rattle.c_types.proofs.Growth.{Changes, not_here}
+use Rattle.c_types.proofs.Firsts.{first_kept, firsts_set}
 use Rattle.c_types.proofs.Upkeep.{other_layout, own_layout, own_offset, kept_other, formed_after}
 
 -- Giving a struct or union its members.
@@ -121,7 +122,7 @@ module _ (old : Table) (t : TypeId) (members : List TypeId) (w : IsWellFormed ol
   pub defined_own : layout_of (with_members old t members) t ≡ defined_layout old t members
   defined_own = own_layout old (with_members old t members) t (record { shape = shape_at old t; members = members }) defines w formed
 
-  same_shapes : (u : TypeId) → shape_at (with_members old t members) u ≡ shape_at old u
+  pub same_shapes : (u : TypeId) → shape_at (with_members old t members) u ≡ shape_at old u
   same_shapes u = elim (eqb_tells u.0 t.0) [
     | inl s ↦
         ap (λ (i : ℕ). shape_at (with_members old t members) (record { 0 = i })) s.1
@@ -130,7 +131,7 @@ module _ (old : Table) (t : TypeId) (members : List TypeId) (w : IsWellFormed ol
     | inr n ↦ ap (λ (d : Entry). d.shape) (defines.other u n.1)
   ]
 
-  same_length : length (with_members old t members) ≡ length old
+  pub same_length : length (with_members old t members) ≡ length old
   same_length = length-set old t.0 (record { shape = shape_at old t; members = members })
 
   distinct_after : (u v : TypeId) → IsType (with_members old t members) u
@@ -149,7 +150,7 @@ module _ (old : Table) (t : TypeId) (members : List TypeId) (w : IsWellFormed ol
   pub formed_defined : (defined_layout old t members).size ≤ 1048576 → IsWellFormed (with_members old t members)
   formed_defined most =
       formed_after old (with_members old t members) t (record { shape = shape_at old t; members = members }) defines w formed
-      (let s = w.small in omega (arith, same_length)) distinct_after (λ h. sized_here most)
+      (let s = w.small in omega (arith, same_length)) distinct_after (λ h. sized_here most) (w.built t)
 
   pub kept_defined : (k : Kept) → k.layout ≡ defined_layout old t members → ArePlaces (layout_of old) (shape_at old t) members k.fields.items
       → IsKeptOf (with_members old t members) t k
@@ -189,7 +190,7 @@ module _ (es : List KeptEntry) (t : TypeId) (members : List TypeId) (k : Kept) (
       table_set es t.0 k
       ∙ ap (λ (ms : List TypeId). set (table_of es) t.0 (record { shape = shape_at (table_of es) t; members = ms })) p.types
 
-  module _ (s : IsSound es) (a : IsAggregate (table_of es) t) (o : members_at (table_of es) t ≡ []) (some : 0 < length members)
+  module _ (known : List KnownShape) (s : IsSound es known) (a : IsAggregate (table_of es) t) (o : members_at (table_of es) t ≡ []) (some : 0 < length members)
       (full : All (IsComplete (table_of es)) members) (l : k.layout ≡ defined_layout (table_of es) t members) where
     kept_each : (i : ℕ) (d : KeptEntry) → i < length (set_value_at es t.0 k)
         → IsKeptOf (with_members (table_of es) t members) (record { 0 = i }) (get_or (set_value_at es t.0 k) i d).1
@@ -210,8 +211,15 @@ module _ (es : List KeptEntry) (t : TypeId) (members : List TypeId) (k : Kept) (
               (sym (ap (λ (x : Entry). x.members) (get_or-map entry_of es i d void_entry h))) (s.kept i d h))
         ])
 
-    pub sound_defined : (defined_layout (table_of es) t members).size ≤ 1048576 → IsSound (set_value_at es t.0 k)
-    sound_defined most = record {
+    first_defined : k.first ≡ first_at (firsts_of es) t → AreFirst (with_members (table_of es) t members) (firsts_of (set_value_at es t.0 k)) known
+    first_defined f =
+        subst (λ (firsts : List TypeId). AreFirst (with_members (table_of es) t members) firsts known) (sym (firsts_set es t.0 k t f))
+        (first_kept (table_of es) (with_members (table_of es) t members) (firsts_of es) known
+        (same_length (table_of es) t members s.formed b a o some full) (same_shapes (table_of es) t members s.formed b a o some full) s.first)
+
+    pub sound_defined : (defined_layout (table_of es) t members).size ≤ 1048576 → k.first ≡ first_at (firsts_of es) t → IsSound (set_value_at es t.0 k) known
+    sound_defined most f = record {
       formed = subst IsWellFormed (sym table_defined) (formed_defined (table_of es) t members s.formed b a o some full most);
       kept = λ i d c. let P : Table → Type 0 = λ table. IsKeptOf table (record { 0 = i }) (get_or (set_value_at es t.0 k) i d).1 in subst P (sym table_defined) (kept_each i d c);
+      first = subst (λ (table : Table). AreFirst table (firsts_of (set_value_at es t.0 k)) known) (sym table_defined) (first_defined f);
     }

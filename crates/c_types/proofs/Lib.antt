@@ -3,7 +3,9 @@ pub mod Shapes
 pub mod Descent
 pub mod Growth
 pub mod Upkeep
+pub mod Sameness
 pub mod Adding
+pub mod Firsts
 pub mod Ends
 pub mod Laying
 pub mod Defining

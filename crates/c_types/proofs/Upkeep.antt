@@ -9,7 +9,7 @@ use Rattle.c_types.specs.declared.kept.FieldPlace.{FieldPlace}
 use Rattle.c_types.specs.declared.kept.Kept.{Kept}
 use Rattle.c_types.specs.declared.shape.TypeShape.{TypeShape}
 use Rattle.c_types.specs.declared.shape.TypeShape.TheVariants.{Struct}
-use Rattle.c_types.specs.Table.{Table, Entry, entry_at, shape_at, members_at, parts_of_shape, IsType, IsComplete, is_complete, HasShape}
+use Rattle.c_types.specs.Table.{Table, Entry, entry_at, shape_at, members_at, parts_of_shape, named_by, IsType, IsComplete, is_complete, HasShape}
 use Rattle.c_types.specs.Layouts.{layout_of_shape, layout_of, offset_of_shape, offset_of, offset_after}
 use Rattle.c_types.specs.Sound.{IsFormed, IsSized, IsWellFormed}
 use Rattle.c_types.specs.Kept.{IsKeptOf}
@@ -74,8 +74,8 @@ module _ (old new : Table) (t : TypeId) (e : Entry) (c : Changes old new t e) (w
   -- the table stays well formed
   pub formed_after : length new ≤ 16384
       → ((u v : TypeId) → IsType new u → HasShape new v (shape_at new u) → u ≡ v)
-      → (IsComplete new t → IsSized new t) → IsWellFormed new
-  formed_after small distinct sized = record {
+      → (IsComplete new t → IsSized new t) → ((u : TypeId) → Contains (named_by e.shape) u → u.0 < t.0) → IsWellFormed new
+  formed_after small distinct sized built = record {
     small = small;
     each = each_formed old new t e c w.each f;
     distinct = distinct;
@@ -84,4 +84,10 @@ module _ (old new : Table) (t : TypeId) (e : Entry) (c : Changes old new t e) (w
       | inr n ↦ sized_other u n.1 (w.sized u (sym (ap is_complete (c.other u n.1)) ∙ k))
     ];
     order = (rank_after old new t e c w.order.0, ranked_after old new t e c w.order.0 w.order.1 w.each);
+    built = λ u v k. elim (eqb_tells u.0 t.0) [
+      | inl s ↦
+          let P : ℕ → Type 0 = λ n. Contains (named_by (shape_at new (record { 0 = n }))) v → v.0 < n in
+          subst P (sym s.1) (λ j. built v (subst (λ (d : Entry). Contains (named_by d.shape) v) c.here j)) k
+      | inr n ↦ w.built u v (subst (λ (d : Entry). Contains (named_by d.shape) v) (c.other u n.1) k)
+    ];
   }

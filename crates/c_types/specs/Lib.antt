@@ -5,6 +5,7 @@ pub mod Kept
 pub mod Calls
 pub mod Cells
 pub mod Equality
+pub mod Sameness
 pub mod Flows
 pub mod Widths
 pub mod Solutions

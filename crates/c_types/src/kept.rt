@@ -17,4 +17,6 @@ pub struct FieldPlace {
 pub(crate) struct Kept {
     pub(crate) layout: Layout,
     pub(crate) fields: Vec<FieldPlace>,
+    /// The first type of the table that is the same type (C99 6.2.7).
+    pub(crate) first: TypeId,
 }

@@ -1,6 +1,7 @@
 //! The table of the types of a unit of C.
 #![tactic(auto)]
 
+mod canonical;
 mod fault;
 mod flow_class;
 mod kept;

@@ -9,9 +9,11 @@ ghost use Rattle.c_types.specs.declared.shape.TypeShape.TheVariants.{Integer, St
 ghost use Rattle.c_types.specs.Table.{IsType, IsComplete, IsAggregate, HasShape, entry_at, shape_at, members_at, is_complete};
 ghost use Rattle.c_types.specs.Layouts.{layout_of, size_of, align_of, offset_of, member_at, members_end, struct_layout, union_layout};
 ghost use Rattle.c_types.specs.Sound.{IsWellFormed, IsSized, IsIntegerSize};
+ghost use Rattle.c_types.specs.Sameness.{is_same_type};
 ghost use Rattle.c_types.specs.Kept.{IsKeptOf, ArePlaces};
 ghost use Rattle.c_types.specs.Calls.{IsNew, IsAddable, IsDefinable, IsTypeFault, basic_entry, basic_table, new_layout, with_members, defined_layout};
 
+use crate::canonical::{canonical, first_of, first_with};
 use crate::fault::TypeFault;
 use crate::kept::{FieldPlace, Kept};
 use crate::layout::{Layout, round_up};
@@ -33,6 +35,8 @@ const MOST_BYTES: u64 = 1_048_576;
 pub struct Types {
     alloc: Global,
     entries: IndexMap<TypeShape, Kept>,
+    /// Beside each canonical shape the first type that has it.
+    known: IndexMap<TypeShape, TypeId>,
 }
 
 impl Model for Types {
@@ -45,7 +49,7 @@ impl Model for Types {
 
     ghost view = { λ s. table_of s.entries.entries };
 
-    ghost invariant = { λ s. IsSound s.entries.entries };
+    ghost invariant = { λ s. IsSound s.entries.entries s.known.entries };
 }
 
 impl Types {
@@ -64,6 +68,7 @@ impl Types {
         let mut types = Types {
             alloc,
             entries: IndexMap::new(alloc),
+            known: IndexMap::new(alloc),
         };
         types.insert(TypeShape::Void, Layout::none())?;
         types.insert_integer(1, true)?;
@@ -142,7 +147,12 @@ impl Types {
             return Err(TypeFault::TooLarge(Limit::Object));
         };
         let fields = self.places(t, &members)?;
-        self.entries[t.0 as usize] = Kept { layout, fields };
+        let first = first_of(&self.entries, t);
+        self.entries[t.0 as usize] = Kept {
+            layout,
+            fields,
+            first,
+        };
         Ok(())
     }
 
@@ -246,13 +256,17 @@ impl Types {
         ensures unchanged { OnErr result (self.new ≡ self.old) }
         ensures others { (t : TypeId) → IsType self.old t → layout_of self.new t ≡ layout_of self.old t }
     {
-        let index = self.entries.len();
+        let t = TypeId(self.entries.len() as u32);
+        let canonical = canonical(self.alloc, &self.entries, &shape)?;
+        self.entries.reserve(1)?;
+        let first = first_with(&mut self.known, canonical, t)?;
         let kept = Kept {
             layout,
             fields: Vec::new(self.alloc),
+            first,
         };
         self.entries.insert(shape, kept)?;
-        Ok(TypeId(index as u32))
+        Ok(t)
     }
 
     /// Puts a new integer type at the end of the table.
@@ -274,6 +288,15 @@ impl Types {
         ensures members { map (λ f. f.ty) result.1.now.fields.items ≡ members_at self.now t }
     {
         self.entries.get_index(t.0 as usize).unwrap()
+    }
+
+    /// Whether two types are the same (C99 6.2.7).
+    pub fn is_same(&self, t: TypeId, u: TypeId) -> bool
+        requires left { IsType self.now t }
+        requires right { IsType self.now u }
+        ensures { result ≡ is_same_type self.now t u }
+    {
+        first_of(&self.entries, t) == first_of(&self.entries, u)
     }
 
     /// The shape of a type.

@@ -8,7 +8,7 @@ use Rattle.c_types.specs.declared.shape.TypeShape.TheVariants.{Void, Integer}
 use Rattle.c_types.specs.Calls.{IsNew, IsAddable, basic_entry, basic_table}
 use Rattle.c_types.specs.Sound.{IsWellFormed, IsIntegerSize}
 use Rattle.c_types.specs.Table.{Table, Entry, IsType, shape_at}
-use Rattle.c_types.proofs.Adding.{sound_empty, formed_added}
+use Rattle.c_types.proofs.Adding.{formed_empty, formed_added}
 use Rattle.c_typing.specs.Judging.{integer_number}
 
 abbrev number : ℕ → TypeId
@@ -45,7 +45,7 @@ integer_addable : (old : Table) (n : ℕ) (s : Bool) → IsIntegerSize n → IsA
 integer_addable old n s h = record { proper = h; named = All-nil (IsType old); parts = tt }
 
 formed_0 : IsWellFormed []
-formed_0 = (sound_empty [] refl).formed
+formed_0 = formed_empty
 
 formed_1 : IsWellFormed (map basic_entry (Void ∷ []))
 formed_1 = formed_added ([]) (Void) formed_0 (fresh ([]) (map basic_entry (Void ∷ Integer 1 true ∷ Integer 1 false ∷ Integer 2 true ∷ Integer 2 false ∷ Integer 4 true ∷ Integer 4 false ∷ Integer 8 true ∷ Integer 8 false ∷ [])) (Void) refl (lit< tt) refl) (record { proper = tt; named = All-nil (IsType []); parts = tt }) (lit< tt) (lit≤ tt)

@@ -10,7 +10,7 @@ use Rattle.c_types.proofs.Defining.{sound_defined, table_defined, others_complet
 use Rattle.c_types.proofs.table.Types.define.Goals as goal
 
 abbrev kept : goal.After-drop-members-2 → Kept
-kept c = record { layout = c.in-Some.layout; fields = c.in_ok-fields.fields }
+kept c = record { layout = c.in-Some.layout; fields = c.in_ok-fields.fields; first = c.first_of-first.result }
 
 move : (c : goal.After-drop-members-2) (P : List Entry → Type 0) → P c.args.self.now → P (table_of c.self.inside.entries.entries)
 move c P = subst P (sym c.self.view_is)
@@ -46,8 +46,8 @@ places c =
 
 pub invariant_of-self : goal.invariant_of-self
 invariant_of-self c =
-    sound_defined c.self.inside.entries.entries c.args.t c.args.members.items (kept c) (typed c) (places c) c.self.invariant (aggregate c)
-    (open_so_far c) c.requires.some (complete c) (layout c) (small c)
+    sound_defined c.self.inside.entries.entries c.args.t c.args.members.items (kept c) (typed c) (places c) c.self.inside.known.entries c.self.invariant
+    (aggregate c) (open_so_far c) c.requires.some (complete c) (layout c) (small c) c.first_of-first.ensures
 
 pub returns-clause-defined : goal.returns-clause-defined
 returns-clause-defined c =

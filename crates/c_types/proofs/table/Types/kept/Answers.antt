@@ -15,7 +15,7 @@ entry c =
 pub returns-clause-kept : goal.returns-clause-kept
 returns-clause-kept c =
     subst (λ (table : List Entry). IsKeptOf table c.args.t c.unwrap.result.1.now) c.self.view_is
-    (kept_here c.self.inside.entries.entries c.args.t (c.unwrap.result.0.now, c.unwrap.result.1.now) (read c) c.self.invariant)
+    (kept_here c.self.inside.entries.entries c.args.t (c.unwrap.result.0.now, c.unwrap.result.1.now) (read c) c.self.inside.known.entries c.self.invariant)
 
 pub returns-clause-shape : goal.returns-clause-shape
 returns-clause-shape c = ap (λ (e : Entry). e.shape) (entry c)

@@ -10,13 +10,13 @@ use Rattle.c_types.specs.Sound.{IsWellFormed}
 use Rattle.c_types.specs.Table.{Table, IsComplete, shape_at, members_at, is_aggregate_shape, is_complete_entry, parts_of_shape, descend}
 use Rattle.c_types.specs.declared.shape.TypeShape.{TypeShape}
 use Rattle.c_types.specs.declared.shape.TypeShape.TheVariants.{Void, Integer, Pointer, Array, Function, Struct, Union}
+use Rattle.c_types.specs.Sameness.{same_shape, same_step, is_same_type}
 use Rattle.c_tree.specs.TypedTree as typed
 use Rattle.c_tree.specs.TypedTree.{TypedPlace}
 use Rattle.c_tree.specs.TypedParts.{place_type}
 use Rattle.c_typing.specs.Rules.{AreOneStruct, number_of_shape}
 use Rattle.c_typing.specs.Scopes.{Name, Level, Scopes, entry_of, or_outer, name_in}
 use Rattle.c_typing.specs.Settled.{IsFollowed, AreNumbered}
-use Rattle.c_typing.specs.Shapes.{same_shape, same_step, is_same_type}
 use Rattle.c_typing.specs.Typing.{IsPlace}
 use Rattle.c_typing.specs.declared.declared.Declared.{Declared}
 use Rattle.c_typing.specs.declared.declared.Declared.TheVariants as declared

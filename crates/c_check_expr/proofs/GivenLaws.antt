@@ -3,6 +3,7 @@ use Rattle.std.proofs.Common.{◌≡◌, ℕ, ℤ, Bool, true, false, Option, So
 use Rattle.cc_base.specs.declared.number.TypeId.{TypeId}
 use Rattle.cc_base.specs.declared.place.Place.{Place}
 use Rattle.c_types.specs.Table.{IsAggregate, IsType, Table, is_aggregate_shape, shape_at}
+use Rattle.c_types.specs.Sameness.{is_same_type}
 use Rattle.c_tree.specs.Erasure.{erased_specifiers}
 use Rattle.c_tree.specs.Places.{nowhere}
 use Rattle.c_tree.specs.Spelling.{declarator_spelling, expr_spelling, specifiers_spelling}
@@ -20,7 +21,6 @@ use Rattle.c_typing.specs.Declaring.{declarator_name}
 use Rattle.c_typing.specs.Judging.{State}
 use Rattle.c_typing.specs.Refusals.{name_place}
 use Rattle.c_typing.specs.Rules.{runtime_named}
-use Rattle.c_typing.specs.Shapes.{is_same_type}
 use Rattle.c_typing.specs.Walks.{judge_declarator, judge_specifiers_of, outermost_of}
 use Rattle.c_typing_given.specs.Given.{IsGivenAs, point_at}
 use Rattle.c_typing_given.specs.Spending.{HasRoom}

@@ -6,13 +6,14 @@ use Rattle.c_types.specs.declared.shape.TypeShape.{TypeShape}
 use Rattle.c_types.specs.declared.shape.TypeShape.TheVariants.{Void, Integer, Pointer, Array, Function, Struct, Union}
 use Rattle.c_types.specs.Table.{Table, Entry, IsType, IsComplete, shape_at}
 use Rattle.c_types.specs.Layouts.{size_of, member_at}
+use Rattle.c_types.specs.Sameness.{is_same_type}
 use Rattle.c_tree.specs.TypedTree.{TypedExpr}
 use Rattle.c_typing.specs.Constants.{is_void_pointer}
 use Rattle.c_typing.specs.Conversions.{bare, is_allocation, is_taken_as, is_pointer_to_complete, takes_over}
 use Rattle.c_typing.specs.Extensions.{IsExtended}
 use Rattle.c_typing.specs.Scopes.{Scopes, is_complete_at}
 use Rattle.c_typing.specs.Settled.{IsBasic, IsFollowed}
-use Rattle.c_typing.specs.Shapes.{is_same_type, is_data, integer_of_shape, integer_at, pointee_of_shape, pointee_at}
+use Rattle.c_typing.specs.Shapes.{is_data, integer_of_shape, integer_at, pointee_of_shape, pointee_at}
 use Rattle.c_typing_laws.proofs.KeptTypes.{PointsIn, points-in, same_exact, data_exact, complete_exact, taken_exact, pointed_exact, void_pointer_exact}
 
 some_same : (t u : TypeId) → Some t ≡ Some u → t ≡ u

@@ -5,11 +5,11 @@ use Rattle.cc_base.specs.declared.number.TypeId.{TypeId}
 use Rattle.cc_base.specs.declared.fault.Fault.TheVariants.{Refused}
 use Rattle.cc_base.specs.declared.fault.Rule.TheVariants as rule
 use Rattle.c_types.specs.Table.{Table, shape_at, is_aggregate_shape}
+use Rattle.c_types.specs.Sameness.{is_same_type}
 use Rattle.c_tree.specs.Tree as tree
 use Rattle.c_tree.specs.TypedTree as typed
 use Rattle.c_tree.specs.TypedTree.{TypedExpr}
 use Rattle.c_tree.specs.TypedParts.{place_type}
-use Rattle.c_typing.specs.Shapes.{is_same_type}
 use Rattle.c_typing.specs.Constants.{constant_value}
 use Rattle.c_typing.specs.Tests as tests
 use Rattle.c_typing.specs.Tests.{Test, Elaborated, AsPlace, AsValue, AsAllocation}

@@ -11,6 +11,7 @@ use Rattle.c_types.specs.declared.shape.TypeShape.{TypeShape}
 use Rattle.c_types.specs.declared.shape.TypeShape.TheVariants.{Void, Integer, Pointer, Array, Function}
 use Rattle.c_types.specs.Table.{Table, shape_at, is_aggregate_shape}
 use Rattle.c_types.specs.Equality.{same_bool}
+use Rattle.c_types.specs.Sameness.{is_same_type}
 use Rattle.c_tree.specs.declared.operator.Assignment.{Assignment}
 use Rattle.c_tree.specs.declared.operator.Assignment.TheVariants as assignment
 use Rattle.c_tree.specs.declared.operator.Binary.{Binary}
@@ -32,7 +33,7 @@ use Rattle.c_tree.specs.declared.operator.AggregateKind.TheVariants as kind
 use Rattle.c_typing.specs.Declarators.{Counted, are_allowed, Outermost, Written, is_pointed, first_word_place, is_result_shape}
 use Rattle.c_tree.specs.declared.leaf.Word.{Word}
 use Rattle.integers.specs.Arithmetic.{IntegerType, converted}
-use Rattle.c_typing.specs.Shapes.{is_same_type, is_data, is_integer_shape, is_pointer_shape, is_scalar_shape, is_void_shape, is_function_shape, integer_at}
+use Rattle.c_typing.specs.Shapes.{is_data, is_integer_shape, is_pointer_shape, is_scalar_shape, is_void_shape, is_function_shape, integer_at}
 use Rattle.c_typing.specs.Integers.{is_order, is_equality, is_logical, assigning, left_type, right_type}
 use Rattle.c_typing.specs.Scopes.{Name, Scopes, name_in, tag_in, here, tag_here, place_among, members_named, is_complete_at, is_no_list}
 use Rattle.c_typing.specs.Constants.{constant_value, is_null_constant, operator_of, cannot_divide}

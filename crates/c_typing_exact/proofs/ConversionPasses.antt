@@ -7,6 +7,7 @@ use Rattle.cc_base.specs.declared.fault.Rule.TheVariants as rule
 use Rattle.c_types.specs.declared.shape.TypeShape.{TypeShape}
 use Rattle.c_types.specs.declared.shape.TypeShape.TheVariants.{Void, Integer, Pointer, Array, Function, Struct, Union}
 use Rattle.c_types.specs.Table.{Table, shape_at}
+use Rattle.c_types.specs.Sameness.{is_same_type}
 use Rattle.c_tree.specs.declared.operator.Assignment.{Assignment}
 use Rattle.c_tree.specs.declared.operator.Assignment.TheVariants as assignment
 use Rattle.c_tree.specs.declared.operator.Binary.{Binary}
@@ -23,7 +24,7 @@ use Rattle.c_typing.specs.Integers.{assigning}
 use Rattle.c_typing.specs.Rules.{IsAssignment, IsStructAssignment, IsUpdate, IsIntegerUpdate, IsPointerUpdate, IsScalarCast, is_compound, is_lvalue, is_move}
 use Rattle.c_typing.specs.Scopes.{Scopes, is_complete_at}
 use Rattle.c_typing.specs.Settled.{IsBasic, IsAlike, flat}
-use Rattle.c_typing.specs.Shapes.{integer_at, is_integer_shape, is_pointer_shape, is_array_shape, is_void_shape, is_function_shape, is_data, is_same_type, shape_of_integer}
+use Rattle.c_typing.specs.Shapes.{integer_at, is_integer_shape, is_pointer_shape, is_array_shape, is_void_shape, is_function_shape, is_data, shape_of_integer}
 use Rattle.c_typing.specs.Tests.{Elaborated, AsPlace, AsValue, AsAllocation, broken_at, decayed, shape_of, has_some, fits, is_null_part, points_to_incomplete, is_array_part, are_one_struct, are_integers, is_moving, is_assignable, assign_tests, cast_tests, void_type}
 use Rattle.c_typing_laws.proofs.SidesAlike.{fits_flat}
 use Rattle.c_typing_unique.proofs.Reading.{plain-bare}

@@ -8,6 +8,7 @@ use Rattle.c_types.specs.declared.shape.TypeShape.{TypeShape}
 use Rattle.c_types.specs.declared.shape.TypeShape.TheVariants.{Void, Integer, Pointer, Array, Function, Struct, Union}
 use Rattle.c_types.specs.Sound.{IsIntegerSize}
 use Rattle.c_types.specs.Table.{Table, shape_at}
+use Rattle.c_types.specs.Sameness.{is_same_type}
 use Rattle.c_tree.specs.declared.operator.Binary.{Binary}
 use Rattle.c_tree.specs.declared.operator.Binary.TheVariants as binary
 use Rattle.c_tree.specs.declared.typed_word.Side.{Side}
@@ -22,7 +23,7 @@ use Rattle.c_typing.specs.Judging.{integer_type}
 use Rattle.c_typing.specs.Rules.{IsArithmetic, IsMoved, IsDifference, IsCompared, IsLogical, AreCompared, AreEquated, Meeting, RightIsNull, LeftIsNull, BothPoint, NeverMeet, meeting, meeting_of, is_move}
 use Rattle.c_typing.specs.Scopes.{Scopes, is_complete_at}
 use Rattle.c_typing.specs.Settled.{IsBasic, IsAlike}
-use Rattle.c_typing.specs.Shapes.{integer_at, integer_of_shape, is_pointer_shape, is_scalar_shape, is_same_type, is_data, shape_of_integer}
+use Rattle.c_typing.specs.Shapes.{integer_at, integer_of_shape, is_pointer_shape, is_scalar_shape, is_data, shape_of_integer}
 use Rattle.c_typing.specs.Tests.{Elaborated, AsValue, Test, broken_at, first_broken, infix_tests, points_to_incomplete, is_moving, are_integers, point_alike, point_to_data, taken_as, divides_as, divides_part, constant_as}
 use Rattle.c_typing_laws.proofs.ConstructLaws.{integer_size}
 use Rattle.c_typing_laws.proofs.InfixAlike.{infix-alike}

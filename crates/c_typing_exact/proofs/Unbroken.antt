@@ -9,8 +9,8 @@ use Rattle.cc_base.specs.declared.fault.Rule.{Rule}
 use Rattle.c_types.specs.declared.shape.TypeShape.{TypeShape}
 use Rattle.c_types.specs.declared.shape.TypeShape.TheVariants.{Void, Integer, Pointer, Array, Function, Struct, Union}
 use Rattle.c_types.specs.Table.{Table, shape_at, members_at, is_complete_entry, descend}
+use Rattle.c_types.specs.Sameness.{is_same_type, same_step, same_shape}
 use Rattle.c_typing.specs.Scopes.{Scopes, is_complete_at, is_complete_shape_at, is_no_list, members_named}
-use Rattle.c_typing.specs.Shapes.{is_same_type, same_step, same_shape}
 use Rattle.c_typing.specs.Tests.{Test, broken_at, first_broken}
 use Rattle.c_typing_unique.proofs.Shapes.{no_true}
 use Rattle.c_typing_exact.specs.Passing.{Passes}

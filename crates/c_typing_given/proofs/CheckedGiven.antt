@@ -30,6 +30,7 @@ use Rattle.cc_base.specs.declared.place.Place.{Place}
 use Rattle.cc_base.specs.declared.number.TypeId.{TypeId}
 use Rattle.cc_base.specs.declared.fault.Rule.TheVariants as rule
 use Rattle.c_types.specs.Table.{IsType, IsAggregate, shape_at, is_aggregate_shape}
+use Rattle.c_types.specs.Sameness.{is_same_type}
 use Rattle.c_tree.specs.declared.typed_word.Conversion.{Conversion}
 use Rattle.c_typing.specs.Assignments.{converted_by, converted_to}
 use Rattle.c_typing.specs.Checking.{taken, becomes, value_tests, converted_part, converted_value, checked_value}
@@ -41,7 +42,6 @@ use Rattle.c_typing_exact.proofs.ConversionPasses.{converted-fits}
 use Rattle.c_typing_exact.proofs.Unbroken.{passes_one}
 use Rattle.c_rules_alike.proofs.PartsAlike.{fits-over}
 use Rattle.c_rules_alike.proofs.MadeAlike.{implicit-over}
-use Rattle.c_typing.specs.Shapes.{is_same_type}
 use Rattle.c_rules_alike.proofs.TypesAlike.{same-over}
 use Rattle.c_typing_given.proofs.PointersGiven.{and-both}
 use Rattle.c_typing_given.proofs.Constructing.{alike-as}

@@ -7,6 +7,7 @@ use Rattle.cc_base.specs.declared.number.TypeId.{TypeId}
 use Rattle.c_types.specs.declared.shape.TypeShape.{TypeShape}
 use Rattle.c_types.specs.declared.shape.TypeShape.TheVariants.{Void, Integer, Pointer, Array, Function, Struct, Union}
 use Rattle.c_types.specs.Table.{Table, IsAggregate, shape_at, is_aggregate_shape, descend}
+use Rattle.c_types.specs.Sameness.{same_shape, same_step, is_same_type}
 use Rattle.c_tree.specs.Tree as tree
 use Rattle.c_tree.specs.TypedTree as typed
 use Rattle.c_tree.specs.TypedTree.{TypedExpr, TypedPlace}
@@ -19,7 +20,7 @@ use Rattle.c_typing.specs.Integers.{common}
 use Rattle.c_typing.specs.Judging.{State, Outcome, Gives, next, ◌>>=◌, pure, by_known, new_pointer, Pointing, void_type, integer_type}
 use Rattle.c_typing.specs.Operands.{Operand, Value, value, side_of}
 use Rattle.c_typing.specs.Rules.{AreOneStruct, meeting, meeting_of, meeting_type, into_choice}
-use Rattle.c_typing.specs.Shapes.{integer_at, integer_of_shape, is_void_shape, same_shape, same_step, is_same_type}
+use Rattle.c_typing.specs.Shapes.{integer_at, integer_of_shape, is_void_shape}
 use Rattle.c_typing.specs.Tests.{Elaborated, AsPlace, AsValue, first_broken, choice_tests}
 use Rattle.c_typing.specs.Walks.{judge}
 use Rattle.c_typing_unique.specs.Points.{Point, IsRead, IsReadPlace}

@@ -6,6 +6,7 @@ ghost use Rattle.std.specs.Prelude.{false, length, None, Some, true, ◌≡◌, 
 ghost use Rattle.cc_base.specs.declared.number.TypeId.{TypeId};
 ghost use Rattle.cc_base.specs.declared.place.Place.{Place};
 ghost use Rattle.c_types.specs.Table.{IsAggregate, IsType, Table, is_aggregate_shape, shape_at};
+ghost use Rattle.c_types.specs.Sameness.{is_same_type};
 ghost use Rattle.c_tree.specs.Tree as tree;
 ghost use Rattle.c_tree.specs.TypedParts.{made_by, made_by_place, place_type};
 ghost use Rattle.c_tree.specs.TypedTree as typed;
@@ -16,7 +17,6 @@ ghost use Rattle.c_typing.specs.Conversions.{IsAssigned, IsConverted, IsPlain, b
 ghost use Rattle.c_typing.specs.Judging.{State};
 ghost use Rattle.c_typing.specs.Rules.{runtime_named};
 ghost use Rattle.c_typing.specs.Settled.{IsBasic};
-ghost use Rattle.c_typing.specs.Shapes.{is_same_type};
 ghost use Rattle.c_typing_unique.specs.Points.{IsRead, IsReadPlace, Point};
 ghost use Rattle.c_unit_typing.specs.Holding.{expr_holds};
 ghost use Rattle.c_typing_given.specs.Given.{IsGiven, IsGivenAs, IsHere, IsNameGiven, point_at};

@@ -11,9 +11,10 @@ use Rattle.c_types.specs.declared.shape.TypeShape.{TypeShape}
 use Rattle.c_types.specs.declared.shape.TypeShape.TheVariants.{Void, Integer, Pointer, Array, Function, Struct, Union}
 use Rattle.c_types.specs.Table.{Table, Entry, IsType, HasShape, shape_at, members_at, named_by, void_entry, is_complete_entry, descend}
 use Rattle.c_types.specs.Sound.{IsWellFormed}
+use Rattle.c_types.specs.Sameness.{same_shape, same_step, is_same_type}
 use Rattle.c_types.proofs.Lists.{contains_head, contains_tail}
 use Rattle.integers.specs.Arithmetic.{IntegerType}
-use Rattle.c_typing.specs.Shapes.{same_shape, same_step, is_same_type, integer_of_shape, integer_at, is_void_shape, IsPointerTo}
+use Rattle.c_typing.specs.Shapes.{integer_of_shape, integer_at, is_void_shape, IsPointerTo}
 use Rattle.c_typing.specs.Scopes.{Scopes, is_complete_shape_at, is_complete_at}
 use Rattle.c_typing.specs.Extensions.{IsExtended}
 

@@ -11,6 +11,7 @@ use Rattle.c_types.specs.declared.shape.TypeShape.TheVariants.{Void, Integer, Po
 use Rattle.c_types.specs.Table.{Table, HasShape, shape_at}
 use Rattle.c_types.specs.Sound.{IsIntegerSize}
 use Rattle.c_types.specs.Equality.{same_bool}
+use Rattle.c_types.specs.Sameness.{is_same_type}
 use Rattle.c_tree.specs.declared.operator.Binary.{Binary}
 use Rattle.c_tree.specs.declared.operator.Binary.TheVariants as binary
 use Rattle.c_tree.specs.declared.typed_word.Conversion.TheVariants as conversion
@@ -26,7 +27,7 @@ use Rattle.c_typing.specs.Operations.{int_type, arithmetic, equated, compared, p
 use Rattle.c_typing.specs.Rules.{AreEquated, Meeting, RightIsNull, LeftIsNull, BothPoint, NeverMeet, meeting_of, meeting, null_of, is_made_of_place}
 use Rattle.c_typing.specs.Scopes.{Scopes, is_complete_at}
 use Rattle.c_typing.specs.Settled.{IsBasic, IsSettled, is_converted}
-use Rattle.c_typing.specs.Shapes.{integer_at, integer_of_shape, is_pointer_shape, is_integer_shape, is_scalar_shape, is_same_type, is_data}
+use Rattle.c_typing.specs.Shapes.{integer_at, integer_of_shape, is_pointer_shape, is_integer_shape, is_scalar_shape, is_data}
 use Rattle.c_typing.specs.Tests.{first_broken, AsValue, infix_tests, accepts, is_moving, is_index_pair, are_integers, point_alike, point_to_data, points_to_incomplete, meet, taken_as, divides_part, divides_as, constant_as, same_kind}
 use Rattle.c_typing.specs.Typing.{IsTyped}
 use Rattle.c_typing_laws.proofs.ExtensionLaws.{no_true, and_left, and_right}

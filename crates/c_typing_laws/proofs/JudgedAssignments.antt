@@ -8,6 +8,7 @@ use Rattle.cc_base.specs.declared.fault.Rule.TheVariants as rule
 use Rattle.c_types.specs.declared.shape.TypeShape.{TypeShape}
 use Rattle.c_types.specs.declared.shape.TypeShape.TheVariants.{Void, Integer, Pointer, Array, Function, Struct, Union}
 use Rattle.c_types.specs.Table.{Table, IsType, IsAggregate, shape_at, is_aggregate_shape}
+use Rattle.c_types.specs.Sameness.{is_same_type}
 use Rattle.c_tree.specs.declared.operator.Assignment.TheVariants as assignment
 use Rattle.c_tree.specs.declared.typed_word.Conversion.{Conversion}
 use Rattle.c_tree.specs.declared.typed_word.Conversion.TheVariants as conversion
@@ -30,7 +31,7 @@ use Rattle.c_typing.specs.Refusals.{IsElaborated}
 use Rattle.c_typing.specs.Rules.{is_lvalue, is_made_of_place}
 use Rattle.c_typing.specs.Scopes.{Scopes}
 use Rattle.c_typing.specs.Settled.{IsValueOf, IsKnown, GoesOn, GoesOnThere, IsJudged}
-use Rattle.c_typing.specs.Shapes.{is_scalar_shape, is_array_shape, is_same_type}
+use Rattle.c_typing.specs.Shapes.{is_scalar_shape, is_array_shape}
 use Rattle.c_typing.specs.Tests.{Elaborated, AsPlace, AsValue, AsAllocation, first_broken, assign_tests, is_assignable, fits, are_one_struct, decayed, has_some, is_array_part}
 use Rattle.c_typing.specs.Typing.{IsTyped, IsPlace}
 use Rattle.c_typing_laws.proofs.ExtensionLaws.{no_true, and_left, and_right, extended_refl}

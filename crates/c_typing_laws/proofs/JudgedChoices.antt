@@ -10,6 +10,7 @@ use Rattle.c_types.specs.declared.shape.TypeShape.{TypeShape}
 use Rattle.c_types.specs.declared.shape.TypeShape.TheVariants.{Void, Integer, Pointer, Array, Function, Struct, Union}
 use Rattle.c_types.specs.Table.{Table, IsAggregate, shape_at, is_aggregate_shape}
 use Rattle.c_types.specs.Sound.{IsIntegerSize}
+use Rattle.c_types.specs.Sameness.{is_same_type}
 use Rattle.c_tree.specs.Erasure.{erased_place}
 use Rattle.c_tree.specs.Places.{expr_place}
 use Rattle.c_tree.specs.Tree as tree
@@ -26,7 +27,7 @@ use Rattle.c_typing.specs.Operands.{Operand, Value, side_of}
 use Rattle.c_typing.specs.Rules.{IsCondition, Meeting, RightIsNull, LeftIsNull, BothPoint, NeverMeet, meeting_of, meeting, meeting_type, into_choice}
 use Rattle.c_typing.specs.Scopes.{Scopes}
 use Rattle.c_typing.specs.Settled.{IsValueOf, IsKnown, IsJudged}
-use Rattle.c_typing.specs.Shapes.{is_scalar_shape, is_void_shape, is_integer_shape, is_pointer_shape, integer_at, integer_of_shape, is_same_type}
+use Rattle.c_typing.specs.Shapes.{is_scalar_shape, is_void_shape, is_integer_shape, is_pointer_shape, integer_at, integer_of_shape}
 use Rattle.c_typing.specs.Tests.{Elaborated, AsPlace, AsValue, AsAllocation, choice_tests, are_integers, are_one_struct, meet, taken_as, decayed, shape_of}
 use Rattle.c_typing.specs.Typing.{IsTyped, IsPlace}
 use Rattle.c_typing_laws.proofs.ExtensionLaws.{no_true, and_left, and_right}

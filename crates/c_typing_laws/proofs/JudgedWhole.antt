@@ -5,6 +5,7 @@ use Rattle.cc_base.specs.declared.number.TypeId.{TypeId}
 use Rattle.cc_base.specs.declared.fault.Fault.TheVariants.{Refused}
 use Rattle.cc_base.specs.declared.fault.Rule.TheVariants as rule
 use Rattle.c_types.specs.Table.{Table, IsType, IsAggregate, shape_at, is_aggregate_shape}
+use Rattle.c_types.specs.Sameness.{is_same_type}
 use Rattle.c_tree.specs.declared.leaf.Identifier.{Identifier}
 use Rattle.c_tree.specs.declared.operator.AggregateKind.{AggregateKind}
 use Rattle.c_tree.specs.Erasure.{erased_place, erased_specifier_list, erased_form}
@@ -24,7 +25,7 @@ use Rattle.c_typing.specs.Operands.{Operand, Value, value, side_of}
 use Rattle.c_typing.specs.Refusals.{is_void_alone}
 use Rattle.c_typing.specs.Scopes.{Scopes, tag_here, entering}
 use Rattle.c_typing.specs.Settled.{IsKnown, GoesOn, IsValueOf}
-use Rattle.c_typing.specs.Shapes.{is_same_type, is_function_shape}
+use Rattle.c_typing.specs.Shapes.{is_function_shape}
 use Rattle.c_typing.specs.Specifying.{specified, tagged_as, tagged_by, tagged_alone}
 use Rattle.c_typing.specs.Tests
 use Rattle.c_typing.specs.Tests.{Elaborated, AsPlace, AsValue, AsAllocation, first_broken, fits, is_tag_of, is_other_tag}

@@ -9,6 +9,7 @@ use Rattle.c_types.specs.declared.layout.Layout.{Layout}
 use Rattle.c_types.specs.declared.shape.TypeShape.{TypeShape}
 use Rattle.c_types.specs.declared.shape.TypeShape.TheVariants.{Void, Integer, Pointer, Array, Function, Struct, Union}
 use Rattle.c_types.specs.Table.{Table, Entry, IsType, IsAggregate, HasShape, shape_at, is_complete, is_aggregate_shape, descend}
+use Rattle.c_types.specs.Sameness.{is_same_type, same_shape, same_step}
 use Rattle.c_tree.specs.declared.leaf.Identifier.{Identifier}
 use Rattle.c_tree.specs.declared.leaf.StringPiece.{StringPiece}
 use Rattle.c_tree.specs.declared.operator.Assignment.{Assignment}
@@ -31,7 +32,7 @@ use Rattle.c_typing.specs.Extensions.{IsExtended}
 use Rattle.c_typing.specs.Rules.{IsCondition, IsInteger, IsPointer, IsEnumerator, IsFunctionName, IsRuntimeName, IsStringType, IsTarget, IsElement, HasMember, IsMemberAt, number_of_shape, AreOneStruct, IsDecay, IsAddress, IsFunctionAt, IsPromoted, IsPrefix, IsSize, is_steppable_shape, IsStep, IsArithmetic, IsMoved, IsDifference, AreOrdered, Meeting, RightIsNull, LeftIsNull, BothPoint, NeverMeet, meeting, AreEquated, AreCompared, IsCompared, IsLogical, IsIntegerChoice, IsVoidChoice, IsChoice, meeting_type, side_conversion, into_choice, IsPointerChoice, IsAssignment, IsStructAssignment, IsIntegerUpdate, IsPointerUpdate, IsUpdate, IsScalarCast, IsCast, listed_arguments, IsArgument, IsCall, IsRuntimeArgument, IsRuntimeResult, IsRuntimeCallOf, IsRuntimeCall, IsAllocation, IsAllocationFor}
 use Rattle.c_typing.specs.Scopes.{Scopes}
 use Rattle.c_typing.specs.Settled.{IsBasic}
-use Rattle.c_typing.specs.Shapes.{IsScalar, IsPointerTo, is_scalar_shape, is_void_shape, integer_at, integer_of_shape, is_same_type, same_shape, same_step, is_data}
+use Rattle.c_typing.specs.Shapes.{IsScalar, IsPointerTo, is_scalar_shape, is_void_shape, integer_at, integer_of_shape, is_data}
 use Rattle.c_typing.specs.Typing.{IsTyped, AreTyped}
 use Rattle.c_typing_laws.proofs.ExtensionLaws.{no_true, is_in, not_void, still_in, test_kept, complete_kept, integer_kept, pointer_in}
 use Rattle.c_typing_laws.proofs.KeptTypes.{same_exact, data_exact}

@@ -8,6 +8,7 @@ use Rattle.cc_base.specs.declared.number.TypeId.{TypeId}
 use Rattle.c_types.specs.declared.shape.TypeShape.{TypeShape}
 use Rattle.c_types.specs.declared.shape.TypeShape.TheVariants.{Void, Integer, Pointer, Array, Function, Struct, Union}
 use Rattle.c_types.specs.Table.{Table, IsType, shape_at, members_at, named_by, descend, is_complete_entry}
+use Rattle.c_types.specs.Sameness.{same_shape, same_step, is_same_type}
 use Rattle.c_types.proofs.Lists.{contains_head, contains_tail}
 use Rattle.c_typing.specs.Conversions.{is_taken_as, points_to_void, is_pointer_to_complete, is_pointer_to_complete_shape}
 use Rattle.c_typing.specs.Constants.{is_void_pointer, is_void_pointer_shape}
@@ -15,7 +16,7 @@ use Rattle.c_typing.specs.Extensions.{IsExtended}
 use Rattle.c_typing.specs.Rules.{meeting_pointee, BothPoint, NeverMeet}
 use Rattle.c_typing.specs.Scopes.{Scopes, is_complete_shape_at, is_complete_at}
 use Rattle.c_typing.specs.Settled.{IsBasic}
-use Rattle.c_typing.specs.Shapes.{same_shape, same_step, is_same_type, is_data, is_function_shape, is_void_shape}
+use Rattle.c_typing.specs.Shapes.{is_data, is_function_shape, is_void_shape}
 use Rattle.c_typing_laws.proofs.ExtensionLaws.{pointer_in}
 
 lists_equal : (f g : TypeId → TypeId → Bool) (ps qs : List TypeId)

@@ -8,6 +8,7 @@ use Rattle.cc_base.specs.declared.fault.Limit.TheVariants.{Types}
 use Rattle.c_types.specs.declared.shape.TypeShape.{TypeShape}
 use Rattle.c_types.specs.declared.shape.TypeShape.TheVariants.{Void, Integer, Pointer, Array, Function, Struct, Union}
 use Rattle.c_types.specs.Table.{Table, shape_at, is_aggregate_shape, descend}
+use Rattle.c_types.specs.Sameness.{same_shape, same_step, is_same_type}
 use Rattle.c_tree.specs.Tree as tree
 use Rattle.c_tree.specs.TypedTree as typed
 use Rattle.c_tree.specs.TypedTree.{TypedExpr, TypedPlace}
@@ -19,7 +20,7 @@ use Rattle.c_typing.specs.Refusals.{IsElaborated}
 use Rattle.c_typing.specs.Rules.{is_made_of_place}
 use Rattle.c_typing.specs.Scopes.{Scopes}
 use Rattle.c_typing.specs.Settled.{IsKnown, flat, IsSideOf}
-use Rattle.c_typing.specs.Shapes.{same_shape, same_step, is_same_type, is_scalar_shape}
+use Rattle.c_typing.specs.Shapes.{is_scalar_shape}
 use Rattle.c_typing.specs.Tests.{Elaborated, AsPlace, AsValue, AsAllocation, decayed, are_one_struct}
 use Rattle.c_typing_laws.proofs.ExtensionLaws.{no_true}
 use Rattle.c_typing_laws.proofs.ConstructLaws.{has_shape}

@@ -6,6 +6,7 @@ use Rattle.cc_base.specs.declared.number.TypeId.{TypeId}
 use Rattle.cc_base.specs.declared.fault.Fault.{Fault}
 use Rattle.cc_base.specs.declared.place.Place.{Place}
 use Rattle.c_types.specs.Table.{Table, IsType, IsAggregate, shape_at}
+use Rattle.c_types.specs.Sameness.{is_same_type}
 use Rattle.c_tree.specs.declared.leaf.Identifier.{Identifier}
 use Rattle.c_tree.specs.declared.typed_word.Home.{Home}
 use Rattle.c_tree.specs.declared.typed_word.Home.TheVariants as home
@@ -29,7 +30,7 @@ use Rattle.c_typing.specs.Tests.{constant_tests}
 use Rattle.c_typing.specs.Rules.{IsDroppable}
 use Rattle.c_typing.specs.Scopes.{Scopes, entering, leaving}
 use Rattle.c_typing.specs.Settled.{GoesOn}
-use Rattle.c_typing.specs.Shapes.{IsScalar, is_same_type, is_function_shape}
+use Rattle.c_typing.specs.Shapes.{IsScalar, is_function_shape}
 use Rattle.c_typing.specs.Typing.{IsTyped, IsTypeName, AreSpecifiers, AreAlone, IsForm, AreParameters}
 
 pub record IsTypeNameJudged (name : tree.TypeName) (t : TypedTypeName) (s r : State) : Type 0 where

@@ -4,11 +4,11 @@
 ghost use Rattle.std.specs.Prelude.{Bool, ◌≡◌};
 ghost use Rattle.cc_base.specs.declared.number.TypeId.{TypeId};
 ghost use Rattle.c_types.specs.Table.{Table, IsType};
+ghost use Rattle.c_types.specs.Sameness.{is_same_type};
 ghost use Rattle.c_tree.specs.TypedTree.{TypedExpr, TypedPlace, TypedArguments, TypedTypeName, TypedSpecifiers, TypedSpecifierList, TypedSpecifier, TypedMembers, TypedMemberDeclarators, TypedEnumerators, TypedForm, TypedCore, TypedParts, TypedParameters, TypedDeclared};
 ghost use Rattle.c_typing.specs.Extensions.{IsExtended};
 ghost use Rattle.c_typing.specs.Scopes.{Scopes};
 ghost use Rattle.c_typing.specs.Settled.{IsBasic};
-ghost use Rattle.c_typing.specs.Shapes.{is_same_type};
 ghost use Rattle.c_typing.specs.Typing.{IsTyped, IsPlace, AreTyped, IsTypeName, AreSpecifiers, AreListed, IsSpecifier, AreMembers, AreMemberDeclarators, AreEnumerators, IsForm, IsCore, AreParts, AreParameters, IsDeclared};
 
 /// A later table keeps which types are the same, and which are not.

@@ -27,6 +27,7 @@ ghost use Rattle.c_types.specs.Layouts.{size_of};
 ghost use Rattle.c_types.specs.Sound.{IsWellFormed};
 ghost use Rattle.c_types.specs.Table.{Table, IsType, IsComplete, shape_at, parts_of_shape};
 ghost use Rattle.c_types.specs.declared.shape.TypeShape.{TypeShape};
+ghost use Rattle.c_types.specs.Sameness.{is_same_type};
 ghost use Rattle.c_tree.specs.TypedParts.{type_of, place_type};
 ghost use Rattle.c_tree.specs.TypedTree.{TypedExpr, TypedPlace, StepBefore, StepAfter, SizeOfPlace};
 ghost use Rattle.c_tree.specs.declared.operator.Binary.{Binary};
@@ -39,7 +40,7 @@ ghost use Rattle.c_typing.specs.Judging.{State, Gives, type_with};
 ghost use Rattle.c_typing.specs.Operations.{pointed, element, is_arithmetic_prefix, operator_on, operation, size_type};
 ghost use Rattle.c_typing.specs.Scopes.{Scopes, is_complete_at};
 ghost use Rattle.c_typing.specs.Settled.{IsBasic, IsFollowed, IsSettled, IsPartTyped};
-ghost use Rattle.c_typing.specs.Shapes.{pointee_at, is_same_type};
+ghost use Rattle.c_typing.specs.Shapes.{pointee_at};
 ghost use Rattle.c_typing.specs.Tests.{first_broken, target_tests, index_tests, prefix_tests, infix_tests, step_tests, size_tests, fits, AsPlace, AsValue};
 ghost use Rattle.c_typing.specs.Typing.{IsTyped, IsPlace};
 

@@ -159,7 +159,7 @@ module _ (T : Table) (basic : IsBasic T) (exprs : AreExpressionsGiven T) (scopes
         }
 
     -- a struct is copied, and its pointers are counted
-    pub copied-run : (p : TypedPlace) → is_aggregate_shape (shape_at T (place_type p)) ≡ true → Rattle.c_typing.specs.Shapes.IsSameType T t (place_type p) → initialiser_holds (tree.Value (erased_place p)) ≤ 256
+    pub copied-run : (p : TypedPlace) → is_aggregate_shape (shape_at T (place_type p)) ≡ true → Rattle.c_types.specs.Sameness.IsSameType T t (place_type p) → initialiser_holds (tree.Value (erased_place p)) ≤ 256
         → IsRun T (IsWhole t) Nothing (IsInitialising constant (typed.Copied p at) at t) (made_by_place p ++ Copy (place_type p) ∷ []) (used_by_place T p) (value_for constant at t (erased_place p))
         (typed.Copied p at)
     unfolding value_for initialised

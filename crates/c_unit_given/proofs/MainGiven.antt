@@ -6,13 +6,13 @@ use Rattle.cc_base.specs.declared.fault.Rule.TheVariants as rule
 use Rattle.c_types.specs.declared.shape.TypeShape.{TypeShape}
 use Rattle.c_types.specs.declared.shape.TypeShape.TheVariants.{Void, Integer, Pointer, Array, Function, Struct, Union}
 use Rattle.c_types.specs.Table.{Table, shape_at, descend}
+use Rattle.c_types.specs.Sameness.{is_same_type, same_shape, same_step}
 use Rattle.c_tree.specs.Tree as tree
 use Rattle.c_tree.specs.TypedTree.{TypedTranslationUnit}
 use Rattle.c_tree.specs.TypedParts.{functions_of, declared_type}
 use Rattle.c_typing.specs.declared.declared.Declared.TheVariants as declared
 use Rattle.c_typing.specs.Extensions.{IsExtended}
 use Rattle.c_typing.specs.Scopes.{Name, entry_of, place_among}
-use Rattle.c_typing.specs.Shapes.{is_same_type, same_shape, same_step}
 use Rattle.c_typing.specs.Tests.{first_broken, has_some}
 use Rattle.c_typing_exact.proofs.Unbroken.{passes_one}
 use Rattle.c_typing_laws.proofs.ExtensionLaws.{and_left, and_right}

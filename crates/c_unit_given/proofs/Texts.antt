@@ -6,6 +6,7 @@ use Rattle.c_types.specs.declared.shape.TypeShape.{TypeShape}
 use Rattle.c_types.specs.declared.shape.TypeShape.TheVariants.{Void, Integer, Pointer, Array, Function, Struct, Union}
 use Rattle.c_types.specs.Layouts.{size_of}
 use Rattle.c_types.specs.Table.{Table, descend, is_aggregate_shape, shape_at}
+use Rattle.c_types.specs.Sameness.{IsSameType, is_same_type, same_shape, same_step}
 use Rattle.c_tree.specs.declared.leaf.StringPiece.{StringPiece}
 use Rattle.c_tree.specs.declared.typed_word.Conversion.{Conversion}
 use Rattle.c_tree.specs.Erasure.{erased, erased_items}
@@ -15,7 +16,7 @@ use Rattle.c_tree.specs.TypedTree.{TypedExpr, TypedInitialiser, TypedItems}
 use Rattle.c_tree.specs.TypedParts.{place_type, made_by_items, item_place}
 use Rattle.c_typing.specs.Conversions.{bare, IsAssigned, IsAssignedBy, takes_over, is_pointer_to_complete, is_allocation, implicit, implicit_between, converting_by}
 use Rattle.c_typing.specs.Scopes.{Scopes}
-use Rattle.c_typing.specs.Shapes.{IsSameType, is_same_type, same_shape, same_step, is_integer_shape, is_pointer_shape}
+use Rattle.c_typing.specs.Shapes.{is_integer_shape, is_pointer_shape}
 use Rattle.c_typing_unique.proofs.Numbering.{Point, Numbers}
 use Rattle.c_typing_unique.proofs.Reading.{IsRead}
 use Rattle.c_typing_unique.proofs.Shapes.{IsDistinct, no_true, two-sorts, some-same}

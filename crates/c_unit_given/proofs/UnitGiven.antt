@@ -5,6 +5,7 @@ use Rattle.cc_base.specs.declared.place.Place.{Place}
 use Rattle.cc_base.specs.declared.number.TypeId.{TypeId}
 use Rattle.c_types.specs.Table.{Table, IsType, shape_at, IsAggregate}
 use Rattle.c_types.specs.Layouts.{size_of}
+use Rattle.c_types.specs.Sameness.{IsSameType}
 use Rattle.c_tree.specs.declared.typed_word.Home.TheVariants as home
 use Rattle.c_tree.specs.Erasure.{erased, erased_place, erased_specifiers, erased_form, erased_initialiser}
 use Rattle.c_tree.specs.TypedTree as typed
@@ -23,7 +24,7 @@ use Rattle.c_typing.specs.Judging.{State}
 use Rattle.c_typing.specs.Rules.{runtime_named}
 use Rattle.c_typing.specs.Scopes.{Level, Scopes, here as named_here, without_innermost}
 use Rattle.c_typing.specs.Settled.{IsBasic}
-use Rattle.c_typing.specs.Shapes.{IsScalar, IsSameType, is_function_shape}
+use Rattle.c_typing.specs.Shapes.{IsScalar, is_function_shape}
 use Rattle.c_typing.specs.Typing.{IsTyped, IsPlace, AreSpecifiers, AreAlone, IsForm}
 use Rattle.c_typing.specs.Walks.{judge_specifiers_of, judge_declarator}
 use Rattle.c_typing_laws.specs.Judged.{IsHomeOf}

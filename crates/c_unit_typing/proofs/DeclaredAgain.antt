@@ -9,6 +9,7 @@ use Rattle.c_types.specs.declared.shape.TypeShape.{TypeShape}
 use Rattle.c_types.specs.declared.shape.TypeShape.TheVariants.{Void, Integer, Pointer, Array, Function, Struct, Union}
 use Rattle.c_types.specs.Equality.{same_bool}
 use Rattle.c_types.specs.Table.{Table, IsType, shape_at, named_by}
+use Rattle.c_types.specs.Sameness.{is_same_type}
 use Rattle.c_tree.specs.declared.typed_word.Runtime.{Runtime}
 use Rattle.c_tree.specs.declared.typed_word.Runtime.TheVariants.{Malloc, Calloc, Free, Getchar, Putchar, Exit}
 use Rattle.runtime_calls.specs.declared.function.RuntimeType.{RuntimeType}
@@ -19,7 +20,7 @@ use Rattle.c_typing.specs.declared.declared.Declared.TheVariants as declared
 use Rattle.c_typing.specs.Constants.{is_void_pointer_shape}
 use Rattle.c_typing.specs.Extensions.{IsExtended}
 use Rattle.c_typing.specs.Settled.{IsBasic, IsThere}
-use Rattle.c_typing.specs.Shapes.{is_same_type, is_void_shape}
+use Rattle.c_typing.specs.Shapes.{is_void_shape}
 use Rattle.c_typing_laws.proofs.ConstructLaws.{not_false}
 use Rattle.c_typing_laws.proofs.ExtensionLaws.{no_true, and_left, and_right, pointer_in}
 use Rattle.c_typing_laws.proofs.KeptRules.{has-kept}

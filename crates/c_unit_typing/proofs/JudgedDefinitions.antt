@@ -8,6 +8,7 @@ use Rattle.cc_base.specs.declared.fault.Limit.TheVariants.{Types, Functions}
 use Rattle.cc_base.specs.declared.fault.Rule.TheVariants as rule
 use Rattle.c_types.specs.declared.shape.TypeShape.TheVariants.{Function}
 use Rattle.c_types.specs.Table.{Table, IsType, shape_at}
+use Rattle.c_types.specs.Sameness.{IsSameType, is_same_type}
 use Rattle.c_tree.specs.declared.leaf.Identifier.{Identifier}
 use Rattle.c_tree.specs.declared.typed_word.Home.{Home}
 use Rattle.c_tree.specs.declared.typed_word.Home.TheVariants as home
@@ -26,7 +27,7 @@ use Rattle.c_typing.specs.Declaring.{declarator_name, entered, left, unless_func
 use Rattle.c_typing.specs.Extensions.{IsExtended}
 use Rattle.c_typing.specs.Judging.{State}
 use Rattle.c_typing.specs.Scopes.{Name, Scopes, entry_of, entering, place_among}
-use Rattle.c_typing.specs.Shapes.{IsSameType, is_same_type, is_function_shape}
+use Rattle.c_typing.specs.Shapes.{is_function_shape}
 use Rattle.c_typing.specs.Tests.{first_broken, has_some}
 use Rattle.c_typing.specs.Typing.{AreSpecifiers}
 use Rattle.c_typing.specs.Walks.{judge_declarator, judge_specifiers_of}

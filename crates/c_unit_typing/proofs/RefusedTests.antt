@@ -6,6 +6,7 @@ use Rattle.cc_base.specs.declared.fault.Fault.TheVariants.{Refused}
 use Rattle.cc_base.specs.declared.fault.Rule.{Rule}
 use Rattle.cc_base.specs.declared.fault.Rule.TheVariants as rule
 use Rattle.c_types.specs.Table.{Table, shape_at, is_aggregate_shape}
+use Rattle.c_types.specs.Sameness.{is_same_type}
 use Rattle.c_tree.specs.Tree as tree
 use Rattle.c_tree.specs.TypedTree.{TypedExpr, TypedStatement}
 use Rattle.c_tree.specs.TypedParts.{place_type}
@@ -15,7 +16,7 @@ use Rattle.c_typing.specs.Judging.{State}
 use Rattle.c_typing.specs.Operands.{Value, value}
 use Rattle.c_typing.specs.Refusals.{Fails, Refuses}
 use Rattle.c_typing.specs.Settled.{IsKnown}
-use Rattle.c_typing.specs.Shapes.{is_same_type, is_void_shape}
+use Rattle.c_typing.specs.Shapes.{is_void_shape}
 use Rattle.c_typing.specs.Tests.{Elaborated, AsPlace, AsValue, AsAllocation, first_broken, broken_at, fits}
 use Rattle.c_typing.specs.Walks.{judge, judge_value}
 use Rattle.c_typing_laws.proofs.JudgedTrees.{expr-judged}

@@ -9,6 +9,7 @@ use Rattle.cc_base.specs.declared.fault.Fault.TheVariants.{Refused}
 use Rattle.cc_base.specs.declared.fault.Rule.TheVariants as rule
 use Rattle.c_types.specs.Table.{Table}
 use Rattle.c_types.specs.Calls.{basic_table}
+use Rattle.c_types.specs.Sameness.{is_same_type}
 use Rattle.c_lexer.specs.declared.word.Keyword.TheVariants as keyword
 use Rattle.c_tree.specs.declared.leaf.Identifier.{Identifier}
 use Rattle.c_tree.specs.declared.leaf.Word.{Word}
@@ -19,7 +20,6 @@ use Rattle.c_tree.specs.TypedTree as typed
 use Rattle.c_tree.specs.TypedTree.{TypedSpecifiers, TypedForm, TypedTranslationUnit}
 use Rattle.runtime_calls.specs.Prototypes.{IsNoName}
 use Rattle.c_typing.specs.declared.declared.Declared.TheVariants as declared
-use Rattle.c_typing.specs.Shapes.{is_same_type}
 use Rattle.c_typing.specs.Scopes.{Level, Scopes}
 use Rattle.c_typing.specs.Typing.{AreSpecifiers}
 use Rattle.c_unit_typing.specs.Units.{Known, IsUnitTyped}

@@ -13,6 +13,7 @@ use Rattle.c_types.specs.declared.shape.TypeShape.{TypeShape}
 use Rattle.c_types.specs.declared.shape.TypeShape.TheVariants.{Void, Integer, Pointer, Array, Function, Struct, Union}
 use Rattle.c_types.specs.Equality.{same_bool}
 use Rattle.c_types.specs.Table.{Table, IsType, shape_at, named_by, descend}
+use Rattle.c_types.specs.Sameness.{is_same_type, same_shape, same_step}
 use Rattle.c_types.proofs.Lists.{contains_head, contains_tail}
 use Rattle.c_tree.specs.Erasure.{erased_unit}
 use Rattle.c_tree.specs.Tree as tree
@@ -21,7 +22,6 @@ use Rattle.c_tree.specs.TypedParts.{DefinedFunction, functions_of, declared_type
 use Rattle.c_typing.specs.declared.declared.Declared.{Declared}
 use Rattle.c_typing.specs.declared.declared.Declared.TheVariants as declared
 use Rattle.c_typing.specs.Scopes.{Name, entry_of, place_among, empty_level}
-use Rattle.c_typing.specs.Shapes.{is_same_type, same_shape, same_step}
 use Rattle.c_typing.specs.Tests.{first_broken, has_some}
 use Rattle.c_typing_laws.proofs.ConstructLaws.{one_unbroken, not_false}
 use Rattle.c_typing_laws.proofs.ExtensionLaws.{no_true, and_left, and_right, extended_refl}

@@ -13,6 +13,7 @@ use Rattle.c_types.specs.declared.shape.TypeShape.{TypeShape}
 use Rattle.c_types.specs.declared.shape.TypeShape.TheVariants.{Integer, Function}
 use Rattle.c_types.specs.Equality.{same_bool}
 use Rattle.c_types.specs.Table.{Table, HasShape, shape_at, is_aggregate_shape}
+use Rattle.c_types.specs.Sameness.{is_same_type}
 use Rattle.c_tree.specs.declared.leaf.Identifier.{Identifier}
 use Rattle.c_tree.specs.declared.leaf.StringPiece.{StringPiece}
 use Rattle.c_tree.specs.declared.typed_word.Runtime.{Runtime}
@@ -28,7 +29,7 @@ use Rattle.runtime_calls.specs.declared.function.RuntimeType.TheVariants as prot
 use Rattle.runtime_calls.specs.Prototypes.{prototype_of, runtime_of}
 use Rattle.c_typing.specs.declared.declared.Declared.{Declared}
 use Rattle.c_typing.specs.declared.declared.Declared.TheVariants as declared
-use Rattle.c_typing.specs.Shapes.{is_same_type, integer_at, is_integer_shape, is_scalar_shape, is_void_shape, is_function_shape}
+use Rattle.c_typing.specs.Shapes.{integer_at, is_integer_shape, is_scalar_shape, is_void_shape, is_function_shape}
 use Rattle.c_typing.specs.Scopes.{Name, Scopes, here, entry_of, entering, is_complete_at}
 use Rattle.c_typing.specs.Constants.{constant_value, with_value, is_void_pointer}
 use Rattle.c_typing.specs.Conversions.{IsPlain}

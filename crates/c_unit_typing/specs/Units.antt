@@ -6,6 +6,7 @@ use Rattle.cc_base.specs.declared.number.NodeId.{NodeId}
 use Rattle.cc_base.specs.declared.number.TypeId.{TypeId}
 use Rattle.c_types.specs.declared.shape.TypeShape.TheVariants.{Function}
 use Rattle.c_types.specs.Table.{Table, shape_at, HasShape}
+use Rattle.c_types.specs.Sameness.{IsSameType}
 use Rattle.c_lexer.specs.declared.word.Keyword.{Keyword}
 use Rattle.c_lexer.specs.declared.word.Keyword.TheVariants as keyword
 use Rattle.c_tree.specs.declared.leaf.Identifier.{Identifier}
@@ -19,7 +20,7 @@ use Rattle.c_tree.specs.declared.typed_word.Runtime.{Runtime}
 use Rattle.runtime_calls.specs.Prototypes.{IsNamed, IsNoName, HasPrototype}
 use Rattle.c_typing.specs.declared.declared.Declared.{Declared}
 use Rattle.c_typing.specs.declared.declared.Declared.TheVariants as declared
-use Rattle.c_typing.specs.Shapes.{IsSameType, integer_at, is_function_shape, is_void_shape}
+use Rattle.c_typing.specs.Shapes.{integer_at, is_function_shape, is_void_shape}
 use Rattle.c_typing.specs.Scopes.{Name, Scopes, here, declaring, entering, leaving, entry_of, is_complete_at}
 use Rattle.c_typing.specs.Constants.{constant_value}
 use Rattle.c_typing.specs.Conversions.{IsPlain, IsConverted}

@@ -1,6 +1,6 @@
 //! Texts at the limits of a unit and past them.
 use super::{checked, is_fault};
-use cc_base::{Fault, Limit, Place};
+use cc_base::{Fault, Limit, Place, Rule};
 use std::alloc::{AllocError, Global};
 use std::test::Fail;
 
@@ -167,5 +167,61 @@ fn a_unit_has_16384_types(rt: HostRuntime) -> Result<(), Fail> {
     let text = with_pointers(rt.alloc(), 16_374)?;
     let last = 30 + 6 * 16_374;
     assert!(rt; is_fault(checked(rt.alloc(), &text), too_large(Limit::Types, last)));
+    Ok(())
+}
+
+/// So many typedefs of pointers to functions, in which each names the one before it three times. The first points to a function that takes this
+/// type.
+fn push_chain(
+    text: &mut Vec<u8>,
+    letter: u8,
+    first: &[u8],
+    links: usize,
+) -> Result<(), AllocError> {
+    text.extend_from_slice(b"typedef int(*")?;
+    text.push(letter)?;
+    push_name(text, 0)?;
+    text.extend_from_slice(b")(")?;
+    text.extend_from_slice(first)?;
+    text.extend_from_slice(b");")?;
+    for link in 0..links {
+        push_link(text, letter, link)?;
+    }
+    Ok(())
+}
+
+fn push_link(text: &mut Vec<u8>, letter: u8, link: usize) -> Result<(), AllocError> {
+    let parts: [(&[u8], usize); 4] = [
+        (b"typedef ", link),
+        (b"(*", link + 1),
+        (b")(", link),
+        (b",", link),
+    ];
+    for (before, number) in parts {
+        text.extend_from_slice(before)?;
+        text.push(letter)?;
+        push_name(text, number)?;
+    }
+    text.extend_from_slice(b");")?;
+    Ok(())
+}
+
+/// Two chains of 60 links on one line, and on the next the assignment of the end of one to the end of the other, at column 33.
+fn with_chains(alloc: Global, first: &[u8], other: &[u8]) -> Result<Vec<u8>, AllocError> {
+    let mut text = Vec::new(alloc);
+    push_chain(&mut text, b'a', first, 60)?;
+    push_chain(&mut text, b'b', other, 60)?;
+    text.extend_from_slice(b"\nint main(void){aAACI a;bAACI b;a=b;return 0;}")?;
+    Ok(text)
+}
+
+#[test]
+fn types_of_60_links_are_compared_quickly(rt: HostRuntime) -> Result<(), Fail> {
+    let text = with_chains(rt.alloc(), b"int", b"int")?;
+    assert!(rt; checked(rt.alloc(), &text).is_ok());
+    let text = with_chains(rt.alloc(), b"int", b"long")?;
+    let place = Place { line: 2, col: 33 };
+    let rule = Rule::Mismatch;
+    assert!(rt; is_fault(checked(rt.alloc(), &text), Fault::Refused { place, rule }));
     Ok(())
 }

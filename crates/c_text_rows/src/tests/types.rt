@@ -3,7 +3,7 @@ ghost use Rattle.std.specs.List.{All};
 ghost use Rattle.c_types.specs.Table.{IsType, IsComplete, IsAggregate, members_at};
 ghost use Rattle.c_types.specs.Calls.{IsDefinable};
 
-use c_types::{TypeFault, TypeShape, Types};
+use c_types::{TypeFault, TypeList, TypeShape, Types};
 use cc_base::{Limit, NodeId, TypeId};
 use std::alloc::Global;
 use std::process::Abort;
@@ -214,5 +214,46 @@ fn a_table_has_16384_types_at_most(rt: HostRuntime) -> Result<(), TypeFault> {
     let refused = types.add(TypeShape::Pointer(NodeId(16_375), INT));
     assert_eq!(rt; refused, Err(TypeFault::TooLarge(Limit::Types)));
     assert_eq!(rt; types.count(), 16_384);
+    Ok(())
+}
+
+/// A pointer with a node, to a function from this type to `int`.
+fn function_pointer(
+    rt: &impl Abort,
+    alloc: Global,
+    types: &mut Types,
+    node: u32,
+    from: TypeId,
+) -> Result<TypeId, TypeFault> {
+    assert!(rt; from.0 < types.count() && INT.0 < types.count());
+    let parameters = TypeList::of(Vec::from_slice(alloc, &[from])?);
+    let function = types.add(TypeShape::Function(parameters, INT))?;
+    assert!(rt; function.0 < types.count());
+    types.add(TypeShape::Pointer(NodeId(node), function))
+}
+
+/// Compares whether two types are the same with the answer.
+fn tell(rt: &impl Abort, types: &Types, t: TypeId, u: TypeId, same: bool) {
+    assert!(rt; t.0 < types.count() && u.0 < types.count());
+    assert_eq!(rt; types.is_same(t, u), same, "types {} and {}", t.0, u.0);
+}
+
+/// By C99 6.2.7, in which a pointer has no node.
+#[test]
+fn nodes_do_not_tell_types_apart(rt: HostRuntime) -> Result<(), TypeFault> {
+    let rt = &rt;
+    let alloc = rt.alloc();
+    let mut types = Types::new(alloc)?;
+    let t = &mut types;
+    let first = function_pointer(rt, alloc, t, 0, INT)?;
+    let second = function_pointer(rt, alloc, t, 1, INT)?;
+    let of_first = function_pointer(rt, alloc, t, 2, first)?;
+    let of_second = function_pointer(rt, alloc, t, 3, second)?;
+    let of_long = function_pointer(rt, alloc, t, 2, LONG)?;
+    tell(rt, t, first, second, true);
+    tell(rt, t, of_first, of_second, true);
+    tell(rt, t, first, of_first, false);
+    tell(rt, t, first, of_long, false);
+    tell(rt, t, INT, LONG, false);
     Ok(())
 }

@@ -1,34 +1,18 @@
 -- The tokens that a call is given leave room for what it makes.
-use Rattle.std.proofs.Common.{◌≡◌, ◌≤◌, ◌+◌, ℕ, List, [], ◌∷◌, length, subst, arith}
+use Rattle.std.proofs.Common.{◌≡◌, ◌≤◌, ◌+◌, ℕ, List, length, subst, arith}
 use Rattle.c_types.specs.Table.{Table}
-use Rattle.c_tree.specs.declared.typed_word.Home.TheVariants as home
 use Rattle.c_tree.specs.Erasure.{erased, erased_place, erased_specifiers, erased_declarator}
 use Rattle.c_tree.specs.Spelling.{expr_spelling, specifiers_spelling, declarator_spelling}
 use Rattle.c_tree.specs.Symbols.{Symbol}
 use Rattle.c_tree.specs.Tree as tree
 use Rattle.c_tree.specs.TypedParts.{Made, made_by, made_by_place, made_by_specifiers, made_by_declarator}
-use Rattle.c_tree.specs.TypedParts as made
 use Rattle.c_tree.specs.TypedTree.{TypedExpr, TypedPlace, TypedSpecifiers, TypedDeclarator}
 use Rattle.c_tree_sizes.proofs.PaidParts.{expression-two, place-two, specifiers-two, declarator-two}
 use Rattle.c_type_order.specs.TypesUsed.{Use}
 use Rattle.c_typing.specs.Judging.{State}
-use Rattle.c_typing_given.specs.Spending.{HasRoom, node_cost, total}
+use Rattle.c_typing_given.specs.Spending.{HasRoom}
+use Rattle.c_typing_given.proofs.NodesMade.{nodes-few}
 use Rattle.c_check_expr.specs.Accepted.{CanBeGiven}
-
-one-node : (m : Made) → node_cost m ≤ 1
-one-node (made.Written place n) = omega arith
-one-node (made.Name name home.None t) = omega arith
-one-node (made.Name name (home.Static n) t) = omega arith
-one-node (made.Name name (home.Local n) t) = omega arith
-one-node (made.Name name (home.Parameter n) t) = omega arith
-one-node (made.Name name (home.Known n) t) = omega arith
-one-node (made.Literal pieces home t) = omega arith
-one-node (made.Address n) = omega arith
-one-node (made.Copy t) = omega arith
-
-nodes-few : (all : List Made) → total node_cost all ≤ length all
-nodes-few [] = omega arith
-nodes-few (m ∷ all) = let a = one-node m in let b = nodes-few all in omega (arith, a, b)
 
 module _ {T : Table} {tokens : List Symbol} {all : List Made} {uses : List Use} {held : ℕ} {s : State} {count : ℕ} where
   room-of : CanBeGiven T tokens all uses held s count → length all ≤ length tokens + length tokens → HasRoom T all s

@@ -2,6 +2,7 @@ pub mod LevelsKept
 pub mod TypeGiven
 pub mod PointersGiven
 pub mod Spent
+pub mod NodesMade
 pub mod Steps
 pub mod Settling
 pub mod ValueSteps

@@ -1,5 +1,5 @@
 -- What a unit that is within its limits costs: there is room for it where its text begins.
-use Rattle.std.proofs.Common.{◌≡◌, ◌≤◌, ◌+◌, ℕ, List, [], ◌∷◌, length, refl, ap, sym, subst, arith}
+use Rattle.std.proofs.Common.{◌≡◌, ◌≤◌, ◌+◌, ℕ, List, [], ◌∷◌, refl, ap, sym, subst, arith}
 use Rattle.std.specs.List.{All}
 use Rattle.std.proofs.lemmas.List.Elements.{All-head, All-tail, All-get_or}
 use Rattle.cc_base.specs.declared.number.TypeId.{TypeId}
@@ -13,7 +13,8 @@ use Rattle.c_tree.specs.TypedParts.{Made, Written, Name, Literal, Address, Copy,
 use Rattle.c_types.specs.Sound.{IsWellFormed}
 use Rattle.c_typing.specs.Scopes as scopes
 use Rattle.c_typing_given.specs.Limits.{IsLimited}
-use Rattle.c_typing_given.specs.Spending.{node_cost, cell_cost, total}
+use Rattle.c_typing_given.specs.Spending.{cell_cost, total}
+use Rattle.c_typing_given.proofs.NodesMade.{nodes-few}
 use Rattle.c_cells_kept.specs.Counted.{copied_by, copied}
 use Rattle.c_unit_typing.specs.Limits.{IsWithinLimits, parameters_of_shape}
 use Rattle.c_unit_typing.specs.Units.{Known, IsUnitTyped}
@@ -25,26 +26,6 @@ use Rattle.c_unit_limits.proofs.StaticsMade.{IsLiteralSized}
 use Rattle.c_unit_given.proofs.Countable.{IsCountable}
 use Rattle.c_unit_given.proofs.UnitGiven.{object_cost, HasUnitRoom}
 use Rattle.c_unit_given.proofs.BeforeText.{before_text}
-
--- each thing makes one node at most
-
-name_node : (name : Identifier) (h : Home) (t : TypeId) → node_cost (Name name h t) ≤ 1
-name_node name home.None t = omega arith
-name_node name (home.Static n) t = omega arith
-name_node name (home.Local n) t = omega arith
-name_node name (home.Parameter n) t = omega arith
-name_node name (home.Known n) t = omega arith
-
-node_least : (m : Made) → node_cost m ≤ 1
-node_least (Written at n) = omega arith
-node_least (Name name h t) = name_node name h t
-node_least (Literal pieces n t) = omega arith
-node_least (Address n) = omega arith
-node_least (Copy t) = omega arith
-
-nodes_least : (made : List Made) → total node_cost made ≤ length made
-nodes_least [] = omega arith
-nodes_least (m ∷ made) = let one = node_least m in let rest = nodes_least made in omega (arith, one, rest)
 
 module _ (T : Table) where
   -- a literal of the size of its type is counted as the limit counts it
@@ -87,7 +68,7 @@ module _ (T : Table) where
       let made = made_by_unit whole in
       record {
         things = omega (arith, countable);
-        nodes = let least = nodes_least made in omega (arith, countable, least);
+        nodes = let few = nodes-few made in omega (arith, countable, few);
         globals =
             let few = limits.globals in
             let bytes = global-bytes T whole in

@@ -9,7 +9,7 @@ use Rattle.c_types.specs.Table.{Table, Entry, IsComplete, IsRanked, shape_at, me
 use Rattle.c_types.specs.declared.layout.Layout.{Layout}
 use Rattle.c_types.specs.declared.shape.TypeShape.{TypeShape}
 use Rattle.c_types.specs.declared.shape.TypeShape.TheVariants.{Void, Integer, Pointer, Array, Function, Struct, Union}
-use Rattle.c_types.proofs.Descent.{rank_bound}
+use Rattle.c_types.proofs.Descent.{descend_is, rank_bound}
 use Rattle.c_types.proofs.Lists.{contains_head, contains_tail}
 use Rattle.c_typing.specs.Cells.{larger, largest_member, of_some, pointers_of_shape, pointers_step, pointers_in}
 use Rattle.c_typing.specs.Extensions.{IsExtended}
@@ -63,6 +63,14 @@ module _ (size length_of f g : TypeId → ℕ) where
   pointers_same (Function ps r) ms same = refl
   pointers_same (Struct n) ms same = sum_same f g ms 0 (λ m c. (same m c).1)
   pointers_same (Union n) ms same = union_same None ms tt same
+
+-- how many pointers an object holds is what its shape makes of the counts of what it holds
+pub pointers-are : (T : Table) → IsWellFormed T → (t : TypeId) → pointers_in T t ≡ pointers_step T (pointers_in T) t
+unfolding pointers_in
+pointers-are T w t =
+    descend_is (pointers_step T) 0 (parts_at T) w.order.0
+    (λ f g u same. pointers_same (size_of T) (size_of T) f g (shape_at T u) (members_at T u) (λ m c. (refl, same m c)))
+    w.order.1.falls (suc (length T)) t (rank_bound T w.order.0 w.order.1 t)
 
 module _ (T U : Table) (x : IsExtended T U) (w : IsWellFormed T) where
   by_rank : (rank : TypeId → ℕ) → IsRanked T rank → (n k : ℕ) (t : TypeId) → IsComplete T t → rank t < n → rank t < k

@@ -1,2 +1,3 @@
 pub mod MemberViews
 pub mod ShapeViews
+pub mod Counts

@@ -10,6 +10,7 @@ pub mod casting;
 pub mod cells;
 pub mod choosing;
 pub mod conversion;
+mod counts;
 pub mod leaf;
 pub mod literals;
 mod meeting;

@@ -170,13 +170,13 @@ fn a_unit_has_16384_types(rt: HostRuntime) -> Result<(), Fail> {
     Ok(())
 }
 
-/// So many typedefs of pointers to functions, in which each names the one before it three times. The first points to a function that takes this
-/// type.
+/// Typedefs of pointers to functions, one for each number below a count: the first points to a function that takes this type, and each other one
+/// names the one before it three times.
 fn push_chain(
     text: &mut Vec<u8>,
     letter: u8,
     first: &[u8],
-    links: usize,
+    count: usize,
 ) -> Result<(), AllocError> {
     text.extend_from_slice(b"typedef int(*")?;
     text.push(letter)?;
@@ -184,18 +184,21 @@ fn push_chain(
     text.extend_from_slice(b")(")?;
     text.extend_from_slice(first)?;
     text.extend_from_slice(b");")?;
-    for link in 0..links {
-        push_link(text, letter, link)?;
+    let mut last = 0;
+    for number in 1..count {
+        push_link(text, letter, last, number)?;
+        last = number;
     }
     Ok(())
 }
 
-fn push_link(text: &mut Vec<u8>, letter: u8, link: usize) -> Result<(), AllocError> {
+/// The typedef with a number after the last one.
+fn push_link(text: &mut Vec<u8>, letter: u8, last: usize, number: usize) -> Result<(), AllocError> {
     let parts: [(&[u8], usize); 4] = [
-        (b"typedef ", link),
-        (b"(*", link + 1),
-        (b")(", link),
-        (b",", link),
+        (b"typedef ", last),
+        (b"(*", number),
+        (b")(", last),
+        (b",", last),
     ];
     for (before, number) in parts {
         text.extend_from_slice(before)?;
@@ -209,8 +212,8 @@ fn push_link(text: &mut Vec<u8>, letter: u8, link: usize) -> Result<(), AllocErr
 /// Two chains of 60 links on one line, and on the next the assignment of the end of one to the end of the other, at column 33.
 fn with_chains(alloc: Global, first: &[u8], other: &[u8]) -> Result<Vec<u8>, AllocError> {
     let mut text = Vec::new(alloc);
-    push_chain(&mut text, b'a', first, 60)?;
-    push_chain(&mut text, b'b', other, 60)?;
+    push_chain(&mut text, b'a', first, 61)?;
+    push_chain(&mut text, b'b', other, 61)?;
     text.extend_from_slice(b"\nint main(void){aAACI a;bAACI b;a=b;return 0;}")?;
     Ok(text)
 }

@@ -3,3 +3,4 @@ pub mod Order
 pub mod Chains
 pub mod Sets
 pub mod Tables
+pub mod Names

@@ -1,4 +1,4 @@
-use Rattle.std.specs.Prelude.{ℕ, Bool, true, false, List, [], ◌∷◌, ◌++◌, Option, None, Some, IsSome, codes, length, slice_get, slice_index_or, All, ◌⊎◌, ◌≡◌, ◌<◌}
+use Rattle.std.specs.Prelude.{ℕ, Bool, true, false, List, [], ◌∷◌, ◌++◌, Option, None, Some, IsSome, codes, slice_index_or, All, ◌⊎◌, ◌≡◌, ◌<◌}
 use Rattle.std.specs.List.{flat_map, count_by}
 use Rattle.cc_base.specs.Names.{kind_name}
 use Rattle.cc_base.specs.Places.{place_text}

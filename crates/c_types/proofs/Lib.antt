@@ -2,6 +2,7 @@ pub mod Lists
 pub mod Shapes
 pub mod Descent
 pub mod Growth
+pub mod PointerCounts
 pub mod Upkeep
 pub mod Sameness
 pub mod Adding
@@ -11,4 +12,6 @@ pub mod Laying
 pub mod Defining
 pub mod Keeping
 pub mod Cells
+pub mod OrderedPointers
 pub mod WholePointers
+pub mod Copies

@@ -1,6 +1,7 @@
 pub mod Lists
 pub mod Whole
 pub mod Accesses
+pub mod Outlines
 pub mod Spots
 pub mod Right
 pub mod NotWrong

@@ -4,6 +4,7 @@ pub mod State
 pub mod Checks
 pub mod Primitives
 pub mod Uses
+pub mod Outlines
 pub mod Facts
 pub mod Laws
 pub mod Runtime

@@ -13,3 +13,5 @@ pub mod KeepingValues
 pub mod KeepingRuns
 pub mod Invariants
 pub mod CallsRight
+pub mod AddressesRight
+pub mod RuntimeRight

@@ -17,14 +17,15 @@ ghost use Rattle.c_types.specs.declared.site.Site.{Site};
 ghost use Rattle.c_types.specs.Table.{IsComplete, shape_at, is_function};
 ghost use Rattle.c_types.specs.Sound.{IsWellFormed};
 ghost use Rattle.runs.specs.Outcome.{Done, from};
-ghost use Rattle.src_mem.specs.Pointers.{Pointer, Value, same_pointer};
+ghost use Rattle.src_mem.specs.Pointers.{Pointer, Value, Address, same_pointer};
 ghost use Rattle.src_mem.specs.Memory.{Object, Planned};
 ghost use Rattle.src_mem.specs.State.{State, Act, Setting, bytes_of, turn};
 ghost use Rattle.src_mem.specs.Primitives.{load_integer, load_pointer, store_integer, store_pointer, clear, copy, allocate, allocate_elements, enter, leave, called, get, put, exit};
 ghost use Rattle.src_mem.specs.Checks.{Used, HasBase, Call, conditions_of, holds, all_checked};
 ghost use Rattle.src_mem.specs.Uses.{read, write, copy_all, enter_with};
 ghost use Rattle.src_mem.specs.Operations.{calculate, allocated_for, decayed, kind_in, moved, subtracted, equated, compared, converted_pointer, member};
-ghost use Rattle.src_mem.specs.Facts.{IsSoundMemory, IsHeldIn};
+ghost use Rattle.src_mem.specs.Values.{addressed};
+ghost use Rattle.src_mem.specs.Facts.{IsPlaceIn, IsSoundMemory, IsHeldIn};
 ghost use Rattle.src_mem.specs.Laws.{AreWhole, KeepsWhole, GivesNext, IsNotWrong, IsScalar, IsScalarValue, IsOrder, AreArguments, left_by};
 
 /// Equality of pointers (C99 6.5.9) is an equivalence.
@@ -85,6 +86,11 @@ pub fn pointer_operations_are_not_wrong()
 pub fn decays_and_copies_are_not_wrong()
     ensures decay { (w : Setting) (at : Place) (depth : ℕ) (kind : Kind) (array : TypeId) (check : Bool) (node : NodeId) (element : TypeId) (p : Pointer) (s : State) → ((kind ≡ Wild) ↔ (w.kind node ≡ Wild)) → IsFalse (is_function w.table array) → IsHeldIn w s.memory depth kind array p → IsTrue check ⊎ ((kind ≢ Seq) × IsTrue (holds w s.memory (HasBase p))) → IsNotWrong (decayed w at kind array check node element p s) }
     ensures copying { (w : Setting) (sites : List Site) (depth : ℕ) (t : TypeId) (source_place : Place) (from_kind : Kind) (source : Pointer) (target_place : Place) (to_kind : Kind) (target : Pointer) (place : Place) (s : State) → IsWellFormed w.table → IsComplete w.table t → IsSoundMemory w sites s.memory → IsHeldIn w s.memory depth from_kind t source → IsHeldIn w s.memory depth to_kind t target → IsNotWrong (copy_all w t source_place from_kind source target_place to_kind target place s) }
+{}
+
+/// `&` of a place is wrong nowhere, where the address that it makes is WILD exactly where the place's own is.
+pub fn addresses_are_not_wrong()
+    ensures { (w : Setting) (depth : ℕ) (outer inner : NodeId) (t : TypeId) (p : Pointer) (s : State) → ((w.kind outer ≡ Wild) ↔ (w.kind inner ≡ Wild)) → IsPlaceIn w s.memory depth (w.kind outer) t p → IsNotWrong (addressed w inner t (Address p) s) }
 {}
 
 /// The clearing of an object that has not ended is wrong nowhere, and neither is the allocation of a block, with or without

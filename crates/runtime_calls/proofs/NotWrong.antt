@@ -1,20 +1,11 @@
 -- What a well typed call hands to a runtime function is what the function takes.
-use Rattle.std.proofs.Common.{◌≡◌, ◌≢◌, List, [], ◌∷◌, refl}
-use Rattle.cc_base.specs.declared.place.Place.{Place}
-use Rattle.cc_base.specs.declared.number.NodeId.{NodeId}
-use Rattle.cc_base.specs.declared.number.TypeId.{TypeId}
-use Rattle.c_tree.specs.declared.typed_word.Runtime.{Runtime}
+use Rattle.std.proofs.Common.{[], ◌∷◌, refl}
 use Rattle.c_tree.specs.declared.typed_word.Runtime.TheVariants.{Malloc, Calloc, Free, Getchar, Putchar, Exit}
-use Rattle.src_mem.specs.Pointers.{Value, Integer, Address}
-use Rattle.src_mem.specs.State.{State, Setting}
-use Rattle.src_mem.specs.Values.{allocated}
-use Rattle.src_mem.specs.Laws.{IsNotWrong}
+use Rattle.src_mem.specs.Pointers.{Integer, Address}
 use Rattle.src_mem.proofs.RuntimeRight.{malloc_right, calloc_right, free_right, getchar_right, putchar_right, exits_right}
-use Rattle.runtime_calls.specs.declared.function.RuntimeType.TheVariants.{VoidPointer}
-use Rattle.runtime_calls.specs.Prototypes.{prototype_of}
-use Rattle.runtime_calls.specs.Meanings.{call_runtime, call_allocation, AreHanded}
+use Rattle.runtime_calls.specs.Laws.{CallsAreNotWrong, AllocationsAreNotWrong}
 
-pub call_right : (function : Runtime) (arguments : List Value) (s : State) → (prototype_of function).result ≢ VoidPointer → AreHanded function arguments → IsNotWrong (call_runtime function arguments s)
+pub call_right : CallsAreNotWrong
 call_right Malloc arguments s n h = absurd (n refl)
 call_right Calloc arguments s n h = absurd (n refl)
 call_right Free [] s n h = absurd h
@@ -31,8 +22,7 @@ call_right Exit (Integer z ∷ []) s n h = exits_right z s
 call_right Exit (Integer z ∷ v ∷ vs) s n h = absurd h.1
 call_right Exit (Address p ∷ vs) s n h = absurd h.0
 
-pub allocation_right : (w : Setting) (at : Place) (node : NodeId) (t : TypeId) (function : Runtime) (arguments : List Value) (s : State)
-    → (prototype_of function).result ≡ VoidPointer → AreHanded function arguments → IsNotWrong (allocated w at node t (call_allocation w node t function arguments) s)
+pub allocation_right : AllocationsAreNotWrong
 allocation_right w at node t Malloc [] s e h = absurd h
 allocation_right w at node t Malloc (Integer n ∷ []) s e h = malloc_right w at node t n s
 allocation_right w at node t Malloc (Integer n ∷ v ∷ vs) s e h = absurd h.1

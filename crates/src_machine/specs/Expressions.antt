@@ -282,7 +282,8 @@ abbrev mutual
     allocated w.setting at node (pointee w.setting t) (call_allocation w.setting node (pointee w.setting t) function vs)
   eval (typed.AllocateFor function f at arguments t) w = do
     vs ← eval_all arguments w
-    allocated w.setting at (node_in w.setting t) (pointee w.setting t) (call_allocation w.setting (node_in w.setting t) (pointee w.setting t) function vs)
+    allocated w.setting at (node_in w.setting t) (pointee w.setting t)
+        (call_allocation w.setting (node_in w.setting t) (pointee w.setting t) function vs)
 
   -- arguments in order, each converted before the next is evaluated
   pub eval_all : TypedArguments → World → Act (List Value)

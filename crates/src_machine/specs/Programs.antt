@@ -504,8 +504,10 @@ integer_as_address list = source_run program table (kinds list) (Closed []) 10
     program : TypedTranslationUnit
     program = function (name (codes "main") (at_line 2 5)) (type 15) [] (
         declares (local_is 2 (type 11) (at_line 3 16) (flows (at_line 3 16) (type 11)
-        (typed.Cast conversion.PointerToPointer (at_line 3 17) (type_name (type 14)) (typed.FunctionName (name (codes "f") (at_line 3 33)) 0 (node 3) (type 16)))))
-        ∷ does (typed.Assign (typed.Target (at_line 4 1) (typed.Call (value 2 2 (type 11)) (at_line 4 3) (arguments []) (type 9)) int) (at_line 4 5) (put (number 65)))
+        (typed.Cast conversion.PointerToPointer (at_line 3 17) (type_name (type 14))
+        (typed.FunctionName (name (codes "f") (at_line 3 33)) 0 (node 3) (type 16)))))
+        ∷ does (typed.Assign (typed.Target (at_line 4 1) (typed.Call (value 2 2 (type 11)) (at_line 4 3) (arguments []) (type 9)) int)
+        (at_line 4 5) (put (number 65)))
         ∷ returns (at_line 5 1) (number 0)
         ∷ []) (function (name (codes "f") (at 5)) (type 15) [] (returns (at 13) (number 0) ∷ []) typed.NoExternal)
 
@@ -535,7 +537,8 @@ null_target column = typed.Target (at_line 4 column) (value (column + 1) 2 (type
 
 -- s=(1?*p:s);
 abbrev pub copied_from_choice : SourceOutcome
-copied_from_choice = copied_from (typed.ParenPlace (at_line 4 3) (typed.StructConditional (number 1) (at_line 4 5) (null_target 6) (variable 9 1 (type 9))))
+copied_from_choice = copied_from (typed.ParenPlace (at_line 4 3)
+    (typed.StructConditional (number 1) (at_line 4 5) (null_target 6) (variable 9 1 (type 9))))
 
 -- s=(1,*p);
 abbrev pub copied_from_comma : SourceOutcome

@@ -1,18 +1,16 @@
 -- `&` of a place is wrong nowhere.
 use Rattle.std.proofs.Common.{◌≡◌, ◌≢◌, ℕ, pos, List, slice_get, Some, refl, sym, subst}
-use Rattle.std.specs.Prelude.{◌↔◌}
 use Rattle.cc_base.specs.declared.number.TypeId.{TypeId}
-use Rattle.cc_base.specs.declared.number.NodeId.{NodeId}
 use Rattle.cc_base.specs.declared.kind.Kind.{Kind}
 use Rattle.cc_base.specs.declared.kind.Kind.TheVariants.{Safe, Seq, Rtti, Wild}
 use Rattle.runs.specs.Outcome.{done}
-use Rattle.src_mem.specs.Pointers.{Location, Pointer, At, Address}
-use Rattle.src_mem.specs.State.{State, Setting}
+use Rattle.src_mem.specs.Pointers.{Location, At, Address}
+use Rattle.src_mem.specs.State.{Setting}
 use Rattle.src_mem.specs.Outlines.{Outline, outline, outlines_of}
-use Rattle.src_mem.specs.Facts.{IsPlaceAt, IsPlaceIn}
+use Rattle.src_mem.specs.Facts.{IsPlaceAt}
 use Rattle.src_mem.specs.Primitives.{address}
 use Rattle.src_mem.specs.Operations.{size}
-use Rattle.src_mem.specs.Values.{addressed}
+use Rattle.src_mem.specs.ValueLaws.{AddressesAreNotWrong}
 use Rattle.src_mem.specs.Laws.{IsNotWrong}
 use Rattle.src_mem.proofs.Outlines.{mapped-from}
 use Rattle.src_mem.proofs.NotWrong.{from_right}
@@ -24,17 +22,18 @@ record IsInObject (outlines : List Outline) (kind : Kind) (l : Location) : Type 
   found : slice_get outlines l.object ≡ Some object
   stands : kind ≢ Wild → (at : ℕ) × (l.offset ≡ pos at)
 
-in_object : (w : Setting) (outlines : List Outline) (kind : Kind) (t : TypeId) (l : Location) → IsPlaceAt w outlines kind t l → IsInObject outlines kind l
+in_object : (w : Setting) (outlines : List Outline) (kind : Kind) (t : TypeId) (l : Location) → IsPlaceAt w outlines kind t l
+    → IsInObject outlines kind l
 in_object w outlines Safe t l a = record { object = a.object; found = a.located.found; stands = λ n. (a.at, a.stands.offset) }
 in_object w outlines Seq t l a = record { object = a.object; found = a.located.found; stands = λ n. (a.at, a.stands.offset) }
 in_object w outlines Rtti t l a = record { object = a.object; found = a.located.found; stands = λ n. (a.at, a.stands.offset) }
 in_object w outlines Wild t l a = record { object = a.object; found = a.found; stands = λ n. absurd (n refl) }
 
-pub addressed_right : (w : Setting) (depth : ℕ) (outer inner : NodeId) (t : TypeId) (p : Pointer) (s : State) → ((w.kind outer ≡ Wild) ↔ (w.kind inner ≡ Wild))
-    → IsPlaceIn w s.memory depth (w.kind outer) t p → IsNotWrong (addressed w inner t (Address p) s)
+pub addressed_right : AddressesAreNotWrong
 addressed_right w depth outer inner t p s linked place =
     from_right (address (w.kind inner) 0 (size w t) t p s) (λ q. done (Address q))
-    (subst (λ q. IsNotWrong (address (w.kind inner) 0 (size w t) t q s)) (sym place.is) (of (in_object w (outlines_of s.memory) (w.kind outer) t place.location place.place))) (λ q r. tt)
+    (subst (λ q. IsNotWrong (address (w.kind inner) 0 (size w t) t q s)) (sym place.is)
+    (of (in_object w (outlines_of s.memory) (w.kind outer) t place.location place.place))) (λ q r. tt)
   where
     of : IsInObject (outlines_of s.memory) (w.kind outer) place.location → IsNotWrong (address (w.kind inner) 0 (size w t) t (At place.location) s)
     of i =

@@ -34,16 +34,19 @@ module _ {P : State → Type 0} (I : IsInvariant P) (w : Setting) (functions : L
           (λ depth first none. B.each f c e (call_within n w functions) (keep_nested n) depth first none))
 
 -- the end of a run
-at_end : (P : State → Type 0) (Q : SourceOutcome → Type 0) → ((e : Ending) (s : State) → P s → Q (seen e s)) → (o : Outcome Ending State Value) → P (left_by o) → Q (finished o)
+at_end : (P : State → Type 0) (Q : SourceOutcome → Type 0) → ((e : Ending) (s : State) → P s → Q (seen e s))
+    → (o : Outcome Ending State Value) → P (left_by o) → Q (finished o)
 at_end P Q q (Ended e s) h = q e s h
 at_end P Q q (Done v s) h = q _ s h
 
 pub kept_at_end : (P : State → Type 0) (Q : SourceOutcome → Type 0) → IsInvariant P → ((e : Ending) (s : State) → P s → Q (seen e s))
-    → (w : Setting) (before : Act (Unit {0})) (functions : List Callable) (main : ℕ) (place : Place) (statics : List Static) (input : Input) (turns : ℕ)
-    → Keeps P before → BodiesKeep P functions → P (first_state (map (static_object w) statics) input turns) → Q (run_all w before functions main place statics input turns)
+    → (w : Setting) (before : Act (Unit {0})) (functions : List Callable) (main : ℕ) (place : Place) (statics : List Static) (input : Input)
+    (turns : ℕ) → Keeps P before → BodiesKeep P functions → P (first_state (map (static_object w) statics) input turns)
+    → Q (run_all w before functions main place statics input turns)
 kept_at_end P Q I q w before functions main place statics input turns kb B start =
     at_end P Q q ((before >> entered) (first_state (map (static_object w) statics) input turns))
-    ((keep_then {m = before} {n = entered} kb (keep_main I w functions B place nested_limit main)).by (first_state (map (static_object w) statics) input turns) start)
+    ((keep_then {m = before} {n = entered} kb (keep_main I w functions B place nested_limit main)).by
+    (first_state (map (static_object w) statics) input turns) start)
   where
     entered : Act Value
     entered = given (slice_get functions main) (run_main w place (call_within nested_limit w functions) main)
@@ -57,12 +60,13 @@ static_whole w o = by o.text
     by None = record { sized = length-replicate (size_of w.table o.type) 0; under = λ k p h. absurd (cc (h)) }
     by (Some text) = record { sized = refl; under = λ k p h. absurd (cc (h)) }
 
-module _ (w : Setting) (before : Act (Unit {0})) (functions : List Callable) (main : ℕ) (place : Place) (statics : List Static) (input : Input) (turns : ℕ)
-    (kb : (P : State → Type 0) → IsInvariant P → Keeps P before) (B : (P : State → Type 0) → IsInvariant P → BodiesKeep P functions) where
+module _ (w : Setting) (before : Act (Unit {0})) (functions : List Callable) (main : ℕ) (place : Place) (statics : List Static) (input : Input)
+    (turns : ℕ) (kb : (P : State → Type 0) → IsInvariant P → Keeps P before) (B : (P : State → Type 0) → IsInvariant P → BodiesKeep P functions) where
   -- no more is read than there is
   pub reads_at_end : (run_all w before functions main place statics input turns).read ≤ length (bytes_of input)
   reads_at_end = kept_at_end (ReadsWhatIsThere input) (λ o. o.read ≤ length (bytes_of input)) (reads_invariant input) (λ e s h. h.most)
-      w before functions main place statics input turns (kb (ReadsWhatIsThere input) (reads_invariant input)) (B (ReadsWhatIsThere input) (reads_invariant input))
+      w before functions main place statics input turns (kb (ReadsWhatIsThere input) (reads_invariant input))
+      (B (ReadsWhatIsThere input) (reads_invariant input))
       (record { same = refl; most = omega arith })
 
   -- all objects are whole

@@ -25,11 +25,14 @@ block_right w at node t (Ended (Exited n) s) h = tt
 block_right w at node t (Ended (Stopped c p) s) h = tt
 block_right w at node t (Ended Wrong s) h = h
 
-pub malloc_right : (w : Setting) (at : Place) (node : NodeId) (t : TypeId) (n : ℤ) (s : State) → IsNotWrong (allocated w at node t (malloc w node t (Integer n ∷ [])) s)
+pub malloc_right : (w : Setting) (at : Place) (node : NodeId) (t : TypeId) (n : ℤ) (s : State)
+    → IsNotWrong (allocated w at node t (malloc w node t (Integer n ∷ [])) s)
 malloc_right w at node t n s = block_right w at node t (allocate w node t (word n) s) (allocate_right w node t (word n) s)
 
-pub calloc_right : (w : Setting) (at : Place) (node : NodeId) (t : TypeId) (a b : ℤ) (s : State) → IsNotWrong (allocated w at node t (calloc w node t (Integer a ∷ Integer b ∷ [])) s)
-calloc_right w at node t a b s = block_right w at node t (allocate_elements w node t (word a) (word b) s) (elements_right w node t (word a) (word b) s)
+pub calloc_right : (w : Setting) (at : Place) (node : NodeId) (t : TypeId) (a b : ℤ) (s : State)
+    → IsNotWrong (allocated w at node t (calloc w node t (Integer a ∷ Integer b ∷ [])) s)
+calloc_right w at node t a b s =
+    block_right w at node t (allocate_elements w node t (word a) (word b) s) (elements_right w node t (word a) (word b) s)
 
 pub free_right : (v : Value) (s : State) → IsNotWrong (free (v ∷ []) s)
 free_right v s = tt

@@ -11,3 +11,4 @@ pub mod Runtime
 pub mod Operations
 pub mod Runs
 pub mod Values
+pub mod ValueLaws

@@ -17,15 +17,15 @@ ghost use Rattle.c_types.specs.declared.site.Site.{Site};
 ghost use Rattle.c_types.specs.Table.{IsComplete, shape_at, is_function};
 ghost use Rattle.c_types.specs.Sound.{IsWellFormed};
 ghost use Rattle.runs.specs.Outcome.{Done, from};
-ghost use Rattle.src_mem.specs.Pointers.{Pointer, Value, Address, same_pointer};
+ghost use Rattle.src_mem.specs.Pointers.{Pointer, Value, same_pointer};
 ghost use Rattle.src_mem.specs.Memory.{Object, Planned};
 ghost use Rattle.src_mem.specs.State.{State, Act, Setting, bytes_of, turn};
 ghost use Rattle.src_mem.specs.Primitives.{load_integer, load_pointer, store_integer, store_pointer, clear, copy, allocate, allocate_elements, enter, leave, called, get, put, exit};
 ghost use Rattle.src_mem.specs.Checks.{Used, HasBase, Call, conditions_of, holds, all_checked};
 ghost use Rattle.src_mem.specs.Uses.{read, write, copy_all, enter_with};
 ghost use Rattle.src_mem.specs.Operations.{calculate, allocated_for, decayed, kind_in, moved, subtracted, equated, compared, converted_pointer, member};
-ghost use Rattle.src_mem.specs.Values.{addressed};
-ghost use Rattle.src_mem.specs.Facts.{IsPlaceIn, IsSoundMemory, IsHeldIn};
+ghost use Rattle.src_mem.specs.ValueLaws.{AddressesAreNotWrong};
+ghost use Rattle.src_mem.specs.Facts.{IsSoundMemory, IsHeldIn};
 ghost use Rattle.src_mem.specs.Laws.{AreWhole, KeepsWhole, GivesNext, IsNotWrong, IsScalar, IsScalarValue, IsOrder, AreArguments, left_by};
 
 /// Equality of pointers (C99 6.5.9) is an equivalence.
@@ -90,7 +90,7 @@ pub fn decays_and_copies_are_not_wrong()
 
 /// `&` of a place is wrong nowhere, where the address that it makes is WILD exactly where the place's own is.
 pub fn addresses_are_not_wrong()
-    ensures { (w : Setting) (depth : ℕ) (outer inner : NodeId) (t : TypeId) (p : Pointer) (s : State) → ((w.kind outer ≡ Wild) ↔ (w.kind inner ≡ Wild)) → IsPlaceIn w s.memory depth (w.kind outer) t p → IsNotWrong (addressed w inner t (Address p) s) }
+    ensures { AddressesAreNotWrong }
 {}
 
 /// The clearing of an object that has not ended is wrong nowhere, and neither is the allocation of a block, with or without

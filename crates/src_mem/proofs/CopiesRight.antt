@@ -18,7 +18,7 @@ use Rattle.src_mem.specs.State.{State, Act, Setting, touched}
 use Rattle.src_mem.specs.Checks.{HasBase, HoldsNone, IsAligned, AddressMember, CopyFrom, CopyTo, Keep, conditions_of, holds, all_checked}
 use Rattle.src_mem.specs.Primitives.{access, with_object, address, copy}
 use Rattle.src_mem.specs.Uses.{keep_pointers, pointers_behind, copy_all}
-use Rattle.src_mem.specs.Operations.{Located, size, decayed}
+use Rattle.src_mem.specs.Operations.{size, decayed}
 use Rattle.src_mem.specs.Facts.{IsHeld, IsSafeAt, IsTypedAt, IsWildAt}
 use Rattle.src_mem.specs.Laws.{IsNotWrong}
 use Rattle.src_mem.proofs.NotWrong.{checked_right, access_right, bounds_first}
@@ -51,15 +51,15 @@ based_placed w memory depth Wild t (At l) n held h = of held.value
     of : IsWildAt w memory.objects l → IsPlaced Wild memory.objects (At l)
     of v = record { location = l; is = refl; object = v.object; found = v.found; stands = λ k. absurd (k refl) }
 
-pub decayed_right : (w : Setting) (depth : ℕ) (check : Bool) (node : NodeId) (array element : TypeId) (l : Located) (s : State)
-    → ((l.kind ≡ Wild) ↔ (w.kind node ≡ Wild)) → is_function w.table array ≡ false → IsHeld w s.memory.objects depth l.kind array l.pointer
-    → (check ≡ true) ⊎ ((l.kind ≢ Seq) × (holds w s.memory (HasBase l.pointer) ≡ true)) → IsNotWrong (decayed w check node array element l s)
-decayed_right w depth true node array element l s linked data_type held why =
-    checked_right w (λ c. l.at) (conditions_of (AddressMember 0 (size w array)) l.kind l.pointer) (address (w.kind node) 0 (size w array) element l.pointer) s
-    (λ h. placed_address w l.kind node (size w array) element l.pointer s linked (placed w s.memory depth l.kind array l.pointer 0 (size w array) held data_type h))
-decayed_right w depth false node array element l s linked data_type held (inl e) = absurd (cc (e))
-decayed_right w depth false node array element l s linked data_type held (inr a) =
-    placed_address w l.kind node (size w array) element l.pointer s linked (based_placed w s.memory depth l.kind array l.pointer a.0 held a.1)
+pub decayed_right : (w : Setting) (at : Place) (depth : ℕ) (kind : Kind) (array : TypeId) (check : Bool) (node : NodeId) (element : TypeId) (p : Pointer) (s : State)
+    → ((kind ≡ Wild) ↔ (w.kind node ≡ Wild)) → is_function w.table array ≡ false → IsHeld w s.memory.objects depth kind array p
+    → (check ≡ true) ⊎ ((kind ≢ Seq) × (holds w s.memory (HasBase p) ≡ true)) → IsNotWrong (decayed w at kind array check node element p s)
+decayed_right w at depth kind array true node element p s linked data_type held why =
+    checked_right w (λ c. at) (conditions_of (AddressMember 0 (size w array)) kind p) (address (w.kind node) 0 (size w array) element p) s
+    (λ h. placed_address w kind node (size w array) element p s linked (placed w s.memory depth kind array p 0 (size w array) held data_type h))
+decayed_right w at depth kind array false node element p s linked data_type held (inl e) = absurd (cc (e))
+decayed_right w at depth kind array false node element p s linked data_type held (inr a) =
+    placed_address w kind node (size w array) element p s linked (based_placed w s.memory depth kind array p a.0 held a.1)
 
 -- Copies
 

@@ -1,5 +1,5 @@
 -- Pointer operations with their conditions before them are wrong nowhere.
-use Rattle.std.proofs.Common.{◌≡◌, ◌≢◌, ℕ, ◌⊎◌, inl, inr, ℤ, pos, ◌+ℤ◌, Bool, true, false, not, List, [], ◌∷◌, slice_get, Some, refl, sym, subst, arith}
+use Rattle.std.proofs.Common.{◌≡◌, ◌≢◌, ℕ, ◌⊎◌, inl, inr, ℤ, pos, ◌+ℤ◌, true, false, not, List, [], ◌∷◌, slice_get, Some, refl, sym, subst, arith}
 use Rattle.std.specs.Prelude.{◌↔◌}
 use Rattle.std.specs.List.{list_all}
 use Rattle.cc_base.specs.declared.place.Place.{Place}
@@ -12,7 +12,7 @@ use Rattle.c_types.specs.Layouts.{offset_of}
 use Rattle.c_types.specs.Flows.{flow_class}
 use Rattle.integers.specs.Arithmetic as integer
 use Rattle.integers.specs.Arithmetic.{Operator}
-use Rattle.runs.specs.Outcome.{done, from, ◌>>=◌}
+use Rattle.runs.specs.Outcome.{done, from}
 use Rattle.src_mem.specs.Pointers.{Location, Pointer, Null, Number, At, Function, Value}
 use Rattle.src_mem.specs.Memory.{Object, Memory}
 use Rattle.src_mem.specs.State.{State, Act, Setting, given}
@@ -110,9 +110,8 @@ ordered_right w at operator p q s order which = checked_right w (λ c. at) (cond
     of Rtti (inl e) h = absurd (cc (e))
     of Rtti (inr e) h = absurd (cc (e))
 
-pub equated_right : (w : Setting) (at : Place) (null : Bool) (p q : Used) (s : State) → IsNotWrong (equated w at null p q s)
-equated_right w at true p q s = tt
-equated_right w at false p q s = checked_right w (λ c. at) (conditions_of (Equate q) p.kind p.pointer) (are_equal p.pointer q.pointer) s (λ h. tt)
+pub equated_right : (w : Setting) (at : Place) (p q : Used) (s : State) → IsNotWrong (equated w at p q s)
+equated_right w at p q s = checked_right w (λ c. at) (conditions_of (Equate q) p.kind p.pointer) (are_equal p.pointer q.pointer) s (λ h. tt)
 
 pub converted_right : (w : Setting) (at : Place) (t u : TypeId) (p : Pointer) (s : State) → IsNotWrong (converted_pointer w at t u p s)
 converted_right w at t u p s = checked_right w (λ c. at) (conditions_of_conversion (record {
@@ -172,9 +171,8 @@ pub member_right : (w : Setting) (at : Place) (depth : ℕ) (kind : Kind) (t : T
     → ((kind ≡ Wild) ↔ (w.kind node ≡ Wild)) → is_function w.table t ≡ false → IsHeld w s.memory.objects depth kind t p → IsNotWrong (member w at kind t i node u p s)
 member_right w at depth kind t i node u p s linked data_type held =
     checked_right w (λ c. at) (conditions_of (AddressMember (offset_of w.table t i) (size w t)) kind p)
-    (address (w.kind node) (offset_of w.table t i) (size w u) u p >>= (λ q. done (record { kind = w.kind node; pointer = q; at = at }))) s
-    (λ h. from_right (address (w.kind node) (offset_of w.table t i) (size w u) u p s) (λ q. done (record { kind = w.kind node; pointer = q; at = at }))
-    (of (placed w s.memory depth kind t p (offset_of w.table t i) (size w t) held data_type h)) (λ q v. tt))
+    (address (w.kind node) (offset_of w.table t i) (size w u) u p) s
+    (λ h. of (placed w s.memory depth kind t p (offset_of w.table t i) (size w t) held data_type h))
   where
     of : IsPlaced kind s.memory.objects p → IsNotWrong (address (w.kind node) (offset_of w.table t i) (size w u) u p s)
     of a = subst (λ q. IsNotWrong (address (w.kind node) (offset_of w.table t i) (size w u) u q s)) (sym a.is)
@@ -216,21 +214,21 @@ call_right w at depth deeper kind t p next s which type held h =
     (λ k. called_right p next s (callable w s.memory depth deeper kind t p which type held k) h)
 
 -- `<`, `>`, `<=` and `>=` of pointers of which the first may move
-pub compared_right : (w : Setting) (at : Place) (operator : Operator) (null : Bool) (p q : Used) (s : State) → IsOrder operator → (p.kind ≡ Seq) ⊎ (p.kind ≡ Wild)
-    → IsNotWrong (compared w at operator null p q s)
-compared_right w at integer.Less null p q s order which = ordered_right w at integer.Less p q s tt which
-compared_right w at integer.LessOrEqual null p q s order which = ordered_right w at integer.LessOrEqual p q s tt which
-compared_right w at integer.Greater null p q s order which = ordered_right w at integer.Greater p q s tt which
-compared_right w at integer.GreaterOrEqual null p q s order which = ordered_right w at integer.GreaterOrEqual p q s tt which
-compared_right w at integer.Add null p q s order which = absurd order
-compared_right w at integer.Subtract null p q s order which = absurd order
-compared_right w at integer.Multiply null p q s order which = absurd order
-compared_right w at integer.Divide null p q s order which = absurd order
-compared_right w at integer.Remainder null p q s order which = absurd order
-compared_right w at integer.And null p q s order which = absurd order
-compared_right w at integer.Or null p q s order which = absurd order
-compared_right w at integer.ExclusiveOr null p q s order which = absurd order
-compared_right w at integer.ShiftLeft null p q s order which = absurd order
-compared_right w at integer.ShiftRight null p q s order which = absurd order
-compared_right w at integer.Equal null p q s order which = absurd order
-compared_right w at integer.Different null p q s order which = absurd order
+pub compared_right : (w : Setting) (at : Place) (operator : Operator) (p q : Used) (s : State) → IsOrder operator → (p.kind ≡ Seq) ⊎ (p.kind ≡ Wild)
+    → IsNotWrong (compared w at operator p q s)
+compared_right w at integer.Less p q s order which = ordered_right w at integer.Less p q s tt which
+compared_right w at integer.LessOrEqual p q s order which = ordered_right w at integer.LessOrEqual p q s tt which
+compared_right w at integer.Greater p q s order which = ordered_right w at integer.Greater p q s tt which
+compared_right w at integer.GreaterOrEqual p q s order which = ordered_right w at integer.GreaterOrEqual p q s tt which
+compared_right w at integer.Add p q s order which = absurd order
+compared_right w at integer.Subtract p q s order which = absurd order
+compared_right w at integer.Multiply p q s order which = absurd order
+compared_right w at integer.Divide p q s order which = absurd order
+compared_right w at integer.Remainder p q s order which = absurd order
+compared_right w at integer.And p q s order which = absurd order
+compared_right w at integer.Or p q s order which = absurd order
+compared_right w at integer.ExclusiveOr p q s order which = absurd order
+compared_right w at integer.ShiftLeft p q s order which = absurd order
+compared_right w at integer.ShiftRight p q s order which = absurd order
+compared_right w at integer.Equal p q s order which = absurd order
+compared_right w at integer.Different p q s order which = absurd order

@@ -9,3 +9,4 @@ pub mod Laws
 pub mod Runtime
 pub mod Operations
 pub mod Runs
+pub mod Values

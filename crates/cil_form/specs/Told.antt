@@ -8,7 +8,7 @@ use Rattle.cc_base.specs.declared.place.Place.{Place}
 use Rattle.c_types.specs.declared.shape.TypeShape.TheVariants as shape
 use Rattle.c_types.specs.declared.site.Site.{Site}
 use Rattle.c_types.specs.declared.site.Site.TheVariants.{Flow, Same, Pointee, Home, Union}
-use Rattle.c_types.specs.Table.{Table, HasShape, IsComplete}
+use Rattle.c_types.specs.Table.{Table, HasShape, IsComplete, shape_at}
 use Rattle.c_types.specs.Equality.{physically_equal}
 use Rattle.c_types.specs.Solutions.{IsSolution}
 use Rattle.src_mem.specs.Memory.{Planned}
@@ -35,7 +35,7 @@ AreAsked sites types = (t : Temp) (x : HeldType) → types t ≡ Some x → IsAs
 
 -- the sites tell of the pointer types and of the objects that code may name
 pub record TellsOf (sites : List Site) (k : Context) : Type 0 where
-  pub pointers : (t : TypeId) (node : NodeId) (u : TypeId) → HasShape k.table t (shape.Pointer node u) → Contains sites (Pointee node u)
+  pub pointers : (t : TypeId) (node : NodeId) (u : TypeId) → shape_at k.table t ≡ shape.Pointer node u → Contains sites (Pointee node u)
   pub objects : (o : Object) (home : NodeId) (t : TypeId) → IsObject k o home t → IsAsked sites (PlaceOf home t)
 
 -- A program

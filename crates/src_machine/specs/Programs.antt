@@ -2,6 +2,7 @@
 -- doesn't say is the text's layout.
 use Rattle.std.specs.Prelude.{ℕ, pos, ◌+◌, List, [], ◌∷◌, ◌++◌, codes, Some, false}
 use Rattle.cc_base.specs.declared.kind.Kind.TheVariants.{Safe, Seq, Rtti, Wild}
+use Rattle.c_lexer.specs.declared.number.IntegerType.TheVariants.{Long}
 use Rattle.c_types.specs.declared.shape.TypeShape.TheVariants as shape
 use Rattle.c_types.specs.Table.{Table}
 use Rattle.c_types.specs.Calls.{basic_table}
@@ -240,7 +241,7 @@ moved_too_far = source_run program table (kinds (Safe ∷ Seq ∷ Safe ∷ Seq �
         declares (local 0 (type 9))
         ∷ declares (local_is 2 (type 10) (at 33) (flows (at 33) (type 10) (typed.Decay (variable 34 0 (type 9)) (node 3) (type 11))))
         ∷ does (typed.Assign (variable 36 2 (type 10)) (at 37) (flows (at 37) (type 10)
-        (typed.Moved binary.Add side.Left (value 38 2 (type 10)) (at 39) (number 4611686018427387904) (type 10))))
+        (typed.Moved binary.Add side.Left (value 38 2 (type 10)) (at 39) (typed.Integer Long 4611686018427387904 (at 40) long) (type 10))))
         ∷ returns (at 60) (number 0)
         ∷ [])
 

@@ -8,5 +8,7 @@ pub mod OperationsRight
 pub mod CopiesRight
 pub mod PointersCopied
 pub mod Keeping
+pub mod KeepingValues
+pub mod KeepingRuns
 pub mod Invariants
 pub mod CallsRight

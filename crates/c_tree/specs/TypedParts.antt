@@ -1,8 +1,10 @@
 -- What is read off a typed tree: the types of its expressions, what it makes, its objects, its functions and its static initialisers.
-use Rattle.std.specs.Prelude.{ℕ, Bool, true, false, List, [], ◌∷◌, ◌++◌, flat_map, Option, None, Some}
+use Rattle.std.specs.Prelude.{ℕ, Bool, true, false, List, [], ◌∷◌, ◌++◌, flat_map, Option, None, Some, if◌then◌else◌}
 use Rattle.cc_base.specs.declared.place.Place.{Place}
 use Rattle.cc_base.specs.declared.number.NodeId.{NodeId}
 use Rattle.cc_base.specs.declared.number.TypeId.{TypeId}
+use Rattle.c_lexer.specs.declared.word.Keyword.{Keyword}
+use Rattle.c_lexer.specs.declared.word.Keyword.TheVariants as keyword
 use Rattle.c_tree.specs.declared.leaf.Identifier.{Identifier}
 use Rattle.c_tree.specs.declared.leaf.StringPiece.{StringPiece}
 use Rattle.c_tree.specs.declared.typed_unit.Printed.{Printed}
@@ -18,6 +20,22 @@ use Rattle.c_tree.specs.Places.{pieces_place, expr_place, initialiser_place}
 use Rattle.c_tree.specs.TypedTree as typed
 use Rattle.c_tree.specs.declared.typed_word.TypedStar.{TypedStar}
 use Rattle.c_tree.specs.TypedTree.{TypedExpr, TypedPlace, TypedArguments, TypedTypeName, TypedSpecifiers, TypedSpecifierList, TypedSpecifier, TypedMembers, TypedMemberDeclarators, TypedEnumerators, TypedDeclarator, TypedForm, TypedCore, TypedParts, TypedParameters, TypedDeclared, TypedInitialiser, TypedItems, TypedInitDeclarators, TypedDeclaration, TypedStatement, TypedBlockItems, TypedTranslationUnit}
+
+-- Places
+
+-- Where the checks of a place stand: at its own operator, or at its name, or at its first literal; parentheses aside. A comma has that of its
+-- right operand.
+abbrev pub place_at : TypedPlace → Place
+place_at (typed.Variable name home t) = name.place
+place_at (typed.String pieces home t) = pieces_place pieces
+place_at (typed.ParenPlace at p) = place_at p
+place_at (typed.Target at e t) = at
+place_at (typed.Element which a at b t) = at
+place_at (typed.Member p at name i n t) = at
+place_at (typed.MemberAt e at name i n t) = at
+place_at (typed.StructAssign p at q) = at
+place_at (typed.StructConditional c at p q) = at
+place_at (typed.StructComma e p) = place_at p
 
 -- Types
 
@@ -421,9 +439,25 @@ parameter_objects typed.NoParameter = []
 parameter_objects (typed.AndParameter all specifiers declared adjusted t) =
     parameter_objects all ++ record { home = parameter_home (declared_home declared); type = t } ∷ []
 
+-- `(void)` is a list without parameters (C99 6.7.5.3p10)
+abbrev pub is_void_keyword : Keyword → Bool
+is_void_keyword keyword.Void = true
+is_void_keyword word = false
+
+abbrev pub is_void_word : TypedSpecifierList → Bool
+is_void_word (typed.AndSpecifier typed.NoSpecifier (typed.Keyword word)) = is_void_keyword word.keyword
+is_void_word list = false
+
+abbrev pub is_void_list : TypedParameters → Bool
+is_void_list (typed.AndParameter typed.NoParameter (typed.Specified list t) typed.NotDeclared adjusted u) = is_void_word list
+is_void_list parameters = false
+
+abbrev pub taken_parameters : TypedParameters → List ParameterObject
+taken_parameters parameters = if is_void_list parameters then [] else parameter_objects parameters
+
 -- the parameters of the function that a declarator declares
 abbrev pub parameters_of : TypedDeclarator → List ParameterObject
-parameters_of (typed.Declares form t) = parameter_objects (parameters_in_form form typed.NoParameter)
+parameters_of (typed.Declares form t) = taken_parameters (parameters_in_form form typed.NoParameter)
 
 -- A function that the unit defines.
 pub record DefinedFunction : Type 0 where

@@ -11,15 +11,15 @@ use Rattle.c_types.specs.Table.{shape_at}
 use Rattle.c_types.specs.Layouts.{size_of}
 use Rattle.integers.specs.Arithmetic as integer
 use Rattle.integers.specs.Arithmetic.{IntegerType, Operator}
-use Rattle.runs.specs.Outcome.{Outcome, Ended, Done, done, ends, leaves, allowed, either, from, ◌>>=◌, ◌>>◌}
+use Rattle.runs.specs.Outcome.{Outcome, Ended, Done, done, ends, allowed, either, from, ◌>>=◌, ◌>>◌}
 use Rattle.src_mem.specs.Pointers.{Pointer, Null, Number, At, Function, Value, Integer, Address}
 use Rattle.src_mem.specs.Memory.{Planned}
-use Rattle.src_mem.specs.State.{Ending, State, Act, Setting, Defined, wrong, given, touched, as_integer, as_pointer}
+use Rattle.src_mem.specs.State.{Ending, State, Act, Setting, Defined, wrong, given, as_integer, as_pointer}
 use Rattle.src_mem.specs.Checks.{Condition, Outlives, Used, Keep, conditions_of, checked, all_placed, all_checked, holds}
-use Rattle.src_mem.specs.Primitives.{Spot, spot, access, load_integer, load_pointer, address, move, difference, is_before, integer_from, allocate_elements, called}
+use Rattle.src_mem.specs.Primitives.{load_integer, load_pointer, address, move, difference, is_before, integer_from, allocate_elements, called}
 use Rattle.src_mem.specs.Runtime.{malloc, calloc, free, getchar, putchar, exits}
 use Rattle.src_mem.specs.Uses.{forward, home, pointers_behind, read_shape, store, store_shape, write, load_pointers, keep_pointers, copy_all, store_arguments, enter_with}
-use Rattle.src_mem.specs.Operations.{Located, calculate, moved, subtracted, equated, order_of, compared, converted_pointer, member, decayed, read_at, write_at}
+use Rattle.src_mem.specs.Operations.{calculate, moved, subtracted, equated, order_of, compared, converted_pointer, member, decayed}
 use Rattle.src_mem.specs.Runs.{Calls, Body, Callable, call_body, call_within}
 use Rattle.src_mem.specs.Laws.{Keeps, IsInvariant, left_by}
 
@@ -89,16 +89,11 @@ pub ruleset acts = (keep_done, keep_wrong, keep_ends, keep_bind, keep_then, keep
 module _ {P : State → Type 0} (I : IsInvariant P) where
   -- Primitives
 
-  -- an access that changes nothing else
-  keep_access : {A : Type 0} (kind : Kind) (p : Pointer) (m : ℕ) (next : Spot → Act A) → ((x : Spot) → Keeps P (next x)) → Keeps P (access kind p m next)
-  keep_access kind p m next kn = keep_chosen (λ s. given (spot kind s.memory.objects p m) (λ at. leaves (touched at.number at.at m) >> next at))
-      (λ s. keep_given (spot kind s.memory.objects p m) (λ x. keep_then {m = leaves (touched x.number x.at m)} (record { by = λ t h. I.accessed x.number x.at m t h }) (kn x)))
-
   pub keep_load_integer : (kind : Kind) (t : IntegerType) (p : Pointer) → Keeps P (load_integer kind t p)
-  keep_load_integer kind t p = keep_access kind p t.bytes _ (λ x. keep_done P _)
+  keep_load_integer = I.integer_loaded
 
   pub keep_load_pointer : (kind : Kind) (p : Pointer) → Keeps P (load_pointer kind p)
-  keep_load_pointer kind p = keep_access kind p 8 _ (λ x. keep_allowed _ _ (keep_done P _))
+  keep_load_pointer = I.pointer_loaded
 
   pub keep_address : (kind : Kind) (n m : ℕ) (t : TypeId) (p : Pointer) → Keeps P (address kind n m t p)
   keep_address kind n m t Null = keep_wrong P
@@ -195,8 +190,8 @@ module _ {P : State → Type 0} (I : IsInvariant P) where
   pub keep_subtracted : (w : Setting) (at : Place) (t : TypeId) (p : Pointer) (q : Used) → Keeps P (subtracted w at t p q)
   keep_subtracted w at t p q = search (acts, keep_difference)
 
-  keep_equated : (w : Setting) (at : Place) (null : Bool) (p q : Used) → Keeps P (equated w at null p q)
-  keep_equated w at null p q = search (acts, keep_done)
+  keep_equated : (w : Setting) (at : Place) (p q : Used) → Keeps P (equated w at p q)
+  keep_equated w at p q = search (acts, keep_done)
 
   keep_order : (operator : Operator) (p q : Pointer) → Keeps P (order_of operator p q)
   keep_order integer.Less p q = keep_is_before p q
@@ -205,10 +200,10 @@ module _ {P : State → Type 0} (I : IsInvariant P) where
   keep_order integer.GreaterOrEqual p q = keep_bind (keep_is_before p q) (λ before. keep_done P _)
   keep_order operator p q = keep_wrong P
 
-  pub keep_compared : (w : Setting) (at : Place) (operator : Operator) (null : Bool) (p q : Used) → Keeps P (compared w at operator null p q)
-  keep_compared w at integer.Equal null p q = keep_equated w at null p q
-  keep_compared w at integer.Different null p q = search (acts, keep_equated)
-  keep_compared w at operator null p q = search (acts, keep_order)
+  pub keep_compared : (w : Setting) (at : Place) (operator : Operator) (p q : Used) → Keeps P (compared w at operator p q)
+  keep_compared w at integer.Equal p q = keep_equated w at p q
+  keep_compared w at integer.Different p q = search (acts, keep_equated)
+  keep_compared w at operator p q = search (acts, keep_order)
 
   pub keep_converted : (w : Setting) (at : Place) (t u : TypeId) (p : Pointer) → Keeps P (converted_pointer w at t u p)
   keep_converted w at t u p = search (acts, keep_done)
@@ -216,14 +211,8 @@ module _ {P : State → Type 0} (I : IsInvariant P) where
   pub keep_member : (w : Setting) (at : Place) (kind : Kind) (t : TypeId) (i : ℕ) (node : NodeId) (u : TypeId) (p : Pointer) → Keeps P (member w at kind t i node u p)
   keep_member w at kind t i node u p = search (acts, keep_address)
 
-  pub keep_decayed : (w : Setting) (check : Bool) (node : NodeId) (array element : TypeId) (l : Located) → Keeps P (decayed w check node array element l)
-  keep_decayed w check node array element l = search (acts, keep_address)
-
-  pub keep_read_at : (w : Setting) (t : TypeId) (l : Located) → Keeps P (read_at w t l)
-  keep_read_at w t l = keep_read w l.at l.kind (shape_at w.table t) l.pointer
-
-  pub keep_write_at : (w : Setting) (at : Place) (t : TypeId) (l : Located) (v : Value) → Keeps P (write_at w at t l v)
-  keep_write_at w at t l v = keep_then (keep_write w l.at at l.kind t l.pointer v) (keep_done P v)
+  pub keep_decayed : (w : Setting) (at : Place) (kind : Kind) (array : TypeId) (check : Bool) (node : NodeId) (element : TypeId) (p : Pointer) → Keeps P (decayed w at kind array check node element p)
+  keep_decayed w at kind array check node element p = search (acts, keep_address)
 
   -- Calls
 
@@ -275,9 +264,8 @@ module _ {P : State → Type 0} (I : IsInvariant P) where
 
   pub keep_free : (vs : List Value) → Keeps P (free vs)
   keep_free [] = keep_wrong P
-  keep_free (Address p ∷ []) = search (acts)
-  keep_free (Address p ∷ v ∷ vs) = keep_wrong P
-  keep_free (Integer z ∷ vs) = keep_wrong P
+  keep_free (v ∷ []) = search (acts)
+  keep_free (v ∷ u ∷ vs) = keep_wrong P
 
   pub keep_getchar : (vs : List Value) → Keeps P (getchar vs)
   keep_getchar [] = search (acts, I.read)

@@ -1,6 +1,7 @@
 pub mod Lists
 pub mod Whole
 pub mod Accesses
+pub mod Outlines
 pub mod Spots
 pub mod Right
 pub mod NotWrong
@@ -8,5 +9,9 @@ pub mod OperationsRight
 pub mod CopiesRight
 pub mod PointersCopied
 pub mod Keeping
+pub mod KeepingValues
+pub mod KeepingRuns
 pub mod Invariants
 pub mod CallsRight
+pub mod AddressesRight
+pub mod RuntimeRight

@@ -4,8 +4,11 @@ pub mod State
 pub mod Checks
 pub mod Primitives
 pub mod Uses
+pub mod Outlines
 pub mod Facts
 pub mod Laws
 pub mod Runtime
 pub mod Operations
 pub mod Runs
+pub mod Values
+pub mod ValueLaws

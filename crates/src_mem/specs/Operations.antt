@@ -1,6 +1,5 @@
--- Operations on values with the conditions that come before them, by the types of their operands. The source's meaning and that of
--- three-address code share them.
-use Rattle.std.specs.Prelude.{ℕ, ℤ, pos, neg_ℤ, Bool, not}
+-- Operations on integers and pointers with the conditions that come before them, by the types of their operands.
+use Rattle.std.specs.Prelude.{ℕ, ℤ, pos, neg_ℤ, Bool, true, false, not}
 use Rattle.cc_base.specs.declared.place.Place.{Place}
 use Rattle.cc_base.specs.declared.number.NodeId.{NodeId}
 use Rattle.cc_base.specs.declared.number.TypeId.{TypeId}
@@ -17,7 +16,6 @@ use Rattle.src_mem.specs.Pointers.{Pointer, Null, Value, Integer, Address}
 use Rattle.src_mem.specs.State.{Act, Setting, wrong}
 use Rattle.src_mem.specs.Checks.{Used, CanDivide, Move, Subtract, Order, Equate, AddressMember, conditions_of, conditions_of_conversion, conditions_of_allocation, checked, all_checked}
 use Rattle.src_mem.specs.Primitives.{address, move, difference, is_before, are_equal, convert}
-use Rattle.src_mem.specs.Uses.{read, write}
 
 -- Types
 
@@ -79,10 +77,10 @@ calculate w at operator t x y =
 
 -- Pointers
 
--- how far a pointer moves: backwards where the integer is subtracted
-abbrev pub signed_by : Operator → ℤ → ℤ
-signed_by integer.Subtract n = neg_ℤ n
-signed_by operator n = n
+-- how far a pointer moves, by whether it goes backwards
+abbrev pub amount : Bool → ℤ → ℤ
+amount true n = neg_ℤ n
+amount false n = n
 
 -- a pointer of type t moves by n elements (C99 6.5.6)
 abbrev pub moved : Setting → Place → TypeId → ℤ → Pointer → Act Pointer
@@ -96,10 +94,10 @@ subtracted w at t p q = do
   all_checked w at (conditions_of (Subtract (pointee_size w t) q) (kind_in w t) p)
   difference (pointee_size w t) p q.pointer
 
--- two pointers are equal (C99 6.5.9); with a null constant nothing is checked
-abbrev pub equated : Setting → Place → Bool → Used → Used → Act Bool
-equated w at null p q = do
-  either null (done tt) (all_checked w at (conditions_of (Equate q) p.kind p.pointer))
+-- two pointers are equal (C99 6.5.9)
+abbrev pub equated : Setting → Place → Used → Used → Act Bool
+equated w at p q = do
+  all_checked w at (conditions_of (Equate q) p.kind p.pointer)
   are_equal p.pointer q.pointer
 
 -- `<`, `>`, `<=` and `>=` of two pointers (C99 6.5.8)
@@ -111,10 +109,10 @@ order_of integer.GreaterOrEqual p q = is_before p q >>= (λ before. done (not be
 order_of operator p q = wrong
 
 -- two pointers are compared, with the kinds by which they are used
-abbrev pub compared : Setting → Place → Operator → Bool → Used → Used → Act Bool
-compared w at integer.Equal null p q = equated w at null p q
-compared w at integer.Different null p q = equated w at null p q >>= (λ equal. done (not equal))
-compared w at operator null p q = do
+abbrev pub compared : Setting → Place → Operator → Used → Used → Act Bool
+compared w at integer.Equal p q = equated w at p q
+compared w at integer.Different p q = equated w at p q >>= (λ equal. done (not equal))
+compared w at operator p q = do
   all_checked w at (conditions_of (Order q) p.kind p.pointer)
   order_of operator p.pointer q.pointer
 
@@ -136,31 +134,17 @@ converted_pointer w at t u p =
 abbrev pub allocated_for : Setting → Place → NodeId → TypeId → Pointer → Act (Unit {0})
 allocated_for w at node t p = all_checked w at (conditions_of_allocation (w.kind node) (size w t) p)
 
--- Places
+-- Addresses of parts
 
--- Where a place is: the pointer to it, the kind by which it is used, and where its checks stand.
-pub record Located : Type 0 where
-  pub kind : Kind
-  pub pointer : Pointer
-  pub at : Place
-
--- the place of member number i, of type u and with this node, of a struct or union of type t at p, which is used by this kind (C99 6.5.2.3)
-abbrev pub member : Setting → Place → Kind → TypeId → ℕ → NodeId → TypeId → Pointer → Act Located
+-- the address, with this node, of member number i, of type u, of a struct or union of type t at p, which is used by this kind (C99 6.5.2.3)
+abbrev pub member : Setting → Place → Kind → TypeId → ℕ → NodeId → TypeId → Pointer → Act Pointer
 member w at kind t i node u p = do
   all_checked w at (conditions_of (AddressMember (offset_of w.table t i) (size w t)) kind p)
-  q ← address (w.kind node) (offset_of w.table t i) (size w u) u p
-  done (record { kind = w.kind node; pointer = q; at = at })
+  address (w.kind node) (offset_of w.table t i) (size w u) u p
 
--- the address, with this node, of an array's first element (C99 6.3.2.1); whether the array's own address is checked before
-abbrev pub decayed : Setting → Bool → NodeId → TypeId → TypeId → Located → Act Pointer
-decayed w check node array element l = do
-  either check (all_checked w l.at (conditions_of (AddressMember 0 (size w array)) l.kind l.pointer)) (done tt)
-  address (w.kind node) 0 (size w array) element l.pointer
-
--- the value of a scalar place of type t
-abbrev pub read_at : Setting → TypeId → Located → Act Value
-read_at w t l = read w l.at l.kind t l.pointer
-
--- a value is written to a place of type t by an assignment at `at`, and is the result
-abbrev pub write_at : Setting → Place → TypeId → Located → Value → Act Value
-write_at w at t l v = write w l.at at l.kind t l.pointer v >> done v
+-- the address, with this node, of the first element of an array at p, which is used by this kind (C99 6.3.2.1); whether the array's own
+-- address is checked before
+abbrev pub decayed : Setting → Place → Kind → TypeId → Bool → NodeId → TypeId → Pointer → Act Pointer
+decayed w at kind array check node element p = do
+  either check (all_checked w at (conditions_of (AddressMember 0 (size w array)) kind p)) (done tt)
+  address (w.kind node) 0 (size w array) element p

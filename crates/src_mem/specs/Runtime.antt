@@ -18,9 +18,9 @@ abbrev pub calloc : Setting → NodeId → TypeId → List Value → Act Value
 calloc w node t (Integer a ∷ Integer b ∷ []) = allocate_elements w node t (word a) (word b) >>= (λ p. done (Address p))
 calloc w node t arguments = wrong
 
--- nothing is reclaimed
+-- nothing is reclaimed; a null constant may still be an integer
 abbrev pub free : List Value → Act Value
-free (Address p ∷ []) = done (Integer (pos 0))
+free (v ∷ []) = done (Integer (pos 0))
 free arguments = wrong
 
 abbrev pub getchar : List Value → Act Value

@@ -10,4 +10,5 @@ pub mod CopiesRight
 pub mod PointersCopied
 pub mod Keeping
 pub mod Invariants
+pub mod AccessesLie
 pub mod CallsRight

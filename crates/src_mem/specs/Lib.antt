@@ -10,4 +10,6 @@ pub mod Laws
 pub mod Runtime
 pub mod Operations
 pub mod Runs
+pub mod Rows
+pub mod Small
 pub mod Values

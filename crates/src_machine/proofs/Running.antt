@@ -1,17 +1,14 @@
 -- What every operation on memory leaves true, a whole run leaves true.
-use Rattle.std.proofs.Common.{ℕ, zero, suc, pos, Bool, true, ◌||◌, List, [], ◌∷◌, Option, None, Some}
+use Rattle.std.proofs.Common.{ℕ, zero, suc, ◌+◌, pos, nat_le, Bool, true, false, List, [], ◌∷◌, Option, None, Some}
 use Rattle.cc_base.specs.declared.place.Place.{Place}
 use Rattle.cc_base.specs.declared.number.NodeId.{NodeId}
 use Rattle.cc_base.specs.declared.number.TypeId.{TypeId}
-use Rattle.cc_base.specs.declared.kind.Kind.{Kind}
-use Rattle.c_types.specs.declared.shape.TypeShape.{TypeShape}
-use Rattle.c_types.specs.declared.shape.TypeShape.TheVariants as shape
 use Rattle.c_types.specs.Table.{shape_at}
 use Rattle.integers.specs.Arithmetic as integer
 use Rattle.integers.specs.Arithmetic.{Operator, converted, truth}
 use Rattle.runs.specs.Outcome.{done, ◌>>=◌, ◌>>◌}
-use Rattle.runs.specs.Control.{Control, Goes, Leaves, Gives, rounds, go_round}
-use Rattle.c_tree.specs.declared.operator.Binary.TheVariants as binary
+use Rattle.runs.specs.Control.{Control, Goes, Leaves, Gives, then_go, rounds, go_round}
+use Rattle.c_tree.specs.declared.operator.Binary.{Binary}
 use Rattle.c_tree.specs.declared.operator.Unary.{Unary}
 use Rattle.c_tree.specs.declared.operator.Unary.TheVariants as unary
 use Rattle.c_tree.specs.declared.typed_word.Conversion.{Conversion}
@@ -24,50 +21,50 @@ use Rattle.c_tree.specs.declared.typed_word.Side.{Side}
 use Rattle.c_tree.specs.declared.typed_word.Side.TheVariants as side
 use Rattle.c_tree.specs.TypedTree as typed
 use Rattle.c_tree.specs.TypedTree.{TypedExpr, TypedPlace, TypedArguments, TypedInitialiser, TypedItems, TypedInitDeclarators, TypedDeclaration, TypedStatement, TypedBlockItems}
-use Rattle.c_tree.specs.TypedParts.{item_place, home_of, declared_type, type_of, place_type, named_type, is_null}
+use Rattle.c_tree.specs.TypedParts.{place_at, item_place, home_of, declared_type, type_of, place_type, named_type, is_null}
 use Rattle.runtime_calls.specs.Meanings.{call_runtime, call_allocation}
-use Rattle.src_mem.specs.Pointers.{Pointer, Value, Integer, Address, is_true}
+use Rattle.src_mem.specs.Pointers.{Value, Integer, is_true}
 use Rattle.src_mem.specs.State.{State, Act, Setting, Turns, turn}
-use Rattle.src_mem.specs.Uses.{forward}
-use Rattle.src_mem.specs.Operations.{Located, pointee, size, integer_in, kind_in, node_in}
+use Rattle.src_mem.specs.Operations.{pointee, integer_in, node_in}
 use Rattle.src_mem.specs.Laws.{Keeps, IsInvariant}
-use Rattle.src_mem.proofs.Keeping.{acts, keep_integer, keep_pointer, keep_done, keep_ends, keep_chosen, keep_wrong, keep_bind, keep_then, keep_either, keep_given, keep_address, keep_integer_from, keep_called, keep_copy, keep_calculate, keep_moved, keep_subtracted, keep_compared, keep_converted, keep_member, keep_decayed, keep_read_at, keep_write_at, keep_write, keep_malloc, keep_calloc, keep_free, keep_getchar, keep_putchar, keep_exits}
+use Rattle.src_mem.proofs.Keeping.{acts, keep_integer, keep_done, keep_ends, keep_chosen, keep_wrong, keep_bind, keep_then, keep_either, keep_given, keep_malloc, keep_calloc, keep_free, keep_getchar, keep_putchar, keep_exits}
+use Rattle.src_mem.proofs.KeepingValues.{keep_calculated, keep_calculated_alone, keep_converted_integer, keep_pointer_from_integer, keep_integer_from_pointer, keep_pointer_value, keep_moved_value, keep_difference_value, keep_compared_value, keep_null_value, keep_member_value, keep_decayed_value, keep_addressed, keep_loaded, keep_stored, keep_copied, keep_allocated, keep_called_value, keep_returned}
 use Rattle.src_machine.specs.World.{World, object_of}
-use Rattle.src_machine.specs.Statements.{Flow, Normal, Breaks, Continues, Returns, Progress, Looks, Runs, Label, store_text, initialise, initialise_items, element_of_shape, part_of, clears, initialise_object, initialise_declared, declare_all, declare, loop, flow_of_loop, condition, effect, round_of, then_round, while_loop, again, do_loop, then_do, then_run, chosen, returned, exec, exec_items, exec_from}
-use Rattle.src_machine.specs.Expressions.{is_through_pointer, operator_of, operator_of_step, operator_of_assignment, eval, eval_all, locate, locate_object, updated_shape, updated, prefixed, converted_value, call_function, allocate_for, moved_by_side}
+use Rattle.src_machine.specs.Statements.{Flow, Normal, Breaks, Continues, Returns, Whole, part, store_text, initialise, initialise_items, element_of_shape, clears, initialise_object, initialise_declared, declare_all, declare, loop, flow_of_loop, condition, effect, round_of, while_loop, again, do_loop, then_do, labels, chosen, runs_from, exec, exec_items, exec_piece, exec_before}
+use Rattle.src_machine.specs.Expressions.{is_through_pointer, is_subtract, is_pointer_in, same_type, is_different, is_or, operator_of, operator_of_step, operator_of_assignment, eval, eval_all, stands, locate, locate_object, converted_unless, updated_where, updated, prefixed, converted_value, moved_by_side, compared_with, logical}
 
 module _ {P : State → Type 0} (I : IsInvariant P) where
-  keep_updated_shape : (w : World) (at : Place) (operator : Operator) (s : TypeShape) (t u : TypeId) (old v : Value) → Keeps P (updated_shape w at operator s t u old v)
-  keep_updated_shape w at operator (shape.Pointer n to) t u old v = search (acts, keep_moved I)
-  keep_updated_shape w at operator (shape.Integer b s) t u old v = search (acts, keep_calculate I)
-  keep_updated_shape w at operator shape.Void t u old v = search (acts, keep_calculate I)
-  keep_updated_shape w at operator (shape.Array a n) t u old v = search (acts, keep_calculate I)
-  keep_updated_shape w at operator (shape.Function ps r) t u old v = search (acts, keep_calculate I)
-  keep_updated_shape w at operator (shape.Struct n) t u old v = search (acts, keep_calculate I)
-  keep_updated_shape w at operator (shape.Union n) t u old v = search (acts, keep_calculate I)
+  keep_unless : (b : Bool) (w : World) (u : TypeId) (v : Value) → Keeps P (converted_unless b w u v)
+  keep_unless true w u v = keep_done P v
+  keep_unless false w u v = keep_converted_integer I w.setting u v
+
+  keep_updated_where : (b : Bool) (w : World) (at : Place) (operator : Operator) (t u : TypeId) (old v : Value) → Keeps P (updated_where b w at operator t u old v)
+  keep_updated_where true w at operator t u old v = keep_moved_value I w.setting at (is_subtract operator) t old v
+  keep_updated_where false w at operator t u old v =
+      keep_bind (keep_unless (same_type t u) w u old) (λ x. keep_bind (keep_calculated I w.setting at operator u x v) (λ z. keep_unless (same_type t u) w t z))
 
   keep_updated : (w : World) (at : Place) (operator : Operator) (t u : TypeId) (old v : Value) → Keeps P (updated w at operator t u old v)
-  keep_updated w at operator t u old v = keep_updated_shape w at operator (shape_at w.setting.table t) t u old v
+  keep_updated w at operator t u old v = keep_updated_where (is_pointer_in w t) w at operator t u old v
 
   keep_prefixed : (w : World) (operator : Unary) (t : TypeId) (v : Value) → Keeps P (prefixed w operator t v)
-  keep_prefixed w unary.Plus t v = search (acts)
-  keep_prefixed w unary.Minus t v = search (acts)
-  keep_prefixed w unary.Complement t v = search (acts)
-  keep_prefixed w unary.Not t v = search (acts)
-  keep_prefixed w unary.Increment t v = search (acts)
-  keep_prefixed w unary.Decrement t v = search (acts)
-  keep_prefixed w unary.AddressOf t v = search (acts)
-  keep_prefixed w unary.Dereference t v = search (acts)
-  keep_prefixed w unary.SizeOf t v = search (acts)
+  keep_prefixed w unary.Plus t v = keep_done P v
+  keep_prefixed w unary.Minus t v = keep_calculated_alone I w.setting integer.Negate t v
+  keep_prefixed w unary.Complement t v = keep_calculated_alone I w.setting integer.Complement t v
+  keep_prefixed w unary.Not t v = keep_done P _
+  keep_prefixed w unary.Increment t v = keep_wrong P
+  keep_prefixed w unary.Decrement t v = keep_wrong P
+  keep_prefixed w unary.AddressOf t v = keep_wrong P
+  keep_prefixed w unary.Dereference t v = keep_wrong P
+  keep_prefixed w unary.SizeOf t v = keep_wrong P
 
   keep_value : (w : World) (which : Conversion) (at : Place) (t u : TypeId) (v : Value) → Keeps P (converted_value w which at t u v)
-  keep_value w conversion.IntegerToInteger at t u v = search (acts)
-  keep_value w conversion.IntegerToPointer at t u v = search (acts)
-  keep_value w conversion.PointerToInteger at t u v = search (acts, keep_integer_from I)
-  keep_value w conversion.PointerToPointer at t u v = search (acts, keep_converted I)
-  keep_value w conversion.NullToPointer at t u v = search (acts)
-  keep_value w conversion.AllocationToPointer at t u v = search (acts)
-  keep_value w conversion.ToVoid at t u v = search (acts)
+  keep_value w conversion.IntegerToInteger at t u v = keep_converted_integer I w.setting u v
+  keep_value w conversion.IntegerToPointer at t u v = keep_pointer_from_integer I v
+  keep_value w conversion.PointerToInteger at t u v = keep_integer_from_pointer I w.setting t u v
+  keep_value w conversion.PointerToPointer at t u v = keep_pointer_value I w.setting at t u v
+  keep_value w conversion.NullToPointer at t u v = keep_done P _
+  keep_value w conversion.AllocationToPointer at t u v = keep_done P v
+  keep_value w conversion.ToVoid at t u v = keep_done P v
 
   keep_runtime : (function : Runtime) (vs : List Value) → Keeps P (call_runtime function vs)
   keep_runtime runtime.Malloc vs = keep_wrong P
@@ -85,20 +82,27 @@ module _ {P : State → Type 0} (I : IsInvariant P) where
   keep_allocation w node t runtime.Putchar vs = keep_wrong P
   keep_allocation w node t runtime.Exit vs = keep_wrong P
 
-  keep_allocate : (w : World) (at : Place) (function : Runtime) (node : NodeId) (t : TypeId) (vs : List Value) → Keeps P (allocate_for w at function node t vs)
-  keep_allocate w at function node t vs = search (acts, keep_allocation)
+  keep_side : (w : World) (at : Place) (which : Side) (backwards : Bool) (t u : TypeId) (a b : Value) → Keeps P (moved_by_side w at which backwards t u a b)
+  keep_side w at side.Left backwards t u a b = keep_moved_value I w.setting at backwards t a b
+  keep_side w at side.Right backwards t u a b = keep_moved_value I w.setting at backwards u b a
 
-  keep_side : (w : World) (at : Place) (which : Side) (operator : Operator) (t u : TypeId) (a b : Value) → Keeps P (moved_by_side w at which operator t u a b)
-  keep_side w at side.Left operator t u a b = search (acts, keep_moved I)
-  keep_side w at side.Right operator t u a b = search (acts, keep_moved I)
+  keep_compared_with : (a_null b_null : Bool) (w : World) (at : Place) (operator : Binary) (t u : TypeId) (v x : Value) → Keeps P (compared_with a_null b_null w at operator t u v x)
+  keep_compared_with true b_null w at operator t u v x = keep_null_value I (is_different operator) x
+  keep_compared_with false true w at operator t u v x = keep_null_value I (is_different operator) v
+  keep_compared_with false false w at operator t u v x = keep_compared_value I w.setting at (operator_of operator) t u v x
 
-  keep_object : (w : World) (node : NodeId) (t : TypeId) (at : Place) → Keeps P (locate_object w node t at)
-  keep_object w node t at = search (acts)
+  keep_logical : (is_or is_left : Bool) (right : Act Value) → Keeps P right → Keeps P (logical is_or is_left right)
+  keep_logical true is_left right k = keep_either is_left (keep_done P _) k
+  keep_logical false is_left right k = keep_either is_left k (keep_done P _)
+
+  keep_object : (w : World) (node : NodeId) (t : TypeId) → Keeps P (locate_object w node t)
+  keep_object w node t = keep_given (object_of w node) (λ number. keep_done P _)
+
+  -- a place at the address that an act gives
+  keep_stands : (node : NodeId) (m : Act Value) → Keeps P m → Keeps P (m >>= stands node)
+  keep_stands node m k = keep_bind k (λ a. keep_done P _)
 
   module _ (w : World) (kc : (f depth : ℕ) (vs : List Value) → Keeps P (w.call f depth vs)) where
-    keep_call_function : (at : Place) (kind : Kind) (t : TypeId) (p : Pointer) (vs : List Value) → Keeps P (call_function w at kind t p vs)
-    keep_call_function at kind t p vs = search (acts, keep_called I, kc)
-
     mutual
       pub keep_eval : (e : TypedExpr) → Keeps P (eval e w)
       keep_eval (typed.Integer of n at t) = keep_done P _
@@ -108,17 +112,17 @@ module _ {P : State → Type 0} (I : IsInvariant P) where
       keep_eval (typed.RuntimeName name function t) = keep_wrong P
       keep_eval (typed.Paren at e) = keep_eval e
       keep_eval (typed.Read p) =
-          keep_bind (keep_locate p) (λ l. keep_read_at I w.setting (place_type p) l)
-      keep_eval (typed.Unread p) = search (acts, keep_locate p)
+          keep_bind (keep_locate p) (λ l. keep_loaded I w.setting (place_at p) l.node (place_type p) l.address)
+      keep_eval (typed.Unread p) = keep_bind (keep_locate p) (λ l. keep_done P _)
       keep_eval (typed.Decay p node t) =
-          keep_bind (keep_locate p) (λ l. keep_bind (keep_decayed I w.setting (is_through_pointer p) node (place_type p) (pointee w.setting t) l) (λ q. keep_done P (Address q)))
+          keep_bind (keep_locate p) (λ l. keep_decayed_value I w.setting (place_at p) l.node (place_type p) (is_through_pointer p) node (pointee w.setting t) l.address)
       keep_eval (typed.Convert which at t e) =
           keep_bind (keep_eval e) (λ v. keep_value w which at (type_of e) t v)
       keep_eval (typed.Cast which at name e) =
           keep_bind (keep_eval e) (λ v. keep_value w which at (type_of e) (named_type name) v)
       keep_eval (typed.AddressOf at p node t) =
-          keep_bind (keep_locate p) (λ l. keep_bind (keep_address I (w.setting.kind node) 0 (size w.setting (place_type p)) (place_type p) l.pointer) (λ q. keep_done P (Address q)))
-      keep_eval (typed.AddressOfElement at p t) = search (acts, keep_locate p)
+          keep_bind (keep_locate p) (λ l. keep_addressed I w.setting node (place_type p) l.address)
+      keep_eval (typed.AddressOfElement at p t) = keep_bind (keep_locate p) (λ l. keep_done P _)
       keep_eval (typed.AddressOfFunction at e) = keep_eval e
       keep_eval (typed.FunctionAt at e) = keep_eval e
       keep_eval (typed.Prefix operator at e t) =
@@ -127,25 +131,23 @@ module _ {P : State → Type 0} (I : IsInvariant P) where
       keep_eval (typed.SizeOfValue at e n t) = keep_done P _
       keep_eval (typed.SizeOfType at paren name n t) = keep_done P _
       keep_eval (typed.StepBefore which at p) =
-          keep_bind (keep_locate p) (λ l. keep_bind (keep_read_at I w.setting (place_type p) l)
+          keep_bind (keep_locate p) (λ l. keep_bind (keep_loaded I w.setting (place_at p) l.node (place_type p) l.address)
           (λ old. keep_bind (keep_updated w at (operator_of_step which) (place_type p) (place_type p) old (Integer (pos 1)))
-          (λ new. keep_write_at I w.setting at (place_type p) l new)))
+          (λ new. keep_then (keep_stored I w.setting (place_at p) at l.node (place_type p) l.address new) (keep_done P new))))
       keep_eval (typed.StepAfter p which at) =
-          keep_bind (keep_locate p) (λ l. keep_bind (keep_read_at I w.setting (place_type p) l)
+          keep_bind (keep_locate p) (λ l. keep_bind (keep_loaded I w.setting (place_at p) l.node (place_type p) l.address)
           (λ old. keep_bind (keep_updated w at (operator_of_step which) (place_type p) (place_type p) old (Integer (pos 1)))
-          (λ new. keep_then (keep_write_at I w.setting at (place_type p) l new) (keep_done P old))))
+          (λ new. keep_then (keep_stored I w.setting (place_at p) at l.node (place_type p) l.address new) (keep_done P old))))
       keep_eval (typed.Arithmetic operator a at b t) =
-          keep_bind (keep_eval a) (λ v. keep_bind (keep_eval b) (λ u. keep_bind (keep_integer P v) (λ x. keep_bind (keep_integer P u) (λ y. keep_bind (keep_calculate I w.setting at (operator_of operator) (integer_in w.setting (type_of a)) x y) (λ z. keep_done P (Integer z))))))
+          keep_bind (keep_eval a) (λ v. keep_bind (keep_eval b) (λ u. keep_calculated I w.setting at (operator_of operator) (type_of a) v u))
       keep_eval (typed.Moved operator which a at b t) =
-          keep_bind (keep_eval a) (λ v. keep_bind (keep_eval b) (λ u. keep_bind (keep_side w at which (operator_of operator) (type_of a) (type_of b) v u) (λ p. keep_done P (Address p))))
+          keep_bind (keep_eval a) (λ v. keep_bind (keep_eval b) (λ u. keep_side w at which (is_subtract (operator_of operator)) (type_of a) (type_of b) v u))
       keep_eval (typed.Difference a at b t) =
-          keep_bind (keep_eval a) (λ v. keep_bind (keep_eval b) (λ u. keep_bind (keep_pointer P v) (λ p. keep_bind (keep_pointer P u) (λ q. keep_bind (keep_subtracted I w.setting at (type_of a) p (record { kind = kind_in w.setting (type_of b); pointer = q })) (λ n. keep_done P (Integer n))))))
+          keep_bind (keep_eval a) (λ v. keep_bind (keep_eval b) (λ u. keep_difference_value I w.setting at (type_of a) (type_of b) v u))
       keep_eval (typed.Compared operator a at b t) =
-          keep_bind (keep_eval a) (λ v. keep_bind (keep_eval b) (λ u. keep_bind (keep_pointer P v) (λ p. keep_bind (keep_pointer P u) (λ q. keep_bind (keep_compared I w.setting at (operator_of operator) (is_null a || is_null b) (record { kind = kind_in w.setting (type_of a); pointer = p }) (record { kind = kind_in w.setting (type_of b); pointer = q })) (λ result. keep_done P _)))))
-      keep_eval (typed.Logical binary.LogicalOr a at b t) =
-          keep_bind (keep_eval a) (λ v. keep_either (is_true v) (keep_done P (Integer (pos 1))) (keep_bind (keep_eval b) (λ u. keep_done P (Integer (truth (is_true u))))))
+          keep_bind (keep_eval a) (λ v. keep_bind (keep_eval b) (λ u. keep_compared_with (is_null a) (is_null b) w at operator (type_of a) (type_of b) v u))
       keep_eval (typed.Logical operator a at b t) =
-          keep_bind (keep_eval a) (λ v. keep_either (is_true v) (keep_bind (keep_eval b) (λ u. keep_done P (Integer (truth (is_true u))))) (keep_done P (Integer (pos 0))))
+          keep_bind (keep_eval a) (λ v. keep_logical (is_or operator) (is_true v) _ (keep_bind (keep_eval b) (λ u. keep_done P (Integer (truth (is_true u))))))
       keep_eval (typed.Conditional c at a b t) =
           keep_bind (keep_eval c) (λ v. keep_either (is_true v) (keep_eval a) (keep_eval b))
       keep_eval (typed.PointerConditional c at a b node t) =
@@ -153,37 +155,40 @@ module _ {P : State → Type 0} (I : IsInvariant P) where
       keep_eval (typed.Comma a b) =
           keep_then (keep_eval a) (keep_eval b)
       keep_eval (typed.Assign p at e) =
-          keep_bind (keep_locate p) (λ l. keep_bind (keep_eval e) (λ v. keep_write_at I w.setting at (place_type p) l v))
+          keep_bind (keep_locate p) (λ l. keep_bind (keep_eval e)
+          (λ v. keep_then (keep_stored I w.setting (place_at p) at l.node (place_type p) l.address v) (keep_done P v)))
       keep_eval (typed.AssignWith operator p at e t) =
-          keep_bind (keep_locate p) (λ l. keep_bind (keep_eval e) (λ v. keep_bind (keep_read_at I w.setting (place_type p) l)
+          keep_bind (keep_locate p) (λ l. keep_bind (keep_eval e) (λ v. keep_bind (keep_loaded I w.setting (place_at p) l.node (place_type p) l.address)
           (λ old. keep_bind (keep_updated w at (operator_of_assignment operator) (place_type p) t old v)
-          (λ new. keep_write_at I w.setting at (place_type p) l new))))
+          (λ new. keep_then (keep_stored I w.setting (place_at p) at l.node (place_type p) l.address new) (keep_done P new)))))
       keep_eval (typed.Call f at arguments t) =
-          keep_bind (keep_eval f) (λ v. keep_bind (keep_eval_all arguments) (λ vs. keep_bind (keep_pointer P v) (λ p. keep_call_function at (kind_in w.setting (type_of f)) (pointee w.setting (type_of f)) p vs)))
+          keep_bind (keep_eval f) (λ v. keep_bind (keep_eval_all arguments) (λ vs. keep_called_value I w.setting w.call kc w.frame.depth at (type_of f) v vs))
       keep_eval (typed.CallRuntime function f at arguments t) =
           keep_bind (keep_eval_all arguments) (λ vs. keep_runtime function vs)
       keep_eval (typed.Allocate function f at arguments node t) =
-          keep_bind (keep_eval_all arguments) (λ vs. keep_allocate w at function node (pointee w.setting t) vs)
+          keep_bind (keep_eval_all arguments) (λ vs. keep_allocated I w.setting at node (pointee w.setting t) _ (keep_allocation w.setting node (pointee w.setting t) function vs))
       keep_eval (typed.AllocateFor function f at arguments t) =
-          keep_bind (keep_eval_all arguments) (λ vs. keep_allocate w at function (node_in w.setting t) (pointee w.setting t) vs)
+          keep_bind (keep_eval_all arguments) (λ vs. keep_allocated I w.setting at (node_in w.setting t) (pointee w.setting t) _
+          (keep_allocation w.setting (node_in w.setting t) (pointee w.setting t) function vs))
 
       pub keep_eval_all : (es : TypedArguments) → Keeps P (eval_all es w)
       keep_eval_all typed.NoArgument = keep_done P []
       keep_eval_all (typed.AndArgument all e) = search (acts, keep_eval_all all, keep_eval e)
 
       pub keep_locate : (p : TypedPlace) → Keeps P (locate p w)
-      keep_locate (typed.Variable name node t) = keep_object w node t name.place
-      keep_locate (typed.String pieces node t) = keep_object w node t _
+      keep_locate (typed.Variable name node t) = keep_stands node _ (keep_object w node t)
+      keep_locate (typed.String pieces node t) = keep_stands node _ (keep_object w node t)
       keep_locate (typed.ParenPlace at p) = keep_locate p
-      keep_locate (typed.Target at e t) = keep_bind (keep_eval e) (λ v. keep_bind (keep_pointer P v) (λ p. keep_done P _))
+      keep_locate (typed.Target at e t) = keep_stands _ _ (keep_eval e)
       keep_locate (typed.Element which a at b t) =
-          keep_bind (keep_eval a) (λ v. keep_bind (keep_eval b) (λ u. keep_bind (keep_side w at which integer.Add (type_of a) (type_of b) v u) (λ p. keep_done P _)))
+          keep_stands _ _ (keep_bind (keep_eval a) (λ v. keep_bind (keep_eval b) (λ u. keep_side w at which false (type_of a) (type_of b) v u)))
       keep_locate (typed.Member p at name i node t) =
-          keep_bind (keep_locate p) (λ l. keep_member I w.setting at l.kind (place_type p) i node t l.pointer)
+          keep_stands node _ (keep_bind (keep_locate p) (λ l. keep_member_value I w.setting at l.node (place_type p) i node t l.address))
       keep_locate (typed.MemberAt e at name i node t) =
-          keep_bind (keep_eval e) (λ v. keep_bind (keep_pointer P v) (λ p. keep_member I w.setting at (kind_in w.setting (type_of e)) (pointee w.setting (type_of e)) i node t p))
+          keep_stands node _ (keep_bind (keep_eval e) (λ v. keep_member_value I w.setting at (node_in w.setting (type_of e)) (pointee w.setting (type_of e)) i node t v))
       keep_locate (typed.StructAssign p at q) =
-          keep_bind (keep_locate p) (λ l. keep_bind (keep_locate q) (λ r. keep_then (keep_copy I w.setting (place_type p) r.at r.kind r.pointer l.at l.kind l.pointer at) (keep_done P l)))
+          keep_bind (keep_locate p) (λ l. keep_stands l.node _ (keep_bind (keep_locate q)
+          (λ r. keep_then (keep_copied I w.setting (place_type p) (place_at q) r.node r.address (place_at p) l.node l.address at) (keep_done P l.address))))
       keep_locate (typed.StructConditional c at p q) =
           keep_bind (keep_eval c) (λ v. keep_either (is_true v) (keep_locate p) (keep_locate q))
       keep_locate (typed.StructComma e p) =
@@ -191,25 +196,26 @@ module _ {P : State → Type 0} (I : IsInvariant P) where
 
     -- Initialisers
 
-    keep_text : (at : Place) (char : TypeId) (bytes : List ℕ) (l : Located) → Keeps P (store_text w at char bytes l)
-    keep_text at char [] l = keep_done P tt
-    keep_text at char (b ∷ bytes) l =
-        keep_then (keep_write I w.setting at at l.kind char l.pointer (Integer (converted (integer_in w.setting char) (pos b)))) (keep_text at char bytes (record l { pointer = forward 1 l.pointer }))
+    keep_text : (at : Place) (char : TypeId) (bytes : List ℕ) (base : ℕ) (o : Whole) → Keeps P (store_text w at char bytes base o)
+    keep_text at char [] base o = keep_done P tt
+    keep_text at char (b ∷ bytes) base o =
+        keep_then (keep_stored I w.setting at at o.node char (part o base) (Integer (converted (integer_in w.setting char) (pos b)))) (keep_text at char bytes (base + 1) o)
 
     mutual
-      keep_initialise : (i : TypedInitialiser) (at : Place) (t : TypeId) (l : Located) → Keeps P (initialise i at t l w)
-      keep_initialise (typed.Value e) at t l = keep_bind (keep_eval e) (λ v. keep_write I w.setting at at l.kind t l.pointer v)
-      keep_initialise (typed.Copied p place) at t l = keep_bind (keep_locate p) (λ r. keep_copy I w.setting t r.at r.kind r.pointer place l.kind l.pointer place)
-      keep_initialise (typed.Text pieces bytes) at t l = keep_text at (element_of_shape (shape_at w.setting.table t)) bytes l
-      keep_initialise (typed.Listed brace items comma u) at t l = keep_items items l
+      keep_initialise : (i : TypedInitialiser) (at : Place) (t : TypeId) (base : ℕ) (o : Whole) → Keeps P (initialise i at t base o w)
+      keep_initialise (typed.Value e) at t base o = keep_bind (keep_eval e) (λ v. keep_stored I w.setting at at o.node t (part o base) v)
+      keep_initialise (typed.Copied p place) at t base o =
+          keep_bind (keep_locate p) (λ r. keep_copied I w.setting t (place_at p) r.node r.address place o.node (part o base) place)
+      keep_initialise (typed.Text pieces bytes) at t base o = keep_text at (element_of_shape (shape_at w.setting.table t)) bytes base o
+      keep_initialise (typed.Listed brace items comma u) at t base o = keep_items items base o
 
-      keep_items : (items : TypedItems) (l : Located) → Keeps P (initialise_items items l w)
-      keep_items typed.NoItem l = keep_done P tt
-      keep_items (typed.AndItem all offset t i) l = keep_then (keep_items all l) (keep_initialise i (item_place i) t (part_of offset l))
+      keep_items : (items : TypedItems) (base : ℕ) (o : Whole) → Keeps P (initialise_items items base o w)
+      keep_items typed.NoItem base o = keep_done P tt
+      keep_items (typed.AndItem all offset t i) base o = keep_then (keep_items all base o) (keep_initialise i (item_place i) t (base + offset) o)
 
     pub keep_initialise_object : (node : NodeId) (t : TypeId) (at : Place) (i : TypedInitialiser) → Keeps P (initialise_object w node t at i)
     keep_initialise_object node t at i =
-        keep_bind (keep_object w node t at) (λ l. keep_then (keep_either (clears w i) (keep_given (object_of w node) (λ n. I.cleared n)) (keep_done P tt)) (keep_initialise i at t l))
+        keep_given (object_of w node) (λ number. keep_then (keep_either (clears w.setting.table i) (I.cleared number) (keep_done P tt)) (keep_initialise i at t 0 _))
 
     keep_declared : (h : Home) (t : TypeId) (at : Place) (i : TypedInitialiser) → Keeps P (initialise_declared w h t at i)
     keep_declared (home.Local n) t at i = keep_initialise_object n t at i
@@ -251,14 +257,14 @@ module _ {P : State → Type 0} (I : IsInvariant P) where
     keep_effect None = keep_done P tt
     keep_effect (Some e) = keep_then (keep_eval e) (keep_done P tt)
 
-    keep_round : (x : Control Value) (next : Act (Unit {0})) → Keeps P next → Keeps P (then_round x next)
-    keep_round Goes next k = keep_then k (keep_done P Goes)
-    keep_round (Leaves j) next k = keep_done P _
-    keep_round (Gives v) next k = keep_done P _
+    keep_go : (x : Control Value) (next : Act (Control Value)) → Keeps P next → Keeps P (then_go x next)
+    keep_go Goes next k = k
+    keep_go (Leaves j) next k = keep_done P _
+    keep_go (Gives v) next k = keep_done P _
 
     keep_while : (test : Act Bool) (body : Act Flow) (step : Act (Unit {0})) → Keeps P test → Keeps P body → Keeps P step → Keeps P (while_loop test body step)
     keep_while test body step kt kb ks =
-        keep_loop _ (keep_bind kt (λ go. keep_either go (keep_bind kb (λ flow. keep_round (round_of flow) step ks)) (keep_done P (Leaves 0))))
+        keep_loop _ (keep_bind kt (λ go. keep_either go (keep_bind kb (λ flow. keep_go (round_of flow) (step >> done Goes) (keep_then ks (keep_done P Goes)))) (keep_done P (Leaves 0))))
 
     keep_again : (test : Act Bool) (x : Control Value) → Keeps P test → Keeps P (again test x)
     keep_again test Goes kt = keep_bind kt (λ go. keep_either go (keep_done P Goes) (keep_done P (Leaves 0)))
@@ -276,16 +282,8 @@ module _ {P : State → Type 0} (I : IsInvariant P) where
     keep_flow Continues next k = keep_done P _
     keep_flow (Returns v) next k = keep_done P _
 
-    keep_run : (progress : Progress) (next : Act Flow) → Keeps P next → Keeps P (then_run progress next)
-    keep_run Looks next k = keep_done P _
-    keep_run (Runs Normal) next k = keep_bind k (λ flow. keep_done P _)
-    keep_run (Runs Breaks) next k = keep_done P _
-    keep_run (Runs Continues) next k = keep_done P _
-    keep_run (Runs (Returns v)) next k = keep_done P _
-
-    keep_returned : (at : Place) (t : TypeId) (v : Value) → Keeps P (returned w at t v)
-    keep_returned at t (Integer z) = keep_done P _
-    keep_returned at t (Address p) = search (acts)
+    keep_runs_from : (k j : ℕ) (piece : Act Flow) → Keeps P piece → Keeps P (runs_from k j piece)
+    keep_runs_from k j piece kp = keep_either (nat_le k j) kp (keep_done P Normal)
 
     mutual
       pub keep_exec : (s : TypedStatement) → Keeps P (exec s w)
@@ -295,7 +293,8 @@ module _ {P : State → Type 0} (I : IsInvariant P) where
       keep_exec (typed.If at paren c s) = keep_bind (keep_eval c) (λ v. keep_either (is_true v) (keep_exec s) (keep_done P Normal))
       keep_exec (typed.IfElse at paren c s r) = keep_bind (keep_eval c) (λ v. keep_either (is_true v) (keep_exec s) (keep_exec r))
       keep_exec (typed.Switch at paren e brace items) =
-          keep_bind (keep_eval e) (λ v. keep_bind (keep_integer P v) (λ z. keep_bind (keep_exec_from (chosen items z) items) (λ progress. keep_done P _)))
+          keep_bind (keep_eval e) (λ v. keep_bind (keep_integer P v) (λ z. keep_bind (keep_bind (keep_exec_before items (chosen items z))
+          (λ flow. keep_flow flow _ (keep_runs_from (chosen items z) (labels items) _ (keep_exec_piece items)))) (λ flow. keep_done P _)))
       keep_exec (typed.While at paren c s) = keep_while (condition (Some c) w) (exec s w) (done tt) (keep_condition (Some c)) (keep_exec s) (keep_done P tt)
       keep_exec (typed.DoWhile s at paren c) = keep_do (exec s w) (condition (Some c) w) (keep_exec s) (keep_condition (Some c))
       keep_exec (typed.For at paren first c step s) =
@@ -305,7 +304,7 @@ module _ {P : State → Type 0} (I : IsInvariant P) where
       keep_exec (typed.Break at) = keep_done P _
       keep_exec (typed.Continue at) = keep_done P _
       keep_exec (typed.Return at None) = keep_done P _
-      keep_exec (typed.Return at (Some e)) = keep_bind (keep_eval e) (λ v. keep_returned at (type_of e) v)
+      keep_exec (typed.Return at (Some e)) = keep_bind (keep_eval e) (λ v. keep_bind (keep_returned I w.setting w.frame.depth at (type_of e) v) (λ u. keep_done P _))
 
       pub keep_exec_items : (items : TypedBlockItems) → Keeps P (exec_items items w)
       keep_exec_items typed.NoBlockItem = keep_done P Normal
@@ -315,10 +314,19 @@ module _ {P : State → Type 0} (I : IsInvariant P) where
       keep_exec_items (typed.AndCase all at e z) = keep_exec_items all
       keep_exec_items (typed.AndDefault all at) = keep_exec_items all
 
-      keep_exec_from : (label : Label) (items : TypedBlockItems) → Keeps P (exec_from label items w)
-      keep_exec_from label typed.NoBlockItem = keep_done P Looks
-      keep_exec_from label (typed.AndStatement all s) = keep_bind (keep_exec_from label all) (λ progress. keep_run progress (exec s w) (keep_exec s))
-      keep_exec_from label (typed.AndDeclaration all d) =
-          keep_bind (keep_exec_from label all) (λ progress. keep_run progress (declare d w >> done Normal) (keep_then (keep_declare d) (keep_done P Normal)))
-      keep_exec_from label (typed.AndCase all at e z) = keep_bind (keep_exec_from label all) (λ progress. keep_done P _)
-      keep_exec_from label (typed.AndDefault all at) = keep_bind (keep_exec_from label all) (λ progress. keep_done P _)
+      keep_exec_piece : (items : TypedBlockItems) → Keeps P (exec_piece items w)
+      keep_exec_piece typed.NoBlockItem = keep_done P Normal
+      keep_exec_piece (typed.AndStatement all s) = keep_bind (keep_exec_piece all) (λ flow. keep_flow flow (exec s w) (keep_exec s))
+      keep_exec_piece (typed.AndDeclaration all d) =
+          keep_bind (keep_exec_piece all) (λ flow. keep_flow flow (declare d w >> done Normal) (keep_then (keep_declare d) (keep_done P Normal)))
+      keep_exec_piece (typed.AndCase all at e z) = keep_done P Normal
+      keep_exec_piece (typed.AndDefault all at) = keep_done P Normal
+
+      keep_exec_before : (items : TypedBlockItems) (k : ℕ) → Keeps P (exec_before items k w)
+      keep_exec_before typed.NoBlockItem k = keep_done P Normal
+      keep_exec_before (typed.AndStatement all s) k = keep_exec_before all k
+      keep_exec_before (typed.AndDeclaration all d) k = keep_exec_before all k
+      keep_exec_before (typed.AndCase all at e z) k =
+          keep_bind (keep_exec_before all k) (λ flow. keep_flow flow _ (keep_runs_from k (labels all) _ (keep_exec_piece all)))
+      keep_exec_before (typed.AndDefault all at) k =
+          keep_bind (keep_exec_before all k) (λ flow. keep_flow flow _ (keep_runs_from k (labels all) _ (keep_exec_piece all)))

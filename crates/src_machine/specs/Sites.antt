@@ -24,8 +24,9 @@ use Rattle.c_tree.specs.TypedTree as typed
 use Rattle.c_tree.specs.TypedTree.{TypedExpr, TypedPlace, TypedSpecifier, TypedDeclarator, TypedInitialiser, TypedItems, TypedTranslationUnit}
 use Rattle.c_tree.specs.TypedParts.{type_of, place_type, named_type, declared_type, pointer_side, address_node, home_of, name_of, statics_of, functions_of}
 use Rattle.src_mem.specs.Operations.{node_at, pointee_at}
+use Rattle.src_mem.specs.Runs.{variables_of}
 use Rattle.src_machine.specs.World.{same_node}
-use Rattle.src_machine.specs.Machine.{variables_of}
+use Rattle.src_machine.specs.Machine.{head_of}
 use Rattle.src_machine.specs.Pieces.{Piece, AnExpression, APlace, ASpecifier, ADeclarator, AnInitialiser, pieces_of_unit}
 
 -- the node of the address of a place
@@ -136,7 +137,7 @@ sites_of_piece table (AnInitialiser d i) = copies_to table (object_node (home_of
 -- the home of each static object, literal, named parameter and local variable
 abbrev pub sites_of_homes : TypedTranslationUnit → List Site
 sites_of_homes u = map (λ o. site.Home o.home o.type) (statics_of u)
-    ++ flat_map (λ f. map (λ v. site.Home v.node v.type) (variables_of f)) (functions_of u)
+    ++ flat_map (λ f. map (λ v. site.Home v.node v.type) (variables_of (head_of f))) (functions_of u)
 
 -- Declarations of one name
 

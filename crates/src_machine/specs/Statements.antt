@@ -1,29 +1,29 @@
 -- What initialisers, declarations and statements do (C99 6.7.8, 6.8).
-use Rattle.std.specs.Prelude.{ℕ, ℤ, pos, Bool, true, false, ◌||◌, List, [], ◌∷◌, Option, None, Some}
+use Rattle.std.specs.Prelude.{ℕ, suc, ◌+◌, ℤ, pos, Bool, true, false, List, [], ◌∷◌, Option, None, Some, nat_le, if◌then◌else◌}
 use Rattle.std.specs.Ordering.{int_eq}
 use Rattle.cc_base.specs.declared.place.Place.{Place}
 use Rattle.cc_base.specs.declared.number.NodeId.{NodeId}
 use Rattle.cc_base.specs.declared.number.TypeId.{TypeId}
 use Rattle.c_types.specs.declared.shape.TypeShape.{TypeShape}
 use Rattle.c_types.specs.declared.shape.TypeShape.TheVariants as shape
-use Rattle.c_types.specs.Table.{shape_at}
-use Rattle.runs.specs.Outcome.{done, either, ◌>>=◌, ◌>>◌}
-use Rattle.runs.specs.Control.{Control, Goes, Leaves, Gives, rounds}
+use Rattle.c_types.specs.Table.{Table, shape_at}
 use Rattle.c_tree.specs.declared.typed_word.Home.{Home}
 use Rattle.c_tree.specs.declared.typed_word.Home.TheVariants as home
+use Rattle.integers.specs.Arithmetic.{converted}
+use Rattle.src_mem.specs.Primitives.{clear}
+use Rattle.src_mem.specs.Uses as uses
+use Rattle.src_mem.specs.Uses.{forward}
+use Rattle.runs.specs.Outcome.{done, either, ◌>>=◌, ◌>>◌}
+use Rattle.runs.specs.Control.{Control, Goes, Leaves, Gives, then_go, rounds}
 use Rattle.c_tree.specs.TypedTree as typed
 use Rattle.c_tree.specs.TypedTree.{TypedExpr, TypedPlace, TypedInitialiser, TypedItems, TypedInitDeclarators, TypedDeclarator, TypedDeclaration, TypedStatement, TypedBlockItems}
-use Rattle.c_tree.specs.TypedParts.{item_place, type_of, declared_type, home_of}
-use Rattle.src_mem.specs.Pointers.{Value, Integer, Address, is_true}
+use Rattle.c_tree.specs.TypedParts.{type_of, place_at, item_place, declared_type, home_of}
+use Rattle.src_mem.specs.Pointers.{Pointer, Value, Integer, Address, is_true}
 use Rattle.src_mem.specs.State.{Act, Turns, given, as_integer, turn}
-use Rattle.src_mem.specs.Checks as checks
-use Rattle.src_mem.specs.Checks.{Condition, conditions_of, all_checked}
-use Rattle.src_mem.specs.Primitives.{clear}
-use Rattle.src_mem.specs.Uses.{write, copy_all, forward}
-use Rattle.integers.specs.Arithmetic.{converted}
-use Rattle.src_mem.specs.Operations.{Located, integer_in, kind_in}
+use Rattle.src_mem.specs.Operations.{integer_in}
+use Rattle.src_mem.specs.Values.{stored, copied, returned}
 use Rattle.src_machine.specs.World.{World, object_of}
-use Rattle.src_machine.specs.Expressions.{eval, locate, locate_object}
+use Rattle.src_machine.specs.Expressions.{eval, locate}
 
 -- Initialisers
 
@@ -35,53 +35,57 @@ is_aggregate_shape (shape.Struct tag) = true
 is_aggregate_shape (shape.Union tag) = true
 is_aggregate_shape other = false
 
-abbrev pub clears : World → TypedInitialiser → Bool
-clears w (typed.Value e) = false
-clears w (typed.Copied p at) = false
-clears w (typed.Text pieces bytes) = true
-clears w (typed.Listed brace items comma t) = is_aggregate_shape (shape_at w.setting.table t)
+abbrev pub clears : Table → TypedInitialiser → Bool
+clears table (typed.Value e) = false
+clears table (typed.Copied p at) = false
+clears table (typed.Text pieces bytes) = true
+clears table (typed.Listed brace items comma t) = is_aggregate_shape (shape_at table t)
 
 -- the element type of an array
 abbrev pub element_of_shape : TypeShape → TypeId
 element_of_shape (shape.Array element count) = element
 element_of_shape other = record { 0 = 0 }
 
--- the bytes are stored in the elements of an array, in order
-abbrev pub store_text : World → Place → TypeId → List ℕ → Located → Act (Unit {0})
-store_text w at char [] l = done tt
-store_text w at char (b ∷ bytes) l = do
-  write w.setting at at l.kind char l.pointer (Integer (converted (integer_in w.setting char) (pos b)))
-  store_text w at char bytes (record l { pointer = forward 1 l.pointer })
+-- an object that is initialised: its home, and the pointer to the whole of it
+pub record Whole : Type 0 where
+  pub node : NodeId
+  pub pointer : Pointer
 
--- the object, so many bytes further
-abbrev pub part_of : ℕ → Located → Located
-part_of offset l = record l { pointer = forward offset l.pointer }
+-- the address of its part from this byte on
+abbrev pub part : Whole → ℕ → Value
+part o base = Address (forward base o.pointer)
+
+-- the bytes are stored in the elements of an array, in order
+abbrev pub store_text : World → Place → TypeId → List ℕ → ℕ → Whole → Act (Unit {0})
+store_text w at char [] base o = done tt
+store_text w at char (b ∷ bytes) base o = do
+  stored w.setting at at o.node char (part o base) (Integer (converted (integer_in w.setting char) (pos b)))
+  store_text w at char bytes (base + 1) o
 
 abbrev mutual
-  -- what initialises the type t at a place of an object; `at` is the place of the `=`, and of an item that of its first token
-  pub initialise : TypedInitialiser → Place → TypeId → Located → World → Act (Unit {0})
-  initialise (typed.Value e) at t l w = do
+  -- what initialises the type t from byte `base` of an object on; `at` is the place of the `=`, and of an item that of its first token
+  pub initialise : TypedInitialiser → Place → TypeId → ℕ → Whole → World → Act (Unit {0})
+  initialise (typed.Value e) at t base o w = do
     v ← eval e w
-    write w.setting at at l.kind t l.pointer v
-  initialise (typed.Copied p place) at t l w = do
+    stored w.setting at at o.node t (part o base) v
+  initialise (typed.Copied p place) at t base o w = do
     r ← locate p w
-    copy_all w.setting t r.at r.kind r.pointer place l.kind l.pointer place
-  initialise (typed.Text pieces bytes) at t l w = store_text w at (element_of_shape (shape_at w.setting.table t)) bytes l
-  initialise (typed.Listed brace items comma u) at t l w = initialise_items items l w
+    copied w.setting t (place_at p) r.node r.address place o.node (part o base) place
+  initialise (typed.Text pieces bytes) at t base o w = store_text w at (element_of_shape (shape_at w.setting.table t)) bytes base o
+  initialise (typed.Listed brace items comma u) at t base o w = initialise_items items base o w
 
   -- the items of a list, in order
-  pub initialise_items : TypedItems → Located → World → Act (Unit {0})
-  initialise_items typed.NoItem l w = done tt
-  initialise_items (typed.AndItem all offset t i) l w = do
-    initialise_items all l w
-    initialise i (item_place i) t (part_of offset l) w
+  pub initialise_items : TypedItems → ℕ → Whole → World → Act (Unit {0})
+  initialise_items typed.NoItem base o w = done tt
+  initialise_items (typed.AndItem all offset t i) base o w = do
+    initialise_items all base o w
+    initialise i (item_place i) t (base + offset) o w
 
 -- the object with this home, of type t, is initialised; `at` is the place of the `=`
 abbrev pub initialise_object : World → NodeId → TypeId → Place → TypedInitialiser → Act (Unit {0})
-initialise_object w node t at i = do
-  l ← locate_object w node t at
-  either (clears w i) (given (object_of w node) clear) (done tt)
-  initialise i at t l w
+initialise_object w node t at i = given (object_of w node) (λ number. do
+  either (clears w.setting.table i) (clear number) (done tt)
+  initialise i at t 0 (record { node = node; pointer = uses.home w.setting.table number t }) w)
 
 -- Declarations. Objects that live as long as the program were initialised before `main`.
 
@@ -135,11 +139,6 @@ flow_of_switch flow = flow
 abbrev pub loop : Act (Control Value) → Act Flow
 loop round s = (rounds Turns s.turns (turn >> round) >>= (λ x. done (flow_of_loop x))) s
 
--- what follows a body whose round goes on
-abbrev pub then_round : Control Value → Act (Unit {0}) → Act (Control Value)
-then_round Goes next = next >> done Goes
-then_round x next = done x
-
 -- the condition of a loop; where there is none it is true
 abbrev pub condition : Option TypedExpr → World → Act Bool
 condition None w = done true
@@ -156,7 +155,7 @@ while_loop test body step = loop (do
   go ← test
   either go (do
     flow ← body
-    then_round (round_of flow) step) (done (Leaves 0)))
+    then_go (round_of flow) (step >> done Goes)) (done (Leaves 0)))
 
 -- where the body of a `do` goes on, its condition decides
 abbrev pub again : Act Bool → Control Value → Act (Control Value)
@@ -171,68 +170,44 @@ do_loop body test = loop (do
   flow ← body
   again test (round_of flow))
 
--- A `switch` begins behind the `case` of its value, else behind its `default`, else nowhere.
-pub data Label : Type 0 where
-  Case : ℤ → Label
-  Default : Label
-  NoLabel : Label
+-- The labels of a `switch` are numbered from 1 in the order of the text. They cut its block into pieces: piece j stands behind label j, up to
+-- the next, and piece 0 before the first.
 
--- whether a block has the label `case z`, and whether it has `default`
-abbrev pub has_case : TypedBlockItems → ℤ → Bool
-has_case typed.NoBlockItem z = false
-has_case (typed.AndStatement all s) z = has_case all z
-has_case (typed.AndDeclaration all d) z = has_case all z
-has_case (typed.AndCase all at e y) z = has_case all z || int_eq y z
-has_case (typed.AndDefault all at) z = has_case all z
+-- how many labels a block has
+abbrev pub labels : TypedBlockItems → ℕ
+labels typed.NoBlockItem = 0
+labels (typed.AndStatement all s) = labels all
+labels (typed.AndDeclaration all d) = labels all
+labels (typed.AndCase all at e y) = suc (labels all)
+labels (typed.AndDefault all at) = suc (labels all)
 
-abbrev pub has_default : TypedBlockItems → Bool
-has_default typed.NoBlockItem = false
-has_default (typed.AndStatement all s) = has_default all
-has_default (typed.AndDeclaration all d) = has_default all
-has_default (typed.AndCase all at e y) = has_default all
-has_default (typed.AndDefault all at) = true
+-- the number of the first `case z`, else this number
+abbrev pub case_or : TypedBlockItems → ℤ → ℕ → ℕ
+case_or typed.NoBlockItem z other = other
+case_or (typed.AndStatement all s) z other = case_or all z other
+case_or (typed.AndDeclaration all d) z other = case_or all z other
+case_or (typed.AndCase all at e y) z other = case_or all z (if int_eq y z then suc (labels all) else other)
+case_or (typed.AndDefault all at) z other = case_or all z other
 
-abbrev pub chosen_by : Bool → Bool → ℤ → Label
-chosen_by true default z = Case z
-chosen_by false true z = Default
-chosen_by false false z = NoLabel
+-- the number of the first `default`, else this number
+abbrev pub default_or : TypedBlockItems → ℕ → ℕ
+default_or typed.NoBlockItem other = other
+default_or (typed.AndStatement all s) other = default_or all other
+default_or (typed.AndDeclaration all d) other = default_or all other
+default_or (typed.AndCase all at e y) other = default_or all other
+default_or (typed.AndDefault all at) other = default_or all (suc (labels all))
 
-abbrev pub chosen : TypedBlockItems → ℤ → Label
-chosen items z = chosen_by (has_case items z) (has_default items) z
+-- the number of `default`; where there is none, one that no label has
+abbrev pub otherwise : TypedBlockItems → ℕ
+otherwise items = default_or items (suc (labels items))
 
-abbrev pub is_case : Label → ℤ → Bool
-is_case (Case z) y = int_eq y z
-is_case label y = false
+-- A `switch` begins behind the `case` of its value, else behind its `default`, else nowhere (C99 6.8.4.2).
+abbrev pub chosen : TypedBlockItems → ℤ → ℕ
+chosen items z = case_or items z (otherwise items)
 
-abbrev pub is_default : Label → Bool
-is_default Default = true
-is_default label = false
-
--- how far a `switch` has come: it looks for its label, or runs
-pub data Progress : Type 0 where
-  Looks : Progress
-  Runs : Flow → Progress
-
--- what stands behind the label runs, as in a block
-abbrev pub then_run : Progress → Act Flow → Act Progress
-then_run (Runs Normal) next = next >>= (λ flow. done (Runs flow))
-then_run progress next = done progress
-
--- at a label that is the one looked for, the `switch` begins to run
-abbrev pub begins_at : Bool → Progress → Progress
-begins_at true Looks = Runs Normal
-begins_at hit progress = progress
-
-abbrev pub flow_of_progress : Progress → Flow
-flow_of_progress Looks = Normal
-flow_of_progress (Runs flow) = flow_of_switch flow
-
--- a value that a function of this depth returns
-abbrev pub returned : World → Place → TypeId → Value → Act Flow
-returned w at t (Integer z) = done (Returns (Integer z))
-returned w at t (Address p) = do
-  all_checked w.setting at (conditions_of (checks.Return w.frame.depth) (kind_in w.setting t) p)
-  done (Returns (Address p))
+-- piece j runs where the `switch` began at label k, which is its own or one before it
+abbrev pub runs_from : ℕ → ℕ → Act Flow → Act Flow
+runs_from k j piece = either (nat_le k j) piece (done Normal)
 
 abbrev mutual
   pub exec : TypedStatement → World → Act Flow
@@ -250,8 +225,9 @@ abbrev mutual
   exec (typed.Switch at paren e brace items) w = do
     v ← eval e w
     z ← as_integer v
-    progress ← exec_from (chosen items z) items w
-    done (flow_of_progress progress)
+    (do
+      flow ← exec_before items (chosen items z) w
+      then_do flow (runs_from (chosen items z) (labels items) (exec_piece items w))) >>= (λ flow. done (flow_of_switch flow))
   exec (typed.While at paren c s) w = while_loop (condition (Some c) w) (exec s w) (done tt)
   exec (typed.DoWhile s at paren c) w = do_loop (exec s w) (condition (Some c) w)
   exec (typed.For at paren first c step s) w = do
@@ -265,7 +241,8 @@ abbrev mutual
   exec (typed.Return at None) w = done (Returns (Integer (pos 0)))
   exec (typed.Return at (Some e)) w = do
     v ← eval e w
-    returned w at (type_of e) v
+    u ← returned w.setting w.frame.depth at (type_of e) v
+    done (Returns u)
 
   -- what a block holds, in order
   pub exec_items : TypedBlockItems → World → Act Flow
@@ -279,18 +256,26 @@ abbrev mutual
   exec_items (typed.AndCase all at e z) w = exec_items all w
   exec_items (typed.AndDefault all at) w = exec_items all w
 
-  -- what the block of a `switch` holds, from the label on
-  pub exec_from : Label → TypedBlockItems → World → Act Progress
-  exec_from label typed.NoBlockItem w = done Looks
-  exec_from label (typed.AndStatement all s) w = do
-    progress ← exec_from label all w
-    then_run progress (exec s w)
-  exec_from label (typed.AndDeclaration all d) w = do
-    progress ← exec_from label all w
-    then_run progress (declare d w >> done Normal)
-  exec_from label (typed.AndCase all at e z) w = do
-    progress ← exec_from label all w
-    done (begins_at (is_case label z) progress)
-  exec_from label (typed.AndDefault all at) w = do
-    progress ← exec_from label all w
-    done (begins_at (is_default label) progress)
+  -- the last piece of a block
+  pub exec_piece : TypedBlockItems → World → Act Flow
+  exec_piece typed.NoBlockItem w = done Normal
+  exec_piece (typed.AndStatement all s) w = do
+    flow ← exec_piece all w
+    then_do flow (exec s w)
+  exec_piece (typed.AndDeclaration all d) w = do
+    flow ← exec_piece all w
+    then_do flow (declare d w >> done Normal)
+  exec_piece (typed.AndCase all at e z) w = done Normal
+  exec_piece (typed.AndDefault all at) w = done Normal
+
+  -- the pieces before the last, of a `switch` that begins at label k
+  pub exec_before : TypedBlockItems → ℕ → World → Act Flow
+  exec_before typed.NoBlockItem k w = done Normal
+  exec_before (typed.AndStatement all s) k w = exec_before all k w
+  exec_before (typed.AndDeclaration all d) k w = exec_before all k w
+  exec_before (typed.AndCase all at e z) k w = do
+    flow ← exec_before all k w
+    then_do flow (runs_from k (labels all) (exec_piece all w))
+  exec_before (typed.AndDefault all at) k w = do
+    flow ← exec_before all k w
+    then_do flow (runs_from k (labels all) (exec_piece all w))

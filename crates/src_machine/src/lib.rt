@@ -4,18 +4,19 @@
 
 ghost use Rattle.std.specs.Prelude.{◌≡◌, ◌≤◌, ℕ, [], ◌∷◌, length};
 ghost use Rattle.cc_base.specs.declared.kind.Kind.{Kind};
+ghost use Rattle.cc_base.specs.declared.kind.Kind.TheVariants.{Safe, Wild};
 ghost use Rattle.cc_base.specs.declared.number.NodeId.{NodeId};
 ghost use Rattle.c_types.specs.Table.{Table};
 ghost use Rattle.c_tree.specs.TypedTree.{TypedTranslationUnit};
 ghost use Rattle.cc_base.specs.declared.fault.Check.TheVariants.{Null, Bounds, Range, Cast, Escape, Tag, Fun, Divide, Depth};
 ghost use Rattle.runs.specs.Input.{Input, Closed, Open};
-ghost use Rattle.src_mem.specs.State.{Stopped, Exited, Turns, Wants, bytes_of};
+ghost use Rattle.src_mem.specs.State.{Stopped, Exited, Turns, Wants, Wrong, bytes_of};
 ghost use Rattle.src_mem.specs.Laws.{AreWhole};
 ghost use Rattle.src_machine.specs.Machine.{source_run};
 ghost use Rattle.c_types.specs.declared.site.Site.TheVariants.{Pointee, Home, Linked, Flow};
 ghost use Rattle.src_machine.specs.Sites.{sites_of};
 ghost use Rattle.src_machine.specs.Small.{node, type, int, at, at_line, shown, access};
-ghost use Rattle.src_machine.specs.Programs.{null_read, past_the_end, stepped_over, address_kept, address_program, address_table, freed_read, size_of_pointer, union_read, divided_by_zero, echoes, goes_on, recursion, recursion_at, moved_too_far, cast_down, called_otherwise, struct_kept, hashed_and_compared, controlled, initialised};
+ghost use Rattle.src_machine.specs.Programs.{null_read, past_the_end, stepped_over, address_kept, address_program, address_table, freed_read, size_of_pointer, union_read, divided_by_zero, echoes, goes_on, recursion, recursion_at, moved_too_far, cast_down, called_otherwise, struct_kept, hashed_and_compared, controlled, initialised, null_freed, integer_as_address, copied_from_choice, copied_from_comma};
 
 /// What small programs do that use SAFE and SEQ pointers.
 pub fn programs_with_bounds()
@@ -27,6 +28,8 @@ pub fn programs_with_bounds()
     ensures freed_read { shown freed_read ≡ record { ending = Exited 0; output = 107 ∷ []; accesses = access 0 0 8 ∷ access 0 0 8 ∷ access 1 0 1 ∷ access 0 0 8 ∷ access 0 0 8 ∷ access 1 0 1 ∷ [] } }
     ensures size_of_pointer { shown size_of_pointer ≡ record { ending = Exited 8; output = []; accesses = access 1 0 8 ∷ access 1 0 8 ∷ access 1 0 8 ∷ [] } }
     ensures moved_too_far { moved_too_far.ending ≡ Stopped Range (at 39) }
+    ensures copied_from_choice { shown copied_from_choice ≡ record { ending = Stopped Null (at_line 4 5); output = []; accesses = access 1 0 8 ∷ access 1 0 8 ∷ [] } }
+    ensures copied_from_comma { shown copied_from_comma ≡ record { ending = Stopped Null (at_line 4 6); output = []; accesses = access 1 0 8 ∷ access 1 0 8 ∷ [] } }
     ensures struct_kept { shown struct_kept ≡ record { ending = Stopped Escape (at_line 3 41); output = []; accesses = access 2 0 8 ∷ access 2 0 8 ∷ [] } }
 {}
 
@@ -40,7 +43,16 @@ pub fn other_programs()
     ensures goes_on { shown goes_on ≡ record { ending = Turns; output = 97 ∷ 97 ∷ 97 ∷ 97 ∷ 97 ∷ []; accesses = [] } }
     ensures cast_down { shown cast_down ≡ record { ending = Stopped Cast (at_line 8 10); output = 66 ∷ []; accesses = access 1 0 8 ∷ access 0 4 4 ∷ access 1 0 8 ∷ access 0 4 4 ∷ access 1 0 8 ∷ [] } }
     ensures called_otherwise { shown called_otherwise ≡ record { ending = Stopped Fun (at_line 6 9); output = 65 ∷ []; accesses = access 0 0 8 ∷ access 0 0 8 ∷ access 1 0 8 ∷ access 1 0 8 ∷ access 2 0 4 ∷ access 2 0 4 ∷ access 1 0 8 ∷ [] } }
+    ensures null_freed { shown null_freed ≡ record { ending = Exited 3; output = []; accesses = [] } }
     ensures calls { (recursion 3).entered ≡ 1 ∷ 0 ∷ 0 ∷ 0 ∷ [] }
+{}
+
+/// An address is tested where it is used, after the right side of its assignment. Kinds that meet the constraints stop the call
+/// that would give an integer for it.
+pub fn addresses_are_tested_where_they_are_used()
+    ensures unsound_kinds { (integer_as_address []).ending ≡ Wrong }
+    ensures written_before { (integer_as_address []).output ≡ 65 ∷ [] }
+    ensures stopped { shown (integer_as_address (Wild ∷ Wild ∷ Safe ∷ Wild ∷ Wild ∷ Wild ∷ [])) ≡ record { ending = Stopped Fun (at_line 4 3); output = []; accesses = access 0 0 8 ∷ access 0 0 8 ∷ [] } }
 {}
 
 /// The hash and the comparison of a word counter on short texts: `the` stands in slot 1, and `cat` is `cat`. Three rounds in each

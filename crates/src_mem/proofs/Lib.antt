@@ -9,6 +9,8 @@ pub mod OperationsRight
 pub mod CopiesRight
 pub mod PointersCopied
 pub mod Keeping
+pub mod KeepingValues
+pub mod KeepingRuns
 pub mod Invariants
 pub mod AccessesLie
 pub mod CallsRight

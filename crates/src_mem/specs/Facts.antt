@@ -2,7 +2,7 @@
 -- type that it points to, of an object by whether it carries tags, and of how long objects live. Each step of a run keeps these
 -- facts, and the simulation of cured code rests on them. What is said of a pointer reads outlines and lives of objects alone, which
 -- a store, a clearing and a copy leave as they are; the end of a call changes lives.
-use Rattle.std.specs.Prelude.{◌≡◌, ◌≢◌, ℕ, ◌+◌, ◌%◌, ◌^◌, ◌<◌, ◌≤◌, ◌≤ℤ◌, ⊤, ℤ, pos, neg_ℤ, ◌+ℤ◌, true, List, [], length, slice_get, Some, IsTrue, IsFalse}
+use Rattle.std.specs.Prelude.{◌≡◌, ◌≢◌, ℕ, ◌+◌, ◌%◌, ◌^◌, ◌<◌, ◌≤◌, ◌≤ℤ◌, ⊤, ℤ, pos, neg_ℤ, ◌+ℤ◌, true, List, [], map, length, slice_get, Some, IsTrue, IsFalse}
 use Rattle.std.specs.List.{Contains}
 use Rattle.cc_base.specs.declared.number.TypeId.{TypeId}
 use Rattle.cc_base.specs.declared.number.NodeId.{NodeId}
@@ -19,7 +19,7 @@ use Rattle.c_types.specs.Equality.{cells_of, repeated_cell}
 use Rattle.c_types.specs.Flows.{IsOfOneClass, Covers, CellsAgree}
 use Rattle.src_mem.specs.Pointers.{Location, Pointer, Null, Number, At, Function, distance}
 use Rattle.src_mem.specs.Memory.{Object, Memory}
-use Rattle.src_mem.specs.Outlines.{Outline, Life, outline, outlines_of, lives_of, AreOutlines, LivesAt, AreNoDeeper}
+use Rattle.src_mem.specs.Outlines.{Outline, Life, outline, life, outlines_of, lives_of, AreOutlines, LivesAt, AreNoDeeper}
 use Rattle.src_mem.specs.State.{Defined, Setting}
 
 -- Cells
@@ -229,13 +229,15 @@ pub record IsSoundObject (w : Setting) (sites : List Site) (outlines : List Outl
   pub reaches : (k : ℕ) (p : Pointer) → o.pointers k ≡ Some p → Reaches lives o.depth p
   pub made : (k : ℕ) (p : Pointer) → o.pointers k ≡ Some p → IsMade sites p
 
--- the facts of the living objects
-pub record IsSoundMemory (w : Setting) (sites : List Site) (memory : Memory) : Type 0 where
-  pub each : (number : ℕ) (o : Object) → slice_get memory.objects number ≡ Some o → o.live ≡ true
-      → IsSoundObject w sites (outlines_of memory) (lives_of memory) o
+-- all that live
+pub record AreSound (w : Setting) (sites : List Site) (objects : List Object) : Type 0 where
+  pub each : (number : ℕ) (o : Object) → slice_get objects number ≡ Some o → o.live ≡ true → IsSoundObject w sites (map outline objects) (map life objects) o
+
+abbrev pub IsSoundMemory : Setting → List Site → Memory → Type 0
+IsSoundMemory w sites memory = AreSound w sites memory.objects
 
 -- The facts of all memory while a call of this depth runs: of its living objects, of the cells of all, and of how deep they live.
 pub record IsSoundAt (w : Setting) (sites : List Site) (memory : Memory) (depth : ℕ) : Type 0 where
-  pub objects : IsSoundMemory w sites memory
+  pub objects : AreSound w sites memory.objects
   pub outlines : AreOutlines w (outlines_of memory)
   pub lives : AreNoDeeper (lives_of memory) depth

@@ -38,11 +38,15 @@ abbrev pub GivesNext : {A B : Type 0} → Outcome Ending State A → Act B → B
 GivesNext (Ended e s) next b = ⊤
 GivesNext (Done a s) next b = (t : State) × (next s ≡ Done b t)
 
+-- a run isn't wrong, and P holds of what it gives and of the state that it leaves
+abbrev pub Gives : {A : Type 0} → Outcome Ending State A → (A → State → Type 0) → Type 0
+Gives (Ended Wrong s) P = ⊥
+Gives (Ended e s) P = ⊤
+Gives (Done a s) P = P a s
+
 -- a run isn't wrong
 abbrev pub IsNotWrong : {A : Type 0} → Outcome Ending State A → Type 0
-IsNotWrong (Ended Wrong s) = ⊥
-IsNotWrong (Ended e s) = ⊤
-IsNotWrong (Done a s) = ⊤
+IsNotWrong m = Gives m (λ a s. ⊤)
 
 -- an integer or pointer type, and a value that is one of its values
 abbrev pub IsScalar : TypeShape → Type 0

@@ -1,0 +1,11 @@
+pub mod Lists
+pub mod Periods
+pub mod Agree
+pub mod Flow
+pub mod Complete
+pub mod Holds
+pub mod Convert
+pub mod Places
+pub mod Moves
+pub mod Stores
+pub mod Growth

@@ -41,7 +41,7 @@ count-newest a mark marks =
 count-all : (start a : ℕ) (xs : List ℕ) (marks : List Mark) → Consecutive start (map (frame_seen xs) marks) → frames_end start (map (frame_seen xs) marks) < a → count_by (begins_before a) (reverse marks) ≡ length marks
 count-all start a xs [] lie past = refl
 count-all start a xs (mark ∷ marks) lie past =
-    let rest : count_by (begins_before a) (reverse marks) ≡ length marks = count-all start a xs marks lie.2 (omega (arith, lie.0, lie.1, past)) in
+    let rest : count_by (begins_before a) (reverse marks) ≡ length marks = count-all start a xs marks lie.3 (omega (arith, lie.0, lie.1, past)) in
     let here : ◌≡◌ {A = ℕ} (cond (begins_before a mark) 1 0) 1 = ap (λ t. cond t 1 0) (yes mark.start a (omega (arith, lie.1, past))) in
     let sum : count_by (begins_before a) (reverse (mark ∷ marks)) ≡ count_by (begins_before a) (reverse marks) + cond (begins_before a mark) 1 0 = count-newest a mark marks in
     sum ∙ omega (arith, rest, here)
@@ -55,12 +55,12 @@ depth-count start a xs (mark ∷ marks) lie most =
     (λ low.
     let here : ◌≡◌ {A = ℕ} (cond (begins_before a mark) 1 0) 0 = ap (λ t. cond t 1 0) (no mark.start a low) in
     let older : depth_in (map (frame_seen xs) (mark ∷ marks)) a ≡ depth_in (map (frame_seen xs) marks) a = depth_in-older (frame_seen xs mark) (map (frame_seen xs) marks) a (inl low) in
-    let rest : depth_in (map (frame_seen xs) marks) a ≡ count_by (begins_before a) (reverse marks) = depth-count start a xs marks lie.2 (omega (arith, low, lie.0)) in
+    let rest : depth_in (map (frame_seen xs) marks) a ≡ count_by (begins_before a) (reverse marks) = depth-count start a xs marks lie.3 (omega (arith, low, lie.0)) in
     older ∙ (rest ∙ (omega (arith, here) ∙ sym sum)))
     (λ high.
     let here : ◌≡◌ {A = ℕ} (cond (begins_before a mark) 1 0) 1 = ap (λ t. cond t 1 0) (yes mark.start a high) in
     let newest : depth_in (map (frame_seen xs) (mark ∷ marks)) a ≡ suc (length (map (frame_seen xs) marks)) = depth_in-newest (frame_seen xs mark) (map (frame_seen xs) marks) a high most in
-    let all : count_by (begins_before a) (reverse marks) ≡ length marks = count-all start a xs marks lie.2 (omega (arith, high, lie.0)) in
+    let all : count_by (begins_before a) (reverse marks) ≡ length marks = count-all start a xs marks lie.3 (omega (arith, high, lie.0)) in
     newest ∙ (omega (arith, here, all, size) ∙ sym sum))
     (low_or_high a mark.start)
 
@@ -80,9 +80,9 @@ sorted start xs [] lie = IsNonDecreasingBy-short (λ m. m.start) [] (omega arith
 sorted start xs (mark ∷ []) lie = IsNonDecreasingBy-short (λ m. m.start) (mark ∷ []) (omega arith)
 sorted start xs (mark ∷ (older ∷ marks)) lie =
     let ends : mark.start ≡ older.end = lie.0 in
-    let long : older.start ≤ older.end = lie.2.1 in
+    let long : older.start ≤ older.end = lie.3.1 in
     subst (IsNonDecreasingBy (λ m. m.start)) (sym (reverse-first mark (older ∷ marks)))
-    (IsNonDecreasingBy-push (λ m. m.start) (reverse (older ∷ marks)) mark (sorted start xs (older ∷ marks) lie.2)
+    (IsNonDecreasingBy-push (λ m. m.start) (reverse (older ∷ marks)) mark (sorted start xs (older ∷ marks) lie.3)
     (λ d h. subst (λ m. m.start ≤ mark.start) (sym (newest-last older marks d)) (omega (arith, ends, long))))
 
 -- The place that a binary search finds is how many pass

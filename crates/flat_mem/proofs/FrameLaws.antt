@@ -1,12 +1,12 @@
 -- Laws on live frames and on the depth of an address.
-use Rattle.std.specs.Prelude.{◌≡◌, ℕ, suc, ◌+◌, ◌<◌, ◌≤◌, ◌⊎◌, Bool, true, false, ◌&&◌, List, [], ◌∷◌, length, slice_get, slice_index, Some, nat_lt, nat_le, if◌then◌else◌, refl}
+use Rattle.std.specs.Prelude.{◌≡◌, ℕ, suc, ◌+◌, ◌%◌, ◌<◌, ◌≤◌, ◌⊎◌, Bool, true, false, ◌&&◌, List, [], ◌∷◌, length, take, slice_get, slice_index, Some, nat_lt, nat_le, if◌then◌else◌, refl}
 use Rattle.std.proofs.Common.{◌∙◌, ap, inl, inr, arith}
 use Rattle.std.proofs.lemmas.Bool.Decides.{nat_tests}
 use Rattle.std.proofs.lemmas.Option.{slice_get_within}
 use Rattle.flat_mem.specs.declared.Area.{Area}
 use Rattle.flat_mem.specs.Placement.{contents_size, areas_size, addresses}
-use Rattle.flat_mem.specs.Memory.{Frame, Memory, frames_end, Consecutive, depth_in, frame_of, next_frame}
-use Rattle.flat_mem.proofs.AreaLaws.{area-after_start, area-before_end}
+use Rattle.flat_mem.specs.Memory.{Frame, Memory, IsSound, frames_end, Consecutive, depth_in, frame_of, next_frame}
+use Rattle.flat_mem.proofs.AreaLaws.{areas_size-by_8, get-addresses, area-after_start, area-before_end}
 
 outside : (start end a : ℕ) → (a ≤ start) ⊎ (end < a) → (nat_lt start a && nat_le a end) ≡ false
 outside start end a out = grind (arith, nat_tests)
@@ -22,7 +22,22 @@ by_test false x y z p q = q
 pub frames_end-least : (start : ℕ) (frames : List Frame) → Consecutive start frames → start ≤ frames_end start frames
 frames_end-least start [] lie = omega arith
 frames_end-least start (frame ∷ frames) lie =
-    let rest : start ≤ frames_end start frames = frames_end-least start frames lie.2 in omega (arith, rest, lie.0, lie.1)
+    let rest : start ≤ frames_end start frames = frames_end-least start frames lie.3 in omega (arith, rest, lie.0, lie.1)
+
+-- they end at a multiple of 8
+pub frames_end-by_8 : (start : ℕ) (frames : List Frame) → start % 8 ≡ 0 → Consecutive start frames → frames_end start frames % 8 ≡ 0
+frames_end-by_8 start [] aligned lie = aligned
+frames_end-by_8 start (frame ∷ frames) aligned lie = lie.2
+
+-- so the next frame of a sound memory begins at one
+pub next_frame-by_8 : (m : Memory) → IsSound m → next_frame m % 8 ≡ 0
+next_frame-by_8 m sound = frames_end-by_8 m.bounds.stack_start m.frames sound.aligned sound.consecutive
+
+-- and each of its areas has a multiple of 8 as its address
+pub address-by_8 : (areas : List Area) (start k : ℕ) → start % 8 ≡ 0 → k < length areas → slice_index (addresses areas start) k % 8 ≡ 0
+address-by_8 areas start k aligned h =
+    let at = get-addresses areas start k h in
+    let before = areas_size-by_8 (take k areas) in omega (arith, at, before, aligned)
 
 -- an address of the newest frame has the number of live frames as its depth
 pub depth_in-newest : (frame : Frame) (frames : List Frame) (a : ℕ) → frame.start < a → a ≤ frame.end → depth_in (frame ∷ frames) a ≡ suc (length frames)
@@ -36,13 +51,13 @@ depth_in-older frame frames a out = ap (λ t. if t then suc (length frames) else
 pub depth_in-below : (start : ℕ) (frames : List Frame) (a : ℕ) → Consecutive start frames → a ≤ start → depth_in frames a ≡ 0
 depth_in-below start [] a lie low = refl
 depth_in-below start (frame ∷ frames) a lie low =
-    let least : start ≤ frames_end start frames = frames_end-least start frames lie.2 in
-    depth_in-older frame frames a (inl (omega (arith, least, lie.0))) ∙ depth_in-below start frames a lie.2 low
+    let least : start ≤ frames_end start frames = frames_end-least start frames lie.3 in
+    depth_in-older frame frames a (inl (omega (arith, least, lie.0))) ∙ depth_in-below start frames a lie.3 low
 
 pub depth_in-past : (start : ℕ) (frames : List Frame) (a : ℕ) → Consecutive start frames → frames_end start frames < a → depth_in frames a ≡ 0
 depth_in-past start [] a lie past = refl
 depth_in-past start (frame ∷ frames) a lie past =
-    depth_in-older frame frames a (inr past) ∙ depth_in-past start frames a lie.2 (omega (arith, lie.0, lie.1))
+    depth_in-older frame frames a (inr past) ∙ depth_in-past start frames a lie.3 (omega (arith, lie.0, lie.1))
 
 -- no depth is above the number of live frames
 pub depth_in-most : (frames : List Frame) (a : ℕ) → depth_in frames a ≤ length frames

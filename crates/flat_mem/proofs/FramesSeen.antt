@@ -68,7 +68,7 @@ seen-popped marks rest mark xs is lie =
 pub addresses-most : (start : ℕ) (xs : List ℕ) (marks : List Mark) (total : ℕ) → Consecutive start (map (frame_seen xs) marks) → MarksLie marks total → start + 8 * total ≤ frames_end start (map (frame_seen xs) marks)
 addresses-most start xs [] total lie none = omega (arith, none)
 addresses-most start xs (mark ∷ marks) total lie marks_lie =
-    let rest : start + 8 * mark.first ≤ frames_end start (map (frame_seen xs) marks) = addresses-most start xs marks mark.first lie.2 marks_lie.2 in
+    let rest : start + 8 * mark.first ≤ frames_end start (map (frame_seen xs) marks) = addresses-most start xs marks mark.first lie.3 marks_lie.2 in
     let begins : mark.start ≡ frames_end start (map (frame_seen xs) marks) = lie.0 in
     let sum : mark.first + mark.count ≡ total = marks_lie.0 in
     let words : mark.start + 8 * mark.count ≤ mark.end = marks_lie.1 in

@@ -4,6 +4,8 @@ pub mod FrameLaws
 pub mod MemoryCode
 pub mod Keeps
 pub mod SoundLaws
+pub mod StoreLaws
+pub mod BlockLaws
 pub mod AreaCode
 pub mod FramesSeen
 pub mod FramesKept

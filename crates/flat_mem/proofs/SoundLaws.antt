@@ -8,6 +8,7 @@ use Rattle.flat_mem.specs.declared.Plan.{Plan}
 use Rattle.flat_mem.specs.Bytes.{AreBytes}
 use Rattle.flat_mem.specs.Placement.{area_size, areas_size, flat_size, globals_start, first_bytes}
 use Rattle.flat_mem.specs.Memory.{Frame, Memory, IsSound, Consecutive, first_memory, with_bytes, fits, pushed, popped, older_frames, frames_end, frame_limit, charges, next_frame, block_fits, block_made}
+use Rattle.flat_mem.proofs.FrameLaws.{next_frame-by_8}
 use Rattle.flat_mem.proofs.AreaLaws.{area_size-by_8, areas_size-by_8, length-area_made, length-areas_made, area_made-bytes, areas_made-bytes}
 
 -- what `fits` tests
@@ -83,7 +84,7 @@ sound-pushed m areas charge h sound =
       size = sound.size ∙ sym (length-areas_made areas m.bytes (next_frame m));
       aligned = sound.aligned;
       aligned_heap = sound.aligned_heap;
-      consecutive = (refl, omega arith, sound.consecutive);
+      consecutive = (refl, omega arith, (let first = next_frame-by_8 m sound in let by_8 = areas_size-by_8 areas in omega (arith, first, by_8)), sound.consecutive);
       room = room.region;
       frame_count = let k = room.frames in omega (arith, k);
       charged = let k = room.charges in omega (arith, k);
@@ -111,7 +112,7 @@ sound-block_made m area charge h sound =
 
 older-consecutive : (start : ℕ) (frames : List Frame) → Consecutive start frames → Consecutive start (older_frames frames)
 older-consecutive start [] lie = tt
-older-consecutive start (frame ∷ frames) lie = lie.2
+older-consecutive start (frame ∷ frames) lie = lie.3
 
 older-end : (start : ℕ) (frames : List Frame) → Consecutive start frames → frames_end start (older_frames frames) ≤ frames_end start frames
 older-end start [] lie = omega arith

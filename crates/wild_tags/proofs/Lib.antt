@@ -8,4 +8,5 @@ pub mod InsideCode
 pub mod CallLaws
 pub mod MarkLaws
 pub mod UntagLaws
+pub mod ByteRows
 pub mod MoveLaws

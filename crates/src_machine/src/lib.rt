@@ -16,7 +16,7 @@ ghost use Rattle.src_machine.specs.Machine.{source_run};
 ghost use Rattle.c_types.specs.declared.site.Site.TheVariants.{Pointee, Home, Linked, Flow};
 ghost use Rattle.src_machine.specs.Sites.{sites_of};
 ghost use Rattle.src_machine.specs.Small.{node, type, int, at, at_line, access, Shows};
-ghost use Rattle.src_machine.specs.Programs.{null_read, past_the_end, stepped_over, address_kept, address_program, address_table, freed_read, size_of_pointer, union_read, divided_by_zero, echoes, goes_on, recursion, recursion_at, moved_too_far, cast_down, called_otherwise, struct_kept, hashed_and_compared, controlled, initialised, null_freed, integer_as_address, copied_from_choice, copied_from_comma};
+ghost use Rattle.src_machine.specs.Programs.{null_read, past_the_end, stepped_over, address_kept, address_program, address_table, freed_read, size_of_pointer, union_read, divided_by_zero, echoes, goes_on, recursion, recursion_at, moved_too_far, cast_down, called_otherwise, struct_kept, hashed_and_compared, controlled, initialised, null_freed, integer_as_address, copied_from_choice, copied_from_comma, compared_with_null};
 
 /// What small programs do that use SAFE and SEQ pointers.
 pub fn programs_with_bounds()
@@ -77,11 +77,13 @@ pub fn word_counter_parts()
 {}
 
 /// `switch`, `do`, `for`, `break` and `continue`; initialisers, static ones among them, compound assignments and the usual
-/// arithmetic conversions.
+/// arithmetic conversions; steps and compound assignments of a narrow type, and comparisons of a pointer outside its part with null.
 pub fn statements_and_initialisers()
     ensures controlled { controlled.output ≡ 3 ∷ 2 ∷ 8 ∷ 12 ∷ 13 ∷ 5 ∷ [] }
     ensures initialised { initialised.output ≡ 96 ∷ 0 ∷ 6 ∷ [] }
     ensures status { initialised.ending ≡ Exited 0 }
+    ensures updated { compared_with_null.output ≡ 200 ∷ 128 ∷ [] }
+    ensures compared { compared_with_null.ending ≡ Exited 5 }
 {}
 
 /// A recursion without end is stopped at its call where that would be the 1,024th that is nested.

@@ -12,6 +12,7 @@ pub mod Keeping
 pub mod KeepingValues
 pub mod KeepingRuns
 pub mod Invariants
+pub mod AccessesLie
 pub mod CallsRight
 pub mod AddressesRight
 pub mod RuntimeRight

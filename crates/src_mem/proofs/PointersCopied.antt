@@ -14,6 +14,7 @@ use Rattle.c_types.specs.Equality.{cells_of, physically_equal, repeated_cell}
 use Rattle.c_types.specs.Flows.{and_then, pointer_in_cell, pointer_in, pointer_at}
 use native.Mathlib.Nat.{mod-eq_of_lt, mod-lt}
 use Rattle.integers.specs.Words.{residue}
+use Rattle.c_types.specs.Flows.{CellsAgree}
 use Rattle.src_mem.specs.Pointers.{Part, Location, Pointer, At, distance}
 use Rattle.src_mem.specs.Memory.{Object, Memory, holds_pointer_at, pointer_or_null}
 use Rattle.runs.specs.Outcome.{Outcome, Done, done, allowed, either, from, ◌>>◌}
@@ -31,7 +32,7 @@ use Rattle.src_mem.proofs.NotWrong.{begun, goes_on, checked_right}
 use Rattle.src_mem.proofs.CopiesRight.{both_touched, from_bounds, to_bounds, copy_right}
 use Rattle.c_types.specs.declared.site.Site.{Site}
 use Rattle.src_mem.specs.Outlines.{Outline, outlines_of}
-use Rattle.src_mem.specs.Facts.{CellsAgree, HoldType, IsSequenceAt, IsSafeAt, IsTypedAt, IsHeldIn, IsSoundMemory}
+use Rattle.src_mem.specs.Facts.{HoldType, IsSequenceAt, IsSafeAt, IsTypedAt, IsHeldIn, IsSoundMemory}
 use Rattle.src_mem.proofs.Right.{MayTouch, touches, IsFirst, Begins, begins_first, second_true, first_of, distance_is, safe≢wild, seq≢wild, rtti≢wild}
 
 -- where a data type holds a pointer, its cells begin one
@@ -90,7 +91,7 @@ index_is cs i c e = ap (λ k. slice_index_or cs k raw) (mod-eq_of_lt (below cs i
 safe_there : (w : Setting) (cells : List Cell) (at high : ℕ) (t : TypeId) (i : ℕ) → HoldType w cells at high t → Begins (cells_of w.table t) i → Begins cells (at + i)
 safe_there w cells at high t i h b = of (h.agree i b.cell b.found)
   where
-    of : ((c : Cell) × (slice_get cells (at + i) ≡ Some c) × CellsAgree w c b.cell) → Begins cells (at + i)
+    of : ((c : Cell) × (slice_get cells (at + i) ≡ Some c) × CellsAgree w.table w.kind c b.cell) → Begins cells (at + i)
     of a = record { cell = a.0; found = a.1; first = first_of w a.0 b.cell a.2 b.first }
 
 same_place : (cs : List Cell) (x y size : ℕ) → length cs ≡ size → 0 < size → x ≡ y % size → repeated_cell cs x ≡ repeated_cell cs y
@@ -114,7 +115,7 @@ sequence_there w outlines t l v at i complete sized b room offset low high = of 
     here = subst IsFirst (same_place cs (residue (distance l +ℤ pos i) (size_of w.table t)) (at - l.part.low + i) (size_of w.table t) sized (let s = sized in omega (arith, room, s)) steps)
         (first_of w (repeated_cell cs (residue (distance l +ℤ pos i) (size_of w.table t))) (repeated_cell cs i) ((v.shifted complete).agree i) start)
 
-    of : ((c : Cell) × (slice_get v.object.cells (l.part.low + (at - l.part.low + i)) ≡ Some c) × CellsAgree w c (repeated_cell cs (at - l.part.low + i))) → Begins v.object.cells (at + i)
+    of : ((c : Cell) × (slice_get v.object.cells (l.part.low + (at - l.part.low + i)) ≡ Some c) × CellsAgree w.table w.kind c (repeated_cell cs (at - l.part.low + i))) → Begins v.object.cells (at + i)
     of a = record {
       cell = a.0;
       found = subst (λ k. slice_get v.object.cells k ≡ Some a.0) (omega (arith, low)) a.1;

@@ -16,13 +16,14 @@ use Rattle.c_types.specs.Layouts.{layout_of, layout_of_shape, layout_step, no_la
 use Rattle.integers.specs.Words.{residue}
 use Rattle.c_types.specs.Cells.{Cell, raw, pointer, mixed, incomplete, cells_at, cells_step, cells_of_shape, all_alike, begins, alike, Relation, pointer_cells}
 use Rattle.c_types.specs.Equality.{cells_of, physically_equal, begins_with, repeated_cell}
+use Rattle.c_types.specs.Flows.{CellsAgree}
 use Rattle.src_mem.specs.Pointers.{Location, Pointer, Null, Number, At, Function, is_null, distance}
 use Rattle.src_mem.specs.Memory.{Object, Memory, size_of_object, holds_pointer_at}
 use Rattle.src_mem.specs.State.{Setting}
 use Rattle.src_mem.specs.Checks.{Condition, NotNull, InBounds, InObject, holds, fits_between}
 use Rattle.c_types.specs.declared.site.Site.{Site}
 use Rattle.src_mem.specs.Outlines.{Outline, Life, LivesAt, outlines_of, lives_of}
-use Rattle.src_mem.specs.Facts.{CellsAgree, IsSoundObject, IsSafeAt, IsTypedAt, IsSequenceAt, IsWildAt, IsFunctionOf, IsHeldIn, HoldType}
+use Rattle.src_mem.specs.Facts.{IsSoundObject, IsSafeAt, IsTypedAt, IsSequenceAt, IsWildAt, IsFunctionOf, IsHeldIn, HoldType}
 use Rattle.src_mem.proofs.Outlines.{has-outline}
 use Rattle.src_mem.proofs.Spots.{IsRight}
 
@@ -198,7 +199,7 @@ pub record IsFirst (c : Cell) : Type 0 where
   pub to : TypeId
   pub is : c ≡ pointer node to 0
 
-pub first_of : (w : Setting) (c d : Cell) → CellsAgree w c d → IsFirst d → IsFirst c
+pub first_of : (w : Setting) (c d : Cell) → CellsAgree w.table w.kind c d → IsFirst d → IsFirst c
 first_of w raw raw a f = f
 first_of w raw (pointer m u j) a f = absurd a
 first_of w raw (mixed u j) a f = absurd a
@@ -226,7 +227,7 @@ pub record Begins (cells : List Cell) (at : ℕ) : Type 0 where
 pub holds_first : (w : Setting) (cells : List Cell) (at high : ℕ) (t : TypeId) → HoldType w cells at high t → Begins (cells_of w.table t) 0 → Begins cells at
 holds_first w cells at high t h b = of (h.agree 0 b.cell b.found)
   where
-    of : ((c : Cell) × (slice_get cells (at + 0) ≡ Some c) × CellsAgree w c b.cell) → Begins cells at
+    of : ((c : Cell) × (slice_get cells (at + 0) ≡ Some c) × CellsAgree w.table w.kind c b.cell) → Begins cells at
     of a = record { cell = a.0; found = subst (λ k. slice_get cells k ≡ Some a.0) (omega arith) a.1; first = first_of w a.0 b.cell a.2 b.first }
 
 -- what begins with a type whose first cell is a pointer's
@@ -322,7 +323,7 @@ sequence_begins w outlines t n u l v at e offset low high = of ((v.filled comple
     here = subst IsFirst (same_repeated cs (residue (distance l +ℤ pos 0) (size_of w.table t)) (at - l.part.low) long steps)
         (first_of w (repeated_cell cs (residue (distance l +ℤ pos 0) (size_of w.table t))) (repeated_cell cs 0) ((v.shifted complete).agree 0) start)
 
-    of : ((c : Cell) × (slice_get v.object.cells (l.part.low + (at - l.part.low)) ≡ Some c) × CellsAgree w c (repeated_cell cs (at - l.part.low))) → Begins v.object.cells at
+    of : ((c : Cell) × (slice_get v.object.cells (l.part.low + (at - l.part.low)) ≡ Some c) × CellsAgree w.table w.kind c (repeated_cell cs (at - l.part.low))) → Begins v.object.cells at
     of a = record {
       cell = a.0;
       found = subst (λ k. slice_get v.object.cells k ≡ Some a.0) (omega (arith, low)) a.1;

@@ -2,7 +2,7 @@
 -- type that it points to, of an object by whether it carries tags, and of how long objects live. Each step of a run keeps these
 -- facts, and the simulation of cured code rests on them. What is said of a pointer reads outlines and lives of objects alone, which
 -- a store, a clearing and a copy leave as they are; the end of a call changes lives.
-use Rattle.std.specs.Prelude.{◌≡◌, ◌≢◌, ℕ, suc, ◌+◌, ◌%◌, ◌^◌, ◌<◌, ◌≤◌, ◌≤ℤ◌, ⊤, ℤ, pos, neg_ℤ, ◌+ℤ◌, true, List, [], length, slice_get, Some, IsTrue, IsFalse}
+use Rattle.std.specs.Prelude.{◌≡◌, ◌≢◌, ℕ, ◌+◌, ◌%◌, ◌^◌, ◌<◌, ◌≤◌, ◌≤ℤ◌, ⊤, ℤ, pos, neg_ℤ, ◌+ℤ◌, true, List, [], length, slice_get, Some, IsTrue, IsFalse}
 use Rattle.std.specs.List.{Contains}
 use Rattle.cc_base.specs.declared.number.TypeId.{TypeId}
 use Rattle.cc_base.specs.declared.number.NodeId.{NodeId}
@@ -14,9 +14,9 @@ use Rattle.c_types.specs.declared.site.Site.{Site}
 use Rattle.c_types.specs.declared.site.Site.TheVariants as site
 use Rattle.c_types.specs.Table.{IsComplete, is_function}
 use Rattle.c_types.specs.Layouts.{size_of}
-use Rattle.c_types.specs.Cells.{Cell, raw, pointer, mixed, incomplete}
+use Rattle.c_types.specs.Cells.{Cell, pointer, IsBetweenPointers}
 use Rattle.c_types.specs.Equality.{cells_of, repeated_cell}
-use Rattle.c_types.specs.Flows.{IsOfOneClass, Covers}
+use Rattle.c_types.specs.Flows.{IsOfOneClass, Covers, CellsAgree}
 use Rattle.src_mem.specs.Pointers.{Location, Pointer, Null, Number, At, Function, distance}
 use Rattle.src_mem.specs.Memory.{Object, Memory}
 use Rattle.src_mem.specs.Outlines.{Outline, Life, outline, outlines_of, lives_of, AreOutlines, LivesAt, AreNoDeeper}
@@ -24,30 +24,18 @@ use Rattle.src_mem.specs.State.{Defined, Setting}
 
 -- Cells
 
--- two cells are alike, and the pointers in them, at every depth, have equal kinds
-abbrev pub CellsAgree : Setting → Cell → Cell → Type 0
-CellsAgree w raw raw = ⊤
-CellsAgree w (pointer n t i) (pointer m u j) = (i ≡ j) × (w.kind n ≡ w.kind m) × IsOfOneClass w.table w.kind t u
-CellsAgree w (mixed u i) (mixed v j) = (u ≡ v) × (i ≡ j)
-CellsAgree w (incomplete t) (incomplete u) = t ≡ u
-CellsAgree w c d = ⊥
-
 -- the cells from `at` on, up to `high`, hold a type: there is room for it, and they agree with its cells one by one
 pub record HoldType (w : Setting) (cells : List Cell) (at high : ℕ) (t : TypeId) : Type 0 where
   pub room : at + length (cells_of w.table t) ≤ high
-  pub agree : (i : ℕ) (d : Cell) → slice_get (cells_of w.table t) i ≡ Some d → (c : Cell) × (slice_get cells (at + i) ≡ Some c) × CellsAgree w c d
+  pub agree : (i : ℕ) (d : Cell) → slice_get (cells_of w.table t) i ≡ Some d → (c : Cell) × (slice_get cells (at + i) ≡ Some c) × CellsAgree w.table w.kind c d
 
 -- the cells from `low` up to `high` begin the endless repetition of a type
 pub record RepeatType (w : Setting) (cells : List Cell) (low high : ℕ) (t : TypeId) : Type 0 where
-  pub agree : (i : ℕ) → low + i < high → (c : Cell) × (slice_get cells (low + i) ≡ Some c) × CellsAgree w c (repeated_cell (cells_of w.table t) i)
+  pub agree : (i : ℕ) → low + i < high → (c : Cell) × (slice_get cells (low + i) ≡ Some c) × CellsAgree w.table w.kind c (repeated_cell (cells_of w.table t) i)
 
 -- the endless repetition of a type is the same when it is shifted by a distance
 pub record IsSameShifted (w : Setting) (t : TypeId) (by : ℤ) : Type 0 where
-  pub agree : (i : ℕ) → CellsAgree w (repeated_cell (cells_of w.table t) (residue (by +ℤ pos i) (size_of w.table t))) (repeated_cell (cells_of w.table t) i)
-
--- no pointer has begun before this byte and ends behind it
-pub record IsBetweenPointers (cells : List Cell) (k : ℕ) : Type 0 where
-  pub whole : (n : NodeId) (t : TypeId) (i : ℕ) → slice_get cells k ≡ Some (pointer n t (suc i)) → ⊥
+  pub agree : (i : ℕ) → CellsAgree w.table w.kind (repeated_cell (cells_of w.table t) (residue (by +ℤ pos i) (size_of w.table t))) (repeated_cell (cells_of w.table t) i)
 
 -- Pointers
 

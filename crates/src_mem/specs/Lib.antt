@@ -10,5 +10,7 @@ pub mod Laws
 pub mod Runtime
 pub mod Operations
 pub mod Runs
+pub mod Rows
+pub mod Small
 pub mod Values
 pub mod ValueLaws

@@ -1,9 +1,8 @@
 -- What pointers and calls know of objects, whatever is stored in them.
-use Rattle.std.specs.Prelude.{◌≡◌, ◌≢◌, ℕ, suc, ◌<◌, ◌≤◌, Bool, true, List, map, length, slice_get, Some}
-use Rattle.cc_base.specs.declared.number.TypeId.{TypeId}
+use Rattle.std.specs.Prelude.{◌≡◌, ◌≢◌, ℕ, ◌≤◌, Bool, true, List, map, length, slice_get, Some}
 use Rattle.cc_base.specs.declared.number.NodeId.{NodeId}
 use Rattle.cc_base.specs.declared.kind.Kind.TheVariants.{Wild}
-use Rattle.c_types.specs.Cells.{Cell, pointer}
+use Rattle.c_types.specs.Cells.{Cell, AreOrdered}
 use Rattle.src_mem.specs.Memory.{Object, Memory}
 use Rattle.src_mem.specs.State.{Setting}
 
@@ -31,12 +30,6 @@ outlines_of memory = map outline memory.objects
 
 abbrev pub lives_of : Memory → List Life
 lives_of memory = map life memory.objects
-
--- The pointers among cells are whole and in order: byte j of one has the bytes 0 to j - 1 before it and all up to byte 7 behind it.
-pub record AreOrdered (cells : List Cell) : Type 0 where
-  pub least : (i j : ℕ) (n : NodeId) (t : TypeId) → slice_get cells i ≡ Some (pointer n t j) → (j ≤ 7) × (j ≤ i)
-  pub back : (i j : ℕ) (n : NodeId) (t : TypeId) → slice_get cells (suc i) ≡ Some (pointer n t (suc j)) → slice_get cells i ≡ Some (pointer n t j)
-  pub on : (i j : ℕ) (n : NodeId) (t : TypeId) → slice_get cells i ≡ Some (pointer n t j) → j < 7 → slice_get cells (suc i) ≡ Some (pointer n t (suc j))
 
 -- Each object has as many cells as bytes, and without tags its pointers are whole. A block for a WILD pointer may end within one.
 pub record AreOutlines (w : Setting) (outlines : List Outline) : Type 0 where

@@ -3,7 +3,9 @@
 //! Each law is the contract of a function that does nothing, so that it is proved once and can be cited.
 #![tactic(auto)]
 
-ghost use Rattle.std.specs.Prelude.{◌≡◌, ◌≢◌, ◌⊎◌, ◌↔◌, ℕ, ◌≤◌, ℤ, pos, Bool, List, ◌∷◌, [], ◌++◌, length, slice_get, Some, IsTrue, IsFalse};
+pub mod table;
+
+ghost use Rattle.std.specs.Prelude.{◌≡◌, ◌≢◌, ◌⊎◌, ◌↔◌, ℕ, ◌+◌, ◌≤◌, ℤ, pos, Bool, List, ◌∷◌, [], ◌++◌, length, slice_get, Some, IsTrue, IsFalse};
 ghost use Rattle.std.specs.Cmp.{IsEquivalence};
 ghost use Rattle.cc_base.specs.declared.place.Place.{Place};
 ghost use Rattle.cc_base.specs.declared.kind.Kind.{Kind};
@@ -17,16 +19,16 @@ ghost use Rattle.c_types.specs.declared.site.Site.{Site};
 ghost use Rattle.c_types.specs.Table.{IsComplete, shape_at, is_function};
 ghost use Rattle.c_types.specs.Sound.{IsWellFormed};
 ghost use Rattle.runs.specs.Outcome.{Done, from};
-ghost use Rattle.src_mem.specs.Pointers.{Pointer, Value, same_pointer};
+ghost use Rattle.src_mem.specs.Pointers.{Pointer, Location, At, Value, same_pointer};
 ghost use Rattle.src_mem.specs.Memory.{Object, Planned};
 ghost use Rattle.src_mem.specs.State.{State, Act, Setting, bytes_of, turn};
-ghost use Rattle.src_mem.specs.Primitives.{load_integer, load_pointer, store_integer, store_pointer, clear, copy, allocate, allocate_elements, enter, leave, called, get, put, exit};
+ghost use Rattle.src_mem.specs.Primitives.{Spot, spot, load_integer, load_pointer, store_integer, store_pointer, clear, copy, allocate, allocate_elements, enter, leave, called, get, put, exit};
 ghost use Rattle.src_mem.specs.Checks.{Used, HasBase, Call, conditions_of, holds, all_checked};
 ghost use Rattle.src_mem.specs.Uses.{read, write, copy_all, enter_with};
 ghost use Rattle.src_mem.specs.Operations.{calculate, allocated_for, decayed, kind_in, moved, subtracted, equated, compared, converted_pointer, member};
 ghost use Rattle.src_mem.specs.ValueLaws.{AddressesAreNotWrong};
 ghost use Rattle.src_mem.specs.Facts.{IsSoundMemory, IsHeldIn};
-ghost use Rattle.src_mem.specs.Laws.{AreWhole, KeepsWhole, GivesNext, IsNotWrong, IsScalar, IsScalarValue, IsOrder, AreArguments, left_by};
+ghost use Rattle.src_mem.specs.Laws.{AreWhole, KeepsWhole, GivesNext, IsInvariant, AccessesLie, IsNotWrong, IsScalar, IsScalarValue, IsOrder, AreArguments, left_by};
 
 /// Equality of pointers (C99 6.5.9) is an equivalence.
 pub fn pointer_equality_is_an_equivalence()
@@ -49,6 +51,16 @@ pub fn bytes_under_pointers_stay_zero()
     ensures allocation { (w : Setting) (node : NodeId) (t : TypeId) (n : ℕ) → KeepsWhole (allocate w node t n) }
     ensures entry { (w : Setting) (depth f : ℕ) (variables : List Planned) → KeepsWhole (enter w depth f variables) }
     ensures leaving { (w : Setting) (depth : ℕ) (variables : List Planned) → KeepsWhole (leave w depth variables) }
+{}
+
+/// Each access that a run notes lies in an object that is there: every operation leaves it so.
+pub fn accesses_lie_in_objects()
+    ensures { IsInvariant AccessesLie }
+{}
+
+/// An access through a pointer that isn't WILD lies in the pointer's part, and its object has not ended.
+pub fn accesses_lie_in_parts()
+    ensures { (kind : Kind) (objects : List Object) (l : Location) (size : ℕ) (x : Spot) → kind ≢ Wild → spot kind objects (At l) size ≡ Some x → (l.part.low ≤ x.at) × (x.at + size ≤ l.part.high) × IsTrue x.object.live }
 {}
 
 /// `putchar` appends the low byte of its argument to the output, and changes nothing else.

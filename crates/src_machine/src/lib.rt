@@ -3,20 +3,17 @@
 #![tactic(auto)]
 
 ghost use Rattle.std.specs.Prelude.{◌≡◌, ◌≤◌, ℕ, [], ◌∷◌, length};
-ghost use Rattle.cc_base.specs.declared.kind.Kind.{Kind};
 ghost use Rattle.cc_base.specs.declared.kind.Kind.TheVariants.{Safe, Wild};
-ghost use Rattle.cc_base.specs.declared.number.NodeId.{NodeId};
-ghost use Rattle.c_types.specs.Table.{Table};
-ghost use Rattle.c_tree.specs.TypedTree.{TypedTranslationUnit};
 ghost use Rattle.cc_base.specs.declared.fault.Check.TheVariants.{Null, Bounds, Range, Cast, Escape, Tag, Fun, Divide, Depth};
-ghost use Rattle.runs.specs.Input.{Input, Closed, Open};
+ghost use Rattle.runs.specs.Input.{Closed, Open};
 ghost use Rattle.src_mem.specs.State.{Stopped, Exited, Turns, Wants, Wrong, bytes_of};
 ghost use Rattle.src_mem.specs.Laws.{AreWhole};
-ghost use Rattle.src_machine.specs.Machine.{source_run};
+ghost use Rattle.src_mem.specs.RunLaws.{AllLie};
+ghost use Rattle.src_machine.specs.Laws.{EachRun};
 ghost use Rattle.c_types.specs.declared.site.Site.TheVariants.{Pointee, Home, Linked, Flow};
 ghost use Rattle.src_machine.specs.Sites.{sites_of};
 ghost use Rattle.src_machine.specs.Small.{node, type, int, at, at_line, access, Shows};
-ghost use Rattle.src_machine.specs.Programs.{null_read, past_the_end, stepped_over, address_kept, address_program, address_table, freed_read, size_of_pointer, union_read, divided_by_zero, echoes, goes_on, recursion, recursion_at, moved_too_far, cast_down, called_otherwise, struct_kept, hashed_and_compared, controlled, initialised, null_freed, integer_as_address, copied_from_choice, copied_from_comma};
+ghost use Rattle.src_machine.specs.Programs.{null_read, past_the_end, stepped_over, address_kept, address_program, address_table, freed_read, size_of_pointer, union_read, divided_by_zero, echoes, goes_on, recursion, recursion_at, moved_too_far, cast_down, called_otherwise, struct_kept, hashed_and_compared, controlled, initialised, null_freed, integer_as_address, copied_from_choice, copied_from_comma, compared_with_null};
 
 /// What small programs do that use SAFE and SEQ pointers.
 pub fn programs_with_bounds()
@@ -77,11 +74,13 @@ pub fn word_counter_parts()
 {}
 
 /// `switch`, `do`, `for`, `break` and `continue`; initialisers, static ones among them, compound assignments and the usual
-/// arithmetic conversions.
+/// arithmetic conversions; steps and compound assignments of a narrow type, and comparisons of a pointer outside its part with null.
 pub fn statements_and_initialisers()
     ensures controlled { controlled.output ≡ 3 ∷ 2 ∷ 8 ∷ 12 ∷ 13 ∷ 5 ∷ [] }
     ensures initialised { initialised.output ≡ 96 ∷ 0 ∷ 6 ∷ [] }
     ensures status { initialised.ending ≡ Exited 0 }
+    ensures updated { compared_with_null.output ≡ 200 ∷ 128 ∷ [] }
+    ensures compared { compared_with_null.ending ≡ Exited 5 }
 {}
 
 /// A recursion without end is stopped at its call where that would be the 1,024th that is nested.
@@ -99,14 +98,15 @@ pub fn sites_of_a_program()
 
 /// A run reads no more input than there is.
 pub fn runs_read_what_is_there()
-    ensures { (u : TypedTranslationUnit) (table : Table) (kind : NodeId
-        → Kind) (input : Input) (turns : ℕ)
-        → (source_run u table kind input turns).read ≤ length (bytes_of input) }
+    ensures { EachRun (λ input o. o.read ≤ length (bytes_of input)) }
+{}
+
+/// Each access of a run lies in an object that is there, whatever the program, the kinds, the input and the turns.
+pub fn runs_stay_in_objects()
+    ensures { EachRun (λ input o. AllLie o) }
 {}
 
 /// At the end of a run each object has as many bytes as its size, and those under a stored pointer are zero.
 pub fn objects_are_whole_at_the_end()
-    ensures { (u : TypedTranslationUnit) (table : Table) (kind : NodeId
-        → Kind) (input : Input) (turns : ℕ)
-        → AreWhole (source_run u table kind input turns).memory.objects }
+    ensures { EachRun (λ input o. AreWhole o.memory.objects) }
 {}

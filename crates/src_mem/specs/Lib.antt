@@ -14,3 +14,4 @@ pub mod Rows
 pub mod Small
 pub mod Values
 pub mod ValueLaws
+pub mod RunLaws

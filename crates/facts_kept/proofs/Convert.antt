@@ -32,16 +32,11 @@ use Rattle.src_mem.specs.Checks.{Condition, Conversion, holds, conditions_of_con
 use Rattle.src_mem.specs.Primitives.{is_made_anew, made_at}
 use Rattle.src_mem.specs.State.{Setting}
 use Rattle.src_mem.specs.Facts.{HoldType, RepeatType, IsSameShifted, IsLocated, IsTyped, StandsAt, IsSafeAt, IsTypedAt, IsSequenceAt, IsWildAt, IsFunctionOf, IsValueOf, IsMade}
-use Rattle.facts_kept.specs.Kept.{IsFlow}
+use Rattle.facts_kept.specs.Kept.{IsFlow, AllHold}
 use Rattle.facts_kept.proofs.Agree.{agree-own, agree-turned, agree-twice, covered-cells, first, second, negated}
 use Rattle.facts_kept.proofs.Flow.{Tells, class-tells, up-told, tiled-told, equal-data, begins-data, covers-up, by-place, rep-there, tile-some, tile-in-class}
 use Rattle.facts_kept.proofs.Complete.{complete-like, complete-some, complete-data, function-empty}
 use Rattle.facts_kept.proofs.Holds.{in-bounds, class-covers, class-data, covered-holds, seq-cell, seq-stands, seq-holds, first-between}
-
--- all conditions hold
-abbrev pub AllHold : Setting → Memory → List Condition → Type 0
-AllHold w memory [] = ⊤
-AllHold w memory (c ∷ cs) = (holds w memory c ≡ true) × AllHold w memory cs
 
 abbrev pub converted : FlowClass → Kind → Kind → TypeId → Pointer → Pointer
 converted class from to u p = if is_made_anew class from to then made_at u p else p

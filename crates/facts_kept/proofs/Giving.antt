@@ -9,8 +9,8 @@ use Rattle.src_mem.specs.State.{Ending, Exited, Stopped, Turns, Wants, Wrong, St
 use Rattle.src_mem.specs.Checks.{Condition, check_of, holds, all_placed}
 use Rattle.src_mem.specs.Primitives.{Spot, access}
 use Rattle.src_mem.specs.Laws.{Gives}
+use Rattle.facts_kept.specs.Kept.{AllHold}
 use Rattle.src_mem.proofs.Spots.{IsRight, spot-right}
-use Rattle.facts_kept.proofs.Convert.{AllHold}
 
 pub gives-from : {A B : Type 0} (P : A → State → Type 0) (Q : B → State → Type 0) (m : Outcome Ending State A) (f : A → Act B)
     → Gives m P → ((a : A) (s : State) → P a s → Gives (f a s) Q) → Gives (from m f) Q

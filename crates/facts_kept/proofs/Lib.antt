@@ -20,3 +20,6 @@ pub mod Conversions
 pub mod PlaceSpots
 pub mod Reading
 pub mod Writing
+pub mod Moving
+pub mod Parts
+pub mod Addresses

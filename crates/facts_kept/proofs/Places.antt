@@ -29,11 +29,8 @@ use Rattle.facts_kept.proofs.Agree.{agree-twice, pointer-there}
 use Rattle.facts_kept.proofs.Flow.{begins-data}
 use Rattle.facts_kept.proofs.Complete.{complete-some, complete-data, function-empty}
 use Rattle.facts_kept.proofs.Holds.{in-bounds, class-covers, class-data, covered-holds, seq-stands, seq-holds}
-use Rattle.facts_kept.proofs.Convert.{AllHold, safe-at, typed-typed, safe-function, Both, Alike, both-or-void, both-complete, seq-complete, shifted-alike}
-
--- what is asked before a use of all of t: NULL, BOUNDS, WBOUNDS
-abbrev pub asked_of : ℕ → Kind → Pointer → List Condition
-asked_of m k p = by_kind k (NotNull p ∷ []) (InBounds m p ∷ []) (InObject m p ∷ [])
+use Rattle.facts_kept.specs.Kept.{AllHold, asked_of}
+use Rattle.facts_kept.proofs.Convert.{safe-at, typed-typed, safe-function, Both, Alike, both-or-void, both-complete, seq-complete, shifted-alike}
 
 module _ (w : Setting) (sound : IsWellFormed w.table) (outlines : List Outline) where
   -- A pointer that is a value of its kind to t is one to each type of one class.

@@ -29,9 +29,8 @@ use Rattle.src_mem.specs.Laws.{Gives}
 use Rattle.src_mem.proofs.Spots.{IsRight}
 use Rattle.src_mem.proofs.Right.{no_function, pointer_size, pointer_cells_are, integer_cells, safe≢wild, seq≢wild, rtti≢wild}
 use Rattle.src_mem.proofs.CallsRight.{integer_size}
-use Rattle.facts_kept.specs.Kept.{GivesPointer, GivesAddress, GivesInteger, GivesIntegerValue}
-use Rattle.facts_kept.proofs.Convert.{AllHold}
-use Rattle.facts_kept.proofs.Places.{asked_of, held-place, loaded-typed, loaded-tagged, spread, stands-pointer}
+use Rattle.facts_kept.specs.Kept.{GivesPointer, GivesAddress, GivesInteger, GivesIntegerValue, AllHold, asked_of}
+use Rattle.facts_kept.proofs.Places.{held-place, loaded-typed, loaded-tagged, spread, stands-pointer}
 use Rattle.facts_kept.proofs.Giving.{gives-from, gives-checked, gives-access}
 use Rattle.facts_kept.proofs.PlaceSpots.{TypedSpot, TaggedSpot, typed-spot, tagged-spot}
 

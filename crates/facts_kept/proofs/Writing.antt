@@ -36,11 +36,10 @@ use Rattle.src_mem.specs.Laws.{Gives}
 use Rattle.src_mem.proofs.Outlines.{mapped-from}
 use Rattle.src_mem.proofs.Spots.{IsRight}
 use Rattle.src_mem.proofs.Right.{no_function, pointer_size, pointer_cells_are, safe≢wild, seq≢wild, rtti≢wild}
-use Rattle.facts_kept.specs.Kept.{IsKept}
+use Rattle.facts_kept.specs.Kept.{IsKept, AllHold, asked_of}
 use Rattle.facts_kept.proofs.Lists.{outlines-set, lives-set}
 use Rattle.facts_kept.proofs.Complete.{complete-some, complete-data}
-use Rattle.facts_kept.proofs.Convert.{AllHold}
-use Rattle.facts_kept.proofs.Places.{asked_of, held-place, value-class, wild-any, spread, stands-pointer}
+use Rattle.facts_kept.proofs.Places.{held-place, value-class, wild-any, spread, stands-pointer}
 use Rattle.facts_kept.proofs.Stores.{sound-change, sound-pointer, sound-tagged, sound-integer, raw-apart}
 use Rattle.facts_kept.proofs.Giving.{gives-checked, gives-access}
 use Rattle.facts_kept.proofs.PlaceSpots.{TypedSpot, TaggedSpot, typed-spot, tagged-spot}

@@ -1,5 +1,5 @@
 -- What operations leave of the facts, in the words of their laws.
-use Rattle.std.specs.Prelude.{◌≡◌, ℕ, ℤ, List}
+use Rattle.std.specs.Prelude.{◌≡◌, ℕ, ℤ, true, ⊤, List, [], ◌∷◌}
 use Rattle.std.specs.List.{Contains}
 use Rattle.cc_base.specs.declared.kind.Kind.{Kind}
 use Rattle.cc_base.specs.declared.number.TypeId.{TypeId}
@@ -11,6 +11,7 @@ use Rattle.integers.specs.Arithmetic.{IntegerType, converted}
 use Rattle.src_mem.specs.Pointers.{Pointer, Value, Integer, Address}
 use Rattle.src_mem.specs.Memory.{Object, Memory}
 use Rattle.src_mem.specs.State.{State, Setting}
+use Rattle.src_mem.specs.Checks.{Condition, NotNull, InBounds, InObject, by_kind, holds}
 use Rattle.src_mem.specs.Outlines.{outlines_of, lives_of}
 use Rattle.src_mem.specs.Facts.{IsHeldIn, IsMade, IsSoundMemory}
 
@@ -50,3 +51,12 @@ pub record IsKept (w : Setting) (sites : List Site) (old new : Memory) : Type 0 
   pub sound : IsSoundMemory w sites new
   pub outlines : outlines_of new ≡ outlines_of old
   pub lives : lives_of new ≡ lives_of old
+
+-- all conditions hold
+abbrev pub AllHold : Setting → Memory → List Condition → Type 0
+AllHold w memory [] = ⊤
+AllHold w memory (c ∷ cs) = (holds w memory c ≡ true) × AllHold w memory cs
+
+-- what is asked before m bytes are used, by kind: NULL, BOUNDS or WBOUNDS
+abbrev pub asked_of : ℕ → Kind → Pointer → List Condition
+asked_of m k p = by_kind k (NotNull p ∷ []) (InBounds m p ∷ []) (InObject m p ∷ [])

@@ -32,15 +32,11 @@ use Rattle.src_mem.specs.Checks.{Condition, Conversion, holds, conditions_of_con
 use Rattle.src_mem.specs.Primitives.{is_made_anew, made_at}
 use Rattle.src_mem.specs.State.{Setting}
 use Rattle.src_mem.specs.Facts.{HoldType, RepeatType, IsSameShifted, IsLocated, IsTyped, StandsAt, IsSafeAt, IsTypedAt, IsSequenceAt, IsWildAt, IsFunctionOf, IsValueOf, IsMade}
+use Rattle.facts_kept.specs.Kept.{IsFlow, AllHold}
 use Rattle.facts_kept.proofs.Agree.{agree-own, agree-turned, agree-twice, covered-cells, first, second, negated}
 use Rattle.facts_kept.proofs.Flow.{Tells, class-tells, up-told, tiled-told, equal-data, begins-data, covers-up, by-place, rep-there, tile-some, tile-in-class}
 use Rattle.facts_kept.proofs.Complete.{complete-like, complete-some, complete-data, function-empty}
 use Rattle.facts_kept.proofs.Holds.{in-bounds, class-covers, class-data, covered-holds, seq-cell, seq-stands, seq-holds, first-between}
-
--- all conditions hold
-abbrev pub AllHold : Setting → Memory → List Condition → Type 0
-AllHold w memory [] = ⊤
-AllHold w memory (c ∷ cs) = (holds w memory c ≡ true) × AllHold w memory cs
 
 abbrev pub converted : FlowClass → Kind → Kind → TypeId → Pointer → Pointer
 converted class from to u p = if is_made_anew class from to then made_at u p else p
@@ -102,13 +98,6 @@ either-true true b h = inl refl
 either-true false b h = inr h
 
 module _ (w : Setting) (sound : IsWellFormed w.table) (outlines : List Outline) where
-  -- what a flow gives
-  pub record Flow (sites : List Site) (m : NodeId) (t : TypeId) (n : NodeId) (u : TypeId) : Type 0 where
-    pub flow : IsFlowAllowed w.table sites w.kind m t n u
-    pub source : IsPointeeAllowed w.table w.kind m t
-    pub target : IsPointeeAllowed w.table w.kind n u
-    pub asked : Contains sites (Rattle.c_types.specs.declared.site.Site.TheVariants.Pointee n u)
-
   -- SAFE to SAFE
   pub safe-function : (t u : TypeId) (f : ℕ) → is_function w.table t ≡ true → IsOfOneClass w.table w.kind t u → IsFunctionOf w t f → IsFunctionOf w u f
   safe-function t u f ft one h = record {
@@ -520,7 +509,7 @@ module _ (w : Setting) (sound : IsWellFormed w.table) (outlines : List Outline) 
     from-seq-rtti-tile ft i k (Function f) c h = absurd h
 
   -- Every allowed conversion whose conditions hold gives a value of its target.
-  module _ (sites : List Site) (m : NodeId) (t : TypeId) (n : NodeId) (u : TypeId) (f : Flow sites m t n u) (memory : Memory) where
+  module _ (sites : List Site) (m : NodeId) (t : TypeId) (n : NodeId) (u : TypeId) (f : IsFlow w sites m t n u) (memory : Memory) where
     conversion : FlowClass → Kind → Kind → Conversion
     conversion class k l = record { class = class; from = k; to = l; from_size = size_of w.table t; to_size = size_of w.table u; to_type = u }
 
@@ -571,5 +560,5 @@ module _ (w : Setting) (sound : IsWellFormed w.table) (outlines : List Outline) 
         by false p h = h
         by true Null h = tt
         by true (Number k) h = tt
-        by true (At l) h = (n, f.asked)
+        by true (At l) h = (n, f.told)
         by true (Function k) h = tt

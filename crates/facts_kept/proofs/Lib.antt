@@ -9,3 +9,17 @@ pub mod Places
 pub mod Moves
 pub mod Stores
 pub mod Growth
+pub mod Blocks
+pub mod NonePointers
+pub mod Members
+pub mod Unions
+pub mod Later
+pub mod Calls
+pub mod Giving
+pub mod Conversions
+pub mod PlaceSpots
+pub mod Reading
+pub mod Writing
+pub mod Moving
+pub mod Parts
+pub mod Addresses

@@ -29,11 +29,8 @@ use Rattle.facts_kept.proofs.Agree.{agree-twice, pointer-there}
 use Rattle.facts_kept.proofs.Flow.{begins-data}
 use Rattle.facts_kept.proofs.Complete.{complete-some, complete-data, function-empty}
 use Rattle.facts_kept.proofs.Holds.{in-bounds, class-covers, class-data, covered-holds, seq-stands, seq-holds}
-use Rattle.facts_kept.proofs.Convert.{AllHold, safe-at, typed-typed, safe-function, Both, Alike, both-or-void, both-complete, seq-complete, shifted-alike}
-
--- what is asked before a use of all of t: NULL, BOUNDS, WBOUNDS
-abbrev pub asked_of : ℕ → Kind → Pointer → List Condition
-asked_of m k p = by_kind k (NotNull p ∷ []) (InBounds m p ∷ []) (InObject m p ∷ [])
+use Rattle.facts_kept.specs.Kept.{AllHold, asked_of}
+use Rattle.facts_kept.proofs.Convert.{safe-at, typed-typed, safe-function, Both, Alike, both-or-void, both-complete, seq-complete, shifted-alike}
 
 module _ (w : Setting) (sound : IsWellFormed w.table) (outlines : List Outline) where
   -- A pointer that is a value of its kind to t is one to each type of one class.
@@ -152,30 +149,30 @@ module _ (w : Setting) (sound : IsWellFormed w.table) (outlines : List Outline) 
 
   -- A load from a typed object: what is stored there is a value of the pointer type.
   pub loaded-typed : (sites : List Site) (lives : List Life) (depth : ℕ) (t u : TypeId) (m : NodeId) (o : Object) (at high : ℕ) → shape_at w.table t ≡ shape.Pointer m u → IsSoundObject w sites outlines lives o → w.kind o.node ≢ Wild → o.depth ≤ depth
-      → HoldType w o.cells at high t → IsHeld w outlines lives depth (w.kind m) u (pointer_or_null (o.pointers at))
+      → HoldType w o.cells at high t → IsHeld w outlines lives depth (w.kind m) u (pointer_or_null (o.pointers at)) × IsMade sites (pointer_or_null (o.pointers at))
   loaded-typed sites lives depth t u m o at high e s untagged d h = by (o.pointers at) refl
     where
-      by : (x : Option Pointer) → o.pointers at ≡ x → IsHeld w outlines lives depth (w.kind m) u (pointer_or_null x)
-      by None f = record { value = tt; reaches = tt }
+      by : (x : Option Pointer) → o.pointers at ≡ x → IsHeld w outlines lives depth (w.kind m) u (pointer_or_null x) × IsMade sites (pointer_or_null x)
+      by None f = (record { value = tt; reaches = tt }, tt)
       by (Some p) f =
           let x = s.typed untagged at p f in
           let y = stands-pointer t u m o.cells at high e h in
           let same : pointer x.node x.to 0 ≡ pointer y.node y.to 0 = (let a = x.begins in let b = y.found in cc (a, b)) in
           let n : x.node ≡ y.node = cc (same) in let v : x.to ≡ y.to = cc (same) in
           let k : w.kind x.node ≡ w.kind m = ap w.kind n ∙ y.kind in
-          record {
+          (record {
             value = subst (λ c. IsValueOf w outlines c u p) k (value-class (w.kind x.node) x.to u p (subst (λ c. IsOfOneClass w.table w.kind c u) (sym v) y.class) x.value);
             reaches = reaches-more lives o.depth depth p d (s.reaches at p f);
-          }
+          }, s.made at p f)
 
   -- A load from a tagged object, through a pointer whose type spreads WILD.
   pub loaded-tagged : (sites : List Site) (lives : List Life) (depth : ℕ) (u : TypeId) (k : Kind) (o : Object) (at : ℕ) → k ≡ Wild → IsSoundObject w sites outlines lives o → w.kind o.node ≡ Wild → o.depth ≤ depth
-      → IsHeld w outlines lives depth k u (pointer_or_null (o.pointers at))
+      → IsHeld w outlines lives depth k u (pointer_or_null (o.pointers at)) × IsMade sites (pointer_or_null (o.pointers at))
   loaded-tagged sites lives depth u k o at e s tagged d = by (o.pointers at) refl
     where
-      by : (x : Option Pointer) → o.pointers at ≡ x → IsHeld w outlines lives depth k u (pointer_or_null x)
-      by None f = record { value = tt; reaches = tt }
-      by (Some p) f = record { value = subst (λ c. IsValueOf w outlines c u p) (sym e) ((s.tagged tagged at p f).value u); reaches = reaches-more lives o.depth depth p d (s.reaches at p f) }
+      by : (x : Option Pointer) → o.pointers at ≡ x → IsHeld w outlines lives depth k u (pointer_or_null x) × IsMade sites (pointer_or_null x)
+      by None f = (record { value = tt; reaches = tt }, tt)
+      by (Some p) f = (record { value = subst (λ c. IsValueOf w outlines c u p) (sym e) ((s.tagged tagged at p f).value u); reaches = reaches-more lives o.depth depth p d (s.reaches at p f) }, s.made at p f)
 
   -- behind a WILD pointer (or in a WILD home) to a pointer type, that is a WILD pointer
   pub spread : (n m : NodeId) (t u : TypeId) → shape_at w.table t ≡ shape.Pointer m u → is_function w.table t ≡ false → SpreadsWild w.table w.kind n t → w.kind n ≡ Wild → w.kind m ≡ Wild

@@ -67,7 +67,7 @@ kept table objects k n y (x ∷ xs) before h = (
   kept table objects k (suc n) y xs (omega (arith, before)) h.1,
 )
 
-integer_size : (table : Table) (t : TypeId) (b : ℕ) (s : Bool) → shape_at table t ≡ shape.Integer b s → size_of table t ≡ b
+pub integer_size : (table : Table) (t : TypeId) (b : ℕ) (s : Bool) → shape_at table t ≡ shape.Integer b s → size_of table t ≡ b
 unfolding layout_of
 integer_size table t b s e = ap (λ x. (layout_of_shape (descend (layout_step table) no_layout (length table)) x (members_at table t)).size) e
 

@@ -44,7 +44,7 @@ pub record MayTouch (kind : Kind) (objects : List Object) (p : Pointer) (m : ℕ
   pub right : IsRight kind objects location m object at
 
 -- what is in the part and in the object may be touched
-in_part : (kind : Kind) → (kind ≢ Wild) → (objects : List Object) (l : Location) (m : ℕ) (o : Object) (at : ℕ)
+pub in_part : (kind : Kind) → (kind ≢ Wild) → (objects : List Object) (l : Location) (m : ℕ) (o : Object) (at : ℕ)
     → slice_get objects l.object ≡ Some o → o.live ≡ true → l.offset ≡ pos at → l.part.low ≤ at → at + m ≤ l.part.high → l.part.high ≤ o.size
     → IsRight kind objects l m o at
 in_part Safe n objects l m o at found live offset low high inside = record { found = found; live = live; offset = offset; low = low; high = grind arith }

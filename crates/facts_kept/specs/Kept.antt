@@ -1,0 +1,62 @@
+-- What operations leave of the facts, in the words of their laws.
+use Rattle.std.specs.Prelude.{◌≡◌, ℕ, ℤ, true, ⊤, List, [], ◌∷◌}
+use Rattle.std.specs.List.{Contains}
+use Rattle.cc_base.specs.declared.kind.Kind.{Kind}
+use Rattle.cc_base.specs.declared.number.TypeId.{TypeId}
+use Rattle.cc_base.specs.declared.number.NodeId.{NodeId}
+use Rattle.c_types.specs.declared.site.Site.{Site}
+use Rattle.c_types.specs.declared.site.Site.TheVariants as site
+use Rattle.c_types.specs.Solutions.{IsFlowAllowed, IsPointeeAllowed}
+use Rattle.integers.specs.Arithmetic.{IntegerType, converted}
+use Rattle.src_mem.specs.Pointers.{Pointer, Value, Integer, Address}
+use Rattle.src_mem.specs.Memory.{Object, Memory}
+use Rattle.src_mem.specs.State.{State, Setting}
+use Rattle.src_mem.specs.Checks.{Condition, NotNull, InBounds, InObject, by_kind, holds}
+use Rattle.src_mem.specs.Outlines.{outlines_of, lives_of}
+use Rattle.src_mem.specs.Facts.{IsHeldIn, IsMade, IsSoundMemory}
+
+-- A conversion of a pointer of one node to one of another that the sites of a program tell of and a solution of its kinds allows.
+pub record IsFlow (w : Setting) (sites : List Site) (m : NodeId) (t : TypeId) (n : NodeId) (u : TypeId) : Type 0 where
+  pub flow : IsFlowAllowed w.table sites w.kind m t n u
+  pub source : IsPointeeAllowed w.table w.kind m t
+  pub target : IsPointeeAllowed w.table w.kind n u
+  pub told : Contains sites (site.Pointee n u)
+
+-- the memory is as it was, and the pointer may be held in a call of this depth
+pub record GivesPointer (w : Setting) (sites : List Site) (depth : ℕ) (kind : Kind) (t : TypeId) (old : State) (p : Pointer) (new : State) : Type 0 where
+  pub memory : new.memory ≡ old.memory
+  pub held : IsHeldIn w old.memory depth kind t p
+  pub made : IsMade sites p
+
+-- the same of a value, which is that pointer
+pub record GivesAddress (w : Setting) (sites : List Site) (depth : ℕ) (kind : Kind) (t : TypeId) (old : State) (v : Value) (new : State) : Type 0 where
+  pub pointer : Pointer
+  pub is : v ≡ Address pointer
+  pub gives : GivesPointer w sites depth kind t old pointer new
+
+-- the memory is as it was, and the integer is one of this type
+pub record GivesInteger (t : IntegerType) (old : State) (z : ℤ) (new : State) : Type 0 where
+  pub word : ℤ
+  pub is : z ≡ converted t word
+  pub memory : new.memory ≡ old.memory
+
+-- the same of a value, which is that integer
+pub record GivesIntegerValue (t : IntegerType) (old : State) (v : Value) (new : State) : Type 0 where
+  pub integer : ℤ
+  pub is : v ≡ Integer integer
+  pub gives : GivesInteger t old integer new
+
+-- the memory is sound, and its objects are what they were but for their contents
+pub record IsKept (w : Setting) (sites : List Site) (old new : Memory) : Type 0 where
+  pub sound : IsSoundMemory w sites new
+  pub outlines : outlines_of new ≡ outlines_of old
+  pub lives : lives_of new ≡ lives_of old
+
+-- all conditions hold
+abbrev pub AllHold : Setting → Memory → List Condition → Type 0
+AllHold w memory [] = ⊤
+AllHold w memory (c ∷ cs) = (holds w memory c ≡ true) × AllHold w memory cs
+
+-- what is asked before m bytes are used, by kind: NULL, BOUNDS or WBOUNDS
+abbrev pub asked_of : ℕ → Kind → Pointer → List Condition
+asked_of m k p = by_kind k (NotNull p ∷ []) (InBounds m p ∷ []) (InObject m p ∷ [])

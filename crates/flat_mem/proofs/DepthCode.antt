@@ -10,7 +10,7 @@ use Rattle.std.proofs.lemmas.List.Sorted.{IsNonDecreasingBy-short, IsNonDecreasi
 use Rattle.flat_mem.specs.declared.memory.Mark.{Mark}
 use Rattle.flat_mem.specs.Memory.{Bounds, Memory, frames_end, Consecutive, depth_in, depth_of}
 use Rattle.flat_mem.specs.Marks.{frame_seen, frames_seen, memory_seen, IsKept}
-use Rattle.flat_mem.proofs.FrameLaws.{depth_in-newest, depth_in-older, depth_in-past}
+use Rattle.flat_mem.proofs.FrameLaws.{depth_in-newest, depth_in-older, depth_in-below, depth_in-past}
 
 low_or_high : (a x : ℕ) → (a ≤ x) ⊎ (x < a)
 low_or_high a x = grind arith
@@ -19,6 +19,10 @@ pub depth-past : (m : Memory) (bytes : List ℕ) (b : Bounds) (marks : List Mark
 depth-past m bytes b marks xs t c h k r s a seen past kept =
     let top : frames_end b.stack_start (frames_seen xs marks) ≡ t = kept.at_top in
     sym (depth_in-past b.stack_start (frames_seen xs marks) a kept.sound.consecutive (omega (arith, top, past))) ∙ ap (λ n. depth_of n a) seen
+
+pub depth-below : (m : Memory) (bytes : List ℕ) (b : Bounds) (marks : List Mark) (xs : List ℕ) (t c h k r s a : ℕ) → memory_seen bytes b marks xs h k ≡ m → a ≤ b.stack_start → IsKept bytes b marks xs t c h k r s → 0 ≡ depth_of m a
+depth-below m bytes b marks xs t c h k r s a seen low kept =
+    sym (depth_in-below b.stack_start (frames_seen xs marks) a kept.sound.consecutive low) ∙ ap (λ n. depth_of n a) seen
 
 -- a mark's frame begins before the address
 abbrev pub begins_before : ℕ → Mark → Bool

@@ -6,6 +6,7 @@ pub mod Keeps
 pub mod SoundLaws
 pub mod StoreLaws
 pub mod BlockLaws
+pub mod PlanLaws
 pub mod AreaCode
 pub mod FramesSeen
 pub mod FramesKept

@@ -3,3 +3,4 @@ pub mod Placement
 pub mod Memory
 pub mod Marks
 pub mod Tags
+pub mod Plans

@@ -1,7 +1,8 @@
 // The sizes of areas, and making them in the bytes.
 
-ghost use Rattle.std.specs.Prelude.{◌≡◌, ◌+◌, ◌<◌, ◌≤◌, ◌^◌, ◌++◌, Some, None, length, nat_le, vec_capacity, vec_len, if◌then◌else◌};
+ghost use Rattle.std.specs.Prelude.{◌≡◌, ◌+◌, ◌<◌, ◌≤◌, ◌^◌, ◌++◌, false, All, Some, None, length, map, nat_le, vec_capacity, vec_len, if◌then◌else◌};
 ghost use Rattle.flat_mem.specs.Placement.{area_size, areas_size, addresses, first_word, area_made, areas_made};
+ghost use Rattle.flat_mem.specs.Plans.{AreTyped, first_word_written, first_words_written};
 
 use crate::{Area, numbers};
 
@@ -105,6 +106,38 @@ fn make_each(bytes: &mut [u8], areas: &[Area], start: u64) -> u64
     at
 }
 
+// Writes the first words of tagged areas that lie one after another from `start` on.
+#[inline(never)]
+pub(crate) fn write_first_words(bytes: &mut [u8], areas: &[Area], start: u64)
+    requires room { start + areas_size areas.now ≤ length bytes.old }
+    requires small { length bytes.old < 2 ^ 32 }
+    ensures { bytes.new ≡ first_words_written areas.now bytes.old start }
+{
+    let mut at = start;
+    for area in areas {
+        write_first_word(bytes, *area, at);
+        at += size_of(*area);
+    }
+}
+
+// Writes the first word of the area at `at`, where it is tagged.
+fn write_first_word(bytes: &mut [u8], area: Area, at: u64)
+    requires room { at + 8 ≤ length bytes.old }
+    requires small { length bytes.old < 2 ^ 32 }
+    ensures { bytes.new ≡ first_word_written area bytes.old at }
+{
+    if area.tagged {
+        numbers::store_at(bytes, at as usize, 8, area.bytes);
+    }
+}
+
+// Whether one of the areas is tagged.
+pub(crate) fn has_tagged(areas: &[Area]) -> bool
+    ensures { result ≡ false → AreTyped areas.now }
+{
+    areas.iter().any(|area| area.tagged)
+}
+
 // Writes down the addresses of the areas that lie one after another from `start` on.
 #[inline(always)]
 pub(crate) fn list_addresses(list: &mut Vec<u64>, areas: &[Area], start: u64)
@@ -129,5 +162,18 @@ fn list_each(list: &mut Vec<u64>, areas: &[Area], start: u64)
     for area in areas {
         list.push_reserved(at + 8);
         at += size_of(*area);
+    }
+}
+
+// Writes down the addresses of areas that stand so far behind `start`.
+#[inline(always)]
+pub(crate) fn list_shifted(list: &mut Vec<u64>, offsets: &[u64], start: u64)
+    requires room { vec_len list.old + length offsets.now ≤ vec_capacity list.old }
+    requires small { All (λ o. start + o < 2 ^ 64) offsets.now }
+    ensures added { list.new.items ≡ list.old.items ++ map (λ o. start + o) offsets.now }
+    ensures capacity { vec_capacity list.new ≡ vec_capacity list.old }
+{
+    for offset in offsets {
+        list.push_reserved(start + *offset);
     }
 }

@@ -5,11 +5,13 @@
 ghost use Rattle.std.specs.Prelude.{◌≡◌};
 
 mod areas;
+mod frames;
 mod memory;
 mod numbers;
 mod tags;
 
 pub use areas::size_of as area_size;
+pub use frames::FramePlan;
 pub use memory::Flat;
 use std::marker::Model;
 

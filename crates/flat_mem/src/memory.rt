@@ -6,7 +6,7 @@ ghost use Rattle.flat_mem.specs.Memory.{block_address, block_fits, block_made, d
 ghost use Rattle.flat_mem.specs.Placement.{IsWithinLimits};
 ghost use Rattle.flat_mem.specs.Tags.{tag_in, tag_written, row_moved, IsRowInside};
 
-use crate::{Area, Plan, WordRow, areas, numbers, tags};
+use crate::{Area, FramePlan, Plan, WordRow, areas, numbers, tags};
 use std::alloc::{AllocError, Global};
 use std::marker::Model;
 
@@ -201,31 +201,32 @@ impl Flat {
     /// Whether a frame with these areas may be pushed and charged `charge`: fewer than 1,024 frames are live, the
     /// charges of all stay within the limit, and the frame lies in the stack's region.
     #[inline(always)]
-    pub fn fits(&self, areas: &[Area], charge: u64) -> bool
-        ensures { result ≡ fits self.now areas.now charge }
+    pub fn fits(&self, plan: &FramePlan, charge: u64) -> bool
+        ensures { result ≡ fits self.now plan.now charge }
     {
         self.marks.len() < FRAME_LIMIT
             && charge <= self.bounds.stack_limit - self.charge
-            && areas::all_fit(areas, self.bounds.stack_end - self.top)
+            && plan.size <= self.bounds.stack_end - self.top
     }
 
     /// Pushes a frame with these areas, each zeroed and its first word written.
     #[inline(always)]
-    pub fn push_frame(&mut self, areas: &[Area], charge: u64)
-        requires { IsTrue (fits self.old areas.now charge) }
-        ensures memory { self.new ≡ pushed self.old areas.now charge }
-        ensures areas { length (newest_addresses self.new.frames) ≡ length areas.now }
+    pub fn push_frame(&mut self, plan: &FramePlan, charge: u64)
+        requires { IsTrue (fits self.old plan.now charge) }
+        ensures memory { self.new ≡ pushed self.old plan.now charge }
+        ensures areas { length (newest_addresses self.new.frames) ≡ length plan.now }
     {
         let start = self.top;
         let first = self.addresses.len();
-        let end = areas::make_areas(&mut self.bytes, areas, start);
-        areas::list_addresses(&mut self.addresses, areas, start);
+        let end = start + plan.size;
+        plan.make(&mut self.bytes, start);
+        areas::list_shifted(&mut self.addresses, &plan.offsets, start);
         self.marks.push_reserved(Mark {
             start,
             end,
             charge,
             first,
-            count: areas.len(),
+            count: plan.offsets.len(),
         });
         self.top = end;
         self.charge += charge;
@@ -257,6 +258,9 @@ impl Flat {
     pub fn depth_of(&self, at: u64) -> u64
         ensures { result ≡ depth_of self.now at }
     {
+        if at <= self.bounds.stack_start {
+            return 0;
+        }
         if at > self.top {
             return 0;
         }

@@ -1,5 +1,8 @@
 pub mod RangeLaws
 pub mod RunLaws
+pub mod SlotLaws
+pub mod StraightLaws
+pub mod StraightRows
 pub mod KeepLaws
 pub mod StartLaws
 pub mod TableLaws

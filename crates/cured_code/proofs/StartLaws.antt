@@ -15,7 +15,7 @@ use Rattle.cured_code.specs.declared.parts.GlobalLine.{GlobalLine}
 use Rattle.cured_code.specs.declared.parts.Function.{Function}
 use Rattle.cured_code.specs.declared.parts.Parts.{Parts}
 use Rattle.cured_code.specs.FlatState.{State}
-use Rattle.cured_code.specs.FlatMachine.{plan_of, areas_of, area_of, global_addresses, globals_written, loaded_memory, entry, frames_charge_limit, placed}
+use Rattle.cured_code.specs.FlatMachine.{plan_of, areas_of, area_of, globals_written, loaded_memory, entry, frames_charge_limit, placed}
 
 -- the bytes at the start are as many as the plan has
 length-first_bytes : (plan : Plan) → length (first_bytes plan) ≡ flat_size plan
@@ -23,14 +23,13 @@ unfolding first_bytes
 length-first_bytes plan = length-areas_made plan.globals (replicate (flat_size plan) 0) (globals_start plan) ∙ length-replicate (flat_size plan) 0
 
 -- writing the globals' first bytes makes the list no longer
-length-globals_written : (globals : List GlobalLine) (all bytes : List ℕ) → length (globals_written globals all bytes) ≡ length bytes
-length-globals_written [] all bytes = refl
-length-globals_written (g ∷ globals) [] bytes = refl
-length-globals_written (g ∷ globals) (address ∷ all) bytes = length-globals_written globals all (written g.first bytes address) ∙ length-written g.first bytes address
+length-globals_written : (globals : List GlobalLine) (start : ℕ) (bytes : List ℕ) → length (globals_written globals start bytes) ≡ length bytes
+length-globals_written [] start bytes = refl
+length-globals_written (g ∷ globals) start bytes = length-globals_written globals (start + area_size (area_of g.area)) (written g.first bytes (start + 8)) ∙ length-written g.first bytes (start + 8)
 
 -- the size of the byte list before function 0's frame is pushed
 pub length-loaded : (parts : Parts) → length (loaded_memory parts).bytes ≡ flat_size (plan_of parts)
-length-loaded parts = length-globals_written parts.globals (global_addresses parts) (first_bytes (plan_of parts)) ∙ length-first_bytes (plan_of parts)
+length-loaded parts = length-globals_written parts.globals (globals_start (plan_of parts)) (first_bytes (plan_of parts)) ∙ length-first_bytes (plan_of parts)
 
 -- and once it is pushed
 pub length-entry : (f : Function) (s : State) → length (entry f s).state.memory.bytes ≡ length s.memory.bytes
@@ -72,7 +71,7 @@ pub frame_area-zero : (f : Function) (s : State) (k i : ℕ) (area : Area) → f
 frame_area-zero f s k i area h there within = get-areas_made_inside (areas_of f.locals) s.memory.bytes (next_frame s.memory) k area i there within
 
 -- the k-th area of a frame has the k-th address as its place
-pub get-placed : (areas : List Area) (start k : ℕ) (area : Area) → slice_get areas k ≡ Some area → slice_get (placed areas (addresses areas start)) k ≡ Some (record { area = area; address = slice_index (addresses areas start) k })
+pub get-placed : (areas : List Area) (start k : ℕ) (area : Area) → slice_get areas k ≡ Some area → slice_get (placed areas start) k ≡ Some (record { area = area; address = slice_index (addresses areas start) k })
 unfolding addresses
 get-placed [] start k area there = absurd (cc (there))
 get-placed (a ∷ areas) start zero area there = let same : a ≡ area = cc (there) in ap (λ x. Some (record { area = x; address = start + 8 })) same

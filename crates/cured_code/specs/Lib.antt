@@ -3,3 +3,4 @@ pub mod Groups
 pub mod Tables
 pub mod FlatState
 pub mod FlatMachine
+pub mod Straight

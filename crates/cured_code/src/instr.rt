@@ -64,7 +64,7 @@ pub enum Instr {
     St(u64, u32, u32),
     /// `ldw K V A`: V and the K - 1 slots after it become the K words at the address A.
     Ldw(u32, u32, u32),
-    /// `stw K V A`: the words of V and the K - 1 slots after it are written at the address A.
+    /// `stw K A V`: the words of V and the K - 1 slots after it are written at the address A.
     Stw(u32, u32, u32),
     /// `move A B N`: N bytes are copied from the address B to the address A. N is a number.
     Move(u32, u32, u64),

@@ -169,8 +169,11 @@ fn are_bytes_kept(names: &Names, instr: &Instr) -> Option<bool>
 {
     match *instr {
         Instr::Ld(n, v, a) | Instr::St(n, v, a) => Some(is_access_size(n) && have_two(names, v, a)),
-        Instr::Ldw(k, v, a) | Instr::Stw(k, v, a) => {
+        Instr::Ldw(k, v, a) => {
             Some(is_row_size(k) && has_slots(names, v, k) && has_slot(names, a))
+        }
+        Instr::Stw(k, a, v) => {
+            Some(is_row_size(k) && has_slot(names, a) && has_slots(names, v, k))
         }
         Instr::Move(a, b, _) | Instr::Len(a, b) => Some(have_two(names, a, b)),
         Instr::Zero(a, _) => Some(has_slot(names, a)),

@@ -1,7 +1,7 @@
 //! The machine's memory before it runs: the byte list with the globals, and the areas of each function's frame.
 ghost use Rattle.std.specs.Prelude.{◌≡◌, ◌<◌, ◌≤◌, ◌+◌, ◌*◌, ◌^◌, All, IfOk, length, map, sum_by};
 ghost use Rattle.flat_mem.specs.Bytes.{written};
-ghost use Rattle.flat_mem.specs.Placement.{areas_size, addresses};
+ghost use Rattle.flat_mem.specs.Placement.{areas_size};
 ghost use Rattle.flat_mem.specs.Memory.{first_memory, with_bytes};
 ghost use Rattle.cured_code.specs.FlatMachine.{area_of, areas_of, global_areas, globals_written, loaded_memory};
 ghost use Rattle.cured_code.specs.Ranges.{IsGlobalInRange, IsInRange, functions_limit, globals_limit, global_bytes_limit};
@@ -75,7 +75,7 @@ fn load(alloc: Global, functions: &[Function], globals: &[GlobalLine]) -> Result
     requires within { All IsGlobalInRange globals.now }
     ensures { IfOk result (λ flat. let memory = first_memory (plan_for functions.now globals.now) in
         flat ≡ with_bytes memory
-        (globals_written globals.now (addresses (global_areas globals.now) (8 * length functions.now)) memory.bytes)) }
+        (globals_written globals.now (8 * length functions.now) memory.bytes)) }
 {
     let plan = plan(alloc, functions, globals)?;
     let mut flat = Flat::new(alloc, &plan)?;
@@ -113,7 +113,7 @@ fn write_globals(flat: &mut Flat, globals: &[GlobalLine], start: u64)
     requires room { start + areas_size (global_areas globals.now) ≤ length flat.old.bytes }
     requires small { length flat.old.bytes < 2 ^ 32 }
     requires within { All IsGlobalInRange globals.now }
-    ensures { flat.new ≡ with_bytes flat.old (globals_written globals.now (addresses (global_areas globals.now) start) flat.old.bytes) }
+    ensures { flat.new ≡ with_bytes flat.old (globals_written globals.now start flat.old.bytes) }
 {
     let mut at = start;
     for global in globals {

@@ -109,7 +109,7 @@ pub(crate) fn act_bytes(instr: &Instr, flat: &mut Flat, frame: &mut [u64]) -> Ro
             }
             load_row(flat, at, frame, v as usize, k);
         }
-        Instr::Stw(k, v, a) => {
+        Instr::Stw(k, a, v) => {
             let at = frame[a as usize];
             if !flat.in_flat(at, 8 * u64::from(k)) {
                 return Row::Trapped;

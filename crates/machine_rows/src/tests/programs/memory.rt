@@ -67,7 +67,7 @@ fn rows(alloc: Global, stored: u32, loaded: u32) -> Result<Ran, Fail> {
         Instr::Const(4, 66),
         Instr::Const(5, 67),
         Instr::Const(8, 46),
-        Instr::Stw(stored, 3, 0),
+        Instr::Stw(stored, 0, 3),
         Instr::Ldw(loaded, 6, 0),
         Instr::Put(6),
         Instr::Put(7),
@@ -157,8 +157,8 @@ fn an_access_past_the_byte_list_traps(rt: HostRuntime) -> Result<(), Fail> {
         (SIZE, Instr::St(1, 0, 1), false),
         (SIZE - 16, Instr::Ldw(2, 2, 0), true),
         (SIZE - 15, Instr::Ldw(2, 2, 0), false),
-        (SIZE - 24, Instr::Stw(3, 2, 0), true),
-        (SIZE - 23, Instr::Stw(3, 2, 0), false),
+        (SIZE - 24, Instr::Stw(3, 0, 2), true),
+        (SIZE - 23, Instr::Stw(3, 0, 2), false),
     ] {
         let ending = if fits {
             Ending::Exited(0)

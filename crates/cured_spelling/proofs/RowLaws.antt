@@ -6,8 +6,11 @@ use Rattle.cured_code.specs.declared.instr.Instr.{Instr, Row_of-Instr, end_of-In
 use Rattle.cured_code.specs.declared.instr.Instr.TheVariants as instr
 use Rattle.cured_code.specs.declared.instr.Instr.TheBlock.{hidden-the_row-Instr-0, items-the_row-Instr, items_hidden-the_row-Instr-0}
 use Rattle.cured_code.specs.declared.instr.Code.{Code}
+use Rattle.cured_code.specs.declared.parts.Sig.{Sig}
+use Rattle.cured_code.specs.declared.parts.GlobalLine.{GlobalLine}
+use Rattle.cured_code.specs.declared.parts.Function.{Function}
 use Rattle.cured_spelling.specs.Lines.{Line, line, line_text}
-use Rattle.cured_spelling.specs.Spelling.{lines_of, lines_of_row, code_lines, else_line, end_line}
+use Rattle.cured_spelling.specs.Spelling.{lines_of, lines_of_row, code_lines, else_line, end_line, parts_lines, counted, sig_line, node_line, area_line, function_line, body_lines}
 
 row-lines : {m : _} (r : Row_of-Instr m) → lines_of_row r ≡ code_lines (items-the_row-Instr m r)
 row-lines end_of-Instr = refl
@@ -45,3 +48,19 @@ pub if-text : (a : ℕ) (x y : Code) → flat_map line_text (lines_of (instr.If 
 if-text a x y = ap (flat_map line_text) (if-lines a x y)
     ∙ ap (λ t. line_text (line (codes "if") (a ∷ [])) ++ t) (flat_map-append line_text (code_lines x.0.items) (else_line ∷ (code_lines y.0.items ++ (end_line ∷ [])))
       ∙ ap (λ t. flat_map line_text (code_lines x.0.items) ++ (line_text else_line ++ t)) (flat_map-append line_text (code_lines y.0.items) (end_line ∷ [])))
+
+-- the text of a program, part by part
+pub parts-text : (sigs : List Sig) (nodes : List ℕ) (globals : List GlobalLine) (functions : List Function) → flat_map line_text (parts_lines sigs nodes globals functions)
+    ≡ line_text (line (codes "ccured") (1 ∷ [])) ++ (flat_map line_text (counted (codes "sigs") sig_line sigs) ++ (flat_map line_text (counted (codes "nodes") node_line nodes)
+      ++ (flat_map line_text (counted (codes "globals") area_line globals) ++ (flat_map line_text (counted (codes "functions") function_line functions)
+        ++ flat_map line_text (flat_map body_lines functions)))))
+parts-text sigs nodes globals functions =
+    let s = counted (codes "sigs") sig_line sigs in
+    let n = counted (codes "nodes") node_line nodes in
+    let g = counted (codes "globals") area_line globals in
+    let f = counted (codes "functions") function_line functions in
+    let b = flat_map body_lines functions in
+    ap (λ t. line_text (line (codes "ccured") (1 ∷ [])) ++ t) (flat_map-append line_text s (n ++ (g ++ (f ++ b)))
+      ∙ ap (λ t. flat_map line_text s ++ t) (flat_map-append line_text n (g ++ (f ++ b))
+        ∙ ap (λ t. flat_map line_text n ++ t) (flat_map-append line_text g (f ++ b)
+          ∙ ap (λ t. flat_map line_text g ++ t) (flat_map-append line_text f b))))

@@ -34,7 +34,7 @@ line_of (instr.Lts v a b) = line (codes "lts") (v ∷ a ∷ b ∷ [])
 line_of (instr.Ld n v a) = line (codes "ld") (n ∷ v ∷ a ∷ [])
 line_of (instr.St n a v) = line (codes "st") (n ∷ a ∷ v ∷ [])
 line_of (instr.Ldw k v a) = line (codes "ldw") (k ∷ v ∷ a ∷ [])
-line_of (instr.Stw k v a) = line (codes "stw") (k ∷ a ∷ v ∷ [])
+line_of (instr.Stw k a v) = line (codes "stw") (k ∷ a ∷ v ∷ [])
 line_of (instr.Move a b n) = line (codes "move") (a ∷ b ∷ n ∷ [])
 line_of (instr.Zero a n) = line (codes "zero") (a ∷ n ∷ [])
 line_of (instr.Len v b) = line (codes "len") (v ∷ b ∷ [])
@@ -111,13 +111,16 @@ body_lines f = map local_line f.locals ++ (code_lines f.body.0.items ++ (end_lin
 abbrev pub counted : {A : Type 0} → List ℕ → (A → Line) → List A → List Line
 counted name of each = line name (length each ∷ []) ∷ map of each
 
-abbrev pub program_lines : Parts → List Line
-program_lines parts =
+abbrev pub parts_lines : List Sig → List ℕ → List GlobalLine → List Function → List Line
+parts_lines sigs nodes globals functions =
     line (codes "ccured") (1 ∷ [])
-      ∷ (counted (codes "sigs") sig_line parts.sigs
-        ++ (counted (codes "nodes") node_line parts.nodes
-          ++ (counted (codes "globals") area_line parts.globals
-            ++ (counted (codes "functions") function_line parts.functions ++ flat_map body_lines parts.functions))))
+      ∷ (counted (codes "sigs") sig_line sigs
+        ++ (counted (codes "nodes") node_line nodes
+          ++ (counted (codes "globals") area_line globals
+            ++ (counted (codes "functions") function_line functions ++ flat_map body_lines functions))))
+
+abbrev pub program_lines : Parts → List Line
+program_lines parts = parts_lines parts.sigs parts.nodes parts.globals parts.functions
 
 -- the text of a program
 abbrev pub cured_spelling : Parts → List ℕ

@@ -17,3 +17,7 @@ three-put r o a b c t u v whole e f g h = on_ok_weaker {P = c ≡ b ++ v} {Q = c
 pub five-put : {T E : Type 0} (r : Result T E) (o a b c d e t u v w x whole : List ℕ) → a ≡ o ++ t → b ≡ a ++ u → c ≡ b ++ v → d ≡ c ++ w → OnOk r (e ≡ d ++ x)
     → whole ≡ t ++ (u ++ (v ++ (w ++ (x ++ [])))) → OnOk r (e ≡ o ++ whole)
 five-put r o a b c d e t u v w x whole f g h i j k = on_ok_weaker {P = e ≡ d ++ x} {Q = e ≡ o ++ whole} r (λ j. five-added o a b c d e t u v w x whole f g h i j k) j
+
+pub six-put : {T E : Type 0} (r : Result T E) (o a b c d e f t u v w x y whole : List ℕ) → a ≡ o ++ t → b ≡ a ++ u → c ≡ b ++ v → d ≡ c ++ w → e ≡ d ++ x → OnOk r (f ≡ e ++ y)
+    → whole ≡ t ++ (u ++ (v ++ (w ++ (x ++ y)))) → OnOk r (f ≡ o ++ whole)
+six-put r o a b c d e f t u v w x y whole g h i j k l m = on_ok_weaker {P = f ≡ e ++ y} {Q = f ≡ o ++ whole} r (λ l. rw (m, l, k, j, i, h, g) (simp append_assoc)) l

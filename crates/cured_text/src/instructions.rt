@@ -86,7 +86,7 @@ fn put_instr(out: &mut Vec<u8>, instr: &Instr) -> Result<(), NoMemory>
         Instr::Ld(n, v, a) => put_access(out, b"ld", *n, [*v, *a]),
         Instr::St(n, a, v) => put_access(out, b"st", *n, [*a, *v]),
         Instr::Ldw(k, v, a) => put_line(out, b"ldw", &[*k, *v, *a]),
-        Instr::Stw(k, v, a) => put_line(out, b"stw", &[*k, *a, *v]),
+        Instr::Stw(k, a, v) => put_line(out, b"stw", &[*k, *a, *v]),
         Instr::Move(a, b, n) => put_long_line(out, b"move", &[*a, *b], *n),
         Instr::Zero(a, n) => put_long_line(out, b"zero", &[*a], *n),
         Instr::Plain(v, a, b, n) => put_long_line(out, b"plain", &[*v, *a, *b], *n),

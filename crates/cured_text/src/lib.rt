@@ -4,6 +4,9 @@
 
 mod instructions;
 mod lines;
+mod printing;
+
+pub use printing::print;
 
 
 

@@ -29,3 +29,4 @@ pub mod Crossed
 pub mod Queue
 pub mod Tops
 pub mod AllPairsFound
+pub mod Knowing

@@ -158,7 +158,8 @@ abbrev pub is_different : Binary → Bool
 is_different binary.NotEqual = true
 is_different operator = false
 
--- a comparison of two pointers, by whether the one or the other is a null constant: then the other is tested alone
+-- A comparison of two pointers, by whether the one or the other is a null constant, as of `==` and `!=` one may be: then the other is
+-- tested alone.
 abbrev pub compared_with : Bool → Bool → World → Place → Binary → TypeId → TypeId → Value → Value → Act Value
 compared_with true null w at operator t u a b = null_value (is_different operator) b
 compared_with false true w at operator t u a b = null_value (is_different operator) a

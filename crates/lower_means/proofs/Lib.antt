@@ -1,0 +1,6 @@
+pub mod Operators
+pub mod Forms
+pub mod Values
+pub mod Updates
+pub mod Calls
+pub mod Means

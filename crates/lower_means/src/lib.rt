@@ -1,0 +1,2 @@
+//! The code of a typed tree means what the tree means.
+#![tactic(auto)]

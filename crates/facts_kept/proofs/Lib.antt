@@ -23,3 +23,4 @@ pub mod Writing
 pub mod Moving
 pub mod Parts
 pub mod Addresses
+pub mod Allocating

@@ -1,5 +1,5 @@
 -- An allocation isn't wrong, leaves the memory sound, and gives a pointer that may be held once the first element is there.
-use Rattle.std.proofs.Common.{◌≡◌, ◌≢◌, ℕ, zero, suc, ◌+◌, ◌≤◌, ◌⊎◌, pos, Bool, true, false, List, [], ◌∷◌, ◌++◌, map, length, nat_le, slice_get, Some, refl, ap, sym, subst, ◌∙◌, ⊎_elim, arith}
+use Rattle.std.proofs.Common.{◌≡◌, ◌≢◌, ℕ, zero, suc, ◌+◌, ◌≤◌, pos, Bool, true, false, List, [], ◌∷◌, ◌++◌, map, length, nat_le, slice_get, Some, refl, ap, sym, subst, ◌∙◌, ⊎_elim, arith}
 use Rattle.cc_base.specs.declared.number.TypeId.{TypeId}
 use Rattle.cc_base.specs.declared.number.NodeId.{NodeId}
 use Rattle.cc_base.specs.declared.kind.Kind.{Kind}
@@ -18,7 +18,7 @@ use Rattle.src_mem.specs.Pointers.{Pointer, Null}
 use Rattle.src_mem.specs.Memory.{Object, Memory, block_size, block_cells, new_block, charge_of}
 use Rattle.src_mem.specs.State.{State, Setting}
 use Rattle.src_mem.specs.Checks.{conditions_of_allocation, null_or_in_bounds}
-use Rattle.src_mem.specs.Primitives.{heap_limit, block_pointer, with_block, new_block_of, allocate}
+use Rattle.src_mem.specs.Primitives.{heap_limit, block_pointer, with_block, allocate}
 use Rattle.src_mem.specs.Outlines.{Outline, Life, outline, life, outlines_of, lives_of, AreOutlines, AreNoDeeper}
 use Rattle.src_mem.specs.Facts.{IsValueOf, IsHeldIn, IsSoundObject, AreSound, IsSoundAt}
 use Rattle.src_mem.specs.Laws.{Gives}

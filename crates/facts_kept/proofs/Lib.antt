@@ -24,3 +24,4 @@ pub mod Moving
 pub mod Parts
 pub mod Addresses
 pub mod Allocating
+pub mod Moments

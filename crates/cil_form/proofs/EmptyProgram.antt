@@ -74,8 +74,8 @@ empty_main-function : (none body : Code) (place : Place) → body.0.items ≡ []
 empty_main-function none body place e = record {
   type = (int, lit< tt, refl, inl (lit< tt, refl));
   parameters = lit≤ tt;
-  scalars = All-nil _;
-  variables = All-nil _;
+  scalars = tt;
+  variables = tt;
   body = empty-code (context_in (empty_program none body place) (record { ty = type 9; parameters = []; locals = []; body = body })) body e;
 }
 

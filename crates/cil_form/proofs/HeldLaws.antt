@@ -133,7 +133,8 @@ calculate-temps (calculate.Not into a) k types after h l = temps-leaves types in
 point-temps : (i : Point) (k : Context) (types after : Typing) → AreTemps types → IsShapedPoint i k types after → AreTemps after
 point-temps (point.Move into p n way t at) k types after h l = temps-leaves types into _ after h l.6
 point-temps (point.Difference into a t b s at) k types after h l = temps-leaves types into _ after h l.11
-point-temps (point.Compare into comparison a t b s null at) k types after h l = temps-leaves types into _ after h l.9
+point-temps (point.Compare into comparison a t b s at) k types after h l = temps-leaves types into _ after h l.9
+point-temps (point.IsNull into p t different) k types after h l = temps-leaves types into _ after h l.4
 point-temps (point.Member into from outer t i inner u at) k types after h l = temps-leaves types into _ after h l.7
 point-temps (point.Decay into from outer array check inner element at) k types after h l = temps-leaves types into _ after h l.5
 point-temps (point.Address into from outer inner t) k types after h l = temps-leaves types into _ after h l.4
@@ -141,6 +142,7 @@ point-temps (point.Address into from outer inner t) k types after h l = temps-le
 convert-temps : (i : Convert) (k : Context) (types after : Typing) → AreTemps types → IsShapedConvert i k types after → AreTemps after
 convert-temps (convert.Integer into from t) k types after h l = temps-leaves types into _ after h l.3
 convert-temps (convert.ToPointer into from t at) k types after h l = temps-leaves types into _ after h l.4
+convert-temps (convert.FromPointer into from t s) k types after h l = temps-leaves types into _ after h l.6
 convert-temps (convert.Pointer into from t s at) k types after h l = temps-leaves types into _ after h l.7
 
 access-temps : (i : Access) (k : Context) (types after : Typing) → AreTemps types → IsShapedAccess i k types after → AreTemps after
@@ -169,10 +171,10 @@ mutual
   instr-temps : (i : Instr) (k : Context) (types after : Typing) → AreTemps types → IsShaped i k types after → AreTemps after
   instr-temps (instr.Set i) k types after h l = set-temps i k types after h l
   instr-temps (instr.Calculate i) k types after h l = calculate-temps i k types after h l
-  instr-temps (instr.Point i) k types after h l = point-temps i k types after h l
-  instr-temps (instr.Convert i) k types after h l = convert-temps i k types after h l
-  instr-temps (instr.Access i) k types after h l = access-temps i k types after h l
-  instr-temps (instr.Allocate i) k types after h l = allocate-temps i k types after h l
+  instr-temps (instr.Point i) k types after h l = point-temps i k types after h l.0
+  instr-temps (instr.Convert i) k types after h l = convert-temps i k types after h l.0
+  instr-temps (instr.Access i) k types after h l = access-temps i k types after h l.0
+  instr-temps (instr.Allocate i) k types after h l = allocate-temps i k types after h l.0
   instr-temps (instr.Call i) k types after h l = temps-leaves types i.into _ after h l.10
   instr-temps (instr.Runtime i) k types after h l = runtime-temps i k types after h l
   instr-temps (instr.If' t shape code shape' other) k types after h l = row-temps code k types after h l.1

@@ -1,7 +1,7 @@
 -- What code leaves of the temporaries: those that it doesn't write are as they were.
 use Rattle.std.proofs.Common.{ℕ, zero, suc, ◌≡◌, refl, ap, ◌∙◌, subst, sym, Bool, true, false, List, [], ◌∷◌, if◌then◌else◌, nat_eq, arith}
 use Rattle.std.proofs.lemmas.Bool.Decides.{nat_tests}
-use Rattle.runs.specs.Outcome.{Outcome, Ended, Done, from, either, ◌>>◌}
+use Rattle.runs.specs.Outcome.{Outcome, Ended, Done, done, from, either, ◌>>◌}
 use Rattle.runs.specs.Control.{Control, Goes, Leaves, Gives, then_go, out_of, go_round, rounds}
 use Rattle.src_mem.specs.Pointers.{Value, is_true}
 use Rattle.src_mem.specs.State.{Ending, State, Act, Turns, turn}
@@ -16,7 +16,8 @@ use Rattle.cil_form.specs.declared.instr.Instr.TheVariants as instr
 use Rattle.cil_form.specs.declared.instr.Instr.TheBlock.{hidden-the_row-Instr-0, items-the_row-Instr, items_hidden-the_row-Instr-0}
 use Rattle.cil_form.specs.declared.instr.Code.{Code}
 use Rattle.cil_form.specs.State.{Temporaries, Local, Step, Around, beside, on_state, is_same_work, is_same, with_temp, gives_to, changes_none}
-use Rattle.cil_form.specs.Meaning.{act, act_row, run, number_of, into_of_set, set_value, into_of_calculate, calculate_value, into_of_point, point_value, into_of_convert, convert_value, loaded, stored, copied, act_access, into_of_allocate, allocate_value, row_of, call_value, into_of_runtime, runtime_value, returned}
+use Rattle.src_mem.specs.Values.{loaded, stored, copied, called_value, returned}
+use Rattle.cil_form.specs.Meaning.{act, act_row, run, number_of, into_of_set, set_value, into_of_calculate, calculate_value, into_of_point, point_value, into_of_convert, convert_value, target_node, target_value, act_access, into_of_allocate, allocate_value, row_of, into_of_runtime, runtime_value}
 use Rattle.cil_form.specs.Laws.{Spares, RowSpares, CodeSpares, AccessSpares, AreKept, Keeps}
 use Rattle.src_mem.specs.Primitives.{clear}
 
@@ -104,11 +105,11 @@ besides P temps (Ended e s) = λ t p. refl
 besides P temps (Done v s) = λ t p. refl
 
 access-keeps : (i : Access) (w : Around) (P : Temp → Type 0) (c : Local) → AccessSpares i P → Keeps P c.temps (act_access i w c)
-access-keeps (access.Load into from node t at) w P c h = keeps-gives P into (loaded w at node t (c.temps from)) c h
-access-keeps (access.Store to v t at assignment) w P c h = keeps-none P (stored w to t at assignment c.temps (c.temps v)) c
+access-keeps (access.Load into from node t at) w P c h = keeps-gives P into (loaded w.setting at node t (c.temps from)) c h
+access-keeps (access.Store to v t at assignment) w P c h = keeps-none P (stored w.setting at assignment (target_node to) t (target_value w to c.temps) (c.temps v)) c
 access-keeps (access.Clear o) w P c h = keeps-none P (clear (number_of w o)) c
 access-keeps (access.Copy to to_place from node from_place t assignment) w P c h =
-    keeps-none P (copied w to to_place node from_place t assignment c.temps (c.temps from)) c
+    keeps-none P (copied w.setting t from_place node (c.temps from) to_place (target_node to) (target_value w to c.temps) assignment) c
 
 -- Control
 
@@ -145,7 +146,7 @@ mutual
   act-keeps (instr.Access i) w P c h = access-keeps i w P c h
   act-keeps (instr.Allocate i) w P c h = keeps-gives P (into_of_allocate i) (allocate_value i w c.temps) c h
   act-keeps (instr.Call i) w P c h =
-      keeps-gives P i.into (call_value w i.place i.ty (c.temps i.callee) (row_of c.temps i.first i.count)) c h
+      keeps-gives P i.into (called_value w.setting w.call w.depth i.place i.ty (c.temps i.callee) (row_of c.temps i.first i.count)) c h
   act-keeps (instr.Runtime i) w P c h = keeps-gives P (into_of_runtime i) (runtime_value i c.temps) c h
   act-keeps (instr.If' t shape code shape' other) w P c h =
       keeps-either P (is_true (c.temps t)) (act_row code w) (act_row other w) c (row-keeps code w P c h.0) (row-keeps other w P c h.1)
@@ -155,7 +156,7 @@ mutual
       keeps-rounds P (on_state turn >> act_row code w) (λ d. turned P d.temps (act_row code w) (turn d.state) (λ e. row-keeps code w P e h)) c.state.turns c
   act-keeps (instr.Break k) w P c h = λ t p. refl
   act-keeps instr.Return w P c h = λ t p. refl
-  act-keeps (instr.ReturnValue v t at) w P c h = besides P c.temps (returned w at t (c.temps v) c.state)
+  act-keeps (instr.ReturnValue v t at) w P c h = besides P c.temps (from (returned w.setting w.depth at t (c.temps v) c.state) (λ u. done (Gives u)))
 
   row-keeps : {m : _} (r : Row_of-Instr m) (w : Around) (P : Temp → Type 0) (c : Local) → RowSpares r P → Keeps P c.temps (act_row r w c)
   row-keeps end_of-Instr w P c h = λ t p. refl

@@ -1,6 +1,7 @@
 pub mod RunLaws
 pub mod KeepLaws
 pub mod ComputesLaws
+pub mod InstructionLaws
 pub mod TypingLaws
 pub mod HeldLaws
 pub mod ShapedPrograms

@@ -1,5 +1,5 @@
 -- The small programs are in shape.
-use Rattle.std.proofs.Common.{pos, ◌++◌, inl, ℕ, zero, suc, subst, ◌<◌, ◌≡◌, refl, List, [], ◌∷◌, All, Option, Some, lit<, lit≤, arith}
+use Rattle.std.proofs.Common.{pos, ◌++◌, inl, inr, ℕ, zero, suc, subst, ◌<◌, ◌≡◌, refl, List, [], ◌∷◌, All, Option, Some, lit<, lit≤, arith}
 use Rattle.std.proofs.lemmas.List.Elements.{All-cons, All-nil}
 use Rattle.std.specs.declared.alloc.Global.{Global}
 use Rattle.integers.specs.Arithmetic as integer
@@ -9,23 +9,19 @@ use Rattle.c_types.specs.Cells.{cells_at}
 use Rattle.c_types.specs.Equality.{physically_equal}
 use Rattle.cil_form.specs.declared.number.Temp.TheVariants as temp
 use Rattle.cil_form.specs.Small.{code, node, type, int, value, kept}
-use Rattle.cil_form.specs.Machine.{variables_of}
 use Rattle.cil_form.specs.Programs.{loop_table, loop_round, loop_body, loop_main, loop_program, call_table, called_body, called, calling_body, calling, call_program, access_table, access_body, access_main, access_program, case_label, switch_labels, piece, write_character, first_round, first_loop, first_piece, switch_block, switch_body, switch_main, switch_program}
 use denote.Hole.Carrier
 use Rattle.cil_form.specs.declared.instr.Instr.TheBlock.{shape-the_row-Instr-0, hidden-the_row-Instr-0}
-use Rattle.cil_form.specs.Shape.{context_of, context_in, AreNodesOf, IsPlanInShape, IsFunctionInShape, IsInShape}
-use Rattle.cil_form.specs.Typing.{Typing, HeldType, IntegerOf, PointerTo, no_types, with_held, IsTemp, IsBetweenStatements, Includes, Leaves, inside, AreShaped, IsScalar, HoldsOf, AreArguments, same, Context, IsInteger}
+use Rattle.cil_form.specs.Sites.{Each}
+use Rattle.cil_form.specs.Shape.{context_in, AreNodesOf, IsSiteInShape, IsFunctionInShape, IsInShape}
+use Rattle.cil_form.specs.Typing.{Typing, HeldType, IntegerOf, PointerTo, PlaceOf, no_types, with_held, IsTemp, IsBetweenStatements, Includes, Leaves, inside, AreShaped, HoldsOf, AreArguments, same, Context, IsInteger}
 use Rattle.cil_form.proofs.TypingLaws.{includes-all, includes-with, includes-over, shaped-if, shaped-block, shaped-loop, shaped-append, shaped-less}
 use Rattle.cil_form.specs.declared.instr.Instr.TheVariants as instr
 use Rattle.cil_form.specs.declared.instr.Set.TheVariants as set
 use Rattle.cil_form.specs.declared.instr.Code.{Code}
 use Rattle.cil_form.specs.declared.instr.Instr.{Instr}
 
--- a property of each element, one by one
-abbrev pub Each : {X : Type 0} → (X → Type 0) → List X → Type 0
-Each P [] = Unit {0}
-Each P (x ∷ xs) = P x × Each P xs
-
+-- a property of each element, by its number
 pub each-all : {X : Type 0} (P : X → Type 0) (xs : List X) → Each P xs → All P xs
 each-all P [] h = All-nil P
 each-all P (x ∷ xs) h = All-cons P x xs h.0 (each-all P xs h.1)
@@ -47,7 +43,7 @@ abbrev an_int : HeldType
 an_int = IntegerOf integer.int
 
 abbrev its_home : HeldType
-its_home = PointerTo (node 0) int
+its_home = PlaceOf (node 0) int
 
 -- what is known in the loop's round, instruction by instruction
 abbrev l1 : Typing
@@ -89,10 +85,10 @@ loop_choice alloc = (l4, (lit< tt, includes-none l4, includes-all l4), includes-
 pub loop_round-shaped : (alloc : Global) → AreShaped (loop_round alloc) (inside (context_in (loop_program alloc) (loop_main alloc)) no_types) no_types no_types
 loop_round-shaped alloc = (
   l1,
-  (refl, leaves-all no_types 0 (Some its_home) (lit< tt)),
+  ((int, refl, inl refl), leaves-all no_types 0 (Some its_home) (lit< tt)),
   (
     l2,
-    (lit< tt, (lit< tt, refl), (is-temp 0 (lit< tt), refl), leaves-all l1 0 (Some an_int) (lit< tt)),
+    ((lit< tt, (lit< tt, refl), inr (is-temp 0 (lit< tt), refl), leaves-all l1 0 (Some an_int) (lit< tt)), tt),
     (
       l3,
       (integer.int, (lit< tt, refl), refl, leaves-all l2 1 (Some an_int) (lit< tt)),
@@ -110,13 +106,13 @@ loop_round-shaped alloc = (
               ((is-temp 0 (lit< tt), refl), leaves-all l5 0 (Some an_int) (lit< tt)),
               (
                 l7,
-                (refl, leaves-all l6 0 (Some its_home) (lit< tt)),
+                ((int, refl, inl refl), leaves-all l6 0 (Some its_home) (lit< tt)),
                 (
                   l8,
-                  (refl, leaves-all l7 1 (Some its_home) (lit< tt)),
+                  ((int, refl, inl refl), leaves-all l7 1 (Some its_home) (lit< tt)),
                   (
                     l9,
-                    (lit< tt, (lit< tt, refl), (is-temp 1 (lit< tt), refl), leaves-all l8 1 (Some an_int) (lit< tt)),
+                    ((lit< tt, (lit< tt, refl), inr (is-temp 1 (lit< tt), refl), leaves-all l8 1 (Some an_int) (lit< tt)), tt),
                     (
                       l10,
                       (integer.int, (lit< tt, refl), refl, leaves-all l9 2 (Some an_int) (lit< tt)),
@@ -125,7 +121,7 @@ loop_round-shaped alloc = (
                         (integer.int, (lit< tt, refl), (is-temp 1 (lit< tt), refl), (is-temp 2 (lit< tt), refl), leaves-all l10 1 (Some an_int) (lit< tt)),
                         (
                           no_types,
-                          ((lit< tt, (is-temp 0 (lit< tt), refl)), ((lit< tt, refl), is-temp 1 (lit< tt), refl), includes-none l11),
+                          (((lit< tt, inr (is-temp 0 (lit< tt), refl)), ((lit< tt, refl), is-temp 1 (lit< tt), refl), includes-none l11), tt),
                           includes-all no_types,
                         ),
                       ),
@@ -148,10 +144,10 @@ loop_body-shaped alloc = (
       (record { between = between-none; begins = includes-all no_types; keeps = includes-all no_types; ends = includes-all no_types }) (loop_round-shaped alloc),
   (
     l1,
-    (refl, leaves-all no_types 0 (Some its_home) (lit< tt)),
+    ((int, refl, inl refl), leaves-all no_types 0 (Some its_home) (lit< tt)),
     (
       l2,
-      (lit< tt, (lit< tt, refl), (is-temp 0 (lit< tt), refl), leaves-all l1 0 (Some an_int) (lit< tt)),
+      ((lit< tt, (lit< tt, refl), inr (is-temp 0 (lit< tt), refl), leaves-all l1 0 (Some an_int) (lit< tt)), tt),
       (
         no_types,
         (refl, ((lit< tt, refl), is-temp 0 (lit< tt), refl), includes-none l2),
@@ -166,8 +162,8 @@ unfolding shape-the_row-Instr-0 hidden-the_row-Instr-0 Carrier.hidden
 loop_main-in_shape alloc = record {
   type = (int, lit< tt, refl, inl (lit< tt, refl));
   parameters = lit≤ tt;
-  scalars = All-nil _;
-  variables = each-all (IsPlanInShape (loop_program alloc)) (variables_of (loop_main alloc)) ((lit< tt, (lit< tt, refl)), tt);
+  scalars = tt;
+  variables = ((lit< tt, (lit< tt, refl)), tt);
   body = record { shaped = loop_body-shaped alloc; nested = lit≤ tt };
 }
 
@@ -176,7 +172,7 @@ unfolding shape-the_row-Instr-0 hidden-the_row-Instr-0 Carrier.hidden
 loop_program-in_shape alloc formed = record {
   formed = formed;
   nodes = each-all (λ e. AreNodesOf 1 e.shape) loop_table (tt, (tt, (tt, (tt, (tt, (tt, (tt, (tt, (tt, (tt, tt))))))))));
-  sites = All-nil _;
+  sites = each-all (IsSiteInShape (loop_program alloc).types 1) (loop_program alloc).sites ((lit< tt, lit< tt), tt);
   statics = All-nil _;
   globals = lit≤ tt;
   initialisers = record { shaped = includes-all no_types; nested = lit≤ tt };
@@ -190,10 +186,10 @@ loop_program-in_shape alloc formed = record {
 pub called_body-shaped : (alloc : Global) → AreShaped called_body (context_in (call_program alloc) (called alloc)) no_types no_types
 called_body-shaped alloc = (
   l1,
-  (refl, leaves-all no_types 0 (Some its_home) (lit< tt)),
+  ((int, refl, inl refl), leaves-all no_types 0 (Some its_home) (lit< tt)),
   (
     l2,
-    (lit< tt, (lit< tt, refl), (is-temp 0 (lit< tt), refl), leaves-all l1 0 (Some an_int) (lit< tt)),
+    ((lit< tt, (lit< tt, refl), inr (is-temp 0 (lit< tt), refl), leaves-all l1 0 (Some an_int) (lit< tt)), tt),
     (
       l3,
       (integer.int, (lit< tt, refl), refl, leaves-all l2 1 (Some an_int) (lit< tt)),
@@ -253,8 +249,8 @@ called-in_shape : (alloc : Global) → IsFunctionInShape (call_program alloc) (c
 called-in_shape alloc = record {
   type = (int, lit< tt, refl, inl (lit< tt, refl));
   parameters = lit≤ tt;
-  scalars = each-all (λ x. IsScalar (context_of (call_program alloc)) x.ty) (called alloc).parameters ((lit< tt, refl), tt);
-  variables = each-all (IsPlanInShape (call_program alloc)) (variables_of (called alloc)) ((lit< tt, (lit< tt, refl)), tt);
+  scalars = ((lit< tt, refl), tt);
+  variables = ((lit< tt, (lit< tt, refl)), tt);
   body = record { shaped = called_body-shaped alloc; nested = lit≤ tt };
 }
 
@@ -262,8 +258,8 @@ calling-in_shape : (alloc : Global) → IsFunctionInShape (call_program alloc) (
 calling-in_shape alloc = record {
   type = (int, lit< tt, refl, inl (lit< tt, refl));
   parameters = lit≤ tt;
-  scalars = All-nil _;
-  variables = All-nil _;
+  scalars = tt;
+  variables = tt;
   body = record { shaped = calling_body-shaped alloc; nested = lit≤ tt };
 }
 
@@ -271,7 +267,7 @@ pub call_program-in_shape : (alloc : Global) → IsWellFormed (call_program allo
 call_program-in_shape alloc formed = record {
   formed = formed;
   nodes = each-all (λ e. AreNodesOf 2 e.shape) call_table (tt, (tt, (tt, (tt, (tt, (tt, (tt, (tt, (tt, (tt, (tt, (lit< tt, tt))))))))))));
-  sites = All-nil _;
+  sites = each-all (IsSiteInShape (call_program alloc).types 2) (call_program alloc).sites ((lit< tt, lit< tt), ((lit< tt, lit< tt), tt));
   statics = All-nil _;
   globals = lit≤ tt;
   initialisers = record { shaped = includes-all no_types; nested = lit≤ tt };
@@ -283,7 +279,7 @@ call_program-in_shape alloc formed = record {
 
 -- the array's store
 abbrev its_array : HeldType
-its_array = PointerTo (node 0) (type 10)
+its_array = PlaceOf (node 0) (type 10)
 
 abbrev its_element : HeldType
 its_element = PointerTo (node 1) int
@@ -309,22 +305,25 @@ a6 = with_held (value 0) (Some an_int) a5
 pub access_body-shaped : (alloc : Global) → AreShaped access_body (context_in (access_program alloc) (access_main alloc)) no_types no_types
 access_body-shaped alloc = (
   a1,
-  (refl, leaves-all no_types 0 (Some its_array) (lit< tt)),
+  ((type 10, refl, inl refl), leaves-all no_types 0 (Some its_array) (lit< tt)),
   (
     a2,
-    (lit< tt, lit< tt, lit< tt, (3, refl), (is-temp 0 (lit< tt), refl), leaves-all a1 0 (Some its_element) (lit< tt)),
+    ((lit< tt, lit< tt, lit< tt, (3, refl), (is-temp 0 (lit< tt), refl), leaves-all a1 0 (Some its_element) (lit< tt)), ((0, lit< tt, refl), ((2, lit< tt, refl), tt))),
     (
       a3,
       (integer.int, (lit< tt, refl), refl, leaves-all a2 1 (Some an_int) (lit< tt)),
       (
         a4,
-        (node 1, int, (lit< tt, refl), (lit< tt, refl), (is-temp 0 (lit< tt), refl), (integer.int, (is-temp 1 (lit< tt), refl)), leaves-all a3 0 (Some its_element) (lit< tt)),
+        (
+          (node 1, int, (lit< tt, refl), (lit< tt, refl), (is-temp 0 (lit< tt), refl), (integer.int, (is-temp 1 (lit< tt), refl)), leaves-all a3 0 (Some its_element) (lit< tt)),
+          ((3, lit< tt, refl), tt),
+        ),
         (
           a5,
           (integer.int, (lit< tt, refl), refl, leaves-all a4 1 (Some an_int) (lit< tt)),
           (
             a5,
-            ((lit< tt, (is-temp 0 (lit< tt), refl)), ((lit< tt, refl), is-temp 1 (lit< tt), refl), includes-all a5),
+            (((lit< tt, inl (is-temp 0 (lit< tt), refl)), ((lit< tt, refl), is-temp 1 (lit< tt), refl), includes-all a5), tt),
             (
               a6,
               (integer.int, (lit< tt, refl), refl, leaves-all a5 0 (Some an_int) (lit< tt)),
@@ -345,8 +344,8 @@ access_main-in_shape : (alloc : Global) → IsFunctionInShape (access_program al
 access_main-in_shape alloc = record {
   type = (int, lit< tt, refl, inl (lit< tt, refl));
   parameters = lit≤ tt;
-  scalars = All-nil _;
-  variables = each-all (IsPlanInShape (access_program alloc)) (variables_of (access_main alloc)) ((lit< tt, (lit< tt, refl)), tt);
+  scalars = tt;
+  variables = ((lit< tt, (lit< tt, refl)), tt);
   body = record { shaped = access_body-shaped alloc; nested = lit≤ tt };
 }
 
@@ -354,7 +353,7 @@ pub access_program-in_shape : (alloc : Global) → IsWellFormed (access_program 
 access_program-in_shape alloc formed = record {
   formed = formed;
   nodes = each-all (λ e. AreNodesOf 2 e.shape) access_table (tt, (tt, (tt, (tt, (tt, (tt, (tt, (tt, (tt, (tt, (tt, (lit< tt, tt))))))))))));
-  sites = All-nil _;
+  sites = each-all (IsSiteInShape (access_program alloc).types 2) (access_program alloc).sites ((lit< tt, lit< tt), ((lit< tt, lit< tt), ((lit< tt, lit< tt), (lit< tt, tt))));
   statics = All-nil _;
   globals = lit≤ tt;
   initialisers = record { shaped = includes-all no_types; nested = lit≤ tt };
@@ -518,8 +517,8 @@ unfolding shape-the_row-Instr-0 hidden-the_row-Instr-0 Carrier.hidden
 switch_main-in_shape alloc = record {
   type = (int, lit< tt, refl, inl (lit< tt, refl));
   parameters = lit≤ tt;
-  scalars = All-nil _;
-  variables = All-nil _;
+  scalars = tt;
+  variables = tt;
   body = record { shaped = switch_body-shaped alloc; nested = lit≤ tt };
 }
 

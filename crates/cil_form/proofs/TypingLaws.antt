@@ -1,5 +1,6 @@
 -- The laws of what is known of temporaries: more may be known before code than it asks, code after code, and the code that instructions hold.
-use Rattle.std.proofs.Common.{refl, ◌≡◌, sym, subst, Bool, true, false, List, [], ◌∷◌, ◌++◌, if◌then◌else◌, Option, Some, None, IsSome}
+use Rattle.std.proofs.Common.{inl, inr, refl, ◌≡◌, sym, subst, Bool, true, false, List, [], ◌∷◌, ◌++◌, if◌then◌else◌, Option, Some, None, IsSome}
+use Rattle.cc_base.specs.declared.number.NodeId.{NodeId}
 use Rattle.cc_base.specs.declared.number.TypeId.{TypeId}
 use Rattle.integers.specs.Arithmetic.{IntegerType}
 use Rattle.cil_form.specs.declared.number.Temp.{Temp}
@@ -28,7 +29,7 @@ use Rattle.cil_form.specs.declared.instr.Instr.TheBlock.{hidden-the_row-Instr-0,
 use Rattle.cil_form.specs.declared.instr.Code.{Code}
 use Rattle.cil_form.specs.State.{is_same}
 use Rattle.cil_form.proofs.KeepLaws.{temp-one}
-use Rattle.cil_form.specs.Typing.{HeldType, IntegerOf, Typing, Context, Includes, with_held, held_by, Holds, HoldsInteger, HoldsScalar, HoldsOf, Leaves, IsShapedSet, IsRightOperand, IsShapedCalculate, IsShapedPoint, IsShapedConvert, IsTarget, IsShapedAccess, IsShapedAllocate, IsShapedCall, IsShapedRuntime, Passes, inside, IsShaped, IsRowShaped, AreShaped}
+use Rattle.cil_form.specs.Typing.{HeldType, IntegerOf, PointerTo, PlaceOf, Typing, Context, Includes, with_held, held_by, Holds, HoldsInteger, HoldsAddress, HoldsArray, HoldsScalar, HoldsOf, Leaves, IsShapedSet, IsRightOperand, IsShapedCalculate, IsShapedPoint, IsShapedConvert, IsTarget, IsShapedAccess, IsShapedAllocate, IsShapedCall, IsShapedRuntime, Passes, inside, IsShaped, IsRowShaped, AreShaped}
 
 -- What is known
 
@@ -70,6 +71,14 @@ leaves-more more less into x after h l =
 
 holds-more : (more less : Typing) (t : Temp) (x : HeldType) → Includes more less → Holds less t x → Holds more t x
 holds-more more less t x h l = (l.0, h t x l.1)
+
+address-more : (more less : Typing) (t : Temp) (node : NodeId) (u : TypeId) → Includes more less → HoldsAddress less t node u → HoldsAddress more t node u
+address-more more less t node u h (inl l) = inl (holds-more more less t (PointerTo node u) h l)
+address-more more less t node u h (inr l) = inr (holds-more more less t (PlaceOf node u) h l)
+
+array-more : (check : Bool) (more less : Typing) (t : Temp) (node : NodeId) (u : TypeId) → Includes more less → HoldsArray check less t node u → HoldsArray check more t node u
+array-more true more less t node u h l = address-more more less t node u h l
+array-more false more less t node u h l = holds-more more less t (PlaceOf node u) h l
 
 integer-more : (more less : Typing) (t : Temp) → Includes more less → HoldsInteger less t → HoldsInteger more t
 integer-more more less t h l = (l.0, holds-more more less t (IntegerOf l.0) h l.1)
@@ -114,12 +123,13 @@ point-more (point.Move into p n way t at) k more less after h l =
     (l.0, l.1, l.2, l.3, holds-more more less p _ h l.4, integer-more more less n h l.5, leaves-more more less into _ after h l.6)
 point-more (point.Difference into a t b s at) k more less after h l =
     (l.0, l.1, l.2, l.3, l.4, l.5, l.6, l.7, l.8, holds-more more less a _ h l.9, holds-more more less b _ h l.10, leaves-more more less into _ after h l.11)
-point-more (point.Compare into comparison a t b s null at) k more less after h l =
+point-more (point.Compare into comparison a t b s at) k more less after h l =
     (l.0, l.1, l.2, l.3, l.4, l.5, l.6, holds-more more less a _ h l.7, holds-more more less b _ h l.8, leaves-more more less into _ after h l.9)
+point-more (point.IsNull into p t different) k more less after h l = (l.0, l.1, l.2, holds-more more less p _ h l.3, leaves-more more less into _ after h l.4)
 point-more (point.Member into from outer t i inner u at) k more less after h l =
-    (l.0, l.1, l.2, l.3, l.4, l.5, holds-more more less from _ h l.6, leaves-more more less into _ after h l.7)
+    (l.0, l.1, l.2, l.3, l.4, l.5, address-more more less from _ _ h l.6, leaves-more more less into _ after h l.7)
 point-more (point.Decay into from outer array check inner element at) k more less after h l =
-    (l.0, l.1, l.2, l.3, holds-more more less from _ h l.4, leaves-more more less into _ after h l.5)
+    (l.0, l.1, l.2, l.3, array-more check more less from _ _ h l.4, leaves-more more less into _ after h l.5)
 point-more (point.Address into from outer inner t) k more less after h l =
     (l.0, l.1, l.2, holds-more more less from _ h l.3, leaves-more more less into _ after h l.4)
 
@@ -127,20 +137,22 @@ convert-more : (i : Convert) (k : Context) (more less after : Typing) → Includ
 convert-more (convert.Integer into from t) k more less after h l = (l.0, l.1, integer-more more less from h l.2, leaves-more more less into _ after h l.3)
 convert-more (convert.ToPointer into from t at) k more less after h l =
     (l.0, l.1, l.2, integer-more more less from h l.3, leaves-more more less into _ after h l.4)
+convert-more (convert.FromPointer into from t s) k more less after h l =
+    (l.0, l.1, l.2, l.3, l.4, holds-more more less from _ h l.5, leaves-more more less into _ after h l.6)
 convert-more (convert.Pointer into from t s at) k more less after h l =
     (l.0, l.1, l.2, l.3, l.4, l.5, holds-more more less from _ h l.6, leaves-more more less into _ after h l.7)
 
 target-more : (i : Target) (k : Context) (more less : Typing) (t : TypeId) → Includes more less → IsTarget i k less t → IsTarget i k more t
-target-more (target.Pointer p node) k more less t h l = (l.0, holds-more more less p _ h l.1)
+target-more (target.Pointer p node) k more less t h l = (l.0, address-more more less p _ _ h l.1)
 target-more (target.Part o home u offset) k more less t h l = l
 
 access-more : (i : Access) (k : Context) (more less after : Typing) → Includes more less → IsShapedAccess i k less after → IsShapedAccess i k more after
-access-more (access.Load into from node t at) k more less after h l = (l.0, l.1, holds-more more less from _ h l.2, leaves-more more less into _ after h l.3)
+access-more (access.Load into from node t at) k more less after h l = (l.0, l.1, address-more more less from _ _ h l.2, leaves-more more less into _ after h l.3)
 access-more (access.Store to v t at assignment) k more less after h l =
     (target-more to k more less t h l.0, of-more k more less v t h l.1, includes-more more less after h l.2)
 access-more (access.Clear o) k more less after h l = (l.0, includes-more more less after h l.1)
 access-more (access.Copy to to_place from node from_place t assignment) k more less after h l =
-    (l.0, l.1, l.2, target-more to k more less t h l.3, holds-more more less from _ h l.4, includes-more more less after h l.5)
+    (l.0, l.1, l.2, target-more to k more less t h l.3, address-more more less from _ _ h l.4, includes-more more less after h l.5)
 
 allocate-more : (i : Allocate) (k : Context) (more less after : Typing) → Includes more less → IsShapedAllocate i k less after → IsShapedAllocate i k more after
 allocate-more (allocate.Malloc into n node t at) k more less after h l = (l.0, l.1, holds-more more less n _ h l.2, leaves-more more less into _ after h l.3)
@@ -152,7 +164,7 @@ call-more i k more less after h l =
     (l.0, l.1, l.2, l.3, l.4, l.5, l.6, l.7, holds-more more less i.callee _ h l.8, λ j t e. of-more k more less _ t h (l.9 j t e), leaves-more more less i.into _ after h l.10)
 
 runtime-more : (i : RuntimeCall) (k : Context) (more less after : Typing) → Includes more less → IsShapedRuntime i k less after → IsShapedRuntime i k more after
-runtime-more (runtime.Free into p) k more less after h l = ((l.0.0, l.0.1, holds-more more less p _ h l.0.2), leaves-more more less into _ after h l.1)
+runtime-more (runtime.Free into p) k more less after h l = ((l.0.0, holds-more more less p l.0.0 h l.0.1), leaves-more more less into _ after h l.1)
 runtime-more (runtime.Getchar into) k more less after h l = leaves-more more less into _ after h l
 runtime-more (runtime.Putchar into v) k more less after h l = (holds-more more less v _ h l.0, leaves-more more less into _ after h l.1)
 runtime-more (runtime.Exit into v) k more less after h l = (holds-more more less v _ h l.0, leaves-more more less into _ after h l.1)
@@ -164,10 +176,10 @@ mutual
   pub instr-more : (i : Instr) (k : Context) (more less after : Typing) → Includes more less → IsShaped i k less after → IsShaped i k more after
   instr-more (instr.Set i) k more less after h l = set-more i k more less after h l
   instr-more (instr.Calculate i) k more less after h l = calculate-more i k more less after h l
-  instr-more (instr.Point i) k more less after h l = point-more i k more less after h l
-  instr-more (instr.Convert i) k more less after h l = convert-more i k more less after h l
-  instr-more (instr.Access i) k more less after h l = access-more i k more less after h l
-  instr-more (instr.Allocate i) k more less after h l = allocate-more i k more less after h l
+  instr-more (instr.Point i) k more less after h l = (point-more i k more less after h l.0, l.1)
+  instr-more (instr.Convert i) k more less after h l = (convert-more i k more less after h l.0, l.1)
+  instr-more (instr.Access i) k more less after h l = (access-more i k more less after h l.0, l.1)
+  instr-more (instr.Allocate i) k more less after h l = (allocate-more i k more less after h l.0, l.1)
   instr-more (instr.Call i) k more less after h l = call-more i k more less after h l
   instr-more (instr.Runtime i) k more less after h l = runtime-more i k more less after h l
   instr-more (instr.If' t shape code shape' other) k more less after h l =

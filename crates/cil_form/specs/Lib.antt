@@ -1,9 +1,10 @@
 pub mod State
 pub mod Meaning
 pub mod Machine
+pub mod Sites
 pub mod Typing
 pub mod Shape
-pub mod Sites
+pub mod Told
 pub mod Laws
 pub mod Computes
 pub mod Small

@@ -1,24 +1,20 @@
 -- What a program in three-address code means: its static initialisers run, and then `main` (C99 5.1.2).
-use Rattle.std.specs.Prelude.{ℕ, List, [], ◌∷◌, ◌++◌, map, slice_get, Option, None, Some}
-use Rattle.std.specs.List.{filter_map}
+use Rattle.std.specs.Prelude.{ℕ, List, map}
 use Rattle.cc_base.specs.declared.number.NodeId.{NodeId}
-use Rattle.cc_base.specs.declared.number.TypeId.{TypeId}
 use Rattle.cc_base.specs.declared.kind.Kind.{Kind}
-use Rattle.c_types.specs.Table.{Table}
 use Rattle.runs.specs.Outcome.{Outcome, Ended, Done, done, ◌>>=◌, ◌>>◌}
 use Rattle.runs.specs.Control.{Control, Goes, Leaves, Gives}
 use Rattle.runs.specs.Input.{Input}
 use Rattle.src_mem.specs.Pointers.{Value}
-use Rattle.src_mem.specs.Memory.{Object, Planned, new_variable, new_literal}
-use Rattle.src_mem.specs.State.{Ending, State, Act, Defined, Setting, wrong, given}
-use Rattle.src_mem.specs.Runs.{Body, Callable, SourceOutcome, call_within, nested_limit, run_main, run_program}
+use Rattle.src_mem.specs.Memory.{Planned}
+use Rattle.src_mem.specs.State.{Ending, State, Act, Setting, wrong}
+use Rattle.src_mem.specs.Runs as runs
+use Rattle.src_mem.specs.Runs.{Body, Callable, Head, SourceOutcome, defined, run_all}
 use Rattle.cil_form.specs.declared.instr.Instr.{Instr}
 use Rattle.cil_form.specs.declared.number.Planned.{Planned as PlannedObject}
-use Rattle.cil_form.specs.declared.program.Parameter.{Parameter}
 use Rattle.cil_form.specs.declared.program.Function.{Function}
-use Rattle.cil_form.specs.declared.program.Static.{Static}
 use Rattle.cil_form.specs.declared.program.Program.{Program}
-use Rattle.cil_form.specs.State.{Local, Step, no_temps}
+use Rattle.cil_form.specs.State.{Local, Step, Around, no_temps}
 use Rattle.cil_form.specs.Meaning.{run}
 
 -- The parts of a program
@@ -26,40 +22,23 @@ use Rattle.cil_form.specs.Meaning.{run}
 abbrev pub plan : PlannedObject → Planned
 plan o = record { type = o.ty; node = o.home }
 
-abbrev pub planned : TypeId → Option NodeId → Option Planned
-planned t None = None
-planned t (Some home) = Some (record { type = t; node = home })
+-- what a function is beside its body
+abbrev pub head_of : Function → Head
+head_of f = record { type = f.ty; parameters = map (λ p. record { type = p.ty; home = p.home }) f.parameters; locals = map plan f.locals }
 
 -- the objects of a function's frame: its parameters that have names, and its local variables
 abbrev pub variables_of : Function → List Planned
-variables_of f = filter_map (λ p. planned p.ty p.home) f.parameters ++ map plan f.locals
+variables_of f = runs.variables_of (head_of f)
 
-abbrev pub defined : Function → Defined
-defined f = record { type = f.ty; variables = variables_of f }
+-- the objects that live as long as the program
+abbrev pub statics_of : Program → List runs.Static
+statics_of p = map (λ o. record { type = o.planned.ty; home = o.planned.home; text = o.text }) p.statics
 
 -- what stays the same in the runs of a program whose nodes have these kinds
 abbrev pub setting_of : Program → (NodeId → Kind) → Setting
-setting_of p kind = record { table = p.types; kind = kind; functions = map defined p.functions }
+setting_of p kind = record { table = p.types; kind = kind; functions = map (λ f. defined (head_of f)) p.functions }
 
--- an object that lives as long as the program
-abbrev pub static_from : Table → TypeId → NodeId → Option (List ℕ) → Object
-static_from table t home None = new_variable table 0 (record { type = t; node = home })
-static_from table t home (Some text) = new_literal home text
-
-abbrev pub static_object : Table → Static → Object
-static_object table o = static_from table o.planned.ty o.planned.home o.text
-
--- Calls
-
-abbrev pub if_named : Option NodeId → Value → List Value → List Value
-if_named None v vs = vs
-if_named (Some home) v vs = v ∷ vs
-
--- the arguments of the parameters that have names
-abbrev pub named_arguments : List Parameter → List Value → List Value
-named_arguments [] vs = []
-named_arguments (p ∷ ps) [] = []
-named_arguments (p ∷ ps) (v ∷ vs) = if_named p.home v (named_arguments ps vs)
+-- Bodies
 
 -- what a body gives, by how it is left; `none` where its end is reached
 abbrev pub result_of : Value → Control Value → Value
@@ -82,23 +61,19 @@ body_of w f depth first call none =
     alone (run f.body.0.items (record { setting = w; depth = depth; first = first; call = call })) >>= (λ x. done (result_of none x))
 
 abbrev pub callable : Setting → Function → Callable
-callable w f = record { defined = defined f; body = body_of w f; named = named_arguments f.parameters }
+callable w f = runs.callable (head_of f) (body_of w f)
 
 -- The run
 
--- the static initialisers, as a call of depth 0 without variables, which makes no calls
-abbrev pub initialise_statics : Setting → List Instr → Act (Unit {0})
-initialise_statics w code =
-    alone (run code (record { setting = w; depth = 0; first = 0; call = λ f depth arguments. wrong })) >> done tt
+-- what the static initialisers run in: a call of depth 0 without variables, which makes no calls
+abbrev pub static_around : Setting → Around
+static_around w = record { setting = w; depth = 0; first = 0; call = λ f depth arguments. wrong }
 
--- `main` with at most n calls nested in it
-abbrev pub main_run : Program → Setting → ℕ → Act Value
-main_run p w n =
-    given (slice_get p.functions p.main.0) (λ f.
-    run_main w p.main_place (call_within n w (map (callable w) p.functions)) p.main.0 (callable w f))
+abbrev pub initialise_statics : Setting → List Instr → Act (Unit {0})
+initialise_statics w code = alone (run code (static_around w)) >> done tt
 
 -- The meaning of a program, with the kinds of its nodes, for an input and a bound on turns.
 abbrev pub code_run : Program → (NodeId → Kind) → Input → ℕ → SourceOutcome
 code_run p kind input turns =
     let w = setting_of p kind in
-    run_program (initialise_statics w p.initialisers.0.items) (main_run p w nested_limit) (map (static_object p.types) p.statics) input turns
+    run_all w (initialise_statics w p.initialisers.0.items) (map (callable w) p.functions) p.main.0 p.main_place (statics_of p) input turns

@@ -4,6 +4,8 @@ use Rattle.std.proofs.Common.{lit<}
 use Rattle.std.specs.declared.alloc.Global.{Global}
 use Rattle.cc_base.specs.declared.kind.Kind.TheVariants.{Safe, Seq}
 use Rattle.c_types.specs.declared.shape.TypeShape.TheVariants as shape
+use Rattle.c_types.specs.declared.site.Site.{Site}
+use Rattle.c_types.specs.declared.site.Site.TheVariants.{Arith, Linked, Pointee, Home}
 use Rattle.c_types.specs.Table.{Table}
 use Rattle.c_types.specs.Calls.{basic_table}
 use Rattle.runs.specs.Input.{Closed}
@@ -61,7 +63,7 @@ abbrev pub loop_main : Global → Function
 loop_main alloc = record { ty = type 9; parameters = []; locals = local 0 int ∷ []; body = code alloc (loop_body alloc) (lit< tt) }
 
 abbrev pub loop_program : Global → Program
-loop_program alloc = program loop_table 1 (loop_main alloc ∷ []) 0 (at 5) (code alloc [] (lit< tt))
+loop_program alloc = program loop_table 1 (loop_main alloc ∷ []) 0 (at 5) (Home (node 0) int ∷ []) (code alloc [] (lit< tt))
 
 -- its run with so many turns
 abbrev pub loop_run : Global → ℕ → SourceOutcome
@@ -95,7 +97,8 @@ abbrev pub calling : Global → Function
 calling alloc = record { ty = type 10; parameters = []; locals = []; body = code alloc calling_body (lit< tt) }
 
 abbrev pub call_program : Global → Program
-call_program alloc = program call_table 2 (called alloc ∷ calling alloc ∷ []) 1 (at 30) (code alloc [] (lit< tt))
+call_program alloc =
+    program call_table 2 (called alloc ∷ calling alloc ∷ []) 1 (at 30) (Pointee (node 1) (type 9) ∷ Home (node 0) int ∷ []) (code alloc [] (lit< tt))
 
 abbrev pub call_run : Global → SourceOutcome
 call_run alloc = code_run (call_program alloc) (kinds []) (Closed []) 1
@@ -120,8 +123,12 @@ access_body =
 abbrev pub access_main : Global → Function
 access_main alloc = record { ty = type 9; parameters = []; locals = local 0 (type 10) ∷ []; body = code alloc access_body (lit< tt) }
 
+-- the pointer type, the array, the element's address in it, and the `[3]`
+abbrev pub access_sites : List Site
+access_sites = Pointee (node 1) int ∷ Home (node 0) (type 10) ∷ Linked (node 1) (node 0) ∷ Arith (node 1) (at 26) ∷ []
+
 abbrev pub access_program : Global → Program
-access_program alloc = program access_table 2 (access_main alloc ∷ []) 0 (at 5) (code alloc [] (lit< tt))
+access_program alloc = program access_table 2 (access_main alloc ∷ []) 0 (at 5) access_sites (code alloc [] (lit< tt))
 
 -- its run, where the address of the array's first element is SEQ
 abbrev pub access_run : Global → SourceOutcome
@@ -180,7 +187,7 @@ abbrev pub switch_main : Global → Function
 switch_main alloc = record { ty = type 9; parameters = []; locals = []; body = code alloc (switch_body alloc) (lit< tt) }
 
 abbrev pub switch_program : Global → Program
-switch_program alloc = program loop_table 0 (switch_main alloc ∷ []) 0 (at 5) (code alloc [] (lit< tt))
+switch_program alloc = program loop_table 0 (switch_main alloc ∷ []) 0 (at 5) [] (code alloc [] (lit< tt))
 
 -- its run on one byte of input
 abbrev pub switch_run : Global → ℕ → SourceOutcome

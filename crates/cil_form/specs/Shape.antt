@@ -1,11 +1,11 @@
 -- Three-address code in shape: what lowering ensures, and what curing stands on.
-use Rattle.std.specs.Prelude.{◌≡◌, ◌⊎◌, ℕ, suc, ◌+◌, ◌<◌, ◌≤◌, max, List, [], ◌∷◌, map, length, slice_get, sum_by, All, Option, Some, None}
+use Rattle.std.specs.Prelude.{◌≡◌, ◌⊎◌, ℕ, Bool, suc, ◌+◌, ◌<◌, ◌≤◌, max, List, [], ◌∷◌, map, length, slice_get, sum_by, All, Option, Some, None}
 use Rattle.cc_base.specs.declared.number.TypeId.{TypeId}
 use Rattle.c_types.specs.declared.shape.TypeShape.{TypeShape}
 use Rattle.c_types.specs.declared.shape.TypeShape.TheVariants as shape
 use Rattle.c_types.specs.declared.site.Site.{Site}
 use Rattle.c_types.specs.declared.site.Site.TheVariants as site
-use Rattle.c_types.specs.Table.{Table, IsType, shape_at}
+use Rattle.c_types.specs.Table.{Table, HasShape, IsType, shape_at}
 use Rattle.c_types.specs.Sound.{IsWellFormed}
 use Rattle.c_types.specs.Layouts.{size_of}
 use Rattle.integers.specs.Arithmetic.{int}
@@ -19,6 +19,7 @@ use Rattle.cil_form.specs.declared.program.Function.{Function}
 use Rattle.cil_form.specs.declared.program.Static.{Static}
 use Rattle.cil_form.specs.declared.program.Program.{Program}
 use Rattle.cil_form.specs.Machine.{plan, variables_of}
+use Rattle.cil_form.specs.Sites.{Each}
 use Rattle.cil_form.specs.Typing.{Context, AreShaped, IsObjectType, IsNode, IsScalar, IsInteger, no_types}
 
 -- Limits
@@ -83,7 +84,10 @@ abbrev pub AreNodesOf : ℕ → TypeShape → Type 0
 AreNodesOf nodes (shape.Pointer node to) = node.0 < nodes
 AreNodesOf nodes other = Unit {0}
 
--- the nodes and the types of a site are the program's
+abbrev pub IsUnion : Table → TypeId → Type 0
+IsUnion table t = (tag : _) × (shape_at table t ≡ shape.Union tag)
+
+-- the nodes and the types of a site are the program's, and a union that is named is one
 abbrev pub IsSiteInShape : Table → ℕ → Site → Type 0
 IsSiteInShape table nodes (site.Flow from t to u place) = (from.0 < nodes) × IsType table t × (to.0 < nodes) × IsType table u
 IsSiteInShape table nodes (site.Arith node place) = node.0 < nodes
@@ -92,7 +96,7 @@ IsSiteInShape table nodes (site.Linked a b) = (a.0 < nodes) × (b.0 < nodes)
 IsSiteInShape table nodes (site.Same t u) = IsType table t × IsType table u
 IsSiteInShape table nodes (site.Pointee node t) = (node.0 < nodes) × IsType table t
 IsSiteInShape table nodes (site.Home node t) = (node.0 < nodes) × IsType table t
-IsSiteInShape table nodes (site.Union t place) = IsType table t
+IsSiteInShape table nodes (site.Union t place) = IsUnion table t
 
 -- the result's type of a function type
 abbrev pub result_of_shape : TypeShape → Option TypeId
@@ -121,14 +125,15 @@ context_in p f = record (context_of p) { variables = variables_of f; result = re
 abbrev pub IsPlanInShape : Program → Planned → Type 0
 IsPlanInShape p o = IsNode (context_of p) o.node × IsObjectType (context_of p) o.type
 
--- a string literal fills its object
-abbrev pub IsText : ℕ → Option (List ℕ) → Type 0
-IsText size None = Unit {0}
-IsText size (Some text) = length text ≡ size
+-- a string literal fills its object, an array of chars, byte by byte
+abbrev pub IsText : Table → TypeId → Option (List ℕ) → Type 0
+IsText table t None = Unit {0}
+IsText table t (Some text) = (element : TypeId) × (count : ℕ) × (signed : Bool) × HasShape table t (shape.Array element count)
+    × HasShape table element (shape.Integer 1 signed) × (length text ≡ count) × Each (λ b. b < 256) text
 
 pub record IsStaticInShape (p : Program) (s : Static) : Type 0 where
   pub planned : IsPlanInShape p (plan s.planned)
-  pub text : IsText (size_of p.types s.planned.ty) s.text
+  pub text : IsText p.types s.planned.ty s.text
 
 -- code that begins and ends with nothing known of the temporaries
 pub record IsCodeInShape (k : Context) (code : List Instr) : Type 0 where
@@ -143,8 +148,8 @@ IsResult p t = IsScalar (context_of p) t ⊎ (IsType p.types t × (shape_at p.ty
 pub record IsFunctionInShape (p : Program) (f : Function) : Type 0 where
   pub type : (result : TypeId) × IsType p.types f.ty × (shape_at p.types f.ty ≡ shape.Function (map (λ x. x.ty) f.parameters) result) × IsResult p result
   pub parameters : length f.parameters ≤ parameters_limit
-  pub scalars : All (λ x. IsScalar (context_of p) x.ty) f.parameters
-  pub variables : All (IsPlanInShape p) (variables_of f)
+  pub scalars : Each (λ x. IsScalar (context_of p) x.ty) f.parameters
+  pub variables : Each (IsPlanInShape p) (variables_of f)
   pub body : IsCodeInShape (context_in p f) f.body.0.items
 
 -- `main` takes nothing and gives an int (C99 5.1.2.2.1)

@@ -9,6 +9,7 @@ use Rattle.cc_base.specs.declared.number.TypeId.{TypeId}
 use Rattle.cc_base.specs.declared.kind.Kind.{Kind}
 use Rattle.cc_base.specs.declared.kind.Kind.TheVariants.{Safe}
 use Rattle.c_types.specs.declared.shape.TypeShape.{TypeShape}
+use Rattle.c_types.specs.declared.site.Site.{Site}
 use Rattle.c_types.specs.Table.{Table, Entry}
 use Rattle.cil_form.specs.declared.number.Temp.{Temp}
 use Rattle.cil_form.specs.declared.number.Temp.TheVariants as temp
@@ -66,9 +67,9 @@ parameter home t = record { ty = t; home = Some (node home) }
 abbrev pub local : ℕ → TypeId → Planned
 local home t = record { ty = t; home = node home }
 
--- a program without static objects, with the number and the place of its `main`, and the empty code
-abbrev pub program : Table → ℕ → List Function → ℕ → Place → Code → Program
-program table nodes functions main place none = record {
+-- a program without static objects, with the number and the place of its `main`, its sites, and the empty code
+abbrev pub program : Table → ℕ → List Function → ℕ → Place → List Site → Code → Program
+program table nodes functions main place sites none = record {
   types = table;
   nodes = nodes;
   statics = [];
@@ -76,7 +77,7 @@ program table nodes functions main place none = record {
   functions = functions;
   main = record { 0 = main };
   main_place = place;
-  sites = [];
+  sites = sites;
 }
 
 -- What is looked at of a run

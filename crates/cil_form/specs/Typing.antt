@@ -1,5 +1,5 @@
 -- What the temporaries hold where code has come to, and what each instruction asks of them and leaves in them.
-use Rattle.std.specs.Prelude.{ℕ, suc, ◌+◌, ◌*◌, ◌<◌, ◌≤◌, ◌≡◌, ◌⊎◌, List, [], ◌∷◌, length, slice_get, Option, Some, None, IsSome, IsTrue, All, nat_eq, if◌then◌else◌}
+use Rattle.std.specs.Prelude.{ℕ, Bool, true, false, suc, ◌+◌, ◌*◌, ◌<◌, ◌≤◌, ◌≡◌, ◌⊎◌, List, [], ◌∷◌, length, slice_get, Option, Some, None, IsSome, IsTrue, All, nat_eq, if◌then◌else◌}
 use Rattle.std.specs.List.{Contains, IsDistinct}
 use Rattle.cc_base.specs.declared.number.NodeId.{NodeId}
 use Rattle.cc_base.specs.declared.number.TypeId.{TypeId}
@@ -40,6 +40,7 @@ use Rattle.cil_form.specs.declared.instr.RuntimeCall.TheVariants as runtime
 use Rattle.cil_form.specs.declared.instr.Instr.{Instr, Row_of-Instr, end_of-Instr, more_of-Instr}
 use Rattle.cil_form.specs.declared.instr.Instr.TheVariants as instr
 use Rattle.cil_form.specs.State.{is_same}
+use Rattle.cil_form.specs.Sites.{AreAmong, sites_of_point, sites_of_convert, sites_of_access, sites_of_allocate}
 
 -- How many values there are: at most so many are held at once.
 abbrev pub values_limit : ℕ
@@ -49,10 +50,12 @@ values_limit = 256
 abbrev pub switches_limit : ℕ
 switches_limit = 256
 
--- What a temporary holds: an integer that fits a type, or a pointer of a node to a type.
+-- What a temporary holds: an integer that fits a type, a pointer of a node to a type, or the address, with a node, of an object of a type or of
+-- a part of one that is of the type.
 pub data HeldType : Type 0 where
   IntegerOf : IntegerType → HeldType
   PointerTo : NodeId → TypeId → HeldType
+  PlaceOf : NodeId → TypeId → HeldType
 
 -- what is known of each temporary
 abbrev pub Typing : Type 0
@@ -73,7 +76,7 @@ Includes types less = (t : Temp) (x : HeldType) → less t ≡ Some x → types 
 pub record Context : Type 0 where
   pub table : Table
   pub nodes : ℕ
-  -- the sites of the program that no instruction shows
+  -- all sites of the program
   pub sites : List Site
   pub statics : List Planned
   -- the variables of the function
@@ -131,9 +134,13 @@ abbrev pub plan_of : Context → Object → Option Planned
 plan_of k (object.Static n) = slice_get k.statics n.0
 plan_of k (object.Variable n) = slice_get k.variables n.0
 
--- the object has this home and this type
+-- t is the type u that an object is made with, or one that its name was declared with besides
+abbrev pub IsNamedAs : Context → TypeId → TypeId → Type 0
+IsNamedAs k u t = (u ≡ t) ⊎ (ArePhysicallyEqual k u t × AreDeclaredAlike k.sites u t)
+
+-- the object has this home, and may be named with this type
 abbrev pub IsObject : Context → Object → NodeId → TypeId → Type 0
-IsObject k o home t = plan_of k o ≡ Some (record { type = t; node = home })
+IsObject k o home t = (u : TypeId) × (plan_of k o ≡ Some (record { type = u; node = home })) × IsNamedAs k u t
 
 -- u stands at the offset in t: it is t, or stands in a member or an element of t
 pub data IsPart (table : Table) : TypeId → ℕ → TypeId → Type 0 where
@@ -171,12 +178,13 @@ HoldsAtMost limit types = (held : List ℕ) → IsDistinct nat_eq held → All (
 abbrev pub Holds : Typing → Temp → HeldType → Type 0
 Holds types t x = IsTemp t × (types t ≡ Some x)
 
--- an integer, or a pointer, of whatever type
+-- an integer of whatever type
 abbrev pub HoldsInteger : Typing → Temp → Type 0
 HoldsInteger types t = (i : IntegerType) × Holds types t (IntegerOf i)
 
-abbrev pub HoldsPointer : Typing → Temp → Type 0
-HoldsPointer types t = (node : NodeId) × (u : TypeId) × Holds types t (PointerTo node u)
+-- a pointer of the node to u, or a place of u with this node
+abbrev pub HoldsAddress : Typing → Temp → NodeId → TypeId → Type 0
+HoldsAddress types t node u = Holds types t (PointerTo node u) ⊎ Holds types t (PlaceOf node u)
 
 -- what can be tested for being true
 abbrev pub HoldsScalar : Typing → Temp → Type 0
@@ -198,7 +206,7 @@ IsShapedSet (set.Integer into z t) k types after =
 IsShapedSet (set.Null into t) k types after = (node : NodeId) × (u : TypeId) × IsPointer k t node u × Leaves types into (Some (PointerTo node u)) after
 IsShapedSet (set.Function into f t) k types after = (node : NodeId) × (u v : TypeId) × IsPointer k t node u
     × (slice_get k.functions f.0 ≡ Some v) × ArePhysicallyEqual k u v × AreDeclaredAlike k.sites u v × Leaves types into (Some (PointerTo node u)) after
-IsShapedSet (set.Object into o home t) k types after = IsObject k o home t × Leaves types into (Some (PointerTo home t)) after
+IsShapedSet (set.Object into o home t) k types after = IsObject k o home t × Leaves types into (Some (PlaceOf home t)) after
 IsShapedSet (set.Copy into from) k types after = IsTemp from × Leaves types into (types from) after
 
 -- the right operand of a shift may have a type of its own (C99 6.5.7)
@@ -226,42 +234,51 @@ AreComparable k comparison.Equal u v = Unit {0}
 AreComparable k comparison.Different u v = Unit {0}
 AreComparable k order u v = ArePhysicallyEqual k u v
 
+-- the address of an array that decays: without its check it has to be a place
+abbrev pub HoldsArray : Bool → Typing → Temp → NodeId → TypeId → Type 0
+HoldsArray true types from outer array = HoldsAddress types from outer array
+HoldsArray false types from outer array = Holds types from (PlaceOf outer array)
+
 abbrev pub IsShapedPoint : Point → Context → Typing → Typing → Type 0
 IsShapedPoint (point.Move into p n way t at) k types after = (node : NodeId) × (u : TypeId) × IsPointer k t node u × IsObjectType k u
     × Holds types p (PointerTo node u) × HoldsInteger types n × Leaves types into (Some (PointerTo node u)) after
 IsShapedPoint (point.Difference into a t b s at) k types after = (m n : NodeId) × (u v : TypeId) × IsPointer k t m u × IsPointer k s n v
     × IsObjectType k u × IsObjectType k v × ArePhysicallyEqual k u v
     × Holds types a (PointerTo m u) × Holds types b (PointerTo n v) × Leaves types into (Some (IntegerOf long)) after
-IsShapedPoint (point.Compare into comparison a t b s null at) k types after = (m n : NodeId) × (u v : TypeId) × IsPointer k t m u × IsPointer k s n v
+IsShapedPoint (point.Compare into comparison a t b s at) k types after = (m n : NodeId) × (u v : TypeId) × IsPointer k t m u × IsPointer k s n v
     × AreComparable k comparison u v × Holds types a (PointerTo m u) × Holds types b (PointerTo n v) × Leaves types into (Some (IntegerOf int)) after
+IsShapedPoint (point.IsNull into p t different) k types after = (node : NodeId) × (u : TypeId) × IsPointer k t node u
+    × Holds types p (PointerTo node u) × Leaves types into (Some (IntegerOf int)) after
 IsShapedPoint (point.Member into from outer t i inner u at) k types after = IsNode k outer × IsNode k inner
     × IsObjectType k t × IsAggregate k.table t × (i < length (members_at k.table t)) × (member_at k.table t i ≡ u)
-    × Holds types from (PointerTo outer t) × Leaves types into (Some (PointerTo inner u)) after
+    × HoldsAddress types from outer t × Leaves types into (Some (PlaceOf inner u)) after
 IsShapedPoint (point.Decay into from outer array check inner element at) k types after = IsNode k outer × IsNode k inner × IsType k.table array
     × ((count : ℕ) × (shape_at k.table array ≡ shape.Array element count))
-    × Holds types from (PointerTo outer array) × Leaves types into (Some (PointerTo inner element)) after
+    × HoldsArray check types from outer array × Leaves types into (Some (PointerTo inner element)) after
 IsShapedPoint (point.Address into from outer inner t) k types after = IsNode k outer × IsNode k inner × IsObjectType k t
-    × Holds types from (PointerTo outer t) × Leaves types into (Some (PointerTo inner t)) after
+    × Holds types from (PlaceOf outer t) × Leaves types into (Some (PointerTo inner t)) after
 
 abbrev pub IsShapedConvert : Convert → Context → Typing → Typing → Type 0
 IsShapedConvert (convert.Integer into from t) k types after = (i : IntegerType) × IsInteger k t i × HoldsInteger types from × Leaves types into (Some (IntegerOf i)) after
 IsShapedConvert (convert.ToPointer into from t at) k types after = (node : NodeId) × (u : TypeId) × IsPointer k t node u
     × HoldsInteger types from × Leaves types into (Some (PointerTo node u)) after
+IsShapedConvert (convert.FromPointer into from t s) k types after = (node : NodeId) × (u : TypeId) × (i : IntegerType) × IsPointer k t node u
+    × IsInteger k s i × Holds types from (PointerTo node u) × Leaves types into (Some (IntegerOf i)) after
 IsShapedConvert (convert.Pointer into from t s at) k types after = (m n : NodeId) × (u v : TypeId) × IsPointer k t m u × IsPointer k s n v
     × Holds types from (PointerTo m u) × Leaves types into (Some (PointerTo n v)) after
 
 -- a value of type t may be stored there
 abbrev pub IsTarget : Target → Context → Typing → TypeId → Type 0
-IsTarget (target.Pointer p node) k types t = IsNode k node × Holds types p (PointerTo node t)
+IsTarget (target.Pointer p node) k types t = IsNode k node × HoldsAddress types p node t
 IsTarget (target.Part o home u offset) k types t = IsObject k o home u × IsPart k.table u offset t
 
 abbrev pub IsShapedAccess : Access → Context → Typing → Typing → Type 0
 IsShapedAccess (access.Load into from node t at) k types after = IsNode k node × IsScalar k t
-    × Holds types from (PointerTo node t) × Leaves types into (held_by k t) after
+    × HoldsAddress types from node t × Leaves types into (held_by k t) after
 IsShapedAccess (access.Store to v t at assignment) k types after = IsTarget to k types t × HoldsOf k types v t × Includes types after
 IsShapedAccess (access.Clear o) k types after = IsSome (plan_of k o) × Includes types after
 IsShapedAccess (access.Copy to to_place from node from_place t assignment) k types after = IsNode k node
-    × IsObjectType k t × IsAggregate k.table t × IsTarget to k types t × Holds types from (PointerTo node t) × Includes types after
+    × IsObjectType k t × IsAggregate k.table t × IsTarget to k types t × HoldsAddress types from node t × Includes types after
 
 -- a block is made for `void`, or for a complete type
 abbrev pub IsBlockType : Context → TypeId → Type 0
@@ -284,7 +301,7 @@ IsShapedCall call k types after = (node : NodeId) × (u : TypeId) × (parameters
     × Holds types call.callee (PointerTo node u) × AreArguments k types call.first parameters × Leaves types call.into (held_by k result) after
 
 abbrev pub IsShapedRuntime : RuntimeCall → Context → Typing → Typing → Type 0
-IsShapedRuntime (runtime.Free into p) k types after = HoldsPointer types p × Leaves types into None after
+IsShapedRuntime (runtime.Free into p) k types after = HoldsScalar types p × Leaves types into None after
 IsShapedRuntime (runtime.Getchar into) k types after = Leaves types into (Some (IntegerOf int)) after
 IsShapedRuntime (runtime.Putchar into v) k types after = Holds types v (IntegerOf int) × Leaves types into (Some (IntegerOf int)) after
 IsShapedRuntime (runtime.Exit into v) k types after = Holds types v (IntegerOf int) × Leaves types into None after
@@ -307,16 +324,16 @@ pub record Passes (types entry : Typing) (k : Context) (after : Typing) : Type 0
 abbrev pub GivesNothing : Context → Type 0
 GivesNothing k = (t : TypeId) × (k.result ≡ Some t) × (shape_at k.table t ≡ shape.Void)
 
--- Code begins with what the first typing knows, and what the second knows holds behind it. A block and a loop end with what they began with, so
+-- Code begins with what the first typing knows, and what the second knows holds behind it. What an instruction asks of kinds is among the sites. A block and a loop end with what they began with, so
 -- that what the `switch` statements around keep is kept until they are left.
 abbrev mutual
   pub IsShaped : Instr → Context → Typing → Typing → Type 0
   IsShaped (instr.Set i) k types after = IsShapedSet i k types after
   IsShaped (instr.Calculate i) k types after = IsShapedCalculate i k types after
-  IsShaped (instr.Point i) k types after = IsShapedPoint i k types after
-  IsShaped (instr.Convert i) k types after = IsShapedConvert i k types after
-  IsShaped (instr.Access i) k types after = IsShapedAccess i k types after
-  IsShaped (instr.Allocate i) k types after = IsShapedAllocate i k types after
+  IsShaped (instr.Point i) k types after = IsShapedPoint i k types after × AreAmong k.sites (sites_of_point k.table i)
+  IsShaped (instr.Convert i) k types after = IsShapedConvert i k types after × AreAmong k.sites (sites_of_convert k.table i)
+  IsShaped (instr.Access i) k types after = IsShapedAccess i k types after × AreAmong k.sites (sites_of_access i)
+  IsShaped (instr.Allocate i) k types after = IsShapedAllocate i k types after × AreAmong k.sites (sites_of_allocate i)
   IsShaped (instr.Call i) k types after = IsShapedCall i k types after
   IsShaped (instr.Runtime i) k types after = IsShapedRuntime i k types after
   IsShaped (instr.If' t shape code shape' other) k types after = HoldsScalar types t × IsRowShaped code k types after × IsRowShaped other k types after

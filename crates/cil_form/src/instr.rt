@@ -129,7 +129,7 @@ pub enum Point {
         right_ty: TypeId,
         place: Place,
     },
-    /// A comparison of two pointers; where one of them is a null constant, `==` and `!=` have no condition (C99 6.5.8, 6.5.9).
+    /// A comparison of two pointers, none of which is a null constant (C99 6.5.8, 6.5.9).
     Compare {
         into: Temp,
         comparison: Comparison,
@@ -137,8 +137,14 @@ pub enum Point {
         left_ty: TypeId,
         right: Temp,
         right_ty: TypeId,
-        with_null: bool,
         place: Place,
+    },
+    /// A pointer of the type compared with a null constant by `==`, or by `!=` where `different` (C99 6.5.9).
+    IsNull {
+        into: Temp,
+        pointer: Temp,
+        ty: TypeId,
+        different: bool,
     },
     /// The address of a member of the struct or union that a pointer of the node `outer` points to (C99 6.5.2.3). The
     /// address has the node `inner` and points to the member's type.
@@ -189,6 +195,13 @@ pub enum Convert {
         from: Temp,
         ty: TypeId,
         place: Place,
+    },
+    /// A pointer to an integer type (C99 6.3.2.3).
+    FromPointer {
+        into: Temp,
+        from: Temp,
+        from_ty: TypeId,
+        ty: TypeId,
     },
     /// A pointer to another pointer type (C99 6.3.2.3).
     Pointer {

@@ -16,8 +16,7 @@ ghost use Rattle.cil_form.specs.declared.instr.Code.{Code};
 ghost use Rattle.cil_form.specs.State.{Temporaries, Local, Step, Around, gives_to};
 ghost use Rattle.cil_form.specs.Meaning.{act, run, round_of, loop};
 ghost use Rattle.cil_form.specs.Typing.{Typing, no_types, Context, Includes, AreTemps, HoldsAtMost, HoldsScalar, Passes, inside, IsShaped, AreShaped};
-ghost use Rattle.c_types.specs.declared.site.Site.{Site};
-ghost use Rattle.cil_form.specs.Sites.{TellsOf, Shows, AreAsked, sites_of_code, sites_in};
+ghost use Rattle.cil_form.specs.Told.{TellsOf, AreAsked, IsToldOf};
 ghost use Rattle.std.specs.List.{Contains};
 ghost use Rattle.cil_form.specs.declared.program.Function.{Function};
 ghost use Rattle.cil_form.specs.declared.program.Program.{Program};
@@ -114,17 +113,16 @@ pub fn held_code_is_in_shape_as_its_list()
     ensures again { (x : Code) (k : Context) (types entry after : Typing) → Passes types entry k after → AreShaped x.0.items (inside k entry) entry entry → IsShaped (Loop x) k types after }
 {}
 
-/// Each pointer that is known behind code in shape has a site, which says that its node points to the type or is the home of an object of it,
-/// where each that is known before the code has one: so the kinds that meet the sites tell of every pointer in a temporary.
+/// Each pointer that is known behind code in shape has a site, which says that its node points to the type, or is the home of an object that
+/// was declared with it, where each that is known before the code has one: so the kinds that meet the sites tell of every pointer in a temporary.
 pub fn known_pointers_have_sites()
-    ensures { (is : List Instr) (k : Context) (sites : List Site) (types after : Typing) → TellsOf sites k → Shows sites (sites_of_code is k.table) → AreAsked sites types → AreShaped is k types after → AreAsked sites after }
+    ensures { (is : List Instr) (k : Context) (types after : Typing) → TellsOf k.sites k → AreAsked k.sites types → AreShaped is k types after → AreAsked k.sites after }
 {}
 
-/// The sites of a program tell of all that its code may name, and those of each piece of its code are among them.
+/// Sites that tell of the types and of the objects of a program tell of all that its code may name.
 pub fn sites_tell_of_what_code_names()
-    ensures functions { (p : Program) (f : Function) → Contains p.functions f → TellsOf (sites_in p) (context_in p f) }
-    ensures bodies { (p : Program) (f : Function) → Contains p.functions f → Shows (sites_in p) (sites_of_code f.body.0.items p.types) }
-    ensures initialisers { (p : Program) → TellsOf (sites_in p) (context_of p) × Shows (sites_in p) (sites_of_code p.initialisers.0.items p.types) }
+    ensures functions { (p : Program) (f : Function) → IsToldOf p → Contains p.functions f → TellsOf p.sites (context_in p f) }
+    ensures initialisers { (p : Program) → IsToldOf p → TellsOf p.sites (context_of p) }
 {}
 
 /// `int main(void){int i;while(i<3){putchar('a');i=i+1;}return i;}` makes four rounds: it ends with 4 turns, and not with 3.

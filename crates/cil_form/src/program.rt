@@ -41,7 +41,7 @@ pub struct Program {
     pub main: FunctionNumber,
     /// The place of `main`'s name, where DEPTH of its entry is checked.
     pub main_place: Place,
-    /// The sites that no instruction shows: those of declarations, and of code that never runs.
+    /// All sites of the unit: those of its types, objects and declarations, of the code, and of what never runs.
     pub sites: Sites,
 }
 

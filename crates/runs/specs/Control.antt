@@ -39,14 +39,14 @@ abbrev pub rounds : {E S V : Type 0} → E → ℕ → Run E S (Control V) → R
 rounds spent zero round = ends spent
 rounds spent (suc n) round = round >>= (λ x. go_round x (rounds spent n round))
 
--- Two controls are alike where both go on, in states that `I` relates; both leave the same block, in states that `J`
--- relates; or both give values, which `G` relates with their states.
-abbrev pub Alike : {V W S T : Type 0} → (S → T → Type 0) → (S → T → Type 0) → (V → S → W → T → Type 0) → Control V → S → Control W → T → Type 0
+-- Two controls are alike where both go on, in states that `I` relates; both leave the k-th block around, in states that `J k` relates; or
+-- both give values, which `G` relates with their states.
+abbrev pub Alike : {V W S T : Type 0} → (S → T → Type 0) → (ℕ → S → T → Type 0) → (V → S → W → T → Type 0) → Control V → S → Control W → T → Type 0
 Alike I J G Goes s Goes t = I s t
 Alike I J G Goes s (Leaves k) t = ⊥
 Alike I J G Goes s (Gives w) t = ⊥
 Alike I J G (Leaves k) s Goes t = ⊥
-Alike I J G (Leaves k) s (Leaves j) t = (k ≡ j) × J s t
+Alike I J G (Leaves k) s (Leaves j) t = (k ≡ j) × J k s t
 Alike I J G (Leaves k) s (Gives w) t = ⊥
 Alike I J G (Gives v) s Goes t = ⊥
 Alike I J G (Gives v) s (Leaves j) t = ⊥

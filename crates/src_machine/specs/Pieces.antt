@@ -7,7 +7,6 @@ pub data Piece : Type 0 where
   AnExpression : TypedExpr → Piece
   APlace : TypedPlace → Piece
   ASpecifier : TypedSpecifier → Piece
-  ADeclarator : TypedDeclarator → Piece
   -- a declarator with its initialiser
   AnInitialiser : TypedDeclarator → TypedInitialiser → Piece
 
@@ -98,7 +97,7 @@ abbrev mutual
   pieces_of_enumerators (typed.AndValued all name at e value) = pieces_of_enumerators all ++ pieces_of e
 
   pub pieces_of_declarator : TypedDeclarator → List Piece
-  pieces_of_declarator (typed.Declares form t) = pieces_of_form form ++ ADeclarator (typed.Declares form t) ∷ []
+  pieces_of_declarator (typed.Declares form t) = pieces_of_form form
 
   pub pieces_of_form : TypedForm → List Piece
   pieces_of_form (typed.Form stars core parts) = pieces_of_core core ++ pieces_of_parts parts

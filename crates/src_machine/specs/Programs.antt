@@ -504,8 +504,10 @@ integer_as_address list = source_run program table (kinds list) (Closed []) 10
     program : TypedTranslationUnit
     program = function (name (codes "main") (at_line 2 5)) (type 15) [] (
         declares (local_is 2 (type 11) (at_line 3 16) (flows (at_line 3 16) (type 11)
-        (typed.Cast conversion.PointerToPointer (at_line 3 17) (type_name (type 14)) (typed.FunctionName (name (codes "f") (at_line 3 33)) 0 (node 3) (type 16)))))
-        ∷ does (typed.Assign (typed.Target (at_line 4 1) (typed.Call (value 2 2 (type 11)) (at_line 4 3) (arguments []) (type 9)) int) (at_line 4 5) (put (number 65)))
+        (typed.Cast conversion.PointerToPointer (at_line 3 17) (type_name (type 14))
+        (typed.FunctionName (name (codes "f") (at_line 3 33)) 0 (node 3) (type 16)))))
+        ∷ does (typed.Assign (typed.Target (at_line 4 1) (typed.Call (value 2 2 (type 11)) (at_line 4 3) (arguments []) (type 9)) int)
+        (at_line 4 5) (put (number 65)))
         ∷ returns (at_line 5 1) (number 0)
         ∷ []) (function (name (codes "f") (at 5)) (type 15) [] (returns (at 13) (number 0) ∷ []) typed.NoExternal)
 
@@ -535,8 +537,48 @@ null_target column = typed.Target (at_line 4 column) (value (column + 1) 2 (type
 
 -- s=(1?*p:s);
 abbrev pub copied_from_choice : SourceOutcome
-copied_from_choice = copied_from (typed.ParenPlace (at_line 4 3) (typed.StructConditional (number 1) (at_line 4 5) (null_target 6) (variable 9 1 (type 9))))
+copied_from_choice = copied_from (typed.ParenPlace (at_line 4 3)
+    (typed.StructConditional (number 1) (at_line 4 5) (null_target 6) (variable 9 1 (type 9))))
 
 -- s=(1,*p);
 abbrev pub copied_from_comma : SourceOutcome
 copied_from_comma = copied_from (typed.ParenPlace (at_line 4 3) (typed.StructComma (number 1) (null_target 6)))
+
+-- int main(void){
+-- int a[2];int *p=a+5;char c=100;char d=127;
+-- c+=100;d++;(void)putchar(c);(void)putchar(d);
+-- return (p!=0)+(0==p)*2+(p==0||p!=0)*4;}
+abbrev pub compared_with_null : SourceOutcome
+compared_with_null = source_run program table (kinds (Safe ∷ Seq ∷ Safe ∷ Seq ∷ [])) (Closed []) 10
+  where
+    -- the homes of a, p, c and d: 0, 2, 4 and 5; p: 1; the decay: 3
+    table : Table
+    table = basic_table ++ entry (shape.Array int 2)
+        ∷ entry (shape.Pointer (node 1) int) ∷ entry (shape.Pointer (node 3) int) ∷ entry (shape.Function [] int) ∷ []
+
+    p : TypedExpr
+    p = value 0 2 (type 10)
+
+    is : Binary → TypedExpr → TypedExpr → TypedExpr
+    is operator a b = typed.Compared operator a (at 0) b int
+
+    int_of : Binary → TypedExpr → TypedExpr → TypedExpr
+    int_of operator a b = typed.Arithmetic operator a (at 0) b int
+
+    put_char : ℕ → Item
+    put_char n = does (typed.Cast conversion.ToVoid (at 0) (type_name (type 0)) (put (widened int (value 0 n char))))
+
+    program : TypedTranslationUnit
+    program = main (type 12) (
+        declares (local 0 (type 9))
+        ∷ declares (local_is 2 (type 10) (at 0) (flows (at 0) (type 10)
+        (typed.Moved binary.Add side.Left (typed.Decay (variable 0 0 (type 9)) (node 3) (type 11)) (at 0) (number 5) (type 11))))
+        ∷ declares (local_is 4 char (at 0) (widened char (number 100)))
+        ∷ declares (local_is 5 char (at 0) (widened char (number 127)))
+        ∷ does (typed.AssignWith assignment.Add (variable 0 4 char) (at 0) (number 100) int)
+        ∷ does (typed.StepAfter (variable 0 5 char) step.Increment (at 0))
+        ∷ put_char 4 ∷ put_char 5
+        ∷ returns (at 0) (int_of binary.Add (int_of binary.Add (is binary.NotEqual p (null (type 10)))
+        (int_of binary.Multiply (is binary.Equal (null (type 10)) p) (number 2)))
+        (int_of binary.Multiply (typed.Logical binary.LogicalOr (is binary.Equal p (null (type 10))) (at 0) (is binary.NotEqual p (null (type 10))) int) (number 4)))
+        ∷ [])

@@ -1,5 +1,5 @@
 -- What a typed unit asks of the kinds of its nodes: its sites, construct by construct.
-use Rattle.std.specs.Prelude.{Bool, false, ◌&&◌, if◌then◌else◌, List, [], ◌∷◌, ◌++◌, map, flat_map, Option, None, Some, bytes_eq}
+use Rattle.std.specs.Prelude.{if◌then◌else◌, ◌==◌, List, [], ◌∷◌, ◌++◌, map, flat_map, Option, None, Some}
 use Rattle.cc_base.specs.declared.place.Place.{Place}
 use Rattle.cc_base.specs.declared.number.NodeId.{NodeId}
 use Rattle.cc_base.specs.declared.number.TypeId.{TypeId}
@@ -8,26 +8,23 @@ use Rattle.c_types.specs.declared.shape.TypeShape.{TypeShape}
 use Rattle.c_types.specs.declared.shape.TypeShape.TheVariants as shape
 use Rattle.c_types.specs.declared.site.Site.{Site}
 use Rattle.c_types.specs.declared.site.Site.TheVariants as site
-use Rattle.c_types.specs.Table.{Table, shape_at, is_function}
+use Rattle.c_types.specs.Table.{Table, shape_at}
 use Rattle.c_types.specs.Solutions as solutions
 use Rattle.c_types.specs.Solutions.{sites_of_table}
-use Rattle.c_tree.specs.declared.leaf.Identifier.{Identifier}
 use Rattle.c_tree.specs.declared.operator.AggregateKind.{AggregateKind}
 use Rattle.c_tree.specs.declared.operator.AggregateKind.TheVariants as aggregate
 use Rattle.c_tree.specs.declared.operator.Binary.{Binary}
 use Rattle.c_tree.specs.declared.operator.Binary.TheVariants as binary
 use Rattle.c_tree.specs.declared.typed_word.Conversion.{Conversion}
 use Rattle.c_tree.specs.declared.typed_word.Conversion.TheVariants as conversion
-use Rattle.c_tree.specs.declared.typed_word.Home.{Home}
-use Rattle.c_tree.specs.declared.typed_word.Home.TheVariants as home
 use Rattle.c_tree.specs.TypedTree as typed
-use Rattle.c_tree.specs.TypedTree.{TypedExpr, TypedPlace, TypedSpecifier, TypedDeclarator, TypedInitialiser, TypedItems, TypedTranslationUnit}
-use Rattle.c_tree.specs.TypedParts.{type_of, place_type, named_type, declared_type, pointer_side, address_node, home_of, name_of, statics_of, functions_of}
+use Rattle.c_tree.specs.TypedTree.{TypedExpr, TypedPlace, TypedSpecifier, TypedInitialiser, TypedItems, TypedTranslationUnit}
+use Rattle.c_tree.specs.TypedParts.{type_of, place_type, named_type, pointer_side, address_node, home_of, statics_of, functions_of}
 use Rattle.src_mem.specs.Operations.{node_at, pointee_at}
 use Rattle.src_mem.specs.Runs.{variables_of}
-use Rattle.src_machine.specs.World.{same_node}
 use Rattle.src_machine.specs.Machine.{head_of}
-use Rattle.src_machine.specs.Pieces.{Piece, AnExpression, APlace, ASpecifier, ADeclarator, AnInitialiser, pieces_of_unit}
+use Rattle.src_machine.specs.Pieces.{Piece, AnExpression, APlace, ASpecifier, AnInitialiser, pieces_of_unit}
+use Rattle.src_machine.specs.Names.{Named, object_node, first_type, named_in}
 
 -- the node of the address of a place
 abbrev pub address_at : Table → TypedPlace → NodeId
@@ -113,14 +110,6 @@ abbrev mutual
   copies_in_items table n typed.NoItem = []
   copies_in_items table n (typed.AndItem all offset t i) = copies_in_items table n all ++ copies_in table n i
 
--- the object that a declarator names
-abbrev pub object_node : Home → Option NodeId
-object_node home.None = None
-object_node (home.Static n) = Some n
-object_node (home.Local n) = Some n
-object_node (home.Parameter n) = Some n
-object_node (home.Known n) = Some n
-
 abbrev pub copies_to : Table → Option NodeId → TypedInitialiser → List Site
 copies_to table None i = []
 copies_to table (Some n) i = copies_in table n i
@@ -129,7 +118,6 @@ abbrev pub sites_of_piece : Table → Piece → List Site
 sites_of_piece table (AnExpression e) = sites_of_expression table e
 sites_of_piece table (APlace p) = sites_of_place table p
 sites_of_piece table (ASpecifier s) = sites_of_specifier s
-sites_of_piece table (ADeclarator d) = []
 sites_of_piece table (AnInitialiser d i) = copies_to table (object_node (home_of d)) i
 
 -- Homes
@@ -141,37 +129,19 @@ sites_of_homes u = map (λ o. site.Home o.home o.type) (statics_of u)
 
 -- Declarations of one name
 
-abbrev pub declarator_of : Piece → List TypedDeclarator
-declarator_of (ADeclarator d) = d ∷ []
-declarator_of other = []
+-- a type, and the one with which the same was declared first; two that are one need no site
+abbrev pub same_as : TypeId → Option TypeId → List Site
+same_as t None = []
+same_as t (Some first) = if first.0 == t.0 then [] else site.Same first t ∷ []
 
-abbrev pub same_object : Option NodeId → Option NodeId → Bool
-same_object (Some m) (Some n) = same_node m n
-same_object m n = false
-
-abbrev pub same_name : Option Identifier → Option Identifier → Bool
-same_name (Some x) (Some y) = bytes_eq x.bytes y.bytes
-same_name x y = false
-
--- Two declarators declare one object, or one function. A name of a function type is that of one function wherever it is declared
--- (C99 6.2.2).
-abbrev pub same_declared : Table → TypedDeclarator → TypedDeclarator → Bool
-same_declared table d e =
-    if is_function table (declared_type d) && is_function table (declared_type e)
-    then same_name (name_of d) (name_of e)
-    else same_object (object_node (home_of d)) (object_node (home_of e))
-
--- a declarator and the later ones that declare the same
-abbrev pub sites_of_declarators : Table → List TypedDeclarator → List Site
-sites_of_declarators table [] = []
-sites_of_declarators table (d ∷ ds) =
-    flat_map (λ e. if same_declared table d e then site.Same (declared_type d) (declared_type e) ∷ [] else []) ds ++ sites_of_declarators table ds
+abbrev pub sites_of_names : List Named → List Site
+sites_of_names all = flat_map (λ x. same_as x.type (first_type all x.which)) all
 
 -- all sites of a unit with its table of types, in which each pointer type stands, also that of an address
 abbrev pub sites_of : TypedTranslationUnit → Table → List Site
 sites_of u table =
     sites_of_table table ++ sites_of_homes u ++ flat_map (sites_of_piece table) (pieces_of_unit u)
-    ++ sites_of_declarators table (flat_map declarator_of (pieces_of_unit u))
+    ++ sites_of_names (named_in u table)
 
 -- A map from nodes to kinds is a solution of a typed unit.
 abbrev pub IsSolution : TypedTranslationUnit → Table → (NodeId → Kind) → Type 0

@@ -14,3 +14,5 @@ pub mod KeepingRuns
 pub mod Invariants
 pub mod AccessesLie
 pub mod CallsRight
+pub mod AddressesRight
+pub mod RuntimeRight

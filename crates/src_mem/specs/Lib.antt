@@ -13,3 +13,5 @@ pub mod Runs
 pub mod Rows
 pub mod Small
 pub mod Values
+pub mod ValueLaws
+pub mod RunLaws

@@ -26,6 +26,7 @@ ghost use Rattle.src_mem.specs.Primitives.{Spot, spot, load_integer, load_pointe
 ghost use Rattle.src_mem.specs.Checks.{Used, HasBase, Call, conditions_of, holds, all_checked};
 ghost use Rattle.src_mem.specs.Uses.{read, write, copy_all, enter_with};
 ghost use Rattle.src_mem.specs.Operations.{calculate, allocated_for, decayed, kind_in, moved, subtracted, equated, compared, converted_pointer, member};
+ghost use Rattle.src_mem.specs.ValueLaws.{AddressesAreNotWrong};
 ghost use Rattle.src_mem.specs.Facts.{IsSoundMemory, IsHeldIn};
 ghost use Rattle.src_mem.specs.Laws.{AreWhole, KeepsWhole, GivesNext, IsInvariant, AccessesLie, IsNotWrong, IsScalar, IsScalarValue, IsOrder, AreArguments, left_by};
 
@@ -97,6 +98,11 @@ pub fn pointer_operations_are_not_wrong()
 pub fn decays_and_copies_are_not_wrong()
     ensures decay { (w : Setting) (at : Place) (depth : ℕ) (kind : Kind) (array : TypeId) (check : Bool) (node : NodeId) (element : TypeId) (p : Pointer) (s : State) → ((kind ≡ Wild) ↔ (w.kind node ≡ Wild)) → IsFalse (is_function w.table array) → IsHeldIn w s.memory depth kind array p → IsTrue check ⊎ ((kind ≢ Seq) × IsTrue (holds w s.memory (HasBase p))) → IsNotWrong (decayed w at kind array check node element p s) }
     ensures copying { (w : Setting) (sites : List Site) (depth : ℕ) (t : TypeId) (source_place : Place) (from_kind : Kind) (source : Pointer) (target_place : Place) (to_kind : Kind) (target : Pointer) (place : Place) (s : State) → IsWellFormed w.table → IsComplete w.table t → IsSoundMemory w sites s.memory → IsHeldIn w s.memory depth from_kind t source → IsHeldIn w s.memory depth to_kind t target → IsNotWrong (copy_all w t source_place from_kind source target_place to_kind target place s) }
+{}
+
+/// `&` of a place is wrong nowhere, where the address that it makes is WILD exactly where the place's own is.
+pub fn addresses_are_not_wrong()
+    ensures { AddressesAreNotWrong }
 {}
 
 /// The clearing of an object that has not ended is wrong nowhere, and neither is the allocation of a block, with or without

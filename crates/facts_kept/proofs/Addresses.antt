@@ -1,5 +1,5 @@
 -- The address of a part of a place isn't wrong, and may be held: of a member, of an array that decays. It asks for a place alone.
-use Rattle.std.proofs.Common.{◌≡◌, ◌≢◌, ℕ, ◌+◌, ◌^◌, ◌<◌, ℤ, pos, neg_ℤ, ◌+ℤ◌, ◌≤ℤ◌, true, List, [], ◌∷◌, length, slice_get, Some, refl, ap, sym, subst, ◌∙◌}
+use Rattle.std.proofs.Common.{◌≡◌, ◌≢◌, ℕ, ◌+◌, ◌^◌, ◌<◌, ℤ, pos, neg_ℤ, ◌+ℤ◌, ◌≤ℤ◌, true, List, [], ◌∷◌, length, refl, ap, sym, subst, ◌∙◌}
 use Rattle.std.specs.Prelude.{◌↔◌}
 use Rattle.std.specs.List.{Contains}
 use Rattle.std.proofs.lemmas.Int.{ints}
@@ -21,7 +21,7 @@ use Rattle.c_types.specs.Solutions.{IsUnionAllowed, IsWildWhereMixed}
 use Rattle.c_types.specs.Sound.{IsWellFormed}
 use Rattle.runs.specs.Outcome.{done, ◌>>◌}
 use Rattle.src_mem.specs.Pointers.{Location, Pointer, Null, Number, At, Function}
-use Rattle.src_mem.specs.State.{State, Act, Setting, given}
+use Rattle.src_mem.specs.State.{State, Setting, given}
 use Rattle.src_mem.specs.Checks.{HasBase, InReach, AddressMember, conditions_of, all_checked, between}
 use Rattle.src_mem.specs.Primitives.{address, part_at, whole_part}
 use Rattle.src_mem.specs.Operations.{decayed, member}

@@ -1,32 +1,23 @@
 -- Cells that agree: an equivalence; types of one class and what a type covers agree cell by cell; types that tile too.
-use Rattle.std.proofs.Common.{◌≡◌, ℕ, zero, suc, ◌+◌, ◌-◌, ◌%◌, ◌*◌, ◌<◌, ◌≤◌, ◌⊎◌, Bool, true, false, ◌&&◌, List, [], ◌∷◌, length, map, take, slice_get, Option, Some, None, nat_lt, refl, ap, sym, subst, inl, inr, ◌∙◌, ⊎_elim, arith, if◌then◌else◌}
+use Rattle.std.proofs.Common.{◌≡◌, ℕ, zero, suc, ◌-◌, ◌<◌, ◌≤◌, Bool, true, false, ◌&&◌, List, [], ◌∷◌, length, take, slice_get, Option, Some, nat_lt, refl, ap, sym, ◌∙◌, arith, if◌then◌else◌}
 use Rattle.std.specs.Prelude.{◌==◌, IsTrue, IsFalse}
 use Rattle.std.proofs.lemmas.Bool.Decides.{nat_tests}
 use Rattle.cc_base.specs.declared.number.TypeId.{TypeId}
 use Rattle.cc_base.specs.declared.number.NodeId.{NodeId}
-use Rattle.cc_base.specs.declared.kind.Kind.{Kind}
-use Rattle.c_types.specs.Table.{Table, shape_at, members_at, entry_at, is_complete, IsComplete, is_function, is_function_shape}
-use Rattle.c_types.specs.Cells.{Cell, raw, pointer, mixed, incomplete, Relation, alike, all_alike, same_type, begins, cells_at, AreOrdered}
+use Rattle.c_types.specs.Table.{Table, shape_at, is_function, is_function_shape}
+use Rattle.c_types.specs.Cells.{Cell, raw, pointer, mixed, incomplete, Relation, alike, all_alike, same_type, cells_at, AreOrdered}
 use Rattle.std.specs.Int.{IsGcd}
 use Rattle.std.specs.List.{list_all, range_with_len}
-use Rattle.std.proofs.Math.Nat.{mod-mod, mod-mod_of_dvd, mul-pos, dvd-mul_right, dvd-mul_left}
-use Rattle.std.proofs.lemmas.Option.{slice_get-get_or, slice_get_within}
-use native.Mathlib.Nat.{mod-lt}
+use Rattle.std.proofs.lemmas.Option.{slice_get_within}
 use Rattle.c_types.specs.declared.shape.TypeShape.{TypeShape}
 use Rattle.c_types.specs.declared.shape.TypeShape.TheVariants.{Void, Integer, Pointer, Array, Function, Struct, Union}
-use Rattle.c_types.specs.declared.flow_class.FlowClass.{FlowClass}
-use Rattle.c_types.specs.declared.flow_class.FlowClass.TheVariants as class
-use Rattle.c_types.specs.Equality.{Makeup, bytes, makeup_of, same_makeup, made_alike, physically_equal, begins_with, cells_of, repeated_cell, repeat_alike, tile}
-use Rattle.c_types.specs.Solutions.{is_upward, is_tiled}
+use Rattle.c_types.specs.Equality.{bytes, makeup_of, same_makeup, made_alike, physically_equal, cells_of}
 use Rattle.type_laws.proofs.Levels.{still}
-use Rattle.type_laws.proofs.Sizes.{equal_counts}
 use Rattle.type_laws.proofs.Relations.{cells_equiv, same_id, equal_equiv}
-use Rattle.facts_kept.proofs.Periods.{some_gcd}
-use Rattle.c_types.specs.Flows.{HeldPointer, pointer_in, pointer_in_cell, pointer_at, and_then, StandAlike, Correspond, top, inside, CorrespondByPlace, HaveEqualKinds, IsOfOneClass, Covers, StandModulo, StandInTiles, CorrespondAtTop, CorrespondInFlow, flow_class, CellsAgree}
+use Rattle.c_types.specs.Flows.{HeldPointer, pointer_in, pointer_in_cell, pointer_at, and_then, StandAlike, Correspond, top, inside, CorrespondByPlace, HaveEqualKinds, IsOfOneClass, Covers, CellsAgree}
 use Rattle.c_types.specs.Sound.{IsWellFormed}
 use Rattle.type_laws.proofs.Pointers.{class_own, class_turned, class_twice}
 use Rattle.c_types.proofs.OrderedPointers.{cells_ordered, first_byte}
-use Rattle.type_laws.proofs.OneClass.{alike-at}
 use Rattle.src_mem.specs.State.{Setting}
 
 module _ (w : Setting) (sound : IsWellFormed w.table) where
@@ -184,9 +175,11 @@ module _ (w : Setting) (sound : IsWellFormed w.table) where
       let jl : j ≡ l = number-is j l (first (j == l) (physically_equal w.table a b) h) in
       let e' = first_byte xs ox j i n a e in
       let f' : slice_get ys (k - j) ≡ Some (pointer m b 0) = ap (λ x. slice_get ys (k - x)) jl ∙ first_byte ys oy l k m b f in
-      let here = tops j n m a b (ox.least i j n a e).1 (let z = (oy.least k l m b f).1 in omega (arith, z, jl)) e' f' in
-      (jl, same (record { node = n; to = a }) (record { node = m; to = b }) (top (record { node = n; to = a }) (record { node = m; to = b }) here),
-      record { equal = second (j == l) (physically_equal w.table a b) h; kinds = λ r s x. same r s (deeper Top (record { node = n; to = a }) (record { node = m; to = b }) r s here x) })
+      let here = tops j n m a b (ox.least i j n a e).1 (let z = (oy.least k l m b f).1 in omega (arith, z, jl)) e' f' in (
+        jl,
+        same (record { node = n; to = a }) (record { node = m; to = b }) (top (record { node = n; to = a }) (record { node = m; to = b }) here),
+        record { equal = second (j == l) (physically_equal w.table a b) h; kinds = λ r s x. same r s (deeper Top (record { node = n; to = a }) (record { node = m; to = b }) r s here x) },
+      )
 
   -- cells that are alike from the first on, of data types whose pointers at the same places have equal kinds
   pub agree-placed : (t u : TypeId) → is_function w.table t ≡ false → is_function w.table u ≡ false → HaveEqualKinds w.kind (CorrespondByPlace w.table t u)

@@ -1,34 +1,32 @@
 -- Blocks and variables: the pointer to a new object is a value.
-use Rattle.std.proofs.Common.{◌≡◌, ◌≢◌, ℕ, zero, suc, ◌+◌, ◌-◌, ◌%◌, ◌/◌, ◌*◌, ◌^◌, ◌<◌, ◌≤◌, ◌≤ℤ◌, ◌⊎◌, inl, inr, ℤ, pos, ◌+ℤ◌, ◌-ℤ◌, Bool, true, false, not, List, [], ◌∷◌, ◌++◌, map, length, take, replicate, slice_get, Option, Some, None, refl, ap, sym, subst, ◌∙◌, ⊎_elim, arith}
-use Rattle.std.specs.Prelude.{⊤, slice_index_or, IsFalse}
+use Rattle.std.proofs.Common.{◌≡◌, ◌≢◌, ℕ, zero, suc, ◌+◌, ◌-◌, ◌%◌, ◌/◌, ◌*◌, ◌<◌, ◌≤◌, ◌≤ℤ◌, ◌⊎◌, pos, ◌+ℤ◌, ◌-ℤ◌, List, [], ◌∷◌, ◌++◌, length, slice_get, Some, refl, ap, sym, subst, ◌∙◌, ⊎_elim, arith}
+use Rattle.std.specs.Prelude.{slice_index_or, IsFalse}
 use Rattle.std.specs.List.{repeat}
 use Rattle.std.proofs.lemmas.Int.{ints}
-use Rattle.std.proofs.lemmas.Option.{slice_get_within, slice_get_past}
+use Rattle.std.proofs.lemmas.Option.{slice_get_within}
 use Rattle.std.proofs.lemmas.List.{length-replicate, length-take-le, length-append}
 use Rattle.std.proofs.Math.Nat.{add-mod_right, mod-add-div'}
 use native.Mathlib.Nat.{mod-lt, mod-eq_of_lt}
 use Rattle.cc_base.specs.declared.number.TypeId.{TypeId}
 use Rattle.cc_base.specs.declared.number.NodeId.{NodeId}
-use Rattle.cc_base.specs.declared.kind.Kind.{Kind}
-use Rattle.cc_base.specs.declared.kind.Kind.TheVariants.{Safe, Seq, Rtti, Wild}
-use Rattle.c_types.specs.Table.{Table, IsComplete, is_complete, entry_at, is_function}
+use Rattle.cc_base.specs.declared.kind.Kind.TheVariants.{Wild}
+use Rattle.c_types.specs.Table.{IsComplete, is_function}
 use Rattle.c_types.specs.Layouts.{size_of}
-use Rattle.c_types.specs.Cells.{Cell, raw, pointer, mixed, incomplete, IsBetweenPointers, AreOrdered}
+use Rattle.c_types.specs.Cells.{Cell, raw, pointer, IsBetweenPointers, AreOrdered}
 use Rattle.c_types.specs.Equality.{cells_of, repeated_cell}
 use Rattle.c_types.specs.Sound.{IsWellFormed}
 use Rattle.type_laws.proofs.Pointers.{class_own, covers_own}
 use Rattle.integers.specs.Words.{residue}
-use Rattle.src_mem.specs.Pointers.{Location, Pointer, Null, Number, At, Function, distance}
-use Rattle.src_mem.specs.Memory.{Object, block_cells, new_block}
-use Rattle.src_mem.specs.Primitives.{block_pointer}
+use Rattle.src_mem.specs.Pointers.{Location}
+use Rattle.src_mem.specs.Memory.{block_cells}
 use Rattle.src_mem.specs.State.{Setting}
 use Rattle.c_types.specs.Flows.{CellsAgree}
-use Rattle.src_mem.specs.Facts.{HoldType, RepeatType, IsSameShifted, sequence_least, sequence_most, wild_least, wild_most, IsLocated, IsTyped, StandsAt, IsSafeAt, IsTypedAt, IsSequenceAt, IsWildAt, IsValueOf, IsTypedPlace}
-use Rattle.c_types.proofs.OrderedPointers.{cells_ordered, get_front, get_back}
-use Rattle.src_mem.specs.Outlines.{Outline, outline}
+use Rattle.src_mem.specs.Facts.{HoldType, IsSameShifted, sequence_least, sequence_most, IsLocated, IsTyped, StandsAt, IsSafeAt, IsTypedAt, IsSequenceAt, IsWildAt, IsTypedPlace}
+use Rattle.c_types.proofs.OrderedPointers.{get_front, get_back}
+use Rattle.src_mem.specs.Outlines.{Outline}
 use Rattle.facts_kept.proofs.Agree.{agree-own, get-taken}
 use Rattle.facts_kept.proofs.Flow.{rep-there}
-use Rattle.facts_kept.proofs.Complete.{complete-some, complete-data}
+use Rattle.facts_kept.proofs.Complete.{complete-some}
 
 -- repetitions in lists
 pub rep-get : (k : ℕ) (xs : List Cell) (i : ℕ) → i < k * length xs → slice_get (repeat k xs) i ≡ Some (repeated_cell xs i)
@@ -36,10 +34,10 @@ rep-get zero xs i h = absurd (omega (arith, h))
 rep-get (suc k) xs i h = ⊎_elim
     (λ l. get_front xs (repeat k xs) i l ∙ ap (slice_get xs) (sym (mod-eq_of_lt l)) ∙ rep-there xs i (omega (arith, l)))
     (λ l.
-        let e : length xs + (i - length xs) ≡ i = omega (arith, l) in
-        let f : i - length xs + length xs ≡ i = omega (arith, l) in
-        ap (slice_get (xs ++ repeat k xs)) (sym e) ∙ get_back xs (repeat k xs) (i - length xs) ∙ rep-get k xs (i - length xs) (less i (length xs) k h l)
-        ∙ ap (λ j. Some (slice_index_or xs j raw)) (sym (add-mod_right (i - length xs) (length xs)) ∙ ap (λ j. j % length xs) f))
+    let e : length xs + (i - length xs) ≡ i = omega (arith, l) in
+    let f : i - length xs + length xs ≡ i = omega (arith, l) in
+    ap (slice_get (xs ++ repeat k xs)) (sym e) ∙ get_back xs (repeat k xs) (i - length xs) ∙ rep-get k xs (i - length xs) (less i (length xs) k h l)
+    ∙ ap (λ j. Some (slice_index_or xs j raw)) (sym (add-mod_right (i - length xs) (length xs)) ∙ ap (λ j. j % length xs) f))
     (total i (length xs))
   where
     total : (a b : ℕ) → (a < b) ⊎ (b ≤ a)
@@ -154,12 +152,14 @@ module _ (w : Setting) (sound : IsWellFormed w.table) where
     pub filled : 0 < length (cells_of w.table t) → (i : ℕ) → i < o.size → slice_get o.cells i ≡ Some (repeated_cell (cells_of w.table t) i)
 
   pub shifted-none : (t : TypeId) → IsComplete w.table t → IsSameShifted w t (pos 0)
-  shifted-none t c = record { agree = λ i.
-      let n = (complete-some w.table sound t c).1 in
-      let e : residue (pos 0 +ℤ pos i) (size_of w.table t) ≡ i % length (cells_of w.table t) = ap (λ z. residue z (size_of w.table t)) (zero-plus i) ∙ ap (λ k. i % k) (sym n) in
-      let f : repeated_cell (cells_of w.table t) (residue (pos 0 +ℤ pos i) (size_of w.table t)) ≡ repeated_cell (cells_of w.table t) i =
-          ap (repeated_cell (cells_of w.table t)) e ∙ ap (λ k. slice_index_or (cells_of w.table t) k raw) (Rattle.std.proofs.Math.Nat.mod-mod i (length (cells_of w.table t))) in
-      subst (λ c. CellsAgree w.table w.kind (repeated_cell (cells_of w.table t) (residue (pos 0 +ℤ pos i) (size_of w.table t))) c) f (agree-own w sound (repeated_cell (cells_of w.table t) (residue (pos 0 +ℤ pos i) (size_of w.table t)))) }
+  shifted-none t c = record {
+    agree = λ i.
+        let n = (complete-some w.table sound t c).1 in
+        let e : residue (pos 0 +ℤ pos i) (size_of w.table t) ≡ i % length (cells_of w.table t) = ap (λ z. residue z (size_of w.table t)) (zero-plus i) ∙ ap (λ k. i % k) (sym n) in
+        let f : repeated_cell (cells_of w.table t) (residue (pos 0 +ℤ pos i) (size_of w.table t)) ≡ repeated_cell (cells_of w.table t) i =
+        ap (repeated_cell (cells_of w.table t)) e ∙ ap (λ k. slice_index_or (cells_of w.table t) k raw) (Rattle.std.proofs.Math.Nat.mod-mod i (length (cells_of w.table t))) in
+        subst (λ c. CellsAgree w.table w.kind (repeated_cell (cells_of w.table t) (residue (pos 0 +ℤ pos i) (size_of w.table t))) c) f (agree-own w sound (repeated_cell (cells_of w.table t) (residue (pos 0 +ℤ pos i) (size_of w.table t))));
+  }
     where
       zero-plus : (i : ℕ) → pos 0 +ℤ pos i ≡ pos i
       zero-plus i = omega (arith, ints)

@@ -1,12 +1,7 @@
 -- Calls: what is handed to, and what comes from, a function of one class is a value of the other's parameter or result.
-use Rattle.std.proofs.Common.{◌≡◌, ◌≢◌, ℕ, zero, suc, Bool, true, false, List, [], ◌∷◌, length, map, slice_get, Option, Some, None, refl, ap, sym, subst, ◌∙◌}
+use Rattle.std.proofs.Common.{◌≡◌, ℕ, List, Some, sym, subst}
 use Rattle.cc_base.specs.declared.number.TypeId.{TypeId}
-use Rattle.cc_base.specs.declared.number.NodeId.{NodeId}
-use Rattle.cc_base.specs.declared.kind.Kind.{Kind}
-use Rattle.cc_base.specs.declared.kind.Kind.TheVariants.{Safe, Seq, Rtti, Wild}
-use Rattle.c_types.specs.Table.{Table}
-use Rattle.c_types.specs.Equality.{physically_equal}
-use Rattle.c_types.specs.Flows.{HeldPointer, pointer_at, StandAlike, Correspond, top, inside, CorrespondByPlace, IsOfOneClass}
+use Rattle.c_types.specs.Flows.{HeldPointer, pointer_at, StandAlike, top, inside, CorrespondByPlace, IsOfOneClass}
 use Rattle.c_types.specs.Sound.{IsWellFormed}
 use Rattle.type_laws.proofs.Pointers.{Mirrors, equal_mirrors, class_turned}
 use Rattle.src_mem.specs.Pointers.{Pointer}

@@ -1,21 +1,15 @@
 -- A complete type holds no struct or union that was never completed; so completeness passes along a class and along tiles.
-use Rattle.std.proofs.Common.{◌≡◌, ℕ, zero, suc, ◌+◌, ◌-◌, ◌<◌, ◌≤◌, ◌⊎◌, ◌^◌, Bool, true, false, List, [], ◌∷◌, ◌++◌, length, map, replicate, slice_get, Some, None, nat_lt, refl, ap, sym, subst, ◌∙◌, ⊎_elim, arith, if◌then◌else◌}
+use Rattle.std.proofs.Common.{◌≡◌, ℕ, zero, suc, ◌+◌, ◌-◌, ◌<◌, Bool, true, false, List, [], ◌∷◌, ◌++◌, length, map, replicate, slice_get, Some, nat_lt, refl, ap, sym, subst, ◌∙◌, arith, if◌then◌else◌}
 use Rattle.std.specs.List.{Contains, fold, repeat, range_with_len, list_all}
-use Rattle.std.specs.Prelude.{slice_index_or, ◌==◌, ◌%◌}
-use Rattle.std.proofs.lemmas.Bool.Decides.{nat_tests}
-use Rattle.std.proofs.lemmas.List.{length-append}
-use Rattle.std.proofs.lemmas.Option.{slice_get_within, slice_get-get_or}
+use Rattle.std.specs.Prelude.{◌%◌}
 use Rattle.cc_base.specs.declared.number.TypeId.{TypeId}
 use Rattle.cc_base.specs.declared.number.NodeId.{NodeId}
-use Rattle.cc_base.specs.declared.kind.Kind.{Kind}
-use Rattle.cc_base.specs.declared.kind.Kind.TheVariants.{Safe, Seq, Rtti, Wild}
 use Rattle.c_types.specs.declared.shape.TypeShape.{TypeShape}
 use Rattle.c_types.specs.declared.shape.TypeShape.TheVariants.{Void, Integer, Pointer, Array, Function, Struct, Union}
-use Rattle.c_types.specs.Table.{Table, shape_at, members_at, parts_of_shape, IsComplete, is_complete, is_complete_entry, is_function, is_function_shape, entry_at}
+use Rattle.c_types.specs.Table.{Table, shape_at, members_at, parts_of_shape, IsComplete, is_complete_entry, is_function, is_function_shape}
 use Rattle.c_types.specs.Layouts.{rounded, size_of, align_of}
-use Rattle.c_types.specs.Cells.{Cell, raw, pointer, mixed, incomplete, Relation, pointer_cells, padded_to, member_cells, longest, union_cells, aggregate_cells, cells_of_shape, cells_at, begins, holds_pointer}
+use Rattle.c_types.specs.Cells.{Cell, raw, pointer, mixed, incomplete, Relation, padded_to, member_cells, longest, union_cells, cells_of_shape, cells_at, begins, holds_pointer}
 use Rattle.c_types.specs.Equality.{cells_of, physically_equal, repeated_cell}
-use Rattle.c_types.specs.Widths.{kind_width, cell_width}
 use Rattle.c_types.specs.Sound.{IsWellFormed}
 use Rattle.std.proofs.lemmas.List.Elements.{All-contains}
 use Rattle.src_mem.specs.State.{Setting}
@@ -23,8 +17,6 @@ use Rattle.c_types.specs.Flows.{CellsAgree}
 use Rattle.facts_kept.proofs.Flow.{rep-there}
 use Rattle.c_types.proofs.Lists.{contains_head, contains_tail}
 use Rattle.c_types.proofs.Cells.{cells_are, length_cells}
-use Rattle.c_types.proofs.OrderedPointers.{get_front, get_back, Which, old, new, which}
-
 
 abbrev pub NoHole : List Cell → Type 0
 NoHole cells = (i : ℕ) (t : TypeId) → slice_get cells i ≡ Some (incomplete t) → Prim.⊥

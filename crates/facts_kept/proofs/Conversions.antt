@@ -1,5 +1,5 @@
 -- A conversion that the sites tell of isn't wrong, and gives a pointer that may be held.
-use Rattle.std.proofs.Common.{◌≡◌, List, Bool, true, false, ℕ, refl, if◌then◌else◌}
+use Rattle.std.proofs.Common.{List, Bool, true, false, ℕ, refl, if◌then◌else◌}
 use Rattle.cc_base.specs.declared.place.Place.{Place}
 use Rattle.cc_base.specs.declared.number.TypeId.{TypeId}
 use Rattle.c_types.specs.declared.site.Site.{Site}

@@ -1,10 +1,8 @@
 -- Conversions: every allowed flow, whose conditions hold, gives a value of the target.
-use Rattle.std.proofs.Common.{◌≡◌, ◌≢◌, ℕ, zero, suc, ◌+◌, ◌-◌, ◌%◌, ◌/◌, ◌*◌, ◌<◌, ◌≤◌, ◌⊎◌, ℤ, pos, negsuc, ◌+ℤ◌, ◌-ℤ◌, Bool, true, false, not, ◌&&◌, ◌||◌, List, [], ◌∷◌, length, slice_get, Option, Some, None, refl, ap, sym, subst, inl, inr, ◌∙◌, ⊎_elim, arith, if◌then◌else◌}
-use Rattle.std.specs.Prelude.{IsTrue, IsFalse, ⊤, slice_index_or}
-use Rattle.std.specs.List.{Contains}
-use Rattle.std.proofs.lemmas.Int.{ints}
-use Rattle.std.proofs.Math.Nat.{mod-mod, mod-mod_of_dvd, mul-pos, dvd-mul_right, dvd-mul_left, mod-add-div', add-mul-mod_self_right}
-use Rattle.std.proofs.lemmas.Option.{slice_get-get_or, slice_get_within}
+use Rattle.std.proofs.Common.{◌≡◌, ◌≢◌, ℕ, suc, ◌+◌, ◌-◌, ◌%◌, ◌/◌, ◌*◌, ◌<◌, ◌≤◌, ◌⊎◌, ℤ, pos, negsuc, ◌+ℤ◌, Bool, true, false, not, ◌&&◌, ◌||◌, List, [], ◌∷◌, length, slice_get, Some, refl, ap, sym, subst, inl, inr, ◌∙◌, ⊎_elim, arith, if◌then◌else◌}
+use Rattle.std.specs.Prelude.{IsTrue, slice_index_or}
+use Rattle.std.proofs.Math.Nat.{mod-mod, mod-mod_of_dvd, mul-pos, dvd-mul_right, mod-add-div', add-mul-mod_self_right}
+use Rattle.std.proofs.lemmas.Option.{slice_get_within}
 use native.Mathlib.Nat.{mod-lt, mod-eq_of_lt}
 use Rattle.cc_base.specs.declared.number.TypeId.{TypeId}
 use Rattle.cc_base.specs.declared.number.NodeId.{NodeId}
@@ -13,13 +11,12 @@ use Rattle.cc_base.specs.declared.kind.Kind.TheVariants.{Safe, Seq, Rtti, Wild}
 use Rattle.c_types.specs.declared.site.Site.{Site}
 use Rattle.c_types.specs.declared.flow_class.FlowClass.{FlowClass}
 use Rattle.c_types.specs.declared.flow_class.FlowClass.TheVariants.{Equal, UpTile, Up, DownTile, Down, Tile, Bad}
-use Rattle.c_types.specs.Table.{Table, IsComplete, is_complete, entry_at, is_function}
+use Rattle.c_types.specs.Table.{IsComplete, is_complete, entry_at, is_function}
 use Rattle.c_types.specs.Layouts.{size_of}
-use Rattle.c_types.specs.Cells.{Cell, raw, pointer, mixed, incomplete, IsBetweenPointers}
-use Rattle.c_types.specs.Equality.{physically_equal, begins_with, strictly_below, cells_of, repeated_cell, tile}
+use Rattle.c_types.specs.Cells.{Cell, raw}
+use Rattle.c_types.specs.Equality.{physically_equal, cells_of, repeated_cell, tile}
 use Rattle.c_types.specs.Flows.{Correspond, CorrespondAtTop, HaveEqualKinds, IsOfOneClass, Covers, flow_class, CellsAgree}
-use Rattle.c_types.specs.Coverage.{covers}
-use Rattle.c_types.specs.Solutions.{allows, is_upward, is_downward, is_tiled, HasBelow, IsPlain, IsFlowAllowed, IsPointeeAllowed}
+use Rattle.c_types.specs.Solutions.{allows, is_upward, is_downward, is_tiled, HasBelow, IsPointeeAllowed}
 use Rattle.c_types.specs.Sound.{IsWellFormed}
 use Rattle.type_laws.proofs.Pointers.{class_own, class_turned, class_twice, covers_own, covers_twice}
 use Rattle.type_laws.proofs.Sizes.{equal_counts}
@@ -28,15 +25,15 @@ use Rattle.integers.specs.Words.{residue}
 use Rattle.src_mem.specs.Outlines.{Outline}
 use Rattle.src_mem.specs.Pointers.{Location, Pointer, Null, Number, At, Function, distance}
 use Rattle.src_mem.specs.Memory.{Memory}
-use Rattle.src_mem.specs.Checks.{Condition, Conversion, holds, conditions_of_conversion, conditions_by_kinds, null_or_in_bounds, downcast}
+use Rattle.src_mem.specs.Checks.{Conversion, conditions_of_conversion, conditions_by_kinds, null_or_in_bounds, downcast}
 use Rattle.src_mem.specs.Primitives.{is_made_anew, made_at}
 use Rattle.src_mem.specs.State.{Setting}
-use Rattle.src_mem.specs.Facts.{HoldType, RepeatType, IsSameShifted, IsLocated, IsTyped, StandsAt, IsSafeAt, IsTypedAt, IsSequenceAt, IsWildAt, IsFunctionOf, IsValueOf, IsMade}
+use Rattle.src_mem.specs.Facts.{HoldType, IsSameShifted, IsSafeAt, IsTypedAt, IsSequenceAt, IsFunctionOf, IsValueOf, IsMade}
 use Rattle.facts_kept.specs.Kept.{IsFlow, AllHold}
-use Rattle.facts_kept.proofs.Agree.{agree-own, agree-turned, agree-twice, covered-cells, first, second, negated}
+use Rattle.facts_kept.proofs.Agree.{agree-turned, agree-twice, first, second, negated}
 use Rattle.facts_kept.proofs.Flow.{Tells, class-tells, up-told, tiled-told, equal-data, begins-data, covers-up, by-place, rep-there, tile-some, tile-in-class}
-use Rattle.facts_kept.proofs.Complete.{complete-like, complete-some, complete-data, function-empty}
-use Rattle.facts_kept.proofs.Holds.{in-bounds, class-covers, class-data, covered-holds, seq-cell, seq-stands, seq-holds, first-between}
+use Rattle.facts_kept.proofs.Complete.{complete-like, complete-some, function-empty}
+use Rattle.facts_kept.proofs.Holds.{in-bounds, class-covers, class-data, covered-holds, seq-cell, seq-stands, seq-holds}
 
 abbrev pub converted : FlowClass → Kind → Kind → TypeId → Pointer → Pointer
 converted class from to u p = if is_made_anew class from to then made_at u p else p
@@ -223,7 +220,7 @@ module _ (w : Setting) (sound : IsWellFormed w.table) (outlines : List Outline) 
             let k = slice_get_within (cells_of w.table u) i d e in
             let y = seq-cell w sound outlines t l s ct at offset low i (omega (arith, n, high, k)) in
             let same : repeated_cell (cells_of w.table u) i ≡ d =
-                let g : slice_get (cells_of w.table u) i ≡ Some (repeated_cell (cells_of w.table u) i) = ap (slice_get (cells_of w.table u)) (sym (mod-eq_of_lt k)) ∙ rep-there (cells_of w.table u) i b.1 in cc (e, g) in
+            let g : slice_get (cells_of w.table u) i ≡ Some (repeated_cell (cells_of w.table u) i) = ap (slice_get (cells_of w.table u)) (sym (mod-eq_of_lt k)) ∙ rep-there (cells_of w.table u) i b.1 in cc (e, g) in
             (y.0, y.1, subst (CellsAgree w.table w.kind y.0) same (agree-twice w sound y.0 (repeated_cell (cells_of w.table t) i) (repeated_cell (cells_of w.table u) i) y.2 (b.2 i)));
       }
 
@@ -302,18 +299,20 @@ module _ (w : Setting) (sound : IsWellFormed w.table) (outlines : List Outline) 
 
   pub shifted-alike : (t u : TypeId) → Both t u → length (cells_of w.table t) ≡ size_of w.table t → length (cells_of w.table u) ≡ size_of w.table u → (by : ℤ) → IsSameShifted w t by → IsSameShifted w u by
   unfolding Alike Both
-  shifted-alike t u b nt nu z h = record { agree = λ i.
-      let a = length (cells_of w.table t) in let c = length (cells_of w.table u) in
-      let k = residue (z +ℤ pos i) (a * c) in
-      let kt : repeated_cell (cells_of w.table t) k ≡ repeated_cell (cells_of w.table t) (residue (z +ℤ pos i) (size_of w.table t)) =
-          sym (rep-mod (cells_of w.table t) k) ∙ ap (repeated_cell (cells_of w.table t)) (residue-low (z +ℤ pos i) a c b.0 b.1 ∙ ap (residue (z +ℤ pos i)) nt) in
-      let swap : k ≡ residue (z +ℤ pos i) (c * a) = ap (residue (z +ℤ pos i)) (times a c) in
-      let ku : repeated_cell (cells_of w.table u) k ≡ repeated_cell (cells_of w.table u) (residue (z +ℤ pos i) (size_of w.table u)) =
-          sym (rep-mod (cells_of w.table u) k) ∙ ap (repeated_cell (cells_of w.table u)) (ap (λ x. x % c) swap ∙ residue-low (z +ℤ pos i) c a b.1 b.0 ∙ ap (residue (z +ℤ pos i)) nu) in
-      let x = agree-turned w sound (repeated_cell (cells_of w.table t) k) (repeated_cell (cells_of w.table u) k) (b.2 k) in
-      let y = subst (λ d. CellsAgree w.table w.kind d (repeated_cell (cells_of w.table t) i)) (sym kt) (h.agree i) in
-      let m = agree-twice w sound (repeated_cell (cells_of w.table u) k) (repeated_cell (cells_of w.table t) k) (repeated_cell (cells_of w.table t) i) x y in
-      subst (λ d. CellsAgree w.table w.kind d (repeated_cell (cells_of w.table u) i)) ku (agree-twice w sound (repeated_cell (cells_of w.table u) k) (repeated_cell (cells_of w.table t) i) (repeated_cell (cells_of w.table u) i) m (b.2 i)) }
+  shifted-alike t u b nt nu z h = record {
+    agree = λ i.
+        let a = length (cells_of w.table t) in let c = length (cells_of w.table u) in
+        let k = residue (z +ℤ pos i) (a * c) in
+        let kt : repeated_cell (cells_of w.table t) k ≡ repeated_cell (cells_of w.table t) (residue (z +ℤ pos i) (size_of w.table t)) =
+        sym (rep-mod (cells_of w.table t) k) ∙ ap (repeated_cell (cells_of w.table t)) (residue-low (z +ℤ pos i) a c b.0 b.1 ∙ ap (residue (z +ℤ pos i)) nt) in
+        let swap : k ≡ residue (z +ℤ pos i) (c * a) = ap (residue (z +ℤ pos i)) (times a c) in
+        let ku : repeated_cell (cells_of w.table u) k ≡ repeated_cell (cells_of w.table u) (residue (z +ℤ pos i) (size_of w.table u)) =
+        sym (rep-mod (cells_of w.table u) k) ∙ ap (repeated_cell (cells_of w.table u)) (ap (λ x. x % c) swap ∙ residue-low (z +ℤ pos i) c a b.1 b.0 ∙ ap (residue (z +ℤ pos i)) nu) in
+        let x = agree-turned w sound (repeated_cell (cells_of w.table t) k) (repeated_cell (cells_of w.table u) k) (b.2 k) in
+        let y = subst (λ d. CellsAgree w.table w.kind d (repeated_cell (cells_of w.table t) i)) (sym kt) (h.agree i) in
+        let m = agree-twice w sound (repeated_cell (cells_of w.table u) k) (repeated_cell (cells_of w.table t) k) (repeated_cell (cells_of w.table t) i) x y in
+        subst (λ d. CellsAgree w.table w.kind d (repeated_cell (cells_of w.table u) i)) ku (agree-twice w sound (repeated_cell (cells_of w.table u) k) (repeated_cell (cells_of w.table t) i) (repeated_cell (cells_of w.table u) i) m (b.2 i));
+  }
     where
       times : (a b : ℕ) → a * b ≡ b * a
       times a b = grind arith

@@ -1,12 +1,10 @@
 -- What the class of a flow tells, and what an allowed flow gives: by place for an upward one (law i), in each place of the
 -- endless repetitions for one that tiles (law h).
-use Rattle.std.proofs.Common.{◌≡◌, ℕ, zero, suc, ◌+◌, ◌-◌, ◌%◌, ◌/◌, ◌*◌, ◌<◌, ◌≤◌, ◌⊎◌, Bool, true, false, not, ◌&&◌, List, [], ◌∷◌, length, map, take, slice_get, get_or, Option, Some, None, nat_lt, refl, ap, sym, subst, inl, inr, ◌∙◌, ⊎_elim, arith, if◌then◌else◌}
-use Rattle.std.specs.Prelude.{◌==◌, IsTrue, IsFalse, ⊤, slice_index_or}
-use Rattle.std.proofs.lemmas.Bool.Decides.{nat_tests}
-use Rattle.std.specs.Int.{IsGcd}
+use Rattle.std.proofs.Common.{◌≡◌, ℕ, zero, suc, ◌+◌, ◌-◌, ◌%◌, ◌/◌, ◌*◌, ◌<◌, ◌≤◌, ◌⊎◌, Bool, true, false, not, ◌&&◌, List, [], ◌∷◌, length, take, slice_get, Some, nat_lt, refl, ap, sym, subst, inl, inr, ◌∙◌, ⊎_elim, arith, if◌then◌else◌}
+use Rattle.std.specs.Prelude.{⊤, slice_index_or}
 use Rattle.std.specs.List.{list_all, range_with_len}
 use Rattle.std.proofs.Math.Nat.{mod-mod_of_dvd, mul-pos, dvd-mul_right, dvd-mul_left, mod-add-div', add-mul-mod_self_right}
-use Rattle.std.proofs.lemmas.Option.{slice_get-get_or, slice_get_within}
+use Rattle.std.proofs.lemmas.Option.{slice_get-get_or}
 use native.Mathlib.Nat.{mod-lt}
 use Rattle.cc_base.specs.declared.number.TypeId.{TypeId}
 use Rattle.cc_base.specs.declared.number.NodeId.{NodeId}
@@ -16,18 +14,18 @@ use Rattle.c_types.specs.declared.shape.TypeShape.TheVariants.{Void, Integer, Po
 use Rattle.c_types.specs.declared.flow_class.FlowClass.{FlowClass}
 use Rattle.c_types.specs.declared.flow_class.FlowClass.TheVariants.{Equal, UpTile, Up, DownTile, Down, Tile, Bad}
 use Rattle.c_types.specs.Table.{Table, shape_at, is_function, is_function_shape, is_empty}
-use Rattle.c_types.specs.Cells.{Cell, raw, pointer, Relation, alike, all_alike, same_type, cells_at, begins}
-use Rattle.c_types.specs.Equality.{code, bytes, makeup_of, same_makeup, made_alike, physically_equal, begins_with, cells_of, repeated_cell, repeat_alike, tile}
-use Rattle.c_types.specs.Flows.{HeldPointer, StandAlike, StandModulo, StandInTiles, Correspond, top, inside, CorrespondAtTop, CorrespondByPlace, HaveEqualKinds, IsOfOneClass, Covers, flow_class, CellsAgree}
+use Rattle.c_types.specs.Cells.{Cell, raw, alike, all_alike, same_type, cells_at, begins}
+use Rattle.c_types.specs.Equality.{bytes, makeup_of, same_makeup, made_alike, physically_equal, begins_with, cells_of, repeated_cell, tile}
+use Rattle.c_types.specs.Flows.{HeldPointer, StandAlike, StandInTiles, Correspond, top, inside, CorrespondAtTop, CorrespondByPlace, HaveEqualKinds, IsOfOneClass, Covers, flow_class, CellsAgree}
 use Rattle.c_types.specs.Solutions.{is_upward, is_tiled}
 use Rattle.c_types.specs.Sound.{IsWellFormed}
 use Rattle.type_laws.proofs.Levels.{still}
-use Rattle.type_laws.proofs.Relations.{same_id, equal_equiv}
+use Rattle.type_laws.proofs.Relations.{same_id}
 use Rattle.type_laws.proofs.Sizes.{equal_counts}
 use Rattle.c_types.proofs.OrderedPointers.{cells_ordered}
 use Rattle.src_mem.specs.State.{Setting}
 use Rattle.facts_kept.proofs.Periods.{some_gcd}
-use Rattle.facts_kept.proofs.Agree.{first, second, negated, data-makeup, pointer-there, cells-alike, alike-there, agree-top, class-cells}
+use Rattle.facts_kept.proofs.Agree.{first, second, negated, data-makeup, pointer-there, cells-alike, agree-top, class-cells}
 
 -- What a class tells of the two types
 
@@ -110,8 +108,8 @@ equal-begins table w t u ft h =
     let fu = equal-data table w t u ft h in
     let n = equal_counts table w t u h in
     let b : begins (physically_equal table) (cells_of table t) (cells_of table u) ≡ true =
-        ap (λ k. all_alike (physically_equal table) (take k (cells_of table t)) (cells_of table u)) (sym n) ∙ ap (λ l. all_alike (physically_equal table) l (cells_of table u)) (take-all (cells_of table t))
-        ∙ cells-alike table w t u ft fu h in
+    ap (λ k. all_alike (physically_equal table) (take k (cells_of table t)) (cells_of table u)) (sym n) ∙ ap (λ l. all_alike (physically_equal table) l (cells_of table u)) (take-all (cells_of table t))
+    ∙ cells-alike table w t u ft fu h in
     λ i. not (ft i) && (not (fu i) && b i)
 
 -- Correspondence grows with what stands at the top
@@ -184,9 +182,10 @@ module _ (w : Setting) (sound : IsWellFormed w.table) where
   -- the cells of two repetitions that are alike everywhere
   pub tile-some : (t u : TypeId) → tile w.table t u ≡ true → (0 < length (cells_of w.table t)) × (0 < length (cells_of w.table u))
   tile-some t u h =
-      let rest = second (not (is_empty (cells_of w.table t))) _ h in
-      (filled-some (cells_of w.table t) (negated (is_empty (cells_of w.table t)) (first (not (is_empty (cells_of w.table t))) _ h)),
-      filled-some (cells_of w.table u) (negated (is_empty (cells_of w.table u)) (first (not (is_empty (cells_of w.table u))) _ rest)))
+      let rest = second (not (is_empty (cells_of w.table t))) _ h in (
+        filled-some (cells_of w.table t) (negated (is_empty (cells_of w.table t)) (first (not (is_empty (cells_of w.table t))) _ h)),
+        filled-some (cells_of w.table u) (negated (is_empty (cells_of w.table u)) (first (not (is_empty (cells_of w.table u))) _ rest)),
+      )
 
   tile-alike : (t u : TypeId) → tile w.table t u ≡ true → (i : ℕ) → alike (physically_equal w.table) (repeated_cell (cells_of w.table t) i) (repeated_cell (cells_of w.table u) i) ≡ true
   tile-alike t u h i =
@@ -208,9 +207,17 @@ module _ (w : Setting) (sound : IsWellFormed w.table) where
       agree-top w sound (StandInTiles w.table t u) same (cells_of w.table t) (cells_of w.table u) (cells_ordered w.table sound t) (cells_ordered w.table sound u)
       (i % length (cells_of w.table t)) (i % length (cells_of w.table u)) (repeated_cell (cells_of w.table t) i) (repeated_cell (cells_of w.table u) i)
       (rep-there (cells_of w.table t) i s.0) (rep-there (cells_of w.table u) i s.1) (tile-alike t u h i)
-      (λ j n m a b l k x y. (g.0, g.1, inl (i % length (cells_of w.table t) - j, i % length (cells_of w.table u) - j,
-      sub-mod g.0 (i % length (cells_of w.table t)) (i % length (cells_of w.table u)) j (mod-mod_of_dvd g.0 i g.1.0 ∙ sym (mod-mod_of_dvd g.0 i g.1.1)) l k,
-      pointer-there w.table t ft (i % length (cells_of w.table t) - j) n a x, pointer-there w.table u fu (i % length (cells_of w.table u) - j) m b y)))
+      (λ j n m a b l k x y. (
+        g.0,
+        g.1,
+        inl (
+          i % length (cells_of w.table t) - j,
+          i % length (cells_of w.table u) - j,
+          sub-mod g.0 (i % length (cells_of w.table t)) (i % length (cells_of w.table u)) j (mod-mod_of_dvd g.0 i g.1.0 ∙ sym (mod-mod_of_dvd g.0 i g.1.1)) l k,
+          pointer-there w.table t ft (i % length (cells_of w.table t) - j) n a x,
+          pointer-there w.table u fu (i % length (cells_of w.table u) - j) m b y,
+        ),
+      ))
 
   equal-agree : (t u : TypeId) → is_function w.table t ≡ false → is_function w.table u ≡ false → 0 < length (cells_of w.table u) → IsOfOneClass w.table w.kind t u
       → (i : ℕ) → CellsAgree w.table w.kind (repeated_cell (cells_of w.table t) i) (repeated_cell (cells_of w.table u) i)

@@ -1,6 +1,6 @@
 -- More objects, and the end of a call: what was true stays true.
-use Rattle.std.proofs.Common.{◌≡◌, ◌≢◌, ℕ, zero, suc, ◌+◌, ◌-◌, ◌<◌, ◌≤◌, ◌⊎◌, inl, inr, Bool, true, false, not, List, [], ◌∷◌, ◌++◌, map, length, replicate, slice_get, slice_index, Option, Some, None, refl, ap, sym, subst, ◌∙◌, ⊎_elim, arith, nat_eq, if◌then◌else◌}
-use Rattle.std.specs.Prelude.{⊤, ◌==◌}
+use Rattle.std.proofs.Common.{◌≡◌, ◌≢◌, ℕ, zero, suc, ◌+◌, ◌<◌, ◌≤◌, ◌⊎◌, Bool, true, false, not, List, [], ◌∷◌, ◌++◌, map, length, replicate, slice_get, slice_index, Some, refl, ap, sym, subst, ◌∙◌, ⊎_elim, arith, if◌then◌else◌}
+use Rattle.std.specs.Prelude.{◌==◌}
 use Rattle.std.proofs.lemmas.Bool.Decides.{nat_tests}
 use Rattle.std.proofs.lemmas.Option.{slice_get_within}
 use Rattle.std.proofs.lemmas.List.{length-replicate}
@@ -8,19 +8,18 @@ use Rattle.cc_base.specs.declared.number.TypeId.{TypeId}
 use Rattle.cc_base.specs.declared.number.NodeId.{NodeId}
 use Rattle.cc_base.specs.declared.kind.Kind.{Kind}
 use Rattle.cc_base.specs.declared.kind.Kind.TheVariants.{Safe, Seq, Rtti, Wild}
-use Rattle.flat_mem.specs.Bytes.{number, AreBytes}
 use Rattle.flat_mem.proofs.ByteLaws.{number-zeros}
-use Rattle.c_types.specs.Cells.{Cell, pointer, AreOrdered}
+use Rattle.c_types.specs.Cells.{Cell, AreOrdered}
 use Rattle.src_mem.specs.Pointers.{Location, Pointer, Null, Number, At, Function}
 use Rattle.src_mem.specs.Memory.{Object, Memory, zero_object, depth_of_object}
 use Rattle.src_mem.specs.Primitives.{ended}
 use Rattle.c_types.specs.declared.site.Site.{Site}
 use Rattle.src_mem.specs.State.{Setting}
 use Rattle.src_mem.specs.Checks.{holds, IsNotOfFrame}
-use Rattle.c_types.proofs.OrderedPointers.{get_front, get_back, Which, old, new, which}
+use Rattle.c_types.proofs.OrderedPointers.{get_front, Which, old, new, which}
 use Rattle.facts_kept.proofs.Lists.{map-both}
-use Rattle.src_mem.specs.Outlines.{AreNoDeeper, Outline, outline, AreOutlines, Life, life, LivesAt}
-use Rattle.src_mem.specs.Facts.{AreSound, IsLocated, IsSafeAt, IsTypedAt, IsSequenceAt, IsWildAt, IsValueOf, Reaches, IsHeld, IsStoredTyped, IsStoredTagged, IsSoundObject}
+use Rattle.src_mem.specs.Outlines.{AreNoDeeper, Outline, outline, AreOutlines, Life, life}
+use Rattle.src_mem.specs.Facts.{AreSound, IsLocated, IsValueOf, Reaches, IsHeld, IsSoundObject}
 
 pub get-map : {A B : Type 0} (f : A → B) (xs : List A) (k : ℕ) (y : B) → slice_get (map f xs) k ≡ Some y → (x : A) × (slice_get xs k ≡ Some x) × (f x ≡ y)
 get-map f [] k y e = absurd (cc (e))
@@ -191,9 +190,14 @@ returned-held w memory depth k t p h c = record {
     older : (p : Pointer) → Reaches (map life memory.objects) (suc depth) p → holds w memory (IsNotOfFrame (suc depth) p) ≡ true → Reaches (map life memory.objects) depth p
     older Null r c = tt
     older (Number n) r c = tt
-    older (At l) r c = record { life = r.life; found = r.found; live = r.live; older = less r.life.depth r.older (not-same (let x = get-map life memory.objects l.object r.life r.found in
-        let d : x.0.depth ≡ r.life.depth = ap (λ (y : Life). y.depth) x.2 in
-        ap (λ n. not (n == suc depth)) (sym d) ∙ ap (λ o. not (depth_of_object o == suc depth)) (sym x.1) ∙ c)) }
+    older (At l) r c = record {
+      life = r.life;
+      found = r.found;
+      live = r.live;
+      older = less r.life.depth r.older (not-same (let x = get-map life memory.objects l.object r.life r.found in
+          let d : x.0.depth ≡ r.life.depth = ap (λ (y : Life). y.depth) x.2 in
+          ap (λ n. not (n == suc depth)) (sym d) ∙ ap (λ o. not (depth_of_object o == suc depth)) (sym x.1) ∙ c));
+    }
       where
         not-same : {a : ℕ} → not (a == suc depth) ≡ true → a ≢ suc depth
         not-same {a} h e = grind (arith, nat_tests)

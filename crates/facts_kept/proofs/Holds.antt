@@ -1,32 +1,29 @@
 -- What cells hold: a type that another covers, and what a SEQ pointer in bounds points to.
-use Rattle.std.proofs.Common.{◌≡◌, ◌≢◌, ℕ, zero, suc, ◌+◌, ◌-◌, ◌%◌, ◌/◌, ◌*◌, ◌<◌, ◌≤◌, ◌⊎◌, ℤ, pos, negsuc, ◌+ℤ◌, ◌-ℤ◌, ◌*ℤ◌, Bool, true, false, not, ◌&&◌, List, [], ◌∷◌, length, map, take, slice_get, get_or, Option, Some, None, int_le, refl, ap, sym, subst, inl, inr, ◌∙◌, ⊎_elim, arith}
-use Rattle.std.specs.Prelude.{IsTrue, IsFalse, ⊤, slice_index_or}
-use Rattle.std.proofs.lemmas.Bool.Decides.{nat_tests}
+use Rattle.std.proofs.Common.{◌≡◌, ℕ, zero, suc, ◌+◌, ◌-◌, ◌%◌, ◌<◌, ◌≤◌, ◌⊎◌, ℤ, pos, negsuc, ◌+ℤ◌, ◌-ℤ◌, Bool, true, false, List, [], ◌∷◌, length, slice_get, Some, None, refl, ap, sym, subst, inl, inr, ◌∙◌, ⊎_elim, arith}
+use Rattle.std.specs.Prelude.{slice_index_or}
 use Rattle.std.proofs.lemmas.Int.{ints}
-use Rattle.std.proofs.Math.Nat.{mod-mod, mod-mod_of_dvd, mul-pos, dvd-mul_right, dvd-mul_left, mod-add-div', add-mul-mod_self_right}
+use Rattle.std.proofs.Math.Nat.{mod-mod}
 use Rattle.std.proofs.lemmas.Option.{slice_get-get_or, slice_get_within}
-use native.Mathlib.Nat.{mod-lt, mod-eq_of_lt}
+use native.Mathlib.Nat.{mod-eq_of_lt}
 use Rattle.cc_base.specs.declared.number.TypeId.{TypeId}
 use Rattle.cc_base.specs.declared.number.NodeId.{NodeId}
-use Rattle.cc_base.specs.declared.kind.Kind.{Kind}
-use Rattle.c_types.specs.Table.{Table, IsComplete, is_complete, entry_at, is_function}
+use Rattle.c_types.specs.Table.{IsComplete, is_complete, entry_at, is_function}
 use Rattle.c_types.specs.Layouts.{size_of}
 use Rattle.c_types.specs.Cells.{Cell, raw, pointer, mixed, incomplete, AreOrdered, IsBetweenPointers}
-use Rattle.c_types.specs.Equality.{physically_equal, begins_with, cells_of, repeated_cell}
+use Rattle.c_types.specs.Equality.{cells_of, repeated_cell}
 use Rattle.c_types.specs.Flows.{IsOfOneClass, Covers, CellsAgree}
 use Rattle.c_types.specs.Sound.{IsWellFormed}
-use Rattle.type_laws.proofs.Pointers.{class_turned, covers_own, covers_twice}
-use Rattle.type_laws.proofs.Sizes.{equal_counts}
+use Rattle.type_laws.proofs.Pointers.{class_turned}
 use Rattle.integers.specs.Words.{residue}
 use Rattle.c_types.proofs.OrderedPointers.{cells_ordered}
-use Rattle.src_mem.specs.Outlines.{Outline, AreOutlines}
+use Rattle.src_mem.specs.Outlines.{Outline}
 use Rattle.src_mem.specs.Pointers.{Location, distance}
 use Rattle.src_mem.specs.Checks.{fits_between}
 use Rattle.src_mem.specs.State.{Setting}
-use Rattle.src_mem.specs.Facts.{HoldType, RepeatType, IsSameShifted, IsLocated, IsTyped, StandsAt, IsSequenceAt}
-use Rattle.facts_kept.proofs.Agree.{agree-own, agree-turned, agree-twice, covered-cells}
-use Rattle.facts_kept.proofs.Flow.{equal-data, equal-begins, begins-data, rep-there}
-use Rattle.facts_kept.proofs.Complete.{cells-whole, complete-cell, complete-some, complete-data}
+use Rattle.src_mem.specs.Facts.{HoldType, StandsAt, IsSequenceAt}
+use Rattle.facts_kept.proofs.Agree.{agree-twice, covered-cells}
+use Rattle.facts_kept.proofs.Flow.{equal-data, equal-begins, rep-there}
+use Rattle.facts_kept.proofs.Complete.{cells-whole, complete-cell, complete-some}
 
 -- SEQ in bounds
 pub in-bounds : (low high : ℕ) (offset : ℤ) (m : ℕ) → fits_between low high offset m ≡ true → (at : ℕ) × (offset ≡ pos at) × (low ≤ at) × (at + m ≤ high)
@@ -100,9 +97,9 @@ module _ (w : Setting) (sound : IsWellFormed w.table) where
         let n = (complete-some w.table sound t complete).1 in
         let apart : distance l +ℤ pos i ≡ pos (at - l.part.low + i) = ap (λ z. z -ℤ pos l.part.low +ℤ pos i) offset ∙ difference at l.part.low i low in
         let rest : residue (distance l +ℤ pos i) (size_of w.table t) ≡ (at - l.part.low + i) % length (cells_of w.table t) =
-            ap (λ z. residue z (size_of w.table t)) apart ∙ ap (λ k. (at - l.part.low + i) % k) (sym n) in
+        ap (λ z. residue z (size_of w.table t)) apart ∙ ap (λ k. (at - l.part.low + i) % k) (sym n) in
         let again : repeated_cell (cells_of w.table t) (residue (distance l +ℤ pos i) (size_of w.table t)) ≡ repeated_cell (cells_of w.table t) (at - l.part.low + i) =
-            ap (λ k. slice_index_or (cells_of w.table t) (k % length (cells_of w.table t)) raw) rest ∙ ap (λ k. slice_index_or (cells_of w.table t) k raw) (mod-mod (at - l.part.low + i) (length (cells_of w.table t))) in
+        ap (λ k. slice_index_or (cells_of w.table t) (k % length (cells_of w.table t)) raw) rest ∙ ap (λ k. slice_index_or (cells_of w.table t) k raw) (mod-mod (at - l.part.low + i) (length (cells_of w.table t))) in
         let y = subst (λ b. CellsAgree w.table w.kind b (repeated_cell (cells_of w.table t) i)) again ((s.shifted complete).agree i) in
         (x.0, ap (slice_get s.object.cells) (sym here) ∙ x.1, agree-twice w sound x.0 (repeated_cell (cells_of w.table t) (at - l.part.low + i)) (repeated_cell (cells_of w.table t) i) x.2 y)
       where
@@ -148,8 +145,8 @@ module _ (w : Setting) (sound : IsWellFormed w.table) where
               let y = seq-cell c at offset low i (omega (arith, n, high, k)) in
               let m = slice_get_within (cells_of w.table t) i x.0 x.1 in
               let same : repeated_cell (cells_of w.table t) i ≡ x.0 =
-                  let g : slice_get (cells_of w.table t) i ≡ Some (repeated_cell (cells_of w.table t) i) = ap (slice_get (cells_of w.table t)) (sym (mod-eq_of_lt m)) ∙ rep-there (cells_of w.table t) i (omega (arith, m)) in
-                  let f = x.1 in cc (f, g) in
+              let g : slice_get (cells_of w.table t) i ≡ Some (repeated_cell (cells_of w.table t) i) = ap (slice_get (cells_of w.table t)) (sym (mod-eq_of_lt m)) ∙ rep-there (cells_of w.table t) i (omega (arith, m)) in
+              let f = x.1 in cc (f, g) in
               (y.0, y.1, agree-twice w sound y.0 x.0 d (subst (CellsAgree w.table w.kind y.0) same y.2) x.2);
         }
 

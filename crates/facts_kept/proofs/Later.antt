@@ -1,14 +1,14 @@
 -- What a call of some depth sees of a later memory: its objects are there, with their outlines; those no deeper live as they did.
-use Rattle.std.proofs.Common.{◌≡◌, ◌≢◌, ℕ, zero, suc, ◌+◌, ◌-◌, ◌<◌, ◌≤◌, ◌⊎◌, inl, inr, Bool, true, false, List, [], ◌∷◌, ◌++◌, map, length, slice_get, slice_set, Option, Some, None, refl, ap, sym, subst, ◌∙◌, ⊎_elim, arith}
+use Rattle.std.proofs.Common.{◌≡◌, ℕ, suc, ◌≤◌, List, [], ◌∷◌, ◌++◌, map, slice_get, Some, refl, ap, sym, subst, ◌∙◌, arith}
 use Rattle.cc_base.specs.declared.number.TypeId.{TypeId}
 use Rattle.cc_base.specs.declared.kind.Kind.{Kind}
-use Rattle.src_mem.specs.Pointers.{Location, Pointer, Null, Number, At, Function}
+use Rattle.src_mem.specs.Pointers.{Pointer, Null, Number, At, Function}
 use Rattle.src_mem.specs.Memory.{Object}
 use Rattle.src_mem.specs.Primitives.{ended}
 use Rattle.src_mem.specs.State.{Setting}
 use Rattle.c_types.proofs.OrderedPointers.{get_front}
 use Rattle.facts_kept.proofs.Lists.{map-both}
-use Rattle.src_mem.specs.Outlines.{Outline, outline, Life, life, LivesAt}
+use Rattle.src_mem.specs.Outlines.{Outline, outline, Life, life}
 use Rattle.std.proofs.lemmas.Option.{slice_get_within}
 use Rattle.src_mem.specs.Facts.{IsValueOf, Reaches, IsHeld}
 use Rattle.facts_kept.proofs.Growth.{value-grown, get-map, map-get, outlines-ended, life-ended}

@@ -23,3 +23,5 @@ pub mod Writing
 pub mod Moving
 pub mod Parts
 pub mod Addresses
+pub mod Allocating
+pub mod Moments

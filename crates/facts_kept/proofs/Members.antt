@@ -1,32 +1,27 @@
 -- The address of a part of a place: a member, an array that decays, a place under `&`.
-use Rattle.std.proofs.Common.{◌≡◌, ◌≢◌, ℕ, zero, suc, ◌+◌, ◌-◌, ◌%◌, ◌/◌, ◌*◌, ◌^◌, ◌<◌, ◌≤◌, ◌≤ℤ◌, ◌⊎◌, inl, inr, ℤ, pos, ◌+ℤ◌, ◌-ℤ◌, Bool, true, false, not, List, [], ◌∷◌, ◌++◌, map, length, take, replicate, slice_get, Option, Some, None, refl, ap, sym, subst, ◌∙◌, ⊎_elim, arith}
-use Rattle.std.specs.Prelude.{⊤, slice_index_or, IsFalse}
+use Rattle.std.proofs.Common.{◌≡◌, ℕ, zero, suc, ◌+◌, ◌-◌, ◌*◌, ◌<◌, ◌≤◌, ◌≤ℤ◌, pos, ◌-ℤ◌, List, [], ◌∷◌, ◌++◌, map, length, take, replicate, slice_get, Some, refl, ap, sym, subst, ◌∙◌, arith}
+use Rattle.std.specs.Prelude.{slice_index_or}
 use Rattle.std.specs.List.{Contains, All, fold, repeat}
 use Rattle.std.proofs.lemmas.Int.{ints}
 use Rattle.std.proofs.lemmas.Option.{slice_get_within, slice_get-get_or}
-use Rattle.std.proofs.lemmas.List.{length-append}
 use Rattle.std.proofs.lemmas.List.Elements.{All-contains}
-use native.Mathlib.Nat.{mod-lt, mod-eq_of_lt}
+use native.Mathlib.Nat.{mod-eq_of_lt}
 use Rattle.cc_base.specs.declared.number.TypeId.{TypeId}
 use Rattle.cc_base.specs.declared.number.NodeId.{NodeId}
-use Rattle.cc_base.specs.declared.kind.Kind.{Kind}
-use Rattle.cc_base.specs.declared.kind.Kind.TheVariants.{Safe, Seq, Rtti, Wild}
-use Rattle.c_types.specs.declared.shape.TypeShape.{TypeShape}
-use Rattle.c_types.specs.declared.shape.TypeShape.TheVariants.{Void, Integer, Pointer, Array, Function, Struct, Union}
-use Rattle.c_types.specs.declared.layout.Layout.{Layout}
-use Rattle.c_types.specs.Table.{Table, IsComplete, shape_at, members_at, parts_of_shape, is_complete_entry, is_function}
-use Rattle.c_types.specs.Layouts.{size_of, align_of, layout_of, rounded, members_end, offset_of, offset_of_shape, member_at}
-use Rattle.c_types.specs.Cells.{Cell, raw, pointer, mixed, incomplete, Relation, padded_to, member_cells, cells_of_shape, cells_at, IsBetweenPointers, AreOrdered}
+use Rattle.c_types.specs.declared.shape.TypeShape.TheVariants.{Array, Struct}
+use Rattle.c_types.specs.Table.{IsComplete, shape_at, members_at, parts_of_shape}
+use Rattle.c_types.specs.Layouts.{size_of, align_of, layout_of, rounded, offset_of, offset_of_shape, member_at}
+use Rattle.c_types.specs.Cells.{Cell, raw, pointer, mixed, incomplete, padded_to, member_cells, cells_of_shape, IsBetweenPointers, AreOrdered}
 use Rattle.c_types.specs.Equality.{cells_of, repeated_cell, physically_equal}
 use Rattle.c_types.specs.Sound.{IsWellFormed, IsProper}
 use Rattle.c_types.proofs.Cells.{cells_are, length_cells, length_padded, length_members}
 use Rattle.c_types.proofs.Ends.{rounded_up}
 use Rattle.c_types.proofs.Lists.{contains_take}
 use Rattle.type_laws.proofs.Pointers.{class_own, covers_own}
-use Rattle.src_mem.specs.Pointers.{Location, At, distance}
+use Rattle.src_mem.specs.Pointers.{Location}
 use Rattle.src_mem.specs.State.{Setting}
 use Rattle.c_types.specs.Flows.{CellsAgree}
-use Rattle.src_mem.specs.Facts.{HoldType, RepeatType, IsSameShifted, sequence_least, sequence_most, IsLocated, IsTyped, StandsAt, IsSafeAt, IsTypedAt, IsSequenceAt, IsValueOf, IsTypedPlace}
+use Rattle.src_mem.specs.Facts.{HoldType, IsSameShifted, sequence_least, sequence_most, IsLocated, IsTyped, StandsAt, IsSafeAt, IsTypedAt, IsSequenceAt, IsTypedPlace}
 use Rattle.c_types.proofs.OrderedPointers.{cells_ordered, get_front, get_back}
 use Rattle.src_mem.specs.Outlines.{Outline}
 use Rattle.facts_kept.proofs.Agree.{agree-own, agree-twice}

@@ -1,26 +1,21 @@
 -- A SEQ or WILD pointer that moves within RANGE stays a value.
-use Rattle.std.proofs.Common.{◌≡◌, ◌≢◌, ℕ, zero, suc, ◌+◌, ◌-◌, ◌%◌, ◌/◌, ◌*◌, ◌^◌, ◌<◌, ◌≤◌, ◌≤ℤ◌, ◌⊎◌, ℤ, pos, negsuc, neg_ℤ, ◌+ℤ◌, ◌-ℤ◌, ◌*ℤ◌, int_le, Bool, true, false, ◌&&◌, List, Option, Some, None, refl, ap, sym, subst, inl, inr, ◌∙◌, ⊎_elim, arith}
-use Rattle.std.specs.Prelude.{IsTrue, IsFalse, ⊤}
+use Rattle.std.proofs.Common.{◌≡◌, ℕ, zero, suc, ◌*◌, ◌^◌, ◌<◌, ◌≤◌, ◌≤ℤ◌, ℤ, pos, negsuc, neg_ℤ, ◌+ℤ◌, ◌-ℤ◌, ◌*ℤ◌, true, List, ap, sym, subst, ◌∙◌, arith}
 use Rattle.std.specs.Int.{int_div_euclid}
 use Rattle.std.proofs.lemmas.Int.{ints}
 use Rattle.std.proofs.Math.Nat.{mul-le-mul}
 use Rattle.cc_base.specs.declared.number.TypeId.{TypeId}
-use Rattle.cc_base.specs.declared.kind.Kind.{Kind}
-use Rattle.cc_base.specs.declared.kind.Kind.TheVariants.{Safe, Seq, Rtti, Wild}
 use Rattle.c_types.specs.Table.{IsComplete}
 use Rattle.c_types.specs.Layouts.{size_of}
-use Rattle.c_types.specs.Cells.{Cell}
 use Rattle.c_types.specs.Equality.{cells_of, repeated_cell}
 use Rattle.c_types.specs.Sound.{IsWellFormed}
 use Rattle.integers.specs.Words.{residue}
-use Rattle.c_types.specs.Widths.{stair}
 use Rattle.type_laws.proofs.Stairs.{stair-is, splits, Splits, up_one, residue-is}
 use Rattle.src_mem.specs.Outlines.{Outline}
-use Rattle.src_mem.specs.Pointers.{Location, Pointer, Null, Number, At, Function, distance}
+use Rattle.src_mem.specs.Pointers.{Location, distance}
 use Rattle.src_mem.specs.Checks.{between, elements_before}
 use Rattle.src_mem.specs.State.{Setting}
 use Rattle.c_types.specs.Flows.{CellsAgree}
-use Rattle.src_mem.specs.Facts.{IsSameShifted, sequence_least, sequence_most, wild_least, wild_most, IsSequenceAt, IsWildAt}
+use Rattle.src_mem.specs.Facts.{sequence_least, sequence_most, wild_least, wild_most, IsSequenceAt, IsWildAt}
 
 residue-step : (z : ℤ) (n : ℕ) → 0 < n → residue (z +ℤ pos n) n ≡ residue z n
 residue-step z n h = of (splits n z h)
@@ -100,7 +95,7 @@ module _ (w : Setting) (sound : IsWellFormed w.table) (outlines : List Outline) 
           let r = whole-range (x.q +ℤ n) (size_of w.table t) x.r (sound.sized t c).most x.below (sym (ap (λ z. between (neg_ℤ (pos (2 ^ 31))) (z +ℤ n) (pos (2 ^ 31))) e) ∙ h) in
           let d : distance (record l { offset = l.offset +ℤ n *ℤ pos (size_of w.table t) }) ≡ distance l +ℤ n *ℤ pos (size_of w.table t) = by l.offset l.part.low (n *ℤ pos (size_of w.table t)) in
           let f : distance (record l { offset = l.offset +ℤ n *ℤ pos (size_of w.table t) }) ≡ (x.q +ℤ n) *ℤ pos (size_of w.table t) +ℤ pos x.r =
-              d ∙ ap (λ z. z +ℤ n *ℤ pos (size_of w.table t)) x.is ∙ spread x.q n (size_of w.table t) x.r in
+          d ∙ ap (λ z. z +ℤ n *ℤ pos (size_of w.table t)) x.is ∙ spread x.q n (size_of w.table t) x.r in
           record {
             object = s.object;
             located = record { found = s.located.found; ordered = s.located.ordered; inside = s.located.inside };
@@ -109,12 +104,14 @@ module _ (w : Setting) (sound : IsWellFormed w.table) (outlines : List Outline) 
             least = subst (λ z. sequence_least ≤ℤ z) (sym f) r.0;
             most = subst (λ z. z ≤ℤ sequence_most) (sym f) r.1;
             filled = s.filled;
-            shifted = λ k. record { agree = λ i.
-                let a : distance (record l { offset = l.offset +ℤ n *ℤ pos (size_of w.table t) }) +ℤ pos i ≡ (distance l +ℤ pos i) +ℤ n *ℤ pos (size_of w.table t) =
-                    ap (λ z. z +ℤ pos i) d ∙ turn (distance l) (n *ℤ pos (size_of w.table t)) (pos i) in
-                let b : residue (distance (record l { offset = l.offset +ℤ n *ℤ pos (size_of w.table t) }) +ℤ pos i) (size_of w.table t) ≡ residue (distance l +ℤ pos i) (size_of w.table t) =
-                    ap (λ z. residue z (size_of w.table t)) a ∙ residue-moved n (size_of w.table t) (distance l +ℤ pos i) (sound.sized t c).some in
-                subst (λ j. CellsAgree w.table w.kind (repeated_cell (cells_of w.table t) j) (repeated_cell (cells_of w.table t) i)) (sym b) ((s.shifted k).agree i) };
+            shifted = λ k. record {
+              agree = λ i.
+                  let a : distance (record l { offset = l.offset +ℤ n *ℤ pos (size_of w.table t) }) +ℤ pos i ≡ (distance l +ℤ pos i) +ℤ n *ℤ pos (size_of w.table t) =
+                  ap (λ z. z +ℤ pos i) d ∙ turn (distance l) (n *ℤ pos (size_of w.table t)) (pos i) in
+                  let b : residue (distance (record l { offset = l.offset +ℤ n *ℤ pos (size_of w.table t) }) +ℤ pos i) (size_of w.table t) ≡ residue (distance l +ℤ pos i) (size_of w.table t) =
+                  ap (λ z. residue z (size_of w.table t)) a ∙ residue-moved n (size_of w.table t) (distance l +ℤ pos i) (sound.sized t c).some in
+                  subst (λ j. CellsAgree w.table w.kind (repeated_cell (cells_of w.table t) j) (repeated_cell (cells_of w.table t) i)) (sym b) ((s.shifted k).agree i);
+            };
             unmoved = λ k. absurd (k c);
           }
         where

@@ -1,6 +1,6 @@
 -- A type that holds no pointer has no pointer's byte; and so blocks are filled by their type.
-use Rattle.std.proofs.Common.{◌≡◌, ◌≢◌, ℕ, zero, suc, ◌+◌, ◌-◌, ◌%◌, ◌/◌, ◌*◌, ◌<◌, ◌≤◌, ◌⊎◌, inl, inr, Bool, true, false, not, ◌||◌, List, [], ◌∷◌, ◌++◌, map, length, take, replicate, slice_get, Option, Some, None, refl, ap, sym, subst, ◌∙◌, ⊎_elim, arith, if◌then◌else◌}
-use Rattle.std.specs.List.{Contains, fold, repeat, range_with_len, list_any}
+use Rattle.std.proofs.Common.{◌≡◌, ◌≢◌, ℕ, zero, suc, ◌+◌, ◌-◌, ◌%◌, ◌/◌, ◌*◌, ◌<◌, Bool, true, false, ◌||◌, List, [], ◌∷◌, ◌++◌, map, length, replicate, slice_get, refl, ap, sym, subst, ◌∙◌, arith, if◌then◌else◌}
+use Rattle.std.specs.List.{Contains, fold, repeat, list_any}
 use Rattle.std.specs.Prelude.{slice_index_or}
 use Rattle.std.proofs.Math.Nat.{mod-add-div', add-mul-mod_self_right}
 use native.Mathlib.Nat.{mod-eq_of_lt}
@@ -13,19 +13,19 @@ use Rattle.c_types.specs.declared.shape.TypeShape.{TypeShape}
 use Rattle.c_types.specs.declared.shape.TypeShape.TheVariants.{Void, Integer, Pointer, Array, Function, Struct, Union}
 use Rattle.c_types.specs.Table.{Table, shape_at, members_at, parts_at, parts_of_shape, IsComplete, is_complete_entry}
 use Rattle.c_types.specs.Layouts.{rounded, size_of, align_of}
-use Rattle.c_types.specs.Cells.{Cell, raw, pointer, mixed, incomplete, Relation, padded_to, member_cells, union_cells, cells_of_shape, cells_at, holds_pointer, holds_in_shape, AreOrdered}
-use Rattle.c_types.specs.Equality.{cells_of, physically_equal, repeated_cell}
+use Rattle.c_types.specs.Cells.{Cell, raw, pointer, incomplete, Relation, padded_to, member_cells, union_cells, cells_of_shape, cells_at, holds_pointer, holds_in_shape, AreOrdered}
+use Rattle.c_types.specs.Equality.{cells_of, physically_equal}
 use Rattle.c_types.specs.Sound.{IsWellFormed}
 use Rattle.c_types.proofs.Lists.{contains_head, contains_tail}
 use Rattle.c_types.proofs.Descent.{descend_is, rank_bound}
 use Rattle.c_types.proofs.Cells.{cells_are}
-use Rattle.src_mem.specs.Memory.{Object, Planned, new_block, new_variable, block_size, block_cells}
+use Rattle.src_mem.specs.Memory.{Planned, new_block, new_variable, block_size, block_cells}
 use Rattle.src_mem.specs.State.{Setting}
 use Rattle.c_types.proofs.OrderedPointers.{cells_ordered}
-use Rattle.src_mem.specs.Outlines.{Outline, outline}
+use Rattle.src_mem.specs.Outlines.{outline}
 use Rattle.facts_kept.proofs.Flow.{rep-there}
 use Rattle.facts_kept.proofs.Complete.{complete-some}
-use Rattle.facts_kept.proofs.Blocks.{NoPointers, IsBlockOf, whole-ordered, block-get, block-length, IsFilled}
+use Rattle.facts_kept.proofs.Blocks.{NoPointers, whole-ordered, block-get, block-length, IsFilled}
 
 any_same : (f g : TypeId → Bool) (ms : List TypeId) → ((m : TypeId) → Contains ms m → f m ≡ g m) → list_any f ms ≡ list_any g ms
 any_same f g [] h = refl
@@ -46,7 +46,6 @@ unfolding holds_pointer
 holds_is table w t =
     descend_is (λ of_part u. holds_in_shape of_part (shape_at table u) (members_at table u)) false (parts_at table) w.order.0
     (λ f g u h. holds_same f g (shape_at table u) (members_at table u) h) w.order.1.falls (suc (length table)) t (rank_bound table w.order.0 w.order.1 t)
-
 
 none-none : NoPointers []
 none-none i m t j e = cc (e)

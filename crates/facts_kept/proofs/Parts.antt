@@ -1,7 +1,7 @@
 -- What stands somewhere in a type, through members and elements, has cells that agree (for static initialisers).
-use Rattle.std.proofs.Common.{◌≡◌, ◌≢◌, ℕ, zero, suc, ◌+◌, ◌-◌, ◌*◌, ◌<◌, ◌≤◌, ◌⊎◌, inl, inr, Bool, true, false, List, [], ◌∷◌, map, max, length, slice_get, Option, Some, None, refl, ap, sym, subst, ◌∙◌, ⊎_elim, arith}
+use Rattle.std.proofs.Common.{◌≡◌, ℕ, zero, suc, ◌+◌, ◌*◌, ◌<◌, ◌≤◌, true, List, [], ◌∷◌, map, max, length, slice_get, Some, refl, ap, sym, subst, ◌∙◌, arith}
 use Rattle.std.specs.Prelude.{slice_index_or, take}
-use Rattle.std.specs.List.{Contains, All, fold, repeat}
+use Rattle.std.specs.List.{All, fold, repeat}
 use Rattle.std.proofs.lemmas.Option.{slice_get_within, slice_get-get_or}
 use Rattle.std.proofs.lemmas.List.Elements.{All-contains}
 use Rattle.std.proofs.Math.Nat.{mul-le-mul_right}
@@ -9,10 +9,10 @@ use Rattle.cc_base.specs.declared.number.TypeId.{TypeId}
 use Rattle.c_types.specs.declared.shape.TypeShape.{TypeShape}
 use Rattle.c_types.specs.declared.shape.TypeShape.TheVariants.{Void, Integer, Pointer, Array, Function, Struct, Union}
 use Rattle.c_types.specs.declared.layout.Layout.{Layout}
-use Rattle.c_types.specs.Table.{Table, IsComplete, IsAggregate, shape_at, members_at, parts_of_shape, is_aggregate_shape}
-use Rattle.c_types.specs.Layouts.{size_of, layout_of, layout_of_shape, union_layout, greatest_size, greatest_align, rounded, offset_of, offset_of_shape, member_at}
+use Rattle.c_types.specs.Table.{IsComplete, IsAggregate, shape_at, members_at, parts_of_shape, is_aggregate_shape}
+use Rattle.c_types.specs.Layouts.{size_of, layout_of, layout_of_shape, union_layout, greatest_size, greatest_align, offset_of, offset_of_shape, member_at}
 use Rattle.c_types.specs.Cells.{Cell, raw, pointer, mixed, incomplete, cells_of_shape}
-use Rattle.c_types.specs.Equality.{cells_of, physically_equal, repeated_cell}
+use Rattle.c_types.specs.Equality.{cells_of, physically_equal}
 use Rattle.c_types.specs.Solutions.{HoldsMixed, IsUnionAllowed}
 use Rattle.c_types.specs.Sound.{IsWellFormed}
 use Rattle.c_types.proofs.Cells.{cells_are}
@@ -24,7 +24,7 @@ use Rattle.c_types.proofs.OrderedPointers.{get_front, get_back}
 use Rattle.facts_kept.proofs.Agree.{agree-own, agree-twice}
 use Rattle.facts_kept.proofs.Complete.{complete-some}
 use Rattle.facts_kept.proofs.Blocks.{rep-length}
-use Rattle.facts_kept.proofs.Members.{IsSub, sub-own, sub-struct}
+use Rattle.facts_kept.proofs.Members.{IsSub, sub-struct}
 use Rattle.facts_kept.proofs.Unions.{sub-union}
 
 -- the greatest size is one
@@ -103,7 +103,7 @@ module _ (w : Setting) (sound : IsWellFormed w.table) where
         of-union tag e =
             let z : offset_of w.table t i ≡ 0 = ap (λ s. offset_of_shape s (map (layout_of w.table) (take i (members_at w.table t))) (layout_of w.table (member_at w.table t i))) e in
             let s : size_of w.table t ≡ (union_layout (map (layout_of w.table) (members_at w.table t))).size =
-                ap (λ (l : Layout). l.size) (layout_is w.table sound.order.0 sound.order.1 t) ∙ ap (λ x. (layout_of_shape (layout_of w.table) x (members_at w.table t)).size) e in
+            ap (λ (l : Layout). l.size) (layout_is w.table sound.order.0 sound.order.1 t) ∙ ap (λ x. (layout_of_shape (layout_of w.table) x (members_at w.table t)).size) e in
             let m = at-most (layout_of w.table) (members_at w.table t) 0 i t h in
             let r = rounded_up (greatest_size (map (layout_of w.table) (members_at w.table t))) (greatest_align (map (layout_of w.table) (members_at w.table t))) in
             subst (λ k. IsSub w t k (member_at w.table t i)) (sym z)

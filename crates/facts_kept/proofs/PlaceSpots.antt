@@ -8,7 +8,7 @@ use Rattle.src_mem.specs.Pointers.{Location, Pointer, At}
 use Rattle.src_mem.specs.Memory.{Object, Memory, size_of_object}
 use Rattle.src_mem.specs.State.{Setting}
 use Rattle.src_mem.specs.Checks.{InObject, holds, fits_between}
-use Rattle.src_mem.specs.Outlines.{Outline, LivesAt, outline, outlines_of, lives_of}
+use Rattle.src_mem.specs.Outlines.{Outline, outline, outlines_of}
 use Rattle.src_mem.specs.Facts.{HoldType, IsTypedPlace, IsPlaceAt, IsPlaceIn, IsWildAt}
 use Rattle.src_mem.proofs.Outlines.{has-outline}
 use Rattle.src_mem.proofs.Spots.{IsRight}

@@ -1,33 +1,29 @@
 -- Values of pointers to types of one class; places; what a load gives.
-use Rattle.std.proofs.Common.{◌≡◌, ◌≢◌, ℕ, zero, suc, ◌+◌, ◌-◌, ◌%◌, ◌<◌, ◌≤◌, ◌⊎◌, ℤ, pos, negsuc, ◌+ℤ◌, ◌-ℤ◌, Bool, true, false, not, ◌&&◌, ◌||◌, List, [], ◌∷◌, length, map, slice_get, Option, Some, None, refl, ap, sym, subst, inl, inr, ◌∙◌, ⊎_elim, arith, if◌then◌else◌}
-use Rattle.std.specs.Prelude.{IsTrue, IsFalse, ⊤}
-use Rattle.std.specs.List.{Contains}
+use Rattle.std.proofs.Common.{◌≡◌, ◌≢◌, ℕ, ◌+◌, ◌≤◌, Bool, true, false, List, [], length, slice_get, Option, Some, None, refl, ap, sym, subst, ◌∙◌, ⊎_elim, arith}
 use Rattle.cc_base.specs.declared.number.TypeId.{TypeId}
 use Rattle.cc_base.specs.declared.number.NodeId.{NodeId}
 use Rattle.cc_base.specs.declared.kind.Kind.{Kind}
 use Rattle.cc_base.specs.declared.kind.Kind.TheVariants.{Safe, Seq, Rtti, Wild}
-use Rattle.c_types.specs.declared.shape.TypeShape.{TypeShape}
 use Rattle.c_types.specs.declared.shape.TypeShape.TheVariants as shape
 use Rattle.c_types.specs.declared.site.Site.{Site}
 use Rattle.c_types.specs.declared.flow_class.FlowClass.TheVariants.{Equal}
-use Rattle.c_types.specs.Table.{Table, IsComplete, is_complete, entry_at, shape_at, is_function}
+use Rattle.c_types.specs.Table.{IsComplete, shape_at, is_function}
 use Rattle.c_types.specs.Layouts.{size_of}
-use Rattle.c_types.specs.Cells.{Cell, raw, pointer, mixed, incomplete, IsBetweenPointers}
-use Rattle.c_types.specs.Equality.{physically_equal, cells_of, repeated_cell}
-use Rattle.c_types.specs.Flows.{HeldPointer, pointer_at, IsOfOneClass, Covers, CellsAgree}
-use Rattle.c_types.specs.Solutions.{IsPointeeAllowed, SpreadsWild, Holds, at_place}
+use Rattle.c_types.specs.Cells.{Cell, raw, pointer, mixed, incomplete}
+use Rattle.c_types.specs.Equality.{cells_of, repeated_cell}
+use Rattle.c_types.specs.Flows.{IsOfOneClass, CellsAgree}
+use Rattle.c_types.specs.Solutions.{SpreadsWild, at_place}
 use Rattle.c_types.specs.Sound.{IsWellFormed}
-use Rattle.type_laws.proofs.Pointers.{class_own, class_turned, class_twice, covers_own, covers_twice}
-use Rattle.src_mem.specs.Outlines.{Outline, outline, Life, LivesAt}
+use Rattle.type_laws.proofs.Pointers.{class_turned, class_twice, covers_own, covers_twice}
+use Rattle.src_mem.specs.Outlines.{Outline, Life}
 use Rattle.src_mem.specs.Pointers.{Location, Pointer, Null, Number, At, Function, distance}
 use Rattle.src_mem.specs.Memory.{Object, Memory, pointer_or_null}
-use Rattle.src_mem.specs.Checks.{Condition, NotNull, InBounds, InObject, by_kind, holds}
 use Rattle.src_mem.specs.State.{Setting}
-use Rattle.src_mem.specs.Facts.{IsTypedPlace, IsPlaceAt, IsPlace, HoldType, RepeatType, IsSameShifted, IsLocated, IsTyped, StandsAt, IsSafeAt, IsTypedAt, IsSequenceAt, IsWildAt, IsFunctionOf, IsValueOf, IsMade, Reaches, IsHeld, IsStoredTyped, IsStoredTagged, IsSoundObject}
+use Rattle.src_mem.specs.Facts.{IsPlace, HoldType, IsSequenceAt, IsValueOf, IsMade, Reaches, IsHeld, IsSoundObject}
 use Rattle.src_mem.proofs.Right.{pointer_cells_are}
 use Rattle.facts_kept.proofs.Agree.{agree-twice, pointer-there}
 use Rattle.facts_kept.proofs.Flow.{begins-data}
-use Rattle.facts_kept.proofs.Complete.{complete-some, complete-data, function-empty}
+use Rattle.facts_kept.proofs.Complete.{complete-some, function-empty}
 use Rattle.facts_kept.proofs.Holds.{in-bounds, class-covers, class-data, covered-holds, seq-stands, seq-holds}
 use Rattle.facts_kept.specs.Kept.{AllHold, asked_of}
 use Rattle.facts_kept.proofs.Convert.{safe-at, typed-typed, safe-function, Both, Alike, both-or-void, both-complete, seq-complete, shifted-alike}
@@ -43,7 +39,11 @@ module _ (w : Setting) (sound : IsWellFormed w.table) (outlines : List Outline) 
           let nt : IsComplete w.table t → Prim.⊥ = (λ c. let x = (complete-some w.table sound t c).0 in let y : length (cells_of w.table t) ≡ 0 = ap length et in omega (arith, x, y)) in
           let nu : IsComplete w.table u → Prim.⊥ = (λ c. let x = (complete-some w.table sound u c).0 in let y : length (cells_of w.table u) ≡ 0 = ap length eu in omega (arith, x, y)) in
           record {
-            object = s.object; located = s.located; typed = s.typed; least = s.least; most = s.most;
+            object = s.object;
+            located = s.located;
+            typed = s.typed;
+            least = s.least;
+            most = s.most;
             made = class_twice w.table w.kind sound l.made t u s.made one;
             filled = λ c. absurd (nu c);
             shifted = λ c. absurd (nu c);
@@ -53,7 +53,11 @@ module _ (w : Setting) (sound : IsWellFormed w.table) (outlines : List Outline) 
       full : is_function w.table u ≡ false → Both w sound outlines t u → IsSequenceAt w outlines u l
       full fu b =
           let ct = seq-complete w sound outlines t l s b.0 in let cu = both-complete w sound outlines t u fu b ct in record {
-            object = s.object; located = s.located; typed = s.typed; least = s.least; most = s.most;
+            object = s.object;
+            located = s.located;
+            typed = s.typed;
+            least = s.least;
+            most = s.most;
             made = class_twice w.table w.kind sound l.made t u s.made one;
             filled = λ c. record { agree = λ i h. let x = (s.filled ct).agree i h in (x.0, x.1, agree-twice w sound x.0 (repeated_cell (cells_of w.table t) i) (repeated_cell (cells_of w.table u) i) x.2 (b.2 i)) };
             shifted = λ c. shifted-alike w sound outlines t u b (complete-some w.table sound t ct).1 (complete-some w.table sound u cu).1 (distance l) (s.shifted ct);
@@ -101,16 +105,37 @@ module _ (w : Setting) (sound : IsWellFormed w.table) (outlines : List Outline) 
   held_at lives depth memory Safe t (Function f) ft h r c = absurd (let x = h.type in cc (x, ft))
   held_at lives depth memory Rtti t Null ft h r c = absurd (let x = c.0 in cc (x))
   held_at lives depth memory Rtti t (Number n) ft h r c = absurd h
-  held_at lives depth memory Rtti t (At l) ft h r c = record { location = l; is = refl; reaches = r; place = record { object = h.object; at = h.at; located = h.located; typed = h.typed; stands = h.stands;
-      holds = covered-holds w sound l.made t h.covers h.object.cells h.at l.part.high h.holds } }
+  held_at lives depth memory Rtti t (At l) ft h r c = record {
+    location = l;
+    is = refl;
+    reaches = r;
+    place = record {
+      object = h.object;
+      at = h.at;
+      located = h.located;
+      typed = h.typed;
+      stands = h.stands;
+      holds = covered-holds w sound l.made t h.covers h.object.cells h.at l.part.high h.holds;
+    };
+  }
   held_at lives depth memory Rtti t (Function f) ft h r c = absurd h
   held_at lives depth memory Seq t Null ft h r c = absurd (let x = c.0 in cc (x))
   held_at lives depth memory Seq t (Number n) ft h r c = absurd (let x = c.0 in cc (x))
   held_at lives depth memory Seq t (At l) ft h r c =
       let b = in-bounds l.part.low l.part.high l.offset (size_of w.table t) c.0 in
-      record { location = l; is = refl; reaches = r; place = record { object = h.object; at = b.0; located = h.located; typed = h.typed;
-      stands = seq-stands w sound outlines t l h b.0 b.1 b.2 (let x = b.3 in omega (arith, x));
-      holds = seq-holds w sound outlines t l h t ft (covers_own w.table w.kind t ft) b.0 b.1 b.2 b.3 } }
+      record {
+        location = l;
+        is = refl;
+        reaches = r;
+        place = record {
+          object = h.object;
+          at = b.0;
+          located = h.located;
+          typed = h.typed;
+          stands = seq-stands w sound outlines t l h b.0 b.1 b.2 (let x = b.3 in omega (arith, x));
+          holds = seq-holds w sound outlines t l h t ft (covers_own w.table w.kind t ft) b.0 b.1 b.2 b.3;
+        };
+      }
   held_at lives depth memory Seq t (Function f) ft h r c = absurd h
   held_at lives depth memory Wild t Null ft h r c = absurd (let x = c.0 in cc (x))
   held_at lives depth memory Wild t (Number n) ft h r c = absurd (let x = c.0 in cc (x))
@@ -120,7 +145,6 @@ module _ (w : Setting) (sound : IsWellFormed w.table) (outlines : List Outline) 
   pub held-place : (lives : List Life) (depth : ℕ) (memory : Memory) (k : Kind) (t : TypeId) (p : Pointer) → is_function w.table t ≡ false → IsHeld w outlines lives depth k t p
       → AllHold w memory (asked_of (size_of w.table t) k p) → IsPlace w outlines lives depth k t p
   held-place lives depth memory k t p ft h c = held_at lives depth memory k t p ft h.value h.reaches c
-
 
   -- the pointer that stands at a place, as the type says
   pub record Stands (k : Kind) (u : TypeId) (cells : List Cell) (at : ℕ) : Type 0 where
@@ -159,11 +183,13 @@ module _ (w : Setting) (sound : IsWellFormed w.table) (outlines : List Outline) 
           let y = stands-pointer t u m o.cells at high e h in
           let same : pointer x.node x.to 0 ≡ pointer y.node y.to 0 = (let a = x.begins in let b = y.found in cc (a, b)) in
           let n : x.node ≡ y.node = cc (same) in let v : x.to ≡ y.to = cc (same) in
-          let k : w.kind x.node ≡ w.kind m = ap w.kind n ∙ y.kind in
-          (record {
-            value = subst (λ c. IsValueOf w outlines c u p) k (value-class (w.kind x.node) x.to u p (subst (λ c. IsOfOneClass w.table w.kind c u) (sym v) y.class) x.value);
-            reaches = reaches-more lives o.depth depth p d (s.reaches at p f);
-          }, s.made at p f)
+          let k : w.kind x.node ≡ w.kind m = ap w.kind n ∙ y.kind in (
+            record {
+              value = subst (λ c. IsValueOf w outlines c u p) k (value-class (w.kind x.node) x.to u p (subst (λ c. IsOfOneClass w.table w.kind c u) (sym v) y.class) x.value);
+              reaches = reaches-more lives o.depth depth p d (s.reaches at p f);
+            },
+            s.made at p f,
+          )
 
   -- A load from a tagged object, through a pointer whose type spreads WILD.
   pub loaded-tagged : (sites : List Site) (lives : List Life) (depth : ℕ) (u : TypeId) (k : Kind) (o : Object) (at : ℕ) → k ≡ Wild → IsSoundObject w sites outlines lives o → w.kind o.node ≡ Wild → o.depth ≤ depth

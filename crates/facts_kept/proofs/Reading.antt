@@ -1,5 +1,5 @@
 -- A read through a held pointer isn't wrong, and gives a value of its type; a load asks for a place alone.
-use Rattle.std.proofs.Common.{◌≡◌, ◌≢◌, ℕ, ◌≤◌, ℤ, pos, Bool, true, false, ◌||◌, List, [], ◌∷◌, length, slice_get, Some, refl, ap, sym, subst, ◌∙◌, arith}
+use Rattle.std.proofs.Common.{◌≡◌, ◌≢◌, ℕ, pos, Bool, true, false, ◌||◌, List, [], ◌∷◌, length, Some, refl, ap, sym, subst, ◌∙◌, arith}
 use Rattle.std.specs.Prelude.{is_some, ◌==◌}
 use Rattle.cc_base.specs.declared.place.Place.{Place}
 use Rattle.cc_base.specs.declared.number.TypeId.{TypeId}
@@ -7,20 +7,18 @@ use Rattle.cc_base.specs.declared.number.NodeId.{NodeId}
 use Rattle.cc_base.specs.declared.kind.Kind.{Kind}
 use Rattle.cc_base.specs.declared.kind.Kind.TheVariants.{Safe, Seq, Rtti, Wild}
 use Rattle.c_types.specs.declared.site.Site.{Site}
-use Rattle.c_types.specs.declared.shape.TypeShape.{TypeShape}
 use Rattle.c_types.specs.declared.shape.TypeShape.TheVariants as shape
-use Rattle.c_types.specs.Table.{shape_at, is_function}
-use Rattle.c_types.specs.Layouts.{size_of}
+use Rattle.c_types.specs.Table.{shape_at}
 use Rattle.c_types.specs.Equality.{cells_of}
 use Rattle.c_types.specs.Solutions.{SpreadsWild}
 use Rattle.c_types.specs.Sound.{IsWellFormed}
 use Rattle.flat_mem.specs.Bytes.{number}
 use Rattle.integers.specs.Arithmetic.{IntegerType, converted}
-use Rattle.runs.specs.Outcome.{Outcome, Done, done, allowed, from, ◌>>=◌}
-use Rattle.src_mem.specs.Pointers.{Location, Pointer, At, Value, Integer, Address}
+use Rattle.runs.specs.Outcome.{done, allowed, from, ◌>>=◌}
+use Rattle.src_mem.specs.Pointers.{Location, Pointer, At, Integer, Address}
 use Rattle.src_mem.specs.Memory.{Object, holds_pointer_at, pointer_or_null}
-use Rattle.src_mem.specs.State.{Ending, Wrong, State, Act, Setting, touched}
-use Rattle.src_mem.specs.Checks.{InObject, HoldsPointer, IsAligned, ReadInteger, ReadPointer, conditions_of, holds, looks, object_at}
+use Rattle.src_mem.specs.State.{Wrong, State, Setting, touched}
+use Rattle.src_mem.specs.Checks.{InObject, HoldsPointer, IsAligned, ReadInteger, ReadPointer, conditions_of, holds, object_at}
 use Rattle.src_mem.specs.Primitives.{load_integer, load_pointer}
 use Rattle.src_mem.specs.Uses.{read_shape, read}
 use Rattle.src_mem.specs.Outlines.{outlines_of, lives_of}
@@ -77,7 +75,7 @@ module _ (w : Setting) (sound : IsWellFormed w.table) (sites : List Site) where
             let l = x.location in
             let at-object : holds w s.memory (HoldsPointer (At l)) ≡ true = subst (λ q. holds w s.memory (HoldsPointer q) ≡ true) x.is c.1.1.0 in
             let there : holds_pointer_at x.at x.object ≡ true =
-                sym (ap (λ y. object_at y l.offset holds_pointer_at) x.right.found ∙ ap (λ z. object_at (Some x.object) z holds_pointer_at) x.right.offset) ∙ at-object in
+            sym (ap (λ y. object_at y l.offset holds_pointer_at) x.right.found ∙ ap (λ z. object_at (Some x.object) z holds_pointer_at) x.right.offset) ∙ at-object in
             subst (λ q. Gives (load_pointer Wild q s) (GivesPointer w sites depth (w.kind m) u s)) (sym x.is)
             (loaded-there Wild l s x.object x.at depth (w.kind m) u x.right there
             (loaded-tagged w sound (outlines_of s.memory) sites (lives_of s.memory) depth u (w.kind m) x.object x.at

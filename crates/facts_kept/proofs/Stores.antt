@@ -1,31 +1,29 @@
 -- What a store, a clearing and a copy keep: integers, pointers typed and tagged, copies typed and WILD.
-use Rattle.std.proofs.Common.{◌≡◌, ◌≢◌, ℕ, zero, suc, ◌+◌, ◌-◌, ◌%◌, ◌*◌, ◌<◌, ◌≤◌, ◌⊎◌, inl, inr, ℤ, pos, Bool, true, false, not, ◌&&◌, ◌||◌, List, [], ◌∷◌, map, length, replicate, slice_get, slice_set, slice_index, Option, Some, None, refl, ap, sym, subst, ◌∙◌, ⊎_elim, arith, nat_eq, nat_le, if◌then◌else◌}
+use Rattle.std.proofs.Common.{◌≡◌, ◌≢◌, ℕ, zero, suc, ◌+◌, ◌-◌, ◌%◌, ◌<◌, ◌≤◌, ◌⊎◌, inl, inr, Bool, true, false, ◌&&◌, List, map, length, replicate, slice_get, slice_set, slice_index, Option, Some, None, refl, ap, sym, subst, ◌∙◌, ⊎_elim, arith, nat_eq, nat_le, if◌then◌else◌}
 use Rattle.std.specs.Prelude.{⊤, IsTrue, IsFalse}
 use Rattle.std.proofs.lemmas.Bool.Decides.{nat_tests}
 use Rattle.std.proofs.lemmas.Option.{slice_get_within}
 use Rattle.cc_base.specs.declared.number.TypeId.{TypeId}
 use Rattle.cc_base.specs.declared.number.NodeId.{NodeId}
 use Rattle.cc_base.specs.declared.kind.Kind.{Kind}
-use Rattle.cc_base.specs.declared.kind.Kind.TheVariants.{Safe, Seq, Rtti, Wild}
-use Rattle.c_types.specs.declared.shape.TypeShape.TheVariants as shape
-use Rattle.flat_mem.specs.Bytes.{number, stored, zeroed, written, bytes_at, AreBytes}
+use Rattle.cc_base.specs.declared.kind.Kind.TheVariants.{Wild}
+use Rattle.flat_mem.specs.Bytes.{number, zeroed, written, bytes_at}
 use Rattle.flat_mem.proofs.ByteLaws.{length-stored, stored-bytes, number-stored_apart, length-zeroed, zeroed-bytes, number-zeroed, number-zeroed_apart, number-zeros, number-same, length-bytes_at, get-written_inside, get-bytes_at, length-written, number-written_apart, written-bytes, bytes_at-bytes}
 use Rattle.facts_kept.proofs.Lists.{lives-set, get-zeroed_either, set-cases, outlines-set, number-zero}
-use Rattle.c_types.specs.Table.{shape_at}
 use Rattle.c_types.specs.Cells.{Cell, raw, pointer, mixed, incomplete, AreOrdered}
 use Rattle.c_types.specs.Equality.{cells_of}
 use Rattle.c_types.specs.Flows.{IsOfOneClass, CellsAgree}
 use Rattle.c_types.specs.Sound.{IsWellFormed}
-use Rattle.type_laws.proofs.Pointers.{class_turned, class_twice}
-use Rattle.src_mem.specs.Pointers.{Location, Pointer, Null, Number, At, Function}
-use Rattle.src_mem.specs.Memory.{Object, Memory, touches, untouched, with_integer, with_pointer, with_entry, entry_of, cleared, with_copy, with_copied}
+use Rattle.type_laws.proofs.Pointers.{class_turned}
+use Rattle.src_mem.specs.Pointers.{Pointer, Null, Number, At, Function}
+use Rattle.src_mem.specs.Memory.{Object, touches, untouched, with_integer, with_pointer, with_entry, entry_of, cleared, with_copy, with_copied}
 use Rattle.c_types.specs.declared.site.Site.{Site}
 use Rattle.src_mem.specs.State.{Setting}
 use Rattle.src_mem.specs.Facts.{IsMade, AreSound, HoldType, IsValueOf, Reaches, IsStoredTyped, IsStoredTagged, IsSoundObject}
 use Rattle.c_types.proofs.OrderedPointers.{pointer_bytes, cells_ordered}
-use Rattle.src_mem.specs.Outlines.{Outline, outline, Life, life, LivesAt}
+use Rattle.src_mem.specs.Outlines.{Outline, outline, Life, life}
 use Rattle.facts_kept.proofs.Agree.{agree-turned, agree-twice}
-use Rattle.facts_kept.proofs.Places.{value-class, wild-any, Stands, stands-pointer}
+use Rattle.facts_kept.proofs.Places.{value-class}
 
 -- A store leaves the facts: outlines and lives are the same lists
 
@@ -118,7 +116,6 @@ number-copied n source target from at k low high room = number-same 8 (written (
         let e : at + (k - at + i) ≡ k + i = omega arith in
         let f : from + (k - at + i) ≡ from + (k - at) + i = omega arith in
         ap (λ j. slice_index (written (bytes_at n source from) target at) j) (sym e) ∙ inside i h ∙ ap (λ j. slice_index source j) f
-
 
 none-written : (source target : List ℕ) (from at : ℕ) → written (bytes_at 0 source from) target at ≡ target
 unfolding bytes_at written

@@ -1,28 +1,26 @@
 -- A member of a union that isn't mixed: its cells agree with those of the largest member.
-use Rattle.std.proofs.Common.{◌≡◌, ◌≢◌, ℕ, zero, suc, ◌+◌, ◌-◌, ◌<◌, ◌≤◌, ◌⊎◌, inl, inr, Bool, true, false, not, ◌&&◌, List, [], ◌∷◌, ◌++◌, map, length, take, replicate, slice_get, Option, Some, None, nat_lt, refl, ap, sym, subst, ◌∙◌, ⊎_elim, arith, if◌then◌else◌}
-use Rattle.std.specs.Prelude.{slice_index_or, IsTrue, IsFalse}
+use Rattle.std.proofs.Common.{◌≡◌, ℕ, zero, suc, ◌+◌, ◌-◌, ◌<◌, ◌≤◌, Bool, true, false, List, [], ◌∷◌, ◌++◌, map, length, take, replicate, slice_get, Some, None, nat_lt, refl, ap, sym, subst, ◌∙◌, arith, if◌then◌else◌}
+use Rattle.std.specs.Prelude.{IsTrue, IsFalse}
 use Rattle.std.specs.List.{Contains, All, fold, repeat, list_all, range_with_len}
 use Rattle.std.proofs.lemmas.Bool.Decides.{nat_tests}
-use Rattle.std.proofs.lemmas.Option.{slice_get_within, slice_get-get_or, get_or_from_slice_get}
+use Rattle.std.proofs.lemmas.Option.{slice_get_within, get_or_from_slice_get}
 use Rattle.std.proofs.lemmas.List.Elements.{All-contains}
 use Rattle.cc_base.specs.declared.number.TypeId.{TypeId}
-use Rattle.cc_base.specs.declared.number.NodeId.{NodeId}
-use Rattle.cc_base.specs.declared.kind.Kind.{Kind}
 use Rattle.c_types.specs.declared.shape.TypeShape.{TypeShape}
 use Rattle.c_types.specs.declared.shape.TypeShape.TheVariants.{Void, Integer, Pointer, Array, Function, Struct, Union}
-use Rattle.c_types.specs.Table.{Table, IsComplete, shape_at, members_at, parts_of_shape, is_complete_entry, is_function}
-use Rattle.c_types.specs.Layouts.{rounded, size_of, align_of, layout_of, offset_of, offset_of_shape, member_at}
-use Rattle.c_types.specs.Cells.{Cell, raw, pointer, mixed, incomplete, Relation, alike, begins, longest, padded_to, member_cells, union_cells, cells_of_shape, cells_at, holds_pointer, holds_in_shape}
+use Rattle.c_types.specs.Table.{Table, IsComplete, shape_at, members_at, parts_of_shape, is_complete_entry}
+use Rattle.c_types.specs.Layouts.{rounded, size_of, align_of}
+use Rattle.c_types.specs.Cells.{Cell, raw, mixed, Relation, begins, longest, padded_to, member_cells, union_cells, cells_of_shape, cells_at, holds_pointer, holds_in_shape}
 use Rattle.c_types.specs.Equality.{cells_of, physically_equal}
-use Rattle.c_types.specs.Flows.{HaveEqualKinds, CorrespondByPlace, CellsAgree}
+use Rattle.c_types.specs.Flows.{CellsAgree}
 use Rattle.c_types.specs.Solutions.{HoldsMixed, IsLargest, IsUnionAllowed}
 use Rattle.c_types.specs.Sound.{IsWellFormed}
-use Rattle.c_types.proofs.Cells.{cells_are, length_cells}
+use Rattle.c_types.proofs.Cells.{cells_are}
 use Rattle.c_types.proofs.Lists.{contains_head, contains_tail}
 use Rattle.type_laws.proofs.Relations.{alike_equiv, equal_equiv}
 use Rattle.src_mem.specs.State.{Setting}
 use Rattle.c_types.proofs.OrderedPointers.{get_front}
-use Rattle.facts_kept.proofs.Agree.{agree-own, agree-turned, agree-placed, alike-there, get-taken, first, second}
+use Rattle.facts_kept.proofs.Agree.{agree-turned, agree-placed, alike-there, get-taken, first, second}
 use Rattle.facts_kept.proofs.Complete.{complete-some, complete-data}
 use Rattle.facts_kept.proofs.NonePointers.{holds_is, any-none}
 use Rattle.facts_kept.proofs.Members.{IsSub}
@@ -99,7 +97,9 @@ largest f m [] = by (nat_lt (length (f m)) 0) refl
     by : (b : Bool) → nat_lt (length (f m)) 0 ≡ b → Largest f (m ∷ [])
     by true e = absurd (let h : length (f m) < 0 = grind (arith, nat_tests) in omega (arith, h))
     by false e = record {
-      member = m; place = 0; found = refl;
+      member = m;
+      place = 0;
+      found = refl;
       is = ap (λ b. if b then [] else f m) e;
       before = λ i u g h. absurd (none i h);
       after = λ i u g. last i u g;
@@ -118,7 +118,9 @@ largest f m (x ∷ ms) = by (nat_lt (length (f m)) (length (longest (map f (x �
   where
     by : (b : Bool) → nat_lt (length (f m)) (length (longest (map f (x ∷ ms)))) ≡ b → Largest f (x ∷ ms) → Largest f (m ∷ x ∷ ms)
     by true e r = record {
-      member = r.member; place = suc r.place; found = r.found;
+      member = r.member;
+      place = suc r.place;
+      found = r.found;
       is = ap (λ b. if b then longest (map f (x ∷ ms)) else f m) e ∙ r.is;
       before = λ i u g h. before i u g h;
       after = λ i u g. after i u g;
@@ -141,7 +143,9 @@ largest f m (x ∷ ms) = by (nat_lt (length (f m)) (length (longest (map f (x �
         after zero u g = let k : m ≡ u = cc (g) in ap (λ y. nat_lt (length (f r.member)) (length (f y))) (sym k) ∙ back (length (f m)) (length (f r.member)) more
         after (suc i) u g = r.after i u g
     by false e r = record {
-      member = m; place = 0; found = refl;
+      member = m;
+      place = 0;
+      found = refl;
       is = ap (λ b. if b then longest (map f (x ∷ ms)) else f m) e;
       before = λ i u g h. absurd (none i h);
       after = λ i u g. after i u g;
@@ -214,8 +218,12 @@ module _ (w : Setting) (sound : IsWellFormed w.table) where
           raw-at (suc n) (suc i) l = raw-at n i (omega (arith, l))
 
           is-mixed : (b c : Bool) → holds_pointer w.table t ≡ b → b ≡ true → list_all (begins (physically_equal w.table) (longest (map (cells_of w.table) (m ∷ ms)))) (map (cells_of w.table) (m ∷ ms)) ≡ false → HoldsMixed w.table t t
-          is-mixed b c hb t1 al = (0, 0, ap (λ cs. slice_get cs 0) (cells ∙ ap (λ x. union_cells (physically_equal w.table) t (size_of w.table t) x (map (cells_of w.table) (m ∷ ms))) (hb ∙ t1)
-              ∙ ap (λ (x : Bool). if x then padded_to (size_of w.table t) (longest (map (cells_of w.table) (m ∷ ms))) else map (mixed t) (range_with_len 0 (size_of w.table t))) al) ∙ some (size_of w.table t) (sound.sized t ct).some)
+          is-mixed b c hb t1 al = (
+            0,
+            0,
+            ap (λ cs. slice_get cs 0) (cells ∙ ap (λ x. union_cells (physically_equal w.table) t (size_of w.table t) x (map (cells_of w.table) (m ∷ ms))) (hb ∙ t1)
+                ∙ ap (λ (x : Bool). if x then padded_to (size_of w.table t) (longest (map (cells_of w.table) (m ∷ ms))) else map (mixed t) (range_with_len 0 (size_of w.table t))) al) ∙ some (size_of w.table t) (sound.sized t ct).some,
+          )
             where
               some : (n : ℕ) → 0 < n → slice_get (map (mixed t) (range_with_len 0 n)) 0 ≡ Some (mixed t 0)
               some zero h = absurd (omega (arith, h))
@@ -233,9 +241,11 @@ module _ (w : Setting) (sound : IsWellFormed w.table) where
               at : (b : Bool) → holds_pointer w.table t ≡ b → (c : Bool) → list_all (begins (physically_equal w.table) (longest (map (cells_of w.table) (m ∷ ms)))) (map (cells_of w.table) (m ∷ ms)) ≡ c
                   → (c : Cell) × (slice_get (cells_of w.table t) (0 + j) ≡ Some c) × CellsAgree w.table w.kind c d
               at false hb c al =
-                  let h = any-none (holds_pointer w.table) (members_at w.table t) (sym (ap (λ s. holds_in_shape (holds_pointer w.table) s (members_at w.table t)) e) ∙ sym (holds_is w.table sound t) ∙ hb) u has in
-                  (raw, ap (slice_get (cells_of w.table t)) z ∙ ap (λ cs. slice_get cs j) (cells ∙ ap (λ x. union_cells (physically_equal w.table) t (size_of w.table t) x (map (cells_of w.table) (m ∷ ms))) hb) ∙ raw-at (size_of w.table t) j (omega (arith, k, nu, small)),
-                  subst (λ y. CellsAgree w.table w.kind raw y) (sym (all-raw w.table sound u cu h j d f)) tt)
+                  let h = any-none (holds_pointer w.table) (members_at w.table t) (sym (ap (λ s. holds_in_shape (holds_pointer w.table) s (members_at w.table t)) e) ∙ sym (holds_is w.table sound t) ∙ hb) u has in (
+                    raw,
+                    ap (slice_get (cells_of w.table t)) z ∙ ap (λ cs. slice_get cs j) (cells ∙ ap (λ x. union_cells (physically_equal w.table) t (size_of w.table t) x (map (cells_of w.table) (m ∷ ms))) hb) ∙ raw-at (size_of w.table t) j (omega (arith, k, nu, small)),
+                    subst (λ y. CellsAgree w.table w.kind raw y) (sym (all-raw w.table sound u cu h j d f)) tt,
+                  )
               at true hb false al = absurd (plain (is-mixed true false hb refl al))
               at true hb true al =
                   let p = all-of (begins (physically_equal w.table) (longest (map (cells_of w.table) (m ∷ ms)))) (cells_of w.table) (m ∷ ms) al i u (ap (λ l. slice_get l i) (sym g) ∙ found) in
@@ -250,9 +260,10 @@ module _ (w : Setting) (sound : IsWellFormed w.table) where
                     after = λ a v q. big.after a v (ap (λ l. slice_get l a) (sym g) ∙ q);
                   } in
                   let in-big : IsComplete w.table big.member = union-part t tag e big.member (big.place, slice_get_within (members_at w.table t) big.place big.member large.found, get_or_from_slice_get (members_at w.table t) big.place big.member big.member large.found) in
-                  let a = agree-placed w sound u big.member (complete-data w.table sound u cu) (complete-data w.table sound big.member in-big) (allowed plain u big.member has large) j d x.0 f y' ((alike_equiv (equal_equiv w.table)).symm d x.0 ∙ x.2) in
-                  (x.0,
-                  ap (slice_get (cells_of w.table t)) z ∙ ap (λ cs. slice_get cs j) (cells ∙ ap (λ q. union_cells (physically_equal w.table) t (size_of w.table t) q (map (cells_of w.table) (m ∷ ms))) hb
-                  ∙ ap (λ (q : Bool). if q then padded_to (size_of w.table t) (longest (map (cells_of w.table) (m ∷ ms))) else map (mixed t) (range_with_len 0 (size_of w.table t))) al)
-                  ∙ get_front (longest (map (cells_of w.table) (m ∷ ms))) (replicate (size_of w.table t - length (longest (map (cells_of w.table) (m ∷ ms)))) raw) j full ∙ y,
-                  agree-turned w sound d x.0 a)
+                  let a = agree-placed w sound u big.member (complete-data w.table sound u cu) (complete-data w.table sound big.member in-big) (allowed plain u big.member has large) j d x.0 f y' ((alike_equiv (equal_equiv w.table)).symm d x.0 ∙ x.2) in (
+                    x.0,
+                    ap (slice_get (cells_of w.table t)) z ∙ ap (λ cs. slice_get cs j) (cells ∙ ap (λ q. union_cells (physically_equal w.table) t (size_of w.table t) q (map (cells_of w.table) (m ∷ ms))) hb
+                        ∙ ap (λ (q : Bool). if q then padded_to (size_of w.table t) (longest (map (cells_of w.table) (m ∷ ms))) else map (mixed t) (range_with_len 0 (size_of w.table t))) al)
+                        ∙ get_front (longest (map (cells_of w.table) (m ∷ ms))) (replicate (size_of w.table t - length (longest (map (cells_of w.table) (m ∷ ms)))) raw) j full ∙ y,
+                    agree-turned w sound d x.0 a,
+                  )

@@ -1,5 +1,5 @@
 -- A write through a held pointer isn't wrong, and leaves the memory sound; a store asks for a place alone.
-use Rattle.std.proofs.Common.{◌≡◌, ◌≢◌, ℕ, ◌+◌, ◌<◌, ◌≤◌, ◌%◌, ◌⊎◌, ℤ, pos, true, List, [], ◌∷◌, map, length, replicate, nat_le, slice_get, Some, refl, ap, sym, subst, ◌∙◌, arith}
+use Rattle.std.proofs.Common.{◌≡◌, ◌≢◌, ℕ, ◌<◌, ◌≤◌, ◌%◌, ℤ, pos, true, List, [], ◌∷◌, map, length, replicate, nat_le, slice_get, Some, refl, ap, sym, subst, ◌∙◌, arith}
 use Rattle.std.proofs.lemmas.Bool.Decides.{nat_tests}
 use Rattle.std.proofs.lemmas.Int.{ints}
 use Rattle.std.specs.Int.{int_rem_euclid}
@@ -11,11 +11,10 @@ use Rattle.cc_base.specs.declared.number.NodeId.{NodeId}
 use Rattle.cc_base.specs.declared.kind.Kind.{Kind}
 use Rattle.cc_base.specs.declared.kind.Kind.TheVariants.{Safe, Seq, Rtti, Wild}
 use Rattle.c_types.specs.declared.site.Site.{Site}
-use Rattle.c_types.specs.declared.shape.TypeShape.{TypeShape}
 use Rattle.c_types.specs.declared.shape.TypeShape.TheVariants as shape
 use Rattle.c_types.specs.Table.{shape_at, members_at, is_complete_entry, IsComplete}
 use Rattle.c_types.specs.Layouts.{size_of}
-use Rattle.c_types.specs.Cells.{raw, pointer, cells_of_shape}
+use Rattle.c_types.specs.Cells.{raw, cells_of_shape}
 use Rattle.c_types.specs.Equality.{physically_equal, cells_of}
 use Rattle.c_types.specs.Solutions.{SpreadsWild}
 use Rattle.c_types.specs.Sound.{IsWellFormed}
@@ -24,11 +23,11 @@ use Rattle.type_laws.proofs.Pointers.{class_turned}
 use Rattle.integers.specs.Words.{word}
 use Rattle.integers.specs.Arithmetic.{IntegerType}
 use Rattle.runs.specs.Outcome.{leaves, ◌>>◌}
-use Rattle.src_mem.specs.Pointers.{Location, Pointer, Null, Number, At, Function, Value, Integer, Address}
-use Rattle.src_mem.specs.Memory.{Object, Memory, with_integer, with_pointer, cleared, depth_of, depth_of_object}
-use Rattle.src_mem.specs.State.{State, Act, Setting, touched}
-use Rattle.src_mem.specs.Checks.{Condition, InObject, IsAligned, Outlives, WriteInteger, WritePointer, conditions_of, holds, all_placed, place_of_write}
-use Rattle.src_mem.specs.Primitives.{Spot, with_object, store_integer, store_pointer}
+use Rattle.src_mem.specs.Pointers.{Location, Pointer, Null, Number, At, Function, Integer, Address}
+use Rattle.src_mem.specs.Memory.{Object, with_integer, with_pointer, depth_of, depth_of_object}
+use Rattle.src_mem.specs.State.{State, Setting, touched}
+use Rattle.src_mem.specs.Checks.{InObject, IsAligned, Outlives, WriteInteger, WritePointer, conditions_of, holds, all_placed, place_of_write}
+use Rattle.src_mem.specs.Primitives.{with_object, store_integer, store_pointer}
 use Rattle.src_mem.specs.Uses.{store_shape, conditions_of_write, write}
 use Rattle.src_mem.specs.Outlines.{Life, outline, life, outlines_of, lives_of, AreOutlines}
 use Rattle.src_mem.specs.Facts.{IsValueOf, IsMade, Reaches, IsHeldIn, IsPlaceIn, IsSoundObject, IsSoundMemory}

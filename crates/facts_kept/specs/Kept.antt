@@ -1,19 +1,22 @@
 -- What operations leave of the facts, in the words of their laws.
-use Rattle.std.specs.Prelude.{◌≡◌, ℕ, ℤ, true, ⊤, List, [], ◌∷◌}
+use Rattle.std.specs.Prelude.{◌≡◌, ℕ, ℤ, true, ⊤, ◌⊎◌, List, [], ◌∷◌, ◌++◌}
 use Rattle.std.specs.List.{Contains}
 use Rattle.cc_base.specs.declared.kind.Kind.{Kind}
 use Rattle.cc_base.specs.declared.number.TypeId.{TypeId}
 use Rattle.cc_base.specs.declared.number.NodeId.{NodeId}
 use Rattle.c_types.specs.declared.site.Site.{Site}
 use Rattle.c_types.specs.declared.site.Site.TheVariants as site
+use Rattle.c_types.specs.declared.shape.TypeShape.TheVariants.{Void}
+use Rattle.c_types.specs.Table.{IsComplete, shape_at}
+use Rattle.c_types.specs.Layouts.{size_of}
 use Rattle.c_types.specs.Solutions.{IsFlowAllowed, IsPointeeAllowed}
 use Rattle.integers.specs.Arithmetic.{IntegerType, converted}
 use Rattle.src_mem.specs.Pointers.{Pointer, Value, Integer, Address}
 use Rattle.src_mem.specs.Memory.{Object, Memory}
 use Rattle.src_mem.specs.State.{State, Setting}
-use Rattle.src_mem.specs.Checks.{Condition, NotNull, InBounds, InObject, by_kind, holds}
+use Rattle.src_mem.specs.Checks.{Condition, NotNull, InBounds, InObject, by_kind, holds, conditions_of_allocation}
 use Rattle.src_mem.specs.Outlines.{outlines_of, lives_of}
-use Rattle.src_mem.specs.Facts.{IsHeldIn, IsMade, IsSoundMemory}
+use Rattle.src_mem.specs.Facts.{IsHeldIn, IsMade, IsSoundMemory, IsSoundAt}
 
 -- A conversion of a pointer of one node to one of another that the sites of a program tell of and a solution of its kinds allows.
 pub record IsFlow (w : Setting) (sites : List Site) (m : NodeId) (t : TypeId) (n : NodeId) (u : TypeId) : Type 0 where
@@ -60,3 +63,15 @@ AllHold w memory (c ∷ cs) = (holds w memory c ≡ true) × AllHold w memory cs
 -- what is asked before m bytes are used, by kind: NULL, BOUNDS or WBOUNDS
 abbrev pub asked_of : ℕ → Kind → Pointer → List Condition
 asked_of m k p = by_kind k (NotNull p ∷ []) (InBounds m p ∷ []) (InObject m p ∷ [])
+
+-- A block was made for a pointer of this node to t, or none; what is given may be held once it passes what is asked of an allocation.
+pub record GivesBlock (w : Setting) (sites : List Site) (depth : ℕ) (node : NodeId) (t : TypeId) (old : State) (p : Pointer) (new : State) : Type 0 where
+  pub more : List Object
+  pub grown : new.memory.objects ≡ old.memory.objects ++ more
+  pub sound : IsSoundAt w sites new.memory depth
+  pub held : AllHold w new.memory (conditions_of_allocation (w.kind node) (size_of w.table t) p) → IsHeldIn w new.memory depth (w.kind node) t p
+  pub made : Contains sites (site.Pointee node t) → IsMade sites p
+
+-- what a block may be made of: a type that has a size, or `void`
+abbrev pub MakesBlocks : Setting → TypeId → Type 0
+MakesBlocks w t = (shape_at w.table t ≡ Void) ⊎ IsComplete w.table t

@@ -9,7 +9,7 @@ ghost use Rattle.cured_machine.specs.Loading.{plan_for};
 ghost use Rattle.cured_machine.specs.Ready.{frame_areas};
 
 use cured_code::{AreaLine, Function, GlobalLine, Parts};
-use flat_mem::{Area, AreaList, Flat, Plan, area_size};
+use flat_mem::{Area, AreaList, Flat, FramePlan, Plan, area_size};
 use std::alloc::{AllocError, Global};
 
 /// What the frames of a program may be charged together, in bytes.
@@ -18,14 +18,14 @@ const FRAMES_CHARGE_LIMIT: u64 = 1_048_576;
 /// What the blocks of a program may be charged together, in bytes.
 const BLOCKS_CHARGE_LIMIT: u64 = 4_194_304;
 
-/// The areas of each function's frame.
-pub(crate) fn frames_of(alloc: Global, functions: &[Function]) -> Result<Vec<AreaList>, AllocError>
+/// Each function's frame, laid out.
+pub(crate) fn frames_of(alloc: Global, functions: &[Function]) -> Result<Vec<FramePlan>, AllocError>
     ensures { IfOk result (λ frames. frames.items ≡ map frame_areas functions.now) }
 {
     let mut frames = Vec::with_capacity(alloc, functions.len())?;
     for function in functions {
         let locals = &function.locals;
-        frames.push_reserved(AreaList::of(areas_of(alloc, &locals.0)?));
+        frames.push_reserved(FramePlan::of(alloc, areas_of(alloc, &locals.0)?)?);
     }
     Ok(frames)
 }

@@ -11,7 +11,7 @@ ghost use Rattle.cured_machine.specs.Rows.{IsNamed, IsLookupRow, areas_in, sig_w
 use crate::row::Row;
 use crate::tests_and_divisions::truth;
 use cured_code::{Function, Instr, Parts};
-use flat_mem::{Area, AreaList, Flat};
+use flat_mem::{Area, Flat, FramePlan};
 
 /// A new block's address, or 0 where none can be made. Its charge is `charge` and 16 more.
 fn new_block(flat: &mut Flat, tagged: bool, bytes: u64, charge: u64) -> u64
@@ -113,7 +113,7 @@ fn sig_at(functions: &[Function], address: u64) -> u64
 #[inline(always)]
 pub(crate) fn frame_fits(
     functions: &[Function],
-    frames: &[AreaList],
+    frames: &[FramePlan],
     flat: &Flat,
     number: usize,
 ) -> bool
@@ -121,13 +121,12 @@ pub(crate) fn frame_fits(
     requires areas { frames.now ≡ map frame_areas functions.now }
     ensures { result ≡ frame_fits (slice_get functions.now number) flat.now }
 {
-    let areas = &frames[number];
     let function = &functions[number];
-    flat.fits(&areas.0, function.charge)
+    flat.fits(&frames[number], function.charge)
 }
 
 /// Whether a function is at the address, and its frame may be pushed.
-fn has_room(functions: &[Function], frames: &[AreaList], flat: &Flat, address: u64) -> bool
+fn has_room(functions: &[Function], frames: &[FramePlan], flat: &Flat, address: u64) -> bool
     requires { frames.now ≡ map frame_areas functions.now }
     ensures { result ≡ has_room_in functions.now (function_at (length functions.now) address) flat.now }
 {
@@ -142,7 +141,7 @@ fn has_room(functions: &[Function], frames: &[AreaList], flat: &Flat, address: u
 pub(crate) fn act_lookups(
     instr: &Instr,
     parts: &Parts,
-    frames: &[AreaList],
+    frames: &[FramePlan],
     flat: &mut Flat,
     frame: &mut [u64],
 ) -> Row
@@ -170,7 +169,7 @@ pub(crate) fn act_lookups(
 fn act_by_search(
     instr: &Instr,
     parts: &Parts,
-    frames: &[AreaList],
+    frames: &[FramePlan],
     flat: &mut Flat,
     frame: &mut [u64],
 ) -> Row

@@ -1,6 +1,6 @@
 //! The machine, from its making to the end of its run.
 use cured_code::{Instr, Parts};
-use flat_mem::{AreaList, Flat};
+use flat_mem::{Flat, FramePlan};
 use std::marker::Model;
 
 /// A function that waits for one that it called: its number, and where its slots begin.
@@ -15,8 +15,8 @@ pub(crate) struct Waiting {
 pub struct Machine<'a> {
     pub(crate) parts: &'a Parts,
     pub(crate) flat: Flat,
-    // the areas of each function's frame
-    pub(crate) frames: Vec<AreaList>,
+    // each function's frame, laid out
+    pub(crate) frames: Vec<FramePlan>,
     // room for the slots of the live functions
     pub(crate) slots: Vec<u64>,
     // room for the slices of the code that begin at the instructions that the code at hand stands in

@@ -179,7 +179,7 @@ executes-as a b w m n depth e same h = record {
       (subst (λ c. Matches (LeftAlike (IsAround depth) T) EndsAlike (n s) (run c w (at s T))) (sym e) (h.by s T));
 }
 
-effect-matches : (depth : ℕ) (T : Temporaries) (t : ℕ) (m : Outcome Ending State Value) (n : Outcome Ending Local (Control Value))
+pub effect-matches : (depth : ℕ) (T : Temporaries) (t : ℕ) (m : Outcome Ending State Value) (n : Outcome Ending Local (Control Value))
     → Matches (Held (temp.Value t) (IsBelow t) T) EndsAlike m n
     → Matches (LeftAlike (IsAround depth) T) EndsAlike (from m (λ _. done Goes)) n
 effect-matches depth T t (Ended e s) (Ended d c) h = h
@@ -199,7 +199,7 @@ pub executes-break : (k : ℕ) (w : Around) (depth : ℕ) → Executes (instr.Br
 executes-break k w depth = record { by = λ s T. record { exit = refl; state = refl; kept = kept-same (IsAround depth) T } }
 
 -- what gives no temporary a value, at the end of code
-left-beside : (depth : ℕ) (T : Temporaries) (o : Outcome Ending State (Control Value)) (n : Outcome Ending Local (Control Value)) → n ≡ beside T o
+pub left-beside : (depth : ℕ) (T : Temporaries) (o : Outcome Ending State (Control Value)) (n : Outcome Ending Local (Control Value)) → n ≡ beside T o
     → Matches (LeftAlike (IsAround depth) T) EndsAlike o n
 left-beside depth T (Ended e s) n q = subst (λ z. Matches (LeftAlike (IsAround depth) T) EndsAlike (Ended e s) z) (sym q) (refl, refl)
 left-beside depth T (Done x s) n q =
@@ -209,7 +209,7 @@ left-beside depth T (Done x s) n q =
 -- A value that is known
 
 -- an instruction that gives a value that is known
-then-set : {A : Type 0} (R : Relation A) (into : Temp) (P : Temp → Type 0) (u : Value) (i : Instr) (is : List Instr) (w : Around) (s : State)
+pub then-set : {A : Type 0} (R : Relation A) (into : Temp) (P : Temp → Type 0) (u : Value) (i : Instr) (is : List Instr) (w : Around) (s : State)
     (T : Temporaries) (o : Outcome Ending State A)
     → act i w (at s T) ≡ gives_to into (done u) (at s T) → ¬ P into
     → ((U : Temporaries) → U into ≡ u → AreKept P T U → Matches R EndsAlike o (run is w (at s U)))
@@ -228,7 +228,7 @@ same-sides true f f' g g' c p q = p
 same-sides false f f' g g' c p q = q
 
 -- an `if` at the head of code
-run-if : (t : Temp) (x y : Code) (is : List Instr) (w : Around) (c : Local)
+pub run-if : (t : Temp) (x y : Code) (is : List Instr) (w : Around) (c : Local)
     → run (instr.If t x y ∷ is) w c ≡ either (is_true (c.temps t)) (run (x.0.items ++ is) w) (run (y.0.items ++ is) w) c
 run-if t x y is w c =
     ap (λ o. from o (λ z. then_go z (run is w))) (act-if t x y w c) ∙ go-either (is_true (c.temps t)) (run x.0.items w) (run y.0.items w) (run is w) c

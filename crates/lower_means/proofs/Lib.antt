@@ -4,3 +4,5 @@ pub mod Values
 pub mod Updates
 pub mod Calls
 pub mod Means
+pub mod Loops
+pub mod Switches

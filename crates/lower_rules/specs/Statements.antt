@@ -20,19 +20,19 @@ use Rattle.lower_rules.specs.Words.{Context, value, work, unsigned_long}
 use Rattle.lower_rules.specs.Expressions.{IsCodeOf}
 use Rattle.lower_rules.specs.Initialisers.{IsCodeOfDeclaration}
 
--- Where a statement stands: which block `break` leaves, and which `continue` does, counted from the innermost; and how many `switch`
+-- How a statement is nested: which block `break` leaves, and which `continue` does, counted from the innermost; and how many `switch`
 -- statements are around.
-pub record Around : Type 0 where
+pub record Nesting : Type 0 where
   pub breaks : ℕ
   pub continues : ℕ
   pub switches : ℕ
 
 -- inside the block that the body of a loop is
-abbrev pub in_loop : Around → Around
+abbrev pub in_loop : Nesting → Nesting
 in_loop v = record { breaks = 1; continues = 0; switches = v.switches }
 
 -- inside the block that a `switch` is
-abbrev pub in_switch : Around → Around
+abbrev pub in_switch : Nesting → Nesting
 in_switch v = record { breaks = 0; continues = suc v.continues; switches = suc v.switches }
 
 -- Loops
@@ -76,7 +76,7 @@ abbrev pub Guarded : ℕ → ℕ → Place → Form → Form
 Guarded j n at P = Then (Line (guard_code j n at)) (Choice (value 0) P (Line []))
 
 abbrev mutual
-  pub IsCodeOfStatement : TypedStatement → Context → Around → Form
+  pub IsCodeOfStatement : TypedStatement → Context → Nesting → Form
   IsCodeOfStatement (typed.Block brace items) k v = IsCodeOfBlock items k v
   IsCodeOfStatement (typed.Express e) k v = IsCodeOf e k 0
   IsCodeOfStatement typed.Empty k v = Line []
@@ -103,7 +103,7 @@ abbrev mutual
   IsCodeOfStatement (typed.Return at (Some e)) k v = Then (IsCodeOf e k 0) (Line (instr.ReturnValue (value 0) (type_of e) at ∷ []))
 
   -- statements and declarations in order; labels make no code
-  pub IsCodeOfBlock : TypedBlockItems → Context → Around → Form
+  pub IsCodeOfBlock : TypedBlockItems → Context → Nesting → Form
   IsCodeOfBlock typed.NoBlockItem k v = Line []
   IsCodeOfBlock (typed.AndStatement all s) k v = Then (IsCodeOfBlock all k v) (IsCodeOfStatement s k v)
   IsCodeOfBlock (typed.AndDeclaration all d) k v = Then (IsCodeOfBlock all k v) (IsCodeOfDeclaration d k)
@@ -111,7 +111,7 @@ abbrev mutual
   IsCodeOfBlock (typed.AndDefault all at) k v = IsCodeOfBlock all k v
 
   -- the pieces of a `switch` before the last, each with its guard, and the code of the last
-  pub IsCodeOfPieces : TypedBlockItems → Context → Around → Place → List Instr → List Instr → Type 0
+  pub IsCodeOfPieces : TypedBlockItems → Context → Nesting → Place → List Instr → List Instr → Type 0
   IsCodeOfPieces typed.NoBlockItem k v at closed last = Line [] closed × Line [] last
   IsCodeOfPieces (typed.AndStatement all s) k v at closed last = (x : List Instr) × IsCodeOfPieces all k v at closed x
       × Then (Line x) (IsCodeOfStatement s k (in_switch v)) last

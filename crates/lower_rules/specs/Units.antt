@@ -11,10 +11,10 @@ use Rattle.cil_form.specs.declared.program.Program.{Program}
 use Rattle.cil_form.specs.Machine as code
 use Rattle.lower_rules.specs.Words.{Context}
 use Rattle.lower_rules.specs.Initialisers.{IsCodeOfStatics}
-use Rattle.lower_rules.specs.Statements.{Around, IsCodeOfBlock}
+use Rattle.lower_rules.specs.Statements.{Nesting, IsCodeOfBlock}
 
--- where the body of a function stands
-abbrev pub outermost : Around
+-- the body of a function is nested in nothing
+abbrev pub outermost : Nesting
 outermost = record { breaks = 0; continues = 0; switches = 0 }
 
 -- the homes of the static objects of a unit

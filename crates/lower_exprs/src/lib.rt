@@ -1,0 +1,15 @@
+//! The three-address code of expressions and places. What it is stands in `lower_rules`; here it is made.
+#![tactic(auto)]
+
+mod accessing;
+mod afters;
+mod calling;
+mod draft;
+mod operators;
+mod pieces;
+mod places;
+mod walk;
+
+pub use draft::{Draft, Scope};
+pub use pieces::{choose, push, put, refuse, start};
+pub use walk::expr;

@@ -6,3 +6,4 @@ pub mod Calls
 pub mod Means
 pub mod Loops
 pub mod Switches
+pub mod Initialisers

@@ -7,7 +7,7 @@ use Rattle.cc_base.specs.declared.place.Place.{Place}
 use Rattle.c_types.specs.Table.{shape_at}
 use Rattle.integers.specs.Arithmetic.{converted}
 use Rattle.runs.specs.Outcome.{Outcome, Ended, Done, done, from, either, Matches, ◌>>◌}
-use Rattle.runs.specs.Control.{Control, Goes}
+use Rattle.runs.specs.Control.{Goes}
 use Rattle.runs.proofs.RunLaws.{from-from, from-same}
 use Rattle.c_tree.specs.declared.typed_word.Home.{Home}
 use Rattle.c_tree.specs.declared.typed_word.Home.TheVariants as homes
@@ -35,9 +35,8 @@ use Rattle.cil_form.specs.Laws.{IsAround}
 use Rattle.cil_form.specs.Computes.{EndsAlike, LeftAlike, Executes}
 use Rattle.cil_form.proofs.ComputesLaws.{left-over, run-one}
 use Rattle.cil_form.proofs.InstructionLaws.{at, kept-same, then-set, then-effect, no-code, effect-matches}
-use Rattle.lower_rules.specs.declared.after.After.{After}
 use Rattle.lower_rules.specs.declared.after.After.TheVariants as after
-use Rattle.lower_rules.specs.Pieces.{Form, Line, Then}
+use Rattle.lower_rules.specs.Pieces.{Line, Then}
 use Rattle.lower_rules.specs.Words.{value, Follows}
 use Rattle.lower_rules.specs.Expressions.{IsCodeOf, IsCodeOfPlace}
 use Rattle.lower_rules.specs.Initialisers as code
@@ -61,7 +60,7 @@ last-effect : (w : Around) (depth : ℕ) (m : Act (Unit {0})) (i : Instr) (s : S
     → Matches (LeftAlike (IsAround depth) T) EndsAlike (from (m s) (λ _. done Goes)) (run (i ∷ []) w (at s T))
 last-effect w depth m i s T e =
     subst (λ o. Matches (LeftAlike (IsAround depth) T) EndsAlike (from (m s) (λ _. done Goes)) o) (sym (run-one i w (at s T) ∙ e))
-        (effect-beside depth T (m s))
+    (effect-beside depth T (m s))
 
 -- an instruction with an effect on the value in value 0
 last-line : (w : World) (i : Instr) (f : Value → Act (Unit {0})) (depth : ℕ)
@@ -84,24 +83,27 @@ lines-then w is js m n depth h l c d = effect-then w (Line is) (Line js) m n dep
 -- one byte
 byte-stored : (w : World) (o : Initialised) (char : TypeId) (place : Place) (base b depth : ℕ)
     → AllEffect w (Line (instr.Set (set.Integer (value 0) (converted (integer_in w.setting char) (pos b)) char)
-      ∷ instr.Access (access.Store (code.part o base) (value 0) char place place) ∷ []))
-      (stored w.setting place place o.node char (part (whole_of w o) base) (Integer (converted (integer_in w.setting char) (pos b)))) depth
+    ∷ instr.Access (access.Store (code.part o base) (value 0) char place place) ∷ []))
+    (stored w.setting place place o.node char (part (whole_of w o) base) (Integer (converted (integer_in w.setting char) (pos b)))) depth
 byte-stored w o char place base b depth = exec-line w (S ∷ I ∷ []) (λ s. from (K V s) (λ _. done Goes)) depth (record {
   by = λ s T. then-set (LeftAlike (IsAround depth) T) (value 0) (IsAround depth) V S (I ∷ []) (around_of w) s T (from (K V s) (λ _. done Goes)) refl
       (λ h. h)
       (λ U p kept. subst (λ u. Matches (LeftAlike (IsAround depth) T) EndsAlike (from (K u s) (λ _. done Goes))
-          (run (I ∷ []) (around_of w) (at s U))) p
+      (run (I ∷ []) (around_of w) (at s U))) p
       (left-over (IsAround depth) (IsAround depth) T U (λ u p. p) kept (from (K (U (value 0)) s) (λ _. done Goes))
-          (run (I ∷ []) (around_of w) (at s U))
+      (run (I ∷ []) (around_of w) (at s U))
       (last-effect (around_of w) depth (K (U (value 0))) I s U refl)));
 })
   where
     V : Value
     V = Integer (converted (integer_in w.setting char) (pos b))
+
     S : Instr
     S = instr.Set (set.Integer (value 0) (converted (integer_in w.setting char) (pos b)) char)
+
     I : Instr
     I = instr.Access (access.Store (code.part o base) (value 0) char place place)
+
     K : Value → Act (Unit {0})
     K = stored w.setting place place o.node char (part (whole_of w o) base)
 
@@ -116,7 +118,7 @@ texts w o char place base (b ∷ bytes) depth =
 
 copies : (w : World) (p : TypedPlace) (o : Initialised) (place : Place) (t : TypeId) (base depth : ℕ)
     → AllEffect w (IsCodeOfPlace p (context_of w) 0 (Follows (after.Copy (code.part o base) place (place_at p) t place) 0))
-      (λ s. from (locate p w s) (λ r. copied w.setting t (place_at p) r.node r.address place o.node (part (whole_of w o) base) place)) depth
+    (λ s. from (locate p w s) (λ r. copied w.setting t (place_at p) r.node r.address place o.node (part (whole_of w o) base) place)) depth
 unfolding Follows Line
 copies w p o place t base depth c h = record {
   by = λ s T. subst (λ m. Matches (LeftAlike (IsAround depth) T) EndsAlike m (run c (around_of w) (at s T)))
@@ -127,7 +129,7 @@ copies w p o place t base depth c h = record {
       (effect-matches depth T 0 (from (locate p w s) (λ r u. from (C r u) (λ _. done r.address))) (run c (around_of w) (at s T))
       (locates w p 0 _ c h 0 0 T (λ r u. from (C r u) (λ _. done r.address)) s T
       (λ n d q U r kept. subst (λ z. Matches (Into 0 0 T) EndsAlike
-          (from (C (record { node = n; address = U (value 0) }) r) (λ _. done (U (value 0))))
+      (from (C (record { node = n; address = U (value 0) }) r) (λ _. done (U (value 0))))
       (run z (around_of w) (at r U))) (sym q)
       (then-effect (Into 0 0 T) (C (record { node = n; address = U (value 0) }))
       (instr.Access (access.Copy (code.part o base) place (value 0) n (place_at p) t place)) [] (around_of w) r U (done (U (value 0))) refl
@@ -151,6 +153,7 @@ mutual
     where
       K : Value → Act (Unit {0})
       K = stored w.setting place place o.node t (part (whole_of w o) base)
+
       I : Instr
       I = instr.Access (access.Store (code.part o base) (value 0) t place place)
   initialises w (typed.Copied p at) place t base o depth c h = copies w p o at t base depth c h
@@ -183,10 +186,10 @@ objects-initialised w node t place i depth c h =
     subst (λ z. Executes c (around_of w) (λ s. from (given z B s) (λ _. done Goes)) depth)
     (sym (object-number (around_of w) (position (same_node node) w.frame.homes) (position (same_node node) w.statics) h.0 h.1))
     (effect-then w (Clears (clears w.setting.table i) h.0)
-        (IsCodeOfInitialiser i (context_of w) place t 0 (record { object = h.0; node = node; type = t }))
+    (IsCodeOfInitialiser i (context_of w) place t 0 (record { object = h.0; node = node; type = t }))
     (either (clears w.setting.table i) (clear (number_of (around_of w) h.0)) (done tt))
     (initialise i place t 0 (whole_of w (record { object = h.0; node = node; type = t })) w) depth
-        (clears-first w (clears w.setting.table i) h.0 depth)
+    (clears-first w (clears w.setting.table i) h.0 depth)
     (λ x d. initialises w i place t 0 (record { object = h.0; node = node; type = t }) depth x d) c h.2)
   where
     B : ℕ → Act (Unit {0})

@@ -7,3 +7,5 @@ pub mod Means
 pub mod Loops
 pub mod Switches
 pub mod Initialisers
+pub mod Statements
+pub mod Units

@@ -19,7 +19,7 @@ use Rattle.c_tree.specs.declared.typed_word.Conversion.{Conversion}
 use Rattle.c_tree.specs.declared.typed_word.Conversion.TheVariants as conversion
 use Rattle.c_tree.specs.TypedTree as typed
 use Rattle.c_tree.specs.TypedTree.{TypedExpr, TypedPlace, TypedSpecifier, TypedInitialiser, TypedItems, TypedTranslationUnit}
-use Rattle.c_tree.specs.TypedParts.{type_of, place_type, named_type, declared_type, pointer_side, address_node, home_of, statics_of, functions_of}
+use Rattle.c_tree.specs.TypedParts.{type_of, place_type, named_type, pointer_side, address_node, home_of, statics_of, functions_of}
 use Rattle.src_mem.specs.Operations.{node_at, pointee_at}
 use Rattle.src_mem.specs.Runs.{variables_of}
 use Rattle.src_machine.specs.Machine.{head_of}

@@ -11,4 +11,5 @@ pub mod Laying
 pub mod Defining
 pub mod Keeping
 pub mod Cells
+pub mod OrderedPointers
 pub mod WholePointers

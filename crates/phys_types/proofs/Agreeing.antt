@@ -152,24 +152,24 @@ module _ (S : TypeId → Type 0) where
     shape_agree table f g t (Union tag) [] h = refl
     shape_agree table f g t (Union tag) (m ∷ ms) h = union_agree t (size_of table t) (holds_pointer table t) (map f (m ∷ ms)) (lists_into f (m ∷ ms) h)
 
-    slot_agree : (table : Table) → IsClosed table S → (p q : TypeId) (s r : TypeShape) → ((u : TypeId) → Contains (named_by s) u → S u) → ((u : TypeId) → Contains (named_by r) u → S u)
+    slot_agree : (table : Table) → IsClosed table S → (p q : TypeId) (s r : TypeShape) → S p → S q → ((u : TypeId) → Contains (named_by s) u → S u) → ((u : TypeId) → Contains (named_by r) u → S u)
         → same_slot E (slot_of p s) (slot_of q r) ≡ same_slot F (slot_of p s) (slot_of q r)
-    slot_agree table c p q s r h k = by (slot_of p s) (slot_of q r) (into p s h) (into q r k)
+    slot_agree table c p q s r sp sq h k = by (slot_of p s) (slot_of q r) (into p s sp h) (into q r sq k)
       where
         Into : Slot → Type 0
         Into (pointer_to t) = S t
         Into nothing = Unit {0}
         Into (integer a b) = Unit {0}
-        Into (other t) = Unit {0}
+        Into (other t) = S t
 
-        into : (p : TypeId) (s : TypeShape) → ((u : TypeId) → Contains (named_by s) u → S u) → Into (slot_of p s)
-        into p Void h = tt
-        into p (Integer a b) h = tt
-        into p (Pointer node to) h = h to (contains_head to [])
-        into p (Array e n) h = tt
-        into p (Function ps r) h = tt
-        into p (Struct t) h = tt
-        into p (Union t) h = tt
+        into : (p : TypeId) (s : TypeShape) → S p → ((u : TypeId) → Contains (named_by s) u → S u) → Into (slot_of p s)
+        into p Void own h = tt
+        into p (Integer a b) own h = tt
+        into p (Pointer node to) own h = h to (contains_head to [])
+        into p (Array e n) own h = own
+        into p (Function ps r) own h = own
+        into p (Struct t) own h = own
+        into p (Union t) own h = own
 
         by : (x y : Slot) → Into x → Into y → same_slot E x y ≡ same_slot F x y
         by (pointer_to t) (pointer_to u) a b = agree t u a b
@@ -190,7 +190,7 @@ module _ (S : TypeId → Type 0) where
         by (other t) nothing a b = refl
         by (other t) (integer e f) a b = refl
         by (other t) (pointer_to u) a b = refl
-        by (other t) (other u) a b = refl
+        by (other t) (other u) a b = agree t u a b
 
     slots_agree : (table : Table) → IsClosed table S → (xs ys : List TypeId) → ((p : TypeId) → Contains xs p → S p) → ((p : TypeId) → Contains ys p → S p)
         → pointwise (same_slot E) (map (λ p. slot_of p (shape_at table p)) xs) (map (λ p. slot_of p (shape_at table p)) ys)
@@ -199,7 +199,7 @@ module _ (S : TypeId → Type 0) where
     slots_agree table c [] (y ∷ ys) h k = refl
     slots_agree table c (x ∷ xs) [] h k = refl
     slots_agree table c (x ∷ xs) (y ∷ ys) h k =
-        λ i. slot_agree table c x y (shape_at table x) (shape_at table y) (λ u. c.named x u (h x (contains_head x xs))) (λ u. c.named y u (k y (contains_head y ys))) i
+        λ i. slot_agree table c x y (shape_at table x) (shape_at table y) (h x (contains_head x xs)) (k y (contains_head y ys)) (λ u. c.named x u (h x (contains_head x xs))) (λ u. c.named y u (k y (contains_head y ys))) i
         && slots_agree table c xs ys (λ p m. h p (contains_tail x xs p m)) (λ p m. k p (contains_tail y ys p m)) i
 
 module _ (table : Table) (w : IsWellFormed table) (S : TypeId → Type 0) (closed : IsClosed table S) where

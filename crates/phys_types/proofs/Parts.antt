@@ -4,7 +4,7 @@ use Rattle.std.proofs.lemmas.List.Elements.{Contains-get_or}
 use Rattle.cc_base.specs.declared.number.TypeId.{TypeId}
 use Rattle.c_types.specs.declared.shape.TypeShape.{TypeShape}
 use Rattle.c_types.specs.declared.shape.TypeShape.TheVariants.{Void, Integer, Pointer, Array, Function, Struct, Union}
-use Rattle.c_types.specs.Table.{Table, IsComplete, shape_at, members_at, parts_at, parts_of_shape, is_complete_entry}
+use Rattle.c_types.specs.Table.{Table, IsComplete, IsUnion, is_union_shape, shape_at, members_at, parts_at, parts_of_shape, is_complete_entry}
 use Rattle.c_types.specs.Layouts.{size_of, offset_of}
 use Rattle.c_types.specs.Cells.{Cell, Relation, cells_at, cells_of_shape}
 use Rattle.c_types.specs.Sound.{IsWellFormed}
@@ -13,7 +13,7 @@ use Rattle.phys_types.specs.declared.spot.Layout.{Layout}
 use Rattle.phys_types.specs.declared.spot.Spot.{Spot}
 use Rattle.phys_types.specs.Spots.{AreSpots, item_size}
 use Rattle.phys_types.specs.Numbers.{AreLow}
-use Rattle.phys_types.specs.Shown.{IsLayoutOf, IsLow, IsKept, ArePartsKept, ArePartsShown, is_struct_shape, is_union_shape, IsStruct, IsUnion}
+use Rattle.phys_types.specs.Shown.{IsLayoutOf, IsLow, IsKept, ArePartsKept, ArePartsShown, is_struct_shape, IsStruct}
 use Rattle.phys_types.proofs.Spreading.{spots_end, length_all}
 use Rattle.phys_types.proofs.Structs.{struct_tag, offset_low}
 

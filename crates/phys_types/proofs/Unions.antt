@@ -7,7 +7,7 @@ use Rattle.cc_base.specs.declared.number.TypeId.{TypeId}
 use Rattle.c_types.specs.declared.shape.TypeShape.{TypeShape}
 use Rattle.c_types.specs.declared.shape.TypeShape.TheVariants.{Void, Integer, Pointer, Array, Function, Struct, Union}
 use Rattle.c_types.specs.declared.layout.Layout.{Layout as Measure}
-use Rattle.c_types.specs.Table.{Table, shape_at, members_at, parts_of_shape, is_complete_entry, IsComplete}
+use Rattle.c_types.specs.Table.{Table, IsUnion, is_union_shape, shape_at, members_at, parts_of_shape, is_complete_entry, IsComplete}
 use Rattle.c_types.specs.Layouts.{union_layout, layout_of, layout_of_shape, size_of, greatest_size, greatest_align}
 use Rattle.c_types.specs.Cells.{Cell, raw, mixed, Relation, begins, padded_to, longest, union_cells, cells_of_shape, cells_at, holds_pointer, holds_in_shape}
 use Rattle.c_types.specs.Sound.{IsWellFormed}
@@ -19,7 +19,7 @@ use Rattle.phys_types.specs.declared.spot.Item.TheVariants.{Mixed}
 use Rattle.phys_types.specs.declared.spot.Layout.{Layout}
 use Rattle.phys_types.specs.Spots.{cells_from, AreSpots}
 use Rattle.phys_types.specs.Numbers.{same_number}
-use Rattle.phys_types.specs.Shown.{IsLayoutOf, AreLayoutsOf, larger, begins_spots, union_spots, IsUnionOf, is_union_shape, IsUnion}
+use Rattle.phys_types.specs.Shown.{IsLayoutOf, AreLayoutsOf, larger, begins_spots, union_spots, IsUnionOf}
 use Rattle.phys_types.proofs.Spreading.{spots_to, cells_padded, length_all}
 use Rattle.phys_types.proofs.Fronts.{fronts, begins_is, spots_from_cells, cells_from_spots, both_true}
 use Rattle.phys_types.proofs.Structs.{holds_is}

@@ -2,7 +2,7 @@ use Rattle.std.specs.Prelude.{◌≡◌, ℕ, ◌<◌, ◌≤◌, Bool, true, fa
 use Rattle.std.specs.List.{All, Contains, fold, list_all, list_any}
 use Rattle.cc_base.specs.declared.number.TypeId.{TypeId}
 use Rattle.c_types.specs.declared.shape.TypeShape.{TypeShape}
-use Rattle.c_types.specs.declared.shape.TypeShape.TheVariants.{Struct, Union}
+use Rattle.c_types.specs.declared.shape.TypeShape.TheVariants.{Struct}
 use Rattle.c_types.specs.Table.{Table, shape_at, parts_at}
 use Rattle.c_types.specs.Layouts.{size_of}
 use Rattle.c_types.specs.Cells.{Relation, cells_at, holds_pointer}
@@ -41,15 +41,8 @@ abbrev pub is_struct_shape : TypeShape → Bool
 is_struct_shape (Struct tag) = true
 is_struct_shape shape = false
 
-abbrev pub is_union_shape : TypeShape → Bool
-is_union_shape (Union tag) = true
-is_union_shape shape = false
-
 abbrev pub IsStruct : Table → TypeId → Type 0
 IsStruct table t = IsTrue (is_struct_shape (shape_at table t))
-
-abbrev pub IsUnion : Table → TypeId → Type 0
-IsUnion table t = IsTrue (is_union_shape (shape_at table t))
 
 -- the layouts are those of the types, one by one
 abbrev pub AreLayoutsOf : Table → Relation → List TypeId → List Layout → Type 0

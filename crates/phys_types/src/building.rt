@@ -3,13 +3,13 @@
 ghost use Rattle.std.specs.Prelude.{ℕ, ◌≡◌, ◌<◌, ◌≤◌, ◌*◌, length, slice_index_or, IfOk, true, false, map, List, [], ◌∷◌};
 ghost use Rattle.std.specs.List.{All, Contains, list_all, list_any, fold};
 ghost use Rattle.cc_base.specs.declared.number.TypeId.{TypeId};
-ghost use Rattle.c_types.specs.Table.{IsType, IsComplete, IsAggregate, shape_at, members_at, parts_at};
+ghost use Rattle.c_types.specs.Table.{IsType, IsComplete, IsAggregate, IsUnion, shape_at, members_at, parts_at};
 ghost use Rattle.c_types.specs.Cells.{Relation, cells_at, holds_pointer};
 ghost use Rattle.c_types.specs.Sound.{IsWellFormed};
 ghost use Rattle.phys_types.specs.declared.spot.Layout.{Layout};
 ghost use Rattle.phys_types.specs.Numbers.{number_in, same_number};
 ghost use Rattle.phys_types.specs.Spots.{item_size, copies};
-ghost use Rattle.phys_types.specs.Shown.{IsStruct, IsUnion, IsLayoutOf, IsLow, IsKept, ArePartsKept, ArePartsShown, AreLayoutsOf, larger, begins_spots, IsUnionOf, IsMadeOf};
+ghost use Rattle.phys_types.specs.Shown.{IsStruct, IsLayoutOf, IsLow, IsKept, ArePartsKept, ArePartsShown, AreLayoutsOf, larger, begins_spots, IsUnionOf, IsMadeOf};
 
 use crate::comparing::begins;
 use crate::copying::{copied, push_shifted};

@@ -41,7 +41,7 @@ fn same_slot(types: &Types, numbers: &[usize], p: TypeId, q: TypeId) -> bool
                 signed: _,
             } => false,
             TypeShape::Pointer(_, _) => false,
-            _ => p.0 == q.0,
+            _ => number_of(numbers, p) == number_of(numbers, q),
         },
     }
 }

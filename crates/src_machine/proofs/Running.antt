@@ -38,10 +38,12 @@ module _ {P : State → Type 0} (I : IsInvariant P) where
   keep_unless true w u v = keep_done P v
   keep_unless false w u v = keep_converted_integer I w.setting u v
 
-  keep_updated_where : (b : Bool) (w : World) (at : Place) (operator : Operator) (t u : TypeId) (old v : Value) → Keeps P (updated_where b w at operator t u old v)
+  keep_updated_where : (b : Bool) (w : World) (at : Place) (operator : Operator) (t u : TypeId) (old v : Value)
+      → Keeps P (updated_where b w at operator t u old v)
   keep_updated_where true w at operator t u old v = keep_moved_value I w.setting at (is_subtract operator) t old v
   keep_updated_where false w at operator t u old v =
-      keep_bind (keep_unless (same_type t u) w u old) (λ x. keep_bind (keep_calculated I w.setting at operator u x v) (λ z. keep_unless (same_type t u) w t z))
+      keep_bind (keep_unless (same_type t u) w u old) (λ x. keep_bind (keep_calculated I w.setting at operator u x v)
+      (λ z. keep_unless (same_type t u) w t z))
 
   keep_updated : (w : World) (at : Place) (operator : Operator) (t u : TypeId) (old v : Value) → Keeps P (updated w at operator t u old v)
   keep_updated w at operator t u old v = keep_updated_where (is_pointer_in w t) w at operator t u old v
@@ -82,11 +84,13 @@ module _ {P : State → Type 0} (I : IsInvariant P) where
   keep_allocation w node t runtime.Putchar vs = keep_wrong P
   keep_allocation w node t runtime.Exit vs = keep_wrong P
 
-  keep_side : (w : World) (at : Place) (which : Side) (backwards : Bool) (t u : TypeId) (a b : Value) → Keeps P (moved_by_side w at which backwards t u a b)
+  keep_side : (w : World) (at : Place) (which : Side) (backwards : Bool) (t u : TypeId) (a b : Value)
+      → Keeps P (moved_by_side w at which backwards t u a b)
   keep_side w at side.Left backwards t u a b = keep_moved_value I w.setting at backwards t a b
   keep_side w at side.Right backwards t u a b = keep_moved_value I w.setting at backwards u b a
 
-  keep_compared_with : (a_null b_null : Bool) (w : World) (at : Place) (operator : Binary) (t u : TypeId) (v x : Value) → Keeps P (compared_with a_null b_null w at operator t u v x)
+  keep_compared_with : (a_null b_null : Bool) (w : World) (at : Place) (operator : Binary) (t u : TypeId) (v x : Value)
+      → Keeps P (compared_with a_null b_null w at operator t u v x)
   keep_compared_with true b_null w at operator t u v x = keep_null_value I (is_different operator) x
   keep_compared_with false true w at operator t u v x = keep_null_value I (is_different operator) v
   keep_compared_with false false w at operator t u v x = keep_compared_value I w.setting at (operator_of operator) t u v x
@@ -115,7 +119,8 @@ module _ {P : State → Type 0} (I : IsInvariant P) where
           keep_bind (keep_locate p) (λ l. keep_loaded I w.setting (place_at p) l.node (place_type p) l.address)
       keep_eval (typed.Unread p) = keep_bind (keep_locate p) (λ l. keep_done P _)
       keep_eval (typed.Decay p node t) =
-          keep_bind (keep_locate p) (λ l. keep_decayed_value I w.setting (place_at p) l.node (place_type p) (is_through_pointer p) node (pointee w.setting t) l.address)
+          keep_bind (keep_locate p)
+          (λ l. keep_decayed_value I w.setting (place_at p) l.node (place_type p) (is_through_pointer p) node (pointee w.setting t) l.address)
       keep_eval (typed.Convert which at t e) =
           keep_bind (keep_eval e) (λ v. keep_value w which at (type_of e) t v)
       keep_eval (typed.Cast which at name e) =
@@ -141,13 +146,16 @@ module _ {P : State → Type 0} (I : IsInvariant P) where
       keep_eval (typed.Arithmetic operator a at b t) =
           keep_bind (keep_eval a) (λ v. keep_bind (keep_eval b) (λ u. keep_calculated I w.setting at (operator_of operator) (type_of a) v u))
       keep_eval (typed.Moved operator which a at b t) =
-          keep_bind (keep_eval a) (λ v. keep_bind (keep_eval b) (λ u. keep_side w at which (is_subtract (operator_of operator)) (type_of a) (type_of b) v u))
+          keep_bind (keep_eval a) (λ v. keep_bind (keep_eval b)
+          (λ u. keep_side w at which (is_subtract (operator_of operator)) (type_of a) (type_of b) v u))
       keep_eval (typed.Difference a at b t) =
           keep_bind (keep_eval a) (λ v. keep_bind (keep_eval b) (λ u. keep_difference_value I w.setting at (type_of a) (type_of b) v u))
       keep_eval (typed.Compared operator a at b t) =
-          keep_bind (keep_eval a) (λ v. keep_bind (keep_eval b) (λ u. keep_compared_with (is_null a) (is_null b) w at operator (type_of a) (type_of b) v u))
+          keep_bind (keep_eval a) (λ v. keep_bind (keep_eval b)
+          (λ u. keep_compared_with (is_null a) (is_null b) w at operator (type_of a) (type_of b) v u))
       keep_eval (typed.Logical operator a at b t) =
-          keep_bind (keep_eval a) (λ v. keep_logical (is_or operator) (is_true v) _ (keep_bind (keep_eval b) (λ u. keep_done P (Integer (truth (is_true u))))))
+          keep_bind (keep_eval a) (λ v. keep_logical (is_or operator) (is_true v) _ (keep_bind (keep_eval b)
+          (λ u. keep_done P (Integer (truth (is_true u))))))
       keep_eval (typed.Conditional c at a b t) =
           keep_bind (keep_eval c) (λ v. keep_either (is_true v) (keep_eval a) (keep_eval b))
       keep_eval (typed.PointerConditional c at a b node t) =
@@ -158,15 +166,18 @@ module _ {P : State → Type 0} (I : IsInvariant P) where
           keep_bind (keep_locate p) (λ l. keep_bind (keep_eval e)
           (λ v. keep_then (keep_stored I w.setting (place_at p) at l.node (place_type p) l.address v) (keep_done P v)))
       keep_eval (typed.AssignWith operator p at e t) =
-          keep_bind (keep_locate p) (λ l. keep_bind (keep_eval e) (λ v. keep_bind (keep_loaded I w.setting (place_at p) l.node (place_type p) l.address)
+          keep_bind (keep_locate p) (λ l. keep_bind (keep_eval e)
+          (λ v. keep_bind (keep_loaded I w.setting (place_at p) l.node (place_type p) l.address)
           (λ old. keep_bind (keep_updated w at (operator_of_assignment operator) (place_type p) t old v)
           (λ new. keep_then (keep_stored I w.setting (place_at p) at l.node (place_type p) l.address new) (keep_done P new)))))
       keep_eval (typed.Call f at arguments t) =
-          keep_bind (keep_eval f) (λ v. keep_bind (keep_eval_all arguments) (λ vs. keep_called_value I w.setting w.call kc w.frame.depth at (type_of f) v vs))
+          keep_bind (keep_eval f) (λ v. keep_bind (keep_eval_all arguments)
+          (λ vs. keep_called_value I w.setting w.call kc w.frame.depth at (type_of f) v vs))
       keep_eval (typed.CallRuntime function f at arguments t) =
           keep_bind (keep_eval_all arguments) (λ vs. keep_runtime function vs)
       keep_eval (typed.Allocate function f at arguments node t) =
-          keep_bind (keep_eval_all arguments) (λ vs. keep_allocated I w.setting at node (pointee w.setting t) _ (keep_allocation w.setting node (pointee w.setting t) function vs))
+          keep_bind (keep_eval_all arguments)
+          (λ vs. keep_allocated I w.setting at node (pointee w.setting t) _ (keep_allocation w.setting node (pointee w.setting t) function vs))
       keep_eval (typed.AllocateFor function f at arguments t) =
           keep_bind (keep_eval_all arguments) (λ vs. keep_allocated I w.setting at (node_in w.setting t) (pointee w.setting t) _
           (keep_allocation w.setting (node_in w.setting t) (pointee w.setting t) function vs))
@@ -185,10 +196,12 @@ module _ {P : State → Type 0} (I : IsInvariant P) where
       keep_locate (typed.Member p at name i node t) =
           keep_stands node _ (keep_bind (keep_locate p) (λ l. keep_member_value I w.setting at l.node (place_type p) i node t l.address))
       keep_locate (typed.MemberAt e at name i node t) =
-          keep_stands node _ (keep_bind (keep_eval e) (λ v. keep_member_value I w.setting at (node_in w.setting (type_of e)) (pointee w.setting (type_of e)) i node t v))
+          keep_stands node _ (keep_bind (keep_eval e)
+          (λ v. keep_member_value I w.setting at (node_in w.setting (type_of e)) (pointee w.setting (type_of e)) i node t v))
       keep_locate (typed.StructAssign p at q) =
           keep_bind (keep_locate p) (λ l. keep_stands l.node _ (keep_bind (keep_locate q)
-          (λ r. keep_then (keep_copied I w.setting (place_type p) (place_at q) r.node r.address (place_at p) l.node l.address at) (keep_done P l.address))))
+          (λ r. keep_then (keep_copied I w.setting (place_type p) (place_at q) r.node r.address (place_at p) l.node l.address at)
+          (keep_done P l.address))))
       keep_locate (typed.StructConditional c at p q) =
           keep_bind (keep_eval c) (λ v. keep_either (is_true v) (keep_locate p) (keep_locate q))
       keep_locate (typed.StructComma e p) =
@@ -199,7 +212,8 @@ module _ {P : State → Type 0} (I : IsInvariant P) where
     keep_text : (at : Place) (char : TypeId) (bytes : List ℕ) (base : ℕ) (o : Whole) → Keeps P (store_text w at char bytes base o)
     keep_text at char [] base o = keep_done P tt
     keep_text at char (b ∷ bytes) base o =
-        keep_then (keep_stored I w.setting at at o.node char (part o base) (Integer (converted (integer_in w.setting char) (pos b)))) (keep_text at char bytes (base + 1) o)
+        keep_then (keep_stored I w.setting at at o.node char (part o base) (Integer (converted (integer_in w.setting char) (pos b))))
+        (keep_text at char bytes (base + 1) o)
 
     mutual
       keep_initialise : (i : TypedInitialiser) (at : Place) (t : TypeId) (base : ℕ) (o : Whole) → Keeps P (initialise i at t base o w)
@@ -215,7 +229,8 @@ module _ {P : State → Type 0} (I : IsInvariant P) where
 
     pub keep_initialise_object : (node : NodeId) (t : TypeId) (at : Place) (i : TypedInitialiser) → Keeps P (initialise_object w node t at i)
     keep_initialise_object node t at i =
-        keep_given (object_of w node) (λ number. keep_then (keep_either (clears w.setting.table i) (I.cleared number) (keep_done P tt)) (keep_initialise i at t 0 _))
+        keep_given (object_of w node)
+        (λ number. keep_then (keep_either (clears w.setting.table i) (I.cleared number) (keep_done P tt)) (keep_initialise i at t 0 _))
 
     keep_declared : (h : Home) (t : TypeId) (at : Place) (i : TypedInitialiser) → Keeps P (initialise_declared w h t at i)
     keep_declared (home.Local n) t at i = keep_initialise_object n t at i
@@ -262,9 +277,11 @@ module _ {P : State → Type 0} (I : IsInvariant P) where
     keep_go (Leaves j) next k = keep_done P _
     keep_go (Gives v) next k = keep_done P _
 
-    keep_while : (test : Act Bool) (body : Act Flow) (step : Act (Unit {0})) → Keeps P test → Keeps P body → Keeps P step → Keeps P (while_loop test body step)
+    keep_while : (test : Act Bool) (body : Act Flow) (step : Act (Unit {0})) → Keeps P test → Keeps P body → Keeps P step
+        → Keeps P (while_loop test body step)
     keep_while test body step kt kb ks =
-        keep_loop _ (keep_bind kt (λ go. keep_either go (keep_bind kb (λ flow. keep_go (round_of flow) (step >> done Goes) (keep_then ks (keep_done P Goes)))) (keep_done P (Leaves 0))))
+        keep_loop _ (keep_bind kt (λ go. keep_either go (keep_bind kb
+        (λ flow. keep_go (round_of flow) (step >> done Goes) (keep_then ks (keep_done P Goes)))) (keep_done P (Leaves 0))))
 
     keep_again : (test : Act Bool) (x : Control Value) → Keeps P test → Keeps P (again test x)
     keep_again test Goes kt = keep_bind kt (λ go. keep_either go (keep_done P Goes) (keep_done P (Leaves 0)))
@@ -295,7 +312,8 @@ module _ {P : State → Type 0} (I : IsInvariant P) where
       keep_exec (typed.Switch at paren e brace items) =
           keep_bind (keep_eval e) (λ v. keep_bind (keep_integer P v) (λ z. keep_bind (keep_bind (keep_exec_before items (chosen items z))
           (λ flow. keep_flow flow _ (keep_runs_from (chosen items z) (labels items) _ (keep_exec_piece items)))) (λ flow. keep_done P _)))
-      keep_exec (typed.While at paren c s) = keep_while (condition (Some c) w) (exec s w) (done tt) (keep_condition (Some c)) (keep_exec s) (keep_done P tt)
+      keep_exec (typed.While at paren c s) =
+          keep_while (condition (Some c) w) (exec s w) (done tt) (keep_condition (Some c)) (keep_exec s) (keep_done P tt)
       keep_exec (typed.DoWhile s at paren c) = keep_do (exec s w) (condition (Some c) w) (keep_exec s) (keep_condition (Some c))
       keep_exec (typed.For at paren first c step s) =
           keep_then (keep_effect first) (keep_while (condition c w) (exec s w) (effect step w) (keep_condition c) (keep_exec s) (keep_effect step))
@@ -304,7 +322,8 @@ module _ {P : State → Type 0} (I : IsInvariant P) where
       keep_exec (typed.Break at) = keep_done P _
       keep_exec (typed.Continue at) = keep_done P _
       keep_exec (typed.Return at None) = keep_done P _
-      keep_exec (typed.Return at (Some e)) = keep_bind (keep_eval e) (λ v. keep_bind (keep_returned I w.setting w.frame.depth at (type_of e) v) (λ u. keep_done P _))
+      keep_exec (typed.Return at (Some e)) =
+          keep_bind (keep_eval e) (λ v. keep_bind (keep_returned I w.setting w.frame.depth at (type_of e) v) (λ u. keep_done P _))
 
       pub keep_exec_items : (items : TypedBlockItems) → Keeps P (exec_items items w)
       keep_exec_items typed.NoBlockItem = keep_done P Normal

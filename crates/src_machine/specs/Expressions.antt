@@ -158,7 +158,8 @@ abbrev pub is_different : Binary → Bool
 is_different binary.NotEqual = true
 is_different operator = false
 
--- a comparison of two pointers, by whether the one or the other is a null constant: then the other is tested alone
+-- A comparison of two pointers, by whether the one or the other is a null constant, as of `==` and `!=` one may be: then the other is
+-- tested alone.
 abbrev pub compared_with : Bool → Bool → World → Place → Binary → TypeId → TypeId → Value → Value → Act Value
 compared_with true null w at operator t u a b = null_value (is_different operator) b
 compared_with false true w at operator t u a b = null_value (is_different operator) a
@@ -282,7 +283,8 @@ abbrev mutual
     allocated w.setting at node (pointee w.setting t) (call_allocation w.setting node (pointee w.setting t) function vs)
   eval (typed.AllocateFor function f at arguments t) w = do
     vs ← eval_all arguments w
-    allocated w.setting at (node_in w.setting t) (pointee w.setting t) (call_allocation w.setting (node_in w.setting t) (pointee w.setting t) function vs)
+    allocated w.setting at (node_in w.setting t) (pointee w.setting t)
+        (call_allocation w.setting (node_in w.setting t) (pointee w.setting t) function vs)
 
   -- arguments in order, each converted before the next is evaluated
   pub eval_all : TypedArguments → World → Act (List Value)

@@ -1,6 +1,7 @@
 -- Small programs as typed trees, each with the kinds of its nodes, and what they give. The C text stands above each; what a tree
 -- doesn't say is the text's layout.
 use Rattle.std.specs.Prelude.{ℕ, pos, ◌+◌, List, [], ◌∷◌, ◌++◌, codes, Some, false}
+use Rattle.cc_base.specs.declared.kind.Kind.{Kind}
 use Rattle.cc_base.specs.declared.kind.Kind.TheVariants.{Safe, Seq, Rtti, Wild}
 use Rattle.c_lexer.specs.declared.number.IntegerType.TheVariants.{Long}
 use Rattle.c_types.specs.declared.shape.TypeShape.TheVariants as shape
@@ -472,3 +473,112 @@ initialised = source_run program table (kinds (Safe ∷ Safe ∷ Safe ∷ Seq �
         ∷ [])
         (typed.AndExternal typed.NoExternal (declared (home.Static (node 0)) (type 9)
         (typed.Listed (at 0) (typed.AndItem (typed.AndItem typed.NoItem 0 int (typed.Value (number 1))) 4 int (typed.Value (number 2))) false (type 9))))
+
+-- int main(void){free(0);return 3;}
+abbrev pub null_freed : SourceOutcome
+null_freed = source_run program table (kinds []) (Closed []) 10
+  where
+    table : Table
+    table = basic_table ++ entry (shape.Function [] int) ∷ []
+
+    program : TypedTranslationUnit
+    program = main (type 9) (
+        does (typed.CallRuntime runtime.Free (runtime_call runtime.Free) (at 20) (arguments (number 0 ∷ [])) (type 0))
+        ∷ returns (at 24) (number 3)
+        ∷ [])
+
+-- int f(void){return 0;}
+-- int main(void){
+-- int *(*q)(void)=(int *(*)(void))f;
+-- *q()=putchar(65);
+-- return 0;}
+abbrev pub integer_as_address : List Kind → SourceOutcome
+integer_as_address list = source_run program table (kinds list) (Closed []) 10
+  where
+    -- q, the cast, the home of q, the name f, and the pointers that q and the cast give: 0 to 5
+    table : Table
+    table = basic_table ++ entry (shape.Pointer (node 4) int) ∷ entry (shape.Function [] (type 9)) ∷ entry (shape.Pointer (node 0) (type 10))
+        ∷ entry (shape.Pointer (node 5) int) ∷ entry (shape.Function [] (type 12)) ∷ entry (shape.Pointer (node 1) (type 13))
+        ∷ entry (shape.Function [] int) ∷ entry (shape.Pointer (node 3) (type 15)) ∷ []
+
+    program : TypedTranslationUnit
+    program = function (name (codes "main") (at_line 2 5)) (type 15) [] (
+        declares (local_is 2 (type 11) (at_line 3 16) (flows (at_line 3 16) (type 11)
+        (typed.Cast conversion.PointerToPointer (at_line 3 17) (type_name (type 14))
+        (typed.FunctionName (name (codes "f") (at_line 3 33)) 0 (node 3) (type 16)))))
+        ∷ does (typed.Assign (typed.Target (at_line 4 1) (typed.Call (value 2 2 (type 11)) (at_line 4 3) (arguments []) (type 9)) int)
+        (at_line 4 5) (put (number 65)))
+        ∷ returns (at_line 5 1) (number 0)
+        ∷ []) (function (name (codes "f") (at 5)) (type 15) [] (returns (at 13) (number 0) ∷ []) typed.NoExternal)
+
+-- struct S{int a;};
+-- int main(void){
+-- struct S s;struct S *p=0;
+-- s=SIDE;
+-- return 0;}
+abbrev copied_from : TypedPlace → SourceOutcome
+copied_from side = source_run program table (kinds []) (Closed []) 10
+  where
+    -- p: 0; the homes of s and p: 1, 2
+    table : Table
+    table = basic_table ++ aggregate (shape.Struct 0) (int ∷ []) ∷ entry (shape.Pointer (node 0) (type 9)) ∷ entry (shape.Function [] int) ∷ []
+
+    program : TypedTranslationUnit
+    program = function (name (codes "main") (at_line 2 5)) (type 11) [] (
+        declares (local 1 (type 9))
+        ∷ declares (local_is 2 (type 10) (at_line 3 23) (null (type 10)))
+        ∷ does (typed.Unread (typed.StructAssign (variable 1 1 (type 9)) (at_line 4 2) side))
+        ∷ returns (at_line 5 1) (number 0)
+        ∷ []) typed.NoExternal
+
+-- `*p`
+abbrev null_target : ℕ → TypedPlace
+null_target column = typed.Target (at_line 4 column) (value (column + 1) 2 (type 10)) (type 9)
+
+-- s=(1?*p:s);
+abbrev pub copied_from_choice : SourceOutcome
+copied_from_choice = copied_from (typed.ParenPlace (at_line 4 3)
+    (typed.StructConditional (number 1) (at_line 4 5) (null_target 6) (variable 9 1 (type 9))))
+
+-- s=(1,*p);
+abbrev pub copied_from_comma : SourceOutcome
+copied_from_comma = copied_from (typed.ParenPlace (at_line 4 3) (typed.StructComma (number 1) (null_target 6)))
+
+-- int main(void){
+-- int a[2];int *p=a+5;char c=100;char d=127;
+-- c+=100;d++;(void)putchar(c);(void)putchar(d);
+-- return (p!=0)+(0==p)*2+(p==0||p!=0)*4;}
+abbrev pub compared_with_null : SourceOutcome
+compared_with_null = source_run program table (kinds (Safe ∷ Seq ∷ Safe ∷ Seq ∷ [])) (Closed []) 10
+  where
+    -- the homes of a, p, c and d: 0, 2, 4 and 5; p: 1; the decay: 3
+    table : Table
+    table = basic_table ++ entry (shape.Array int 2)
+        ∷ entry (shape.Pointer (node 1) int) ∷ entry (shape.Pointer (node 3) int) ∷ entry (shape.Function [] int) ∷ []
+
+    p : TypedExpr
+    p = value 0 2 (type 10)
+
+    is : Binary → TypedExpr → TypedExpr → TypedExpr
+    is operator a b = typed.Compared operator a (at 0) b int
+
+    int_of : Binary → TypedExpr → TypedExpr → TypedExpr
+    int_of operator a b = typed.Arithmetic operator a (at 0) b int
+
+    put_char : ℕ → Item
+    put_char n = does (typed.Cast conversion.ToVoid (at 0) (type_name (type 0)) (put (widened int (value 0 n char))))
+
+    program : TypedTranslationUnit
+    program = main (type 12) (
+        declares (local 0 (type 9))
+        ∷ declares (local_is 2 (type 10) (at 0) (flows (at 0) (type 10)
+        (typed.Moved binary.Add side.Left (typed.Decay (variable 0 0 (type 9)) (node 3) (type 11)) (at 0) (number 5) (type 11))))
+        ∷ declares (local_is 4 char (at 0) (widened char (number 100)))
+        ∷ declares (local_is 5 char (at 0) (widened char (number 127)))
+        ∷ does (typed.AssignWith assignment.Add (variable 0 4 char) (at 0) (number 100) int)
+        ∷ does (typed.StepAfter (variable 0 5 char) step.Increment (at 0))
+        ∷ put_char 4 ∷ put_char 5
+        ∷ returns (at 0) (int_of binary.Add (int_of binary.Add (is binary.NotEqual p (null (type 10)))
+        (int_of binary.Multiply (is binary.Equal (null (type 10)) p) (number 2)))
+        (int_of binary.Multiply (typed.Logical binary.LogicalOr (is binary.Equal p (null (type 10))) (at 0) (is binary.NotEqual p (null (type 10))) int) (number 4)))
+        ∷ [])

@@ -1,5 +1,5 @@
 -- Words to write small typed trees with: they leave out what the machine doesn't look at.
-use Rattle.std.specs.Prelude.{ℕ, List, [], ◌∷◌, None, Some, slice_index_or, codes}
+use Rattle.std.specs.Prelude.{◌≡◌, ℕ, List, [], ◌∷◌, None, Some, slice_index_or, codes}
 use Rattle.std.specs.List.{fold}
 use Rattle.cc_base.specs.declared.place.Place.{Place}
 use Rattle.cc_base.specs.declared.number.NodeId.{NodeId}
@@ -174,6 +174,10 @@ pub record Shown : Type 0 where
 
 abbrev pub shown : SourceOutcome → Shown
 shown o = record { ending = o.ending; output = o.output; accesses = o.accesses }
+
+-- a run ends so, having written this output and made these accesses
+abbrev pub Shows : SourceOutcome → Ending → List ℕ → List Access → Type 0
+Shows o ending output accesses = shown o ≡ record { ending = ending; output = output; accesses = accesses }
 
 abbrev pub access : ℕ → ℕ → ℕ → Access
 access object offset size = record { object = object; offset = offset; size = size }

@@ -3,44 +3,68 @@
 #![tactic(auto)]
 
 ghost use Rattle.std.specs.Prelude.{◌≡◌, ◌≤◌, ℕ, [], ◌∷◌, length};
-ghost use Rattle.cc_base.specs.declared.kind.Kind.{Kind};
-ghost use Rattle.cc_base.specs.declared.number.NodeId.{NodeId};
-ghost use Rattle.c_types.specs.Table.{Table};
-ghost use Rattle.c_tree.specs.TypedTree.{TypedTranslationUnit};
+ghost use Rattle.cc_base.specs.declared.kind.Kind.TheVariants.{Safe, Wild};
 ghost use Rattle.cc_base.specs.declared.fault.Check.TheVariants.{Null, Bounds, Range, Cast, Escape, Tag, Fun, Divide, Depth};
-ghost use Rattle.runs.specs.Input.{Input, Closed, Open};
-ghost use Rattle.src_mem.specs.State.{Stopped, Exited, Turns, Wants, bytes_of};
+ghost use Rattle.runs.specs.Input.{Closed, Open};
+ghost use Rattle.src_mem.specs.State.{Stopped, Exited, Turns, Wants, Wrong, bytes_of};
 ghost use Rattle.src_mem.specs.Laws.{AreWhole};
-ghost use Rattle.src_machine.specs.Machine.{source_run};
+ghost use Rattle.src_mem.specs.RunLaws.{AllLie};
+ghost use Rattle.src_machine.specs.Laws.{EachRun};
+ghost use Rattle.src_machine.specs.Switches.{SwitchesRunWhatIsBehind};
 ghost use Rattle.c_types.specs.declared.site.Site.TheVariants.{Pointee, Home, Linked, Flow};
 ghost use Rattle.src_machine.specs.Sites.{sites_of};
-ghost use Rattle.src_machine.specs.Small.{node, type, int, at, at_line, shown, access};
-ghost use Rattle.src_machine.specs.Programs.{null_read, past_the_end, stepped_over, address_kept, address_program, address_table, freed_read, size_of_pointer, union_read, divided_by_zero, echoes, goes_on, recursion, recursion_at, moved_too_far, cast_down, called_otherwise, struct_kept, hashed_and_compared, controlled, initialised};
+ghost use Rattle.src_machine.specs.Small.{node, type, int, at, at_line, access, Shows};
+ghost use Rattle.src_machine.specs.Programs.{null_read, past_the_end, stepped_over, address_kept, address_program, address_table, freed_read, size_of_pointer, union_read, divided_by_zero, echoes, goes_on, recursion, recursion_at, moved_too_far, cast_down, called_otherwise, struct_kept, hashed_and_compared, controlled, initialised, null_freed, integer_as_address, copied_from_choice, copied_from_comma, compared_with_null};
 
 /// What small programs do that use SAFE and SEQ pointers.
 pub fn programs_with_bounds()
-    ensures null_read { shown null_read ≡ record { ending = Stopped Null (at 34); output = []; accesses = access 0 0 8 ∷ access 0 0 8 ∷ [] } }
-    ensures past_the_end { shown past_the_end ≡ record { ending = Stopped Bounds (at 50); output = 55 ∷ []; accesses = access 0 8 4 ∷ access 0 8 4 ∷ [] } }
+    ensures null_read { Shows null_read (Stopped Null (at 34)) []
+        (access 0 0 8 ∷ access 0 0 8 ∷ []) }
+    ensures past_the_end { Shows past_the_end (Stopped Bounds (at 50)) (55 ∷ [])
+        (access 0 8 4 ∷ access 0 8 4 ∷ []) }
     ensures four_turns { (stepped_over 4).ending ≡ Exited 3 }
     ensures three_turns { (stepped_over 3).ending ≡ Turns }
-    ensures address_kept { shown address_kept ≡ record { ending = Stopped Escape (at 30); output = []; accesses = [] } }
-    ensures freed_read { shown freed_read ≡ record { ending = Exited 0; output = 107 ∷ []; accesses = access 0 0 8 ∷ access 0 0 8 ∷ access 1 0 1 ∷ access 0 0 8 ∷ access 0 0 8 ∷ access 1 0 1 ∷ [] } }
-    ensures size_of_pointer { shown size_of_pointer ≡ record { ending = Exited 8; output = []; accesses = access 1 0 8 ∷ access 1 0 8 ∷ access 1 0 8 ∷ [] } }
+    ensures address_kept { Shows address_kept (Stopped Escape (at 30)) [] [] }
+    ensures freed_read { Shows freed_read (Exited 0) (107 ∷ [])
+        (access 0 0 8 ∷ access 0 0 8 ∷ access 1 0 1 ∷ access 0 0 8 ∷ access 0 0 8 ∷ access 1 0 1 ∷ []) }
+    ensures size_of_pointer { Shows size_of_pointer (Exited 8) []
+        (access 1 0 8 ∷ access 1 0 8 ∷ access 1 0 8 ∷ []) }
     ensures moved_too_far { moved_too_far.ending ≡ Stopped Range (at 39) }
-    ensures struct_kept { shown struct_kept ≡ record { ending = Stopped Escape (at_line 3 41); output = []; accesses = access 2 0 8 ∷ access 2 0 8 ∷ [] } }
+    ensures copied_from_choice { Shows copied_from_choice (Stopped Null (at_line 4 5)) []
+        (access 1 0 8 ∷ access 1 0 8 ∷ []) }
+    ensures copied_from_comma { Shows copied_from_comma (Stopped Null (at_line 4 6)) []
+        (access 1 0 8 ∷ access 1 0 8 ∷ []) }
+    ensures struct_kept { Shows struct_kept (Stopped Escape (at_line 3 41)) []
+        (access 2 0 8 ∷ access 2 0 8 ∷ []) }
 {}
 
 /// What small programs do with integers, input, loops, calls and a union whose word is read as a pointer.
 pub fn other_programs()
-    ensures union_read { shown union_read ≡ record { ending = Stopped Tag (at_line 2 69); output = 48 ∷ []; accesses = access 0 0 8 ∷ access 0 0 8 ∷ access 0 0 8 ∷ [] } }
-    ensures divided_by_zero { shown divided_by_zero ≡ record { ending = Stopped Divide (at 32); output = []; accesses = access 0 0 4 ∷ access 0 0 4 ∷ [] } }
-    ensures end_of_input { shown (echoes (Closed [])) ≡ record { ending = Exited 255; output = 45 ∷ []; accesses = access 0 0 4 ∷ access 0 0 4 ∷ access 0 0 4 ∷ [] } }
-    ensures last_byte { shown (echoes (Closed (255 ∷ []))) ≡ record { ending = Exited 255; output = []; accesses = access 0 0 4 ∷ access 0 0 4 ∷ access 0 0 4 ∷ [] } }
-    ensures more_input { shown (echoes (Open [])) ≡ record { ending = Wants; output = []; accesses = [] } }
-    ensures goes_on { shown goes_on ≡ record { ending = Turns; output = 97 ∷ 97 ∷ 97 ∷ 97 ∷ 97 ∷ []; accesses = [] } }
-    ensures cast_down { shown cast_down ≡ record { ending = Stopped Cast (at_line 8 10); output = 66 ∷ []; accesses = access 1 0 8 ∷ access 0 4 4 ∷ access 1 0 8 ∷ access 0 4 4 ∷ access 1 0 8 ∷ [] } }
-    ensures called_otherwise { shown called_otherwise ≡ record { ending = Stopped Fun (at_line 6 9); output = 65 ∷ []; accesses = access 0 0 8 ∷ access 0 0 8 ∷ access 1 0 8 ∷ access 1 0 8 ∷ access 2 0 4 ∷ access 2 0 4 ∷ access 1 0 8 ∷ [] } }
+    ensures union_read { Shows union_read (Stopped Tag (at_line 2 69)) (48 ∷ [])
+        (access 0 0 8 ∷ access 0 0 8 ∷ access 0 0 8 ∷ []) }
+    ensures divided_by_zero { Shows divided_by_zero (Stopped Divide (at 32)) []
+        (access 0 0 4 ∷ access 0 0 4 ∷ []) }
+    ensures end_of_input { Shows (echoes (Closed [])) (Exited 255) (45 ∷ [])
+        (access 0 0 4 ∷ access 0 0 4 ∷ access 0 0 4 ∷ []) }
+    ensures last_byte { Shows (echoes (Closed (255 ∷ []))) (Exited 255) []
+        (access 0 0 4 ∷ access 0 0 4 ∷ access 0 0 4 ∷ []) }
+    ensures more_input { Shows (echoes (Open [])) Wants [] [] }
+    ensures goes_on { Shows goes_on Turns (97 ∷ 97 ∷ 97 ∷ 97 ∷ 97 ∷ []) [] }
+    ensures cast_down { Shows cast_down (Stopped Cast (at_line 8 10)) (66 ∷ [])
+        (access 1 0 8 ∷ access 0 4 4 ∷ access 1 0 8 ∷ access 0 4 4 ∷ access 1 0 8 ∷ []) }
+    ensures called_otherwise { Shows called_otherwise (Stopped Fun (at_line 6 9)) (65 ∷ [])
+        (access 0 0 8 ∷ access 0 0 8 ∷ access 1 0 8 ∷ access 1 0 8 ∷ access 2 0 4 ∷ access 2 0 4 ∷ access 1 0 8 ∷ []) }
+    ensures null_freed { Shows null_freed (Exited 3) [] [] }
     ensures calls { (recursion 3).entered ≡ 1 ∷ 0 ∷ 0 ∷ 0 ∷ [] }
+{}
+
+/// An address is tested where it is used, after the right side of its assignment. Kinds that meet the constraints stop the call
+/// that would give an integer for it.
+pub fn addresses_are_tested_where_they_are_used()
+    ensures unsound_kinds { (integer_as_address []).ending ≡ Wrong }
+    ensures written_before { (integer_as_address []).output ≡ 65 ∷ [] }
+    ensures stopped { Shows (integer_as_address (Wild ∷ Wild ∷ Safe ∷ Wild ∷ Wild ∷ Wild ∷ []))
+        (Stopped Fun (at_line 4 3)) [] (access 0 0 8 ∷ access 0 0 8 ∷ []) }
 {}
 
 /// The hash and the comparison of a word counter on short texts: `the` stands in slot 1, and `cat` is `cat`. Three rounds in each
@@ -51,11 +75,13 @@ pub fn word_counter_parts()
 {}
 
 /// `switch`, `do`, `for`, `break` and `continue`; initialisers, static ones among them, compound assignments and the usual
-/// arithmetic conversions.
+/// arithmetic conversions; steps and compound assignments of a narrow type, and comparisons of a pointer outside its part with null.
 pub fn statements_and_initialisers()
     ensures controlled { controlled.output ≡ 3 ∷ 2 ∷ 8 ∷ 12 ∷ 13 ∷ 5 ∷ [] }
     ensures initialised { initialised.output ≡ 96 ∷ 0 ∷ 6 ∷ [] }
     ensures status { initialised.ending ≡ Exited 0 }
+    ensures updated { compared_with_null.output ≡ 200 ∷ 128 ∷ [] }
+    ensures compared { compared_with_null.ending ≡ Exited 5 }
 {}
 
 /// A recursion without end is stopped at its call where that would be the 1,024th that is nested.
@@ -67,15 +93,26 @@ pub fn recursion_is_stopped()
 /// The sites of `int *g;int main(void){int x;g=&x;return 0;}`: the two pointers, the two homes, that the address of x is one of a
 /// part of x, and its flow into g.
 pub fn sites_of_a_program()
-    ensures { sites_of address_program address_table ≡ Pointee (node 0) int ∷ Pointee (node 3) int ∷ Home (node 1) (type 9) ∷ Home (node 2) int ∷ Linked (node 3) (node 2) ∷ Flow (node 3) int (node 0) int (at 30) ∷ [] }
+    ensures { sites_of address_program address_table ≡ Pointee (node 0) int ∷ Pointee (node 3) int ∷ Home (node 1) (type 9)
+        ∷ Home (node 2) int ∷ Linked (node 3) (node 2) ∷ Flow (node 3) int (node 0) int (at 30) ∷ [] }
+{}
+
+/// A `switch` runs its block from the label that its value chooses, as a block runs; a `break` leaves it.
+pub fn switches_run_what_is_behind_their_label()
+    ensures { SwitchesRunWhatIsBehind }
 {}
 
 /// A run reads no more input than there is.
 pub fn runs_read_what_is_there()
-    ensures { (u : TypedTranslationUnit) (table : Table) (kind : NodeId → Kind) (input : Input) (turns : ℕ) → (source_run u table kind input turns).read ≤ length (bytes_of input) }
+    ensures { EachRun (λ input o. o.read ≤ length (bytes_of input)) }
+{}
+
+/// Each access of a run lies in an object that is there, whatever the program, the kinds, the input and the turns.
+pub fn runs_stay_in_objects()
+    ensures { EachRun (λ input o. AllLie o) }
 {}
 
 /// At the end of a run each object has as many bytes as its size, and those under a stored pointer are zero.
 pub fn objects_are_whole_at_the_end()
-    ensures { (u : TypedTranslationUnit) (table : Table) (kind : NodeId → Kind) (input : Input) (turns : ℕ) → AreWhole (source_run u table kind input turns).memory.objects }
+    ensures { EachRun (λ input o. AreWhole o.memory.objects) }
 {}

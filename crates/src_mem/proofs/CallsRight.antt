@@ -1,5 +1,5 @@
 -- What an operation needs no pointer for is wrong nowhere: the beginning and the end of a call, clearing, allocation, input and output.
-use Rattle.std.proofs.Common.{◌≡◌, ◌≢◌, ℕ, zero, suc, ◌+◌, ◌*◌, ◌^◌, ◌<◌, ◌≤◌, min, ℤ, pos, Bool, true, false, List, [], ◌∷◌, ◌++◌, map, length, nat_le, nat_lt, slice_get, slice_set, Option, None, Some, refl, ap, sym, subst, ◌∙◌, arith}
+use Rattle.std.proofs.Common.{◌≡◌, ℕ, zero, suc, ◌+◌, ◌*◌, ◌^◌, ◌<◌, ◌≤◌, min, ℤ, pos, Bool, true, false, List, [], ◌∷◌, ◌++◌, map, length, nat_le, nat_lt, slice_get, slice_set, Option, None, Some, refl, ap, sym, subst, ◌∙◌, arith}
 use Rattle.std.specs.Bool.{⊤}
 use Rattle.cc_base.specs.declared.place.Place.{Place}
 use Rattle.cc_base.specs.declared.kind.Kind.{Kind}
@@ -13,13 +13,13 @@ use Rattle.c_types.specs.Layouts.{layout_of, layout_of_shape, layout_step, no_la
 use Rattle.integers.specs.Words.{word}
 use Rattle.integers.specs.Arithmetic.{IntegerType, Operator, divides, computed}
 use Rattle.runs.specs.Input.{Input, Closed, Open}
-use Rattle.runs.specs.Outcome.{Outcome, Ended, Done, done, leaves, allowed, either, from, ◌>>◌}
-use Rattle.src_mem.specs.Pointers.{Location, Pointer, Null, At, Value, Integer, Address}
-use Rattle.src_mem.specs.Memory.{Object, Memory, Planned, new_variable, new_block, block_size, charge_of, cleared, with_integer, with_pointer}
-use Rattle.src_mem.specs.State.{Ending, Stopped, Wrong, State, Act, Setting, bytes_of, given, touched, turn_of, turn}
-use Rattle.src_mem.specs.Checks.{Condition, CanDivide, check_of, checked, holds, all_checked, conditions_of_allocation}
-use Rattle.src_mem.specs.Primitives.{Spot, spot, reach, with_object, store_integer, store_pointer, clear_at, clear, heap_limit, block_pointer, with_block, new_block_of, allocate, allocate_elements, with_frame, past, next_byte, get}
-use Rattle.src_mem.specs.Uses.{store_shape, store, home, store_arguments, enter_with}
+use Rattle.runs.specs.Outcome.{Done, done, leaves, allowed, either, from, ◌>>◌}
+use Rattle.src_mem.specs.Pointers.{Location, Pointer, Null, Value, Integer, Address}
+use Rattle.src_mem.specs.Memory.{Object, Planned, new_variable, new_block, block_size, charge_of, cleared, with_integer, with_pointer}
+use Rattle.src_mem.specs.State.{Stopped, Wrong, State, Act, Setting, bytes_of, given, touched, turn_of, turn}
+use Rattle.src_mem.specs.Checks.{Condition, CanDivide, check_of, holds, all_checked, conditions_of_allocation}
+use Rattle.src_mem.specs.Primitives.{reach, with_object, clear_at, clear, heap_limit, block_pointer, with_block, new_block_of, allocate, allocate_elements, with_frame, past, next_byte, get}
+use Rattle.src_mem.specs.Uses.{store_shape, home, store_arguments, enter_with}
 use Rattle.src_mem.specs.Operations.{calculate, allocated_for, size}
 use Rattle.src_mem.specs.Laws.{IsNotWrong, IsScalarValue, AreArguments}
 use Rattle.src_mem.proofs.Lists.{get-set_other}

@@ -19,8 +19,10 @@ use Rattle.src_mem.specs.Checks.{HasBase, HoldsNone, IsAligned, AddressMember, C
 use Rattle.src_mem.specs.Primitives.{access, with_object, address, copy}
 use Rattle.src_mem.specs.Uses.{keep_pointers, pointers_behind, copy_all}
 use Rattle.src_mem.specs.Operations.{size, decayed}
-use Rattle.src_mem.specs.Facts.{IsHeld, IsSafeAt, IsTypedAt, IsWildAt}
+use Rattle.src_mem.specs.Outlines.{outline, outlines_of}
+use Rattle.src_mem.specs.Facts.{IsHeldIn, IsSafeAt, IsTypedAt, IsWildAt}
 use Rattle.src_mem.specs.Laws.{IsNotWrong}
+use Rattle.src_mem.proofs.Outlines.{mapped-from}
 use Rattle.src_mem.proofs.NotWrong.{checked_right, access_right, bounds_first}
 use Rattle.src_mem.proofs.Right.{MayTouch, bounds_of, touches}
 use Rattle.src_mem.proofs.OperationsRight.{IsPlaced, placed, address_right}
@@ -33,26 +35,26 @@ placed_address w kind node m t p s linked a = subst (λ q. IsNotWrong (address (
     (address_right (w.kind node) 0 m t a.location a.object s a.found (λ n. a.stands (λ e. n (linked.0 e))))
 
 -- what has a base and is no SEQ pointer stands at a byte of its object
-based_placed : (w : Setting) (memory : Memory) (depth : ℕ) (kind : Kind) (t : TypeId) (p : Pointer) → kind ≢ Seq → IsHeld w memory.objects depth kind t p → holds w memory (HasBase p) ≡ true → IsPlaced kind memory.objects p
+based_placed : (w : Setting) (memory : Memory) (depth : ℕ) (kind : Kind) (t : TypeId) (p : Pointer) → kind ≢ Seq → IsHeldIn w memory depth kind t p → holds w memory (HasBase p) ≡ true → IsPlaced kind memory.objects p
 based_placed w memory depth kind t Null n held h = absurd (cc (h))
 based_placed w memory depth kind t (Number k) n held h = absurd (cc (h))
 based_placed w memory depth kind t (Function f) n held h = absurd (cc (h))
 based_placed w memory depth Seq t (At l) n held h = absurd (n refl)
 based_placed w memory depth Safe t (At l) n held h = of held.value
   where
-    of : IsSafeAt w memory.objects t l → IsPlaced Safe memory.objects (At l)
-    of v = record { location = l; is = refl; object = v.object; found = v.located.found; stands = λ k. (v.at, v.stands.offset) }
+    of : IsSafeAt w (outlines_of memory) t l → IsPlaced Safe memory.objects (At l)
+    of v = let o = mapped-from outline memory.objects l.object v.object v.located.found in record { location = l; is = refl; object = o.0; found = o.1; stands = λ k. (v.at, v.stands.offset) }
 based_placed w memory depth Rtti t (At l) n held h = of held.value
   where
-    of : IsTypedAt w memory.objects t l → IsPlaced Rtti memory.objects (At l)
-    of v = record { location = l; is = refl; object = v.object; found = v.located.found; stands = λ k. (v.at, v.stands.offset) }
+    of : IsTypedAt w (outlines_of memory) t l → IsPlaced Rtti memory.objects (At l)
+    of v = let o = mapped-from outline memory.objects l.object v.object v.located.found in record { location = l; is = refl; object = o.0; found = o.1; stands = λ k. (v.at, v.stands.offset) }
 based_placed w memory depth Wild t (At l) n held h = of held.value
   where
-    of : IsWildAt w memory.objects l → IsPlaced Wild memory.objects (At l)
-    of v = record { location = l; is = refl; object = v.object; found = v.found; stands = λ k. absurd (k refl) }
+    of : IsWildAt w (outlines_of memory) l → IsPlaced Wild memory.objects (At l)
+    of v = let o = mapped-from outline memory.objects l.object v.object v.found in record { location = l; is = refl; object = o.0; found = o.1; stands = λ k. absurd (k refl) }
 
 pub decayed_right : (w : Setting) (at : Place) (depth : ℕ) (kind : Kind) (array : TypeId) (check : Bool) (node : NodeId) (element : TypeId) (p : Pointer) (s : State)
-    → ((kind ≡ Wild) ↔ (w.kind node ≡ Wild)) → is_function w.table array ≡ false → IsHeld w s.memory.objects depth kind array p
+    → ((kind ≡ Wild) ↔ (w.kind node ≡ Wild)) → is_function w.table array ≡ false → IsHeldIn w s.memory depth kind array p
     → (check ≡ true) ⊎ ((kind ≢ Seq) × (holds w s.memory (HasBase p) ≡ true)) → IsNotWrong (decayed w at kind array check node element p s)
 decayed_right w at depth kind array true node element p s linked data_type held why =
     checked_right w (λ c. at) (conditions_of (AddressMember 0 (size w array)) kind p) (address (w.kind node) 0 (size w array) element p) s
@@ -106,7 +108,7 @@ between_right w place Rtti source target t true next s (inr e) h = absurd (cc (e
 
 pub copy_right : (w : Setting) (depth : ℕ) (t : TypeId) (source_place : Place) (from_kind : Kind) (source : Pointer) (target_place : Place) (to_kind : Kind) (target : Pointer) (place : Place) (s : State)
     → (holds_pointer w.table t ≡ false) ⊎ (from_kind ≡ Wild) → is_function w.table t ≡ false → length (cells_of w.table t) ≡ size_of w.table t
-    → IsHeld w s.memory.objects depth from_kind t source → IsHeld w s.memory.objects depth to_kind t target
+    → IsHeldIn w s.memory depth from_kind t source → IsHeldIn w s.memory depth to_kind t target
     → IsNotWrong (copy_all w t source_place from_kind source target_place to_kind target place s)
 copy_right w depth t source_place from_kind source target_place to_kind target place s why data_type sized a b =
     checked_right w (λ c. source_place) (conditions_of (CopyFrom (holds_pointer w.table t) (size_of w.table t)) from_kind source) (all_checked w target_place (conditions_of (CopyTo (holds_pointer w.table t) (size_of w.table t)) to_kind target) >> rest) s

@@ -1,4 +1,4 @@
--- Two facts that every operation leaves true: no more is read than there is, and all objects are whole.
+-- Facts that every operation leaves true: no more is read than there is, and all objects are whole.
 use Rattle.std.proofs.Common.{◌≡◌, ℕ, zero, suc, ◌<◌, ◌≤◌, List, [], ◌∷◌, length, slice_get, Option, None, Some, refl, sym, subst, ◌∙◌, arith}
 use Rattle.cc_base.specs.declared.kind.Kind.{Kind}
 use Rattle.cc_base.specs.declared.number.NodeId.{NodeId}
@@ -75,7 +75,8 @@ module _ (input : Input) where
 
   pub reads_invariant : IsInvariant (ReadsWhatIsThere input)
   reads_invariant = record {
-    accessed = noted;
+    integer_loaded = λ kind t p. accessed noted kind p t.bytes _ (λ x. keep_done R _);
+    pointer_loaded = λ kind p. accessed noted kind p 8 _ (λ x. keep_allowed _ _ (keep_done R _));
     integer_stored = λ kind t p z. accessed noted kind p t.bytes (λ x. leaves (with_object x.number (with_integer t.bytes x.at (word z) x.object)))
         (λ x. changed x.number (with_integer t.bytes x.at (word z) x.object));
     pointer_stored = λ kind p q. accessed noted kind p 8 (λ x. leaves (with_object x.number (with_pointer x.at q x.object))) (λ x. changed x.number (with_pointer x.at q x.object));
@@ -116,7 +117,8 @@ whole_turned = record { by = λ s h. of s.turns s h }
 
 pub whole_invariant : IsInvariant (λ s. AreWhole s.memory.objects)
 whole_invariant = record {
-  accessed = λ number offset size s h. h;
+  integer_loaded = λ kind t p. accessed (λ number offset size s h. h) kind p t.bytes _ (λ x. keep_done HasWhole _);
+  pointer_loaded = λ kind p. accessed (λ number offset size s h. h) kind p 8 _ (λ x. keep_allowed _ _ (keep_done HasWhole _));
   integer_stored = λ kind t p z. record { by = store_integer-whole kind t p z };
   pointer_stored = λ kind p q. record { by = store_pointer-whole kind p q };
   cleared = λ number. record { by = clear-whole number };

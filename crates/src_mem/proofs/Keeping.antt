@@ -11,12 +11,12 @@ use Rattle.c_types.specs.Table.{shape_at}
 use Rattle.c_types.specs.Layouts.{size_of}
 use Rattle.integers.specs.Arithmetic as integer
 use Rattle.integers.specs.Arithmetic.{IntegerType, Operator}
-use Rattle.runs.specs.Outcome.{Outcome, Ended, Done, done, ends, leaves, allowed, either, from, ◌>>=◌, ◌>>◌}
+use Rattle.runs.specs.Outcome.{Outcome, Ended, Done, done, ends, allowed, either, from, ◌>>=◌, ◌>>◌}
 use Rattle.src_mem.specs.Pointers.{Pointer, Null, Number, At, Function, Value, Integer, Address}
 use Rattle.src_mem.specs.Memory.{Planned}
-use Rattle.src_mem.specs.State.{Ending, State, Act, Setting, Defined, wrong, given, touched, as_integer, as_pointer}
+use Rattle.src_mem.specs.State.{Ending, State, Act, Setting, Defined, wrong, given, as_integer, as_pointer}
 use Rattle.src_mem.specs.Checks.{Condition, Outlives, Used, Keep, conditions_of, checked, all_placed, all_checked, holds}
-use Rattle.src_mem.specs.Primitives.{Spot, spot, access, load_integer, load_pointer, address, move, difference, is_before, integer_from, allocate_elements, called}
+use Rattle.src_mem.specs.Primitives.{load_integer, load_pointer, address, move, difference, is_before, integer_from, allocate_elements, called}
 use Rattle.src_mem.specs.Runtime.{malloc, calloc, free, getchar, putchar, exits}
 use Rattle.src_mem.specs.Uses.{forward, home, pointers_behind, read_shape, store, store_shape, write, load_pointers, keep_pointers, copy_all, store_arguments, enter_with}
 use Rattle.src_mem.specs.Operations.{calculate, moved, subtracted, equated, order_of, compared, converted_pointer, member, decayed}
@@ -89,16 +89,11 @@ pub ruleset acts = (keep_done, keep_wrong, keep_ends, keep_bind, keep_then, keep
 module _ {P : State → Type 0} (I : IsInvariant P) where
   -- Primitives
 
-  -- an access that changes nothing else
-  keep_access : {A : Type 0} (kind : Kind) (p : Pointer) (m : ℕ) (next : Spot → Act A) → ((x : Spot) → Keeps P (next x)) → Keeps P (access kind p m next)
-  keep_access kind p m next kn = keep_chosen (λ s. given (spot kind s.memory.objects p m) (λ at. leaves (touched at.number at.at m) >> next at))
-      (λ s. keep_given (spot kind s.memory.objects p m) (λ x. keep_then {m = leaves (touched x.number x.at m)} (record { by = λ t h. I.accessed x.number x.at m t h }) (kn x)))
-
   pub keep_load_integer : (kind : Kind) (t : IntegerType) (p : Pointer) → Keeps P (load_integer kind t p)
-  keep_load_integer kind t p = keep_access kind p t.bytes _ (λ x. keep_done P _)
+  keep_load_integer = I.integer_loaded
 
   pub keep_load_pointer : (kind : Kind) (p : Pointer) → Keeps P (load_pointer kind p)
-  keep_load_pointer kind p = keep_access kind p 8 _ (λ x. keep_allowed _ _ (keep_done P _))
+  keep_load_pointer = I.pointer_loaded
 
   pub keep_address : (kind : Kind) (n m : ℕ) (t : TypeId) (p : Pointer) → Keeps P (address kind n m t p)
   keep_address kind n m t Null = keep_wrong P

@@ -38,13 +38,15 @@ module _ {P : State → Type 0} (I : IsInvariant P) where
   pub keep_difference_value : (w : Setting) (at : Place) (t s : TypeId) (v u : Value) → Keeps P (difference_value w at t s v u)
   keep_difference_value w at t s v u = search (acts, keep_subtracted I)
 
-  pub keep_compared_value : (w : Setting) (at : Place) (operator : Operator) (t s : TypeId) (v u : Value) → Keeps P (compared_value w at operator t s v u)
+  pub keep_compared_value : (w : Setting) (at : Place) (operator : Operator) (t s : TypeId) (v u : Value)
+      → Keeps P (compared_value w at operator t s v u)
   keep_compared_value w at operator t s v u = search (acts, keep_compared I)
 
   pub keep_null_value : (different : Bool) (v : Value) → Keeps P (null_value different v)
   keep_null_value different v = search (acts)
 
-  pub keep_member_value : (w : Setting) (at : Place) (outer : NodeId) (t : TypeId) (i : ℕ) (inner : NodeId) (u : TypeId) (v : Value) → Keeps P (member_value w at outer t i inner u v)
+  pub keep_member_value : (w : Setting) (at : Place) (outer : NodeId) (t : TypeId) (i : ℕ) (inner : NodeId) (u : TypeId) (v : Value)
+      → Keeps P (member_value w at outer t i inner u v)
   keep_member_value w at outer t i inner u v = search (acts, keep_member I)
 
   pub keep_decayed_value : (w : Setting) (at : Place) (outer : NodeId) (array : TypeId) (check : Bool) (inner : NodeId) (element : TypeId) (v : Value)
@@ -60,12 +62,15 @@ module _ {P : State → Type 0} (I : IsInvariant P) where
   pub keep_stored : (w : Setting) (own assignment : Place) (node : NodeId) (t : TypeId) (a v : Value) → Keeps P (stored w own assignment node t a v)
   keep_stored w own assignment node t a v = search (acts, keep_write I)
 
-  pub keep_copied : (w : Setting) (t : TypeId) (from_place : Place) (from : NodeId) (v : Value) (to_place : Place) (to : NodeId) (a : Value) (assignment : Place)
+  pub keep_copied : (w : Setting) (t : TypeId) (from_place : Place) (from : NodeId) (v : Value) (to_place : Place) (to : NodeId) (a : Value)
+      (assignment : Place)
       → Keeps P (copied w t from_place from v to_place to a assignment)
   keep_copied w t from_place from v to_place to a assignment = search (acts, keep_copy I)
 
-  pub keep_allocated : (w : Setting) (at : Place) (node : NodeId) (t : TypeId) (block : Act Value) → Keeps P block → Keeps P (allocated w at node t block)
-  keep_allocated w at node t block kb = keep_bind kb (λ v. keep_bind (keep_pointer P v) (λ p. keep_then (keep_all P w at (conditions_of_allocation (w.kind node) (size w t) p)) (keep_done P v)))
+  pub keep_allocated : (w : Setting) (at : Place) (node : NodeId) (t : TypeId) (block : Act Value) → Keeps P block
+      → Keeps P (allocated w at node t block)
+  keep_allocated w at node t block kb =
+      keep_bind kb (λ v. keep_bind (keep_pointer P v) (λ p. keep_then (keep_all P w at (conditions_of_allocation (w.kind node) (size w t) p)) (keep_done P v)))
 
   pub keep_called_value : (w : Setting) (call : Calls) → ((f depth : ℕ) (vs : List Value) → Keeps P (call f depth vs))
       → (depth : ℕ) (at : Place) (t : TypeId) (v : Value) (vs : List Value) → Keeps P (called_value w call depth at t v vs)

@@ -1,6 +1,7 @@
 pub mod Lists
 pub mod Whole
 pub mod Accesses
+pub mod Outlines
 pub mod Spots
 pub mod Right
 pub mod NotWrong
@@ -11,4 +12,7 @@ pub mod Keeping
 pub mod KeepingValues
 pub mod KeepingRuns
 pub mod Invariants
+pub mod AccessesLie
 pub mod CallsRight
+pub mod AddressesRight
+pub mod RuntimeRight

@@ -20,8 +20,11 @@ use Rattle.src_mem.specs.State.{Ending, Exited, Stopped, Turns, Wants, Wrong, St
 use Rattle.src_mem.specs.Checks.{Condition, InObject, HoldsNone, HoldsPointer, IsAligned, Outlives, ReadInteger, ReadPointer, WriteInteger, WritePointer, conditions_of, check_of, holds, looks, object_at, all_placed, place_of_write}
 use Rattle.src_mem.specs.Primitives.{Spot, spot, access, with_object, load_integer, load_pointer, store_integer, store_pointer}
 use Rattle.src_mem.specs.Uses.{read_shape, store_shape, conditions_of_write}
-use Rattle.src_mem.specs.Facts.{IsHeld, IsSoundMemory, IsSafeAt, IsTypedAt, IsSequenceAt}
+use Rattle.c_types.specs.declared.site.Site.{Site}
+use Rattle.src_mem.specs.Outlines.{Outline, outline, outlines_of, lives_of}
+use Rattle.src_mem.specs.Facts.{IsHeldIn, IsSoundMemory, IsSafeAt, IsTypedAt, IsSequenceAt}
 use Rattle.src_mem.specs.Laws.{IsNotWrong, IsScalar, IsScalarValue}
+use Rattle.src_mem.proofs.Outlines.{get-mapped}
 use Rattle.src_mem.proofs.Spots.{IsRight, spot-right}
 use Rattle.src_mem.proofs.Right.{MayTouch, Begins, bounds_of, touches, integer_cells, pointer_cells_are, no_function, begins_holds, holds_first, made_begins, pointer_begins, sequence_begins}
 
@@ -103,7 +106,7 @@ write_pointer_bounds w memory Seq p q h = bounds_first w memory Seq 8 p (Outlive
 write_pointer_bounds w memory Wild p q h = bounds_first w memory Wild 8 p (IsAligned p ∷ Outlives p q ∷ []) h
 
 read_integer_right : (w : Setting) (place : Place) (depth : ℕ) (kind : Kind) (t : TypeId) (p : Pointer) (s : State) (bytes : ℕ) (signed : Bool)
-    → shape_at w.table t ≡ shape.Integer bytes signed → IsHeld w s.memory.objects depth kind t p
+    → shape_at w.table t ≡ shape.Integer bytes signed → IsHeldIn w s.memory depth kind t p
     → IsNotWrong (read_shape w place kind (shape.Integer bytes signed) p s)
 read_integer_right w place depth kind t p s bytes signed e held =
     checked_right w (λ c. place) (conditions_of (ReadInteger bytes) kind p) (load_integer kind type p >>= (λ z. done (Integer z))) s
@@ -120,7 +123,7 @@ read_integer_right w place depth kind t p s bytes signed e held =
         (λ l o at f r. tt)
 
 write_integer_right : (w : Setting) (place : Condition → Place) (depth : ℕ) (kind : Kind) (t : TypeId) (p : Pointer) (s : State) (bytes : ℕ) (signed : Bool) (z : ℤ)
-    → shape_at w.table t ≡ shape.Integer bytes signed → IsHeld w s.memory.objects depth kind t p
+    → shape_at w.table t ≡ shape.Integer bytes signed → IsHeldIn w s.memory depth kind t p
     → IsNotWrong (from (all_placed w place (conditions_of (WriteInteger bytes) kind p) s) (λ a. store_integer kind (record { bytes = bytes; signed = signed }) p z))
 write_integer_right w place depth kind t p s bytes signed z e held =
     checked_right w place (conditions_of (WriteInteger bytes) kind p) (store_integer kind (record { bytes = bytes; signed = signed }) p z) s store_it
@@ -133,7 +136,7 @@ write_integer_right w place depth kind t p s bytes signed z e held =
         (λ l o at f r. tt)
 
 write_pointer_right : (w : Setting) (place : Condition → Place) (depth : ℕ) (kind : Kind) (t : TypeId) (p q : Pointer) (s : State) (n : NodeId) (u : TypeId)
-    → shape_at w.table t ≡ shape.Pointer n u → IsHeld w s.memory.objects depth kind t p
+    → shape_at w.table t ≡ shape.Pointer n u → IsHeldIn w s.memory depth kind t p
     → IsNotWrong (from (all_placed w place (conditions_of (WritePointer q) kind p) s) (λ a. store_pointer kind p q))
 write_pointer_right w place depth kind t p q s n u e held =
     checked_right w place (conditions_of (WritePointer q) kind p) (store_pointer kind p q) s store_it
@@ -153,42 +156,43 @@ looks_at objects p l o at test e found offset =
     ap (λ q. looks objects q test) e ∙ ap (λ r. object_at r l.offset test) found ∙ ap (λ z. object_at (Some o) z test) offset
 
 -- the word that begins at a byte of a living object, where the object holds the beginning of a pointer
-pub begun : (w : Setting) (memory : Memory) (l : Location) (o v : Object) (at a : ℕ) → IsSoundMemory w memory
+pub begun : (w : Setting) (sites : List Site) (memory : Memory) (l : Location) (o : Object) (v : Outline) (at a : ℕ) → IsSoundMemory w sites memory
     → slice_get memory.objects l.object ≡ Some o → o.live ≡ true → l.offset ≡ pos at
-    → slice_get memory.objects l.object ≡ Some v → l.offset ≡ pos a → w.kind v.node ≢ Wild → Begins v.cells a → holds_pointer_at at o ≡ true
-begun w memory l o v at a sound found live offset found_v offset_a untagged b =
-    let e : v ≡ o = cc (found, found_v) in
+    → slice_get (outlines_of memory) l.object ≡ Some v → l.offset ≡ pos a → w.kind v.node ≢ Wild → Begins v.cells a → holds_pointer_at at o ≡ true
+begun w sites memory l o v at a sound found live offset found_v offset_a untagged b =
+    let x = get-mapped outline memory.objects l.object o found in
+    let e : v ≡ outline o = cc (x, found_v) in
     let g : a ≡ at = cc (offset, offset_a) in
-    subst (λ (x : Object). holds_pointer_at at x ≡ true) e
-    (subst (λ k. holds_pointer_at k v ≡ true) g
-    (begins_holds w memory.objects v a (sound.each l.object v found_v (subst (λ (x : Object). x.live ≡ true) (sym e) live)) untagged b))
+    begins_holds w sites (outlines_of memory) (lives_of memory) o at (sound.each l.object o found live)
+    (subst (λ (y : Outline). w.kind y.node ≢ Wild) e untagged)
+    (subst (λ (y : Outline). Begins y.cells at) e (subst (Begins v.cells) g b))
 
-word_holds : (w : Setting) (memory : Memory) (depth : ℕ) (kind : Kind) (t : TypeId) (n : NodeId) (u : TypeId) (p : Pointer) (l : Location) (o : Object) (at : ℕ)
-    → IsSoundMemory w memory → shape_at w.table t ≡ shape.Pointer n u → IsHeld w memory.objects depth kind t (At l) → p ≡ At l → IsRight kind memory.objects l 8 o at
+word_holds : (w : Setting) (sites : List Site) (memory : Memory) (depth : ℕ) (kind : Kind) (t : TypeId) (n : NodeId) (u : TypeId) (p : Pointer) (l : Location) (o : Object) (at : ℕ)
+    → IsSoundMemory w sites memory → shape_at w.table t ≡ shape.Pointer n u → IsHeldIn w memory depth kind t (At l) → p ≡ At l → IsRight kind memory.objects l 8 o at
     → list_all (holds w memory) (conditions_of ReadPointer kind p) ≡ true → holds_pointer_at at o ≡ true
-word_holds w memory depth Safe t n u p l o at sound e held f r h = of held.value
+word_holds w sites memory depth Safe t n u p l o at sound e held f r h = of held.value
   where
-    of : IsSafeAt w memory.objects t l → holds_pointer_at at o ≡ true
-    of v = begun w memory l o v.object at v.at sound r.found r.live r.offset v.located.found v.stands.offset v.typed.untagged
+    of : IsSafeAt w (outlines_of memory) t l → holds_pointer_at at o ≡ true
+    of v = begun w sites memory l o v.object at v.at sound r.found r.live r.offset v.located.found v.stands.offset v.typed.untagged
         (holds_first w v.object.cells v.at l.part.high t v.holds (pointer_begins w.table t n u e))
-word_holds w memory depth Rtti t n u p l o at sound e held f r h = of held.value
+word_holds w sites memory depth Rtti t n u p l o at sound e held f r h = of held.value
   where
-    of : IsTypedAt w memory.objects t l → holds_pointer_at at o ≡ true
-    of v = begun w memory l o v.object at v.at sound r.found r.live r.offset v.located.found v.stands.offset v.typed.untagged
+    of : IsTypedAt w (outlines_of memory) t l → holds_pointer_at at o ≡ true
+    of v = begun w sites memory l o v.object at v.at sound r.found r.live r.offset v.located.found v.stands.offset v.typed.untagged
         (holds_first w v.object.cells v.at l.part.high l.made v.holds (made_begins w.table l.made t v.covers.begins (pointer_begins w.table t n u e)))
-word_holds w memory depth Seq t n u p l o at sound e held f r h = of held.value
+word_holds w sites memory depth Seq t n u p l o at sound e held f r h = of held.value
   where
-    of : IsSequenceAt w memory.objects t l → holds_pointer_at at o ≡ true
-    of v = begun w memory l o v.object at at sound r.found r.live r.offset v.located.found r.offset v.typed.untagged
-        (sequence_begins w memory.objects t n u l v at e r.offset r.low (let k = r.high in grind arith))
-word_holds w memory depth Wild t n u p l o at sound e held f r h =
+    of : IsSequenceAt w (outlines_of memory) t l → holds_pointer_at at o ≡ true
+    of v = begun w sites memory l o v.object at at sound r.found r.live r.offset v.located.found r.offset v.typed.untagged
+        (sequence_begins w (outlines_of memory) t n u l v at e r.offset r.low (let k = r.high in grind arith))
+word_holds w sites memory depth Wild t n u p l o at sound e held f r h =
     sym (looks_at memory.objects p l o at holds_pointer_at f r.found r.offset)
     ∙ first_holds (holds w memory (HoldsPointer p)) true (second_holds (holds w memory (IsAligned p)) _ (second_holds (holds w memory (InObject 8 p)) _ h))
 
-read_pointer_right : (w : Setting) (place : Place) (depth : ℕ) (kind : Kind) (t : TypeId) (p : Pointer) (s : State) (n : NodeId) (u : TypeId)
-    → IsSoundMemory w s.memory → shape_at w.table t ≡ shape.Pointer n u → IsHeld w s.memory.objects depth kind t p
+read_pointer_right : (w : Setting) (sites : List Site) (place : Place) (depth : ℕ) (kind : Kind) (t : TypeId) (p : Pointer) (s : State) (n : NodeId) (u : TypeId)
+    → IsSoundMemory w sites s.memory → shape_at w.table t ≡ shape.Pointer n u → IsHeldIn w s.memory depth kind t p
     → IsNotWrong (read_shape w place kind (shape.Pointer n u) p s)
-read_pointer_right w place depth kind t p s n u sound e held =
+read_pointer_right w sites place depth kind t p s n u sound e held =
     checked_right w (λ c. place) (conditions_of ReadPointer kind p) (load_pointer kind p >>= (λ q. done (Address q))) s
     (λ h. from_right (load_pointer kind p s) (λ q. done (Address q)) (load h) (λ q v. tt))
   where
@@ -201,21 +205,21 @@ read_pointer_right w place depth kind t p s n u sound e held =
         access_right kind p 8 (λ at. allowed (holds_pointer_at at.at at.object) Wrong (done (pointer_or_null (at.object.pointers at.at)))) s
         (touches w s.memory depth 8 kind t p held (no_function w.table t (shape.Pointer n u) e refl) (omega (arith, c)) (pointer_bounds w s.memory kind p h))
         (λ l o at f r. allowed_right (holds_pointer_at at o) (pointer_or_null (o.pointers at)) (touched l.object at 8 s)
-        (word_holds w s.memory depth kind t n u p l o at sound e (subst (λ q. IsHeld w s.memory.objects depth kind t q) f held) f r h))
+        (word_holds w sites s.memory depth kind t n u p l o at sound e (subst (λ q. IsHeldIn w s.memory depth kind t q) f held) f r h))
 
 -- a scalar is read, and written
-pub read_right : (w : Setting) (place : Place) (depth : ℕ) (kind : Kind) (t : TypeId) (p : Pointer) (s : State) (sh : TypeShape)
-    → IsSoundMemory w s.memory → IsScalar sh → shape_at w.table t ≡ sh → IsHeld w s.memory.objects depth kind t p → IsNotWrong (read_shape w place kind sh p s)
-read_right w place depth kind t p s (shape.Integer bytes signed) sound scalar e held = read_integer_right w place depth kind t p s bytes signed e held
-read_right w place depth kind t p s (shape.Pointer n u) sound scalar e held = read_pointer_right w place depth kind t p s n u sound e held
-read_right w place depth kind t p s shape.Void sound scalar e held = absurd scalar
-read_right w place depth kind t p s (shape.Array a n) sound scalar e held = absurd scalar
-read_right w place depth kind t p s (shape.Function ps r) sound scalar e held = absurd scalar
-read_right w place depth kind t p s (shape.Struct n) sound scalar e held = absurd scalar
-read_right w place depth kind t p s (shape.Union n) sound scalar e held = absurd scalar
+pub read_right : (w : Setting) (sites : List Site) (place : Place) (depth : ℕ) (kind : Kind) (t : TypeId) (p : Pointer) (s : State) (sh : TypeShape)
+    → IsSoundMemory w sites s.memory → IsScalar sh → shape_at w.table t ≡ sh → IsHeldIn w s.memory depth kind t p → IsNotWrong (read_shape w place kind sh p s)
+read_right w sites place depth kind t p s (shape.Integer bytes signed) sound scalar e held = read_integer_right w place depth kind t p s bytes signed e held
+read_right w sites place depth kind t p s (shape.Pointer n u) sound scalar e held = read_pointer_right w sites place depth kind t p s n u sound e held
+read_right w sites place depth kind t p s shape.Void sound scalar e held = absurd scalar
+read_right w sites place depth kind t p s (shape.Array a n) sound scalar e held = absurd scalar
+read_right w sites place depth kind t p s (shape.Function ps r) sound scalar e held = absurd scalar
+read_right w sites place depth kind t p s (shape.Struct n) sound scalar e held = absurd scalar
+read_right w sites place depth kind t p s (shape.Union n) sound scalar e held = absurd scalar
 
 pub write_right : (w : Setting) (own assignment : Place) (depth : ℕ) (kind : Kind) (t : TypeId) (p : Pointer) (v : Value) (s : State) (sh : TypeShape)
-    → IsScalarValue sh v → shape_at w.table t ≡ sh → IsHeld w s.memory.objects depth kind t p
+    → IsScalarValue sh v → shape_at w.table t ≡ sh → IsHeldIn w s.memory depth kind t p
     → IsNotWrong (from (all_placed w (place_of_write own assignment) (conditions_of_write kind sh p v) s) (λ a. store_shape kind sh p v))
 write_right w own assignment depth kind t p (Integer z) s (shape.Integer bytes signed) fits_it e held =
     write_integer_right w (place_of_write own assignment) depth kind t p s bytes signed z e held

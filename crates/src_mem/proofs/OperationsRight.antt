@@ -19,8 +19,10 @@ use Rattle.src_mem.specs.State.{State, Act, Setting, given}
 use Rattle.src_mem.specs.Checks.{Condition, Used, NotNull, HasBase, InBounds, AreElementsApart, AreOfOnePart, Move, Subtract, Order, Equate, AddressMember, Call, conditions_of, conditions_of_conversion, holds, all_checked}
 use Rattle.src_mem.specs.Primitives.{address, whole_part, part_at, move, difference, is_before, are_equal, convert, called}
 use Rattle.src_mem.specs.Operations.{kind_in, pointee, pointee_size, size, moved, subtracted, equated, order_of, compared, converted_pointer, member}
-use Rattle.src_mem.specs.Facts.{IsHeld, IsSafeAt, IsWildAt}
+use Rattle.src_mem.specs.Outlines.{outline, outlines_of}
+use Rattle.src_mem.specs.Facts.{IsHeldIn, IsSafeAt, IsWildAt}
 use Rattle.src_mem.specs.Laws.{IsNotWrong, IsOrder}
+use Rattle.src_mem.proofs.Outlines.{mapped-from}
 use Rattle.src_mem.proofs.NotWrong.{from_right, checked_right, first_holds, second_holds}
 use Rattle.src_mem.proofs.Right.{MayTouch, safe≢wild, seq≢wild, rtti≢wild, safe_touches, typed_touches, sequence_touches}
 
@@ -151,24 +153,24 @@ pub record IsPlaced (kind : Kind) (objects : List Object) (p : Pointer) : Type 0
 touch_placed : (kind : Kind) (objects : List Object) (p : Pointer) (m : ℕ) → MayTouch kind objects p m → IsPlaced kind objects p
 touch_placed kind objects p m t = record { location = t.location; is = t.pointer; object = t.object; found = t.right.found; stands = λ n. (t.at, t.right.offset) }
 
-pub placed : (w : Setting) (memory : Memory) (depth : ℕ) (kind : Kind) (t : TypeId) (p : Pointer) (offset m : ℕ) → IsHeld w memory.objects depth kind t p → is_function w.table t ≡ false
+pub placed : (w : Setting) (memory : Memory) (depth : ℕ) (kind : Kind) (t : TypeId) (p : Pointer) (offset m : ℕ) → IsHeldIn w memory depth kind t p → is_function w.table t ≡ false
     → list_all (holds w memory) (conditions_of (AddressMember offset m) kind p) ≡ true → IsPlaced kind memory.objects p
 placed w memory depth Safe t p offset m held data_type h =
-    touch_placed Safe memory.objects p 0 (safe_touches w memory.objects depth 0 t p held data_type (first_holds (holds w memory (NotNull p)) _ h) (omega arith))
+    touch_placed Safe memory.objects p 0 (safe_touches w memory depth 0 t p held data_type (first_holds (holds w memory (NotNull p)) _ h) (omega arith))
 placed w memory depth Rtti t p offset m held data_type h =
-    touch_placed Rtti memory.objects p 0 (typed_touches w memory.objects depth 0 t p held (first_holds (holds w memory (NotNull p)) _ h) (omega arith))
+    touch_placed Rtti memory.objects p 0 (typed_touches w memory depth 0 t p held (first_holds (holds w memory (NotNull p)) _ h) (omega arith))
 placed w memory depth Seq t p offset m held data_type h =
     touch_placed Seq memory.objects p m (sequence_touches w memory depth m t p held (first_holds (holds w memory (InBounds m p)) _ h))
 placed w memory depth Wild t p offset m held data_type h = of (based w memory p (first_holds (holds w memory (HasBase p)) _ h))
   where
-    at_location : (l : Location) → p ≡ At l → IsWildAt w memory.objects l → IsPlaced Wild memory.objects p
-    at_location l e v = record { location = l; is = e; object = v.object; found = v.found; stands = λ n. absurd (n refl) }
+    at_location : (l : Location) → p ≡ At l → IsWildAt w (outlines_of memory) l → IsPlaced Wild memory.objects p
+    at_location l e v = let o = mapped-from outline memory.objects l.object v.object v.found in record { location = l; is = e; object = o.0; found = o.1; stands = λ n. absurd (n refl) }
 
     of : IsAtObject p → IsPlaced Wild memory.objects p
-    of a = at_location a.location a.is (subst (λ q. IsHeld w memory.objects depth Wild t q) a.is held).value
+    of a = at_location a.location a.is (subst (λ q. IsHeldIn w memory depth Wild t q) a.is held).value
 
 pub member_right : (w : Setting) (at : Place) (depth : ℕ) (kind : Kind) (t : TypeId) (i : ℕ) (node : NodeId) (u : TypeId) (p : Pointer) (s : State)
-    → ((kind ≡ Wild) ↔ (w.kind node ≡ Wild)) → is_function w.table t ≡ false → IsHeld w s.memory.objects depth kind t p → IsNotWrong (member w at kind t i node u p s)
+    → ((kind ≡ Wild) ↔ (w.kind node ≡ Wild)) → is_function w.table t ≡ false → IsHeldIn w s.memory depth kind t p → IsNotWrong (member w at kind t i node u p s)
 member_right w at depth kind t i node u p s linked data_type held =
     checked_right w (λ c. at) (conditions_of (AddressMember (offset_of w.table t i) (size w t)) kind p)
     (address (w.kind node) (offset_of w.table t i) (size w u) u p) s
@@ -188,12 +190,12 @@ called_right : (p : Pointer) (next : ℕ → Act Value) (s : State) → IsCallab
 called_right p next s c h = subst (λ q. IsNotWrong (called q next s)) (sym c.is) (h c.function)
 
 callable : (w : Setting) (memory : Memory) (depth deeper : ℕ) (kind : Kind) (t : TypeId) (p : Pointer) → (kind ≡ Safe) ⊎ (kind ≡ Wild) → is_function w.table t ≡ true
-    → IsHeld w memory.objects depth kind t p → list_all (holds w memory) (conditions_of (Call t deeper) kind p) ≡ true → IsCallable p
+    → IsHeldIn w memory depth kind t p → list_all (holds w memory) (conditions_of (Call t deeper) kind p) ≡ true → IsCallable p
 callable w memory depth deeper Safe t Null which type held h = absurd (cc (h))
 callable w memory depth deeper Safe t (Number n) which type held h = absurd held.value
 callable w memory depth deeper Safe t (At l) which type held h = absurd (of held.value)
   where
-    of : IsSafeAt w memory.objects t l → ⊥
+    of : IsSafeAt w (outlines_of memory) t l → ⊥
     of v = absurd (cc (type, v.data_type))
 callable w memory depth deeper Safe t (Function f) which type held h = record { function = f; is = refl }
 callable w memory depth deeper Wild t Null which type held h = absurd (cc (h))
@@ -207,7 +209,7 @@ callable w memory depth deeper Rtti t p (inr e) type held h = absurd (cc (e))
 
 -- a call through a pointer that is SAFE or WILD is wrong only where the function's call is
 pub call_right : (w : Setting) (at : Place) (depth deeper : ℕ) (kind : Kind) (t : TypeId) (p : Pointer) (next : ℕ → Act Value) (s : State) → (kind ≡ Safe) ⊎ (kind ≡ Wild)
-    → is_function w.table t ≡ true → IsHeld w s.memory.objects depth kind t p → ((f : ℕ) → IsNotWrong (next f s))
+    → is_function w.table t ≡ true → IsHeldIn w s.memory depth kind t p → ((f : ℕ) → IsNotWrong (next f s))
     → IsNotWrong (from (all_checked w at (conditions_of (Call t deeper) kind p) s) (λ a. called p next))
 call_right w at depth deeper kind t p next s which type held h =
     checked_right w (λ c. at) (conditions_of (Call t deeper) kind p) (called p next) s

@@ -14,6 +14,7 @@ use Rattle.c_types.specs.Equality.{cells_of, physically_equal, repeated_cell}
 use Rattle.c_types.specs.Flows.{and_then, pointer_in_cell, pointer_in, pointer_at}
 use native.Mathlib.Nat.{mod-eq_of_lt, mod-lt}
 use Rattle.integers.specs.Words.{residue}
+use Rattle.c_types.specs.Flows.{CellsAgree}
 use Rattle.src_mem.specs.Pointers.{Part, Location, Pointer, At, distance}
 use Rattle.src_mem.specs.Memory.{Object, Memory, holds_pointer_at, pointer_or_null}
 use Rattle.runs.specs.Outcome.{Outcome, Done, done, allowed, either, from, ◌>>◌}
@@ -29,7 +30,9 @@ use Rattle.src_mem.specs.Laws.{IsNotWrong}
 use Rattle.src_mem.proofs.Spots.{IsRight, spot-right}
 use Rattle.src_mem.proofs.NotWrong.{begun, goes_on, checked_right}
 use Rattle.src_mem.proofs.CopiesRight.{both_touched, from_bounds, to_bounds, copy_right}
-use Rattle.src_mem.specs.Facts.{CellsAgree, HoldType, IsSequenceAt, IsSafeAt, IsTypedAt, IsHeld, IsSoundMemory}
+use Rattle.c_types.specs.declared.site.Site.{Site}
+use Rattle.src_mem.specs.Outlines.{Outline, outlines_of}
+use Rattle.src_mem.specs.Facts.{HoldType, IsSequenceAt, IsSafeAt, IsTypedAt, IsHeldIn, IsSoundMemory}
 use Rattle.src_mem.proofs.Right.{MayTouch, touches, IsFirst, Begins, begins_first, second_true, first_of, distance_is, safe≢wild, seq≢wild, rtti≢wild}
 
 -- where a data type holds a pointer, its cells begin one
@@ -88,16 +91,16 @@ index_is cs i c e = ap (λ k. slice_index_or cs k raw) (mod-eq_of_lt (below cs i
 safe_there : (w : Setting) (cells : List Cell) (at high : ℕ) (t : TypeId) (i : ℕ) → HoldType w cells at high t → Begins (cells_of w.table t) i → Begins cells (at + i)
 safe_there w cells at high t i h b = of (h.agree i b.cell b.found)
   where
-    of : ((c : Cell) × (slice_get cells (at + i) ≡ Some c) × CellsAgree w c b.cell) → Begins cells (at + i)
+    of : ((c : Cell) × (slice_get cells (at + i) ≡ Some c) × CellsAgree w.table w.kind c b.cell) → Begins cells (at + i)
     of a = record { cell = a.0; found = a.1; first = first_of w a.0 b.cell a.2 b.first }
 
 same_place : (cs : List Cell) (x y size : ℕ) → length cs ≡ size → 0 < size → x ≡ y % size → repeated_cell cs x ≡ repeated_cell cs y
 same_place cs x y size l some e = ap (λ k. slice_index_or cs (x % k) raw) l ∙ ap (λ k. slice_index_or cs (k % size) raw) e ∙ ap (λ k. slice_index_or cs k raw) (mod-eq_of_lt (mod-lt y some)) ∙ ap (λ k. slice_index_or cs (y % k) raw) (sym l)
 
-sequence_there : (w : Setting) (objects : List Object) (t : TypeId) (l : Location) (v : IsSequenceAt w objects t l) (at i : ℕ)
+sequence_there : (w : Setting) (outlines : List Outline) (t : TypeId) (l : Location) (v : IsSequenceAt w outlines t l) (at i : ℕ)
     → IsComplete w.table t → length (cells_of w.table t) ≡ size_of w.table t → Begins (cells_of w.table t) i → i + 8 ≤ length (cells_of w.table t)
     → l.offset ≡ pos at → l.part.low ≤ at → at + size_of w.table t ≤ l.part.high → Begins v.object.cells (at + i)
-sequence_there w objects t l v at i complete sized b room offset low high = of ((v.filled complete).agree (at - l.part.low + i) (let s = sized in omega (arith, low, high, room, s)))
+sequence_there w outlines t l v at i complete sized b room offset low high = of ((v.filled complete).agree (at - l.part.low + i) (let s = sized in omega (arith, low, high, room, s)))
   where
     cs : List Cell
     cs = cells_of w.table t
@@ -112,7 +115,7 @@ sequence_there w objects t l v at i complete sized b room offset low high = of (
     here = subst IsFirst (same_place cs (residue (distance l +ℤ pos i) (size_of w.table t)) (at - l.part.low + i) (size_of w.table t) sized (let s = sized in omega (arith, room, s)) steps)
         (first_of w (repeated_cell cs (residue (distance l +ℤ pos i) (size_of w.table t))) (repeated_cell cs i) ((v.shifted complete).agree i) start)
 
-    of : ((c : Cell) × (slice_get v.object.cells (l.part.low + (at - l.part.low + i)) ≡ Some c) × CellsAgree w c (repeated_cell cs (at - l.part.low + i))) → Begins v.object.cells (at + i)
+    of : ((c : Cell) × (slice_get v.object.cells (l.part.low + (at - l.part.low + i)) ≡ Some c) × CellsAgree w.table w.kind c (repeated_cell cs (at - l.part.low + i))) → Begins v.object.cells (at + i)
     of a = record {
       cell = a.0;
       found = subst (λ k. slice_get v.object.cells k ≡ Some a.0) (omega (arith, low)) a.1;
@@ -141,29 +144,29 @@ right_moved kind objects l m i o at r room = record {
 }
 
 -- the word of a pointer of the source holds one, or is zero
-word_there : (w : Setting) (memory : Memory) (depth : ℕ) (kind : Kind) (t : TypeId) (l : Location) (o : Object) (at i : ℕ)
-    → kind ≢ Wild → IsSoundMemory w memory → IsComplete w.table t → length (cells_of w.table t) ≡ size_of w.table t
-    → IsHeld w memory.objects depth kind t (At l) → IsRight kind memory.objects l (size_of w.table t) o at
+word_there : (w : Setting) (sites : List Site) (memory : Memory) (depth : ℕ) (kind : Kind) (t : TypeId) (l : Location) (o : Object) (at i : ℕ)
+    → kind ≢ Wild → IsSoundMemory w sites memory → IsComplete w.table t → length (cells_of w.table t) ≡ size_of w.table t
+    → IsHeldIn w memory depth kind t (At l) → IsRight kind memory.objects l (size_of w.table t) o at
     → Begins (cells_of w.table t) i → i + 8 ≤ length (cells_of w.table t) → holds_pointer_at (at + i) o ≡ true
 unfolding moved_by
-word_there w memory depth Safe t l o at i n sound complete sized held r b room = of held.value
+word_there w sites memory depth Safe t l o at i n sound complete sized held r b room = of held.value
   where
-    of : IsSafeAt w memory.objects t l → holds_pointer_at (at + i) o ≡ true
-    of v = begun w memory (record l { offset = l.offset +ℤ pos i }) o v.object (at + i) (v.at + i) sound r.found r.live (ap (λ z. z +ℤ pos i) r.offset) v.located.found
+    of : IsSafeAt w (outlines_of memory) t l → holds_pointer_at (at + i) o ≡ true
+    of v = begun w sites memory (record l { offset = l.offset +ℤ pos i }) o v.object (at + i) (v.at + i) sound r.found r.live (ap (λ z. z +ℤ pos i) r.offset) v.located.found
         (ap (λ z. z +ℤ pos i) v.stands.offset) v.typed.untagged (safe_there w v.object.cells v.at l.part.high t i v.holds b)
-word_there w memory depth Rtti t l o at i n sound complete sized held r b room = of held.value
+word_there w sites memory depth Rtti t l o at i n sound complete sized held r b room = of held.value
   where
-    of : IsTypedAt w memory.objects t l → holds_pointer_at (at + i) o ≡ true
-    of v = begun w memory (record l { offset = l.offset +ℤ pos i }) o v.object (at + i) (v.at + i) sound r.found r.live (ap (λ z. z +ℤ pos i) r.offset) v.located.found
+    of : IsTypedAt w (outlines_of memory) t l → holds_pointer_at (at + i) o ≡ true
+    of v = begun w sites memory (record l { offset = l.offset +ℤ pos i }) o v.object (at + i) (v.at + i) sound r.found r.live (ap (λ z. z +ℤ pos i) r.offset) v.located.found
         (ap (λ z. z +ℤ pos i) v.stands.offset) v.typed.untagged
         (safe_there w v.object.cells v.at l.part.high l.made i v.holds (begins_there (physically_equal w.table) (cells_of w.table l.made) (cells_of w.table t) i
         (second_true (not (is_function w.table t)) (begins (physically_equal w.table) (cells_of w.table l.made) (cells_of w.table t)) (second_true (not (is_function w.table l.made)) _ v.covers.begins)) b))
-word_there w memory depth Seq t l o at i n sound complete sized held r b room = of held.value
+word_there w sites memory depth Seq t l o at i n sound complete sized held r b room = of held.value
   where
-    of : IsSequenceAt w memory.objects t l → holds_pointer_at (at + i) o ≡ true
-    of v = begun w memory (record l { offset = l.offset +ℤ pos i }) o v.object (at + i) (at + i) sound r.found r.live (ap (λ z. z +ℤ pos i) r.offset) v.located.found
-        (ap (λ z. z +ℤ pos i) r.offset) v.typed.untagged (sequence_there w memory.objects t l v at i complete sized b room r.offset r.low (let k = r.high in grind arith))
-word_there w memory depth Wild t l o at i n sound complete sized held r b room = absurd (n refl)
+    of : IsSequenceAt w (outlines_of memory) t l → holds_pointer_at (at + i) o ≡ true
+    of v = begun w sites memory (record l { offset = l.offset +ℤ pos i }) o v.object (at + i) (at + i) sound r.found r.live (ap (λ z. z +ℤ pos i) r.offset) v.located.found
+        (ap (λ z. z +ℤ pos i) r.offset) v.typed.untagged (sequence_there w (outlines_of memory) t l v at i complete sized b room r.offset r.low (let k = r.high in grind arith))
+word_there w sites memory depth Wild t l o at i n sound complete sized held r b room = absurd (n refl)
 
 abbrev loaded : Pointer → State → Outcome Ending State Pointer
 loaded q s = Done q s
@@ -202,11 +205,11 @@ loads_right w place memory kind source target f (i ∷ is) next s loads same h =
         subst (λ o. IsNotWrong (from (from o (λ q. λ u. from (checked w place (Outlives target q) u) (λ a. load_pointers w place kind source target (filter f is)))) (λ a. next))) (sym one.3)
         (checked_one one.0 (touched one.1 one.2 8 s) (holds w (touched one.1 one.2 8 s).memory (Outlives target one.0)) same rest)
 
-one_loads : (w : Setting) (memory : Memory) (depth : ℕ) (kind : Kind) (t : TypeId) (source : Pointer) (i : ℕ)
-    → kind ≢ Wild → IsSoundMemory w memory → IsComplete w.table t → length (cells_of w.table t) ≡ size_of w.table t → IsWellFormed w.table → is_function w.table t ≡ false
-    → IsHeld w memory.objects depth kind t source → MayTouch kind memory.objects source (size_of w.table t) → is_some (pointer_at w.table t i) ≡ true → LoadsAt memory kind source i
+one_loads : (w : Setting) (sites : List Site) (memory : Memory) (depth : ℕ) (kind : Kind) (t : TypeId) (source : Pointer) (i : ℕ)
+    → kind ≢ Wild → IsSoundMemory w sites memory → IsComplete w.table t → length (cells_of w.table t) ≡ size_of w.table t → IsWellFormed w.table → is_function w.table t ≡ false
+    → IsHeldIn w memory depth kind t source → MayTouch kind memory.objects source (size_of w.table t) → is_some (pointer_at w.table t i) ≡ true → LoadsAt memory kind source i
 unfolding LoadsAt moved_by
-one_loads w memory depth kind t source i n sound complete sized formed data_type held may there s same =
+one_loads w sites memory depth kind t source i n sound complete sized formed data_type held may there s same =
     let l = may.location in
     let b = pointer_there w.table t i data_type there in
     let room : i + 8 ≤ length (cells_of w.table t) = cells_whole w.table formed (physically_equal w.table) t i b.first.node b.first.to (b.found ∙ ap (λ c. Some c) b.first.is) in
@@ -216,7 +219,7 @@ one_loads w memory depth kind t source i n sound complete sized formed data_type
       may.at + i,
       load_is kind (forward i source) (record l { offset = l.offset +ℤ pos i }) may.object (may.at + i) s (ap (λ p. forward i p) may.pointer)
           (subst (λ (m : Memory). IsRight kind m.objects (record l { offset = l.offset +ℤ pos i }) 8 may.object (may.at + i)) (sym same) r)
-          (word_there w memory depth kind t l may.object may.at i n sound complete sized (subst (λ p. IsHeld w memory.objects depth kind t p) may.pointer held) may.right b room),
+          (word_there w sites memory depth kind t l may.object may.at i n sound complete sized (subst (λ p. IsHeldIn w memory depth kind t p) may.pointer held) may.right b room),
     )
 
 between_loads : (w : Setting) (place : Place) (kind : Kind) (source target : Pointer) (t : TypeId) (b : Bool) (next : Act (Unit {0})) (s : State) → kind ≢ Wild
@@ -231,11 +234,11 @@ between_loads w place Rtti source target t true next s n loads h =
     loads_right w place s.memory Rtti source target (λ i. is_some (pointer_at w.table t i)) (range_with_len 0 (length (cells_of w.table t))) next s loads refl h
 between_loads w place Wild source target t true next s n loads h = absurd (n refl)
 
-pointers_copied : (w : Setting) (depth : ℕ) (t : TypeId) (source_place : Place) (from_kind : Kind) (source : Pointer) (target_place : Place) (to_kind : Kind) (target : Pointer) (place : Place) (s : State)
-    → from_kind ≢ Wild → IsSoundMemory w s.memory → IsComplete w.table t → length (cells_of w.table t) ≡ size_of w.table t → IsWellFormed w.table → is_function w.table t ≡ false
-    → IsHeld w s.memory.objects depth from_kind t source → IsHeld w s.memory.objects depth to_kind t target
+pointers_copied : (w : Setting) (sites : List Site) (depth : ℕ) (t : TypeId) (source_place : Place) (from_kind : Kind) (source : Pointer) (target_place : Place) (to_kind : Kind) (target : Pointer) (place : Place) (s : State)
+    → from_kind ≢ Wild → IsSoundMemory w sites s.memory → IsComplete w.table t → length (cells_of w.table t) ≡ size_of w.table t → IsWellFormed w.table → is_function w.table t ≡ false
+    → IsHeldIn w s.memory depth from_kind t source → IsHeldIn w s.memory depth to_kind t target
     → IsNotWrong (copy_all w t source_place from_kind source target_place to_kind target place s)
-pointers_copied w depth t source_place from_kind source target_place to_kind target place s n sound complete sized formed data_type a b =
+pointers_copied w sites depth t source_place from_kind source target_place to_kind target place s n sound complete sized formed data_type a b =
     checked_right w (λ c. source_place) (conditions_of (CopyFrom (holds_pointer w.table t) (size_of w.table t)) from_kind source) (all_checked w target_place (conditions_of (CopyTo (holds_pointer w.table t) (size_of w.table t)) to_kind target) >> rest) s
     (λ h. checked_right w (λ c. target_place) (conditions_of (CopyTo (holds_pointer w.table t) (size_of w.table t)) to_kind target) rest s (λ k. go (from_touch h) (to_touch k)))
   where
@@ -250,7 +253,7 @@ pointers_copied w depth t source_place from_kind source target_place to_kind tar
 
     go : MayTouch from_kind s.memory.objects source (size_of w.table t) → MayTouch to_kind s.memory.objects target (size_of w.table t) → IsNotWrong (rest s)
     go x y = between_loads w place from_kind source target t (holds_pointer w.table t) (copy (size_of w.table t) from_kind source to_kind target) s n
-        (λ i there. one_loads w s.memory depth from_kind t source i n sound complete sized formed data_type a x there)
+        (λ i there. one_loads w sites s.memory depth from_kind t source i n sound complete sized formed data_type a x there)
         (λ u e. both_touched (size_of w.table t) from_kind source to_kind target u
         (subst (λ (m : Memory). MayTouch from_kind m.objects source (size_of w.table t)) (sym e) x)
         (subst (λ (m : Memory). MayTouch to_kind m.objects target (size_of w.table t)) (sym e) y))
@@ -268,10 +271,10 @@ no_function_complete table t = by (shape_at table t)
     by (shape.Struct n) h = refl
     by (shape.Union n) h = refl
 
-pub all_copied : (w : Setting) (depth : ℕ) (t : TypeId) (source_place : Place) (from_kind : Kind) (source : Pointer) (target_place : Place) (to_kind : Kind) (target : Pointer) (place : Place) (s : State)
-    → IsWellFormed w.table → IsComplete w.table t → IsSoundMemory w s.memory → IsHeld w s.memory.objects depth from_kind t source → IsHeld w s.memory.objects depth to_kind t target
+pub all_copied : (w : Setting) (sites : List Site) (depth : ℕ) (t : TypeId) (source_place : Place) (from_kind : Kind) (source : Pointer) (target_place : Place) (to_kind : Kind) (target : Pointer) (place : Place) (s : State)
+    → IsWellFormed w.table → IsComplete w.table t → IsSoundMemory w sites s.memory → IsHeldIn w s.memory depth from_kind t source → IsHeldIn w s.memory depth to_kind t target
     → IsNotWrong (copy_all w t source_place from_kind source target_place to_kind target place s)
-all_copied w depth t source_place from_kind source target_place to_kind target place s formed complete sound a b = by from_kind a
+all_copied w sites depth t source_place from_kind source target_place to_kind target place s formed complete sound a b = by from_kind a
   where
     sized : length (cells_of w.table t) ≡ size_of w.table t
     sized = length_cells w.table formed (physically_equal w.table) t complete
@@ -279,8 +282,8 @@ all_copied w depth t source_place from_kind source target_place to_kind target p
     data_type : is_function w.table t ≡ false
     data_type = no_function_complete w.table t complete
 
-    by : (k : Kind) → IsHeld w s.memory.objects depth k t source → IsNotWrong (copy_all w t source_place k source target_place to_kind target place s)
+    by : (k : Kind) → IsHeldIn w s.memory depth k t source → IsNotWrong (copy_all w t source_place k source target_place to_kind target place s)
     by Wild c = copy_right w depth t source_place Wild source target_place to_kind target place s (inr refl) data_type sized c b
-    by Safe c = pointers_copied w depth t source_place Safe source target_place to_kind target place s safe≢wild sound complete sized formed data_type c b
-    by Seq c = pointers_copied w depth t source_place Seq source target_place to_kind target place s seq≢wild sound complete sized formed data_type c b
-    by Rtti c = pointers_copied w depth t source_place Rtti source target_place to_kind target place s rtti≢wild sound complete sized formed data_type c b
+    by Safe c = pointers_copied w sites depth t source_place Safe source target_place to_kind target place s safe≢wild sound complete sized formed data_type c b
+    by Seq c = pointers_copied w sites depth t source_place Seq source target_place to_kind target place s seq≢wild sound complete sized formed data_type c b
+    by Rtti c = pointers_copied w sites depth t source_place Rtti source target_place to_kind target place s rtti≢wild sound complete sized formed data_type c b

@@ -16,11 +16,15 @@ use Rattle.c_types.specs.Layouts.{layout_of, layout_of_shape, layout_step, no_la
 use Rattle.integers.specs.Words.{residue}
 use Rattle.c_types.specs.Cells.{Cell, raw, pointer, mixed, incomplete, cells_at, cells_step, cells_of_shape, all_alike, begins, alike, Relation, pointer_cells}
 use Rattle.c_types.specs.Equality.{cells_of, physically_equal, begins_with, repeated_cell}
+use Rattle.c_types.specs.Flows.{CellsAgree}
 use Rattle.src_mem.specs.Pointers.{Location, Pointer, Null, Number, At, Function, is_null, distance}
 use Rattle.src_mem.specs.Memory.{Object, Memory, size_of_object, holds_pointer_at}
 use Rattle.src_mem.specs.State.{Setting}
 use Rattle.src_mem.specs.Checks.{Condition, NotNull, InBounds, InObject, holds, fits_between}
-use Rattle.src_mem.specs.Facts.{CellsAgree, IsSoundObject, IsSafeAt, IsTypedAt, IsSequenceAt, IsWildAt, IsFunctionOf, IsHeld, LivesAt, HoldType}
+use Rattle.c_types.specs.declared.site.Site.{Site}
+use Rattle.src_mem.specs.Outlines.{Outline, Life, LivesAt, outlines_of, lives_of}
+use Rattle.src_mem.specs.Facts.{IsSoundObject, IsSafeAt, IsTypedAt, IsSequenceAt, IsWildAt, IsFunctionOf, IsHeldIn, HoldType}
+use Rattle.src_mem.proofs.Outlines.{has-outline}
 use Rattle.src_mem.proofs.Spots.{IsRight}
 
 first_true : (a b : Bool) → (a && b) ≡ true → a ≡ true
@@ -39,13 +43,6 @@ pub record MayTouch (kind : Kind) (objects : List Object) (p : Pointer) (m : ℕ
   pub at : ℕ
   pub right : IsRight kind objects location m object at
 
--- an object that is found twice is one object
-same_object : (objects : List Object) (n : ℕ) (o p : Object) → slice_get objects n ≡ Some o → slice_get objects n ≡ Some p → p ≡ o
-same_object objects n o p e f = cc (e, f)
-
-live_object : (objects : List Object) (depth n : ℕ) (o : Object) → slice_get objects n ≡ Some o → LivesAt objects depth n → o.live ≡ true
-live_object objects depth n o found lives = subst (λ (x : Object). x.live ≡ true) (same_object objects n o lives.object found lives.found) lives.live
-
 -- what is in the part and in the object may be touched
 in_part : (kind : Kind) → (kind ≢ Wild) → (objects : List Object) (l : Location) (m : ℕ) (o : Object) (at : ℕ)
     → slice_get objects l.object ≡ Some o → o.live ≡ true → l.offset ≡ pos at → l.part.low ≤ at → at + m ≤ l.part.high → l.part.high ≤ o.size
@@ -54,6 +51,19 @@ in_part Safe n objects l m o at found live offset low high inside = record { fou
 in_part Seq n objects l m o at found live offset low high inside = record { found = found; live = live; offset = offset; low = low; high = grind arith }
 in_part Rtti n objects l m o at found live offset low high inside = record { found = found; live = live; offset = offset; low = low; high = grind arith }
 in_part Wild n objects l m o at found live offset low high inside = absurd (n refl)
+
+in_outline : (kind : Kind) → (kind ≢ Wild) → (memory : Memory) (depth : ℕ) (l : Location) (m : ℕ) (x : Outline) (at : ℕ)
+    → slice_get (outlines_of memory) l.object ≡ Some x → LivesAt (lives_of memory) depth l.object → l.offset ≡ pos at → l.part.low ≤ at → at + m ≤ l.part.high → l.part.high ≤ x.size
+    → MayTouch kind memory.objects (At l) m
+in_outline kind n memory depth l m x at found lives offset low high inside =
+    let o = has-outline memory depth l.object x found lives in
+    let size : o.object.size ≡ x.size = ap (λ (y : Outline). y.size) o.is in record {
+      location = l;
+      pointer = refl;
+      object = o.object;
+      at = at;
+      right = in_part kind n memory.objects l m o.object at o.found o.live offset low high (omega (arith, inside, size));
+    }
 
 pub safe≢wild : Safe ≢ Wild
 safe≢wild e = absurd (cc (e))
@@ -65,26 +75,18 @@ pub rtti≢wild : Rtti ≢ Wild
 rtti≢wild e = absurd (cc (e))
 
 -- a SAFE pointer to a data type that isn't null may touch as many bytes as the type has cells
-pub safe_touches : (w : Setting) (objects : List Object) (depth m : ℕ) (t : TypeId) (p : Pointer)
-    → IsHeld w objects depth Safe t p → is_function w.table t ≡ false → not (is_null p) ≡ true → m ≤ length (cells_of w.table t) → MayTouch Safe objects p m
-safe_touches w objects depth m t Null held data_type not_null room = absurd (cc (not_null))
-safe_touches w objects depth m t (Number n) held data_type not_null room = absurd held.value
-safe_touches w objects depth m t (Function f) held data_type not_null room = absurd (function_is_data held.value)
+pub safe_touches : (w : Setting) (memory : Memory) (depth m : ℕ) (t : TypeId) (p : Pointer)
+    → IsHeldIn w memory depth Safe t p → is_function w.table t ≡ false → not (is_null p) ≡ true → m ≤ length (cells_of w.table t) → MayTouch Safe memory.objects p m
+safe_touches w memory depth m t Null held data_type not_null room = absurd (cc (not_null))
+safe_touches w memory depth m t (Number n) held data_type not_null room = absurd held.value
+safe_touches w memory depth m t (Function f) held data_type not_null room = absurd (function_is_data held.value)
   where
     function_is_data : IsFunctionOf w t f → ⊥
     function_is_data is = absurd (cc (data_type, is.type))
-safe_touches w objects depth m t (At l) held data_type not_null room = of held.value held.reaches
+safe_touches w memory depth m t (At l) held data_type not_null room = of held.value held.reaches
   where
-    of : IsSafeAt w objects t l → LivesAt objects depth l.object → MayTouch Safe objects (At l) m
-    of v lives = record {
-      location = l;
-      pointer = refl;
-      object = v.object;
-      at = v.at;
-      right =
-          in_part Safe safe≢wild objects l m v.object v.at v.located.found (live_object objects depth l.object v.object v.located.found lives)
-          v.stands.offset v.stands.low (let h = v.holds.room in omega (arith, h, room)) v.located.inside;
-    }
+    of : IsSafeAt w (outlines_of memory) t l → LivesAt (lives_of memory) depth l.object → MayTouch Safe memory.objects (At l) m
+    of v lives = in_outline Safe safe≢wild memory depth l m v.object v.at v.located.found lives v.stands.offset v.stands.low (let h = v.holds.room in omega (arith, h, room)) v.located.inside
 
 -- m bytes that fit between two ends begin at a byte
 pub record Fits (low high m : ℕ) (z : ℤ) : Type 0 where
@@ -104,43 +106,35 @@ fits low high m (negsuc n) h = absurd (cc (h))
 
 -- a SEQ pointer with its bounds
 pub sequence_touches : (w : Setting) (memory : Memory) (depth m : ℕ) (t : TypeId) (p : Pointer)
-    → IsHeld w memory.objects depth Seq t p → holds w memory (InBounds m p) ≡ true → MayTouch Seq memory.objects p m
+    → IsHeldIn w memory depth Seq t p → holds w memory (InBounds m p) ≡ true → MayTouch Seq memory.objects p m
 sequence_touches w memory depth m t Null held bounds = absurd (cc (bounds))
 sequence_touches w memory depth m t (Number n) held bounds = absurd (cc (bounds))
 sequence_touches w memory depth m t (Function f) held bounds = absurd (cc (bounds))
 sequence_touches w memory depth m t (At l) held bounds = of held.value held.reaches (fits l.part.low l.part.high m l.offset bounds)
   where
-    of : IsSequenceAt w memory.objects t l → LivesAt memory.objects depth l.object → Fits l.part.low l.part.high m l.offset → MayTouch Seq memory.objects (At l) m
-    of v lives f = record {
-      location = l;
-      pointer = refl;
-      object = v.object;
-      at = f.at;
-      right =
-          in_part Seq seq≢wild memory.objects l m v.object f.at v.located.found (live_object memory.objects depth l.object v.object v.located.found lives)
-          f.offset f.low_end f.high_end v.located.inside;
-    }
+    of : IsSequenceAt w (outlines_of memory) t l → LivesAt (lives_of memory) depth l.object → Fits l.part.low l.part.high m l.offset → MayTouch Seq memory.objects (At l) m
+    of v lives f = in_outline Seq seq≢wild memory depth l m v.object f.at v.located.found lives f.offset f.low_end f.high_end v.located.inside
 
 -- a WILD pointer in its object
 wild_touches : (w : Setting) (memory : Memory) (depth m : ℕ) (t : TypeId) (p : Pointer)
-    → IsHeld w memory.objects depth Wild t p → holds w memory (InObject m p) ≡ true → MayTouch Wild memory.objects p m
+    → IsHeldIn w memory depth Wild t p → holds w memory (InObject m p) ≡ true → MayTouch Wild memory.objects p m
 wild_touches w memory depth m t Null held bounds = absurd (cc (bounds))
 wild_touches w memory depth m t (Number n) held bounds = absurd (cc (bounds))
 wild_touches w memory depth m t (Function f) held bounds = absurd (cc (bounds))
 wild_touches w memory depth m t (At l) held bounds = of held.value held.reaches (fits 0 (size_of_object (slice_get memory.objects l.object)) m l.offset bounds)
   where
-    of : IsWildAt w memory.objects l → LivesAt memory.objects depth l.object → Fits 0 (size_of_object (slice_get memory.objects l.object)) m l.offset → MayTouch Wild memory.objects (At l) m
-    of v lives f = record {
+    of : IsWildAt w (outlines_of memory) l → LivesAt (lives_of memory) depth l.object → Fits 0 (size_of_object (slice_get memory.objects l.object)) m l.offset → MayTouch Wild memory.objects (At l) m
+    of v lives f = let o = has-outline memory depth l.object v.object v.found lives in record {
       location = l;
       pointer = refl;
-      object = v.object;
+      object = o.object;
       at = f.at;
       right = record {
-        found = v.found;
-        live = live_object memory.objects depth l.object v.object v.found lives;
+        found = o.found;
+        live = o.live;
         offset = f.offset;
         low = omega arith;
-        high = subst (λ r. f.at + m ≤ size_of_object r) v.found f.high_end;
+        high = subst (λ r. f.at + m ≤ size_of_object r) o.found f.high_end;
       };
     }
 
@@ -154,23 +148,16 @@ longer table made t h =
     omega (arith, long, l)
 
 -- an RTTI pointer that isn't null
-pub typed_touches : (w : Setting) (objects : List Object) (depth m : ℕ) (t : TypeId) (p : Pointer)
-    → IsHeld w objects depth Rtti t p → not (is_null p) ≡ true → m ≤ length (cells_of w.table t) → MayTouch Rtti objects p m
-typed_touches w objects depth m t Null held not_null room = absurd (cc (not_null))
-typed_touches w objects depth m t (Number n) held not_null room = absurd held.value
-typed_touches w objects depth m t (Function f) held not_null room = absurd held.value
-typed_touches w objects depth m t (At l) held not_null room = of held.value held.reaches
+pub typed_touches : (w : Setting) (memory : Memory) (depth m : ℕ) (t : TypeId) (p : Pointer)
+    → IsHeldIn w memory depth Rtti t p → not (is_null p) ≡ true → m ≤ length (cells_of w.table t) → MayTouch Rtti memory.objects p m
+typed_touches w memory depth m t Null held not_null room = absurd (cc (not_null))
+typed_touches w memory depth m t (Number n) held not_null room = absurd held.value
+typed_touches w memory depth m t (Function f) held not_null room = absurd held.value
+typed_touches w memory depth m t (At l) held not_null room = of held.value held.reaches
   where
-    of : IsTypedAt w objects t l → LivesAt objects depth l.object → MayTouch Rtti objects (At l) m
-    of v lives = record {
-      location = l;
-      pointer = refl;
-      object = v.object;
-      at = v.at;
-      right =
-          in_part Rtti rtti≢wild objects l m v.object v.at v.located.found (live_object objects depth l.object v.object v.located.found lives)
-          v.stands.offset v.stands.low (let h = v.holds.room in let k = longer w.table l.made t v.covers.begins in omega (arith, h, k, room)) v.located.inside;
-    }
+    of : IsTypedAt w (outlines_of memory) t l → LivesAt (lives_of memory) depth l.object → MayTouch Rtti memory.objects (At l) m
+    of v lives = in_outline Rtti rtti≢wild memory depth l m v.object v.at v.located.found lives v.stands.offset v.stands.low
+        (let h = v.holds.room in let k = longer w.table l.made t v.covers.begins in omega (arith, h, k, room)) v.located.inside
 
 -- the first of the conditions of each access, by kind
 abbrev pub bounds_of : Kind → ℕ → Pointer → Condition
@@ -181,10 +168,10 @@ bounds_of Wild m p = InObject m p
 
 -- m bytes through a pointer to a data type of as many cells may be touched, where the first condition holds
 pub touches : (w : Setting) (memory : Memory) (depth m : ℕ) (kind : Kind) (t : TypeId) (p : Pointer)
-    → IsHeld w memory.objects depth kind t p → is_function w.table t ≡ false → m ≤ length (cells_of w.table t)
+    → IsHeldIn w memory depth kind t p → is_function w.table t ≡ false → m ≤ length (cells_of w.table t)
     → holds w memory (bounds_of kind m p) ≡ true → MayTouch kind memory.objects p m
-touches w memory depth m Safe t p held data_type room h = safe_touches w memory.objects depth m t p held data_type h room
-touches w memory depth m Rtti t p held data_type room h = typed_touches w memory.objects depth m t p held h room
+touches w memory depth m Safe t p held data_type room h = safe_touches w memory depth m t p held data_type h room
+touches w memory depth m Rtti t p held data_type room h = typed_touches w memory depth m t p held h room
 touches w memory depth m Seq t p held data_type room h = sequence_touches w memory depth m t p held h
 touches w memory depth m Wild t p held data_type room h = wild_touches w memory depth m t p held h
 
@@ -212,7 +199,7 @@ pub record IsFirst (c : Cell) : Type 0 where
   pub to : TypeId
   pub is : c ≡ pointer node to 0
 
-pub first_of : (w : Setting) (c d : Cell) → CellsAgree w c d → IsFirst d → IsFirst c
+pub first_of : (w : Setting) (c d : Cell) → CellsAgree w.table w.kind c d → IsFirst d → IsFirst c
 first_of w raw raw a f = f
 first_of w raw (pointer m u j) a f = absurd a
 first_of w raw (mixed u j) a f = absurd a
@@ -240,7 +227,7 @@ pub record Begins (cells : List Cell) (at : ℕ) : Type 0 where
 pub holds_first : (w : Setting) (cells : List Cell) (at high : ℕ) (t : TypeId) → HoldType w cells at high t → Begins (cells_of w.table t) 0 → Begins cells at
 holds_first w cells at high t h b = of (h.agree 0 b.cell b.found)
   where
-    of : ((c : Cell) × (slice_get cells (at + 0) ≡ Some c) × CellsAgree w c b.cell) → Begins cells at
+    of : ((c : Cell) × (slice_get cells (at + 0) ≡ Some c) × CellsAgree w.table w.kind c b.cell) → Begins cells at
     of a = record { cell = a.0; found = subst (λ k. slice_get cells k ≡ Some a.0) (omega arith) a.1; first = first_of w a.0 b.cell a.2 b.first }
 
 -- what begins with a type whose first cell is a pointer's
@@ -281,8 +268,8 @@ made_begins table made t h b =
     (second_true (not (is_function table t)) (begins (physically_equal table) (cells_of table made) (cells_of table t)) (second_true (not (is_function table made)) _ h)) b
 
 -- a word where a pointer begins is zero, or a pointer is stored there
-pub begins_holds : (w : Setting) (objects : List Object) (o : Object) (at : ℕ) → IsSoundObject w objects o → w.kind o.node ≢ Wild → Begins o.cells at → holds_pointer_at at o ≡ true
-begins_holds w objects o at sound untagged b =
+pub begins_holds : (w : Setting) (sites : List Site) (outlines : List Outline) (lives : List Life) (o : Object) (at : ℕ) → IsSoundObject w sites outlines lives o → w.kind o.node ≢ Wild → Begins o.cells at → holds_pointer_at at o ≡ true
+begins_holds w sites outlines lives o at sound untagged b =
     by (is_some (o.pointers at)) (sound.zeros untagged at b.first.node b.first.to (subst (λ c. slice_get o.cells at ≡ Some c) b.first.is b.found))
   where
     by : (s : Bool) → number 8 o.bytes at ≡ 0 → (s || (number 8 o.bytes at == 0)) ≡ true
@@ -309,9 +296,9 @@ same_repeated : (cs : List Cell) (i j : ℕ) → length cs ≡ 8 → i % 8 ≡ j
 same_repeated cs i j l e =
     ap (λ k. slice_index_or cs (i % k) raw) l ∙ ap (λ k. slice_index_or cs k raw) e ∙ ap (λ k. slice_index_or cs (j % k) raw) (sym l)
 
-pub sequence_begins : (w : Setting) (objects : List Object) (t : TypeId) (n : NodeId) (u : TypeId) (l : Location) (v : IsSequenceAt w objects t l) (at : ℕ)
+pub sequence_begins : (w : Setting) (outlines : List Outline) (t : TypeId) (n : NodeId) (u : TypeId) (l : Location) (v : IsSequenceAt w outlines t l) (at : ℕ)
     → shape_at w.table t ≡ shape.Pointer n u → l.offset ≡ pos at → l.part.low ≤ at → at + 8 ≤ l.part.high → Begins v.object.cells at
-sequence_begins w objects t n u l v at e offset low high = of ((v.filled complete).agree (at - l.part.low) (omega (arith, low, high)))
+sequence_begins w outlines t n u l v at e offset low high = of ((v.filled complete).agree (at - l.part.low) (omega (arith, low, high)))
   where
     cs : List Cell
     cs = cells_of w.table t
@@ -336,7 +323,7 @@ sequence_begins w objects t n u l v at e offset low high = of ((v.filled complet
     here = subst IsFirst (same_repeated cs (residue (distance l +ℤ pos 0) (size_of w.table t)) (at - l.part.low) long steps)
         (first_of w (repeated_cell cs (residue (distance l +ℤ pos 0) (size_of w.table t))) (repeated_cell cs 0) ((v.shifted complete).agree 0) start)
 
-    of : ((c : Cell) × (slice_get v.object.cells (l.part.low + (at - l.part.low)) ≡ Some c) × CellsAgree w c (repeated_cell cs (at - l.part.low))) → Begins v.object.cells at
+    of : ((c : Cell) × (slice_get v.object.cells (l.part.low + (at - l.part.low)) ≡ Some c) × CellsAgree w.table w.kind c (repeated_cell cs (at - l.part.low))) → Begins v.object.cells at
     of a = record {
       cell = a.0;
       found = subst (λ k. slice_get v.object.cells k ≡ Some a.0) (omega (arith, low)) a.1;

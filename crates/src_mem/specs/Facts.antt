@@ -1,7 +1,8 @@
 -- What is true of the memory and of every pointer at each moment of a run that is not wrong: of a pointer by its kind and by the
--- type that it points to, of an object by whether it carries tags, and of how long objects live. The simulation of cured
--- code keeps these facts.
-use Rattle.std.specs.Prelude.{◌≡◌, ◌≢◌, ℕ, suc, ◌+◌, ◌%◌, ◌^◌, ◌<◌, ◌≤◌, ◌≤ℤ◌, ⊤, ℤ, pos, neg_ℤ, ◌+ℤ◌, true, List, length, slice_get, Some, IsTrue, IsFalse}
+-- type that it points to, of an object by whether it carries tags, and of how long objects live. Each step of a run keeps these
+-- facts, and the simulation of cured code rests on them. What is said of a pointer reads outlines and lives of objects alone, which
+-- a store, a clearing and a copy leave as they are; the end of a call changes lives.
+use Rattle.std.specs.Prelude.{◌≡◌, ◌≢◌, ℕ, ◌+◌, ◌%◌, ◌^◌, ◌<◌, ◌≤◌, ◌≤ℤ◌, ⊤, ℤ, pos, neg_ℤ, ◌+ℤ◌, true, List, [], length, slice_get, Some, IsTrue, IsFalse}
 use Rattle.std.specs.List.{Contains}
 use Rattle.cc_base.specs.declared.number.TypeId.{TypeId}
 use Rattle.cc_base.specs.declared.number.NodeId.{NodeId}
@@ -9,72 +10,63 @@ use Rattle.cc_base.specs.declared.kind.Kind.{Kind}
 use Rattle.cc_base.specs.declared.kind.Kind.TheVariants.{Safe, Seq, Rtti, Wild}
 use Rattle.flat_mem.specs.Bytes.{number, AreBytes}
 use Rattle.integers.specs.Words.{residue}
+use Rattle.c_types.specs.declared.site.Site.{Site}
+use Rattle.c_types.specs.declared.site.Site.TheVariants as site
 use Rattle.c_types.specs.Table.{IsComplete, is_function}
 use Rattle.c_types.specs.Layouts.{size_of}
-use Rattle.c_types.specs.Cells.{Cell, raw, pointer, mixed, incomplete}
+use Rattle.c_types.specs.Cells.{Cell, pointer, IsBetweenPointers}
 use Rattle.c_types.specs.Equality.{cells_of, repeated_cell}
-use Rattle.c_types.specs.Flows.{IsOfOneClass, Covers}
+use Rattle.c_types.specs.Flows.{IsOfOneClass, Covers, CellsAgree}
 use Rattle.src_mem.specs.Pointers.{Location, Pointer, Null, Number, At, Function, distance}
 use Rattle.src_mem.specs.Memory.{Object, Memory}
+use Rattle.src_mem.specs.Outlines.{Outline, Life, outline, outlines_of, lives_of, AreOutlines, LivesAt, AreNoDeeper}
 use Rattle.src_mem.specs.State.{Defined, Setting}
 
 -- Cells
 
--- two cells are alike, and the pointers in them, at every depth, have equal kinds
-abbrev pub CellsAgree : Setting → Cell → Cell → Type 0
-CellsAgree w raw raw = ⊤
-CellsAgree w (pointer n t i) (pointer m u j) = (i ≡ j) × (w.kind n ≡ w.kind m) × IsOfOneClass w.table w.kind t u
-CellsAgree w (mixed u i) (mixed v j) = (u ≡ v) × (i ≡ j)
-CellsAgree w (incomplete t) (incomplete u) = t ≡ u
-CellsAgree w c d = ⊥
-
 -- the cells from `at` on, up to `high`, hold a type: there is room for it, and they agree with its cells one by one
 pub record HoldType (w : Setting) (cells : List Cell) (at high : ℕ) (t : TypeId) : Type 0 where
   pub room : at + length (cells_of w.table t) ≤ high
-  pub agree : (i : ℕ) (d : Cell) → slice_get (cells_of w.table t) i ≡ Some d → (c : Cell) × (slice_get cells (at + i) ≡ Some c) × CellsAgree w c d
+  pub agree : (i : ℕ) (d : Cell) → slice_get (cells_of w.table t) i ≡ Some d → (c : Cell) × (slice_get cells (at + i) ≡ Some c) × CellsAgree w.table w.kind c d
 
 -- the cells from `low` up to `high` begin the endless repetition of a type
 pub record RepeatType (w : Setting) (cells : List Cell) (low high : ℕ) (t : TypeId) : Type 0 where
-  pub agree : (i : ℕ) → low + i < high → (c : Cell) × (slice_get cells (low + i) ≡ Some c) × CellsAgree w c (repeated_cell (cells_of w.table t) i)
+  pub agree : (i : ℕ) → low + i < high → (c : Cell) × (slice_get cells (low + i) ≡ Some c) × CellsAgree w.table w.kind c (repeated_cell (cells_of w.table t) i)
 
 -- the endless repetition of a type is the same when it is shifted by a distance
 pub record IsSameShifted (w : Setting) (t : TypeId) (by : ℤ) : Type 0 where
-  pub agree : (i : ℕ) → CellsAgree w (repeated_cell (cells_of w.table t) (residue (by +ℤ pos i) (size_of w.table t))) (repeated_cell (cells_of w.table t) i)
-
--- no pointer has begun before this byte and ends behind it
-pub record IsBetweenPointers (cells : List Cell) (k : ℕ) : Type 0 where
-  pub whole : (n : NodeId) (t : TypeId) (i : ℕ) → slice_get cells k ≡ Some (pointer n t (suc i)) → ⊥
+  pub agree : (i : ℕ) → CellsAgree w.table w.kind (repeated_cell (cells_of w.table t) (residue (by +ℤ pos i) (size_of w.table t))) (repeated_cell (cells_of w.table t) i)
 
 -- Pointers
 
 -- an object carries tags where its home, or its allocation, is WILD
-abbrev pub IsTagged : Setting → Object → Type 0
+abbrev pub IsTagged : Setting → Outline → Type 0
 IsTagged w o = w.kind o.node ≡ Wild
 
 -- what is true of each pointer to an object, whatever its kind
-pub record IsLocated (objects : List Object) (l : Location) (o : Object) : Type 0 where
-  pub found : slice_get objects l.object ≡ Some o
+pub record IsLocated (outlines : List Outline) (l : Location) (o : Outline) : Type 0 where
+  pub found : slice_get outlines l.object ≡ Some o
   pub ordered : l.part.low ≤ l.part.high
   pub inside : l.part.high ≤ o.size
 
 -- and of each but a WILD one: its object carries no tags, and its part cuts no pointer
-pub record IsTyped (w : Setting) (l : Location) (o : Object) : Type 0 where
+pub record IsTyped (w : Setting) (l : Location) (o : Outline) : Type 0 where
   pub untagged : w.kind o.node ≢ Wild
   pub low : IsBetweenPointers o.cells l.part.low
   pub high : IsBetweenPointers o.cells l.part.high
 
 -- it stands in its part, at `at`, and cuts no pointer
-pub record StandsAt (l : Location) (o : Object) (at : ℕ) : Type 0 where
+pub record StandsAt (l : Location) (o : Outline) (at : ℕ) : Type 0 where
   pub offset : l.offset ≡ pos at
   pub low : l.part.low ≤ at
   pub high : at ≤ l.part.high
   pub whole : IsBetweenPointers o.cells at
 
 -- SAFE, to the data type t: what it points to is there, and it was made for it or for what begins with it
-pub record IsSafeAt (w : Setting) (objects : List Object) (t : TypeId) (l : Location) : Type 0 where
-  pub object : Object
+pub record IsSafeAt (w : Setting) (outlines : List Outline) (t : TypeId) (l : Location) : Type 0 where
+  pub object : Outline
   pub at : ℕ
-  pub located : IsLocated objects l object
+  pub located : IsLocated outlines l object
   pub typed : IsTyped w l object
   pub stands : StandsAt l object at
   pub data_type : IsFalse (is_function w.table t)
@@ -82,10 +74,10 @@ pub record IsSafeAt (w : Setting) (objects : List Object) (t : TypeId) (l : Loca
   pub covers : Covers w.table w.kind l.made t
 
 -- RTTI: what it was made for is there, and covers what it points to
-pub record IsTypedAt (w : Setting) (objects : List Object) (t : TypeId) (l : Location) : Type 0 where
-  pub object : Object
+pub record IsTypedAt (w : Setting) (outlines : List Outline) (t : TypeId) (l : Location) : Type 0 where
+  pub object : Outline
   pub at : ℕ
-  pub located : IsLocated objects l object
+  pub located : IsLocated outlines l object
   pub typed : IsTyped w l object
   pub stands : StandsAt l object at
   pub holds : HoldType w object.cells at l.part.high l.made
@@ -104,23 +96,23 @@ wild_least = neg_ℤ (pos (2 ^ 40))
 abbrev pub wild_most : ℤ
 wild_most = pos (2 ^ 40)
 
--- SEQ: its part is filled by elements of what it points to, and it stands at one of them, if it moves on in these steps. To an
--- incomplete type it stands where its part begins, of which nothing is said.
-pub record IsSequenceAt (w : Setting) (objects : List Object) (t : TypeId) (l : Location) : Type 0 where
-  pub object : Object
-  pub located : IsLocated objects l object
+-- SEQ: its part is filled by elements of what it points to, and it stands at one of them, if it moves on in these steps. What has
+-- no size is `void`, to which it stands where its part begins; of that part nothing is said.
+pub record IsSequenceAt (w : Setting) (outlines : List Outline) (t : TypeId) (l : Location) : Type 0 where
+  pub object : Outline
+  pub located : IsLocated outlines l object
   pub typed : IsTyped w l object
   pub made : IsOfOneClass w.table w.kind l.made t
   pub least : sequence_least ≤ℤ distance l
   pub most : distance l ≤ℤ sequence_most
   pub filled : IsComplete w.table t → RepeatType w object.cells l.part.low l.part.high t
   pub shifted : IsComplete w.table t → IsSameShifted w t (distance l)
-  pub unmoved : (IsComplete w.table t → ⊥) → distance l ≡ pos 0
+  pub unmoved : (IsComplete w.table t → ⊥) → (cells_of w.table t ≡ []) × (distance l ≡ pos 0)
 
 -- WILD: its object carries tags, and its part is the whole object
-pub record IsWildAt (w : Setting) (objects : List Object) (l : Location) : Type 0 where
-  pub object : Object
-  pub found : slice_get objects l.object ≡ Some object
+pub record IsWildAt (w : Setting) (outlines : List Outline) (l : Location) : Type 0 where
+  pub object : Outline
+  pub found : slice_get outlines l.object ≡ Some object
   pub tagged : IsTagged w object
   pub low : l.part.low ≡ 0
   pub high : l.part.high ≡ object.size
@@ -134,78 +126,116 @@ pub record IsFunctionOf (w : Setting) (t : TypeId) (f : ℕ) : Type 0 where
   pub type : IsTrue (is_function w.table t)
   pub class : IsOfOneClass w.table w.kind function.type t
 
+-- what a pointer is that was made from an integer: one word, which isn't 0
+abbrev pub IsWord : ℕ → Type 0
+IsWord n = (n ≢ 0) × (n < 2 ^ 64)
+
 -- the value is one of a pointer of this kind to t
-abbrev pub IsValueOf : Setting → List Object → Kind → TypeId → Pointer → Type 0
-IsValueOf w objects kind t Null = ⊤
-IsValueOf w objects Safe t (Number n) = ⊥
-IsValueOf w objects Rtti t (Number n) = ⊥
-IsValueOf w objects Seq t (Number n) = n ≢ 0
-IsValueOf w objects Wild t (Number n) = n ≢ 0
-IsValueOf w objects Safe t (At l) = IsSafeAt w objects t l
-IsValueOf w objects Rtti t (At l) = IsTypedAt w objects t l
-IsValueOf w objects Seq t (At l) = IsSequenceAt w objects t l
-IsValueOf w objects Wild t (At l) = IsWildAt w objects l
-IsValueOf w objects Safe t (Function f) = IsFunctionOf w t f
-IsValueOf w objects Rtti t (Function f) = ⊥
-IsValueOf w objects Seq t (Function f) = ⊥
-IsValueOf w objects Wild t (Function f) = (d : Defined) × (slice_get w.functions f ≡ Some d)
+abbrev pub IsValueOf : Setting → List Outline → Kind → TypeId → Pointer → Type 0
+IsValueOf w outlines kind t Null = ⊤
+IsValueOf w outlines Safe t (Number n) = ⊥
+IsValueOf w outlines Rtti t (Number n) = ⊥
+IsValueOf w outlines Seq t (Number n) = IsWord n
+IsValueOf w outlines Wild t (Number n) = IsWord n
+IsValueOf w outlines Safe t (At l) = IsSafeAt w outlines t l
+IsValueOf w outlines Rtti t (At l) = IsTypedAt w outlines t l
+IsValueOf w outlines Seq t (At l) = IsSequenceAt w outlines t l
+IsValueOf w outlines Wild t (At l) = IsWildAt w outlines l
+IsValueOf w outlines Safe t (Function f) = IsFunctionOf w t f
+IsValueOf w outlines Rtti t (Function f) = ⊥
+IsValueOf w outlines Seq t (Function f) = ⊥
+IsValueOf w outlines Wild t (Function f) = (d : Defined) × (slice_get w.functions f ≡ Some d)
 
 -- the type at which a pointer to an object was made is what some pointer of the program points to
-abbrev pub IsMadeFrom : List TypeId → Pointer → Type 0
-IsMadeFrom pointees (At l) = Contains pointees l.made
-IsMadeFrom pointees p = ⊤
+abbrev pub IsMade : List Site → Pointer → Type 0
+IsMade sites (At l) = (node : NodeId) × Contains sites (site.Pointee node l.made)
+IsMade sites p = ⊤
 
--- Lifetimes
-
--- an object lives, and was made no deeper than this
-pub record LivesAt (objects : List Object) (depth number : ℕ) : Type 0 where
-  pub object : Object
-  pub found : slice_get objects number ≡ Some object
-  pub live : object.live ≡ true
-  pub older : object.depth ≤ depth
+-- Temporaries
 
 -- the object of a pointer lives, and was made no deeper than this
-abbrev pub Reaches : List Object → ℕ → Pointer → Type 0
-Reaches objects depth (At l) = LivesAt objects depth l.object
-Reaches objects depth p = ⊤
+abbrev pub Reaches : List Life → ℕ → Pointer → Type 0
+Reaches lives depth (At l) = LivesAt lives depth l.object
+Reaches lives depth p = ⊤
 
 -- a pointer of this kind to t that a call of this depth may hold in a temporary; 0 is the depth of the static initialisers
-pub record IsHeld (w : Setting) (objects : List Object) (depth : ℕ) (kind : Kind) (t : TypeId) (p : Pointer) : Type 0 where
-  pub value : IsValueOf w objects kind t p
-  pub reaches : Reaches objects depth p
+pub record IsHeld (w : Setting) (outlines : List Outline) (lives : List Life) (depth : ℕ) (kind : Kind) (t : TypeId) (p : Pointer) : Type 0 where
+  pub value : IsValueOf w outlines kind t p
+  pub reaches : Reaches lives depth p
+
+-- the same in a memory
+abbrev pub IsHeldIn : Setting → Memory → ℕ → Kind → TypeId → Pointer → Type 0
+IsHeldIn w memory depth kind t p = IsHeld w (outlines_of memory) (lives_of memory) depth kind t p
+
+-- A pointer that a temporary of this node, to t, holds. Where a pointer type of the program has the node, it was made for what a
+-- pointer of the program points to; the home of a variable that has another type is a node of its own.
+pub record IsHeldBy (w : Setting) (sites : List Site) (memory : Memory) (depth : ℕ) (node : NodeId) (t : TypeId) (p : Pointer) : Type 0 where
+  pub held : IsHeldIn w memory depth (w.kind node) t p
+  pub made : Contains sites (site.Pointee node t) → IsMade sites p
+
+-- Places
+
+-- something that holds t stands where the pointer stands, within its part
+pub record IsTypedPlace (w : Setting) (outlines : List Outline) (t : TypeId) (l : Location) : Type 0 where
+  pub object : Outline
+  pub at : ℕ
+  pub located : IsLocated outlines l object
+  pub typed : IsTyped w l object
+  pub stands : StandsAt l object at
+  pub holds : HoldType w object.cells at l.part.high t
+
+abbrev pub IsPlaceAt : Setting → List Outline → Kind → TypeId → Location → Type 0
+IsPlaceAt w outlines Safe t l = IsTypedPlace w outlines t l
+IsPlaceAt w outlines Rtti t l = IsTypedPlace w outlines t l
+IsPlaceAt w outlines Seq t l = IsTypedPlace w outlines t l
+IsPlaceAt w outlines Wild t l = IsWildAt w outlines l
+
+-- A place of type t, through a pointer of this kind, for a call of this depth: a living object that holds t where the pointer stands,
+-- or one with tags, where the pointer may stand outside. It is what a held pointer is once NULL, BOUNDS or WBOUNDS held.
+pub record IsPlace (w : Setting) (outlines : List Outline) (lives : List Life) (depth : ℕ) (kind : Kind) (t : TypeId) (p : Pointer) : Type 0 where
+  pub location : Location
+  pub is : p ≡ At location
+  pub place : IsPlaceAt w outlines kind t location
+  pub reaches : LivesAt lives depth location.object
+
+abbrev pub IsPlaceIn : Setting → Memory → ℕ → Kind → TypeId → Pointer → Type 0
+IsPlaceIn w memory depth kind t p = IsPlace w (outlines_of memory) (lives_of memory) depth kind t p
 
 -- Objects
 
 -- a pointer is stored in an object without tags only where a pointer of its type begins, and as one of that kind and type
-pub record IsStoredTyped (w : Setting) (objects : List Object) (o : Object) (k : ℕ) (p : Pointer) : Type 0 where
+pub record IsStoredTyped (w : Setting) (outlines : List Outline) (o : Outline) (k : ℕ) (p : Pointer) : Type 0 where
   pub node : NodeId
   pub to : TypeId
   pub begins : slice_get o.cells k ≡ Some (pointer node to 0)
-  pub value : IsValueOf w objects (w.kind node) to p
+  pub value : IsValueOf w outlines (w.kind node) to p
 
 -- and in one with tags only at a multiple of 8, whole, and as a WILD pointer
-pub record IsStoredTagged (w : Setting) (objects : List Object) (o : Object) (k : ℕ) (p : Pointer) : Type 0 where
+pub record IsStoredTagged (w : Setting) (outlines : List Outline) (o : Outline) (k : ℕ) (p : Pointer) : Type 0 where
   pub aligned : k % 8 ≡ 0
   pub inside : k + 8 ≤ o.size
-  pub value : (t : TypeId) → IsValueOf w objects Wild t p
+  pub value : (t : TypeId) → IsValueOf w outlines Wild t p
 
 -- a living object
-pub record IsSoundObject (w : Setting) (objects : List Object) (o : Object) : Type 0 where
+pub record IsSoundObject (w : Setting) (sites : List Site) (outlines : List Outline) (lives : List Life) (o : Object) : Type 0 where
   pub sized : length o.bytes ≡ o.size
   pub bytes : AreBytes o.bytes
-  pub typed : w.kind o.node ≢ Wild → (k : ℕ) (p : Pointer) → o.pointers k ≡ Some p → IsStoredTyped w objects o k p
-  pub tagged : IsTagged w o → (k : ℕ) (p : Pointer) → o.pointers k ≡ Some p → IsStoredTagged w objects o k p
+  pub typed : w.kind o.node ≢ Wild → (k : ℕ) (p : Pointer) → o.pointers k ≡ Some p → IsStoredTyped w outlines (outline o) k p
+  pub tagged : w.kind o.node ≡ Wild → (k : ℕ) (p : Pointer) → o.pointers k ≡ Some p → IsStoredTagged w outlines (outline o) k p
   -- the bytes under a stored pointer, and all those that are of pointers by the object's type, are zero
   pub under : (k : ℕ) (p : Pointer) → o.pointers k ≡ Some p → number 8 o.bytes k ≡ 0
   pub zeros : w.kind o.node ≢ Wild → (k : ℕ) (n : NodeId) (t : TypeId) → slice_get o.cells k ≡ Some (pointer n t 0) → number 8 o.bytes k ≡ 0
-  -- what is stored in it lives as long as it does
-  pub reaches : (k : ℕ) (p : Pointer) → o.pointers k ≡ Some p → Reaches objects o.depth p
+  -- what is stored in it lives as long as it does, and was made for what a pointer of the program points to
+  pub reaches : (k : ℕ) (p : Pointer) → o.pointers k ≡ Some p → Reaches lives o.depth p
+  pub made : (k : ℕ) (p : Pointer) → o.pointers k ≡ Some p → IsMade sites p
 
--- the facts of the whole memory
-pub record IsSoundMemory (w : Setting) (memory : Memory) : Type 0 where
-  pub each : (number : ℕ) (o : Object) → slice_get memory.objects number ≡ Some o → o.live ≡ true → IsSoundObject w memory.objects o
-
--- the facts on the types at which the stored pointers were made
-pub record IsMadeFromProgram (pointees : List TypeId) (memory : Memory) : Type 0 where
+-- the facts of the living objects
+pub record IsSoundMemory (w : Setting) (sites : List Site) (memory : Memory) : Type 0 where
   pub each : (number : ℕ) (o : Object) → slice_get memory.objects number ≡ Some o → o.live ≡ true
-      → (k : ℕ) (p : Pointer) → o.pointers k ≡ Some p → IsMadeFrom pointees p
+      → IsSoundObject w sites (outlines_of memory) (lives_of memory) o
+
+-- The facts of all memory while a call of this depth runs: of its living objects, of the cells of all, and of how deep they live.
+pub record IsSoundAt (w : Setting) (sites : List Site) (memory : Memory) (depth : ℕ) : Type 0 where
+  pub objects : IsSoundMemory w sites memory
+  pub outlines : AreOutlines w (outlines_of memory)
+  pub lives : AreNoDeeper (lives_of memory) depth

@@ -1,5 +1,5 @@
 -- The words of the laws on memory.
-use Rattle.std.specs.Prelude.{◌≤◌, ℤ, ◌≡◌, ℕ, List, [], ◌∷◌, length, slice_get, Some, ⊤}
+use Rattle.std.specs.Prelude.{◌+◌, ◌≤◌, ℤ, ◌≡◌, ℕ, List, [], ◌∷◌, length, slice_get, Some, ⊤}
 use Rattle.cc_base.specs.declared.kind.Kind.{Kind}
 use Rattle.cc_base.specs.declared.number.TypeId.{TypeId}
 use Rattle.cc_base.specs.declared.number.NodeId.{NodeId}
@@ -12,9 +12,9 @@ use Rattle.integers.specs.Arithmetic.{IntegerType, Operator}
 use Rattle.runs.specs.Outcome.{Outcome, Ended, Done}
 use Rattle.src_mem.specs.Pointers.{Pointer, Value, Integer, Address}
 use Rattle.src_mem.specs.Memory.{Object, Planned}
-use Rattle.src_mem.specs.State.{Ending, Wrong, State, Act, Setting, bytes_of, touched, turn}
+use Rattle.src_mem.specs.State.{Ending, Wrong, State, Act, Setting, Access, bytes_of, turn}
 use Rattle.runs.specs.Input.{Input}
-use Rattle.src_mem.specs.Primitives.{store_integer, store_pointer, clear, copy, allocate, enter, leave, get, put}
+use Rattle.src_mem.specs.Primitives.{load_integer, load_pointer, store_integer, store_pointer, clear, copy, allocate, enter, leave, get, put}
 
 -- the state in which an outcome leaves a run
 abbrev pub left_by : {A : Type 0} → Outcome Ending State A → State
@@ -67,10 +67,11 @@ IsOrder operator = ⊥
 pub record Keeps {A : Type 0} (P : State → Type 0) (m : Act A) : Type 0 where
   pub by : (s : State) → P s → P (left_by (m s))
 
--- What is true of the state stays so by every operation that changes it: an access noted, a store, a clearing, a copy, a block, the
--- entry and the end of a call, a byte read, a byte written, a turn.
+-- What is true of the state stays so by every operation that changes it: a load, a store, a clearing, a copy, a block, the entry and
+-- the end of a call, a byte read, a byte written, a turn.
 pub record IsInvariant (P : State → Type 0) : Type 0 where
-  pub accessed : (number offset size : ℕ) (s : State) → P s → P (touched number offset size s)
+  pub integer_loaded : (kind : Kind) (t : IntegerType) (p : Pointer) → Keeps P (load_integer kind t p)
+  pub pointer_loaded : (kind : Kind) (p : Pointer) → Keeps P (load_pointer kind p)
   pub integer_stored : (kind : Kind) (t : IntegerType) (p : Pointer) (z : ℤ) → Keeps P (store_integer kind t p z)
   pub pointer_stored : (kind : Kind) (p q : Pointer) → Keeps P (store_pointer kind p q)
   pub cleared : (number : ℕ) → Keeps P (clear number)
@@ -86,6 +87,16 @@ pub record IsInvariant (P : State → Type 0) : Type 0 where
 pub record ReadsWhatIsThere (input : Input) (s : State) : Type 0 where
   pub same : s.input ≡ input
   pub most : s.read ≤ length (bytes_of input)
+
+-- an access lies in an object that is there
+pub record LiesIn (objects : List Object) (a : Access) : Type 0 where
+  pub object : Object
+  pub found : slice_get objects a.object ≡ Some object
+  pub inside : a.offset + a.size ≤ object.size
+
+-- each access that was noted lies in an object that is there
+pub record AccessesLie (s : State) : Type 0 where
+  pub each : (i : ℕ) (a : Access) → slice_get s.accesses i ≡ Some a → LiesIn s.memory.objects a
 
 -- these arguments are values of the variables that they are stored in, one each and in order
 abbrev pub AreArguments : Table → List Planned → List Value → Type 0

@@ -4,9 +4,14 @@ pub mod State
 pub mod Checks
 pub mod Primitives
 pub mod Uses
+pub mod Outlines
 pub mod Facts
 pub mod Laws
 pub mod Runtime
 pub mod Operations
 pub mod Runs
+pub mod Rows
+pub mod Small
 pub mod Values
+pub mod ValueLaws
+pub mod RunLaws

@@ -3,7 +3,9 @@
 //! Each law is the contract of a function that does nothing, so that it is proved once and can be cited.
 #![tactic(auto)]
 
-ghost use Rattle.std.specs.Prelude.{◌≡◌, ◌≢◌, ◌⊎◌, ◌↔◌, ℕ, ◌≤◌, ℤ, pos, Bool, List, ◌∷◌, [], ◌++◌, length, slice_get, Some, IsTrue, IsFalse};
+pub mod table;
+
+ghost use Rattle.std.specs.Prelude.{◌≡◌, ◌≢◌, ◌⊎◌, ◌↔◌, ℕ, ◌+◌, ◌≤◌, ℤ, pos, Bool, List, ◌∷◌, [], ◌++◌, length, slice_get, Some, IsTrue, IsFalse};
 ghost use Rattle.std.specs.Cmp.{IsEquivalence};
 ghost use Rattle.cc_base.specs.declared.place.Place.{Place};
 ghost use Rattle.cc_base.specs.declared.kind.Kind.{Kind};
@@ -13,18 +15,20 @@ ghost use Rattle.cc_base.specs.declared.number.NodeId.{NodeId};
 ghost use Rattle.flat_mem.specs.Bytes.{IsAccessSize};
 ghost use Rattle.integers.specs.Words.{residue};
 ghost use Rattle.integers.specs.Arithmetic.{IntegerType, Operator, converted};
+ghost use Rattle.c_types.specs.declared.site.Site.{Site};
 ghost use Rattle.c_types.specs.Table.{IsComplete, shape_at, is_function};
 ghost use Rattle.c_types.specs.Sound.{IsWellFormed};
 ghost use Rattle.runs.specs.Outcome.{Done, from};
-ghost use Rattle.src_mem.specs.Pointers.{Pointer, Value, same_pointer};
+ghost use Rattle.src_mem.specs.Pointers.{Pointer, Location, At, Value, same_pointer};
 ghost use Rattle.src_mem.specs.Memory.{Object, Planned};
 ghost use Rattle.src_mem.specs.State.{State, Act, Setting, bytes_of, turn};
-ghost use Rattle.src_mem.specs.Primitives.{load_integer, load_pointer, store_integer, store_pointer, clear, copy, allocate, allocate_elements, enter, leave, called, get, put, exit};
+ghost use Rattle.src_mem.specs.Primitives.{Spot, spot, load_integer, load_pointer, store_integer, store_pointer, clear, copy, allocate, allocate_elements, enter, leave, called, get, put, exit};
 ghost use Rattle.src_mem.specs.Checks.{Used, HasBase, Call, conditions_of, holds, all_checked};
 ghost use Rattle.src_mem.specs.Uses.{read, write, copy_all, enter_with};
 ghost use Rattle.src_mem.specs.Operations.{calculate, allocated_for, decayed, kind_in, moved, subtracted, equated, compared, converted_pointer, member};
-ghost use Rattle.src_mem.specs.Facts.{IsSoundMemory, IsHeld};
-ghost use Rattle.src_mem.specs.Laws.{AreWhole, KeepsWhole, GivesNext, IsNotWrong, IsScalar, IsScalarValue, IsOrder, AreArguments, left_by};
+ghost use Rattle.src_mem.specs.ValueLaws.{AddressesAreNotWrong};
+ghost use Rattle.src_mem.specs.Facts.{IsSoundMemory, IsHeldIn};
+ghost use Rattle.src_mem.specs.Laws.{AreWhole, KeepsWhole, GivesNext, IsInvariant, AccessesLie, IsNotWrong, IsScalar, IsScalarValue, IsOrder, AreArguments, left_by};
 
 /// Equality of pointers (C99 6.5.9) is an equivalence.
 pub fn pointer_equality_is_an_equivalence()
@@ -49,6 +53,16 @@ pub fn bytes_under_pointers_stay_zero()
     ensures leaving { (w : Setting) (depth : ℕ) (variables : List Planned) → KeepsWhole (leave w depth variables) }
 {}
 
+/// Each access that a run notes lies in an object that is there: every operation leaves it so.
+pub fn accesses_lie_in_objects()
+    ensures { IsInvariant AccessesLie }
+{}
+
+/// An access through a pointer that isn't WILD lies in the pointer's part, and its object has not ended.
+pub fn accesses_lie_in_parts()
+    ensures { (kind : Kind) (objects : List Object) (l : Location) (size : ℕ) (x : Spot) → kind ≢ Wild → spot kind objects (At l) size ≡ Some x → (l.part.low ≤ x.at) × (x.at + size ≤ l.part.high) × IsTrue x.object.live }
+{}
+
 /// `putchar` appends the low byte of its argument to the output, and changes nothing else.
 pub fn put_appends_one_byte()
     ensures { (z : ℤ) (s : State) → put z s ≡ Done (pos (residue z 256)) (record s { output = s.output ++ residue z 256 ∷ [] }) }
@@ -62,8 +76,8 @@ pub fn get_reads_what_is_there()
 /// A read or a write of a scalar, with its conditions before it, is wrong nowhere: through a pointer of its kind to the type,
 /// in a memory that meets the facts of a run. It gives a value, or a check stops it.
 pub fn reads_and_writes_are_not_wrong()
-    ensures reading { (w : Setting) (place : Place) (depth : ℕ) (kind : Kind) (t : TypeId) (p : Pointer) (s : State) → IsSoundMemory w s.memory → IsScalar (shape_at w.table t) → IsHeld w s.memory.objects depth kind t p → IsNotWrong (read w place kind t p s) }
-    ensures writing { (w : Setting) (own assignment : Place) (depth : ℕ) (kind : Kind) (t : TypeId) (p : Pointer) (v : Value) (s : State) → IsScalarValue (shape_at w.table t) v → IsHeld w s.memory.objects depth kind t p → IsNotWrong (write w own assignment kind t p v s) }
+    ensures reading { (w : Setting) (sites : List Site) (place : Place) (depth : ℕ) (kind : Kind) (t : TypeId) (p : Pointer) (s : State) → IsSoundMemory w sites s.memory → IsScalar (shape_at w.table t) → IsHeldIn w s.memory depth kind t p → IsNotWrong (read w place kind t p s) }
+    ensures writing { (w : Setting) (own assignment : Place) (depth : ℕ) (kind : Kind) (t : TypeId) (p : Pointer) (v : Value) (s : State) → IsScalarValue (shape_at w.table t) v → IsHeldIn w s.memory depth kind t p → IsNotWrong (write w own assignment kind t p v s) }
 {}
 
 /// An operation on pointers, with its conditions before it, is wrong nowhere, where the kinds are those that it asks for: SEQ or WILD
@@ -75,15 +89,20 @@ pub fn pointer_operations_are_not_wrong()
     ensures order { (w : Setting) (at : Place) (operator : Operator) (p q : Used) (s : State) → IsOrder operator → (p.kind ≡ Seq) ⊎ (p.kind ≡ Wild) → IsNotWrong (compared w at operator p q s) }
     ensures equality { (w : Setting) (at : Place) (p q : Used) (s : State) → IsNotWrong (equated w at p q s) }
     ensures conversion { (w : Setting) (at : Place) (t u : TypeId) (p : Pointer) (s : State) → IsNotWrong (converted_pointer w at t u p s) }
-    ensures members { (w : Setting) (at : Place) (depth : ℕ) (kind : Kind) (t : TypeId) (i : ℕ) (node : NodeId) (u : TypeId) (p : Pointer) (s : State) → ((kind ≡ Wild) ↔ (w.kind node ≡ Wild)) → IsFalse (is_function w.table t) → IsHeld w s.memory.objects depth kind t p → IsNotWrong (member w at kind t i node u p s) }
-    ensures calls { (w : Setting) (at : Place) (depth deeper : ℕ) (kind : Kind) (t : TypeId) (p : Pointer) (next : ℕ → Act Value) (s : State) → (kind ≡ Safe) ⊎ (kind ≡ Wild) → IsTrue (is_function w.table t) → IsHeld w s.memory.objects depth kind t p → ((f : ℕ) → IsNotWrong (next f s)) → IsNotWrong (from (all_checked w at (conditions_of (Call t deeper) kind p) s) (λ a. called p next)) }
+    ensures members { (w : Setting) (at : Place) (depth : ℕ) (kind : Kind) (t : TypeId) (i : ℕ) (node : NodeId) (u : TypeId) (p : Pointer) (s : State) → ((kind ≡ Wild) ↔ (w.kind node ≡ Wild)) → IsFalse (is_function w.table t) → IsHeldIn w s.memory depth kind t p → IsNotWrong (member w at kind t i node u p s) }
+    ensures calls { (w : Setting) (at : Place) (depth deeper : ℕ) (kind : Kind) (t : TypeId) (p : Pointer) (next : ℕ → Act Value) (s : State) → (kind ≡ Safe) ⊎ (kind ≡ Wild) → IsTrue (is_function w.table t) → IsHeldIn w s.memory depth kind t p → ((f : ℕ) → IsNotWrong (next f s)) → IsNotWrong (from (all_checked w at (conditions_of (Call t deeper) kind p) s) (λ a. called p next)) }
 {}
 
 /// The decay of an array, and the copy of a struct or union, with their conditions before them, are wrong nowhere. An array that no
 /// condition is tried for is a variable's or a member's, which is at an object.
 pub fn decays_and_copies_are_not_wrong()
-    ensures decay { (w : Setting) (at : Place) (depth : ℕ) (kind : Kind) (array : TypeId) (check : Bool) (node : NodeId) (element : TypeId) (p : Pointer) (s : State) → ((kind ≡ Wild) ↔ (w.kind node ≡ Wild)) → IsFalse (is_function w.table array) → IsHeld w s.memory.objects depth kind array p → IsTrue check ⊎ ((kind ≢ Seq) × IsTrue (holds w s.memory (HasBase p))) → IsNotWrong (decayed w at kind array check node element p s) }
-    ensures copying { (w : Setting) (depth : ℕ) (t : TypeId) (source_place : Place) (from_kind : Kind) (source : Pointer) (target_place : Place) (to_kind : Kind) (target : Pointer) (place : Place) (s : State) → IsWellFormed w.table → IsComplete w.table t → IsSoundMemory w s.memory → IsHeld w s.memory.objects depth from_kind t source → IsHeld w s.memory.objects depth to_kind t target → IsNotWrong (copy_all w t source_place from_kind source target_place to_kind target place s) }
+    ensures decay { (w : Setting) (at : Place) (depth : ℕ) (kind : Kind) (array : TypeId) (check : Bool) (node : NodeId) (element : TypeId) (p : Pointer) (s : State) → ((kind ≡ Wild) ↔ (w.kind node ≡ Wild)) → IsFalse (is_function w.table array) → IsHeldIn w s.memory depth kind array p → IsTrue check ⊎ ((kind ≢ Seq) × IsTrue (holds w s.memory (HasBase p))) → IsNotWrong (decayed w at kind array check node element p s) }
+    ensures copying { (w : Setting) (sites : List Site) (depth : ℕ) (t : TypeId) (source_place : Place) (from_kind : Kind) (source : Pointer) (target_place : Place) (to_kind : Kind) (target : Pointer) (place : Place) (s : State) → IsWellFormed w.table → IsComplete w.table t → IsSoundMemory w sites s.memory → IsHeldIn w s.memory depth from_kind t source → IsHeldIn w s.memory depth to_kind t target → IsNotWrong (copy_all w t source_place from_kind source target_place to_kind target place s) }
+{}
+
+/// `&` of a place is wrong nowhere, where the address that it makes is WILD exactly where the place's own is.
+pub fn addresses_are_not_wrong()
+    ensures { AddressesAreNotWrong }
 {}
 
 /// The clearing of an object that has not ended is wrong nowhere, and neither is the allocation of a block, with or without

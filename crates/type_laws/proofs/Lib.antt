@@ -5,3 +5,7 @@ pub mod Pointers
 pub mod Sizes
 pub mod Standing
 pub mod Coverage
+pub mod Widths
+pub mod Stairs
+pub mod OneClass
+pub mod SameTypes

@@ -121,7 +121,7 @@ module _ (E F : Relation) (sub : (t u : TypeId) → E t u ≡ true → F t u ≡
   keeps_slot nothing nothing h = refl
   keeps_slot (integer a s) (integer b r) h = h
   keeps_slot (pointer_to t) (pointer_to u) h = sub t u h
-  keeps_slot (other t) (other u) h = h
+  keeps_slot (other t) (other u) h = sub t u h
   keeps_slot x y h = absurd (true≢false (sym h))
 
   keeps_slots : (xs ys : List Slot) → pointwise (same_slot E) xs ys ≡ true → pointwise (same_slot F) xs ys ≡ true

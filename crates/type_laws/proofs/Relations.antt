@@ -85,13 +85,13 @@ module _ {E : Relation} (q : IsEquivalence E) where
   slot_refl nothing = refl
   slot_refl (integer a s) = λ j. nat_eq_equiv.refl a j && bool_refl s j
   slot_refl (pointer_to t) = q.refl t
-  slot_refl (other t) = same_type_equiv.refl t
+  slot_refl (other t) = q.refl t
 
   slot_symm : (x y : Slot) → same_slot E x y ≡ same_slot E y x
   slot_symm nothing nothing = refl
   slot_symm (integer a s) (integer b r) = λ k. nat_eq_equiv.symm a b k && bool_symm s r k
   slot_symm (pointer_to t) (pointer_to u) = q.symm t u
-  slot_symm (other t) (other u) = same_type_equiv.symm t u
+  slot_symm (other t) (other u) = q.symm t u
   slot_symm nothing (integer b r) = refl
   slot_symm nothing (pointer_to u) = refl
   slot_symm nothing (other u) = refl
@@ -116,7 +116,7 @@ module _ {E : Relation} (q : IsEquivalence E) where
   slot_congr (pointer_to t) (pointer_to u) nothing h = refl
   slot_congr (pointer_to t) (pointer_to u) (integer c p) h = refl
   slot_congr (pointer_to t) (pointer_to u) (other v) h = refl
-  slot_congr (other t) (other u) (other v) h = same_type_equiv.congr t u v h
+  slot_congr (other t) (other u) (other v) h = q.congr t u v h
   slot_congr (other t) (other u) nothing h = refl
   slot_congr (other t) (other u) (integer c p) h = refl
   slot_congr (other t) (other u) (pointer_to v) h = refl

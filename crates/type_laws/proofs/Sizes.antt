@@ -1,22 +1,18 @@
-use Rattle.std.proofs.Common.{◌≡◌, ℕ, ◌+◌, Bool, true, false, ◌&&◌, if◌then◌else◌, List, [], ◌++◌, length, nat_lt, refl, ap, sym, ◌∙◌, true≢false}
-use Rattle.std.proofs.lemmas.List.Sums.{sum_by-append}
+use Rattle.std.proofs.Common.{◌≡◌, ℕ, Bool, true, false, ◌&&◌, if◌then◌else◌, List, [], length, nat_lt, refl, ap, sym, ◌∙◌, true≢false}
 use lib.Pointwise.{pointwise_long}
 use Rattle.cc_base.specs.declared.number.TypeId.{TypeId}
-use Rattle.cc_base.specs.declared.number.NodeId.{NodeId}
-use Rattle.cc_base.specs.declared.kind.Kind.{Kind}
 use Rattle.c_types.specs.declared.shape.TypeShape.{TypeShape}
 use Rattle.c_types.specs.declared.shape.TypeShape.TheVariants.{Function}
 use Rattle.c_types.specs.Table.{Table, shape_at, members_at, IsComplete}
 use Rattle.c_types.specs.Layouts.{size_of}
-use Rattle.c_types.specs.Cells.{Cell, same_type, alike, cells_of_shape, cells_at}
+use Rattle.c_types.specs.Cells.{same_type, alike, cells_of_shape, cells_at}
 use Rattle.c_types.specs.Equality.{makeup_of, same_makeup, made_alike, physically_equal, cells_of}
-use Rattle.c_types.specs.Widths.{cell_width, width_of}
 use Rattle.c_types.specs.Sound.{IsWellFormed}
 use Rattle.c_types.proofs.Cells.{cells_are, length_cells}
 use Rattle.type_laws.proofs.Relations.{same_id}
 use Rattle.type_laws.proofs.Levels.{still}
 
--- Equal types have equally many cells, so equal sizes; widths add up.
+-- Equal types have equally many cells, so equal sizes.
 
 module _ (table : Table) (w : IsWellFormed table) where
   -- a function has no cells
@@ -49,6 +45,3 @@ module _ (table : Table) (w : IsWellFormed table) where
   pub equal_sizes : (t u : TypeId) → IsComplete table t → IsComplete table u → physically_equal table t u ≡ true → size_of table t ≡ size_of table u
   equal_sizes t u c d h =
       sym (length_cells table w (physically_equal table) t c) ∙ equal_counts t u h ∙ length_cells table w (physically_equal table) u d
-
-pub width_adds : (kind : NodeId → Kind) (xs ys : List Cell) → width_of kind (xs ++ ys) ≡ width_of kind xs + width_of kind ys
-width_adds kind xs ys = sum_by-append (cell_width kind) xs ys

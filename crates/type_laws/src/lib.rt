@@ -3,21 +3,22 @@
 //! nothing, so that it is proved once and can be cited.
 #![tactic(auto)]
 
-ghost use Rattle.std.specs.Prelude.{◌≡◌, ◌↔◌, ℕ, suc, ◌+◌, ◌*◌, ◌≤◌, List, ◌++◌, length, map, replicate, IsTrue, IsFalse};
-ghost use Rattle.std.specs.List.{range_with_len};
+ghost use Rattle.std.specs.Prelude.{◌≡◌, ◌↔◌, ℕ, suc, ◌+◌, ◌*◌, ◌≤◌, List, ◌++◌, length, map, take, replicate, ℤ, IsTrue, IsFalse};
+ghost use Rattle.std.specs.List.{range_with_len, sum_by};
 ghost use Rattle.std.specs.Cmp.{IsEquivalence};
 ghost use Rattle.c_types.specs.declared.flow_class.FlowClass.TheVariants.{UpTile, Bad};
 ghost use Rattle.cc_base.specs.declared.number.TypeId.{TypeId};
 ghost use Rattle.cc_base.specs.declared.number.NodeId.{NodeId};
 ghost use Rattle.cc_base.specs.declared.kind.Kind.{Kind};
-ghost use Rattle.c_types.specs.Table.{Table, IsComplete, is_function};
+ghost use Rattle.c_types.specs.Table.{Table, IsType, IsComplete, is_function};
 ghost use Rattle.c_types.specs.Layouts.{size_of, offset_of};
-ghost use Rattle.c_types.specs.Cells.{Cell, raw, mixed, Relation, pointer_cells};
+ghost use Rattle.c_types.specs.Cells.{Cell, raw, mixed, Relation, pointer_cells, AreOrdered};
 ghost use Rattle.c_types.specs.Equality.{made_alike, within, equal_at_level, physically_equal, begins_with, strictly_below, cells_of};
 ghost use Rattle.c_types.specs.Flows.{flow_class, IsOfOneClass, Covers};
 ghost use Rattle.c_types.specs.Coverage.{covers, of_one_class};
 ghost use Rattle.c_types.specs.Sound.{IsWellFormed};
-ghost use Rattle.c_types.specs.Widths.{width_of};
+ghost use Rattle.c_types.specs.Widths.{cell_width, before, width_of, cured_distance};
+ghost use Rattle.c_types.specs.Sameness.{is_same_type};
 ghost use Rattle.type_laws.specs.Small.{node, int, char_and_pointer, char_alone, int_array, mixed_union, other_union, int_list, other_list, small_table};
 
 /// Physical equality is an equivalence.
@@ -69,6 +70,26 @@ pub fn covering_is_a_preorder()
 pub fn coverage_is_computed()
     ensures covers { (table : Table) (kind : NodeId → Kind) (t u : TypeId) → IsTrue (covers table kind t u) ↔ Covers table kind t u }
     ensures one_class { (table : Table) (kind : NodeId → Kind) (t u : TypeId) → IsTrue (of_one_class table kind t u) ↔ IsOfOneClass table kind t u }
+{}
+
+/// Two types of a table that are the same (C99 6.2.7) are physically equal.
+pub fn same_types_are_equal()
+    ensures { (table : Table) (t u : TypeId) → IsWellFormed table → IsType table t → IsType table u → IsTrue (is_same_type table t u) → IsTrue (physically_equal table t u) }
+{}
+
+/// The bytes of each pointer among the cells of a type are all there, in order.
+pub fn pointers_stand_in_order()
+    ensures { (table : Table) (t : TypeId) → IsWellFormed table → AreOrdered (cells_of table t) }
+{}
+
+/// What the first cells take is the sum of their widths.
+pub fn widths_are_sums()
+    ensures { (kind : NodeId → Kind) (cells : List Cell) (i : ℕ) → before kind cells i ≡ sum_by (cell_width kind) (take i cells) }
+{}
+
+/// By types of one class a pointer moves alike: any distance in bytes comes to one distance once cured.
+pub fn types_of_one_class_move_alike()
+    ensures { (table : Table) (kind : NodeId → Kind) (t u : TypeId) (z : ℤ) → IsWellFormed table → IsComplete table t → IsComplete table u → IsOfOneClass table kind t u → cured_distance table kind t z ≡ cured_distance table kind u z }
 {}
 
 /// The width of a list of cells is the sum of the widths of its parts.

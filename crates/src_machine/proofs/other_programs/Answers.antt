@@ -42,3 +42,7 @@ returns-clause-called_otherwise c = refl
 pub returns-clause-calls : goal.returns-clause-calls
 unfolding layout_of cells_at holds_pointer physically_equal number stored zeroed bytes_at written kinds_agree nested_limit
 returns-clause-calls c = refl
+
+pub returns-clause-null_freed : goal.returns-clause-null_freed
+unfolding layout_of cells_at holds_pointer physically_equal number stored zeroed bytes_at written kinds_agree nested_limit
+returns-clause-null_freed c = refl

@@ -42,3 +42,11 @@ returns-clause-moved_too_far c = refl
 pub returns-clause-struct_kept : goal.returns-clause-struct_kept
 unfolding layout_of cells_at holds_pointer physically_equal number stored zeroed bytes_at written kinds_agree nested_limit
 returns-clause-struct_kept c = refl
+
+pub returns-clause-copied_from_choice : goal.returns-clause-copied_from_choice
+unfolding layout_of cells_at holds_pointer physically_equal number stored zeroed bytes_at written kinds_agree nested_limit
+returns-clause-copied_from_choice c = refl
+
+pub returns-clause-copied_from_comma : goal.returns-clause-copied_from_comma
+unfolding layout_of cells_at holds_pointer physically_equal number stored zeroed bytes_at written kinds_agree nested_limit
+returns-clause-copied_from_comma c = refl

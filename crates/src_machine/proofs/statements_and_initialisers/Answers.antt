@@ -18,3 +18,11 @@ returns-clause-initialised c = refl
 pub returns-clause-status : goal.returns-clause-status
 unfolding layout_of cells_at holds_pointer physically_equal number stored zeroed bytes_at written kinds_agree nested_limit
 returns-clause-status c = refl
+
+pub returns-clause-updated : goal.returns-clause-updated
+unfolding layout_of cells_at holds_pointer physically_equal number stored zeroed bytes_at written kinds_agree nested_limit
+returns-clause-updated c = refl
+
+pub returns-clause-compared : goal.returns-clause-compared
+unfolding layout_of cells_at holds_pointer physically_equal number stored zeroed bytes_at written kinds_agree nested_limit
+returns-clause-compared c = refl

@@ -13,7 +13,8 @@ use Rattle.cil_form.specs.Programs.{loop_table, loop_round, loop_body, loop_main
 use denote.Hole.Carrier
 use Rattle.cil_form.specs.declared.instr.Instr.TheBlock.{shape-the_row-Instr-0, hidden-the_row-Instr-0}
 use Rattle.cil_form.specs.Sites.{Each}
-use Rattle.cil_form.specs.Shape.{context_in, AreNodesOf, IsSiteInShape, IsFunctionInShape, IsInShape}
+use Rattle.c_types.specs.Table.{AreNodesOf}
+use Rattle.cil_form.specs.Shape.{context_in, IsSiteInShape, IsFunctionInShape, IsInShape}
 use Rattle.cil_form.specs.Typing.{Typing, HeldType, IntegerOf, PointerTo, PlaceOf, no_types, with_held, IsTemp, IsBetweenStatements, Includes, Leaves, inside, AreShaped, HoldsOf, AreArguments, same, Context, IsInteger}
 use Rattle.cil_form.proofs.TypingLaws.{includes-all, includes-with, includes-over, shaped-if, shaped-block, shaped-loop, shaped-append, shaped-less}
 use Rattle.cil_form.specs.declared.instr.Instr.TheVariants as instr

@@ -14,7 +14,7 @@ use Rattle.c_tree.specs.declared.typed_word.Home.{Home}
 use Rattle.c_tree.specs.declared.typed_word.Home.TheVariants as home
 use Rattle.c_tree.specs.TypedTree as typed
 use Rattle.c_tree.specs.TypedTree.{TypedExpr, TypedSpecifiers, TypedSpecifierList, TypedForm, TypedCore, TypedParts, TypedParameters, TypedDeclared, TypedInitialiser, TypedInitDeclarators, TypedDeclaration, TypedStatement, TypedBlockItems, TypedTranslationUnit}
-use Rattle.c_tree.specs.TypedParts.{type_of, specified_type, home_of, declared_home, name_of_form}
+use Rattle.c_tree.specs.TypedParts.{type_of, specified_type, home_of, name_of_form}
 use Rattle.integers.specs.Arithmetic.{IntegerType, converted}
 use Rattle.c_tree.specs.declared.typed_word.Runtime.{Runtime}
 use Rattle.runtime_calls.specs.Prototypes.{IsNamed, IsNoName, HasPrototype}

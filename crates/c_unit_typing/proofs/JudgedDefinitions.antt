@@ -23,7 +23,7 @@ use Rattle.c_typing.specs.declared.declared.Declared.{Declared}
 use Rattle.c_typing.specs.declared.declared.Declared.TheVariants as declared
 use Rattle.c_typing.specs.declared.naming.Naming.{Naming}
 use Rattle.c_typing.specs.Declarators.{Written, is_void_list, taken_types}
-use Rattle.c_typing.specs.Declaring.{declarator_name, left, unless_function}
+use Rattle.c_typing.specs.Declaring.{NotDerived, derived_by, declarator_name, is_function_by, left, unless_function}
 use Rattle.c_typing.specs.Extensions.{IsExtended}
 use Rattle.c_typing.specs.Judging.{State}
 use Rattle.c_typing.specs.Scopes as scopes
@@ -300,7 +300,8 @@ module _ (base : TypedSpecifiers) (d : tree.Declarator) (form : TypedForm) (t : 
     abbrev pub level : Level
     level = level_of (naming_for true (storage_of base) (linked_first s.linkage.linked (declarator_name d))) (specified_type base) d (state_of s)
 
-    pub scope : IsLevelJudged level parameters.0 (state_of s) (state_of m)
+    pub scope : IsLevelJudged (unless_function (is_function_by (derived_by d NotDerived) (shape_at s.table (specified_type base)))
+        (naming_for true (storage_of base) (linked_first s.linkage.linked (declarator_name d)))) d level parameters.0 (state_of s) (state_of m)
     scope =
         let which : Naming = naming_for true (storage_of base) (linked_first s.linkage.linked (declarator_name d)) in
         level-judged which base d form t parameters.0 (state_of s) (state_of m) k.known base_there

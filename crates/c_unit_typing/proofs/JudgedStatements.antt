@@ -40,7 +40,7 @@ mutual
       let w = within-gives brace (λ m. next (judge_block_items a None items m) (λ list. pure (typed.Block brace list))) one s r k h in
       let e = bind-gives (judge_block_items a None items w.first) (λ list. pure (typed.Block brace list)) w.one w.last w.gives in
       let j = items-judged items a None e.0 w.first e.1 w.on.known (result-kept s.table w.first.table a.result w.on.goes.extends b) tt e.2 in
-      scope-judged (λ m. next (judge_block_items a None items m) (λ list. pure (typed.Block brace list))) a (tree.Block brace items) one s r w
+      scope-judged brace (λ m. next (judge_block_items a None items m) (λ list. pure (typed.Block brace list))) a (tree.Block brace items) one s r w
       (given-same (λ (v : TypedStatement) (q : UnitState). IsOpenJudged a (tree.Block brace items) v (known_of s) w.first q) (typed.Block brace e.0) w.one e.1 w.last e.3 (record {
         typed = λ U x k' leaves. (
           known_of e.1,
@@ -69,7 +69,7 @@ mutual
       let e2 = bind-gives (within at (judge_statement a t) e1.1) (λ inner. tested at e1.0 (typed.If at paren e1.0 inner)) w.one w.last e1.3 in
       let i = sub-judged at a t e2.0 e1.1 e2.1 j.goes.known (result-kept w.first.table e1.1.table a.result j.goes.goes.extends b0) (λ v x y. statement-judged t a v x y) e2.2 in
       let p = tested-judged at e1.0 (typed.If at paren e1.0 e2.0) w.one (known_of w.first) (known_of e1.1) e2.1 w.last i.goes.known.known (j.typed e2.1.table i.goes.goes.extends) e2.3 in
-      scope-judged (λ m. next (lifted (checked c) m) (λ test. λ n. next (within at (judge_statement a t) n) (λ inner. tested at test (typed.If at paren test inner)))) a (tree.If at paren c t) one s r w
+      scope-judged at (λ m. next (lifted (checked c) m) (λ test. λ n. next (within at (judge_statement a t) n) (λ inner. tested at test (typed.If at paren test inner)))) a (tree.If at paren c t) one s r w
       (given-same (λ (v : TypedStatement) (q : UnitState). IsOpenJudged a (tree.If at paren c t) v (known_of s) w.first q) (typed.If at paren e1.0 e2.0) w.one e2.1 w.last p.same (record {
         typed = λ U x k' leaves. (
           known_of e1.1,
@@ -96,7 +96,7 @@ mutual
       let o = sub-judged at a u e3.0 e2.1 e3.1 i.goes.known (result-kept e1.1.table e2.1.table a.result i.goes.goes.extends b1) (λ v x y. statement-judged u a v x y) e3.2 in
       let p = tested-judged at e1.0 (typed.IfElse at paren e1.0 e2.0 e3.0) w.one (known_of w.first) (known_of e1.1) e3.1 w.last o.goes.known.known
       (j.typed e3.1.table (extended_trans e1.1.table e2.1.table e3.1.table i.goes.goes.extends o.goes.goes.extends)) e3.3 in
-      scope-judged (λ m. next (lifted (checked c) m) (λ test. λ n. next (within at (judge_statement a t) n) (λ inner. λ o. next (within at (judge_statement a u) o) (λ other. tested at test (typed.IfElse at paren test inner other))))) a (tree.IfElse at paren c t u) one s r w
+      scope-judged at (λ m. next (lifted (checked c) m) (λ test. λ n. next (within at (judge_statement a t) n) (λ inner. λ o. next (within at (judge_statement a u) o) (λ other. tested at test (typed.IfElse at paren test inner other))))) a (tree.IfElse at paren c t u) one s r w
       (given-same (λ (v : TypedStatement) (q : UnitState). IsOpenJudged a (tree.IfElse at paren c t u) v (known_of s) w.first q) (typed.IfElse at paren e1.0 e2.0 e3.0) w.one e3.1 w.last p.same (record {
         typed = λ U x k' leaves. (
           known_of e1.1,
@@ -137,7 +137,7 @@ mutual
       let start : known_of u.first ≡ entering_known (with_scopes (known_of s) e1.1.seen.scopes) = begins ∙ ap (λ (m : Known). entering_known (with_scopes m e1.1.seen.scopes)) w.begins in
       let whole : TypedStatement = typed.Switch at paren on brace u.one in
       let same : ◌≡◌ {A = TypedStatement} (typed.Switch at paren on brace e2.0) whole = ap (typed.Switch at paren on brace) (sym out.same) in
-      scope-judged (λ l. next (lifted (checked e) l) (λ c. λ m. next (promotion at c m) (λ on. λ n. next (within brace (judge_block_items (in_a_switch a) (Some (type_of on)) items) n) (λ list. switched at c (typed.Switch at paren on brace list))))) a (tree.Switch at paren e brace items) one s r w
+      scope-judged at (λ l. next (lifted (checked e) l) (λ c. λ m. next (promotion at c m) (λ on. λ n. next (within brace (judge_block_items (in_a_switch a) (Some (type_of on)) items) n) (λ list. switched at c (typed.Switch at paren on brace list))))) a (tree.Switch at paren e brace items) one s r w
       (given-same (λ (v : TypedStatement) (q : UnitState). IsOpenJudged a (tree.Switch at paren e brace items) v (known_of s) w.first q) (typed.Switch at paren on brace e2.0) w.one e2.1 w.last p.0
       (subst (λ (v : TypedStatement). IsOpenJudged a (tree.Switch at paren e brace items) v (known_of s) w.first e2.1) (sym same) (record {
         typed = λ U x k' leaves.
@@ -168,7 +168,7 @@ mutual
       let e2 = bind-gives (within at (judge_statement (in_a_loop a) t) e1.1) (λ inner. tested at e1.0 (typed.While at paren e1.0 inner)) w.one w.last e1.3 in
       let i = sub-judged at (in_a_loop a) t e2.0 e1.1 e2.1 j.goes.known (result-kept w.first.table e1.1.table a.result j.goes.goes.extends b0) (λ v x y. statement-judged t (in_a_loop a) v x y) e2.2 in
       let p = tested-judged at e1.0 (typed.While at paren e1.0 e2.0) w.one (known_of w.first) (known_of e1.1) e2.1 w.last i.goes.known.known (j.typed e2.1.table i.goes.goes.extends) e2.3 in
-      scope-judged (λ m. next (lifted (checked c) m) (λ test. λ n. next (within at (judge_statement (in_a_loop a) t) n) (λ inner. tested at test (typed.While at paren test inner)))) a (tree.While at paren c t) one s r w
+      scope-judged at (λ m. next (lifted (checked c) m) (λ test. λ n. next (within at (judge_statement (in_a_loop a) t) n) (λ inner. tested at test (typed.While at paren test inner)))) a (tree.While at paren c t) one s r w
       (given-same (λ (v : TypedStatement) (q : UnitState). IsOpenJudged a (tree.While at paren c t) v (known_of s) w.first q) (typed.While at paren e1.0 e2.0) w.one e2.1 w.last p.same (record {
         typed = λ U x k' leaves. (
           known_of e1.1,
@@ -190,7 +190,7 @@ mutual
       let e2 = bind-gives (lifted (checked c) e1.1) (λ test. tested at test (typed.DoWhile e1.0 at paren test)) w.one w.last e1.3 in
       let j = value-part c e2.0 e1.1 e2.1 i.goes.known e2.2 in
       let p = tested-judged at e2.0 (typed.DoWhile e1.0 at paren e2.0) w.one (known_of e1.1) (known_of e2.1) e2.1 w.last j.goes.known.known (j.typed e2.1.table (extended_refl e2.1.table)) e2.3 in
-      scope-judged (λ m. next (within at (judge_statement (in_a_loop a) t) m) (λ inner. λ n. next (lifted (checked c) n) (λ test. tested at test (typed.DoWhile inner at paren test)))) a (tree.DoWhile t at paren c) one s r w
+      scope-judged at (λ m. next (within at (judge_statement (in_a_loop a) t) m) (λ inner. λ n. next (lifted (checked c) n) (λ test. tested at test (typed.DoWhile inner at paren test)))) a (tree.DoWhile t at paren c) one s r w
       (given-same (λ (v : TypedStatement) (q : UnitState). IsOpenJudged a (tree.DoWhile t at paren c) v (known_of s) w.first q) (typed.DoWhile e1.0 at paren e2.0) w.one e2.1 w.last p.same (record {
         typed = λ U x k' leaves. (
           i.last,
@@ -221,7 +221,7 @@ mutual
       let i = sub-judged at (in_a_loop a) t e4.0 e3.1 e4.1 j3.goes.known b3 (λ v x y. statement-judged t (in_a_loop a) v x y) e4.2 in
       let p = tested_or_none-judged at e2.0 (typed.For at paren e1.0 e2.0 e3.0 e4.0) w.one (known_of e1.1) (known_of e2.1) e4.1 w.last i.goes.known.known
       (j2.typed e4.1.table (extended_trans e2.1.table e3.1.table e4.1.table j3.goes.goes.extends i.goes.goes.extends)) e4.3 in
-      scope-judged (λ m. next (dropped first m) (λ f. λ n. next (dropped test n) (λ c. λ o. next (dropped step o) (λ g. λ q. next (within at (judge_statement (in_a_loop a) t) q) (λ inner. tested_or_none at c (typed.For at paren f c g inner)))))) a (tree.For at paren first test step t) one s r w
+      scope-judged at (λ m. next (dropped first m) (λ f. λ n. next (dropped test n) (λ c. λ o. next (dropped step o) (λ g. λ q. next (within at (judge_statement (in_a_loop a) t) q) (λ inner. tested_or_none at c (typed.For at paren f c g inner)))))) a (tree.For at paren first test step t) one s r w
       (given-same (λ (v : TypedStatement) (q : UnitState). IsOpenJudged a (tree.For at paren first test step t) v (known_of s) w.first q) (typed.For at paren e1.0 e2.0 e3.0 e4.0) w.one e4.1 w.last p.same (record {
         typed = λ U x k' leaves.
             let y = extended_trans e3.1.table e4.1.table U i.goes.goes.extends x in
@@ -263,7 +263,7 @@ mutual
       let i = sub-judged at (in_a_loop a) t e4.0 e3.1 e4.1 j3.goes.known b3 (λ v x y. statement-judged t (in_a_loop a) v x y) e4.2 in
       let p = tested_or_none-judged at e2.0 (typed.ForDeclaration at paren e1.0 e2.0 e3.0 e4.0) w.one (known_of e1.1) (known_of e2.1) e4.1 w.last i.goes.known.known
       (j2.typed e4.1.table (extended_trans e2.1.table e3.1.table e4.1.table j3.goes.goes.extends i.goes.goes.extends)) e4.3 in
-      scope-judged (λ m. next (judge_declaration false d m) (λ f. λ n. next (dropped test n) (λ c. λ o. next (dropped step o) (λ g. λ q. next (within at (judge_statement (in_a_loop a) t) q) (λ inner. tested_or_none at c (typed.ForDeclaration at paren f c g inner)))))) a (tree.ForDeclaration at paren d test step t) one s r w
+      scope-judged at (λ m. next (judge_declaration false d m) (λ f. λ n. next (dropped test n) (λ c. λ o. next (dropped step o) (λ g. λ q. next (within at (judge_statement (in_a_loop a) t) q) (λ inner. tested_or_none at c (typed.ForDeclaration at paren f c g inner)))))) a (tree.ForDeclaration at paren d test step t) one s r w
       (given-same (λ (v : TypedStatement) (q : UnitState). IsOpenJudged a (tree.ForDeclaration at paren d test step t) v (known_of s) w.first q) (typed.ForDeclaration at paren e1.0 e2.0 e3.0 e4.0) w.one e4.1 w.last p.same (record {
         typed = λ U x k' leaves.
             let y = extended_trans e3.1.table e4.1.table U i.goes.goes.extends x in

@@ -33,7 +33,7 @@ use Rattle.c_typing.specs.Tests.{AsValue, first_broken}
 use Rattle.c_typing.specs.Typing.{AreParameters}
 use Rattle.c_typing.specs.Walks
 use Rattle.c_typing.specs.Walks.{judge, judge_form, judge_core, judge_parts, judge_parameters, judge_declarator, judge_declarator_at}
-use Rattle.c_typing_laws.proofs.ExtensionLaws.{still_in}
+use Rattle.c_typing_laws.proofs.ExtensionLaws.{extended_refl, still_in}
 use Rattle.c_typing_laws.proofs.JudgedDeclarators.{stars-judged, home-judged, entered-judged, left-judged, voids-alike}
 use Rattle.c_typing_laws.proofs.JudgedForms.{form-made}
 use Rattle.c_typing_laws.proofs.JudgedTrees.{value-here, expr-judged, form-judged, core-judged, parts-judged, parameters-judged, void_self}
@@ -160,6 +160,7 @@ module _ (ps : TypedParameters) where
     pub run : IsListRun list ps from r
     pub scopes : from.seen.scopes ≡ s.seen.scopes
     pub known : IsKnown from
+    pub earlier : IsExtended s.table from.table
 
   abbrev ScopeRun : Outcome Level → Option tree.Parameters → Option TypedParameters → State → State → Type 0
   ScopeRun outcome outer found s r = IsRunFrom outcome s r ⊎ ((found ≡ Some ps) × (outcome ≡ scope_of_list outer r) × (r.seen.scopes ≡ s.seen.scopes))
@@ -190,6 +191,7 @@ module _ (ps : TypedParameters) where
             run = run-later f.list ps f.from e2.1 r (subst (λ (w : State). IsExtended e2.1.table w.table) state a.goes.extends) f.run;
             scopes = f.scopes ∙ first.1.scopes;
             known = f.known;
+            earlier = extended_trans s.table e1.1.table f.from.table first.1.goes.extends f.earlier;
           })
           | inr g ↦ elim (parts-run parts at e3.0 e2.1 e3.1 c.goes.known e3.2 (unless_pointer stars outer) (unless_pointer e1.0 found) g.0) [
             | inl f ↦ inl (record {
@@ -199,6 +201,7 @@ module _ (ps : TypedParameters) where
               run = subst (IsListRun f.0 ps e2.1) state f.2;
               scopes = g.2 ∙ first.1.scopes;
               known = c.goes.known;
+              earlier = extended_trans s.table e1.1.table e2.1.table first.1.goes.extends c.goes.extends;
             })
             | inr f ↦
                 let bare = unstarred e1.0 found f.0 in
@@ -245,6 +248,13 @@ pub record IsScopeJudged (outcome : Outcome Level) (ps : TypedParameters) (s r :
   pub listed : AreParameters behind.table (is_void_list ps) ps (entering s.seen.scopes) behind.seen.scopes
   pub known : IsKnown behind
   pub later : IsExtended behind.table r.table
+  pub from : State
+  pub list : tree.Parameters
+  pub run : IsListRun list ps from r
+  pub scopes : from.seen.scopes ≡ s.seen.scopes
+  pub before : IsKnown from
+  pub earlier : IsExtended s.table from.table
+  pub last : run.last ≡ behind
 
 list-scope : (qs : tree.Parameters) (ps : TypedParameters) (s r : State) → IsKnown s → IsListRun qs ps s r → IsScopeJudged (scope_of_list (Some qs) s) ps s r
 unfolding scope_of_list
@@ -259,10 +269,18 @@ list-scope qs ps s r k run =
           (subst (λ (c : Scopes). AreParameters run.last.table (is_void_alone qs) ps c run.last.seen.scopes) inside.0 p.typed);
       known = p.goes.known;
       later = run.later;
+      from = s;
+      list = qs;
+      run = run;
+      scopes = refl;
+      before = k;
+      earlier = extended_refl s.table;
+      last = refl;
     }
 
 pub scope-of-form : (d : tree.Declarator) (which : Naming) (at : Place) (one : TypedForm) (ps : TypedParameters) (s r : State) → IsKnown s → judge_form which at d s ≡ Gives one r
     → parameters_of_form one None ≡ Some ps → IsScopeJudged (scope_of_declarator which at d None s) ps s r
+unfolding list-scope
 scope-of-form d which at one ps s r k h q = elim (form-run ps d which at one s r k h None None q) [
   | inl f ↦
       let j = list-scope f.list ps f.from r f.known f.run in
@@ -272,6 +290,13 @@ scope-of-form d which at one ps s r k h q = elim (form-run ps d which at one s r
         listed = subst (λ (c : Scopes). AreParameters j.behind.table (is_void_list ps) ps (entering c) j.behind.seen.scopes) f.scopes j.listed;
         known = j.known;
         later = j.later;
+        from = f.from;
+        list = f.list;
+        run = f.run;
+        scopes = f.scopes;
+        before = f.known;
+        earlier = f.earlier;
+        last = refl;
       }
   | inr g ↦ absurd (none-some ps g.0)
 ]
@@ -282,18 +307,22 @@ innermost-there T (l ∷ []) h = All-head (IsLevelThere T) l [] h
 innermost-there T (l ∷ (m ∷ ls)) h = innermost-there T (m ∷ ls) (All-tail (IsLevelThere T) l (m ∷ ls) h)
 
 -- a declarator that begins with its own parameters
-pub record IsLevelJudged (level : Level) (ps : TypedParameters) (s r : State) : Type 0 where
+pub record IsLevelJudged (naming : Naming) (d : tree.Declarator) (level : Level) (ps : TypedParameters) (s r : State) : Type 0 where
   pub inside : Scopes
   pub same : level ≡ innermost inside.levels
   pub listed : (T : Table) → IsExtended r.table T → AreParameters T (is_void_list ps) ps (entering s.seen.scopes) inside
   pub there : IsLevelThere r.table level
+  pub end : State
+  pub list : IsScopeJudged (scope_of_declarator naming (name_place (declarator_name d) nowhere) d None s) ps s end
+  pub later : IsExtended end.table r.table
+  pub behind : list.behind.seen.scopes ≡ inside
 
 form_in : TypedDeclarator → TypedForm
 form_in (typed.Declares form t) = form
 
 pub level-judged : (which : Naming) (base : TypedSpecifiers) (d : tree.Declarator) (form : TypedForm) (t : TypeId) (ps : TypedParameters) (s r : State) → IsKnown s
     → IsType s.table (specified_type base) → judge_declarator which base None d s ≡ Gives (typed.Declares form t) r → parameters_of_form form None ≡ Some ps
-    → IsLevelJudged (level_of which (specified_type base) d s) ps s r
+    → IsLevelJudged (unless_function (is_function_by (derived_by d NotDerived) (shape_at s.table (specified_type base))) which) d (level_of which (specified_type base) d s) ps s r
 unfolding judge_declarator_at form_in
 level-judged which base d form t ps s r k b h q =
     let at = name_place (declarator_name d) nowhere in
@@ -315,4 +344,8 @@ level-judged which base d form t ps s r k b h q =
       listed = λ T x. parameters-kept scope.behind.table T (extended_trans scope.behind.table r.table T later x) scope.known.basic (is_void_list ps) ps (entering s.seen.scopes) scope.behind.seen.scopes scope.listed;
       there = subst (IsLevelThere r.table) (sym level)
           (innermost-there r.table scope.behind.seen.scopes.levels (levels-kept scope.behind.table r.table later scope.behind.seen.scopes.levels scope.known.levels));
+      end = first.1;
+      list = scope;
+      later = last;
+      behind = refl;
     }

@@ -1,5 +1,5 @@
 -- What is judged in a scope of its own: what is known inside, and once the scope is left.
-use Rattle.std.proofs.Common.{◌≡◌, subst}
+use Rattle.std.proofs.Common.{◌≡◌, Bool, subst}
 use Rattle.cc_base.specs.declared.place.Place.{Place}
 use Rattle.c_types.specs.Table.{Table}
 use Rattle.c_tree.specs.Erasure.{erased_statement}
@@ -29,11 +29,14 @@ pub record IsLeft {A : Type 0} (one : A) (s : UnitState) (whole : A) (r : UnitSt
   pub node : r.seen.node ≡ s.seen.node
 
 -- what stands in a scope of its own gives this, and then it is left
-pub record IsWithin {A : Type 0} (go : UnitJudging A) (whole : A) (s r : UnitState) : Type 0 where
+pub record IsWithin {A : Type 0} (at : Place) (go : UnitJudging A) (whole : A) (s r : UnitState) : Type 0 where
+  pub flag : Bool
   pub first : UnitState
   pub one : A
   pub last : UnitState
+  pub enters : lifted entered s ≡ Gives flag first
   pub gives : go first ≡ Gives one last
+  pub leaves : lifted (left at one) last ≡ Gives whole r
   pub begins : known_of first ≡ entering_known (known_of s)
   pub on : UnitGoesOn s first
   pub node : first.seen.node ≡ s.seen.node
@@ -41,17 +44,20 @@ pub record IsWithin {A : Type 0} (go : UnitJudging A) (whole : A) (s r : UnitSta
   pub ends : IsUnitKnown last → IsLeft one last whole r
   pub after : r.table ≡ last.table
 
-pub within-gives : {A : Type 0} (at : Place) (go : UnitJudging A) (whole : A) (s r : UnitState) → IsUnitKnown s → within at go s ≡ Gives whole r → IsWithin go whole s r
+pub within-gives : {A : Type 0} (at : Place) (go : UnitJudging A) (whole : A) (s r : UnitState) → IsUnitKnown s → within at go s ≡ Gives whole r → IsWithin at go whole s r
 unfolding within
 within-gives at go whole s r k h =
     let e1 = bind-gives (lifted entered s) (λ inside. λ m. next (go m) (λ one. lifted (left at one))) whole r h in
     let en = enter-judged e1.0 s e1.1 k e1.2 in
     let e2 = bind-gives (go e1.1) (λ one. lifted (left at one)) whole r e1.3 in
     record {
+      flag = e1.0;
       first = e1.1;
       one = e2.0;
       last = e2.1;
+      enters = e1.2;
       gives = e2.2;
+      leaves = e2.3;
       begins = en.0;
       on = en.1;
       node = en.2;
@@ -69,9 +75,9 @@ pub record IsOpenJudged (a : Around) (t : tree.Statement) (v : TypedStatement) (
   pub types : IsUsed (λ U. used_by_statement U v) s.table r.table
   pub goes : UnitGoesOn s r
 
-pub scope-judged : (go : UnitJudging TypedStatement) (a : Around) (t : tree.Statement) (whole : TypedStatement) (s r : UnitState) (w : IsWithin go whole s r)
+pub scope-judged : (at : Place) (go : UnitJudging TypedStatement) (a : Around) (t : tree.Statement) (whole : TypedStatement) (s r : UnitState) (w : IsWithin at go whole s r)
     → IsOpenJudged a t w.one (known_of s) w.first w.last → IsStatementJudged a t whole s r
-scope-judged go a t whole s r w j =
+scope-judged at go a t whole s r w j =
     let out = w.ends j.goes.known in
     subst (λ (v : TypedStatement). IsStatementJudged a t v s r) out.same (record {
       typed = λ T x. j.typed T (extended_trans w.last.table r.table T out.on.goes.extends x) (known_of r) out.leaves;

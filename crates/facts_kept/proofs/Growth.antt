@@ -19,17 +19,8 @@ use Rattle.src_mem.specs.Checks.{holds, IsNotOfFrame}
 use Rattle.c_types.proofs.OrderedPointers.{get_front, Which, old, new, which}
 use Rattle.facts_kept.proofs.Lists.{map-both}
 use Rattle.src_mem.specs.Outlines.{AreNoDeeper, Outline, outline, AreOutlines, Life, life}
+use Rattle.src_mem.proofs.Outlines.{mapped-from, get-mapped}
 use Rattle.src_mem.specs.Facts.{AreSound, IsLocated, IsValueOf, Reaches, IsHeld, IsSoundObject}
-
-pub get-map : {A B : Type 0} (f : A → B) (xs : List A) (k : ℕ) (y : B) → slice_get (map f xs) k ≡ Some y → (x : A) × (slice_get xs k ≡ Some x) × (f x ≡ y)
-get-map f [] k y e = absurd (cc (e))
-get-map f (x ∷ xs) zero y e = (x, refl, cc (e))
-get-map f (x ∷ xs) (suc k) y e = get-map f xs k y e
-
-pub map-get : {A B : Type 0} (f : A → B) (xs : List A) (k : ℕ) (x : A) → slice_get xs k ≡ Some x → slice_get (map f xs) k ≡ Some (f x)
-map-get f [] k x e = absurd (cc (e))
-map-get f (a ∷ xs) zero x e = let g : a ≡ x = cc (e) in ap (λ b. Some (f b)) g
-map-get f (a ∷ xs) (suc k) x e = map-get f xs k x e
 
 grown : {A : Type 0} (xs ys : List A) (k : ℕ) (x : A) → slice_get xs k ≡ Some x → slice_get (xs ++ ys) k ≡ Some x
 grown xs ys k x e = get_front xs ys k (slice_get_within xs k x e) ∙ e
@@ -141,19 +132,19 @@ pub reaches-ended : (objects : List Object) (depth e : ℕ) (p : Pointer) → e 
 reaches-ended objects depth e Null l h = tt
 reaches-ended objects depth e (Number n) l h = tt
 reaches-ended objects depth e (At k) l h =
-    let x = get-map life objects k.object h.life h.found in
+    let x = mapped-from life objects k.object h.life h.found in
     let d : x.0.depth ≡ h.life.depth = ap (λ (y : Life). y.depth) x.2 in
     let o = h.older in
     record {
       life = h.life;
-      found = map-get life (map (ended depth) objects) k.object (ended depth x.0) (map-get (ended depth) objects k.object x.0 x.1) ∙ ap Some (life-ended depth x.0 (omega (arith, d, o, l)) ∙ x.2);
+      found = get-mapped life (map (ended depth) objects) k.object (ended depth x.0) (get-mapped (ended depth) objects k.object x.0 x.1) ∙ ap Some (life-ended depth x.0 (omega (arith, d, o, l)) ∙ x.2);
       live = h.live;
       older = h.older;
     }
 reaches-ended objects depth e (Function f) l h = tt
 
 pub memory-ended : (w : Setting) (sites : List Site) (objects : List Object) (depth : ℕ) → AreNoDeeper (map life objects) depth → AreSound w sites objects → AreSound w sites (map (ended depth) objects)
-memory-ended w sites objects depth deep s = record { each = λ k o e l. by k o l (get-map (ended depth) objects k o e) }
+memory-ended w sites objects depth deep s = record { each = λ k o e l. by k o l (mapped-from (ended depth) objects k o e) }
   where
     -- a living object was there, and is older
     kept : (o : Object) → (ended depth o).live ≡ true → (b : Bool) → (o.depth == depth) ≡ b → (o.live ≡ true) × (o.depth ≢ depth) × (ended depth o ≡ o)
@@ -168,7 +159,7 @@ memory-ended w sites objects depth deep s = record { each = λ k o e l. by k o l
     by : (k : ℕ) (o : Object) → o.live ≡ true → (x : Object) × (slice_get objects k ≡ Some x) × (ended depth x ≡ o) → IsSoundObject w sites (map outline (map (ended depth) objects)) (map life (map (ended depth) objects)) o
     by k o l x =
         let y = kept x.0 (ap (λ (z : Object). z.live) x.2 ∙ l) (x.0.depth == depth) refl in
-        let m = deep.each k (life x.0) (map-get life objects k x.0 x.1) y.0 in
+        let m = deep.each k (life x.0) (get-mapped life objects k x.0 x.1) y.0 in
         let d : x.0.depth < depth = less x.0.depth depth m y.1 in
         subst (λ xs. IsSoundObject w sites xs (map life (map (ended depth) objects)) o) (sym (outlines-ended depth objects))
         (subst (IsSoundObject w sites (map outline objects) (map life (map (ended depth) objects))) (sym y.2 ∙ x.2) (object x.0 d (s.each k x.0 x.1 y.0)))
@@ -194,7 +185,7 @@ returned-held w memory depth k t p h c = record {
       life = r.life;
       found = r.found;
       live = r.live;
-      older = less r.life.depth r.older (not-same (let x = get-map life memory.objects l.object r.life r.found in
+      older = less r.life.depth r.older (not-same (let x = mapped-from life memory.objects l.object r.life r.found in
           let d : x.0.depth ≡ r.life.depth = ap (λ (y : Life). y.depth) x.2 in
           ap (λ n. not (n == suc depth)) (sym d) ∙ ap (λ o. not (depth_of_object o == suc depth)) (sym x.1) ∙ c));
     }

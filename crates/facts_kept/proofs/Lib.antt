@@ -25,3 +25,5 @@ pub mod Parts
 pub mod Addresses
 pub mod Allocating
 pub mod Moments
+pub mod Homes
+pub mod Frames

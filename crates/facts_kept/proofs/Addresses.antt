@@ -61,7 +61,7 @@ module _ (w : Setting) (sound : IsWellFormed w.table) (sites : List Site) (s : S
         by Wild n = absurd (n refl)
 
   -- a WILD address: the whole object is its part
-  gives-wild_address : (node : NodeId) (x : TypeId) (n m : ℕ) (l : Location) → Contains sites (site.Pointee node x) → IsWildAt w (outlines_of s.memory) l → LivesAt (lives_of s.memory) depth l.object
+  pub gives-wild_address : (node : NodeId) (x : TypeId) (n m : ℕ) (l : Location) → Contains sites (site.Pointee node x) → IsWildAt w (outlines_of s.memory) l → LivesAt (lives_of s.memory) depth l.object
       → between (neg_ℤ (pos (2 ^ 40))) (l.offset +ℤ pos n) (pos (2 ^ 40)) ≡ true → Gives (address Wild n m x (At l) s) (GivesPointer w sites depth Wild x s)
   gives-wild_address node x n m l told p lives h =
       let o = mapped-from outline s.memory.objects l.object p.object p.found in

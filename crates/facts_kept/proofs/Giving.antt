@@ -40,3 +40,12 @@ pub gives-access : {A : Type 0} (k : Kind) (l : Location) (m : ℕ) (next : Spot
     → IsRight k s.memory.objects l m o at → Gives (next (record { number = l.object; object = o; at = at }) (touched l.object at m s)) P → Gives (access k (At l) m next s) P
 gives-access k l m next s o at P right h =
     subst (λ r. Gives (given r (λ at. λ t. from (leaves (touched at.number at.at m) t) (λ a. next at)) s) P) (sym (spot-right k s.memory.objects l m o at right)) h
+
+-- what follows from what a run gives
+pub gives-more : {A : Type 0} (P Q : A → State → Type 0) (m : Outcome Ending State A) → Gives m P → ((a : A) (s : State) → P a s → Q a s) → Gives m Q
+gives-more P Q (Done a s) h next = next a s h
+gives-more P Q (Ended Turns s) h next = tt
+gives-more P Q (Ended Wants s) h next = tt
+gives-more P Q (Ended (Exited n) s) h next = tt
+gives-more P Q (Ended (Stopped c p) s) h next = tt
+gives-more P Q (Ended Wrong s) h next = h

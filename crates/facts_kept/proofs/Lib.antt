@@ -27,3 +27,6 @@ pub mod Allocating
 pub mod Moments
 pub mod Homes
 pub mod Frames
+pub mod Arguments
+pub mod Addressing
+pub mod Clearing

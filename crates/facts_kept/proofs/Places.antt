@@ -165,7 +165,7 @@ module _ (w : Setting) (sound : IsWellFormed w.table) (outlines : List Outline) 
       by (mixed v j) f a = absurd a
       by (incomplete v) f a = absurd a
 
-  reaches-more : (lives : List Life) (d e : ℕ) (p : Pointer) → d ≤ e → Reaches lives d p → Reaches lives e p
+  pub reaches-more : (lives : List Life) (d e : ℕ) (p : Pointer) → d ≤ e → Reaches lives d p → Reaches lives e p
   reaches-more lives d e Null l h = tt
   reaches-more lives d e (Number n) l h = tt
   reaches-more lives d e (At k) l h = record { life = h.life; found = h.found; live = h.live; older = let x = h.older in omega (arith, x, l) }

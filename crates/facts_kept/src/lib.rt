@@ -6,7 +6,7 @@
 //! pointers are held by a call of some depth.
 #![tactic(auto)]
 
-ghost use Rattle.std.specs.Prelude.{◌≡◌, ◌≢◌, ◌⊎◌, ◌↔◌, ℕ, ◌<◌, ℤ, List, [], ◌∷◌, length, true, IsFalse};
+ghost use Rattle.std.specs.Prelude.{◌≡◌, ◌≢◌, ◌⊎◌, ◌↔◌, ℕ, suc, ◌<◌, ◌≤◌, ℤ, List, [], ◌∷◌, ◌++◌, length, slice_get, Some, true, false, IsFalse};
 ghost use Rattle.std.specs.List.{Contains};
 ghost use Rattle.cc_base.specs.declared.place.Place.{Place};
 ghost use Rattle.cc_base.specs.declared.kind.Kind.{Kind};
@@ -22,17 +22,18 @@ ghost use Rattle.c_types.specs.Flows.{IsOfOneClass};
 ghost use Rattle.c_types.specs.Solutions.{SpreadsWild, IsUnionAllowed, IsWildWhereMixed};
 ghost use Rattle.c_types.specs.Sound.{IsWellFormed};
 ghost use Rattle.integers.specs.Arithmetic.{IntegerType};
-ghost use Rattle.src_mem.specs.Pointers.{Pointer, Integer, Address};
-ghost use Rattle.src_mem.specs.Memory.{Memory};
+ghost use Rattle.src_mem.specs.Pointers.{Pointer, Value, Integer, Address};
+ghost use Rattle.src_mem.specs.Memory.{Object, Memory, Planned};
 ghost use Rattle.src_mem.specs.State.{State, Setting};
 ghost use Rattle.src_mem.specs.Checks.{InObject, IsAligned, HoldsPointer, Outlives, holds};
-ghost use Rattle.src_mem.specs.Primitives.{load_integer, load_pointer, store_integer, store_pointer, allocate};
-ghost use Rattle.src_mem.specs.Uses.{read, write};
+ghost use Rattle.src_mem.specs.Primitives.{load_integer, load_pointer, store_integer, store_pointer, clear, allocate, leave};
+ghost use Rattle.src_mem.specs.Uses.{read, write, enter_with};
 ghost use Rattle.src_mem.specs.Operations.{kind_in, node_in, pointee, converted_pointer, moved, member, decayed};
+ghost use Rattle.src_mem.specs.Values.{addressed};
 ghost use Rattle.src_mem.specs.Outlines.{Outline, outlines_of, AreOutlines};
 ghost use Rattle.src_mem.specs.Facts.{IsValueOf, IsMade, IsHeldIn, IsPlaceIn, IsSoundMemory, IsSoundAt};
 ghost use Rattle.src_mem.specs.Laws.{Gives};
-ghost use Rattle.facts_kept.specs.Kept.{AllHold, asked_of, IsFlow, GivesPointer, GivesAddress, GivesInteger, GivesIntegerValue, IsKept, GivesBlock, MakesBlocks};
+ghost use Rattle.facts_kept.specs.Kept.{AllHold, asked_of, IsFlow, GivesPointer, GivesAddress, GivesInteger, GivesIntegerValue, IsKept, GivesBlock, MakesBlocks, IsLater, IsVariable, AreArgumentsOf, HasEntered, HasLeft};
 
 /// What may be held as a pointer to a type may be held as one to each type of its class: physically equal, with equal kinds.
 pub fn values_pass_along_classes()
@@ -96,4 +97,26 @@ pub fn parts_give_what_may_be_held()
 /// An allocation gives a null pointer or a new block. The memory stays sound, and what is given may be held once its condition held.
 pub fn allocations_give_what_may_be_held()
     ensures { (w : Setting) (sites : List Site) (depth : ℕ) (node : NodeId) (t : TypeId) (n : ℕ) (s : State) → IsWellFormed w.table → MakesBlocks w t → IsSoundAt w sites s.memory depth → Gives (allocate w node t n s) (GivesBlock w sites depth node t s) }
+{}
+
+/// `&` of a place, and an array at a place that decays without a check, ask for the place alone, and give what may be held.
+pub fn addresses_ask_for_places()
+    ensures address { (w : Setting) (sites : List Site) (depth : ℕ) (kind : Kind) (node : NodeId) (t : TypeId) (p : Pointer) (s : State) → IsWellFormed w.table → ((kind ≡ Wild) ↔ (w.kind node ≡ Wild)) → IsComplete w.table t → Contains sites (Pointee node t) → AreOutlines w (outlines_of s.memory) → IsPlaceIn w s.memory depth kind t p → Gives (addressed w node t (Address p) s) (GivesAddress w sites depth (w.kind node) t s) }
+    ensures array { (w : Setting) (sites : List Site) (at : Place) (depth : ℕ) (kind : Kind) (node : NodeId) (array element : TypeId) (n : ℕ) (p : Pointer) (s : State) → IsWellFormed w.table → ((kind ≡ Wild) ↔ (w.kind node ≡ Wild)) → shape_at w.table array ≡ shape.Array element n → IsComplete w.table array → IsComplete w.table element → Contains sites (Pointee node element) → AreOutlines w (outlines_of s.memory) → IsPlaceIn w s.memory depth kind array p → Gives (decayed w at kind array false node element p s) (GivesPointer w sites depth (w.kind node) element s) }
+{}
+
+/// An object that has not ended is cleared, and the memory stays sound.
+pub fn clearing_keeps_the_memory_sound()
+    ensures { (w : Setting) (sites : List Site) (number : ℕ) (o : Object) (s : State) → IsSoundMemory w sites s.memory → slice_get s.memory.objects number ≡ Some o → o.live ≡ true → Gives (clear number s) (λ x r. IsKept w sites s.memory r.memory) }
+{}
+
+/// A call begins with the arguments of its variables, and the facts hold for the call; it ends, and they hold for its caller again. What
+/// passed the check of a return may be held by the caller, and so may what it held before.
+pub fn calls_keep_the_facts()
+    ensures entry { (w : Setting) (sites : List Site) (depth f : ℕ) (variables : List Planned) (arguments : List Value) (s : State) → IsWellFormed w.table → ((j : ℕ) (x : Planned) → slice_get variables j ≡ Some x → IsVariable w x) → IsSoundAt w sites s.memory depth → AreArgumentsOf w sites s.memory depth variables arguments → Gives (enter_with w (suc depth) f variables arguments s) (λ x r. HasEntered w sites depth variables s.memory r.memory) }
+    ensures leaving { (w : Setting) (sites : List Site) (depth : ℕ) (variables : List Planned) (s : State) → IsWellFormed w.table → IsSoundAt w sites s.memory (suc depth) → Gives (leave w (suc depth) variables s) (λ x r. HasLeft w sites depth s.memory r.memory) }
+    ensures caller { (w : Setting) (depth : ℕ) (kind : Kind) (t : TypeId) (p : Pointer) (old new : Memory) → IsLater depth old.objects new.objects → IsHeldIn w old depth kind t p → IsHeldIn w new depth kind t p }
+    ensures later { (depth deeper : ℕ) (a b c : List Object) → depth ≤ deeper → IsLater depth a b → IsLater deeper b c → IsLater depth a c }
+    ensures stores { (w : Setting) (sites : List Site) (depth : ℕ) (old new : Memory) → IsKept w sites old new → IsLater depth old.objects new.objects }
+    ensures blocks { (depth : ℕ) (old more : List Object) → IsLater depth old (old ++ more) }
 {}

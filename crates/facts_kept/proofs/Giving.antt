@@ -6,7 +6,7 @@ use Rattle.runs.specs.Outcome.{Outcome, Ended, Done, done, leaves, allowed, from
 use Rattle.src_mem.specs.Pointers.{Location, At}
 use Rattle.src_mem.specs.Memory.{Object}
 use Rattle.src_mem.specs.State.{Ending, Exited, Stopped, Turns, Wants, Wrong, State, Act, Setting, given, touched}
-use Rattle.src_mem.specs.Checks.{Condition, check_of, holds, all_placed}
+use Rattle.src_mem.specs.Checks.{Condition, check_of, holds, checked, all_placed}
 use Rattle.src_mem.specs.Primitives.{Spot, access}
 use Rattle.src_mem.specs.Laws.{Gives}
 use Rattle.facts_kept.specs.Kept.{AllHold}
@@ -34,6 +34,15 @@ gives-checked w place (c ∷ cs) next s P h = by (holds w s.memory c) refl (give
         → Gives (from (from (allowed b (Stopped (check_of c) (place c)) goes_on s) (λ a. all_placed w place cs)) (λ a. next)) P
     by false e rest = tt
     by true e rest = rest (λ k. h (e, k))
+
+-- and so does one condition
+pub gives-tried : {B : Type 0} (w : Setting) (place : Place) (c : Condition) (next : Act B) (s : State) (P : B → State → Type 0)
+    → (holds w s.memory c ≡ true → Gives (next s) P) → Gives (from (checked w place c s) (λ a. next)) P
+gives-tried w place c next s P h = by (holds w s.memory c) refl
+  where
+    by : (b : Bool) → holds w s.memory c ≡ b → Gives (from (allowed b (Stopped (check_of c) place) goes_on s) (λ a. next)) P
+    by false e = tt
+    by true e = h e
 
 -- an access that is right goes on where it falls
 pub gives-access : {A : Type 0} (k : Kind) (l : Location) (m : ℕ) (next : Spot → Act A) (s : State) (o : Object) (at : ℕ) (P : A → State → Type 0)

@@ -30,3 +30,4 @@ pub mod Frames
 pub mod Arguments
 pub mod Addressing
 pub mod Clearing
+pub mod Copying

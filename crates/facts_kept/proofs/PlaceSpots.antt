@@ -25,6 +25,7 @@ module _ (w : Setting) where
     pub outlined : slice_get (outlines_of memory) location.object ≡ Some (outline object)
     pub untagged : w.kind object.node ≢ Wild
     pub holds : HoldType w object.cells at location.part.high t
+    pub inside : at + m ≤ object.size
     pub older : object.depth ≤ depth
 
   pub record TaggedSpot (memory : Memory) (depth m : ℕ) (p : Pointer) : Type 0 where
@@ -61,6 +62,7 @@ module _ (w : Setting) where
             outlined = x.located.found ∙ ap Some (sym f.is);
             untagged = subst (λ (y : Outline). w.kind y.node ≢ Wild) (sym f.is) x.typed.untagged;
             holds = subst (λ cs. HoldType w cs x.at l.part.high t) (sym cells) x.holds;
+            inside = let a = x.holds.room in let b = x.located.inside in omega (arith, a, b, size, room);
             older = f.older;
           }
 

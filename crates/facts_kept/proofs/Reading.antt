@@ -36,7 +36,7 @@ module _ (w : Setting) (sound : IsWellFormed w.table) (sites : List Site) where
   -- Pointers
 
   -- a word that is zero where nothing is stored holds a pointer
-  zero-holds : (o : Object) (at : ℕ) → number 8 o.bytes at ≡ 0 → holds_pointer_at at o ≡ true
+  pub zero-holds : (o : Object) (at : ℕ) → number 8 o.bytes at ≡ 0 → holds_pointer_at at o ≡ true
   zero-holds o at e = ap (λ n. is_some (o.pointers at) || (n == 0)) e ∙ any (is_some (o.pointers at))
     where
       any : (b : Bool) → (b || (0 == 0)) ≡ true

@@ -53,7 +53,7 @@ outlives objects depth d (At l) r h =
     record { life = r.life; found = r.found; live = r.live; older = omega (arith, e, h) }
 outlives objects depth d (Function f) r h = tt
 
-le-of : (a b : ℕ) → nat_le a b ≡ true → a ≤ b
+pub le-of : (a b : ℕ) → nat_le a b ≡ true → a ≤ b
 le-of a b h = grind (arith, nat_tests)
 
 module _ (w : Setting) (sound : IsWellFormed w.table) (sites : List Site) where

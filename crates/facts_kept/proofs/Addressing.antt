@@ -27,7 +27,7 @@ use Rattle.src_mem.specs.Laws.{Gives}
 use Rattle.src_mem.proofs.Right.{safe≢wild, seq≢wild, rtti≢wild}
 use Rattle.facts_kept.specs.Kept.{GivesPointer, GivesAddress}
 use Rattle.facts_kept.proofs.Complete.{complete-some}
-use Rattle.facts_kept.proofs.Members.{IsSub, Fills, fills-own, fills-array, sub-own}
+use Rattle.facts_kept.proofs.Members.{Fills, fills-own, fills-array, sub-own}
 use Rattle.facts_kept.proofs.Giving.{gives-from}
 use Rattle.facts_kept.proofs.Addresses.{gives-address, gives-wild_address}
 

@@ -1,5 +1,5 @@
 -- A call begins with its arguments: each is stored in its variable, and the facts hold for the call.
-use Rattle.std.proofs.Common.{◌≡◌, ℕ, zero, suc, ◌+◌, ◌≤◌, ◌⊎◌, ℤ, Bool, true, List, [], ◌∷◌, ◌++◌, map, length, nat_le, slice_get, Some, refl, ap, sym, subst, ◌∙◌, ⊎_elim, arith}
+use Rattle.std.proofs.Common.{◌≡◌, ℕ, suc, ◌≤◌, ◌⊎◌, ℤ, true, List, [], ◌∷◌, ◌++◌, map, length, nat_le, slice_get, Some, refl, ap, sym, subst, ◌∙◌, ⊎_elim, arith}
 use Rattle.std.specs.Prelude.{⊤}
 use Rattle.std.proofs.lemmas.Bool.Decides.{nat_tests}
 use Rattle.cc_base.specs.declared.number.TypeId.{TypeId}
@@ -10,10 +10,8 @@ use Rattle.c_types.specs.declared.site.Site.{Site}
 use Rattle.c_types.specs.declared.shape.TypeShape.{TypeShape}
 use Rattle.c_types.specs.declared.shape.TypeShape.TheVariants as shape
 use Rattle.c_types.specs.Table.{shape_at}
-use Rattle.c_types.specs.Layouts.{size_of}
 use Rattle.c_types.specs.Sound.{IsWellFormed}
 use Rattle.integers.specs.Arithmetic.{IntegerType}
-use Rattle.runs.specs.Outcome.{from, ◌>>◌}
 use Rattle.src_mem.specs.Pointers.{Pointer, Null, Number, At, Function, Value, Integer, Address}
 use Rattle.src_mem.specs.Memory.{Object, Memory, Planned, new_variable, depth_of, depth_of_object}
 use Rattle.src_mem.specs.State.{State, Setting}

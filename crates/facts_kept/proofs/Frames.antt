@@ -1,43 +1,26 @@
 -- A call begins and ends: its frame, the arguments that are stored in it, and what is left of it.
-use Rattle.std.proofs.Common.{◌≡◌, ◌≢◌, ℕ, zero, suc, ◌+◌, ◌≤◌, ◌<◌, ◌⊎◌, inl, inr, pos, Bool, true, false, List, [], ◌∷◌, ◌++◌, map, length, nat_le, slice_get, Some, refl, ap, sym, subst, ◌∙◌, ⊎_elim, arith, if◌then◌else◌}
+use Rattle.std.proofs.Common.{◌≡◌, ◌≢◌, ℕ, suc, ◌≤◌, ◌⊎◌, Bool, true, false, List, ◌++◌, map, length, slice_get, Some, refl, ap, sym, subst, ◌∙◌, ⊎_elim, arith, if◌then◌else◌}
 use Rattle.std.specs.Prelude.{◌==◌}
 use Rattle.std.proofs.lemmas.Bool.Decides.{nat_tests}
-use Rattle.cc_base.specs.declared.number.TypeId.{TypeId}
-use Rattle.cc_base.specs.declared.number.NodeId.{NodeId}
-use Rattle.cc_base.specs.declared.kind.Kind.{Kind}
-use Rattle.cc_base.specs.declared.kind.Kind.TheVariants.{Safe, Seq, Rtti, Wild}
 use Rattle.c_types.specs.declared.site.Site.{Site}
-use Rattle.c_types.specs.declared.shape.TypeShape.{TypeShape}
-use Rattle.c_types.specs.declared.shape.TypeShape.TheVariants as shape
-use Rattle.c_types.specs.Table.{Table, shape_at, IsComplete}
+use Rattle.c_types.specs.Table.{Table, IsComplete}
 use Rattle.c_types.specs.Layouts.{size_of}
 use Rattle.c_types.specs.Cells.{AreOrdered}
 use Rattle.c_types.specs.Equality.{cells_of}
 use Rattle.c_types.specs.Sound.{IsWellFormed}
-use Rattle.c_types.proofs.OrderedPointers.{cells_ordered, get_back, Which, old, new, which}
-use Rattle.integers.specs.Arithmetic.{IntegerType}
-use Rattle.runs.specs.Outcome.{Outcome, from, ◌>>◌}
-use Rattle.src_mem.specs.Pointers.{Location, Pointer, Null, Number, At, Function, Value, Integer, Address}
-use Rattle.src_mem.specs.Memory.{Object, Memory, Planned, new_variable, depth_of, depth_of_object}
-use Rattle.src_mem.specs.State.{State, Act, Setting}
-use Rattle.src_mem.specs.Checks.{Outlives, holds}
-use Rattle.src_mem.specs.Primitives.{enter, ended, leave, with_frame}
-use Rattle.src_mem.specs.Uses.{store_shape, store, home, store_arguments, enter_with}
-use Rattle.src_mem.specs.Outlines.{Outline, Life, LivesAt, outline, life, outlines_of, lives_of, AreOutlines, AreNoDeeper}
-use Rattle.src_mem.specs.Facts.{Reaches, IsHeldIn, IsSoundObject, AreSound, IsSoundAt}
+use Rattle.c_types.proofs.OrderedPointers.{cells_ordered, Which, old, new, which}
+use Rattle.src_mem.specs.Memory.{Object, Planned, new_variable}
+use Rattle.src_mem.specs.State.{State, Setting}
+use Rattle.src_mem.specs.Primitives.{enter, ended, leave}
+use Rattle.src_mem.specs.Outlines.{Outline, Life, outline, life, AreOutlines, AreNoDeeper}
+use Rattle.src_mem.specs.Facts.{IsSoundObject, AreSound, IsSoundAt}
 use Rattle.src_mem.specs.Laws.{Gives}
 use Rattle.src_mem.proofs.Outlines.{mapped-from, get-mapped}
-use Rattle.src_mem.proofs.Right.{pointer_size, safe≢wild}
-use Rattle.src_mem.proofs.CallsRight.{integer_size}
-use Rattle.facts_kept.specs.Kept.{AllHold, IsKept, IsLater, IsVariable, IsArgumentOf, AreArgumentsOf, HasEntered, HasLeft}
+use Rattle.facts_kept.specs.Kept.{IsVariable, HasEntered, HasLeft}
 use Rattle.facts_kept.proofs.Lists.{map-both}
 use Rattle.facts_kept.proofs.Complete.{complete-some}
 use Rattle.facts_kept.proofs.Growth.{memory-grown, zero-sound, outlines-grown, memory-ended, outlines-ended, returned-held}
-use Rattle.facts_kept.proofs.Later.{later-same, later-twice, later-grown, later-ended, held-later}
-use Rattle.facts_kept.proofs.Moments.{kept-sound}
-use Rattle.facts_kept.proofs.Homes.{home-place, home-room}
-use Rattle.facts_kept.proofs.Writing.{gives-stored, gives-stored_tagged, gives-stored_integer, gives-stored_integer_tagged}
-use Rattle.facts_kept.proofs.Giving.{gives-from}
+use Rattle.facts_kept.proofs.Later.{later-grown, later-ended}
 
 -- Depths
 

@@ -21,7 +21,7 @@ gives-from P Q (Ended (Exited n) s) f h next = tt
 gives-from P Q (Ended (Stopped c p) s) f h next = tt
 gives-from P Q (Ended Wrong s) f h next = h
 
-abbrev goes_on : Act (Unit {0})
+abbrev pub goes_on : Act (Unit {0})
 goes_on = done tt
 
 -- conditions that are tried stop a run, or hold

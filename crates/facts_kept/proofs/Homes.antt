@@ -1,15 +1,13 @@
 -- The pointer to a whole variable is a place of the variable's type.
-use Rattle.std.proofs.Common.{◌≡◌, ◌≢◌, ℕ, ◌+◌, ◌≤◌, pos, ◌⊎◌, Bool, true, List, [], ◌∷◌, slice_get, Some, refl, ap, sym, subst, ◌∙◌, ⊎_elim, arith}
+use Rattle.std.proofs.Common.{◌≡◌, ℕ, ◌≤◌, pos, ◌⊎◌, true, List, slice_get, Some, refl, ap, sym, subst, ◌∙◌, ⊎_elim, arith}
 use Rattle.std.proofs.lemmas.Int.{ints}
-use Rattle.cc_base.specs.declared.number.TypeId.{TypeId}
-use Rattle.cc_base.specs.declared.number.NodeId.{NodeId}
 use Rattle.cc_base.specs.declared.kind.Kind.{Kind}
 use Rattle.cc_base.specs.declared.kind.Kind.TheVariants.{Safe, Wild}
 use Rattle.c_types.specs.Table.{IsComplete}
 use Rattle.c_types.specs.Layouts.{size_of}
 use Rattle.c_types.specs.Solutions.{IsPlain}
 use Rattle.c_types.specs.Sound.{IsWellFormed}
-use Rattle.src_mem.specs.Memory.{Object, Memory, Planned, new_variable, size_of_object}
+use Rattle.src_mem.specs.Memory.{Memory, Planned, new_variable, size_of_object}
 use Rattle.src_mem.specs.State.{Setting}
 use Rattle.src_mem.specs.Checks.{InObject, holds, fits_between}
 use Rattle.src_mem.specs.Uses.{home}

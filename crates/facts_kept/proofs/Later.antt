@@ -8,7 +8,7 @@ use Rattle.src_mem.specs.Primitives.{ended}
 use Rattle.src_mem.specs.State.{Setting}
 use Rattle.c_types.proofs.OrderedPointers.{get_front}
 use Rattle.facts_kept.proofs.Lists.{map-both}
-use Rattle.src_mem.specs.Outlines.{Outline, outline, Life, life}
+use Rattle.src_mem.specs.Outlines.{outline, Life, life}
 use Rattle.std.proofs.lemmas.Option.{slice_get_within}
 use Rattle.src_mem.specs.Facts.{IsValueOf, Reaches, IsHeld}
 use Rattle.src_mem.proofs.Outlines.{mapped-from, get-mapped}

@@ -313,16 +313,17 @@ module _ (w : Setting) (sound : IsWellFormed w.table) (sites : List Site) (outli
           far-none : (k : ℕ) → n ≡ 0 → number 8 (written (bytes_at n source.bytes from) o.bytes at) k ≡ number 8 o.bytes k
           far-none k g = ap (λ i. number 8 (written (bytes_at i source.bytes from) o.bytes at) k) g ∙ ap (λ l. number 8 l k) (none-written source.bytes o.bytes from at)
 
-  -- a copy between two objects with tags, at multiples of 8
+  -- a copy between two objects with tags, whose pointers come to multiples of 8
   pub sound-tagged-copy : (n : ℕ) (source o : Object) (from at : ℕ) → IsSoundObject w sites outlines lives source → IsSoundObject w sites outlines lives o
-      → w.kind source.node ≡ Wild → w.kind o.node ≡ Wild → from % 8 ≡ 0 → at % 8 ≡ 0 → at + n ≤ o.size
+      → w.kind source.node ≡ Wild → w.kind o.node ≡ Wild → at + n ≤ o.size
+      → ((j : ℕ) (p : Pointer) → j + 8 ≤ n → source.pointers (from + j) ≡ Some p → (at + j) % 8 ≡ 0)
       → ((j : ℕ) (p : Pointer) → j + 8 ≤ n → source.pointers (from + j) ≡ Some p → Reaches lives o.depth p)
       → IsSoundObject w sites outlines lives (with_copy n source from at o)
-  sound-tagged-copy n source o from at s p ts to af aa room keeps = record {
+  sound-tagged-copy n source o from at s p ts to room places keeps = record {
     sized = length-written (bytes_at n source.bytes from) o.bytes at ∙ p.sized;
     bytes = written-bytes (bytes_at n source.bytes from) o.bytes at (bytes_at-bytes n source.bytes from s.bytes) p.bytes;
     typed = λ a k q e. absurd (a to);
-    tagged = λ a k q e. ⊎_elim (λ x. let y = s.tagged ts (from + (k - at)) q x.2 in record { aligned = place k x.0 y.aligned; inside = (let b = x.1 in omega (arith, b, room)); value = y.value }) (λ x. p.tagged to k q x.0) (copied-cases n source.pointers from at o.pointers k q e);
+    tagged = λ a k q e. ⊎_elim (λ x. let y = s.tagged ts (from + (k - at)) q x.2 in record { aligned = place k q x.0 x.1 x.2; inside = (let b = x.1 in omega (arith, b, room)); value = y.value }) (λ x. p.tagged to k q x.0) (copied-cases n source.pointers from at o.pointers k q e);
     under = λ k q e. ⊎_elim (λ x. number-copied n source.bytes o.bytes from at k x.0 x.1 (let f = p.sized in omega (arith, f, room)) ∙ s.under (from + (k - at)) q x.2) (λ x. far k x.1 ∙ p.under k q x.0) (copied-cases n source.pointers from at o.pointers k q e);
     zeros = λ a k m u e. absurd (a to);
     reaches = λ k q e. ⊎_elim (λ x. keeps (k - at) q (let a = x.0 in let b = x.1 in omega (arith, a, b)) x.2) (λ x. p.reaches k q x.0) (copied-cases n source.pointers from at o.pointers k q e);
@@ -332,5 +333,5 @@ module _ (w : Setting) (sound : IsWellFormed w.table) (sites : List Site) (outli
       far : (k : ℕ) → (k + 8 ≤ at) ⊎ (at + n ≤ k) → number 8 (written (bytes_at n source.bytes from) o.bytes at) k ≡ number 8 o.bytes k
       far k h = number-written_apart 8 (bytes_at n source.bytes from) o.bytes at k (subst (λ m. (k + 8 ≤ at) ⊎ (at + m ≤ k)) (sym (length-bytes_at n source.bytes from)) h)
 
-      place : (k : ℕ) → at ≤ k → (from + (k - at)) % 8 ≡ 0 → k % 8 ≡ 0
-      place k l e = omega (arith, l, e, af, aa)
+      place : (k : ℕ) (q : Pointer) → at ≤ k → k + 8 ≤ at + n → source.pointers (from + (k - at)) ≡ Some q → k % 8 ≡ 0
+      place k q l h e = let z = places (k - at) q (omega (arith, l, h)) e in omega (arith, l, z)

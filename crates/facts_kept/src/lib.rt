@@ -18,7 +18,7 @@ ghost use Rattle.c_types.specs.declared.site.Site.TheVariants.{Pointee};
 ghost use Rattle.c_types.specs.declared.shape.TypeShape.TheVariants as shape;
 ghost use Rattle.c_types.specs.Table.{IsComplete, IsAggregate, shape_at, members_at, is_function};
 ghost use Rattle.c_types.specs.Layouts.{size_of, member_at};
-ghost use Rattle.c_types.specs.Flows.{IsOfOneClass};
+ghost use Rattle.c_types.specs.Flows.{HeldPointer, pointer_at, IsOfOneClass};
 ghost use Rattle.c_types.specs.Solutions.{SpreadsWild, IsUnionAllowed, IsWildWhereMixed};
 ghost use Rattle.c_types.specs.Sound.{IsWellFormed};
 ghost use Rattle.integers.specs.Arithmetic.{IntegerType};
@@ -27,7 +27,7 @@ ghost use Rattle.src_mem.specs.Memory.{Object, Memory, Planned};
 ghost use Rattle.src_mem.specs.State.{State, Setting};
 ghost use Rattle.src_mem.specs.Checks.{InObject, IsAligned, HoldsPointer, Outlives, holds};
 ghost use Rattle.src_mem.specs.Primitives.{load_integer, load_pointer, store_integer, store_pointer, clear, allocate, leave};
-ghost use Rattle.src_mem.specs.Uses.{read, write, enter_with};
+ghost use Rattle.src_mem.specs.Uses.{read, write, copy_all, enter_with};
 ghost use Rattle.src_mem.specs.Operations.{kind_in, node_in, pointee, converted_pointer, moved, member, decayed};
 ghost use Rattle.src_mem.specs.Values.{addressed};
 ghost use Rattle.src_mem.specs.Outlines.{Outline, outlines_of, AreOutlines};
@@ -35,9 +35,11 @@ ghost use Rattle.src_mem.specs.Facts.{IsValueOf, IsMade, IsHeldIn, IsPlaceIn, Is
 ghost use Rattle.src_mem.specs.Laws.{Gives};
 ghost use Rattle.facts_kept.specs.Kept.{AllHold, asked_of, IsFlow, GivesPointer, GivesAddress, GivesInteger, GivesIntegerValue, IsKept, GivesBlock, MakesBlocks, IsLater, IsVariable, AreArgumentsOf, HasEntered, HasLeft};
 
-/// What may be held as a pointer to a type may be held as one to each type of its class: physically equal, with equal kinds.
+/// What may be held as a pointer to a type may be held as one to each type of its class: physically equal, with equal kinds. So an
+/// argument of a call through a pointer is a value of the function's parameter, and a result one of the call's type.
 pub fn values_pass_along_classes()
-    ensures { (w : Setting) (outlines : List Outline) (kind : Kind) (t u : TypeId) (p : Pointer) → IsWellFormed w.table → IsOfOneClass w.table w.kind t u → IsValueOf w outlines kind t p → IsValueOf w outlines kind u p }
+    ensures calls { (w : Setting) (outlines : List Outline) (t u : TypeId) (i : ℕ) (p q : HeldPointer) (v : Pointer) → IsWellFormed w.table → IsOfOneClass w.table w.kind t u → pointer_at w.table t i ≡ Some p → pointer_at w.table u i ≡ Some q → IsValueOf w outlines (w.kind q.node) q.to v → IsValueOf w outlines (w.kind p.node) p.to v }
+    ensures pointees { (w : Setting) (outlines : List Outline) (kind : Kind) (t u : TypeId) (p : Pointer) → IsWellFormed w.table → IsOfOneClass w.table w.kind t u → IsValueOf w outlines kind t p → IsValueOf w outlines kind u p }
 {}
 
 /// Once NULL, BOUNDS or WBOUNDS held, a pointer to a data type that may be held is a place of that type.
@@ -108,6 +110,12 @@ pub fn addresses_ask_for_places()
 /// An object that has not ended is cleared, and the memory stays sound.
 pub fn clearing_keeps_the_memory_sound()
     ensures { (w : Setting) (sites : List Site) (number : ℕ) (o : Object) (s : State) → IsSoundMemory w sites s.memory → slice_get s.memory.objects number ≡ Some o → o.live ≡ true → Gives (clear number s) (λ x r. IsKept w sites s.memory r.memory) }
+{}
+
+/// A struct or union is copied, with its conditions: they stop it, or the memory stays sound. Its two sides are both WILD, or neither is.
+pub fn copies_keep_the_memory_sound()
+    ensures typed { (w : Setting) (sites : List Site) (depth : ℕ) (t : TypeId) (source_place : Place) (from_kind : Kind) (source : Pointer) (target_place : Place) (to_kind : Kind) (target : Pointer) (place : Place) (s : State) → IsWellFormed w.table → IsComplete w.table t → from_kind ≢ Wild → to_kind ≢ Wild → IsSoundMemory w sites s.memory → AreOutlines w (outlines_of s.memory) → IsHeldIn w s.memory depth from_kind t source → IsHeldIn w s.memory depth to_kind t target → Gives (copy_all w t source_place from_kind source target_place to_kind target place s) (λ x r. IsKept w sites s.memory r.memory) }
+    ensures wild { (w : Setting) (sites : List Site) (depth : ℕ) (t : TypeId) (source_place : Place) (source : Pointer) (target_place : Place) (target : Pointer) (place : Place) (s : State) → IsWellFormed w.table → IsComplete w.table t → IsSoundMemory w sites s.memory → IsHeldIn w s.memory depth Wild t source → IsHeldIn w s.memory depth Wild t target → Gives (copy_all w t source_place Wild source target_place Wild target place s) (λ x r. IsKept w sites s.memory r.memory) }
 {}
 
 /// A call begins with the arguments of its variables, and the facts hold for the call; it ends, and they hold for its caller again. What

@@ -46,9 +46,11 @@ gives-tried w place c next s P h = by (holds w s.memory c) refl
 
 -- an access that is right goes on where it falls
 pub gives-access : {A : Type 0} (k : Kind) (l : Location) (m : ℕ) (next : Spot → Act A) (s : State) (o : Object) (at : ℕ) (P : A → State → Type 0)
-    → IsRight k s.memory.objects l m o at → Gives (next (record { number = l.object; object = o; at = at }) (touched l.object at m s)) P → Gives (access k (At l) m next s) P
+    → IsRight k s.memory.objects l m o at → Gives (next (record { number = l.object; object = o; at = at }) (touched l.object at m s)) P
+    → Gives (access k (At l) m next s) P
 gives-access k l m next s o at P right h =
-    subst (λ r. Gives (given r (λ at. λ t. from (leaves (touched at.number at.at m) t) (λ a. next at)) s) P) (sym (spot-right k s.memory.objects l m o at right)) h
+    subst (λ r. Gives (given r (λ at. λ t. from (leaves (touched at.number at.at m) t) (λ a. next at)) s) P)
+    (sym (spot-right k s.memory.objects l m o at right)) h
 
 -- what follows from what a run gives
 pub gives-more : {A : Type 0} (P Q : A → State → Type 0) (m : Outcome Ending State A) → Gives m P → ((a : A) (s : State) → P a s → Q a s) → Gives m Q

@@ -38,7 +38,8 @@ module _ (w : Setting) where
     pub inside : at + m ≤ object.size
     pub older : object.depth ≤ depth
 
-  pub typed-spot : (memory : Memory) (depth : ℕ) (k : Kind) (t : TypeId) (m : ℕ) (p : Pointer) → k ≢ Wild → m ≤ length (cells_of w.table t) → IsPlaceIn w memory depth k t p → TypedSpot memory depth k t m p
+  pub typed-spot : (memory : Memory) (depth : ℕ) (k : Kind) (t : TypeId) (m : ℕ) (p : Pointer) → k ≢ Wild → m ≤ length (cells_of w.table t)
+      → IsPlaceIn w memory depth k t p → TypedSpot memory depth k t m p
   typed-spot memory depth k t m p plain room h = of (typed k plain h.location h.place)
     where
       typed : (k : Kind) → k ≢ Wild → (l : Location) → IsPlaceAt w (outlines_of memory) k t l → IsTypedPlace w (outlines_of memory) t l
@@ -66,7 +67,8 @@ module _ (w : Setting) where
             older = f.older;
           }
 
-  pub tagged-spot : (memory : Memory) (depth : ℕ) (t : TypeId) (m : ℕ) (p : Pointer) → IsPlaceIn w memory depth Wild t p → holds w memory (InObject m p) ≡ true → TaggedSpot memory depth m p
+  pub tagged-spot : (memory : Memory) (depth : ℕ) (t : TypeId) (m : ℕ) (p : Pointer) → IsPlaceIn w memory depth Wild t p
+      → holds w memory (InObject m p) ≡ true → TaggedSpot memory depth m p
   tagged-spot memory depth t m p h c = of h.place (subst (λ q. holds w memory (InObject m q) ≡ true) h.is c)
     where
       of : IsWildAt w (outlines_of memory) h.location → holds w memory (InObject m (At h.location)) ≡ true → TaggedSpot memory depth m p

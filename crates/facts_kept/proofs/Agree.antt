@@ -212,7 +212,7 @@ module _ (w : Setting) (sound : IsWellFormed w.table) where
       (cells_ordered w.table sound u) i i c d e f h
       (λ j n m a b l k x y. (i - j, pointer-there w.table t ft (i - j) n a x, pointer-there w.table u fu (i - j) m b y))
 
-  -- law f
+  -- what a type covers agrees with its cells
   pub covered-cells : (t u : TypeId) → Covers w.table w.kind t u → (i : ℕ) (d : Cell) → slice_get (cells_of w.table u) i ≡ Some d
       → (c : Cell) × (slice_get (cells_of w.table t) i ≡ Some c) × CellsAgree w.table w.kind c d
   covered-cells t u h i d e =
@@ -224,7 +224,7 @@ module _ (w : Setting) (sound : IsWellFormed w.table) where
       let f = sym (get-taken (cells_of w.table t) (length (cells_of w.table u)) i (slice_get_within (cells_of w.table u) i d e)) ∙ x.1 in
       (x.0, f, agree-placed t u ft fu h.kinds i x.0 d f e x.2)
 
-  -- law e
+  -- the cells of types of one class agree, byte by byte
   pub class-cells : (t u : TypeId) → is_function w.table t ≡ false → is_function w.table u ≡ false → IsOfOneClass w.table w.kind t u
       → (i : ℕ) (d : Cell) → slice_get (cells_of w.table u) i ≡ Some d
       → (c : Cell) × (slice_get (cells_of w.table t) i ≡ Some c) × CellsAgree w.table w.kind c d

@@ -1,5 +1,5 @@
--- What the class of a flow tells, and what an allowed flow gives: by place for an upward one (law i), in each place of the
--- endless repetitions for one that tiles (law h).
+-- What the class of a flow tells, and what an allowed flow gives: by place for an upward one, and in each place of the
+-- endless repetitions for one that tiles.
 use Rattle.std.proofs.Common.{◌≡◌, ℕ, zero, suc, ◌+◌, ◌-◌, ◌%◌, ◌/◌, ◌*◌, ◌<◌, ◌≤◌, ◌⊎◌, Bool, true, false, not, ◌&&◌, List, [], ◌∷◌, length, take, slice_get, Some, nat_lt, refl, ap, sym, subst, inl, inr, ◌∙◌, ⊎_elim, arith, if◌then◌else◌}
 use Rattle.std.specs.Prelude.{⊤, slice_index_or}
 use Rattle.std.specs.List.{list_all, range_with_len}
@@ -136,7 +136,7 @@ alike-in-tiles : (table : Table) (t u : TypeId) (p q : HeldPointer) → StandAli
 alike-in-tiles table t u p q h =
     let g = some_gcd (length (cells_of table t)) (length (cells_of table u)) in (g.0, g.1, inl (h.0, h.0, refl, h.1, h.2))
 
--- law i
+-- an upward flow has equal kinds by place
 pub by-place : (table : Table) (kind : NodeId → Kind) (t u : TypeId) (class : FlowClass) → is_upward class ≡ true
     → HaveEqualKinds kind (Correspond table (CorrespondAtTop table class t u)) → HaveEqualKinds kind (CorrespondByPlace table t u)
 by-place table kind t u Equal k h = h
@@ -221,7 +221,7 @@ module _ (w : Setting) (sound : IsWellFormed w.table) where
       (λ c. alike (physically_equal w.table) (repeated_cell (cells_of w.table t) i) c) (rep-again' (cells_of w.table u) i a))
       ∙ sym (ap (λ k. alike (physically_equal w.table) (repeated_cell (cells_of w.table t) k) (repeated_cell (cells_of w.table u) k)) z) ∙ x
 
-  -- law h, at one place of both
+  -- at one place of both
   tiles-agree : (t u : TypeId) → is_function w.table t ≡ false → is_function w.table u ≡ false → tile w.table t u ≡ true
       → HaveEqualKinds w.kind (Correspond w.table (StandInTiles w.table t u))
       → (i : ℕ) → CellsAgree w.table w.kind (repeated_cell (cells_of w.table t) i) (repeated_cell (cells_of w.table u) i)

@@ -19,6 +19,19 @@ use Rattle.src_mem.specs.Checks.{Condition, NotNull, InBounds, InObject, IsNotOf
 use Rattle.src_mem.specs.Outlines.{Outline, Life, outline, life, outlines_of, lives_of}
 use Rattle.src_mem.specs.Facts.{IsHeldIn, IsMade, IsSoundMemory, IsSoundAt}
 
+-- Conditions
+
+-- all conditions hold
+abbrev pub AllHold : Setting → Memory → List Condition → Type 0
+AllHold w memory [] = ⊤
+AllHold w memory (c ∷ cs) = (holds w memory c ≡ true) × AllHold w memory cs
+
+-- what is asked before m bytes are used, by kind: NULL, BOUNDS or WBOUNDS
+abbrev pub asked_of : ℕ → Kind → Pointer → List Condition
+asked_of m k p = by_kind k (NotNull p ∷ []) (InBounds m p ∷ []) (InObject m p ∷ [])
+
+-- What is given
+
 -- A conversion of a pointer of one node to one of another that the sites of a program tell of and a solution of its kinds allows.
 pub record IsFlow (w : Setting) (sites : List Site) (m : NodeId) (t : TypeId) (n : NodeId) (u : TypeId) : Type 0 where
   pub flow : IsFlowAllowed w.table sites w.kind m t n u
@@ -56,15 +69,6 @@ pub record IsKept (w : Setting) (sites : List Site) (old new : Memory) : Type 0 
   pub outlines : outlines_of new ≡ outlines_of old
   pub lives : lives_of new ≡ lives_of old
 
--- all conditions hold
-abbrev pub AllHold : Setting → Memory → List Condition → Type 0
-AllHold w memory [] = ⊤
-AllHold w memory (c ∷ cs) = (holds w memory c ≡ true) × AllHold w memory cs
-
--- what is asked before m bytes are used, by kind: NULL, BOUNDS or WBOUNDS
-abbrev pub asked_of : ℕ → Kind → Pointer → List Condition
-asked_of m k p = by_kind k (NotNull p ∷ []) (InBounds m p ∷ []) (InObject m p ∷ [])
-
 -- A block was made for a pointer of this node to t, or none; what is given may be held once it passes what is asked of an allocation.
 pub record GivesBlock (w : Setting) (sites : List Site) (depth : ℕ) (node : NodeId) (t : TypeId) (old : State) (p : Pointer) (new : State) : Type 0 where
   pub more : List Object
@@ -86,7 +90,7 @@ pub record IsLater (depth : ℕ) (old new : List Object) : Type 0 where
   pub outlines : map outline new ≡ map outline old ++ more
   pub lives : (k : ℕ) (x : Life) → slice_get (map life old) k ≡ Some x → x.depth ≤ depth → slice_get (map life new) k ≡ Some x
 
--- a variable of a frame: its type has a size, its home is SAFE or WILD, and where it is a WILD pointer variable's, so are its pointers
+-- a variable of a frame: its type has a size, its home is SAFE or WILD, and in a WILD one all pointers are WILD
 pub record IsVariable (w : Setting) (v : Planned) : Type 0 where
   pub complete : IsComplete w.table v.type
   pub plain : IsPlain w.kind v.node

@@ -10,7 +10,7 @@ ghost use Rattle.std.specs.Prelude.{◌≡◌, ◌≢◌, ◌⊎◌, ◌↔◌, 
 ghost use Rattle.std.specs.List.{Contains};
 ghost use Rattle.cc_base.specs.declared.place.Place.{Place};
 ghost use Rattle.cc_base.specs.declared.kind.Kind.{Kind};
-ghost use Rattle.cc_base.specs.declared.kind.Kind.TheVariants.{Seq, Wild};
+ghost use Rattle.cc_base.specs.declared.kind.Kind.TheVariants.{Safe, Seq, Wild};
 ghost use Rattle.cc_base.specs.declared.number.TypeId.{TypeId};
 ghost use Rattle.cc_base.specs.declared.number.NodeId.{NodeId};
 ghost use Rattle.c_types.specs.declared.site.Site.{Site};
@@ -19,21 +19,29 @@ ghost use Rattle.c_types.specs.declared.shape.TypeShape.TheVariants as shape;
 ghost use Rattle.c_types.specs.Table.{IsComplete, IsAggregate, shape_at, members_at, is_function};
 ghost use Rattle.c_types.specs.Layouts.{size_of, member_at};
 ghost use Rattle.c_types.specs.Flows.{HeldPointer, pointer_at, IsOfOneClass};
-ghost use Rattle.c_types.specs.Solutions.{SpreadsWild, IsUnionAllowed, IsWildWhereMixed};
+ghost use Rattle.c_types.specs.Solutions.{IsPlain, SpreadsWild, IsUnionAllowed, IsWildWhereMixed};
 ghost use Rattle.c_types.specs.Sound.{IsWellFormed};
 ghost use Rattle.integers.specs.Arithmetic.{IntegerType};
-ghost use Rattle.src_mem.specs.Pointers.{Pointer, Value, Integer, Address};
-ghost use Rattle.src_mem.specs.Memory.{Object, Memory, Planned};
-ghost use Rattle.src_mem.specs.State.{State, Setting};
+ghost use Rattle.src_mem.specs.Pointers.{Pointer, Function, Value, Integer, Address};
+ghost use Rattle.src_mem.specs.Memory.{Object, Memory, Planned, new_variable};
+ghost use Rattle.src_mem.specs.State.{State, Setting, Defined};
 ghost use Rattle.src_mem.specs.Checks.{InObject, IsAligned, HoldsPointer, Outlives, holds};
-ghost use Rattle.src_mem.specs.Primitives.{load_integer, load_pointer, store_integer, store_pointer, clear, allocate, leave};
-ghost use Rattle.src_mem.specs.Uses.{read, write, copy_all, enter_with};
+ghost use Rattle.src_mem.specs.Primitives.{load_integer, load_pointer, store_integer, store_pointer, pointer_from, clear, allocate, leave};
+ghost use Rattle.src_mem.specs.Uses.{read, write, home, copy_all, enter_with};
 ghost use Rattle.src_mem.specs.Operations.{kind_in, node_in, pointee, converted_pointer, moved, member, decayed};
 ghost use Rattle.src_mem.specs.Values.{addressed};
-ghost use Rattle.src_mem.specs.Outlines.{Outline, outlines_of, AreOutlines};
+ghost use Rattle.src_mem.specs.Outlines.{Outline, outline, outlines_of, lives_of, LivesAt, AreOutlines};
 ghost use Rattle.src_mem.specs.Facts.{IsValueOf, IsMade, IsHeldIn, IsPlaceIn, IsSoundMemory, IsSoundAt};
 ghost use Rattle.src_mem.specs.Laws.{Gives};
 ghost use Rattle.facts_kept.specs.Kept.{AllHold, asked_of, IsFlow, GivesPointer, GivesAddress, GivesInteger, GivesIntegerValue, IsKept, GivesBlock, MakesBlocks, IsLater, IsVariable, AreArgumentsOf, HasEntered, HasLeft};
+
+/// Where pointers come from: an integer gives a SEQ or a WILD pointer that may be held, the name of a function is a SAFE or a WILD
+/// pointer to its type, and a variable's home, which is SAFE or WILD, is a place of its type.
+pub fn pointers_begin_as_values()
+    ensures integers { (w : Setting) (sites : List Site) (depth : ℕ) (kind : Kind) (t : TypeId) (z : ℤ) (s : State) → (kind ≡ Seq) ⊎ (kind ≡ Wild) → Gives (pointer_from z s) (GivesPointer w sites depth kind t s) }
+    ensures functions { (w : Setting) (outlines : List Outline) (kind : Kind) (f : ℕ) (d : Defined) → slice_get w.functions f ≡ Some d → is_function w.table d.type ≡ true → (kind ≡ Safe) ⊎ (kind ≡ Wild) → IsValueOf w outlines kind d.type (Function f) }
+    ensures homes { (w : Setting) (memory : Memory) (number depth deeper : ℕ) (v : Planned) → IsWellFormed w.table → IsComplete w.table v.type → IsPlain w.kind v.node → slice_get (outlines_of memory) number ≡ Some (outline (new_variable w.table deeper v)) → LivesAt (lives_of memory) depth number → IsPlaceIn w memory depth (w.kind v.node) v.type (home w.table number v.type) }
+{}
 
 /// What may be held as a pointer to a type may be held as one to each type of its class: physically equal, with equal kinds. So an
 /// argument of a call through a pointer is a value of the function's parameter, and a result one of the call's type.

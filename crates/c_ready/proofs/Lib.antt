@@ -21,3 +21,4 @@ pub mod ObjectsMade
 pub mod ObjectsOfUnits
 pub mod ReadyUnit
 pub mod PlacesWhole
+pub mod ReadyRows

@@ -1,5 +1,5 @@
 -- What layers above the checker need of a well typed unit: of its tree and its final table alone, without scopes.
-use Rattle.std.specs.Prelude.{◌≡◌, ◌⊎◌, ℕ, ℤ, ◌<◌, ◌≤◌, ◌+◌, Bool, true, false, List, [], ◌∷◌, ◌++◌, ◌&&◌, map, flat_map, length, slice_get, Option, Some, None, IsTrue, codes, nat_eq}
+use Rattle.std.specs.Prelude.{◌≡◌, ◌≢◌, ◌⊎◌, ℕ, ℤ, ◌<◌, ◌≤◌, Bool, true, false, List, [], ◌∷◌, ◌++◌, ◌&&◌, map, flat_map, length, slice_get, Option, Some, None, IsTrue, codes, nat_eq}
 use Rattle.std.specs.List.{All, Contains, IsDistinct}
 use Rattle.cc_base.specs.declared.place.Place.{Place}
 use Rattle.cc_base.specs.declared.number.NodeId.{NodeId}
@@ -18,7 +18,7 @@ use Rattle.c_tree.specs.declared.typed_word.Home.TheVariants as home
 use Rattle.c_tree.specs.declared.typed_word.Side.TheVariants as side
 use Rattle.c_tree.specs.TypedTree as typed
 use Rattle.c_tree.specs.TypedTree.{TypedExpr, TypedPlace, TypedArguments, TypedTypeName, TypedSpecifiers, TypedSpecifierList, TypedSpecifier, TypedMembers, TypedMemberDeclarators, TypedEnumerators, TypedDeclarator, TypedForm, TypedCore, TypedParts, TypedParameters, TypedDeclared, TypedInitialiser, TypedItems, TypedInitDeclarators, TypedDeclaration, TypedStatement, TypedBlockItems, TypedTranslationUnit}
-use Rattle.c_tree.specs.TypedParts.{type_of, place_type, named_type, declared_type, pointer_side, home_of, name_of, statics_of, locals_of, functions_of, DefinedFunction, parameters_of, static_initialisers, StaticInitialiser, made_by_unit, nodes_made, MadeObject, ParameterObject, Made, static_home, parameters_in_form}
+use Rattle.c_tree.specs.TypedParts.{home_of_form, type_of, place_type, named_type, declared_type, pointer_side, home_of, name_of, statics_of, locals_of, functions_of, DefinedFunction, parameters_of, static_initialisers, StaticInitialiser, made_by_unit, nodes_made, MadeObject, ParameterObject, Made, static_home, parameters_in_form}
 use Rattle.c_tree.specs.TypedParts as made
 use Rattle.c_typing.specs.Shapes.{IsIntegerType, IsScalar, IsVoid, IsPointerTo}
 use Rattle.c_typing.specs.Integers.{constant_type, assigning}
@@ -140,7 +140,7 @@ IsStored k t e = (type_of e ≡ t) × IsType k.table t × IsScalar k.table t
 abbrev pub IsPointerUpdated : Stage → Assignment → TypedPlace → TypedExpr → TypeId → Type 0
 IsPointerUpdated k operator p e t =
     IsTrue (is_move (assigning operator) side.Left) × IsPointerToWhole k (place_type p) × ((i : IntegerType) × IsInteger k.table i e)
-        × (t ≡ place_type p)
+    × (t ≡ place_type p)
 
 abbrev pub IsUpdated : Stage → Assignment → TypedPlace → Place → TypedExpr → TypeId → Type 0
 IsUpdated k operator p at e t =
@@ -179,7 +179,7 @@ abbrev mutual
       × IsIntegerType k.table unsigned_long t
   IsReady k (typed.SizeOfType at paren name size t) =
       IsReadyTypeName (unread k) name × IsWhole k (named_type name) × (size ≡ size_of k.table (named_type name))
-          × IsIntegerType k.table unsigned_long t
+      × IsIntegerType k.table unsigned_long t
   IsReady k (typed.StepBefore operator at p) = IsReadyPlace k p × IsLvalue p × IsStepped k (place_type p)
   IsReady k (typed.StepAfter p operator at) = IsReadyPlace k p × IsLvalue p × IsStepped k (place_type p)
   IsReady k (typed.Arithmetic operator a at b t) = IsReady k a × IsReady k b × IsArithmetic k.table operator a at b t
@@ -244,7 +244,7 @@ abbrev mutual
   IsReadySpecifier k (typed.Enumeration at name brace all comma) = AreReadyEnumerators k all
   IsReadySpecifier k (typed.Keyword word) = Unit {0}
   IsReadySpecifier k (typed.Typedef name t) = Unit {0}
-  IsReadySpecifier k (typed.Tagged which at name t) = Unit {0}
+  IsReadySpecifier k (typed.Tagged which at name t) = IsAggregate k.table t
   IsReadySpecifier k (typed.Enum at name) = Unit {0}
 
   pub AreReadyMembers : Stage → TypedMembers → Type 0
@@ -293,7 +293,7 @@ abbrev mutual
   IsReadyInitialiser k t (typed.Copied p seat) = IsReadyPlace k p × IsAggregate k.table t × (place_type p ≡ t)
   IsReadyInitialiser k t (typed.Text pieces bytes) =
       (element : TypeId) × (count : ℕ) × (signed : Bool) × HasShape k.table t (Array element count) × HasShape k.table element (Integer 1 signed)
-          × (length bytes ≤ count)
+      × (length bytes ≤ count)
   IsReadyInitialiser k t (typed.Listed brace items comma u) = (u ≡ t) × AreReadyItems k (is_only_text items && is_char_array k.table t) t items
 
   -- each of a part of t, which stands at the offset
@@ -309,20 +309,18 @@ HasObject (home.Local n) = Unit {0}
 HasObject home.None = ⊥
 HasObject (home.Parameter n) = ⊥
 
-abbrev pub home_node : Home → List NodeId
-home_node (home.Static n) = n ∷ []
-home_node (home.Known n) = n ∷ []
-home_node (home.Local n) = n ∷ []
-home_node (home.Parameter n) = n ∷ []
-home_node home.None = []
+-- what a declarator declares, by the home that it gives
+abbrev pub IsReadyHome : Stage → Home → TypeId → Type 0
+IsReadyHome k home.None t = Unit {0}
+IsReadyHome k (home.Static n) t = IsNode k n × IsWhole k t × IsStaticNamed k n t
+IsReadyHome k (home.Known n) t = IsNode k n × IsWhole k t × IsStaticNamed k n t
+IsReadyHome k (home.Local n) t = IsNode k n × IsWhole k t × Contains k.variables (n, t)
+IsReadyHome k (home.Parameter n) t = ⊥
 
 -- an initialiser of what lives as long as the program runs before `main`, in a stage of its own
 abbrev pub initialised_in : Home → Stage → Stage → Stage
 initialised_in (home.Local n) k static = k
 initialised_in other k static = static
-
-abbrev pub IsReadyHome : Stage → Home → TypeId → Type 0
-IsReadyHome k h t = All (λ n. IsObjectOf true k n t) (home_node h)
 
 abbrev pub AreReadyDeclarators : Stage → Stage → TypedInitDeclarators → Type 0
 AreReadyDeclarators k static typed.NoInitDeclarator = Unit {0}
@@ -449,18 +447,21 @@ AreReadyExternals static typed.NoExternal = Unit {0}
 AreReadyExternals static (typed.AndExternal u d) = AreReadyExternals static u × IsReadyDeclaration (file_stage static) static d
 AreReadyExternals static (typed.AndFunctionBody u specifiers (typed.Declares form t) brace body) =
     AreReadyExternals static u × AreReadySpecifiers (unread static) specifiers × IsReadyForm (unread static) form
-    × IsReadyFunction static (record { declarator = typed.Declares form t; body = body })
+    × IsReadyHome (file_stage static) (home_of_form form) t × IsReadyFunction static (record { declarator = typed.Declares form t; body = body })
 
 -- what initialises an object that lives as long as the program
 abbrev pub IsReadyStatic : Stage → StaticInitialiser → Type 0
 IsReadyStatic static i = IsReadyInitialiser static i.type i.initialiser × IsObjectOf true static i.home i.type
 
+-- the homes of the objects of a unit: of static ones, then of each function's
+abbrev pub homes_of : TypedTranslationUnit → List ℕ
+homes_of u = map (λ (o : MadeObject). o.home.0) (statics_of u) ++ flat_map (λ f. map (λ (o : Named). o.0.0) (variables_named f)) (functions_of u)
+
 -- the objects of a unit
 pub record AreReadyObjects (static : Stage) (u : TypedTranslationUnit) : Type 0 where
   pub plans : All (λ (o : MadeObject). IsNode static o.home × IsWhole static o.type) (statics_of u)
   -- no two objects have one home
-  pub distinct : IsDistinct nat_eq (map (λ (o : MadeObject). o.home.0) (statics_of u)
-      ++ flat_map (λ f. map (λ (o : Named). o.0.0) (variables_named f)) (functions_of u))
+  pub distinct : IsDistinct nat_eq (homes_of u)
 
 -- `int main(void)` is one of the functions
 pub record HasReadyMain (static : Stage) : Type 0 where
@@ -480,7 +481,8 @@ pub record IsReadyUnit (T : Table) (u : TypedTranslationUnit) : Type 0 where
   pub functions : All (IsReadyFunction (static_stage T u)) (functions_of u)
   pub initialisers : All (IsReadyStatic (static_stage T u)) (static_initialisers u)
   pub objects : AreReadyObjects (static_stage T u) u
-  -- each pointer type has a node of the unit, and no node is that of two
+  -- each pointer type has a node of the unit, which is that of no other and the home of no object
   pub nodes : (t to : TypeId) (n : NodeId) → HasShape T t (Pointer n to) → n.0 < length (nodes_made (made_by_unit u))
   pub pointees : (t to v w : TypeId) (n : NodeId) → HasShape T t (Pointer n to) → HasShape T v (Pointer n w) → t ≡ v
+  pub homes : (t to : TypeId) (n : NodeId) → HasShape T t (Pointer n to) → All (λ h. h ≢ n.0) (homes_of u)
   pub main : HasReadyMain (static_stage T u)

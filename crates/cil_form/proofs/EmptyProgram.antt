@@ -5,7 +5,7 @@ use Rattle.cc_base.specs.declared.place.Place.{Place}
 use Rattle.cc_base.specs.declared.number.TypeId.{TypeId}
 use Rattle.c_types.specs.declared.shape.TypeShape.TheVariants as shape
 use Rattle.c_types.specs.declared.site.Site.{Site}
-use Rattle.c_types.specs.Table.{Table, IsType, shape_at}
+use Rattle.c_types.specs.Table.{AreNodesOf, Table, IsType, shape_at}
 use Rattle.c_types.specs.Calls.{basic_table, basic_entry, IsNew, IsAddable}
 use Rattle.c_types.specs.Sound.{IsWellFormed}
 use Rattle.cil_form.specs.declared.instr.Instr.{Instr}
@@ -17,7 +17,7 @@ use Rattle.cil_form.specs.declared.program.Static.{Static}
 use Rattle.cil_form.specs.declared.program.Program.{Program}
 use Rattle.cil_form.specs.Small.{type, int}
 use Rattle.cil_form.specs.Typing.{Context, no_types}
-use Rattle.cil_form.specs.Shape.{context_of, context_in, AreNodesOf, IsCodeInShape, IsFunctionInShape, IsInShape, cells_moved_by, cells_limit}
+use Rattle.cil_form.specs.Shape.{context_of, context_in, IsCodeInShape, IsFunctionInShape, IsInShape, cells_moved_by, cells_limit}
 use Rattle.cil_form.proofs.TypingLaws.{includes-all}
 use Rattle.cil_form.proofs.ShapedPrograms.{each-all}
 

@@ -9,12 +9,13 @@ use Rattle.c_types.specs.Cells.{cells_at}
 use Rattle.c_types.specs.Equality.{physically_equal}
 use Rattle.cil_form.specs.declared.number.Temp.TheVariants as temp
 use Rattle.cil_form.specs.Small.{code, node, type, int, value, kept}
-use Rattle.cil_form.specs.Programs.{loop_table, loop_round, loop_body, loop_main, loop_program, call_table, called_body, called, calling_body, calling, call_program, access_table, access_body, access_main, access_program, case_label, switch_labels, piece, write_character, first_round, first_loop, first_piece, switch_block, switch_body, switch_main, switch_program}
+use Rattle.cil_form.specs.Programs.{loop_table, loop_round, loop_body, loop_main, loop_program, call_table, called_body, called, calling_body, calling, call_program, access_table, access_body, access_main, access_program, case_label, switch_labels, piece, write_character, first_round, first_loop, first_piece, switch_block, switch_body, switch_main, switch_program, renamed_table, renamed_start, renamed_body, renamed_main, renamed_program}
 use denote.Hole.Carrier
 use Rattle.cil_form.specs.declared.instr.Instr.TheBlock.{shape-the_row-Instr-0, hidden-the_row-Instr-0}
 use Rattle.cil_form.specs.Sites.{Each}
-use Rattle.cil_form.specs.Shape.{context_in, AreNodesOf, IsSiteInShape, IsFunctionInShape, IsInShape}
-use Rattle.cil_form.specs.Typing.{Typing, HeldType, IntegerOf, PointerTo, PlaceOf, no_types, with_held, IsTemp, IsBetweenStatements, Includes, Leaves, inside, AreShaped, HoldsOf, AreArguments, same, Context, IsInteger}
+use Rattle.c_types.specs.Table.{AreNodesOf}
+use Rattle.cil_form.specs.Shape.{context_of, context_in, IsSiteInShape, IsStaticInShape, IsFunctionInShape, IsInShape}
+use Rattle.cil_form.specs.Typing.{Typing, HeldType, IntegerOf, PointerTo, PlaceOf, no_types, with_held, IsTemp, IsBetweenStatements, Includes, Leaves, inside, AreShaped, HoldsOf, AreArguments, same, listed, whole, Context, IsInteger}
 use Rattle.cil_form.proofs.TypingLaws.{includes-all, includes-with, includes-over, shaped-if, shaped-block, shaped-loop, shaped-append, shaped-less}
 use Rattle.cil_form.specs.declared.instr.Instr.TheVariants as instr
 use Rattle.cil_form.specs.declared.instr.Set.TheVariants as set
@@ -534,5 +535,100 @@ switch_program-in_shape alloc formed = record {
   functions = each-all (IsFunctionInShape (switch_program alloc)) (switch_main alloc ∷ []) (switch_main-in_shape alloc, tt);
   count = lit≤ tt;
   main = (switch_main alloc, refl, (int, refl, (lit< tt, refl)));
+  cells = lit≤ tt;
+}
+
+-- the object with two types
+abbrev r1 : Typing
+r1 = with_held (value 0) (Some its_home) no_types
+
+abbrev r2 : Typing
+r2 = with_held (value 0) (Some (PointerTo (node 4) int)) r1
+
+abbrev r3 : Typing
+r3 = with_held (value 0) (Some (PointerTo (node 3) int)) r2
+
+renamed_start-shaped : (alloc : Global) → AreShaped renamed_start (context_of (renamed_program alloc)) no_types no_types
+unfolding physically_equal layout_of cells_at
+renamed_start-shaped alloc = (
+  r1,
+  ((int, refl, inl refl), leaves-all no_types 0 (Some its_home) (lit< tt)),
+  (
+    r2,
+    (
+      (lit< tt, lit< tt, (lit< tt, refl), (is-temp 0 (lit< tt), refl), leaves-all r1 0 (Some (PointerTo (node 4) int)) (lit< tt)),
+      ((2, lit< tt, refl), ((5, lit< tt, refl), tt)),
+    ),
+    (
+      r3,
+      (
+        (node 4, node 3, int, int, (lit< tt, refl), (lit< tt, refl), (is-temp 0 (lit< tt), refl), leaves-all r2 0 (Some (PointerTo (node 3) int)) (lit< tt)),
+        ((6, lit< tt, refl), tt),
+      ),
+      (
+        no_types,
+        (
+          (
+            ((type 10, refl, inr (refl, listed (type 10) (type 11) (7, lit< tt, refl))), whole (type 11)),
+            ((lit< tt, refl), is-temp 0 (lit< tt), refl),
+            includes-none r3,
+          ),
+          tt,
+        ),
+        includes-all no_types,
+      ),
+    ),
+  ),
+)
+
+renamed_body-shaped : (alloc : Global) → AreShaped renamed_body (context_in (renamed_program alloc) (renamed_main alloc)) no_types no_types
+renamed_body-shaped alloc = (
+  s1,
+  (integer.int, (lit< tt, refl), refl, leaves-all no_types 0 (Some an_int) (lit< tt)),
+  (
+    no_types,
+    (refl, ((lit< tt, refl), is-temp 0 (lit< tt), refl), includes-none s1),
+    includes-all no_types,
+  ),
+)
+
+renamed_main-in_shape : (alloc : Global) → IsFunctionInShape (renamed_program alloc) (renamed_main alloc)
+renamed_main-in_shape alloc = record {
+  type = (int, lit< tt, refl, inl (lit< tt, refl));
+  parameters = lit≤ tt;
+  scalars = tt;
+  variables = tt;
+  body = record { shaped = renamed_body-shaped alloc; nested = lit≤ tt };
+}
+
+pub renamed_program-in_shape : (alloc : Global) → IsWellFormed (renamed_program alloc).types → IsInShape (renamed_program alloc)
+unfolding layout_of
+renamed_program-in_shape alloc formed = record {
+  formed = formed;
+  nodes = each-all (λ e. AreNodesOf 5 e.shape) renamed_table
+      (tt, (tt, (tt, (tt, (tt, (tt, (tt, (tt, (tt, (tt, (lit< tt, (lit< tt, (lit< tt, tt)))))))))))));
+  sites = each-all (IsSiteInShape (renamed_program alloc).types 5) (renamed_program alloc).sites (
+    (lit< tt, lit< tt),
+    (
+      (lit< tt, lit< tt),
+      (
+        (lit< tt, lit< tt),
+        (
+          (lit< tt, lit< tt),
+          (
+            (lit< tt, lit< tt),
+            ((lit< tt, lit< tt), ((lit< tt, lit< tt, lit< tt, lit< tt), ((lit< tt, lit< tt), tt))),
+          ),
+        ),
+      ),
+    ),
+  );
+  statics = each-all (IsStaticInShape (renamed_program alloc)) (renamed_program alloc).statics
+      (record { planned = (lit< tt, (lit< tt, refl)); text = tt }, (record { planned = (lit< tt, (lit< tt, refl)); text = tt }, tt));
+  globals = lit≤ tt;
+  initialisers = record { shaped = renamed_start-shaped alloc; nested = lit≤ tt };
+  functions = each-all (IsFunctionInShape (renamed_program alloc)) (renamed_main alloc ∷ []) (renamed_main-in_shape alloc, tt);
+  count = lit≤ tt;
+  main = (renamed_main alloc, refl, (int, refl, (lit< tt, refl)));
   cells = lit≤ tt;
 }

@@ -1,11 +1,11 @@
 -- Small programs in three-address code, and what they give.
-use Rattle.std.specs.Prelude.{ℕ, pos, false, List, [], ◌∷◌, ◌++◌}
+use Rattle.std.specs.Prelude.{ℕ, pos, false, List, [], ◌∷◌, ◌++◌, None}
 use Rattle.std.proofs.Common.{lit<}
 use Rattle.std.specs.declared.alloc.Global.{Global}
 use Rattle.cc_base.specs.declared.kind.Kind.TheVariants.{Safe, Seq}
 use Rattle.c_types.specs.declared.shape.TypeShape.TheVariants as shape
 use Rattle.c_types.specs.declared.site.Site.{Site}
-use Rattle.c_types.specs.declared.site.Site.TheVariants.{Arith, Linked, Pointee, Home}
+use Rattle.c_types.specs.declared.site.Site.TheVariants.{Flow, Arith, Linked, Same, Pointee, Home}
 use Rattle.c_types.specs.Table.{Table}
 use Rattle.c_types.specs.Calls.{basic_table}
 use Rattle.runs.specs.Input.{Closed}
@@ -16,6 +16,9 @@ use Rattle.cil_form.specs.declared.instr.Operator.TheVariants as operator
 use Rattle.cil_form.specs.declared.instr.Set.TheVariants as set
 use Rattle.cil_form.specs.declared.instr.Calculate.TheVariants as calculate
 use Rattle.cil_form.specs.declared.instr.Point.TheVariants as point
+use Rattle.cil_form.specs.declared.instr.Convert.TheVariants as convert
+use Rattle.cil_form.specs.declared.number.Object.{Object}
+use Rattle.cil_form.specs.declared.number.Object.TheVariants as object
 use Rattle.cil_form.specs.declared.instr.Target.TheVariants as target
 use Rattle.cil_form.specs.declared.instr.Access.TheVariants as access
 use Rattle.cil_form.specs.declared.instr.RuntimeCall.TheVariants as runtime
@@ -192,3 +195,40 @@ switch_program alloc = program loop_table 0 (switch_main alloc ∷ []) 0 (at 5) 
 -- its run on one byte of input
 abbrev pub switch_run : Global → ℕ → SourceOutcome
 switch_run alloc byte = code_run (switch_program alloc) (kinds []) (Closed (byte ∷ [])) 9
+
+-- int x;extern int *p;int *p=&x;int main(void){return 0;}
+
+-- the two declarations of p have two pointer types, and `&x` has one of its own
+abbrev pub renamed_table : Table
+renamed_table = basic_table ++ entry (shape.Function [] int)
+    ∷ entry (shape.Pointer (node 2) int) ∷ entry (shape.Pointer (node 3) int) ∷ entry (shape.Pointer (node 4) int) ∷ []
+
+abbrev pub static_object : ℕ → Object
+static_object k = object.Static (record { 0 = k })
+
+-- p was made with its first type, and is named with its second
+abbrev pub renamed_start : List Instr
+renamed_start =
+    instr.Set (set.Object (value 0) (static_object 0) (node 0) int)
+    ∷ instr.Point (point.Address (value 0) (value 0) (node 0) (node 4) int)
+    ∷ instr.Convert (convert.Pointer (value 0) (value 0) (type 12) (type 11) (at 27))
+    ∷ instr.Access (access.Store (target.Part (static_object 1) (node 1) (type 11) 0) (value 0) (type 11) (at 27) (at 27))
+    ∷ []
+
+abbrev pub renamed_body : List Instr
+renamed_body = instr.Set (set.Integer (value 0) (pos 0) int) ∷ instr.ReturnValue (value 0) int (at 46) ∷ []
+
+abbrev pub renamed_main : Global → Function
+renamed_main alloc = record { ty = type 9; parameters = []; locals = []; body = code alloc renamed_body (lit< tt) }
+
+abbrev pub renamed_sites : List Site
+renamed_sites = Pointee (node 2) int ∷ Pointee (node 3) int ∷ Pointee (node 4) int ∷ Home (node 0) int ∷ Home (node 1) (type 10)
+    ∷ Linked (node 4) (node 0) ∷ Flow (node 4) int (node 3) int (at 27) ∷ Same (type 10) (type 11) ∷ []
+
+abbrev pub renamed_program : Global → Program
+renamed_program alloc = record (program renamed_table 5 (renamed_main alloc ∷ []) 0 (at 35) renamed_sites (code alloc renamed_start (lit< tt))) {
+  statics = record { planned = local 0 int; text = None } ∷ record { planned = local 1 (type 10); text = None } ∷ [];
+}
+
+abbrev pub renamed_run : Global → SourceOutcome
+renamed_run alloc = code_run (renamed_program alloc) (kinds []) (Closed []) 1

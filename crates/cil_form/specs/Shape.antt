@@ -5,7 +5,7 @@ use Rattle.c_types.specs.declared.shape.TypeShape.{TypeShape}
 use Rattle.c_types.specs.declared.shape.TypeShape.TheVariants as shape
 use Rattle.c_types.specs.declared.site.Site.{Site}
 use Rattle.c_types.specs.declared.site.Site.TheVariants as site
-use Rattle.c_types.specs.Table.{Table, HasShape, IsType, shape_at}
+use Rattle.c_types.specs.Table.{Table, HasShape, IsType, IsUnion, AreNodesOf, shape_at}
 use Rattle.c_types.specs.Sound.{IsWellFormed}
 use Rattle.c_types.specs.Layouts.{size_of}
 use Rattle.integers.specs.Arithmetic.{int}
@@ -78,14 +78,6 @@ abbrev pub cells_moved_by : List Instr → Table → ℕ
 cells_moved_by code table = sum_by (λ i. cells_moved i table) code
 
 -- Parts of a program
-
--- the nodes of a type are the program's
-abbrev pub AreNodesOf : ℕ → TypeShape → Type 0
-AreNodesOf nodes (shape.Pointer node to) = node.0 < nodes
-AreNodesOf nodes other = Unit {0}
-
-abbrev pub IsUnion : Table → TypeId → Type 0
-IsUnion table t = (tag : _) × (shape_at table t ≡ shape.Union tag)
 
 -- the nodes and the types of a site are the program's, and a union that is named is one
 abbrev pub IsSiteInShape : Table → ℕ → Site → Type 0

@@ -8,7 +8,7 @@ use Rattle.cc_base.specs.declared.place.Place.{Place}
 use Rattle.c_types.specs.declared.shape.TypeShape.TheVariants as shape
 use Rattle.c_types.specs.declared.site.Site.{Site}
 use Rattle.c_types.specs.declared.site.Site.TheVariants.{Flow, Same, Pointee, Home, Union}
-use Rattle.c_types.specs.Table.{Table, HasShape, IsComplete, shape_at}
+use Rattle.c_types.specs.Table.{Table, HasShape, IsComplete, IsUnion, shape_at}
 use Rattle.c_types.specs.Equality.{physically_equal}
 use Rattle.c_types.specs.Solutions.{IsSolution}
 use Rattle.src_mem.specs.Memory.{Planned}
@@ -18,7 +18,6 @@ use Rattle.cil_form.specs.declared.program.Program.{Program}
 use Rattle.cil_form.specs.Machine.{plan, variables_of}
 use Rattle.cil_form.specs.Sites.{Each}
 use Rattle.cil_form.specs.Typing.{HeldType, IntegerOf, PointerTo, PlaceOf, Typing, Context, IsObject, AreDeclaredAlike}
-use Rattle.cil_form.specs.Shape.{IsUnion}
 
 -- Pointers that code holds
 

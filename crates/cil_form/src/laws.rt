@@ -23,7 +23,7 @@ ghost use Rattle.cil_form.specs.declared.program.Program.{Program};
 ghost use Rattle.cil_form.specs.Laws.{IsBelow, IsAround, CodeSpares, Keeps};
 ghost use Rattle.cil_form.specs.Computes.{EndsAlike, Held, LeftAlike, Computes, Executes, looped};
 ghost use Rattle.cil_form.specs.Small.{at, shown, access};
-ghost use Rattle.cil_form.specs.Programs.{loop_program, loop_run, call_program, call_run, access_program, access_run, switch_program, switch_run};
+ghost use Rattle.cil_form.specs.Programs.{loop_program, loop_run, call_program, call_run, access_program, access_run, switch_program, switch_run, renamed_program, renamed_run};
 ghost use Rattle.cil_form.specs.Shape.{IsInShape, context_of, context_in};
 ghost use Rattle.c_types.specs.Sound.{IsWellFormed};
 
@@ -150,7 +150,13 @@ pub fn a_switch_runs()
     ensures other { (alloc : Global) → (switch_run alloc 99).output ≡ [] }
 {}
 
-/// The four programs are in shape, as soon as their tables of types are well formed, which each table of `Types` is.
+/// `int x;extern int *p;int *p=&x;int main(void){return 0;}` makes p with the type of its first declaration and initialises it by its second.
+pub fn an_object_is_named_with_each_of_its_types()
+    ensures run { (alloc : Global) → shown (renamed_run alloc) ≡ record { ending = Exited 0; output = []; entered = 0 ∷ []; accesses = access 1 0 8 ∷ [] } }
+    ensures in_shape { (alloc : Global) → IsWellFormed (renamed_program alloc).types → IsInShape (renamed_program alloc) }
+{}
+
+/// The four programs above it are in shape, as soon as their tables of types are well formed, which each table of `Types` is.
 pub fn small_programs_are_in_shape()
     ensures looping { (alloc : Global) → IsWellFormed (loop_program alloc).types → IsInShape (loop_program alloc) }
     ensures calling { (alloc : Global) → IsWellFormed (call_program alloc).types → IsInShape (call_program alloc) }

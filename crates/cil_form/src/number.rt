@@ -8,7 +8,7 @@ pub enum Temp {
     /// The value of an expression or of an operand. The values are a stack: the code of an expression leaves its value in one of them and
     /// changes none below it. There are 256 of them, so that no more are held at once.
     Value(u8),
-    /// What a `switch` keeps while its block runs: the number of the piece where it begins. It has the number of the `switch` statements
+    /// What a `switch` keeps while its block runs: the number of the label where it begins. It has the number of the `switch` statements
     /// around it, which are fewer than 256, since no unit is nested deeper. These alone live across statements.
     Switch(u8),
     /// What an operator works in, between the values of its operands and its own. No code keeps it.

@@ -1,33 +1,13 @@
 //! Writing the lines of instructions.
 ghost use Rattle.std.specs.Prelude.{◌≡◌, ◌++◌, ◌∷◌, [], OnOk, codes, flat_map};
-ghost use Rattle.cured_spelling.specs.Lines.{line, line_text, form_text, tag_text};
+ghost use Rattle.cured_spelling.specs.Lines.{line, line_text, tag_text};
 ghost use Rattle.cured_code.specs.declared.instr.Instr.TheVariants as instr;
 ghost use Rattle.cured_spelling.specs.Spelling.{line_of, lines_of, code_lines};
 
 use crate::lines::{put_access, put_front, put_line, put_long_line, put_word};
 use cc_base::{Check, NoMemory, Place};
 use cured_code::{Instr, Narrow};
-
-/// The name of a part of a word.
-fn form_name(form: Narrow) -> &'static [u8]
-    ensures { result.now ≡ form_text form }
-{
-    match form {
-        Narrow::S8 => b"s8",
-        Narrow::S16 => b"s16",
-        Narrow::S32 => b"s32",
-        Narrow::U8 => b"u8",
-        Narrow::U16 => b"u16",
-        Narrow::U32 => b"u32",
-    }
-}
-
-/// The letter of a tagged or of a typed area.
-pub(crate) fn tag_letter(tagged: bool) -> &'static [u8]
-    ensures { result.now ≡ tag_text tagged }
-{
-    if tagged { b"W" } else { b"T" }
-}
+use cured_spelling::{form_name, tag_letter};
 
 /// Adds the line of an `ext`.
 fn put_extension(out: &mut Vec<u8>, v: u32, a: u32, form: Narrow) -> Result<(), NoMemory>

@@ -3,10 +3,11 @@ ghost use Rattle.std.specs.Prelude.{◌≡◌, ◌<◌, ◌++◌, ◌∷◌, [],
 ghost use Rattle.cured_spelling.specs.Lines.{hex_byte, hex_text, line, line_text, fields_text, Tag, Number};
 ghost use Rattle.cured_spelling.specs.Spelling.{sig_line, node_line, area_line, function_line, local_line, body_lines, counted, parts_lines, cured_spelling};
 
-use crate::instructions::{put_code, tag_letter};
+use crate::instructions::put_code;
 use crate::lines::{put_front, put_line, put_number, put_word};
 use cc_base::NoMemory;
 use cured_code::{AreaLine, Cured, Function, GlobalLine, Sig};
+use cured_spelling::tag_letter;
 use std::alloc::Global;
 
 const DIGITS: [u8; 16] = *b"0123456789abcdef";

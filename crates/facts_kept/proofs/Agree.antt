@@ -85,7 +85,8 @@ negated true h = absurd (cc (h))
 negated false h = refl
 
 -- data types are made of cells
-pub data-makeup : (table : Table) (E : Relation) (t : TypeId) (s : TypeShape) → is_function_shape s ≡ false → makeup_of table E t s ≡ bytes (cells_at table E t)
+pub data-makeup : (table : Table) (E : Relation) (t : TypeId) (s : TypeShape) → is_function_shape s ≡ false
+    → makeup_of table E t s ≡ bytes (cells_at table E t)
 data-makeup table E t Void h = refl
 data-makeup table E t (Integer n q) h = refl
 data-makeup table E t (Pointer n u) h = refl
@@ -94,7 +95,8 @@ data-makeup table E t (Function ps q) h = absurd (cc (h))
 data-makeup table E t (Struct n) h = refl
 data-makeup table E t (Union n) h = refl
 
-pub data-pointer : (table : Table) (t : TypeId) (s : TypeShape) (i : ℕ) → is_function_shape s ≡ false → pointer_in table t s i ≡ and_then (slice_get (cells_of table t) i) pointer_in_cell
+pub data-pointer : (table : Table) (t : TypeId) (s : TypeShape) (i : ℕ) → is_function_shape s ≡ false
+    → pointer_in table t s i ≡ and_then (slice_get (cells_of table t) i) pointer_in_cell
 data-pointer table t Void i h = refl
 data-pointer table t (Integer n q) i h = refl
 data-pointer table t (Pointer n u) i h = refl
@@ -103,22 +105,31 @@ data-pointer table t (Function ps q) i h = absurd (cc (h))
 data-pointer table t (Struct n) i h = refl
 data-pointer table t (Union n) i h = refl
 
-pub pointer-there : (table : Table) (t : TypeId) → is_function table t ≡ false → (i : ℕ) (n : NodeId) (u : TypeId) → slice_get (cells_of table t) i ≡ Some (pointer n u 0) → pointer_at table t i ≡ Some (record { node = n; to = u })
+pub pointer-there : (table : Table) (t : TypeId) → is_function table t ≡ false → (i : ℕ) (n : NodeId) (u : TypeId)
+    → slice_get (cells_of table t) i ≡ Some (pointer n u 0) → pointer_at table t i ≡ Some (record { node = n; to = u })
 pointer-there table t c i n u e = data-pointer table t (shape_at table t) i c ∙ ap (λ (x : Option Cell). and_then x pointer_in_cell) e
 
-pub cells-alike : (table : Table) → IsWellFormed table → (t u : TypeId) → is_function table t ≡ false → is_function table u ≡ false → physically_equal table t u ≡ true → all_alike (physically_equal table) (cells_of table t) (cells_of table u) ≡ true
+pub cells-alike : (table : Table) → IsWellFormed table → (t u : TypeId) → is_function table t ≡ false → is_function table u ≡ false
+    → physically_equal table t u ≡ true → all_alike (physically_equal table) (cells_of table t) (cells_of table u) ≡ true
 cells-alike table w t u ct cu h = by (nat_lt t.0 (length table)) (nat_lt u.0 (length table)) (sym (ap (λ E. E t u) (still table w)) ∙ h)
   where
     both : made_alike table (physically_equal table) t u ≡ true → all_alike (physically_equal table) (cells_of table t) (cells_of table u) ≡ true
     both e =
-        sym (ap (λ x. same_makeup (physically_equal table) x (bytes (cells_of table u))) (data-makeup table (physically_equal table) t (shape_at table t) ct))
-        ∙ sym (ap (same_makeup (physically_equal table) (makeup_of table (physically_equal table) t (shape_at table t))) (data-makeup table (physically_equal table) u (shape_at table u) cu))
+        sym
+        (ap (λ x. same_makeup (physically_equal table) x (bytes (cells_of table u)))
+        (data-makeup table (physically_equal table) t (shape_at table t) ct))
+        ∙ sym
+        (ap (same_makeup (physically_equal table) (makeup_of table (physically_equal table) t (shape_at table t)))
+        (data-makeup table (physically_equal table) u (shape_at table u) cu))
         ∙ e
 
     same : t.0 ≡ u.0 → all_alike (physically_equal table) (cells_of table t) (cells_of table u) ≡ true
-    same e = ap (λ n. all_alike (physically_equal table) (cells_of table (record { 0 = n })) (cells_of table u)) e ∙ (cells_equiv (equal_equiv table)).refl (cells_of table u)
+    same e =
+        ap (λ n. all_alike (physically_equal table) (cells_of table (record { 0 = n })) (cells_of table u)) e ∙ (cells_equiv (equal_equiv table)).refl
+        (cells_of table u)
 
-    by : (a b : Bool) → (if a && b then made_alike table (physically_equal table) t u else same_type t u) ≡ true → all_alike (physically_equal table) (cells_of table t) (cells_of table u) ≡ true
+    by : (a b : Bool) → (if a && b then made_alike table (physically_equal table) t u else same_type t u) ≡ true
+        → all_alike (physically_equal table) (cells_of table t) (cells_of table u) ≡ true
     by true true e = both e
     by true false e = same (same_id t u e)
     by false true e = same (same_id t u e)
@@ -131,7 +142,8 @@ get-taken (x ∷ xs) (suc n) zero h = refl
 get-taken (x ∷ xs) (suc n) (suc i) h = get-taken xs n i (omega arith)
 
 -- what is alike to a list has as much
-pub alike-there : (E : Relation) (xs ys : List Cell) → all_alike E xs ys ≡ true → (i : ℕ) (d : Cell) → slice_get ys i ≡ Some d → (c : Cell) × (slice_get xs i ≡ Some c) × (alike E c d ≡ true)
+pub alike-there : (E : Relation) (xs ys : List Cell) → all_alike E xs ys ≡ true → (i : ℕ) (d : Cell) → slice_get ys i ≡ Some d
+    → (c : Cell) × (slice_get xs i ≡ Some c) × (alike E c d ≡ true)
 alike-there E xs [] h i d e = absurd (cc (e))
 alike-there E [] (y ∷ ys) h i d e = absurd (cc (h))
 alike-there E (x ∷ xs) (y ∷ ys) h zero d e = let f : y ≡ d = cc (e) in (x, refl, ap (alike E x) (sym f) ∙ first (alike E x y) (all_alike E xs ys) h)
@@ -147,14 +159,18 @@ module _ (w : Setting) (sound : IsWellFormed w.table) where
   E : Relation
   E = physically_equal w.table
 
-  deeper : (Top : HeldPointer → HeldPointer → Type 0) (p q r s : HeldPointer) → Top p q → CorrespondByPlace w.table p.to q.to r s → Correspond w.table Top r s
+  deeper : (Top : HeldPointer → HeldPointer → Type 0) (p q r s : HeldPointer) → Top p q → CorrespondByPlace w.table p.to q.to r s
+      → Correspond w.table Top r s
   deeper Top p q r s here (top c d a) = inside p q c d (top p q here) a
   deeper Top p q r s here (inside a b c d before e) = inside a b c d (deeper Top p q a b here before) e
 
   -- alike cells agree where the pointers that begin there correspond
-  pub agree-top : (Top : HeldPointer → HeldPointer → Type 0) → HaveEqualKinds w.kind (Correspond w.table Top) → (xs ys : List Cell) → AreOrdered xs → AreOrdered ys
+  pub agree-top : (Top : HeldPointer → HeldPointer → Type 0) → HaveEqualKinds w.kind (Correspond w.table Top) → (xs ys : List Cell) → AreOrdered xs
+      → AreOrdered ys
       → (i k : ℕ) (c d : Cell) → slice_get xs i ≡ Some c → slice_get ys k ≡ Some d → alike (physically_equal w.table) c d ≡ true
-      → ((j : ℕ) (n m : NodeId) (a b : TypeId) → j ≤ i → j ≤ k → slice_get xs (i - j) ≡ Some (pointer n a 0) → slice_get ys (k - j) ≡ Some (pointer m b 0) → Top (record { node = n; to = a }) (record { node = m; to = b }))
+      →
+      ((j : ℕ) (n m : NodeId) (a b : TypeId) → j ≤ i → j ≤ k → slice_get xs (i - j) ≡ Some (pointer n a 0) → slice_get ys (k - j) ≡ Some
+      (pointer m b 0) → Top (record { node = n; to = a }) (record { node = m; to = b }))
       → CellsAgree w.table w.kind c d
   agree-top Top same xs ys ox oy i k raw raw e f h tops = tt
   agree-top Top same xs ys ox oy i k raw (pointer m b l) e f h tops = absurd (cc (h))
@@ -165,7 +181,8 @@ module _ (w : Setting) (sound : IsWellFormed w.table) where
   agree-top Top same xs ys ox oy i k (pointer n a j) (incomplete v) e f h tops = absurd (cc (h))
   agree-top Top same xs ys ox oy i k (mixed v j) raw e f h tops = absurd (cc (h))
   agree-top Top same xs ys ox oy i k (mixed v j) (pointer m b l) e f h tops = absurd (cc (h))
-  agree-top Top same xs ys ox oy i k (mixed v j) (mixed x l) e f h tops = (id-is v x (first (same_type v x) (j == l) h), number-is j l (second (same_type v x) (j == l) h))
+  agree-top Top same xs ys ox oy i k (mixed v j) (mixed x l) e f h tops =
+      (id-is v x (first (same_type v x) (j == l) h), number-is j l (second (same_type v x) (j == l) h))
   agree-top Top same xs ys ox oy i k (mixed v j) (incomplete x) e f h tops = absurd (cc (h))
   agree-top Top same xs ys ox oy i k (incomplete v) raw e f h tops = absurd (cc (h))
   agree-top Top same xs ys ox oy i k (incomplete v) (pointer m b l) e f h tops = absurd (cc (h))
@@ -178,17 +195,24 @@ module _ (w : Setting) (sound : IsWellFormed w.table) where
       let here = tops j n m a b (ox.least i j n a e).1 (let z = (oy.least k l m b f).1 in omega (arith, z, jl)) e' f' in (
         jl,
         same (record { node = n; to = a }) (record { node = m; to = b }) (top (record { node = n; to = a }) (record { node = m; to = b }) here),
-        record { equal = second (j == l) (physically_equal w.table a b) h; kinds = λ r s x. same r s (deeper Top (record { node = n; to = a }) (record { node = m; to = b }) r s here x) },
+        record {
+          equal = second (j == l) (physically_equal w.table a b) h;
+          kinds = λ r s x. same r s
+              (deeper Top (record { node = n; to = a }) (record { node = m; to = b }) r s here x);
+        },
       )
 
   -- cells that are alike from the first on, of data types whose pointers at the same places have equal kinds
-  pub agree-placed : (t u : TypeId) → is_function w.table t ≡ false → is_function w.table u ≡ false → HaveEqualKinds w.kind (CorrespondByPlace w.table t u)
-      → (i : ℕ) (c d : Cell) → slice_get (cells_of w.table t) i ≡ Some c → slice_get (cells_of w.table u) i ≡ Some d → alike (physically_equal w.table) c d ≡ true → CellsAgree w.table w.kind c d
+  pub agree-placed : (t u : TypeId) → is_function w.table t ≡ false → is_function w.table u ≡ false
+      → HaveEqualKinds w.kind (CorrespondByPlace w.table t u)
+      → (i : ℕ) (c d : Cell) → slice_get (cells_of w.table t) i ≡ Some c → slice_get (cells_of w.table u) i ≡ Some d
+      → alike (physically_equal w.table) c d ≡ true → CellsAgree w.table w.kind c d
   agree-placed t u ft fu same i c d e f h =
-      agree-top (StandAlike w.table t u) same (cells_of w.table t) (cells_of w.table u) (cells_ordered w.table sound t) (cells_ordered w.table sound u) i i c d e f h
+      agree-top (StandAlike w.table t u) same (cells_of w.table t) (cells_of w.table u) (cells_ordered w.table sound t)
+      (cells_ordered w.table sound u) i i c d e f h
       (λ j n m a b l k x y. (i - j, pointer-there w.table t ft (i - j) n a x, pointer-there w.table u fu (i - j) m b y))
 
-  -- law f
+  -- what a type covers agrees with its cells
   pub covered-cells : (t u : TypeId) → Covers w.table w.kind t u → (i : ℕ) (d : Cell) → slice_get (cells_of w.table u) i ≡ Some d
       → (c : Cell) × (slice_get (cells_of w.table t) i ≡ Some c) × CellsAgree w.table w.kind c d
   covered-cells t u h i d e =
@@ -200,8 +224,9 @@ module _ (w : Setting) (sound : IsWellFormed w.table) where
       let f = sym (get-taken (cells_of w.table t) (length (cells_of w.table u)) i (slice_get_within (cells_of w.table u) i d e)) ∙ x.1 in
       (x.0, f, agree-placed t u ft fu h.kinds i x.0 d f e x.2)
 
-  -- law e
-  pub class-cells : (t u : TypeId) → is_function w.table t ≡ false → is_function w.table u ≡ false → IsOfOneClass w.table w.kind t u → (i : ℕ) (d : Cell) → slice_get (cells_of w.table u) i ≡ Some d
+  -- the cells of types of one class agree, byte by byte
+  pub class-cells : (t u : TypeId) → is_function w.table t ≡ false → is_function w.table u ≡ false → IsOfOneClass w.table w.kind t u
+      → (i : ℕ) (d : Cell) → slice_get (cells_of w.table u) i ≡ Some d
       → (c : Cell) × (slice_get (cells_of w.table t) i ≡ Some c) × CellsAgree w.table w.kind c d
   class-cells t u ft fu h i d e =
       let x = alike-there (physically_equal w.table) (cells_of w.table t) (cells_of w.table u) (cells-alike w.table sound t u ft fu h.equal) i d e in

@@ -40,7 +40,9 @@ at-end xs x = let e : length xs ≡ length xs + 0 = omega arith in ap (slice_get
 
 module _ (w : Setting) (sound : IsWellFormed w.table) (sites : List Site) where
   void-empty : (t : TypeId) → shape_at w.table t ≡ Void → cells_of w.table t ≡ []
-  void-empty t e = cells_are w.table sound.order.0 sound.order.1 (physically_equal w.table) t ∙ ap (λ s. cells_of_shape w.table (physically_equal w.table) (cells_of w.table) t s (members_at w.table t)) e
+  void-empty t e =
+      cells_are w.table sound.order.0 sound.order.1 (physically_equal w.table) t ∙ ap
+      (λ s. cells_of_shape w.table (physically_equal w.table) (cells_of w.table) t s (members_at w.table t)) e
 
   block-data : (t : TypeId) → MakesBlocks w t → is_function w.table t ≡ false
   block-data t h = ⊎_elim (λ e. ap is_function_shape e) (λ c. complete-data w.table sound t c) h
@@ -83,11 +85,13 @@ module _ (w : Setting) (sound : IsWellFormed w.table) (sites : List Site) where
       where
         ordered : (k : ℕ) (x : Outline) → slice_get (outline block ∷ []) k ≡ Some x → w.kind x.node ≢ Wild → AreOrdered x.cells
         ordered zero x e u = let f : outline block ≡ x = cc (e) in
-            subst (λ (y : Outline). AreOrdered y.cells) f (block-filled w sound node t n (subst (λ (y : Outline). w.kind y.node ≢ Wild) (sym f) u)).ordered
+            subst (λ (y : Outline). AreOrdered y.cells) f
+            (block-filled w sound node t n (subst (λ (y : Outline). w.kind y.node ≢ Wild) (sym f) u)).ordered
         ordered (suc k) x e u = absurd (cc (e))
 
         celled : (k : ℕ) (x : Outline) → slice_get (outline block ∷ []) k ≡ Some x → length x.cells ≡ x.size
-        celled zero x e = let f : outline block ≡ x = cc (e) in subst (λ (y : Outline). length y.cells ≡ y.size) f (block-length (cells_of w.table t) size)
+        celled zero x e =
+            let f : outline block ≡ x = cc (e) in subst (λ (y : Outline). length y.cells ≡ y.size) f (block-length (cells_of w.table t) size)
         celled (suc k) x e = absurd (cc (e))
 
     none_deeper : AreNoDeeper (map life objects) depth
@@ -119,9 +123,14 @@ module _ (w : Setting) (sound : IsWellFormed w.table) (sites : List Site) where
         long : AllHold w after (null_or_in_bounds (size_of w.table t) here) → length (cells_of w.table t) ≤ size
         long c = let b = in-bounds 0 size (pos 0) (size_of w.table t) c.0 in block-long t size makes (let x = b.3 in omega (arith, x))
 
-        by : (k : Kind) → w.kind node ≡ k → AllHold w after (conditions_of_allocation k (size_of w.table t) here) → IsValueOf w (map outline objects) k t here
-        by Safe e c = block-safe w sound (map outline objects) (length s.memory.objects) (outline block) there t (filled Safe e (λ a. cc (a))) (block-data t makes) (long c)
-        by Rtti e c = block-typed w sound (map outline objects) (length s.memory.objects) (outline block) there t (filled Rtti e (λ a. cc (a))) (block-data t makes) (long c)
+        by : (k : Kind) → w.kind node ≡ k → AllHold w after (conditions_of_allocation k (size_of w.table t) here)
+            → IsValueOf w (map outline objects) k t here
+        by Safe e c =
+            block-safe w sound (map outline objects) (length s.memory.objects) (outline block) there t (filled Safe e (λ a. cc (a)))
+            (block-data t makes) (long c)
+        by Rtti e c =
+            block-typed w sound (map outline objects) (length s.memory.objects) (outline block) there t (filled Rtti e (λ a. cc (a)))
+            (block-data t makes) (long c)
         by Seq e c = block-seq w sound (map outline objects) (length s.memory.objects) (outline block) there t (filled Seq e (λ a. cc (a)))
             (λ g. ⊎_elim (λ v. void-empty t v) (λ d. absurd (g d)) makes)
         by Wild e c = block-wild w sound (map outline objects) (length s.memory.objects) (outline block) there t e

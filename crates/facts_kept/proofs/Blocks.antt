@@ -67,7 +67,9 @@ block-get (c ∷ cs) n i some h =
 
 pub block-length : (cells : List Cell) (n : ℕ) → length (block_cells cells n) ≡ n
 block-length [] n = length-replicate n raw
-block-length (c ∷ cs) n = let l = enough n (length (c ∷ cs)) (some cs) in let e = rep-length (suc (n / length (c ∷ cs))) (c ∷ cs) in length-take-le n (repeat (suc (n / length (c ∷ cs))) (c ∷ cs)) (omega (arith, l, e))
+block-length (c ∷ cs) n =
+    let l = enough n (length (c ∷ cs)) (some cs) in let e = rep-length (suc (n / length (c ∷ cs))) (c ∷ cs) in length-take-le n
+    (repeat (suc (n / length (c ∷ cs))) (c ∷ cs)) (omega (arith, l, e))
   where
     some : (cs : List Cell) → 0 < length (c ∷ cs)
     some cs = omega arith
@@ -80,9 +82,12 @@ pub record IsBlockOf (cells block : List Cell) (n : ℕ) : Type 0 where
 abbrev pub NoPointers : List Cell → Type 0
 NoPointers cells = (i : ℕ) (m : NodeId) (t : TypeId) (j : ℕ) → slice_get cells i ≡ Some (pointer m t j) → Prim.⊥
 
-pub whole-ordered : (cells block : List Cell) (n : ℕ) → 0 < length cells → IsBlockOf cells block n → AreOrdered cells → n % length cells ≡ 0 → AreOrdered block
+pub whole-ordered : (cells block : List Cell) (n : ℕ) → 0 < length cells → IsBlockOf cells block n → AreOrdered cells → n % length cells ≡ 0
+    → AreOrdered block
 whole-ordered cells block n some b o whole = record {
-  least = λ i j m t e. let l = o.least (i % length cells) j m t (from i (pointer m t j) e) in (l.0, let x = l.1 in let y = mod-le i in omega (arith, x, y));
+  least =
+      λ i j m t e. let l =
+      o.least (i % length cells) j m t (from i (pointer m t j) e) in (l.0, let x = l.1 in let y = mod-le i in omega (arith, x, y));
   back = λ i j m t e.
       let f = from (suc i) (pointer m t (suc j)) e in
       let l = (o.least (suc i % length cells) (suc j) m t f).1 in
@@ -111,18 +116,25 @@ whole-ordered cells block n some b o whole = record {
     up : (i : ℕ) → suc (i % length cells) < length cells → suc i % length cells ≡ suc (i % length cells)
     up i h =
         let e : suc i ≡ suc (i % length cells) + i / length cells * length cells = (let x = mod-add-div' i (length cells) in omega (arith, x)) in
-        ap (λ z. z % length cells) e ∙ Rattle.std.proofs.Math.Nat.add-mul-mod_self_right (suc (i % length cells)) (i / length cells) (length cells) ∙ mod-eq_of_lt h
+        ap (λ z. z % length cells) e ∙ Rattle.std.proofs.Math.Nat.add-mul-mod_self_right (suc (i % length cells)) (i / length cells) (length cells)
+        ∙ mod-eq_of_lt h
 
     step : (i : ℕ) → 0 < suc i % length cells → suc i % length cells ≡ suc (i % length cells)
-    step i h = ⊎_elim (λ l. up i l) (λ e. absurd (let z : suc i % length cells ≡ 0 = last i e in omega (arith, z, h))) (case (suc (i % length cells)) (length cells) (mod-lt i some))
+    step i h =
+        ⊎_elim (λ l. up i l) (λ e. absurd (let z : suc i % length cells ≡ 0 = last i e in omega (arith, z, h)))
+        (case (suc (i % length cells)) (length cells) (mod-lt i some))
       where
         case : (a b : ℕ) → a ≤ b → (a < b) ⊎ (a ≡ b)
         case a b h = grind arith
 
         last : (i : ℕ) → suc (i % length cells) ≡ length cells → suc i % length cells ≡ 0
         last i e =
-            let f : suc i ≡ 0 + suc (i / length cells) * length cells = (let x = mod-add-div' i (length cells) in let t : suc (i / length cells) * length cells ≡ length cells + i / length cells * length cells = times (i / length cells) (length cells) in omega (arith, x, t, e)) in
-            ap (λ z. z % length cells) f ∙ Rattle.std.proofs.Math.Nat.add-mul-mod_self_right 0 (suc (i / length cells)) (length cells) ∙ zero-mod (length cells)
+            let f : suc i ≡ 0 + suc (i / length cells) * length cells =
+            (let x = mod-add-div' i (length cells) in let t : suc
+            (i / length cells) * length cells ≡ length cells + i / length cells * length cells = times (i / length cells) (length cells) in
+            omega (arith, x, t, e)) in
+            ap (λ z. z % length cells) f ∙ Rattle.std.proofs.Math.Nat.add-mul-mod_self_right 0 (suc (i / length cells)) (length cells) ∙ zero-mod
+            (length cells)
           where
             times : (k m : ℕ) → suc k * m ≡ m + k * m
             times k m = grind arith
@@ -131,7 +143,9 @@ whole-ordered cells block n some b o whole = record {
             zero-mod n = grind arith
 
     next : (i : ℕ) → i < n → suc (i % length cells) < length cells → suc i < n
-    next i h k = ⊎_elim (λ l. l) (λ e. absurd (let x = ap (λ z. z % length cells) e in let y = up i k in let z = whole in omega (arith, x, y, z))) (case (suc i) n h)
+    next i h k =
+        ⊎_elim (λ l. l) (λ e. absurd (let x = ap (λ z. z % length cells) e in let y = up i k in let z = whole in omega (arith, x, y, z)))
+        (case (suc i) n h)
       where
         case : (a b : ℕ) → a ≤ b → (a < b) ⊎ (a ≡ b)
         case a b h = grind arith
@@ -155,10 +169,13 @@ module _ (w : Setting) (sound : IsWellFormed w.table) where
   shifted-none t c = record {
     agree = λ i.
         let n = (complete-some w.table sound t c).1 in
-        let e : residue (pos 0 +ℤ pos i) (size_of w.table t) ≡ i % length (cells_of w.table t) = ap (λ z. residue z (size_of w.table t)) (zero-plus i) ∙ ap (λ k. i % k) (sym n) in
+        let e : residue (pos 0 +ℤ pos i) (size_of w.table t) ≡ i % length (cells_of w.table t) = ap (λ z. residue z (size_of w.table t)) (zero-plus i)
+        ∙ ap (λ k. i % k) (sym n) in
         let f : repeated_cell (cells_of w.table t) (residue (pos 0 +ℤ pos i) (size_of w.table t)) ≡ repeated_cell (cells_of w.table t) i =
-        ap (repeated_cell (cells_of w.table t)) e ∙ ap (λ k. slice_index_or (cells_of w.table t) k raw) (Rattle.std.proofs.Math.Nat.mod-mod i (length (cells_of w.table t))) in
-        subst (λ c. CellsAgree w.table w.kind (repeated_cell (cells_of w.table t) (residue (pos 0 +ℤ pos i) (size_of w.table t))) c) f (agree-own w sound (repeated_cell (cells_of w.table t) (residue (pos 0 +ℤ pos i) (size_of w.table t))));
+        ap (repeated_cell (cells_of w.table t)) e ∙ ap (λ k. slice_index_or (cells_of w.table t) k raw)
+        (Rattle.std.proofs.Math.Nat.mod-mod i (length (cells_of w.table t))) in
+        subst (λ c. CellsAgree w.table w.kind (repeated_cell (cells_of w.table t) (residue (pos 0 +ℤ pos i) (size_of w.table t))) c) f
+        (agree-own w sound (repeated_cell (cells_of w.table t) (residue (pos 0 +ℤ pos i) (size_of w.table t))));
   }
     where
       zero-plus : (i : ℕ) → pos 0 +ℤ pos i ≡ pos i
@@ -186,16 +203,28 @@ module _ (w : Setting) (sound : IsWellFormed w.table) where
       agree = λ i d e.
           let l = slice_get_within (cells_of w.table t) i d e in
           let z : 0 + i ≡ i = omega arith in
-          let g : slice_get (cells_of w.table t) i ≡ Some (repeated_cell (cells_of w.table t) i) = ap (slice_get (cells_of w.table t)) (sym (mod-eq_of_lt l)) ∙ rep-there (cells_of w.table t) i (omega (arith, l)) in
+          let g : slice_get (cells_of w.table t) i ≡ Some (repeated_cell (cells_of w.table t) i) = ap (slice_get (cells_of w.table t))
+          (sym (mod-eq_of_lt l)) ∙ rep-there (cells_of w.table t) i (omega (arith, l)) in
           (d, ap (slice_get o.cells) z ∙ f.filled (omega (arith, l)) i (omega (arith, l, h)) ∙ sym g ∙ e, agree-own w sound d);
     }
 
     -- SAFE and RTTI, once BOUNDS held
     pub block-safe : IsFilled t o → IsFalse (is_function w.table t) → length (cells_of w.table t) ≤ o.size → IsSafeAt w outlines t here
-    block-safe f d h = record { object = o; at = 0; located = located; typed = typed f; stands = stands f; data_type = d; holds = hold f h; covers = covers_own w.table w.kind t d }
+    block-safe f d h =
+        record {
+          object = o;
+          at = 0;
+          located = located;
+          typed = typed f;
+          stands = stands f;
+          data_type = d;
+          holds = hold f h;
+          covers = covers_own w.table w.kind t d;
+        }
 
     pub block-typed : IsFilled t o → IsFalse (is_function w.table t) → length (cells_of w.table t) ≤ o.size → IsTypedAt w outlines t here
-    block-typed f d h = record { object = o; at = 0; located = located; typed = typed f; stands = stands f; holds = hold f h; covers = covers_own w.table w.kind t d }
+    block-typed f d h =
+        record { object = o; at = 0; located = located; typed = typed f; stands = stands f; holds = hold f h; covers = covers_own w.table w.kind t d }
 
     pub block-place : IsFilled t o → length (cells_of w.table t) ≤ o.size → IsTypedPlace w outlines t here
     block-place f h = record { object = o; at = 0; located = located; typed = typed f; stands = stands f; holds = hold f h }
@@ -209,7 +238,15 @@ module _ (w : Setting) (sound : IsWellFormed w.table) where
       made = class_own w.table w.kind t;
       least = near;
       most = near';
-      filled = λ c. record { agree = λ i h. let z : 0 + i ≡ i = omega arith in (repeated_cell (cells_of w.table t) i, ap (slice_get o.cells) z ∙ f.filled (complete-some w.table sound t c).0 i (omega (arith, h)), agree-own w sound (repeated_cell (cells_of w.table t) i)) };
+      filled =
+          λ c. record {
+            agree = λ i h. let z : 0 + i ≡ i = omega arith in (
+              repeated_cell (cells_of w.table t) i,
+              ap (slice_get o.cells) z ∙ f.filled (complete-some w.table sound t c).0 i
+                  (omega (arith, h)),
+              agree-own w sound (repeated_cell (cells_of w.table t) i),
+            );
+          };
       shifted = λ c. subst (IsSameShifted w t) (sym none) (shifted-none t c);
       unmoved = λ c. (void c, none);
     }

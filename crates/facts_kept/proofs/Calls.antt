@@ -11,7 +11,8 @@ use Rattle.src_mem.specs.Facts.{IsValueOf}
 use Rattle.facts_kept.proofs.Places.{value-class}
 
 module _ (w : Setting) (sound : IsWellFormed w.table) (outlines : List Outline) where
-  deeper : (t u : TypeId) (p q r s : HeldPointer) → StandAlike w.table t u p q → CorrespondByPlace w.table p.to q.to r s → CorrespondByPlace w.table t u r s
+  deeper : (t u : TypeId) (p q r s : HeldPointer) → StandAlike w.table t u p q → CorrespondByPlace w.table p.to q.to r s
+      → CorrespondByPlace w.table t u r s
   deeper t u p q r s here (top c d a) = inside p q c d (top p q here) a
   deeper t u p q r s here (inside a b c d before e) = inside a b r s (deeper t u p q a b here before) e
 
@@ -25,10 +26,12 @@ module _ (w : Setting) (sound : IsWellFormed w.table) (outlines : List Outline) 
       (x.0, x.1, one.kinds x.0 q (top x.0 q here), record { equal = x.2; kinds = λ r s h. one.kinds r s (deeper t u x.0 q r s here h) })
 
   -- an argument, by the call's type u, is a value of the parameter of the function's type t; a result the other way round
-  pub passed : (t u : TypeId) → IsOfOneClass w.table w.kind t u → (i : ℕ) (p q : HeldPointer) → pointer_at w.table t i ≡ Some p → pointer_at w.table u i ≡ Some q
+  pub passed : (t u : TypeId) → IsOfOneClass w.table w.kind t u → (i : ℕ) (p q : HeldPointer) → pointer_at w.table t i ≡ Some p
+      → pointer_at w.table u i ≡ Some q
       → (v : Pointer) → IsValueOf w outlines (w.kind q.node) q.to v → IsValueOf w outlines (w.kind p.node) p.to v
   passed t u one i p q e f v h =
       let x = counterpart t u one i q f in
       let same : x.0 ≡ p = (let a = x.1 in cc (a, e)) in
-      let y = subst (λ c. IsValueOf w outlines c x.0.to v) (sym x.2) (value-class w sound outlines (w.kind q.node) q.to x.0.to v (class_turned w.table w.kind x.0.to q.to x.3) h) in
+      let y = subst (λ c. IsValueOf w outlines c x.0.to v) (sym x.2)
+      (value-class w sound outlines (w.kind q.node) q.to x.0.to v (class_turned w.table w.kind x.0.to q.to x.3) h) in
       subst (λ (z : HeldPointer). IsValueOf w outlines (w.kind z.node) z.to v) same y

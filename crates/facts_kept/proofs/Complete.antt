@@ -51,7 +51,8 @@ repeat-whole : (k : ℕ) (cells : List Cell) → NoHole cells → NoHole (repeat
 repeat-whole zero cells h = none-whole
 repeat-whole (suc k) cells h = append-whole cells (repeat k cells) h (repeat-whole k cells h)
 
-members-whole : (align : TypeId → ℕ) (f : TypeId → List Cell) (a : List Cell) (ms : List TypeId) → NoHole a → ((m : TypeId) → Contains ms m → NoHole (f m))
+members-whole : (align : TypeId → ℕ) (f : TypeId → List Cell) (a : List Cell) (ms : List TypeId) → NoHole a
+    → ((m : TypeId) → Contains ms m → NoHole (f m))
     → NoHole (fold (λ cells m. padded_to (rounded (length cells) (align m)) cells ++ f m) a ms)
 members-whole align f a [] h each = h
 members-whole align f a (m ∷ ms) h each =
@@ -67,7 +68,8 @@ longest-whole f (m ∷ ms) each = by (nat_lt (length (f m)) (length (longest (ma
     by true h = h
     by false h = each m (contains_head m ms)
 
-union-whole : (E : Relation) (t : TypeId) (size : ℕ) (holds : Bool) (cs : List (List Cell)) → NoHole (longest cs) → NoHole (union_cells E t size holds cs)
+union-whole : (E : Relation) (t : TypeId) (size : ℕ) (holds : Bool) (cs : List (List Cell)) → NoHole (longest cs)
+    → NoHole (union_cells E t size holds cs)
 union-whole E t size false cs h = raw-whole size
 union-whole E t size true cs h = by (list_all (begins E (longest cs)) cs)
   where
@@ -95,16 +97,22 @@ module _ (table : Table) (w : IsWellFormed table) where
   whole-below E (suc n) t b c =
       subst NoHole (sym (cells_are table w.order.0 w.order.1 E t))
       (shape-whole table E (cells_at table E) t (shape_at table t) (members_at table t) c
-      (λ m k. let f = w.order.1.falls t m k in whole-below E n m (omega arith) (All-contains (IsComplete table) (parts_of_shape (shape_at table t) (members_at table t)) m (w.each t).parts k)))
+      (λ m k. let f = w.order.1.falls t m k in whole-below E n m (omega arith)
+      (All-contains (IsComplete table) (parts_of_shape (shape_at table t) (members_at table t)) m (w.each t).parts k)))
 
   pub cells-whole : (t : TypeId) → IsComplete table t → NoHole (cells_of table t)
   cells-whole t c = whole-below (physically_equal table) (suc (w.order.0 t)) t (omega arith) c
 
   -- a data type with a cell that isn't a hole is complete
-  pub complete-cell : (u : TypeId) → is_function table u ≡ false → (d : Cell) → slice_get (cells_of table u) 0 ≡ Some d → ((v : TypeId) → d ≡ incomplete v → Prim.⊥) → IsComplete table u
-  complete-cell u f d e hole = by (shape_at table u) (members_at table u) f (sym (ap (λ l. slice_get l 0) (cells_are table w.order.0 w.order.1 (physically_equal table) u)) ∙ e)
+  pub complete-cell : (u : TypeId) → is_function table u ≡ false → (d : Cell) → slice_get (cells_of table u) 0 ≡ Some d
+      → ((v : TypeId) → d ≡ incomplete v → Prim.⊥) → IsComplete table u
+  complete-cell u f d e hole =
+      by (shape_at table u) (members_at table u) f
+      (sym (ap (λ l. slice_get l 0) (cells_are table w.order.0 w.order.1 (physically_equal table) u)) ∙ e)
     where
-      by : (s : TypeShape) (ms : List TypeId) → is_function_shape s ≡ false → slice_get (cells_of_shape table (physically_equal table) (cells_at table (physically_equal table)) u s ms) 0 ≡ Some d → is_complete_entry s ms ≡ true
+      by : (s : TypeShape) (ms : List TypeId) → is_function_shape s ≡ false
+          → slice_get (cells_of_shape table (physically_equal table) (cells_at table (physically_equal table)) u s ms) 0 ≡ Some d
+          → is_complete_entry s ms ≡ true
       by Void ms g h = absurd (cc (h))
       by (Integer bytes signed) ms g h = refl
       by (Pointer node to) ms g h = refl
@@ -148,13 +156,16 @@ module _ (w : Setting) (sound : IsWellFormed w.table) where
       complete-cell w.table sound u f (repeated_cell (cells_of w.table u) 0)
       (ap (slice_get (cells_of w.table u)) (sym (zero-mod (length (cells_of w.table u)))) ∙ rep-there (cells_of w.table u) 0 some)
       (λ v e. cells-whole w.table sound t c (0 % length (cells_of w.table t)) v (rep-there (cells_of w.table t) 0 (complete-some w.table sound t c).0
-      ∙ ap Some (agree-hole (repeated_cell (cells_of w.table t) 0) v (subst (λ d. CellsAgree w.table w.kind (repeated_cell (cells_of w.table t) 0) d) e h))))
+      ∙ ap Some
+      (agree-hole (repeated_cell (cells_of w.table t) 0) v
+      (subst (λ d. CellsAgree w.table w.kind (repeated_cell (cells_of w.table t) 0) d) e h))))
 
 -- a function has no cells
 pub function-empty : (table : Table) → IsWellFormed table → (t : TypeId) → is_function table t ≡ true → cells_of table t ≡ []
 function-empty table w t h = cells_are table w.order.0 w.order.1 (physically_equal table) t ∙ by (shape_at table t) (members_at table t) h
   where
-    by : (s : TypeShape) (ms : List TypeId) → is_function_shape s ≡ true → cells_of_shape table (physically_equal table) (cells_at table (physically_equal table)) t s ms ≡ []
+    by : (s : TypeShape) (ms : List TypeId) → is_function_shape s ≡ true
+        → cells_of_shape table (physically_equal table) (cells_at table (physically_equal table)) t s ms ≡ []
     by Void ms h = absurd (cc (h))
     by (Integer n q) ms h = absurd (cc (h))
     by (Pointer n t) ms h = absurd (cc (h))

@@ -17,7 +17,8 @@ use Rattle.facts_kept.specs.Kept.{IsFlow, GivesPointer}
 use Rattle.facts_kept.proofs.Convert.{conversion-right, conversion-made}
 use Rattle.facts_kept.proofs.Giving.{gives-checked}
 
-reaches-made : (lives : List Life) (depth : ℕ) (u : TypeId) (b : Bool) (p : Pointer) → Reaches lives depth p → Reaches lives depth (if b then made_at u p else p)
+reaches-made : (lives : List Life) (depth : ℕ) (u : TypeId) (b : Bool) (p : Pointer) → Reaches lives depth p
+    → Reaches lives depth (if b then made_at u p else p)
 reaches-made lives depth u false p r = r
 reaches-made lives depth u true Null r = tt
 reaches-made lives depth u true (Number n) r = tt
@@ -25,7 +26,8 @@ reaches-made lives depth u true (At l) r = record { life = r.life; found = r.fou
 reaches-made lives depth u true (Function n) r = tt
 
 pub gives-converted : (w : Setting) (sites : List Site) (at : Place) (depth : ℕ) (t u : TypeId) (p : Pointer) (s : State) → IsWellFormed w.table
-    → IsFlow w sites (node_in w t) (pointee w t) (node_in w u) (pointee w u) → IsHeldIn w s.memory depth (kind_in w t) (pointee w t) p → IsMade sites p
+    → IsFlow w sites (node_in w t) (pointee w t) (node_in w u) (pointee w u) → IsHeldIn w s.memory depth (kind_in w t) (pointee w t) p
+    → IsMade sites p
     → Gives (converted_pointer w at t u p s) (GivesPointer w sites depth (kind_in w u) (pointee w u) s)
 gives-converted w sites at depth t u p s sound f h made =
     gives-checked w (λ c. at)
@@ -37,12 +39,16 @@ gives-converted w sites at depth t u p s sound f h made =
       to_size = pointee_size w u;
       to_type = pointee w u;
     }) p)
-    (convert (flow_class w.table (pointee w t) (pointee w u)) (kind_in w t) (kind_in w u) (pointee w u) p) s (GivesPointer w sites depth (kind_in w u) (pointee w u) s)
+    (convert (flow_class w.table (pointee w t) (pointee w u)) (kind_in w t) (kind_in w u) (pointee w u) p) s
+    (GivesPointer w sites depth (kind_in w u) (pointee w u) s)
     (λ c. record {
       memory = refl;
       held = record {
-        value = conversion-right w sound (outlines_of s.memory) sites (node_in w t) (pointee w t) (node_in w u) (pointee w u) f s.memory p made h.value c;
-        reaches = reaches-made (lives_of s.memory) depth (pointee w u) (is_made_anew (flow_class w.table (pointee w t) (pointee w u)) (kind_in w t) (kind_in w u)) p h.reaches;
+        value =
+            conversion-right w sound (outlines_of s.memory) sites (node_in w t) (pointee w t) (node_in w u) (pointee w u) f s.memory p made h.value c;
+        reaches =
+            reaches-made (lives_of s.memory) depth (pointee w u)
+            (is_made_anew (flow_class w.table (pointee w t) (pointee w u)) (kind_in w t) (kind_in w u)) p h.reaches;
       };
       made = conversion-made w sound (outlines_of s.memory) sites (node_in w t) (pointee w t) (node_in w u) (pointee w u) f s.memory p made;
     })

@@ -26,7 +26,8 @@ use Rattle.facts_kept.proofs.Flow.{equal-data, equal-begins, rep-there}
 use Rattle.facts_kept.proofs.Complete.{cells-whole, complete-cell, complete-some}
 
 -- SEQ in bounds
-pub in-bounds : (low high : ℕ) (offset : ℤ) (m : ℕ) → fits_between low high offset m ≡ true → (at : ℕ) × (offset ≡ pos at) × (low ≤ at) × (at + m ≤ high)
+pub in-bounds : (low high : ℕ) (offset : ℤ) (m : ℕ) → fits_between low high offset m ≡ true
+    → (at : ℕ) × (offset ≡ pos at) × (low ≤ at) × (at + m ≤ high)
 in-bounds low high (pos at) m h = (at, refl, left low high at m h, right low high at m h)
   where
     left : (low high at m : ℕ) → fits_between low high (pos at) m ≡ true → low ≤ at
@@ -55,17 +56,21 @@ module _ (w : Setting) (sound : IsWellFormed w.table) where
   cell-at cells i h = slice_get-get_or cells i raw h
 
   pub covered-fewer : (t u : TypeId) → Covers w.table w.kind t u → length (cells_of w.table u) ≤ length (cells_of w.table t)
-  covered-fewer t u h = fewer (cells_of w.table t) (length (cells_of w.table u)) (λ i l. let x = covered-cells w sound t u h i (slice_index_or (cells_of w.table u) i raw) (cell-at (cells_of w.table u) i l) in (x.0, x.1))
+  covered-fewer t u h =
+      fewer (cells_of w.table t) (length (cells_of w.table u))
+      (λ i l. let x = covered-cells w sound t u h i (slice_index_or (cells_of w.table u) i raw) (cell-at (cells_of w.table u) i l) in (x.0, x.1))
 
   -- cells that hold a type hold what it covers
-  pub covered-holds : (t u : TypeId) → Covers w.table w.kind t u → (cells : List Cell) (at high : ℕ) → HoldType w cells at high t → HoldType w cells at high u
+  pub covered-holds : (t u : TypeId) → Covers w.table w.kind t u → (cells : List Cell) (at high : ℕ) → HoldType w cells at high t
+      → HoldType w cells at high u
   covered-holds t u h cells at high holds = record {
     room = let l = covered-fewer t u h in let r = holds.room in omega (arith, l, r);
     agree = λ i d e. let x = covered-cells w sound t u h i d e in let y = holds.agree i x.0 x.1 in (y.0, y.1, agree-twice w sound y.0 x.0 d y.2 x.2);
   }
 
   -- the first cell of a repetition begins no pointer before it
-  first-cell : (cells : List Cell) → AreOrdered cells → 0 < length cells → (n : NodeId) (t : TypeId) (i : ℕ) → repeated_cell cells 0 ≡ pointer n t (suc i) → Prim.⊥
+  first-cell : (cells : List Cell) → AreOrdered cells → 0 < length cells → (n : NodeId) (t : TypeId) (i : ℕ)
+      → repeated_cell cells 0 ≡ pointer n t (suc i) → Prim.⊥
   first-cell cells o some n t i e =
       let z : 0 % length cells ≡ 0 = zero-mod (length cells) in
       let l = (o.least 0 (suc i) n t (ap (slice_get cells) (sym z) ∙ rep-there cells 0 some ∙ ap Some e)).1 in omega (arith, l)
@@ -73,17 +78,20 @@ module _ (w : Setting) (sound : IsWellFormed w.table) where
       zero-mod : (n : ℕ) → 0 % n ≡ 0
       zero-mod n = grind arith
 
-  agree-pointer : (n : NodeId) (t : TypeId) (i : ℕ) (d : Cell) → CellsAgree w.table w.kind (pointer n t i) d → (m : NodeId) × (u : TypeId) × (d ≡ pointer m u i)
+  agree-pointer : (n : NodeId) (t : TypeId) (i : ℕ) (d : Cell) → CellsAgree w.table w.kind (pointer n t i) d
+      → (m : NodeId) × (u : TypeId) × (d ≡ pointer m u i)
   agree-pointer n t i raw h = absurd h
   agree-pointer n t i (pointer m u j) h = (m, u, ap (pointer m u) (sym h.0))
   agree-pointer n t i (mixed u j) h = absurd h
   agree-pointer n t i (incomplete u) h = absurd h
 
-  pub first-between : (t : TypeId) (cells : List Cell) (at : ℕ) → 0 < length (cells_of w.table t) → (c : Cell) → slice_get cells at ≡ Some c → CellsAgree w.table w.kind c (repeated_cell (cells_of w.table t) 0) → IsBetweenPointers cells at
+  pub first-between : (t : TypeId) (cells : List Cell) (at : ℕ) → 0 < length (cells_of w.table t) → (c : Cell) → slice_get cells at ≡ Some c
+      → CellsAgree w.table w.kind c (repeated_cell (cells_of w.table t) 0) → IsBetweenPointers cells at
   first-between t cells at some c e h = record {
     whole = λ n u i f.
         let g : c ≡ pointer n u (suc i) = cc (e, f) in
-        let x = agree-pointer n u (suc i) (repeated_cell (cells_of w.table t) 0) (subst (λ b. CellsAgree w.table w.kind b (repeated_cell (cells_of w.table t) 0)) g h) in
+        let x = agree-pointer n u (suc i) (repeated_cell (cells_of w.table t) 0)
+        (subst (λ b. CellsAgree w.table w.kind b (repeated_cell (cells_of w.table t) 0)) g h) in
         first-cell (cells_of w.table t) (cells_ordered w.table sound t) some x.0 x.1 i x.2;
   }
 
@@ -95,13 +103,20 @@ module _ (w : Setting) (sound : IsWellFormed w.table) where
         let here : l.part.low + (at - l.part.low + i) ≡ at + i = omega (arith, low) in
         let x = (s.filled complete).agree (at - l.part.low + i) (subst (λ k. k < l.part.high) (sym here) high) in
         let n = (complete-some w.table sound t complete).1 in
-        let apart : distance l +ℤ pos i ≡ pos (at - l.part.low + i) = ap (λ z. z -ℤ pos l.part.low +ℤ pos i) offset ∙ difference at l.part.low i low in
+        let apart : distance l +ℤ pos i ≡ pos (at - l.part.low + i) = ap (λ z. z -ℤ pos l.part.low +ℤ pos i) offset
+        ∙ difference at l.part.low i low in
         let rest : residue (distance l +ℤ pos i) (size_of w.table t) ≡ (at - l.part.low + i) % length (cells_of w.table t) =
         ap (λ z. residue z (size_of w.table t)) apart ∙ ap (λ k. (at - l.part.low + i) % k) (sym n) in
-        let again : repeated_cell (cells_of w.table t) (residue (distance l +ℤ pos i) (size_of w.table t)) ≡ repeated_cell (cells_of w.table t) (at - l.part.low + i) =
-        ap (λ k. slice_index_or (cells_of w.table t) (k % length (cells_of w.table t)) raw) rest ∙ ap (λ k. slice_index_or (cells_of w.table t) k raw) (mod-mod (at - l.part.low + i) (length (cells_of w.table t))) in
-        let y = subst (λ b. CellsAgree w.table w.kind b (repeated_cell (cells_of w.table t) i)) again ((s.shifted complete).agree i) in
-        (x.0, ap (slice_get s.object.cells) (sym here) ∙ x.1, agree-twice w sound x.0 (repeated_cell (cells_of w.table t) (at - l.part.low + i)) (repeated_cell (cells_of w.table t) i) x.2 y)
+        let again : repeated_cell (cells_of w.table t) (residue (distance l +ℤ pos i) (size_of w.table t)) ≡ repeated_cell (cells_of w.table t)
+        (at - l.part.low + i) =
+        ap (λ k. slice_index_or (cells_of w.table t) (k % length (cells_of w.table t)) raw) rest ∙ ap (λ k. slice_index_or (cells_of w.table t) k raw)
+        (mod-mod (at - l.part.low + i) (length (cells_of w.table t))) in
+        let y = subst (λ b. CellsAgree w.table w.kind b (repeated_cell (cells_of w.table t) i)) again ((s.shifted complete).agree i) in (
+          x.0,
+          ap (slice_get s.object.cells) (sym here) ∙ x.1,
+          agree-twice w sound x.0 (repeated_cell (cells_of w.table t) (at - l.part.low + i))
+              (repeated_cell (cells_of w.table t) i) x.2 y,
+        )
       where
         difference : (at low i : ℕ) → low ≤ at → pos at -ℤ pos low +ℤ pos i ≡ pos (at - low + i)
         difference at low i h = grind (arith, ints)
@@ -129,12 +144,18 @@ module _ (w : Setting) (sound : IsWellFormed w.table) where
             subst (IsBetweenPointers s.object.cells) (none at l.part.low (ap (λ z. z -ℤ pos l.part.low) (sym offset) ∙ d)) s.typed.low
 
     -- it holds what the type covers, as far as that lies in its part
-    pub seq-holds : (u : TypeId) → is_function w.table u ≡ false → Covers w.table w.kind t u → (at : ℕ) → l.offset ≡ pos at → l.part.low ≤ at → at + size_of w.table u ≤ l.part.high
+    pub seq-holds : (u : TypeId) → is_function w.table u ≡ false → Covers w.table w.kind t u → (at : ℕ) → l.offset ≡ pos at → l.part.low ≤ at
+        → at + size_of w.table u ≤ l.part.high
         → HoldType w s.object.cells at l.part.high u
     seq-holds u fu h at offset low high = by (is_complete (entry_at w.table t)) refl
       where
         empty : cells_of w.table u ≡ [] → HoldType w s.object.cells at l.part.high u
-        empty e = record { room = let n : length (cells_of w.table u) ≡ 0 = ap length e in omega (arith, n, high); agree = λ i d f. absurd (let g : slice_get (cells_of w.table u) i ≡ None = ap (λ x. slice_get x i) e in cc (f, g)) }
+        empty e =
+            record {
+              room = let n : length (cells_of w.table u) ≡ 0 = ap length e in omega (arith, n, high);
+              agree = λ i d f. absurd
+                  (let g : slice_get (cells_of w.table u) i ≡ None = ap (λ x. slice_get x i) e in cc (f, g));
+            }
 
         full : IsComplete w.table t → length (cells_of w.table u) ≡ size_of w.table u → HoldType w s.object.cells at l.part.high u
         full c n = record {
@@ -145,7 +166,8 @@ module _ (w : Setting) (sound : IsWellFormed w.table) where
               let y = seq-cell c at offset low i (omega (arith, n, high, k)) in
               let m = slice_get_within (cells_of w.table t) i x.0 x.1 in
               let same : repeated_cell (cells_of w.table t) i ≡ x.0 =
-              let g : slice_get (cells_of w.table t) i ≡ Some (repeated_cell (cells_of w.table t) i) = ap (slice_get (cells_of w.table t)) (sym (mod-eq_of_lt m)) ∙ rep-there (cells_of w.table t) i (omega (arith, m)) in
+              let g : slice_get (cells_of w.table t) i ≡ Some (repeated_cell (cells_of w.table t) i) = ap (slice_get (cells_of w.table t))
+              (sym (mod-eq_of_lt m)) ∙ rep-there (cells_of w.table t) i (omega (arith, m)) in
               let f = x.1 in cc (f, g) in
               (y.0, y.1, agree-twice w sound y.0 x.0 d (subst (CellsAgree w.table w.kind y.0) same y.2) x.2);
         }
@@ -155,7 +177,8 @@ module _ (w : Setting) (sound : IsWellFormed w.table) where
         nothing (c ∷ cells) h = absurd (h c refl)
 
         -- a complete type covers void or a complete one
-        covered : IsComplete w.table t → (cells : List Cell) → cells_of w.table u ≡ cells → (cells_of w.table u ≡ []) ⊎ (length (cells_of w.table u) ≡ size_of w.table u)
+        covered : IsComplete w.table t → (cells : List Cell) → cells_of w.table u ≡ cells
+            → (cells_of w.table u ≡ []) ⊎ (length (cells_of w.table u) ≡ size_of w.table u)
         covered c [] e = inl e
         covered c (d ∷ ds) e =
             let f : slice_get (cells_of w.table u) 0 ≡ Some d = ap (λ x. slice_get x 0) e in
@@ -173,4 +196,7 @@ module _ (w : Setting) (sound : IsWellFormed w.table) where
         by true c = ⊎_elim (λ e. empty e) (λ n. full c n) (covered c (cells_of w.table u) refl)
         by false c =
             let e = (s.unmoved (λ k. cc (k, c))).0 in
-            empty (nothing (cells_of w.table u) (λ d f. let x = covered-cells w sound t u h 0 d f in let g : slice_get (cells_of w.table t) 0 ≡ None = ap (λ x. slice_get x 0) e in let k = x.1 in cc (g, k)))
+            empty
+            (nothing (cells_of w.table u)
+            (λ d f. let x = covered-cells w sound t u h 0 d f in let g : slice_get (cells_of w.table t) 0 ≡ None = ap
+            (λ x. slice_get x 0) e in let k = x.1 in cc (g, k)))

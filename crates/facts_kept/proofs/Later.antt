@@ -8,17 +8,15 @@ use Rattle.src_mem.specs.Primitives.{ended}
 use Rattle.src_mem.specs.State.{Setting}
 use Rattle.c_types.proofs.OrderedPointers.{get_front}
 use Rattle.facts_kept.proofs.Lists.{map-both}
-use Rattle.src_mem.specs.Outlines.{Outline, outline, Life, life}
+use Rattle.src_mem.specs.Outlines.{outline, Life, life}
 use Rattle.std.proofs.lemmas.Option.{slice_get_within}
 use Rattle.src_mem.specs.Facts.{IsValueOf, Reaches, IsHeld}
-use Rattle.facts_kept.proofs.Growth.{value-grown, get-map, map-get, outlines-ended, life-ended}
+use Rattle.src_mem.proofs.Outlines.{mapped-from, get-mapped}
+use Rattle.facts_kept.specs.Kept.{IsLater}
+use Rattle.facts_kept.proofs.Growth.{value-grown, outlines-ended, life-ended}
 
-pub record IsLater (depth : ℕ) (old new : List Object) : Type 0 where
-  pub more : List Outline
-  pub outlines : map outline new ≡ map outline old ++ more
-  pub lives : (k : ℕ) (x : Life) → slice_get (map life old) k ≡ Some x → x.depth ≤ depth → slice_get (map life new) k ≡ Some x
-
-pub held-later : (w : Setting) (depth : ℕ) (old new : List Object) (k : Kind) (t : TypeId) (p : Pointer) → IsLater depth old new → IsHeld w (map outline old) (map life old) depth k t p → IsHeld w (map outline new) (map life new) depth k t p
+pub held-later : (w : Setting) (depth : ℕ) (old new : List Object) (k : Kind) (t : TypeId) (p : Pointer) → IsLater depth old new
+    → IsHeld w (map outline old) (map life old) depth k t p → IsHeld w (map outline new) (map life new) depth k t p
 held-later w depth old new k t p l h = record {
   value = subst (λ xs. IsValueOf w xs k t p) (sym l.outlines) (value-grown w (map outline old) l.more k t p h.value);
   reaches = reach p h.reaches;
@@ -54,7 +52,9 @@ pub later-grown : (depth : ℕ) (old more : List Object) → IsLater depth old (
 later-grown depth old more = record {
   more = map outline more;
   outlines = map-both outline old more;
-  lives = λ k x e h. ap (λ xs. slice_get xs k) (map-both life old more) ∙ get_front (map life old) (map life more) k (slice_get_within (map life old) k x e) ∙ e;
+  lives =
+      λ k x e h. ap (λ xs. slice_get xs k) (map-both life old more) ∙ get_front (map life old) (map life more) k
+      (slice_get_within (map life old) k x e) ∙ e;
 }
 
 -- the end of a call that is deeper
@@ -67,6 +67,7 @@ later-ended depth old = record {
   where
     lives : (k : ℕ) (x : Life) → slice_get (map life old) k ≡ Some x → x.depth ≤ depth → slice_get (map life (map (ended (suc depth)) old)) k ≡ Some x
     lives k x e h =
-        let o = get-map life old k x e in
+        let o = mapped-from life old k x e in
         let d : o.0.depth ≡ x.depth = ap (λ (y : Life). y.depth) o.2 in
-        map-get life (map (ended (suc depth)) old) k (ended (suc depth) o.0) (map-get (ended (suc depth)) old k o.0 o.1) ∙ ap Some (life-ended (suc depth) o.0 (omega (arith, d, h)) ∙ o.2)
+        get-mapped life (map (ended (suc depth)) old) k (ended (suc depth) o.0) (get-mapped (ended (suc depth)) old k o.0 o.1) ∙ ap Some
+        (life-ended (suc depth) o.0 (omega (arith, d, h)) ∙ o.2)

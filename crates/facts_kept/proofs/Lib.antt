@@ -25,3 +25,10 @@ pub mod Parts
 pub mod Addresses
 pub mod Allocating
 pub mod Moments
+pub mod Homes
+pub mod Frames
+pub mod Arguments
+pub mod Addressing
+pub mod Clearing
+pub mod Copying
+pub mod Sources

@@ -16,10 +16,12 @@ set-cases [] k j x y z e f = absurd (cc (e))
 set-cases (a ∷ l) zero zero x y z e f = inl (refl, cc (f))
 set-cases (a ∷ l) zero (suc j) x y z e f = inr ((λ h. absurd (omega arith)), f)
 set-cases (a ∷ l) (suc k) zero x y z e f = inr ((λ h. absurd (omega arith)), f)
-set-cases (a ∷ l) (suc k) (suc j) x y z e f = ⊎_elim (λ h. inl (ap suc h.0, h.1)) (λ h. inr ((λ i. h.0 (omega arith)), h.1)) (set-cases l k j x y z e f)
+set-cases (a ∷ l) (suc k) (suc j) x y z e f =
+    ⊎_elim (λ h. inl (ap suc h.0, h.1)) (λ h. inr ((λ i. h.0 (omega arith)), h.1)) (set-cases l k j x y z e f)
 
 -- an object with the same outline, or of the same life, changes no outlines, or no lives
-pub outlines-set : (l : List Object) (k : ℕ) (o new : Object) → slice_get l k ≡ Some o → outline new ≡ outline o → map outline (slice_set l k new) ≡ map outline l
+pub outlines-set : (l : List Object) (k : ℕ) (o new : Object) → slice_get l k ≡ Some o → outline new ≡ outline o
+    → map outline (slice_set l k new) ≡ map outline l
 outlines-set [] k o new e f = refl
 outlines-set (a ∷ l) zero o new e f = let d : a ≡ o = cc (e) in ap (λ (x : Outline). x ∷ map outline l) (f ∙ ap outline (sym d))
 outlines-set (a ∷ l) (suc k) o new e f = ap (λ (xs : List Outline). outline a ∷ xs) (outlines-set l k o new e f)
@@ -40,7 +42,8 @@ number-zero (suc m) l p e (suc i) h =
     let z : number m l (p + 1) ≡ 0 = omega arith in
     ap (slice_index l) f ∙ number-zero m l (p + 1) z i (omega arith)
 
-pub get-zeroed_either : (n : ℕ) (bytes : List ℕ) (a i : ℕ) → (slice_index (zeroed n bytes a) i ≡ 0) ⊎ (slice_index (zeroed n bytes a) i ≡ slice_index bytes i)
+pub get-zeroed_either : (n : ℕ) (bytes : List ℕ) (a i : ℕ)
+    → (slice_index (zeroed n bytes a) i ≡ 0) ⊎ (slice_index (zeroed n bytes a) i ≡ slice_index bytes i)
 get-zeroed_either n bytes a i = ⊎_elim (λ h. inl (get-zeroed_inside n bytes a i h.0 h.1)) (λ h. inr (get-zeroed_other n bytes a i h)) (cases a n i)
   where
     cases : (a n i : ℕ) → ((a ≤ i) × (i < a + n)) ⊎ ((i < a) ⊎ (a + n ≤ i))

@@ -21,7 +21,9 @@ residue-step : (z : ℤ) (n : ℕ) → 0 < n → residue (z +ℤ pos n) n ≡ re
 residue-step z n h = of (splits n z h)
   where
     of : Splits n z → residue (z +ℤ pos n) n ≡ residue z n
-    of x = ap (λ (y : ℤ). residue (y +ℤ pos n) n) x.is ∙ ap (λ (y : ℤ). residue y n) (up_one x.q n x.r) ∙ residue-is n (x.q +ℤ pos 1) x.r x.below ∙ sym (residue-is n x.q x.r x.below) ∙ ap (λ (y : ℤ). residue y n) (sym x.is)
+    of x =
+        ap (λ (y : ℤ). residue (y +ℤ pos n) n) x.is ∙ ap (λ (y : ℤ). residue y n) (up_one x.q n x.r) ∙ residue-is n (x.q +ℤ pos 1) x.r x.below ∙ sym
+        (residue-is n x.q x.r x.below) ∙ ap (λ (y : ℤ). residue y n) (sym x.is)
 
 residue-steps : (k n : ℕ) (z : ℤ) → 0 < n → residue (z +ℤ pos (k * n)) n ≡ residue z n
 residue-steps zero n z h = ap (λ (y : ℤ). residue y n) (omega (arith, ints))
@@ -30,7 +32,8 @@ residue-steps (suc k) n z h =
     ap (λ (y : ℤ). residue y n) e ∙ residue-step (z +ℤ pos (k * n)) n h ∙ residue-steps k n z h
 
 residue-moved : (k : ℤ) (n : ℕ) (z : ℤ) → 0 < n → residue (z +ℤ k *ℤ pos n) n ≡ residue z n
-residue-moved (pos k) n z h = let e : z +ℤ pos k *ℤ pos n ≡ z +ℤ pos (k * n) = omega (arith, ints) in ap (λ (y : ℤ). residue y n) e ∙ residue-steps k n z h
+residue-moved (pos k) n z h =
+    let e : z +ℤ pos k *ℤ pos n ≡ z +ℤ pos (k * n) = omega (arith, ints) in ap (λ (y : ℤ). residue y n) e ∙ residue-steps k n z h
 residue-moved (negsuc k) n z h =
     let e : (z +ℤ negsuc k *ℤ pos n) +ℤ pos (suc k * n) ≡ z = omega (arith, ints) in
     sym (ap (λ (y : ℤ). residue y n) (sym e) ∙ residue-steps (suc k) n (z +ℤ negsuc k *ℤ pos n) h)
@@ -83,7 +86,8 @@ module _ (w : Setting) (sound : IsWellFormed w.table) (outlines : List Outline) 
   moved_by n size l = record l { offset = l.offset +ℤ n *ℤ pos size }
 
   pub seq-moved : (t : TypeId) (n : ℤ) (l : Location) → IsComplete w.table t → IsSequenceAt w outlines t l
-      → between (neg_ℤ (pos (2 ^ 31))) (elements_before (distance l) (size_of w.table t) +ℤ n) (pos (2 ^ 31)) ≡ true → IsSequenceAt w outlines t (record l { offset = l.offset +ℤ n *ℤ pos (size_of w.table t) })
+      → between (neg_ℤ (pos (2 ^ 31))) (elements_before (distance l) (size_of w.table t) +ℤ n) (pos (2 ^ 31)) ≡ true
+      → IsSequenceAt w outlines t (record l { offset = l.offset +ℤ n *ℤ pos (size_of w.table t) })
   seq-moved t n l c s h = of (splits (size_of w.table t) (distance l) (sound.sized t c).some)
     where
       by : (x : ℤ) (low : ℕ) (y : ℤ) → (x +ℤ y) -ℤ pos low ≡ (x -ℤ pos low) +ℤ y
@@ -91,9 +95,12 @@ module _ (w : Setting) (sound : IsWellFormed w.table) (outlines : List Outline) 
 
       of : Splits (size_of w.table t) (distance l) → IsSequenceAt w outlines t (record l { offset = l.offset +ℤ n *ℤ pos (size_of w.table t) })
       of x =
-          let e : elements_before (distance l) (size_of w.table t) ≡ x.q = ap (λ z. elements_before z (size_of w.table t)) x.is ∙ quotient (size_of w.table t) x.q x.r x.below in
-          let r = whole-range (x.q +ℤ n) (size_of w.table t) x.r (sound.sized t c).most x.below (sym (ap (λ z. between (neg_ℤ (pos (2 ^ 31))) (z +ℤ n) (pos (2 ^ 31))) e) ∙ h) in
-          let d : distance (record l { offset = l.offset +ℤ n *ℤ pos (size_of w.table t) }) ≡ distance l +ℤ n *ℤ pos (size_of w.table t) = by l.offset l.part.low (n *ℤ pos (size_of w.table t)) in
+          let e : elements_before (distance l) (size_of w.table t) ≡ x.q = ap (λ z. elements_before z (size_of w.table t)) x.is ∙ quotient
+          (size_of w.table t) x.q x.r x.below in
+          let r = whole-range (x.q +ℤ n) (size_of w.table t) x.r (sound.sized t c).most x.below
+          (sym (ap (λ z. between (neg_ℤ (pos (2 ^ 31))) (z +ℤ n) (pos (2 ^ 31))) e) ∙ h) in
+          let d : distance (record l { offset = l.offset +ℤ n *ℤ pos (size_of w.table t) }) ≡ distance l +ℤ n *ℤ pos
+          (size_of w.table t) = by l.offset l.part.low (n *ℤ pos (size_of w.table t)) in
           let f : distance (record l { offset = l.offset +ℤ n *ℤ pos (size_of w.table t) }) ≡ (x.q +ℤ n) *ℤ pos (size_of w.table t) +ℤ pos x.r =
           d ∙ ap (λ z. z +ℤ n *ℤ pos (size_of w.table t)) x.is ∙ spread x.q n (size_of w.table t) x.r in
           record {
@@ -106,11 +113,14 @@ module _ (w : Setting) (sound : IsWellFormed w.table) (outlines : List Outline) 
             filled = s.filled;
             shifted = λ k. record {
               agree = λ i.
-                  let a : distance (record l { offset = l.offset +ℤ n *ℤ pos (size_of w.table t) }) +ℤ pos i ≡ (distance l +ℤ pos i) +ℤ n *ℤ pos (size_of w.table t) =
+                  let a : distance (record l { offset = l.offset +ℤ n *ℤ pos (size_of w.table t) }) +ℤ pos i ≡ (distance l +ℤ pos i) +ℤ n *ℤ pos
+                  (size_of w.table t) =
                   ap (λ z. z +ℤ pos i) d ∙ turn (distance l) (n *ℤ pos (size_of w.table t)) (pos i) in
-                  let b : residue (distance (record l { offset = l.offset +ℤ n *ℤ pos (size_of w.table t) }) +ℤ pos i) (size_of w.table t) ≡ residue (distance l +ℤ pos i) (size_of w.table t) =
+                  let b : residue (distance (record l { offset = l.offset +ℤ n *ℤ pos (size_of w.table t) }) +ℤ pos i) (size_of w.table t) ≡ residue
+                  (distance l +ℤ pos i) (size_of w.table t) =
                   ap (λ z. residue z (size_of w.table t)) a ∙ residue-moved n (size_of w.table t) (distance l +ℤ pos i) (sound.sized t c).some in
-                  subst (λ j. CellsAgree w.table w.kind (repeated_cell (cells_of w.table t) j) (repeated_cell (cells_of w.table t) i)) (sym b) ((s.shifted k).agree i);
+                  subst (λ j. CellsAgree w.table w.kind (repeated_cell (cells_of w.table t) j) (repeated_cell (cells_of w.table t) i)) (sym b)
+                  ((s.shifted k).agree i);
             };
             unmoved = λ k. absurd (k c);
           }
@@ -118,8 +128,19 @@ module _ (w : Setting) (sound : IsWellFormed w.table) (outlines : List Outline) 
           turn : (x y z : ℤ) → (x +ℤ y) +ℤ z ≡ (x +ℤ z) +ℤ y
           turn x y z = omega (arith, ints)
 
-  pub wild-moved : (d : ℤ) (l : Location) → IsWildAt w outlines l → between (neg_ℤ (pos (2 ^ 40))) (l.offset +ℤ d) (pos (2 ^ 40)) ≡ true → IsWildAt w outlines (record l { offset = l.offset +ℤ d })
-  wild-moved d l s h = record { object = s.object; found = s.found; tagged = s.tagged; low = s.low; high = s.high; least = low (l.offset +ℤ d) h; most = high (l.offset +ℤ d) h }
+  pub wild-moved : (d : ℤ) (l : Location) → IsWildAt w outlines l → between (neg_ℤ (pos (2 ^ 40))) (l.offset +ℤ d) (pos (2 ^ 40)) ≡ true
+      → IsWildAt w outlines (record l { offset = l.offset +ℤ d })
+  wild-moved d l s h =
+      record {
+        object = s.object;
+        found = s.found;
+        tagged = s.tagged;
+        low = s.low;
+        high = s.high;
+        least = low (l.offset +ℤ d) h;
+        most = high
+            (l.offset +ℤ d) h;
+      }
     where
       low : (z : ℤ) → between (neg_ℤ (pos (2 ^ 40))) z (pos (2 ^ 40)) ≡ true → wild_least ≤ℤ z
       low z h = grind (arith, ints)

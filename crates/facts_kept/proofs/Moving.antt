@@ -22,14 +22,18 @@ use Rattle.facts_kept.proofs.Giving.{gives-checked}
 
 module _ (w : Setting) (sound : IsWellFormed w.table) (sites : List Site) (at : Place) (t : TypeId) (n : ℤ) (s : State) (depth : ℕ) where
   Moved : Kind → Pointer → Type 0
-  Moved k p = Gives ((all_checked w at (conditions_of (Move (pointee_size w t) n) k p) >> move (pointee_size w t) n p) s) (GivesPointer w sites depth k (pointee w t) s)
+  Moved k p =
+      Gives ((all_checked w at (conditions_of (Move (pointee_size w t) n) k p) >> move (pointee_size w t) n p) s)
+      (GivesPointer w sites depth k (pointee w t) s)
 
   sequence : IsComplete w.table (pointee w t) → (p : Pointer) → IsHeldIn w s.memory depth Seq (pointee w t) p → IsMade sites p → Moved Seq p
   unfolding Moved
   sequence c Null h made = tt
   sequence c (Number m) h made = tt
   sequence c (Function f) h made = tt
-  sequence c (At l) h made = gives-checked w (λ c. at) (conditions_of (Move (pointee_size w t) n) Seq (At l)) (move (pointee_size w t) n (At l)) s (GivesPointer w sites depth Seq (pointee w t) s)
+  sequence c (At l) h made =
+      gives-checked w (λ c. at) (conditions_of (Move (pointee_size w t) n) Seq (At l)) (move (pointee_size w t) n (At l)) s
+      (GivesPointer w sites depth Seq (pointee w t) s)
       (λ a. record {
         memory = refl;
         held = record {
@@ -44,7 +48,9 @@ module _ (w : Setting) (sound : IsWellFormed w.table) (sites : List Site) (at : 
   wild Null h made = tt
   wild (Number m) h made = tt
   wild (Function f) h made = tt
-  wild (At l) h made = gives-checked w (λ c. at) (conditions_of (Move (pointee_size w t) n) Wild (At l)) (move (pointee_size w t) n (At l)) s (GivesPointer w sites depth Wild (pointee w t) s)
+  wild (At l) h made =
+      gives-checked w (λ c. at) (conditions_of (Move (pointee_size w t) n) Wild (At l)) (move (pointee_size w t) n (At l)) s
+      (GivesPointer w sites depth Wild (pointee w t) s)
       (λ a. record {
         memory = refl;
         held = record {
@@ -54,7 +60,8 @@ module _ (w : Setting) (sound : IsWellFormed w.table) (sites : List Site) (at : 
         made = made;
       })
 
-  pub gives-moved : (p : Pointer) → (kind_in w t ≡ Seq) ⊎ (kind_in w t ≡ Wild) → IsComplete w.table (pointee w t) → IsHeldIn w s.memory depth (kind_in w t) (pointee w t) p → IsMade sites p
+  pub gives-moved : (p : Pointer) → (kind_in w t ≡ Seq) ⊎ (kind_in w t ≡ Wild) → IsComplete w.table (pointee w t)
+      → IsHeldIn w s.memory depth (kind_in w t) (pointee w t) p → IsMade sites p
       → Gives (moved w at t n p s) (GivesPointer w sites depth (kind_in w t) (pointee w t) s)
   unfolding Moved
   gives-moved p k c h made = ⊎_elim

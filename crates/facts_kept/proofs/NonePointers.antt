@@ -41,11 +41,13 @@ holds_same f g (Function ps r) ms h = refl
 holds_same f g (Struct t) ms h = any_same f g ms h
 holds_same f g (Union t) ms h = any_same f g ms h
 
-pub holds_is : (table : Table) → IsWellFormed table → (t : TypeId) → holds_pointer table t ≡ holds_in_shape (holds_pointer table) (shape_at table t) (members_at table t)
+pub holds_is : (table : Table) → IsWellFormed table → (t : TypeId)
+    → holds_pointer table t ≡ holds_in_shape (holds_pointer table) (shape_at table t) (members_at table t)
 unfolding holds_pointer
 holds_is table w t =
     descend_is (λ of_part u. holds_in_shape of_part (shape_at table u) (members_at table u)) false (parts_at table) w.order.0
-    (λ f g u h. holds_same f g (shape_at table u) (members_at table u) h) w.order.1.falls (suc (length table)) t (rank_bound table w.order.0 w.order.1 t)
+    (λ f g u h. holds_same f g (shape_at table u) (members_at table u) h) w.order.1.falls (suc (length table)) t
+    (rank_bound table w.order.0 w.order.1 t)
 
 none-none : NoPointers []
 none-none i m t j e = cc (e)
@@ -67,7 +69,8 @@ repeat-none : (k : ℕ) (cells : List Cell) → NoPointers cells → NoPointers 
 repeat-none zero cells h = none-none
 repeat-none (suc k) cells h = append-none cells (repeat k cells) h (repeat-none k cells h)
 
-members-none : (align : TypeId → ℕ) (f : TypeId → List Cell) (a : List Cell) (ms : List TypeId) → NoPointers a → ((m : TypeId) → Contains ms m → NoPointers (f m))
+members-none : (align : TypeId → ℕ) (f : TypeId → List Cell) (a : List Cell) (ms : List TypeId) → NoPointers a
+    → ((m : TypeId) → Contains ms m → NoPointers (f m))
     → NoPointers (fold (λ cells m. padded_to (rounded (length cells) (align m)) cells ++ f m) a ms)
 members-none align f a [] h each = h
 members-none align f a (m ∷ ms) h each =
@@ -95,8 +98,10 @@ any-at f (x ∷ ms) (suc k) d l h = any-at f ms k d (omega (arith, l)) (by (f x)
 pub any-none : (f : TypeId → Bool) (ms : List TypeId) → list_any f ms ≡ false → (m : TypeId) → Contains ms m → f m ≡ false
 any-none f ms h m c = sym (ap f c.2) ∙ any-at f ms c.0 m c.1 h
 
-shape-none : (table : Table) (E : Relation) (f : TypeId → List Cell) (t : TypeId) (s : TypeShape) (ms : List TypeId) → holds_pointer table t ≡ false → holds_in_shape (holds_pointer table) s ms ≡ false
-    → ((m : TypeId) → Contains (parts_of_shape s ms) m → holds_pointer table m ≡ false → NoPointers (f m)) → NoPointers (cells_of_shape table E f t s ms)
+shape-none : (table : Table) (E : Relation) (f : TypeId → List Cell) (t : TypeId) (s : TypeShape) (ms : List TypeId) → holds_pointer table t ≡ false
+    → holds_in_shape (holds_pointer table) s ms ≡ false
+    → ((m : TypeId) → Contains (parts_of_shape s ms) m → holds_pointer table m ≡ false → NoPointers (f m))
+    → NoPointers (cells_of_shape table E f t s ms)
 shape-none table E f t Void ms n h each = none-none
 shape-none table E f t (Integer bytes signed) ms n h each = raw-none bytes
 shape-none table E f t (Pointer node to) ms n h each = absurd (cc (h))
@@ -105,7 +110,8 @@ shape-none table E f t (Function ps r) ms n h each = none-none
 shape-none table E f t (Struct tag) [] n h each = incomplete-none t
 shape-none table E f t (Union tag) [] n h each = incomplete-none t
 shape-none table E f t (Struct tag) (m ∷ ms) n h each =
-    padded-none (size_of table t) (member_cells (align_of table) f (m ∷ ms)) (members-none (align_of table) f [] (m ∷ ms) none-none (λ x c. each x c (any-none (holds_pointer table) (m ∷ ms) h x c)))
+    padded-none (size_of table t) (member_cells (align_of table) f (m ∷ ms))
+    (members-none (align_of table) f [] (m ∷ ms) none-none (λ x c. each x c (any-none (holds_pointer table) (m ∷ ms) h x c)))
 shape-none table E f t (Union tag) (m ∷ ms) n h each =
     subst (λ b. NoPointers (union_cells E t (size_of table t) b (map f (m ∷ ms)))) (sym n) (raw-none (size_of table t))
 
@@ -114,7 +120,8 @@ module _ (table : Table) (w : IsWellFormed table) where
   none-below zero t b h = absurd (omega (arith, b))
   none-below (suc n) t b h =
       subst NoPointers (sym (cells_are table w.order.0 w.order.1 (physically_equal table) t))
-      (shape-none table (physically_equal table) (cells_at table (physically_equal table)) t (shape_at table t) (members_at table t) h (sym (holds_is table w t) ∙ h)
+      (shape-none table (physically_equal table) (cells_at table (physically_equal table)) t (shape_at table t) (members_at table t) h
+      (sym (holds_is table w t) ∙ h)
       (λ m k g. let f = w.order.1.falls t m k in none-below n m (omega (arith, f, b)) g))
 
   -- what holds no pointer has no pointer's byte
@@ -122,20 +129,31 @@ module _ (table : Table) (w : IsWellFormed table) where
   no-pointers t h = none-below (suc (w.order.0 t)) t (omega arith) h
 
 none-ordered : (cells : List Cell) → NoPointers cells → AreOrdered cells
-none-ordered cells none = record { least = λ i j n t e. absurd (none i n t j e); back = λ i j n t e. absurd (none (suc i) n t (suc j) e); on = λ i j n t e h. absurd (none i n t j e) }
+none-ordered cells none =
+    record {
+      least = λ i j n t e. absurd (none i n t j e);
+      back = λ i j n t e. absurd (none (suc i) n t (suc j) e);
+      on = λ i j n t e h. absurd
+          (none i n t j e);
+    }
 
 -- a block for a pointer that isn't WILD is filled by its type, and its pointers are whole
 module _ (w : Setting) (sound : IsWellFormed w.table) where
-  block-ordered : (node : NodeId) (t : TypeId) (n : ℕ) → w.kind node ≢ Wild → AreOrdered (block_cells (cells_of w.table t) (block_size w.table (w.kind node) t n))
+  block-ordered : (node : NodeId) (t : TypeId) (n : ℕ) → w.kind node ≢ Wild
+      → AreOrdered (block_cells (cells_of w.table t) (block_size w.table (w.kind node) t n))
   block-ordered node t n u = by (cells_of w.table t) refl
     where
-      one : (b : Bool) → holds_pointer w.table t ≡ b → (k : Kind) → k ≢ Wild → (c : Cell) (cs : List Cell) → cells_of w.table t ≡ c ∷ cs → (m : ℕ) → m ≡ block_size w.table k t n → AreOrdered (block_cells (cells_of w.table t) m)
+      one : (b : Bool) → holds_pointer w.table t ≡ b → (k : Kind) → k ≢ Wild → (c : Cell) (cs : List Cell) → cells_of w.table t ≡ c ∷ cs → (m : ℕ)
+          → m ≡ block_size w.table k t n → AreOrdered (block_cells (cells_of w.table t) m)
       one false e k v c cs f m g = none-ordered (block_cells (cells_of w.table t) m) (λ i a b j h.
           let some : 0 < length (cells_of w.table t) = (let z : length (cells_of w.table t) ≡ suc (length cs) = ap length f in omega (arith, z)) in
           let l = slice_get_within (block_cells (cells_of w.table t) m) i (pointer a b j) h in
           let x = block-get (cells_of w.table t) m i some (let y = block-length (cells_of w.table t) m in omega (arith, l, y)) in
           no-pointers w.table sound t e (i % length (cells_of w.table t)) a b j (rep-there (cells_of w.table t) i some ∙ sym x ∙ h))
-      one true e k v c cs f m g = whole-ordered (cells_of w.table t) (block_cells (cells_of w.table t) m) m some (record { len = block-length (cells_of w.table t) m; get = λ i h. block-get (cells_of w.table t) m i some h }) (cells_ordered w.table sound t) whole
+      one true e k v c cs f m g =
+          whole-ordered (cells_of w.table t) (block_cells (cells_of w.table t) m) m some
+          (record { len = block-length (cells_of w.table t) m; get = λ i h. block-get (cells_of w.table t) m i some h })
+          (cells_ordered w.table sound t) whole
         where
           some : 0 < length (cells_of w.table t)
           some = let z : length (cells_of w.table t) ≡ suc (length cs) = ap length f in omega (arith, z)
@@ -148,9 +166,11 @@ module _ (w : Setting) (sound : IsWellFormed w.table) where
 
           -- what holds a pointer is complete: it has as many cells as bytes
           length-size : length (cells_of w.table t) ≡ size_of w.table t
-          length-size = (complete-some w.table sound t (complete-holder (shape_at w.table t) (members_at w.table t) (sym (holds_is w.table sound t) ∙ e))).1
+          length-size =
+              (complete-some w.table sound t (complete-holder (shape_at w.table t) (members_at w.table t) (sym (holds_is w.table sound t) ∙ e))).1
             where
-              complete-holder : (s : TypeShape) (ms : List TypeId) → holds_in_shape (holds_pointer w.table) s ms ≡ true → is_complete_entry s ms ≡ true
+              complete-holder : (s : TypeShape) (ms : List TypeId) → holds_in_shape (holds_pointer w.table) s ms ≡ true
+                  → is_complete_entry s ms ≡ true
               complete-holder Void ms h = absurd (cc (h))
               complete-holder (Integer b s) ms h = absurd (cc (h))
               complete-holder (Pointer a b) ms h = refl
@@ -162,7 +182,8 @@ module _ (w : Setting) (sound : IsWellFormed w.table) where
               complete-holder (Union tag) (x ∷ xs) h = refl
 
           whole : m % length (cells_of w.table t) ≡ 0
-          whole = ap (λ z. z % length (cells_of w.table t)) (g ∙ size k v ∙ ap (λ z. n - n % z) (sym length-size)) ∙ rest n (length (cells_of w.table t))
+          whole =
+              ap (λ z. z % length (cells_of w.table t)) (g ∙ size k v ∙ ap (λ z. n - n % z) (sym length-size)) ∙ rest n (length (cells_of w.table t))
             where
               rest : (n m : ℕ) → (n - n % m) % m ≡ 0
               rest n m = let x = mod-add-div' n m in let y : n - n % m ≡ 0 + n / m * m = omega (arith, x) in
@@ -172,10 +193,13 @@ module _ (w : Setting) (sound : IsWellFormed w.table) where
                   zero-mod n = grind arith
 
       by : (cells : List Cell) → cells_of w.table t ≡ cells → AreOrdered (block_cells (cells_of w.table t) (block_size w.table (w.kind node) t n))
-      by [] e = subst (λ cs. AreOrdered (block_cells cs (block_size w.table (w.kind node) t n))) (sym e) (none-ordered (replicate (block_size w.table (w.kind node) t n) raw) (raw-none (block_size w.table (w.kind node) t n)))
+      by [] e =
+          subst (λ cs. AreOrdered (block_cells cs (block_size w.table (w.kind node) t n))) (sym e)
+          (none-ordered (replicate (block_size w.table (w.kind node) t n) raw) (raw-none (block_size w.table (w.kind node) t n)))
       by (c ∷ cs) e = one (holds_pointer w.table t) refl (w.kind node) u c cs e (block_size w.table (w.kind node) t n) refl
 
-  pub block-filled : (node : NodeId) (t : TypeId) (n : ℕ) → w.kind node ≢ Wild → IsFilled w sound t (outline (new_block w.table node t (block_size w.table (w.kind node) t n)))
+  pub block-filled : (node : NodeId) (t : TypeId) (n : ℕ) → w.kind node ≢ Wild
+      → IsFilled w sound t (outline (new_block w.table node t (block_size w.table (w.kind node) t n)))
   block-filled node t n u = record {
     untagged = u;
     ordered = block-ordered node t n u;
@@ -184,12 +208,15 @@ module _ (w : Setting) (sound : IsWellFormed w.table) where
   }
 
   -- and a variable by its own
-  pub variable-filled : (depth : ℕ) (v : Planned) → IsComplete w.table v.type → w.kind v.node ≢ Wild → IsFilled w sound v.type (outline (new_variable w.table depth v))
+  pub variable-filled : (depth : ℕ) (v : Planned) → IsComplete w.table v.type → w.kind v.node ≢ Wild
+      → IsFilled w sound v.type (outline (new_variable w.table depth v))
   variable-filled depth v c u = record {
     untagged = u;
     ordered = cells_ordered w.table sound v.type;
     celled = n;
-    filled = λ some i h. ap (slice_get (cells_of w.table v.type)) (sym (mod-eq_of_lt (subst (λ k. i < k) (sym n) h))) ∙ rep-there (cells_of w.table v.type) i some;
+    filled =
+        λ some i h. ap (slice_get (cells_of w.table v.type)) (sym (mod-eq_of_lt (subst (λ k. i < k) (sym n) h))) ∙ rep-there
+        (cells_of w.table v.type) i some;
   }
     where
       n : length (cells_of w.table v.type) ≡ size_of w.table v.type

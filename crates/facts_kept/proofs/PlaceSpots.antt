@@ -25,6 +25,7 @@ module _ (w : Setting) where
     pub outlined : slice_get (outlines_of memory) location.object ≡ Some (outline object)
     pub untagged : w.kind object.node ≢ Wild
     pub holds : HoldType w object.cells at location.part.high t
+    pub inside : at + m ≤ object.size
     pub older : object.depth ≤ depth
 
   pub record TaggedSpot (memory : Memory) (depth m : ℕ) (p : Pointer) : Type 0 where
@@ -37,7 +38,8 @@ module _ (w : Setting) where
     pub inside : at + m ≤ object.size
     pub older : object.depth ≤ depth
 
-  pub typed-spot : (memory : Memory) (depth : ℕ) (k : Kind) (t : TypeId) (m : ℕ) (p : Pointer) → k ≢ Wild → m ≤ length (cells_of w.table t) → IsPlaceIn w memory depth k t p → TypedSpot memory depth k t m p
+  pub typed-spot : (memory : Memory) (depth : ℕ) (k : Kind) (t : TypeId) (m : ℕ) (p : Pointer) → k ≢ Wild → m ≤ length (cells_of w.table t)
+      → IsPlaceIn w memory depth k t p → TypedSpot memory depth k t m p
   typed-spot memory depth k t m p plain room h = of (typed k plain h.location h.place)
     where
       typed : (k : Kind) → k ≢ Wild → (l : Location) → IsPlaceAt w (outlines_of memory) k t l → IsTypedPlace w (outlines_of memory) t l
@@ -61,10 +63,12 @@ module _ (w : Setting) where
             outlined = x.located.found ∙ ap Some (sym f.is);
             untagged = subst (λ (y : Outline). w.kind y.node ≢ Wild) (sym f.is) x.typed.untagged;
             holds = subst (λ cs. HoldType w cs x.at l.part.high t) (sym cells) x.holds;
+            inside = let a = x.holds.room in let b = x.located.inside in omega (arith, a, b, size, room);
             older = f.older;
           }
 
-  pub tagged-spot : (memory : Memory) (depth : ℕ) (t : TypeId) (m : ℕ) (p : Pointer) → IsPlaceIn w memory depth Wild t p → holds w memory (InObject m p) ≡ true → TaggedSpot memory depth m p
+  pub tagged-spot : (memory : Memory) (depth : ℕ) (t : TypeId) (m : ℕ) (p : Pointer) → IsPlaceIn w memory depth Wild t p
+      → holds w memory (InObject m p) ≡ true → TaggedSpot memory depth m p
   tagged-spot memory depth t m p h c = of h.place (subst (λ q. holds w memory (InObject m q) ≡ true) h.is c)
     where
       of : IsWildAt w (outlines_of memory) h.location → holds w memory (InObject m (At h.location)) ≡ true → TaggedSpot memory depth m p

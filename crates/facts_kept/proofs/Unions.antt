@@ -49,7 +49,8 @@ repeat-raw (suc k) cells h = append-raw cells (repeat k cells) h (repeat-raw k c
 padded-raw : (n : ℕ) (cells : List Cell) → AllRaw cells → AllRaw (padded_to n cells)
 padded-raw n cells h = append-raw cells (replicate (n - length cells) raw) h (raw-raw (n - length cells))
 
-members-raw : (align : TypeId → ℕ) (f : TypeId → List Cell) (a : List Cell) (ms : List TypeId) → AllRaw a → ((m : TypeId) → Contains ms m → AllRaw (f m))
+members-raw : (align : TypeId → ℕ) (f : TypeId → List Cell) (a : List Cell) (ms : List TypeId) → AllRaw a
+    → ((m : TypeId) → Contains ms m → AllRaw (f m))
     → AllRaw (fold (λ cells m. padded_to (rounded (length cells) (align m)) cells ++ f m) a ms)
 members-raw align f a [] h each = h
 members-raw align f a (m ∷ ms) h each =
@@ -57,7 +58,8 @@ members-raw align f a (m ∷ ms) h each =
     (append-raw (padded_to (rounded (length a) (align m)) a) (f m) (padded-raw (rounded (length a) (align m)) a h) (each m (contains_head m ms)))
     (λ x k. each x (contains_tail m ms x k))
 
-shape-raw : (table : Table) (E : Relation) (f : TypeId → List Cell) (t : TypeId) (s : TypeShape) (ms : List TypeId) → holds_pointer table t ≡ false → holds_in_shape (holds_pointer table) s ms ≡ false → is_complete_entry s ms ≡ true
+shape-raw : (table : Table) (E : Relation) (f : TypeId → List Cell) (t : TypeId) (s : TypeShape) (ms : List TypeId) → holds_pointer table t ≡ false
+    → holds_in_shape (holds_pointer table) s ms ≡ false → is_complete_entry s ms ≡ true
     → ((m : TypeId) → Contains (parts_of_shape s ms) m → holds_pointer table m ≡ false → AllRaw (f m)) → AllRaw (cells_of_shape table E f t s ms)
 shape-raw table E f t Void ms n h c each = none-raw
 shape-raw table E f t (Integer bytes signed) ms n h c each = raw-raw bytes
@@ -67,7 +69,8 @@ shape-raw table E f t (Function ps r) ms n h c each = none-raw
 shape-raw table E f t (Struct tag) [] n h c each = absurd (cc (c))
 shape-raw table E f t (Union tag) [] n h c each = absurd (cc (c))
 shape-raw table E f t (Struct tag) (m ∷ ms) n h c each =
-    padded-raw (size_of table t) (member_cells (align_of table) f (m ∷ ms)) (members-raw (align_of table) f [] (m ∷ ms) none-raw (λ x k. each x k (any-none (holds_pointer table) (m ∷ ms) h x k)))
+    padded-raw (size_of table t) (member_cells (align_of table) f (m ∷ ms))
+    (members-raw (align_of table) f [] (m ∷ ms) none-raw (λ x k. each x k (any-none (holds_pointer table) (m ∷ ms) h x k)))
 shape-raw table E f t (Union tag) (m ∷ ms) n h c each =
     subst (λ b. AllRaw (union_cells E t (size_of table t) b (map f (m ∷ ms)))) (sym n) (raw-raw (size_of table t))
 
@@ -76,8 +79,10 @@ module _ (table : Table) (w : IsWellFormed table) where
   raw-below zero t b c h = absurd (omega (arith, b))
   raw-below (suc n) t b c h =
       subst AllRaw (sym (cells_are table w.order.0 w.order.1 (physically_equal table) t))
-      (shape-raw table (physically_equal table) (cells_at table (physically_equal table)) t (shape_at table t) (members_at table t) h (sym (holds_is table w t) ∙ h) c
-      (λ m k g. let f = w.order.1.falls t m k in raw-below n m (omega (arith, f, b)) (All-contains (IsComplete table) (parts_of_shape (shape_at table t) (members_at table t)) m (w.each t).parts k) g))
+      (shape-raw table (physically_equal table) (cells_at table (physically_equal table)) t (shape_at table t) (members_at table t) h
+      (sym (holds_is table w t) ∙ h) c
+      (λ m k g. let f = w.order.1.falls t m k in raw-below n m (omega (arith, f, b))
+      (All-contains (IsComplete table) (parts_of_shape (shape_at table t) (members_at table t)) m (w.each t).parts k) g))
 
   pub all-raw : (t : TypeId) → IsComplete table t → holds_pointer table t ≡ false → AllRaw (cells_of table t)
   all-raw t c h = raw-below (suc (w.order.0 t)) t (omega arith) c h
@@ -135,12 +140,14 @@ largest f m (x ∷ ms) = by (nat_lt (length (f m)) (length (longest (map f (x �
         back : (a b : ℕ) → nat_lt a b ≡ true → nat_lt b a ≡ false
         back a b h = grind (arith, nat_tests)
 
-        before : (i : ℕ) (u : TypeId) → slice_get (m ∷ x ∷ ms) i ≡ Some u → nat_lt i (suc r.place) ≡ true → nat_lt (length (f u)) (length (f r.member)) ≡ true
+        before : (i : ℕ) (u : TypeId) → slice_get (m ∷ x ∷ ms) i ≡ Some u → nat_lt i (suc r.place) ≡ true
+            → nat_lt (length (f u)) (length (f r.member)) ≡ true
         before zero u g h = let k : m ≡ u = cc (g) in ap (λ y. nat_lt (length (f y)) (length (f r.member))) (sym k) ∙ more
         before (suc i) u g h = r.before i u g (down i r.place h)
 
         after : (i : ℕ) (u : TypeId) → slice_get (m ∷ x ∷ ms) i ≡ Some u → nat_lt (length (f r.member)) (length (f u)) ≡ false
-        after zero u g = let k : m ≡ u = cc (g) in ap (λ y. nat_lt (length (f r.member)) (length (f y))) (sym k) ∙ back (length (f m)) (length (f r.member)) more
+        after zero u g =
+            let k : m ≡ u = cc (g) in ap (λ y. nat_lt (length (f r.member)) (length (f y))) (sym k) ∙ back (length (f m)) (length (f r.member)) more
         after (suc i) u g = r.after i u g
     by false e r = record {
       member = m;
@@ -167,17 +174,21 @@ largest f m (x ∷ ms) = by (nat_lt (length (f m)) (length (longest (map f (x �
         after zero u g = let k : m ≡ u = cc (g) in ap (λ y. nat_lt (length (f m)) (length (f y))) (sym k) ∙ own (length (f m))
         after (suc i) u g = through (length (f m)) (length (f r.member)) (length (f u)) less (r.after i u g)
 
-all-of : (p : List Cell → Bool) (f : TypeId → List Cell) (ms : List TypeId) → list_all p (map f ms) ≡ true → (i : ℕ) (u : TypeId) → slice_get ms i ≡ Some u → p (f u) ≡ true
+all-of : (p : List Cell → Bool) (f : TypeId → List Cell) (ms : List TypeId) → list_all p (map f ms) ≡ true → (i : ℕ) (u : TypeId)
+    → slice_get ms i ≡ Some u → p (f u) ≡ true
 all-of p f [] h i u e = absurd (cc (e))
 all-of p f (m ∷ ms) h zero u e = let g : m ≡ u = cc (e) in ap (λ x. p (f x)) (sym g) ∙ first (p (f m)) (list_all p (map f ms)) h
 all-of p f (m ∷ ms) h (suc i) u e = all-of p f ms (second (p (f m)) (list_all p (map f ms)) h) i u e
 
 module _ (w : Setting) (sound : IsWellFormed w.table) where
   union-part : (t : TypeId) (tag : ℕ) → shape_at w.table t ≡ Union tag → (m : TypeId) → Contains (members_at w.table t) m → IsComplete w.table m
-  union-part t tag e m c = All-contains (IsComplete w.table) (members_at w.table t) m (subst (λ s. All (IsComplete w.table) (parts_of_shape s (members_at w.table t))) e (sound.each t).parts) c
+  union-part t tag e m c =
+      All-contains (IsComplete w.table) (members_at w.table t) m
+      (subst (λ s. All (IsComplete w.table) (parts_of_shape s (members_at w.table t))) e (sound.each t).parts) c
 
   -- u is member number i
-  pub sub-union : (t : TypeId) (tag i : ℕ) (u : TypeId) → shape_at w.table t ≡ Union tag → slice_get (members_at w.table t) i ≡ Some u → (HoldsMixed w.table t t → Prim.⊥) → IsUnionAllowed w.table w.kind t
+  pub sub-union : (t : TypeId) (tag i : ℕ) (u : TypeId) → shape_at w.table t ≡ Union tag → slice_get (members_at w.table t) i ≡ Some u
+      → (HoldsMixed w.table t t → Prim.⊥) → IsUnionAllowed w.table w.kind t
       → size_of w.table u ≤ size_of w.table t → IsSub w t 0 u
   sub-union t tag i u e found plain allowed small = by (members_at w.table t) refl
     where
@@ -204,7 +215,8 @@ module _ (w : Setting) (sound : IsWellFormed w.table) where
           nu : length (cells_of w.table u) ≡ size_of w.table u
           nu = (complete-some w.table sound u cu).1
 
-          cells : cells_of w.table t ≡ union_cells (physically_equal w.table) t (size_of w.table t) (holds_pointer w.table t) (map (cells_of w.table) (m ∷ ms))
+          cells : cells_of w.table t ≡ union_cells (physically_equal w.table) t (size_of w.table t) (holds_pointer w.table t)
+              (map (cells_of w.table) (m ∷ ms))
           cells = cells_are w.table sound.order.0 sound.order.1 (physically_equal w.table) t
               ∙ ap (λ s. cells_of_shape w.table (physically_equal w.table) (cells_of w.table) t s (members_at w.table t)) e
               ∙ ap (λ l. cells_of_shape w.table (physically_equal w.table) (cells_of w.table) t (Union tag) l) g
@@ -217,20 +229,28 @@ module _ (w : Setting) (sound : IsWellFormed w.table) where
           raw-at (suc n) zero l = refl
           raw-at (suc n) (suc i) l = raw-at n i (omega (arith, l))
 
-          is-mixed : (b c : Bool) → holds_pointer w.table t ≡ b → b ≡ true → list_all (begins (physically_equal w.table) (longest (map (cells_of w.table) (m ∷ ms)))) (map (cells_of w.table) (m ∷ ms)) ≡ false → HoldsMixed w.table t t
+          is-mixed : (b c : Bool) → holds_pointer w.table t ≡ b → b ≡ true
+              → list_all (begins (physically_equal w.table) (longest (map (cells_of w.table) (m ∷ ms)))) (map (cells_of w.table) (m ∷ ms)) ≡ false
+              → HoldsMixed w.table t t
           is-mixed b c hb t1 al = (
             0,
             0,
-            ap (λ cs. slice_get cs 0) (cells ∙ ap (λ x. union_cells (physically_equal w.table) t (size_of w.table t) x (map (cells_of w.table) (m ∷ ms))) (hb ∙ t1)
-                ∙ ap (λ (x : Bool). if x then padded_to (size_of w.table t) (longest (map (cells_of w.table) (m ∷ ms))) else map (mixed t) (range_with_len 0 (size_of w.table t))) al) ∙ some (size_of w.table t) (sound.sized t ct).some,
+            ap (λ cs. slice_get cs 0)
+                (cells ∙ ap (λ x. union_cells (physically_equal w.table) t (size_of w.table t) x (map (cells_of w.table) (m ∷ ms))) (hb ∙ t1)
+                ∙ ap
+                (λ (x : Bool). if x then padded_to (size_of w.table t) (longest (map (cells_of w.table) (m ∷ ms))) else map (mixed t)
+                (range_with_len 0 (size_of w.table t))) al) ∙ some (size_of w.table t) (sound.sized t ct).some,
           )
             where
               some : (n : ℕ) → 0 < n → slice_get (map (mixed t) (range_with_len 0 n)) 0 ≡ Some (mixed t 0)
               some zero h = absurd (omega (arith, h))
               some (suc n) h = refl
 
-          there : (j : ℕ) (d : Cell) → slice_get (cells_of w.table u) j ≡ Some d → (c : Cell) × (slice_get (cells_of w.table t) (0 + j) ≡ Some c) × CellsAgree w.table w.kind c d
-          there j d f = at (holds_pointer w.table t) refl (list_all (begins (physically_equal w.table) (longest (map (cells_of w.table) (m ∷ ms)))) (map (cells_of w.table) (m ∷ ms))) refl
+          there : (j : ℕ) (d : Cell) → slice_get (cells_of w.table u) j ≡ Some d
+              → (c : Cell) × (slice_get (cells_of w.table t) (0 + j) ≡ Some c) × CellsAgree w.table w.kind c d
+          there j d f =
+              at (holds_pointer w.table t) refl
+              (list_all (begins (physically_equal w.table) (longest (map (cells_of w.table) (m ∷ ms)))) (map (cells_of w.table) (m ∷ ms))) refl
             where
               z : 0 + j ≡ j
               z = omega arith
@@ -238,19 +258,27 @@ module _ (w : Setting) (sound : IsWellFormed w.table) where
               k : j < length (cells_of w.table u)
               k = slice_get_within (cells_of w.table u) j d f
 
-              at : (b : Bool) → holds_pointer w.table t ≡ b → (c : Bool) → list_all (begins (physically_equal w.table) (longest (map (cells_of w.table) (m ∷ ms)))) (map (cells_of w.table) (m ∷ ms)) ≡ c
+              at : (b : Bool) → holds_pointer w.table t ≡ b → (c : Bool)
+                  → list_all (begins (physically_equal w.table) (longest (map (cells_of w.table) (m ∷ ms)))) (map (cells_of w.table) (m ∷ ms)) ≡ c
                   → (c : Cell) × (slice_get (cells_of w.table t) (0 + j) ≡ Some c) × CellsAgree w.table w.kind c d
               at false hb c al =
-                  let h = any-none (holds_pointer w.table) (members_at w.table t) (sym (ap (λ s. holds_in_shape (holds_pointer w.table) s (members_at w.table t)) e) ∙ sym (holds_is w.table sound t) ∙ hb) u has in (
+                  let h = any-none (holds_pointer w.table) (members_at w.table t)
+                  (sym (ap (λ s. holds_in_shape (holds_pointer w.table) s (members_at w.table t)) e) ∙ sym (holds_is w.table sound t)
+                  ∙ hb) u has in (
                     raw,
-                    ap (slice_get (cells_of w.table t)) z ∙ ap (λ cs. slice_get cs j) (cells ∙ ap (λ x. union_cells (physically_equal w.table) t (size_of w.table t) x (map (cells_of w.table) (m ∷ ms))) hb) ∙ raw-at (size_of w.table t) j (omega (arith, k, nu, small)),
+                    ap (slice_get (cells_of w.table t)) z ∙ ap (λ cs. slice_get cs j)
+                        (cells ∙ ap (λ x. union_cells (physically_equal w.table) t (size_of w.table t) x (map (cells_of w.table) (m ∷ ms))) hb)
+                        ∙ raw-at (size_of w.table t) j (omega (arith, k, nu, small)),
                     subst (λ y. CellsAgree w.table w.kind raw y) (sym (all-raw w.table sound u cu h j d f)) tt,
                   )
               at true hb false al = absurd (plain (is-mixed true false hb refl al))
               at true hb true al =
-                  let p = all-of (begins (physically_equal w.table) (longest (map (cells_of w.table) (m ∷ ms)))) (cells_of w.table) (m ∷ ms) al i u (ap (λ l. slice_get l i) (sym g) ∙ found) in
-                  let x = alike-there (physically_equal w.table) (take (length (cells_of w.table u)) (longest (map (cells_of w.table) (m ∷ ms)))) (cells_of w.table u) p j d f in
-                  let y : slice_get (longest (map (cells_of w.table) (m ∷ ms))) j ≡ Some x.0 = sym (get-taken (longest (map (cells_of w.table) (m ∷ ms))) (length (cells_of w.table u)) j k) ∙ x.1 in
+                  let p = all-of (begins (physically_equal w.table) (longest (map (cells_of w.table) (m ∷ ms)))) (cells_of w.table) (m ∷ ms) al i u
+                  (ap (λ l. slice_get l i) (sym g) ∙ found) in
+                  let x = alike-there (physically_equal w.table) (take (length (cells_of w.table u)) (longest (map (cells_of w.table) (m ∷ ms))))
+                  (cells_of w.table u) p j d f in
+                  let y : slice_get (longest (map (cells_of w.table) (m ∷ ms))) j ≡ Some x.0 = sym
+                  (get-taken (longest (map (cells_of w.table) (m ∷ ms))) (length (cells_of w.table u)) j k) ∙ x.1 in
                   let y' : slice_get (cells_of w.table big.member) j ≡ Some x.0 = ap (λ cs. slice_get cs j) (sym big.is) ∙ y in
                   let full = slice_get_within (longest (map (cells_of w.table) (m ∷ ms))) j x.0 y in
                   let large : IsLargest w.table t big.member = record {
@@ -259,11 +287,21 @@ module _ (w : Setting) (sound : IsWellFormed w.table) where
                     before = λ a v q r. big.before a v (ap (λ l. slice_get l a) (sym g) ∙ q) r;
                     after = λ a v q. big.after a v (ap (λ l. slice_get l a) (sym g) ∙ q);
                   } in
-                  let in-big : IsComplete w.table big.member = union-part t tag e big.member (big.place, slice_get_within (members_at w.table t) big.place big.member large.found, get_or_from_slice_get (members_at w.table t) big.place big.member big.member large.found) in
-                  let a = agree-placed w sound u big.member (complete-data w.table sound u cu) (complete-data w.table sound big.member in-big) (allowed plain u big.member has large) j d x.0 f y' ((alike_equiv (equal_equiv w.table)).symm d x.0 ∙ x.2) in (
+                  let in-big : IsComplete w.table big.member = union-part t tag e big.member (
+                    big.place,
+                    slice_get_within (members_at w.table t) big.place big.member large.found,
+                    get_or_from_slice_get
+                        (members_at w.table t) big.place big.member big.member large.found,
+                  ) in
+                  let a = agree-placed w sound u big.member (complete-data w.table sound u cu) (complete-data w.table sound big.member in-big)
+                  (allowed plain u big.member has large) j d x.0 f y' ((alike_equiv (equal_equiv w.table)).symm d x.0 ∙ x.2) in (
                     x.0,
-                    ap (slice_get (cells_of w.table t)) z ∙ ap (λ cs. slice_get cs j) (cells ∙ ap (λ q. union_cells (physically_equal w.table) t (size_of w.table t) q (map (cells_of w.table) (m ∷ ms))) hb
-                        ∙ ap (λ (q : Bool). if q then padded_to (size_of w.table t) (longest (map (cells_of w.table) (m ∷ ms))) else map (mixed t) (range_with_len 0 (size_of w.table t))) al)
-                        ∙ get_front (longest (map (cells_of w.table) (m ∷ ms))) (replicate (size_of w.table t - length (longest (map (cells_of w.table) (m ∷ ms)))) raw) j full ∙ y,
+                    ap (slice_get (cells_of w.table t)) z ∙ ap (λ cs. slice_get cs j)
+                        (cells ∙ ap (λ q. union_cells (physically_equal w.table) t (size_of w.table t) q (map (cells_of w.table) (m ∷ ms))) hb
+                        ∙ ap
+                        (λ (q : Bool). if q then padded_to (size_of w.table t) (longest (map (cells_of w.table) (m ∷ ms))) else map (mixed t)
+                        (range_with_len 0 (size_of w.table t))) al)
+                        ∙ get_front (longest (map (cells_of w.table) (m ∷ ms)))
+                        (replicate (size_of w.table t - length (longest (map (cells_of w.table) (m ∷ ms)))) raw) j full ∙ y,
                     agree-turned w sound d x.0 a,
                   )

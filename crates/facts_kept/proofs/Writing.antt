@@ -44,7 +44,8 @@ use Rattle.facts_kept.proofs.Giving.{gives-checked, gives-access}
 use Rattle.facts_kept.proofs.PlaceSpots.{TypedSpot, TaggedSpot, typed-spot, tagged-spot}
 
 -- what outlives the target's object, which is as old as d, may be stored there
-pub outlives : (objects : List Object) (depth d : ℕ) (q : Pointer) → Reaches (map life objects) depth q → depth_of objects q ≤ d → Reaches (map life objects) d q
+pub outlives : (objects : List Object) (depth d : ℕ) (q : Pointer) → Reaches (map life objects) depth q → depth_of objects q ≤ d
+    → Reaches (map life objects) d q
 outlives objects depth d Null r h = tt
 outlives objects depth d (Number n) r h = tt
 outlives objects depth d (At l) r h =
@@ -53,29 +54,37 @@ outlives objects depth d (At l) r h =
     record { life = r.life; found = r.found; live = r.live; older = omega (arith, e, h) }
 outlives objects depth d (Function f) r h = tt
 
-le-of : (a b : ℕ) → nat_le a b ≡ true → a ≤ b
+pub le-of : (a b : ℕ) → nat_le a b ≡ true → a ≤ b
 le-of a b h = grind (arith, nat_tests)
 
 module _ (w : Setting) (sound : IsWellFormed w.table) (sites : List Site) where
   -- a store that leaves its object sound
-  changed : (s : State) (l : Location) (o new : Object) (at m : ℕ) → IsSoundMemory w sites s.memory → slice_get s.memory.objects l.object ≡ Some o → outline new ≡ outline o → life new ≡ life o
-      → IsSoundObject w sites (outlines_of s.memory) (lives_of s.memory) new → IsKept w sites s.memory (with_object l.object new (touched l.object at m s)).memory
+  changed : (s : State) (l : Location) (o new : Object) (at m : ℕ) → IsSoundMemory w sites s.memory → slice_get s.memory.objects l.object ≡ Some o
+      → outline new ≡ outline o → life new ≡ life o
+      → IsSoundObject w sites (outlines_of s.memory) (lives_of s.memory) new
+      → IsKept w sites s.memory (with_object l.object new (touched l.object at m s)).memory
   changed s l o new at m memory found same alike is = record {
     sound = sound-change w sites s.memory.objects l.object o new memory found same alike is;
     outlines = outlines-set s.memory.objects l.object o new found same;
     lives = lives-set s.memory.objects l.object o new found alike;
   }
 
-  stored-there : (k : Kind) (l : Location) (s : State) (o : Object) (at : ℕ) (q : Pointer) → IsRight k s.memory.objects l 8 o at → IsSoundMemory w sites s.memory
-      → IsSoundObject w sites (outlines_of s.memory) (lives_of s.memory) (with_pointer at q o) → Gives (store_pointer k (At l) q s) (λ x r. IsKept w sites s.memory r.memory)
+  stored-there : (k : Kind) (l : Location) (s : State) (o : Object) (at : ℕ) (q : Pointer) → IsRight k s.memory.objects l 8 o at
+      → IsSoundMemory w sites s.memory
+      → IsSoundObject w sites (outlines_of s.memory) (lives_of s.memory) (with_pointer at q o)
+      → Gives (store_pointer k (At l) q s) (λ x r. IsKept w sites s.memory r.memory)
   stored-there k l s o at q right memory is =
-      gives-access k l 8 (λ at. leaves (with_object at.number (with_pointer at.at q at.object))) s o at (λ x r. IsKept w sites s.memory r.memory) right
+      gives-access k l 8 (λ at. leaves (with_object at.number (with_pointer at.at q at.object))) s o at
+      (λ x r. IsKept w sites s.memory r.memory) right
       (changed s l o (with_pointer at q o) at 8 memory right.found refl refl is)
 
-  integer-there : (k : Kind) (l : Location) (i : IntegerType) (s : State) (o : Object) (at : ℕ) (z : ℤ) → IsRight k s.memory.objects l i.bytes o at → IsSoundMemory w sites s.memory
-      → IsSoundObject w sites (outlines_of s.memory) (lives_of s.memory) (with_integer i.bytes at (word z) o) → Gives (store_integer k i (At l) z s) (λ x r. IsKept w sites s.memory r.memory)
+  integer-there : (k : Kind) (l : Location) (i : IntegerType) (s : State) (o : Object) (at : ℕ) (z : ℤ) → IsRight k s.memory.objects l i.bytes o at
+      → IsSoundMemory w sites s.memory
+      → IsSoundObject w sites (outlines_of s.memory) (lives_of s.memory) (with_integer i.bytes at (word z) o)
+      → Gives (store_integer k i (At l) z s) (λ x r. IsKept w sites s.memory r.memory)
   integer-there k l i s o at z right memory is =
-      gives-access k l i.bytes (λ at. leaves (with_object at.number (with_integer i.bytes at.at (word z) at.object))) s o at (λ x r. IsKept w sites s.memory r.memory) right
+      gives-access k l i.bytes (λ at. leaves (with_object at.number (with_integer i.bytes at.at (word z) at.object))) s o at
+      (λ x r. IsKept w sites s.memory r.memory) right
       (changed s l o (with_integer i.bytes at (word z) o) at i.bytes memory right.found refl refl is)
 
   -- Pointers
@@ -86,11 +95,13 @@ module _ (w : Setting) (sound : IsWellFormed w.table) (sites : List Site) where
     eight = ap length (pointer_cells_are w.table t m u e)
 
     -- ESCAPE, once it is known where the target stands
-    older : (l : Location) (o : Object) → slice_get s.memory.objects l.object ≡ Some o → holds w s.memory (Outlives (At l) q) ≡ true → Reaches (lives_of s.memory) o.depth q
+    older : (l : Location) (o : Object) → slice_get s.memory.objects l.object ≡ Some o → holds w s.memory (Outlives (At l) q) ≡ true
+        → Reaches (lives_of s.memory) o.depth q
     older l o found c = outlives s.memory.objects depth o.depth q value.reaches
         (le-of (depth_of s.memory.objects q) o.depth (sym (ap (λ x. nat_le (depth_of s.memory.objects q) (depth_of_object x)) found) ∙ c))
 
-    pub gives-stored : (k : Kind) → k ≢ Wild → (p : Pointer) → IsPlaceIn w s.memory depth k t p → holds w s.memory (Outlives p q) ≡ true → Gives (store_pointer k p q s) (λ x r. IsKept w sites s.memory r.memory)
+    pub gives-stored : (k : Kind) → k ≢ Wild → (p : Pointer) → IsPlaceIn w s.memory depth k t p → holds w s.memory (Outlives p q) ≡ true
+        → Gives (store_pointer k p q s) (λ x r. IsKept w sites s.memory r.memory)
     gives-stored k plain p h c = of (typed-spot w s.memory depth k t 8 p plain (let n = eight in omega (arith, n)) h)
       where
         of : TypedSpot w s.memory depth k t 8 p → Gives (store_pointer k p q s) (λ x r. IsKept w sites s.memory r.memory)
@@ -105,7 +116,8 @@ module _ (w : Setting) (sound : IsWellFormed w.table) (sites : List Site) where
             (older x.location x.object x.right.found (subst (λ y. holds w s.memory (Outlives y q) ≡ true) x.is c)) made))
 
     pub gives-stored_tagged : (n : NodeId) → SpreadsWild w.table w.kind n t → w.kind n ≡ Wild → (p : Pointer) → IsPlaceIn w s.memory depth Wild t p
-        → AllHold w s.memory (InObject 8 p ∷ IsAligned p ∷ Outlives p q ∷ []) → Gives (store_pointer Wild p q s) (λ x r. IsKept w sites s.memory r.memory)
+        → AllHold w s.memory (InObject 8 p ∷ IsAligned p ∷ Outlives p q ∷ [])
+        → Gives (store_pointer Wild p q s) (λ x r. IsKept w sites s.memory r.memory)
     gives-stored_tagged n spreads k p h c = of (tagged-spot w s.memory depth t 8 p h c.0)
       where
         multiple : (k : ℕ) → int_eq (int_rem_euclid (pos k) (pos 8)) (pos 0) ≡ true → k % 8 ≡ 0
@@ -124,20 +136,27 @@ module _ (w : Setting) (sound : IsWellFormed w.table) (sites : List Site) where
             (older x.location x.object x.right.found (subst (λ y. holds w s.memory (Outlives y q) ≡ true) x.is c.1.1.0)) made))
 
     -- a pointer is written, with its conditions
-    pub gives-written_pointer : (own assignment : Place) (n : NodeId) (p : Pointer) → SpreadsWild w.table w.kind n t → IsHeldIn w s.memory depth (w.kind n) t p
+    pub gives-written_pointer : (own assignment : Place) (n : NodeId) (p : Pointer) → SpreadsWild w.table w.kind n t
+        → IsHeldIn w s.memory depth (w.kind n) t p
         → Gives (write w own assignment (w.kind n) t p (Address q) s) (λ x r. IsKept w sites s.memory r.memory)
     gives-written_pointer own assignment n p spreads held = by (w.kind n) refl
       where
         placed : (k : Kind) → IsHeldIn w s.memory depth k t p → AllHold w s.memory (asked_of 8 k p) → IsPlaceIn w s.memory depth k t p
-        placed k h c = held-place w sound (outlines_of s.memory) (lives_of s.memory) depth s.memory k t p (no_function w.table t (shape.Pointer m u) e refl) h
+        placed k h c =
+            held-place w sound (outlines_of s.memory) (lives_of s.memory) depth s.memory k t p (no_function w.table t (shape.Pointer m u) e refl) h
             (subst (λ z. AllHold w s.memory (asked_of z k p)) (sym (pointer_size w.table t m u e)) c)
 
-        stores : (k : Kind) → (AllHold w s.memory (conditions_of (WritePointer q) k p) → Gives (store_pointer k p q s) (λ x r. IsKept w sites s.memory r.memory))
-            → Gives ((all_placed w (place_of_write own assignment) (conditions_of (WritePointer q) k p) >> store_pointer k p q) s) (λ x r. IsKept w sites s.memory r.memory)
-        stores k h = gives-checked w (place_of_write own assignment) (conditions_of (WritePointer q) k p) (store_pointer k p q) s (λ x r. IsKept w sites s.memory r.memory) h
+        stores : (k : Kind)
+            → (AllHold w s.memory (conditions_of (WritePointer q) k p) → Gives (store_pointer k p q s) (λ x r. IsKept w sites s.memory r.memory))
+            → Gives ((all_placed w (place_of_write own assignment) (conditions_of (WritePointer q) k p) >> store_pointer k p q) s)
+            (λ x r. IsKept w sites s.memory r.memory)
+        stores k h =
+            gives-checked w (place_of_write own assignment) (conditions_of (WritePointer q) k p) (store_pointer k p q) s
+            (λ x r. IsKept w sites s.memory r.memory) h
 
         go : (k : Kind) → w.kind n ≡ k → IsHeldIn w s.memory depth k t p
-            → Gives ((all_placed w (place_of_write own assignment) (conditions_of (WritePointer q) k p) >> store_pointer k p q) s) (λ x r. IsKept w sites s.memory r.memory)
+            → Gives ((all_placed w (place_of_write own assignment) (conditions_of (WritePointer q) k p) >> store_pointer k p q) s)
+            (λ x r. IsKept w sites s.memory r.memory)
         go Safe g h = stores Safe (λ c. gives-stored Safe safe≢wild p (placed Safe h (c.0, tt)) c.1.0)
         go Rtti g h = stores Rtti (λ c. gives-stored Rtti rtti≢wild p (placed Rtti h (c.0, tt)) c.1.0)
         go Seq g h = stores Seq (λ c. gives-stored Seq seq≢wild p (placed Seq h (c.0, tt)) c.1.0)
@@ -145,14 +164,21 @@ module _ (w : Setting) (sound : IsWellFormed w.table) (sites : List Site) where
 
         by : (k : Kind) → w.kind n ≡ k → Gives (write w own assignment (w.kind n) t p (Address q) s) (λ x r. IsKept w sites s.memory r.memory)
         by k g = subst (λ c. Gives (write w own assignment c t p (Address q) s) (λ x r. IsKept w sites s.memory r.memory)) (sym g)
-            (subst (λ sh. Gives ((all_placed w (place_of_write own assignment) (conditions_of_write k sh p (Address q)) >> store_shape k sh p (Address q)) s) (λ x r. IsKept w sites s.memory r.memory)) (sym e)
+            (subst
+            (λ sh. Gives
+            ((all_placed w (place_of_write own assignment) (conditions_of_write k sh p (Address q)) >> store_shape k sh p (Address q)) s)
+            (λ x r. IsKept w sites s.memory r.memory))
+            (sym e)
             (go k g (subst (λ c. IsHeldIn w s.memory depth c t p) g held)))
 
   -- Integers
 
-  module _ (t : TypeId) (i : IntegerType) (e : shape_at w.table t ≡ shape.Integer i.bytes i.signed) (s : State) (depth : ℕ) (memory : IsSoundMemory w sites s.memory) (z : ℤ) where
+  module _ (t : TypeId) (i : IntegerType) (e : shape_at w.table t ≡ shape.Integer i.bytes i.signed) (s : State) (depth : ℕ)
+      (memory : IsSoundMemory w sites s.memory) (z : ℤ) where
     cells : cells_of w.table t ≡ replicate i.bytes raw
-    cells = cells_are w.table sound.order.0 sound.order.1 (physically_equal w.table) t ∙ ap (λ s. cells_of_shape w.table (physically_equal w.table) (cells_of w.table) t s (members_at w.table t)) e
+    cells =
+        cells_are w.table sound.order.0 sound.order.1 (physically_equal w.table) t ∙ ap
+        (λ s. cells_of_shape w.table (physically_equal w.table) (cells_of w.table) t s (members_at w.table t)) e
 
     complete : IsComplete w.table t
     complete = ap (λ s. is_complete_entry s (members_at w.table t)) e
@@ -161,12 +187,17 @@ module _ (w : Setting) (sound : IsWellFormed w.table) (sites : List Site) where
     size = sym (complete-some w.table sound t complete).1 ∙ ap length cells ∙ length-replicate i.bytes raw
 
     some : 0 < i.bytes
-    some = let a = (complete-some w.table sound t complete).0 in let b = (complete-some w.table sound t complete).1 in let c = size in omega (arith, a, b, c)
+    some =
+        let a = (complete-some w.table sound t complete).0 in let b = (complete-some w.table sound t complete).1 in let c = size in omega
+        (arith, a, b, c)
 
     room : i.bytes ≤ length (cells_of w.table t)
-    room = let n = length-replicate i.bytes raw in let m : length (cells_of w.table t) ≡ length (replicate i.bytes raw) = ap length cells in omega (arith, n, m)
+    room =
+        let n = length-replicate i.bytes raw in let m : length (cells_of w.table t) ≡ length (replicate i.bytes raw) = ap length cells in omega
+        (arith, n, m)
 
-    pub gives-stored_integer : (k : Kind) → k ≢ Wild → (p : Pointer) → AreOutlines w (outlines_of s.memory) → IsPlaceIn w s.memory depth k t p → Gives (store_integer k i p z s) (λ x r. IsKept w sites s.memory r.memory)
+    pub gives-stored_integer : (k : Kind) → k ≢ Wild → (p : Pointer) → AreOutlines w (outlines_of s.memory) → IsPlaceIn w s.memory depth k t p
+        → Gives (store_integer k i p z s) (λ x r. IsKept w sites s.memory r.memory)
     gives-stored_integer k plain p ordered h = of (typed-spot w s.memory depth k t i.bytes p plain room h)
       where
         of : TypedSpot w s.memory depth k t i.bytes p → Gives (store_integer k i p z s) (λ x r. IsKept w sites s.memory r.memory)
@@ -178,7 +209,8 @@ module _ (w : Setting) (sound : IsWellFormed w.table) (sites : List Site) where
             (λ u. raw-apart w sound sites (outlines_of s.memory) (lives_of s.memory) t x.object.cells x.at x.location.part.high i.bytes some
             (ordered.ordered x.location.object (outline x.object) x.outlined x.untagged) x.holds cells)))
 
-    pub gives-stored_integer_tagged : (p : Pointer) → IsPlaceIn w s.memory depth Wild t p → holds w s.memory (InObject i.bytes p) ≡ true → Gives (store_integer Wild i p z s) (λ x r. IsKept w sites s.memory r.memory)
+    pub gives-stored_integer_tagged : (p : Pointer) → IsPlaceIn w s.memory depth Wild t p → holds w s.memory (InObject i.bytes p) ≡ true
+        → Gives (store_integer Wild i p z s) (λ x r. IsKept w sites s.memory r.memory)
     gives-stored_integer_tagged p h c = of (tagged-spot w s.memory depth t i.bytes p h c)
       where
         of : TaggedSpot w s.memory depth i.bytes p → Gives (store_integer Wild i p z s) (λ x r. IsKept w sites s.memory r.memory)
@@ -189,21 +221,32 @@ module _ (w : Setting) (sound : IsWellFormed w.table) (sites : List Site) where
             (sound-integer w sites (outlines_of s.memory) (lives_of s.memory) x.object i.bytes x.at (word z) is (λ u. absurd (u x.tagged))))
 
     -- an integer is written, with its conditions
-    pub gives-written_integer : (own assignment : Place) (k : Kind) (p : Pointer) → AreOutlines w (outlines_of s.memory) → IsHeldIn w s.memory depth k t p
+    pub gives-written_integer : (own assignment : Place) (k : Kind) (p : Pointer) → AreOutlines w (outlines_of s.memory)
+        → IsHeldIn w s.memory depth k t p
         → Gives (write w own assignment k t p (Integer z) s) (λ x r. IsKept w sites s.memory r.memory)
     gives-written_integer own assignment k p ordered held =
-        subst (λ sh. Gives ((all_placed w (place_of_write own assignment) (conditions_of_write k sh p (Integer z)) >> store_shape k sh p (Integer z)) s) (λ x r. IsKept w sites s.memory r.memory)) (sym e) (go k held)
+        subst
+        (λ sh. Gives ((all_placed w (place_of_write own assignment) (conditions_of_write k sh p (Integer z)) >> store_shape k sh p (Integer z)) s)
+        (λ x r. IsKept w sites s.memory r.memory))
+        (sym e) (go k held)
       where
         placed : (k : Kind) → IsHeldIn w s.memory depth k t p → AllHold w s.memory (asked_of i.bytes k p) → IsPlaceIn w s.memory depth k t p
         placed k h c = held-place w sound (outlines_of s.memory) (lives_of s.memory) depth s.memory k t p (complete-data w.table sound t complete) h
             (subst (λ m. AllHold w s.memory (asked_of m k p)) (sym size) c)
 
-        stores : (k : Kind) → (AllHold w s.memory (conditions_of (WriteInteger i.bytes) k p) → Gives (store_integer k i p z s) (λ x r. IsKept w sites s.memory r.memory))
-            → Gives ((all_placed w (place_of_write own assignment) (conditions_of (WriteInteger i.bytes) k p) >> store_integer k i p z) s) (λ x r. IsKept w sites s.memory r.memory)
-        stores k h = gives-checked w (place_of_write own assignment) (conditions_of (WriteInteger i.bytes) k p) (store_integer k i p z) s (λ x r. IsKept w sites s.memory r.memory) h
+        stores : (k : Kind)
+            →
+            (AllHold w s.memory (conditions_of (WriteInteger i.bytes) k p) → Gives (store_integer k i p z s)
+            (λ x r. IsKept w sites s.memory r.memory))
+            → Gives ((all_placed w (place_of_write own assignment) (conditions_of (WriteInteger i.bytes) k p) >> store_integer k i p z) s)
+            (λ x r. IsKept w sites s.memory r.memory)
+        stores k h =
+            gives-checked w (place_of_write own assignment) (conditions_of (WriteInteger i.bytes) k p) (store_integer k i p z) s
+            (λ x r. IsKept w sites s.memory r.memory) h
 
         go : (k : Kind) → IsHeldIn w s.memory depth k t p
-            → Gives ((all_placed w (place_of_write own assignment) (conditions_of (WriteInteger i.bytes) k p) >> store_integer k i p z) s) (λ x r. IsKept w sites s.memory r.memory)
+            → Gives ((all_placed w (place_of_write own assignment) (conditions_of (WriteInteger i.bytes) k p) >> store_integer k i p z) s)
+            (λ x r. IsKept w sites s.memory r.memory)
         go Safe h = stores Safe (λ c. gives-stored_integer Safe safe≢wild p ordered (placed Safe h c))
         go Rtti h = stores Rtti (λ c. gives-stored_integer Rtti rtti≢wild p ordered (placed Rtti h c))
         go Seq h = stores Seq (λ c. gives-stored_integer Seq seq≢wild p ordered (placed Seq h c))

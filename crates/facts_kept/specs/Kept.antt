@@ -1,22 +1,36 @@
 -- What operations leave of the facts, in the words of their laws.
-use Rattle.std.specs.Prelude.{◌≡◌, ℕ, ℤ, true, ⊤, ◌⊎◌, List, [], ◌∷◌, ◌++◌}
+use Rattle.std.specs.Prelude.{◌≡◌, ℕ, suc, ◌≤◌, ℤ, true, ⊤, ◌⊎◌, List, [], ◌∷◌, ◌++◌, map, slice_get, Some}
 use Rattle.std.specs.List.{Contains}
 use Rattle.cc_base.specs.declared.kind.Kind.{Kind}
 use Rattle.cc_base.specs.declared.number.TypeId.{TypeId}
 use Rattle.cc_base.specs.declared.number.NodeId.{NodeId}
 use Rattle.c_types.specs.declared.site.Site.{Site}
 use Rattle.c_types.specs.declared.site.Site.TheVariants as site
-use Rattle.c_types.specs.declared.shape.TypeShape.TheVariants.{Void}
+use Rattle.c_types.specs.declared.shape.TypeShape.{TypeShape}
+use Rattle.c_types.specs.declared.shape.TypeShape.TheVariants as shape
 use Rattle.c_types.specs.Table.{IsComplete, shape_at}
 use Rattle.c_types.specs.Layouts.{size_of}
-use Rattle.c_types.specs.Solutions.{IsFlowAllowed, IsPointeeAllowed}
+use Rattle.c_types.specs.Solutions.{IsFlowAllowed, IsPointeeAllowed, IsPlain, SpreadsWild}
 use Rattle.integers.specs.Arithmetic.{IntegerType, converted}
 use Rattle.src_mem.specs.Pointers.{Pointer, Value, Integer, Address}
-use Rattle.src_mem.specs.Memory.{Object, Memory}
+use Rattle.src_mem.specs.Memory.{Object, Memory, Planned, new_variable}
 use Rattle.src_mem.specs.State.{State, Setting}
-use Rattle.src_mem.specs.Checks.{Condition, NotNull, InBounds, InObject, by_kind, holds, conditions_of_allocation}
-use Rattle.src_mem.specs.Outlines.{outlines_of, lives_of}
+use Rattle.src_mem.specs.Checks.{Condition, NotNull, InBounds, InObject, IsNotOfFrame, by_kind, holds, conditions_of_allocation}
+use Rattle.src_mem.specs.Outlines.{Outline, Life, outline, life, outlines_of, lives_of}
 use Rattle.src_mem.specs.Facts.{IsHeldIn, IsMade, IsSoundMemory, IsSoundAt}
+
+-- Conditions
+
+-- all conditions hold
+abbrev pub AllHold : Setting → Memory → List Condition → Type 0
+AllHold w memory [] = ⊤
+AllHold w memory (c ∷ cs) = (holds w memory c ≡ true) × AllHold w memory cs
+
+-- what is asked before m bytes are used, by kind: NULL, BOUNDS or WBOUNDS
+abbrev pub asked_of : ℕ → Kind → Pointer → List Condition
+asked_of m k p = by_kind k (NotNull p ∷ []) (InBounds m p ∷ []) (InObject m p ∷ [])
+
+-- What is given
 
 -- A conversion of a pointer of one node to one of another that the sites of a program tell of and a solution of its kinds allows.
 pub record IsFlow (w : Setting) (sites : List Site) (m : NodeId) (t : TypeId) (n : NodeId) (u : TypeId) : Type 0 where
@@ -55,15 +69,6 @@ pub record IsKept (w : Setting) (sites : List Site) (old new : Memory) : Type 0 
   pub outlines : outlines_of new ≡ outlines_of old
   pub lives : lives_of new ≡ lives_of old
 
--- all conditions hold
-abbrev pub AllHold : Setting → Memory → List Condition → Type 0
-AllHold w memory [] = ⊤
-AllHold w memory (c ∷ cs) = (holds w memory c ≡ true) × AllHold w memory cs
-
--- what is asked before m bytes are used, by kind: NULL, BOUNDS or WBOUNDS
-abbrev pub asked_of : ℕ → Kind → Pointer → List Condition
-asked_of m k p = by_kind k (NotNull p ∷ []) (InBounds m p ∷ []) (InObject m p ∷ [])
-
 -- A block was made for a pointer of this node to t, or none; what is given may be held once it passes what is asked of an allocation.
 pub record GivesBlock (w : Setting) (sites : List Site) (depth : ℕ) (node : NodeId) (t : TypeId) (old : State) (p : Pointer) (new : State) : Type 0 where
   pub more : List Object
@@ -74,4 +79,43 @@ pub record GivesBlock (w : Setting) (sites : List Site) (depth : ℕ) (node : No
 
 -- what a block may be made of: a type that has a size, or `void`
 abbrev pub MakesBlocks : Setting → TypeId → Type 0
-MakesBlocks w t = (shape_at w.table t ≡ Void) ⊎ IsComplete w.table t
+MakesBlocks w t = (shape_at w.table t ≡ shape.Void) ⊎ IsComplete w.table t
+
+-- Calls
+
+-- What a call of this depth sees of later objects: those that were there are there, with their outlines, and those that are no
+-- deeper live as they did. It may hold what it held.
+pub record IsLater (depth : ℕ) (old new : List Object) : Type 0 where
+  pub more : List Outline
+  pub outlines : map outline new ≡ map outline old ++ more
+  pub lives : (k : ℕ) (x : Life) → slice_get (map life old) k ≡ Some x → x.depth ≤ depth → slice_get (map life new) k ≡ Some x
+
+-- a variable of a frame: its type has a size, its home is SAFE or WILD, and in a WILD one all pointers are WILD
+pub record IsVariable (w : Setting) (v : Planned) : Type 0 where
+  pub complete : IsComplete w.table v.type
+  pub plain : IsPlain w.kind v.node
+  pub spreads : SpreadsWild w.table w.kind v.node v.type
+
+-- an argument is a value of the variable that it is stored in: an integer, or a pointer that the caller may hold
+abbrev pub IsArgumentOf : Setting → List Site → Memory → ℕ → TypeShape → Value → Type 0
+IsArgumentOf w sites memory depth (shape.Integer bytes signed) (Integer z) = ⊤
+IsArgumentOf w sites memory depth (shape.Pointer node to) (Address p) = IsHeldIn w memory depth (w.kind node) to p × IsMade sites p
+IsArgumentOf w sites memory depth other v = ⊥
+
+-- these are arguments of the variables, one each and in order
+abbrev pub AreArgumentsOf : Setting → List Site → Memory → ℕ → List Planned → List Value → Type 0
+AreArgumentsOf w sites memory depth variables [] = ⊤
+AreArgumentsOf w sites memory depth [] (v ∷ vs) = ⊥
+AreArgumentsOf w sites memory depth (x ∷ xs) (v ∷ vs) = IsArgumentOf w sites memory depth (shape_at w.table x.type) v × AreArgumentsOf w sites memory depth xs vs
+
+-- a call has begun: the variables are there behind the objects that were, and the facts hold for the call
+pub record HasEntered (w : Setting) (sites : List Site) (depth : ℕ) (variables : List Planned) (old new : Memory) : Type 0 where
+  pub outlines : outlines_of new ≡ outlines_of old ++ map outline (map (new_variable w.table (suc depth)) variables)
+  pub later : IsLater depth old.objects new.objects
+  pub sound : IsSoundAt w sites new (suc depth)
+
+-- a call has ended: the facts hold for its caller, and what passed the check of a return may be held there
+pub record HasLeft (w : Setting) (sites : List Site) (depth : ℕ) (old new : Memory) : Type 0 where
+  pub later : IsLater depth old.objects new.objects
+  pub sound : IsSoundAt w sites new depth
+  pub returned : (kind : Kind) (t : TypeId) (p : Pointer) → IsHeldIn w old (suc depth) kind t p → holds w old (IsNotOfFrame (suc depth) p) ≡ true → IsHeldIn w new depth kind t p

@@ -6,11 +6,11 @@
 //! pointers are held by a call of some depth.
 #![tactic(auto)]
 
-ghost use Rattle.std.specs.Prelude.{◌≡◌, ◌≢◌, ◌⊎◌, ◌↔◌, ℕ, ◌<◌, ℤ, List, [], ◌∷◌, length, true, IsFalse};
+ghost use Rattle.std.specs.Prelude.{◌≡◌, ◌≢◌, ◌⊎◌, ◌↔◌, ℕ, suc, ◌<◌, ◌≤◌, ℤ, List, [], ◌∷◌, ◌++◌, length, slice_get, Some, true, false, IsFalse};
 ghost use Rattle.std.specs.List.{Contains};
 ghost use Rattle.cc_base.specs.declared.place.Place.{Place};
 ghost use Rattle.cc_base.specs.declared.kind.Kind.{Kind};
-ghost use Rattle.cc_base.specs.declared.kind.Kind.TheVariants.{Seq, Wild};
+ghost use Rattle.cc_base.specs.declared.kind.Kind.TheVariants.{Safe, Seq, Wild};
 ghost use Rattle.cc_base.specs.declared.number.TypeId.{TypeId};
 ghost use Rattle.cc_base.specs.declared.number.NodeId.{NodeId};
 ghost use Rattle.c_types.specs.declared.site.Site.{Site};
@@ -18,25 +18,36 @@ ghost use Rattle.c_types.specs.declared.site.Site.TheVariants.{Pointee};
 ghost use Rattle.c_types.specs.declared.shape.TypeShape.TheVariants as shape;
 ghost use Rattle.c_types.specs.Table.{IsComplete, IsAggregate, shape_at, members_at, is_function};
 ghost use Rattle.c_types.specs.Layouts.{size_of, member_at};
-ghost use Rattle.c_types.specs.Flows.{IsOfOneClass};
-ghost use Rattle.c_types.specs.Solutions.{SpreadsWild, IsUnionAllowed, IsWildWhereMixed};
+ghost use Rattle.c_types.specs.Flows.{HeldPointer, pointer_at, IsOfOneClass};
+ghost use Rattle.c_types.specs.Solutions.{IsPlain, SpreadsWild, IsUnionAllowed, IsWildWhereMixed};
 ghost use Rattle.c_types.specs.Sound.{IsWellFormed};
 ghost use Rattle.integers.specs.Arithmetic.{IntegerType};
-ghost use Rattle.src_mem.specs.Pointers.{Pointer, Integer, Address};
-ghost use Rattle.src_mem.specs.Memory.{Memory};
-ghost use Rattle.src_mem.specs.State.{State, Setting};
+ghost use Rattle.src_mem.specs.Pointers.{Pointer, Function, Value, Integer, Address};
+ghost use Rattle.src_mem.specs.Memory.{Object, Memory, Planned, new_variable};
+ghost use Rattle.src_mem.specs.State.{State, Setting, Defined};
 ghost use Rattle.src_mem.specs.Checks.{InObject, IsAligned, HoldsPointer, Outlives, holds};
-ghost use Rattle.src_mem.specs.Primitives.{load_integer, load_pointer, store_integer, store_pointer, allocate};
-ghost use Rattle.src_mem.specs.Uses.{read, write};
+ghost use Rattle.src_mem.specs.Primitives.{load_integer, load_pointer, store_integer, store_pointer, pointer_from, clear, allocate, leave};
+ghost use Rattle.src_mem.specs.Uses.{read, write, home, copy_all, enter_with};
 ghost use Rattle.src_mem.specs.Operations.{kind_in, node_in, pointee, converted_pointer, moved, member, decayed};
-ghost use Rattle.src_mem.specs.Outlines.{Outline, outlines_of, AreOutlines};
+ghost use Rattle.src_mem.specs.Values.{addressed};
+ghost use Rattle.src_mem.specs.Outlines.{Outline, outline, outlines_of, lives_of, LivesAt, AreOutlines};
 ghost use Rattle.src_mem.specs.Facts.{IsValueOf, IsMade, IsHeldIn, IsPlaceIn, IsSoundMemory, IsSoundAt};
 ghost use Rattle.src_mem.specs.Laws.{Gives};
-ghost use Rattle.facts_kept.specs.Kept.{AllHold, asked_of, IsFlow, GivesPointer, GivesAddress, GivesInteger, GivesIntegerValue, IsKept, GivesBlock, MakesBlocks};
+ghost use Rattle.facts_kept.specs.Kept.{AllHold, asked_of, IsFlow, GivesPointer, GivesAddress, GivesInteger, GivesIntegerValue, IsKept, GivesBlock, MakesBlocks, IsLater, IsVariable, AreArgumentsOf, HasEntered, HasLeft};
 
-/// What may be held as a pointer to a type may be held as one to each type of its class: physically equal, with equal kinds.
+/// Where pointers come from: an integer gives a SEQ or a WILD pointer that may be held, the name of a function is a SAFE or a WILD
+/// pointer to its type, and a variable's home, which is SAFE or WILD, is a place of its type.
+pub fn pointers_begin_as_values()
+    ensures integers { (w : Setting) (sites : List Site) (depth : ℕ) (kind : Kind) (t : TypeId) (z : ℤ) (s : State) → (kind ≡ Seq) ⊎ (kind ≡ Wild) → Gives (pointer_from z s) (GivesPointer w sites depth kind t s) }
+    ensures functions { (w : Setting) (outlines : List Outline) (kind : Kind) (f : ℕ) (d : Defined) → slice_get w.functions f ≡ Some d → is_function w.table d.type ≡ true → (kind ≡ Safe) ⊎ (kind ≡ Wild) → IsValueOf w outlines kind d.type (Function f) }
+    ensures homes { (w : Setting) (memory : Memory) (number depth deeper : ℕ) (v : Planned) → IsWellFormed w.table → IsComplete w.table v.type → IsPlain w.kind v.node → slice_get (outlines_of memory) number ≡ Some (outline (new_variable w.table deeper v)) → LivesAt (lives_of memory) depth number → IsPlaceIn w memory depth (w.kind v.node) v.type (home w.table number v.type) }
+{}
+
+/// What may be held as a pointer to a type may be held as one to each type of its class: physically equal, with equal kinds. So an
+/// argument of a call through a pointer is a value of the function's parameter, and a result one of the call's type.
 pub fn values_pass_along_classes()
-    ensures { (w : Setting) (outlines : List Outline) (kind : Kind) (t u : TypeId) (p : Pointer) → IsWellFormed w.table → IsOfOneClass w.table w.kind t u → IsValueOf w outlines kind t p → IsValueOf w outlines kind u p }
+    ensures calls { (w : Setting) (outlines : List Outline) (t u : TypeId) (i : ℕ) (p q : HeldPointer) (v : Pointer) → IsWellFormed w.table → IsOfOneClass w.table w.kind t u → pointer_at w.table t i ≡ Some p → pointer_at w.table u i ≡ Some q → IsValueOf w outlines (w.kind q.node) q.to v → IsValueOf w outlines (w.kind p.node) p.to v }
+    ensures pointees { (w : Setting) (outlines : List Outline) (kind : Kind) (t u : TypeId) (p : Pointer) → IsWellFormed w.table → IsOfOneClass w.table w.kind t u → IsValueOf w outlines kind t p → IsValueOf w outlines kind u p }
 {}
 
 /// Once NULL, BOUNDS or WBOUNDS held, a pointer to a data type that may be held is a place of that type.
@@ -96,4 +107,32 @@ pub fn parts_give_what_may_be_held()
 /// An allocation gives a null pointer or a new block. The memory stays sound, and what is given may be held once its condition held.
 pub fn allocations_give_what_may_be_held()
     ensures { (w : Setting) (sites : List Site) (depth : ℕ) (node : NodeId) (t : TypeId) (n : ℕ) (s : State) → IsWellFormed w.table → MakesBlocks w t → IsSoundAt w sites s.memory depth → Gives (allocate w node t n s) (GivesBlock w sites depth node t s) }
+{}
+
+/// `&` of a place, and an array at a place that decays without a check, ask for the place alone, and give what may be held.
+pub fn addresses_ask_for_places()
+    ensures address { (w : Setting) (sites : List Site) (depth : ℕ) (kind : Kind) (node : NodeId) (t : TypeId) (p : Pointer) (s : State) → IsWellFormed w.table → ((kind ≡ Wild) ↔ (w.kind node ≡ Wild)) → IsComplete w.table t → Contains sites (Pointee node t) → AreOutlines w (outlines_of s.memory) → IsPlaceIn w s.memory depth kind t p → Gives (addressed w node t (Address p) s) (GivesAddress w sites depth (w.kind node) t s) }
+    ensures array { (w : Setting) (sites : List Site) (at : Place) (depth : ℕ) (kind : Kind) (node : NodeId) (array element : TypeId) (n : ℕ) (p : Pointer) (s : State) → IsWellFormed w.table → ((kind ≡ Wild) ↔ (w.kind node ≡ Wild)) → shape_at w.table array ≡ shape.Array element n → IsComplete w.table array → IsComplete w.table element → Contains sites (Pointee node element) → AreOutlines w (outlines_of s.memory) → IsPlaceIn w s.memory depth kind array p → Gives (decayed w at kind array false node element p s) (GivesPointer w sites depth (w.kind node) element s) }
+{}
+
+/// An object that has not ended is cleared, and the memory stays sound.
+pub fn clearing_keeps_the_memory_sound()
+    ensures { (w : Setting) (sites : List Site) (number : ℕ) (o : Object) (s : State) → IsSoundMemory w sites s.memory → slice_get s.memory.objects number ≡ Some o → o.live ≡ true → Gives (clear number s) (λ x r. IsKept w sites s.memory r.memory) }
+{}
+
+/// A struct or union is copied, with its conditions: they stop it, or the memory stays sound. Its two sides are both WILD, or neither is.
+pub fn copies_keep_the_memory_sound()
+    ensures typed { (w : Setting) (sites : List Site) (depth : ℕ) (t : TypeId) (source_place : Place) (from_kind : Kind) (source : Pointer) (target_place : Place) (to_kind : Kind) (target : Pointer) (place : Place) (s : State) → IsWellFormed w.table → IsComplete w.table t → from_kind ≢ Wild → to_kind ≢ Wild → IsSoundMemory w sites s.memory → AreOutlines w (outlines_of s.memory) → IsHeldIn w s.memory depth from_kind t source → IsHeldIn w s.memory depth to_kind t target → Gives (copy_all w t source_place from_kind source target_place to_kind target place s) (λ x r. IsKept w sites s.memory r.memory) }
+    ensures wild { (w : Setting) (sites : List Site) (depth : ℕ) (t : TypeId) (source_place : Place) (source : Pointer) (target_place : Place) (target : Pointer) (place : Place) (s : State) → IsWellFormed w.table → IsComplete w.table t → IsSoundMemory w sites s.memory → IsHeldIn w s.memory depth Wild t source → IsHeldIn w s.memory depth Wild t target → Gives (copy_all w t source_place Wild source target_place Wild target place s) (λ x r. IsKept w sites s.memory r.memory) }
+{}
+
+/// A call begins with the arguments of its variables, and the facts hold for the call; it ends, and they hold for its caller again. What
+/// passed the check of a return may be held by the caller, and so may what it held before.
+pub fn calls_keep_the_facts()
+    ensures entry { (w : Setting) (sites : List Site) (depth f : ℕ) (variables : List Planned) (arguments : List Value) (s : State) → IsWellFormed w.table → ((j : ℕ) (x : Planned) → slice_get variables j ≡ Some x → IsVariable w x) → IsSoundAt w sites s.memory depth → AreArgumentsOf w sites s.memory depth variables arguments → Gives (enter_with w (suc depth) f variables arguments s) (λ x r. HasEntered w sites depth variables s.memory r.memory) }
+    ensures leaving { (w : Setting) (sites : List Site) (depth : ℕ) (variables : List Planned) (s : State) → IsWellFormed w.table → IsSoundAt w sites s.memory (suc depth) → Gives (leave w (suc depth) variables s) (λ x r. HasLeft w sites depth s.memory r.memory) }
+    ensures caller { (w : Setting) (depth : ℕ) (kind : Kind) (t : TypeId) (p : Pointer) (old new : Memory) → IsLater depth old.objects new.objects → IsHeldIn w old depth kind t p → IsHeldIn w new depth kind t p }
+    ensures later { (depth deeper : ℕ) (a b c : List Object) → depth ≤ deeper → IsLater depth a b → IsLater deeper b c → IsLater depth a c }
+    ensures stores { (w : Setting) (sites : List Site) (depth : ℕ) (old new : Memory) → IsKept w sites old new → IsLater depth old.objects new.objects }
+    ensures blocks { (depth : ℕ) (old more : List Object) → IsLater depth old (old ++ more) }
 {}

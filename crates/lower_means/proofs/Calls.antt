@@ -38,14 +38,14 @@ pub row-kept : (T U : Temporaries) (t n : ℕ) → AreKept (IsBelow (t + n)) T U
 row-kept T U t zero h = refl
 row-kept T U t (suc n) h =
     row-more U t n ∙ ap (λ l. l ++ U (value (t + n)) ∷ [])
-        (row-kept T U t n (kept-lower (t + n) T U (subst (λ k. AreKept (IsBelow k) T U) (plus-suc t n) h)))
+    (row-kept T U t n (kept-lower (t + n) T U (subst (λ k. AreKept (IsBelow k) T U) (plus-suc t n) h)))
     ∙ ap (λ v. row_of T t n ++ v ∷ []) (h (value (t + n)) (omega arith)) ∙ sym (row-more T t n)
 
 -- code leaves so many values in a row
 abbrev pub Rows : World → Act (List Value) → ℕ → ℕ → List Instr → Type 0
 Rows w m t n code = (i j : ℕ) (S : Temporaries) (f : List Value → Act Value) (s : State) (T : Temporaries) (rest : List Instr)
     → ((U : Temporaries) (r : State) → AreKept (IsBelow t) T U
-        → Matches (Into i j S) EndsAlike (f (row_of U t n) r) (run rest (around_of w) (at r U)))
+    → Matches (Into i j S) EndsAlike (f (row_of U t n) r) (run rest (around_of w) (at r U)))
     → Matches (Into i j S) EndsAlike (from (m s) f) (run (code ++ rest) (around_of w) (at s T))
 
 -- all code of a form does
@@ -64,17 +64,17 @@ pub more-rows : (w : World) (m : Act (List Value)) (d : Act Value) (t n : ℕ) (
     → Rows w (λ s. from (m s) (λ vs r. from (d r) (λ v. done (vs ++ v ∷ [])))) t (suc n) (x ++ y)
 more-rows w m d t n x y h l i j S f s T rest next =
     subst (λ c. Matches (Into i j S) EndsAlike (from (from (m s) (λ vs r. from (d r) (λ v. done (vs ++ v ∷ [])))) f) (run c (around_of w) (at s T)))
-        (sym (append_assoc x y rest))
+    (sym (append_assoc x y rest))
     (matches-left (Into i j S) EndsAlike (from (from (m s) (λ vs r. from (d r) (λ v. done (vs ++ v ∷ [])))) f)
-        (from (m s) (λ vs r. from (from (d r) (λ v. done (vs ++ v ∷ []))) f)) (run (x ++ (y ++ rest)) (around_of w) (at s T))
+    (from (m s) (λ vs r. from (from (d r) (λ v. done (vs ++ v ∷ []))) f)) (run (x ++ (y ++ rest)) (around_of w) (at s T))
     (from-from (m s) (λ vs r. from (d r) (λ v. done (vs ++ v ∷ []))) f)
     (h i j S (λ vs r. from (from (d r) (λ v. done (vs ++ v ∷ []))) f) s T (y ++ rest)
     (λ U r kept. matches-left (Into i j S) EndsAlike (from (from (d r) (λ v. done (row_of U t n ++ v ∷ []))) f)
-        (from (d r) (λ v. f (row_of U t n ++ v ∷ []))) (run (y ++ rest) (around_of w) (at r U))
-        (from-from (d r) (λ v. done (row_of U t n ++ v ∷ [])) f)
+    (from (d r) (λ v. f (row_of U t n ++ v ∷ []))) (run (y ++ rest) (around_of w) (at r U))
+    (from-from (d r) (λ v. done (row_of U t n ++ v ∷ [])) f)
     (then-code (Into i j S) y rest (around_of w) (value (t + n)) (IsBelow (t + n)) (d r) (at r U) U (λ v. f (row_of U t n ++ v ∷ [])) (l.by r U)
     (λ V q more. subst (λ vs. Matches (Into i j S) EndsAlike (f vs q) (run rest (around_of w) (at q V)))
-        (row-more V t n ∙ ap (λ l. l ++ V (value (t + n)) ∷ []) (row-kept U V t n more))
+    (row-more V t n ∙ ap (λ l. l ++ V (value (t + n)) ∷ []) (row-kept U V t n more))
     (next V q (kept-then (IsBelow t) T U V kept (kept-below t n U V more))))))))
 
 pub all-no-rows : (w : World) (t : ℕ) → AllRows w (Line []) (done []) t 0
@@ -101,7 +101,7 @@ then-row w P Q d f t n h l c x = record {
   by = λ s T. subst (λ z. Matches (Into t t T) EndsAlike (from (d s) f) (run z (around_of w) (at s T))) (sym x.4)
       (h x.0 x.2 t t T f s T x.1
       (λ U r kept. held-over (value t) (IsBelow t) T U (kept-lower t T U kept) (f (row_of U (suc t) n) r) (run x.1 (around_of w) (at r U))
-          (l x.1 x.3 r U)));
+      (l x.1 x.3 r U)));
 }
 
 row-line : (w : World) (i : Instr) (f : List Value → Act Value) (t n k : ℕ)
@@ -116,21 +116,22 @@ row-line w i f t n k e c h s T =
 pub calls : (w : World) (P Q : Form) (m : Act Value) (d : Act (List Value)) (t n : ℕ) (ty : TypeId) (place : Place)
     → All w P m t → AllRows w Q d (suc t) n
     → All w (Then P (Then Q (Line (instr.Call (record { into = value t; callee = value t; ty = ty; first = suc t; count = n; place = place }) ∷ []))))
-      (λ s. from (m s) (λ v r. from (d r) (λ vs. called_value w.setting w.call w.frame.depth place ty v vs))) t
+    (λ s. from (m s) (λ v r. from (d r) (λ vs. called_value w.setting w.call w.frame.depth place ty v vs))) t
 unfolding Then Line
 calls w P Q m d t n ty place h l c x = record {
   by = λ s T. subst (λ z. Matches (Into t t T) EndsAlike (from (m s) (λ v r. from (d r) (F v))) (run z (around_of w) (at s T)))
       (sym (x.4 ∙ ap (λ z. x.0 ++ z) (x.3.4 ∙ ap (λ z. x.3.0 ++ z) x.3.3)))
       (then-code (Into t t T) x.0 (x.3.0 ++ I ∷ []) (around_of w) (value t) (IsBelow t) (m s) (at s T) T (λ v r. from (d r) (F v))
-          ((h x.0 x.2).by s T)
+      ((h x.0 x.2).by s T)
       (λ U r kept. l x.3.0 x.3.2 t t T (F (U (value t))) r U (I ∷ [])
       (λ V q more. subst (λ v. Matches (Into t t T) EndsAlike (F v (row_of V (suc t) n) q) (run (I ∷ []) (around_of w) (at q V)))
-          (kept-value t U V more)
+      (kept-value t U V more)
       (last-value t (F (V (value t)) (row_of V (suc t) n)) I (around_of w) q T V refl (kept-then (IsBelow t) T U V kept (kept-lower t U V more))))));
 }
   where
     F : Value → List Value → Act Value
     F = called_value w.setting w.call w.frame.depth place ty
+
     I : Instr
     I = instr.Call (record { into = value t; callee = value t; ty = ty; first = suc t; count = n; place = place })
 

@@ -23,7 +23,7 @@ use Rattle.cil_form.proofs.ComputesLaws.{then-code, held-over, computes-append}
 use Rattle.cil_form.proofs.InstructionLaws.{Relation, at, kept-same, kept-then, last-value, no-code, two-operands, computes-as, computes-one, computes-choice, if-last}
 use Rattle.lower_rules.specs.declared.after.After.{After}
 use Rattle.lower_rules.specs.Pieces.{Form, Line, Then, Choice, Never}
-use Rattle.lower_rules.specs.Words.{Context, value, object_by, object_in, Objects, Truth, LogicalOf, after_code, Follows}
+use Rattle.lower_rules.specs.Words.{Context, value, object_by, Objects, Truth, LogicalOf, after_code, Follows}
 
 -- what the code of a world's function depends on, and what it runs in
 abbrev pub context_of : World → Context
@@ -141,7 +141,7 @@ objects w node ty t c h =
 abbrev pub Locates : World → Act Where → ℕ → (NodeId → Form) → List Instr → Type 0
 Locates w m t next code = (i j : ℕ) (S : Temporaries) (f : Where → Act Value) (s : State) (T : Temporaries)
     → ((n : NodeId) (c : List Instr) → next n c → (U : Temporaries) (r : State) → AreKept (IsBelow t) T U
-      → Matches (Into i j S) EndsAlike (f (record { node = n; address = U (value t) }) r) (run c (around_of w) (at r U)))
+    → Matches (Into i j S) EndsAlike (f (record { node = n; address = U (value t) }) r) (run c (around_of w) (at r U)))
     → Matches (Into i j S) EndsAlike (from (m s) f) (run code (around_of w) (at s T))
 
 abbrev pub AllLocate : World → Form → Act Where → ℕ → (NodeId → Form) → Type 0

@@ -6,3 +6,6 @@ pub mod Calls
 pub mod Means
 pub mod Loops
 pub mod Switches
+pub mod Initialisers
+pub mod Statements
+pub mod Units

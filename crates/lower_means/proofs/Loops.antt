@@ -1,8 +1,8 @@
 -- All code of a form executes a statement; forms of statements put together, and loops.
-use Rattle.std.proofs.Common.{ℕ, zero, suc, ◌≡◌, refl, ap, ◌∙◌, sym, subst, Bool, true, false, List, [], ◌∷◌, ◌++◌, Option, None, Some}
+use Rattle.std.proofs.Common.{ℕ, ◌≡◌, refl, ap, ◌∙◌, sym, Bool, true, false, List, [], ◌∷◌, ◌++◌, Option, None, Some}
 use Rattle.runs.specs.Outcome.{Outcome, Ended, Done, done, from, either, Matches, ◌>>◌}
 use Rattle.runs.specs.Control.{Control, Goes, Leaves, Gives, then_go, out_of, block}
-use Rattle.runs.proofs.RunLaws.{from-from, from-same, from-either, StaysIn, IsPassed, AllDone, all-from, rounds-passed}
+use Rattle.runs.proofs.RunLaws.{from-from, from-same, StaysIn, IsPassed, AllDone, all-from, rounds-passed}
 use Rattle.c_tree.specs.TypedTree.{TypedExpr}
 use Rattle.src_mem.specs.Pointers.{Value, is_true}
 use Rattle.src_mem.specs.State.{Ending, State, Act, Turns, turn}
@@ -70,7 +70,7 @@ exec-then w P Q m n depth h l c d =
 -- a statement on a value
 pub exec-value : (w : World) (P Q : Form) (m : Act Value) (f : Value → Act (Control Value)) (depth : ℕ) → All w P m 0
     → ((c : List Instr) → Q c → (T : Temporaries) (s : State)
-      → Matches (LeftAlike (IsAround depth) T) EndsAlike (f (T (value 0)) s) (run c (around_of w) (at s T)))
+    → Matches (LeftAlike (IsAround depth) T) EndsAlike (f (T (value 0)) s) (run c (around_of w) (at s T)))
     → AllExecute w (Then P Q) (λ s. from (m s) f) depth
 unfolding Then
 exec-value w P Q m f depth h l c d =
@@ -93,13 +93,13 @@ pub exec-blocked : (w : World) (P : Form) (m : Act (Control Value)) (depth : ℕ
 unfolding Blocked
 exec-blocked w P m depth h c d =
     executes-as c (instr.Block d.0 ∷ []) (around_of w) (block m) (block m) depth d.2 (λ s. refl)
-        (executes-block d.0 (around_of w) m depth (h d.0.0.items d.1))
+    (executes-block d.0 (around_of w) m depth (h d.0.0.items d.1))
 
 pub exec-looped : (w : World) (P : Form) (m : Act (Control Value)) (depth : ℕ) → AllExecute w P m depth → AllExecute w (Looped P) (looped m) depth
 unfolding Looped
 exec-looped w P m depth h c d =
     executes-as c (instr.Loop d.0 ∷ []) (around_of w) (looped m) (looped m) depth d.2 (λ s. refl)
-        (executes-loop d.0 (around_of w) m depth (h d.0.0.items d.1))
+    (executes-loop d.0 (around_of w) m depth (h d.0.0.items d.1))
 
 pub effect-then : (w : World) (P Q : Form) (m n : Act (Unit {0})) (depth : ℕ) → AllEffect w P m depth → AllEffect w Q n depth
     → AllEffect w (Then P Q) (λ s. from (m s) (λ _. n)) depth
@@ -143,7 +143,7 @@ exec-body : (w : World) (P : Form) (m : Act Flow) (v : Nesting) → AllDo w P m 
     → AllExecute w (Blocked P) (λ s. from (m s) (λ flow. done (round_of flow))) v.switches
 exec-body w P m v h =
     exec-same w (Blocked P) (λ s. from (m s) (λ flow. done (round_of flow)))
-        (block (λ s. from (m s) (λ flow. done (control_of (in_loop v) flow)))) v.switches
+    (block (λ s. from (m s) (λ flow. done (control_of (in_loop v) flow)))) v.switches
     (λ s. sym (body-left v (m s))) (exec-blocked w P (λ s. from (m s) (λ flow. done (control_of (in_loop v) flow))) v.switches h)
 
 -- what a condition leaves: the loop, where it fails
@@ -164,7 +164,7 @@ effects w None depth = exec-nothing w depth
 effects w (Some e) depth =
     exec-same w (IsCodeOf e (context_of w) 0) (λ s. from (effect (Some e) w s) (λ _. done Goes)) (λ s. from (eval e w s) (λ _. done Goes)) depth
     (λ s. from-from (eval e w s) (λ _. done tt) (λ _. done Goes))
-        (exec-effect w (IsCodeOf e (context_of w) 0) (eval e w) depth (λ c d. means w e 0 c d))
+    (exec-effect w (IsCodeOf e (context_of w) 0) (eval e w) depth (λ c d. means w e 0 c d))
 
 chosen-then : (b : Bool) (n : Act (Control Value)) (s : State)
     → from (either b (done Goes) (done (Leaves 0)) s) (λ y. then_go y n) ≡ either b n (done (Leaves 0)) s
@@ -196,7 +196,7 @@ round-stays : (test : Act Bool) (body : Act Flow) (step : Act (Unit {0})) (s : S
 round-stays test body step s =
     all-from StaysIn (test s) (λ go. either go (λ r. from (body r) (λ flow. then_go (round_of flow) (step >> done Goes))) (done (Leaves 0)))
     (λ go r. stays-either go (λ r. from (body r) (λ flow. then_go (round_of flow) (step >> done Goes))) r
-        (λ q. all-from StaysIn (body q) (λ flow. then_go (round_of flow) (step >> done Goes)) (λ flow z. stays-then flow step z)))
+    (λ q. all-from StaysIn (body q) (λ flow. then_go (round_of flow) (step >> done Goes)) (λ flow z. stays-then flow step z)))
 
 -- the body in its block, and the step behind it
 abbrev pub stepped : Act Flow → Act (Unit {0}) → Act (Control Value)
@@ -216,8 +216,10 @@ does-while w P R test body step v h l =
   where
     N : Act (Control Value)
     N = stepped body step
+
     N' : Act (Control Value)
     N' = λ r. from (body r) (λ flow. then_go (round_of flow) (step >> done Goes))
+
     same-either : (go : Bool) (u : State) → either go N (done (Leaves 0)) u ≡ either go N' (done (Leaves 0)) u
     same-either true u = from-from (body u) (λ flow. done (round_of flow)) (λ y. then_go y (λ u. from (step u) (λ _. done Goes)))
     same-either false u = refl
@@ -228,7 +230,7 @@ pub with-step : (w : World) (P Q : Form) (body : Act Flow) (step : Act (Unit {0}
     → AllExecute w (Then (Blocked P) Q) (stepped body step) v.switches
 with-step w P Q body step v h l =
     exec-then w (Blocked P) Q (λ s. from (body s) (λ flow. done (round_of flow))) (λ u. from (step u) (λ _. done Goes)) v.switches
-        (exec-body w P body v h) l
+    (exec-body w P body v h) l
 
 abbrev no_more : Act (Control Value)
 no_more = done Goes
@@ -264,5 +266,5 @@ does-do w P Q test body v h l =
     (λ s. from (from (body s) (λ flow. done (round_of flow))) (λ y. then_go y (tested_by test))) v.switches
     (λ s. sym (from-from (body s) (λ flow. done (round_of flow)) (λ y. then_go y (tested_by test))
     ∙ from-same (body s) (λ flow. then_go (round_of flow) (tested_by test)) (λ flow. again test (round_of flow))
-        (λ flow u. again-then test (round_of flow) u)))
+    (λ flow u. again-then test (round_of flow) u)))
     (exec-then w (Blocked P) Q (λ s. from (body s) (λ flow. done (round_of flow))) (tested_by test) v.switches (exec-body w P body v h) l))

@@ -1,5 +1,5 @@
 -- The code of an expression, of arguments and of a place does what they do.
-use Rattle.std.proofs.Common.{ℕ, suc, ◌+◌, ◌≡◌, refl, pos, true, false, List, [], ◌∷◌}
+use Rattle.std.proofs.Common.{ℕ, suc, ◌+◌, refl, pos, true, false, List, [], ◌∷◌}
 use Rattle.cc_base.specs.declared.number.NodeId.{NodeId}
 use Rattle.runs.specs.Outcome.{done, from, ◌>>=◌}
 use Rattle.integers.specs.Arithmetic.{truth}
@@ -7,12 +7,12 @@ use Rattle.c_tree.specs.TypedTree as typed
 use Rattle.c_tree.specs.TypedTree.{TypedExpr, TypedPlace, TypedArguments}
 use Rattle.c_tree.specs.TypedParts.{type_of, place_type, named_type, pointer_side, place_at, is_null}
 use Rattle.src_mem.specs.Pointers.{Value, Integer, is_true}
-use Rattle.src_mem.specs.State.{State, Act}
+use Rattle.src_mem.specs.State.{Act}
 use Rattle.src_mem.specs.Operations.{node_in, pointee}
 use Rattle.src_mem.specs.Values.{loaded, decayed_value, addressed, member_value, difference_value, allocated}
 use Rattle.runtime_calls.specs.Meanings.{call_runtime, call_allocation}
 use Rattle.src_machine.specs.World.{World}
-use Rattle.src_machine.specs.Expressions.{Where, eval, eval_all, locate, locate_object, is_through_pointer, is_or, is_pointer_in, is_subtract, operator_of, operator_of_step, operator_of_assignment, moved_by_side, prefixed, converted_value, compared_with}
+use Rattle.src_machine.specs.Expressions.{Where, eval, eval_all, locate, locate_object, is_through_pointer, is_or, is_pointer_in, is_subtract, operator_of, operator_of_step, operator_of_assignment, moved_by_side, prefixed, converted_value}
 use Rattle.cil_form.specs.declared.instr.Set.TheVariants as set
 use Rattle.cil_form.specs.declared.instr.Calculate.TheVariants as calculate
 use Rattle.cil_form.specs.declared.instr.Point.TheVariants as point
@@ -23,8 +23,8 @@ use Rattle.cil_form.specs.declared.instr.Instr.TheVariants as instr
 use Rattle.cil_form.specs.Computes.{Computes}
 use Rattle.lower_rules.specs.declared.after.After.{After}
 use Rattle.lower_rules.specs.declared.after.After.TheVariants as after
-use Rattle.lower_rules.specs.Pieces.{Form, Line, Then, Choice}
-use Rattle.lower_rules.specs.Words.{value, constant, Objects, Constant, lowered, lowered_assignment, lowered_step, Prefixes, Calculates, Moves, Compares, LogicalOf, Converts, Follows, RunsRuntime, Allocates}
+use Rattle.lower_rules.specs.Pieces.{Form, Line, Then}
+use Rattle.lower_rules.specs.Words.{value, constant, Objects, Constant, lowered, lowered_assignment, lowered_step, Prefixes, Calculates, Moves, Compares, Converts, Follows, RunsRuntime, Allocates}
 use Rattle.lower_rules.specs.Expressions.{count, IsCodeOf, IsCodeOfArguments, IsCodeOfPlace}
 use Rattle.lower_means.proofs.Operators.{same-operator, same-step, same-assignment}
 use Rattle.lower_means.proofs.Forms.{context_of, around_of, All, Finishes, Locates, line, finish-line, finish-none, two-line, then-finish, then-all, two, one-of, logicals, objects, located, follows, located-value, located-choice, located-comma}
@@ -59,7 +59,7 @@ mutual
       (λ c d. locates w p t _ c d)
       (λ n. follows w (after.Load (place_type p) (place_at p)) t n (loaded w.setting (place_at p) n (place_type p))
       (finish-line w (instr.Access (access.Load (value t) (value t) n (place_type p) (place_at p))) (loaded w.setting (place_at p) n (place_type p)) t
-          (λ c. refl)))
+      (λ c. refl)))
       code h
   meaning w (typed.Unread p) Z t code h =
       located w (IsCodeOfPlace p (context_of w) t (Follows after.Nothing t)) (locate p w) t (Follows after.Nothing t) (λ l. done l.address)
@@ -86,7 +86,7 @@ mutual
       (Follows (after.Address node (place_type p)) t) (λ l. addressed w.setting node (place_type p) l.address) (λ c d. locates w p t _ c d)
       (λ n. follows w (after.Address node (place_type p)) t n (addressed w.setting node (place_type p))
       (finish-line w (instr.Point (point.Address (value t) (value t) n node (place_type p))) (addressed w.setting node (place_type p)) t
-          (λ c. refl))) code h
+      (λ c. refl))) code h
   meaning w (typed.AddressOfElement at p ty) Z t code h =
       located w (IsCodeOfPlace p (context_of w) t (Follows after.Nothing t)) (locate p w) t (Follows after.Nothing t) (λ l. done l.address)
       (λ c d. locates w p t _ c d) (λ n. nothing-after w t n) code h
@@ -94,7 +94,7 @@ mutual
   meaning w (typed.FunctionAt at e) Z t code h = meaning w e Z t code h
   meaning w (typed.Prefix op at e ty) Z t code h =
       then-finish w (IsCodeOf e (context_of w) t) (Prefixes op t ty) (eval e w) (prefixed w op ty) t (λ c d. meaning w e Z t c d)
-          (prefixes w op t ty) code h
+      (prefixes w op t ty) code h
   meaning w (typed.SizeOfPlace at p n ty) Z t code h = constants w t ty (pos n) code h
   meaning w (typed.SizeOfValue at e n ty) Z t code h = constants w t ty (pos n) code h
   meaning w (typed.SizeOfType at paren name n ty) Z t code h = constants w t ty (pos n) code h
@@ -104,7 +104,7 @@ mutual
       (λ c d. locates w p t _ c d)
       (λ n. follows w A t n (step_at w (is_pointer_in w (place_type p)) (operator_of_step which) (place_type p) (place_at p) at false n)
       (steps w t (is_pointer_in w (place_type p)) (lowered_step which) (operator_of_step which) (same-step which) (place_type p)
-          (place_at p) at false n)) code h
+      (place_at p) at false n)) code h
     where
       A : After
       A = after.Step false which (is_pointer_in w (place_type p)) (place_type p) (place_at p) at
@@ -114,7 +114,7 @@ mutual
       (λ c d. locates w p t _ c d)
       (λ n. follows w A t n (step_at w (is_pointer_in w (place_type p)) (operator_of_step which) (place_type p) (place_at p) at true n)
       (steps w t (is_pointer_in w (place_type p)) (lowered_step which) (operator_of_step which) (same-step which) (place_type p)
-          (place_at p) at true n)) code h
+      (place_at p) at true n)) code h
     where
       A : After
       A = after.Step true which (is_pointer_in w (place_type p)) (place_type p) (place_at p) at
@@ -124,7 +124,7 @@ mutual
       (calculates w (lowered op) (operator_of op) (same-operator op) t (type_of a) at) code h
   meaning w (typed.Moved op which a at b ty) Z t code h =
       two w (IsCodeOf a (context_of w) t) (IsCodeOf b (context_of w) (suc t))
-          (Moves which (is_subtract (operator_of op)) t (type_of a) (type_of b) at)
+      (Moves which (is_subtract (operator_of op)) t (type_of a) (type_of b) at)
       (eval a w) (eval b w) _ t (λ c d. meaning w a Z t c d) (λ c d. meaning w b Z (suc t) c d)
       (moves w which (is_subtract (operator_of op)) t (type_of a) (type_of b) at) code h
   meaning w (typed.Difference a at b ty) Z t code h =
@@ -160,7 +160,7 @@ mutual
       (λ c d. meaning w e Z (suc t) c d) (λ c d. locates w p t _ c d) code h
   meaning w (typed.AssignWith op p at e u) Z t code h =
       assigns-with w (IsCodeOf e (context_of w) (suc t)) (IsCodeOfPlace p (context_of w) t _) (locate p w) (eval e w) t
-          (is_pointer_in w (place_type p))
+      (is_pointer_in w (place_type p))
       (lowered_assignment op) (operator_of_assignment op) (same-assignment op) (place_type p) u (place_at p) at
       (λ c d. meaning w e Z (suc t) c d) (λ c d. locates w p t _ c d) code h
   meaning w (typed.Call f at arguments ty) Z t code h =
@@ -168,21 +168,21 @@ mutual
       (type_of f) at (λ c d. meaning w f Z t c d) (λ c d. rows w arguments Z (suc t) c d) code h
   meaning w (typed.CallRuntime which f at arguments ty) Z t code h =
       then-row w (IsCodeOfArguments arguments (context_of w) (suc t)) (RunsRuntime which (count arguments) t) (eval_all arguments w)
-          (call_runtime which)
+      (call_runtime which)
       t (count arguments) (λ c d. rows w arguments Z (suc t) c d) (runs w which t (count arguments)) code h
   meaning w (typed.Allocate which f at arguments node ty) Z t code h =
       then-row w (IsCodeOfArguments arguments (context_of w) (suc t)) (Allocates which (count arguments) t node (pointee w.setting ty) at)
       (eval_all arguments w) (λ vs. allocated w.setting at node (pointee w.setting ty)
-          (call_allocation w.setting node (pointee w.setting ty) which vs))
+      (call_allocation w.setting node (pointee w.setting ty) which vs))
       t (count arguments) (λ c d. rows w arguments Z (suc t) c d) (allocates w which t (count arguments) node (pointee w.setting ty) at) code h
   meaning w (typed.AllocateFor which f at arguments ty) Z t code h =
       then-row w (IsCodeOfArguments arguments (context_of w) (suc t))
-          (Allocates which (count arguments) t (node_in w.setting ty) (pointee w.setting ty) at)
+      (Allocates which (count arguments) t (node_in w.setting ty) (pointee w.setting ty) at)
       (eval_all arguments w)
       (λ vs. allocated w.setting at (node_in w.setting ty) (pointee w.setting ty)
-          (call_allocation w.setting (node_in w.setting ty) (pointee w.setting ty) which vs))
+      (call_allocation w.setting (node_in w.setting ty) (pointee w.setting ty) which vs))
       t (count arguments) (λ c d. rows w arguments Z (suc t) c d)
-          (allocates w which t (count arguments) (node_in w.setting ty) (pointee w.setting ty) at) code h
+      (allocates w which t (count arguments) (node_in w.setting ty) (pointee w.setting ty) at) code h
 
   pub rows : (w : World) (l : TypedArguments) (Z : Type 0) (t : ℕ) (code : List Instr) → IsCodeOfArguments l (context_of w) t code
       → Rows w (eval_all l w) t (count l) code
@@ -212,29 +212,32 @@ mutual
       (located w (IsCodeOfPlace p (context_of w) t (Follows A t)) (locate p w) t (Follows A t) F (λ c d. locates w p t _ c d)
       (λ n. follows w A t n (member_value w.setting at n (place_type p) i node ty)
       (finish-line w (instr.Point (point.Member (value t) (value t) n (place_type p) i node ty at))
-          (member_value w.setting at n (place_type p) i node ty)
+      (member_value w.setting at n (place_type p) i node ty)
       t (λ c. refl)))) code h
     where
       A : After
       A = after.Member (place_type p) i node ty at
+
       F : Where → Act Value
       F = λ l. member_value w.setting at l.node (place_type p) i node ty l.address
   locates w (typed.MemberAt e at name i node ty) t next code h =
       located-value w (Then (IsCodeOf e (context_of w) t) (Follows A t N)) (λ s. from (eval e w s) F) node t next
       (then-finish w (IsCodeOf e (context_of w) t) (Follows A t N) (eval e w) F t (λ c d. meaning w e (Unit {0}) t c d)
       (follows w A t N F (finish-line w (instr.Point (point.Member (value t) (value t) N (pointee w.setting (type_of e)) i node ty at)) F t
-          (λ c. refl)))) code h
+      (λ c. refl)))) code h
     where
       A : After
       A = after.Member (pointee w.setting (type_of e)) i node ty at
+
       N : NodeId
       N = node_in w.setting (type_of e)
+
       F : Value → Act Value
       F = member_value w.setting at (node_in w.setting (type_of e)) (pointee w.setting (type_of e)) i node ty
   locates w (typed.StructAssign p at q) t next code h =
       struct-assigns w (IsCodeOfPlace p (context_of w) t _)
       (λ n. IsCodeOfPlace q (context_of w) (suc t)
-          (Follows (after.Copy (target.Pointer (value t) n) (place_at p) (place_at q) (place_type p) at) (suc t)))
+      (Follows (after.Copy (target.Pointer (value t) n) (place_at p) (place_at q) (place_type p) at) (suc t)))
       (locate p w) (locate q w) t next (place_type p) (place_at p) (place_at q) at
       (λ n y d. locates w q (suc t) _ y d) (λ c d. locates w p t _ c d) code h
   locates w (typed.StructConditional c at p q) t next code h =

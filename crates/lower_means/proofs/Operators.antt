@@ -1,5 +1,5 @@
 -- An operator of the tree and the one of its code are one operator on integers.
-use Rattle.std.proofs.Common.{◌≡◌, refl, ap, Bool, true, false, Option, None, Some, nat_eq, arith}
+use Rattle.std.proofs.Common.{◌≡◌, refl, ap, Bool, true, false, Some, arith}
 use Rattle.std.proofs.lemmas.Bool.Decides.{nat_tests}
 use Rattle.cc_base.specs.declared.number.TypeId.{TypeId}
 use Rattle.c_tree.specs.declared.operator.Assignment.{Assignment}

@@ -37,9 +37,9 @@ use Rattle.cil_form.proofs.ComputesLaws.{around-fewer, left-over, then-statement
 use Rattle.cil_form.proofs.InstructionLaws.{Relation, at, kept-same, if-last, then-set, run-if}
 use Rattle.lower_rules.specs.Pieces.{Form, Line, Then, Choice, Blocked}
 use Rattle.lower_rules.specs.Words.{value, work, unsigned_long}
-use Rattle.lower_rules.specs.Statements.{Nesting, in_switch, label_of, IsCodeOfTests, guard_code, Guarded}
+use Rattle.lower_rules.specs.Statements.{Nesting, in_switch, label_of, IsCodeOfTests, Guarded}
 use Rattle.lower_means.proofs.Forms.{around_of, All}
-use Rattle.lower_means.proofs.Loops.{control_of, AllExecute, AllDo, exec-same, exec-value, exec-blocked}
+use Rattle.lower_means.proofs.Loops.{control_of, AllDo, exec-same, exec-value, exec-blocked}
 
 -- What the tests keep
 
@@ -69,11 +69,11 @@ sets-number : {A : Type 0} (R : Relation A) (b : Bool) (n j other : ℕ) (x y : 
     (o : Outcome Ending State A)
     → x.0.items ≡ instr.Set (set.Integer (label_of n) (pos j) unsigned_long) ∷ [] → y.0.items ≡ [] → T (label_of n) ≡ Integer (pos other)
     → ((U : Temporaries) → U (label_of n) ≡ Integer (pos (if b then j else other)) → AreKept (IsFree n) T U
-        → Matches R EndsAlike o (run is w (at s U)))
+    → Matches R EndsAlike o (run is w (at s U)))
     → Matches R EndsAlike o (either (is_true (Integer (truth b))) (run (x.0.items ++ is) w) (run (y.0.items ++ is) w) (at s T))
 sets-number R true n j other x y is w s T o p q e next = subst (λ c. Matches R EndsAlike o (run (c ++ is) w (at s T))) (sym p)
     (then-set R (label_of n) (IsFree n) (Integer (pos j)) (instr.Set (set.Integer (label_of n) (pos j) unsigned_long)) is w s T o refl
-        (not-switch n) next)
+    (not-switch n) next)
 sets-number R false n j other x y is w s T o p q e next =
     subst (λ c. Matches R EndsAlike o (run (c ++ is) w (at s T))) (sym q) (next T e (kept-same (IsFree n) T))
 
@@ -83,7 +83,7 @@ tested : {A : Type 0} (R : Relation A) (items : TypedBlockItems) (n : ℕ) (t : 
     → (other : ℕ) (z : ℤ) (is : List Instr) (w : cil.Around) (s : State) (T : Temporaries) (o : Outcome Ending State A)
     → T (value 0) ≡ Integer z → T (label_of n) ≡ Integer (pos other)
     → ((U : Temporaries) → U (label_of n) ≡ Integer (pos (case_or items z other)) → AreKept (IsFree n) T U
-        → Matches R EndsAlike o (run is w (at s U)))
+    → Matches R EndsAlike o (run is w (at s U)))
     → Matches R EndsAlike o (run (code ++ is) w (at s T))
 unfolding Line Then Choice
 tested R typed.NoBlockItem n t place code h other z is w s T o e f next =
@@ -93,12 +93,12 @@ tested R (typed.AndDeclaration all d) n t place code h other z is w s T o e f ne
 tested R (typed.AndDefault all p) n t place code h other z is w s T o e f next = tested R all n t place code h other z is w s T o e f next
 tested R (typed.AndCase all p d y) n t place code h other z is w s T o e f next =
     subst (λ c. Matches R EndsAlike o (run (c ++ is) w (at s T)))
-        (sym (h.4 ∙ ap (λ x. x ++ h.1) h.2 ∙ ap (λ x. S ∷ B ∷ x) (h.3.4 ∙ ap (λ x. x ++ h.3.1) h.3.2.4)))
+    (sym (h.4 ∙ ap (λ x. x ++ h.1) h.2 ∙ ap (λ x. S ∷ B ∷ x) (h.3.4 ∙ ap (λ x. x ++ h.3.1) h.3.2.4)))
     (then-set R (value 1) (IsFree (suc n)) (Integer y) S (B ∷ I ∷ rest) w s T o refl (not-one (suc n))
     (λ U p kept. then-set R (value 1) (IsFree (suc n)) (Integer (truth (int_eq y z))) B (I ∷ rest) w s U o
     (ap (λ a. gives_to (value 1) (calculated w.setting place integer.Equal t a (U (value 0))) (at s U)) p
     ∙ ap (λ a. gives_to (value 1) (calculated w.setting place integer.Equal t (Integer y) a) (at s U)) (kept (value 0) (omega arith) ∙ e))
-        (not-one (suc n))
+    (not-one (suc n))
     (λ V q more. subst (λ c. Matches R EndsAlike o c)
     (sym (run-if (value 1) h.3.2.0 h.3.2.1 rest w (at s V)
     ∙ ap (λ a. either (is_true a) (run (h.3.2.0.0.items ++ rest) w) (run (h.3.2.1.0.items ++ rest) w) (at s V)) q))
@@ -110,10 +110,13 @@ tested R (typed.AndCase all p d y) n t place code h other z is w s T o e f next 
   where
     S : Instr
     S = instr.Set (set.Integer (value 1) y t)
+
     B : Instr
     B = instr.Calculate (calculate.Binary (value 1) (operator.Compare comparison.Equal) (value 1) (value 0) t place)
+
     I : Instr
     I = instr.If (value 1) h.3.2.0 h.3.2.1
+
     rest : List Instr
     rest = h.3.1 ++ is
 
@@ -123,7 +126,7 @@ tested R (typed.AndCase all p d y) n t place code h other z is w s T o e f next 
 abbrev pub DoesFrom : World → Nesting → ℕ → List Instr → Act Flow → Type 0
 DoesFrom w v k code m = (s : State) (T : Temporaries) → T (label_of v.switches) ≡ Integer (pos k)
     → Matches (LeftAlike (IsAround (suc v.switches)) T) EndsAlike (from (m s) (λ flow. done (control_of (in_switch v) flow)))
-        (run code (around_of w) (at s T))
+    (run code (around_of w) (at s T))
 
 -- all code of the form does
 abbrev pub AllDoFrom : World → Nesting → ℕ → Form → Act Flow → Type 0
@@ -151,14 +154,15 @@ unfolding Then
 from-then w v k P Q m n h l c d s T e =
     subst (λ o. Matches (LeftAlike (IsAround (suc v.switches)) T) EndsAlike o (run c (around_of w) (at s T))) (sym (items-then (in_switch v) (m s) n))
     (subst (λ z. Matches (LeftAlike (IsAround (suc v.switches)) T) EndsAlike (from (from (m s) C) (λ y. then_go y N)) (run z (around_of w) (at s T)))
-        (sym d.4)
+    (sym d.4)
     (then-statement (IsAround (suc v.switches)) (IsAround (suc v.switches)) (λ u p. p) d.0 d.1 (around_of w) (from (m s) C) N (at s T) T
-        (h d.0 d.2 s T e)
+    (h d.0 d.2 s T e)
     (λ U r kept. left-over (IsAround (suc v.switches)) (IsAround (suc v.switches)) T U (λ u p. p) kept (N r) (run d.1 (around_of w) (at r U))
     (l d.1 d.3 r U (kept (label_of v.switches) (omega arith) ∙ e)))))
   where
     C : Flow → Act (Control Value)
     C = λ flow. done (control_of (in_switch v) flow)
+
     N : Act (Control Value)
     N = λ s. from (n s) C
 
@@ -176,28 +180,31 @@ from-guard w v k j place P m h c d s T e =
     (subst (λ z. Matches (LeftAlike (IsAround (suc v.switches)) T) EndsAlike O (run z (around_of w) (at s T)))
     (sym (d.4 ∙ ap (λ z. z ++ d.1) d.2 ∙ ap (λ z. S ∷ B ∷ z) d.3.4))
     (then-set (LeftAlike (IsAround (suc v.switches)) T) (value 0) (IsAround (suc v.switches)) (Integer (pos j)) S
-        (B ∷ instr.If (value 0) d.3.0 d.3.1 ∷ [])
+    (B ∷ instr.If (value 0) d.3.0 d.3.1 ∷ [])
     (around_of w) s T O refl (λ h. h)
     (λ U p kept. then-set (LeftAlike (IsAround (suc v.switches)) T) (value 0) (IsAround (suc v.switches)) (Integer (truth (nat_le k j))) B
     (instr.If (value 0) d.3.0 d.3.1 ∷ []) (around_of w) s U O
     (ap (λ x. gives_to (value 0) (calculated w.setting place integer.LessOrEqual unsigned_long x (U (value 0))) (at s U))
-        (kept (label_of v.switches) (omega arith) ∙ e)
+    (kept (label_of v.switches) (omega arith) ∙ e)
     ∙ ap (λ x. gives_to (value 0) (calculated w.setting place integer.LessOrEqual unsigned_long (Integer (pos k)) x) (at s U)) p) (λ h. h)
     (λ V r more. subst (λ x. Matches (LeftAlike (IsAround (suc v.switches)) T) EndsAlike (either x M (done Goes) s)
     (run (instr.If (value 0) d.3.0 d.3.1 ∷ []) (around_of w) (at s V))) (ap is_true r ∙ true-of (nat_le k j))
     (if-last (LeftAlike (IsAround (suc v.switches)) T) (value 0) d.3.0 d.3.1 (around_of w) M (done Goes) s V
     (left-over (IsAround (suc v.switches)) (IsAround (suc v.switches)) T V (λ u p. p) (λ u p. more u p ∙ kept u p) (M s)
-        (run d.3.0.0.items (around_of w) (at s V))
+    (run d.3.0.0.items (around_of w) (at s V))
     ((h d.3.0.0.items d.3.2).by s V))
     (subst (λ c. Matches (LeftAlike (IsAround (suc v.switches)) T) EndsAlike (Done Goes s) (run c (around_of w) (at s V))) (sym d.3.3)
     (record { exit = refl; state = refl; kept = λ u p. more u p ∙ kept u p })))))))
   where
     M : Act (Control Value)
     M = λ s. from (m s) (λ flow. done (control_of (in_switch v) flow))
+
     O : Outcome Ending State (Control Value)
     O = either (nat_le k j) M (done Goes) s
+
     S : Instr
     S = instr.Set (set.Integer (value 0) (pos j) unsigned_long)
+
     B : Instr
     B = instr.Calculate (calculate.Binary (value 0) (operator.Compare comparison.LessOrEqual) (label_of v.switches) (value 0) unsigned_long place)
 
@@ -208,20 +215,20 @@ switched : (w : World) (v : Nesting) (items : TypedBlockItems) (t : TypeId) (pla
     (T : Temporaries) (s : State) → IsCodeOfTests items v.switches t place tests → ((k : ℕ) → DoesFrom w v k pieces (behind k))
     → (u : Value) → T (value 0) ≡ u
     → Matches (LeftAlike (IsAround v.switches) T) EndsAlike
-        (from (as_integer u s) (λ z r. from (behind (chosen items z) r) (λ flow. done (control_of (in_switch v) flow))))
-      (run (instr.Convert (convert.Integer work (value 0) t) ∷ instr.Set (set.Integer (label_of v.switches) (pos (otherwise items)) unsigned_long)
-          ∷ (tests ++ pieces))
-      (around_of w) (at s T))
+    (from (as_integer u s) (λ z r. from (behind (chosen items z) r) (λ flow. done (control_of (in_switch v) flow))))
+    (run (instr.Convert (convert.Integer work (value 0) t) ∷ instr.Set (set.Integer (label_of v.switches) (pos (otherwise items)) unsigned_long)
+    ∷ (tests ++ pieces))
+    (around_of w) (at s T))
 switched w v items t place tests pieces behind T s h l (Address q) e =
     subst (λ x. Matches (LeftAlike (IsAround v.switches) T) EndsAlike (Ended Wrong s) (from (gives_to work (converted_integer w.setting t x) (at s T))
     (λ z. then_go z (run (instr.Set (set.Integer (label_of v.switches) (pos (otherwise items)) unsigned_long) ∷ (tests ++ pieces)) (around_of w)))))
-        (sym e) (refl, refl)
+    (sym e) (refl, refl)
 switched w v items t place tests pieces behind T s h l (Integer z) e =
     then-set (LeftAlike (IsAround v.switches) T) work (IsFree (suc v.switches)) (Integer (converted (integer_in w.setting t) z))
     (instr.Convert (convert.Integer work (value 0) t)) (S ∷ (tests ++ pieces)) (around_of w) s T O
     (ap (λ x. gives_to work (converted_integer w.setting t x) (at s T)) e) (λ g. g)
     (λ U p kept. then-set (LeftAlike (IsAround v.switches) T) (label_of v.switches) (IsFree v.switches) (Integer (pos (otherwise items))) S
-        (tests ++ pieces)
+    (tests ++ pieces)
     (around_of w) s U O refl (not-switch v.switches)
     (λ V q more. tested (LeftAlike (IsAround v.switches) T) items v.switches t place tests h (otherwise items) z pieces (around_of w) s V O
     (more (value 0) (omega arith) ∙ kept (value 0) (omega arith) ∙ e) q
@@ -231,6 +238,7 @@ switched w v items t place tests pieces behind T s h l (Integer z) e =
   where
     O : Outcome Ending State (Control Value)
     O = from (behind (chosen items z) s) (λ flow. done (control_of (in_switch v) flow))
+
     S : Instr
     S = instr.Set (set.Integer (label_of v.switches) (pos (otherwise items)) unsigned_long)
 
@@ -249,22 +257,22 @@ behind items w k s = from (exec_before items k w s) (λ flow. then_do flow (runs
 pub does-switch : (w : World) (v : Nesting) (items : TypedBlockItems) (e : TypedExpr) (place : Place) (P R : Form) → All w P (eval e w) 0
     → ((k : ℕ) → AllDoFrom w v k R (behind items w k))
     → AllDo w (Blocked (Then P (Then (Line (instr.Convert (convert.Integer work (value 0) (type_of e))
-      ∷ instr.Set (set.Integer (label_of v.switches) (pos (otherwise items)) unsigned_long) ∷ []))
-          (Then (IsCodeOfTests items v.switches (type_of e) place) R))))
-      (λ s. from (eval e w s) (λ u r. from (as_integer u r) (λ z q. from (behind items w (chosen items z) q) (λ flow. done (flow_of_switch flow))))) v
+    ∷ instr.Set (set.Integer (label_of v.switches) (pos (otherwise items)) unsigned_long) ∷ []))
+    (Then (IsCodeOfTests items v.switches (type_of e) place) R))))
+    (λ s. from (eval e w s) (λ u r. from (as_integer u r) (λ z q. from (behind items w (chosen items z) q) (λ flow. done (flow_of_switch flow))))) v
 unfolding Line Then
 does-switch w v items e place P R h l =
     exec-same w (Blocked (Then P Q)) (λ s. from (from (eval e w s) F) (λ flow. done (control_of v flow))) (block M) v.switches
     (λ s. from-from (eval e w s) F (λ flow. done (control_of v flow))
     ∙ from-same (eval e w s) (λ u r. from (F u r) (λ flow. done (control_of v flow))) (λ u r. from (G u r) (λ c. done (out_of c)))
     (λ u r. from-from (as_integer u r) (λ z q. from (behind items w (chosen items z) q) (λ flow. done (flow_of_switch flow)))
-        (λ flow. done (control_of v flow))
+    (λ flow. done (control_of v flow))
     ∙ from-same (as_integer u r) (λ z q. from (from (behind items w (chosen items z) q) (λ flow. done (flow_of_switch flow)))
-        (λ flow. done (control_of v flow)))
+    (λ flow. done (control_of v flow)))
     (λ z q. from (from (behind items w (chosen items z) q) (λ flow. done (control_of (in_switch v) flow))) (λ c. done (out_of c)))
     (λ z q. switch-left v (behind items w (chosen items z) q))
     ∙ sym (from-from (as_integer u r) (λ z q. from (behind items w (chosen items z) q) (λ flow. done (control_of (in_switch v) flow)))
-        (λ c. done (out_of c))))
+    (λ c. done (out_of c))))
     ∙ sym (from-from (eval e w s) G (λ c. done (out_of c))))
     (exec-blocked w (Then P Q) M v.switches
     (exec-value w P Q (eval e w) G v.switches h
@@ -274,13 +282,18 @@ does-switch w v items e place P R h l =
   where
     C : Instr
     C = instr.Convert (convert.Integer work (value 0) (type_of e))
+
     S : Instr
     S = instr.Set (set.Integer (label_of v.switches) (pos (otherwise items)) unsigned_long)
+
     Q : Form
     Q = Then (Line (C ∷ S ∷ [])) (Then (IsCodeOfTests items v.switches (type_of e) place) R)
+
     F : Value → Act Flow
     F = λ u r. from (as_integer u r) (λ z q. from (behind items w (chosen items z) q) (λ flow. done (flow_of_switch flow)))
+
     G : Value → Act (Control Value)
     G = λ u r. from (as_integer u r) (λ z q. from (behind items w (chosen items z) q) (λ flow. done (control_of (in_switch v) flow)))
+
     M : Act (Control Value)
     M = λ s. from (eval e w s) G

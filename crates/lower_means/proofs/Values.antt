@@ -1,9 +1,8 @@
 -- Operators on values that are there: moves, comparisons, prefixes and conversions.
-use Rattle.std.proofs.Common.{ℕ, suc, ◌≡◌, refl, ap, Bool, true, false, List, [], ◌∷◌, Option, None, Some}
+use Rattle.std.proofs.Common.{ℕ, suc, ◌≡◌, refl, ap, Bool, true, false, Option, None, Some}
 use Rattle.cc_base.specs.declared.number.TypeId.{TypeId}
 use Rattle.cc_base.specs.declared.place.Place.{Place}
 use Rattle.integers.specs.Arithmetic as integer
-use Rattle.runs.specs.Outcome.{done}
 use Rattle.c_tree.specs.declared.operator.Binary.{Binary}
 use Rattle.c_tree.specs.declared.operator.Unary.{Unary}
 use Rattle.c_tree.specs.declared.operator.Unary.TheVariants as unary
@@ -11,7 +10,6 @@ use Rattle.c_tree.specs.declared.typed_word.Conversion.{Conversion}
 use Rattle.c_tree.specs.declared.typed_word.Conversion.TheVariants as conversion
 use Rattle.c_tree.specs.declared.typed_word.Side.{Side}
 use Rattle.c_tree.specs.declared.typed_word.Side.TheVariants as side
-use Rattle.src_mem.specs.Pointers.{Value}
 use Rattle.src_mem.specs.Values.{calculated, moved_value, compared_value}
 use Rattle.src_machine.specs.World.{World}
 use Rattle.src_machine.specs.Expressions.{moved_by_side, is_different, prefixed, compared_with, converted_value}

@@ -14,6 +14,7 @@ use Rattle.c_tree.specs.declared.operator.Binary.TheVariants as binary
 use Rattle.c_tree.specs.declared.operator.Assignment.TheVariants as assignment
 use Rattle.c_tree.specs.declared.operator.Step.TheVariants as step
 use Rattle.c_tree.specs.declared.operator.Unary.TheVariants as unary
+use Rattle.c_lexer.specs.declared.word.Keyword.TheVariants as keyword
 use Rattle.c_tree.specs.declared.typed_word.Home.{Home}
 use Rattle.c_tree.specs.declared.typed_word.Home.TheVariants as home
 use Rattle.cc_base.specs.declared.number.TypeId.{TypeId}
@@ -28,7 +29,7 @@ use Rattle.src_mem.specs.Memory.{new_variable}
 use Rattle.src_machine.specs.World.{World}
 use Rattle.src_machine.specs.Statements.{exec_items}
 use Rattle.src_machine.specs.Machine.{source_run, setting_of, result_of}
-use Rattle.src_machine.specs.Small.{Item, at, at_line, node, type, char, int, long, unsigned_long, entry, kinds, name, number, variable, value, null, flows, widened, type_name, arguments, string, specifiers, form, body, local, local_is, declares, does, runs, returns, while, main, function, global, put, get, runtime_call, aggregate}
+use Rattle.src_machine.specs.Small.{Item, at, at_line, node, type, char, int, long, unsigned_long, entry, kinds, name, number, variable, value, null, flows, widened, type_name, arguments, string, specifiers, form, body, local, local_is, declares, does, runs, returns, while, main, function, global, declared, put, get, runtime_call, aggregate}
 
 -- int main(void){int *p;p=0;return *p;}
 abbrev pub null_read : SourceOutcome
@@ -98,6 +99,28 @@ address_program = function (name (codes "main") (at 12)) (type 11) [] (
 
 abbrev pub address_kept : SourceOutcome
 address_kept = source_run address_program address_table (kinds []) (Closed []) 10
+
+-- int g(int);int main(void){typedef char *g(void);return 0;}
+abbrev pub hidden_table : Table
+hidden_table = basic_table ++ entry (shape.Function (int ∷ []) int) ∷ entry (shape.Pointer (node 0) char) ∷ entry (shape.Function [] (type 10)) ∷ entry (shape.Function [] int) ∷ []
+
+abbrev pub hidden_program : TypedTranslationUnit
+hidden_program = function (name (codes "main") (at 0)) (type 12) [] (
+    declares (typed.Declare (typed.Specified (typed.AndSpecifier typed.NoSpecifier (typed.Keyword (record { keyword = keyword.Typedef; place = at 0 }))) char)
+    (typed.AndPlain typed.NoInitDeclarator (typed.Declares (form (name (codes "g") (at 0)) home.None) (type 11))))
+    ∷ returns (at 0) (number 0)
+    ∷ []) (declared (codes "g") (type 9) typed.NoExternal)
+
+-- int f(int *);int f(int *);int main(void){int f(int *);return 0;}
+abbrev pub redeclared_table : Table
+redeclared_table = basic_table ++ entry (shape.Pointer (node 0) int) ∷ entry (shape.Function (type 9 ∷ []) int) ∷ entry (shape.Pointer (node 1) int)
+    ∷ entry (shape.Function (type 11 ∷ []) int) ∷ entry (shape.Pointer (node 2) int) ∷ entry (shape.Function (type 13 ∷ []) int) ∷ entry (shape.Function [] int) ∷ []
+
+abbrev pub redeclared_program : TypedTranslationUnit
+redeclared_program = function (name (codes "main") (at 0)) (type 15) [] (
+    declares (typed.Declare (specifiers int) (typed.AndPlain typed.NoInitDeclarator (typed.Declares (form (name (codes "f") (at 0)) home.None) (type 14))))
+    ∷ returns (at 0) (number 0)
+    ∷ []) (declared (codes "f") (type 12) (declared (codes "f") (type 10) typed.NoExternal))
 
 -- int main(void){char *p=(char *)malloc(1);*p=107;free(p);putchar(*p);return 0;}
 abbrev pub freed_read : SourceOutcome

@@ -165,6 +165,11 @@ main t items = function (name (codes "main") (at 5)) t [] items typed.NoExternal
 abbrev pub global : ℕ → TypeId → TypedTranslationUnit → TypedTranslationUnit
 global n t u = typed.AndExternal u (typed.Declare (specifiers t) (typed.AndPlain typed.NoInitDeclarator (typed.Declares (form (name [] (at 0)) (home.Static (node n))) t)))
 
+-- a function of this name and type that is declared
+abbrev pub declared : List ℕ → TypeId → TypedTranslationUnit → TypedTranslationUnit
+declared text t u = typed.AndExternal u
+    (typed.Declare (specifiers t) (typed.AndPlain typed.NoInitDeclarator (typed.Declares (form (name text (at 0)) home.None) t)))
+
 -- What is looked at of a run
 
 pub record Shown : Type 0 where

@@ -124,7 +124,7 @@ sequence_there w outlines t l v at i complete sized b room offset low high = of 
 
 -- Loading one pointer of the source
 
-moved_by : ℕ → Location → Location
+abbrev pub moved_by : ℕ → Location → Location
 moved_by i l = record l { offset = l.offset +ℤ pos i }
 
 reach-moved : (kind : Kind) (l : Location) (z : ℤ) (o : Object) → reach kind (record l { offset = z }) o ≡ reach kind l o
@@ -133,8 +133,7 @@ reach-moved Seq l z o = refl
 reach-moved Rtti l z o = refl
 reach-moved Wild l z o = refl
 
-right_moved : (kind : Kind) (objects : List Object) (l : Location) (m i : ℕ) (o : Object) (at : ℕ) → IsRight kind objects l m o at → i + 8 ≤ m → IsRight kind objects (moved_by i l) 8 o (at + i)
-unfolding moved_by
+pub right_moved : (kind : Kind) (objects : List Object) (l : Location) (m i : ℕ) (o : Object) (at : ℕ) → IsRight kind objects l m o at → i + 8 ≤ m → IsRight kind objects (moved_by i l) 8 o (at + i)
 right_moved kind objects l m i o at r room = record {
   found = r.found;
   live = r.live;
@@ -148,7 +147,6 @@ word_there : (w : Setting) (sites : List Site) (memory : Memory) (depth : ℕ) (
     → kind ≢ Wild → IsSoundMemory w sites memory → IsComplete w.table t → length (cells_of w.table t) ≡ size_of w.table t
     → IsHeldIn w memory depth kind t (At l) → IsRight kind memory.objects l (size_of w.table t) o at
     → Begins (cells_of w.table t) i → i + 8 ≤ length (cells_of w.table t) → holds_pointer_at (at + i) o ≡ true
-unfolding moved_by
 word_there w sites memory depth Safe t l o at i n sound complete sized held r b room = of held.value
   where
     of : IsSafeAt w (outlines_of memory) t l → holds_pointer_at (at + i) o ≡ true
@@ -208,7 +206,7 @@ loads_right w place memory kind source target f (i ∷ is) next s loads same h =
 one_loads : (w : Setting) (sites : List Site) (memory : Memory) (depth : ℕ) (kind : Kind) (t : TypeId) (source : Pointer) (i : ℕ)
     → kind ≢ Wild → IsSoundMemory w sites memory → IsComplete w.table t → length (cells_of w.table t) ≡ size_of w.table t → IsWellFormed w.table → is_function w.table t ≡ false
     → IsHeldIn w memory depth kind t source → MayTouch kind memory.objects source (size_of w.table t) → is_some (pointer_at w.table t i) ≡ true → LoadsAt memory kind source i
-unfolding LoadsAt moved_by
+unfolding LoadsAt
 one_loads w sites memory depth kind t source i n sound complete sized formed data_type held may there s same =
     let l = may.location in
     let b = pointer_there w.table t i data_type there in

@@ -1,0 +1,20 @@
+-- Parts of a text: its lines, and the words of a line.
+use Rattle.std.specs.Prelude.{ℕ, suc, ◌<◌, List, [], ◌∷◌, length, take, nat_eq, cond}
+
+-- how many bytes stand before the first that equals b; all of them where none does
+abbrev pub size_before : ℕ → List ℕ → ℕ
+size_before b [] = 0
+size_before b (byte ∷ bytes) = cond (nat_eq byte b) 0 (suc (size_before b bytes))
+
+-- these bytes
+abbrev pub before : ℕ → List ℕ → List ℕ
+before b bytes = take (size_before b bytes) bytes
+
+-- a byte that equals b stands in the list
+abbrev pub Holds : ℕ → List ℕ → Type 0
+Holds b bytes = size_before b bytes < length bytes
+
+-- What of a text is left: the lines that come, and how many lines stand before them.
+pub record Left : Type 0 where
+  pub text : List ℕ
+  pub number : ℕ

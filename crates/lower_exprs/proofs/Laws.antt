@@ -251,3 +251,8 @@ one_argument es i e k t j a b z c within at same f n g =
     subst (λ more. Grows (IsCodeOfArguments more k t) (HaveCode more k t) a c) (sym law)
     (grows_then _ _ _ _ a b c f
     (subst (λ m. Grows (IsCodeOf (typed_expr_view e) k (t + m)) ((t + m < 256) × HasCode (typed_expr_view e) k (t + m)) b c) (same ∙ sym many) last))
+
+-- what asks for less
+pub grows_of : (P : Form) (R S : Type 0) (a b : Draft) → (R → S) → Grows P S a b → Grows P R a b
+unfolding Grows
+grows_of P R S a b less f = (f.0, λ r e. f.1 (less r) e)

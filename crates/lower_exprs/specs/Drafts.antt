@@ -1,5 +1,5 @@
 -- Code in the making, and what an appended piece is.
-use Rattle.std.specs.Prelude.{◌≡◌, ℕ, suc, ◌+◌, ◌<◌, min, Bool, true, List, [], ◌∷◌, ◌++◌, ⊥}
+use Rattle.std.specs.Prelude.{◌≡◌, ℕ, suc, ◌+◌, ◌<◌, min, Bool, true, List, [], ◌∷◌, ◌++◌}
 use Rattle.cil_form.specs.declared.number.Temp.{Temp}
 use Rattle.cil_form.specs.declared.instr.Instr.{Instr}
 use Rattle.c_tree.specs.TypedTree.{TypedPlace}

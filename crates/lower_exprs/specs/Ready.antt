@@ -1,6 +1,6 @@
 -- Which typed expressions have code: there are values enough, homes are those of objects, and numbers fit. A unit that is well typed and
 -- within the limits has all of this.
-use Rattle.std.specs.Prelude.{◌≡◌, ◌×◌, ◌⊎◌, ℕ, suc, ◌+◌, ◌<◌, ◌^◌, Option, Some, None, IsSome, ⊥}
+use Rattle.std.specs.Prelude.{◌≡◌, ◌⊎◌, ℕ, suc, ◌+◌, ◌<◌, ◌^◌, Option, Some, None, IsSome}
 use Rattle.cc_base.specs.declared.number.NodeId.{NodeId}
 use Rattle.cc_base.specs.declared.place.Place.{Place}
 use Rattle.cc_base.specs.declared.number.TypeId.{TypeId}

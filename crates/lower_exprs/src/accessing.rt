@@ -167,8 +167,8 @@ fn put_load(out: &mut Draft, into: u8, spot: Spot)
 
 /// What is stored is the result, or what another temporary holds.
 #[tactic(auto, using(crate::proofs::Rules::line_rules))]
-fn put_store(out: &mut Draft, spot: Spot, new: Temp, result: Temp)
-    ensures { Grows (Line (store_code spot.node spot.ty spot.own spot.place spot.address new result)) (Unit {0}) out.old out.new }
+fn put_store(out: &mut Draft, spot: Spot, new: Temp, left: Temp)
+    ensures { Grows (Line (store_code spot.node spot.ty spot.own spot.place spot.address new left)) (Unit {0}) out.old out.new }
 {
     put(
         out,
@@ -187,7 +187,7 @@ fn put_store(out: &mut Draft, spot: Spot, new: Temp, result: Temp)
         out,
         Instr::Set(Set::Copy {
             into: Temp::Value(spot.address),
-            from: result,
+            from: left,
         }),
     )
 }
@@ -201,28 +201,28 @@ pub(crate) struct Motion {
 
 /// A step of the pointer at the address.
 #[tactic(auto, using(crate::proofs::Rules::line_rules))]
-fn put_pointer_step(out: &mut Draft, spot: Spot, how: Motion, result: Temp)
+fn put_pointer_step(out: &mut Draft, spot: Spot, how: Motion, left: Temp)
     requires { spot.address < 255 }
-    ensures { Grows (Line (stepping true how.operator how.backwards result spot.node spot.ty spot.own spot.place spot.address)) (Unit {0}) out.old out.new }
+    ensures { Grows (Line (stepping true how.operator how.backwards left spot.node spot.ty spot.own spot.place spot.address)) (Unit {0}) out.old out.new }
 {
     let old = spot.address + 1;
     put_load(out, old, spot);
     put(out, set_integer(WORK, 1, INT));
     put_motion(out, WORK, Temp::Value(old), WORK, how.backwards, spot);
-    put_store(out, spot, WORK, result)
+    put_store(out, spot, WORK, left)
 }
 
 /// A step of the integer at the address.
 #[tactic(auto, using(crate::proofs::Rules::line_rules))]
-fn put_integer_step(out: &mut Draft, spot: Spot, how: Motion, result: Temp)
+fn put_integer_step(out: &mut Draft, spot: Spot, how: Motion, left: Temp)
     requires { spot.address < 255 }
-    ensures { Grows (Line (stepping false how.operator how.backwards result spot.node spot.ty spot.own spot.place spot.address)) (Unit {0}) out.old out.new }
+    ensures { Grows (Line (stepping false how.operator how.backwards left spot.node spot.ty spot.own spot.place spot.address)) (Unit {0}) out.old out.new }
 {
     let old = spot.address + 1;
     put_load(out, old, spot);
     put(out, set_integer(WORK, 1, spot.ty));
     put(out, binary(WORK, how.operator, Temp::Value(old), WORK, spot.ty, spot.place));
-    put_store(out, spot, WORK, result)
+    put_store(out, spot, WORK, left)
 }
 
 /// A pointer of the spot's type moves.
@@ -261,15 +261,15 @@ fn put_step(out: &mut Draft, spot: Spot, pointer: bool, how: Motion, gives_old: 
     ensures { Grows (Line (stepping pointer how.operator how.backwards (step_result gives_old spot.address) spot.node spot.ty spot.own spot.place spot.address)) (suc spot.address < 256) out.old out.new }
 {
     if spot.address < 255 {
-        let result = if gives_old {
+        let left = if gives_old {
             Temp::Value(spot.address + 1)
         } else {
             WORK
         };
         if pointer {
-            put_pointer_step(out, spot, how, result)
+            put_pointer_step(out, spot, how, left)
         } else {
-            put_integer_step(out, spot, how, result)
+            put_integer_step(out, spot, how, left)
         }
     } else {
         refuse(out)
@@ -312,10 +312,11 @@ fn put_pointer_update(out: &mut Draft, spot: Spot, how: Motion, computed: TypeId
     requires { spot.address < 254 }
     ensures { Grows (Line (updating true how.operator how.backwards spot.node spot.ty computed spot.own spot.place spot.address)) (Unit {0}) out.old out.new }
 {
-    let _ = computed;
-    let old = Temp::Value(spot.address + 2);
-    put_load(out, spot.address + 2, spot);
-    put_motion(out, old, old, Temp::Value(spot.address + 1), how.backwards, spot);
+    let by = spot.address + 1;
+    let at = by + 1;
+    let old = Temp::Value(at);
+    put_load(out, at, spot);
+    put_motion(out, old, old, Temp::Value(by), how.backwards, spot);
     put_store(out, spot, old, old)
 }
 
@@ -326,10 +327,11 @@ fn put_own_update(out: &mut Draft, spot: Spot, how: Motion, computed: TypeId)
     requires same { same_type spot.ty computed ≡ true }
     ensures { Grows (Line (updating false how.operator how.backwards spot.node spot.ty computed spot.own spot.place spot.address)) (Unit {0}) out.old out.new }
 {
-    let old = Temp::Value(spot.address + 2);
-    let by = Temp::Value(spot.address + 1);
-    put_load(out, spot.address + 2, spot);
-    put(out, binary(old, how.operator, old, by, computed, spot.place));
+    let by = spot.address + 1;
+    let at = by + 1;
+    let old = Temp::Value(at);
+    put_load(out, at, spot);
+    put(out, binary(old, how.operator, old, Temp::Value(by), computed, spot.place));
     put_store(out, spot, old, old)
 }
 
@@ -340,11 +342,12 @@ fn put_converted_update(out: &mut Draft, spot: Spot, how: Motion, computed: Type
     requires other { same_type spot.ty computed ≡ false }
     ensures { Grows (Line (updating false how.operator how.backwards spot.node spot.ty computed spot.own spot.place spot.address)) (Unit {0}) out.old out.new }
 {
-    let old = Temp::Value(spot.address + 2);
-    let by = Temp::Value(spot.address + 1);
-    put_load(out, spot.address + 2, spot);
+    let by = spot.address + 1;
+    let at = by + 1;
+    let old = Temp::Value(at);
+    put_load(out, at, spot);
     put(out, converted(old, computed));
-    put(out, binary(old, how.operator, old, by, computed, spot.place));
+    put(out, binary(old, how.operator, old, Temp::Value(by), computed, spot.place));
     put(out, converted(old, spot.ty));
     put_store(out, spot, old, old)
 }

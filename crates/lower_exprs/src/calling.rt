@@ -1,5 +1,5 @@
 //! Instructions of calls and allocations.
-ghost use Rattle.std.specs.Prelude.{◌≡◌, ◌×◌, ◌<◌, suc, map, [], ◌∷◌};
+ghost use Rattle.std.specs.Prelude.{◌≡◌, ◌<◌, suc, map, [], ◌∷◌};
 ghost use Rattle.cil_form.specs.declared.instr.Instr.TheVariants as instr;
 ghost use Rattle.c_tree.specs.TypedViews.{typed_expr_view, typed_arguments_of};
 ghost use Rattle.lower_rules.specs.Pieces.{Line};

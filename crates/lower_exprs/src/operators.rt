@@ -1,5 +1,5 @@
 //! Instructions of constants, operators and conversions, over values that are there.
-ghost use Rattle.std.specs.Prelude.{◌≡◌, ◌×◌, ◌<◌, suc, pos, IfSome, IfNone, Some, None, [], ◌∷◌, true, ⊥, IsTrue, ◌↔◌};
+ghost use Rattle.std.specs.Prelude.{◌≡◌, ◌<◌, suc, pos, IfSome, IfNone, Some, None, [], ◌∷◌, true, IsTrue, ◌↔◌};
 ghost use Rattle.c_types.specs.Table.{shape_at};
 ghost use Rattle.c_typing.specs.KindViews.{kind_view};
 ghost use Rattle.c_tree.specs.TypedParts.{is_null, type_of};
@@ -55,6 +55,27 @@ pub(crate) fn put_constant(out: &mut Draft, k: &Scope<'_>, t: u8, ty: TypeId, z:
     } else {
         refuse(out)
     }
+}
+
+/// A constant of 64 bits without a sign.
+pub(crate) fn put_unsigned(out: &mut Draft, k: &Scope<'_>, t: u8, ty: TypeId, n: &u64)
+    ensures { Grows (Constant (context_of k.now) t ty (pos n.now)) (IsConstant (context_of k.now) ty) out.old out.new }
+{
+    put_constant(out, k, t, ty, i128::from(*n))
+}
+
+/// A character constant.
+pub(crate) fn put_character(out: &mut Draft, k: &Scope<'_>, t: u8, ty: TypeId, z: &i32)
+    ensures { Grows (Constant (context_of k.now) t ty z.now) (IsConstant (context_of k.now) ty) out.old out.new }
+{
+    put_constant(out, k, t, ty, i128::from(*z))
+}
+
+/// An enumeration constant.
+pub(crate) fn put_enumerator(out: &mut Draft, k: &Scope<'_>, t: u8, ty: TypeId, z: &i128)
+    ensures { Grows (Constant (context_of k.now) t ty z.now) (IsConstant (context_of k.now) ty) out.old out.new }
+{
+    put_constant(out, k, t, ty, *z)
 }
 
 /// The integer type of constants of the type.
@@ -298,7 +319,7 @@ pub(crate) struct Operands {
 }
 
 /// The operands of an operator, in values t and t + 1.
-pub(crate) fn operands(t: u8, a: &TypedExpr, b: &TypedExpr, place: Place) -> Operands
+pub(crate) fn operands_of(t: u8, a: &TypedExpr, b: &TypedExpr, place: Place) -> Operands
     ensures { result ≡ record { first = t; left = type_of (typed_expr_view a.now); right = type_of (typed_expr_view b.now); place = place } }
 {
     Operands {
@@ -391,11 +412,12 @@ pub(crate) fn put_compare(out: &mut Draft, left_null: bool, right_null: bool, op
     ensures { Grows (Compares left_null right_null op two.first two.left two.right two.place) ((suc two.first < 256) × IsComparison op) out.old out.new }
 {
     let t = two.first;
+    let different = is_different(op);
     if t < 255 {
         if left_null {
-            put_is_null(out, t, t + 1, two.right, is_different(op))
+            put_is_null(out, t, t + 1, two.right, different)
         } else if right_null {
-            put_is_null(out, t, t, two.left, is_different(op))
+            put_is_null(out, t, t, two.left, different)
         } else {
             put_comparison(out, op, two)
         }

@@ -1,5 +1,5 @@
 //! How a draft grows.
-ghost use Rattle.std.specs.Prelude.{◌≡◌, ◌×◌, ◌+◌, ◌<◌, true, false, [], ◌∷◌, ◌++◌, suc};
+ghost use Rattle.std.specs.Prelude.{◌≡◌, ◌+◌, ◌<◌, true, false, [], ◌∷◌, ◌++◌, suc};
 ghost use Rattle.cil_form.specs.declared.number.Temp.TheVariants as temp;
 ghost use Rattle.c_tree.specs.TypedViews.{typed_place_view};
 ghost use Rattle.lower_rules.specs.Pieces.{Line};

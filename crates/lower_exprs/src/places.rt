@@ -1,9 +1,9 @@
 //! What is read off trees and types.
-ghost use Rattle.std.specs.Prelude.{◌≡◌, ◌↔◌, IsTrue, IfOk, Some, None, IfSome, IfNone, ⊥};
+ghost use Rattle.std.specs.Prelude.{◌≡◌, ◌↔◌, IsTrue, IfOk, Some, None, IfSome, IfNone};
 ghost use Rattle.integers.specs.Arithmetic as arithmetic;
 ghost use Rattle.c_tree.specs.Places.{pieces_place};
-ghost use Rattle.c_tree.specs.TypedParts.{pointer_side, type_of, place_at, is_null};
-ghost use Rattle.c_tree.specs.TypedViews.{typed_expr_view, typed_place_view};
+ghost use Rattle.c_tree.specs.TypedParts.{pointer_side, type_of, place_at, named_type};
+ghost use Rattle.c_tree.specs.TypedViews.{typed_expr_view, typed_place_view, typed_type_name_view};
 ghost use Rattle.src_machine.specs.Expressions.{is_through_pointer, is_pointer_shape};
 ghost use Rattle.src_mem.specs.Operations.{pointee_at};
 ghost use Rattle.lower_rules.specs.Words.{object_in, node_of, is_pointer};
@@ -12,7 +12,7 @@ ghost use Rattle.lower_exprs.specs.Drafts.{context_of};
 ghost use Rattle.lower_exprs.specs.Ready.{HasObject, IsNumbered};
 
 use crate::draft::Scope;
-use c_tree::{Conversion, Side, StringPiece, TypedExpr, TypedPlace};
+use c_tree::{Side, StringPiece, TypedExpr, TypedPlace, TypedTypeName};
 use c_types::TypeShape;
 use cc_base::{NodeId, Place, TypeId};
 use cil_form::{Object, StaticNumber, VariableNumber};
@@ -104,6 +104,14 @@ pub(crate) fn is_through_pointer(p: &TypedPlace) -> bool
     }
 }
 
+/// The type that a type name names.
+#[tactic(auto, using(c_tree::proofs::TypedViewLaws::typed_views))]
+pub(crate) fn named_type(name: &TypedTypeName) -> TypeId
+    ensures { result ≡ named_type (typed_type_name_view name.now) }
+{
+    name.ty
+}
+
 /// The type of the operand that is the pointer.
 pub(crate) fn pointer_type(which: Side, a: &TypedExpr, b: &TypedExpr) -> TypeId
     ensures { result ≡ type_of (pointer_side which (typed_expr_view a.now) (typed_expr_view b.now)) }
@@ -158,7 +166,7 @@ pub(crate) fn object_in(k: &Scope<'_>, home: NodeId) -> Option<Object>
     ensures found { IfSome result (λ o. object_in (context_of k.now) home ≡ Some o) }
     ensures none { IfNone result (HasObject (context_of k.now) home → ⊥) }
 {
-    match k.variables.get_index_of(home) {
+    match k.variables.get_index_of(&home) {
         Some(i) => {
             if i < 4_294_967_296 {
                 Some(Object::Variable(VariableNumber(i as u32)))
@@ -166,7 +174,7 @@ pub(crate) fn object_in(k: &Scope<'_>, home: NodeId) -> Option<Object>
                 None
             }
         }
-        None => match k.statics.get_index_of(home) {
+        None => match k.statics.get_index_of(&home) {
             Some(i) => {
                 if i < 4_294_967_296 {
                     Some(Object::Static(StaticNumber(i as u32)))

@@ -11,11 +11,11 @@ use crate::afters::{address_of, copy_of, decay_of, load_of, member_of, step_of};
 use crate::calling::{block_of, count, put_allocation, put_call, put_runtime};
 use crate::draft::{Draft, Scope};
 use crate::operators::{
-    is_null, is_or, is_subtraction, lowered, operands, put_binary, put_compare, put_constant, put_conversion,
-    put_difference, put_function, put_move, put_object, put_prefix, put_test,
+    is_null, is_or, is_subtraction, lowered, operands_of, put_binary, put_character, put_compare, put_conversion,
+    put_difference, put_enumerator, put_function, put_move, put_object, put_prefix, put_test, put_unsigned,
 };
 use crate::pieces::{above, argument_number, choose, demand_fixed, put_logical, refuse, start};
-use crate::places::{is_pointer, node_in_place, node_of, place_at, pointee_of, pointer_type};
+use crate::places::{is_pointer, named_type, node_in_place, node_of, place_at, pointee_of, pointer_type};
 use c_tree::{TypedExpr, TypedPlace};
 use lower_rules::After;
 
@@ -59,7 +59,7 @@ fn place(out: &mut Draft, k: &Scope<'_>, t: u8, p: &TypedPlace, after: After)
             expr(out, k, t, a);
             let u = above(out, t);
             expr(out, k, u, b);
-            put_move(out, *which, false, operands(t, a, b, *at));
+            put_move(out, *which, false, operands_of(t, a, b, *at));
             follow(out, t, node_of(k, pointer_type(*which, a, b)), after)
         }
         TypedPlace::Member(p, at, _, i, node, ty) => {
@@ -104,9 +104,9 @@ pub fn expr(out: &mut Draft, k: &Scope<'_>, t: u8, e: &TypedExpr)
     ensures { Grows (IsCodeOf (typed_expr_view e.now) (context_of k.now) t) (HasCode (typed_expr_view e.now) (context_of k.now) t) out.old out.new }
 {
     match e {
-        TypedExpr::Integer(_, n, _, ty) => put_constant(out, k, t, *ty, i128::from(*n)),
-        TypedExpr::Character(z, _, ty) => put_constant(out, k, t, *ty, i128::from(*z)),
-        TypedExpr::Enumerator(_, z, ty) => put_constant(out, k, t, *ty, *z),
+        TypedExpr::Integer(_, n, _, ty) => put_unsigned(out, k, t, *ty, n),
+        TypedExpr::Character(z, _, ty) => put_character(out, k, t, *ty, z),
+        TypedExpr::Enumerator(_, z, ty) => put_enumerator(out, k, t, *ty, z),
         TypedExpr::FunctionName(_, f, _, ty) => put_function(out, t, *f, *ty),
         TypedExpr::RuntimeName(_, _, _) => refuse(out),
         TypedExpr::Paren(_, e) => expr(out, k, t, e.get()),
@@ -127,7 +127,7 @@ pub fn expr(out: &mut Draft, k: &Scope<'_>, t: u8, e: &TypedExpr)
         TypedExpr::Cast(which, at, name, e) => {
             let e = e.get();
             expr(out, k, t, e);
-            put_conversion(out, *which, t, *at, e.ty(), name.get().ty)
+            put_conversion(out, *which, t, *at, e.ty(), named_type(name.get()))
         }
         TypedExpr::AddressOf(_, p, node, _) => {
             let p = p.get();
@@ -140,9 +140,9 @@ pub fn expr(out: &mut Draft, k: &Scope<'_>, t: u8, e: &TypedExpr)
             expr(out, k, t, e.get());
             put_prefix(out, *op, t, *ty)
         }
-        TypedExpr::SizeOfPlace(_, _, n, ty) => put_constant(out, k, t, *ty, i128::from(*n)),
-        TypedExpr::SizeOfValue(_, _, n, ty) => put_constant(out, k, t, *ty, i128::from(*n)),
-        TypedExpr::SizeOfType(_, _, _, n, ty) => put_constant(out, k, t, *ty, i128::from(*n)),
+        TypedExpr::SizeOfPlace(_, _, n, ty) => put_unsigned(out, k, t, *ty, n),
+        TypedExpr::SizeOfValue(_, _, n, ty) => put_unsigned(out, k, t, *ty, n),
+        TypedExpr::SizeOfType(_, _, _, n, ty) => put_unsigned(out, k, t, *ty, n),
         TypedExpr::StepBefore(which, at, p) => {
             let p = p.get();
             place(out, k, t, p, step_of(k, false, *which, p, *at))
@@ -164,7 +164,7 @@ pub fn expr(out: &mut Draft, k: &Scope<'_>, t: u8, e: &TypedExpr)
             expr(out, k, t, a);
             let u = above(out, t);
             expr(out, k, u, b);
-            put_move(out, *which, is_subtraction(*op), operands(t, a, b, *at))
+            put_move(out, *which, is_subtraction(*op), operands_of(t, a, b, *at))
         }
         TypedExpr::Difference(a, at, b, _) => {
             let a = a.get();
@@ -172,7 +172,7 @@ pub fn expr(out: &mut Draft, k: &Scope<'_>, t: u8, e: &TypedExpr)
             expr(out, k, t, a);
             let u = above(out, t);
             expr(out, k, u, b);
-            put_difference(out, operands(t, a, b, *at))
+            put_difference(out, operands_of(t, a, b, *at))
         }
         TypedExpr::Compared(op, a, at, b, _) => {
             let a = a.get();
@@ -180,7 +180,7 @@ pub fn expr(out: &mut Draft, k: &Scope<'_>, t: u8, e: &TypedExpr)
             expr(out, k, t, a);
             let u = above(out, t);
             expr(out, k, u, b);
-            put_compare(out, is_null(a), is_null(b), *op, operands(t, a, b, *at))
+            put_compare(out, is_null(a), is_null(b), *op, operands_of(t, a, b, *at))
         }
         TypedExpr::Logical(op, a, _, b, _) => {
             expr(out, k, t, a.get());

@@ -30,19 +30,29 @@ grows_one one a b f same = (λ fine. ((f fine).0, (one ∷ [], refl, (f fine).1)
 -- one piece after another
 pub grows_then : (P Q : Form) (R S : Type 0) (a b c : Draft) → Grows P R a b → Grows Q S b c → Grows (Then P Q) (R × S) a c
 unfolding Grows Then
-grows_then P Q R S a b c f g = (λ fine.
-    let q = g.0 fine in let p = f.0 q.0 in
-    (p.0, (p.1.0 ++ q.1.0, (p.1.0, q.1.0, p.1.1, q.1.1, refl), q.1.2 ∙ ap (λ m. m ++ q.1.0) p.1.2 ∙ append_assoc a.items.items p.1.0 q.1.0)),
-    λ r e. g.1 r.1 (f.1 r.0 e))
+grows_then P Q R S a b c f g = (
+  λ fine.
+      let q = g.0 fine in let p = f.0 q.0 in
+      (p.0, (p.1.0 ++ q.1.0, (p.1.0, q.1.0, p.1.1, q.1.1, refl), q.1.2 ∙ ap (λ m. m ++ q.1.0) p.1.2 ∙ append_assoc a.items.items p.1.0 q.1.0)),
+  λ r e. g.1 r.1 (f.1 r.0 e),
+)
 
 grows_lines : (x y : List Instr) (a b c : Draft)
     → Grows (Line x) (Unit {0}) a b → Grows (Line y) (Unit {0}) b c → Grows (Line (x ++ y)) (Unit {0}) a c
 unfolding Grows Line
-grows_lines x y a b c f g = (λ fine.
-    let q = g.0 fine in let p = f.0 q.0 in
-    (p.0, (x ++ y, refl, q.1.2 ∙ ap (λ m. m ++ q.1.0) p.1.2 ∙ append_assoc a.items.items p.1.0 q.1.0
-        ∙ ap (λ z. a.items.items ++ z) (ap (λ z. z ++ q.1.0) p.1.1 ∙ ap (λ z. x ++ z) q.1.1))),
-    λ r e. g.1 tt (f.1 tt e))
+grows_lines x y a b c f g = (
+  λ fine.
+      let q = g.0 fine in let p = f.0 q.0 in (
+        p.0,
+        (
+          x ++ y,
+          refl,
+          q.1.2 ∙ ap (λ m. m ++ q.1.0) p.1.2 ∙ append_assoc a.items.items p.1.0 q.1.0
+              ∙ ap (λ z. a.items.items ++ z) (ap (λ z. z ++ q.1.0) p.1.1 ∙ ap (λ z. x ++ z) q.1.1),
+        ),
+      ),
+  λ r e. g.1 tt (f.1 tt e),
+)
 
 pub grows_line : (one : Instr) (y : List Instr) (a b c : Draft)
     → Grows (Line (one ∷ [])) (Unit {0}) a b → Grows (Line y) (Unit {0}) b c → Grows (Line (one ∷ y)) (Unit {0}) a c
@@ -89,53 +99,71 @@ stays P R s d empty f r = f.1 r empty.1
 
 pub grows_chosen : (t : Temp) (one two a b : Draft) → one.fine ≡ true → two.fine ≡ true → b.ready ≡ a.ready
     → (b.fine ≡ true → (a.fine ≡ true)
-        × (b.items.items ≡ a.items.items ++ (instr.If t (record { 0 = one.items }) (record { 0 = two.items }) ∷ [])))
+    × (b.items.items ≡ a.items.items ++ (instr.If t (record { 0 = one.items }) (record { 0 = two.items }) ∷ [])))
     → Grows (Chosen t one two) (AreBothReady one two) a b
 unfolding Grows Chosen Choice Line
-grows_chosen t one two a b g h same f = (λ fine.
-    let q = f fine in
-    (q.0, (instr.If t (record { 0 = one.items }) (record { 0 = two.items }) ∷ [],
-        (g, h, (record { 0 = one.items }, record { 0 = two.items }, refl, refl, refl)), q.1)), λ r e. same ∙ e)
+grows_chosen t one two a b g h same f = (
+  λ fine.
+      let q = f fine in (
+        q.0,
+        (
+          instr.If t (record { 0 = one.items }) (record { 0 = two.items }) ∷ [],
+          (g, h, (record { 0 = one.items }, record { 0 = two.items }, refl, refl, refl)),
+          q.1,
+        ),
+      ),
+  λ r e. same ∙ e,
+)
 
 pub grows_choice : (t : Temp) (P Q : Form) (R S : Type 0) (s r one two a b : Draft)
     → Grows (Chosen t one two) (AreBothReady one two) a b
     → Grows P R s one → Starts s → Grows Q S r two → Starts r → Grows (Choice t P Q) (R × S) a b
 unfolding Grows Chosen Choice Line
-grows_choice t P Q R S s r one two a b h f es g er = (λ fine.
-    let q = h.0 fine in let c = q.1.1 in
-    (q.0, (q.1.0, (c.2.0, c.2.1, subst P (sym c.2.2) (made P R s one es f c.0), subst Q (sym c.2.3) (made Q S r two er g c.1), c.2.4), q.1.2)),
-    λ z e. h.1 (stays P R s one es f z.0, stays Q S r two er g z.1) e)
+grows_choice t P Q R S s r one two a b h f es g er = (
+  λ fine.
+      let q = h.0 fine in let c = q.1.1 in
+      (q.0, (q.1.0, (c.2.0, c.2.1, subst P (sym c.2.2) (made P R s one es f c.0), subst Q (sym c.2.3) (made Q S r two er g c.1), c.2.4), q.1.2)),
+  λ z e. h.1 (stays P R s one es f z.0, stays Q S r two er g z.1) e,
+)
 
 pub grows_logical : (or : Bool) (t : ℕ) (P : Form) (R : Type 0) (s right a b : Draft)
     → Grows (Decided or t right) (right.ready ≡ true) a b → Grows P R s right → Starts s → Grows (LogicalOf or t P) R a b
 unfolding Grows Decided LogicalOf Choice Line
-grows_logical true t P R s right a b h f es = (λ fine.
-    let q = h.0 fine in let c = q.1.1 in
-    (q.0, (q.1.0, (c.1.0, c.1.1, c.1.2, subst P (sym c.1.3) (made P R s right es f c.0), c.1.4), q.1.2)),
-    λ z e. h.1 (stays P R s right es f z) e)
-grows_logical false t P R s right a b h f es = (λ fine.
-    let q = h.0 fine in let c = q.1.1 in
-    (q.0, (q.1.0, (c.1.0, c.1.1, subst P (sym c.1.2) (made P R s right es f c.0), c.1.3, c.1.4), q.1.2)),
-    λ z e. h.1 (stays P R s right es f z) e)
+grows_logical true t P R s right a b h f es = (
+  λ fine.
+      let q = h.0 fine in let c = q.1.1 in
+      (q.0, (q.1.0, (c.1.0, c.1.1, c.1.2, subst P (sym c.1.3) (made P R s right es f c.0), c.1.4), q.1.2)),
+  λ z e. h.1 (stays P R s right es f z) e,
+)
+grows_logical false t P R s right a b h f es = (
+  λ fine.
+      let q = h.0 fine in let c = q.1.1 in
+      (q.0, (q.1.0, (c.1.0, c.1.1, subst P (sym c.1.2) (made P R s right es f c.0), c.1.3, c.1.4), q.1.2)),
+  λ z e. h.1 (stays P R s right es f z) e,
+)
 
 -- the constant of `&&` and `||`
 pub grows_decided_true : (t : ℕ) (s constant right a b : Draft)
     → Grows (Chosen (value t) constant right) (AreBothReady constant right) a b → Grows (Truth t 1) (Unit {0}) s constant → Starts s
     → Grows (Decided true t right) (right.ready ≡ true) a b
 unfolding Grows Decided Chosen LogicalOf Choice Line
-grows_decided_true t s constant right a b h f es = (λ fine.
-    let q = h.0 fine in let c = q.1.1 in
-    (q.0, (q.1.0, (c.1, (c.2.0, c.2.1, c.2.2 ∙ made (Truth t 1) (Unit {0}) s constant es f c.0, c.2.3, c.2.4)), q.1.2)),
-    λ z e. h.1 (stays (Truth t 1) (Unit {0}) s constant es f tt, z) e)
+grows_decided_true t s constant right a b h f es = (
+  λ fine.
+      let q = h.0 fine in let c = q.1.1 in
+      (q.0, (q.1.0, (c.1, (c.2.0, c.2.1, c.2.2 ∙ made (Truth t 1) (Unit {0}) s constant es f c.0, c.2.3, c.2.4)), q.1.2)),
+  λ z e. h.1 (stays (Truth t 1) (Unit {0}) s constant es f tt, z) e,
+)
 
 pub grows_decided_false : (t : ℕ) (s constant right a b : Draft)
     → Grows (Chosen (value t) right constant) (AreBothReady right constant) a b → Grows (Truth t 0) (Unit {0}) s constant → Starts s
     → Grows (Decided false t right) (right.ready ≡ true) a b
 unfolding Grows Decided Chosen LogicalOf Choice Line
-grows_decided_false t s constant right a b h f es = (λ fine.
-    let q = h.0 fine in let c = q.1.1 in
-    (q.0, (q.1.0, (c.0, (c.2.0, c.2.1, c.2.2, c.2.3 ∙ made (Truth t 0) (Unit {0}) s constant es f c.1, c.2.4)), q.1.2)),
-    λ z e. h.1 (z, stays (Truth t 0) (Unit {0}) s constant es f tt) e)
+grows_decided_false t s constant right a b h f es = (
+  λ fine.
+      let q = h.0 fine in let c = q.1.1 in
+      (q.0, (q.1.0, (c.0, (c.2.0, c.2.1, c.2.2, c.2.3 ∙ made (Truth t 0) (Unit {0}) s constant es f c.1, c.2.4)), q.1.2)),
+  λ z e. h.1 (z, stays (Truth t 0) (Unit {0}) s constant es f tt) e,
+)
 
 -- Places
 
@@ -173,13 +201,19 @@ pub grows_reached : (p : TypedPlace) (k : Context) (t : ℕ) (G : NodeId → For
     → Grows (Fixed p) (IsFixed p) z a → Grows (IsCodeOfPlace p k t (Follows after.Nothing t)) R a b
     → Grows (G (node_in_place k p)) S b c → Grows (IsCodeOfPlace p k t G) (IsFixed p × (R × S)) z c
 unfolding Grows Fixed Follows Line When
-grows_reached p k t G R S z a b c fixed f g = (λ fine.
-    let q = g.0 fine in let r = f.0 q.0 in let s = fixed.0 r.0 in
-    (s.0, (r.1.0 ++ q.1.0,
-        place_extend p k t (Follows after.Nothing t) G r.1.0 q.1.0 (λ z e. joined (G (node_in_place k p)) q.1.0 z e q.1.1) s.1.1.0 r.1.1,
-        q.1.2 ∙ ap (λ m. m ++ q.1.0) (r.1.2 ∙ ap (λ m. m ++ r.1.0) (s.1.2 ∙ ap (λ m. z.items.items ++ m) s.1.1.1 ∙ append-nil z.items.items))
-            ∙ append_assoc z.items.items r.1.0 q.1.0)),
-    λ r e. g.1 r.1.1 (f.1 r.1.0 (fixed.1 r.0 e)))
+grows_reached p k t G R S z a b c fixed f g = (
+  λ fine.
+      let q = g.0 fine in let r = f.0 q.0 in let s = fixed.0 r.0 in (
+        s.0,
+        (
+          r.1.0 ++ q.1.0,
+          place_extend p k t (Follows after.Nothing t) G r.1.0 q.1.0 (λ z e. joined (G (node_in_place k p)) q.1.0 z e q.1.1) s.1.1.0 r.1.1,
+          q.1.2 ∙ ap (λ m. m ++ q.1.0) (r.1.2 ∙ ap (λ m. m ++ r.1.0) (s.1.2 ∙ ap (λ m. z.items.items ++ m) s.1.1.1 ∙ append-nil z.items.items))
+              ∙ append_assoc z.items.items r.1.0 q.1.0,
+        ),
+      ),
+  λ r e. g.1 r.1.1 (f.1 r.1.0 (fixed.1 r.0 e)),
+)
 
 -- the address of an object that was found
 pub grows_object : (k : Context) (v : ℕ) (home : NodeId) (t : TypeId) (o : Object) (R : Type 0) (a b : Draft) → object_in k home ≡ Some o
@@ -203,11 +237,18 @@ grows_numbered n a h = (λ fine. (fine, ([], (h, refl), sym (append-nil a.items.
 numbered-code : (n : ℕ) (Q : ℕ → Form) (S : ℕ → Type 0) (a b c : Draft) → Grows (Numbered n) (n < 256) a b
     → Grows (Q (numbered n)) (S (numbered n)) b c → Grows (Q n) ((n < 256) × S n) a c
 unfolding Grows Numbered When Line
-numbered-code n Q S a b c f g = (λ fine.
-    let q = g.0 fine in let p = f.0 q.0 in
-    (p.0, (q.1.0, subst (λ m. Q m q.1.0) (numbered-is n p.1.1.0) q.1.1,
-        q.1.2 ∙ ap (λ m. m ++ q.1.0) (p.1.2 ∙ ap (λ m. a.items.items ++ m) p.1.1.1 ∙ append-nil a.items.items))),
-    λ r e. g.1 (subst S (sym (numbered-is n r.0)) r.1) (f.1 r.0 e))
+numbered-code n Q S a b c f g = (
+  λ fine.
+      let q = g.0 fine in let p = f.0 q.0 in (
+        p.0,
+        (
+          q.1.0,
+          subst (λ m. Q m q.1.0) (numbered-is n p.1.1.0) q.1.1,
+          q.1.2 ∙ ap (λ m. m ++ q.1.0) (p.1.2 ∙ ap (λ m. a.items.items ++ m) p.1.1.1 ∙ append-nil a.items.items),
+        ),
+      ),
+  λ r e. g.1 (subst S (sym (numbered-is n r.0)) r.1) (f.1 r.0 e),
+)
 
 pub grows_operand : (e : TypedExpr) (k : Context) (n : ℕ) (a b c : Draft) → Grows (Numbered n) (n < 256) a b
     → Grows (IsCodeOf e k (numbered n)) (HasCode e k (numbered n)) b c → Grows (IsCodeOf e k n) ((n < 256) × HasCode e k n) a c
@@ -237,16 +278,16 @@ count_arguments es = counted typed.NoArgument es ∙ omega arith
 pub one_argument : (es : List CodeExpr) (i : ℕ) (e : CodeExpr) (k : Context) (t j : ℕ) (a b z c : Draft)
     → i < length es → e ≡ get_or es i e → j ≡ i
     → Grows (IsCodeOfArguments (typed_arguments_of (map typed_expr_view (take i es))) k t)
-        (HaveCode (typed_arguments_of (map typed_expr_view (take i es))) k t) a b
+    (HaveCode (typed_arguments_of (map typed_expr_view (take i es))) k t) a b
     → Grows (Numbered (t + j)) (t + j < 256) b z
     → Grows (IsCodeOf (typed_expr_view e) k (numbered (t + j))) (HasCode (typed_expr_view e) k (numbered (t + j))) z c
     → Grows (IsCodeOfArguments (typed_arguments_of (map typed_expr_view (take (i + 1) es))) k t)
-        (HaveCode (typed_arguments_of (map typed_expr_view (take (i + 1) es))) k t) a c
+    (HaveCode (typed_arguments_of (map typed_expr_view (take (i + 1) es))) k t) a c
 one_argument es i e k t j a b z c within at same f n g =
     let all = typed_arguments_of (map typed_expr_view (take i es)) in
     let many : count all ≡ i = count_arguments (take i es) ∙ grind (arith, length-take) in
     let law : typed_arguments_of (map typed_expr_view (take (i + 1) es)) ≡ typed.AndArgument all (typed_expr_view e)
-        = rw add-one (with_one typed.AndArgument typed_expr_view es i e within at typed.NoArgument) in
+    = rw add-one (with_one typed.AndArgument typed_expr_view es i e within at typed.NoArgument) in
     let last = grows_operand (typed_expr_view e) k (t + j) b z c n g in
     subst (λ more. Grows (IsCodeOfArguments more k t) (HaveCode more k t) a c) (sym law)
     (grows_then _ _ _ _ a b c f

@@ -19,7 +19,7 @@ ghost use Rattle.lower_exprs.specs.Ready.{HasRoom, spot_of};
 
 use crate::draft::{Draft, Scope};
 use crate::operators::{
-    direction_of, goes_backwards, lowered_assignment, lowered_step, set_integer, subtracts, INT,
+    INT, direction_of, goes_backwards, lowered_assignment, lowered_step, set_integer, subtracts,
 };
 use crate::pieces::{keep, put, refuse};
 use crate::places::{node_in_place, place_at};
@@ -221,7 +221,17 @@ fn put_integer_step(out: &mut Draft, spot: Spot, how: Motion, left: Temp)
     let old = spot.address + 1;
     put_load(out, old, spot);
     put(out, set_integer(WORK, 1, spot.ty));
-    put(out, binary(WORK, how.operator, Temp::Value(old), WORK, spot.ty, spot.place));
+    put(
+        out,
+        binary(
+            WORK,
+            how.operator,
+            Temp::Value(old),
+            WORK,
+            spot.ty,
+            spot.place,
+        ),
+    );
     put_store(out, spot, WORK, left)
 }
 
@@ -242,7 +252,14 @@ fn put_motion(out: &mut Draft, into: Temp, pointer: Temp, amount: Temp, backward
     )
 }
 
-fn binary(into: Temp, operator: Operator, left: Temp, right: Temp, ty: TypeId, place: Place) -> Instr
+fn binary(
+    into: Temp,
+    operator: Operator,
+    left: Temp,
+    right: Temp,
+    ty: TypeId,
+    place: Place,
+) -> Instr
     ensures { result ≡ instr.Calculate (calculate.Binary into operator left right ty place) }
 {
     Instr::Calculate(Calculate::Binary {
@@ -331,7 +348,17 @@ fn put_own_update(out: &mut Draft, spot: Spot, how: Motion, computed: TypeId)
     let at = by + 1;
     let old = Temp::Value(at);
     put_load(out, at, spot);
-    put(out, binary(old, how.operator, old, Temp::Value(by), computed, spot.place));
+    put(
+        out,
+        binary(
+            old,
+            how.operator,
+            old,
+            Temp::Value(by),
+            computed,
+            spot.place,
+        ),
+    );
     put_store(out, spot, old, old)
 }
 
@@ -347,7 +374,17 @@ fn put_converted_update(out: &mut Draft, spot: Spot, how: Motion, computed: Type
     let old = Temp::Value(at);
     put_load(out, at, spot);
     put(out, converted(old, computed));
-    put(out, binary(old, how.operator, old, Temp::Value(by), computed, spot.place));
+    put(
+        out,
+        binary(
+            old,
+            how.operator,
+            old,
+            Temp::Value(by),
+            computed,
+            spot.place,
+        ),
+    );
     put(out, converted(old, spot.ty));
     put_store(out, spot, old, old)
 }

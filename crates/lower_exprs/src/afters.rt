@@ -29,7 +29,13 @@ pub(crate) fn address_of(inner: NodeId, ty: TypeId) -> After
     After::Address { inner, ty }
 }
 
-pub(crate) fn member_of(ty: TypeId, member: u32, inner: NodeId, member_ty: TypeId, place: Place) -> After
+pub(crate) fn member_of(
+    ty: TypeId,
+    member: u32,
+    inner: NodeId,
+    member_ty: TypeId,
+    place: Place,
+) -> After
     ensures { result ≡ after.Member ty member inner member_ty place }
 {
     After::Member {
@@ -54,7 +60,13 @@ pub(crate) fn decay_of(k: &Scope<'_>, p: &TypedPlace, inner: NodeId, ty: TypeId)
     }
 }
 
-pub(crate) fn step_of(k: &Scope<'_>, gives_old: bool, which: Step, p: &TypedPlace, place: Place) -> After
+pub(crate) fn step_of(
+    k: &Scope<'_>,
+    gives_old: bool,
+    which: Step,
+    p: &TypedPlace,
+    place: Place,
+) -> After
     ensures { result ≡ after.Step gives_old which (is_pointer (context_of k.now) (place_type (typed_place_view p.now))) (place_type (typed_place_view p.now)) (place_at (typed_place_view p.now)) place }
 {
     After::Step {
@@ -68,7 +80,13 @@ pub(crate) fn step_of(k: &Scope<'_>, gives_old: bool, which: Step, p: &TypedPlac
 }
 
 /// The struct q, whose address comes next, is copied to p, whose address is in value t.
-pub(crate) fn copy_of(k: &Scope<'_>, t: u8, p: &TypedPlace, q: &TypedPlace, assignment: Place) -> After
+pub(crate) fn copy_of(
+    k: &Scope<'_>,
+    t: u8,
+    p: &TypedPlace,
+    q: &TypedPlace,
+    assignment: Place,
+) -> After
     ensures { result ≡ after.Copy (target.Pointer (value t) (node_in_place (context_of k.now) (typed_place_view p.now))) (place_at (typed_place_view p.now)) (place_at (typed_place_view q.now)) (place_type (typed_place_view p.now)) assignment }
 {
     After::Copy {

@@ -408,7 +408,13 @@ fn put_is_null(out: &mut Draft, t: u8, from: u8, ty: TypeId, different: bool)
 
 /// A comparison of two pointers, by whether the one or the other is a null constant.
 #[tactic(auto, using(crate::proofs::Rules::compared_rules), unfolding(lower_rules::specs::Words::Compares))]
-pub(crate) fn put_compare(out: &mut Draft, left_null: bool, right_null: bool, op: Binary, two: Operands)
+pub(crate) fn put_compare(
+    out: &mut Draft,
+    left_null: bool,
+    right_null: bool,
+    op: Binary,
+    two: Operands,
+)
     ensures { Grows (Compares left_null right_null op two.first two.left two.right two.place) ((suc two.first < 256) × IsComparison op) out.old out.new }
 {
     let t = two.first;
@@ -451,7 +457,14 @@ fn put_comparison(out: &mut Draft, op: Binary, two: Operands)
 
 /// The conversion of value t from a type to another.
 #[tactic(auto, using(crate::proofs::Rules::nothing_rules), unfolding(lower_rules::specs::Words::Converts))]
-pub(crate) fn put_conversion(out: &mut Draft, which: Conversion, t: u8, place: Place, from_ty: TypeId, ty: TypeId)
+pub(crate) fn put_conversion(
+    out: &mut Draft,
+    which: Conversion,
+    t: u8,
+    place: Place,
+    from_ty: TypeId,
+    ty: TypeId,
+)
     ensures { Grows (Converts which t place from_ty ty) (Unit {0}) out.old out.new }
 {
     let into = Temp::Value(t);

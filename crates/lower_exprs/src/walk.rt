@@ -11,11 +11,14 @@ use crate::afters::{address_of, copy_of, decay_of, load_of, member_of, step_of};
 use crate::calling::{block_of, count, put_allocation, put_call, put_runtime};
 use crate::draft::{Draft, Scope};
 use crate::operators::{
-    is_null, is_or, is_subtraction, lowered, operands_of, put_binary, put_character, put_compare, put_conversion,
-    put_difference, put_enumerator, put_function, put_move, put_object, put_prefix, put_test, put_unsigned,
+    is_null, is_or, is_subtraction, lowered, operands_of, put_binary, put_character, put_compare,
+    put_conversion, put_difference, put_enumerator, put_function, put_move, put_object, put_prefix,
+    put_test, put_unsigned,
 };
 use crate::pieces::{above, argument_number, choose, demand_fixed, put_logical, refuse, start};
-use crate::places::{is_pointer, named_type, node_in_place, node_of, place_at, pointee_of, pointer_type};
+use crate::places::{
+    is_pointer, named_type, node_in_place, node_of, place_at, pointee_of, pointer_type,
+};
 use c_tree::{TypedExpr, TypedPlace};
 use lower_rules::After;
 
@@ -71,7 +74,12 @@ fn place(out: &mut Draft, k: &Scope<'_>, t: u8, p: &TypedPlace, after: After)
             let e = e.get();
             expr(out, k, t, e);
             let to = pointee_of(k, e.ty());
-            follow(out, t, node_of(k, e.ty()), member_of(to, *i, *node, *ty, *at));
+            follow(
+                out,
+                t,
+                node_of(k, e.ty()),
+                member_of(to, *i, *node, *ty, *at),
+            );
             follow(out, t, *node, after)
         }
         TypedPlace::StructAssign(p, at, q) => {
@@ -224,7 +232,13 @@ pub fn expr(out: &mut Draft, k: &Scope<'_>, t: u8, e: &TypedExpr)
             let u = above(out, t);
             expr(out, k, u, e.get());
             let pointer = is_pointer(k, p.ty());
-            put_update(out, spot_of(k, t, p, *at), pointer, motion_of(*op), *computed)
+            put_update(
+                out,
+                spot_of(k, t, p, *at),
+                pointer,
+                motion_of(*op),
+                *computed,
+            )
         }
         TypedExpr::Call(f, at, all, _) => {
             let f = f.get();
@@ -241,12 +255,24 @@ pub fn expr(out: &mut Draft, k: &Scope<'_>, t: u8, e: &TypedExpr)
         TypedExpr::Allocate(which, _, at, all, node, ty) => {
             let all = all.as_slice();
             arguments(out, k, t, all);
-            put_allocation(out, *which, count(all), t, block_of(*node, pointee_of(k, *ty), *at))
+            put_allocation(
+                out,
+                *which,
+                count(all),
+                t,
+                block_of(*node, pointee_of(k, *ty), *at),
+            )
         }
         TypedExpr::AllocateFor(which, _, at, all, ty) => {
             let all = all.as_slice();
             arguments(out, k, t, all);
-            put_allocation(out, *which, count(all), t, block_of(node_of(k, *ty), pointee_of(k, *ty), *at))
+            put_allocation(
+                out,
+                *which,
+                count(all),
+                t,
+                block_of(node_of(k, *ty), pointee_of(k, *ty), *at),
+            )
         }
     }
 }

@@ -148,7 +148,7 @@ place-returns-in-StructComma t c = rw (c.in-StructComma.is, typed_place-StructCo
 
 pub arguments-loop-e-preserved : goal.arguments-loop-e-preserved
 arguments-loop-e-preserved t c = record {
-    made = one_argument c.args.all.now c.loop-e.e-index c.e-item.result _ _ c.loop-e.i _ _ _ _ c.loop-e-test.true c.e-item.is c.loop-e.invariant.number
-        c.loop-e.invariant.made c.argument_number-u.ensures.room (rw c.argument_number-u.ensures.number at c.expr.ensures);
-    number = search rules
+  made = one_argument c.args.all.now c.loop-e.e-index c.e-item.result _ _ c.loop-e.i _ _ _ _ c.loop-e-test.true c.e-item.is c.loop-e.invariant.number
+      c.loop-e.invariant.made c.argument_number-u.ensures.room (rw c.argument_number-u.ensures.number at c.expr.ensures);
+  number = search rules;
 }

@@ -1,3 +1,4 @@
+pub mod Basics
 pub mod Contexts
 pub mod Walked
 pub mod Suits

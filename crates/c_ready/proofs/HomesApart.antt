@@ -13,10 +13,11 @@ use Rattle.c_tree.specs.TypedTree.{TypedForm, TypedParameters, TypedDeclared, Ty
 use Rattle.c_tree.specs.TypedParts as made
 use Rattle.c_tree.specs.TypedParts.{Made, Name, MadeObject, DefinedFunction, ParameterObject, nodes_made, node_made, static_made, local_made, statics_of, locals_of, functions_of, home_of_form, declared_home, parameter_home, parameter_objects, parameters_in_form, made_by_unit, made_by_declaration, made_by_specifiers, made_by_form, made_by_declared, made_by_adjusted, made_by_parameters, made_by_stars, made_by_parts, made_by_block_items}
 use Rattle.c_ready.specs.Ready.{Named, parameter_named, made_named, variables_named, homes_of}
-use Rattle.c_ready.proofs.ReadyFunctions.{objects_of, flat-append}
+use Rattle.c_ready.proofs.ReadyFunctions.{objects_of}
 use Rattle.c_ready.proofs.Counting.{one, count, count-append, range-once}
 use Rattle.c_ready.proofs.NodesUsed.{pointer_made, makes}
 use Rattle.c_ready.proofs.ReadyMade.{as_variable, sum_of, vars, vars-append, form-vars}
+use Rattle.c_ready.proofs.Basics.{flat-append}
 
 abbrev one_if : Bool → ℕ
 one_if b = if b then 1 else 0

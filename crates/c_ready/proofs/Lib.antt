@@ -1,3 +1,4 @@
+pub mod Basics
 pub mod Contexts
 pub mod Walked
 pub mod Suits
@@ -21,3 +22,4 @@ pub mod ObjectsMade
 pub mod ObjectsOfUnits
 pub mod ReadyUnit
 pub mod PlacesWhole
+pub mod ReadyRows

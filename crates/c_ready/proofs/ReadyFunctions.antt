@@ -29,14 +29,12 @@ use Rattle.c_ready.specs.Ready.{Named, parameter_named, made_named, variables_na
 use Rattle.c_ready.proofs.Contexts.{IsReadyHome, IsReadyDeclaration, AreReadyBlockItems, Context, unread, IsNode, IsWhole, IsObjectOf, AreReadySpecifiers, IsReadyForm}
 use Rattle.c_ready.proofs.Walked.{innermost-of, IsLevelOf, AreDeclared, declared-of, entered-of, outer-of}
 use Rattle.c_ready.proofs.Walked
-use Rattle.c_ready.proofs.Suits.{no_true, all-left, all-right, scalar-in}
+use Rattle.c_ready.proofs.Suits.{scalar-in}
 use Rattle.c_ready.proofs.ReadyParts.{Known, values, AreDefinitions, IsMade, AreMade, ml, mr, specified-in, HasNoNames, void-names, scalar-whole}
 use Rattle.c_ready.proofs.ReadyUnits.{In, Last, Fixed, IsGrown, IsLinkedSeen, grown-same, both-grown, last-left, none, AreListed}
 use Rattle.c_ready.specs.Declarators.{unless_typedef, declarators_in_declaration, declarators_in_items}
 use Rattle.c_ready.proofs.ReadyStatements.{declarator-step, specifiers-step, declaration-step, items-step}
-
-some-same : {A : Type 0} (a b : A) → Some a ≡ Some b → a ≡ b
-some-same a b h = cc
+use Rattle.c_ready.proofs.Basics.{some-same, no_true, all-left, all-right, flat-append}
 
 -- The parameters of a definition
 
@@ -122,18 +120,6 @@ module _ (T : Table) (k : Context) (ps : TypedParameters) where
 
 abbrev pub objects_of : TypedParameters → List Named
 objects_of ps = flat_map parameter_named (parameter_objects ps)
-
-append-nil : {A : Type 0} (xs : List A) → xs ++ [] ≡ xs
-append-nil [] = refl
-append-nil (x ∷ xs) = ap (λ zs. x ∷ zs) (append-nil xs)
-
-append-assoc : {A : Type 0} (xs ys zs : List A) → (xs ++ ys) ++ zs ≡ xs ++ (ys ++ zs)
-append-assoc [] ys zs = refl
-append-assoc (x ∷ xs) ys zs = ap (λ vs. x ∷ vs) (append-assoc xs ys zs)
-
-pub flat-append : {A B : Type 0} (f : A → List B) (xs : List A) (y : A) → flat_map f (xs ++ y ∷ []) ≡ flat_map f xs ++ f y
-flat-append f [] y = append-nil (f y)
-flat-append f (x ∷ xs) y = ap (λ zs. f x ++ zs) (flat-append f xs y) ∙ sym (append-assoc (f x) (flat_map f xs) (f y))
 
 is_none_home : Home → Bool
 is_none_home home.None = true

@@ -13,12 +13,13 @@ use Rattle.c_unit_typing.specs.WellTyped.{IsWellTyped, known_before}
 use Rattle.c_ready.specs.Ready.{file_stage, Stage, Named, IsNode, IsWhole, made_named, parameter_named, static_stage, IsReadyFunction, AreReadyExternals, IsReadyUnit}
 use Rattle.c_ready.proofs.Contexts.{Context, context_of}
 use Rattle.c_ready.proofs.ReadyFunctions.{AreExternalsReady, IsBodyReady}
-use Rattle.c_ready.proofs.ReadyMade.{unit-ready, within, flat-left, flat-right}
+use Rattle.c_ready.proofs.ReadyMade.{unit-ready, within}
 use Rattle.c_ready.proofs.HomesApart.{homes-distinct}
 use Rattle.c_ready.proofs.NodesOnce.{nodes-there, pointees-one, homes-other}
 use Rattle.c_ready.proofs.ObjectsMade.{IsObjectWhole, specifiers-objects, form-objects}
 use Rattle.c_ready.proofs.ObjectsOfUnits.{home-whole, declaration-objects, block-objects, statics-planned, locals-planned}
 use Rattle.c_ready.proofs.Gathered.{functions-gathered, initialisers-gathered, at-its-place}
+use Rattle.c_ready.proofs.Basics.{flat-left, flat-right}
 
 module _ (T : Table) (u : TypedTranslationUnit) (after : units.Known) where
   abbrev static : Stage

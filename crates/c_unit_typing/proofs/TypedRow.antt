@@ -46,7 +46,7 @@ abbrev at : ℕ → Place
 at col = record { line = 1; col = col }
 
 -- `void`, the integer types, `int(void)` and `int *`
-abbrev table : Table
+abbrev pub table : Table
 table = basic_table ++ basic_entry (Function [] (type 5)) ∷ basic_entry (Pointer (node 0) (type 5)) ∷ []
 
 abbrev main_at : ℕ → Identifier
@@ -95,7 +95,7 @@ body = typed.AndStatement (typed.AndStatement (typed.AndDeclaration typed.NoBloc
     (typed.Declare (ints 16) (typed.AndPlain typed.NoInitDeclarator (typed.Declares p_form (type 10)))))
     (typed.Express clearing)) (typed.Return (at 27) (Some reading))
 
-abbrev unit : TypedTranslationUnit
+abbrev pub unit : TypedTranslationUnit
 unit = typed.AndFunctionBody typed.NoExternal (ints 1) (typed.Declares main_form (type 9)) (at 15) body
 
 -- the tree that it erases to

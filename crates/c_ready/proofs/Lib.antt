@@ -23,3 +23,4 @@ pub mod ObjectsOfUnits
 pub mod ReadyUnit
 pub mod PlacesWhole
 pub mod ReadyRows
+pub mod ParameterObjects

@@ -169,7 +169,8 @@ module _ (k : Stage) where
   abbrev Planned : MadeObject → Type 0
   Planned o = IsPlanned k o.home o.type
 
-  gathered : (f : Made → List MadeObject) → ((m : Made) → All (IsNode k) (node_made m) → IsObjectWhole k.table m → All Planned (f m)) → (xs : List Made)
+  gathered : (f : Made → List MadeObject) → ((m : Made) → All (IsNode k) (node_made m) → IsObjectWhole k.table m → All Planned (f m))
+      → (xs : List Made)
       → AreNodes xs → All (IsObjectWhole k.table) xs → All Planned (flat_map f xs)
   gathered f own [] nodes h = All-nil Planned
   gathered f own (m ∷ ms) nodes h =

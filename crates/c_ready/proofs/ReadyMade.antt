@@ -21,7 +21,8 @@ use Rattle.c_ready.proofs.Contexts.{Context, IsNode, context_of}
 use Rattle.c_ready.proofs.ReadyParts.{IsMade, AreMade}
 use Rattle.c_ready.proofs.ReadyUnits.{AreListed}
 use Rattle.c_ready.proofs.Counting.{one, one-self, count, count-append, range-once}
-use Rattle.c_ready.proofs.ReadyFunctions.{AreExternalsMade, AreExternalsReady, file_of, in_body, IsApart, objects_of, no_home}
+use Rattle.c_ready.proofs.ReadyFunctions.{AreExternalsMade, AreExternalsReady, file_of, in_body, IsApart, no_home}
+use Rattle.c_ready.proofs.ParameterObjects.{objects_of, variables-are}
 use Rattle.c_ready.specs.Declarators.{declarators_of, declarators_in_declaration, declarators_in_items}
 use Rattle.c_ready.proofs.ReadyWhole.{whole-ready, IsClosed}
 use Rattle.c_ready.proofs.Basics.{all-left, all-right, flat-append, flat-left, flat-right, unmap}
@@ -224,13 +225,14 @@ variables-counted : (form : TypedForm) (t : TypeId) (body : TypedBlockItems) (wh
     → ((n : ℕ) → vars n (made_by_form form t) + vars n (made_by_block_items body) ≤ vars n whole)
     → All (IsCountedIn whole) (variables_named (record { declarator = typed.Declares form t; body = body }))
 variables-counted form t body whole most =
-    All-append (IsCountedIn whole) (objects_of (parameters_in_form form typed.NoParameter)) (map made_named (locals_of body))
+    subst (All (IsCountedIn whole)) (sym (variables-are form t body))
+    (All-append (IsCountedIn whole) (objects_of (parameters_in_form form typed.NoParameter)) (map made_named (locals_of body))
     (All-weaker (IsCountedIn (made_by_parameters (parameters_in_form form typed.NoParameter))) (IsCountedIn whole)
     (λ o h. let m = most o.0.0 in let f = form-vars o.0.0 form t typed.NoParameter in omega (arith, h, m, f))
     (objects_of (parameters_in_form form typed.NoParameter)) (parameters-counted (parameters_in_form form typed.NoParameter)))
     (All-map (IsCountedIn whole) made_named (locals_of body)
     (All-weaker (λ (o : MadeObject). IsCountedIn (made_by_block_items body) (o.home, o.type)) (λ (o : MadeObject). IsCountedIn whole (made_named o))
-    (λ o h. let m = most o.home.0 in omega (arith, h, m)) (locals_of body) (locals-counted (made_by_block_items body))))
+    (λ o h. let m = most o.home.0 in omega (arith, h, m)) (locals_of body) (locals-counted (made_by_block_items body)))))
 
 -- The whole
 

@@ -129,7 +129,8 @@ module _ (k : Context) (f : Fixed k) where
             let p = first-linked k f id.bytes what m a b refl l in (
               tt,
               linked-in k f id.bytes what m a b i
-                  (function-seen id.bytes t b h.linked_agrees p.0 p.1 (d, All-head (Contains k.declarators) d [] told, own.named, own.type)) (λ e. tt),
+                  (function-seen id.bytes t b h.linked_agrees p.0 p.1 (d, All-head (Contains k.declarators) d [] told, own.named, own.type))
+                  (λ e. tt),
             );
       })
   function-step d id t (home.Static n) m m' own h = absurd h

@@ -110,7 +110,8 @@ entry-from {A} R name x (e ∷ es) h g =
     by true same q more g = subst (λ (d : A). R name d) (some-same e.1 x g) (subst (λ (n : Name). R n e.1) (sym (same refl)) q)
     by false same q more g = more g
 
-either-from : {A : Type 0} (P : Type 0) (x : A) (inner outer : Option A) → (inner ≡ Some x → P) → (outer ≡ Some x → P) → or_outer inner outer ≡ Some x → P
+either-from : {A : Type 0} (P : Type 0) (x : A) (inner outer : Option A) → (inner ≡ Some x → P) → (outer ≡ Some x → P)
+    → or_outer inner outer ≡ Some x → P
 either-from P x (Some y) outer f g h = f h
 either-from P x None outer f g h = g h
 

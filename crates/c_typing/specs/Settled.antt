@@ -4,7 +4,7 @@ use Rattle.std.specs.List.{All, Contains}
 use Rattle.cc_base.specs.declared.number.TypeId.{TypeId}
 use Rattle.c_types.specs.declared.shape.TypeShape.{TypeShape}
 use Rattle.c_types.specs.declared.shape.TypeShape.TheVariants.{Void, Integer, Pointer}
-use Rattle.c_types.specs.Table.{Table, HasShape, IsType, IsComplete, shape_at, named_by}
+use Rattle.c_types.specs.Table.{Table, HasShape, IsType, IsComplete, shape_at, members_at, named_by}
 use Rattle.c_types.specs.Sound.{IsWellFormed, IsIntegerSize}
 use Rattle.c_tree.specs.declared.leaf.Identifier.{Identifier}
 use Rattle.c_tree.specs.declared.operator.AggregateKind.{AggregateKind}
@@ -27,7 +27,7 @@ use Rattle.c_typing.specs.declared.declared.Declared.TheVariants as declared
 use Rattle.c_typing.specs.declared.declared.Tag.{Tag}
 use Rattle.c_typing.specs.declared.declared.Tag.TheVariants as tag
 use Rattle.c_typing.specs.Rules.{number_of_shape}
-use Rattle.c_typing.specs.Scopes.{Name, Level, Scopes, is_complete_at}
+use Rattle.c_typing.specs.Scopes.{Name, Level, Scopes, members_named, is_complete_at}
 use Rattle.c_typing.specs.Shapes.{is_scalar_shape}
 use Rattle.c_typing.specs.Constants.{constant_value, is_null_constant}
 use Rattle.c_typing.specs.Tests.{Elaborated, AsPlace, AsValue, AsAllocation, shape_of, is_null_part, are_one_struct}
@@ -91,8 +91,10 @@ pub record IsLevelThere (table : Table) (level : Level) : Type 0 where
   pub names : All (λ (e : Name × Declared). IsThere table e.1) level.names
   pub tags : All (λ (e : Name × Tag). IsTagThere table e.1) level.tags
 
--- each struct and union of the table has a number of its own, which was given out
+-- each struct and union of the table has a number of its own, which was given out, and the members that the text has given it so far: none
+-- while it is not complete
 pub record AreNumbered (table : Table) (s : Scopes) : Type 0 where
+  pub closed : (t : TypeId) (n : ℕ) → number_of_shape (shape_at table t) ≡ Some n → length (members_named s n) ≡ length (members_at table t)
   pub given : (t : TypeId) (n : ℕ) → number_of_shape (shape_at table t) ≡ Some n → n < length s.members
   pub own : (t u : TypeId) (n : ℕ) → number_of_shape (shape_at table t) ≡ Some n → number_of_shape (shape_at table u) ≡ Some n → t ≡ u
 

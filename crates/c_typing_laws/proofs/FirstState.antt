@@ -1,5 +1,5 @@
 -- What is known where a unit begins.
-use Rattle.std.proofs.Common.{◌≡◌, ℕ, zero, suc, Bool, true, false, List, [], refl, sym, subst, inl, inr, lit<, arith}
+use Rattle.std.proofs.Common.{◌≡◌, ℕ, zero, suc, Bool, true, false, List, [], refl, sym, subst, inl, inr, lit<, arith, length, ap, ◌∙◌}
 use Rattle.std.specs.List.{Contains}
 use Rattle.std.proofs.lemmas.List.Elements.{All-nil, All-cons}
 use Rattle.cc_base.specs.declared.number.TypeId.{TypeId}
@@ -88,6 +88,7 @@ first-known defined s w t q =
       followed = λ a h. complete_by (file_scope defined).scopes (shape_at basic_table a) (members_at basic_table a) (no_aggregate a.0) h;
       levels = All-cons (IsLevelThere basic_table) empty_level [] (empty-there basic_table) (All-nil (IsLevelThere basic_table));
       numbered = record {
+        closed = λ a n h. no-number (shape_at basic_table a) n (no_aggregate a.0) h;
         given = λ a n h. no-number (shape_at basic_table a) n (no_aggregate a.0) h;
         own = λ a u n h g. no-number (shape_at basic_table a) n (no_aggregate a.0) h;
       };

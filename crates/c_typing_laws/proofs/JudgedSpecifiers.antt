@@ -277,6 +277,7 @@ scopes-known s d k same there = record {
     followed = λ t h. k.followed t (sym (members_complete s.seen.scopes d same (is_complete (entry_at s.table t)) (shape_at s.table t)) ∙ h);
     levels = there;
     numbered = record {
+      closed = λ t n h. ap (λ (ms : List (List Name)). length (members_named (record d { members = ms }) n)) same ∙ k.numbered.closed t n h;
       given = λ t n h. subst (λ (ms : List (List Name)). n < length ms) (sym same) (k.numbered.given t n h);
       own = k.numbered.own;
     };

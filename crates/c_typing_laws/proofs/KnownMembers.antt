@@ -73,6 +73,14 @@ set_names (m ∷ ms) zero (suc k) names h = refl
 set_names (m ∷ ms) (suc n) zero names h = refl
 set_names (m ∷ ms) (suc n) (suc k) names h = set_names ms n k names (λ e. h (ap suc e))
 
+set_here : (ms : List (List Name)) (n : ℕ) (names : List Name) → n < length ms → members_named (naming (slice_set ms n names)) n ≡ names
+set_here [] n names h = absurd (omega (arith, h))
+set_here (m ∷ ms) zero names h = refl
+set_here (m ∷ ms) (suc n) names h = set_here ms n names (omega (arith, h))
+
+some_number : (a b : ℕ) → Some a ≡ Some b → a ≡ b
+some_number a b h = cc
+
 other_complete : (c d : Scopes) (w : Bool) (x : TypeShape) → ((n : ℕ) → number_of_shape x ≡ Some n → members_named d n ≡ members_named c n)
     → is_complete_shape_at d w x ≡ is_complete_shape_at c w x
 other_complete c d w (Struct n) same = ap (λ (l : List Name). not (is_no_list l)) (same n refl)
@@ -123,10 +131,24 @@ module _ (T : Table) (t : TypeId) (members : List TypeId) (k : IsBasic T) (b : I
 
   module _ (c d : Scopes) (number : ℕ) (names : List Name) (own : number_of_shape (shape_at T t) ≡ Some number) (set : d.members ≡ slice_set c.members number names)
       (numbered : AreNumbered T c) where
-    pub defined-numbered : AreNumbered (with_members T t members) d
-    defined-numbered =
+    pub defined-numbered : length names ≡ length members → AreNumbered (with_members T t members) d
+    defined-numbered alike =
         let l : length d.members ≡ length c.members = ap (λ (ms : List (List Name)). length ms) set ∙ length-set c.members number names in
         record {
+          closed = λ u n h. elim (eqb_tells u.0 t.0) [
+            | inl q ↦
+                let n_is : n ≡ number = sym (some_number number n (sym own ∙ (ap (λ (i : ℕ). number_of_shape (shape_at T (record { 0 = i }))) (sym q.1) ∙ (ap number_of_shape (sym (shapes_stay u)) ∙ h)))) in
+                ap (λ (ms : List (List Name)). length (members_named (naming ms) n)) set
+                ∙ (ap (λ (i : ℕ). length (members_named (naming (slice_set c.members number names)) i)) n_is
+                ∙ (ap (λ (xs : List Name). length xs) (set_here c.members number names (numbered.given t number own))
+                ∙ (alike ∙ ap (λ (e : Entry). length e.members) (sym (entry_here u q.1)))))
+            | inr m ↦
+                let before = ap number_of_shape (sym (shapes_stay u)) ∙ h in
+                let apart : n ≢ number = λ e. m.1 (ap (λ (v : TypeId). v.0) (numbered.own u t number (before ∙ ap Some e) own)) in
+                ap (λ (ms : List (List Name)). length (members_named (naming ms) n)) set
+                ∙ (ap (λ (xs : List Name). length xs) (set_names c.members n number names apart)
+                ∙ (numbered.closed u n before ∙ ap (λ (e : Entry). length e.members) (sym (change.other u m.1))))
+          ];
           given = λ u n h. let below : n < length c.members = numbered.given u n (ap number_of_shape (sym (shapes_stay u)) ∙ h) in omega (arith, l, below);
           own = λ u v n h g. numbered.own u v n (ap number_of_shape (sym (shapes_stay u)) ∙ h) (ap number_of_shape (sym (shapes_stay v)) ∙ g);
         }
@@ -188,7 +210,7 @@ module _ (at : Place) (members : TypedMembers) (t u : TypeId) (s r : State) (k :
             basic = defined-basic T t ms k.basic b a o some full most;
             followed = defined-followed T t ms k.basic b a o some full most c d number.0 names number.1 refl k.numbered k.followed;
             levels = levels-kept T (with_members T t ms) grows c.levels k.levels;
-            numbered = defined-numbered T t ms k.basic b a o some full most c d number.0 names number.1 refl k.numbered;
+            numbered = defined-numbered T t ms k.basic b a o some full most c d number.0 names number.1 refl k.numbered (omega (arith, alike));
           };
         };
       })

@@ -1,5 +1,5 @@
 -- What is declared in scopes has its type in the table: where it is looked for, where scopes change, and where the table goes on.
-use Rattle.std.proofs.Common.{◌≡◌, ℕ, Bool, true, false, List, [], ◌∷◌, ◌++◌, Option, Some, None, sym, subst, ◌∙◌, bytes_eq, if◌then◌else◌}
+use Rattle.std.proofs.Common.{◌≡◌, ℕ, Bool, true, false, List, [], ◌∷◌, ◌++◌, Option, Some, None, sym, subst, ◌∙◌, bytes_eq, if◌then◌else◌, length, ap, refl}
 use Rattle.std.specs.List.{All}
 use Rattle.std.proofs.lemmas.Option.{none-some}
 use Rattle.std.proofs.lemmas.List.Elements.{All-nil, All-cons, All-head, All-tail, All-push, All-weaker}
@@ -7,7 +7,7 @@ use Rattle.cc_base.specs.declared.number.NodeId.{NodeId}
 use Rattle.cc_base.specs.declared.number.TypeId.{TypeId}
 use Rattle.c_types.specs.declared.shape.TypeShape.{TypeShape}
 use Rattle.c_types.specs.declared.shape.TypeShape.TheVariants.{Void, Integer, Pointer, Array, Function, Struct, Union}
-use Rattle.c_types.specs.Table.{Table, IsType, shape_at, is_aggregate_shape}
+use Rattle.c_types.specs.Table.{Table, IsType, shape_at, is_aggregate_shape, members_at}
 use Rattle.c_typing.specs.declared.declared.Declared.{Declared}
 use Rattle.c_typing.specs.declared.declared.Declared.TheVariants as declared
 use Rattle.c_typing.specs.declared.declared.Tag.{Tag}
@@ -139,8 +139,9 @@ no-number (Union m) n p h = no_true (sym p)
 
 -- a table whose numbered types were numbered before
 pub numbered-from : (T U : Table) (s : Scopes) → ((t : TypeId) (n : ℕ) → number_of_shape (shape_at U t) ≡ Some n → number_of_shape (shape_at T t) ≡ Some n)
-    → AreNumbered T s → AreNumbered U s
-numbered-from T U s before h = record {
+    → ((t : TypeId) (n : ℕ) → number_of_shape (shape_at U t) ≡ Some n → members_at U t ≡ members_at T t) → AreNumbered T s → AreNumbered U s
+numbered-from T U s before keeps h = record {
+  closed = λ t n p. h.closed t n (before t n p) ∙ ap (λ (ms : List TypeId). length ms) (sym (keeps t n p));
   given = λ t n p. h.given t n (before t n p);
   own = λ t u n p q. h.own t u n (before t n p) (before u n q);
 }

@@ -10,7 +10,7 @@ use Rattle.cc_base.specs.declared.fault.Fault.TheVariants.{TooLarge}
 use Rattle.cc_base.specs.declared.fault.Limit.TheVariants.{Types, Object}
 use Rattle.c_types.specs.declared.shape.TypeShape.{TypeShape}
 use Rattle.c_types.specs.declared.shape.TypeShape.TheVariants.{Void, Integer, Pointer, Array, Function, Struct, Union}
-use Rattle.c_types.specs.Table.{Table, Entry, HasShape, IsType, IsComplete, entry_at, shape_at, named_by, is_complete, is_complete_entry, is_aggregate_shape, parts_of_shape}
+use Rattle.c_types.specs.Table.{Table, Entry, HasShape, IsType, IsComplete, entry_at, shape_at, named_by, is_complete, is_complete_entry, is_aggregate_shape, parts_of_shape, members_at}
 use Rattle.c_types.specs.Calls.{IsNew, IsAddable, basic_entry, new_layout}
 use Rattle.c_types.proofs.Adding.{appends, formed_added}
 use Rattle.c_types.proofs.Growth.{Changes}
@@ -77,8 +77,14 @@ module _ (T : Table) (x : TypeShape) (b : IsBasic T) (a : IsAddable T x) (parts 
   ]
 
   pub numbered_after : (s : Scopes) → is_aggregate_shape x ≡ false → AreNumbered T s → AreNumbered (T ++ basic_entry x ∷ []) s
-  numbered_after s p h = numbered-from T (T ++ basic_entry x ∷ []) s before h
+  numbered_after s p h = numbered-from T (T ++ basic_entry x ∷ []) s before keeps h
     where
+      keeps : (t : TypeId) (n : ℕ) → number_of_shape (shape_at (T ++ basic_entry x ∷ []) t) ≡ Some n → members_at (T ++ basic_entry x ∷ []) t ≡ members_at T t
+      keeps t n q = elim (eqb_tells t.0 (length T)) [
+        | inl l ↦ no-number x n p (subst (λ (e : Entry). number_of_shape e.shape ≡ Some n) (entry_last t l.1) q)
+        | inr m ↦ ap (λ (e : Entry). e.members) (change.other t m.1)
+      ]
+
       before : (t : TypeId) (n : ℕ) → number_of_shape (shape_at (T ++ basic_entry x ∷ []) t) ≡ Some n → number_of_shape (shape_at T t) ≡ Some n
       before t n q = elim (eqb_tells t.0 (length T)) [
         | inl l ↦ no-number x n p (subst (λ (e : Entry). number_of_shape e.shape ≡ Some n) (entry_last t l.1) q)

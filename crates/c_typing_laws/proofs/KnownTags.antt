@@ -154,6 +154,17 @@ module _ (T : Table) (which : AggregateKind) (c d : Scopes) (more : d.members �
 
   pub new-numbered : AreNumbered (T ++ basic_entry (shape_of_kind which (length c.members)) ∷ []) d
   new-numbered = record {
+    closed = λ t n h. elim (eqb_tells t.0 (length T)) [
+      | inl q ↦
+          let own : number_of_shape (shape_of_kind which (length c.members)) ≡ Some n =
+          subst (λ (e : Entry). number_of_shape e.shape ≡ Some n) (entry_last t q.1) h in
+          let number = sym (some_same (length c.members) n (sym (kind_number which (length c.members)) ∙ own)) in
+          ap (λ (l : List Name). length l) (names_same n ∙ past_names c.members n number) ∙ ap (λ (e : Entry). length e.members) (sym (entry_last t q.1))
+      | inr m ↦
+          ap (λ (l : List Name). length l) (names_same n)
+          ∙ (numbered.closed t n (subst (λ (e : Entry). number_of_shape e.shape ≡ Some n) (change.other t m.1) h)
+          ∙ ap (λ (e : Entry). length e.members) (sym (change.other t m.1)))
+    ];
     given = λ t n h. elim (number_by t n h) [
       | inl q ↦ let l = longer in let e = q.1 in omega (arith, l, e)
       | inr q ↦ let l = longer in let b : n < length c.members = numbered.given t n q in omega (arith, l, b)

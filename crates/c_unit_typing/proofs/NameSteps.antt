@@ -148,7 +148,7 @@ declared_known T name what s k h = record {
   basic = k.basic;
   followed = k.followed;
   levels = declared-there s.table name what s.seen.scopes.levels h k.levels;
-  numbered = record { given = k.numbered.given; own = k.numbered.own };
+  numbered = record { closed = k.numbered.closed; given = k.numbered.given; own = k.numbered.own };
 }
 
 stays_below : (n : ℕ) → n ≤ n

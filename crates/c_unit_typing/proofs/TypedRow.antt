@@ -2,12 +2,13 @@
 use Rattle.std.proofs.Common.{◌≡◌, ℕ, false, List, [], ◌∷◌, ◌++◌, Some, None, refl, inr, codes, lit<, arith}
 use Rattle.std.proofs.lemmas.Slice.Eq.{bytes_eq-Decides}
 use Rattle.std.proofs.lemmas.Bool.Decides.{not_from_Decides}
+use Rattle.std.proofs.lemmas.List.Elements.{All-nil, All-cons}
 use Rattle.cc_base.specs.declared.place.Place.{Place}
 use Rattle.cc_base.specs.declared.number.NodeId.{NodeId}
 use Rattle.cc_base.specs.declared.number.TypeId.{TypeId}
 use Rattle.c_types.specs.declared.shape.TypeShape.TheVariants.{Pointer, Function}
-use Rattle.c_types.specs.Table.{Table}
-use Rattle.c_types.specs.Calls.{basic_table, basic_entry}
+use Rattle.c_types.specs.Table.{Table, IsType, IsComplete}
+use Rattle.c_types.specs.Calls.{IsAddable, basic_table, basic_entry}
 use Rattle.c_lexer.specs.declared.number.IntegerType.TheVariants as constant
 use Rattle.c_lexer.specs.declared.word.Keyword.TheVariants as keyword
 use Rattle.c_tree.specs.declared.leaf.Identifier.{Identifier}
@@ -24,11 +25,16 @@ use Rattle.c_tree.specs.TypedTree.{TypedExpr, TypedPlace, TypedSpecifiers, Typed
 use Rattle.c_tree.specs.Erasure.{erased_unit}
 use Rattle.runtime_calls.specs.Prototypes.{IsNoName}
 use Rattle.c_typing.specs.declared.declared.Declared.TheVariants as declared
-use Rattle.c_typing.specs.Scopes.{Level, Scopes}
+use Rattle.c_typing.specs.Judging.{State, Gives, type_with}
+use Rattle.c_typing.specs.Scopes.{Level, Scopes, file_scope}
+use Rattle.c_typing.specs.Settled.{IsKnown}
 use Rattle.c_typing.specs.Declarators.{Written}
 use Rattle.c_typing.specs.Typing.{IsTyped, AreSpecifiers}
 use Rattle.c_unit_typing.specs.Units.{Known, Unstored, AsTypedef, IsDeclarator, IsDefinition}
 use Rattle.c_unit_typing.specs.WellTyped.{IsWellTyped}
+use Rattle.c_typing_laws.proofs.FirstState.{first-known}
+use Rattle.c_typing_laws.proofs.KnownStates.{type_with-known}
+use Rattle.c_unit_typing.proofs.BasicTable.{basic-formed}
 
 abbrev type : ℕ → TypeId
 type n = record { 0 = n }
@@ -40,7 +46,7 @@ abbrev at : ℕ → Place
 at col = record { line = 1; col = col }
 
 -- `void`, the integer types, `int(void)` and `int *`
-abbrev table : Table
+abbrev pub table : Table
 table = basic_table ++ basic_entry (Function [] (type 5)) ∷ basic_entry (Pointer (node 0) (type 5)) ∷ []
 
 abbrev main_at : ℕ → Identifier
@@ -89,7 +95,7 @@ body = typed.AndStatement (typed.AndStatement (typed.AndDeclaration typed.NoBloc
     (typed.Declare (ints 16) (typed.AndPlain typed.NoInitDeclarator (typed.Declares p_form (type 10)))))
     (typed.Express clearing)) (typed.Return (at 27) (Some reading))
 
-abbrev unit : TypedTranslationUnit
+abbrev pub unit : TypedTranslationUnit
 unit = typed.AndFunctionBody typed.NoExternal (ints 1) (typed.Declares main_form (type 9)) (at 15) body
 
 -- the tree that it erases to
@@ -202,6 +208,8 @@ main-defined = record {
     type = (type 5, type 9, refl, (type 9, record { gives = refl; shape = (lit< tt, refl) }, refl), refl);
     declares = record { here_agrees = tt; linked_agrees = tt; runtime_agrees = λ function h. absurd (main-own function h); after = refl };
   };
+  inside = prototype;
+  listed = (prototype, prototype, prototype, refl, voids-typed prototype, refl, refl, (refl, refl), (lit< tt, refl), refl);
   once = refl;
   own = main-own;
   after = with_p;
@@ -218,12 +226,41 @@ main-defined = record {
   leaves = refl;
 }
 
+-- the table is the one that judging makes: the two types are added behind the basic ones, one after another
+
+abbrev first : State
+first = record { table = basic_table; seen = file_scope [] }
+
+abbrev with_function : State
+with_function = record first { table = basic_table ++ basic_entry (Function [] (type 5)) ∷ [] }
+
+abbrev with_pointer : State
+with_pointer = record first { table = table }
+
+function-added : type_with (at 1) (Function [] (type 5)) first ≡ Gives (type 9) with_function
+unfolding type_with
+function-added = refl
+
+pointer-added : type_with (at 1) (Pointer (node 0) (type 5)) with_function ≡ Gives (type 10) with_pointer
+unfolding type_with
+pointer-added = refl
+
+table-known : IsKnown with_pointer
+table-known =
+    let basic = first-known [] first basic-formed refl refl in
+    let function : IsAddable basic_table (Function [] (type 5)) = record { proper = tt; named = All-cons (IsType basic_table) (type 5) [] (lit< tt) (All-nil (IsType basic_table)); parts = tt } in
+    let known = type_with-known (at 1) (Function [] (type 5)) (type 9) first with_function basic function (All-nil (IsComplete basic_table)) refl function-added in
+    let pointer : IsAddable with_function.table (Pointer (node 0) (type 5)) = record { proper = tt; named = All-cons (IsType with_function.table) (type 5) [] (lit< tt) (All-nil (IsType with_function.table)); parts = tt } in
+    type_with-known (at 1) (Pointer (node 0) (type 5)) (type 10) with_function with_pointer known pointer (All-nil (IsComplete with_function.table)) refl pointer-added
+
 pub unit-typed : IsWellTyped table unit
 unit-typed = record {
   after = after;
   typed = (before, refl, main-defined);
   numbered = refl;
   types = (10, inr (refl, refl), (11, inr (refl, refl), refl));
+  basic = table-known.basic;
+  structs = record { closed = table-known.numbered.closed; given = table-known.numbered.given; own = table-known.numbered.own };
   main = record {
     main = record { declarator = typed.Declares main_form (type 9); body = body };
     there = (0, lit< tt, refl);

@@ -186,6 +186,8 @@ whole-judged u whole r h =
         typed = subst (λ (names : List Name). IsUnitTyped m.table e1.0 (before_with names) (known_of m)) (sym w.names) (w.judged.typed m.table (extended_refl m.table));
         numbered = w.judged.numbers.numbers;
         types = w.judged.types.uses m.table (later-self m.table);
+        basic = w.judged.goes.known.known.basic;
+        structs = w.judged.goes.known.known.numbered;
         main = has-main u e1.0 m w w.judged.goes.known yes;
       },
       w.judged.erases,

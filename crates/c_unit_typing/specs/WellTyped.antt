@@ -12,6 +12,8 @@ use Rattle.c_tree.specs.Erasure.{erased_unit}
 use Rattle.integers.specs.Arithmetic.{int}
 use Rattle.c_typing.specs.Shapes.{IsIntegerType}
 use Rattle.c_typing.specs.Scopes.{Name, empty_level}
+use Rattle.c_typing.specs.Settled
+use Rattle.c_typing.specs.Settled.{IsBasic}
 use Rattle.c_type_order.specs.TypesUsed.{AreUses}
 use Rattle.c_unit_typing.specs.TypesUsed.{used_by_unit}
 use Rattle.c_unit_typing.specs.Units.{Known, IsUnitTyped, bytes_of_name}
@@ -43,13 +45,17 @@ pub record HasMain (table : Table) (unit : TypedTranslationUnit) : Type 0 where
   pub shape : HasShape table (declared_type main.declarator) (Function [] result)
 
 -- A typed unit is well typed, over a table of types: each of its parts is (C99 6.5 to 6.9), its nodes are numbered, its types are numbered by
--- their first use behind `void` and the integer types, and it has a `main`.
+-- their first use behind `void` and the integer types, the table says of them what the text says, and it has a `main`.
 pub record IsWellTyped (table : Table) (unit : TypedTranslationUnit) : Type 0 where
   pub after : Known
   pub typed : IsUnitTyped table unit (known_before unit) after
   pub numbered : AreNumbered unit
   -- types are numbered by first use; the size that stands in an array part is one of 64 bits, and a member has a name
   pub types : AreUses (used_by_unit table unit) (length basic_table) (length table)
+  -- the table is well formed, and `void` and the integer types come first in it
+  pub basic : IsBasic table
+  -- its structs and unions are those of the text, each with as many members as the text gives it at last
+  pub structs : Settled.AreNumbered table after.scopes
   pub main : HasMain table unit
 
 -- A unit is well typed where a well typed tree erases to it.

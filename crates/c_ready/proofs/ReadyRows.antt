@@ -1,0 +1,215 @@
+-- Units written out on which a fact of readiness is easily false, by computation.
+use Rattle.std.proofs.Common.{◌≡◌, ◌≢◌, ℕ, suc, ◌<◌, List, [], ◌∷◌, ◌++◌, Some, None, refl, inl, inr, codes, lit<, arith}
+use Rattle.std.proofs.lemmas.List.Elements.{All-nil, All-cons, All-contains}
+use Rattle.cc_base.specs.declared.place.Place.{Place}
+use Rattle.cc_base.specs.declared.number.NodeId.{NodeId}
+use Rattle.cc_base.specs.declared.number.TypeId.{TypeId}
+use Rattle.c_types.specs.declared.shape.TypeShape.TheVariants.{Pointer, Function, Struct}
+use Rattle.c_types.specs.Table.{Table}
+use Rattle.c_types.specs.Calls.{basic_table, basic_entry}
+use Rattle.c_lexer.specs.declared.number.IntegerType.TheVariants as constant
+use Rattle.c_lexer.specs.declared.word.Keyword.{Keyword}
+use Rattle.c_lexer.specs.declared.word.Keyword.TheVariants as keyword
+use Rattle.c_tree.specs.declared.leaf.Identifier.{Identifier}
+use Rattle.c_tree.specs.declared.operator.AggregateKind.TheVariants as aggregate
+use Rattle.c_tree.specs.declared.typed_word.Conversion.TheVariants as conversion
+use Rattle.c_tree.specs.declared.typed_word.Home.{Home}
+use Rattle.c_tree.specs.declared.typed_word.Home.TheVariants as home
+use Rattle.c_tree.specs.TypedTree as typed
+use Rattle.c_tree.specs.TypedTree.{TypedExpr, TypedPlace, TypedSpecifiers, TypedSpecifierList, TypedForm, TypedParameters, TypedBlockItems, TypedTranslationUnit}
+use Rattle.c_tree.specs.TypedParts.{DefinedFunction, static_initialisers}
+use Rattle.c_unit_typing.proofs.TypedRow
+use Rattle.c_ready.specs.Ready.{Named, Stage, unread, body_stage, static_stage, variables_named, homes_of, IsReady, IsReadyPlace, IsReadyUnit, IsMember}
+use Rattle.c_ready.proofs.ReadyUnit.{well-typed-ready}
+
+abbrev type : ℕ → TypeId
+type n = record { 0 = n }
+
+abbrev node : ℕ → NodeId
+node n = record { 0 = n }
+
+abbrev at : ℕ → Place
+at col = record { line = 1; col = col }
+
+abbrev name : List ℕ → Identifier
+name bytes = record { bytes = bytes; place = at 1 }
+
+abbrev words : List Keyword → TypedSpecifierList
+words [] = typed.NoSpecifier
+words (word ∷ rest) = typed.AndSpecifier (words rest) (typed.Keyword (record { keyword = word; place = at 1 }))
+
+-- `struct S;struct S *q;struct S{int x;};static int x;extern int *p;int *p=&x;` and then
+-- `int main(void){static int s;extern int x;int g(void);g();return q->x;}int g(void){return 0;}`
+
+-- `int(void)`, `struct S`, the type of `q`, those of both declarations of `p`, of `&x`, and of `g` where it is called
+abbrev table : Table
+table =
+    basic_table ++ basic_entry (Function [] (type 5)) ∷ record { shape = Struct 0; members = type 5 ∷ [] } ∷ basic_entry
+    (Pointer (node 0) (type 10))
+    ∷ basic_entry (Pointer (node 3) (type 5)) ∷ basic_entry (Pointer (node 5) (type 5)) ∷ basic_entry (Pointer (node 6) (type 5))
+    ∷ basic_entry (Pointer (node 8) (type 9)) ∷ []
+
+abbrev pointed : ℕ → Home → List ℕ → TypedForm
+pointed n h bytes =
+    typed.Form (record { star = record { place = at 1; qualifiers = [] }; node = node n } ∷ []) (typed.Names (name bytes) h) typed.NoPart
+
+abbrev plain : Home → List ℕ → TypedForm
+plain h bytes = typed.Form [] (typed.Names (name bytes) h) typed.NoPart
+
+abbrev voids : TypedParameters
+voids = typed.AndParameter typed.NoParameter (typed.Specified (words (keyword.Void ∷ [])) (type 0)) typed.NotDeclared None (type 0)
+
+abbrev without_parameters : List ℕ → TypedForm
+without_parameters bytes = typed.Form [] (typed.Names (name bytes) home.None) (typed.AndFunction typed.NoPart (at 1) voids)
+
+abbrev ints : List Keyword → TypedSpecifiers
+ints rest = typed.Specified (words (keyword.Int ∷ rest)) (type 5)
+
+abbrev one : TypedForm → ℕ → typed.TypedInitDeclarators
+one form t = typed.AndPlain typed.NoInitDeclarator (typed.Declares form (type t))
+
+abbrev struct : TypedSpecifiers
+struct = typed.Specified (typed.AndSpecifier typed.NoSpecifier (typed.Aggregate aggregate.Struct (at 1) (Some (name (codes "S"))) (at 1)
+    (typed.AndMember typed.NoMember (ints []) (typed.AndDeclarator typed.NoDeclarator (typed.Declares (plain home.None (codes "x")) (type 5))))
+    (type 10))) (type 10)
+
+abbrev tagged : TypedSpecifiers
+tagged = typed.Specified (typed.AndSpecifier typed.NoSpecifier (typed.Tagged aggregate.Struct (at 1) (name (codes "S")) (type 10))) (type 10)
+
+abbrev x_place : TypedPlace
+x_place = typed.Variable (name (codes "x")) (node 2) (type 5)
+
+-- `&x`, as a value for `p`
+abbrev address : TypedExpr
+address = typed.Convert conversion.PointerToPointer (at 1) (type 13) (typed.AddressOf (at 1) x_place (node 6) (type 14))
+
+abbrev g_called : TypedExpr
+g_called = typed.FunctionName (name (codes "g")) 1 (node 8) (type 15)
+
+abbrev member : ℕ → TypedPlace
+member i = typed.MemberAt (typed.Read (typed.Variable (name (codes "q")) (node 1) (type 11))) (at 1) (name (codes "x")) i (node 9) (type 5)
+
+abbrev main_body : TypedBlockItems
+main_body = typed.AndStatement (typed.AndStatement (typed.AndDeclaration (typed.AndDeclaration (typed.AndDeclaration typed.NoBlockItem
+    (typed.Declare (ints (keyword.Static ∷ [])) (one (plain (home.Static (node 7)) (codes "s")) 5)))
+    (typed.Declare (ints (keyword.Extern ∷ [])) (one (plain (home.Known (node 2)) (codes "x")) 5)))
+    (typed.Declare (ints []) (one (without_parameters (codes "g")) 9)))
+    (typed.Express (typed.Call g_called (at 1) typed.NoArgument (type 5))))
+    (typed.Return (at 1) (Some (typed.Read (member 0))))
+
+abbrev g_body : TypedBlockItems
+g_body = typed.AndStatement typed.NoBlockItem (typed.Return (at 1) (Some (typed.Integer constant.Int 0 (at 1) (type 5))))
+
+abbrev main_function : DefinedFunction
+main_function = record { declarator = typed.Declares (without_parameters (codes "main")) (type 9); body = main_body }
+
+abbrev g_function : DefinedFunction
+g_function = record { declarator = typed.Declares (without_parameters (codes "g")) (type 9); body = g_body }
+
+abbrev unit : TypedTranslationUnit
+unit =
+    typed.AndFunctionBody
+    (typed.AndFunctionBody
+    (typed.AndExternal (typed.AndExternal (typed.AndExternal (typed.AndExternal (typed.AndExternal (typed.AndExternal typed.NoExternal
+    (typed.Declare tagged typed.NoInitDeclarator)) (typed.Declare tagged (one (pointed 0 (home.Static (node 1)) (codes "q")) 11)))
+    (typed.Declare struct typed.NoInitDeclarator)) (typed.Declare (ints (keyword.Static ∷ [])) (one (plain (home.Static (node 2)) (codes "x")) 5)))
+    (typed.Declare (ints (keyword.Extern ∷ [])) (one (pointed 3 (home.Static (node 4)) (codes "p")) 12)))
+    (typed.Declare (ints []) (typed.AndInitialised typed.NoInitDeclarator (typed.Declares (pointed 5 (home.Known (node 4)) (codes "p")) (type 13))
+    (at 1) (typed.Value address))))
+    (ints []) (typed.Declares (without_parameters (codes "main")) (type 9)) (at 1) main_body)
+    (ints []) (typed.Declares (without_parameters (codes "g")) (type 9)) (at 1) g_body
+
+abbrev static : Stage
+static = static_stage table unit
+
+abbrev inside : Stage
+inside = body_stage static main_function
+
+-- ten nodes are made; the objects are `q`, `x`, `p` and `s`, which all live as long as the program
+nodes-counted : static.nodes ≡ 10
+nodes-counted = refl
+
+objects-first : static.statics ≡ (node 1, type 11) ∷ (node 2, type 5) ∷ (node 4, type 12) ∷ (node 7, type 5) ∷ []
+objects-first = refl
+
+no-variable : variables_named main_function ≡ []
+no-variable = refl
+
+homes : homes_of unit ≡ 1 ∷ 2 ∷ 4 ∷ 7 ∷ []
+homes = refl
+
+-- `extern int x;` in the block is a declaration of the file's `x`, the second of its declarators
+x-ready : IsReadyPlace inside x_place
+x-ready = (
+  lit< tt,
+  (lit< tt, refl),
+  inr (record {
+    first = type 5;
+    made = (1, lit< tt, refl);
+    alike = inl refl;
+    declared = (typed.Declares (plain (home.Static (node 2)) (codes "x")) (type 5), (1, lit< tt, refl), refl, refl);
+  }),
+)
+
+-- a static local is no variable of its function
+s-ready : IsReadyPlace inside (typed.Variable (name (codes "s")) (node 7) (type 5))
+s-ready = (
+  lit< tt,
+  (lit< tt, refl),
+  inr (record {
+    first = type 5;
+    made = (3, lit< tt, refl);
+    alike = inl refl;
+    declared = (typed.Declares (plain (home.Static (node 7)) (codes "s")) (type 5), (5, lit< tt, refl), refl, refl);
+  }),
+)
+
+-- the function that is declared in the block is the unit's second
+g-ready : IsReady inside g_called
+g-ready = (
+  lit< tt,
+  record {
+    function = type 9;
+    type = (lit< tt, refl);
+    defined = g_function;
+    there = refl;
+    named = refl;
+    first = type 9;
+    alike = (inl refl, inl refl);
+    declared = (typed.Declares (without_parameters (codes "g")) (type 9), (7, lit< tt, refl), refl, refl);
+  },
+)
+
+-- the struct is complete at last, and has a member number 0
+x-member : IsMember inside (type 10) 0 (node 9) (type 5)
+x-member = record { complete = (lit< tt, refl); aggregate = refl; there = lit< tt; type = refl; part = (lit< tt, refl); node = lit< tt }
+
+-- a member of a higher number is not there
+no-member : (i : ℕ) (n : NodeId) (t : TypeId) → IsMember inside (type 10) (suc i) n t → ⊥
+no-member i n t m = let below : suc i < 1 = m.there in omega (arith, below)
+
+-- `int *p=&x;` initialises the object that `extern int *p;` made
+p-initialised : static_initialisers unit ≡ record { home = node 4; type = type 13; place = at 1; initialiser = typed.Value address } ∷ []
+p-initialised = refl
+
+abbrev IsOther : Named → Type 0
+IsOther o = o.0.0 ≢ 3
+
+-- what is no object is not ready where something runs
+none-ready : (r : IsReadyPlace inside (typed.Variable (name (codes "a")) (node 3) (type 5))) → ⊥
+none-ready r = elim r.2 [
+  | inl local ↦ let none : local.0 < 0 = local.1 in omega (arith, none)
+  | inr kept ↦ All-contains IsOther inside.statics (node 3, kept.first)
+      (All-cons IsOther (node 1, type 11) ((node 2, type 5) ∷ (node 4, type 12) ∷ (node 7, type 5) ∷ []) (omega arith)
+      (All-cons IsOther (node 2, type 5) ((node 4, type 12) ∷ (node 7, type 5) ∷ []) (omega arith)
+      (All-cons IsOther (node 4, type 12) ((node 7, type 5) ∷ []) (omega arith)
+      (All-cons IsOther (node 7, type 5) [] (omega arith) (All-nil IsOther))))) kept.made refl
+]
+
+-- `int main(void){return sizeof(int(*)(int a,int b[sizeof a]));}`: the parameter of a prototype is no object, and is named where nothing runs
+a-unread : IsReadyPlace (unread inside) (typed.Variable (name (codes "a")) (node 3) (type 5))
+a-unread = (lit< tt, (lit< tt, refl))
+
+-- the unit of `TypedRow` is well typed, so it is ready
+row-ready : IsReadyUnit TypedRow.table TypedRow.unit
+row-ready = well-typed-ready TypedRow.table TypedRow.unit TypedRow.unit-typed

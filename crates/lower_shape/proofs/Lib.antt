@@ -1,3 +1,5 @@
 pub mod Forms
 pub mod Places
 pub mod Updates
+pub mod Types
+pub mod Zeros

@@ -3,3 +3,4 @@ pub mod Places
 pub mod Updates
 pub mod Types
 pub mod Zeros
+pub mod Values

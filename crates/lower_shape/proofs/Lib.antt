@@ -4,3 +4,5 @@ pub mod Updates
 pub mod Types
 pub mod Zeros
 pub mod Values
+pub mod Comparisons
+pub mod Calls

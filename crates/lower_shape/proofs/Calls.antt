@@ -248,3 +248,35 @@ module _ (s : Stage) (f : Frame) (w : Knows s f) (b : ℕ) (kept : Typing) where
       row-line P _ (suc (suc (count l)) ≡ 1) t (typed.AndArgument (typed.AndArgument l c) a) (held_by Kc ty) p (λ n. absurd (cc (n)))
   runs P function.Malloc t l e ty small h z p = row-never P _ t (held_by Kc ty) (λ c d. d)
   runs P function.Calloc t l e ty small h z p = row-never P _ t (held_by Kc ty) (λ c d. d)
+
+  -- an allocation
+  pub allocates : (P : Form) (which : Runtime) (t : ℕ) (at : Place) (l : TypedArguments) (e : TypedExpr) (node : NodeId) (u : TypeId)
+      → suc t + count l ≤ 256
+      → IsRuntimeCallOf s.table which e l → IsNode Kc node → IsBlockType Kc u → Contains f.sites (site.Pointee node u) → AllRow Kc P (suc t) l
+      → AllLead Kc (Then P (Allocates which (count l) t node u at)) t (Some (PointerTo node u))
+  unfolding Allocates
+  allocates P function.Malloc t at (typed.AndArgument typed.NoArgument a) e node u small h here block told p =
+      row-line P (instr.Allocate (allocate.Malloc (value t) (value (suc t)) node u at)) (1 ≡ 1) t (typed.AndArgument typed.NoArgument a)
+          (Some (PointerTo node u)) p
+      (λ n U r after g. ((here, block, argument-integer unsigned_long a U (suc t) (omega (arith, small)) (h.each.0) (one-argument a t U r),
+      (omega (arith, small), g)), (told, tt)))
+  allocates P function.Calloc t at (typed.AndArgument (typed.AndArgument typed.NoArgument a) c) e node u small h here block told p =
+      row-line P (instr.Allocate (allocate.Calloc (value t) (value (suc t)) (value (suc t + 1)) node u at)) (2 ≡ 2) t
+      (typed.AndArgument (typed.AndArgument typed.NoArgument a) c) (Some (PointerTo node u)) p
+      (λ n U r after g. ((here, block, argument-integer unsigned_long a U (suc t) (omega (arith, small)) (h.each.0) (one-argument a t U r.0),
+      argument-integer unsigned_long c U (suc t + 1) (omega (arith, small)) (h.each.1.0) r.1, (omega (arith, small), g)), (told, tt)))
+  allocates P function.Malloc t at typed.NoArgument e node u small h here block told p =
+      row-line P _ (0 ≡ 1) t typed.NoArgument (Some (PointerTo node u)) p (λ n. absurd (cc (n)))
+  allocates P function.Malloc t at (typed.AndArgument (typed.AndArgument l c) a) e node u small h here block told p =
+      row-line P _ (suc (suc (count l)) ≡ 1) t (typed.AndArgument (typed.AndArgument l c) a) (Some (PointerTo node u)) p (λ n. absurd (cc (n)))
+  allocates P function.Calloc t at typed.NoArgument e node u small h here block told p =
+      row-line P _ (0 ≡ 2) t typed.NoArgument (Some (PointerTo node u)) p (λ n. absurd (cc (n)))
+  allocates P function.Calloc t at (typed.AndArgument typed.NoArgument a) e node u small h here block told p =
+      row-line P _ (1 ≡ 2) t (typed.AndArgument typed.NoArgument a) (Some (PointerTo node u)) p (λ n. absurd (cc (n)))
+  allocates P function.Calloc t at (typed.AndArgument (typed.AndArgument (typed.AndArgument l d) c) a) e node u small h here block told p =
+      row-line P _ (suc (suc (suc (count l))) ≡ 2) t (typed.AndArgument (typed.AndArgument (typed.AndArgument l d) c) a) (Some (PointerTo node u)) p
+          (λ n. absurd (cc (n)))
+  allocates P function.Getchar t at l e node u small h here block told p = row-never P _ t (Some (PointerTo node u)) (λ c d. d)
+  allocates P function.Putchar t at l e node u small h here block told p = row-never P _ t (Some (PointerTo node u)) (λ c d. d)
+  allocates P function.Exit t at l e node u small h here block told p = row-never P _ t (Some (PointerTo node u)) (λ c d. d)
+  allocates P function.Free t at l e node u small h here block told p = row-never P _ t (Some (PointerTo node u)) (λ c d. d)

@@ -6,3 +6,4 @@ pub mod Zeros
 pub mod Values
 pub mod Comparisons
 pub mod Calls
+pub mod Addresses

@@ -7,3 +7,4 @@ pub mod Values
 pub mod Comparisons
 pub mod Calls
 pub mod Addresses
+pub mod Expressions

@@ -1,37 +1,22 @@
 -- What the address of a ready place is: its nodes, and whether it is a pointer or a place.
-use Rattle.std.proofs.Common.{ℕ, ℤ, zero, suc, ◌<◌, ◌≤◌, ◌+◌, ◌≡◌, ◌⊎◌, inl, inr, refl, ap, ◌∙◌, sym, subst, Bool, true, false, List, [], ◌∷◌, ◌++◌, arith, if◌then◌else◌, Option, Some, None, IsSome, IsTrue, pos, append_assoc, map}
+use Rattle.std.proofs.Common.{ℕ, ◌≡◌, ◌⊎◌, inl, inr, sym, subst, false, List, [], ◌∷◌, ◌++◌, Option, Some, None, IsTrue, map}
 use Rattle.std.specs.List.{Contains}
-use Rattle.std.proofs.lemmas.List.{append-nil}
-use Rattle.cc_base.specs.declared.place.Place.{Place}
 use Rattle.cc_base.specs.declared.number.NodeId.{NodeId}
 use Rattle.cc_base.specs.declared.number.TypeId.{TypeId}
 use Rattle.c_types.specs.declared.shape.TypeShape.{TypeShape}
 use Rattle.c_types.specs.declared.shape.TypeShape.TheVariants as shape
 use Rattle.c_types.specs.declared.site.Site.{Site}
 use Rattle.c_types.specs.declared.site.Site.TheVariants as site
-use Rattle.c_types.specs.Table.{Table, HasShape, IsType, IsAggregate, is_aggregate_shape, shape_at, members_at}
-use Rattle.c_types.specs.Layouts.{member_at}
+use Rattle.c_types.specs.Table.{Table, is_aggregate_shape, shape_at}
 use Rattle.c_tree.specs.TypedTree as typed
 use Rattle.c_tree.specs.TypedTree.{TypedExpr, TypedPlace}
-use Rattle.c_tree.specs.TypedParts.{type_of, place_type, pointer_side}
-use Rattle.c_typing.specs.Rules as rule
-use Rattle.c_typing.specs.Rules.{is_lvalue, IsLvalue, pointer_behind, IsDecay, IsAddress}
-use Rattle.c_ready.specs.Ready.{Stage, IsWhole, IsMember, IsReadyPlace}
-use Rattle.src_mem.specs.Operations.{node_at, pointee_at}
+use Rattle.c_tree.specs.TypedParts.{place_type}
+use Rattle.c_typing.specs.Rules.{IsLvalue, pointer_behind}
+use Rattle.c_ready.specs.Ready.{Stage, IsReadyPlace}
 use Rattle.src_machine.specs.Expressions.{is_through_pointer}
-use Rattle.src_machine.specs.Sites.{address_at, addresses_at, linked_to}
-use Rattle.cil_form.specs.declared.number.Temp.{Temp}
-use Rattle.cil_form.specs.declared.number.Temp.TheVariants as temp
-use Rattle.cil_form.specs.declared.number.Object.{Object}
-use Rattle.cil_form.specs.declared.instr.Set.TheVariants as set
-use Rattle.cil_form.specs.declared.instr.Point.TheVariants as point
-use Rattle.cil_form.specs.declared.instr.Access.TheVariants as access
-use Rattle.cil_form.specs.declared.instr.Target.TheVariants as target
-use Rattle.cil_form.specs.declared.instr.Instr.{Instr}
-use Rattle.cil_form.specs.declared.instr.Instr.TheVariants as instr
-use Rattle.cil_form.specs.declared.instr.Code.{Code}
-use Rattle.cil_form.specs.Sites.{Each, AreAmong}
-use Rattle.cil_form.specs.Typing.{HeldType, IntegerOf, PointerTo, PlaceOf, Typing, Context, Includes, with_held, held_by, held_shape, Holds, HoldsAddress, HoldsArray, HoldsOf, IsScalar, IsObject, IsObjectType, IsNode, IsShaped, AreShaped}
+use Rattle.src_machine.specs.Sites.{address_at, addresses_at}
+use Rattle.cil_form.specs.Sites.{AreAmong}
+use Rattle.cil_form.specs.Typing.{HeldType, PointerTo, PlaceOf}
 use Rattle.lower_shape.proofs.Places.{IsAddressOf}
 
 -- membership
@@ -147,4 +132,3 @@ array-node s (typed.MemberAt e at name j m u) n r a i = in-one n (address_at s.t
 array-node s (typed.StructAssign p at q) n r a i = absurd (no-array (shape_at s.table (place_type p)) a.0 a.1 a.2 r.4)
 array-node s (typed.StructConditional c at p q) n r a i = absurd (no-array (shape_at s.table (place_type p)) a.0 a.1 a.2 r.5)
 array-node s (typed.StructComma e p) n r a i = absurd (no-array (shape_at s.table (place_type p)) a.0 a.1 a.2 r.3)
-

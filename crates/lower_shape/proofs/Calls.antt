@@ -1,64 +1,37 @@
 -- Arguments and calls.
-use Rattle.std.proofs.Common.{ℕ, ℤ, zero, suc, ◌<◌, ◌≤◌, ◌+◌, ◌≡◌, ◌⊎◌, inl, inr, refl, ap, ◌∙◌, sym, subst, Bool, true, false, List, [], ◌∷◌, ◌++◌, arith, if◌then◌else◌, Option, Some, None, IsSome, IsTrue, pos, append_assoc, length, slice_get}
+use Rattle.std.proofs.Common.{ℕ, zero, suc, ◌<◌, ◌≤◌, ◌+◌, ◌≡◌, ◌⊎◌, inl, inr, refl, ap, ◌∙◌, sym, subst, List, [], ◌∷◌, ◌++◌, arith, Option, Some, None, IsSome, IsTrue, append_assoc, length, slice_get}
 use Rattle.std.specs.List.{Contains, AllZip}
-use Rattle.std.proofs.lemmas.List.{append-nil}
-use Rattle.std.proofs.lemmas.Bool.Decides.{nat_tests}
-use Rattle.std.proofs.Common.{◌==◌}
 use Rattle.cc_base.specs.declared.place.Place.{Place}
 use Rattle.cc_base.specs.declared.number.NodeId.{NodeId}
 use Rattle.cc_base.specs.declared.number.TypeId.{TypeId}
-use Rattle.c_types.specs.declared.shape.TypeShape.{TypeShape}
-use Rattle.c_types.specs.declared.shape.TypeShape.TheVariants as shape
-use Rattle.c_types.specs.declared.site.Site.{Site}
 use Rattle.c_types.specs.declared.site.Site.TheVariants as site
-use Rattle.c_types.specs.Table.{Table, HasShape, IsType, IsAggregate, shape_at}
-use Rattle.integers.specs.Arithmetic.{IntegerType, int, long, unsigned_long, converted}
-use Rattle.c_tree.specs.declared.operator.Assignment.{Assignment}
-use Rattle.c_tree.specs.declared.operator.Assignment.TheVariants as assignment
-use Rattle.c_tree.specs.declared.operator.Step.{Step}
-use Rattle.c_tree.specs.declared.operator.Step.TheVariants as step
-use Rattle.c_tree.specs.declared.operator.Binary.TheVariants as binary
+use Rattle.c_types.specs.Table.{shape_at}
+use Rattle.integers.specs.Arithmetic.{IntegerType, int, unsigned_long}
 use Rattle.c_tree.specs.declared.typed_word.Runtime.{Runtime}
 use Rattle.c_tree.specs.declared.typed_word.Runtime.TheVariants as function
 use Rattle.c_tree.specs.TypedTree as typed
 use Rattle.c_tree.specs.TypedTree.{TypedExpr, TypedArguments}
 use Rattle.c_tree.specs.TypedParts.{type_of}
 use Rattle.c_typing.specs.Shapes.{IsIntegerType, is_scalar_shape}
-use Rattle.c_typing.specs.Integers as integers
-use Rattle.c_typing.specs.Integers.{assigning}
-use Rattle.c_typing.specs.Rules as rule
-use Rattle.c_typing.specs.Rules.{IsArgument, listed_arguments, IsCall, IsRuntimeCall, IsRuntimeArgument, IsRuntimeCallOf}
-use Rattle.c_ready.specs.Ready.{Stage, IsPointerToWhole, IsStepped, IsWhole}
+use Rattle.c_typing.specs.Rules.{IsArgument, listed_arguments, IsCall, IsRuntimeCall, IsRuntimeCallOf}
+use Rattle.c_ready.specs.Ready.{Stage}
 use Rattle.c_ready.proofs.Contexts.{context_of}
 use Rattle.c_ready.proofs.Suits.{converted-suits}
-use Rattle.src_machine.specs.Expressions.{is_pointer_shape, same_type}
-use Rattle.src_mem.specs.Operations.{node_at, pointee_at}
-use Rattle.cil_form.specs.declared.number.Temp.{Temp}
 use Rattle.cil_form.specs.declared.number.Temp.TheVariants as temp
-use Rattle.cil_form.specs.declared.instr.Operator.{Operator}
-use Rattle.cil_form.specs.declared.instr.Set.TheVariants as set
-use Rattle.cil_form.specs.declared.instr.Calculate.TheVariants as calculate
-use Rattle.cil_form.specs.declared.instr.Point.TheVariants as point
-use Rattle.cil_form.specs.declared.instr.Convert.TheVariants as convert
-use Rattle.cil_form.specs.declared.instr.Access.TheVariants as access
-use Rattle.cil_form.specs.declared.instr.Target.TheVariants as target
 use Rattle.cil_form.specs.declared.instr.Allocate.TheVariants as allocate
 use Rattle.cil_form.specs.declared.instr.RuntimeCall.TheVariants as runtime
 use Rattle.cil_form.specs.declared.instr.Instr.{Instr}
 use Rattle.cil_form.specs.declared.instr.Instr.TheVariants as instr
-use Rattle.cil_form.specs.Laws.{IsBelow}
-use Rattle.cil_form.specs.Sites.{Each, AreAmong}
-use Rattle.cil_form.specs.Typing.{HeldType, IntegerOf, PointerTo, PlaceOf, Typing, Context, Includes, with_held, held_by, held_shape, Holds, HoldsOf, HoldsScalar, IsScalar, IsTemp, IsObjectType, IsNode, IsRightOperand, result_type, AreShaped, AreArguments, IsBlockType}
+use Rattle.cil_form.specs.Typing.{HeldType, IntegerOf, PointerTo, Typing, Context, held_by, held_shape, Holds, IsNode, AreShaped, AreArguments, IsBlockType}
 use Rattle.lower_rules.specs.Pieces.{Form, Line, Then, When}
 use Rattle.lower_rules.specs.Words.{value, RunsRuntime, Allocates}
 use Rattle.lower_rules.specs.Expressions.{count}
 use Rattle.lower_shape.specs.Stands.{Frame, stand, Knows}
 use Rattle.c_typing.specs.Rules.{IsFreed}
 use Rattle.c_tree.specs.TypedParts.{first_place}
-use Rattle.runtime_calls.specs.Prototypes.{prototype_of}
 use Rattle.c_typing.specs.Constants.{is_null_constant}
 use Rattle.lower_shape.proofs.Forms.{Agrees, agrees-then, agrees-lower, agrees-same, IsHeld, Leads, AllLead, Asks, head, of-type, scalar-held, all-as}
-use Rattle.lower_shape.proofs.Types.{integer-held, pointer-held, scalar-some}
+use Rattle.lower_shape.proofs.Types.{integer-held, scalar-some}
 use Rattle.lower_shape.proofs.Updates.{as-integer, as-pointer}
 
 -- what is known of the values of arguments, from number v on
@@ -78,9 +51,11 @@ agrees-less m n T U l h (temp.Work w) p = absurd p
 
 row-kept : (k : Context) (U V : Typing) (v : ℕ) (l : TypedArguments) → Agrees (v + count l) U V → Row k U v l → Row k V v l
 row-kept k U V v typed.NoArgument a h = tt
-row-kept k U V v (typed.AndArgument all e) a h =
-    (row-kept k U V v all (agrees-less (v + count all) (v + suc (count all)) U V (omega arith) a) h.0, subst (λ z. IsHeld (held_by k (type_of e)) z)
-        (sym (a (value (v + count all)) (omega arith))) h.1)
+row-kept k U V v (typed.AndArgument all e) a h = (
+  row-kept k U V v all (agrees-less (v + count all) (v + suc (count all)) U V (omega arith) a) h.0,
+  subst (λ z. IsHeld (held_by k (type_of e)) z)
+      (sym (a (value (v + count all)) (omega arith))) h.1,
+)
 
 -- all code of the form does
 abbrev pub AllRow : Context → Form → ℕ → TypedArguments → Type 0
@@ -94,7 +69,7 @@ pub more-row : (k : Context) (x y : List Instr) (v : ℕ) (all : TypedArguments)
 more-row k x y v all e h l T final rest next =
     subst (λ c. AreShaped c k T final) (sym (append_assoc x y rest))
     (h T final (y ++ rest) (λ U a r. l U final rest
-        (λ V b p. next V (agrees-then v T U V a (agrees-less v (v + count all) U V (omega arith) b)) (row-kept k U V v all b r, p))))
+    (λ V b p. next V (agrees-then v T U V a (agrees-less v (v + count all) U V (omega arith) b)) (row-kept k U V v all b r, p))))
 
 snoc : {X : Type 0} (xs : List X) (x y : X) (i : ℕ) → slice_get (xs ++ x ∷ []) i ≡ Some y → (slice_get xs i ≡ Some y) ⊎ ((i ≡ length xs) × (x ≡ y))
 snoc [] x y zero h = inr (refl, some-same x y h)
@@ -117,9 +92,12 @@ row-of : (k : Context) (U : Typing) (v : ℕ) (l : TypedArguments) (i : ℕ) (e 
     → (i < count l) × IsHeld (held_by k (type_of e)) (U (value (v + i)))
 row-of k U v typed.NoArgument i e h g = absurd (cc (g))
 row-of k U v (typed.AndArgument all d) i e h g = elim (snoc (listed_arguments all) d e i g) [
-    inl q ↦ (let r = row-of k U v all i e h.0 q in (omega (arith, r.0), r.1))
-  | inr q ↦ (omega (arith, q.0, count-listed all), subst (λ z. IsHeld (held_by k (type_of z)) (U (value (v + i)))) q.1
-      (subst (λ z. IsHeld (held_by k (type_of d)) (U (value (v + z)))) (count-listed all ∙ sym q.0) h.1))
+  | inl q ↦ (let r = row-of k U v all i e h.0 q in (omega (arith, r.0), r.1))
+  | inr q ↦ (
+    omega (arith, q.0, count-listed all),
+    subst (λ z. IsHeld (held_by k (type_of z)) (U (value (v + i)))) q.1
+        (subst (λ z. IsHeld (held_by k (type_of d)) (U (value (v + z)))) (count-listed all ∙ sym q.0) h.1),
+  )
 ]
 
 zipped : {A B : Type 0} (R : A → B → Type 0) (xs : List A) (ys : List B) → AllZip R xs ys → (i : ℕ) (x : A) → slice_get xs i ≡ Some x → (y : B)
@@ -149,25 +127,34 @@ module _ (s : Stage) (f : Frame) (w : Knows s f) (b : ℕ) (kept : Typing) where
       let stored = (converted-suits (context_of s []) (first_place z.0) p z.0 z.2).1 in
       let r = row-of Kc U v l i z.0 row z.1 in
       of-type Kc p (v + i) U (omega (arith, small, r.0)) (stored.1, scalar-some (shape_at s.table p) stored.2)
-          (subst (λ t. IsHeld (held_by Kc t) (U (value (v + i)))) stored.0 r.1)
+      (subst (λ t. IsHeld (held_by Kc t) (U (value (v + i)))) stored.0 r.1)
 
   pub calls : (P Q : Form) (t : ℕ) (at : Place) (e : TypedExpr) (l : TypedArguments) (ty : TypeId) → suc t + count l ≤ 256 → t < 256
       → IsCall s.table e l ty → IsSome f.result
       → AllLead Kc P t (held_by Kc (type_of e)) → AllRow Kc Q (suc t) l
       → AllLead Kc (Then P (Then Q (Line
-          (instr.Call (record { into = value t; callee = value t; ty = type_of e; first = suc t; count = count l; place = at }) ∷ [])))) t
-        (held_by Kc ty)
+      (instr.Call (record { into = value t; callee = value t; ty = type_of e; first = suc t; count = count l; place = at }) ∷ [])))) t
+      (held_by Kc ty)
   unfolding Then Line
   calls P Q t at e l ty small first h inside p q c d T final rest next =
       subst (λ z. AreShaped (z ++ rest) Kc T final) (sym (d.4 ∙ ap (λ z. d.0 ++ z) (d.3.4 ∙ ap (λ z. d.3.0 ++ z) d.3.3)))
       (subst (λ z. AreShaped z Kc T final) (sym (append_assoc d.0 (d.3.0 ++ C ∷ []) rest ∙ ap (λ z. d.0 ++ z) (append_assoc d.3.0 (C ∷ []) rest)))
       (p d.0 d.2 T final (d.3.0 ++ (C ∷ rest)) (λ U a g. q d.3.0 d.3.2 U final (C ∷ rest) (λ V c r.
       head Kc C t (held_by Kc ty) T V final rest (agrees-then t T U V a (agrees-lower t U V c))
-      (λ after z. (h.pointer.type.0, h.function, h.parameters, ty, h.pointer.type.1, h.shape.1,
-      count-listed l ∙ sym (zip-length (IsArgument s.table) h.parameters (listed_arguments l) h.each), inside,
-      as-pointer Kc (h.pointer.type.0) h.function (type_of e) t V first h.pointer.type.1
-          (subst (λ z. IsHeld (held_by Kc (type_of e)) z) (sym (c (value t) (omega arith))) g),
-      arguments-held V (suc t) l h.parameters small h.each r, (first, z))) next))))
+      (λ after z. (
+        h.pointer.type.0,
+        h.function,
+        h.parameters,
+        ty,
+        h.pointer.type.1,
+        h.shape.1,
+        count-listed l ∙ sym (zip-length (IsArgument s.table) h.parameters (listed_arguments l) h.each),
+        inside,
+        as-pointer Kc (h.pointer.type.0) h.function (type_of e) t V first h.pointer.type.1
+            (subst (λ z. IsHeld (held_by Kc (type_of e)) z) (sym (c (value t) (omega arith))) g),
+        arguments-held V (suc t) l h.parameters small h.each r,
+        (first, z),
+      )) next))))
     where
       C : Instr
       C = instr.Call (record { into = value t; callee = value t; ty = type_of e; first = suc t; count = count l; place = at })
@@ -185,7 +172,7 @@ module _ (s : Stage) (f : Frame) (w : Knows s f) (b : ℕ) (kept : Typing) where
       → Holds U (value v) (IntegerOf i)
   argument-integer i e U v small (t, h, g) r =
       as-integer Kc i t v U small h (subst (λ z. IsHeld (held_by Kc z) (U (value v)))
-          ((converted-suits (context_of s []) (first_place e) t e g).1.0) r)
+      ((converted-suits (context_of s []) (first_place e) t e g).1.0) r)
 
   -- an instruction behind arguments
   row-line : (P : Form) (i : Instr) (A : Type 0) (t : ℕ) (l : TypedArguments) (R : Option HeldType) → AllRow Kc P (suc t) l
@@ -215,26 +202,28 @@ module _ (s : Stage) (f : Frame) (w : Knows s f) (b : ℕ) (kept : Typing) where
       (row-line P (instr.Runtime (runtime.Getchar (value t))) (count l ≡ 0) t l (Some (IntegerOf int)) p (λ n U r after g. (omega (arith, small), g)))
   runs P function.Putchar t (typed.AndArgument typed.NoArgument a) e ty small h z p =
       all-as Kc (Then P (When (1 ≡ 1) (Line (instr.Runtime (runtime.Putchar (value t) (value (suc t))) ∷ [])))) t (Some (IntegerOf int))
-          (held_by Kc ty)
+      (held_by Kc ty)
       (sym (integer-held (shape_at s.table ty) int h.result.1))
       (row-line P (instr.Runtime (runtime.Putchar (value t) (value (suc t)))) (1 ≡ 1) t (typed.AndArgument typed.NoArgument a)
-          (Some (IntegerOf int)) p
+      (Some (IntegerOf int)) p
       (λ n U r after g. (argument-integer int a U (suc t) small (h.call.each.0) (one-argument a t U r), (omega (arith, small), g))))
   runs P function.Exit t (typed.AndArgument typed.NoArgument a) e ty small h z p =
       all-as Kc (Then P (When (1 ≡ 1) (Line (instr.Runtime (runtime.Exit (value t) (value (suc t))) ∷ [])))) t None (held_by Kc ty)
-          (sym (ap held_shape h.result.1))
+      (sym (ap held_shape h.result.1))
       (row-line P (instr.Runtime (runtime.Exit (value t) (value (suc t)))) (1 ≡ 1) t (typed.AndArgument typed.NoArgument a) None p
       (λ n U r after g. (argument-integer int a U (suc t) small (h.call.each.0) (one-argument a t U r), (omega (arith, small), g))))
   runs P function.Free t (typed.AndArgument typed.NoArgument a) e ty small h z p =
       all-as Kc (Then P (When (1 ≡ 1) (Line (instr.Runtime (runtime.Free (value t) (value (suc t))) ∷ [])))) t None (held_by Kc ty)
-          (sym (ap held_shape h.result.1))
+      (sym (ap held_shape h.result.1))
       (row-line P (instr.Runtime (runtime.Free (value t) (value (suc t)))) (1 ≡ 1) t (typed.AndArgument typed.NoArgument a) None p
-      (λ n U r after g. (scalar-held (held_by Kc (type_of a)) (suc t) U small (freed h.call.each.0) (one-argument a t U r),
-          (omega (arith, small), g))))
+      (λ n U r after g. (
+        scalar-held (held_by Kc (type_of a)) (suc t) U small (freed h.call.each.0) (one-argument a t U r),
+        (omega (arith, small), g),
+      )))
     where
       freed : IsFreed s.table a → IsSome (held_by Kc (type_of a))
       freed q = elim q.type [
-          inl g ↦ scalar-some (shape_at s.table (type_of a)) (ap is_scalar_shape g.1.1.1)
+        | inl g ↦ scalar-some (shape_at s.table (type_of a)) (ap is_scalar_shape g.1.1.1)
         | inr g ↦ scalar-some (shape_at s.table (type_of a)) (z g)
       ]
   runs P function.Putchar t typed.NoArgument e ty small h z p = row-line P _ (0 ≡ 1) t typed.NoArgument (held_by Kc ty) p (λ n. absurd (cc (n)))
@@ -257,14 +246,29 @@ module _ (s : Stage) (f : Frame) (w : Knows s f) (b : ℕ) (kept : Typing) where
   unfolding Allocates
   allocates P function.Malloc t at (typed.AndArgument typed.NoArgument a) e node u small h here block told p =
       row-line P (instr.Allocate (allocate.Malloc (value t) (value (suc t)) node u at)) (1 ≡ 1) t (typed.AndArgument typed.NoArgument a)
-          (Some (PointerTo node u)) p
-      (λ n U r after g. ((here, block, argument-integer unsigned_long a U (suc t) (omega (arith, small)) (h.each.0) (one-argument a t U r),
-      (omega (arith, small), g)), (told, tt)))
+      (Some (PointerTo node u)) p
+      (λ n U r after g. (
+        (
+          here,
+          block,
+          argument-integer unsigned_long a U (suc t) (omega (arith, small)) (h.each.0) (one-argument a t U r),
+          (omega (arith, small), g),
+        ),
+        (told, tt),
+      ))
   allocates P function.Calloc t at (typed.AndArgument (typed.AndArgument typed.NoArgument a) c) e node u small h here block told p =
       row-line P (instr.Allocate (allocate.Calloc (value t) (value (suc t)) (value (suc t + 1)) node u at)) (2 ≡ 2) t
       (typed.AndArgument (typed.AndArgument typed.NoArgument a) c) (Some (PointerTo node u)) p
-      (λ n U r after g. ((here, block, argument-integer unsigned_long a U (suc t) (omega (arith, small)) (h.each.0) (one-argument a t U r.0),
-      argument-integer unsigned_long c U (suc t + 1) (omega (arith, small)) (h.each.1.0) r.1, (omega (arith, small), g)), (told, tt)))
+      (λ n U r after g. (
+        (
+          here,
+          block,
+          argument-integer unsigned_long a U (suc t) (omega (arith, small)) (h.each.0) (one-argument a t U r.0),
+          argument-integer unsigned_long c U (suc t + 1) (omega (arith, small)) (h.each.1.0) r.1,
+          (omega (arith, small), g),
+        ),
+        (told, tt),
+      ))
   allocates P function.Malloc t at typed.NoArgument e node u small h here block told p =
       row-line P _ (0 ≡ 1) t typed.NoArgument (Some (PointerTo node u)) p (λ n. absurd (cc (n)))
   allocates P function.Malloc t at (typed.AndArgument (typed.AndArgument l c) a) e node u small h here block told p =
@@ -275,7 +279,7 @@ module _ (s : Stage) (f : Frame) (w : Knows s f) (b : ℕ) (kept : Typing) where
       row-line P _ (1 ≡ 2) t (typed.AndArgument typed.NoArgument a) (Some (PointerTo node u)) p (λ n. absurd (cc (n)))
   allocates P function.Calloc t at (typed.AndArgument (typed.AndArgument (typed.AndArgument l d) c) a) e node u small h here block told p =
       row-line P _ (suc (suc (suc (count l))) ≡ 2) t (typed.AndArgument (typed.AndArgument (typed.AndArgument l d) c) a) (Some (PointerTo node u)) p
-          (λ n. absurd (cc (n)))
+      (λ n. absurd (cc (n)))
   allocates P function.Getchar t at l e node u small h here block told p = row-never P _ t (Some (PointerTo node u)) (λ c d. d)
   allocates P function.Putchar t at l e node u small h here block told p = row-never P _ t (Some (PointerTo node u)) (λ c d. d)
   allocates P function.Exit t at l e node u small h here block told p = row-never P _ t (Some (PointerTo node u)) (λ c d. d)

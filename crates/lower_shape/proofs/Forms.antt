@@ -1,17 +1,16 @@
 -- Forms of code that is in shape: what is known behind it.
-use Rattle.std.proofs.Common.{ℕ, zero, suc, ◌<◌, ◌≤◌, ◌+◌, ◌≡◌, ◌⊎◌, inl, inr, refl, ap, ◌∙◌, sym, subst, Bool, true, false, List, [], ◌∷◌, ◌++◌, arith, nat_eq, nat_lt, if◌then◌else◌, Option, Some, None, IsSome, length, append_assoc}
+use Rattle.std.proofs.Common.{ℕ, suc, ◌<◌, ◌≡◌, refl, ap, ◌∙◌, sym, subst, Bool, true, false, List, [], ◌∷◌, ◌++◌, arith, nat_eq, nat_lt, if◌then◌else◌, Option, Some, None, IsSome, append_assoc}
 use Rattle.std.proofs.lemmas.Bool.Decides.{nat_tests}
 use Rattle.std.proofs.lemmas.List.{append-nil}
 use Rattle.cc_base.specs.declared.number.NodeId.{NodeId}
 use Rattle.cc_base.specs.declared.number.TypeId.{TypeId}
 use Rattle.cil_form.specs.declared.number.Temp.{Temp}
 use Rattle.cil_form.specs.declared.number.Temp.TheVariants as temp
-use Rattle.cil_form.specs.declared.instr.Instr.{Instr, Row_of-Instr, end_of-Instr, more_of-Instr}
+use Rattle.cil_form.specs.declared.instr.Instr.{Instr}
 use Rattle.cil_form.specs.declared.instr.Instr.TheVariants as instr
-use Rattle.cil_form.specs.declared.instr.Instr.TheBlock.{hidden-the_row-Instr-0, items-the_row-Instr, items_hidden-the_row-Instr-0}
 use Rattle.cil_form.specs.declared.instr.Code.{Code}
 use Rattle.cil_form.specs.Laws.{IsBelow}
-use Rattle.cil_form.specs.Typing.{HeldType, IntegerOf, PointerTo, PlaceOf, Typing, Context, Includes, with_held, held_by, Holds, HoldsScalar, HoldsOf, HoldsAddress, IsScalar, IsShaped, IsRowShaped, AreShaped}
+use Rattle.cil_form.specs.Typing.{HeldType, Typing, Context, Includes, with_held, held_by, HoldsScalar, HoldsOf, IsScalar, IsShaped, AreShaped}
 use Rattle.cil_form.proofs.TypingLaws.{held-shaped}
 use Rattle.lower_rules.specs.declared.after.After.{After}
 use Rattle.lower_rules.specs.Pieces.{Form, Line, Then, Choice, Never}

@@ -1,5 +1,5 @@
 -- Forms of places that are in shape: what is known of the address, and what comes after.
-use Rattle.std.proofs.Common.{ℕ, suc, ◌<◌, ◌≡◌, ◌⊎◌, inl, inr, refl, ap, ◌∙◌, sym, subst, List, [], ◌∷◌, ◌++◌, arith, Option, Some, None, IsSome, append_assoc}
+use Rattle.std.proofs.Common.{ℕ, suc, ◌<◌, ◌≡◌, ◌⊎◌, inl, inr, ap, ◌∙◌, sym, subst, List, [], ◌∷◌, ◌++◌, arith, Option, Some, None, IsSome, append_assoc}
 use Rattle.std.specs.List.{Contains}
 use Rattle.std.proofs.lemmas.List.{append-nil}
 use Rattle.cc_base.specs.declared.place.Place.{Place}
@@ -18,7 +18,7 @@ use Rattle.cil_form.proofs.TypingLaws.{includes-all, held-shaped}
 use Rattle.lower_rules.specs.declared.after.After.TheVariants as after
 use Rattle.lower_rules.specs.Pieces.{Form, Line, Then, Choice}
 use Rattle.lower_rules.specs.Words.{value, store_code, Follows}
-use Rattle.lower_shape.proofs.Forms.{Agrees, agrees-then, agrees-lower, IsHeld, is-held, held-as, AllLead, Carries, Asks, head, behind, behind-agrees, behind-same, behind-known, scalar-held}
+use Rattle.lower_shape.proofs.Forms.{Agrees, agrees-then, agrees-lower, IsHeld, is-held, held-as, AllLead, Carries, head, behind, behind-agrees, behind-same, behind-known, scalar-held}
 
 -- Behind the code x is known of value j, and below it what S knows: whatever follows is in shape where that is known.
 abbrev pub Ends : Context → ℕ → Option HeldType → Typing → List Instr → Typing → Type 0

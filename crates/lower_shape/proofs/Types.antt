@@ -1,11 +1,11 @@
 -- What values of a type are held as.
-use Rattle.std.proofs.Common.{ℕ, ℤ, zero, suc, ◌<◌, ◌≤◌, ◌+◌, ◌-◌, ◌*◌, ◌^◌, ◌≡◌, ◌⊎◌, inl, inr, refl, ap, ◌∙◌, sym, subst, Bool, true, false, List, [], ◌∷◌, ◌++◌, arith, nat_eq, nat_lt, if◌then◌else◌, Option, Some, None, IsSome, IsTrue, pos, negsuc, rules}
+use Rattle.std.proofs.Common.{ℕ, ℤ, ◌<◌, ◌-◌, ◌^◌, ◌≡◌, refl, ap, sym, subst, Bool, true, false, arith, nat_lt, if◌then◌else◌, Some, IsSome, pos, negsuc, rules}
 use Rattle.cc_base.specs.declared.place.Place.{Place}
 use Rattle.cc_base.specs.declared.number.NodeId.{NodeId}
 use Rattle.cc_base.specs.declared.number.TypeId.{TypeId}
 use Rattle.c_types.specs.declared.shape.TypeShape.{TypeShape}
 use Rattle.c_types.specs.declared.shape.TypeShape.TheVariants.{Void, Integer, Pointer, Array, Function, Struct, Union}
-use Rattle.c_types.specs.Table.{Table, HasShape, IsType, shape_at}
+use Rattle.c_types.specs.Table.{Table, shape_at}
 use Rattle.integers.specs.Arithmetic.{IntegerType, converted, bits_of}
 use Rattle.integers.specs.Words.{residue, signed_of, as_signed, as_unsigned}
 use Rattle.integers.proofs.WordLaws.{residue-below, residue-small, residue-twice}
@@ -14,16 +14,14 @@ use Rattle.c_tree.specs.declared.operator.Binary.TheVariants as binary
 use Rattle.c_tree.specs.TypedTree as typed
 use Rattle.c_tree.specs.TypedTree.{TypedExpr}
 use Rattle.c_tree.specs.TypedParts.{type_of, is_null}
-use Rattle.c_typing.specs.Shapes.{IsIntegerType, integer_at, is_scalar_shape, is_void_shape}
-use Rattle.c_typing.specs.Shapes as typing
-use Rattle.c_typing.specs.Conversions.{IsOperand, IsPlain, bare}
+use Rattle.c_typing.specs.Shapes.{IsIntegerType, is_scalar_shape}
+use Rattle.c_typing.specs.Conversions.{IsOperand, IsPlain}
 use Rattle.c_typing.specs.Integers as integers
-use Rattle.c_typing.specs.Rules.{Meeting, BothPoint, NeverMeet, RightIsNull, LeftIsNull, meeting_of, meeting_pointee}
-use Rattle.c_ready.proofs.Suits.{integer-from, operand-type, scalar-in}
+use Rattle.c_typing.specs.Rules.{BothPoint, meeting_of}
+use Rattle.c_ready.proofs.Suits.{operand-type}
 use Rattle.src_mem.specs.Operations.{node_of_shape, pointee_of_shape, node_at, pointee_at, integer_of_shape}
 use Rattle.cil_form.specs.declared.number.Temp.{Temp}
-use Rattle.cil_form.specs.declared.instr.Operator.{Operator}
-use Rattle.cil_form.specs.Typing.{HeldType, IntegerOf, PointerTo, PlaceOf, Typing, Context, held_shape, Holds, HoldsInteger, IsRightOperand, result_type}
+use Rattle.cil_form.specs.Typing.{IntegerOf, PointerTo, Typing, held_shape, Holds, IsRightOperand, result_type}
 use Rattle.lower_rules.specs.Words.{lowered}
 
 power-some : (n : ℕ) → 0 < 2 ^ n
@@ -44,6 +42,7 @@ converted-twice i z = by i.signed
   where
     below : residue z (2 ^ bits_of i) < 2 ^ bits_of i
     below = residue-below z (2 ^ bits_of i) (power-some (bits_of i))
+
     by : (s : Bool) → (if s then as_signed (bits_of i) (if s then as_signed (bits_of i) z else as_unsigned (bits_of i) z) else as_unsigned (bits_of i)
         (if s then as_signed (bits_of i) z else as_unsigned (bits_of i) z))
         ≡ (if s then as_signed (bits_of i) z else as_unsigned (bits_of i) z)

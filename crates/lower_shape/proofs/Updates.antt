@@ -6,7 +6,6 @@ use Rattle.cc_base.specs.declared.place.Place.{Place}
 use Rattle.cc_base.specs.declared.number.NodeId.{NodeId}
 use Rattle.cc_base.specs.declared.number.TypeId.{TypeId}
 use Rattle.c_types.specs.declared.site.Site.TheVariants as site
-use Rattle.c_types.specs.Table.{shape_at}
 use Rattle.integers.specs.Arithmetic as integer
 use Rattle.integers.specs.Arithmetic.{IntegerType, converted}
 use Rattle.c_tree.specs.declared.operator.Assignment.{Assignment}
@@ -28,7 +27,7 @@ use Rattle.cil_form.specs.declared.instr.Instr.TheVariants as instr
 use Rattle.cil_form.specs.Typing.{HeldType, IntegerOf, PointerTo, Typing, Context, Includes, with_held, held_by, held_shape, Holds, IsTemp, IsInteger, IsPointer, IsScalar, IsNode, IsObjectType, IsRightOperand, result_type, AreShaped}
 use Rattle.cil_form.proofs.TypingLaws.{includes-all}
 use Rattle.lower_rules.specs.Pieces.{Form, Line, Then}
-use Rattle.lower_rules.specs.Words.{value, work, int, lowered_step, lowered_assignment, direction_of, convert_code, update_code, step_code, store_code, stepping, updating, step_result}
+use Rattle.lower_rules.specs.Words.{value, work, int, lowered_step, lowered_assignment, direction_of, convert_code, update_code, step_code, stepping, updating, step_result}
 use Rattle.lower_shape.proofs.Forms.{Agrees, agrees-then, agrees-lower, agrees-same, with-agrees, with-same, IsHeld, is-held, held-as, AllLead, Carries, head}
 use Rattle.lower_shape.proofs.Places.{IsAddressOf, holds-address, address-kept, sets, effects, copied}
 

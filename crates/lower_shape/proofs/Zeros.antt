@@ -1,5 +1,5 @@
 -- A null constant is an integer or a pointer.
-use Rattle.std.proofs.Common.{ℕ, ℤ, ◌≡◌, ◌⊎◌, inl, inr, refl, ap, ◌∙◌, sym, subst, Bool, true, false, ◌&&◌, ◌||◌, Option, Some, None, IsSome, IsTrue}
+use Rattle.std.proofs.Common.{ℤ, ◌≡◌, ◌⊎◌, inl, inr, refl, ap, sym, subst, Bool, true, false, ◌&&◌, ◌||◌, Option, Some, None, IsSome, IsTrue}
 use Rattle.c_types.specs.declared.shape.TypeShape.{TypeShape}
 use Rattle.c_types.specs.declared.shape.TypeShape.TheVariants as shape
 use Rattle.c_types.specs.Table.{Table, shape_at}
@@ -60,6 +60,7 @@ constant-scalar s (typed.Conditional c at a b t) (rc, ra, rb, (condition, inr v)
   where
     some : (o : Option ℤ) (z : ℤ) → o ≡ Some z → IsSome o
     some o z e = subst (λ x. IsSome x) (sym e) refl
+
     no-void : (x : TypeShape) → x ≡ shape.Void → IsTrue (is_scalar_shape x) → ⊥
     no-void x e g = absurd (cc (g, e))
 constant-scalar s e r h = absurd (cc (h))
@@ -89,6 +90,6 @@ or-cases false b h = inr h
 pub null-scalar : (s : Stage) (e : TypedExpr) → IsReady s e → IsTrue (is_null_constant s.table e)
     → IsTrue (is_scalar_shape (shape_at s.table (type_of e)))
 null-scalar s e r h = elim (or-cases (is_zero_constant s.table e) (is_cast_zero s.table e) h) [
-    inl g ↦ constant-scalar s e r (zero-some (constant_value s.table e) g)
+  | inl g ↦ constant-scalar s e r (zero-some (constant_value s.table e) g)
   | inr g ↦ cast-scalar s.table e g
 ]

@@ -1,16 +1,15 @@
 -- What code stands in, by what its tree stands in.
-use Rattle.std.specs.Prelude.{◌≡◌, ◌⊎◌, ℕ, ◌<◌, Bool, true, false, List, [], ◌∷◌, map, slice_get, Option, Some, None, IsSome, IsTrue}
+use Rattle.std.specs.Prelude.{◌≡◌, ℕ, ◌<◌, true, false, List, map, slice_get, Option, Some, IsSome, IsTrue}
 use Rattle.std.specs.List.{Contains}
 use Rattle.cc_base.specs.declared.number.NodeId.{NodeId}
 use Rattle.cc_base.specs.declared.number.TypeId.{TypeId}
 use Rattle.c_types.specs.declared.shape.TypeShape.TheVariants as shape
 use Rattle.c_types.specs.declared.site.Site.{Site}
 use Rattle.c_types.specs.declared.site.Site.TheVariants as site
-use Rattle.c_types.specs.Table.{Table, HasShape}
+use Rattle.c_types.specs.Table.{HasShape}
 use Rattle.c_types.specs.Equality.{physically_equal}
 use Rattle.c_types.specs.Sameness.{IsSameType}
 use Rattle.c_tree.specs.declared.leaf.Identifier.{Identifier}
-use Rattle.c_tree.specs.TypedTree.{TypedExpr, TypedPlace, TypedArguments}
 use Rattle.src_mem.specs.Memory.{Planned}
 use Rattle.integers.specs.Arithmetic.{IntegerType, converted}
 use Rattle.std.specs.Prelude.{pos}
@@ -60,7 +59,7 @@ pub record Knows (s : Stage) (f : Frame) : Type 0 where
       → IsObject (stand s f 0 no_types) o home t
   pub functions : (name : Identifier) (number : ℕ) (n : NodeId) (t : TypeId) (named : IsFunctionNamed s name number n t)
       → (v : TypeId) × (slice_get f.functions number ≡ Some v) × ArePhysicallyEqual (stand s f 0 no_types) named.function v
-          × AreDeclaredAlike f.sites named.function v
+      × AreDeclaredAlike f.sites named.function v
   pub same : (t u : TypeId) → IsSameType s.table t u → IsTrue (physically_equal s.table t u)
   pub nodes : (t : TypeId) (n : NodeId) (u : TypeId) → HasShape s.table t (shape.Pointer n u) → n.0 < s.nodes
   -- the table begins with the basic types

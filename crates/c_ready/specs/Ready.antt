@@ -434,6 +434,7 @@ parameters_listed (typed.Declares form t) = parameters_in_form form typed.NoPara
 -- a function: its type is that of its parameters, which are scalars, and of its result
 pub record IsReadyFunction (static : Stage) (f : DefinedFunction) : Type 0 where
   pub result : TypeId
+  pub parameters : map (λ (p : ParameterObject). p.type) (parameters_of f.declarator) ≡ taken_types (parameters_listed f.declarator)
   pub types : HasShape static.table (declared_type f.declarator) (Function (taken_types (parameters_listed f.declarator)) result)
   pub scalars : All (λ t. IsType static.table t × IsScalar static.table t) (taken_types (parameters_listed f.declarator))
   pub gives : (IsType static.table result × IsScalar static.table result) ⊎ IsVoid static.table result

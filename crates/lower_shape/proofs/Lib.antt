@@ -1,0 +1,10 @@
+pub mod Forms
+pub mod Places
+pub mod Updates
+pub mod Types
+pub mod Zeros
+pub mod Values
+pub mod Comparisons
+pub mod Calls
+pub mod Addresses
+pub mod Expressions

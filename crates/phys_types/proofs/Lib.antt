@@ -31,3 +31,5 @@ pub mod Tops
 pub mod AllPairsFound
 pub mod Knowing
 pub mod MixedSpots
+pub mod Refined
+pub mod Finer

@@ -21,7 +21,7 @@ use Rattle.phys_types.proofs.RoundLemmas.{round_tells, number_equiv}
 -- The numbers after k rounds are equality at level k.
 
 module _ (table : Table) (w : IsWellFormed table) (order : List TypeId) (places : List ℕ) (o : IsOrder table order places) (closed : IsClosed table (Contains order)) where
-  within_is : (E : Relation) (t u : TypeId) → Contains order t → Contains order u → within table E t u ≡ E t u
+  pub within_is : (E : Relation) (t u : TypeId) → Contains order t → Contains order u → within table E t u ≡ E t u
   within_is E t u a b =
       λ i. if lt-ltb t.0 (length table) (All-contains (IsType table) order t o.types a) i && lt-ltb u.0 (length table) (All-contains (IsType table) order u o.types b) i then E t u else same_type t u
 
@@ -48,7 +48,7 @@ module _ (table : Table) (w : IsWellFormed table) (order : List TypeId) (places 
       made_agree table w (Contains order) closed (same_number (number_in numbers)) (equal_at_level table k) h t u a b
       ∙ sym (within_is (made_alike table (equal_at_level table k)) t u a b)
 
-  tells : (numbers next : List ℕ) (layouts : List Layout) → IsRound table (same_number (number_in numbers)) order next layouts
+  pub tells : (numbers next : List ℕ) (layouts : List Layout) → IsRound table (same_number (number_in numbers)) order next layouts
       → (t u : TypeId) → Contains order t → Contains order u → same_number (number_in next) t u ≡ made_alike table (same_number (number_in numbers)) t u
   tells numbers next layouts r = round_tells table w order places o (same_number (number_in numbers)) (number_equiv (number_in numbers)) next layouts r
 
@@ -89,7 +89,7 @@ module _ (table : Table) (w : IsWellFormed table) (order : List TypeId) (places 
       let c : Contains order (get_or order i d) = Contains-get_or order i d (omega arith) in
       record { spots = h.spots; cells = h.cells ∙ cells_agree table w (Contains order) closed E F agree (get_or order i d) c; holds = h.holds }
 
-  settled : (numbers next : List ℕ) (layouts : List Layout) → IsRound table (same_number (number_in numbers)) order next layouts
+  pub settled : (numbers next : List ℕ) (layouts : List Layout) → IsRound table (same_number (number_in numbers)) order next layouts
       → ((t u : TypeId) → Contains order t → Contains order u → same_number (number_in numbers) t u ≡ physically_equal table t u)
       → (last : List ℕ) → ((t u : TypeId) → Contains order t → Contains order u → same_number (number_in last) t u ≡ physically_equal table t u)
       → AreSettled table order last layouts

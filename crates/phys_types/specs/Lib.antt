@@ -3,6 +3,7 @@ pub mod Numbers
 pub mod Reach
 pub mod Shown
 pub mod Rounds
+pub mod Refining
 pub mod Orders
 pub mod Views
 pub mod Laws

@@ -16,6 +16,7 @@ mod makeup;
 mod mixed_unions;
 mod order;
 mod phys;
+mod refining;
 mod round;
 mod spot;
 mod tiling;

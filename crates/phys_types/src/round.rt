@@ -7,12 +7,14 @@ ghost use Rattle.c_types.specs.Table.{IsType};
 ghost use Rattle.c_types.specs.Equality.{made_alike};
 ghost use Rattle.c_types.specs.Sound.{IsWellFormed};
 ghost use Rattle.phys_types.specs.Numbers.{number_in, same_number};
+ghost use Rattle.phys_types.specs.Orders.{IsWholeOrder};
 ghost use Rattle.phys_types.specs.Reach.{IsClosed};
 ghost use Rattle.phys_types.specs.Shown.{IsLayoutOf, IsLow, ArePartsKept, ArePartsShown};
 ghost use Rattle.phys_types.specs.Rounds.{IsOrder, AreShown, IsRound, AreSettled, first_place};
 
 use crate::building::layout_of;
 use crate::makeup::looks_alike;
+use crate::refining::refine;
 use crate::spot::Layout;
 use c_types::Types;
 use cc_base::{NoMemory, TypeId};
@@ -85,8 +87,40 @@ pub(crate) fn renumber(
 
 /// Numbers that are the same exactly for physically equal types, and the layouts of the types in order under them.
 ///
-/// The rounds end where one changes nothing, and after the square of the number of types at the latest.
+/// The numbers of a first round are made finer, until types of one number look alike; rounds that change nothing show that they are
+/// made alike. Where they are not by then, the levels of the definition decide.
 pub(crate) fn settle(
+    alloc: Global,
+    types: &Types,
+    order: &[TypeId],
+    places: &[usize],
+) -> Result<Round, NoMemory>
+    requires formed { IsWellFormed types.now }
+    requires order { IsWholeOrder types.now order.now places.now }
+    ensures { IfOk result (λ round. AreSettled types.now order.now round.numbers.items round.layouts.items) }
+{
+    let count = types.count() as usize;
+    let start = zeros(alloc, count)?;
+    let first = renumber(alloc, types, order, places, &start)?;
+    let mut finer = refine(alloc, types, order, &first.layouts, &first.numbers)?;
+    'rounds: for _round in 0..count {
+        let round = renumber(alloc, types, order, places, &finer)?;
+        if round.numbers.as_slice() == finer.as_slice() {
+            return Ok(round);
+        }
+        let Round {
+            numbers: next,
+            layouts: _layouts,
+        } = round;
+        finer = next;
+    }
+    settle_by_levels(alloc, types, order, places)
+}
+
+/// The same by levels: the numbers after k rounds from one number for all types are equality at level k.
+///
+/// The rounds end where one changes nothing, and after the square of the number of types at the latest.
+fn settle_by_levels(
     alloc: Global,
     types: &Types,
     order: &[TypeId],

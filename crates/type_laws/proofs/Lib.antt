@@ -9,3 +9,4 @@ pub mod Widths
 pub mod Stairs
 pub mod OneClass
 pub mod SameTypes
+pub mod AgreeingCells

@@ -196,14 +196,20 @@ module _ (table : Table) (w : IsWellFormed table) (E F : Relation) (sub : (t u :
   makeup_refined t (Struct tag) = ap bytes (refined t)
   makeup_refined t (Union tag) = ap bytes (refined t)
 
-  keeps_makeup : (x y : Makeup) → same_makeup E x y ≡ true → same_makeup F (refine_makeup x) (refine_makeup y) ≡ true
-  keeps_makeup (code xs) (code ys) h = keeps_slots E F sub q (cells_at table F) xs ys h
-  keeps_makeup (bytes xs) (bytes ys) h = keeps_all E F sub q (cells_at table F) xs ys h
-  keeps_makeup (code xs) (bytes ys) h = absurd (true≢false (sym h))
-  keeps_makeup (bytes xs) (code ys) h = absurd (true≢false (sym h))
+  -- pointees that are equal by the narrower relation are so by G
+  module _ (G : Relation) (into : (t u : TypeId) → E t u ≡ true → G t u ≡ true) (p : IsEquivalence G) where
+    keeps_makeup : (x y : Makeup) → same_makeup E x y ≡ true → same_makeup G (refine_makeup x) (refine_makeup y) ≡ true
+    keeps_makeup (code xs) (code ys) h = keeps_slots E G into p (cells_at table F) xs ys h
+    keeps_makeup (bytes xs) (bytes ys) h = keeps_all E G into p (cells_at table F) xs ys h
+    keeps_makeup (code xs) (bytes ys) h = absurd (true≢false (sym h))
+    keeps_makeup (bytes xs) (code ys) h = absurd (true≢false (sym h))
+
+    -- types made alike under the narrower relation look alike, where unions are mixed or not by the wider one and pointees are equal by G
+    pub looks_alike : (t u : TypeId) → made_alike table E t u ≡ true → same_makeup G (makeup_at table F t) (makeup_at table F u) ≡ true
+    looks_alike t u h =
+        (λ i. same_makeup G (sym (makeup_refined t (shape_at table t)) i) (sym (makeup_refined u (shape_at table u)) i))
+        ∙ keeps_makeup (makeup_at table E t) (makeup_at table E u) h
 
   -- types made alike under the narrower relation are so under the wider one
   pub wider : (t u : TypeId) → made_alike table E t u ≡ true → made_alike table F t u ≡ true
-  wider t u h =
-      (λ i. same_makeup F (sym (makeup_refined t (shape_at table t)) i) (sym (makeup_refined u (shape_at table u)) i))
-      ∙ keeps_makeup (makeup_at table E t) (makeup_at table E u) h
+  wider = looks_alike F sub q

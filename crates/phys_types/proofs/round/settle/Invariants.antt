@@ -1,11 +1,5 @@
-use Rattle.phys_types.specs.Reach.{IsClosed}
-use Rattle.phys_types.specs.Rounds.{IsOrder}
-use Rattle.c_types.specs.Sound.{IsWellFormed}
-use Rattle.std.specs.List.{Contains}
-use Rattle.phys_types.proofs.Settled.{AtLevel}
+use Rattle.phys_types.specs.Refining.{IsCoarser}
 use Rattle.phys_types.proofs.round.settle.Given as goal
 
 abbrev pub invariant-rounds : goal.invariant-rounds
-invariant-rounds l =
-    (w : IsWellFormed l.types) (o : IsOrder l.types l.order l.places) (closed : IsClosed l.types (Contains l.order))
-    → AtLevel l.types w l.order l.places o closed l._round l.numbers.items
+invariant-rounds l = IsCoarser l.types l.finer.items

@@ -9,6 +9,7 @@ mod ranges;
 
 pub use cured::Cured;
 pub use instr::{Code, Instr, Narrow};
+pub use naming::{Names, is_instr_in_range};
 pub use parts::{
     AreaLine, Bytes, Function, Functions, GlobalLine, Globals, Locals, Parents, Parts, Sig, Sigs,
 };

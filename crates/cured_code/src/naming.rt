@@ -13,15 +13,15 @@ const NEST_LIMIT: u32 = 1_024;
 /// What an instruction of a function may name: signatures, functions, type nodes, slots, areas of the frame; how many
 /// words the function gives; in how many blocks and loops the instruction stands, and in how many of these and of `if`s.
 #[derive(Drop)]
-pub(crate) struct Names<'a> {
-    pub(crate) sigs: &'a [Sig],
-    pub(crate) functions: &'a [Function],
-    pub(crate) nodes: usize,
-    pub(crate) slots: u32,
-    pub(crate) areas: usize,
-    pub(crate) results: u32,
-    pub(crate) blocks: u32,
-    pub(crate) nest: u32,
+pub struct Names<'a> {
+    pub sigs: &'a [Sig],
+    pub functions: &'a [Function],
+    pub nodes: usize,
+    pub slots: u32,
+    pub areas: usize,
+    pub results: u32,
+    pub blocks: u32,
+    pub nest: u32,
 }
 
 impl<'a> Model for Names<'a> {
@@ -45,7 +45,8 @@ impl<'a> Model for Names<'a> {
 }
 
 impl<'a> Names<'a> {
-    fn inside_if(&self) -> Names<'a>
+    /// What may be named inside an `if`.
+    pub fn inside_if(&self) -> Names<'a>
         requires { self.now.nest < nest_limit }
         ensures { result ≡ inside_if self.now }
     {
@@ -55,7 +56,8 @@ impl<'a> Names<'a> {
         }
     }
 
-    fn inside_block(&self) -> Names<'a>
+    /// What may be named inside a `block` or a `loop`.
+    pub fn inside_block(&self) -> Names<'a>
         requires { self.now.nest < nest_limit }
         ensures { result ≡ inside_block self.now }
     {
@@ -281,8 +283,9 @@ fn is_block_kept(names: &Names, x: &[Instr]) -> bool
     are_instrs_in_range(&inner, x)
 }
 
+/// Whether the instruction is in range.
 #[cycle(naming)]
-fn is_instr_in_range(names: &Names, instr: &Instr) -> bool
+pub fn is_instr_in_range(names: &Names, instr: &Instr) -> bool
     ensures { IsTrue result ↔ IsInstrInRange names.now instr.now }
 {
     match is_straight_kept(names, instr) {

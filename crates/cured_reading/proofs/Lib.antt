@@ -1,0 +1,5 @@
+pub mod BeforeLaws
+pub mod OperationLaws
+pub mod PartLaws
+pub mod PairLaws
+pub mod PartsRead

@@ -4,10 +4,11 @@ use Rattle.std.specs.Prelude.{nat_eq}
 use Rattle.std.proofs.lemmas.Bool.Decides.{nat_tests}
 use Rattle.std.proofs.Math.Seq.{drop-length}
 use Rattle.std.proofs.lemmas.List.{length-take-le, drop-drop}
-use Rattle.cured_reading.specs.Parts.{size_before, before, Holds}
+use Rattle.cured_reading.specs.Parts.{size_before, before, Holds, IsLineAt}
 
 -- it is not at a place that another byte stands at
-pub passed : (b i : ℕ) (xs : List ℕ) → i < length xs → nat_eq (get_or xs i 0) b ≡ false → size_before b (drop i xs) ≡ 1 + size_before b (drop (i + 1) xs)
+pub passed : (b i : ℕ) (xs : List ℕ) → i < length xs → nat_eq (get_or xs i 0) b ≡ false
+    → size_before b (drop i xs) ≡ 1 + size_before b (drop (i + 1) xs)
 passed b i xs lt other = rw (add-one, drop-cons xs i 0, other) (omega arith)
 
 pub stopped : (b i : ℕ) (xs : List ℕ) → i < length xs → nat_eq (get_or xs i 0) b ≡ true → size_before b (drop i xs) ≡ 0
@@ -24,7 +25,8 @@ split b [] h = absurd (omega arith)
 split b (x ∷ xs) h = split-step b x xs (nat_eq x b) refl (split b xs) h
 
 -- a list in two parts
-before-step : (b x : ℕ) (xs : List ℕ) (t : Bool) → nat_eq x b ≡ t → (before b xs ++ drop (size_before b xs) xs ≡ xs) → before b (x ∷ xs) ++ drop (size_before b (x ∷ xs)) (x ∷ xs) ≡ x ∷ xs
+before-step : (b x : ℕ) (xs : List ℕ) (t : Bool) → nat_eq x b ≡ t → (before b xs ++ drop (size_before b xs) xs ≡ xs)
+    → before b (x ∷ xs) ++ drop (size_before b (x ∷ xs)) (x ∷ xs) ≡ x ∷ xs
 before-step b x xs true e ih = rw e refl
 before-step b x xs false e ih = rw e (ap (λ l. x ∷ l) ih)
 
@@ -33,9 +35,12 @@ two-parts b [] = refl
 two-parts b (x ∷ xs) = before-step b x xs (nat_eq x b) refl (two-parts b xs)
 
 -- the line that begins at a place, and what comes after its line feed
-pub line_read : (text part : List ℕ) (from after : ℕ) → Holds 10 (drop from text) → part ≡ before 10 (drop from text) → after ≡ from + size_before 10 (drop from text) + 1
-    → drop from text ≡ part ++ (10 ∷ drop after text)
-line_read text part from after h e f = rw (f, e) (split 10 (drop from text) h ∙ ap (λ l. before 10 (drop from text) ++ (10 ∷ l)) (drop-drop (suc (size_before 10 (drop from text))) from text ∙ ap (λ n. drop n text) (omega arith)))
+pub line_read : (text part : List ℕ) (from after : ℕ) → IsLineAt text from part after → drop from text ≡ part ++ (10 ∷ drop after text)
+line_read text part from after at =
+    let n = size_before 10 (drop from text) in
+    let next : drop (suc n) (drop from text) ≡ drop after text =
+    drop-drop (suc n) from text ∙ ap (λ n. drop n text) (let place = at.place in omega arith) in
+    rw at.bytes (split 10 (drop from text) at.ended ∙ ap (λ l. before 10 (drop from text) ++ (10 ∷ l)) next)
 
 size-step : (b x : ℕ) (xs : List ℕ) (t : Bool) → nat_eq x b ≡ t → size_before b xs ≤ length xs → size_before b (x ∷ xs) ≤ length (x ∷ xs)
 size-step b x xs true e ih = rw e (omega arith)
@@ -47,14 +52,18 @@ size_before-le b [] = omega arith
 size_before-le b (x ∷ xs) = size-step b x xs (nat_eq x b) refl (size_before-le b xs)
 
 -- the word that begins at a place, and what comes after it
-pub word_read : (line part : List ℕ) (at after : ℕ) → part ≡ before 32 (drop at line) → after ≡ at + length part → drop at line ≡ part ++ drop after line
+pub word_read : (line part : List ℕ) (at after : ℕ) → part ≡ before 32 (drop at line) → after ≡ at + length part
+    → drop at line ≡ part ++ drop after line
 word_read line part at after e f =
-    let size : length part ≡ size_before 32 (drop at line) = ap length e ∙ length-take-le (size_before 32 (drop at line)) (drop at line) (size_before-le 32 (drop at line)) in
-    rw e (sym (two-parts 32 (drop at line)) ∙ ap (λ l. before 32 (drop at line) ++ l) (drop-drop (size_before 32 (drop at line)) at line ∙ ap (λ n. drop n line) (omega arith)))
+    let size : length part ≡ size_before 32 (drop at line) = ap length e
+    ∙ length-take-le (size_before 32 (drop at line)) (drop at line) (size_before-le 32 (drop at line)) in
+    rw e (sym (two-parts 32 (drop at line)) ∙ ap (λ l. before 32 (drop at line) ++ l) (drop-drop (size_before 32 (drop at line)) at line
+    ∙ ap (λ n. drop n line) (omega arith)))
 
 -- nothing is left at the end alone
 pub nothing_left : (text : List ℕ) (from : ℕ) → from ≤ length text → IsTrue (nat_eq from (length text)) ↔ (drop from text ≡ [])
 nothing_left text from h = (
   (λ t. let e : from ≡ length text = grind (arith, nat_tests, t) in rw e (drop-length text)),
-  (λ e. let n : length (drop from text) ≡ 0 = ap length e in let same : from ≡ length text = omega (arith, n, length-drop from text) in grind (arith, nat_tests, same)),
+  (λ e. let n : length (drop from text) ≡ 0 = ap length e in let same : from ≡ length text = omega (arith, n, length-drop from text) in
+      grind (arith, nat_tests, same)),
 )

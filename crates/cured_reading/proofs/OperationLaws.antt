@@ -60,7 +60,8 @@ made-lines operation.Break of = refl
 made-lines operation.Return of = refl
 
 -- the same numbers are the same fields
-pub same-numbers : (f : Format) (of : Operands) (wide : Wide) → of.a ≡ wide.a → of.b ≡ wide.b → of.c ≡ wide.c → of.d ≡ wide.d → of.n ≡ wide.n → numbers_of f of ≡ wide_numbers_of f wide
+pub same-numbers : (f : Format) (of : Operands) (wide : Wide) → of.a ≡ wide.a → of.b ≡ wide.b → of.c ≡ wide.c → of.d ≡ wide.d → of.n ≡ wide.n
+    → numbers_of f of ≡ wide_numbers_of f wide
 same-numbers One of wide a b c d n = cc
 same-numbers Two of wide a b c d n = cc
 same-numbers Three of wide a b c d n = cc
@@ -72,7 +73,9 @@ same-numbers FourLong of wide a b c d n = cc
 same-numbers Access of wide a b c d n = cc
 
 -- the line of an operation, from its name and its fields
-pub operation-text : (o : Operation) (of : Operands) (wide : Wide) (fields : List ℕ) → of.a ≡ wide.a → of.b ≡ wide.b → of.c ≡ wide.c → of.d ≡ wide.d → of.n ≡ wide.n
-    → fields ≡ fields_text (map Number (wide_numbers_of (format_of o) wide)) → operation_name o ++ (fields ++ (10 ∷ [])) ≡ flat_map line_text (lines_of (made o of))
+pub operation-text : (o : Operation) (of : Operands) (wide : Wide) (fields : List ℕ) → of.a ≡ wide.a → of.b ≡ wide.b → of.c ≡ wide.c
+    → of.d ≡ wide.d → of.n ≡ wide.n
+    → fields ≡ fields_text (map Number (wide_numbers_of (format_of o) wide)) → operation_name o ++ (fields
+    ++ (10 ∷ [])) ≡ flat_map line_text (lines_of (made o of))
 operation-text o of wide fields a b c d n e =
     rw (made-lines o of, same-numbers (format_of o) of wide a b c d n, e) (simp (append-nil, append_assoc))

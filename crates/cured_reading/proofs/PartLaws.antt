@@ -11,30 +11,38 @@ use Rattle.cured_spelling.specs.Spelling.{lines_of, code_lines, else_line, end_l
 use Rattle.cured_spelling.proofs.RowLaws.{if-text, block-text, loop-text}
 
 -- the line that ends a part, from its name
-pub part-ended : (l : Line) (whole code left fields name after new : List ℕ) → whole ≡ code ++ left → left ≡ fields ++ (10 ∷ new) → fields ≡ name ++ after → after ≡ [] → name ≡ words_text l
+pub part-ended : (l : Line) (whole code left fields name after new : List ℕ) → whole ≡ code ++ left → left ≡ fields ++ (10 ∷ new)
+    → fields ≡ name ++ after → after ≡ [] → name ≡ words_text l
     → whole ≡ code ++ (line_text l ++ new)
 part-ended l whole code left fields name after new e f g h i = rw (e, f, g, h, i) (simp (append_assoc, append-nil))
 
 -- one more instruction
-pub pushed : (instrs more : List Instr) (i : Instr) (whole left rest : List ℕ) → whole ≡ flat_map line_text (code_lines instrs) ++ left → left ≡ flat_map line_text (lines_of i) ++ rest
+pub pushed : (instrs more : List Instr) (i : Instr) (whole left rest : List ℕ) → whole ≡ flat_map line_text (code_lines instrs) ++ left
+    → left ≡ flat_map line_text (lines_of i) ++ rest
     → more ≡ instrs ++ (i ∷ []) → whole ≡ flat_map line_text (code_lines more) ++ rest
 pushed instrs more i whole left rest e f g =
-    rw (e, f, g, flat_map-append lines_of instrs (i ∷ []), flat_map-append line_text (code_lines instrs) (lines_of i ++ [])) (simp (append_assoc, append-nil))
+    rw (e, f, g, flat_map-append lines_of instrs (i ∷ []), flat_map-append line_text (code_lines instrs) (lines_of i ++ []))
+    (simp (append_assoc, append-nil))
 
 -- a block, and a loop, from their first line
-pub block-read : (x : Code) (left fields name after held rest : List ℕ) → left ≡ fields ++ (10 ∷ held) → fields ≡ name ++ after → after ≡ [] → name ≡ codes "block"
+pub block-read : (x : Code) (left fields name after held rest : List ℕ) → left ≡ fields ++ (10 ∷ held) → fields ≡ name ++ after → after ≡ []
+    → name ≡ codes "block"
     → held ≡ flat_map line_text (code_lines x.0.items) ++ (line_text end_line ++ rest) → left ≡ flat_map line_text (lines_of (instr.Block x)) ++ rest
 block-read x left fields name after held rest e f g h i =
-    let shape : left ≡ (line_text (line (codes "block") []) ++ (flat_map line_text (code_lines x.0.items) ++ (line_text end_line ++ []))) ++ rest = rw (e, f, g, h, i) (simp (append_assoc, append-nil)) in
+    let shape : left ≡ (line_text (line (codes "block") []) ++ (flat_map line_text (code_lines x.0.items)
+    ++ (line_text end_line ++ []))) ++ rest = rw (e, f, g, h, i) (simp (append_assoc, append-nil)) in
     shape ∙ ap (λ t. t ++ rest) (sym (block-text x))
 
-pub loop-read : (x : Code) (left fields name after held rest : List ℕ) → left ≡ fields ++ (10 ∷ held) → fields ≡ name ++ after → after ≡ [] → name ≡ codes "loop"
+pub loop-read : (x : Code) (left fields name after held rest : List ℕ) → left ≡ fields ++ (10 ∷ held) → fields ≡ name ++ after → after ≡ []
+    → name ≡ codes "loop"
     → held ≡ flat_map line_text (code_lines x.0.items) ++ (line_text end_line ++ rest) → left ≡ flat_map line_text (lines_of (instr.Loop x)) ++ rest
 loop-read x left fields name after held rest e f g h i =
-    let shape : left ≡ (line_text (line (codes "loop") []) ++ (flat_map line_text (code_lines x.0.items) ++ (line_text end_line ++ []))) ++ rest = rw (e, f, g, h, i) (simp (append_assoc, append-nil)) in
+    let shape : left ≡ (line_text (line (codes "loop") []) ++ (flat_map line_text (code_lines x.0.items)
+    ++ (line_text end_line ++ []))) ++ rest = rw (e, f, g, h, i) (simp (append_assoc, append-nil)) in
     shape ∙ ap (λ t. t ++ rest) (sym (loop-text x))
 
-if-shape : (name d t u l m fields after held between rest : List ℕ) → fields ≡ 32 ∷ (d ++ after) → after ≡ [] → held ≡ t ++ (l ++ between) → between ≡ u ++ (m ++ rest)
+if-shape : (name d t u l m fields after held between rest : List ℕ) → fields ≡ 32 ∷ (d ++ after) → after ≡ [] → held ≡ t ++ (l ++ between)
+    → between ≡ u ++ (m ++ rest)
     → name ++ (fields ++ (10 ∷ held)) ≡ (((name ++ ((32 ∷ d) ++ [])) ++ (10 ∷ [])) ++ (t ++ (l ++ (u ++ (m ++ []))))) ++ rest
 if-shape name d t u l m fields after held between rest f g h i =
     let whole : fields ≡ 32 ∷ d = f ∙ ap (λ t. 32 ∷ (d ++ t)) g ∙ ap (λ t. 32 ∷ t) (append-nil d) in
@@ -47,7 +55,8 @@ pub if-read : (a n : ℕ) (x y : Code) (fields after held between rest : List �
     → codes "if" ++ (fields ++ (10 ∷ held)) ≡ flat_map line_text (lines_of (instr.If a x y)) ++ rest
 if-read a n x y fields after held between rest e f g h i =
     let shape : codes "if" ++ (fields ++ (10 ∷ held))
-    ≡ (line_text (line (codes "if") (a ∷ [])) ++ (flat_map line_text (code_lines x.0.items) ++ (line_text else_line ++ (flat_map line_text (code_lines y.0.items) ++ (line_text end_line ++ []))))) ++ rest =
+    ≡ (line_text (line (codes "if") (a ∷ [])) ++ (flat_map line_text (code_lines x.0.items) ++ (line_text else_line
+    ++ (flat_map line_text (code_lines y.0.items) ++ (line_text end_line ++ []))))) ++ rest =
     rw e (if-shape (codes "if") (decimal n) (flat_map line_text (code_lines x.0.items)) (flat_map line_text (code_lines y.0.items)) (line_text else_line) (line_text end_line) fields after held between rest f g h i) in
     shape ∙ ap (λ t. t ++ rest) (sym (if-text a x y))
 

@@ -1,6 +1,6 @@
 //! Lines of a text and words of a line, lent.
-ghost use Rattle.std.specs.Prelude.{◌≡◌, ◌<◌, ◌≤◌, ◌+◌, length, drop, min, MatchOption};
-ghost use Rattle.cured_reading.specs.Parts.{size_before, before, Holds};
+ghost use Rattle.std.specs.Prelude.{◌≡◌, ◌≤◌, length, drop, IfSome, IfNone};
+ghost use Rattle.cured_reading.specs.Parts.{size_before, Holds, IsLineAt, IsWordAt};
 
 /// How many bytes stand before the first `byte`; all where there is none.
 #[tactic(auto, using(crate::proofs::BeforeLaws::passed, crate::proofs::BeforeLaws::stopped))]
@@ -20,8 +20,8 @@ fn size_before(bytes: &[u8], byte: u8) -> usize
 /// at or after `from`. Takes no memory.
 pub fn line<'a>(text: &'a [u8], from: usize) -> Option<(&'a [u8], usize)>
     requires { from ≤ length text.now }
-    ensures { MatchOption result (Holds 10 (drop from text.now) → ⊥)
-        (λ found. Holds 10 (drop from text.now) × (found.0.now ≡ before 10 (drop from text.now)) × (found.1 ≡ from + size_before 10 (drop from text.now) + 1)) }
+    ensures found { IfSome result (λ l. IsLineAt text.now from l.0.now l.1) }
+    ensures none { IfNone result (Holds 10 (drop from text.now) → ⊥) }
 {
     let (_, rest) = text.split_at(from);
     let size = size_before(rest, b'\n');
@@ -36,9 +36,8 @@ pub fn line<'a>(text: &'a [u8], from: usize) -> Option<(&'a [u8], usize)>
 /// where `from` is the line's length or a space stands there. Takes no memory.
 pub fn word<'a>(line: &'a [u8], from: usize) -> Option<(&'a [u8], usize)>
     requires { from ≤ length line.now }
-    ensures { MatchOption result (size_before 32 (drop from line.now) ≡ 0)
-        (λ found. (0 < size_before 32 (drop from line.now)) × (found.0.now ≡ before 32 (drop from line.now))
-        × (found.1 ≡ min (from + size_before 32 (drop from line.now) + 1) (length line.now))) }
+    ensures found { IfSome result (λ w. IsWordAt line.now from w.0.now w.1) }
+    ensures none { IfNone result (size_before 32 (drop from line.now) ≡ 0) }
 {
     let (_, rest) = line.split_at(from);
     let size = size_before(rest, b' ');

@@ -1,7 +1,7 @@
 use Rattle.std.proofs.Common.{[], ◌∷◌, ◌≡◌, ◌++◌, map, take, length}
 use Rattle.std.specs.Prelude.{codes, flat_map}
-use Rattle.cured_spelling.specs.Lines.{hex_byte, line, line_text}
-use Rattle.cured_spelling.specs.Spelling.{sig_line, node_line, area_line, function_line, local_line, body_lines}
+use Rattle.cured_spelling.specs.Lines.{line, line_text}
+use Rattle.cured_spelling.specs.Spelling.{function_line}
 use Rattle.cured_text.proofs.printing.put_functions.Given as goal
 
 abbrev pub invariant-loop-function : goal.invariant-loop-function

@@ -1,7 +1,7 @@
-use Rattle.std.proofs.Common.{[], ◌∷◌, ◌≡◌, ◌++◌, map, take, length}
-use Rattle.std.specs.Prelude.{codes, flat_map}
-use Rattle.cured_spelling.specs.Lines.{hex_byte, line, line_text}
-use Rattle.cured_spelling.specs.Spelling.{sig_line, node_line, area_line, function_line, local_line, body_lines}
+use Rattle.std.proofs.Common.{◌≡◌, ◌++◌, map, take}
+use Rattle.std.specs.Prelude.{flat_map}
+use Rattle.cured_spelling.specs.Lines.{line_text}
+use Rattle.cured_spelling.specs.Spelling.{local_line}
 use Rattle.cured_text.proofs.printing.put_locals.Given as goal
 
 abbrev pub invariant-loop-area : goal.invariant-loop-area

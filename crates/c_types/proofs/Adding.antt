@@ -18,12 +18,14 @@ use Rattle.c_types.specs.declared.kept.Kept.{Kept}
 use Rattle.c_types.specs.declared.shape.TypeShape.{TypeShape}
 use Rattle.c_types.specs.declared.shape.TypeShape.TheVariants.{Void, Integer, Pointer, Array, Function, Struct, Union}
 use Rattle.c_types.specs.Table.{Table, Entry, void_entry, entry_at, shape_at, members_at, parts_of_shape, named_by, IsType, IsComplete, is_complete, HasShape}
-use Rattle.c_types.specs.Layouts.{layout_of}
+use Rattle.c_types.specs.Layouts.{layout_of, size_of}
+use Rattle.c_types.specs.PointerCounts.{pointers_of_shape, pointers_in}
 use Rattle.c_types.specs.Sound.{IsFormed, IsSized, IsWellFormed}
 use Rattle.c_types.specs.Kept.{KeptEntry, KnownShape, AreFirst, IsSound, IsKeptOf, table_of, entry_of, firsts_of}
 use Rattle.c_types.specs.Calls.{IsNew, IsAddable, basic_entry, new_layout}
 use Rattle.c_types.proofs.Shapes.{shape_eq, same_shape, own_shape, other_shape}
 use Rattle.c_types.proofs.Growth.{Changes}
+use Rattle.c_types.proofs.PointerCounts.{pointers_here}
 use Rattle.c_types.proofs.Upkeep.{other_layout, own_layout, kept_other, formed_after}
 
 -- Finding a shape in the table, and adding a type at its end.
@@ -165,6 +167,9 @@ module _ (old : Table) (shape : TypeShape) (w : IsWellFormed old) (n : IsNew old
   pub layout_last : layout_of (old ++ basic_entry shape ∷ []) (record { 0 = length old }) ≡ new_layout old shape
   layout_last = own_layout old (old ++ basic_entry shape ∷ []) (record { 0 = length old }) (basic_entry shape) change w (new_formed old shape a)
 
+  pub pointers_last : pointers_in (old ++ basic_entry shape ∷ []) (record { 0 = length old }) ≡ pointers_of_shape (size_of old) (pointers_in old) shape []
+  pointers_last = pointers_here old (old ++ basic_entry shape ∷ []) (record { 0 = length old }) (basic_entry shape) change w (new_formed old shape a)
+
   sized_last : (new_layout old shape).size ≤ 1048576 → IsComplete (old ++ basic_entry shape ∷ []) (record { 0 = length old }) → IsSized (old ++ basic_entry shape ∷ []) (record { 0 = length old })
   sized_last most h =
       let s = new_sized old shape w a (sym (ap is_complete (get_or-append_seam old (basic_entry shape) [] void_entry)) ∙ h) in
@@ -195,7 +200,8 @@ module _ (es : List KeptEntry) (shape : TypeShape) (kept : Kept) (empty : kept.f
       ∙ ap (λ (xs : List FieldPlace). table_of es ++ (record { shape = shape; members = map (λ (p : FieldPlace). p.ty) xs }) ∷ []) empty
 
   module _ (known after : List KnownShape) (s : IsSound es known) (n : IsNew (table_of es) shape) (a : IsAddable (table_of es) shape)
-      (l : kept.layout ≡ new_layout (table_of es) shape) where
+      (l : kept.layout ≡ new_layout (table_of es) shape)
+      (q : kept.pointers ≡ pointers_of_shape (size_of (table_of es)) (pointers_in (table_of es)) shape []) where
     kept_old : (i : ℕ) (d : KeptEntry) → i < length es → IsKeptOf (table_of es ++ basic_entry shape ∷ []) (record { 0 = i }) (get_or es i d).1
     kept_old i d b =
         kept_others (table_of es) shape s.formed n a (record { 0 = i }) (get_or es i d).1 (omega (arith, length-map es entry_of))
@@ -206,6 +212,7 @@ module _ (es : List KeptEntry) (shape : TypeShape) (kept : Kept) (empty : kept.f
         let P : ℕ → Type 0 = λ i. IsKeptOf (table_of es ++ basic_entry shape ∷ []) (record { 0 = i }) kept in
         subst P (length-map es entry_of) (record {
           layout = l ∙ sym (layout_last (table_of es) shape s.formed n a);
+          pointers = q ∙ sym (pointers_last (table_of es) shape s.formed n a);
           offsets = λ i d b. absurd (omega (arith, ap length empty));
         })
 

@@ -12,11 +12,13 @@ use Rattle.c_types.specs.declared.kept.Kept.{Kept}
 use Rattle.c_types.specs.declared.shape.TypeShape.{TypeShape}
 use Rattle.c_types.specs.declared.shape.TypeShape.TheVariants.{Void, Integer, Pointer, Array, Function, Struct, Union}
 use Rattle.c_types.specs.Table.{Table, Entry, void_entry, entry_at, shape_at, members_at, parts_of_shape, is_aggregate_shape, IsAggregate, IsType, IsComplete, is_complete, is_complete_entry, HasShape}
-use Rattle.c_types.specs.Layouts.{rounded, layout_of_shape, layout_of}
+use Rattle.c_types.specs.Layouts.{rounded, layout_of_shape, layout_of, size_of}
+use Rattle.c_types.specs.PointerCounts.{pointers_of_shape, pointers_in}
 use Rattle.c_types.specs.Sound.{IsFormed, IsSized, IsWellFormed}
 use Rattle.c_types.specs.Kept.{KeptEntry, KnownShape, AreFirst, IsSound, IsKeptOf, ArePlaces, table_of, entry_of, first_at, firsts_of}
 use Rattle.c_types.specs.Calls.{with_members, defined_layout}
 use Rattle.c_types.proofs.Growth.{Changes, not_here}
+use Rattle.c_types.proofs.PointerCounts.{pointers_here}
 use Rattle.c_types.proofs.Firsts.{first_kept, firsts_set}
 use Rattle.c_types.proofs.Upkeep.{other_layout, own_layout, own_offset, kept_other, formed_after}
 
@@ -122,6 +124,9 @@ module _ (old : Table) (t : TypeId) (members : List TypeId) (w : IsWellFormed ol
   pub defined_own : layout_of (with_members old t members) t ≡ defined_layout old t members
   defined_own = own_layout old (with_members old t members) t (record { shape = shape_at old t; members = members }) defines w formed
 
+  pub defined_count : pointers_in (with_members old t members) t ≡ pointers_of_shape (size_of old) (pointers_in old) (shape_at old t) members
+  defined_count = pointers_here old (with_members old t members) t (record { shape = shape_at old t; members = members }) defines w formed
+
   pub same_shapes : (u : TypeId) → shape_at (with_members old t members) u ≡ shape_at old u
   same_shapes u = elim (eqb_tells u.0 t.0) [
     | inl s ↦
@@ -152,10 +157,11 @@ module _ (old : Table) (t : TypeId) (members : List TypeId) (w : IsWellFormed ol
       formed_after old (with_members old t members) t (record { shape = shape_at old t; members = members }) defines w formed
       (let s = w.small in omega (arith, same_length)) distinct_after (λ h. sized_here most) (w.built t)
 
-  pub kept_defined : (k : Kept) → k.layout ≡ defined_layout old t members → ArePlaces (layout_of old) (shape_at old t) members k.fields.items
-      → IsKeptOf (with_members old t members) t k
-  kept_defined k l p = record {
+  pub kept_defined : (k : Kept) → k.layout ≡ defined_layout old t members → k.pointers ≡ pointers_of_shape (size_of old) (pointers_in old) (shape_at old t) members
+      → ArePlaces (layout_of old) (shape_at old t) members k.fields.items → IsKeptOf (with_members old t members) t k
+  kept_defined k l q p = record {
     layout = l ∙ sym defined_own;
+    pointers = q ∙ sym defined_count;
     offsets = λ i d c.
         let n : length k.fields.items ≡ length members = sym (length-map k.fields.items (λ (q : FieldPlace). q.ty)) ∙ ap length p.types in
         p.offsets i d t c
@@ -191,7 +197,8 @@ module _ (es : List KeptEntry) (t : TypeId) (members : List TypeId) (k : Kept) (
       ∙ ap (λ (ms : List TypeId). set (table_of es) t.0 (record { shape = shape_at (table_of es) t; members = ms })) p.types
 
   module _ (known : List KnownShape) (s : IsSound es known) (a : IsAggregate (table_of es) t) (o : members_at (table_of es) t ≡ []) (some : 0 < length members)
-      (full : All (IsComplete (table_of es)) members) (l : k.layout ≡ defined_layout (table_of es) t members) where
+      (full : All (IsComplete (table_of es)) members) (l : k.layout ≡ defined_layout (table_of es) t members)
+      (q : k.pointers ≡ pointers_of_shape (size_of (table_of es)) (pointers_in (table_of es)) (shape_at (table_of es) t) members) where
     kept_each : (i : ℕ) (d : KeptEntry) → i < length (set_value_at es t.0 k)
         → IsKeptOf (with_members (table_of es) t members) (record { 0 = i }) (get_or (set_value_at es t.0 k) i d).1
     kept_each i d c =
@@ -199,11 +206,11 @@ module _ (es : List KeptEntry) (t : TypeId) (members : List TypeId) (k : Kept) (
         let P : List KeptEntry → Type 0 = λ xs. IsKeptOf (with_members (table_of es) t members) (record { 0 = i }) (get_or xs i d).1 in
         let h : i < length es = omega (arith, ap length e, length-set es t.0 ((get_or es t.0 d).0, k)) in
         subst P (sym e) (elim (eqb_tells i t.0) [
-          | inl q ↦
+          | inl x ↦
               let Q : ℕ → Type 0 = λ j. IsKeptOf (with_members (table_of es) t members) (record { 0 = j }) (get_or (set es t.0 ((get_or es t.0 d).0, k)) j d).1 in
               let R : KeptEntry → Type 0 = λ x. IsKeptOf (with_members (table_of es) t members) t x.1 in
-              subst Q (sym q.1) (subst R (sym (get_or-set_same es t.0 ((get_or es t.0 d).0, k) d within))
-              (kept_defined (table_of es) t members s.formed b a o some full k l p))
+              subst Q (sym x.1) (subst R (sym (get_or-set_same es t.0 ((get_or es t.0 d).0, k) d within))
+              (kept_defined (table_of es) t members s.formed b a o some full k l q p))
           | inr n ↦
               let R : KeptEntry → Type 0 = λ x. IsKeptOf (with_members (table_of es) t members) (record { 0 = i }) x.1 in
               subst R (sym (get_or-set_other es t.0 i ((get_or es t.0 d).0, k) d n.1))

@@ -2,6 +2,7 @@ pub mod Lists
 pub mod Shapes
 pub mod Descent
 pub mod Growth
+pub mod PointerCounts
 pub mod Upkeep
 pub mod Sameness
 pub mod Adding
@@ -13,3 +14,4 @@ pub mod Keeping
 pub mod Cells
 pub mod OrderedPointers
 pub mod WholePointers
+pub mod Copies

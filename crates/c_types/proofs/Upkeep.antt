@@ -14,6 +14,7 @@ use Rattle.c_types.specs.Layouts.{layout_of_shape, layout_of, offset_of_shape, o
 use Rattle.c_types.specs.Sound.{IsFormed, IsSized, IsWellFormed}
 use Rattle.c_types.specs.Kept.{IsKeptOf}
 use Rattle.c_types.proofs.Lists.{map_same, contains_take}
+use Rattle.c_types.proofs.PointerCounts.{pointers_other}
 use Rattle.c_types.proofs.Growth.{Changes, not_here, each_formed, layout_other, layout_here, rank_after, ranked_after}
 
 -- What is kept of the types stays right where the table changes.
@@ -54,6 +55,7 @@ module _ (old new : Table) (t : TypeId) (e : Entry) (c : Changes old new t e) (w
   pub kept_other : (u : TypeId) (k : Kept) → u.0 ≢ t.0 → map (λ (p : FieldPlace). p.ty) k.fields.items ≡ members_at old u → IsKeptOf old u k → IsKeptOf new u k
   kept_other u k n m h = record {
     layout = h.layout ∙ sym (other_layout u n);
+    pointers = h.pointers ∙ sym (pointers_other old new t e c w f u n);
     offsets = λ i d b.
         let l : length k.fields.items ≡ length (members_at old u) = sym (length-map k.fields.items (λ (p : FieldPlace). p.ty)) ∙ ap length m in
         h.offsets i d b ∙ sym (other_offset u i n (omega arith));

@@ -7,10 +7,11 @@ use Rattle.c_types.specs.declared.layout.Layout.{Layout}
 use Rattle.c_types.specs.declared.shape.TypeShape.{TypeShape}
 use Rattle.c_types.specs.Table.{Table, Entry, IsType, shape_at}
 use Rattle.c_types.specs.Layouts.{layout_of, offset_of, offset_of_shape}
+use Rattle.c_types.specs.PointerCounts.{pointers_in}
 use Rattle.c_types.specs.Sound.{IsWellFormed}
 use Rattle.c_types.specs.Sameness.{canonical}
 
--- How the struct `Types` keeps a table: beside each shape the layout, the members' places and the first type that is the same, and beside
+-- How the struct `Types` keeps a table: beside each shape the layout, the number of pointers, the members' places and the first type that is the same, and beside
 -- each canonical shape the first type that has it.
 
 abbrev pub KeptEntry : Type 0
@@ -22,9 +23,10 @@ entry_of p = record { shape = p.0; members = map (λ f. f.ty) p.1.fields.items }
 abbrev pub table_of : List KeptEntry → Table
 table_of entries = map entry_of entries
 
--- the layout and the offsets that are kept of t are the definitions'
+-- the layout, the number of pointers and the offsets that are kept of t are the definitions'
 pub record IsKeptOf (table : Table) (t : TypeId) (kept : Kept) : Type 0 where
   pub layout : kept.layout ≡ layout_of table t
+  pub pointers : kept.pointers ≡ pointers_in table t
   pub offsets : (i : ℕ) (d : FieldPlace) → i < length kept.fields.items
       → (slice_index_or kept.fields.items i d).offset ≡ offset_of table t i
 

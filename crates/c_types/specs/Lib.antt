@@ -1,5 +1,6 @@
 pub mod Table
 pub mod Layouts
+pub mod PointerCounts
 pub mod Sound
 pub mod Kept
 pub mod Calls

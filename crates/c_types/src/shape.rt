@@ -3,6 +3,7 @@
 ghost use Rattle.std.specs.Prelude.{◌≡◌};
 
 use cc_base::{NodeId, TypeId};
+use std::alloc::AllocError;
 use std::hash::{Hash, Hasher};
 use std::marker::Model;
 
@@ -32,6 +33,15 @@ impl TypeList {
         ensures { result.now ≡ self.now }
     {
         &self.0
+    }
+}
+
+impl Clone for TypeList {
+    ghost is_clone = { λ x y. y ≡ x };
+
+    fn clone(&self) -> Result<TypeList, AllocError> {
+        let list = &self.0;
+        Ok(TypeList(Vec::from_slice(*list.allocator(), list)?))
     }
 }
 
@@ -86,4 +96,25 @@ pub enum TypeShape {
     Struct(u32),
     /// A union, by the number of its declaration (C99 6.7.2.1).
     Union(u32),
+}
+
+impl Clone for TypeShape {
+    ghost is_clone = { λ x y. y ≡ x };
+
+    fn clone(&self) -> Result<TypeShape, AllocError> {
+        match self {
+            TypeShape::Void => Ok(TypeShape::Void),
+            TypeShape::Integer { bytes, signed } => Ok(TypeShape::Integer {
+                bytes: *bytes,
+                signed: *signed,
+            }),
+            TypeShape::Pointer(node, to) => Ok(TypeShape::Pointer(*node, *to)),
+            TypeShape::Array(element, count) => Ok(TypeShape::Array(*element, *count)),
+            TypeShape::Function(parameters, result) => {
+                Ok(TypeShape::Function(parameters.clone()?, *result))
+            }
+            TypeShape::Struct(number) => Ok(TypeShape::Struct(*number)),
+            TypeShape::Union(number) => Ok(TypeShape::Union(*number)),
+        }
+    }
 }

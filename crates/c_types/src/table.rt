@@ -1,6 +1,6 @@
 #![tactic(auto)]
 
-ghost use Rattle.std.specs.Prelude.{◌≡◌, ◌↔◌, ◌⊎◌, ◌+◌, ◌<◌, ◌≤◌, [], ◌∷◌, ◌++◌, length, IfOk, IfErr, OnOk, OnErr, SomeIff, IfSome, IsTrue, MatchOption, map, ◌*◌};
+ghost use Rattle.std.specs.Prelude.{◌≡◌, ◌↔◌, ◌⊎◌, ◌+◌, ◌<◌, ◌≤◌, [], ◌∷◌, ◌++◌, length, sum_by, None, Some, IfOk, IfErr, OnOk, OnErr, SomeIff, IfSome, IsTrue, MatchOption, map, ◌*◌};
 ghost use Rattle.std.specs.List.{All};
 ghost use Rattle.cc_base.specs.declared.number.TypeId.{TypeId};
 ghost use Rattle.cc_base.specs.declared.fault.Limit.TheVariants.{Types as limit_types, Object as limit_object};
@@ -8,6 +8,7 @@ ghost use Rattle.c_types.specs.declared.fault.TypeFault.TheVariants.{TooLarge, N
 ghost use Rattle.c_types.specs.declared.shape.TypeShape.TheVariants.{Integer, Struct, Union};
 ghost use Rattle.c_types.specs.Table.{IsType, IsComplete, IsAggregate, HasShape, entry_at, shape_at, members_at, is_complete};
 ghost use Rattle.c_types.specs.Layouts.{layout_of, size_of, align_of, offset_of, member_at, members_end, struct_layout, union_layout};
+ghost use Rattle.c_types.specs.PointerCounts.{larger, largest_member, pointers_of_shape, pointers_in};
 ghost use Rattle.c_types.specs.Sound.{IsWellFormed, IsSized, IsIntegerSize};
 ghost use Rattle.c_types.specs.Sameness.{is_same_type};
 ghost use Rattle.c_types.specs.Kept.{IsKeptOf, ArePlaces};
@@ -82,6 +83,17 @@ impl Types {
         Ok(types)
     }
 
+    /// A table of the same types.
+    pub fn copy(&self) -> Result<Types, NoMemory>
+        ensures { IfOk result (λ types. types ≡ self.now) }
+    {
+        Ok(Types {
+            alloc: self.alloc,
+            entries: self.entries.clone()?,
+            known: self.known.clone()?,
+        })
+    }
+
     /// The number of a type by its shape; one that is not in the table is added to it.
     ///
     /// The answer is `TooLarge(Types)` where the table has 16,384 types already, else
@@ -146,10 +158,12 @@ impl Types {
         let Some(layout) = self.defined_layout(t, &members) else {
             return Err(TypeFault::TooLarge(Limit::Object));
         };
+        let pointers = self.defined_pointers(t, &members);
         let fields = self.places(t, &members)?;
         let first = first_of(&self.entries, t);
         self.entries[t.0 as usize] = Kept {
             layout,
+            pointers,
             fields,
             first,
         };
@@ -244,6 +258,75 @@ impl Types {
         Ok(fields)
     }
 
+    /// How many pointers an object of a shape that has no members holds.
+    fn new_pointers(&self, shape: &TypeShape) -> u64
+        requires addable { IsAddable self.now shape.now }
+        requires small { (new_layout self.now shape.now).size ≤ 1048576 }
+        ensures { result ≡ pointers_of_shape (size_of self.now) (pointers_in self.now) shape.now [] }
+    {
+        match shape {
+            TypeShape::Pointer(_, _) => 1,
+            TypeShape::Array(element, count) => *count * self.pointers(*element),
+            _ => 0,
+        }
+    }
+
+    /// How many pointers an object of a struct or union with these members holds.
+    fn defined_pointers(&self, t: TypeId, members: &[TypeId]) -> u64
+        requires typed { IsType self.now t }
+        requires aggregate { IsAggregate self.now t }
+        requires complete { All (IsComplete self.now) members.now }
+        requires small { (defined_layout self.now t members.now).size ≤ 1048576 }
+        ensures { result ≡ pointers_of_shape (size_of self.now) (pointers_in self.now) (shape_at self.now t) members.now }
+    {
+        let _ = &self.alloc;
+        match self.shape(t) {
+            TypeShape::Struct(_) => self.pointers_of_all(members),
+            _ => match self.largest(members) {
+                Some(member) => self.pointers(member),
+                None => 0,
+            },
+        }
+    }
+
+    /// How many pointers the members of a struct hold together.
+    fn pointers_of_all(&self, members: &[TypeId]) -> u64
+        requires complete { All (IsComplete self.now) members.now }
+        requires small { sum_by (pointers_in self.now) members.now ≤ 131072 }
+        ensures { result ≡ sum_by (pointers_in self.now) members.now }
+    {
+        let mut total = 0;
+        'members: for m in members {
+            total += self.pointers(*m);
+        }
+        total
+    }
+
+    /// The first of the greatest size among the members of a union.
+    fn largest(&self, members: &[TypeId]) -> Option<TypeId>
+        requires { All (IsComplete self.now) members.now }
+        ensures largest { result ≡ largest_member (size_of self.now) None members.now }
+        ensures complete { IfSome result (IsComplete self.now) }
+    {
+        let mut found: Option<TypeId> = None;
+        'members: for m in members {
+            found = self.larger(found, *m);
+        }
+        found
+    }
+
+    /// The larger of two members of a union; of two that are equally large the first.
+    fn larger(&self, found: Option<TypeId>, member: TypeId) -> Option<TypeId>
+        requires other { IfSome found (IsComplete self.now) }
+        requires member { IsComplete self.now member }
+        ensures { result ≡ Some (larger (size_of self.now) found member) }
+    {
+        match found {
+            Some(other) if self.size_of(member) <= self.size_of(other) => Some(other),
+            _ => Some(member),
+        }
+    }
+
     /// Puts a type with a new shape at the end of the table.
     fn insert(&mut self, shape: TypeShape, layout: Layout) -> Result<TypeId, NoMemory>
         requires fresh { IsNew self.old shape }
@@ -257,11 +340,13 @@ impl Types {
         ensures others { (t : TypeId) → IsType self.old t → layout_of self.new t ≡ layout_of self.old t }
     {
         let t = TypeId(self.entries.len() as u32);
+        let pointers = self.new_pointers(&shape);
         let canonical = canonical(self.alloc, &self.entries, &shape)?;
         self.entries.reserve(1)?;
         let first = first_with(&mut self.known, canonical, t)?;
         let kept = Kept {
             layout,
+            pointers,
             fields: Vec::new(self.alloc),
             first,
         };
@@ -343,6 +428,16 @@ impl Types {
         ensures { result ≡ align_of self.now t }
     {
         self.layout(t).align
+    }
+
+    /// How many pointers an object of a type holds, of a union those of its largest member. It takes constant time.
+    pub fn pointers(&self, t: TypeId) -> u64
+        requires { IsType self.now t }
+        ensures count { result ≡ pointers_in self.now t }
+        ensures small { 8 * result ≤ size_of self.now t }
+    {
+        let _ = &self.alloc;
+        self.kept(t).1.pointers
     }
 
     /// The number of members of a struct or union, 0 where none are defined so far.

@@ -29,3 +29,5 @@ pub mod Crossed
 pub mod Queue
 pub mod Tops
 pub mod AllPairsFound
+pub mod Knowing
+pub mod MixedSpots

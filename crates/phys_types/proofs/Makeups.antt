@@ -8,7 +8,7 @@ use Rattle.c_types.specs.declared.shape.TypeShape.TheVariants.{Void, Integer, Po
 use Rattle.c_types.specs.Table.{Table, IsType, shape_at, named_by}
 use Rattle.c_types.specs.Layouts.{size_of}
 use Rattle.c_types.specs.Cells.{Relation, alike, all_alike, cells_at}
-use Rattle.c_types.specs.Equality.{bytes, slot_of, same_slot, makeup_of, same_makeup, made_alike}
+use Rattle.c_types.specs.Equality.{bytes, slot_of, same_slot, makeup_of, makeup_at, same_makeup}
 use Rattle.c_types.specs.Sound.{IsWellFormed}
 use Rattle.phys_types.specs.declared.spot.Layout.{Layout}
 use Rattle.phys_types.specs.Spots.{cells_from, AreSpots}
@@ -35,17 +35,18 @@ all_tail P x xs h i d l = h (suc i) d (omega arith)
 pub all_head : (P : TypeId → Type 0) (x : TypeId) (xs : List TypeId) → All P (x ∷ xs) → P x
 all_head P x xs h = h 0 x (omega arith)
 
-module _ (table : Table) (E : Relation) (t u : TypeId) where
+-- the makeups are those where unions are mixed or not by Z
+module _ (table : Table) (Z E : Relation) (t u : TypeId) where
   pub code_alike : (ps qs : List TypeId) (r s : TypeId) (a b : Bool) → shape_at table t ≡ Function ps r → shape_at table u ≡ Function qs s
       → a ≡ same_slot E (slot_of r (shape_at table r)) (slot_of s (shape_at table s)) → a ≡ true
-      → b ≡ pointwise (λ p q. same_slot E (slot_of p (shape_at table p)) (slot_of q (shape_at table q))) ps qs → b ≡ made_alike table E t u
+      → b ≡ pointwise (λ p q. same_slot E (slot_of p (shape_at table p)) (slot_of q (shape_at table q))) ps qs → b ≡ same_makeup E (makeup_at table Z t) (makeup_at table Z u)
   code_alike ps qs r s a b e f k l m =
       m
       ∙ sym (pointwise_map (same_slot E) (λ p. slot_of p (shape_at table p)) ps qs)
       ∙ ap (λ x. x && pointwise (same_slot E) (map (λ p. slot_of p (shape_at table p)) ps) (map (λ p. slot_of p (shape_at table p)) qs)) (sym l ∙ k)
-      ∙ (λ i. same_makeup E (makeup_of table E t (sym e i)) (makeup_of table E u (sym f i)))
+      ∙ (λ i. same_makeup E (makeup_of table Z t (sym e i)) (makeup_of table Z u (sym f i)))
 
-  bytes_of : (t : TypeId) (s : TypeShape) → ((ps : List TypeId) (r : TypeId) → s ≡ Function ps r → ⊥) → makeup_of table E t s ≡ bytes (cells_at table E t)
+  bytes_of : (t : TypeId) (s : TypeShape) → ((ps : List TypeId) (r : TypeId) → s ≡ Function ps r → ⊥) → makeup_of table Z t s ≡ bytes (cells_at table Z t)
   bytes_of t Void n = refl
   bytes_of t (Integer b s) n = refl
   bytes_of t (Pointer m v) n = refl
@@ -55,16 +56,19 @@ module _ (table : Table) (E : Relation) (t u : TypeId) where
   bytes_of t (Union g) n = refl
 
   data_alike : ((ps : List TypeId) (r : TypeId) → shape_at table t ≡ Function ps r → ⊥) → ((ps : List TypeId) (r : TypeId) → shape_at table u ≡ Function ps r → ⊥)
-      → made_alike table E t u ≡ all_alike E (cells_at table E t) (cells_at table E u)
+      → same_makeup E (makeup_at table Z t) (makeup_at table Z u) ≡ all_alike E (cells_at table Z t) (cells_at table Z u)
   data_alike n m = λ i. same_makeup E (bytes_of t (shape_at table t) n i) (bytes_of u (shape_at table u) m i)
 
-module _ (table : Table) (number : TypeId → ℕ) (t u : TypeId) (x y : Layout)
+module _ (table : Table) (Z : Relation) (number : TypeId → ℕ) (t u : TypeId) (x y : Layout)
     (n : (ps : List TypeId) (r : TypeId) → shape_at table t ≡ Function ps r → ⊥) (m : (ps : List TypeId) (r : TypeId) → shape_at table u ≡ Function ps r → ⊥)
-    (h : IsLayoutOf table (same_number number) t x) (k : IsLayoutOf table (same_number number) u y) where
-  cells_is : all_alike (same_number number) (cells_from 0 x.spots.items x.size) (cells_from 0 y.spots.items y.size) ≡ made_alike table (same_number number) t u
-  cells_is = (λ i. all_alike (same_number number) (h.cells i) (k.cells i)) ∙ sym (data_alike table (same_number number) t u n m)
+    (h : IsLayoutOf table Z t x) (k : IsLayoutOf table Z u y) where
+  abbrev alike_is : Bool
+  alike_is = same_makeup (same_number number) (makeup_at table Z t) (makeup_at table Z u)
 
-  pub same_size_alike : (b : Bool) → x.size ≡ y.size → b ≡ same_spots number x.spots.items y.spots.items → b ≡ made_alike table (same_number number) t u
+  cells_is : all_alike (same_number number) (cells_from 0 x.spots.items x.size) (cells_from 0 y.spots.items y.size) ≡ alike_is
+  cells_is = (λ i. all_alike (same_number number) (h.cells i) (k.cells i)) ∙ sym (data_alike table Z (same_number number) t u n m)
+
+  pub same_size_alike : (b : Bool) → x.size ≡ y.size → b ≡ same_spots number x.spots.items y.spots.items → b ≡ alike_is
   same_size_alike b e f =
       let other : AreSpots (size_of table) 0 y.spots.items x.size = subst (AreSpots (size_of table) 0 y.spots.items) (sym e) k.spots in
       f
@@ -74,10 +78,10 @@ module _ (table : Table) (number : TypeId → ℕ) (t u : TypeId) (x y : Layout)
       ∙ ap (λ j. all_alike (same_number number) (cells_from 0 x.spots.items x.size) (cells_from 0 y.spots.items j)) e
       ∙ cells_is
 
-  pub other_size_apart : (x.size ≡ y.size → ⊥) → false ≡ made_alike table (same_number number) t u
+  pub other_size_apart : (x.size ≡ y.size → ⊥) → false ≡ alike_is
   other_size_apart e = by (all_alike (same_number number) (cells_from 0 x.spots.items x.size) (cells_from 0 y.spots.items y.size)) refl
     where
-      by : (b : Bool) → all_alike (same_number number) (cells_from 0 x.spots.items x.size) (cells_from 0 y.spots.items y.size) ≡ b → false ≡ made_alike table (same_number number) t u
+      by : (b : Bool) → all_alike (same_number number) (cells_from 0 x.spots.items x.size) (cells_from 0 y.spots.items y.size) ≡ b → false ≡ alike_is
       by true f =
           absurd (e (sym (length_all (size_of table) x.spots.items x.size h.spots)
           ∙ pointwise_long (alike (same_number number)) (cells_from 0 x.spots.items x.size) (cells_from 0 y.spots.items y.size) f

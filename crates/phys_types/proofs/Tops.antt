@@ -1,5 +1,5 @@
 use Rattle.std.specs.Prelude.{IsTrue}
-use Rattle.std.proofs.Common.{◌≡◌, ℕ, ◌<◌, Bool, true, false, ◌||◌, List, length, refl, ap, sym, subst, ◌∙◌, true≢false}
+use Rattle.std.proofs.Common.{◌≡◌, ℕ, ◌<◌, ◌⊎◌, inl, inr, Bool, true, false, ◌||◌, List, length, refl, ap, sym, subst, ◌∙◌, true≢false}
 use Rattle.std.specs.Int.{IsGcd}
 use Rattle.std.proofs.lemmas.Nat.Gcd.{IsGcd-swap}
 use Rattle.cc_base.specs.declared.number.TypeId.{TypeId}
@@ -43,19 +43,34 @@ module _ (table : Table) (w : IsWellFormed table) (t u : TypeId) (x y : Layout) 
   of_class : (c : FlowClass) → flow_class table t u ≡ c → Gains (CorrespondAtTop table c t u) m n → Gains (CorrespondAtTop table (flow_class table t u) t u) m n
   of_class c e g = subst (λ d. Gains (CorrespondAtTop table d t u) m n) (sym e) g
 
+  -- where the first type begins with the second
+  pub alike_front : begins_with table t u ≡ true → Gains (StandInTurn (IsAtSpot xs) (IsAtSpot ys)) m n → Gains (StandAlike table t u) m n
+  alike_front e g =
+      gains_as (StandInTurn (IsAtSpot x.spots.items) (IsAtSpot y.spots.items)) (StandAlike table t u) m n
+      (alike_from_turns table w t u x y a b h k e) (turns_from_alike table w t u x y a b h k e) (given_turns g)
+
+  -- where the second begins with the first
+  pub alike_back : begins_with table u t ≡ true → Gains (StandInTurn (IsAtSpot xs) (IsAtSpot ys)) m n → Gains (StandAlike table t u) m n
+  alike_back e g =
+      gains_as (StandInTurn (IsAtSpot x.spots.items) (IsAtSpot y.spots.items)) (StandAlike table t u) m n
+      (λ p q s. turned_alike table u t q p (alike_from_turns table w u t y x b a k h e q p (turned_turn x.spots.items y.spots.items p q s)))
+      (λ p q s. turned_turn y.spots.items x.spots.items q p (turns_from_alike table w u t y x b a k h e q p (turned_alike table t u p q s)))
+      (given_turns g)
+
+  -- where two types aren't equal, but one begins with the other
+  pub alike_near : (c : Bool) → c ≡ physically_equal table t u → c ≡ false
+      → (physically_equal table t u ≡ true) ⊎ ((begins_with table t u ≡ true) ⊎ (begins_with table u t ≡ true))
+      → Gains (StandInTurn (IsAtSpot xs) (IsAtSpot ys)) m n → Gains (StandAlike table t u) m n
+  alike_near c e f near g = elim near [
+    | inl q ↦ absurd (true≢false (sym q ∙ sym e ∙ f))
+    | inr r ↦ elim r [ inl q ↦ alike_front q g | inr q ↦ alike_back q g ]
+  ]
+
   pub top_up : flow_class table t u ≡ Up → Gains (StandInTurn (IsAtSpot xs) (IsAtSpot ys)) m n → Gains (CorrespondAtTop table (flow_class table t u) t u) m n
-  top_up e g =
-      of_class Up e
-      (gains_as (StandInTurn (IsAtSpot x.spots.items) (IsAtSpot y.spots.items)) (StandAlike table t u) m n
-      (alike_from_turns table w t u x y a b h k (told Up e)) (turns_from_alike table w t u x y a b h k (told Up e)) (given_turns g))
+  top_up e g = of_class Up e (alike_front (told Up e) g)
 
   pub top_down : flow_class table t u ≡ Down → Gains (StandInTurn (IsAtSpot xs) (IsAtSpot ys)) m n → Gains (CorrespondAtTop table (flow_class table t u) t u) m n
-  top_down e g =
-      of_class Down e
-      (gains_as (StandInTurn (IsAtSpot x.spots.items) (IsAtSpot y.spots.items)) (StandAlike table t u) m n
-      (λ p q s. turned_alike table u t q p (alike_from_turns table w u t y x b a k h (told Down e) q p (turned_turn x.spots.items y.spots.items p q s)))
-      (λ p q s. turned_turn y.spots.items x.spots.items q p (turns_from_alike table w u t y x b a k h (told Down e) q p (turned_alike table t u p q s)))
-      (given_turns g))
+  top_down e g = of_class Down e (alike_back (told Down e) g)
 
   given_columns : (c d : ℕ) → c ≡ d → Gains (StandInColumns c xs ys c) m n → Gains (StandInColumns d x.spots.items y.spots.items d) m n
   given_columns c d e g =

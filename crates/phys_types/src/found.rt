@@ -13,7 +13,7 @@ use std::marker::Model;
 /// Of each two pointers that are found to correspond, the nodes, and the types that they point to. No pair is there twice, and
 /// a new one stands behind the others.
 #[derive(Drop)]
-pub(crate) struct Found {
+pub struct Found {
     nodes: IndexSet<(NodeId, NodeId)>,
     pointees: IndexSet<(TypeId, TypeId)>,
 }
@@ -28,7 +28,7 @@ impl Model for Found {
 
 impl Found {
     /// Nothing. Takes no memory.
-    pub(crate) fn new(alloc: Global) -> Found
+    pub fn new(alloc: Global) -> Found
         ensures { result ≡ no_pairs }
     {
         Found {
@@ -55,7 +55,7 @@ impl Found {
     }
 
     /// The pairs of nodes.
-    pub(crate) fn into_nodes(self, alloc: Global) -> Result<Vec<(NodeId, NodeId)>, NoMemory>
+    pub fn into_nodes(self, alloc: Global) -> Result<Vec<(NodeId, NodeId)>, NoMemory>
         ensures pairs { IfOk result (λ pairs. pairs.items ≡ self.nodes) }
         ensures once { AllPairs (λ x y. x ≢ y) self.nodes }
     {

@@ -10,8 +10,10 @@ mod crossing;
 mod following;
 mod found;
 mod held;
+mod known;
 mod laws;
 mod makeup;
+mod mixed_unions;
 mod order;
 mod phys;
 mod round;
@@ -20,6 +22,8 @@ mod tiling;
 mod top;
 
 pub use c_types::FlowClass;
+pub use found::Found;
+pub use known::Known;
 pub use laws::{
     coverage_passes_along_a_class, facts_pass_between_types_of_one_class,
     facts_pass_to_what_is_covered, repetitions_of_types_that_tile_agree,

@@ -5,7 +5,8 @@ ghost use Rattle.std.specs.List.{All};
 ghost use lib.Pointwise.{pointwise};
 ghost use Rattle.cc_base.specs.declared.number.TypeId.{TypeId};
 ghost use Rattle.c_types.specs.Table.{IsType, shape_at};
-ghost use Rattle.c_types.specs.Equality.{slot_of, same_slot, made_alike};
+ghost use Rattle.c_types.specs.Cells.{Relation};
+ghost use Rattle.c_types.specs.Equality.{slot_of, same_slot, makeup_at, same_makeup};
 ghost use Rattle.c_types.specs.Sound.{IsWellFormed};
 ghost use Rattle.phys_types.specs.Numbers.{number_in, same_number};
 ghost use Rattle.phys_types.specs.Shown.{IsLayoutOf};
@@ -63,8 +64,9 @@ fn same_slots(types: &Types, numbers: &[usize], ps: &[TypeId], qs: &[TypeId]) ->
     true
 }
 
-/// Whether two types are made alike, where what they point to is taken to be equal by the numbers.
-pub(crate) fn made_alike(
+/// Whether two types look alike by their layouts: whether they are made alike, where what they point to is taken to be equal by the
+/// numbers. Whether unions are mixed is judged as it is in the layouts.
+pub(crate) fn looks_alike(
     types: &Types,
     numbers: &[usize],
     t: TypeId,
@@ -75,9 +77,7 @@ pub(crate) fn made_alike(
     requires formed { IsWellFormed types.now }
     requires first { IsType types.now t }
     requires second { IsType types.now u }
-    requires first_layout { IsLayoutOf types.now (same_number (number_in numbers.now)) t x.now }
-    requires second_layout { IsLayoutOf types.now (same_number (number_in numbers.now)) u y.now }
-    ensures { result ≡ made_alike types.now (same_number (number_in numbers.now)) t u }
+    ensures { (E : Relation) → IsLayoutOf types.now E t x.now → IsLayoutOf types.now E u y.now → result ≡ same_makeup (same_number (number_in numbers.now)) (makeup_at types.now E t) (makeup_at types.now E u) }
 {
     match types.shape(t) {
         TypeShape::Function(ps, r) => match types.shape(u) {

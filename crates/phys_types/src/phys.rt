@@ -20,8 +20,7 @@ use crate::building::kept;
 use crate::comparing::{begins, number_of};
 use crate::following::follow;
 use crate::found::Found;
-use crate::order::in_order;
-use crate::round::settle;
+use crate::known::Known;
 use crate::spot::Layout;
 use crate::tiling::tiles;
 use crate::top::add_top;
@@ -43,25 +42,20 @@ impl Phys {
         Phys { alloc }
     }
 
+    /// What is known of all types of a table, for many questions about it.
+    pub fn over<'a>(&self, types: &'a Types) -> Result<Known<'a>, NoMemory>
+        ensures { IfOk result (λ known. known ≡ types.now) }
+    {
+        Known::of(self.alloc, types)
+    }
+
     /// The class of a flow from a pointer to `from` to a pointer to `to`.
     pub fn class(&mut self, types: &Types, from: TypeId, to: TypeId) -> Result<FlowClass, NoMemory>
         requires from { IsType types.now from }
         requires to { IsType types.now to }
         ensures { IfOk result (λ class. class ≡ flow_class types.now from to) }
     {
-        let _count = types.count();
-        let order = in_order(self.alloc, types)?;
-        let settled = settle(self.alloc, types, &order.list, &order.places)?;
-        settled_class(
-            self.alloc,
-            types,
-            &order.list,
-            &order.places,
-            &settled.numbers,
-            &settled.layouts,
-            from,
-            to,
-        )
+        self.over(types)?.class(from, to)
     }
 
     /// The nodes of the pointers that correspond in a flow from a pointer to `from` to a pointer to `to`, at every depth: of each two
@@ -83,24 +77,12 @@ impl Phys {
         ensures once { IfOk result (λ pairs. AllPairs (λ x y. x ≢ y) pairs.items) }
         ensures kinds { (kind : NodeId → Kind) → IfOk result (λ pairs. TellsEqualKinds types.now from to kind pairs.items) }
     {
-        let _count = types.count();
-        let order = in_order(self.alloc, types)?;
-        let settled = settle(self.alloc, types, &order.list, &order.places)?;
-        settled_pairs(
-            self.alloc,
-            types,
-            &order.list,
-            &order.places,
-            &settled.numbers,
-            &settled.layouts,
-            from,
-            to,
-        )
+        self.over(types)?.pairs(from, to)
     }
 }
 
 /// The nodes of the pointers that correspond in a flow between two types of a table whose types are settled.
-fn settled_pairs(
+pub(crate) fn settled_pairs(
     alloc: Global,
     types: &Types,
     order: &[TypeId],
@@ -128,7 +110,7 @@ fn settled_pairs(
 }
 
 /// The class of a flow between two types of a table whose types are settled.
-fn settled_class(
+pub(crate) fn settled_class(
     alloc: Global,
     types: &Types,
     order: &[TypeId],
@@ -159,7 +141,7 @@ fn is_function(types: &Types, t: TypeId) -> bool
 }
 
 /// Whether one of two types is a function type.
-fn is_one_function(types: &Types, t: TypeId, u: TypeId) -> bool
+pub(crate) fn is_one_function(types: &Types, t: TypeId, u: TypeId) -> bool
     requires first { IsType types.now t }
     requires second { IsType types.now u }
     ensures { result ≡ (is_function types.now t || is_function types.now u) }

@@ -12,7 +12,7 @@ ghost use Rattle.phys_types.specs.Shown.{IsLayoutOf, IsLow, ArePartsKept, ArePar
 ghost use Rattle.phys_types.specs.Rounds.{IsOrder, AreShown, IsRound, AreSettled, first_place};
 
 use crate::building::layout_of;
-use crate::makeup::made_alike;
+use crate::makeup::looks_alike;
 use crate::spot::Layout;
 use c_types::Types;
 use cc_base::{NoMemory, TypeId};
@@ -50,7 +50,7 @@ fn first_alike(
     ensures { result ≡ first_place (λ u. made_alike types.now (same_number (number_in numbers.now)) u t) (take (length layouts.now) order.now) }
 {
     for (i, other) in layouts.iter().enumerate() {
-        if made_alike(types, numbers, order[i], other, t, layout) {
+        if looks_alike(types, numbers, order[i], other, t, layout) {
             return i;
         }
     }

@@ -3,14 +3,15 @@ use Rattle.std.specs.List.{All}
 use Rattle.cc_base.specs.declared.number.TypeId.{TypeId}
 use Rattle.c_types.specs.declared.kept.Kept.{Kept}
 use Rattle.c_types.specs.Table.{Entry, IsType, IsAggregate, IsComplete, members_at, shape_at}
-use Rattle.c_types.specs.Layouts.{layout_of}
+use Rattle.c_types.specs.Layouts.{layout_of, size_of}
+use Rattle.c_types.specs.PointerCounts.{pointers_of_shape, pointers_in}
 use Rattle.c_types.specs.Kept.{ArePlaces, table_of}
 use Rattle.c_types.specs.Calls.{with_members, defined_layout}
 use Rattle.c_types.proofs.Defining.{sound_defined, table_defined, others_complete}
 use Rattle.c_types.proofs.table.Types.define.Goals as goal
 
 abbrev kept : goal.After-drop-members-2 → Kept
-kept c = record { layout = c.in-Some.layout; fields = c.in_ok-fields.fields; first = c.first_of-first.result }
+kept c = record { layout = c.in-Some.layout; pointers = c.defined_pointers-pointers.result; fields = c.in_ok-fields.fields; first = c.first_of-first.result }
 
 move : (c : goal.After-drop-members-2) (P : List Entry → Type 0) → P c.args.self.now → P (table_of c.self.inside.entries.entries)
 move c P = subst P (sym c.self.view_is)
@@ -32,6 +33,13 @@ layout c =
     move c (λ table. c.in-Some.layout ≡ defined_layout table c.args.t c.args.members.items)
     (subst (λ (ms : List TypeId). c.in-Some.layout ≡ defined_layout c.args.self.now c.args.t ms) c.deref.ensures.value c.in-Some.ensures.1)
 
+count : (c : goal.After-drop-members-2) → c.defined_pointers-pointers.result
+    ≡ pointers_of_shape (size_of (table_of c.self.inside.entries.entries)) (pointers_in (table_of c.self.inside.entries.entries)) (shape_at (table_of c.self.inside.entries.entries) c.args.t) c.args.members.items
+count c =
+    move c (λ table. c.defined_pointers-pointers.result ≡ pointers_of_shape (size_of table) (pointers_in table) (shape_at table c.args.t) c.args.members.items)
+    (subst (λ (ms : List TypeId). c.defined_pointers-pointers.result ≡ pointers_of_shape (size_of c.args.self.now) (pointers_in c.args.self.now) (shape_at c.args.self.now c.args.t) ms)
+    c.deref-2.ensures.value c.defined_pointers-pointers.ensures)
+
 small : (c : goal.After-drop-members-2) → (defined_layout (table_of c.self.inside.entries.entries) c.args.t c.args.members.items).size ≤ 1048576
 small c =
     move c (λ table. (defined_layout table c.args.t c.args.members.items).size ≤ 1048576)
@@ -42,12 +50,12 @@ places : (c : goal.After-drop-members-2)
 places c =
     move c (λ table. ArePlaces (layout_of table) (shape_at table c.args.t) c.args.members.items c.in_ok-fields.fields.items)
     (subst (λ (ms : List TypeId). ArePlaces (layout_of c.args.self.now) (shape_at c.args.self.now c.args.t) ms c.in_ok-fields.fields.items)
-    c.deref-2.ensures.value c.in_ok-fields.ensures)
+    c.deref-3.ensures.value c.in_ok-fields.ensures)
 
 pub invariant_of-self : goal.invariant_of-self
 invariant_of-self c =
     sound_defined c.self.inside.entries.entries c.args.t c.args.members.items (kept c) (typed c) (places c) c.self.inside.known.entries c.self.invariant
-    (aggregate c) (open_so_far c) c.requires.some (complete c) (layout c) (small c) c.first_of-first.ensures
+    (aggregate c) (open_so_far c) c.requires.some (complete c) (layout c) (count c) (small c) c.first_of-first.ensures
 
 pub returns-clause-defined : goal.returns-clause-defined
 returns-clause-defined c =

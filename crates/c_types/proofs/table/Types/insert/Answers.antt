@@ -4,7 +4,8 @@ use Rattle.indexmap.specs.IndexMap.{insert_entry}
 use Rattle.c_types.specs.declared.kept.Kept.{Kept}
 use Rattle.c_types.specs.declared.shape.TypeShape.{TypeShape}
 use Rattle.c_types.specs.Table.{Table, IsType}
-use Rattle.c_types.specs.Layouts.{layout_of}
+use Rattle.c_types.specs.Layouts.{layout_of, size_of}
+use Rattle.c_types.specs.PointerCounts.{pointers_of_shape, pointers_in}
 use Rattle.c_types.specs.Kept.{KeptEntry, IsSound, IsFound, AreFirst, table_of, entry_of, firsts_of}
 use Rattle.c_types.specs.Calls.{IsNew, IsAddable, basic_entry, new_layout}
 use Rattle.c_types.proofs.Shapes.{shape_eq}
@@ -16,7 +17,7 @@ abbrev before : goal.Joined-branch-5 → List KeptEntry
 before c = c.self.inside.entries.entries
 
 abbrev kept : goal.Joined-branch-5 → Kept
-kept c = record { layout = c.args.layout; fields = c.new.result; first = c.in_ok-first.first }
+kept c = record { layout = c.args.layout; pointers = c.new_pointers-pointers.result; fields = c.new.result; first = c.in_ok-first.first }
 
 fresh : (c : goal.Joined-branch-5) → IsNew (table_of (before c)) c.args.shape
 fresh c = subst (λ (table : Table). IsNew table c.args.shape) (sym c.self.view_is) c.requires.fresh
@@ -47,6 +48,7 @@ invariant_of-self-2 c =
     (sound_added (before c) c.args.shape (kept c) c.new.ensures.items c.self.inside.known.entries c.first_with.new.known.entries c.self.invariant
     (fresh c) (addable c)
     (subst (λ (table : Table). c.args.layout ≡ new_layout table c.args.shape) (sym c.self.view_is) c.requires.layout)
+    (subst (λ (table : Table). c.new_pointers-pointers.result ≡ pointers_of_shape (size_of table) (pointers_in table) c.args.shape []) (sym c.self.view_is) c.new_pointers-pointers.ensures)
     (subst (λ (table : Table). length table < 16384) (sym c.self.view_is) c.requires.room)
     c.requires.small (first c))
 

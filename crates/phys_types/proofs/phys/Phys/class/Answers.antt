@@ -1,11 +1,8 @@
-use Rattle.std.proofs.Common.{List, sym, subst}
-use Rattle.std.specs.List.{Contains}
-use Rattle.cc_base.specs.declared.number.TypeId.{TypeId}
-use Rattle.phys_types.specs.Reach.{IsClosed}
-use Rattle.phys_types.proofs.Viewing.{order_closed}
+use Rattle.std.specs.Prelude.{IfOk}
+use Rattle.std.proofs.Common.{◌≡◌, List, subst}
+use Rattle.c_types.specs.Table.{Entry}
+use Rattle.c_types.specs.Flows.{flow_class}
 use Rattle.phys_types.proofs.phys.Phys.class.Goals as goal
 
-pub settle-requires-clause-closed : goal.settle-requires-clause-closed
-settle-requires-clause-closed c =
-    subst (λ (xs : List TypeId). IsClosed c.args.types.now (Contains xs)) (sym c.deref.ensures.value)
-    (order_closed c.args.types.now c.in_ok-order.order.list.items c.in_ok-order.order.places.items c.in_ok-order.ensures c.count-count.ensures.formed)
+pub returns : goal.returns
+returns c = subst (λ (table : List Entry). IfOk c.class-2.result (λ class. class ≡ flow_class table c.args.from c.args.to)) c.in_ok-over.ensures c.class-2.ensures

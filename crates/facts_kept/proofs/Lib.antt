@@ -1,5 +1,4 @@
 pub mod Lists
-pub mod Periods
 pub mod Agree
 pub mod Flow
 pub mod Complete

@@ -8,11 +8,11 @@ use Rattle.c_types.specs.Table.{is_function}
 use Rattle.type_laws.proofs.Pointers.{class_own}
 use Rattle.integers.specs.Words.{word}
 use Rattle.integers.proofs.WordLaws.{residue-below}
-use Rattle.src_mem.specs.Pointers.{Pointer, Null, Number, Function, pointer_of_word}
+use Rattle.src_mem.specs.Pointers.{Function, pointer_of_word}
 use Rattle.src_mem.specs.State.{State, Setting, Defined}
 use Rattle.src_mem.specs.Primitives.{pointer_from}
 use Rattle.src_mem.specs.Outlines.{Outline}
-use Rattle.src_mem.specs.Facts.{IsValueOf, IsMade, IsHeldIn}
+use Rattle.src_mem.specs.Facts.{IsValueOf}
 use Rattle.src_mem.specs.Laws.{Gives}
 use Rattle.facts_kept.specs.Kept.{GivesPointer}
 

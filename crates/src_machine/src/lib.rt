@@ -10,6 +10,7 @@ ghost use Rattle.src_mem.specs.State.{Stopped, Exited, Turns, Wants, Wrong, byte
 ghost use Rattle.src_mem.specs.Laws.{AreWhole};
 ghost use Rattle.src_mem.specs.RunLaws.{AllLie};
 ghost use Rattle.src_machine.specs.Laws.{EachRun};
+ghost use Rattle.src_machine.specs.Switches.{SwitchesRunWhatIsBehind};
 ghost use Rattle.c_types.specs.declared.site.Site.TheVariants.{Pointee, Home, Linked, Flow};
 ghost use Rattle.src_machine.specs.Sites.{sites_of};
 ghost use Rattle.src_machine.specs.Small.{node, type, int, at, at_line, access, Shows};
@@ -94,6 +95,11 @@ pub fn recursion_is_stopped()
 pub fn sites_of_a_program()
     ensures { sites_of address_program address_table ≡ Pointee (node 0) int ∷ Pointee (node 3) int ∷ Home (node 1) (type 9)
         ∷ Home (node 2) int ∷ Linked (node 3) (node 2) ∷ Flow (node 3) int (node 0) int (at 30) ∷ [] }
+{}
+
+/// A `switch` runs its block from the label that its value chooses, as a block runs; a `break` leaves it.
+pub fn switches_run_what_is_behind_their_label()
+    ensures { SwitchesRunWhatIsBehind }
 {}
 
 /// A run reads no more input than there is.

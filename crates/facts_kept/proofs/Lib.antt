@@ -31,3 +31,4 @@ pub mod Addressing
 pub mod Clearing
 pub mod Copying
 pub mod Sources
+pub mod Offsets

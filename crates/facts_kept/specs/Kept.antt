@@ -1,5 +1,5 @@
 -- What operations leave of the facts, in the words of their laws.
-use Rattle.std.specs.Prelude.{◌≡◌, ℕ, suc, ◌≤◌, ℤ, true, ⊤, ◌⊎◌, List, [], ◌∷◌, ◌++◌, map, slice_get, Some}
+use Rattle.std.specs.Prelude.{◌≡◌, ℕ, suc, ◌+◌, ◌≤◌, ℤ, true, ⊤, ◌⊎◌, List, [], ◌∷◌, ◌++◌, map, length, slice_get, Some}
 use Rattle.std.specs.List.{Contains}
 use Rattle.cc_base.specs.declared.kind.Kind.{Kind}
 use Rattle.cc_base.specs.declared.number.TypeId.{TypeId}
@@ -10,6 +10,9 @@ use Rattle.c_types.specs.declared.shape.TypeShape.{TypeShape}
 use Rattle.c_types.specs.declared.shape.TypeShape.TheVariants as shape
 use Rattle.c_types.specs.Table.{IsComplete, shape_at}
 use Rattle.c_types.specs.Layouts.{size_of}
+use Rattle.c_types.specs.Cells.{Cell}
+use Rattle.c_types.specs.Equality.{cells_of}
+use Rattle.c_types.specs.Flows.{CellsAgree}
 use Rattle.c_types.specs.Solutions.{IsFlowAllowed, IsPointeeAllowed, IsPlain, SpreadsWild}
 use Rattle.integers.specs.Arithmetic.{IntegerType, converted}
 use Rattle.src_mem.specs.Pointers.{Pointer, Value, Integer, Address}
@@ -80,6 +83,12 @@ pub record GivesBlock (w : Setting) (sites : List Site) (depth : ℕ) (node : No
 -- what a block may be made of: a type that has a size, or `void`
 abbrev pub MakesBlocks : Setting → TypeId → Type 0
 MakesBlocks w t = (shape_at w.table t ≡ shape.Void) ⊎ IsComplete w.table t
+
+-- v stands at an offset in t: its cells agree with those of t there
+pub record IsSub (w : Setting) (t : TypeId) (offset : ℕ) (v : TypeId) : Type 0 where
+  pub room : offset + length (cells_of w.table v) ≤ length (cells_of w.table t)
+  pub agree : (j : ℕ) (d : Cell) → slice_get (cells_of w.table v) j ≡ Some d
+      → (c : Cell) × (slice_get (cells_of w.table t) (offset + j) ≡ Some c) × CellsAgree w.table w.kind c d
 
 -- Calls
 

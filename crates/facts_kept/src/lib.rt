@@ -6,7 +6,7 @@
 //! pointers are held by a call of some depth.
 #![tactic(auto)]
 
-ghost use Rattle.std.specs.Prelude.{◌≡◌, ◌≢◌, ◌⊎◌, ◌↔◌, ℕ, suc, ◌<◌, ◌≤◌, ℤ, List, [], ◌∷◌, ◌++◌, length, slice_get, Some, true, false, IsFalse};
+ghost use Rattle.std.specs.Prelude.{◌≡◌, ◌≢◌, ◌⊎◌, ◌↔◌, ℕ, suc, ◌+◌, ◌*◌, ◌<◌, ◌≤◌, ℤ, pos, ◌+ℤ◌, List, [], ◌∷◌, ◌++◌, length, slice_get, Some, true, false, IsFalse};
 ghost use Rattle.std.specs.List.{Contains};
 ghost use Rattle.cc_base.specs.declared.place.Place.{Place};
 ghost use Rattle.cc_base.specs.declared.kind.Kind.{Kind};
@@ -17,12 +17,12 @@ ghost use Rattle.c_types.specs.declared.site.Site.{Site};
 ghost use Rattle.c_types.specs.declared.site.Site.TheVariants.{Pointee};
 ghost use Rattle.c_types.specs.declared.shape.TypeShape.TheVariants as shape;
 ghost use Rattle.c_types.specs.Table.{IsComplete, IsAggregate, shape_at, members_at, is_function};
-ghost use Rattle.c_types.specs.Layouts.{size_of, member_at};
+ghost use Rattle.c_types.specs.Layouts.{size_of, member_at, offset_of};
 ghost use Rattle.c_types.specs.Flows.{HeldPointer, pointer_at, IsOfOneClass};
-ghost use Rattle.c_types.specs.Solutions.{IsPlain, SpreadsWild, IsUnionAllowed, IsWildWhereMixed};
+ghost use Rattle.c_types.specs.Solutions.{IsPlain, SpreadsWild, IsUnionAllowed, IsWildWhereMixed, HoldsMixed};
 ghost use Rattle.c_types.specs.Sound.{IsWellFormed};
 ghost use Rattle.integers.specs.Arithmetic.{IntegerType};
-ghost use Rattle.src_mem.specs.Pointers.{Pointer, Function, Value, Integer, Address};
+ghost use Rattle.src_mem.specs.Pointers.{Location, Pointer, Function, Value, Integer, Address};
 ghost use Rattle.src_mem.specs.Memory.{Object, Memory, Planned, new_variable};
 ghost use Rattle.src_mem.specs.State.{State, Setting, Defined};
 ghost use Rattle.src_mem.specs.Checks.{InObject, IsAligned, HoldsPointer, Outlives, holds};
@@ -31,9 +31,9 @@ ghost use Rattle.src_mem.specs.Uses.{read, write, home, copy_all, enter_with};
 ghost use Rattle.src_mem.specs.Operations.{kind_in, node_in, pointee, converted_pointer, moved, member, decayed};
 ghost use Rattle.src_mem.specs.Values.{addressed};
 ghost use Rattle.src_mem.specs.Outlines.{Outline, outline, outlines_of, lives_of, LivesAt, AreOutlines};
-ghost use Rattle.src_mem.specs.Facts.{IsValueOf, IsMade, IsHeldIn, IsPlaceIn, IsSoundMemory, IsSoundAt};
+ghost use Rattle.src_mem.specs.Facts.{IsValueOf, IsMade, IsHeldIn, IsPlaceIn, IsTypedPlace, IsSoundMemory, IsSoundAt};
 ghost use Rattle.src_mem.specs.Laws.{Gives};
-ghost use Rattle.facts_kept.specs.Kept.{AllHold, asked_of, IsFlow, GivesPointer, GivesAddress, GivesInteger, GivesIntegerValue, IsKept, GivesBlock, MakesBlocks, IsLater, IsVariable, AreArgumentsOf, HasEntered, HasLeft};
+ghost use Rattle.facts_kept.specs.Kept.{AllHold, asked_of, IsFlow, GivesPointer, GivesAddress, GivesInteger, GivesIntegerValue, IsKept, GivesBlock, MakesBlocks, IsSub, IsLater, IsVariable, AreArgumentsOf, HasEntered, HasLeft};
 
 /// Where pointers come from: an integer gives a SEQ or a WILD pointer that may be held, the name of a function is a SAFE or a WILD
 /// pointer to its type, and a variable's home, which is SAFE or WILD, is a place of its type.
@@ -102,6 +102,16 @@ pub fn moves_give_what_may_be_held()
 pub fn parts_give_what_may_be_held()
     ensures member { (w : Setting) (sites : List Site) (at : Place) (depth : ℕ) (outer node : NodeId) (t : TypeId) (i : ℕ) (p : Pointer) (s : State) → IsWellFormed w.table → ((v : TypeId) (tag : ℕ) → shape_at w.table v ≡ shape.Union tag → IsUnionAllowed w.table w.kind v) → ((w.kind outer ≡ Wild) ↔ (w.kind node ≡ Wild)) → IsWildWhereMixed w.table w.kind outer t → IsComplete w.table t → IsAggregate w.table t → i < length (members_at w.table t) → IsComplete w.table (member_at w.table t i) → Contains sites (Pointee node (member_at w.table t i)) → AreOutlines w (outlines_of s.memory) → IsHeldIn w s.memory depth (w.kind outer) t p → Gives (member w at (w.kind outer) t i node (member_at w.table t i) p s) (GivesPointer w sites depth (w.kind node) (member_at w.table t i) s) }
     ensures array { (w : Setting) (sites : List Site) (at : Place) (depth : ℕ) (kind : Kind) (node : NodeId) (array element : TypeId) (n : ℕ) (p : Pointer) (s : State) → IsWellFormed w.table → ((kind ≡ Wild) ↔ (w.kind node ≡ Wild)) → shape_at w.table array ≡ shape.Array element n → IsComplete w.table array → IsComplete w.table element → Contains sites (Pointee node element) → AreOutlines w (outlines_of s.memory) → IsHeldIn w s.memory depth kind array p → Gives (decayed w at kind array true node element p s) (GivesPointer w sites depth (w.kind node) element s) }
+{}
+
+/// What stands at an offset in a type: a member, at its own, and an element; one after the other add their offsets. A place without
+/// tags that moves forward to what stands there is a place of its type, as an initialiser needs it.
+pub fn parts_stand_in_types()
+    ensures member { (w : Setting) (t : TypeId) (i : ℕ) → IsWellFormed w.table → ((v : TypeId) (tag : ℕ) → shape_at w.table v ≡ shape.Union tag → IsUnionAllowed w.table w.kind v) → IsAggregate w.table t → i < length (members_at w.table t) → ((v : TypeId) → HoldsMixed w.table t v → ⊥) → IsSub w t (offset_of w.table t i) (member_at w.table t i) }
+    ensures element { (w : Setting) (t element : TypeId) (n i : ℕ) → IsWellFormed w.table → shape_at w.table t ≡ shape.Array element n → i < n → IsSub w t (i * size_of w.table element) element }
+    ensures further { (w : Setting) (t v x : TypeId) (a b : ℕ) → IsWellFormed w.table → IsSub w t a v → IsSub w v b x → IsSub w t (a + b) x }
+    ensures unmixed { (w : Setting) (t v : TypeId) (a : ℕ) → IsWellFormed w.table → IsSub w t a v → ((x : TypeId) → HoldsMixed w.table t x → ⊥) → (x : TypeId) → HoldsMixed w.table v x → ⊥ }
+    ensures place { (w : Setting) (outlines : List Outline) (t u : TypeId) (offset : ℕ) (l : Location) → IsWellFormed w.table → IsComplete w.table u → IsSub w t offset u → IsTypedPlace w outlines t l → IsTypedPlace w outlines u (record l { offset = l.offset +ℤ pos offset }) }
 {}
 
 /// An allocation gives a null pointer or a new block. The memory stays sound, and what is given may be held once its condition held.

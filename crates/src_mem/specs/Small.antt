@@ -151,11 +151,11 @@ holds_here = holds small small_state.memory
 -- how an act ends in the small memory, or else what it gives
 pub data Shown (A : Type 0) : Type 0 where
   Ends : Ending → Shown A
-  Result : A → Shown A
+  Answer : A → Shown A
 
 abbrev pub shown : {A : Type 0} → Outcome Ending State A → Shown A
 shown (Ended e s) = Ends e
-shown (Done a s) = Result a
+shown (Done a s) = Answer a
 
 abbrev pub tried : {A : Type 0} → Act A → Shown A
 tried m = shown (m small_state)

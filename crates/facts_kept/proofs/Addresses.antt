@@ -30,10 +30,10 @@ use Rattle.src_mem.specs.Facts.{IsHeldIn, IsPlaceIn, IsPlaceAt, IsTypedPlace, Is
 use Rattle.src_mem.specs.Laws.{Gives}
 use Rattle.src_mem.proofs.Outlines.{mapped-from}
 use Rattle.src_mem.proofs.Right.{safe≢wild, seq≢wild, rtti≢wild}
-use Rattle.facts_kept.specs.Kept.{AllHold, asked_of, GivesPointer}
+use Rattle.facts_kept.specs.Kept.{AllHold, asked_of, GivesPointer, IsSub}
 use Rattle.facts_kept.proofs.Complete.{complete-some, complete-data}
 use Rattle.facts_kept.proofs.Places.{held-place}
-use Rattle.facts_kept.proofs.Members.{IsSub, Fills, fills-own, fills-array, sub-own, address-safe, address-typed, address-seq}
+use Rattle.facts_kept.proofs.Members.{Fills, fills-own, fills-array, sub-own, address-safe, address-typed, address-seq}
 use Rattle.facts_kept.proofs.Parts.{sub-member}
 use Rattle.facts_kept.proofs.Giving.{gives-checked}
 

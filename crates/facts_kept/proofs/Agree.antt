@@ -4,21 +4,20 @@ use Rattle.std.specs.Prelude.{◌==◌, IsTrue, IsFalse}
 use Rattle.std.proofs.lemmas.Bool.Decides.{nat_tests}
 use Rattle.cc_base.specs.declared.number.TypeId.{TypeId}
 use Rattle.cc_base.specs.declared.number.NodeId.{NodeId}
-use Rattle.c_types.specs.Table.{Table, shape_at, is_function, is_function_shape}
-use Rattle.c_types.specs.Cells.{Cell, raw, pointer, mixed, incomplete, Relation, alike, all_alike, same_type, cells_at, AreOrdered}
+use Rattle.c_types.specs.Table.{Table, shape_at, is_function}
+use Rattle.c_types.specs.Cells.{Cell, raw, pointer, mixed, incomplete, Relation, alike, all_alike, same_type, AreOrdered}
 use Rattle.std.specs.Int.{IsGcd}
 use Rattle.std.specs.List.{list_all, range_with_len}
 use Rattle.std.proofs.lemmas.Option.{slice_get_within}
-use Rattle.c_types.specs.declared.shape.TypeShape.{TypeShape}
-use Rattle.c_types.specs.declared.shape.TypeShape.TheVariants.{Void, Integer, Pointer, Array, Function, Struct, Union}
 use Rattle.c_types.specs.Equality.{bytes, makeup_of, same_makeup, made_alike, physically_equal, cells_of}
 use Rattle.type_laws.proofs.Levels.{still}
 use Rattle.type_laws.proofs.Relations.{cells_equiv, same_id, equal_equiv}
-use Rattle.c_types.specs.Flows.{HeldPointer, pointer_in, pointer_in_cell, pointer_at, and_then, StandAlike, Correspond, top, inside, CorrespondByPlace, HaveEqualKinds, IsOfOneClass, Covers, CellsAgree}
+use Rattle.c_types.specs.Flows.{HeldPointer, pointer_in_cell, pointer_at, and_then, StandAlike, Correspond, top, inside, CorrespondByPlace, HaveEqualKinds, IsOfOneClass, Covers, CellsAgree}
 use Rattle.c_types.specs.Sound.{IsWellFormed}
 use Rattle.type_laws.proofs.Pointers.{class_own, class_turned, class_twice}
 use Rattle.c_types.proofs.OrderedPointers.{cells_ordered, first_byte}
 use Rattle.src_mem.specs.State.{Setting}
+use Rattle.type_laws.proofs.OneClass.{data-makeup, data-pointer}
 
 module _ (w : Setting) (sound : IsWellFormed w.table) where
   pub agree-own : (c : Cell) → CellsAgree w.table w.kind c c
@@ -83,27 +82,6 @@ second false b h = absurd (cc (h))
 pub negated : (b : Bool) → Rattle.std.specs.Prelude.not b ≡ true → b ≡ false
 negated true h = absurd (cc (h))
 negated false h = refl
-
--- data types are made of cells
-pub data-makeup : (table : Table) (E : Relation) (t : TypeId) (s : TypeShape) → is_function_shape s ≡ false
-    → makeup_of table E t s ≡ bytes (cells_at table E t)
-data-makeup table E t Void h = refl
-data-makeup table E t (Integer n q) h = refl
-data-makeup table E t (Pointer n u) h = refl
-data-makeup table E t (Array u n) h = refl
-data-makeup table E t (Function ps q) h = absurd (cc (h))
-data-makeup table E t (Struct n) h = refl
-data-makeup table E t (Union n) h = refl
-
-pub data-pointer : (table : Table) (t : TypeId) (s : TypeShape) (i : ℕ) → is_function_shape s ≡ false
-    → pointer_in table t s i ≡ and_then (slice_get (cells_of table t) i) pointer_in_cell
-data-pointer table t Void i h = refl
-data-pointer table t (Integer n q) i h = refl
-data-pointer table t (Pointer n u) i h = refl
-data-pointer table t (Array u n) i h = refl
-data-pointer table t (Function ps q) i h = absurd (cc (h))
-data-pointer table t (Struct n) i h = refl
-data-pointer table t (Union n) i h = refl
 
 pub pointer-there : (table : Table) (t : TypeId) → is_function table t ≡ false → (i : ℕ) (n : NodeId) (u : TypeId)
     → slice_get (cells_of table t) i ≡ Some (pointer n u 0) → pointer_at table t i ≡ Some (record { node = n; to = u })

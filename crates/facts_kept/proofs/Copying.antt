@@ -35,7 +35,8 @@ use Rattle.src_mem.proofs.Spots.{IsRight}
 use Rattle.src_mem.proofs.PointersCopied.{moved_by, right_moved}
 use Rattle.facts_kept.specs.Kept.{AllHold, asked_of, IsKept}
 use Rattle.facts_kept.proofs.Lists.{outlines-set, lives-set}
-use Rattle.facts_kept.proofs.Agree.{agree-turned, pointer-there, data-pointer}
+use Rattle.type_laws.proofs.OneClass.{data-pointer}
+use Rattle.facts_kept.proofs.Agree.{agree-turned, pointer-there}
 use Rattle.facts_kept.proofs.Complete.{complete-some, complete-data}
 use Rattle.facts_kept.proofs.NonePointers.{no-pointers}
 use Rattle.facts_kept.proofs.Places.{held-place, reaches-more}

@@ -24,8 +24,9 @@ use Rattle.type_laws.proofs.Relations.{same_id}
 use Rattle.type_laws.proofs.Sizes.{equal_counts}
 use Rattle.c_types.proofs.OrderedPointers.{cells_ordered}
 use Rattle.src_mem.specs.State.{Setting}
-use Rattle.facts_kept.proofs.Periods.{some_gcd}
-use Rattle.facts_kept.proofs.Agree.{first, second, negated, data-makeup, pointer-there, cells-alike, agree-top, class-cells}
+use Rattle.phys_types.proofs.Periods.{some_gcd}
+use Rattle.type_laws.proofs.OneClass.{data-makeup}
+use Rattle.facts_kept.proofs.Agree.{first, second, negated, pointer-there, cells-alike, agree-top, class-cells}
 
 -- What a class tells of the two types
 

@@ -1,5 +1,4 @@
 pub mod Lists
-pub mod Periods
 pub mod Agree
 pub mod Flow
 pub mod Complete
@@ -32,3 +31,4 @@ pub mod Addressing
 pub mod Clearing
 pub mod Copying
 pub mod Sources
+pub mod Offsets

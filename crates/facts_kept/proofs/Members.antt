@@ -28,13 +28,8 @@ use Rattle.facts_kept.proofs.Agree.{agree-own, agree-twice}
 use Rattle.facts_kept.proofs.Flow.{rep-there}
 use Rattle.facts_kept.proofs.Complete.{complete-some, complete-data}
 use Rattle.facts_kept.proofs.Holds.{first-between}
+use Rattle.facts_kept.specs.Kept.{IsSub}
 use Rattle.facts_kept.proofs.Blocks.{shifted-none, rep-get, rep-length}
-
--- v stands at an offset in t: its cells agree with those of t there
-pub record IsSub (w : Setting) (t : TypeId) (offset : ℕ) (v : TypeId) : Type 0 where
-  pub room : offset + length (cells_of w.table v) ≤ length (cells_of w.table t)
-  pub agree : (j : ℕ) (d : Cell) → slice_get (cells_of w.table v) j ≡ Some d
-      → (c : Cell) × (slice_get (cells_of w.table t) (offset + j) ≡ Some c) × CellsAgree w.table w.kind c d
 
 -- v is x again and again: x itself, or an array of it
 pub record Fills (w : Setting) (v x : TypeId) : Type 0 where

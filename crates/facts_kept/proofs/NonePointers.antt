@@ -11,13 +11,12 @@ use Rattle.cc_base.specs.declared.kind.Kind.{Kind}
 use Rattle.cc_base.specs.declared.kind.Kind.TheVariants.{Safe, Seq, Rtti, Wild}
 use Rattle.c_types.specs.declared.shape.TypeShape.{TypeShape}
 use Rattle.c_types.specs.declared.shape.TypeShape.TheVariants.{Void, Integer, Pointer, Array, Function, Struct, Union}
-use Rattle.c_types.specs.Table.{Table, shape_at, members_at, parts_at, parts_of_shape, IsComplete, is_complete_entry}
+use Rattle.c_types.specs.Table.{Table, shape_at, members_at, parts_of_shape, IsComplete, is_complete_entry}
 use Rattle.c_types.specs.Layouts.{rounded, size_of, align_of}
 use Rattle.c_types.specs.Cells.{Cell, raw, pointer, incomplete, Relation, padded_to, member_cells, union_cells, cells_of_shape, cells_at, holds_pointer, holds_in_shape, AreOrdered}
 use Rattle.c_types.specs.Equality.{cells_of, physically_equal}
 use Rattle.c_types.specs.Sound.{IsWellFormed}
 use Rattle.c_types.proofs.Lists.{contains_head, contains_tail}
-use Rattle.c_types.proofs.Descent.{descend_is, rank_bound}
 use Rattle.c_types.proofs.Cells.{cells_are}
 use Rattle.src_mem.specs.Memory.{Planned, new_block, new_variable, block_size, block_cells}
 use Rattle.src_mem.specs.State.{Setting}
@@ -25,29 +24,8 @@ use Rattle.c_types.proofs.OrderedPointers.{cells_ordered}
 use Rattle.src_mem.specs.Outlines.{outline}
 use Rattle.facts_kept.proofs.Flow.{rep-there}
 use Rattle.facts_kept.proofs.Complete.{complete-some}
+use Rattle.phys_types.proofs.Structs.{holds_is}
 use Rattle.facts_kept.proofs.Blocks.{NoPointers, whole-ordered, block-get, block-length, IsFilled}
-
-any_same : (f g : TypeId → Bool) (ms : List TypeId) → ((m : TypeId) → Contains ms m → f m ≡ g m) → list_any f ms ≡ list_any g ms
-any_same f g [] h = refl
-any_same f g (m ∷ ms) h = λ i. h m (contains_head m ms) i || any_same f g ms (λ x c. h x (contains_tail m ms x c)) i
-
-holds_same : (f g : TypeId → Bool) (s : TypeShape) (ms : List TypeId) → ((m : TypeId) → Contains (parts_of_shape s ms) m → f m ≡ g m)
-    → holds_in_shape f s ms ≡ holds_in_shape g s ms
-holds_same f g Void ms h = refl
-holds_same f g (Integer b s) ms h = refl
-holds_same f g (Pointer n t) ms h = refl
-holds_same f g (Array e n) ms h = h e (contains_head e [])
-holds_same f g (Function ps r) ms h = refl
-holds_same f g (Struct t) ms h = any_same f g ms h
-holds_same f g (Union t) ms h = any_same f g ms h
-
-pub holds_is : (table : Table) → IsWellFormed table → (t : TypeId)
-    → holds_pointer table t ≡ holds_in_shape (holds_pointer table) (shape_at table t) (members_at table t)
-unfolding holds_pointer
-holds_is table w t =
-    descend_is (λ of_part u. holds_in_shape of_part (shape_at table u) (members_at table u)) false (parts_at table) w.order.0
-    (λ f g u h. holds_same f g (shape_at table u) (members_at table u) h) w.order.1.falls (suc (length table)) t
-    (rank_bound table w.order.0 w.order.1 t)
 
 none-none : NoPointers []
 none-none i m t j e = cc (e)

@@ -24,7 +24,8 @@ use Rattle.c_types.proofs.OrderedPointers.{get_front, get_back}
 use Rattle.facts_kept.proofs.Agree.{agree-own, agree-twice}
 use Rattle.facts_kept.proofs.Complete.{complete-some}
 use Rattle.facts_kept.proofs.Blocks.{rep-length}
-use Rattle.facts_kept.proofs.Members.{IsSub, sub-struct}
+use Rattle.facts_kept.proofs.Members.{sub-struct}
+use Rattle.facts_kept.specs.Kept.{IsSub}
 use Rattle.facts_kept.proofs.Unions.{sub-union}
 
 -- the greatest size is one

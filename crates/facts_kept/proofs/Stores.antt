@@ -1,5 +1,5 @@
 -- What a store, a clearing and a copy keep: integers, pointers typed and tagged, copies typed and WILD.
-use Rattle.std.proofs.Common.{◌≡◌, ◌≢◌, ℕ, zero, suc, ◌+◌, ◌-◌, ◌%◌, ◌<◌, ◌≤◌, ◌⊎◌, inl, inr, Bool, true, false, ◌&&◌, List, map, length, replicate, slice_get, slice_set, slice_index, Option, Some, None, refl, ap, sym, subst, ◌∙◌, ⊎_elim, arith, nat_eq, nat_le, if◌then◌else◌}
+use Rattle.std.proofs.Common.{◌≡◌, ◌≢◌, ℕ, zero, suc, ◌+◌, ◌-◌, ◌%◌, ◌<◌, ◌≤◌, ◌⊎◌, inl, inr, Bool, true, false, ◌&&◌, List, map, length, replicate, slice_get, slice_set, Option, Some, None, refl, ap, sym, subst, ◌∙◌, ⊎_elim, arith, nat_eq, nat_le, if◌then◌else◌}
 use Rattle.std.specs.Prelude.{⊤, IsTrue, IsFalse}
 use Rattle.std.proofs.lemmas.Bool.Decides.{nat_tests}
 use Rattle.std.proofs.lemmas.Option.{slice_get_within}
@@ -8,7 +8,8 @@ use Rattle.cc_base.specs.declared.number.NodeId.{NodeId}
 use Rattle.cc_base.specs.declared.kind.Kind.{Kind}
 use Rattle.cc_base.specs.declared.kind.Kind.TheVariants.{Wild}
 use Rattle.flat_mem.specs.Bytes.{number, zeroed, written, bytes_at}
-use Rattle.flat_mem.proofs.ByteLaws.{length-stored, stored-bytes, number-stored_apart, length-zeroed, zeroed-bytes, number-zeroed, number-zeroed_apart, number-zeros, number-same, length-bytes_at, get-written_inside, get-bytes_at, length-written, number-written_apart, written-bytes, bytes_at-bytes}
+use Rattle.flat_mem.proofs.ByteLaws.{length-stored, stored-bytes, number-stored_apart, length-zeroed, zeroed-bytes, number-zeroed, number-zeroed_apart, number-zeros, length-bytes_at, length-written, number-written_apart, written-bytes, bytes_at-bytes}
+use Rattle.src_mem.proofs.Whole.{number-copied}
 use Rattle.facts_kept.proofs.Lists.{lives-set, get-zeroed_either, set-cases, outlines-set, number-zero}
 use Rattle.c_types.specs.Cells.{Cell, raw, pointer, mixed, incomplete, AreOrdered}
 use Rattle.c_types.specs.Equality.{cells_of}
@@ -113,23 +114,6 @@ sound-pointer w sites outlines lives o at n t q s untagged begins value reaches 
     zero k e =
         number-zeros 8 (zeroed 8 o.bytes at) k
         (λ i h. ⊎_elim (λ x. x) (λ x. x ∙ number-zero 8 o.bytes k e i h) (get-zeroed_either 8 o.bytes at (k + i)))
-
--- a number that was copied with others is what it was
-number-copied : (n : ℕ) (source target : List ℕ) (from at k : ℕ) → at ≤ k → k + 8 ≤ at + n → at + n ≤ length target
-    → number 8 (written (bytes_at n source from) target at) k ≡ number 8 source (from + (k - at))
-number-copied n source target from at k low high room = number-same 8 (written (bytes_at n source from) target at) source k (from + (k - at)) each
-  where
-    inside : (i : ℕ) → i < 8 → slice_index (written (bytes_at n source from) target at) (at + (k - at + i)) ≡ slice_index source (from + (k - at + i))
-    inside i h =
-        let e = length-bytes_at n source from in
-        get-written_inside (bytes_at n source from) target at (k - at + i) (omega (arith, e)) (omega (arith, e))
-        ∙ get-bytes_at n source from (k - at + i) (omega arith)
-
-    each : (i : ℕ) → i < 8 → slice_index (written (bytes_at n source from) target at) (k + i) ≡ slice_index source (from + (k - at) + i)
-    each i h =
-        let e : at + (k - at + i) ≡ k + i = omega arith in
-        let f : from + (k - at + i) ≡ from + (k - at) + i = omega arith in
-        ap (λ j. slice_index (written (bytes_at n source from) target at) j) (sym e) ∙ inside i h ∙ ap (λ j. slice_index source j) f
 
 none-written : (source target : List ℕ) (from at : ℕ) → written (bytes_at 0 source from) target at ≡ target
 unfolding bytes_at written

@@ -22,8 +22,9 @@ use Rattle.src_mem.specs.State.{Setting}
 use Rattle.c_types.proofs.OrderedPointers.{get_front}
 use Rattle.facts_kept.proofs.Agree.{agree-turned, agree-placed, alike-there, get-taken, first, second}
 use Rattle.facts_kept.proofs.Complete.{complete-some, complete-data}
-use Rattle.facts_kept.proofs.NonePointers.{holds_is, any-none}
-use Rattle.facts_kept.proofs.Members.{IsSub}
+use Rattle.phys_types.proofs.Structs.{holds_is}
+use Rattle.facts_kept.specs.Kept.{IsSub}
+use Rattle.facts_kept.proofs.NonePointers.{any-none}
 
 -- all raw
 abbrev pub AllRaw : List Cell → Type 0

@@ -1,5 +1,5 @@
 -- What operations leave of the facts, in the words of their laws.
-use Rattle.std.specs.Prelude.{◌≡◌, ℕ, suc, ◌≤◌, ℤ, true, ⊤, ◌⊎◌, List, [], ◌∷◌, ◌++◌, map, slice_get, Some}
+use Rattle.std.specs.Prelude.{◌≡◌, ℕ, suc, ◌+◌, ◌≤◌, ℤ, true, ⊤, ◌⊎◌, List, [], ◌∷◌, ◌++◌, map, length, slice_get, Some}
 use Rattle.std.specs.List.{Contains}
 use Rattle.cc_base.specs.declared.kind.Kind.{Kind}
 use Rattle.cc_base.specs.declared.number.TypeId.{TypeId}
@@ -10,6 +10,9 @@ use Rattle.c_types.specs.declared.shape.TypeShape.{TypeShape}
 use Rattle.c_types.specs.declared.shape.TypeShape.TheVariants as shape
 use Rattle.c_types.specs.Table.{IsComplete, shape_at}
 use Rattle.c_types.specs.Layouts.{size_of}
+use Rattle.c_types.specs.Cells.{Cell}
+use Rattle.c_types.specs.Equality.{cells_of}
+use Rattle.c_types.specs.Flows.{CellsAgree}
 use Rattle.c_types.specs.Solutions.{IsFlowAllowed, IsPointeeAllowed, IsPlain, SpreadsWild}
 use Rattle.integers.specs.Arithmetic.{IntegerType, converted}
 use Rattle.src_mem.specs.Pointers.{Pointer, Value, Integer, Address}
@@ -40,13 +43,15 @@ pub record IsFlow (w : Setting) (sites : List Site) (m : NodeId) (t : TypeId) (n
   pub told : Contains sites (site.Pointee n u)
 
 -- the memory is as it was, and the pointer may be held in a call of this depth
-pub record GivesPointer (w : Setting) (sites : List Site) (depth : ℕ) (kind : Kind) (t : TypeId) (old : State) (p : Pointer) (new : State) : Type 0 where
+pub record GivesPointer (w : Setting) (sites : List Site) (depth : ℕ) (kind : Kind) (t : TypeId) (old : State) (p : Pointer)
+    (new : State) : Type 0 where
   pub memory : new.memory ≡ old.memory
   pub held : IsHeldIn w old.memory depth kind t p
   pub made : IsMade sites p
 
 -- the same of a value, which is that pointer
-pub record GivesAddress (w : Setting) (sites : List Site) (depth : ℕ) (kind : Kind) (t : TypeId) (old : State) (v : Value) (new : State) : Type 0 where
+pub record GivesAddress (w : Setting) (sites : List Site) (depth : ℕ) (kind : Kind) (t : TypeId) (old : State) (v : Value)
+    (new : State) : Type 0 where
   pub pointer : Pointer
   pub is : v ≡ Address pointer
   pub gives : GivesPointer w sites depth kind t old pointer new
@@ -70,7 +75,8 @@ pub record IsKept (w : Setting) (sites : List Site) (old new : Memory) : Type 0 
   pub lives : lives_of new ≡ lives_of old
 
 -- A block was made for a pointer of this node to t, or none; what is given may be held once it passes what is asked of an allocation.
-pub record GivesBlock (w : Setting) (sites : List Site) (depth : ℕ) (node : NodeId) (t : TypeId) (old : State) (p : Pointer) (new : State) : Type 0 where
+pub record GivesBlock (w : Setting) (sites : List Site) (depth : ℕ) (node : NodeId) (t : TypeId) (old : State) (p : Pointer)
+    (new : State) : Type 0 where
   pub more : List Object
   pub grown : new.memory.objects ≡ old.memory.objects ++ more
   pub sound : IsSoundAt w sites new.memory depth
@@ -80,6 +86,12 @@ pub record GivesBlock (w : Setting) (sites : List Site) (depth : ℕ) (node : No
 -- what a block may be made of: a type that has a size, or `void`
 abbrev pub MakesBlocks : Setting → TypeId → Type 0
 MakesBlocks w t = (shape_at w.table t ≡ shape.Void) ⊎ IsComplete w.table t
+
+-- v stands at an offset in t: its cells agree with those of t there
+pub record IsSub (w : Setting) (t : TypeId) (offset : ℕ) (v : TypeId) : Type 0 where
+  pub room : offset + length (cells_of w.table v) ≤ length (cells_of w.table t)
+  pub agree : (j : ℕ) (d : Cell) → slice_get (cells_of w.table v) j ≡ Some d
+      → (c : Cell) × (slice_get (cells_of w.table t) (offset + j) ≡ Some c) × CellsAgree w.table w.kind c d
 
 -- Calls
 
@@ -106,7 +118,8 @@ IsArgumentOf w sites memory depth other v = ⊥
 abbrev pub AreArgumentsOf : Setting → List Site → Memory → ℕ → List Planned → List Value → Type 0
 AreArgumentsOf w sites memory depth variables [] = ⊤
 AreArgumentsOf w sites memory depth [] (v ∷ vs) = ⊥
-AreArgumentsOf w sites memory depth (x ∷ xs) (v ∷ vs) = IsArgumentOf w sites memory depth (shape_at w.table x.type) v × AreArgumentsOf w sites memory depth xs vs
+AreArgumentsOf w sites memory depth (x ∷ xs) (v ∷ vs) =
+    IsArgumentOf w sites memory depth (shape_at w.table x.type) v × AreArgumentsOf w sites memory depth xs vs
 
 -- a call has begun: the variables are there behind the objects that were, and the facts hold for the call
 pub record HasEntered (w : Setting) (sites : List Site) (depth : ℕ) (variables : List Planned) (old new : Memory) : Type 0 where
@@ -118,4 +131,5 @@ pub record HasEntered (w : Setting) (sites : List Site) (depth : ℕ) (variables
 pub record HasLeft (w : Setting) (sites : List Site) (depth : ℕ) (old new : Memory) : Type 0 where
   pub later : IsLater depth old.objects new.objects
   pub sound : IsSoundAt w sites new depth
-  pub returned : (kind : Kind) (t : TypeId) (p : Pointer) → IsHeldIn w old (suc depth) kind t p → holds w old (IsNotOfFrame (suc depth) p) ≡ true → IsHeldIn w new depth kind t p
+  pub returned : (kind : Kind) (t : TypeId) (p : Pointer) → IsHeldIn w old (suc depth) kind t p → holds w old (IsNotOfFrame (suc depth) p) ≡ true
+      → IsHeldIn w new depth kind t p

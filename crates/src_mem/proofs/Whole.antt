@@ -43,7 +43,7 @@ cleared_whole o whole = record {
 }
 
 -- a number that was copied with others is what it was
-number-copied : (n : ℕ) (source target : List ℕ) (from at k : ℕ) → at ≤ k → k + 8 ≤ at + n → at + n ≤ length target
+pub number-copied : (n : ℕ) (source target : List ℕ) (from at k : ℕ) → at ≤ k → k + 8 ≤ at + n → at + n ≤ length target
     → number 8 (written (bytes_at n source from) target at) k ≡ number 8 source (from + (k - at))
 number-copied n source target from at k low high room = number-same 8 (written (bytes_at n source from) target at) source k (from + (k - at)) each
   where

@@ -27,15 +27,19 @@ use Rattle.src_mem.specs.State.{Defined, Setting}
 -- the cells from `at` on, up to `high`, hold a type: there is room for it, and they agree with its cells one by one
 pub record HoldType (w : Setting) (cells : List Cell) (at high : ℕ) (t : TypeId) : Type 0 where
   pub room : at + length (cells_of w.table t) ≤ high
-  pub agree : (i : ℕ) (d : Cell) → slice_get (cells_of w.table t) i ≡ Some d → (c : Cell) × (slice_get cells (at + i) ≡ Some c) × CellsAgree w.table w.kind c d
+  pub agree : (i : ℕ) (d : Cell) → slice_get (cells_of w.table t) i ≡ Some d
+      → (c : Cell) × (slice_get cells (at + i) ≡ Some c) × CellsAgree w.table w.kind c d
 
 -- the cells from `low` up to `high` begin the endless repetition of a type
 pub record RepeatType (w : Setting) (cells : List Cell) (low high : ℕ) (t : TypeId) : Type 0 where
-  pub agree : (i : ℕ) → low + i < high → (c : Cell) × (slice_get cells (low + i) ≡ Some c) × CellsAgree w.table w.kind c (repeated_cell (cells_of w.table t) i)
+  pub agree : (i : ℕ) → low + i < high
+      → (c : Cell) × (slice_get cells (low + i) ≡ Some c) × CellsAgree w.table w.kind c (repeated_cell (cells_of w.table t) i)
 
 -- the endless repetition of a type is the same when it is shifted by a distance
 pub record IsSameShifted (w : Setting) (t : TypeId) (by : ℤ) : Type 0 where
-  pub agree : (i : ℕ) → CellsAgree w.table w.kind (repeated_cell (cells_of w.table t) (residue (by +ℤ pos i) (size_of w.table t))) (repeated_cell (cells_of w.table t) i)
+  pub agree : (i : ℕ)
+      → CellsAgree w.table w.kind (repeated_cell (cells_of w.table t) (residue (by +ℤ pos i) (size_of w.table t)))
+      (repeated_cell (cells_of w.table t) i)
 
 -- Pointers
 
@@ -231,7 +235,8 @@ pub record IsSoundObject (w : Setting) (sites : List Site) (outlines : List Outl
 
 -- all that live
 pub record AreSound (w : Setting) (sites : List Site) (objects : List Object) : Type 0 where
-  pub each : (number : ℕ) (o : Object) → slice_get objects number ≡ Some o → o.live ≡ true → IsSoundObject w sites (map outline objects) (map life objects) o
+  pub each : (number : ℕ) (o : Object) → slice_get objects number ≡ Some o → o.live ≡ true
+      → IsSoundObject w sites (map outline objects) (map life objects) o
 
 abbrev pub IsSoundMemory : Setting → List Site → Memory → Type 0
 IsSoundMemory w sites memory = AreSound w sites memory.objects

@@ -10,7 +10,8 @@ use Rattle.src_mem.specs.Checks.{Condition, Use, conditions_of, conditions_of_co
 -- A row of the table: what a use of a pointer asks of SAFE and RTTI ones alike, of SEQ ones and of WILD ones.
 abbrev pub AsksFor : Use → Pointer → List Condition → List Condition → List Condition → Type 0
 AsksFor purpose p plain sequence wild =
-    (conditions_of purpose Safe p ≡ plain) × (conditions_of purpose Rtti p ≡ plain) × (conditions_of purpose Seq p ≡ sequence) × (conditions_of purpose Wild p ≡ wild)
+    (conditions_of purpose Safe p ≡ plain) × (conditions_of purpose Rtti p ≡ plain) × (conditions_of purpose Seq p ≡ sequence) ×
+    (conditions_of purpose Wild p ≡ wild)
 
 -- what a conversion asks for, in this class and between these kinds, from a pointee of one size to one of another size, the type u
 abbrev pub asked_by : FlowClass → Kind → Kind → ℕ → ℕ → TypeId → Pointer → List Condition

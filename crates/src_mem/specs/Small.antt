@@ -151,11 +151,11 @@ holds_here = holds small small_state.memory
 -- how an act ends in the small memory, or else what it gives
 pub data Shown (A : Type 0) : Type 0 where
   Ends : Ending → Shown A
-  Result : A → Shown A
+  Answer : A → Shown A
 
 abbrev pub shown : {A : Type 0} → Outcome Ending State A → Shown A
 shown (Ended e s) = Ends e
-shown (Done a s) = Result a
+shown (Done a s) = Answer a
 
 abbrev pub tried : {A : Type 0} → Act A → Shown A
 tried m = shown (m small_state)
@@ -170,11 +170,14 @@ read_behind_pointer t z = point_at_block (pos 8) >> read small here Wild t (to_t
 
 -- the same, once the pointer is copied to byte 16
 abbrev pub read_behind_copy : TypeId → ℤ → Act Value
-read_behind_copy t z = point_at_block (pos 8) >> copy_all small box here Wild (to_tagged (pos 8)) here Wild (to_tagged (pos 16)) here >> read small here Wild t (to_tagged z)
+read_behind_copy t z =
+    point_at_block (pos 8) >> copy_all small box here Wild (to_tagged (pos 8)) here Wild (to_tagged (pos 16)) here >> read small here Wild t
+    (to_tagged z)
 
 -- the same, once its second byte is overwritten by 7
 abbrev pub read_behind_byte : TypeId → ℤ → Act Value
-read_behind_byte t z = point_at_block (pos 8) >> write small here here Wild char (to_tagged (pos 9)) (Integer (pos 7)) >> read small here Wild t (to_tagged z)
+read_behind_byte t z =
+    point_at_block (pos 8) >> write small here here Wild char (to_tagged (pos 9)) (Integer (pos 7)) >> read small here Wild t (to_tagged z)
 
 -- a block of n bytes for a SAFE pointer to int, of which the first int has to be there
 abbrev pub block_for_int : ℕ → Act (Unit {0})

@@ -17,7 +17,7 @@ ghost use Rattle.src_mem.specs.Primitives.{allocate, allocate_elements};
 ghost use Rattle.src_mem.specs.Uses.{read, write, copy_all};
 ghost use Rattle.src_mem.specs.Operations.{moved, subtracted, compared, converted_pointer};
 ghost use Rattle.src_mem.specs.State.{Stopped};
-ghost use Rattle.src_mem.specs.Small.{used, here, node, char, int, sequence_to_int, wild_to_int, safe_to_int, typed_to_int, pair, typed_to_pair, box, gives_int, gives_char, small, to_three, to_second, to_tagged, to_pair, holds_here, block_for_int, first_of_elements, read_behind_pointer, read_behind_copy, read_behind_byte, tried, Ends, Result};
+ghost use Rattle.src_mem.specs.Small.{used, here, node, char, int, sequence_to_int, wild_to_int, safe_to_int, typed_to_int, pair, typed_to_pair, box, gives_int, gives_char, small, to_three, to_second, to_tagged, to_pair, holds_here, block_for_int, first_of_elements, read_behind_pointer, read_behind_copy, read_behind_byte, tried, Ends, Answer};
 
 /// What is asked before each use of a pointer: of SAFE and RTTI ones alike, of SEQ ones, of WILD ones. Sizes are those of
 /// what the pointer points to; a pointer has 8 bytes.
@@ -85,34 +85,34 @@ pub fn conditions_at_their_ends()
 /// What operations with their conditions do in a small memory.
 pub fn operations_on_a_small_memory()
     ensures move_of_no_base { tried (moved small here sequence_to_int (pos 1) (Number 8)) ≡ Ends (Stopped Base here) }
-    ensures moved { tried (moved small here sequence_to_int (pos 1) (to_three (pos 4))) ≡ Result (to_three (pos 8)) }
-    ensures difference { tried (subtracted small here sequence_to_int (to_three (pos 8)) (used Seq (to_three (pos 0)))) ≡ Result (pos 2) }
+    ensures moved { tried (moved small here sequence_to_int (pos 1) (to_three (pos 4))) ≡ Answer (to_three (pos 8)) }
+    ensures difference { tried (subtracted small here sequence_to_int (to_three (pos 8)) (used Seq (to_three (pos 0)))) ≡ Answer (pos 2) }
     ensures difference_of_parts { tried (subtracted small here sequence_to_int (to_three (pos 8)) (used Seq (to_second (pos 4)))) ≡ Ends (Stopped Same here) }
     ensures order_of_parts { tried (compared small here integer.Less (used Seq (to_three (pos 0))) (used Seq (to_second (pos 4)))) ≡ Ends (Stopped Same here) }
     ensures equal_outside { tried (compared small here integer.Equal (used Seq (to_three (pos 0))) (used Seq (to_second (pos 9)))) ≡ Ends (Stopped Same here) }
-    ensures equal_inside { tried (compared small here integer.Equal (used Seq (to_three (pos 4))) (used Seq (to_second (pos 4)))) ≡ Result true }
-    ensures read_inside { tried (read small here Seq int (to_three (pos 8))) ≡ Result (Integer (pos 3)) }
+    ensures equal_inside { tried (compared small here integer.Equal (used Seq (to_three (pos 4))) (used Seq (to_second (pos 4)))) ≡ Answer true }
+    ensures read_inside { tried (read small here Seq int (to_three (pos 8))) ≡ Answer (Integer (pos 3)) }
     ensures read_outside { tried (read small here Seq int (to_three (pos 9))) ≡ Ends (Stopped Bounds here) }
-    ensures wild_read { tried (read small here Wild int (to_tagged (pos 20))) ≡ Result (Integer (negsuc 0)) }
+    ensures wild_read { tried (read small here Wild int (to_tagged (pos 20))) ≡ Answer (Integer (negsuc 0)) }
     ensures wild_outside { tried (read small here Wild int (to_tagged (pos 21))) ≡ Ends (Stopped Wbounds here) }
     ensures wild_unaligned { tried (read small here Wild wild_to_int (to_tagged (pos 4))) ≡ Ends (Stopped Align here) }
     ensures wild_no_pointer { tried (read small here Wild wild_to_int (to_tagged (pos 8))) ≡ Ends (Stopped Tag here) }
-    ensures wild_pointer { tried (read_behind_pointer wild_to_int (pos 8)) ≡ Result (Address (to_tagged (pos 0))) }
+    ensures wild_pointer { tried (read_behind_pointer wild_to_int (pos 8)) ≡ Answer (Address (to_tagged (pos 0))) }
     ensures wild_integer_of_pointer { tried (read_behind_pointer int (pos 12)) ≡ Ends (Stopped Tag here) }
     ensures wild_escape { tried (write small here here Wild wild_to_int (to_tagged (pos 8)) (Address (to_three (pos 0)))) ≡ Ends (Stopped Escape here) }
-    ensures wild_copy { tried (read_behind_copy wild_to_int (pos 16)) ≡ Result (Address (to_tagged (pos 0))) }
+    ensures wild_copy { tried (read_behind_copy wild_to_int (pos 16)) ≡ Answer (Address (to_tagged (pos 0))) }
     ensures wild_copy_unaligned { tried (copy_all small box here Wild (to_tagged (pos 8)) here Wild (to_tagged (pos 12)) here) ≡ Ends (Stopped Align here) }
-    ensures zero_under_pointer { tried (read_behind_byte int (pos 8)) ≡ Result (Integer (pos 1792)) }
-    ensures sequence_to_safe { tried (converted_pointer small here sequence_to_int safe_to_int (to_three (pos 8))) ≡ Result (to_three (pos 8)) }
+    ensures zero_under_pointer { tried (read_behind_byte int (pos 8)) ≡ Answer (Integer (pos 1792)) }
+    ensures sequence_to_safe { tried (converted_pointer small here sequence_to_int safe_to_int (to_three (pos 8))) ≡ Answer (to_three (pos 8)) }
     ensures sequence_to_safe_outside { tried (converted_pointer small here sequence_to_int safe_to_int (to_three (pos 12))) ≡ Ends (Stopped Bounds here) }
-    ensures sequence_to_safe_null { tried (converted_pointer small here sequence_to_int safe_to_int Null) ≡ Result Null }
+    ensures sequence_to_safe_null { tried (converted_pointer small here sequence_to_int safe_to_int Null) ≡ Answer Null }
     ensures sequence_to_typed_outside { tried (converted_pointer small here sequence_to_int typed_to_int (to_three (negsuc 3))) ≡ Ends (Stopped Bounds here) }
-    ensures downcast { tried (converted_pointer small here typed_to_int typed_to_pair to_pair) ≡ Result to_pair }
+    ensures downcast { tried (converted_pointer small here typed_to_int typed_to_pair to_pair) ≡ Answer to_pair }
     ensures downcast_of_int { tried (converted_pointer small here typed_to_int typed_to_pair (to_three (pos 0))) ≡ Ends (Stopped Cast here) }
     ensures block_too_small { tried (block_for_int 3) ≡ Ends (Stopped Bounds here) }
-    ensures block { tried (allocate small (node 2) int 5) ≡ Result (At (record { object = 2; part = record { low = 0; high = 5 }; offset = pos 0; made = int })) }
-    ensures block_of_pointers { tried (allocate small (node 0) safe_to_int 20) ≡ Result (At (record { object = 2; part = record { low = 0; high = 16 }; offset = pos 0; made = safe_to_int })) }
-    ensures wild_block_of_pointers { tried (allocate small (node 1) wild_to_int 20) ≡ Result (At (record { object = 2; part = record { low = 0; high = 20 }; offset = pos 0; made = wild_to_int })) }
-    ensures elements { tried (first_of_elements 2 4) ≡ Result (Integer (pos 0)) }
-    ensures too_many_elements { tried (allocate_elements small (node 2) int 4294967296 4294967296) ≡ Result Null }
+    ensures block { tried (allocate small (node 2) int 5) ≡ Answer (At (record { object = 2; part = record { low = 0; high = 5 }; offset = pos 0; made = int })) }
+    ensures block_of_pointers { tried (allocate small (node 0) safe_to_int 20) ≡ Answer (At (record { object = 2; part = record { low = 0; high = 16 }; offset = pos 0; made = safe_to_int })) }
+    ensures wild_block_of_pointers { tried (allocate small (node 1) wild_to_int 20) ≡ Answer (At (record { object = 2; part = record { low = 0; high = 20 }; offset = pos 0; made = wild_to_int })) }
+    ensures elements { tried (first_of_elements 2 4) ≡ Answer (Integer (pos 0)) }
+    ensures too_many_elements { tried (allocate_elements small (node 2) int 4294967296 4294967296) ≡ Answer Null }
 {}

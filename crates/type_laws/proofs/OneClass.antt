@@ -58,7 +58,7 @@ data-shape (Function ps q) ms h = absurd (cc (h))
 data-shape (Struct n) ms h = refl
 data-shape (Union n) ms h = refl
 
-data-makeup : (table : Table) (E : Relation) (t : TypeId) (s : TypeShape) → is_function_shape s ≡ false → makeup_of table E t s ≡ bytes (cells_at table E t)
+pub data-makeup : (table : Table) (E : Relation) (t : TypeId) (s : TypeShape) → is_function_shape s ≡ false → makeup_of table E t s ≡ bytes (cells_at table E t)
 data-makeup table E t Void h = refl
 data-makeup table E t (Integer n q) h = refl
 data-makeup table E t (Pointer n u) h = refl
@@ -67,7 +67,7 @@ data-makeup table E t (Function ps q) h = absurd (cc (h))
 data-makeup table E t (Struct n) h = refl
 data-makeup table E t (Union n) h = refl
 
-data-pointer : (table : Table) (t : TypeId) (s : TypeShape) (i : ℕ) → is_function_shape s ≡ false → pointer_in table t s i ≡ and_then (slice_get (cells_of table t) i) pointer_in_cell
+pub data-pointer : (table : Table) (t : TypeId) (s : TypeShape) (i : ℕ) → is_function_shape s ≡ false → pointer_in table t s i ≡ and_then (slice_get (cells_of table t) i) pointer_in_cell
 data-pointer table t Void i h = refl
 data-pointer table t (Integer n q) i h = refl
 data-pointer table t (Pointer n u) i h = refl

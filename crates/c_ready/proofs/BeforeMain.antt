@@ -14,7 +14,7 @@ use Rattle.c_typing.specs.Shapes.{integer_at}
 use Rattle.c_typing.specs.Constants.{constant_value, with_type, with_value, converted_value, is_to_integer, cannot_divide, operator_of, logical, is_true, alone}
 use Rattle.c_unit_typing.specs.Initialisers.{is_constant, is_constant_place, is_constant_array, is_constant_initialiser, are_constant_items, is_among, is_integer_constant, has_value, is_char_array, is_only_text}
 use Rattle.c_ready.proofs.Contexts.{before_main, IsReadyInitialiser, AreReadyItems, Context, IsObjectOf, IsFunctionNamed, IsReady, IsReadyPlace}
-use Rattle.c_ready.proofs.Suits.{no_true}
+use Rattle.c_ready.proofs.Basics.{no_true}
 
 -- What is constant calls nothing and names no variable of a call
 

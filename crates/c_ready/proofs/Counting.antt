@@ -3,6 +3,7 @@ use Rattle.std.specs.List.{range_with_len}
 use Rattle.std.proofs.Common.{◌≡◌, ℕ, zero, suc, ◌<◌, ◌+◌, ◌≤◌, ◌==◌, Bool, true, false, List, [], ◌∷◌, ◌++◌, map, length, refl, ap, arith, if◌then◌else◌}
 use Rattle.std.proofs.lemmas.Bool.Decides.{nat_tests}
 use Rattle.cc_base.specs.declared.number.NodeId.{NodeId}
+use Rattle.c_ready.proofs.Basics.{eq_from}
 
 unfoldable pub one : ℕ → NodeId → ℕ
 one n m = if m.0 == n then 1 else 0
@@ -21,9 +22,6 @@ count n (m ∷ ms) = one n m + count n ms
 pub count-append : (n : ℕ) (xs ys : List NodeId) → count n (xs ++ ys) ≡ count n xs + count n ys
 count-append n [] ys = omega arith
 count-append n (x ∷ xs) ys = let r = count-append n xs ys in omega (arith, r)
-
-eq_from : (x y : ℕ) → (x == y) ≡ true → x ≡ y
-eq_from x y g = grind (arith, nat_tests)
 
 once : (n a c : ℕ) (m : NodeId) (b : Bool) → (m.0 == n) ≡ b → m.0 ≡ a → (n < a + 1 → c ≡ 0) → c ≤ 1 → (n < a → one n m + c ≡ 0) × (one n m + c ≤ 1)
 unfolding one

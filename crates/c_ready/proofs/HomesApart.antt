@@ -13,10 +13,11 @@ use Rattle.c_tree.specs.TypedTree.{TypedForm, TypedParameters, TypedDeclared, Ty
 use Rattle.c_tree.specs.TypedParts as made
 use Rattle.c_tree.specs.TypedParts.{Made, Name, MadeObject, DefinedFunction, ParameterObject, nodes_made, node_made, static_made, local_made, statics_of, locals_of, functions_of, home_of_form, declared_home, parameter_home, parameter_objects, parameters_in_form, made_by_unit, made_by_declaration, made_by_specifiers, made_by_form, made_by_declared, made_by_adjusted, made_by_parameters, made_by_stars, made_by_parts, made_by_block_items}
 use Rattle.c_ready.specs.Ready.{Named, parameter_named, made_named, variables_named, homes_of}
-use Rattle.c_ready.proofs.ReadyFunctions.{objects_of, flat-append}
+use Rattle.c_ready.proofs.ParameterObjects.{objects_of, variables-are}
 use Rattle.c_ready.proofs.Counting.{one, count, count-append, range-once}
 use Rattle.c_ready.proofs.NodesUsed.{pointer_made, makes}
 use Rattle.c_ready.proofs.ReadyMade.{as_variable, sum_of, vars, vars-append, form-vars}
+use Rattle.c_ready.proofs.Basics.{flat-append}
 
 abbrev one_if : Bool → ℕ
 one_if b = if b then 1 else 0
@@ -188,11 +189,12 @@ module _ (n : ℕ) where
       → homes (variables_named (record { declarator = typed.Declares form t; body = body })) ≤ vars n (made_by_form form t) + vars n
       (made_by_block_items body)
   function-occurs form t body =
+      let v = ap homes (variables-are form t body) in
       let a = homes-append (objects_of (parameters_in_form form typed.NoParameter)) (map made_named (locals_of body)) in
       let b = parameters-occur (parameters_in_form form typed.NoParameter) in
       let c = form-vars n form t typed.NoParameter in
       let d = locals-occur (made_by_block_items body) in
-      omega (arith, a, b, c, d)
+      omega (arith, v, a, b, c, d)
 
   abbrev of_functions : List DefinedFunction → List ℕ
   of_functions fs = flat_map (λ f. map (λ (o : Named). o.0.0) (variables_named f)) fs

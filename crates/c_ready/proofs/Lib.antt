@@ -1,3 +1,4 @@
+pub mod Basics
 pub mod Contexts
 pub mod Walked
 pub mod Suits
@@ -22,3 +23,4 @@ pub mod ObjectsOfUnits
 pub mod ReadyUnit
 pub mod PlacesWhole
 pub mod ReadyRows
+pub mod ParameterObjects

@@ -17,8 +17,8 @@ use Rattle.c_unit_typing.specs.Initialisers.{IsInitialiser, AreItems, is_only_te
 use Rattle.c_unit_typing.specs.Units as units
 use Rattle.c_unit_typing.specs.Units.{Storage, Around, in_a_loop, in_a_switch, storage_of, with_scopes, entering_known, leaving_known, AreDeclarators, IsDeclaration, IsDropped, IsTestedOrNone, IsReturned, IsStatement, AreBlockItems}
 use Rattle.c_ready.specs.Ready.{Stage, Named, IsReadyHome, AreReadyDeclarators, IsReadyDeclaration, IsReadyStatement, AreReadyBlockItems, IsNode, IsWhole}
-use Rattle.c_ready.proofs.Suits.{all-left, all-right}
 use Rattle.c_ready.proofs.ObjectsMade.{IsHomeWhole, IsObjectWhole, copied, value-objects, place-objects, specifiers-objects, form-objects}
+use Rattle.c_ready.proofs.Basics.{all-left, all-right}
 
 module _ (static : Stage) where
   abbrev T : Table
@@ -169,12 +169,17 @@ module _ (k : Stage) where
   abbrev Planned : MadeObject → Type 0
   Planned o = IsPlanned k o.home o.type
 
-  pub statics-planned : (xs : List Made) → AreNodes xs → All (IsObjectWhole k.table) xs → All Planned (flat_map static_made xs)
-  statics-planned [] nodes h = All-nil Planned
-  statics-planned (m ∷ ms) nodes h =
-      All-append Planned (static_made m) (flat_map static_made ms)
+  gathered : (f : Made → List MadeObject) → ((m : Made) → All (IsNode k) (node_made m) → IsObjectWhole k.table m → All Planned (f m))
+      → (xs : List Made)
+      → AreNodes xs → All (IsObjectWhole k.table) xs → All Planned (flat_map f xs)
+  gathered f own [] nodes h = All-nil Planned
+  gathered f own (m ∷ ms) nodes h =
+      All-append Planned (f m) (flat_map f ms)
       (own m (all-left (IsNode k) (node_made m) (flat_map node_made ms) nodes) (All-head (IsObjectWhole k.table) m ms h))
-      (statics-planned ms (all-right (IsNode k) (node_made m) (flat_map node_made ms) nodes) (All-tail (IsObjectWhole k.table) m ms h))
+      (gathered f own ms (all-right (IsNode k) (node_made m) (flat_map node_made ms) nodes) (All-tail (IsObjectWhole k.table) m ms h))
+
+  pub statics-planned : (xs : List Made) → AreNodes xs → All (IsObjectWhole k.table) xs → All Planned (flat_map static_made xs)
+  statics-planned xs nodes h = gathered static_made own xs nodes h
     where
       own : (m : Made) → All (IsNode k) (node_made m) → IsObjectWhole k.table m → All Planned (static_made m)
       own (Name name (home.Static n) t) a q = All-cons Planned (named_object name n t) [] (All-head (IsNode k) n [] a, q) (All-nil Planned)
@@ -182,11 +187,7 @@ module _ (k : Stage) where
       own m a q = All-nil Planned
 
   pub locals-planned : (xs : List Made) → AreNodes xs → All (IsObjectWhole k.table) xs → All Planned (flat_map local_made xs)
-  locals-planned [] nodes h = All-nil Planned
-  locals-planned (m ∷ ms) nodes h =
-      All-append Planned (local_made m) (flat_map local_made ms)
-      (own m (all-left (IsNode k) (node_made m) (flat_map node_made ms) nodes) (All-head (IsObjectWhole k.table) m ms h))
-      (locals-planned ms (all-right (IsNode k) (node_made m) (flat_map node_made ms) nodes) (All-tail (IsObjectWhole k.table) m ms h))
+  locals-planned xs nodes h = gathered local_made own xs nodes h
     where
       own : (m : Made) → All (IsNode k) (node_made m) → IsObjectWhole k.table m → All Planned (local_made m)
       own (Name name (home.Local n) t) a q = All-cons Planned (named_object name n t) [] (All-head (IsNode k) n [] a, q) (All-nil Planned)

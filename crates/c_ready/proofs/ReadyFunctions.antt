@@ -1,6 +1,6 @@
 -- What is well typed is ready: functions and units.
 use Rattle.std.specs.List.{All, Contains}
-use Rattle.std.proofs.Common.{◌≡◌, ◌⊎◌, Bool, true, false, List, [], ◌∷◌, ◌++◌, map, Option, Some, None, refl, ap, sym, subst, ◌∙◌, true≢false, inl, inr, arith, flat_map, if◌then◌else◌}
+use Rattle.std.proofs.Common.{◌≡◌, ◌⊎◌, Bool, true, false, List, [], ◌∷◌, ◌++◌, map, Option, Some, None, refl, ap, sym, subst, ◌∙◌, true≢false, inl, inr, arith, if◌then◌else◌}
 use Rattle.std.proofs.lemmas.List.Elements.{All-nil, All-cons, All-head, All-tail, All-push, All-weaker, All-contains_itself, All-append}
 use Rattle.std.proofs.lemmas.Option.{none-some}
 use Rattle.cc_base.specs.declared.number.NodeId.{NodeId}
@@ -29,14 +29,13 @@ use Rattle.c_ready.specs.Ready.{Named, parameter_named, made_named, variables_na
 use Rattle.c_ready.proofs.Contexts.{IsReadyHome, IsReadyDeclaration, AreReadyBlockItems, Context, unread, IsNode, IsWhole, IsObjectOf, AreReadySpecifiers, IsReadyForm}
 use Rattle.c_ready.proofs.Walked.{innermost-of, IsLevelOf, AreDeclared, declared-of, entered-of, outer-of}
 use Rattle.c_ready.proofs.Walked
-use Rattle.c_ready.proofs.Suits.{no_true, all-left, all-right, scalar-in}
+use Rattle.c_ready.proofs.Suits.{scalar-in}
 use Rattle.c_ready.proofs.ReadyParts.{Known, values, AreDefinitions, IsMade, AreMade, ml, mr, specified-in, HasNoNames, void-names, scalar-whole}
 use Rattle.c_ready.proofs.ReadyUnits.{In, Last, Fixed, IsGrown, IsLinkedSeen, grown-same, both-grown, last-left, none, AreListed}
 use Rattle.c_ready.specs.Declarators.{unless_typedef, declarators_in_declaration, declarators_in_items}
+use Rattle.c_ready.proofs.ParameterObjects.{objects_of, variables-are}
 use Rattle.c_ready.proofs.ReadyStatements.{declarator-step, specifiers-step, declaration-step, items-step}
-
-some-same : {A : Type 0} (a b : A) → Some a ≡ Some b → a ≡ b
-some-same a b h = cc
+use Rattle.c_ready.proofs.Basics.{some-same, no_true, all-left, all-right, flat-append}
 
 -- The parameters of a definition
 
@@ -119,21 +118,6 @@ module _ (T : Table) (k : Context) (ps : TypedParameters) where
     core-same (typed.Nested at form) a b h q = form-same form a b h q
 
 -- their objects
-
-abbrev pub objects_of : TypedParameters → List Named
-objects_of ps = flat_map parameter_named (parameter_objects ps)
-
-append-nil : {A : Type 0} (xs : List A) → xs ++ [] ≡ xs
-append-nil [] = refl
-append-nil (x ∷ xs) = ap (λ zs. x ∷ zs) (append-nil xs)
-
-append-assoc : {A : Type 0} (xs ys zs : List A) → (xs ++ ys) ++ zs ≡ xs ++ (ys ++ zs)
-append-assoc [] ys zs = refl
-append-assoc (x ∷ xs) ys zs = ap (λ vs. x ∷ vs) (append-assoc xs ys zs)
-
-pub flat-append : {A B : Type 0} (f : A → List B) (xs : List A) (y : A) → flat_map f (xs ++ y ∷ []) ≡ flat_map f xs ++ f y
-flat-append f [] y = append-nil (f y)
-flat-append f (x ∷ xs) y = ap (λ zs. f x ++ zs) (flat-append f xs y) ∙ sym (append-assoc (f x) (flat_map f xs) (f y))
 
 is_none_home : Home → Bool
 is_none_home home.None = true
@@ -440,7 +424,7 @@ module _ (base : Context) (w : IsWellFormed base.table) (definitions : AreDefini
             let listed : All (Contains b.variables) (objects_of ps) =
             subst (λ (qs : TypedParameters). All (Contains b.variables) (objects_of qs)) same
             (all-left (Contains b.variables) (objects_of (parameters_in_form form typed.NoParameter)) (map made_named (locals_of body))
-            (All-contains_itself b.variables)) in
+            (subst (All (Contains b.variables)) (variables-are form t body) (All-contains_itself b.variables))) in
             let names = parameters-in b refl (is_void_list ps) ps (entering h.before) h.inside h.listed
             (objects-with b (objects_of ps) objects listed)
             (entered-of b.table (Known b) h.before.levels (levels-in base f h.before.levels r1.1.names)) in

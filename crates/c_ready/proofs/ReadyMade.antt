@@ -1,7 +1,7 @@
 -- What a unit makes is in its lists, and homes are apart, since its nodes are numbered.
 use Rattle.std.specs.List.{All, Contains, range_with_len}
 use Rattle.std.proofs.Common.{◌≡◌, ℕ, zero, suc, ◌<◌, ◌+◌, true, false, List, [], ◌∷◌, ◌++◌, map, length, refl, ap, sym, subst, ◌∙◌, true≢false, arith, ◌≤◌, flat_map}
-use Rattle.std.proofs.lemmas.List.Elements.{All-nil, All-cons, All-head, All-tail, All-weaker, All-contains, All-contains_itself, All-append, All-map}
+use Rattle.std.proofs.lemmas.List.Elements.{All-nil, All-cons, All-head, All-weaker, All-contains, All-contains_itself, All-append, All-map}
 use Rattle.cc_base.specs.declared.number.NodeId.{NodeId}
 use Rattle.cc_base.specs.declared.number.TypeId.{TypeId}
 use Rattle.c_types.specs.Table.{Table}
@@ -18,33 +18,16 @@ use Rattle.c_unit_typing.specs.Units.{IsUnitTyped}
 use Rattle.c_unit_typing.specs.WellTyped.{known_before}
 use Rattle.c_ready.specs.Ready.{Named, parameter_named, made_named, variables_named, static_stage, static_named, literal_named}
 use Rattle.c_ready.proofs.Contexts.{Context, IsNode, context_of}
-use Rattle.c_ready.proofs.Suits.{all-left, all-right}
 use Rattle.c_ready.proofs.ReadyParts.{IsMade, AreMade}
 use Rattle.c_ready.proofs.ReadyUnits.{AreListed}
 use Rattle.c_ready.proofs.Counting.{one, one-self, count, count-append, range-once}
-use Rattle.c_ready.proofs.ReadyFunctions.{AreExternalsMade, AreExternalsReady, file_of, in_body, IsApart, objects_of, no_home, flat-append}
+use Rattle.c_ready.proofs.ReadyFunctions.{AreExternalsMade, AreExternalsReady, file_of, in_body, IsApart, no_home}
+use Rattle.c_ready.proofs.ParameterObjects.{objects_of, variables-are}
 use Rattle.c_ready.specs.Declarators.{declarators_of, declarators_in_declaration, declarators_in_items}
 use Rattle.c_ready.proofs.ReadyWhole.{whole-ready, IsClosed}
+use Rattle.c_ready.proofs.Basics.{all-left, all-right, flat-append, flat-left, flat-right, unmap}
 
 -- Lists
-
-append-assoc : {A : Type 0} (xs ys zs : List A) → (xs ++ ys) ++ zs ≡ xs ++ (ys ++ zs)
-append-assoc [] ys zs = refl
-append-assoc (x ∷ xs) ys zs = ap (λ vs. x ∷ vs) (append-assoc xs ys zs)
-
-flat-both : {A B : Type 0} (f : A → List B) (xs ys : List A) → flat_map f (xs ++ ys) ≡ flat_map f xs ++ flat_map f ys
-flat-both f [] ys = refl
-flat-both f (x ∷ xs) ys = ap (λ zs. f x ++ zs) (flat-both f xs ys) ∙ sym (append-assoc (f x) (flat_map f xs) (flat_map f ys))
-
-pub flat-left : {A B : Type 0} (P : B → Type 0) (f : A → List B) (xs ys : List A) → All P (flat_map f (xs ++ ys)) → All P (flat_map f xs)
-flat-left P f xs ys h = all-left P (flat_map f xs) (flat_map f ys) (subst (All P) (flat-both f xs ys) h)
-
-pub flat-right : {A B : Type 0} (P : B → Type 0) (f : A → List B) (xs ys : List A) → All P (flat_map f (xs ++ ys)) → All P (flat_map f ys)
-flat-right P f xs ys h = all-right P (flat_map f xs) (flat_map f ys) (subst (All P) (flat-both f xs ys) h)
-
-pub unmap : {A B : Type 0} (P : B → Type 0) (f : A → B) (xs : List A) → All P (map f xs) → All (λ x. P (f x)) xs
-unmap P f [] h = All-nil (λ x. P (f x))
-unmap P f (x ∷ xs) h = All-cons (λ y. P (f y)) x xs (All-head P (f x) (map f xs) h) (unmap P f xs (All-tail P (f x) (map f xs) h))
 
 range-below : (a n m : ℕ) → a + n ≤ m → All (λ i. i < m) (range_with_len a n)
 range-below a zero m h = All-nil (λ i. i < m)
@@ -242,13 +225,14 @@ variables-counted : (form : TypedForm) (t : TypeId) (body : TypedBlockItems) (wh
     → ((n : ℕ) → vars n (made_by_form form t) + vars n (made_by_block_items body) ≤ vars n whole)
     → All (IsCountedIn whole) (variables_named (record { declarator = typed.Declares form t; body = body }))
 variables-counted form t body whole most =
-    All-append (IsCountedIn whole) (objects_of (parameters_in_form form typed.NoParameter)) (map made_named (locals_of body))
+    subst (All (IsCountedIn whole)) (sym (variables-are form t body))
+    (All-append (IsCountedIn whole) (objects_of (parameters_in_form form typed.NoParameter)) (map made_named (locals_of body))
     (All-weaker (IsCountedIn (made_by_parameters (parameters_in_form form typed.NoParameter))) (IsCountedIn whole)
     (λ o h. let m = most o.0.0 in let f = form-vars o.0.0 form t typed.NoParameter in omega (arith, h, m, f))
     (objects_of (parameters_in_form form typed.NoParameter)) (parameters-counted (parameters_in_form form typed.NoParameter)))
     (All-map (IsCountedIn whole) made_named (locals_of body)
     (All-weaker (λ (o : MadeObject). IsCountedIn (made_by_block_items body) (o.home, o.type)) (λ (o : MadeObject). IsCountedIn whole (made_named o))
-    (λ o h. let m = most o.home.0 in omega (arith, h, m)) (locals_of body) (locals-counted (made_by_block_items body))))
+    (λ o h. let m = most o.home.0 in omega (arith, h, m)) (locals_of body) (locals-counted (made_by_block_items body)))))
 
 -- The whole
 

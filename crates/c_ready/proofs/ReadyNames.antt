@@ -1,7 +1,7 @@
 -- What is well typed is ready: names, declarations, statements.
 use Rattle.std.specs.List.{All, Contains}
 use Rattle.std.proofs.Common.{◌≡◌, ◌⊎◌, Bool, true, false, List, [], ◌∷◌, ◌++◌, Option, Some, None, refl, ap, sym, subst, ◌∙◌, inl, inr, bytes_eq, rules, if◌then◌else◌}
-use Rattle.std.proofs.lemmas.List.Elements.{All-nil, All-cons, All-head, All-push}
+use Rattle.std.proofs.lemmas.List.Elements.{All-head, All-push}
 use Rattle.std.proofs.lemmas.Option.{none-some}
 use Rattle.cc_base.specs.declared.number.NodeId.{NodeId}
 use Rattle.cc_base.specs.declared.number.TypeId.{TypeId}
@@ -16,13 +16,12 @@ use Rattle.c_typing.specs.declared.declared.Declared.TheVariants as declared
 use Rattle.c_typing.specs.Shapes.{is_function_shape}
 use Rattle.c_typing.specs.Scopes as scopes
 use Rattle.c_typing.specs.Scopes.{Scopes, entry_of, with_name, here, declaring}
-use Rattle.c_typing.specs.declared.declared.Tag.{Tag}
 use Rattle.c_unit_typing.specs.Units as units
 use Rattle.c_unit_typing.specs.Units.{bytes_of_name, with_scopes, Storage, AsTypedef, AsExtern, AsStatic, AsAutomatic, Unstored, AgreesWith, unless_here, unless_linked, IsLinkedHome, IsLinked, IsLinkedObject, IsBlockObject, IsStaticOrLocal, IsTypedefDeclared, IsOrdinaryDeclared, IsNameDeclared}
 use Rattle.c_unit_typing.specs.Initialisers.{is_among, with_home}
 use Rattle.c_ready.specs.Declarators.{unless_typedef}
 use Rattle.c_ready.proofs.Contexts.{IsFunctionDeclared, IsStaticNamed, IsReadyHome, Context, IsNode, IsWhole, IsObjectOf}
-use Rattle.c_ready.proofs.Walked.{IsTagOf, IsLevelOf, AreDeclared, IsOuter, declared-of, seen-of, same-outer, both-outer, outer-same}
+use Rattle.c_ready.proofs.Walked.{entry-from, AreDeclared, IsOuter, declared-of, same-outer, both-outer, outer-same}
 use Rattle.c_ready.proofs.Suits.{whole-in}
 use Rattle.c_ready.proofs.ReadyParts.{Known, IsFunctionSeen, defined_in, IsMade}
 use Rattle.c_ready.proofs.ReadyUnits.{In, Last, Fixed, IsGrown, Step, IsLinkedSeen, last-left, ends}
@@ -52,13 +51,6 @@ entry-new [] name x h = ap (λ (b : Bool). if b then Some x else None) (bytes-re
 entry-new (d ∷ es) name x h =
     if_none (bytes_eq name d.0) d.1 (entry_of es name) (entry_of (es ++ (name, x) ∷ []) name) (Some x) (λ g. entry-new es name x g) h
 
-entry-all : (P : scopes.Name → Declared → Type 0) (es : List (scopes.Name × Declared)) → All (λ (e : scopes.Name × Declared). P e.0 e.1) es
-    → (name : scopes.Name) (x : Declared) → entry_of es name ≡ Some x → P name x
-entry-all P es h name x g =
-    seen-of [] P name x (record { names = es; tags = [] } ∷ [])
-    (All-cons (IsLevelOf [] P) (record { names = es; tags = [] }) []
-    (record { names = h; tags = All-nil (λ (e : scopes.Name × Tag). IsTagOf [] e.1) }) (All-nil (IsLevelOf [] P))) g
-
 -- A name with linkage
 
 pub after_of : scopes.Name → Declared → units.Known → Option Declared → Option Declared → units.Known
@@ -78,9 +70,9 @@ module _ (k : Context) (f : Fixed k) (name : scopes.Name) (what : Declared) (m :
       list_ None q other x h = entry-kept m.linked (name, what) other x h
       list_ (Some y) q other x h = h
 
-  linked-in : (a b : Option Declared) → In k m → Known k name what → IsLinkedSeen k name what → In k (after_of name what m a b)
+  linked-in : (a b : Option Declared) → In k m → Known k name what → (b ≡ None → IsLinkedSeen k name what) → In k (after_of name what m a b)
   unfolding after_of
-  linked-in a b i known seen = record { names = names_ a; defined = defined_ a; linked = list_ b; statics = i.statics }
+  linked-in a b i known seen = record { names = names_ a; defined = defined_ a; linked = list_ b seen; statics = i.statics }
     where
       names_ : (a : Option Declared) → AreDeclared k.table (Known k) (unless_here a name what m.scopes).levels
       names_ None = declared-of k.table (Known k) name what m.scopes.levels known i.names
@@ -90,21 +82,10 @@ module _ (k : Context) (f : Fixed k) (name : scopes.Name) (what : Declared) (m :
       defined_ None = i.defined
       defined_ (Some x) = i.defined
 
-      list_ : (b : Option Declared) → All (λ (e : scopes.Name × Declared). IsLinkedSeen k e.0 e.1) (unless_linked b name what m.linked)
-      list_ None = All-push (λ (e : scopes.Name × Declared). IsLinkedSeen k e.0 e.1) m.linked (name, what) i.linked seen
-      list_ (Some x) = i.linked
-
-  linked-old : (a : Option Declared) (x : Declared) → In k m → Known k name what → In k (after_of name what m a (Some x))
-  unfolding after_of
-  linked-old a x i known = record { names = names_ a; defined = defined_ a; linked = i.linked; statics = i.statics }
-    where
-      names_ : (a : Option Declared) → AreDeclared k.table (Known k) (unless_here a name what m.scopes).levels
-      names_ None = declared-of k.table (Known k) name what m.scopes.levels known i.names
-      names_ (Some y) = i.names
-
-      defined_ : (a : Option Declared) → (unless_here a name what m.scopes).defined ≡ defined_in k
-      defined_ None = i.defined
-      defined_ (Some y) = i.defined
+      list_ : (b : Option Declared) → (b ≡ None → IsLinkedSeen k name what)
+          → All (λ (e : scopes.Name × Declared). IsLinkedSeen k e.0 e.1) (unless_linked b name what m.linked)
+      list_ None first = All-push (λ (e : scopes.Name × Declared). IsLinkedSeen k e.0 e.1) m.linked (name, what) i.linked (first refl)
+      list_ (Some x) first = i.linked
 
   -- the first declaration is the last list's
   first-linked : (a b : Option Declared) → entry_of m.linked name ≡ b → Last k (after_of name what m a b)
@@ -148,7 +129,8 @@ module _ (k : Context) (f : Fixed k) where
             let p = first-linked k f id.bytes what m a b refl l in (
               tt,
               linked-in k f id.bytes what m a b i
-                  (function-seen id.bytes t b h.linked_agrees p.0 p.1 (d, All-head (Contains k.declarators) d [] told, own.named, own.type)) tt,
+                  (function-seen id.bytes t b h.linked_agrees p.0 p.1 (d, All-head (Contains k.declarators) d [] told, own.named, own.type))
+                  (λ e. tt),
             );
       })
   function-step d id t (home.Static n) m m' own h = absurd h
@@ -230,9 +212,9 @@ module _ (k : Context) (f : Fixed k) where
             let l0 = last-left k m n (linked-grown k f id.bytes what m a b refl) l2 in
             let whole : IsWhole k t = (whole-in k.table t (l0.followed t g.complete), l0.followed t g.complete) in
             let o = home-seen d id t h g.node b g.home g.linked.linked_agrees
-            (λ x q. entry-all (IsLinkedSeen k) m.linked i.linked id.bytes x q) own (All-head (Contains k.declarators) d [] told)
+            (λ x q. entry-from (IsLinkedSeen k) id.bytes x m.linked i.linked q) own (All-head (Contains k.declarators) d [] told)
             (All-head (IsMade k) (Name id h t) [] made) whole in
-            let after = by-linked m id t g.node a b refl i o.0 o.3 in (
+            let after = linked-in k f id.bytes what m a b i (known-object id.bytes g.node t o.0) o.3 in (
               o.1,
               record {
                 names = after.names;
@@ -243,13 +225,6 @@ module _ (k : Context) (f : Fixed k) where
               },
             );
       })
-    where
-      by-linked : (m : units.Known) (id : Identifier) (t : TypeId) (node : NodeId) (a b : Option Declared) → entry_of m.linked id.bytes ≡ b → In k m
-          → IsObjectOf true k node t
-          → (b ≡ None → IsLinkedSeen k id.bytes (declared.Object t node)) → In k (after_of id.bytes (declared.Object t node) m a b)
-      by-linked m id t node a None q i o fresh =
-          linked-in k f id.bytes (declared.Object t node) m a None i (known-object id.bytes node t o) (fresh refl)
-      by-linked m id t node a (Some x) q i o fresh = linked-old k f id.bytes (declared.Object t node) m a x i (known-object id.bytes node t o)
 
   -- an object of a block
   block-step : (id : Identifier) (t : TypeId) (n : NodeId) (m : units.Known) (s : Scopes) → IsBlockObject k.table id.bytes n t m s

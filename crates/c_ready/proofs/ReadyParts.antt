@@ -1,9 +1,8 @@
 -- What is well typed is ready: expressions and declarators, over the final table and without scopes.
 use Rattle.std.specs.List.{All, Contains}
-use Rattle.std.proofs.Common.{◌≡◌, ◌⊎◌, ℕ, zero, suc, ◌<◌, ℤ, Bool, true, false, not, ◌==◌, List, [], ◌∷◌, ◌++◌, map, length, slice_get, Option, Some, None, refl, ap, sym, subst, ◌∙◌, true≢false, inl, inr, arith, bytes_eq, get_or, slice_index_or, rules}
+use Rattle.std.proofs.Common.{◌≡◌, ◌⊎◌, ℕ, zero, suc, ◌<◌, ℤ, Bool, true, false, not, List, [], ◌∷◌, ◌++◌, map, length, slice_get, Option, Some, None, refl, ap, sym, subst, ◌∙◌, true≢false, inl, inr, arith, bytes_eq, get_or, slice_index_or}
 use Rattle.std.proofs.lemmas.List.Elements.{All-head, All-tail, All-weaker}
 use Rattle.std.proofs.lemmas.List.Quantifiers.{position-Some}
-use Rattle.std.proofs.lemmas.Bool.Decides.{nat_tests}
 use Rattle.std.proofs.lemmas.Option.{none-some}
 use Rattle.std.proofs.lemmas.List.{length-append}
 use Rattle.cc_base.specs.declared.place.Place.{Place}
@@ -39,7 +38,8 @@ use Rattle.c_unit_typing.specs.Units.{bytes_of_name}
 use Rattle.c_ready.specs.Ready.{IsAlike}
 use Rattle.c_ready.proofs.Contexts.{IsFunctionDeclared, Context, unread, IsNode, IsWhole, IsObjectOf, IsFunctionNamed, IsPointerToWhole, IsMember, IsStepped, IsUpdated, MayCall, IsLiteral}
 use Rattle.c_ready.proofs.Walked.{IsLevelOf, AreDeclared, IsOuter, IsWalked, declared-of, seen-of}
-use Rattle.c_ready.proofs.Suits.{no_true, Suits, whole-in, is_in, scalar-in, shaped-pointer, shaped-integer, plain-suits, operand-suits, whole-at, all-left, all-right}
+use Rattle.c_ready.proofs.Suits.{Suits, whole-in, is_in, scalar-in, shaped-pointer, shaped-integer, plain-suits, operand-suits, whole-at}
+use Rattle.c_ready.proofs.Basics.{no_true, not_true, eq_from, bytes-same, all-left, all-right, no-empty}
 
 -- What is known of names
 
@@ -79,10 +79,6 @@ pub record At (k : Context) (s s' : Scopes) : Type 0 where
 
 pub nonempty-same : (a b : List scopes.Name) → a ≡ b → is_no_list b ≡ false → is_no_list a ≡ false
 nonempty-same a b h x = ap (λ (xs : List scopes.Name). is_no_list xs) h ∙ x
-
-not_true : (b : Bool) → not b ≡ true → b ≡ false
-not_true true h = no_true h
-not_true false h = refl
 
 pub shape-later : (m s' : Scopes) → IsOuter m s' → (w : Bool) (x : TypeShape) → is_complete_shape_at m w x ≡ true → is_complete_shape_at s' w x ≡ true
 shape-later m s' o w (Struct n) h =
@@ -158,9 +154,6 @@ defined_at : (fs : List DefinedFunction) (i : ℕ) → i < length (map (λ (f : 
 defined_at [] i h = absurd (omega (arith, h))
 defined_at (f ∷ fs) zero h = (f, refl, refl)
 defined_at (f ∷ fs) (suc i) h = defined_at fs i (omega (arith, h))
-
-bytes-same : (a b : scopes.Name) → bytes_eq a b ≡ true → a ≡ b
-bytes-same a b h = search rules
 
 function_type : Option Declared → TypeId → TypeId
 function_type (Some (declared.Function t)) u = t
@@ -243,9 +236,6 @@ member-ready k w s s' a whole name i n t h node =
     }
 
 -- Structs of one type are one
-
-eq_from : (a b : ℕ) → (a == b) ≡ true → a ≡ b
-eq_from a b h = grind (arith, nat_tests)
 
 same_struct : (f : TypeId → TypeId → Bool) (x y : TypeShape) → is_aggregate_shape x ≡ true → same_shape f x y ≡ true
     → (y ≡ x) × (is_aggregate_shape y ≡ true)
@@ -525,11 +515,6 @@ members-types (typed.AndMember all specifiers ds) =
     let a = length-append (member_names all) (declarator_names ds) in
     let b = length-append (member_types all) (declarator_types ds) in
     omega (arith, one, two, a, b)
-
-no-empty : {A B : Type 0} (xs : List A) (ys : List B) → length xs ≡ length ys → is_no_list xs ≡ false → is_empty ys ≡ false
-no-empty [] ys h x = absurd (true≢false x)
-no-empty (x ∷ xs) [] h q = absurd (omega (arith, h))
-no-empty (x ∷ xs) (y ∷ ys) h q = refl
 
 aggregate_complete : (x : TypeShape) (n : ℕ) (ms : List TypeId) → number_of_shape x ≡ Some n → is_empty ms ≡ false → is_complete_entry x ms ≡ true
 aggregate_complete (Struct m) n ms h e = ap not e

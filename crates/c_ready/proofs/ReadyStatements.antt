@@ -35,15 +35,13 @@ use Rattle.c_ready.proofs.Contexts.{stage, before_main, IsReadyInitialiser, IsRe
 use Rattle.c_ready.proofs.Walked.{same-outer}
 use Rattle.c_ready.proofs.Walked
 use Rattle.c_ready.specs.Declarators.{unless_typedef, declarators_listed, declarators_in_declaration, declarators_in, declarators_in_items}
-use Rattle.c_ready.proofs.Suits.{all-left, all-right, no_true, Suits, plain-suits, droppable-suits, operand-suits, converted-suits, integer-from}
+use Rattle.c_ready.proofs.Suits.{Suits, plain-suits, droppable-suits, operand-suits, converted-suits, integer-from}
 use Rattle.c_ready.proofs.ReadyParts.{Known, values, at-unread, IsMade, AreMade, ml, mr, mu, form-in, specified-in}
 use Rattle.c_ready.proofs.ReadyTrees.{value-ready, form-ready, specifiers-ready}
 use Rattle.c_ready.proofs.BeforeMain.{initialiser-before}
 use Rattle.c_ready.proofs.ReadyUnits.{In, Fixed, IsGrown, Step, grown-same, both-grown, last-left, none, joins, joins-plain, gives, ends, walks, blocks, init-kept, init-ready}
 use Rattle.c_ready.proofs.ReadyNames.{name-step}
-
-some-same : {A : Type 0} (a b : A) → Some a ≡ Some b → a ≡ b
-some-same a b h = cc
+use Rattle.c_ready.proofs.Basics.{some-same, no_true, eq_from, all-left, all-right}
 
 power-some : (n : ℕ) → 0 < 2 ^ n
 power-some n = search rules

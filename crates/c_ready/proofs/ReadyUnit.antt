@@ -1,24 +1,26 @@
 -- A well typed unit is ready.
 use Rattle.std.specs.List.{All}
-use Rattle.std.proofs.Common.{◌++◌, true, false, List, [], map, flat_map, None}
+use Rattle.std.proofs.Common.{◌++◌, true, false, List, [], map, flat_map, None, sym, subst}
 use Rattle.std.proofs.lemmas.List.Elements.{All-nil, All-append, All-map}
 use Rattle.cc_base.specs.declared.number.TypeId.{TypeId}
 use Rattle.c_types.specs.Table.{Table}
 use Rattle.c_tree.specs.TypedTree as typed
 use Rattle.c_tree.specs.TypedTree.{TypedForm, TypedBlockItems, TypedTranslationUnit}
-use Rattle.c_tree.specs.TypedParts.{Made, node_made, locals_of, functions_of, parameters_of, home_of_form, made_by_unit, made_by_declaration, made_by_specifiers, made_by_form, made_by_block_items}
+use Rattle.c_tree.specs.TypedParts.{Made, node_made, locals_of, functions_of, home_of_form, made_by_unit, made_by_declaration, made_by_specifiers, made_by_form, made_by_block_items, parameters_in_form}
 use Rattle.c_unit_typing.specs.Units as units
 use Rattle.c_unit_typing.specs.Units.{IsUnitTyped}
 use Rattle.c_unit_typing.specs.WellTyped.{IsWellTyped, known_before}
-use Rattle.c_ready.specs.Ready.{file_stage, Stage, Named, IsNode, IsWhole, made_named, parameter_named, static_stage, IsReadyFunction, AreReadyExternals, IsReadyUnit}
+use Rattle.c_ready.specs.Ready.{file_stage, Stage, Named, IsNode, IsWhole, made_named, static_stage, IsReadyFunction, AreReadyExternals, IsReadyUnit}
 use Rattle.c_ready.proofs.Contexts.{Context, context_of}
+use Rattle.c_ready.proofs.ParameterObjects.{objects_of, variables-are, taken-are}
 use Rattle.c_ready.proofs.ReadyFunctions.{AreExternalsReady, IsBodyReady}
-use Rattle.c_ready.proofs.ReadyMade.{unit-ready, within, flat-left, flat-right}
+use Rattle.c_ready.proofs.ReadyMade.{unit-ready, within}
 use Rattle.c_ready.proofs.HomesApart.{homes-distinct}
 use Rattle.c_ready.proofs.NodesOnce.{nodes-there, pointees-one, homes-other}
 use Rattle.c_ready.proofs.ObjectsMade.{IsObjectWhole, specifiers-objects, form-objects}
 use Rattle.c_ready.proofs.ObjectsOfUnits.{home-whole, declaration-objects, block-objects, statics-planned, locals-planned}
 use Rattle.c_ready.proofs.Gathered.{functions-gathered, initialisers-gathered, at-its-place}
+use Rattle.c_ready.proofs.Basics.{flat-left, flat-right}
 
 module _ (T : Table) (u : TypedTranslationUnit) (after : units.Known) where
   abbrev static : Stage
@@ -33,20 +35,23 @@ module _ (T : Table) (u : TypedTranslationUnit) (after : units.Known) where
   abbrev AreNodes : List Made → Type 0
   AreNodes xs = All (IsNode static) (flat_map node_made xs)
 
+  abbrev Planned : Named → Type 0
+  Planned o = IsNode static o.0 × IsWhole static o.1
+
   -- a function's objects
   frame : (form : TypedForm) (t : TypeId) (body : TypedBlockItems) → IsBodyReady base (record { declarator = typed.Declares form t; body = body })
       → AreNodes (made_by_block_items body)
       → All P (made_by_block_items body) → IsReadyFunction static (record { declarator = typed.Declares form t; body = body })
   frame form t body b nodes whole = record {
     result = b.result;
+    parameters = taken-are (parameters_in_form form typed.NoParameter);
     types = b.types;
     scalars = b.scalars;
     gives = b.gives;
     plans =
-        All-append (λ (o : Named). IsNode static o.0 × IsWhole static o.1) (flat_map parameter_named (parameters_of (typed.Declares form t)))
-        (map made_named (locals_of body))
-        b.objects (All-map (λ (o : Named). IsNode static o.0 × IsWhole static o.1) made_named (locals_of body)
-        (locals-planned static (made_by_block_items body) nodes whole));
+        subst (All Planned) (sym (variables-are form t body)) (
+        All-append Planned (objects_of (parameters_in_form form typed.NoParameter)) (map made_named (locals_of body)) b.objects
+        (All-map Planned made_named (locals_of body) (locals-planned static (made_by_block_items body) nodes whole)));
     body = b.body;
   }
 

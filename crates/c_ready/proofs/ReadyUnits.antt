@@ -27,9 +27,10 @@ use Rattle.c_unit_typing.specs.Initialisers.{Slot, slot_of_members, IsInitialise
 use Rattle.c_ready.proofs.Contexts.{IsReadyInitialiser, AreReadyItems, Context, IsNode, IsWhole, MayCall}
 use Rattle.c_ready.proofs.Walked.{AreDeclared, IsOuter, IsWalked, entered-of, same-outer, both-outer, outer-of, left-of}
 use Rattle.c_ready.proofs.Walked
-use Rattle.c_ready.proofs.Suits.{all-left, all-right, whole-in, is_in, shaped-integer, assigned-suits}
+use Rattle.c_ready.proofs.Suits.{whole-in, is_in, shaped-integer, assigned-suits}
 use Rattle.c_ready.proofs.ReadyParts.{Known, values, At, AreDefinitions, at-left, at-right, one-struct-back, shape-later, nonempty-same, defined_in, AreMade, ml, mr, parts-aggregate, at_or}
 use Rattle.c_ready.proofs.ReadyTrees.{value-ready, place-ready}
+use Rattle.c_ready.proofs.Basics.{all-left, all-right}
 
 -- Initialisers
 

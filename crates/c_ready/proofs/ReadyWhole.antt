@@ -1,12 +1,12 @@
 -- What is well typed is ready: the whole.
 use Rattle.std.specs.List.{All, Contains}
-use Rattle.std.proofs.Common.{◌≡◌, ℕ, zero, suc, Bool, true, false, not, List, [], ◌∷◌, ◌++◌, length, slice_get, Option, Some, None, refl, ap, sym, subst, ◌∙◌, true≢false, inl, inr, arith}
-use Rattle.std.proofs.lemmas.List.Elements.{All-nil, All-cons, All-head, All-tail, All-push, All-weaker}
+use Rattle.std.proofs.Common.{◌≡◌, ℕ, true, false, not, List, [], ◌∷◌, ◌++◌, length, Option, Some, None, refl, ap, sym, subst, ◌∙◌, true≢false, inl, inr}
+use Rattle.std.proofs.lemmas.List.Elements.{All-nil, All-cons, All-push, All-weaker}
 use Rattle.std.proofs.lemmas.Option.{none-some}
 use Rattle.cc_base.specs.declared.number.TypeId.{TypeId}
 use Rattle.c_types.specs.declared.shape.TypeShape.{TypeShape}
 use Rattle.c_types.specs.declared.shape.TypeShape.TheVariants.{Void, Integer, Pointer, Array, Function, Struct, Union}
-use Rattle.c_types.specs.Table.{Table, IsComplete, shape_at, members_at, entry_at, is_complete, is_complete_entry, is_empty}
+use Rattle.c_types.specs.Table.{Table, IsComplete, shape_at, members_at, entry_at, is_complete, is_complete_entry}
 use Rattle.c_types.specs.Sound.{IsWellFormed}
 use Rattle.c_tree.specs.declared.leaf.Identifier.{Identifier}
 use Rattle.c_tree.specs.declared.typed_word.Home.{Home}
@@ -27,15 +27,12 @@ use Rattle.c_unit_typing.specs.WellTyped.{known_before}
 use Rattle.c_ready.specs.Ready.{IsAlike, static_stage}
 use Rattle.c_ready.proofs.Contexts.{Context, context_of}
 use Rattle.c_ready.proofs.Walked.{IsTagOf, IsLevelOf}
-use Rattle.c_ready.proofs.Suits.{no_true}
 use Rattle.c_ready.proofs.ReadyParts.{Known, AreDefinitions}
 use Rattle.c_ready.proofs.ReadyUnits.{In, Last, IsLinkedSeen, grown-same}
 use Rattle.c_ready.proofs.ReadyNames.{entry-new}
 use Rattle.c_ready.proofs.ReadyStatements.{declaration-step, items-step}
 use Rattle.c_ready.proofs.ReadyFunctions.{AreExternalsMade, AreExternalsReady, unit-going, definition-going, fixed-file, fixed-block, block_of, file_of, result-in}
-
-some-same : {A : Type 0} (a b : A) → Some a ≡ Some b → a ≡ b
-some-same a b h = cc
+use Rattle.c_ready.proofs.Basics.{no_true, not_true, at-index, no-empty}
 
 -- The last list
 
@@ -43,23 +40,14 @@ some-same a b h = cc
 abbrev pub IsClosed : Table → Scopes → Type 0
 IsClosed T s = (t : TypeId) (n : ℕ) → number_of_shape (shape_at T t) ≡ Some n → length (members_named s n) ≡ length (members_at T t)
 
-closed_empty : {A B : Type 0} (xs : List A) (ys : List B) → length xs ≡ length ys → is_no_list xs ≡ false → is_empty ys ≡ false
-closed_empty [] ys h x = absurd (true≢false x)
-closed_empty (x ∷ xs) [] h q = absurd (omega (arith, h))
-closed_empty (x ∷ xs) (y ∷ ys) h q = refl
-
-not_true : (b : Bool) → not b ≡ true → b ≡ false
-not_true true h = no_true h
-not_true false h = refl
-
 closed-followed : (T : Table) (s : Scopes) → IsClosed T s → (t : TypeId) → is_complete_at T s t ≡ true → IsComplete T t
 closed-followed T s c t h = by (shape_at T t) refl h
   where
     by : (x : TypeShape) → shape_at T t ≡ x → is_complete_shape_at s (is_complete (entry_at T t)) x ≡ true → is_complete (entry_at T t) ≡ true
     by (Struct n) e g = subst (λ (x : TypeShape). is_complete_entry x (members_at T t) ≡ true) (sym e)
-        (ap not (closed_empty (members_named s n) (members_at T t) (c t n (ap number_of_shape e)) (not_true (is_no_list (members_named s n)) g)))
+        (ap not (no-empty (members_named s n) (members_at T t) (c t n (ap number_of_shape e)) (not_true (is_no_list (members_named s n)) g)))
     by (Union n) e g = subst (λ (x : TypeShape). is_complete_entry x (members_at T t) ≡ true) (sym e)
-        (ap not (closed_empty (members_named s n) (members_at T t) (c t n (ap number_of_shape e)) (not_true (is_no_list (members_named s n)) g)))
+        (ap not (no-empty (members_named s n) (members_at T t) (c t n (ap number_of_shape e)) (not_true (is_no_list (members_named s n)) g)))
     by Void e g = g
     by (Integer bytes signed) e g = g
     by (Pointer n u) e g = g
@@ -182,11 +170,6 @@ module _ (T : Table) (w : IsWellFormed T) where
       All-push (IsDefinedIn T m'.linked) (functions_of u) d
       (All-weaker (IsDefinedIn T h.0.linked) (IsDefinedIn T m'.linked) (grown-defined T h.0.linked m'.linked whole.grown.linked) (functions_of u)
       (unit-defined u m h.0 h.1)) here_
-
-at-index : {A : Type 0} (P : A → Type 0) (xs : List A) → All P xs → (i : ℕ) (x : A) → slice_get xs i ≡ Some x → P x
-at-index P [] h i x q = absurd (none-some x q)
-at-index P (y ∷ ys) h zero x q = subst P (some-same y x q) (All-head P y ys h)
-at-index P (y ∷ ys) h (suc i) x q = at-index P ys (All-tail P y ys h) i x q
 
 -- The whole
 

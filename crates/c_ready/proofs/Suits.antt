@@ -1,7 +1,7 @@
 -- A conversion fits what it converts, by the rule of what it stands in.
 use Rattle.std.specs.List.{All, AllZip}
-use Rattle.std.proofs.Common.{◌≡◌, ◌⊎◌, ℕ, Bool, true, false, ◌&&◌, ◌==◌, List, [], ◌∷◌, ◌++◌, length, Option, Some, None, refl, ap, sym, subst, ◌∙◌, true≢false, if◌then◌else◌, inl, inr, arith}
-use Rattle.std.proofs.lemmas.List.Elements.{All-nil, All-cons, All-head, All-tail}
+use Rattle.std.proofs.Common.{◌≡◌, ◌⊎◌, ℕ, Bool, true, false, ◌&&◌, ◌==◌, List, [], ◌∷◌, length, Option, Some, None, refl, ap, sym, subst, ◌∙◌, true≢false, if◌then◌else◌, inl, inr, arith}
+use Rattle.std.proofs.lemmas.List.Elements.{All-nil, All-cons}
 use Rattle.std.proofs.lemmas.List.{get_or_past}
 use Rattle.std.proofs.lemmas.Bool.Decides.{leb_tells, nat_tests}
 use Rattle.std.proofs.lemmas.Option.{none-some}
@@ -29,9 +29,7 @@ use Rattle.c_typing.specs.Constants.{is_null_constant}
 use Rattle.c_typing.specs.Conversions.{bare, IsPlain, is_droppable, IsOperand, is_taken_as, implicit_between, implicit, converting, converting_by, IsConverted, is_taken_over, IsTakenOver, is_allocation, is_pointer_to_complete, is_pointer_to_complete_shape, takes_over, IsAssignedBy, IsAssigned, cast_between, are_data, points_to_void}
 use Rattle.c_typing.specs.Rules.{IsPrefix, is_designator, Meeting, RightIsNull, LeftIsNull, BothPoint, NeverMeet, meeting_of, meeting, meeting_pointee, meeting_type, AreEquated, AreCompared, IsCompared, IsChoice, IsIntegerChoice, IsVoidChoice, IsPointerChoice, side_conversion, IsScalarCast, IsCast, IsArgument, IsRuntimeArgument}
 use Rattle.c_ready.proofs.Contexts.{Context, IsWhole, IsPointerToWhole, Fits, IsStored}
-
-pub no_true : {A : Type 0} → false ≡ true → A
-no_true h = absurd (true≢false (sym h))
+use Rattle.c_ready.proofs.Basics.{some-same, no_true}
 
 -- what the tree around an expression has to say of it
 abbrev pub Suits : Context → TypedExpr → Type 0
@@ -54,9 +52,6 @@ whole-in T t h = elim (leb_tells (length T) t.0) [
   | inl past ↦ absurd (true≢false (sym h ∙ ap (λ (e : Entry). is_complete e) (get_or_past T t.0 void_entry past.1)))
   | inr below ↦ below.1
 ]
-
-some-same : {A : Type 0} (a b : A) → Some a ≡ Some b → a ≡ b
-some-same a b h = cc
 
 integer-shape : (x : TypeShape) (i : IntegerType) → integer_of_shape x ≡ Some i → (x ≡ Integer i.bytes i.signed) × (is_void_shape x ≡ false)
 integer-shape (Integer bytes signed) i h =
@@ -417,11 +412,3 @@ zip-all R P f [] [] h = All-nil P
 zip-all R P f [] (e ∷ es) h = absurd h
 zip-all R P f (x ∷ xs) [] h = absurd h
 zip-all R P f (x ∷ xs) (e ∷ es) h = All-cons P e es (f x e h.0) (zip-all R P f xs es h.1)
-
-pub all-left : {A : Type 0} (P : A → Type 0) (xs ys : List A) → All P (xs ++ ys) → All P xs
-all-left P [] ys h = All-nil P
-all-left P (x ∷ xs) ys h = All-cons P x xs (All-head P x (xs ++ ys) h) (all-left P xs ys (All-tail P x (xs ++ ys) h))
-
-pub all-right : {A : Type 0} (P : A → Type 0) (xs ys : List A) → All P (xs ++ ys) → All P ys
-all-right P [] ys h = h
-all-right P (x ∷ xs) ys h = all-right P xs ys (All-tail P x (xs ++ ys) h)

@@ -1,7 +1,7 @@
 -- A part that declares no object leaves the outer scopes as they are, and no name but of an enumerator is new: what is true of all that is declared
 -- stays true.
 use Rattle.std.specs.List.{All}
-use Rattle.std.proofs.Common.{length, ◌≡◌, ◌≢◌, ℕ, zero, suc, ℤ, Bool, true, false, not, List, [], ◌∷◌, ◌++◌, Option, Some, None, refl, ap, sym, subst, ◌∙◌, slice_set, if◌then◌else◌, bytes_eq, true≢false, rules}
+use Rattle.std.proofs.Common.{length, ◌≡◌, ◌≢◌, ℕ, zero, suc, ℤ, Bool, true, false, not, List, [], ◌∷◌, ◌++◌, Option, Some, None, refl, ap, sym, subst, ◌∙◌, slice_set, if◌then◌else◌, bytes_eq}
 use Rattle.std.proofs.lemmas.List.Elements.{All-nil, All-cons, All-head, All-tail, All-push}
 use Rattle.std.proofs.lemmas.Option.{none-some}
 use Rattle.cc_base.specs.declared.number.TypeId.{TypeId}
@@ -23,6 +23,7 @@ use Rattle.c_typing.specs.Declarators.{is_void_list, member_names}
 use Rattle.c_typing.specs.Rules.{number_of_shape}
 use Rattle.c_typing.specs.Scopes.{Name, Level, Scopes, empty_level, at_innermost, without_innermost, with_name, with_tag, tag_in, tag_here, entry_of, name_in, or_outer, entering, leaving, members_named, is_no_list, is_complete_shape_at, innermost}
 use Rattle.c_typing.specs.Typing.{IsTyped, IsPlace, AreTyped, IsTypeName, AreSpecifiers, AreAlone, AreListed, IsSpecifier, AreMembers, AreMemberDeclarators, AreEnumerators, IsForm, IsCore, AreParts, AreParameters, IsDeclared, IsNewName, IsNewAggregate, IsTagged, BeginsAggregate, EndsAggregate, DeclaresParameter, tagging, counting_aggregate, tag_named_here, enumerating, shape_of_kind}
+use Rattle.c_ready.proofs.Basics.{some-same, no_true, bytes-same}
 
 -- What is declared
 
@@ -47,9 +48,6 @@ pub record IsOuter (s s' : Scopes) : Type 0 where
 pub record IsWalked (T : Table) (Q : Name → Declared → Type 0) (s s' : Scopes) : Type 0 where
   pub stays : IsOuter s s'
   pub names : AreDeclared T Q s.levels → AreDeclared T Q s'.levels
-
-no_true : {A : Type 0} → false ≡ true → A
-no_true h = absurd (true≢false (sym h))
 
 -- Levels
 
@@ -99,61 +97,43 @@ innermost-of T Q (l ∷ (m ∷ ls)) h = innermost-of T Q (m ∷ ls) (All-tail (I
 
 -- what a name stands for was declared
 
-some-same : {A : Type 0} (a b : A) → Some a ≡ Some b → a ≡ b
-some-same a b h = cc
-
-bytes-same : (a b : Name) → bytes_eq a b ≡ true → a ≡ b
-bytes-same a b h = search rules
-
-module _ (T : Table) (Q : Name → Declared → Type 0) (name : Name) (what : Declared) where
-  found_of : (own : Name) (x : Declared) (rest : Option Declared) (b : Bool) → (b ≡ true → name ≡ own) → Q own x → (rest ≡ Some what → Q name what)
-      → (if b then Some x else rest) ≡ Some what → Q name what
-  found_of own x rest true same q more g = subst (λ (d : Declared). Q name d) (some-same x what g) (subst (λ (n : Name). Q n x) (sym (same refl)) q)
-  found_of own x rest false same q more g = more g
-
-  entry_of_level : (es : List (Name × Declared)) → All (λ (e : Name × Declared). Q e.0 e.1) es → entry_of es name ≡ Some what → Q name what
-  entry_of_level [] h g = absurd (none-some what g)
-  entry_of_level (e ∷ es) h g =
-      found_of e.0 e.1 (entry_of es name) (bytes_eq name e.0) (bytes-same name e.0) (All-head (λ (d : Name × Declared). Q d.0 d.1) e es h)
-      (entry_of_level es (All-tail (λ (d : Name × Declared). Q d.0 d.1) e es h)) g
-
-  outer_of_level : (inner outer : Option Declared) → (inner ≡ Some what → Q name what) → (outer ≡ Some what → Q name what)
-      → or_outer inner outer ≡ Some what → Q name what
-  outer_of_level (Some x) outer f g h = f h
-  outer_of_level None outer f g h = g h
-
-  pub seen-of : (ls : List Level) → AreDeclared T Q ls → name_in ls name ≡ Some what → Q name what
-  seen-of [] h g = absurd (none-some what g)
-  seen-of (l ∷ ls) h g =
-      outer_of_level (name_in ls name) (entry_of l.names name) (seen-of ls (All-tail (IsLevelOf T Q) l ls h))
-      (entry_of_level l.names (All-head (IsLevelOf T Q) l ls h).names) g
-
--- so was a tag
-
-tag_from : {A : Type 0} (R : A → Type 0) (name : Name) (x : A) (es : List (Name × A)) → All (λ (e : Name × A). R e.1) es → entry_of es name ≡ Some x
-    → R x
-tag_from R name x [] h g = absurd (none-some x g)
-tag_from {A} R name x (e ∷ es) h g =
-    by (bytes_eq name e.0) (All-head (λ (d : Name × A). R d.1) e es h) (tag_from R name x es (All-tail (λ (d : Name × A). R d.1) e es h)) g
+-- what an entry of a level says
+pub entry-from : {A : Type 0} (R : Name → A → Type 0) (name : Name) (x : A) (es : List (Name × A)) → All (λ (e : Name × A). R e.0 e.1) es
+    → entry_of es name ≡ Some x → R name x
+entry-from R name x [] h g = absurd (none-some x g)
+entry-from {A} R name x (e ∷ es) h g =
+    by (bytes_eq name e.0) (bytes-same name e.0) (All-head (λ (d : Name × A). R d.0 d.1) e es h)
+    (entry-from R name x es (All-tail (λ (d : Name × A). R d.0 d.1) e es h)) g
   where
-    by : (b : Bool) → R e.1 → (entry_of es name ≡ Some x → R x) → (if b then Some e.1 else entry_of es name) ≡ Some x → R x
-    by true q more g = subst R (some-same e.1 x g) q
-    by false q more g = more g
+    by : (b : Bool) → (b ≡ true → name ≡ e.0) → R e.0 e.1 → (entry_of es name ≡ Some x → R name x)
+        → (if b then Some e.1 else entry_of es name) ≡ Some x → R name x
+    by true same q more g = subst (λ (d : A). R name d) (some-same e.1 x g) (subst (λ (n : Name). R n e.1) (sym (same refl)) q)
+    by false same q more g = more g
 
-module _ (T : Table) (Q : Name → Declared → Type 0) (name : Name) (found : Tag) where
-  either_tag : (inner outer : Option Tag) → (inner ≡ Some found → IsTagOf T found) → (outer ≡ Some found → IsTagOf T found)
-      → or_outer inner outer ≡ Some found → IsTagOf T found
-  either_tag (Some x) outer f g h = f h
-  either_tag None outer f g h = g h
+either-from : {A : Type 0} (P : Type 0) (x : A) (inner outer : Option A) → (inner ≡ Some x → P) → (outer ≡ Some x → P)
+    → or_outer inner outer ≡ Some x → P
+either-from P x (Some y) outer f g h = f h
+either-from P x None outer f g h = g h
 
-  pub tag-seen : (ls : List Level) → AreDeclared T Q ls → tag_in ls name ≡ Some found → IsTagOf T found
-  tag-seen [] h g = absurd (none-some found g)
-  tag-seen (l ∷ ls) h g =
-      either_tag (tag_in ls name) (entry_of l.tags name) (tag-seen ls (All-tail (IsLevelOf T Q) l ls h))
-      (tag_from (IsTagOf T) name found l.tags (All-head (IsLevelOf T Q) l ls h).tags) g
+module _ (T : Table) (Q : Name → Declared → Type 0) (name : Name) where
+  pub seen-of : (what : Declared) (ls : List Level) → AreDeclared T Q ls → name_in ls name ≡ Some what → Q name what
+  seen-of what [] h g = absurd (none-some what g)
+  seen-of what (l ∷ ls) h g =
+      either-from (Q name what) what (name_in ls name) (entry_of l.names name) (seen-of what ls (All-tail (IsLevelOf T Q) l ls h))
+      (entry-from Q name what l.names (All-head (IsLevelOf T Q) l ls h).names) g
 
-  pub tag-seen-here : (ls : List Level) → AreDeclared T Q ls → tag_here ls name ≡ Some found → IsTagOf T found
-  tag-seen-here ls h g = tag_from (IsTagOf T) name found (innermost ls).tags (innermost-of T Q ls h).tags g
+  tag-of : (found : Tag) (l : Level) → IsLevelOf T Q l → entry_of l.tags name ≡ Some found → IsTagOf T found
+  tag-of found l h g = entry-from (λ (n : Name) (x : Tag). IsTagOf T x) name found l.tags h.tags g
+
+  -- so was a tag
+  pub tag-seen : (found : Tag) (ls : List Level) → AreDeclared T Q ls → tag_in ls name ≡ Some found → IsTagOf T found
+  tag-seen found [] h g = absurd (none-some found g)
+  tag-seen found (l ∷ ls) h g =
+      either-from (IsTagOf T found) found (tag_in ls name) (entry_of l.tags name) (tag-seen found ls (All-tail (IsLevelOf T Q) l ls h))
+      (tag-of found l (All-head (IsLevelOf T Q) l ls h)) g
+
+  pub tag-seen-here : (found : Tag) (ls : List Level) → AreDeclared T Q ls → tag_here ls name ≡ Some found → IsTagOf T found
+  tag-seen-here found ls h g = tag-of found (innermost ls) (innermost-of T Q ls h) g
 
 -- Members
 

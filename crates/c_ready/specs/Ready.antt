@@ -153,7 +153,7 @@ MayCall k = (k.calls ≡ true) ⊎ (k.runs ≡ false)
 abbrev pub IsLiteral : Stage → NodeId → TypeId → Type 0
 IsLiteral k h t = IsNode k h × Contains k.literals (h, t)
 
--- the type is complete: of an object, of a place
+-- Values, places, and the type names and declarators in them. What the rules of an operator say of types and conversions holds as it stands.
 abbrev mutual
   pub IsReady : Stage → TypedExpr → Type 0
   IsReady k (typed.Integer of value at t) = IsIntegerType k.table (constant_type of) t
@@ -407,7 +407,7 @@ abbrev pub literal_named : Made → List Named
 literal_named (made.Literal pieces h t) = (h, t) ∷ []
 literal_named m = []
 
--- static initialisers stand there; declarations outside functions may call in what does not run
+-- where static initialisers stand
 abbrev pub static_stage : Table → TypedTranslationUnit → Stage
 static_stage T u = record {
   table = T;
@@ -421,13 +421,14 @@ static_stage T u = record {
   calls = false;
 }
 
--- declarations outside functions, and a function's body
+-- where declarations outside functions stand, and where a function's body does
 abbrev pub file_stage : Stage → Stage
 file_stage static = record static { calls = true }
 
 abbrev pub body_stage : Stage → DefinedFunction → Stage
 body_stage static f = record static { variables = variables_named f; calls = true }
 
+-- the list of parameters that a definition begins with
 abbrev pub parameters_listed : TypedDeclarator → TypedParameters
 parameters_listed (typed.Declares form t) = parameters_in_form form typed.NoParameter
 
@@ -442,7 +443,7 @@ pub record IsReadyFunction (static : Stage) (f : DefinedFunction) : Type 0 where
   pub plans : All (λ (o : Named). IsNode static o.0 × IsWhole static o.1) (variables_named f)
   pub body : AreReadyBlockItems (body_stage static f) static (record { result = result; in_loop = false; breakable = false }) None f.body
 
--- the parts of a unit, in a table's stage
+-- the parts of a unit
 abbrev pub AreReadyExternals : Stage → TypedTranslationUnit → Type 0
 AreReadyExternals static typed.NoExternal = Unit {0}
 AreReadyExternals static (typed.AndExternal u d) = AreReadyExternals static u × IsReadyDeclaration (file_stage static) static d

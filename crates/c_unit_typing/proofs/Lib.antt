@@ -25,8 +25,6 @@ pub mod FunctionParameters
 pub mod JudgedLabels
 pub mod JudgedStatements
 pub mod StatementParts
-pub mod Scoped
-pub mod NearestLists
 pub mod JudgedDeclarations
 pub mod JudgedDeclarators
 pub mod HomeNumbers

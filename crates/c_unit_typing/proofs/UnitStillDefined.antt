@@ -3,18 +3,19 @@ use Rattle.std.proofs.Common.{◌≡◌, Bool, true, false, [], ◌∷◌, ◌++
 use Rattle.cc_base.specs.declared.place.Place.{Place}
 use Rattle.cc_base.specs.declared.number.TypeId.{TypeId}
 use Rattle.c_types.specs.Table.{Table, shape_at}
+use Rattle.c_tree.specs.declared.leaf.Identifier.{Identifier}
 use Rattle.c_tree.specs.declared.typed_word.Home.{Home}
 use Rattle.c_tree.specs.declared.typed_word.Home.TheVariants as home
 use Rattle.c_tree.specs.TypedTree as typed
-use Rattle.c_tree.specs.TypedTree.{TypedExpr, TypedSpecifiers, TypedForm, TypedInitialiser, TypedInitDeclarators, TypedDeclaration, TypedStatement, TypedBlockItems, TypedTranslationUnit}
-use Rattle.c_tree.specs.TypedParts.{type_of, specified_type, home_of, name_of_form}
+use Rattle.c_tree.specs.TypedTree.{TypedExpr, TypedSpecifiers, TypedForm, TypedParameters, TypedInitialiser, TypedInitDeclarators, TypedDeclaration, TypedStatement, TypedBlockItems, TypedTranslationUnit}
+use Rattle.c_tree.specs.TypedParts.{type_of, specified_type, declared_home, home_of, name_of_form}
 use Rattle.c_typing.specs.declared.declared.Declared.{Declared}
 use Rattle.c_typing.specs.declared.declared.Declared.TheVariants as declared
 use Rattle.c_typing.specs.Declarators.{Outermost, Written}
-use Rattle.c_typing.specs.Scopes.{Name, Scopes, here, innermost, entry_of, entering}
+use Rattle.c_typing.specs.Scopes.{Name, Scopes, here, entry_of, entering}
 use Rattle.c_typing.specs.Shapes.{is_function_shape}
 use Rattle.c_unit_typing.specs.Initialisers.{is_char_array, size_given}
-use Rattle.c_unit_typing.specs.Units.{Known, Storage, Unstored, AsTypedef, AsExtern, AsStatic, AsAutomatic, Around, storage_of, with_scopes, unless_here, IsLinked, IsLinkedObject, IsStaticOrLocal, IsFunctionDeclared, IsObjectDeclared, IsTypedefDeclared, IsOrdinaryDeclared, IsNameDeclared, IsDeclarator, outermost_of, bytes_of_name, is_linked_home, IsDefinedOnce, IsInitialised, AreDeclarators, IsDeclaration, in_a_loop, in_a_switch, IsDropped, IsTested, IsTestedOrNone, IsReturned, entering_known, leaving_known, IsStatement, AreBlockItems, going_on, IsDefinition, IsUnitTyped}
+use Rattle.c_unit_typing.specs.Units.{Known, Storage, Unstored, AsTypedef, AsExtern, AsStatic, AsAutomatic, Around, storage_of, with_scopes, unless_here, IsLinked, IsLinkedObject, IsStaticOrLocal, IsFunctionDeclared, IsObjectDeclared, IsTypedefDeclared, IsOrdinaryDeclared, IsNameDeclared, IsDeclarator, outermost_of, bytes_of_name, is_linked_home, IsDefinedOnce, IsInitialised, AreDeclarators, IsDeclaration, in_a_loop, in_a_switch, IsDropped, IsTested, IsTestedOrNone, IsReturned, entering_known, leaving_known, IsStatement, AreBlockItems, parameter_declared, declared_identifier, with_parameters, IsDefinition, IsUnitTyped}
 use Rattle.c_unit_typing.proofs.StillDefined.{value-defined, specifiers-defined, form-defined, alone-defined, initialiser-defined}
 
 -- the same functions
@@ -27,6 +28,16 @@ as_known k k' h = ap (λ (q : Known). q.scopes.defined) h
 unless_defined : (o : Option Declared) (name : Name) (what : Declared) (s : Scopes) → (unless_here o name what s).defined ≡ s.defined
 unless_defined None name what s = refl
 unless_defined (Some first) name what s = refl
+
+parameter_defined : (name : Option Identifier) (h : Home) (t : TypeId) (s : Scopes) → (parameter_declared name h t s).defined ≡ s.defined
+parameter_defined (Some name) (home.Parameter n) t s = refl
+parameter_defined (Some name) h t s = refl
+parameter_defined None h t s = refl
+
+parameters_defined : (ps : TypedParameters) (s : Scopes) → (with_parameters ps s).defined ≡ s.defined
+parameters_defined typed.NoParameter s = refl
+parameters_defined (typed.AndParameter all specifiers d adjusted t) s =
+    parameter_defined (declared_identifier d) (declared_home d) t (with_parameters all s) ∙ parameters_defined all s
 
 module _ (T : Table) where
   linked_defined : (name : Name) (what : Declared) (k k' : Known) → IsLinked T name what k k' → IsSame k k'
@@ -54,16 +65,16 @@ module _ (T : Table) where
   function_defined home.None name t k k' d = linked_defined name (declared.Function t) k k' d
   function_defined h name t k k' d = absurd d
 
-  typedef_defined : (file : Bool) (h : Home) (name : Name) (t : TypeId) (k k' : Known) → IsTypedefDeclared file h name t k k' → IsSame k k'
-  typedef_defined file home.None name t k k' d = ap (λ (q : Known). q.scopes.defined) d.2 ∙ ap (λ (q : Scopes). q.defined) d.1.after
-  typedef_defined file h name t k k' d = absurd d
+  typedef_defined : (h : Home) (name : Name) (t : TypeId) (k k' : Known) → IsTypedefDeclared h name t k k' → IsSame k k'
+  typedef_defined home.None name t k k' d = ap (λ (q : Known). q.scopes.defined) d.2 ∙ ap (λ (q : Scopes). q.defined) d.1.after
+  typedef_defined h name t k k' d = absurd d
 
   ordinary_defined : (b : Bool) (file : Bool) (storage : Storage) (h : Home) (name : Name) (t : TypeId) (k k' : Known) → IsOrdinaryDeclared b T file storage h name t k k' → IsSame k k'
   ordinary_defined true file storage h name t k k' d = function_defined h name t k k' d
   ordinary_defined false file storage h name t k k' d = object_defined file storage h name t k k' d
 
   name_defined : (file : Bool) (storage : Storage) (h : Home) (name : Name) (t : TypeId) (k k' : Known) → IsNameDeclared T file storage h name t k k' → IsSame k k'
-  name_defined file AsTypedef h name t k k' d = typedef_defined file h name t k k' d
+  name_defined file AsTypedef h name t k k' d = typedef_defined h name t k k' d
   name_defined file storage h name t k k' d = ordinary_defined (is_function_shape (shape_at T t)) file storage h name t k k' d
 
   declarator_defined : (file : Bool) (storage : Storage) (base : TypeId) (o : Outermost) (form : TypedForm) (t : TypeId) (k k' : Known) → IsDeclarator T file storage base o form t k k' → IsSame k k'
@@ -119,25 +130,19 @@ module _ (T : Table) where
     statement_defined (typed.Block brace items) a k k' d = as_known (leaving_known d.0) k' d.2 ∙ items_defined items a None (entering_known k) d.0 d.1
     statement_defined (typed.Express e) a k k' d = dropped_defined (Some e) k k' d
     statement_defined typed.Empty a k k' d = as_known k k' d
-    statement_defined (typed.If at paren c s) a k k' d =
-        as_known (leaving_known (leaving_known d.1)) k' d.4 ∙ (statement_defined s a (entering_known d.0) d.1 d.3 ∙ tested_defined c (entering_known k) d.0 d.2)
-    statement_defined (typed.IfElse at paren c s r) a k k' d =
-        as_known (leaving_known (leaving_known d.2)) k' d.6
-        ∙ (statement_defined r a (entering_known (leaving_known d.1)) d.2 d.5 ∙ (statement_defined s a (entering_known d.0) d.1 d.4 ∙ tested_defined c (entering_known k) d.0 d.3))
+    statement_defined (typed.If at paren c s) a k k' d = statement_defined s a d.0 k' d.2 ∙ tested_defined c k d.0 d.1
+    statement_defined (typed.IfElse at paren c s r) a k k' d = statement_defined r a d.1 k' d.4 ∙ (statement_defined s a d.0 d.1 d.3 ∙ tested_defined c k d.0 d.2)
     statement_defined (typed.Switch at paren e brace items) a k k' d =
-        as_known (leaving_known (leaving_known d.1)) k' d.5
-        ∙ (items_defined items (in_a_switch a) (Some (type_of e)) (entering_known (with_scopes k d.0)) d.1 d.4 ∙ value-defined T e (entering k.scopes) d.0 d.2)
-    statement_defined (typed.While at paren c s) a k k' d =
-        as_known (leaving_known (leaving_known d.1)) k' d.4 ∙ (statement_defined s (in_a_loop a) (entering_known d.0) d.1 d.3 ∙ tested_defined c (entering_known k) d.0 d.2)
-    statement_defined (typed.DoWhile s at paren c) a k k' d =
-        as_known (leaving_known d.1) k' d.4 ∙ (tested_defined c (leaving_known d.0) d.1 d.3 ∙ statement_defined s (in_a_loop a) (entering_known (entering_known k)) d.0 d.2)
+        as_known (leaving_known d.1) k' d.5
+        ∙ (items_defined items (in_a_switch a) (Some (type_of e)) (entering_known (with_scopes k d.0)) d.1 d.4 ∙ value-defined T e k.scopes d.0 d.2)
+    statement_defined (typed.While at paren c s) a k k' d = statement_defined s (in_a_loop a) d.0 k' d.2 ∙ tested_defined c k d.0 d.1
+    statement_defined (typed.DoWhile s at paren c) a k k' d = tested_defined c d.0 k' d.2 ∙ statement_defined s (in_a_loop a) k d.0 d.1
     statement_defined (typed.For at paren first test step s) a k k' d =
-        as_known (leaving_known (leaving_known d.3)) k' d.8
-        ∙ (statement_defined s (in_a_loop a) (entering_known d.2) d.3 d.7
-        ∙ (dropped_defined step d.1 d.2 d.6 ∙ (tested_or_none_defined test d.0 d.1 d.5 ∙ dropped_defined first (entering_known k) d.0 d.4)))
+        statement_defined s (in_a_loop a) d.2 k' d.6
+        ∙ (dropped_defined step d.1 d.2 d.5 ∙ (tested_or_none_defined test d.0 d.1 d.4 ∙ dropped_defined first k d.0 d.3))
     statement_defined (typed.ForDeclaration at paren f test step s) a k k' d =
-        as_known (leaving_known (leaving_known d.3)) k' d.8
-        ∙ (statement_defined s (in_a_loop a) (entering_known d.2) d.3 d.7
+        as_known (leaving_known d.3) k' d.8
+        ∙ (statement_defined s (in_a_loop a) d.2 d.3 d.7
         ∙ (dropped_defined step d.1 d.2 d.6 ∙ (tested_or_none_defined test d.0 d.1 d.5 ∙ declaration_defined false f (entering_known k) d.0 d.4)))
     statement_defined (typed.Break at) a k k' d = as_known k k' d.0
     statement_defined (typed.Continue at) a k k' d = as_known k k' d.0
@@ -155,11 +160,12 @@ module _ (T : Table) where
   definition_defined specifiers form t body k k' d =
       as_known (leaving_known d.after) k' d.leaves
       ∙ (items_defined body (record { result = d.result; in_loop = false; breakable = false }) None (record d.declared {
-        scopes = going_on (innermost d.inside.levels) d.declared.scopes;
+        scopes = with_parameters d.parameters (entering d.declared.scopes);
         defined = d.declared.defined ++ d.name.bytes ∷ [];
       }) d.after d.statements
+      ∙ (parameters_defined d.parameters (entering d.declared.scopes)
       ∙ (declarator_defined true (storage_of specifiers) (specified_type specifiers) Written form t (with_scopes k d.before) d.declared d.declares
-      ∙ specifiers-defined T specifiers k.scopes d.before d.specified))
+      ∙ specifiers-defined T specifiers k.scopes d.before d.specified)))
 
   pub unit-defined : (u : TypedTranslationUnit) (k k' : Known) → IsUnitTyped T u k k' → IsSame k k'
   unit-defined typed.NoExternal k k' d = as_known k k' d

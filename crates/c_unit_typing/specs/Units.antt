@@ -14,19 +14,19 @@ use Rattle.c_tree.specs.declared.typed_word.Home.{Home}
 use Rattle.c_tree.specs.declared.typed_word.Home.TheVariants as home
 use Rattle.c_tree.specs.TypedTree as typed
 use Rattle.c_tree.specs.TypedTree.{TypedExpr, TypedSpecifiers, TypedSpecifierList, TypedForm, TypedCore, TypedParts, TypedParameters, TypedDeclared, TypedInitialiser, TypedInitDeclarators, TypedDeclaration, TypedStatement, TypedBlockItems, TypedTranslationUnit}
-use Rattle.c_tree.specs.TypedParts.{type_of, specified_type, home_of, name_of_form}
+use Rattle.c_tree.specs.TypedParts.{type_of, specified_type, home_of, declared_home, name_of_form}
 use Rattle.integers.specs.Arithmetic.{IntegerType, converted}
 use Rattle.c_tree.specs.declared.typed_word.Runtime.{Runtime}
 use Rattle.runtime_calls.specs.Prototypes.{IsNamed, IsNoName, HasPrototype}
 use Rattle.c_typing.specs.declared.declared.Declared.{Declared}
 use Rattle.c_typing.specs.declared.declared.Declared.TheVariants as declared
 use Rattle.c_typing.specs.Shapes.{integer_at, is_function_shape, is_void_shape}
-use Rattle.c_typing.specs.Scopes.{Name, Level, Scopes, here, innermost, declaring, entering, leaving, entry_of, is_complete_at}
+use Rattle.c_typing.specs.Scopes.{Name, Scopes, here, declaring, entering, leaving, entry_of, is_complete_at}
 use Rattle.c_typing.specs.Constants.{constant_value}
 use Rattle.c_typing.specs.Conversions.{IsPlain, IsConverted}
 use Rattle.c_typing.specs.Rules.{IsCondition, IsPromoted, IsDroppable}
-use Rattle.c_typing.specs.Declarators.{Outermost, Written, Counts, FormMakes, is_void_list}
-use Rattle.c_typing.specs.Typing.{IsTyped, AreSpecifiers, AreAlone, IsForm, IsNewName, AreParameters}
+use Rattle.c_typing.specs.Declarators.{Outermost, Written, Counts, FormMakes}
+use Rattle.c_typing.specs.Typing.{IsTyped, AreSpecifiers, AreAlone, IsForm, IsNewName}
 use Rattle.c_unit_typing.specs.Initialisers.{IsInitialiser, is_constant_initialiser, is_char_array, size_given, with_home}
 
 -- What is known at a point of a unit.
@@ -147,18 +147,16 @@ IsObjectDeclared table true storage h name t k k' = IsLinkedObject table name h 
 IsObjectDeclared table false AsExtern h name t k k' = IsLinkedObject table name h t k k'
 IsObjectDeclared table false storage h name t k k' = IsStaticOrLocal table storage h name t k k'
 
--- a typedef; the names of the six runtime functions belong to the file scope
-abbrev pub IsTypedefDeclared : Bool → Home → Name → TypeId → Known → Known → Type 0
-IsTypedefDeclared file home.None name t k k' =
-    (s : Scopes) × IsNewName name (declared.Typedef t) k.scopes s × (k' ≡ with_scopes k s) × (IsTrue file → IsNoName name)
-IsTypedefDeclared file home name t k k' = ⊥
+abbrev pub IsTypedefDeclared : Home → Name → TypeId → Known → Known → Type 0
+IsTypedefDeclared home.None name t k k' = (s : Scopes) × IsNewName name (declared.Typedef t) k.scopes s × (k' ≡ with_scopes k s)
+IsTypedefDeclared home name t k k' = ⊥
 
 abbrev pub IsOrdinaryDeclared : Bool → Table → Bool → Storage → Home → Name → TypeId → Known → Known → Type 0
 IsOrdinaryDeclared true table file storage h name t k k' = IsFunctionDeclared table h name t k k'
 IsOrdinaryDeclared false table file storage h name t k k' = IsObjectDeclared table file storage h name t k k'
 
 abbrev pub IsNameDeclared : Table → Bool → Storage → Home → Name → TypeId → Known → Known → Type 0
-IsNameDeclared table file AsTypedef h name t k k' = IsTypedefDeclared file h name t k k'
+IsNameDeclared table file AsTypedef h name t k k' = IsTypedefDeclared h name t k k'
 IsNameDeclared table file storage h name t k k' = IsOrdinaryDeclared (is_function_shape (shape_at table t)) table file storage h name t k k'
 
 -- a declarator gives its name a type, and declares it
@@ -289,31 +287,25 @@ IsLabel T None e value = ⊥
 IsLabel T (Some t) e value =
     (k : IntegerType) × (z : ℤ) × IsPlain e × (integer_at T t ≡ Some k) × (constant_value T e ≡ Some z) × (value ≡ converted k z)
 
--- A selection or iteration statement is a block, and so is each of its substatements (C99 6.8.4, 6.8.5). Each block has one `default` at most (C99 6.8.4.2).
+-- each block has one `default` at most (C99 6.8.4.2)
 abbrev mutual
   pub IsStatement : Table → Around → TypedStatement → Known → Known → Type 0
   IsStatement T a (typed.Block brace items) k k' =
       (m : Known) × AreBlockItems T a None items (entering_known k) m × (k' ≡ leaving_known m) × (defaults_in items ≤ 1)
   IsStatement T a (typed.Express e) k k' = IsDropped T (Some e) k k'
   IsStatement T a typed.Empty k k' = k' ≡ k
-  IsStatement T a (typed.If at paren c s) k k' =
-      (m n : Known) × IsTested T c (entering_known k) m × IsStatement T a s (entering_known m) n × (k' ≡ leaving_known (leaving_known n))
-  IsStatement T a (typed.IfElse at paren c s r) k k' =
-      (m n o : Known) × IsTested T c (entering_known k) m × IsStatement T a s (entering_known m) n
-      × IsStatement T a r (entering_known (leaving_known n)) o × (k' ≡ leaving_known (leaving_known o))
+  IsStatement T a (typed.If at paren c s) k k' = (m : Known) × IsTested T c k m × IsStatement T a s m k'
+  IsStatement T a (typed.IfElse at paren c s r) k k' = (m n : Known) × IsTested T c k m × IsStatement T a s m n × IsStatement T a r n k'
   IsStatement T a (typed.Switch at paren e brace items) k k' =
-      (s : Scopes) × (m : Known) × IsTyped T e (entering k.scopes) s × IsSwitched T at e items
-      × AreBlockItems T (in_a_switch a) (Some (type_of e)) items (entering_known (with_scopes k s)) m × (k' ≡ leaving_known (leaving_known m))
-  IsStatement T a (typed.While at paren c s) k k' =
-      (m n : Known) × IsTested T c (entering_known k) m × IsStatement T (in_a_loop a) s (entering_known m) n × (k' ≡ leaving_known (leaving_known n))
-  IsStatement T a (typed.DoWhile s at paren c) k k' =
-      (m n : Known) × IsStatement T (in_a_loop a) s (entering_known (entering_known k)) m × IsTested T c (leaving_known m) n × (k' ≡ leaving_known n)
+      (s : Scopes) × (m : Known) × IsTyped T e k.scopes s × IsSwitched T at e items
+      × AreBlockItems T (in_a_switch a) (Some (type_of e)) items (entering_known (with_scopes k s)) m × (k' ≡ leaving_known m)
+  IsStatement T a (typed.While at paren c s) k k' = (m : Known) × IsTested T c k m × IsStatement T (in_a_loop a) s m k'
+  IsStatement T a (typed.DoWhile s at paren c) k k' = (m : Known) × IsStatement T (in_a_loop a) s k m × IsTested T c m k'
   IsStatement T a (typed.For at paren first test step s) k k' =
-      (l m n o : Known) × IsDropped T first (entering_known k) l × IsTestedOrNone T test l m × IsDropped T step m n
-      × IsStatement T (in_a_loop a) s (entering_known n) o × (k' ≡ leaving_known (leaving_known o))
+      (l m n : Known) × IsDropped T first k l × IsTestedOrNone T test l m × IsDropped T step m n × IsStatement T (in_a_loop a) s n k'
   IsStatement T a (typed.ForDeclaration at paren d test step s) k k' =
       (l m n o : Known) × IsDeclaration T false d (entering_known k) l × IsTestedOrNone T test l m × IsDropped T step m n
-      × IsStatement T (in_a_loop a) s (entering_known n) o × (k' ≡ leaving_known (leaving_known o))
+      × IsStatement T (in_a_loop a) s n o × (k' ≡ leaving_known o)
   IsStatement T a (typed.Break at) k k' = (k' ≡ k) × IsTrue a.breakable
   IsStatement T a (typed.Continue at) k k' = (k' ≡ k) × IsTrue a.in_loop
   IsStatement T a (typed.Return at e) k k' = IsReturned T at a.result e k k'
@@ -349,9 +341,19 @@ abbrev mutual
   parameters_of_core typed.Unnamed found = found
   parameters_of_core (typed.Nested at form) found = parameters_of_form form found
 
--- the scope of a body: that of the list of parameters that stands nearest to the name goes on in it, behind those of the declarator (C99 6.2.1)
-abbrev pub going_on : Level → Scopes → Scopes
-going_on level s = record s { levels = s.levels ++ level ∷ [] }
+abbrev pub parameter_declared : Option Identifier → Home → TypeId → Scopes → Scopes
+parameter_declared (Some name) (home.Parameter n) t s = declaring name.bytes (declared.Object t n) s
+parameter_declared name home t s = s
+
+abbrev pub declared_identifier : TypedDeclared → Option Identifier
+declared_identifier typed.NotDeclared = None
+declared_identifier (typed.DeclaredBy form) = name_of_form form
+
+-- the scope of a body begins with the parameters
+abbrev pub with_parameters : TypedParameters → Scopes → Scopes
+with_parameters typed.NoParameter s = s
+with_parameters (typed.AndParameter all specifiers declared adjusted t) s =
+    parameter_declared (declared_identifier declared) (declared_home declared) t (with_parameters all s)
 
 -- a function with its body
 pub record IsDefinition (T : Table) (specifiers : TypedSpecifiers) (form : TypedForm) (t : TypeId) (body : TypedBlockItems) (k k' : Known) : Type 0 where
@@ -367,16 +369,13 @@ pub record IsDefinition (T : Table) (specifiers : TypedSpecifiers) (form : Typed
   pub no_typedef : ¬ (storage_of specifiers ≡ AsTypedef)
   pub declared : Known
   pub declares : IsDeclarator T true (storage_of specifiers) (specified_type specifiers) Written form t (with_scopes k before) declared
-  -- what the list of its parameters leaves, in a scope of its own
-  pub inside : Scopes
-  pub listed : AreParameters T (is_void_list parameters) parameters (entering before) inside
   -- it is defined once, and is no runtime function
   pub once : is_one_of declared.defined name.bytes ≡ false
   pub own : IsNoName name.bytes
   pub after : Known
   pub statements : AreBlockItems T (record { result = result; in_loop = false; breakable = false }) None body
       (record declared {
-        scopes = going_on (innermost inside.levels) declared.scopes;
+        scopes = with_parameters parameters (entering declared.scopes);
         defined = declared.defined ++ name.bytes ∷ [];
       }) after
   pub defaults : defaults_in body ≤ 1

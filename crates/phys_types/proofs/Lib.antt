@@ -30,3 +30,4 @@ pub mod Queue
 pub mod Tops
 pub mod AllPairsFound
 pub mod Knowing
+pub mod MixedSpots

@@ -16,6 +16,15 @@ abbrev pub pointer_of_item : Item → Option HeldPointer
 pointer_of_item (Pointer node to) = Some (record { node = node; to = to })
 pointer_of_item item = None
 
+-- the mixed union that an item is
+abbrev pub union_of_item : Item → Option TypeId
+union_of_item (Mixed t size) = Some t
+union_of_item item = None
+
+-- the mixed union v stands among the spots
+abbrev pub HoldsUnion : List Spot → TypeId → Type 0
+HoldsUnion ss v = (s : Spot) × Contains ss s × (union_of_item s.item ≡ Some v)
+
 abbrev pub shown : Option Held → Option HeldPointer
 shown None = None
 shown (Some p) = Some (held p)

@@ -1,6 +1,6 @@
 #![tactic(auto)]
 
-ghost use Rattle.std.specs.Prelude.{ℕ, ◌≡◌, ◌≢◌, ◌⊎◌, ◌<◌, ◌&&◌, not, IfOk, OnOk, IsTrue};
+ghost use Rattle.std.specs.Prelude.{ℕ, ◌≡◌, ◌≢◌, ◌↔◌, ◌⊎◌, IfOk, OnOk, IsTrue};
 ghost use Rattle.std.specs.List.{AllPairs, Contains};
 ghost use Rattle.cc_base.specs.declared.number.TypeId.{TypeId};
 ghost use Rattle.cc_base.specs.declared.number.NodeId.{NodeId};
@@ -8,7 +8,7 @@ ghost use Rattle.cc_base.specs.declared.kind.Kind.{Kind};
 ghost use Rattle.c_types.specs.Table.{IsType};
 ghost use Rattle.c_types.specs.Equality.{physically_equal, begins_with, strictly_below};
 ghost use Rattle.c_types.specs.Flows.{flow_class, CorrespondAtTop, StandAlike};
-ghost use Rattle.c_types.specs.Sound.{IsWellFormed};
+ghost use Rattle.c_types.specs.Solutions.{HoldsMixed};
 ghost use Rattle.phys_types.specs.Found.{Gains};
 ghost use Rattle.phys_types.specs.Pairs.{AreCorrespondingNodes, TellsEqualKinds};
 ghost use Rattle.phys_types.specs.Shown.{IsLayoutOf};
@@ -19,6 +19,7 @@ use crate::building::kept;
 use crate::comparing::{begins, number_of};
 use crate::following::follow;
 use crate::found::Found;
+use crate::mixed_unions::{has_union, unions_of};
 use crate::order::in_order;
 use crate::phys::{is_one_function, settled_class, settled_pairs};
 use crate::round::settle;
@@ -146,6 +147,22 @@ impl<'a> Known<'a> {
             from,
             to,
         )
+    }
+
+    /// The mixed unions that a type holds by value.
+    pub fn mixed_unions(&self, t: TypeId) -> Result<Vec<TypeId>, NoMemory>
+        requires { IsType self.now t }
+        ensures { IfOk result (λ unions. (v : TypeId) → Contains unions.items v ↔ HoldsMixed self.now t v) }
+    {
+        unions_of(self.alloc, &self.layout(t).spots)
+    }
+
+    /// Whether a type is a mixed union.
+    pub fn is_mixed(&self, t: TypeId) -> bool
+        requires { IsType self.now t }
+        ensures { IsTrue result ↔ HoldsMixed self.now t t }
+    {
+        has_union(&self.layout(t).spots, t)
     }
 
     /// Adds the pointers of two types that correspond in a flow between pointers to them, but not those that they lead to.

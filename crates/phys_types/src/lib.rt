@@ -13,6 +13,7 @@ mod held;
 mod known;
 mod laws;
 mod makeup;
+mod mixed_unions;
 mod order;
 mod phys;
 mod round;

@@ -84,7 +84,7 @@ module _ (table : Table) where
   void_outside t e = get_or-eq_default table void_entry (let l : length table ≤ t.0 = grind (arith, nat_tests) in l)
 
   -- what has a shape other than void is in the table
-  in-table : (t : TypeId) → (shape_at table t ≡ Void → ⊥) → IsType table t
+  pub in-table : (t : TypeId) → (shape_at table t ≡ Void → ⊥) → IsType table t
   in-table t h = by (nat_lt t.0 (length table)) refl
     where
       by : (b : Bool) → nat_lt t.0 (length table) ≡ b → IsType table t

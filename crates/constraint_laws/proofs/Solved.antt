@@ -45,14 +45,14 @@ either : (a b : Bool) → (a || b) ≡ true → (a ≡ true) ⊎ (b ≡ true)
 either true b h = inl refl
 either false b h = inr h
 
-any-true : {X : Type 0} (f : X → Bool) (xs : List X) (x : X) → Contains xs x → f x ≡ true → list_any f xs ≡ true
+pub any-true : {X : Type 0} (f : X → Bool) (xs : List X) (x : X) → Contains xs x → f x ≡ true → list_any f xs ≡ true
 any-true f [] x c h = absurd (omega (arith, c.1))
 any-true f (y ∷ ys) x c h = elim (head-or-tail y ys x c) [
   | inl e ↦ or-left (f y) (list_any f ys) (ap f e ∙ h)
   | inr k ↦ or-right (f y) (list_any f ys) (any-true f ys x k h)
 ]
 
-true-any : {X : Type 0} (f : X → Bool) (xs : List X) → list_any f xs ≡ true → (x : X) × Contains xs x × (f x ≡ true)
+pub true-any : {X : Type 0} (f : X → Bool) (xs : List X) → list_any f xs ≡ true → (x : X) × Contains xs x × (f x ≡ true)
 true-any f [] h = absurd (true≢false (sym h))
 true-any f (y ∷ ys) h = elim (either (f y) (list_any f ys) h) [
   | inl e ↦ (y, contains_head y ys, e)
@@ -76,7 +76,7 @@ below-is table sites t = (
     by (site.Home n x) c h = absurd (true≢false (sym h))
     by (site.Union x place) c h = absurd (true≢false (sym h))
 
-one-answer : (a b : Bool) (P : Type 0) → IsTrue a ↔ P → IsTrue b ↔ P → a ≡ b
+pub one-answer : (a b : Bool) (P : Type 0) → IsTrue a ↔ P → IsTrue b ↔ P → a ≡ b
 one-answer true true P f g = refl
 one-answer true false P f g = absurd (true≢false (sym (g.1 (f.0 refl))))
 one-answer false true P f g = absurd (true≢false (sym (f.1 (g.0 refl))))

@@ -16,7 +16,8 @@ use std::alloc::Global;
 
 /// Adds what a site says that a pointer points to, if it says so.
 fn add_pointee(pointees: &mut IndexSet<TypeId>, site: Site) -> Result<(), NoMemory>
-    ensures { OnOk result (Adds (λ t. pointee_of site ≡ Some t) pointees.old.keys pointees.new.keys) }
+    ensures { OnOk result
+        (Adds (λ t. pointee_of site ≡ Some t) pointees.old.keys pointees.new.keys) }
 {
     if let Site::Pointee { ty, .. } = site {
         pointees.insert(ty)?;
@@ -26,7 +27,8 @@ fn add_pointee(pointees: &mut IndexSet<TypeId>, site: Site) -> Result<(), NoMemo
 
 /// The types that nodes point to, each once.
 fn pointees_of(alloc: Global, sites: &[Site]) -> Result<Vec<TypeId>, NoMemory>
-    ensures { IfOk result (λ pointees. (t : TypeId) → Contains pointees.items t ↔ IsPointee sites.now t) }
+    ensures { IfOk result
+        (λ pointees. (t : TypeId) → Contains pointees.items t ↔ IsPointee sites.now t) }
 {
     let mut pointees = IndexSet::new(alloc);
     'sites: for site in sites {

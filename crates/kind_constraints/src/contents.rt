@@ -7,7 +7,7 @@ ghost use Rattle.kind_solver.specs.declared.constraint.Constraint.TheVariants.{I
 ghost use Rattle.kind_solver.specs.declared.constraint.Why.TheVariants.{Union};
 ghost use Rattle.kind_constraints.specs.Adding.{Adds, OfSome};
 ghost use Rattle.kind_constraints.specs.Pieces.{IsOfContents};
-ghost use Rattle.kind_constraints.specs.Asked.{IsAsked};
+ghost use Rattle.kind_constraints.specs.Asked.{IsReady};
 
 use crate::asked::Asked;
 use crate::held::held_nodes;
@@ -20,7 +20,9 @@ fn add_inner(
     outer: NodeId,
     nodes: &[(NodeId, NodeId)],
 ) -> Result<(), NoMemory>
-    ensures { OnOk result (Adds (OfSome nodes.now (λ pair c. c ≡ Inside outer pair.0)) list.old.items list.new.items) }
+    ensures { OnOk result
+        (Adds (OfSome nodes.now (λ pair c. c ≡ Inside outer pair.0))
+        list.old.items list.new.items) }
 {
     'nodes: for node in nodes {
         list.push(Constraint::Inside {
@@ -38,7 +40,9 @@ fn add_force(
     mixed: &[TypeId],
     union: (TypeId, Place),
 ) -> Result<(), NoMemory>
-    ensures { OnOk result (Adds (λ c. Contains mixed.now union.0 × (c ≡ Force node Union union.1)) list.old.items list.new.items) }
+    ensures { OnOk result
+        (Adds (λ c. Contains mixed.now union.0 × (c ≡ Force node Union union.1))
+        list.old.items list.new.items) }
 {
     if mixed.contains(&union.0) {
         list.push(Constraint::Force {
@@ -57,7 +61,9 @@ fn add_forces(
     mixed: &[TypeId],
     unions: &[(TypeId, Place)],
 ) -> Result<(), NoMemory>
-    ensures { OnOk result (Adds (OfSome unions.now (λ union c. Contains mixed.now union.0 × (c ≡ Force node Union union.1))) list.old.items list.new.items) }
+    ensures { OnOk result
+        (Adds (OfSome unions.now (λ union c. Contains mixed.now union.0 × (c ≡ Force node Union union.1)))
+        list.old.items list.new.items) }
 {
     if mixed.is_empty() {
         return Ok(());
@@ -75,9 +81,11 @@ pub(crate) fn add_contents(
     node: NodeId,
     ty: TypeId,
 ) -> Result<(), NoMemory>
-    requires asked { IsAsked asked.now.types.now asked.now.sites.now asked.now.known asked.now.belows.items asked.now.unions.items }
+    requires asked { IsReady asked.now }
     requires typed { IsType asked.now.types.now ty }
-    ensures { OnOk result (Adds (IsOfContents asked.now.types.now asked.now.sites.now node ty) list.old.items list.new.items) }
+    ensures { OnOk result
+        (Adds (IsOfContents asked.now.types.now asked.now.sites.now node ty)
+        list.old.items list.new.items) }
 {
     let nodes = held_nodes(asked.alloc, &asked.known, asked.types, ty)?;
     add_inner(list, node, &nodes)?;

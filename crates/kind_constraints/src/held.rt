@@ -18,7 +18,8 @@ use std::alloc::Global;
 fn add_members(held: &mut IndexSet<TypeId>, types: &Types, v: TypeId) -> Result<(), NoMemory>
     requires typed { IsType types.now v }
     requires union { IsUnion types.now v }
-    ensures added { OnOk result (Adds (Contains (members_at types.now v)) held.old.keys held.new.keys) }
+    ensures added { OnOk result
+        (Adds (Contains (members_at types.now v)) held.old.keys held.new.keys) }
     ensures behind { OnOk result ((rest : List TypeId) × (held.new.keys ≡ held.old.keys ++ rest)) }
 {
     'members: for i in 0..types.fields(v) {

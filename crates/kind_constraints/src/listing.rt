@@ -8,14 +8,12 @@ ghost use Rattle.cc_base.specs.declared.kind.Kind.{Kind};
 ghost use Rattle.c_types.specs.Table.{IsType};
 ghost use Rattle.c_types.specs.Flows.{by_number};
 ghost use Rattle.kind_solver.specs.Constraints.{AreWithin, MeetsAll, PlainApart};
-ghost use Rattle.src_mem.specs.Memory.{Planned};
-ghost use Rattle.cil_form.specs.Shape.{IsSiteInShape};
-ghost use Rattle.cil_form.specs.Told.{AreSitesTold, IsToldOf, IsSolutionOf};
+ghost use Rattle.cil_form.specs.Told.{IsToldOf, IsSolutionOf};
 ghost use Rattle.constraint_laws.specs.Given.{AreGiven};
 ghost use Rattle.kind_solver.specs.declared.constraint.Constraint.TheVariants.{Equal};
 ghost use Rattle.kind_constraints.specs.Adding.{Adds, OfSome};
 ghost use Rattle.kind_constraints.specs.Pieces.{IsPointee, IsGivenBy, IsUnlike};
-ghost use Rattle.kind_constraints.specs.Asked.{IsAsked};
+ghost use Rattle.kind_constraints.specs.Asked.{IsAsked, IsReady, AreShaped, AreTold};
 
 use crate::asked::Asked;
 use crate::below::belows;
@@ -54,9 +52,10 @@ fn add_equalities(list: &mut Vec<Constraint>, pairs: &[(NodeId, NodeId)]) -> Res
 
 /// The constraints other than equalities that the sites give, one after another.
 fn given(asked: &Asked) -> Result<Vec<Constraint>, NoMemory>
-    requires asked { IsAsked asked.now.types.now asked.now.sites.now asked.now.known asked.now.belows.items asked.now.unions.items }
-    requires shaped { (nodes : ℕ) × All (IsSiteInShape asked.now.types.now nodes) asked.now.sites.now }
-    ensures { IfOk result (λ list. Adds (OfSome asked.now.sites.now (IsGivenBy asked.now.types.now asked.now.sites.now)) [] list.items) }
+    requires asked { IsReady asked.now }
+    requires shaped { AreShaped asked.now }
+    ensures { IfOk result
+        (λ list. Adds (OfSome asked.now.sites.now (IsGivenBy asked.now.types.now asked.now.sites.now)) [] list.items) }
 {
     let mut list = Vec::new(asked.alloc);
     'sites: for site in asked.sites {
@@ -67,8 +66,8 @@ fn given(asked: &Asked) -> Result<Vec<Constraint>, NoMemory>
 
 /// All constraints of a program.
 fn list_of(asked: &Asked) -> Result<Vec<Constraint>, NoMemory>
-    requires asked { IsAsked asked.now.types.now asked.now.sites.now asked.now.known asked.now.belows.items asked.now.unions.items }
-    requires told { (nodes : ℕ) × (made : List Planned) × All (IsSiteInShape asked.now.types.now nodes) asked.now.sites.now × AreSitesTold asked.now.types.now made asked.now.sites.now }
+    requires asked { IsReady asked.now }
+    requires told { AreTold asked.now }
     ensures { IfOk result (λ list. AreGiven asked.now.types.now asked.now.sites.now list.items) }
 {
     let mut list = given(asked)?;
@@ -85,8 +84,10 @@ fn ask<'a>(
     phys: &Phys,
 ) -> Result<Asked<'a>, NoMemory>
     requires { (t : TypeId) → IsPointee sites.now t → IsType types.now t }
-    ensures asked { IfOk result (λ asked. IsAsked types.now sites.now asked.known asked.belows.items asked.unions.items) }
-    ensures same { IfOk result (λ asked. (asked.types.now ≡ types.now) × (asked.sites.now ≡ sites.now)) }
+    ensures asked { IfOk result
+        (λ asked. IsAsked types.now sites.now asked.known asked.belows.items asked.unions.items) }
+    ensures same { IfOk result
+        (λ asked. (asked.types.now ≡ types.now) × (asked.sites.now ≡ sites.now)) }
 {
     let known = phys.over(types)?;
     let belows = belows(alloc, &known, types, sites)?;
@@ -107,7 +108,8 @@ pub fn constraints(alloc: Global, code: &Cil, phys: &Phys) -> Result<Vec<Constra
     requires { IsToldOf code.now }
     ensures within { IfOk result (λ list. AreWithin code.now.nodes list.items) }
     ensures members { IfOk result (λ list. AreGiven code.now.types code.now.sites list.items) }
-    ensures solutions { (kind : NodeId → Kind) → IfOk result (λ list. MeetsAll (by_number kind) list.items ↔ IsSolutionOf code.now kind) }
+    ensures solutions { (kind : NodeId → Kind) → IfOk result
+        (λ list. MeetsAll (by_number kind) list.items ↔ IsSolutionOf code.now kind) }
     ensures apart { IfOk result (λ list. PlainApart list.items) }
 {
     let program = code.program();

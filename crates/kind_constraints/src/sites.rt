@@ -5,7 +5,7 @@ ghost use Rattle.c_types.specs.Table.{IsType, is_function};
 ghost use Rattle.kind_solver.specs.declared.constraint.Constraint.TheVariants.{Plain};
 ghost use Rattle.kind_constraints.specs.Adding.{Adds};
 ghost use Rattle.kind_constraints.specs.Pieces.{IsOfContents, IsOfFlow, IsGivenBy};
-ghost use Rattle.kind_constraints.specs.Asked.{IsAsked};
+ghost use Rattle.kind_constraints.specs.Asked.{IsReady};
 ghost use Rattle.cil_form.specs.Shape.{IsSiteInShape};
 
 use crate::asked::Asked;
@@ -29,10 +29,12 @@ fn add_flow(
     target: (NodeId, TypeId),
     place: Place,
 ) -> Result<(), NoMemory>
-    requires asked { IsAsked asked.now.types.now asked.now.sites.now asked.now.known asked.now.belows.items asked.now.unions.items }
+    requires asked { IsReady asked.now }
     requires from { IsType asked.now.types.now source.1 }
     requires to { IsType asked.now.types.now target.1 }
-    ensures { OnOk result (Adds (IsOfFlow asked.now.types.now asked.now.sites.now source.0 source.1 target.0 target.1 place) list.old.items list.new.items) }
+    ensures { OnOk result
+        (Adds (IsOfFlow asked.now.types.now asked.now.sites.now source.0 source.1 target.0 target.1 place)
+        list.old.items list.new.items) }
 {
     let class = asked.known.class(source.1, target.1)?;
     let below = asked.belows[source.1.0 as usize];
@@ -63,9 +65,12 @@ fn add_pointer(
     node: NodeId,
     ty: TypeId,
 ) -> Result<(), NoMemory>
-    requires asked { IsAsked asked.now.types.now asked.now.sites.now asked.now.known asked.now.belows.items asked.now.unions.items }
+    requires asked { IsReady asked.now }
     requires typed { IsType asked.now.types.now ty }
-    ensures { OnOk result (Adds (λ c. IsOfContents asked.now.types.now asked.now.sites.now node ty c ⊎ (IsTrue (is_function asked.now.types.now ty) × (c ≡ Plain node))) list.old.items list.new.items) }
+    ensures { OnOk result
+        (Adds (λ c. IsOfContents asked.now.types.now asked.now.sites.now node ty c
+        ⊎ (IsTrue (is_function asked.now.types.now ty) × (c ≡ Plain node)))
+        list.old.items list.new.items) }
 {
     add_contents(asked, list, node, ty)?;
     if is_function(asked.types, ty) {
@@ -81,9 +86,11 @@ fn add_home(
     node: NodeId,
     ty: TypeId,
 ) -> Result<(), NoMemory>
-    requires asked { IsAsked asked.now.types.now asked.now.sites.now asked.now.known asked.now.belows.items asked.now.unions.items }
+    requires asked { IsReady asked.now }
     requires typed { IsType asked.now.types.now ty }
-    ensures { OnOk result (Adds (λ c. IsOfContents asked.now.types.now asked.now.sites.now node ty c ⊎ (c ≡ Plain node)) list.old.items list.new.items) }
+    ensures { OnOk result
+        (Adds (λ c. IsOfContents asked.now.types.now asked.now.sites.now node ty c ⊎ (c ≡ Plain node))
+        list.old.items list.new.items) }
 {
     add_contents(asked, list, node, ty)?;
     push(list, Constraint::Plain { node })
@@ -95,9 +102,11 @@ pub(crate) fn add_given(
     list: &mut Vec<Constraint>,
     site: Site,
 ) -> Result<(), NoMemory>
-    requires asked { IsAsked asked.now.types.now asked.now.sites.now asked.now.known asked.now.belows.items asked.now.unions.items }
+    requires asked { IsReady asked.now }
     requires shaped { (nodes : ℕ) × IsSiteInShape asked.now.types.now nodes site }
-    ensures { OnOk result (Adds (IsGivenBy asked.now.types.now asked.now.sites.now site) list.old.items list.new.items) }
+    ensures { OnOk result
+        (Adds (IsGivenBy asked.now.types.now asked.now.sites.now site)
+        list.old.items list.new.items) }
 {
     match site {
         Site::Flow {

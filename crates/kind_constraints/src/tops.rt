@@ -7,12 +7,10 @@ ghost use Rattle.cc_base.specs.declared.number.TypeId.{TypeId};
 ghost use Rattle.c_types.specs.declared.site.Site.TheVariants.{Same};
 ghost use Rattle.c_types.specs.Equality.{physically_equal};
 ghost use Rattle.phys_types.specs.Found.{Gains};
-ghost use Rattle.src_mem.specs.Memory.{Planned};
 ghost use Rattle.cil_form.specs.Shape.{IsSiteInShape};
-ghost use Rattle.cil_form.specs.Told.{AreSitesTold};
 ghost use Rattle.constraint_laws.specs.Given.{AreOfOneCell};
 ghost use Rattle.kind_constraints.specs.Pieces.{IsTopOf};
-ghost use Rattle.kind_constraints.specs.Asked.{IsAsked};
+ghost use Rattle.kind_constraints.specs.Asked.{IsReady, AreTold};
 
 use crate::asked::Asked;
 use crate::unions::add_union;
@@ -22,7 +20,7 @@ use phys_types::Found;
 
 /// Adds the pointers that a site makes correspond, but not those that they lead to.
 fn add_tops(asked: &Asked, found: &mut Found, site: Site) -> Result<(), NoMemory>
-    requires asked { IsAsked asked.now.types.now asked.now.sites.now asked.now.known asked.now.belows.items asked.now.unions.items }
+    requires asked { IsReady asked.now }
     requires shaped { (nodes : ℕ) × IsSiteInShape asked.now.types.now nodes site }
     requires same { (t u : TypeId) → site ≡ Same t u → IsTrue (physically_equal asked.now.types.now t u) }
     ensures { OnOk result (Gains (IsTopOf asked.now.types.now site) found.old found.new) }
@@ -37,9 +35,11 @@ fn add_tops(asked: &Asked, found: &mut Found, site: Site) -> Result<(), NoMemory
 
 /// The nodes of the pointers that have to be of one kind.
 pub(crate) fn equal_nodes(asked: &Asked) -> Result<Vec<(NodeId, NodeId)>, NoMemory>
-    requires asked { IsAsked asked.now.types.now asked.now.sites.now asked.now.known asked.now.belows.items asked.now.unions.items }
-    requires told { (nodes : ℕ) × (made : List Planned) × All (IsSiteInShape asked.now.types.now nodes) asked.now.sites.now × AreSitesTold asked.now.types.now made asked.now.sites.now }
-    ensures { IfOk result (λ pairs. (a b : NodeId) → Contains pairs.items (a, b) ↔ AreOfOneCell asked.now.types.now asked.now.sites.now a b) }
+    requires asked { IsReady asked.now }
+    requires told { AreTold asked.now }
+    ensures { IfOk result
+        (λ pairs. (a b : NodeId) → Contains pairs.items (a, b)
+        ↔ AreOfOneCell asked.now.types.now asked.now.sites.now a b) }
 {
     let mut found = Found::new(asked.alloc);
     'sites: for site in asked.sites {

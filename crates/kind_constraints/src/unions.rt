@@ -20,7 +20,8 @@ use std::alloc::Global;
 
 /// Adds the union whose members stand at a site, with its place.
 fn add_union_place(unions: &mut Vec<(TypeId, Place)>, site: Site) -> Result<(), NoMemory>
-    ensures { OnOk result (Adds (λ x. union_place_of site ≡ Some x) unions.old.items unions.new.items) }
+    ensures { OnOk result
+        (Adds (λ x. union_place_of site ≡ Some x) unions.old.items unions.new.items) }
 {
     if let Site::Union { ty, place } = site {
         unions.push((ty, place))?;
@@ -77,7 +78,9 @@ pub(crate) fn add_union(
     requires formed { IsWellFormed types.now }
     requires typed { IsType types.now v }
     requires union { IsUnion types.now v }
-    ensures { OnOk result (Gains (λ p q. (HoldsMixed types.now v v → ⊥) × StandInUnion types.now v p q) found.old found.new) }
+    ensures { OnOk result
+        (Gains (λ p q. (HoldsMixed types.now v v → ⊥) × StandInUnion types.now v p q)
+        found.old found.new) }
 {
     if known.is_mixed(v) {
         return Ok(());

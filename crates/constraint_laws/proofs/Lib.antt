@@ -1,0 +1,10 @@
+pub mod Solved
+pub mod Ordered
+pub mod NonePointers
+pub mod Raw
+pub mod Longest
+pub mod Held
+pub mod Apart
+pub mod Laws
+pub mod Tops
+pub mod Below

@@ -1,0 +1,6 @@
+pub mod Adding
+pub mod HeldTypes
+pub mod Belows
+pub mod LargestMember
+pub mod GivenLaws
+pub mod GivenPieces

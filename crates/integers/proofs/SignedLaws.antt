@@ -20,6 +20,12 @@ pub not-truth : (p : Bool) → equal_words (truth_word p) 0 ≡ truth_word (not 
 not-truth true = refl
 not-truth false = refl
 
+-- neither holds
+pub neither-truth : (p q : Bool) → equal_words (truth_word (p || q)) 0 ≡ truth_word (not p && not q)
+neither-truth true q = refl
+neither-truth false true = refl
+neither-truth false false = refl
+
 pub is_true-truth : (p : Bool) → is_true_word (truth_word p) ≡ p
 is_true-truth true = refl
 is_true-truth false = refl

@@ -155,11 +155,12 @@ pub(crate) fn act_lookups(
             frame[v as usize] = flat.frame_area(k as usize);
             Row::Done
         }
-        Instr::Depth(_, _)
-        | Instr::Below(_, _, _)
-        | Instr::Sigof(_, _)
-        | Instr::Room(_, _)
-        | Instr::New(_, _, _, _) => act_by_search(instr, parts, frames, flat, frame),
+        Instr::Depth(v, a) => {
+            frame[v as usize] = flat.depth_of(frame[a as usize]);
+            Row::Done
+        }
+        Instr::Below(_, _, _) | Instr::Sigof(_, _) | Instr::Room(_, _) | Instr::New(_, _, _, _) =>
+            act_by_search(instr, parts, frames, flat, frame),
         _ => Row::Other,
     }
 }

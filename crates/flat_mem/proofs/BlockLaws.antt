@@ -1,6 +1,6 @@
 -- The law of blocks: where a block that was made stands, and what it holds.
-use Rattle.std.specs.Prelude.{◌≡◌, ℕ, ◌+◌, ◌%◌, ◌^◌, ◌<◌, ◌≤◌, ◌⊎◌, List, slice_index, IsTrue}
-use Rattle.std.proofs.Common.{◌∙◌, ap, arith}
+use Rattle.std.specs.Prelude.{◌≡◌, ℕ, ◌+◌, ◌%◌, ◌^◌, ◌<◌, ◌≤◌, ◌⊎◌, slice_index, IsTrue}
+use Rattle.std.proofs.Common.{arith}
 use Rattle.flat_mem.specs.declared.Area.{Area}
 use Rattle.flat_mem.specs.Bytes.{number}
 use Rattle.flat_mem.specs.Placement.{contents_size, area_size, first_word}

@@ -1,5 +1,5 @@
 -- What a frame laid out keeps of its areas, and how it makes them: all bytes zero at once, then the first words.
-use Rattle.std.specs.Prelude.{◌≡◌, ◌≤◌, ◌<◌, ◌^◌, ◌+◌, ℕ, Bool, false, List, [], ◌∷◌, All, nat_le, if◌then◌else◌}
+use Rattle.std.specs.Prelude.{◌≡◌, ◌<◌, ◌^◌, ◌+◌, ℕ, Bool, false, List, [], ◌∷◌, All, nat_le, if◌then◌else◌}
 use Rattle.flat_mem.specs.declared.Area.{Area}
 use Rattle.flat_mem.specs.Bytes.{stored}
 use Rattle.flat_mem.specs.Placement.{area_size, areas_size, addresses}

@@ -1,6 +1,6 @@
 -- The laws of words against the integers that they hold: sums, differences, order, and conversions. A test on words gives
 -- what the test on integers gives wherever the integers are near enough to 0.
-use Rattle.std.proofs.Common.{ℕ, ℤ, pos, negsuc, ◌+◌, ◌-◌, ◌*◌, ◌%◌, ◌^◌, ◌<◌, ◌≤◌, ◌≡◌, ◌+ℤ◌, ◌-ℤ◌, Bool, true, false, not, ◌&&◌, refl, ap, sym, ◌∙◌, arith, if◌then◌else◌}
+use Rattle.std.proofs.Common.{ℕ, ℤ, pos, negsuc, ◌-◌, ◌*◌, ◌%◌, ◌^◌, ◌<◌, ◌≤◌, ◌≡◌, ◌+ℤ◌, ◌-ℤ◌, Bool, true, false, not, ◌&&◌, refl, ap, sym, ◌∙◌, arith, if◌then◌else◌}
 use Rattle.std.specs.Prelude.{int_lt, int_le, nat_lt, bit_or, ◌||◌}
 use Rattle.std.proofs.Math.Nat.{mod-eq_of_lt}
 use Rattle.std.proofs.lemmas.Bool.Decides.{nat_tests}
@@ -19,6 +19,12 @@ or-truth false false = refl
 pub not-truth : (p : Bool) → equal_words (truth_word p) 0 ≡ truth_word (not p)
 not-truth true = refl
 not-truth false = refl
+
+-- neither holds
+pub neither-truth : (p q : Bool) → equal_words (truth_word (p || q)) 0 ≡ truth_word (not p && not q)
+neither-truth true q = refl
+neither-truth false true = refl
+neither-truth false false = refl
 
 pub is_true-truth : (p : Bool) → is_true_word (truth_word p) ≡ p
 is_true-truth true = refl

@@ -1,5 +1,5 @@
 -- The laws of what is left of an input: the next byte is the one behind those that were read.
-use Rattle.std.proofs.Common.{ℕ, zero, suc, ◌+◌, ◌≡◌, refl, ap, ◌∙◌, List, [], ◌∷◌, drop, slice_get, Some, None}
+use Rattle.std.proofs.Common.{ℕ, zero, suc, ◌≡◌, refl, ap, List, [], ◌∷◌, drop, slice_get, Some, None}
 use Rattle.runs.specs.Input.{Input, Closed, Open, left}
 
 pub left-none : (input : Input) → left input 0 ≡ input

@@ -1,6 +1,6 @@
 -- What `untag`, `mark` and a store leave of a tagged area byte by byte, for integers of any width and areas whose last word
 -- isn't full; and where `untag` may be made. Here n is the area's length, and the touched words are the k ones from `first` on.
-use Rattle.std.specs.Prelude.{◌≡◌, ◌≢◌, ◌⊎◌, ℕ, zero, suc, ◌+◌, ◌*◌, ◌/◌, ◌%◌, ◌<◌, ◌≤◌, Bool, true, false, ◌&&◌, ◌||◌, List, [], ◌∷◌, length, filter, slice_index, nat_eq, nat_le, if◌then◌else◌, refl, ◌-◌}
+use Rattle.std.specs.Prelude.{◌≡◌, ◌≢◌, ◌⊎◌, ℕ, zero, suc, ◌+◌, ◌*◌, ◌%◌, ◌<◌, ◌≤◌, Bool, true, false, ◌&&◌, ◌||◌, List, [], ◌∷◌, length, filter, slice_index, nat_eq, nat_le, if◌then◌else◌, refl, ◌-◌}
 use Rattle.std.specs.Int.{bit_at}
 use Rattle.std.specs.List.{list_all}
 use Rattle.std.proofs.Common.{sym, ◌∙◌, ap, subst, inl, inr, ⊎_elim, arith}
@@ -85,8 +85,9 @@ unfolding counted tags_cleared
 get-tags_cleared_other first zero t bytes b n j h = refl
 get-tags_cleared_other first (suc k) t bytes b n j h =
     elim (t first) as (λ x. slice_index (tags_cleared (if x then first ∷ filter t (counted (first + 1) k) else filter t (counted (first + 1) k)) bytes b n) j ≡ slice_index bytes j) [
-      true ↦ get-tags_cleared_other (first + 1) k t (with_tag false bytes b n first) b n j (λ i l m. h i (omega arith) (omega arith)) ∙ get-with_tag_other false bytes b n first j (h first (omega arith) (omega arith))
-    | false ↦ get-tags_cleared_other (first + 1) k t bytes b n j (λ i l m. h i (omega arith) (omega arith)) ]
+      | true ↦ get-tags_cleared_other (first + 1) k t (with_tag false bytes b n first) b n j (λ i l m. h i (omega arith) (omega arith)) ∙ get-with_tag_other false bytes b n first j (h first (omega arith) (omega arith))
+      | false ↦ get-tags_cleared_other (first + 1) k t bytes b n j (λ i l m. h i (omega arith) (omega arith))
+    ]
 
 -- a byte outside the area stays
 pub get-untagged_outside : (bytes : List ℕ) (b n first k j : ℕ) → first + k ≤ word_count n → (j < b) ⊎ (b + tagged_size n ≤ j) → slice_index (untagged_at bytes b n first k) j ≡ slice_index bytes j
@@ -143,8 +144,9 @@ all-filter : (p t : ℕ → Bool) (xs : List ℕ) → list_all p xs ≡ true →
 all-filter p t [] h = refl
 all-filter p t (x ∷ xs) h =
     elim (t x) as (λ y. list_all p (if y then x ∷ filter t xs else filter t xs) ≡ true) [
-      true ↦ ap (λ (y : Bool). y && list_all p (filter t xs)) (first (p x) (list_all p xs) h) ∙ all-filter p t xs (second (p x) (list_all p xs) h)
-    | false ↦ all-filter p t xs (second (p x) (list_all p xs) h) ]
+      | true ↦ ap (λ (y : Bool). y && list_all p (filter t xs)) (first (p x) (list_all p xs) h) ∙ all-filter p t xs (second (p x) (list_all p xs) h)
+      | false ↦ all-filter p t xs (second (p x) (list_all p xs) h)
+    ]
 
 -- `untag` may be made in an area that lies in the list
 

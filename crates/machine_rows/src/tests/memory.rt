@@ -4,7 +4,7 @@ ghost use Rattle.std.specs.Prelude.{◌≡◌, ◌<◌, IfOk, length};
 ghost use Rattle.flat_mem.specs.Memory.{newest_addresses};
 ghost use Rattle.flat_mem.specs.Placement.{IsWithinLimits};
 
-use flat_mem::{Area, AreaList, Flat, Plan, area_size};
+use flat_mem::{Area, AreaList, Flat, FramePlan, Plan, area_size};
 use std::alloc::{AllocError, Global};
 use std::process::Abort;
 use std::test::Fail;
@@ -44,12 +44,19 @@ fn store(rt: &impl Abort, flat: &mut Flat, at: u64, n: u64, v: u64) {
     flat.store(at, n, v);
 }
 
-fn push(rt: &impl Abort, flat: &mut Flat, areas: &[Area], charge: u64)
-    ensures areas { length (newest_addresses flat.new.frames) ≡ length areas.now }
+// The plan of a frame with these areas.
+fn plan_of(alloc: Global, areas: &[Area]) -> Result<FramePlan, AllocError>
+    ensures { IfOk result (λ plan. plan ≡ areas.now) }
+{
+    FramePlan::of(alloc, Vec::from_slice(alloc, areas)?)
+}
+
+fn push(rt: &impl Abort, flat: &mut Flat, plan: &FramePlan, charge: u64)
+    ensures areas { length (newest_addresses flat.new.frames) ≡ length plan.now }
     ensures live { 0 < length flat.new.frames }
 {
-    assert!(rt; flat.fits(areas, charge));
-    flat.push_frame(areas, charge);
+    assert!(rt; flat.fits(plan, charge));
+    flat.push_frame(plan, charge);
 }
 
 #[test]
@@ -103,7 +110,7 @@ fn moves_overlap(rt: HostRuntime) -> Result<(), Fail> {
 #[test]
 fn frames_lie_one_after_another(rt: HostRuntime) -> Result<(), Fail> {
     let mut flat = Flat::new(rt.alloc(), &small_plan(rt.alloc())?)?;
-    let areas = [TYPED_5, TAGGED_20];
+    let areas = plan_of(rt.alloc(), &[TYPED_5, TAGGED_20])?;
     store(&rt, &mut flat, 104, 8, u64::MAX);
     push(&rt, &mut flat, &areas, 41);
     // The typed area is at 96 to 112, the tagged one at 112 to 176.
@@ -114,8 +121,9 @@ fn frames_lie_one_after_another(rt: HostRuntime) -> Result<(), Fail> {
     // A charge of 64 in all, and a region of 192 bytes, of which 80 are taken.
     assert!(rt; flat.fits(&areas, 23));
     assert!(rt; !flat.fits(&areas, 24));
-    assert!(rt; !flat.fits(&[TAGGED_20, TYPED_5, TAGGED_20], 0));
-    push(&rt, &mut flat, &[TYPED_5], 0);
+    let too_long = plan_of(rt.alloc(), &[TAGGED_20, TYPED_5, TAGGED_20])?;
+    assert!(rt; !flat.fits(&too_long, 0));
+    push(&rt, &mut flat, &plan_of(rt.alloc(), &[TYPED_5])?, 0);
     for (at, want) in [(96, 0), (97, 1), (176, 1), (177, 2), (192, 2), (193, 0)] {
         assert_eq!(rt; flat.depth_of(at), want, "of {at}");
     }
@@ -128,10 +136,23 @@ fn frames_lie_one_after_another(rt: HostRuntime) -> Result<(), Fail> {
 #[test]
 fn a_thousand_and_twenty_four_frames_are_live_at_most(rt: HostRuntime) -> Result<(), Fail> {
     let mut flat = Flat::new(rt.alloc(), &small_plan(rt.alloc())?)?;
+    let none = plan_of(rt.alloc(), &[])?;
     for _ in 0..1024 {
-        push(&rt, &mut flat, &[], 0);
+        push(&rt, &mut flat, &none, 0);
     }
-    assert!(rt; !flat.fits(&[], 0));
+    assert!(rt; !flat.fits(&none, 0));
+    Ok(())
+}
+
+#[test]
+fn a_frame_longer_than_any_list_never_fits(rt: HostRuntime) -> Result<(), Fail> {
+    let flat = Flat::new(rt.alloc(), &small_plan(rt.alloc())?)?;
+    for bytes in [1 << 32, u64::MAX - 15, u64::MAX] {
+        for tagged in [false, true] {
+            let plan = plan_of(rt.alloc(), &[TYPED_5, Area { tagged, bytes }])?;
+            assert!(rt; !flat.fits(&plan, 0));
+        }
+    }
     Ok(())
 }
 

@@ -3,7 +3,7 @@
 ghost use Rattle.std.specs.Prelude.{◌≡◌, IfOk, IsTrue};
 ghost use Rattle.flat_mem.specs.Placement.{IsWithinLimits};
 
-use flat_mem::{Area, AreaList, Flat, Plan};
+use flat_mem::{Area, AreaList, Flat, FramePlan, Plan};
 use std::alloc::{AllocError, Global};
 use std::process::Abort;
 use std::test::Fail;
@@ -211,9 +211,10 @@ fn tdepth_is_the_greatest_of_the_tagged_words(rt: HostRuntime) -> Result<(), Fai
         tagged: false,
         bytes: 8,
     };
+    let plan = FramePlan::of(rt.alloc(), vec![in rt.alloc(); area]?)?;
     for _ in 0..2 {
-        assert!(rt; flat.fits(&[area], 0));
-        flat.push_frame(&[area], 0);
+        assert!(rt; flat.fits(&plan, 0));
+        flat.push_frame(&plan, 0);
     }
     // Frame 1 is from 232 to 248, frame 2 to 264.
     mark(&rt, &mut flat, 16, FIRST, 264);

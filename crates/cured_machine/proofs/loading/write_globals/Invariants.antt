@@ -1,6 +1,6 @@
 use Rattle.std.proofs.Common.{◌≡◌, length}
 use Rattle.flat_mem.specs.Memory.{with_bytes}
-use Rattle.cured_code.specs.FlatMachine.{global_areas, globals_written}
+use Rattle.cured_code.specs.FlatMachine.{globals_written}
 use Rattle.cured_machine.proofs.LoadLaws.{AreLeft}
 use Rattle.cured_machine.proofs.loading.write_globals.Given as goal
 

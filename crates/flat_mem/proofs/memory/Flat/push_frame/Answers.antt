@@ -1,4 +1,4 @@
-use Rattle.std.proofs.Common.{length, arith, ◌≡◌, ◌<◌, ◌≤◌, ◌^◌, ◌++◌, ◌∷◌, [], ◌∙◌, ap, subst, sym, All, ◌+◌, map}
+use Rattle.std.proofs.Common.{length, arith, ◌<◌, ◌^◌, ◌++◌, ◌∷◌, [], ◌∙◌, ap, subst, sym, All, ◌+◌, map}
 use Rattle.flat_mem.specs.Placement.{areas_size}
 use Rattle.flat_mem.specs.Memory.{newest_addresses, next_frame}
 use Rattle.flat_mem.proofs.AreaLaws.{length-addresses}

@@ -25,6 +25,8 @@ use Rattle.c_unit_typing.specs.Limits.{IsWithinLimits}
 use Rattle.c_unit_typing.specs.UnitJudged.{IsUnitJudged}
 use Rattle.c_unit_typing.specs.UnitJudging.{UnitState, UnitOutcome, Gives, Stops, known_of, obeying, pure}
 use Rattle.c_unit_typing.specs.UnitRefusals.{RefusesUnit}
+use Rattle.c_ready.specs.Ready.{IsReadyUnit}
+use Rattle.c_ready.proofs.ReadyUnit.{well-typed-ready}
 use Rattle.c_unit_typing.specs.WellTyped.{IsWellTyped}
 use Rattle.c_unit_typing.proofs.JudgedUnits.{unit-judged}
 use Rattle.c_unit_typing.proofs.RefusedUnits.{whole-stopped}
@@ -70,6 +72,9 @@ parts-judged u whole r h =
 pub is-well-typed : (u : tree.TranslationUnit) (t : Typed) → IsJudged u t → IsWellTyped t.types (typed_unit_view t.unit)
 is-well-typed u t j =
     subst (λ (T : Table). IsWellTyped T (typed_unit_view t.unit)) (sym j.types) (whole-judged u (typed_unit_view t.unit) j.after j.gives).0
+
+pub is-ready : (u : tree.TranslationUnit) (t : Typed) → IsJudged u t → IsReadyUnit t.types (typed_unit_view t.unit)
+is-ready u t j = well-typed-ready t.types (typed_unit_view t.unit) (is-well-typed u t j)
 
 pub erases : (u : tree.TranslationUnit) (t : Typed) → IsJudged u t → erased_unit (typed_unit_view t.unit) ≡ u
 erases u t j = (whole-judged u (typed_unit_view t.unit) j.after j.gives).1

@@ -19,6 +19,7 @@ ghost use Rattle.c_unit_typing.specs.DefinitionJudging.{before_unit};
 ghost use Rattle.c_unit_typing.specs.Limits.{IsWithinLimits};
 ghost use Rattle.c_unit_typing.specs.UnitJudging.{known_of};
 ghost use Rattle.c_unit_typing.specs.UnitRefusals.{RefusesUnit};
+ghost use Rattle.c_ready.specs.Ready.{IsReadyUnit};
 ghost use Rattle.c_unit_typing.specs.WellTyped.{IsWellTyped};
 
 use crate::checking::checked;
@@ -38,6 +39,7 @@ use std::alloc::Global;
 pub fn check(alloc: Global, unit: &Unit) -> Result<Typed, Fault>
     ensures judged { IsAnswered (unit_view unit.now) result }
     ensures typed { IfOk result (λ t. IsWellTyped t.types (typed_unit_view t.unit)) }
+    ensures ready { IfOk result (λ t. IsReadyUnit t.types (typed_unit_view t.unit)) }
     ensures erases { IfOk result (λ t. erased_unit (typed_unit_view t.unit) ≡ unit_view unit.now) }
     ensures only { IfOk result (λ t. (other : TypedTranslationUnit) → IsWellTyped t.types other → erased_unit other ≡ unit_view unit.now → other ≡ typed_unit_view t.unit) }
     ensures nodes { IfOk result (λ t. t.nodes ≡ length (nodes_made (made_by_unit (typed_unit_view t.unit)))) }

@@ -6,15 +6,21 @@ use Rattle.c_tree.specs.TypedStatementViews.{typed_unit_view}
 use Rattle.c_tree.specs.TypedTree.{TypedTranslationUnit}
 use Rattle.c_printed.specs.Printing.{AreInOrder, HasPrinted}
 use Rattle.c_unit_typing.specs.Limits.{IsWithinLimits}
+use Rattle.c_ready.specs.Ready.{IsReadyUnit}
 use Rattle.c_unit_typing.specs.WellTyped.{IsWellTyped}
 use Rattle.c_typing.specs.Settled.{IsBasic}
-use Rattle.c_check.proofs.UnitFacts.{accepts, answered-ok, breaks-rule, counts-nodes, erases, is-basic, is-only, is-well-typed, within-limits}
+use Rattle.c_check.proofs.UnitFacts.{accepts, answered-ok, breaks-rule, counts-nodes, erases, is-basic, is-only, is-ready, is-well-typed, within-limits}
 use Rattle.c_check.proofs.calls.check.Goals as goal
 
 pub returns-clause-typed : goal.returns-clause-typed
 returns-clause-typed c =
     let u = unit_view c.args.unit.now in
     answered-ok u c.checked.result (λ t. IsWellTyped t.types (typed_unit_view t.unit)) (is-well-typed u) c.checked.ensures
+
+pub returns-clause-ready : goal.returns-clause-ready
+returns-clause-ready c =
+    let u = unit_view c.args.unit.now in
+    answered-ok u c.checked.result (λ t. IsReadyUnit t.types (typed_unit_view t.unit)) (is-ready u) c.checked.ensures
 
 pub returns-clause-erases : goal.returns-clause-erases
 returns-clause-erases c =

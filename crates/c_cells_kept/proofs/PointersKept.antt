@@ -4,6 +4,7 @@ use Rattle.std.specs.List.{Contains, fold}
 use Rattle.std.proofs.lemmas.List.Elements.{All-contains}
 use Rattle.cc_base.specs.declared.number.TypeId.{TypeId}
 use Rattle.c_types.specs.Layouts.{size_of}
+use Rattle.c_types.specs.PointerCounts.{larger, largest_member, of_some, pointers_of_shape, pointers_step, pointers_in}
 use Rattle.c_types.specs.Sound.{IsWellFormed}
 use Rattle.c_types.specs.Table.{Table, Entry, IsComplete, IsRanked, shape_at, members_at, parts_at, parts_of_shape, descend}
 use Rattle.c_types.specs.declared.layout.Layout.{Layout}
@@ -11,7 +12,6 @@ use Rattle.c_types.specs.declared.shape.TypeShape.{TypeShape}
 use Rattle.c_types.specs.declared.shape.TypeShape.TheVariants.{Void, Integer, Pointer, Array, Function, Struct, Union}
 use Rattle.c_types.proofs.Descent.{descend_is, rank_bound}
 use Rattle.c_types.proofs.Lists.{contains_head, contains_tail}
-use Rattle.c_typing.specs.Cells.{larger, largest_member, of_some, pointers_of_shape, pointers_step, pointers_in}
 use Rattle.c_typing.specs.Extensions.{IsExtended}
 
 sum_same : (f g : TypeId → ℕ) (ms : List TypeId) (a : ℕ) → ((m : TypeId) → Contains ms m → f m ≡ g m)

@@ -13,7 +13,8 @@ use Rattle.c_tree.specs.TypedTree as typed
 use Rattle.c_tree.specs.TypedTree.{TypedExpr, TypedPlace}
 use Rattle.c_tree.specs.TypedParts.{Made, Copy, made_by, made_by_place, type_of, place_type}
 use Rattle.c_typing.specs.Assignments.{assign, assign_given, assign_part, assigned, part_type, update_by, update_part, updated}
-use Rattle.c_typing.specs.Cells.{pointers_step, pointers_of_shape, pointers_in, count_cells}
+use Rattle.c_types.specs.PointerCounts.{pointers_step, pointers_of_shape, pointers_in}
+use Rattle.c_typing.specs.Cells.{count_cells}
 use Rattle.c_typing.specs.Conversions.{bare, is_plain, takes_over, IsAssignedBy}
 use Rattle.c_typing.specs.Extensions.{IsExtended}
 use Rattle.c_typing.specs.Held.{held, held_with}

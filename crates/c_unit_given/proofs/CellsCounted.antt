@@ -6,7 +6,8 @@ use Rattle.c_types.specs.Layouts.{size_of}
 use Rattle.c_types.specs.Table.{Table, IsAggregate, entry_at, shape_at, members_at, is_complete, is_complete_entry, is_aggregate_shape, descend}
 use Rattle.cc_base.specs.declared.number.TypeId.{TypeId}
 use Rattle.cc_base.specs.declared.place.Place.{Place}
-use Rattle.c_typing.specs.Cells.{pointers_step, pointers_of_shape, pointers_in, count_cells}
+use Rattle.c_types.specs.PointerCounts.{pointers_step, pointers_of_shape, pointers_in}
+use Rattle.c_typing.specs.Cells.{count_cells}
 use Rattle.c_typing.specs.Extensions.{IsExtended}
 use Rattle.c_typing.specs.Judging.{State, Gives}
 use Rattle.c_typing.specs.Settled.{IsBasic}

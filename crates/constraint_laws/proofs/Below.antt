@@ -1,4 +1,4 @@
--- To begin with a type, and to lie strictly below it, respect physical equality on both sides (law a); so `below` may be asked of one type of each class.
+-- To begin with a type, and to lie strictly below it, respect physical equality on both sides; so `below` may be asked of one type of each class.
 use Rattle.std.proofs.Common.{◌≡◌, Bool, true, false, not, ◌&&◌, List, refl, sym, ◌∙◌, true≢false}
 use Rattle.cc_base.specs.declared.number.TypeId.{TypeId}
 use Rattle.c_types.specs.declared.site.Site.{Site}

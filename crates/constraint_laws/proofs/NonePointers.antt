@@ -1,4 +1,4 @@
--- (Copied from the trial of the facts.) What holds no pointer has no pointer's byte.
+-- Whether a type holds a pointer goes by its shape.
 use Rattle.std.proofs.Common.{◌≡◌, ℕ, zero, suc, ◌<◌, Bool, true, false, ◌||◌, List, [], ◌∷◌, length, refl, ap, sym, ◌∙◌, arith}
 use Rattle.std.specs.List.{Contains, list_any}
 use Rattle.std.specs.Prelude.{slice_index_or}

@@ -1,4 +1,4 @@
--- (Copied from the trial of the facts.) A complete type that holds no pointer is raw.
+-- A complete type that holds no pointer is raw.
 use Rattle.std.proofs.Common.{◌≡◌, ℕ, zero, suc, ◌-◌, ◌<◌, ◌≤◌, true, false, ◌&&◌, List, [], ◌∷◌, ◌++◌, map, length, replicate, slice_get, Some, refl, sym, subst, ◌∙◌, arith}
 use Rattle.std.specs.List.{Contains, fold, repeat}
 use Rattle.std.proofs.lemmas.List.Elements.{All-contains}

@@ -20,10 +20,11 @@ HasContents sites n t = Contains sites (site.Pointee n t) ⊎ Contains sites (si
 
 -- the pointers with these nodes correspond in a flow, in two declarations of one name, or in a member and the largest member of a union that isn't mixed
 pub data AreOfOneCell (table : Table) (sites : List Site) (a b : NodeId) : Type 0 where
-  in_flow : (m n : NodeId) (t u : TypeId) (place : Place) → Contains sites (site.Flow m t n u place) → HaveNodes (CorrespondInFlow table t u) a b → AreOfOneCell table sites a b
+  in_flow : (m n : NodeId) (t u : TypeId) (place : Place) → Contains sites (site.Flow m t n u place) → HaveNodes (CorrespondInFlow table t u) a b
+      → AreOfOneCell table sites a b
   declared : (t u : TypeId) → Contains sites (site.Same t u) → HaveNodes (CorrespondByPlace table t u) a b → AreOfOneCell table sites a b
-  in_union : (v u m : TypeId) (place : Place) → Contains sites (site.Union v place) → (HoldsMixed table v v → ⊥) → Contains (members_at table v) u → IsLargest table v m
-      → HaveNodes (CorrespondByPlace table u m) a b → AreOfOneCell table sites a b
+  in_union : (v u m : TypeId) (place : Place) → Contains sites (site.Union v place) → (HoldsMixed table v v → ⊥)
+      → Contains (members_at table v) u → IsLargest table v m → HaveNodes (CorrespondByPlace table u m) a b → AreOfOneCell table sites a b
 
 -- t holds a pointer with the node
 abbrev pub HoldsNode : Table → TypeId → NodeId → Type 0
@@ -39,9 +40,11 @@ IsGiven table sites (Needs n other place) = ⊥
 IsGiven table sites (Equal a b) = AreOfOneCell table sites a b × (a ≡ b → ⊥)
 IsGiven table sites (Inside outer inner) = (t : TypeId) × HasContents sites outer t × HoldsNode table t inner
 IsGiven table sites (Linked a b) = Contains sites (site.Linked a b)
-IsGiven table sites (Force n why.Union place) = (t : TypeId) × (v : TypeId) × HasContents sites n t × HoldsMixed table t v × Contains sites (site.Union v place)
+IsGiven table sites (Force n why.Union place) =
+    (t : TypeId) × (v : TypeId) × HasContents sites n t × HoldsMixed table t v × Contains sites (site.Union v place)
 IsGiven table sites (Force n other place) = ⊥
-IsGiven table sites (Plain n) = ((t : TypeId) × Contains sites (site.Home n t)) ⊎ ((t : TypeId) × Contains sites (site.Pointee n t) × IsTrue (is_function table t))
+IsGiven table sites (Plain n) =
+    ((t : TypeId) × Contains sites (site.Home n t)) ⊎ ((t : TypeId) × Contains sites (site.Pointee n t) × IsTrue (is_function table t))
 
 -- the list has exactly the program's constraints, in some order
 abbrev pub AreGiven : Table → List Site → List Constraint → Type 0

@@ -1,6 +1,6 @@
 #![tactic(auto)]
 
-ghost use Rattle.std.specs.Prelude.{◌≡◌, ◌<◌, ◌↔◌, Some, IfOk, OnOk, All, IsTrue, length};
+ghost use Rattle.std.specs.Prelude.{◌≡◌, ◌↔◌, Some, IfOk, OnOk, All};
 ghost use Rattle.std.specs.List.{Contains, list_any};
 ghost use Rattle.cc_base.specs.declared.number.TypeId.{TypeId};
 ghost use Rattle.c_types.specs.Table.{IsType};

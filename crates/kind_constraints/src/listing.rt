@@ -1,7 +1,6 @@
 #![tactic(auto)]
 
-ghost use Rattle.std.specs.Prelude.{◌≡◌, ◌↔◌, ℕ, List, [], All, IfOk, OnOk};
-ghost use Rattle.std.specs.List.{Contains};
+ghost use Rattle.std.specs.Prelude.{◌≡◌, ◌↔◌, [], IfOk, OnOk};
 ghost use Rattle.cc_base.specs.declared.number.NodeId.{NodeId};
 ghost use Rattle.cc_base.specs.declared.number.TypeId.{TypeId};
 ghost use Rattle.cc_base.specs.declared.kind.Kind.{Kind};

@@ -1,7 +1,6 @@
 #![tactic(auto)]
 
-ghost use Rattle.std.specs.Prelude.{◌≡◌, ◌↔◌, [], Some, OnOk, IfOk, IfNone, IfSome};
-ghost use Rattle.std.specs.List.{Contains};
+ghost use Rattle.std.specs.Prelude.{◌≡◌, [], Some, OnOk, IfOk, IfNone, IfSome};
 ghost use Rattle.cc_base.specs.declared.number.TypeId.{TypeId};
 ghost use Rattle.cc_base.specs.declared.place.Place.{Place};
 ghost use Rattle.c_types.specs.Table.{IsType, IsComplete, IsUnion, members_at};

@@ -30,7 +30,8 @@ use Rattle.kind_solver.specs.Constraints.{IsWithin, AreWithin, IsPlain, BothPlai
 use Rattle.phys_types.specs.Pairs.{HaveNodes}
 use Rattle.phys_types.specs.Standing.{AreEqualTypes}
 use Rattle.src_mem.specs.Memory.{Planned}
-use Rattle.cil_form.specs.Shape.{IsUnion, IsSiteInShape}
+use Rattle.cil_form.specs.Shape.{IsSiteInShape}
+use Rattle.c_types.specs.Table.{IsUnion}
 use Rattle.cil_form.specs.Told.{AreSitesTold}
 use Rattle.phys_types.proofs.LawLemmas.{opened}
 use Rattle.phys_types.proofs.Classes.{function_class, equal_class}
@@ -40,7 +41,7 @@ use Rattle.constraint_laws.specs.Given.{HasContents, AreOfOneCell, in_flow, decl
 use Rattle.constraint_laws.proofs.NonePointers.{holds_is, any-none}
 use Rattle.constraint_laws.proofs.Raw.{AllRaw, all-raw, raw-begins}
 use Rattle.constraint_laws.proofs.Longest.{Largest, largest, all-of}
-use Rattle.constraint_laws.proofs.Held.{held-in-table}
+use Rattle.constraint_laws.proofs.Held.{union_tag, held-in-table}
 
 -- Members of a union that isn't mixed
 
@@ -87,7 +88,7 @@ module _ (table : Table) (w : IsWellFormed table) where
   member-begins v u m iu plain c l = by (members_at table v) refl
     where
       tag : (tag : ℕ) × (shape_at table v ≡ shape.Union tag)
-      tag = iu
+      tag = union_tag (shape_at table v) iu
 
       part : (x : TypeId) → Contains (members_at table v) x → IsComplete table x
       part x k = All-contains (IsComplete table) (members_at table v) x (subst (λ s. All (IsComplete table) (parts_of_shape s (members_at table v))) tag.1 (w.each v).parts) k

@@ -14,9 +14,19 @@ use Rattle.c_types.specs.Cells.{Cell, raw, pointer, mixed, incomplete, Relation,
 use Rattle.c_types.specs.Equality.{physically_equal, cells_of}
 use Rattle.c_types.specs.Flows.{HeldPointer, pointer_at, pointer_of_shape}
 use Rattle.c_types.specs.Solutions.{HoldsMixed}
-use Rattle.cil_form.specs.Shape.{IsUnion}
+use Rattle.c_types.specs.Table.{IsUnion, is_union_shape}
 use Rattle.phys_types.proofs.Classes.{function_tag}
 use Rattle.phys_types.proofs.Reached.{cell_at, at_cell, at_slot}
+
+-- what a union's shape is
+pub union_tag : (s : TypeShape) → is_union_shape s ≡ true → (tag : ℕ) × (s ≡ Union tag)
+union_tag (Union tag) h = (tag, refl)
+union_tag Void h = absurd (cc (h))
+union_tag (Integer b s) h = absurd (cc (h))
+union_tag (Pointer n t) h = absurd (cc (h))
+union_tag (Array e n) h = absurd (cc (h))
+union_tag (Function ps r) h = absurd (cc (h))
+union_tag (Struct t) h = absurd (cc (h))
 
 module _ (table : Table) where
   -- the pointer type of this node and pointee stands in the table
@@ -105,7 +115,7 @@ module _ (table : Table) where
   good-shape E f t (Union tag) [] e g h = (tt, tt)
   good-shape E f t (Struct tag) (m ∷ ms) e g h = good-padded (size_of table t) (member_cells (align_of table) f (m ∷ ms)) (good-members (align_of table) f [] (m ∷ ms) tt h)
   good-shape E f t (Union tag) (m ∷ ms) e g h =
-      good-union E t (size_of table t) (holds_pointer table t) f (m ∷ ms) h ((tag, e), (λ i. is_complete_entry (e i) (g i)))
+      good-union E t (size_of table t) (holds_pointer table t) f (m ∷ ms) h (ap is_union_shape e, (λ i. is_complete_entry (e i) (g i)))
 
   good-descent : (E : Relation) (n : ℕ) (t : TypeId) → EachGood (descend (cells_step table E) [] n t)
   good-descent E zero t = tt

@@ -13,7 +13,7 @@ use Rattle.std.proofs.lemmas.Map.Steps.{length-le_from_distinct_below}
 use Rattle.indexmap.proofs.CallerLemmas.{Contains-list_any}
 use Rattle.cc_base.specs.declared.number.TypeId.{TypeId}
 use Rattle.cc_base.specs.declared.number.NodeId.{NodeId}
-use Rattle.c_types.specs.Table.{Table, IsType, IsUnion, is_union_shape}
+use Rattle.c_types.specs.Table.{Table, IsType, IsUnion, shape_at}
 use Rattle.c_types.specs.Flows.{HeldPointer, pointer_at, StandAlike}
 use Rattle.c_types.specs.Solutions.{HoldsMixed, Holds, at_place, in_member}
 use Rattle.c_types.specs.Sound.{IsWellFormed}
@@ -22,7 +22,7 @@ use Rattle.phys_types.specs.Pairs.{HaveNodes}
 use Rattle.phys_types.specs.Found.{Pairs, no_pairs, Gains}
 use Rattle.phys_types.proofs.Classes.{types_closed}
 use Rattle.constraint_laws.specs.Given.{HoldsNode}
-use Rattle.constraint_laws.proofs.Held.{mixed-is-union, in-table}
+use Rattle.constraint_laws.proofs.Held.{mixed-is-union, in-table, union_tag}
 use Rattle.kind_constraints.specs.Adding.{Adds, RelatedBySome}
 use Rattle.kind_constraints.specs.Pieces.{IsMixedMember, HoldsType, whole, member, AreNodesIn}
 use Rattle.kind_constraints.proofs.Adding.{none_in}
@@ -57,10 +57,10 @@ few_types n xs h d =
 
 module _ (table : Table) (w : IsWellFormed table) where
   pub union_typed : (t v : TypeId) → HoldsMixed table t v → IsType table v
-  union_typed t v h = let u = (mixed-is-union table t v h).0 in in-table table v (λ e. absurd (let z = sym e ∙ u.1 in cc (z)))
+  union_typed t v h = let u = union_tag (shape_at table v) (mixed-is-union table t v h).0 in in-table table v (λ e. absurd (let z = sym e ∙ u.1 in cc (z)))
 
   pub union_is : (t v : TypeId) → HoldsMixed table t v → IsUnion table v
-  union_is t v h = ap is_union_shape (mixed-is-union table t v h).0.1
+  union_is t v h = (mixed-is-union table t v h).0
 
   pub part_typed : (x m : TypeId) → IsMixedMember table x m → IsType table m
   part_typed x m p = (types_closed table w).members p.0 m (union_typed x p.0 p.1) p.2

@@ -7,9 +7,7 @@ use Rattle.std.proofs.lemmas.Bool.Decides.{nat_tests}
 use Rattle.std.proofs.lemmas.Option.{slice_get_within, get_or_from_slice_get}
 use Rattle.std.proofs.lemmas.List.Elements.{All-contains}
 use Rattle.cc_base.specs.declared.number.TypeId.{TypeId}
-use Rattle.c_types.specs.declared.shape.TypeShape.{TypeShape}
-use Rattle.c_types.specs.declared.shape.TypeShape.TheVariants as shape
-use Rattle.c_types.specs.Table.{Table, IsType, IsUnion, IsComplete, shape_at, members_at, is_union_shape}
+use Rattle.c_types.specs.Table.{Table, IsType, IsUnion, IsComplete, members_at}
 use Rattle.c_types.specs.Layouts.{size_of}
 use Rattle.c_types.specs.PointerCounts.{larger}
 use Rattle.c_types.specs.Equality.{cells_of, physically_equal, begins_with}
@@ -69,16 +67,6 @@ largest_more table v i (Some o) m h e = by (nat_lt (size_of table o) (size_of ta
       ];
     }
 
--- what a union's shape is
-union_tag : (s : TypeShape) → is_union_shape s ≡ true → (tag : ℕ) × (s ≡ shape.Union tag)
-union_tag (shape.Union tag) h = (tag, refl)
-union_tag shape.Void h = absurd (cc (h))
-union_tag (shape.Integer b s) h = absurd (cc (h))
-union_tag (shape.Pointer n t) h = absurd (cc (h))
-union_tag (shape.Array e n) h = absurd (cc (h))
-union_tag (shape.Function ps r) h = absurd (cc (h))
-union_tag (shape.Struct t) h = absurd (cc (h))
-
 -- there is one largest member
 pub one_largest : (table : Table) (v m n : TypeId) → IsLargest table v m → IsLargest table v n → m ≡ n
 one_largest table v m n k l = elim (cases_lt k.place l.place) [
@@ -97,7 +85,7 @@ one_largest table v m n k l = elim (cases_lt k.place l.place) [
 
 module _ (table : Table) (w : IsWellFormed table) (v : TypeId) (iu : IsUnion table v) where
   pub largest_begins : (u m : TypeId) → (HoldsMixed table v v → ⊥) → Contains (members_at table v) u → IsLargest table v m → begins_with table m u ≡ true
-  largest_begins u m plain c l = member-begins table w v u m (union_tag (shape_at table v) iu) plain c l
+  largest_begins u m plain c l = member-begins table w v u m iu plain c l
 
   pub largest_there : (m : TypeId) → IsLargest table v m → Contains (members_at table v) m
   largest_there m l = (l.place, slice_get_within (members_at table v) l.place m l.found, get_or_from_slice_get (members_at table v) l.place m m l.found)

@@ -34,9 +34,11 @@ ghost use Rattle.c_check_expr.specs.Accepted.{CanBeGiven, IsDeclaratorRead, IsTa
 ghost use Rattle.c_check_expr.specs.Limited.{IsWithin};
 ghost use Rattle.c_check_expr.specs.CheckingViews.{constant_view};
 
+use crate::definitions::definition_behind;
 use crate::checking::{checked, checked_constant, checked_for, declarator_behind, specifiers_by};
 use c_tree::{Declarator, Expr, Specifiers, TypedDeclarator, TypedExpr, TypedSpecifiers};
 use c_types::Types;
+use c_typing::level::Level;
 use c_typing::naming::Naming;
 use c_typing::scope::Scope;
 use cc_base::{Fault, Place, TypeId};
@@ -128,4 +130,16 @@ pub fn check_declarator(
     ensures accepts { (T : Table) (one : typed_tree.TypedDeclarator) (b : Point) (count : ℕ) → CanBeGiven T (declarator_spelling (declarator_view d.now)) (made_by_declarator one) (used_by_declarator T Written one) (declarator_holds (declarator_view d.now)) (known types.old scope.old) count → IsType types.old (specified_type (typed_specifiers_view base.now)) → IsDeclaratorRead T naming (walks.outermost_of size) (specified_type (typed_specifiers_view base.now)) (declarator_view d.now) one (point_at (known types.old scope.old)) b → IsTaken typed_declarator_view one T (made_by_declarator one) (known types.old scope.old) b count result (known types.new scope.new) }
 {
     declarator_behind(scope, types, naming, base, size, d)
+}
+
+/// The declarator of a function definition behind specifiers, with the scope that its own parameters leave for the body (C99 6.2.1).
+pub fn check_definition(
+    scope: &mut Scope,
+    types: &mut Types,
+    base: &TypedSpecifiers,
+    d: &Declarator,
+    naming: Naming,
+) -> Result<(TypedDeclarator, Option<Level>), Fault>
+{
+    definition_behind(scope, types, naming, base, d)
 }

@@ -33,6 +33,7 @@ use c_tree::{
 };
 use c_types::{TypeShape, Types};
 use c_typing::declared::Declared;
+use c_typing::level::Level;
 use c_typing::naming::Naming;
 use c_typing::operand::Operand;
 use c_typing::scope::Scope;
@@ -309,7 +310,7 @@ impl<
         types: &mut Types,
         at: Place,
         list: &[Parameter],
-    ) -> Result<Items<TypedParameter>, Fault>
+    ) -> Result<(Items<TypedParameter>, Option<Level>), Fault>
         requires nests { Nests self.now.depth (E.pre self.now.judge_expr) (E.post self.now.judge_expr) (S.pre self.now.judge_specifiers) (S.post self.now.judge_specifiers) (D.pre self.now.judge_form) (D.post self.now.judge_form) }
         ensures { Answers (λ found. added no_typed_parameter (map typed_parameter_view found)) (walks.judge_prototype at (added NoParameter (map parameter_view list.now)) (known types.old scope.old)) result (known types.new scope.new) }
     {
@@ -318,8 +319,7 @@ impl<
         if scope.depth() <= 1 {
             return Err(no_room(at));
         }
-        scope.leave();
-        Ok(found)
+        Ok((found, scope.leave()))
     }
 }
 

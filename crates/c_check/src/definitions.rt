@@ -11,7 +11,7 @@ ghost use Rattle.c_tree.specs.TypedViews.{typed_core_view, typed_declarator_view
 ghost use Rattle.c_tree.specs.TypedStatementViews.{typed_block_view};
 ghost use Rattle.c_typing.specs.KindViews.{shape_or_void};
 ghost use Rattle.c_typing.specs.declared.declared.Declared.TheVariants as declared;
-ghost use Rattle.c_typing.specs.Scopes.{place_among};
+ghost use Rattle.c_typing.specs.Scopes.{Level as SeenLevel, place_among};
 ghost use Rattle.c_typing.specs.Tests.{first_broken, has_some};
 ghost use Rattle.runtime_calls.specs.Prototypes.{runtime_of};
 ghost use Rattle.c_check.specs.CodeViews.{declares_last, parameters_seen};
@@ -171,7 +171,7 @@ fn body(
     level: Option<Level>,
     items: &[BlockItem],
 ) -> Result<Items<TypedBlockItem>, Fault>
-    ensures { (seen : SeenLevel) → level ≡ Some seen → Answers typed_block_view (judging.body brace to seen (block_view items.now) (state_of context.old)) result (state_of context.new) }
+    ensures { (seen : SeenLevel) → level.entry ≡ Some seen → Answers typed_block_view (judging.body brace to seen (block_view items.now) (state_of context.old)) result (state_of context.new) }
 {
     match (to, level) {
         (Some(to), Some(level)) => body_in(context, brace, to, level, items),

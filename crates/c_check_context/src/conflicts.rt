@@ -250,7 +250,8 @@ impl Context {
     ) -> bool
         ensures { result ≡ (refusals.is_redeclared self.now.types (known_of (state_of self.now)) linked defines name.now.bytes what || refusals.is_taken_by_runtime self.now.types file name.now.bytes what) }
     {
-        self.is_redeclared(linked, defines, name, what) || self.is_taken_by_runtime(file, name, what)
+        self.is_redeclared(linked, defines, name, what)
+            || self.is_taken_by_runtime(file, name, what)
     }
 
     /// The first rule that a declarator's name breaks, once it has its type.

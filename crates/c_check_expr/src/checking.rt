@@ -239,8 +239,7 @@ pub(crate) fn with_type(
     size: Option<u64>,
     form: TypedForm,
     base: TypeId,
-) -> Result<TypedDeclarator, Fault>
-{
+) -> Result<TypedDeclarator, Fault> {
     let ty = form_makes(scope, types, at, nearest_of(size), &form, base)?;
     let home = home_node(home_of(&form));
     Ok(TypedDeclarator { form, ty, home })

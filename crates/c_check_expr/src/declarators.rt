@@ -67,7 +67,11 @@ fn star_with_node(scope: &mut Scope, at: Place, star: &Star) -> Result<TypedStar
 }
 
 /// The nodes of stars, in the order of the text.
-pub(crate) fn stars_with_nodes(scope: &mut Scope, at: Place, stars: &[Star]) -> Result<Items<TypedStar>, Fault>
+pub(crate) fn stars_with_nodes(
+    scope: &mut Scope,
+    at: Place,
+    stars: &[Star],
+) -> Result<Items<TypedStar>, Fault>
     ensures { (table : Table) → Answers (λ found. found) (declaring.stars_with_nodes at stars.now (known table scope.old)) result (known table scope.new) }
 {
     let mut found = Items::new(scope.alloc());

@@ -1,6 +1,17 @@
 //! The declarator of a function definition: what its list of parameters declares is seen in the body (C99 6.2.1).
 #![tactic(auto)]
 
+ghost use Rattle.std.specs.Prelude.{◌≡◌, IfOk, IfSome, None, map};
+ghost use Rattle.c_tree.specs.Tree.{NoPart};
+ghost use Rattle.c_tree.specs.TypedParts.{specified_type};
+ghost use Rattle.c_tree.specs.TypedTree.{NoPart as no_typed_part};
+ghost use Rattle.c_tree.specs.Views.{added, declarator_view, part_view};
+ghost use Rattle.c_tree.specs.TypedViews.{typed_declarator_view, typed_form_view, typed_part_view, typed_specifiers_view};
+ghost use Rattle.c_check_expr.specs.Nests.{Nests};
+ghost use Rattle.c_typing.specs.Judging.{Answers, known};
+ghost use Rattle.c_typing.specs.Walks as walks;
+ghost use Rattle.c_unit_typing.specs.ParameterScopes.{level_of};
+
 use crate::checking::{LEVELS, NOWHERE, naming_of, with_type};
 use crate::declarators::stars_with_nodes;
 use crate::walk::{judge_expr, judge_form, judge_specifiers};
@@ -38,8 +49,7 @@ impl<
         types: &mut Types,
         at: Place,
         part: &Part,
-    ) -> Result<(TypedPart, Option<Level>), Fault>
-    {
+    ) -> Result<(TypedPart, Option<Level>), Fault> {
         match part {
             Part::Function(paren, parameters) => {
                 let (list, level) = self.prototype(scope, types, at, parameters.as_slice())?;
@@ -57,6 +67,8 @@ impl<
         at: Place,
         parts: &[Part],
     ) -> Result<(Items<TypedPart>, Option<Level>), Fault>
+        requires nests { Nests self.now.depth (E.pre self.now.judge_expr) (E.post self.now.judge_expr) (S.pre self.now.judge_specifiers) (S.post self.now.judge_specifiers) (D.pre self.now.judge_form) (D.post self.now.judge_form) }
+        ensures { Answers (λ made. added no_typed_part (map typed_part_view made.0)) (walks.judge_parts at (added NoPart (map part_view parts.now)) (known types.old scope.old)) result (known types.new scope.new) }
     {
         let mut found = Items::new(scope.alloc());
         let mut level = None;
@@ -83,8 +95,7 @@ fn nested_definition(
     at: Place,
     paren: Place,
     d: &Declarator,
-) -> Result<Left<TypedCore>, Fault>
-{
+) -> Result<Left<TypedCore>, Fault> {
     let form = judge_definition(scope, types, depth, which, at, d)?;
     Ok(Left {
         one: TypedCore::Nested(paren, Boxed::new(scope.alloc(), form.one)?),
@@ -103,6 +114,7 @@ fn judge_definition(
     at: Place,
     d: &Declarator,
 ) -> Result<Left<TypedForm>, Fault>
+    ensures { Answers (λ left. typed_form_view left.one) (walks.judge_form which at (declarator_view d.now) (known types.old scope.old)) result (known types.new scope.new) }
 {
     if depth == 0 {
         return Err(Fault::NoMemory);
@@ -150,6 +162,8 @@ pub(crate) fn definition_behind(
     base: &TypedSpecifiers,
     d: &Declarator,
 ) -> Result<(TypedDeclarator, Option<Level>), Fault>
+    ensures judged { Answers (λ made. typed_declarator_view made.0) (walks.judge_declarator naming (typed_specifiers_view base.now) None (declarator_view d.now) (known types.old scope.old)) result (known types.new scope.new) }
+    ensures level { IfOk result (λ made. IfSome made.1 (λ level. level ≡ level_of naming (specified_type (typed_specifiers_view base.now)) (declarator_view d.now) (known types.old scope.old))) }
 {
     let at = name_place(declarator_name(d), NOWHERE);
     let which = naming_of(types, naming, base.ty, d);

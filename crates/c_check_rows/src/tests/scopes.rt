@@ -2,7 +2,7 @@
 use cc_base::Rule;
 
 /// What is refused, with the rule and the column.
-pub(crate) const REFUSED: [(&[u8], Rule, u32); 24] = [
+pub(crate) const REFUSED: [(&[u8], Rule, u32); 28] = [
     (
         b"int main(void){if(1) sizeof(enum{A}); return A;}",
         Rule::UnknownName,
@@ -123,10 +123,30 @@ pub(crate) const REFUSED: [(&[u8], Rule, u32); 24] = [
         Rule::Mismatch,
         20,
     ),
+    (
+        b"int main(void){if(sizeof(enum{A,B}));return B;}",
+        Rule::UnknownName,
+        45,
+    ),
+    (
+        b"int a[1]={1,{x}}; int main(void){return 0;}",
+        Rule::UnknownName,
+        14,
+    ),
+    (
+        b"int x={{y}}; int main(void){return 0;}",
+        Rule::UnknownName,
+        9,
+    ),
+    (
+        b"int f(struct S{int x;}*p){struct S{int y;};return 0;} int main(void){return 0;}",
+        Rule::Redeclared,
+        34,
+    ),
 ];
 
 /// What is accepted.
-pub(crate) const ACCEPTED: [&[u8]; 14] = [
+pub(crate) const ACCEPTED: [&[u8]; 19] = [
     b"int main(void){enum{A=1}; if(sizeof(enum{A=2})==4) return A; return A;}",
     b"int main(void){if(sizeof(enum{A=3})==4) return A; return 0;}",
     b"int main(void){if(0) sizeof(enum{A}); else sizeof(enum{A}); return 0;}",
@@ -141,4 +161,9 @@ pub(crate) const ACCEPTED: [&[u8]; 14] = [
     b"int f(enum{A} e){{int A; A=1; e=A;} return A;} int main(void){return 0;}",
     b"int f(int (*g)(enum{A} e)){int A; A=1; return A;} int main(void){return 0;}",
     b"int (*f(enum{A} x))(enum{A} y){int B; B=A; return 0;} int main(void){return 0;}",
+    b"int main(void){int A;while(sizeof(enum{A})>8);return 0;}",
+    b"int main(void){if(sizeof(enum{A})>9);if(sizeof(enum{A})>9);return 0;}",
+    b"int f(struct S{int x;}*p){struct S *q=p;return q->x;} int main(void){return 0;}",
+    b"int f(int a[sizeof(enum{A,B})]){return B;} int main(void){return 0;}",
+    b"int f(struct S *p){struct S{int x;};return p->x;} int main(void){return 0;}",
 ];

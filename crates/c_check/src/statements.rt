@@ -147,6 +147,24 @@ fn if_alone(
     )?)
 }
 
+/// The block of a `switch` on a value of the type.
+#[cycle(statements)]
+#[tactic(auto, unfolding(c_unit_typing::specs::StatementJudging::within))]
+fn switch_block(
+    context: &mut Context,
+    around: Around,
+    on: TypeId,
+    brace: Place,
+    items: &[BlockItem],
+) -> Result<Items<TypedBlockItem>, Fault>
+    ensures { Answers typed_block_view (judging.within brace (judging.judge_block_items (around_view around) (Some on) (block_view items.now)) (state_of context.old)) result (state_of context.new) }
+{
+    enter(context)?;
+    let list = block_items(context, around, Some(on), items)?;
+    leave(context, brace)?;
+    Ok(list)
+}
+
 /// `switch` (C99 6.8.4.2).
 #[cycle(statements)]
 #[tactic(auto, using(c_tree::proofs::TypedStatementViewLaws::typed_statement_views), unfolding(c_unit_typing::specs::StatementJudging::judge_statement, c_unit_typing::specs::StatementJudging::within))]
@@ -165,9 +183,7 @@ fn switch(
     let value = context.expr(e)?;
     let from = value.get().ty();
     let on = promoted(context, at, value)?;
-    enter(context)?;
-    let list = block_items(context, around.in_a_switch(), Some(on.get().ty()), items)?;
-    leave(context, brace)?;
+    let list = switch_block(context, around.in_a_switch(), on.get().ty(), brace, items)?;
     try_integer(context, at, from)?;
     leave(context, at)?;
     Ok(boxed(

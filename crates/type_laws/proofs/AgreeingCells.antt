@@ -108,11 +108,14 @@ module _ (table : Table) (kind : NodeId → Kind) (ok : IsWellFormed table) wher
       let f' : slice_get (cells_of table u) (i - j) ≡ Some (pointer m b 0) = ap (λ x. slice_get (cells_of table u) (i - x)) jk ∙ first_byte (cells_of table u) (cells_ordered table ok u) k i m b f in
       let e' : slice_get (cells_of table t) (i - j) ≡ Some (pointer n a 0) = first_byte (cells_of table t) (cells_ordered table ok t) j i n a e in
       let there : Correspond table (StandAlike table t u) (record { node = n; to = a }) (record { node = m; to = b })
-          = top (record { node = n; to = a }) (record { node = m; to = b }) (i - j, pointer-there table ok kind t ct (i - j) n a e', pointer-there table ok kind u cu (i - j) m b f') in
-      (jk, one.kinds (record { node = n; to = a }) (record { node = m; to = b }) there, record {
-        equal = second (j == k) (physically_equal table a b) h;
-        kinds = λ r s x. one.kinds r s (lift t u (record { node = n; to = a }) (record { node = m; to = b }) there r s x);
-      })
+      = top (record { node = n; to = a }) (record { node = m; to = b }) (i - j, pointer-there table ok kind t ct (i - j) n a e', pointer-there table ok kind u cu (i - j) m b f') in (
+        jk,
+        one.kinds (record { node = n; to = a }) (record { node = m; to = b }) there,
+        record {
+          equal = second (j == k) (physically_equal table a b) h;
+          kinds = λ r s x. one.kinds r s (lift t u (record { node = n; to = a }) (record { node = m; to = b }) there r s x);
+        },
+      )
 
   -- law e: types of one class have cells that agree, byte by byte
   pub class-cells : (t u : TypeId) → IsComplete table t → IsComplete table u → IsOfOneClass table kind t u → (i : ℕ) (d : Cell) → slice_get (cells_of table u) i ≡ Some d

@@ -1,8 +1,8 @@
 -- The lines of instructions that hold others, by the lists that they hold.
-use Rattle.std.proofs.Common.{ℕ, List, [], ◌∷◌, ◌++◌, ◌≡◌, ◌∙◌, ap, append_assoc, refl, sym}
+use Rattle.std.proofs.Common.{ℕ, List, [], ◌∷◌, ◌++◌, ◌≡◌, ◌∙◌, ap, refl}
 use Rattle.std.specs.Prelude.{codes, flat_map}
 use Rattle.std.proofs.lemmas.Grind.{flat_map-append}
-use Rattle.cured_code.specs.declared.instr.Instr.{Instr, Row_of-Instr, end_of-Instr, more_of-Instr}
+use Rattle.cured_code.specs.declared.instr.Instr.{Row_of-Instr, end_of-Instr, more_of-Instr}
 use Rattle.cured_code.specs.declared.instr.Instr.TheVariants as instr
 use Rattle.cured_code.specs.declared.instr.Instr.TheBlock.{hidden-the_row-Instr-0, items-the_row-Instr, items_hidden-the_row-Instr-0}
 use Rattle.cured_code.specs.declared.instr.Code.{Code}
@@ -47,13 +47,13 @@ pub if-text : (a : ℕ) (x y : Code) → flat_map line_text (lines_of (instr.If 
     ≡ line_text (line (codes "if") (a ∷ [])) ++ (flat_map line_text (code_lines x.0.items) ++ (line_text else_line ++ (flat_map line_text (code_lines y.0.items) ++ (line_text end_line ++ []))))
 if-text a x y = ap (flat_map line_text) (if-lines a x y)
     ∙ ap (λ t. line_text (line (codes "if") (a ∷ [])) ++ t) (flat_map-append line_text (code_lines x.0.items) (else_line ∷ (code_lines y.0.items ++ (end_line ∷ [])))
-      ∙ ap (λ t. flat_map line_text (code_lines x.0.items) ++ (line_text else_line ++ t)) (flat_map-append line_text (code_lines y.0.items) (end_line ∷ [])))
+    ∙ ap (λ t. flat_map line_text (code_lines x.0.items) ++ (line_text else_line ++ t)) (flat_map-append line_text (code_lines y.0.items) (end_line ∷ [])))
 
 -- the text of a program, part by part
 pub parts-text : (sigs : List Sig) (nodes : List ℕ) (globals : List GlobalLine) (functions : List Function) → flat_map line_text (parts_lines sigs nodes globals functions)
     ≡ line_text (line (codes "ccured") (1 ∷ [])) ++ (flat_map line_text (counted (codes "sigs") sig_line sigs) ++ (flat_map line_text (counted (codes "nodes") node_line nodes)
-      ++ (flat_map line_text (counted (codes "globals") area_line globals) ++ (flat_map line_text (counted (codes "functions") function_line functions)
-        ++ flat_map line_text (flat_map body_lines functions)))))
+    ++ (flat_map line_text (counted (codes "globals") area_line globals) ++ (flat_map line_text (counted (codes "functions") function_line functions)
+    ++ flat_map line_text (flat_map body_lines functions)))))
 parts-text sigs nodes globals functions =
     let s = counted (codes "sigs") sig_line sigs in
     let n = counted (codes "nodes") node_line nodes in
@@ -61,6 +61,6 @@ parts-text sigs nodes globals functions =
     let f = counted (codes "functions") function_line functions in
     let b = flat_map body_lines functions in
     ap (λ t. line_text (line (codes "ccured") (1 ∷ [])) ++ t) (flat_map-append line_text s (n ++ (g ++ (f ++ b)))
-      ∙ ap (λ t. flat_map line_text s ++ t) (flat_map-append line_text n (g ++ (f ++ b))
-        ∙ ap (λ t. flat_map line_text n ++ t) (flat_map-append line_text g (f ++ b)
-          ∙ ap (λ t. flat_map line_text g ++ t) (flat_map-append line_text f b))))
+    ∙ ap (λ t. flat_map line_text s ++ t) (flat_map-append line_text n (g ++ (f ++ b))
+    ∙ ap (λ t. flat_map line_text n ++ t) (flat_map-append line_text g (f ++ b)
+    ∙ ap (λ t. flat_map line_text g ++ t) (flat_map-append line_text f b))))

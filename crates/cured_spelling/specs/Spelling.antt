@@ -7,7 +7,7 @@ use Rattle.cured_code.specs.declared.parts.AreaLine.{AreaLine}
 use Rattle.cured_code.specs.declared.parts.GlobalLine.{GlobalLine}
 use Rattle.cured_code.specs.declared.parts.Function.{Function}
 use Rattle.cured_code.specs.declared.parts.Parts.{Parts}
-use Rattle.cured_spelling.specs.Lines.{Field, Number, Form, Name, Tag, Hex, Line, line, line_text}
+use Rattle.cured_spelling.specs.Lines.{Number, Form, Name, Tag, Hex, Line, line, line_text}
 
 -- the line of an instruction; of one that holds others, its first
 abbrev pub line_of : Instr → Line
@@ -114,10 +114,10 @@ counted name of each = line name (length each ∷ []) ∷ map of each
 abbrev pub parts_lines : List Sig → List ℕ → List GlobalLine → List Function → List Line
 parts_lines sigs nodes globals functions =
     line (codes "ccured") (1 ∷ [])
-      ∷ (counted (codes "sigs") sig_line sigs
-        ++ (counted (codes "nodes") node_line nodes
-          ++ (counted (codes "globals") area_line globals
-            ++ (counted (codes "functions") function_line functions ++ flat_map body_lines functions))))
+    ∷ (counted (codes "sigs") sig_line sigs
+    ++ (counted (codes "nodes") node_line nodes
+    ++ (counted (codes "globals") area_line globals
+    ++ (counted (codes "functions") function_line functions ++ flat_map body_lines functions))))
 
 abbrev pub program_lines : Parts → List Line
 program_lines parts = parts_lines parts.sigs parts.nodes parts.globals parts.functions

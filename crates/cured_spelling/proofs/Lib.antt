@@ -4,3 +4,6 @@ pub mod FieldLaws
 pub mod LineLaws
 pub mod WrittenLaws
 pub mod ToldLaws
+pub mod Heads
+pub mod TreeLaws
+pub mod ProgramLaws

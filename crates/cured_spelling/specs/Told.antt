@@ -2,6 +2,8 @@
 use Rattle.std.specs.Prelude.{ℕ, ◌<◌, ◌^◌, ◌≡◌, List, [], ◌∷◌, length, map, cond, replicate, codes}
 use Rattle.std.specs.List.{AllByRecursion}
 use Rattle.std.specs.Str.{bytes_eq}
+use Rattle.cured_code.specs.declared.parts.Parts.{Parts}
+use Rattle.cured_spelling.specs.Spelling.{program_lines}
 use Rattle.cured_spelling.specs.Lines.{Field, Number, Form, Name, Tag, Hex, Line}
 
 -- how a field is written
@@ -44,3 +46,7 @@ AreLinesInRange = AllByRecursion (λ line. AllByRecursion IsFieldInRange line.fi
 pub record IsWritten (line : Line) : Type 0 where
   pub name : AllByRecursion (λ byte. 32 < byte) line.name
   pub fields : map writing line.fields ≡ writings line.name (length line.fields)
+
+-- the numbers and bytes of a program are in range, as those of its Rust types are
+abbrev pub AreNumbersInRange : Parts → Type 0
+AreNumbersInRange p = AreLinesInRange (program_lines p)

@@ -1,1 +1,9 @@
 pub mod RowLaws
+pub mod Cuts
+pub mod FieldLaws
+pub mod LineLaws
+pub mod WrittenLaws
+pub mod ToldLaws
+pub mod Heads
+pub mod TreeLaws
+pub mod ProgramLaws

@@ -1,0 +1,174 @@
+-- Fields are told apart by how they are written.
+use Rattle.std.proofs.Common.{ℕ, zero, suc, ◌-◌, ◌/◌, ◌%◌, ◌<◌, Bool, true, false, List, [], ◌∷◌, ◌≡◌, ◌∙◌, map, ap, refl, sym, arith}
+use Rattle.std.specs.Prelude.{flat_map, cond, codes}
+use Rattle.std.specs.Fmt.{decimal}
+use Rattle.std.specs.Str.{bytes_eq}
+use Rattle.std.specs.Str.Parse.{AllDigits}
+use Rattle.std.specs.List.{AllByRecursion as Each}
+use Rattle.std.proofs.lemmas.Fmt.{decimal_injective, decimal_is_IsNumeral}
+use Rattle.std.proofs.lemmas.Str.Parse.{digit_from_value}
+use Rattle.cc_base.specs.declared.fault.Check.{Check}
+use Rattle.cc_base.specs.declared.fault.Check.TheVariants as check
+use Rattle.cc_base.specs.Names.{check_name}
+use Rattle.cured_code.specs.declared.instr.Narrow.{Narrow}
+use Rattle.cured_code.specs.declared.instr.Narrow.TheVariants.{S8, S16, S32, U8, U16, U32}
+use Rattle.cured_spelling.specs.Lines.{Field, Number, Form, Name, Tag, Hex, form_text, tag_text, hex_digit, hex_byte, hex_text, field_text}
+use Rattle.cured_spelling.specs.Told.{writing, IsFieldInRange}
+use Rattle.cured_spelling.proofs.Cuts.{cons_head, cons_tail, AreAbove}
+
+-- Hexadecimal digits
+
+digit_value : ℕ → ℕ
+digit_value c = cond (bytes_eq (c / 97 ∷ []) (0 ∷ [])) (c - 48) (c - 87)
+
+digit-read : (n : ℕ) → n < 16 → (digit_value (hex_digit n) ≡ n) × (32 < hex_digit n)
+unfolding digit_value
+digit-read zero h = (refl, omega arith)
+digit-read (suc zero) h = (refl, omega arith)
+digit-read (suc (suc zero)) h = (refl, omega arith)
+digit-read (suc (suc (suc zero))) h = (refl, omega arith)
+digit-read (suc (suc (suc (suc zero)))) h = (refl, omega arith)
+digit-read (suc (suc (suc (suc (suc zero))))) h = (refl, omega arith)
+digit-read (suc (suc (suc (suc (suc (suc zero)))))) h = (refl, omega arith)
+digit-read (suc (suc (suc (suc (suc (suc (suc zero))))))) h = (refl, omega arith)
+digit-read (suc (suc (suc (suc (suc (suc (suc (suc zero)))))))) h = (refl, omega arith)
+digit-read (suc (suc (suc (suc (suc (suc (suc (suc (suc zero))))))))) h = (refl, omega arith)
+digit-read (suc (suc (suc (suc (suc (suc (suc (suc (suc (suc zero)))))))))) h = (refl, omega arith)
+digit-read (suc (suc (suc (suc (suc (suc (suc (suc (suc (suc (suc zero))))))))))) h = (refl, omega arith)
+digit-read (suc (suc (suc (suc (suc (suc (suc (suc (suc (suc (suc (suc zero)))))))))))) h = (refl, omega arith)
+digit-read (suc (suc (suc (suc (suc (suc (suc (suc (suc (suc (suc (suc (suc zero))))))))))))) h = (refl, omega arith)
+digit-read (suc (suc (suc (suc (suc (suc (suc (suc (suc (suc (suc (suc (suc (suc zero)))))))))))))) h = (refl, omega arith)
+digit-read (suc (suc (suc (suc (suc (suc (suc (suc (suc (suc (suc (suc (suc (suc (suc zero))))))))))))))) h = (refl, omega arith)
+digit-read (suc (suc (suc (suc (suc (suc (suc (suc (suc (suc (suc (suc (suc (suc (suc (suc n)))))))))))))))) h = absurd (omega arith)
+
+digit_told : (m n : ℕ) → m < 16 → n < 16 → hex_digit m ≡ hex_digit n → m ≡ n
+digit_told m n p q e = sym (digit-read m p).0 ∙ ap digit_value e ∙ (digit-read n q).0
+
+bytes_told : (ks ls : List ℕ) → Each (λ byte. byte < 256) ks → Each (λ byte. byte < 256) ls → flat_map hex_byte ks ≡ flat_map hex_byte ls → ks ≡ ls
+bytes_told [] [] f g e = refl
+bytes_told [] (b ∷ ls) f g e = cc
+bytes_told (a ∷ ks) [] f g e = cc
+bytes_told (a ∷ ks) (b ∷ ls) f g e =
+    let after_high = cons_tail (hex_digit (a / 16)) (hex_digit (b / 16)) (hex_digit (a % 16) ∷ flat_map hex_byte ks) (hex_digit (b % 16) ∷ flat_map hex_byte ls) e in
+    let high = digit_told (a / 16) (b / 16) (omega (arith, f.0)) (omega (arith, g.0)) (cons_head (hex_digit (a / 16)) (hex_digit (b / 16)) (hex_digit (a % 16) ∷ flat_map hex_byte ks) (hex_digit (b % 16) ∷ flat_map hex_byte ls) e) in
+    let low = digit_told (a % 16) (b % 16) (omega arith) (omega arith) (cons_head (hex_digit (a % 16)) (hex_digit (b % 16)) (flat_map hex_byte ks) (flat_map hex_byte ls) after_high) in
+    let rest = bytes_told ks ls f.1 g.1 (cons_tail (hex_digit (a % 16)) (hex_digit (b % 16)) (flat_map hex_byte ks) (flat_map hex_byte ls) after_high) in
+    let same : a ≡ b = omega (arith, high, low) in
+    ap (λ n. n ∷ ks) same ∙ ap (λ l. b ∷ l) rest
+
+hex_told : (ks ls : List ℕ) → Each (λ byte. byte < 256) ks → Each (λ byte. byte < 256) ls → hex_text ks ≡ hex_text ls → ks ≡ ls
+hex_told [] [] f g e = refl
+hex_told [] (b ∷ ls) f g e = cc
+hex_told (a ∷ ks) [] f g e = cc
+hex_told (a ∷ ks) (b ∷ ls) f g e = bytes_told (a ∷ ks) (b ∷ ls) f g e
+
+bytes-above : (bytes : List ℕ) → Each (λ byte. byte < 256) bytes → AreAbove 32 (flat_map hex_byte bytes)
+bytes-above [] f = tt
+bytes-above (a ∷ ks) f = ((digit-read (a / 16) (omega (arith, f.0))).1, ((digit-read (a % 16) (omega arith)).1, bytes-above ks f.1))
+
+hex-above : (bytes : List ℕ) → Each (λ byte. byte < 256) bytes → AreAbove 32 (hex_text bytes)
+hex-above [] f = (omega arith, tt)
+hex-above (a ∷ ks) f = bytes-above (a ∷ ks) f
+
+-- Numbers
+
+digits-above : (ds : List ℕ) → AllDigits 10 ds → AreAbove 32 ds
+digits-above [] d = tt
+digits-above (c ∷ cs) d = (omega (arith, digit_from_value c d.0), digits-above cs d.1)
+
+-- Words
+
+form_of : List ℕ → Narrow
+form_of text = cond (bytes_eq text (codes "s8")) S8 (cond (bytes_eq text (codes "s16")) S16 (cond (bytes_eq text (codes "s32")) S32 (cond (bytes_eq text (codes "u8")) U8 (cond (bytes_eq text (codes "u16")) U16 (U32)))))
+
+form-read : (form : Narrow) → form_of (form_text form) ≡ form
+unfolding form_of
+form-read S8 = refl
+form-read S16 = refl
+form-read S32 = refl
+form-read U8 = refl
+form-read U16 = refl
+form-read U32 = refl
+
+form-above : (form : Narrow) → AreAbove 32 (form_text form)
+form-above S8 = (omega arith, (omega arith, tt))
+form-above S16 = (omega arith, (omega arith, (omega arith, tt)))
+form-above S32 = (omega arith, (omega arith, (omega arith, tt)))
+form-above U8 = (omega arith, (omega arith, tt))
+form-above U16 = (omega arith, (omega arith, (omega arith, tt)))
+form-above U32 = (omega arith, (omega arith, (omega arith, tt)))
+
+check_of : List ℕ → Check
+check_of text = cond (bytes_eq text (codes "NULL")) check.Null (cond (bytes_eq text (codes "BOUNDS")) check.Bounds (cond (bytes_eq text (codes "WBOUNDS")) check.Wbounds (cond (bytes_eq text (codes "BASE")) check.Base (cond (bytes_eq text (codes "RANGE")) check.Range (cond (bytes_eq text (codes "TAG")) check.Tag (cond (bytes_eq text (codes "ALIGN")) check.Align (cond (bytes_eq text (codes "CAST")) check.Cast (cond (bytes_eq text (codes "ESCAPE")) check.Escape (cond (bytes_eq text (codes "FUN")) check.Fun (cond (bytes_eq text (codes "SAME")) check.Same (cond (bytes_eq text (codes "DIVIDE")) check.Divide (check.Depth))))))))))))
+
+check-read : (c : Check) → check_of (check_name c) ≡ c
+unfolding check_of
+check-read check.Null = refl
+check-read check.Bounds = refl
+check-read check.Wbounds = refl
+check-read check.Base = refl
+check-read check.Range = refl
+check-read check.Tag = refl
+check-read check.Align = refl
+check-read check.Cast = refl
+check-read check.Escape = refl
+check-read check.Fun = refl
+check-read check.Same = refl
+check-read check.Divide = refl
+check-read check.Depth = refl
+
+check-above : (c : Check) → AreAbove 32 (check_name c)
+check-above check.Null = (omega arith, (omega arith, (omega arith, (omega arith, tt))))
+check-above check.Bounds = (omega arith, (omega arith, (omega arith, (omega arith, (omega arith, (omega arith, tt))))))
+check-above check.Wbounds = (omega arith, (omega arith, (omega arith, (omega arith, (omega arith, (omega arith, (omega arith, tt)))))))
+check-above check.Base = (omega arith, (omega arith, (omega arith, (omega arith, tt))))
+check-above check.Range = (omega arith, (omega arith, (omega arith, (omega arith, (omega arith, tt)))))
+check-above check.Tag = (omega arith, (omega arith, (omega arith, tt)))
+check-above check.Align = (omega arith, (omega arith, (omega arith, (omega arith, (omega arith, tt)))))
+check-above check.Cast = (omega arith, (omega arith, (omega arith, (omega arith, tt))))
+check-above check.Escape = (omega arith, (omega arith, (omega arith, (omega arith, (omega arith, (omega arith, tt))))))
+check-above check.Fun = (omega arith, (omega arith, (omega arith, tt)))
+check-above check.Same = (omega arith, (omega arith, (omega arith, (omega arith, tt))))
+check-above check.Divide = (omega arith, (omega arith, (omega arith, (omega arith, (omega arith, (omega arith, tt))))))
+check-above check.Depth = (omega arith, (omega arith, (omega arith, (omega arith, (omega arith, tt)))))
+
+tag_told : (s t : Bool) → tag_text s ≡ tag_text t → s ≡ t
+tag_told true true e = refl
+tag_told false false e = refl
+tag_told true false e = absurd (omega (arith, cons_head 87 84 [] [] e))
+tag_told false true e = absurd (omega (arith, cons_head 84 87 [] [] e))
+
+tag-above : (tagged : Bool) → AreAbove 32 (tag_text tagged)
+tag-above true = (omega arith, tt)
+tag-above false = (omega arith, tt)
+
+-- Fields
+
+pub field-above : (f : Field) → IsFieldInRange f → AreAbove 32 (field_text f)
+field-above (Number n) h = digits-above (decimal n) (decimal_is_IsNumeral n h).0.1
+field-above (Form form) h = form-above form
+field-above (Name c) h = check-above c
+field-above (Tag tagged) h = tag-above tagged
+field-above (Hex bytes) h = hex-above bytes h
+
+-- fields that are written in the same way, with the same text, are the same
+pub field_told : (f g : Field) → writing f ≡ writing g → IsFieldInRange f → IsFieldInRange g → field_text f ≡ field_text g → f ≡ g
+field_told (Number m) (Number n) w p q e = ap Number (decimal_injective m n p q e)
+field_told (Form a) (Form b) w p q e = ap Form (sym (form-read a) ∙ ap form_of e ∙ form-read b)
+field_told (Name a) (Name b) w p q e = ap Name (sym (check-read a) ∙ ap check_of e ∙ check-read b)
+field_told (Tag a) (Tag b) w p q e = ap Tag (tag_told a b e)
+field_told (Hex ks) (Hex ls) w p q e = ap Hex (hex_told ks ls p q e)
+field_told f g w p q e = cc
+
+pub fields-above : (fs : List Field) → Each IsFieldInRange fs → Each (AreAbove 32) (map field_text fs)
+fields-above [] h = tt
+fields-above (f ∷ fs) h = (field-above f h.0, fields-above fs h.1)
+
+pub fields_told : (fs gs : List Field) → map writing fs ≡ map writing gs → Each IsFieldInRange fs → Each IsFieldInRange gs → map field_text fs ≡ map field_text gs → fs ≡ gs
+fields_told [] [] w p q e = refl
+fields_told [] (g ∷ gs) w p q e = cc
+fields_told (f ∷ fs) [] w p q e = cc
+fields_told (f ∷ fs) (g ∷ gs) w p q e =
+    let head = field_told f g (cons_head (writing f) (writing g) (map writing fs) (map writing gs) w) p.0 q.0 (cons_head (field_text f) (field_text g) (map field_text fs) (map field_text gs) e) in
+    let tail = fields_told fs gs (cons_tail (writing f) (writing g) (map writing fs) (map writing gs) w) p.1 q.1 (cons_tail (field_text f) (field_text g) (map field_text fs) (map field_text gs) e) in
+    ap (λ x. x ∷ fs) head ∙ ap (λ l. g ∷ l) tail

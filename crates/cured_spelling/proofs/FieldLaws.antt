@@ -23,7 +23,8 @@ abbrev pub are_above : List ℕ → Bool
 are_above [] = true
 are_above (b ∷ bytes) = cond (nat_lt 32 b) (are_above bytes) false
 
-above-step : (b : ℕ) (bytes : List ℕ) (t : Bool) → nat_lt 32 b ≡ t → cond t (are_above bytes) false ≡ true → (are_above bytes ≡ true → AreAbove 32 bytes)
+above-step : (b : ℕ) (bytes : List ℕ) (t : Bool) → nat_lt 32 b ≡ t → cond t (are_above bytes) false ≡ true
+    → (are_above bytes ≡ true → AreAbove 32 bytes)
     → AreAbove 32 (b ∷ bytes)
 above-step b bytes true e h k = (grind (arith, nat_tests, e), k h)
 above-step b bytes false e h k = cc
@@ -36,7 +37,8 @@ all_below : ℕ → (ℕ → Bool) → Bool
 all_below zero test = true
 all_below (suc m) test = cond (test m) (all_below m test) false
 
-below-step : (m : ℕ) (test : ℕ → Bool) (t : Bool) → test m ≡ t → cond t (all_below m test) false ≡ true → (all_below m test ≡ true → (k : ℕ) → k < m → test k ≡ true)
+below-step : (m : ℕ) (test : ℕ → Bool) (t : Bool) → test m ≡ t → cond t (all_below m test) false ≡ true
+    → (all_below m test ≡ true → (k : ℕ) → k < m → test k ≡ true)
     → (k : ℕ) → k < suc m → test k ≡ true
 below-step m test true e h f k lt = below_more (λ j. test j ≡ true) m (f h) e k (omega arith)
 below-step m test false e h f k lt = cc
@@ -74,10 +76,10 @@ bytes_told [] [] f g e = refl
 bytes_told [] (b ∷ ls) f g e = cc
 bytes_told (a ∷ ks) [] f g e = cc
 bytes_told (a ∷ ks) (b ∷ ls) f g e =
-    let after_high = cons_tail (hex_digit (a / 16)) (hex_digit (b / 16)) (hex_digit (a % 16) ∷ flat_map hex_byte ks) (hex_digit (b % 16) ∷ flat_map hex_byte ls) e in
-    let high = digit_told (a / 16) (b / 16) (omega (arith, f.0)) (omega (arith, g.0)) (cons_head (hex_digit (a / 16)) (hex_digit (b / 16)) (hex_digit (a % 16) ∷ flat_map hex_byte ks) (hex_digit (b % 16) ∷ flat_map hex_byte ls) e) in
-    let low = digit_told (a % 16) (b % 16) (omega arith) (omega arith) (cons_head (hex_digit (a % 16)) (hex_digit (b % 16)) (flat_map hex_byte ks) (flat_map hex_byte ls) after_high) in
-    let rest = bytes_told ks ls f.1 g.1 (cons_tail (hex_digit (a % 16)) (hex_digit (b % 16)) (flat_map hex_byte ks) (flat_map hex_byte ls) after_high) in
+    let after_high = cons_tail e in
+    let high = digit_told (a / 16) (b / 16) (omega (arith, f.0)) (omega (arith, g.0)) (cons_head e) in
+    let low = digit_told (a % 16) (b % 16) (omega arith) (omega arith) (cons_head after_high) in
+    let rest = bytes_told ks ls f.1 g.1 (cons_tail after_high) in
     let same : a ≡ b = omega (arith, high, low) in
     ap (λ n. n ∷ ks) same ∙ ap (λ l. b ∷ l) rest
 
@@ -106,11 +108,11 @@ digits-above (c ∷ cs) d = (omega (arith, digit_from_value c d.0), digits-above
 form_of : List ℕ → Narrow
 form_of text =
     cond (bytes_eq text (codes "s8")) S8
-      (cond (bytes_eq text (codes "s16")) S16
-        (cond (bytes_eq text (codes "s32")) S32
-          (cond (bytes_eq text (codes "u8")) U8
-            (cond (bytes_eq text (codes "u16")) U16
-              (U32)))))
+    (cond (bytes_eq text (codes "s16")) S16
+    (cond (bytes_eq text (codes "s32")) S32
+    (cond (bytes_eq text (codes "u8")) U8
+    (cond (bytes_eq text (codes "u16")) U16
+    (U32)))))
 
 form-read : (form : Narrow) → form_of (form_text form) ≡ form
 unfolding form_of
@@ -132,18 +134,18 @@ form-above U32 = above-tested (form_text U32) refl
 check_of : List ℕ → Check
 check_of text =
     cond (bytes_eq text (codes "NULL")) check.Null
-      (cond (bytes_eq text (codes "BOUNDS")) check.Bounds
-        (cond (bytes_eq text (codes "WBOUNDS")) check.Wbounds
-          (cond (bytes_eq text (codes "BASE")) check.Base
-            (cond (bytes_eq text (codes "RANGE")) check.Range
-              (cond (bytes_eq text (codes "TAG")) check.Tag
-                (cond (bytes_eq text (codes "ALIGN")) check.Align
-                  (cond (bytes_eq text (codes "CAST")) check.Cast
-                    (cond (bytes_eq text (codes "ESCAPE")) check.Escape
-                      (cond (bytes_eq text (codes "FUN")) check.Fun
-                        (cond (bytes_eq text (codes "SAME")) check.Same
-                          (cond (bytes_eq text (codes "DIVIDE")) check.Divide
-                            (check.Depth))))))))))))
+    (cond (bytes_eq text (codes "BOUNDS")) check.Bounds
+    (cond (bytes_eq text (codes "WBOUNDS")) check.Wbounds
+    (cond (bytes_eq text (codes "BASE")) check.Base
+    (cond (bytes_eq text (codes "RANGE")) check.Range
+    (cond (bytes_eq text (codes "TAG")) check.Tag
+    (cond (bytes_eq text (codes "ALIGN")) check.Align
+    (cond (bytes_eq text (codes "CAST")) check.Cast
+    (cond (bytes_eq text (codes "ESCAPE")) check.Escape
+    (cond (bytes_eq text (codes "FUN")) check.Fun
+    (cond (bytes_eq text (codes "SAME")) check.Same
+    (cond (bytes_eq text (codes "DIVIDE")) check.Divide
+    (check.Depth))))))))))))
 
 check-read : (c : Check) → check_of (check_name c) ≡ c
 unfolding check_of
@@ -179,8 +181,8 @@ check-above check.Depth = above-tested (check_name check.Depth) refl
 tag_told : (s t : Bool) → tag_text s ≡ tag_text t → s ≡ t
 tag_told true true e = refl
 tag_told false false e = refl
-tag_told true false e = absurd (omega (arith, cons_head 87 84 [] [] e))
-tag_told false true e = absurd (omega (arith, cons_head 84 87 [] [] e))
+tag_told true false e = absurd (omega (arith, cons_head e))
+tag_told false true e = absurd (omega (arith, cons_head e))
 
 tag-above : (tagged : Bool) → AreAbove 32 (tag_text tagged)
 tag-above true = above-tested (tag_text true) refl
@@ -208,11 +210,12 @@ pub fields-above : (fs : List Field) → Each IsFieldInRange fs → Each (AreAbo
 fields-above [] h = tt
 fields-above (f ∷ fs) h = (field-above f h.0, fields-above fs h.1)
 
-pub fields_told : (fs gs : List Field) → map writing fs ≡ map writing gs → Each IsFieldInRange fs → Each IsFieldInRange gs → map field_text fs ≡ map field_text gs → fs ≡ gs
+pub fields_told : (fs gs : List Field) → map writing fs ≡ map writing gs → Each IsFieldInRange fs → Each IsFieldInRange gs
+    → map field_text fs ≡ map field_text gs → fs ≡ gs
 fields_told [] [] w p q e = refl
 fields_told [] (g ∷ gs) w p q e = cc
 fields_told (f ∷ fs) [] w p q e = cc
 fields_told (f ∷ fs) (g ∷ gs) w p q e =
-    let head = field_told f g (cons_head (writing f) (writing g) (map writing fs) (map writing gs) w) p.0 q.0 (cons_head (field_text f) (field_text g) (map field_text fs) (map field_text gs) e) in
-    let tail = fields_told fs gs (cons_tail (writing f) (writing g) (map writing fs) (map writing gs) w) p.1 q.1 (cons_tail (field_text f) (field_text g) (map field_text fs) (map field_text gs) e) in
+    let head = field_told f g (cons_head w) p.0 q.0 (cons_head e) in
+    let tail = fields_told fs gs (cons_tail w) p.1 q.1 (cons_tail e) in
     ap (λ x. x ∷ fs) head ∙ ap (λ l. g ∷ l) tail

@@ -1,20 +1,16 @@
 -- The lines of a program are written as their names say.
-use Rattle.std.proofs.Common.{ℕ, ◌<◌, List, [], ◌∷◌, ◌++◌, ◌≡◌, ◌∙◌, map, refl, arith}
+use Rattle.std.proofs.Common.{List, [], ◌∷◌, ◌++◌, map, refl}
 use Rattle.std.specs.Prelude.{flat_map, codes}
 use Rattle.std.specs.List.{AllByRecursion as Each}
 use Rattle.cured_code.specs.declared.instr.Instr.{Instr, Row_of-Instr, end_of-Instr, more_of-Instr}
 use Rattle.cured_code.specs.declared.instr.Instr.TheVariants as instr
-use Rattle.cured_code.specs.declared.parts.Sig.{Sig}
-use Rattle.cured_code.specs.declared.parts.AreaLine.{AreaLine}
-use Rattle.cured_code.specs.declared.parts.GlobalLine.{GlobalLine}
 use Rattle.cured_code.specs.declared.parts.Function.{Function}
 use Rattle.cured_code.specs.declared.parts.Parts.{Parts}
 use Rattle.cured_spelling.specs.Lines.{Line}
-use Rattle.cured_spelling.specs.Spelling.{lines_of, lines_of_row, line_of, else_line, end_line, code_lines, sig_line, node_line, area_line, function_line, local_line, body_lines, counted, parts_lines, program_lines}
+use Rattle.cured_spelling.specs.Spelling.{lines_of, lines_of_row, line_of, else_line, end_line, code_lines, sig_line, node_line, area_line, function_line, local_line, body_lines, counted, program_lines}
 use Rattle.cured_spelling.specs.Told.{IsWritten}
 use Rattle.cured_spelling.proofs.Cuts.{each-append}
 use Rattle.cured_spelling.proofs.FieldLaws.{above-tested}
-use Rattle.cured_spelling.proofs.RowLaws.{part-lines}
 
 first-written : (i : Instr) → IsWritten (line_of i)
 first-written (instr.Const v n) = record { name = above-tested (codes "const") refl; fields = refl }
@@ -125,9 +121,15 @@ mutual
   instr-written (instr.Put a) = (first-written (instr.Put a), tt)
   instr-written (instr.Exit a) = (first-written (instr.Exit a), tt)
   instr-written (instr.Check check place a) = (first-written (instr.Check check place a), tt)
-  instr-written (instr.If' a s x t y) = (first-written (instr.If' a s x t y), each-append IsWritten (lines_of_row x) (else_line ∷ (lines_of_row y ++ (end_line ∷ []))) (row-written x) (else-written, each-append IsWritten (lines_of_row y) (end_line ∷ []) (row-written y) (end-written, tt)))
-  instr-written (instr.Block' s x) = (first-written (instr.Block' s x), each-append IsWritten (lines_of_row x) (end_line ∷ []) (row-written x) (end-written, tt))
-  instr-written (instr.Loop' s x) = (first-written (instr.Loop' s x), each-append IsWritten (lines_of_row x) (end_line ∷ []) (row-written x) (end-written, tt))
+  instr-written (instr.If' a s x t y) = (
+    first-written (instr.If' a s x t y),
+    each-append IsWritten (lines_of_row x) (else_line ∷ (lines_of_row y ++ (end_line ∷ [])))
+        (row-written x) (else-written, each-append IsWritten (lines_of_row y) (end_line ∷ []) (row-written y) (end-written, tt)),
+  )
+  instr-written (instr.Block' s x) =
+      (first-written (instr.Block' s x), each-append IsWritten (lines_of_row x) (end_line ∷ []) (row-written x) (end-written, tt))
+  instr-written (instr.Loop' s x) =
+      (first-written (instr.Loop' s x), each-append IsWritten (lines_of_row x) (end_line ∷ []) (row-written x) (end-written, tt))
   instr-written (instr.Break k) = (first-written (instr.Break k), tt)
   instr-written (instr.Return a) = (first-written (instr.Return a), tt)
 
@@ -145,8 +147,12 @@ each-written f h (x ∷ xs) = (h x, each-written f h xs)
 
 body-written : (f : Function) → Each IsWritten (body_lines f)
 body-written f =
-    each-append IsWritten (map local_line f.locals) (code_lines f.body.0.items ++ (end_line ∷ [])) (each-written local_line (λ a. record { name = above-tested (codes "local") refl; fields = refl }) f.locals)
-      (each-append IsWritten (code_lines f.body.0.items) (end_line ∷ []) (code-written f.body.0.items) (end-written, tt))
+    each-append IsWritten (map local_line f.locals) (code_lines f.body.0.items ++ (end_line ∷ [])) (each-written local_line (λ a. record {
+      name =
+          above-tested (codes "local") refl;
+      fields = refl;
+    }) f.locals)
+    (each-append IsWritten (code_lines f.body.0.items) (end_line ∷ []) (code-written f.body.0.items) (end-written, tt))
 
 bodies-written : (fs : List Function) → Each IsWritten (flat_map body_lines fs)
 bodies-written [] = tt
@@ -159,13 +165,43 @@ program-written p =
     let nodes = counted (codes "nodes") node_line p.nodes in
     let globals = counted (codes "globals") area_line p.globals in
     let functions = counted (codes "functions") function_line p.functions in
-    let bodies = flat_map body_lines p.functions in
-    (record { name = above-tested (codes "ccured") refl; fields = refl }, each-append IsWritten sigs (nodes ++ (globals ++ (functions ++ bodies)))
-      (record { name = above-tested (codes "sigs") refl; fields = refl }, each-written sig_line (λ x. record { name = above-tested (codes "sig") refl; fields = refl }) p.sigs)
-      (each-append IsWritten nodes (globals ++ (functions ++ bodies))
-        (record { name = above-tested (codes "nodes") refl; fields = refl }, each-written node_line (λ x. record { name = above-tested (codes "node") refl; fields = refl }) p.nodes)
-        (each-append IsWritten globals (functions ++ bodies)
-          (record { name = above-tested (codes "globals") refl; fields = refl }, each-written area_line (λ x. record { name = above-tested (codes "area") refl; fields = refl }) p.globals)
-          (each-append IsWritten functions bodies
-            (record { name = above-tested (codes "functions") refl; fields = refl }, each-written function_line (λ x. record { name = above-tested (codes "fn") refl; fields = refl }) p.functions)
-            (bodies-written p.functions)))))
+    let bodies = flat_map body_lines p.functions in (
+      record { name = above-tested (codes "ccured") refl; fields = refl },
+      each-append IsWritten sigs (nodes ++ (globals ++ (functions ++ bodies))) (
+        record {
+          name =
+              above-tested (codes "sigs") refl;
+          fields =
+              refl;
+        },
+        each-written sig_line (λ x. record { name = above-tested (codes "sig") refl; fields = refl }) p.sigs,
+      )
+          (each-append IsWritten nodes (globals ++ (functions ++ bodies)) (
+            record {
+              name =
+                  above-tested (codes "nodes") refl;
+              fields =
+                  refl;
+            },
+            each-written node_line (λ x. record { name = above-tested (codes "node") refl; fields = refl }) p.nodes,
+          )
+          (each-append IsWritten globals (functions ++ bodies) (
+            record {
+              name =
+                  above-tested (codes "globals") refl;
+              fields =
+                  refl;
+            },
+            each-written area_line (λ x. record { name = above-tested (codes "area") refl; fields = refl }) p.globals,
+          )
+          (each-append IsWritten functions bodies (
+            record {
+              name =
+                  above-tested (codes "functions") refl;
+              fields =
+                  refl;
+            },
+            each-written function_line (λ x. record { name = above-tested (codes "fn") refl; fields = refl }) p.functions,
+          )
+          (bodies-written p.functions)))),
+    )

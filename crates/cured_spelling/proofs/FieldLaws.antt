@@ -14,7 +14,8 @@ use Rattle.cc_base.specs.Names.{check_name}
 use Rattle.cured_code.specs.declared.instr.Narrow.{Narrow}
 use Rattle.cured_code.specs.declared.instr.Narrow.TheVariants.{S8, S16, S32, U8, U16, U32}
 use Rattle.cured_spelling.specs.Lines.{Field, Number, Form, Name, Tag, Hex, form_text, tag_text, hex_digit, hex_byte, hex_text, field_text}
-use Rattle.cured_spelling.specs.Told.{writing, IsFieldInRange}
+use Rattle.cured_spelling.specs.InRange.{IsFieldInRange}
+use Rattle.cured_spelling.proofs.Writings.{writing}
 use Rattle.cured_spelling.proofs.Cuts.{cons_head, cons_tail, AreAbove}
 
 -- Tests of all

@@ -4,7 +4,8 @@ use Rattle.std.proofs.lemmas.List.{length-map}
 use Rattle.std.specs.Prelude.{flat_map}
 use Rattle.std.specs.List.{AllByRecursion as Each}
 use Rattle.cured_spelling.specs.Lines.{Field, Line, field_text, fields_text, words_text, line_text}
-use Rattle.cured_spelling.specs.Told.{writings, IsFieldInRange, AreLinesInRange, IsWritten}
+use Rattle.cured_spelling.specs.InRange.{IsFieldInRange, AreLinesInRange}
+use Rattle.cured_spelling.proofs.Writings.{writings, IsWritten}
 use Rattle.cured_spelling.proofs.Cuts.{cons_head, cons_tail, each-append, AreAbove, ended, ended_told}
 use Rattle.cured_spelling.proofs.FieldLaws.{field-above, fields-above, fields_told}
 

@@ -2,7 +2,7 @@
 use Rattle.std.proofs.Common.{◌≡◌}
 use Rattle.cured_code.specs.declared.parts.Parts.{Parts}
 use Rattle.cured_spelling.specs.Spelling.{program_lines, cured_spelling}
-use Rattle.cured_spelling.specs.Told.{AreNumbersInRange}
+use Rattle.cured_spelling.specs.InRange.{AreNumbersInRange}
 use Rattle.cured_spelling.specs.Plain.{plain}
 use Rattle.cured_spelling.proofs.LineLaws.{lines_told}
 use Rattle.cured_spelling.proofs.WrittenLaws.{program-written}

@@ -8,7 +8,7 @@ use Rattle.cured_code.specs.declared.parts.Function.{Function}
 use Rattle.cured_code.specs.declared.parts.Parts.{Parts}
 use Rattle.cured_spelling.specs.Lines.{Line}
 use Rattle.cured_spelling.specs.Spelling.{lines_of, lines_of_row, line_of, else_line, end_line, code_lines, sig_line, node_line, area_line, function_line, local_line, body_lines, counted, program_lines}
-use Rattle.cured_spelling.specs.Told.{IsWritten}
+use Rattle.cured_spelling.proofs.Writings.{IsWritten}
 use Rattle.cured_spelling.proofs.Cuts.{each-append}
 use Rattle.cured_spelling.proofs.FieldLaws.{above-tested}
 

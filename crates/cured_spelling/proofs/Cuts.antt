@@ -12,13 +12,13 @@ module _ {X : Type 0} where
   tail_of [] = []
   tail_of (x ∷ xs) = xs
 
-  pub cons_head : (x y : X) (xs ys : List X) → x ∷ xs ≡ y ∷ ys → x ≡ y
+  pub cons_head : {x y : X} {xs ys : List X} → x ∷ xs ≡ y ∷ ys → x ≡ y
   unfolding head_or
-  cons_head x y xs ys e = ap (head_or x) e
+  cons_head {x} e = ap (head_or x) e
 
-  pub cons_tail : (x y : X) (xs ys : List X) → x ∷ xs ≡ y ∷ ys → xs ≡ ys
+  pub cons_tail : {x y : X} {xs ys : List X} → x ∷ xs ≡ y ∷ ys → xs ≡ ys
   unfolding tail_of
-  cons_tail x y xs ys e = ap tail_of e
+  cons_tail e = ap tail_of e
 
   pub each-append : (P : X → Type 0) (xs ys : List X) → Each P xs → Each P ys → Each P (xs ++ ys)
   each-append P [] ys h k = k
@@ -37,12 +37,12 @@ abbrev pub AreAbove : ℕ → List ℕ → Type 0
 AreAbove e bytes = Each (λ byte. e < byte) bytes
 
 pub cut : (e : ℕ) (a b r s : List ℕ) → AreAbove e a → AreAbove e b → a ++ (e ∷ r) ≡ b ++ (e ∷ s) → (a ≡ b) × (r ≡ s)
-cut e [] [] r s f g h = (refl, cons_tail e e r s h)
-cut e [] (y ∷ b) r s f g h = absurd (omega (arith, g.0, cons_head e y r (b ++ (e ∷ s)) h))
-cut e (x ∷ a) [] r s f g h = absurd (omega (arith, f.0, cons_head x e (a ++ (e ∷ r)) s h))
+cut e [] [] r s f g h = (refl, cons_tail h)
+cut e [] (y ∷ b) r s f g h = absurd (omega (arith, g.0, cons_head h))
+cut e (x ∷ a) [] r s f g h = absurd (omega (arith, f.0, cons_head h))
 cut e (x ∷ a) (y ∷ b) r s f g h =
-    let rest = cut e a b r s f.1 g.1 (cons_tail x y (a ++ (e ∷ r)) (b ++ (e ∷ s)) h) in
-    let head : x ≡ y = cons_head x y (a ++ (e ∷ r)) (b ++ (e ∷ s)) h in
+    let rest = cut e a b r s f.1 g.1 (cons_tail h) in
+    let head : x ≡ y = cons_head h in
     (ap (λ z. z ∷ a) head ∙ ap (λ l. y ∷ l) rest.0, rest.1)
 
 -- lists with an element after each

@@ -1,11 +1,12 @@
 -- Fields are told apart by how they are written.
-use Rattle.std.proofs.Common.{ℕ, zero, suc, ◌-◌, ◌/◌, ◌%◌, ◌<◌, Bool, true, false, List, [], ◌∷◌, ◌≡◌, ◌∙◌, map, ap, refl, sym, arith}
-use Rattle.std.specs.Prelude.{flat_map, cond, codes}
+use Rattle.std.proofs.Common.{ℕ, zero, suc, ◌-◌, ◌/◌, ◌%◌, ◌<◌, Bool, true, false, List, [], ◌∷◌, ◌≡◌, ◌∙◌, map, ap, refl, sym, arith, below_more}
+use Rattle.std.specs.Prelude.{nat_eq, nat_lt, flat_map, cond, codes}
 use Rattle.std.specs.Fmt.{decimal}
 use Rattle.std.specs.Str.{bytes_eq}
 use Rattle.std.specs.Str.Parse.{AllDigits}
 use Rattle.std.specs.List.{AllByRecursion as Each}
 use Rattle.std.proofs.lemmas.Fmt.{decimal_injective, decimal_is_IsNumeral}
+use Rattle.std.proofs.lemmas.Bool.Decides.{nat_tests}
 use Rattle.std.proofs.lemmas.Str.Parse.{digit_from_value}
 use Rattle.cc_base.specs.declared.fault.Check.{Check}
 use Rattle.cc_base.specs.declared.fault.Check.TheVariants as check
@@ -13,33 +14,60 @@ use Rattle.cc_base.specs.Names.{check_name}
 use Rattle.cured_code.specs.declared.instr.Narrow.{Narrow}
 use Rattle.cured_code.specs.declared.instr.Narrow.TheVariants.{S8, S16, S32, U8, U16, U32}
 use Rattle.cured_spelling.specs.Lines.{Field, Number, Form, Name, Tag, Hex, form_text, tag_text, hex_digit, hex_byte, hex_text, field_text}
-use Rattle.cured_spelling.specs.Told.{writing, IsFieldInRange}
+use Rattle.cured_spelling.specs.InRange.{IsFieldInRange}
+use Rattle.cured_spelling.proofs.Writings.{writing}
 use Rattle.cured_spelling.proofs.Cuts.{cons_head, cons_tail, AreAbove}
+
+-- Tests of all
+
+abbrev pub are_above : List ℕ → Bool
+are_above [] = true
+are_above (b ∷ bytes) = cond (nat_lt 32 b) (are_above bytes) false
+
+above-step : (b : ℕ) (bytes : List ℕ) (t : Bool) → nat_lt 32 b ≡ t → cond t (are_above bytes) false ≡ true
+    → (are_above bytes ≡ true → AreAbove 32 bytes)
+    → AreAbove 32 (b ∷ bytes)
+above-step b bytes true e h k = (grind (arith, nat_tests, e), k h)
+above-step b bytes false e h k = cc
+
+pub above-tested : (bytes : List ℕ) → are_above bytes ≡ true → AreAbove 32 bytes
+above-tested [] h = tt
+above-tested (b ∷ bytes) h = above-step b bytes (nat_lt 32 b) refl h (above-tested bytes)
+
+all_below : ℕ → (ℕ → Bool) → Bool
+all_below zero test = true
+all_below (suc m) test = cond (test m) (all_below m test) false
+
+below-step : (m : ℕ) (test : ℕ → Bool) (t : Bool) → test m ≡ t → cond t (all_below m test) false ≡ true
+    → (all_below m test ≡ true → (k : ℕ) → k < m → test k ≡ true)
+    → (k : ℕ) → k < suc m → test k ≡ true
+below-step m test true e h f k lt = below_more (λ j. test j ≡ true) m (f h) e k (omega arith)
+below-step m test false e h f k lt = cc
+
+below-tested : (m : ℕ) (test : ℕ → Bool) → all_below m test ≡ true → (k : ℕ) → k < m → test k ≡ true
+unfolding all_below
+below-tested zero test h k lt = absurd (omega arith)
+below-tested (suc m) test h k lt = below-step m test (test m) refl h (below-tested m test) k lt
 
 -- Hexadecimal digits
 
 digit_value : ℕ → ℕ
 digit_value c = cond (bytes_eq (c / 97 ∷ []) (0 ∷ [])) (c - 48) (c - 87)
 
+-- a digit is read back, and is above a space
+is_read : ℕ → Bool
+is_read n = cond (nat_eq (digit_value (hex_digit n)) n) (nat_lt 32 (hex_digit n)) false
+
+read-tested : (n : ℕ) (s t : Bool) → nat_eq (digit_value (hex_digit n)) n ≡ s → nat_lt 32 (hex_digit n) ≡ t → cond s t false ≡ true
+    → (digit_value (hex_digit n) ≡ n) × (32 < hex_digit n)
+read-tested n true true e f h = (grind (arith, nat_tests, e), grind (arith, nat_tests, f))
+read-tested n true false e f h = cc
+read-tested n false t e f h = cc
+
 digit-read : (n : ℕ) → n < 16 → (digit_value (hex_digit n) ≡ n) × (32 < hex_digit n)
-unfolding digit_value
-digit-read zero h = (refl, omega arith)
-digit-read (suc zero) h = (refl, omega arith)
-digit-read (suc (suc zero)) h = (refl, omega arith)
-digit-read (suc (suc (suc zero))) h = (refl, omega arith)
-digit-read (suc (suc (suc (suc zero)))) h = (refl, omega arith)
-digit-read (suc (suc (suc (suc (suc zero))))) h = (refl, omega arith)
-digit-read (suc (suc (suc (suc (suc (suc zero)))))) h = (refl, omega arith)
-digit-read (suc (suc (suc (suc (suc (suc (suc zero))))))) h = (refl, omega arith)
-digit-read (suc (suc (suc (suc (suc (suc (suc (suc zero)))))))) h = (refl, omega arith)
-digit-read (suc (suc (suc (suc (suc (suc (suc (suc (suc zero))))))))) h = (refl, omega arith)
-digit-read (suc (suc (suc (suc (suc (suc (suc (suc (suc (suc zero)))))))))) h = (refl, omega arith)
-digit-read (suc (suc (suc (suc (suc (suc (suc (suc (suc (suc (suc zero))))))))))) h = (refl, omega arith)
-digit-read (suc (suc (suc (suc (suc (suc (suc (suc (suc (suc (suc (suc zero)))))))))))) h = (refl, omega arith)
-digit-read (suc (suc (suc (suc (suc (suc (suc (suc (suc (suc (suc (suc (suc zero))))))))))))) h = (refl, omega arith)
-digit-read (suc (suc (suc (suc (suc (suc (suc (suc (suc (suc (suc (suc (suc (suc zero)))))))))))))) h = (refl, omega arith)
-digit-read (suc (suc (suc (suc (suc (suc (suc (suc (suc (suc (suc (suc (suc (suc (suc zero))))))))))))))) h = (refl, omega arith)
-digit-read (suc (suc (suc (suc (suc (suc (suc (suc (suc (suc (suc (suc (suc (suc (suc (suc n)))))))))))))))) h = absurd (omega arith)
+unfolding is_read all_below digit_value
+digit-read n h =
+    read-tested n (nat_eq (digit_value (hex_digit n)) n) (nat_lt 32 (hex_digit n)) refl refl (below-tested 16 is_read refl n h)
 
 digit_told : (m n : ℕ) → m < 16 → n < 16 → hex_digit m ≡ hex_digit n → m ≡ n
 digit_told m n p q e = sym (digit-read m p).0 ∙ ap digit_value e ∙ (digit-read n q).0
@@ -49,10 +77,10 @@ bytes_told [] [] f g e = refl
 bytes_told [] (b ∷ ls) f g e = cc
 bytes_told (a ∷ ks) [] f g e = cc
 bytes_told (a ∷ ks) (b ∷ ls) f g e =
-    let after_high = cons_tail (hex_digit (a / 16)) (hex_digit (b / 16)) (hex_digit (a % 16) ∷ flat_map hex_byte ks) (hex_digit (b % 16) ∷ flat_map hex_byte ls) e in
-    let high = digit_told (a / 16) (b / 16) (omega (arith, f.0)) (omega (arith, g.0)) (cons_head (hex_digit (a / 16)) (hex_digit (b / 16)) (hex_digit (a % 16) ∷ flat_map hex_byte ks) (hex_digit (b % 16) ∷ flat_map hex_byte ls) e) in
-    let low = digit_told (a % 16) (b % 16) (omega arith) (omega arith) (cons_head (hex_digit (a % 16)) (hex_digit (b % 16)) (flat_map hex_byte ks) (flat_map hex_byte ls) after_high) in
-    let rest = bytes_told ks ls f.1 g.1 (cons_tail (hex_digit (a % 16)) (hex_digit (b % 16)) (flat_map hex_byte ks) (flat_map hex_byte ls) after_high) in
+    let after_high = cons_tail e in
+    let high = digit_told (a / 16) (b / 16) (omega (arith, f.0)) (omega (arith, g.0)) (cons_head e) in
+    let low = digit_told (a % 16) (b % 16) (omega arith) (omega arith) (cons_head after_high) in
+    let rest = bytes_told ks ls f.1 g.1 (cons_tail after_high) in
     let same : a ≡ b = omega (arith, high, low) in
     ap (λ n. n ∷ ks) same ∙ ap (λ l. b ∷ l) rest
 
@@ -79,7 +107,13 @@ digits-above (c ∷ cs) d = (omega (arith, digit_from_value c d.0), digits-above
 -- Words
 
 form_of : List ℕ → Narrow
-form_of text = cond (bytes_eq text (codes "s8")) S8 (cond (bytes_eq text (codes "s16")) S16 (cond (bytes_eq text (codes "s32")) S32 (cond (bytes_eq text (codes "u8")) U8 (cond (bytes_eq text (codes "u16")) U16 (U32)))))
+form_of text =
+    cond (bytes_eq text (codes "s8")) S8
+    (cond (bytes_eq text (codes "s16")) S16
+    (cond (bytes_eq text (codes "s32")) S32
+    (cond (bytes_eq text (codes "u8")) U8
+    (cond (bytes_eq text (codes "u16")) U16
+    (U32)))))
 
 form-read : (form : Narrow) → form_of (form_text form) ≡ form
 unfolding form_of
@@ -91,15 +125,28 @@ form-read U16 = refl
 form-read U32 = refl
 
 form-above : (form : Narrow) → AreAbove 32 (form_text form)
-form-above S8 = (omega arith, (omega arith, tt))
-form-above S16 = (omega arith, (omega arith, (omega arith, tt)))
-form-above S32 = (omega arith, (omega arith, (omega arith, tt)))
-form-above U8 = (omega arith, (omega arith, tt))
-form-above U16 = (omega arith, (omega arith, (omega arith, tt)))
-form-above U32 = (omega arith, (omega arith, (omega arith, tt)))
+form-above S8 = above-tested (form_text S8) refl
+form-above S16 = above-tested (form_text S16) refl
+form-above S32 = above-tested (form_text S32) refl
+form-above U8 = above-tested (form_text U8) refl
+form-above U16 = above-tested (form_text U16) refl
+form-above U32 = above-tested (form_text U32) refl
 
 check_of : List ℕ → Check
-check_of text = cond (bytes_eq text (codes "NULL")) check.Null (cond (bytes_eq text (codes "BOUNDS")) check.Bounds (cond (bytes_eq text (codes "WBOUNDS")) check.Wbounds (cond (bytes_eq text (codes "BASE")) check.Base (cond (bytes_eq text (codes "RANGE")) check.Range (cond (bytes_eq text (codes "TAG")) check.Tag (cond (bytes_eq text (codes "ALIGN")) check.Align (cond (bytes_eq text (codes "CAST")) check.Cast (cond (bytes_eq text (codes "ESCAPE")) check.Escape (cond (bytes_eq text (codes "FUN")) check.Fun (cond (bytes_eq text (codes "SAME")) check.Same (cond (bytes_eq text (codes "DIVIDE")) check.Divide (check.Depth))))))))))))
+check_of text =
+    cond (bytes_eq text (codes "NULL")) check.Null
+    (cond (bytes_eq text (codes "BOUNDS")) check.Bounds
+    (cond (bytes_eq text (codes "WBOUNDS")) check.Wbounds
+    (cond (bytes_eq text (codes "BASE")) check.Base
+    (cond (bytes_eq text (codes "RANGE")) check.Range
+    (cond (bytes_eq text (codes "TAG")) check.Tag
+    (cond (bytes_eq text (codes "ALIGN")) check.Align
+    (cond (bytes_eq text (codes "CAST")) check.Cast
+    (cond (bytes_eq text (codes "ESCAPE")) check.Escape
+    (cond (bytes_eq text (codes "FUN")) check.Fun
+    (cond (bytes_eq text (codes "SAME")) check.Same
+    (cond (bytes_eq text (codes "DIVIDE")) check.Divide
+    (check.Depth))))))))))))
 
 check-read : (c : Check) → check_of (check_name c) ≡ c
 unfolding check_of
@@ -118,29 +165,29 @@ check-read check.Divide = refl
 check-read check.Depth = refl
 
 check-above : (c : Check) → AreAbove 32 (check_name c)
-check-above check.Null = (omega arith, (omega arith, (omega arith, (omega arith, tt))))
-check-above check.Bounds = (omega arith, (omega arith, (omega arith, (omega arith, (omega arith, (omega arith, tt))))))
-check-above check.Wbounds = (omega arith, (omega arith, (omega arith, (omega arith, (omega arith, (omega arith, (omega arith, tt)))))))
-check-above check.Base = (omega arith, (omega arith, (omega arith, (omega arith, tt))))
-check-above check.Range = (omega arith, (omega arith, (omega arith, (omega arith, (omega arith, tt)))))
-check-above check.Tag = (omega arith, (omega arith, (omega arith, tt)))
-check-above check.Align = (omega arith, (omega arith, (omega arith, (omega arith, (omega arith, tt)))))
-check-above check.Cast = (omega arith, (omega arith, (omega arith, (omega arith, tt))))
-check-above check.Escape = (omega arith, (omega arith, (omega arith, (omega arith, (omega arith, (omega arith, tt))))))
-check-above check.Fun = (omega arith, (omega arith, (omega arith, tt)))
-check-above check.Same = (omega arith, (omega arith, (omega arith, (omega arith, tt))))
-check-above check.Divide = (omega arith, (omega arith, (omega arith, (omega arith, (omega arith, (omega arith, tt))))))
-check-above check.Depth = (omega arith, (omega arith, (omega arith, (omega arith, (omega arith, tt)))))
+check-above check.Null = above-tested (check_name check.Null) refl
+check-above check.Bounds = above-tested (check_name check.Bounds) refl
+check-above check.Wbounds = above-tested (check_name check.Wbounds) refl
+check-above check.Base = above-tested (check_name check.Base) refl
+check-above check.Range = above-tested (check_name check.Range) refl
+check-above check.Tag = above-tested (check_name check.Tag) refl
+check-above check.Align = above-tested (check_name check.Align) refl
+check-above check.Cast = above-tested (check_name check.Cast) refl
+check-above check.Escape = above-tested (check_name check.Escape) refl
+check-above check.Fun = above-tested (check_name check.Fun) refl
+check-above check.Same = above-tested (check_name check.Same) refl
+check-above check.Divide = above-tested (check_name check.Divide) refl
+check-above check.Depth = above-tested (check_name check.Depth) refl
 
 tag_told : (s t : Bool) → tag_text s ≡ tag_text t → s ≡ t
 tag_told true true e = refl
 tag_told false false e = refl
-tag_told true false e = absurd (omega (arith, cons_head 87 84 [] [] e))
-tag_told false true e = absurd (omega (arith, cons_head 84 87 [] [] e))
+tag_told true false e = absurd (omega (arith, cons_head e))
+tag_told false true e = absurd (omega (arith, cons_head e))
 
 tag-above : (tagged : Bool) → AreAbove 32 (tag_text tagged)
-tag-above true = (omega arith, tt)
-tag-above false = (omega arith, tt)
+tag-above true = above-tested (tag_text true) refl
+tag-above false = above-tested (tag_text false) refl
 
 -- Fields
 
@@ -164,11 +211,12 @@ pub fields-above : (fs : List Field) → Each IsFieldInRange fs → Each (AreAbo
 fields-above [] h = tt
 fields-above (f ∷ fs) h = (field-above f h.0, fields-above fs h.1)
 
-pub fields_told : (fs gs : List Field) → map writing fs ≡ map writing gs → Each IsFieldInRange fs → Each IsFieldInRange gs → map field_text fs ≡ map field_text gs → fs ≡ gs
+pub fields_told : (fs gs : List Field) → map writing fs ≡ map writing gs → Each IsFieldInRange fs → Each IsFieldInRange gs
+    → map field_text fs ≡ map field_text gs → fs ≡ gs
 fields_told [] [] w p q e = refl
 fields_told [] (g ∷ gs) w p q e = cc
 fields_told (f ∷ fs) [] w p q e = cc
 fields_told (f ∷ fs) (g ∷ gs) w p q e =
-    let head = field_told f g (cons_head (writing f) (writing g) (map writing fs) (map writing gs) w) p.0 q.0 (cons_head (field_text f) (field_text g) (map field_text fs) (map field_text gs) e) in
-    let tail = fields_told fs gs (cons_tail (writing f) (writing g) (map writing fs) (map writing gs) w) p.1 q.1 (cons_tail (field_text f) (field_text g) (map field_text fs) (map field_text gs) e) in
+    let head = field_told f g (cons_head w) p.0 q.0 (cons_head e) in
+    let tail = fields_told fs gs (cons_tail w) p.1 q.1 (cons_tail e) in
     ap (λ x. x ∷ fs) head ∙ ap (λ l. g ∷ l) tail

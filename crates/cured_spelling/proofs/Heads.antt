@@ -72,58 +72,63 @@ fifth_field line = first_of (after_first (after_first (after_first (after_first 
 pub head : Line → Head
 unfolding number form_in check_in tag_in first_field second_field third_field fourth_field fifth_field
 head line =
-    cond (bytes_eq line.name (codes "const")) (One (instr.Const (number (first_field line)) (number (second_field line)))) (
-    cond (bytes_eq line.name (codes "copy")) (One (instr.Copy (number (first_field line)) (number (second_field line)))) (
-    cond (bytes_eq line.name (codes "ext")) (One (instr.Ext (number (first_field line)) (number (second_field line)) (form_in (third_field line)))) (
-    cond (bytes_eq line.name (codes "add")) (One (instr.Add (number (first_field line)) (number (second_field line)) (number (third_field line)))) (
-    cond (bytes_eq line.name (codes "sub")) (One (instr.Sub (number (first_field line)) (number (second_field line)) (number (third_field line)))) (
-    cond (bytes_eq line.name (codes "mul")) (One (instr.Mul (number (first_field line)) (number (second_field line)) (number (third_field line)))) (
-    cond (bytes_eq line.name (codes "and")) (One (instr.And (number (first_field line)) (number (second_field line)) (number (third_field line)))) (
-    cond (bytes_eq line.name (codes "or")) (One (instr.Or (number (first_field line)) (number (second_field line)) (number (third_field line)))) (
-    cond (bytes_eq line.name (codes "xor")) (One (instr.Xor (number (first_field line)) (number (second_field line)) (number (third_field line)))) (
-    cond (bytes_eq line.name (codes "shl")) (One (instr.Shl (number (first_field line)) (number (second_field line)) (number (third_field line)))) (
-    cond (bytes_eq line.name (codes "shr")) (One (instr.Shr (number (first_field line)) (number (second_field line)) (number (third_field line)))) (
-    cond (bytes_eq line.name (codes "sar")) (One (instr.Sar (number (first_field line)) (number (second_field line)) (number (third_field line)))) (
-    cond (bytes_eq line.name (codes "divu")) (One (instr.Divu (number (first_field line)) (number (second_field line)) (number (third_field line)))) (
-    cond (bytes_eq line.name (codes "divs")) (One (instr.Divs (number (first_field line)) (number (second_field line)) (number (third_field line)))) (
-    cond (bytes_eq line.name (codes "remu")) (One (instr.Remu (number (first_field line)) (number (second_field line)) (number (third_field line)))) (
-    cond (bytes_eq line.name (codes "rems")) (One (instr.Rems (number (first_field line)) (number (second_field line)) (number (third_field line)))) (
-    cond (bytes_eq line.name (codes "eq")) (One (instr.Eq (number (first_field line)) (number (second_field line)) (number (third_field line)))) (
-    cond (bytes_eq line.name (codes "ne")) (One (instr.Ne (number (first_field line)) (number (second_field line)) (number (third_field line)))) (
-    cond (bytes_eq line.name (codes "ltu")) (One (instr.Ltu (number (first_field line)) (number (second_field line)) (number (third_field line)))) (
-    cond (bytes_eq line.name (codes "lts")) (One (instr.Lts (number (first_field line)) (number (second_field line)) (number (third_field line)))) (
-    cond (bytes_eq line.name (codes "ld")) (One (instr.Ld (number (first_field line)) (number (second_field line)) (number (third_field line)))) (
-    cond (bytes_eq line.name (codes "st")) (One (instr.St (number (first_field line)) (number (second_field line)) (number (third_field line)))) (
-    cond (bytes_eq line.name (codes "ldw")) (One (instr.Ldw (number (first_field line)) (number (second_field line)) (number (third_field line)))) (
-    cond (bytes_eq line.name (codes "stw")) (One (instr.Stw (number (first_field line)) (number (second_field line)) (number (third_field line)))) (
-    cond (bytes_eq line.name (codes "move")) (One (instr.Move (number (first_field line)) (number (second_field line)) (number (third_field line)))) (
-    cond (bytes_eq line.name (codes "zero")) (One (instr.Zero (number (first_field line)) (number (second_field line)))) (
-    cond (bytes_eq line.name (codes "len")) (One (instr.Len (number (first_field line)) (number (second_field line)))) (
-    cond (bytes_eq line.name (codes "plain")) (One (instr.Plain (number (first_field line)) (number (second_field line)) (number (third_field line)) (number (fourth_field line)))) (
-    cond (bytes_eq line.name (codes "untag")) (One (instr.Untag (number (first_field line)) (number (second_field line)) (number (third_field line)))) (
-    cond (bytes_eq line.name (codes "tagged")) (One (instr.Tagged (number (first_field line)) (number (second_field line)) (number (third_field line)))) (
-    cond (bytes_eq line.name (codes "base")) (One (instr.Base (number (first_field line)) (number (second_field line)) (number (third_field line)))) (
-    cond (bytes_eq line.name (codes "mark")) (One (instr.Mark (number (first_field line)) (number (second_field line)) (number (third_field line)))) (
-    cond (bytes_eq line.name (codes "tmove")) (One (instr.Tmove (number (first_field line)) (number (second_field line)) (number (third_field line)) (number (fourth_field line)) (number (fifth_field line)))) (
-    cond (bytes_eq line.name (codes "tzero")) (One (instr.Tzero (number (first_field line)) (number (second_field line)) (number (third_field line)))) (
-    cond (bytes_eq line.name (codes "tdepth")) (One (instr.Tdepth (number (first_field line)) (number (second_field line)) (number (third_field line)) (number (fourth_field line)))) (
-    cond (bytes_eq line.name (codes "frame")) (One (instr.Frame (number (first_field line)) (number (second_field line)))) (
-    cond (bytes_eq line.name (codes "depth")) (One (instr.Depth (number (first_field line)) (number (second_field line)))) (
-    cond (bytes_eq line.name (codes "below")) (One (instr.Below (number (first_field line)) (number (second_field line)) (number (third_field line)))) (
-    cond (bytes_eq line.name (codes "sigof")) (One (instr.Sigof (number (first_field line)) (number (second_field line)))) (
-    cond (bytes_eq line.name (codes "room")) (One (instr.Room (number (first_field line)) (number (second_field line)))) (
-    cond (bytes_eq line.name (codes "new")) (One (instr.New (tag_in (first_field line)) (number (second_field line)) (number (third_field line)) (number (fourth_field line)))) (
-    cond (bytes_eq line.name (codes "call")) (One (instr.Call (number (first_field line)) (number (second_field line)) (number (third_field line)))) (
-    cond (bytes_eq line.name (codes "icall")) (One (instr.Icall (number (first_field line)) (number (second_field line)) (number (third_field line)) (number (fourth_field line)))) (
-    cond (bytes_eq line.name (codes "get")) (One (instr.Get (number (first_field line)))) (
-    cond (bytes_eq line.name (codes "put")) (One (instr.Put (number (first_field line)))) (
-    cond (bytes_eq line.name (codes "exit")) (One (instr.Exit (number (first_field line)))) (
-    cond (bytes_eq line.name (codes "check")) (One (instr.Check (check_in (first_field line)) (record { line = (number (second_field line)); col = (number (third_field line)) }) (number (fourth_field line)))) (
-    cond (bytes_eq line.name (codes "if")) (OpensIf (number (first_field line))) (
+    let a = number (first_field line) in
+    let b = number (second_field line) in
+    let c = number (third_field line) in
+    let d = number (fourth_field line) in
+    let e = number (fifth_field line) in
+    cond (bytes_eq line.name (codes "const")) (One (instr.Const a b)) (
+    cond (bytes_eq line.name (codes "copy")) (One (instr.Copy a b)) (
+    cond (bytes_eq line.name (codes "ext")) (One (instr.Ext a b (form_in (third_field line)))) (
+    cond (bytes_eq line.name (codes "add")) (One (instr.Add a b c)) (
+    cond (bytes_eq line.name (codes "sub")) (One (instr.Sub a b c)) (
+    cond (bytes_eq line.name (codes "mul")) (One (instr.Mul a b c)) (
+    cond (bytes_eq line.name (codes "and")) (One (instr.And a b c)) (
+    cond (bytes_eq line.name (codes "or")) (One (instr.Or a b c)) (
+    cond (bytes_eq line.name (codes "xor")) (One (instr.Xor a b c)) (
+    cond (bytes_eq line.name (codes "shl")) (One (instr.Shl a b c)) (
+    cond (bytes_eq line.name (codes "shr")) (One (instr.Shr a b c)) (
+    cond (bytes_eq line.name (codes "sar")) (One (instr.Sar a b c)) (
+    cond (bytes_eq line.name (codes "divu")) (One (instr.Divu a b c)) (
+    cond (bytes_eq line.name (codes "divs")) (One (instr.Divs a b c)) (
+    cond (bytes_eq line.name (codes "remu")) (One (instr.Remu a b c)) (
+    cond (bytes_eq line.name (codes "rems")) (One (instr.Rems a b c)) (
+    cond (bytes_eq line.name (codes "eq")) (One (instr.Eq a b c)) (
+    cond (bytes_eq line.name (codes "ne")) (One (instr.Ne a b c)) (
+    cond (bytes_eq line.name (codes "ltu")) (One (instr.Ltu a b c)) (
+    cond (bytes_eq line.name (codes "lts")) (One (instr.Lts a b c)) (
+    cond (bytes_eq line.name (codes "ld")) (One (instr.Ld a b c)) (
+    cond (bytes_eq line.name (codes "st")) (One (instr.St a b c)) (
+    cond (bytes_eq line.name (codes "ldw")) (One (instr.Ldw a b c)) (
+    cond (bytes_eq line.name (codes "stw")) (One (instr.Stw a b c)) (
+    cond (bytes_eq line.name (codes "move")) (One (instr.Move a b c)) (
+    cond (bytes_eq line.name (codes "zero")) (One (instr.Zero a b)) (
+    cond (bytes_eq line.name (codes "len")) (One (instr.Len a b)) (
+    cond (bytes_eq line.name (codes "plain")) (One (instr.Plain a b c d)) (
+    cond (bytes_eq line.name (codes "untag")) (One (instr.Untag a b c)) (
+    cond (bytes_eq line.name (codes "tagged")) (One (instr.Tagged a b c)) (
+    cond (bytes_eq line.name (codes "base")) (One (instr.Base a b c)) (
+    cond (bytes_eq line.name (codes "mark")) (One (instr.Mark a b c)) (
+    cond (bytes_eq line.name (codes "tmove")) (One (instr.Tmove a b c d e)) (
+    cond (bytes_eq line.name (codes "tzero")) (One (instr.Tzero a b c)) (
+    cond (bytes_eq line.name (codes "tdepth")) (One (instr.Tdepth a b c d)) (
+    cond (bytes_eq line.name (codes "frame")) (One (instr.Frame a b)) (
+    cond (bytes_eq line.name (codes "depth")) (One (instr.Depth a b)) (
+    cond (bytes_eq line.name (codes "below")) (One (instr.Below a b c)) (
+    cond (bytes_eq line.name (codes "sigof")) (One (instr.Sigof a b)) (
+    cond (bytes_eq line.name (codes "room")) (One (instr.Room a b)) (
+    cond (bytes_eq line.name (codes "new")) (One (instr.New (tag_in (first_field line)) b c d)) (
+    cond (bytes_eq line.name (codes "call")) (One (instr.Call a b c)) (
+    cond (bytes_eq line.name (codes "icall")) (One (instr.Icall a b c d)) (
+    cond (bytes_eq line.name (codes "get")) (One (instr.Get a)) (
+    cond (bytes_eq line.name (codes "put")) (One (instr.Put a)) (
+    cond (bytes_eq line.name (codes "exit")) (One (instr.Exit a)) (
+    cond (bytes_eq line.name (codes "check")) (One (instr.Check (check_in (first_field line)) (record { line = b; col = c }) d)) (
+    cond (bytes_eq line.name (codes "if")) (OpensIf a) (
     cond (bytes_eq line.name (codes "block")) (OpensBlock) (
     cond (bytes_eq line.name (codes "loop")) (OpensLoop) (
-    cond (bytes_eq line.name (codes "break")) (One (instr.Break (number (first_field line)))) (
-    cond (bytes_eq line.name (codes "return")) (One (instr.Return (number (first_field line)))) (
+    cond (bytes_eq line.name (codes "break")) (One (instr.Break a)) (
+    cond (bytes_eq line.name (codes "return")) (One (instr.Return a)) (
     cond (bytes_eq line.name (codes "else")) TurnsElse Ends))))))))))))))))))))))))))))))))))))))))))))))))))))
 
 unfoldable pub head_of : Instr → Head
@@ -236,10 +241,12 @@ one_told i j e = (ap (instr_in i) e, refl)
 -- instructions whose lines begin in one way
 pub same_head : (i j : Instr) (r s : List Line) → lines_of i ++ r ≡ lines_of j ++ s → head_of i ≡ head_of j
 same_head i j r s e =
-    let h : line_of i ∷ (held_lines i ++ r) ≡ line_of j ∷ (held_lines j ++ s) = ap (λ l. l ++ r) (sym (first_line i)) ∙ e ∙ ap (λ l. l ++ s) (first_line j) in
-    sym (head-read i) ∙ ap head (cons_head (line_of i) (line_of j) (held_lines i ++ r) (held_lines j ++ s) h) ∙ head-read j
+    let h : line_of i ∷ (held_lines i ++ r) ≡ line_of j ∷ (held_lines j ++ s) = ap (λ l. l ++ r) (sym (first_line i)) ∙ e
+    ∙ ap (λ l. l ++ s) (first_line j) in
+    sym (head-read i) ∙ ap head (cons_head h) ∙ head-read j
 
 pub same_rest : (i j : Instr) (r s : List Line) → lines_of i ++ r ≡ lines_of j ++ s → held_lines i ++ r ≡ held_lines j ++ s
 same_rest i j r s e =
-    let h : line_of i ∷ (held_lines i ++ r) ≡ line_of j ∷ (held_lines j ++ s) = ap (λ l. l ++ r) (sym (first_line i)) ∙ e ∙ ap (λ l. l ++ s) (first_line j) in
-    cons_tail (line_of i) (line_of j) (held_lines i ++ r) (held_lines j ++ s) h
+    let h : line_of i ∷ (held_lines i ++ r) ≡ line_of j ∷ (held_lines j ++ s) = ap (λ l. l ++ r) (sym (first_line i)) ∙ e
+    ∙ ap (λ l. l ++ s) (first_line j) in
+    cons_tail h

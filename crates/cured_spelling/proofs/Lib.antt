@@ -1,5 +1,6 @@
 pub mod RowLaws
 pub mod Cuts
+pub mod Writings
 pub mod FieldLaws
 pub mod LineLaws
 pub mod WrittenLaws

@@ -24,20 +24,21 @@ module _ {A : Type 0} (f : A → Line) where
   each_told [] (y ∷ ys) r s n e = absurd (omega (arith, n))
   each_told (x ∷ xs) [] r s n e = absurd (omega (arith, n))
   each_told (x ∷ xs) (y ∷ ys) r s n e =
-      let after = each_told xs ys r s (omega (arith, n)) (cons_tail (f x) (f y) (map f xs ++ r) (map f ys ++ s) e) in
-      (ap (λ l. l ∷ map f xs) (cons_head (f x) (f y) (map f xs ++ r) (map f ys ++ s) e) ∙ ap (λ l. f y ∷ l) after.0, after.1)
+      let after = each_told xs ys r s (omega (arith, n)) (cons_tail e) in
+      (ap (λ l. l ∷ map f xs) (cons_head e) ∙ ap (λ l. f y ∷ l) after.0, after.1)
 
   pub map_told : ((x y : A) → f x ≡ f y → x ≡ y) → (xs ys : List A) → map f xs ≡ map f ys → xs ≡ ys
   map_told h [] [] e = refl
   map_told h [] (y ∷ ys) e = cc
   map_told h (x ∷ xs) [] e = cc
-  map_told h (x ∷ xs) (y ∷ ys) e = ap (λ z. z ∷ xs) (h x y (cons_head (f x) (f y) (map f xs) (map f ys) e)) ∙ ap (λ l. y ∷ l) (map_told h xs ys (cons_tail (f x) (f y) (map f xs) (map f ys) e))
+  map_told h (x ∷ xs) (y ∷ ys) e = ap (λ z. z ∷ xs) (h x y (cons_head e)) ∙ ap (λ l. y ∷ l) (map_told h xs ys (cons_tail e))
 
   -- a count and a line for each
-  pub counted_told : (name : List ℕ) (xs ys : List A) (r s : List Line) → counted name f xs ++ r ≡ counted name f ys ++ s → (map f xs ≡ map f ys) × (r ≡ s)
+  pub counted_told : (name : List ℕ) (xs ys : List A) (r s : List Line) → counted name f xs ++ r ≡ counted name f ys ++ s
+      → (map f xs ≡ map f ys) × (r ≡ s)
   counted_told name xs ys r s e =
-      each_told xs ys r s (count_told name (length xs) (length ys) (cons_head (line name (length xs ∷ [])) (line name (length ys ∷ [])) (map f xs ++ r) (map f ys ++ s) e))
-      (cons_tail (line name (length xs ∷ [])) (line name (length ys ∷ [])) (map f xs ++ r) (map f ys ++ s) e)
+      each_told xs ys r s (count_told name (length xs) (length ys) (cons_head e))
+      (cons_tail e)
 
 sig_told : (a b : Sig) → sig_line a ≡ sig_line b → a ≡ b
 unfolding first_of after_first number tag_in bytes_in first_field second_field third_field
@@ -63,33 +64,38 @@ area_told a b e =
     ∙ ap (λ bytes. record { area = b.area; first = bytes }) (ap (λ l. bytes_in (third_field l)) e)
 
 body-lines : (f : Function) (r : List Line) → body_lines f ++ r ≡ map local_line f.locals ++ (code_lines f.body.0.items ++ (end_line ∷ r))
-body-lines f r = append_assoc (map local_line f.locals) (code_lines f.body.0.items ++ (end_line ∷ [])) r ∙ ap (λ l. map local_line f.locals ++ l) (append_assoc (code_lines f.body.0.items) (end_line ∷ []) r)
+body-lines f r = append_assoc (map local_line f.locals) (code_lines f.body.0.items ++ (end_line ∷ [])) r
+    ∙ ap (λ l. map local_line f.locals ++ l) (append_assoc (code_lines f.body.0.items) (end_line ∷ []) r)
 
 same-function : (f g : PlainFunction) → f.sig ≡ g.sig → f.slots ≡ g.slots → f.charge ≡ g.charge → f.locals ≡ g.locals → f.body ≡ g.body → f ≡ g
 same-function f g a b c d e =
-    ap (λ n. record { sig = n; slots = f.slots; charge = f.charge; locals = f.locals; body = f.body }) a ∙ ap (λ n. record { sig = g.sig; slots = n; charge = f.charge; locals = f.locals; body = f.body }) b
+    ap (λ n. record { sig = n; slots = f.slots; charge = f.charge; locals = f.locals; body = f.body }) a
+    ∙ ap (λ n. record { sig = g.sig; slots = n; charge = f.charge; locals = f.locals; body = f.body }) b
     ∙ ap (λ n. record { sig = g.sig; slots = g.slots; charge = n; locals = f.locals; body = f.body }) c
     ∙ ap (λ n. record { sig = g.sig; slots = g.slots; charge = g.charge; locals = n; body = f.body }) d
     ∙ ap (λ n. record { sig = g.sig; slots = g.slots; charge = g.charge; locals = g.locals; body = n }) e
 
-function_told : (f g : Function) (r s : List Line) → function_line f ≡ function_line g → body_lines f ++ r ≡ body_lines g ++ s → (plain_function f ≡ plain_function g) × (r ≡ s)
+function_told : (f g : Function) (r s : List Line) → function_line f ≡ function_line g → body_lines f ++ r ≡ body_lines g ++ s
+    → (plain_function f ≡ plain_function g) × (r ≡ s)
 unfolding first_of after_first number first_field second_field third_field fourth_field
 function_told f g r s e b =
     let locals = each_told local_line f.locals g.locals (code_lines f.body.0.items ++ (end_line ∷ r)) (code_lines g.body.0.items ++ (end_line ∷ s))
     (ap (λ l. number (fourth_field l)) e) (sym (body-lines f r) ∙ b ∙ body-lines g s) in
     let code = code_told f.body.0.items g.body.0.items r s locals.1 in (
-      same-function (plain_function f) (plain_function g) (ap (λ l. number (first_field l)) e) (ap (λ l. number (second_field l)) e) (ap (λ l. number (third_field l)) e)
+      same-function (plain_function f) (plain_function g)
+          (ap (λ l. number (first_field l)) e) (ap (λ l. number (second_field l)) e) (ap (λ l. number (third_field l)) e)
           (map_told local_line local_told f.locals g.locals locals.0) code.0,
       code.1,
     )
 
-functions_told : (fs gs : List Function) → map function_line fs ≡ map function_line gs → flat_map body_lines fs ≡ flat_map body_lines gs → map plain_function fs ≡ map plain_function gs
+functions_told : (fs gs : List Function) → map function_line fs ≡ map function_line gs → flat_map body_lines fs ≡ flat_map body_lines gs
+    → map plain_function fs ≡ map plain_function gs
 functions_told [] [] e b = refl
 functions_told [] (g ∷ gs) e b = cc
 functions_told (f ∷ fs) [] e b = cc
 functions_told (f ∷ fs) (g ∷ gs) e b =
-    let here = function_told f g (flat_map body_lines fs) (flat_map body_lines gs) (cons_head (function_line f) (function_line g) (map function_line fs) (map function_line gs) e) b in
-    ap (λ x. x ∷ map plain_function fs) here.0 ∙ ap (λ l. plain_function g ∷ l) (functions_told fs gs (cons_tail (function_line f) (function_line g) (map function_line fs) (map function_line gs) e) here.1)
+    let here = function_told f g (flat_map body_lines fs) (flat_map body_lines gs) (cons_head e) b in
+    ap (λ x. x ∷ map plain_function fs) here.0 ∙ ap (λ l. plain_function g ∷ l) (functions_told fs gs (cons_tail e) here.1)
 
 same-program : (p q : PlainProgram) → p.sigs ≡ q.sigs → p.nodes ≡ q.nodes → p.globals ≡ q.globals → p.functions ≡ q.functions → p ≡ q
 same-program p q a b c d =
@@ -112,7 +118,7 @@ program_told p q e =
     let s = counted (codes "sigs") sig_line p.sigs in
     let s2 = counted (codes "sigs") sig_line q.sigs in
     let first = line (codes "ccured") (1 ∷ []) in
-    let after_first = cons_tail first first (s ++ (n ++ (g ++ (f ++ b)))) (s2 ++ (n2 ++ (g2 ++ (f2 ++ b2)))) e in
+    let after_first = cons_tail e in
     let sigs = counted_told sig_line (codes "sigs") p.sigs q.sigs (n ++ (g ++ (f ++ b))) (n2 ++ (g2 ++ (f2 ++ b2))) after_first in
     let nodes = counted_told node_line (codes "nodes") p.nodes q.nodes (g ++ (f ++ b)) (g2 ++ (f2 ++ b2)) sigs.1 in
     let globals = counted_told area_line (codes "globals") p.globals q.globals (f ++ b) (f2 ++ b2) nodes.1 in

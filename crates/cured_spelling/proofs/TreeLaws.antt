@@ -15,7 +15,7 @@ true-not_false e = cc
 pub closing-apart : (c : Line) (i : Instr) (r s : List Line) → closes (head c) ≡ true → c ∷ r ≡ lines_of i ++ s → ⊥
 closing-apart c i r s k e =
     let h : c ∷ r ≡ line_of i ∷ (held_lines i ++ s) = e ∙ ap (λ l. l ++ s) (first_line i) in
-    true-not_false (sym k ∙ ap (λ l. closes (head l)) (cons_head c (line_of i) r (held_lines i ++ s) h) ∙ ap closes (head-read i) ∙ instr-opens i)
+    true-not_false (sym k ∙ ap (λ l. closes (head l)) (cons_head h) ∙ ap closes (head-read i) ∙ instr-opens i)
 
 -- Two lists of lines that begin with instructions': these have the same tree, and the same lines are left
 abbrev IsTold : Instr → Instr → List Line → List Line → Type 0
@@ -25,6 +25,10 @@ one-instr : (i j : Instr) (r s : List Line) → One i ≡ head_of i → [] ≡ h
 one-instr i j r s h k e =
     let both = one_told i j (h ∙ same_head i j r s e) in
     ((λ t. ap (λ x. then x t) both.0), ap (λ l. l ++ r) k ∙ same_rest i j r s e ∙ ap (λ l. l ++ s) (sym both.1))
+
+-- two lists, each in three parts
+regrouped : (a b r c d s : List Line) → (a ++ b) ++ r ≡ (c ++ d) ++ s → a ++ (b ++ r) ≡ c ++ (d ++ s)
+regrouped a b r c d s e = sym (append_assoc a b r) ∙ e ∙ append_assoc c d s
 
 if-lines : (x y r : List Line) → (x ++ (else_line ∷ (y ++ (end_line ∷ [])))) ++ r ≡ x ++ (else_line ∷ (y ++ (end_line ∷ r)))
 if-lines x y r = append_assoc x (else_line ∷ (y ++ (end_line ∷ []))) r ∙ ap (λ l. x ++ (else_line ∷ l)) (append_assoc y (end_line ∷ []) r)
@@ -46,18 +50,22 @@ mutual
       let inner = same_rest (instr.If' a u x v y) (instr.If' b u2 x2 v2 y2) r s e in
       let fst = row_told x x2 else_line else_line (lines_of_row y ++ (end_line ∷ r)) (lines_of_row y2 ++ (end_line ∷ s)) else-closes else-closes
       (sym (if-lines (lines_of_row x) (lines_of_row y) r) ∙ inner ∙ if-lines (lines_of_row x2) (lines_of_row y2) s) in
-      let snd = row_told y y2 end_line end_line r s end-closes end-closes (cons_tail else_line else_line (lines_of_row y ++ (end_line ∷ r)) (lines_of_row y2 ++ (end_line ∷ s)) fst.1) in
-      ((λ t. ap (λ n. If n (row_tree x) (row_tree y) t) number ∙ ap (λ z. If b z (row_tree y) t) fst.0 ∙ ap (λ z. If b (row_tree x2) z t) snd.0), cons_tail end_line end_line r s snd.1)
+      let snd = row_told y y2 end_line end_line r s end-closes end-closes (cons_tail fst.1) in (
+        (λ t. ap (λ n. If n (row_tree x) (row_tree y) t) number ∙ ap (λ z. If b z (row_tree y) t) fst.0 ∙ ap (λ z. If b (row_tree x2) z t) snd.0),
+        cons_tail snd.1,
+      )
   instr_told (instr.If' a u x v y) j r s e = absurd (let h = same_head (instr.If' a u x v y) j r s e in cc)
   instr_told (instr.Block' u x) (instr.Block' u2 x2) r s e =
       let inner = same_rest (instr.Block' u x) (instr.Block' u2 x2) r s e in
-      let part = row_told x x2 end_line end_line r s end-closes end-closes (sym (append_assoc (lines_of_row x) (end_line ∷ []) r) ∙ inner ∙ append_assoc (lines_of_row x2) (end_line ∷ []) s) in
-      ((λ t. ap (λ z. Block z t) part.0), cons_tail end_line end_line r s part.1)
+      let part = row_told x x2 end_line end_line r s end-closes end-closes
+      (regrouped (lines_of_row x) (end_line ∷ []) r (lines_of_row x2) (end_line ∷ []) s inner) in
+      ((λ t. ap (λ z. Block z t) part.0), cons_tail part.1)
   instr_told (instr.Block' u x) j r s e = absurd (let h = same_head (instr.Block' u x) j r s e in cc)
   instr_told (instr.Loop' u x) (instr.Loop' u2 x2) r s e =
       let inner = same_rest (instr.Loop' u x) (instr.Loop' u2 x2) r s e in
-      let part = row_told x x2 end_line end_line r s end-closes end-closes (sym (append_assoc (lines_of_row x) (end_line ∷ []) r) ∙ inner ∙ append_assoc (lines_of_row x2) (end_line ∷ []) s) in
-      ((λ t. ap (λ z. Loop z t) part.0), cons_tail end_line end_line r s part.1)
+      let part = row_told x x2 end_line end_line r s end-closes end-closes
+      (regrouped (lines_of_row x) (end_line ∷ []) r (lines_of_row x2) (end_line ∷ []) s inner) in
+      ((λ t. ap (λ z. Loop z t) part.0), cons_tail part.1)
   instr_told (instr.Loop' u x) j r s e = absurd (let h = same_head (instr.Loop' u x) j r s e in cc)
   instr_told i j r s e = one-instr i j r s refl refl e
 
@@ -70,16 +78,22 @@ mutual
   row_told (more_of-Instr i x) end_of-Instr c d r s k l e =
       absurd (closing-apart d i s (lines_of_row x ++ (c ∷ r)) l (sym e ∙ append_assoc (lines_of i) (lines_of_row x) (c ∷ r)))
   row_told (more_of-Instr i x) (more_of-Instr j y) c d r s k l e =
-      let here = instr_told i j (lines_of_row x ++ (c ∷ r)) (lines_of_row y ++ (d ∷ s)) (sym (append_assoc (lines_of i) (lines_of_row x) (c ∷ r)) ∙ e ∙ append_assoc (lines_of j) (lines_of_row y) (d ∷ s)) in
+      let here = instr_told i j (lines_of_row x ++ (c ∷ r)) (lines_of_row y ++ (d ∷ s))
+      (regrouped (lines_of i) (lines_of_row x) (c ∷ r) (lines_of j) (lines_of_row y) (d ∷ s) e) in
       let after = row_told x y c d r s k l here.1 in
       (here.0 (row_tree x) ∙ ap (then j) after.0, after.1)
 
 -- instructions in order, with a line after them that ends them
-pub code_told : (is js : List Instr) (r s : List Line) → code_lines is ++ (end_line ∷ r) ≡ code_lines js ++ (end_line ∷ s) → (tree is ≡ tree js) × (r ≡ s)
-code_told [] [] r s e = (refl, cons_tail end_line end_line r s e)
-code_told [] (j ∷ js) r s e = absurd (closing-apart end_line j r (code_lines js ++ (end_line ∷ s)) end-closes (e ∙ append_assoc (lines_of j) (code_lines js) (end_line ∷ s)))
-code_told (i ∷ is) [] r s e = absurd (closing-apart end_line i s (code_lines is ++ (end_line ∷ r)) end-closes (sym e ∙ append_assoc (lines_of i) (code_lines is) (end_line ∷ r)))
+pub code_told : (is js : List Instr) (r s : List Line) → code_lines is ++ (end_line ∷ r) ≡ code_lines js ++ (end_line ∷ s)
+    → (tree is ≡ tree js) × (r ≡ s)
+code_told [] [] r s e = (refl, cons_tail e)
+code_told [] (j ∷ js) r s e =
+    absurd (closing-apart end_line j r (code_lines js ++ (end_line ∷ s)) end-closes (e ∙ append_assoc (lines_of j) (code_lines js) (end_line ∷ s)))
+code_told (i ∷ is) [] r s e =
+    absurd (closing-apart end_line i s (code_lines is ++ (end_line ∷ r)) end-closes
+    (sym e ∙ append_assoc (lines_of i) (code_lines is) (end_line ∷ r)))
 code_told (i ∷ is) (j ∷ js) r s e =
-    let here = instr_told i j (code_lines is ++ (end_line ∷ r)) (code_lines js ++ (end_line ∷ s)) (sym (append_assoc (lines_of i) (code_lines is) (end_line ∷ r)) ∙ e ∙ append_assoc (lines_of j) (code_lines js) (end_line ∷ s)) in
+    let here = instr_told i j (code_lines is ++ (end_line ∷ r)) (code_lines js ++ (end_line ∷ s))
+    (regrouped (lines_of i) (code_lines is) (end_line ∷ r) (lines_of j) (code_lines js) (end_line ∷ s) e) in
     let after = code_told is js r s here.1 in
     (here.0 (tree is) ∙ ap (then j) after.0, after.1)

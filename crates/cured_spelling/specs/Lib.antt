@@ -1,4 +1,4 @@
 pub mod Lines
 pub mod Spelling
-pub mod Told
+pub mod InRange
 pub mod Plain

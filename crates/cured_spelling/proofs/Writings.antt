@@ -1,9 +1,8 @@
--- What a list of lines keeps where its text tells it from all others.
-use Rattle.std.specs.Prelude.{ℕ, ◌<◌, ◌^◌, ◌≡◌, List, [], ◌∷◌, length, map, cond, replicate, codes}
+-- How the words of lines are written, which their names tell.
+use Rattle.std.proofs.Common.{ℕ, ◌<◌, ◌≡◌, List, [], ◌∷◌, length, map}
+use Rattle.std.specs.Prelude.{cond, replicate, codes}
 use Rattle.std.specs.List.{AllByRecursion}
 use Rattle.std.specs.Str.{bytes_eq}
-use Rattle.cured_code.specs.declared.parts.Parts.{Parts}
-use Rattle.cured_spelling.specs.Spelling.{program_lines}
 use Rattle.cured_spelling.specs.Lines.{Field, Number, Form, Name, Tag, Hex, Line}
 
 -- how a field is written
@@ -30,23 +29,7 @@ writings name n =
     (cond (bytes_eq name (codes "area")) (TagWord ∷ Digits ∷ HexWord ∷ [])
     (cond (bytes_eq name (codes "local")) (TagWord ∷ Digits ∷ []) (replicate n Digits)))))
 
--- a number of a program fits 64 bits, and a byte of it 8
-abbrev pub IsFieldInRange : Field → Type 0
-IsFieldInRange (Number n) = n < 2 ^ 64
-IsFieldInRange (Form form) = Unit {0}
-IsFieldInRange (Name check) = Unit {0}
-IsFieldInRange (Tag tagged) = Unit {0}
-IsFieldInRange (Hex bytes) = AllByRecursion (λ byte. byte < 256) bytes
-
--- the numbers and bytes of lines are in range
-abbrev pub AreLinesInRange : List Line → Type 0
-AreLinesInRange = AllByRecursion (λ line. AllByRecursion IsFieldInRange line.fields)
-
 -- its name has bytes above the space alone, and its fields are written as its name says
 pub record IsWritten (line : Line) : Type 0 where
   pub name : AllByRecursion (λ byte. 32 < byte) line.name
   pub fields : map writing line.fields ≡ writings line.name (length line.fields)
-
--- the numbers and bytes of a program are in range, as those of its Rust types are
-abbrev pub AreNumbersInRange : Parts → Type 0
-AreNumbersInRange p = AreLinesInRange (program_lines p)

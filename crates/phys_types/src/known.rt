@@ -73,8 +73,8 @@ impl<'a> Known<'a> {
         })
     }
 
-    /// The layout of a type.
-    fn layout(&self, t: TypeId) -> &Layout
+    /// The layout of a type: its cells. It takes constant time.
+    pub fn layout(&self, t: TypeId) -> &Layout
         requires { IsType self.now t }
         ensures { IsLayoutOf self.now (physically_equal self.now) t result.now }
     {

@@ -31,3 +31,4 @@ pub use laws::{
     types_that_tile_begin_with_one_another,
 };
 pub use phys::Phys;
+pub use spot::{Item, Layout, Spot};

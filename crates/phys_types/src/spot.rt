@@ -7,7 +7,7 @@ use cc_base::{NodeId, TypeId};
 
 /// What stands in a layout where its bytes are not all raw.
 #[derive(Clone, Copy, Debug, PartialEq, Eq)]
-pub(crate) enum Item {
+pub enum Item {
     /// A pointer, by its node and the type that it points to.
     Pointer(NodeId, TypeId),
     /// A mixed union, with its number of bytes.
@@ -18,7 +18,7 @@ pub(crate) enum Item {
 
 impl Item {
     /// How many cells the item has.
-    pub(crate) fn size(self) -> u64
+    pub fn size(self) -> u64
         ensures { result ≡ item_size self }
     {
         match self {
@@ -31,16 +31,16 @@ impl Item {
 
 /// An item, and how many cells lie before it.
 #[derive(Clone, Copy, Debug, PartialEq, Eq)]
-pub(crate) struct Spot {
-    pub(crate) start: u64,
-    pub(crate) item: Item,
+pub struct Spot {
+    pub start: u64,
+    pub item: Item,
 }
 
 /// The cells of a type: how many there are, the items among them in order, and whether the type holds a pointer by value.
 /// The cells between the items are raw.
 #[derive(Debug, Drop)]
-pub(crate) struct Layout {
-    pub(crate) size: u64,
-    pub(crate) spots: Vec<Spot>,
-    pub(crate) holds: bool,
+pub struct Layout {
+    pub size: u64,
+    pub spots: Vec<Spot>,
+    pub holds: bool,
 }

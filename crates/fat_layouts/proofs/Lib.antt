@@ -1,0 +1,3 @@
+mod NodeCells
+mod StopLaws
+mod LayoutLaws

@@ -1,0 +1,66 @@
+#![tactic(auto)]
+
+ghost use Rattle.std.specs.Prelude.{◌≡◌, IfOk, length, slice_get, Some};
+ghost use Rattle.std.specs.List.{All};
+ghost use Rattle.std.specs.List.Sorted.{IsNonDecreasingBy};
+ghost use Rattle.c_types.specs.Flows.{kind_in};
+ghost use Rattle.fat_layouts.specs.Stops.{HasNode, IsLaid, item_width, all_stops, first_stop, IsLastPassed};
+
+use crate::widths::width;
+use cc_base::{Kinds, NoMemory};
+use phys_types::{Item, Spot};
+use std::alloc::Global;
+
+/// Where an item of a layout ends, as an offset in the source and as one in the cured program.
+#[derive(Clone, Copy, Debug, PartialEq, Eq)]
+pub(crate) struct Stop {
+    pub(crate) end: u64,
+    pub(crate) cured: u64,
+}
+
+/// The layout of a type: how many cells it has, and its stops, from the start on.
+#[derive(Debug, Drop)]
+pub(crate) struct CuredLayout {
+    pub(crate) size: u64,
+    pub(crate) stops: Vec<Stop>,
+}
+
+/// The bytes that an item takes once cured.
+fn item_width(kinds: &Kinds, item: Item) -> u64
+    requires { HasNode (length kinds.now) item }
+    ensures { result ≡ item_width (kind_in kinds.now) item }
+{
+    match item {
+        Item::Pointer(node, _) => width(kinds.kind_of(node)),
+        _ => item.size(),
+    }
+}
+
+/// The start of a type, and where the items at its spots end.
+pub(crate) fn stops_of(alloc: Global, kinds: &Kinds, spots: &[Spot]) -> Result<Vec<Stop>, NoMemory>
+    requires nodes { All (λ s. HasNode (length kinds.now) s.item) spots.now }
+    requires laid { IsLaid spots.now }
+    ensures { IfOk result (λ stops. stops.items ≡ all_stops (kind_in kinds.now) spots.now) }
+{
+    let mut last = Stop { end: 0, cured: 0 };
+    let mut stops = vec![in alloc; last; 1]?;
+    'spots: for spot in spots {
+        let cured = last.cured + (spot.start - last.end) + item_width(kinds, spot.item);
+        last = Stop {
+            end: spot.start + spot.item.size(),
+            cured,
+        };
+        stops.push(last)?;
+    }
+    Ok(stops)
+}
+
+/// The last of the stops that isn't behind an offset. It takes a number of steps that is logarithmic in theirs.
+pub(crate) fn last_passed(stops: &[Stop], offset: u64) -> Stop
+    requires ordered { IsNonDecreasingBy (λ s. s.end) stops.now }
+    requires first { slice_get stops.now 0 ≡ Some first_stop }
+    ensures { IsLastPassed stops.now offset result }
+{
+    let passed = stops.partition_point(|stop| stop.end <= offset);
+    stops[passed - 1]
+}

@@ -11,6 +11,7 @@ mod places;
 mod walk;
 
 pub use draft::{Draft, Scope};
+pub use operators::put_constant;
 pub use pieces::{choose, fail, keep, push, put, refuse, start};
 pub use places::{object_in, place_at};
 pub use walk::{expr, place};

@@ -1,5 +1,5 @@
 -- How drafts grow by blocks, loops and items.
-use Rattle.std.proofs.Common.{◌≡◌, ap, sym, subst, ◌∙◌, zero, ◌+◌, ◌<◌, add-one, map, take, get_or, length, arith, ℕ, suc, true, false, List, [], ◌∷◌, ◌++◌, append-nil, Some}
+use Rattle.std.proofs.Common.{◌≡◌, ap, sym, subst, ◌∙◌, zero, ◌+◌, ◌<◌, add-one, map, take, get_or, length, arith, ℕ, suc, true, false, List, [], ◌∷◌, ◌++◌, append-nil, append_assoc, pos, Some}
 use Rattle.cc_base.specs.declared.number.NodeId.{NodeId}
 use Rattle.cc_base.specs.declared.number.TypeId.{TypeId}
 use Rattle.cc_base.specs.declared.place.Place.{Place}
@@ -9,15 +9,20 @@ use Rattle.c_tree.specs.TypedTree.{TypedInitialiser}
 use Rattle.c_tree.specs.TypedStatementViews.{typed_block_item_view, typed_block_view, typed_init_declarator_view}
 use Rattle.c_tree.specs.declared.typed_statement.TypedBlockItem.{TypedBlockItem}
 use Rattle.c_tree.specs.declared.typed_statement.TypedInitDeclarator.{TypedInitDeclarator}
+use Rattle.cil_form.specs.declared.instr.Access.TheVariants as access
+use Rattle.cil_form.specs.declared.instr.Instr.{Instr}
 use Rattle.cil_form.specs.declared.instr.Instr.TheVariants as instr
+use Rattle.cil_form.specs.declared.instr.Set.TheVariants as set
+use Rattle.c_types.specs.Table.{Table}
+use Rattle.lower_statements.specs.Texts.{Byte}
 use Rattle.cil_form.specs.declared.number.Object.{Object}
-use Rattle.lower_rules.specs.Pieces.{Form, Line, Blocked, Looped, When}
-use Rattle.lower_rules.specs.Words.{Context, object_in}
-use Rattle.lower_rules.specs.Initialisers.{IsCodeOfDeclarators, IsCodeOfObject}
+use Rattle.lower_rules.specs.Pieces.{Form, Line, Then, Blocked, Looped, When}
+use Rattle.lower_rules.specs.Words.{Constant, Context, constant, object_in, value}
+use Rattle.lower_rules.specs.Initialisers.{Initialised, IsCodeOfDeclarators, IsCodeOfObject, part, text_code}
 use Rattle.lower_rules.specs.Statements.{IsCodeOfBlock, Nesting}
 use Rattle.lower_exprs.specs.declared.draft.Draft.{Draft}
 use Rattle.lower_exprs.specs.Drafts.{Grows, Starts}
-use Rattle.lower_exprs.specs.Ready.{HasObject}
+use Rattle.lower_exprs.specs.Ready.{HasObject, IsConstant}
 use Rattle.lower_statements.specs.Ready.{Fills, HasCodeOfBlock, HasCodeOfDeclarators}
 
 -- Blocks and loops. The draft of what is in them begins empty.
@@ -101,3 +106,47 @@ more_declarators ds i d k a c within at f =
     ≡ typed_init_declarator_view d (added typed.NoInitDeclarator (map typed_init_declarator_view (take i ds)))
     = rw add-one (one_more typed_init_declarator_view ds i d typed.NoInitDeclarator within at) in
     subst (λ all. Grows (IsCodeOfDeclarators all k) (HasCodeOfDeclarators all k) a c) (sym law) f
+
+-- String literals
+
+abbrev byte_code : Table → Initialised → TypeId → Place → ℕ → ℕ → List Instr
+byte_code table o char at base b =
+    instr.Set (set.Integer (value 0) (constant table char (pos b)) char) ∷ instr.Access (access.Store (part o base) (value 0) char at at) ∷ []
+
+text-more : (table : Table) (o : Initialised) (char : TypeId) (at : Place) (base : ℕ) (xs : List ℕ) (i b : ℕ) → i < length xs → b ≡ get_or xs i 0
+    → text_code table o char at base (take (suc i) xs) ≡ text_code table o char at base (take i xs) ++ byte_code table o char at (base + i) b
+text-more table o char at base [] i b within e = absurd (omega arith)
+text-more table o char at base (y ∷ ys) zero b within e =
+    let law : base ≡ base + zero = omega arith in
+    ap (λ n. byte_code table o char at n y) law ∙ ap (λ z. byte_code table o char at (base + zero) z) (sym e)
+text-more table o char at base (y ∷ ys) (suc i) b within e =
+    let law : base + 1 + i ≡ base + suc i = omega arith in
+    ap (λ m. instr.Set (set.Integer (value 0) (constant table char (pos y)) char) ∷ instr.Access (access.Store (part o base) (value 0) char at at) ∷ m)
+    (text-more table o char at (base + 1) ys i b (omega arith) e
+    ∙ ap (λ n. text_code table o char at (base + 1) (take i ys) ++ byte_code table o char at n b) law)
+
+pub more_text : (k : Context) (o : Initialised) (char : TypeId) (at : Place) (bytes : List ℕ) (i j b : ℕ) (a m c : Draft)
+    → i < length bytes → b ≡ get_or bytes i 0 → j ≡ i
+    → Grows (Line (text_code k.table o char at 0 (take i bytes))) (IsConstant k char) a m
+    → Grows (Byte k o char at j b) (IsConstant k char × Unit {0}) m c
+    → Grows (Line (text_code k.table o char at 0 (take (i + 1) bytes))) (IsConstant k char) a c
+unfolding Grows Line Then Constant
+more_text k o char at bytes i j b a m c within e same f g =
+    let number : j ≡ 0 + i = omega arith in
+    let law : text_code k.table o char at 0 (take (i + 1) bytes) ≡ text_code k.table o char at 0 (take i bytes) ++ byte_code k.table o char at (0 + i) b
+    = rw add-one (text-more k.table o char at 0 bytes i b within e) in (
+      λ fine.
+          let q = g.0 fine in let p = f.0 q.0 in let d = q.1.1 in (
+            p.0,
+            (
+              p.1.0 ++ q.1.0,
+              ap (λ z. z ++ q.1.0) p.1.1
+                  ∙ ap (λ z. text_code k.table o char at 0 (take i bytes) ++ z)
+                  (d.4 ∙ ap (λ z. z ++ d.1) d.2 ∙ ap (λ z. (instr.Set (set.Integer (value 0) (constant k.table char (pos b)) char) ∷ []) ++ z) d.3
+                  ∙ ap (λ n. byte_code k.table o char at n b) number)
+                  ∙ sym law,
+              q.1.2 ∙ ap (λ z. z ++ q.1.0) p.1.2 ∙ append_assoc a.items.items p.1.0 q.1.0,
+            ),
+          ),
+      λ r z. g.1 (r, tt) (f.1 r z),
+    )

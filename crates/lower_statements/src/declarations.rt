@@ -14,6 +14,7 @@ ghost use Rattle.lower_rules.specs.Words.{value};
 ghost use Rattle.lower_exprs.specs.Drafts.{context_of, Grows};
 ghost use Rattle.lower_statements.specs.Ready.{HasCodeOfDeclaration, HasCodeOfDeclarators, HasCodeOfDeclared, HasCodeOfInitialiser, HasCodeOfObject, Fills, initialised_of};
 
+use crate::text::{literal_in, put_text};
 use c_check_declarators::homes::home_of;
 use c_tree::{
     Home, TypedDeclaration, TypedDeclarator, TypedInitDeclarator, TypedInitialiser, TypedPlace,
@@ -26,9 +27,9 @@ use lower_rules::After;
 /// An object that is initialised, with its home and type.
 #[derive(Clone, Copy)]
 pub(crate) struct Whole {
-    object: Object,
-    home: NodeId,
-    ty: TypeId,
+    pub(crate) object: Object,
+    pub(crate) home: NodeId,
+    pub(crate) ty: TypeId,
 }
 
 /// Appends the code of a declaration.
@@ -70,7 +71,7 @@ fn declared_type(d: &TypedDeclarator) -> TypeId
 /// An object that lives as long as the program is initialised before `main` begins, and not where its declaration stands.
 #[tactic(auto, using(crate::proofs::Rules::nothing_rules))]
 fn declared(out: &mut Draft, k: &Scope<'_>, d: &TypedDeclarator, at: Place, i: &TypedInitialiser)
-    ensures { Grows (IsCodeOfDeclared (home_of (typed_declarator_view d.now)) (declared_type (typed_declarator_view d.now)) at (typed_initialiser_view i.now) (context_of k.now)) (HasCodeOfDeclared (home_of (typed_declarator_view d.now)) (typed_initialiser_view i.now) (context_of k.now)) out.old out.new }
+    ensures { Grows (IsCodeOfDeclared (home_of (typed_declarator_view d.now)) (declared_type (typed_declarator_view d.now)) at (typed_initialiser_view i.now) (context_of k.now)) (HasCodeOfDeclared (home_of (typed_declarator_view d.now)) (declared_type (typed_declarator_view d.now)) (typed_initialiser_view i.now) (context_of k.now)) out.old out.new }
 {
     match declared_home(d) {
         Home::Local(home) => initialise(out, k, home, declared_type(d), at, i),
@@ -91,7 +92,7 @@ fn initialise(
     at: Place,
     i: &TypedInitialiser,
 )
-    ensures { Grows (IsCodeOfObject home ty at (typed_initialiser_view i.now) (context_of k.now)) (HasCodeOfObject home (typed_initialiser_view i.now) (context_of k.now)) out.old out.new }
+    ensures { Grows (IsCodeOfObject home ty at (typed_initialiser_view i.now) (context_of k.now)) (HasCodeOfObject home ty (typed_initialiser_view i.now) (context_of k.now)) out.old out.new }
 {
     match object_in(k, home) {
         Some(object) => fill(out, k, Whole { object, home, ty }, at, i),
@@ -101,7 +102,7 @@ fn initialise(
 
 /// Appends the code of an object's initialiser.
 fn fill(out: &mut Draft, k: &Scope<'_>, o: Whole, at: Place, i: &TypedInitialiser)
-    ensures { Grows (Fills (initialised_of o) at (typed_initialiser_view i.now) (context_of k.now)) (HasCodeOfInitialiser (typed_initialiser_view i.now) (context_of k.now)) out.old out.new }
+    ensures { Grows (Fills (initialised_of o) at (typed_initialiser_view i.now) (context_of k.now)) (HasCodeOfInitialiser o.ty (typed_initialiser_view i.now) (context_of k.now)) out.old out.new }
 {
     match i {
         TypedInitialiser::Value(e) => {
@@ -109,9 +110,19 @@ fn fill(out: &mut Draft, k: &Scope<'_>, o: Whole, at: Place, i: &TypedInitialise
             put_part(out, o, at)
         }
         TypedInitialiser::Copied(p, from) => place(out, k, 0, p, copy_into(o, p, *from)),
-        TypedInitialiser::Text(_, _) => refuse(out),
+        TypedInitialiser::Text(_, bytes) => {
+            put_clear(out, o);
+            put_text(out, k, literal_in(k, o, at), bytes.as_slice())
+        }
         TypedInitialiser::Listed(_, _, _, _) => refuse(out),
     }
+}
+
+/// The whole object is set to zero.
+fn put_clear(out: &mut Draft, o: Whole)
+    ensures { Grows (Line (instr.Access (access.Clear o.object) ∷ [])) (Unit {0}) out.old out.new }
+{
+    put(out, Instr::Access(Access::Clear { object: o.object }))
 }
 
 /// Appends the store of value 0 into the whole object.

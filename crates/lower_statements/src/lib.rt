@@ -4,6 +4,7 @@
 mod declarations;
 mod nesting;
 mod pieces;
+mod text;
 mod walk;
 
 pub use nesting::Nesting;

@@ -15,7 +15,9 @@ returns-in-Copied c = rw (c.in-Copied.is, typed_initialiser-Copied)
     (grows_then _ _ _ _ _ _ _ (grows_nothing _ _) (rw c.copy_into.ensures at c.place.ensures))
 
 pub returns-in-Text : goal.returns-in-Text
-returns-in-Text c = rw (c.in-Text.is, typed_initialiser-Text) (grows_never _ _ _ c.refuse.ensures)
+unfolding Fills Clears
+returns-in-Text c = rw (c.in-Text.is, typed_initialiser-Text)
+    (grows_then _ _ _ _ _ _ _ c.put_clear.ensures (rw (c.literal_in.ensures, c.as_slice.ensures) at c.put_text.ensures))
 
 pub returns-in-Listed : goal.returns-in-Listed
-returns-in-Listed c = rw (c.in-Listed.is, typed_initialiser-Listed) (grows_never _ _ _ c.refuse-in-Listed.ensures)
+returns-in-Listed c = rw (c.in-Listed.is, typed_initialiser-Listed) (grows_never _ _ _ c.refuse.ensures)

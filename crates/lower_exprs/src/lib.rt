@@ -11,5 +11,7 @@ mod places;
 mod walk;
 
 pub use draft::{Draft, Scope};
-pub use pieces::{choose, push, put, refuse, start};
-pub use walk::expr;
+pub use operators::put_constant;
+pub use pieces::{choose, fail, keep, push, put, refuse, start};
+pub use places::{object_in, place_at};
+pub use walk::{expr, place};

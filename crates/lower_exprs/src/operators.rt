@@ -46,7 +46,7 @@ pub(crate) fn put_truth(out: &mut Draft, t: u8, n: u8)
 
 /// A constant of the type, converted to it.
 #[tactic(auto, using(crate::proofs::Rules::failed_rules), unfolding(lower_rules::specs::Words::Constant))]
-pub(crate) fn put_constant(out: &mut Draft, k: &Scope<'_>, t: u8, ty: TypeId, z: i128)
+pub fn put_constant(out: &mut Draft, k: &Scope<'_>, t: u8, ty: TypeId, z: i128)
     ensures { Grows (Constant (context_of k.now) t ty z) (IsConstant (context_of k.now) ty) out.old out.new }
 {
     let kind = constant_kind(k, ty);

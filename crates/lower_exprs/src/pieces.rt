@@ -48,7 +48,7 @@ pub fn refuse(out: &mut Draft)
 }
 
 /// Remembers that a part failed.
-fn fail(out: &mut Draft)
+pub fn fail(out: &mut Draft)
     ensures failed { out.new.fine ≡ false }
     ensures ready { out.new.ready ≡ out.old.ready }
 {

@@ -29,7 +29,7 @@ fn pieces_place(pieces: &[StringPiece]) -> Place
 
 /// Where the checks of a place stand.
 #[tactic(auto, using(c_tree::proofs::TypedViewLaws::typed_views))]
-pub(crate) fn place_at(p: &TypedPlace) -> Place
+pub fn place_at(p: &TypedPlace) -> Place
     ensures { result ≡ place_at (typed_place_view p.now) }
 {
     match p {
@@ -162,7 +162,7 @@ pub(crate) fn pointee_of(k: &Scope<'_>, t: TypeId) -> TypeId
 }
 
 /// The object with this home.
-pub(crate) fn object_in(k: &Scope<'_>, home: NodeId) -> Option<Object>
+pub fn object_in(k: &Scope<'_>, home: NodeId) -> Option<Object>
     ensures found { IfSome result (λ o. object_in (context_of k.now) home ≡ Some o) }
     ensures none { IfNone result (HasObject (context_of k.now) home → ⊥) }
 {

@@ -38,7 +38,7 @@ fn arguments(out: &mut Draft, k: &Scope<'_>, t: u8, all: &[TypedExpr])
 
 /// Appends the code of a place, which leaves its address in value t, and what comes after.
 #[cycle(lowering)]
-fn place(out: &mut Draft, k: &Scope<'_>, t: u8, p: &TypedPlace, after: After)
+pub fn place(out: &mut Draft, k: &Scope<'_>, t: u8, p: &TypedPlace, after: After)
     ensures { Grows (IsCodeOfPlace (typed_place_view p.now) (context_of k.now) t (Follows after t)) (HasCodeOfPlace (typed_place_view p.now) (context_of k.now) t (HasRoom after t)) out.old out.new }
 {
     match p {

@@ -1,0 +1,11 @@
+-- The laws of drafts, by the functions that use them.
+use Rattle.lower_exprs.proofs.Laws.{grows_failed, grows_nothing, grows_skipped, grows_then, grows_when}
+use Rattle.lower_statements.proofs.Laws.{grows_found, grows_missing}
+
+pub ruleset nothing_rules = (grows_nothing)
+
+pub ruleset whole_rules = (grows_when, grows_failed, grows_skipped)
+
+pub ruleset object_rules = (grows_found, grows_missing)
+
+pub ruleset byte_rules = (grows_then)

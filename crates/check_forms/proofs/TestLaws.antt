@@ -18,7 +18,7 @@ use Rattle.cured_code.proofs.RunLaws.{run-append, act-if}
 use Rattle.cured_code.proofs.StraightLaws.{straight}
 use Rattle.check_forms.specs.Tests.{Test, Pass, Flag, After, Choose, Then, slots_behind, passes, CanTest, IsTest, Checked}
 
-append-append : (a b d : List Instr) → (a ++ b) ++ d ≡ a ++ (b ++ d)
+pub append-append : (a b d : List Instr) → (a ++ b) ++ d ≡ a ++ (b ++ d)
 append-append [] b d = refl
 append-append (i ∷ a) b d = ap (λ r. i ∷ r) (append-append a b d)
 

@@ -2,3 +2,4 @@ pub mod Conditions
 pub mod Rows
 pub mod Tests
 pub mod Lines
+pub mod RowChecks

@@ -1,7 +1,7 @@
 -- What each check of cured code compares, as data, with its value on a state of the flat machine: on the words of its
 -- slots (`e`), the memory, and the tables of the program. A SEQ pointer has three words: its address, and the start and the end
 -- of its part. A WILD pointer has two: its address, and its area's.
-use Rattle.std.specs.Prelude.{ℕ, Bool, true, false, not, ◌&&◌, ◌||◌, ◌%◌, length, nat_eq, nat_lt, nat_le, int_lt, bit_or}
+use Rattle.std.specs.Prelude.{ℕ, Bool, false, not, ◌&&◌, ◌||◌, ◌%◌, length, nat_eq, nat_lt, nat_le, int_lt, bit_or}
 use Rattle.flat_mem.specs.Bytes.{number}
 use Rattle.flat_mem.specs.Memory.{Memory, frame_area, depth_of}
 use Rattle.wild_tags.specs.Words.{length_at}
@@ -121,7 +121,8 @@ flat_holds parts m (IsInArea p size) e = is_in_area size.value (length_at m.byte
 flat_holds parts m (IsByteInArea p) e = nat_lt (difference_words (e p.first) (e p.second)) (length_at m.bytes (e p.second))
 flat_holds parts m (IsWithinArea p) e = not (nat_lt (length_at m.bytes (e p.second)) (difference_words (e p.first) (e p.second)))
 flat_holds parts m (IsArea a last) e = nat_lt last.value (e a)
-flat_holds parts m (IsNear p direction d least span) e = is_near (difference_words (moved direction (e p.first) (distance_of d e)) (e p.second)) least.value span.value
+flat_holds parts m (IsNear p direction d least span) e =
+    is_near (difference_words (moved direction (e p.first) (distance_of d e)) (e p.second)) least.value span.value
 flat_holds parts m (IsSmall n least span) e = is_near (e n) least.value span.value
 flat_holds parts m (IsBelowBound n bound) e = nat_lt (e n) bound.value
 flat_holds parts m (IsAtLeast n least) e = not (nat_lt (e n) least.value)
@@ -132,7 +133,8 @@ flat_holds parts m (IsNoDeeper home target) e = nat_le (depth_of m (e home)) (de
 flat_holds parts m (AreNoDeeper p bytes target) e = nat_le (greatest_depth m (e p.first) (e p.second) bytes) (depth_of m (e target))
 flat_holds parts m (IsNotOwn home) e = nat_eq (depth_of m (e home)) 0 || not (nat_eq (depth_of m (frame_area m 0)) (depth_of m (e home)))
 flat_holds parts m (IsMadeFor a node) e = is_below parts.nodes (e a) node
-flat_holds parts m (IsFunctionOf p signature) e = nat_eq (e p.first) (e p.second) && nat_eq (sig_word parts (function_at (length parts.functions) (e p.first))) signature.value
+flat_holds parts m (IsFunctionOf p signature) e =
+    nat_eq (e p.first) (e p.second) && nat_eq (sig_word parts (function_at (length parts.functions) (e p.first))) signature.value
 flat_holds parts m (HasRoom a) e = has_room parts (function_at (length parts.functions) (e a)) m
 flat_holds parts m (AreOfPart p q) e = nat_eq (e p.second) (e q.second) && nat_eq (e p.third) (e q.third)
 flat_holds parts m (AreOfArea p q) e = nat_eq (e p.second) (e q.second)

@@ -1,15 +1,13 @@
 -- The lines of each condition, over working slots. A stop that is seldom run stands behind an `if` on what would make the
 -- condition false, so that a flag costs no line to turn it round.
-use Rattle.std.specs.Prelude.{◌≡◌, ◌<◌, ℕ, ◌+◌, ◌^◌, Bool, true, false, List, [], ◌∷◌, nat_eq}
+use Rattle.std.specs.Prelude.{◌≡◌, ◌<◌, ℕ, ◌+◌, ◌^◌, true, false, List, [], ◌∷◌, nat_eq}
 use Rattle.flat_mem.specs.Memory.{Memory}
-use Rattle.wild_tags.specs.Calls.{is_tagged}
 use Rattle.wild_tags.specs.Inside.{has_length, allows_plain, allows_tagged, allows_depth}
 use Rattle.integers.specs.Words.{is_true_word}
 use Rattle.integers.specs.Operators.{sum_words, difference_words, can_divide_signed}
-use Rattle.cured_code.specs.declared.parts.Parts.{Parts}
 use Rattle.cured_code.specs.Straight.{Operator, Sum, Difference, Product, And, Or, Equal, Less, LessSigned, RemainderSigned, Value, Result, LengthOf, AreaOf, DepthOf, SigOf, IsPlain, IsTagged, IsBelow, GreatestDepth, Line, Sets}
 use Rattle.cured_code.specs.Straight as straight
-use Rattle.check_forms.specs.Conditions.{PointerSlots, Fixed, Distance, Bytes, Elements, Direction, Forward, Backward, Condition, Never, IsNotZero, IsInPart, IsByteInPart, IsWithinPart, IsInArea, IsByteInArea, IsWithinArea, IsArea, IsNear, IsSmall, IsBelowBound, IsAtLeast, IsAligned, HoldsNoPointer, HoldsPointer, IsNoDeeper, AreNoDeeper, IsNotOwn, IsMadeFor, IsFunctionOf, HasRoom, AreOfPart, AreOfArea, AreElementsApart, IsNoOverflow, Unless, UnlessNull, AreOfPartOr, AreOfAreaOr, Both, flat_holds}
+use Rattle.check_forms.specs.Conditions.{PointerSlots, Fixed, Distance, Bytes, Elements, Direction, Forward, Backward, Condition, Never, IsNotZero, IsInPart, IsByteInPart, IsWithinPart, IsInArea, IsByteInArea, IsWithinArea, IsArea, IsNear, IsSmall, IsBelowBound, IsAtLeast, IsAligned, HoldsNoPointer, HoldsPointer, IsNoDeeper, AreNoDeeper, IsNotOwn, IsMadeFor, IsFunctionOf, HasRoom, AreOfPart, AreOfArea, AreElementsApart, IsNoOverflow, Unless, UnlessNull, AreOfPartOr, AreOfAreaOr, Both}
 use Rattle.check_forms.specs.Tests.{Test, Pass, Flag, After, Choose, Then}
 
 -- the working slots of checks, the slot of an address that is moved to, and a slot that holds 0
@@ -40,30 +38,53 @@ part_lines k p q = Sets k.x (Result Equal p.second q.second) ∷ Sets k.y (Resul
 abbrev pub test_of : Work → Condition → Test
 test_of k Never = Flag k.none
 test_of k (IsNotZero a) = Flag a
-test_of k (IsInPart p size) = After (Sets k.x (Result LessSigned p.first p.second) ∷ Sets k.y (Result Difference p.third p.first) ∷ Sets k.y (Result LessSigned k.y size.slot) ∷ Sets k.x (Result Or k.x k.y) ∷ []) (stop_if k k.x)
-test_of k (IsByteInPart p) = After (Sets k.x (Result Difference p.first p.second) ∷ Sets k.y (Result Difference p.third p.second) ∷ Sets k.x (Result Less k.x k.y) ∷ []) (Flag k.x)
-test_of k (IsWithinPart p) = After (Sets k.x (Result LessSigned p.first p.second) ∷ Sets k.y (Result LessSigned p.third p.first) ∷ Sets k.x (Result Or k.x k.y) ∷ []) (stop_if k k.x)
-test_of k (IsInArea p size) = After (Sets k.x (LengthOf p.second) ∷ Sets k.y (Result Difference p.first p.second) ∷ Sets k.y (Result Difference k.x k.y) ∷ Sets k.z (Result Less k.x k.y) ∷ Sets k.y (Result Less k.y size.slot) ∷ Sets k.y (Result Or k.z k.y) ∷ []) (stop_if k k.y)
-test_of k (IsByteInArea p) = After (Sets k.x (LengthOf p.second) ∷ Sets k.y (Result Difference p.first p.second) ∷ Sets k.x (Result Less k.y k.x) ∷ []) (Flag k.x)
-test_of k (IsWithinArea p) = After (Sets k.x (LengthOf p.second) ∷ Sets k.y (Result Difference p.first p.second) ∷ Sets k.x (Result Less k.x k.y) ∷ []) (stop_if k k.x)
+test_of k (IsInPart p size) =
+    After (Sets k.x (Result LessSigned p.first p.second) ∷ Sets k.y (Result Difference p.third p.first) ∷
+    Sets k.y (Result LessSigned k.y size.slot) ∷ Sets k.x (Result Or k.x k.y) ∷ []) (stop_if k k.x)
+test_of k (IsByteInPart p) =
+    After (Sets k.x (Result Difference p.first p.second) ∷ Sets k.y (Result Difference p.third p.second) ∷ Sets k.x (Result Less k.x k.y) ∷ [])
+    (Flag k.x)
+test_of k (IsWithinPart p) =
+    After (Sets k.x (Result LessSigned p.first p.second) ∷ Sets k.y (Result LessSigned p.third p.first) ∷ Sets k.x (Result Or k.x k.y) ∷ [])
+    (stop_if k k.x)
+test_of k (IsInArea p size) =
+    After (Sets k.x (LengthOf p.second) ∷ Sets k.y (Result Difference p.first p.second) ∷ Sets k.y (Result Difference k.x k.y) ∷
+    Sets k.z (Result Less k.x k.y) ∷ Sets k.y (Result Less k.y size.slot) ∷ Sets k.y (Result Or k.z k.y) ∷ []) (stop_if k k.y)
+test_of k (IsByteInArea p) =
+    After (Sets k.x (LengthOf p.second) ∷ Sets k.y (Result Difference p.first p.second) ∷ Sets k.x (Result Less k.y k.x) ∷ []) (Flag k.x)
+test_of k (IsWithinArea p) =
+    After (Sets k.x (LengthOf p.second) ∷ Sets k.y (Result Difference p.first p.second) ∷ Sets k.x (Result Less k.x k.y) ∷ []) (stop_if k k.x)
 test_of k (IsArea a last) = After (Sets k.x (Result Less last.slot a) ∷ []) (Flag k.x)
-test_of k (IsNear p direction d least span) = After (move_lines k p direction d) (After (Sets k.x (Result Difference k.to p.second) ∷ Sets k.x (Result Sum k.x least.slot) ∷ Sets k.x (Result Less k.x span.slot) ∷ []) (Flag k.x))
+test_of k (IsNear p direction d least span) =
+    After (move_lines k p direction d) (After (Sets k.x (Result Difference k.to p.second) ∷ Sets k.x (Result Sum k.x least.slot) ∷
+    Sets k.x (Result Less k.x span.slot) ∷ []) (Flag k.x))
 test_of k (IsSmall n least span) = After (Sets k.x (Result Sum n least.slot) ∷ Sets k.x (Result Less k.x span.slot) ∷ []) (Flag k.x)
 test_of k (IsBelowBound n bound) = After (Sets k.x (Result Less n bound.slot) ∷ []) (Flag k.x)
 test_of k (IsAtLeast n least) = After (Sets k.x (Result Less n least.slot) ∷ []) (stop_if k k.x)
 test_of k (IsAligned a seven) = After (Sets k.x (Result And a seven) ∷ []) (stop_if k k.x)
 test_of k (HoldsNoPointer p bytes) = After (Sets k.x (IsPlain p.first p.second bytes) ∷ []) (Flag k.x)
-test_of k (HoldsPointer p eight) = After (Sets k.x (IsTagged p.first p.second) ∷ []) (Choose k.x Pass (After (Sets k.y (Result Sum p.first eight) ∷ Sets k.y (LengthOf k.y) ∷ []) (stop_if k k.y)))
-test_of k (IsNoDeeper home target) = After (Sets k.x (DepthOf home) ∷ []) (Choose k.x (After (Sets k.y (DepthOf target) ∷ Sets k.y (Result Less k.y k.x) ∷ []) (stop_if k k.y)) Pass)
-test_of k (AreNoDeeper p bytes target) = After (Sets k.x (GreatestDepth p.first p.second bytes) ∷ []) (Choose k.x (After (Sets k.y (DepthOf target) ∷ Sets k.y (Result Less k.y k.x) ∷ []) (stop_if k k.y)) Pass)
-test_of k (IsNotOwn home) = After (Sets k.x (DepthOf home) ∷ []) (Choose k.x (After (Sets k.y (AreaOf 0) ∷ Sets k.y (DepthOf k.y) ∷ Sets k.y (Result Equal k.y k.x) ∷ []) (stop_if k k.y)) Pass)
+test_of k (HoldsPointer p eight) =
+    After (Sets k.x (IsTagged p.first p.second) ∷ []) (Choose k.x Pass (After (Sets k.y (Result Sum p.first eight) ∷ Sets k.y (LengthOf k.y) ∷ [])
+    (stop_if k k.y)))
+test_of k (IsNoDeeper home target) =
+    After (Sets k.x (DepthOf home) ∷ []) (Choose k.x (After (Sets k.y (DepthOf target) ∷ Sets k.y (Result Less k.y k.x) ∷ []) (stop_if k k.y)) Pass)
+test_of k (AreNoDeeper p bytes target) =
+    After (Sets k.x (GreatestDepth p.first p.second bytes) ∷ []) (Choose k.x
+    (After (Sets k.y (DepthOf target) ∷ Sets k.y (Result Less k.y k.x) ∷ []) (stop_if k k.y)) Pass)
+test_of k (IsNotOwn home) =
+    After (Sets k.x (DepthOf home) ∷ []) (Choose k.x (After (Sets k.y (AreaOf 0) ∷ Sets k.y (DepthOf k.y) ∷ Sets k.y (Result Equal k.y k.x) ∷ [])
+    (stop_if k k.y)) Pass)
 test_of k (IsMadeFor a node) = After (Sets k.x (IsBelow a node) ∷ []) (Flag k.x)
-test_of k (IsFunctionOf p signature) = After (Sets k.x (Result Equal p.first p.second) ∷ Sets k.y (SigOf p.first) ∷ Sets k.y (Result Equal k.y signature.slot) ∷ Sets k.x (Result And k.x k.y) ∷ []) (Flag k.x)
+test_of k (IsFunctionOf p signature) =
+    After (Sets k.x (Result Equal p.first p.second) ∷ Sets k.y (SigOf p.first) ∷ Sets k.y (Result Equal k.y signature.slot) ∷
+    Sets k.x (Result And k.x k.y) ∷ []) (Flag k.x)
 test_of k (HasRoom a) = After (Sets k.x (straight.HasRoom a) ∷ []) (Flag k.x)
 test_of k (AreOfPart p q) = After (part_lines k p q) (Flag k.x)
 test_of k (AreOfArea p q) = After (Sets k.x (Result Equal p.second q.second) ∷ []) (Flag k.x)
-test_of k (AreElementsApart p q size) = After (Sets k.x (Result Difference p.first q.first) ∷ Sets k.x (Result RemainderSigned k.x size.slot) ∷ []) (stop_if k k.x)
-test_of k (IsNoOverflow a b least minus_one) = After (Sets k.x (Result Equal b minus_one.slot) ∷ []) (Choose k.x (After (Sets k.y (Result Equal a least.slot) ∷ []) (stop_if k k.y)) Pass)
+test_of k (AreElementsApart p q size) =
+    After (Sets k.x (Result Difference p.first q.first) ∷ Sets k.x (Result RemainderSigned k.x size.slot) ∷ []) (stop_if k k.x)
+test_of k (IsNoOverflow a b least minus_one) =
+    After (Sets k.x (Result Equal b minus_one.slot) ∷ []) (Choose k.x (After (Sets k.y (Result Equal a least.slot) ∷ []) (stop_if k k.y)) Pass)
 test_of k (Unless a c) = Choose a (test_of k c) Pass
 test_of k (UnlessNull p c) = After (Sets k.x (Result Or p.first p.second) ∷ []) (Choose k.x (test_of k c) Pass)
 test_of k (AreOfPartOr p q c) = After (part_lines k p q) (Choose k.x Pass (test_of k c))

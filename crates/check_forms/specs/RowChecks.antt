@@ -1,5 +1,5 @@
 -- The instructions of what a primitive asks, and what they do.
-use Rattle.std.specs.Prelude.{◌≡◌, ℕ, Bool, true, List, [], ◌∷◌, ◌++◌, length, Option, Some, None, if◌then◌else◌}
+use Rattle.std.specs.Prelude.{◌≡◌, ℕ, true, List, [], ◌∷◌, ◌++◌, length, Option, Some, None, if◌then◌else◌}
 use Rattle.flat_mem.specs.Memory.{Memory}
 use Rattle.runs.specs.Outcome.{Outcome, Ended, Done, from}
 use Rattle.runs.specs.Control.{Control, Goes, then_go}
@@ -15,7 +15,8 @@ use Rattle.check_forms.specs.Lines.{Work, test_of, IsOther, AreApart, AreHeld, I
 -- the instructions of each condition, in order
 abbrev pub AreChecks : Work → List Asked → List Instr → Type 0
 AreChecks k [] is = is ≡ []
-AreChecks k (a ∷ rest) is = (x : List Instr) × (y : List Instr) × IsTest a.check a.place (test_of k a.condition) x × AreChecks k rest y × (is ≡ x ++ y)
+AreChecks k (a ∷ rest) is =
+    (x : List Instr) × (y : List Instr) × IsTest a.check a.place (test_of k a.condition) x × AreChecks k rest y × (is ≡ x ++ y)
 
 -- the first of the conditions that is false
 abbrev pub first_false : Parts → Memory → List Asked → (ℕ → ℕ) → Option Asked
@@ -31,7 +32,8 @@ stopped_by (Some a) c = Ended (Stopped a.check a.place) c
 -- it was, and of the slots none has changed but working ones.
 pub record AreChecked (k : Work) (conditions : List Asked) (is : List Instr) (w : Context) (c : Local) : Type 0 where
   pub after : Local
-  pub runs : (rest : List Instr) → run (is ++ rest) w c ≡ from (stopped_by (first_false w.parts c.state.memory conditions (slot c)) after) (λ x. then_go x (run rest w))
+  pub runs : (rest : List Instr) → run (is ++ rest) w c ≡ from (stopped_by (first_false w.parts c.state.memory conditions (slot c)) after)
+      (λ x. then_go x (run rest w))
   pub state : after.state ≡ c.state
   pub slots : (a : ℕ) → IsOther k a → slot after a ≡ slot c a
   pub count : length after.slots ≡ length c.slots

@@ -173,13 +173,15 @@ flat_conditions (ReadPointer p size numbers) kind at = reached kind p size at ++
 flat_conditions (WriteInteger p size) kind at = reached kind p size at
 flat_conditions (WritePointer p size numbers home assignment) kind at =
     reached kind p size at ++ aligned kind p numbers at ++ asked check.Escape assignment (IsNoDeeper home (home_slot kind p)) ∷ []
-flat_conditions (CopyPlain source target other size target_at) kind at = reached kind source size at ++ plain_asked kind source size at ++ reached other target size target_at
+flat_conditions (CopyPlain source target other size target_at) kind at =
+    reached kind source size at ++ plain_asked kind source size at ++ reached other target size target_at
 flat_conditions (CopyPointers source target other size numbers target_at assignment) kind at =
     reached kind source size at ++ aligned kind source numbers at ++ reached other target size target_at ++ aligned other target numbers target_at
     ++ kept_of kind source target size assignment
 flat_conditions (KeepCell home target) kind at = asked check.Escape at (IsNoDeeper home target) ∷ []
 flat_conditions (Member p size numbers offset reach) kind at = member_asked kind p size numbers offset reach at
-flat_conditions (Move p direction n factor distance numbers reach) kind at = based kind p numbers at ++ factor_asked factor n at ++ near p direction distance reach at ∷ []
+flat_conditions (Move p direction n factor distance numbers reach) kind at =
+    based kind p numbers at ++ factor_asked factor n at ++ near p direction distance reach at ∷ []
 flat_conditions (Order p q other numbers apart) kind at =
     based kind p numbers at ++ based other q numbers at ++ all_asked check.Same at (of_one kind other p q ∷ elements_apart p q apart)
 flat_conditions (Equate p q other) kind at = all_asked check.Same at (equated kind other p q)
@@ -188,5 +190,6 @@ flat_conditions (ReturnPointer home) kind at = asked check.Escape at (IsNotOwn h
 flat_conditions (Convert p conversion) kind at = convert_asked kind p conversion at
 flat_conditions (Allocate made size needed) kind at = allocated kind made size needed at
 flat_conditions (DivideUnsigned a b) kind at = asked check.Divide at (IsNotZero b) ∷ []
-flat_conditions (DivideSigned a b least minus_one) kind at = asked check.Divide at (IsNotZero b) ∷ asked check.Divide at (IsNoOverflow a b least minus_one) ∷ []
+flat_conditions (DivideSigned a b least minus_one) kind at =
+    asked check.Divide at (IsNotZero b) ∷ asked check.Divide at (IsNoOverflow a b least minus_one) ∷ []
 flat_conditions (EnterMain address) kind at = asked check.Depth at (HasRoom address) ∷ []

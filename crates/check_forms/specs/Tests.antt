@@ -49,7 +49,8 @@ abbrev pub CanTest : ℕ → Parts → Memory → Test → (ℕ → ℕ) → Typ
 CanTest count parts m Pass e = Unit {0}
 CanTest count parts m (Flag a) e = Unit {0}
 CanTest count parts m (After lines t) e = CanRun count parts m lines e × CanTest count parts m t (behind parts m lines e)
-CanTest count parts m (Choose a t u) e = (is_true_word (e a) ≡ true → CanTest count parts m t e) × (is_true_word (e a) ≡ false → CanTest count parts m u e)
+CanTest count parts m (Choose a t u) e =
+    (is_true_word (e a) ≡ true → CanTest count parts m t e) × (is_true_word (e a) ≡ false → CanTest count parts m u e)
 CanTest count parts m (Then t u) e = CanTest count parts m t e × (passes parts m t e ≡ true → CanTest count parts m u (slots_behind parts m t e))
 
 -- These are the instructions of a test that stops with this check at this place.
@@ -64,7 +65,8 @@ IsTest check at (Then t u) is = (first : List Instr) × (rest : List Instr) × I
 -- else has changed either way.
 pub record Checked (check : Check) (at : Place) (holds : Bool) (e : ℕ → ℕ) (is : List Instr) (w : Context) (c : Local) : Type 0 where
   pub after : Local
-  pub runs : (rest : List Instr) → run (is ++ rest) w c ≡ from (allowed holds (Stopped check at) (goes (λ d. d)) after) (λ x. then_go x (run rest w))
+  pub runs : (rest : List Instr) → run (is ++ rest) w c ≡ from (allowed holds (Stopped check at) (goes (λ d. d)) after)
+      (λ x. then_go x (run rest w))
   pub state : after.state ≡ c.state
   pub slots : slot after ≡ e
   pub count : length after.slots ≡ length c.slots

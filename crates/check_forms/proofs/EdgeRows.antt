@@ -3,7 +3,7 @@ use Rattle.std.proofs.Common.{◌≡◌, ℕ, ◌+◌, ◌-◌, ◌*◌, ◌^◌
 use Rattle.flat_mem.specs.Bytes.{number}
 use Rattle.flat_mem.specs.Memory.{Memory}
 use Rattle.cured_code.specs.declared.parts.Parts.{Parts}
-use Rattle.check_forms.specs.Conditions.{PointerSlots, Fixed, Elements, Direction, Forward, Backward, IsInPart, IsByteInPart, IsWithinPart, IsInArea, IsByteInArea, IsWithinArea, IsArea, IsNear, IsAligned, IsNoDeeper, IsNotOwn, AreElementsApart, IsNoOverflow, Unless, UnlessNull, AreOfPartOr, Both, flat_holds}
+use Rattle.check_forms.specs.Conditions.{PointerSlots, Fixed, Elements, Direction, Forward, Backward, IsInPart, IsByteInPart, IsWithinPart, IsInArea, IsByteInArea, IsWithinArea, IsArea, IsNear, IsAligned, IsNoDeeper, IsNotOwn, IsMadeFor, AreElementsApart, IsNoOverflow, Unless, UnlessNull, AreOfPartOr, Both, flat_holds}
 
 -- a pointer in slots 0 to 2, another in slots 3 to 5; numbers in slots 6 to 8
 abbrev p : PointerSlots
@@ -144,3 +144,10 @@ divide-rows : (parts : Parts) (m : Memory) →
     × (flat_holds parts m (IsNoOverflow 0 1 (fixed 6 (2 ^ 64 - 2 ^ 31)) (fixed 7 (2 ^ 64 - 1)))
     (slice_index ((2 ^ 64 - 2 ^ 31 + 1) ∷ (2 ^ 64 - 1) ∷ [])) ≡ true)
 divide-rows parts m = (refl, refl, refl)
+
+-- CAST to node 2, where 3 lies below 2, and 2 and 4 below 1: made for each of the four, and null
+cast-rows : (parts : Parts) (m : Memory) →
+    (map (λ made. flat_holds (record parts { nodes = 0 ∷ 1 ∷ 2 ∷ 1 ∷ [] }) m (Unless 0 (IsMadeFor 1 2)) (slice_index (100 ∷ made ∷ [])))
+    (1 ∷ 2 ∷ 3 ∷ 4 ∷ []) ≡ false ∷ true ∷ true ∷ false ∷ [])
+    × (flat_holds parts m (Unless 0 (IsMadeFor 1 2)) (slice_index (0 ∷ 0 ∷ [])) ≡ true)
+cast-rows parts m = (refl, refl)

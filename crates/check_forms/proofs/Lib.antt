@@ -1,0 +1,4 @@
+pub mod TestLaws
+pub mod ConditionLaws
+pub mod RowLaws
+pub mod EdgeRows

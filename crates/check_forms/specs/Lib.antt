@@ -1,0 +1,5 @@
+pub mod Conditions
+pub mod Rows
+pub mod Tests
+pub mod Lines
+pub mod RowChecks

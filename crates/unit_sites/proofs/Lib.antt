@@ -1,0 +1,4 @@
+pub mod Elements
+pub mod FunctionsAlike
+pub mod PiecesReady
+pub mod SitesTold

@@ -1,10 +1,8 @@
 -- A name that is declared as a function has one type (C99 6.2.7): that of its first declaration, or the same type.
 use Rattle.std.specs.List.{All}
-use Rattle.std.proofs.Common.{◌≡◌, ◌⊎◌, Bool, true, false, List, [], ◌∷◌, ◌++◌, Option, Some, None, refl, ap, sym, subst, ◌∙◌, inl, inr, if◌then◌else◌, true≢false}
+use Rattle.std.proofs.Common.{◌≡◌, Bool, true, false, List, [], ◌∷◌, ◌++◌, Option, Some, None, refl, ap, sym, subst, ◌∙◌, inl, inr, if◌then◌else◌, true≢false}
 use Rattle.std.proofs.lemmas.List.Elements.{All-nil, All-append, All-weaker}
-use Rattle.std.proofs.lemmas.Option.{none-some}
 use Rattle.cc_base.specs.declared.place.Place.{Place}
-use Rattle.cc_base.specs.declared.number.NodeId.{NodeId}
 use Rattle.cc_base.specs.declared.number.TypeId.{TypeId}
 use Rattle.c_types.specs.Table.{Table, shape_at}
 use Rattle.c_lexer.specs.declared.word.Keyword.{Keyword}
@@ -14,13 +12,13 @@ use Rattle.c_tree.specs.declared.typed_word.Home.{Home}
 use Rattle.c_tree.specs.declared.typed_word.Home.TheVariants as home
 use Rattle.c_tree.specs.TypedTree as typed
 use Rattle.c_tree.specs.TypedTree.{TypedExpr, TypedForm, TypedSpecifiers, TypedSpecifierList, TypedDeclarator, TypedInitialiser, TypedInitDeclarators, TypedDeclaration, TypedStatement, TypedBlockItems, TypedTranslationUnit}
-use Rattle.c_tree.specs.TypedParts.{declared_type, home_of, home_of_form, name_of, name_of_form, specified_type, type_of}
+use Rattle.c_tree.specs.TypedParts.{declared_type, home_of_form, name_of, name_of_form, specified_type, type_of}
 use Rattle.c_typing.specs.declared.declared.Declared.{Declared}
 use Rattle.c_typing.specs.declared.declared.Declared.TheVariants as declared
 use Rattle.c_typing.specs.Shapes.{is_function_shape}
-use Rattle.c_typing.specs.Scopes.{Name, Scopes, entry_of}
+use Rattle.c_typing.specs.Scopes.{Name, entry_of}
 use Rattle.c_typing.specs.Declarators.{Outermost}
-use Rattle.c_unit_typing.specs.Units.{Known, Storage, Unstored, AsTypedef, AsExtern, AsStatic, AsAutomatic, storage_of_word, storage_of_list, storage_of, AgreesWith, unless_linked, IsLinked, IsLinkedObject, IsStaticOrLocal, IsFunctionDeclared, IsObjectDeclared, IsOrdinaryDeclared, IsNameDeclared, IsDeclarator, is_linked_home, IsDefinedOnce, IsInitialised, bytes_of_name, AreDeclarators, IsDeclaration, Around, in_a_loop, in_a_switch, IsDropped, IsTestedOrNone, IsReturned, IsStatement, AreBlockItems, IsUnitTyped}
+use Rattle.c_unit_typing.specs.Units.{Known, Storage, Unstored, AsTypedef, AsExtern, AsStatic, AsAutomatic, storage_of_word, storage_of_list, storage_of, AgreesWith, unless_linked, IsLinked, IsLinkedObject, IsStaticOrLocal, IsObjectDeclared, IsOrdinaryDeclared, IsNameDeclared, IsDeclarator, IsDefinedOnce, IsInitialised, bytes_of_name, AreDeclarators, IsDeclaration, Around, in_a_loop, in_a_switch, IsDropped, IsTestedOrNone, IsReturned, IsStatement, AreBlockItems, IsUnitTyped}
 use Rattle.c_ready.specs.Ready.{IsAlike}
 use Rattle.c_ready.proofs.ReadyNames.{entry-kept, entry-new}
 use Rattle.unit_sites.proofs.Elements.{only}

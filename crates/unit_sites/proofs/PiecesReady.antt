@@ -11,7 +11,7 @@ use Rattle.c_tree.specs.TypedTree.{TypedExpr, TypedPlace, TypedArguments, TypedT
 use Rattle.c_tree.specs.TypedParts.{home_of_form, type_of}
 use Rattle.c_unit_typing.specs.Units.{Around, in_a_loop, in_a_switch}
 use Rattle.c_ready.specs.Ready.{Stage, Named, unread, IsReady, IsReadyPlace, AreReady, IsReadyTypeName, AreReadySpecifiers, AreReadyListed, IsReadySpecifier, AreReadyMembers, AreReadyMemberDeclarators, AreReadyEnumerators, IsReadyForm, IsReadyCore, AreReadyParts, AreReadyParameters, IsReadyDeclared, IsReadyInitialiser, AreReadyItems, initialised_in, AreReadyDeclarators, IsReadyDeclaration, IsReadyOptional, IsReadyTestOrNone, IsReadyReturn, IsReadyStatement, AreReadyBlockItems, AreReadyExternals, variables_named}
-use Rattle.src_machine.specs.Pieces.{Piece, AnExpression, APlace, ASpecifier, AnInitialiser, pieces_of, pieces_of_place, pieces_of_arguments, pieces_of_type_name, pieces_of_specifiers, pieces_of_specifier_list, pieces_of_specifier, pieces_of_members, pieces_of_member_declarators, pieces_of_enumerators, pieces_of_declarator, pieces_of_form, pieces_of_core, pieces_of_parts, pieces_of_parameters, pieces_of_declared, pieces_of_initialiser, pieces_of_items, pieces_of_init_declarators, pieces_of_declaration, pieces_of_optional, pieces_of_statement, pieces_of_block_items, pieces_of_unit}
+use Rattle.src_machine.specs.Pieces.{Piece, AnExpression, APlace, ASpecifier, AnInitialiser, pieces_of, pieces_of_place, pieces_of_arguments, pieces_of_type_name, pieces_of_specifiers, pieces_of_specifier_list, pieces_of_specifier, pieces_of_members, pieces_of_member_declarators, pieces_of_enumerators, pieces_of_form, pieces_of_core, pieces_of_parts, pieces_of_parameters, pieces_of_declared, pieces_of_initialiser, pieces_of_items, pieces_of_init_declarators, pieces_of_declaration, pieces_of_optional, pieces_of_statement, pieces_of_block_items, pieces_of_unit}
 
 module _ (Q : Table → Piece → Type 0)
     (of-value : (k : Stage) (e : TypedExpr) → IsReady k e → Q k.table (AnExpression e))

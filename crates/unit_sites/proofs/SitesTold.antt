@@ -1,6 +1,6 @@
 -- What the sites of a ready unit tell: its pointer types and objects, and both ends of each flow.
 use Rattle.std.specs.List.{All, Contains}
-use Rattle.std.proofs.Common.{◌≡◌, Bool, true, false, List, [], ◌∷◌, ◌++◌, map, flat_map, Option, Some, None, sym, subst, if◌then◌else◌, ◌==◌}
+use Rattle.std.proofs.Common.{Bool, true, false, List, [], ◌∷◌, ◌++◌, map, flat_map, Option, Some, None, sym, subst, if◌then◌else◌, ◌==◌}
 use Rattle.std.proofs.lemmas.List.Elements.{All-nil, All-head, All-append, All-map, All-weaker, All-get_or, All-contains, All-contains_itself}
 use Rattle.cc_base.specs.declared.place.Place.{Place}
 use Rattle.cc_base.specs.declared.number.NodeId.{NodeId}
@@ -20,7 +20,7 @@ use Rattle.c_tree.specs.declared.typed_word.Conversion.TheVariants as conversion
 use Rattle.c_tree.specs.TypedTree as typed
 use Rattle.c_tree.specs.TypedTree.{TypedExpr, TypedPlace, TypedSpecifier, TypedDeclarator, TypedInitialiser, TypedItems, TypedTranslationUnit}
 use Rattle.c_tree.specs.TypedParts.{MadeObject, DefinedFunction, type_of, place_type, named_type, home_of, statics_of, functions_of}
-use Rattle.c_ready.specs.Ready.{Stage, Fits, IsReady, IsReadyPlace, IsReadySpecifier, AreReadyExternals, static_stage}
+use Rattle.c_ready.specs.Ready.{Stage, Fits, IsReady, AreReadyExternals, static_stage}
 use Rattle.c_ready.proofs.Basics.{all-left, all-right, unmap}
 use Rattle.src_mem.specs.Memory.{Planned}
 use Rattle.src_mem.specs.Operations.{node_at, pointee_at, node_of_shape, pointee_of_shape}

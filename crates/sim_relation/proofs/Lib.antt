@@ -3,3 +3,7 @@ pub mod Kept
 pub mod Places
 pub mod Changes
 pub mod Integers
+pub mod Pointers
+pub mod Leaving
+pub mod Growth
+pub mod Frames

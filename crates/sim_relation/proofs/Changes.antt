@@ -2,7 +2,7 @@
 use Rattle.std.proofs.Common.{◌≡◌, ◌≢◌, ℕ, zero, suc, ◌+◌, ◌<◌, ◌≤◌, ◌⊎◌, inl, inr, true, List, [], ◌∷◌, ◌++◌, map, length, slice_get, slice_set, slice_index, Some, refl, ap, sym, subst, ◌∙◌, ⊎_elim, arith, length-set}
 use Rattle.cc_base.specs.declared.number.TypeId.{TypeId}
 use Rattle.flat_mem.specs.Bytes.{AreBytes}
-use Rattle.flat_mem.specs.Memory.{Memory, with_bytes}
+use Rattle.flat_mem.specs.Memory.{with_bytes}
 use Rattle.flat_mem.proofs.SoundLaws.{sound-with_bytes}
 use Rattle.src_mem.specs.Memory.{Object}
 use Rattle.src_mem.specs.State as source
@@ -47,10 +47,12 @@ related-change w number_of s c k o new bytes x y r found live same long are outs
     lie = λ j z e l. lies_after j z (before_set j z e l);
     apart = λ i j p q e l f m d. apart_after i j p q d (before_set i p e l) (before_set j q f m);
   };
-  holds = record { each = λ j z e l. subst (λ (G : Ground). Holds G bytes j z) (sym grounds) (⊎_elim
-      (λ h. subst (λ (i : ℕ). Holds g bytes i z) (sym h.0) (subst (λ (q : Object). Holds g bytes k q) (sym h.1) holds))
-      (λ h. theirs j z h.0 h.1 l)
-      (set-cases s.memory.objects k j o new z found e)) };
+  holds = record {
+    each = λ j z e l. subst (λ (G : Ground). Holds G bytes j z) (sym grounds) (⊎_elim
+        (λ h. subst (λ (i : ℕ). Holds g bytes i z) (sym h.0) (subst (λ (q : Object). Holds g bytes k q) (sym h.1) holds))
+        (λ h. theirs j z h.0 h.1 l)
+        (set-cases s.memory.objects k j o new z found e));
+  };
   sound = sound-with_bytes c.memory bytes are long r.sound;
   small = (let h = r.small in omega (arith, long, h));
   room = record { frame_charge = r.room.frame_charge; heap_charge = r.room.heap_charge; frames = r.room.frames; heap = r.room.heap };

@@ -1,28 +1,26 @@
 -- A frame is pushed for a call, with all its variables.
-use Rattle.std.proofs.Common.{◌≡◌, ◌≢◌, ℕ, zero, suc, ◌+◌, ◌-◌, ◌*◌, ◌/◌, ◌%◌, ◌^◌, ◌<◌, ◌≤◌, ◌⊎◌, inl, inr, Bool, true, false, List, [], ◌∷◌, ◌++◌, map, length, replicate, slice_get, slice_index, Option, Some, None, refl, ap, sym, subst, ◌∙◌, ⊎_elim, arith, nat_eq, if◌then◌else◌}
-use Rattle.std.specs.Prelude.{⊤, IsTrue}
+use Rattle.std.proofs.Common.{◌≡◌, ◌≢◌, ℕ, zero, suc, ◌+◌, ◌-◌, ◌*◌, ◌/◌, ◌%◌, ◌^◌, ◌<◌, ◌≤◌, ◌⊎◌, inl, inr, true, List, [], ◌∷◌, ◌++◌, map, length, replicate, slice_get, slice_index, Some, None, refl, ap, sym, subst, ◌∙◌, ⊎_elim, arith, nat_eq}
+use Rattle.std.specs.Prelude.{IsTrue}
 use Rattle.std.specs.Int.{bit_at}
-use Rattle.std.proofs.lemmas.Bool.Decides.{nat_tests}
 use Rattle.std.proofs.lemmas.Option.{slice_get_within}
 use Rattle.std.proofs.lemmas.List.{length-replicate, length-append, length-map}
 use Rattle.cc_base.specs.declared.number.TypeId.{TypeId}
 use Rattle.cc_base.specs.declared.number.NodeId.{NodeId}
 use Rattle.cc_base.specs.declared.kind.Kind.{Kind}
 use Rattle.cc_base.specs.declared.kind.Kind.TheVariants.{Safe, Seq, Rtti, Wild}
-use Rattle.c_types.specs.Cells.{Cell, raw, pointer, AreOrdered}
+use Rattle.c_types.specs.Cells.{Cell, AreOrdered}
 use Rattle.c_types.specs.Layouts.{size_of}
 use Rattle.c_types.specs.Equality.{cells_of}
-use Rattle.c_types.specs.Widths.{kind_width, before}
+use Rattle.c_types.specs.Widths.{before}
 use Rattle.c_types.proofs.OrderedPointers.{get_back, Which, old, new, which}
 use Rattle.flat_mem.specs.declared.Area.{Area}
 use Rattle.flat_mem.specs.Bytes.{number}
-use Rattle.flat_mem.specs.Placement.{word_count, data_word, base_word, tag_byte, tagged_size, contents_size, areas_size, area_size, addresses, areas_made, first_word}
+use Rattle.flat_mem.specs.Placement.{word_count, tag_byte, tagged_size, contents_size, areas_size, area_size, addresses, first_word}
 use Rattle.flat_mem.specs.Memory as memory
 use Rattle.flat_mem.specs.Memory.{Frame, fits, pushed, next_frame, frame_of, depth_in, depth_of, charges}
 use Rattle.flat_mem.proofs.AreaLaws.{area-before_end, area-after_start, areas-apart, length-areas_made, get-areas_made_other, number-areas_made_first, get-areas_made_inside}
 use Rattle.flat_mem.proofs.FrameLaws.{next_frame-by_8, address-by_8, depth_in-older, depth_in-past, depth-of_new_area, frames_end-least}
 use Rattle.flat_mem.proofs.SoundLaws.{sound-pushed, room_of-fits}
-use Rattle.src_mem.specs.Pointers.{Pointer, Null}
 use Rattle.src_mem.specs.Memory.{Object, Planned, new_variable, zero_object, frame_charge}
 use Rattle.src_mem.specs.State as source
 use Rattle.src_mem.specs.State.{Setting}
@@ -34,10 +32,10 @@ use Rattle.cured_code.specs.FlatState.{PlacedArea, words_at}
 use Rattle.cured_code.specs.FlatMachine as machine
 use Rattle.cured_code.specs.FlatMachine.{placed}
 use Rattle.cured_code.proofs.SlotLaws.{words-zero}
-use Rattle.sim_relation.specs.Ground.{Ground, ground, address, address_in, word_number, row, pointer_words}
-use Rattle.sim_relation.specs.Objects.{HoldsTyped, HoldsTagged, HoldsBy, HoldsWord, Holds, Lies, Apart, area_of, area_by, flat_depth}
+use Rattle.sim_relation.specs.Ground.{Ground, ground, address, address_in, word_number, row}
+use Rattle.sim_relation.specs.Objects.{HoldsTyped, HoldsBy, HoldsWord, Holds, Lies, Apart, area_of, area_by, flat_depth, variable_area, frame_areas}
 use Rattle.sim_relation.specs.Related.{Related}
-use Rattle.sim_relation.proofs.Kept.{before-most, holds-agree, words-width, raw-inside, pointer-inside}
+use Rattle.sim_relation.proofs.Kept.{holds-agree, words-width, raw-inside, pointer-inside}
 use Rattle.sim_relation.proofs.Growth.{AllThere, holds-grow, address-grow, area-grow, images-grow}
 
 -- Zero bytes hold what a new object holds
@@ -71,15 +69,16 @@ bit-zero k h = omega arith
 word-zero : (g : Ground) (bytes : List ℕ) (at depth : ℕ) (n : NodeId) (size : ℕ) (cs : List Cell) (k : ℕ) → k < word_count size → ((i : ℕ) → i < tagged_size size → slice_index bytes (at + i) ≡ 0)
     → HoldsWord g bytes at (zero_object depth n size cs) k None
 unfolding tagged_size
-word-zero g bytes at depth n size cs k h zeros =
-    ((let e : tag_byte at size k ≡ at + (16 * word_count size + k / 8) = omega arith in
-    let z : slice_index bytes (tag_byte at size k) ≡ 0 = ap (slice_index bytes) e ∙ zeros (16 * word_count size + k / 8) (omega arith) in
-    ap (λ x. nat_eq (bit_at x (k % 8)) 1) z ∙ ap (λ x. nat_eq x 1) (bit-zero (k % 8) (omega arith))),
-    λ i l m. (let e : at + 8 * k + i ≡ at + (8 * k + i) = omega arith in ap (slice_index bytes) e ∙ zeros (8 * k + i) (omega arith) ∙ sym (index-zero size (8 * k + i))))
+word-zero g bytes at depth n size cs k h zeros = (
+  (let e : tag_byte at size k ≡ at + (16 * word_count size + k / 8) = omega arith in
+      let z : slice_index bytes (tag_byte at size k) ≡ 0 = ap (slice_index bytes) e ∙ zeros (16 * word_count size + k / 8) (omega arith) in
+      ap (λ x. nat_eq (bit_at x (k % 8)) 1) z ∙ ap (λ x. nat_eq x 1) (bit-zero (k % 8) (omega arith))),
+  λ i l m. (let e : at + 8 * k + i ≡ at + (8 * k + i) = omega arith in ap (slice_index bytes) e ∙ zeros (8 * k + i) (omega arith) ∙ sym (index-zero size (8 * k + i))),
+)
 
 holds-zero : (kind : Kind) (g : Ground) (bytes : List ℕ) (at depth : ℕ) (n : NodeId) (size : ℕ) (cs : List Cell) → AreOrdered cs → length cs ≡ size
-    → ((i : ℕ) → i < contents_size (area_by g.kind kind (outline (zero_object depth n size cs))) → slice_index bytes (at + i) ≡ 0)
-    → number 8 bytes (at - 8) ≡ first_word (area_by g.kind kind (outline (zero_object depth n size cs)))
+    → ((i : ℕ) → i < contents_size (area_by g.kind kind size cs) → slice_index bytes (at + i) ≡ 0)
+    → number 8 bytes (at - 8) ≡ first_word (area_by g.kind kind size cs)
     → HoldsBy kind g bytes at (zero_object depth n size cs)
 holds-zero Safe g bytes at depth n size cs o s z f = typed-zero g bytes at depth n size cs o s (λ i h. z i (omega arith))
 holds-zero Seq g bytes at depth n size cs o s z f = typed-zero g bytes at depth n size cs o s (λ i h. z i (omega arith))
@@ -99,16 +98,10 @@ unfolding addresses
 length-placed [] start = refl
 length-placed (x ∷ areas) start = ap suc (length-placed areas (start + area_size x))
 
-abbrev pub variable_area : Setting → ℕ → Planned → Area
-variable_area w depth v = area_of w.kind (outline (new_variable w.table depth v))
-
-abbrev pub frame_areas : Setting → ℕ → List Planned → List Area
-frame_areas w depth variables = map (variable_area w depth) variables
-
 -- what is asked of the types of variables: laws of types and limits
-pub record AreWholeTypes (w : Setting) (depth : ℕ) (variables : List Planned) : Type 0 where
+pub record AreWholeTypes (w : Setting) (variables : List Planned) : Type 0 where
   pub each : (j : ℕ) (v : Planned) → slice_get variables j ≡ Some v
-      → AreOrdered (cells_of w.table v.type) × (length (cells_of w.table v.type) ≡ size_of w.table v.type) × ((variable_area w depth v).bytes < 2 ^ 64)
+      → AreOrdered (cells_of w.table v.type) × (length (cells_of w.table v.type) ≡ size_of w.table v.type) × ((variable_area w v).bytes < 2 ^ 64)
 
 -- an object is held, and its area lies where it should
 record Stands (g : Ground) (m : memory.Memory) (k : ℕ) (o : Object) : Type 0 where
@@ -116,14 +109,14 @@ record Stands (g : Ground) (m : memory.Memory) (k : ℕ) (o : Object) : Type 0 w
   pub lies : Lies g.kind m (address g k) (outline o)
 
 pub related-frame : (w : Setting) (number_of : TypeId → ℕ) (s : source.State) (c : flat.State) (d : ℕ) (variables : List Planned) → Related w number_of s c
-    → length c.memory.frames ≡ suc d → IsTrue (fits c.memory (frame_areas w (suc d) variables) (frame_charge w.table variables))
+    → length c.memory.frames ≡ suc d → IsTrue (fits c.memory (frame_areas w variables) (frame_charge w.table variables))
     → ((k : ℕ) (o : Object) → slice_get s.memory.objects k ≡ Some o → o.live ≡ true → AllThere (length s.memory.objects) o)
-    → AreWholeTypes w (suc d) variables
-    → areas_size (frame_areas w (suc d) variables) ≤ 3 * frame_charge w.table variables
-    → Related w number_of (primitive.with_frame w (suc d) variables s) (machine.with_frame (frame_areas w (suc d) variables) (frame_charge w.table variables) c)
+    → AreWholeTypes w variables
+    → areas_size (frame_areas w variables) ≤ 3 * frame_charge w.table variables
+    → Related w number_of (primitive.with_frame w (suc d) variables s) (machine.with_frame (frame_areas w variables) (frame_charge w.table variables) c)
 related-frame w number_of s c d variables r deep room there whole small = record {
   areas = record {
-    count = length-append c.areas plus ∙ ap (λ (n : ℕ). n + length plus) r.areas.count ∙ ap (λ (n : ℕ). length objects + n) (length-placed fa start ∙ length-map variables (variable_area w (suc d)) ∙ sym (length-map variables nv)) ∙ sym (length-append objects more);
+    count = length-append c.areas plus ∙ ap (λ (n : ℕ). n + length plus) r.areas.count ∙ ap (λ (n : ℕ). length objects + n) (length-placed fa start ∙ length-map variables (variable_area w) ∙ sym (length-map variables nv)) ∙ sym (length-append objects more);
     sizes = λ k z a e f. areas_after k z a (which objects more k z e) f;
     lie = λ k z e l. (stands_after k z l (which objects more k z e)).lies;
     apart = λ i j p q e l f m x. apart_after i j p q l m x (which objects more i p e) (which objects more j q f);
@@ -151,7 +144,7 @@ related-frame w number_of s c d variables r deep room there whole small = record
     more = map (new_variable w.table (suc d)) variables
 
     fa : List Area
-    fa = frame_areas w (suc d) variables
+    fa = frame_areas w variables
 
     charge : ℕ
     charge = frame_charge w.table variables
@@ -168,13 +161,13 @@ related-frame w number_of s c d variables r deep room there whole small = record
     region : start + areas_size fa ≤ c.memory.bounds.stack_end
     region = (room_of-fits c.memory fa charge room).region
 
-    area_there : (j : ℕ) (v : Planned) → slice_get variables j ≡ Some v → slice_get fa j ≡ Some (variable_area w (suc d) v)
-    area_there j v e = get-mapped (variable_area w (suc d)) variables j v e
+    area_there : (j : ℕ) (v : Planned) → slice_get variables j ≡ Some v → slice_get fa j ≡ Some (variable_area w v)
+    area_there j v e = get-mapped (variable_area w) variables j v e
 
     placed_there : (j : ℕ) (v : Planned) → slice_get variables j ≡ Some v
-        → slice_get (c.areas ++ plus) (length objects + j) ≡ Some (record { area = variable_area w (suc d) v; address = slice_index (addresses fa start) j })
+        → slice_get (c.areas ++ plus) (length objects + j) ≡ Some (record { area = variable_area w v; address = slice_index (addresses fa start) j })
     placed_there j v e =
-        ap (λ (n : ℕ). slice_get (c.areas ++ plus) (n + j)) (sym r.areas.count) ∙ get_back c.areas plus j ∙ get-placed fa start j (variable_area w (suc d) v) (area_there j v e)
+        ap (λ (n : ℕ). slice_get (c.areas ++ plus) (n + j)) (sym r.areas.count) ∙ get_back c.areas plus j ∙ get-placed fa start j (variable_area w v) (area_there j v e)
 
     new_address : (j : ℕ) (v : Planned) → slice_get variables j ≡ Some v → address (ground w number_of (objects ++ more) (c.areas ++ plus)) (length objects + j) ≡ slice_index (addresses fa start) j
     new_address j v e = ap address_in (placed_there j v e)
@@ -187,7 +180,7 @@ related-frame w number_of s c d variables r deep room there whole small = record
         of x =
             let p = placed_there j x.0 x.1 in
             let g : slice_get (c.areas ++ plus) (length objects + j) ≡ Some a = subst (λ (i : ℕ). slice_get (c.areas ++ plus) i ≡ Some a) q f in
-            let b : record { area = variable_area w (suc d) x.0; address = slice_index (addresses fa start) j } ≡ a = cc (p, g) in
+            let b : record { area = variable_area w x.0; address = slice_index (addresses fa start) j } ≡ a = cc (p, g) in
             ap (λ (y : PlacedArea). y.area) (sym b) ∙ ap (λ (y : Object). area_of w.kind (outline y)) x.2
 
     -- where an old live object lies
@@ -220,13 +213,13 @@ related-frame w number_of s c d variables r deep room there whole small = record
     new_lies : (j : ℕ) (v : Planned) → slice_get variables j ≡ Some v → Lies w.kind after.memory (slice_index (addresses fa start) j) (outline (nv v))
     new_lies j v e =
         let t = area_there j v e in
-        let low = area-after_start fa start j (slice_get_within fa j (variable_area w (suc d) v) t) in
-        let high = area-before_end fa start j (variable_area w (suc d) v) t in
+        let low = area-after_start fa start j (slice_get_within fa j (variable_area w v) t) in
+        let high = area-before_end fa start j (variable_area w v) t in
         record {
           above = omega (arith, low);
-          aligned = address-by_8 fa start j start_by_8 (slice_get_within fa j (variable_area w (suc d) v) t);
+          aligned = address-by_8 fa start j start_by_8 (slice_get_within fa j (variable_area w v) t);
           inside = (let f = length-areas_made fa c.memory.bytes start in let g = region in let x = r.sound.heap in let y = r.sound.size in omega (arith, high, f, g, x, y));
-          depth = λ i h. depth-of_new_area c.memory fa charge j i (variable_area w (suc d) v) t h ∙ ap suc deep;
+          depth = λ i h. depth-of_new_area c.memory fa charge j i (variable_area w v) t h ∙ ap suc deep;
           static = λ z. absurd (omega arith);
         }
 
@@ -234,9 +227,9 @@ related-frame w number_of s c d variables r deep room there whole small = record
     made j v e = record {
       holds = subst (λ (a : ℕ). HoldsBy (w.kind v.node) (ground w number_of (objects ++ more) (c.areas ++ plus)) after.memory.bytes a (nv v)) (sym (new_address j v e))
           (holds-zero (w.kind v.node) (ground w number_of (objects ++ more) (c.areas ++ plus)) after.memory.bytes (slice_index (addresses fa start) j) (suc d) v.node (size_of w.table v.type) (cells_of w.table v.type)
-          (whole.each j v e).0 (whole.each j v e).1 (λ i h. get-areas_made_inside fa c.memory.bytes start j (variable_area w (suc d) v) i (area_there j v e) h)
-          (number-areas_made_first fa c.memory.bytes start j (slice_index (addresses fa start) j - 8) (variable_area w (suc d) v) (area_there j v e)
-          (let low = area-after_start fa start j (slice_get_within fa j (variable_area w (suc d) v) (area_there j v e)) in omega (arith, low)) (whole.each j v e).2
+          (whole.each j v e).0 (whole.each j v e).1 (λ i h. get-areas_made_inside fa c.memory.bytes start j (variable_area w v) i (area_there j v e) h)
+          (number-areas_made_first fa c.memory.bytes start j (slice_index (addresses fa start) j - 8) (variable_area w v) (area_there j v e)
+          (let low = area-after_start fa start j (slice_get_within fa j (variable_area w v) (area_there j v e)) in omega (arith, low)) (whole.each j v e).2
           (let g = region in let x = r.sound.heap in let y = r.sound.size in omega (arith, g, x, y))));
       lies = subst (λ (a : ℕ). Lies w.kind after.memory a (outline (nv v))) (sym (new_address j v e)) (new_lies j v e);
     }
@@ -252,8 +245,10 @@ related-frame w number_of s c d variables r deep room there whole small = record
           holds = subst (λ (a : ℕ). HoldsBy (w.kind z.node) (ground w number_of (objects ++ more) (c.areas ++ plus)) after.memory.bytes a z) (sym same)
               (holds-grow w number_of objects more c.areas plus r.areas.count (w.kind z.node) after.memory.bytes (address (ground w number_of objects c.areas) k) z (there k z e l)
               (holds-agree (w.kind z.node) (ground w number_of objects c.areas) c.memory.bytes after.memory.bytes (address (ground w number_of objects c.areas) k) z x.lies.above
-              (record { each = λ i m n. get-areas_made_other fa c.memory.bytes start i
-              (⊎_elim (λ y. inl (let u = x.lies.above in omega (arith, y, m, n, u))) (λ y. inr (let u = x.lies.above in let t = region in omega (arith, y, m, n, u, t))) (beside (address (ground w number_of objects c.areas) k) (outline z) x.lies)) }) x.holds));
+              (record {
+                each = λ i m n. get-areas_made_other fa c.memory.bytes start i
+                    (⊎_elim (λ y. inl (let u = x.lies.above in omega (arith, y, m, n, u))) (λ y. inr (let u = x.lies.above in let t = region in omega (arith, y, m, n, u, t))) (beside (address (ground w number_of objects c.areas) k) (outline z) x.lies));
+              }) x.holds));
           lies = subst (λ (a : ℕ). Lies w.kind after.memory a (outline z)) (sym same) (lies_after (address (ground w number_of objects c.areas) k) (outline z) x.lies);
         }
     stands_after k z l (new j q e) = of (mapped-from nv variables j z e)
@@ -274,8 +269,8 @@ related-frame w number_of s c d variables r deep room there whole small = record
     old_new : (a : ℕ) (o : Outline) → Lies w.kind c.memory a o → (j : ℕ) (v : Planned) → slice_get variables j ≡ Some v → Apart w.kind a o (slice_index (addresses fa start) j) (outline (nv v))
     old_new a o l j v e =
         let t = area_there j v e in
-        let low = area-after_start fa start j (slice_get_within fa j (variable_area w (suc d) v) t) in
-        let high = area-before_end fa start j (variable_area w (suc d) v) t in
+        let low = area-after_start fa start j (slice_get_within fa j (variable_area w v) t) in
+        let high = area-before_end fa start j (variable_area w v) t in
         ⊎_elim (λ h. inl (omega (arith, h, low))) (λ h. inr (let g = region in omega (arith, h, high, g))) (beside a o l)
 
     turned : {A B : Type 0} → A ⊎ B → B ⊎ A
@@ -284,8 +279,8 @@ related-frame w number_of s c d variables r deep room there whole small = record
     new_new : (i j : ℕ) (v u : Planned) → slice_get variables i ≡ Some v → slice_get variables j ≡ Some u → i ≢ j
         → Apart w.kind (slice_index (addresses fa start) i) (outline (nv v)) (slice_index (addresses fa start) j) (outline (nv u))
     new_new i j v u e f x = ⊎_elim
-        (λ h. inl (areas-apart fa start i j (variable_area w (suc d) v) (area_there i v e) h (slice_get_within fa j (variable_area w (suc d) u) (area_there j u f))))
-        (λ h. inr (areas-apart fa start j i (variable_area w (suc d) u) (area_there j u f) (omega (arith, h, x)) (slice_get_within fa i (variable_area w (suc d) v) (area_there i v e)))) (case i j)
+        (λ h. inl (areas-apart fa start i j (variable_area w v) (area_there i v e) h (slice_get_within fa j (variable_area w u) (area_there j u f))))
+        (λ h. inr (areas-apart fa start j i (variable_area w u) (area_there j u f) (omega (arith, h, x)) (slice_get_within fa i (variable_area w v) (area_there i v e)))) (case i j)
       where
         case : (x y : ℕ) → (x < y) ⊎ (y ≤ x)
         case x y = grind arith

@@ -1,18 +1,17 @@
 -- A store of an integer into raw bytes of an object without tags.
-use Rattle.std.proofs.Common.{◌≡◌, ◌≢◌, ℕ, zero, suc, ◌+◌, ◌-◌, ◌*◌, ◌%◌, ◌^◌, ◌<◌, ◌≤◌, ◌⊎◌, inl, inr, ℤ, Bool, true, false, List, [], ◌∷◌, map, length, slice_get, slice_set, slice_index, Option, Some, None, refl, ap, sym, subst, ◌∙◌, ⊎_elim, arith, nat_eq, if◌then◌else◌}
-use Rattle.std.specs.Prelude.{◌&&◌, nat_lt}
+use Rattle.std.proofs.Common.{◌≡◌, ℕ, zero, suc, ◌+◌, ◌-◌, ◌*◌, ◌%◌, ◌^◌, ◌<◌, ◌≤◌, ◌⊎◌, inl, inr, ℤ, Bool, false, List, ◌∷◌, length, slice_get, slice_set, slice_index, Option, Some, None, refl, ap, sym, ◌∙◌, ⊎_elim, arith, if◌then◌else◌}
 use Rattle.std.proofs.lemmas.Bool.Decides.{nat_tests}
 use Rattle.std.proofs.lemmas.Option.{slice_get_within}
 use Rattle.cc_base.specs.declared.number.TypeId.{TypeId}
 use Rattle.cc_base.specs.declared.number.NodeId.{NodeId}
 use Rattle.cc_base.specs.declared.kind.Kind.{Kind}
-use Rattle.c_types.specs.Cells.{Cell, raw, pointer}
+use Rattle.c_types.specs.Cells.{raw, pointer}
 use Rattle.c_types.specs.Widths.{kind_width, before}
 use Rattle.type_laws.proofs.Widths.{AreRaw, before-raw, raw-apart, pointer-besides, pointer-apart}
 use Rattle.integers.specs.Words.{word}
 use Rattle.integers.specs.Arithmetic.{IntegerType}
-use Rattle.runs.specs.Outcome.{Outcome, Done, allowed}
-use Rattle.runs.specs.Control.{Control, Goes}
+use Rattle.runs.specs.Outcome.{Done, allowed}
+use Rattle.runs.specs.Control.{Goes}
 use Rattle.flat_mem.specs.Bytes.{number, stored}
 use Rattle.flat_mem.specs.Placement.{contents_size}
 use Rattle.flat_mem.proofs.ByteLaws.{length-stored, get-stored_other, stored-bytes, number-stored_apart}

@@ -1,5 +1,5 @@
 -- What is left of objects where bytes elsewhere change.
-use Rattle.std.proofs.Common.{◌≡◌, ◌≢◌, ℕ, zero, suc, ◌+◌, ◌-◌, ◌*◌, ◌%◌, ◌<◌, ◌≤◌, List, [], ◌∷◌, length, slice_get, slice_index, Option, Some, None, ap, refl, ◌∙◌, arith, nat_eq}
+use Rattle.std.proofs.Common.{◌≡◌, ◌≢◌, ℕ, zero, suc, ◌+◌, ◌-◌, ◌*◌, ◌%◌, ◌<◌, ◌≤◌, List, [], ◌∷◌, length, slice_get, Option, Some, None, ap, refl, ◌∙◌, arith, nat_eq}
 use Rattle.std.specs.Int.{bit_at}
 use Rattle.cc_base.specs.declared.number.TypeId.{TypeId}
 use Rattle.cc_base.specs.declared.number.NodeId.{NodeId}
@@ -13,7 +13,7 @@ use Rattle.flat_mem.specs.Placement.{word_count, contents_size, tagged_size, tag
 use Rattle.flat_mem.proofs.StoreLaws.{Agree, agree-number}
 use Rattle.src_mem.specs.Pointers.{Pointer}
 use Rattle.src_mem.specs.Memory.{Object}
-use Rattle.src_mem.specs.Outlines.{Outline, outline}
+use Rattle.src_mem.specs.Outlines.{Outline}
 use Rattle.cured_code.specs.FlatState.{words_at}
 use Rattle.sim_relation.specs.Ground.{Ground, word_number}
 use Rattle.sim_relation.specs.Objects.{HoldsTyped, HoldsTagged, HoldsWord, HoldsBy, area_by}
@@ -39,7 +39,7 @@ before-most kind [] (suc i) = omega arith
 before-most kind (c ∷ cs) zero = omega arith
 before-most kind (c ∷ cs) (suc i) = let h : before kind cs i ≤ before kind cs (length cs) = before-most kind cs i in omega arith
 
-pub typed-contents : (kind : NodeId → Kind) (k : Kind) → k ≢ Wild → (o : Outline) (i : ℕ) → before kind o.cells i ≤ contents_size (area_by kind k o)
+pub typed-contents : (kind : NodeId → Kind) (k : Kind) → k ≢ Wild → (o : Outline) (i : ℕ) → before kind o.cells i ≤ contents_size (area_by kind k o.size o.cells)
 typed-contents kind Safe n o i = let h : before kind o.cells i ≤ before kind o.cells (length o.cells) = before-most kind o.cells i in omega arith
 typed-contents kind Seq n o i = let h : before kind o.cells i ≤ before kind o.cells (length o.cells) = before-most kind o.cells i in omega arith
 typed-contents kind Rtti n o i = let h : before kind o.cells i ≤ before kind o.cells (length o.cells) = before-most kind o.cells i in omega arith
@@ -82,13 +82,15 @@ typed-agree g bytes new at o a h = record {
 
 word-agree : (g : Ground) (bytes new : List ℕ) (at : ℕ) (o : Object) (k : ℕ) (p : Option Pointer) → k < word_count o.size → Agree bytes new (at - 8) (at + tagged_size o.size) → HoldsWord g bytes at o k p → HoldsWord g new at o k p
 unfolding tagged_size
-word-agree g bytes new at o k None l a h =
-    (ap (λ (n : ℕ). nat_eq (bit_at n (k % 8)) 1) (a.each (tag_byte at o.size k) (omega arith) (omega arith)) ∙ h.0,
-    λ i m n. a.each (at + 8 * k + i) (omega arith) (omega arith) ∙ h.1 i m n)
-word-agree g bytes new at o k (Some p) l a h =
-    (ap (λ (n : ℕ). nat_eq (bit_at n (k % 8)) 1) (a.each (tag_byte at o.size k) (omega arith) (omega arith)) ∙ h.0,
-    agree-number 8 bytes new (at - 8) (at + tagged_size o.size) (at + 8 * k) a (omega arith) (omega arith) ∙ h.1,
-    agree-number 8 bytes new (at - 8) (at + tagged_size o.size) (base_word at o.size k) a (omega arith) (omega arith) ∙ h.2)
+word-agree g bytes new at o k None l a h = (
+  ap (λ (n : ℕ). nat_eq (bit_at n (k % 8)) 1) (a.each (tag_byte at o.size k) (omega arith) (omega arith)) ∙ h.0,
+  λ i m n. a.each (at + 8 * k + i) (omega arith) (omega arith) ∙ h.1 i m n,
+)
+word-agree g bytes new at o k (Some p) l a h = (
+  ap (λ (n : ℕ). nat_eq (bit_at n (k % 8)) 1) (a.each (tag_byte at o.size k) (omega arith) (omega arith)) ∙ h.0,
+  agree-number 8 bytes new (at - 8) (at + tagged_size o.size) (at + 8 * k) a (omega arith) (omega arith) ∙ h.1,
+  agree-number 8 bytes new (at - 8) (at + tagged_size o.size) (base_word at o.size k) a (omega arith) (omega arith) ∙ h.2,
+)
 
 tagged-agree : (g : Ground) (bytes new : List ℕ) (at : ℕ) (o : Object) → 8 ≤ at → Agree bytes new (at - 8) (at + tagged_size o.size) → HoldsTagged g bytes at o → HoldsTagged g new at o
 tagged-agree g bytes new at o above a h = record {
@@ -97,7 +99,7 @@ tagged-agree g bytes new at o above a h = record {
 }
 
 -- an object stays as it is where the bytes of its area stay
-pub holds-agree : (k : Kind) (g : Ground) (bytes new : List ℕ) (at : ℕ) (o : Object) → 8 ≤ at → Agree bytes new (at - 8) (at + contents_size (area_by g.kind k (outline o))) → HoldsBy k g bytes at o → HoldsBy k g new at o
+pub holds-agree : (k : Kind) (g : Ground) (bytes new : List ℕ) (at : ℕ) (o : Object) → 8 ≤ at → Agree bytes new (at - 8) (at + contents_size (area_by g.kind k o.size o.cells)) → HoldsBy k g bytes at o → HoldsBy k g new at o
 holds-agree Safe g bytes new at o above a h = typed-agree g bytes new at o (record { each = λ i l m. a.each i (omega arith) (omega arith) }) h
 holds-agree Seq g bytes new at o above a h = typed-agree g bytes new at o (record { each = λ i l m. a.each i (omega arith) (omega arith) }) h
 holds-agree Rtti g bytes new at o above a h = typed-agree g bytes new at o (record { each = λ i l m. a.each i (omega arith) (omega arith) }) h

@@ -1,10 +1,10 @@
 -- A call is left: its frame goes, and its objects end.
-use Rattle.std.proofs.Common.{◌≡◌, ◌≢◌, ℕ, zero, suc, ◌+◌, ◌-◌, ◌*◌, ◌<◌, ◌≤◌, ◌⊎◌, inl, inr, Bool, true, false, ◌&&◌, List, [], ◌∷◌, map, length, slice_get, Some, refl, ap, sym, subst, ◌∙◌, arith, nat_le, nat_lt, if◌then◌else◌}
+use Rattle.std.proofs.Common.{◌≡◌, ◌≢◌, ℕ, zero, suc, ◌+◌, ◌-◌, Bool, true, false, ◌&&◌, List, [], ◌∷◌, map, length, slice_get, Some, refl, ap, sym, subst, ◌∙◌, arith, nat_le, nat_lt, if◌then◌else◌}
 use Rattle.std.specs.Prelude.{◌==◌}
 use Rattle.std.proofs.lemmas.Bool.Decides.{nat_tests}
 use Rattle.std.proofs.lemmas.List.{length-map}
 use Rattle.cc_base.specs.declared.number.TypeId.{TypeId}
-use Rattle.flat_mem.specs.Memory.{Frame, Memory, depth_in, popped, charges, older_frames}
+use Rattle.flat_mem.specs.Memory.{Frame, depth_in, popped, charges, older_frames}
 use Rattle.flat_mem.proofs.SoundLaws.{sound-popped}
 use Rattle.src_mem.specs.Memory.{Object, Planned, frame_charge}
 use Rattle.src_mem.specs.State as source
@@ -76,8 +76,10 @@ related-leave w number_of s c d variables frame frames r newest deep charge = re
     apart = λ i j p q e l f m x.
         let a = lived (suc d) s.memory.objects i p e l in let b = lived (suc d) s.memory.objects j q f m in r.areas.apart i j p q a.found a.live b.found b.live x;
   };
-  holds = record { each = λ k z e l. let x = lived (suc d) s.memory.objects k z e l in
-      subst (λ (g : Ground). Holds g c.memory.bytes k z) (sym grounds) (r.holds.each k z x.found x.live) };
+  holds = record {
+    each = λ k z e l. let x = lived (suc d) s.memory.objects k z e l in
+        subst (λ (g : Ground). Holds g c.memory.bytes k z) (sym grounds) (r.holds.each k z x.found x.live);
+  };
   sound = sound-popped c.memory r.sound;
   small = r.small;
   room = record {

@@ -4,6 +4,8 @@ pub mod Places
 pub mod Changes
 pub mod Integers
 pub mod Pointers
-pub mod Leaving
 pub mod Growth
 pub mod Frames
+pub mod Room
+pub mod Leaving
+pub mod Ends

@@ -1,10 +1,10 @@
 -- Bytes of a living object without tags that an access falls on, where they are in the byte list, and the image of the access.
-use Rattle.std.proofs.Common.{◌≡◌, ◌≢◌, ℕ, ◌+◌, ◌≤◌, ◌||◌, true, List, [], ◌∷◌, ◌++◌, length, slice_get, slice_index, nat_eq, nat_le, ◌<◌, refl, ap, ◌∙◌, arith}
+use Rattle.std.proofs.Common.{◌≡◌, ◌≢◌, ℕ, ◌+◌, ◌≤◌, ◌||◌, true, List, [], ◌∷◌, ◌++◌, length, slice_index, nat_eq, nat_le, ◌<◌, refl, ap, ◌∙◌, arith}
 use Rattle.std.proofs.lemmas.Bool.Decides.{nat_tests}
 use Rattle.cc_base.specs.declared.number.TypeId.{TypeId}
 use Rattle.cc_base.specs.declared.kind.Kind.{Kind}
 use Rattle.cc_base.specs.declared.kind.Kind.TheVariants.{Safe, Seq, Rtti, Wild}
-use Rattle.c_types.specs.Widths.{ByteRange, before}
+use Rattle.c_types.specs.Widths.{before}
 use Rattle.type_laws.proofs.Widths.{AreRaw, before-raw}
 use Rattle.flat_mem.specs.Bytes.{number}
 use Rattle.flat_mem.proofs.ByteLaws.{number-same}

@@ -1,5 +1,5 @@
 -- A store of a pointer, of any kind, where a pointer of its type begins in an object without tags.
-use Rattle.std.proofs.Common.{◌≡◌, ◌≢◌, ℕ, zero, suc, ◌+◌, ◌-◌, ◌*◌, ◌<◌, ◌≤◌, ◌⊎◌, inl, inr, Bool, true, false, List, [], ◌∷◌, map, length, slice_get, slice_set, slice_index, Option, Some, None, refl, ap, sym, subst, ◌∙◌, ⊎_elim, arith, nat_eq, nat_le, ◌||◌, if◌then◌else◌}
+use Rattle.std.proofs.Common.{◌≡◌, ◌≢◌, ℕ, zero, suc, ◌+◌, ◌-◌, ◌*◌, ◌<◌, ◌≤◌, ◌⊎◌, inl, inr, Bool, true, false, List, length, slice_get, slice_index, Option, Some, None, refl, ap, sym, subst, ◌∙◌, ⊎_elim, arith, nat_eq, nat_le, ◌||◌, if◌then◌else◌}
 use Rattle.std.proofs.lemmas.Bool.Decides.{nat_tests}
 use Rattle.cc_base.specs.declared.number.TypeId.{TypeId}
 use Rattle.cc_base.specs.declared.number.NodeId.{NodeId}
@@ -9,13 +9,13 @@ use Rattle.c_types.specs.Cells.{Cell, raw, pointer, AreOrdered}
 use Rattle.c_types.specs.Widths.{kind_width, before}
 use Rattle.c_types.proofs.OrderedPointers.{pointer_bytes}
 use Rattle.type_laws.proofs.Widths.{before-next, before-behind, before-pointer, raw_no_pointer}
-use Rattle.runs.specs.Outcome.{Outcome, Done, allowed}
-use Rattle.runs.specs.Control.{Control, Goes}
-use Rattle.flat_mem.specs.Bytes.{number, zeroed}
+use Rattle.runs.specs.Outcome.{Done, allowed}
+use Rattle.runs.specs.Control.{Goes}
+use Rattle.flat_mem.specs.Bytes.{zeroed}
 use Rattle.flat_mem.specs.Placement.{contents_size}
 use Rattle.flat_mem.proofs.ByteLaws.{length-zeroed, get-zeroed_other}
 use Rattle.src_mem.specs.Pointers.{Pointer, Null, Number, At, Function, Location}
-use Rattle.src_mem.specs.Memory.{Object, touches, untouched, with_pointer, with_entry, entry_of, pointer_or_null}
+use Rattle.src_mem.specs.Memory.{Object, untouched, with_pointer, with_entry, entry_of, pointer_or_null}
 use Rattle.src_mem.specs.State as source
 use Rattle.src_mem.specs.State.{Setting, given}
 use Rattle.src_mem.specs.Primitives.{Spot, with_object, store_pointer}

@@ -5,3 +5,4 @@ pub mod Related
 pub mod Outcomes
 pub mod Points
 pub mod Small
+pub mod Laws

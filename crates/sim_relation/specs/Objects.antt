@@ -1,5 +1,5 @@
 -- A byte list stands for an object of a C program, and where the areas of objects lie.
-use Rattle.std.specs.Prelude.{◌≡◌, ◌⊎◌, ℕ, zero, suc, ◌+◌, ◌*◌, ◌%◌, ◌<◌, ◌≤◌, true, false, List, length, slice_get, slice_index, Option, Some, None}
+use Rattle.std.specs.Prelude.{◌≡◌, ◌⊎◌, ℕ, zero, suc, ◌+◌, ◌*◌, ◌%◌, ◌<◌, ◌≤◌, true, false, List, map, length, slice_get, slice_index, Option, Some, None}
 use Rattle.cc_base.specs.declared.number.TypeId.{TypeId}
 use Rattle.cc_base.specs.declared.number.NodeId.{NodeId}
 use Rattle.cc_base.specs.declared.kind.Kind.{Kind}
@@ -9,10 +9,13 @@ use Rattle.flat_mem.specs.Bytes.{number}
 use Rattle.flat_mem.specs.Placement.{data_word, word_count, contents_size}
 use Rattle.flat_mem.specs.Memory.{Memory, depth_of}
 use Rattle.wild_tags.specs.Words.{length_at, tag_at, base_at}
-use Rattle.c_types.specs.Cells.{raw, pointer, AreOrdered}
+use Rattle.c_types.specs.Cells.{Cell, raw, pointer, AreOrdered}
+use Rattle.c_types.specs.Layouts.{size_of}
+use Rattle.c_types.specs.Equality.{cells_of}
 use Rattle.c_types.specs.Widths.{before, width_of}
 use Rattle.src_mem.specs.Pointers.{Pointer}
-use Rattle.src_mem.specs.Memory.{Object, pointer_or_null}
+use Rattle.src_mem.specs.Memory.{Object, Planned, pointer_or_null}
+use Rattle.src_mem.specs.State.{Setting}
 use Rattle.src_mem.specs.Outlines.{Outline}
 use Rattle.cured_code.specs.FlatState.{words_at}
 use Rattle.sim_relation.specs.Ground.{Ground, address, first_word, second_word, pointer_words, word_number}
@@ -58,16 +61,23 @@ pub record HoldsAll (g : Ground) (bytes : List ℕ) (objects : List Object) : Ty
 -- Areas
 
 -- the area that an object needs: with tags as many bytes as it has, without tags as many as they have become
-abbrev pub area_by : (NodeId → Kind) → Kind → Outline → Area
-area_by kind_of Wild o = record { tagged = true; bytes = o.size }
-area_by kind_of kind o = record { tagged = false; bytes = width_of kind_of o.cells }
+abbrev pub area_by : (NodeId → Kind) → Kind → ℕ → List Cell → Area
+area_by kind_of Wild size cells = record { tagged = true; bytes = size }
+area_by kind_of kind size cells = record { tagged = false; bytes = width_of kind_of cells }
 
 abbrev pub area_of : (NodeId → Kind) → Outline → Area
-area_of kind_of o = area_by kind_of (kind_of o.node) o
+area_of kind_of o = area_by kind_of (kind_of o.node) o.size o.cells
 
 -- the room that it takes behind its first word
 abbrev pub room_of : (NodeId → Kind) → Outline → ℕ
 room_of kind_of o = contents_size (area_of kind_of o)
+
+-- the areas of the variables of a call, in order
+abbrev pub variable_area : Setting → Planned → Area
+variable_area w v = area_by w.kind (w.kind v.node) (size_of w.table v.type) (cells_of w.table v.type)
+
+abbrev pub frame_areas : Setting → List Planned → List Area
+frame_areas w variables = map (variable_area w) variables
 
 -- The number of frames at the making of an object, once cured: function 0 has the first frame, so what is made in d + 1 calls is made in
 -- d + 2 frames. What lives as long as the program is in none.

@@ -11,6 +11,7 @@ ghost use Rattle.sim_relation.specs.Objects.{HoldsTyped, HoldsTagged, Lies, Apar
 ghost use Rattle.sim_relation.specs.Accesses.{IsImage};
 ghost use Rattle.sim_relation.specs.Related.{Related};
 ghost use Rattle.sim_relation.specs.Points.{Exact, Zeroed, Low, HoldsAs};
+ghost use Rattle.sim_relation.specs.Laws.{ChangesOfAnObject, FramesBegin, FramesEnd, RelatedStatesEndAlike};
 ghost use Rattle.sim_relation.specs.Small.{first, second, small_setting, number_of, small_source, small_flat, small_ground, small_memory, bytes_with, memory_with_frame, outline_of_call, access_elsewhere, access_to_pointer};
 
 /// A state with `struct {int x; int *p;}`, whose p is SEQ and stands one past x, and with twelve bytes with tags stands for its state in C.
@@ -28,4 +29,22 @@ pub fn small_states_are_related()
     ensures zeroed { HoldsAs Zeroed integers.int (negsuc 0) (2 ^ 32 - 1) }
     ensures low { HoldsAs Low integers.int (negsuc 0) (2 ^ 32 - 1) }
     ensures not_exact { HoldsAs Exact integers.int (negsuc 0) (2 ^ 32 - 1) → ⊥ }
+{}
+
+/// An object changes by an access, and with it bytes of its area alone, which hold it again: then all other objects stand as they stood, and
+/// the states stay related. Each store, clearing and copy is such a change.
+pub fn changes_keep_states_related()
+    ensures { ChangesOfAnObject }
+{}
+
+/// A call begins in related states, with any variables of any kinds, where its frame fits; and it ends in them.
+pub fn calls_keep_states_related()
+    ensures entry { FramesBegin }
+    ensures leaving { FramesEnd }
+{}
+
+/// Where two runs end alike in related states they are the same run: the same output and bytes read, faithful accesses and calls, and bytes that
+/// stand for the memory.
+pub fn related_states_end_alike()
+    ensures { RelatedStatesEndAlike }
 {}

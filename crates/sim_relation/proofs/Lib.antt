@@ -9,3 +9,4 @@ pub mod Frames
 pub mod Room
 pub mod Leaving
 pub mod Ends
+pub mod Tagged

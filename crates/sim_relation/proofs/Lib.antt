@@ -10,3 +10,4 @@ pub mod Room
 pub mod Leaving
 pub mod Ends
 pub mod Tagged
+pub mod Bounds

@@ -1,20 +1,19 @@
 -- A store of an integer through a WILD pointer, `untag` and then `st`: the tags of the words that it touches go.
-use Rattle.std.proofs.Common.{◌≡◌, ◌≢◌, ℕ, zero, suc, ◌+◌, ◌-◌, ◌*◌, ◌/◌, ◌%◌, ◌^◌, ◌<◌, ◌≤◌, ◌⊎◌, inl, inr, ℤ, Bool, true, false, List, [], ◌∷◌, length, slice_get, slice_index, Option, Some, None, refl, ap, sym, subst, ◌∙◌, ⊎_elim, arith, nat_eq, nat_le, ◌||◌, if◌then◌else◌}
+use Rattle.std.proofs.Common.{◌≡◌, ℕ, ◌+◌, ◌-◌, ◌*◌, ◌/◌, ◌%◌, ◌^◌, ◌<◌, ◌≤◌, ◌⊎◌, inl, inr, ℤ, Bool, true, false, List, [], ◌∷◌, length, slice_index, Option, Some, None, refl, ap, sym, subst, ◌∙◌, ⊎_elim, arith, nat_eq, nat_le, ◌||◌, if◌then◌else◌}
 use Rattle.std.proofs.lemmas.Bool.Decides.{nat_tests}
 use Rattle.cc_base.specs.declared.number.TypeId.{TypeId}
 use Rattle.cc_base.specs.declared.kind.Kind.{Kind}
 use Rattle.cc_base.specs.declared.kind.Kind.TheVariants.{Wild}
 use Rattle.integers.specs.Words.{word}
 use Rattle.integers.specs.Arithmetic.{IntegerType}
-use Rattle.runs.specs.Outcome.{Outcome, Done, allowed, from}
-use Rattle.runs.specs.Control.{Control, Goes, then_go}
-use Rattle.c_types.specs.Widths.{ByteRange}
+use Rattle.runs.specs.Outcome.{Done, allowed, from}
+use Rattle.runs.specs.Control.{Goes, then_go}
 use Rattle.flat_mem.specs.Bytes.{number, stored, AreBytes}
-use Rattle.flat_mem.specs.Placement.{word_count, data_word, base_word, tag_byte, tagged_size, contents_size}
+use Rattle.flat_mem.specs.Placement.{word_count, data_word, base_word, tagged_size, contents_size}
 use Rattle.flat_mem.specs.Memory.{with_bytes}
 use Rattle.flat_mem.proofs.ByteLaws.{length-stored, get-stored_other, stored-bytes, number-stored_apart, number-same}
 use Rattle.flat_mem.proofs.StoreLaws.{stored-both, stored-low, number-zero}
-use Rattle.wild_tags.specs.Words.{word_at, touched_count, tag_at}
+use Rattle.wild_tags.specs.Words.{word_at, touched_count}
 use Rattle.wild_tags.specs.Calls.{untagged}
 use Rattle.wild_tags.specs.Inside.{allows_untag}
 use Rattle.wild_tags.proofs.CallLaws.{length-untagged, untagged-bytes}
@@ -28,7 +27,6 @@ use Rattle.src_mem.specs.Primitives.{Spot, with_object, store_integer}
 use Rattle.src_mem.specs.Outlines.{outline}
 use Rattle.src_mem.proofs.Outlines.{get-mapped}
 use Rattle.src_mem.proofs.Spots.{IsRight, spot-right}
-use Rattle.cured_code.specs.declared.instr.Instr.{Instr}
 use Rattle.cured_code.specs.declared.instr.Instr.TheVariants as instr
 use Rattle.cured_code.specs.FlatState as flat
 use Rattle.cured_code.specs.FlatState.{slot, is_in_list, stored_at, with_list, Trap, PlacedArea, goes}
@@ -102,29 +100,32 @@ tagged-integer g bytes b o n at first k v u h are above sized under range room s
 
     other : (i : ℕ) → i < word_count o.size → (8 * i + 8 ≤ at) ⊎ (at + n ≤ 8 * i) → (i < first) ⊎ (first + k ≤ i) → (p : Option Pointer) → HoldsWord g bytes b o i p
         → HoldsWord g (stored n (untagged_at bytes b o.size first k) (b + at) v) b (with_integer n at u o) i p
-    other i l t x None w =
-        (tag-stored n (untagged_at bytes b o.size first k) (b + at) v b o.size i (let q = range.inside in omega arith)
-        ∙ tag-untagged_other bytes b o.size first k i are range.own (λ j y z. let a = range.own in omega arith) x ∙ w.0,
-        λ j q r.
-            get-stored_other n (untagged_at bytes b o.size first k) (b + at) v (b + 8 * i + j) (⊎_elim (λ m. inl (omega arith)) (λ m. inr (omega arith)) t)
-            ∙ get-untagged_other bytes b o.size first k (b + 8 * i + j) (omega arith) (⊎_elim (λ m. inl (omega arith)) (λ m. inr (omega arith)) x)
-            ∙ w.1 j q r
-            ∙ sym (get-stored_other n o.bytes at u (8 * i + j) (⊎_elim (λ m. inl (omega arith)) (λ m. inr (omega arith)) t)))
-    other i l t x (Some p) w =
-        (tag-stored n (untagged_at bytes b o.size first k) (b + at) v b o.size i (let q = range.inside in omega arith)
-        ∙ tag-untagged_other bytes b o.size first k i are range.own (λ j y z. let a = range.own in omega arith) x ∙ w.0,
-        number-stored_apart 8 n (untagged_at bytes b o.size first k) (b + at) (b + 8 * i) v (⊎_elim (λ m. inl (omega arith)) (λ m. inr (omega arith)) t)
-        ∙ data-untagged_other bytes b o.size first k i l x ∙ w.1,
-        number-stored_apart 8 n (untagged_at bytes b o.size first k) (b + at) (base_word b o.size i) v (inr (let q = range.inside in omega arith))
-        ∙ base-untagged bytes b o.size first k i range.own l ∙ w.2)
+    other i l t x None w = (
+      tag-stored n (untagged_at bytes b o.size first k) (b + at) v b o.size i (let q = range.inside in omega arith)
+          ∙ tag-untagged_other bytes b o.size first k i are range.own (λ j y z. let a = range.own in omega arith) x ∙ w.0,
+      λ j q r.
+          get-stored_other n (untagged_at bytes b o.size first k) (b + at) v (b + 8 * i + j) (⊎_elim (λ m. inl (omega arith)) (λ m. inr (omega arith)) t)
+          ∙ get-untagged_other bytes b o.size first k (b + 8 * i + j) (omega arith) (⊎_elim (λ m. inl (omega arith)) (λ m. inr (omega arith)) x)
+          ∙ w.1 j q r
+          ∙ sym (get-stored_other n o.bytes at u (8 * i + j) (⊎_elim (λ m. inl (omega arith)) (λ m. inr (omega arith)) t)),
+    )
+    other i l t x (Some p) w = (
+      tag-stored n (untagged_at bytes b o.size first k) (b + at) v b o.size i (let q = range.inside in omega arith)
+          ∙ tag-untagged_other bytes b o.size first k i are range.own (λ j y z. let a = range.own in omega arith) x ∙ w.0,
+      number-stored_apart 8 n (untagged_at bytes b o.size first k) (b + at) (b + 8 * i) v (⊎_elim (λ m. inl (omega arith)) (λ m. inr (omega arith)) t)
+          ∙ data-untagged_other bytes b o.size first k i l x ∙ w.1,
+      number-stored_apart 8 n (untagged_at bytes b o.size first k) (b + at) (base_word b o.size i) v (inr (let q = range.inside in omega arith))
+          ∙ base-untagged bytes b o.size first k i range.own l ∙ w.2,
+    )
 
     word : (i : ℕ) → i < word_count o.size → ((8 * i < at + n) × (at < 8 * i + 8)) ⊎ ((8 * i + 8 ≤ at) ⊎ (at + n ≤ 8 * i))
         → HoldsWord g (stored n (untagged_at bytes b o.size first k) (b + at) v) b (with_integer n at u o) i (untouched n at o.pointers (8 * i))
     word i l (inl t) = subst (λ (x : Option Pointer). HoldsWord g (stored n (untagged_at bytes b o.size first k) (b + at) v) b (with_integer n at u o) i x)
-        (sym (ap (λ (c : Bool). if c then None else o.pointers (8 * i)) (touches-true n at i t)))
-        (tag-stored n (untagged_at bytes b o.size first k) (b + at) v b o.size i (let q = range.inside in omega arith)
-        ∙ tag-untagged bytes b o.size first k i are range.own (omega arith) (range.high i t).0 (range.high i t).1,
-        λ j q r. byte i l j q r t (side at n (8 * i + j)))
+        (sym (ap (λ (c : Bool). if c then None else o.pointers (8 * i)) (touches-true n at i t))) (
+          tag-stored n (untagged_at bytes b o.size first k) (b + at) v b o.size i (let q = range.inside in omega arith)
+              ∙ tag-untagged bytes b o.size first k i are range.own (omega arith) (range.high i t).0 (range.high i t).1,
+          λ j q r. byte i l j q r t (side at n (8 * i + j)),
+        )
     word i l (inr t) = subst (λ (x : Option Pointer). HoldsWord g (stored n (untagged_at bytes b o.size first k) (b + at) v) b (with_integer n at u o) i x)
         (sym (ap (λ (c : Bool). if c then None else o.pointers (8 * i)) (touches-false n at i t)))
         (other i l t (out i t) (o.pointers (8 * i)) (h.words i l))

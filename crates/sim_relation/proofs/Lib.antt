@@ -1,0 +1,13 @@
+pub mod Small
+pub mod Kept
+pub mod Places
+pub mod Changes
+pub mod Integers
+pub mod Pointers
+pub mod Growth
+pub mod Frames
+pub mod Room
+pub mod Leaving
+pub mod Ends
+pub mod Tagged
+pub mod Bounds

@@ -8,3 +8,6 @@ pub mod Comparisons
 pub mod Calls
 pub mod Addresses
 pub mod Expressions
+pub mod Between
+pub mod Parts
+pub mod Initialisers

@@ -11,3 +11,5 @@ pub mod Expressions
 pub mod Between
 pub mod Parts
 pub mod Initialisers
+pub mod Switches
+pub mod Statements

@@ -13,3 +13,4 @@ pub mod Parts
 pub mod Initialisers
 pub mod Switches
 pub mod Statements
+pub mod Nests

@@ -14,3 +14,5 @@ pub mod Initialisers
 pub mod Switches
 pub mod Statements
 pub mod Nests
+pub mod StatementNests
+pub mod Objects

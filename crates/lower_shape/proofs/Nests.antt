@@ -261,12 +261,15 @@ module _ (s : Stage) (k : lowered.Context) where
     nested (typed.RuntimeName name function ty) Z t n r m = absurd r
     nested (typed.Paren at e) Z t n r m = nested e Z t n r (omega (arith, m))
     nested (typed.Read p) Z t n r m = nested-place p t (Follows (after.Load (place_type p) (place_at p)) t) n 0 r.0
-        (λ o. follows-flat (after.Load (place_type p) (place_at p)) t o 0) (inl refl) (omega arith) m
+        (λ o. follows-flat (after.Load (place_type p) (place_at p)) t o 0) (inl refl)
+        (omega arith) m
     nested (typed.Unread p) Z t n r m = nested-place p t (Follows after.Nothing t) n 0 r.0
-        (λ o. follows-flat after.Nothing t o 0) (inl refl) (omega arith) m
+        (λ o. follows-flat after.Nothing t o 0) (inl refl)
+        (omega arith) m
     nested (typed.Decay p node ty) Z t n r m =
         nested-place p t (Follows (after.Decay (place_type p) (is_through_pointer p) node (pointee_at k.table ty) (place_at p)) t) n 0 r.0
-        (λ o. follows-flat (after.Decay (place_type p) (is_through_pointer p) node (pointee_at k.table ty) (place_at p)) t o 0) (inl refl) (omega arith) m
+        (λ o. follows-flat (after.Decay (place_type p) (is_through_pointer p) node (pointee_at k.table ty) (place_at p)) t o 0) (inl refl)
+        (omega arith) m
     nested (typed.Convert which at ty e) Z t n r m =
         nests-then (IsCodeOf e k t) (Converts which t at (type_of e) ty) n (nested e Z t n r.0 m) (converts-flat which t at (type_of e) ty n)
     nested (typed.Cast which at name e) Z t n r m =
@@ -285,10 +288,12 @@ module _ (s : Stage) (k : lowered.Context) where
     nested (typed.SizeOfType at paren name z ty) Z t n r m = constant-flat k t n ty (pos z)
     nested (typed.StepBefore which at p) Z t n r m =
         nested-place p t (Follows (after.Step false which (is_pointer k (place_type p)) (place_type p) (place_at p) at) t) n 0 r.0
-        (λ o. follows-flat (after.Step false which (is_pointer k (place_type p)) (place_type p) (place_at p) at) t o 0) (inl refl) (omega arith) (omega (arith, m))
+        (λ o. follows-flat (after.Step false which (is_pointer k (place_type p)) (place_type p) (place_at p) at) t o 0) (inl refl)
+        (omega arith) (omega (arith, m))
     nested (typed.StepAfter p which at) Z t n r m =
         nested-place p t (Follows (after.Step true which (is_pointer k (place_type p)) (place_type p) (place_at p) at) t) n 0 r.0
-        (λ o. follows-flat (after.Step true which (is_pointer k (place_type p)) (place_type p) (place_at p) at) t o 0) (inl refl) (omega arith) (omega (arith, m))
+        (λ o. follows-flat (after.Step true which (is_pointer k (place_type p)) (place_type p) (place_at p) at) t o 0) (inl refl)
+        (omega arith) (omega (arith, m))
     nested (typed.Arithmetic op a at b ty) Z t n r m =
         nests-two (IsCodeOf a k t) (IsCodeOf b k (suc t)) (Calculates (lowered.lowered op) t (type_of a) at) n
         (nested a Z t n r.0 (omega (arith, m))) (nested b Z (suc t) n r.1 (omega (arith, m)))
@@ -298,7 +303,8 @@ module _ (s : Stage) (k : lowered.Context) where
         (nested a Z t n r.0 (omega (arith, m))) (nested b Z (suc t) n r.1 (omega (arith, m)))
         (moves-flat which (is_subtract (operator_of op)) t (type_of a) (type_of b) at n)
     nested (typed.Difference a at b ty) Z t n r m =
-        nests-two (IsCodeOf a k t) (IsCodeOf b k (suc t)) (Line (instr.Point (point.Difference (value t) (value t) (type_of a) (value (suc t)) (type_of b) at) ∷ [])) n
+        nests-two (IsCodeOf a k t) (IsCodeOf b k (suc t))
+        (Line (instr.Point (point.Difference (value t) (value t) (type_of a) (value (suc t)) (type_of b) at) ∷ [])) n
         (nested a Z t n r.0 (omega (arith, m))) (nested b Z (suc t) n r.1 (omega (arith, m)))
         (nests-line (instr.Point (point.Difference (value t) (value t) (type_of a) (value (suc t)) (type_of b) at) ∷ []) n (omega arith))
     nested (typed.Compared op a at b ty) Z t n r m =
@@ -417,4 +423,5 @@ module _ (s : Stage) (k : lowered.Context) where
   -- a place with what follows its address
   pub flat-place : (p : TypedPlace) (t : ℕ) (a : After) (n : ℕ) → IsReadyPlace s p → expr_height (erased_place p) ≤ suc n
       → Nests n (IsCodeOfPlace p k t (Follows a t))
-  flat-place p t a n r m = nested-place p t (Follows a t) n 0 r (λ o. follows-flat a t o 0) (inl refl) (omega arith) m
+  flat-place p t a n r m = nested-place p t (Follows a t) n 0 r (λ o. follows-flat a t o 0) (inl refl)
+      (omega arith) m

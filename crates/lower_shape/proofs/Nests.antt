@@ -4,7 +4,6 @@ use Rattle.std.proofs.Common.{ℕ, ℤ, suc, ◌<◌, ◌≤◌, ◌+◌, ◌-�
 use Rattle.cc_base.specs.declared.place.Place.{Place}
 use Rattle.cc_base.specs.declared.number.NodeId.{NodeId}
 use Rattle.cc_base.specs.declared.number.TypeId.{TypeId}
-use Rattle.c_types.specs.Table.{shape_at}
 use Rattle.c_tree.specs.Depth.{expr_height, arguments_height}
 use Rattle.c_tree.specs.Erasure.{erased, erased_place, erased_arguments}
 use Rattle.c_tree.specs.Tree as tree

@@ -15,9 +15,8 @@ use Rattle.cil_form.specs.Typing.{no_types, IsObject, IsNamedAs, AreDeclaredAlik
 use Rattle.lower_rules.specs.Words.{object_in, object_by}
 use Rattle.lower_shape.specs.Stands.{Frame, stand, low}
 use Rattle.lower_shape.proofs.Addresses.{In}
-
-some-same : {A : Type 0} (a b : A) → Some a ≡ Some b → a ≡ b
-some-same a b h = cc
+use Rattle.lower_shape.proofs.Expressions.{some-same}
+use Rattle.lower_shape.proofs.Parts.{lt-below}
 
 node-same : (m n : NodeId) → same_node m n ≡ true → m ≡ n
 node-same m n h = ap (λ (z : ℕ). record { 0 = z }) (same m.0 n.0 h)
@@ -70,9 +69,6 @@ here h (x ∷ plans) p (inl q) g = subst (λ b. cond (not b) (1 + place h plans)
     same : same_node h x.node ≡ true
     same = subst (λ (z : NodeId). same_node h z ≡ true) (sym g ∙ ap (λ (z : Planned). z.node) q) (node-self h)
 here h (x ∷ plans) p (inr q) g = here-step h x plans (same_node h x.node) (here h plans p q g)
-
-lt-below : (n t : ℕ) → nat_lt n t ≡ true → n < t
-lt-below n t q = grind (arith, nat_tests, q)
 
 below-lt : (n t : ℕ) → n < t → nat_lt n t ≡ true
 below-lt n t q = grind (arith, nat_tests, q)

@@ -45,7 +45,7 @@ slot-if : (T : Table) (t : TypeId) (c : Bool) (o : Slot) (offset : ℕ) (u : Typ
 slot-if T t true o offset u e p = some-slot T t o offset u e (p refl)
 slot-if T t false o offset u e p = absurd (cc (e))
 
-lt-below : (n t : ℕ) → nat_lt n t ≡ true → n < t
+pub lt-below : (n t : ℕ) → nat_lt n t ≡ true → n < t
 lt-below n t q = grind (arith, nat_tests, q)
 
 eq-none : (n : ℕ) → (n == 0) ≡ true → n ≡ 0

@@ -1,5 +1,5 @@
 -- How deep the code of a statement is nested: less than twice as deep as the statement is high, since a loop's body is a block in a loop.
-use Rattle.std.proofs.Common.{ℕ, ℤ, suc, ◌<◌, ◌≤◌, ◌+◌, ◌*◌, ◌-◌, ◌^◌, ◌≡◌, sym, subst, Bool, true, false, List, [], ◌∷◌, ◌&&◌, arith, Option, Some, None, pos}
+use Rattle.std.proofs.Common.{ℕ, suc, ◌<◌, ◌≤◌, ◌+◌, ◌*◌, ◌-◌, sym, subst, Bool, true, false, List, [], ◌∷◌, ◌&&◌, arith, Option, Some, None, pos}
 use Rattle.cc_base.specs.declared.place.Place.{Place}
 use Rattle.cc_base.specs.declared.number.NodeId.{NodeId}
 use Rattle.cc_base.specs.declared.number.TypeId.{TypeId}
@@ -59,7 +59,8 @@ block items = block_items_height (erased_block_items items)
 abbrev optional : Option TypedExpr → ℕ
 optional o = optional_height (erased_optional o)
 
-text-flat : (T : Table) (o : Initialised) (char : TypeId) (at : Place) (base : ℕ) (bytes : List ℕ) → nest_of_code (text_code T o char at base bytes) ≤ 0
+text-flat : (T : Table) (o : Initialised) (char : TypeId) (at : Place) (base : ℕ) (bytes : List ℕ)
+    → nest_of_code (text_code T o char at base bytes) ≤ 0
 text-flat T o char at base [] = omega arith
 text-flat T o char at base (c ∷ bytes) = omega (arith, text-flat T o char at (base + 1) bytes)
 
@@ -169,7 +170,8 @@ module _ (s : Stage) (k : lowered.Context) where
 
   -- the pieces of a `switch`
   abbrev PiecesNest : TypedBlockItems → Nesting → Place → ℕ → Type 0
-  PiecesNest items v at n = (closed last : List Instr) → IsCodeOfPieces items k v at closed last → (nest_of_code closed ≤ n) × (nest_of_code last ≤ n - 1)
+  PiecesNest items v at n = (closed last : List Instr) → IsCodeOfPieces items k v at closed last
+      → (nest_of_code closed ≤ n) × (nest_of_code last ≤ n - 1)
 
   switch-nest : (e : TypedExpr) (items : TypedBlockItems) (at paren brace : Place) (v : Nesting) (n : ℕ) → 1 < n → IsReady s e → height e ≤ n
       → PiecesNest items v at (n - 1) → Nests n (IsCodeOfStatement (typed.Switch at paren e brace items) k v)

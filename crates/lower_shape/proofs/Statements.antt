@@ -21,7 +21,7 @@ use Rattle.cil_form.specs.declared.instr.Instr.{Instr}
 use Rattle.cil_form.specs.declared.instr.Instr.TheVariants as instr
 use Rattle.cil_form.specs.Typing.{Typing, Context, Includes, held_by}
 use Rattle.cil_form.proofs.TypingLaws.{includes-all}
-use Rattle.lower_rules.specs.Pieces.{Form, Line, Then, Choice, Blocked, Looped, When}
+use Rattle.lower_rules.specs.Pieces.{Form, Line, Then, Blocked, Looped, When}
 use Rattle.lower_rules.specs.Words.{value, work, unsigned_long}
 use Rattle.lower_rules.specs.Expressions.{IsCodeOf}
 use Rattle.lower_rules.specs.Initialisers.{IsCodeOfDeclaration}
@@ -35,15 +35,15 @@ use Rattle.lower_shape.proofs.Initialisers.{held-alone, declares}
 use Rattle.lower_shape.proofs.Switches.{between-more, otherwise-few, tested, guarded, begins}
 
 -- What stands around a statement is around its code: the blocks that `break` and `continue` leave, and the function that `return` ends.
-pub record IsWithin (f : Frame) (a : Around) (v : Nesting) (b : ℕ) : Type 0 where
+pub record IsNestedIn (f : Frame) (a : Around) (v : Nesting) (b : ℕ) : Type 0 where
   pub breaks : IsTrue a.breakable → v.breaks < b
   pub continues : IsTrue a.in_loop → v.continues < b
   pub result : f.result ≡ Some a.result
 
-within-loop : (f : Frame) (a : Around) (v : Nesting) (b : ℕ) → IsWithin f a v b → IsWithin f (in_a_loop a) (in_loop v) (suc (suc b))
+within-loop : (f : Frame) (a : Around) (v : Nesting) (b : ℕ) → IsNestedIn f a v b → IsNestedIn f (in_a_loop a) (in_loop v) (suc (suc b))
 within-loop f a v b h = record { breaks = λ _. omega arith; continues = λ _. omega arith; result = h.result }
 
-within-switch : (f : Frame) (a : Around) (v : Nesting) (b : ℕ) → IsWithin f a v b → IsWithin f (in_a_switch a) (in_switch v) (suc b)
+within-switch : (f : Frame) (a : Around) (v : Nesting) (b : ℕ) → IsNestedIn f a v b → IsNestedIn f (in_a_switch a) (in_switch v) (suc b)
 within-switch f a v b h = record { breaks = λ _. omega arith; continues = λ i. omega (arith, h.continues i); result = h.result }
 
 module _ (s : Stage) (f : Frame) (w : Knows s f) where
@@ -67,7 +67,7 @@ module _ (s : Stage) (f : Frame) (w : Knows s f) where
       (λ c d. leads s f w b kept e (Unit {0}) 0 c d r.0 told (held-alone (erased e) m))
 
   returned : (e : TypedExpr) (a : Around) (v : Nesting) (b : ℕ) (kept : Typing) (at : Place) → IsReadyReturn s a.result (Some e)
-      → IsWithin f a v b → Told s f (pieces_of e) → expr_holds (erased e) ≤ 256
+      → IsNestedIn f a v b → Told s f (pieces_of e) → expr_holds (erased e) ≤ 256
       → AllDo (stand s f b kept) v.switches (Then (IsCodeOf e (low s f) 0) (Line (instr.ReturnValue (value 0) (type_of e) at ∷ [])))
   returned e a v b kept at r within told m =
       value-then (stand s f b kept) v.switches (IsCodeOf e (low s f) 0) (Line (instr.ReturnValue (value 0) (type_of e) at ∷ []))
@@ -172,7 +172,7 @@ module _ (s : Stage) (f : Frame) (w : Knows s f) where
 
   mutual
     pub does : (st : TypedStatement) (a : Around) (v : Nesting) (static : Stage) (b : ℕ) (kept : Typing) → IsReadyStatement s static a st
-        → IsWithin f a v b → Includes (between v.switches) kept → Told s f (pieces_of_statement st) → statement_holds (erased_statement st) ≤ 256
+        → IsNestedIn f a v b → Includes (between v.switches) kept → Told s f (pieces_of_statement st) → statement_holds (erased_statement st) ≤ 256
         → v.switches + statement_height (erased_statement st) ≤ 256 → AllDo (stand s f b kept) v.switches (IsCodeOfStatement st (low s f) v)
     does (typed.Block brace items) a v static b kept r within inc told m less =
         does-items items a None v static b kept r within inc told m (omega (arith, less))
@@ -260,7 +260,7 @@ module _ (s : Stage) (f : Frame) (w : Knows s f) where
     does (typed.Return at (Some e)) a v static b kept r within inc told m less = returned e a v b kept at r within told m
 
     pub does-items : (items : TypedBlockItems) (a : Around) (on : Option TypeId) (v : Nesting) (static : Stage) (b : ℕ) (kept : Typing)
-        → AreReadyBlockItems s static a on items → IsWithin f a v b → Includes (between v.switches) kept → Told s f (pieces_of_block_items items)
+        → AreReadyBlockItems s static a on items → IsNestedIn f a v b → Includes (between v.switches) kept → Told s f (pieces_of_block_items items)
         → block_items_holds (erased_block_items items) ≤ 256 → v.switches + block_items_height (erased_block_items items) ≤ 256
         → AllDo (stand s f b kept) v.switches (IsCodeOfBlock items (low s f) v)
     does-items typed.NoBlockItem a on v static b kept r within inc told m less = does-nothing (stand s f b kept) v.switches
@@ -283,7 +283,7 @@ module _ (s : Stage) (f : Frame) (w : Knows s f) where
 
     -- the pieces of a `switch`
     pieces : (items : TypedBlockItems) (at : Place) (a : Around) (on : Option TypeId) (v : Nesting) (static : Stage) (b : ℕ)
-        → AreReadyBlockItems s static (in_a_switch a) on items → v.switches < 256 → IsWithin f (in_a_switch a) (in_switch v) (suc b)
+        → AreReadyBlockItems s static (in_a_switch a) on items → v.switches < 256 → IsNestedIn f (in_a_switch a) (in_switch v) (suc b)
         → Told s f (pieces_of_block_items items) → block_items_holds (erased_block_items items) ≤ 256 → suc (labels items) < 2 ^ 64
         → suc v.switches + block_items_height (erased_block_items items) ≤ 256 → PiecesDo items at v b
     pieces typed.NoBlockItem at a on v static b r here within told m few less closed last h =

@@ -13,7 +13,6 @@ use Rattle.c_tree.specs.TypedTree.{TypedBlockItems}
 use Rattle.c_unit_typing.specs.Units.{Around}
 use Rattle.c_ready.specs.Ready.{Stage, AreReadyBlockItems}
 use Rattle.src_machine.specs.Statements.{labels, otherwise, default_or}
-use Rattle.cil_form.specs.declared.number.Temp.{Temp}
 use Rattle.cil_form.specs.declared.number.Temp.TheVariants as temp
 use Rattle.cil_form.specs.declared.instr.Comparison.TheVariants as comparison
 use Rattle.cil_form.specs.declared.instr.Operator.TheVariants as operator
@@ -27,8 +26,8 @@ use Rattle.cil_form.specs.Typing.{HeldType, IntegerOf, Typing, Context, Includes
 use Rattle.cil_form.proofs.TypingLaws.{includes-all, includes-more, held-shaped}
 use Rattle.lower_rules.specs.Pieces.{Form, Line, Then, Choice}
 use Rattle.lower_rules.specs.Words.{value, work, unsigned_long}
-use Rattle.lower_rules.specs.Statements.{label_of, IsCodeOfTests, guard_code, Guarded}
-use Rattle.lower_shape.proofs.Forms.{Agrees, IsHeld, with-agrees, with-same}
+use Rattle.lower_rules.specs.Statements.{label_of, IsCodeOfTests, Guarded}
+use Rattle.lower_shape.proofs.Forms.{Agrees, with-agrees, with-same}
 use Rattle.lower_shape.proofs.Types.{integer-held}
 use Rattle.lower_shape.proofs.Updates.{as-integer}
 use Rattle.lower_shape.proofs.Places.{sets}

@@ -119,7 +119,7 @@ aggregate-none (shape.Function ps r) h = refl
 abbrev pub Good : Stage → TypedPlace → NodeId → Option HeldType → Type 0
 Good s p n y = (n.0 < s.nodes) × In n (addresses_at s.table p) × LeftBy p (place_type p) n y
 
-some-same : {A : Type 0} (a c : A) → Some a ≡ Some c → a ≡ c
+pub some-same : {A : Type 0} (a c : A) → Some a ≡ Some c → a ≡ c
 some-same a c h = cc
 
 -- operators

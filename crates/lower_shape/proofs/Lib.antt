@@ -8,3 +8,11 @@ pub mod Comparisons
 pub mod Calls
 pub mod Addresses
 pub mod Expressions
+pub mod Between
+pub mod Parts
+pub mod Initialisers
+pub mod Switches
+pub mod Statements
+pub mod Nests
+pub mod StatementNests
+pub mod Objects

@@ -77,7 +77,8 @@ module _ (k : Context) (a : Around) (solved : IsSolvedFor k a.setting) (types af
   both at o i j l (Address p) u h g = absurd h
   both at o i j l (Integer x) (Address p) h g = absurd g
   both at o i j l (Integer x) (Integer y) h g =
-      gives-from (λ z r. (r.memory ≡ c.state.memory) × (z ≡ computed (operator_of o) i x y)) (Given k a solved types after c facts (IntegerOf (result_type o i))) (calculate a.setting at (operator_of o) i x y c.state)
+      gives-from (λ z r. (r.memory ≡ c.state.memory) × (z ≡ computed (operator_of o) i x y))
+      (Given k a solved types after c facts (IntegerOf (result_type o i))) (calculate a.setting at (operator_of o) i x y c.state)
       (λ z. done (Integer z)) (by (divides (operator_of o)))
       (λ z r e. (e.0, subst (λ n. converted (result_type o i) n ≡ n) (sym e.1) (fits o i x y)))
     where

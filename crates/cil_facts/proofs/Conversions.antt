@@ -114,7 +114,9 @@ module _ (k : Context) (a : Around) (solved : IsSolvedFor k a.setting) where
         → IsFlow a.setting k.sites (node_in a.setting t) (pointee a.setting t) (node_in a.setting u) (pointee a.setting u)
     flow-of t u at known =
         let w = a.setting in
-        let it = subst (λ table. Contains k.sites (site.Flow (node_at table t) (pointee_at table t) (node_at table u) (pointee_at table u) at)) (sym solved.table) known in
+        let it =
+        subst (λ table. Contains k.sites (site.Flow (node_at table t) (pointee_at table t) (node_at table u) (pointee_at table u) at))
+        (sym solved.table) known in
         let ends = solved.told.flows (node_in w t) (node_in w u) (pointee w t) (pointee w u) at it in
         record {
           flow = solved.solution.each (site.Flow (node_in w t) (pointee w t) (node_in w u) (pointee w u) at) it;

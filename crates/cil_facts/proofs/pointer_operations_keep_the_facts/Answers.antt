@@ -1,0 +1,16 @@
+use Rattle.cil_facts.proofs.Points.{move-keeps, null-keeps, decay-keeps, address-keeps}
+use Rattle.cil_facts.proofs.pointer_operations_keep_the_facts.Goals as goal
+
+pub returns-clause-moves : goal.returns-clause-moves
+returns-clause-moves f into p n way t at k a types after c solved shaped facts = move-keeps k a solved types after c facts into p n way t at shaped
+
+pub returns-clause-null_tests : goal.returns-clause-null_tests
+returns-clause-null_tests f into p t different k a types after c solved shaped facts = null-keeps k a solved types after c facts into p t different shaped
+
+pub returns-clause-arrays : goal.returns-clause-arrays
+returns-clause-arrays f into source outer array check inner element at k a types after c solved shaped facts =
+    decay-keeps k a solved types after c facts into source outer array check inner element at shaped
+
+pub returns-clause-addresses : goal.returns-clause-addresses
+returns-clause-addresses f into source outer inner t k a types after c solved shaped facts =
+    address-keeps k a solved types after c facts into source outer inner t shaped

@@ -12,5 +12,3 @@ pub ruleset object_rules = (grows_found, grows_missing)
 pub ruleset byte_rules = (grows_then)
 
 pub ruleset label_rules = (typed_block_item-Statement, typed_block_item-Declaration, typed_block_item-Case, typed_block_item-Default)
-
-pub ruleset test_rules = (grows_then)

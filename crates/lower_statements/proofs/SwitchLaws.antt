@@ -1,5 +1,5 @@
 -- The laws of the code of a `switch`.
-use Rattle.std.proofs.Common.{◌≡◌, ap, sym, subst, ◌∙◌, zero, ◌+◌, ◌-◌, ◌<◌, ◌≤◌, add-one, map, take, get_or, length, min, arith, ℕ, ℤ, suc, true, false, List, [], ◌∷◌, ◌++◌, append-nil, append_assoc, pos, refl}
+use Rattle.std.proofs.Common.{◌≡◌, ap, sym, subst, ◌∙◌, zero, ◌+◌, ◌-◌, ◌<◌, ◌≤◌, add-one, take, get_or, length, min, arith, ℕ, ℤ, suc, true, List, [], ◌++◌, append-nil, append_assoc, refl}
 use Rattle.std.proofs.Math.Seq.{take-length}
 use Rattle.cc_base.specs.declared.number.TypeId.{TypeId}
 use Rattle.cc_base.specs.declared.place.Place.{Place}

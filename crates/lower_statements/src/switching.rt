@@ -181,7 +181,6 @@ fn put_equal(out: &mut Draft, s: Switch, z: &i128)
 }
 
 /// Appends the choice of a label, where the item is a `case`.
-#[tactic(auto, using(crate::proofs::Rules::test_rules))]
 fn put_test(out: &mut Draft, k: &Scope<'_>, s: Switch, label: usize, item: &TypedBlockItem)
     ensures { Grows (Tested item.now label s.switches s.ty s.at) (Unit {0}) out.old out.new }
 {

@@ -1,4 +1,4 @@
-use Rattle.std.proofs.Common.{◌≡◌, ◌≤◌, length, take}
+use Rattle.std.proofs.Common.{◌≡◌, take}
 use Rattle.c_tree.specs.TypedStatementViews.{typed_block_view}
 use Rattle.src_machine.specs.Statements.{labels}
 use Rattle.lower_exprs.specs.declared.draft.Draft.{Draft}

@@ -1,5 +1,5 @@
--- Which typed statements have code: their expressions do, and local objects have numbers. No `switch` has code here, and no initialiser
--- in braces.
+-- Which typed statements have code: their expressions do, and local objects have numbers. No initialiser in braces
+-- has code here.
 use Rattle.std.specs.Prelude.{Option, Some, None}
 use Rattle.cc_base.specs.declared.number.NodeId.{NodeId}
 use Rattle.cc_base.specs.declared.number.TypeId.{TypeId}
@@ -14,10 +14,11 @@ use Rattle.src_machine.specs.Statements.{clears, element_of_shape}
 use Rattle.lower_rules.specs.Pieces.{Form, Then}
 use Rattle.lower_rules.specs.Words.{Context}
 use Rattle.lower_rules.specs.Initialisers.{Initialised, Clears, IsCodeOfInitialiser}
-use Rattle.lower_rules.specs.Statements.{Nesting, in_loop}
+use Rattle.lower_rules.specs.Statements.{Nesting, in_loop, in_switch}
 use Rattle.lower_exprs.specs.Ready.{HasCode, HasCodeOfPlace, HasObject, IsConstant}
 use Rattle.lower_statements.specs.declared.declarations.Whole.{Whole}
 use Rattle.lower_statements.specs.declared.nesting.Nesting.{Nesting as CodeNesting}
+use Rattle.lower_statements.specs.Switches.{IsFew, Nests}
 
 -- what the relation of trees and code sees of how a statement is nested
 abbrev pub nesting_of : CodeNesting → Nesting
@@ -67,7 +68,8 @@ abbrev mutual
   HasCodeOfStatement typed.Empty k v = Unit {0}
   HasCodeOfStatement (typed.If at paren c s) k v = HasCode c k 0 × (HasCodeOfStatement s k v × Unit {0})
   HasCodeOfStatement (typed.IfElse at paren c s r) k v = HasCode c k 0 × (HasCodeOfStatement s k v × HasCodeOfStatement r k v)
-  HasCodeOfStatement (typed.Switch at paren e brace items) k v = ⊥
+  HasCodeOfStatement (typed.Switch at paren e brace items) k v =
+      IsFew items × (HasCode e k 0 × (Unit {0} × (Unit {0} × (Nests v × HasCodeOfBlock items k (in_switch v)))))
   HasCodeOfStatement (typed.While at paren c s) k v = HasCodeOfTest (Some c) k × HasCodeOfStatement s k (in_loop v)
   HasCodeOfStatement (typed.DoWhile s at paren c) k v = HasCodeOfStatement s k (in_loop v) × HasCodeOfTest (Some c) k
   HasCodeOfStatement (typed.For at paren first c step s) k v =
@@ -85,3 +87,7 @@ abbrev mutual
   HasCodeOfBlock (typed.AndDeclaration all d) k v = HasCodeOfBlock all k v × HasCodeOfDeclaration d k
   HasCodeOfBlock (typed.AndCase all at e z) k v = HasCodeOfBlock all k v
   HasCodeOfBlock (typed.AndDefault all at) k v = HasCodeOfBlock all k v
+
+-- what a `switch` needs for its pieces
+abbrev pub HasPieces : TypedBlockItems → Context → Nesting → Type 0
+HasPieces all k v = Nests v × HasCodeOfBlock all k (in_switch v)

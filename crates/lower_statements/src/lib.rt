@@ -4,6 +4,7 @@
 mod declarations;
 mod nesting;
 mod pieces;
+mod switching;
 mod text;
 mod walk;
 

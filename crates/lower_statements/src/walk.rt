@@ -3,14 +3,17 @@ ghost use Rattle.std.specs.Prelude.{◌≡◌};
 ghost use Rattle.c_tree.specs.TypedStatementViews.{typed_block_view, typed_statement_view};
 ghost use Rattle.lower_rules.specs.Statements.{IsCodeOfBlock, IsCodeOfStatement};
 ghost use Rattle.lower_exprs.specs.Drafts.{context_of, Grows};
-ghost use Rattle.lower_statements.specs.Ready.{HasCodeOfBlock, HasCodeOfStatement, nesting_of};
+ghost use Rattle.lower_statements.specs.Ready.{HasCodeOfBlock, HasCodeOfStatement, HasPieces, nesting_of};
+ghost use Rattle.lower_statements.specs.Switches.{Pieces};
 
 use crate::declarations::declaration;
-use crate::nesting::{Nesting, in_loop};
+use crate::nesting::{Nesting, in_loop, in_switch};
 use crate::pieces::{condition, effect, put_block, put_loop, put_return, test};
+use crate::switching::{close, demand_labels, put_begin, put_piece, put_tests, switch_of};
 use c_tree::{TypedBlockItem, TypedStatement};
+use cc_base::Place;
 use cil_form::Instr;
-use lower_exprs::{Draft, Scope, choose, expr, keep, put, refuse, start};
+use lower_exprs::{Draft, Scope, choose, expr, keep, put, start};
 
 /// Appends the code of statements and declarations in order.
 #[cycle(statements)]
@@ -26,6 +29,33 @@ pub fn block(out: &mut Draft, k: &Scope<'_>, v: Nesting, items: &[TypedBlockItem
             TypedBlockItem::Default(_) => keep(out),
         }
     }
+}
+
+/// Appends the pieces of a `switch`, each with its guard.
+#[cycle(statements)]
+fn pieces(out: &mut Draft, k: &Scope<'_>, v: Nesting, at: Place, items: &[TypedBlockItem])
+    ensures { Grows (Pieces (typed_block_view items.now) (context_of k.now) (nesting_of v) at) (HasPieces (typed_block_view items.now) (context_of k.now) (nesting_of v)) out.old out.new }
+{
+    let mut last = start(k);
+    let mut label = 0;
+    for item in items {
+        match item {
+            TypedBlockItem::Statement(s) => {
+                let inner = in_switch(&mut last, v);
+                statement(&mut last, k, inner, s);
+            }
+            TypedBlockItem::Declaration(d) => declaration(&mut last, k, d),
+            TypedBlockItem::Case(_, _, _) => {
+                close(out, k, &mut last, v.switches, label, at);
+                label += 1;
+            }
+            TypedBlockItem::Default(_) => {
+                close(out, k, &mut last, v.switches, label, at);
+                label += 1;
+            }
+        }
+    }
+    put_piece(out, k, v.switches, label, at, last)
 }
 
 /// Appends the code of a statement, which begins at value 0 and keeps no value.
@@ -52,7 +82,16 @@ pub fn statement(out: &mut Draft, k: &Scope<'_>, v: Nesting, s: &TypedStatement)
             statement(&mut otherwise, k, v, r.get());
             choose(out, 0, then, otherwise)
         }
-        TypedStatement::Switch(_, _, _, _, _) => refuse(out),
+        TypedStatement::Switch(at, _, e, _, items) => {
+            let items = items.as_slice();
+            demand_labels(out, items);
+            let mut inner = start(k);
+            expr(&mut inner, k, 0, e);
+            put_begin(&mut inner, v.switches, e, items);
+            put_tests(&mut inner, k, switch_of(v, e, *at), items);
+            pieces(&mut inner, k, v, *at, items);
+            put_block(out, inner)
+        }
         TypedStatement::While(_, _, c, s) => {
             let mut round = start(k);
             test(&mut round, k, c);

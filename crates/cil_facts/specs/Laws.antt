@@ -1,5 +1,5 @@
 -- The statements of the laws: which instructions keep the facts.
-use Rattle.std.specs.Prelude.{Bool}
+use Rattle.std.specs.Prelude.{ℕ, Bool}
 use Rattle.cc_base.specs.declared.place.Place.{Place}
 use Rattle.cc_base.specs.declared.number.NodeId.{NodeId}
 use Rattle.cc_base.specs.declared.number.TypeId.{TypeId}
@@ -53,3 +53,7 @@ DecaysKeepTheFacts = (into source : Temp) (outer : NodeId) (array : TypeId) (che
 
 abbrev pub AddressesKeepTheFacts : Type 0
 AddressesKeepTheFacts = (into source : Temp) (outer inner : NodeId) (t : TypeId) → KeepsFacts (instr.Point (point.Address into source outer inner t))
+
+abbrev pub MembersKeepTheFacts : Type 0
+MembersKeepTheFacts = (into source : Temp) (outer : NodeId) (t : TypeId) (i : ℕ) (inner : NodeId) (u : TypeId) (at : Place)
+    → KeepsFacts (instr.Point (point.Member into source outer t i inner u at))

@@ -4,7 +4,7 @@
 //! does nothing.
 #![tactic(auto)]
 
-ghost use Rattle.cil_facts.specs.Laws.{SettingsKeepTheFacts, CalculationsKeepTheFacts, IntegerConversionsKeepTheFacts, ConversionsToPointersKeepTheFacts, PointerConversionsKeepTheFacts, LoadsKeepTheFacts, StoresKeepTheFacts, CopiesKeepTheFacts, MovesKeepTheFacts, NullTestsKeepTheFacts, DecaysKeepTheFacts, AddressesKeepTheFacts};
+ghost use Rattle.cil_facts.specs.Laws.{SettingsKeepTheFacts, CalculationsKeepTheFacts, IntegerConversionsKeepTheFacts, ConversionsToPointersKeepTheFacts, PointerConversionsKeepTheFacts, LoadsKeepTheFacts, StoresKeepTheFacts, CopiesKeepTheFacts, MovesKeepTheFacts, NullTestsKeepTheFacts, DecaysKeepTheFacts, AddressesKeepTheFacts, MembersKeepTheFacts};
 
 /// A constant, a null pointer, the name of a function, the address of an object, and the copy of a temporary.
 pub fn settings_keep_the_facts()
@@ -39,10 +39,12 @@ pub fn copies_keep_the_facts()
     ensures { CopiesKeepTheFacts }
 {}
 
-/// A pointer that moves by elements, the comparison of one with a null constant, an array that decays, and `&` of a place.
+/// A pointer that moves by elements, the comparison of one with a null constant, an array that decays, `&` of a place,
+/// and the place of a member.
 pub fn pointer_operations_keep_the_facts()
     ensures moves { MovesKeepTheFacts }
     ensures null_tests { NullTestsKeepTheFacts }
     ensures arrays { DecaysKeepTheFacts }
     ensures addresses { AddressesKeepTheFacts }
+    ensures members { MembersKeepTheFacts }
 {}

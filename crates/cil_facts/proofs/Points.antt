@@ -14,7 +14,7 @@ use Rattle.c_types.specs.declared.site.Site.TheVariants as site
 use Rattle.c_types.specs.Table.{IsComplete, IsAggregate, shape_at, members_at, parts_at, parts_of_shape, is_aggregate_shape, is_union_shape, is_empty, is_complete_entry}
 use Rattle.c_types.specs.Layouts.{member_at}
 use Rattle.c_types.specs.Solutions.{IsUnionAllowed, IsWildWhereMixed}
-use Rattle.c_types.proofs.Lists.{contains_head, contains_tail}
+use Rattle.c_types.proofs.Lists.{contains_head}
 use Rattle.integers.specs.Arithmetic.{IntegerType, int}
 use Rattle.runs.specs.Outcome.{done}
 use Rattle.src_mem.specs.Pointers.{Value, Integer, Address, Pointer, is_null}
@@ -25,6 +25,7 @@ use Rattle.src_mem.specs.Laws.{Gives}
 use Rattle.facts_kept.specs.Kept.{GivesPointer, GivesAddress}
 use Rattle.facts_kept.proofs.Giving.{gives-from, gives-more}
 use Rattle.facts_kept.proofs.Complete.{complete-data}
+use Rattle.facts_kept.proofs.PartsSpread.{listed-at}
 use Rattle.facts_kept.proofs.PlaceParts.{gives-member_place}
 use Rattle.facts_kept.proofs.Moving.{gives-moved}
 use Rattle.facts_kept.proofs.Addresses.{gives-decayed}
@@ -40,12 +41,6 @@ use Rattle.cil_facts.specs.Held.{IsHeldAs, IsSolvedFor, AreFacts, GoesOn}
 use Rattle.cil_facts.proofs.Conversions.{shape-in, Given, goes-held}
 use Rattle.cil_facts.proofs.Calculations.{truth-fits}
 use Rattle.cil_facts.proofs.Accesses.{address-held, allowed-held}
-
--- what stands at a place of a list is among it
-listed-at : (xs : List TypeId) (i : ℕ) (x : TypeId) → slice_get xs i ≡ Some x → Contains xs x
-listed-at [] i x e = absurd (cc (e))
-listed-at (y ∷ ys) zero x e = let is : y ≡ x = cc (e) in subst (λ z. Contains (y ∷ ys) z) is (contains_head y ys)
-listed-at (y ∷ ys) (suc i) x e = contains_tail y ys x (listed-at ys i x e)
 
 module _ (k : Context) (a : Around) (solved : IsSolvedFor k a.setting) (types after : Typing) (c : Local) (facts : AreFacts k a types c) where
   complete-in : (t : TypeId) → IsComplete k.table t → IsComplete a.setting.table t
@@ -102,10 +97,10 @@ module _ (k : Context) (a : Around) (solved : IsSolvedFor k a.setting) (types af
 
   -- Arrays
 
-  array-complete : (array element : TypeId) (n : ℕ) → shape_at a.setting.table array ≡ shape.Array element n → IsComplete a.setting.table array
+  pub array-complete : (array element : TypeId) (n : ℕ) → shape_at a.setting.table array ≡ shape.Array element n → IsComplete a.setting.table array
   array-complete array element n e = ap (λ s. is_complete_entry s (members_at a.setting.table array)) e
 
-  element-complete : (array element : TypeId) (n : ℕ) → shape_at a.setting.table array ≡ shape.Array element n → IsComplete a.setting.table element
+  pub element-complete : (array element : TypeId) (n : ℕ) → shape_at a.setting.table array ≡ shape.Array element n → IsComplete a.setting.table element
   element-complete array element n e =
       let P : TypeShape → Type 0 = λ s. (m : TypeId) → Contains (parts_of_shape s (members_at a.setting.table array)) m → IsComplete a.setting.table m in
       subst P e
@@ -182,7 +177,7 @@ module _ (k : Context) (a : Around) (solved : IsSolvedFor k a.setting) (types af
 
   -- Members
 
-  member-complete : (t : TypeId) (i : ℕ) → IsAggregate a.setting.table t → i < length (members_at a.setting.table t)
+  pub member-complete : (t : TypeId) (i : ℕ) → IsAggregate a.setting.table t → i < length (members_at a.setting.table t)
       → IsComplete a.setting.table (member_at a.setting.table t i)
   member-complete t i aggregate l = by (shape_at a.setting.table t) refl aggregate
     where
@@ -204,7 +199,7 @@ module _ (k : Context) (a : Around) (solved : IsSolvedFor k a.setting) (types af
       by (shape.Function ps r) e f = absurd (cc (f))
 
   -- each union of the program is allowed; one without members has none that correspond
-  union-allowed : (v : TypeId) (tag : ℕ) → shape_at a.setting.table v ≡ shape.Union tag → IsUnionAllowed a.setting.table a.setting.kind v
+  pub union-allowed : (v : TypeId) (tag : ℕ) → shape_at a.setting.table v ≡ shape.Union tag → IsUnionAllowed a.setting.table a.setting.kind v
   union-allowed v tag e = by (members_at a.setting.table v) refl
     where
       none : (u : TypeId) → Contains [] u → ⊥

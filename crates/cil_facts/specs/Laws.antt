@@ -4,6 +4,7 @@ use Rattle.cc_base.specs.declared.place.Place.{Place}
 use Rattle.cc_base.specs.declared.number.NodeId.{NodeId}
 use Rattle.cc_base.specs.declared.number.TypeId.{TypeId}
 use Rattle.cil_form.specs.declared.number.Temp.{Temp}
+use Rattle.cil_form.specs.declared.number.Object.{Object}
 use Rattle.cil_form.specs.declared.instr.Set.{Set}
 use Rattle.cil_form.specs.declared.instr.Calculate.{Calculate}
 use Rattle.cil_form.specs.declared.instr.Direction.{Direction}
@@ -57,3 +58,10 @@ AddressesKeepTheFacts = (into source : Temp) (outer inner : NodeId) (t : TypeId)
 abbrev pub MembersKeepTheFacts : Type 0
 MembersKeepTheFacts = (into source : Temp) (outer : NodeId) (t : TypeId) (i : ℕ) (inner : NodeId) (u : TypeId) (at : Place)
     → KeepsFacts (instr.Point (point.Member into source outer t i inner u at))
+
+abbrev pub PartStoresKeepTheFacts : Type 0
+PartStoresKeepTheFacts = (o : Object) (home : NodeId) (u : TypeId) (offset : ℕ) (value : Temp) (t : TypeId) (at assignment : Place)
+    → KeepsFacts (instr.Access (access.Store (target.Part o home u offset) value t at assignment))
+
+abbrev pub ClearingKeepsTheFacts : Type 0
+ClearingKeepsTheFacts = (o : Object) → KeepsFacts (instr.Access (access.Clear o))

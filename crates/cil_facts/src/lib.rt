@@ -4,7 +4,7 @@
 //! does nothing.
 #![tactic(auto)]
 
-ghost use Rattle.cil_facts.specs.Laws.{SettingsKeepTheFacts, CalculationsKeepTheFacts, IntegerConversionsKeepTheFacts, ConversionsToPointersKeepTheFacts, PointerConversionsKeepTheFacts, LoadsKeepTheFacts, StoresKeepTheFacts, CopiesKeepTheFacts, MovesKeepTheFacts, NullTestsKeepTheFacts, DecaysKeepTheFacts, AddressesKeepTheFacts, MembersKeepTheFacts};
+ghost use Rattle.cil_facts.specs.Laws.{SettingsKeepTheFacts, CalculationsKeepTheFacts, IntegerConversionsKeepTheFacts, ConversionsToPointersKeepTheFacts, PointerConversionsKeepTheFacts, LoadsKeepTheFacts, StoresKeepTheFacts, CopiesKeepTheFacts, MovesKeepTheFacts, NullTestsKeepTheFacts, DecaysKeepTheFacts, AddressesKeepTheFacts, MembersKeepTheFacts, PartStoresKeepTheFacts, ClearingKeepsTheFacts};
 
 /// A constant, a null pointer, the name of a function, the address of an object, and the copy of a temporary.
 pub fn settings_keep_the_facts()
@@ -29,9 +29,12 @@ pub fn loads_keep_the_facts()
     ensures { LoadsKeepTheFacts }
 {}
 
-/// A store of an integer or of a pointer, through a pointer or to a place.
+/// A store of an integer or of a pointer: through a pointer or to a place, and into a part of an object, as an initialiser makes it; and
+/// the clearing of an object.
 pub fn stores_keep_the_facts()
-    ensures { StoresKeepTheFacts }
+    ensures pointers { StoresKeepTheFacts }
+    ensures parts { PartStoresKeepTheFacts }
+    ensures clearing { ClearingKeepsTheFacts }
 {}
 
 /// A copy of a struct or union, from and to a pointer or a place.

@@ -23,6 +23,7 @@ pub mod Moving
 pub mod Parts
 pub mod Addresses
 pub mod PlaceParts
+pub mod PartsSpread
 pub mod Allocating
 pub mod Moments
 pub mod Homes

@@ -23,7 +23,7 @@ use Rattle.cured_code.specs.declared.instr.Instr.TheVariants as instr
 use Rattle.cured_code.specs.declared.instr.Narrow.{Narrow}
 use Rattle.cured_code.specs.declared.instr.Narrow.TheVariants.{S8, S16, S32, U8, U16, U32}
 use Rattle.check_forms.specs.Pieces.{Piece, Line}
-use Rattle.check_forms.specs.Conditions.{PointerSlots, Fixed}
+use Rattle.check_forms.specs.declared.slots.PointerSlots.{PointerSlots}
 use Rattle.sim_relation.specs.Ground.{word_number}
 use Rattle.sim_relation.specs.Points.{Form, Exact, Zeroed, Low, Sure, Known, Knowledge, Content, Number, Start, End}
 use Rattle.cure_rules.specs.Slots.{Slots, Role, slot_of}

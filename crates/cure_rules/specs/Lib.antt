@@ -1,2 +1,5 @@
 pub mod Slots
 pub mod Known
+pub mod Checks
+pub mod Setting
+pub mod Pointing

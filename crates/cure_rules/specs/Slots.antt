@@ -3,7 +3,7 @@ use Rattle.std.specs.Prelude.{◌≡◌, ◌≢◌, ℕ, ◌+◌, ◌<◌, List,
 use Rattle.cil_form.specs.declared.number.Temp.{Temp}
 use Rattle.cil_form.specs.Typing.{IsTemp}
 use Rattle.sim_relation.specs.Points.{KeptSlot}
-use Rattle.check_forms.specs.Lines.{Work}
+use Rattle.check_forms.specs.declared.slots.Work.{Work}
 
 -- What a working slot is for. Each has one use, so that what an instruction works with is apart.
 pub data Role : Type 0 where

@@ -3,3 +3,6 @@ pub mod Known
 pub mod Checks
 pub mod Setting
 pub mod Pointing
+pub mod Accesses
+pub mod Calling
+pub mod Code

@@ -101,10 +101,12 @@ offset_by kind source cured = cured
 abbrev pub cured_offset : World → Kind → TypeId → ℕ → ℕ
 cured_offset w k t offset = offset_by k offset (before w.whole.kind (cells_of w.whole.table t) offset)
 
--- what is asked where an array decays, or nothing
-abbrev pub GuardedIf : Bool → World → Op → Kind → Place → Piece
-GuardedIf true w op kind at = IsGuarded w op kind at
-GuardedIf false w op kind at = Line []
+-- An array decays, behind its check or without one. It begins where it stands.
+abbrev pub Decays : Bool → World → Seat → Kind → Kind → TypeId → TypeId → ℕ → ℕ → Place → Piece
+Decays true w seat outer inner array element v a at = Then (Gets w Offset (Number 0) (seat Offset))
+    (Then (IsGuarded w (address_of_part w seat outer array (pointer_slots a)) outer at)
+    (PartWords inner w seat (cured_size w.whole array) element v a (seat Offset) (a + 1)))
+Decays false w seat outer inner array element v a at = PartWords inner w seat (cured_size w.whole array) element v a w.slots.nought (a + 1)
 
 abbrev pub IsCuringPoint : Point → World → Knowledge → Knowledge → Piece
 IsCuringPoint (point.Move into p n way t at) w known after lines = (m : NodeId) × (u : TypeId) × (a : ℕ) × (sure : List Sure) × (i : IntegerType) × (b : ℕ)
@@ -135,9 +137,7 @@ IsCuringPoint (point.Member into from outer t i inner u at) w known after lines 
     × Leaves known into (Some (a_place (column w into) inner u [])) after
 IsCuringPoint (point.Decay into from outer array check inner element at) w known after lines = (a : ℕ) × (sure : List Sure) × (seat : Seat)
     × IsAddress known from outer array a sure × Takes w into (word_number (kind_of w inner))
-    × Then (Gets w Offset (Number 0) (seat Offset))
-        (Then (GuardedIf check w (address_of_part w seat (kind_of w outer) array (pointer_slots a)) (kind_of w outer) at)
-        (PartWords (kind_of w inner) w seat (cured_size w.whole array) element (column w into) a (seat Offset) (a + 1))) lines
+    × Decays check w seat (kind_of w outer) (kind_of w inner) array element (column w into) a at lines
     × Leaves known into (Some (a_pointer (column w into) inner element [])) after
 IsCuringPoint (point.Address into from outer inner t) w known after lines = (a : ℕ) × (sure : List Sure) × (seat : Seat)
     × IsAddress known from outer t a sure × Takes w into (word_number (kind_of w inner))

@@ -6,14 +6,14 @@ use Rattle.check_forms.specs.Tests as test
 use Rattle.check_forms.specs.Tests.{Test}
 use Rattle.check_forms.specs.declared.slots.Work.{Work}
 use Rattle.check_forms.specs.Lines.{stop_if}
-use Rattle.check_insert.specs.declared.line.Line.{Line}
-use Rattle.check_insert.specs.declared.line.Line.TheVariants as line
+use Rattle.check_insert.specs.declared.line.SlotLine.{SlotLine}
+use Rattle.check_insert.specs.declared.line.SlotLine.TheVariants as line
 use Rattle.check_insert.specs.declared.ends.End.{End}
 use Rattle.check_insert.specs.declared.ends.End.TheVariants as end
 use Rattle.check_insert.specs.declared.condition.Condition.{Condition}
 use Rattle.check_insert.specs.declared.condition.Condition.TheVariants as condition
 
-abbrev pub straight_of : Line → straight.Line
+abbrev pub straight_of : SlotLine → straight.Line
 straight_of (line.Sum v a b) = Sets v (Result straight.Sum a b)
 straight_of (line.Difference v a b) = Sets v (Result straight.Difference a b)
 straight_of (line.Product v a b) = Sets v (Result straight.Product a b)

@@ -8,7 +8,7 @@ use cured_code::Instr;
 /// A line that sets a slot: the slot, and what is put there, of other slots. The last number of `AreaOf` is an area's,
 /// that of `IsBelow` a type node's, and that of `IsPlain` and `GreatestDepth` counts bytes.
 #[derive(Clone, Copy)]
-pub enum Line {
+pub enum SlotLine {
     Sum(u32, u32, u32),
     Difference(u32, u32, u32),
     Product(u32, u32, u32),
@@ -30,27 +30,27 @@ pub enum Line {
 }
 
 /// The line as an instruction.
-pub(crate) fn instruction_of(line: Line) -> Instr
+pub(crate) fn instruction_of(line: SlotLine) -> Instr
     ensures { result ≡ instr_of (straight_of line) }
 {
     match line {
-        Line::Sum(v, a, b) => Instr::Add(v, a, b),
-        Line::Difference(v, a, b) => Instr::Sub(v, a, b),
-        Line::Product(v, a, b) => Instr::Mul(v, a, b),
-        Line::And(v, a, b) => Instr::And(v, a, b),
-        Line::Or(v, a, b) => Instr::Or(v, a, b),
-        Line::Equal(v, a, b) => Instr::Eq(v, a, b),
-        Line::Less(v, a, b) => Instr::Ltu(v, a, b),
-        Line::LessSigned(v, a, b) => Instr::Lts(v, a, b),
-        Line::RemainderSigned(v, a, b) => Instr::Rems(v, a, b),
-        Line::AreaOf(v, k) => Instr::Frame(v, k),
-        Line::DepthOf(v, a) => Instr::Depth(v, a),
-        Line::IsBelow(v, a, n) => Instr::Below(v, a, n),
-        Line::SigOf(v, a) => Instr::Sigof(v, a),
-        Line::HasRoom(v, a) => Instr::Room(v, a),
-        Line::LengthOf(v, b) => Instr::Len(v, b),
-        Line::IsPlain(v, a, b, n) => Instr::Plain(v, a, b, n),
-        Line::IsTagged(v, a, b) => Instr::Tagged(v, a, b),
-        Line::GreatestDepth(v, a, b, n) => Instr::Tdepth(v, a, b, n),
+        SlotLine::Sum(v, a, b) => Instr::Add(v, a, b),
+        SlotLine::Difference(v, a, b) => Instr::Sub(v, a, b),
+        SlotLine::Product(v, a, b) => Instr::Mul(v, a, b),
+        SlotLine::And(v, a, b) => Instr::And(v, a, b),
+        SlotLine::Or(v, a, b) => Instr::Or(v, a, b),
+        SlotLine::Equal(v, a, b) => Instr::Eq(v, a, b),
+        SlotLine::Less(v, a, b) => Instr::Ltu(v, a, b),
+        SlotLine::LessSigned(v, a, b) => Instr::Lts(v, a, b),
+        SlotLine::RemainderSigned(v, a, b) => Instr::Rems(v, a, b),
+        SlotLine::AreaOf(v, k) => Instr::Frame(v, k),
+        SlotLine::DepthOf(v, a) => Instr::Depth(v, a),
+        SlotLine::IsBelow(v, a, n) => Instr::Below(v, a, n),
+        SlotLine::SigOf(v, a) => Instr::Sigof(v, a),
+        SlotLine::HasRoom(v, a) => Instr::Room(v, a),
+        SlotLine::LengthOf(v, b) => Instr::Len(v, b),
+        SlotLine::IsPlain(v, a, b, n) => Instr::Plain(v, a, b, n),
+        SlotLine::IsTagged(v, a, b) => Instr::Tagged(v, a, b),
+        SlotLine::GreatestDepth(v, a, b, n) => Instr::Tdepth(v, a, b, n),
     }
 }

@@ -2,7 +2,6 @@
 #![tactic(auto)]
 
 mod needs;
-mod pieces;
 mod scope;
 
 pub use scope::{Scope, column};

@@ -8,29 +8,23 @@ use Rattle.check_forms.specs.declared.slots.Fixed.{Fixed}
 use Rattle.check_forms.specs.declared.op.Op.{Op}
 use Rattle.check_forms.specs.Rows.{flat_conditions}
 use Rattle.check_forms.specs.RowChecks.{AreChecks}
-use Rattle.check_forms.specs.Pieces.{Piece, Line, Then, Choice}
+use Rattle.check_forms.specs.Pieces.{Piece, Line, Then}
 use Rattle.check_insert.specs.declared.draft.Draft.{Draft}
-use Rattle.check_insert.specs.Drafts as drafts
-use Rattle.check_insert.specs.Drafts.{Puts, Grows, Starts, Chosen, AreBothReady}
-use Rattle.check_insert.proofs.Laws as inserted
+use Rattle.check_insert.specs.Drafts.{Grows}
 use Rattle.check_insert.proofs.Laws.{grows_as, grows_both}
 use Rattle.cure_rules.specs.Slots.{Role}
 use Rattle.cure_rules.specs.Checks.{Need, need, numbers_of}
-use Rattle.cure_instrs.specs.Scopes.{fixed_work}
-use Rattle.cure_instrs.specs.Needs.{sets, Needs, Guards}
-
-pub grows_line : (x : List Instr) (R : Type 0) (a b : Draft) → Grows (Puts x) R a b → Grows (Line x) R a b
-unfolding Puts Line
-grows_line x R a b f = grows_as (Puts x) (Line x) R a b (λ c e. e) f
+use Rattle.cure_scope.specs.Scopes.{fixed_work}
+use Rattle.cure_scope.specs.Needs.{sets, Needs, Guards}
 
 pub needs_one : (r : Role) (n : Fixed) (a b : Draft) → Grows (Line (instr.Const n.slot n.value ∷ [])) (Unit {0}) a b
     → Grows (Needs (need r n ∷ [])) (Unit {0}) a b
 unfolding Line Needs
 needs_one r n a b f = grows_as (Line (instr.Const n.slot n.value ∷ [])) (Needs (need r n ∷ [])) (Unit {0}) a b (λ c e. e) f
 
-pub needs_none : (a b : Draft) → Grows (Puts []) (Unit {0}) a b → Grows (Needs []) (Unit {0}) a b
-unfolding Puts Needs
-needs_none a b f = grows_as (Puts []) (Needs []) (Unit {0}) a b (λ c e. e) f
+pub needs_none : (a b : Draft) → Grows (Line []) (Unit {0}) a b → Grows (Needs []) (Unit {0}) a b
+unfolding Line Needs
+needs_none a b f = grows_as (Line []) (Needs []) (Unit {0}) a b (λ c e. e) f
 
 sets-append : (xs ys : List Need) → sets (xs ++ ys) ≡ sets xs ++ sets ys
 sets-append [] ys = refl
@@ -46,12 +40,12 @@ pub needs_more : (x : Need) (ys : List Need) (a b c : Draft) → Grows (Needs (x
     → Grows (Needs (x ∷ ys)) (Unit {0}) a c
 needs_more x ys a b c f g = needs_append (x ∷ []) ys a b c f g
 
--- one piece after another
-pub grows_then : (P Q : Piece) (a b c : Draft) → Grows P (Unit {0}) a b → Grows Q (Unit {0}) b c → Grows (Then P Q) (Unit {0}) a c
+-- one piece after another, which needs nothing
+pub grows_row : (P Q : Piece) (a b c : Draft) → Grows P (Unit {0}) a b → Grows Q (Unit {0}) b c → Grows (Then P Q) (Unit {0}) a c
 unfolding Then
-grows_then P Q a b c f g = grows_both P Q (Then P Q) a b c (λ x y p q. (x, y, p, q, refl)) f g
+grows_row P Q a b c f g = grows_both P Q (Then P Q) a b c (λ x y p q. (x, y, p, q, refl)) f g
 
 pub grows_guards : (op : Op) (kind : Kind) (at : Place) (a b c : Draft) → Grows (Needs (numbers_of op kind)) (Unit {0}) a b
     → Grows (AreChecks fixed_work (flat_conditions op kind at)) (Unit {0}) b c → Grows (Guards op kind at) (Unit {0}) a c
 unfolding Guards
-grows_guards op kind at a b c f g = grows_then (Needs (numbers_of op kind)) (AreChecks fixed_work (flat_conditions op kind at)) a b c f g
+grows_guards op kind at a b c f g = grows_row (Needs (numbers_of op kind)) (AreChecks fixed_work (flat_conditions op kind at)) a b c f g

@@ -5,7 +5,7 @@ ghost use Rattle.c_types.specs.Table.{shape_at};
 ghost use Rattle.c_types.specs.Cells.{IsBetweenPointers};
 ghost use Rattle.c_types.specs.Equality.{cells_of};
 ghost use Rattle.cure_rules.specs.Known.{reach_by, source_size, cured_size, pointer_slots};
-ghost use Rattle.cure_instrs.specs.Scopes.{fixed_column, fixed_work, world_of, whole_of};
+ghost use Rattle.cure_scope.specs.Scopes.{fixed_column, fixed_work, world_of, whole_of};
 
 use c_types::{TypeShape, Types};
 use cc_base::{Kind, NodeId, TypeId};

@@ -9,7 +9,7 @@ use Rattle.check_forms.specs.declared.op.Op.{Op}
 use Rattle.check_forms.specs.Rows.{flat_conditions}
 use Rattle.check_forms.specs.RowChecks.{AreChecks}
 use Rattle.cure_rules.specs.Checks.{Need, numbers_of}
-use Rattle.cure_instrs.specs.Scopes.{fixed_work}
+use Rattle.cure_scope.specs.Scopes.{fixed_work}
 
 abbrev pub sets : List Need → List Instr
 sets [] = []

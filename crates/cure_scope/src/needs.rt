@@ -4,13 +4,12 @@ ghost use Rattle.check_forms.specs.Pieces.{Then};
 ghost use Rattle.check_insert.specs.Drafts.{Grows};
 ghost use Rattle.cure_rules.specs.Slots.{Role};
 ghost use Rattle.cure_rules.specs.Checks.{need, size_needed, reach_needs, base_needs, aligned_needs, tagged_needs, factor_needs, distance_needs, near_needs, member_needs, apart_needs, call_needs, convert_needs, allocated_needs, numbers_of};
-ghost use Rattle.cure_instrs.specs.Needs.{Needs, Guards};
+ghost use Rattle.cure_scope.specs.Needs.{Needs, Guards};
 
-use crate::pieces::put;
 use crate::scope::work;
 use cc_base::{Kind, Place};
 use check_forms::{Conversion, Distance, Factor, Fixed, Op, Reach, WildNumbers};
-use check_insert::{Draft, keep, put_checks};
+use check_insert::{Draft, keep, put, put_checks};
 use cured_code::Instr;
 
 /// Sets a number.

@@ -14,7 +14,7 @@ use Rattle.fat_layouts.specs.Standing.{Curing}
 use Rattle.cure_rules.specs.Slots.{Slots, slot_of, work_of}
 use Rattle.cure_rules.specs.Known.{Whole, World}
 use Rattle.cure_rules.specs.Checks.{Seat}
-use Rattle.cure_instrs.specs.declared.scope.Scope.{Scope}
+use Rattle.cure_scope.specs.declared.scope.Scope.{Scope}
 
 -- Slots: the row of arguments, in which parameters come; a slot that holds 0; the working slots; the columns.
 

@@ -29,7 +29,7 @@ use Rattle.check_forms.specs.Pieces.{Piece, Line, Then, Choice}
 use Rattle.sim_relation.specs.Ground.{word_number}
 use Rattle.sim_relation.specs.Points.{Form, Exact, Zeroed, Low, Sure, Knowledge, Number, Start}
 use Rattle.cure_rules.specs.Slots.{First, Second, Offset, Address, Base, Word, OtherWord, Made, slot_of}
-use Rattle.cure_rules.specs.Known.{World, kind_of, cured_size, reach_of, column, Takes, Gets, Includes, IsPointer, IsPlainInteger, IsLowly, Points, IsAddress, Leaves, an_integer, a_pointer, pointer_slots, narrow_of, narrowing_lines}
+use Rattle.cure_rules.specs.Known.{World, kind_of, cured_size, source_size, reach_of, column, Takes, Gets, Includes, IsPointer, IsPlainInteger, IsLowly, Points, IsAddress, Leaves, an_integer, a_pointer, pointer_slots, narrow_of, narrowing_lines}
 use Rattle.cure_rules.specs.Checks.{Seat, size_at, wild_numbers, read_integer, read_pointer, write_integer, write_pointer, IsGuarded}
 use Rattle.cure_rules.specs.Pointing.{cured_offset}
 
@@ -128,7 +128,7 @@ plan_of w (object.Variable n) = slice_get w.variables n.0
 
 abbrev pub ClearedBy : Kind → World → TypeId → ℕ → Piece
 ClearedBy Safe w t a = Line (instr.Zero a (cured_size w.whole t) ∷ [])
-ClearedBy Wild w t a = Line (instr.Tzero a a (size_of w.whole.table t) ∷ [])
+ClearedBy Wild w t a = Line (instr.Tzero a a (source_size w.whole t) ∷ [])
 ClearedBy kind w t a = λ lines. ⊥
 
 -- Each pointer that a struct holds, at these offsets, is loaded in order, and is checked against the target. Slot a holds the source's
@@ -147,7 +147,7 @@ plain_copied kind source to size = instr.Move to.first source.first size ∷ []
 
 -- A struct with pointers. Both sides are WILD or neither is.
 abbrev pub PointersCopied : Kind → Kind → World → Seat → TypeId → PointerSlots → PointerSlots → Place → Piece
-PointersCopied Wild Wild w seat t source to assignment = Line (instr.Tmove to.first to.second source.first source.second (size_of w.whole.table t) ∷ [])
+PointersCopied Wild Wild w seat t source to assignment = Line (instr.Tmove to.first to.second source.first source.second (source_size w.whole t) ∷ [])
 PointersCopied Wild l w seat t source to assignment = λ lines. ⊥
 PointersCopied k Wild w seat t source to assignment = λ lines. ⊥
 PointersCopied k l w seat t source to assignment =
@@ -156,7 +156,7 @@ PointersCopied k l w seat t source to assignment =
 -- whether the struct holds pointers
 abbrev pub CopiedBy : Bool → World → Seat → Seat → Kind → Kind → TypeId → PointerSlots → PointerSlots → Place → Place → Place → Piece
 CopiedBy false w seat cells k l t source to from_place to_place assignment =
-    Then (IsGuarded w (op.CopyPlain source to l (size_at w seat k t) to_place) k from_place) (Line (plain_copied l source to (size_of w.whole.table t)))
+    Then (IsGuarded w (op.CopyPlain source to l (size_at w seat k t) to_place) k from_place) (Line (plain_copied l source to (source_size w.whole t)))
 CopiedBy true w seat cells k l t source to from_place to_place assignment =
     Then (IsGuarded w (op.CopyPointers source to l (size_at w seat k t) (wild_numbers w seat) to_place assignment) k from_place)
         (PointersCopied k l w cells t source to assignment)

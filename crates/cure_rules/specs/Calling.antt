@@ -29,7 +29,7 @@ use Rattle.check_forms.specs.RowChecks.{AreChecks}
 use Rattle.sim_relation.specs.Ground.{word_number, function_word}
 use Rattle.sim_relation.specs.Points.{Exact, Sure, IsFunction, Known, Knowledge, Number}
 use Rattle.cure_rules.specs.Slots.{First, Size, Offset, Word, Amount, Bytes, Charge, Made, slot_of, work_of}
-use Rattle.cure_rules.specs.Known.{World, kind_of, cured_size, column, Takes, Gets, IsPointer, IsExactly, IsLowly, Points, words_in, held_words, held_by, known_at, Leaves, an_integer, a_pointer, pointer_slots, copies}
+use Rattle.cure_rules.specs.Known.{World, kind_of, cured_size, source_size, column, Takes, Gets, IsPointer, IsExactly, IsLowly, Points, words_in, held_words, held_by, known_at, Leaves, an_integer, a_pointer, pointer_slots, copies}
 use Rattle.cure_rules.specs.Checks.{Seat, number_at, call_of, IsGuarded}
 use Rattle.cure_rules.specs.Pointing.{noded_lines}
 
@@ -48,7 +48,7 @@ is_tagged_kind kind = false
 abbrev pub BlockBy : Bool → World → Seat → Kind → TypeId → ℕ → ℕ → Piece
 BlockBy false w seat k t n b lines = (b ≡ n) × Line (instr.New (is_tagged_kind k) (slot_of w.slots Made) n n ∷ []) lines
 BlockBy true w seat k t n b lines = (b ≡ slot_of w.slots Bytes)
-    × Then (Gets w Size (Number (size_of w.whole.table t)) (seat Size)) (Then (Gets w Offset (Number (cured_size w.whole t)) (seat Offset))
+    × Then (Gets w Size (Number (source_size w.whole t)) (seat Size)) (Then (Gets w Offset (Number (cured_size w.whole t)) (seat Offset))
         (Line (instr.Divu (slot_of w.slots Charge) n (seat Size) ∷ instr.Mul (slot_of w.slots Bytes) (slot_of w.slots Charge) (seat Offset)
         ∷ instr.Mul (slot_of w.slots Charge) (slot_of w.slots Charge) (seat Size)
         ∷ instr.New (is_tagged_kind k) (slot_of w.slots Made) (slot_of w.slots Bytes) (slot_of w.slots Charge) ∷ []))) lines

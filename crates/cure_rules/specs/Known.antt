@@ -7,7 +7,9 @@ use Rattle.cc_base.specs.declared.kind.Kind.{Kind}
 use Rattle.cc_base.specs.declared.kind.Kind.TheVariants.{Safe, Seq, Rtti, Wild}
 use Rattle.c_types.specs.declared.shape.TypeShape.{TypeShape}
 use Rattle.c_types.specs.declared.shape.TypeShape.TheVariants as shape
-use Rattle.c_types.specs.Table.{Table, shape_at, entry_at, is_complete}
+use Rattle.c_types.specs.Table.{Table, IsComplete, shape_at, entry_at, is_complete}
+use Rattle.c_types.specs.Cells.{IsBetweenPointers}
+use Rattle.c_types.specs.Equality.{cells_of}
 use Rattle.c_types.specs.Layouts.{size_of}
 use Rattle.c_types.specs.Widths as widths
 use Rattle.integers.specs.Arithmetic.{IntegerType, bits_of}
@@ -30,12 +32,15 @@ use Rattle.cure_rules.specs.Slots.{Slots, Role, slot_of}
 
 -- Where code stands
 
--- What is the same in all functions of a program: its types and the kinds of its nodes; the number of the type node that pointers to a type
--- carry; the static objects, and the addresses of their areas; the types of the defined functions; the number of the signature of each
--- function type.
+-- What is the same in all functions of a program: its types and the kinds of its nodes; the bytes that an object of each type takes once
+-- cured, of a type that isn't complete none, and those that its first bytes take; the number of the type node that pointers to a type carry;
+-- the static objects, and the addresses of their areas; the types of the defined functions; the number of the signature of each function
+-- type.
 pub record Whole : Type 0 where
   pub table : Table
   pub kind : NodeId → Kind
+  pub size : TypeId → ℕ
+  pub offset : TypeId → ℕ → ℕ
   pub node : TypeId → ℕ
   pub statics : List Planned
   pub addresses : List ℕ
@@ -56,9 +61,19 @@ pub record World : Type 0 where
 abbrev pub kind_of : World → NodeId → Kind
 kind_of w n = w.whole.kind n
 
--- the bytes that an object of a type takes once cured; of a type that isn't complete none
+-- The sizes and offsets are those of the types and the kinds.
+pub record AreSizes (w : Whole) : Type 0 where
+  pub size : (t : TypeId) → IsComplete w.table t → w.size t ≡ widths.cured_size w.table w.kind t
+  pub none : (t : TypeId) → is_complete (entry_at w.table t) ≡ false → w.size t ≡ 0
+  pub offset : (t : TypeId) (o : ℕ) → IsComplete w.table t → o ≤ size_of w.table t → IsBetweenPointers (cells_of w.table t) o
+      → w.offset t o ≡ widths.before w.kind (cells_of w.table t) o
+
 abbrev pub cured_size : Whole → TypeId → ℕ
-cured_size w t = if is_complete (entry_at w.table t) then widths.cured_size w.table w.kind t else 0
+cured_size w t = w.size t
+
+-- the bytes of a type that isn't complete are none
+abbrev pub source_size : Whole → TypeId → ℕ
+source_size w t = if is_complete (entry_at w.table t) then size_of w.table t else 0
 
 -- the bytes that a use of kind k reaches: through a WILD pointer as many as in the source
 abbrev pub reach_by : Kind → ℕ → ℕ → ℕ
@@ -66,7 +81,7 @@ reach_by Wild source cured = source
 reach_by kind source cured = cured
 
 abbrev pub reach_of : World → Kind → TypeId → ℕ
-reach_of w k t = reach_by k (size_of w.whole.table t) (cured_size w.whole t)
+reach_of w k t = reach_by k (source_size w.whole t) (cured_size w.whole t)
 
 -- how many words a value takes, by its shape, by its type and as it is held
 abbrev pub words_by : (NodeId → Kind) → TypeShape → ℕ
@@ -194,7 +209,7 @@ Narrows i v Zeroed lines = ⊥
 
 -- an integer of 1, 2, 4 or 8 bytes
 abbrev pub IsPlainInteger : World → TypeId → IntegerType → Type 0
-IsPlainInteger w t i = IsInteger w t i × ((i.bytes ≡ 1) ⊎ (i.bytes ≡ 2) ⊎ (i.bytes ≡ 4) ⊎ (i.bytes ≡ 8)) × (size_of w.whole.table t ≡ i.bytes)
+IsPlainInteger w t i = IsInteger w t i × ((i.bytes ≡ 1) ⊎ (i.bytes ≡ 2) ⊎ (i.bytes ≡ 4) ⊎ (i.bytes ≡ 8))
 
 -- the integer of temporary t stands exactly in slot a
 abbrev pub IsExactly : Knowledge → Temp → IntegerType → ℕ → Type 0

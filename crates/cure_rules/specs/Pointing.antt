@@ -10,8 +10,6 @@ use Rattle.c_types.specs.declared.flow_class.FlowClass.TheVariants.{Equal, UpTil
 use Rattle.c_types.specs.Table.{IsComplete}
 use Rattle.c_types.specs.Layouts.{offset_of}
 use Rattle.c_types.specs.Flows.{flow_class}
-use Rattle.c_types.specs.Equality.{cells_of}
-use Rattle.c_types.specs.Widths.{before}
 use Rattle.integers.specs.Arithmetic.{IntegerType, int, long}
 use Rattle.cil_form.specs.declared.number.Temp.{Temp}
 use Rattle.cil_form.specs.declared.instr.Comparison.{Comparison}
@@ -99,7 +97,7 @@ offset_by kind source cured = cured
 
 -- so many bytes of an object of type t
 abbrev pub cured_offset : World → Kind → TypeId → ℕ → ℕ
-cured_offset w k t offset = offset_by k offset (before w.whole.kind (cells_of w.whole.table t) offset)
+cured_offset w k t offset = offset_by k offset (w.whole.offset t offset)
 
 -- An array decays, behind its check or without one. It begins where it stands.
 abbrev pub Decays : Bool → World → Seat → Kind → Kind → TypeId → TypeId → ℕ → ℕ → Place → Piece

@@ -9,25 +9,12 @@ use Rattle.wild_tags.specs.Calls.{is_plain, is_tagged, greatest_depth}
 use Rattle.integers.specs.Operators.{signed, sum_words, difference_words, product_words, remainder_signed}
 use Rattle.cured_code.specs.declared.parts.Parts.{Parts}
 use Rattle.cured_code.specs.Tables.{function_at, sig_word, has_room, is_below}
-
--- the slots of a pointer's words; where it has fewer, the others are not read
-pub record PointerSlots : Type 0 where
-  pub first : ℕ
-  pub second : ℕ
-  pub third : ℕ
-
--- a number, and the slot that holds it
-pub record Fixed : Type 0 where
-  pub slot : ℕ
-  pub value : ℕ
-
--- how far a pointer is moved, in bytes: a slot's word, or that many elements of a size
-pub data Distance : Type 0 where
-  Bytes : (n : ℕ) → Distance
-  Elements : (n : ℕ) (size : Fixed) → Distance
-
-pub data Direction : Type 0 where
-  Forward Backward : Direction
+pub use Rattle.check_forms.specs.declared.slots.PointerSlots.{PointerSlots}
+pub use Rattle.check_forms.specs.declared.slots.Fixed.{Fixed}
+pub use Rattle.check_forms.specs.declared.slots.Distance.{Distance}
+pub use Rattle.check_forms.specs.declared.slots.Distance.TheVariants.{Bytes, Elements}
+pub use Rattle.check_forms.specs.declared.slots.Direction.{Direction}
+pub use Rattle.check_forms.specs.declared.slots.Direction.TheVariants.{Forward, Backward}
 
 pub data Condition : Type 0 where
   -- it never holds

@@ -1,3 +1,4 @@
+pub mod Pieces
 pub mod Conditions
 pub mod Rows
 pub mod Tests

@@ -9,14 +9,7 @@ use Rattle.cured_code.specs.Straight.{Operator, Sum, Difference, Product, And, O
 use Rattle.cured_code.specs.Straight as straight
 use Rattle.check_forms.specs.Conditions.{PointerSlots, Fixed, Distance, Bytes, Elements, Direction, Forward, Backward, Condition, Never, IsNotZero, IsInPart, IsByteInPart, IsWithinPart, IsInArea, IsByteInArea, IsWithinArea, IsArea, IsNear, IsSmall, IsBelowBound, IsAtLeast, IsAligned, HoldsNoPointer, HoldsPointer, IsNoDeeper, AreNoDeeper, IsNotOwn, IsMadeFor, IsFunctionOf, HasRoom, AreOfPart, AreOfArea, AreElementsApart, IsNoOverflow, Unless, UnlessNull, AreOfPartOr, AreOfAreaOr, Both}
 use Rattle.check_forms.specs.Tests.{Test, Pass, Flag, After, Choose, Then}
-
--- the working slots of checks, the slot of an address that is moved to, and a slot that holds 0
-pub record Work : Type 0 where
-  pub x : ℕ
-  pub y : ℕ
-  pub z : ℕ
-  pub to : ℕ
-  pub none : ℕ
+pub use Rattle.check_forms.specs.declared.slots.Work.{Work}
 
 -- a stop where the slot isn't 0
 abbrev pub stop_if : Work → ℕ → Test

@@ -6,58 +6,15 @@ use Rattle.cc_base.specs.declared.fault.Check.TheVariants as check
 use Rattle.cc_base.specs.declared.kind.Kind.{Kind}
 use Rattle.cc_base.specs.declared.kind.Kind.TheVariants.{Safe, Seq, Rtti, Wild}
 use Rattle.cc_base.specs.declared.place.Place.{Place}
-use Rattle.check_forms.specs.Conditions.{PointerSlots, Fixed, Distance, Direction, Condition, Never, IsNotZero, IsInPart, IsByteInPart, IsWithinPart, IsInArea, IsByteInArea, IsWithinArea, IsArea, IsNear, IsSmall, IsBelowBound, IsAtLeast, IsAligned, HoldsNoPointer, HoldsPointer, IsNoDeeper, AreNoDeeper, IsNotOwn, IsMadeFor, IsFunctionOf, HasRoom, AreOfPart, AreOfArea, AreElementsApart, IsNoOverflow, Unless, UnlessNull, AreOfPartOr, AreOfAreaOr, Both}
-
--- slots that hold what WILD pointers are compared with: 7, 8, and the address of the last function
-pub record WildNumbers : Type 0 where
-  pub seven : ℕ
-  pub eight : ℕ
-  pub last : Fixed
-
--- how far a pointer may lie from the start of its part once it is moved: at least -least and less than span - least bytes
-pub record Reach : Type 0 where
-  pub least : Fixed
-  pub span : Fixed
-
--- what an integer must be so that its product with the size doesn't wrap: one of 32 bits may be any
-pub data Factor : Type 0 where
-  Any : Factor
-  Signed : (least span : Fixed) → Factor
-  Unsigned : (bound : Fixed) → Factor
-
-pub data Conversion : Type 0 where
-  -- nothing is asked of the value
-  Free : Conversion
-  -- RTTI: to a pointer to this type node or one that lies below it
-  Down : (node : ℕ) → Conversion
-  -- SEQ: to a pointer of one word that reaches so many bytes
-  Shrink : (size : Fixed) → Conversion
-
--- A primitive with the slots of its operands. Sizes are those of cured code, in bytes; `home` is the slot of the word that says where a
--- stored pointer's object lies, and `assignment` the place of the operator that stores it.
-pub data Op : Type 0 where
-  ReadInteger : (p : PointerSlots) (size : Fixed) → Op
-  ReadPointer : (p : PointerSlots) (size : Fixed) (numbers : WildNumbers) → Op
-  WriteInteger : (p : PointerSlots) (size : Fixed) → Op
-  WritePointer : (p : PointerSlots) (size : Fixed) (numbers : WildNumbers) (home : ℕ) (assignment : Place) → Op
-  -- a struct without pointers is copied; `other` is the kind of its target, and `target_at` the target's place
-  CopyPlain : (source target : PointerSlots) (other : Kind) (size : Fixed) (target_at : Place) → Op
-  -- a struct with pointers; other than WILD, `KeepCell` follows for each of its pointers
-  CopyPointers : (source target : PointerSlots) (other : Kind) (size : Fixed) (numbers : WildNumbers) (target_at assignment : Place) → Op
-  KeepCell : (home target : ℕ) → Op
-  Member : (p : PointerSlots) (size : Fixed) (numbers : WildNumbers) (offset : ℕ) (reach : Reach) → Op
-  Move : (p : PointerSlots) (direction : Direction) (n : ℕ) (factor : Factor) (distance : Distance) (numbers : WildNumbers) (reach : Reach) → Op
-  -- a difference of pointers, with the size of an element, or an order, without; `other` is the kind of q
-  Order : (p q : PointerSlots) (other : Kind) (numbers : WildNumbers) (apart : Option Fixed) → Op
-  Equate : (p q : PointerSlots) (other : Kind) → Op
-  Call : (p : PointerSlots) (signature : Fixed) → Op
-  ReturnPointer : (home : ℕ) → Op
-  Convert : (p : PointerSlots) (conversion : Conversion) → Op
-  -- `made` is what the allocation gave: 0, or the address of as many bytes as the slot `size` holds
-  Allocate : (made size : ℕ) (needed : Fixed) → Op
-  DivideUnsigned : (a b : ℕ) → Op
-  DivideSigned : (a b : ℕ) (least minus_one : Fixed) → Op
-  EnterMain : (address : ℕ) → Op
+use Rattle.check_forms.specs.Conditions.{PointerSlots, Fixed, Distance, Bytes, Direction, Forward, Condition, Never, IsNotZero, IsInPart, IsByteInPart, IsWithinPart, IsInArea, IsByteInArea, IsWithinArea, IsArea, IsNear, IsSmall, IsBelowBound, IsAtLeast, IsAligned, HoldsNoPointer, HoldsPointer, IsNoDeeper, AreNoDeeper, IsNotOwn, IsMadeFor, IsFunctionOf, HasRoom, AreOfPart, AreOfArea, AreElementsApart, IsNoOverflow, Unless, UnlessNull, AreOfPartOr, AreOfAreaOr, Both}
+pub use Rattle.check_forms.specs.declared.op.WildNumbers.{WildNumbers}
+pub use Rattle.check_forms.specs.declared.op.Reach.{Reach}
+pub use Rattle.check_forms.specs.declared.op.Factor.{Factor}
+pub use Rattle.check_forms.specs.declared.op.Factor.TheVariants.{Any, Signed, Unsigned}
+pub use Rattle.check_forms.specs.declared.op.Conversion.{Conversion}
+pub use Rattle.check_forms.specs.declared.op.Conversion.TheVariants.{Free, Down, Shrink}
+pub use Rattle.check_forms.specs.declared.op.Op.{Op}
+pub use Rattle.check_forms.specs.declared.op.Op.TheVariants.{ReadInteger, ReadPointer, WriteInteger, WritePointer, CopyPlain, CopyPointers, KeepCell, Member, Move, Order, Equate, Call, ReturnPointer, Convert, Allocate, DivideUnsigned, DivideSigned, EnterMain}
 
 -- a condition, the check that stops where it is false, and the place that it names
 pub record Asked : Type 0 where
@@ -148,7 +105,7 @@ pointer_asked Wild p numbers at = asked check.Tag at (HoldsPointer p numbers.eig
 pointer_asked kind p numbers at = []
 
 abbrev pub member_asked : Kind → PointerSlots → Fixed → WildNumbers → ℕ → Reach → Place → List Asked
-member_asked Wild p size numbers offset reach at = based Wild p numbers at ++ near p Direction.Forward (Distance.Bytes offset) reach at ∷ []
+member_asked Wild p size numbers offset reach at = based Wild p numbers at ++ near p Forward (Bytes offset) reach at ∷ []
 member_asked kind p size numbers offset reach at = reached kind p size at
 
 abbrev pub call_asked : Kind → PointerSlots → Fixed → Place → List Asked

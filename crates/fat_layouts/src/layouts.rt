@@ -82,13 +82,20 @@ impl<'a> Layouts<'a> {
         self.cured_offset(t, self.types.size_of(t))
     }
 
-    /// The bytes that the first bytes of an object of a complete type take once cured, as many as `offset`. Takes no
-    /// memory, and a number of steps that is logarithmic in the number of the type's pointers.
+    /// The types of the program.
+    pub fn types(&self) -> &'a Types
+        ensures { result.now ≡ self.now.table }
+    {
+        self.types
+    }
+
+    /// The bytes that the first bytes of an object of a complete type take once cured, as many as `offset`, where no
+    /// pointer has begun before and ends behind. Takes no memory, and a number of steps that is logarithmic in the
+    /// number of the type's pointers.
     pub fn cured_offset(&self, t: TypeId, offset: u64) -> u64
         requires complete { IsComplete self.now.table t }
         requires within { offset ≤ size_of self.now.table t }
-        requires whole { IsBetweenPointers (cells_of self.now.table t) offset }
-        ensures { result ≡ before (kind_in self.now.kinds) (cells_of self.now.table t) offset }
+        ensures { IsBetweenPointers (cells_of self.now.table t) offset → result ≡ before (kind_in self.now.kinds) (cells_of self.now.table t) offset }
     {
         let stop = last_passed(&self.layouts[t.0 as usize].stops, offset);
         stop.cured + (offset - stop.end)

@@ -29,5 +29,5 @@ returns c =
     let h = the_layout _ c.args.self.now c.self.inside.layouts.items c.self.view_is c.self.invariant c.args.t _ c.requires.complete c.index.result.now c.index.ensures in
     let w = kept_formed _ c.args.self.now c.self.inside.layouts.items c.self.view_is c.self.invariant in
     let l = subst (λ (xs : List Stop). IsLastPassed xs c.args.offset c.last_passed-stop.result) c.deref.ensures.value c.last_passed-stop.ensures in
-    offset_is c.args.self.now.table c.args.self.now.kinds c.args.t c.index.result.now h w c.requires.complete c.args.offset c.last_passed-stop.result c.requires.within
-    c.requires.whole l
+    λ whole. offset_is c.args.self.now.table c.args.self.now.kinds c.args.t c.index.result.now h w c.requires.complete c.args.offset c.last_passed-stop.result c.requires.within
+    whole l

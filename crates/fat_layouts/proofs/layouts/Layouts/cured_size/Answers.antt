@@ -9,15 +9,9 @@ use Rattle.fat_layouts.specs.Standing.{Curing, AreCuredLayouts}
 use Rattle.fat_layouts.proofs.LayoutLaws.{end_is_whole, all_before}
 use Rattle.fat_layouts.proofs.layouts.Layouts.cured_size.Goals as goal
 
-pub cured_offset-requires-clause-whole : goal.cured_offset-requires-clause-whole
-cured_offset-requires-clause-whole c =
-    let w = subst (λ (q : Curing). AreCuredLayouts q.table q.kinds c.self.inside.layouts.items) c.self.view_is c.self.invariant in
-    let s = subst (λ (q : Curing). c.size_of.result ≡ size_of q.table c.args.t) c.self.view_is c.size_of.ensures in
-    subst (IsBetweenPointers (cells_of c.args.self.now.table c.args.t)) (sym s) (end_is_whole c.args.self.now.table w.formed c.args.t c.requires)
-
 pub returns : goal.returns
 returns c =
     let w = subst (λ (q : Curing). AreCuredLayouts q.table q.kinds c.self.inside.layouts.items) c.self.view_is c.self.invariant in
     let s = subst (λ (q : Curing). c.size_of.result ≡ size_of q.table c.args.t) c.self.view_is c.size_of.ensures in
-    c.cured_offset.ensures ∙ ap (before (kind_in c.args.self.now.kinds) (cells_of c.args.self.now.table c.args.t)) s
+    c.cured_offset.ensures (subst (IsBetweenPointers (cells_of c.args.self.now.table c.args.t)) (sym s) (end_is_whole c.args.self.now.table w.formed c.args.t c.requires)) ∙ ap (before (kind_in c.args.self.now.kinds) (cells_of c.args.self.now.table c.args.t)) s
     ∙ all_before c.args.self.now.table w.formed c.args.self.now.kinds c.args.t c.requires

@@ -1,0 +1,3 @@
+//! What the cured code of three-address code is: a relation between instructions, what is known where they stand, and the lines that they
+//! become. Laws alone: nothing here runs.
+#![tactic(auto)]

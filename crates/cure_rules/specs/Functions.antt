@@ -1,10 +1,13 @@
 -- What a function of the cured program is: its signature, the areas of its frame and what the frame is charged, its prologue and its body.
-use Rattle.std.specs.Prelude.{◌≡◌, ◌⊎◌, ◌↔◌, ℕ, suc, ◌+◌, ◌<◌, ◌≤◌, true, List, [], ◌∷◌, ◌++◌, length, slice_get, Option, Some, None, sum_by, nat_le, if◌then◌else◌}
+use Rattle.std.specs.Prelude.{◌≡◌, ◌⊎◌, ◌↔◌, ℕ, suc, ◌+◌, ◌<◌, ◌≤◌, true, List, [], ◌∷◌, ◌++◌, length, map, slice_get, Option, Some, None, sum_by, nat_le, if◌then◌else◌}
 use Rattle.cc_base.specs.declared.number.TypeId.{TypeId}
 use Rattle.cc_base.specs.declared.number.NodeId.{NodeId}
+use Rattle.cc_base.specs.declared.kind.Kind.{Kind}
 use Rattle.c_types.specs.declared.shape.TypeShape.{TypeShape}
 use Rattle.c_types.specs.declared.shape.TypeShape.TheVariants as shape
-use Rattle.c_types.specs.Table.{shape_at, is_function}
+use Rattle.c_types.specs.Table.{Table, shape_at, is_function}
+use Rattle.c_types.specs.Layouts.{size_of}
+use Rattle.c_types.specs.Equality.{cells_of}
 use Rattle.c_types.specs.Flows.{IsOfOneClass}
 use Rattle.flat_mem.specs.declared.Area.{Area}
 use Rattle.integers.specs.Arithmetic.{IntegerType}
@@ -22,39 +25,40 @@ use Rattle.cured_code.specs.Tables.{areas_of}
 use Rattle.cured_code.specs.Ranges.{slots_limit, params_limit}
 use Rattle.check_forms.specs.Pieces.{Piece, Line, Then}
 use Rattle.check_forms.specs.declared.slots.PointerSlots.{PointerSlots}
-use Rattle.sim_relation.specs.Objects.{frame_areas}
+use Rattle.sim_relation.specs.Objects.{area_by}
 use Rattle.sim_relation.specs.Points.{KeptSlot, Start, Knowledge}
 use Rattle.cure_rules.specs.Slots.{Slots, AreSlots, Address}
-use Rattle.cure_rules.specs.Known.{Whole, World, kind_of, words_in, Sets, Gets, nothing_known, IsPlainInteger, IsPointer}
+use Rattle.cure_rules.specs.Known.{Whole, World, kind_of, words_by, words_in, Sets, Gets, nothing_known, IsPlainInteger, IsPointer}
 use Rattle.cure_rules.specs.Accesses.{IsHome, integer_stored, PointerStored}
 use Rattle.cure_rules.specs.Code.{AreCuring, outside}
 
 -- Signatures
 
--- how many words the values of these types take together
-abbrev pub words_of_all : Whole → List TypeId → ℕ
-words_of_all w types = sum_by (words_in w) types
+-- how many words a value of a type takes
+abbrev pub words_at : Table → (NodeId → Kind) → TypeId → ℕ
+words_at table kind t = words_by kind (shape_at table t)
 
 abbrev pub bare : Sig
 bare = record { params = 0; results = 0 }
 
--- What functions of a type take and give. No function has more parameters than a defined one may, so of such a type nothing is said.
-abbrev pub signature_by : Whole → TypeShape → Sig
-signature_by w (shape.Function parameters result) = if nat_le (length parameters) parameters_limit
-    then record { params = words_of_all w parameters; results = words_in w result }
+-- What functions of this shape take and give. None has more parameters than a defined function may, so of such a type nothing is said.
+abbrev pub signature_by : (TypeId → ℕ) → TypeShape → Sig
+signature_by words (shape.Function parameters result) = if nat_le (length parameters) parameters_limit
+    then record { params = sum_by words parameters; results = words result }
     else bare
-signature_by w other = bare
+signature_by words other = bare
 
-abbrev pub signature_of : Whole → TypeId → Sig
-signature_of w t = signature_by w (shape_at w.table t)
+abbrev pub signature_of : Table → (NodeId → Kind) → TypeId → Sig
+signature_of table kind t = signature_by (words_at table kind) (shape_at table t)
 
 -- Function types have one signature exactly where they are of one class; so a function that is called through a pointer of a type is of its
 -- class where its signature's number is that of the type. The first signature is that of function 0 alone.
-pub record AreSignatures (w : Whole) (sigs : List Sig) : Type 0 where
+pub record AreSignatures (table : Table) (kind : NodeId → Kind) (signature : TypeId → ℕ) (sigs : List Sig) : Type 0 where
   pub start : slice_get sigs 0 ≡ Some bare
-  pub each : (t : TypeId) → is_function w.table t ≡ true → (0 < w.signature t) × (slice_get sigs (w.signature t) ≡ Some (signature_of w t))
-  pub class : (t u : TypeId) → is_function w.table t ≡ true → is_function w.table u ≡ true
-      → (w.signature t ≡ w.signature u) ↔ IsOfOneClass w.table w.kind t u
+  pub each : (t : TypeId) → is_function table t ≡ true → (0 < signature t) × (slice_get sigs (signature t) ≡ Some (signature_of table kind t))
+  pub class : (t u : TypeId) → is_function table t ≡ true → is_function table u ≡ true
+      → (signature t ≡ signature u) ↔ IsOfOneClass table kind t u
+  pub kept : (g : ℕ) → 0 < g → g < length sigs → (t : TypeId) × (is_function table t ≡ true) × (signature t ≡ g)
 
 -- Prologues
 
@@ -100,9 +104,13 @@ world_of w k f slots = record {
   slots = slots;
 }
 
+-- the area of an object, by its type and the kind of its home
+abbrev pub area_for : Table → (NodeId → Kind) → Planned → Area
+area_for table kind o = area_by kind (kind o.node) (size_of table o.type) (cells_of table o.type)
+
 -- the areas of the variables of a frame, in order
-abbrev pub areas_for : Whole → List Planned → List Area
-areas_for w variables = frame_areas (record { table = w.table; kind = w.kind; functions = [] }) variables
+abbrev pub areas_for : Table → (NodeId → Kind) → List Planned → List Area
+areas_for table kind variables = map (area_for table kind) variables
 
 -- A body behind its prologue: first the kept slots are set, then the parameters are stored.
 pub record IsBody (w : World) (f : Function) (body : List Instr) : Type 0 where
@@ -117,7 +125,7 @@ pub record IsBody (w : World) (f : Function) (body : List Instr) : Type 0 where
 
 -- a function whose frame may be pushed
 pub record IsEntered (w : World) (f : Function) (h : cured.Function) : Type 0 where
-  pub areas : areas_of h.locals ≡ areas_for w.whole (variables_of f)
+  pub areas : areas_of h.locals ≡ areas_for w.whole.table w.whole.kind (variables_of f)
   pub charge : h.charge ≡ frame_charge w.whole.table (variables_of f)
   pub body : IsBody w f h.body.0.items
 

@@ -45,7 +45,7 @@ IsFirstOf (Some text) first = (n : ℕ) × (text ≡ first ++ replicate n 0) × 
 
 -- the areas of the static objects, in order, and what each begins with
 pub record AreGlobals (w : Whole) (statics : List Static) (globals : List GlobalLine) : Type 0 where
-  pub areas : global_areas globals ≡ areas_for w (map (λ (o : Static). plan o.planned) statics)
+  pub areas : global_areas globals ≡ areas_for w.table w.kind (map (λ (o : Static). plan o.planned) statics)
   pub first : (k : ℕ) (o : Static) (g : GlobalLine) → slice_get statics k ≡ Some o → slice_get globals k ≡ Some g → IsFirstOf o.text g.first
 
 -- Function 0
@@ -110,7 +110,7 @@ pub record IsFunctionAt (w : Whole) (parts : Parts) (k : ℕ) (f : Function) : T
 -- the parts are those of the program, of whose functions this is the same
 pub record AreCured (w : Whole) (p : Program) (parents : List ℕ) (parts : Parts) : Type 0 where
   pub sizes : AreSizes w
-  pub signatures : AreSignatures w parts.sigs
+  pub signatures : AreSignatures w.table w.kind w.signature parts.sigs
   pub nodes : parts.nodes ≡ parents
   pub globals : AreGlobals w p.statics parts.globals
   pub count : length parts.functions ≡ suc (length p.functions)

@@ -13,11 +13,11 @@ use Rattle.c_types.specs.declared.shape.TypeShape.TheVariants as shape
 use Rattle.c_types.specs.Table.{Table, Entry, AreNodesOf, IsType, shape_at, void_entry}
 use Rattle.c_types.specs.Cells.{Cell, raw, pointer, mixed, incomplete}
 use Rattle.c_types.specs.Equality.{physically_equal, cells_of, begins_with}
-use Rattle.c_types.specs.Flows.{kind_in, HeldPointer, pointer_in_cell, pointer_of_shape, and_then, pointer_in, pointer_at, StandAlike, Correspond, top, inside, CorrespondByPlace, HaveEqualKinds, Covers}
-use Rattle.c_types.specs.Coverage.{same_kind, covers}
+use Rattle.c_types.specs.Flows.{kind_in, HeldPointer, pointer_in_cell, pointer_of_shape, and_then, pointer_in, pointer_at, StandAlike, Correspond, top, inside, CorrespondByPlace, HaveEqualKinds, IsOfOneClass, Covers}
+use Rattle.c_types.specs.Coverage.{same_kind, covers, of_one_class}
 use Rattle.c_types.specs.Sound.{IsWellFormed}
-use Rattle.type_laws.proofs.Coverage.{covers_is}
-use Rattle.type_laws.proofs.Pointers.{begins_mirrors}
+use Rattle.type_laws.proofs.Coverage.{covers_is, one_class_is}
+use Rattle.type_laws.proofs.Pointers.{Mirrors, equal_mirrors, begins_mirrors}
 use Rattle.phys_types.specs.Pairs.{HaveNodes}
 use Rattle.phys_types.specs.Found.{Pairs, no_pairs, Gains}
 use Rattle.phys_types.specs.Standing.{AreEqualTypes, CorrespondInSome}
@@ -106,21 +106,39 @@ module _ (table : Table) (kind : NodeId → Kind) (t u : TypeId) (pairs : List (
   equal_kinds : AreEqual → HaveEqualKinds kind (CorrespondByPlace table t u)
   equal_kinds k p q r = k p.node q.node ((h p.node q.node).1 (record { p = p; q = q; related = r; first = refl; second = refl }))
 
-  pub pairs_tell : (b : Bool) → begins_with table t u ≡ true → IsTrue b ↔ ((a b : NodeId) → Contains pairs (a, b) → kind a ≡ kind b) → b ≡ covers table kind t u
-  pairs_tell b e k = by b (covers table kind t u) refl refl
+  -- pairs of equal kinds tell a test whose other part is true
+  pub pairs_tell : (C : Type 0) (b c : Bool) → (C ↔ IsTrue c) → (HaveEqualKinds kind (CorrespondByPlace table t u) → C) → (C → HaveEqualKinds kind (CorrespondByPlace table t u))
+      → IsTrue b ↔ ((a b : NodeId) → Contains pairs (a, b) → kind a ≡ kind b) → b ≡ c
+  pairs_tell C b c is made told k = by b c refl refl
     where
-      made : b ≡ true → covers table kind t u ≡ true
-      made x = (covers_is table kind t u).1 (record { begins = e; kinds = equal_kinds (k.0 x) })
+      forth : b ≡ true → c ≡ true
+      forth x = is.0 (made (equal_kinds (k.0 x)))
 
-      back : covers table kind t u ≡ true → b ≡ true
+      back : c ≡ true → b ≡ true
       back x =
-          let c = (covers_is table kind t u).0 x in
-          k.1 (λ a d m. let o = (h a d).0 m in ap kind (sym o.first) ∙ c.kinds o.p o.q o.related ∙ ap kind o.second)
+          let e = told (is.1 x) in
+          k.1 (λ a d m. let o = (h a d).0 m in ap kind (sym o.first) ∙ e o.p o.q o.related ∙ ap kind o.second)
 
-      by : (x y : Bool) → b ≡ x → covers table kind t u ≡ y → b ≡ covers table kind t u
-      by true y p q = p ∙ sym (made p)
+      by : (x y : Bool) → b ≡ x → c ≡ y → b ≡ c
+      by true y p q = p ∙ sym (forth p)
       by false true p q = back q ∙ sym q
       by false false p q = p ∙ sym q
+
+  pub covers_tell : (b : Bool) → begins_with table t u ≡ true → IsTrue b ↔ ((a b : NodeId) → Contains pairs (a, b) → kind a ≡ kind b) → b ≡ covers table kind t u
+  covers_tell b e k =
+      pairs_tell (Covers table kind t u) b (covers table kind t u) ((covers_is table kind t u).1, (covers_is table kind t u).0) (λ d. record { begins = e; kinds = d }) (λ c. c.kinds) k
+
+  pub class_tells : (b : Bool) → physically_equal table t u ≡ true → IsTrue b ↔ ((a b : NodeId) → Contains pairs (a, b) → kind a ≡ kind b) → b ≡ of_one_class table kind t u
+  class_tells b e k =
+      pairs_tell (IsOfOneClass table kind t u) b (of_one_class table kind t u) ((one_class_is table kind t u).1, (one_class_is table kind t u).0) (λ d. record { equal = e; kinds = d })
+      (λ c. c.kinds) k
+
+pub not_equal : (table : Table) (kind : NodeId → Kind) (t u : TypeId) → physically_equal table t u ≡ false → false ≡ of_one_class table kind t u
+not_equal table kind t u e = by (of_one_class table kind t u) refl
+  where
+    by : (y : Bool) → of_one_class table kind t u ≡ y → false ≡ of_one_class table kind t u
+    by true q = absurd (true≢false (sym ((one_class_is table kind t u).0 q).equal ∙ e))
+    by false q = sym q
 
 pub not_begun : (table : Table) (kind : NodeId → Kind) (t u : TypeId) → begins_with table t u ≡ false → false ≡ covers table kind t u
 not_begun table kind t u e = by (covers table kind t u) refl
@@ -137,10 +155,17 @@ no_nodes x m = omega (arith, m.1)
 no_types : (x : TypeId × TypeId) → Contains [] x → ⊥
 no_types x m = omega (arith, m.1)
 
-module _ (table : Table) (w : IsWellFormed table) (t u : TypeId) (a : IsType table t) (b : IsType table u) (h : begins_with table t u ≡ true) where
+module _ (table : Table) (w : IsWellFormed table) (t u : TypeId) (a : IsType table t) (b : IsType table u)
+    (h : (physically_equal table t u ≡ true) ⊎ (begins_with table t u ≡ true)) where
+  mirrors : Mirrors table t u
+  mirrors = elim h [
+    | inl e ↦ equal_mirrors table w t u e
+    | inr e ↦ begins_mirrors table t u e
+  ]
+
   stand_equal : (p q : HeldPointer) → StandAlike table t u p q → AreEqualTypes table p.to q.to
   stand_equal p q (i, x, y) =
-      let c = opened table t u (begins_mirrors table t u h) i q y in
+      let c = opened table t u mirrors i q y in
       record {
         first = pointee_typed table w t i p a x;
         second = pointee_typed table w u i q b y;

@@ -1,13 +1,13 @@
 //! Whether a type covers another: it begins with it, and the pointers at the same places, at every depth, have equal kinds.
 #![tactic(auto)]
 
-ghost use Rattle.std.specs.Prelude.{◌≡◌, ◌<◌, ◌↔◌, IfOk, IsTrue, length};
+ghost use Rattle.std.specs.Prelude.{◌≡◌, ◌<◌, ◌↔◌, ◌⊎◌, IfOk, IsTrue, length};
 ghost use Rattle.std.specs.List.{All, Contains};
 ghost use Rattle.cc_base.specs.declared.number.NodeId.{NodeId};
 ghost use Rattle.c_types.specs.Table.{IsType, AreNodesOf};
-ghost use Rattle.c_types.specs.Equality.{begins_with};
+ghost use Rattle.c_types.specs.Equality.{physically_equal, begins_with};
 ghost use Rattle.c_types.specs.Flows.{kind_in, CorrespondByPlace};
-ghost use Rattle.c_types.specs.Coverage.{covers, same_kind};
+ghost use Rattle.c_types.specs.Coverage.{covers, of_one_class, same_kind};
 ghost use Rattle.c_types.specs.Sound.{IsWellFormed};
 ghost use Rattle.phys_types.specs.Pairs.{HaveNodes};
 ghost use Rattle.rtti_nodes.specs.Classes.{IsLastCovered};
@@ -16,7 +16,8 @@ use cc_base::{Kind, Kinds, NoMemory, NodeId, TypeId};
 use phys_types::{Found, Known};
 use std::alloc::Global;
 
-/// The nodes of the pointers at the same places of two types of which the first begins with the second, at every depth.
+/// The nodes of the pointers at the same places of two types, at every depth, where they are physically equal or the first begins with
+/// the second.
 fn nodes_by_place(
     alloc: Global,
     known: &Known,
@@ -26,7 +27,7 @@ fn nodes_by_place(
     requires formed { IsWellFormed known.now }
     requires first { IsType known.now t }
     requires second { IsType known.now u }
-    requires begins { IsTrue (begins_with known.now t u) }
+    requires near { IsTrue (physically_equal known.now t u) ⊎ IsTrue (begins_with known.now t u) }
     ensures { IfOk result (λ pairs. (a b : NodeId) →
         Contains pairs.items (a, b) ↔ HaveNodes (CorrespondByPlace known.now t u) a b) }
 {
@@ -78,6 +79,28 @@ pub(crate) fn covers(
     ensures { IfOk result (λ covered. covered ≡ covers known.now (kind_in kinds.now) t u) }
 {
     if !known.begins_with(t, u) {
+        return Ok(false);
+    }
+    let pairs = nodes_by_place(alloc, known, t, u)?;
+    Ok(have_equal_kinds(kinds, &pairs))
+}
+
+/// Whether two types are of one class: they are physically equal, and the pointers at the same places, at every depth, have equal
+/// kinds.
+pub fn is_of_one_class(
+    alloc: Global,
+    known: &Known,
+    kinds: &Kinds,
+    t: TypeId,
+    u: TypeId,
+) -> Result<bool, NoMemory>
+    requires formed { IsWellFormed known.now }
+    requires first { IsType known.now t }
+    requires second { IsType known.now u }
+    requires nodes { All (λ e. AreNodesOf (length kinds.now) e.shape) known.now }
+    ensures { IfOk result (λ one. one ≡ of_one_class known.now (kind_in kinds.now) t u) }
+{
+    if !known.is_equal(t, u) {
         return Ok(false);
     }
     let pairs = nodes_by_place(alloc, known, t, u)?;

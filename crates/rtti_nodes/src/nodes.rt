@@ -117,6 +117,13 @@ impl<'a> Nodes<'a> {
         self.numbers[t.0 as usize]
     }
 
+    /// The nodes of all types, by the numbers of the types; where a type isn't used it says nothing. Takes no memory.
+    pub fn numbers(&self) -> &[u32]
+        ensures { result.now ≡ self.now.numbers }
+    {
+        &self.numbers
+    }
+
     /// The parents of the nodes, that of node 1 first. Takes no memory.
     pub fn parents(&self) -> &Parents
         ensures same { result.now ≡ self.now.parents }

@@ -5,7 +5,7 @@ use Rattle.rtti_nodes.proofs.covering.nodes_by_place.Goals as goal
 
 pub follow-requires : goal.follow-requires
 follow-requires c =
-    found_equal c.args.known.now c.requires.formed c.args.t c.args.u c.requires.first c.requires.second c.requires.begins c.new-found.result c.add_places.new.found c.new-found.ensures
+    found_equal c.args.known.now c.requires.formed c.args.t c.args.u c.requires.first c.requires.second c.requires.near c.new-found.result c.add_places.new.found c.new-found.ensures
     c.in_ok-add_places.ensures
 
 pub returns : goal.returns

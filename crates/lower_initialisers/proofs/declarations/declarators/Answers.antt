@@ -1,8 +1,8 @@
 use Rattle.lower_exprs.proofs.Laws.{grows_then}
 use Rattle.lower_exprs.specs.Drafts.{context_of}
-use Rattle.lower_statements.proofs.Laws.{grows_kept, more_declarators}
-use Rattle.lower_statements.proofs.declarations.declarators.Goals as goal
-use Rattle.lower_statements.proofs.declarations.declarators.Goals.{in-Plain, in-Initialised}
+use Rattle.lower_initialisers.proofs.Laws.{grows_kept, more_declarators}
+use Rattle.lower_initialisers.proofs.declarations.declarators.Goals as goal
+use Rattle.lower_initialisers.proofs.declarations.declarators.Goals.{in-Plain, in-Initialised}
 
 pub loop-one-preserved : goal.loop-one-preserved
 loop-one-preserved c = record {

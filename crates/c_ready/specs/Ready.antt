@@ -10,6 +10,7 @@ use Rattle.c_types.specs.Table.{Table, HasShape, IsType, IsAggregate, IsComplete
 use Rattle.c_types.specs.Layouts.{size_of, member_at}
 use Rattle.c_types.specs.Sameness.{IsSameType}
 use Rattle.c_tree.specs.declared.leaf.Identifier.{Identifier}
+use Rattle.c_tree.specs.declared.leaf.StringPiece.{StringPiece}
 use Rattle.c_tree.specs.declared.operator.Assignment.{Assignment}
 use Rattle.c_tree.specs.declared.typed_word.Conversion.{Conversion}
 use Rattle.c_tree.specs.declared.typed_word.Conversion.TheVariants as conversion
@@ -80,14 +81,17 @@ IsObjectDeclared k h t = (d : TypedDeclarator) × Contains k.declarators d × (s
 
 -- a declarator declares the function of this name with the type t
 abbrev pub IsFunctionDeclared : Stage → Name → TypeId → Type 0
-IsFunctionDeclared k name t = (d : TypedDeclarator) × Contains k.declarators d × (bytes_of_name (name_of d) ≡ name) × (declared_type d ≡ t)
+IsFunctionDeclared k name t = (d : TypedDeclarator) × Contains k.declarators d
+    × ((id : Identifier) × (name_of d ≡ Some id) × (id.bytes ≡ name)) × (declared_type d ≡ t)
 
 -- an object that lives as long as the program, by one of its declarations
 pub record IsStaticNamed (k : Stage) (h : NodeId) (t : TypeId) : Type 0 where
   pub first : TypeId
   pub made : Contains k.statics (h, first)
   pub alike : IsAlike k.table first t
+  -- a declarator declares it with this type, and one with the first
   pub declared : IsObjectDeclared k h t
+  pub begun : IsObjectDeclared k h first
 
 -- what runs names a variable of the function or a static object; what does not may name a parameter of a prototype, which is no object
 abbrev pub IsObjectOf : Bool → Stage → NodeId → TypeId → Type 0
@@ -459,9 +463,15 @@ IsReadyStatic static i = IsReadyInitialiser static i.type i.initialiser × IsObj
 abbrev pub homes_of : TypedTranslationUnit → List ℕ
 homes_of u = map (λ (o : MadeObject). o.home.0) (statics_of u) ++ flat_map (λ f. map (λ (o : Named). o.0.0) (variables_named f)) (functions_of u)
 
+-- a literal is an array of chars, as many as it has bytes with its zero
+abbrev pub IsTextOf : Table → TypeId → Option (List StringPiece) → Type 0
+IsTextOf T t None = Unit {0}
+IsTextOf T t (Some pieces) = IsStringType T pieces t
+
 -- the objects of a unit
 pub record AreReadyObjects (static : Stage) (u : TypedTranslationUnit) : Type 0 where
   pub plans : All (λ (o : MadeObject). IsNode static o.home × IsWhole static o.type) (statics_of u)
+  pub texts : All (λ (o : MadeObject). IsTextOf static.table o.type o.literal) (statics_of u)
   -- no two objects have one home
   pub distinct : IsDistinct nat_eq (homes_of u)
 

@@ -1,6 +1,7 @@
 -- The bodies and the static initialisers of a program that is lowered from a well typed unit are in shape.
 use Rattle.std.specs.List.{All, Contains}
 use Rattle.std.proofs.Common.{◌≡◌, ℕ, suc, ◌≤◌, ◌+◌, Bool, true, false, List, [], ◌∷◌, ◌++◌, map, flat_map, Option, Some, None, inl, inr, refl, ap, sym, subst, ◌∙◌, nat_lt, if◌then◌else◌, arith}
+use Rattle.std.proofs.lemmas.Bool.Decides.{nat_tests}
 use Rattle.std.proofs.lemmas.List.{append-nil}
 use Rattle.std.proofs.lemmas.List.Elements.{All-head, All-tail, All-weaker, All-contains_itself}
 use Rattle.std.proofs.lemmas.Option.{none-some}
@@ -14,6 +15,7 @@ use Rattle.c_tree.specs.Depth.{unit_height}
 use Rattle.c_tree.specs.TypedTree.{TypedTranslationUnit}
 use Rattle.c_tree.specs.TypedParts.{DefinedFunction, StaticInitialiser, declared_type, home_of, functions_of, static_initialisers}
 use Rattle.c_unit_typing.specs.Holding.{unit_holds}
+use Rattle.c_unit_typing.specs.Units.{Around}
 use Rattle.c_unit_typing.specs.WellTyped.{IsWellTyped}
 use Rattle.integers.specs.Arithmetic.{unsigned_long}
 use Rattle.c_ready.specs.Ready.{Stage, Named, IsReadyFunction, IsReadyStatic, static_stage, variables_named}
@@ -58,7 +60,7 @@ nothing-between (temp.Value j) x e = absurd (none-some x e)
 nothing-between (temp.Switch j) x e = absurd (none-some x (sym (ap (λ b. if b then Some (IntegerOf unsigned_long) else None) (none-less j)) ∙ e))
   where
     none-less : (n : ℕ) → nat_lt n 0 ≡ false
-    none-less n = refl
+    none-less n = grind (arith, nat_tests)
 nothing-between (temp.Work w) x e = absurd (none-some x e)
 
 nothing-known : (types : Typing) → Includes types no_types
@@ -126,7 +128,7 @@ module _ (u : TypedTranslationUnit) (p : Program) (w : IsWellTyped p.types u) (l
   pub start-context : context_of p ≡ stand (stage_in u p w l [] false) (frame_in u p w l [] None) 0 no_types
   start-context = ap (λ n. made_in n [] None) l.nodes
 
-  low-in : (vs : List Planned) → List NodeId → words.Context
+  abbrev low-in : (vs : List Planned) → List NodeId → words.Context
   low-in vs statics = record { table = p.types; statics = statics; variables = map (λ (o : Planned). o.node) vs }
 
   -- Bodies
@@ -138,7 +140,7 @@ module _ (u : TypedTranslationUnit) (p : Program) (w : IsWellTyped p.types u) (l
       let s = stage_in u p w l (variables_named d) true in
       let fr = frame_in u p w l vs (Some r.result) in
       let K = stand s fr 0 no_types in
-      let a = record { result = r.result; in_loop = false; breakable = false } in
+      let a : Around = record { result = r.result; in_loop = false; breakable = false } in
       let block = subst (λ (hs : List NodeId). IsCodeOfBlock d.body (low-in vs hs) outermost f.body.0.items) (sym (statics-homes u p w l)) h.body in
       subst (λ k. IsCodeInShape k f.body.0.items) (sym (body-context d f h r)) (record {
         shaped =

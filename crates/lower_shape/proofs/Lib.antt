@@ -20,3 +20,5 @@ pub mod Lists
 pub mod Known
 pub mod UnitParts
 pub mod Bodies
+pub mod Functions
+pub mod Cells

@@ -250,10 +250,10 @@ module _ (T : Table) where
 module _ (T : Table) (w : IsWellFormed T) (k : lowered.Context) where
   -- one or two operands, whose code is followed by what moves nothing
 
-  one-part : (P Q : Form) (xs : List Made) (n : ℕ) → counted T xs ≤ n → Moved T (counted T xs) P → Moved T 0 Q → Moved T n (Then P Q)
+  pub one-part : (P Q : Form) (xs : List Made) (n : ℕ) → counted T xs ≤ n → Moved T (counted T xs) P → Moved T 0 Q → Moved T n (Then P Q)
   one-part P Q xs n l p q = moved-more T (Then P Q) (counted T xs + 0) n (omega (arith, l)) (moved-then T P Q (counted T xs) 0 p q)
 
-  both-parts : (P Q : Form) (xs ys : List Made) → Moved T (counted T xs) P → Moved T (counted T ys) Q → Moved T (counted T (xs ++ ys)) (Then P Q)
+  pub both-parts : (P Q : Form) (xs ys : List Made) → Moved T (counted T xs) P → Moved T (counted T ys) Q → Moved T (counted T (xs ++ ys)) (Then P Q)
   both-parts P Q xs ys p q =
       moved-more T (Then P Q) (counted T xs + counted T ys) (counted T (xs ++ ys)) (omega (arith, counted-both T xs ys))
       (moved-then T P Q (counted T xs) (counted T ys) p q)

@@ -22,3 +22,4 @@ pub mod UnitParts
 pub mod Bodies
 pub mod Functions
 pub mod Cells
+pub mod StatementCells

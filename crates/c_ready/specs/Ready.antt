@@ -5,12 +5,15 @@ use Rattle.cc_base.specs.declared.place.Place.{Place}
 use Rattle.cc_base.specs.declared.number.NodeId.{NodeId}
 use Rattle.cc_base.specs.declared.number.TypeId.{TypeId}
 use Rattle.integers.specs.Arithmetic.{IntegerType, int, long, unsigned_long, converted}
-use Rattle.c_types.specs.declared.shape.TypeShape.TheVariants.{Integer, Pointer, Array, Function}
-use Rattle.c_types.specs.Table.{Table, HasShape, IsType, IsAggregate, IsComplete, members_at}
+use Rattle.c_types.specs.declared.shape.TypeShape.TheVariants.{Integer, Pointer, Array, Function, Struct, Union}
+use Rattle.c_types.specs.declared.shape.TypeShape.{TypeShape}
+use Rattle.c_types.specs.Table.{Table, HasShape, IsType, IsAggregate, IsComplete, shape_at, members_at}
 use Rattle.c_types.specs.Layouts.{size_of, member_at}
 use Rattle.c_types.specs.Sameness.{IsSameType}
 use Rattle.c_tree.specs.declared.leaf.Identifier.{Identifier}
 use Rattle.c_tree.specs.declared.leaf.StringPiece.{StringPiece}
+use Rattle.c_tree.specs.declared.operator.AggregateKind.{AggregateKind}
+use Rattle.c_tree.specs.declared.operator.AggregateKind.TheVariants as aggregate
 use Rattle.c_tree.specs.declared.operator.Assignment.{Assignment}
 use Rattle.c_tree.specs.declared.typed_word.Conversion.{Conversion}
 use Rattle.c_tree.specs.declared.typed_word.Conversion.TheVariants as conversion
@@ -150,6 +153,12 @@ abbrev pub IsUpdated : Stage → Assignment → TypedPlace → Place → TypedEx
 IsUpdated k operator p at e t =
     IsTrue (is_compound operator) × IsLvalue p × (IsIntegerUpdate k.table (assigning operator) p at e t ⊎ IsPointerUpdated k operator p e t)
 
+-- a struct or a union, as its keyword says
+abbrev pub is_of_kind : AggregateKind → TypeShape → Bool
+is_of_kind aggregate.Struct (Struct number) = true
+is_of_kind aggregate.Union (Union number) = true
+is_of_kind which shape = false
+
 -- calls stand in functions, and where nothing runs
 abbrev pub MayCall : Stage → Type 0
 MayCall k = (k.calls ≡ true) ⊎ (k.runs ≡ false)
@@ -245,6 +254,7 @@ abbrev mutual
 
   pub IsReadySpecifier : Stage → TypedSpecifier → Type 0
   IsReadySpecifier k (typed.Aggregate which at name brace members t) = AreReadyMembers k members × IsWhole k t × IsAggregate k.table t
+      × IsTrue (is_of_kind which (shape_at k.table t))
   IsReadySpecifier k (typed.Enumeration at name brace all comma) = AreReadyEnumerators k all
   IsReadySpecifier k (typed.Keyword word) = Unit {0}
   IsReadySpecifier k (typed.Typedef name t) = Unit {0}

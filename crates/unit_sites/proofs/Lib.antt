@@ -1,5 +1,7 @@
+pub mod DeclaratorsSame
 pub mod Elements
 pub mod FunctionsAlike
+pub mod NamesAlike
 pub mod ObjectsAlike
 pub mod PiecesReady
 pub mod SitesTold

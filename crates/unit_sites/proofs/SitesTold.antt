@@ -255,7 +255,7 @@ module _ (u : TypedTranslationUnit) (T : Table) where
   flows-told ready m n t v at c = All-contains HasEnds (sites_of u T) (site.Flow m t n v at) all c
     where
       joins : All (IsJoin T) (pieces_of_unit u)
-      joins = unit-pieces IsJoin value-join (λ k p r. tt) (λ k x r. tt) (λ T d i. tt) (static_stage T u) u ready
+      joins = unit-pieces (λ T n piece. IsJoin T piece) value-join (λ k p r. tt) (λ k x r. tt) (λ k d t i h r. tt) (static_stage T u) u ready
 
       all : Ends (sites_of u T)
       all =

@@ -6,11 +6,11 @@ use Rattle.cured_machine.specs.declared.ending.Ending.{Ending}
 use Rattle.cured_machine.specs.declared.ending.Ending.TheVariants as machine
 use Rattle.cured_machine.specs.Runs.{Outside, IsRun, RanAsMeant, WasCutOff, WasUnwritten}
 use Rattle.command_words.specs.declared.command.Action.{Action}
-use Rattle.command_words.specs.Commands.{Command, OnFile, command_of}
+use Rattle.command_words.specs.Commands.{Command, OnFile}
 use Rattle.program_answers.specs.declared.verdict.Verdict.{Verdict}
 use Rattle.program_answers.specs.declared.verdict.Verdict.TheVariants.{Done, Usage, FileFault, InputFault, OutputFault, TextTooLong, NoMemory}
 use Rattle.program_answers.specs.Verdicts.{line_of, status_of, verdict_of_run}
-use Rattle.program_answers.specs.Texts.{Texts, Refuses, IsWrittenOf, IsCodeOf, limit_of, turns_of}
+use Rattle.program_answers.specs.Texts.{Texts, command_in, Refuses, IsWrittenOf, IsCodeOf, limit_of, turns_of}
 use Rattle.program_answers.specs.Answers.{Answer, silent, IsTextAnswer, refused as answers_refusal, writes, runs, IsFileAnswer, too_long as answers_too_long, has_text as answers_text, IsAnswerTo, no_command as answers_no_command, of_file}
 use Rattle.program_answers.specs.Causes.{Filed, IsIdle, IsTextCause, refused, no_room, written, unwritten, ran, IsFileCause, unread, unheld, too_long, has_text, IsCause, no_command, on_file, IsReported, said, unsaid, IsJudged}
 use Rattle.program_answers.specs.Statuses.{FaultsRose, FilesFailed, GivesAnswer, IsUnread, IsCutOff, IsOutOfMemory, HasCause}
@@ -38,12 +38,12 @@ module _ (texts : Texts) (words : List (List ℕ)) (files : Filed) (input output
   of_silence verdict is idle is_said =
       of_answer verdict (held_bytes input.before) (silent verdict) (held_so input.before) is refl (kept_gains output.before output.after idle.unwritten) is_said
 
-  out_of_memory : (verdict : Verdict) (command : Command) → command_of words ≡ Some command → verdict ≡ NoMemory → IsIdle input output → IsSaid verdict report status → Caused
+  out_of_memory : (verdict : Verdict) (command : Command) → command_in texts words ≡ Some command → verdict ≡ NoMemory → IsIdle input output → IsSaid verdict report status → Caused
   out_of_memory verdict command asked same idle is_said =
       let s : IsSaid NoMemory report status = said_as verdict NoMemory report status same is_said in
       inr (inr (inr (inl (s.ended, record { command = command; asked = asked; idle = idle; reported = s.line }))))
 
-  module _ (action : Action) (name text : List ℕ) (asked : command_of words ≡ Some (OnFile action name)) (told : IfSome (files.holds name) (λ bytes. text ≡ bytes)) (short : length text ≤ limit_of action) where
+  module _ (action : Action) (name text : List ℕ) (asked : command_in texts words ≡ Some (OnFile action name)) (told : IfSome (files.holds name) (λ bytes. text ≡ bytes)) (short : length text ≤ limit_of action) where
     answers : (bytes : List ℕ) (answer : Answer) → IsTextAnswer texts action text bytes answer → IsAnswerTo texts words files.holds bytes answer
     answers bytes answer is = of_file action name text asked told (answers_text short is)
 
@@ -75,7 +75,7 @@ module _ (texts : Texts) (words : List (List ℕ)) (files : Filed) (input output
         inr (inr (inl ((said_as verdict OutputFault report status same is_said).ended, inl rose)))
     text_status verdict (ran parts code ending same run) is_said = run_status verdict parts code ending same run is_said
 
-  file_status : (action : Action) (name : List ℕ) → command_of words ≡ Some (OnFile action name) → (verdict : Verdict)
+  file_status : (action : Action) (name : List ℕ) → command_in texts words ≡ Some (OnFile action name) → (verdict : Verdict)
       → IsFileCause texts action name files input output verdict → IsSaid verdict report status → Caused
   file_status action name asked verdict (unread same rose last idle) is_said =
       let s : IsSaid FileFault report status = said_as verdict FileFault report status same is_said in
@@ -110,7 +110,7 @@ module _ (texts : Texts) (words : List (List ℕ)) (files : Filed) (input output
   gives_answer (inr (inr (inr (inl spent)))) quiet reads wrote says other = absurd (other spent.0)
   gives_answer (inr (inr (inr (inr given)))) quiet reads wrote says other = given
 
-  no_command_verdict : (verdict : Verdict) → command_of words ≡ None → IsCause texts words files input output verdict → verdict ≡ Usage
+  no_command_verdict : (verdict : Verdict) → command_in texts words ≡ None → IsCause texts words files input output verdict → verdict ≡ Usage
   no_command_verdict verdict none (no_command none' same idle) = same
   no_command_verdict verdict none (on_file action name asked cause) = absurd (cc (none, asked))
 
@@ -119,5 +119,5 @@ module _ (texts : Texts) (words : List (List ℕ)) (files : Filed) (input output
   no_command_status verdict same (unsaid rose front ended) = inr (ended, rose)
 
   -- where the words are no command, the status is 2, or 6 where the report could not be written
-  pub says_usage : IsJudged texts words files input output report status → command_of words ≡ None → (status ≡ 2) ⊎ ((status ≡ 6) × FaultsRose report)
+  pub says_usage : IsJudged texts words files input output report status → command_in texts words ≡ None → (status ≡ 2) ⊎ ((status ≡ 6) × FaultsRose report)
   says_usage judged none = no_command_status judged.verdict (no_command_verdict judged.verdict none judged.cause) judged.reported

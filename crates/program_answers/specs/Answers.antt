@@ -6,11 +6,11 @@ use Rattle.cured_code.specs.FlatMachine.{flat_run}
 use Rattle.cured_machine.specs.declared.ending.Ending.{Ending}
 use Rattle.cured_machine.specs.Runs.{IsEnding}
 use Rattle.command_words.specs.declared.command.Action.{Action}
-use Rattle.command_words.specs.Commands.{OnFile, command_of}
+use Rattle.command_words.specs.Commands.{OnFile}
 use Rattle.program_answers.specs.declared.verdict.Verdict.{Verdict}
 use Rattle.program_answers.specs.declared.verdict.Verdict.TheVariants.{Done, Usage, TextTooLong}
 use Rattle.program_answers.specs.Verdicts.{verdict_of_run}
-use Rattle.program_answers.specs.Texts.{Texts, Refuses, IsWrittenOf, IsCodeOf, limit_of, turns_of}
+use Rattle.program_answers.specs.Texts.{Texts, command_in, Refuses, IsWrittenOf, IsCodeOf, limit_of, turns_of}
 
 -- what is written to the output, and how the run is reported
 pub record Answer : Type 0 where
@@ -37,6 +37,6 @@ pub data IsFileAnswer (texts : Texts) (action : Action) (text input : List ℕ) 
 -- The answer to the words, the files and the input: a word on their use where the words are no command; else the answer to the text of
 -- the file that they name. Where a file isn't told, it may have any text.
 pub data IsAnswerTo (texts : Texts) (words : List (List ℕ)) (holds : List ℕ → Option (List ℕ)) (input : List ℕ) (answer : Answer) : Type 0 where
-  no_command : command_of words ≡ None → answer ≡ silent Usage → IsAnswerTo texts words holds input answer
-  of_file : (action : Action) (name text : List ℕ) → command_of words ≡ Some (OnFile action name) → IfSome (holds name) (λ bytes. text ≡ bytes)
+  no_command : command_in texts words ≡ None → answer ≡ silent Usage → IsAnswerTo texts words holds input answer
+  of_file : (action : Action) (name text : List ℕ) → command_in texts words ≡ Some (OnFile action name) → IfSome (holds name) (λ bytes. text ≡ bytes)
       → IsFileAnswer texts action text input answer → IsAnswerTo texts words holds input answer

@@ -6,11 +6,11 @@ use Rattle.cured_code.specs.declared.parts.Parts.{Parts}
 use Rattle.cured_machine.specs.declared.ending.Ending.{Ending}
 use Rattle.cured_machine.specs.Runs.{Outside, IsRun}
 use Rattle.command_words.specs.declared.command.Action.{Action}
-use Rattle.command_words.specs.Commands.{OnFile, command_of}
+use Rattle.command_words.specs.Commands.{OnFile}
 use Rattle.program_answers.specs.declared.verdict.Verdict.{Verdict}
 use Rattle.program_answers.specs.declared.verdict.Verdict.TheVariants.{Done, Usage, FileFault, OutputFault, TextTooLong, NoMemory}
 use Rattle.program_answers.specs.Verdicts.{line_of, status_of, verdict_of_run}
-use Rattle.program_answers.specs.Texts.{Texts, Refuses, IsWrittenOf, IsCodeOf, limit_of, turns_of}
+use Rattle.program_answers.specs.Texts.{Texts, command_in, Refuses, IsWrittenOf, IsCodeOf, limit_of, turns_of}
 
 -- the files by their names, where they are told; the count of their faults before a run and after it; and then the name in
 -- the last call that failed
@@ -60,8 +60,8 @@ pub data IsFileCause (texts : Texts) (action : Action) (name : List ℕ) (files 
 
 -- Why a verdict is given on the words. The words are judged first, then the file, then the text, then the run.
 pub data IsCause (texts : Texts) (words : List (List ℕ)) (files : Filed) (input output : Outside) (verdict : Verdict) : Type 0 where
-  no_command : command_of words ≡ None → verdict ≡ Usage → IsIdle input output → IsCause texts words files input output verdict
-  on_file : (action : Action) (name : List ℕ) → command_of words ≡ Some (OnFile action name)
+  no_command : command_in texts words ≡ None → verdict ≡ Usage → IsIdle input output → IsCause texts words files input output verdict
+  on_file : (action : Action) (name : List ℕ) → command_in texts words ≡ Some (OnFile action name)
       → IsFileCause texts action name files input output verdict → IsCause texts words files input output verdict
 
 -- How a verdict is reported, with which status: by its line; or by a front of it, and 6, where a write of the report failed.

@@ -5,10 +5,10 @@ use Rattle.cc_io.specs.Bytes.{Gains}
 use Rattle.cured_code.specs.declared.parts.Parts.{Parts}
 use Rattle.cured_machine.specs.Runs.{Outside, WasCutOff}
 use Rattle.command_words.specs.declared.command.Action.{Action}
-use Rattle.command_words.specs.Commands.{Command, OnFile, command_of}
+use Rattle.command_words.specs.Commands.{Command, OnFile}
 use Rattle.program_answers.specs.declared.verdict.Verdict.TheVariants.{FileFault, InputFault, NoMemory}
 use Rattle.program_answers.specs.Verdicts.{line_of, status_of}
-use Rattle.program_answers.specs.Texts.{Texts, IsCodeOf, turns_of}
+use Rattle.program_answers.specs.Texts.{Texts, command_in, IsCodeOf, turns_of}
 use Rattle.program_answers.specs.Answers.{Answer, IsAnswerTo}
 use Rattle.program_answers.specs.Causes.{Filed, IsIdle}
 
@@ -29,10 +29,10 @@ pub record GivesAnswer (texts : Texts) (words : List (List ℕ)) (files : Filed)
   pub ended : status ≡ status_of answer.verdict
 
 -- a call for the file of the words failed; nothing is read or written, and the report says so
-pub record IsUnread (words : List (List ℕ)) (files : Filed) (input output report : Outside) : Type 0 where
+pub record IsUnread (texts : Texts) (words : List (List ℕ)) (files : Filed) (input output report : Outside) : Type 0 where
   pub action : Action
   pub name : List ℕ
-  pub command : command_of words ≡ Some (OnFile action name)
+  pub command : command_in texts words ≡ Some (OnFile action name)
   pub rose : FilesFailed files
   pub last : files.last ≡ Some name
   pub idle : IsIdle input output
@@ -42,7 +42,7 @@ pub record IsUnread (words : List (List ℕ)) (files : Filed) (input output repo
 pub record IsCutOff (texts : Texts) (words : List (List ℕ)) (files : Filed) (input output report : Outside) : Type 0 where
   pub action : Action
   pub name : List ℕ
-  pub command : command_of words ≡ Some (OnFile action name)
+  pub command : command_in texts words ≡ Some (OnFile action name)
   pub text : List ℕ
   pub told : IfSome (files.holds name) (λ bytes. text ≡ bytes)
   pub parts : Parts
@@ -51,9 +51,9 @@ pub record IsCutOff (texts : Texts) (words : List (List ℕ)) (files : Filed) (i
   pub reported : Gains report.before report.after (line_of InputFault)
 
 -- memory was wanted, and the words are a command; nothing is read or written, and the report says so
-pub record IsOutOfMemory (words : List (List ℕ)) (input output report : Outside) : Type 0 where
+pub record IsOutOfMemory (texts : Texts) (words : List (List ℕ)) (input output report : Outside) : Type 0 where
   pub command : Command
-  pub asked : command_of words ≡ Some command
+  pub asked : command_in texts words ≡ Some command
   pub idle : IsIdle input output
   pub reported : Gains report.before report.after (line_of NoMemory)
 
@@ -61,8 +61,8 @@ pub record IsOutOfMemory (words : List (List ℕ)) (input output report : Outsid
 -- rose. 9: memory was wanted. Every other status is the answer's, also where a count rose.
 abbrev pub HasCause : Texts → List (List ℕ) → Filed → Outside → Outside → Outside → ℕ → Type 0
 HasCause texts words files input output report status =
-    ((status ≡ 3) × IsUnread words files input output report)
+    ((status ≡ 3) × IsUnread texts words files input output report)
     ⊎ (((status ≡ 5) × IsCutOff texts words files input output report)
     ⊎ (((status ≡ 6) × (FaultsRose output ⊎ FaultsRose report))
-    ⊎ (((status ≡ 9) × IsOutOfMemory words input output report)
+    ⊎ (((status ≡ 9) × IsOutOfMemory texts words input output report)
     ⊎ GivesAnswer texts words files input output report status)))

@@ -1,11 +1,12 @@
 -- What is made of a text, as far as answers speak of it. The program gives these relations; the laws of this crate hold for any.
-use Rattle.std.specs.Prelude.{ℕ, ◌≡◌, ◌≢◌, List}
+use Rattle.std.specs.Prelude.{ℕ, ◌≡◌, ◌≢◌, List, Bool, Option, None, Some, option_and_then, if◌then◌else◌}
 use Rattle.cc_base.specs.declared.fault.Fault.{Fault}
 use Rattle.cc_base.specs.declared.fault.Fault.TheVariants as refusal
 use Rattle.cured_code.specs.declared.parts.Parts.{Parts}
 use Rattle.cured_spelling.specs.Spelling.{cured_spelling}
 use Rattle.cured_reading.specs.declared.wrong.CuredFault.{CuredFault}
 use Rattle.cured_reading.specs.declared.wrong.CuredFault.TheVariants as uncured
+use Rattle.command_words.specs.Commands.{Command, command_of}
 use Rattle.command_words.specs.declared.command.Action.{Action}
 use Rattle.command_words.specs.declared.command.Action.TheVariants.{Kinds, Cure, Run, Exec}
 use Rattle.program_answers.specs.declared.verdict.Verdict.{Verdict}
@@ -20,6 +21,12 @@ pub record Texts : Type 1 where
   pub IsRefused : (text : List ℕ) → Fault → Type 0
   -- a text spells no cured program, for this reason
   pub IsUncured : (text : List ℕ) → CuredFault → Type 0
+  -- the commands that are there
+  pub is_built : Command → Bool
+
+-- the command that the words are, if it is there
+abbrev pub command_in : Texts → List (List ℕ) → Option Command
+command_in texts words = option_and_then (λ command. if texts.is_built command then Some command else None) (command_of words)
 
 -- the most bytes that a text of C may have, and a cured text
 unfoldable pub text_limit : ℕ

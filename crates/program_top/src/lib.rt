@@ -2,7 +2,7 @@
 #![tactic(auto)]
 
 mod files;
-mod runs;
+mod running;
 mod top;
 mod words;
 

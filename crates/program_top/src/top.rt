@@ -9,7 +9,7 @@ ghost use Rattle.program_answers.specs.Texts.{command_in, limit_of};
 ghost use Rattle.program_top.specs.Made.{is_there, texts};
 
 use crate::files::{limit_of, read_text};
-use crate::runs::exec_text;
+use crate::running::exec_text;
 use crate::words::asked;
 use cc_io::{FileFault, Files, Sink, Source};
 use command_words::Action;

@@ -1,6 +1,6 @@
 use Rattle.std.proofs.Common.{sym}
 use Rattle.program_answers.specs.Causes.{ran}
-use Rattle.program_top.proofs.runs.run_code.Goals as goal
+use Rattle.program_top.proofs.running.run_code.Goals as goal
 
 pub returns-in-Ok : goal.returns-in-Ok
 returns-in-Ok g c action text same code =

@@ -1,0 +1,123 @@
+-- What each status says, from the cause of the verdict and from how it is reported.
+use Rattle.std.proofs.Common.{◌≡◌, ◌≢◌, ℕ, ◌≤◌, List, [], length, Option, Some, None, IfSome, ◌⊎◌, inl, inr, sym, ◌∙◌, ap, subst, refl}
+use Rattle.cc_io.specs.Bytes.{Gains, Keeps}
+use Rattle.cured_code.specs.declared.parts.Parts.{Parts}
+use Rattle.cured_machine.specs.declared.ending.Ending.{Ending}
+use Rattle.cured_machine.specs.declared.ending.Ending.TheVariants as machine
+use Rattle.cured_machine.specs.Runs.{Outside, IsRun, RanAsMeant, WasCutOff, WasUnwritten}
+use Rattle.command_words.specs.declared.command.Action.{Action}
+use Rattle.command_words.specs.Commands.{Command, OnFile}
+use Rattle.program_answers.specs.declared.verdict.Verdict.{Verdict}
+use Rattle.program_answers.specs.declared.verdict.Verdict.TheVariants.{Done, Usage, FileFault, InputFault, OutputFault, TextTooLong, NoMemory}
+use Rattle.program_answers.specs.Verdicts.{line_of, status_of, verdict_of_run}
+use Rattle.program_answers.specs.Texts.{Texts, command_in, Refuses, IsWrittenOf, IsCodeOf, limit_of, turns_of}
+use Rattle.program_answers.specs.Answers.{Answer, silent, IsTextAnswer, refused as answers_refusal, writes, runs, IsFileAnswer, too_long as answers_too_long, has_text as answers_text, IsAnswerTo, no_command as answers_no_command, of_file}
+use Rattle.program_answers.specs.Causes.{Filed, IsIdle, IsTextCause, refused, no_room, written, unwritten, ran, IsFileCause, unread, unheld, too_long, has_text, IsCause, no_command, on_file, IsReported, said, unsaid, IsJudged}
+use Rattle.program_answers.specs.Statuses.{FaultsRose, FilesFailed, GivesAnswer, IsUnread, IsCutOff, IsOutOfMemory, HasCause}
+use Rattle.program_answers.proofs.Reasons.{kept_gains, held_bytes, held_so, long_text, is_told, is_long}
+
+-- the report says the verdict's line, with the verdict's status
+pub record IsSaid (verdict : Verdict) (report : Outside) (status : ℕ) : Type 0 where
+  pub line : Gains report.before report.after (line_of verdict)
+  pub ended : status ≡ status_of verdict
+
+said_as : (verdict other : Verdict) (report : Outside) (status : ℕ) → verdict ≡ other → IsSaid verdict report status → IsSaid other report status
+said_as verdict other report status same is_said = subst (λ v. IsSaid v report status) same is_said
+
+module _ (texts : Texts) (words : List (List ℕ)) (files : Filed) (input output report : Outside) (status : ℕ) where
+  abbrev Caused : Type 0
+  Caused = HasCause texts words files input output report status
+
+  of_answer : (verdict : Verdict) (bytes : List ℕ) (answer : Answer) → IfSome input.before (λ held. held ≡ bytes) → IsAnswerTo texts words files.holds bytes answer
+      → verdict ≡ answer.verdict → Gains output.before output.after answer.output → IsSaid verdict report status → Caused
+  of_answer verdict bytes answer held is same gains is_said =
+      let s : IsSaid answer.verdict report status = said_as verdict answer.verdict report status same is_said in
+      inr (inr (inr (inr (record { bytes = bytes; held = held; answer = answer; is_answer = is; written = gains; reported = s.line; ended = s.ended }))))
+
+  of_silence : (verdict : Verdict) → IsAnswerTo texts words files.holds (held_bytes input.before) (silent verdict) → IsIdle input output → IsSaid verdict report status → Caused
+  of_silence verdict is idle is_said =
+      of_answer verdict (held_bytes input.before) (silent verdict) (held_so input.before) is refl (kept_gains output.before output.after idle.unwritten) is_said
+
+  out_of_memory : (verdict : Verdict) (command : Command) → command_in texts words ≡ Some command → verdict ≡ NoMemory → IsIdle input output → IsSaid verdict report status → Caused
+  out_of_memory verdict command asked same idle is_said =
+      let s : IsSaid NoMemory report status = said_as verdict NoMemory report status same is_said in
+      inr (inr (inr (inl (s.ended, record { command = command; asked = asked; idle = idle; reported = s.line }))))
+
+  module _ (action : Action) (name text : List ℕ) (asked : command_in texts words ≡ Some (OnFile action name)) (told : IfSome (files.holds name) (λ bytes. text ≡ bytes)) (short : length text ≤ limit_of action) where
+    answers : (bytes : List ℕ) (answer : Answer) → IsTextAnswer texts action text bytes answer → IsAnswerTo texts words files.holds bytes answer
+    answers bytes answer is = of_file action name text asked told (answers_text short is)
+
+    as_meant : (verdict : Verdict) (parts : Parts) → IsCodeOf texts action text parts → (ending : Ending) → verdict ≡ verdict_of_run ending
+        → RanAsMeant parts (turns_of action) input output ending → IsSaid verdict report status → Caused
+    as_meant verdict parts code ending same meant is_said =
+        of_answer verdict meant.bytes (record { output = _; verdict = verdict_of_run ending }) meant.held
+        (answers meant.bytes _ (runs parts code ending meant.ends refl)) same meant.written is_said
+
+    run_status : (verdict : Verdict) (parts : Parts) → IsCodeOf texts action text parts → (ending : Ending) → verdict ≡ verdict_of_run ending
+        → IsRun parts (turns_of action) input output ending → IsSaid verdict report status → Caused
+    run_status verdict parts code machine.ReadFault same cut is_said =
+        let s : IsSaid InputFault report status = said_as verdict InputFault report status same is_said in
+        inr (inl (s.ended, record { action = action; name = name; command = asked; text = text; told = told; parts = parts; is_code = code; cut_off = cut; reported = s.line }))
+    run_status verdict parts code machine.WriteFault same cut is_said =
+        inr (inr (inl ((said_as verdict OutputFault report status same is_said).ended, inl cut.failed)))
+    run_status verdict parts code (machine.Exited n) same meant is_said = as_meant verdict parts code (machine.Exited n) same meant is_said
+    run_status verdict parts code (machine.Stopped check place) same meant is_said = as_meant verdict parts code (machine.Stopped check place) same meant is_said
+    run_status verdict parts code machine.Turns same meant is_said = as_meant verdict parts code machine.Turns same meant is_said
+    run_status verdict parts code (machine.Trap f) same meant is_said = as_meant verdict parts code (machine.Trap f) same meant is_said
+
+    text_status : (verdict : Verdict) → IsTextCause texts action text input output verdict → IsSaid verdict report status → Caused
+    text_status verdict (refused why idle) is_said =
+        of_silence verdict (answers _ (silent verdict) (answers_refusal verdict why refl)) idle is_said
+    text_status verdict (no_room same idle) is_said = out_of_memory verdict (OnFile action name) asked same idle is_said
+    text_status verdict (written bytes is same kept gains) is_said =
+        of_answer verdict (held_bytes input.before) (record { output = bytes; verdict = Done }) (held_so input.before) (answers _ _ (writes bytes is refl)) same gains is_said
+    text_status verdict (unwritten bytes is same kept rose front) is_said =
+        inr (inr (inl ((said_as verdict OutputFault report status same is_said).ended, inl rose)))
+    text_status verdict (ran parts code ending same run) is_said = run_status verdict parts code ending same run is_said
+
+  file_status : (action : Action) (name : List ℕ) → command_in texts words ≡ Some (OnFile action name) → (verdict : Verdict)
+      → IsFileCause texts action name files input output verdict → IsSaid verdict report status → Caused
+  file_status action name asked verdict (unread same rose last idle) is_said =
+      let s : IsSaid FileFault report status = said_as verdict FileFault report status same is_said in
+      inl (s.ended, record { action = action; name = name; command = asked; rose = rose; last = last; idle = idle; reported = s.line })
+  file_status action name asked verdict (unheld same idle) is_said = out_of_memory verdict (OnFile action name) asked same idle is_said
+  file_status action name asked verdict (too_long most is_limit long same idle) is_said =
+      let s : IsSaid (TextTooLong most) report status = said_as verdict (TextTooLong most) report status same is_said in
+      of_silence (TextTooLong most)
+      (of_file action name (long_text most (files.holds name)) asked (is_told most (files.holds name))
+      (answers_too_long most is_limit (is_long most (files.holds name) long) refl)) idle s
+  file_status action name asked verdict (has_text text told short cause) is_said = text_status action name text asked told short verdict cause is_said
+
+  said_status : (verdict : Verdict) → IsCause texts words files input output verdict → IsSaid verdict report status → Caused
+  said_status verdict (no_command none same idle) is_said =
+      of_silence Usage (answers_no_command none refl) idle (said_as verdict Usage report status same is_said)
+  said_status verdict (on_file action name asked cause) is_said = file_status action name asked verdict cause is_said
+
+  judged_status : (verdict : Verdict) → IsCause texts words files input output verdict → IsReported verdict report status → Caused
+  judged_status verdict cause (said gains ended) = said_status verdict cause (record { line = gains; ended = ended })
+  judged_status verdict cause (unsaid rose front ended) = inr (inr (inl (ended, inr rose)))
+
+  pub has_cause : IsJudged texts words files input output report status → HasCause texts words files input output report status
+  has_cause judged = judged_status judged.verdict judged.cause judged.reported
+
+  -- where nothing failed and the status isn't 9, the answer is given
+  pub gives_answer : HasCause texts words files input output report status → ¬ (FilesFailed files) → ¬ (FaultsRose input) → ¬ (FaultsRose output) → ¬ (FaultsRose report)
+      → status ≢ 9 → GivesAnswer texts words files input output report status
+  gives_answer (inl failed) quiet reads wrote says other = absurd (quiet failed.1.rose)
+  gives_answer (inr (inl cut)) quiet reads wrote says other = absurd (reads cut.1.cut_off.failed)
+  gives_answer (inr (inr (inl (six, inl rose)))) quiet reads wrote says other = absurd (wrote rose)
+  gives_answer (inr (inr (inl (six, inr rose)))) quiet reads wrote says other = absurd (says rose)
+  gives_answer (inr (inr (inr (inl spent)))) quiet reads wrote says other = absurd (other spent.0)
+  gives_answer (inr (inr (inr (inr given)))) quiet reads wrote says other = given
+
+  no_command_verdict : (verdict : Verdict) → command_in texts words ≡ None → IsCause texts words files input output verdict → verdict ≡ Usage
+  no_command_verdict verdict none (no_command none' same idle) = same
+  no_command_verdict verdict none (on_file action name asked cause) = absurd (cc (none, asked))
+
+  no_command_status : (verdict : Verdict) → verdict ≡ Usage → IsReported verdict report status → (status ≡ 2) ⊎ ((status ≡ 6) × FaultsRose report)
+  no_command_status verdict same (said gains ended) = inl (ended ∙ ap status_of same)
+  no_command_status verdict same (unsaid rose front ended) = inr (ended, rose)
+
+  -- where the words are no command, the status is 2, or 6 where the report could not be written
+  pub says_usage : IsJudged texts words files input output report status → command_in texts words ≡ None → (status ≡ 2) ⊎ ((status ≡ 6) × FaultsRose report)
+  says_usage judged none = no_command_status judged.verdict (no_command_verdict judged.verdict none judged.cause) judged.reported

@@ -1,0 +1,2 @@
+pub mod JudgedStatuses
+pub mod Reasons

@@ -1,0 +1,5 @@
+pub mod Verdicts
+pub mod Texts
+pub mod Answers
+pub mod Causes
+pub mod Statuses

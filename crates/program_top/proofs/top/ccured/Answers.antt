@@ -1,0 +1,12 @@
+use Rattle.program_answers.proofs.JudgedStatuses.{has_cause, gives_answer, says_usage}
+use Rattle.program_top.proofs.top.ccured.Goals as goal
+
+pub returns-clause-cause : goal.returns-clause-cause
+returns-clause-cause g c = has_cause _ _ _ _ _ _ _ (record { verdict = c.judge-verdict.result; cause = c.judge-verdict.ensures; reported = c.report_verdict.ensures })
+
+pub returns-clause-answer : goal.returns-clause-answer
+returns-clause-answer g c =
+    gives_answer _ _ _ _ _ _ _ (has_cause _ _ _ _ _ _ _ (record { verdict = c.judge-verdict.result; cause = c.judge-verdict.ensures; reported = c.report_verdict.ensures }))
+
+pub returns-clause-usage : goal.returns-clause-usage
+returns-clause-usage g c = says_usage _ _ _ _ _ _ _ (record { verdict = c.judge-verdict.result; cause = c.judge-verdict.ensures; reported = c.report_verdict.ensures })

@@ -1,0 +1,126 @@
+//! All that the program does.
+ghost use Rattle.std.specs.Prelude.{◌≡◌, ◌≢◌, ◌≤◌, ◌⊎◌, None, length, map, true};
+ghost use Rattle.std.specs.String.{string_bytes};
+ghost use Rattle.cc_io.specs.Faults.{Rose};
+ghost use Rattle.cured_machine.specs.Runs.{outside};
+ghost use Rattle.program_answers.specs.Causes.{filed, IsCause, IsFileCause, IsJudged, IsTextCause};
+ghost use Rattle.program_answers.specs.Statuses.{GivesAnswer, HasCause};
+ghost use Rattle.program_answers.specs.Texts.{command_in, limit_of};
+ghost use Rattle.program_top.specs.Made.{is_there, texts};
+
+use crate::files::{limit_of, read_text};
+use crate::running::exec_text;
+use crate::words::asked;
+use cc_io::{FileFault, Files, Sink, Source};
+use command_words::Action;
+use program_answers::{Verdict, report_verdict};
+use std::alloc::Global;
+
+/// Does all that the program does, and answers its status. The words are those after the program's name.
+pub fn ccured<F: Files, I: Source, O: Sink, E: Sink>(
+    alloc: Global,
+    words: &[String],
+    files: &mut F,
+    input: &mut I,
+    out: &mut O,
+    report: &mut E,
+) -> u8
+    // A verdict is given for its cause, and reported: what is written under each fault.
+    ensures judged { IsJudged texts (map string_bytes words.now)
+        (filed F.holds F.faults F.last files.old files.new)
+        (outside I.held I.faults input.old input.new)
+        (outside O.written O.faults out.old out.new)
+        (outside E.written E.faults report.old report.new)
+        result }
+
+    // Every status has its cause.
+    ensures cause { HasCause texts (map string_bytes words.now)
+        (filed F.holds F.faults F.last files.old files.new)
+        (outside I.held I.faults input.old input.new)
+        (outside O.written O.faults out.old out.new)
+        (outside E.written E.faults report.old report.new)
+        result }
+
+    // Where nothing failed and memory was there, the answer to the words, the files and the input is given.
+    ensures answer { ¬ (Rose (F.faults files.old) (F.faults files.new)) → ¬ (Rose (I.faults input.old) (I.faults input.new)) →
+        ¬ (Rose (O.faults out.old) (O.faults out.new)) → ¬ (Rose (E.faults report.old) (E.faults report.new)) → result ≢ 9 →
+        GivesAnswer texts (map string_bytes words.now)
+        (filed F.holds F.faults F.last files.old files.new)
+        (outside I.held I.faults input.old input.new)
+        (outside O.written O.faults out.old out.new)
+        (outside E.written E.faults report.old report.new)
+        result }
+
+    // Words that are no command are refused, and no memory is wanted for that.
+    ensures usage { command_in texts (map string_bytes words.now) ≡ None →
+        (result ≡ 2) ⊎ ((result ≡ 6) × Rose (E.faults report.old) (E.faults report.new)) }
+{
+    let verdict = judge(alloc, words, files, input, out);
+    report_verdict(verdict, report)
+}
+
+/// The verdict on the words.
+fn judge<F: Files, I: Source, O: Sink>(
+    alloc: Global,
+    words: &[String],
+    files: &mut F,
+    input: &mut I,
+    out: &mut O,
+) -> Verdict
+    ensures { IsCause texts (map string_bytes words.now)
+        (filed F.holds F.faults F.last files.old files.new)
+        (outside I.held I.faults input.old input.new)
+        (outside O.written O.faults out.old out.new)
+        result }
+{
+    match asked(words) {
+        None => Verdict::Usage,
+        Some((action, name)) => on_file(alloc, action, name, files, input, out),
+    }
+}
+
+/// The verdict on the file of a name.
+fn on_file<F: Files, I: Source, O: Sink>(
+    alloc: Global,
+    action: Action,
+    name: &str,
+    files: &mut F,
+    input: &mut I,
+    out: &mut O,
+) -> Verdict
+    requires { is_there action ≡ true }
+    ensures { IsFileCause texts action name.now
+        (filed F.holds F.faults F.last files.old files.new)
+        (outside I.held I.faults input.old input.new)
+        (outside O.written O.faults out.old out.new)
+        result }
+{
+    let limit = limit_of(action);
+    match read_text(alloc, name, limit, files) {
+        Ok(text) => on_text(alloc, action, text.as_slice(), input, out),
+        Err(FileFault::Failed) => Verdict::FileFault,
+        Err(FileFault::TooLarge) => Verdict::TextTooLong(limit),
+        Err(FileFault::NoMemory) => Verdict::NoMemory,
+    }
+}
+
+/// The verdict on a text.
+fn on_text<I: Source, O: Sink>(
+    alloc: Global,
+    action: Action,
+    text: &[u8],
+    input: &mut I,
+    out: &mut O,
+) -> Verdict
+    requires there { is_there action ≡ true }
+    requires short { length text.now ≤ limit_of action }
+    ensures { IsTextCause texts action text.now
+        (outside I.held I.faults input.old input.new)
+        (outside O.written O.faults out.old out.new)
+        result }
+{
+    match action {
+        Action::Exec(turns) => exec_text(alloc, text, turns, input, out),
+        Action::Kinds | Action::Cure | Action::Run(_) => unreachable!(),
+    }
+}

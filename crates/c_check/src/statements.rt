@@ -76,7 +76,7 @@ fn continue_in(
 }
 
 /// `return` (C99 6.8.6.4).
-#[tactic(auto, using(c_tree::proofs::TypedStatementViewLaws::typed_statement_views), unfolding(c_unit_typing::specs::StatementJudging::judge_statement))]
+#[tactic(auto, using(c_tree::proofs::TypedStatementViewLaws::typed_statement_views), unfolding(c_unit_typing::specs::StatementJudging::judge_statement, c_unit_typing::specs::StatementJudging::within))]
 fn return_from(
     context: &mut Context,
     around: Around,
@@ -91,7 +91,7 @@ fn return_from(
 
 /// A block.
 #[cycle(statements)]
-#[tactic(auto, using(c_tree::proofs::TypedStatementViewLaws::typed_statement_views), unfolding(c_unit_typing::specs::StatementJudging::judge_statement))]
+#[tactic(auto, using(c_tree::proofs::TypedStatementViewLaws::typed_statement_views), unfolding(c_unit_typing::specs::StatementJudging::judge_statement, c_unit_typing::specs::StatementJudging::within))]
 fn block(
     context: &mut Context,
     around: Around,
@@ -106,9 +106,26 @@ fn block(
     Ok(boxed(context, TypedStatement::Block(brace, list))?)
 }
 
+/// A substatement of a selection or iteration statement, which is a block of its own (C99 6.8.4, 6.8.5).
+#[cycle(statements)]
+#[tactic(auto, unfolding(c_unit_typing::specs::StatementJudging::within))]
+fn substatement(
+    context: &mut Context,
+    around: Around,
+    at: Place,
+    s: &Statement,
+) -> Result<Boxed<TypedStatement>, Fault>
+    ensures { Answers typed_statement_view (judging.within at (judging.judge_statement (around_view around) (statement_view s.now)) (state_of context.old)) result (state_of context.new) }
+{
+    enter(context)?;
+    let one = statement(context, around, s)?;
+    leave(context, at)?;
+    Ok(one)
+}
+
 /// `if` without `else`.
 #[cycle(statements)]
-#[tactic(auto, using(c_tree::proofs::TypedStatementViewLaws::typed_statement_views), unfolding(c_unit_typing::specs::StatementJudging::judge_statement))]
+#[tactic(auto, using(c_tree::proofs::TypedStatementViewLaws::typed_statement_views), unfolding(c_unit_typing::specs::StatementJudging::judge_statement, c_unit_typing::specs::StatementJudging::within))]
 fn if_alone(
     context: &mut Context,
     around: Around,
@@ -119,18 +136,38 @@ fn if_alone(
 ) -> Result<Boxed<TypedStatement>, Fault>
     ensures { Answers typed_statement_view (judging.judge_statement (around_view around) (tree.If at paren (expr_view c.now) (statement_view s.now)) (state_of context.old)) result (state_of context.new) }
 {
+    enter(context)?;
     let test = context.expr(c)?;
-    let one = statement(context, around, s)?;
+    let one = substatement(context, around, at, s)?;
     try_condition(context, at, test.get())?;
+    leave(context, at)?;
     Ok(boxed(
         context,
         TypedStatement::If(at, paren, test.into_inner(), one),
     )?)
 }
 
+/// The block of a `switch` on a value of the type.
+#[cycle(statements)]
+#[tactic(auto, unfolding(c_unit_typing::specs::StatementJudging::within))]
+fn switch_block(
+    context: &mut Context,
+    around: Around,
+    on: TypeId,
+    brace: Place,
+    items: &[BlockItem],
+) -> Result<Items<TypedBlockItem>, Fault>
+    ensures { Answers typed_block_view (judging.within brace (judging.judge_block_items (around_view around) (Some on) (block_view items.now)) (state_of context.old)) result (state_of context.new) }
+{
+    enter(context)?;
+    let list = block_items(context, around, Some(on), items)?;
+    leave(context, brace)?;
+    Ok(list)
+}
+
 /// `switch` (C99 6.8.4.2).
 #[cycle(statements)]
-#[tactic(auto, using(c_tree::proofs::TypedStatementViewLaws::typed_statement_views), unfolding(c_unit_typing::specs::StatementJudging::judge_statement))]
+#[tactic(auto, using(c_tree::proofs::TypedStatementViewLaws::typed_statement_views), unfolding(c_unit_typing::specs::StatementJudging::judge_statement, c_unit_typing::specs::StatementJudging::within))]
 fn switch(
     context: &mut Context,
     around: Around,
@@ -142,13 +179,13 @@ fn switch(
 ) -> Result<Boxed<TypedStatement>, Fault>
     ensures { Answers typed_statement_view (judging.judge_statement (around_view around) (tree.Switch at paren (expr_view e.now) brace (block_view items.now)) (state_of context.old)) result (state_of context.new) }
 {
+    enter(context)?;
     let value = context.expr(e)?;
     let from = value.get().ty();
     let on = promoted(context, at, value)?;
-    enter(context)?;
-    let list = block_items(context, around.in_a_switch(), Some(on.get().ty()), items)?;
+    let list = switch_block(context, around.in_a_switch(), on.get().ty(), brace, items)?;
     try_integer(context, at, from)?;
-    leave(context, brace)?;
+    leave(context, at)?;
     Ok(boxed(
         context,
         TypedStatement::Switch(at, paren, on.into_inner(), brace, list),
@@ -156,7 +193,7 @@ fn switch(
 }
 
 #[cycle(statements)]
-#[tactic(auto, using(c_tree::proofs::TypedStatementViewLaws::typed_statement_views), unfolding(c_unit_typing::specs::StatementJudging::judge_statement))]
+#[tactic(auto, using(c_tree::proofs::TypedStatementViewLaws::typed_statement_views), unfolding(c_unit_typing::specs::StatementJudging::judge_statement, c_unit_typing::specs::StatementJudging::within))]
 fn while_loop(
     context: &mut Context,
     around: Around,
@@ -167,9 +204,11 @@ fn while_loop(
 ) -> Result<Boxed<TypedStatement>, Fault>
     ensures { Answers typed_statement_view (judging.judge_statement (around_view around) (tree.While at paren (expr_view c.now) (statement_view s.now)) (state_of context.old)) result (state_of context.new) }
 {
+    enter(context)?;
     let test = context.expr(c)?;
-    let one = statement(context, around.in_a_loop(), s)?;
+    let one = substatement(context, around.in_a_loop(), at, s)?;
     try_condition(context, at, test.get())?;
+    leave(context, at)?;
     Ok(boxed(
         context,
         TypedStatement::While(at, paren, test.into_inner(), one),
@@ -177,7 +216,7 @@ fn while_loop(
 }
 
 #[cycle(statements)]
-#[tactic(auto, using(c_tree::proofs::TypedStatementViewLaws::typed_statement_views), unfolding(c_unit_typing::specs::StatementJudging::judge_statement))]
+#[tactic(auto, using(c_tree::proofs::TypedStatementViewLaws::typed_statement_views), unfolding(c_unit_typing::specs::StatementJudging::judge_statement, c_unit_typing::specs::StatementJudging::within))]
 fn do_while(
     context: &mut Context,
     around: Around,
@@ -188,9 +227,11 @@ fn do_while(
 ) -> Result<Boxed<TypedStatement>, Fault>
     ensures { Answers typed_statement_view (judging.judge_statement (around_view around) (tree.DoWhile (statement_view s.now) at paren (expr_view c.now)) (state_of context.old)) result (state_of context.new) }
 {
-    let one = statement(context, around.in_a_loop(), s)?;
+    enter(context)?;
+    let one = substatement(context, around.in_a_loop(), at, s)?;
     let test = context.expr(c)?;
     try_condition(context, at, test.get())?;
+    leave(context, at)?;
     Ok(boxed(
         context,
         TypedStatement::DoWhile(one, at, paren, test.into_inner()),
@@ -199,7 +240,7 @@ fn do_while(
 
 /// `for` that begins with an expression or with none (C99 6.8.5.3).
 #[cycle(statements)]
-#[tactic(auto, using(c_tree::proofs::TypedStatementViewLaws::typed_statement_views), unfolding(c_unit_typing::specs::StatementJudging::judge_statement))]
+#[tactic(auto, using(c_tree::proofs::TypedStatementViewLaws::typed_statement_views), unfolding(c_unit_typing::specs::StatementJudging::judge_statement, c_unit_typing::specs::StatementJudging::within))]
 fn for_loop(
     context: &mut Context,
     around: Around,
@@ -212,11 +253,13 @@ fn for_loop(
 ) -> Result<Boxed<TypedStatement>, Fault>
     ensures { Answers typed_statement_view (judging.judge_statement (around_view around) (tree.For at paren (option_map expr_view first.now) (option_map expr_view test.now) (option_map expr_view step.now) (statement_view s.now)) (state_of context.old)) result (state_of context.new) }
 {
+    enter(context)?;
     let before = dropped(context, first)?;
     let c = dropped(context, test)?;
     let after = dropped(context, step)?;
-    let one = statement(context, around.in_a_loop(), s)?;
+    let one = substatement(context, around.in_a_loop(), at, s)?;
     try_condition_or_none(context, at, &c)?;
+    leave(context, at)?;
     Ok(boxed(
         context,
         TypedStatement::For(at, paren, unboxed(before), unboxed(c), unboxed(after), one),
@@ -225,7 +268,7 @@ fn for_loop(
 
 /// `for` that begins with a declaration, in a scope of its own (C99 6.8.5.3).
 #[cycle(statements)]
-#[tactic(auto, using(c_tree::proofs::TypedStatementViewLaws::typed_statement_views), unfolding(c_unit_typing::specs::StatementJudging::judge_statement))]
+#[tactic(auto, using(c_tree::proofs::TypedStatementViewLaws::typed_statement_views), unfolding(c_unit_typing::specs::StatementJudging::judge_statement, c_unit_typing::specs::StatementJudging::within))]
 fn for_declaration(
     context: &mut Context,
     around: Around,
@@ -242,7 +285,7 @@ fn for_declaration(
     let before = declaration(context, false, d)?;
     let c = dropped(context, test)?;
     let after = dropped(context, step)?;
-    let one = statement(context, around.in_a_loop(), s)?;
+    let one = substatement(context, around.in_a_loop(), at, s)?;
     try_condition_or_none(context, at, &c)?;
     leave(context, at)?;
     Ok(boxed(
@@ -253,7 +296,7 @@ fn for_declaration(
 
 /// A statement.
 #[cycle(statements)]
-#[tactic(auto, using(c_tree::proofs::StatementViewLaws::statement_views, c_tree::proofs::TypedStatementViewLaws::typed_statement_views), unfolding(c_unit_typing::specs::StatementJudging::judge_statement))]
+#[tactic(auto, using(c_tree::proofs::StatementViewLaws::statement_views, c_tree::proofs::TypedStatementViewLaws::typed_statement_views), unfolding(c_unit_typing::specs::StatementJudging::judge_statement, c_unit_typing::specs::StatementJudging::within))]
 fn statement(
     context: &mut Context,
     around: Around,
@@ -270,10 +313,12 @@ fn statement(
         Statement::Empty => Ok(boxed(context, TypedStatement::Empty)?),
         Statement::If(at, paren, c, s) => if_alone(context, around, s.get(), *at, *paren, c),
         Statement::IfElse(at, paren, c, s, r) => {
+            enter(context)?;
             let test = context.expr(c)?;
-            let one = statement(context, around, s.get())?;
-            let other = statement(context, around, r.get())?;
+            let one = substatement(context, around, *at, s.get())?;
+            let other = substatement(context, around, *at, r.get())?;
             try_condition(context, *at, test.get())?;
+            leave(context, *at)?;
             Ok(boxed(
                 context,
                 TypedStatement::IfElse(*at, *paren, test.into_inner(), one, other),

@@ -232,6 +232,28 @@ impl Context {
         }
     }
 
+    /// Whether a name of the file scope is that of a runtime function, and stands for something else.
+    fn is_taken_by_runtime(&self, file: bool, name: &Identifier, what: Declared) -> bool
+        ensures { result ≡ refusals.is_taken_by_runtime self.now.types file name.now.bytes what }
+    {
+        file && conflicts_with_runtime(&self.types, runtime_of(name.bytes.as_slice()), what)
+    }
+
+    /// Whether a declarator's name is declared before in a way that it does not agree with, is defined twice or belongs to a runtime function.
+    fn is_name_taken(
+        &self,
+        file: bool,
+        linked: bool,
+        defines: bool,
+        name: &Identifier,
+        what: Declared,
+    ) -> bool
+        ensures { result ≡ (refusals.is_redeclared self.now.types (known_of (state_of self.now)) linked defines name.now.bytes what || refusals.is_taken_by_runtime self.now.types file name.now.bytes what) }
+    {
+        self.is_redeclared(linked, defines, name, what)
+            || self.is_taken_by_runtime(file, name, what)
+    }
+
     /// The first rule that a declarator's name breaks, once it has its type.
     pub fn broken_by_name(
         &self,
@@ -245,7 +267,8 @@ impl Context {
     {
         let what = declared_as(&self.types, storage, t);
         let object = is_object(what);
-        if self.is_redeclared(has_linkage(file, storage, what), initialised, name, what) {
+        let linked = has_linkage(file, storage, what);
+        if self.is_name_taken(file, linked, initialised && object, name, what) {
             return Some(refusal(name.place, Rule::Redeclared));
         }
         if object && !is_complete_at(&self.scope, &self.types, t) {

@@ -9,8 +9,8 @@ use Rattle.c_tree.specs.Views.{added}
 use Rattle.c_tree.specs.StatementViews.{init_declarator_view}
 use Rattle.c_tree.specs.declared.statement.InitDeclarator.{InitDeclarator}
 use Rattle.c_tree.specs.declared.statement.InitDeclarator.TheVariants as init
-use Rattle.c_unit_typing.specs.UnitJudging.{UnitState, UnitOutcome, UnitJudging, Stops}
-use Rattle.c_unit_typing.specs.InitialiserJudging.{judge_items}
+use Rattle.c_unit_typing.specs.UnitJudging.{UnitState, UnitOutcome, UnitJudging, Gives, Stops}
+use Rattle.c_unit_typing.specs.InitialiserJudging.{judge_excess, judge_all_excess, judge_items}
 use Rattle.c_unit_typing.specs.DeclarationJudging.{judge_init_declarators}
 
 -- where the list before stops, so does the list with one more
@@ -78,6 +78,24 @@ pub items-stay : (constant text : Bool) (u : TypeId) (i : tree.Initialiser) (all
     → judge_items constant all text u s ≡ Stops f t → judge_items constant (tree.AndItem all i) text u s ≡ Stops f t
 unfolding judge_items
 items-stay constant text u i all s t f stopped = rw stopped refl
+
+pub excess-stays : (i : tree.Initialiser) (all : tree.Items) (s t : UnitState) (f : Fault) → judge_all_excess all s ≡ Stops f t → judge_all_excess (tree.AndItem all i) s ≡ Stops f t
+unfolding judge_all_excess
+excess-stays i all s t f stopped = rw stopped refl
+
+-- one more that there is no room for
+excess_next : (all : tree.Items) (i : tree.Initialiser) (b : Bool) (s k : UnitState) (o : UnitOutcome Bool)
+    → judge_all_excess all s ≡ Gives b k → judge_excess i k ≡ o → judge_all_excess (tree.AndItem all i) s ≡ o
+unfolding judge_all_excess
+excess_next all i b s k o before one = rw before one
+
+pub excess-goes : (all : tree.Items) (i : tree.Initialiser) (b c : Bool) (s k r : UnitState)
+    → judge_all_excess all s ≡ Gives b k → judge_excess i k ≡ Gives c r → judge_all_excess (tree.AndItem all i) s ≡ Gives c r
+excess-goes all i b c s k r before one = excess_next all i b s k (Gives c r) before one
+
+pub excess-fails : (all : tree.Items) (i : tree.Initialiser) (b : Bool) (s k r : UnitState) (f : Fault)
+    → judge_all_excess all s ≡ Gives b k → (f ≢ NoMemory → judge_excess i k ≡ Stops f r) → f ≢ NoMemory → judge_all_excess (tree.AndItem all i) s ≡ Stops f r
+excess-fails all i b s k r f before one real = excess_next all i b s k (Stops f r) before (one real)
 
 pub declarators-stay : (file : Bool) (base : TypedSpecifiers) → Stays {X = InitDeclarator} (judge_init_declarators file base) init_declarator_view
 unfolding judge_init_declarators

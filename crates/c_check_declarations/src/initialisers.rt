@@ -1,7 +1,7 @@
 //! Initialisers (C99 6.7.8).
 #![tactic(auto)]
 
-ghost use Rattle.std.specs.Prelude.{◌≡◌, ◌&&◌, map};
+ghost use Rattle.std.specs.Prelude.{◌≡◌, ◌&&◌, map, true};
 ghost use Rattle.c_types.specs.Table.{shape_at};
 ghost use Rattle.c_tree.specs.Tree as tree;
 ghost use Rattle.c_tree.specs.TypedTree as typed;
@@ -113,6 +113,45 @@ fn excess(context: &mut Context, at: Place, e: &Expr) -> Result<Boxed<TypedIniti
     Err(refusal(at, Rule::Mismatch))
 }
 
+/// What there is no room for is judged all the same, each expression in the order of the text.
+#[cycle(excess)]
+#[tactic(auto, using(c_tree::proofs::StatementViewLaws::statement_views), unfolding(c_unit_typing::specs::InitialiserJudging::judge_excess))]
+fn judged_excess(context: &mut Context, i: &Initialiser) -> Result<(), Fault>
+    ensures { Answers (λ u. true) (judging.judge_excess (initialiser_view i.now) (state_of context.old)) result (state_of context.new) }
+{
+    match i {
+        Initialiser::Value(e) => {
+            context.expr(e)?;
+            Ok(())
+        }
+        Initialiser::Listed(_, items, _) => judged_all_excess(context, items.as_slice()),
+    }
+}
+
+#[cycle(excess)]
+#[tactic(auto, unfolding(c_unit_typing::specs::InitialiserJudging::judge_all_excess))]
+fn judged_all_excess(context: &mut Context, items: &[Initialiser]) -> Result<(), Fault>
+    ensures { Answers (λ u. true) (judging.judge_all_excess (items_of (map initialiser_view items.now)) (state_of context.old)) result (state_of context.new) }
+{
+    for item in items {
+        judged_excess(context, item)?;
+    }
+    Ok(())
+}
+
+/// Braces that no type is for.
+#[tactic(auto, unfolding(c_unit_typing::specs::InitialiserJudging::excess_braces))]
+fn excess_braces(
+    context: &mut Context,
+    brace: Place,
+    items: &[Initialiser],
+) -> Result<Boxed<TypedInitialiser>, Fault>
+    ensures { Answers typed_initialiser_view (judging.excess_braces brace (items_of (map initialiser_view items.now)) (state_of context.old)) result (state_of context.new) }
+{
+    judged_all_excess(context, items)?;
+    Err(refusal(brace, Rule::Mismatch))
+}
+
 /// An expression without braces; it has no type where there is no room for it.
 #[tactic(auto, unfolding(c_unit_typing::specs::InitialiserJudging::judge_plain))]
 fn plain(
@@ -150,10 +189,10 @@ pub(crate) fn initialiser(
         Initialiser::Value(e) => plain(context, constant, e, at, to),
         Initialiser::Listed(brace, items, comma) => {
             let Some(t) = to else {
-                return Err(refusal(*brace, Rule::Mismatch));
+                return excess_braces(context, *brace, items.as_slice());
             };
             if single {
-                return Err(refusal(*brace, Rule::Mismatch));
+                return excess_braces(context, *brace, items.as_slice());
             }
             let text = is_text(&context.types, items.as_slice(), t);
             let list = judged_items(context, constant, items.as_slice(), text, t)?;

@@ -16,6 +16,7 @@ mod limits;
 mod mismatches;
 mod programs;
 mod rows;
+mod scopes;
 
 fn checked(alloc: Global, text: &[u8]) -> Result<Typed, Fault> {
     if text.len() > 1_048_576 {
@@ -90,6 +91,16 @@ fn what_is_not_constant_is_refused(rt: HostRuntime) -> Result<(), Fail> {
 #[test]
 fn calls_that_do_not_fit_are_refused(rt: HostRuntime) -> Result<(), Fail> {
     assert!(rt; first_wrong(rt.alloc(), &CALLS).is_none());
+    Ok(())
+}
+
+#[test]
+fn names_are_seen_in_their_scopes_only(rt: HostRuntime) -> Result<(), Fail> {
+    let wrong = first_wrong(rt.alloc(), &scopes::REFUSED);
+    assert!(rt; wrong.is_none(), "row {wrong:?}");
+    for (row, text) in scopes::ACCEPTED.iter().enumerate() {
+        assert!(rt; checked(rt.alloc(), text).is_ok(), "row {row}");
+    }
     Ok(())
 }
 

@@ -9,7 +9,7 @@ use Rattle.c_tree.specs.TypedTree.{TypedExpr, TypedSpecifiers, TypedForm, TypedC
 use Rattle.c_tree.specs.TypedParts.{type_of, place_type, specified_type, Made, Copy, made_by, made_by_place, made_by_specifiers, made_by_form, item_place, made_by_initialiser, made_by_items, made_by_init_declarators, made_by_declaration, made_by_optional, made_by_statement, made_by_block_items, made_by_unit, home_of_form}
 use Rattle.c_tree.specs.declared.typed_word.Home.{Home}
 use Rattle.c_tree.specs.declared.typed_word.Home.TheVariants as home
-use Rattle.c_typing.specs.Scopes.{Scopes}
+use Rattle.c_typing.specs.Scopes.{Scopes, entering}
 use Rattle.c_typing.specs.Declarators.{Written, Counts, FormMakes, is_derived_core, is_derived}
 use Rattle.c_typing.specs.Typing.{AreSpecifiers, IsForm, AreAlone}
 use Rattle.c_type_order.specs.TypesUsed.{Use, OfType, OfSize, OfMember, types_of, made_in, parts_steps, form_steps, core_steps, used_by, used_by_place, used_by_specifiers, used_by_declarator, used_by_form, AreUses}
@@ -168,30 +168,32 @@ module _ (static : Stage) (n : ℕ) where
     statement-uses vs a a' typed.Empty k k' h r = omega arith
     statement-uses vs a a' (typed.If at paren c s) k k' h r =
         both T n (used_by T c) (used_by_statement T s) (made_by c) (made_by_statement s)
-        (value-uses n (in_function vs) c k.scopes h.1.0 h.1.1 r.0.0) (statement-uses vs a a' s h.0 k' h.2 r.1)
+        (value-uses n (in_function vs) c (entering k.scopes) h.2.0 h.2.1 r.0.0) (statement-uses vs a a' s (entering_known h.0) h.1 h.3 r.1)
     statement-uses vs a a' (typed.IfElse at paren c s other) k k' h r =
         both T n (used_by T c ++ used_by_statement T s) (used_by_statement T other) (made_by c ++ made_by_statement s) (made_by_statement other)
         (both T n (used_by T c) (used_by_statement T s) (made_by c) (made_by_statement s)
-        (value-uses n (in_function vs) c k.scopes h.2.0 h.2.1 r.0.0) (statement-uses vs a a' s h.0 h.1 h.3 r.1))
-        (statement-uses vs a a' other h.1 k' h.4 r.2)
+        (value-uses n (in_function vs) c (entering k.scopes) h.3.0 h.3.1 r.0.0) (statement-uses vs a a' s (entering_known h.0) h.1 h.4 r.1))
+        (statement-uses vs a a' other (entering_known (leaving_known h.1)) h.2 h.5 r.2)
     statement-uses vs a a' (typed.Switch at paren e brace items) k k' h r =
         both T n (used_by T e) (used_by_block_items T items) (made_by e) (made_by_block_items items)
-        (value-uses n (in_function vs) e k.scopes h.0 h.2 r.0)
+        (value-uses n (in_function vs) e (entering k.scopes) h.0 h.2 r.0)
         (block-uses vs (in_a_switch a) (in_a_switch a') (Some (type_of e)) items (entering_known (with_scopes k h.0)) h.1 h.4 r.2)
     statement-uses vs a a' (typed.While at paren c s) k k' h r =
         both T n (used_by T c) (used_by_statement T s) (made_by c) (made_by_statement s)
-        (value-uses n (in_function vs) c k.scopes h.1.0 h.1.1 r.0.0) (statement-uses vs (in_a_loop a) (in_a_loop a') s h.0 k' h.2 r.1)
+        (value-uses n (in_function vs) c (entering k.scopes) h.2.0 h.2.1 r.0.0)
+        (statement-uses vs (in_a_loop a) (in_a_loop a') s (entering_known h.0) h.1 h.3 r.1)
     statement-uses vs a a' (typed.DoWhile s at paren c) k k' h r =
         both T n (used_by_statement T s) (used_by T c) (made_by_statement s) (made_by c)
-        (statement-uses vs (in_a_loop a) (in_a_loop a') s k h.0 h.1 r.0) (value-uses n (in_function vs) c h.0.scopes h.2.0 h.2.1 r.1.0)
+        (statement-uses vs (in_a_loop a) (in_a_loop a') s (entering_known (entering_known k)) h.0 h.2 r.0)
+        (value-uses n (in_function vs) c (leaving_known h.0).scopes h.3.0 h.3.1 r.1.0)
     statement-uses vs a a' (typed.For at paren x y z s) k k' h r =
         both T n (used_by_optional T x ++ used_by_optional T y ++ used_by_optional T z) (used_by_statement T s)
         (made_by_optional x ++ made_by_optional y ++ made_by_optional z) (made_by_statement s)
         (both T n (used_by_optional T x ++ used_by_optional T y) (used_by_optional T z) (made_by_optional x ++ made_by_optional y)
         (made_by_optional z)
         (both T n (used_by_optional T x) (used_by_optional T y) (made_by_optional x) (made_by_optional y)
-        (dropped-uses vs x k h.0 h.3 r.0) (tested-uses vs y h.0 h.1 h.4 r.1)) (dropped-uses vs z h.1 h.2 h.5 r.2))
-        (statement-uses vs (in_a_loop a) (in_a_loop a') s h.2 k' h.6 r.3)
+        (dropped-uses vs x (entering_known k) h.0 h.4 r.0) (tested-uses vs y h.0 h.1 h.5 r.1)) (dropped-uses vs z h.1 h.2 h.6 r.2))
+        (statement-uses vs (in_a_loop a) (in_a_loop a') s (entering_known h.2) h.3 h.7 r.3)
     statement-uses vs a a' (typed.ForDeclaration at paren d y z s) k k' h r =
         both T n (used_by_declaration T d ++ used_by_optional T y ++ used_by_optional T z) (used_by_statement T s)
         (made_by_declaration d ++ made_by_optional y ++ made_by_optional z) (made_by_statement s)
@@ -199,7 +201,7 @@ module _ (static : Stage) (n : ℕ) where
         (made_by_optional z)
         (both T n (used_by_declaration T d) (used_by_optional T y) (made_by_declaration d) (made_by_optional y)
         (declaration-uses vs false d (entering_known k) h.0 h.4 r.0) (tested-uses vs y h.0 h.1 h.5 r.1)) (dropped-uses vs z h.1 h.2 h.6 r.2))
-        (statement-uses vs (in_a_loop a) (in_a_loop a') s h.2 h.3 h.7 r.3)
+        (statement-uses vs (in_a_loop a) (in_a_loop a') s (entering_known h.2) h.3 h.7 r.3)
     statement-uses vs a a' (typed.Break at) k k' h r = omega arith
     statement-uses vs a a' (typed.Continue at) k k' h r = omega arith
     statement-uses vs a a' (typed.Return at e) k k' h r = returned-uses vs at a.result a'.result e k k' h r

@@ -11,7 +11,7 @@ use Rattle.c_tree.specs.declared.typed_word.Home.TheVariants as home
 use Rattle.c_tree.specs.TypedTree as typed
 use Rattle.c_tree.specs.TypedTree.{TypedExpr, TypedSpecifiers, TypedInitialiser, TypedItems, TypedInitDeclarators, TypedDeclaration, TypedStatement, TypedBlockItems}
 use Rattle.c_tree.specs.TypedParts.{node_made, named_object, type_of, place_type, specified_type, Made, Name, Literal, Copy, MadeObject, static_made, local_made, home_of_form, item_place, made_by, made_by_place, made_by_specifiers, made_by_form, made_by_initialiser, made_by_items, made_by_init_declarators, made_by_declaration, made_by_optional, made_by_statement, made_by_block_items}
-use Rattle.c_typing.specs.Scopes.{Scopes}
+use Rattle.c_typing.specs.Scopes.{Scopes, entering}
 use Rattle.c_typing.specs.Typing.{AreSpecifiers, AreAlone}
 use Rattle.c_unit_typing.specs.Initialisers.{IsInitialiser, AreItems, is_only_text, is_char_array}
 use Rattle.c_unit_typing.specs.Units as units
@@ -110,34 +110,35 @@ module _ (static : Stage) where
     statement-objects vs a a' (typed.Express e) k k' h r = value-objects T e k.scopes h.0 h.1
     statement-objects vs a a' typed.Empty k k' h r = All-nil P
     statement-objects vs a a' (typed.If at paren c s) k k' h r =
-        All-append P (made_by c) (made_by_statement s) (value-objects T c k.scopes h.1.0 h.1.1)
-        (statement-objects vs a a' s h.0 k' h.2 r.1)
+        All-append P (made_by c) (made_by_statement s) (value-objects T c (entering k.scopes) h.2.0 h.2.1)
+        (statement-objects vs a a' s (entering_known h.0) h.1 h.3 r.1)
     statement-objects vs a a' (typed.IfElse at paren c s other) k k' h r =
         All-append P (made_by c ++ made_by_statement s) (made_by_statement other)
-        (All-append P (made_by c) (made_by_statement s) (value-objects T c k.scopes h.2.0 h.2.1)
-        (statement-objects vs a a' s h.0 h.1 h.3 r.1))
-        (statement-objects vs a a' other h.1 k' h.4 r.2)
+        (All-append P (made_by c) (made_by_statement s) (value-objects T c (entering k.scopes) h.3.0 h.3.1)
+        (statement-objects vs a a' s (entering_known h.0) h.1 h.4 r.1))
+        (statement-objects vs a a' other (entering_known (leaving_known h.1)) h.2 h.5 r.2)
     statement-objects vs a a' (typed.Switch at paren e brace items) k k' h r =
-        All-append P (made_by e) (made_by_block_items items) (value-objects T e k.scopes h.0 h.2)
+        All-append P (made_by e) (made_by_block_items items) (value-objects T e (entering k.scopes) h.0 h.2)
         (block-objects vs (in_a_switch a) (in_a_switch a') (Some (type_of e)) items (entering_known (with_scopes k h.0)) h.1 h.4 r.2)
     statement-objects vs a a' (typed.While at paren c s) k k' h r =
-        All-append P (made_by c) (made_by_statement s) (value-objects T c k.scopes h.1.0 h.1.1)
-        (statement-objects vs (in_a_loop a) (in_a_loop a') s h.0 k' h.2 r.1)
+        All-append P (made_by c) (made_by_statement s) (value-objects T c (entering k.scopes) h.2.0 h.2.1)
+        (statement-objects vs (in_a_loop a) (in_a_loop a') s (entering_known h.0) h.1 h.3 r.1)
     statement-objects vs a a' (typed.DoWhile s at paren c) k k' h r =
         All-append P (made_by_statement s) (made_by c)
-        (statement-objects vs (in_a_loop a) (in_a_loop a') s k h.0 h.1 r.0) (value-objects T c h.0.scopes h.2.0 h.2.1)
+        (statement-objects vs (in_a_loop a) (in_a_loop a') s (entering_known (entering_known k)) h.0 h.2 r.0)
+        (value-objects T c (leaving_known h.0).scopes h.3.0 h.3.1)
     statement-objects vs a a' (typed.For at paren x y z s) k k' h r =
         All-append P (made_by_optional x ++ made_by_optional y ++ made_by_optional z) (made_by_statement s)
         (All-append P (made_by_optional x ++ made_by_optional y) (made_by_optional z)
-        (All-append P (made_by_optional x) (made_by_optional y) (dropped-objects x k h.0 h.3) (tested-objects y h.0 h.1 h.4))
-        (dropped-objects z h.1 h.2 h.5))
-        (statement-objects vs (in_a_loop a) (in_a_loop a') s h.2 k' h.6 r.3)
+        (All-append P (made_by_optional x) (made_by_optional y) (dropped-objects x (entering_known k) h.0 h.4) (tested-objects y h.0 h.1 h.5))
+        (dropped-objects z h.1 h.2 h.6))
+        (statement-objects vs (in_a_loop a) (in_a_loop a') s (entering_known h.2) h.3 h.7 r.3)
     statement-objects vs a a' (typed.ForDeclaration at paren d y z s) k k' h r =
         All-append P (made_by_declaration d ++ made_by_optional y ++ made_by_optional z) (made_by_statement s)
         (All-append P (made_by_declaration d ++ made_by_optional y) (made_by_optional z)
         (All-append P (made_by_declaration d) (made_by_optional y) (declaration-objects vs false d (entering_known k) h.0 h.4 r.0)
         (tested-objects y h.0 h.1 h.5)) (dropped-objects z h.1 h.2 h.6))
-        (statement-objects vs (in_a_loop a) (in_a_loop a') s h.2 h.3 h.7 r.3)
+        (statement-objects vs (in_a_loop a) (in_a_loop a') s (entering_known h.2) h.3 h.7 r.3)
     statement-objects vs a a' (typed.Break at) k k' h r = All-nil P
     statement-objects vs a a' (typed.Continue at) k k' h r = All-nil P
     statement-objects vs a a' (typed.Return at e) k k' h r = returned-objects at a.result e k k' h

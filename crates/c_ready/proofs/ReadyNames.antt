@@ -320,9 +320,9 @@ module _ (k : Context) (f : Fixed k) where
   ordinary-step true file q storage d id t h m m' o g = function-step d id t h m m' o g
   ordinary-step false file q storage d id t h m m' o g = object-step file q storage d id t h m m' o g
 
-  typedef-step : (id : Identifier) (t : TypeId) (h : Home) (m m' : units.Known) → IsTypedefDeclared h id.bytes t m m'
+  typedef-step : (file : Bool) (id : Identifier) (t : TypeId) (h : Home) (m m' : units.Known) → IsTypedefDeclared file h id.bytes t m m'
       → Step k m m' (Name id h t ∷ []) [] (IsReadyHome k h t)
-  typedef-step id t home.None m m' h =
+  typedef-step file id t home.None m m' h =
       ends k (Name id home.None t ∷ []) m (with_scopes m h.0) m' h.2 (record {
         grown = record {
           stays =
@@ -346,16 +346,16 @@ module _ (k : Context) (f : Fixed k) where
           },
         );
       })
-  typedef-step id t (home.Static n) m m' h = absurd h
-  typedef-step id t (home.Local n) m m' h = absurd h
-  typedef-step id t (home.Parameter n) m m' h = absurd h
-  typedef-step id t (home.Known n) m m' h = absurd h
+  typedef-step file id t (home.Static n) m m' h = absurd h
+  typedef-step file id t (home.Local n) m m' h = absurd h
+  typedef-step file id t (home.Parameter n) m m' h = absurd h
+  typedef-step file id t (home.Known n) m m' h = absurd h
 
   pub name-step : (file : Bool) → (file ≡ false → k.file ≡ false)
       → (storage : Storage) (d : TypedDeclarator) (id : Identifier) (t : TypeId) (h : Home) (m m' : units.Known)
       → Declares d id t h → IsNameDeclared k.table file storage h id.bytes t m m' → Step k m m' (Name id h t ∷ []) (unless_typedef storage d)
       (IsReadyHome k h t)
-  name-step file q AsTypedef d id t h m m' o g = typedef-step id t h m m' g
+  name-step file q AsTypedef d id t h m m' o g = typedef-step file id t h m m' g
   name-step file q AsExtern d id t h m m' o g = ordinary-step (is_function_shape (shape_at k.table t)) file q AsExtern d id t h m m' o g
   name-step file q AsStatic d id t h m m' o g = ordinary-step (is_function_shape (shape_at k.table t)) file q AsStatic d id t h m m' o g
   name-step file q AsAutomatic d id t h m m' o g = ordinary-step (is_function_shape (shape_at k.table t)) file q AsAutomatic d id t h m m' o g

@@ -41,7 +41,7 @@ use Rattle.c_ready.proofs.ReadyTrees.{value-ready, form-ready, specifiers-ready}
 use Rattle.c_ready.proofs.BeforeMain.{initialiser-before}
 use Rattle.c_ready.proofs.ReadyUnits.{In, Fixed, IsGrown, Step, grown-same, both-grown, last-left, none, joins, joins-plain, gives, ends, walks, blocks, init-kept, init-ready}
 use Rattle.c_ready.proofs.ReadyNames.{name-step}
-use Rattle.c_ready.proofs.Basics.{some-same, no_true, all-left, all-right}
+use Rattle.c_ready.proofs.Basics.{some-same, no_true, eq_from, all-left, all-right}
 
 power-some : (n : ℕ) → 0 < 2 ^ n
 power-some n = search rules
@@ -302,39 +302,56 @@ module _ (k : Context) (f : Fixed k) where
     statement-step a (typed.Express e) m m' b h = dropped-step (Some e) m m' h
     statement-step a typed.Empty m m' b h = none k m m' h
     statement-step a (typed.If at paren c s) m m' b h =
-        joins k (made_by c) (made_by_statement s) m h.0 m' (tested-step c m h.0 h.1) (statement-step a s h.0 m' b h.2)
+        let x = made_by c in let y = made_by_statement s in
+        ends k (x ++ y) m (leaving_known (leaving_known h.1)) m' h.4 (blocks k (x ++ y) m (leaving_known h.1)
+        (joins k x y (entering_known m) h.0 (leaving_known h.1) (tested-step c (entering_known m) h.0 h.2)
+        (blocks k y h.0 h.1 (statement-step a s (entering_known h.0) h.1 b h.3))))
     statement-step a (typed.IfElse at paren c s r) m m' b h =
         let x = made_by c in let y = made_by_statement s in let z = made_by_statement r in
-        gives k (x ++ y ++ z) m m' (λ q. (q.0.0, q.0.1, q.1))
-        (joins k (x ++ y) z m h.1 m' (joins k x y m h.0 h.1 (tested-step c m h.0 h.2) (statement-step a s h.0 h.1 b h.3))
-        (statement-step a r h.1 m' b h.4))
+        let n = leaving_known h.1 in
+        ends k (x ++ y ++ z) m (leaving_known (leaving_known h.2)) m' h.6 (blocks k (x ++ y ++ z) m (leaving_known h.2)
+        (gives k (x ++ y ++ z) (entering_known m) (leaving_known h.2) (λ q. (q.0.0, q.0.1, q.1))
+        (joins k (x ++ y) z (entering_known m) n (leaving_known h.2)
+        (joins k x y (entering_known m) h.0 n (tested-step c (entering_known m) h.0 h.3)
+        (blocks k y h.0 h.1 (statement-step a s (entering_known h.0) h.1 b h.4)))
+        (blocks k z n h.2 (statement-step a r (entering_known n) h.2 b h.5)))))
     statement-step a (typed.Switch at paren e brace items) m m' b h =
         let n = with_scopes m h.0 in
-        ends k (made_by e ++ made_by_block_items items) m (leaving_known h.1) m' h.5
-        (gives k (made_by e ++ made_by_block_items items) m (leaving_known h.1) (λ q. (q.0, h.3, q.1))
-        (joins k (made_by e) (made_by_block_items items) m n (leaving_known h.1)
-        (expression-step e m h.0 h.2 (operand-suits k at _ h.3.operand.kind e h.3.operand.operand h.3.operand.integer))
-        (blocks k (made_by_block_items items) n h.1 (items-step (in_a_switch a) (Some (type_of e)) items (entering_known n) h.1 b h.4))))
+        ends k (made_by e ++ made_by_block_items items) m (leaving_known (leaving_known h.1)) m' h.5
+        (blocks k (made_by e ++ made_by_block_items items) m (leaving_known h.1)
+        (gives k (made_by e ++ made_by_block_items items) (entering_known m) (leaving_known h.1) (λ q. (q.0, h.3, q.1))
+        (joins k (made_by e) (made_by_block_items items) (entering_known m) n (leaving_known h.1)
+        (expression-step e (entering_known m) h.0 h.2 (operand-suits k at _ h.3.operand.kind e h.3.operand.operand h.3.operand.integer))
+        (blocks k (made_by_block_items items) n h.1 (items-step (in_a_switch a) (Some (type_of e)) items (entering_known n) h.1 b h.4)))))
     statement-step a (typed.While at paren c s) m m' b h =
-        joins k (made_by c) (made_by_statement s) m h.0 m' (tested-step c m h.0 h.1) (statement-step (in_a_loop a) s h.0 m' b h.2)
+        let x = made_by c in let y = made_by_statement s in
+        ends k (x ++ y) m (leaving_known (leaving_known h.1)) m' h.4 (blocks k (x ++ y) m (leaving_known h.1)
+        (joins k x y (entering_known m) h.0 (leaving_known h.1) (tested-step c (entering_known m) h.0 h.2)
+        (blocks k y h.0 h.1 (statement-step (in_a_loop a) s (entering_known h.0) h.1 b h.3))))
     statement-step a (typed.DoWhile s at paren c) m m' b h =
-        joins-plain k (made_by_statement s) (made_by c) m h.0 m' (statement-step (in_a_loop a) s m h.0 b h.1) (tested-step c h.0 m' h.2)
+        let x = made_by_statement s in let y = made_by c in
+        ends k (x ++ y) m (leaving_known h.1) m' h.4 (blocks k (x ++ y) m h.1
+        (joins-plain k x y (entering_known m) (leaving_known h.0) h.1
+        (blocks k x (entering_known m) h.0 (statement-step (in_a_loop a) s (entering_known (entering_known m)) h.0 b h.2))
+        (tested-step c (leaving_known h.0) h.1 h.3)))
     statement-step a (typed.For at paren first test step s) m m' b h =
         let x = made_by_optional first in let y = made_by_optional test in let z = made_by_optional step in let v = made_by_statement s in
-        gives k (x ++ y ++ z ++ v) m m' (λ q. (q.0.0.0, q.0.0.1, q.0.1, q.1))
-        (joins k (x ++ y ++ z) v m h.2 m'
-        (joins k (x ++ y) z m h.1 h.2 (joins k x y m h.0 h.1 (dropped-step first m h.0 h.3) (tested_or_none-step test h.0 h.1 h.4))
-        (dropped-step step h.1 h.2 h.5))
-        (statement-step (in_a_loop a) s h.2 m' b h.6))
+        ends k (x ++ y ++ z ++ v) m (leaving_known (leaving_known h.3)) m' h.8 (blocks k (x ++ y ++ z ++ v) m (leaving_known h.3)
+        (gives k (x ++ y ++ z ++ v) (entering_known m) (leaving_known h.3) (λ q. (q.0.0.0, q.0.0.1, q.0.1, q.1))
+        (joins k (x ++ y ++ z) v (entering_known m) h.2 (leaving_known h.3)
+        (joins k (x ++ y) z (entering_known m) h.1 h.2
+        (joins k x y (entering_known m) h.0 h.1 (dropped-step first (entering_known m) h.0 h.4) (tested_or_none-step test h.0 h.1 h.5))
+        (dropped-step step h.1 h.2 h.6))
+        (blocks k v h.2 h.3 (statement-step (in_a_loop a) s (entering_known h.2) h.3 b h.7)))))
     statement-step a (typed.ForDeclaration at paren d test step s) m m' b h =
         let x = made_by_declaration d in let y = made_by_optional test in let z = made_by_optional step in let v = made_by_statement s in
-        ends k (x ++ y ++ z ++ v) m (leaving_known h.3) m' h.8 (blocks k (x ++ y ++ z ++ v) m h.3
-        (gives k (x ++ y ++ z ++ v) (entering_known m) h.3 (λ q. (q.0.0.0, q.0.0.1, q.0.1, q.1))
-        (joins k (x ++ y ++ z) v (entering_known m) h.2 h.3
+        ends k (x ++ y ++ z ++ v) m (leaving_known (leaving_known h.3)) m' h.8 (blocks k (x ++ y ++ z ++ v) m (leaving_known h.3)
+        (gives k (x ++ y ++ z ++ v) (entering_known m) (leaving_known h.3) (λ q. (q.0.0.0, q.0.0.1, q.0.1, q.1))
+        (joins k (x ++ y ++ z) v (entering_known m) h.2 (leaving_known h.3)
         (joins-plain k (x ++ y) z (entering_known m) h.1 h.2
         (joins-plain k x y (entering_known m) h.0 h.1 (declaration-step false (λ q. b.1) d (entering_known m) h.0 h.4)
         (tested_or_none-step test h.0 h.1 h.5)) (dropped-step step h.1 h.2 h.6))
-        (statement-step (in_a_loop a) s h.2 h.3 b h.7))))
+        (blocks k v h.2 h.3 (statement-step (in_a_loop a) s (entering_known h.2) h.3 b h.7)))))
     statement-step a (typed.Break at) m m' b h = gives k [] m m' (λ u. h.1) (none k m m' h.0)
     statement-step a (typed.Continue at) m m' b h = gives k [] m m' (λ u. h.1) (none k m m' h.0)
     statement-step a (typed.Return at e) m m' b h = return-step at a.result b.0 e m m' h

@@ -24,7 +24,7 @@ use Rattle.c_unit_typing.specs.TypesUsed.{used_by_statement, used_by_declaration
 use Rattle.c_unit_given.proofs.DeclarationsGiven.{left-held, right-held}
 use Rattle.c_unit_given.proofs.DeclarationTrees.{declaration-run}
 use Rattle.c_unit_given.proofs.Runs.{obeying-is, run-then, run-last, run-as, run-none, nothing-kept, type-kept, both-kept}
-use Rattle.c_unit_given.proofs.ScopesGiven.{scoped-run}
+use Rattle.c_unit_given.proofs.ScopesGiven.{within-run}
 use Rattle.c_unit_given.proofs.StatementsGiven.{IsStatementRun}
 
 -- a `case` stands in a `switch` only
@@ -113,8 +113,12 @@ module _ (T : Table) (basic : IsBasic T) (exprs : AreExpressionsGiven T) (scopes
   block-run brace items p a holds s k n count here w h numbers uses room =
       let none = no-labels T a items _ h.0 h.1 in
       let N = HasType a.result in
-      scoped-run T N Nothing (AreBlockItems T a None items) (made_by_block_items items) (used_by_block_items T items) (judge_block_items a None (erased_block_items items)) items brace
-      (typed.Block brace)
-      (run-as T (NeedsOf a None) N Nothing Nothing (AreBlockItems T a None items) (AreBlockItems T a None items) (made_by_block_items items) (used_by_block_items T items)
-      (judge_block_items a None (erased_block_items items)) items (λ J e. (e, tt)) (λ J e. e) (λ i j e. e) (p a None (subst AreDifferent (sym none) tt) h.3 holds))
+      let m = judge_block_items a None (erased_block_items items) in
+      let P = AreBlockItems T a None items in
+      let xs = made_by_block_items items in
+      let us = used_by_block_items T items in
+      within-run T N Nothing P xs us (m >>= (λ list. pure (typed.Block brace list))) (typed.Block brace items) brace
+      (run-last T N Nothing Nothing (type-kept a.result) P xs us m (λ list. pure (typed.Block brace list)) items (typed.Block brace items)
+      (run-as T (NeedsOf a None) N Nothing Nothing P P xs us m items (λ J e. (e, tt)) (λ J e. e) (λ i j e. e) (p a None (subst AreDifferent (sym none) tt) h.3 holds))
+      (λ r there e f. (refl, tt)))
       s k n count here w (h.0, h.1, h.2) numbers uses room

@@ -40,13 +40,13 @@ first_as None (home.Static n) node l = (n, refl)
 first_as first h node l = absurd l
 
 module _ (T : Table) (k k' : Known) (name : scopes.Name) (t : TypeId) where
-  typedef_as : (f : Bool) (h : Home) → IsTypedefDeclared h name t k k' → IsHomeAs (unless_function f naming.None) h
-  typedef_as true home.None d = refl
-  typedef_as false home.None d = refl
-  typedef_as f (home.Static n) d = absurd d
-  typedef_as f (home.Local n) d = absurd d
-  typedef_as f (home.Parameter n) d = absurd d
-  typedef_as f (home.Known n) d = absurd d
+  typedef_as : (f file : Bool) (h : Home) → IsTypedefDeclared file h name t k k' → IsHomeAs (unless_function f naming.None) h
+  typedef_as true file home.None d = refl
+  typedef_as false file home.None d = refl
+  typedef_as f file (home.Static n) d = absurd d
+  typedef_as f file (home.Local n) d = absurd d
+  typedef_as f file (home.Parameter n) d = absurd d
+  typedef_as f file (home.Known n) d = absurd d
 
   function_as : (h : Home) → IsFunctionDeclared T h name t k k' → h ≡ home.None
   function_as home.None d = refl
@@ -74,7 +74,7 @@ module _ (T : Table) (k k' : Known) (name : scopes.Name) (t : TypeId) where
 
   pub home-as : (file : Bool) (storage : Storage) (h : Home) → IsNameDeclared T file storage h name t k k'
       → IsHomeAs (unless_function (is_function_shape (shape_at T t)) (naming_for file storage (entry_of k.linked name))) h
-  home-as file AsTypedef h d = typedef_as (is_function_shape (shape_at T t)) h d
+  home-as file AsTypedef h d = typedef_as (is_function_shape (shape_at T t)) file h d
   home-as file Unstored h d = ordinary_as (is_function_shape (shape_at T t)) file Unstored h refl d
   home-as file AsExtern h d = ordinary_as (is_function_shape (shape_at T t)) file AsExtern h refl d
   home-as file AsStatic h d = ordinary_as (is_function_shape (shape_at T t)) file AsStatic h refl d

@@ -104,15 +104,15 @@ module _ (T : Table) (name : Name) (t : TypeId) (k k' : Known) where
     ordinary_once true file storage q d w = function_once h d (object-home T h n name i k'' g)
     ordinary_once false file storage q d w = object_once file storage q d w
 
-    typedef_once : {P : Type 0} (x : Home) → IsTypedefDeclared x name t k k' → IsObjectHome x → P
-    typedef_once home.None d o = absurd o
-    typedef_once (home.Static m) d o = absurd d
-    typedef_once (home.Local m) d o = absurd d
-    typedef_once (home.Parameter m) d o = absurd d
-    typedef_once (home.Known m) d o = absurd d
+    typedef_once : {P : Type 0} (file : Bool) (x : Home) → IsTypedefDeclared file x name t k k' → IsObjectHome x → P
+    typedef_once file home.None d o = absurd o
+    typedef_once file (home.Static m) d o = absurd d
+    typedef_once file (home.Local m) d o = absurd d
+    typedef_once file (home.Parameter m) d o = absurd d
+    typedef_once file (home.Known m) d o = absurd d
 
     pub named-once : (file : Bool) (storage : Storage) → IsNameDeclared T file storage h name t k k' → is_linked_object file storage ≡ true → is_one_of k.defined name ≡ false
-    named-once file AsTypedef d w = typedef_once h d (object-home T h n name i k'' g)
+    named-once file AsTypedef d w = typedef_once file h d (object-home T h n name i k'' g)
     named-once file Unstored d w = ordinary_once (is_function_shape (shape_at T t)) file Unstored refl d w
     named-once file AsExtern d w = ordinary_once (is_function_shape (shape_at T t)) file AsExtern refl d w
     named-once file AsStatic d w = ordinary_once (is_function_shape (shape_at T t)) file AsStatic refl d w

@@ -1,25 +1,24 @@
 -- `for` with a declaration, whose names are in a scope of its own, is given.
-use Rattle.std.proofs.Common.{◌≡◌, max, false, ◌++◌, Option, sym, ◌∙◌}
+use Rattle.std.proofs.Common.{max, false, ◌++◌, Option, refl}
 use Rattle.cc_base.specs.declared.place.Place.{Place}
 use Rattle.c_types.specs.Table.{Table}
 use Rattle.c_tree.specs.Erasure.{erased_optional, erased_statement, erased_declaration}
 use Rattle.c_tree.specs.TypedTree as typed
 use Rattle.c_tree.specs.TypedTree.{TypedExpr, TypedDeclaration, TypedStatement}
 use Rattle.c_tree.specs.TypedParts.{made_by_optional, made_by_statement, made_by_declaration}
-use Rattle.c_typing.specs.Declaring.{entered, left}
 use Rattle.c_typing.specs.Settled.{IsBasic}
 use Rattle.c_unit_typing.specs.DeclarationJudging.{judge_declaration}
 use Rattle.c_unit_typing.specs.Holding.{optional_holds, statement_holds, declaration_holds}
-use Rattle.c_unit_typing.specs.StatementJudging.{dropped, tested_or_none, judge_statement}
-use Rattle.c_unit_typing.specs.Units.{Around, in_a_loop, IsDropped, IsTestedOrNone, IsDeclaration, IsStatement}
-use Rattle.c_unit_typing.specs.UnitJudging.{UnitJudging, lifted, ◌>>=◌}
+use Rattle.c_unit_typing.specs.StatementJudging.{dropped, tested_or_none, within, judge_statement}
+use Rattle.c_unit_typing.specs.Units.{Around, in_a_loop, leaving_known, IsDropped, IsTestedOrNone, IsDeclaration, IsStatement}
+use Rattle.c_unit_typing.specs.UnitJudging.{UnitJudging, ◌>>=◌}
 use Rattle.c_unit_given.proofs.UnitGiven.{Nothing, And, HasType, AreSizesWritten, AreScopesKept, AreExpressionsGiven, AreDeclaratorsGiven}
 use Rattle.c_unit_typing.specs.TypesUsed.{used_by_optional, used_by_statement, used_by_declaration}
 use Rattle.c_unit_given.proofs.DeclarationsGiven.{left-held, right-held}
 use Rattle.c_unit_given.proofs.DeclarationTrees.{declaration-run}
-use Rattle.c_unit_given.proofs.LoopsGiven.{scalar-if, next-same, loop-joined, loop-run}
+use Rattle.c_unit_given.proofs.LoopsGiven.{scalar-if, loop-run}
 use Rattle.c_unit_given.proofs.Runs.{Then, run-then, run-as, run-three, type-kept}
-use Rattle.c_unit_given.proofs.ScopesGiven.{bind-assoc, scoped-run}
+use Rattle.c_unit_given.proofs.ScopesGiven.{Inside, within-run}
 use Rattle.c_unit_given.proofs.StatementsGiven.{IsStatementRun}
 
 module _ (T : Table) (basic : IsBasic T) (exprs : AreExpressionsGiven T) (scopes : AreScopesKept T) (decls : AreDeclaratorsGiven T) (sizes : AreSizesWritten T) where
@@ -38,7 +37,7 @@ module _ (T : Table) (basic : IsBasic T) (exprs : AreExpressionsGiven T) (scopes
       let O = IsDeclaration T false d in
       let P = IsTestedOrNone T test in
       let Q = IsDropped T step in
-      let R = IsStatement T b x in
+      let R = Inside T (IsStatement T b x) in
       let os = made_by_declaration d in
       let xs = made_by_optional test in
       let ys = made_by_optional step in
@@ -48,13 +47,11 @@ module _ (T : Table) (basic : IsBasic T) (exprs : AreExpressionsGiven T) (scopes
       let vs = used_by_optional T step in
       let ws = used_by_statement T x in
       let whole : TypedStatement = typed.ForDeclaration at paren d test step x in
+      let inner = within at (judge_statement b (erased_statement x)) in
       let looping : TypedDeclaration → UnitJudging TypedStatement = λ before. dropped (erased_optional test) >>= (λ c. dropped (erased_optional step) >>= (λ after.
-      judge_statement b (erased_statement x) >>= (λ one. tested_or_none at c (typed.ForDeclaration at paren before c after one)))) in
+      inner >>= (λ one. tested_or_none at c (typed.ForDeclaration at paren before c after one)))) in
       let first = judge_declaration false (erased_declaration d) in
       let m : UnitJudging TypedStatement = first >>= looping in
-      let end : TypedStatement → UnitJudging TypedStatement = λ y. lifted (left at y) in
-      let ended : TypedDeclaration → UnitJudging TypedStatement = λ before. dropped (erased_optional test) >>= (λ c. dropped (erased_optional step) >>= (λ after.
-      judge_statement b (erased_statement x) >>= (λ one. tested_or_none at c (typed.ForDeclaration at paren before c after one) >>= end))) in
       let loop =
       loop-run T basic exprs scopes a at test step x (λ c after one. typed.ForDeclaration at paren d c after one) p (scalar-if T test h.0 h.1 h.5) (left-held h2 (max h3 h4) 256 r1) (left-held h3 h4 256 r2)
       (right-held h3 h4 256 r2) in
@@ -63,14 +60,6 @@ module _ (T : Table) (basic : IsBasic T) (exprs : AreExpressionsGiven T) (scopes
       (run-as T Nothing N Nothing Nothing O O os ts first d (λ J i. tt) (λ J i. i) (λ i j e. e)
       (declaration-run T basic exprs scopes decls sizes d false (left-held h1 (max h2 (max h3 h4)) 256 holds)))
       (run-as T N (And N Nothing) Nothing Nothing (Then P (Then Q R)) (Then P (Then Q R)) (xs ++ (ys ++ zs)) (us ++ (vs ++ ws)) (looping d) whole (λ J i. i.0) (λ J i. i) (λ i j e. e) loop) in
-      let inner =
-      run-three T N Nothing (Then O (Then P (Then Q R))) (os ++ xs) ys zs (ts ++ us) vs ws m whole (run-three T N Nothing (Then O (Then P (Then Q R))) os xs (ys ++ zs) ts us (vs ++ ws) m whole all) in
-      let one =
-      scoped-run T N Nothing (Then O (Then P (Then Q R))) (os ++ xs ++ ys ++ zs) (ts ++ us ++ vs ++ ws) m whole at (λ (y : TypedStatement). y) inner s k n count here w
-      (h.3, (h.0, h.4, (h.1, h.5, (h.2, h.6, h.7))), h.8) numbers uses room in
-      let same : judge_statement a (erased_statement whole) s ≡ (lifted entered >>= (λ inside. m >>= end)) s =
-      next-same T basic exprs scopes (lifted entered s) (λ inside. first >>= ended) (λ inside. m >>= end)
-      (λ inside q. sym (bind-assoc (first q) looping end
-      ∙ next-same T basic exprs scopes (first q) (λ before. looping before >>= end) ended
-      (λ before r. loop-joined T basic exprs scopes a at test step x (λ c after y. typed.ForDeclaration at paren before c after y) end r))) in
-      record { after = one.after; gives = same ∙ one.gives; reached = one.reached; gains = one.gains }
+      within-run T N Nothing (Then O (Then P (Then Q R))) (os ++ xs ++ ys ++ zs) (ts ++ us ++ vs ++ ws) m whole at
+      (run-three T N Nothing (Then O (Then P (Then Q R))) (os ++ xs) ys zs (ts ++ us) vs ws m whole (run-three T N Nothing (Then O (Then P (Then Q R))) os xs (ys ++ zs) ts us (vs ++ ws) m whole all))
+      s k n count here w (leaving_known h.3, (h.0, h.4, (h.1, h.5, (h.2, h.6, (h.3, h.7, refl)))), h.8) numbers uses room

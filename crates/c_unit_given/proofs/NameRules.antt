@@ -27,7 +27,7 @@ use Rattle.c_typing_exact.specs.Passing.{Passes}
 use Rattle.c_typing_exact.proofs.Unbroken.{passes_one, passes_and}
 use Rattle.c_unit_typing.specs.DeclarationJudging.{is_linked_object}
 use Rattle.c_unit_typing.specs.Units.{Known, Storage, Unstored, AsTypedef, AsExtern, AsStatic, AsAutomatic, AgreesWith, AgreesWithRuntime, IsLinkedHome, IsLinked, IsLinkedObject, IsTypedefDeclared, IsFunctionDeclared, IsObjectDeclared, IsOrdinaryDeclared, IsNameDeclared, is_one_of, is_linked_home}
-use Rattle.c_unit_typing.specs.UnitRefusals.{conflicts, conflicts_with_runtime, has_linkage, is_unlinked, is_redeclared, is_object, is_integer_of, is_runtime_type, are_runtime_types, is_prototype_shape, declared_tests}
+use Rattle.c_unit_typing.specs.UnitRefusals.{conflicts, conflicts_with_runtime, has_linkage, is_unlinked, is_redeclared, is_taken_by_runtime, is_object, is_integer_of, is_runtime_type, are_runtime_types, is_prototype_shape, declared_tests}
 use Rattle.c_unit_typing.proofs.DeclaredNames.{is_typedef, zero_home, declared-as, linkage_of_function, linkage_of_object}
 
 or_off : (a b : Bool) → a ≡ false → b ≡ false → (a || b) ≡ false
@@ -118,6 +118,10 @@ runtime_object : (T : Table) (name : Name) (t : TypeId) (n m : NodeId) → ((fun
 runtime_object T name t n m h None q = refl
 runtime_object T name t n m h (Some function) q = absurd (h function (named-runtime name function q))
 
+runtime_typedef : (T : Table) (name : Name) (t : TypeId) → IsNoName name → (o : Option Runtime) → runtime_of name ≡ o → conflicts_with_runtime T o (declared.Typedef t) ≡ false
+runtime_typedef T name t h None q = refl
+runtime_typedef T name t h (Some function) q = absurd (h function (named-runtime name function q))
+
 -- Names
 
 abbrev pub IsObjectHome : Home → Type 0
@@ -147,17 +151,30 @@ module _ (T : Table) (k : Known) (name : Name) where
   module _ (file : Bool) (storage : Storage) (initialised : Bool) (t : TypeId) (at : Place) where
     abbrev tests_with : Declared → List Test
     tests_with what =
-        broken_at rule.Redeclared at (is_redeclared T k (has_linkage file storage what) initialised name what)
+        broken_at rule.Redeclared at (is_redeclared T k (has_linkage file storage what) (initialised && is_object what) name what || is_taken_by_runtime T file name what)
         ∷ broken_at rule.Incomplete at (is_object what && not (is_complete_at T k.scopes t))
         ∷ broken_at rule.Mismatch at (initialised && not (is_object what))
         ∷ []
 
-    passes_with : (what : Declared) → is_redeclared T k (has_linkage file storage what) initialised name what ≡ false → (is_object what && not (is_complete_at T k.scopes t)) ≡ false
-        → (initialised && not (is_object what)) ≡ false → Passes (tests_with what)
-    passes_with what a b c =
-        passes_and rule.Redeclared at (is_redeclared T k (has_linkage file storage what) initialised name what)
-        (broken_at rule.Incomplete at (is_object what && not (is_complete_at T k.scopes t)) ∷ broken_at rule.Mismatch at (initialised && not (is_object what)) ∷ []) a
+    passes_with : (what : Declared) → is_redeclared T k (has_linkage file storage what) (initialised && is_object what) name what ≡ false → is_taken_by_runtime T file name what ≡ false
+        → (is_object what && not (is_complete_at T k.scopes t)) ≡ false → (initialised && not (is_object what)) ≡ false → Passes (tests_with what)
+    passes_with what a r b c =
+        let again = is_redeclared T k (has_linkage file storage what) (initialised && is_object what) name what in
+        let taken = is_taken_by_runtime T file name what in
+        passes_and rule.Redeclared at (again || taken)
+        (broken_at rule.Incomplete at (is_object what && not (is_complete_at T k.scopes t)) ∷ broken_at rule.Mismatch at (initialised && not (is_object what)) ∷ []) (or_off again taken a r)
         (passes_and rule.Incomplete at (is_object what && not (is_complete_at T k.scopes t)) (broken_at rule.Mismatch at (initialised && not (is_object what)) ∷ []) b (passes_one rule.Mismatch at (initialised && not (is_object what)) c))
+
+    not_taken : (what : Declared) → conflicts_with_runtime T (runtime_of name) what ≡ false → is_taken_by_runtime T file name what ≡ false
+    not_taken what h = and_off file (conflicts_with_runtime T (runtime_of name) what) (λ q. h)
+
+    and_same : (b : Bool) → (b && true) ≡ b
+    and_same true = refl
+    and_same false = refl
+
+    no_object : {P : Type 0} (b : Bool) → (b && false) ≡ true → P
+    no_object true q = no_true q
+    no_object false q = no_true q
 
     plainly : (b : Bool) → (initialised ≡ true → ⊥) → (initialised && b) ≡ false
     plainly b h = and_off initialised b (λ q. absurd (h q))
@@ -168,8 +185,9 @@ module _ (T : Table) (k : Known) (name : Name) where
     function_passes : (h : Home) (k' : Known) → IsFunctionDeclared T h name t k k' → (initialised ≡ true → IsObjectHome h) → Passes (tests_with (declared.Function t))
     function_passes home.None k' d i =
         passes_with (declared.Function t)
-        (subst (λ (l : Bool). is_redeclared T k l initialised name (declared.Function t) ≡ false) (sym (linkage_of_function file storage t))
-        (function-agrees initialised t k' d (λ q. absurd (i q)))) refl (plainly true i)
+        (subst (λ (l : Bool). is_redeclared T k l (initialised && false) name (declared.Function t) ≡ false) (sym (linkage_of_function file storage t))
+        (function-agrees (initialised && false) t k' d (λ q. no_object initialised q)))
+        (not_taken (declared.Function t) (runtime_function T name t d.runtime_agrees (runtime_of name) refl)) refl (plainly true i)
     function_passes (home.Static n) k' d i = absurd d
     function_passes (home.Local n) k' d i = absurd d
     function_passes (home.Parameter n) k' d i = absurd d
@@ -180,23 +198,25 @@ module _ (T : Table) (k : Known) (name : Name) where
         → Passes (tests_with (declared.Object t zero_home))
     linked_passes h k' l d apart once =
         passes_with (declared.Object t zero_home)
-        (subst (λ (b : Bool). is_redeclared T k b initialised name (declared.Object t zero_home) ≡ false) (sym (linkage_of_object file storage t zero_home l))
-        (all_off initialised (declared.Object t zero_home) (agrees_object T (here k.scopes.levels name) t d.node zero_home d.linked.here_agrees)
+        (subst (λ (b : Bool). is_redeclared T k b (initialised && true) name (declared.Object t zero_home) ≡ false) (sym (linkage_of_object file storage t zero_home l))
+        (all_off (initialised && true) (declared.Object t zero_home) (agrees_object T (here k.scopes.levels name) t d.node zero_home d.linked.here_agrees)
         (object_linked T (here k.scopes.levels name) (entry_of k.linked name) t h d.node d.linked.here_agrees d.home apart)
-        (agrees_object T (entry_of k.linked name) t d.node zero_home d.linked.linked_agrees) (runtime_object T name t d.node zero_home d.linked.runtime_agrees (runtime_of name) refl) once))
-        (ap not d.complete) (objects true)
+        (agrees_object T (entry_of k.linked name) t d.node zero_home d.linked.linked_agrees) (runtime_object T name t d.node zero_home d.linked.runtime_agrees (runtime_of name) refl) (λ q. once (sym (and_same initialised) ∙ q))))
+        (not_taken (declared.Object t zero_home) (runtime_object T name t d.node zero_home d.linked.runtime_agrees (runtime_of name) refl)) (ap not d.complete) (objects true)
 
-    new_passes : has_linkage file storage (declared.Object t zero_home) ≡ false → is_complete_at T k.scopes t ≡ true → here k.scopes.levels name ≡ None
+    new_passes : file ≡ false → has_linkage file storage (declared.Object t zero_home) ≡ false → is_complete_at T k.scopes t ≡ true → here k.scopes.levels name ≡ None
         → Passes (tests_with (declared.Object t zero_home))
-    new_passes l c fresh =
+    new_passes block l c fresh =
         passes_with (declared.Object t zero_home)
-        (subst (λ (b : Bool). is_redeclared T k b initialised name (declared.Object t zero_home) ≡ false) (sym l) (ap has_some fresh)) (ap not c) (objects true)
+        (subst (λ (b : Bool). is_redeclared T k b (initialised && true) name (declared.Object t zero_home) ≡ false) (sym l) (ap has_some fresh))
+        (and_off file (conflicts_with_runtime T (runtime_of name) (declared.Object t zero_home)) (λ q. no_true (sym block ∙ q))) (ap not c) (objects true)
 
-    typedef_passes : (h : Home) (k' : Known) → has_linkage file storage (declared.Typedef t) ≡ false → IsTypedefDeclared h name t k k' → (initialised ≡ true → IsObjectHome h)
+    typedef_passes : (h : Home) (k' : Known) → has_linkage file storage (declared.Typedef t) ≡ false → IsTypedefDeclared file h name t k k' → (initialised ≡ true → IsObjectHome h)
         → Passes (tests_with (declared.Typedef t))
     typedef_passes home.None k' l d i =
         passes_with (declared.Typedef t)
-        (subst (λ (b : Bool). is_redeclared T k b initialised name (declared.Typedef t) ≡ false) (sym l) (ap has_some d.1.fresh)) refl (plainly true i)
+        (subst (λ (b : Bool). is_redeclared T k b (initialised && false) name (declared.Typedef t) ≡ false) (sym l) (ap has_some d.1.fresh))
+        (and_off file (conflicts_with_runtime T (runtime_of name) (declared.Typedef t)) (λ q. runtime_typedef T name t (d.3 q) (runtime_of name) refl)) refl (plainly true i)
     typedef_passes (home.Static n) k' l d i = absurd d
     typedef_passes (home.Local n) k' l d i = absurd d
     typedef_passes (home.Parameter n) k' l d i = absurd d
@@ -209,9 +229,9 @@ module _ (T : Table) (k : Known) (name : Name) where
   object_passes file AsTypedef initialised t at h k' n d apart once = no_true (sym n)
   object_passes true storage initialised t at h k' n d apart once = linked_passes true storage initialised t at h k' refl d apart (λ q. once q refl)
   object_passes false AsExtern initialised t at h k' n d apart once = linked_passes false AsExtern initialised t at h k' refl d apart (λ q. once q refl)
-  object_passes false AsStatic initialised t at (home.Static m) k' n d apart once = new_passes false AsStatic initialised t at refl d.1.complete d.1.fresh.fresh
-  object_passes false Unstored initialised t at (home.Local m) k' n d apart once = new_passes false Unstored initialised t at refl d.1.complete d.1.fresh.fresh
-  object_passes false AsAutomatic initialised t at (home.Local m) k' n d apart once = new_passes false AsAutomatic initialised t at refl d.1.complete d.1.fresh.fresh
+  object_passes false AsStatic initialised t at (home.Static m) k' n d apart once = new_passes false AsStatic initialised t at refl refl d.1.complete d.1.fresh.fresh
+  object_passes false Unstored initialised t at (home.Local m) k' n d apart once = new_passes false Unstored initialised t at refl refl d.1.complete d.1.fresh.fresh
+  object_passes false AsAutomatic initialised t at (home.Local m) k' n d apart once = new_passes false AsAutomatic initialised t at refl refl d.1.complete d.1.fresh.fresh
   object_passes false storage initialised t at h k' n d apart once = absurd d
 
   ordinary_passes : (f : Bool) (file : Bool) (storage : Storage) (initialised : Bool) (t : TypeId) (at : Place) (h : Home) (k' : Known) → is_function_shape (shape_at T t) ≡ f → is_typedef storage ≡ false

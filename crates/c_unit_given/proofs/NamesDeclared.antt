@@ -75,7 +75,7 @@ module _ (T : Table) (name : Identifier) (t : TypeId) (s : UnitState) (k' : Know
   ordinary_given true file storage h n d low room = function_given (is_linked_object file storage) h d
   ordinary_given false file storage h n d low room = object_given file storage h n d low room
 
-  typedef_given : (file : Bool) (h : Home) → IsTypedefDeclared h name.bytes t (known_of s) k' → IsDeclaredGiven T (home_cost T h t) (declare file AsTypedef name t h s) s k'
+  typedef_given : (file : Bool) (h : Home) → IsTypedefDeclared file h name.bytes t (known_of s) k' → IsDeclaredGiven T (home_cost T h t) (declare file AsTypedef name t h s) s k'
   unfolding declare
   typedef_given file home.None d =
       new-given T name t s k' here there (declared.Typedef t) (declare file AsTypedef name t home.None s) refl there tt d.1.fresh (d.2 ∙ ap (with_scopes (known_of s)) d.1.after)

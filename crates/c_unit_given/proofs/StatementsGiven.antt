@@ -22,14 +22,15 @@ use Rattle.c_typing_exact.proofs.Unbroken.{passes_one, off}
 use Rattle.c_rules_alike.proofs.PartsThere.{checked-there}
 use Rattle.c_unit_typing.specs.Holding.{expr_holds, statement_holds}
 use Rattle.c_type_order.specs.TypesUsed.{Use, used_by}
-use Rattle.c_unit_typing.specs.StatementJudging.{tested, jump, judge_statement}
-use Rattle.c_unit_typing.specs.Units.{Known, Around, in_a_loop, IsTested, IsStatement}
+use Rattle.c_unit_typing.specs.StatementJudging.{tested, jump, within, judge_statement}
+use Rattle.c_unit_typing.specs.Units.{Known, Around, in_a_loop, leaving_known, IsTested, IsStatement}
 use Rattle.c_unit_typing.specs.UnitJudging.{UnitState, UnitJudging, Gives, pure, lifted, ◌>>=◌}
 use Rattle.c_unit_typing.specs.UnitRefusals.{condition_tests, jump_tests}
 use Rattle.c_unit_given.proofs.UnitGiven.{IsUnitHere, IsRun, IsPartRun, IsKept, Nothing, And, HasType, Always, AreScopesKept, AreExpressionsGiven}
 use Rattle.c_unit_typing.specs.TypesUsed.{used_by_statement}
 use Rattle.c_unit_given.proofs.DeclarationsGiven.{left-held, right-held}
 use Rattle.c_unit_given.proofs.Runs.{Among, Then, obeying-is, run-then, run-last, run-as, run-none, run-three, run-lifted, nothing-kept, type-kept, both-kept}
+use Rattle.c_unit_given.proofs.ScopesGiven.{Inside, within-run}
 
 -- Values that may be dropped
 
@@ -110,10 +111,14 @@ module _ (T : Table) (basic : IsBasic T) (exprs : AreExpressionsGiven T) (scopes
       let N = HasType a.result in
       let u = expr_holds (erased c) in
       let v = statement_holds (erased_statement x) in
-      test-then N (type-kept a.result) c h.1.2 (left-held u v 256 holds) (IsStatement T a x) (made_by_statement x) (used_by_statement T x)
-      (λ test. judge_statement a (erased_statement x) >>= (λ one. tested at test (typed.If at paren test one))) (typed.If at paren c x)
-      (tested-last N (type-kept a.result) c h.1.2 at (IsStatement T a x) (made_by_statement x) (used_by_statement T x) (judge_statement a (erased_statement x)) x (typed.If at paren c)
-      (p a (right-held u v 256 holds))) s k n count here w h numbers uses room
+      let P = Inside T (IsStatement T a x) in
+      let body = within at (judge_statement a (erased_statement x)) in
+      let rest : TypedExpr → UnitJudging TypedStatement = λ test. body >>= (λ one. tested at test (typed.If at paren test one)) in
+      within-run T N Nothing (Then (IsTested T c) P) (made_by c ++ made_by_statement x) (used_by T c ++ used_by_statement T x) (lifted (checked (erased c)) >>= rest) (typed.If at paren c x) at
+      (test-then N (type-kept a.result) c h.2.2 (left-held u v 256 holds) P (made_by_statement x) (used_by_statement T x) rest (typed.If at paren c x)
+      (tested-last N (type-kept a.result) c h.2.2 at P (made_by_statement x) (used_by_statement T x) body x (typed.If at paren c)
+      (within-run T N Nothing (IsStatement T a x) (made_by_statement x) (used_by_statement T x) (judge_statement a (erased_statement x)) x at (p a (right-held u v 256 holds)))))
+      s k n count here w (leaving_known h.1, (h.0, h.2, (h.1, h.3, refl)), h.4) numbers uses room
 
   pub while-run : (at paren : Place) (c : TypedExpr) (x : TypedStatement) → IsStatementRun x → IsStatementRun (typed.While at paren c x)
   unfolding judge_statement
@@ -122,10 +127,14 @@ module _ (T : Table) (basic : IsBasic T) (exprs : AreExpressionsGiven T) (scopes
       let u = expr_holds (erased c) in
       let v = statement_holds (erased_statement x) in
       let b : Around = in_a_loop a in
-      test-then N (type-kept a.result) c h.1.2 (left-held u v 256 holds) (IsStatement T b x) (made_by_statement x) (used_by_statement T x)
-      (λ test. judge_statement b (erased_statement x) >>= (λ one. tested at test (typed.While at paren test one))) (typed.While at paren c x)
-      (tested-last N (type-kept a.result) c h.1.2 at (IsStatement T b x) (made_by_statement x) (used_by_statement T x) (judge_statement b (erased_statement x)) x (typed.While at paren c)
-      (p b (right-held u v 256 holds))) s k n count here w h numbers uses room
+      let P = Inside T (IsStatement T b x) in
+      let body = within at (judge_statement b (erased_statement x)) in
+      let rest : TypedExpr → UnitJudging TypedStatement = λ test. body >>= (λ one. tested at test (typed.While at paren test one)) in
+      within-run T N Nothing (Then (IsTested T c) P) (made_by c ++ made_by_statement x) (used_by T c ++ used_by_statement T x) (lifted (checked (erased c)) >>= rest) (typed.While at paren c x) at
+      (test-then N (type-kept a.result) c h.2.2 (left-held u v 256 holds) P (made_by_statement x) (used_by_statement T x) rest (typed.While at paren c x)
+      (tested-last N (type-kept a.result) c h.2.2 at P (made_by_statement x) (used_by_statement T x) body x (typed.While at paren c)
+      (within-run T N Nothing (IsStatement T b x) (made_by_statement x) (used_by_statement T x) (judge_statement b (erased_statement x)) x at (p b (right-held u v 256 holds)))))
+      s k n count here w (leaving_known h.1, (h.0, h.2, (h.1, h.3, refl)), h.4) numbers uses room
 
   pub if-else-run : (at paren : Place) (c : TypedExpr) (x y : TypedStatement) → IsStatementRun x → IsStatementRun y → IsStatementRun (typed.IfElse at paren c x y)
   unfolding judge_statement
@@ -136,8 +145,8 @@ module _ (T : Table) (basic : IsBasic T) (exprs : AreExpressionsGiven T) (scopes
       let v1 = statement_holds (erased_statement x) in
       let v2 = statement_holds (erased_statement y) in
       let rest = right-held u (max v1 v2) 256 holds in
-      let P = IsStatement T a x in
-      let Q = IsStatement T a y in
+      let P = Inside T (IsStatement T a x) in
+      let Q = Inside T (IsStatement T a y) in
       let xs = made_by c in
       let ys = made_by_statement x in
       let zs = made_by_statement y in
@@ -145,18 +154,21 @@ module _ (T : Table) (basic : IsBasic T) (exprs : AreExpressionsGiven T) (scopes
       let vs = used_by_statement T x in
       let ws = used_by_statement T y in
       let whole : TypedStatement = typed.IfElse at paren c x y in
-      let other = tested-last N (type-kept a.result) c h.2.2 at Q zs ws (judge_statement a (erased_statement y)) y (typed.IfElse at paren c x) (q a (right-held v1 v2 256 rest)) in
-      let both : IsRun T (And N (HasType tc)) Nothing (Then P Q) (ys ++ zs) (vs ++ ws)
-      (judge_statement a (erased_statement x) >>= (λ one. judge_statement a (erased_statement y) >>= (λ two. tested at c (typed.IfElse at paren c one two)))) whole =
-      run-then T (And N (HasType tc)) Nothing Nothing (both-kept N (HasType tc) (type-kept a.result) (type-kept tc)) P Q ys zs vs ws (judge_statement a (erased_statement x))
-      (λ one. judge_statement a (erased_statement y) >>= (λ two. tested at c (typed.IfElse at paren c one two))) x whole
-      (run-as T N (And N (HasType tc)) Nothing Nothing P P ys vs (judge_statement a (erased_statement x)) x (λ J e. e.0) (λ J e. e) (λ i j e. e) (p a (left-held v1 v2 256 rest)))
-      (run-as T (And N (HasType tc)) (And (And N (HasType tc)) Nothing) Nothing Nothing Q Q zs ws (judge_statement a (erased_statement y) >>= (λ two. tested at c (typed.IfElse at paren c x two))) whole
-      (λ J e. e.0) (λ J e. e) (λ i j e. e) other) in
-      run-three T N Nothing (Then (IsTested T c) (Then P Q)) xs ys zs us vs ws (judge_statement a (erased_statement whole)) whole
-      (test-then N (type-kept a.result) c h.2.2 (left-held u (max v1 v2) 256 holds) (Then P Q) (ys ++ zs) (vs ++ ws)
-      (λ test. judge_statement a (erased_statement x) >>= (λ one. judge_statement a (erased_statement y) >>= (λ two. tested at test (typed.IfElse at paren test one two)))) whole both)
-      s k n count here w (h.0, h.2, (h.1, h.3, h.4)) numbers uses room
+      let first = within at (judge_statement a (erased_statement x)) in
+      let second = within at (judge_statement a (erased_statement y)) in
+      let behind : TypedExpr → TypedStatement → UnitJudging TypedStatement = λ test one. second >>= (λ two. tested at test (typed.IfElse at paren test one two)) in
+      let after : TypedExpr → UnitJudging TypedStatement = λ test. first >>= (λ one. behind test one) in
+      let other = tested-last N (type-kept a.result) c h.3.2 at Q zs ws second y (typed.IfElse at paren c x)
+      (within-run T N Nothing (IsStatement T a y) zs ws (judge_statement a (erased_statement y)) y at (q a (right-held v1 v2 256 rest))) in
+      let both : IsRun T (And N (HasType tc)) Nothing (Then P Q) (ys ++ zs) (vs ++ ws) (after c) whole =
+      run-then T (And N (HasType tc)) Nothing Nothing (both-kept N (HasType tc) (type-kept a.result) (type-kept tc)) P Q ys zs vs ws first (λ one. behind c one) x whole
+      (run-as T N (And N (HasType tc)) Nothing Nothing P P ys vs first x (λ J e. e.0) (λ J e. e) (λ i j e. e)
+      (within-run T N Nothing (IsStatement T a x) ys vs (judge_statement a (erased_statement x)) x at (p a (left-held v1 v2 256 rest))))
+      (run-as T (And N (HasType tc)) (And (And N (HasType tc)) Nothing) Nothing Nothing Q Q zs ws (behind c x) whole (λ J e. e.0) (λ J e. e) (λ i j e. e) other) in
+      within-run T N Nothing (Then (IsTested T c) (Then P Q)) (xs ++ ys ++ zs) (us ++ vs ++ ws) (lifted (checked (erased c)) >>= after) whole at
+      (run-three T N Nothing (Then (IsTested T c) (Then P Q)) xs ys zs us vs ws (lifted (checked (erased c)) >>= after) whole
+      (test-then N (type-kept a.result) c h.3.2 (left-held u (max v1 v2) 256 holds) (Then P Q) (ys ++ zs) (vs ++ ws) after whole both))
+      s k n count here w (leaving_known h.2, (h.0, h.3, (leaving_known h.1, (h.1, h.4, refl), (h.2, h.5, refl))), h.6) numbers uses room
 
   pub do-while-run : (x : TypedStatement) (at paren : Place) (c : TypedExpr) → IsStatementRun x → IsStatementRun (typed.DoWhile x at paren c)
   unfolding judge_statement
@@ -166,15 +178,19 @@ module _ (T : Table) (basic : IsBasic T) (exprs : AreExpressionsGiven T) (scopes
       let b : Around = in_a_loop a in
       let u = expr_holds (erased c) in
       let v = statement_holds (erased_statement x) in
-      let last : IsRun T (And N Nothing) Nothing (IsTested T c) (made_by c) (used_by T c) (lifted (checked (erased c)) >>= (λ test. tested at test (typed.DoWhile x at paren test))) (typed.DoWhile x at paren c) =
+      let P = Inside T (IsStatement T b x) in
+      let body = within at (judge_statement b (erased_statement x)) in
+      let rest : TypedStatement → UnitJudging TypedStatement = λ one. lifted (checked (erased c)) >>= (λ test. tested at test (typed.DoWhile one at paren test)) in
+      let last : IsRun T (And N Nothing) Nothing (IsTested T c) (made_by c) (used_by T c) (rest x) (typed.DoWhile x at paren c) =
       run-last T (And N Nothing) (HasType tc) Nothing (both-kept N Nothing (type-kept a.result) nothing-kept) (IsTested T c) (made_by c) (used_by T c) (lifted (checked (erased c)))
       (λ test. tested at test (typed.DoWhile x at paren test)) c (typed.DoWhile x at paren c)
       (run-as T Nothing (And N Nothing) (HasType tc) (HasType tc) (Among (IsTyped T c)) (IsTested T c) (made_by c) (used_by T c) (lifted (checked (erased c))) c (λ J e. tt) (λ J e. e)
-      (λ i j e. (e.0, e.1, e.3)) (dropped-run c (plain-droppable c h.2.2.plain) (right-held v u 256 holds)))
-      (λ r there e f. (tested-gives at c (typed.DoWhile x at paren c) r there f h.2.2.scalar, tt)) in
-      run-then T N Nothing Nothing (type-kept a.result) (IsStatement T b x) (IsTested T c) (made_by_statement x) (made_by c) (used_by_statement T x) (used_by T c) (judge_statement b (erased_statement x))
-      (λ one. lifted (checked (erased c)) >>= (λ test. tested at test (typed.DoWhile one at paren test))) x (typed.DoWhile x at paren c) (p b (left-held v u 256 holds)) last
-      s k n count here w h numbers uses room
+      (λ i j e. (e.0, e.1, e.3)) (dropped-run c (plain-droppable c h.3.2.plain) (right-held v u 256 holds)))
+      (λ r there e f. (tested-gives at c (typed.DoWhile x at paren c) r there f h.3.2.scalar, tt)) in
+      within-run T N Nothing (Then P (IsTested T c)) (made_by_statement x ++ made_by c) (used_by_statement T x ++ used_by T c) (body >>= rest) (typed.DoWhile x at paren c) at
+      (run-then T N Nothing Nothing (type-kept a.result) P (IsTested T c) (made_by_statement x) (made_by c) (used_by_statement T x) (used_by T c) body rest x (typed.DoWhile x at paren c)
+      (within-run T N Nothing (IsStatement T b x) (made_by_statement x) (used_by_statement T x) (judge_statement b (erased_statement x)) x at (p b (left-held v u 256 holds))) last)
+      s k n count here w (h.1, (leaving_known h.0, (h.0, h.2, refl), h.3), h.4) numbers uses room
 
   jump_gives : (at : Place) (allowed : Bool) (one : TypedStatement) (r : UnitState) → allowed ≡ true → jump at allowed one r ≡ Gives one r
   unfolding jump

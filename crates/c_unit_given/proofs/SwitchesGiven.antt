@@ -1,5 +1,5 @@
 -- `switch`, whose labels are in a scope of their own, is given.
-use Rattle.std.proofs.Common.{◌≡◌, ◌≤◌, true, not, Option, Some, refl, ap, sym, subst, ◌∙◌}
+use Rattle.std.proofs.Common.{◌≡◌, ◌≤◌, ◌++◌, true, not, Option, Some, refl, ap, sym, subst, ◌∙◌}
 use Rattle.cc_base.specs.declared.number.TypeId.{TypeId}
 use Rattle.cc_base.specs.declared.place.Place.{Place}
 use Rattle.cc_base.specs.declared.fault.Rule.TheVariants as rule
@@ -12,7 +12,6 @@ use Rattle.c_tree.specs.TypedParts.{made_by, made_by_block_items, type_of}
 use Rattle.integers.specs.Arithmetic.{IntegerType}
 use Rattle.c_typing.specs.Checking.{checked}
 use Rattle.c_typing.specs.Conversions.{bare, IsPlain, to_integer}
-use Rattle.c_typing.specs.Declaring.{entered, left}
 use Rattle.c_typing.specs.Integers.{promoted}
 use Rattle.c_typing.specs.Judging.{integer_type}
 use Rattle.c_typing.specs.Rules.{IsPromoted}
@@ -30,17 +29,16 @@ use Rattle.c_typing_exact.proofs.Unbroken.{passes_one, off}
 use Rattle.c_rules_alike.proofs.PartsThere.{checked-there}
 use Rattle.c_type_order.specs.TypesUsed.{used_by}
 use Rattle.c_unit_typing.specs.Holding.{expr_holds, block_items_holds}
-use Rattle.c_unit_typing.specs.StatementJudging.{promoted_by, promotion, switched, judge_statement, judge_block_items}
+use Rattle.c_unit_typing.specs.StatementJudging.{promoted_by, promotion, switched, within, judge_statement, judge_block_items}
 use Rattle.c_unit_typing.specs.UnitJudging.{UnitState, UnitJudging, Gives, known_of, pure, lifted, ◌>>=◌}
 use Rattle.c_unit_typing.specs.UnitRefusals.{switch_tests}
-use Rattle.c_unit_typing.specs.Units.{Around, with_scopes, in_a_switch, AreBlockItems, AreDifferent, labels_of, defaults_in}
+use Rattle.c_unit_typing.specs.Units.{Around, with_scopes, leaving_known, in_a_switch, AreBlockItems, AreDifferent, labels_of, defaults_in}
 use Rattle.c_unit_given.proofs.UnitGiven.{IsUnitHere, IsRun, Nothing, And, HasType, Always, AreSizesWritten, AreScopesKept, AreExpressionsGiven, AreDeclaratorsGiven}
 use Rattle.c_unit_typing.specs.TypesUsed.{used_by_block_items}
 use Rattle.c_unit_given.proofs.BlockItemsGiven.{NeedsOf, AreBlockItemsRun}
 use Rattle.c_unit_given.proofs.DeclarationsGiven.{left-held, right-held}
-use Rattle.c_unit_given.proofs.LoopsGiven.{next-same}
-use Rattle.c_unit_given.proofs.Runs.{Among, obeying-is, run-then, run-last, run-first, run-as, run-lifted, type-kept, both-kept}
-use Rattle.c_unit_given.proofs.ScopesGiven.{Inside, bind-assoc, scoped-run}
+use Rattle.c_unit_given.proofs.Runs.{Among, Then, obeying-is, run-then, run-last, run-first, run-as, run-lifted, type-kept, both-kept}
+use Rattle.c_unit_given.proofs.ScopesGiven.{Inside, within-run}
 use Rattle.c_unit_given.proofs.StatementsGiven.{IsStatementRun}
 
 -- What a `switch` is on
@@ -96,10 +94,10 @@ module _ (T : Table) (basic : IsBasic T) (exprs : AreExpressionsGiven T) (scopes
     abbrev Before : Table → Type 0
     Before = And (And (HasType a.result) (HasType (type_of (bare e)))) (HasType (type_of e))
 
-    -- the block, and then the rule of a `switch`
+    -- the block, in its scope, and then the rule of a `switch`
     items_run : AreBlockItemsRun T basic exprs scopes decls sizes items → AreDifferent (labels_of items) → defaults_in items ≤ 1 → block_items_holds (erased_block_items items) ≤ 256
-        → IsRun T Before Nothing (AreBlockItems T (in_a_switch a) on items) (made_by_block_items items) (used_by_block_items T items)
-        (judge_block_items (in_a_switch a) on (erased_block_items items) >>= (λ list. switched at (bare e) (typed.Switch at paren e brace list))) whole
+        → IsRun T Before Nothing (Inside T (AreBlockItems T (in_a_switch a) on items)) (made_by_block_items items) (used_by_block_items T items)
+        (within brace (judge_block_items (in_a_switch a) on (erased_block_items items)) >>= (λ list. switched at (bare e) (typed.Switch at paren e brace list))) whole
     items_run p labels defaults holds =
         let b : Around = in_a_switch a in
         let N = NeedsOf T basic exprs scopes decls sizes b on in
@@ -110,25 +108,10 @@ module _ (T : Table) (basic : IsBasic T) (exprs : AreExpressionsGiven T) (scopes
         let keep =
         both-kept (And (HasType a.result) (HasType (type_of (bare e)))) (HasType (type_of e)) (both-kept (HasType a.result) (HasType (type_of (bare e))) (type-kept a.result) (type-kept (type_of (bare e))))
         (type-kept (type_of e)) in
-        run-last T Before Nothing Nothing keep P xs us m (λ list. switched at (bare e) (typed.Switch at paren e brace list)) items whole
-        (run-as T N Before Nothing Nothing P P xs us m items (λ J w. (w.0.0, w.1)) (λ J w. w) (λ i j w. w) (p b on labels defaults holds))
+        run-last T Before Nothing Nothing keep (Inside T P) xs us (within brace m) (λ list. switched at (bare e) (typed.Switch at paren e brace list)) items whole
+        (run-as T N Before Nothing Nothing (Inside T P) (Inside T P) xs us (within brace m) items (λ J w. (w.0.0, w.1)) (λ J w. w) (λ i j w. w)
+        (within-run T N Nothing P xs us m items brace (p b on labels defaults holds)))
         (λ r here w v. (switched_gives T basic at e h whole r here w.0.1, tt))
-
-    -- what ends the scope stands behind all that it holds
-    inner_run : AreBlockItemsRun T basic exprs scopes decls sizes items → AreDifferent (labels_of items) → defaults_in items ≤ 1 → block_items_holds (erased_block_items items) ≤ 256
-        → IsRun T Before Nothing (Inside T (AreBlockItems T (in_a_switch a) on items)) (made_by_block_items items) (used_by_block_items T items)
-        (lifted entered >>= (λ inside. judge_block_items (in_a_switch a) on (erased_block_items items)
-        >>= (λ list. switched at (bare e) (typed.Switch at paren e brace list) >>= (λ y. lifted (left brace y))))) whole
-    inner_run p labels defaults holds s k n count here w g numbers uses room =
-        let m : UnitJudging TypedBlockItems = judge_block_items (in_a_switch a) on (erased_block_items items) in
-        let rule_of : TypedBlockItems → UnitJudging TypedStatement = λ list. switched at (bare e) (typed.Switch at paren e brace list) in
-        let end : TypedStatement → UnitJudging TypedStatement = λ y. lifted (left brace y) in
-        let one =
-        scoped-run T Before Nothing (AreBlockItems T (in_a_switch a) on items) (made_by_block_items items) (used_by_block_items T items) (m >>= rule_of) whole brace (λ (y : TypedStatement). y)
-        (items_run p labels defaults holds) s k n count here w g numbers uses room in
-        let same =
-        next-same T basic exprs scopes (lifted entered s) (λ inside. m >>= (λ list. rule_of list >>= end)) (λ inside. (m >>= rule_of) >>= end) (λ inside q. sym (bind-assoc (m q) rule_of end)) in
-        record { after = one.after; gives = same ∙ one.gives; reached = one.reached; gains = one.gains }
 
   pub switch-run : (at paren : Place) (e : TypedExpr) (brace : Place) (items : TypedBlockItems) → AreBlockItemsRun T basic exprs scopes decls sizes items
       → IsStatementRun T basic exprs scopes (typed.Switch at paren e brace items)
@@ -147,13 +130,14 @@ module _ (T : Table) (basic : IsBasic T) (exprs : AreExpressionsGiven T) (scopes
       let v = block_items_holds (erased_block_items items) in
       let operand : IsPromoted T at e (type_of e) = h.3.operand in
       let one : TypedStatement = typed.Switch at paren e brace items in
-      let inner : TypedExpr → TypedExpr → UnitJudging TypedStatement = λ x y. lifted entered >>= (λ inside. judge_block_items b (Some (type_of y)) (erased_block_items items)
-      >>= (λ list. switched at x (typed.Switch at paren y brace list) >>= (λ z. lifted (left brace z)))) in
+      let inner : TypedExpr → TypedExpr → UnitJudging TypedStatement = λ x y. within brace (judge_block_items b (Some (type_of y)) (erased_block_items items))
+      >>= (λ list. switched at x (typed.Switch at paren y brace list)) in
       let rest : IsRun T (And N M) Nothing Q ys vs (promotion at c >>= inner c) one =
       run-first T (And N M) (HasType (type_of e)) Nothing Q ys vs (promotion at c) (inner c) e one
       (λ r there i. (promotion_gives T basic at e operand r there i.1, promoted_there T basic at e operand r.table there.here.known.basic))
-      (inner_run a at paren e brace items operand p h.3.labels h.3.defaults (right-held u v 256 holds)) in
-      run-then T N M Nothing (type-kept a.result) (Among (IsTyped T e)) Q xs ys us vs (lifted (checked (erased e))) (λ x. promotion at x >>= inner x) c one
+      (items_run a at paren e brace items operand p h.3.labels h.3.defaults (right-held u v 256 holds)) in
+      within-run T N Nothing (Then (Among (IsTyped T e)) Q) (xs ++ ys) (us ++ vs) (lifted (checked (erased e)) >>= (λ x. promotion at x >>= inner x)) one at
+      (run-then T N M Nothing (type-kept a.result) (Among (IsTyped T e)) Q xs ys us vs (lifted (checked (erased e))) (λ x. promotion at x >>= inner x) c one
       (run-as T Nothing N M M (Among (IsTyped T e)) (Among (IsTyped T e)) xs us (lifted (checked (erased e))) c (λ J i. tt) (λ J i. i) (λ i j g. g)
-      (value_run e operand.operand.plain (left-held u v 256 holds))) rest
-      s k n count here w (with_scopes (known_of s) h.0, (h.0, h.2, refl), (h.1, h.4, h.5)) numbers uses room
+      (value_run e operand.operand.plain (left-held u v 256 holds))) rest)
+      s k n count here w (leaving_known h.1, (with_scopes (known_of s) h.0, (h.0, h.2, refl), (h.1, h.4, refl)), h.5) numbers uses room

@@ -19,7 +19,7 @@ use Rattle.c_typing.specs.Declaring.{declarator_name}
 use Rattle.c_typing.specs.Shapes.{is_scalar_shape}
 use Rattle.c_unit_typing.specs.Holding.{expr_holds, declarator_holds, initialiser_holds, items_holds, init_declarators_holds, declaration_holds}
 use Rattle.c_unit_typing.specs.Initialisers.{Slot, items_count}
-use Rattle.c_unit_typing.specs.InitialiserJudging.{item_slot, text, initialised, value_for, value_or_text, excess, judge_plain, with_item, slot_type, judge_initialiser, judge_items}
+use Rattle.c_unit_typing.specs.InitialiserJudging.{judge_excess, judge_all_excess, excess_braces, item_slot, text, initialised, value_for, value_or_text, excess, judge_plain, with_item, slot_type, judge_initialiser, judge_items}
 use Rattle.c_unit_typing.specs.DeclarationJudging.{new_in, new_name, linked_name, object_name, count_object, lasting, new_static, declare_object, declare_by, declare, named, judge_named, defining, judge_init_declarators, is_none, judge_declaration}
 use Rattle.c_unit_typing.specs.Units.{Storage, AsTypedef, storage_of}
 use Rattle.c_unit_limits.proofs.KeptTypes.{count_cells-kept}
@@ -66,13 +66,30 @@ with_item_held list None one = unit-stop (_) 0
 with_item_held list (Some slot) one = unit-pure (_)
 
 mutual
+  unfolding judge_excess judge_all_excess
+
+  judge_excess_held : (i : tree.Initialiser) → IsUnitHeld (judge_excess i) (initialiser_holds i)
+  judge_excess_held (tree.Value e) = unit-first (lifted-held (checked-held e)) (λ v. unit-pure true)
+  judge_excess_held (tree.Listed brace items comma) = all_excess_held items
+
+  all_excess_held : (all : tree.Items) → IsUnitHeld (judge_all_excess all) (items_holds all)
+  all_excess_held tree.NoItem = unit-pure true
+  all_excess_held (tree.AndItem all i) = unit-bind (all_excess_held all) (λ before. judge_excess_held i)
+  all_excess_held (tree.AndMemberDesignator all at) = unit-stop (_) (_)
+  all_excess_held (tree.AndIndexDesignator all at) = unit-stop (_) (_)
+
+excess_braces_held : (brace : Place) (items : tree.Items) → IsUnitHeld (excess_braces brace items) (items_holds items)
+unfolding excess_braces
+excess_braces_held brace items = unit-first (all_excess_held items) (λ all. unit-stop (_) 0)
+
+mutual
   unfolding judge_initialiser judge_items
 
   initialiser_held : (i : tree.Initialiser) (constant : Bool) (at : Place) (to : Option TypeId) (single : Bool)
       → IsUnitHeld (judge_initialiser constant i at to single) (initialiser_holds i)
   initialiser_held (tree.Value e) constant at to single = plain_held constant e at to
-  initialiser_held (tree.Listed brace items comma) constant at None single = unit-stop (_) (_)
-  initialiser_held (tree.Listed brace items comma) constant at (Some t) true = unit-stop (_) (_)
+  initialiser_held (tree.Listed brace items comma) constant at None single = excess_braces_held brace items
+  initialiser_held (tree.Listed brace items comma) constant at (Some t) true = excess_braces_held brace items
   initialiser_held (tree.Listed brace items comma) constant at (Some t) false =
       unit-last (unit-asked (_)) (λ text. unit-first (items_held items constant text t) (λ list. unit-pure (typed.Listed brace list comma t)))
 

@@ -15,7 +15,7 @@ use Rattle.c_tree.specs.TypedParts.{specified_type}
 use Rattle.c_typing.specs.Checking.{checked}
 use Rattle.c_typing.specs.Declaring.{declarator_name}
 use Rattle.c_unit_typing.specs.Holding.{expr_holds, specifiers_holds, declarator_holds, optional_holds, statement_holds, block_items_holds, unit_holds}
-use Rattle.c_unit_typing.specs.StatementJudging.{dropped, returned, promotion, tested, tested_or_none, switched, labelled, case_label, default_label, jump, judge_statement, judge_block_items}
+use Rattle.c_unit_typing.specs.StatementJudging.{dropped, returned, promotion, tested, tested_or_none, switched, labelled, case_label, default_label, jump, within, judge_statement, judge_block_items}
 use Rattle.c_unit_typing.specs.DefinitionJudging.{declare_parameter, declare_parameters, counted, defined, body, defined_as, judge_definition, judge_unit}
 use Rattle.c_unit_typing.specs.Units.{Around, in_a_loop, in_a_switch}
 use Rattle.c_unit_typing.specs.UnitJudging.{UnitJudging, pure, stop, lifted}
@@ -75,29 +75,35 @@ jump_held at allowed one = unit-known (λ q. unit-unless (_) (unit-pure one))
 
 -- Statements
 
+within_held : {A : Type 0} {go : UnitJudging A} {n : ℕ} (at : Place) → IsUnitHeld go n → IsUnitHeld (within at go) n
+unfolding within
+within_held at h = unit-last (lifted-kept entered-kept) (λ inside. unit-first h (λ one. lifted-kept (left-kept at one)))
+
 mutual
   unfolding judge_statement judge_block_items
 
   statement_held : (t : tree.Statement) (a : Around) → IsUnitHeld (judge_statement a t) (statement_holds t)
-  statement_held (tree.Block brace items) a =
-      unit-last (lifted-kept entered-kept) (λ inside. unit-first (items_held items a None) (λ list. lifted-kept (left-kept brace (_))))
+  statement_held (tree.Block brace items) a = within_held brace (unit-first (items_held items a None) (λ list. unit-pure (_)))
   statement_held (tree.Express e) a = unit-first (checked_held e) (λ v. unit-pure (_))
   statement_held tree.Empty a = unit-pure (_)
-  statement_held (tree.If at paren c s) a = unit-bind (checked_held c) (λ test. unit-first (statement_held s a) (λ one. tested_held at test (_)))
+  statement_held (tree.If at paren c s) a =
+      within_held at (unit-bind (checked_held c) (λ test. unit-first (within_held at (statement_held s a)) (λ one. tested_held at test (_))))
   statement_held (tree.IfElse at paren c s r) a =
-      unit-bind (checked_held c) (λ test. unit-bind (statement_held s a) (λ one. unit-first (statement_held r a) (λ other. tested_held at test (_))))
+      within_held at (unit-bind (checked_held c) (λ test. unit-bind (within_held at (statement_held s a)) (λ one.
+      unit-first (within_held at (statement_held r a)) (λ other. tested_held at test (_)))))
   statement_held (tree.Switch at paren e brace items) a =
-      unit-bind (checked_held e) (λ c. unit-last (promotion_held at c) (λ on. unit-last (lifted-kept entered-kept) (λ inside.
-      unit-first (items_held items (in_a_switch a) (_)) (λ list. unit-first (switched_held at c (_)) (λ whole. lifted-kept (left-kept brace whole))))))
-  statement_held (tree.While at paren c s) a = unit-bind (checked_held c) (λ test. unit-first (statement_held s (in_a_loop a)) (λ one. tested_held at test (_)))
-  statement_held (tree.DoWhile s at paren c) a = unit-bind (statement_held s (in_a_loop a)) (λ one. unit-first (checked_held c) (λ test. tested_held at test (_)))
+      within_held at (unit-bind (checked_held e) (λ c. unit-last (promotion_held at c) (λ on.
+      unit-first (within_held brace (items_held items (in_a_switch a) (_))) (λ list. switched_held at c (_)))))
+  statement_held (tree.While at paren c s) a =
+      within_held at (unit-bind (checked_held c) (λ test. unit-first (within_held at (statement_held s (in_a_loop a))) (λ one. tested_held at test (_))))
+  statement_held (tree.DoWhile s at paren c) a =
+      within_held at (unit-bind (within_held at (statement_held s (in_a_loop a))) (λ one. unit-first (checked_held c) (λ test. tested_held at test (_))))
   statement_held (tree.For at paren first test step s) a =
-      unit-bind (dropped_held first) (λ before. unit-bind (dropped_held test) (λ c. unit-bind (dropped_held step) (λ after.
-      unit-first (statement_held s (in_a_loop a)) (λ one. tested_or_none_held at c (_)))))
+      within_held at (unit-bind (dropped_held first) (λ before. unit-bind (dropped_held test) (λ c. unit-bind (dropped_held step) (λ after.
+      unit-first (within_held at (statement_held s (in_a_loop a))) (λ one. tested_or_none_held at c (_))))))
   statement_held (tree.ForDeclaration at paren d test step s) a =
-      unit-last (lifted-kept entered-kept) (λ inside.
-      unit-bind (declaration-held false d) (λ before. unit-bind (dropped_held test) (λ c. unit-bind (dropped_held step) (λ after.
-      unit-first (statement_held s (in_a_loop a)) (λ one. unit-first (tested_or_none_held at c (_)) (λ whole. lifted-kept (left-kept at whole)))))))
+      within_held at (unit-bind (declaration-held false d) (λ before. unit-bind (dropped_held test) (λ c. unit-bind (dropped_held step) (λ after.
+      unit-first (within_held at (statement_held s (in_a_loop a))) (λ one. tested_or_none_held at c (_))))))
   statement_held (tree.Break at) a = jump_held at (_) (_)
   statement_held (tree.Continue at) a = jump_held at (_) (_)
   statement_held (tree.Return at e) a = unit-first (returned_held at (_) e) (λ v. unit-pure (_))

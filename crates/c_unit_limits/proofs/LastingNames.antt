@@ -136,12 +136,12 @@ object_counted linked name t home.None b s r g = never-gives b (TooLarge name.pl
 
 -- Typedefs and functions have no home
 
-typedef_own : (T : Table) (h : Home) (name : Name) (t : TypeId) (k k' : Known) → IsTypedefDeclared h name t k k' → own_bytes T h t ≡ 0
-typedef_own T home.None name t k k' d = refl
-typedef_own T (home.Static n) name t k k' d = absurd d
-typedef_own T (home.Known n) name t k k' d = absurd d
-typedef_own T (home.Local n) name t k k' d = absurd d
-typedef_own T (home.Parameter n) name t k k' d = absurd d
+typedef_own : (T : Table) (file : Bool) (h : Home) (name : Name) (t : TypeId) (k k' : Known) → IsTypedefDeclared file h name t k k' → own_bytes T h t ≡ 0
+typedef_own T file home.None name t k k' d = refl
+typedef_own T file (home.Static n) name t k k' d = absurd d
+typedef_own T file (home.Known n) name t k k' d = absurd d
+typedef_own T file (home.Local n) name t k k' d = absurd d
+typedef_own T file (home.Parameter n) name t k k' d = absurd d
 
 function_own : (T : Table) (h : Home) (name : Name) (t : TypeId) (k k' : Known) → IsFunctionDeclared T h name t k k' → own_bytes T h t ≡ 0
 function_own T home.None name t k k' d = refl
@@ -182,7 +182,7 @@ name_counted : (file : Bool) (storage : Storage) (name : Identifier) (t : TypeId
 unfolding declare
 name_counted file AsTypedef name t h b s r there g =
     let m = new-name-same name (declared.Typedef t) b s r g in
-    record { table = m.table; counts = λ T x other k k' d. none_counted s r (own_bytes T h t) m.globals (typedef_own T h other t k k' d) }
+    record { table = m.table; counts = λ T x other k k' d. none_counted s r (own_bytes T h t) m.globals (typedef_own T file h other t k k' d) }
 name_counted file storage name t h b s r there g =
     let c = ordinary_counted (is_function_shape (shape_at s.table t)) file storage (is_linked_object file storage) name t h b s r there refl g in
     record { table = c.table; counts = c.counts }

@@ -8,7 +8,7 @@ use Rattle.c_tree.specs.TypedTree.{TypedExpr, TypedForm, TypedInitDeclarators, T
 use Rattle.c_tree.specs.TypedParts.{type_of, specified_type, made_by, made_by_form, made_by_init_declarators, made_by_declaration, made_by_optional, made_by_statement, made_by_block_items, made_by_unit}
 use Rattle.c_typing.specs.Scopes.{Scopes, entering}
 use Rattle.c_typing.specs.Typing.{IsForm}
-use Rattle.c_unit_typing.specs.Units.{Known, Storage, Around, storage_of, with_scopes, entering_known, in_a_loop, in_a_switch, AreDeclarators, IsDeclaration, IsTested, IsTestedOrNone, IsStatement, AreBlockItems, with_parameters, IsUnitTyped}
+use Rattle.c_unit_typing.specs.Units.{Known, Storage, Around, storage_of, with_scopes, entering_known, leaving_known, in_a_loop, in_a_switch, AreDeclarators, IsDeclaration, IsTested, IsTestedOrNone, IsStatement, AreBlockItems, with_parameters, IsUnitTyped}
 use Rattle.c_unit_limits.proofs.LastingDeclarations.{alone-alike}
 use Rattle.c_unit_limits.proofs.LastingSteps.{dropped-alike, returned-alike, initialiser-alike}
 use Rattle.c_unit_limits.proofs.StaticsMade.{AreSized, nothing-sized, two-sized, value-alike, specifiers-alike, form-alike}
@@ -45,19 +45,21 @@ module _ (T : Table) (w : IsWellFormed T) where
     statement_sized (typed.Block brace items) a k k' h = items_sized items a None (entering_known k) h.0 h.1
     statement_sized (typed.Express e) a k k' h = (dropped-alike T w (Some e) k k' h).sized
     statement_sized typed.Empty a k k' h = nothing-sized T
-    statement_sized (typed.If at paren c s) a k k' h = two-sized T (tested_sized c k h.0 h.1) (statement_sized s a h.0 k' h.2)
+    statement_sized (typed.If at paren c s) a k k' h = two-sized T (tested_sized c (entering_known k) h.0 h.2) (statement_sized s a (entering_known h.0) h.1 h.3)
     statement_sized (typed.IfElse at paren c s r) a k k' h =
-        two-sized T (two-sized T (tested_sized c k h.0 h.2) (statement_sized s a h.0 h.1 h.3)) (statement_sized r a h.1 k' h.4)
+        two-sized T (two-sized T (tested_sized c (entering_known k) h.0 h.3) (statement_sized s a (entering_known h.0) h.1 h.4))
+        (statement_sized r a (entering_known (leaving_known h.1)) h.2 h.5)
     statement_sized (typed.Switch at paren e brace items) a k k' h =
-        two-sized T (value-alike T w e k.scopes h.0 h.2).sized (items_sized items (in_a_switch a) (Some (type_of e)) (entering_known (with_scopes k h.0)) h.1 h.4)
-    statement_sized (typed.While at paren c s) a k k' h = two-sized T (tested_sized c k h.0 h.1) (statement_sized s (in_a_loop a) h.0 k' h.2)
-    statement_sized (typed.DoWhile s at paren c) a k k' h = two-sized T (statement_sized s (in_a_loop a) k h.0 h.1) (tested_sized c h.0 k' h.2)
+        two-sized T (value-alike T w e (entering k.scopes) h.0 h.2).sized (items_sized items (in_a_switch a) (Some (type_of e)) (entering_known (with_scopes k h.0)) h.1 h.4)
+    statement_sized (typed.While at paren c s) a k k' h = two-sized T (tested_sized c (entering_known k) h.0 h.2) (statement_sized s (in_a_loop a) (entering_known h.0) h.1 h.3)
+    statement_sized (typed.DoWhile s at paren c) a k k' h =
+        two-sized T (statement_sized s (in_a_loop a) (entering_known (entering_known k)) h.0 h.2) (tested_sized c (leaving_known h.0) h.1 h.3)
     statement_sized (typed.For at paren first test step s) a k k' h =
-        two-sized T (two-sized T (two-sized T (dropped-alike T w first k h.0 h.3).sized (tested_or_none_sized test h.0 h.1 h.4)) (dropped-alike T w step h.1 h.2 h.5).sized)
-        (statement_sized s (in_a_loop a) h.2 k' h.6)
+        two-sized T (two-sized T (two-sized T (dropped-alike T w first (entering_known k) h.0 h.4).sized (tested_or_none_sized test h.0 h.1 h.5)) (dropped-alike T w step h.1 h.2 h.6).sized)
+        (statement_sized s (in_a_loop a) (entering_known h.2) h.3 h.7)
     statement_sized (typed.ForDeclaration at paren d test step s) a k k' h =
         two-sized T (two-sized T (two-sized T (declaration_sized false d (entering_known k) h.0 h.4) (tested_or_none_sized test h.0 h.1 h.5)) (dropped-alike T w step h.1 h.2 h.6).sized)
-        (statement_sized s (in_a_loop a) h.2 h.3 h.7)
+        (statement_sized s (in_a_loop a) (entering_known h.2) h.3 h.7)
     statement_sized (typed.Break at) a k k' h = nothing-sized T
     statement_sized (typed.Continue at) a k k' h = nothing-sized T
     statement_sized (typed.Return at e) a k k' h = (returned-alike T w at a.result e k k' h).sized

@@ -108,12 +108,16 @@ module _ (J T : Table) (x : IsExtended J T) (b : IsBasic J) where
       → declared_tests J k file storage initialised name t at ≡ declared_tests T k file storage initialised name t at
   declared-over k file storage initialised name t at n h =
       let what = declared_as-over storage t h in
-      let again : is_redeclared J k (has_linkage file storage (declared_as J storage t)) initialised name (declared_as J storage t)
-      ≡ is_redeclared T k (has_linkage file storage (declared_as T storage t)) initialised name (declared_as T storage t) =
-      redeclared-over k (has_linkage file storage (declared_as J storage t)) initialised name (declared_as J storage t) n (declared_as-there storage t h)
-      ∙ ap (λ (w : Declared). is_redeclared T k (has_linkage file storage w) initialised name w) what in
+      let is : Declared = declared_as J storage t in
+      let there = declared_as-there storage t h in
+      let again : is_redeclared J k (has_linkage file storage is) (initialised && is_object is) name is
+      ≡ is_redeclared T k (has_linkage file storage (declared_as T storage t)) (initialised && is_object (declared_as T storage t)) name (declared_as T storage t) =
+      redeclared-over k (has_linkage file storage is) (initialised && is_object is) name is n there
+      ∙ ap (λ (w : Declared). is_redeclared T k (has_linkage file storage w) (initialised && is_object w) name w) what in
+      let taken : conflicts_with_runtime J (runtime_of name) is ≡ conflicts_with_runtime T (runtime_of name) (declared_as T storage t) =
+      runtime-over (runtime_of name) is there ∙ ap (λ (w : Declared). conflicts_with_runtime T (runtime_of name) w) what in
       let complete = TypesAlike.complete-over J T x b k.scopes t h in
-      λ i. broken_at rule.Redeclared at (again i)
+      λ i. broken_at rule.Redeclared at (again i || (file && taken i))
       ∷ broken_at rule.Incomplete at (is_object (what i) && not (complete i))
       ∷ broken_at rule.Mismatch at (initialised && not (is_object (what i)))
       ∷ []

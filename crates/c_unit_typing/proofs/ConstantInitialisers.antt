@@ -30,7 +30,7 @@ use Rattle.c_unit_typing.specs.InitialiserJudging.{text_tests, text, initialised
 use Rattle.c_unit_typing.specs.Linkage.{Linkage}
 use Rattle.c_unit_typing.specs.UnitJudged.{state_of, AreItemsJudged}
 use Rattle.c_unit_typing.specs.UnitJudging.{UnitState, Gives, next, pure, obeying, lifted}
-use Rattle.c_unit_typing.proofs.JudgedInitialisers.{slot_is, initialiser-judged, items-judged}
+use Rattle.c_unit_typing.proofs.JudgedInitialisers.{braces-never, slot_is, initialiser-judged, items-judged}
 use Rattle.c_unit_typing.proofs.KeptInitialisers.{complete-kept, slot-complete}
 use Rattle.c_unit_typing.proofs.UnitOutcomes.{never-gives, bind-gives, unless-gives, given-same, lifted-gives}
 
@@ -170,7 +170,7 @@ mutual
 
   pub initialiser-constant : (i : tree.Initialiser) → IsConstantAs i
   initialiser-constant (tree.Value e) at t single one s r k c h = plain-constant e at t one s r h
-  initialiser-constant (tree.Listed brace items comma) at t true one s r k c h = never-gives one (Refused brace rule.Mismatch) s r h
+  initialiser-constant (tree.Listed brace items comma) at t true one s r k c h = braces-never brace items one s r h
   initialiser-constant (tree.Listed brace items comma) at t false one s r k c h =
       let text = is_only_literal items && is_char_array s.table t in
       let two = bind-gives (judge_items true items text t s) (λ list. pure (typed.Listed brace list comma t)) one r h in

@@ -1,5 +1,5 @@
 -- A name is declared as the rules say, where its own are not broken: a typedef, a function, and each kind of object.
-use Rattle.std.proofs.Common.{◌≡◌, ℕ, ◌<◌, ◌==◌, Bool, true, false, ◌&&◌, ◌||◌, List, [], ◌∷◌, ◌++◌, Option, Some, None, refl, ap, sym, subst, ◌∙◌, ◌⊎◌, inl, inr, if◌then◌else◌, arith}
+use Rattle.std.proofs.Common.{◌≡◌, ℕ, ◌<◌, ◌==◌, Bool, true, false, ◌&&◌, ◌||◌, List, [], ◌∷◌, ◌++◌, Option, Some, None, refl, ap, sym, subst, ◌∙◌, ◌⊎◌, inl, inr, if◌then◌else◌, IsTrue, MatchOption, arith}
 use Rattle.std.proofs.lemmas.Bool.Decides.{nat_tests}
 use Rattle.std.proofs.lemmas.Option.{none-some}
 use Rattle.cc_base.specs.declared.number.NodeId.{NodeId}
@@ -9,11 +9,13 @@ use Rattle.c_tree.specs.declared.leaf.Identifier.{Identifier}
 use Rattle.c_tree.specs.declared.typed_word.Home.{Home}
 use Rattle.c_tree.specs.declared.typed_word.Home.TheVariants as home
 use Rattle.c_tree.specs.declared.typed_word.Runtime.{Runtime}
-use Rattle.runtime_calls.specs.Prototypes.{runtime_of}
+use Rattle.runtime_calls.specs.Prototypes.{IsNamed, IsNoName, runtime_of}
+use Rattle.runtime_calls.proofs.Found.{runtime_of-exact}
 use Rattle.c_typing.specs.declared.declared.Declared.{Declared}
 use Rattle.c_typing.specs.declared.declared.Declared.TheVariants as declared
 use Rattle.c_typing.specs.Scopes.{Name, here, entry_of, is_complete_at}
 use Rattle.c_typing.specs.Shapes.{is_function_shape}
+use Rattle.c_typing.specs.Tests.{has_some}
 use Rattle.c_typing_laws.proofs.ConstructLaws.{not_false, or_left, or_right, either_false}
 use Rattle.c_typing_laws.proofs.ExtensionLaws.{no_true, complete_kept}
 use Rattle.c_unit_typing.specs.DeclarationJudging.{is_linked_object}
@@ -21,7 +23,7 @@ use Rattle.c_unit_typing.specs.Initialisers.{with_home}
 use Rattle.c_unit_typing.specs.Units.{Known, Storage, Unstored, AsTypedef, AsExtern, AsStatic, AsAutomatic, is_one_of, is_linked_home, IsLinkedHome, IsLinkedObject, IsBlockObject, IsObjectDeclared, IsOrdinaryDeclared, IsNameDeclared}
 use Rattle.c_unit_typing.specs.UnitJudged.{IsUnitKnown, UnitGoesOn, OverLater}
 use Rattle.c_unit_typing.specs.UnitJudging.{UnitState, known_of}
-use Rattle.c_unit_typing.specs.UnitRefusals.{conflicts, conflicts_with_runtime, declared_as, has_linkage, is_unlinked, is_redeclared, is_lasting}
+use Rattle.c_unit_typing.specs.UnitRefusals.{conflicts, conflicts_with_runtime, declared_as, has_linkage, is_unlinked, is_redeclared, is_taken_by_runtime, is_lasting}
 use Rattle.c_unit_typing.proofs.DeclaredAgain.{runtime-agrees, object-agrees, function-agrees}
 use Rattle.c_unit_typing.proofs.NameSteps.{here-there, linked-there, home-own, named_state, linked_state, static_state, named-goes, linked-goes, static-goes}
 use Rattle.c_unit_typing.proofs.UnitStates.{unit-on}
@@ -113,6 +115,24 @@ linked_lasts false Unstored h = no_true h
 linked_lasts false AsStatic h = no_true h
 linked_lasts false AsAutomatic h = no_true h
 
+-- A name that is none of the six
+
+pub no-runtime : (name : Name) → has_some (runtime_of name) ≡ false → IsNoName name
+no-runtime name h = by (runtime_of name) h (runtime_of-exact name)
+  where
+    by : (o : Option Runtime) → has_some o ≡ false → MatchOption o (IsNoName name) (IsNamed name) → IsNoName name
+    by None g m = m
+    by (Some function) g m = no_true (sym g)
+
+-- at file scope a typedef has no such name
+pub typedef-own : (T : Table) (file : Bool) (name : Name) (t : TypeId) → is_taken_by_runtime T file name (declared.Typedef t) ≡ false → IsTrue file → IsNoName name
+typedef-own T true name t h file = no-runtime name (none (runtime_of name) h)
+  where
+    none : (o : Option Runtime) → conflicts_with_runtime T o (declared.Typedef t) ≡ false → has_some o ≡ false
+    none None g = refl
+    none (Some function) g = no_true (sym g)
+typedef-own T false name t h file = no_true file
+
 -- Homes
 
 -- an object's home: of what lasts, or of a call
@@ -190,13 +210,13 @@ unlinked n m None fresh e q = no_true q
 module _ (file : Bool) (storage : Storage) (initialised : Bool) (name : Identifier) (t : TypeId) (s : UnitState) (k : IsUnitKnown s) (there : IsType s.table t) where
   -- a typedef's name
 
-  pub typedef-named : (r : UnitState) → storage ≡ AsTypedef → (initialised && true) ≡ false → here s.seen.scopes.levels name.bytes ≡ None
+  pub typedef-named : (r : UnitState) → storage ≡ AsTypedef → (initialised && true) ≡ false → (IsTrue file → IsNoName name.bytes) → here s.seen.scopes.levels name.bytes ≡ None
       → r ≡ named_state s name.bytes (declared.Typedef t) → IsNamedAs file storage initialised name.bytes t home.None s r
-  typedef-named r is plain none made =
+  typedef-named r is plain own none made =
       let after : UnitState = named_state s name.bytes (declared.Typedef t) in
       subst (λ (q : UnitState). IsNamedAs file storage initialised name.bytes t home.None s q) (sym made) (record {
         typed = λ T x. subst (λ (w : Storage). IsNameDeclared T file w home.None name.bytes t (known_of s) (known_of after)) (sym is)
-            (after.seen.scopes, record { fresh = none; after = refl }, refl);
+            (after.seen.scopes, record { fresh = none; after = refl }, refl, own);
         table = refl;
         node = refl;
         goes = named-goes name.bytes (declared.Typedef t) s k there;
@@ -209,7 +229,7 @@ module _ (file : Bool) (storage : Storage) (initialised : Bool) (name : Identifi
   -- a function
 
   pub function-named : (r : UnitState) → is_typedef storage ≡ false → is_function_shape (shape_at s.table t) ≡ true → (initialised && true) ≡ false
-      → IsNotAgain s.table (known_of s) initialised name.bytes (declared.Function t) → r ≡ linked_state s name.bytes (declared.Function t)
+      → IsNotAgain s.table (known_of s) (initialised && false) name.bytes (declared.Function t) → r ≡ linked_state s name.bytes (declared.Function t)
       → IsNamedAs file storage initialised name.bytes t home.None s r
   function-named r is shape plain again made =
       let after : UnitState = linked_state s name.bytes (declared.Function t) in

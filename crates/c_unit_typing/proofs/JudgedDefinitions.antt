@@ -1,5 +1,5 @@
 -- What judging gives for the definition of a function is well typed and erases to what was judged.
-use Rattle.std.proofs.Common.{◌≡◌, ℕ, nat_lt, Bool, true, false, not, ◌&&◌, ◌||◌, List, [], ◌∷◌, ◌++◌, Option, Some, None, MatchOption, refl, ap, sym, subst, ◌∙◌, ◌⊎◌, inl, inr, if◌then◌else◌, ◌<◌, ◌≤◌, arith}
+use Rattle.std.proofs.Common.{◌≡◌, ℕ, nat_lt, Bool, true, false, not, ◌&&◌, ◌||◌, List, [], ◌∷◌, ◌++◌, Option, Some, None, refl, ap, sym, subst, ◌∙◌, ◌⊎◌, inl, inr, if◌then◌else◌, ◌<◌, ◌≤◌, arith}
 use Rattle.std.proofs.lemmas.Bool.Decides.{nat_tests}
 use Rattle.cc_base.specs.declared.place.Place.{Place}
 use Rattle.cc_base.specs.declared.number.TypeId.{TypeId}
@@ -12,14 +12,12 @@ use Rattle.c_types.specs.Sameness.{IsSameType, is_same_type}
 use Rattle.c_tree.specs.declared.leaf.Identifier.{Identifier}
 use Rattle.c_tree.specs.declared.typed_word.Home.{Home}
 use Rattle.c_tree.specs.declared.typed_word.Home.TheVariants as home
-use Rattle.c_tree.specs.declared.typed_word.Runtime.{Runtime}
 use Rattle.c_tree.specs.Erasure.{erased_specifiers, erased_declarator, erased_block_items}
 use Rattle.c_tree.specs.Tree as tree
 use Rattle.c_tree.specs.TypedTree as typed
 use Rattle.c_tree.specs.TypedTree.{TypedSpecifiers, TypedForm, TypedDeclarator, TypedParameters, TypedBlockItems, TypedTranslationUnit}
 use Rattle.c_tree.specs.TypedParts.{Made, specified_type, declared_type, home_of_form, name_of_form, made_by_specifiers, made_by_declarator, made_by_block_items}
-use Rattle.runtime_calls.specs.Prototypes.{IsNamed, IsNoName, runtime_of}
-use Rattle.runtime_calls.proofs.Found.{runtime_of-exact}
+use Rattle.runtime_calls.specs.Prototypes.{IsNoName, runtime_of}
 use Rattle.c_typing.specs.declared.declared.Declared.{Declared}
 use Rattle.c_typing.specs.declared.declared.Declared.TheVariants as declared
 use Rattle.c_typing.specs.Declarators.{Written, taken_types}
@@ -54,7 +52,7 @@ use Rattle.c_unit_typing.specs.UnitRefusals.{conflicts, declared_as, is_function
 use Rattle.c_unit_typing.proofs.FunctionParameters.{IsFunctionWith, function-with, result-is, AreParametersThere, parameters-there, there-later, parameters-declared}
 use Rattle.c_unit_typing.proofs.JudgedDeclarations.{AreBaseJudged, base-judged, defined-goes}
 use Rattle.c_unit_typing.proofs.JudgedDeclarators.{IsFormKnown, form-known, named-form, form-later, makes-later}
-use Rattle.c_unit_typing.proofs.DeclaredNames.{IsNotAgain, not-again, is_typedef, declared-as, IsNamedAs, function-named}
+use Rattle.c_unit_typing.proofs.DeclaredNames.{IsNotAgain, not-again, no-runtime, is_typedef, declared-as, IsNamedAs, function-named}
 use Rattle.c_unit_typing.proofs.JudgedLabels.{items-on}
 use Rattle.c_unit_typing.proofs.JudgedStatements.{enter-judged, leave-judged, items-judged, result-kept}
 use Rattle.c_unit_typing.proofs.JudgedTests.{scopes-alone}
@@ -79,13 +77,6 @@ function_storage T storage t h = (refl, by (is_function_shape (shape_at T t)) h)
 no_typedef : (storage : Storage) → is_typedef storage ≡ false → storage ≡ AsTypedef → ⊥
 no_typedef storage n e = no_true (sym n ∙ ap is_typedef e)
 
-no_runtime : (name : Name) → has_some (runtime_of name) ≡ false → IsNoName name
-no_runtime name h = by (runtime_of name) h (runtime_of-exact name)
-  where
-    by : (o : Option Runtime) → has_some o ≡ false → MatchOption o (IsNoName name) (IsNamed name) → IsNoName name
-    by None g m = m
-    by (Some function) g m = no_true (sym g)
-
 -- what was tried of the name
 pub record IsFunctionName (T : Table) (k : Known) (storage : Storage) (written : Bool) (name : Name) (t : TypeId) : Type 0 where
   pub ordinary : is_typedef storage ≡ false
@@ -109,7 +100,7 @@ function_name T k storage written name t at h =
       parameters = and_left written (is_function_declared what) both;
       again = not-again T k true name (declared.Function t)
           (ap (λ (w : Declared). is_redeclared T k true true name w) (sym same) ∙ or_left (is_redeclared T k true true name what) (has_some (runtime_of name)) two.0);
-      own = no_runtime name (or_right (is_redeclared T k true true name what) (has_some (runtime_of name)) two.0);
+      own = no-runtime name (or_right (is_redeclared T k true true name what) (has_some (runtime_of name)) two.0);
     }
 
 -- the state once it is declared and defined

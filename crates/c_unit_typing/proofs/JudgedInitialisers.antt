@@ -33,7 +33,7 @@ use Rattle.c_typing_laws.proofs.JudgedAssignments.{moved-gives}
 use Rattle.c_typing_laws.proofs.JudgedWhole.{checked_value-judged}
 use Rattle.c_typing_laws.proofs.KnownStates.{stays, goes-on}
 use Rattle.c_unit_typing.specs.Initialisers.{Slot, slot_of_shape, char_count_of_shape, has_count, is_char_array, is_only_text, items_count, IsText, IsItemFor, IsSlot, IsInitialiser, AreItems}
-use Rattle.c_unit_typing.specs.InitialiserJudging.{text_tests, text, initialised, constant_tests, value_for, value_or_text, excess, judge_plain, is_only_literal, item_slot, slot_type, with_item, judge_initialiser, judge_items}
+use Rattle.c_unit_typing.specs.InitialiserJudging.{text_tests, text, initialised, constant_tests, value_for, value_or_text, judge_all_excess, excess, excess_braces, judge_plain, is_only_literal, item_slot, slot_type, with_item, judge_initialiser, judge_items}
 use Rattle.c_unit_typing.specs.UnitJudged.{state_of, IsInitialiserJudged, AreItemsJudged}
 use Rattle.c_unit_typing.specs.UnitJudging.{UnitState, Gives, Stops, next, pure, obeying, lifted}
 use Rattle.c_unit_typing.proofs.KeptInitialisers.{when-some, complete-in, slot-complete, slot-kept, scalar-same, complete-kept, is_chars-same, items-kept}
@@ -188,12 +188,18 @@ excess-never at e one s r h =
     let two = bind-gives (lifted (checked e) s) (λ v. λ q. Stops (Refused at rule.Mismatch) q) one r h in
     never-gives one (Refused at rule.Mismatch) two.1 r two.3
 
+pub braces-never : {P : Type 0} (brace : Place) (items : tree.Items) (one : TypedInitialiser) (s r : UnitState) → excess_braces brace items s ≡ Gives one r → P
+unfolding excess_braces
+braces-never brace items one s r h =
+    let two = bind-gives (judge_all_excess items s) (λ all. λ q. Stops (Refused brace rule.Mismatch) q) one r h in
+    never-gives one (Refused brace rule.Mismatch) two.1 r two.3
+
 -- more than there is room for is never given
 pub none-never : {P : Type 0} (constant : Bool) (i : tree.Initialiser) (at : Place) (single : Bool) (one : TypedInitialiser) (s r : UnitState)
     → judge_initialiser constant i at None single s ≡ Gives one r → P
 unfolding judge_initialiser judge_plain
 none-never constant (tree.Value e) at single one s r h = excess-never at e one s r h
-none-never constant (tree.Listed brace items comma) at single one s r h = never-gives one (Refused brace rule.Mismatch) s r h
+none-never constant (tree.Listed brace items comma) at single one s r h = braces-never brace items one s r h
 
 -- Braces
 
@@ -305,7 +311,7 @@ single-item constant (tree.Value e) at t true one s r k c n h =
     let j = plain-judged constant e at t one s r k c h in
     subst (λ (f : Bool). IsItemFor f one) (scalar-same s.table r.table j.judged.goes.extends k.basic t c ∙ n refl) j.item
 single-item constant (tree.Value e) at t false one s r k c n h = tt
-single-item constant (tree.Listed brace items comma) at t true one s r k c n h = never-gives one (Refused brace rule.Mismatch) s r h
+single-item constant (tree.Listed brace items comma) at t true one s r k c n h = braces-never brace items one s r h
 single-item constant (tree.Listed brace items comma) at t false one s r k c n h = tt
 
 -- the initialiser is judged so wherever it stands
@@ -347,7 +353,7 @@ mutual
 
   pub initialiser-judged : (i : tree.Initialiser) (constant : Bool) → IsJudgedAs constant i
   initialiser-judged (tree.Value e) constant at t single one s r k c h = (plain-judged constant e at t one s r k c h).judged
-  initialiser-judged (tree.Listed brace items comma) constant at t true one s r k c h = never-gives one (Refused brace rule.Mismatch) s r h
+  initialiser-judged (tree.Listed brace items comma) constant at t true one s r k c h = braces-never brace items one s r h
   initialiser-judged (tree.Listed brace items comma) constant at t false one s r k c h =
       let text = is_only_literal items && is_char_array s.table t in
       let two = bind-gives (judge_items constant items text t s) (λ list. pure (typed.Listed brace list comma t)) one r h in

@@ -1,5 +1,5 @@
 -- What judging gives for the name of a declarator: it is declared as the rules say.
-use Rattle.std.proofs.Common.{◌≡◌, ◌<◌, Bool, true, false, not, ◌&&◌, List, [], ◌∷◌, Option, Some, None, refl, ap, sym, subst, ◌∙◌, ◌⊎◌, inl, inr}
+use Rattle.std.proofs.Common.{◌≡◌, ◌<◌, Bool, true, false, not, ◌&&◌, ◌||◌, List, [], ◌∷◌, Option, Some, None, refl, ap, sym, subst, ◌∙◌, ◌⊎◌, inl, inr}
 use Rattle.cc_base.specs.declared.number.NodeId.{NodeId}
 use Rattle.cc_base.specs.declared.number.TypeId.{TypeId}
 use Rattle.cc_base.specs.declared.fault.Fault.TheVariants.{Refused}
@@ -17,32 +17,42 @@ use Rattle.c_typing.specs.Scopes.{Name, here, entry_of, is_complete_at}
 use Rattle.c_typing.specs.Shapes.{is_function_shape}
 use Rattle.c_typing.specs.Tests.{Test, first_broken, broken_at}
 use Rattle.c_typing_laws.specs.Judged.{IsHomeAs}
-use Rattle.c_typing_laws.proofs.ConstructLaws.{three_unbroken, not_false}
+use Rattle.c_typing_laws.proofs.ConstructLaws.{three_unbroken, not_false, or_left, or_right}
 use Rattle.c_typing_laws.proofs.ExtensionLaws.{no_true}
 use Rattle.c_unit_typing.specs.DeclarationJudging.{first_home, naming_for, is_linked_object, new_name, linked_name, object_name, new_static, declare_object, declare_by, declare}
 use Rattle.c_unit_typing.specs.Units.{Storage, Unstored, AsTypedef, AsExtern, AsStatic, AsAutomatic}
 use Rattle.c_unit_typing.specs.UnitJudged.{IsUnitKnown}
 use Rattle.c_unit_typing.specs.UnitJudging.{UnitState, Gives, known_of}
-use Rattle.c_unit_typing.specs.UnitRefusals.{conflicts, is_object, has_linkage, is_redeclared, declared_tests}
+use Rattle.c_unit_typing.specs.UnitRefusals.{conflicts, is_object, has_linkage, is_redeclared, is_taken_by_runtime, declared_tests}
 use Rattle.c_unit_typing.proofs.NameSteps.{named_state, linked_state, new-name-gives, linked-name-gives, static-gives}
 use Rattle.c_unit_typing.proofs.UnitOutcomes.{bind-gives}
-use Rattle.c_unit_typing.proofs.DeclaredNames.{is_typedef, zero_home, as_made, linkage_of_function, linkage_of_object, IsNotAgain, not-again, IsNamedAs, typedef-named, function-named, known-named, first-named, static-named, local-named}
+use Rattle.c_unit_typing.proofs.DeclaredNames.{is_typedef, zero_home, as_made, linkage_of_function, linkage_of_object, IsNotAgain, not-again, typedef-own, IsNamedAs, typedef-named, function-named, known-named, first-named, static-named, local-named}
+
+abbrev again_by : (file : Bool) → Storage → (initialised : Bool) → Identifier → UnitState → Declared → Bool
+again_by file storage initialised name s what =
+    is_redeclared s.table (known_of s) (has_linkage file storage what) (initialised && is_object what) name.bytes what
 
 abbrev tests_of : (file : Bool) → Storage → (initialised : Bool) → Identifier → TypeId → UnitState → Declared → List Test
 tests_of file storage initialised name t s what =
-    broken_at rule.Redeclared name.place (is_redeclared s.table (known_of s) (has_linkage file storage what) initialised name.bytes what)
+    broken_at rule.Redeclared name.place (again_by file storage initialised name s what || is_taken_by_runtime s.table file name.bytes what)
     ∷ broken_at rule.Incomplete name.place (is_object what && not (is_complete_at s.table s.seen.scopes t))
     ∷ broken_at rule.Mismatch name.place (initialised && not (is_object what))
     ∷ []
 
 unbroken : (file : Bool) (storage : Storage) (initialised : Bool) (name : Identifier) (t : TypeId) (s : UnitState) (what : Declared)
     → first_broken (tests_of file storage initialised name t s what) ≡ None
-    → (is_redeclared s.table (known_of s) (has_linkage file storage what) initialised name.bytes what ≡ false)
-    × ((is_object what && not (is_complete_at s.table s.seen.scopes t)) ≡ false) × ((initialised && not (is_object what)) ≡ false)
+    → (again_by file storage initialised name s what ≡ false) × ((is_object what && not (is_complete_at s.table s.seen.scopes t)) ≡ false)
+    × ((initialised && not (is_object what)) ≡ false) × (is_taken_by_runtime s.table file name.bytes what ≡ false)
 unbroken file storage initialised name t s what h =
-    three_unbroken (is_redeclared s.table (known_of s) (has_linkage file storage what) initialised name.bytes what)
-    (is_object what && not (is_complete_at s.table s.seen.scopes t)) (initialised && not (is_object what))
-    (Refused name.place rule.Redeclared) (Refused name.place rule.Incomplete) (Refused name.place rule.Mismatch) h
+    let again = again_by file storage initialised name s what in
+    let taken = is_taken_by_runtime s.table file name.bytes what in
+    let all = three_unbroken (again || taken) (is_object what && not (is_complete_at s.table s.seen.scopes t)) (initialised && not (is_object what))
+    (Refused name.place rule.Redeclared) (Refused name.place rule.Incomplete) (Refused name.place rule.Mismatch) h in
+    (or_left again taken all.0, all.1, all.2, or_right again taken all.0)
+
+and-true : (b : Bool) → (b && true) ≡ b
+and-true true = refl
+and-true false = refl
 
 declare-is : (file : Bool) (storage : Storage) (name : Identifier) (t : TypeId) (h : Home) (s : UnitState) → is_typedef storage ≡ false
     → declare file storage name t h s ≡ declare_by (is_function_shape (shape_at s.table t)) (is_linked_object file storage) name t h s
@@ -155,13 +165,14 @@ module _ (file : Bool) (storage : Storage) (initialised : Bool) (name : Identifi
   unfolding declare_by
   ordinary-judged true shape is at broken g =
       let free = unbroken file storage initialised name t s (declared.Function t) broken in
-      let again = not-again s.table (known_of s) initialised name.bytes (declared.Function t)
-      (ap (λ (f : Bool). is_redeclared s.table (known_of s) f initialised name.bytes (declared.Function t)) (sym (linkage_of_function file storage t)) ∙ free.0) in
+      let again = not-again s.table (known_of s) (initialised && false) name.bytes (declared.Function t)
+      (ap (λ (f : Bool). is_redeclared s.table (known_of s) f (initialised && false) name.bytes (declared.Function t)) (sym (linkage_of_function file storage t)) ∙ free.0) in
       subst (λ (w : Home). IsNamedAs file storage initialised name.bytes t w s r) (sym at)
       (function-named file storage initialised name t s k there r is shape free.2 again (linked-name-gives name (declared.Function t) b s r g))
   ordinary-judged false shape is at broken g =
       let free = unbroken file storage initialised name t s (declared.Object t zero_home) broken in
-      object-judged (is_linked_object file storage) refl is shape (not_false (is_complete_at s.table s.seen.scopes t) free.1) at free.0 g
+      object-judged (is_linked_object file storage) refl is shape (not_false (is_complete_at s.table s.seen.scopes t) free.1) at
+      (ap (λ (i : Bool). is_redeclared s.table (known_of s) (has_linkage file storage (declared.Object t zero_home)) i name.bytes (declared.Object t zero_home)) (sym (and-true initialised)) ∙ free.0) g
 
 typedef_home : (f : Bool) (h : Home) → IsHomeAs (unless_function f naming.None) h → h ≡ home.None
 typedef_home true h e = e
@@ -177,6 +188,6 @@ declare-judged file AsTypedef initialised name t h b s r k there new at broken g
     let free = unbroken file AsTypedef initialised name t s (declared.Typedef t) broken in
     let made = new-name-gives name (declared.Typedef t) b s r g in
     subst (λ (w : Home). IsNamedAs file AsTypedef initialised name.bytes t w s r) (sym (typedef_home (is_function_shape (shape_at s.table t)) h at))
-    (typedef-named file AsTypedef initialised name t s k there r refl free.2 made.0 made.1)
+    (typedef-named file AsTypedef initialised name t s k there r refl free.2 (typedef-own s.table file name.bytes t free.3) made.0 made.1)
 declare-judged file storage initialised name t h b s r k there new at broken g =
     ordinary-judged file storage initialised name t h b s r k there new (is_function_shape (shape_at s.table t)) refl refl at broken g

@@ -25,6 +25,7 @@ pub mod FunctionParameters
 pub mod JudgedLabels
 pub mod JudgedStatements
 pub mod StatementParts
+pub mod Scoped
 pub mod JudgedDeclarations
 pub mod JudgedDeclarators
 pub mod HomeNumbers

@@ -2,9 +2,8 @@
 use Rattle.std.proofs.Common.{◌≡◌, ℕ, Bool, true, false, ◌&&◌, nat_le, ◌+◌, List, [], ◌∷◌, ◌++◌, take, Option, Some, None, refl, ap, sym, if◌then◌else◌}
 use Rattle.cc_base.specs.declared.place.Place.{Place}
 use Rattle.cc_base.specs.declared.number.TypeId.{TypeId}
-use Rattle.cc_base.specs.declared.fault.Fault.TheVariants.{Refused, TooLarge}
+use Rattle.cc_base.specs.declared.fault.Fault.TheVariants.{TooLarge}
 use Rattle.cc_base.specs.declared.fault.Limit.TheVariants.{Types, Cells}
-use Rattle.cc_base.specs.declared.fault.Rule.TheVariants as rule
 use Rattle.c_types.specs.Table.{IsComplete, shape_at}
 use Rattle.c_tree.specs.Places.{expr_place, initialiser_place, nowhere}
 use Rattle.c_tree.specs.Tree as tree
@@ -26,7 +25,7 @@ use Rattle.c_unit_typing.specs.Initialisers.{Slot, char_count_of_shape, is_char_
 use Rattle.c_unit_typing.specs.InitialiserJudging.{text_tests, text, initialised, constant_tests, value_for, value_or_text, judge_plain, is_only_literal, item_slot, slot_type, with_item, judge_initialiser, judge_items}
 use Rattle.c_unit_typing.specs.UnitJudged.{state_of}
 use Rattle.c_unit_typing.specs.UnitJudging.{UnitState, Gives, next, pure, obeying, lifted}
-use Rattle.c_unit_typing.proofs.JudgedInitialisers.{slot_is, items-judged}
+use Rattle.c_unit_typing.proofs.JudgedInitialisers.{braces-never, slot_is, items-judged}
 use Rattle.c_unit_typing.proofs.KeptInitialisers.{complete-kept, slot-complete}
 use Rattle.c_unit_typing.proofs.UnitOutcomes.{never-gives, bind-gives, unless-gives, given-same, lifted-gives}
 use Rattle.c_unit_typing.proofs.UnitStates.{numbers-on, numbers-none, numbers-before}
@@ -113,7 +112,7 @@ mutual
 
   pub initialiser-made : (i : tree.Initialiser) (constant : Bool) → IsMadeAs constant i
   initialiser-made (tree.Value e) constant at t single one s r k c h = plain-made constant e at t one s r k h
-  initialiser-made (tree.Listed brace items comma) constant at t true one s r k c h = never-gives one (Refused brace rule.Mismatch) s r h
+  initialiser-made (tree.Listed brace items comma) constant at t true one s r k c h = braces-never brace items one s r h
   initialiser-made (tree.Listed brace items comma) constant at t false one s r k c h =
       let text = is_only_literal items && is_char_array s.table t in
       let two = bind-gives (judge_items constant items text t s) (λ list. pure (typed.Listed brace list comma t)) one r h in

@@ -49,16 +49,23 @@ inside = record { scopes = scopes; linked = []; defined = []; statics = [] }
 abbrev s_value : ℕ → TypedExpr
 s_value col = typed.Unread (typed.Variable (s_at col) (record { 0 = 0 }) (type 9))
 
-s-typed : (col : ℕ) → IsDropped table (Some (s_value col)) inside inside
-s-typed col = (scopes, ((refl, refl, lit< tt), refl), refl, refl)
+-- the scope of the statement, and that of its substatement
+abbrev outer : Known
+outer = entering_known inside
+
+abbrev block : Known
+block = entering_known outer
+
+s-typed : (col : ℕ) → IsDropped table (Some (s_value col)) outer outer
+s-typed col = (outer.scopes, ((refl, refl, lit< tt), refl), refl, refl)
 
 -- `if(s) z;`
 pub unknown-first : RefusesStatement table around (tree.If (at 1) (at 3) (tree.Name (s_at 4)) (tree.Express (tree.Name (z_at 7)))) inside (Refused (at 7) rule.UnknownName)
-unknown-first = inr (s_value 4, inside, s-typed 4, refl, inl refl)
+unknown-first = inr (s_value 4, outer, s-typed 4, refl, inl refl)
 
 -- `if(s) ;`
 pub condition-last : RefusesStatement table around (tree.If (at 1) (at 3) (tree.Name (s_at 4)) tree.Empty) inside (Refused (at 1) rule.Mismatch)
-condition-last = inr (s_value 4, inside, s-typed 4, refl, inr (typed.Empty, inside, refl, refl, refl))
+condition-last = inr (s_value 4, outer, s-typed 4, refl, inr (typed.Empty, block, refl, refl, refl))
 
 abbrev one_at : ℕ → tree.Expr
 one_at col = tree.Integer constant.Int 1 (at col)
@@ -69,16 +76,13 @@ typed_one col = typed.Integer constant.Int 1 (at col) (type 5)
 one-typed : (col : ℕ) (s : Scopes) → IsTyped table (typed_one col) s s
 one-typed col s = (refl, (lit< tt, refl))
 
-abbrev block : Known
-block = entering_known inside
-
 -- `switch(s){case 1:case 1:;}`
 pub label-first : RefusesStatement table around
     (tree.Switch (at 1) (at 7) (tree.Name (s_at 8)) (at 10) (tree.AndCase (tree.AndCase tree.NoBlockItem (at 11) (one_at 16)) (at 18) (one_at 23)))
     inside (Refused (at 18) rule.Redeclared)
 label-first = inr (
   s_value 8,
-  inside,
+  outer,
   s-typed 8,
   refl,
   inl (inr (

@@ -23,25 +23,27 @@ use Rattle.c_typing.specs.Judging.{State}
 use Rattle.c_typing.specs.Refusals.{Fails, After, Refuses}
 use Rattle.c_typing.specs.Rules.{pieces_bytes}
 use Rattle.c_typing.specs.Scopes.{Scopes}
-use Rattle.c_typing.specs.Settled.{IsBasic, IsKnown}
+use Rattle.c_typing.specs.Settled.{IsBasic, IsKnown, GoesOn}
 use Rattle.c_typing.specs.Shapes.{is_scalar_shape}
 use Rattle.c_typing.specs.Tests.{Elaborated, AsPlace, AsValue, AsAllocation, first_broken, broken_at}
 use Rattle.c_typing_laws.proofs.ExtensionLaws.{no_true, and_left, and_right, extended_refl}
+use Rattle.c_typing_laws.proofs.KnownStates.{stays, goes-on}
 use Rattle.c_typing_laws.proofs.Outcomes
 use Rattle.c_typing_laws.proofs.RefusedWhole.{checked_value-refuses}
+use Rattle.c_typing_laws.proofs.TableGrowth.{extended_trans}
 use Rattle.c_unit_typing.specs.Initialisers.{Slot, slot_of_shape, char_count_of_shape, has_count, is_char_array, items_count, is_constant}
-use Rattle.c_unit_typing.specs.InitialiserJudging.{text_tests, text, initialised, constant_tests, value_for, value_or_text, excess, judge_plain, is_only_literal, item_slot, slot_type, with_item, judge_initialiser, judge_items}
+use Rattle.c_unit_typing.specs.InitialiserJudging.{text_tests, text, initialised, constant_tests, value_for, value_or_text, judge_excess, judge_all_excess, excess, excess_braces, judge_plain, is_only_literal, item_slot, slot_type, with_item, judge_initialiser, judge_items}
 use Rattle.c_unit_typing.specs.Linkage.{Linkage}
 use Rattle.c_unit_typing.specs.UnitJudged.{state_of, AreItemsJudged}
-use Rattle.c_unit_typing.specs.UnitJudging.{UnitState, UnitOutcome, Stops, next, pure, stop, obeying, lifted}
+use Rattle.c_unit_typing.specs.UnitJudging.{UnitState, Gives, Stops, next, pure, stop, obeying, lifted}
 use Rattle.c_unit_typing.specs.UnitRefusals as refusals
-use Rattle.c_unit_typing.specs.UnitRefusals.{Asked, is_constant_part, initialises_type, value_tests, is_too_long, RefusesValue, item_type, RefusesInitialiser, RefusesItems}
+use Rattle.c_unit_typing.specs.UnitRefusals.{Asked, is_constant_part, initialises_type, value_tests, is_too_long, RefusesValue, item_type, IsExcess, AreExcess, RefusesExcess, RefusesAllExcess, RefusesBraces, RefusesInitialiser, RefusesItems}
 use Rattle.c_unit_typing.proofs.ConstantParts.{initial-part}
 use Rattle.c_unit_typing.proofs.JudgedInitialisers.{slot_is, items-judged}
 use Rattle.c_unit_typing.proofs.KeptInitialisers.{complete-in, complete-kept, is_chars-same, scalar-same, slot-complete, slot-same, items-kept}
 use Rattle.c_unit_typing.proofs.NameSteps.{some-same}
 use Rattle.c_unit_typing.proofs.RefusedTests.{value-stopped, checked-part}
-use Rattle.c_unit_typing.proofs.UnitOutcomes.{lifted-gives}
+use Rattle.c_unit_typing.proofs.UnitOutcomes.{bind-gives, never-gives, gives-state, lifted-gives}
 use Rattle.c_unit_typing.proofs.UnitStops.{never-stops, stops-fault, stops-state, NeverRefused, gives-unrefused, large-unrefused, next-unrefused, lifted-unrefused, IsStopped, stopped-here, stopped-after, stopped-as, stopped-step, stopped-rules, lifted-stops}
 
 -- what is asked of an initialiser where it is judged
@@ -100,6 +102,36 @@ value_refused T asked e at t b s f n h = h
 slot_type_same : (o : Option Slot) → refusals.slot_type o ≡ slot_type o
 slot_type_same None = refl
 slot_type_same (Some slot) = refl
+
+-- What there is no room for, where it is given
+
+record IsExcessRead (P : Table → Scopes → Scopes → Type 0) (s r : UnitState) : Type 0 where
+  typed : (T : Table) → IsExtended r.table T → P T s.seen.scopes r.seen.scopes
+  goes : GoesOn (state_of s) (state_of r)
+
+mutual
+  unfolding judge_excess judge_all_excess
+
+  excess-read : (i : tree.Initialiser) (b : Bool) (s r : UnitState) → IsKnown (state_of s) → judge_excess i s ≡ Gives b r → IsExcessRead (λ T. IsExcess T i) s r
+  excess-read (tree.Value e) b s r k h =
+      let one = bind-gives (lifted (checked e) s) (λ v. pure true) b r h in
+      let j = checked-part e one.0 (state_of s) (state_of one.1) k (lifted-gives (checked e) one.0 s one.1 one.2).0 in
+      subst (IsExcessRead (λ T. IsExcess T (tree.Value e)) s) (gives-state true b one.1 r one.3) (record { typed = λ T x. (j.part.x, j.part.part T x); goes = j.part.goes })
+  excess-read (tree.Listed brace items comma) b s r k h = all-excess-read items b s r k h
+
+  all-excess-read : (all : tree.Items) (b : Bool) (s r : UnitState) → IsKnown (state_of s) → judge_all_excess all s ≡ Gives b r → IsExcessRead (λ T. AreExcess T all) s r
+  all-excess-read tree.NoItem b s r k h =
+      subst (IsExcessRead (λ T. AreExcess T tree.NoItem) s) (gives-state true b s r h) (record { typed = λ T x. refl; goes = (stays (state_of s) k).goes })
+  all-excess-read (tree.AndItem all i) b s r k h =
+      let one = bind-gives (judge_all_excess all s) (λ before. judge_excess i) b r h in
+      let j = all-excess-read all one.0 s one.1 k one.2 in
+      let l = excess-read i b one.1 r j.goes.known one.3 in
+      record {
+        typed = λ T x. (one.1.seen.scopes, j.typed T (extended_trans one.1.table r.table T l.goes.extends x), l.typed T x);
+        goes = goes-on (state_of s) (state_of one.1) (state_of r) j.goes l.goes;
+      }
+  all-excess-read (tree.AndMemberDesignator all at) b s r k h = never-gives b (TooLarge at Types) s r h
+  all-excess-read (tree.AndIndexDesignator all at) b s r k h = never-gives b (TooLarge at Types) s r h
 
 module _ (p : Place) (t : Rule) where
   value_for-stopped : (constant : Bool) (at : Place) (u : TypeId) (e : tree.Expr) (s r : UnitState) → IsKnown (state_of s) → IsComplete s.table u
@@ -207,12 +239,43 @@ module _ (p : Place) (t : Rule) where
       (stopped-here p t P m r (stops-state TypedInitialiser (Refused at rule.Mismatch) (Refused p t) m r g)
       (inr (j.part.x, m.seen.scopes, j.part.part m.table (extended_refl m.table), sym (stops-fault TypedInitialiser (Refused at rule.Mismatch) (Refused p t) m r g))))) h
 
+  mutual
+    unfolding judge_excess judge_all_excess
+
+    excess-stopped : (i : tree.Initialiser) (s r : UnitState) → IsKnown (state_of s) → judge_excess i s ≡ Stops (Refused p t) r
+        → IsStopped (λ T. RefusesExcess T i s.seen.scopes (Refused p t)) s r
+    excess-stopped (tree.Value e) s r k h =
+        stopped-step p t (lifted (checked e) s) (λ v. pure true) (λ T. Refuses T false e s.seen.scopes (Refused p t)) s r (λ q. value-stopped p t e s r k q)
+        (λ v m q g. never-stops true (Refused p t) m r g) h
+    excess-stopped (tree.Listed brace items comma) s r k h = all-excess-stopped items s r k h
+
+    all-excess-stopped : (all : tree.Items) (s r : UnitState) → IsKnown (state_of s) → judge_all_excess all s ≡ Stops (Refused p t) r
+        → IsStopped (λ T. RefusesAllExcess T all s.seen.scopes (Refused p t)) s r
+    all-excess-stopped tree.NoItem s r k h = never-stops true (Refused p t) s r h
+    all-excess-stopped (tree.AndItem all i) s r k h =
+        let P : Table → Type 0 = λ T. RefusesAllExcess T (tree.AndItem all i) s.seen.scopes (Refused p t) in
+        stopped-step p t (judge_all_excess all s) (λ before. judge_excess i) P s r
+        (λ q. stopped-as p t (λ T. RefusesAllExcess T all s.seen.scopes (Refused p t)) P s r (λ x f. inl f) (all-excess-stopped all s r k q))
+        (λ before m q g.
+        let j = all-excess-read all before s m k q in
+        stopped-after p t P s m r j.goes.extends
+        (stopped-as p t (λ T. RefusesExcess T i m.seen.scopes (Refused p t)) P m r (λ x f. inr (m.seen.scopes, j.typed r.table x, f)) (excess-stopped i m r j.goes.known g))) h
+    all-excess-stopped (tree.AndMemberDesignator all at) s r k h = absurd (large-unrefused Bool at Types s p t r h)
+    all-excess-stopped (tree.AndIndexDesignator all at) s r k h = absurd (large-unrefused Bool at Types s p t r h)
+
   -- braces that may not stand there
-  brace_stopped : (P : Table → Type 0) (brace : Place) (s r : UnitState) → ((T : Table) → Refused p t ≡ Refused brace rule.Mismatch → P T)
-      → ◌≡◌ {A = UnitOutcome TypedInitialiser} (Stops (Refused brace rule.Mismatch) s) (Stops (Refused p t) r) → IsStopped P s r
-  brace_stopped P brace s r f h =
-      stopped-here p t P s r (stops-state TypedInitialiser (Refused brace rule.Mismatch) (Refused p t) s r h)
-      (f s.table (sym (stops-fault TypedInitialiser (Refused brace rule.Mismatch) (Refused p t) s r h)))
+  braces-stopped : (brace : Place) (items : tree.Items) (s r : UnitState) → IsKnown (state_of s) → excess_braces brace items s ≡ Stops (Refused p t) r
+      → IsStopped (λ T. RefusesBraces T brace items s.seen.scopes (Refused p t)) s r
+  unfolding excess_braces
+  braces-stopped brace items s r k h =
+      let P : Table → Type 0 = λ T. RefusesBraces T brace items s.seen.scopes (Refused p t) in
+      stopped-step p t (judge_all_excess items s) (λ all. stop {A = TypedInitialiser} (Refused brace rule.Mismatch)) P s r
+      (λ q. stopped-as p t (λ T. RefusesAllExcess T items s.seen.scopes (Refused p t)) P s r (λ x f. inl f) (all-excess-stopped items s r k q))
+      (λ all m q g.
+      let j = all-excess-read items all s m k q in
+      stopped-after p t P s m r j.goes.extends
+      (stopped-here p t P m r (stops-state TypedInitialiser (Refused brace rule.Mismatch) (Refused p t) m r g)
+      (inr (m.seen.scopes, j.typed m.table (extended_refl m.table), sym (stops-fault TypedInitialiser (Refused brace rule.Mismatch) (Refused p t) m r g))))) h
 
   -- what an item initialises, over a later table
   slot_later : (T U : Table) (x : IsExtended T U) (b : IsBasic T) (text : Bool) (u : TypeId) (n : ℕ) → IsComplete T u → item_type U text u n ≡ slot_type (item_slot T text u n)
@@ -267,9 +330,9 @@ module _ (p : Place) (t : Rule) where
     initialiser-stopped (tree.Value e) constant at None single s r k c h = excess_stopped constant e at single s r k h
     initialiser-stopped (tree.Value e) constant at (Some u) single s r k c h = plain_stopped constant e at u single s r k (c u refl) h
     initialiser-stopped (tree.Listed brace items comma) constant at None single s r k c h =
-        brace_stopped (λ T. RefusesInitialiser T (asked_at constant s) (tree.Listed brace items comma) at None single s.seen.scopes (Refused p t)) brace s r (λ T e. e) h
+        braces-stopped brace items s r k h
     initialiser-stopped (tree.Listed brace items comma) constant at (Some u) true s r k c h =
-        brace_stopped (λ T. RefusesInitialiser T (asked_at constant s) (tree.Listed brace items comma) at (Some u) true s.seen.scopes (Refused p t)) brace s r (λ T e. e) h
+        braces-stopped brace items s r k h
     initialiser-stopped (tree.Listed brace items comma) constant at (Some u) false s r k c h =
         let text = is_only_literal items && is_char_array s.table u in
         let P : Table → Type 0 = λ T. RefusesInitialiser T (asked_at constant s) (tree.Listed brace items comma) at (Some u) false s.seen.scopes (Refused p t) in

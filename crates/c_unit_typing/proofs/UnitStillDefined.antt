@@ -65,16 +65,16 @@ module _ (T : Table) where
   function_defined home.None name t k k' d = linked_defined name (declared.Function t) k k' d
   function_defined h name t k k' d = absurd d
 
-  typedef_defined : (h : Home) (name : Name) (t : TypeId) (k k' : Known) → IsTypedefDeclared h name t k k' → IsSame k k'
-  typedef_defined home.None name t k k' d = ap (λ (q : Known). q.scopes.defined) d.2 ∙ ap (λ (q : Scopes). q.defined) d.1.after
-  typedef_defined h name t k k' d = absurd d
+  typedef_defined : (file : Bool) (h : Home) (name : Name) (t : TypeId) (k k' : Known) → IsTypedefDeclared file h name t k k' → IsSame k k'
+  typedef_defined file home.None name t k k' d = ap (λ (q : Known). q.scopes.defined) d.2 ∙ ap (λ (q : Scopes). q.defined) d.1.after
+  typedef_defined file h name t k k' d = absurd d
 
   ordinary_defined : (b : Bool) (file : Bool) (storage : Storage) (h : Home) (name : Name) (t : TypeId) (k k' : Known) → IsOrdinaryDeclared b T file storage h name t k k' → IsSame k k'
   ordinary_defined true file storage h name t k k' d = function_defined h name t k k' d
   ordinary_defined false file storage h name t k k' d = object_defined file storage h name t k k' d
 
   name_defined : (file : Bool) (storage : Storage) (h : Home) (name : Name) (t : TypeId) (k k' : Known) → IsNameDeclared T file storage h name t k k' → IsSame k k'
-  name_defined file AsTypedef h name t k k' d = typedef_defined h name t k k' d
+  name_defined file AsTypedef h name t k k' d = typedef_defined file h name t k k' d
   name_defined file storage h name t k k' d = ordinary_defined (is_function_shape (shape_at T t)) file storage h name t k k' d
 
   declarator_defined : (file : Bool) (storage : Storage) (base : TypeId) (o : Outermost) (form : TypedForm) (t : TypeId) (k k' : Known) → IsDeclarator T file storage base o form t k k' → IsSame k k'
@@ -130,19 +130,25 @@ module _ (T : Table) where
     statement_defined (typed.Block brace items) a k k' d = as_known (leaving_known d.0) k' d.2 ∙ items_defined items a None (entering_known k) d.0 d.1
     statement_defined (typed.Express e) a k k' d = dropped_defined (Some e) k k' d
     statement_defined typed.Empty a k k' d = as_known k k' d
-    statement_defined (typed.If at paren c s) a k k' d = statement_defined s a d.0 k' d.2 ∙ tested_defined c k d.0 d.1
-    statement_defined (typed.IfElse at paren c s r) a k k' d = statement_defined r a d.1 k' d.4 ∙ (statement_defined s a d.0 d.1 d.3 ∙ tested_defined c k d.0 d.2)
+    statement_defined (typed.If at paren c s) a k k' d =
+        as_known (leaving_known (leaving_known d.1)) k' d.4 ∙ (statement_defined s a (entering_known d.0) d.1 d.3 ∙ tested_defined c (entering_known k) d.0 d.2)
+    statement_defined (typed.IfElse at paren c s r) a k k' d =
+        as_known (leaving_known (leaving_known d.2)) k' d.6
+        ∙ (statement_defined r a (entering_known (leaving_known d.1)) d.2 d.5 ∙ (statement_defined s a (entering_known d.0) d.1 d.4 ∙ tested_defined c (entering_known k) d.0 d.3))
     statement_defined (typed.Switch at paren e brace items) a k k' d =
-        as_known (leaving_known d.1) k' d.5
-        ∙ (items_defined items (in_a_switch a) (Some (type_of e)) (entering_known (with_scopes k d.0)) d.1 d.4 ∙ value-defined T e k.scopes d.0 d.2)
-    statement_defined (typed.While at paren c s) a k k' d = statement_defined s (in_a_loop a) d.0 k' d.2 ∙ tested_defined c k d.0 d.1
-    statement_defined (typed.DoWhile s at paren c) a k k' d = tested_defined c d.0 k' d.2 ∙ statement_defined s (in_a_loop a) k d.0 d.1
+        as_known (leaving_known (leaving_known d.1)) k' d.5
+        ∙ (items_defined items (in_a_switch a) (Some (type_of e)) (entering_known (with_scopes k d.0)) d.1 d.4 ∙ value-defined T e (entering k.scopes) d.0 d.2)
+    statement_defined (typed.While at paren c s) a k k' d =
+        as_known (leaving_known (leaving_known d.1)) k' d.4 ∙ (statement_defined s (in_a_loop a) (entering_known d.0) d.1 d.3 ∙ tested_defined c (entering_known k) d.0 d.2)
+    statement_defined (typed.DoWhile s at paren c) a k k' d =
+        as_known (leaving_known d.1) k' d.4 ∙ (tested_defined c (leaving_known d.0) d.1 d.3 ∙ statement_defined s (in_a_loop a) (entering_known (entering_known k)) d.0 d.2)
     statement_defined (typed.For at paren first test step s) a k k' d =
-        statement_defined s (in_a_loop a) d.2 k' d.6
-        ∙ (dropped_defined step d.1 d.2 d.5 ∙ (tested_or_none_defined test d.0 d.1 d.4 ∙ dropped_defined first k d.0 d.3))
+        as_known (leaving_known (leaving_known d.3)) k' d.8
+        ∙ (statement_defined s (in_a_loop a) (entering_known d.2) d.3 d.7
+        ∙ (dropped_defined step d.1 d.2 d.6 ∙ (tested_or_none_defined test d.0 d.1 d.5 ∙ dropped_defined first (entering_known k) d.0 d.4)))
     statement_defined (typed.ForDeclaration at paren f test step s) a k k' d =
-        as_known (leaving_known d.3) k' d.8
-        ∙ (statement_defined s (in_a_loop a) d.2 d.3 d.7
+        as_known (leaving_known (leaving_known d.3)) k' d.8
+        ∙ (statement_defined s (in_a_loop a) (entering_known d.2) d.3 d.7
         ∙ (dropped_defined step d.1 d.2 d.6 ∙ (tested_or_none_defined test d.0 d.1 d.5 ∙ declaration_defined false f (entering_known k) d.0 d.4)))
     statement_defined (typed.Break at) a k k' d = as_known k k' d.0
     statement_defined (typed.Continue at) a k k' d = as_known k k' d.0

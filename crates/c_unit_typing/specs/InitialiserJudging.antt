@@ -52,11 +52,31 @@ unfoldable pub value_or_text : (constant : Bool) → Place → TypeId → tree.E
 value_or_text constant at t (tree.String pieces) (Some count) = text at count pieces
 value_or_text constant at t e count = value_for constant at t e
 
--- what there is no room for
+-- what there is no room for: each expression in it is judged, in the order of the text, before it is refused
+unfoldable mutual
+  pub judge_excess : tree.Initialiser → UnitJudging Bool
+  judge_excess (tree.Value e) = do
+    v ← lifted (checked e)
+    pure true
+  judge_excess (tree.Listed brace items comma) = judge_all_excess items
+
+  pub judge_all_excess : tree.Items → UnitJudging Bool
+  judge_all_excess tree.NoItem = pure true
+  judge_all_excess (tree.AndItem all i) = do
+    before ← judge_all_excess all
+    judge_excess i
+  judge_all_excess (tree.AndMemberDesignator all at) = stop (TooLarge at Types)
+  judge_all_excess (tree.AndIndexDesignator all at) = stop (TooLarge at Types)
+
 unfoldable pub excess : Place → tree.Expr → UnitJudging TypedInitialiser
 excess at e = do
   v ← lifted (checked e)
   stop (Refused at rule.Mismatch)
+
+unfoldable pub excess_braces : Place → tree.Items → UnitJudging TypedInitialiser
+excess_braces brace items = do
+  all ← judge_all_excess items
+  stop (Refused brace rule.Mismatch)
 
 -- an expression without braces
 unfoldable pub judge_plain : (constant : Bool) → tree.Expr → Place → Option TypeId → UnitJudging TypedInitialiser
@@ -88,8 +108,8 @@ with_item list (Some slot) one = pure (typed.AndItem list slot.offset slot.type 
 unfoldable mutual
   pub judge_initialiser : (constant : Bool) → tree.Initialiser → Place → (to : Option TypeId) → (single : Bool) → UnitJudging TypedInitialiser
   judge_initialiser constant (tree.Value e) at to single = judge_plain constant e at to
-  judge_initialiser constant (tree.Listed brace items comma) at None single = stop (Refused brace rule.Mismatch)
-  judge_initialiser constant (tree.Listed brace items comma) at (Some t) true = stop (Refused brace rule.Mismatch)
+  judge_initialiser constant (tree.Listed brace items comma) at None single = excess_braces brace items
+  judge_initialiser constant (tree.Listed brace items comma) at (Some t) true = excess_braces brace items
   judge_initialiser constant (tree.Listed brace items comma) at (Some t) false = do
     text ← by_known (λ s. pure (is_only_literal items && is_char_array s.table t))
     list ← judge_items constant items text t

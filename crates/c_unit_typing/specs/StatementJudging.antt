@@ -91,54 +91,57 @@ jump at allowed one = obeying (λ s. jump_tests at allowed) (pure one)
 
 -- Statements
 
+-- what is judged in a scope of its own, which ends with it
+unfoldable pub within : {A : Type 0} → Place → UnitJudging A → UnitJudging A
+within at go = do
+  inside ← lifted entered
+  one ← go
+  lifted (left at one)
+
+-- A selection or iteration statement is judged in a scope of its own, and each of its substatements in one more (C99 6.8.4, 6.8.5).
 unfoldable mutual
   pub judge_statement : Around → tree.Statement → UnitJudging TypedStatement
-  judge_statement a (tree.Block brace items) = do
-    inside ← lifted entered
+  judge_statement a (tree.Block brace items) = within brace (do
     list ← judge_block_items a None items
-    lifted (left brace (typed.Block brace list))
+    pure (typed.Block brace list))
   judge_statement a (tree.Express e) = do
     v ← lifted (checked e)
     pure (typed.Express v)
   judge_statement a tree.Empty = pure typed.Empty
-  judge_statement a (tree.If at paren c s) = do
+  judge_statement a (tree.If at paren c s) = within at (do
     test ← lifted (checked c)
-    one ← judge_statement a s
-    tested at test (typed.If at paren test one)
-  judge_statement a (tree.IfElse at paren c s r) = do
+    one ← within at (judge_statement a s)
+    tested at test (typed.If at paren test one))
+  judge_statement a (tree.IfElse at paren c s r) = within at (do
     test ← lifted (checked c)
-    one ← judge_statement a s
-    other ← judge_statement a r
-    tested at test (typed.IfElse at paren test one other)
-  judge_statement a (tree.Switch at paren e brace items) = do
+    one ← within at (judge_statement a s)
+    other ← within at (judge_statement a r)
+    tested at test (typed.IfElse at paren test one other))
+  judge_statement a (tree.Switch at paren e brace items) = within at (do
     c ← lifted (checked e)
     on ← promotion at c
-    inside ← lifted entered
-    list ← judge_block_items (in_a_switch a) (Some (type_of on)) items
-    whole ← switched at c (typed.Switch at paren on brace list)
-    lifted (left brace whole)
-  judge_statement a (tree.While at paren c s) = do
+    list ← within brace (judge_block_items (in_a_switch a) (Some (type_of on)) items)
+    switched at c (typed.Switch at paren on brace list))
+  judge_statement a (tree.While at paren c s) = within at (do
     test ← lifted (checked c)
-    one ← judge_statement (in_a_loop a) s
-    tested at test (typed.While at paren test one)
-  judge_statement a (tree.DoWhile s at paren c) = do
-    one ← judge_statement (in_a_loop a) s
+    one ← within at (judge_statement (in_a_loop a) s)
+    tested at test (typed.While at paren test one))
+  judge_statement a (tree.DoWhile s at paren c) = within at (do
+    one ← within at (judge_statement (in_a_loop a) s)
     test ← lifted (checked c)
-    tested at test (typed.DoWhile one at paren test)
-  judge_statement a (tree.For at paren first test step s) = do
+    tested at test (typed.DoWhile one at paren test))
+  judge_statement a (tree.For at paren first test step s) = within at (do
     before ← dropped first
     c ← dropped test
     after ← dropped step
-    one ← judge_statement (in_a_loop a) s
-    tested_or_none at c (typed.For at paren before c after one)
-  judge_statement a (tree.ForDeclaration at paren d test step s) = do
-    inside ← lifted entered
+    one ← within at (judge_statement (in_a_loop a) s)
+    tested_or_none at c (typed.For at paren before c after one))
+  judge_statement a (tree.ForDeclaration at paren d test step s) = within at (do
     before ← judge_declaration false d
     c ← dropped test
     after ← dropped step
-    one ← judge_statement (in_a_loop a) s
-    whole ← tested_or_none at c (typed.ForDeclaration at paren before c after one)
-    lifted (left at whole)
+    one ← within at (judge_statement (in_a_loop a) s)
+    tested_or_none at c (typed.ForDeclaration at paren before c after one))
   judge_statement a (tree.Break at) = jump at a.breakable (typed.Break at)
   judge_statement a (tree.Continue at) = jump at a.in_loop (typed.Continue at)
   judge_statement a (tree.Return at e) = do

@@ -30,7 +30,7 @@ use Rattle.runtime_calls.specs.Prototypes.{prototype_of, runtime_of}
 use Rattle.c_typing.specs.declared.declared.Declared.{Declared}
 use Rattle.c_typing.specs.declared.declared.Declared.TheVariants as declared
 use Rattle.c_typing.specs.Shapes.{integer_at, is_integer_shape, is_scalar_shape, is_void_shape, is_function_shape}
-use Rattle.c_typing.specs.Scopes.{Name, Scopes, here, entry_of, entering, is_complete_at}
+use Rattle.c_typing.specs.Scopes.{Name, Scopes, here, entry_of, entering, leaving, is_complete_at}
 use Rattle.c_typing.specs.Constants.{constant_value, with_value, is_void_pointer}
 use Rattle.c_typing.specs.Conversions.{IsPlain}
 use Rattle.c_typing.specs.Declarators.{Outermost, Written, FormMakes}
@@ -39,9 +39,9 @@ use Rattle.c_typing.specs.Rules.{pieces_bytes}
 use Rattle.c_typing.specs.Integers.{promoted}
 use Rattle.c_typing.specs.Judging.{integer_type}
 use Rattle.c_typing.specs.Tests
-use Rattle.c_typing.specs.Refusals.{Fails, Refuses, After, name_place, RefusesSpecifiers, RefusesAlone, RefusesDeclarator, FormFails}
+use Rattle.c_typing.specs.Refusals.{Fails, IsElaborated, Refuses, After, name_place, RefusesSpecifiers, RefusesAlone, RefusesDeclarator, FormFails}
 use Rattle.c_unit_typing.specs.Initialisers.{Slot, slot_of_shape, items_count, char_count_of_shape, is_char_array, is_constant, is_constant_place, AreItems, makes_chars}
-use Rattle.c_unit_typing.specs.Units.{Known, Storage, AsTypedef, AsExtern, AsStatic, storage_of, with_scopes, is_one_of, outermost_of, is_linked_home, IsDeclarator, AreDeclarators, IsDeclaration, Around, in_a_loop, in_a_switch, IsDropped, entering_known, AreDifferent, labels_of, defaults_in, IsStatement, parameters_of_form, with_parameters, IsUnitTyped}
+use Rattle.c_unit_typing.specs.Units.{Known, Storage, AsTypedef, AsExtern, AsStatic, storage_of, with_scopes, is_one_of, outermost_of, is_linked_home, IsDeclarator, AreDeclarators, IsDeclaration, Around, in_a_loop, in_a_switch, IsDropped, entering_known, AreDifferent, labels_of, defaults_in, IsStatement, parameters_of_form, with_parameters, leaving_known, IsUnitTyped}
 use Rattle.c_unit_typing.specs.WellTyped.{HasMain}
 
 -- Initialisers (C99 6.7.8)
@@ -93,13 +93,41 @@ abbrev pub item_type : Table → (text : Bool) → TypeId → ℕ → Option Typ
 item_type T true t i = Some t
 item_type T false t i = slot_type (slot_of_shape T t (shape_at T t) i)
 
+-- What there is no room for, and what stands in braces inside a scalar's braces, is judged all the same: each expression in it, in the order of
+-- the text. It is refused afterwards.
+abbrev mutual
+  pub IsExcess : Table → tree.Initialiser → Scopes → Scopes → Type 0
+  IsExcess T (tree.Value e) s s' = (x : Tests.Elaborated) × IsElaborated T e x s s'
+  IsExcess T (tree.Listed brace items comma) s s' = AreExcess T items s s'
+
+  pub AreExcess : Table → tree.Items → Scopes → Scopes → Type 0
+  AreExcess T tree.NoItem s s' = s' ≡ s
+  AreExcess T (tree.AndItem all i) s s' = (m : Scopes) × AreExcess T all s m × IsExcess T i m s'
+  AreExcess T (tree.AndMemberDesignator all at) s s' = ⊥
+  AreExcess T (tree.AndIndexDesignator all at) s s' = ⊥
+
+abbrev mutual
+  pub RefusesExcess : Table → tree.Initialiser → Scopes → Fault → Type 0
+  RefusesExcess T (tree.Value e) s f = Refuses T false e s f
+  RefusesExcess T (tree.Listed brace items comma) s f = RefusesAllExcess T items s f
+
+  pub RefusesAllExcess : Table → tree.Items → Scopes → Fault → Type 0
+  RefusesAllExcess T tree.NoItem s f = ⊥
+  RefusesAllExcess T (tree.AndItem all i) s f = RefusesAllExcess T all s f ⊎ ((m : Scopes) × AreExcess T all s m × RefusesExcess T i m f)
+  RefusesAllExcess T (tree.AndMemberDesignator all at) s f = ⊥
+  RefusesAllExcess T (tree.AndIndexDesignator all at) s f = ⊥
+
+-- braces that no type is for
+abbrev pub RefusesBraces : Table → Place → tree.Items → Scopes → Fault → Type 0
+RefusesBraces T brace items s f = RefusesAllExcess T items s f ⊎ ((m : Scopes) × AreExcess T items s m × (f ≡ Refused brace rule.Mismatch))
+
 abbrev mutual
   -- `to` is the type, none where there are more items than there is room for; `single` says that a scalar's braces stand around it
   pub RefusesInitialiser : Table → Asked → tree.Initialiser → Place → (to : Option TypeId) → (single : Bool) → Scopes → Fault → Type 0
   RefusesInitialiser T asked (tree.Value e) at None single s f = Refuses T false e s f ⊎ After T e s (λ x m. f ≡ Refused at rule.Mismatch)
   RefusesInitialiser T asked (tree.Value e) at (Some t) single s f = RefusesValue T asked e at t (is_char_array T t) s f
-  RefusesInitialiser T asked (tree.Listed brace items comma) at None single s f = f ≡ Refused brace rule.Mismatch
-  RefusesInitialiser T asked (tree.Listed brace items comma) at (Some t) true s f = f ≡ Refused brace rule.Mismatch
+  RefusesInitialiser T asked (tree.Listed brace items comma) at None single s f = RefusesBraces T brace items s f
+  RefusesInitialiser T asked (tree.Listed brace items comma) at (Some t) true s f = RefusesBraces T brace items s f
   RefusesInitialiser T asked (tree.Listed brace items comma) at (Some t) false s f =
       RefusesItems T asked items t (is_only_literal items && is_char_array T t) s f
 
@@ -209,11 +237,16 @@ is_redeclared T k true defines name what =
     || (conflicts_with_runtime T (runtime_of name) what || (defines && is_one_of k.defined name))))
 is_redeclared T k false defines name what = Tests.has_some (here k.scopes.levels name)
 
--- the rules of a declarator's name, once it has its type
+-- the names of the six runtime functions belong to the file scope
+abbrev pub is_taken_by_runtime : Table → (file : Bool) → Name → Declared → Bool
+is_taken_by_runtime T file name what = file && conflicts_with_runtime T (runtime_of name) what
+
+-- the rules of a declarator's name, once it has its type; only an object is defined by an initialiser
 abbrev pub declared_tests : Table → Known → (file : Bool) → Storage → (initialised : Bool) → Name → TypeId → Place → List Tests.Test
 declared_tests T k file storage initialised name t at =
     Tests.broken_at rule.Redeclared at
-    (is_redeclared T k (has_linkage file storage (declared_as T storage t)) initialised name (declared_as T storage t))
+    (is_redeclared T k (has_linkage file storage (declared_as T storage t)) (initialised && is_object (declared_as T storage t)) name (declared_as T storage t)
+    || is_taken_by_runtime T file name (declared_as T storage t))
     ∷ Tests.broken_at rule.Incomplete at (is_object (declared_as T storage t) && not (is_complete_at T k.scopes t))
     ∷ Tests.broken_at rule.Mismatch at (initialised && not (is_object (declared_as T storage t)))
     ∷ []
@@ -334,33 +367,39 @@ abbrev mutual
   RefusesStatement T a (tree.Express e) k f = Refuses T false e k.scopes f
   RefusesStatement T a tree.Empty k f = ⊥
   RefusesStatement T a (tree.If at paren c s) k f =
-      Refuses T false c k.scopes f
-      ⊎ AfterValue T c k (λ v m. RefusesStatement T a s m f ⊎ AfterStatement T a s m (λ n. FailsTest T at (Some v) f))
+      Refuses T false c (entering k.scopes) f
+      ⊎ AfterValue T c (entering_known k) (λ v m. RefusesStatement T a s (entering_known m) f
+      ⊎ AfterStatement T a s (entering_known m) (λ n. FailsTest T at (Some v) f))
   RefusesStatement T a (tree.IfElse at paren c s r) k f =
-      Refuses T false c k.scopes f
-      ⊎ AfterValue T c k (λ v m. RefusesStatement T a s m f
-      ⊎ AfterStatement T a s m (λ n. RefusesStatement T a r n f ⊎ AfterStatement T a r n (λ o. FailsTest T at (Some v) f)))
+      Refuses T false c (entering k.scopes) f
+      ⊎ AfterValue T c (entering_known k) (λ v m. RefusesStatement T a s (entering_known m) f
+      ⊎ AfterStatement T a s (entering_known m) (λ n. RefusesStatement T a r (entering_known (leaving_known n)) f
+      ⊎ AfterStatement T a r (entering_known (leaving_known n)) (λ o. FailsTest T at (Some v) f)))
   RefusesStatement T a (tree.Switch at paren e brace items) k f =
-      Refuses T false e k.scopes f
-      ⊎ AfterValue T e k (λ v m. RefusesItemsOf T (in_a_switch a) (Some (switch_type T v)) items (entering_known m) f
+      Refuses T false e (entering k.scopes) f
+      ⊎ AfterValue T e (entering_known k) (λ v m. RefusesItemsOf T (in_a_switch a) (Some (switch_type T v)) items (entering_known m) f
       ⊎ AfterItems T (in_a_switch a) (Some (switch_type T v)) items (entering_known m) (λ list n. Fails (switch_tests T at (Tests.AsValue v)) f))
   RefusesStatement T a (tree.While at paren c s) k f =
-      Refuses T false c k.scopes f
-      ⊎ AfterValue T c k (λ v m. RefusesStatement T (in_a_loop a) s m f ⊎ AfterStatement T (in_a_loop a) s m (λ n. FailsTest T at (Some v) f))
+      Refuses T false c (entering k.scopes) f
+      ⊎ AfterValue T c (entering_known k) (λ v m. RefusesStatement T (in_a_loop a) s (entering_known m) f
+      ⊎ AfterStatement T (in_a_loop a) s (entering_known m) (λ n. FailsTest T at (Some v) f))
   RefusesStatement T a (tree.DoWhile s at paren c) k f =
-      RefusesStatement T (in_a_loop a) s k f
-      ⊎ AfterStatement T (in_a_loop a) s k (λ m. Refuses T false c m.scopes f ⊎ AfterValue T c m (λ v n. FailsTest T at (Some v) f))
+      RefusesStatement T (in_a_loop a) s (entering_known (entering_known k)) f
+      ⊎ AfterStatement T (in_a_loop a) s (entering_known (entering_known k)) (λ m. Refuses T false c (leaving m.scopes) f
+      ⊎ AfterValue T c (leaving_known m) (λ v n. FailsTest T at (Some v) f))
   RefusesStatement T a (tree.For at paren first test step s) k f =
-      RefusesOptional T first k.scopes f
-      ⊎ AfterDropped T first k (λ b l. RefusesOptional T test l.scopes f
+      RefusesOptional T first (entering k.scopes) f
+      ⊎ AfterDropped T first (entering_known k) (λ b l. RefusesOptional T test l.scopes f
       ⊎ AfterDropped T test l (λ c m. RefusesOptional T step m.scopes f
-      ⊎ AfterDropped T step m (λ g n. RefusesStatement T (in_a_loop a) s n f ⊎ AfterStatement T (in_a_loop a) s n (λ o. FailsTest T at c f))))
+      ⊎ AfterDropped T step m (λ g n. RefusesStatement T (in_a_loop a) s (entering_known n) f
+      ⊎ AfterStatement T (in_a_loop a) s (entering_known n) (λ o. FailsTest T at c f))))
   RefusesStatement T a (tree.ForDeclaration at paren d test step s) k f =
       RefusesDeclaration T false d (entering_known k) f
       ⊎ ((t : TypedDeclaration) × (l : Known) × IsDeclaration T false t (entering_known k) l × (erased_declaration t ≡ d)
       × (RefusesOptional T test l.scopes f
       ⊎ AfterDropped T test l (λ c m. RefusesOptional T step m.scopes f
-      ⊎ AfterDropped T step m (λ g n. RefusesStatement T (in_a_loop a) s n f ⊎ AfterStatement T (in_a_loop a) s n (λ o. FailsTest T at c f)))))
+      ⊎ AfterDropped T step m (λ g n. RefusesStatement T (in_a_loop a) s (entering_known n) f
+      ⊎ AfterStatement T (in_a_loop a) s (entering_known n) (λ o. FailsTest T at c f)))))
   RefusesStatement T a (tree.Break at) k f = Fails (jump_tests at a.breakable) f
   RefusesStatement T a (tree.Continue at) k f = Fails (jump_tests at a.in_loop) f
   RefusesStatement T a (tree.Return at e) k f = RefusesReturn T at a.result e k.scopes f

@@ -147,16 +147,18 @@ IsObjectDeclared table true storage h name t k k' = IsLinkedObject table name h 
 IsObjectDeclared table false AsExtern h name t k k' = IsLinkedObject table name h t k k'
 IsObjectDeclared table false storage h name t k k' = IsStaticOrLocal table storage h name t k k'
 
-abbrev pub IsTypedefDeclared : Home → Name → TypeId → Known → Known → Type 0
-IsTypedefDeclared home.None name t k k' = (s : Scopes) × IsNewName name (declared.Typedef t) k.scopes s × (k' ≡ with_scopes k s)
-IsTypedefDeclared home name t k k' = ⊥
+-- a typedef; the names of the six runtime functions belong to the file scope
+abbrev pub IsTypedefDeclared : Bool → Home → Name → TypeId → Known → Known → Type 0
+IsTypedefDeclared file home.None name t k k' =
+    (s : Scopes) × IsNewName name (declared.Typedef t) k.scopes s × (k' ≡ with_scopes k s) × (IsTrue file → IsNoName name)
+IsTypedefDeclared file home name t k k' = ⊥
 
 abbrev pub IsOrdinaryDeclared : Bool → Table → Bool → Storage → Home → Name → TypeId → Known → Known → Type 0
 IsOrdinaryDeclared true table file storage h name t k k' = IsFunctionDeclared table h name t k k'
 IsOrdinaryDeclared false table file storage h name t k k' = IsObjectDeclared table file storage h name t k k'
 
 abbrev pub IsNameDeclared : Table → Bool → Storage → Home → Name → TypeId → Known → Known → Type 0
-IsNameDeclared table file AsTypedef h name t k k' = IsTypedefDeclared h name t k k'
+IsNameDeclared table file AsTypedef h name t k k' = IsTypedefDeclared file h name t k k'
 IsNameDeclared table file storage h name t k k' = IsOrdinaryDeclared (is_function_shape (shape_at table t)) table file storage h name t k k'
 
 -- a declarator gives its name a type, and declares it
@@ -287,25 +289,31 @@ IsLabel T None e value = ⊥
 IsLabel T (Some t) e value =
     (k : IntegerType) × (z : ℤ) × IsPlain e × (integer_at T t ≡ Some k) × (constant_value T e ≡ Some z) × (value ≡ converted k z)
 
--- each block has one `default` at most (C99 6.8.4.2)
+-- A selection or iteration statement is a block, and so is each of its substatements (C99 6.8.4, 6.8.5). Each block has one `default` at most (C99 6.8.4.2).
 abbrev mutual
   pub IsStatement : Table → Around → TypedStatement → Known → Known → Type 0
   IsStatement T a (typed.Block brace items) k k' =
       (m : Known) × AreBlockItems T a None items (entering_known k) m × (k' ≡ leaving_known m) × (defaults_in items ≤ 1)
   IsStatement T a (typed.Express e) k k' = IsDropped T (Some e) k k'
   IsStatement T a typed.Empty k k' = k' ≡ k
-  IsStatement T a (typed.If at paren c s) k k' = (m : Known) × IsTested T c k m × IsStatement T a s m k'
-  IsStatement T a (typed.IfElse at paren c s r) k k' = (m n : Known) × IsTested T c k m × IsStatement T a s m n × IsStatement T a r n k'
+  IsStatement T a (typed.If at paren c s) k k' =
+      (m n : Known) × IsTested T c (entering_known k) m × IsStatement T a s (entering_known m) n × (k' ≡ leaving_known (leaving_known n))
+  IsStatement T a (typed.IfElse at paren c s r) k k' =
+      (m n o : Known) × IsTested T c (entering_known k) m × IsStatement T a s (entering_known m) n
+      × IsStatement T a r (entering_known (leaving_known n)) o × (k' ≡ leaving_known (leaving_known o))
   IsStatement T a (typed.Switch at paren e brace items) k k' =
-      (s : Scopes) × (m : Known) × IsTyped T e k.scopes s × IsSwitched T at e items
-      × AreBlockItems T (in_a_switch a) (Some (type_of e)) items (entering_known (with_scopes k s)) m × (k' ≡ leaving_known m)
-  IsStatement T a (typed.While at paren c s) k k' = (m : Known) × IsTested T c k m × IsStatement T (in_a_loop a) s m k'
-  IsStatement T a (typed.DoWhile s at paren c) k k' = (m : Known) × IsStatement T (in_a_loop a) s k m × IsTested T c m k'
+      (s : Scopes) × (m : Known) × IsTyped T e (entering k.scopes) s × IsSwitched T at e items
+      × AreBlockItems T (in_a_switch a) (Some (type_of e)) items (entering_known (with_scopes k s)) m × (k' ≡ leaving_known (leaving_known m))
+  IsStatement T a (typed.While at paren c s) k k' =
+      (m n : Known) × IsTested T c (entering_known k) m × IsStatement T (in_a_loop a) s (entering_known m) n × (k' ≡ leaving_known (leaving_known n))
+  IsStatement T a (typed.DoWhile s at paren c) k k' =
+      (m n : Known) × IsStatement T (in_a_loop a) s (entering_known (entering_known k)) m × IsTested T c (leaving_known m) n × (k' ≡ leaving_known n)
   IsStatement T a (typed.For at paren first test step s) k k' =
-      (l m n : Known) × IsDropped T first k l × IsTestedOrNone T test l m × IsDropped T step m n × IsStatement T (in_a_loop a) s n k'
+      (l m n o : Known) × IsDropped T first (entering_known k) l × IsTestedOrNone T test l m × IsDropped T step m n
+      × IsStatement T (in_a_loop a) s (entering_known n) o × (k' ≡ leaving_known (leaving_known o))
   IsStatement T a (typed.ForDeclaration at paren d test step s) k k' =
       (l m n o : Known) × IsDeclaration T false d (entering_known k) l × IsTestedOrNone T test l m × IsDropped T step m n
-      × IsStatement T (in_a_loop a) s n o × (k' ≡ leaving_known o)
+      × IsStatement T (in_a_loop a) s (entering_known n) o × (k' ≡ leaving_known (leaving_known o))
   IsStatement T a (typed.Break at) k k' = (k' ≡ k) × IsTrue a.breakable
   IsStatement T a (typed.Continue at) k k' = (k' ≡ k) × IsTrue a.in_loop
   IsStatement T a (typed.Return at e) k k' = IsReturned T at a.result e k k'

@@ -149,21 +149,22 @@ module _ (T : Table) where
       (λ i. record (same i) { statics = with_home (node i) (same i).statics }) in
       (h.after ∙ after ∙ sym j.after, subst OwnKnown (sym h.after) middle.1)
 
-  typedef_home : (x : Home) (name : Name) (t : TypeId) (k p : Known) → IsTypedefDeclared x name t k p → x ≡ home.None
-  typedef_home home.None name t k p h = refl
-  typedef_home (home.Static a) name t k p h = absurd h
-  typedef_home (home.Local a) name t k p h = absurd h
-  typedef_home (home.Parameter a) name t k p h = absurd h
-  typedef_home (home.Known a) name t k p h = absurd h
+  typedef_home : (file : Bool) (x : Home) (name : Name) (t : TypeId) (k p : Known) → IsTypedefDeclared file x name t k p → x ≡ home.None
+  typedef_home file home.None name t k p h = refl
+  typedef_home file (home.Static a) name t k p h = absurd h
+  typedef_home file (home.Local a) name t k p h = absurd h
+  typedef_home file (home.Parameter a) name t k p h = absurd h
+  typedef_home file (home.Known a) name t k p h = absurd h
 
-  typedef_one : (x : Home) (name : Name) (t : TypeId) (k p q : Known) → OwnKnown k → IsTypedefDeclared x name t k p → IsTypedefDeclared x name t k q → (p ≡ q) × OwnKnown p
-  typedef_one home.None name t k p q own h j =
+  typedef_one : (file : Bool) (x : Home) (name : Name) (t : TypeId) (k p q : Known) → OwnKnown k → IsTypedefDeclared file x name t k p → IsTypedefDeclared file x name t k q
+      → (p ≡ q) × OwnKnown p
+  typedef_one file home.None name t k p q own h j =
       let s = new_same name (declared.Typedef t) k.scopes h.0 j.0 own h.1 j.1 in
       (h.2 ∙ ap (with_scopes k) s.0 ∙ sym j.2, subst OwnKnown (sym h.2) s.1)
-  typedef_one (home.Static a) name t k p q own h j = absurd h
-  typedef_one (home.Local a) name t k p q own h j = absurd h
-  typedef_one (home.Parameter a) name t k p q own h j = absurd h
-  typedef_one (home.Known a) name t k p q own h j = absurd h
+  typedef_one file (home.Static a) name t k p q own h j = absurd h
+  typedef_one file (home.Local a) name t k p q own h j = absurd h
+  typedef_one file (home.Parameter a) name t k p q own h j = absurd h
+  typedef_one file (home.Known a) name t k p q own h j = absurd h
 
   -- objects
 
@@ -204,7 +205,7 @@ module _ (T : Table) where
   -- two declarations of one name, as functions both or not, have homes of one sort
   pub name-homes : (file : Bool) (storage : Storage) (x y : Home) (name : Name) (t u : TypeId) (k p l q : Known) → is_function_shape (shape_at T t) ≡ is_function_shape (shape_at T u)
       → entry_of k.linked name ≡ entry_of l.linked name → IsNameDeclared T file storage x name t k p → IsNameDeclared T file storage y name u l q → AreHomesAlike x y
-  name-homes file AsTypedef x y name t u k p l q f e h j = homes-none x y (typedef_home x name t k p h) (typedef_home y name u l q j)
+  name-homes file AsTypedef x y name t u k p l q f e h j = homes-none x y (typedef_home file x name t k p h) (typedef_home file y name u l q j)
   name-homes file Unstored x y name t u k p l q f e h j = ordinary_homes (is_function_shape (shape_at T t)) file Unstored x y name t u k p l q e h (functions file Unstored y name t u l q f j)
   name-homes file AsExtern x y name t u k p l q f e h j = ordinary_homes (is_function_shape (shape_at T t)) file AsExtern x y name t u k p l q e h (functions file AsExtern y name t u l q f j)
   name-homes file AsStatic x y name t u k p l q f e h j = ordinary_homes (is_function_shape (shape_at T t)) file AsStatic x y name t u k p l q e h (functions file AsStatic y name t u l q f j)
@@ -213,7 +214,7 @@ module _ (T : Table) where
   -- what is known after a declaration is one
   pub name-one : (file : Bool) (storage : Storage) (x : Home) (name : Name) (t : TypeId) (k p q : Known) → OwnKnown k → IsNameDeclared T file storage x name t k p
       → IsNameDeclared T file storage x name t k q → (p ≡ q) × OwnKnown p
-  name-one file AsTypedef x name t k p q own h j = typedef_one x name t k p q own h j
+  name-one file AsTypedef x name t k p q own h j = typedef_one file x name t k p q own h j
   name-one file Unstored x name t k p q own h j = ordinary_one (is_function_shape (shape_at T t)) file Unstored x name t k p q own h j
   name-one file AsExtern x name t k p q own h j = ordinary_one (is_function_shape (shape_at T t)) file AsExtern x name t k p q own h j
   name-one file AsStatic x name t k p q own h j = ordinary_one (is_function_shape (shape_at T t)) file AsStatic x name t k p q own h j

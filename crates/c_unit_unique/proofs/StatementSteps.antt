@@ -73,33 +73,56 @@ module _ (T : Table) (D : IsDistinct T) where
   abbrev pub AreItemsUnique : tree.BlockItems → Type 0
   AreItemsUnique x = (a : Around) (on : Option TypeId) → IsUniqueIn erased_block_items made_by_block_items (AreBlockItems T a on) x
 
+  -- a statement in a scope of its own
+  abbrev Inner : Around → TypedStatement → Known → Known → Type 0
+  Inner a y k k' = (m : Known) × IsStatement T a y (entering_known k) m × (k' ≡ leaving_known m)
+
+  abbrev IsInnerRead : Around → tree.Statement → TypedStatement → Spot → Spot → Type 0
+  IsInnerRead a = IsReadIn erased_statement made_by_statement (Inner a)
+
+  inner_one : (a : Around) (x : tree.Statement) → IsStatementUnique x → IsUniqueIn erased_statement made_by_statement (Inner a) x
+  inner_one a x u y z p q r s h k o own =
+      let m : Spot = record { known = h.1.0; node = q.node } in
+      let n : Spot = record { known = k.1.0; node = s.node } in
+      let one = u a y z (entered p) m (entered r) n (h.0, h.1.1, h.2) (k.0, k.1.1, k.2) (ap entered o) own in
+      let before = spot-same q (left_behind m) h.1.2 refl in
+      let after = spot-same s (left_behind n) k.1.2 refl in
+      (one.0, before ∙ ap left_behind one.1 ∙ sym after, subst OwnSpot (sym before) one.2)
+
   record IsSwitch (a : Around) (at : Place) (x : tree.Expr) (items : tree.BlockItems) (e : TypedExpr) (list : TypedBlockItems) (p q : Spot) : Type 0 where
     inside : Scopes
     begin : ℕ
     last : Spot
     erases : erased e ≡ x
-    typed_value : IsTyped T e p.known.scopes inside
+    typed_value : IsTyped T e (entered p).known.scopes inside
     numbers : Numbers (made_by e) p.node begin
     switched : IsSwitched T at e list
     body : AreItemsRead (in_a_switch a) (Some (type_of e)) items list (entered (record { known = with_scopes p.known inside; node = begin })) last
-    after : q ≡ left_behind last
+    after : q ≡ left_behind (left_behind last)
 
   abbrev IsStatementOf : Around → tree.Statement → TypedStatement → Spot → Spot → Type 0
   IsStatementOf a (tree.Block at items) y p q = (x : TypedBlockItems) × (m : Spot) × AreItemsRead a None items x (entered p) m × (q ≡ left_behind m) × (y ≡ typed.Block at x)
   IsStatementOf a (tree.Express e) y p q = (f : TypedExpr) × IsDroppedRead (Some e) (Some f) p q × (y ≡ typed.Express f)
   IsStatementOf a tree.Empty y p q = (y ≡ typed.Empty) × (q ≡ p)
-  IsStatementOf a (tree.If at paren c s) y p q = (f : TypedExpr) × (x : TypedStatement) × InBoth (IsTestRead c f) (IsStatementRead a s x) p q × (y ≡ typed.If at paren f x)
+  IsStatementOf a (tree.If at paren c s) y p q =
+      (f : TypedExpr) × (x : TypedStatement) × (m : Spot) × InBoth (IsTestRead c f) (IsInnerRead a s x) (entered p) m × (q ≡ left_behind m) × (y ≡ typed.If at paren f x)
   IsStatementOf a (tree.IfElse at paren c s r) y p q =
-      (f : TypedExpr) × (x z : TypedStatement) × InBoth (IsTestRead c f) (InBoth (IsStatementRead a s x) (IsStatementRead a r z)) p q × (y ≡ typed.IfElse at paren f x z)
+      (f : TypedExpr) × (x z : TypedStatement) × (m : Spot) × InBoth (IsTestRead c f) (InBoth (IsInnerRead a s x) (IsInnerRead a r z)) (entered p) m
+      × (q ≡ left_behind m) × (y ≡ typed.IfElse at paren f x z)
   IsStatementOf a (tree.Switch at paren e brace items) y p q = (f : TypedExpr) × (x : TypedBlockItems) × IsSwitch a at e items f x p q × (y ≡ typed.Switch at paren f brace x)
-  IsStatementOf a (tree.While at paren c s) y p q = (f : TypedExpr) × (x : TypedStatement) × InBoth (IsTestRead c f) (IsStatementRead (in_a_loop a) s x) p q × (y ≡ typed.While at paren f x)
-  IsStatementOf a (tree.DoWhile s at paren c) y p q = (x : TypedStatement) × (f : TypedExpr) × InBoth (IsStatementRead (in_a_loop a) s x) (IsTestRead c f) p q × (y ≡ typed.DoWhile x at paren f)
+  IsStatementOf a (tree.While at paren c s) y p q =
+      (f : TypedExpr) × (x : TypedStatement) × (m : Spot) × InBoth (IsTestRead c f) (IsInnerRead (in_a_loop a) s x) (entered p) m × (q ≡ left_behind m)
+      × (y ≡ typed.While at paren f x)
+  IsStatementOf a (tree.DoWhile s at paren c) y p q =
+      (x : TypedStatement) × (f : TypedExpr) × (m : Spot) × InBoth (IsInnerRead (in_a_loop a) s x) (IsTestRead c f) (entered p) m × (q ≡ left_behind m)
+      × (y ≡ typed.DoWhile x at paren f)
   IsStatementOf a (tree.For at paren b c d s) y p q =
-      (f g k : Option TypedExpr) × (x : TypedStatement) × InBoth (IsDroppedRead b f) (InBoth (IsTestOrNoneRead c g) (InBoth (IsDroppedRead d k) (IsStatementRead (in_a_loop a) s x))) p q
-      × (y ≡ typed.For at paren f g k x)
+      (f g k : Option TypedExpr) × (x : TypedStatement) × (m : Spot)
+      × InBoth (IsDroppedRead b f) (InBoth (IsTestOrNoneRead c g) (InBoth (IsDroppedRead d k) (IsInnerRead (in_a_loop a) s x))) (entered p) m
+      × (q ≡ left_behind m) × (y ≡ typed.For at paren f g k x)
   IsStatementOf a (tree.ForDeclaration at paren b c d s) y p q =
       (f : TypedDeclaration) × (g k : Option TypedExpr) × (x : TypedStatement) × (m : Spot)
-      × InBoth (IsDeclarationRead b f) (InBoth (IsTestOrNoneRead c g) (InBoth (IsDroppedRead d k) (IsStatementRead (in_a_loop a) s x))) (entered p) m
+      × InBoth (IsDeclarationRead b f) (InBoth (IsTestOrNoneRead c g) (InBoth (IsDroppedRead d k) (IsInnerRead (in_a_loop a) s x))) (entered p) m
       × (q ≡ left_behind m) × (y ≡ typed.ForDeclaration at paren f g k x)
   IsStatementOf a (tree.Break at) y p q = (y ≡ typed.Break at) × (q ≡ p)
   IsStatementOf a (tree.Continue at) y p q = (y ≡ typed.Continue at) × (q ≡ p)
@@ -111,35 +134,43 @@ module _ (T : Table) (D : IsDistinct T) where
   statement_of a (typed.Express e) p q h k = (e, (refl, h, k), refl)
   statement_of a typed.Empty p q h k = (refl, spot-same q p h k)
   statement_of a (typed.If at paren c s) p q h k =
-      (c, s, in-both erased made_by (IsTested T) erased_statement made_by_statement (IsStatement T a) c s h.0 p q h.1 h.2 k, refl)
+      let m : Spot = record { known = leaving_known h.1; node = q.node } in
+      let both = in-both erased made_by (IsTested T) erased_statement made_by_statement (Inner a) c s h.0 (entered p) m h.2 (h.1, h.3, refl) k in
+      (c, s, m, both, spot-same q (left_behind m) h.4 refl, refl)
   statement_of a (typed.IfElse at paren c s r) p q h k =
       let cut = two-parts (made_by c ++ made_by_statement s) (made_by_statement r) p.node q.node k in
-      let n : Spot = record { known = h.1; node = cut.0 } in
-      let first = in-both erased made_by (IsTested T) erased_statement made_by_statement (IsStatement T a) c s h.0 p n h.2 h.3 cut.1 in
-      (c, s, r, (first.0, first.1, (n, first.2, (refl, h.4, cut.2))), refl)
+      let n : Spot = record { known = leaving_known h.1; node = cut.0 } in
+      let m : Spot = record { known = leaving_known h.2; node = q.node } in
+      let first = in-both erased made_by (IsTested T) erased_statement made_by_statement (Inner a) c s h.0 (entered p) n h.3 (h.1, h.4, refl) cut.1 in
+      (c, s, r, m, (first.0, first.1, (n, first.2, (refl, (h.2, h.5, refl), cut.2))), spot-same q (left_behind m) h.6 refl, refl)
   statement_of a (typed.Switch at paren e brace items) p q h k =
       let cut = two-parts (made_by e) (made_by_block_items items) p.node q.node k in
       let m : Spot = record { known = h.1; node = q.node } in
-      (e, items, record { inside = h.0; begin = cut.0; last = m; erases = refl; typed_value = h.2; numbers = cut.1; switched = h.3; body = (refl, h.4, cut.2); after = spot-same q (left_behind m) h.5 refl }, refl)
+      (e, items, record { inside = h.0; begin = cut.0; last = m; erases = refl; typed_value = h.2; numbers = cut.1; switched = h.3; body = (refl, h.4, cut.2); after = spot-same q (left_behind (left_behind m)) h.5 refl }, refl)
   statement_of a (typed.While at paren c s) p q h k =
-      (c, s, in-both erased made_by (IsTested T) erased_statement made_by_statement (IsStatement T (in_a_loop a)) c s h.0 p q h.1 h.2 k, refl)
+      let m : Spot = record { known = leaving_known h.1; node = q.node } in
+      let both = in-both erased made_by (IsTested T) erased_statement made_by_statement (Inner (in_a_loop a)) c s h.0 (entered p) m h.2 (h.1, h.3, refl) k in
+      (c, s, m, both, spot-same q (left_behind m) h.4 refl, refl)
   statement_of a (typed.DoWhile s at paren c) p q h k =
-      (s, c, in-both erased_statement made_by_statement (IsStatement T (in_a_loop a)) erased made_by (IsTested T) s c h.0 p q h.1 h.2 k, refl)
+      let m : Spot = record { known = h.1; node = q.node } in
+      let both = in-both erased_statement made_by_statement (Inner (in_a_loop a)) erased made_by (IsTested T) s c (leaving_known h.0) (entered p) m (h.0, h.2, refl) h.3 k in
+      (s, c, m, both, spot-same q (left_behind m) h.4 refl, refl)
   statement_of a (typed.For at paren f g e s) p q h k =
       let last = two-parts (made_by_optional f ++ made_by_optional g ++ made_by_optional e) (made_by_statement s) p.node q.node k in
       let o : Spot = record { known = h.2; node = last.0 } in
       let next = two-parts (made_by_optional f ++ made_by_optional g) (made_by_optional e) p.node last.0 last.1 in
       let n : Spot = record { known = h.1; node = next.0 } in
-      let first = in-both erased_optional made_by_optional (IsDropped T) erased_optional made_by_optional (IsTestedOrNone T) f g h.0 p n h.3 h.4 next.1 in
-      (f, g, e, s, (first.0, first.1, (n, first.2, (o, (refl, h.5, next.2), (refl, h.6, last.2)))), refl)
+      let m : Spot = record { known = leaving_known h.3; node = q.node } in
+      let first = in-both erased_optional made_by_optional (IsDropped T) erased_optional made_by_optional (IsTestedOrNone T) f g h.0 (entered p) n h.4 h.5 next.1 in
+      (f, g, e, s, m, (first.0, first.1, (n, first.2, (o, (refl, h.6, next.2), (refl, (h.3, h.7, refl), last.2)))), spot-same q (left_behind m) h.8 refl, refl)
   statement_of a (typed.ForDeclaration at paren f g e s) p q h k =
       let last = two-parts (made_by_declaration f ++ made_by_optional g ++ made_by_optional e) (made_by_statement s) p.node q.node k in
       let o : Spot = record { known = h.2; node = last.0 } in
       let next = two-parts (made_by_declaration f ++ made_by_optional g) (made_by_optional e) p.node last.0 last.1 in
       let n : Spot = record { known = h.1; node = next.0 } in
-      let m : Spot = record { known = h.3; node = q.node } in
+      let m : Spot = record { known = leaving_known h.3; node = q.node } in
       let first = in-both erased_declaration made_by_declaration (IsDeclaration T false) erased_optional made_by_optional (IsTestedOrNone T) f g h.0 (entered p) n h.4 h.5 next.1 in
-      (f, g, e, s, m, (first.0, first.1, (n, first.2, (o, (refl, h.6, next.2), (refl, h.7, last.2)))), spot-same q (left_behind m) h.8 refl, refl)
+      (f, g, e, s, m, (first.0, first.1, (n, first.2, (o, (refl, h.6, next.2), (refl, (h.3, h.7, refl), last.2)))), spot-same q (left_behind m) h.8 refl, refl)
   statement_of a (typed.Break at) p q h k = (refl, spot-same q p h.0 k)
   statement_of a (typed.Continue at) p q h k = (refl, spot-same q p h.0 k)
   statement_of a (typed.Return at e) p q h k = (e, (refl, h, k), refl)
@@ -171,57 +202,63 @@ module _ (T : Table) (D : IsDistinct T) where
 
   if_again : (at paren : Place) (c : tree.Expr) (x : tree.Statement) → IsStatementUnique x → IsAgain (tree.If at paren c x)
   if_again at paren c x u a y z p q r s h k o own =
-      let one = both-one erased made_by (IsTested T) erased_statement made_by_statement (IsStatement T a) c x (tested-one T D c) (u a) h.0 k.0 h.1 k.1 p q r s h.2 k.2 o own in
+      let one = both-one erased made_by (IsTested T) erased_statement made_by_statement (Inner a) c x (tested-one T D c) (inner_one a x u) h.0 k.0 h.1 k.1
+      (entered p) h.2 (entered r) k.2 h.3 k.3 (ap entered o) own in
       let test = one.0 in
       let body = one.1 in
       let whole : typed.If at paren h.0 h.1 ≡ typed.If at paren k.0 k.1 = (λ i. typed.If at paren (test i) (body i)) in
-      (h.3 ∙ whole ∙ sym k.3, one.2, one.3)
+      (h.5 ∙ whole ∙ sym k.5, h.4 ∙ ap left_behind one.2 ∙ sym k.4, subst OwnSpot (sym h.4) one.3)
 
   if_else_again : (at paren : Place) (c : tree.Expr) (x w : tree.Statement) → IsStatementUnique x → IsStatementUnique w → IsAgain (tree.IfElse at paren c x w)
   if_else_again at paren c x w u v a y z p q r s h k o own =
-      let first = tested-one T D c h.0 k.0 p h.3.0 r k.3.0 h.3.1 k.3.1 o own in
-      let rest = both-one erased_statement made_by_statement (IsStatement T a) erased_statement made_by_statement (IsStatement T a) x w (u a) (v a) h.1 k.1 h.2 k.2 h.3.0 q k.3.0 s h.3.2 k.3.2 first.1 first.2 in
+      let first = tested-one T D c h.0 k.0 (entered p) h.4.0 (entered r) k.4.0 h.4.1 k.4.1 (ap entered o) own in
+      let rest = both-one erased_statement made_by_statement (Inner a) erased_statement made_by_statement (Inner a) x w (inner_one a x u) (inner_one a w v) h.1 k.1 h.2 k.2
+      h.4.0 h.3 k.4.0 k.3 h.4.2 k.4.2 first.1 first.2 in
       let test = first.0 in
       let body = rest.0 in
       let other = rest.1 in
       let whole : typed.IfElse at paren h.0 h.1 h.2 ≡ typed.IfElse at paren k.0 k.1 k.2 = (λ i. typed.IfElse at paren (test i) (body i) (other i)) in
-      (h.4 ∙ whole ∙ sym k.4, rest.2, rest.3)
+      (h.6 ∙ whole ∙ sym k.6, h.5 ∙ ap left_behind rest.2 ∙ sym k.5, subst OwnSpot (sym h.5) rest.3)
 
   while_again : (at paren : Place) (c : tree.Expr) (x : tree.Statement) → IsStatementUnique x → IsAgain (tree.While at paren c x)
   while_again at paren c x u a y z p q r s h k o own =
-      let one = both-one erased made_by (IsTested T) erased_statement made_by_statement (IsStatement T (in_a_loop a)) c x (tested-one T D c) (u (in_a_loop a)) h.0 k.0 h.1 k.1 p q r s h.2 k.2 o own in
+      let b = in_a_loop a in
+      let one = both-one erased made_by (IsTested T) erased_statement made_by_statement (Inner b) c x (tested-one T D c) (inner_one b x u) h.0 k.0 h.1 k.1
+      (entered p) h.2 (entered r) k.2 h.3 k.3 (ap entered o) own in
       let test = one.0 in
       let body = one.1 in
       let whole : typed.While at paren h.0 h.1 ≡ typed.While at paren k.0 k.1 = (λ i. typed.While at paren (test i) (body i)) in
-      (h.3 ∙ whole ∙ sym k.3, one.2, one.3)
+      (h.5 ∙ whole ∙ sym k.5, h.4 ∙ ap left_behind one.2 ∙ sym k.4, subst OwnSpot (sym h.4) one.3)
 
   do_again : (x : tree.Statement) (at paren : Place) (c : tree.Expr) → IsStatementUnique x → IsAgain (tree.DoWhile x at paren c)
   do_again x at paren c u a y z p q r s h k o own =
-      let one = both-one erased_statement made_by_statement (IsStatement T (in_a_loop a)) erased made_by (IsTested T) x c (u (in_a_loop a)) (tested-one T D c) h.0 k.0 h.1 k.1 p q r s h.2 k.2 o own in
+      let b = in_a_loop a in
+      let one = both-one erased_statement made_by_statement (Inner b) erased made_by (IsTested T) x c (inner_one b x u) (tested-one T D c) h.0 k.0 h.1 k.1
+      (entered p) h.2 (entered r) k.2 h.3 k.3 (ap entered o) own in
       let body = one.0 in
       let test = one.1 in
       let whole : typed.DoWhile h.0 at paren h.1 ≡ typed.DoWhile k.0 at paren k.1 = (λ i. typed.DoWhile (body i) at paren (test i)) in
-      (h.3 ∙ whole ∙ sym k.3, one.2, one.3)
+      (h.5 ∙ whole ∙ sym k.5, h.4 ∙ ap left_behind one.2 ∙ sym k.4, subst OwnSpot (sym h.4) one.3)
 
   -- the test and the step of a loop, and its body
   loop_again : (c d : Option tree.Expr) (x : tree.Statement) → IsStatementUnique x → (a : Around) (g m : Option TypedExpr) (y : TypedStatement) (f n : Option TypedExpr) (z : TypedStatement) (p q r s : Spot)
-      → InBoth (IsTestOrNoneRead c g) (InBoth (IsDroppedRead d m) (IsStatementRead (in_a_loop a) x y)) p q → InBoth (IsTestOrNoneRead c f) (InBoth (IsDroppedRead d n) (IsStatementRead (in_a_loop a) x z)) r s
+      → InBoth (IsTestOrNoneRead c g) (InBoth (IsDroppedRead d m) (IsInnerRead (in_a_loop a) x y)) p q → InBoth (IsTestOrNoneRead c f) (InBoth (IsDroppedRead d n) (IsInnerRead (in_a_loop a) x z)) r s
       → p ≡ r → OwnSpot p → (g ≡ f) × (m ≡ n) × (y ≡ z) × (q ≡ s) × OwnSpot q
   loop_again c d x u a g m y f n z p q r s h k o own =
       let first = tested-or-none T D c g f p h.0 r k.0 h.1 k.1 o own in
-      let rest = both-one erased_optional made_by_optional (IsDropped T) erased_statement made_by_statement (IsStatement T (in_a_loop a)) d x (dropped-one T D d) (u (in_a_loop a)) m n y z h.0 q k.0 s h.2 k.2 first.1 first.2 in
+      let rest = both-one erased_optional made_by_optional (IsDropped T) erased_statement made_by_statement (Inner (in_a_loop a)) d x (dropped-one T D d) (inner_one (in_a_loop a) x u) m n y z h.0 q k.0 s h.2 k.2 first.1 first.2 in
       (first.0, rest.0, rest.1, rest.2, rest.3)
 
   for_again : (at paren : Place) (b c d : Option tree.Expr) (x : tree.Statement) → IsStatementUnique x → IsAgain (tree.For at paren b c d x)
   for_again at paren b c d x u a y z p q r s h k o own =
-      let first = dropped-one T D b h.0 k.0 p h.4.0 r k.4.0 h.4.1 k.4.1 o own in
-      let rest = loop_again c d x u a h.1 h.2 h.3 k.1 k.2 k.3 h.4.0 q k.4.0 s h.4.2 k.4.2 first.1 first.2 in
+      let first = dropped-one T D b h.0 k.0 (entered p) h.5.0 (entered r) k.5.0 h.5.1 k.5.1 (ap entered o) own in
+      let rest = loop_again c d x u a h.1 h.2 h.3 k.1 k.2 k.3 h.5.0 h.4 k.5.0 k.4 h.5.2 k.5.2 first.1 first.2 in
       let begin = first.0 in
       let test = rest.0 in
       let step = rest.1 in
       let body = rest.2 in
       let whole : typed.For at paren h.0 h.1 h.2 h.3 ≡ typed.For at paren k.0 k.1 k.2 k.3 = (λ i. typed.For at paren (begin i) (test i) (step i) (body i)) in
-      (h.5 ∙ whole ∙ sym k.5, rest.3, rest.4)
+      (h.7 ∙ whole ∙ sym k.7, h.6 ∙ ap left_behind rest.3 ∙ sym k.6, subst OwnSpot (sym h.6) rest.4)
 
   for_declaration_again : (at paren : Place) (b : tree.Declaration) (c d : Option tree.Expr) (x : tree.Statement) → IsStatementUnique x → IsAgain (tree.ForDeclaration at paren b c d x)
   for_declaration_again at paren b c d x u a y z p q r s h k o own =
@@ -245,7 +282,7 @@ module _ (T : Table) (D : IsDistinct T) where
       let w = k.2 in
       let begin : Spot = record { known = with_scopes p.known x.inside; node = x.begin } in
       let begin' : Spot = record { known = with_scopes r.known w.inside; node = w.begin } in
-      let first = with-value T D e h.0 k.0 x.inside w.inside p begin r begin' x.erases w.erases x.typed_value w.typed_value refl refl x.numbers w.numbers o own
+      let first = with-value T D e h.0 k.0 x.inside w.inside (entered p) begin (entered r) begin' x.erases w.erases x.typed_value w.typed_value refl refl x.numbers w.numbers (ap entered o) own
       (λ alike. (prefix-one unary.Plus T D at h.0 k.0 (type_of h.0) (type_of k.0)
       (alike-plain (bare h.0) (bare k.0) alike (plain-over (bare h.0) x.switched.operand.operand.plain) (plain-over (bare k.0) w.switched.operand.operand.plain))
       x.switched.operand w.switched.operand).0) in
@@ -254,7 +291,7 @@ module _ (T : Table) (D : IsDistinct T) where
       let second = u (in_a_switch a) (Some (type_of h.0)) h.1 k.1 (entered begin) x.last (entered begin') w.last x.body body (ap entered first.1) first.2 in
       let list = second.0 in
       let whole : typed.Switch at paren h.0 brace h.1 ≡ typed.Switch at paren k.0 brace k.1 = (λ i. typed.Switch at paren (value i) brace (list i)) in
-      (h.3 ∙ whole ∙ sym k.3, x.after ∙ ap left_behind second.1 ∙ sym w.after, subst OwnSpot (sym x.after) second.2)
+      (h.3 ∙ whole ∙ sym k.3, x.after ∙ ap (λ (m : Spot). left_behind (left_behind m)) second.1 ∙ sym w.after, subst OwnSpot (sym x.after) second.2)
 
   -- What a block holds
 

@@ -18,7 +18,7 @@ use Rattle.c_typing.specs.declared.declared.Declared.TheVariants as declared
 use Rattle.c_typing.specs.Shapes.{is_function_shape}
 use Rattle.c_typing.specs.Scopes.{Name, entry_of}
 use Rattle.c_typing.specs.Declarators.{Outermost}
-use Rattle.c_unit_typing.specs.Units.{Known, Storage, Unstored, AsTypedef, AsExtern, AsStatic, AsAutomatic, storage_of_word, storage_of_list, storage_of, AgreesWith, unless_linked, IsLinked, IsLinkedObject, IsStaticOrLocal, IsObjectDeclared, IsOrdinaryDeclared, IsNameDeclared, IsDeclarator, IsDefinedOnce, IsInitialised, bytes_of_name, AreDeclarators, IsDeclaration, Around, in_a_loop, in_a_switch, IsDropped, IsTestedOrNone, IsReturned, IsStatement, AreBlockItems, IsUnitTyped}
+use Rattle.c_unit_typing.specs.Units.{Known, Storage, Unstored, AsTypedef, AsExtern, AsStatic, AsAutomatic, storage_of_word, storage_of_list, storage_of, AgreesWith, unless_linked, IsLinked, IsLinkedObject, IsStaticOrLocal, IsObjectDeclared, IsOrdinaryDeclared, IsNameDeclared, IsDeclarator, IsDefinedOnce, IsInitialised, bytes_of_name, AreDeclarators, IsDeclaration, Around, in_a_loop, in_a_switch, IsDropped, IsTestedOrNone, IsReturned, entering_known, leaving_known, IsStatement, AreBlockItems, IsUnitTyped}
 use Rattle.c_ready.specs.Ready.{IsAlike}
 use Rattle.c_ready.proofs.ReadyNames.{entry-kept, entry-new}
 use Rattle.unit_sites.proofs.Elements.{only}
@@ -290,26 +290,33 @@ module _ (T : Table) where
     statement-linked a (typed.Express e) k m h = quiet k.linked m.linked (ap linked_of h.3)
     statement-linked a typed.Empty k m h = quiet k.linked m.linked (ap linked_of h)
     statement-linked a (typed.If at paren c s) k m h =
-        first-same k.linked h.0.linked m.linked (declarators_in_statement s) (ap linked_of h.1.3) (statement-linked a s h.0 m h.2)
+        first-same k.linked h.0.linked m.linked (declarators_in_statement s) (ap linked_of h.2.3)
+        (then-same h.0.linked h.1.linked m.linked (declarators_in_statement s) (statement-linked a s (entering_known h.0) h.1 h.3) (ap linked_of h.4))
     statement-linked a (typed.IfElse at paren c s r) k m h =
-        first-same k.linked h.0.linked m.linked (declarators_in_statement s ++ declarators_in_statement r) (ap linked_of h.2.3)
-        (seq h.0.linked h.1.linked m.linked (declarators_in_statement s) (declarators_in_statement r) (statement-linked a s h.0 h.1 h.3)
-        (statement-linked a r h.1 m h.4))
+        first-same k.linked h.0.linked m.linked (declarators_in_statement s ++ declarators_in_statement r) (ap linked_of h.3.3)
+        (then-same h.0.linked h.2.linked m.linked (declarators_in_statement s ++ declarators_in_statement r)
+        (seq h.0.linked h.1.linked h.2.linked (declarators_in_statement s) (declarators_in_statement r) (statement-linked a s (entering_known h.0) h.1 h.4)
+        (statement-linked a r (entering_known (leaving_known h.1)) h.2 h.5)) (ap linked_of h.6))
     statement-linked a (typed.Switch at paren e brace items) k m h =
         then-same k.linked h.1.linked m.linked (declarators_in_items items) (items-linked (in_a_switch a) (Some (type_of e)) items _ h.1 h.4)
         (ap linked_of h.5)
     statement-linked a (typed.While at paren c s) k m h =
-        first-same k.linked h.0.linked m.linked (declarators_in_statement s) (ap linked_of h.1.3) (statement-linked (in_a_loop a) s h.0 m h.2)
+        first-same k.linked h.0.linked m.linked (declarators_in_statement s) (ap linked_of h.2.3)
+        (then-same h.0.linked h.1.linked m.linked (declarators_in_statement s) (statement-linked (in_a_loop a) s (entering_known h.0) h.1 h.3)
+        (ap linked_of h.4))
     statement-linked a (typed.DoWhile s at paren c) k m h =
-        then-same k.linked h.0.linked m.linked (declarators_in_statement s) (statement-linked (in_a_loop a) s k h.0 h.1) (ap linked_of h.2.3)
+        then-same k.linked h.0.linked m.linked (declarators_in_statement s) (statement-linked (in_a_loop a) s (entering_known (entering_known k)) h.0 h.2)
+        (ap linked_of h.4 ∙ ap linked_of h.3.3)
     statement-linked a (typed.For at paren x y z s) k m h =
         first-same k.linked h.2.linked m.linked (declarators_in_statement s)
-        (dropped-same z h.1 h.2 h.5 ∙ (tested-same y h.0 h.1 h.4 ∙ dropped-same x k h.0 h.3)) (statement-linked (in_a_loop a) s h.2 m h.6)
+        (dropped-same z h.1 h.2 h.6 ∙ (tested-same y h.0 h.1 h.5 ∙ dropped-same x (entering_known k) h.0 h.4))
+        (then-same h.2.linked h.3.linked m.linked (declarators_in_statement s) (statement-linked (in_a_loop a) s (entering_known h.2) h.3 h.7)
+        (ap linked_of h.8))
     statement-linked a (typed.ForDeclaration at paren d y z s) k m h =
         then-same k.linked h.3.linked m.linked (declarators_in_declaration d ++ declarators_in_statement s)
         (seq k.linked h.0.linked h.3.linked (declarators_in_declaration d) (declarators_in_statement s) (declaration-linked false d _ h.0 h.4)
         (first-same h.0.linked h.2.linked h.3.linked (declarators_in_statement s)
-        (dropped-same z h.1 h.2 h.6 ∙ tested-same y h.0 h.1 h.5) (statement-linked (in_a_loop a) s h.2 h.3 h.7))) (ap linked_of h.8)
+        (dropped-same z h.1 h.2 h.6 ∙ tested-same y h.0 h.1 h.5) (statement-linked (in_a_loop a) s (entering_known h.2) h.3 h.7))) (ap linked_of h.8)
     statement-linked a (typed.Break at) k m h = quiet k.linked m.linked (ap linked_of h.0)
     statement-linked a (typed.Continue at) k m h = quiet k.linked m.linked (ap linked_of h.0)
     statement-linked a (typed.Return at e) k m h = quiet k.linked m.linked (returned-same at a.result e k m h)

@@ -1,6 +1,11 @@
 -- What is known of temporaries that each have their own column.
-use Rattle.std.proofs.Common.{◌≡◌, refl, ap, sym, subst, ◌∙◌, ℕ, ◌+◌, ◌*◌, Bool, true, false, if◌then◌else◌, Option, Some, None, List, [], ◌∷◌, eqb-eq}
+use Rattle.std.proofs.lemmas.Bool.Decides.{nat_tests}
+use Rattle.std.proofs.Common.{◌≡◌, refl, ap, sym, subst, ◌∙◌, ℕ, ◌+◌, ◌*◌, ◌≤◌, arith, Bool, true, false, if◌then◌else◌, Option, Some, None, List, [], ◌∷◌, nat_eq}
 use Rattle.cc_base.specs.declared.number.TypeId.{TypeId}
+use Rattle.cc_base.specs.declared.number.NodeId.{NodeId}
+use Rattle.cc_base.specs.declared.kind.Kind.{Kind}
+use Rattle.cc_base.specs.declared.kind.Kind.TheVariants.{Safe, Seq, Rtti, Wild}
+use Rattle.sim_relation.specs.Ground.{word_number}
 use Rattle.c_types.specs.declared.shape.TypeShape.{TypeShape}
 use Rattle.c_types.specs.declared.shape.TypeShape.TheVariants as shape
 use Rattle.c_types.specs.Table.{shape_at}
@@ -17,11 +22,14 @@ use Rattle.cure_rules.specs.Known as known
 use Rattle.cure_rules.specs.Known.{World, known_at, known_of, with_known, Leaves, IsPlainInteger, IsExactly, IsLowly}
 use Rattle.cure_scope.specs.declared.scope.Scope.{Scope}
 use Rattle.cure_scope.specs.Scopes.{fixed_column, fixed_slots, world_of}
-use Rattle.cure_instrs.specs.Cured.{IsIn}
+use Rattle.cure_instrs.specs.Cured.{IsIn, node_at, kind_at}
+
+same-number : (m n : ℕ) → nat_eq m n ≡ true → n ≡ m
+same-number m n e = grind (arith, nat_tests, e)
 
 pub same_column : (t u : Temp) → is_same t u ≡ true → fixed_column u ≡ fixed_column t
-same_column (temp.Value m) (temp.Value n) e = ap (λ z. 412 + 3 * z) (sym (eqb-eq m n e))
-same_column (temp.Switch m) (temp.Switch n) e = ap (λ z. 1180 + 3 * z) (sym (eqb-eq m n e))
+same_column (temp.Value m) (temp.Value n) e = ap (λ z. 412 + 3 * z) (same-number m n e)
+same_column (temp.Switch m) (temp.Switch n) e = ap (λ z. 1180 + 3 * z) (same-number m n e)
 same_column (temp.Work First) (temp.Work First) e = refl
 same_column (temp.Work Second) (temp.Work Second) e = refl
 same_column (temp.Work First) (temp.Work Second) e = cc
@@ -72,3 +80,21 @@ is_exactly p types t i h = (record { type = IntegerOf i; place = Some (fixed_col
 pub is_lowly : (p : ℕ) (types : Typing) (t : Temp) (i : IntegerType) → shaped.Holds types t (IntegerOf i)
     → IsLowly (known_of (fixed_slots p) types) t i (fixed_column t)
 is_lowly p types t i h = (record { type = IntegerOf i; place = Some (fixed_column t); form = Exact; sure = [] }, ap (known_at (fixed_column t)) h.1, refl, refl)
+
+-- pointers
+
+-- a pointer type of the code is one of the world, and its node's kind is that of the type
+pub kind_same : (w : World) (k : Context) (t : TypeId) (n : NodeId) (u : TypeId) → IsIn w k → shaped.IsPointer k t n u
+    → known.IsPointer w t n u × (kind_at w.whole t ≡ w.whole.kind n)
+kind_same w k t n u is h =
+    let e : shape_at w.whole.table t ≡ shape.Pointer n u = ap (λ z. shape_at z t) (sym is.table) ∙ h.1 in
+    (e, ap (λ z. w.whole.kind (node_at z)) e)
+
+pub few_words : (kind : Kind) → word_number kind ≤ 3
+few_words Safe = omega arith
+few_words Seq = omega arith
+few_words Rtti = omega arith
+few_words Wild = omega arith
+
+pub takes : (k : Scope) (into : Temp) (kind : NodeId → Kind) (n : NodeId) → shaped.IsTemp into → known.Takes (world_of k) into (word_number (kind n))
+takes k into kind n is = (is, few_words (kind n))

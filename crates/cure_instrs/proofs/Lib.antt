@@ -1,2 +1,4 @@
+pub mod PieceLaws
 pub mod KnownLaws
+pub mod FitLaws
 pub mod SetLaws

@@ -1,14 +1,22 @@
 -- Where an instruction is in shape, its lines are cured code of it.
-use Rattle.std.specs.Prelude.{◌≡◌, List}
+use Rattle.std.specs.Prelude.{◌≡◌, Option}
+use Rattle.cc_base.specs.declared.kind.Kind.{Kind}
+use Rattle.cc_base.specs.declared.kind.Kind.TheVariants.{Safe, Seq, Rtti, Wild}
+use Rattle.cc_base.specs.declared.number.NodeId.{NodeId}
+use Rattle.cc_base.specs.declared.number.TypeId.{TypeId}
+use Rattle.c_types.specs.declared.shape.TypeShape.{TypeShape}
+use Rattle.c_types.specs.declared.shape.TypeShape.TheVariants as shape
+use Rattle.c_types.specs.Table.{shape_at}
 use Rattle.c_types.specs.Sound.{IsWellFormed}
 use Rattle.cil_form.specs.declared.number.Temp.{Temp}
 use Rattle.cil_form.specs.declared.instr.Set.{Set}
+use Rattle.cil_form.specs.declared.instr.Set.TheVariants as set
 use Rattle.cil_form.specs.declared.instr.Calculate.{Calculate}
 use Rattle.cil_form.specs.declared.instr.Point.{Point}
 use Rattle.cil_form.specs.declared.instr.Access.{Access}
-use Rattle.cil_form.specs.Typing.{Context, Typing, IsShapedSet, IsShapedCalculate, IsShapedPoint, IsShapedAccess}
+use Rattle.cil_form.specs.Typing.{Context, HeldType, Typing, IsShapedSet, IsShapedCalculate, IsShapedPoint, IsShapedAccess}
 use Rattle.check_forms.specs.Pieces.{Piece}
-use Rattle.cure_rules.specs.Known.{World, known_of}
+use Rattle.cure_rules.specs.Known.{Whole, World, known_of}
 use Rattle.cure_rules.specs.Setting.{IsCuringSet, IsCuringCalculate}
 use Rattle.cure_rules.specs.Pointing.{IsCuringPoint}
 use Rattle.cure_rules.specs.Accesses.{IsCuringAccess}
@@ -35,3 +43,29 @@ PointCured i w types code = (k : Context) (after : Typing) → IsIn w k → IsSh
 unfoldable pub AccessCured : Access → World → Typing → Piece
 AccessCured i w types code = (k : Context) (after : Typing) → IsIn w k → IsShapedAccess i k types after
     → IsCuringAccess i w (known_of w.slots types) (known_of w.slots after) code
+
+-- Which instructions have code
+
+-- a home, and a function pointer, is SAFE or WILD
+abbrev pub IsHome : Kind → Type 0
+IsHome Safe = Unit {0}
+IsHome Wild = Unit {0}
+IsHome kind = ⊥
+
+-- the node of a pointer's shape
+abbrev pub node_at : TypeShape → NodeId
+node_at (shape.Pointer n u) = n
+node_at other = record { 0 = 0 }
+
+abbrev pub kind_at : Whole → TypeId → Kind
+kind_at w t = w.kind (node_at (shape_at w.table t))
+
+abbrev pub CanSet : Set → Whole → Type 0
+CanSet (set.Function into f t) w = IsHome (kind_at w t)
+CanSet (set.Object into o home t) w = IsHome (w.kind home)
+CanSet i w = Unit {0}
+
+-- what the temporary holds that is copied
+abbrev pub IsCopied : Set → Typing → Option HeldType → Type 0
+IsCopied (set.Copy into from) types x = types from ≡ x
+IsCopied i types x = Unit {0}

@@ -1,1 +1,2 @@
 pub mod Cured
+pub mod Lines

@@ -4,4 +4,8 @@
 mod needs;
 mod scope;
 
-pub use scope::{Scope, column};
+pub use needs::put_guarded;
+pub use scope::{
+    ADDRESS, AMOUNT, BASE, BYTES, CHARGE, EIGHT, FIRST, LAST, LEAST, LEAST_FACTOR, MADE, MASK, MOVED, NOUGHT, OFFSET, OTHER_WORD, SECOND, SEVEN, SIGNATURE, SIZE, SPAN,
+    SPAN_FACTOR, Scope, WORD, column, pointer_slots,
+};

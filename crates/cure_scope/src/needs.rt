@@ -231,7 +231,7 @@ fn put_needs(out: &mut Draft, op: Op, kind: Kind)
 
 /// The checks of an operation, behind the lines that set their numbers.
 #[tactic(auto, using(crate::proofs::Laws::grows_guards))]
-pub(crate) fn put_guarded(out: &mut Draft, op: Op, kind: Kind, at: Place)
+pub fn put_guarded(out: &mut Draft, op: Op, kind: Kind, at: Place)
     ensures { Grows (Guards op kind at) (Unit {0}) out.old out.new }
 {
     put_needs(out, op, kind);

@@ -89,7 +89,7 @@ pub fn column(t: Temp) -> u32
 }
 
 /// The slots of a pointer's words, which follow one another.
-pub(crate) fn pointer_slots(a: u32) -> PointerSlots
+pub fn pointer_slots(a: u32) -> PointerSlots
     requires { a + 3 ≤ 1948 }
     ensures { result ≡ pointer_slots a }
 {

@@ -70,8 +70,8 @@ Divided signed unsigned i p q at = Then (Guards (divide_by seat i p q) Safe at) 
 abbrev pub masked : IntegerType → ℕ → List Instr
 masked i q = instr.Const (seat Mask) (bits_of i - 1) ∷ instr.And (seat First) q (seat Mask) ∷ []
 
-abbrev pub shifted_right : IntegerType → ℕ → ℕ → ℕ → Instr
-shifted_right i v a b = (if i.signed then instr.Sar else instr.Shr) v a b
+abbrev pub shifted_right : Bool → ℕ → ℕ → ℕ → Instr
+shifted_right signed v a b = (if signed then instr.Sar else instr.Shr) v a b
 
 -- an operator on slots p and q gives slot v
 abbrev pub binary_lines : Operator → IntegerType → ℕ → ℕ → ℕ → Place → Piece
@@ -84,7 +84,7 @@ binary_lines operator.ExclusiveOr i v p q at = Reckoned (instr.Xor v p q) i v
 binary_lines operator.Divide i v p q at = Divided (instr.Divs v p q) (instr.Divu v p q) i p q at
 binary_lines operator.Remainder i v p q at = Divided (instr.Rems v p q) (instr.Remu v p q) i p q at
 binary_lines operator.ShiftLeft i v p q at = Then (Line (masked i q)) (Reckoned (instr.Shl v p (seat First)) i v)
-binary_lines operator.ShiftRight i v p q at = Then (Line (masked i q)) (Line (shifted_right i v p (seat First) ∷ []))
+binary_lines operator.ShiftRight i v p q at = Then (Line (masked i q)) (Line (shifted_right i.signed v p (seat First) ∷ []))
 binary_lines (operator.Compare which) i v p q at = Line (comparison_lines which i.signed 381 v p q)
 
 -- the slot that tells whether a value is true, and the lines that set it

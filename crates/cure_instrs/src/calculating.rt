@@ -60,12 +60,12 @@ fn put_reckoned(out: &mut Draft, one: Instr, i: Width, v: u32)
     put_narrowing(out, v, i)
 }
 
-/// The word of the least integer of a signed type.
-fn least_word(i: Width) -> u64
-    requires { IsIntegerSize i.bytes }
-    ensures { result ≡ word (least (width_view i)) }
+/// The word of the least integer of a signed type of so many bytes.
+fn least_word(bytes: u64) -> u64
+    requires { IsIntegerSize bytes }
+    ensures { result ≡ word (least (record { bytes = bytes; signed = true })) }
 {
-    match i.bytes {
+    match bytes {
         1 => 18446744073709551488,
         2 => 18446744073709518848,
         4 => 18446744071562067968,
@@ -84,7 +84,7 @@ fn division(i: Width, a: u32, b: u32) -> Op
             b,
             least: Fixed {
                 slot: LEAST,
-                value: least_word(i),
+                value: least_word(i.bytes),
             },
             minus_one: Fixed {
                 slot: SPAN,
@@ -144,10 +144,10 @@ pub(crate) fn put_compared(out: &mut Draft, which: Comparison, signed: bool, v: 
 }
 
 /// The instruction of a shift to the right.
-fn shifted_right(i: Width, v: u32, a: u32, b: u32) -> Instr
-    ensures { result ≡ shifted_right (width_view i) v a b }
+fn shifted_right(signed: bool, v: u32, a: u32, b: u32) -> Instr
+    ensures { result ≡ shifted_right signed v a b }
 {
-    if i.signed {
+    if signed {
         Instr::Sar(v, a, b)
     } else {
         Instr::Shr(v, a, b)
@@ -183,7 +183,7 @@ fn put_binary(out: &mut Draft, i: Width, operator: Operator, on: Operands, at: P
         }
         Operator::ShiftRight => {
             put_masked(out, i, b);
-            put(out, shifted_right(i, v, a, FIRST))
+            put(out, shifted_right(i.signed, v, a, FIRST))
         }
         Operator::Compare(which) => put_compared(out, which, i.signed, v, a, b),
     }

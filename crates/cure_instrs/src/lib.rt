@@ -3,9 +3,11 @@
 
 mod calculating;
 mod held;
+mod loading;
 mod pieces;
+mod reach;
 mod setting;
 
-pub use calculating::put_tested;
+pub use calculating::{put_calculate, put_tested};
 pub use held::{Held, Width};
 pub use setting::put_set;

@@ -30,7 +30,7 @@ use cured_code::Instr;
 
 /// The integer type that a type is.
 #[tactic(auto, unfolding(crate::specs::Lines::IsIntegerAt, crate::specs::Lines::HasInteger))]
-pub(crate) fn integer_in(k: &Scope<'_>, t: TypeId) -> Option<Width>
+pub fn integer_in(k: &Scope<'_>, t: TypeId) -> Option<Width>
     ensures there { IfSome result (λ i. IsIntegerAt (whole_of k.now) t (width_view i)) }
     ensures none { IfNone result (HasInteger (whole_of k.now) t → ⊥) }
 {
@@ -132,7 +132,7 @@ fn less(signed: bool, v: u32, a: u32, b: u32) -> Instr
 }
 
 /// A comparison of slots a and b.
-pub(crate) fn put_compared(out: &mut Draft, which: Comparison, signed: bool, v: u32, a: u32, b: u32)
+pub fn put_compared(out: &mut Draft, which: Comparison, signed: bool, v: u32, a: u32, b: u32)
     ensures { Grows (Line (comparison_lines which signed 381 v a b)) (Unit {0}) out.old out.new }
 {
     match which {

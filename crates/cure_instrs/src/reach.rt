@@ -9,7 +9,7 @@ use check_forms::{Fixed, WildNumbers};
 use cure_scope::{EIGHT, LAST, SEVEN, SIZE, Scope};
 
 /// The bytes of a type; of one that isn't complete none.
-pub(crate) fn source_size(k: &Scope<'_>, t: TypeId) -> u64
+pub fn source_size(k: &Scope<'_>, t: TypeId) -> u64
     ensures { result ≡ source_size (whole_of k.now) t }
 {
     let types = k.layouts.types();
@@ -22,7 +22,7 @@ pub(crate) fn source_size(k: &Scope<'_>, t: TypeId) -> u64
 }
 
 /// The bytes that an object of a type takes once cured; of one that isn't complete none.
-pub(crate) fn cured_size(k: &Scope<'_>, t: TypeId) -> u64
+pub fn cured_size(k: &Scope<'_>, t: TypeId) -> u64
     ensures { result ≡ cured_size (whole_of k.now) t }
 {
     let types = k.layouts.types();
@@ -35,7 +35,7 @@ pub(crate) fn cured_size(k: &Scope<'_>, t: TypeId) -> u64
 }
 
 /// The bytes that a use of a kind reaches.
-pub(crate) fn reach_of(k: &Scope<'_>, kind: Kind, t: TypeId) -> u64
+pub fn reach_of(k: &Scope<'_>, kind: Kind, t: TypeId) -> u64
     ensures { result ≡ reach_of (world_of k.now) kind t }
 {
     match kind {
@@ -45,7 +45,7 @@ pub(crate) fn reach_of(k: &Scope<'_>, kind: Kind, t: TypeId) -> u64
 }
 
 /// That number, in its slot.
-pub(crate) fn size_at(k: &Scope<'_>, kind: Kind, t: TypeId) -> Fixed
+pub fn size_at(k: &Scope<'_>, kind: Kind, t: TypeId) -> Fixed
     ensures { result ≡ size_at (world_of k.now) seat kind t }
 {
     Fixed {
@@ -55,7 +55,7 @@ pub(crate) fn size_at(k: &Scope<'_>, kind: Kind, t: TypeId) -> Fixed
 }
 
 /// What WILD pointers are compared with.
-pub(crate) fn wild_numbers(k: &Scope<'_>) -> WildNumbers
+pub fn wild_numbers(k: &Scope<'_>) -> WildNumbers
     ensures { result ≡ wild_numbers (world_of k.now) seat }
 {
     WildNumbers {
@@ -63,7 +63,7 @@ pub(crate) fn wild_numbers(k: &Scope<'_>) -> WildNumbers
         eight: EIGHT,
         last: Fixed {
             slot: LAST,
-            value: 8 * (k.functions.len() as u64 + 1),
+            value: 8 * (u64::from(k.functions) + 1),
         },
     }
 }

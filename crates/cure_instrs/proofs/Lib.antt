@@ -2,3 +2,4 @@ pub mod PieceLaws
 pub mod KnownLaws
 pub mod FitLaws
 pub mod SetLaws
+pub mod CalculateLaws

@@ -1,5 +1,5 @@
 -- Where an instruction is in shape, its lines are cured code of it.
-use Rattle.std.specs.Prelude.{◌≡◌, Option}
+use Rattle.std.specs.Prelude.{◌≡◌, Option, IsSome}
 use Rattle.cc_base.specs.declared.kind.Kind.{Kind}
 use Rattle.cc_base.specs.declared.kind.Kind.TheVariants.{Safe, Seq, Rtti, Wild}
 use Rattle.cc_base.specs.declared.number.NodeId.{NodeId}
@@ -12,11 +12,13 @@ use Rattle.cil_form.specs.declared.number.Temp.{Temp}
 use Rattle.cil_form.specs.declared.instr.Set.{Set}
 use Rattle.cil_form.specs.declared.instr.Set.TheVariants as set
 use Rattle.cil_form.specs.declared.instr.Calculate.{Calculate}
+use Rattle.cil_form.specs.declared.instr.Calculate.TheVariants as calculate
 use Rattle.cil_form.specs.declared.instr.Point.{Point}
 use Rattle.cil_form.specs.declared.instr.Access.{Access}
 use Rattle.cil_form.specs.Typing.{Context, HeldType, Typing, IsShapedSet, IsShapedCalculate, IsShapedPoint, IsShapedAccess}
 use Rattle.check_forms.specs.Pieces.{Piece}
 use Rattle.cure_rules.specs.Known.{Whole, World, known_of}
+use Rattle.cure_instrs.specs.Lines.{HasInteger}
 use Rattle.cure_rules.specs.Setting.{IsCuringSet, IsCuringCalculate}
 use Rattle.cure_rules.specs.Pointing.{IsCuringPoint}
 use Rattle.cure_rules.specs.Accesses.{IsCuringAccess}
@@ -69,3 +71,17 @@ CanSet i w = Unit {0}
 abbrev pub IsCopied : Set → Typing → Option HeldType → Type 0
 IsCopied (set.Copy into from) types x = types from ≡ x
 IsCopied i types x = Unit {0}
+
+-- an operator of an integer type, and a truth value of a temporary of which it is known what it holds
+abbrev pub CanCalculate : Calculate → Whole → Option HeldType → Type 0
+CanCalculate (calculate.Negate into a t) w x = HasInteger w t
+CanCalculate (calculate.Complement into a t) w x = HasInteger w t
+CanCalculate (calculate.Binary into operator a b t at) w x = HasInteger w t
+CanCalculate (calculate.Truth into a) w x = IsSome x
+CanCalculate (calculate.Not into a) w x = IsSome x
+
+-- what the temporary holds whose truth value is wanted
+abbrev pub IsAsked : Calculate → Typing → Option HeldType → Type 0
+IsAsked (calculate.Truth into a) types x = types a ≡ x
+IsAsked (calculate.Not into a) types x = types a ≡ x
+IsAsked i types x = Unit {0}

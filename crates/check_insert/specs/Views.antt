@@ -6,19 +6,26 @@ use Rattle.check_forms.specs.Tests as test
 use Rattle.check_forms.specs.Tests.{Test}
 use Rattle.check_forms.specs.declared.slots.Work.{Work}
 use Rattle.check_forms.specs.Lines.{stop_if}
-use Rattle.check_insert.specs.declared.line.Line.{Line}
-use Rattle.check_insert.specs.declared.line.Line.TheVariants as line
+use Rattle.check_insert.specs.declared.line.SlotLine.{SlotLine}
+use Rattle.check_insert.specs.declared.line.SlotLine.TheVariants as line
 use Rattle.check_insert.specs.declared.ends.End.{End}
 use Rattle.check_insert.specs.declared.ends.End.TheVariants as end
 use Rattle.check_insert.specs.declared.condition.Condition.{Condition}
 use Rattle.check_insert.specs.declared.condition.Condition.TheVariants as condition
 
-abbrev pub straight_of : Line → straight.Line
+abbrev pub straight_of : SlotLine → straight.Line
+straight_of (line.Number v n) = Sets v (straight.Number n)
+straight_of (line.Same v a) = Sets v (straight.Same a)
+straight_of (line.Part v a form) = Sets v (straight.Part a form)
 straight_of (line.Sum v a b) = Sets v (Result straight.Sum a b)
 straight_of (line.Difference v a b) = Sets v (Result straight.Difference a b)
 straight_of (line.Product v a b) = Sets v (Result straight.Product a b)
 straight_of (line.And v a b) = Sets v (Result straight.And a b)
 straight_of (line.Or v a b) = Sets v (Result straight.Or a b)
+straight_of (line.ExclusiveOr v a b) = Sets v (Result straight.ExclusiveOr a b)
+straight_of (line.Quotient v a b) = Sets v (Result straight.Quotient a b)
+straight_of (line.QuotientSigned v a b) = Sets v (Result straight.QuotientSigned a b)
+straight_of (line.Different v a b) = Sets v (Result straight.Different a b)
 straight_of (line.Equal v a b) = Sets v (Result straight.Equal a b)
 straight_of (line.Less v a b) = Sets v (Result straight.Less a b)
 straight_of (line.LessSigned v a b) = Sets v (Result straight.LessSigned a b)
@@ -31,6 +38,7 @@ straight_of (line.HasRoom v a) = Sets v (straight.HasRoom a)
 straight_of (line.LengthOf v b) = Sets v (straight.LengthOf b)
 straight_of (line.IsPlain v a b n) = Sets v (straight.IsPlain a b n)
 straight_of (line.IsTagged v a b) = Sets v (straight.IsTagged a b)
+straight_of (line.BaseOf v a b) = Sets v (straight.BaseOf a b)
 straight_of (line.GreatestDepth v a b n) = Sets v (straight.GreatestDepth a b n)
 
 -- how a test ends

@@ -11,7 +11,7 @@ use crate::condition::{Condition, Guarded};
 use crate::conditions::put_condition;
 use crate::draft::Draft;
 use crate::ends::Stop;
-use crate::line::Line;
+use crate::line::SlotLine;
 use crate::pieces::{choose, keep, put_lines, start};
 use cc_base::{Check, Place};
 use check_forms::{PointerSlots, Work};
@@ -62,7 +62,7 @@ pub(crate) fn ask_unless(out: &mut Draft, k: Work, stop: Stop, c: Guarded)
 pub(crate) fn ask_unless_null(out: &mut Draft, k: Work, stop: Stop, p: PointerSlots, c: Condition)
     ensures { Grows (Asks k (asked stop.check stop.place (UnlessNull p (condition_of c)) ∷ [])) (Unit {0}) out.old out.new }
 {
-    put_lines(out, &[Line::Or(k.x, p.first, p.second)]);
+    put_lines(out, &[SlotLine::Or(k.x, p.first, p.second)]);
     put_unless(
         out,
         k,
@@ -75,7 +75,14 @@ pub(crate) fn ask_unless_null(out: &mut Draft, k: Work, stop: Stop, p: PointerSl
 }
 
 /// The test of two conditions that are asked only where lines leave 0 in the first working slot.
-pub(crate) fn put_both(out: &mut Draft, k: Work, stop: Stop, lines: &[Line], c: Guarded, d: Guarded)
+pub(crate) fn put_both(
+    out: &mut Draft,
+    k: Work,
+    stop: Stop,
+    lines: &[SlotLine],
+    c: Guarded,
+    d: Guarded,
+)
     ensures { Grows (Tests stop (After (map straight_of lines.now) (Choose k.x Pass (Then (test_of k (Unless c.slot (condition_of c.condition))) (test_of k (Unless d.slot (condition_of d.condition))))))) (Unit {0}) out.old out.new }
 {
     put_lines(out, lines);

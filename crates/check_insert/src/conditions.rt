@@ -2,36 +2,37 @@
 ghost use Rattle.std.specs.Prelude.{◌≡◌};
 ghost use Rattle.cured_code.specs.Straight.{instrs, Sets, Result};
 ghost use Rattle.check_forms.specs.Lines.{test_of, move_lines, step_operator};
-ghost use Rattle.check_insert.specs.Drafts.{Grows, Puts, Tests};
+ghost use Rattle.check_insert.specs.Drafts.{Grows, Tests};
+ghost use Rattle.check_forms.specs.Pieces.{Line};
 ghost use Rattle.check_insert.specs.Views.{condition_of, straight_of};
 
 use crate::condition::Condition;
 use crate::draft::Draft;
 use crate::ends::{End, Stop, put_end, put_test, put_test_if, put_test_unless};
-use crate::line::Line;
+use crate::line::SlotLine;
 use crate::pieces::put_lines;
 use check_forms::{Direction, Distance, PointerSlots, Work};
 
 /// A line that moves an address by bytes.
-fn step_line(direction: Direction, to: u32, a: u32, b: u32) -> Line
+fn step_line(direction: Direction, to: u32, a: u32, b: u32) -> SlotLine
     ensures { straight_of result ≡ Sets to (Result (step_operator direction) a b) }
 {
     match direction {
-        Direction::Forward => Line::Sum(to, a, b),
-        Direction::Backward => Line::Difference(to, a, b),
+        Direction::Forward => SlotLine::Sum(to, a, b),
+        Direction::Backward => SlotLine::Difference(to, a, b),
     }
 }
 
 /// The lines that find the address that is moved to.
 fn put_move(out: &mut Draft, k: Work, p: PointerSlots, direction: Direction, d: Distance)
-    ensures { Grows (Puts (instrs (move_lines k p direction d))) (Unit {0}) out.old out.new }
+    ensures { Grows (Line (instrs (move_lines k p direction d))) (Unit {0}) out.old out.new }
 {
     match d {
         Distance::Bytes(n) => put_lines(out, &[step_line(direction, k.to, p.first, n)]),
         Distance::Elements(n, size) => put_lines(
             out,
             &[
-                Line::Product(k.x, n, size.slot),
+                SlotLine::Product(k.x, n, size.slot),
                 step_line(direction, k.to, p.first, k.x),
             ],
         ),
@@ -50,10 +51,10 @@ pub(crate) fn put_condition(out: &mut Draft, k: Work, stop: Stop, c: Condition)
             k,
             stop,
             &[
-                Line::LessSigned(k.x, p.first, p.second),
-                Line::Difference(k.y, p.third, p.first),
-                Line::LessSigned(k.y, k.y, size.slot),
-                Line::Or(k.x, k.x, k.y),
+                SlotLine::LessSigned(k.x, p.first, p.second),
+                SlotLine::Difference(k.y, p.third, p.first),
+                SlotLine::LessSigned(k.y, k.y, size.slot),
+                SlotLine::Or(k.x, k.x, k.y),
             ],
             End::StopIf(k.x),
         ),
@@ -62,9 +63,9 @@ pub(crate) fn put_condition(out: &mut Draft, k: Work, stop: Stop, c: Condition)
             k,
             stop,
             &[
-                Line::Difference(k.x, p.first, p.second),
-                Line::Difference(k.y, p.third, p.second),
-                Line::Less(k.x, k.x, k.y),
+                SlotLine::Difference(k.x, p.first, p.second),
+                SlotLine::Difference(k.y, p.third, p.second),
+                SlotLine::Less(k.x, k.x, k.y),
             ],
             End::Flag(k.x),
         ),
@@ -73,9 +74,9 @@ pub(crate) fn put_condition(out: &mut Draft, k: Work, stop: Stop, c: Condition)
             k,
             stop,
             &[
-                Line::LessSigned(k.x, p.first, p.second),
-                Line::LessSigned(k.y, p.third, p.first),
-                Line::Or(k.x, k.x, k.y),
+                SlotLine::LessSigned(k.x, p.first, p.second),
+                SlotLine::LessSigned(k.y, p.third, p.first),
+                SlotLine::Or(k.x, k.x, k.y),
             ],
             End::StopIf(k.x),
         ),
@@ -84,12 +85,12 @@ pub(crate) fn put_condition(out: &mut Draft, k: Work, stop: Stop, c: Condition)
             k,
             stop,
             &[
-                Line::LengthOf(k.x, p.second),
-                Line::Difference(k.y, p.first, p.second),
-                Line::Difference(k.y, k.x, k.y),
-                Line::Less(k.z, k.x, k.y),
-                Line::Less(k.y, k.y, size.slot),
-                Line::Or(k.y, k.z, k.y),
+                SlotLine::LengthOf(k.x, p.second),
+                SlotLine::Difference(k.y, p.first, p.second),
+                SlotLine::Difference(k.y, k.x, k.y),
+                SlotLine::Less(k.z, k.x, k.y),
+                SlotLine::Less(k.y, k.y, size.slot),
+                SlotLine::Or(k.y, k.z, k.y),
             ],
             End::StopIf(k.y),
         ),
@@ -98,9 +99,9 @@ pub(crate) fn put_condition(out: &mut Draft, k: Work, stop: Stop, c: Condition)
             k,
             stop,
             &[
-                Line::LengthOf(k.x, p.second),
-                Line::Difference(k.y, p.first, p.second),
-                Line::Less(k.x, k.y, k.x),
+                SlotLine::LengthOf(k.x, p.second),
+                SlotLine::Difference(k.y, p.first, p.second),
+                SlotLine::Less(k.x, k.y, k.x),
             ],
             End::Flag(k.x),
         ),
@@ -109,9 +110,9 @@ pub(crate) fn put_condition(out: &mut Draft, k: Work, stop: Stop, c: Condition)
             k,
             stop,
             &[
-                Line::LengthOf(k.x, p.second),
-                Line::Difference(k.y, p.first, p.second),
-                Line::Less(k.x, k.x, k.y),
+                SlotLine::LengthOf(k.x, p.second),
+                SlotLine::Difference(k.y, p.first, p.second),
+                SlotLine::Less(k.x, k.x, k.y),
             ],
             End::StopIf(k.x),
         ),
@@ -119,7 +120,7 @@ pub(crate) fn put_condition(out: &mut Draft, k: Work, stop: Stop, c: Condition)
             out,
             k,
             stop,
-            &[Line::Less(k.x, last.slot, a)],
+            &[SlotLine::Less(k.x, last.slot, a)],
             End::Flag(k.x),
         ),
         Condition::IsNear(p, direction, d, reach) => {
@@ -129,9 +130,9 @@ pub(crate) fn put_condition(out: &mut Draft, k: Work, stop: Stop, c: Condition)
                 k,
                 stop,
                 &[
-                    Line::Difference(k.x, k.to, p.second),
-                    Line::Sum(k.x, k.x, reach.least.slot),
-                    Line::Less(k.x, k.x, reach.span.slot),
+                    SlotLine::Difference(k.x, k.to, p.second),
+                    SlotLine::Sum(k.x, k.x, reach.least.slot),
+                    SlotLine::Less(k.x, k.x, reach.span.slot),
                 ],
                 End::Flag(k.x),
             )
@@ -141,8 +142,8 @@ pub(crate) fn put_condition(out: &mut Draft, k: Work, stop: Stop, c: Condition)
             k,
             stop,
             &[
-                Line::Sum(k.x, n, least.slot),
-                Line::Less(k.x, k.x, span.slot),
+                SlotLine::Sum(k.x, n, least.slot),
+                SlotLine::Less(k.x, k.x, span.slot),
             ],
             End::Flag(k.x),
         ),
@@ -151,7 +152,7 @@ pub(crate) fn put_condition(out: &mut Draft, k: Work, stop: Stop, c: Condition)
                 out,
                 k,
                 stop,
-                &[Line::Less(k.x, n, bound.slot)],
+                &[SlotLine::Less(k.x, n, bound.slot)],
                 End::Flag(k.x),
             )
         }
@@ -160,78 +161,99 @@ pub(crate) fn put_condition(out: &mut Draft, k: Work, stop: Stop, c: Condition)
                 out,
                 k,
                 stop,
-                &[Line::Less(k.x, n, least.slot)],
+                &[SlotLine::Less(k.x, n, least.slot)],
                 End::StopIf(k.x),
             )
         }
         Condition::IsAligned(a, seven) => {
-            put_test(out, k, stop, &[Line::And(k.x, a, seven)], End::StopIf(k.x))
+            put_test(
+                out,
+                k,
+                stop,
+                &[SlotLine::And(k.x, a, seven)],
+                End::StopIf(k.x),
+            )
         }
         Condition::HoldsNoPointer(p, bytes) => put_test(
             out,
             k,
             stop,
-            &[Line::IsPlain(k.x, p.first, p.second, bytes)],
+            &[SlotLine::IsPlain(k.x, p.first, p.second, bytes)],
             End::Flag(k.x),
         ),
         Condition::HoldsPointer(p, eight) => put_test_unless(
             out,
             k,
             stop,
-            Line::IsTagged(k.x, p.first, p.second),
-            &[Line::Sum(k.y, p.first, eight), Line::LengthOf(k.y, k.y)],
+            SlotLine::IsTagged(k.x, p.first, p.second),
+            &[
+                SlotLine::Sum(k.y, p.first, eight),
+                SlotLine::LengthOf(k.y, k.y),
+            ],
         ),
         Condition::IsNoDeeper(home, target) => put_test_if(
             out,
             k,
             stop,
-            Line::DepthOf(k.x, home),
-            &[Line::DepthOf(k.y, target), Line::Less(k.y, k.y, k.x)],
+            SlotLine::DepthOf(k.x, home),
+            &[
+                SlotLine::DepthOf(k.y, target),
+                SlotLine::Less(k.y, k.y, k.x),
+            ],
         ),
         Condition::AreNoDeeper(p, bytes, target) => put_test_if(
             out,
             k,
             stop,
-            Line::GreatestDepth(k.x, p.first, p.second, bytes),
-            &[Line::DepthOf(k.y, target), Line::Less(k.y, k.y, k.x)],
+            SlotLine::GreatestDepth(k.x, p.first, p.second, bytes),
+            &[
+                SlotLine::DepthOf(k.y, target),
+                SlotLine::Less(k.y, k.y, k.x),
+            ],
         ),
         Condition::IsNotOwn(home) => put_test_if(
             out,
             k,
             stop,
-            Line::DepthOf(k.x, home),
+            SlotLine::DepthOf(k.x, home),
             &[
-                Line::AreaOf(k.y, 0),
-                Line::DepthOf(k.y, k.y),
-                Line::Equal(k.y, k.y, k.x),
+                SlotLine::AreaOf(k.y, 0),
+                SlotLine::DepthOf(k.y, k.y),
+                SlotLine::Equal(k.y, k.y, k.x),
             ],
         ),
         Condition::IsMadeFor(a, node) => {
-            put_test(out, k, stop, &[Line::IsBelow(k.x, a, node)], End::Flag(k.x))
+            put_test(
+                out,
+                k,
+                stop,
+                &[SlotLine::IsBelow(k.x, a, node)],
+                End::Flag(k.x),
+            )
         }
         Condition::IsFunctionOf(p, signature) => put_test(
             out,
             k,
             stop,
             &[
-                Line::Equal(k.x, p.first, p.second),
-                Line::SigOf(k.y, p.first),
-                Line::Equal(k.y, k.y, signature.slot),
-                Line::And(k.x, k.x, k.y),
+                SlotLine::Equal(k.x, p.first, p.second),
+                SlotLine::SigOf(k.y, p.first),
+                SlotLine::Equal(k.y, k.y, signature.slot),
+                SlotLine::And(k.x, k.x, k.y),
             ],
             End::Flag(k.x),
         ),
         Condition::HasRoom(a) => {
-            put_test(out, k, stop, &[Line::HasRoom(k.x, a)], End::Flag(k.x))
+            put_test(out, k, stop, &[SlotLine::HasRoom(k.x, a)], End::Flag(k.x))
         }
         Condition::AreOfPart(p, q) => put_test(
             out,
             k,
             stop,
             &[
-                Line::Equal(k.x, p.second, q.second),
-                Line::Equal(k.y, p.third, q.third),
-                Line::And(k.x, k.x, k.y),
+                SlotLine::Equal(k.x, p.second, q.second),
+                SlotLine::Equal(k.y, p.third, q.third),
+                SlotLine::And(k.x, k.x, k.y),
             ],
             End::Flag(k.x),
         ),
@@ -239,7 +261,7 @@ pub(crate) fn put_condition(out: &mut Draft, k: Work, stop: Stop, c: Condition)
             out,
             k,
             stop,
-            &[Line::Equal(k.x, p.second, q.second)],
+            &[SlotLine::Equal(k.x, p.second, q.second)],
             End::Flag(k.x),
         ),
         Condition::AreElementsApart(p, q, size) => put_test(
@@ -247,8 +269,8 @@ pub(crate) fn put_condition(out: &mut Draft, k: Work, stop: Stop, c: Condition)
             k,
             stop,
             &[
-                Line::Difference(k.x, p.first, q.first),
-                Line::RemainderSigned(k.x, k.x, size.slot),
+                SlotLine::Difference(k.x, p.first, q.first),
+                SlotLine::RemainderSigned(k.x, k.x, size.slot),
             ],
             End::StopIf(k.x),
         ),
@@ -256,8 +278,8 @@ pub(crate) fn put_condition(out: &mut Draft, k: Work, stop: Stop, c: Condition)
             out,
             k,
             stop,
-            Line::Equal(k.x, b, minus_one.slot),
-            &[Line::Equal(k.y, a, least.slot)],
+            SlotLine::Equal(k.x, b, minus_one.slot),
+            &[SlotLine::Equal(k.y, a, least.slot)],
         ),
     }
 }

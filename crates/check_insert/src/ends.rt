@@ -6,7 +6,7 @@ ghost use Rattle.check_insert.specs.Drafts.{Grows, Tests};
 ghost use Rattle.check_insert.specs.Views.{straight_of, end_test};
 
 use crate::draft::Draft;
-use crate::line::Line;
+use crate::line::SlotLine;
 use crate::pieces::{choose, put, put_lines, start};
 use cc_base::{Check, Place};
 use check_forms::Work;
@@ -57,7 +57,7 @@ pub(crate) fn put_end(out: &mut Draft, k: Work, stop: Stop, end: End)
 
 /// A test behind lines.
 #[tactic(auto, using(crate::proofs::Laws::tests_after))]
-pub(crate) fn put_test(out: &mut Draft, k: Work, stop: Stop, lines: &[Line], end: End)
+pub(crate) fn put_test(out: &mut Draft, k: Work, stop: Stop, lines: &[SlotLine], end: End)
     ensures { Grows (Tests stop (After (map straight_of lines.now) (end_test k end))) (Unit {0}) out.old out.new }
 {
     put_lines(out, lines);
@@ -66,7 +66,7 @@ pub(crate) fn put_test(out: &mut Draft, k: Work, stop: Stop, lines: &[Line], end
 
 /// A test that lines behind it are for, only where the first working slot isn't 0: they stop where the second isn't 0.
 #[tactic(auto, using(crate::proofs::Rules::choice_rules))]
-pub(crate) fn put_test_if(out: &mut Draft, k: Work, stop: Stop, first: Line, more: &[Line])
+pub(crate) fn put_test_if(out: &mut Draft, k: Work, stop: Stop, first: SlotLine, more: &[SlotLine])
     ensures { Grows (Tests stop (After (straight_of first ∷ []) (Choose k.x (After (map straight_of more.now) (stop_if k k.y)) Pass))) (Unit {0}) out.old out.new }
 {
     put_lines(out, &[first]);
@@ -78,7 +78,13 @@ pub(crate) fn put_test_if(out: &mut Draft, k: Work, stop: Stop, first: Line, mor
 
 /// The same where the first working slot is 0.
 #[tactic(auto, using(crate::proofs::Rules::choice_rules))]
-pub(crate) fn put_test_unless(out: &mut Draft, k: Work, stop: Stop, first: Line, more: &[Line])
+pub(crate) fn put_test_unless(
+    out: &mut Draft,
+    k: Work,
+    stop: Stop,
+    first: SlotLine,
+    more: &[SlotLine],
+)
     ensures { Grows (Tests stop (After (straight_of first ∷ []) (Choose k.x Pass (After (map straight_of more.now) (stop_if k k.y))))) (Unit {0}) out.old out.new }
 {
     put_lines(out, &[first]);

@@ -14,5 +14,5 @@ mod rows;
 
 pub use checks::put_checks;
 pub use draft::Draft;
-pub use line::Line;
+pub use line::SlotLine;
 pub use pieces::{choose, fail, keep, push, put, put_lines, refuse, start};

@@ -9,7 +9,7 @@ ghost use Rattle.check_insert.specs.Views.{condition_of};
 use crate::asking::{ask, ask_nothing, ask_unless, put_both, stop};
 use crate::condition::{Condition, only_if};
 use crate::draft::Draft;
-use crate::line::Line;
+use crate::line::SlotLine;
 use crate::rows::Pointer;
 use cc_base::{Check, Kind, Place};
 use check_forms::{Fixed, PointerSlots, Work};
@@ -47,9 +47,9 @@ fn put_parts(out: &mut Draft, k: Work, p: PointerSlots, q: PointerSlots, at: Pla
         k,
         stop(Check::Same, at),
         &[
-            Line::Equal(k.x, p.second, q.second),
-            Line::Equal(k.y, p.third, q.third),
-            Line::And(k.x, k.x, k.y),
+            SlotLine::Equal(k.x, p.second, q.second),
+            SlotLine::Equal(k.y, p.third, q.third),
+            SlotLine::And(k.x, k.x, k.y),
         ],
         only_if(p.second, Condition::IsWithinPart(p)),
         only_if(q.second, Condition::IsWithinPart(q)),
@@ -65,7 +65,7 @@ fn put_areas(out: &mut Draft, k: Work, p: PointerSlots, q: PointerSlots, at: Pla
         out,
         k,
         stop(Check::Same, at),
-        &[Line::Equal(k.x, p.second, q.second)],
+        &[SlotLine::Equal(k.x, p.second, q.second)],
         only_if(p.second, Condition::IsWithinArea(p)),
         only_if(q.second, Condition::IsWithinArea(q)),
     )

@@ -1,11 +1,12 @@
 //! How a draft grows.
 ghost use Rattle.std.specs.Prelude.{◌≡◌, map, true, false, [], ◌∷◌, ◌++◌};
 ghost use Rattle.cured_code.specs.Straight.{instrs};
-ghost use Rattle.check_insert.specs.Drafts.{AreBothReady, Grows, Puts, Starts, Chosen};
+ghost use Rattle.check_insert.specs.Drafts.{AreBothReady, Grows, Starts, Chosen};
+ghost use Rattle.check_forms.specs.Pieces.{Line};
 ghost use Rattle.check_insert.specs.Views.{straight_of};
 
 use crate::draft::Draft;
-use crate::line::{Line, instruction_of};
+use crate::line::{SlotLine, instruction_of};
 use cured_code::{Code, Instr};
 
 /// Appends an instruction, or remembers that memory was wanted.
@@ -21,14 +22,14 @@ pub fn push(out: &mut Draft, one: Instr)
 /// Appends an instruction.
 #[tactic(auto, using(crate::proofs::Laws::grows_one))]
 pub fn put(out: &mut Draft, one: Instr)
-    ensures { Grows (Puts (one ∷ [])) (Unit {0}) out.old out.new }
+    ensures { Grows (Line (one ∷ [])) (Unit {0}) out.old out.new }
 {
     push(out, one)
 }
 
 /// Appends lines.
-pub fn put_lines(out: &mut Draft, lines: &[Line])
-    ensures { Grows (Puts (instrs (map straight_of lines.now))) (Unit {0}) out.old out.new }
+pub fn put_lines(out: &mut Draft, lines: &[SlotLine])
+    ensures { Grows (Line (instrs (map straight_of lines.now))) (Unit {0}) out.old out.new }
 {
     for line in lines {
         put(out, instruction_of(*line));
@@ -38,7 +39,7 @@ pub fn put_lines(out: &mut Draft, lines: &[Line])
 /// Appends nothing.
 #[tactic(auto, using(crate::proofs::Rules::nothing_rules))]
 pub fn keep(out: &mut Draft)
-    ensures { Grows (Puts []) (Unit {0}) out.old out.new }
+    ensures { Grows (Line []) (Unit {0}) out.old out.new }
 {
     let _ = out;
 }

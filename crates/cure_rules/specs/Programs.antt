@@ -92,7 +92,7 @@ whole_of p kind node numbers parts = record {
   node = node;
   statics = map (λ (o : Static). plan o.planned) p.statics;
   addresses = global_addresses parts;
-  functions = map (λ (f : Function). f.ty) p.functions;
+  functions = length p.functions;
   signature = numbers.signature;
 }
 

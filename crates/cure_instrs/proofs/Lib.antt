@@ -1,0 +1,5 @@
+pub mod PieceLaws
+pub mod KnownLaws
+pub mod FitLaws
+pub mod SetLaws
+pub mod CalculateLaws

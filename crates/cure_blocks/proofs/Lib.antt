@@ -1,0 +1,3 @@
+pub mod RuntimeLaws
+pub mod ConvertLaws
+pub mod Rules

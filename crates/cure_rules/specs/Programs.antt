@@ -4,10 +4,7 @@ use Rattle.cc_base.specs.declared.number.TypeId.{TypeId}
 use Rattle.cc_base.specs.declared.number.NodeId.{NodeId}
 use Rattle.cc_base.specs.declared.kind.Kind.{Kind}
 use Rattle.cc_base.specs.declared.kind.Kind.TheVariants.{Safe}
-use Rattle.flat_mem.specs.declared.Area.{Area}
-use Rattle.c_types.specs.Equality.{cells_of}
-use Rattle.c_types.specs.Layouts.{size_of}
-use Rattle.src_mem.specs.Memory.{Planned}
+use Rattle.c_types.specs.Table.{Table}
 use Rattle.cil_form.specs.declared.program.Function.{Function}
 use Rattle.cil_form.specs.declared.program.Static.{Static}
 use Rattle.cil_form.specs.declared.program.Program.{Program}
@@ -25,7 +22,6 @@ use Rattle.check_forms.specs.Pieces.{Piece, Line, Then}
 use Rattle.check_forms.specs.declared.op.Op.TheVariants.{EnterMain}
 use Rattle.sim_relation.specs.Ground.{function_word}
 use Rattle.sim_relation.specs.Points.{Number, Knowledge}
-use Rattle.sim_relation.specs.Objects.{area_by}
 use Rattle.cure_rules.specs.Slots.{Slots, AreSlots, Address, First, slot_of}
 use Rattle.cure_rules.specs.Known.{Whole, World, AreSizes, Gets, nothing_known}
 use Rattle.cure_rules.specs.Checks.{IsGuarded}
@@ -44,8 +40,8 @@ IsFirstOf None first = first ≡ []
 IsFirstOf (Some text) first = (n : ℕ) × (text ≡ first ++ replicate n 0) × (0 < length first → slice_index first (length first - 1) ≢ 0)
 
 -- the areas of the static objects, in order, and what each begins with
-pub record AreGlobals (w : Whole) (statics : List Static) (globals : List GlobalLine) : Type 0 where
-  pub areas : global_areas globals ≡ areas_for w.table w.kind (map (λ (o : Static). plan o.planned) statics)
+pub record AreGlobals (table : Table) (kind : NodeId → Kind) (statics : List Static) (globals : List GlobalLine) : Type 0 where
+  pub areas : global_areas globals ≡ areas_for table kind (map (λ (o : Static). plan o.planned) statics)
   pub first : (k : ℕ) (o : Static) (g : GlobalLine) → slice_get statics k ≡ Some o → slice_get globals k ≡ Some g → IsFirstOf o.text g.first
 
 -- Function 0
@@ -112,7 +108,7 @@ pub record AreCured (w : Whole) (p : Program) (parents : List ℕ) (parts : Part
   pub sizes : AreSizes w
   pub signatures : AreSignatures w.table w.kind w.signature parts.sigs
   pub nodes : parts.nodes ≡ parents
-  pub globals : AreGlobals w p.statics parts.globals
+  pub globals : AreGlobals w.table w.kind p.statics parts.globals
   pub count : length parts.functions ≡ suc (length p.functions)
   pub functions : (k : ℕ) (f : Function) → slice_get p.functions k ≡ Some f → IsFunctionAt w parts k f
   pub first : cured.Function

@@ -23,3 +23,4 @@ pub mod Bodies
 pub mod Functions
 pub mod Cells
 pub mod StatementCells
+pub mod SitesThere

@@ -149,7 +149,7 @@ first-there w (x ∷ xs) =
     (λ (y : names.Named). is_same_which y.which w ≡ true → HasFirst (x ∷ xs) w) (λ y f e. first-more x xs w (f e)) xs (first-there w xs))
 
 -- it is that of something of the name
-first-of : (P : TypeId → Type 0) (w : Which) (xs : List names.Named) → All (λ (y : names.Named). is_same_which y.which w ≡ true → P y.type) xs
+pub first-of : (P : TypeId → Type 0) (w : Which) (xs : List names.Named) → All (λ (y : names.Named). is_same_which y.which w ≡ true → P y.type) xs
     → (t : TypeId) → first_type xs w ≡ Some t → P t
 first-of P w [] h t e = absurd (none-some t e)
 first-of P w (x ∷ xs) h t e = by (is_same_which x.which w) refl e (λ r. first-of P w xs (all-right Q (x ∷ []) xs h) t r)

@@ -437,8 +437,12 @@ module _ (T : Table) (w : IsWellFormed T) (k : lowered.Context) where
         moved-more T (IsCodeOfPlace p k t (λ o. Then (IsCodeOfPlace q k (suc t) (Follows (A o) (suc t))) (next o)))
         (counted T (made_by_place p) + (counted T (made_by_place q) + length (pointer_offsets T (place_type p)) + n))
         (counted T (made_by_place p ++ made_by_place q ++ made.Copy (place_type p) ∷ []) + n)
-        (omega (arith, counted-both T (made_by_place p ++ made_by_place q) (made.Copy (place_type p) ∷ []),
-        counted-both T (made_by_place p) (made_by_place q), copied-most T w (place_type p)))
+        (omega (
+          arith,
+          counted-both T (made_by_place p ++ made_by_place q) (made.Copy (place_type p) ∷ []),
+          counted-both T (made_by_place p) (made_by_place q),
+          copied-most T w (place_type p),
+        ))
         (place-moved p t (λ o. Then (IsCodeOfPlace q k (suc t) (Follows (A o) (suc t))) (next o))
         (counted T (made_by_place q) + length (pointer_offsets T (place_type p)) + n)
         (λ o. moved-then T (IsCodeOfPlace q k (suc t) (Follows (A o) (suc t))) (next o)

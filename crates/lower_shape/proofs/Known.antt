@@ -136,7 +136,7 @@ flat-in f (z ∷ zs) x (inr q) y r = in-right y (f z) (flat_map f zs) (flat-in f
 
 -- Functions
 
-code-at : (T : Table) (statics : List NodeId) (ds : List DefinedFunction) (fs : List Function) → AreCodeOf T statics ds fs
+pub code-at : (T : Table) (statics : List NodeId) (ds : List DefinedFunction) (fs : List Function) → AreCodeOf T statics ds fs
     → (i : ℕ) (d : DefinedFunction) → slice_get ds i ≡ Some d → (f : Function) × (slice_get fs i ≡ Some f) × IsCodeOfFunction T statics d f
 code-at T statics [] [] h i d e = absurd (none-some d e)
 code-at T statics [] (f ∷ fs) h i d e = absurd h
@@ -150,7 +150,7 @@ code-at T statics (x ∷ ds) (f ∷ fs) h (suc i) d e = code-at T statics ds fs 
 abbrev HasName : DefinedFunction → Type 0
 HasName f = (id : Identifier) × (name_of f.declarator ≡ Some id)
 
-functions-have_names : (T : Table) (u : TypedTranslationUnit) (k m : units.Known) → IsUnitTyped T u k m → All HasName (functions_of u)
+pub functions-have_names : (T : Table) (u : TypedTranslationUnit) (k m : units.Known) → IsUnitTyped T u k m → All HasName (functions_of u)
 functions-have_names T typed.NoExternal k m h = All-nil HasName
 functions-have_names T (typed.AndExternal u d) k m h = functions-have_names T u k h.0 h.1
 functions-have_names T (typed.AndFunctionBody u specifiers (typed.Declares form t) brace body) k m h =

@@ -23,3 +23,8 @@ pub mod Bodies
 pub mod Functions
 pub mod Cells
 pub mod StatementCells
+pub mod SitesThere
+pub mod StaticsShaped
+pub mod MainShaped
+pub mod WholeCells
+pub mod Whole

@@ -129,8 +129,12 @@ module _ (T : Table) (w : IsWellFormed T) (s : Stage) (k : lowered.Context) wher
     initialiser-moved (typed.Copied p seat) at t base o r =
         moved-more T (IsCodeOfPlace p k 0 (Follows A 0)) (counted T (made_by_place p) + length (pointer_offsets T t))
         (counted T (made_by_place p ++ made.Copy (place_type p) ∷ []))
-        (omega (arith, counted-both T (made_by_place p) (made.Copy (place_type p) ∷ []), copied-most T w (place_type p),
-        ap (λ z. length (pointer_offsets T z)) r.2))
+        (omega (
+          arith,
+          counted-both T (made_by_place p) (made.Copy (place_type p) ∷ []),
+          copied-most T w (place_type p),
+          ap (λ z. length (pointer_offsets T z)) r.2,
+        ))
         (place-moved T w k p 0 (Follows A 0) (length (pointer_offsets T t)) (λ v. follows-moved T A 0 v))
       where
         A : After
@@ -246,9 +250,9 @@ module _ (T : Table) (w : IsWellFormed T) (s : Stage) (k : lowered.Context) wher
       (beside-then T I (Then Q R) 0 0 (0 + n) (0 + m) (alone T I 0 (moved-line T (C ∷ S ∷ []) 0 (omega arith)))
       (beside-then T Q R 0 0 n m (alone T Q 0 (tests-still T items v.switches (type_of e) at))
       (λ c (closed, last, made, d).
-          let r = moved-then T (Line closed) (Guarded (labels items) v.switches at (Line last)) (cells T closed) (cells T last)
-          (moved-line T closed (cells T closed) (omega arith)) (guarded-moved T (labels items) v.switches at last) c d in
-          omega (arith, r, p closed last made)))))) code h
+      let r = moved-then T (Line closed) (Guarded (labels items) v.switches at (Line last)) (cells T closed) (cells T last)
+      (moved-line T closed (cells T closed) (omega arith)) (guarded-moved T (labels items) v.switches at last) c d in
+      omega (arith, r, p closed last made)))))) code h
     where
       n : ℕ
       n = counted T (made_by_block_items items)

@@ -2,7 +2,7 @@
 use Rattle.std.specs.List.{All, Contains}
 use Rattle.std.specs.Cmp.{IsEquivalence}
 use Rattle.std.proofs.Common.{◌≡◌, ℕ, Bool, true, false, List, [], ◌∷◌, ◌++◌, map, flat_map, Option, Some, None, refl, ap, sym, subst, ◌∙◌, inl, inr, if◌then◌else◌, ◌==◌, IsTrue, bytes_eq, true≢false, suc, length, rules}
-use Rattle.std.proofs.lemmas.List.Elements.{All-nil, All-cons, All-head, All-append, All-weaker, All-contains, All-contains_itself}
+use Rattle.std.proofs.lemmas.List.Elements.{All-nil, All-cons, All-head, All-append, All-map, All-weaker, All-contains, All-contains_itself}
 use Rattle.std.proofs.lemmas.Option.{none-some}
 use Rattle.cc_base.specs.declared.number.NodeId.{NodeId}
 use Rattle.cc_base.specs.declared.number.TypeId.{TypeId}
@@ -28,7 +28,7 @@ use Rattle.c_unit_typing.specs.WellTyped.{IsWellTyped, known_before}
 use Rattle.c_ready.specs.Declarators as ready
 use Rattle.c_ready.specs.Ready.{Named, IsAlike, IsWhole, IsReadyUnit, static_stage, made_named, variables_named}
 use Rattle.c_ready.specs.Ready as stages
-use Rattle.c_ready.proofs.Basics.{all-left, all-right, eq_from}
+use Rattle.c_ready.proofs.Basics.{all-left, all-right, eq_from, bytes-same}
 use Rattle.c_ready.proofs.ReadyUnit.{well-typed-ready}
 use Rattle.c_ready.proofs.Suits.{is_in, whole-in}
 use Rattle.type_laws.proofs.Relations.{equal_equiv}
@@ -43,7 +43,7 @@ use Rattle.src_machine.specs.Pieces.{pieces_of_unit}
 use Rattle.unit_sites.proofs.DeclaratorsSame.{declarators-same}
 use Rattle.unit_sites.proofs.Elements.{only, flat, unflat, every}
 use Rattle.unit_sites.proofs.FunctionsAlike.{IsLinkedDeclarator, unit-linked}
-use Rattle.unit_sites.proofs.ObjectsAlike.{IsObjectAlike, objects_made, objects-named, one-type, statics-named}
+use Rattle.unit_sites.proofs.ObjectsAlike.{Names, IsObjectAlike, objects_made, objects-named, one-type, statics-named}
 
 -- Types
 
@@ -149,7 +149,7 @@ first-there w (x ∷ xs) =
     (λ (y : names.Named). is_same_which y.which w ≡ true → HasFirst (x ∷ xs) w) (λ y f e. first-more x xs w (f e)) xs (first-there w xs))
 
 -- it is that of something of the name
-first-of : (P : TypeId → Type 0) (w : Which) (xs : List names.Named) → All (λ (y : names.Named). is_same_which y.which w ≡ true → P y.type) xs
+pub first-of : (P : TypeId → Type 0) (w : Which) (xs : List names.Named) → All (λ (y : names.Named). is_same_which y.which w ≡ true → P y.type) xs
     → (t : TypeId) → first_type xs w ≡ Some t → P t
 first-of P w [] h t e = absurd (none-some t e)
 first-of P w (x ∷ xs) h t e = by (is_same_which x.which w) refl e (λ r. first-of P w xs (all-right Q (x ∷ []) xs h) t r)
@@ -280,3 +280,120 @@ module _ (T : Table) (u : TypedTranslationUnit) (w : IsWellTyped T u) where
       (function-there T u d (listed-there d c) id e (ap (λ (x : TypeId). is_function T x) g ∙ a))
       (function-there T u d' (listed-there d' c') id' e' (ap (λ (x : TypeId). is_function T x) g' ∙ b))
       (first-bytes id id' (n ∙ sym n') (named_in u T))))
+
+-- Types of one name are physically equal
+
+function-shapes : (x : TypeShape) → is_function_shape x ≡ true → shapes.is_function_shape x ≡ true
+function-shapes (shape.Function ps r) h = refl
+function-shapes shape.Void h = absurd (true≢false (sym h))
+function-shapes (shape.Integer a s) h = absurd (true≢false (sym h))
+function-shapes (shape.Pointer n t) h = absurd (true≢false (sym h))
+function-shapes (shape.Array t n) h = absurd (true≢false (sym h))
+function-shapes (shape.Struct n) h = absurd (true≢false (sym h))
+function-shapes (shape.Union n) h = absurd (true≢false (sym h))
+
+node-same : (m n : NodeId) → same_node m n ≡ true → m ≡ n
+node-same m n h = ap (λ (z : ℕ). record { 0 = z }) (eq_from m.0 n.0 h)
+
+function_type : Option Declared → TypeId → TypeId
+function_type (Some (declared.Function t)) u = t
+function_type other u = u
+
+same-function : (t u : TypeId) → Some (declared.Function t) ≡ Some (declared.Function u) → t ≡ u
+unfolding function_type
+same-function t u h = ap (λ (x : Option Declared). function_type x t) h
+
+module _ (T : Table) (u : TypedTranslationUnit) (w : IsWellTyped T u) where
+  -- the type that it was made with, or declared with first
+  abbrev IsMadeWith : Which → TypeId → Type 0
+  IsMadeWith (AnObject n) g = Contains (objects_made u) (n, g)
+  IsMadeWith (AFunction id) g = entry_of w.after.linked id.bytes ≡ Some (declared.Function g)
+
+  ready-unit : IsReadyUnit T u
+  ready-unit = well-typed-ready T u w
+
+  one-made : (v x : Which) (g h : TypeId) → is_same_which v x ≡ true → IsMadeWith v g → IsMadeWith x h → g ≡ h
+  one-made (AnObject m) (AnObject n) g h e a b =
+      one-type u ready-unit.objects.distinct n g h (subst (λ (i : NodeId). Contains (objects_made u) (i, g)) (node-same m n e) a) b
+  one-made (AFunction v) (AFunction x) g h e a b =
+      same-function g h (sym a ∙ (ap (λ (n : Name). entry_of w.after.linked n) (bytes-same v.bytes x.bytes e) ∙ b))
+  one-made (AnObject m) (AFunction x) g h e a b = absurd (true≢false (sym e))
+  one-made (AFunction v) (AnObject n) g h e a b = absurd (true≢false (sym e))
+
+  pub record IsMadeAlike (x : names.Named) : Type 0 where
+    pub first : TypeId
+    pub made : IsMadeWith x.which first
+    pub alike : IsAlike T first x.type
+    pub first_in : IsType T first
+    pub type_in : IsType T x.type
+
+  objects-whole : All (λ (o : Named). IsWhole (static_stage T u) o.1) (objects_made u)
+  objects-whole =
+      All-append (λ (o : Named). IsWhole (static_stage T u) o.1) (map made_named (statics_of u)) (flat_map variables_named (functions_of u))
+      (All-map (λ (o : Named). IsWhole (static_stage T u) o.1) made_named (statics_of u)
+      (All-weaker (λ (o : MadeObject). stages.IsNode (static_stage T u) o.home × IsWhole (static_stage T u) o.type)
+      (λ (o : MadeObject). IsWhole (static_stage T u) o.type) (λ o q. q.1) (statics_of u) ready-unit.objects.plans))
+      (flat (λ (o : Named). IsWhole (static_stage T u) o.1) variables_named (functions_of u)
+      (All-weaker (stages.IsReadyFunction (static_stage T u)) (λ f. All (λ (o : Named). IsWhole (static_stage T u) o.1) (variables_named f))
+      (λ f r. All-weaker (λ (o : Named). stages.IsNode (static_stage T u) o.0 × IsWhole (static_stage T u) o.1)
+      (λ (o : Named). IsWhole (static_stage T u) o.1) (λ o q. q.1) (variables_named f) r.plans) (functions_of u) ready-unit.functions))
+
+  declarator-made : (d : TypedDeclarator) → Names (static_stage T u) (objects_made u) d → IsLinkedDeclarator T w.after.linked d
+      → All IsMadeAlike (named_by T d)
+  declarator-made d h l = by (is_function T (declared_type d)) refl
+    where
+      function : (o : Option Identifier) → name_of d ≡ o → is_function T (declared_type d) ≡ true
+          → All IsMadeAlike (function_named o (declared_type d))
+      function None e g = All-nil IsMadeAlike
+      function (Some id) e g =
+          let r = l (function-shapes (shape_at T (declared_type d)) g) id e in
+          only IsMadeAlike (record { which = AFunction id; type = declared_type d }) (record {
+            first = r.0;
+            made = r.1;
+            alike = r.2;
+            first_in = function-in T r.0 (alike-function_left T r.0 (declared_type d) r.2 g);
+            type_in = function-in T (declared_type d) g;
+          })
+
+      object : (o : Option NodeId) → object_node (home_of d) ≡ o → All IsMadeAlike (object_named o (declared_type d))
+      object None e = All-nil IsMadeAlike
+      object (Some n) e =
+          let r = h n e in
+          only IsMadeAlike (record { which = AnObject n; type = declared_type d }) (record {
+            first = r.0.0;
+            made = r.0.1;
+            alike = r.0.2;
+            first_in =
+                (All-contains (λ (o : Named). IsWhole (static_stage T u) o.1) (objects_made u) (n, r.0.0) objects-whole r.0.1).0;
+            type_in = r.1.0;
+          })
+
+      by : (b : Bool) → is_function T (declared_type d) ≡ b
+          → All IsMadeAlike (if b then function_named (name_of d) (declared_type d) else object_named (object_node (home_of d)) (declared_type d))
+      by true e = function (name_of d) refl e
+      by false e = object (object_node (home_of d)) refl
+
+  both-all : (ds : List TypedDeclarator) → All (Names (static_stage T u) (objects_made u)) ds → All (IsLinkedDeclarator T w.after.linked) ds
+      → All (λ d. All IsMadeAlike (named_by T d)) ds
+  both-all [] h l = All-nil (λ d. All IsMadeAlike (named_by T d))
+  both-all (d ∷ ds) h l =
+      All-cons (λ x. All IsMadeAlike (named_by T x)) d ds
+      (declarator-made d (All-head (Names (static_stage T u) (objects_made u)) d ds h) (All-head (IsLinkedDeclarator T w.after.linked) d ds l))
+      (both-all ds (all-right (Names (static_stage T u) (objects_made u)) (d ∷ []) ds h) (all-right (IsLinkedDeclarator T w.after.linked) (d ∷ []) ds l))
+
+  all-made : All IsMadeAlike (named_in u T)
+  all-made =
+      flat IsMadeAlike (named_by T) (declarators_in u)
+      (both-all (declarators_in u) (objects-named T u ready-unit.externals) (unit-linked T u (known_before u) w.after w.typed).told)
+
+  -- the first type of a name is physically equal to each
+  pub first-equal : All (λ (x : names.Named). (first : TypeId) → first_type (named_in u T) x.which ≡ Some first
+      → IsTrue (physically_equal T first x.type)) (named_in u T)
+  first-equal =
+      All-weaker IsMadeAlike (λ (x : names.Named). (first : TypeId) → first_type (named_in u T) x.which ≡ Some first
+      → IsTrue (physically_equal T first x.type))
+      (λ x m first e. first-of (λ t. IsTrue (physically_equal T t x.type)) x.which (named_in u T)
+      (All-weaker IsMadeAlike (λ (y : names.Named). is_same_which y.which x.which ≡ true → IsTrue (physically_equal T y.type x.type))
+      (λ y q g. physical-both T w.basic.formed m.first y.type x.type m.first_in q.type_in m.type_in
+      (subst (λ z. IsAlike T z y.type) (one-made y.which x.which q.first m.first g q.made m.made) q.alike) m.alike) (named_in u T) all-made) first e)
+      (named_in u T) all-made

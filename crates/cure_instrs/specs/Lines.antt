@@ -18,8 +18,11 @@ use Rattle.cured_code.specs.declared.instr.Instr.{Instr}
 use Rattle.cured_code.specs.declared.instr.Instr.TheVariants as instr
 use Rattle.check_forms.specs.Pieces.{Piece, Line, Then, Never}
 use Rattle.cure_rules.specs.Slots.{First, Mask}
-use Rattle.cure_rules.specs.Known.{Whole, World, copies, held_words, narrow_of, narrowing_lines}
-use Rattle.cure_rules.specs.Checks.{divide_by}
+use Rattle.cure_rules.specs.Known.{Whole, World, copies, held_words, narrow_of, narrowing_lines, pointer_slots}
+use Rattle.cure_rules.specs.Checks.{divide_by, read_integer, read_pointer, write_integer, write_pointer}
+use Rattle.cure_rules.specs.Accesses.{TaggedLoaded, words_loaded, integer_stored, TaggedStored, words_stored}
+use Rattle.check_forms.specs.declared.slots.PointerSlots.{PointerSlots}
+use Rattle.check_forms.specs.Rows.{home_slot}
 use Rattle.cure_rules.specs.Setting.{is_wide, is_wide_kind, comparison_lines}
 use Rattle.cure_scope.specs.declared.scope.Scope.{Scope}
 use Rattle.cure_scope.specs.Scopes.{fixed_column, seat, world_of}
@@ -107,3 +110,38 @@ IsIntegerAt w t i = (shape_at w.table t ≡ shape.Integer i.bytes i.signed) × I
 
 unfoldable pub HasInteger : Whole → TypeId → Type 0
 HasInteger w t = (i : IntegerType) × IsType w.table t × (shape_at w.table t ≡ shape.Integer i.bytes i.signed) × IsIntegerSize i.bytes
+
+-- Loads
+
+abbrev pub LoadedInteger : World → Kind → TypeId → IntegerType → ℕ → ℕ → Place → Piece
+LoadedInteger w kind t i v a at =
+    Then (Guards (read_integer w seat kind t (pointer_slots a)) kind at) (Then (Line (instr.Ld i.bytes v a ∷ [])) (Line (narrowing_lines v (narrow_of i))))
+
+-- a pointer of the second kind through one of the first
+abbrev pub pointer_loaded : Kind → Kind → World → ℕ → ℕ → Piece
+pointer_loaded Wild Wild w v a = TaggedLoaded w v a
+pointer_loaded Wild kind w v a = Never
+pointer_loaded outer kind w v a = Line (words_loaded kind v a)
+
+abbrev pub LoadedPointer : World → Kind → Kind → TypeId → ℕ → ℕ → Place → Piece
+LoadedPointer w outer kind t v a at = Then (Guards (read_pointer w seat outer t (pointer_slots a)) outer at) (pointer_loaded outer kind w v a)
+
+-- what a WILD pointer points to holds WILD ones
+abbrev pub AgreeOn : Kind → Kind → Type 0
+AgreeOn Wild Wild = Unit {0}
+AgreeOn Wild kind = ⊥
+AgreeOn outer kind = Unit {0}
+
+-- Stores
+
+abbrev pub StoredInteger : World → Kind → TypeId → IntegerType → PointerSlots → ℕ → Place → Piece
+StoredInteger w kind t i s v at = Then (Guards (write_integer w seat kind t s) kind at) (Line (integer_stored kind i.bytes s v))
+
+abbrev pub pointer_stored : Kind → Kind → World → PointerSlots → ℕ → Piece
+pointer_stored Wild Wild w s v = TaggedStored w s v
+pointer_stored Wild kind w s v = Never
+pointer_stored outer kind w s v = Line (words_stored kind s.first v)
+
+abbrev pub StoredPointer : World → Kind → Kind → TypeId → PointerSlots → ℕ → Place → Place → Piece
+StoredPointer w outer kind t s v at assignment =
+    Then (Guards (write_pointer w seat outer t s (home_slot kind (pointer_slots v)) assignment) outer at) (pointer_stored outer kind w s v)

@@ -1,5 +1,5 @@
 //! The cured code of operators on integers, and of truth values.
-ghost use Rattle.std.specs.Prelude.{◌≡◌, ◌+◌, ◌-◌, ◌≤◌, ◌^◌, [], ◌∷◌, Some, None, IfSome, IfNone, true, false, Option};
+ghost use Rattle.std.specs.Prelude.{◌≡◌, ◌+◌, ◌-◌, ◌≤◌, ◌^◌, [], ◌∷◌, Some, None, IfSome, IfNone, true, false, Option, IsSome};
 ghost use Rattle.integers.specs.Words.{word};
 ghost use Rattle.integers.specs.Arithmetic.{bits_of, least};
 ghost use Rattle.cc_base.specs.declared.kind.Kind.TheVariants.{Safe};
@@ -15,20 +15,22 @@ ghost use Rattle.cure_scope.specs.Scopes.{fixed_column, seat, whole_of, world_of
 ghost use Rattle.cure_scope.specs.Needs.{Guards};
 ghost use Rattle.cure_instrs.specs.Lines.{width_view, held_view, held_views, IsIntegerAt, HasInteger, Reckoned, Divided, masked, shifted_right, binary_lines, tested_slot, tested_lines};
 ghost use Rattle.c_types.specs.Sound.{IsIntegerSize};
+ghost use Rattle.cil_form.specs.declared.instr.Calculate.TheVariants as calculate;
+ghost use Rattle.cure_instrs.specs.Cured.{CalculateCured, CanCalculate, IsAsked};
 
 use crate::held::{Held, Width, is_wide};
 use crate::pieces::{put_narrowing, put_two};
 use c_types::TypeShape;
 use cc_base::{Kind, Place, TypeId};
 use check_forms::{Fixed, Op};
-use check_insert::{Draft, keep, put};
-use cil_form::{Comparison, Operator, Temp};
+use check_insert::{Draft, keep, put, refuse};
+use cil_form::{Calculate, Comparison, Operator, Temp};
 use cure_scope::{FIRST, LEAST, MASK, NOUGHT, SPAN, Scope, column, put_guarded};
 use cured_code::Instr;
 
 /// The integer type that a type is.
 #[tactic(auto, unfolding(crate::specs::Lines::IsIntegerAt, crate::specs::Lines::HasInteger))]
-pub(crate) fn integer_in(k: &Scope<'_>, t: TypeId) -> Option<Width>
+pub fn integer_in(k: &Scope<'_>, t: TypeId) -> Option<Width>
     ensures there { IfSome result (λ i. IsIntegerAt (whole_of k.now) t (width_view i)) }
     ensures none { IfNone result (HasInteger (whole_of k.now) t → ⊥) }
 {
@@ -130,7 +132,7 @@ fn less(signed: bool, v: u32, a: u32, b: u32) -> Instr
 }
 
 /// A comparison of slots a and b.
-pub(crate) fn put_compared(out: &mut Draft, which: Comparison, signed: bool, v: u32, a: u32, b: u32)
+pub fn put_compared(out: &mut Draft, which: Comparison, signed: bool, v: u32, a: u32, b: u32)
     ensures { Grows (Line (comparison_lines which signed 381 v a b)) (Unit {0}) out.old out.new }
 {
     match which {
@@ -201,5 +203,117 @@ pub fn put_tested(out: &mut Draft, k: &Scope<'_>, held: Held, t: Temp) -> u32
     } else {
         keep(out);
         a
+    }
+}
+
+/// `-` in a type.
+#[tactic(auto, using(crate::proofs::PieceLaws::refused))]
+fn put_negate(out: &mut Draft, k: &Scope<'_>, into: Temp, operand: Temp, ty: TypeId)
+    ensures { (types : Typing) → Grows (CalculateCured (calculate.Negate into operand ty) (world_of k.now) types) (HasInteger (whole_of k.now) ty) out.old out.new }
+{
+    match integer_in(k, ty) {
+        Some(i) => {
+            let v = column(into);
+            put_reckoned(out, Instr::Sub(v, NOUGHT, column(operand)), i, v)
+        }
+        None => refuse(out),
+    }
+}
+
+/// `~` in a type.
+#[tactic(auto, using(crate::proofs::PieceLaws::refused))]
+fn put_complement(out: &mut Draft, k: &Scope<'_>, into: Temp, operand: Temp, ty: TypeId)
+    ensures { (types : Typing) → Grows (CalculateCured (calculate.Complement into operand ty) (world_of k.now) types) (HasInteger (whole_of k.now) ty) out.old out.new }
+{
+    match integer_in(k, ty) {
+        Some(i) => {
+            let v = column(into);
+            put(out, Instr::Const(MASK, u64::MAX));
+            put_reckoned(out, Instr::Xor(v, column(operand), MASK), i, v)
+        }
+        None => refuse(out),
+    }
+}
+
+/// An operator and its temporaries.
+#[derive(Clone, Copy)]
+struct Operation {
+    operator: Operator,
+    into: Temp,
+    left: Temp,
+    right: Temp,
+    ty: TypeId,
+}
+
+/// An operator on integers of a type.
+#[tactic(auto, using(crate::proofs::PieceLaws::refused))]
+fn put_operation(out: &mut Draft, k: &Scope<'_>, o: Operation, at: Place)
+    ensures { (types : Typing) → Grows (CalculateCured (calculate.Binary o.into o.operator o.left o.right o.ty at) (world_of k.now) types) (HasInteger (whole_of k.now) o.ty) out.old out.new }
+{
+    match integer_in(k, o.ty) {
+        Some(i) => put_binary(
+            out,
+            i,
+            o.operator,
+            Operands {
+                v: column(o.into),
+                a: column(o.left),
+                b: column(o.right),
+            },
+            at,
+        ),
+        None => refuse(out),
+    }
+}
+
+/// Whether the operand is true.
+#[tactic(auto, using(crate::proofs::PieceLaws::refused))]
+fn put_truth(out: &mut Draft, k: &Scope<'_>, held: Option<Held>, into: Temp, operand: Temp)
+    ensures { (types : Typing) → types operand ≡ held_views held → Grows (CalculateCured (calculate.Truth into operand) (world_of k.now) types) (IsSome (held_views held)) out.old out.new }
+{
+    match held {
+        Some(held) => {
+            let a = put_tested(out, k, held, operand);
+            put(out, Instr::Ne(column(into), a, NOUGHT))
+        }
+        None => refuse(out),
+    }
+}
+
+/// Whether the operand is false.
+#[tactic(auto, using(crate::proofs::PieceLaws::refused))]
+fn put_not(out: &mut Draft, k: &Scope<'_>, held: Option<Held>, into: Temp, operand: Temp)
+    ensures { (types : Typing) → types operand ≡ held_views held → Grows (CalculateCured (calculate.Not into operand) (world_of k.now) types) (IsSome (held_views held)) out.old out.new }
+{
+    match held {
+        Some(held) => {
+            let a = put_tested(out, k, held, operand);
+            put(out, Instr::Eq(column(into), a, NOUGHT))
+        }
+        None => refuse(out),
+    }
+}
+
+/// An operator on integers, or a truth value. `held` is what the operand holds whose truth value is wanted.
+pub fn put_calculate(out: &mut Draft, k: &Scope<'_>, held: Option<Held>, i: Calculate)
+    ensures { (types : Typing) → IsAsked i types (held_views held) → Grows (CalculateCured i (world_of k.now) types) (CanCalculate i (whole_of k.now) (held_views held)) out.old out.new }
+{
+    match i {
+        Calculate::Negate { into, operand, ty } => put_negate(out, k, into, operand, ty),
+        Calculate::Complement { into, operand, ty } => put_complement(out, k, into, operand, ty),
+        Calculate::Binary { into, operator, left, right, ty, place } => put_operation(
+            out,
+            k,
+            Operation {
+                operator,
+                into,
+                left,
+                right,
+                ty,
+            },
+            place,
+        ),
+        Calculate::Truth { into, operand } => put_truth(out, k, held, into, operand),
+        Calculate::Not { into, operand } => put_not(out, k, held, into, operand),
     }
 }

@@ -26,7 +26,7 @@ pub enum Held {
 }
 
 /// How many words a pointer of a kind has.
-pub(crate) fn word_number(kind: Kind) -> u32
+pub fn word_number(kind: Kind) -> u32
     ensures { result ≡ word_number kind }
 {
     match kind {
@@ -37,7 +37,7 @@ pub(crate) fn word_number(kind: Kind) -> u32
 }
 
 /// How many words a value takes.
-pub(crate) fn held_words(k: &Scope<'_>, held: Held) -> u32
+pub fn held_words(k: &Scope<'_>, held: Held) -> u32
     ensures { result ≡ held_words (whole_of k.now) (held_view held) }
 {
     match held {
@@ -48,7 +48,7 @@ pub(crate) fn held_words(k: &Scope<'_>, held: Held) -> u32
 }
 
 /// Whether a pointer of a kind is null only where the first two of its words are zero.
-pub(crate) fn is_wide_kind(kind: Kind) -> bool
+pub fn is_wide_kind(kind: Kind) -> bool
     ensures { result ≡ is_wide_kind kind }
 {
     match kind {
@@ -58,7 +58,7 @@ pub(crate) fn is_wide_kind(kind: Kind) -> bool
 }
 
 /// Whether a value is false only where the first two of its words are zero.
-pub(crate) fn is_wide(k: &Scope<'_>, held: Held) -> bool
+pub fn is_wide(k: &Scope<'_>, held: Held) -> bool
     ensures { result ≡ is_wide (whole_of k.now) (held_view held) }
 {
     match held {
@@ -69,7 +69,7 @@ pub(crate) fn is_wide(k: &Scope<'_>, held: Held) -> bool
 }
 
 /// The part of a word that an integer of the type is.
-pub(crate) fn narrow_of(i: Width) -> Option<Narrow>
+pub fn narrow_of(i: Width) -> Option<Narrow>
     ensures { result ≡ narrow_of (width_view i) }
 {
     match i.bytes {

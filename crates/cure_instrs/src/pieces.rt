@@ -14,7 +14,7 @@ use cured_code::Instr;
 
 /// Two instructions.
 #[tactic(auto, using(crate::proofs::PieceLaws::line_more))]
-pub(crate) fn put_two(out: &mut Draft, one: Instr, two: Instr)
+pub fn put_two(out: &mut Draft, one: Instr, two: Instr)
     ensures { Grows (Line (one ∷ two ∷ [])) (Unit {0}) out.old out.new }
 {
     put(out, one);
@@ -23,7 +23,7 @@ pub(crate) fn put_two(out: &mut Draft, one: Instr, two: Instr)
 
 /// Three instructions.
 #[tactic(auto, using(crate::proofs::PieceLaws::line_more))]
-pub(crate) fn put_three(out: &mut Draft, one: Instr, two: Instr, three: Instr)
+pub fn put_three(out: &mut Draft, one: Instr, two: Instr, three: Instr)
     ensures { Grows (Line (one ∷ two ∷ three ∷ [])) (Unit {0}) out.old out.new }
 {
     put(out, one);
@@ -31,7 +31,7 @@ pub(crate) fn put_three(out: &mut Draft, one: Instr, two: Instr, three: Instr)
 }
 
 /// The words of a pointer of a kind are copied.
-pub(crate) fn put_copies(out: &mut Draft, count: u32, v: u32, a: u32)
+pub fn put_copies(out: &mut Draft, count: u32, v: u32, a: u32)
     requires to { v + 3 ≤ 1948 }
     requires from { a + 3 ≤ 1948 }
     requires few { count ≤ 3 }
@@ -51,7 +51,7 @@ pub(crate) fn put_copies(out: &mut Draft, count: u32, v: u32, a: u32)
 }
 
 /// The words of a pointer of a kind become 0.
-pub(crate) fn put_noughts(out: &mut Draft, kind: Kind, v: u32)
+pub fn put_noughts(out: &mut Draft, kind: Kind, v: u32)
     requires { v + 3 ≤ 1948 }
     ensures { Grows (Line (noughts (word_number kind) v)) (Unit {0}) out.old out.new }
 {
@@ -68,7 +68,7 @@ pub(crate) fn put_noughts(out: &mut Draft, kind: Kind, v: u32)
 }
 
 /// A slot is narrowed to an integer of the type.
-pub(crate) fn put_narrowing(out: &mut Draft, v: u32, i: Width)
+pub fn put_narrowing(out: &mut Draft, v: u32, i: Width)
     ensures { Grows (Line (narrowing_lines v (narrow_of (width_view i)))) (Unit {0}) out.old out.new }
 {
     match narrow_of(i) {

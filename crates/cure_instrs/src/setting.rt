@@ -33,7 +33,7 @@ fn word(value: i128) -> u64
 }
 
 /// The node of a pointer type; of another type node 0.
-pub(crate) fn node_of(k: &Scope<'_>, t: TypeId) -> NodeId
+pub fn node_of(k: &Scope<'_>, t: TypeId) -> NodeId
     ensures { result ≡ node_at (shape_at k.now.layouts.now.table t) }
 {
     let types = k.layouts.types();
@@ -63,7 +63,7 @@ fn put_function(out: &mut Draft, kind: Kind, v: u32, function: FunctionNumber)
 }
 
 /// The line that sets a slot to the address of an object.
-pub(crate) fn start_line(k: &Scope<'_>, object: Object, v: u32) -> Instr
+pub fn start_line(k: &Scope<'_>, object: Object, v: u32) -> Instr
     ensures { result ≡ start_line k.now object v }
 {
     match object {

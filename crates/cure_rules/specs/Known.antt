@@ -34,7 +34,7 @@ use Rattle.cure_rules.specs.Slots.{Slots, Role, slot_of}
 
 -- What is the same in all functions of a program: its types and the kinds of its nodes; the bytes that an object of each type takes once
 -- cured, of a type that isn't complete none, and those that its first bytes take; the number of the type node that pointers to a type carry;
--- the static objects, and the addresses of their areas; the types of the defined functions; the number of the signature of each function
+-- the static objects, and the addresses of their areas; how many functions are defined; the number of the signature of each function
 -- type.
 pub record Whole : Type 0 where
   pub table : Table
@@ -44,7 +44,7 @@ pub record Whole : Type 0 where
   pub node : TypeId → ℕ
   pub statics : List Planned
   pub addresses : List ℕ
-  pub functions : List TypeId
+  pub functions : ℕ
   pub signature : TypeId → ℕ
 
 -- A function: its number in the cured program, where function 0 runs the static initialisers; its variables; the type of its result; its
@@ -116,7 +116,7 @@ held_by w t = held_shape (shape_at w.whole.table t)
 
 -- the address of the last function of the cured program: function 0 comes before those of the source
 abbrev pub last_function : World → ℕ
-last_function w = function_address (length w.whole.functions)
+last_function w = function_address w.whole.functions
 
 -- What is known
 

@@ -6,3 +6,5 @@ pub mod Pointing
 pub mod Accesses
 pub mod Calling
 pub mod Code
+pub mod Functions
+pub mod Programs

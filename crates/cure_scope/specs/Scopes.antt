@@ -60,7 +60,7 @@ whole_of k = record {
   node = λ t. slice_index k.nodes.now t.0;
   statics = map plan k.statics.now;
   addresses = k.addresses.now;
-  functions = k.functions.now;
+  functions = k.functions;
   signature = λ t. slice_index k.signatures.now t.0;
 }
 

@@ -25,8 +25,8 @@ pub struct Scope<'a> {
     /// The static objects, and the addresses of their areas.
     pub statics: &'a [Planned],
     pub addresses: &'a [u64],
-    /// The types of the defined functions.
-    pub functions: &'a [TypeId],
+    /// How many functions are defined.
+    pub functions: u32,
     /// The variables of the function, the type of its result, its number in the cured program, and how many words its
     /// parameters take.
     pub variables: &'a [Planned],

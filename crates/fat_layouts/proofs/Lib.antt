@@ -1,3 +1,3 @@
-mod NodeCells
+pub mod NodeCells
 mod StopLaws
 mod LayoutLaws

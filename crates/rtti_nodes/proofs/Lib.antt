@@ -1,0 +1,7 @@
+pub mod Sizes
+pub mod Prefixes
+pub mod PointerKinds
+pub mod Below
+pub mod Adding
+pub mod Standing
+

@@ -1,0 +1,2 @@
+pub mod TypeNodes
+pub mod Classes

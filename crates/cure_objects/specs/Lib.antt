@@ -1,0 +1,2 @@
+pub mod Cured
+pub mod Lines

@@ -1,11 +1,13 @@
 -- The lines of pointer arithmetic, and of addresses of parts.
-use Rattle.std.specs.Prelude.{◌≡◌, ◌≢◌, ℕ, ◌+◌, ◌<◌, ◌≤◌, Bool, true, false, List, [], ◌∷◌, length}
+use Rattle.std.specs.Prelude.{◌≡◌, ◌≢◌, ℕ, ◌+◌, ◌<◌, ◌≤◌, Bool, true, false, List, [], ◌∷◌, length, Option, Some}
 use Rattle.cc_base.specs.declared.number.NodeId.{NodeId}
 use Rattle.cc_base.specs.declared.number.TypeId.{TypeId}
 use Rattle.cc_base.specs.declared.kind.Kind.{Kind}
 use Rattle.cc_base.specs.declared.kind.Kind.TheVariants.{Safe, Seq, Rtti, Wild}
 use Rattle.cc_base.specs.declared.place.Place.{Place}
 use Rattle.c_types.specs.Table.{IsType, IsComplete, IsAggregate, members_at}
+use Rattle.cil_form.specs.Typing.{HeldType, IntegerOf}
+use Rattle.cure_instrs.specs.Cured.{HasPointer, IsPointerAt}
 use Rattle.c_types.specs.Layouts.{size_of, offset_of}
 use Rattle.integers.specs.Arithmetic.{IntegerType}
 use Rattle.cil_form.specs.declared.instr.Direction.{Direction}
@@ -43,3 +45,12 @@ IsSmallReach w kind u = (0 < reach_of w kind u) × (reach_of w kind u ≤ 419430
 -- member number i is there
 abbrev pub HasMember : Whole → TypeId → ℕ → Type 0
 HasMember w t i = IsType w.table t × IsComplete w.table t × IsAggregate w.table t × (i < length (members_at w.table t)) × (offset_of w.table t i ≤ size_of w.table t)
+
+-- an integer is held
+abbrev pub IsIntegerHeld : Option HeldType → Type 0
+IsIntegerHeld (Some (IntegerOf i)) = Unit {0}
+IsIntegerHeld x = ⊥
+
+-- a pointer of type t may move by what is held
+unfoldable pub CanMove : World → TypeId → Option HeldType → Type 0
+CanMove w t x = HasPointer w.whole t × IsIntegerHeld x × ((n : NodeId) (u : TypeId) → IsPointerAt w.whole t n u → IsSmallReach w (w.whole.kind n) u)

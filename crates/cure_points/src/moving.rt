@@ -3,7 +3,7 @@ ghost use Rattle.std.specs.Prelude.{◌≡◌, ◌+◌, ◌<◌, ◌≤◌, [], 
 ghost use Rattle.cured_code.specs.declared.instr.Instr.TheVariants as instr;
 ghost use Rattle.check_forms.specs.Pieces.{Line};
 ghost use Rattle.check_insert.specs.Drafts.{Grows};
-ghost use Rattle.cil_form.specs.Typing.{Typing, IntegerOf};
+ghost use Rattle.cil_form.specs.Typing.{Typing};
 ghost use Rattle.cil_form.specs.declared.instr.Point.TheVariants as point;
 ghost use Rattle.cure_rules.specs.Known.{reach_of};
 ghost use Rattle.cure_rules.specs.Checks.{reach_at, factor_at, distance_at, direction_of, move_by};
@@ -11,8 +11,7 @@ ghost use Rattle.cure_rules.specs.Pointing.{moved_words};
 ghost use Rattle.cure_rules.specs.Slots.{Moved};
 ghost use Rattle.cure_scope.specs.Scopes.{fixed_column, seat, whole_of, world_of};
 ghost use Rattle.cure_instrs.specs.Lines.{width_view, held_views};
-ghost use Rattle.cure_instrs.specs.Cured.{IsPointerAt, HasPointer};
-ghost use Rattle.cure_points.specs.Lines.{MovedBy, IsSmallReach};
+ghost use Rattle.cure_points.specs.Lines.{MovedBy, IsSmallReach, CanMove};
 ghost use Rattle.cure_points.specs.Cured.{PointCured};
 
 use cc_base::{Kind, Place, TypeId};
@@ -162,4 +161,60 @@ fn put_moved(out: &mut Draft, k: &Scope<'_>, m: Motion, on: Operands, at: Place)
     };
     put_guarded(out, op, m.kind, at);
     put_moved_words(out, m.kind, on.v, on.a)
+}
+
+/// A move: its temporaries, its way, and the type of the pointer.
+#[derive(Clone, Copy)]
+pub struct Moving {
+    pub into: Temp,
+    pub pointer: Temp,
+    pub amount: Temp,
+    pub way: Direction,
+    pub ty: TypeId,
+}
+
+/// A pointer of a kind to a type moves by an integer, where the numbers of the checks are words.
+fn put_small(out: &mut Draft, k: &Scope<'_>, m: Motion, on: Operands, at: Place)
+    requires to { on.v + 3 ≤ 1948 }
+    requires from { on.a + 3 ≤ 1948 }
+    ensures { Grows (MovedBy (world_of k.now) m.kind m.to m.way (width_view m.by) on.v on.a on.n at) (IsSmallReach (world_of k.now) m.kind m.to) out.old out.new }
+{
+    let size = reach_of(k, m.kind, m.to);
+    if size > 0 {
+        if size <= 4194304 {
+            return put_moved(out, k, m, on, at);
+        }
+    }
+    refuse(out)
+}
+
+/// A move. `held` is what the integer's temporary holds.
+pub fn put_move(out: &mut Draft, k: &Scope<'_>, held: Option<Held>, m: Moving, at: Place)
+    ensures { (types : Typing) → types m.amount ≡ held_views held → Grows (PointCured (point.Move m.into m.pointer m.amount m.way m.ty at) (world_of k.now) types) (CanMove (world_of k.now) m.ty (held_views held)) out.old out.new }
+{
+    let on = Operands {
+        v: column(m.into),
+        a: column(m.pointer),
+        n: column(m.amount),
+    };
+    match pointer_in(k, m.ty) {
+        Some(p) => match held {
+            Some(Held::Integer(by)) => put_small(
+                out,
+                k,
+                Motion {
+                    kind: k.kind_of(p.node),
+                    to: p.to,
+                    way: m.way,
+                    by,
+                },
+                on,
+                at,
+            ),
+            Some(Held::Pointer(_, _)) => refuse(out),
+            Some(Held::Place(_, _)) => refuse(out),
+            None => refuse(out),
+        },
+        None => refuse(out),
+    }
 }

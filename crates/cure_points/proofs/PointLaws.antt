@@ -1,0 +1,100 @@
+-- The lines of pointer arithmetic, and of addresses of parts.
+use Rattle.std.proofs.Common.{⊎_elim, ◌≡◌, refl, ap, sym, subst, ◌∙◌, ℕ, ◌+◌, ◌≤◌, ◌<◌, inl, inr, Bool, true, false, Option, Some, None, List, [], ◌∷◌, ◌++◌, nat_eq, nat_le, length, arith, if◌then◌else◌}
+use Rattle.cc_base.specs.declared.number.TypeId.{TypeId}
+use Rattle.cc_base.specs.declared.number.NodeId.{NodeId}
+use Rattle.cc_base.specs.declared.place.Place.{Place}
+use Rattle.cc_base.specs.declared.kind.Kind.{Kind}
+use Rattle.cc_base.specs.declared.kind.Kind.TheVariants.{Safe, Seq, Rtti, Wild}
+use Rattle.c_types.specs.declared.shape.TypeShape.TheVariants as shape
+use Rattle.c_types.specs.Table.{shape_at, IsComplete, is_complete, entry_at, members_at}
+use Rattle.c_types.specs.Layouts.{offset_of}
+use Rattle.c_types.specs.Cells.{IsBetweenPointers}
+use Rattle.c_types.specs.Equality.{cells_of}
+use Rattle.integers.specs.Arithmetic.{IntegerType, int, long}
+use Rattle.src_mem.specs.Operations.{node_of_shape, pointee_of_shape}
+use Rattle.cil_form.specs.declared.number.Temp.{Temp}
+use Rattle.cil_form.specs.declared.instr.Direction.{Direction}
+use Rattle.cil_form.specs.declared.instr.Point.TheVariants as point
+use Rattle.cil_form.specs.Typing as shaped
+use Rattle.cil_form.specs.Typing.{Context, Typing, HeldType, IntegerOf, PointerTo, PlaceOf}
+use Rattle.cured_code.specs.declared.instr.Instr.{Instr}
+use Rattle.cured_code.specs.declared.instr.Instr.TheVariants as instr
+use Rattle.check_forms.specs.Pieces.{Line, Then}
+use Rattle.check_forms.specs.declared.slots.PointerSlots.{PointerSlots}
+use Rattle.sim_relation.specs.Ground.{word_number}
+use Rattle.cure_rules.specs.Slots.{Size, Offset, Moved}
+use Rattle.cure_rules.specs.Known.{Whole, World, known_of, cured_size, pointer_slots, reach_of}
+use Rattle.cure_rules.specs.Checks.{numbers_of, base_needs, factor_needs, distance_needs, near_needs, wild_numbers, reach_at, factor_at, distance_at, move_by, address_of_part, IsGuarded}
+use Rattle.cure_rules.specs.Pointing.{moved_words, PartWords, Decays, cured_offset, null_operation}
+use Rattle.cure_rules.specs.Setting.{is_wide, IsTested}
+use Rattle.cure_scope.specs.declared.scope.Scope.{Scope}
+use Rattle.cure_scope.specs.Scopes.{fixed_column, fixed_slots, seat, whole_of, world_of}
+use Rattle.cure_scope.specs.Needs.{Guards, AreSeated}
+use Rattle.cure_scope.proofs.GuardLaws.{guarded}
+use Rattle.cure_instrs.specs.Cured.{IsIn, IsPointerAt, HasPointer}
+use Rattle.cure_instrs.specs.Lines.{tested_slot, tested_lines}
+use Rattle.cure_instrs.proofs.KnownLaws.{leaves_held, is_exactly, takes, is_address, points}
+use Rattle.cure_instrs.proofs.CalculateLaws.{is_tested}
+use Rattle.cure_instrs.proofs.SeatLaws.{seated_append, seated_base, seated_factor, seated_distance, seated_near, seated_part}
+use Rattle.cure_points.specs.Lines.{part_row, MovedBy, PartOf, CanMove, IsSmallReach, IsIntegerHeld}
+use Rattle.cure_points.specs.Cured.{PointCured, AreMembersWhole}
+
+at_pointer : (w : Whole) (t : TypeId) (m : NodeId) (u : TypeId) → IsPointerAt w t m u → shape_at w.table t ≡ shape.Pointer m u
+unfolding IsPointerAt
+at_pointer w t m u h = h
+
+-- a type is one pointer type
+pub one_pointer : (w : World) (c : Context) (t : TypeId) (m n : NodeId) (u v : TypeId) → IsIn w c → IsPointerAt w.whole t m u → shaped.IsPointer c t n v
+    → (m ≡ n) × (u ≡ v) × (shape_at w.whole.table t ≡ shape.Pointer n v)
+unfolding IsPointerAt
+one_pointer w c t m n u v is h g =
+    let e : shape_at w.whole.table t ≡ shape.Pointer n v = ap (λ z. shape_at z t) (sym is.table) ∙ g.1 in
+    (ap node_of_shape (sym h ∙ e), ap pointee_of_shape (sym h ∙ e), e)
+
+seated-move : (k : Scope) (kind : Kind) (u : TypeId) (p : PointerSlots) (way : Direction) (i : IntegerType) (n : ℕ)
+    → AreSeated (numbers_of (move_by (world_of k) seat kind u p way i n) kind)
+seated-move k kind u p way i n =
+    let size = reach_of (world_of k) kind u in
+    let base = base_needs kind (wild_numbers (world_of k) seat) in
+    let factor = factor_needs (factor_at seat i size) in
+    let distance = distance_needs (distance_at seat n size) in
+    seated_append (base ++ factor ++ distance) (near_needs (reach_at seat kind size))
+    (seated_append (base ++ factor) distance
+    (seated_append base factor (seated_base k kind) (seated_factor (nat_le i.bytes 4) i.signed size))
+    (seated_distance (nat_eq size 1) n size))
+    (seated_near kind size)
+
+pub move_cured : (k : Scope) (types : Typing) (into p n : Temp) (way : Direction) (t : TypeId) (at : Place) (m : NodeId) (u : TypeId) (i : IntegerType) (code : List Instr)
+    → IsPointerAt (whole_of k) t m u → types n ≡ Some (IntegerOf i)
+    → MovedBy (world_of k) ((whole_of k).kind m) u way i (fixed_column into) (fixed_column p) (fixed_column n) at code
+    → PointCured (point.Move into p n way t at) (world_of k) types code
+unfolding PointCured Then
+move_cured k types into p n way t at m u i code type same h c after is whole s =
+    let e = one_pointer (world_of k) c t m s.0 u s.1 is type s.2 in
+    let held = subst (λ z. types p ≡ Some (PointerTo z u)) (sym e.0) (subst (λ z. types p ≡ Some (PointerTo s.0 z)) (sym e.1) s.4.1) in
+    let more = subst (λ z. shaped.Includes (shaped.with_held into (Some (PointerTo z u)) types) after) (sym e.0)
+    (subst (λ z. shaped.Includes (shaped.with_held into (Some (PointerTo s.0 z)) types) after) (sym e.1) s.6.1) in
+    let kind = (whole_of k).kind m in
+    (m, u, fixed_column p, [], i, fixed_column n, seat, type', complete e, points k.parameters types p m u (s.4.0, held),
+    is_exactly k.parameters types n i (s.5.1.0, same), takes k into (whole_of k).kind m s.6.0,
+    (h.0, h.1, guarded k (move_by (world_of k) seat kind u (pointer_slots (fixed_column p)) way i (fixed_column n)) kind at h.0
+    (seated-move k kind u (pointer_slots (fixed_column p)) way i (fixed_column n)) h.2, h.3, h.4),
+    leaves_held k.parameters types after into (Some (PointerTo m u)) more)
+  where
+    type' : shape_at (whole_of k).table t ≡ shape.Pointer m u
+    type' = at_pointer (whole_of k) t m u type
+
+    complete : (m ≡ s.0) × (u ≡ s.1) × (shape_at (whole_of k).table t ≡ shape.Pointer s.0 s.1) → IsComplete (whole_of k).table u
+    complete e = subst (λ z. IsComplete z u) is.table (subst (IsComplete c.table) (sym e.1) s.3.1)
+
+pub can_move : (w : World) (t : TypeId) (x : Option HeldType) (n : NodeId) (u : TypeId) → IsPointerAt w.whole t n u → CanMove w t x → IsSmallReach w (w.whole.kind n) u
+unfolding CanMove
+can_move w t x n u is h = h.2 n u is
+
+pub no_pointer : (w : World) (t : TypeId) (x : Option HeldType) → (HasPointer w.whole t → Prim.⊥) → CanMove w t x → Prim.⊥
+unfolding CanMove
+no_pointer w t x none h = none h.0
+
+pub no_integer : (w : World) (t : TypeId) (x : Option HeldType) → (IsIntegerHeld x → Prim.⊥) → CanMove w t x → Prim.⊥
+unfolding CanMove
+no_integer w t x none h = none h.1

@@ -6,7 +6,7 @@ use Rattle.cc_base.specs.declared.place.Place.{Place}
 use Rattle.cc_base.specs.declared.kind.Kind.{Kind}
 use Rattle.cc_base.specs.declared.kind.Kind.TheVariants.{Safe, Seq, Rtti, Wild}
 use Rattle.c_types.specs.declared.shape.TypeShape.TheVariants as shape
-use Rattle.c_types.specs.Table.{shape_at, IsComplete, is_complete, entry_at, members_at}
+use Rattle.c_types.specs.Table.{shape_at, IsComplete, IsAggregate, members_at}
 use Rattle.c_types.specs.Layouts.{offset_of}
 use Rattle.c_types.specs.Cells.{IsBetweenPointers}
 use Rattle.c_types.specs.Equality.{cells_of}
@@ -21,9 +21,9 @@ use Rattle.cured_code.specs.declared.instr.Instr.{Instr}
 use Rattle.cured_code.specs.declared.instr.Instr.TheVariants as instr
 use Rattle.check_forms.specs.Pieces.{Line, Then}
 use Rattle.check_forms.specs.declared.slots.PointerSlots.{PointerSlots}
-use Rattle.sim_relation.specs.Ground.{word_number}
+use Rattle.sim_relation.specs.Points.{Number}
 use Rattle.cure_rules.specs.Slots.{Size, Offset, Moved}
-use Rattle.cure_rules.specs.Known.{Whole, World, known_of, cured_size, pointer_slots, reach_of}
+use Rattle.cure_rules.specs.Known.{Whole, World, Gets, known_of, cured_size, pointer_slots, reach_of}
 use Rattle.cure_rules.specs.Checks.{numbers_of, base_needs, factor_needs, distance_needs, near_needs, wild_numbers, reach_at, factor_at, distance_at, move_by, address_of_part, IsGuarded}
 use Rattle.cure_rules.specs.Pointing.{moved_words, PartWords, Decays, cured_offset, null_operation}
 use Rattle.cure_rules.specs.Setting.{is_wide, IsTested}
@@ -36,7 +36,7 @@ use Rattle.cure_instrs.specs.Lines.{tested_slot, tested_lines}
 use Rattle.cure_instrs.proofs.KnownLaws.{leaves_held, is_exactly, takes, is_address, points}
 use Rattle.cure_instrs.proofs.CalculateLaws.{is_tested}
 use Rattle.cure_instrs.proofs.SeatLaws.{seated_append, seated_base, seated_factor, seated_distance, seated_near, seated_part}
-use Rattle.cure_points.specs.Lines.{part_row, MovedBy, PartOf, CanMove, IsSmallReach, IsIntegerHeld}
+use Rattle.cure_points.specs.Lines.{part_row, MovedBy, PartOf, DecayOf, CanMove, IsSmallReach, IsIntegerHeld}
 use Rattle.cure_points.specs.Cured.{PointCured, AreMembersWhole}
 
 at_pointer : (w : Whole) (t : TypeId) (m : NodeId) (u : TypeId) → IsPointerAt w t m u → shape_at w.table t ≡ shape.Pointer m u
@@ -98,3 +98,82 @@ no_pointer w t x none h = none h.0
 pub no_integer : (w : World) (t : TypeId) (x : Option HeldType) → (IsIntegerHeld x → Prim.⊥) → CanMove w t x → Prim.⊥
 unfolding CanMove
 no_integer w t x none h = none h.1
+
+-- Parts
+
+part-words : (k : Scope) (kind : Kind) (size : ℕ) (t : TypeId) (v a o : ℕ) (code : List Instr) → Line (part_row kind (world_of k) size t v a o) code
+    → PartWords kind (world_of k) seat size t v a o (a + 1) code
+unfolding Line Then
+part-words k Safe size t v a o code h = h
+part-words k Rtti size t v a o code h = h
+part-words k Wild size t v a o code h = h
+part-words k Seq size t v a o code h =
+    (instr.Const (seat Size) size ∷ [], instr.Add v a o ∷ instr.Copy (v + 1) v ∷ instr.Add (v + 2) v (seat Size) ∷ [], inr (refl, refl), refl, h)
+
+-- the lines of an address of a part are those that the relation asks for
+module _ (k : Scope) (outer : Kind) (of : TypeId) (inner : Kind) (size : ℕ) (t : TypeId) (offset v a : ℕ) (at : Place) (code : List Instr) where
+  part-of : PartOf (world_of k) outer of inner size t offset v a at code
+      → Then (Gets (world_of k) Offset (Number offset) (seat Offset)) (Then (IsGuarded (world_of k) (address_of_part (world_of k) seat outer of (pointer_slots a)) outer at)
+      (PartWords inner (world_of k) seat size t v a (seat Offset) (a + 1))) code
+  unfolding Then
+  part-of h =
+      let g = h.3 in
+      (h.0, h.1, inr (refl, h.2),
+      (g.0, g.1, guarded k (address_of_part (world_of k) seat outer of (pointer_slots a)) outer at g.0 (seated_part k outer of (pointer_slots a)) g.2,
+      part-words k inner size t v a (seat Offset) g.1 g.3, g.4), h.4)
+
+decays : (k : Scope) (checked : Bool) (outer inner : Kind) (of t : TypeId) (v a : ℕ) (at : Place) (code : List Instr)
+    → DecayOf checked (world_of k) outer of inner (cured_size (whole_of k) of) t v a at code
+    → Decays checked (world_of k) seat outer inner of t v a at code
+decays k true outer inner of t v a at code h = part-of k outer of inner (cured_size (whole_of k) of) t 0 v a at code h
+decays k false outer inner of t v a at code h = part-words k inner (cured_size (whole_of k) of) t v a 381 code h
+
+held-array : (checked : Bool) (types : Typing) (from : Temp) (n : NodeId) (t : TypeId) → shaped.HoldsArray checked types from n t → shaped.HoldsAddress types from n t
+held-array true types from n t h = h
+held-array false types from n t h = inr h
+
+pub decay_cured : (k : Scope) (types : Typing) (into from : Temp) (outer : NodeId) (of : TypeId) (checked : Bool) (inner : NodeId) (t : TypeId) (at : Place) (code : List Instr)
+    → DecayOf checked (world_of k) ((whole_of k).kind outer) of ((whole_of k).kind inner) (cured_size (whole_of k) of) t (fixed_column into) (fixed_column from) at code
+    → PointCured (point.Decay into from outer of checked inner t at) (world_of k) types code
+unfolding PointCured
+decay_cured k types into from outer of checked inner t at code h c after is whole s =
+    (fixed_column from, [], seat, is_address k.parameters types from outer of (held-array checked types from outer of s.4), takes k into (whole_of k).kind inner s.5.0,
+    decays k checked ((whole_of k).kind outer) ((whole_of k).kind inner) of t (fixed_column into) (fixed_column from) at code h,
+    leaves_held k.parameters types after into (Some (PointerTo inner t)) s.5.1)
+
+pub address_cured : (k : Scope) (types : Typing) (into from : Temp) (outer inner : NodeId) (t : TypeId) (code : List Instr)
+    → Line (part_row ((whole_of k).kind inner) (world_of k) (cured_size (whole_of k) t) t (fixed_column into) (fixed_column from) 381) code
+    → PointCured (point.Address into from outer inner t) (world_of k) types code
+unfolding PointCured
+address_cured k types into from outer inner t code h c after is whole s =
+    (fixed_column from, [], seat, is_address k.parameters types from outer t (inr s.3), takes k into (whole_of k).kind inner s.4.0,
+    part-words k ((whole_of k).kind inner) (cured_size (whole_of k) t) t (fixed_column into) (fixed_column from) 381 code h,
+    leaves_held k.parameters types after into (Some (PointerTo inner t)) s.4.1)
+
+-- the offset is that of the member, where no pointer lies across it
+pub member_cured : (k : Scope) (types : Typing) (into from : Temp) (outer : NodeId) (t : TypeId) (i : ℕ) (inner : NodeId) (u : TypeId) (at : Place) (offset : ℕ) (code : List Instr)
+    → (IsBetweenPointers (cells_of (whole_of k).table t) (offset_of (whole_of k).table t i)
+    → offset ≡ cured_offset (world_of k) ((whole_of k).kind outer) t (offset_of (whole_of k).table t i))
+    → PartOf (world_of k) ((whole_of k).kind outer) t ((whole_of k).kind inner) (cured_size (whole_of k) u) u offset (fixed_column into) (fixed_column from) at code
+    → PointCured (point.Member into from outer t i inner u at) (world_of k) types code
+unfolding PointCured
+member_cured k types into from outer t i inner u at offset code same h c after is whole s =
+    let table = is.table in
+    let complete = subst (λ z. IsComplete z t) table s.2.1 in
+    let aggregate = subst (λ z. IsAggregate z t) table s.3 in
+    let there = subst (λ z. i < length (members_at z t)) table s.4 in
+    let e = same (whole t i complete aggregate there) in
+    (fixed_column from, [], seat, is_address k.parameters types from outer t s.6, takes k into (whole_of k).kind inner s.7.0,
+    part-of k ((whole_of k).kind outer) t ((whole_of k).kind inner) (cured_size (whole_of k) u) u
+    (cured_offset (world_of k) ((whole_of k).kind outer) t (offset_of (whole_of k).table t i)) (fixed_column into) (fixed_column from) at code
+    (subst (λ z. PartOf (world_of k) ((whole_of k).kind outer) t ((whole_of k).kind inner) (cured_size (whole_of k) u) u z (fixed_column into) (fixed_column from) at code) e h),
+    leaves_held k.parameters types after into (Some (PlaceOf inner u)) s.7.1)
+
+pub null_cured : (k : Scope) (types : Typing) (into p : Temp) (t : TypeId) (different : Bool) (x : HeldType) (code : List Instr) → types p ≡ Some x
+    → Then (Line (tested_lines (is_wide (whole_of k) x) (fixed_column p)))
+    (Line (null_operation different (fixed_column into) (tested_slot (is_wide (whole_of k) x) (fixed_column p)) 381 ∷ [])) code
+    → PointCured (point.IsNull into p t different) (world_of k) types code
+unfolding PointCured Then
+null_cured k types into p t different x code e h c after is whole s =
+    (tested_slot (is_wide (whole_of k) x) (fixed_column p), (s.4.0, omega arith), (h.0, h.1, is_tested k types p x h.0 e h.2, h.3, h.4),
+    leaves_held k.parameters types after into (Some (IntegerOf int)) s.4.1)

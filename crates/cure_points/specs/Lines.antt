@@ -14,6 +14,7 @@ use Rattle.cil_form.specs.declared.instr.Direction.{Direction}
 use Rattle.cured_code.specs.declared.instr.Instr.{Instr}
 use Rattle.cured_code.specs.declared.instr.Instr.TheVariants as instr
 use Rattle.check_forms.specs.Pieces.{Piece, Line, Then}
+use Rattle.check_forms.specs.declared.op.Op.{Op}
 use Rattle.cure_rules.specs.Slots.{Size, Offset, Moved}
 use Rattle.cure_rules.specs.Known.{Whole, World, cured_size, source_size, pointer_slots, reach_of}
 use Rattle.cure_rules.specs.Checks.{move_by, address_of_part}
@@ -54,3 +55,12 @@ IsIntegerHeld x = ⊥
 -- a pointer of type t may move by what is held
 unfoldable pub CanMove : World → TypeId → Option HeldType → Type 0
 CanMove w t x = HasPointer w.whole t × IsIntegerHeld x × ((n : NodeId) (u : TypeId) → IsPointerAt w.whole t n u → IsSmallReach w (w.whole.kind n) u)
+
+-- an array decays, behind its check or without one
+abbrev pub DecayOf : Bool → World → Kind → TypeId → Kind → ℕ → TypeId → ℕ → ℕ → Place → Piece
+DecayOf true w outer of inner size t v a at = PartOf w outer of inner size t 0 v a at
+DecayOf false w outer of inner size t v a at = Line (part_row inner w size t v a 381)
+
+-- what is asked for the address of a part
+abbrev pub part_operation : World → Kind → TypeId → ℕ → Op
+part_operation w outer of a = address_of_part w seat outer of (pointer_slots a)

@@ -1,7 +1,10 @@
 //! The cured code of pointer arithmetic, comparisons of pointers, and addresses of parts.
 #![tactic(auto)]
 
+mod addresses;
 mod moving;
 mod parts;
 
-pub use parts::{Part, put_part};
+pub use addresses::{ArrayAt, MemberOf, put_address, put_decay, put_member, put_null};
+pub use moving::{Moving, put_move};
+pub use parts::{Outer, Part, put_part, put_part_of};

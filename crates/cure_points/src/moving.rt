@@ -1,9 +1,9 @@
 //! The cured code of moves.
-ghost use Rattle.std.specs.Prelude.{◌≡◌, ◌+◌, ◌<◌, ◌≤◌, [], ◌∷◌, Some, None, Option};
+ghost use Rattle.std.specs.Prelude.{◌≡◌, ◌+◌, ◌<◌, ◌≤◌, [], ◌∷◌, Some, None, Option, IfSome, IfNone, IsTrue, ◌↔◌};
 ghost use Rattle.cured_code.specs.declared.instr.Instr.TheVariants as instr;
 ghost use Rattle.check_forms.specs.Pieces.{Line};
 ghost use Rattle.check_insert.specs.Drafts.{Grows};
-ghost use Rattle.cil_form.specs.Typing.{Typing};
+ghost use Rattle.cil_form.specs.Typing.{Typing, IntegerOf};
 ghost use Rattle.cil_form.specs.declared.instr.Point.TheVariants as point;
 ghost use Rattle.cure_rules.specs.Known.{reach_of};
 ghost use Rattle.cure_rules.specs.Checks.{reach_at, factor_at, distance_at, direction_of, move_by};
@@ -11,7 +11,7 @@ ghost use Rattle.cure_rules.specs.Pointing.{moved_words};
 ghost use Rattle.cure_rules.specs.Slots.{Moved};
 ghost use Rattle.cure_scope.specs.Scopes.{fixed_column, seat, whole_of, world_of};
 ghost use Rattle.cure_instrs.specs.Lines.{width_view, held_views};
-ghost use Rattle.cure_points.specs.Lines.{MovedBy, IsSmallReach, CanMove};
+ghost use Rattle.cure_points.specs.Lines.{MovedBy, IsSmallReach, IsIntegerHeld, CanMove};
 ghost use Rattle.cure_points.specs.Cured.{PointCured};
 
 use cc_base::{Kind, Place, TypeId};
@@ -173,33 +173,48 @@ pub struct Moving {
     pub ty: TypeId,
 }
 
+/// Whether the numbers of the checks of a move are words.
+fn is_small(k: &Scope<'_>, kind: Kind, to: TypeId) -> bool
+    ensures { IsTrue result ↔ IsSmallReach (world_of k.now) kind to }
+{
+    let size = reach_of(k, kind, to);
+    0 < size && size <= 4194304
+}
+
 /// A pointer of a kind to a type moves by an integer, where the numbers of the checks are words.
+#[tactic(auto, using(cure_instrs::proofs::PieceLaws::always, check_insert::proofs::Laws::grows_failed))]
 fn put_small(out: &mut Draft, k: &Scope<'_>, m: Motion, on: Operands, at: Place)
     requires to { on.v + 3 ≤ 1948 }
     requires from { on.a + 3 ≤ 1948 }
     ensures { Grows (MovedBy (world_of k.now) m.kind m.to m.way (width_view m.by) on.v on.a on.n at) (IsSmallReach (world_of k.now) m.kind m.to) out.old out.new }
 {
-    let size = reach_of(k, m.kind, m.to);
-    if size > 0 {
-        if size <= 4194304 {
-            return put_moved(out, k, m, on, at);
-        }
+    if is_small(k, m.kind, m.to) {
+        put_moved(out, k, m, on, at)
+    } else {
+        refuse(out)
     }
-    refuse(out)
+}
+
+/// The integer type of what is held.
+fn integer_held(held: Option<Held>) -> Option<Width>
+    ensures there { IfSome result (λ i. held_views held ≡ Some (IntegerOf (width_view i))) }
+    ensures none { IfNone result (IsIntegerHeld (held_views held) → ⊥) }
+{
+    match held {
+        Some(Held::Integer(by)) => Some(by),
+        Some(Held::Pointer(_, _)) => None,
+        Some(Held::Place(_, _)) => None,
+        None => None,
+    }
 }
 
 /// A move. `held` is what the integer's temporary holds.
 pub fn put_move(out: &mut Draft, k: &Scope<'_>, held: Option<Held>, m: Moving, at: Place)
     ensures { (types : Typing) → types m.amount ≡ held_views held → Grows (PointCured (point.Move m.into m.pointer m.amount m.way m.ty at) (world_of k.now) types) (CanMove (world_of k.now) m.ty (held_views held)) out.old out.new }
 {
-    let on = Operands {
-        v: column(m.into),
-        a: column(m.pointer),
-        n: column(m.amount),
-    };
     match pointer_in(k, m.ty) {
-        Some(p) => match held {
-            Some(Held::Integer(by)) => put_small(
+        Some(p) => match integer_held(held) {
+            Some(by) => put_small(
                 out,
                 k,
                 Motion {
@@ -208,11 +223,13 @@ pub fn put_move(out: &mut Draft, k: &Scope<'_>, held: Option<Held>, m: Moving, a
                     way: m.way,
                     by,
                 },
-                on,
+                Operands {
+                    v: column(m.into),
+                    a: column(m.pointer),
+                    n: column(m.amount),
+                },
                 at,
             ),
-            Some(Held::Pointer(_, _)) => refuse(out),
-            Some(Held::Place(_, _)) => refuse(out),
             None => refuse(out),
         },
         None => refuse(out),

@@ -21,11 +21,14 @@ use Rattle.cured_code.specs.declared.instr.Instr.{Instr}
 use Rattle.cured_code.specs.declared.instr.Instr.TheVariants as instr
 use Rattle.check_forms.specs.Pieces.{Line, Then}
 use Rattle.check_forms.specs.declared.slots.PointerSlots.{PointerSlots}
+use Rattle.check_forms.specs.declared.slots.Fixed.{Fixed}
+use Rattle.cil_form.specs.declared.instr.Comparison.{Comparison}
+use Rattle.cil_form.specs.declared.instr.Comparison.TheVariants as comparison
 use Rattle.sim_relation.specs.Points.{Number}
 use Rattle.cure_rules.specs.Slots.{Size, Offset, Moved}
 use Rattle.cure_rules.specs.Known.{Whole, World, Gets, known_of, cured_size, pointer_slots, reach_of}
-use Rattle.cure_rules.specs.Checks.{numbers_of, base_needs, factor_needs, distance_needs, near_needs, wild_numbers, reach_at, factor_at, distance_at, move_by, address_of_part, IsGuarded}
-use Rattle.cure_rules.specs.Pointing.{moved_words, PartWords, Decays, cured_offset, null_operation}
+use Rattle.cure_rules.specs.Checks.{number_at, numbers_of, apart_needs, base_needs, factor_needs, distance_needs, near_needs, wild_numbers, reach_at, factor_at, distance_at, move_by, address_of_part, IsGuarded}
+use Rattle.cure_rules.specs.Pointing.{moved_words, PartWords, Decays, cured_offset, null_operation, order_by, comparing}
 use Rattle.cure_rules.specs.Setting.{is_wide, IsTested}
 use Rattle.cure_scope.specs.declared.scope.Scope.{Scope}
 use Rattle.cure_scope.specs.Scopes.{fixed_column, fixed_slots, seat, whole_of, world_of}
@@ -35,8 +38,8 @@ use Rattle.cure_instrs.specs.Cured.{IsIn, IsPointerAt, HasPointer}
 use Rattle.cure_instrs.specs.Lines.{tested_slot, tested_lines}
 use Rattle.cure_instrs.proofs.KnownLaws.{leaves_held, is_exactly, takes, is_address, points}
 use Rattle.cure_instrs.proofs.CalculateLaws.{is_tested}
-use Rattle.cure_instrs.proofs.SeatLaws.{seated_append, seated_base, seated_factor, seated_distance, seated_near, seated_part}
-use Rattle.cure_points.specs.Lines.{part_row, MovedBy, PartOf, DecayOf, CanMove, IsSmallReach, IsIntegerHeld}
+use Rattle.cure_instrs.proofs.SeatLaws.{seated_append, seated_size, seated_base, seated_factor, seated_distance, seated_near, seated_part}
+use Rattle.cure_points.specs.Lines.{part_row, MovedBy, PartOf, DecayOf, DifferenceOf, ComparedBy, HavePointers, CanMove, IsSmallReach, IsIntegerHeld}
 use Rattle.cure_points.specs.Cured.{PointCured, AreMembersWhole}
 
 at_pointer : (w : Whole) (t : TypeId) (m : NodeId) (u : TypeId) → IsPointerAt w t m u → shape_at w.table t ≡ shape.Pointer m u
@@ -177,3 +180,66 @@ unfolding PointCured Then
 null_cured k types into p t different x code e h c after is whole s =
     (tested_slot (is_wide (whole_of k) x) (fixed_column p), (s.4.0, omega arith), (h.0, h.1, is_tested k types p x h.0 e h.2, h.3, h.4),
     leaves_held k.parameters types after into (Some (IntegerOf int)) s.4.1)
+
+-- Two pointers
+
+seated-order : (k : Scope) (kind other : Kind) (p q : PointerSlots) (apart : Option Fixed) → AreSeated (apart_needs apart)
+    → AreSeated (numbers_of (order_by (world_of k) seat kind p other q apart) kind)
+seated-order k kind other p q apart h =
+    seated_append (base_needs kind (wild_numbers (world_of k) seat) ++ base_needs other (wild_numbers (world_of k) seat)) (apart_needs apart)
+    (seated_append (base_needs kind (wild_numbers (world_of k) seat)) (base_needs other (wild_numbers (world_of k) seat)) (seated_base k kind) (seated_base k other)) h
+
+seated-comparing : (k : Scope) (which : Comparison) (kind other : Kind) (p q : PointerSlots)
+    → AreSeated (numbers_of (comparing which (world_of k) seat kind p other q) kind)
+seated-comparing k comparison.Equal kind other p q = tt
+seated-comparing k comparison.Different kind other p q = tt
+seated-comparing k comparison.Less kind other p q = seated-order k kind other p q None tt
+seated-comparing k comparison.LessOrEqual kind other p q = seated-order k kind other p q None tt
+seated-comparing k comparison.Greater kind other p q = seated-order k kind other p q None tt
+seated-comparing k comparison.GreaterOrEqual kind other p q = seated-order k kind other p q None tt
+
+pub difference_cured : (k : Scope) (types : Typing) (into a b : Temp) (t s : TypeId) (at : Place) (m n : NodeId) (u v : TypeId) (code : List Instr)
+    → IsPointerAt (whole_of k) t m u → IsPointerAt (whole_of k) s n v
+    → DifferenceOf (world_of k) ((whole_of k).kind m) ((whole_of k).kind n) u (fixed_column into) (fixed_column a) (fixed_column b) at code
+    → PointCured (point.Difference into a t b s at) (world_of k) types code
+unfolding PointCured Then Line
+difference_cured k types into a b t s at m n u v code left right h c after is whole z =
+    let e = one_pointer (world_of k) c t m z.0 u z.2 is left z.4 in
+    let f = one_pointer (world_of k) c s n z.1 v z.3 is right z.5 in
+    let g = subst (λ x. DifferenceOf (world_of k) ((whole_of k).kind x) ((whole_of k).kind z.1) z.2 (fixed_column into) (fixed_column a) (fixed_column b) at code) e.0
+    (subst (λ x. DifferenceOf (world_of k) ((whole_of k).kind m) ((whole_of k).kind x) z.2 (fixed_column into) (fixed_column a) (fixed_column b) at code) f.0
+    (subst (λ x. DifferenceOf (world_of k) ((whole_of k).kind m) ((whole_of k).kind n) x (fixed_column into) (fixed_column a) (fixed_column b) at code) e.1 h)) in
+    let kind = (whole_of k).kind z.0 in let other = (whole_of k).kind z.1 in
+    let size = number_at seat Size (reach_of (world_of k) kind z.2) in
+    let rest = g.3 in
+    (z.0, z.1, z.2, z.3, fixed_column a, fixed_column b, [], [], seat, e.2, f.2, subst (λ x. IsComplete x z.2) is.table z.6.1,
+    points k.parameters types a z.0 z.2 z.9, points k.parameters types b z.1 z.3 z.10, (z.11.0, omega arith),
+    (g.0, g.1, guarded k (order_by (world_of k) seat kind (pointer_slots (fixed_column a)) other (pointer_slots (fixed_column b)) (Some size)) kind at g.0
+    (seated-order k kind other (pointer_slots (fixed_column a)) (pointer_slots (fixed_column b)) (Some size) (seated_size (reach_of (world_of k) kind z.2))) g.2,
+    rest.4 ∙ ap (λ x. x ++ rest.1) rest.2 ∙ ap (λ x. instr.Sub (fixed_column into) (fixed_column a) (fixed_column b) ∷ x) rest.3, g.4),
+    leaves_held k.parameters types after into (Some (IntegerOf long)) z.11.1)
+
+pub compare_cured : (k : Scope) (types : Typing) (which : Comparison) (into a b : Temp) (t s : TypeId) (at : Place) (m n : NodeId) (u v : TypeId) (code : List Instr)
+    → IsPointerAt (whole_of k) t m u → IsPointerAt (whole_of k) s n v
+    → ComparedBy which (world_of k) ((whole_of k).kind m) ((whole_of k).kind n) (fixed_column into) (fixed_column a) (fixed_column b) at code
+    → PointCured (point.Compare into which a t b s at) (world_of k) types code
+unfolding PointCured Then
+compare_cured k types which into a b t s at m n u v code left right h c after is whole z =
+    let e = one_pointer (world_of k) c t m z.0 u z.2 is left z.4 in
+    let f = one_pointer (world_of k) c s n z.1 v z.3 is right z.5 in
+    let g = subst (λ x. ComparedBy which (world_of k) ((whole_of k).kind x) ((whole_of k).kind z.1) (fixed_column into) (fixed_column a) (fixed_column b) at code) e.0
+    (subst (λ x. ComparedBy which (world_of k) ((whole_of k).kind m) ((whole_of k).kind x) (fixed_column into) (fixed_column a) (fixed_column b) at code) f.0 h) in
+    let kind = (whole_of k).kind z.0 in let other = (whole_of k).kind z.1 in
+    (z.0, z.1, z.2, z.3, fixed_column a, fixed_column b, [], [], seat, e.2, f.2,
+    points k.parameters types a z.0 z.2 z.7, points k.parameters types b z.1 z.3 z.8, (z.9.0, omega arith),
+    (g.0, g.1, guarded k (comparing which (world_of k) seat kind (pointer_slots (fixed_column a)) other (pointer_slots (fixed_column b))) kind at g.0
+    (seated-comparing k which kind other (pointer_slots (fixed_column a)) (pointer_slots (fixed_column b))) g.2, g.3, g.4),
+    leaves_held k.parameters types after into (Some (IntegerOf int)) z.9.1)
+
+pub no_left : (w : Whole) (t s : TypeId) → (HasPointer w t → Prim.⊥) → HavePointers w t s → Prim.⊥
+unfolding HavePointers
+no_left w t s none h = none h.0
+
+pub no_right : (w : Whole) (t s : TypeId) → (HasPointer w s → Prim.⊥) → HavePointers w t s → Prim.⊥
+unfolding HavePointers
+no_right w t s none h = none h.1

@@ -17,8 +17,9 @@ use Rattle.check_forms.specs.Pieces.{Piece, Line, Then}
 use Rattle.check_forms.specs.declared.op.Op.{Op}
 use Rattle.cure_rules.specs.Slots.{Size, Offset, Moved}
 use Rattle.cure_rules.specs.Known.{Whole, World, cured_size, source_size, pointer_slots, reach_of}
-use Rattle.cure_rules.specs.Checks.{move_by, address_of_part}
-use Rattle.cure_rules.specs.Pointing.{moved_words}
+use Rattle.cil_form.specs.declared.instr.Comparison.{Comparison}
+use Rattle.cure_rules.specs.Checks.{number_at, move_by, address_of_part}
+use Rattle.cure_rules.specs.Pointing.{moved_words, order_by, quotient_lines, comparing, compared_lines}
 use Rattle.cure_scope.specs.Scopes.{seat}
 use Rattle.cure_scope.specs.Needs.{Guards}
 
@@ -64,3 +65,18 @@ DecayOf false w outer of inner size t v a at = Line (part_row inner w size t v a
 -- what is asked for the address of a part
 abbrev pub part_operation : World → Kind → TypeId → ℕ → Op
 part_operation w outer of a = address_of_part w seat outer of (pointer_slots a)
+
+-- Two pointers
+
+abbrev pub DifferenceOf : World → Kind → Kind → TypeId → ℕ → ℕ → ℕ → Place → Piece
+DifferenceOf w left right u v a b at =
+    Then (Guards (order_by w seat left (pointer_slots a) right (pointer_slots b) (Some (number_at seat Size (reach_of w left u)))) left at)
+    (Then (Line (instr.Sub v a b ∷ [])) (Line (quotient_lines v (number_at seat Size (reach_of w left u)))))
+
+abbrev pub ComparedBy : Comparison → World → Kind → Kind → ℕ → ℕ → ℕ → Place → Piece
+ComparedBy which w left right v a b at = Then (Guards (comparing which w seat left (pointer_slots a) right (pointer_slots b)) left at)
+    (Line (compared_lines which w left right v (pointer_slots a) (pointer_slots b)))
+
+-- both are pointer types
+unfoldable pub HavePointers : Whole → TypeId → TypeId → Type 0
+HavePointers w t s = HasPointer w t × HasPointer w s

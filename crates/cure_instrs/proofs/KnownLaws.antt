@@ -1,6 +1,6 @@
 -- What is known of temporaries that each have their own column.
 use Rattle.std.proofs.lemmas.Bool.Decides.{nat_tests}
-use Rattle.std.proofs.Common.{◌≡◌, refl, ap, sym, subst, ◌∙◌, ℕ, ◌+◌, ◌*◌, ◌≤◌, arith, Bool, true, false, if◌then◌else◌, Option, Some, None, List, [], ◌∷◌, nat_eq}
+use Rattle.std.proofs.Common.{inl, inr, ◌≡◌, refl, ap, sym, subst, ◌∙◌, ℕ, ◌+◌, ◌*◌, ◌≤◌, arith, Bool, true, false, if◌then◌else◌, Option, Some, None, List, [], ◌∷◌, nat_eq}
 use Rattle.cc_base.specs.declared.number.TypeId.{TypeId}
 use Rattle.cc_base.specs.declared.number.NodeId.{NodeId}
 use Rattle.cc_base.specs.declared.kind.Kind.{Kind}
@@ -16,7 +16,7 @@ use Rattle.cil_form.specs.declared.number.Temp.TheVariants as temp
 use Rattle.cil_form.specs.declared.number.Work.TheVariants.{First, Second}
 use Rattle.cil_form.specs.State.{is_same}
 use Rattle.cil_form.specs.Typing as shaped
-use Rattle.cil_form.specs.Typing.{Context, Typing, HeldType, IntegerOf, with_held, IsInteger}
+use Rattle.cil_form.specs.Typing.{Context, Typing, HeldType, IntegerOf, PointerTo, PlaceOf, with_held, IsInteger}
 use Rattle.sim_relation.specs.Points.{Known, Exact}
 use Rattle.cure_rules.specs.Known as known
 use Rattle.cure_rules.specs.Known.{World, known_at, known_of, with_known, Leaves, IsPlainInteger, IsExactly, IsLowly}
@@ -98,3 +98,18 @@ few_words Wild = omega arith
 
 pub takes : (k : Scope) (into : Temp) (kind : NodeId → Kind) (n : NodeId) → shaped.IsTemp into → known.Takes (world_of k) into (word_number (kind n))
 takes k into kind n is = (is, few_words (kind n))
+
+address-held : (p : ℕ) (types : Typing) (t : Temp) (n : NodeId) (u : TypeId) → shaped.HoldsAddress types t n u
+    → known.IsAddress (known_of (fixed_slots p) types) t n u (fixed_column t) []
+address-held p types t n u (inl h) =
+    (record { type = PointerTo n u; place = Some (fixed_column t); form = Exact; sure = [] }, ap (known_at (fixed_column t)) h.1, inl refl, refl, refl)
+address-held p types t n u (inr h) =
+    (record { type = PlaceOf n u; place = Some (fixed_column t); form = Exact; sure = [] }, ap (known_at (fixed_column t)) h.1, inr refl, refl, refl)
+
+pub is_address : (p : ℕ) (types : Typing) (t : Temp) (n : NodeId) (u : TypeId) → shaped.HoldsAddress types t n u
+    → known.IsAddress (known_of (fixed_slots p) types) t n u (fixed_column t) []
+is_address p types t n u h = address-held p types t n u h
+
+pub points : (p : ℕ) (types : Typing) (t : Temp) (n : NodeId) (u : TypeId) → shaped.Holds types t (PointerTo n u)
+    → known.Points (known_of (fixed_slots p) types) t n u (fixed_column t) []
+points p types t n u h = (record { type = PointerTo n u; place = Some (fixed_column t); form = Exact; sure = [] }, ap (known_at (fixed_column t)) h.1, refl, refl, refl)

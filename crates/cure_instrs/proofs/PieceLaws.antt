@@ -30,3 +30,8 @@ chosen a P Q s r one two b c h f es g er =
 pub then_ready : (P Q : Piece) (R : Type 0) (a b c : Draft) → Grows P (Unit {0}) a b → Grows Q R b c → Grows (Then P Q) R a c
 unfolding Grows
 then_ready P Q R a b c f g = let p = grows_then P Q (Unit {0}) R a b c f g in (p.0, λ z e. p.1 (tt, z) e)
+
+-- what asks for less
+pub grows_of : (P : Piece) (R S : Type 0) (a b : Draft) → (R → S) → Grows P S a b → Grows P R a b
+unfolding Grows
+grows_of P R S a b less f = (f.0, λ r e. f.1 (less r) e)

@@ -1,12 +1,12 @@
 -- Where an instruction is in shape, its lines are cured code of it.
-use Rattle.std.specs.Prelude.{◌≡◌, Option, IsSome}
+use Rattle.std.specs.Prelude.{◌≡◌, ◌⊎◌, Option, IsSome}
 use Rattle.cc_base.specs.declared.kind.Kind.{Kind}
 use Rattle.cc_base.specs.declared.kind.Kind.TheVariants.{Safe, Seq, Rtti, Wild}
 use Rattle.cc_base.specs.declared.number.NodeId.{NodeId}
 use Rattle.cc_base.specs.declared.number.TypeId.{TypeId}
 use Rattle.c_types.specs.declared.shape.TypeShape.{TypeShape}
 use Rattle.c_types.specs.declared.shape.TypeShape.TheVariants as shape
-use Rattle.c_types.specs.Table.{shape_at}
+use Rattle.c_types.specs.Table.{IsType, shape_at}
 use Rattle.c_types.specs.Sound.{IsWellFormed}
 use Rattle.cil_form.specs.declared.number.Temp.{Temp}
 use Rattle.cil_form.specs.declared.instr.Set.{Set}
@@ -18,7 +18,7 @@ use Rattle.cil_form.specs.declared.instr.Access.{Access}
 use Rattle.cil_form.specs.Typing.{Context, HeldType, Typing, IsShapedSet, IsShapedCalculate, IsShapedPoint, IsShapedAccess}
 use Rattle.check_forms.specs.Pieces.{Piece}
 use Rattle.cure_rules.specs.Known.{Whole, World, known_of}
-use Rattle.cure_instrs.specs.Lines.{HasInteger}
+use Rattle.cure_instrs.specs.Lines.{HasInteger, AgreeOn}
 use Rattle.cure_rules.specs.Setting.{IsCuringSet, IsCuringCalculate}
 use Rattle.cure_rules.specs.Pointing.{IsCuringPoint}
 use Rattle.cure_rules.specs.Accesses.{IsCuringAccess}
@@ -85,3 +85,14 @@ abbrev pub IsAsked : Calculate → Typing → Option HeldType → Type 0
 IsAsked (calculate.Truth into a) types x = types a ≡ x
 IsAsked (calculate.Not into a) types x = types a ≡ x
 IsAsked i types x = Unit {0}
+
+-- t is a pointer type
+unfoldable pub HasPointer : Whole → TypeId → Type 0
+HasPointer w t = (n : NodeId) × (u : TypeId) × IsType w.table t × (shape_at w.table t ≡ shape.Pointer n u)
+
+unfoldable pub IsPointerAt : Whole → TypeId → NodeId → TypeId → Type 0
+IsPointerAt w t n u = shape_at w.table t ≡ shape.Pointer n u
+
+-- a scalar of type t may be reached by a pointer of node n: one of a WILD pointer's is no pointer of another kind
+unfoldable pub CanReach : Whole → NodeId → TypeId → Type 0
+CanReach w n t = (HasInteger w t ⊎ HasPointer w t) × ((m : NodeId) (u : TypeId) → IsPointerAt w t m u → AgreeOn (w.kind n) (w.kind m))

@@ -1,0 +1,22 @@
+use Rattle.check_insert.proofs.Laws.{grows_as, grows_failed}
+use Rattle.cure_scope.specs.Scopes.{whole_of}
+use Rattle.cure_instrs.proofs.PieceLaws.{always, grows_of}
+use Rattle.cure_instrs.proofs.AccessLaws.{integer_stores, pointer_stores, no_scalar, agreed}
+use Rattle.cure_instrs.proofs.accessing.put_store.Goals as goal
+
+pub returns-in-Some : goal.returns-in-Some
+returns-in-Some c types =
+    always _ _ _ _ (grows_as _ _ _ _ _ (λ code. integer_stores c.args.k.now types c.args.to.pointer c.args.value c.args.to.node c.args.to.ty c.args.at.own c.args.at.assignment _ code (rw c.in-Some.is at c.integer_in.ensures.there))
+    (rw (c.kind_of-outer.ensures, c.pointer_slots-s.ensures, c.column.ensures.value, c.column-2.ensures.value) at c.put_integer_store.ensures))
+
+pub returns-in-Some-pointer_in : goal.returns-in-Some-pointer_in
+returns-in-Some-pointer_in c types =
+    let is = rw c.in-Some-pointer_in.is at c.pointer_in.ensures.there in
+    grows_of _ _ _ _ _ (agreed (whole_of c.args.k.now) c.args.to.node c.args.to.ty _ _ is)
+    (grows_as _ _ _ _ _ (λ code. pointer_stores c.args.k.now types c.args.to.pointer c.args.value c.args.to.node c.args.to.ty c.args.at.own c.args.at.assignment _ _ code is)
+    (rw (c.kind_of-outer.ensures, c.kind_of.ensures, c.pointer_slots-s.ensures, c.column.ensures.value, c.column-2.ensures.value) at c.put_pointer_store.ensures))
+
+pub returns-in-None-pointer_in : goal.returns-in-None-pointer_in
+returns-in-None-pointer_in c types =
+    grows_failed _ _ _ _ (no_scalar (whole_of c.args.k.now) c.args.to.node c.args.to.ty (rw c.in-None.is at c.integer_in.ensures.none)
+    (rw c.in-None-pointer_in.is at c.pointer_in.ensures.none)) c.refuse.ensures

@@ -1,3 +1,4 @@
+pub mod AggregatesWritten
 pub mod DeclaratorsSame
 pub mod Elements
 pub mod FunctionsAlike

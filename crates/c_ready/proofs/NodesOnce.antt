@@ -19,6 +19,7 @@ use Rattle.c_ready.specs.Ready.{AreReadyExternals, static_stage, homes_of}
 use Rattle.c_ready.proofs.Counting.{one, one-self, count, range-once}
 use Rattle.c_ready.proofs.HomesApart.{occurs, none-equal, homes-most}
 use Rattle.c_ready.proofs.NodesUsed.{of_shape, uses}
+use Rattle.c_ready.proofs.PointersLess.{unit-less}
 use Rattle.c_ready.proofs.NodesOfUnits.{unit-uses, single, two}
 
 -- past the end of the range
@@ -84,7 +85,8 @@ module _ (T : Table) (u : TypedTranslationUnit) (before after : units.Known) (ba
     (typed : IsUnitTyped T u before after) (types : AreUses (used_by_unit T u) (length basic_table) (length T))
     (ready : AreReadyExternals (static_stage T u) u) where
   all-most : (n : ℕ) → uses T n (used_by_unit T u) + occurs n (homes_of u) ≤ count n (nodes_made (made_by_unit u))
-  all-most n = let a = unit-uses (static_stage T u) n u before after typed ready in let b = homes-most u n in omega (arith, a, b)
+  all-most n = let a = unit-uses (static_stage T u) n u before after typed ready in let b = homes-most u n in
+      let c = (unit-less n u).few in omega (arith, a, b, c)
 
   made-most : (n : ℕ) → uses T n (used_by_unit T u) ≤ count n (nodes_made (made_by_unit u))
   made-most n = let a = all-most n in omega (arith, a)

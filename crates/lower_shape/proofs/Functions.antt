@@ -32,7 +32,8 @@ use Rattle.lower_rules.specs.Units.{IsCodeOfFunction, AreCodeOf}
 use Rattle.lower_shape.specs.Lowered.{IsLoweredFrom}
 use Rattle.lower_shape.proofs.Addresses.{In}
 use Rattle.lower_shape.proofs.Bodies.{IsTold, same-type, body-shaped}
-use Rattle.lower_shape.proofs.Known.{unit-ready, frame-named}
+use Rattle.unit_sites.proofs.FramesNamed.{frame-named}
+use Rattle.lower_shape.proofs.Known.{unit-ready}
 use Rattle.lower_shape.proofs.Lists.{all-in}
 use Rattle.lower_shape.proofs.Types.{scalar-some}
 use Rattle.lower_shape.proofs.UnitParts.{IsBodyWithin}

@@ -32,6 +32,7 @@ use Rattle.c_ready.proofs.Gathered.{functions-declared, at-its-place}
 use Rattle.c_ready.proofs.ReadyUnit.{well-typed-ready}
 use Rattle.type_laws.proofs.SameTypes.{same-is-equal}
 use Rattle.unit_sites.proofs.Elements.{every, flat, unflat}
+use Rattle.unit_sites.proofs.FramesNamed.{made_plan, plan_named, frame-named}
 use Rattle.unit_sites.proofs.NamesAlike.{objects-alike, functions-alike, alike-function_left, alike-function_right, function-in, physical, physical-both}
 use Rattle.unit_sites.proofs.ObjectsAlike.{objects_made, one-type, statics-named}
 use Rattle.unit_sites.proofs.SitesTold.{pointers-told}
@@ -58,14 +59,8 @@ use Rattle.lower_shape.proofs.Objects.{AreApart, IsPlanned, objects-known}
 
 -- Plans of objects
 
-abbrev pub made_plan : MadeObject → Planned
-made_plan o = record { type = o.type; node = o.home }
-
 abbrev named_plan : Named → Planned
 named_plan o = record { type = o.1; node = o.0 }
-
-abbrev plan_named : Planned → Named
-plan_named o = (o.node, o.type)
 
 abbrev static_plan : runs.Static → Planned
 static_plan s = record { type = s.type; node = s.home }
@@ -84,33 +79,6 @@ plans-in (o ∷ os) = ap (λ (xs : List Planned). made_plan o ∷ xs) (plans-in 
 homes-in : (os : List MadeObject) → map (λ (o : Planned). o.node) (map made_plan os) ≡ map (λ (o : MadeObject). o.home) os
 homes-in [] = refl
 homes-in (o ∷ os) = ap (λ (xs : List NodeId). o.home ∷ xs) (homes-in os)
-
-parameters-named : (ps : List ParameterObject)
-    → map plan_named (filter_map (λ (p : runs.Parameter). planned p.type p.home)
-    (map (λ (p : ParameterObject). record { type = p.type; home = p.home }) ps))
-    ≡ flat_map parameter_named ps
-parameters-named [] = refl
-parameters-named (p ∷ ps) = by p.home (parameters-named ps)
-  where
-    rest : List Planned
-    rest = filter_map (λ (q : runs.Parameter). planned q.type q.home) (map (λ (q : ParameterObject). record { type = q.type; home = q.home }) ps)
-
-    by : (o : Option NodeId) → map plan_named rest ≡ flat_map parameter_named ps
-        → map plan_named (cons_option (planned p.type o) rest) ≡ home_named o p.type ++ flat_map parameter_named ps
-    by None more = more
-    by (Some n) more = ap (λ (xs : List Named). (n, p.type) ∷ xs) more
-
-locals-named : (os : List MadeObject) → map plan_named (map made_plan os) ≡ map made_named os
-locals-named [] = refl
-locals-named (o ∷ os) = ap (λ (xs : List Named). (o.home, o.type) ∷ xs) (locals-named os)
-
-pub frame-named : (d : DefinedFunction) → map plan_named (variables_of (source.head_of d)) ≡ variables_named d
-frame-named d =
-    let ps = filter_map (λ (p : runs.Parameter). planned p.type p.home)
-    (map (λ (p : ParameterObject). record { type = p.type; home = p.home }) (parameters_of d.declarator)) in
-    map-append plan_named ps (map made_plan (locals_of d.body))
-    ∙ (ap (λ (xs : List Named). xs ++ map plan_named (map made_plan (locals_of d.body))) (parameters-named (parameters_of d.declarator))
-    ∙ ap (λ (xs : List Named). flat_map parameter_named (parameters_of d.declarator) ++ xs) (locals-named (locals_of d.body)))
 
 -- Homes are apart
 

@@ -41,7 +41,7 @@ use Rattle.unit_sites.proofs.NamesAlike.{function-in, first-of}
 use Rattle.unit_sites.proofs.ObjectsAlike.{Names, objects_made, objects-named}
 use Rattle.unit_sites.proofs.PiecesReady.{unit-pieces}
 use Rattle.c_ready.proofs.ReadyUnit.{well-typed-ready}
-use Rattle.lower_shape.proofs.Known.{frame-named}
+use Rattle.unit_sites.proofs.FramesNamed.{frame-named}
 
 -- each pointer type has a node of the unit, and what it points to is a type
 abbrev ArePointersIn : Table → ℕ → Type 0

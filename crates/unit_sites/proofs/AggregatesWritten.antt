@@ -658,8 +658,7 @@ module _ (T : Table) (u : TypedTranslationUnit) (w : IsWellTyped T u) where
             let own = w.structs.own a.type v number.0 a.number number.1 in
             let kindly = All-contains (IsKindly T (static_stage T u).nodes) (pieces_of_unit u) _ all-kindly a.there in
             let kind = kind-of-union a.kind (shape_at T a.type) kindly (subst (λ x. is_union_shape (shape_at T x) ≡ true) (sym own) h) in
-            let at = All-contains (λ piece. All (Contains (sites_of u T)) (sites_of_piece T piece)) (pieces_of_unit u) _ pieces-among a.there in
-            (
+            let at = All-contains (λ piece. All (Contains (sites_of u T)) (sites_of_piece T piece)) (pieces_of_unit u) _ pieces-among a.there in (
               a.place,
               subst (λ x. Contains (sites_of u T) (site.Union x a.place)) own
                   (All-head (Contains (sites_of u T)) (site.Union a.type a.place) []

@@ -1,5 +1,8 @@
 -- The nodes of members are made beside those of pointer types.
-use Rattle.std.proofs.Common.{◌≡◌, ℕ, ◌+◌, ◌≤◌, List, [], ◌∷◌, ◌++◌, Option, Some, None, refl, arith}
+use Rattle.std.specs.List.{All}
+use Rattle.std.proofs.Common.{◌≡◌, ◌⊎◌, inl, inr, ap, sym, ◌∙◌, ℕ, ◌+◌, ◌≤◌, ◌==◌, Bool, true, if◌then◌else◌, List, [], ◌∷◌, ◌++◌, Option, Some, None, refl, arith}
+use Rattle.std.proofs.lemmas.Bool.Decides.{nat_tests}
+use Rattle.std.proofs.lemmas.List.Elements.{All-nil, All-cons, All-weaker}
 use Rattle.cc_base.specs.declared.number.NodeId.{NodeId}
 use Rattle.cc_base.specs.declared.number.TypeId.{TypeId}
 use Rattle.c_tree.specs.TypedTree as typed
@@ -39,8 +42,8 @@ module _ (n : ℕ) where
   all-made : (m : List Made) → Less m [] m
   all-made m = record { few = omega arith }
 
-  own : {p : List Made} {q : List Piece} {m : List Made} {x : Piece} → member_node x ≡ 0 → Less p q m → Less p (q ++ x ∷ []) m
-  own {p} {q} {m} {x} e h = record { few = omega (arith, e, h.few, members-both q (x ∷ [])) }
+  own : {p : List Made} {q : List Piece} {m : List Made} (x : Piece) → member_node x ≡ 0 → Less p q m → Less p (q ++ x ∷ []) m
+  own {p} {q} {m} x e h = record { few = omega (arith, e, h.few, members-both q (x ∷ [])) }
 
   address : {p : List Made} {q : List Piece} {m : List Made} (a : NodeId) → Less p q m → Less (p ++ Address a ∷ []) q (m ++ Address a ∷ [])
   address {p} {q} {m} a h = record { few = omega (arith, h.few, makes-both p (Address a ∷ []), makes-both m (Address a ∷ [])) }
@@ -60,13 +63,13 @@ module _ (n : ℕ) where
 
   mutual
     value-less : (e : TypedExpr) → Less (pointers.made_by e) (pieces_of e) (made_by e)
-    value-less (typed.Integer of value at t) = own refl (all-made [])
-    value-less (typed.Character value at t) = own refl (all-made [])
-    value-less (typed.Enumerator name value t) = own refl (all-made [])
-    value-less (typed.RuntimeName name function t) = own refl (all-made [])
-    value-less (typed.FunctionName name number m t) = own refl (all-made (Address m ∷ []))
+    value-less (typed.Integer of value at t) = own _ refl (all-made [])
+    value-less (typed.Character value at t) = own _ refl (all-made [])
+    value-less (typed.Enumerator name value t) = own _ refl (all-made [])
+    value-less (typed.RuntimeName name function t) = own _ refl (all-made [])
+    value-less (typed.FunctionName name number m t) = own _ refl (all-made (Address m ∷ []))
     value-less (typed.Paren at e) = value-less e
-    value-less (typed.Convert which at t e) = own refl (value-less e)
+    value-less (typed.Convert which at t e) = own _ refl (value-less e)
     value-less (typed.AddressOfFunction at e) = value-less e
     value-less (typed.FunctionAt at e) = value-less e
     value-less (typed.Prefix operator at e t) = value-less e
@@ -75,22 +78,22 @@ module _ (n : ℕ) where
     value-less (typed.Unread p) = place-less p
     value-less (typed.AddressOfElement at p t) = place-less p
     value-less (typed.SizeOfPlace at p size t) = place-less p
-    value-less (typed.StepBefore operator at p) = own refl (place-less p)
-    value-less (typed.StepAfter p operator at) = own refl (place-less p)
-    value-less (typed.Decay p m t) = own refl (address m (place-less p))
-    value-less (typed.AddressOf at p m t) = own refl (address m (place-less p))
+    value-less (typed.StepBefore operator at p) = own _ refl (place-less p)
+    value-less (typed.StepAfter p operator at) = own _ refl (place-less p)
+    value-less (typed.Decay p m t) = own _ refl (address m (place-less p))
+    value-less (typed.AddressOf at p m t) = own _ refl (address m (place-less p))
     value-less (typed.SizeOfType at paren name size t) = type_name-less name
-    value-less (typed.Cast which at to e) = own refl (join (type_name-less to) (value-less e))
+    value-less (typed.Cast which at to e) = own _ refl (join (type_name-less to) (value-less e))
     value-less (typed.Arithmetic operator a at b t) = join (value-less a) (value-less b)
-    value-less (typed.Moved operator which a at b t) = own refl (join (value-less a) (value-less b))
-    value-less (typed.Difference a at b t) = own refl (join (value-less a) (value-less b))
-    value-less (typed.Compared operator a at b t) = own refl (join (value-less a) (value-less b))
+    value-less (typed.Moved operator which a at b t) = own _ refl (join (value-less a) (value-less b))
+    value-less (typed.Difference a at b t) = own _ refl (join (value-less a) (value-less b))
+    value-less (typed.Compared operator a at b t) = own _ refl (join (value-less a) (value-less b))
     value-less (typed.Logical operator a at b t) = join (value-less a) (value-less b)
     value-less (typed.Comma a b) = join (value-less a) (value-less b)
     value-less (typed.Conditional c at a b t) = join (join (value-less c) (value-less a)) (value-less b)
     value-less (typed.PointerConditional c at a b m t) = address m (join (join (value-less c) (value-less a)) (value-less b))
     value-less (typed.Assign p at e) = join (place-less p) (value-less e)
-    value-less (typed.AssignWith operator p at e t) = own refl (join (place-less p) (value-less e))
+    value-less (typed.AssignWith operator p at e t) = own _ refl (join (place-less p) (value-less e))
     value-less (typed.Call f at arguments t) = join (value-less f) (arguments-less arguments)
     value-less (typed.CallRuntime function f at arguments t) = quiet (value-less f) (arguments-less arguments)
     value-less (typed.AllocateFor function f at arguments t) = quiet (value-less f) (arguments-less arguments)
@@ -98,14 +101,14 @@ module _ (n : ℕ) where
 
     place-less : (p : TypedPlace) → Less (pointers.made_by_place p) (pieces_of_place p) (made_by_place p)
     place-less (typed.Variable name home t) = all-made []
-    place-less (typed.String pieces home t) = own refl (all-made (Literal pieces home t ∷ []))
+    place-less (typed.String pieces home t) = own _ refl (all-made (Literal pieces home t ∷ []))
     place-less (typed.ParenPlace at p) = place-less p
     place-less (typed.Target at e t) = value-less e
-    place-less (typed.Element which a at b t) = own refl (join (value-less a) (value-less b))
+    place-less (typed.Element which a at b t) = own _ refl (join (value-less a) (value-less b))
     place-less (typed.Member p at name i m t) = member (APlace (typed.Member p at name i m t)) m refl (place-less p)
     place-less (typed.MemberAt e at name i m t) = member (APlace (typed.MemberAt e at name i m t)) m refl (value-less e)
-    place-less (typed.StructAssign p at q) = own refl (behind (Copy (place_type p) ∷ []) (join (place-less p) (place-less q)))
-    place-less (typed.StructConditional c at p q) = own refl (join (join (value-less c) (place-less p)) (place-less q))
+    place-less (typed.StructAssign p at q) = own _ refl (behind (Copy (place_type p) ∷ []) (join (place-less p) (place-less q)))
+    place-less (typed.StructConditional c at p q) = own _ refl (join (join (value-less c) (place-less p)) (place-less q))
     place-less (typed.StructComma e p) = join (value-less e) (place-less p)
 
     arguments-less : (all : TypedArguments) → Less (pointers.made_by_arguments all) (pieces_of_arguments all) (made_by_arguments all)
@@ -126,7 +129,7 @@ module _ (n : ℕ) where
     specifier-less (typed.Keyword word) = all-made []
     specifier-less (typed.Typedef name t) = all-made []
     specifier-less (typed.Tagged which at name t) = all-made []
-    specifier-less (typed.Aggregate which at name brace members t) = own refl (members-less members)
+    specifier-less (typed.Aggregate which at name brace members t) = own _ refl (members-less members)
     specifier-less (typed.Enum at name) = all-made []
     specifier-less (typed.Enumeration at name brace all comma) = enumerators-less all
 
@@ -183,7 +186,7 @@ module _ (n : ℕ) where
   declarators-less typed.NoInitDeclarator = all-made []
   declarators-less (typed.AndPlain all (typed.Declares form t)) = join (declarators-less all) (form-less form t)
   declarators-less (typed.AndInitialised all (typed.Declares form t) at i) =
-      own refl (join (join (declarators-less all) (form-less form t)) (initialiser-less i))
+      own _ refl (join (join (declarators-less all) (form-less form t)) (initialiser-less i))
 
   declaration-less : (d : TypedDeclaration) → Less (pointers.made_by_declaration d) (pieces_of_declaration d) (made_by_declaration d)
   declaration-less (typed.Declare specifiers all) = join (specifiers-less specifiers) (declarators-less all)
@@ -221,3 +224,56 @@ module _ (n : ℕ) where
   unit-less (typed.AndExternal u d) = join (unit-less u) (declaration-less d)
   unit-less (typed.AndFunctionBody u specifiers (typed.Declares form t) brace items) =
       join (join (join (unit-less u) (specifiers-less specifiers)) (form-less form t)) (block-less items)
+
+-- Pieces that are members
+
+-- a member expression with this node, of this type
+abbrev pub IsMemberOf : NodeId → TypeId → Piece → Type 0
+IsMemberOf n t (APlace (typed.Member p at name i m v)) = (m ≡ n) × (v ≡ t)
+IsMemberOf n t (APlace (typed.MemberAt e at name i m v)) = (m ≡ n) × (v ≡ t)
+IsMemberOf n t piece = ⊥
+
+abbrev pub HasMember : NodeId → TypeId → List Piece → Type 0
+HasMember n t [] = ⊥
+HasMember n t (x ∷ xs) = IsMemberOf n t x ⊎ HasMember n t xs
+
+pub member-in : (xs : List Piece) → All (λ x. (n : NodeId) (t : TypeId) → IsMemberOf n t x → HasMember n t xs) xs
+member-in [] = All-nil (λ x. (n : NodeId) (t : TypeId) → IsMemberOf n t x → HasMember n t [])
+member-in (x ∷ xs) =
+    All-cons (λ y. (n : NodeId) (t : TypeId) → IsMemberOf n t y → HasMember n t (x ∷ xs)) x xs (λ n t h. inl h)
+    (All-weaker (λ y. (n : NodeId) (t : TypeId) → IsMemberOf n t y → HasMember n t xs)
+    (λ y. (n : NodeId) (t : TypeId) → IsMemberOf n t y → HasMember n t (x ∷ xs)) (λ y f n t h. inr (f n t h)) xs (member-in xs))
+
+one-same : (n m : NodeId) → m ≡ n → one n.0 m ≡ 1
+unfolding one
+one-same n m e = ap (λ (z : NodeId). one n.0 z) e ∙ ap (λ (b : Bool). if b then 1 else 0) (self n.0)
+  where
+    self : (i : ℕ) → (i == i) ≡ true
+    self i = grind (arith, nat_tests)
+
+own-member : (n : NodeId) (t : TypeId) (x : Piece) → IsMemberOf n t x → members n.0 (x ∷ []) ≡ 1
+own-member n t (APlace (typed.Member p at name i m v)) h = let e = one-same n m h.0 in omega (arith, e)
+own-member n t (APlace (typed.MemberAt e at name i m v)) h = let e = one-same n m h.0 in omega (arith, e)
+own-member n t x h = absurd h
+
+cons-members : (n : ℕ) (x : Piece) (xs : List Piece) → members n (x ∷ xs) ≡ members n (x ∷ []) + members n xs
+cons-members n x xs = omega arith
+
+pub some-members : (n : NodeId) (t : TypeId) (xs : List Piece) → HasMember n t xs → 1 ≤ members n.0 xs
+some-members n t [] h = absurd h
+some-members n t (x ∷ xs) (inl h) = omega (arith, own-member n t x h, cons-members n.0 x xs)
+some-members n t (x ∷ xs) (inr h) = omega (arith, some-members n t xs h, cons-members n.0 x xs)
+
+same-member : (n : NodeId) (t u : TypeId) (x : Piece) → IsMemberOf n t x → IsMemberOf n u x → t ≡ u
+same-member n t u (APlace (typed.Member p at name i m v)) h g = sym h.1 ∙ g.1
+same-member n t u (APlace (typed.MemberAt e at name i m v)) h g = sym h.1 ∙ g.1
+same-member n t u x h g = absurd h
+
+pub one-member : (n : NodeId) (t u : TypeId) (xs : List Piece) → members n.0 xs ≤ 1 → HasMember n t xs → HasMember n u xs → t ≡ u
+one-member n t u [] few h g = absurd h
+one-member n t u (x ∷ xs) few (inl h) (inl g) = same-member n t u x h g
+one-member n t u (x ∷ xs) few (inl h) (inr g) =
+    absurd (omega (arith, own-member n t x h, some-members n u xs g, cons-members n.0 x xs, few))
+one-member n t u (x ∷ xs) few (inr h) (inl g) =
+    absurd (omega (arith, own-member n u x g, some-members n t xs h, cons-members n.0 x xs, few))
+one-member n t u (x ∷ xs) few (inr h) (inr g) = one-member n t u xs (omega (arith, few, cons-members n.0 x xs)) h g

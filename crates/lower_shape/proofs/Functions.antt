@@ -136,5 +136,6 @@ module _ (u : TypedTranslationUnit) (p : Program) (w : IsWellTyped p.types u) (l
       (λ d. (In d (functions_of u) × IsReadyFunction static d) × IsBodyWithin (IsTold u p w l) d) (IsFunctionInShape p) function-shaped
       (functions_of u) p.functions
       (all-both (λ d. In d (functions_of u) × IsReadyFunction static d) (IsBodyWithin (IsTold u p w l)) (functions_of u)
-      (all-both (λ d. In d (functions_of u)) (IsReadyFunction static) (functions_of u) (all-in (functions_of u)) (unit-ready u p w l).functions) within)
+      (all-both (λ d. In d (functions_of u)) (IsReadyFunction static) (functions_of u) (all-in (functions_of u))
+      (unit-ready u p w l).functions) within)
       l.code.functions

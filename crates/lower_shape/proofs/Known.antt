@@ -252,7 +252,8 @@ module _ (u : TypedTranslationUnit) (p : Program) (w : IsWellTyped p.types u) (l
   functions-in : (variables : List Named) (vs : List Planned) (calls : Bool) (result : Option TypeId)
       → (name : Identifier) (number : ℕ) (n : NodeId) (t : TypeId) (named : IsFunctionNamed (stage_in variables calls) name number n t)
       → (v : TypeId) × (slice_get (map (λ f. f.ty) p.functions) number ≡ Some v)
-      × ArePhysicallyEqual (stand (stage_in variables calls) (frame_in vs result) 0 no_types) named.function v × AreDeclaredAlike p.sites named.function v
+      × ArePhysicallyEqual (stand (stage_in variables calls)
+      (frame_in vs result) 0 no_types) named.function v × AreDeclaredAlike p.sites named.function v
   functions-in variables vs calls result name number n t named =
       let d = named.defined in
       let at = code-at p.types (lowered.homes_of u) (functions_of u) p.functions l.code.functions number d named.there in
@@ -264,7 +265,8 @@ module _ (u : TypedTranslationUnit) (p : Program) (w : IsWellTyped p.types u) (l
       let id = at-index HasName (functions_of u) (functions-have_names p.types u (known_before u) w.after w.typed) number d named.there in
       let told : IsFunctionDeclared static name.bytes (declared_type d.declarator) = (
         d.declarator,
-        at-index (λ (f : DefinedFunction). Contains (ready.declarators_of u) f.declarator) (functions_of u) (functions-declared u) number d named.there,
+        at-index (λ (f : DefinedFunction). Contains (ready.declarators_of u) f.declarator) (functions_of u)
+            (functions-declared u) number d named.there,
         (id.0, id.1, ap bytes_of_name (sym id.1) ∙ named.named),
         refl,
       ) in (
@@ -333,13 +335,15 @@ module _ (u : TypedTranslationUnit) (p : Program) (w : IsWellTyped p.types u) (l
       let same = one-type u unit-ready.objects.distinct r.node q.type r.type (subst (λ n. Contains (objects_made u) (n, q.type)) e a) b in
       ap (λ (t : TypeId). record { type = t; node = q.node }) same ∙ ap (λ (n : NodeId). record { type = r.type; node = n }) e
 
-  pub frame-apart : (d : DefinedFunction) → In d (functions_of u) → (result : Option TypeId) → AreApart (frame_in (variables_of (source.head_of d)) result)
+  pub frame-apart : (d : DefinedFunction) → In d (functions_of u) → (result : Option TypeId)
+      → AreApart (frame_in (variables_of (source.head_of d)) result)
   frame-apart d c result = record {
     variables = λ q r a b e. one-plan q r (variable-object d c q a) (variable-object d c r b) e;
     statics = λ q r a b e. one-plan q r (static-object q a) (static-object r b) e;
     between = λ q r a b e.
         let i = in-image made_plan (statics_of u) r (statics-made r b) in
-        apart-lists (map (λ (o : MadeObject). o.home.0) (statics_of u)) (flat_map (λ f. map (λ (o : Named). o.0.0) (variables_named f)) (functions_of u))
+        apart-lists (map (λ (o : MadeObject). o.home.0) (statics_of u)) (flat_map (λ f. map (λ (o : Named). o.0.0) (variables_named f))
+        (functions_of u))
         unit-ready.objects.distinct i.0.home.0 (in-map (λ (o : MadeObject). o.home.0) (statics_of u) i.0 i.1)
         (flat-in (λ f. map (λ (o : Named). o.0.0) (variables_named f)) (functions_of u) d c i.0.home.0
         (subst (λ (n : NodeId). In n.0 (map (λ (o : Named). o.0.0) (variables_named d))) (e ∙ ap (λ (x : Planned). x.node) (sym i.2))

@@ -58,7 +58,8 @@ module _ (n : ℕ) where
   quiet : {p p' : List Made} {q q' : List Piece} {m m' : List Made} → Less p q m → Less p' q' m' → Less (p ++ p') q' (m ++ m')
   quiet {p} {p'} {q} {q'} {m} {m'} a b = record { few = omega (arith, a.few, b.few, makes-both p p', makes-both m m') }
 
-  member : {p : List Made} {q : List Piece} {m : List Made} (x : Piece) (a : NodeId) → member_node x ≡ one n a → Less p q m → Less p (q ++ x ∷ []) (m ++ Address a ∷ [])
+  member : {p : List Made} {q : List Piece} {m : List Made} (x : Piece) (a : NodeId) → member_node x ≡ one n a → Less p q m
+      → Less p (q ++ x ∷ []) (m ++ Address a ∷ [])
   member {p} {q} {m} x a e h = record { few = omega (arith, h.few, makes-both m (Address a ∷ []), e, members-both q (x ∷ [])) }
 
   mutual
@@ -121,7 +122,8 @@ module _ (n : ℕ) where
     specifiers-less : (all : TypedSpecifiers) → Less (pointers.made_by_specifiers all) (pieces_of_specifiers all) (made_by_specifiers all)
     specifiers-less (typed.Specified list t) = listed-less list
 
-    listed-less : (list : TypedSpecifierList) → Less (pointers.made_by_specifier_list list) (pieces_of_specifier_list list) (made_by_specifier_list list)
+    listed-less : (list : TypedSpecifierList)
+        → Less (pointers.made_by_specifier_list list) (pieces_of_specifier_list list) (made_by_specifier_list list)
     listed-less typed.NoSpecifier = all-made []
     listed-less (typed.AndSpecifier all one) = join (listed-less all) (specifier-less one)
 

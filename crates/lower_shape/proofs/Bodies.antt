@@ -149,7 +149,11 @@ module _ (u : TypedTranslationUnit) (p : Program) (w : IsWellTyped p.types u) (l
             (variable-planned u p w l d)) d.body a None outermost static 0 no_types r.body
             (record { breaks = λ e. absurd (cc (e)); continues = λ e. absurd (cc (e)); result = refl }) (nothing-known (between 0))
             (told s vs (Some r.result) refl _ within.pieces) within.holds (omega (arith, within.height)) f.body.0.items block);
-        nested = omega (arith, nested-block s (low s fr) d.body a None static outermost 510 r.body (omega (arith, within.height)) f.body.0.items block);
+        nested = omega (
+          arith,
+          nested-block s (low s fr) d.body a None static outermost 510 r.body (omega
+              (arith, within.height)) f.body.0.items block,
+        );
       })
 
   -- Static initialisers
@@ -167,7 +171,8 @@ module _ (u : TypedTranslationUnit) (p : Program) (w : IsWellTyped p.types u) (l
       let own = All-head (IsReadyStatic static) i is r in
       let within = All-head (IsStaticWithin IsTold) i is h in
       does-then (stand S F 0 no_types) 0 (IsCodeOfObject i.home i.type i.place i.initialiser (low S F)) (IsCodeOfStatics is (low S F))
-      (object-initialised S F (known u p w l [] [] false None (λ e. absurd (cc (e))) (statics-apart u p w l None) (λ g t q. absurd (none-there (g, t) q)))
+      (object-initialised S F (known u p w l [] [] false None (λ e. absurd (cc (e))) (statics-apart u p w l None) (λ g t q. absurd (none-there
+      (g, t) q)))
       0 no_types 0 i.home i.type i.place i.initialiser own.1 own.0 (told S [] None refl _ within.pieces)
       (among (copies_in p.types i.home i.initialiser)
       (subst (λ (o : Option NodeId). All (Contains (sites_of u p.types)) (copies_to p.types o i.initialiser)) within.home within.own)) within.holds)
@@ -189,7 +194,8 @@ module _ (u : TypedTranslationUnit) (p : Program) (w : IsWellTyped p.types u) (l
   statics-shaped within =
       let is = static_initialisers u in
       let ready = (unit-ready u p w l).initialisers in
-      let c = subst (λ (hs : List NodeId). IsCodeOfStatics is (low-in [] hs) p.initialisers.0.items) (sym (statics-homes u p w l)) l.code.initialisers in
+      let c = subst (λ (hs : List NodeId). IsCodeOfStatics is (low-in [] hs) p.initialisers.0.items) (sym
+      (statics-homes u p w l)) l.code.initialisers in
       subst (λ k. IsCodeInShape k p.initialisers.0.items) (sym start-context) (record {
         shaped = alone-shaped (stand S F 0 no_types) p.initialisers.0.items (statics-do is ready within p.initialisers.0.items c);
         nested = omega (arith, statics-nest is ready within p.initialisers.0.items c);

@@ -32,7 +32,8 @@ use Rattle.lower_rules.specs.Units.{IsCodeOfFunction, AreCodeOf}
 use Rattle.lower_shape.specs.Lowered.{IsLoweredFrom}
 use Rattle.lower_shape.proofs.Addresses.{In}
 use Rattle.lower_shape.proofs.Bodies.{IsTold, same-type, body-shaped}
-use Rattle.lower_shape.proofs.Known.{unit-ready, frame-named}
+use Rattle.unit_sites.proofs.FramesNamed.{frame-named}
+use Rattle.lower_shape.proofs.Known.{unit-ready}
 use Rattle.lower_shape.proofs.Lists.{all-in}
 use Rattle.lower_shape.proofs.Types.{scalar-some}
 use Rattle.lower_shape.proofs.UnitParts.{IsBodyWithin}
@@ -135,5 +136,6 @@ module _ (u : TypedTranslationUnit) (p : Program) (w : IsWellTyped p.types u) (l
       (λ d. (In d (functions_of u) × IsReadyFunction static d) × IsBodyWithin (IsTold u p w l) d) (IsFunctionInShape p) function-shaped
       (functions_of u) p.functions
       (all-both (λ d. In d (functions_of u) × IsReadyFunction static d) (IsBodyWithin (IsTold u p w l)) (functions_of u)
-      (all-both (λ d. In d (functions_of u)) (IsReadyFunction static) (functions_of u) (all-in (functions_of u)) (unit-ready u p w l).functions) within)
+      (all-both (λ d. In d (functions_of u)) (IsReadyFunction static) (functions_of u) (all-in (functions_of u))
+      (unit-ready u p w l).functions) within)
       l.code.functions

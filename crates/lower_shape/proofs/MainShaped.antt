@@ -217,7 +217,8 @@ module _ (u : TypedTranslationUnit) (p : Program) (w : IsWellTyped p.types u) (l
       let first : mine.0 ≡ other.0 =
       same-function mine.0 other.0 (sym mine.1 ∙ (ap (λ n. entry_of w.after.linked n) names ∙ other.1)) in
       let of-main = alike-left p.types other.0 (declared_type w.main.main.declarator) other.2 (w.main.result, w.main.shape.1, w.main.gives.1) in
-      let of-mine = alike-right p.types mine.0 (declared_type d.declarator) mine.2 (subst (λ x. TakesNothing p.types (shape_at p.types x)) (sym first) of-main) in
+      let of-mine = alike-right p.types mine.0 (declared_type d.declarator) mine.2 (subst (λ x. TakesNothing p.types (shape_at p.types x))
+      (sym first) of-main) in
       let ready = at-index (IsReadyFunction (static_stage p.types u)) all (unit-ready u p w l).functions i d found.1 in
       let type = same-type u p w l d at.0 at.2 in (
         at.0,

@@ -41,7 +41,7 @@ use Rattle.unit_sites.proofs.NamesAlike.{function-in, first-of}
 use Rattle.unit_sites.proofs.ObjectsAlike.{Names, objects_made, objects-named}
 use Rattle.unit_sites.proofs.PiecesReady.{unit-pieces}
 use Rattle.c_ready.proofs.ReadyUnit.{well-typed-ready}
-use Rattle.lower_shape.proofs.Known.{frame-named}
+use Rattle.unit_sites.proofs.FramesNamed.{frame-named}
 
 -- each pointer type has a node of the unit, and what it points to is a type
 abbrev ArePointersIn : Table → ℕ → Type 0
@@ -76,7 +76,8 @@ module _ (T : Table) (n : ℕ) (w : ArePointersIn T n) where
   stepped-there t at (shape.Union i) e = All-nil Good
 
   linked-there : (m : NodeId) (list : List NodeId) → m.0 < n → All (λ (o : NodeId). o.0 < n) list → Are (map (site.Linked m) list)
-  linked-there m list q h = All-map Good (site.Linked m) list (All-weaker (λ (o : NodeId). o.0 < n) (λ o. Good (site.Linked m o)) (λ o l. (q, l)) list h)
+  linked-there m list q h =
+      All-map Good (site.Linked m) list (All-weaker (λ (o : NodeId). o.0 < n) (λ o. Good (site.Linked m o)) (λ o l. (q, l)) list h)
 
   ordered-there : (t u : TypeId) (at : Place) → IsPointerType t → IsPointerType u → Are (moves T t at ∷ moves T u at ∷ [])
   ordered-there t u at h g = pair Good (moves T t at) (moves T u at) (pointer-node t h) (pointer-node u g)
@@ -181,7 +182,8 @@ module _ (k : Stage) (w : ArePointersIn k.table k.nodes) where
   union-of (shape.Function ps r) h = absurd (true≢false (sym h))
   union-of (shape.Struct n) h = absurd (true≢false (sym h))
 
-  aggregate-fine : (kind : AggregateKind) (at : Place) (t : TypeId) → is_of_kind kind (shape_at k.table t) ≡ true → Fine (sites_of_aggregate kind at t)
+  aggregate-fine : (kind : AggregateKind) (at : Place) (t : TypeId) → is_of_kind kind (shape_at k.table t) ≡ true
+      → Fine (sites_of_aggregate kind at t)
   aggregate-fine aggregate.Struct at t h = All-nil (IsSiteInShape k.table k.nodes)
   aggregate-fine aggregate.Union at t h = only (IsSiteInShape k.table k.nodes) (site.Union t at) (union-of (shape_at k.table t) h)
 
@@ -271,7 +273,8 @@ module _ (T : Table) (u : TypedTranslationUnit) (w : IsWellTyped T u) where
       All-append (IsSiteInShape T count) (map (λ (o : MadeObject). site.Home o.home o.type) (statics_of u))
       (flat_map (λ f. map (λ (v : Planned). site.Home v.node v.type) (variables_of (head_of f))) (functions_of u))
       (All-map (IsSiteInShape T count) (λ (o : MadeObject). site.Home o.home o.type) (statics_of u)
-      (All-weaker (λ (o : MadeObject). IsNode static o.home × IsWhole static o.type) (λ (o : MadeObject). IsSiteInShape T count (site.Home o.home o.type))
+      (All-weaker (λ (o : MadeObject). IsNode static o.home × IsWhole static o.type) (λ (o : MadeObject). IsSiteInShape T count
+      (site.Home o.home o.type))
       (λ o q. (q.0, q.1.0)) (statics_of u) (well-typed-ready T u w).objects.plans))
       (flat (IsSiteInShape T count) (λ f. map (λ (v : Planned). site.Home v.node v.type) (variables_of (head_of f))) (functions_of u)
       (All-weaker (IsReadyFunction static) (λ f. There (map (λ (v : Planned). site.Home v.node v.type) (variables_of (head_of f)))) frame-there
@@ -288,7 +291,8 @@ module _ (T : Table) (u : TypedTranslationUnit) (w : IsWellTyped T u) where
   named-in : (d : TypedDeclarator) → Names static (objects_made u) d → All (λ (x : names.Named). IsType T x.type) (names.named_by T d)
   named-in d h = by (is_function T (declared_type d)) refl
     where
-      function : (o : Option _) → is_function T (declared_type d) ≡ true → All (λ (x : names.Named). IsType T x.type) (function_named o (declared_type d))
+      function : (o : Option _) → is_function T (declared_type d) ≡ true
+          → All (λ (x : names.Named). IsType T x.type) (function_named o (declared_type d))
       function None e = All-nil (λ (x : names.Named). IsType T x.type)
       function (Some id) e = only (λ (x : names.Named). IsType T x.type) _ (function-in T (declared_type d) e)
 

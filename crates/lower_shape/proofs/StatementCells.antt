@@ -117,7 +117,8 @@ module _ (T : Table) where
   guarded-moved j l at x =
       moved-more T (Guarded j l at (Line x)) (0 + cells T x) (cells T x) (omega arith)
       (moved-then T (Line (guard_code j l at)) (Choice (value 0) (Line x) (Line [])) 0 (cells T x) (moved-line T (guard_code j l at) 0 (omega arith))
-      (moved-choice T (value 0) (Line x) (Line []) (cells T x) (moved-line T x (cells T x) (omega arith)) (moved-line T [] (cells T x) (omega arith))))
+      (moved-choice T (value 0) (Line x) (Line []) (cells T x) (moved-line T x (cells T x) (omega arith)) (moved-line T [] (cells T x)
+      (omega arith))))
 
 module _ (T : Table) (w : IsWellFormed T) (s : Stage) (k : lowered.Context) where
   mutual
@@ -125,7 +126,8 @@ module _ (T : Table) (w : IsWellFormed T) (s : Stage) (k : lowered.Context) wher
         → Moved T (counted T (made_by_initialiser i)) (IsCodeOfInitialiser i k at t base o)
     initialiser-moved (typed.Value e) at t base o r =
         one-part T w k (IsCodeOf e k 0) (Line (instr.Access (access.Store (part o base) (value 0) t at at) ∷ [])) (made_by e) (counted T (made_by e))
-        (omega arith) (value-moved T w k e (Unit {0}) 0) (moved-line T (instr.Access (access.Store (part o base) (value 0) t at at) ∷ []) 0 (omega arith))
+        (omega arith) (value-moved T w k e (Unit {0}) 0) (moved-line T (instr.Access (access.Store (part o base) (value 0) t at at) ∷ []) 0
+        (omega arith))
     initialiser-moved (typed.Copied p seat) at t base o r =
         moved-more T (IsCodeOfPlace p k 0 (Follows A 0)) (counted T (made_by_place p) + length (pointer_offsets T t))
         (counted T (made_by_place p ++ made.Copy (place_type p) ∷ []))
@@ -355,7 +357,8 @@ module _ (T : Table) (w : IsWellFormed T) (s : Stage) (k : lowered.Context) wher
         (beside-then T (IsCodeOfDeclaration d k) (Looped (Then (IsCodeOfTest c k) (Then (Blocked P) (IsCodeOfEffect step k)))) (counted T A) q
         (counted T B + (n + counted T D)) m (declaration-moved d static r.0)
         (loop-moved c step P n m (statement-moved st (in_a_loop a) static (in_loop v) r.3)))
-    statement-moved (typed.Break at) a static v r = alone T (Line (instr.Break v.breaks ∷ [])) 0 (moved-line T (instr.Break v.breaks ∷ []) 0 (omega arith))
+    statement-moved (typed.Break at) a static v r =
+        alone T (Line (instr.Break v.breaks ∷ [])) 0 (moved-line T (instr.Break v.breaks ∷ []) 0 (omega arith))
     statement-moved (typed.Continue at) a static v r =
         alone T (Line (instr.Break v.continues ∷ [])) 0 (moved-line T (instr.Break v.continues ∷ []) 0 (omega arith))
     statement-moved (typed.Return at None) a static v r = alone T (Line (instr.Return ∷ [])) 0 (moved-line T (instr.Return ∷ []) 0 (omega arith))
@@ -383,7 +386,8 @@ module _ (T : Table) (w : IsWellFormed T) (s : Stage) (k : lowered.Context) wher
         (block-moved all a on static v r.0) (declaration-moved d static r.1))
     block-moved (typed.AndCase all at e z) a on static v r =
         let A = made_by_block_items all in let m = counted_in T (initialisers_in_items all) in
-        beside-more T (IsCodeOfBlock all k v) (counted T A) m (counted T (A ++ made_by e)) m (omega (arith, counted-both T A (made_by e))) (omega arith)
+        beside-more T (IsCodeOfBlock all k v) (counted T A) m (counted T (A ++ made_by e)) m (omega (arith, counted-both T A (made_by e)))
+        (omega arith)
         (block-moved all a on static v r.0)
     block-moved (typed.AndDefault all at) a on static v r = block-moved all a on static v r
 

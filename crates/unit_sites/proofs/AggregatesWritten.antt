@@ -438,7 +438,8 @@ module _ (T : Table) where
       (form-grown T form k.scopes d.inside d.parts)
 
   mutual
-    init-grown : (i : TypedInitialiser) (at : Place) (t : TypeId) (s s' : Scopes) → IsInitialiser T i at t s s' → Grown T s s' (pieces_of_initialiser i)
+    init-grown : (i : TypedInitialiser) (at : Place) (t : TypeId) (s s' : Scopes) → IsInitialiser T i at t s s'
+        → Grown T s s' (pieces_of_initialiser i)
     init-grown (typed.Value e) at t s s' h = value-grown T e s s' h.0
     init-grown (typed.Copied p seat) at t s s' h = place-grown T p s s' h.0
     init-grown (typed.Text pieces bytes) at t s s' h = same T s s' [] h.0
@@ -506,14 +507,16 @@ module _ (T : Table) where
   mutual
     statement-grown : (a : Around) (s : TypedStatement) (k m : Known) → IsStatement T a s k m → Grown T k.scopes m.scopes (pieces_of_statement s)
     statement-grown a (typed.Block brace items) k m h =
-        last T k.scopes h.0.scopes m.scopes (pieces_of_block_items items) (ap known_members h.2) (block-grown a None items (entering_known k) k h.0 refl h.1)
+        last T k.scopes h.0.scopes m.scopes (pieces_of_block_items items) (ap known_members h.2) (block-grown a None items
+        (entering_known k) k h.0 refl h.1)
     statement-grown a (typed.Express e) k m h = last T k.scopes h.0 m.scopes (pieces_of e) (ap known_members h.3) (value-grown T e k.scopes h.0 h.1)
     statement-grown a typed.Empty k m h = same T k.scopes m.scopes [] (ap (λ (q : Known). q.scopes) h)
     statement-grown a (typed.If at paren c s) k m h =
         both T k.scopes h.0.scopes m.scopes (pieces_of c) (pieces_of_statement s) (test-grown (Some c) k h.0 h.1) (statement-grown a s h.0 m h.2)
     statement-grown a (typed.IfElse at paren c s r) k m h =
         both T k.scopes h.1.scopes m.scopes (pieces_of c ++ pieces_of_statement s) (pieces_of_statement r)
-        (both T k.scopes h.0.scopes h.1.scopes (pieces_of c) (pieces_of_statement s) (test-grown (Some c) k h.0 h.2) (statement-grown a s h.0 h.1 h.3))
+        (both T k.scopes h.0.scopes h.1.scopes (pieces_of c) (pieces_of_statement s) (test-grown (Some c) k h.0 h.2)
+        (statement-grown a s h.0 h.1 h.3))
         (statement-grown a r h.1 m h.4)
     statement-grown a (typed.Switch at paren e brace items) k m h =
         last T k.scopes h.1.scopes m.scopes (pieces_of e ++ pieces_of_block_items items) (ap known_members h.5)
@@ -644,7 +647,8 @@ module _ (T : Table) (u : TypedTranslationUnit) (w : IsWellTyped T u) where
       let A = sites_of_table T ++ sites_of_homes u in
       let B = flat_map (sites_of_piece T) (pieces_of_unit u) in
       unflat (Contains (sites_of u T)) (sites_of_piece T) (pieces_of_unit u)
-      (all-right (Contains (sites_of u T)) A B (all-left (Contains (sites_of u T)) (A ++ B) (sites_of_names (named_in u T)) (All-contains_itself (sites_of u T))))
+      (all-right (Contains (sites_of u T)) A B (all-left (Contains (sites_of u T)) (A ++ B) (sites_of_names (named_in u T)) (All-contains_itself
+      (sites_of u T))))
 
   -- each union that is complete has a site
   pub unions-told : (v : TypeId) → IsUnion T v → IsComplete T v → (place : Place) × Contains (sites_of u T) (site.Union v place)
@@ -658,8 +662,7 @@ module _ (T : Table) (u : TypedTranslationUnit) (w : IsWellTyped T u) where
             let own = w.structs.own a.type v number.0 a.number number.1 in
             let kindly = All-contains (IsKindly T (static_stage T u).nodes) (pieces_of_unit u) _ all-kindly a.there in
             let kind = kind-of-union a.kind (shape_at T a.type) kindly (subst (λ x. is_union_shape (shape_at T x) ≡ true) (sym own) h) in
-            let at = All-contains (λ piece. All (Contains (sites_of u T)) (sites_of_piece T piece)) (pieces_of_unit u) _ pieces-among a.there in
-            (
+            let at = All-contains (λ piece. All (Contains (sites_of u T)) (sites_of_piece T piece)) (pieces_of_unit u) _ pieces-among a.there in (
               a.place,
               subst (λ x. Contains (sites_of u T) (site.Union x a.place)) own
                   (All-head (Contains (sites_of u T)) (site.Union a.type a.place) []

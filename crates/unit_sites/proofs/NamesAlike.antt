@@ -213,7 +213,8 @@ module _ (T : Table) (u : TypedTranslationUnit) where
 
       by : (b : Bool) → (first.0 == x.type.0) ≡ b → All (Contains sites) (if b then [] else site.Same first x.type ∷ [])
           → AreDeclaredAlike sites first x.type
-      by true g h = subst (λ (z : TypeId). AreDeclaredAlike sites first z) (ap (λ (n : ℕ). record { 0 = n }) (eq_from first.0 x.type.0 g)) (same first)
+      by true g h =
+          subst (λ (z : TypeId). AreDeclaredAlike sites first z) (ap (λ (n : ℕ). record { 0 = n }) (eq_from first.0 x.type.0 g)) (same first)
       by false g h = listed first x.type (All-head (Contains sites) (site.Same first x.type) [] h)
 
   -- what is declared of one name
@@ -379,7 +380,8 @@ module _ (T : Table) (u : TypedTranslationUnit) (w : IsWellTyped T u) where
   both-all (d ∷ ds) h l =
       All-cons (λ x. All IsMadeAlike (named_by T x)) d ds
       (declarator-made d (All-head (Names (static_stage T u) (objects_made u)) d ds h) (All-head (IsLinkedDeclarator T w.after.linked) d ds l))
-      (both-all ds (all-right (Names (static_stage T u) (objects_made u)) (d ∷ []) ds h) (all-right (IsLinkedDeclarator T w.after.linked) (d ∷ []) ds l))
+      (both-all ds (all-right (Names (static_stage T u) (objects_made u)) (d ∷ []) ds h) (all-right (IsLinkedDeclarator T w.after.linked)
+      (d ∷ []) ds l))
 
   all-made : All IsMadeAlike (named_in u T)
   all-made =

@@ -1,13 +1,12 @@
-use Rattle.std.specs.Prelude.{◌↔◌}
-use Rattle.std.proofs.Common.{◌≡◌, ℕ, ◌<◌, List, [], length, refl, ap, sym, subst, ◌∙◌, inl, inr, ◌⊎◌, arith}
+use Rattle.std.proofs.Common.{◌≡◌, List, [], refl, ap, sym, subst, ◌∙◌, inl, inr, arith}
 use Rattle.std.specs.List.{Contains}
 use Rattle.cc_base.specs.declared.number.TypeId.{TypeId}
 use Rattle.cc_base.specs.declared.number.NodeId.{NodeId}
 use Rattle.cc_base.specs.declared.kind.Kind.{Kind}
 use Rattle.c_types.specs.Table.{Table, IsType}
-use Rattle.c_types.specs.Flows.{HeldPointer, flow_class, CorrespondAtTop, Correspond, CorrespondInFlow, HaveEqualKinds}
+use Rattle.c_types.specs.Flows.{flow_class, CorrespondAtTop}
 use Rattle.c_types.specs.Sound.{IsWellFormed}
-use Rattle.phys_types.specs.Pairs.{HaveNodes, AreCorrespondingNodes, TellsEqualKinds}
+use Rattle.phys_types.specs.Pairs.{AreCorrespondingNodes, TellsEqualKinds}
 use Rattle.phys_types.specs.Found.{Pairs, no_pairs, Gains}
 use Rattle.phys_types.specs.Standing.{AreEqualTypes, CorrespondInSome}
 use Rattle.phys_types.proofs.Reached.{top_alike}

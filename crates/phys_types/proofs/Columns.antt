@@ -1,9 +1,8 @@
-use Rattle.std.proofs.Common.{◌≡◌, ℕ, zero, suc, ◌+◌, ◌-◌, ◌*◌, ◌/◌, ◌%◌, ◌<◌, ◌≤◌, Bool, true, false, ◌&&◌, if◌then◌else◌, List, [], ◌∷◌, ◌++◌, length, map, nat_le, nat_lt, slice_get, Option, None, Some, refl, ap, sym, subst, ◌∙◌, inl, inr, ◌⊎◌, true≢false, arith}
+use Rattle.std.proofs.Common.{◌≡◌, ℕ, zero, suc, ◌+◌, ◌-◌, ◌*◌, ◌/◌, ◌%◌, ◌<◌, ◌≤◌, Bool, true, false, ◌&&◌, if◌then◌else◌, List, [], ◌∷◌, ◌++◌, length, map, nat_lt, slice_get, None, Some, refl, ap, sym, subst, ◌∙◌, inl, inr, ◌⊎◌, true≢false, arith}
 use Rattle.std.specs.Int.{IsGcd}
-use Rattle.std.proofs.lemmas.Bool.{cases_lt, ltb-true}
+use Rattle.std.proofs.lemmas.Bool.{ltb-true}
 use Rattle.std.proofs.lemmas.Bool.Decides.{Decides-eqb}
-use Rattle.std.proofs.lemmas.Nat.{mod_below}
-use Rattle.std.proofs.lemmas.Nat.Gcd.{same_from_IsGcd, mod-eq-zero_of_dvd}
+use Rattle.std.proofs.lemmas.Nat.Gcd.{same_from_IsGcd}
 use Rattle.std.proofs.Math.Nat.{add-mod_left, add-mul-mod_self_right}
 use Rattle.std.proofs.lemmas.List.{length-map}
 use Rattle.std.proofs.lemmas.Option.{slice_get_within}
@@ -12,7 +11,7 @@ use Rattle.cc_base.specs.declared.number.TypeId.{TypeId}
 use Rattle.c_types.specs.Table.{Table, IsType, is_function}
 use Rattle.c_types.specs.Layouts.{size_of}
 use Rattle.c_types.specs.Equality.{physically_equal, cells_of, begins_with, tile}
-use Rattle.c_types.specs.Flows.{HeldPointer, pointer_at, StandModulo, StandInTiles}
+use Rattle.c_types.specs.Flows.{HeldPointer, StandModulo, StandInTiles}
 use Rattle.c_types.specs.Sound.{IsWellFormed}
 use Rattle.c_types.proofs.Shapes.{first_true, second_true}
 use Rattle.phys_types.specs.declared.spot.Spot.{Spot}
@@ -20,14 +19,14 @@ use Rattle.phys_types.specs.declared.spot.Layout.{Layout}
 use Rattle.phys_types.specs.Spots.{AreSpots, shifted, copies}
 use Rattle.phys_types.specs.Numbers.{same_item, same_spot, same_spots, spots_before, end_within, repeat_spots}
 use Rattle.phys_types.specs.Shown.{IsLayoutOf}
-use Rattle.phys_types.specs.Standing.{IsAtSpot, IsInColumn, StandInColumn, StandInColumns}
+use Rattle.phys_types.specs.Standing.{IsInColumn, StandInColumns}
 use Rattle.phys_types.proofs.Spreading.{length_all}
-use Rattle.phys_types.proofs.Repeating.{before_are_spots, begin_from_same}
+use Rattle.phys_types.proofs.Repeating.{before_are_spots}
 use Rattle.phys_types.proofs.Tiled.{positive_divisor}
 use Rattle.phys_types.proofs.Classes.{tile_right}
 use Rattle.phys_types.proofs.LawLemmas.{number, numbered}
-use Rattle.phys_types.proofs.SpotPointers.{one_place, front_there}
-use Rattle.phys_types.proofs.Turns.{begins_data, spots_begin, there, spot_at, at_spot}
+use Rattle.phys_types.proofs.SpotPointers.{one_place}
+use Rattle.phys_types.proofs.Turns.{spots_begin, there, spot_at, at_spot}
 
 -- The spots of types that tile stand in columns: those whose numbers agree modulo the number of spots in the common unit stand at
 -- offsets that agree modulo its size.

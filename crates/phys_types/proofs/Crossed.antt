@@ -1,11 +1,9 @@
 use Rattle.std.specs.Prelude.{◌↔◌}
-use Rattle.std.proofs.Common.{◌≡◌, ℕ, zero, suc, ◌+◌, ◌-◌, ◌*◌, ◌/◌, ◌%◌, ◌<◌, ◌≤◌, ◌&&◌, Bool, true, List, [], ◌∷◌, length, get_or, slice_get, Option, None, Some, refl, ap, sym, subst, ◌∙◌, inl, inr, ◌⊎◌, arith}
+use Rattle.std.proofs.Common.{◌≡◌, ℕ, ◌+◌, ◌-◌, ◌*◌, ◌/◌, ◌%◌, ◌<◌, ◌≤◌, ◌&&◌, Bool, true, List, [], length, get_or, slice_get, Option, Some, ap, sym, subst, ◌∙◌, inl, inr, ◌⊎◌, arith}
 use Rattle.std.specs.List.{Contains}
-use Rattle.std.specs.Int.{IsGcd}
 use Rattle.std.proofs.lemmas.Bool.{cases_lt}
 use Rattle.std.proofs.lemmas.Bool.Decides.{Decides-eqb}
 use Rattle.std.proofs.lemmas.Option.{slice_get_within, slice_get-get_or, get_or_from_slice_get}
-use Rattle.std.proofs.lemmas.Nat.Gcd.{same_from_IsGcd}
 use Rattle.std.proofs.Math.Nat.{add-mod_right}
 use native.Mathlib.Nat.{mod-eq_of_lt}
 use Rattle.indexmap.specs.IndexSet.{insert_key}
@@ -17,7 +15,7 @@ use Rattle.cc_base.specs.contracts.number.NodeIdPartialEq.TheImpl as nodes
 use Rattle.phys_types.specs.declared.held.Held.{Held}
 use Rattle.phys_types.specs.declared.spot.Spot.{Spot}
 use Rattle.phys_types.specs.Found.{Pairs, held, Gains, AreThese}
-use Rattle.phys_types.specs.Standing.{shown, pointer_of_item, IsAtSpot, IsHeld, IsWith, AreHeld, IsInColumn, StandInColumn, StandInColumns}
+use Rattle.phys_types.specs.Standing.{shown, pointer_of_item, IsAtSpot, IsHeld, IsWith, AreHeld, IsInColumn, StandInColumn}
 use Rattle.phys_types.proofs.FoundLemmas.{insert_kept, insert_only, gains_as, gains_nothing, gains_more, gains_then}
 use Rattle.phys_types.proofs.AddLemmas.{spot_told, spot_tells}
 

@@ -1,6 +1,5 @@
-use Rattle.std.proofs.Common.{◌≡◌, ℕ, Bool, true, false, List, ◌∷◌, Option, refl, ap, sym, subst, ◌∙◌, true≢false}
+use Rattle.std.proofs.Common.{◌≡◌, Bool, true, false, List, ◌∷◌, Option, refl, ap, sym, subst, ◌∙◌, true≢false}
 use Rattle.cc_base.specs.declared.number.TypeId.{TypeId}
-use Rattle.c_types.specs.declared.shape.TypeShape.{TypeShape}
 use Rattle.c_types.specs.declared.shape.TypeShape.TheVariants.{Function}
 use Rattle.c_types.specs.Table.{Table, IsType, shape_at, is_function, is_function_shape}
 use Rattle.c_types.specs.Equality.{physically_equal}
@@ -12,7 +11,7 @@ use Rattle.phys_types.specs.Found.{Pairs, Gains}
 use Rattle.phys_types.specs.Shown.{IsLayoutOf}
 use Rattle.phys_types.specs.Standing.{AreBoth, IsAtSpot, IsAtSlot, StandInTurn}
 use Rattle.phys_types.proofs.Classes.{function_tag}
-use Rattle.phys_types.proofs.FoundLemmas.{gains_as, gains_nothing}
+use Rattle.phys_types.proofs.FoundLemmas.{gains_as}
 use Rattle.phys_types.proofs.AddLemmas.{with_result}
 use Rattle.phys_types.proofs.Turns.{equal_begins, equal_function, turns_from_alike, alike_from_turns, slots_from_alike, alike_from_slots}
 

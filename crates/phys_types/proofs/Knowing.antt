@@ -1,6 +1,5 @@
 -- What is known of a table answers for all its types.
 use Rattle.std.proofs.Common.{◌≡◌, ℕ, Bool, true, false, ◌||◌, List, get_or, refl, ap, sym, subst, ◌∙◌, true≢false}
-use Rattle.std.specs.List.{Contains}
 use Rattle.cc_base.specs.declared.number.TypeId.{TypeId}
 use Rattle.c_types.specs.Table.{Table, IsType, is_function}
 use Rattle.c_types.specs.Equality.{physically_equal, begins_with}

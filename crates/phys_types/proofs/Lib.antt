@@ -33,3 +33,7 @@ pub mod Knowing
 pub mod MixedSpots
 pub mod Refined
 pub mod Finer
+pub mod Turned
+pub mod Reading
+pub mod Signing
+pub mod Stable

@@ -20,7 +20,7 @@ use Rattle.phys_types.proofs.Unions.{same_answer}
 
 -- Whether two types are made alike.
 
-pointwise_map : {X Y : Type 0} (E : Y → Y → Bool) (f : X → Y) (xs ys : List X) → pointwise E (map f xs) (map f ys) ≡ pointwise (λ x y. E (f x) (f y)) xs ys
+pub pointwise_map : {X Y : Type 0} (E : Y → Y → Bool) (f : X → Y) (xs ys : List X) → pointwise E (map f xs) (map f ys) ≡ pointwise (λ x y. E (f x) (f y)) xs ys
 pointwise_map E f [] [] = refl
 pointwise_map E f [] (y ∷ ys) = refl
 pointwise_map E f (x ∷ xs) [] = refl
@@ -46,7 +46,7 @@ module _ (table : Table) (Z E : Relation) (t u : TypeId) where
       ∙ ap (λ x. x && pointwise (same_slot E) (map (λ p. slot_of p (shape_at table p)) ps) (map (λ p. slot_of p (shape_at table p)) qs)) (sym l ∙ k)
       ∙ (λ i. same_makeup E (makeup_of table Z t (sym e i)) (makeup_of table Z u (sym f i)))
 
-  bytes_of : (t : TypeId) (s : TypeShape) → ((ps : List TypeId) (r : TypeId) → s ≡ Function ps r → ⊥) → makeup_of table Z t s ≡ bytes (cells_at table Z t)
+  pub bytes_of : (t : TypeId) (s : TypeShape) → ((ps : List TypeId) (r : TypeId) → s ≡ Function ps r → ⊥) → makeup_of table Z t s ≡ bytes (cells_at table Z t)
   bytes_of t Void n = refl
   bytes_of t (Integer b s) n = refl
   bytes_of t (Pointer m v) n = refl

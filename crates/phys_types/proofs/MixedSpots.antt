@@ -1,13 +1,13 @@
 -- The mixed unions of a type are those of its spots.
-use Rattle.std.specs.Prelude.{◌↔◌, IsTrue}
-use Rattle.std.proofs.Common.{◌≡◌, ℕ, zero, suc, ◌+◌, ◌-◌, ◌<◌, ◌≤◌, ◌⊎◌, inl, inr, Bool, true, false, List, [], ◌∷◌, ◌++◌, length, take, get_or, map, replicate, slice_get, Option, Some, None, refl, ap, sym, subst, ◌∙◌, ⊎_elim, true≢false, arith}
+use Rattle.std.specs.Prelude.{◌↔◌}
+use Rattle.std.proofs.Common.{◌≡◌, ℕ, zero, suc, ◌+◌, ◌-◌, ◌<◌, ◌≤◌, ◌⊎◌, inl, inr, Bool, true, List, [], ◌∷◌, ◌++◌, length, take, get_or, map, replicate, slice_get, Option, Some, refl, ap, sym, subst, ◌∙◌, ⊎_elim, arith}
 use Rattle.std.specs.List.{Contains, range_with_len}
 use Rattle.std.proofs.lemmas.List.{take_more}
 use Rattle.std.proofs.lemmas.List.Elements.{Contains-append_left, Contains-append_right}
 use Rattle.cc_base.specs.declared.number.TypeId.{TypeId}
 use Rattle.cc_base.specs.declared.number.NodeId.{NodeId}
-use Rattle.c_types.specs.Cells.{Cell, raw, pointer, mixed, incomplete, pointer_cells}
-use Rattle.c_types.specs.Equality.{cells_of, physically_equal}
+use Rattle.c_types.specs.Cells.{Cell, raw, pointer, mixed}
+use Rattle.c_types.specs.Equality.{physically_equal}
 use Rattle.c_types.specs.Layouts.{size_of}
 use Rattle.c_types.specs.Solutions.{HoldsMixed}
 use Rattle.c_types.specs.Table.{Table}

@@ -1,13 +1,11 @@
-use Rattle.std.specs.Prelude.{IsTrue}
-use Rattle.std.proofs.Common.{◌≡◌, ℕ, zero, suc, ◌%◌, ◌<◌, ◌==◌, Bool, true, false, ◌&&◌, if◌then◌else◌, List, [], ◌∷◌, length, get_or, slice_get, Option, None, Some, refl, ap, sym, subst, ◌∙◌, inl, inr, ◌⊎◌, true≢false, arith}
-use Rattle.std.specs.List.{All, Contains}
+use Rattle.std.proofs.Common.{◌≡◌, ℕ, zero, suc, ◌<◌, ◌==◌, Bool, true, false, if◌then◌else◌, List, [], ◌∷◌, length, get_or, slice_get, Option, None, Some, refl, ap, sym, subst, ◌∙◌, inl, inr, true≢false, arith}
+use Rattle.std.specs.List.{Contains}
 use Rattle.std.specs.Int.{IsGcd}
 use Rattle.std.proofs.lemmas.Nat.Gcd.{IsGcd-swap}
 use Rattle.std.proofs.lemmas.Option.{slice_get_within, get_or_from_slice_get}
 use Rattle.std.proofs.lemmas.List.Elements.{All-contains}
 use native.Mathlib.Nat.{mod-eq_of_lt}
 use Rattle.cc_base.specs.declared.number.TypeId.{TypeId}
-use Rattle.cc_base.specs.declared.number.NodeId.{NodeId}
 use Rattle.c_types.specs.declared.shape.TypeShape.{TypeShape}
 use Rattle.c_types.specs.declared.shape.TypeShape.TheVariants.{Void, Integer, Pointer as PointerShape, Array, Function, Struct, Union}
 use Rattle.c_types.specs.declared.flow_class.FlowClass.{FlowClass}
@@ -15,14 +13,14 @@ use Rattle.c_types.specs.declared.flow_class.FlowClass.TheVariants.{Equal, UpTil
 use Rattle.c_types.specs.Table.{Table, IsType, shape_at, named_by, is_function, is_function_shape}
 use Rattle.c_types.specs.Cells.{Cell, raw, pointer, mixed, incomplete, alike}
 use Rattle.c_types.specs.Equality.{physically_equal, cells_of, begins_with, repeated_cell, tile}
-use Rattle.c_types.specs.Flows.{flow_class, HeldPointer, pointer_in_cell, pointer_of_shape, and_then, pointer_in, pointer_at, StandAlike, StandModulo, StandInTiles, CorrespondAtTop, Correspond, top, inside}
+use Rattle.c_types.specs.Flows.{flow_class, HeldPointer, pointer_of_shape, and_then, pointer_in, pointer_at, StandAlike, StandModulo, StandInTiles, CorrespondAtTop, Correspond, top, inside}
 use Rattle.c_types.specs.Sound.{IsWellFormed}
 use Rattle.c_types.proofs.Lists.{contains_head}
-use Rattle.c_types.proofs.Shapes.{first_true, second_true}
+use Rattle.c_types.proofs.Shapes.{second_true}
 use Rattle.type_laws.proofs.Relations.{equal_equiv}
 use Rattle.type_laws.proofs.Pointers.{Mirrors, equal_mirrors, begins_mirrors}
 use Rattle.phys_types.specs.Standing.{IsAtSlot, AreEqualTypes}
-use Rattle.phys_types.proofs.Agreeing.{PointsInto, EachInto, cells_into}
+use Rattle.phys_types.proofs.Agreeing.{PointsInto, cells_into}
 use Rattle.phys_types.proofs.Classes.{types_closed, into_at, function_tag, function_tiles, tile_turned}
 use Rattle.phys_types.proofs.Makeups.{named_types}
 use Rattle.phys_types.proofs.LawLemmas.{opened, tiles_across, tiles_within}

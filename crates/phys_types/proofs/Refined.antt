@@ -2,14 +2,13 @@
 use Rattle.std.specs.Prelude.{◌↔◌, IsTrue, slice_set}
 use Rattle.std.proofs.Common.{◌≡◌, ◌≢◌, ℕ, zero, suc, ◌+◌, ◌<◌, ◌≤◌, ◌⊎◌, inl, inr, Bool, true, false, ◌&&◌, if◌then◌else◌, nat_lt, List, [], ◌∷◌, ◌++◌, length, take, drop, get_or, refl, ap, sym, subst, ◌∙◌, ⊎_elim, true≢false, arith}
 use Rattle.std.specs.List.{All, Contains, fold}
-use Rattle.std.specs.Cmp.{IsEquivalence}
 use Rattle.std.proofs.lemmas.Bool.Decides.{Decides-eqb, eqb_tells, nat_tests}
 use Rattle.std.proofs.lemmas.List.{take_more, get_or-set_same, get_or-set_other, length-set}
 use Rattle.std.proofs.lemmas.List.Elements.{All-push, Contains-append_left, Contains-append_right}
 use Rattle.cc_base.specs.declared.number.TypeId.{TypeId}
 use Rattle.c_types.specs.Table.{Table, IsType}
 use Rattle.c_types.specs.Cells.{Relation, same_type}
-use Rattle.c_types.specs.Equality.{physically_equal, made_alike, makeup_at, same_makeup, within}
+use Rattle.c_types.specs.Equality.{physically_equal, made_alike, makeup_at, same_makeup}
 use Rattle.c_types.specs.Sound.{IsWellFormed}
 use Rattle.c_types.proofs.Lists.{contains_head, contains_tail}
 use Rattle.type_laws.proofs.Relations.{same_id, makeup_equiv, equal_equiv}

@@ -82,7 +82,7 @@ module _ (table : Table) (w : IsWellFormed table) (order : List TypeId) (places 
   unfolding AtLevel physically_equal
   at_last numbers h = h
 
-  shown_agree : (E F : Relation) (layouts : List Layout) → length layouts ≡ length order → ((t u : TypeId) → Contains order t → Contains order u → E t u ≡ F t u)
+  pub shown_agree : (E F : Relation) (layouts : List Layout) → length layouts ≡ length order → ((t u : TypeId) → Contains order t → Contains order u → E t u ≡ F t u)
       → AreShown table E order layouts → AreShown table F order layouts
   shown_agree E F layouts l agree s i d x b =
       let h = s i d x b in

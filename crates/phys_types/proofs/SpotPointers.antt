@@ -1,17 +1,16 @@
-use Rattle.std.proofs.Common.{◌≡◌, ℕ, zero, suc, ◌+◌, ◌-◌, ◌<◌, ◌≤◌, Bool, true, ◌&&◌, List, [], ◌∷◌, ◌++◌, length, map, replicate, slice_get, Option, None, Some, refl, ap, sym, subst, ◌∙◌, inl, inr, ◌⊎◌, arith, true≢false}
+use Rattle.std.proofs.Common.{◌≡◌, ℕ, zero, suc, ◌+◌, ◌-◌, ◌≤◌, true, List, [], ◌∷◌, ◌++◌, length, map, replicate, slice_get, Option, None, Some, refl, ap, sym, subst, ◌∙◌, inl, inr, ◌⊎◌, arith, true≢false}
 use Rattle.std.proofs.lemmas.Bool.Decides.{Decides-eqb}
 use Rattle.std.specs.List.{range_with_len}
 use Rattle.cc_base.specs.declared.number.TypeId.{TypeId}
-use Rattle.cc_base.specs.declared.number.NodeId.{NodeId}
-use Rattle.c_types.specs.Cells.{Cell, raw, pointer, mixed, incomplete, pointer_cells}
+use Rattle.c_types.specs.Cells.{Cell, raw, mixed, incomplete, pointer_cells}
 use Rattle.c_types.specs.Flows.{HeldPointer, pointer_in_cell, and_then}
 use Rattle.c_types.proofs.Shapes.{first_true, second_true}
 use Rattle.phys_types.specs.declared.spot.Item.{Item}
 use Rattle.phys_types.specs.declared.spot.Item.TheVariants.{Pointer, Mixed, Incomplete}
 use Rattle.phys_types.specs.declared.spot.Spot.{Spot}
-use Rattle.phys_types.specs.Spots.{item_size, item_cells, cells_from, HasSize, AreSpots}
+use Rattle.phys_types.specs.Spots.{item_size, item_cells, cells_from, AreSpots}
 use Rattle.phys_types.specs.Numbers.{same_item, same_spot, begin_with_spots}
-use Rattle.phys_types.specs.Standing.{pointer_of_item, IsAtSpot}
+use Rattle.phys_types.specs.Standing.{pointer_of_item}
 use Rattle.phys_types.proofs.Repeating.{item_positive}
 
 -- The pointers of a list of cells are those of its spots.

@@ -1,10 +1,9 @@
-use Rattle.std.specs.Prelude.{IsTrue}
-use Rattle.std.proofs.Common.{◌≡◌, ℕ, zero, suc, ◌+◌, ◌-◌, ◌<◌, ◌≤◌, Bool, true, false, ◌&&◌, not, List, ◌∷◌, length, nat_le, slice_get, Some, refl, ap, sym, subst, ◌∙◌, true≢false, arith}
+use Rattle.std.proofs.Common.{◌≡◌, ℕ, ◌-◌, Bool, true, false, not, List, ◌∷◌, nat_le, slice_get, Some, refl, ap, sym, ◌∙◌, true≢false, arith}
 use Rattle.cc_base.specs.declared.number.TypeId.{TypeId}
 use Rattle.c_types.specs.declared.shape.TypeShape.TheVariants.{Function}
 use Rattle.c_types.specs.Table.{Table, IsType, shape_at, is_function}
 use Rattle.c_types.specs.Layouts.{size_of}
-use Rattle.c_types.specs.Equality.{physically_equal, cells_of, begins_with}
+use Rattle.c_types.specs.Equality.{physically_equal, begins_with}
 use Rattle.c_types.specs.Flows.{HeldPointer, pointer_at, StandAlike}
 use Rattle.c_types.specs.Sound.{IsWellFormed}
 use Rattle.c_types.proofs.Shapes.{first_true, second_true}
@@ -16,7 +15,7 @@ use Rattle.phys_types.specs.Spots.{cells_from}
 use Rattle.phys_types.specs.Numbers.{begin_with_spots}
 use Rattle.phys_types.specs.Shown.{IsLayoutOf, begins_spots}
 use Rattle.phys_types.specs.Standing.{pointer_of_item, IsAtSpot, IsAtSlot, StandInTurn}
-use Rattle.phys_types.proofs.Classes.{begins_right, function_tag}
+use Rattle.phys_types.proofs.Classes.{begins_right}
 use Rattle.phys_types.proofs.LawLemmas.{number, numbered, equal_cells, begins_equal}
 use Rattle.phys_types.proofs.SpotPointers.{found_in, spot_of_cell, cell_of_spot, one_place, front_there}
 use Rattle.phys_types.proofs.Reached.{at_cell, at_slot, slot_at}

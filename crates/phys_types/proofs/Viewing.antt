@@ -33,7 +33,7 @@ module _ (table : Table) (order : List TypeId) (places : List ℕ) (o : IsWholeO
     members = λ t u h c. o.whole u ((types_closed table w).members t u (in_table t h) c);
   }
 
-  place_of : (t : TypeId) → IsType table t → (k : ℕ) × (k < length order) × (get_or order k t ≡ t) × (get_or places t.0 0 ≡ k)
+  pub place_of : (t : TypeId) → IsType table t → (k : ℕ) × (k < length order) × (get_or order k t ≡ t) × (get_or places t.0 0 ≡ k)
   place_of t h =
       let c = o.whole t h in
       (c.0, c.1, c.2, ap (λ (u : TypeId). get_or places u.0 0) (sym c.2) ∙ o.right.placed c.0 t c.1)

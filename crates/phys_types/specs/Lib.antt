@@ -4,6 +4,8 @@ pub mod Reach
 pub mod Shown
 pub mod Rounds
 pub mod Refining
+pub mod Signatures
+pub mod Turning
 pub mod Orders
 pub mod Views
 pub mod Laws

@@ -1,4 +1,4 @@
-use Rattle.std.specs.Prelude.{◌≡◌, ℕ, suc, ◌<◌, Bool, List, [], ◌∷◌, length, take, slice_index_or, if◌then◌else◌}
+use Rattle.std.specs.Prelude.{◌≡◌, ℕ, suc, ◌<◌, Bool, List, [], ◌∷◌, length, take, slice_index_or, if◌then◌else◌, IsTrue}
 use Rattle.std.specs.List.{All, Contains}
 use Rattle.cc_base.specs.declared.number.TypeId.{TypeId}
 use Rattle.c_types.specs.Table.{Table, IsType, parts_at}
@@ -34,6 +34,12 @@ pub record IsRound (table : Table) (E : Relation) (order : List TypeId) (numbers
   pub shown : AreShown table E order layouts
   pub numbered : (i : ℕ) (d : TypeId) → i < length order
       → slice_index_or numbers (slice_index_or order i d).0 0 ≡ first_place (λ u. made_alike table E u (slice_index_or order i d)) order
+
+-- types of one number are made alike
+abbrev pub AreStable : Table → List TypeId → List ℕ → Type 0
+AreStable table order numbers =
+    (t u : TypeId) → Contains order t → Contains order u → IsTrue (same_number (number_in numbers) t u)
+    → IsTrue (made_alike table (same_number (number_in numbers)) t u)
 
 -- the numbers tell physical equality apart
 pub record AreSettled (table : Table) (order : List TypeId) (numbers : List ℕ) (layouts : List Layout) : Type 0 where

@@ -3,10 +3,10 @@ use Rattle.std.specs.List.{Contains}
 use Rattle.cc_base.specs.declared.number.TypeId.{TypeId}
 use Rattle.c_types.specs.Table.{Table, IsType, shape_at}
 use Rattle.c_types.specs.Equality.{physically_equal}
-use Rattle.c_types.specs.Flows.{HeldPointer, and_then, pointer_of_shape, CorrespondByPlace}
+use Rattle.c_types.specs.Flows.{HeldPointer, pointer_of_shape, CorrespondByPlace}
 use Rattle.phys_types.specs.declared.held.Held.{Held}
 use Rattle.phys_types.specs.declared.spot.Item.{Item}
-use Rattle.phys_types.specs.declared.spot.Item.TheVariants.{Pointer, Mixed, Incomplete}
+use Rattle.phys_types.specs.declared.spot.Item.TheVariants.{Pointer, Mixed}
 use Rattle.phys_types.specs.declared.spot.Spot.{Spot}
 use Rattle.phys_types.specs.Found.{held}
 

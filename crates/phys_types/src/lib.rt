@@ -14,13 +14,17 @@ mod known;
 mod laws;
 mod makeup;
 mod mixed_unions;
+mod numbered;
 mod order;
 mod phys;
+mod readers;
 mod refining;
 mod round;
+mod signature;
 mod spot;
 mod tiling;
 mod top;
+mod turning;
 
 pub use c_types::FlowClass;
 pub use found::Found;

@@ -43,7 +43,10 @@ pub(crate) fn has_union(spots: &[Spot], t: TypeId) -> bool
 }
 
 /// Adds a mixed union to others, if there is one.
-fn add_union(unions: &mut IndexSet<TypeId>, union: Option<TypeId>) -> Result<(), NoMemory>
+pub(crate) fn add_union(
+    unions: &mut IndexSet<TypeId>,
+    union: Option<TypeId>,
+) -> Result<(), NoMemory>
     ensures { OnOk result ((v : TypeId) → Contains unions.new.keys v ↔ (Contains unions.old.keys v ⊎ (union ≡ Some v))) }
 {
     if let Some(t) = union {

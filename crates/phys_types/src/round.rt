@@ -1,7 +1,8 @@
 #![tactic(auto)]
 
-ghost use Rattle.std.specs.Prelude.{ℕ, ◌≡◌, ◌<◌, ◌≤◌, List, length, take, replicate, IfOk};
+ghost use Rattle.std.specs.Prelude.{ℕ, ◌≡◌, ◌<◌, ◌≤◌, Some, List, length, take, replicate, slice_index_or, nat_eq, IfOk, OnOk, IsTrue};
 ghost use Rattle.std.specs.List.{All, Contains};
+ghost use Rattle.indexmap.specs.IndexMap.{get};
 ghost use Rattle.cc_base.specs.declared.number.TypeId.{TypeId};
 ghost use Rattle.c_types.specs.Table.{IsType};
 ghost use Rattle.c_types.specs.Equality.{made_alike};
@@ -10,14 +11,16 @@ ghost use Rattle.phys_types.specs.Numbers.{number_in, same_number};
 ghost use Rattle.phys_types.specs.Orders.{IsWholeOrder};
 ghost use Rattle.phys_types.specs.Reach.{IsClosed};
 ghost use Rattle.phys_types.specs.Shown.{IsLayoutOf, IsLow, ArePartsKept, ArePartsShown};
-ghost use Rattle.phys_types.specs.Rounds.{IsOrder, AreShown, IsRound, AreSettled, first_place};
+ghost use Rattle.phys_types.specs.Rounds.{IsOrder, AreShown, IsRound, AreSettled, AreStable, first_place};
 
 use crate::building::layout_of;
+use crate::comparing::number_of;
 use crate::makeup::looks_alike;
 use crate::refining::refine;
 use crate::spot::Layout;
 use c_types::Types;
 use cc_base::{NoMemory, TypeId};
+use indexmap::IndexMap;
 use std::alloc::Global;
 
 /// Numbers of types, and the layouts of the types in order under the numbers of the round before.
@@ -85,10 +88,100 @@ pub(crate) fn renumber(
     })
 }
 
+/// The layouts of the types in order, under numbers.
+fn built(
+    alloc: Global,
+    types: &Types,
+    order: &[TypeId],
+    places: &[usize],
+    numbers: &[usize],
+) -> Result<Vec<Layout>, NoMemory>
+    requires formed { IsWellFormed types.now }
+    requires order { IsOrder types.now order.now places.now }
+    ensures all { IfOk result (λ layouts. length layouts.items ≡ length order.now) }
+    ensures shown { IfOk result (λ layouts. AreShown types.now (same_number (number_in numbers.now)) order.now layouts.items) }
+{
+    let mut layouts = Vec::with_capacity(alloc, order.len())?;
+    'types: for t in order {
+        let layout = layout_of(alloc, types, numbers, places, &layouts, *t)?;
+        layouts.push(layout)?;
+    }
+    Ok(layouts)
+}
+
+/// The place that is kept for a number; the first that comes is.
+fn first_with(
+    firsts: &mut IndexMap<usize, usize>,
+    number: usize,
+    place: usize,
+) -> Result<usize, NoMemory>
+    ensures here { IfOk result (λ first. get nat_eq firsts.new number ≡ Some first) }
+    ensures kept { OnOk result ((n k : ℕ) → get nat_eq firsts.old n ≡ Some k → get nat_eq firsts.new n ≡ Some k) }
+{
+    if let Some(first) = firsts.get(&number) {
+        return Ok(*first);
+    }
+    firsts.insert(number, place)?;
+    Ok(place)
+}
+
+/// Whether the types at two places look alike.
+fn look_alike_at(
+    types: &Types,
+    order: &[TypeId],
+    layouts: &[Layout],
+    numbers: &[usize],
+    first: usize,
+    place: usize,
+) -> bool
+    requires formed { IsWellFormed types.now }
+    requires types { All (IsType types.now) order.now }
+    requires all { length layouts.now ≡ length order.now }
+    requires shown { AreShown types.now (same_number (number_in numbers.now)) order.now layouts.now }
+    requires place { place < length order.now }
+    ensures { (d : TypeId) → IsTrue result → IsTrue (made_alike types.now (same_number (number_in numbers.now)) (slice_index_or order.now first d) (slice_index_or order.now place d)) }
+{
+    if first >= order.len() {
+        return false;
+    }
+    looks_alike(
+        types,
+        numbers,
+        order[first],
+        &layouts[first],
+        order[place],
+        &layouts[place],
+    )
+}
+
+/// Whether types of one number are made alike: each is compared with the first of its number.
+fn are_stable(
+    alloc: Global,
+    types: &Types,
+    order: &[TypeId],
+    layouts: &[Layout],
+    numbers: &[usize],
+) -> Result<bool, NoMemory>
+    requires formed { IsWellFormed types.now }
+    requires types { All (IsType types.now) order.now }
+    requires all { length layouts.now ≡ length order.now }
+    requires shown { AreShown types.now (same_number (number_in numbers.now)) order.now layouts.now }
+    ensures { IfOk result (λ stable. IsTrue stable → AreStable types.now order.now numbers.now) }
+{
+    let mut firsts = IndexMap::new(alloc);
+    'places: for place in 0..order.len() {
+        let first = first_with(&mut firsts, number_of(numbers, order[place]), place)?;
+        if !look_alike_at(types, order, layouts, numbers, first, place) {
+            return Ok(false);
+        }
+    }
+    Ok(true)
+}
+
 /// Numbers that are the same exactly for physically equal types, and the layouts of the types in order under them.
 ///
-/// The numbers of a first round are made finer, until types of one number look alike; rounds that change nothing show that they are
-/// made alike. Where they are not by then, the levels of the definition decide.
+/// One number for all types is made finer, until types of one number are made alike. A union may be mixed under finer numbers that
+/// wasn't before, so layouts are built again. Where that doesn't come to an end, the levels of the definition decide.
 pub(crate) fn settle(
     alloc: Global,
     types: &Types,
@@ -100,19 +193,14 @@ pub(crate) fn settle(
     ensures { IfOk result (λ round. AreSettled types.now order.now round.numbers.items round.layouts.items) }
 {
     let count = types.count() as usize;
-    let start = zeros(alloc, count)?;
-    let first = renumber(alloc, types, order, places, &start)?;
-    let mut finer = refine(alloc, types, order, &first.layouts, &first.numbers)?;
+    let mut numbers = zeros(alloc, count)?;
     'rounds: for _round in 0..count {
-        let round = renumber(alloc, types, order, places, &finer)?;
-        if round.numbers.as_slice() == finer.as_slice() {
-            return Ok(round);
+        let layouts = built(alloc, types, order, places, &numbers)?;
+        let stable = are_stable(alloc, types, order, &layouts, &numbers)?;
+        if stable {
+            return Ok(Round { numbers, layouts });
         }
-        let Round {
-            numbers: next,
-            layouts: _layouts,
-        } = round;
-        finer = next;
+        numbers = refine(alloc, types, places, &layouts, &numbers)?;
     }
     settle_by_levels(alloc, types, order, places)
 }

@@ -1,4 +1,3 @@
-use Rattle.std.specs.Prelude.{OnOk}
 use Rattle.std.proofs.lemmas.Result.{on_ok_weaker}
 use Rattle.phys_types.proofs.AddLemmas.{both_there}
 use Rattle.phys_types.proofs.alike.add_both.Goals as goal

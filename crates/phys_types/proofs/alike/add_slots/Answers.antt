@@ -1,4 +1,4 @@
-use Rattle.std.proofs.Common.{length, get_or, arith}
+use Rattle.std.proofs.Common.{arith}
 use Rattle.phys_types.specs.Standing.{shown, IsAtSlot}
 use Rattle.phys_types.proofs.AddLemmas.{turns_start, turns_more, turns_done, slot_told, slot_tells, slots_within}
 use Rattle.phys_types.proofs.alike.add_slots.Goals as goal

@@ -1,4 +1,4 @@
-use Rattle.std.proofs.Common.{length, get_or, arith}
+use Rattle.std.proofs.Common.{arith}
 use Rattle.phys_types.specs.Standing.{shown, IsAtSpot}
 use Rattle.phys_types.proofs.AddLemmas.{turns_start, turns_more, turns_done, spot_told, spot_tells, spots_within}
 use Rattle.phys_types.proofs.alike.add_spots.Goals as goal

@@ -1,4 +1,3 @@
-use Rattle.std.proofs.Common.{arith}
 use Rattle.phys_types.specs.Standing.{StandInColumn}
 use Rattle.phys_types.proofs.Crossed.{each_start, each_more}
 use Rattle.phys_types.proofs.crossing.add_columns.Goals as goal

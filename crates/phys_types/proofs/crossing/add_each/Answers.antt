@@ -1,4 +1,4 @@
-use Rattle.std.proofs.Common.{get_or, refl, arith}
+use Rattle.std.proofs.Common.{refl, arith}
 use Rattle.phys_types.proofs.Crossed.{each_start, each_more, AreHeldAt, each_one, each_all}
 use Rattle.phys_types.proofs.crossing.add_each.Goals as goal
 

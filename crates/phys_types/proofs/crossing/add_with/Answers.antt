@@ -1,4 +1,4 @@
-use Rattle.std.proofs.Common.{get_or, refl, arith}
+use Rattle.std.proofs.Common.{refl, arith}
 use Rattle.phys_types.specs.Found.{held}
 use Rattle.phys_types.proofs.Crossed.{each_start, each_more, IsWithAt, with_one, with_all}
 use Rattle.phys_types.proofs.crossing.add_with.Goals as goal

@@ -1,4 +1,4 @@
-use Rattle.std.proofs.Common.{◌≡◌, sym, subst, ◌∙◌, Some, slice_get, arith}
+use Rattle.std.proofs.Common.{sym, subst, ◌∙◌, arith}
 use Rattle.c_types.specs.Equality.{physically_equal}
 use Rattle.phys_types.specs.Shown.{IsLayoutOf}
 use Rattle.phys_types.proofs.Queue.{follow_start, follow_more, follow_done, equal_at, step_within, step_small}

@@ -1,9 +1,8 @@
-use Rattle.std.specs.Prelude.{◌≢◌, IfOk}
-use Rattle.std.proofs.Common.{◌≡◌, List, sym, subst, ◌∙◌}
+use Rattle.std.specs.Prelude.{◌≢◌}
+use Rattle.std.proofs.Common.{List, sym, subst}
 use Rattle.std.specs.List.{AllPairs}
 use Rattle.std.proofs.lemmas.Result.{IfOk-weaker}
 use Rattle.cc_base.specs.declared.number.NodeId.{NodeId}
-use Rattle.phys_types.specs.Rounds.{AreAllKept}
 use Rattle.phys_types.proofs.Viewing.{kept_in, layout_in, all_kept}
 use Rattle.phys_types.proofs.AllPairsFound.{found_equal, found_nodes}
 use Rattle.phys_types.proofs.phys.settled_pairs.Goals as goal

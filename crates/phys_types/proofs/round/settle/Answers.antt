@@ -1,39 +1,43 @@
-use Rattle.std.proofs.Common.{◌≡◌, ℕ, List, sym, subst, ◌∙◌}
+use Rattle.std.proofs.Common.{ℕ, List, length, ap, sym, subst, ◌∙◌}
+use Rattle.cc_base.specs.declared.number.TypeId.{TypeId}
+use Rattle.c_types.specs.Table.{IsType}
 use Rattle.phys_types.specs.declared.spot.Layout.{Layout}
 use Rattle.phys_types.specs.Numbers.{number_in, same_number}
 use Rattle.phys_types.specs.Refining.{IsCoarser}
-use Rattle.phys_types.specs.Rounds.{AreShown, IsRound}
-use Rattle.phys_types.proofs.Finer.{coarser_start, coarser_round, settled_coarser}
+use Rattle.phys_types.specs.Rounds.{AreShown, AreStable}
+use Rattle.phys_types.specs.Shown.{IsKept}
 use Rattle.phys_types.proofs.Refined.{wide_numbers}
-use Rattle.phys_types.proofs.Settled.{lists_equal}
+use Rattle.phys_types.proofs.Stable.{all_kept, settled_stable}
 use Rattle.phys_types.proofs.Viewing.{order_closed}
 use Rattle.phys_types.proofs.round.settle.Goals as goal
 
-pub rounds-init : goal.rounds-init
-rounds-init c =
-    let start : IsCoarser c.args.types.now c.deref.result.now = coarser_start c.args.types.now c.deref.result.now _ (c.deref.ensures.value ∙ c.in_ok-start.ensures) in
-    c.in_ok-finer.ensures (same_number (number_in c.deref.result.now)) c.args.places.now c.requires.order
-    (wide_numbers c.args.types.now c.requires.formed c.deref.result.now start)
-    (subst (λ (ls : List Layout). AreShown c.args.types.now (same_number (number_in c.deref.result.now)) c.args.order.now ls) (sym c.deref-2.ensures.value) c.in_ok-first.ensures.shown)
-    (subst (IsCoarser c.args.types.now) (sym c.deref-3.ensures.value)
-    (coarser_round c.args.types.now c.requires.formed c.args.order.now c.args.places.now c.requires.order c.deref.result.now c.in_ok-first.first.numbers.items
-    c.in_ok-first.first.layouts.items c.in_ok-first.ensures start))
+pub are_stable-requires-clause-shown : goal.are_stable-requires-clause-shown
+are_stable-requires-clause-shown c =
+    subst (λ (ls : List Layout). AreShown c.args.types.now (same_number (number_in c.deref-in-rounds-2.result.now)) c.args.order.now ls) (sym c.deref-in-rounds.ensures.value)
+    (subst (λ (ns : List ℕ). AreShown c.args.types.now (same_number (number_in ns)) c.args.order.now c.in_ok-layouts.layouts.items)
+    (c.deref.ensures.value ∙ sym c.deref-in-rounds-2.ensures.value) c.in_ok-layouts.ensures.shown)
 
-pub returns-then-eq : goal.returns-then-eq
-returns-then-eq c =
-    settled_coarser c.args.types.now c.requires.formed c.args.order.now c.args.places.now c.requires.order c.rounds.finer.items c.in_ok-round.round.numbers.items
-    c.in_ok-round.round.layouts.items
-    (subst (λ (ns : List ℕ). IsRound c.args.types.now (same_number (number_in ns)) c.args.order.now c.in_ok-round.round.numbers.items c.in_ok-round.round.layouts.items)
-    c.deref-in-rounds.ensures.value c.in_ok-round.ensures)
-    c.rounds.invariant (sym c.as_slice.ensures.value ∙ lists_equal _ _ c.eq.result c.eq.ensures c.if-eq.true ∙ c.as_slice-in-rounds.ensures.value)
+pub returns-then-stable : goal.returns-then-stable
+returns-then-stable c =
+    settled_stable c.args.types.now c.requires.formed c.args.order.now c.args.places.now c.requires.order c.rounds.numbers.items c.in_ok-layouts.layouts.items
+    c.in_ok-layouts.ensures.all
+    (subst (λ (ns : List ℕ). AreShown c.args.types.now (same_number (number_in ns)) c.args.order.now c.in_ok-layouts.layouts.items) c.deref.ensures.value
+    c.in_ok-layouts.ensures.shown)
+    c.rounds.invariant (subst (AreStable c.args.types.now c.args.order.now) c.deref-in-rounds-2.ensures.value (c.in_ok-stable.ensures c.if-stable.true))
+
+pub refine-requires-clause-kept : goal.refine-requires-clause-kept
+refine-requires-clause-kept c =
+    subst (λ (ls : List Layout). (t : TypeId) → IsType c.args.types.now t → IsKept c.args.places.now ls t) (sym c.deref-in-rounds-3.ensures.value)
+    (all_kept c.args.types.now c.requires.formed c.args.order.now c.args.places.now c.requires.order c.in_ok-layouts.layouts.items c.in_ok-layouts.ensures.all)
 
 pub rounds-preserved : goal.rounds-preserved
 rounds-preserved c =
-    coarser_round c.args.types.now c.requires.formed c.args.order.now c.args.places.now c.requires.order c.rounds.finer.items c.in_ok-round.round.numbers.items
-    c.in_ok-round.round.layouts.items
-    (subst (λ (ns : List ℕ). IsRound c.args.types.now (same_number (number_in ns)) c.args.order.now c.in_ok-round.round.numbers.items c.in_ok-round.round.layouts.items)
-    c.deref-in-rounds.ensures.value c.in_ok-round.ensures)
-    c.rounds.invariant
+    c.in_ok-numbers-2.ensures (same_number (number_in c.rounds.numbers.items)) c.args.order.now c.requires.order
+    (wide_numbers c.args.types.now c.requires.formed c.rounds.numbers.items c.rounds.invariant) (ap length c.deref-in-rounds-3.ensures.value ∙ c.in_ok-layouts.ensures.all)
+    (subst (λ (ls : List Layout). AreShown c.args.types.now (same_number (number_in c.rounds.numbers.items)) c.args.order.now ls) (sym c.deref-in-rounds-3.ensures.value)
+    (subst (λ (ns : List ℕ). AreShown c.args.types.now (same_number (number_in ns)) c.args.order.now c.in_ok-layouts.layouts.items) c.deref.ensures.value
+    c.in_ok-layouts.ensures.shown))
+    (subst (IsCoarser c.args.types.now) (sym c.deref-in-rounds-4.ensures.value) c.rounds.invariant)
 
 pub settle_by_levels-requires-clause-closed : goal.settle_by_levels-requires-clause-closed
 settle_by_levels-requires-clause-closed c = order_closed c.args.types.now c.args.order.now c.args.places.now c.requires.order c.requires.formed

@@ -1,4 +1,3 @@
-use Rattle.std.specs.Prelude.{OnOk}
 use Rattle.std.proofs.Common.{sym, ◌∙◌}
 use Rattle.std.proofs.lemmas.Result.{on_ok_weaker}
 use Rattle.phys_types.proofs.Tops.{top_up, top_down, top_up_tile, top_down_tile, no_tile}

@@ -1,5 +1,4 @@
-use Rattle.std.specs.Prelude.{OnOk}
-use Rattle.std.proofs.Common.{List, subst}
+use Rattle.std.proofs.Common.{subst}
 use Rattle.std.proofs.lemmas.Result.{on_ok_weaker}
 use Rattle.c_types.specs.Sound.{IsWellFormed}
 use Rattle.phys_types.proofs.Tops.{alike_near}

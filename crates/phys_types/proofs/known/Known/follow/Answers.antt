@@ -1,5 +1,4 @@
 use Rattle.std.proofs.Common.{List, sym, subst}
-use Rattle.cc_base.specs.declared.number.TypeId.{TypeId}
 use Rattle.c_types.specs.Table.{Entry}
 use Rattle.phys_types.specs.Standing.{AreEqualTypes}
 use Rattle.phys_types.proofs.Knowing.{known_kept}

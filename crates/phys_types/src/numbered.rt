@@ -1,0 +1,10 @@
+#![tactic(auto)]
+
+use cc_base::TypeId;
+
+/// A type and a number for it.
+#[derive(Clone, Copy, Debug, PartialEq, Eq)]
+pub(crate) struct Numbered {
+    pub(crate) ty: TypeId,
+    pub(crate) number: usize,
+}

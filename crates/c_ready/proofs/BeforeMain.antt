@@ -38,7 +38,7 @@ module _ (k : Context) (runs : k.runs ≡ true) (homes : List NodeId)
         q.1,
         elim q.2 [
           | inl v ↦ absurd (apart h g t v)
-          | inr r ↦ inr (record { first = r.first; made = r.made; alike = r.alike; declared = r.declared })
+          | inr r ↦ inr (record { first = r.first; made = r.made; alike = r.alike; declared = r.declared; begun = r.begun })
         ],
       )
 

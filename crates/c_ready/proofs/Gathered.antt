@@ -26,11 +26,11 @@ module _ (static : Stage) where
       → IsReadyInitialiser (initialised_in h (in_function vs) static) t i → Statics (initialises (static_home h) t at i)
   initialiser-static vs (home.Static n) t at i o h r =
       All-cons (IsReadyStatic static) (record { home = n; type = t; place = at; initialiser = i }) []
-      (r, (o.0, o.1, inr (record { first = o.2.first; made = o.2.made; alike = o.2.alike; declared = o.2.declared })))
+      (r, (o.0, o.1, inr (record { first = o.2.first; made = o.2.made; alike = o.2.alike; declared = o.2.declared; begun = o.2.begun })))
       (All-nil (IsReadyStatic static))
   initialiser-static vs (home.Known n) t at i o h r =
       All-cons (IsReadyStatic static) (record { home = n; type = t; place = at; initialiser = i }) []
-      (r, (o.0, o.1, inr (record { first = o.2.first; made = o.2.made; alike = o.2.alike; declared = o.2.declared })))
+      (r, (o.0, o.1, inr (record { first = o.2.first; made = o.2.made; alike = o.2.alike; declared = o.2.declared; begun = o.2.begun })))
       (All-nil (IsReadyStatic static))
   initialiser-static vs (home.Local n) t at i o h r = All-nil (IsReadyStatic static)
   initialiser-static vs home.None t at i o h r = absurd h

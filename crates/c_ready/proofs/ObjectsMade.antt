@@ -30,7 +30,7 @@ IsHomeWhole T other t = Unit {0}
 
 abbrev pub IsObjectWhole : Table → Made → Type 0
 IsObjectWhole T (Name name home t) = IsHomeWhole T home t
-IsObjectWhole T (Literal pieces home t) = IsWholeIn T t
+IsObjectWhole T (Literal pieces home t) = IsStringType T pieces t
 IsObjectWhole T m = Unit {0}
 
 module _ (T : Table) where
@@ -43,7 +43,7 @@ module _ (T : Table) where
   pub copied : (t : TypeId) → All P (Copy t ∷ [])
   copied t = All-cons P (Copy t) [] tt (All-nil P)
 
-  string-whole : (pieces : List StringPiece) (t : TypeId) → IsStringType T pieces t → IsWholeIn T t
+  pub string-whole : (pieces : List StringPiece) (t : TypeId) → IsStringType T pieces t → IsWholeIn T t
   string-whole pieces t h = (h.shape.0, ap (λ (x : TypeShape). is_complete_entry x (members_at T t)) h.shape.1)
 
   stars-objects : (stars : List TypedStar) → All P (made_by_stars stars)
@@ -125,7 +125,7 @@ module _ (T : Table) where
 
     pub place-objects : (p : TypedPlace) (s s' : Scopes) → IsPlace T p s s' → All P (made_by_place p)
     place-objects (typed.Variable name home t) s s' h = All-nil P
-    place-objects (typed.String pieces home t) s s' h = All-cons P (Literal pieces home t) [] (string-whole pieces t h.1) (All-nil P)
+    place-objects (typed.String pieces home t) s s' h = All-cons P (Literal pieces home t) [] h.1 (All-nil P)
     place-objects (typed.ParenPlace at p) s s' h = place-objects p s s' h
     place-objects (typed.Target at e t) s s' h = value-objects e s s' h.0
     place-objects (typed.Element which a at b t) s s' h =

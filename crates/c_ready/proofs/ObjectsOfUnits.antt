@@ -16,8 +16,8 @@ use Rattle.c_typing.specs.Typing.{AreSpecifiers, AreAlone}
 use Rattle.c_unit_typing.specs.Initialisers.{IsInitialiser, AreItems, is_only_text, is_char_array}
 use Rattle.c_unit_typing.specs.Units as units
 use Rattle.c_unit_typing.specs.Units.{Storage, Around, in_a_loop, in_a_switch, storage_of, with_scopes, entering_known, leaving_known, AreDeclarators, IsDeclaration, IsDropped, IsTestedOrNone, IsReturned, IsStatement, AreBlockItems}
-use Rattle.c_ready.specs.Ready.{Stage, Named, IsReadyHome, AreReadyDeclarators, IsReadyDeclaration, IsReadyStatement, AreReadyBlockItems, IsNode, IsWhole}
-use Rattle.c_ready.proofs.ObjectsMade.{IsHomeWhole, IsObjectWhole, copied, value-objects, place-objects, specifiers-objects, form-objects}
+use Rattle.c_ready.specs.Ready.{Stage, Named, IsTextOf, IsReadyHome, AreReadyDeclarators, IsReadyDeclaration, IsReadyStatement, AreReadyBlockItems, IsNode, IsWhole}
+use Rattle.c_ready.proofs.ObjectsMade.{IsHomeWhole, IsObjectWhole, string-whole, copied, value-objects, place-objects, specifiers-objects, form-objects}
 use Rattle.c_ready.proofs.Basics.{all-left, all-right}
 
 module _ (static : Stage) where
@@ -182,8 +182,22 @@ module _ (k : Stage) where
     where
       own : (m : Made) → All (IsNode k) (node_made m) → IsObjectWhole k.table m → All Planned (static_made m)
       own (Name name (home.Static n) t) a q = All-cons Planned (named_object name n t) [] (All-head (IsNode k) n [] a, q) (All-nil Planned)
-      own (Literal pieces n t) a q = All-cons Planned _ [] (All-head (IsNode k) n [] a, q) (All-nil Planned)
+      own (Literal pieces n t) a q = All-cons Planned _ [] (All-head (IsNode k) n [] a, string-whole k.table pieces t q) (All-nil Planned)
       own m a q = All-nil Planned
+
+  abbrev IsText : MadeObject → Type 0
+  IsText o = IsTextOf k.table o.type o.literal
+
+  pub statics-texts : (xs : List Made) → All (IsObjectWhole k.table) xs → All IsText (flat_map static_made xs)
+  statics-texts [] h = All-nil IsText
+  statics-texts (m ∷ ms) h =
+      All-append IsText (static_made m) (flat_map static_made ms) (own m (All-head (IsObjectWhole k.table) m ms h))
+      (statics-texts ms (All-tail (IsObjectWhole k.table) m ms h))
+    where
+      own : (x : Made) → IsObjectWhole k.table x → All IsText (static_made x)
+      own (Name name (home.Static n) t) q = All-cons IsText (named_object name n t) [] tt (All-nil IsText)
+      own (Literal pieces n t) q = All-cons IsText _ [] q (All-nil IsText)
+      own x q = All-nil IsText
 
   pub locals-planned : (xs : List Made) → AreNodes xs → All (IsObjectWhole k.table) xs → All Planned (flat_map local_made xs)
   locals-planned xs nodes h = gathered local_made own xs nodes h

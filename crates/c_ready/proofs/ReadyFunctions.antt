@@ -239,7 +239,7 @@ module _ (base : Context) (f : DefinedFunction) where
     o.1,
     elim o.2 [
       | inl v ↦ absurd (no-member (h, t) v)
-      | inr r ↦ inr (record { first = r.first; made = r.made; alike = r.alike; declared = r.declared })
+      | inr r ↦ inr (record { first = r.first; made = r.made; alike = r.alike; declared = r.declared; begun = r.begun })
     ],
   )
 

@@ -20,7 +20,7 @@ use Rattle.c_unit_typing.specs.Units as units
 use Rattle.c_unit_typing.specs.Units.{bytes_of_name, with_scopes, Storage, AsTypedef, AsExtern, AsStatic, AsAutomatic, Unstored, AgreesWith, unless_here, unless_linked, IsLinkedHome, IsLinked, IsLinkedObject, IsBlockObject, IsStaticOrLocal, IsTypedefDeclared, IsOrdinaryDeclared, IsNameDeclared}
 use Rattle.c_unit_typing.specs.Initialisers.{is_among, with_home}
 use Rattle.c_ready.specs.Declarators.{unless_typedef}
-use Rattle.c_ready.proofs.Contexts.{IsFunctionDeclared, IsStaticNamed, IsReadyHome, Context, IsNode, IsWhole, IsObjectOf}
+use Rattle.c_ready.proofs.Contexts.{IsObjectDeclared, IsFunctionDeclared, IsStaticNamed, IsReadyHome, Context, IsNode, IsWhole, IsObjectOf}
 use Rattle.c_ready.proofs.Walked.{entry-from, AreDeclared, IsOuter, declared-of, same-outer, both-outer, outer-same}
 use Rattle.c_ready.proofs.Suits.{whole-in}
 use Rattle.c_ready.proofs.ReadyParts.{Known, IsFunctionSeen, defined_in, IsMade}
@@ -101,7 +101,7 @@ is-after T name what m m' h = h.after
 
 -- the declarator names this object or function
 pub record Declares (d : TypedDeclarator) (id : Identifier) (t : TypeId) (h : Home) : Type 0 where
-  pub named : bytes_of_name (name_of d) ≡ id.bytes
+  pub named : name_of d ≡ Some id
   pub type : declared_type d ≡ t
   pub home : home_of d ≡ h
 
@@ -129,7 +129,7 @@ module _ (k : Context) (f : Fixed k) where
             let p = first-linked k f id.bytes what m a b refl l in (
               tt,
               linked-in k f id.bytes what m a b i
-                  (function-seen id.bytes t b h.linked_agrees p.0 p.1 (d, All-head (Contains k.declarators) d [] told, own.named, own.type))
+                  (function-seen id.bytes t b h.linked_agrees p.0 p.1 (d, All-head (Contains k.declarators) d [] told, (id, own.named, refl), own.type))
                   (λ e. tt),
             );
       })
@@ -154,11 +154,12 @@ module _ (k : Context) (f : Fixed k) where
         made = made.1;
         alike = inl refl;
         declared = (d, told, ap static_home own.home, own.type);
+        begun = (d, told, ap static_home own.home, own.type);
       } in (
         subst (λ (x : NodeId). IsObjectOf true k x t) h (made.0, w, inr named),
         (made.0, w, named),
         (t, subst (λ (x : NodeId). Contains k.statics (x, t)) h made.1),
-        (λ q. subst (λ (x : NodeId). IsLinkedSeen k id.bytes (declared.Object t x)) h (made.0, made.1)),
+        (λ q. subst (λ (x : NodeId). IsLinkedSeen k id.bytes (declared.Object t x)) h (made.0, made.1, named.begun)),
       )
   home-seen d id t (home.Known n) node (Some (declared.Object u x)) h agrees seen own told made w =
       let first = seen (declared.Object u x) refl in
@@ -168,6 +169,7 @@ module _ (k : Context) (f : Fixed k) where
         made = subst (λ (y : NodeId). Contains k.statics (y, u)) h.0 first.1;
         alike = inr agrees.0;
         declared = (d, told, ap static_home own.home, own.type);
+        begun = subst (λ (y : NodeId). IsObjectDeclared k y u) h.0 first.2;
       } in (
         subst (λ (y : NodeId). IsObjectOf true k y t) h.1 (node, w, inr named),
         (node, w, named),
@@ -284,6 +286,7 @@ module _ (k : Context) (f : Fixed k) where
               made = own.1;
               alike = inl refl;
               declared = (d, All-head (Contains k.declarators) d [] told, ap static_home declares.home, declares.type);
+              begun = (d, All-head (Contains k.declarators) d [] told, ap static_home declares.home, declares.type);
             } in
             let r = b.1 i (record { followed = l.followed; lengths = l.lengths; linked = l.linked }) own.0 (inr named) in (
               (own.0, r.0.1, named),

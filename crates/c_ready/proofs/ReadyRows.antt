@@ -148,6 +148,7 @@ x-ready = (
     made = (1, lit< tt, refl);
     alike = inl refl;
     declared = (typed.Declares (plain (home.Static (node 2)) (codes "x")) (type 5), (1, lit< tt, refl), refl, refl);
+    begun = (typed.Declares (plain (home.Static (node 2)) (codes "x")) (type 5), (1, lit< tt, refl), refl, refl);
   }),
 )
 
@@ -161,6 +162,7 @@ s-ready = (
     made = (3, lit< tt, refl);
     alike = inl refl;
     declared = (typed.Declares (plain (home.Static (node 7)) (codes "s")) (type 5), (5, lit< tt, refl), refl, refl);
+    begun = (typed.Declares (plain (home.Static (node 7)) (codes "s")) (type 5), (5, lit< tt, refl), refl, refl);
   }),
 )
 
@@ -176,7 +178,7 @@ g-ready = (
     named = refl;
     first = type 9;
     alike = (inl refl, inl refl);
-    declared = (typed.Declares (without_parameters (codes "g")) (type 9), (7, lit< tt, refl), refl, refl);
+    declared = (typed.Declares (without_parameters (codes "g")) (type 9), (7, lit< tt, refl), (name (codes "g"), refl, refl), refl);
   },
 )
 

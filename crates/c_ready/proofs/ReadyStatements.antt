@@ -108,9 +108,8 @@ module _ (k : Context) (f : Fixed k) where
       let first = walks k f (made_by_form form t) m h.inside (Walked.form-kept k.table (Known k) (values k) form m.scopes h.inside h.parts)
       (λ a made. form-ready (unread k) f.formed refl form t m.scopes h.inside h.parts (at-unread k m.scopes h.inside a)
       (mu k (made_by_form form t) made)) in
-      let named = ap bytes_of_name h.named in
       let second = name-step k f file q storage (typed.Declares form t) h.name t (home_of_form form) n m'
-      (record { named = named; type = refl; home = refl }) h.declares in
+      (record { named = h.named; type = refl; home = refl }) h.declares in
       record {
         grown = both-grown first.grown second.grown;
         ready = λ i l made told.

@@ -340,6 +340,7 @@ mutual
             (at-left k s h.1 s' (Walked.ended-kept k.table (Known k) (values k) members t h.1 s' h.4).stays a)) m,
         e.0,
         e.1,
+        Walked.begun-kind k.table (Known k) (values k) name which t s h.0 a.names h.2,
       )
   specifier-ready k w u (typed.Enum at name) s s' h a m = tt
   specifier-ready k w u (typed.Enumeration at name brace all comma) s s' h a m =

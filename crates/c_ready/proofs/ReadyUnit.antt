@@ -18,7 +18,7 @@ use Rattle.c_ready.proofs.ReadyMade.{unit-ready, within}
 use Rattle.c_ready.proofs.HomesApart.{homes-distinct}
 use Rattle.c_ready.proofs.NodesOnce.{nodes-there, pointees-one, homes-other}
 use Rattle.c_ready.proofs.ObjectsMade.{IsObjectWhole, specifiers-objects, form-objects}
-use Rattle.c_ready.proofs.ObjectsOfUnits.{home-whole, declaration-objects, block-objects, statics-planned, locals-planned}
+use Rattle.c_ready.proofs.ObjectsOfUnits.{home-whole, declaration-objects, block-objects, statics-planned, statics-texts, locals-planned}
 use Rattle.c_ready.proofs.Gathered.{functions-gathered, initialisers-gathered, at-its-place}
 use Rattle.c_ready.proofs.Basics.{flat-left, flat-right}
 
@@ -89,6 +89,7 @@ well-typed-ready T u w =
       initialisers = initialisers-gathered (static_stage T u) u all.0;
       objects = record {
         plans = statics-planned (static_stage T u) (made_by_unit u) nodes all.1;
+        texts = statics-texts (static_stage T u) (made_by_unit u) all.1;
         distinct = homes-distinct u w.numbered;
       };
       nodes = nodes-there T u (known_before u) w.after w.basic w.numbered w.typed w.types all.0;

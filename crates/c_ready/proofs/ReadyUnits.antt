@@ -24,7 +24,7 @@ use Rattle.c_typing.specs.Rules.{number_of_shape}
 use Rattle.c_unit_typing.specs.Units as units
 use Rattle.c_unit_typing.specs.Units.{with_scopes, entering_known, leaving_known}
 use Rattle.c_unit_typing.specs.Initialisers.{Slot, slot_of_members, IsInitialiser, AreItems, IsSlot, IsText, slot_of_shape, items_count, is_char_array, char_count_of_shape, char_count_of_element, is_only_text}
-use Rattle.c_ready.proofs.Contexts.{IsReadyInitialiser, AreReadyItems, Context, IsNode, IsWhole, MayCall}
+use Rattle.c_ready.proofs.Contexts.{IsObjectDeclared, IsReadyInitialiser, AreReadyItems, Context, IsNode, IsWhole, MayCall}
 use Rattle.c_ready.proofs.Walked.{AreDeclared, IsOuter, IsWalked, entered-of, same-outer, both-outer, outer-of, left-of}
 use Rattle.c_ready.proofs.Walked
 use Rattle.c_ready.proofs.Suits.{whole-in, is_in, shaped-integer, assigned-suits}
@@ -161,7 +161,7 @@ mutual
 -- What is known of a unit between two points
 
 abbrev pub IsLinkedSeen : Context → scopes.Name → Declared → Type 0
-IsLinkedSeen k name (declared.Object t n) = IsNode k n × Contains k.statics (n, t)
+IsLinkedSeen k name (declared.Object t n) = IsNode k n × Contains k.statics (n, t) × IsObjectDeclared k n t
 IsLinkedSeen k name (declared.Function t) = Unit {0}
 IsLinkedSeen k name (declared.Typedef t) = Unit {0}
 IsLinkedSeen k name (declared.Enumerator z) = Unit {0}

@@ -56,7 +56,7 @@ closed-followed T s c t h = by (shape_at T t) refl h
 
 -- Definitions have linkage
 
-abbrev IsDefinedIn : Table → List (scopes.Name × Declared) → DefinedFunction → Type 0
+abbrev pub IsDefinedIn : Table → List (scopes.Name × Declared) → DefinedFunction → Type 0
 IsDefinedIn T linked d =
     (first : TypeId) × (entry_of linked (bytes_of_name (name_of d.declarator)) ≡ Some (declared.Function first))
     × IsAlike T first (declared_type d.declarator)
@@ -138,7 +138,7 @@ grown-defined : (T : Table) (l l' : List (scopes.Name × Declared))
 grown-defined T l l' g d h = (h.0, g (bytes_of_name (name_of d.declarator)) (declared.Function h.0) h.1, h.2)
 
 module _ (T : Table) (w : IsWellFormed T) where
-  unit-defined : (u : TypedTranslationUnit) (m m' : units.Known) → IsUnitTyped T u m m' → All (IsDefinedIn T m'.linked) (functions_of u)
+  pub unit-defined : (u : TypedTranslationUnit) (m m' : units.Known) → IsUnitTyped T u m m' → All (IsDefinedIn T m'.linked) (functions_of u)
   unit-defined typed.NoExternal m m' h = All-nil (IsDefinedIn T m'.linked)
   unit-defined (typed.AndExternal u d) m m' h =
       let g = declaration-step (file_of (bare_stage T)) (fixed-file (bare_stage T) w (no_functions T)) true (λ e. absurd (true≢false e)) d h.0 m'

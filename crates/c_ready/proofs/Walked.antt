@@ -23,13 +23,14 @@ use Rattle.c_typing.specs.Declarators.{is_void_list, member_names}
 use Rattle.c_typing.specs.Rules.{number_of_shape}
 use Rattle.c_typing.specs.Scopes.{Name, Level, Scopes, empty_level, at_innermost, without_innermost, with_name, with_tag, tag_in, tag_here, entry_of, name_in, or_outer, entering, leaving, members_named, is_no_list, is_complete_shape_at, innermost}
 use Rattle.c_typing.specs.Typing.{IsTyped, IsPlace, AreTyped, IsTypeName, AreSpecifiers, AreAlone, AreListed, IsSpecifier, AreMembers, AreMemberDeclarators, AreEnumerators, IsForm, IsCore, AreParts, AreParameters, IsDeclared, IsNewName, IsNewAggregate, IsTagged, BeginsAggregate, EndsAggregate, DeclaresParameter, tagging, counting_aggregate, tag_named_here, enumerating, shape_of_kind}
+use Rattle.c_ready.specs.Ready.{is_of_kind}
 use Rattle.c_ready.proofs.Basics.{some-same, no_true, bytes-same}
 
 -- What is declared
 
 -- a tag names a struct or a union where it says so
 abbrev pub IsTagOf : Table → Tag → Type 0
-IsTagOf T (tag.Aggregate which t) = is_aggregate_shape (shape_at T t) ≡ true
+IsTagOf T (tag.Aggregate which t) = is_of_kind which (shape_at T t) ≡ true
 IsTagOf T tag.Enumeration = Unit {0}
 
 pub record IsLevelOf (T : Table) (Q : Name → Declared → Type 0) (level : Level) : Type 0 where
@@ -230,9 +231,25 @@ module _ (T : Table) (Q : Name → Declared → Type 0) (values : (name : Name) 
       (λ l own. record { names = own.names; tags = All-push (λ (e : Name × Tag). IsTagOf T e.1) l.tags (name.bytes, what) own.tags q })
       s (tagging (Some name) what s) refl
 
-  kind-aggregate : (which : AggregateKind) (n : ℕ) (t : TypeId) → HasShape T t (shape_of_kind which n) → is_aggregate_shape (shape_at T t) ≡ true
-  kind-aggregate kind.Struct n t h = ap is_aggregate_shape h.1
-  kind-aggregate kind.Union n t h = ap is_aggregate_shape h.1
+  kind-aggregate : (which : AggregateKind) (n : ℕ) (t : TypeId) → HasShape T t (shape_of_kind which n) → is_of_kind which (shape_at T t) ≡ true
+  kind-aggregate kind.Struct n t h = ap (is_of_kind kind.Struct) h.1
+  kind-aggregate kind.Union n t h = ap (is_of_kind kind.Union) h.1
+
+  of-kind : (which : AggregateKind) (x : TypeShape) → is_of_kind which x ≡ true → is_aggregate_shape x ≡ true
+  of-kind kind.Struct (Struct n) h = refl
+  of-kind kind.Union (Union n) h = refl
+  of-kind kind.Struct Void h = no_true h
+  of-kind kind.Struct (Integer a s) h = no_true h
+  of-kind kind.Struct (Pointer n t) h = no_true h
+  of-kind kind.Struct (Array t n) h = no_true h
+  of-kind kind.Struct (Function ps r) h = no_true h
+  of-kind kind.Struct (Union n) h = no_true h
+  of-kind kind.Union Void h = no_true h
+  of-kind kind.Union (Integer a s) h = no_true h
+  of-kind kind.Union (Pointer n t) h = no_true h
+  of-kind kind.Union (Array t n) h = no_true h
+  of-kind kind.Union (Function ps r) h = no_true h
+  of-kind kind.Union (Struct n) h = no_true h
 
   counting-kept : (s : Scopes) → IsWalked T Q s (counting_aggregate s)
   counting-kept s = record {
@@ -274,7 +291,7 @@ module _ (T : Table) (Q : Name → Declared → Type 0) (values : (name : Name) 
   -- a tag that a specifier names is that of a struct or a union
   tagged-is : (o : Option Tag) (which : AggregateKind) (name : Identifier) (t : TypeId) (s s' : Scopes)
       → ((found : Tag) → o ≡ Some found → IsTagOf T found) → IsTagged T o which name t s s'
-      → is_aggregate_shape (shape_at T t) ≡ true
+      → is_of_kind which (shape_at T t) ≡ true
   tagged-is (Some found) which name t s s' seen h = subst (IsTagOf T) h.0 (seen found refl)
   tagged-is None which name t s s' seen h = kind-aggregate which (length s.members) t h.shape
 
@@ -282,13 +299,25 @@ module _ (T : Table) (Q : Name → Declared → Type 0) (values : (name : Name) 
       → IsTagged T (tag_in s.levels name.bytes) which name t s s'
       → is_aggregate_shape (shape_at T t) ≡ true
   tagged-aggregate which name t s s' d h =
-      tagged-is (tag_in s.levels name.bytes) which name t s s' (λ found q. tag-seen T Q name.bytes found s.levels d q) h
+      of-kind which (shape_at T t) (tagged-is (tag_in s.levels name.bytes) which name t s s' (λ found q. tag-seen T Q name.bytes found s.levels d q) h)
 
   pub alone-aggregate : (which : AggregateKind) (name : Identifier) (t : TypeId) (s s' : Scopes) → AreDeclared T Q s.levels
       → IsTagged T (tag_here s.levels name.bytes) which name t s s'
       → is_aggregate_shape (shape_at T t) ≡ true
   alone-aggregate which name t s s' d h =
-      tagged-is (tag_here s.levels name.bytes) which name t s s' (λ found q. tag-seen-here T Q name.bytes found s.levels d q) h
+      of-kind which (shape_at T t) (tagged-is (tag_here s.levels name.bytes) which name t s s' (λ found q. tag-seen-here T Q name.bytes found s.levels d q) h)
+
+  -- what `struct` or `union` with members names is as the keyword says
+  begun-is : (o : Option Tag) (which : AggregateKind) (name : Option Identifier) (t : TypeId) (s s' : Scopes)
+      → ((found : Tag) → o ≡ Some found → IsTagOf T found) → BeginsAggregate T o which name t s s' → is_of_kind which (shape_at T t) ≡ true
+  begun-is (Some found) which name t s s' seen h = subst (IsTagOf T) h.0 (seen found refl)
+  begun-is None which name t s s' seen h = kind-aggregate which (length s.members) t h.shape
+
+  pub begun-kind : (name : Option Identifier) (which : AggregateKind) (t : TypeId) (s s' : Scopes) → AreDeclared T Q s.levels
+      → BeginsAggregate T (tag_named_here s name) which name t s s' → is_of_kind which (shape_at T t) ≡ true
+  begun-kind None which t s s' d h = begun-is None which None t s s' (λ found q. absurd (none-some found q)) h
+  begun-kind (Some name) which t s s' d h =
+      begun-is (tag_here s.levels name.bytes) which (Some name) t s s' (λ found q. tag-seen-here T Q name.bytes found s.levels d q) h
 
   -- Parameters
 

@@ -5,11 +5,15 @@ use Rattle.cc_base.specs.declared.place.Place.{Place}
 use Rattle.cc_base.specs.declared.number.NodeId.{NodeId}
 use Rattle.cc_base.specs.declared.number.TypeId.{TypeId}
 use Rattle.integers.specs.Arithmetic.{IntegerType, int, long, unsigned_long, converted}
-use Rattle.c_types.specs.declared.shape.TypeShape.TheVariants.{Integer, Pointer, Array, Function}
-use Rattle.c_types.specs.Table.{Table, HasShape, IsType, IsAggregate, IsComplete, members_at}
+use Rattle.c_types.specs.declared.shape.TypeShape.TheVariants.{Integer, Pointer, Array, Function, Struct, Union}
+use Rattle.c_types.specs.declared.shape.TypeShape.{TypeShape}
+use Rattle.c_types.specs.Table.{Table, HasShape, IsType, IsAggregate, IsComplete, shape_at, members_at}
 use Rattle.c_types.specs.Layouts.{size_of, member_at}
 use Rattle.c_types.specs.Sameness.{IsSameType}
 use Rattle.c_tree.specs.declared.leaf.Identifier.{Identifier}
+use Rattle.c_tree.specs.declared.leaf.StringPiece.{StringPiece}
+use Rattle.c_tree.specs.declared.operator.AggregateKind.{AggregateKind}
+use Rattle.c_tree.specs.declared.operator.AggregateKind.TheVariants as aggregate
 use Rattle.c_tree.specs.declared.operator.Assignment.{Assignment}
 use Rattle.c_tree.specs.declared.typed_word.Conversion.{Conversion}
 use Rattle.c_tree.specs.declared.typed_word.Conversion.TheVariants as conversion
@@ -80,14 +84,17 @@ IsObjectDeclared k h t = (d : TypedDeclarator) × Contains k.declarators d × (s
 
 -- a declarator declares the function of this name with the type t
 abbrev pub IsFunctionDeclared : Stage → Name → TypeId → Type 0
-IsFunctionDeclared k name t = (d : TypedDeclarator) × Contains k.declarators d × (bytes_of_name (name_of d) ≡ name) × (declared_type d ≡ t)
+IsFunctionDeclared k name t = (d : TypedDeclarator) × Contains k.declarators d
+    × ((id : Identifier) × (name_of d ≡ Some id) × (id.bytes ≡ name)) × (declared_type d ≡ t)
 
 -- an object that lives as long as the program, by one of its declarations
 pub record IsStaticNamed (k : Stage) (h : NodeId) (t : TypeId) : Type 0 where
   pub first : TypeId
   pub made : Contains k.statics (h, first)
   pub alike : IsAlike k.table first t
+  -- a declarator declares it with this type, and one with the first
   pub declared : IsObjectDeclared k h t
+  pub begun : IsObjectDeclared k h first
 
 -- what runs names a variable of the function or a static object; what does not may name a parameter of a prototype, which is no object
 abbrev pub IsObjectOf : Bool → Stage → NodeId → TypeId → Type 0
@@ -145,6 +152,12 @@ IsPointerUpdated k operator p e t =
 abbrev pub IsUpdated : Stage → Assignment → TypedPlace → Place → TypedExpr → TypeId → Type 0
 IsUpdated k operator p at e t =
     IsTrue (is_compound operator) × IsLvalue p × (IsIntegerUpdate k.table (assigning operator) p at e t ⊎ IsPointerUpdated k operator p e t)
+
+-- a struct or a union, as its keyword says
+abbrev pub is_of_kind : AggregateKind → TypeShape → Bool
+is_of_kind aggregate.Struct (Struct number) = true
+is_of_kind aggregate.Union (Union number) = true
+is_of_kind which shape = false
 
 -- calls stand in functions, and where nothing runs
 abbrev pub MayCall : Stage → Type 0
@@ -241,6 +254,7 @@ abbrev mutual
 
   pub IsReadySpecifier : Stage → TypedSpecifier → Type 0
   IsReadySpecifier k (typed.Aggregate which at name brace members t) = AreReadyMembers k members × IsWhole k t × IsAggregate k.table t
+      × IsTrue (is_of_kind which (shape_at k.table t))
   IsReadySpecifier k (typed.Enumeration at name brace all comma) = AreReadyEnumerators k all
   IsReadySpecifier k (typed.Keyword word) = Unit {0}
   IsReadySpecifier k (typed.Typedef name t) = Unit {0}
@@ -459,9 +473,15 @@ IsReadyStatic static i = IsReadyInitialiser static i.type i.initialiser × IsObj
 abbrev pub homes_of : TypedTranslationUnit → List ℕ
 homes_of u = map (λ (o : MadeObject). o.home.0) (statics_of u) ++ flat_map (λ f. map (λ (o : Named). o.0.0) (variables_named f)) (functions_of u)
 
+-- a literal is an array of chars, as many as it has bytes with its zero
+abbrev pub IsTextOf : Table → TypeId → Option (List StringPiece) → Type 0
+IsTextOf T t None = Unit {0}
+IsTextOf T t (Some pieces) = IsStringType T pieces t
+
 -- the objects of a unit
 pub record AreReadyObjects (static : Stage) (u : TypedTranslationUnit) : Type 0 where
   pub plans : All (λ (o : MadeObject). IsNode static o.home × IsWhole static o.type) (statics_of u)
+  pub texts : All (λ (o : MadeObject). IsTextOf static.table o.type o.literal) (statics_of u)
   -- no two objects have one home
   pub distinct : IsDistinct nat_eq (homes_of u)
 

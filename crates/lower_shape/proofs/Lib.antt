@@ -16,3 +16,15 @@ pub mod Statements
 pub mod Nests
 pub mod StatementNests
 pub mod Objects
+pub mod Lists
+pub mod Known
+pub mod UnitParts
+pub mod Bodies
+pub mod Functions
+pub mod Cells
+pub mod StatementCells
+pub mod SitesThere
+pub mod StaticsShaped
+pub mod MainShaped
+pub mod WholeCells
+pub mod Whole

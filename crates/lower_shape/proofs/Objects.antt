@@ -1,17 +1,15 @@
 -- The objects that a ready tree names are those that its code names: the plan at an object's number has the home and the type.
-use Rattle.std.proofs.Common.{ℕ, suc, ◌<◌, ◌+◌, ◌≡◌, ◌⊎◌, inl, inr, refl, ap, ◌∙◌, sym, subst, Bool, true, false, cond, not, nat_lt, length, List, [], ◌∷◌, map, arith, Option, Some, None, slice_get, IsTrue, ◌==◌}
+use Rattle.std.proofs.Common.{ℕ, suc, ◌<◌, ◌+◌, ◌≡◌, ◌⊎◌, inl, inr, refl, ap, ◌∙◌, sym, subst, Bool, true, false, cond, not, nat_lt, length, List, [], ◌∷◌, map, arith, Option, Some, None, slice_get, ◌==◌}
 use Rattle.std.specs.List.{position, position_or_len}
 use Rattle.std.proofs.lemmas.Bool.Decides.{nat_tests}
 use Rattle.cc_base.specs.declared.number.NodeId.{NodeId}
 use Rattle.cc_base.specs.declared.number.TypeId.{TypeId}
-use Rattle.c_types.specs.Equality.{physically_equal}
-use Rattle.c_types.specs.Sameness.{IsSameType}
-use Rattle.c_ready.specs.Ready.{Stage, IsAlike}
+use Rattle.c_ready.specs.Ready.{Stage}
 use Rattle.src_mem.specs.Memory.{Planned}
 use Rattle.src_machine.specs.World.{same_node}
 use Rattle.cil_form.specs.declared.number.Object.{Object}
 use Rattle.cil_form.specs.declared.number.Object.TheVariants as object
-use Rattle.cil_form.specs.Typing.{no_types, IsObject, IsNamedAs, AreDeclaredAlike, plan_of}
+use Rattle.cil_form.specs.Typing.{no_types, IsObject, IsNamedAs, plan_of}
 use Rattle.lower_rules.specs.Words.{object_in, object_by}
 use Rattle.lower_shape.specs.Stands.{Frame, stand, low}
 use Rattle.lower_shape.proofs.Addresses.{In}
@@ -93,21 +91,16 @@ pub record AreApart (f : Frame) : Type 0 where
   pub statics : (p q : Planned) → In p f.statics → In q f.statics → p.node ≡ q.node → p ≡ q
   pub between : (p q : Planned) → In p f.variables → In q f.statics → p.node ≡ q.node → ⊥
 
--- a variable of this home and type, or a static object that was first declared with a type like it
+-- a variable of this home and type, or a static object that may be named with the type
 abbrev pub IsPlanned : Stage → Frame → NodeId → TypeId → Type 0
 IsPlanned s f h t = In (record { type = t; node = h }) f.variables
-    ⊎ ((first : TypeId) × In (record { type = first; node = h }) f.statics × IsAlike s.table first t × AreDeclaredAlike f.sites first t)
+    ⊎ ((first : TypeId) × In (record { type = first; node = h }) f.statics × IsNamedAs (stand s f 0 no_types) first t)
 
 pub objects-known : (s : Stage) (f : Frame) → AreApart f
-    → ((t u : TypeId) → IsSameType s.table t u → IsTrue (physically_equal s.table t u))
     → (o : Object) (h : NodeId) (t : TypeId) → object_in (low s f) h ≡ Some o → IsPlanned s f h t → IsObject (stand s f 0 no_types) o h t
-objects-known s f apart same o h t e planned =
+objects-known s f apart o h t e planned =
     by (position (same_node h) (homes f.variables)) (position (same_node h) (homes f.statics)) refl refl e planned
   where
-    named : (first : TypeId) → IsAlike s.table first t → AreDeclaredAlike f.sites first t → IsNamedAs (stand s f 0 no_types) first t
-    named first (inl g) l = inl g
-    named first (inr g) l = inr (same first t g, l)
-
     variable : (i : ℕ) → IsFound h f.variables i → Some (object.Variable (record { 0 = i })) ≡ Some o
         → In (record { type = t; node = h }) f.variables → IsObject (stand s f 0 no_types) o h t
     variable i k r q = (
@@ -132,5 +125,5 @@ objects-known s f apart same o h t e planned =
     by (Some i) c g l r (inr q) =
         let k = at-place h f.variables i g in absurd (apart.between k.0 (record { type = q.0; node = h }) k.3 q.1 k.2)
     by None c g l r (inl q) = absurd (missed h f.variables (record { type = t; node = h }) g q refl)
-    by None (Some i) g l r (inr q) = static i q.0 (at-place h f.statics i l) r q.1 (named q.0 q.2 q.3)
+    by None (Some i) g l r (inr q) = static i q.0 (at-place h f.statics i l) r q.1 q.2
     by None None g l r (inr q) = absurd (cc (r))

@@ -228,7 +228,7 @@ module _ (s : Stage) (f : Frame) (w : Knows s f) (b : ℕ) (kept : Typing) where
           subst (λ c. IsWhole s c) (one m' m u y' (sym g.1 ∙ h.1)) hw,
           subst (λ c. IsWhole s c)
               (one n' n v v' (sym r.1 ∙ l.1)) lw,
-          w.same u v same,
+          w.same (type_of a) (type_of d) m' n' u v g r same,
           as-pointer K m' u (type_of a) t U (omega (arith, small)) g e,
           as-pointer K n' v (type_of d) (suc t) U small r k,
           (omega (arith, small), z),

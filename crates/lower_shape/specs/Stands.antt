@@ -60,7 +60,9 @@ pub record Knows (s : Stage) (f : Frame) : Type 0 where
   pub functions : (name : Identifier) (number : ℕ) (n : NodeId) (t : TypeId) (named : IsFunctionNamed s name number n t)
       → (v : TypeId) × (slice_get f.functions number ≡ Some v) × ArePhysicallyEqual (stand s f 0 no_types) named.function v
       × AreDeclaredAlike f.sites named.function v
-  pub same : (t u : TypeId) → IsSameType s.table t u → IsTrue (physically_equal s.table t u)
+  -- what two pointers point to is physically equal where it is the same type
+  pub same : (a b : TypeId) (m n : NodeId) (t u : TypeId) → HasShape s.table a (shape.Pointer m t) → HasShape s.table b (shape.Pointer n u)
+      → IsSameType s.table t u → IsTrue (physically_equal s.table t u)
   pub nodes : (t : TypeId) (n : NodeId) (u : TypeId) → HasShape s.table t (shape.Pointer n u) → n.0 < s.nodes
   -- the table begins with the basic types
   pub basic : HasShape s.table (record { 0 = 5 }) (shape.Integer 4 true)

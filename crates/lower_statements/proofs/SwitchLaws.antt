@@ -18,10 +18,11 @@ use Rattle.lower_rules.specs.Statements.{Guarded, IsCodeOfPieces, IsCodeOfStatem
 use Rattle.lower_exprs.specs.declared.draft.Draft.{Draft}
 use Rattle.lower_exprs.specs.Drafts.{AreBothReady, Chosen as ChosenOf, Grows, Starts}
 use Rattle.lower_exprs.proofs.Laws.{grows_nothing, grows_of}
-use Rattle.lower_statements.specs.Ready.{HasCodeOfDeclaration, HasCodeOfStatement, HasPieces}
+use Rattle.lower_initialisers.specs.Ready.{HasCodeOfDeclaration}
+use Rattle.lower_statements.specs.Ready.{HasCodeOfStatement, HasPieces}
 use Rattle.lower_statements.specs.Switches.{AreLabels, Chosen, GrowsInPieces, Guards, Nests, Pieces, Tested, capped, equal_code}
 use Rattle.lower_statements.specs.declared.switching.Labels.{Labels}
-use Rattle.lower_statements.proofs.Laws.{one_more}
+use Rattle.lower_initialisers.proofs.Laws.{one_more}
 
 -- where something holds, before what else is appended
 pub grows_where : (A R : Type 0) (P : Form) (a b c : Draft) → Grows (When A (Line [])) A a b → Grows P R b c → Grows (When A P) (A × R) a c

@@ -1,3 +1,2 @@
 pub mod Ready
 pub mod Switches
-pub mod Texts

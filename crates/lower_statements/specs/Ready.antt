@@ -1,57 +1,17 @@
--- Which typed statements have code: their expressions do, and local objects have numbers. No initialiser in braces
--- has code here.
+-- Which typed statements have code: their expressions do, and local objects have numbers.
 use Rattle.std.specs.Prelude.{Option, Some, None}
-use Rattle.cc_base.specs.declared.number.NodeId.{NodeId}
-use Rattle.cc_base.specs.declared.number.TypeId.{TypeId}
-use Rattle.cc_base.specs.declared.place.Place.{Place}
-use Rattle.c_types.specs.Table.{shape_at}
-use Rattle.c_tree.specs.declared.typed_word.Home.{Home}
-use Rattle.c_tree.specs.declared.typed_word.Home.TheVariants as home
 use Rattle.c_tree.specs.TypedTree as typed
-use Rattle.c_tree.specs.TypedTree.{TypedExpr, TypedInitialiser, TypedInitDeclarators, TypedDeclaration, TypedStatement, TypedBlockItems}
-use Rattle.c_tree.specs.TypedParts.{declared_type, home_of}
-use Rattle.src_machine.specs.Statements.{clears, element_of_shape}
-use Rattle.lower_rules.specs.Pieces.{Form, Then}
+use Rattle.c_tree.specs.TypedTree.{TypedExpr, TypedStatement, TypedBlockItems}
 use Rattle.lower_rules.specs.Words.{Context}
-use Rattle.lower_rules.specs.Initialisers.{Initialised, Clears, IsCodeOfInitialiser}
 use Rattle.lower_rules.specs.Statements.{Nesting, in_loop, in_switch}
-use Rattle.lower_exprs.specs.Ready.{HasCode, HasCodeOfPlace, HasObject, IsConstant}
-use Rattle.lower_statements.specs.declared.declarations.Whole.{Whole}
+use Rattle.lower_exprs.specs.Ready.{HasCode}
+use Rattle.lower_initialisers.specs.Ready.{HasCodeOfDeclaration}
 use Rattle.lower_statements.specs.declared.nesting.Nesting.{Nesting as CodeNesting}
 use Rattle.lower_statements.specs.Switches.{IsFew, Nests}
 
 -- what the relation of trees and code sees of how a statement is nested
 abbrev pub nesting_of : CodeNesting → Nesting
 nesting_of v = record { breaks = v.breaks; continues = v.continues; switches = v.switches }
-
--- and of an object that is initialised
-abbrev pub initialised_of : Whole → Initialised
-initialised_of o = record { object = o.object; node = o.home; type = o.ty }
-
--- the code of the initialiser of this object
-unfoldable pub Fills : Initialised → Place → TypedInitialiser → Context → Form
-Fills o at i k = Then (Clears (clears k.table i) o.object) (IsCodeOfInitialiser i k at o.type 0 o)
-
-abbrev pub HasCodeOfInitialiser : TypeId → TypedInitialiser → Context → Type 0
-HasCodeOfInitialiser t (typed.Value e) k = Unit {0} × (HasCode e k 0 × Unit {0})
-HasCodeOfInitialiser t (typed.Copied p place) k = Unit {0} × HasCodeOfPlace p k 0 (Unit {0})
-HasCodeOfInitialiser t (typed.Text pieces bytes) k = Unit {0} × IsConstant k (element_of_shape (shape_at k.table t))
-HasCodeOfInitialiser t (typed.Listed brace items comma u) k = ⊥
-
-abbrev pub HasCodeOfObject : NodeId → TypeId → TypedInitialiser → Context → Type 0
-HasCodeOfObject node t i k = HasObject k node × HasCodeOfInitialiser t i k
-
-abbrev pub HasCodeOfDeclared : Home → TypeId → TypedInitialiser → Context → Type 0
-HasCodeOfDeclared (home.Local node) t i k = HasCodeOfObject node t i k
-HasCodeOfDeclared other t i k = Unit {0}
-
-abbrev pub HasCodeOfDeclarators : TypedInitDeclarators → Context → Type 0
-HasCodeOfDeclarators typed.NoInitDeclarator k = Unit {0}
-HasCodeOfDeclarators (typed.AndPlain all d) k = HasCodeOfDeclarators all k
-HasCodeOfDeclarators (typed.AndInitialised all d at i) k = HasCodeOfDeclarators all k × HasCodeOfDeclared (home_of d) (declared_type d) i k
-
-abbrev pub HasCodeOfDeclaration : TypedDeclaration → Context → Type 0
-HasCodeOfDeclaration (typed.Declare specifiers all) k = HasCodeOfDeclarators all k
 
 abbrev pub HasCodeOfEffect : Option TypedExpr → Context → Type 0
 HasCodeOfEffect None k = Unit {0}

@@ -6,7 +6,6 @@ ghost use Rattle.lower_exprs.specs.Drafts.{context_of, Grows};
 ghost use Rattle.lower_statements.specs.Ready.{HasCodeOfBlock, HasCodeOfStatement, HasPieces, nesting_of};
 ghost use Rattle.lower_statements.specs.Switches.{Pieces};
 
-use crate::declarations::declaration;
 use crate::nesting::{Nesting, in_loop, in_switch};
 use crate::pieces::{condition, effect, put_block, put_loop, put_return, test};
 use crate::switching::{close, demand_labels, put_begin, put_piece, put_tests, switch_of};
@@ -14,6 +13,7 @@ use c_tree::{TypedBlockItem, TypedStatement};
 use cc_base::Place;
 use cil_form::Instr;
 use lower_exprs::{Draft, Scope, choose, expr, keep, put, start};
+use lower_initialisers::declaration;
 
 /// Appends the code of statements and declarations in order.
 #[cycle(statements)]

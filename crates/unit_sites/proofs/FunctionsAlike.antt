@@ -26,7 +26,7 @@ use Rattle.src_machine.specs.Names.{is_typedef_word, is_typedef_list, is_typedef
 
 -- Typedefs
 
-abbrev is_for_types : Storage → Bool
+abbrev pub is_for_types : Storage → Bool
 is_for_types AsTypedef = true
 is_for_types storage = false
 
@@ -45,7 +45,7 @@ list-types (typed.AndSpecifier all (typed.Keyword word)) h =
     word-types word.keyword (storage_of_list all) (is_typedef_list all) (λ g. list-types all g) h
 list-types (typed.AndSpecifier all specifier) h = list-types all h
 
-types-are-typedefs : (specifiers : TypedSpecifiers) → is_for_types (storage_of specifiers) ≡ true → is_typedef specifiers ≡ true
+pub types-are-typedefs : (specifiers : TypedSpecifiers) → is_for_types (storage_of specifiers) ≡ true → is_typedef specifiers ≡ true
 types-are-typedefs (typed.Specified list t) h = list-types list h
 
 plain-storage : (storage : Storage) → (storage ≡ AsTypedef → ⊥) → is_for_types storage ≡ false
@@ -55,7 +55,7 @@ plain-storage AsExtern f = refl
 plain-storage AsStatic f = refl
 plain-storage AsAutomatic f = refl
 
-not-typedef : (a b : Bool) → (a ≡ true → b ≡ true) → b ≡ false → a ≡ false
+pub not-typedef : (a b : Bool) → (a ≡ true → b ≡ true) → b ≡ false → a ≡ false
 not-typedef true b f h = absurd (true≢false (sym (f refl) ∙ h))
 not-typedef false b f h = refl
 

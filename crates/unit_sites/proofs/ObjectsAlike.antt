@@ -97,7 +97,7 @@ static-named P (made.Written place n) h = All-nil P
 static-named P (made.Address n) h = All-nil P
 static-named P (made.Copy t) h = All-nil P
 
-statics-named : (P : Named → Type 0) (ms : List Made) → All P (map made_named (flat_map static_made ms)) → All P (flat_map static_named ms)
+pub statics-named : (P : Named → Type 0) (ms : List Made) → All P (map made_named (flat_map static_made ms)) → All P (flat_map static_named ms)
 statics-named P ms h =
     flat P static_named ms
     (All-weaker (λ m. All (λ o. P (made_named o)) (static_made m)) (λ m. All P (static_named m)) (static-named P) ms

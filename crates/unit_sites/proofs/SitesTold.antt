@@ -1,6 +1,6 @@
 -- What the sites of a ready unit tell: its pointer types and objects, and both ends of each flow.
 use Rattle.std.specs.List.{All, Contains}
-use Rattle.std.proofs.Common.{Bool, true, false, List, [], ◌∷◌, ◌++◌, map, flat_map, Option, Some, None, sym, subst, if◌then◌else◌, ◌==◌}
+use Rattle.std.proofs.Common.{Bool, true, false, List, [], ◌∷◌, ◌++◌, map, flat_map, Option, Some, None, sym, subst, if◌then◌else◌, ◌==◌, ◌≡◌, IsTrue, refl}
 use Rattle.std.proofs.lemmas.List.Elements.{All-nil, All-head, All-append, All-map, All-weaker, All-get_or, All-contains, All-contains_itself}
 use Rattle.cc_base.specs.declared.place.Place.{Place}
 use Rattle.cc_base.specs.declared.number.NodeId.{NodeId}
@@ -9,6 +9,7 @@ use Rattle.c_types.specs.declared.shape.TypeShape.{TypeShape}
 use Rattle.c_types.specs.declared.shape.TypeShape.TheVariants as shape
 use Rattle.c_types.specs.declared.site.Site.{Site}
 use Rattle.c_types.specs.declared.site.Site.TheVariants as site
+use Rattle.c_types.specs.Equality.{physically_equal}
 use Rattle.c_types.specs.Table.{Table, Entry, HasShape, shape_at, void_entry}
 use Rattle.c_types.specs.Solutions.{sites_of_shape, sites_of_table}
 use Rattle.c_tree.specs.declared.operator.AggregateKind.{AggregateKind}
@@ -20,6 +21,7 @@ use Rattle.c_tree.specs.declared.typed_word.Conversion.TheVariants as conversion
 use Rattle.c_tree.specs.TypedTree as typed
 use Rattle.c_tree.specs.TypedTree.{TypedExpr, TypedPlace, TypedSpecifier, TypedDeclarator, TypedInitialiser, TypedItems, TypedTranslationUnit}
 use Rattle.c_tree.specs.TypedParts.{MadeObject, DefinedFunction, type_of, place_type, named_type, home_of, statics_of, functions_of}
+use Rattle.c_unit_typing.specs.WellTyped.{IsWellTyped}
 use Rattle.c_ready.specs.Ready.{Stage, Fits, IsReady, AreReadyExternals, static_stage}
 use Rattle.c_ready.proofs.Basics.{all-left, all-right, unmap}
 use Rattle.src_mem.specs.Memory.{Planned}
@@ -32,6 +34,8 @@ use Rattle.src_machine.specs.Sites.{addresses_at, linked_to, moves_where_pointer
 use Rattle.cil_form.specs.Sites.{Each}
 use Rattle.unit_sites.specs.Objects.{objects_in}
 use Rattle.unit_sites.proofs.Elements.{each-of, every, only, pair, flat, unflat}
+use Rattle.c_ready.proofs.ReadyUnit.{well-typed-ready}
+use Rattle.unit_sites.proofs.NamesAlike.{first-equal}
 use Rattle.unit_sites.proofs.PiecesReady.{unit-pieces}
 
 -- The parts of the sites of a unit
@@ -130,9 +134,10 @@ value-join k (typed.Cast which at to e) r = fits-joins k which (type_of e) (name
 value-join k other r = tt
 
 module _ (u : TypedTranslationUnit) (T : Table) where
-  -- what a site tells by itself: a flow of its ends
+  -- what a site tells by itself: a flow of its ends, and two types of one name that they are physically equal
   abbrev HasEnds : Site → Type 0
   HasEnds (site.Flow m t n v at) = Contains (sites_of u T) (site.Pointee m t) × Contains (sites_of u T) (site.Pointee n v)
+  HasEnds (site.Same first t) = IsTrue (physically_equal T first t)
   HasEnds other = Unit {0}
 
   abbrev Ends : List Site → Type 0
@@ -219,13 +224,13 @@ module _ (u : TypedTranslationUnit) (T : Table) where
   shape-ends (shape.Pointer n to) = only HasEnds (site.Pointee n to) tt
   shape-ends x = none
 
-  same-ends : (t : TypeId) (first : Option TypeId) → Ends (same_as t first)
-  same-ends t None = none
-  same-ends t (Some first) = by (first.0 == t.0)
+  same-ends : (t : TypeId) (o : Option TypeId) → ((first : TypeId) → o ≡ Some first → IsTrue (physically_equal T first t)) → Ends (same_as t o)
+  same-ends t None h = none
+  same-ends t (Some first) h = by (first.0 == t.0)
     where
       by : (b : Bool) → Ends (if b then [] else site.Same first t ∷ [])
       by true = none
-      by false = only HasEnds (site.Same first t) tt
+      by false = only HasEnds (site.Same first t) (h first refl)
 
   table-ends : Ends (sites_of_table T)
   table-ends = flat HasEnds (λ (e : Entry). sites_of_shape e.shape) T (every (λ (e : Entry). Ends (sites_of_shape e.shape)) (λ e. shape-ends e.shape) T)
@@ -242,25 +247,33 @@ module _ (u : TypedTranslationUnit) (T : Table) where
           All-map HasEnds (λ (v : Planned). site.Home v.node v.type) (variables_of (head_of f))
           (every (λ (v : Planned). HasEnds (site.Home v.node v.type)) (λ v. tt) (variables_of (head_of f)))
 
-  names-ends : Ends (sites_of_names (named_in u T))
-  names-ends =
+  names-ends : IsWellTyped T u → Ends (sites_of_names (named_in u T))
+  names-ends w =
       let all = named_in u T in
       flat HasEnds (λ (x : Named). same_as x.type (first_type all x.which)) all
-      (every (λ (x : Named). Ends (same_as x.type (first_type all x.which))) (λ x. same-ends x.type (first_type all x.which)) all)
+      (All-weaker (λ (x : Named). (first : TypeId) → first_type all x.which ≡ Some first → IsTrue (physically_equal T first x.type))
+      (λ (x : Named). Ends (same_as x.type (first_type all x.which))) (λ x h. same-ends x.type (first_type all x.which) h) all (first-equal T u w))
 
-  -- what flows is told of at both ends
-  pub flows-told : AreReadyExternals (static_stage T u) u → (m n : NodeId) (t v : TypeId) (at : Place)
-      → Contains (sites_of u T) (site.Flow m t n v at)
-      → Contains (sites_of u T) (site.Pointee m t) × Contains (sites_of u T) (site.Pointee n v)
-  flows-told ready m n t v at c = All-contains HasEnds (sites_of u T) (site.Flow m t n v at) all c
-    where
-      joins : All (IsJoin T) (pieces_of_unit u)
-      joins = unit-pieces IsJoin value-join (λ k p r. tt) (λ k x r. tt) (λ T d i. tt) (static_stage T u) u ready
+  module _ (w : IsWellTyped T u) where
+    ready : AreReadyExternals (static_stage T u) u
+    ready = (well-typed-ready T u w).externals
 
-      all : Ends (sites_of u T)
-      all =
-          All-append HasEnds (sites_of_table T ++ sites_of_homes u ++ flat_map (sites_of_piece T) (pieces_of_unit u)) (sites_of_names (named_in u T))
-          (All-append HasEnds (sites_of_table T ++ sites_of_homes u) (flat_map (sites_of_piece T) (pieces_of_unit u))
-          (All-append HasEnds (sites_of_table T) (sites_of_homes u) table-ends homes-ends)
-          (flat HasEnds (sites_of_piece T) (pieces_of_unit u)
-          (All-weaker (IsJoin T) (λ piece. Ends (sites_of_piece T piece)) piece-ends (pieces_of_unit u) joins))) names-ends
+    joins : All (IsJoin T) (pieces_of_unit u)
+    joins = unit-pieces (λ T n piece. IsJoin T piece) value-join (λ k p r. tt) (λ k x r. tt) (λ k d t i h r. tt) (static_stage T u) u ready
+
+    all : Ends (sites_of u T)
+    all =
+        All-append HasEnds (sites_of_table T ++ sites_of_homes u ++ flat_map (sites_of_piece T) (pieces_of_unit u)) (sites_of_names (named_in u T))
+        (All-append HasEnds (sites_of_table T ++ sites_of_homes u) (flat_map (sites_of_piece T) (pieces_of_unit u))
+        (All-append HasEnds (sites_of_table T) (sites_of_homes u) table-ends homes-ends)
+        (flat HasEnds (sites_of_piece T) (pieces_of_unit u)
+        (All-weaker (IsJoin T) (λ piece. Ends (sites_of_piece T piece)) piece-ends (pieces_of_unit u) joins))) (names-ends w)
+
+    -- what flows is told of at both ends
+    pub flows-told : (m n : NodeId) (t v : TypeId) (at : Place) → Contains (sites_of u T) (site.Flow m t n v at)
+        → Contains (sites_of u T) (site.Pointee m t) × Contains (sites_of u T) (site.Pointee n v)
+    flows-told m n t v at c = All-contains HasEnds (sites_of u T) (site.Flow m t n v at) all c
+
+    -- two types of one name are physically equal
+    pub same-told : (first t : TypeId) → Contains (sites_of u T) (site.Same first t) → IsTrue (physically_equal T first t)
+    same-told first t c = All-contains HasEnds (sites_of u T) (site.Same first t) all c

@@ -1,5 +1,4 @@
-use Rattle.c_ready.proofs.ReadyUnit.{well-typed-ready}
-use Rattle.unit_sites.proofs.SitesTold.{pointers-told, objects-told, flows-told}
+use Rattle.unit_sites.proofs.SitesTold.{pointers-told, objects-told, flows-told, same-told}
 use Rattle.unit_sites.proofs.the_sites_of_a_well_typed_unit_are_told.Goals as goal
 
 pub returns-clause-pointers : goal.returns-clause-pointers
@@ -9,4 +8,7 @@ pub returns-clause-objects : goal.returns-clause-objects
 returns-clause-objects c table unit w = objects-told unit table
 
 pub returns-clause-flows : goal.returns-clause-flows
-returns-clause-flows c table unit w m n t u place h = flows-told unit table (well-typed-ready table unit w).externals m n t u place h
+returns-clause-flows c table unit w m n t u place h = flows-told unit table w m n t u place h
+
+pub returns-clause-same : goal.returns-clause-same
+returns-clause-same c table unit w t u h = same-told unit table w t u h

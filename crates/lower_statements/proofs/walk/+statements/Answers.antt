@@ -3,7 +3,8 @@ use Rattle.c_tree.proofs.TypedStatementViewLaws.{typed_block_item-Statement, typ
 use Rattle.lower_exprs.specs.Drafts.{context_of}
 use Rattle.lower_statements.specs.Ready.{nesting_of}
 use Rattle.lower_exprs.proofs.Laws.{grows_then, grows_choice, grows_nothing}
-use Rattle.lower_statements.proofs.Laws.{grows_blocked, grows_looped, grows_kept, more_block}
+use Rattle.lower_initialisers.proofs.Laws.{grows_kept}
+use Rattle.lower_statements.proofs.Laws.{grows_blocked, grows_looped, more_block}
 use Rattle.lower_statements.proofs.SwitchLaws.{grows_where, more_number, more_pieces, one_label, pieces_begun, pieces_case, pieces_declaration, pieces_default, pieces_done, pieces_statement}
 use Rattle.lower_statements.specs.Switches.{Pieces}
 use Rattle.lower_statements.proofs.walk.+statements.Goals as goal

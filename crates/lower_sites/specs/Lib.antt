@@ -1,0 +1,3 @@
+pub mod HomeNames
+pub mod Objects
+pub mod Telling

@@ -1,0 +1,6 @@
+use Rattle.std.proofs.Common.{◌≡◌, ◌++◌, take}
+use Rattle.lower_units.specs.Heads.{homes_of_planned}
+use Rattle.lower_units.proofs.homes.add_planned.Given as goal
+
+abbrev pub invariant-loop-one : goal.invariant-loop-one
+invariant-loop-one l = l.homes.keys ≡ l.fn.homes.keys ++ homes_of_planned (take l.one-index l.all)

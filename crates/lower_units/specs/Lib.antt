@@ -1,0 +1,4 @@
+pub mod Heads
+pub mod Mains
+pub mod Statics
+pub mod Units

@@ -1,0 +1,9 @@
+//! What is made of a text of C, pass by pass: its typed unit, its three-address code and its kinds.
+#![tactic(auto)]
+
+mod building;
+mod kinds;
+mod solving;
+
+pub use building::{Built, build};
+pub use kinds::kinds;

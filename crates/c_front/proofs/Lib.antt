@@ -1,0 +1,2 @@
+pub mod FewTokens
+pub mod Passes

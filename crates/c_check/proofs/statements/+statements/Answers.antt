@@ -182,14 +182,14 @@ pub statement-returns-in_err-leave-in-IfElse : goal.statement-returns-in_err-lea
 statement-returns-in_err-leave-in-IfElse t c =
     let stopped = choice_stops (around_view c.args.around) _ c.in-IfElse.paren
     _ _ _ _ _ _ _ _ _ _ _ _ _
-    c.in_ok-enter.ensures c.in_ok-test.ensures c.in_ok-one.ensures c.in_ok-other.ensures
-    (tried_alike _ _ _ _ _ (ap typed_expr_view c.get-condition.ensures) (c.in_ok-try_condition.ensures _)) c.in_err-leave.ensures in
+    c.in_ok-enter-in-IfElse.ensures c.in_ok-test-in-IfElse.ensures c.in_ok-one-in-IfElse.ensures c.in_ok-other-in-IfElse.ensures
+    (tried_alike _ _ _ _ _ (ap typed_expr_view c.get-condition.ensures) (c.in_ok-try_condition-in-IfElse.ensures _)) c.in_err-leave-in-IfElse.ensures in
     first_of (search (rules, statement_views), grind (arith, common_steps, statement_views, stopped))
 
 pub statement-returns-in_ok-boxed-in-IfElse : goal.statement-returns-in_ok-boxed-in-IfElse
 statement-returns-in_ok-boxed-in-IfElse t c =
     let given = choice_gives (around_view c.args.around) _ c.in-IfElse.paren
     _ _ _ _ _ _ _ _ _ _ _ _
-    c.in_ok-enter.ensures c.in_ok-test.ensures c.in_ok-one.ensures c.in_ok-other.ensures
-    (tried_alike _ _ _ _ _ (ap typed_expr_view c.get-condition.ensures) (c.in_ok-try_condition.ensures _)) c.in_ok-leave.ensures in
+    c.in_ok-enter-in-IfElse.ensures c.in_ok-test-in-IfElse.ensures c.in_ok-one-in-IfElse.ensures c.in_ok-other-in-IfElse.ensures
+    (tried_alike _ _ _ _ _ (ap typed_expr_view c.get-condition.ensures) (c.in_ok-try_condition-in-IfElse.ensures _)) c.in_ok-leave-in-IfElse.ensures in
     first_of (search (rules, statement_views, typed_statement_views), grind (arith, common_steps, statement_views, typed_statement_views, given))

@@ -1,5 +1,5 @@
 -- What is judged in a scope of its own, which is left at its end.
-use Rattle.std.proofs.Common.{◌≡◌, ◌≢◌, Bool, true, false, nat_lt, length, Option, Some, None, refl, ap, sym, ◌∙◌}
+use Rattle.std.proofs.Common.{◌≡◌, ◌≢◌, Bool, true, false, nat_lt, length, Option, Some, None, refl, ap, sym, subst, ◌∙◌}
 use Rattle.std.specs.Prelude.{if◌then◌else◌}
 use Rattle.cc_base.specs.declared.fault.Fault.{Fault}
 use Rattle.cc_base.specs.declared.fault.Fault.TheVariants.{NoMemory, TooLarge}
@@ -60,6 +60,10 @@ pub within_stopped : {A : Type 0} (at : Place) (go : UnitJudging A) (s i m : Uni
     → lifted entered s ≡ Gives true i → (f ≢ NoMemory → go i ≡ Stops f m) → f ≢ NoMemory → within at go s ≡ Stops f m
 unfolding within
 within_stopped at go s i m f enters stops real = rw enters (rw (stops real) refl)
+
+-- what holds of a condition holds of the same one
+pub tried_alike : (at : Place) (e f : TypedExpr) (one : TypedStatement) (s : UnitState) → e ≡ f → tested at e one s ≡ Gives one s → tested at f one s ≡ Gives one s
+tried_alike at e f one s same tries = subst (λ (x : TypedExpr). tested at x one s ≡ Gives one s) same tries
 
 -- The statements and the body, once all in them is judged
 

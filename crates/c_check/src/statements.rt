@@ -317,7 +317,8 @@ fn statement(
             let test = context.expr(c)?;
             let one = substatement(context, around, *at, s.get())?;
             let other = substatement(context, around, *at, r.get())?;
-            try_condition(context, *at, test.get())?;
+            let condition = test.get();
+            try_condition(context, *at, condition)?;
             leave(context, *at)?;
             Ok(boxed(
                 context,

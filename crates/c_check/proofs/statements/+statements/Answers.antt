@@ -1,8 +1,9 @@
-use Rattle.std.proofs.Common.{rules, arith, take}
+use Rattle.std.proofs.Common.{rules, arith, take, ap}
 use Rattle.std.proofs.lemmas.Grind.{common_steps}
 use Rattle.c_tree.proofs.PushLaws.{pushes}
 use Rattle.c_tree.proofs.StatementViewLaws.{statement_views}
 use Rattle.c_tree.proofs.TypedStatementViewLaws.{typed_statement_views}
+use Rattle.c_tree.specs.TypedViews.{typed_expr_view}
 use Rattle.c_tree.specs.Views.{expr_view}
 use Rattle.c_tree.specs.StatementViews.{declaration_view, statement_view}
 use Rattle.std.specs.Prelude.{Some, option_map}
@@ -12,7 +13,7 @@ use Rattle.c_tree.specs.StatementViews.{block_item_view, block_view}
 use Rattle.c_check.specs.CodeViews.{around_view}
 use Rattle.c_check_context.specs.ContextViews.{state_of}
 use Rattle.c_unit_typing.specs.StatementJudging.{judge_block_items, judge_statement}
-use Rattle.c_check.proofs.LeaveLaws.{block_gives, block_stops, choice_gives, choice_stops, do_gives, do_stops, for_gives, for_stops, if_gives, if_stops, loop_gives, loop_stops, switch_gives, switch_stops, while_gives, while_stops, within_gives, within_stops}
+use Rattle.c_check.proofs.LeaveLaws.{block_gives, block_stops, choice_gives, choice_stops, do_gives, do_stops, for_gives, for_stops, if_gives, if_stops, loop_gives, loop_stops, switch_gives, switch_stops, tried_alike, while_gives, while_stops, within_gives, within_stops}
 use Rattle.c_check.proofs.StayLaws.{block-stays}
 use Rattle.c_check_declarations.proofs.SeriesLaws.{goes, fails}
 use Rattle.c_check.proofs.statements.+statements.Goals as goal
@@ -61,14 +62,16 @@ pub if_alone-returns-in_err-leave : goal.if_alone-returns-in_err-leave
 if_alone-returns-in_err-leave t c =
     let stopped = if_stops (around_view c.args.around) c.args.at c.args.paren (expr_view c.args.c.now) (statement_view c.args.s.now)
     _ _ _ _ _ _ _ _
-    c.in_ok-enter.ensures c.in_ok-test.ensures c.in_ok-one.ensures (c.in_ok-try_condition.ensures _) c.in_err-leave.ensures in
+    c.in_ok-enter.ensures c.in_ok-test.ensures c.in_ok-one.ensures
+    (tried_alike _ _ _ _ _ (ap typed_expr_view c.get.ensures) (c.in_ok-try_condition.ensures _)) c.in_err-leave.ensures in
     search rules
 
 pub if_alone-returns : goal.if_alone-returns
 if_alone-returns t c =
     let given = if_gives (around_view c.args.around) c.args.at c.args.paren (expr_view c.args.c.now) (statement_view c.args.s.now)
     _ _ _ _ _ _ _
-    c.in_ok-enter.ensures c.in_ok-test.ensures c.in_ok-one.ensures (c.in_ok-try_condition.ensures _) c.in_ok-leave.ensures in
+    c.in_ok-enter.ensures c.in_ok-test.ensures c.in_ok-one.ensures
+    (tried_alike _ _ _ _ _ (ap typed_expr_view c.get.ensures) (c.in_ok-try_condition.ensures _)) c.in_ok-leave.ensures in
     first_of (search (rules, typed_statement_views), grind (arith, common_steps, typed_statement_views, given))
 
 pub switch_block-returns-in_err-leave : goal.switch_block-returns-in_err-leave
@@ -105,28 +108,32 @@ pub while_loop-returns-in_err-leave : goal.while_loop-returns-in_err-leave
 while_loop-returns-in_err-leave t c =
     let stopped = while_stops (around_view c.args.around) _ c.args.at c.args.paren (expr_view c.args.c.now) (statement_view c.args.s.now)
     _ _ _ _ _ _ _ _
-    c.in_ok-enter.ensures c.in_ok-test.ensures c.in_a_loop.ensures c.in_ok-one.ensures (c.in_ok-try_condition.ensures _) c.in_err-leave.ensures in
+    c.in_ok-enter.ensures c.in_ok-test.ensures c.in_a_loop.ensures c.in_ok-one.ensures
+    (tried_alike _ _ _ _ _ (ap typed_expr_view c.get.ensures) (c.in_ok-try_condition.ensures _)) c.in_err-leave.ensures in
     search rules
 
 pub while_loop-returns : goal.while_loop-returns
 while_loop-returns t c =
     let given = while_gives (around_view c.args.around) _ c.args.at c.args.paren (expr_view c.args.c.now) (statement_view c.args.s.now)
     _ _ _ _ _ _ _
-    c.in_ok-enter.ensures c.in_ok-test.ensures c.in_a_loop.ensures c.in_ok-one.ensures (c.in_ok-try_condition.ensures _) c.in_ok-leave.ensures in
+    c.in_ok-enter.ensures c.in_ok-test.ensures c.in_a_loop.ensures c.in_ok-one.ensures
+    (tried_alike _ _ _ _ _ (ap typed_expr_view c.get.ensures) (c.in_ok-try_condition.ensures _)) c.in_ok-leave.ensures in
     first_of (search (rules, typed_statement_views), grind (arith, common_steps, typed_statement_views, given))
 
 pub do_while-returns-in_err-leave : goal.do_while-returns-in_err-leave
 do_while-returns-in_err-leave t c =
     let stopped = do_stops (around_view c.args.around) _ c.args.at c.args.paren (expr_view c.args.c.now) (statement_view c.args.s.now)
     _ _ _ _ _ _ _ _
-    c.in_ok-enter.ensures c.in_a_loop.ensures c.in_ok-one.ensures c.in_ok-test.ensures (c.in_ok-try_condition.ensures _) c.in_err-leave.ensures in
+    c.in_ok-enter.ensures c.in_a_loop.ensures c.in_ok-one.ensures c.in_ok-test.ensures
+    (tried_alike _ _ _ _ _ (ap typed_expr_view c.get.ensures) (c.in_ok-try_condition.ensures _)) c.in_err-leave.ensures in
     search rules
 
 pub do_while-returns : goal.do_while-returns
 do_while-returns t c =
     let given = do_gives (around_view c.args.around) _ c.args.at c.args.paren (expr_view c.args.c.now) (statement_view c.args.s.now)
     _ _ _ _ _ _ _
-    c.in_ok-enter.ensures c.in_a_loop.ensures c.in_ok-one.ensures c.in_ok-test.ensures (c.in_ok-try_condition.ensures _) c.in_ok-leave.ensures in
+    c.in_ok-enter.ensures c.in_a_loop.ensures c.in_ok-one.ensures c.in_ok-test.ensures
+    (tried_alike _ _ _ _ _ (ap typed_expr_view c.get.ensures) (c.in_ok-try_condition.ensures _)) c.in_ok-leave.ensures in
     first_of (search (rules, typed_statement_views), grind (arith, common_steps, typed_statement_views, given))
 
 pub for_loop-returns-in_err-leave : goal.for_loop-returns-in_err-leave
@@ -170,3 +177,19 @@ statement-returns-in-Block t c = first_of (search (rules, statement_views), grin
 
 pub statement-returns-in-Switch : goal.statement-returns-in-Switch
 statement-returns-in-Switch t c = first_of (search (rules, statement_views), grind (arith, common_steps, statement_views))
+
+pub statement-returns-in_err-leave-in-IfElse : goal.statement-returns-in_err-leave-in-IfElse
+statement-returns-in_err-leave-in-IfElse t c =
+    let stopped = choice_stops (around_view c.args.around) _ c.in-IfElse.paren
+    _ _ _ _ _ _ _ _ _ _ _ _ _
+    c.in_ok-enter-in-IfElse.ensures c.in_ok-test-in-IfElse.ensures c.in_ok-one-in-IfElse.ensures c.in_ok-other-in-IfElse.ensures
+    (tried_alike _ _ _ _ _ (ap typed_expr_view c.get-condition.ensures) (c.in_ok-try_condition-in-IfElse.ensures _)) c.in_err-leave-in-IfElse.ensures in
+    first_of (search (rules, statement_views), grind (arith, common_steps, statement_views, stopped))
+
+pub statement-returns-in_ok-boxed-in-IfElse : goal.statement-returns-in_ok-boxed-in-IfElse
+statement-returns-in_ok-boxed-in-IfElse t c =
+    let given = choice_gives (around_view c.args.around) _ c.in-IfElse.paren
+    _ _ _ _ _ _ _ _ _ _ _ _
+    c.in_ok-enter-in-IfElse.ensures c.in_ok-test-in-IfElse.ensures c.in_ok-one-in-IfElse.ensures c.in_ok-other-in-IfElse.ensures
+    (tried_alike _ _ _ _ _ (ap typed_expr_view c.get-condition.ensures) (c.in_ok-try_condition-in-IfElse.ensures _)) c.in_ok-leave-in-IfElse.ensures in
+    first_of (search (rules, statement_views, typed_statement_views), grind (arith, common_steps, statement_views, typed_statement_views, given))

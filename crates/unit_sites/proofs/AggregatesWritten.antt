@@ -31,7 +31,7 @@ use Rattle.c_typing.specs.Scopes.{Name, Scopes, entering, here, members_named, i
 use Rattle.c_typing.specs.Shapes.{is_function_shape}
 use Rattle.c_typing.specs.Typing.{IsTyped, IsPlace, AreTyped, IsTypeName, AreSpecifiers, AreAlone, AreListed, IsSpecifier, AreMembers, AreMemberDeclarators, AreEnumerators, IsForm, IsCore, AreParts, AreParameters, IsDeclared, IsNewName, IsNewAggregate, IsTagged, BeginsAggregate, EndsAggregate, DeclaresParameter, tagging, tag_named_here, enumerating}
 use Rattle.c_unit_typing.specs.Initialisers.{IsInitialiser, AreItems, is_only_text, is_char_array}
-use Rattle.c_unit_typing.specs.Units.{Known, Storage, Unstored, AsTypedef, AsExtern, AsStatic, AsAutomatic, storage_of, with_scopes, unless_here, IsLinked, IsLinkedObject, IsStaticOrLocal, IsObjectDeclared, IsOrdinaryDeclared, IsNameDeclared, IsDeclarator, IsDefinedOnce, IsInitialised, AreDeclarators, IsDeclaration, Around, in_a_loop, in_a_switch, entering_known, IsDropped, IsTestedOrNone, IsReturned, IsStatement, AreBlockItems, with_parameters, parameter_declared, declared_identifier, IsUnitTyped}
+use Rattle.c_unit_typing.specs.Units.{Known, Storage, Unstored, AsTypedef, AsExtern, AsStatic, AsAutomatic, storage_of, with_scopes, unless_here, IsLinked, IsLinkedObject, IsStaticOrLocal, IsObjectDeclared, IsOrdinaryDeclared, IsNameDeclared, IsDeclarator, IsDefinedOnce, IsInitialised, AreDeclarators, IsDeclaration, Around, in_a_loop, in_a_switch, entering_known, leaving_known, IsDropped, IsTestedOrNone, IsReturned, IsStatement, AreBlockItems, with_parameters, parameter_declared, declared_identifier, IsUnitTyped}
 use Rattle.c_unit_typing.specs.WellTyped.{IsWellTyped, known_before}
 use Rattle.c_ready.specs.Ready.{Stage, IsReadySpecifier, is_of_kind, static_stage}
 use Rattle.c_ready.proofs.Basics.{all-left, all-right}
@@ -504,6 +504,14 @@ module _ (T : Table) where
   return-grown at t None k m h = same T k.scopes m.scopes [] (ap (λ (q : Known). q.scopes) h.0)
   return-grown at t (Some e) k m h = last T k.scopes h.0 m.scopes (pieces_of e) (ap known_members h.3) (value-grown T e k.scopes h.0 h.1)
 
+  -- a block begins with the members that there are
+  tested-grown : (e : Option TypedExpr) (k m : Known) → IsTestedOrNone T e (entering_known k) m → Grown T k.scopes m.scopes (pieces_of_optional e)
+  tested-grown e k m h = first T k.scopes (entering_known k).scopes m.scopes (pieces_of_optional e) refl (test-grown e (entering_known k) m h)
+
+  inner-grown : (k m : Known) (s : TypedStatement) → Grown T (entering_known k).scopes m.scopes (pieces_of_statement s)
+      → Grown T k.scopes m.scopes (pieces_of_statement s)
+  inner-grown k m s h = first T k.scopes (entering_known k).scopes m.scopes (pieces_of_statement s) refl h
+
   mutual
     statement-grown : (a : Around) (s : TypedStatement) (k m : Known) → IsStatement T a s k m → Grown T k.scopes m.scopes (pieces_of_statement s)
     statement-grown a (typed.Block brace items) k m h =
@@ -512,27 +520,40 @@ module _ (T : Table) where
     statement-grown a (typed.Express e) k m h = last T k.scopes h.0 m.scopes (pieces_of e) (ap known_members h.3) (value-grown T e k.scopes h.0 h.1)
     statement-grown a typed.Empty k m h = same T k.scopes m.scopes [] (ap (λ (q : Known). q.scopes) h)
     statement-grown a (typed.If at paren c s) k m h =
-        both T k.scopes h.0.scopes m.scopes (pieces_of c) (pieces_of_statement s) (test-grown (Some c) k h.0 h.1) (statement-grown a s h.0 m h.2)
+        last T k.scopes h.1.scopes m.scopes (pieces_of c ++ pieces_of_statement s) (ap known_members h.4)
+        (both T k.scopes h.0.scopes h.1.scopes (pieces_of c) (pieces_of_statement s) (tested-grown (Some c) k h.0 h.2)
+        (inner-grown h.0 h.1 s (statement-grown a s (entering_known h.0) h.1 h.3)))
     statement-grown a (typed.IfElse at paren c s r) k m h =
-        both T k.scopes h.1.scopes m.scopes (pieces_of c ++ pieces_of_statement s) (pieces_of_statement r)
-        (both T k.scopes h.0.scopes h.1.scopes (pieces_of c) (pieces_of_statement s) (test-grown (Some c) k h.0 h.2)
-        (statement-grown a s h.0 h.1 h.3))
-        (statement-grown a r h.1 m h.4)
+        last T k.scopes h.2.scopes m.scopes (pieces_of c ++ pieces_of_statement s ++ pieces_of_statement r) (ap known_members h.6)
+        (both T k.scopes h.1.scopes h.2.scopes (pieces_of c ++ pieces_of_statement s) (pieces_of_statement r)
+        (both T k.scopes h.0.scopes h.1.scopes (pieces_of c) (pieces_of_statement s) (tested-grown (Some c) k h.0 h.3)
+        (inner-grown h.0 h.1 s (statement-grown a s (entering_known h.0) h.1 h.4)))
+        (first T h.1.scopes (entering_known (leaving_known h.1)).scopes h.2.scopes (pieces_of_statement r) refl
+        (statement-grown a r (entering_known (leaving_known h.1)) h.2 h.5)))
     statement-grown a (typed.Switch at paren e brace items) k m h =
         last T k.scopes h.1.scopes m.scopes (pieces_of e ++ pieces_of_block_items items) (ap known_members h.5)
-        (both T k.scopes h.0 h.1.scopes (pieces_of e) (pieces_of_block_items items) (value-grown T e k.scopes h.0 h.2)
+        (both T k.scopes h.0 h.1.scopes (pieces_of e) (pieces_of_block_items items)
+        (first T k.scopes (entering k.scopes) h.0 (pieces_of e) refl (value-grown T e (entering k.scopes) h.0 h.2))
         (block-grown (in_a_switch a) (Some (type_of e)) items (entering_known (with_scopes k h.0)) (with_scopes k h.0) h.1 refl h.4))
     statement-grown a (typed.While at paren c s) k m h =
-        both T k.scopes h.0.scopes m.scopes (pieces_of c) (pieces_of_statement s) (test-grown (Some c) k h.0 h.1)
-        (statement-grown (in_a_loop a) s h.0 m h.2)
+        last T k.scopes h.1.scopes m.scopes (pieces_of c ++ pieces_of_statement s) (ap known_members h.4)
+        (both T k.scopes h.0.scopes h.1.scopes (pieces_of c) (pieces_of_statement s) (tested-grown (Some c) k h.0 h.2)
+        (inner-grown h.0 h.1 s (statement-grown (in_a_loop a) s (entering_known h.0) h.1 h.3)))
     statement-grown a (typed.DoWhile s at paren c) k m h =
-        both T k.scopes h.0.scopes m.scopes (pieces_of_statement s) (pieces_of c) (statement-grown (in_a_loop a) s k h.0 h.1)
-        (test-grown (Some c) h.0 m h.2)
+        last T k.scopes h.1.scopes m.scopes (pieces_of_statement s ++ pieces_of c) (ap known_members h.4)
+        (both T k.scopes h.0.scopes h.1.scopes (pieces_of_statement s) (pieces_of c)
+        (first T k.scopes (entering_known (entering_known k)).scopes h.0.scopes (pieces_of_statement s) refl
+        (statement-grown (in_a_loop a) s (entering_known (entering_known k)) h.0 h.2))
+        (first T h.0.scopes (leaving_known h.0).scopes h.1.scopes (pieces_of c) refl (test-grown (Some c) (leaving_known h.0) h.1 h.3)))
     statement-grown a (typed.For at paren x y z s) k m h =
-        both T k.scopes h.2.scopes m.scopes (pieces_of_optional x ++ pieces_of_optional y ++ pieces_of_optional z) (pieces_of_statement s)
+        last T k.scopes h.3.scopes m.scopes (pieces_of_optional x ++ pieces_of_optional y ++ pieces_of_optional z ++ pieces_of_statement s)
+        (ap known_members h.8)
+        (both T k.scopes h.2.scopes h.3.scopes (pieces_of_optional x ++ pieces_of_optional y ++ pieces_of_optional z) (pieces_of_statement s)
         (both T k.scopes h.1.scopes h.2.scopes (pieces_of_optional x ++ pieces_of_optional y) (pieces_of_optional z)
-        (both T k.scopes h.0.scopes h.1.scopes (pieces_of_optional x) (pieces_of_optional y) (optional-grown x k h.0 h.3) (test-grown y h.0 h.1 h.4))
-        (optional-grown z h.1 h.2 h.5)) (statement-grown (in_a_loop a) s h.2 m h.6)
+        (both T k.scopes h.0.scopes h.1.scopes (pieces_of_optional x) (pieces_of_optional y)
+        (first T k.scopes (entering_known k).scopes h.0.scopes (pieces_of_optional x) refl (optional-grown x (entering_known k) h.0 h.4))
+        (test-grown y h.0 h.1 h.5)) (optional-grown z h.1 h.2 h.6))
+        (inner-grown h.2 h.3 s (statement-grown (in_a_loop a) s (entering_known h.2) h.3 h.7)))
     statement-grown a (typed.ForDeclaration at paren d y z s) k m h =
         last T k.scopes h.3.scopes m.scopes (pieces_of_declaration d ++ pieces_of_optional y ++ pieces_of_optional z ++ pieces_of_statement s)
         (ap known_members h.8)
@@ -540,7 +561,8 @@ module _ (T : Table) where
         (both T k.scopes h.1.scopes h.2.scopes (pieces_of_declaration d ++ pieces_of_optional y) (pieces_of_optional z)
         (both T k.scopes h.0.scopes h.1.scopes (pieces_of_declaration d) (pieces_of_optional y)
         (first T k.scopes (entering_known k).scopes h.0.scopes (pieces_of_declaration d) refl (declaration-grown false d (entering_known k) h.0 h.4))
-        (test-grown y h.0 h.1 h.5)) (optional-grown z h.1 h.2 h.6)) (statement-grown (in_a_loop a) s h.2 h.3 h.7))
+        (test-grown y h.0 h.1 h.5)) (optional-grown z h.1 h.2 h.6))
+        (inner-grown h.2 h.3 s (statement-grown (in_a_loop a) s (entering_known h.2) h.3 h.7)))
     statement-grown a (typed.Break at) k m h = same T k.scopes m.scopes [] (ap (λ (q : Known). q.scopes) h.0)
     statement-grown a (typed.Continue at) k m h = same T k.scopes m.scopes [] (ap (λ (q : Known). q.scopes) h.0)
     statement-grown a (typed.Return at e) k m h = return-grown at a.result e k m h

@@ -127,14 +127,14 @@ module _ (T : Table) where
     statement-same a (typed.Block brace items) k m h = items-same a None items _ h.0 h.1
     statement-same a (typed.Express e) k m h = refl
     statement-same a typed.Empty k m h = refl
-    statement-same a (typed.If at paren c s) k m h = statement-same a s h.0 m h.2
-    statement-same a (typed.IfElse at paren c s r) k m h = both (statement-same a s h.0 h.1 h.3) (statement-same a r h.1 m h.4)
+    statement-same a (typed.If at paren c s) k m h = statement-same a s _ h.1 h.3
+    statement-same a (typed.IfElse at paren c s r) k m h = both (statement-same a s _ h.1 h.4) (statement-same a r _ h.2 h.5)
     statement-same a (typed.Switch at paren e brace items) k m h = items-same (in_a_switch a) (Some (type_of e)) items _ h.1 h.4
-    statement-same a (typed.While at paren c s) k m h = statement-same (in_a_loop a) s h.0 m h.2
-    statement-same a (typed.DoWhile s at paren c) k m h = statement-same (in_a_loop a) s k h.0 h.1
-    statement-same a (typed.For at paren x y z s) k m h = statement-same (in_a_loop a) s h.2 m h.6
+    statement-same a (typed.While at paren c s) k m h = statement-same (in_a_loop a) s _ h.1 h.3
+    statement-same a (typed.DoWhile s at paren c) k m h = statement-same (in_a_loop a) s _ h.0 h.2
+    statement-same a (typed.For at paren x y z s) k m h = statement-same (in_a_loop a) s _ h.3 h.7
     statement-same a (typed.ForDeclaration at paren d y z s) k m h =
-        both (declaration-same false d _ h.0 h.4) (statement-same (in_a_loop a) s h.2 h.3 h.7)
+        both (declaration-same false d _ h.0 h.4) (statement-same (in_a_loop a) s _ h.3 h.7)
     statement-same a (typed.Break at) k m h = refl
     statement-same a (typed.Continue at) k m h = refl
     statement-same a (typed.Return at e) k m h = refl

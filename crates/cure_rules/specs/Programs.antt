@@ -2,6 +2,7 @@
 use Rattle.std.specs.Prelude.{◌≡◌, ℕ, suc, List, [], ◌∷◌, ◌++◌, length, map, replicate, slice_get, slice_index, Option, Some, None, ◌-◌, ◌<◌, ◌≤◌, ◌≢◌}
 use Rattle.cc_base.specs.declared.number.TypeId.{TypeId}
 use Rattle.cc_base.specs.declared.number.NodeId.{NodeId}
+use Rattle.cc_base.specs.declared.place.Place.{Place}
 use Rattle.cc_base.specs.declared.kind.Kind.{Kind}
 use Rattle.cc_base.specs.declared.kind.Kind.TheVariants.{Safe}
 use Rattle.c_types.specs.Table.{Table}
@@ -50,10 +51,10 @@ abbrev pub start_world : Whole → Slots → World
 start_world w slots = record { whole = w; number = 0; variables = []; result = None; slots = slots }
 
 -- DEPTH of `main`, its call, and the exit with what it gives
-abbrev pub EntersMain : World → Program → Piece
-EntersMain w p lines = (a : ℕ)
-    × Then (Gets w Address (Number (function_word p.main.0)) a) (Then (IsGuarded w (EnterMain a) Safe p.main_place)
-        (Line (instr.Call (suc p.main.0) w.slots.row (slot_of w.slots First) ∷ instr.Exit (slot_of w.slots First) ∷ []))) lines
+abbrev pub EntersMain : World → ℕ → Place → Piece
+EntersMain w main at lines = (a : ℕ)
+    × Then (Gets w Address (Number (function_word main)) a) (Then (IsGuarded w (EnterMain a) Safe at)
+        (Line (instr.Call (suc main) w.slots.row (slot_of w.slots First) ∷ instr.Exit (slot_of w.slots First) ∷ []))) lines
 
 -- Function 0: the kept slots are set, the static initialisers run, and `main` is entered.
 pub record IsStart (w : World) (p : Program) (h : cured.Function) : Type 0 where
@@ -71,7 +72,7 @@ pub record IsStart (w : World) (p : Program) (h : cured.Function) : Type 0 where
   pub after : Knowledge
   pub are_set : AreSet w w.slots.kept sets
   pub are_curing : AreCuring p.initialisers.0.items w outside nothing_known after code
-  pub enters_main : EntersMain w p enters
+  pub enters_main : EntersMain w p.main.0 p.main_place enters
   pub body : h.body.0.items ≡ sets ++ (code ++ enters)
 
 -- Programs

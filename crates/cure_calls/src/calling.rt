@@ -1,5 +1,5 @@
 //! The cured code of calls.
-ghost use Rattle.std.specs.Prelude.{◌≡◌, ◌≢◌, ◌+◌, ◌*◌, ◌<◌, ◌≤◌, suc, [], ◌∷◌, Some, None, IfSome, IfNone, length};
+ghost use Rattle.std.specs.Prelude.{◌≡◌, ◌≢◌, ◌+◌, ◌*◌, ◌<◌, ◌≤◌, suc, [], ◌∷◌, Some, None, IfSome, IfNone, IsTrue, length};
 ghost use Rattle.cured_code.specs.declared.instr.Instr.TheVariants as instr;
 ghost use Rattle.check_forms.specs.Pieces.{Line};
 ghost use Rattle.check_insert.specs.Drafts.{Grows};
@@ -36,6 +36,16 @@ fn words_in(k: &Scope<'_>, t: TypeId) -> u32
     }
 }
 
+/// Whether a value of this number is there, and the row has room for its words.
+fn has_room(n: u32, j: u32, words: u32) -> bool
+    requires { words ≤ 3 }
+    ensures there { IsTrue result → n < 256 }
+    ensures room { IsTrue result → j + words ≤ 381 }
+    ensures exact { n < 256 → j + words ≤ 381 → IsTrue result }
+{
+    n < 256 && j <= 381 - words
+}
+
 /// The arguments, values of numbers from `n` on, in the row from its slot `j` on.
 fn put_arguments(out: &mut Draft, k: &Scope<'_>, n: u32, parameters: &[TypeId], j: u32)
     ensures { Grows (ArgumentRow (world_of k.now) n parameters.now j) (FitsRow (world_of k.now) n parameters.now j) out.old out.new }
@@ -44,7 +54,7 @@ fn put_arguments(out: &mut Draft, k: &Scope<'_>, n: u32, parameters: &[TypeId], 
         None => keep(out),
         Some((t, rest)) => {
             let words = words_in(k, *t);
-            if n < 256 && j <= 381 - words {
+            if has_room(n, j, words) {
                 put_copies(out, words, j, column(Temp::Value(n as u8)));
                 put_arguments(out, k, n + 1, rest, j + words)
             } else {

@@ -155,3 +155,14 @@ fn put_inner_call(out: &mut Draft, k: &Scope<'_>, i: Call)
         None => refuse(out),
     }
 }
+
+/// A call.
+pub fn put_call(out: &mut Draft, k: &Scope<'_>, i: Call)
+    ensures { (types : Typing) → Grows (CallCured i (world_of k.now) types) (CanCall (world_of k.now) i.ty i.first) out.old out.new }
+{
+    if k.number == 0 {
+        refuse(out)
+    } else {
+        put_inner_call(out, k, i)
+    }
+}

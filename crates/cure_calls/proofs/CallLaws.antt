@@ -65,16 +65,23 @@ pub ready_then : (P Q : Piece) (R : Type 0) (a b c : Draft) → Grows P R a b �
 unfolding Grows
 ready_then P Q R a b c f g = let p = grows_then P Q R (Unit {0}) a b c f g in (p.0, λ z e. p.1 (z, tt) e)
 
-
 -- returns
 
 pub returns_value : (k : Scope) (types : Typing) (v : Temp) (t : TypeId) (at : Place) (i : IntegerType) (code : List Instr) → k.number ≢ 0
     → IsIntegerAt (whole_of k) t i → Line (instr.Return (fixed_column v) ∷ []) code → ReturnCured v t at (world_of k) types code
 unfolding ReturnCured IsIntegerAt Then Line
 returns_value k types v t at i code inner type h c is same result held =
-    let e : shaped.held_by c t ≡ Some (IntegerOf i) = ap (λ z. shaped.held_shape (shape_at z t)) is.table ∙ ap shaped.held_shape type.0 in
-    (record { type = IntegerOf i; place = Some (fixed_column v); form = Exact; sure = [] }, fixed_column v, inner, sym same ∙ result,
-    ap (known_at (fixed_column v)) (held.2 ∙ e), refl, refl, ap held_shape type.0, ([], code, refl, h, refl))
+    let e : shaped.held_by c t ≡ Some (IntegerOf i) = ap (λ z. shaped.held_shape (shape_at z t)) is.table ∙ ap shaped.held_shape type.0 in (
+      record { type = IntegerOf i; place = Some (fixed_column v); form = Exact; sure = [] },
+      fixed_column v,
+      inner,
+      sym same ∙ result,
+      ap (known_at (fixed_column v)) (held.2 ∙ e),
+      refl,
+      refl,
+      ap held_shape type.0,
+      ([], code, refl, h, refl),
+    )
 
 asks : (k : Scope) (n : NodeId) (u : TypeId) (vs : List Planned) (a : ℕ) (at : Place) (code : List Instr) → ReturnAsks vs ((whole_of k).kind n) a at code
     → ReturnGuard (PointerTo n u) vs (world_of k) a at code
@@ -88,10 +95,17 @@ pub returns_pointer : (k : Scope) (types : Typing) (v : Temp) (t : TypeId) (at :
     → ReturnCured v t at (world_of k) types code
 unfolding ReturnCured IsPointerAt Then
 returns_pointer k types v t at n u code inner type h c is same result held =
-    let e : shaped.held_by c t ≡ Some (PointerTo n u) = ap (λ z. shaped.held_shape (shape_at z t)) is.table ∙ ap shaped.held_shape type in
-    (record { type = PointerTo n u; place = Some (fixed_column v); form = Exact; sure = [] }, fixed_column v, inner, sym same ∙ result,
-    ap (known_at (fixed_column v)) (held.2 ∙ e), refl, refl, ap held_shape type,
-    (h.0, h.1, asks k n u (world_of k).variables (fixed_column v) at h.0 h.2, h.3, h.4))
+    let e : shaped.held_by c t ≡ Some (PointerTo n u) = ap (λ z. shaped.held_shape (shape_at z t)) is.table ∙ ap shaped.held_shape type in (
+      record { type = PointerTo n u; place = Some (fixed_column v); form = Exact; sure = [] },
+      fixed_column v,
+      inner,
+      sym same ∙ result,
+      ap (known_at (fixed_column v)) (held.2 ∙ e),
+      refl,
+      refl,
+      ap held_shape type,
+      (h.0, h.1, asks k n u (world_of k).variables (fixed_column v) at h.0 h.2, h.3, h.4),
+    )
 
 pub no_scalar : (w : World) (t : TypeId) → (HasInteger w.whole t → Prim.⊥) → (HasPointer w.whole t → Prim.⊥) → CanReturn w t → Prim.⊥
 unfolding CanReturn
@@ -160,11 +174,22 @@ are-arguments k types c (t ∷ ts) n j code is h row =
     let none-more : 0 + j ≡ j = omega arith in
     let held = subst (λ z. shaped.HoldsOf c types (temp.Value z) t) zero-more (h 0 t refl) in
     let x = argument k types c t (temp.Value n) (shaped.held_by c t) (ap (λ z. shaped.held_shape (shape_at z t)) is.table) refl held in
-    let one-more : (i : ℕ) → n + suc i ≡ suc n + i = λ i. omega arith in
-    (x.0, fixed_column (temp.Value n), x.1, x.2, x.3, row.0, (row.1.0, row.1.1,
-    subst (λ z. Line (copies (words_in (whole_of k) t) z (fixed_column (temp.Value n))) row.1.0) (sym none-more) row.1.2,
-    are-arguments k types c ts (suc n) (j + words_in (whole_of k) t) row.1.1 is
-    (λ i u e. subst (λ z. shaped.HoldsOf c types (temp.Value z) u) (one-more i) (h (suc i) u e)) row.1.3, row.1.4))
+    let one-more : (i : ℕ) → n + suc i ≡ suc n + i = λ i. omega arith in (
+      x.0,
+      fixed_column (temp.Value n),
+      x.1,
+      x.2,
+      x.3,
+      row.0,
+      (
+        row.1.0,
+        row.1.1,
+        subst (λ z. Line (copies (words_in (whole_of k) t) z (fixed_column (temp.Value n))) row.1.0) (sym none-more) row.1.2,
+        are-arguments k types c ts (suc n) (j + words_in (whole_of k) t) row.1.1 is
+            (λ i u e. subst (λ z. shaped.HoldsOf c types (temp.Value z) u) (one-more i) (h (suc i) u e)) row.1.3,
+        row.1.4,
+      ),
+    )
 
 pub call_cured : (k : Scope) (types : Typing) (i : Call) (m : NodeId) (u : TypeId) (ts : List TypeId) (r : TypeId) (code : List Instr) → k.number ≢ 0
     → IsPointerAt (whole_of k) i.ty m u → IsFunctionAt (whole_of k) u ts r
@@ -179,14 +204,33 @@ call_cured k types i m u ts r code inner type function h c after is s =
     (subst (λ z. CalledBy (world_of k) ((whole_of k).kind m) z s.2 i.first (fixed_column i.callee) (fixed_column i.into) i.place code) e.1
     (subst (λ z. CalledBy (world_of k) ((whole_of k).kind m) u z i.first (fixed_column i.callee) (fixed_column i.into) i.place code) f.0 h)) in
     let held : shaped.held_by c s.3 ≡ held_by (world_of k) s.3 = ap (λ z. shaped.held_shape (shape_at z s.3)) is.table in
-    let rest = g.3 in
-    (s.0, s.1, s.2, s.3, fixed_column i.callee, [], e.2, f.1, s.6, inner, points k.parameters types i.callee s.0 s.1 s.8,
-    (s.10.0, words-few (whole_of k).kind (shape_at (whole_of k).table s.3)),
-    inl (seat, (g.0, g.1, guarded k (call_of (world_of k) seat s.1 (pointer_slots (fixed_column i.callee))) kind i.place g.0
-    (seated-call k kind s.1 (pointer_slots (fixed_column i.callee))) g.2,
-    (rest.0, rest.1, are-arguments k types c s.2 i.first 0 rest.0 is s.9 rest.2, rest.3, rest.4), g.4)),
-    leaves_held k.parameters types after i.into (held_by (world_of k) s.3)
-    (subst (λ z. shaped.Includes (shaped.with_held i.into z types) after) held s.10.1))
+    let rest = g.3 in (
+      s.0,
+      s.1,
+      s.2,
+      s.3,
+      fixed_column i.callee,
+      [],
+      e.2,
+      f.1,
+      s.6,
+      inner,
+      points k.parameters types i.callee s.0 s.1 s.8,
+      (s.10.0, words-few (whole_of k).kind (shape_at (whole_of k).table s.3)),
+      inl (
+        seat,
+        (
+          g.0,
+          g.1,
+          guarded k (call_of (world_of k) seat s.1 (pointer_slots (fixed_column i.callee))) kind i.place g.0
+              (seated-call k kind s.1 (pointer_slots (fixed_column i.callee))) g.2,
+          (rest.0, rest.1, are-arguments k types c s.2 i.first 0 rest.0 is s.9 rest.2, rest.3, rest.4),
+          g.4,
+        ),
+      ),
+      leaves_held k.parameters types after i.into (held_by (world_of k) s.3)
+          (subst (λ z. shaped.Includes (shaped.with_held i.into z types) after) held s.10.1),
+    )
 
 pub can_call : (w : World) (t : TypeId) (n : ℕ) (m : NodeId) (u : TypeId) (ts : List TypeId) (r : TypeId) → IsPointerAt w.whole t m u → IsFunctionAt w.whole u ts r
     → CanCall w t n → FitsRow w n ts 0

@@ -27,7 +27,10 @@ fn words_in(k: &Scope<'_>, t: TypeId) -> u32
     let types = k.layouts.types();
     if t.0 < types.count() {
         match types.shape(t) {
-            TypeShape::Integer { bytes: _, signed: _ } => 1,
+            TypeShape::Integer {
+                bytes: _,
+                signed: _,
+            } => 1,
             TypeShape::Pointer(node, _) => word_number(k.kind_of(*node)),
             _ => 0,
         }

@@ -2,12 +2,10 @@
 use Rattle.std.specs.Prelude.{◌≡◌, ℕ, suc, List, [], ◌∷◌, ◌++◌, length, map, replicate, slice_get, slice_index, Option, Some, None, ◌-◌, ◌<◌, ◌≤◌, ◌≢◌}
 use Rattle.cc_base.specs.declared.number.TypeId.{TypeId}
 use Rattle.cc_base.specs.declared.number.NodeId.{NodeId}
+use Rattle.cc_base.specs.declared.place.Place.{Place}
 use Rattle.cc_base.specs.declared.kind.Kind.{Kind}
 use Rattle.cc_base.specs.declared.kind.Kind.TheVariants.{Safe}
-use Rattle.flat_mem.specs.declared.Area.{Area}
-use Rattle.c_types.specs.Equality.{cells_of}
-use Rattle.c_types.specs.Layouts.{size_of}
-use Rattle.src_mem.specs.Memory.{Planned}
+use Rattle.c_types.specs.Table.{Table}
 use Rattle.cil_form.specs.declared.program.Function.{Function}
 use Rattle.cil_form.specs.declared.program.Static.{Static}
 use Rattle.cil_form.specs.declared.program.Program.{Program}
@@ -25,7 +23,6 @@ use Rattle.check_forms.specs.Pieces.{Piece, Line, Then}
 use Rattle.check_forms.specs.declared.op.Op.TheVariants.{EnterMain}
 use Rattle.sim_relation.specs.Ground.{function_word}
 use Rattle.sim_relation.specs.Points.{Number, Knowledge}
-use Rattle.sim_relation.specs.Objects.{area_by}
 use Rattle.cure_rules.specs.Slots.{Slots, AreSlots, Address, First, slot_of}
 use Rattle.cure_rules.specs.Known.{Whole, World, AreSizes, Gets, nothing_known}
 use Rattle.cure_rules.specs.Checks.{IsGuarded}
@@ -44,8 +41,8 @@ IsFirstOf None first = first ≡ []
 IsFirstOf (Some text) first = (n : ℕ) × (text ≡ first ++ replicate n 0) × (0 < length first → slice_index first (length first - 1) ≢ 0)
 
 -- the areas of the static objects, in order, and what each begins with
-pub record AreGlobals (w : Whole) (statics : List Static) (globals : List GlobalLine) : Type 0 where
-  pub areas : global_areas globals ≡ areas_for w.table w.kind (map (λ (o : Static). plan o.planned) statics)
+pub record AreGlobals (table : Table) (kind : NodeId → Kind) (statics : List Static) (globals : List GlobalLine) : Type 0 where
+  pub areas : global_areas globals ≡ areas_for table kind (map (λ (o : Static). plan o.planned) statics)
   pub first : (k : ℕ) (o : Static) (g : GlobalLine) → slice_get statics k ≡ Some o → slice_get globals k ≡ Some g → IsFirstOf o.text g.first
 
 -- Function 0
@@ -54,10 +51,10 @@ abbrev pub start_world : Whole → Slots → World
 start_world w slots = record { whole = w; number = 0; variables = []; result = None; slots = slots }
 
 -- DEPTH of `main`, its call, and the exit with what it gives
-abbrev pub EntersMain : World → Program → Piece
-EntersMain w p lines = (a : ℕ)
-    × Then (Gets w Address (Number (function_word p.main.0)) a) (Then (IsGuarded w (EnterMain a) Safe p.main_place)
-        (Line (instr.Call (suc p.main.0) w.slots.row (slot_of w.slots First) ∷ instr.Exit (slot_of w.slots First) ∷ []))) lines
+abbrev pub EntersMain : World → ℕ → Place → Piece
+EntersMain w main at lines = (a : ℕ)
+    × Then (Gets w Address (Number (function_word main)) a) (Then (IsGuarded w (EnterMain a) Safe at)
+        (Line (instr.Call (suc main) w.slots.row (slot_of w.slots First) ∷ instr.Exit (slot_of w.slots First) ∷ []))) lines
 
 -- Function 0: the kept slots are set, the static initialisers run, and `main` is entered.
 pub record IsStart (w : World) (p : Program) (h : cured.Function) : Type 0 where
@@ -75,7 +72,7 @@ pub record IsStart (w : World) (p : Program) (h : cured.Function) : Type 0 where
   pub after : Knowledge
   pub are_set : AreSet w w.slots.kept sets
   pub are_curing : AreCuring p.initialisers.0.items w outside nothing_known after code
-  pub enters_main : EntersMain w p enters
+  pub enters_main : EntersMain w p.main.0 p.main_place enters
   pub body : h.body.0.items ≡ sets ++ (code ++ enters)
 
 -- Programs
@@ -112,7 +109,7 @@ pub record AreCured (w : Whole) (p : Program) (parents : List ℕ) (parts : Part
   pub sizes : AreSizes w
   pub signatures : AreSignatures w.table w.kind w.signature parts.sigs
   pub nodes : parts.nodes ≡ parents
-  pub globals : AreGlobals w p.statics parts.globals
+  pub globals : AreGlobals w.table w.kind p.statics parts.globals
   pub count : length parts.functions ≡ suc (length p.functions)
   pub functions : (k : ℕ) (f : Function) → slice_get p.functions k ≡ Some f → IsFunctionAt w parts k f
   pub first : cured.Function

@@ -1,0 +1,4 @@
+pub mod Classes
+pub mod Signed
+pub mod Pushing
+pub mod Statics

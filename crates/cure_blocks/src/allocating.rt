@@ -4,17 +4,17 @@ ghost use Rattle.c_types.specs.Cells.{holds_pointer};
 ghost use Rattle.cil_form.specs.Typing.{Typing};
 ghost use Rattle.check_forms.specs.Pieces.{Line, When};
 ghost use Rattle.check_insert.specs.Drafts.{Grows};
-ghost use Rattle.cure_rules.specs.Known.{source_size};
 ghost use Rattle.cure_rules.specs.Calling.{BlockWords, has_elements, is_tagged_kind};
 ghost use Rattle.cure_scope.specs.Scopes.{whole_of, world_of};
 ghost use Rattle.cure_blocks.specs.Cured.{AllocateCured, CanAllocate, IsTypeIn};
 ghost use Rattle.cure_blocks.specs.Blocks.{bytes_slot, BlockMade, BlockGiven, AmountLines, MallocLines, CallocLines};
 
-use crate::converting::{cured_size, put_noded};
+use crate::converting::put_noded;
 use cc_base::{Kind, Place, TypeId};
 use check_forms::{Fixed, Op};
 use check_insert::{Draft, SlotLine, choose, put, put_lines, refuse, start};
 use cil_form::Allocate;
+use cure_instrs::{cured_size, source_size};
 use cure_scope::{AMOUNT, BYTES, CHARGE, FIRST, MADE, OFFSET, SIZE, Scope, column, put_guarded};
 use cured_code::Instr;
 use phys_types::Known;
@@ -25,18 +25,6 @@ pub struct Block {
     pub kind: Kind,
     pub ty: TypeId,
     pub holds: bool,
-}
-
-/// The bytes of a type; of one that isn't complete none.
-fn source_size(k: &Scope<'_>, t: TypeId) -> u64
-    ensures { result ≡ source_size (whole_of k.now) t }
-{
-    let types = k.layouts.types();
-    if t.0 < types.count() && types.is_complete(t) {
-        types.size_of(t)
-    } else {
-        0
-    }
 }
 
 /// Whether a block consists of whole elements, which grow as they are cured.

@@ -1,5 +1,5 @@
 //! The cured code of calls.
-ghost use Rattle.std.specs.Prelude.{◌≡◌, ◌≢◌, ◌+◌, ◌*◌, ◌<◌, ◌≤◌, suc, [], ◌∷◌, Some, None, IfSome, IfNone, length};
+ghost use Rattle.std.specs.Prelude.{◌≡◌, ◌≢◌, ◌+◌, ◌*◌, ◌<◌, ◌≤◌, suc, [], ◌∷◌, Some, None, IfSome, IfNone, IsTrue, length};
 ghost use Rattle.cured_code.specs.declared.instr.Instr.TheVariants as instr;
 ghost use Rattle.check_forms.specs.Pieces.{Line};
 ghost use Rattle.check_insert.specs.Drafts.{Grows};
@@ -27,13 +27,26 @@ fn words_in(k: &Scope<'_>, t: TypeId) -> u32
     let types = k.layouts.types();
     if t.0 < types.count() {
         match types.shape(t) {
-            TypeShape::Integer { bytes: _, signed: _ } => 1,
+            TypeShape::Integer {
+                bytes: _,
+                signed: _,
+            } => 1,
             TypeShape::Pointer(node, _) => word_number(k.kind_of(*node)),
             _ => 0,
         }
     } else {
         0
     }
+}
+
+/// Whether a value of this number is there, and the row has room for its words.
+fn has_room(n: u32, j: u32, words: u32) -> bool
+    requires { words ≤ 3 }
+    ensures there { IsTrue result → n < 256 }
+    ensures room { IsTrue result → j + words ≤ 381 }
+    ensures exact { n < 256 → j + words ≤ 381 → IsTrue result }
+{
+    n < 256 && j <= 381 - words
 }
 
 /// The arguments, values of numbers from `n` on, in the row from its slot `j` on.
@@ -44,7 +57,7 @@ fn put_arguments(out: &mut Draft, k: &Scope<'_>, n: u32, parameters: &[TypeId], 
         None => keep(out),
         Some((t, rest)) => {
             let words = words_in(k, *t);
-            if n < 256 && j <= 381 - words {
+            if has_room(n, j, words) {
                 put_copies(out, words, j, column(Temp::Value(n as u8)));
                 put_arguments(out, k, n + 1, rest, j + words)
             } else {
@@ -143,5 +156,16 @@ fn put_inner_call(out: &mut Draft, k: &Scope<'_>, i: Call)
             None => refuse(out),
         },
         None => refuse(out),
+    }
+}
+
+/// A call.
+pub fn put_call(out: &mut Draft, k: &Scope<'_>, i: Call)
+    ensures { (types : Typing) → Grows (CallCured i (world_of k.now) types) (CanCall (world_of k.now) i.ty i.first) out.old out.new }
+{
+    if k.number == 0 {
+        refuse(out)
+    } else {
+        put_inner_call(out, k, i)
     }
 }

@@ -3,3 +3,6 @@
 
 mod calling;
 mod returning;
+
+pub use calling::put_call;
+pub use returning::put_return;

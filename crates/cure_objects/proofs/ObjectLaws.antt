@@ -99,12 +99,12 @@ pointer-stored k Safe kind s v code h = h
 pointer-stored k Seq kind s v code h = h
 pointer-stored k Rtti kind s v code h = h
 
-part-set : (k : Scope) (kind : Kind) (o : Object) (n : ℕ) (x : List Instr) → PartSet kind k o n x
+pub part_set : (k : Scope) (kind : Kind) (o : Object) (n : ℕ) (x : List Instr) → PartSet kind k o n x
     → (b : ℕ) × (seats : Seat) × accesses.IsHome kind × (part_at ≡ part_slots (world_of k) b)
     × Then (Gets (world_of k) Base (Start o) b) (Then (Gets (world_of k) Offset (Number n) (seats Offset))
     (Line (instr.Add (slot_of (world_of k).slots Address) b (seats Offset) ∷ []))) x
 unfolding Line Then
-part-set k Safe o n x h = (
+part_set k Safe o n x h = (
   seat Base,
   seat,
   tt,
@@ -117,7 +117,7 @@ part-set k Safe o n x h = (
     h,
   ),
 )
-part-set k Wild o n x h = (
+part_set k Wild o n x h = (
   seat Base,
   seat,
   tt,
@@ -130,8 +130,8 @@ part-set k Wild o n x h = (
     h,
   ),
 )
-part-set k Seq o n x h = absurd h
-part-set k Rtti o n x h = absurd h
+part_set k Seq o n x h = absurd h
+part_set k Rtti o n x h = absurd h
 
 scalar-cured : (k : Scope) (types : Typing) (c : shaped.Context) (v : Temp) (t : TypeId) (home : NodeId) (at assignment : Place) (y : List Instr)
     → c.table ≡ (whole_of k).table → shaped.HoldsOf c types v t
@@ -194,7 +194,7 @@ part_stored k types o home u offset v t at assignment n code far complete h c af
     let kind = (whole_of k).kind home in
     let part = subst (λ z. shaped.IsPart z u offset t) is.table s.0.1 in
     let m = far (whole u t offset complete part) in
-    let set = part-set k kind o (cured_offset w kind u offset) h.0 (subst (λ z. PartSet kind k o z h.0) m h.2) in (
+    let set = part_set k kind o (cured_offset w kind u offset) h.0 (subst (λ z. PartSet kind k o z h.0) m h.2) in (
       part_at,
       either-behind (Targets (target.Part o home u offset) w (known_of (fixed_slots k.parameters) types) t part_at)
           (StoresInteger w v t part_at kind at (known_of (fixed_slots k.parameters) types))

@@ -35,7 +35,7 @@ pub struct Part {
 
 /// How far a part lies behind the start of an object once cured.
 #[tactic(auto, unfolding(crate::specs::Cured::CanPlace))]
-fn part_offset(k: &Scope<'_>, kind: Kind, u: TypeId, offset: u64) -> Option<u64>
+pub(crate) fn part_offset(k: &Scope<'_>, kind: Kind, u: TypeId, offset: u64) -> Option<u64>
     ensures there { IfSome result (λ n. IsBetweenPointers (cells_of k.now.layouts.now.table u) offset → n ≡ cured_offset (world_of k.now) kind u offset) }
     ensures complete { IfSome result (λ n. IsComplete k.now.layouts.now.table u) }
     ensures none { IfNone result (CanPlace (whole_of k.now) u offset → ⊥) }
@@ -58,7 +58,7 @@ fn part_offset(k: &Scope<'_>, kind: Kind, u: TypeId, offset: u64) -> Option<u64>
 
 /// The address of so many cured bytes into an object.
 #[tactic(auto, using(cure_instrs::proofs::PieceLaws::refused))]
-fn put_part(out: &mut Draft, k: &Scope<'_>, kind: Kind, o: Object, n: u64)
+pub(crate) fn put_part(out: &mut Draft, k: &Scope<'_>, kind: Kind, o: Object, n: u64)
     ensures { Grows (PartSet kind k.now o n) (IsHome kind) out.old out.new }
 {
     let one = start_line(k, o, BASE);

@@ -77,12 +77,29 @@ move_cured k types into p n way t at m u i code type same h c after is whole s =
     let held = subst (λ z. types p ≡ Some (PointerTo z u)) (sym e.0) (subst (λ z. types p ≡ Some (PointerTo s.0 z)) (sym e.1) s.4.1) in
     let more = subst (λ z. shaped.Includes (shaped.with_held into (Some (PointerTo z u)) types) after) (sym e.0)
     (subst (λ z. shaped.Includes (shaped.with_held into (Some (PointerTo s.0 z)) types) after) (sym e.1) s.6.1) in
-    let kind = (whole_of k).kind m in
-    (m, u, fixed_column p, [], i, fixed_column n, seat, type', complete e, points k.parameters types p m u (s.4.0, held),
-    is_exactly k.parameters types n i (s.5.1.0, same), takes k into (whole_of k).kind m s.6.0,
-    (h.0, h.1, guarded k (move_by (world_of k) seat kind u (pointer_slots (fixed_column p)) way i (fixed_column n)) kind at h.0
-    (seated-move k kind u (pointer_slots (fixed_column p)) way i (fixed_column n)) h.2, h.3, h.4),
-    leaves_held k.parameters types after into (Some (PointerTo m u)) more)
+    let kind = (whole_of k).kind m in (
+      m,
+      u,
+      fixed_column p,
+      [],
+      i,
+      fixed_column n,
+      seat,
+      type',
+      complete e,
+      points k.parameters types p m u (s.4.0, held),
+      is_exactly k.parameters types n i (s.5.1.0, same),
+      takes k into (whole_of k).kind m s.6.0,
+      (
+        h.0,
+        h.1,
+        guarded k (move_by (world_of k) seat kind u (pointer_slots (fixed_column p)) way i (fixed_column n)) kind at h.0
+            (seated-move k kind u (pointer_slots (fixed_column p)) way i (fixed_column n)) h.2,
+        h.3,
+        h.4,
+      ),
+      leaves_held k.parameters types after into (Some (PointerTo m u)) more,
+    )
   where
     type' : shape_at (whole_of k).table t ≡ shape.Pointer m u
     type' = at_pointer (whole_of k) t m u type
@@ -120,10 +137,19 @@ module _ (k : Scope) (outer : Kind) (of : TypeId) (inner : Kind) (size : ℕ) (t
       (PartWords inner (world_of k) seat size t v a (seat Offset) (a + 1))) code
   unfolding Then
   part-of h =
-      let g = h.3 in
-      (h.0, h.1, inr (refl, h.2),
-      (g.0, g.1, guarded k (address_of_part (world_of k) seat outer of (pointer_slots a)) outer at g.0 (seated_part k outer of (pointer_slots a)) g.2,
-      part-words k inner size t v a (seat Offset) g.1 g.3, g.4), h.4)
+      let g = h.3 in (
+        h.0,
+        h.1,
+        inr (refl, h.2),
+        (
+          g.0,
+          g.1,
+          guarded k (address_of_part (world_of k) seat outer of (pointer_slots a)) outer at g.0 (seated_part k outer of (pointer_slots a)) g.2,
+          part-words k inner size t v a (seat Offset) g.1 g.3,
+          g.4,
+        ),
+        h.4,
+      )
 
 decays : (k : Scope) (checked : Bool) (outer inner : Kind) (of t : TypeId) (v a : ℕ) (at : Place) (code : List Instr)
     → DecayOf checked (world_of k) outer of inner (cured_size (whole_of k) of) t v a at code
@@ -139,19 +165,29 @@ pub decay_cured : (k : Scope) (types : Typing) (into from : Temp) (outer : NodeI
     → DecayOf checked (world_of k) ((whole_of k).kind outer) of ((whole_of k).kind inner) (cured_size (whole_of k) of) t (fixed_column into) (fixed_column from) at code
     → PointCured (point.Decay into from outer of checked inner t at) (world_of k) types code
 unfolding PointCured
-decay_cured k types into from outer of checked inner t at code h c after is whole s =
-    (fixed_column from, [], seat, is_address k.parameters types from outer of (held-array checked types from outer of s.4), takes k into (whole_of k).kind inner s.5.0,
-    decays k checked ((whole_of k).kind outer) ((whole_of k).kind inner) of t (fixed_column into) (fixed_column from) at code h,
-    leaves_held k.parameters types after into (Some (PointerTo inner t)) s.5.1)
+decay_cured k types into from outer of checked inner t at code h c after is whole s = (
+  fixed_column from,
+  [],
+  seat,
+  is_address k.parameters types from outer of (held-array checked types from outer of s.4),
+  takes k into (whole_of k).kind inner s.5.0,
+  decays k checked ((whole_of k).kind outer) ((whole_of k).kind inner) of t (fixed_column into) (fixed_column from) at code h,
+  leaves_held k.parameters types after into (Some (PointerTo inner t)) s.5.1,
+)
 
 pub address_cured : (k : Scope) (types : Typing) (into from : Temp) (outer inner : NodeId) (t : TypeId) (code : List Instr)
     → Line (part_row ((whole_of k).kind inner) (world_of k) (cured_size (whole_of k) t) t (fixed_column into) (fixed_column from) 381) code
     → PointCured (point.Address into from outer inner t) (world_of k) types code
 unfolding PointCured
-address_cured k types into from outer inner t code h c after is whole s =
-    (fixed_column from, [], seat, is_address k.parameters types from outer t (inr s.3), takes k into (whole_of k).kind inner s.4.0,
-    part-words k ((whole_of k).kind inner) (cured_size (whole_of k) t) t (fixed_column into) (fixed_column from) 381 code h,
-    leaves_held k.parameters types after into (Some (PointerTo inner t)) s.4.1)
+address_cured k types into from outer inner t code h c after is whole s = (
+  fixed_column from,
+  [],
+  seat,
+  is_address k.parameters types from outer t (inr s.3),
+  takes k into (whole_of k).kind inner s.4.0,
+  part-words k ((whole_of k).kind inner) (cured_size (whole_of k) t) t (fixed_column into) (fixed_column from) 381 code h,
+  leaves_held k.parameters types after into (Some (PointerTo inner t)) s.4.1,
+)
 
 -- the offset is that of the member, where no pointer lies across it
 pub member_cured : (k : Scope) (types : Typing) (into from : Temp) (outer : NodeId) (t : TypeId) (i : ℕ) (inner : NodeId) (u : TypeId) (at : Place) (offset : ℕ) (code : List Instr)
@@ -165,21 +201,29 @@ member_cured k types into from outer t i inner u at offset code same h c after i
     let complete = subst (λ z. IsComplete z t) table s.2.1 in
     let aggregate = subst (λ z. IsAggregate z t) table s.3 in
     let there = subst (λ z. i < length (members_at z t)) table s.4 in
-    let e = same (whole t i complete aggregate there) in
-    (fixed_column from, [], seat, is_address k.parameters types from outer t s.6, takes k into (whole_of k).kind inner s.7.0,
-    part-of k ((whole_of k).kind outer) t ((whole_of k).kind inner) (cured_size (whole_of k) u) u
-    (cured_offset (world_of k) ((whole_of k).kind outer) t (offset_of (whole_of k).table t i)) (fixed_column into) (fixed_column from) at code
-    (subst (λ z. PartOf (world_of k) ((whole_of k).kind outer) t ((whole_of k).kind inner) (cured_size (whole_of k) u) u z (fixed_column into) (fixed_column from) at code) e h),
-    leaves_held k.parameters types after into (Some (PlaceOf inner u)) s.7.1)
+    let e = same (whole t i complete aggregate there) in (
+      fixed_column from,
+      [],
+      seat,
+      is_address k.parameters types from outer t s.6,
+      takes k into (whole_of k).kind inner s.7.0,
+      part-of k ((whole_of k).kind outer) t ((whole_of k).kind inner) (cured_size (whole_of k) u) u
+          (cured_offset (world_of k) ((whole_of k).kind outer) t (offset_of (whole_of k).table t i)) (fixed_column into) (fixed_column from) at code
+          (subst (λ z. PartOf (world_of k) ((whole_of k).kind outer) t ((whole_of k).kind inner) (cured_size (whole_of k) u) u z (fixed_column into) (fixed_column from) at code) e h),
+      leaves_held k.parameters types after into (Some (PlaceOf inner u)) s.7.1,
+    )
 
 pub null_cured : (k : Scope) (types : Typing) (into p : Temp) (t : TypeId) (different : Bool) (x : HeldType) (code : List Instr) → types p ≡ Some x
     → Then (Line (tested_lines (is_wide (whole_of k) x) (fixed_column p)))
     (Line (null_operation different (fixed_column into) (tested_slot (is_wide (whole_of k) x) (fixed_column p)) 381 ∷ [])) code
     → PointCured (point.IsNull into p t different) (world_of k) types code
 unfolding PointCured Then
-null_cured k types into p t different x code e h c after is whole s =
-    (tested_slot (is_wide (whole_of k) x) (fixed_column p), (s.4.0, omega arith), (h.0, h.1, is_tested k types p x h.0 e h.2, h.3, h.4),
-    leaves_held k.parameters types after into (Some (IntegerOf int)) s.4.1)
+null_cured k types into p t different x code e h c after is whole s = (
+  tested_slot (is_wide (whole_of k) x) (fixed_column p),
+  (s.4.0, omega arith),
+  (h.0, h.1, is_tested k types p x h.0 e h.2, h.3, h.4),
+  leaves_held k.parameters types after into (Some (IntegerOf int)) s.4.1,
+)
 
 -- Two pointers
 
@@ -211,13 +255,32 @@ difference_cured k types into a b t s at m n u v code left right h c after is wh
     (subst (λ x. DifferenceOf (world_of k) ((whole_of k).kind m) ((whole_of k).kind n) x (fixed_column into) (fixed_column a) (fixed_column b) at code) e.1 h)) in
     let kind = (whole_of k).kind z.0 in let other = (whole_of k).kind z.1 in
     let size = number_at seat Size (reach_of (world_of k) kind z.2) in
-    let rest = g.3 in
-    (z.0, z.1, z.2, z.3, fixed_column a, fixed_column b, [], [], seat, e.2, f.2, subst (λ x. IsComplete x z.2) is.table z.6.1,
-    points k.parameters types a z.0 z.2 z.9, points k.parameters types b z.1 z.3 z.10, (z.11.0, omega arith),
-    (g.0, g.1, guarded k (order_by (world_of k) seat kind (pointer_slots (fixed_column a)) other (pointer_slots (fixed_column b)) (Some size)) kind at g.0
-    (seated-order k kind other (pointer_slots (fixed_column a)) (pointer_slots (fixed_column b)) (Some size) (seated_size (reach_of (world_of k) kind z.2))) g.2,
-    rest.4 ∙ ap (λ x. x ++ rest.1) rest.2 ∙ ap (λ x. instr.Sub (fixed_column into) (fixed_column a) (fixed_column b) ∷ x) rest.3, g.4),
-    leaves_held k.parameters types after into (Some (IntegerOf long)) z.11.1)
+    let rest = g.3 in (
+      z.0,
+      z.1,
+      z.2,
+      z.3,
+      fixed_column a,
+      fixed_column b,
+      [],
+      [],
+      seat,
+      e.2,
+      f.2,
+      subst (λ x. IsComplete x z.2) is.table z.6.1,
+      points k.parameters types a z.0 z.2 z.9,
+      points k.parameters types b z.1 z.3 z.10,
+      (z.11.0, omega arith),
+      (
+        g.0,
+        g.1,
+        guarded k (order_by (world_of k) seat kind (pointer_slots (fixed_column a)) other (pointer_slots (fixed_column b)) (Some size)) kind at g.0
+            (seated-order k kind other (pointer_slots (fixed_column a)) (pointer_slots (fixed_column b)) (Some size) (seated_size (reach_of (world_of k) kind z.2))) g.2,
+        rest.4 ∙ ap (λ x. x ++ rest.1) rest.2 ∙ ap (λ x. instr.Sub (fixed_column into) (fixed_column a) (fixed_column b) ∷ x) rest.3,
+        g.4,
+      ),
+      leaves_held k.parameters types after into (Some (IntegerOf long)) z.11.1,
+    )
 
 pub compare_cured : (k : Scope) (types : Typing) (which : Comparison) (into a b : Temp) (t s : TypeId) (at : Place) (m n : NodeId) (u v : TypeId) (code : List Instr)
     → IsPointerAt (whole_of k) t m u → IsPointerAt (whole_of k) s n v
@@ -229,12 +292,31 @@ compare_cured k types which into a b t s at m n u v code left right h c after is
     let f = one_pointer (world_of k) c s n z.1 v z.3 is right z.5 in
     let g = subst (λ x. ComparedBy which (world_of k) ((whole_of k).kind x) ((whole_of k).kind z.1) (fixed_column into) (fixed_column a) (fixed_column b) at code) e.0
     (subst (λ x. ComparedBy which (world_of k) ((whole_of k).kind m) ((whole_of k).kind x) (fixed_column into) (fixed_column a) (fixed_column b) at code) f.0 h) in
-    let kind = (whole_of k).kind z.0 in let other = (whole_of k).kind z.1 in
-    (z.0, z.1, z.2, z.3, fixed_column a, fixed_column b, [], [], seat, e.2, f.2,
-    points k.parameters types a z.0 z.2 z.7, points k.parameters types b z.1 z.3 z.8, (z.9.0, omega arith),
-    (g.0, g.1, guarded k (comparing which (world_of k) seat kind (pointer_slots (fixed_column a)) other (pointer_slots (fixed_column b))) kind at g.0
-    (seated-comparing k which kind other (pointer_slots (fixed_column a)) (pointer_slots (fixed_column b))) g.2, g.3, g.4),
-    leaves_held k.parameters types after into (Some (IntegerOf int)) z.9.1)
+    let kind = (whole_of k).kind z.0 in let other = (whole_of k).kind z.1 in (
+      z.0,
+      z.1,
+      z.2,
+      z.3,
+      fixed_column a,
+      fixed_column b,
+      [],
+      [],
+      seat,
+      e.2,
+      f.2,
+      points k.parameters types a z.0 z.2 z.7,
+      points k.parameters types b z.1 z.3 z.8,
+      (z.9.0, omega arith),
+      (
+        g.0,
+        g.1,
+        guarded k (comparing which (world_of k) seat kind (pointer_slots (fixed_column a)) other (pointer_slots (fixed_column b))) kind at g.0
+            (seated-comparing k which kind other (pointer_slots (fixed_column a)) (pointer_slots (fixed_column b))) g.2,
+        g.3,
+        g.4,
+      ),
+      leaves_held k.parameters types after into (Some (IntegerOf int)) z.9.1,
+    )
 
 pub no_left : (w : Whole) (t s : TypeId) → (HasPointer w t → Prim.⊥) → HavePointers w t s → Prim.⊥
 unfolding HavePointers

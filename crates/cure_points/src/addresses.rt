@@ -128,7 +128,14 @@ pub fn put_decay(out: &mut Draft, k: &Scope<'_>, d: ArrayAt, checked: bool, at: 
 }
 
 /// `&` of what is at the address in a temporary, as a part of its own.
-pub fn put_address(out: &mut Draft, k: &Scope<'_>, into: Temp, from: Temp, inner: NodeId, ty: TypeId)
+pub fn put_address(
+    out: &mut Draft,
+    k: &Scope<'_>,
+    into: Temp,
+    from: Temp,
+    inner: NodeId,
+    ty: TypeId,
+)
     ensures { (types : Typing) (outer : NodeId) → Grows (PointCured (point.Address into from outer inner ty) (world_of k.now) types) (Unit {0}) out.old out.new }
 {
     let part = Part {
@@ -152,7 +159,14 @@ fn null_operation(different: bool, v: u32, a: u32) -> Instr
 
 /// A pointer is compared with a null constant.
 #[tactic(auto, using(cure_instrs::proofs::PieceLaws::refused))]
-pub fn put_null(out: &mut Draft, k: &Scope<'_>, held: Option<Held>, into: Temp, pointer: Temp, different: bool)
+pub fn put_null(
+    out: &mut Draft,
+    k: &Scope<'_>,
+    held: Option<Held>,
+    into: Temp,
+    pointer: Temp,
+    different: bool,
+)
     ensures { (types : Typing) (t : TypeId) → types pointer ≡ held_views held → Grows (PointCured (point.IsNull into pointer t different) (world_of k.now) types) (IsSome (held_views held)) out.old out.new }
 {
     match held {

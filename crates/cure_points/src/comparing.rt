@@ -15,7 +15,9 @@ use cc_base::{Kind, Place, TypeId};
 use check_forms::{Fixed, Op, PointerSlots};
 use check_insert::{Draft, keep, put, refuse};
 use cil_form::{Comparison, Temp};
-use cure_instrs::{home_slot, is_wide_kind, pointer_in, put_compared, put_three, put_two, size_at, wild_numbers};
+use cure_instrs::{
+    home_slot, is_wide_kind, pointer_in, put_compared, put_three, put_two, size_at, wild_numbers,
+};
 use cure_scope::{FIRST, NOUGHT, SECOND, Scope, column, pointer_slots, put_guarded};
 use cured_code::Instr;
 
@@ -97,7 +99,14 @@ fn put_sameness(out: &mut Draft, kinds: (Kind, Kind), v: u32, p: PointerSlots, q
 }
 
 /// A comparison of two pointers.
-fn put_comparison(out: &mut Draft, which: Comparison, kinds: (Kind, Kind), v: u32, p: PointerSlots, q: PointerSlots)
+fn put_comparison(
+    out: &mut Draft,
+    which: Comparison,
+    kinds: (Kind, Kind),
+    v: u32,
+    p: PointerSlots,
+    q: PointerSlots,
+)
     ensures { (k : Scope) → Grows (Line (compared_lines which (world_of k) kinds.0 kinds.1 v p q)) (Unit {0}) out.old out.new }
 {
     match which {
@@ -107,9 +116,23 @@ fn put_comparison(out: &mut Draft, which: Comparison, kinds: (Kind, Kind), v: u3
             put(out, Instr::Eq(v, v, NOUGHT))
         }
         Comparison::Less => put_compared(out, Comparison::Less, true, v, p.first, q.first),
-        Comparison::LessOrEqual => put_compared(out, Comparison::LessOrEqual, true, v, p.first, q.first),
+        Comparison::LessOrEqual => put_compared(
+            out,
+            Comparison::LessOrEqual,
+            true,
+            v,
+            p.first,
+            q.first,
+        ),
         Comparison::Greater => put_compared(out, Comparison::Greater, true, v, p.first, q.first),
-        Comparison::GreaterOrEqual => put_compared(out, Comparison::GreaterOrEqual, true, v, p.first, q.first),
+        Comparison::GreaterOrEqual => put_compared(
+            out,
+            Comparison::GreaterOrEqual,
+            true,
+            v,
+            p.first,
+            q.first,
+        ),
     }
 }
 

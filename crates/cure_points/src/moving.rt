@@ -19,7 +19,9 @@ use check_forms::{Direction as Way, Distance, Factor, Fixed, Op, Reach};
 use check_insert::{Draft, put, refuse};
 use cil_form::{Direction, Temp};
 use cure_instrs::{Held, Width, pointer_in, put_three, put_two, reach_of, wild_numbers};
-use cure_scope::{LEAST, LEAST_FACTOR, MOVED, SIZE, SPAN, SPAN_FACTOR, Scope, column, pointer_slots, put_guarded};
+use cure_scope::{
+    LEAST, LEAST_FACTOR, MOVED, SIZE, SPAN, SPAN_FACTOR, Scope, column, pointer_slots, put_guarded,
+};
 use cured_code::Instr;
 
 /// How far a pointer may lie from the start of its part.

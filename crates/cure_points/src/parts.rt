@@ -96,13 +96,25 @@ pub struct Outer {
 }
 
 /// The address of a part, behind its check.
-pub fn put_part_of(out: &mut Draft, k: &Scope<'_>, from: Outer, part: Part, ov: (u64, u32), at: Place)
+pub fn put_part_of(
+    out: &mut Draft,
+    k: &Scope<'_>,
+    from: Outer,
+    part: Part,
+    ov: (u64, u32),
+    at: Place,
+)
     requires to { ov.1 + 3 ≤ 1948 }
     requires from { from.a + 3 ≤ 1948 }
     ensures { Grows (PartOf (world_of k.now) from.kind from.ty part.kind part.size part.ty ov.0 ov.1 from.a at) (Unit {0}) out.old out.new }
 {
     let (offset, v) = ov;
     put(out, Instr::Const(OFFSET, offset));
-    put_guarded(out, part_operation(k, from.kind, from.ty, from.a), from.kind, at);
+    put_guarded(
+        out,
+        part_operation(k, from.kind, from.ty, from.a),
+        from.kind,
+        at,
+    );
     put_part(out, k, part, v, from.a, OFFSET)
 }

@@ -1,6 +1,6 @@
 -- Static objects, one after another, and the zeros at the end of a text.
 use Rattle.std.specs.Prelude.{slice_index, ◌≢◌}
-use Rattle.std.proofs.Common.{◌≡◌, ℕ, zero, suc, ◌+◌, ◌-◌, ◌<◌, ◌≤◌, List, [], ◌∷◌, ◌++◌, length, map, take, replicate, get_or, slice_get, Option, None, Some, refl, ap, sym, subst, ◌∙◌, inl, inr, ◌⊎◌, arith, append_assoc}
+use Rattle.std.proofs.Common.{◌≡◌, ℕ, zero, suc, ◌+◌, ◌-◌, ◌<◌, ◌≤◌, List, [], ◌∷◌, ◌++◌, length, map, take, drop, replicate, get_or, slice_get, Option, None, Some, refl, ap, sym, subst, ◌∙◌, inl, inr, ◌⊎◌, arith, append_assoc}
 use Rattle.std.proofs.lemmas.Option.{slice_get-get_or}
 use Rattle.cc_base.specs.declared.number.NodeId.{NodeId}
 use Rattle.cc_base.specs.declared.kind.Kind.{Kind}
@@ -9,6 +9,10 @@ use Rattle.cil_form.specs.declared.program.Static.{Static}
 use Rattle.cil_form.specs.Machine.{plan}
 use Rattle.cured_code.specs.declared.parts.GlobalLine.{GlobalLine}
 use Rattle.cured_code.specs.Tables.{area_of}
+use Rattle.cured_code.specs.FlatState.{PlacedArea}
+use Rattle.cured_code.specs.FlatMachine.{global_areas, placed}
+use Rattle.flat_mem.specs.Placement.{area_size}
+use Rattle.flat_mem.proofs.AreaLaws.{area_size-most}
 use Rattle.cure_rules.specs.Functions.{area_for}
 use Rattle.cure_rules.specs.Programs.{IsFirstOf, AreGlobals}
 use Rattle.cure_tables.specs.Objects.{IsGlobalOf}
@@ -147,3 +151,37 @@ first_left text first count f m z (n, e) = subst (IsFirstOf (Some text)) (sym f)
         let s = same in
         let k : 0 < count = omega (arith, l, s) in
         z k (sym (index_front text count (count - 1) (omega (arith, k))) ∙ ap (λ i. slice_index (take count text) (i - 1)) (sym s) ∙ h)
+
+-- Addresses
+
+drop_next : (xs : List GlobalLine) (i : ℕ) (d : GlobalLine) → i < length xs → drop i xs ≡ get_or xs i d ∷ drop (i + 1) xs
+drop_next [] i d l = absurd (omega (arith, l))
+drop_next (x ∷ xs) zero d l = refl
+drop_next (x ∷ xs) (suc i) d l = drop_next xs i d (omega (arith, l)) ∙ ap (λ n. get_or xs i d ∷ drop n (x ∷ xs)) (let e : suc (i + 1) ≡ suc i + 1 = omega arith in e)
+
+-- the addresses so far, and those of the areas from `start` on
+abbrev pub with_rest : List ℕ → List GlobalLine → ℕ → List ℕ
+with_rest all rest start = all ++ map (λ (a : PlacedArea). a.address) (placed (global_areas rest) start)
+
+pub rest_next : (globals : List GlobalLine) (i start : ℕ) (all new : List ℕ) (g : GlobalLine) (next : ℕ) → i < length globals → get_or globals i g ≡ g → new ≡ all ++ (start + 8) ∷ []
+    → next ≡ start + area_size (area_of g.area) → with_rest new (drop (i + 1) globals) next ≡ with_rest all (drop i globals) start
+rest_next globals i start all new g next l e n s =
+    (λ j. n j ++ map (λ (a : PlacedArea). a.address) (placed (global_areas (drop (i + 1) globals)) (s j)))
+    ∙ append_assoc all ((start + 8) ∷ []) (map (λ (a : PlacedArea). a.address) (placed (global_areas (drop (i + 1) globals)) (start + area_size (area_of g.area))))
+    ∙ sym (ap (λ rest. with_rest all rest start) (drop_next globals i g l ∙ ap (λ x. x ∷ drop (i + 1) globals) e))
+
+pub rest_none : (globals : List GlobalLine) (i start : ℕ) (all : List ℕ) → i ≡ length globals → with_rest all (drop i globals) start ≡ all
+rest_none globals i start all e = ap (λ rest. with_rest all rest start) (none globals i e) ∙ nil all
+  where
+    none : (xs : List GlobalLine) (i : ℕ) → i ≡ length xs → drop i xs ≡ []
+    none [] zero e = refl
+    none [] (suc i) e = refl
+    none (x ∷ xs) zero e = absurd (omega arith)
+    none (x ∷ xs) (suc i) e = none xs i (omega arith)
+
+    nil : (xs : List ℕ) → xs ++ [] ≡ xs
+    nil [] = refl
+    nil (x ∷ xs) = ap (λ ys. x ∷ ys) (nil xs)
+
+pub area_room : (g : GlobalLine) → g.area.bytes ≤ 3145728 → area_size (area_of g.area) ≤ 9437224
+area_room g l = let m = area_size-most (area_of g.area) in omega (arith, l, m)

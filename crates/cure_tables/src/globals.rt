@@ -1,9 +1,10 @@
 //! The globals of a program: the areas of its static objects, what they begin with, and their addresses.
 #![tactic(auto)]
 
-ghost use Rattle.std.specs.Prelude.{◌≡◌, IfOk, Some, length};
+ghost use Rattle.std.specs.Prelude.{◌≡◌, ◌*◌, ◌≤◌, IfOk, Some, length, map};
 ghost use Rattle.std.specs.List.{All};
 ghost use Rattle.c_types.specs.Flows.{kind_in};
+ghost use Rattle.cured_code.specs.FlatMachine.{global_areas, placed};
 ghost use Rattle.cure_rules.specs.Programs.{IsFirstOf, AreGlobals};
 ghost use Rattle.cure_tables.specs.Objects.{IsObject, IsGlobalOf};
 
@@ -12,6 +13,7 @@ use cc_base::{Kinds, NoMemory};
 use cil_form::Static;
 use cured_code::{Bytes, GlobalLine};
 use fat_layouts::Layouts;
+use flat_mem::{Area, area_size};
 use std::alloc::Global;
 
 /// A text without the zeros at its end.
@@ -67,6 +69,30 @@ pub fn globals_of(
     let mut all = Vec::with_capacity(alloc, statics.len())?;
     'statics: for object in statics {
         all.push(global_of(alloc, layouts, kinds, object)?)?;
+    }
+    Ok(all)
+}
+
+/// The addresses of globals, whose areas lie one after another behind the words of so many functions.
+pub fn addresses(
+    alloc: Global,
+    functions: u32,
+    globals: &[GlobalLine],
+) -> Result<Vec<u64>, NoMemory>
+    requires functions { functions ≤ 65536 }
+    requires few { length globals.now ≤ 1048576 }
+    requires small { All (λ g. g.area.bytes ≤ 3145728) globals.now }
+    ensures { IfOk result (λ all.
+        all.items ≡ map (λ a. a.address) (placed (global_areas globals.now) (8 * functions))) }
+{
+    let mut all = Vec::with_capacity(alloc, globals.len())?;
+    let mut start = 8 * u64::from(functions);
+    'globals: for global in globals {
+        all.push(start + 8)?;
+        start += area_size(Area {
+            tagged: global.area.tagged,
+            bytes: global.area.bytes,
+        });
     }
     Ok(all)
 }

@@ -11,5 +11,5 @@ mod words;
 pub use areas::{area_of, areas_of};
 pub use frames::{charge_of, variables};
 pub use function_types::{Signatures, signatures_of};
-pub use globals::globals_of;
+pub use globals::{addresses, globals_of};
 pub use words::{words_in, words_of_kind};

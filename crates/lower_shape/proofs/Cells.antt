@@ -1,6 +1,6 @@
 -- How many pointers the copies of an expression's code move: as many at most as are counted for its assignments of structs and unions.
-use Rattle.std.specs.Prelude.{sum, sum_by}
-use Rattle.std.proofs.Common.{ℕ, ℤ, suc, ◌<◌, ◌≤◌, ◌+◌, max, ◌≡◌, refl, ap, ◌∙◌, sym, subst, Bool, true, false, List, [], ◌∷◌, ◌++◌, flat_map, length, append_assoc, arith, Option, Some, None, pos}
+use Rattle.std.specs.Prelude.{sum}
+use Rattle.std.proofs.Common.{ℕ, ℤ, suc, ◌≤◌, ◌+◌, ◌≡◌, refl, ap, ◌∙◌, sym, subst, Bool, true, false, List, [], ◌∷◌, ◌++◌, flat_map, length, append_assoc, arith, Option, Some, None, pos}
 use Rattle.std.proofs.lemmas.List.Sums.{sum_by-cons, sum_by-append}
 use Rattle.cc_base.specs.declared.place.Place.{Place}
 use Rattle.cc_base.specs.declared.number.NodeId.{NodeId}
@@ -33,7 +33,6 @@ use Rattle.cil_form.specs.declared.instr.Comparison.{Comparison}
 use Rattle.cil_form.specs.declared.instr.Operator.{Operator}
 use Rattle.cil_form.specs.declared.instr.Point.TheVariants as point
 use Rattle.cil_form.specs.declared.instr.Set.TheVariants as set
-use Rattle.cil_form.specs.declared.instr.Target.{Target}
 use Rattle.cil_form.specs.declared.instr.Target.TheVariants as target
 use Rattle.cil_form.specs.declared.instr.Instr.{Instr, Row_of-Instr, end_of-Instr, more_of-Instr}
 use Rattle.cil_form.specs.declared.instr.Instr.TheVariants as instr

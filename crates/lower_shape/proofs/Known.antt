@@ -1,8 +1,7 @@
 -- What is known of the stages of a well typed unit holds of what its code stands in.
-use Rattle.std.specs.List.{All, Contains, IsDistinct, AllByRecursion, filter_map, cons_option}
-use Rattle.std.proofs.Common.{◌≡◌, ◌⊎◌, ℕ, zero, suc, pos, Bool, true, false, List, [], ◌∷◌, ◌++◌, map, flat_map, length, slice_get, Option, Some, None, IsSome, option_map, inl, inr, refl, ap, sym, subst, ◌∙◌, nat_eq, IsTrue, arith}
-use Rattle.std.proofs.lemmas.List.Elements.{All-nil, All-cons, All-head, All-tail, All-push, All-map, All-append, All-weaker, All-contains, All-contains_itself, All-from_recursion, Contains-append_left, Contains-append_right}
-use Rattle.std.proofs.lemmas.List.{map-append}
+use Rattle.std.specs.List.{All, Contains, IsDistinct, AllByRecursion}
+use Rattle.std.proofs.Common.{◌≡◌, ℕ, zero, suc, pos, Bool, true, false, List, [], ◌∷◌, ◌++◌, map, flat_map, slice_get, Option, Some, IsSome, option_map, inl, inr, refl, ap, sym, subst, ◌∙◌, nat_eq, arith}
+use Rattle.std.proofs.lemmas.List.Elements.{All-nil, All-head, All-push, All-map, All-weaker, All-contains, Contains-append_left, Contains-append_right}
 use Rattle.std.proofs.lemmas.Option.{none-some}
 use Rattle.std.proofs.lemmas.Bool.Decides.{nat_tests}
 use Rattle.cc_base.specs.declared.number.NodeId.{NodeId}
@@ -10,13 +9,9 @@ use Rattle.cc_base.specs.declared.number.TypeId.{TypeId}
 use Rattle.c_types.specs.declared.shape.TypeShape.TheVariants as shape
 use Rattle.c_types.specs.declared.shape.TypeShape.{TypeShape}
 use Rattle.c_types.specs.declared.site.Site.TheVariants as site
-use Rattle.c_types.specs.Equality.{physically_equal}
-use Rattle.c_types.specs.Sameness.{IsSameType}
-use Rattle.c_types.specs.Solutions.{sites_of_table}
 use Rattle.c_types.specs.Sound.{IsProper, IsIntegerSize}
-use Rattle.c_types.specs.Table.{Table, IsType, HasShape, named_by, shape_at, is_function_shape}
+use Rattle.c_types.specs.Table.{Table, IsType, HasShape, named_by, is_function_shape}
 use Rattle.c_tree.specs.declared.leaf.Identifier.{Identifier}
-use Rattle.c_tree.specs.declared.typed_word.Home.TheVariants as home
 use Rattle.c_tree.specs.TypedTree as typed
 use Rattle.c_tree.specs.TypedTree.{TypedTranslationUnit}
 use Rattle.c_tree.specs.TypedParts as made
@@ -26,12 +21,12 @@ use Rattle.c_unit_typing.specs.Units.{IsUnitTyped, bytes_of_name}
 use Rattle.c_unit_typing.specs.WellTyped.{IsWellTyped, known_before}
 use Rattle.integers.specs.Arithmetic.{IntegerType, converted}
 use Rattle.c_ready.specs.Declarators as ready
-use Rattle.c_ready.specs.Ready.{Stage, Named, IsAlike, IsNode, IsWhole, IsReadyUnit, IsReadyFunction, IsStaticNamed, IsObjectOf, IsLiteral, IsFunctionNamed, IsFunctionDeclared, static_stage, static_named, literal_named, made_named, parameter_named, home_named, variables_named, homes_of}
-use Rattle.c_ready.proofs.Basics.{all-left, all-right, at-index, unmap, flat-both, flat-left, flat-right}
-use Rattle.c_ready.proofs.Gathered.{functions-declared, at-its-place}
+use Rattle.c_ready.specs.Ready.{Stage, Named, IsNode, IsWhole, IsReadyUnit, IsReadyFunction, IsStaticNamed, IsObjectOf, IsFunctionNamed, IsFunctionDeclared, static_stage, literal_named, made_named, variables_named}
+use Rattle.c_ready.proofs.Basics.{at-index, unmap}
+use Rattle.c_ready.proofs.Gathered.{functions-declared}
 use Rattle.c_ready.proofs.ReadyUnit.{well-typed-ready}
 use Rattle.type_laws.proofs.SameTypes.{same-is-equal}
-use Rattle.unit_sites.proofs.Elements.{every, flat, unflat}
+use Rattle.unit_sites.proofs.Elements.{flat, unflat}
 use Rattle.unit_sites.proofs.FramesNamed.{made_plan, plan_named, frame-named}
 use Rattle.unit_sites.proofs.NamesAlike.{objects-alike, functions-alike, alike-function_left, alike-function_right, function-in, physical, physical-both}
 use Rattle.unit_sites.proofs.ObjectsAlike.{objects_made, one-type, statics-named}
@@ -40,21 +35,17 @@ use Rattle.src_mem.specs.Memory.{Planned}
 use Rattle.src_mem.specs.Runs as runs
 use Rattle.src_mem.specs.Runs.{variables_of, planned}
 use Rattle.src_machine.specs.Machine as source
-use Rattle.src_machine.specs.Sites.{sites_of}
-use Rattle.cil_form.specs.declared.number.Object.{Object}
 use Rattle.cil_form.specs.declared.program.Function.{Function}
 use Rattle.cil_form.specs.declared.program.Program.{Program}
 use Rattle.cil_form.specs.declared.program.Static.{Static}
-use Rattle.cil_form.specs.Machine as code
 use Rattle.cil_form.specs.Machine.{plan}
-use Rattle.cil_form.specs.Typing.{no_types, IsObject, IsNamedAs, ArePhysicallyEqual, AreDeclaredAlike}
+use Rattle.cil_form.specs.Typing.{no_types, IsNamedAs, ArePhysicallyEqual, AreDeclaredAlike}
 use Rattle.lower_rules.specs.Units.{IsCodeOfFunction, AreCodeOf}
 use Rattle.lower_rules.specs.Units as lowered
-use Rattle.lower_rules.specs.Words.{object_in}
 use Rattle.lower_shape.specs.Lowered.{IsLoweredFrom}
-use Rattle.lower_shape.specs.Stands.{Frame, stand, low, Knows}
+use Rattle.lower_shape.specs.Stands.{Frame, stand, Knows}
 use Rattle.lower_shape.proofs.Addresses.{In, in-left, in-right}
-use Rattle.lower_shape.proofs.Lists.{in-contained, contained-in, all-in, at-in, in-map, in-image, slice-map}
+use Rattle.lower_shape.proofs.Lists.{in-contained, contained-in, all-in, in-map, in-image, slice-map}
 use Rattle.lower_shape.proofs.Objects.{AreApart, IsPlanned, objects-known}
 
 -- Plans of objects

@@ -1,5 +1,4 @@
 -- The sites of a program that is lowered from a well typed unit tell all of its table of types and of the objects that it makes.
-use Rattle.std.specs.List.{Contains}
 use Rattle.std.proofs.Common.{◌≡◌, List, [], ◌∷◌, ◌++◌, map, flat_map, refl, ap, sym, subst, ◌∙◌}
 use Rattle.cc_base.specs.declared.number.NodeId.{NodeId}
 use Rattle.c_types.specs.declared.site.Site.{Site}

@@ -1,8 +1,7 @@
 -- The sites of a ready unit name its nodes, its types and its unions.
-use Rattle.std.specs.List.{All, Contains}
-use Rattle.std.proofs.Common.{◌≡◌, ◌⊎◌, ℕ, ◌<◌, Bool, true, false, List, [], ◌∷◌, ◌++◌, ◌&&◌, map, flat_map, length, Option, Some, None, inl, inr, refl, ap, sym, subst, ◌∙◌, if◌then◌else◌, ◌==◌, true≢false}
+use Rattle.std.specs.List.{All}
+use Rattle.std.proofs.Common.{◌≡◌, ℕ, ◌<◌, Bool, true, false, List, [], ◌∷◌, ◌++◌, map, flat_map, length, Option, Some, None, inl, inr, refl, ap, sym, subst, if◌then◌else◌, ◌==◌, true≢false}
 use Rattle.std.proofs.lemmas.List.Elements.{All-nil, All-cons, All-head, All-append, All-map, All-weaker, All-from_get_or}
-use Rattle.std.proofs.lemmas.Option.{none-some}
 use Rattle.cc_base.specs.declared.place.Place.{Place}
 use Rattle.cc_base.specs.declared.number.NodeId.{NodeId}
 use Rattle.cc_base.specs.declared.number.TypeId.{TypeId}
@@ -11,7 +10,7 @@ use Rattle.c_types.specs.declared.shape.TypeShape.TheVariants as shape
 use Rattle.c_types.specs.declared.site.Site.{Site}
 use Rattle.c_types.specs.declared.site.Site.TheVariants as site
 use Rattle.c_types.specs.Solutions.{sites_of_shape, sites_of_table}
-use Rattle.c_types.specs.Table.{Table, Entry, AreNodesOf, HasShape, IsType, IsUnion, is_function, is_union_shape, shape_at, void_entry, named_by}
+use Rattle.c_types.specs.Table.{Table, Entry, AreNodesOf, HasShape, IsType, is_function, is_union_shape, shape_at, void_entry, named_by}
 use Rattle.c_tree.specs.declared.operator.AggregateKind.{AggregateKind}
 use Rattle.c_tree.specs.declared.operator.AggregateKind.TheVariants as aggregate
 use Rattle.c_tree.specs.declared.operator.Binary.{Binary}
@@ -24,7 +23,7 @@ use Rattle.c_tree.specs.TypedParts.{MadeObject, DefinedFunction, type_of, place_
 use Rattle.c_typing.specs.Rules as rule
 use Rattle.c_typing.specs.Shapes as shapes
 use Rattle.c_unit_typing.specs.WellTyped.{IsWellTyped}
-use Rattle.c_ready.specs.Ready.{Stage, Named, IsNode, IsWhole, IsObjectOf, Fits, IsPointerToWhole, IsReady, IsReadyPlace, IsReadySpecifier, IsReadyInitialiser, AreReadyItems, IsReadyFunction, is_of_kind, static_stage, variables_named}
+use Rattle.c_ready.specs.Ready.{Stage, Named, IsNode, IsWhole, IsObjectOf, Fits, IsPointerToWhole, IsReady, IsReadyPlace, IsReadySpecifier, IsReadyInitialiser, AreReadyItems, IsReadyFunction, is_of_kind, static_stage}
 use Rattle.c_ready.proofs.Basics.{unmap}
 use Rattle.c_ready.proofs.Suits.{is_in}
 use Rattle.src_mem.specs.Memory.{Planned}
@@ -33,10 +32,10 @@ use Rattle.src_mem.specs.Runs.{variables_of}
 use Rattle.src_machine.specs.Machine.{head_of}
 use Rattle.src_machine.specs.Names as names
 use Rattle.src_machine.specs.Names.{object_node, object_named, function_named, named_in, first_type, is_same_which, declarators_in}
-use Rattle.src_machine.specs.Pieces.{Piece, AnExpression, APlace, ASpecifier, AnInitialiser, pieces_of_unit}
+use Rattle.src_machine.specs.Pieces.{Piece, pieces_of_unit}
 use Rattle.src_machine.specs.Sites.{address_at, addresses_at, linked_to, moves, moves_where_pointer, sites_of_conversion, sites_of_comparison, sites_of_expression, sites_of_place, sites_of_aggregate, sites_of_specifier, copies_in, copies_in_items, copies_to, sites_of_piece, sites_of_homes, same_as, sites_of_names, sites_of}
 use Rattle.cil_form.specs.Shape.{IsSiteInShape}
-use Rattle.unit_sites.proofs.Elements.{every, only, pair, flat}
+use Rattle.unit_sites.proofs.Elements.{only, pair, flat}
 use Rattle.unit_sites.proofs.NamesAlike.{function-in, first-of}
 use Rattle.unit_sites.proofs.ObjectsAlike.{Names, objects_made, objects-named}
 use Rattle.unit_sites.proofs.PiecesReady.{unit-pieces}

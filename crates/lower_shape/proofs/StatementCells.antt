@@ -1,6 +1,6 @@
 -- How many pointers the copies of a statement's code move, and those of the static initialisers in it: as many at most as are counted.
 use Rattle.std.specs.Prelude.{sum_by}
-use Rattle.std.proofs.Common.{ℕ, suc, ◌<◌, ◌≤◌, ◌+◌, ◌^◌, ◌≡◌, refl, ap, sym, subst, Bool, true, false, List, [], ◌∷◌, ◌++◌, length, arith, Option, Some, None, pos}
+use Rattle.std.proofs.Common.{ℕ, suc, ◌≤◌, ◌+◌, ◌≡◌, ap, sym, subst, Bool, true, false, List, [], ◌∷◌, ◌++◌, length, arith, Option, Some, None, pos}
 use Rattle.std.proofs.lemmas.List.Sums.{sum_by-append}
 use Rattle.cc_base.specs.declared.place.Place.{Place}
 use Rattle.cc_base.specs.declared.number.NodeId.{NodeId}
@@ -13,7 +13,6 @@ use Rattle.c_tree.specs.TypedParts as made
 use Rattle.c_tree.specs.TypedParts.{Made, StaticInitialiser, type_of, place_type, place_at, item_place, home_of, home_of_form, declared_type, static_home, initialises, initialisers_in_declarators, initialisers_in_declaration, initialisers_in, initialisers_in_items, made_by, made_by_place, made_by_specifiers, made_by_declarator, made_by_initialiser, made_by_items, made_by_init_declarators, made_by_declaration, made_by_optional, made_by_statement, made_by_block_items}
 use Rattle.c_tree.specs.declared.typed_word.Home.{Home}
 use Rattle.c_tree.specs.declared.typed_word.Home.TheVariants as home
-use Rattle.c_unit_typing.specs.Initialisers.{is_only_text, is_char_array}
 use Rattle.c_unit_typing.specs.Units.{Around, in_a_loop, in_a_switch}
 use Rattle.c_ready.specs.Ready.{Stage, IsReadyInitialiser, AreReadyItems, AreReadyDeclarators, IsReadyDeclaration, IsReadyStatement, AreReadyBlockItems, initialised_in}
 use Rattle.src_mem.specs.Uses.{pointer_offsets}
@@ -34,9 +33,9 @@ use Rattle.lower_rules.specs.Pieces.{Form, Line, Then, Choice, Blocked, Looped, 
 use Rattle.lower_rules.specs.Words as lowered
 use Rattle.lower_rules.specs.Words.{value, work, unsigned_long, Follows}
 use Rattle.lower_rules.specs.Expressions.{IsCodeOf, IsCodeOfPlace}
-use Rattle.lower_rules.specs.Initialisers.{Initialised, part, text_code, Clears, IsCodeOfInitialiser, IsCodeOfItems, IsCodeOfObject, IsCodeOfDeclared, IsCodeOfDeclarators, IsCodeOfDeclaration, IsCodeOfStatics}
+use Rattle.lower_rules.specs.Initialisers.{Initialised, part, text_code, Clears, IsCodeOfInitialiser, IsCodeOfItems, IsCodeOfObject, IsCodeOfDeclared, IsCodeOfDeclarators, IsCodeOfDeclaration}
 use Rattle.lower_rules.specs.Statements.{Nesting, in_loop, in_switch, label_of, guard_code, IsCodeOfEffect, IsCodeOfTest, IsCodeOfTests, Guarded, IsCodeOfStatement, IsCodeOfBlock, IsCodeOfPieces}
-use Rattle.lower_shape.proofs.Cells.{counted, counted-both, copied-most, cells, Moved, cells-append, cells-held, moved-more, moved-line, moved-then, moved-choice, moved_after, follows-moved, one-part, both-parts, value-moved, place-moved}
+use Rattle.lower_shape.proofs.Cells.{counted, counted-both, copied-most, cells, Moved, cells-append, cells-held, moved-more, moved-line, moved-then, moved-choice, follows-moved, one-part, both-parts, value-moved, place-moved}
 
 -- Code beside static initialisers
 

@@ -11,7 +11,7 @@ use Rattle.c_tree.specs.TypedParts.{Made, Name, Literal, Address, Copy, place_ty
 use Rattle.c_ready.proofs.NodesUsed.{makes}
 use Rattle.c_ready.proofs.PointersMade as pointers
 use Rattle.c_ready.proofs.Counting.{one}
-use Rattle.src_machine.specs.Pieces.{Piece, AnExpression, APlace, ASpecifier, AnInitialiser, pieces_of, pieces_of_place, pieces_of_arguments, pieces_of_type_name, pieces_of_specifiers, pieces_of_specifier_list, pieces_of_specifier, pieces_of_members, pieces_of_member_declarators, pieces_of_enumerators, pieces_of_form, pieces_of_core, pieces_of_parts, pieces_of_parameters, pieces_of_declared, pieces_of_initialiser, pieces_of_items, pieces_of_init_declarators, pieces_of_declaration, pieces_of_optional, pieces_of_statement, pieces_of_block_items, pieces_of_unit}
+use Rattle.src_machine.specs.Pieces.{Piece, APlace, pieces_of, pieces_of_place, pieces_of_arguments, pieces_of_type_name, pieces_of_specifiers, pieces_of_specifier_list, pieces_of_specifier, pieces_of_members, pieces_of_member_declarators, pieces_of_enumerators, pieces_of_form, pieces_of_core, pieces_of_parts, pieces_of_parameters, pieces_of_declared, pieces_of_initialiser, pieces_of_items, pieces_of_init_declarators, pieces_of_declaration, pieces_of_optional, pieces_of_statement, pieces_of_block_items, pieces_of_unit}
 
 module _ (n : ℕ) where
   makes-both : (xs ys : List Made) → makes n (xs ++ ys) ≡ makes n xs + makes n ys

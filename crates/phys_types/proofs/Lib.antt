@@ -32,7 +32,6 @@ pub mod AllPairsFound
 pub mod Knowing
 pub mod MixedSpots
 pub mod Refined
-pub mod Finer
 pub mod Turned
 pub mod Reading
 pub mod Signing

@@ -1,0 +1,26 @@
+//! Writes the kinds of the C program that it reads.
+#![tactic(auto)]
+
+use c_build::{build, kinds};
+use cc_base::Fault;
+use std::io::{Read, Write};
+
+fn main(rt: HostRuntime) -> anyhow::Result<()> {
+    let alloc = rt.alloc();
+    let mut text = Vec::new(alloc);
+    rt.stdin().read_to_end(&mut text)?;
+    let mut out = rt.stdout();
+    if text.len() > 1_048_576 {
+        return Ok(());
+    }
+    match build(alloc, text.as_slice()) {
+        Ok(built) => {
+            let lines = kinds(alloc, &built)?;
+            out.write_all(lines.as_slice())?;
+        }
+        Err(Fault::Refused { place, rule }) => writeln!(out, "refused {place} {rule}")?,
+        Err(Fault::TooLarge { place, limit }) => writeln!(out, "limit {place} {limit}")?,
+        Err(Fault::NoMemory) => writeln!(out, "no memory")?,
+    }
+    Ok(())
+}

@@ -18,10 +18,10 @@ use Rattle.cured_code.specs.declared.instr.Instr.{Instr}
 use Rattle.check_forms.specs.declared.slots.Fixed.{Fixed}
 use Rattle.check_forms.specs.declared.op.Op.{Op}
 use Rattle.check_forms.specs.declared.op.Op.TheVariants as op
-use Rattle.check_forms.specs.Pieces.{Piece, Line, Then, When}
+use Rattle.check_forms.specs.Pieces.{Piece, Line, Then, When, Choice}
 use Rattle.check_insert.specs.declared.draft.Draft.{Draft}
-use Rattle.check_insert.specs.Drafts.{Grows}
-use Rattle.check_insert.proofs.Laws.{grows_then}
+use Rattle.check_insert.specs.Drafts.{Grows, Starts, Chosen, AreBothReady}
+use Rattle.check_insert.proofs.Laws.{grows_then, grows_choice}
 use Rattle.cure_rules.specs.Slots.{Size}
 use Rattle.cure_rules.specs.Known.{Points, known_at, known_of, narrowed_lines, pointer_slots}
 use Rattle.cure_rules.specs.Checks.{IsGuarded, need, size_needed, convert_needs}
@@ -43,7 +43,7 @@ unfolding Grows When Line
 grows_known A R a h = (λ fine. (fine, ([], (h, refl), sym (append-nil a.items.items))), λ r e. e)
 
 -- a piece for what was found out
-pub grows_told : (x y : FlowClass) (Q : FlowClass → Piece) (R S : Type 0) (a b c : Draft) → Grows (When (x ≡ y) (Line [])) R a b → Grows (Q x) S b c
+pub grows_told : {A : Type 0} (x y : A) (Q : A → Piece) (R S : Type 0) (a b c : Draft) → Grows (When (x ≡ y) (Line [])) R a b → Grows (Q x) S b c
     → Grows (Q y) (R × S) a c
 unfolding Grows When Line
 grows_told x y Q R S a b c f g = (
@@ -64,9 +64,22 @@ pub grows_behind : (P Q : Piece) (R : Type 0) (a b c : Draft) → Grows P (Unit 
 unfolding Grows
 grows_behind P Q R a b c f g = let h = grows_then P Q (Unit {0}) R a b c f g in (h.0, λ r e. h.1 (tt, r) e)
 
+-- a choice whose sides need nothing
+pub grows_sides : (a : ℕ) (P Q : Piece) (s r one two b c : Draft) → Grows (Chosen a one two) (AreBothReady one two) b c
+    → Grows P (Unit {0}) s one → Starts s → Grows Q (Unit {0}) r two → Starts r → Grows (Choice a P Q) (Unit {0}) b c
+unfolding Grows
+grows_sides a P Q s r one two b c h f es g er =
+    let p = grows_choice a P Q (Unit {0}) (Unit {0}) s r one two b c h f es g er in (p.0, λ z e. p.1 (tt, tt) e)
+
+-- a piece that needs no more than what was found out
+pub grows_found : {A : Type 0} (x y : A) (Q : A → Piece) (R : Type 0) (a b c : Draft) → Grows (When (x ≡ y) (Line [])) R a b
+    → Grows (Q x) (Unit {0}) b c → Grows (Q y) R a c
+unfolding Grows
+grows_found x y Q R a b c f g = let h = grows_told x y Q R (Unit {0}) a b c f g in (h.0, λ r e. h.1 (r, tt) e)
+
 -- Integers
 
-points : (p : ℕ) (types : Typing) (t : Temp) (n : NodeId) (u : TypeId) → shaped.Holds types t (PointerTo n u)
+pub points : (p : ℕ) (types : Typing) (t : Temp) (n : NodeId) (u : TypeId) → shaped.Holds types t (PointerTo n u)
     → Points (known_of (fixed_slots p) types) t n u (fixed_column t) []
 points p types t n u h =
     (record { type = PointerTo n u; place = Some (fixed_column t); form = Exact; sure = [] }, ap (known_at (fixed_column t)) h.1, refl, refl, refl)
@@ -129,12 +142,12 @@ pub grows_converted : (op : Op) (kind : Kind) (at : Place) (Q : Piece) (R : Type
     → Grows Q R b c → Grows (Then (Guards op kind at) Q) R a c
 grows_converted op kind at Q R a b c f g = grows_behind (Guards op kind at) Q R a b c f g
 
-sized-by : (b : Bool) (size : Fixed) → size.slot ≡ seat Size → AreSeated (if b then [] else need Size size ∷ [])
-sized-by true size e = tt
-sized-by false size e = (e, tt)
+pub seated_unless : (b : Bool) (size : Fixed) → size.slot ≡ seat Size → AreSeated (if b then [] else need Size size ∷ [])
+seated_unless true size e = tt
+seated_unless false size e = (e, tt)
 
 pub sized : (size : Fixed) → size.slot ≡ seat Size → AreSeated (size_needed size)
-sized size e = sized-by (nat_eq size.value 1) size e
+sized size e = seated_unless (nat_eq size.value 1) size e
 
 shrunk : (k : Scope) (class : FlowClass) (u v : TypeId) → AreSeated (convert_needs Seq (conversion_by Seq Rtti (world_of k) seat class u v))
 shrunk k Equal u v = sized _ refl

@@ -1,3 +1,4 @@
 pub mod RuntimeLaws
 pub mod ConvertLaws
+pub mod AllocateLaws
 pub mod Rules

@@ -6,6 +6,7 @@ use Rattle.c_types.specs.Table.{Table, IsType, shape_at}
 use Rattle.cil_form.specs.declared.instr.Convert.{Convert}
 use Rattle.cil_form.specs.declared.instr.Convert.TheVariants as convert
 use Rattle.cil_form.specs.declared.instr.Allocate.{Allocate}
+use Rattle.cil_form.specs.declared.instr.Allocate.TheVariants as allocate
 use Rattle.cil_form.specs.declared.instr.RuntimeCall.{RuntimeCall}
 use Rattle.cil_form.specs.Typing.{Context, Typing, IsShapedConvert, IsShapedAllocate, IsShapedRuntime}
 use Rattle.check_forms.specs.Pieces.{Piece}
@@ -53,3 +54,11 @@ CanConvert (convert.ToPointer into from t at) w = IsNumbered (kind_at w t)
 CanConvert (convert.Pointer into from t s at) w =
     AreTypes w.table (pointee_at (shape_at w.table t)) (pointee_at (shape_at w.table s)) × AreConverted (kind_at w t) (kind_at w s)
 CanConvert i w = Unit {0}
+
+-- a type of the program
+abbrev pub IsTypeIn : Table → TypeId → Type 0
+IsTypeIn table t = IsType table t
+
+abbrev pub CanAllocate : Allocate → Whole → Type 0
+CanAllocate (allocate.Malloc into n node t at) w = IsTypeIn w.table t
+CanAllocate (allocate.Calloc into m n node t at) w = IsTypeIn w.table t

@@ -1,2 +1,3 @@
 pub mod Cured
 pub mod Rows
+pub mod Blocks

@@ -8,7 +8,7 @@ ghost use Rattle.cure_rules.specs.Slots.{Size};
 ghost use Rattle.cure_rules.specs.Checks.{number_at};
 ghost use Rattle.check_forms.specs.Pieces.{Line, When};
 ghost use Rattle.check_insert.specs.Drafts.{Grows};
-ghost use Rattle.cure_rules.specs.Known.{copies, cured_size, narrow_of_bytes, narrowed_lines};
+ghost use Rattle.cure_rules.specs.Known.{cured_size, narrowed_lines};
 ghost use Rattle.cure_rules.specs.Pointing.{NumberWords, ConvertedWords, conversion_by, made_type, noded_lines};
 ghost use Rattle.cure_instrs.specs.Cured.{kind_at};
 ghost use Rattle.cure_scope.specs.Scopes.{fixed_column, seat, whole_of, world_of};
@@ -16,25 +16,14 @@ ghost use Rattle.cure_blocks.specs.Cured.{AreConverted, AreTypes, CanConvert, Co
 ghost use Rattle.cure_blocks.specs.Rows.{narrow_at, node_in, pointee_at, PointerConverted};
 
 use c_types::TypeShape;
-use cc_base::{Kind, NodeId, Place, TypeId};
+use cc_base::{Kind, Place, TypeId};
 use check_forms::{Conversion, Fixed, Op};
 use check_insert::{Draft, SlotLine, fail, keep, put, put_lines, refuse};
 use cil_form::Convert;
+use cure_instrs::{Width, cured_size, narrow_of, node_of};
 use cure_scope::{NOUGHT, SIZE, Scope, WORD, column, pointer_slots, put_guarded};
 use cured_code::{Instr, Narrow};
 use phys_types::{FlowClass, Known};
-
-/// The part of a word that so many bytes are.
-fn narrow_of_bytes(bytes: u64, signed: bool) -> Option<Narrow>
-    ensures { result ≡ narrow_of_bytes bytes signed }
-{
-    match bytes {
-        1 => Some(if signed { Narrow::S8 } else { Narrow::U8 }),
-        2 => Some(if signed { Narrow::S16 } else { Narrow::U16 }),
-        4 => Some(if signed { Narrow::S32 } else { Narrow::U32 }),
-        _ => None,
-    }
-}
 
 /// The part of a word that an integer of the type is.
 fn narrow_in(k: &Scope<'_>, t: TypeId) -> Option<Narrow>
@@ -43,7 +32,10 @@ fn narrow_in(k: &Scope<'_>, t: TypeId) -> Option<Narrow>
     let types = k.layouts.types();
     if t.0 < types.count() {
         match types.shape(t) {
-            TypeShape::Integer { bytes, signed } => narrow_of_bytes(*bytes, *signed),
+            TypeShape::Integer { bytes, signed } => narrow_of(Width {
+                bytes: *bytes,
+                signed: *signed,
+            }),
             _ => None,
         }
     } else {
@@ -86,16 +78,7 @@ fn put_number(out: &mut Draft, kind: Kind, v: u32, a: u32)
 fn kind_at(k: &Scope<'_>, t: TypeId) -> Kind
     ensures { result ≡ kind_at (whole_of k.now) t }
 {
-    let types = k.layouts.types();
-    let node = if t.0 < types.count() {
-        match types.shape(t) {
-            TypeShape::Pointer(node, _) => *node,
-            _ => NodeId(0),
-        }
-    } else {
-        NodeId(0)
-    };
-    k.kind_of(node)
+    k.kind_of(node_of(k, t))
 }
 
 /// What the pointers of a type point to; of another type the type 0.
@@ -110,18 +93,6 @@ fn pointee_of(k: &Scope<'_>, t: TypeId) -> TypeId
         }
     } else {
         TypeId(0)
-    }
-}
-
-/// The bytes that an object of a type takes once cured; of one that isn't complete none.
-pub(crate) fn cured_size(k: &Scope<'_>, t: TypeId) -> u64
-    ensures { result ≡ cured_size (whole_of k.now) t }
-{
-    let types = k.layouts.types();
-    if t.0 < types.count() && types.is_complete(t) {
-        k.layouts.cured_size(t)
-    } else {
-        0
     }
 }
 

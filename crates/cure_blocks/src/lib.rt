@@ -2,8 +2,10 @@
 //! is made.
 #![tactic(auto)]
 
+mod allocating;
 mod converting;
 mod runtime;
 
+pub use allocating::put_allocate;
 pub use converting::put_convert;
 pub use runtime::put_runtime;

@@ -44,11 +44,27 @@ integer_loaded k types into from n t at i code type h c after is s =
     let kind = (whole_of k).kind n in
     let e : shape_at c.table t ≡ shape.Integer i.bytes i.signed = ap (λ z. shape_at z t) is.table ∙ type.0 in
     let held : shaped.held_by c t ≡ Some (IntegerOf i) = ap shaped.held_shape e in
-    let leaves = s.3 in
-    (fixed_column from, [], is_address k.parameters types from n t s.2, inl (i, Exact, seat, (type.0, type.1), (leaves.0, omega arith),
-    (h.0, h.1, guarded k (read_integer (world_of k) seat kind t (pointer_slots (fixed_column from))) kind at h.0
-    (seated_read_integer k kind t (pointer_slots (fixed_column from))) h.2, h.3, h.4),
-    leaves_held k.parameters types after into (Some (IntegerOf i)) (subst (λ z. shaped.Includes (shaped.with_held into z types) after) held leaves.1)))
+    let leaves = s.3 in (
+      fixed_column from,
+      [],
+      is_address k.parameters types from n t s.2,
+      inl (
+        i,
+        Exact,
+        seat,
+        (type.0, type.1),
+        (leaves.0, omega arith),
+        (
+          h.0,
+          h.1,
+          guarded k (read_integer (world_of k) seat kind t (pointer_slots (fixed_column from))) kind at h.0
+              (seated_read_integer k kind t (pointer_slots (fixed_column from))) h.2,
+          h.3,
+          h.4,
+        ),
+        leaves_held k.parameters types after into (Some (IntegerOf i)) (subst (λ z. shaped.Includes (shaped.with_held into z types) after) held leaves.1),
+      ),
+    )
 
 pointer-loaded : (k : Scope) (outer kind : Kind) (v a : ℕ) (code : List Instr) → pointer_loaded outer kind (world_of k) v a code → PointerLoaded outer kind (world_of k) v a code
 pointer-loaded k Wild Wild v a code h = h
@@ -69,12 +85,27 @@ pointer_load k types into from n t at m u code type h c after is s =
     let kind = (whole_of k).kind n in
     let e : shape_at c.table t ≡ shape.Pointer m u = ap (λ z. shape_at z t) is.table ∙ type in
     let held : shaped.held_by c t ≡ Some (PointerTo m u) = ap shaped.held_shape e in
-    let leaves = s.3 in
-    (fixed_column from, [], is_address k.parameters types from n t s.2, inr (m, u, seat, type, takes k into (whole_of k).kind m leaves.0,
-    (h.0, h.1, guarded k (read_pointer (world_of k) seat kind t (pointer_slots (fixed_column from))) kind at h.0
-    (seated_read_pointer k kind t (pointer_slots (fixed_column from))) h.2,
-    pointer-loaded k kind ((whole_of k).kind m) (fixed_column into) (fixed_column from) h.1 h.3, h.4),
-    leaves_held k.parameters types after into (Some (PointerTo m u)) (subst (λ z. shaped.Includes (shaped.with_held into z types) after) held leaves.1)))
+    let leaves = s.3 in (
+      fixed_column from,
+      [],
+      is_address k.parameters types from n t s.2,
+      inr (
+        m,
+        u,
+        seat,
+        type,
+        takes k into (whole_of k).kind m leaves.0,
+        (
+          h.0,
+          h.1,
+          guarded k (read_pointer (world_of k) seat kind t (pointer_slots (fixed_column from))) kind at h.0
+              (seated_read_pointer k kind t (pointer_slots (fixed_column from))) h.2,
+          pointer-loaded k kind ((whole_of k).kind m) (fixed_column into) (fixed_column from) h.1 h.3,
+          h.4,
+        ),
+        leaves_held k.parameters types after into (Some (PointerTo m u)) (subst (λ z. shaped.Includes (shaped.with_held into z types) after) held leaves.1),
+      ),
+    )
 
 -- Stores
 
@@ -96,10 +127,31 @@ unfolding AccessCured IsIntegerAt Then
 integer_stores k types p v n t at assignment i code type h c after is s =
     let kind = (whole_of k).kind n in
     let e : shape_at c.table t ≡ shape.Integer i.bytes i.signed = ap (λ z. shape_at z t) is.table ∙ type.0 in
-    let value = held-value c types v t (IntegerOf i) s.1 (ap shaped.held_shape e) in
-    (pointer_slots (fixed_column p), inl ([], code, reaches k types c p n t s.0.1, (i, fixed_column v, seat, (type.0, type.1), is_lowly k.parameters types v i value,
-    (h.0, h.1, guarded k (write_integer (world_of k) seat kind t (pointer_slots (fixed_column p))) kind at h.0
-    (seated_write_integer k kind t (pointer_slots (fixed_column p))) h.2, h.3, h.4)), refl), includes_held k.parameters types after s.2)
+    let value = held-value c types v t (IntegerOf i) s.1 (ap shaped.held_shape e) in (
+      pointer_slots (fixed_column p),
+      inl (
+        [],
+        code,
+        reaches k types c p n t s.0.1,
+        (
+          i,
+          fixed_column v,
+          seat,
+          (type.0, type.1),
+          is_lowly k.parameters types v i value,
+          (
+            h.0,
+            h.1,
+            guarded k (write_integer (world_of k) seat kind t (pointer_slots (fixed_column p))) kind at h.0
+                (seated_write_integer k kind t (pointer_slots (fixed_column p))) h.2,
+            h.3,
+            h.4,
+          ),
+        ),
+        refl,
+      ),
+      includes_held k.parameters types after s.2,
+    )
 
 pointer-stored : (k : Scope) (outer kind : Kind) (s : PointerSlots) (v : ℕ) (code : List Instr) → pointer_stored outer kind (world_of k) s v code
     → PointerStored outer kind (world_of k) s v code
@@ -119,11 +171,33 @@ unfolding AccessCured Then IsPointerAt
 pointer_stores k types p v n t at assignment m u code type h c after is s =
     let kind = (whole_of k).kind n in
     let e : shape_at c.table t ≡ shape.Pointer m u = ap (λ z. shape_at z t) is.table ∙ type in
-    let value = held-value c types v t (PointerTo m u) s.1 (ap shaped.held_shape e) in
-    (pointer_slots (fixed_column p), inr ([], code, reaches k types c p n t s.0.1, (m, u, fixed_column v, [], seat, type, points k.parameters types v m u value,
-    (h.0, h.1, guarded k (write_pointer (world_of k) seat kind t (pointer_slots (fixed_column p)) (home_slot ((whole_of k).kind m) (pointer_slots (fixed_column v))) assignment) kind at h.0
-    (seated_write_pointer k kind t (pointer_slots (fixed_column p)) (home_slot ((whole_of k).kind m) (pointer_slots (fixed_column v))) assignment) h.2,
-    pointer-stored k kind ((whole_of k).kind m) (pointer_slots (fixed_column p)) (fixed_column v) h.1 h.3, h.4)), refl), includes_held k.parameters types after s.2)
+    let value = held-value c types v t (PointerTo m u) s.1 (ap shaped.held_shape e) in (
+      pointer_slots (fixed_column p),
+      inr (
+        [],
+        code,
+        reaches k types c p n t s.0.1,
+        (
+          m,
+          u,
+          fixed_column v,
+          [],
+          seat,
+          type,
+          points k.parameters types v m u value,
+          (
+            h.0,
+            h.1,
+            guarded k (write_pointer (world_of k) seat kind t (pointer_slots (fixed_column p)) (home_slot ((whole_of k).kind m) (pointer_slots (fixed_column v))) assignment) kind at h.0
+                (seated_write_pointer k kind t (pointer_slots (fixed_column p)) (home_slot ((whole_of k).kind m) (pointer_slots (fixed_column v))) assignment) h.2,
+            pointer-stored k kind ((whole_of k).kind m) (pointer_slots (fixed_column p)) (fixed_column v) h.1 h.3,
+            h.4,
+          ),
+        ),
+        refl,
+      ),
+      includes_held k.parameters types after s.2,
+    )
 
 -- a scalar that is no integer and no pointer isn't there
 pub no_scalar : (w : Whole) (n : NodeId) (t : TypeId) → (HasInteger w t → Prim.⊥) → (HasPointer w t → Prim.⊥) → CanReach w n t → Prim.⊥

@@ -42,9 +42,18 @@ module _ (k : Scope) (types after : Typing) (into a b : Temp) (t : TypeId) (i : 
   reckons : (operation : ℕ → ℕ → ℕ → Instr) → shaped.Holds types b (IntegerOf i) → shaped.Leaves types into (Some (IntegerOf i)) after
       → Reckoned (operation (fixed_column into) (fixed_column a) (fixed_column b)) i (fixed_column into) code
       → Reckons operation (world_of k) into a b t (known_of (fixed_slots k.parameters) types) (known_of (fixed_slots k.parameters) after) code
-  reckons operation right leaves h =
-      (i, fixed_column a, fixed_column b, Exact, plain, is_lowly k.parameters types a i left, is_lowly k.parameters types b i right, (leaves.0, omega arith), h,
-      leaves_held k.parameters types after into (Some (IntegerOf i)) leaves.1)
+  reckons operation right leaves h = (
+    i,
+    fixed_column a,
+    fixed_column b,
+    Exact,
+    plain,
+    is_lowly k.parameters types a i left,
+    is_lowly k.parameters types b i right,
+    (leaves.0, omega arith),
+    h,
+    leaves_held k.parameters types after into (Some (IntegerOf i)) leaves.1,
+  )
 
   seated-division : (signed : Bool) (l m : Fixed) (p q : ℕ) → l.slot ≡ seat Least → m.slot ≡ seat Span
       → AreSeated (numbers_of (if signed then DivideSigned p q l m else DivideUnsigned p q) Safe)
@@ -59,11 +68,24 @@ module _ (k : Scope) (types after : Typing) (into a b : Temp) (t : TypeId) (i : 
       → Divided (f (fixed_column into) (fixed_column a) (fixed_column b)) (g (fixed_column into) (fixed_column a) (fixed_column b)) i (fixed_column a) (fixed_column b) at code
       → Divides f g (world_of k) into a b t at (known_of (fixed_slots k.parameters) types) (known_of (fixed_slots k.parameters) after) code
   unfolding Then Line
-  divides f g at right leaves h =
-      (i, fixed_column a, fixed_column b, seat, plain, is_exactly k.parameters types a i left, is_exactly k.parameters types b i right, (leaves.0, omega arith),
-      (h.0, h.1, guarded k (divide_by seat i (fixed_column a) (fixed_column b)) Safe at h.0 (seated-division i.signed _ _ (fixed_column a) (fixed_column b) refl refl) h.2,
-      h.3 ∙ ap (λ x. x ∷ []) (one-of i.signed f g (fixed_column into) (fixed_column a) (fixed_column b)), h.4),
-      leaves_held k.parameters types after into (Some (IntegerOf i)) leaves.1)
+  divides f g at right leaves h = (
+    i,
+    fixed_column a,
+    fixed_column b,
+    seat,
+    plain,
+    is_exactly k.parameters types a i left,
+    is_exactly k.parameters types b i right,
+    (leaves.0, omega arith),
+    (
+      h.0,
+      h.1,
+      guarded k (divide_by seat i (fixed_column a) (fixed_column b)) Safe at h.0 (seated-division i.signed _ _ (fixed_column a) (fixed_column b) refl refl) h.2,
+      h.3 ∙ ap (λ x. x ∷ []) (one-of i.signed f g (fixed_column into) (fixed_column a) (fixed_column b)),
+      h.4,
+    ),
+    leaves_held k.parameters types after into (Some (IntegerOf i)) leaves.1,
+  )
 
   masks : (x : List Instr) → Line (masked i (fixed_column b)) x → Masks (world_of k) seat i (fixed_column b) x
   unfolding Then Line
@@ -73,24 +95,53 @@ module _ (k : Scope) (types after : Typing) (into a b : Temp) (t : TypeId) (i : 
       → Then (Line (masked i (fixed_column b))) (Reckoned (instr.Shl (fixed_column into) (fixed_column a) (seat First)) i (fixed_column into)) code
       → ShiftsLeft (world_of k) into a b t (known_of (fixed_slots k.parameters) types) (known_of (fixed_slots k.parameters) after) code
   unfolding Then
-  shifts-left j right leaves h =
-      (i, j, fixed_column a, fixed_column b, seat, Exact, plain, is_lowly k.parameters types a i left, is_exactly k.parameters types b j right, (leaves.0, omega arith),
-      (h.0, h.1, masks h.0 h.2, h.3, h.4), leaves_held k.parameters types after into (Some (IntegerOf i)) leaves.1)
+  shifts-left j right leaves h = (
+    i,
+    j,
+    fixed_column a,
+    fixed_column b,
+    seat,
+    Exact,
+    plain,
+    is_lowly k.parameters types a i left,
+    is_exactly k.parameters types b j right,
+    (leaves.0, omega arith),
+    (h.0, h.1, masks h.0 h.2, h.3, h.4),
+    leaves_held k.parameters types after into (Some (IntegerOf i)) leaves.1,
+  )
 
   shifts-right : (j : IntegerType) → shaped.Holds types b (IntegerOf j) → shaped.Leaves types into (Some (IntegerOf i)) after
       → Then (Line (masked i (fixed_column b))) (Line (shifted_right i.signed (fixed_column into) (fixed_column a) (seat First) ∷ [])) code
       → ShiftsRight (world_of k) into a b t (known_of (fixed_slots k.parameters) types) (known_of (fixed_slots k.parameters) after) code
   unfolding Then
-  shifts-right j right leaves h =
-      (i, j, fixed_column a, fixed_column b, seat, plain, is_exactly k.parameters types a i left, is_exactly k.parameters types b j right, (leaves.0, omega arith),
-      (h.0, h.1, masks h.0 h.2, h.3, h.4), leaves_held k.parameters types after into (Some (IntegerOf i)) leaves.1)
+  shifts-right j right leaves h = (
+    i,
+    j,
+    fixed_column a,
+    fixed_column b,
+    seat,
+    plain,
+    is_exactly k.parameters types a i left,
+    is_exactly k.parameters types b j right,
+    (leaves.0, omega arith),
+    (h.0, h.1, masks h.0 h.2, h.3, h.4),
+    leaves_held k.parameters types after into (Some (IntegerOf i)) leaves.1,
+  )
 
   compares : (which : Comparison) → shaped.Holds types b (IntegerOf i) → shaped.Leaves types into (Some (IntegerOf int)) after
       → binary_lines (operator.Compare which) i (fixed_column into) (fixed_column a) (fixed_column b) (record { line = 0; col = 0 }) code
       → Compares which (world_of k) into a b t (known_of (fixed_slots k.parameters) types) (known_of (fixed_slots k.parameters) after) code
-  compares which right leaves h =
-      (i, fixed_column a, fixed_column b, plain, is_exactly k.parameters types a i left, is_exactly k.parameters types b i right, (leaves.0, omega arith), h,
-      leaves_held k.parameters types after into (Some (IntegerOf int)) leaves.1)
+  compares which right leaves h = (
+    i,
+    fixed_column a,
+    fixed_column b,
+    plain,
+    is_exactly k.parameters types a i left,
+    is_exactly k.parameters types b i right,
+    (leaves.0, omega arith),
+    h,
+    leaves_held k.parameters types after into (Some (IntegerOf int)) leaves.1,
+  )
 
   binary : (which : Operator) (at : Place) → shaped.IsRightOperand which types b i → shaped.Leaves types into (Some (IntegerOf (shaped.result_type which i))) after
       → binary_lines which i (fixed_column into) (fixed_column a) (fixed_column b) at code
@@ -119,10 +170,16 @@ pub negate_cured : (k : Scope) (types : Typing) (into a : Temp) (t : TypeId) (i 
     → IsIntegerAt (whole_of k) t i → Reckoned (instr.Sub (fixed_column into) 381 (fixed_column a)) i (fixed_column into) code
     → CalculateCured (calculate.Negate into a t) (world_of k) types code
 unfolding CalculateCured
-negate_cured k types into a t i code type h c after is s =
-    (s.0, fixed_column a, Exact, is_plain (world_of k) c t s.0 is s.1, is_lowly k.parameters types a s.0 s.2, (s.3.0, omega arith),
-    subst (λ z. Reckoned (instr.Sub (fixed_column into) 381 (fixed_column a)) z (fixed_column into) code) (one_type k c t i s.0 is type s.1) h,
-    leaves_held k.parameters types after into (Some (IntegerOf s.0)) s.3.1)
+negate_cured k types into a t i code type h c after is s = (
+  s.0,
+  fixed_column a,
+  Exact,
+  is_plain (world_of k) c t s.0 is s.1,
+  is_lowly k.parameters types a s.0 s.2,
+  (s.3.0, omega arith),
+  subst (λ z. Reckoned (instr.Sub (fixed_column into) 381 (fixed_column a)) z (fixed_column into) code) (one_type k c t i s.0 is type s.1) h,
+  leaves_held k.parameters types after into (Some (IntegerOf s.0)) s.3.1,
+)
 
 pub complement_cured : (k : Scope) (types : Typing) (into a : Temp) (t : TypeId) (i : IntegerType) (code : List Instr)
     → IsIntegerAt (whole_of k) t i
@@ -131,9 +188,17 @@ pub complement_cured : (k : Scope) (types : Typing) (into a : Temp) (t : TypeId)
 unfolding CalculateCured Then
 complement_cured k types into a t i code type h c after is s =
     let g = subst (λ z. Then (Line (instr.Const (seat Mask) (2 ^ 64 - 1) ∷ [])) (Reckoned (instr.Xor (fixed_column into) (fixed_column a) (seat Mask)) z (fixed_column into)) code)
-    (one_type k c t i s.0 is type s.1) h in
-    (s.0, fixed_column a, Exact, seat, is_plain (world_of k) c t s.0 is s.1, is_lowly k.parameters types a s.0 s.2, (s.3.0, omega arith),
-    (g.0, g.1, inr (refl, g.2), g.3, g.4), leaves_held k.parameters types after into (Some (IntegerOf s.0)) s.3.1)
+    (one_type k c t i s.0 is type s.1) h in (
+      s.0,
+      fixed_column a,
+      Exact,
+      seat,
+      is_plain (world_of k) c t s.0 is s.1,
+      is_lowly k.parameters types a s.0 s.2,
+      (s.3.0, omega arith),
+      (g.0, g.1, inr (refl, g.2), g.3, g.4),
+      leaves_held k.parameters types after into (Some (IntegerOf s.0)) s.3.1,
+    )
 
 -- truth values
 
@@ -144,18 +209,26 @@ tested-by k false p code h = (refl, h)
 pub is_tested : (k : Scope) (types : Typing) (t : Temp) (x : HeldType) (code : List Instr) → types t ≡ Some x
     → Line (tested_lines (is_wide (whole_of k) x) (fixed_column t)) code
     → IsTested (world_of k) (known_of (fixed_slots k.parameters) types) t (tested_slot (is_wide (whole_of k) x) (fixed_column t)) code
-is_tested k types t x code e h =
-    (record { type = x; place = Some (fixed_column t); form = Exact; sure = [] }, fixed_column t, ap (known_at (fixed_column t)) e, refl, λ f. cc,
-    tested-by k (is_wide (whole_of k) x) (fixed_column t) code h)
+is_tested k types t x code e h = (
+  record { type = x; place = Some (fixed_column t); form = Exact; sure = [] },
+  fixed_column t,
+  ap (known_at (fixed_column t)) e,
+  refl,
+  λ f. cc,
+  tested-by k (is_wide (whole_of k) x) (fixed_column t) code h,
+)
 
 tells : (k : Scope) (types after : Typing) (operation : ℕ → ℕ → ℕ → Instr) (into a : Temp) (x : HeldType) (code : List Instr) → types a ≡ Some x
     → shaped.Leaves types into (Some (IntegerOf int)) after
     → Then (Line (tested_lines (is_wide (whole_of k) x) (fixed_column a))) (Line (operation (fixed_column into) (tested_slot (is_wide (whole_of k) x) (fixed_column a)) 381 ∷ [])) code
     → Tells operation (world_of k) into a (known_of (fixed_slots k.parameters) types) (known_of (fixed_slots k.parameters) after) code
 unfolding Then
-tells k types after operation into a x code e leaves h =
-    (tested_slot (is_wide (whole_of k) x) (fixed_column a), (leaves.0, omega arith), (h.0, h.1, is_tested k types a x h.0 e h.2, h.3, h.4),
-    leaves_held k.parameters types after into (Some (IntegerOf int)) leaves.1)
+tells k types after operation into a x code e leaves h = (
+  tested_slot (is_wide (whole_of k) x) (fixed_column a),
+  (leaves.0, omega arith),
+  (h.0, h.1, is_tested k types a x h.0 e h.2, h.3, h.4),
+  leaves_held k.parameters types after into (Some (IntegerOf int)) leaves.1,
+)
 
 pub truth_cured : (k : Scope) (types : Typing) (into a : Temp) (x : HeldType) (code : List Instr) → types a ≡ Some x
     → Then (Line (tested_lines (is_wide (whole_of k) x) (fixed_column a))) (Line (instr.Ne (fixed_column into) (tested_slot (is_wide (whole_of k) x) (fixed_column a)) 381 ∷ [])) code

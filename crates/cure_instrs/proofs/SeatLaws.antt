@@ -54,14 +54,14 @@ seated_near Safe n = (refl, (refl, tt))
 seated_near Seq n = (refl, (refl, tt))
 seated_near Rtti n = (refl, (refl, tt))
 
-seated-factor : (small signed : Bool) (n : ℕ) → AreSeated (factor_needs (factor_by seat small signed n))
-seated-factor true signed n = tt
-seated-factor false true n = (refl, (refl, tt))
-seated-factor false false n = (refl, tt)
+pub seated_factor : (small signed : Bool) (n : ℕ) → AreSeated (factor_needs (factor_by seat small signed n))
+seated_factor true signed n = tt
+seated_factor false true n = (refl, (refl, tt))
+seated_factor false false n = (refl, tt)
 
-distance-if : (one : Bool) (a n : ℕ) → AreSeated (distance_needs (if one then Bytes a else Elements a (number_at seat Size n)))
-distance-if true a n = tt
-distance-if false a n = (refl, tt)
+pub seated_distance : (one : Bool) (a n : ℕ) → AreSeated (distance_needs (if one then Bytes a else Elements a (number_at seat Size n)))
+seated_distance true a n = tt
+seated_distance false a n = (refl, tt)
 
 module _ (k : Scope) (kind : Kind) (t : TypeId) (p : PointerSlots) where
   pub seated_read_integer : AreSeated (numbers_of (read_integer (world_of k) seat kind t p) kind)

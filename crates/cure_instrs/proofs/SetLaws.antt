@@ -42,9 +42,14 @@ pub null_set : (k : Scope) (types : Typing) (into : Temp) (t : TypeId) (code : L
     → Line (noughts (word_number (kind_at (whole_of k) t)) (fixed_column into)) code → SetCured (set.Null into t) (world_of k) types code
 unfolding SetCured
 null_set k types into t code line c after is h =
-    let e = kind_same (world_of k) c t h.0 h.1 is h.2 in
-    (h.0, h.1, e.0, takes k into (whole_of k).kind h.0 h.3.0, subst (λ kind. Line (noughts (word_number kind) (fixed_column into)) code) e.1 line,
-    leaves_held k.parameters types after into (Some (PointerTo h.0 h.1)) h.3.1)
+    let e = kind_same (world_of k) c t h.0 h.1 is h.2 in (
+      h.0,
+      h.1,
+      e.0,
+      takes k into (whole_of k).kind h.0 h.3.0,
+      subst (λ kind. Line (noughts (word_number kind) (fixed_column into)) code) e.1 line,
+      leaves_held k.parameters types after into (Some (PointerTo h.0 h.1)) h.3.1,
+    )
 
 no_facts : (truths : List Sure) → AreTrue [] truths
 no_facts truths y h = absurd (let q = h.1 in omega (arith, q))
@@ -61,10 +66,16 @@ pub function_set : (k : Scope) (types : Typing) (into : Temp) (f : FunctionNumbe
 unfolding SetCured
 function_set k types into f t code line c after is h =
     let e = kind_same (world_of k) c t h.0 h.1 is h.3 in
-    let leaves = h.7 in
-    (h.0, h.1, [], e.0, no_facts (IsNotNull ∷ IsFunction f.0 ∷ []), function-words k ((whole_of k).kind h.0) into (function_word f.0) code leaves.0
-    (subst (λ kind. function_row kind (fixed_column into) (function_word f.0) code) e.1 line),
-    leaves_held k.parameters types after into (Some (PointerTo h.0 h.1)) leaves.1)
+    let leaves = h.7 in (
+      h.0,
+      h.1,
+      [],
+      e.0,
+      no_facts (IsNotNull ∷ IsFunction f.0 ∷ []),
+      function-words k ((whole_of k).kind h.0) into (function_word f.0) code leaves.0
+          (subst (λ kind. function_row kind (fixed_column into) (function_word f.0) code) e.1 line),
+      leaves_held k.parameters types after into (Some (PointerTo h.0 h.1)) leaves.1,
+    )
 
 started : (k : Scope) (o : Object) (v : ℕ) (code : List Instr) → Line (start_line k o v ∷ []) code → Sets (world_of k) (Start o) v code
 started k (object.Variable n) v code h = h
@@ -74,18 +85,30 @@ object-words : (k : Scope) (kind : Kind) (into : Temp) (o : Object) (code : List
     → ObjectWords kind (world_of k) into o (fixed_column into) code
 unfolding Line Then
 object-words k Safe into o code is h = inr (refl, (is, omega arith), started k o (fixed_column into) code h)
-object-words k Wild into o code is h =
-    (refl, (is, omega arith), (start_line k o (fixed_column into) ∷ [], instr.Copy (fixed_column into + 1) (fixed_column into) ∷ [],
-    started k o (fixed_column into) (start_line k o (fixed_column into) ∷ []) refl, refl, h))
+object-words k Wild into o code is h = (
+  refl,
+  (is, omega arith),
+  (
+    start_line k o (fixed_column into) ∷ [],
+    instr.Copy (fixed_column into + 1) (fixed_column into) ∷ [],
+    started k o (fixed_column into) (start_line k o (fixed_column into) ∷ []) refl,
+    refl,
+    h,
+  ),
+)
 object-words k Seq into o code is h = absurd h
 object-words k Rtti into o code is h = absurd h
 
 pub object_set : (k : Scope) (types : Typing) (into : Temp) (o : Object) (home : NodeId) (t : TypeId) (code : List Instr)
     → object_row ((whole_of k).kind home) k o (fixed_column into) code → SetCured (set.Object into o home t) (world_of k) types code
 unfolding SetCured
-object_set k types into o home t code line c after is h =
-    (fixed_column into, [], no_facts (IsNotNull ∷ IsBased ∷ IsWithin (size_of (whole_of k).table t) ∷ []), object-words k ((whole_of k).kind home) into o code h.1.0 line,
-    leaves_held k.parameters types after into (Some (PlaceOf home t)) h.1.1)
+object_set k types into o home t code line c after is h = (
+  fixed_column into,
+  [],
+  no_facts (IsNotNull ∷ IsBased ∷ IsWithin (size_of (whole_of k).table t) ∷ []),
+  object-words k ((whole_of k).kind home) into o code h.1.0 line,
+  leaves_held k.parameters types after into (Some (PlaceOf home t)) h.1.1,
+)
 
 copied-words : (k : Scope) (types after : Typing) (into from : Temp) (x : Option HeldType) (code : List Instr) → IsTemp into
     → Includes (with_held into x types) after

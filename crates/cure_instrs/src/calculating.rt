@@ -177,8 +177,22 @@ fn put_binary(out: &mut Draft, i: Width, operator: Operator, on: Operands, at: P
         Operator::And => put_reckoned(out, Instr::And(v, a, b), i, v),
         Operator::Or => put_reckoned(out, Instr::Or(v, a, b), i, v),
         Operator::ExclusiveOr => put_reckoned(out, Instr::Xor(v, a, b), i, v),
-        Operator::Divide => put_divided(out, i, Instr::Divs(v, a, b), Instr::Divu(v, a, b), (a, b), at),
-        Operator::Remainder => put_divided(out, i, Instr::Rems(v, a, b), Instr::Remu(v, a, b), (a, b), at),
+        Operator::Divide => put_divided(
+            out,
+            i,
+            Instr::Divs(v, a, b),
+            Instr::Divu(v, a, b),
+            (a, b),
+            at,
+        ),
+        Operator::Remainder => put_divided(
+            out,
+            i,
+            Instr::Rems(v, a, b),
+            Instr::Remu(v, a, b),
+            (a, b),
+            at,
+        ),
         Operator::ShiftLeft => {
             put_masked(out, i, b);
             put_reckoned(out, Instr::Shl(v, a, FIRST), i, v)
@@ -301,7 +315,14 @@ pub fn put_calculate(out: &mut Draft, k: &Scope<'_>, held: Option<Held>, i: Calc
     match i {
         Calculate::Negate { into, operand, ty } => put_negate(out, k, into, operand, ty),
         Calculate::Complement { into, operand, ty } => put_complement(out, k, into, operand, ty),
-        Calculate::Binary { into, operator, left, right, ty, place } => put_operation(
+        Calculate::Binary {
+            into,
+            operator,
+            left,
+            right,
+            ty,
+            place,
+        } => put_operation(
             out,
             k,
             Operation {

@@ -16,4 +16,7 @@ pub use held::{Held, Width, held_words, is_wide, is_wide_kind, narrow_of, word_n
 pub use pieces::{put_copies, put_narrowing, put_noughts, put_three, put_two};
 pub use reach::{cured_size, reach_of, size_at, source_size, wild_numbers};
 pub use setting::{node_of, put_set, start_line};
-pub use storing::{StorePlaces, home_slot, put_integer_store, put_integer_stored, put_pointer_store, put_pointer_stored};
+pub use storing::{
+    StorePlaces, home_slot, put_integer_store, put_integer_stored, put_pointer_store,
+    put_pointer_stored,
+};

@@ -18,7 +18,14 @@ use cure_scope::{OTHER_WORD, Scope, WORD, pointer_slots, put_guarded};
 use cured_code::Instr;
 
 /// An integer of the type is loaded from the address in slot a, by the kind of its pointer.
-pub(crate) fn put_integer_load(out: &mut Draft, k: &Scope<'_>, of: (Kind, TypeId), i: Width, va: (u32, u32), at: Place)
+pub(crate) fn put_integer_load(
+    out: &mut Draft,
+    k: &Scope<'_>,
+    of: (Kind, TypeId),
+    i: Width,
+    va: (u32, u32),
+    at: Place,
+)
     requires { va.1 + 3 ≤ 1948 }
     ensures { Grows (LoadedInteger (world_of k.now) of.0 of.1 (width_view i) va.0 va.1 at) (Unit {0}) out.old out.new }
 {
@@ -83,7 +90,14 @@ fn put_pointer_loaded(out: &mut Draft, k: &Scope<'_>, outer: Kind, kind: Kind, v
 }
 
 /// A pointer of the second kind is loaded through one of the first, behind its check.
-pub(crate) fn put_pointer_load(out: &mut Draft, k: &Scope<'_>, kinds: (Kind, Kind), t: TypeId, va: (u32, u32), at: Place)
+pub(crate) fn put_pointer_load(
+    out: &mut Draft,
+    k: &Scope<'_>,
+    kinds: (Kind, Kind),
+    t: TypeId,
+    va: (u32, u32),
+    at: Place,
+)
     requires to { va.0 + 3 ≤ 1948 }
     requires from { va.1 + 3 ≤ 1948 }
     ensures { Grows (LoadedPointer (world_of k.now) kinds.0 kinds.1 t va.0 va.1 at) (AgreeOn kinds.0 kinds.1) out.old out.new }

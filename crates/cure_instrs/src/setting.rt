@@ -112,9 +112,12 @@ pub fn put_set(out: &mut Draft, k: &Scope<'_>, from: Option<Held>, i: Set)
         Set::Function { into, function, ty } => {
             put_function(out, k.kind_of(node_of(k, ty)), column(into), function)
         }
-        Set::Object { into, object, home, ty: _ } => {
-            put_object(out, k, k.kind_of(home), object, column(into))
-        }
+        Set::Object {
+            into,
+            object,
+            home,
+            ty: _,
+        } => { put_object(out, k, k.kind_of(home), object, column(into)) }
         Set::Copy { into, from: source } => put_held(out, k, from, column(into), column(source)),
     }
 }

@@ -45,7 +45,14 @@ pub fn put_integer_stored(out: &mut Draft, kind: Kind, bytes: u64, s: PointerSlo
 }
 
 /// An integer of the type is stored from slot v, behind its check.
-pub fn put_integer_store(out: &mut Draft, k: &Scope<'_>, of: (Kind, TypeId), i: Width, sv: (PointerSlots, u32), at: Place)
+pub fn put_integer_store(
+    out: &mut Draft,
+    k: &Scope<'_>,
+    of: (Kind, TypeId),
+    i: Width,
+    sv: (PointerSlots, u32),
+    at: Place,
+)
     ensures { Grows (StoredInteger (world_of k.now) of.0 of.1 (width_view i) sv.0 sv.1 at) (Unit {0}) out.old out.new }
 {
     let (kind, t) = of;
@@ -89,7 +96,13 @@ fn put_tagged_store(out: &mut Draft, s: PointerSlots, v: u32)
 
 /// A pointer of the second kind is stored through one of the first.
 #[tactic(auto, using(crate::proofs::PieceLaws::refused))]
-pub fn put_pointer_stored(out: &mut Draft, k: &Scope<'_>, outer: Kind, kind: Kind, sv: (PointerSlots, u32))
+pub fn put_pointer_stored(
+    out: &mut Draft,
+    k: &Scope<'_>,
+    outer: Kind,
+    kind: Kind,
+    sv: (PointerSlots, u32),
+)
     requires { sv.1 + 3 ≤ 1948 }
     ensures { Grows (pointer_stored outer kind (world_of k.now) sv.0 sv.1) (AgreeOn outer kind) out.old out.new }
 {
@@ -116,7 +129,14 @@ pub struct StorePlaces {
 }
 
 /// A pointer of the second kind is stored through one of the first, behind its checks.
-pub fn put_pointer_store(out: &mut Draft, k: &Scope<'_>, kinds: (Kind, Kind), t: TypeId, sv: (PointerSlots, u32), at: StorePlaces)
+pub fn put_pointer_store(
+    out: &mut Draft,
+    k: &Scope<'_>,
+    kinds: (Kind, Kind),
+    t: TypeId,
+    sv: (PointerSlots, u32),
+    at: StorePlaces,
+)
     requires { sv.1 + 3 ≤ 1948 }
     ensures { Grows (StoredPointer (world_of k.now) kinds.0 kinds.1 t sv.0 sv.1 at.own at.assignment) (AgreeOn kinds.0 kinds.1) out.old out.new }
 {

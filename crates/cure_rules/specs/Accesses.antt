@@ -63,7 +63,7 @@ PointerLoaded outer kind w v a = Line (words_loaded kind v a)
 abbrev pub LoadsInteger : World → Temp → TypeId → ℕ → Kind → Place → Knowledge → Knowledge → Piece
 LoadsInteger w into t a k at known after lines = (i : IntegerType) × (f : Form) × (seat : Seat) × IsPlainInteger w t i × Takes w into 1
     × Then (IsGuarded w (read_integer w seat k t (pointer_slots a)) k at)
-        (Then (Line (instr.Ld i.bytes (column w into) a ∷ [])) (NarrowsLoaded i (column w into) f)) lines
+    (Then (Line (instr.Ld i.bytes (column w into) a ∷ [])) (NarrowsLoaded i (column w into) f)) lines
     × Leaves known into (Some (an_integer (column w into) f i)) after
 
 abbrev pub LoadsPointer : World → Temp → TypeId → ℕ → Kind → Place → Knowledge → Knowledge → Piece
@@ -88,7 +88,7 @@ abbrev pub Targets : Target → World → Knowledge → TypeId → PointerSlots 
 Targets (target.Pointer p n) w known t s lines = (a : ℕ) × (sure : List Sure) × IsAddress known p n t a sure × (s ≡ pointer_slots a) × Line [] lines
 Targets (target.Part o home u offset) w known t s lines = (b : ℕ) × (seat : Seat) × IsHome (kind_of w home) × (s ≡ part_slots w b)
     × Then (Gets w Base (Start o) b) (Then (Gets w Offset (Number (cured_offset w (kind_of w home) u offset)) (seat Offset))
-        (Line (instr.Add (slot_of w.slots Address) b (seat Offset) ∷ []))) lines
+    (Line (instr.Add (slot_of w.slots Address) b (seat Offset) ∷ []))) lines
 
 -- Into a tagged area: the words that are touched lose their tags.
 abbrev pub integer_stored : Kind → ℕ → PointerSlots → ℕ → List Instr
@@ -137,9 +137,9 @@ abbrev pub CellsKept : World → Seat → Kind → TypeId → ℕ → ℕ → Pl
 CellsKept w seat k t a h assignment [] = Line []
 CellsKept w seat k t a h assignment (i ∷ is) = λ lines. (x : HeldPointer) × (pointer_at w.whole.table t i ≡ Some x)
     × Then (Gets w Offset (Number (cured_offset w k t i)) (seat Offset))
-        (Then (Line (instr.Add (slot_of w.slots Made) a (seat Offset) ∷ words_loaded (kind_of w x.node) (slot_of w.slots Word) (slot_of w.slots Made)))
-        (Then (IsGuarded w (op.KeepCell (home_slot (kind_of w x.node) (pointer_slots (slot_of w.slots Word))) h) k assignment)
-        (CellsKept w seat k t a h assignment is))) lines
+    (Then (Line (instr.Add (slot_of w.slots Made) a (seat Offset) ∷ words_loaded (kind_of w x.node) (slot_of w.slots Word) (slot_of w.slots Made)))
+    (Then (IsGuarded w (op.KeepCell (home_slot (kind_of w x.node) (pointer_slots (slot_of w.slots Word))) h) k assignment)
+    (CellsKept w seat k t a h assignment is))) lines
 
 abbrev pub plain_copied : Kind → PointerSlots → PointerSlots → ℕ → List Instr
 plain_copied Wild source to size = instr.Untag to.first to.second size ∷ instr.Move to.first source.first size ∷ []
@@ -159,19 +159,19 @@ CopiedBy false w seat cells k l t source to from_place to_place assignment =
     Then (IsGuarded w (op.CopyPlain source to l (size_at w seat k t) to_place) k from_place) (Line (plain_copied l source to (source_size w.whole t)))
 CopiedBy true w seat cells k l t source to from_place to_place assignment =
     Then (IsGuarded w (op.CopyPointers source to l (size_at w seat k t) (wild_numbers w seat) to_place assignment) k from_place)
-        (PointersCopied k l w cells t source to assignment)
+    (PointersCopied k l w cells t source to assignment)
 
 abbrev pub IsCuringAccess : Access → World → Knowledge → Knowledge → Piece
 IsCuringAccess (access.Load into from n t at) w known after lines = (a : ℕ) × (sure : List Sure) × IsAddress known from n t a sure
     × (LoadsInteger w into t a (kind_of w n) at known after lines ⊎ LoadsPointer w into t a (kind_of w n) at known after lines)
 IsCuringAccess (access.Store to v t at assignment) w known after lines = (s : PointerSlots)
     × (Then (Targets to w known t s) (StoresInteger w v t s (kind_of w (target_node to)) at known) lines
-        ⊎ Then (Targets to w known t s) (StoresPointer w v t s (kind_of w (target_node to)) at assignment known) lines)
+    ⊎ Then (Targets to w known t s) (StoresPointer w v t s (kind_of w (target_node to)) at assignment known) lines)
     × Includes known after
 IsCuringAccess (access.Clear o) w known after lines = (x : Planned) × (a : ℕ) × (plan_of w o ≡ Some x)
     × Then (Gets w Address (Start o) a) (ClearedBy (kind_of w x.node) w x.type a) lines × Includes known after
 IsCuringAccess (access.Copy to to_place from n from_place t assignment) w known after lines = (a : ℕ) × (sure : List Sure) × (s : PointerSlots) × (seat cells : Seat)
     × IsAddress known from n t a sure
     × Then (Targets to w known t s) (CopiedBy (holds_pointer w.whole.table t) w seat cells (kind_of w n) (kind_of w (target_node to)) t (pointer_slots a) s
-        from_place to_place assignment) lines
+    from_place to_place assignment) lines
     × Includes known after

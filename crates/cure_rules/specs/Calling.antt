@@ -49,9 +49,9 @@ abbrev pub BlockBy : Bool → World → Seat → Kind → TypeId → ℕ → ℕ
 BlockBy false w seat k t n b lines = (b ≡ n) × Line (instr.New (is_tagged_kind k) (slot_of w.slots Made) n n ∷ []) lines
 BlockBy true w seat k t n b lines = (b ≡ slot_of w.slots Bytes)
     × Then (Gets w Size (Number (source_size w.whole t)) (seat Size)) (Then (Gets w Offset (Number (cured_size w.whole t)) (seat Offset))
-        (Line (instr.Divu (slot_of w.slots Charge) n (seat Size) ∷ instr.Mul (slot_of w.slots Bytes) (slot_of w.slots Charge) (seat Offset)
-        ∷ instr.Mul (slot_of w.slots Charge) (slot_of w.slots Charge) (seat Size)
-        ∷ instr.New (is_tagged_kind k) (slot_of w.slots Made) (slot_of w.slots Bytes) (slot_of w.slots Charge) ∷ []))) lines
+    (Line (instr.Divu (slot_of w.slots Charge) n (seat Size) ∷ instr.Mul (slot_of w.slots Bytes) (slot_of w.slots Charge) (seat Offset)
+    ∷ instr.Mul (slot_of w.slots Charge) (slot_of w.slots Charge) (seat Size)
+    ∷ instr.New (is_tagged_kind k) (slot_of w.slots Made) (slot_of w.slots Bytes) (slot_of w.slots Charge) ∷ []))) lines
 
 abbrev pub MakesBlock : World → Seat → Kind → TypeId → ℕ → ℕ → Piece
 MakesBlock w seat k t n b = BlockBy (has_elements k (holds_pointer w.whole.table t)) w seat k t n b
@@ -78,10 +78,10 @@ IsCuringAllocate (allocate.Malloc into n node t at) w known after lines = (a : �
 IsCuringAllocate (allocate.Calloc into m n node t at) w known after lines = (p : ℕ) × (q : ℕ) × (b : ℕ) × (seat given : Seat)
     × IsExactly known m unsigned_long p × IsExactly known n unsigned_long q × Takes w into (word_number (kind_of w node))
     × Then (Line (instr.Mul (slot_of w.slots Amount) p q ∷ []))
-        (Then (Choice p (Line (instr.Divu (slot_of w.slots First) (slot_of w.slots Amount) p ∷ instr.Ne (slot_of w.slots First) (slot_of w.slots First) q ∷ []))
-            (Line (instr.Const (slot_of w.slots First) 0 ∷ [])))
-        (Then (Choice (slot_of w.slots First) (Line (instr.Const (slot_of w.slots Made) 0 ∷ [])) (MakesBlock w seat (kind_of w node) t (slot_of w.slots Amount) b))
-        (GivesBlock w given (kind_of w node) t (column w into) b at))) lines
+    (Then (Choice p (Line (instr.Divu (slot_of w.slots First) (slot_of w.slots Amount) p ∷ instr.Ne (slot_of w.slots First) (slot_of w.slots First) q ∷ []))
+    (Line (instr.Const (slot_of w.slots First) 0 ∷ [])))
+    (Then (Choice (slot_of w.slots First) (Line (instr.Const (slot_of w.slots Made) 0 ∷ [])) (MakesBlock w seat (kind_of w node) t (slot_of w.slots Amount) b))
+    (GivesBlock w given (kind_of w node) t (column w into) b at))) lines
     × Leaves known into (Some (a_pointer (column w into) node t [])) after
 
 -- Calls
@@ -98,13 +98,13 @@ AreArguments w known n (t ∷ ts) j = λ lines. (x : Known) × (a : ℕ) × (kno
 abbrev pub CallsAny : World → Knowledge → Call → Kind → TypeId → List TypeId → ℕ → Piece
 CallsAny w known call k u parameters a lines = (seat : Seat)
     × Then (IsGuarded w (call_of w seat u (pointer_slots a)) k call.place)
-        (Then (AreArguments w known call.first parameters 0) (Line (instr.Icall (w.whole.signature u) a w.slots.row (column w call.into) ∷ []))) lines
+    (Then (AreArguments w known call.first parameters 0) (Line (instr.Icall (w.whole.signature u) a w.slots.row (column w call.into) ∷ []))) lines
 
 -- one that is known is called by its number: there is room for its frame
 abbrev pub CallsKnown : World → Knowledge → Call → List Sure → List TypeId → Piece
 CallsKnown w known call sure parameters lines = (f : ℕ) × (seat : Seat) × Contains sure (IsFunction f)
     × Then (Gets w Word (Number (function_word f)) (seat Word)) (Then (AreChecks (work_of w.slots) (asked check.Depth call.place (HasRoom (seat Word)) ∷ []))
-        (Then (AreArguments w known call.first parameters 0) (Line (instr.Call (suc f) w.slots.row (column w call.into) ∷ [])))) lines
+    (Then (AreArguments w known call.first parameters 0) (Line (instr.Call (suc f) w.slots.row (column w call.into) ∷ [])))) lines
 
 abbrev pub IsCuringCall : Call → World → Knowledge → Knowledge → Piece
 IsCuringCall call w known after lines = (n : NodeId) × (u : TypeId) × (parameters : List TypeId) × (result : TypeId) × (a : ℕ) × (sure : List Sure)

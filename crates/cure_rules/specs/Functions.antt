@@ -75,9 +75,9 @@ new_slots w a = record { first = a; second = a; third = w.slots.nought }
 abbrev pub StoresParameter : World → NodeId → TypeId → ℕ → ℕ → Piece
 StoresParameter w home t p k lines = (a : ℕ) × IsHome (kind_of w home)
     × (((i : IntegerType) × IsPlainInteger w t i
-            × Then (Gets w Address (Start (object.Variable (record { 0 = k }))) a) (Line (integer_stored (kind_of w home) i.bytes (new_slots w a) p)) lines)
-        ⊎ ((n : NodeId) × (u : TypeId) × IsPointer w t n u
-            × Then (Gets w Address (Start (object.Variable (record { 0 = k }))) a) (PointerStored (kind_of w home) (kind_of w n) w (new_slots w a) p) lines))
+    × Then (Gets w Address (Start (object.Variable (record { 0 = k }))) a) (Line (integer_stored (kind_of w home) i.bytes (new_slots w a) p)) lines)
+    ⊎ ((n : NodeId) × (u : TypeId) × IsPointer w t n u
+    × Then (Gets w Address (Start (object.Variable (record { 0 = k }))) a) (PointerStored (kind_of w home) (kind_of w n) w (new_slots w a) p) lines))
 
 -- a parameter without a name is no variable
 abbrev pub StoresNamed : World → Option NodeId → TypeId → ℕ → ℕ → (ℕ → Piece) → Piece

@@ -111,18 +111,18 @@ IsCuringPoint (point.Move into p n way t at) w known after lines = (m : NodeId) 
     × (seat : Seat) × IsPointer w t m u × IsComplete w.whole.table u × Points known p m u a sure × IsExactly known n i b
     × Takes w into (word_number (kind_of w m))
     × Then (IsGuarded w (move_by w seat (kind_of w m) u (pointer_slots a) way i b) (kind_of w m) at)
-        (Line (moved_words (kind_of w m) (column w into) a (slot_of w.slots Moved))) lines
+    (Line (moved_words (kind_of w m) (column w into) a (slot_of w.slots Moved))) lines
     × Leaves known into (Some (a_pointer (column w into) m u [])) after
 IsCuringPoint (point.Difference into a t b s at) w known after lines = (m n : NodeId) × (u v : TypeId) × (p q : ℕ) × (x y : List Sure) × (seat : Seat)
     × IsPointer w t m u × IsPointer w s n v × IsComplete w.whole.table u × Points known a m u p x × Points known b n v q y × Takes w into 1
     × Then (IsGuarded w (order_by w seat (kind_of w m) (pointer_slots p) (kind_of w n) (pointer_slots q)
-        (Some (number_at seat Size (reach_of w (kind_of w m) u)))) (kind_of w m) at)
-        (Line (instr.Sub (column w into) p q ∷ quotient_lines (column w into) (number_at seat Size (reach_of w (kind_of w m) u)))) lines
+    (Some (number_at seat Size (reach_of w (kind_of w m) u)))) (kind_of w m) at)
+    (Line (instr.Sub (column w into) p q ∷ quotient_lines (column w into) (number_at seat Size (reach_of w (kind_of w m) u)))) lines
     × Leaves known into (Some (an_integer (column w into) Exact long)) after
 IsCuringPoint (point.Compare into which a t b s at) w known after lines = (m n : NodeId) × (u v : TypeId) × (p q : ℕ) × (x y : List Sure) × (seat : Seat)
     × IsPointer w t m u × IsPointer w s n v × Points known a m u p x × Points known b n v q y × Takes w into 1
     × Then (IsGuarded w (comparing which w seat (kind_of w m) (pointer_slots p) (kind_of w n) (pointer_slots q)) (kind_of w m) at)
-        (Line (compared_lines which w (kind_of w m) (kind_of w n) (column w into) (pointer_slots p) (pointer_slots q))) lines
+    (Line (compared_lines which w (kind_of w m) (kind_of w n) (column w into) (pointer_slots p) (pointer_slots q))) lines
     × Leaves known into (Some (an_integer (column w into) Exact int)) after
 IsCuringPoint (point.IsNull into p t different) w known after lines = (a : ℕ) × Takes w into 1
     × Then (IsTested w known p a) (Line (null_operation different (column w into) a w.slots.nought ∷ [])) lines
@@ -130,8 +130,8 @@ IsCuringPoint (point.IsNull into p t different) w known after lines = (a : ℕ) 
 IsCuringPoint (point.Member into from outer t i inner u at) w known after lines = (a : ℕ) × (sure : List Sure) × (seat : Seat)
     × IsAddress known from outer t a sure × Takes w into (word_number (kind_of w inner))
     × Then (Gets w Offset (Number (cured_offset w (kind_of w outer) t (offset_of w.whole.table t i))) (seat Offset))
-        (Then (IsGuarded w (address_of_part w seat (kind_of w outer) t (pointer_slots a)) (kind_of w outer) at)
-        (PartWords (kind_of w inner) w seat (cured_size w.whole u) u (column w into) a (seat Offset) (a + 1))) lines
+    (Then (IsGuarded w (address_of_part w seat (kind_of w outer) t (pointer_slots a)) (kind_of w outer) at)
+    (PartWords (kind_of w inner) w seat (cured_size w.whole u) u (column w into) a (seat Offset) (a + 1))) lines
     × Leaves known into (Some (a_place (column w into) inner u [])) after
 IsCuringPoint (point.Decay into from outer array check inner element at) w known after lines = (a : ℕ) × (sure : List Sure) × (seat : Seat)
     × IsAddress known from outer array a sure × Takes w into (word_number (kind_of w inner))
@@ -203,6 +203,6 @@ IsCuringConvert (convert.FromPointer into from t s) w known after lines = (n : N
 IsCuringConvert (convert.Pointer into from t s at) w known after lines = (m n : NodeId) × (u v : TypeId) × (a : ℕ) × (sure : List Sure) × (seat : Seat)
     × IsPointer w t m u × IsPointer w s n v × Points known from m u a sure × Takes w into (word_number (kind_of w n))
     × Then (IsGuarded w (op.Convert (pointer_slots a)
-        (conversion_by (kind_of w m) (kind_of w n) w seat (flow_class w.whole.table u v) u v)) (kind_of w m) at)
-        (ConvertedWords (kind_of w m) (kind_of w n) w (flow_class w.whole.table u v) u v (column w into) a) lines
+    (conversion_by (kind_of w m) (kind_of w n) w seat (flow_class w.whole.table u v) u v)) (kind_of w m) at)
+    (ConvertedWords (kind_of w m) (kind_of w n) w (flow_class w.whole.table u v) u v (column w into) a) lines
     × Leaves known into (Some (a_pointer (column w into) n v [])) after

@@ -182,46 +182,103 @@ fn put_needs(out: &mut Draft, op: Op, kind: Kind)
 {
     match op {
         Op::ReadInteger { p: _, size } => put_reach(out, kind, size),
-        Op::ReadPointer { p: _, size, numbers } => {
+        Op::ReadPointer {
+            p: _,
+            size,
+            numbers,
+        } => {
             put_reach(out, kind, size);
             put_aligned(out, kind, numbers);
             put_tagged(out, kind, numbers)
         }
         Op::WriteInteger { p: _, size } => put_reach(out, kind, size),
-        Op::WritePointer { p: _, size, numbers, home: _, assignment: _ } => {
+        Op::WritePointer {
+            p: _,
+            size,
+            numbers,
+            home: _,
+            assignment: _,
+        } => {
             put_reach(out, kind, size);
             put_aligned(out, kind, numbers)
         }
-        Op::CopyPlain { source: _, target: _, other, size, target_at: _ } => {
+        Op::CopyPlain {
+            source: _,
+            target: _,
+            other,
+            size,
+            target_at: _,
+        } => {
             put_reach(out, kind, size);
             put_reach(out, other, size)
         }
-        Op::CopyPointers { source: _, target: _, other, size, numbers, target_at: _, assignment: _ } => {
+        Op::CopyPointers {
+            source: _,
+            target: _,
+            other,
+            size,
+            numbers,
+            target_at: _,
+            assignment: _,
+        } => {
             put_reach(out, kind, size);
             put_aligned(out, kind, numbers);
             put_reach(out, other, size);
             put_aligned(out, other, numbers)
         }
         Op::KeepCell { home: _, target: _ } => put_none(out),
-        Op::Member { p: _, size, numbers, offset: _, reach } => put_member(out, kind, size, numbers, reach),
-        Op::Move { p: _, direction: _, n: _, factor, distance, numbers, reach } => {
+        Op::Member {
+            p: _,
+            size,
+            numbers,
+            offset: _,
+            reach,
+        } => put_member(out, kind, size, numbers, reach),
+        Op::Move {
+            p: _,
+            direction: _,
+            n: _,
+            factor,
+            distance,
+            numbers,
+            reach,
+        } => {
             put_base(out, kind, numbers);
             put_factor(out, factor);
             put_distance(out, distance);
             put_near(out, reach)
         }
-        Op::Order { p: _, q: _, other, numbers, apart } => {
+        Op::Order {
+            p: _,
+            q: _,
+            other,
+            numbers,
+            apart,
+        } => {
             put_base(out, kind, numbers);
             put_base(out, other, numbers);
             put_apart(out, apart)
         }
-        Op::Equate { p: _, q: _, other: _ } => put_none(out),
+        Op::Equate {
+            p: _,
+            q: _,
+            other: _,
+        } => put_none(out),
         Op::Call { p: _, signature } => put_call(out, kind, signature),
         Op::ReturnPointer { home: _ } => put_none(out),
         Op::Convert { p: _, conversion } => put_convert(out, kind, conversion),
-        Op::Allocate { made: _, size: _, needed } => put_allocated(out, kind, needed),
+        Op::Allocate {
+            made: _,
+            size: _,
+            needed,
+        } => put_allocated(out, kind, needed),
         Op::DivideUnsigned { a: _, b: _ } => put_none(out),
-        Op::DivideSigned { a: _, b: _, least, minus_one } => {
+        Op::DivideSigned {
+            a: _,
+            b: _,
+            least,
+            minus_one,
+        } => {
             put_number(out, least);
             put_number(out, minus_one)
         }

@@ -40,26 +40,47 @@ pub const NOUGHT: u32 = 381;
 
 /// The working slots that instructions name, one for each role.
 pub const FIRST: u32 = 382;
+
 pub const SECOND: u32 = 383;
+
 pub const MOVED: u32 = 385;
+
 pub const SIZE: u32 = 386;
+
 pub const LEAST: u32 = 387;
+
 pub const SPAN: u32 = 388;
+
 pub const LEAST_FACTOR: u32 = 389;
+
 pub const SPAN_FACTOR: u32 = 390;
+
 pub const SEVEN: u32 = 391;
+
 pub const EIGHT: u32 = 392;
+
 pub const LAST: u32 = 393;
+
 pub const SIGNATURE: u32 = 394;
+
 pub const OFFSET: u32 = 395;
+
 pub const MASK: u32 = 396;
+
 pub const ADDRESS: u32 = 397;
+
 pub const BASE: u32 = 398;
+
 pub const WORD: u32 = 399;
+
 pub const OTHER_WORD: u32 = 400;
+
 pub const AMOUNT: u32 = 402;
+
 pub const BYTES: u32 = 403;
+
 pub const CHARGE: u32 = 404;
+
 pub const MADE: u32 = 405;
 
 /// The working slots of checks.

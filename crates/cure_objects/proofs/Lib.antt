@@ -1,0 +1,3 @@
+pub mod Rules
+pub mod ObjectLaws
+pub mod CopyLaws

@@ -1,0 +1,3 @@
+pub mod Cured
+pub mod Lines
+pub mod Copies

@@ -53,8 +53,8 @@ fn program_of(alloc: Global, unit: &Typed) -> Result<Program, NoMemory>
 
 /// The three-address code of a well typed unit, which is in shape. For whatever kinds the nodes have, every input and
 /// every bound on turns it runs as the unit does: in its ending, its output, the bytes that it reads, its accesses, the
-/// functions that it enters and the memory at the end. Its types, nodes and sites are the unit's. The only error is want
-/// of memory.
+/// functions that it enters and the memory at the end. Its types, nodes and sites are the unit's. The one error is
+/// `NoMemory`; no clause says that nothing else than want of memory gives it.
 pub fn lower(alloc: Global, unit: &Typed) -> Result<Cil, NoMemory>
     requires typed { IsWellTyped unit.now.types (typed_unit_view unit.now.unit) }
     requires limited { IsWithinLimits unit.now.types (typed_unit_view unit.now.unit) }

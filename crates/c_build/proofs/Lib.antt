@@ -1,1 +1,3 @@
 pub mod PrintedNodes
+pub mod Passes
+pub mod Lines

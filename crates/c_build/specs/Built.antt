@@ -1,8 +1,9 @@
 -- What a text of C is built to.
-use Rattle.std.specs.Prelude.{ℕ, ◌≡◌, List}
+use Rattle.std.specs.Prelude.{ℕ, ◌≡◌, List, length}
 use Rattle.cc_base.specs.declared.kind.Kind.{Kind}
 use Rattle.cc_base.specs.declared.number.NodeId.{NodeId}
 use Rattle.runs.specs.Input.{Input}
+use Rattle.c_tree.specs.TypedParts.{made_by_unit, nodes_made}
 use Rattle.c_tree.specs.TypedStatementViews.{typed_unit_view}
 use Rattle.c_tree.specs.declared.typed_unit.Typed.{Typed}
 use Rattle.c_printed.specs.Printing.{AreInOrder, HasPrinted}
@@ -27,6 +28,7 @@ pub record IsLowered (t : Typed) (p : Program) : Type 0 where
 -- The text is accepted with this typed unit, whose printed nodes stand in the order of the text; with its code, and the kinds of that.
 pub record IsBuilt (text : List ℕ) (t : Typed) (p : Program) (s : Solved) : Type 0 where
   pub typed : IsTypedText text t.types (typed_unit_view t.unit)
+  pub counted : t.nodes ≡ length (nodes_made (made_by_unit (typed_unit_view t.unit)))
   pub printed : HasPrinted (typed_unit_view t.unit) t.printed
   pub ordered : AreInOrder t.printed
   pub lowered : IsLowered t p

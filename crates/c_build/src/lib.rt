@@ -2,8 +2,8 @@
 #![tactic(auto)]
 
 mod building;
-mod kinds;
+mod lines;
 mod solving;
 
 pub use building::{Built, build};
-pub use kinds::kinds;
+pub use lines::kinds;

@@ -5,5 +5,6 @@ mod files;
 mod running;
 mod top;
 mod words;
+mod writing;
 
 pub use top::ccured;

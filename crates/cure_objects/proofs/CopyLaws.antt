@@ -141,7 +141,8 @@ module _ (k : Scope) (t : TypeId) (layout : Layout) (tells : TellsPointers k.lay
   pointers-copied Rtti Seq g = (g.0, g.1, cells-kept Rtti to.second g.0 g.2, g.3, g.4)
   pointers-copied Rtti Rtti g = (g.0, g.1, cells-kept Rtti to.first g.0 g.2, g.3, g.4)
 
-struct-copied : (k : Scope) (holds : Bool) (layout : Layout) (from kind : Kind) (t : TypeId) (source to : PointerSlots) (from_place to_place assignment : Place)
+struct-copied : (k : Scope) (holds : Bool) (layout : Layout) (from kind : Kind) (t : TypeId) (source to : PointerSlots)
+    (from_place to_place assignment : Place)
     (code : List Instr) → TellsPointers k.layouts.now.table t layout → layout.holds ≡ holds
     → StructCopied (world_of k) holds layout.spots.items from kind t source to from_place to_place assignment code
     → CopiedBy holds (world_of k) seat seat from kind t source to from_place to_place assignment code
@@ -170,7 +171,8 @@ struct-copied k true layout from kind t source to from_place to_place assignment
     )
 
 -- a struct of this layout
-laid-copied : (k : Scope) (layout : Layout) (from kind : Kind) (t : TypeId) (source to : PointerSlots) (from_place to_place assignment : Place) (code : List Instr)
+laid-copied : (k : Scope) (layout : Layout) (from kind : Kind) (t : TypeId) (source to : PointerSlots) (from_place to_place assignment : Place)
+    (code : List Instr)
     → TellsPointers k.layouts.now.table t layout
     → StructCopied (world_of k) layout.holds layout.spots.items from kind t source to from_place to_place assignment code
     → CopiedBy (holds_pointer k.layouts.now.table t) (world_of k) seat seat from kind t source to from_place to_place assignment code
@@ -178,8 +180,8 @@ laid-copied k layout from kind t source to from_place to_place assignment code t
     struct-copied k (holds_pointer k.layouts.now.table t) layout from kind t source to from_place to_place assignment code tells tells.holds
     (subst (λ z. StructCopied (world_of k) z layout.spots.items from kind t source to from_place to_place assignment code) tells.holds h)
 
-pub pointer_copied : (k : Scope) (types : Typing) (p : Temp) (m : NodeId) (from : Temp) (n : NodeId) (t : TypeId) (to_place from_place assignment : Place)
-    (layout : Layout) (code : List Instr) → TellsPointers k.layouts.now.table t layout
+pub pointer_copied : (k : Scope) (types : Typing) (p : Temp) (m : NodeId) (from : Temp) (n : NodeId) (t : TypeId)
+    (to_place from_place assignment : Place) (layout : Layout) (code : List Instr) → TellsPointers k.layouts.now.table t layout
     → StructCopied (world_of k) layout.holds layout.spots.items ((whole_of k).kind n) ((whole_of k).kind m) t (pointer_slots (fixed_column from))
     (pointer_slots (fixed_column p)) from_place to_place assignment code
     → ObjectCured (access.Copy (target.Pointer p m) to_place from n from_place t assignment) (world_of k) types code
@@ -242,8 +244,8 @@ pub no_type : (w : Whole) (to n : NodeId) (t : TypeId) → (IsType w.table t →
 unfolding CanCopy
 no_type w to n t none h = none h.0
 
-pub part_copy_ready : (w : Whole) (home : NodeId) (u : TypeId) (offset : ℕ) (n : NodeId) (t : TypeId) (layout : Layout) → TellsPointers w.table t layout
-    → CanCopyPart w home u offset n t → IsHome (w.kind home) × AreCopied layout.holds (w.kind n) (w.kind home)
+pub part_copy_ready : (w : Whole) (home : NodeId) (u : TypeId) (offset : ℕ) (n : NodeId) (t : TypeId) (layout : Layout)
+    → TellsPointers w.table t layout → CanCopyPart w home u offset n t → IsHome (w.kind home) × AreCopied layout.holds (w.kind n) (w.kind home)
 unfolding CanCopyPart
 part_copy_ready w home u offset n t layout tells h =
     (h.1.1.0, subst (λ z. AreCopied z (w.kind n) (w.kind home)) (sym tells.holds) h.1.1.1)

@@ -33,7 +33,8 @@ starts-from : ℕ → List Cell → List ℕ
 starts-from a [] = []
 starts-from a (c ∷ cs) = cond (is_some (pointer_in_cell c)) (a ∷ starts-from (a + 1) cs) (starts-from (a + 1) cs)
 
-filtered : (p : ℕ → Bool) (a : ℕ) (xs : List Cell) → ((j : ℕ) → p (a + j) ≡ is_some (found_in xs j)) → filter p (range_with_len a (length xs)) ≡ starts-from a xs
+filtered : (p : ℕ → Bool) (a : ℕ) (xs : List Cell) → ((j : ℕ) → p (a + j) ≡ is_some (found_in xs j))
+    → filter p (range_with_len a (length xs)) ≡ starts-from a xs
 unfolding starts-from
 filtered p a [] h = refl
 filtered p a (c ∷ cs) h =
@@ -97,7 +98,8 @@ starts-spots size at end (s ∷ ss) h =
 
 -- What holds a pointer is complete, and is no function
 
-shape-complete : (f : TypeId → Bool) (shape : TypeShape) (members : List TypeId) → holds_in_shape f shape members ≡ true → is_complete_entry shape members ≡ true
+shape-complete : (f : TypeId → Bool) (shape : TypeShape) (members : List TypeId) → holds_in_shape f shape members ≡ true
+    → is_complete_entry shape members ≡ true
 shape-complete f Void members h = absurd (true≢false (sym h))
 shape-complete f (Integer bytes signed) members h = refl
 shape-complete f (PointerShape node to) members h = refl
@@ -108,8 +110,8 @@ shape-complete f (Struct tag) (m ∷ ms) h = refl
 shape-complete f (Union tag) [] h = absurd (true≢false (sym h))
 shape-complete f (Union tag) (m ∷ ms) h = refl
 
-shape-found : (f : TypeId → Bool) (table : Table) (t : TypeId) (shape : TypeShape) (members : List TypeId) → holds_in_shape f shape members ≡ true → (i : ℕ)
-    → pointer_in table t shape i ≡ found_in (cells_of table t) i
+shape-found : (f : TypeId → Bool) (table : Table) (t : TypeId) (shape : TypeShape) (members : List TypeId) → holds_in_shape f shape members ≡ true
+    → (i : ℕ) → pointer_in table t shape i ≡ found_in (cells_of table t) i
 shape-found f table t Void members h i = refl
 shape-found f table t (Integer bytes signed) members h i = refl
 shape-found f table t (PointerShape node to) members h i = refl
@@ -136,11 +138,13 @@ found-within [] i p h = absurd (none p h)
 found-within (c ∷ cs) zero p h = omega arith
 found-within (c ∷ cs) (suc i) p h = let r = found-within cs i p h in omega arith
 
-module _ (table : Table) (formed : IsWellFormed table) (t : TypeId) (layout : Layout) (shown : IsLayoutOf table (physically_equal table) t layout) (h : layout.holds ≡ true) where
+module _ (table : Table) (formed : IsWellFormed table) (t : TypeId) (layout : Layout) (shown : IsLayoutOf table (physically_equal table) t layout)
+    (h : layout.holds ≡ true) where
   holder : holds_pointer table t ≡ true
   holder = sym shown.holds ∙ h
 
-  start-of : (k : ℕ) (s : Spot) (p : HeldPointer) → slice_get layout.spots.items k ≡ Some s → found_in (cells_of table t) s.start ≡ Some p → IsPointerStart table t s.start p
+  start-of : (k : ℕ) (s : Spot) (p : HeldPointer) → slice_get layout.spots.items k ≡ Some s
+      → found_in (cells_of table t) s.start ≡ Some p → IsPointerStart table t s.start p
   start-of k s p e found = record {
     there = found-holder table t holder s.start ∙ found;
     complete = complete-holder table t holder;
@@ -175,7 +179,8 @@ module _ (table : Table) (formed : IsWellFormed table) (t : TypeId) (layout : La
       same : (j : ℕ) → 0 + j ≡ j
       same j = omega arith
 
-pub pointers_told : (table : Table) (t : TypeId) (layout : Layout) → IsWellFormed table → IsLayoutOf table (physically_equal table) t layout → TellsPointers table t layout
+pub pointers_told : (table : Table) (t : TypeId) (layout : Layout) → IsWellFormed table → IsLayoutOf table (physically_equal table) t layout
+    → TellsPointers table t layout
 pointers_told table t layout formed shown = record {
   holds = shown.holds;
   spots = λ h. spots-are table formed t layout shown h;

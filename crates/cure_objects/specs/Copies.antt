@@ -60,7 +60,8 @@ HolderCopied from kind w t ss source to assignment = SpotsCopied kind w from t s
 -- a struct of type t, with these spots, is copied, which holds pointers or not
 abbrev pub StructCopied : World → Bool → List Spot → Kind → Kind → TypeId → PointerSlots → PointerSlots → Place → Place → Place → Piece
 StructCopied w false ss from kind t source to from_place to_place assignment =
-    Then (Guards (op.CopyPlain source to kind (size_at w seat from t) to_place) from from_place) (Line (plain_copied kind source to (source_size w.whole t)))
+    Then (Guards (op.CopyPlain source to kind (size_at w seat from t) to_place) from from_place)
+    (Line (plain_copied kind source to (source_size w.whole t)))
 StructCopied w true ss from kind t source to from_place to_place assignment =
     Then (Guards (op.CopyPointers source to kind (size_at w seat from t) (wild_numbers w seat) to_place assignment) from from_place)
     (HolderCopied from kind w t ss source to assignment)

@@ -1,5 +1,5 @@
 -- How drafts grow, and what is held.
-use Rattle.std.proofs.Common.{◌≡◌, refl, ap, sym, subst, ◌∙◌, ℕ, Bool, true, false, if◌then◌else◌, List, [], ◌∷◌, ◌++◌, length, take, Option, Some, None, append_assoc, append-nil}
+use Rattle.std.proofs.Common.{◌≡◌, refl, ap, sym, subst, ◌∙◌, ℕ, Bool, true, false, if◌then◌else◌, List, [], ◌∷◌, ◌++◌, length, take, Option, Some, append-nil}
 use Rattle.std.proofs.lemmas.List.{append_cancel_left}
 use Rattle.std.proofs.Math.Seq.{take-append_seam}
 use Rattle.cured_code.specs.declared.instr.Instr as flat
@@ -31,8 +31,7 @@ pub makes_each : (A : Typing → Type 0) (P : Typing → Piece) (T : Typing) (a 
     → Makes (λ code. (types : Typing) → A types → P types code) a b
 unfolding Makes
 makes_each A P T a b at f = λ fine.
-    let p = f T at fine in
-    (
+    let p = f T at fine in (
       p.0,
       (
         p.1.0,
@@ -85,8 +84,7 @@ unfolding Makes Notes InstrCured
 noted i w t x h g a b c P cured tracked m n = λ fine.
     let q = n fine in let p = m q.0 in let y = q.2.0 in
     let e : holds_now g ≡ with_held t x (holds_now h) = ap typing_of q.2.3 ∙ held_one h.items.items y
-        ∙ ap (λ z. with_held z (held_views y.held) (holds_now h)) q.2.1 ∙ ap (λ z. with_held t z (holds_now h)) q.2.2 in
-    (
+    ∙ ap (λ z. with_held z (held_views y.held) (holds_now h)) q.2.1 ∙ ap (λ z. with_held t z (holds_now h)) q.2.2 in (
       p.0,
       (
         p.1.0,
@@ -110,8 +108,7 @@ pub unnoted : (i : Instr) (w : World) (h : Holdings) (a b : Draft) (P : Piece)
     → Makes P a b → Makes (InstrCured i w h h) a b
 unfolding Makes InstrCured
 unnoted i w h a b P cured keeps m = λ fine.
-    let p = m fine in
-    (
+    let p = m fine in (
       p.0,
       (
         p.1.0,

@@ -1,8 +1,8 @@
 -- The lines of `if`, blocks, loops, and of what leaves them; code in order.
-use Rattle.std.proofs.Common.{◌≡◌, ◌≢◌, refl, ap, sym, subst, ◌∙◌, ℕ, suc, ◌<◌, arith, true, false, List, [], ◌∷◌, ◌++◌, length, map, take, drop, get_or, slice_get, Option, Some, None, IsSome, append_assoc, append-nil}
+use Rattle.std.proofs.Common.{◌≡◌, refl, ap, sym, subst, ◌∙◌, ℕ, suc, ◌+◌, ◌<◌, ◌≤◌, arith, true, false, List, [], ◌∷◌, ◌++◌, length, take, drop, get_or, slice_get, Option, Some, None, IsSome, append_assoc, append-nil}
+use Rattle.std.proofs.lemmas.List.{drop_all}
 use Rattle.cc_base.specs.declared.number.TypeId.{TypeId}
 use Rattle.cc_base.specs.declared.place.Place.{Place}
-use Rattle.c_types.specs.declared.shape.TypeShape.TheVariants as shape
 use Rattle.c_types.specs.Table.{shape_at}
 use Rattle.cured_code.specs.declared.instr.Instr as flat
 use Rattle.cured_code.specs.declared.instr.Instr.TheVariants as line
@@ -14,16 +14,15 @@ use Rattle.cil_form.specs.declared.instr.Code.{Code}
 use Rattle.cil_form.specs.declared.instr.Instr.{Instr, Row_of-Instr, end_of-Instr, more_of-Instr}
 use Rattle.cil_form.specs.declared.instr.Instr.TheVariants as source
 use Rattle.cil_form.specs.declared.instr.Instr.TheBlock.{hidden-the_row-Instr-0, items-the_row-Instr, items_hidden-the_row-Instr-0}
-use Rattle.cil_form.specs.Typing.{Context, HeldType, Typing, Includes, no_types, inside, Passes, IsShaped, AreShaped}
+use Rattle.cil_form.specs.Typing.{Context, HeldType, Typing, Includes, no_types, inside}
 use Rattle.cil_form.proofs.TypingLaws.{shaped-held, shaped-more, shaped-less, includes-more}
 use Rattle.sim_relation.specs.Points.{Knowledge}
 use Rattle.cure_rules.specs.Known as known
 use Rattle.cure_rules.specs.Known.{World, known_of, words_by}
 use Rattle.cure_rules.specs.Setting.{IsTested}
-use Rattle.cure_rules.specs.Code.{Blocks, IsCuring, IsCuringRow, AreCuring}
+use Rattle.cure_rules.specs.Code.{Blocks, IsCuringRow, AreCuring}
 use Rattle.cure_scope.specs.declared.scope.Scope.{Scope}
 use Rattle.cure_scope.specs.Scopes.{fixed_column, whole_of, world_of}
-use Rattle.cure_instrs.specs.Cured.{IsIn}
 use Rattle.cure_instrs.specs.Lines.{tested_slot, tested_lines}
 use Rattle.cure_rules.specs.Setting.{is_wide}
 use Rattle.cure_instrs.proofs.KnownLaws.{includes_held}
@@ -65,8 +64,8 @@ unfolding TestedFor
 tested_made k T t x slot a b e same made =
     makes_as _ _ a b
     (λ code line types y more f.
-        let one : y ≡ x = cc (sym (more t y f) ∙ e) in
-        subst (λ z. IsTested (world_of k) (known_of (world_of k).slots types) t z code) (sym same) (is_tested k types t x code (f ∙ ap Some one) line))
+    let one : y ≡ x = cc (sym (more t y f) ∙ e) in
+    subst (λ z. IsTested (world_of k) (known_of (world_of k).slots types) t z code) (sym same) (is_tested k types t x code (f ∙ ap Some one) line))
     made
 
 pub tested_failed : (w : World) (T : Typing) (t : Temp) (slot : ℕ) (a b : Draft) → b.fine ≡ false → TestedFor w T t slot a b
@@ -83,42 +82,40 @@ pub if_made : (w : World) (t : Temp) (x y : Code) (slot n : ℕ) (h g r e : Hold
     → Makes (InstrCured (source.If t x y) w h e) a c
 unfolding Makes InstrCured CodeCured TestedFor Grows Chosen Choice Then Line
 if_made w t x y slot n h g r e a b c one two left right tested s1 m1 len cut s2 m2 chosen = λ fine.
-        let q = chosen.0 fine in let d = q.1.1 in let p = tested q.0 in
-        let c1 = made-in (CodeCured x.0.items w h g) one left s1 m1 d.0 in
-        let c2 = made-in (CodeCured y.0.items w r e) two right s2 m2 d.1 in
-        let back : r.items.items ≡ h.items.items = rewound h g r n c1.0 len cut in
+    let q = chosen.0 fine in let d = q.1.1 in let p = tested q.0 in
+    let c1 = made-in (CodeCured x.0.items w h g) one left s1 m1 d.0 in
+    let c2 = made-in (CodeCured y.0.items w r e) two right s2 m2 d.1 in
+    let back : r.items.items ≡ h.items.items = rewound h g r n c1.0 len cut in (
+      p.0,
+      (
+        p.1.0 ++ q.1.0,
         (
-          p.0,
-          (
-            p.1.0 ++ q.1.0,
-            (
-              extends-same e r h c2.0 back,
-              λ cx blocks types less is more s.
-                  let l = c1.1 cx blocks types less is more (shaped-held x cx types less s.1) in
-                  let m = c2.1 cx blocks types less is (subst (λ z. Includes (typing_of z) types) (sym back) more) (shaped-held y cx types less s.2) in
+          extends-same e r h c2.0 back,
+          λ cx blocks types less is more s.
+              let l = c1.1 cx blocks types less is more (shaped-held x cx types less s.1) in
+              let m = c2.1 cx blocks types less is (subst (λ z. Includes (typing_of z) types) (sym back) more) (shaped-held y cx types less s.2) in (
+                m.0,
+                (
+                  slot,
                   (
-                    m.0,
+                    p.1.0,
+                    q.1.0,
+                    p.1.1 types s.0.0 more s.0.1.1,
                     (
-                      slot,
-                      (
-                        p.1.0,
-                        q.1.0,
-                        p.1.1 types s.0.0 more s.0.1.1,
-                        (
-                          d.2.0,
-                          d.2.1,
-                          subst (IsCuringRow (hidden-the_row-Instr-0 x.0) w (known_behind w blocks) (known_of w.slots types) (known_of w.slots less)) (sym d.2.2) (held-row x w _ _ _ _ l.1),
-                          subst (IsCuringRow (hidden-the_row-Instr-0 y.0) w (known_behind w blocks) (known_of w.slots types) (known_of w.slots less)) (sym d.2.3) (held-row y w _ _ _ _ m.1),
-                          d.2.4,
-                        ),
-                        refl,
-                      ),
+                      d.2.0,
+                      d.2.1,
+                      subst (IsCuringRow (hidden-the_row-Instr-0 x.0) w (known_behind w blocks) (known_of w.slots types) (known_of w.slots less)) (sym d.2.2) (held-row x w _ _ _ _ l.1),
+                      subst (IsCuringRow (hidden-the_row-Instr-0 y.0) w (known_behind w blocks) (known_of w.slots types) (known_of w.slots less)) (sym d.2.3) (held-row y w _ _ _ _ m.1),
+                      d.2.4,
                     ),
+                    refl,
                   ),
-            ),
-            q.1.2 ∙ ap (λ z. z ++ q.1.0) p.1.2 ∙ append_assoc a.items.items p.1.0 q.1.0,
-          ),
-        )
+                ),
+              ),
+        ),
+        q.1.2 ∙ ap (λ z. z ++ q.1.0) p.1.2 ∙ append_assoc a.items.items p.1.0 q.1.0,
+      ),
+    )
 
 -- Blocks and loops
 
@@ -145,28 +142,26 @@ pub block_made : (w : World) (x : Code) (n : ℕ) (h g r : Holdings) (a c one in
     → BlockOf inner a c → Makes (InstrCured (source.Block x) w h r) a c
 unfolding Makes InstrCured CodeCured BlockOf Blocked
 block_made w x n h g r a c one inner s1 m1 len cut block = λ fine.
-        let q = block fine in
-        let c1 = made-in (CodeCured x.0.items w h g) one inner s1 m1 q.1 in
-        let back : r.items.items ≡ h.items.items = rewound h g r n c1.0 len cut in
+    let q = block fine in
+    let c1 = made-in (CodeCured x.0.items w h g) one inner s1 m1 q.1 in
+    let back : r.items.items ≡ h.items.items = rewound h g r n c1.0 len cut in (
+      q.0,
+      (
+        line.Block (record { 0 = inner.items }) ∷ [],
         (
-          q.0,
-          (
-            line.Block (record { 0 = inner.items }) ∷ [],
-            (
-              extends-same r r h (extends-none r) back,
-              λ cx blocks types less is more s.
-                  let entry = s.0 in let p = s.1 in
-                  let code = shaped-less x.0.items (inside cx entry) types entry less
-                      (shaped-more x.0.items (inside cx entry) types entry entry p.begins (shaped-held x (inside cx entry) entry entry s.2)) p.ends in
-                  let l = c1.1 (inside cx entry) (less ∷ blocks) types less (inside-block w cx blocks entry less is p.ends p.keeps) more code in
-                  (
-                    subst (λ z. Includes (typing_of z) less) (sym back) (includes-more (holds_now h) types less more (includes-more types entry less p.begins p.ends)),
-                    (record { 0 = inner.items }, held-row x w _ _ _ _ l.1, refl),
-                  ),
-            ),
-            q.2,
-          ),
-        )
+          extends-same r r h (extends-none r) back,
+          λ cx blocks types less is more s.
+              let entry = s.0 in let p = s.1 in
+              let code = shaped-less x.0.items (inside cx entry) types entry less
+              (shaped-more x.0.items (inside cx entry) types entry entry p.begins (shaped-held x (inside cx entry) entry entry s.2)) p.ends in
+              let l = c1.1 (inside cx entry) (less ∷ blocks) types less (inside-block w cx blocks entry less is p.ends p.keeps) more code in (
+                subst (λ z. Includes (typing_of z) less) (sym back) (includes-more (holds_now h) types less more (includes-more types entry less p.begins p.ends)),
+                (record { 0 = inner.items }, held-row x w _ _ _ _ l.1, refl),
+              ),
+        ),
+        q.2,
+      ),
+    )
 
 pub loop_made : (w : World) (x : Code) (n : ℕ) (h g r : Holdings) (a c one inner : Draft)
     → ((types less : Typing) → Includes types less → known.Includes (known_of w.slots types) (known_of w.slots less))
@@ -174,27 +169,25 @@ pub loop_made : (w : World) (x : Code) (n : ℕ) (h g r : Holdings) (a c one inn
     → LoopOf inner a c → Makes (InstrCured (source.Loop x) w h r) a c
 unfolding Makes InstrCured CodeCured LoopOf Looped
 loop_made w x n h g r a c one inner forget s1 m1 len cut loop = λ fine.
-        let q = loop fine in
-        let c1 = made-in (CodeCured x.0.items w h g) one inner s1 m1 q.1 in
-        let back : r.items.items ≡ h.items.items = rewound h g r n c1.0 len cut in
+    let q = loop fine in
+    let c1 = made-in (CodeCured x.0.items w h g) one inner s1 m1 q.1 in
+    let back : r.items.items ≡ h.items.items = rewound h g r n c1.0 len cut in (
+      q.0,
+      (
+        line.Loop (record { 0 = inner.items }) ∷ [],
         (
-          q.0,
-          (
-            line.Loop (record { 0 = inner.items }) ∷ [],
-            (
-              extends-same r r h (extends-none r) back,
-              λ cx blocks types less is more s.
-                  let entry = s.0 in let p = s.1 in
-                  let l = c1.1 (inside cx entry) (less ∷ blocks) entry entry (inside-block w cx blocks entry less is p.ends p.keeps)
-                      (includes-more (holds_now h) types entry more p.begins) (shaped-held x (inside cx entry) entry entry s.2) in
-                  (
-                    subst (λ z. Includes (typing_of z) less) (sym back) (includes-more (holds_now h) types less more (includes-more types entry less p.begins p.ends)),
-                    (known_of w.slots entry, forget types entry p.begins, (record { 0 = inner.items }, held-row x w _ _ _ _ l.1, refl)),
-                  ),
-            ),
-            q.2,
-          ),
-        )
+          extends-same r r h (extends-none r) back,
+          λ cx blocks types less is more s.
+              let entry = s.0 in let p = s.1 in
+              let l = c1.1 (inside cx entry) (less ∷ blocks) entry entry (inside-block w cx blocks entry less is p.ends p.keeps)
+              (includes-more (holds_now h) types entry more p.begins) (shaped-held x (inside cx entry) entry entry s.2) in (
+                subst (λ z. Includes (typing_of z) less) (sym back) (includes-more (holds_now h) types less more (includes-more types entry less p.begins p.ends)),
+                (known_of w.slots entry, forget types entry p.begins, (record { 0 = inner.items }, held-row x w _ _ _ _ l.1, refl)),
+              ),
+        ),
+        q.2,
+      ),
+    )
 
 -- What leaves blocks and functions
 
@@ -210,8 +203,8 @@ pub break_made : (w : World) (n : ℕ) (h : Holdings) (a b : Draft)
 break_made w n h a b forget made =
     unnoted (source.Break n) w h a b (Line (line.Break n ∷ []))
     (λ code cx blocks types less p is more s.
-        let at = block-at w blocks n (subst (λ z. n < z) is.count s.0) in
-        (known_of w.slots at.0, at.2, forget types at.0 (includes-more types cx.kept at.0 s.1 (is.kept n at.0 at.1)), p, forget types less s.2))
+    let at = block-at w blocks n (subst (λ z. n < z) is.count s.0) in
+    (known_of w.slots at.0, at.2, forget types at.0 (includes-more types cx.kept at.0 s.1 (is.kept n at.0 at.1)), p, forget types less s.2))
     (λ cx types less s. s.2) made
 
 is-some : (o : Option TypeId) (t : TypeId) → o ≡ Some t → IsSome o
@@ -223,17 +216,16 @@ pub return_made : (w : World) (h : Holdings) (a b : Draft)
     → Makes (Line (line.Return w.slots.nought ∷ [])) a b → Makes (InstrCured source.Return w h h) a b
 return_made w h a b forget made =
     unnoted source.Return w h a b (Line (line.Return w.slots.nought ∷ []))
-    (λ code cx blocks types less p is more s.
-        (
-          (
-            s.0.0,
-            is.numbered (is-some cx.result s.0.0 s.0.1),
-            sym is.result ∙ s.0.1,
-            ap (words_by w.whole.kind) (ap (λ z. shape_at z s.0.0) (sym is.stands.table) ∙ s.0.2),
-            p,
-          ),
-          forget types less s.1,
-        ))
+    (λ code cx blocks types less p is more s. (
+      (
+        s.0.0,
+        is.numbered (is-some cx.result s.0.0 s.0.1),
+        sym is.result ∙ s.0.1,
+        ap (words_by w.whole.kind) (ap (λ z. shape_at z s.0.0) (sym is.stands.table) ∙ s.0.2),
+        p,
+      ),
+      forget types less s.1,
+    ))
     (λ cx types less s. s.1) made
 
 pub value_made : (w : World) (v : Temp) (t : TypeId) (at : Place) (h : Holdings) (a b : Draft)
@@ -272,8 +264,7 @@ code-more : (whole : List Instr) (i : Instr) (rest : List Instr) (w : World) (fi
     → Makes (Begun whole (i ∷ rest) w first h) a b → Makes (InstrCured i w h g) b c → Makes (Begun whole rest w first g) a c
 unfolding Makes Begun
 code-more whole i rest w first h g a b c begun one = λ fine.
-    let q = one fine in let p = begun q.0 in
-    (
+    let q = one fine in let p = begun q.0 in (
       p.0,
       (
         p.1.0 ++ q.1.0,
@@ -287,12 +278,17 @@ code-none : (w : World) (k : Scope) (h : Holdings) → w ≡ world_of k → Code
 unfolding CodeCured Line
 code-none w k h e = (extends-none h, λ cx blocks types less is more s. (includes-more (holds_now h) types less more s, (subst (λ z. known.Includes (known_of z.slots types) (known_of z.slots less)) (sym e) (forgets k types less s), refl)))
 
-pub code_ended : (whole : List Instr) (k : Scope) (first h : Holdings) (a b : Draft) → Makes (Begun whole [] (world_of k) first h) a b
+code-ended : (whole : List Instr) (k : Scope) (first h : Holdings) (a b : Draft) → Makes (Begun whole [] (world_of k) first h) a b
     → Makes (CodeCured whole (world_of k) first h) a b
 unfolding Makes Begun
-code_ended whole k first h a b begun = λ fine.
+code-ended whole k first h a b begun = λ fine.
     let p = begun fine in
     (p.0, (p.1.0, subst (CodeCured whole (world_of k) first h) (append-nil p.1.0) (p.1.1 h [] (code-none (world_of k) k h refl)), p.1.2))
+
+pub code_ended : (whole : List Instr) (i : ℕ) (k : Scope) (first h : Holdings) (a b : Draft) → length whole ≤ i
+    → Makes (Begun whole (drop i whole) (world_of k) first h) a b → Makes (CodeCured whole (world_of k) first h) a b
+code_ended whole i k first h a b end begun =
+    code-ended whole k first h a b (subst (λ z. Makes (Begun whole z (world_of k) first h) a b) (drop_all i whole end) begun)
 
 drop-at : (xs : List Instr) (i : ℕ) (x : Instr) → i < length xs → x ≡ get_or xs i x → drop i xs ≡ x ∷ drop (suc i) xs
 drop-at [] i x e f = absurd (omega (arith, e))
@@ -300,9 +296,11 @@ drop-at (y ∷ ys) ℕ.zero x e f = ap (λ z. z ∷ ys) (sym f)
 drop-at (y ∷ ys) (ℕ.suc i) x e f = drop-at ys i x (omega (arith, e)) f
 
 pub code_next : (whole : List Instr) (i : ℕ) (x : Instr) (w : World) (first h g : Holdings) (a b c : Draft) → i < length whole → x ≡ get_or whole i x
-    → Makes (Begun whole (drop i whole) w first h) a b → Makes (InstrCured x w h g) b c → Makes (Begun whole (drop (suc i) whole) w first g) a c
+    → Makes (Begun whole (drop i whole) w first h) a b → Makes (InstrCured x w h g) b c → Makes (Begun whole (drop (i + 1) whole) w first g) a c
 code_next whole i x w first h g a b c less at begun one =
-    code-more whole x (drop (suc i) whole) w first h g a b c (subst (λ z. Makes (Begun whole z w first h) a b) (drop-at whole i x less at) begun) one
+    let e : suc i ≡ i + 1 = omega arith in
+    subst (λ z. Makes (Begun whole (drop z whole) w first g) a c) e
+    (code-more whole x (drop (suc i) whole) w first h g a b c (subst (λ z. Makes (Begun whole z w first h) a b) (drop-at whole i x less at) begun) one)
 
 body-cured : (is : List Instr) (k : Scope) (h g : Holdings) (code : List flat.Instr) → CodeCured is (world_of k) h g code → BodyCured is (world_of k) code
 unfolding CodeCured BodyCured

@@ -1,10 +1,10 @@
 -- The lines of instructions without code are cured code of them, from what may be held.
-use Rattle.std.proofs.Common.{◌≡◌, refl, ap, sym, subst, ◌∙◌, ℕ, ◌+◌, ◌≤◌, List, [], ◌∷◌, Option, Some, None}
+use Rattle.std.proofs.Common.{◌≡◌, refl, sym, subst, ◌∙◌, ℕ, List, Option, Some, None}
 use Rattle.cc_base.specs.declared.number.TypeId.{TypeId}
 use Rattle.cc_base.specs.declared.number.NodeId.{NodeId}
 use Rattle.cc_base.specs.declared.place.Place.{Place}
 use Rattle.cured_code.specs.declared.instr.Instr as flat
-use Rattle.check_forms.specs.Pieces.{Piece, Line}
+use Rattle.check_forms.specs.Pieces.{Line}
 use Rattle.check_insert.specs.declared.draft.Draft.{Draft}
 use Rattle.cil_form.specs.declared.number.Temp.{Temp}
 use Rattle.cil_form.specs.declared.number.Object.{Object}
@@ -25,14 +25,13 @@ use Rattle.cil_form.specs.declared.instr.Instr.TheVariants as source
 use Rattle.cil_form.specs.Meaning.{into_of_set, into_of_calculate, into_of_point, into_of_convert, into_of_allocate, into_of_runtime}
 use Rattle.c_types.specs.Table.{shape_at}
 use Rattle.cil_form.specs.Typing.{Context, HeldType, Typing, Includes, with_held, IsTemp, IsShaped, IsShapedSet, IsShapedCalculate, IsShapedPoint}
-use Rattle.cure_rules.specs.Known.{World, Takes, known_of, known_at, copies, held_words, Leaves}
-use Rattle.cure_rules.specs.Setting.{CopiedWords, IsCuringSet, IsCuringCalculate}
-use Rattle.cure_rules.specs.Pointing.{IsCuringPoint}
+use Rattle.cure_rules.specs.Known.{Takes, known_of, known_at, copies, held_words}
+use Rattle.cure_rules.specs.Setting.{CopiedWords, IsCuringSet}
 use Rattle.cure_scope.specs.declared.scope.Scope.{Scope}
 use Rattle.cure_scope.specs.Scopes.{fixed_column, whole_of, world_of}
 use Rattle.cure_instrs.specs.Cured.{IsIn, SetCured, CalculateCured, AccessCured, IsCopied, IsAsked}
 use Rattle.cure_instrs.proofs.KnownLaws.{leaves_held}
-use Rattle.cure_points.specs.Cured.{AreMembersWhole, PointCured}
+use Rattle.cure_points.specs.Cured.{PointCured}
 use Rattle.cure_blocks.specs.Cured.{ConvertCured, AllocateCured, RuntimeCured}
 use Rattle.cure_calls.specs.Cured.{CallCured}
 use Rattle.cure_objects.specs.Cured.{ObjectCured}

@@ -1,10 +1,9 @@
 -- What instructions leave is what the shape says, by the types of the program.
-use Rattle.std.proofs.Common.{◌≡◌, refl, ap, sym, ◌∙◌, Option, Some, None}
+use Rattle.std.proofs.Common.{◌≡◌, refl, ap, sym, ◌∙◌, Option, Some}
 use Rattle.cc_base.specs.declared.number.TypeId.{TypeId}
 use Rattle.cc_base.specs.declared.number.NodeId.{NodeId}
-use Rattle.c_types.specs.declared.shape.TypeShape.TheVariants as shape
 use Rattle.c_types.specs.Table.{shape_at}
-use Rattle.integers.specs.Arithmetic.{IntegerType, int, long}
+use Rattle.integers.specs.Arithmetic.{IntegerType}
 use Rattle.cil_form.specs.declared.instr.Operator.{Operator}
 use Rattle.cil_form.specs.declared.instr.Operator.TheVariants as operator
 use Rattle.cil_form.specs.declared.instr.Set.{Set}
@@ -24,7 +23,7 @@ use Rattle.cil_form.specs.declared.instr.Call.{Call}
 use Rattle.cil_form.specs.declared.instr.RuntimeCall.{RuntimeCall}
 use Rattle.cil_form.specs.declared.instr.RuntimeCall.TheVariants as runtime
 use Rattle.cil_form.specs.Meaning.{into_of_set, into_of_calculate, into_of_point, into_of_convert, into_of_allocate, into_of_runtime}
-use Rattle.cil_form.specs.Typing.{Context, HeldType, IntegerOf, PointerTo, PlaceOf, Typing, Includes, with_held, held_shape, result_type, IsInteger, IsPointer, IsShapedSet, IsShapedCalculate, IsShapedPoint, IsShapedConvert, IsShapedAccess, IsShapedAllocate, IsShapedCall, IsShapedRuntime}
+use Rattle.cil_form.specs.Typing.{Context, HeldType, IntegerOf, PointerTo, Typing, Includes, with_held, held_shape, result_type, IsInteger, IsPointer, IsShapedSet, IsShapedCalculate, IsShapedPoint, IsShapedConvert, IsShapedAccess, IsShapedAllocate, IsShapedCall, IsShapedRuntime}
 use Rattle.cure_rules.specs.Known.{World}
 use Rattle.cure_instrs.specs.Cured.{IsIn, IsCopied}
 use Rattle.cure_bodies.specs.Results.{held_at, given_by, called_by, set_result, operator_result, calculate_result, point_result, convert_result, allocate_result, runtime_result}

@@ -1,9 +1,8 @@
 -- Where code is in shape, its lines are cured code of it.
-use Rattle.std.specs.Prelude.{◌≡◌, ◌≢◌, ℕ, List, [], ◌∷◌, ◌++◌, length, map, slice_get, Some, IsSome}
+use Rattle.std.specs.Prelude.{◌≡◌, ◌≢◌, ℕ, List, [], ◌++◌, length, map, slice_get, Some, IsSome}
 use Rattle.cil_form.specs.declared.instr.Instr.{Instr}
 use Rattle.cil_form.specs.Typing.{Context, Typing, Includes, no_types, IsShaped, AreShaped}
 use Rattle.check_forms.specs.Pieces.{Piece}
-use Rattle.sim_relation.specs.Points.{Knowledge}
 use Rattle.cured_code.specs.declared.instr.Instr as flat
 use Rattle.cure_rules.specs.Known.{World, known_of, nothing_known}
 use Rattle.cure_rules.specs.Code.{Blocks, IsCuring, AreCuring, outside}

@@ -5,7 +5,6 @@ use Rattle.c_types.specs.declared.shape.TypeShape.{TypeShape}
 use Rattle.c_types.specs.declared.shape.TypeShape.TheVariants as shape
 use Rattle.c_types.specs.Table.{Table, shape_at}
 use Rattle.integers.specs.Arithmetic.{int, long}
-use Rattle.cil_form.specs.declared.number.Temp.{Temp}
 use Rattle.cil_form.specs.declared.instr.Operator.{Operator}
 use Rattle.cil_form.specs.declared.instr.Operator.TheVariants as operator
 use Rattle.cil_form.specs.declared.instr.Set.{Set}

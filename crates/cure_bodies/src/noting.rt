@@ -15,7 +15,13 @@ use cure_instrs::Held;
 use cure_scope::Scope;
 
 /// What a constant or a copy leaves. `from` is what the temporary holds that is copied.
-pub(crate) fn note_set(out: &mut Draft, k: &Scope<'_>, held: &mut Holdings, from: Option<Held>, i: Set)
+pub(crate) fn note_set(
+    out: &mut Draft,
+    k: &Scope<'_>,
+    held: &mut Holdings,
+    from: Option<Held>,
+    i: Set,
+)
     ensures { Notes (into_of_set i) (set_result i k.now.layouts.now.table (held_views from)) out.old held.old out.new held.new }
 {
     match i {
@@ -105,7 +111,10 @@ pub(crate) fn note_point(out: &mut Draft, k: &Scope<'_>, held: &mut Holdings, i:
             ..
         } => note(out, held, into, Some(Held::Pointer(inner, element))),
         Point::Address {
-            into, inner, ty, ..
+            into,
+            inner,
+            ty,
+            ..
         } => note(out, held, into, Some(Held::Pointer(inner, ty))),
     }
 }
@@ -127,8 +136,18 @@ pub(crate) fn note_allocate(out: &mut Draft, held: &mut Holdings, i: Allocate)
     ensures { Notes (into_of_allocate i) (allocate_result i) out.old held.old out.new held.new }
 {
     match i {
-        Allocate::Malloc { into, node, ty, .. } => note(out, held, into, Some(Held::Pointer(node, ty))),
-        Allocate::Calloc { into, node, ty, .. } => note(out, held, into, Some(Held::Pointer(node, ty))),
+        Allocate::Malloc { into, node, ty, .. } => note(
+            out,
+            held,
+            into,
+            Some(Held::Pointer(node, ty)),
+        ),
+        Allocate::Calloc { into, node, ty, .. } => note(
+            out,
+            held,
+            into,
+            Some(Held::Pointer(node, ty)),
+        ),
     }
 }
 

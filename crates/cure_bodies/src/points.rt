@@ -15,9 +15,7 @@ use cc_base::TypeId;
 use check_insert::Draft;
 use cil_form::{Access, Calculate, Point, Set, Target, Temp};
 use cure_instrs::{Held, Reached, StorePlaces, put_load, put_store};
-use cure_objects::{
-    CopyPlaces, Part, put_clear, put_part_copy, put_part_store, put_pointer_copy,
-};
+use cure_objects::{CopyPlaces, Part, put_clear, put_part_copy, put_part_store, put_pointer_copy};
 use cure_points::{
     ArrayAt, MemberOf, Moving, Pointers, put_address, put_compare, put_decay, put_difference,
     put_member, put_move, put_null,
@@ -192,7 +190,13 @@ fn put_stored(
 {
     let (v, ty) = value;
     match target {
-        Target::Pointer { pointer, node } => put_store(out, k, Reached { pointer, node, ty }, v, at),
+        Target::Pointer { pointer, node } => put_store(
+            out,
+            k,
+            Reached { pointer, node, ty },
+            v,
+            at,
+        ),
         Target::Part {
             object,
             home,

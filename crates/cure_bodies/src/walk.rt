@@ -38,11 +38,7 @@ fn put_block(out: &mut Draft, inner: Draft)
     if inner.fine {
         return push(out, cured_code::Instr::Block(Code(inner.items)));
     }
-    if inner.ready {
-        fail(out)
-    } else {
-        refuse(out)
-    }
+    if inner.ready { fail(out) } else { refuse(out) }
 }
 
 /// A loop around a draft.
@@ -53,11 +49,7 @@ fn put_loop(out: &mut Draft, inner: Draft)
     if inner.fine {
         return push(out, cured_code::Instr::Loop(Code(inner.items)));
     }
-    if inner.ready {
-        fail(out)
-    } else {
-        refuse(out)
-    }
+    if inner.ready { fail(out) } else { refuse(out) }
 }
 
 /// Appends the cured code of instructions in order.
@@ -79,13 +71,7 @@ pub(crate) fn put_code(
 
 /// Appends the cured code of an instruction.
 #[cycle(curing)]
-fn put_instr(
-    out: &mut Draft,
-    k: &Scope<'_>,
-    known: &Known<'_>,
-    held: &mut Holdings,
-    i: &Instr,
-)
+fn put_instr(out: &mut Draft, k: &Scope<'_>, known: &Known<'_>, held: &mut Holdings, i: &Instr)
     requires { known.now ≡ k.now.layouts.now.table }
     ensures { Makes (InstrCured i.now (world_of k.now) held.old held.new) out.old out.new }
 {

@@ -1,4 +1,4 @@
-use Rattle.std.proofs.Common.{◌≡◌, sym, ◌∙◌}
+use Rattle.std.proofs.Common.{sym, ◌∙◌}
 use Rattle.cure_bodies.proofs.Laws.{held_before, held_last}
 use Rattle.cure_bodies.proofs.holding.latest.Goals as goal
 

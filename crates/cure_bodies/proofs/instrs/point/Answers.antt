@@ -1,4 +1,3 @@
-use Rattle.cure_bodies.proofs.Laws.{makes_of}
 use Rattle.cure_bodies.proofs.Plain.{point_made}
 use Rattle.cure_bodies.proofs.instrs.point.Goals as goal
 

@@ -1,4 +1,3 @@
-use Rattle.std.proofs.Common.{refl}
 use Rattle.cure_scope.specs.Scopes.{world_of}
 use Rattle.cure_bodies.proofs.Laws.{makes_of}
 use Rattle.cure_bodies.proofs.Parts.{if_made, block_made, loop_made, break_made, return_made, value_made, forgets, code_begun, code_next, code_ended}
@@ -31,7 +30,7 @@ put_instr-returns-in-Runtime t c = rw c.in-Runtime.is c.runtime.ensures
 pub put_instr-returns-in-If : goal.put_instr-returns-in-If
 put_instr-returns-in-If t c =
     rw c.in-If.is (if_made (world_of c.args.k.now) _ _ _ _ _ _ _ _ _ _ _ _ _ _ _ _ c.test-a.ensures c.start-yes.ensures (rw c.as_slice.ensures.value at c.put_code.ensures)
-    c.mark-before.ensures c.rewind.ensures c.start-no.ensures (rw c.as_slice-2.ensures.value at c.put_code-2.ensures) c.choose.ensures)
+    c.mark-before.ensures c.rewind.ensures c.start-no.ensures (rw c.as_slice-in-If.ensures.value at c.put_code-in-If.ensures) c.choose.ensures)
 
 pub put_instr-returns-in-Block : goal.put_instr-returns-in-Block
 put_instr-returns-in-Block t c =
@@ -58,3 +57,6 @@ put_code-loop-one-init t c = code_begun c.args.code.now (world_of c.args.k.now) 
 
 pub put_code-loop-one-preserved : goal.put_code-loop-one-preserved
 put_code-loop-one-preserved t c = code_next c.args.code.now c.loop-one.one-index c.one-item.result _ _ _ _ _ _ _ c.loop-one-test.true c.one-item.is c.loop-one.invariant c.put_instr.ensures
+
+pub put_code-returns : goal.put_code-returns
+put_code-returns t c = code_ended c.args.code.now c.loop-one.one-index c.args.k.now _ _ _ _ c.loop-one-test.false c.loop-one.invariant

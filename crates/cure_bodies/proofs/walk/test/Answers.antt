@@ -1,4 +1,4 @@
-use Rattle.std.proofs.Common.{◌≡◌, sym, ap, ◌∙◌}
+use Rattle.std.proofs.Common.{sym, ap, ◌∙◌}
 use Rattle.cure_instrs.specs.Lines.{held_views}
 use Rattle.cure_scope.specs.Scopes.{world_of}
 use Rattle.cure_bodies.proofs.Laws.{makes_of}

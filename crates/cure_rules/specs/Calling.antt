@@ -1,5 +1,5 @@
 -- The lines of allocations, calls, and the functions of the C library.
-use Rattle.std.specs.Prelude.{◌≡◌, ◌≢◌, ◌⊎◌, ℕ, suc, ◌+◌, ◌≤◌, Bool, true, false, not, ◌&&◌, List, [], ◌∷◌, length, Option, Some, None}
+use Rattle.std.specs.Prelude.{◌≡◌, ◌≢◌, ◌⊎◌, ℕ, suc, ◌+◌, ◌<◌, ◌≤◌, Bool, true, false, not, ◌&&◌, List, [], ◌∷◌, length, Option, Some, None}
 use Rattle.std.specs.List.{Contains}
 use Rattle.cc_base.specs.declared.fault.Check.TheVariants as check
 use Rattle.cc_base.specs.declared.kind.Kind.{Kind}
@@ -102,7 +102,7 @@ CallsAny w known call k u parameters a lines = (seat : Seat)
 
 -- one that is known is called by its number: there is room for its frame
 abbrev pub CallsKnown : World → Knowledge → Call → List Sure → List TypeId → Piece
-CallsKnown w known call sure parameters lines = (f : ℕ) × (seat : Seat) × Contains sure (IsFunction f)
+CallsKnown w known call sure parameters lines = (f : ℕ) × (seat : Seat) × Contains sure (IsFunction f) × (f < w.whole.functions)
     × Then (Gets w Word (Number (function_word f)) (seat Word)) (Then (AreChecks (work_of w.slots) (asked check.Depth call.place (HasRoom (seat Word)) ∷ []))
     (Then (AreArguments w known call.first parameters 0) (Line (instr.Call (suc f) w.slots.row (column w call.into) ∷ [])))) lines
 

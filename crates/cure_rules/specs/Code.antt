@@ -41,8 +41,8 @@ Returns w known v t at lines = (x : Known) × (a : ℕ) × (w.number ≢ 0) × (
 abbrev pub ReturnsNone : World → Piece
 ReturnsNone w lines = (t : TypeId) × (w.number ≢ 0) × (w.result ≡ Some t) × (words_in w.whole t ≡ 0) × Line (flat.Return w.slots.nought ∷ []) lines
 
--- Code begins with what the first knows, and what the second knows holds behind it. Behind what leaves a block or the function anything is
--- known, since nothing runs there.
+-- Code begins with what the first knows, and what the second knows holds behind it. Behind what leaves a block or the function nothing runs,
+-- and no more is known than before it, so that what stands there names slots that there are.
 abbrev mutual
   pub IsCuring : Instr → World → Blocks → Knowledge → Knowledge → Piece
   IsCuring (instr.Set i) w b known after lines = IsCuringSet i w known after lines
@@ -59,8 +59,9 @@ abbrev mutual
   IsCuring (instr.Loop' shape code) w b known after lines =
       (entry : Knowledge) × Includes known entry × Looped (IsCuringRow code w (after ∷ b) entry entry) lines
   IsCuring (instr.Break n) w b known after lines = (k : Knowledge) × (slice_get b n ≡ Some k) × Includes known k × Line (flat.Break n ∷ []) lines
-  IsCuring instr.Return w b known after lines = ReturnsNone w lines
-  IsCuring (instr.ReturnValue v t at) w b known after lines = Returns w known v t at lines
+      × Includes known after
+  IsCuring instr.Return w b known after lines = ReturnsNone w lines × Includes known after
+  IsCuring (instr.ReturnValue v t at) w b known after lines = Returns w known v t at lines × Includes known after
 
   -- instructions in order, as an instruction holds them
   pub IsCuringRow : {m : _} → Row_of-Instr m → World → Blocks → Knowledge → Knowledge → Piece

@@ -1,5 +1,5 @@
 -- What a function of the cured program is: its signature, the areas of its frame and what the frame is charged, its prologue and its body.
-use Rattle.std.specs.Prelude.{◌≡◌, ◌⊎◌, ◌↔◌, ℕ, suc, ◌+◌, ◌<◌, ◌≤◌, true, List, [], ◌∷◌, ◌++◌, length, map, slice_get, Option, Some, None, sum_by, nat_le, if◌then◌else◌}
+use Rattle.std.specs.Prelude.{⊤, ◌≡◌, ◌⊎◌, ◌↔◌, ℕ, suc, ◌+◌, ◌<◌, ◌≤◌, true, List, [], ◌∷◌, ◌++◌, length, map, slice_get, Option, Some, None, sum_by, nat_le, if◌then◌else◌}
 use Rattle.cc_base.specs.declared.number.TypeId.{TypeId}
 use Rattle.cc_base.specs.declared.number.NodeId.{NodeId}
 use Rattle.cc_base.specs.declared.kind.Kind.{Kind}
@@ -26,7 +26,7 @@ use Rattle.cured_code.specs.Ranges.{slots_limit, params_limit}
 use Rattle.check_forms.specs.Pieces.{Piece, Line, Then}
 use Rattle.check_forms.specs.declared.slots.PointerSlots.{PointerSlots}
 use Rattle.sim_relation.specs.Objects.{area_by}
-use Rattle.sim_relation.specs.Points.{KeptSlot, Start, Knowledge}
+use Rattle.sim_relation.specs.Points.{KeptSlot, Content, Start, Knowledge}
 use Rattle.cure_rules.specs.Slots.{Slots, AreSlots, Address}
 use Rattle.cure_rules.specs.Known.{Whole, World, kind_of, words_by, words_in, Sets, Gets, nothing_known, IsPlainInteger, IsPointer}
 use Rattle.cure_rules.specs.Accesses.{IsHome, integer_stored, PointerStored}
@@ -62,10 +62,15 @@ pub record AreSignatures (table : Table) (kind : NodeId → Kind) (signature : T
 
 -- Prologues
 
+-- a variable whose address is kept is one of the function's
+abbrev pub IsKnownContent : World → Content → Type 0
+IsKnownContent w (Start (object.Variable k)) = k.0 < length w.variables
+IsKnownContent w other = ⊤
+
 -- each kept slot is set
 abbrev pub AreSet : World → List KeptSlot → Piece
 AreSet w [] = Line []
-AreSet w (x ∷ xs) = Then (Sets w x.content x.slot) (AreSet w xs)
+AreSet w (x ∷ xs) = λ lines. IsKnownContent w x.content × Then (Sets w x.content x.slot) (AreSet w xs) lines
 
 -- the slots of the address of a new object
 abbrev pub new_slots : World → ℕ → PointerSlots

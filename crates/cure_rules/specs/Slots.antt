@@ -1,5 +1,5 @@
 -- The slots of a cured function: whose each slot is. All parts are apart, since each slot has one owner.
-use Rattle.std.specs.Prelude.{◌≡◌, ◌≢◌, ℕ, ◌+◌, ◌<◌, List, slice_get, Some}
+use Rattle.std.specs.Prelude.{◌≡◌, ◌≢◌, ℕ, ◌+◌, ◌<◌, ◌≤◌, List, slice_get, Some}
 use Rattle.cil_form.specs.declared.number.Temp.{Temp}
 use Rattle.cil_form.specs.Typing.{IsTemp}
 use Rattle.sim_relation.specs.Points.{KeptSlot}
@@ -90,7 +90,8 @@ pub record Owns (count : ℕ) (owner : ℕ → Owner) (a : ℕ) (o : Owner) : Ty
   pub below : a < count
   pub is : owner a ≡ o
 
--- The slots of a function. Where parameters come, none lies that the prologue writes before they are stored.
+-- The slots of a function. Where parameters come, none lies that the prologue writes before they are stored. Where a column begins, and a
+-- kept slot, is room for the words of any value.
 pub record AreSlots (k : Slots) : Type 0 where
   pub owner : ℕ → Owner
   pub columns : (t : Temp) (j : ℕ) → IsTemp t → j < k.width t → Owns k.count owner (k.column t + j) (Column t j)
@@ -98,4 +99,6 @@ pub record AreSlots (k : Slots) : Type 0 where
   pub row : (j : ℕ) → j < k.row_width → Owns k.count owner (k.row + j) (Argument j)
   pub nought : Owns k.count owner k.nought Nought
   pub kept : (j : ℕ) (x : KeptSlot) → slice_get k.kept j ≡ Some x → Owns k.count owner x.slot (Kept j)
+  pub column_room : (t : Temp) → IsTemp t → k.column t + 3 ≤ k.count
+  pub kept_room : (j : ℕ) (x : KeptSlot) → slice_get k.kept j ≡ Some x → x.slot + 3 ≤ k.count
   pub behind : (a : ℕ) → a < k.parameters → (owner a ≢ Nought) × ((j : ℕ) → owner a ≢ Kept j) × ((j : ℕ) → owner a ≢ Working j)

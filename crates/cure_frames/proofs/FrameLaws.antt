@@ -1,5 +1,5 @@
 -- The lines of prologues and of the entry to `main`.
-use Rattle.std.proofs.Common.{◌≡◌, refl, ap, sym, subst, ◌∙◌, ℕ, suc, ◌+◌, ◌*◌, inl, inr, List, [], ◌∷◌, ◌++◌, length, Option, Some, None, arith}
+use Rattle.std.proofs.Common.{◌≡◌, refl, sym, subst, ℕ, suc, ◌+◌, inl, inr, List, [], ◌∷◌, length, Option, Some, None, arith}
 use Rattle.std.specs.List.{All}
 use Rattle.cc_base.specs.declared.number.TypeId.{TypeId}
 use Rattle.c_types.specs.Table.{Table, IsType}
@@ -11,25 +11,25 @@ use Rattle.integers.specs.Arithmetic.{IntegerType}
 use Rattle.cil_form.specs.declared.program.Parameter.{Parameter}
 use Rattle.cured_code.specs.declared.instr.Instr.{Instr}
 use Rattle.cured_code.specs.declared.instr.Instr.TheVariants as instr
-use Rattle.check_forms.specs.Pieces.{Piece, Line, Then}
+use Rattle.check_forms.specs.Pieces.{Line, Then}
 use Rattle.check_forms.specs.declared.slots.PointerSlots.{PointerSlots}
 use Rattle.check_forms.specs.declared.op.Op.TheVariants.{EnterMain}
 use Rattle.check_insert.specs.declared.draft.Draft.{Draft}
 use Rattle.check_insert.specs.Drafts.{Grows}
 use Rattle.check_insert.proofs.Laws.{grows_as, grows_then}
 use Rattle.sim_relation.specs.Ground.{function_word}
-use Rattle.cure_rules.specs.Known.{Whole, World, kind_of, words_in}
+use Rattle.cure_rules.specs.Known.{words_in}
 use Rattle.cure_rules.specs.Accesses.{integer_stored, PointerStored}
-use Rattle.cure_rules.specs.Functions.{StoresParameter, StoresNamed, AreStored, new_slots}
+use Rattle.cure_rules.specs.Functions.{StoresNamed, AreStored}
 use Rattle.cure_rules.specs.Programs.{EntersMain}
 use Rattle.cure_scope.specs.declared.scope.Scope.{Scope}
-use Rattle.cure_scope.specs.Scopes.{seat, whole_of, world_of}
-use Rattle.cure_scope.specs.Needs.{Guards, AreSeated}
+use Rattle.cure_scope.specs.Scopes.{whole_of, world_of}
+use Rattle.cure_scope.specs.Needs.{Guards}
 use Rattle.cure_scope.proofs.GuardLaws.{guarded}
-use Rattle.cure_instrs.specs.Cured.{HasPointer, IsPointerAt, CanReach}
-use Rattle.cure_instrs.specs.Lines.{IsIntegerAt, pointer_stored, HasInteger, AgreeOn}
+use Rattle.cure_instrs.specs.Cured.{IsPointerAt, CanReach}
+use Rattle.cure_instrs.specs.Lines.{IsIntegerAt, pointer_stored}
 use Rattle.cure_instrs.proofs.PieceLaws.{grows_of}
-use Rattle.cure_frames.specs.Storing.{ParameterStored, ParametersStored, CanStore, CanStoreAll, HasHome, HaveHomes}
+use Rattle.cure_frames.specs.Storing.{ParameterStored, ParametersStored, CanStore, CanStoreAll, HasHome}
 
 abbrev pub address_slots : PointerSlots
 address_slots = record { first = 397; second = 397; third = 381 }
@@ -83,20 +83,22 @@ pub enters : (k : Scope) (main word : ℕ) (at : Place) (code : List Instr) → 
     → EntersMain (world_of k) main at code
 unfolding Then
 enters k main word at code e h =
-    let s : main + 1 ≡ suc main = omega arith in
-    (397, (
-      h.0,
-      h.1,
-      inr (refl, subst (λ n. Line (instr.Const 397 n ∷ []) h.0) e h.2),
+    let s : main + 1 ≡ suc main = omega arith in (
+      397,
       (
-        h.3.0,
-        h.3.1,
-        guarded k (EnterMain 397) Safe at h.3.0 tt h.3.2,
-        subst (λ n. Line (instr.Call n 0 382 ∷ instr.Exit 382 ∷ []) h.3.1) s h.3.3,
-        h.3.4,
+        h.0,
+        h.1,
+        inr (refl, subst (λ n. Line (instr.Const 397 n ∷ []) h.0) e h.2),
+        (
+          h.3.0,
+          h.3.1,
+          guarded k (EnterMain 397) Safe at h.3.0 tt h.3.2,
+          subst (λ n. Line (instr.Call n 0 382 ∷ instr.Exit 382 ∷ []) h.3.1) s h.3.3,
+          h.3.4,
+        ),
+        h.4,
       ),
-      h.4,
-    ))
+    )
 
 -- drafts
 

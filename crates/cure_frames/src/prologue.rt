@@ -56,7 +56,13 @@ fn put_parameter(out: &mut Draft, k: &Scope<'_>, home: NodeId, t: TypeId, p: u32
 }
 
 /// The parameters, whose words come from slot p on, are stored, the first that has a name into this variable.
-pub fn put_parameters(out: &mut Draft, k: &Scope<'_>, parameters: &[Parameter], p: u32, variable: u32)
+pub fn put_parameters(
+    out: &mut Draft,
+    k: &Scope<'_>,
+    parameters: &[Parameter],
+    p: u32,
+    variable: u32,
+)
     requires typed { All (λ x. IsType k.now.layouts.now.table x.ty) parameters.now }
     requires slots { p + 3 * length parameters.now + 3 ≤ 1948 }
     requires variables { variable + length parameters.now < 4294967296 }

@@ -1,7 +1,7 @@
 -- The parts of a cured program are in range, where the instructions of its functions are.
 use Rattle.std.specs.Prelude.{sum_by, nat_le, if◌then◌else◌, IfSome, slice_index, ◌≢◌}
 use Rattle.std.proofs.Common.{◌≡◌, ℕ, zero, suc, ◌+◌, ◌*◌, ◌-◌, ◌<◌, ◌≤◌, Bool, true, false, List, [], ◌∷◌, ◌++◌, length, map, replicate, get_or, slice_get, Option, None, Some, refl, ap, sym, subst, ◌∙◌, inl, inr, ◌⊎◌, arith}
-use Rattle.std.specs.List.{All, Contains}
+use Rattle.std.specs.List.{All}
 use Rattle.std.proofs.lemmas.Bool.Decides.{nat_tests}
 use Rattle.std.proofs.lemmas.Option.{slice_get-get_or, get_or_from_slice_get}
 use Rattle.std.proofs.lemmas.List.Sums.{sum_by-cons}
@@ -10,10 +10,8 @@ use Rattle.cc_base.specs.declared.number.NodeId.{NodeId}
 use Rattle.cc_base.specs.declared.kind.Kind.{Kind}
 use Rattle.flat_mem.specs.declared.Area.{Area}
 use Rattle.c_types.specs.declared.shape.TypeShape.{TypeShape}
-use Rattle.c_types.specs.declared.shape.TypeShape.TheVariants as types
-use Rattle.c_types.specs.Table.{Table, IsComplete, shape_at, is_function, is_function_shape}
+use Rattle.c_types.specs.Table.{Table, is_function, is_function_shape}
 use Rattle.c_types.specs.Layouts.{size_of}
-use Rattle.c_types.specs.Sound.{IsWellFormed}
 use Rattle.src_mem.specs.Memory.{Planned, charge_of, frame_charge}
 use Rattle.src_mem.specs.Checks.{frame_limit}
 use Rattle.cil_form.specs.declared.program.Static.{Static}
@@ -29,10 +27,9 @@ use Rattle.cured_code.specs.declared.parts.GlobalLine.{GlobalLine}
 use Rattle.cured_code.specs.declared.parts.Function as cured
 use Rattle.cured_code.specs.declared.parts.Parts.{Parts}
 use Rattle.cured_code.specs.Tables.{area_of, areas_of}
-use Rattle.cured_code.specs.FlatMachine.{global_areas}
 use Rattle.cured_code.specs.Ranges.{IsSigInRange, IsGlobalInRange, IsFunctionInRange, IsStartBare, IsBare, AreParentsEarlier, sigs_of, IsInRange}
-use Rattle.cure_rules.specs.Functions.{bare, words_at, signature_by, signature_of, AreSignatures, area_for, areas_for, parameter_words, world_of, IsCuredFunction, IsEntered}
-use Rattle.cure_rules.specs.Programs.{Numbers, whole_of, start_world, IsFirstOf, AreGlobals, IsStart, IsFunctionAt, AreCured}
+use Rattle.cure_rules.specs.Functions.{bare, words_at, signature_by, signature_of, AreSignatures, area_for, areas_for, parameter_words, world_of, IsCuredFunction}
+use Rattle.cure_rules.specs.Programs.{Numbers, whole_of, start_world, IsFirstOf, IsStart, AreCured}
 use Rattle.cure_tables.proofs.Signed.{signature_small}
 use Rattle.cure_ranges.specs.Bodies.{IsBodyInRange}
 use Rattle.cure_ranges.proofs.Areas.{area_few, area_small, text_fits}
@@ -130,8 +127,8 @@ module _ (p : Program) (kind : NodeId → Kind) (node : TypeId → ℕ) (parents
         o.0,
         o.1,
         same_some (area_of g.area) (area_for p.types kind (plan o.0.planned))
-        (sym (mapped_get (λ (x : GlobalLine). area_of x.area) parts.globals k g e) ∙ ap (λ xs. slice_get xs k) c.globals.areas
-        ∙ mapped_get (area_for p.types kind) (map (λ (x : Static). plan x.planned) p.statics) k (plan o.0.planned) (mapped_get (λ (x : Static). plan x.planned) p.statics k o.0 o.1)),
+            (sym (mapped_get (λ (x : GlobalLine). area_of x.area) parts.globals k g e) ∙ ap (λ xs. slice_get xs k) c.globals.areas
+            ∙ mapped_get (area_for p.types kind) (map (λ (x : Static). plan x.planned) p.statics) k (plan o.0.planned) (mapped_get (λ (x : Static). plan x.planned) p.statics k o.0 o.1)),
       )
 
   bytes_are : (g : GlobalLine) (o : Static) → area_of g.area ≡ area_for p.types kind (plan o.planned) → g.area.bytes ≡ (area_for p.types kind (plan o.planned)).bytes
@@ -145,7 +142,7 @@ module _ (p : Program) (kind : NodeId → Kind) (node : TypeId → ℕ) (parents
       let a : sum_by (λ (g : GlobalLine). g.area.bytes) parts.globals ≡ sum_by (λ (x : Area). x.bytes) (map (λ (g : GlobalLine). area_of g.area) parts.globals) =
       sym (sum_map (λ (x : Area). x.bytes) (λ (g : GlobalLine). area_of g.area) parts.globals) in
       let b : sum_by (λ (x : Area). x.bytes) (map (area_for p.types kind) (map (λ (o : Static). plan o.planned) p.statics))
-          ≡ sum_by (λ (o : Static). (area_for p.types kind (plan o.planned)).bytes) p.statics =
+      ≡ sum_by (λ (o : Static). (area_for p.types kind (plan o.planned)).bytes) p.statics =
       sum_map (λ (x : Area). x.bytes) (area_for p.types kind) (map (λ (o : Static). plan o.planned) p.statics)
       ∙ sum_map (λ o. (area_for p.types kind o).bytes) (λ (o : Static). plan o.planned) p.statics in
       let e = ap (sum_by (λ (x : Area). x.bytes)) c.globals.areas in

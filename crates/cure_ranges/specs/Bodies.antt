@@ -1,5 +1,5 @@
 -- What is left to say of the ranges of a cured program: that the instructions of its functions name what there is.
-use Rattle.std.specs.Prelude.{ℕ, List, length, IfSome, slice_get}
+use Rattle.std.specs.Prelude.{length, IfSome, slice_get}
 use Rattle.cured_code.specs.declared.parts.Function.{Function}
 use Rattle.cured_code.specs.declared.parts.Parts.{Parts}
 use Rattle.cured_code.specs.Ranges.{AreInstrsInRange, names_in, sigs_of}

@@ -1,6 +1,6 @@
 -- Function types of one class take and give as many words.
 use Rattle.std.specs.Prelude.{sum_by, nat_le, if◌then◌else◌}
-use Rattle.std.proofs.Common.{◌≡◌, ℕ, zero, suc, ◌+◌, ◌<◌, ◌≤◌, Bool, true, false, ◌&&◌, List, [], ◌∷◌, length, map, slice_get, nat_lt, Option, None, Some, refl, ap, sym, subst, ◌∙◌, inl, inr, ◌⊎◌, true≢false, arith}
+use Rattle.std.proofs.Common.{◌≡◌, ℕ, suc, ◌+◌, ◌<◌, ◌≤◌, true, ◌&&◌, List, [], ◌∷◌, length, map, slice_get, nat_lt, Some, refl, ap, sym, ◌∙◌, inl, inr, ◌⊎◌, true≢false, arith}
 use Rattle.std.proofs.lemmas.Bool.Decides.{nat_tests}
 use Rattle.std.proofs.lemmas.List.{get_or_past}
 use Rattle.std.proofs.lemmas.List.Sums.{sum_by-cons}
@@ -9,11 +9,11 @@ use Rattle.cc_base.specs.declared.number.TypeId.{TypeId}
 use Rattle.cc_base.specs.declared.number.NodeId.{NodeId}
 use Rattle.cc_base.specs.declared.kind.Kind.{Kind}
 use Rattle.c_types.specs.declared.shape.TypeShape.{TypeShape}
-use Rattle.c_types.specs.declared.shape.TypeShape.TheVariants.{Void, Integer, Pointer, Array, Function, Struct, Union}
+use Rattle.c_types.specs.declared.shape.TypeShape.TheVariants.{Integer, Pointer, Function}
 use Rattle.c_types.specs.Table.{Table, Entry, IsType, shape_at, void_entry, is_function, is_function_shape}
 use Rattle.c_types.specs.Cells.{Relation, same_type}
 use Rattle.c_types.specs.Equality.{Slot, slot_of, same_slot, makeup_of, same_makeup, made_alike, physically_equal}
-use Rattle.c_types.specs.Flows.{HeldPointer, pointer_of_shape, top, IsOfOneClass}
+use Rattle.c_types.specs.Flows.{pointer_of_shape, top, IsOfOneClass}
 use Rattle.c_types.specs.Sound.{IsWellFormed}
 use Rattle.c_types.proofs.Shapes.{first_true, second_true}
 use Rattle.type_laws.proofs.Levels.{still}
@@ -21,7 +21,6 @@ use Rattle.phys_types.proofs.Classes.{function_tag}
 use Rattle.phys_types.proofs.Reached.{slot_at}
 use Rattle.sim_relation.specs.Ground.{word_number}
 use Rattle.cil_form.specs.Shape.{parameters_limit}
-use Rattle.cured_code.specs.declared.parts.Sig.{Sig}
 use Rattle.cure_rules.specs.Known.{words_by}
 use Rattle.cure_rules.specs.Functions.{words_at, bare, signature_by, signature_of}
 

@@ -1,6 +1,6 @@
 -- One function type after another gets its signature.
 use Rattle.std.specs.Prelude.{◌↔◌, ◌*◌, slice_index, slice_set, sum_by, nat_le, if◌then◌else◌, IfSome}
-use Rattle.std.proofs.Common.{◌≡◌, ℕ, zero, suc, ◌+◌, ◌<◌, ◌≤◌, Bool, true, false, List, [], ◌∷◌, ◌++◌, length, get_or, slice_get, Option, None, Some, refl, ap, sym, subst, ◌∙◌, inl, inr, ◌⊎◌, true≢false, arith}
+use Rattle.std.proofs.Common.{◌≡◌, ℕ, zero, suc, ◌+◌, ◌<◌, ◌≤◌, Bool, true, false, List, [], ◌∷◌, ◌++◌, length, get_or, slice_get, Option, Some, refl, ap, sym, subst, ◌∙◌, inl, inr, ◌⊎◌, true≢false, arith}
 use Rattle.std.specs.List.{All}
 use Rattle.std.proofs.lemmas.Bool.Decides.{nat_tests}
 use Rattle.std.proofs.lemmas.Option.{slice_get-get_or, get_or_from_slice_get}
@@ -24,7 +24,7 @@ use Rattle.cured_code.specs.declared.parts.Sig.{Sig}
 use Rattle.cured_code.specs.Ranges.{IsSigInRange}
 use Rattle.cure_rules.specs.Functions.{words_at, bare, signature_by, signature_of, AreSignatures}
 use Rattle.cure_tables.specs.declared.function_types.Signing.{Signing}
-use Rattle.cure_tables.specs.Signed.{IsAlikeAt, IsNoneAlike, IsJoined, IsBegun, IsSigned, IsPassed, IsFirstOf, HasNumber, AreSigned}
+use Rattle.cure_tables.specs.Signed.{IsJoined, IsBegun, IsSigned, IsPassed, IsFirstOf, HasNumber, AreSigned}
 use Rattle.cure_tables.proofs.Classes.{function_typed, class_signature}
 
 -- Lists
@@ -267,16 +267,16 @@ module _ (table : Table) (w : IsWellFormed table) (kind : NodeId → Kind) where
         let h = numbered t f in
         let k = numbered u g in (
           λ e.
-            let p : h.place ≡ k.place = (let x = h.number in let y = k.number in omega (arith, e, x, y)) in
-            let q : h.alike.first ≡ k.alike.first = same_some _ _ (sym h.alike.found ∙ ap (slice_get state.firsts.items) p ∙ k.alike.found) in
-            class_twice table kind w t h.alike.first u h.alike.class
-            (subst (λ (v : TypeId). IsOfOneClass table kind v u) (sym q) (class_turned table kind u k.alike.first k.alike.class)),
+              let p : h.place ≡ k.place = (let x = h.number in let y = k.number in omega (arith, e, x, y)) in
+              let q : h.alike.first ≡ k.alike.first = same_some _ _ (sym h.alike.found ∙ ap (slice_get state.firsts.items) p ∙ k.alike.found) in
+              class_twice table kind w t h.alike.first u h.alike.class
+              (subst (λ (v : TypeId). IsOfOneClass table kind v u) (sym q) (class_turned table kind u k.alike.first k.alike.class)),
           λ c.
-            h.number
-            ∙ ap suc (same_place h.place k.place h.alike.first k.alike.first h.alike.found k.alike.found
-            (class_twice table kind w h.alike.first t k.alike.first (class_turned table kind t h.alike.first h.alike.class)
-            (class_twice table kind w t u k.alike.first c k.alike.class)))
-            ∙ sym k.number,
+              h.number
+              ∙ ap suc (same_place h.place k.place h.alike.first k.alike.first h.alike.found k.alike.found
+              (class_twice table kind w h.alike.first t k.alike.first (class_turned table kind t h.alike.first h.alike.class)
+              (class_twice table kind w t u k.alike.first c k.alike.class)))
+              ∙ sym k.number,
         )
 
     each_used : (g : ℕ) → 0 < g → g < length state.sigs.items → (t : TypeId) × (is_function table t ≡ true) × (slice_index state.numbers.items t.0 ≡ g)

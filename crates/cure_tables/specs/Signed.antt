@@ -6,7 +6,6 @@ use Rattle.cc_base.specs.declared.number.NodeId.{NodeId}
 use Rattle.cc_base.specs.declared.kind.Kind.{Kind}
 use Rattle.c_types.specs.Table.{Table, is_function}
 use Rattle.c_types.specs.Flows.{IsOfOneClass}
-use Rattle.cured_code.specs.declared.parts.Sig.{Sig}
 use Rattle.cured_code.specs.Ranges.{IsSigInRange}
 use Rattle.cure_rules.specs.Functions.{bare, signature_of}
 use Rattle.cure_tables.specs.declared.function_types.Signing.{Signing}

@@ -162,7 +162,10 @@ pub fn signatures_of(
     let count = types.count();
     let mut state = Signing {
         firsts: Vec::new(alloc),
-        sigs: vec![in alloc; Sig { params: 0, results: 0 }; 1]?,
+        sigs: vec![in alloc; Sig {
+            params: 0,
+            results: 0
+        }; 1]?,
         numbers: vec![in alloc; 0; count as usize]?,
     };
     'types: for t in 0..count {

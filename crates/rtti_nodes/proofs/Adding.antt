@@ -1,18 +1,18 @@
 -- One type after another is put into its class.
-use Rattle.std.specs.Prelude.{◌↔◌, IsTrue, slice_index, slice_set}
-use Rattle.std.proofs.Common.{◌≡◌, ℕ, zero, suc, ◌+◌, ◌-◌, ◌<◌, ◌≤◌, Bool, true, false, List, [], ◌∷◌, ◌++◌, length, slice_get, Option, None, Some, refl, ap, sym, subst, ◌∙◌, inl, inr, ◌⊎◌, true≢false, arith}
+use Rattle.std.specs.Prelude.{slice_index, slice_set}
+use Rattle.std.proofs.Common.{◌≡◌, ℕ, zero, suc, ◌+◌, ◌<◌, ◌≤◌, List, [], ◌∷◌, ◌++◌, length, slice_get, Some, refl, ap, sym, subst, ◌∙◌, inl, inr, ◌⊎◌, true≢false, arith}
 use Rattle.cc_base.specs.declared.number.TypeId.{TypeId}
 use Rattle.cc_base.specs.declared.number.NodeId.{NodeId}
 use Rattle.cc_base.specs.declared.kind.Kind.{Kind}
-use Rattle.c_types.specs.Table.{Table, IsType, is_function}
-use Rattle.c_types.specs.Equality.{cells_of, physically_equal}
+use Rattle.c_types.specs.Table.{Table}
+use Rattle.c_types.specs.Equality.{cells_of}
 use Rattle.c_types.specs.Flows.{IsOfOneClass, Covers}
 use Rattle.c_types.specs.Sound.{IsWellFormed}
-use Rattle.type_laws.proofs.Pointers.{class_own, class_turned, class_twice}
+use Rattle.type_laws.proofs.Pointers.{class_own, class_turned}
 use Rattle.type_laws.proofs.Sizes.{equal_counts}
 use Rattle.rtti_nodes.specs.declared.ordering.Sized.{Sized}
 use Rattle.rtti_nodes.specs.declared.joining.Classes.{Classes}
-use Rattle.rtti_nodes.specs.Classes.{IsData, IsLastCovered, AreFirsts, IsNumbered, IsSizedType, IsJoined, IsBegun, IsAdded, IsMade, AreSorted}
+use Rattle.rtti_nodes.specs.Classes.{IsData, IsLastCovered, IsNumbered, IsSizedType, IsJoined, IsBegun, IsAdded, IsMade, AreSorted}
 use Rattle.rtti_nodes.proofs.Prefixes.{no_longer, equal_if_long, class_covers}
 use Rattle.rtti_nodes.proofs.Below.{same_some, there, within, order_of}
 
@@ -78,7 +78,6 @@ same_id t u e = ap (λ (n : ℕ). record { 0 = n }) e
 
 module _ (table : Table) (w : IsWellFormed table) (kind : NodeId → Kind) (ordered : List Sized) (sizes : (j : ℕ) (s : Sized) → slice_get ordered j ≡ Some s → IsSizedType table s)
     (sorted : (i j : ℕ) (r s : Sized) → i ≤ j → slice_get ordered i ≡ Some r → slice_get ordered j ≡ Some s → r.size ≤ s.size) where
-
   -- nothing is put into a class yet
   pub none_yet : (numbers : List ℕ) → length numbers ≡ length table → AreSorted table kind ordered 0 [] [] numbers
   none_yet numbers l = record {

@@ -1,21 +1,20 @@
 -- A node is below another where its type covers the other's.
 use Rattle.std.specs.Prelude.{◌↔◌, IsTrue, slice_index}
-use Rattle.std.proofs.Common.{◌≡◌, ℕ, zero, suc, ◌+◌, ◌-◌, ◌<◌, ◌≤◌, Bool, true, false, ◌||◌, List, [], ◌∷◌, length, get_or, slice_get, nat_eq, Option, None, Some, refl, ap, sym, subst, ◌∙◌, inl, inr, ◌⊎◌, true≢false, arith}
+use Rattle.std.proofs.Common.{◌≡◌, ℕ, zero, suc, ◌+◌, ◌-◌, ◌<◌, ◌≤◌, Bool, true, false, ◌||◌, List, [], ◌∷◌, length, get_or, slice_get, nat_eq, Some, refl, ap, sym, subst, ◌∙◌, inl, inr, ◌⊎◌, true≢false, arith}
 use Rattle.std.proofs.lemmas.Bool.Decides.{nat_tests}
 use Rattle.std.proofs.lemmas.Option.{get_or_from_slice_get}
 use Rattle.cc_base.specs.declared.number.TypeId.{TypeId}
 use Rattle.cc_base.specs.declared.number.NodeId.{NodeId}
 use Rattle.cc_base.specs.declared.kind.Kind.{Kind}
-use Rattle.c_types.specs.Table.{Table, is_function}
-use Rattle.c_types.specs.Equality.{cells_of}
-use Rattle.c_types.specs.Flows.{IsOfOneClass, Covers}
+use Rattle.c_types.specs.Table.{Table}
+use Rattle.c_types.specs.Flows.{Covers}
 use Rattle.c_types.specs.Coverage.{covers}
 use Rattle.c_types.specs.Sound.{IsWellFormed}
 use Rattle.type_laws.proofs.Coverage.{covers_is}
 use Rattle.type_laws.proofs.Pointers.{covers_own, covers_twice}
 use Rattle.cured_code.specs.Tables.{parent_of, is_below_within, is_below}
 use Rattle.rtti_nodes.specs.Classes.{IsLastCovered, AreFirsts}
-use Rattle.rtti_nodes.proofs.Prefixes.{no_longer, covers_between, class_if_long}
+use Rattle.rtti_nodes.proofs.Prefixes.{covers_between, class_if_long}
 
 pub same_some : {A : Type 0} (x y : A) → Some x ≡ Some y → x ≡ y
 same_some x y h = cc

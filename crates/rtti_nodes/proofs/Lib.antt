@@ -4,4 +4,3 @@ pub mod PointerKinds
 pub mod Below
 pub mod Adding
 pub mod Standing
-

@@ -1,6 +1,6 @@
 -- The pointers of the types of a table have nodes of the table of kinds, and what is found of them tells whether their kinds are equal.
-use Rattle.std.specs.Prelude.{◌↔◌, IsTrue, ⊤}
-use Rattle.std.proofs.Common.{◌≡◌, ℕ, zero, suc, ◌<◌, ◌≤◌, Bool, true, false, ◌&&◌, if◌then◌else◌, List, [], ◌∷◌, length, slice_get, Option, None, Some, refl, ap, sym, subst, ◌∙◌, inl, inr, ◌⊎◌, true≢false, arith}
+use Rattle.std.specs.Prelude.{◌↔◌, IsTrue}
+use Rattle.std.proofs.Common.{◌≡◌, ℕ, zero, suc, ◌<◌, ◌≤◌, Bool, true, false, List, [], ◌∷◌, length, slice_get, None, Some, refl, ap, sym, subst, ◌∙◌, inl, inr, ◌⊎◌, true≢false, arith}
 use Rattle.std.specs.List.{All, Contains}
 use Rattle.std.proofs.lemmas.List.{get_or_past}
 use Rattle.std.proofs.lemmas.Option.{get_or_from_slice_get}
@@ -13,7 +13,7 @@ use Rattle.c_types.specs.declared.shape.TypeShape.TheVariants as shape
 use Rattle.c_types.specs.Table.{Table, Entry, AreNodesOf, IsType, shape_at, void_entry}
 use Rattle.c_types.specs.Cells.{Cell, raw, pointer, mixed, incomplete}
 use Rattle.c_types.specs.Equality.{physically_equal, cells_of, begins_with}
-use Rattle.c_types.specs.Flows.{kind_in, HeldPointer, pointer_in_cell, pointer_of_shape, and_then, pointer_in, pointer_at, StandAlike, Correspond, top, inside, CorrespondByPlace, HaveEqualKinds, IsOfOneClass, Covers}
+use Rattle.c_types.specs.Flows.{kind_in, HeldPointer, pointer_in_cell, pointer_of_shape, and_then, pointer_in, pointer_at, StandAlike, top, inside, CorrespondByPlace, HaveEqualKinds, IsOfOneClass, Covers}
 use Rattle.c_types.specs.Coverage.{same_kind, covers, of_one_class}
 use Rattle.c_types.specs.Sound.{IsWellFormed}
 use Rattle.type_laws.proofs.Coverage.{covers_is, one_class_is}
@@ -24,7 +24,7 @@ use Rattle.phys_types.specs.Standing.{AreEqualTypes, CorrespondInSome}
 use Rattle.phys_types.proofs.LawLemmas.{opened}
 use Rattle.phys_types.proofs.Reached.{pointee_typed}
 use Rattle.phys_types.proofs.Queue.{all_depths}
-use Rattle.fat_layouts.proofs.NodeCells.{CellHas, EachHas, cells_have}
+use Rattle.fat_layouts.proofs.NodeCells.{EachHas, cells_have}
 
 no_pointer : (p : HeldPointer) → None ≡ Some p → ⊥
 no_pointer p h = cc

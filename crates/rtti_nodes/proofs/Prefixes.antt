@@ -1,26 +1,21 @@
 -- What a type covers: of two types that it covers the longer one covers the other.
-use Rattle.std.specs.Prelude.{◌↔◌, IsTrue}
-use Rattle.std.proofs.Common.{◌≡◌, ℕ, zero, suc, ◌<◌, ◌≤◌, Bool, true, false, not, ◌&&◌, if◌then◌else◌, List, [], ◌∷◌, length, take, nat_lt, Some, refl, ap, sym, subst, ◌∙◌, true≢false, arith}
+use Rattle.std.proofs.Common.{◌≡◌, ℕ, zero, suc, ◌≤◌, Bool, true, false, not, ◌&&◌, if◌then◌else◌, List, [], ◌∷◌, length, take, nat_lt, Some, refl, ap, sym, subst, ◌∙◌, true≢false, arith}
 use Rattle.std.proofs.lemmas.Bool.Decides.{nat_tests}
 use lib.Pointwise.{pointwise_long}
 use Rattle.cc_base.specs.declared.number.TypeId.{TypeId}
 use Rattle.cc_base.specs.declared.number.NodeId.{NodeId}
 use Rattle.cc_base.specs.declared.kind.Kind.{Kind}
-use Rattle.c_types.specs.declared.shape.TypeShape.{TypeShape}
 use Rattle.c_types.specs.Table.{Table, IsType, shape_at, is_function}
 use Rattle.c_types.specs.Cells.{Cell, same_type, alike, all_alike, begins}
 use Rattle.c_types.specs.Equality.{bytes, makeup_of, same_makeup, made_alike, physically_equal, cells_of, begins_with}
-use Rattle.c_types.specs.Flows.{HeldPointer, pointer_at, StandAlike, Correspond, top, inside, CorrespondByPlace, IsOfOneClass, Covers}
+use Rattle.c_types.specs.Flows.{HeldPointer, StandAlike, Correspond, top, inside, IsOfOneClass, Covers}
 use Rattle.c_types.specs.Sound.{IsWellFormed}
 use Rattle.c_types.proofs.Shapes.{first_true, second_true}
 use Rattle.type_laws.proofs.Relations.{equal_equiv, cells_equiv}
 use Rattle.type_laws.proofs.Levels.{still}
 use Rattle.type_laws.proofs.OneClass.{data-makeup}
 use Rattle.type_laws.proofs.Pointers.{class_turned, class_twice, covers_own, covers_twice}
-use Rattle.type_laws.proofs.Sizes.{equal_counts}
-use Rattle.phys_types.specs.Laws.{HasCounterpart}
 use Rattle.phys_types.proofs.LawLemmas.{facts_of_cover, facts_of_class, covers_class}
-use Rattle.rtti_nodes.specs.Classes.{IsData}
 
 not_true : (b : Bool) → not b ≡ true → b ≡ false
 not_true true h = absurd (true≢false (sym h))

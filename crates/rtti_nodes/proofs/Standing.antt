@@ -1,10 +1,10 @@
 -- What stands once all types are put into their classes.
-use Rattle.std.specs.Prelude.{◌↔◌, ◌≢◌, IsTrue, slice_index, EachIndex, IsFalse}
-use Rattle.std.proofs.Common.{◌≡◌, ℕ, zero, suc, ◌+◌, ◌<◌, ◌≤◌, Bool, true, false, List, [], ◌∷◌, length, map, get_or, slice_get, Option, None, Some, refl, ap, sym, subst, ◌∙◌, inl, inr, ◌⊎◌, true≢false, arith}
+use Rattle.std.specs.Prelude.{◌↔◌, ◌≢◌, IsTrue, slice_index, IsFalse}
+use Rattle.std.proofs.Common.{◌≡◌, ℕ, zero, suc, ◌<◌, ◌≤◌, Bool, true, false, List, [], ◌∷◌, length, map, get_or, slice_get, Some, refl, ap, sym, subst, ◌∙◌, inl, inr, ◌⊎◌, arith}
 use Rattle.std.specs.List.{All, AllPairs, Contains, list_any}
 use lib.Dec.{eqb}
 use Rattle.std.proofs.lemmas.Bool.Decides.{Decides-eqb}
-use Rattle.std.proofs.lemmas.Option.{slice_get_within, slice_get-get_or, get_or_from_slice_get}
+use Rattle.std.proofs.lemmas.Option.{slice_get-get_or, get_or_from_slice_get}
 use Rattle.std.proofs.lemmas.List.{length-map, get_or-map}
 use Rattle.std.proofs.lemmas.List.Elements.{Contains-get_or}
 use Rattle.std.proofs.lemmas.Map.Made.{IsDistinct-from_AllPairs}
@@ -22,11 +22,10 @@ use Rattle.c_types.specs.Sound.{IsWellFormed}
 use Rattle.type_laws.proofs.Pointers.{class_own, class_turned, class_twice}
 use Rattle.type_laws.proofs.Sizes.{equal_counts}
 use Rattle.cured_code.specs.Tables.{parent_of, is_below}
-use Rattle.cured_code.specs.Ranges.{AreParentsEarlier}
 use Rattle.rtti_nodes.specs.declared.ordering.Sized.{Sized}
 use Rattle.rtti_nodes.specs.TypeNodes.{TypeNodes, AreTypeNodes, IsNextCovered, node_at, kind_by}
-use Rattle.rtti_nodes.specs.Classes.{IsData, IsLastCovered, AreFirsts, IsNumbered, IsSizedType, IsMade, AreSorted, sized}
-use Rattle.rtti_nodes.proofs.Prefixes.{covers_along, class_covers, class_if_long, no_longer, covers_between}
+use Rattle.rtti_nodes.specs.Classes.{IsData, IsLastCovered, AreFirsts, IsNumbered, IsSizedType, AreSorted, sized}
+use Rattle.rtti_nodes.proofs.Prefixes.{covers_along, class_if_long, covers_between}
 use Rattle.rtti_nodes.proofs.Below.{there, within, order_of, zero_or, below_is, same_some}
 
 pub number_there : (p q : TypeNodes) → p ≡ q → AreTypeNodes p → (t : TypeId) → Contains q.used t → t.0 < length p.numbers
@@ -175,12 +174,12 @@ module _ (table : Table) (w : IsWellFormed table) (kinds : List Kind) (used : Li
   classes : (t u : TypeId) → Contains used t → Contains used u → (node_at nodes t ≡ node_at nodes u) ↔ IsOfOneClass table (kind_in kinds) t u
   classes t u c d = (
     λ e.
-      let p : (placed t c).place ≡ (placed u d).place = (let x = (placed t c).number in let y = (placed u d).number in omega (arith, e, x, y)) in
-      let f : (placed t c).first ≡ (placed u d).first = same_some _ _ (sym (placed t c).found ∙ ap (slice_get firsts) p ∙ (placed u d).found) in
-      class_twice table (kind_in kinds) w t (placed t c).first u (placed t c).class
-      (subst (λ (v : TypeId). IsOfOneClass table (kind_in kinds) v u) (sym f) (class_turned table (kind_in kinds) u (placed u d).first (placed u d).class)),
+        let p : (placed t c).place ≡ (placed u d).place = (let x = (placed t c).number in let y = (placed u d).number in omega (arith, e, x, y)) in
+        let f : (placed t c).first ≡ (placed u d).first = same_some _ _ (sym (placed t c).found ∙ ap (slice_get firsts) p ∙ (placed u d).found) in
+        class_twice table (kind_in kinds) w t (placed t c).first u (placed t c).class
+        (subst (λ (v : TypeId). IsOfOneClass table (kind_in kinds) v u) (sym f) (class_turned table (kind_in kinds) u (placed u d).first (placed u d).class)),
     λ h. (placed t c).number ∙ ap suc (same_place (placed t c).place (placed u d).place (placed t c).first (placed u d).first (placed t c).found (placed u d).found (one_class t u c d h))
-    ∙ sym (placed u d).number,
+        ∙ sym (placed u d).number,
   )
 
   covers_firsts : (t u : TypeId) (c : Contains used t) (d : Contains used u) → Covers table (kind_in kinds) t u → Covers table (kind_in kinds) (placed t c).first (placed u d).first

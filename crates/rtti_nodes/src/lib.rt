@@ -8,4 +8,3 @@ mod ordering;
 
 pub use covering::is_of_one_class;
 pub use nodes::Nodes;
-

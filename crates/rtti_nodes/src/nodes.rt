@@ -34,19 +34,19 @@ impl<'a> Model for Nodes<'a> {
     ghost Value = { TypeNodes };
 
     ghost view = { λ s. record {
-        table = s.types.now;
-        kinds = s.kinds.now;
-        used = s.used.now;
-        numbers = s.numbers.items;
-        parents = s.parents;
+      table = s.types.now;
+      kinds = s.kinds.now;
+      used = s.used.now;
+      numbers = s.numbers.items;
+      parents = s.parents;
     } };
 
     ghost invariant = { λ s. AreTypeNodes (record {
-        table = s.types.now;
-        kinds = s.kinds.now;
-        used = s.used.now;
-        numbers = s.numbers.items;
-        parents = s.parents;
+      table = s.types.now;
+      kinds = s.kinds.now;
+      used = s.used.now;
+      numbers = s.numbers.items;
+      parents = s.parents;
     }) };
 }
 

@@ -1,4 +1,4 @@
-use Rattle.std.proofs.Common.{◌≡◌, ◌+◌, suc, length, ap, rules, arith}
+use Rattle.std.proofs.Common.{◌≡◌, ◌+◌, suc, length, ap, arith}
 use Rattle.cure_frames.proofs.FrameLaws.{rest_typed, no_parameters, named_grows, unnamed_grows}
 use Rattle.cure_frames.proofs.prologue.+put_parameters.Goals as goal
 

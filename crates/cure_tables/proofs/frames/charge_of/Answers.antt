@@ -1,4 +1,3 @@
-use Rattle.std.proofs.Common.{◌+◌, arith}
 use Rattle.c_types.specs.Layouts.{size_of}
 use Rattle.src_mem.specs.Memory.{charge_of}
 use Rattle.src_mem.specs.Checks.{frame_limit}

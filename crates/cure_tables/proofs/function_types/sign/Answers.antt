@@ -1,5 +1,5 @@
-use Rattle.std.specs.Prelude.{List, IfSome, slice_set}
-use Rattle.std.proofs.Common.{◌≡◌, Option, Some, None, ap, sym, subst, ◌∙◌, inl, true≢false, refl, arith}
+use Rattle.std.specs.Prelude.{List, slice_set}
+use Rattle.std.proofs.Common.{ap, sym, subst, ◌∙◌, inl, true≢false, refl, arith}
 use Rattle.cc_base.specs.declared.number.TypeId.{TypeId}
 use Rattle.c_types.specs.Table.{is_function}
 use Rattle.c_types.specs.Flows.{kind_in}

@@ -1,11 +1,6 @@
-use Rattle.std.specs.Prelude.{List, slice_index}
 use Rattle.std.proofs.Common.{length, refl, ap, sym, subst, arith}
-use Rattle.c_types.specs.Table.{Table}
 use Rattle.c_types.specs.Flows.{kind_in}
 use Rattle.c_types.specs.Sound.{IsWellFormed}
-use Rattle.cured_code.specs.declared.parts.Sig.{Sig}
-use Rattle.cure_rules.specs.Functions.{AreSignatures}
-use Rattle.cure_tables.specs.Signed.{AreSigned}
 use Rattle.cure_tables.proofs.Signed.{firsts_typed, passed_one, signature_small, signed_result}
 use Rattle.cure_tables.proofs.function_types.signatures_of.Goals as goal
 

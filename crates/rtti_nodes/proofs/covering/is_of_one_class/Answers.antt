@@ -1,5 +1,5 @@
-use Rattle.std.specs.Prelude.{◌≡◌, ◌↔◌}
-use Rattle.std.proofs.Common.{List, sym, subst, ap}
+use Rattle.std.specs.Prelude.{◌↔◌}
+use Rattle.std.proofs.Common.{List, sym, subst}
 use Rattle.std.specs.List.{Contains}
 use Rattle.cc_base.specs.declared.number.NodeId.{NodeId}
 use Rattle.c_types.specs.Flows.{kind_in, CorrespondByPlace}

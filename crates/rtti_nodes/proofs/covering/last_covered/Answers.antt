@@ -1,5 +1,4 @@
 use Rattle.std.proofs.Common.{◌∙◌, sym, arith}
-use Rattle.std.proofs.lemmas.Option.{slice_get-get_or}
 use Rattle.c_types.specs.Flows.{kind_in}
 use Rattle.type_laws.proofs.Coverage.{covers_is}
 use Rattle.rtti_nodes.proofs.Below.{last_is, not_this}

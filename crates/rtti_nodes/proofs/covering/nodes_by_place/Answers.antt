@@ -1,4 +1,3 @@
-use Rattle.std.specs.Prelude.{IfOk}
 use Rattle.std.proofs.lemmas.Result.{IfOk-weaker}
 use Rattle.rtti_nodes.proofs.PointerKinds.{found_equal, found_nodes}
 use Rattle.rtti_nodes.proofs.covering.nodes_by_place.Goals as goal

@@ -1,5 +1,4 @@
-use Rattle.std.specs.Prelude.{IsTrue}
-use Rattle.std.proofs.Common.{◌≡◌, get_or, arith}
+use Rattle.std.proofs.Common.{get_or, arith}
 use Rattle.std.proofs.lemmas.Option.{slice_get-get_or}
 use Rattle.c_types.specs.Flows.{kind_in}
 use Rattle.rtti_nodes.proofs.Adding.{one_more}

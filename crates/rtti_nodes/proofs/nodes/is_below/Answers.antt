@@ -1,5 +1,5 @@
-use Rattle.std.proofs.Common.{◌≡◌, ◌+◌, ◌-◌, length, sym, ap, ◌∙◌}
-use Rattle.cured_code.specs.Tables.{is_below_within, is_below}
+use Rattle.std.proofs.Common.{◌+◌, ◌-◌, length, sym, ap, ◌∙◌}
+use Rattle.cured_code.specs.Tables.{is_below_within}
 use Rattle.rtti_nodes.proofs.Below.{none_below, below_next}
 use Rattle.rtti_nodes.proofs.nodes.is_below.Goals as goal
 

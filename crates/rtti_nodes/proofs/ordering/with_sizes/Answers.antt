@@ -1,4 +1,4 @@
-use Rattle.std.proofs.Common.{◌≡◌, get_or}
+use Rattle.std.proofs.Common.{get_or}
 use Rattle.rtti_nodes.specs.Classes.{sized}
 use Rattle.rtti_nodes.proofs.Sizes.{layout_size, pushed_next}
 use Rattle.rtti_nodes.proofs.ordering.with_sizes.Goals as goal

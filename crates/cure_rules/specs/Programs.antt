@@ -54,7 +54,7 @@ start_world w slots = record { whole = w; number = 0; variables = []; result = N
 abbrev pub EntersMain : World → ℕ → Place → Piece
 EntersMain w main at lines = (a : ℕ)
     × Then (Gets w Address (Number (function_word main)) a) (Then (IsGuarded w (EnterMain a) Safe at)
-        (Line (instr.Call (suc main) w.slots.row (slot_of w.slots First) ∷ instr.Exit (slot_of w.slots First) ∷ []))) lines
+    (Line (instr.Call (suc main) w.slots.row (slot_of w.slots First) ∷ instr.Exit (slot_of w.slots First) ∷ []))) lines
 
 -- Function 0: the kept slots are set, the static initialisers run, and `main` is entered.
 pub record IsStart (w : World) (p : Program) (h : cured.Function) : Type 0 where

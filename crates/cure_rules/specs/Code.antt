@@ -42,7 +42,7 @@ abbrev pub ReturnsNone : World → Piece
 ReturnsNone w lines = (t : TypeId) × (w.number ≢ 0) × (w.result ≡ Some t) × (words_in w.whole t ≡ 0) × Line (flat.Return w.slots.nought ∷ []) lines
 
 -- Code begins with what the first knows, and what the second knows holds behind it. Behind what leaves a block or the function nothing runs,
--- and no more is known than before it, so that what stands there names slots that there are.
+-- and no more is known than before it; behind a loop no more than where it begins. So what stands where nothing runs names slots that there are.
 abbrev mutual
   pub IsCuring : Instr → World → Blocks → Knowledge → Knowledge → Piece
   IsCuring (instr.Set i) w b known after lines = IsCuringSet i w known after lines
@@ -57,7 +57,7 @@ abbrev mutual
       (a : ℕ) × Then (IsTested w known t a) (Choice a (IsCuringRow code w b known after) (IsCuringRow other w b known after)) lines
   IsCuring (instr.Block' shape code) w b known after lines = Blocked (IsCuringRow code w (after ∷ b) known after) lines
   IsCuring (instr.Loop' shape code) w b known after lines =
-      (entry : Knowledge) × Includes known entry × Looped (IsCuringRow code w (after ∷ b) entry entry) lines
+      (entry : Knowledge) × Includes known entry × Looped (IsCuringRow code w (after ∷ b) entry entry) lines × Includes entry after
   IsCuring (instr.Break n) w b known after lines = (k : Knowledge) × (slice_get b n ≡ Some k) × Includes known k × Line (flat.Break n ∷ []) lines
       × Includes known after
   IsCuring instr.Return w b known after lines = ReturnsNone w lines × Includes known after

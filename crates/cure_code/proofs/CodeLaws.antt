@@ -1,5 +1,5 @@
 -- What was made in two steps, from an empty draft on.
-use Rattle.std.proofs.Common.{◌≡◌, refl, ap, sym, subst, ◌∙◌, true, List, [], ◌∷◌, ◌++◌, Result, Ok, Err, IfOk}
+use Rattle.std.proofs.Common.{ap, ◌∙◌, List, ◌++◌, Result, Ok, Err, IfOk}
 use Rattle.cured_code.specs.declared.instr.Instr.{Instr}
 use Rattle.cured_code.specs.declared.instr.Code.{Code}
 use Rattle.check_forms.specs.Pieces.{Piece, Then}

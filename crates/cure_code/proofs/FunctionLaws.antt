@@ -1,8 +1,6 @@
 -- Functions of a program in shape, and what they are cured to.
-use Rattle.std.specs.Prelude.{sum_by}
-use Rattle.std.proofs.Common.{◌≡◌, ◌≢◌, refl, ap, sym, subst, ◌∙◌, ℕ, zero, suc, ◌+◌, ◌*◌, ◌<◌, ◌≤◌, ◌⊎◌, inl, inr, List, [], ◌∷◌, ◌++◌, length, map, slice_get, Option, Some, None, arith}
+use Rattle.std.proofs.Common.{◌≡◌, refl, ap, sym, subst, ◌∙◌, ℕ, ◌<◌, ◌≤◌, ◌⊎◌, inl, inr, List, [], ◌∷◌, length, map, flat_map, Option, Some, None, arith}
 use Rattle.std.specs.List.{All, Contains, filter_map, cons_option}
-use Rattle.std.specs.Option.{IsSome}
 use Rattle.cc_base.specs.declared.number.TypeId.{TypeId}
 use Rattle.cc_base.specs.declared.number.NodeId.{NodeId}
 use Rattle.cc_base.specs.declared.kind.Kind.{Kind}
@@ -19,22 +17,19 @@ use Rattle.src_mem.specs.Checks.{frame_limit}
 use Rattle.cil_form.specs.declared.number.Planned.{Planned as PlannedObject}
 use Rattle.cil_form.specs.declared.program.Parameter.{Parameter}
 use Rattle.cil_form.specs.declared.program.Function.{Function}
-use Rattle.cil_form.specs.declared.program.Program.{Program}
 use Rattle.cil_form.specs.Machine.{plan, variables_of}
 use Rattle.cil_form.specs.Shape.{IsPlanInShape, IsFunctionInShape, context_of, context_in, result_of_shape}
 use Rattle.cil_form.specs.Sites.{Each}
-use Rattle.cil_form.specs.Typing.{Context, IsScalar}
+use Rattle.cil_form.specs.Typing.{IsScalar}
 use Rattle.cured_code.specs.declared.instr.Instr.{Instr}
 use Rattle.cured_code.specs.declared.parts.Function as cured
 use Rattle.cured_code.specs.Tables.{areas_of}
 use Rattle.check_forms.specs.Pieces.{Then, Line}
 use Rattle.sim_relation.specs.Ground.{word_number}
-use Rattle.cure_rules.specs.Known.{Whole, World, words_by, words_in}
+use Rattle.cure_rules.specs.Known.{words_by, words_in}
 use Rattle.cure_rules.specs.Accesses.{IsHome}
-use Rattle.cure_rules.specs.Functions.{parameter_words, areas_for, IsBody, IsEntered, IsNeverEntered, HasSlots, IsCuredFunction}
+use Rattle.cure_rules.specs.Functions.{parameter_words, areas_for, IsBody, HasSlots, IsCuredFunction}
 use Rattle.cure_rules.specs.Programs.{IsStart}
-use Rattle.cure_scope.specs.Scopes.{fixed_slots}
-use Rattle.cure_instrs.specs.Cured.{IsIn}
 use Rattle.cure_frames.specs.Storing.{HasHome, HaveHomes, ParametersStored}
 use Rattle.cure_tables.specs.Objects.{IsObject}
 use Rattle.cure_bodies.specs.Bodies.{IsInside, BodyCured}
@@ -42,7 +37,7 @@ use Rattle.cure_ready.proofs.PartStarts.{members-whole, parts-whole}
 use Rattle.cure_code.specs.declared.setting.Setting.{Setting}
 use Rattle.cure_code.specs.Settings.{whole_in, IsSet, IsNumber, world_at, first_world}
 use Rattle.cure_code.specs.Codes.{FunctionCode, StartCode}
-use Rattle.cure_code.proofs.Elements.{within, all_at, each_at, all_by, all_mapped, each_front, each_back, each_flat, sum_few, mapped_length}
+use Rattle.cure_code.proofs.Elements.{within, all_at, each_at, all_by, all_mapped, each_front, each_back, each_flat, sum_few}
 use Rattle.cure_code.proofs.SlotLaws.{are_slots}
 
 words_few : (kind : NodeId → Kind) (s : TypeShape) → words_by kind s ≤ 3
@@ -122,10 +117,8 @@ module _ (w : Setting) (s : IsSet w) where
     told : Each (λ (o : Planned). Contains w.program.now.sites (Home o.node o.type)) (variables_of f)
     told =
         each_flat (λ (o : Planned). Contains w.program.now.sites (Home o.node o.type)) variables_of w.program.now.functions
-        (each_back (λ (o : Planned). Contains w.program.now.sites (Home o.node o.type)) (map (λ o. plan o.planned) w.program.now.statics) (map_variables w.program.now.functions) s.told.objects) k f at
-      where
-        map_variables : List Function → List Planned
-        map_variables fs = Rattle.std.proofs.Common.flat_map variables_of fs
+        (each_back (λ (o : Planned). Contains w.program.now.sites (Home o.node o.type)) (map (λ o. plan o.planned) w.program.now.statics)
+        (flat_map variables_of w.program.now.functions) s.told.objects) k f at
 
     plain : (o : Planned) → Contains w.program.now.sites (Home o.node o.type) → IsHome (kind_in w.kinds.now o.node)
     plain o c = by ((s.solution.each (Home o.node o.type) c).plain)

@@ -1,11 +1,9 @@
 -- The parts of a program's cured code.
-use Rattle.std.specs.Prelude.{sum_by, slice_index}
-use Rattle.std.proofs.Common.{◌≡◌, refl, ap, sym, subst, ◌∙◌, ℕ, zero, suc, ◌+◌, ◌*◌, ◌<◌, ◌≤◌, ◌⊎◌, inl, inr, List, [], ◌∷◌, ◌++◌, length, map, take, slice_get, Option, Some, None, arith}
+use Rattle.std.specs.Prelude.{slice_index, if◌then◌else◌}
+use Rattle.std.proofs.Common.{◌≡◌, refl, ap, sym, subst, ◌∙◌, ℕ, zero, suc, ◌+◌, ◌*◌, ◌<◌, ◌≤◌, ◌⊎◌, inl, inr, List, [], ◌∷◌, ◌++◌, length, map, slice_get, Some, arith}
 use Rattle.std.specs.List.{All}
-use Rattle.cc_base.specs.declared.number.TypeId.{TypeId}
-use Rattle.cc_base.specs.declared.number.NodeId.{NodeId}
 use Rattle.cc_base.specs.declared.kind.Kind.{Kind}
-use Rattle.c_types.specs.Table.{Table, IsComplete, AreNodesOf, entry_at, is_complete}
+use Rattle.c_types.specs.Table.{Table, AreNodesOf}
 use Rattle.c_types.specs.Flows.{kind_in}
 use Rattle.c_types.specs.Layouts.{size_of}
 use Rattle.c_types.specs.Widths as widths
@@ -23,7 +21,7 @@ use Rattle.cured_code.specs.Tables.{area_of}
 use Rattle.cured_code.specs.FlatState.{PlacedArea}
 use Rattle.cured_code.specs.FlatMachine.{global_areas, placed}
 use Rattle.cure_rules.specs.Known.{Whole, AreSizes}
-use Rattle.cure_rules.specs.Functions.{IsCuredFunction, area_for, areas_for, world_of, parameter_words}
+use Rattle.cure_rules.specs.Functions.{IsCuredFunction, area_for, world_of, parameter_words}
 use Rattle.cure_rules.specs.Programs.{AreGlobals, IsStart, start_world, whole_of, global_addresses, AreCured, IsCuredProgram}
 use Rattle.cure_scope.specs.Scopes.{fixed_slots, size_in, offset_in}
 use Rattle.fat_layouts.specs.Standing.{Curing}
@@ -33,7 +31,7 @@ use Rattle.cure_code.specs.declared.setting.Setting.{Setting}
 use Rattle.cure_code.specs.declared.programs.Tables.{Tables}
 use Rattle.cure_code.specs.Settings.{whole_in, IsSet, IsMadeAt, AreMade}
 use Rattle.cure_code.specs.Tabled.{AreTables, curing_of, numbers_with, whole_with}
-use Rattle.cure_code.proofs.Elements.{same_some, within, all_at, all_by, mapped_length, mapped_get, sum_sixteen, take_next, take_all}
+use Rattle.cure_code.proofs.Elements.{same_some, within, all_at, all_by, mapped_length, mapped_get, sum_sixteen}
 
 -- Lists
 
@@ -160,8 +158,8 @@ parts_of parents t made = record { sigs = t.signatures.sigs.items; nodes = paren
 
 sizes : (p : Program) (kinds : List Kind) (nodes : List ℕ) (t : Tables) → AreSizes (whole_with p kinds nodes t)
 sizes p kinds nodes t = record {
-  size = λ u c. ap (λ b. Rattle.std.specs.Prelude.if◌then◌else◌ b (widths.cured_size p.types (kind_in kinds) u) 0) c;
-  none = λ u c. ap (λ b. Rattle.std.specs.Prelude.if◌then◌else◌ b (widths.cured_size p.types (kind_in kinds) u) 0) c;
+  size = λ u c. ap (λ b. if b then widths.cured_size p.types (kind_in kinds) u else 0) c;
+  none = λ u c. ap (λ b. if b then widths.cured_size p.types (kind_in kinds) u else 0) c;
   offset = λ u o c l b. refl;
 }
 

@@ -1,14 +1,13 @@
 -- The slots of a function, each with one owner.
 use Rattle.std.specs.Prelude.{if◌then◌else◌, ◌≢◌}
-use Rattle.std.proofs.Common.{◌≡◌, refl, ap, sym, subst, ◌∙◌, ℕ, zero, suc, ◌+◌, ◌*◌, ◌-◌, ◌/◌, ◌%◌, ◌<◌, ◌≤◌, Bool, true, false, nat_lt, [], slice_get, Some, arith}
+use Rattle.std.proofs.Common.{◌≡◌, ap, sym, ◌∙◌, ℕ, ◌+◌, ◌*◌, ◌-◌, ◌/◌, ◌%◌, ◌<◌, ◌≤◌, Bool, true, false, nat_lt, arith}
 use Rattle.std.proofs.lemmas.Bool.Decides.{nat_tests}
 use Rattle.std.proofs.lemmas.Nat.{div-mul-add}
 use Rattle.cil_form.specs.declared.number.Temp.{Temp}
 use Rattle.cil_form.specs.declared.number.Temp.TheVariants as temp
-use Rattle.cil_form.specs.declared.number.Work.{Work}
 use Rattle.cil_form.specs.declared.number.Work.TheVariants.{First, Second}
 use Rattle.cil_form.specs.Typing.{IsTemp}
-use Rattle.cure_rules.specs.Slots.{Owner, Column, Working, Argument, Nought, Kept, Owns, AreSlots, role_count}
+use Rattle.cure_rules.specs.Slots.{Owner, Column, Working, Argument, Nought, Kept, Owns, AreSlots}
 use Rattle.cure_scope.specs.Scopes.{fixed_slots, fixed_column}
 
 no : {A : Type 0} (a b : ℕ) (x y : A) → b ≤ a → (if nat_lt a b then x else y) ≡ y

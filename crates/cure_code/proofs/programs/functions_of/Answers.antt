@@ -1,4 +1,4 @@
-use Rattle.std.proofs.Common.{ap, sym, subst, ◌∙◌, ℕ, List, [], ◌∷◌, ◌++◌, length, slice_get, arith}
+use Rattle.std.proofs.Common.{ap, subst, ◌∙◌, ℕ, [], ◌∷◌, ◌++◌, length, arith}
 use Rattle.cure_code.specs.Settings.{AreMade, whole_in}
 use Rattle.cure_code.proofs.Elements.{item_at}
 use Rattle.cure_code.proofs.ProgramLaws.{made_none, made_more}

@@ -1,4 +1,4 @@
-use Rattle.std.proofs.Common.{◌≡◌, refl, ap, sym, subst, ◌∙◌, suc, ◌+◌, ◌*◌, ◌≤◌, ℕ, List, length, map, arith}
+use Rattle.std.proofs.Common.{◌≡◌, ap, sym, subst, ◌∙◌, suc, ◌+◌, ◌*◌, ◌≤◌, List, length, map, arith}
 use Rattle.std.specs.List.{All}
 use Rattle.cil_form.specs.declared.program.Static.{Static}
 use Rattle.cil_form.specs.Machine.{plan}

@@ -110,21 +110,21 @@ object_set k types into o home t code line c after is h = (
   leaves_held k.parameters types after into (Some (PlaceOf home t)) h.1.1,
 )
 
-copied-words : (k : Scope) (types after : Typing) (into from : Temp) (x : Option HeldType) (code : List Instr) → IsTemp into
+copied-words : (k : Scope) (types after : Typing) (into from : Temp) (x : Option HeldType) (code : List Instr) → IsTemp from → IsTemp into
     → Includes (with_held into x types) after
     → copied_lines (whole_of k) x (fixed_column into) (fixed_column from) code
-    → CopiedWords (world_of k) into (known_at (fixed_column from) x) (known_of (world_of k).slots types) (known_of (world_of k).slots after) code
-copied-words k types after into from None code is more h = (h, leaves_held k.parameters types after into None more)
-copied-words k types after into from (Some (IntegerOf i)) code is more h =
+    → CopiedWords (world_of k) into from (known_at (fixed_column from) x) (known_of (world_of k).slots types) (known_of (world_of k).slots after) code
+copied-words k types after into from None code at is more h = (0, (is, omega arith), (at, omega arith), h, leaves_held k.parameters types after into None more)
+copied-words k types after into from (Some (IntegerOf i)) code at is more h =
     (fixed_column from, refl, (is, omega arith), h, leaves_held k.parameters types after into (Some (IntegerOf i)) more)
-copied-words k types after into from (Some (PointerTo n u)) code is more h =
+copied-words k types after into from (Some (PointerTo n u)) code at is more h =
     (fixed_column from, refl, takes k into (whole_of k).kind n is, h, leaves_held k.parameters types after into (Some (PointerTo n u)) more)
-copied-words k types after into from (Some (PlaceOf n u)) code is more h =
+copied-words k types after into from (Some (PlaceOf n u)) code at is more h =
     (fixed_column from, refl, takes k into (whole_of k).kind n is, h, leaves_held k.parameters types after into (Some (PlaceOf n u)) more)
 
 pub copy_set : (k : Scope) (types : Typing) (into from : Temp) (x : Option HeldType) (code : List Instr) → types from ≡ x
     → copied_lines (whole_of k) x (fixed_column into) (fixed_column from) code → SetCured (set.Copy into from) (world_of k) types code
 unfolding SetCured
 copy_set k types into from x code same line c after is h =
-    copied-words k types after into from (types from) code h.1.0 h.1.1
+    copied-words k types after into from (types from) code h.0 h.1.0 h.1.1
     (subst (λ y. copied_lines (whole_of k) y (fixed_column into) (fixed_column from) code) (sym same) line)

@@ -52,10 +52,11 @@ ObjectWords Wild w into o a lines =
     (a ≡ column w into) × Takes w into 2 × Then (Sets w (Start o) a) (Line (instr.Copy (a + 1) a ∷ [])) lines
 ObjectWords kind w into o a lines = ⊥
 
--- Of what nothing is known, nothing is copied. Else so many words are.
-abbrev pub CopiedWords : World → Temp → Option Known → Knowledge → Knowledge → Piece
-CopiedWords w into None known after lines = Line [] lines × Leaves known into None after
-CopiedWords w into (Some x) known after lines = (a : ℕ) × (x.place ≡ Some a) × Takes w into (held_words w.whole x.type)
+-- So many words are copied. Of what nothing is known, any may be: nothing is known then of what they become.
+abbrev pub CopiedWords : World → Temp → Temp → Option Known → Knowledge → Knowledge → Piece
+CopiedWords w into from None known after lines = (n : ℕ) × Takes w into n × Takes w from n
+    × Line (copies n (column w into) (column w from)) lines × Leaves known into None after
+CopiedWords w into from (Some x) known after lines = (a : ℕ) × (x.place ≡ Some a) × Takes w into (held_words w.whole x.type)
     × Line (copies (held_words w.whole x.type) (column w into) a) lines × Leaves known into (Some (record x { place = Some (column w into) })) after
 
 abbrev pub IsCuringSet : Set → World → Knowledge → Knowledge → Piece
@@ -69,7 +70,7 @@ IsCuringSet (set.Function into f t) w known after lines = (n : NodeId) × (u : T
 IsCuringSet (set.Object into o home t) w known after lines = (a : ℕ) × (sure : List Sure)
     × AreTrue sure (IsNotNull ∷ IsBased ∷ IsWithin (size_of w.whole.table t) ∷ []) × ObjectWords (kind_of w home) w into o a lines
     × Leaves known into (Some (a_place a home t sure)) after
-IsCuringSet (set.Copy into from) w known after lines = CopiedWords w into (known from) known after lines
+IsCuringSet (set.Copy into from) w known after lines = CopiedWords w into from (known from) known after lines
 
 -- Truth values
 

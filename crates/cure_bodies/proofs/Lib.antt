@@ -1,0 +1,4 @@
+pub mod Laws
+pub mod Tracks
+pub mod Plain
+pub mod Parts

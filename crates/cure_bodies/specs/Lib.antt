@@ -1,0 +1,3 @@
+pub mod Holding
+pub mod Results
+pub mod Bodies

@@ -1,10 +1,8 @@
 -- The lines of loads, stores, clearing and copies are in range.
-use Rattle.std.specs.Prelude.{nat_eq, if◌then◌else◌}
-use Rattle.std.proofs.Common.{◌≡◌, ℕ, zero, suc, ◌+◌, ◌<◌, ◌≤◌, Bool, true, false, List, [], ◌∷◌, ◌++◌, length, slice_get, Option, None, Some, refl, ap, sym, subst, ◌∙◌, inl, inr, ◌⊎◌, arith}
+use Rattle.std.proofs.Common.{◌≡◌, ℕ, ◌+◌, ◌<◌, ◌≤◌, Bool, true, false, List, [], ◌∷◌, Some, refl, sym, subst, inl, inr, arith}
 use Rattle.std.proofs.lemmas.Option.{slice_get_within}
 use Rattle.cc_base.specs.declared.place.Place.{Place}
 use Rattle.cc_base.specs.declared.number.TypeId.{TypeId}
-use Rattle.cc_base.specs.declared.number.NodeId.{NodeId}
 use Rattle.cc_base.specs.declared.kind.Kind.{Kind}
 use Rattle.cc_base.specs.declared.kind.Kind.TheVariants.{Safe, Seq, Rtti, Wild}
 use Rattle.c_types.specs.Cells.{holds_pointer}
@@ -22,19 +20,19 @@ use Rattle.cil_form.specs.declared.instr.Access.TheVariants as access
 use Rattle.cil_form.specs.Meaning.{target_node}
 use Rattle.cured_code.specs.declared.instr.Instr.{Instr}
 use Rattle.cured_code.specs.declared.instr.Instr.TheVariants as instr
-use Rattle.check_forms.specs.Pieces.{Piece, Line, Then, Choice}
+use Rattle.check_forms.specs.Pieces.{Line, Then, Choice}
 use Rattle.check_forms.specs.declared.slots.PointerSlots.{PointerSlots}
 use Rattle.check_forms.specs.declared.op.Op.TheVariants as op
 use Rattle.check_forms.specs.Rows.{home_slot}
 use Rattle.sim_relation.specs.Ground.{word_number}
-use Rattle.sim_relation.specs.Points.{Form, Exact, Zeroed, Low, Sure, Known, Knowledge, Number, Start}
+use Rattle.sim_relation.specs.Points.{Form, Exact, Zeroed, Low, Knowledge, Start}
 use Rattle.cure_rules.specs.Slots.{AreSlots, First, Offset, Address, Base, Word, OtherWord, ThirdWord, Made, slot_of}
 use Rattle.cure_rules.specs.Known.{World, kind_of, cured_size, source_size, column, an_integer, a_pointer, pointer_slots, narrow_of, narrowing_lines}
 use Rattle.cure_rules.specs.Checks.{Seat, size_at, wild_numbers, read_integer, read_pointer, write_integer, write_pointer}
 use Rattle.cure_rules.specs.Functions.{IsKnownContent}
 use Rattle.cure_rules.specs.Pointing.{cured_offset}
-use Rattle.cure_rules.specs.Accesses.{NarrowsLoaded, words_loaded, TaggedLoaded, PointerLoaded, LoadsInteger, LoadsPointer, part_slots, Targets, integer_stored, words_stored, TaggedStored, PointerStored, StoresInteger, StoresPointer, plan_of, ClearedBy, CellsKept, plain_copied, PointersCopied, CopiedBy, IsCuringAccess}
-use Rattle.cure_ranges.proofs.Fitting.{Fits, PointerFits, OperandsFit, Around, names_at, Placed, NamesTarget, NamesPart}
+use Rattle.cure_rules.specs.Accesses.{NarrowsLoaded, words_loaded, TaggedLoaded, PointerLoaded, LoadsInteger, LoadsPointer, Targets, integer_stored, words_stored, TaggedStored, PointerStored, StoresInteger, StoresPointer, plan_of, ClearedBy, CellsKept, plain_copied, PointersCopied, CopiedBy, IsCuringAccess}
+use Rattle.cure_ranges.proofs.Fitting.{Fits, PointerFits, Around, names_at, Placed, NamesTarget, NamesPart}
 use Rattle.cure_ranges.proofs.Tests.{line, in_turn, choice}
 use Rattle.cure_ranges.proofs.Rows.{home}
 use Rattle.cure_ranges.proofs.Guards.{word_few, at_0, at_1, pointer, narrowing, left_at, included, points, addressed, lowly, role, nought, room, gets, number, guarded}

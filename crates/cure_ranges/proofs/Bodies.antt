@@ -1,6 +1,6 @@
 -- The bodies of a cured program are in range.
-use Rattle.std.specs.Prelude.{slice_index, nat_le, sum_by, ◌≢◌, IfSome, if◌then◌else◌}
-use Rattle.std.proofs.Common.{◌≡◌, ℕ, zero, suc, ◌+◌, ◌<◌, ◌≤◌, Bool, true, false, List, [], ◌∷◌, ◌++◌, length, map, slice_get, Option, None, Some, refl, ap, sym, subst, ◌∙◌, inl, inr, ◌⊎◌, arith}
+use Rattle.std.specs.Prelude.{slice_index, nat_le, sum_by, IfSome, if◌then◌else◌}
+use Rattle.std.proofs.Common.{◌≡◌, ℕ, zero, suc, ◌+◌, ◌<◌, ◌≤◌, Bool, true, false, List, [], ◌∷◌, ◌++◌, length, map, slice_get, Option, Some, refl, ap, sym, subst, ◌∙◌, inl, inr, ◌⊎◌, arith}
 use Rattle.std.specs.List.{All, Contains}
 use Rattle.c_types.specs.declared.site.Site.TheVariants.{Flow}
 use Rattle.std.proofs.lemmas.Bool.Decides.{nat_tests}
@@ -12,8 +12,8 @@ use Rattle.cc_base.specs.declared.place.Place.{Place}
 use Rattle.cc_base.specs.declared.kind.Kind.{Kind}
 use Rattle.cc_base.specs.declared.kind.Kind.TheVariants.{Safe, Rtti}
 use Rattle.c_types.specs.declared.shape.TypeShape.{TypeShape}
-use Rattle.c_types.specs.Table.{is_function, is_function_shape, shape_at}
-use Rattle.src_mem.specs.Memory.{Planned, frame_charge}
+use Rattle.c_types.specs.Table.{is_function, is_function_shape}
+use Rattle.src_mem.specs.Memory.{frame_charge}
 use Rattle.src_mem.specs.Checks.{frame_limit}
 use Rattle.cil_form.specs.declared.program.Parameter.{Parameter}
 use Rattle.cil_form.specs.declared.program.Function.{Function}
@@ -26,23 +26,23 @@ use Rattle.cured_code.specs.declared.instr.Instr.TheVariants as instr
 use Rattle.cured_code.specs.declared.parts.Sig.{Sig}
 use Rattle.cured_code.specs.declared.parts.Function as cured
 use Rattle.cured_code.specs.declared.parts.Parts.{Parts}
-use Rattle.cured_code.specs.Tables.{area_of, areas_of}
+use Rattle.cured_code.specs.Tables.{area_of}
 use Rattle.cured_code.specs.Ranges.{Names, IsSigInRange, AreInstrsInRange, names_in, sigs_of}
-use Rattle.check_forms.specs.Pieces.{Piece, Line, Then}
+use Rattle.check_forms.specs.Pieces.{Line, Then}
 use Rattle.check_forms.specs.declared.op.Op.TheVariants.{EnterMain}
 use Rattle.sim_relation.specs.Ground.{function_word}
 use Rattle.sim_relation.specs.Points.{KeptSlot}
 use Rattle.cure_rules.specs.Slots.{Slots, AreSlots, Address, First, Third, slot_of}
-use Rattle.cure_rules.specs.Known.{Whole, World, words_in, nothing_known}
+use Rattle.cure_rules.specs.Known.{Whole, World, nothing_known}
 use Rattle.cure_rules.specs.Code.{outside}
-use Rattle.cure_rules.specs.Functions.{bare, words_at, signature_by, signature_of, area_for, areas_for, parameter_words, world_of, IsCuredFunction, IsEntered}
+use Rattle.cure_rules.specs.Functions.{bare, words_at, signature_by, signature_of, area_for, parameter_words, world_of, IsCuredFunction, IsEntered}
 use Rattle.cure_rules.specs.Programs.{Numbers, whole_of, start_world, EntersMain, IsStart, AreCured}
 use Rattle.cure_tables.proofs.Signed.{signature_small}
 use Rattle.cure_ranges.specs.Bodies.{IsBodyInRange, AreTargetsNamed}
 use Rattle.cure_ranges.proofs.Parts.{same_some, there, within, mapped_length, mapped_get, each_at, all_by, sigs_small}
-use Rattle.cure_ranges.proofs.Fitting.{Fits, Around, names_at, Placed, CanPassIn, CanReturnIn, IsCuredIn}
+use Rattle.cure_ranges.proofs.Fitting.{Fits, Around, names_at, Placed, CanPassIn, CanReturnIn}
 use Rattle.cure_ranges.proofs.Tests.{all_in_range, appended, line, in_turn}
-use Rattle.cure_ranges.proofs.Guards.{at_0, role, number, guarded}
+use Rattle.cure_ranges.proofs.Guards.{role, number, guarded}
 use Rattle.cure_ranges.proofs.Calling.{passes}
 use Rattle.cure_ranges.proofs.Walk.{body_in_range}
 use Rattle.cure_ranges.proofs.Prologues.{named, kept_set, stored}

@@ -1,10 +1,9 @@
 -- The lines of allocations, calls, and the functions of the C library are in range.
-use Rattle.std.specs.Prelude.{slice_index, IfSome, if◌then◌else◌}
-use Rattle.std.proofs.Common.{◌≡◌, ℕ, zero, suc, ◌+◌, ◌<◌, ◌≤◌, Bool, true, false, List, [], ◌∷◌, ◌++◌, length, slice_get, Option, None, Some, refl, ap, sym, subst, ◌∙◌, inl, inr, ◌⊎◌, arith}
+use Rattle.std.specs.Prelude.{slice_index, IfSome}
+use Rattle.std.proofs.Common.{◌≡◌, ℕ, suc, ◌+◌, ◌<◌, ◌≤◌, Bool, true, false, List, [], ◌∷◌, length, slice_get, Option, None, Some, refl, ap, sym, subst, inl, inr, arith}
 use Rattle.cc_base.specs.declared.fault.Check.TheVariants as check
 use Rattle.cc_base.specs.declared.place.Place.{Place}
 use Rattle.cc_base.specs.declared.number.TypeId.{TypeId}
-use Rattle.cc_base.specs.declared.number.NodeId.{NodeId}
 use Rattle.cc_base.specs.declared.kind.Kind.{Kind}
 use Rattle.cc_base.specs.declared.kind.Kind.TheVariants.{Safe, Seq, Rtti, Wild}
 use Rattle.c_types.specs.Table.{shape_at, is_function_shape}
@@ -24,19 +23,19 @@ use Rattle.cured_code.specs.declared.instr.Narrow.TheVariants.{U8}
 use Rattle.cured_code.specs.declared.parts.Sig.{Sig}
 use Rattle.cured_code.specs.Ranges.{CanPass}
 use Rattle.check_forms.specs.declared.op.Op.TheVariants as op
-use Rattle.check_forms.specs.Pieces.{Piece, Line, Then, Choice}
+use Rattle.check_forms.specs.Pieces.{Line, Then, Choice}
 use Rattle.check_forms.specs.Conditions.{HasRoom}
 use Rattle.check_forms.specs.Rows.{asked}
 use Rattle.sim_relation.specs.Ground.{word_number, function_word}
-use Rattle.sim_relation.specs.Points.{Exact, Sure, Known, Knowledge, Number}
+use Rattle.sim_relation.specs.Points.{Exact, Sure, Knowledge}
 use Rattle.cure_rules.specs.Slots.{AreSlots, First, Size, Offset, Word, Amount, Bytes, Charge, Made, slot_of, work_of}
 use Rattle.cure_rules.specs.Known.{World, kind_of, cured_size, source_size, column, words_in, held_by, known_at, Leaves, an_integer, a_pointer, pointer_slots, copies}
 use Rattle.cure_rules.specs.Checks.{Seat, number_at, call_of}
 use Rattle.cure_rules.specs.Pointing.{noded_lines}
-use Rattle.cure_rules.specs.Calling.{has_elements, is_tagged_kind, BlockBy, MakesBlock, BlockWords, GivesBlock, IsCuringAllocate, AreArguments, CallsAny, CallsKnown, IsCuringCall, IsCuringRuntime}
+use Rattle.cure_rules.specs.Calling.{has_elements, is_tagged_kind, BlockBy, BlockWords, GivesBlock, IsCuringAllocate, AreArguments, CallsAny, CallsKnown, IsCuringCall, IsCuringRuntime}
 use Rattle.cure_ranges.proofs.Fitting.{Fits, Around, names_at, Placed, CanPassIn}
 use Rattle.cure_ranges.proofs.Tests.{line, in_turn, choice, checks}
-use Rattle.cure_ranges.proofs.Guards.{words_few, at_0, at_1, at_2, pointer, copied, left, left_at, left_none, points, exact, lowly, role, nought, room, work, number, guarded}
+use Rattle.cure_ranges.proofs.Guards.{words_few, at_0, at_1, at_2, pointer, copied, left_at, left_none, points, exact, lowly, role, room, work, number, guarded}
 use Rattle.cure_ranges.proofs.Pointing.{noded}
 use Rattle.cure_ranges.proofs.Accesses.{nests}
 

@@ -1,21 +1,18 @@
 -- When lines, tests and checks name what there is, by recursion on them.
-use Rattle.std.specs.Prelude.{◌≡◌, ◌≢◌, true, false, slice_get, slice_index, ℕ, ◌+◌, ◌<◌, ◌≤◌, ◌⊎◌, suc, max, List, [], ◌∷◌, Option, Some, length}
+use Rattle.std.specs.Prelude.{◌≡◌, ◌≢◌, true, false, slice_get, slice_index, ℕ, ◌+◌, ◌<◌, ◌≤◌, ◌⊎◌, suc, max, List, [], ◌∷◌, Some, length}
 use Rattle.cured_code.specs.declared.instr.Instr.{Instr}
 use Rattle.cured_code.specs.Ranges.{Names, IsInstrInRange, inside_if}
 use Rattle.cured_code.specs.Straight.{instrs}
 use Rattle.cured_code.specs.declared.parts.Sig.{Sig}
 use Rattle.check_forms.specs.declared.slots.PointerSlots.{PointerSlots}
-use Rattle.check_forms.specs.declared.slots.Fixed.{Fixed}
 use Rattle.check_forms.specs.declared.slots.Distance.{Distance}
 use Rattle.check_forms.specs.declared.slots.Distance.TheVariants.{Bytes, Elements}
-use Rattle.check_forms.specs.declared.slots.Direction.{Direction}
-use Rattle.check_forms.specs.declared.slots.Direction.TheVariants.{Forward, Backward}
 use Rattle.check_forms.specs.declared.slots.Work.{Work}
 use Rattle.check_forms.specs.Conditions.{Condition, Never, IsNotZero, IsInPart, IsByteInPart, IsWithinPart, IsInArea, IsByteInArea, IsWithinArea, IsArea, IsNear, IsSmall, IsBelowBound, IsAtLeast, IsAligned, HoldsNoPointer, HoldsPointer, IsNoDeeper, AreNoDeeper, IsNotOwn, IsMadeFor, IsFunctionOf, HasRoom, AreOfPart, AreOfArea, AreElementsApart, IsNoOverflow, Unless, UnlessNull, AreOfPartOr, AreOfAreaOr, Both}
 use Rattle.check_forms.specs.Tests.{Test, Pass, Flag, After, Choose, Then}
 use Rattle.check_forms.specs.declared.op.Op.{Op}
 use Rattle.check_forms.specs.declared.op.Conversion.{Conversion}
-use Rattle.check_forms.specs.declared.op.Conversion.TheVariants.{Free, Down, Shrink}
+use Rattle.check_forms.specs.declared.op.Conversion.TheVariants.{Down}
 use Rattle.check_forms.specs.Rows.{Asked}
 use Rattle.check_forms.specs.declared.op.Op.TheVariants.{ReadInteger, ReadPointer, WriteInteger, WritePointer, CopyPlain, CopyPointers, KeepCell, Member, Move, Order, Equate, Call, ReturnPointer, Convert as Converts, Allocate, DivideUnsigned, DivideSigned, EnterMain}
 use Rattle.cil_form.specs.declared.number.Temp.{Temp}

@@ -1,7 +1,6 @@
 -- The slots of a function, operands, and the lines of what operations ask are in range.
-use Rattle.std.specs.Prelude.{⊤, slice_index, slice_index_or, if◌then◌else◌}
-use Rattle.std.proofs.Common.{◌≡◌, ℕ, zero, suc, ◌+◌, ◌<◌, ◌≤◌, Bool, true, false, List, [], ◌∷◌, ◌++◌, length, get_or, slice_get, Option, None, Some, refl, ap, sym, subst, ◌∙◌, inl, inr, ◌⊎◌, arith}
-use Rattle.std.specs.List.{Contains}
+use Rattle.std.specs.Prelude.{slice_index, if◌then◌else◌}
+use Rattle.std.proofs.Common.{◌≡◌, ℕ, zero, suc, ◌+◌, ◌<◌, ◌≤◌, Bool, true, false, List, [], ◌∷◌, Option, None, Some, ap, sym, subst, ◌∙◌, inl, inr, arith}
 use Rattle.std.proofs.lemmas.Option.{slice_get-get_or}
 use Rattle.cc_base.specs.declared.place.Place.{Place}
 use Rattle.cc_base.specs.declared.number.TypeId.{TypeId}
@@ -10,28 +9,26 @@ use Rattle.cc_base.specs.declared.kind.Kind.{Kind}
 use Rattle.cc_base.specs.declared.kind.Kind.TheVariants.{Safe, Seq, Rtti, Wild}
 use Rattle.c_types.specs.declared.shape.TypeShape.{TypeShape}
 use Rattle.c_types.specs.declared.shape.TypeShape.TheVariants as shape
-use Rattle.c_types.specs.Table.{shape_at}
 use Rattle.integers.specs.Arithmetic.{IntegerType}
 use Rattle.cil_form.specs.declared.number.Temp.{Temp}
-use Rattle.cil_form.specs.declared.number.Object.{Object}
 use Rattle.cil_form.specs.declared.number.Object.TheVariants as object
 use Rattle.cil_form.specs.State.{is_same}
-use Rattle.cil_form.specs.Typing.{HeldType, IntegerOf, PointerTo, PlaceOf, IsTemp}
+use Rattle.cil_form.specs.Typing.{HeldType, IntegerOf, PointerTo, PlaceOf}
 use Rattle.cured_code.specs.declared.instr.Instr.{Instr}
 use Rattle.cured_code.specs.declared.instr.Instr.TheVariants as instr
 use Rattle.cured_code.specs.declared.instr.Narrow.{Narrow}
 use Rattle.cured_code.specs.Ranges.{Names}
 use Rattle.check_forms.specs.declared.op.Op.{Op}
-use Rattle.check_forms.specs.Pieces.{Piece, Line, Then}
+use Rattle.check_forms.specs.Pieces.{Line, Then}
 use Rattle.check_forms.specs.Rows.{flat_conditions}
 use Rattle.sim_relation.specs.Ground.{word_number}
 use Rattle.sim_relation.specs.Points.{Form, Exact, Zeroed, Low, Sure, Known, Knowledge, KeptSlot, Content, Number, Start, End}
 use Rattle.cure_rules.specs.Slots.{AreSlots, Role, First, Second, Third, Moved, Size, Least, Span, LeastFactor, SpanFactor, Seven, Eight, Last, Signature, Offset, Mask, Address, Base, Word, OtherWord, ThirdWord, Amount, Bytes, Charge, Made, role_number, slot_of, work_of}
-use Rattle.cure_rules.specs.Known.{Whole, World, IsKept, Sets, Gets, Includes, Leaves, column, Takes, held_words, words_by, words_in, Points, IsAddress, IsExactly, IsLowly, pointer_slots, copies, noughts, narrow_of, narrowed_lines, narrowing_lines, Narrows}
+use Rattle.cure_rules.specs.Known.{Whole, World, IsKept, Sets, Gets, Includes, Leaves, column, Takes, held_words, words_by, Points, IsAddress, IsExactly, IsLowly, pointer_slots, copies, noughts, narrow_of, narrowed_lines, narrowing_lines, Narrows}
 use Rattle.cure_rules.specs.Functions.{IsKnownContent}
 use Rattle.cure_rules.specs.Checks.{Need, numbers_of, AreGot, IsGuarded}
 use Rattle.cure_ranges.proofs.Fitting.{Fits, WorkFits, PointerFits, NeedsFit, OperandsFit, Around, names_at, Placed}
-use Rattle.cure_ranges.proofs.Tests.{appended, line, in_turn, checks}
+use Rattle.cure_ranges.proofs.Tests.{line, in_turn, checks}
 use Rattle.cure_ranges.proofs.Rows.{asks}
 
 pub same_some : {A : Type 0} (x y : A) → Some x ≡ Some y → x ≡ y

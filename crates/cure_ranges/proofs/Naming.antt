@@ -1,12 +1,10 @@
 -- Source code in shape names objects that there are, and downcasts to types whose nodes there are.
 use Rattle.std.specs.Prelude.{◌&&◌, not, if◌then◌else◌}
-use Rattle.std.proofs.Common.{◌≡◌, ℕ, ◌<◌, ◌≤◌, Bool, true, false, length, slice_get, Some, refl, ap, sym, subst, ◌∙◌, inl, inr, ◌⊎◌, arith}
+use Rattle.std.proofs.Common.{◌≡◌, ◌<◌, Bool, true, false, length, refl, ap, subst, inl, inr, ◌⊎◌}
 use Rattle.std.proofs.lemmas.Option.{slice_get_within}
 use Rattle.std.specs.List.{Contains}
 use Rattle.cc_base.specs.declared.number.TypeId.{TypeId}
 use Rattle.cc_base.specs.declared.number.NodeId.{NodeId}
-use Rattle.cc_base.specs.declared.kind.Kind.TheVariants.{Rtti}
-use Rattle.c_types.specs.declared.flow_class.FlowClass.{FlowClass}
 use Rattle.c_types.specs.declared.flow_class.FlowClass.TheVariants.{Equal, UpTile, Up, DownTile, Down, Tile, Bad}
 use Rattle.c_types.specs.declared.site.Site.TheVariants.{Flow}
 use Rattle.c_types.specs.Table.{Table, is_function}
@@ -27,7 +25,7 @@ use Rattle.cil_form.specs.declared.instr.Access.TheVariants as access
 use Rattle.cil_form.specs.Sites.{AreAmong, sites_of_convert}
 use Rattle.cil_form.specs.Typing.{Context, Typing, IsObject, IsTarget, IsShapedSet, IsShapedAccess}
 use Rattle.sim_relation.specs.Points.{Start}
-use Rattle.cure_rules.specs.Known.{World, IsPointer}
+use Rattle.cure_rules.specs.Known.{World}
 use Rattle.cure_rules.specs.Functions.{IsKnownContent}
 use Rattle.cure_ranges.proofs.Fitting.{Around, NamesObject, NamesTarget, NamesPart, NamesNode, IsCuredIn}
 

@@ -1,17 +1,15 @@
 -- The lines of pointer arithmetic, comparisons of pointers, addresses of parts, and conversions are in range.
 use Rattle.std.specs.Prelude.{◌||◌, nat_eq, if◌then◌else◌}
-use Rattle.std.proofs.Common.{◌≡◌, ℕ, zero, suc, ◌+◌, ◌<◌, ◌≤◌, Bool, true, false, List, [], ◌∷◌, ◌++◌, length, Option, None, Some, refl, ap, sym, subst, ◌∙◌, inl, inr, ◌⊎◌, arith}
+use Rattle.std.proofs.Common.{◌≡◌, ℕ, ◌+◌, ◌<◌, ◌≤◌, Bool, true, false, List, [], ◌∷◌, ◌++◌, Some, refl, inl, inr, ◌⊎◌, arith}
 use Rattle.cc_base.specs.declared.place.Place.{Place}
 use Rattle.cc_base.specs.declared.number.TypeId.{TypeId}
-use Rattle.cc_base.specs.declared.number.NodeId.{NodeId}
 use Rattle.cc_base.specs.declared.kind.Kind.{Kind}
 use Rattle.cc_base.specs.declared.kind.Kind.TheVariants.{Safe, Seq, Rtti, Wild}
 use Rattle.c_types.specs.declared.flow_class.FlowClass.{FlowClass}
 use Rattle.c_types.specs.declared.flow_class.FlowClass.TheVariants.{Equal, UpTile, Up, DownTile, Down, Tile, Bad}
 use Rattle.c_types.specs.Layouts.{offset_of}
 use Rattle.c_types.specs.Flows.{flow_class}
-use Rattle.integers.specs.Arithmetic.{IntegerType, int, long}
-use Rattle.cil_form.specs.declared.number.Temp.{Temp}
+use Rattle.integers.specs.Arithmetic.{int, long}
 use Rattle.cil_form.specs.declared.instr.Comparison.{Comparison}
 use Rattle.cil_form.specs.declared.instr.Comparison.TheVariants as comparison
 use Rattle.cil_form.specs.declared.instr.Point.{Point}
@@ -21,19 +19,19 @@ use Rattle.cil_form.specs.declared.instr.Convert.TheVariants as convert
 use Rattle.cured_code.specs.declared.instr.Instr.{Instr}
 use Rattle.cured_code.specs.declared.instr.Instr.TheVariants as instr
 use Rattle.cured_code.specs.Ranges.{IsInstrInRange}
-use Rattle.check_forms.specs.Pieces.{Piece, Line, Then}
+use Rattle.check_forms.specs.Pieces.{Line, Then}
 use Rattle.check_forms.specs.declared.slots.PointerSlots.{PointerSlots}
 use Rattle.check_forms.specs.declared.slots.Fixed.{Fixed}
 use Rattle.check_forms.specs.declared.slots.Distance.TheVariants.{Bytes, Elements}
 use Rattle.check_forms.specs.declared.op.Op.TheVariants as op
 use Rattle.check_forms.specs.Rows.{home_slot}
 use Rattle.sim_relation.specs.Ground.{word_number}
-use Rattle.sim_relation.specs.Points.{Exact, Sure, Known, Knowledge, Number}
-use Rattle.cure_rules.specs.Slots.{AreSlots, First, Second, Third, Moved, Size, Offset, Word, slot_of}
-use Rattle.cure_rules.specs.Known.{World, kind_of, cured_size, reach_of, column, Takes, an_integer, a_pointer, a_place, pointer_slots, copies, narrow_of, narrowed_lines}
-use Rattle.cure_rules.specs.Checks.{Seat, Need, need, size_needed, base_needs, apart_needs, number_at, wild_numbers, move_by, address_of_part, IsGuarded}
-use Rattle.cure_rules.specs.Setting.{is_wide_kind, comparison_lines}
-use Rattle.cure_rules.specs.Pointing.{moved_words, order_by, quotient_lines, equal_lines, sameness_lines, comparing, compared_lines, null_operation, PartWords, offset_by, cured_offset, Decays, IsCuringPoint, shrink_by, lower_by, conversion_by, made_type, noded_lines, ConvertedWords, NumberWords, IsCuringConvert}
+use Rattle.sim_relation.specs.Points.{Exact, Knowledge}
+use Rattle.cure_rules.specs.Slots.{AreSlots, First, Second, Moved, Size, Offset, Word, slot_of}
+use Rattle.cure_rules.specs.Known.{World, kind_of, cured_size, reach_of, column, an_integer, a_pointer, a_place, pointer_slots, copies, narrow_of, narrowed_lines}
+use Rattle.cure_rules.specs.Checks.{Seat, need, size_needed, base_needs, number_at, wild_numbers, move_by, address_of_part}
+use Rattle.cure_rules.specs.Setting.{is_wide_kind}
+use Rattle.cure_rules.specs.Pointing.{moved_words, order_by, quotient_lines, equal_lines, sameness_lines, comparing, compared_lines, null_operation, PartWords, cured_offset, Decays, IsCuringPoint, shrink_by, lower_by, conversion_by, made_type, noded_lines, ConvertedWords, NumberWords, IsCuringConvert}
 use Rattle.cure_ranges.proofs.Fitting.{Fits, PointerFits, NeedsFit, MovedBy, ConversionFits, OperandsFit, Around, names_at, Placed, NamesNode}
 use Rattle.cure_ranges.proofs.Tests.{appended, line, in_turn}
 use Rattle.cure_ranges.proofs.Rows.{home, back}

@@ -1,7 +1,6 @@
 -- The lines of a prologue are in range.
-use Rattle.std.specs.Prelude.{sum_by}
 use Rattle.std.specs.List.{filter_map, cons_option}
-use Rattle.std.proofs.Common.{◌≡◌, ℕ, zero, suc, ◌+◌, ◌<◌, ◌≤◌, List, [], ◌∷◌, ◌++◌, length, map, slice_get, Option, None, Some, refl, ap, sym, subst, ◌∙◌, inl, inr, ◌⊎◌, arith}
+use Rattle.std.proofs.Common.{◌≡◌, ℕ, suc, ◌+◌, ◌<◌, ◌≤◌, List, [], ◌∷◌, length, map, slice_get, Option, None, Some, refl, ap, subst, inl, inr, arith}
 use Rattle.std.proofs.lemmas.List.Sums.{sum_by-cons}
 use Rattle.cc_base.specs.declared.number.TypeId.{TypeId}
 use Rattle.cc_base.specs.declared.number.NodeId.{NodeId}
@@ -11,7 +10,7 @@ use Rattle.src_mem.specs.Runs as runs
 use Rattle.cil_form.specs.declared.program.Parameter.{Parameter}
 use Rattle.cil_form.specs.declared.number.Object.TheVariants as object
 use Rattle.cured_code.specs.declared.instr.Instr.{Instr}
-use Rattle.check_forms.specs.Pieces.{Piece, Line, Then}
+use Rattle.check_forms.specs.Pieces.{Line, Then}
 use Rattle.sim_relation.specs.Points.{KeptSlot, Start}
 use Rattle.cure_rules.specs.Slots.{AreSlots, Address}
 use Rattle.cure_rules.specs.Known.{World, kind_of, words_by, words_in}

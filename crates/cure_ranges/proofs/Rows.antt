@@ -1,5 +1,5 @@
 -- What an operation asks reads what there is, where its operands and its numbers are there.
-use Rattle.std.proofs.Common.{◌≡◌, ℕ, zero, suc, ◌+◌, ◌<◌, ◌≤◌, Bool, true, false, List, [], ◌∷◌, ◌++◌, length, Option, None, Some, refl, ap, sym, subst, ◌∙◌, arith}
+use Rattle.std.proofs.Common.{◌≡◌, ℕ, suc, ◌<◌, ◌≤◌, Bool, true, false, List, [], ◌∷◌, ◌++◌, Option, None, Some, refl, arith}
 use Rattle.std.specs.Prelude.{nat_eq, if◌then◌else◌}
 use Rattle.cc_base.specs.declared.fault.Check.{Check}
 use Rattle.cc_base.specs.declared.fault.Check.TheVariants as check
@@ -11,8 +11,6 @@ use Rattle.check_forms.specs.declared.slots.PointerSlots.{PointerSlots}
 use Rattle.check_forms.specs.declared.slots.Fixed.{Fixed}
 use Rattle.check_forms.specs.declared.slots.Distance.{Distance}
 use Rattle.check_forms.specs.declared.slots.Distance.TheVariants.{Bytes, Elements}
-use Rattle.check_forms.specs.declared.slots.Direction.{Direction}
-use Rattle.check_forms.specs.declared.slots.Direction.TheVariants.{Forward, Backward}
 use Rattle.check_forms.specs.declared.op.WildNumbers.{WildNumbers}
 use Rattle.check_forms.specs.declared.op.Reach.{Reach}
 use Rattle.check_forms.specs.declared.op.Factor.{Factor}
@@ -21,10 +19,10 @@ use Rattle.check_forms.specs.declared.op.Conversion.{Conversion}
 use Rattle.check_forms.specs.declared.op.Conversion.TheVariants.{Free, Down, Shrink}
 use Rattle.check_forms.specs.declared.op.Op.{Op}
 use Rattle.check_forms.specs.declared.op.Op.TheVariants.{ReadInteger, ReadPointer, WriteInteger, WritePointer, CopyPlain, CopyPointers, KeepCell, Member, Move, Order, Equate, Call, ReturnPointer, Convert, Allocate, DivideUnsigned, DivideSigned, EnterMain}
-use Rattle.check_forms.specs.Conditions.{Condition, Never, IsNotZero, IsInPart, IsByteInPart, IsWithinPart, IsInArea, IsByteInArea, IsWithinArea, IsNoDeeper, Unless, UnlessNull, AreElementsApart, IsAtLeast}
+use Rattle.check_forms.specs.Conditions.{Condition, IsInPart, IsByteInPart, IsInArea, IsByteInArea, IsNoDeeper, Unless, AreElementsApart, IsAtLeast}
 use Rattle.check_forms.specs.Rows.{Asked, asked, home_slot, in_part, in_area, reached, based, factor_asked, near, settled, all_asked, equated, of_one, elements_apart, kept_of, aligned, plain_asked, pointer_asked, member_asked, call_asked, convert_asked, allocated, flat_conditions}
 use Rattle.cure_rules.specs.Checks.{Need, need, size_needed, reach_needs, base_needs, aligned_needs, tagged_needs, factor_needs, distance_needs, near_needs, member_needs, apart_needs, call_needs, convert_needs, allocated_needs, numbers_of}
-use Rattle.cure_rules.specs.Slots.{Size, Signature, Last, Seven, Eight, Least, Span, LeastFactor, SpanFactor}
+use Rattle.cure_rules.specs.Slots.{Size}
 use Rattle.cure_ranges.proofs.Fitting.{PointerFits, DistanceFits, Reads, height, AsksFit, ReadAll, NeedsFit, MovedBy, ConversionFits, OperandsFit}
 
 -- Lists

@@ -1,9 +1,8 @@
 -- The lines of constants, copies, integer operators and truth values are in range.
 use Rattle.std.specs.Prelude.{◌-◌, ◌^◌, if◌then◌else◌}
-use Rattle.std.proofs.Common.{◌≡◌, ℕ, zero, suc, ◌+◌, ◌<◌, ◌≤◌, Bool, true, false, List, [], ◌∷◌, ◌++◌, length, Option, None, Some, refl, ap, sym, subst, ◌∙◌, inl, inr, ◌⊎◌, arith}
+use Rattle.std.proofs.Common.{◌≡◌, ℕ, ◌+◌, ◌<◌, ◌≤◌, Bool, true, false, List, [], ◌∷◌, Option, None, Some, refl, sym, subst, inl, inr, arith}
 use Rattle.cc_base.specs.declared.place.Place.{Place}
 use Rattle.cc_base.specs.declared.number.TypeId.{TypeId}
-use Rattle.cc_base.specs.declared.number.NodeId.{NodeId}
 use Rattle.cc_base.specs.declared.kind.Kind.{Kind}
 use Rattle.cc_base.specs.declared.kind.Kind.TheVariants.{Safe, Seq, Rtti, Wild}
 use Rattle.integers.specs.Words.{word}
@@ -23,17 +22,17 @@ use Rattle.cured_code.specs.declared.instr.Instr.TheVariants as instr
 use Rattle.cured_code.specs.Ranges.{IsInstrInRange}
 use Rattle.check_forms.specs.declared.slots.Fixed.{Fixed}
 use Rattle.check_forms.specs.declared.op.Op.TheVariants.{DivideUnsigned, DivideSigned}
-use Rattle.check_forms.specs.Pieces.{Piece, Line, Then}
+use Rattle.check_forms.specs.Pieces.{Line, Then}
 use Rattle.sim_relation.specs.Ground.{word_number, function_word}
-use Rattle.sim_relation.specs.Points.{Form, Exact, Low, Sure, Known, Knowledge, Content, Number, Start}
+use Rattle.sim_relation.specs.Points.{Exact, Known, Knowledge, Content, Number, Start}
 use Rattle.cure_rules.specs.Slots.{AreSlots, First, Mask, slot_of}
-use Rattle.cure_rules.specs.Known.{World, kind_of, column, Takes, held_words, an_integer, a_pointer, a_place, copies, noughts, Narrows}
+use Rattle.cure_rules.specs.Known.{World, kind_of, column, held_words, an_integer, a_pointer, a_place, copies, noughts}
 use Rattle.cure_rules.specs.Functions.{IsKnownContent}
 use Rattle.cure_rules.specs.Checks.{Seat, divide_by}
 use Rattle.cure_rules.specs.Setting.{Fills, FunctionWords, ObjectWords, CopiedWords, IsCuringSet, is_wide, TestedBy, IsTested, Reckons, Divides, Masks, ShiftsLeft, ShiftsRight, less, comparison_lines, Compares, IsCuringBinary, Tells, IsCuringCalculate}
 use Rattle.cure_ranges.proofs.Fitting.{Fits, OperandsFit, Around, names_at, Placed, NamesObject}
 use Rattle.cure_ranges.proofs.Tests.{line, in_turn}
-use Rattle.cure_ranges.proofs.Guards.{word_few, held_few, at_0, at_1, copied, nulled, narrows, left_at, left_none, included, exact, lowly, role, nought, kept, room, wide, sets, number, guarded}
+use Rattle.cure_ranges.proofs.Guards.{word_few, held_few, at_0, at_1, copied, nulled, narrows, left_at, left_none, exact, lowly, role, nought, kept, room, wide, sets, number, guarded}
 
 module _ (w : World) (s : AreSlots w.slots) (r : Around) (b n : ℕ) (deep : n + 4 ≤ 1024) where
   -- Constants and copies

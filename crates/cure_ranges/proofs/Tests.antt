@@ -1,7 +1,6 @@
 -- The lines of tests and of conditions are in range.
 use Rattle.std.specs.Prelude.{max}
-use Rattle.std.proofs.Common.{◌≡◌, ℕ, zero, suc, ◌+◌, ◌<◌, ◌≤◌, List, [], ◌∷◌, ◌++◌, length, refl, ap, sym, subst, ◌∙◌, arith}
-use Rattle.std.specs.Prelude.{All}
+use Rattle.std.proofs.Common.{◌≡◌, ℕ, suc, ◌+◌, ◌<◌, ◌≤◌, List, [], ◌∷◌, ◌++◌, sym, subst, arith}
 use Rattle.std.proofs.lemmas.List.Elements.{All-cons}
 use Rattle.cc_base.specs.declared.fault.Check.{Check}
 use Rattle.cc_base.specs.declared.place.Place.{Place}
@@ -12,7 +11,6 @@ use Rattle.cured_code.specs.Ranges.{Names, IsInstrInRange, AreInstrsInRange, ins
 use Rattle.cured_code.specs.Straight.{instrs}
 use Rattle.cured_code.proofs.RangeLaws.{list-code}
 use Rattle.check_forms.specs.declared.slots.PointerSlots.{PointerSlots}
-use Rattle.check_forms.specs.declared.slots.Fixed.{Fixed}
 use Rattle.check_forms.specs.declared.slots.Distance.{Distance}
 use Rattle.check_forms.specs.declared.slots.Distance.TheVariants.{Bytes, Elements}
 use Rattle.check_forms.specs.declared.slots.Direction.{Direction}

@@ -1,6 +1,6 @@
 -- The lines of a body are in range.
-use Rattle.std.specs.Prelude.{max, if◌then◌else◌}
-use Rattle.std.proofs.Common.{◌≡◌, ℕ, zero, suc, ◌+◌, ◌<◌, ◌≤◌, Bool, true, false, List, [], ◌∷◌, ◌++◌, length, slice_get, Option, None, Some, refl, ap, sym, subst, ◌∙◌, inl, inr, ◌⊎◌, arith}
+use Rattle.std.specs.Prelude.{max}
+use Rattle.std.proofs.Common.{◌≡◌, ℕ, suc, ◌+◌, ◌≤◌, List, [], ◌∷◌, length, refl, ap, arith}
 use Rattle.std.proofs.lemmas.Option.{slice_get_within}
 use Rattle.cc_base.specs.declared.place.Place.{Place}
 use Rattle.cc_base.specs.declared.number.TypeId.{TypeId}
@@ -12,10 +12,10 @@ use Rattle.cil_form.specs.Shape.{nest_of, nest_of_row, nest_of_code}
 use Rattle.cil_form.specs.Typing.{Context, Typing, HeldType, IntegerOf, PointerTo, PlaceOf, IsShaped, IsRowShaped, AreShaped, inside}
 use Rattle.cured_code.specs.declared.instr.Instr.{Instr}
 use Rattle.cured_code.specs.declared.instr.Instr.TheVariants as instr
-use Rattle.check_forms.specs.Pieces.{Piece, Line, Then, Choice, Blocked, Looped}
+use Rattle.check_forms.specs.Pieces.{Line, Then, Choice, Blocked, Looped}
 use Rattle.check_forms.specs.declared.op.Op.TheVariants as op
 use Rattle.check_forms.specs.Rows.{home_slot}
-use Rattle.sim_relation.specs.Points.{Known, Knowledge}
+use Rattle.sim_relation.specs.Points.{Knowledge}
 use Rattle.cure_rules.specs.Slots.{AreSlots}
 use Rattle.cure_rules.specs.Known.{World, kind_of, pointer_slots}
 use Rattle.cure_rules.specs.Code.{Blocks, ReturnGuard, Returns, ReturnsNone, IsCuring, IsCuringRow, AreCuring}

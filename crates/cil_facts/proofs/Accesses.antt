@@ -13,7 +13,7 @@ use Rattle.c_types.specs.Table.{shape_at, is_function}
 use Rattle.c_types.specs.Cells.{Cell, raw, pointer, mixed, incomplete}
 use Rattle.c_types.specs.Equality.{cells_of}
 use Rattle.c_types.specs.Flows.{HeldPointer, IsOfOneClass, CellsAgree, pointer_in_cell, and_then}
-use Rattle.c_types.specs.Solutions.{SpreadsWild, HoldsMixed, at_place, in_member}
+use Rattle.c_types.specs.Solutions.{SpreadsWild, IsWildWhereMixed, HoldsMixed, at_place, in_member}
 use Rattle.type_laws.proofs.Pointers.{class_own, class_turned, class_twice}
 use Rattle.type_laws.proofs.OneClass.{data-pointer}
 use Rattle.integers.specs.Arithmetic.{IntegerType, converted}
@@ -77,6 +77,9 @@ module _ (k : Context) (a : Around) (solved : IsSolvedFor k a.setting) where
         let it : record { node = m; to = t } ≡ p = cc (f) in
         subst (λ (q : HeldPointer). a.setting.kind q.node ≡ Wild) it (agreeing i x.0 m t x.1 x.2)
 
+  -- a mixed union that a data type holds is held by one of its class
+  module _ (v u : TypeId) (fv : is_function a.setting.table v ≡ false) (fu : is_function a.setting.table u ≡ false)
+      (class : IsOfOneClass a.setting.table a.setting.kind v u) where
     mixed-there : (i j : ℕ) (t : TypeId) (c : Cell) → slice_get (cells_of a.setting.table v) i ≡ Some c
         → CellsAgree a.setting.table a.setting.kind c (mixed t j) → HoldsMixed a.setting.table v t
     mixed-there i j t raw e g = absurd g
@@ -94,30 +97,45 @@ module _ (k : Context) (a : Around) (solved : IsSolvedFor k a.setting) where
       there n v u fv fu class spreads wild i p (slice_get (cells_of a.setting.table u) i) refl
       (sym (data-pointer a.setting.table u (shape_at a.setting.table u) i fu) ∙ h)
   spreads-along n v u fv fu class spreads wild p (in_member x y m q h contains held) =
-      spreads wild p (in_member v y m p (holds-mixed n v u fv fu class spreads wild y h) contains held)
+      spreads wild p (in_member v y m p (holds-mixed v u fv fu class y h) contains held)
+
+  -- of a node whose address is one of a data type
+  module _ (node : NodeId) (t : TypeId) (data_type : is_function a.setting.table t ≡ false) where
+    -- WILD spreads to its pointers, and it is WILD where it holds a mixed union
+    abbrev Allowed : TypeId → Type 0
+    Allowed v = SpreadsWild a.setting.table a.setting.kind node v × IsWildWhereMixed a.setting.table a.setting.kind node v
+
+    pointee-allowed : Contains k.sites (site.Pointee node t) → Allowed t
+    pointee-allowed known = let s = solved.solution.each (site.Pointee node t) known in (s.spreads, s.mixed)
+
+    named-allowed : (v : TypeId) → Allowed v → (v ≡ t) ⊎ AreDeclaredAlike k.sites v t → Allowed t
+    named-allowed v s which = ⊎_elim (λ same. subst (λ y. Allowed y) same s) by_class which
+      where
+        by_class : AreDeclaredAlike k.sites v t → Allowed t
+        by_class alike =
+            let class = alike-class v t alike in
+            let back = class_turned a.setting.table a.setting.kind v t class in
+            let fv = equal-data a.setting.table solved.well_formed t v data_type back.equal in
+            (spreads-along node v t fv data_type class s.0, λ x h. s.1 x (holds-mixed v t fv data_type class x h))
+
+    pub place-allowed : IsAsked k.sites (PlaceOf node t) → Allowed t
+    place-allowed known =
+        ⊎_elim pointee-allowed
+        (λ home. let s = solved.solution.each (site.Home node home.0) home.1 in named-allowed home.0 (s.spreads, s.mixed) home.2) known
 
   module _ (types after : Typing) (c : Local) (facts : AreFacts k a types c) where
+    -- behind an address of a data type
+    pub allowed-held : (t : TypeId) → is_function a.setting.table t ≡ false → (source : Temp) (node : NodeId) → HoldsAddress types source node t
+        → SpreadsWild a.setting.table a.setting.kind node t × IsWildWhereMixed a.setting.table a.setting.kind node t
+    allowed-held t data_type source node h =
+        ⊎_elim (λ i. pointee-allowed node t data_type (facts.asked source (PointerTo node t) i.1))
+        (λ i. place-allowed node t data_type (facts.asked source (PlaceOf node t) i.1)) h
+
     -- behind an address of a pointer type
     spreads-held : (t : TypeId) (m : NodeId) (x : TypeId) → shape_at a.setting.table t ≡ shape.Pointer m x → (source : Temp) (node : NodeId)
         → HoldsAddress types source node t → SpreadsWild a.setting.table a.setting.kind node t
     spreads-held t m x e source node h =
-        ⊎_elim (λ i. pointee (facts.asked source (PointerTo node t) i.1)) (λ i. place (facts.asked source (PlaceOf node t) i.1)) h
-      where
-        pointee : Contains k.sites (site.Pointee node t) → SpreadsWild a.setting.table a.setting.kind node t
-        pointee known = let s = solved.solution.each (site.Pointee node t) known in s.spreads
-
-        data_type : is_function a.setting.table t ≡ false
-        data_type = no_function a.setting.table t (shape.Pointer m x) e refl
-
-        named : (v : TypeId) → SpreadsWild a.setting.table a.setting.kind node v → (v ≡ t) ⊎ AreDeclaredAlike k.sites v t
-            → SpreadsWild a.setting.table a.setting.kind node t
-        named v s which = ⊎_elim (λ same. subst (λ y. SpreadsWild a.setting.table a.setting.kind node y) same s)
-            (λ alike. let class = alike-class v t alike in
-            spreads-along node v t
-            (equal-data a.setting.table solved.well_formed t v data_type (class_turned a.setting.table a.setting.kind v t class).equal) data_type class s) which
-
-        place : IsAsked k.sites (PlaceOf node t) → SpreadsWild a.setting.table a.setting.kind node t
-        place known = ⊎_elim pointee (λ home. let s = solved.solution.each (site.Home node home.0) home.1 in named home.0 s.spreads home.2) known
+        let held = allowed-held t (no_function a.setting.table t (shape.Pointer m x) e refl) source node h in held.0
 
     -- the pointer that is an address
     as-pointer : (v : Value) (node : NodeId) (t : TypeId) → IsHeldAs a.setting k.sites c.state.memory a.depth (PointerTo node t) v

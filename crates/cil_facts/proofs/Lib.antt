@@ -5,3 +5,4 @@ pub mod Sets
 pub mod Calculations
 pub mod Points
 pub mod Copies
+pub mod PartStores

@@ -1,8 +1,9 @@
 -- Pointers that move, arrays that decay, `&`, and tests for null keep the facts.
-use Rattle.std.proofs.Common.{◌≡◌, ◌⊎◌, ℕ, Bool, true, false, [], refl, ap, sym, subst}
+use Rattle.std.proofs.Common.{◌≡◌, ◌⊎◌, ◌∙◌, ℕ, zero, suc, ◌<◌, Bool, true, false, not, List, [], ◌∷◌, length, slice_get, Some, refl, ap, sym, subst, arith}
+use Rattle.std.proofs.lemmas.Option.{slice_get-get_or}
 use Rattle.std.specs.Prelude.{◌↔◌}
 use Rattle.std.proofs.lemmas.List.Elements.{All-contains}
-use Rattle.std.specs.List.{Contains}
+use Rattle.std.specs.List.{All, Contains}
 use Rattle.cc_base.specs.declared.place.Place.{Place}
 use Rattle.cc_base.specs.declared.kind.Kind.TheVariants.{Seq, Wild}
 use Rattle.cc_base.specs.declared.number.NodeId.{NodeId}
@@ -10,17 +11,22 @@ use Rattle.cc_base.specs.declared.number.TypeId.{TypeId}
 use Rattle.c_types.specs.declared.shape.TypeShape.{TypeShape}
 use Rattle.c_types.specs.declared.shape.TypeShape.TheVariants as shape
 use Rattle.c_types.specs.declared.site.Site.TheVariants as site
-use Rattle.c_types.specs.Table.{IsComplete, shape_at, members_at, parts_at, parts_of_shape, is_complete_entry}
+use Rattle.c_types.specs.Table.{IsComplete, IsAggregate, shape_at, members_at, parts_at, parts_of_shape, is_aggregate_shape, is_union_shape, is_empty, is_complete_entry}
+use Rattle.c_types.specs.Layouts.{member_at}
+use Rattle.c_types.specs.Solutions.{IsUnionAllowed, IsWildWhereMixed}
 use Rattle.c_types.proofs.Lists.{contains_head}
 use Rattle.integers.specs.Arithmetic.{IntegerType, int}
 use Rattle.runs.specs.Outcome.{done}
 use Rattle.src_mem.specs.Pointers.{Value, Integer, Address, Pointer, is_null}
-use Rattle.src_mem.specs.Operations.{node_at, pointee, kind_in, node_of_shape, pointee_of_shape, amount, moved, decayed}
-use Rattle.src_mem.specs.Values.{moved_value, null_value, negated_where, decayed_value, addressed}
-use Rattle.src_mem.specs.Facts.{IsHeldIn}
+use Rattle.src_mem.specs.Operations.{node_at, pointee, kind_in, node_of_shape, pointee_of_shape, amount, moved, member, decayed}
+use Rattle.src_mem.specs.Values.{moved_value, null_value, negated_where, member_value, decayed_value, addressed}
+use Rattle.src_mem.specs.Facts.{IsHeldIn, IsHeldBy, IsPlaceIn}
 use Rattle.src_mem.specs.Laws.{Gives}
 use Rattle.facts_kept.specs.Kept.{GivesPointer, GivesAddress}
 use Rattle.facts_kept.proofs.Giving.{gives-from, gives-more}
+use Rattle.facts_kept.proofs.Complete.{complete-data}
+use Rattle.facts_kept.proofs.PartsSpread.{listed-at}
+use Rattle.facts_kept.proofs.PlaceParts.{gives-member_place}
 use Rattle.facts_kept.proofs.Moving.{gives-moved}
 use Rattle.facts_kept.proofs.Addresses.{gives-decayed}
 use Rattle.facts_kept.proofs.Addressing.{gives-addressed, gives-decayed_place}
@@ -34,7 +40,7 @@ use Rattle.cil_form.specs.Meaning.{act, is_backward}
 use Rattle.cil_facts.specs.Held.{IsHeldAs, IsSolvedFor, AreFacts, GoesOn}
 use Rattle.cil_facts.proofs.Conversions.{shape-in, Given, goes-held}
 use Rattle.cil_facts.proofs.Calculations.{truth-fits}
-use Rattle.cil_facts.proofs.Accesses.{address-held}
+use Rattle.cil_facts.proofs.Accesses.{address-held, allowed-held}
 
 module _ (k : Context) (a : Around) (solved : IsSolvedFor k a.setting) (types after : Typing) (c : Local) (facts : AreFacts k a types c) where
   complete-in : (t : TypeId) → IsComplete k.table t → IsComplete a.setting.table t
@@ -91,10 +97,10 @@ module _ (k : Context) (a : Around) (solved : IsSolvedFor k a.setting) (types af
 
   -- Arrays
 
-  array-complete : (array element : TypeId) (n : ℕ) → shape_at a.setting.table array ≡ shape.Array element n → IsComplete a.setting.table array
+  pub array-complete : (array element : TypeId) (n : ℕ) → shape_at a.setting.table array ≡ shape.Array element n → IsComplete a.setting.table array
   array-complete array element n e = ap (λ s. is_complete_entry s (members_at a.setting.table array)) e
 
-  element-complete : (array element : TypeId) (n : ℕ) → shape_at a.setting.table array ≡ shape.Array element n → IsComplete a.setting.table element
+  pub element-complete : (array element : TypeId) (n : ℕ) → shape_at a.setting.table array ≡ shape.Array element n → IsComplete a.setting.table element
   element-complete array element n e =
       let P : TypeShape → Type 0 = λ s. (m : TypeId) → Contains (parts_of_shape s (members_at a.setting.table array)) m → IsComplete a.setting.table m in
       subst P e
@@ -168,3 +174,76 @@ module _ (k : Context) (a : Around) (solved : IsSolvedFor k a.setting) (types af
       goes-held k a solved types after c facts (instr.Point (point.Address into source outer inner t)) into (PointerTo inner t)
       (addressed a.setting inner t (c.temps source) c.state) shaped s.4
       (address-given outer inner t (c.temps source) (complete-in t s.2.1) shaped.1.0 shaped.1.1.0 (facts.held source (PlaceOf outer t) s.3.1))
+
+  -- Members
+
+  pub member-complete : (t : TypeId) (i : ℕ) → IsAggregate a.setting.table t → i < length (members_at a.setting.table t)
+      → IsComplete a.setting.table (member_at a.setting.table t i)
+  member-complete t i aggregate l = by (shape_at a.setting.table t) refl aggregate
+    where
+      of : (s : TypeShape) → shape_at a.setting.table t ≡ s → parts_of_shape s (members_at a.setting.table t) ≡ members_at a.setting.table t
+          → IsComplete a.setting.table (member_at a.setting.table t i)
+      of s e f =
+          All-contains (IsComplete a.setting.table) (members_at a.setting.table t) (member_at a.setting.table t i)
+          (subst (λ ms. All (IsComplete a.setting.table) ms) (ap (λ x. parts_of_shape x (members_at a.setting.table t)) e ∙ f)
+          (solved.well_formed.each t).parts)
+          (listed-at (members_at a.setting.table t) i (member_at a.setting.table t i) (slice_get-get_or (members_at a.setting.table t) i t l))
+
+      by : (s : TypeShape) → shape_at a.setting.table t ≡ s → is_aggregate_shape s ≡ true → IsComplete a.setting.table (member_at a.setting.table t i)
+      by (shape.Struct tag) e f = of (shape.Struct tag) e refl
+      by (shape.Union tag) e f = of (shape.Union tag) e refl
+      by shape.Void e f = absurd (cc (f))
+      by (shape.Integer b s) e f = absurd (cc (f))
+      by (shape.Pointer n u) e f = absurd (cc (f))
+      by (shape.Array u n) e f = absurd (cc (f))
+      by (shape.Function ps r) e f = absurd (cc (f))
+
+  -- each union of the program is allowed; one without members has none that correspond
+  pub union-allowed : (v : TypeId) (tag : ℕ) → shape_at a.setting.table v ≡ shape.Union tag → IsUnionAllowed a.setting.table a.setting.kind v
+  union-allowed v tag e = by (members_at a.setting.table v) refl
+    where
+      none : (u : TypeId) → Contains [] u → ⊥
+      none u h = let n = h.1 in omega (arith, n)
+
+      by : (ms : List TypeId) → members_at a.setting.table v ≡ ms → IsUnionAllowed a.setting.table a.setting.kind v
+      by [] f = λ plain u m h. absurd (none u (subst (λ xs. Contains xs u) f h))
+      by (x ∷ xs) f =
+          let known = solved.told.unions v (ap is_union_shape e)
+              (ap (λ s. is_complete_entry s (members_at a.setting.table v)) e ∙ ap (λ ms. not (is_empty ms)) f) in
+          solved.solution.each (site.Union v known.0) known.1
+
+  member-given : (at : Place) (outer : NodeId) (t : TypeId) (i : ℕ) (inner : NodeId) (p : Pointer) → IsComplete a.setting.table t
+      → IsAggregate a.setting.table t → i < length (members_at a.setting.table t)
+      → IsWildWhereMixed a.setting.table a.setting.kind outer t → Contains k.sites (site.Pointee inner (member_at a.setting.table t i))
+      → Contains k.sites (site.Linked inner outer) → IsHeldBy a.setting k.sites c.state.memory a.depth outer t p
+      → Gives (member_value a.setting at outer t i inner (member_at a.setting.table t i) (Address p) c.state)
+      (Given k a solved types after c facts (PlaceOf inner (member_at a.setting.table t i)))
+  member-given at outer t i inner p complete aggregate l mixed told linked h =
+      gives-from
+      (λ q r. GivesPointer a.setting k.sites a.depth (a.setting.kind inner) (member_at a.setting.table t i) c.state q r
+      × IsPlaceIn a.setting c.state.memory a.depth (a.setting.kind inner) (member_at a.setting.table t i) q)
+      (Given k a solved types after c facts (PlaceOf inner (member_at a.setting.table t i)))
+      (member a.setting at (a.setting.kind outer) t i inner (member_at a.setting.table t i) p c.state) (λ q. done (Address q))
+      (gives-member_place a.setting solved.well_formed k.sites c.state a.depth union-allowed at outer inner t i p (linked-back inner outer linked) mixed
+      complete aggregate l (member-complete t i aggregate l) told facts.memory.outlines h.held)
+      (λ q r g. (g.0.memory, (record { held = g.0.held; made = λ z. g.0.made }, g.1)))
+
+  pub member-keeps : (into source : Temp) (outer : NodeId) (t : TypeId) (i : ℕ) (inner : NodeId) (u : TypeId) (at : Place)
+      → IsShaped (instr.Point (point.Member into source outer t i inner u at)) k types after
+      → GoesOn (act (instr.Point (point.Member into source outer t i inner u at)) a c) (AreFacts k a after)
+  member-keeps into source outer t i inner u at shaped =
+      let s = shaped.0 in
+      let complete = complete-in t s.2.1 in
+      let p = address-held k a solved types after c facts source outer t s.6 in
+      let is : member_at a.setting.table t i ≡ u = ap (λ table. member_at table t i) solved.table ∙ s.5 in
+      goes-held k a solved types after c facts (instr.Point (point.Member into source outer t i inner u at)) into (PlaceOf inner u)
+      (member_value a.setting at outer t i inner u (c.temps source) c.state) shaped s.7
+      (subst
+      (λ x. Gives (member_value a.setting at outer t i inner x (c.temps source) c.state) (Given k a solved types after c facts (PlaceOf inner x))) is
+      (subst
+      (λ v. Gives (member_value a.setting at outer t i inner (member_at a.setting.table t i) v c.state)
+      (Given k a solved types after c facts (PlaceOf inner (member_at a.setting.table t i)))) (sym p.1)
+      (member-given at outer t i inner p.0 complete (subst (λ table. IsAggregate table t) (sym solved.table) s.3)
+      (subst (λ table. i < length (members_at table t)) (sym solved.table) s.4)
+      (let held = allowed-held k a solved types after c facts t (complete-data a.setting.table solved.well_formed t complete) source outer s.6 in held.1)
+      (subst (λ x. Contains k.sites (site.Pointee inner x)) (sym is) shaped.1.0) shaped.1.1.0 p.2)))

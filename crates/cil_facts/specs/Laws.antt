@@ -1,9 +1,10 @@
 -- The statements of the laws: which instructions keep the facts.
-use Rattle.std.specs.Prelude.{Bool}
+use Rattle.std.specs.Prelude.{ℕ, Bool}
 use Rattle.cc_base.specs.declared.place.Place.{Place}
 use Rattle.cc_base.specs.declared.number.NodeId.{NodeId}
 use Rattle.cc_base.specs.declared.number.TypeId.{TypeId}
 use Rattle.cil_form.specs.declared.number.Temp.{Temp}
+use Rattle.cil_form.specs.declared.number.Object.{Object}
 use Rattle.cil_form.specs.declared.instr.Set.{Set}
 use Rattle.cil_form.specs.declared.instr.Calculate.{Calculate}
 use Rattle.cil_form.specs.declared.instr.Direction.{Direction}
@@ -53,3 +54,14 @@ DecaysKeepTheFacts = (into source : Temp) (outer : NodeId) (array : TypeId) (che
 
 abbrev pub AddressesKeepTheFacts : Type 0
 AddressesKeepTheFacts = (into source : Temp) (outer inner : NodeId) (t : TypeId) → KeepsFacts (instr.Point (point.Address into source outer inner t))
+
+abbrev pub MembersKeepTheFacts : Type 0
+MembersKeepTheFacts = (into source : Temp) (outer : NodeId) (t : TypeId) (i : ℕ) (inner : NodeId) (u : TypeId) (at : Place)
+    → KeepsFacts (instr.Point (point.Member into source outer t i inner u at))
+
+abbrev pub PartStoresKeepTheFacts : Type 0
+PartStoresKeepTheFacts = (o : Object) (home : NodeId) (u : TypeId) (offset : ℕ) (value : Temp) (t : TypeId) (at assignment : Place)
+    → KeepsFacts (instr.Access (access.Store (target.Part o home u offset) value t at assignment))
+
+abbrev pub ClearingKeepsTheFacts : Type 0
+ClearingKeepsTheFacts = (o : Object) → KeepsFacts (instr.Access (access.Clear o))

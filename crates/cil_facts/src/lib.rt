@@ -4,7 +4,7 @@
 //! does nothing.
 #![tactic(auto)]
 
-ghost use Rattle.cil_facts.specs.Laws.{SettingsKeepTheFacts, CalculationsKeepTheFacts, IntegerConversionsKeepTheFacts, ConversionsToPointersKeepTheFacts, PointerConversionsKeepTheFacts, LoadsKeepTheFacts, StoresKeepTheFacts, CopiesKeepTheFacts, MovesKeepTheFacts, NullTestsKeepTheFacts, DecaysKeepTheFacts, AddressesKeepTheFacts};
+ghost use Rattle.cil_facts.specs.Laws.{SettingsKeepTheFacts, CalculationsKeepTheFacts, IntegerConversionsKeepTheFacts, ConversionsToPointersKeepTheFacts, PointerConversionsKeepTheFacts, LoadsKeepTheFacts, StoresKeepTheFacts, CopiesKeepTheFacts, MovesKeepTheFacts, NullTestsKeepTheFacts, DecaysKeepTheFacts, AddressesKeepTheFacts, MembersKeepTheFacts, PartStoresKeepTheFacts, ClearingKeepsTheFacts};
 
 /// A constant, a null pointer, the name of a function, the address of an object, and the copy of a temporary.
 pub fn settings_keep_the_facts()
@@ -29,9 +29,12 @@ pub fn loads_keep_the_facts()
     ensures { LoadsKeepTheFacts }
 {}
 
-/// A store of an integer or of a pointer, through a pointer or to a place.
+/// A store of an integer or of a pointer: through a pointer or to a place, and into a part of an object, as an initialiser makes it; and
+/// the clearing of an object.
 pub fn stores_keep_the_facts()
-    ensures { StoresKeepTheFacts }
+    ensures pointers { StoresKeepTheFacts }
+    ensures parts { PartStoresKeepTheFacts }
+    ensures clearing { ClearingKeepsTheFacts }
 {}
 
 /// A copy of a struct or union, from and to a pointer or a place.
@@ -39,10 +42,12 @@ pub fn copies_keep_the_facts()
     ensures { CopiesKeepTheFacts }
 {}
 
-/// A pointer that moves by elements, the comparison of one with a null constant, an array that decays, and `&` of a place.
+/// A pointer that moves by elements, the comparison of one with a null constant, an array that decays, `&` of a place,
+/// and the place of a member.
 pub fn pointer_operations_keep_the_facts()
     ensures moves { MovesKeepTheFacts }
     ensures null_tests { NullTestsKeepTheFacts }
     ensures arrays { DecaysKeepTheFacts }
     ensures addresses { AddressesKeepTheFacts }
+    ensures members { MembersKeepTheFacts }
 {}

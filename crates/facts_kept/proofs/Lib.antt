@@ -22,6 +22,8 @@ pub mod Writing
 pub mod Moving
 pub mod Parts
 pub mod Addresses
+pub mod PlaceParts
+pub mod PartsSpread
 pub mod Allocating
 pub mod Moments
 pub mod Homes

@@ -33,7 +33,7 @@ start : (ls : List Layout) (a : ℕ) → a ≤ fold (λ s (m : Layout). max s m.
 start [] a = omega arith
 start (l ∷ ls) a = let h = start ls (max a l.size) in omega (arith, h)
 
-at-most : (f : TypeId → Layout) (ms : List TypeId) (a i : ℕ) (z : TypeId) → i < length ms
+pub at-most : (f : TypeId → Layout) (ms : List TypeId) (a i : ℕ) (z : TypeId) → i < length ms
     → (f (slice_index_or ms i z)).size ≤ fold (λ s (m : Layout). max s m.size) a (map f ms)
 at-most f [] a i z h = absurd (omega (arith, h))
 at-most f (m ∷ ms) a zero z h = let k = start (map f ms) (max a (f m).size) in omega (arith, k)

@@ -135,17 +135,12 @@ module _ (w : Setting) (sound : IsWellFormed w.table) (sites : List Site) where
             (λ v. wild-any w sound (outlines_of s.memory) u v q (subst (λ y. IsValueOf w (outlines_of s.memory) y u q) wild value.value))
             (older x.location x.object x.right.found (subst (λ y. holds w s.memory (Outlives y q) ≡ true) x.is c.1.1.0)) made))
 
-    -- a pointer is written, with its conditions
-    pub gives-written_pointer : (own assignment : Place) (n : NodeId) (p : Pointer) → SpreadsWild w.table w.kind n t
-        → IsHeldIn w s.memory depth (w.kind n) t p
+    -- a pointer is written, with its conditions, which lead to a place
+    written_pointer : (own assignment : Place) (n : NodeId) (p : Pointer) → SpreadsWild w.table w.kind n t
+        → ((k : Kind) → w.kind n ≡ k → AllHold w s.memory (asked_of 8 k p) → IsPlaceIn w s.memory depth k t p)
         → Gives (write w own assignment (w.kind n) t p (Address q) s) (λ x r. IsKept w sites s.memory r.memory)
-    gives-written_pointer own assignment n p spreads held = by (w.kind n) refl
+    written_pointer own assignment n p spreads placed = by (w.kind n) refl
       where
-        placed : (k : Kind) → IsHeldIn w s.memory depth k t p → AllHold w s.memory (asked_of 8 k p) → IsPlaceIn w s.memory depth k t p
-        placed k h c =
-            held-place w sound (outlines_of s.memory) (lives_of s.memory) depth s.memory k t p (no_function w.table t (shape.Pointer m u) e refl) h
-            (subst (λ z. AllHold w s.memory (asked_of z k p)) (sym (pointer_size w.table t m u e)) c)
-
         stores : (k : Kind)
             → (AllHold w s.memory (conditions_of (WritePointer q) k p) → Gives (store_pointer k p q s) (λ x r. IsKept w sites s.memory r.memory))
             → Gives ((all_placed w (place_of_write own assignment) (conditions_of (WritePointer q) k p) >> store_pointer k p q) s)
@@ -154,13 +149,13 @@ module _ (w : Setting) (sound : IsWellFormed w.table) (sites : List Site) where
             gives-checked w (place_of_write own assignment) (conditions_of (WritePointer q) k p) (store_pointer k p q) s
             (λ x r. IsKept w sites s.memory r.memory) h
 
-        go : (k : Kind) → w.kind n ≡ k → IsHeldIn w s.memory depth k t p
+        go : (k : Kind) → w.kind n ≡ k
             → Gives ((all_placed w (place_of_write own assignment) (conditions_of (WritePointer q) k p) >> store_pointer k p q) s)
             (λ x r. IsKept w sites s.memory r.memory)
-        go Safe g h = stores Safe (λ c. gives-stored Safe safe≢wild p (placed Safe h (c.0, tt)) c.1.0)
-        go Rtti g h = stores Rtti (λ c. gives-stored Rtti rtti≢wild p (placed Rtti h (c.0, tt)) c.1.0)
-        go Seq g h = stores Seq (λ c. gives-stored Seq seq≢wild p (placed Seq h (c.0, tt)) c.1.0)
-        go Wild g h = stores Wild (λ c. gives-stored_tagged n spreads g p (placed Wild h (c.0, tt)) c)
+        go Safe g = stores Safe (λ c. gives-stored Safe safe≢wild p (placed Safe g (c.0, tt)) c.1.0)
+        go Rtti g = stores Rtti (λ c. gives-stored Rtti rtti≢wild p (placed Rtti g (c.0, tt)) c.1.0)
+        go Seq g = stores Seq (λ c. gives-stored Seq seq≢wild p (placed Seq g (c.0, tt)) c.1.0)
+        go Wild g = stores Wild (λ c. gives-stored_tagged n spreads g p (placed Wild g (c.0, tt)) c)
 
         by : (k : Kind) → w.kind n ≡ k → Gives (write w own assignment (w.kind n) t p (Address q) s) (λ x r. IsKept w sites s.memory r.memory)
         by k g = subst (λ c. Gives (write w own assignment c t p (Address q) s) (λ x r. IsKept w sites s.memory r.memory)) (sym g)
@@ -168,8 +163,24 @@ module _ (w : Setting) (sound : IsWellFormed w.table) (sites : List Site) where
             (λ sh. Gives
             ((all_placed w (place_of_write own assignment) (conditions_of_write k sh p (Address q)) >> store_shape k sh p (Address q)) s)
             (λ x r. IsKept w sites s.memory r.memory))
-            (sym e)
-            (go k g (subst (λ c. IsHeldIn w s.memory depth c t p) g held)))
+            (sym e) (go k g))
+
+    -- through a pointer that may be held
+    pub gives-written_pointer : (own assignment : Place) (n : NodeId) (p : Pointer) → SpreadsWild w.table w.kind n t
+        → IsHeldIn w s.memory depth (w.kind n) t p
+        → Gives (write w own assignment (w.kind n) t p (Address q) s) (λ x r. IsKept w sites s.memory r.memory)
+    gives-written_pointer own assignment n p spreads held =
+        written_pointer own assignment n p spreads
+        (λ k g c. held-place w sound (outlines_of s.memory) (lives_of s.memory) depth s.memory k t p (no_function w.table t (shape.Pointer m u) e refl)
+        (subst (λ c. IsHeldIn w s.memory depth c t p) g held)
+        (subst (λ z. AllHold w s.memory (asked_of z k p)) (sym (pointer_size w.table t m u e)) c))
+
+    -- at a place
+    pub gives-written_pointer_place : (own assignment : Place) (n : NodeId) (p : Pointer) → SpreadsWild w.table w.kind n t
+        → IsPlaceIn w s.memory depth (w.kind n) t p
+        → Gives (write w own assignment (w.kind n) t p (Address q) s) (λ x r. IsKept w sites s.memory r.memory)
+    gives-written_pointer_place own assignment n p spreads place =
+        written_pointer own assignment n p spreads (λ k g c. subst (λ c. IsPlaceIn w s.memory depth c t p) g place)
 
   -- Integers
 
@@ -220,34 +231,43 @@ module _ (w : Setting) (sound : IsWellFormed w.table) (sites : List Site) where
             (integer-there Wild x.location i s x.object x.at z x.right memory
             (sound-integer w sites (outlines_of s.memory) (lives_of s.memory) x.object i.bytes x.at (word z) is (λ u. absurd (u x.tagged))))
 
-    -- an integer is written, with its conditions
-    pub gives-written_integer : (own assignment : Place) (k : Kind) (p : Pointer) → AreOutlines w (outlines_of s.memory)
-        → IsHeldIn w s.memory depth k t p
+    -- an integer is written, with its conditions, which lead to a place
+    written_integer : (own assignment : Place) (k : Kind) (p : Pointer) → AreOutlines w (outlines_of s.memory)
+        → (AllHold w s.memory (asked_of i.bytes k p) → IsPlaceIn w s.memory depth k t p)
         → Gives (write w own assignment k t p (Integer z) s) (λ x r. IsKept w sites s.memory r.memory)
-    gives-written_integer own assignment k p ordered held =
+    written_integer own assignment k p ordered placed =
         subst
         (λ sh. Gives ((all_placed w (place_of_write own assignment) (conditions_of_write k sh p (Integer z)) >> store_shape k sh p (Integer z)) s)
         (λ x r. IsKept w sites s.memory r.memory))
-        (sym e) (go k held)
+        (sym e) (go k placed)
       where
-        placed : (k : Kind) → IsHeldIn w s.memory depth k t p → AllHold w s.memory (asked_of i.bytes k p) → IsPlaceIn w s.memory depth k t p
-        placed k h c = held-place w sound (outlines_of s.memory) (lives_of s.memory) depth s.memory k t p (complete-data w.table sound t complete) h
-            (subst (λ m. AllHold w s.memory (asked_of m k p)) (sym size) c)
-
         stores : (k : Kind)
-            →
-            (AllHold w s.memory (conditions_of (WriteInteger i.bytes) k p) → Gives (store_integer k i p z s)
-            (λ x r. IsKept w sites s.memory r.memory))
+            → (AllHold w s.memory (conditions_of (WriteInteger i.bytes) k p) → Gives (store_integer k i p z s) (λ x r. IsKept w sites s.memory r.memory))
             → Gives ((all_placed w (place_of_write own assignment) (conditions_of (WriteInteger i.bytes) k p) >> store_integer k i p z) s)
             (λ x r. IsKept w sites s.memory r.memory)
         stores k h =
             gives-checked w (place_of_write own assignment) (conditions_of (WriteInteger i.bytes) k p) (store_integer k i p z) s
             (λ x r. IsKept w sites s.memory r.memory) h
 
-        go : (k : Kind) → IsHeldIn w s.memory depth k t p
+        go : (k : Kind) → (AllHold w s.memory (asked_of i.bytes k p) → IsPlaceIn w s.memory depth k t p)
             → Gives ((all_placed w (place_of_write own assignment) (conditions_of (WriteInteger i.bytes) k p) >> store_integer k i p z) s)
             (λ x r. IsKept w sites s.memory r.memory)
-        go Safe h = stores Safe (λ c. gives-stored_integer Safe safe≢wild p ordered (placed Safe h c))
-        go Rtti h = stores Rtti (λ c. gives-stored_integer Rtti rtti≢wild p ordered (placed Rtti h c))
-        go Seq h = stores Seq (λ c. gives-stored_integer Seq seq≢wild p ordered (placed Seq h c))
-        go Wild h = stores Wild (λ c. gives-stored_integer_tagged p (placed Wild h (c.0, tt)) c.0)
+        go Safe h = stores Safe (λ c. gives-stored_integer Safe safe≢wild p ordered (h c))
+        go Rtti h = stores Rtti (λ c. gives-stored_integer Rtti rtti≢wild p ordered (h c))
+        go Seq h = stores Seq (λ c. gives-stored_integer Seq seq≢wild p ordered (h c))
+        go Wild h = stores Wild (λ c. gives-stored_integer_tagged p (h (c.0, tt)) c.0)
+
+    -- through a pointer that may be held
+    pub gives-written_integer : (own assignment : Place) (k : Kind) (p : Pointer) → AreOutlines w (outlines_of s.memory)
+        → IsHeldIn w s.memory depth k t p
+        → Gives (write w own assignment k t p (Integer z) s) (λ x r. IsKept w sites s.memory r.memory)
+    gives-written_integer own assignment k p ordered held =
+        written_integer own assignment k p ordered
+        (λ c. held-place w sound (outlines_of s.memory) (lives_of s.memory) depth s.memory k t p (complete-data w.table sound t complete) held
+        (subst (λ m. AllHold w s.memory (asked_of m k p)) (sym size) c))
+
+    -- at a place
+    pub gives-written_integer_place : (own assignment : Place) (k : Kind) (p : Pointer) → AreOutlines w (outlines_of s.memory)
+        → IsPlaceIn w s.memory depth k t p
+        → Gives (write w own assignment k t p (Integer z) s) (λ x r. IsKept w sites s.memory r.memory)
+    gives-written_integer_place own assignment k p ordered place = written_integer own assignment k p ordered (λ c. place)

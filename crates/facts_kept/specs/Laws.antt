@@ -153,6 +153,20 @@ WritesOfIntegers =
     → AreOutlines w (outlines_of s.memory) → IsHeldIn w s.memory depth kind t p
     → Gives (write w own assignment kind t p (Integer z) s) (λ x r. IsKept w sites s.memory r.memory)
 
+abbrev pub WritesOfPointersToPlaces : Type 0
+WritesOfPointersToPlaces =
+    (w : Setting) (sites : List Site) (own assignment : Place) (depth : ℕ) (t u : TypeId) (outer node : NodeId) (p q : Pointer) (s : State)
+    → IsWellFormed w.table → shape_at w.table t ≡ shape.Pointer node u → IsSoundMemory w sites s.memory → SpreadsWild w.table w.kind outer t
+    → IsPlaceIn w s.memory depth (w.kind outer) t p → IsHeldIn w s.memory depth (w.kind node) u q → IsMade sites q
+    → Gives (write w own assignment (w.kind outer) t p (Address q) s) (λ x r. IsKept w sites s.memory r.memory)
+
+abbrev pub WritesOfIntegersToPlaces : Type 0
+WritesOfIntegersToPlaces =
+    (w : Setting) (sites : List Site) (own assignment : Place) (depth : ℕ) (kind : Kind) (t : TypeId) (i : IntegerType) (p : Pointer) (z : ℤ) (s : State)
+    → IsWellFormed w.table → shape_at w.table t ≡ shape.Integer i.bytes i.signed → IsSoundMemory w sites s.memory
+    → AreOutlines w (outlines_of s.memory) → IsPlaceIn w s.memory depth kind t p
+    → Gives (write w own assignment kind t p (Integer z) s) (λ x r. IsKept w sites s.memory r.memory)
+
 abbrev pub KeptMomentsAreSound : Type 0
 KeptMomentsAreSound =
     (w : Setting) (sites : List Site) (depth : ℕ) (old new : Memory) → IsSoundAt w sites old depth → IsKept w sites old new
@@ -178,7 +192,8 @@ MembersGiveWhatMayBeHeld =
     → ((w.kind outer ≡ Wild) ↔ (w.kind node ≡ Wild)) → IsWildWhereMixed w.table w.kind outer t → IsComplete w.table t → IsAggregate w.table t
     → i < length (members_at w.table t) → IsComplete w.table (member_at w.table t i) → Contains sites (Pointee node (member_at w.table t i))
     → AreOutlines w (outlines_of s.memory) → IsHeldIn w s.memory depth (w.kind outer) t p
-    → Gives (member w at (w.kind outer) t i node (member_at w.table t i) p s) (GivesPointer w sites depth (w.kind node) (member_at w.table t i) s)
+    → Gives (member w at (w.kind outer) t i node (member_at w.table t i) p s)
+    (λ q r. GivesPointer w sites depth (w.kind node) (member_at w.table t i) s q r × IsPlaceIn w s.memory depth (w.kind node) (member_at w.table t i) q)
 
 abbrev pub ArraysGiveWhatMayBeHeld : Type 0
 ArraysGiveWhatMayBeHeld =

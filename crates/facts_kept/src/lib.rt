@@ -6,7 +6,7 @@
 //! pointers are held by a call of some depth.
 #![tactic(auto)]
 
-ghost use Rattle.facts_kept.specs.Laws.{IntegersGivePointers, FunctionsAreValues, HomesArePlaces, ValuesPassThroughCalls, ValuesPassAlongClasses, ChecksLeadToPlaces, ConversionsGiveWhatMayBeHeld, LoadsOfPointers, WildLoadsOfPointers, LoadsOfIntegers, WildLoadsOfIntegers, ReadsOfPointers, ReadsOfIntegers, StoresOfPointers, WildStoresOfPointers, StoresOfIntegers, WildStoresOfIntegers, WritesOfPointers, WritesOfIntegers, KeptMomentsAreSound, KeptMemoryHolds, MovesGiveWhatMayBeHeld, MembersGiveWhatMayBeHeld, ArraysGiveWhatMayBeHeld, MembersStand, ElementsStand, PartsOfPartsStand, UnmixedPartsStand, PartsArePlaces, AllocationsGiveWhatMayBeHeld, AddressesAskForPlaces, ArraysAskForPlaces, ClearingKeepsTheMemorySound, TypedCopiesKeepTheMemorySound, WildCopiesKeepTheMemorySound, CallsBegin, CallsEnd, CallersHold, LaterFollowsLater, StoresAreLater, BlocksAreLater};
+ghost use Rattle.facts_kept.specs.Laws.{IntegersGivePointers, FunctionsAreValues, HomesArePlaces, ValuesPassThroughCalls, ValuesPassAlongClasses, ChecksLeadToPlaces, ConversionsGiveWhatMayBeHeld, LoadsOfPointers, WildLoadsOfPointers, LoadsOfIntegers, WildLoadsOfIntegers, ReadsOfPointers, ReadsOfIntegers, StoresOfPointers, WildStoresOfPointers, StoresOfIntegers, WildStoresOfIntegers, WritesOfPointers, WritesOfIntegers, WritesOfPointersToPlaces, WritesOfIntegersToPlaces, KeptMomentsAreSound, KeptMemoryHolds, MovesGiveWhatMayBeHeld, MembersGiveWhatMayBeHeld, ArraysGiveWhatMayBeHeld, MembersStand, ElementsStand, PartsOfPartsStand, UnmixedPartsStand, PartsArePlaces, AllocationsGiveWhatMayBeHeld, AddressesAskForPlaces, ArraysAskForPlaces, ClearingKeepsTheMemorySound, TypedCopiesKeepTheMemorySound, WildCopiesKeepTheMemorySound, CallsBegin, CallsEnd, CallersHold, LaterFollowsLater, StoresAreLater, BlocksAreLater};
 
 /// Where pointers come from: an integer gives a SEQ or a WILD pointer that may be held, the name of a function is a SAFE or a WILD
 /// pointer to its type, and a variable's home, which is SAFE or WILD, is a place of its type.
@@ -55,11 +55,13 @@ pub fn stores_ask_for_places()
     ensures wild_integer { WildStoresOfIntegers }
 {}
 
-/// A write of a scalar, with its conditions: they stop it, or it leaves the memory sound, with the same outlines and lives. What
-/// leaves these leaves all facts of a moment.
+/// A write of a scalar through a pointer or to a place, with its conditions: they stop it, or it leaves the memory sound, with the same
+/// outlines and lives. What leaves these leaves all facts of a moment.
 pub fn writes_keep_the_memory_sound()
     ensures pointer { WritesOfPointers }
     ensures integer { WritesOfIntegers }
+    ensures pointer_place { WritesOfPointersToPlaces }
+    ensures integer_place { WritesOfIntegersToPlaces }
     ensures moment { KeptMomentsAreSound }
     ensures held { KeptMemoryHolds }
 {}
@@ -69,9 +71,9 @@ pub fn moves_give_what_may_be_held()
     ensures { MovesGiveWhatMayBeHeld }
 {}
 
-/// The address of a member, and of the first element of an array, with its conditions: they stop it, or it may be held. Both are WILD
-/// exactly where what they are parts of is; a pointer to what holds a mixed union is WILD; and where a union's member is taken, the
-/// pointers that stand at one place of its members are of one kind.
+/// The address of a member, and of the first element of an array, with its conditions: they stop it, or it may be
+/// held, and a member's is a place. Both are WILD exactly where what they are parts of is; a pointer to what holds a mixed union is
+/// WILD; and where a union's member is taken, the pointers that stand at one place of its members are of one kind.
 pub fn parts_give_what_may_be_held()
     ensures member { MembersGiveWhatMayBeHeld }
     ensures array { ArraysGiveWhatMayBeHeld }

@@ -567,6 +567,41 @@ copied_from_choice = copied_from (typed.ParenPlace (at_line 4 3)
 abbrev pub copied_from_comma : SourceOutcome
 copied_from_comma = copied_from (typed.ParenPlace (at_line 4 3) (typed.StructComma (number 1) (null_target 6)))
 
+-- s=(s=*p);
+abbrev pub copied_from_assignment : SourceOutcome
+copied_from_assignment = copied_from (typed.ParenPlace (at_line 4 3)
+    (typed.StructAssign (variable 4 1 (type 9)) (at_line 4 5) (null_target 6)))
+
+-- int main(void){int x=2;return (putchar(65),x)?(x=7,x+1):x;}
+abbrev pub chosen : SourceOutcome
+chosen = source_run program table (kinds []) (Closed []) 10
+  where
+    table : Table
+    table = basic_table ++ entry (shape.Function [] int) ∷ []
+
+    program : TypedTranslationUnit
+    program = main (type 9) (
+        declares (local_is 0 int (at 21) (number 2))
+        ∷ returns (at 24) (typed.Conditional (typed.Comma (put (number 65)) (value 44 0 int)) (at 46)
+        (typed.Comma (typed.Assign (variable 48 0 int) (at 49) (number 7)) (typed.Arithmetic binary.Add (value 52 0 int) (at 53) (number 1) int))
+        (value 57 0 int) int)
+        ∷ [])
+
+-- int main(void){{typedef char *g;}{typedef int *g;}return 0;}
+abbrev pub block_typedefs_table : Table
+block_typedefs_table = basic_table ++ entry (shape.Pointer (node 0) char) ∷ entry (shape.Pointer (node 1) int) ∷ entry (shape.Function [] int) ∷ []
+
+abbrev pub block_typedefs : TypedTranslationUnit
+block_typedefs = main (type 11) (
+    runs (typed.Block (at 16) (body (named char (type 9) ∷ [])))
+    ∷ runs (typed.Block (at 34) (body (named int (type 10) ∷ [])))
+    ∷ returns (at 51) (number 0)
+    ∷ [])
+  where
+    named : TypeId → TypeId → Item
+    named base t = declares (typed.Declare (typed.Specified (typed.AndSpecifier typed.NoSpecifier (typed.Keyword (record { keyword = keyword.Typedef; place = at 0 }))) base)
+        (typed.AndPlain typed.NoInitDeclarator (typed.Declares (form (name (codes "g") (at 0)) home.None) t)))
+
 -- int main(void){
 -- int a[2];int *p=a+5;char c=100;char d=127;
 -- c+=100;d++;(void)putchar(c);(void)putchar(d);

@@ -14,7 +14,7 @@ ghost use Rattle.src_machine.specs.Switches.{SwitchesRunWhatIsBehind};
 ghost use Rattle.c_types.specs.declared.site.Site.TheVariants.{Pointee, Home, Linked, Flow, Same};
 ghost use Rattle.src_machine.specs.Sites.{sites_of};
 ghost use Rattle.src_machine.specs.Small.{node, type, char, int, at, at_line, access, Shows};
-ghost use Rattle.src_machine.specs.Programs.{null_read, past_the_end, stepped_over, address_kept, address_program, address_table, hidden_program, hidden_table, redeclared_program, redeclared_table, freed_read, size_of_pointer, union_read, divided_by_zero, echoes, goes_on, recursion, recursion_at, moved_too_far, cast_down, called_otherwise, struct_kept, hashed_and_compared, controlled, initialised, null_freed, integer_as_address, copied_from_choice, copied_from_comma, compared_with_null};
+ghost use Rattle.src_machine.specs.Programs.{null_read, past_the_end, stepped_over, address_kept, address_program, address_table, hidden_program, hidden_table, redeclared_program, redeclared_table, freed_read, size_of_pointer, union_read, divided_by_zero, echoes, goes_on, recursion, recursion_at, moved_too_far, cast_down, called_otherwise, struct_kept, hashed_and_compared, controlled, initialised, null_freed, integer_as_address, copied_from_choice, copied_from_comma, copied_from_assignment, chosen, block_typedefs, block_typedefs_table, compared_with_null};
 
 /// What small programs do that use SAFE and SEQ pointers.
 pub fn programs_with_bounds()
@@ -33,6 +33,8 @@ pub fn programs_with_bounds()
     ensures copied_from_choice { Shows copied_from_choice (Stopped Null (at_line 4 5)) []
         (access 1 0 8 ∷ access 1 0 8 ∷ []) }
     ensures copied_from_comma { Shows copied_from_comma (Stopped Null (at_line 4 6)) []
+        (access 1 0 8 ∷ access 1 0 8 ∷ []) }
+    ensures copied_from_assignment { Shows copied_from_assignment (Stopped Null (at_line 4 6)) []
         (access 1 0 8 ∷ access 1 0 8 ∷ []) }
     ensures struct_kept { Shows struct_kept (Stopped Escape (at_line 3 41)) []
         (access 2 0 8 ∷ access 2 0 8 ∷ []) }
@@ -54,6 +56,8 @@ pub fn other_programs()
         (access 1 0 8 ∷ access 0 4 4 ∷ access 1 0 8 ∷ access 0 4 4 ∷ access 1 0 8 ∷ []) }
     ensures called_otherwise { Shows called_otherwise (Stopped Fun (at_line 6 9)) (65 ∷ [])
         (access 0 0 8 ∷ access 0 0 8 ∷ access 1 0 8 ∷ access 1 0 8 ∷ access 2 0 4 ∷ access 2 0 4 ∷ access 1 0 8 ∷ []) }
+    ensures chosen { Shows chosen (Exited 8) (65 ∷ [])
+        (access 0 0 4 ∷ access 0 0 4 ∷ access 0 0 4 ∷ access 0 0 4 ∷ []) }
     ensures null_freed { Shows null_freed (Exited 3) [] [] }
     ensures calls { (recursion 3).entered ≡ 1 ∷ 0 ∷ 0 ∷ 0 ∷ [] }
 {}
@@ -93,9 +97,11 @@ pub fn recursion_is_stopped()
 /// The sites of `int *g;int main(void){int x;g=&x;return 0;}`: the two pointers, the two homes, that the address of x is one of a
 /// part of x, and its flow into g.
 /// In `int g(int);int main(void){typedef char *g(void);return 0;}` the typedef declares no function, so it is not tied to g. Of three declarations of
-/// one function the first is tied to each of the others.
+/// one function the first is tied to each of the others. In
+/// `int main(void){{typedef char *g;}{typedef int *g;}return 0;}` two typedefs of one name in two blocks tie nothing.
 pub fn sites_of_a_program()
     ensures redeclared { sites_of redeclared_program redeclared_table ≡ Pointee (node 0) int ∷ Pointee (node 1) int ∷ Pointee (node 2) int ∷ Same (type 10) (type 12) ∷ Same (type 10) (type 14) ∷ [] }
+    ensures block_typedefs { sites_of block_typedefs block_typedefs_table ≡ Pointee (node 0) char ∷ Pointee (node 1) int ∷ [] }
     ensures hidden { sites_of hidden_program hidden_table ≡ Pointee (node 0) char ∷ [] }
     ensures address { sites_of address_program address_table ≡ Pointee (node 0) int ∷ Pointee (node 3) int ∷ Home (node 1) (type 9)
         ∷ Home (node 2) int ∷ Linked (node 3) (node 2) ∷ Flow (node 3) int (node 0) int (at 30) ∷ [] }

@@ -5,6 +5,7 @@ pub mod Outlines
 pub mod Spots
 pub mod Right
 pub mod NotWrong
+pub mod Noted
 pub mod OperationsRight
 pub mod CopiesRight
 pub mod PointersCopied

@@ -1,6 +1,7 @@
 -- The words of the laws on memory.
-use Rattle.std.specs.Prelude.{◌+◌, ◌≤◌, ℤ, ◌≡◌, ℕ, List, [], ◌∷◌, length, slice_get, Some, ⊤}
+use Rattle.std.specs.Prelude.{◌+◌, ◌≤◌, ℤ, ◌≡◌, ◌≢◌, ℕ, List, [], ◌∷◌, ◌++◌, length, slice_get, Some, ⊤}
 use Rattle.cc_base.specs.declared.kind.Kind.{Kind}
+use Rattle.cc_base.specs.declared.kind.Kind.TheVariants.{Wild}
 use Rattle.cc_base.specs.declared.number.TypeId.{TypeId}
 use Rattle.cc_base.specs.declared.number.NodeId.{NodeId}
 use Rattle.flat_mem.specs.Bytes.{number}
@@ -10,7 +11,7 @@ use Rattle.c_types.specs.declared.shape.TypeShape.TheVariants as shape
 use Rattle.integers.specs.Arithmetic as integer
 use Rattle.integers.specs.Arithmetic.{IntegerType, Operator}
 use Rattle.runs.specs.Outcome.{Outcome, Ended, Done}
-use Rattle.src_mem.specs.Pointers.{Pointer, Value, Integer, Address}
+use Rattle.src_mem.specs.Pointers.{Location, Pointer, At, Value, Integer, Address}
 use Rattle.src_mem.specs.Memory.{Object, Planned}
 use Rattle.src_mem.specs.State.{Ending, Wrong, State, Act, Setting, Access, bytes_of, turn}
 use Rattle.runs.specs.Input.{Input}
@@ -101,6 +102,28 @@ pub record LiesIn (objects : List Object) (a : Access) : Type 0 where
 -- each access that was noted lies in an object that is there
 pub record AccessesLie (s : State) : Type 0 where
   pub each : (i : ℕ) (a : Access) → slice_get s.accesses i ≡ Some a → LiesIn s.memory.objects a
+
+-- where an operation goes on, P holds of the state that it leaves
+abbrev pub Where : {A : Type 0} → Outcome Ending State A → (State → Type 0) → Type 0
+Where (Ended e s) P = ⊤
+Where (Done a s) P = P s
+
+-- One more access was noted: to m bytes of the object that the pointer names, which lie in it and, through a pointer that isn't
+-- WILD, in the pointer's part.
+pub record NotesAccess (kind : Kind) (p : Pointer) (m : ℕ) (old new : State) : Type 0 where
+  pub location : Location
+  pub is : p ≡ At location
+  pub offset : ℕ
+  pub noted : new.accesses ≡ old.accesses ++ record { object = location.object; offset = offset; size = m } ∷ []
+  pub lies : LiesIn old.memory.objects (record { object = location.object; offset = offset; size = m })
+  pub part : kind ≢ Wild → (location.part.low ≤ offset) × (offset + m ≤ location.part.high)
+
+-- two were noted, one after the other, where the objects are as they were
+pub record NotesTwo (from : Kind) (source : Pointer) (to : Kind) (target : Pointer) (m : ℕ) (old new : State) : Type 0 where
+  pub middle : State
+  pub same : middle.memory ≡ old.memory
+  pub read : NotesAccess from source m old middle
+  pub written : NotesAccess to target m middle new
 
 -- these arguments are values of the variables that they are stored in, one each and in order
 abbrev pub AreArguments : Table → List Planned → List Value → Type 0

@@ -28,7 +28,7 @@ ghost use Rattle.src_mem.specs.Uses.{read, write, copy_all, enter_with};
 ghost use Rattle.src_mem.specs.Operations.{calculate, allocated_for, decayed, kind_in, moved, subtracted, equated, compared, converted_pointer, member};
 ghost use Rattle.src_mem.specs.ValueLaws.{AddressesAreNotWrong};
 ghost use Rattle.src_mem.specs.Facts.{IsSoundMemory, IsHeldIn};
-ghost use Rattle.src_mem.specs.Laws.{AreWhole, KeepsWhole, GivesNext, IsInvariant, AccessesLie, IsNotWrong, IsScalar, IsScalarValue, IsOrder, AreArguments, left_by};
+ghost use Rattle.src_mem.specs.Laws.{AreWhole, KeepsWhole, GivesNext, IsInvariant, AccessesLie, IsNotWrong, Where, NotesAccess, NotesTwo, IsScalar, IsScalarValue, IsOrder, AreArguments, left_by};
 
 /// Equality of pointers (C99 6.5.9) is an equivalence.
 pub fn pointer_equality_is_an_equivalence()
@@ -58,9 +58,15 @@ pub fn accesses_lie_in_objects()
     ensures { IsInvariant AccessesLie }
 {}
 
-/// An access through a pointer that isn't WILD lies in the pointer's part, and its object has not ended.
+/// An access through a pointer that isn't WILD lies in the pointer's part, and its object has not ended. So each access that a load or
+/// a store notes lies in the object that its pointer names and, where that isn't WILD, in its part; a copy notes two.
 pub fn accesses_lie_in_parts()
-    ensures { (kind : Kind) (objects : List Object) (l : Location) (size : ℕ) (x : Spot) → kind ≢ Wild → spot kind objects (At l) size ≡ Some x → (l.part.low ≤ x.at) × (x.at + size ≤ l.part.high) × IsTrue x.object.live }
+    ensures integer_loaded { (kind : Kind) (t : IntegerType) (p : Pointer) (s : State) → Where (load_integer kind t p s) (NotesAccess kind p t.bytes s) }
+    ensures pointer_loaded { (kind : Kind) (p : Pointer) (s : State) → Where (load_pointer kind p s) (NotesAccess kind p 8 s) }
+    ensures integer_stored { (kind : Kind) (t : IntegerType) (p : Pointer) (z : ℤ) (s : State) → Where (store_integer kind t p z s) (NotesAccess kind p t.bytes s) }
+    ensures pointer_stored { (kind : Kind) (p q : Pointer) (s : State) → Where (store_pointer kind p q s) (NotesAccess kind p 8 s) }
+    ensures copied { (n : ℕ) (from : Kind) (source : Pointer) (to : Kind) (target : Pointer) (s : State) → Where (copy n from source to target s) (NotesTwo from source to target n s) }
+    ensures inside { (kind : Kind) (objects : List Object) (l : Location) (size : ℕ) (x : Spot) → kind ≢ Wild → spot kind objects (At l) size ≡ Some x → (l.part.low ≤ x.at) × (x.at + size ≤ l.part.high) × IsTrue x.object.live }
 {}
 
 /// `putchar` appends the low byte of its argument to the output, and changes nothing else.

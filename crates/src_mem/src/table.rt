@@ -106,6 +106,7 @@ pub fn operations_on_a_small_memory()
     ensures sequence_to_safe { tried (converted_pointer small here sequence_to_int safe_to_int (to_three (pos 8))) ≡ Answer (to_three (pos 8)) }
     ensures sequence_to_safe_outside { tried (converted_pointer small here sequence_to_int safe_to_int (to_three (pos 12))) ≡ Ends (Stopped Bounds here) }
     ensures sequence_to_safe_null { tried (converted_pointer small here sequence_to_int safe_to_int Null) ≡ Answer Null }
+    ensures sequence_to_typed { tried (converted_pointer small here sequence_to_int typed_to_int (to_three (pos 8))) ≡ Answer (to_three (pos 8)) }
     ensures sequence_to_typed_outside { tried (converted_pointer small here sequence_to_int typed_to_int (to_three (negsuc 3))) ≡ Ends (Stopped Bounds here) }
     ensures downcast { tried (converted_pointer small here typed_to_int typed_to_pair to_pair) ≡ Answer to_pair }
     ensures downcast_of_int { tried (converted_pointer small here typed_to_int typed_to_pair (to_three (pos 0))) ≡ Ends (Stopped Cast here) }

@@ -1,4 +1,4 @@
-use Rattle.cil_facts.proofs.Points.{move-keeps, null-keeps, decay-keeps, address-keeps}
+use Rattle.cil_facts.proofs.Points.{move-keeps, null-keeps, decay-keeps, address-keeps, member-keeps}
 use Rattle.cil_facts.proofs.pointer_operations_keep_the_facts.Goals as goal
 
 pub returns-clause-moves : goal.returns-clause-moves
@@ -14,3 +14,7 @@ returns-clause-arrays f into source outer array check inner element at k a types
 pub returns-clause-addresses : goal.returns-clause-addresses
 returns-clause-addresses f into source outer inner t k a types after c solved shaped facts =
     address-keeps k a solved types after c facts into source outer inner t shaped
+
+pub returns-clause-members : goal.returns-clause-members
+returns-clause-members f into source outer t i inner u at k a types after c solved shaped facts =
+    member-keeps k a solved types after c facts into source outer t i inner u at shaped

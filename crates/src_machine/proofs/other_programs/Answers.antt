@@ -46,3 +46,7 @@ returns-clause-calls c = refl
 pub returns-clause-null_freed : goal.returns-clause-null_freed
 unfolding layout_of cells_at holds_pointer physically_equal number stored zeroed bytes_at written kinds_agree nested_limit
 returns-clause-null_freed c = refl
+
+pub returns-clause-chosen : goal.returns-clause-chosen
+unfolding layout_of cells_at holds_pointer physically_equal number stored zeroed bytes_at written kinds_agree nested_limit
+returns-clause-chosen c = refl

@@ -50,3 +50,7 @@ returns-clause-copied_from_choice c = refl
 pub returns-clause-copied_from_comma : goal.returns-clause-copied_from_comma
 unfolding layout_of cells_at holds_pointer physically_equal number stored zeroed bytes_at written kinds_agree nested_limit
 returns-clause-copied_from_comma c = refl
+
+pub returns-clause-copied_from_assignment : goal.returns-clause-copied_from_assignment
+unfolding layout_of cells_at holds_pointer physically_equal number stored zeroed bytes_at written kinds_agree nested_limit
+returns-clause-copied_from_assignment c = refl

@@ -46,6 +46,10 @@ pub returns-clause-sequence_to_safe_outside : goal.returns-clause-sequence_to_sa
 unfolding layout_of cells_at holds_pointer physically_equal kinds_agree number stored zeroed bytes_at written
 returns-clause-sequence_to_safe_outside c = refl
 
+pub returns-clause-sequence_to_typed : goal.returns-clause-sequence_to_typed
+unfolding layout_of cells_at holds_pointer physically_equal kinds_agree number stored zeroed bytes_at written
+returns-clause-sequence_to_typed c = refl
+
 pub returns-clause-sequence_to_typed_outside : goal.returns-clause-sequence_to_typed_outside
 unfolding layout_of cells_at holds_pointer physically_equal kinds_agree number stored zeroed bytes_at written
 returns-clause-sequence_to_typed_outside c = refl

@@ -27,6 +27,10 @@ use Rattle.cure_scope.specs.Scopes.{fixed_slots, size_in, offset_in}
 use Rattle.fat_layouts.specs.Standing.{Curing}
 use Rattle.cure_tables.specs.Objects.{IsObject}
 use Rattle.cure_ranges.proofs.Areas.{area_small}
+use Rattle.cured_code.specs.Ranges.{AreParentsEarlier, IsInRange}
+use Rattle.cure_ranges.specs.Bodies.{AreTargetsNamed}
+use Rattle.cure_ranges.proofs.Parts.{in_range}
+use Rattle.cure_ranges.proofs.Bodies.{bodies}
 use Rattle.cure_code.specs.declared.setting.Setting.{Setting}
 use Rattle.cure_code.specs.declared.programs.Tables.{Tables}
 use Rattle.cure_code.specs.Settings.{whole_in, IsSet, IsMadeAt, AreMade}
@@ -81,9 +85,12 @@ module _ (w : Whole) (p : Program) where
           (m.0, ap (λ (xs : List cured.Function). slice_get xs (suc k)) e ∙ front_get made (h ∷ []) (suc k) m.0 m.1, m.2)
       by k g b (inr l) =
           let same : f ≡ g = same_some f g (sym at ∙ ap (slice_get p.functions) (sym l) ∙ b) in
-          let there = ap (λ (xs : List cured.Function). slice_get xs (suc k)) e ∙ last_get made h (suc k) (ap suc l ∙ sym a.count) in
-          (h, there, subst (λ (m : ℕ). IsCuredFunction (world_of w m g (fixed_slots (parameter_words w g.parameters))) g h) (sym l)
-          (subst (λ (x : Function). IsCuredFunction (world_of w n x (fixed_slots (parameter_words w x.parameters))) x h) same is))
+          let there = ap (λ (xs : List cured.Function). slice_get xs (suc k)) e ∙ last_get made h (suc k) (ap suc l ∙ sym a.count) in (
+            h,
+            there,
+            subst (λ (m : ℕ). IsCuredFunction (world_of w m g (fixed_slots (parameter_words w g.parameters))) g h) (sym l)
+                (subst (λ (x : Function). IsCuredFunction (world_of w n x (fixed_slots (parameter_words w x.parameters))) x h) same is),
+          )
 
 -- Tables
 
@@ -203,3 +210,14 @@ cured_as p code kinds nodes numbers ps parents t made parts cured e f g a m h k 
     (subst (λ (x : List ℕ). IsCuredProgram p (kind_in kinds) (λ u. slice_index x u.0) parents (parts_of ps t made)) f
     (subst (λ (x : List ℕ). IsCuredProgram p (kind_in kinds) (λ u. slice_index nodes u.0) x (parts_of ps t made)) g
     (cured_program p kinds nodes ps t made a m))))
+
+-- its numbers are in range
+pub in_range_as : (p code : Program) (kinds : List Kind) (nodes numbers ps parents : List ℕ) (t : Tables) (made : List cured.Function) (parts : Parts)
+    → p ≡ code → nodes ≡ numbers → ps ≡ parents → AreTables p kinds t → AreMade (whole_with p kinds nodes t) p (length p.functions) made
+    → parts ≡ parts_of ps t made → IsInShape code → AreTargetsNamed code (kind_in kinds) (λ u. slice_index numbers u.0) (length parents)
+    → length parents ≤ 65536 → AreParentsEarlier parents → IsInRange parts
+in_range_as p code kinds nodes numbers ps parents t made parts e f g a m h shape targets few earlier =
+    let c = cured_as p code kinds nodes numbers ps parents t made parts parts e f g a m h refl in
+    let sigs : length parts.sigs ≤ 65536 = subst (λ (x : Parts). length x.sigs ≤ 65536) (sym h) a.few in
+    in_range code (kind_in kinds) (λ u. slice_index numbers u.0) parents parts shape c.numbers c.are_cured
+    (bodies code (kind_in kinds) (λ u. slice_index numbers u.0) parents parts shape c.numbers c.are_cured targets) few earlier sigs

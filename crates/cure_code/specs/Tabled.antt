@@ -1,5 +1,5 @@
 -- The tables of a program.
-use Rattle.std.specs.Prelude.{◌≡◌, ℕ, suc, ◌*◌, List, length, map, slice_index}
+use Rattle.std.specs.Prelude.{◌≡◌, ℕ, suc, ◌*◌, ◌≤◌, List, length, map, slice_index}
 use Rattle.cc_base.specs.declared.kind.Kind.{Kind}
 use Rattle.c_types.specs.Flows.{kind_in}
 use Rattle.cil_form.specs.declared.program.Program.{Program}
@@ -20,6 +20,7 @@ pub record AreTables (p : Program) (kinds : List Kind) (t : Tables) : Type 0 whe
   pub known : t.known ≡ p.types
   pub layouts : t.layouts ≡ record { table = p.types; kinds = kinds }
   pub signatures : AreSignatures p.types (kind_in kinds) (λ u. slice_index t.signatures.numbers.items u.0) t.signatures.sigs.items
+  pub few : length t.signatures.sigs.items ≤ 65536
   pub statics : map plan t.statics.items ≡ map (λ (o : Static). plan o.planned) p.statics
   pub globals : AreGlobals p.types (kind_in kinds) p.statics t.globals.items
   pub addresses : t.addresses.items ≡ map (λ (a : PlacedArea). a.address) (placed (global_areas t.globals.items) (8 * suc (length p.functions)))

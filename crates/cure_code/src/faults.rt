@@ -9,8 +9,6 @@ pub enum CureFault {
     NoMemory,
     /// The program has an instruction that has no cured code yet.
     NoCode,
-    /// A number of the cured program isn't in range.
-    OutOfRange,
 }
 
 impl From<NoMemory> for CureFault {

@@ -16,8 +16,7 @@ use crate::setting::{Own, Setting, leave, scope, signature_of};
 use c_types::{TypeShape, Types};
 use cc_base::{Kinds, TypeId};
 use cil_form::{Function, Parameter, Planned};
-use cure_bodies::put_body;
-use cure_frames::put_parameters;
+use cure_bodies::{put_body, put_parameters};
 use cure_scope::Scope;
 use cure_tables::{areas_of, charge_of, variables, words_in};
 use cured_code::{Code, Locals};
@@ -56,12 +55,7 @@ fn words_of(types: &Types, kinds: &Kinds, parameters: &[Parameter]) -> u32
 }
 
 /// The code of a function in its scope.
-fn code_in(
-    alloc: Global,
-    known: &Known<'_>,
-    k: &Scope<'_>,
-    f: &Function,
-) -> Result<Code, CureFault>
+fn code_in(alloc: Global, known: &Known<'_>, k: &Scope<'_>, f: &Function) -> Result<Code, CureFault>
     requires known { known.now ≡ k.now.layouts.now.table }
     requires few { length f.now.parameters ≤ 127 }
     requires typed { All (λ x. IsType k.now.layouts.now.table x.ty) f.now.parameters }

@@ -4,6 +4,7 @@ ghost use Rattle.c_types.specs.Flows.{kind_in};
 ghost use Rattle.cil_form.specs.Shape.{IsInShape};
 ghost use Rattle.cil_form.specs.Told.{IsToldOf, IsSolutionOf};
 ghost use Rattle.cure_rules.specs.Programs.{IsCuredProgram};
+ghost use Rattle.cure_ranges.specs.Bodies.{AreTargetsNamed};
 ghost use Rattle.rtti_nodes.specs.TypeNodes.{node_at};
 ghost use Rattle.cure_code.specs.Settings.{AreMade, IsSet, whole_in};
 ghost use Rattle.cure_code.specs.Tabled.{AreTables, whole_with};
@@ -115,10 +116,10 @@ fn cured_functions(
 /// The parts of a program's cured code.
 fn parts(functions: Vec<Function>, parents: Vec<u32>, t: Tables<'_>) -> Parts
     ensures { result ≡ record {
-        sigs = t.entry.signatures.sigs.items;
-        nodes = parents.items;
-        globals = t.entry.globals.items;
-        functions = functions.items;
+      sigs = t.entry.signatures.sigs.items;
+      nodes = parents.items;
+      globals = t.entry.globals.items;
+      functions = functions.items;
     } }
 {
     let Tables {
@@ -142,20 +143,16 @@ fn parts(functions: Vec<Function>, parents: Vec<u32>, t: Tables<'_>) -> Parts
     }
 }
 
-/// The cured code of a program, by the kinds of its nodes and by its type nodes. Each function has as many slots as any
-/// function has. `NoCode` is for a program that has an instruction that isn't cured yet, and `OutOfRange` for one
-/// whose cured code would name what there is not; no clause says yet that neither comes.
-pub fn cure(
-    alloc: Global,
-    code: &Cil,
-    kinds: &Kinds,
-    nodes: &Nodes<'_>,
-) -> Result<Cured, CureFault>
+/// The cured code of a program, by the kinds of its nodes and by its type nodes, of which each data type has one that an
+/// RTTI pointer flows to. All its numbers are in range. Each function has as many slots as any function has. `NoCode` is
+/// for a program that has an instruction that isn't cured yet; no clause says yet that it doesn't come.
+pub fn cure(alloc: Global, code: &Cil, kinds: &Kinds, nodes: &Nodes<'_>) -> Result<Cured, CureFault>
     requires table { nodes.now.table ≡ code.now.types }
     requires kinds { nodes.now.kinds ≡ kinds.now }
     requires count { length kinds.now ≡ code.now.nodes }
     requires told { IsToldOf code.now }
     requires solution { IsSolutionOf code.now (kind_in kinds.now) }
+    requires targets { AreTargetsNamed code.now (kind_in kinds.now) (node_at nodes.now) (length nodes.now.parents) }
     ensures curing { IfOk result (IsCuredProgram code.now (kind_in kinds.now) (node_at nodes.now) nodes.now.parents) }
 {
     let program = code.program();
@@ -165,6 +162,6 @@ pub fn cure(
     let functions = cured_functions(alloc, program, kinds, nodes.numbers(), &t)?;
     match Cured::new(parts(functions, parents, t)) {
         Some(cured) => Ok(cured),
-        None => Err(CureFault::OutOfRange),
+        None => unreachable!(),
     }
 }

@@ -44,11 +44,11 @@ pub(crate) struct Own<'a> {
 /// What the code of a function is cured by.
 pub(crate) fn scope<'a>(w: &Setting<'a>, own: &Own<'a>) -> Scope<'a>
     ensures world { world_of result ≡ record {
-        whole = whole_in w.now;
-        number = own.now.number;
-        variables = map plan own.now.variables.now;
-        result = own.now.result;
-        slots = fixed_slots own.now.parameters;
+      whole = whole_in w.now;
+      number = own.now.number;
+      variables = map plan own.now.variables.now;
+      result = own.now.result;
+      slots = fixed_slots own.now.parameters;
     } }
     ensures table { result.layouts.now ≡ w.now.layouts.now }
 {

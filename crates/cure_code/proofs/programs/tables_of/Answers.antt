@@ -26,6 +26,7 @@ returns c = record {
   known = c.in_ok-known.ensures;
   layouts = c.in_ok-layouts.ensures;
   signatures = c.in_ok-signatures.ensures.signed;
+  few = c.in_ok-signatures.ensures.few;
   statics = c.in_ok-planned.ensures ∙ ap (map (λ (o : Static). plan o.planned)) (c.deref.ensures.value ∙ c.statics.view_is);
   globals = globals_given c.args.program.now c.args.kinds.now _ _ _ c.in_ok-layouts.ensures (c.deref-2.ensures.value ∙ c.statics.view_is) c.in_ok-globals.ensures;
   addresses =

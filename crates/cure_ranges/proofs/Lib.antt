@@ -1,3 +1,15 @@
 pub mod Widths
 pub mod Areas
 pub mod Parts
+pub mod Fitting
+pub mod Tests
+pub mod Rows
+pub mod Guards
+pub mod Setting
+pub mod Pointing
+pub mod Accesses
+pub mod Calling
+pub mod Naming
+pub mod Walk
+pub mod Prologues
+pub mod Bodies

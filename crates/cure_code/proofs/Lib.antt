@@ -1,0 +1,5 @@
+mod Elements
+mod SlotLaws
+mod CodeLaws
+mod FunctionLaws
+mod ProgramLaws

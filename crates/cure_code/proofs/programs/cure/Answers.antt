@@ -1,0 +1,22 @@
+use Rattle.std.proofs.Common.{◌∙◌, arith}
+use Rattle.cure_code.proofs.ProgramLaws.{cured_as, in_range_as}
+use Rattle.cure_code.proofs.programs.cure.Goals as goal
+
+pub returns : goal.returns
+returns c = record {
+  curing = cured_as c.program-program.result.now c.args.code.now c.args.kinds.now c.numbers.result.now _ _ c.args.nodes.now.parents c.in_ok-t.t c.in_ok-functions.functions.items
+      c.parts.result c.in-Some.cured c.program-program.ensures.same c.numbers.ensures
+      (c.in_ok-parents.ensures.items ∙ c.deref.ensures.value ∙ c.parents.view_is ∙ c.parents-parents.ensures.same)
+      c.in_ok-t.ensures c.in_ok-functions.ensures c.parts.ensures c.in-Some.ensures.value;
+}
+
+-- the parts are in range
+pub unreachable-requires : goal.unreachable-requires
+unreachable-requires c =
+    let few = c.parents-parents.ensures.nodes.few in
+    let small = c.parents-parents.ensures.nodes.formed.small in
+    absurd (cc (c.in-None.ensures.exact.1
+    (in_range_as c.program-program.result.now c.args.code.now c.args.kinds.now c.numbers.result.now _ _ c.args.nodes.now.parents c.in_ok-t.t c.in_ok-functions.functions.items
+    c.parts.result c.program-program.ensures.same c.numbers.ensures
+    (c.in_ok-parents.ensures.items ∙ c.deref.ensures.value ∙ c.parents.view_is ∙ c.parents-parents.ensures.same)
+    c.in_ok-t.ensures c.in_ok-functions.ensures c.parts.ensures c.program-program.ensures.in_shape c.requires.targets (omega (arith, few, small)) c.parents-parents.ensures.nodes.earlier)))

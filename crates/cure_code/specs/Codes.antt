@@ -1,0 +1,24 @@
+-- The code of functions.
+use Rattle.std.specs.Prelude.{◌≡◌, true}
+use Rattle.cil_form.specs.declared.program.Function.{Function}
+use Rattle.cil_form.specs.declared.program.Program.{Program}
+use Rattle.cured_code.specs.declared.instr.Code.{Code}
+use Rattle.check_forms.specs.Pieces.{Piece, Then}
+use Rattle.check_insert.specs.declared.draft.Draft.{Draft}
+use Rattle.cure_rules.specs.Known.{World}
+use Rattle.cure_rules.specs.Programs.{EntersMain}
+use Rattle.cure_frames.specs.Storing.{ParametersStored}
+use Rattle.cure_bodies.specs.Bodies.{BodyCured}
+
+-- the code of a function: its parameters are stored, and its body runs
+abbrev pub FunctionCode : World → Function → Piece
+FunctionCode w f = Then (ParametersStored w f.parameters 0 0) (BodyCured f.body.0.items w)
+
+-- the code of function 0: the static initialisers run, and `main` is entered
+abbrev pub StartCode : World → Program → Piece
+StartCode w p = Then (BodyCured p.initialisers.0.items w) (EntersMain w p.main.0 p.main_place)
+
+-- what a draft gave in which nothing failed
+pub record IsOf (out : Draft) (code : Code) : Type 0 where
+  pub fine : out.fine ≡ true
+  pub same : code.0.items ≡ out.items.items

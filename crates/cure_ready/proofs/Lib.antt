@@ -1,0 +1,5 @@
+pub mod Parts
+pub mod PartStarts
+pub mod Sizes
+pub mod Instructions
+pub mod Programs

@@ -41,7 +41,7 @@ pub(crate) fn put_integer_load(
 }
 
 /// The words of a pointer are loaded where no tags are.
-fn put_words_loaded(out: &mut Draft, kind: Kind, v: u32, a: u32)
+pub fn put_words_loaded(out: &mut Draft, kind: Kind, v: u32, a: u32)
     ensures { Grows (Line (words_loaded kind v a)) (Unit {0}) out.old out.new }
 {
     match kind {

@@ -1,3 +1,4 @@
 pub mod Rules
 pub mod ObjectLaws
+pub mod StartLaws
 pub mod CopyLaws

@@ -1,3 +1,4 @@
 pub mod Cured
 pub mod Lines
+pub mod Starts
 pub mod Copies

@@ -12,12 +12,12 @@ returns-in-Some-part_offset c types =
     let at = c.args.at in
     let far = rw (c.in-Some-part_offset.is, c.kind_of-kind.ensures) at c.part_offset.ensures.there in
     let complete = rw c.in-Some-part_offset.is at c.part_offset.ensures.complete in
-    let there = rw (c.in-Some.is, c.requires) at c.holds_in.ensures.there in
+    let told = rw (c.in-Some.is, c.requires) at c.layout_in.ensures.there in
     let set = rw c.kind_of-kind.ensures at c.put_part.ensures in
-    let lines = rw (there, c.kind_of.ensures, c.kind_of-kind.ensures, c.pointer_slots.ensures, c.column.ensures.value) at c.put_struct.ensures in
-    grows_of _ _ _ _ _ (part_copy_ready (whole_of k) to.home to.ty to.offset from.node from.ty)
+    let lines = rw (c.kind_of.ensures, c.kind_of-kind.ensures, c.pointer_slots.ensures, c.column.ensures.value) at c.put_struct.ensures in
+    grows_of _ _ _ _ _ (part_copy_ready (whole_of k) to.home to.ty to.offset from.node from.ty _ told)
     (grows_as _ _ _ _ _ (λ code. part_copied k types to.object to.home to.ty to.offset from.pointer from.node from.ty at.to at.from at.assignment
-    _ code far complete) (grows_then _ _ _ _ _ _ _ set lines))
+    _ _ code told far complete) (grows_then _ _ _ _ _ _ _ set lines))
 
 pub returns-in-None-part_offset : goal.returns-in-None-part_offset
 returns-in-None-part_offset c types =
@@ -27,4 +27,4 @@ returns-in-None-part_offset c types =
 pub returns-in-None : goal.returns-in-None
 returns-in-None c types =
     grows_failed _ _ _ _ (no_part_type (whole_of c.args.k.now) c.args.to.home c.args.to.ty c.args.to.offset c.args.from.node c.args.from.ty
-    (rw (c.in-None.is, c.requires) at c.holds_in.ensures.none)) c.refuse-in-None.ensures
+    (rw (c.in-None.is, c.requires) at c.layout_in.ensures.none)) c.refuse-in-None.ensures

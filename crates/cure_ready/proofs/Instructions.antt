@@ -13,7 +13,7 @@ use Rattle.c_types.specs.declared.shape.TypeShape.{TypeShape}
 use Rattle.c_types.specs.declared.shape.TypeShape.TheVariants as shape
 use Rattle.c_types.specs.declared.site.Site.TheVariants as site
 use Rattle.c_types.specs.Table.{Table, IsType, IsComplete, shape_at, members_at, is_complete, is_function, is_union_shape, is_complete_entry, named_by, void_entry}
-use Rattle.c_types.specs.Cells.{Cell, raw, pointer, mixed, incomplete}
+use Rattle.c_types.specs.Cells.{holds_pointer, Cell, raw, pointer, mixed, incomplete}
 use Rattle.c_types.specs.Equality.{cells_of, physically_equal}
 use Rattle.c_types.specs.Flows.{CellsAgree, flow_class}
 use Rattle.c_types.specs.Solutions.{SpreadsWild, IsUnionAllowed, IsPointeeAllowed, allows}
@@ -53,7 +53,7 @@ use Rattle.cil_form.specs.State.{Around}
 use Rattle.cil_form.specs.Sites.{AreAmong, sites_of_convert, sites_of_access}
 use Rattle.cil_form.specs.Told.{AreAsked}
 use Rattle.cil_form.specs.Typing as typing
-use Rattle.cil_form.specs.Typing.{Context, HeldType, IntegerOf, PointerTo, PlaceOf, Typing, IsInteger, IsPointer, IsScalar, IsObject, IsPart, IsTemp, HoldsScalar, HoldsInteger, HoldsAddress, IsTarget, IsShapedSet, IsShapedCalculate, IsShapedPoint, IsShapedConvert, IsShapedAccess, IsShapedAllocate, IsShapedCall, IsShaped, held_shape}
+use Rattle.cil_form.specs.Typing.{Context, HeldType, IntegerOf, PointerTo, PlaceOf, Typing, IsInteger, IsPointer, IsScalar, IsObject, IsPart, IsTemp, HoldsScalar, HoldsInteger, HoldsAddress, IsTarget, IsShapedSet, IsShapedCalculate, IsShapedPoint, IsShapedConvert, IsShapedAccess, IsShapedAllocate, IsShapedCall, IsShaped, held_shape, no_types}
 use Rattle.cil_facts.specs.Held.{IsSolvedFor}
 use Rattle.cil_facts.proofs.Accesses.{place-allowed}
 use Rattle.sim_relation.specs.Ground.{word_number}
@@ -66,7 +66,8 @@ use Rattle.cure_calls.specs.Lines.{FitsRow, IsFunctionAt, HasFunction, CanCall, 
 use Rattle.cure_blocks.specs.Cured.{IsNumbered, AreConverted, AreTypes, CanConvert, CanAllocate}
 use Rattle.cure_blocks.specs.Rows.{pointee_at}
 use Rattle.cure_objects.specs.Cured.{HasPlan, CanPlace}
-use Rattle.cure_ready.specs.Curable.{IsCurable, CanPoint, AreBothWild, CanAccess, CanBeCured}
+use Rattle.cure_objects.specs.Copies.{IsWild, AreCopied, CanCopy, CanCopyPart}
+use Rattle.cure_ready.specs.Curable.{IsCurable, CanPoint, CanAccess, CanBeCured}
 use Rattle.cure_ready.proofs.Parts.{member-complete, part-fits, part-spreads}
 use Rattle.cure_ready.proofs.PartStarts.{all_safe, all_allowed}
 use Rattle.cure_ready.proofs.Sizes.{small-reach}
@@ -103,6 +104,22 @@ agree-on Wild b h = subst (AgreeOn Wild) (sym (h refl)) tt
 agree-on Safe b h = tt
 agree-on Seq b h = tt
 agree-on Rtti b h = tt
+
+copied : (holds : Bool) (a b : Kind) → ((a ≡ Wild) → b ≡ Wild) → ((b ≡ Wild) → a ≡ Wild) → AreCopied holds a b
+copied false a b h g = tt
+copied true Wild b h g = subst IsWild (sym (h refl)) tt
+copied true Safe Wild h g = let e = g refl in absurd (cc (e))
+copied true Safe Safe h g = tt
+copied true Safe Seq h g = tt
+copied true Safe Rtti h g = tt
+copied true Seq Wild h g = let e = g refl in absurd (cc (e))
+copied true Seq Safe h g = tt
+copied true Seq Seq h g = tt
+copied true Seq Rtti h g = tt
+copied true Rtti Wild h g = let e = g refl in absurd (cc (e))
+copied true Rtti Safe h g = tt
+copied true Rtti Seq h g = tt
+copied true Rtti Rtti h g = tt
 
 allowed-converted : (a b : Kind) (class : FlowClass) (below : Bool) → allows a b class below ≡ true → AreConverted a b
 allowed-converted Wild Wild class below h = tt
@@ -398,8 +415,21 @@ module _ (k : Context) (w : World) (r : IsCurable (seen k w) w) (types after : T
     λ x e. let s = r.solution.each (site.Home x.node x.type) (r.objects o x (same-plan o ∙ e)).0 in plain-home (w.whole.kind x.node) s.plain,
   )
 
-  both : (to n : NodeId) → Contains k.sites (site.Linked to n) → AreBothWild (w.whole.kind n) (w.whole.kind to)
-  both to n h = let l = r.solution.each (site.Linked to n) h in (l.1, l.0)
+  both : (holds : Bool) (to n : NodeId) → Contains k.sites (site.Linked to n) → AreCopied holds (w.whole.kind n) (w.whole.kind to)
+  both holds to n h = let l = r.solution.each (site.Linked to n) h in copied holds (w.whole.kind n) (w.whole.kind to) l.1 l.0
+
+  can-copy : (to n : NodeId) (t : TypeId) → IsType w.whole.table t → Contains k.sites (site.Linked to n) → CanCopy w.whole to n t
+  unfolding CanCopy
+  can-copy to n t h known = (h, both (holds_pointer w.whole.table t) to n known)
+
+  can-copy-part : (home : NodeId) (u : TypeId) (offset : ℕ) (n : NodeId) (t : TypeId) → IsType w.whole.table t → CanPlace w.whole u offset
+      → IsHome (w.whole.kind home) → Contains k.sites (site.Linked home n) → CanCopyPart w.whole home u offset n t
+  unfolding CanCopyPart
+  can-copy-part home u offset n t h place is_home known = (h, (place, (is_home, both (holds_pointer w.whole.table t) home n known)))
+
+  -- what a home of a scalar holds
+  pub home-reached : (home : NodeId) (t : TypeId) → Contains k.sites (site.Home home t) → IsScalar (seen k w) t → CanReach w.whole home t
+  home-reached home t known h = let s = r.solution.each (site.Home home t) known in can-reach home t h s.spreads
 
   can-access : (i : Access) → IsShapedAccess i (seen k w) types after → AreAmong k.sites (sites_of_access i) → CanAccess i w
   can-access (access.Load into source n t at) s a = can-reach n t s.1 (spreads-held source n t (scalar-data t s.1) s.2)
@@ -410,9 +440,9 @@ module _ (k : Context) (w : World) (r : IsCurable (seen k w) w) (types after : T
     (home-of o home u s.0.0, part-reached o home u offset t s.0.0 s.0.1 s.1.0),
   )
   can-access (access.Clear o) s a = has-plan o s.0
-  can-access (access.Copy (target.Pointer p to) to_place source n source_place t assignment) s a = (s.1.0, both to n a.0)
+  can-access (access.Copy (target.Pointer p to) to_place source n source_place t assignment) s a = can-copy to n t s.1.0 a.0
   can-access (access.Copy (target.Part o home u offset) to_place source n source_place t assignment) s a =
-      (s.1.0, ((can-place o home u offset t s.3.0 s.3.1, home-of o home u s.3.0), both home n a.0))
+      can-copy-part home u offset n t s.1.0 (can-place o home u offset t s.3.0 s.3.1) (home-of o home u s.3.0) a.0
 
   can-allocate : (i : Allocate) → IsShapedAllocate i (seen k w) types after → CanAllocate i w.whole
   can-allocate (allocate.Malloc into n node t at) s = s.1.0
@@ -468,3 +498,10 @@ pub can-cure : (k : Context) (w : World) (i : Instr) (types after : Typing) → 
 can-cure k w i types after r asked s =
     seen-cured k w (subst (λ T. IsCurable (record k { table = T }) w) r.inside.table r) types after asked i
     (subst (λ T. IsShaped i (record k { table = T }) types after) r.inside.table s)
+
+-- a scalar may be stored into its home
+pub can-store : (k : Context) (w : World) → IsCurable k w → (home : NodeId) (t : TypeId) → Contains k.sites (site.Home home t) → IsScalar k t
+    → CanReach w.whole home t
+can-store k w r home t known h =
+    home-reached k w (subst (λ T. IsCurable (record k { table = T }) w) r.inside.table r) no_types no_types (λ u x e. absurd (cc (e))) home t known
+    (subst (λ T. IsScalar (record k { table = T }) t) r.inside.table h)

@@ -1,5 +1,5 @@
 -- A program in shape, whose sites are told, is curable under a solution.
-use Rattle.std.proofs.Common.{◌≡◌, ◌≢◌, ◌∙◌, ℕ, zero, suc, true, List, [], ◌∷◌, ◌++◌, map, slice_get, Some, refl, ap, sym, subst}
+use Rattle.std.proofs.Common.{◌≡◌, ◌≢◌, ◌⊎◌, ◌∙◌, Option, None, ⊎_elim, ℕ, zero, suc, true, List, [], ◌∷◌, ◌++◌, map, slice_get, Some, refl, ap, sym, subst}
 use Rattle.std.specs.Prelude.{flat_map, IsSome}
 use Rattle.std.specs.List.{Contains}
 use Rattle.std.proofs.lemmas.Option.{slice_get_within, slice_get-get_or, get_or_from_slice_get}
@@ -23,6 +23,16 @@ use Rattle.cure_instrs.specs.Cured.{IsIn}
 use Rattle.cure_ready.specs.Curable.{HaveFewParameters, IsCurable}
 use Rattle.cil_form.specs.declared.program.Static.{Static}
 use Rattle.cil_form.specs.Machine.{plan, variables_of}
+use Rattle.std.specs.List.{filter_map}
+use Rattle.cc_base.specs.declared.kind.Kind.{Kind}
+use Rattle.cc_base.specs.declared.kind.Kind.TheVariants.{Safe, Wild}
+use Rattle.cc_base.specs.declared.number.NodeId.{NodeId}
+use Rattle.src_mem.specs.Runs as runs
+use Rattle.cil_form.specs.declared.program.Parameter.{Parameter}
+use Rattle.cil_form.specs.Typing.{IsScalar}
+use Rattle.cure_rules.specs.Accesses.{IsHome}
+use Rattle.cure_frames.specs.Storing.{HasHome as HasItsHome, HaveHomes, CanStore, CanStoreAll}
+use Rattle.cure_ready.proofs.Instructions.{can-store}
 
 -- Lists
 
@@ -129,3 +139,47 @@ initialisers-curable p w shape told solution inside sizes few =
         → Contains p.sites (site.Home x.node x.type) × IsObjectType (context_of p) x.type
     objects (object.Static n) x e = static-planned p n.0 x shape told e
     objects (object.Variable n) x e = absurd (cc (e))
+
+-- Parameters
+
+plain : (x : Kind) → (x ≡ Safe) ⊎ (x ≡ Wild) → IsHome x
+plain x h = ⊎_elim (λ e. subst IsHome (sym e) tt) (λ e. subst IsHome (sym e) tt) h
+
+module _ (p : Program) (f : Function) (w : World) (r : IsCurable (context_in p f) w) where
+  stored : (x : TypeId) (o : Option NodeId) → ((home : NodeId) → o ≡ Some home → Contains p.sites (site.Home home x))
+      → IsScalar (context_of p) x → HasItsHome w.whole o × CanStore w.whole o x
+  stored x None h scalar = (tt, tt)
+  stored x (Some home) h scalar =
+      let s = r.solution.each (site.Home home x) (h home refl) in
+      (plain (w.whole.kind home) s.plain, can-store (context_in p f) w r home x (h home refl) scalar)
+
+  abbrev IsHeadHome : Planned → Type 0
+  IsHeadHome o = Contains p.sites (site.Home o.node o.type)
+
+  abbrev head : Parameter → runs.Parameter
+  head x = record { type = x.ty; home = x.home }
+
+  first-home : (x : TypeId) (o : Option NodeId) (ps : List runs.Parameter)
+      → Each IsHeadHome (filter_map (λ (y : runs.Parameter). runs.planned y.type y.home) (record { type = x; home = o } ∷ ps))
+      → ((home : NodeId) → o ≡ Some home → Contains p.sites (site.Home home x))
+      × Each IsHeadHome (filter_map (λ (y : runs.Parameter). runs.planned y.type y.home) ps)
+  first-home x None ps h = (λ home e. absurd (cc (e)), h)
+  first-home x (Some n) ps h = (λ home e. let it : n ≡ home = cc (e) in subst (λ m. Contains p.sites (site.Home m x)) it h.0, h.1)
+
+  all-stored : (ps : List Parameter) → Each IsHeadHome (filter_map (λ (y : runs.Parameter). runs.planned y.type y.home) (map head ps))
+      → Each (λ (x : Parameter). IsScalar (context_of p) x.ty) ps → HaveHomes w.whole ps × CanStoreAll w.whole ps
+  all-stored [] h scalars = (tt, tt)
+  all-stored (x ∷ xs) h scalars =
+      let a = first-home x.ty x.home (map head xs) h in
+      let b = stored x.ty x.home a.0 scalars.0 in
+      let c = all-stored xs a.1 scalars.1 in
+      ((b.0, c.0), (b.1, c.1))
+
+  pub parameters-stored : IsInShape p → IsToldOf p → Contains p.functions f → HaveHomes w.whole f.parameters × CanStoreAll w.whole f.parameters
+  parameters-stored shape told there =
+      let q = All-contains (IsFunctionInShape p) p.functions f shape.functions there in
+      let place = slice_get-get_or p.functions there.0 f there.1 ∙ ap Some there.2 in
+      all-stored f.parameters
+      (each-left IsHeadHome (filter_map (λ (y : runs.Parameter). runs.planned y.type y.home) (map head f.parameters)) (map plan f.locals)
+      (each-flat IsHeadHome variables_of p.functions there.0 f
+      (each-right IsHeadHome (map (λ (s : Static). plan s.planned) p.statics) (flat_map variables_of p.functions) told.objects) place)) q.scalars

@@ -1,19 +1,15 @@
 -- Where the curer stands, and what its functions ask of each instruction in order to refuse nothing.
-use Rattle.std.specs.Prelude.{◌≡◌, ◌≢◌, ◌↔◌, ℕ, ◌≤◌, List, length, slice_get, Option, Some, IsSome, IsTrue}
+use Rattle.std.specs.Prelude.{◌≡◌, ◌≢◌, ℕ, ◌≤◌, List, length, slice_get, Option, Some, IsSome, IsTrue}
 use Rattle.std.specs.List.{Contains}
-use Rattle.cc_base.specs.declared.kind.Kind.{Kind}
-use Rattle.cc_base.specs.declared.kind.Kind.TheVariants.{Wild}
-use Rattle.cc_base.specs.declared.number.NodeId.{NodeId}
 use Rattle.cc_base.specs.declared.number.TypeId.{TypeId}
 use Rattle.c_types.specs.declared.shape.TypeShape.TheVariants as shape
 use Rattle.c_types.specs.declared.site.Site.TheVariants as site
-use Rattle.c_types.specs.Table.{Table, IsType, shape_at, is_function}
+use Rattle.c_types.specs.Table.{Table, shape_at, is_function}
 use Rattle.c_types.specs.Solutions.{IsSolution}
 use Rattle.src_mem.specs.Memory.{Planned}
 use Rattle.cil_form.specs.declared.number.Object.{Object}
 use Rattle.cil_form.specs.declared.instr.Point.{Point}
 use Rattle.cil_form.specs.declared.instr.Point.TheVariants as point
-use Rattle.cil_form.specs.declared.instr.Target.{Target}
 use Rattle.cil_form.specs.declared.instr.Target.TheVariants as target
 use Rattle.cil_form.specs.declared.instr.Access.{Access}
 use Rattle.cil_form.specs.declared.instr.Access.TheVariants as access
@@ -21,12 +17,13 @@ use Rattle.cil_form.specs.declared.instr.Instr.{Instr}
 use Rattle.cil_form.specs.declared.instr.Instr.TheVariants as instr
 use Rattle.cil_form.specs.Typing.{Context, HeldType, Typing, IsObjectType, plan_of}
 use Rattle.cil_form.specs.Told.{AreSitesTold, TellsOf}
-use Rattle.cure_rules.specs.Known.{Whole, World, AreSizes}
+use Rattle.cure_rules.specs.Known.{World, AreSizes}
 use Rattle.cure_instrs.specs.Cured.{IsIn, CanSet, CanCalculate, CanReach, IsAsked, IsHome}
 use Rattle.cure_points.specs.Lines.{CanMove, HasMember, HavePointers}
 use Rattle.cure_calls.specs.Lines.{CanCall, CanReturn}
 use Rattle.cure_blocks.specs.Cured.{CanConvert, CanAllocate}
 use Rattle.cure_objects.specs.Cured.{CanPlace, HasPlan}
+use Rattle.cure_objects.specs.Copies.{CanCopy, CanCopyPart}
 
 -- The premises
 
@@ -62,25 +59,14 @@ CanPoint (point.IsNull into p t different) w types = (x : Option HeldType) → t
 CanPoint (point.Member into from outer t i inner u at) w types = HasMember w.whole t i
 CanPoint other w types = Unit {0}
 
--- a part of an object may be written: it is placed, and the object's home is SAFE or WILD
-abbrev pub CanWritePart : Whole → NodeId → TypeId → ℕ → Type 0
-CanWritePart w home u offset = CanPlace w u offset × IsHome (w.kind home)
-
--- a struct is copied between two sides of which both are WILD, or neither is
-abbrev pub AreBothWild : Kind → Kind → Type 0
-AreBothWild from to = (from ≡ Wild) ↔ (to ≡ Wild)
-
-abbrev pub CanCopyTo : Target → Whole → NodeId → TypeId → Type 0
-CanCopyTo (target.Pointer p to) w node t = IsType w.table t × AreBothWild (w.kind node) (w.kind to)
-CanCopyTo (target.Part o home u offset) w node t = IsType w.table t × (CanWritePart w home u offset × AreBothWild (w.kind node) (w.kind home))
-
 abbrev pub CanAccess : Access → World → Type 0
 CanAccess (access.Load into from node t at) w = CanReach w.whole node t
 CanAccess (access.Store (target.Pointer p node) v t at assignment) w = CanReach w.whole node t
 CanAccess (access.Store (target.Part o home u offset) v t at assignment) w =
     CanPlace w.whole u offset × (IsHome (w.whole.kind home) × CanReach w.whole home t)
 CanAccess (access.Clear o) w = HasPlan w o
-CanAccess (access.Copy to to_place from node from_place t assignment) w = CanCopyTo to w.whole node t
+CanAccess (access.Copy (target.Pointer p to) to_place from node from_place t assignment) w = CanCopy w.whole to node t
+CanAccess (access.Copy (target.Part o home u offset) to_place from node from_place t assignment) w = CanCopyPart w.whole home u offset node t
 
 -- What the curer asks of an instruction, where this is known of the temporaries before it. Of an instruction that holds code it asks no more than
 -- of that code.

@@ -16,6 +16,7 @@ ghost use Rattle.cure_rules.specs.Known.{World, AreSizes};
 ghost use Rattle.cure_instrs.specs.Cured.{IsIn};
 ghost use Rattle.cure_points.specs.Cured.{AreMembersWhole};
 ghost use Rattle.cure_objects.specs.Cured.{ArePartsWhole};
+ghost use Rattle.cure_frames.specs.Storing.{HaveHomes, CanStoreAll};
 ghost use Rattle.cure_ready.specs.Curable.{HaveFewParameters, IsCurable, CanBeCured};
 
 /// No pointer has begun before a member, or before a part of an object, and ends in it.
@@ -35,4 +36,9 @@ pub fn can_be_cured()
 pub fn programs_are_curable()
     ensures functions { (p : Program) (f : Function) (w : World) → IsInShape p → IsToldOf p → IsSolutionOf p w.whole.kind → Contains p.functions f → IsIn w (context_in p f) → AreSizes w.whole → w.number ≢ 0 → HaveFewParameters p.types → IsCurable (context_in p f) w }
     ensures initialisers { (p : Program) (w : World) → IsInShape p → IsToldOf p → IsSolutionOf p w.whole.kind → IsIn w (context_of p) → AreSizes w.whole → HaveFewParameters p.types → IsCurable (context_of p) w }
+{}
+
+/// What the parameters of a function hold may be stored into their homes, which are SAFE or WILD.
+pub fn parameters_can_be_stored()
+    ensures { (p : Program) (f : Function) (w : World) → IsInShape p → IsToldOf p → Contains p.functions f → IsCurable (context_in p f) w → HaveHomes w.whole f.parameters × CanStoreAll w.whole f.parameters }
 {}

@@ -182,7 +182,12 @@ loop_made w x n h g r a c one inner forget s1 m1 len cut loop = λ fine.
               let l = c1.1 (inside cx entry) (less ∷ blocks) entry entry (inside-block w cx blocks entry less is p.ends p.keeps)
               (includes-more (holds_now h) types entry more p.begins) (shaped-held x (inside cx entry) entry entry s.2) in (
                 subst (λ z. Includes (typing_of z) less) (sym back) (includes-more (holds_now h) types less more (includes-more types entry less p.begins p.ends)),
-                (known_of w.slots entry, forget types entry p.begins, (record { 0 = inner.items }, held-row x w _ _ _ _ l.1, refl)),
+                (
+                  known_of w.slots entry,
+                  forget types entry p.begins,
+                  (record { 0 = inner.items }, held-row x w _ _ _ _ l.1, refl),
+                  forget entry less p.ends,
+                ),
               ),
         ),
         q.2,

@@ -16,13 +16,11 @@ use Rattle.src_machine.specs.Sites.{sites_of}
 use Rattle.cil_form.specs.Machine.{code_run}
 use Rattle.cil_form.specs.Shape.{IsInShape}
 use Rattle.cil_form.specs.Sites.{Each}
-use Rattle.cil_form.specs.Told.{IsToldOf}
 use Rattle.cil_form.specs.declared.program.Program.{Program}
 use Rattle.cil_form.specs.declared.program.Static.{Static}
 use Rattle.lower_rules.specs.Units.{IsCodeOfUnit}
 use Rattle.lower_means.proofs.Units.{code-runs}
 use Rattle.lower_shape.specs.Lowered.{AreBytes, IsLoweredFrom}
-use Rattle.lower_shape.proofs.SitesKept.{program-told}
 use Rattle.lower_shape.proofs.Whole.{program-shaped}
 use Rattle.unit_parts.specs.Collecting.{HaveBytes, IsBytes}
 
@@ -55,7 +53,3 @@ means u p table l same kind input turns = code-runs u p l.code kind input turns 
 
 pub sites_told : (u : TypedTranslationUnit) (p : Program) (table : Table) → IsLoweredFrom u p → p.types ≡ table → p.sites ≡ sites_of u table
 sites_told u p table l same = l.sites ∙ ap (λ t. sites_of u t) same
-
--- its sites tell of all of it
-pub told : (u : TypedTranslationUnit) (p : Program) (table : Table) → IsLoweredFrom u p → p.types ≡ table → IsWellTyped table u → IsToldOf p
-told u p table l same typed = program-told u p (subst (λ t. IsWellTyped t u) (sym same) typed) l

@@ -12,7 +12,6 @@ ghost use Rattle.runs.specs.Input.{Input};
 ghost use Rattle.src_machine.specs.Machine.{source_run};
 ghost use Rattle.src_machine.specs.Sites.{sites_of};
 ghost use Rattle.cil_form.specs.Machine.{code_run};
-ghost use Rattle.cil_form.specs.Told.{IsToldOf};
 ghost use Rattle.lower_rules.specs.Units.{IsCodeOfUnit};
 ghost use Rattle.lower_shape.specs.Lowered.{IsLoweredFrom};
 
@@ -54,7 +53,7 @@ fn program_of(alloc: Global, unit: &Typed) -> Result<Program, NoMemory>
 
 /// The three-address code of a well typed unit, which is in shape. For whatever kinds the nodes have, every input and
 /// every bound on turns it runs as the unit does: in its ending, its output, the bytes that it reads, its accesses, the
-/// functions that it enters and the memory at the end. Its types, nodes and sites are the unit's, and its sites tell of all of it. The only error is want
+/// functions that it enters and the memory at the end. Its types, nodes and sites are the unit's. The only error is want
 /// of memory.
 pub fn lower(alloc: Global, unit: &Typed) -> Result<Cil, NoMemory>
     requires typed { IsWellTyped unit.now.types (typed_unit_view unit.now.unit) }
@@ -64,7 +63,6 @@ pub fn lower(alloc: Global, unit: &Typed) -> Result<Cil, NoMemory>
     ensures code { IfOk result (λ cil. IsCodeOfUnit (typed_unit_view unit.now.unit) cil) }
     ensures means { IfOk result (λ cil. (kind : NodeId → Kind) (input : Input) (turns : ℕ) → code_run cil kind input turns ≡ source_run (typed_unit_view unit.now.unit) unit.now.types kind input turns) }
     ensures sites { IfOk result (λ cil. cil.sites ≡ sites_of (typed_unit_view unit.now.unit) unit.now.types) }
-    ensures told { IfOk result (λ cil. IsToldOf cil) }
     ensures nodes { IfOk result (λ cil. cil.nodes ≡ unit.now.nodes) }
     ensures types { IfOk result (λ cil. cil.types ≡ unit.now.types) }
 {

@@ -10,7 +10,6 @@ ghost use Rattle.program_top.specs.Made.{is_there, texts};
 
 use crate::files::{limit_of, read_text};
 use crate::running::exec_text;
-use crate::writing::kinds_text;
 use crate::words::asked;
 use cc_io::{FileFault, Files, Sink, Source};
 use command_words::Action;
@@ -122,7 +121,6 @@ fn on_text<I: Source, O: Sink>(
 {
     match action {
         Action::Exec(turns) => exec_text(alloc, text, turns, input, out),
-        Action::Kinds => kinds_text(alloc, text, out),
-        Action::Cure | Action::Run(_) => unreachable!(),
+        Action::Kinds | Action::Cure | Action::Run(_) => unreachable!(),
     }
 }

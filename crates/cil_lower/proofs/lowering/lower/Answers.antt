@@ -1,6 +1,6 @@
 use Rattle.std.proofs.Common.{ap, ◌∙◌}
 use Rattle.c_tree.specs.TypedStatementViews.{typed_unit_view}
-use Rattle.cil_lower.proofs.LowerLaws.{means, shaped, sites_told, told}
+use Rattle.cil_lower.proofs.LowerLaws.{means, shaped, sites_told}
 use Rattle.cil_lower.proofs.lowering.lower.Goals as goal
 
 pub of-requires : goal.of-requires
@@ -15,7 +15,3 @@ pub returns-clause-sites : goal.returns-clause-sites
 returns-clause-sites c = ap (λ p. p.sites) c.of.ensures
     ∙ sites_told (typed_unit_view c.args.unit.now.unit) c.in_ok-program_of.field-0 c.args.unit.now.types
     c.in_ok-program_of.ensures.lowered c.in_ok-program_of.ensures.types
-
-pub returns-clause-told : goal.returns-clause-told
-returns-clause-told c = rw c.of.ensures (told (typed_unit_view c.args.unit.now.unit) c.in_ok-program_of.field-0 c.args.unit.now.types
-    c.in_ok-program_of.ensures.lowered c.in_ok-program_of.ensures.types c.requires.typed)

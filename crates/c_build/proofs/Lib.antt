@@ -1,3 +1,0 @@
-pub mod PrintedNodes
-pub mod Passes
-pub mod Lines

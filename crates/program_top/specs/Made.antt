@@ -3,13 +3,11 @@ use Rattle.std.specs.Prelude.{ℕ, List, Bool, true, false, ⊤}
 use Rattle.command_words.specs.declared.command.Action.{Action}
 use Rattle.command_words.specs.declared.command.Action.TheVariants.{Kinds, Cure, Run, Exec}
 use Rattle.command_words.specs.Commands.{Command, OnFile, Make}
-use Rattle.c_front.specs.Refused.{IsFirstRefusal}
-use Rattle.c_build.specs.Built.{HasKinds}
 use Rattle.program_answers.specs.Texts.{Texts}
 
--- C isn't cured yet: its kinds are told, and cured text is run
+-- C isn't cured yet, so only cured text is run
 abbrev pub is_there : Action → Bool
-is_there Kinds = true
+is_there Kinds = false
 is_there Cure = false
 is_there (Run n) = false
 is_there (Exec n) = true
@@ -22,8 +20,8 @@ is_built (Make n) = false
 abbrev pub texts : Texts
 texts = record {
   IsCured = λ text parts. ⊥;
-  HasKinds = HasKinds;
-  IsRefused = IsFirstRefusal;
+  HasKinds = λ text lines. ⊥;
+  IsRefused = λ text fault. ⊥;
   IsUncured = λ text fault. ⊤;
   is_built = is_built;
 }

@@ -5,6 +5,5 @@ mod files;
 mod running;
 mod top;
 mod words;
-mod writing;
 
 pub use top::ccured;

@@ -122,7 +122,6 @@ fn on_text<I: Source, O: Sink>(
 {
     match action {
         Action::Exec(turns) => exec_text(alloc, text, turns, input, out),
-        Action::Kinds => kinds_text(alloc, text, out),
-        Action::Cure | Action::Run(_) => unreachable!(),
+        Action::Kinds | Action::Cure | Action::Run(_) => unreachable!(),
     }
 }

@@ -23,7 +23,7 @@ fn there(action: Action, name: &str) -> Option<(Action, &str)>
     ensures there { IfSome result (λ r. is_there r.0 ≡ true) }
 {
     match action {
-        Action::Kinds | Action::Exec(_) => Some((action, name)),
-        Action::Cure | Action::Run(_) => None,
+        Action::Exec(_) => Some((action, name)),
+        Action::Kinds | Action::Cure | Action::Run(_) => None,
     }
 }

@@ -209,7 +209,7 @@ module _ (k : Context) (a : Around) (solved : IsSolvedFor k a.setting) (types af
       by [] f = λ plain u m h. absurd (none u (subst (λ xs. Contains xs u) f h))
       by (x ∷ xs) f =
           let known = solved.told.unions v (ap is_union_shape e)
-              (ap (λ s. is_complete_entry s (members_at a.setting.table v)) e ∙ ap (λ ms. not (is_empty ms)) f) in
+          (ap (λ s. is_complete_entry s (members_at a.setting.table v)) e ∙ ap (λ ms. not (is_empty ms)) f) in
           solved.solution.each (site.Union v known.0) known.1
 
   member-given : (at : Place) (outer : NodeId) (t : TypeId) (i : ℕ) (inner : NodeId) (p : Pointer) → IsComplete a.setting.table t

@@ -67,31 +67,39 @@ module _ (w : Setting) (sound : IsWellFormed w.table) (sites : List Site) (depth
           (GivesPointer w sites depth Wild t old)
           → Gives (given (whole_part o) (λ part. done (At (record { object = l.object; part = part; offset = z; made = t }))) s) (GivesPlace Wild)
       whole z None h = h
-      whole z (Some o) h =
-          (h, record {
-            location = record { object = l.object; part = record { low = 0; high = o.size }; offset = z; made = t };
-            is = refl;
-            place = h.held.value;
-            reaches = h.held.reaches;
-          })
+      whole z (Some o) h = (
+        h,
+        record {
+          location = record { object = l.object; part = record { low = 0; high = o.size }; offset = z; made = t };
+          is = refl;
+          place = h.held.value;
+          reaches = h.held.reaches;
+        },
+      )
 
       by : (k : Kind) (z : ℤ) → Made s l k z (GivesPointer w sites depth k t old) → Made s l k z (GivesPlace k)
       by Wild z h = whole z (slice_get s.memory.objects l.object) h
       by Safe (negsuc a) h = h
-      by Safe (pos a) h =
-          (h, held-place w sound (outlines_of old.memory) (lives_of old.memory) depth old.memory Safe t
-          (At (record { object = l.object; part = record { low = a; high = a + size_of w.table t }; offset = pos a; made = t }))
-          (complete-data w.table sound t complete) h.held (refl, tt))
+      by Safe (pos a) h = (
+        h,
+        held-place w sound (outlines_of old.memory) (lives_of old.memory) depth old.memory Safe t
+            (At (record { object = l.object; part = record { low = a; high = a + size_of w.table t }; offset = pos a; made = t }))
+            (complete-data w.table sound t complete) h.held (refl, tt),
+      )
       by Rtti (negsuc a) h = h
-      by Rtti (pos a) h =
-          (h, held-place w sound (outlines_of old.memory) (lives_of old.memory) depth old.memory Rtti t
-          (At (record { object = l.object; part = record { low = a; high = a + size_of w.table t }; offset = pos a; made = t }))
-          (complete-data w.table sound t complete) h.held (refl, tt))
+      by Rtti (pos a) h = (
+        h,
+        held-place w sound (outlines_of old.memory) (lives_of old.memory) depth old.memory Rtti t
+            (At (record { object = l.object; part = record { low = a; high = a + size_of w.table t }; offset = pos a; made = t }))
+            (complete-data w.table sound t complete) h.held (refl, tt),
+      )
       by Seq (negsuc a) h = h
-      by Seq (pos a) h =
-          (h, held-place w sound (outlines_of old.memory) (lives_of old.memory) depth old.memory Seq t
-          (At (record { object = l.object; part = record { low = a; high = a + size_of w.table t }; offset = pos a; made = t }))
-          (complete-data w.table sound t complete) h.held (at_start a (size_of w.table t), tt))
+      by Seq (pos a) h = (
+        h,
+        held-place w sound (outlines_of old.memory) (lives_of old.memory) depth old.memory Seq t
+            (At (record { object = l.object; part = record { low = a; high = a + size_of w.table t }; offset = pos a; made = t }))
+            (complete-data w.table sound t complete) h.held (at_start a (size_of w.table t), tt),
+      )
 
 -- the address of a member is a place
 pub gives-member_place : (w : Setting) (sound : IsWellFormed w.table) (sites : List Site) (old : State) (depth : ℕ)

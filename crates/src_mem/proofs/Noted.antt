@@ -30,7 +30,7 @@ notes kind p m s r x e same = of (falls kind s.memory.objects p m x e) (spot-is 
           (record { object = x.object; found = is.found; inside = is.inside });
       part = λ plain.
           let h = lies_in_part kind s.memory.objects f.location m x plain
-              (subst (λ q. spot kind s.memory.objects q m ≡ Some x) f.pointer e) in
+          (subst (λ q. spot kind s.memory.objects q m ≡ Some x) f.pointer e) in
           (h.0, h.1);
     }
 

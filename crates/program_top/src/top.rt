@@ -11,7 +11,6 @@ ghost use Rattle.program_top.specs.Made.{is_there, texts};
 use crate::files::{limit_of, read_text};
 use crate::running::exec_text;
 use crate::words::asked;
-use crate::writing::kinds_text;
 use cc_io::{FileFault, Files, Sink, Source};
 use command_words::Action;
 use program_answers::{Verdict, report_verdict};

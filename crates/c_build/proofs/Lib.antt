@@ -1,3 +1,3 @@
 pub mod PrintedNodes
 pub mod Passes
-pub mod Lines
+pub mod KindLines

@@ -1,6 +1,7 @@
 //! A row as it is read, line by line.
 use std::alloc::Global;
 use std::collections::BTreeMap;
+use std::mem;
 
 /// The numbers of the calls that fail, counted from 1.
 #[derive(Drop)]
@@ -22,6 +23,8 @@ pub(crate) struct Case {
     pub(crate) fails: Failing,
     /// The file that is being read; None where it is the input.
     file: Option<String>,
+    /// What was read of it.
+    text: Vec<u8>,
 }
 
 impl Case {
@@ -38,6 +41,7 @@ impl Case {
                 report: Vec::new(alloc),
             },
             file: None,
+            text: Vec::new(alloc),
         }
     }
 
@@ -56,14 +60,20 @@ impl Case {
         }
     }
 
-    /// Adds bytes to the file that is being read, or to the input.
+    /// Adds bytes to the text that is being read.
     fn add(&mut self, bytes: &[u8]) -> anyhow::Result<()> {
-        let into = match &self.file {
-            Some(name) => self.files.get_mut(name),
-            None => Some(&mut self.input),
-        };
-        if let Some(into) = into {
-            into.extend_from_slice(bytes)?;
+        self.text.extend_from_slice(bytes)?;
+        Ok(())
+    }
+
+    /// Keeps the text that was read as that of its file, or as the input.
+    pub(crate) fn close(&mut self, alloc: Global) -> anyhow::Result<()> {
+        let text = mem::replace(&mut self.text, Vec::new(alloc));
+        match self.file.take() {
+            Some(name) => {
+                self.files.insert(name, text)?;
+            }
+            None => self.input = text,
         }
         Ok(())
     }
@@ -73,11 +83,10 @@ impl Case {
         if let Some(word) = line.strip_prefix("word ") {
             self.words.push(String::from_str(alloc, word)?)?;
         } else if let Some(name) = line.strip_prefix("file ") {
-            self.files
-                .insert(String::from_str(alloc, name)?, Vec::new(alloc))?;
+            self.close(alloc)?;
             self.file = Some(String::from_str(alloc, name)?);
         } else if line == "input" {
-            self.file = None;
+            self.close(alloc)?;
         } else if line == "word" {
             self.words.push(String::new(alloc))?;
         } else {

@@ -18,14 +18,14 @@ const ROOM: usize = 65_536;
 
 /// What a row answers.
 #[derive(Drop)]
-struct Answered {
+struct Outcome {
     out: MemSink,
     report: MemSink,
     status: u8,
 }
 
 /// Runs the program on a row.
-fn answered(alloc: Global, case: Case) -> anyhow::Result<Answered> {
+fn answered(alloc: Global, case: Case) -> anyhow::Result<Outcome> {
     let out = Vec::with_capacity(alloc, ROOM)?;
     let report = Vec::with_capacity(alloc, ROOM)?;
     let Failing {
@@ -46,7 +46,7 @@ fn answered(alloc: Global, case: Case) -> anyhow::Result<Answered> {
         &mut out,
         &mut report,
     );
-    Ok(Answered {
+    Ok(Outcome {
         out,
         report,
         status,
@@ -54,11 +54,11 @@ fn answered(alloc: Global, case: Case) -> anyhow::Result<Answered> {
 }
 
 /// Writes what a row answers.
-fn show<W: Write>(answered: &Answered, to: &mut W) -> anyhow::Result<()> {
-    to.write_all(answered.out.written())?;
+fn show<W: Write>(outcome: &Outcome, to: &mut W) -> anyhow::Result<()> {
+    to.write_all(outcome.out.written())?;
     to.write_all(b"|\n")?;
-    to.write_all(answered.report.written())?;
-    writeln!(to, "|\nstatus {}", answered.status)?;
+    to.write_all(outcome.report.written())?;
+    writeln!(to, "|\nstatus {}", outcome.status)?;
     Ok(())
 }
 
@@ -72,6 +72,7 @@ fn main(rt: HostRuntime) -> anyhow::Result<()> {
     for line in text.split(|byte| *byte == b'\n') {
         if let Some(title) = line.strip_prefix(b"== ") {
             if begun {
+                case.close(alloc)?;
                 show(&answered(alloc, case)?, &mut out)?;
             }
             case = Case::new(alloc);
@@ -84,6 +85,7 @@ fn main(rt: HostRuntime) -> anyhow::Result<()> {
         }
     }
     if begun {
+        case.close(alloc)?;
         show(&answered(alloc, case)?, &mut out)?;
     }
     Ok(())

@@ -1,0 +1,10 @@
+use Rattle.std.proofs.Common.{refl}
+use Rattle.program_answers.specs.Causes.{no_room}
+use Rattle.program_answers.proofs.Reasons.{keeps_itself}
+use Rattle.program_top.proofs.writing.write_text.Goals as goal
+
+pub returns-in-Ok : goal.returns-in-Ok
+returns-in-Ok g c = ?
+
+pub returns-in-Err : goal.returns-in-Err
+returns-in-Err g c = ?

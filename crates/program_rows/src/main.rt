@@ -35,7 +35,7 @@ fn answered(alloc: Global, case: Case) -> anyhow::Result<Outcome> {
         report: reports,
     } = case.fails;
     let mut files = MemFiles::new(alloc, case.files, files);
-    let mut input = MemSource::new(case.input, case.most, input);
+    let mut input = MemSource::new(case.input, case.most.max(1), input);
     let mut out = MemSink::new(out, output);
     let mut report = MemSink::new(report, reports);
     let status = ccured(

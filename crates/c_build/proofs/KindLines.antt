@@ -30,7 +30,7 @@ module _ (text : List ℕ) (t : Typed) (p : Program) (s : Solved) (is : IsBuilt 
 
   has_cause : (list : List Constraint) (n : ℕ) (kind : Kind) (cause : Option Cause) → HasCause list n kind cause → (kind ≡ Safe) ⊎ IsSome cause
   has_cause list n kind None safe = inl safe
-  has_cause list n kind (Some c) chain = inr (tt {0})
+  has_cause list n kind (Some c) chain = inr refl
 
   pub have_causes : HaveCauses s.kinds s.causes t.printed
   have_causes =

@@ -1,0 +1,8 @@
+use Rattle.c_build.proofs.KindLines.{kinds_within, causes_within, have_causes}
+use Rattle.c_build.proofs.lines.kinds.Goals as goal
+
+pub report-requires-clause-kinds : goal.report-requires-clause-kinds
+report-requires-clause-kinds c = rw c.as_slice.ensures (kinds_within c.requires.0 _ _ _ c.requires.1)
+
+pub report-requires-clause-causes : goal.report-requires-clause-causes
+report-requires-clause-causes c = rw c.as_slice.ensures (causes_within c.requires.0 _ _ _ c.requires.1)

@@ -3,7 +3,7 @@ use Rattle.std.specs.List.{AllByRecursion, IsDistinct, range_with_len, All}
 use Rattle.std.proofs.Common.{◌≡◌, ℕ, ◌+◌, ◌≤◌, ◌==◌, Bool, true, false, List, [], ◌∷◌, ◌++◌, map, flat_map, length, refl, ap, ◌∙◌, arith, nat_eq, if◌then◌else◌, ◌≢◌}
 use Rattle.std.proofs.lemmas.Bool.Decides.{nat_tests}
 use Rattle.std.proofs.lemmas.List.{map-append}
-use Rattle.std.proofs.lemmas.List.Elements.{All-nil, All-cons}
+use Rattle.std.proofs.lemmas.List.Elements.{All-nil, All-cons, All-weaker}
 use Rattle.cc_base.specs.declared.number.NodeId.{NodeId}
 use Rattle.cc_base.specs.declared.number.TypeId.{TypeId}
 use Rattle.c_tree.specs.declared.typed_word.Home.{Home}
@@ -58,6 +58,13 @@ distinct-once (x ∷ xs) h =
     let own = h x in
     let e = equal x in
     (none-after x xs (omega (arith, own, e)), distinct-once xs (λ n. let most = h n in omega (arith, most)))
+
+pub occurs-all : (xs : List ℕ) → All (λ m. 1 ≤ occurs m xs) xs
+unfolding occurs
+occurs-all [] = All-nil (λ m. 1 ≤ occurs m [])
+occurs-all (x ∷ xs) =
+    All-cons (λ m. 1 ≤ occurs m (x ∷ xs)) x xs (let e = equal x in omega (arith, e))
+    (All-weaker (λ m. 1 ≤ occurs m xs) (λ m. 1 ≤ occurs m (x ∷ xs)) (λ m l. omega (arith, l)) xs (occurs-all xs))
 
 pub none-equal : (n : ℕ) (xs : List ℕ) → occurs n xs ≡ 0 → All (λ h. h ≢ n) xs
 unfolding occurs

@@ -24,3 +24,5 @@ pub mod ReadyUnit
 pub mod PlacesWhole
 pub mod ReadyRows
 pub mod ParameterObjects
+pub mod PointersMade
+pub mod PointersLess

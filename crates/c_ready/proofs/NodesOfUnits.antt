@@ -6,7 +6,8 @@ use Rattle.cc_base.specs.declared.number.TypeId.{TypeId}
 use Rattle.c_types.specs.Table.{Table, shape_at}
 use Rattle.c_tree.specs.TypedTree as typed
 use Rattle.c_tree.specs.TypedTree.{TypedExpr, TypedSpecifiers, TypedForm, TypedCore, TypedParts, TypedInitialiser, TypedItems, TypedInitDeclarators, TypedDeclaration, TypedStatement, TypedBlockItems, TypedTranslationUnit}
-use Rattle.c_tree.specs.TypedParts.{type_of, place_type, specified_type, Made, Copy, made_by, made_by_place, made_by_specifiers, made_by_form, item_place, made_by_initialiser, made_by_items, made_by_init_declarators, made_by_declaration, made_by_optional, made_by_statement, made_by_block_items, made_by_unit, home_of_form}
+use Rattle.c_tree.specs.TypedParts.{type_of, place_type, specified_type, Made, Copy, item_place, home_of_form}
+use Rattle.c_ready.proofs.PointersMade.{made_by, made_by_place, made_by_specifiers, made_by_form, made_by_initialiser, made_by_items, made_by_init_declarators, made_by_declaration, made_by_optional, made_by_statement, made_by_block_items, made_by_unit}
 use Rattle.c_tree.specs.declared.typed_word.Home.{Home}
 use Rattle.c_tree.specs.declared.typed_word.Home.TheVariants as home
 use Rattle.c_typing.specs.Scopes.{Scopes}

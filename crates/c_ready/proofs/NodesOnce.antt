@@ -18,7 +18,9 @@ use Rattle.c_unit_typing.specs.TypesUsed.{used_by_unit}
 use Rattle.c_ready.specs.Ready.{AreReadyExternals, static_stage, homes_of}
 use Rattle.c_ready.proofs.Counting.{one, one-self, count, range-once}
 use Rattle.c_ready.proofs.HomesApart.{occurs, none-equal, homes-most}
-use Rattle.c_ready.proofs.NodesUsed.{of_shape, uses}
+use Rattle.c_ready.proofs.NodesUsed.{of_shape, uses, makes}
+use Rattle.c_ready.proofs.PointersMade as pointers
+use Rattle.c_ready.proofs.PointersLess.{unit-less}
 use Rattle.c_ready.proofs.NodesOfUnits.{unit-uses, single, two}
 
 -- past the end of the range
@@ -84,13 +86,27 @@ module _ (T : Table) (u : TypedTranslationUnit) (before after : units.Known) (ba
     (typed : IsUnitTyped T u before after) (types : AreUses (used_by_unit T u) (length basic_table) (length T))
     (ready : AreReadyExternals (static_stage T u) u) where
   all-most : (n : ℕ) → uses T n (used_by_unit T u) + occurs n (homes_of u) ≤ count n (nodes_made (made_by_unit u))
-  all-most n = let a = unit-uses (static_stage T u) n u before after typed ready in let b = homes-most u n in omega (arith, a, b)
+  all-most n = let a = unit-uses (static_stage T u) n u before after typed ready in let b = homes-most u n in
+      let c = (unit-less n u).few in omega (arith, a, b, c)
 
   made-most : (n : ℕ) → uses T n (used_by_unit T u) ≤ count n (nodes_made (made_by_unit u))
   made-most n = let a = all-most n in omega (arith, a)
 
   own-node : (t : TypeId) (n : NodeId) (to : TypeId) → HasShape T t (Pointer n to) → of_shape n.0 (shape_at T t) ≡ 1
   own-node t n to h = ap (of_shape n.0) h.1 ∙ one-self n
+
+  -- the node of a pointer type is used
+  pub used-once : (t to : TypeId) (n : NodeId) → HasShape T t (Pointer n to) → 1 ≤ uses T n.0 (used_by_unit T u)
+  used-once t to n h =
+      let once = single T n.0 (used_by_unit T u) (length basic_table) (length T) types t (later T basic t n to h) h.0 in
+      let own = own-node t n to h in omega (arith, once, own)
+
+  -- what pointer types use is made of what they may be of
+  pub used-most : (n : ℕ) → uses T n (used_by_unit T u) ≤ makes n (pointers.made_by_unit u)
+  used-most n = unit-uses (static_stage T u) n u before after typed ready
+
+  pub made-once : (n : ℕ) → count n (nodes_made (made_by_unit u)) ≤ 1
+  made-once n = (range-once n 0 (length (nodes_made (made_by_unit u))) (nodes_made (made_by_unit u)) numbered).1
 
   pub nodes-there : (t to : TypeId) (n : NodeId) → HasShape T t (Pointer n to) → n.0 < length (nodes_made (made_by_unit u))
   nodes-there t to n h =

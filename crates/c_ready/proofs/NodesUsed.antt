@@ -10,7 +10,8 @@ use Rattle.c_types.specs.Table.{Table, HasShape, shape_at, is_aggregate_shape}
 use Rattle.c_tree.specs.TypedTree as typed
 use Rattle.c_tree.specs.TypedTree.{TypedExpr, TypedPlace, TypedArguments, TypedTypeName, TypedSpecifiers, TypedSpecifierList, TypedSpecifier, TypedMembers, TypedMemberDeclarators, TypedEnumerators, TypedForm, TypedCore, TypedParts, TypedParameters, TypedDeclared}
 use Rattle.c_tree.specs.TypedParts as made
-use Rattle.c_tree.specs.TypedParts.{place_type, specified_type, name_of, Made, Literal, Address, Copy, made_by, made_by_place, made_by_arguments, made_by_type_name, made_by_specifiers, made_by_specifier_list, made_by_specifier, made_by_members, made_by_member_declarators, made_by_enumerators, made_by_form, made_by_core, made_by_parts, made_by_parameters, made_by_declared, made_by_adjusted, made_by_stars}
+use Rattle.c_tree.specs.TypedParts.{place_type, specified_type, name_of, Made, Literal, Address, Copy, made_by_adjusted, made_by_stars}
+use Rattle.c_ready.proofs.PointersMade.{made_by, made_by_place, made_by_arguments, made_by_type_name, made_by_specifiers, made_by_specifier_list, made_by_specifier, made_by_members, made_by_member_declarators, made_by_enumerators, made_by_form, made_by_core, made_by_parts, made_by_parameters, made_by_declared}
 use Rattle.c_tree.specs.declared.typed_word.TypedStar.{TypedStar}
 use Rattle.c_tree.specs.declared.leaf.Word.{Word}
 use Rattle.c_tree.specs.declared.typed_word.Adjusted.{Adjusted}
@@ -418,9 +419,9 @@ module _ (n : ℕ) where
         (both k.table n (used_by k.table a) (used_by k.table b) (made_by a) (made_by b) (value-uses k a s h.0 h.1 r.0)
         (value-uses k b h.0 s' h.2 r.1))
     place-uses k (typed.Member p at name i m t) s s' h r =
-        wide k.table n (used_by_place k.table p) (made_by_place p) (Address m ∷ []) (place-uses k p s s' h.0 r.0)
+        place-uses k p s s' h.0 r.0
     place-uses k (typed.MemberAt e at name i m t) s s' h r =
-        wide k.table n (used_by k.table e) (made_by e) (Address m ∷ []) (value-uses k e s s' h.0 r.0)
+        value-uses k e s s' h.0 r.0
     place-uses k (typed.StructAssign p at q) s s' h r =
         wide k.table n ((used_by_place k.table p) ++ (used_by_place k.table q)) ((made_by_place p) ++ (made_by_place q)) (Copy (place_type p) ∷ [])
         (both k.table n (used_by_place k.table p) (used_by_place k.table q) (made_by_place p) (made_by_place q) (place-uses k p s h.0 h.1 r.0)

@@ -129,7 +129,12 @@ module _ (k : Context) (f : Fixed k) where
             let p = first-linked k f id.bytes what m a b refl l in (
               tt,
               linked-in k f id.bytes what m a b i
-                  (function-seen id.bytes t b h.linked_agrees p.0 p.1 (d, All-head (Contains k.declarators) d [] told, (id, own.named, refl), own.type))
+                  (function-seen id.bytes t b h.linked_agrees p.0 p.1 (
+                    d,
+                    All-head (Contains k.declarators) d [] told,
+                    (id, own.named, refl),
+                    own.type,
+                  ))
                   (λ e. tt),
             );
       })

@@ -299,13 +299,15 @@ module _ (T : Table) (Q : Name → Declared → Type 0) (values : (name : Name) 
       → IsTagged T (tag_in s.levels name.bytes) which name t s s'
       → is_aggregate_shape (shape_at T t) ≡ true
   tagged-aggregate which name t s s' d h =
-      of-kind which (shape_at T t) (tagged-is (tag_in s.levels name.bytes) which name t s s' (λ found q. tag-seen T Q name.bytes found s.levels d q) h)
+      of-kind which (shape_at T t) (tagged-is (tag_in s.levels name.bytes) which name t s s'
+      (λ found q. tag-seen T Q name.bytes found s.levels d q) h)
 
   pub alone-aggregate : (which : AggregateKind) (name : Identifier) (t : TypeId) (s s' : Scopes) → AreDeclared T Q s.levels
       → IsTagged T (tag_here s.levels name.bytes) which name t s s'
       → is_aggregate_shape (shape_at T t) ≡ true
   alone-aggregate which name t s s' d h =
-      of-kind which (shape_at T t) (tagged-is (tag_here s.levels name.bytes) which name t s s' (λ found q. tag-seen-here T Q name.bytes found s.levels d q) h)
+      of-kind which (shape_at T t) (tagged-is (tag_here s.levels name.bytes) which name t s s'
+      (λ found q. tag-seen-here T Q name.bytes found s.levels d q) h)
 
   -- what `struct` or `union` with members names is as the keyword says
   begun-is : (o : Option Tag) (which : AggregateKind) (name : Option Identifier) (t : TypeId) (s s' : Scopes)

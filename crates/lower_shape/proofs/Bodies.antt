@@ -1,6 +1,6 @@
 -- The bodies and the static initialisers of a program that is lowered from a well typed unit are in shape.
 use Rattle.std.specs.List.{All, Contains}
-use Rattle.std.proofs.Common.{◌≡◌, ℕ, suc, ◌≤◌, ◌+◌, Bool, true, false, List, [], ◌∷◌, ◌++◌, map, flat_map, Option, Some, None, inl, inr, refl, ap, sym, subst, ◌∙◌, nat_lt, if◌then◌else◌, arith}
+use Rattle.std.proofs.Common.{◌≡◌, ℕ, true, false, List, [], ◌∷◌, ◌++◌, map, flat_map, Option, Some, None, refl, ap, sym, subst, ◌∙◌, nat_lt, if◌then◌else◌, arith}
 use Rattle.std.proofs.lemmas.Bool.Decides.{nat_tests}
 use Rattle.std.proofs.lemmas.List.{append-nil}
 use Rattle.std.proofs.lemmas.List.Elements.{All-head, All-tail, All-weaker, All-contains_itself}
@@ -10,11 +10,8 @@ use Rattle.cc_base.specs.declared.number.TypeId.{TypeId}
 use Rattle.c_types.specs.declared.site.Site.{Site}
 use Rattle.c_types.specs.Solutions.{sites_of_table}
 use Rattle.c_types.specs.Table.{Table, shape_at}
-use Rattle.c_tree.specs.Erasure.{erased_unit}
-use Rattle.c_tree.specs.Depth.{unit_height}
 use Rattle.c_tree.specs.TypedTree.{TypedTranslationUnit}
-use Rattle.c_tree.specs.TypedParts.{DefinedFunction, StaticInitialiser, declared_type, home_of, functions_of, static_initialisers}
-use Rattle.c_unit_typing.specs.Holding.{unit_holds}
+use Rattle.c_tree.specs.TypedParts.{DefinedFunction, StaticInitialiser, declared_type, functions_of, static_initialisers}
 use Rattle.c_unit_typing.specs.Units.{Around}
 use Rattle.c_unit_typing.specs.WellTyped.{IsWellTyped}
 use Rattle.integers.specs.Arithmetic.{unsigned_long}
@@ -25,19 +22,18 @@ use Rattle.src_mem.specs.Memory.{Planned}
 use Rattle.src_mem.specs.Runs as runs
 use Rattle.src_mem.specs.Runs.{variables_of}
 use Rattle.src_machine.specs.Machine as source
-use Rattle.src_machine.specs.Names.{object_node, named_in}
-use Rattle.src_machine.specs.Pieces.{Piece, AnInitialiser, pieces_of_unit}
+use Rattle.src_machine.specs.Names.{named_in}
+use Rattle.src_machine.specs.Pieces.{Piece, pieces_of_unit}
 use Rattle.src_machine.specs.Sites.{copies_in, copies_to, sites_of_homes, sites_of_piece, sites_of_names, sites_of}
 use Rattle.cil_form.specs.declared.instr.Instr.{Instr}
-use Rattle.cil_form.specs.declared.number.Temp.{Temp}
 use Rattle.cil_form.specs.declared.number.Temp.TheVariants as temp
 use Rattle.cil_form.specs.declared.program.Function.{Function}
 use Rattle.cil_form.specs.declared.program.Program.{Program}
 use Rattle.cil_form.specs.Machine as code
 use Rattle.cil_form.specs.Machine.{plan}
-use Rattle.cil_form.specs.Shape.{IsCodeInShape, context_of, context_in, result_of_shape, nest_of_code}
+use Rattle.cil_form.specs.Shape.{IsCodeInShape, context_of, context_in, result_of_shape}
 use Rattle.cil_form.specs.Sites.{Each, AreAmong}
-use Rattle.cil_form.specs.Typing.{Context, HeldType, IntegerOf, Typing, Includes, AreShaped, no_types}
+use Rattle.cil_form.specs.Typing.{Context, IntegerOf, Typing, Includes, AreShaped, no_types}
 use Rattle.lower_rules.specs.Initialisers.{IsCodeOfObject, IsCodeOfStatics}
 use Rattle.lower_rules.specs.Statements.{IsCodeOfBlock}
 use Rattle.lower_rules.specs.Units as lowered
@@ -51,7 +47,7 @@ use Rattle.lower_shape.proofs.Initialisers.{object-initialised}
 use Rattle.lower_shape.proofs.Known.{frame_in, stage_in, unit-ready, known, statics-homes, frame-apart, statics-apart, variable-planned}
 use Rattle.lower_shape.proofs.Nests.{Nests, nests-line, nests-then}
 use Rattle.lower_shape.proofs.StatementNests.{nested-object, nested-block}
-use Rattle.lower_shape.proofs.Statements.{IsNestedIn, does-items}
+use Rattle.lower_shape.proofs.Statements.{does-items}
 use Rattle.lower_shape.proofs.UnitParts.{IsBodyWithin, IsStaticWithin}
 
 -- outside all `switch` statements nothing is kept
@@ -149,7 +145,11 @@ module _ (u : TypedTranslationUnit) (p : Program) (w : IsWellTyped p.types u) (l
             (variable-planned u p w l d)) d.body a None outermost static 0 no_types r.body
             (record { breaks = λ e. absurd (cc (e)); continues = λ e. absurd (cc (e)); result = refl }) (nothing-known (between 0))
             (told s vs (Some r.result) refl _ within.pieces) within.holds (omega (arith, within.height)) f.body.0.items block);
-        nested = omega (arith, nested-block s (low s fr) d.body a None static outermost 510 r.body (omega (arith, within.height)) f.body.0.items block);
+        nested = omega (
+          arith,
+          nested-block s (low s fr) d.body a None static outermost 510 r.body (omega
+              (arith, within.height)) f.body.0.items block,
+        );
       })
 
   -- Static initialisers
@@ -167,7 +167,8 @@ module _ (u : TypedTranslationUnit) (p : Program) (w : IsWellTyped p.types u) (l
       let own = All-head (IsReadyStatic static) i is r in
       let within = All-head (IsStaticWithin IsTold) i is h in
       does-then (stand S F 0 no_types) 0 (IsCodeOfObject i.home i.type i.place i.initialiser (low S F)) (IsCodeOfStatics is (low S F))
-      (object-initialised S F (known u p w l [] [] false None (λ e. absurd (cc (e))) (statics-apart u p w l None) (λ g t q. absurd (none-there (g, t) q)))
+      (object-initialised S F (known u p w l [] [] false None (λ e. absurd (cc (e))) (statics-apart u p w l None) (λ g t q. absurd (none-there
+      (g, t) q)))
       0 no_types 0 i.home i.type i.place i.initialiser own.1 own.0 (told S [] None refl _ within.pieces)
       (among (copies_in p.types i.home i.initialiser)
       (subst (λ (o : Option NodeId). All (Contains (sites_of u p.types)) (copies_to p.types o i.initialiser)) within.home within.own)) within.holds)
@@ -189,7 +190,8 @@ module _ (u : TypedTranslationUnit) (p : Program) (w : IsWellTyped p.types u) (l
   statics-shaped within =
       let is = static_initialisers u in
       let ready = (unit-ready u p w l).initialisers in
-      let c = subst (λ (hs : List NodeId). IsCodeOfStatics is (low-in [] hs) p.initialisers.0.items) (sym (statics-homes u p w l)) l.code.initialisers in
+      let c = subst (λ (hs : List NodeId). IsCodeOfStatics is (low-in [] hs) p.initialisers.0.items) (sym
+      (statics-homes u p w l)) l.code.initialisers in
       subst (λ k. IsCodeInShape k p.initialisers.0.items) (sym start-context) (record {
         shaped = alone-shaped (stand S F 0 no_types) p.initialisers.0.items (statics-do is ready within p.initialisers.0.items c);
         nested = omega (arith, statics-nest is ready within p.initialisers.0.items c);

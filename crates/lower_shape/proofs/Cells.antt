@@ -1,6 +1,6 @@
 -- How many pointers the copies of an expression's code move: as many at most as are counted for its assignments of structs and unions.
-use Rattle.std.specs.Prelude.{sum, sum_by}
-use Rattle.std.proofs.Common.{ℕ, ℤ, suc, ◌<◌, ◌≤◌, ◌+◌, max, ◌≡◌, refl, ap, ◌∙◌, sym, subst, Bool, true, false, List, [], ◌∷◌, ◌++◌, flat_map, length, append_assoc, arith, Option, Some, None, pos}
+use Rattle.std.specs.Prelude.{sum}
+use Rattle.std.proofs.Common.{ℕ, ℤ, suc, ◌≤◌, ◌+◌, ◌≡◌, refl, ap, ◌∙◌, sym, subst, Bool, true, false, List, [], ◌∷◌, ◌++◌, flat_map, length, append_assoc, arith, Option, Some, None, pos}
 use Rattle.std.proofs.lemmas.List.Sums.{sum_by-cons, sum_by-append}
 use Rattle.cc_base.specs.declared.place.Place.{Place}
 use Rattle.cc_base.specs.declared.number.NodeId.{NodeId}
@@ -33,7 +33,6 @@ use Rattle.cil_form.specs.declared.instr.Comparison.{Comparison}
 use Rattle.cil_form.specs.declared.instr.Operator.{Operator}
 use Rattle.cil_form.specs.declared.instr.Point.TheVariants as point
 use Rattle.cil_form.specs.declared.instr.Set.TheVariants as set
-use Rattle.cil_form.specs.declared.instr.Target.{Target}
 use Rattle.cil_form.specs.declared.instr.Target.TheVariants as target
 use Rattle.cil_form.specs.declared.instr.Instr.{Instr, Row_of-Instr, end_of-Instr, more_of-Instr}
 use Rattle.cil_form.specs.declared.instr.Instr.TheVariants as instr
@@ -61,11 +60,13 @@ flat-append f [] ys = refl
 flat-append f (x ∷ xs) ys = ap (λ zs. f x ++ zs) (flat-append f xs ys) ∙ sym (append_assoc (f x) (flat_map f xs) (flat_map f ys))
 
 pub counted-both : (T : Table) (xs ys : List Made) → counted T (xs ++ ys) ≡ counted T xs + counted T ys
-counted-both T xs ys = ap sum (flat-append (pointers_copied_by T) xs ys) ∙ sum-both (flat_map (pointers_copied_by T) xs) (flat_map (pointers_copied_by T) ys)
+counted-both T xs ys =
+    ap sum (flat-append (pointers_copied_by T) xs ys) ∙ sum-both (flat_map (pointers_copied_by T) xs) (flat_map (pointers_copied_by T) ys)
 
 -- a copy moves as many pointers at most as are counted for its type
 pub copied-most : (T : Table) → IsWellFormed T → (t : TypeId) → length (pointer_offsets T t) ≤ pointers_in T t
-copied-most T w t = omega (arith, offsets-most T w t (shape_at T t) refl, cells-most T w (pointers_in T) (λ u. pointers_are T w.order.0 w.order.1 u) t)
+copied-most T w t =
+    omega (arith, offsets-most T w t (shape_at T t) refl, cells-most T w (pointers_in T) (λ u. pointers_are T w.order.0 w.order.1 u) t)
 
 -- Forms
 
@@ -275,10 +276,11 @@ module _ (T : Table) (w : IsWellFormed T) (k : lowered.Context) where
 
   -- a place with what comes after its address and moves nothing
   still : (p : TypedPlace) (t : ℕ) (a : After) (xs : List Made) → counted T (made_by_place p) ≤ counted T xs → moved_after T a ≤ 0
-      → Moved T (counted T (made_by_place p) + moved_after T a) (IsCodeOfPlace p k t (Follows a t))
+      → ((next : NodeId → Form) (n : ℕ) → ((o : NodeId) → Moved T n (next o)) → Moved T (counted T (made_by_place p) + n) (IsCodeOfPlace p k t next))
       → Moved T (counted T xs) (IsCodeOfPlace p k t (Follows a t))
   still p t a xs l z h =
-      moved-more T (IsCodeOfPlace p k t (Follows a t)) (counted T (made_by_place p) + moved_after T a) (counted T xs) (omega (arith, l, z)) h
+      moved-more T (IsCodeOfPlace p k t (Follows a t)) (counted T (made_by_place p) + moved_after T a) (counted T xs) (omega (arith, l, z))
+      (h (Follows a t) (moved_after T a) (λ o. follows-moved T a t o))
 
   mutual
     -- `Z` is not used: the functions of a mutual block have to end in one universe
@@ -291,12 +293,13 @@ module _ (T : Table) (w : IsWellFormed T) (k : lowered.Context) where
     value-moved (typed.RuntimeName name function ty) Z t = λ c d. absurd d
     value-moved (typed.Paren at e) Z t = value-moved e Z t
     value-moved (typed.Read p) Z t = still p t (after.Load (place_type p) (place_at p)) (made_by_place p) (omega arith) (omega arith)
-        (place-moved p t (Follows (after.Load (place_type p) (place_at p)) t) (moved_after T (after.Load (place_type p) (place_at p))) (λ o. follows-moved T (after.Load (place_type p) (place_at p)) t o))
+        (place-moved p t)
     value-moved (typed.Unread p) Z t = still p t after.Nothing (made_by_place p) (omega arith) (omega arith)
-        (place-moved p t (Follows after.Nothing t) (moved_after T after.Nothing) (λ o. follows-moved T after.Nothing t o))
+        (place-moved p t)
     value-moved (typed.Decay p node ty) Z t =
-        still p t (after.Decay (place_type p) (is_through_pointer p) node (pointee_at k.table ty) (place_at p)) (made_by_place p ++ made.Address node ∷ []) (omega (arith, counted-both T (made_by_place p) (made.Address node ∷ []))) (omega arith)
-        (place-moved p t (Follows (after.Decay (place_type p) (is_through_pointer p) node (pointee_at k.table ty) (place_at p)) t) (moved_after T (after.Decay (place_type p) (is_through_pointer p) node (pointee_at k.table ty) (place_at p))) (λ o. follows-moved T (after.Decay (place_type p) (is_through_pointer p) node (pointee_at k.table ty) (place_at p)) t o))
+        still p t (after.Decay (place_type p) (is_through_pointer p) node (pointee_at k.table ty) (place_at p))
+        (made_by_place p ++ made.Address node ∷ []) (omega (arith, counted-both T (made_by_place p) (made.Address node ∷ []))) (omega arith)
+        (place-moved p t)
     value-moved (typed.Convert which at ty e) Z t =
         one-part (IsCodeOf e k t) (Converts which t at (type_of e) ty) (made_by e) (counted T (made_by e)) (omega arith) (value-moved e Z t)
         (converts-still T which t at (type_of e) ty)
@@ -305,10 +308,14 @@ module _ (T : Table) (w : IsWellFormed T) (k : lowered.Context) where
         (omega (arith, counted-both T (made_by_type_name name) (made_by e))) (value-moved e Z t)
         (converts-still T which t at (type_of e) (named_type name))
     value-moved (typed.AddressOf at p node ty) Z t =
-        still p t (after.Address node (place_type p)) (made_by_place p ++ made.Address node ∷ []) (omega (arith, counted-both T (made_by_place p) (made.Address node ∷ []))) (omega arith)
-        (place-moved p t (Follows (after.Address node (place_type p)) t) (moved_after T (after.Address node (place_type p))) (λ o. follows-moved T (after.Address node (place_type p)) t o))
+        still p t (after.Address node (place_type p)) (made_by_place p ++ made.Address node ∷ []) (omega (
+          arith,
+          counted-both T (made_by_place p)
+              (made.Address node ∷ []),
+        )) (omega arith)
+        (place-moved p t)
     value-moved (typed.AddressOfElement at p ty) Z t = still p t after.Nothing (made_by_place p) (omega arith) (omega arith)
-        (place-moved p t (Follows after.Nothing t) (moved_after T after.Nothing) (λ o. follows-moved T after.Nothing t o))
+        (place-moved p t)
     value-moved (typed.AddressOfFunction at e) Z t = value-moved e Z t
     value-moved (typed.FunctionAt at e) Z t = value-moved e Z t
     value-moved (typed.Prefix op at e ty) Z t =
@@ -318,14 +325,15 @@ module _ (T : Table) (w : IsWellFormed T) (k : lowered.Context) where
     value-moved (typed.SizeOfType at paren name z ty) Z t = constant-still T k t ty (pos z) (counted T (made_by_type_name name))
     value-moved (typed.StepBefore which at p) Z t =
         still p t (after.Step false which (is_pointer k (place_type p)) (place_type p) (place_at p) at) (made_by_place p) (omega arith) (omega arith)
-        (place-moved p t (Follows (after.Step false which (is_pointer k (place_type p)) (place_type p) (place_at p) at) t) (moved_after T (after.Step false which (is_pointer k (place_type p)) (place_type p) (place_at p) at)) (λ o. follows-moved T (after.Step false which (is_pointer k (place_type p)) (place_type p) (place_at p) at) t o))
+        (place-moved p t)
     value-moved (typed.StepAfter p which at) Z t =
         still p t (after.Step true which (is_pointer k (place_type p)) (place_type p) (place_at p) at) (made_by_place p) (omega arith) (omega arith)
-        (place-moved p t (Follows (after.Step true which (is_pointer k (place_type p)) (place_type p) (place_at p) at) t) (moved_after T (after.Step true which (is_pointer k (place_type p)) (place_type p) (place_at p) at)) (λ o. follows-moved T (after.Step true which (is_pointer k (place_type p)) (place_type p) (place_at p) at) t o))
+        (place-moved p t)
     value-moved (typed.Arithmetic op a at b ty) Z t =
         two-parts (IsCodeOf a k t) (IsCodeOf b k (suc t)) (Calculates (lowered.lowered op) t (type_of a) at) (made_by a) (made_by b)
         (value-moved a Z t) (value-moved b Z (suc t))
-        (moved-line T (instr.Calculate (calculate.Binary (value t) (lowered.lowered op) (value t) (value (suc t)) (type_of a) at) ∷ []) 0 (omega arith))
+        (moved-line T (instr.Calculate (calculate.Binary (value t) (lowered.lowered op) (value t) (value (suc t)) (type_of a) at) ∷ []) 0
+        (omega arith))
     value-moved (typed.Moved op which a at b ty) Z t =
         two-parts (IsCodeOf a k t) (IsCodeOf b k (suc t)) (Moves which (is_subtract (operator_of op)) t (type_of a) (type_of b) at) (made_by a)
         (made_by b) (value-moved a Z t) (value-moved b Z (suc t)) (moves-still T which (is_subtract (operator_of op)) t (type_of a) (type_of b) at)
@@ -340,7 +348,8 @@ module _ (T : Table) (w : IsWellFormed T) (k : lowered.Context) where
     value-moved (typed.Logical op a at b ty) Z t =
         both-parts (IsCodeOf a k t) (LogicalOf (is_or op) t P) (made_by a) (made_by b) (value-moved a Z t)
         (logical-moved T (is_or op) t P (counted T (made_by b))
-        (one-part (IsCodeOf b k t) (Line (instr.Calculate (calculate.Truth (value t) (value t)) ∷ [])) (made_by b) (counted T (made_by b)) (omega arith)
+        (one-part (IsCodeOf b k t) (Line (instr.Calculate (calculate.Truth (value t) (value t)) ∷ [])) (made_by b) (counted T (made_by b))
+        (omega arith)
         (value-moved b Z t) (moved-line T (instr.Calculate (calculate.Truth (value t) (value t)) ∷ []) 0 (omega arith))))
       where
         P : Form
@@ -352,7 +361,8 @@ module _ (T : Table) (w : IsWellFormed T) (k : lowered.Context) where
         moved-more T (Then (IsCodeOf c k t) (Choice (value t) (IsCodeOf a k t) (IsCodeOf b k t))) (counted T (made_by c ++ made_by a ++ made_by b))
         (counted T (made_by c ++ made_by a ++ made_by b ++ made.Address node ∷ []))
         (omega (arith, counted-both T (made_by c ++ made_by a ++ made_by b) (made.Address node ∷ [])))
-        (sides (value t) (IsCodeOf c k t) (IsCodeOf a k t) (IsCodeOf b k t) (made_by c) (made_by a) (made_by b) (value-moved c Z t) (value-moved a Z t)
+        (sides (value t) (IsCodeOf c k t) (IsCodeOf a k t) (IsCodeOf b k t) (made_by c) (made_by a) (made_by b) (value-moved c Z t)
+        (value-moved a Z t)
         (value-moved b Z t))
     value-moved (typed.Comma a b) Z t =
         both-parts (IsCodeOf a k t) (IsCodeOf b k t) (made_by a) (made_by b) (value-moved a Z t) (value-moved b Z t)
@@ -411,7 +421,8 @@ module _ (T : Table) (w : IsWellFormed T) (k : lowered.Context) where
         (moved-then T (Objects k t home ty) (next home) 0 n (objects-still T k t home ty) (a home))
     place-moved (typed.ParenPlace at p) t next n a = place-moved p t next n a
     place-moved (typed.Target at e ty) t next n a =
-        moved-then T (IsCodeOf e k t) (next (node_of k (type_of e))) (counted T (made_by e)) n (value-moved e (Unit {0}) t) (a (node_of k (type_of e)))
+        moved-then T (IsCodeOf e k t) (next (node_of k (type_of e))) (counted T (made_by e)) n (value-moved e (Unit {0}) t) (a (node_of k
+        (type_of e)))
     place-moved (typed.Element which x at y ty) t next n a =
         moved-then T (Then (IsCodeOf x k t) (Then (IsCodeOf y k (suc t)) (Moves which false t (type_of x) (type_of y) at))) (next node)
         (counted T (made_by x ++ made_by y)) n
@@ -423,8 +434,12 @@ module _ (T : Table) (w : IsWellFormed T) (k : lowered.Context) where
     place-moved (typed.Member p at name i node ty) t next n a =
         moved-then T (IsCodeOfPlace p k t (Follows (after.Member (place_type p) i node ty at) t)) (next node)
         (counted T (made_by_place p ++ made.Address node ∷ [])) n
-        (still p t (after.Member (place_type p) i node ty at) (made_by_place p ++ made.Address node ∷ []) (omega (arith, counted-both T (made_by_place p) (made.Address node ∷ []))) (omega arith)
-        (place-moved p t (Follows (after.Member (place_type p) i node ty at) t) (moved_after T (after.Member (place_type p) i node ty at)) (λ o. follows-moved T (after.Member (place_type p) i node ty at) t o))) (a node)
+        (still p t (after.Member (place_type p) i node ty at) (made_by_place p ++ made.Address node ∷ []) (omega (
+          arith,
+          counted-both T
+              (made_by_place p) (made.Address node ∷ []),
+        )) (omega arith)
+        (place-moved p t)) (a node)
     place-moved (typed.MemberAt e at name i node ty) t next n a =
         moved-then T (Then (IsCodeOf e k t) (Follows A t (node_of k (type_of e)))) (next node) (counted T (made_by e ++ made.Address node ∷ [])) n
         (one-part (IsCodeOf e k t) (Follows A t (node_of k (type_of e))) (made_by e) (counted T (made_by e ++ made.Address node ∷ []))
@@ -458,7 +473,8 @@ module _ (T : Table) (w : IsWellFormed T) (k : lowered.Context) where
         (omega (arith, counted-both T (made_by c ++ made_by_place p) (made_by_place q), counted-both T (made_by c) (made_by_place p)))
         (moved-then T (IsCodeOf c k t) (Choice (value t) (IsCodeOfPlace p k t next) (IsCodeOfPlace q k t next)) (counted T (made_by c))
         (counted T (made_by_place p) + counted T (made_by_place q) + n) (value-moved c (Unit {0}) t)
-        (moved-choice T (value t) (IsCodeOfPlace p k t next) (IsCodeOfPlace q k t next) (counted T (made_by_place p) + counted T (made_by_place q) + n)
+        (moved-choice T (value t) (IsCodeOfPlace p k t next) (IsCodeOfPlace q k t next) (counted T (made_by_place p) + counted T
+        (made_by_place q) + n)
         (moved-more T (IsCodeOfPlace p k t next) (counted T (made_by_place p) + n) (counted T (made_by_place p) + counted T (made_by_place q) + n)
         (omega arith) (place-moved p t next n a))
         (moved-more T (IsCodeOfPlace q k t next) (counted T (made_by_place q) + n) (counted T (made_by_place p) + counted T (made_by_place q) + n)

@@ -186,5 +186,6 @@ module _ (s : Stage) (f : Frame) (w : Knows s f) (b : ℕ) (kept : Typing) where
           (held_by K ty)
       by (inl (o, g)) =
           pointers op t at a d ty small g.first.type.0 g.second.type.0 g.left g.right g.first.type.1 g.second.type.1
-          (ordered op o g.left g.right (w.same (type_of a) (type_of d) g.first.type.0 g.second.type.0 g.left g.right g.first.type.1 g.second.type.1 g.same)) g.first.plain g.second.plain h.type told
+          (ordered op o g.left g.right (w.same (type_of a)
+          (type_of d) g.first.type.0 g.second.type.0 g.left g.right g.first.type.1 g.second.type.1 g.same)) g.first.plain g.second.plain h.type told
       by (inr (o, g)) = equal o (meeting s.table (bare a) (bare d)) refl g

@@ -1,19 +1,19 @@
 -- The functions of a program that is lowered from a well typed unit are in shape.
-use Rattle.std.specs.List.{All, Contains, filter_map}
-use Rattle.std.proofs.Common.{◌≡◌, ◌⊎◌, ℕ, zero, suc, ◌<◌, ◌≤◌, Bool, true, false, List, [], ◌∷◌, ◌++◌, map, length, slice_get, Option, Some, None, inl, inr, refl, ap, sym, subst, ◌∙◌, arith}
+use Rattle.std.specs.List.{All}
+use Rattle.std.proofs.Common.{◌≡◌, ◌⊎◌, suc, ◌<◌, ◌≤◌, List, [], ◌∷◌, map, length, inl, inr, refl, ap, sym, subst, ◌∙◌}
 use Rattle.std.proofs.lemmas.List.Elements.{All-nil, All-cons, All-head, All-tail, All-weaker, All-get_or}
 use Rattle.cc_base.specs.declared.number.NodeId.{NodeId}
 use Rattle.cc_base.specs.declared.number.TypeId.{TypeId}
 use Rattle.c_types.specs.declared.shape.TypeShape.{TypeShape}
 use Rattle.c_types.specs.declared.shape.TypeShape.TheVariants as shape
-use Rattle.c_types.specs.Table.{Table, Entry, IsType, HasShape, shape_at, void_entry}
+use Rattle.c_types.specs.Table.{Table, Entry, IsType, shape_at, void_entry}
 use Rattle.c_tree.specs.TypedTree.{TypedTranslationUnit}
 use Rattle.c_tree.specs.TypedParts.{DefinedFunction, ParameterObject, declared_type, parameters_of, functions_of}
 use Rattle.c_typing.specs.Declarators.{taken_types}
 use Rattle.c_typing.specs.Shapes as shapes
 use Rattle.c_unit_typing.specs.Limits.{IsWithinLimits, parameters_of_shape}
 use Rattle.c_unit_typing.specs.WellTyped.{IsWellTyped}
-use Rattle.c_ready.specs.Ready.{Stage, Named, IsNode, IsWhole, IsReadyFunction, static_stage, variables_named, parameters_listed}
+use Rattle.c_ready.specs.Ready.{Stage, Named, IsNode, IsWhole, IsReadyFunction, static_stage, parameters_listed}
 use Rattle.c_ready.proofs.Basics.{unmap}
 use Rattle.unit_sites.proofs.Elements.{each-of}
 use Rattle.src_mem.specs.Memory.{Planned}
@@ -32,7 +32,8 @@ use Rattle.lower_rules.specs.Units.{IsCodeOfFunction, AreCodeOf}
 use Rattle.lower_shape.specs.Lowered.{IsLoweredFrom}
 use Rattle.lower_shape.proofs.Addresses.{In}
 use Rattle.lower_shape.proofs.Bodies.{IsTold, same-type, body-shaped}
-use Rattle.lower_shape.proofs.Known.{unit-ready, frame-named}
+use Rattle.unit_sites.proofs.FramesNamed.{frame-named}
+use Rattle.lower_shape.proofs.Known.{unit-ready}
 use Rattle.lower_shape.proofs.Lists.{all-in}
 use Rattle.lower_shape.proofs.Types.{scalar-some}
 use Rattle.lower_shape.proofs.UnitParts.{IsBodyWithin}
@@ -135,5 +136,6 @@ module _ (u : TypedTranslationUnit) (p : Program) (w : IsWellTyped p.types u) (l
       (λ d. (In d (functions_of u) × IsReadyFunction static d) × IsBodyWithin (IsTold u p w l) d) (IsFunctionInShape p) function-shaped
       (functions_of u) p.functions
       (all-both (λ d. In d (functions_of u) × IsReadyFunction static d) (IsBodyWithin (IsTold u p w l)) (functions_of u)
-      (all-both (λ d. In d (functions_of u)) (IsReadyFunction static) (functions_of u) (all-in (functions_of u)) (unit-ready u p w l).functions) within)
+      (all-both (λ d. In d (functions_of u)) (IsReadyFunction static) (functions_of u) (all-in (functions_of u))
+      (unit-ready u p w l).functions) within)
       l.code.functions

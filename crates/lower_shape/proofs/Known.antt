@@ -1,8 +1,7 @@
 -- What is known of the stages of a well typed unit holds of what its code stands in.
-use Rattle.std.specs.List.{All, Contains, IsDistinct, AllByRecursion, filter_map, cons_option}
-use Rattle.std.proofs.Common.{◌≡◌, ◌⊎◌, ℕ, zero, suc, pos, Bool, true, false, List, [], ◌∷◌, ◌++◌, map, flat_map, length, slice_get, Option, Some, None, IsSome, option_map, inl, inr, refl, ap, sym, subst, ◌∙◌, nat_eq, IsTrue, arith}
-use Rattle.std.proofs.lemmas.List.Elements.{All-nil, All-cons, All-head, All-tail, All-push, All-map, All-append, All-weaker, All-contains, All-contains_itself, All-from_recursion, Contains-append_left, Contains-append_right}
-use Rattle.std.proofs.lemmas.List.{map-append}
+use Rattle.std.specs.List.{All, Contains, IsDistinct, AllByRecursion}
+use Rattle.std.proofs.Common.{◌≡◌, ℕ, zero, suc, pos, Bool, true, false, List, [], ◌∷◌, ◌++◌, map, flat_map, slice_get, Option, Some, IsSome, option_map, inl, inr, refl, ap, sym, subst, ◌∙◌, nat_eq, arith}
+use Rattle.std.proofs.lemmas.List.Elements.{All-nil, All-head, All-push, All-map, All-weaker, All-contains, Contains-append_left, Contains-append_right}
 use Rattle.std.proofs.lemmas.Option.{none-some}
 use Rattle.std.proofs.lemmas.Bool.Decides.{nat_tests}
 use Rattle.cc_base.specs.declared.number.NodeId.{NodeId}
@@ -10,13 +9,9 @@ use Rattle.cc_base.specs.declared.number.TypeId.{TypeId}
 use Rattle.c_types.specs.declared.shape.TypeShape.TheVariants as shape
 use Rattle.c_types.specs.declared.shape.TypeShape.{TypeShape}
 use Rattle.c_types.specs.declared.site.Site.TheVariants as site
-use Rattle.c_types.specs.Equality.{physically_equal}
-use Rattle.c_types.specs.Sameness.{IsSameType}
-use Rattle.c_types.specs.Solutions.{sites_of_table}
 use Rattle.c_types.specs.Sound.{IsProper, IsIntegerSize}
-use Rattle.c_types.specs.Table.{Table, IsType, HasShape, named_by, shape_at, is_function_shape}
+use Rattle.c_types.specs.Table.{Table, IsType, HasShape, named_by, is_function_shape}
 use Rattle.c_tree.specs.declared.leaf.Identifier.{Identifier}
-use Rattle.c_tree.specs.declared.typed_word.Home.TheVariants as home
 use Rattle.c_tree.specs.TypedTree as typed
 use Rattle.c_tree.specs.TypedTree.{TypedTranslationUnit}
 use Rattle.c_tree.specs.TypedParts as made
@@ -26,12 +21,13 @@ use Rattle.c_unit_typing.specs.Units.{IsUnitTyped, bytes_of_name}
 use Rattle.c_unit_typing.specs.WellTyped.{IsWellTyped, known_before}
 use Rattle.integers.specs.Arithmetic.{IntegerType, converted}
 use Rattle.c_ready.specs.Declarators as ready
-use Rattle.c_ready.specs.Ready.{Stage, Named, IsAlike, IsNode, IsWhole, IsReadyUnit, IsReadyFunction, IsStaticNamed, IsObjectOf, IsLiteral, IsFunctionNamed, IsFunctionDeclared, static_stage, static_named, literal_named, made_named, parameter_named, home_named, variables_named, homes_of}
-use Rattle.c_ready.proofs.Basics.{all-left, all-right, at-index, unmap, flat-both, flat-left, flat-right}
-use Rattle.c_ready.proofs.Gathered.{functions-declared, at-its-place}
+use Rattle.c_ready.specs.Ready.{Stage, Named, IsNode, IsWhole, IsReadyUnit, IsReadyFunction, IsStaticNamed, IsObjectOf, IsFunctionNamed, IsFunctionDeclared, static_stage, literal_named, made_named, variables_named}
+use Rattle.c_ready.proofs.Basics.{at-index, unmap}
+use Rattle.c_ready.proofs.Gathered.{functions-declared}
 use Rattle.c_ready.proofs.ReadyUnit.{well-typed-ready}
 use Rattle.type_laws.proofs.SameTypes.{same-is-equal}
-use Rattle.unit_sites.proofs.Elements.{every, flat, unflat}
+use Rattle.unit_sites.proofs.Elements.{flat, unflat}
+use Rattle.unit_sites.proofs.FramesNamed.{made_plan, plan_named, frame-named}
 use Rattle.unit_sites.proofs.NamesAlike.{objects-alike, functions-alike, alike-function_left, alike-function_right, function-in, physical, physical-both}
 use Rattle.unit_sites.proofs.ObjectsAlike.{objects_made, one-type, statics-named}
 use Rattle.unit_sites.proofs.SitesTold.{pointers-told}
@@ -39,33 +35,23 @@ use Rattle.src_mem.specs.Memory.{Planned}
 use Rattle.src_mem.specs.Runs as runs
 use Rattle.src_mem.specs.Runs.{variables_of, planned}
 use Rattle.src_machine.specs.Machine as source
-use Rattle.src_machine.specs.Sites.{sites_of}
-use Rattle.cil_form.specs.declared.number.Object.{Object}
 use Rattle.cil_form.specs.declared.program.Function.{Function}
 use Rattle.cil_form.specs.declared.program.Program.{Program}
 use Rattle.cil_form.specs.declared.program.Static.{Static}
-use Rattle.cil_form.specs.Machine as code
 use Rattle.cil_form.specs.Machine.{plan}
-use Rattle.cil_form.specs.Typing.{no_types, IsObject, IsNamedAs, ArePhysicallyEqual, AreDeclaredAlike}
+use Rattle.cil_form.specs.Typing.{no_types, IsNamedAs, ArePhysicallyEqual, AreDeclaredAlike}
 use Rattle.lower_rules.specs.Units.{IsCodeOfFunction, AreCodeOf}
 use Rattle.lower_rules.specs.Units as lowered
-use Rattle.lower_rules.specs.Words.{object_in}
 use Rattle.lower_shape.specs.Lowered.{IsLoweredFrom}
-use Rattle.lower_shape.specs.Stands.{Frame, stand, low, Knows}
+use Rattle.lower_shape.specs.Stands.{Frame, stand, Knows}
 use Rattle.lower_shape.proofs.Addresses.{In, in-left, in-right}
-use Rattle.lower_shape.proofs.Lists.{in-contained, contained-in, all-in, at-in, in-map, in-image, slice-map}
+use Rattle.lower_shape.proofs.Lists.{in-contained, contained-in, all-in, in-map, in-image, slice-map}
 use Rattle.lower_shape.proofs.Objects.{AreApart, IsPlanned, objects-known}
 
 -- Plans of objects
 
-abbrev pub made_plan : MadeObject → Planned
-made_plan o = record { type = o.type; node = o.home }
-
 abbrev named_plan : Named → Planned
 named_plan o = record { type = o.1; node = o.0 }
-
-abbrev plan_named : Planned → Named
-plan_named o = (o.node, o.type)
 
 abbrev static_plan : runs.Static → Planned
 static_plan s = record { type = s.type; node = s.home }
@@ -84,33 +70,6 @@ plans-in (o ∷ os) = ap (λ (xs : List Planned). made_plan o ∷ xs) (plans-in 
 homes-in : (os : List MadeObject) → map (λ (o : Planned). o.node) (map made_plan os) ≡ map (λ (o : MadeObject). o.home) os
 homes-in [] = refl
 homes-in (o ∷ os) = ap (λ (xs : List NodeId). o.home ∷ xs) (homes-in os)
-
-parameters-named : (ps : List ParameterObject)
-    → map plan_named (filter_map (λ (p : runs.Parameter). planned p.type p.home)
-    (map (λ (p : ParameterObject). record { type = p.type; home = p.home }) ps))
-    ≡ flat_map parameter_named ps
-parameters-named [] = refl
-parameters-named (p ∷ ps) = by p.home (parameters-named ps)
-  where
-    rest : List Planned
-    rest = filter_map (λ (q : runs.Parameter). planned q.type q.home) (map (λ (q : ParameterObject). record { type = q.type; home = q.home }) ps)
-
-    by : (o : Option NodeId) → map plan_named rest ≡ flat_map parameter_named ps
-        → map plan_named (cons_option (planned p.type o) rest) ≡ home_named o p.type ++ flat_map parameter_named ps
-    by None more = more
-    by (Some n) more = ap (λ (xs : List Named). (n, p.type) ∷ xs) more
-
-locals-named : (os : List MadeObject) → map plan_named (map made_plan os) ≡ map made_named os
-locals-named [] = refl
-locals-named (o ∷ os) = ap (λ (xs : List Named). (o.home, o.type) ∷ xs) (locals-named os)
-
-pub frame-named : (d : DefinedFunction) → map plan_named (variables_of (source.head_of d)) ≡ variables_named d
-frame-named d =
-    let ps = filter_map (λ (p : runs.Parameter). planned p.type p.home)
-    (map (λ (p : ParameterObject). record { type = p.type; home = p.home }) (parameters_of d.declarator)) in
-    map-append plan_named ps (map made_plan (locals_of d.body))
-    ∙ (ap (λ (xs : List Named). xs ++ map plan_named (map made_plan (locals_of d.body))) (parameters-named (parameters_of d.declarator))
-    ∙ ap (λ (xs : List Named). flat_map parameter_named (parameters_of d.declarator) ++ xs) (locals-named (locals_of d.body)))
 
 -- Homes are apart
 
@@ -284,7 +243,8 @@ module _ (u : TypedTranslationUnit) (p : Program) (w : IsWellTyped p.types u) (l
   functions-in : (variables : List Named) (vs : List Planned) (calls : Bool) (result : Option TypeId)
       → (name : Identifier) (number : ℕ) (n : NodeId) (t : TypeId) (named : IsFunctionNamed (stage_in variables calls) name number n t)
       → (v : TypeId) × (slice_get (map (λ f. f.ty) p.functions) number ≡ Some v)
-      × ArePhysicallyEqual (stand (stage_in variables calls) (frame_in vs result) 0 no_types) named.function v × AreDeclaredAlike p.sites named.function v
+      × ArePhysicallyEqual (stand (stage_in variables calls)
+      (frame_in vs result) 0 no_types) named.function v × AreDeclaredAlike p.sites named.function v
   functions-in variables vs calls result name number n t named =
       let d = named.defined in
       let at = code-at p.types (lowered.homes_of u) (functions_of u) p.functions l.code.functions number d named.there in
@@ -296,7 +256,8 @@ module _ (u : TypedTranslationUnit) (p : Program) (w : IsWellTyped p.types u) (l
       let id = at-index HasName (functions_of u) (functions-have_names p.types u (known_before u) w.after w.typed) number d named.there in
       let told : IsFunctionDeclared static name.bytes (declared_type d.declarator) = (
         d.declarator,
-        at-index (λ (f : DefinedFunction). Contains (ready.declarators_of u) f.declarator) (functions_of u) (functions-declared u) number d named.there,
+        at-index (λ (f : DefinedFunction). Contains (ready.declarators_of u) f.declarator) (functions_of u)
+            (functions-declared u) number d named.there,
         (id.0, id.1, ap bytes_of_name (sym id.1) ∙ named.named),
         refl,
       ) in (
@@ -365,13 +326,15 @@ module _ (u : TypedTranslationUnit) (p : Program) (w : IsWellTyped p.types u) (l
       let same = one-type u unit-ready.objects.distinct r.node q.type r.type (subst (λ n. Contains (objects_made u) (n, q.type)) e a) b in
       ap (λ (t : TypeId). record { type = t; node = q.node }) same ∙ ap (λ (n : NodeId). record { type = r.type; node = n }) e
 
-  pub frame-apart : (d : DefinedFunction) → In d (functions_of u) → (result : Option TypeId) → AreApart (frame_in (variables_of (source.head_of d)) result)
+  pub frame-apart : (d : DefinedFunction) → In d (functions_of u) → (result : Option TypeId)
+      → AreApart (frame_in (variables_of (source.head_of d)) result)
   frame-apart d c result = record {
     variables = λ q r a b e. one-plan q r (variable-object d c q a) (variable-object d c r b) e;
     statics = λ q r a b e. one-plan q r (static-object q a) (static-object r b) e;
     between = λ q r a b e.
         let i = in-image made_plan (statics_of u) r (statics-made r b) in
-        apart-lists (map (λ (o : MadeObject). o.home.0) (statics_of u)) (flat_map (λ f. map (λ (o : Named). o.0.0) (variables_named f)) (functions_of u))
+        apart-lists (map (λ (o : MadeObject). o.home.0) (statics_of u)) (flat_map (λ f. map (λ (o : Named). o.0.0) (variables_named f))
+        (functions_of u))
         unit-ready.objects.distinct i.0.home.0 (in-map (λ (o : MadeObject). o.home.0) (statics_of u) i.0 i.1)
         (flat-in (λ f. map (λ (o : Named). o.0.0) (variables_named f)) (functions_of u) d c i.0.home.0
         (subst (λ (n : NodeId). In n.0 (map (λ (o : Named). o.0.0) (variables_named d))) (e ∙ ap (λ (x : Planned). x.node) (sym i.2))

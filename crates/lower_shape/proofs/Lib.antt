@@ -28,3 +28,4 @@ pub mod StaticsShaped
 pub mod MainShaped
 pub mod WholeCells
 pub mod Whole
+pub mod SitesKept

@@ -1,6 +1,6 @@
 -- Facts of lists that the laws of whole programs use.
 use Rattle.std.specs.List.{All, Contains}
-use Rattle.std.proofs.Common.{◌≡◌, ◌⊎◌, ℕ, zero, suc, List, [], ◌∷◌, ◌++◌, map, Option, Some, None, slice_get, inl, inr, refl, ap, sym, subst, ◌∙◌}
+use Rattle.std.proofs.Common.{◌≡◌, ℕ, zero, suc, List, [], ◌∷◌, map, Some, slice_get, inl, inr, refl, ap, sym, subst}
 use Rattle.std.proofs.lemmas.List.Elements.{All-nil, All-cons, All-head, All-tail, All-weaker, All-contains, All-contains_itself}
 use Rattle.std.proofs.lemmas.Option.{none-some}
 use Rattle.cil_form.specs.Sites.{Each}

@@ -1,5 +1,5 @@
 -- `main` of a program that is lowered from a well typed unit is in shape: the first function of this name, which has the type of each.
-use Rattle.std.specs.List.{All, position, position_or_len}
+use Rattle.std.specs.List.{position, position_or_len}
 use Rattle.std.proofs.Common.{◌≡◌, ℕ, suc, ◌<◌, ◌+◌, Bool, true, false, not, cond, nat_lt, ◌&&◌, List, [], ◌∷◌, length, slice_get, Option, Some, None, inl, inr, refl, ap, sym, subst, ◌∙◌, true≢false, unwrap_or, codes, bytes_eq, ◌==◌, arith, rules, zero}
 use Rattle.std.proofs.lemmas.Bool.Decides.{nat_tests}
 use Rattle.cc_base.specs.declared.number.TypeId.{TypeId}
@@ -8,7 +8,7 @@ use Rattle.c_types.specs.declared.shape.TypeShape.{TypeShape}
 use Rattle.c_types.specs.declared.shape.TypeShape.TheVariants as shape
 use Rattle.c_types.specs.Equality.{same_bool}
 use Rattle.c_types.specs.Sameness.{same_shape, same_step}
-use Rattle.c_types.specs.Table.{Table, IsType, HasShape, shape_at, descend}
+use Rattle.c_types.specs.Table.{Table, shape_at, descend}
 use Rattle.c_tree.specs.declared.leaf.Identifier.{Identifier}
 use Rattle.c_tree.specs.TypedTree.{TypedTranslationUnit}
 use Rattle.c_tree.specs.TypedParts.{DefinedFunction, declared_type, name_of, functions_of}
@@ -17,12 +17,11 @@ use Rattle.c_typing.specs.declared.declared.Declared.TheVariants as declared
 use Rattle.c_typing.specs.Scopes.{entry_of}
 use Rattle.c_unit_typing.specs.Units.{bytes_of_name}
 use Rattle.c_unit_typing.specs.WellTyped.{IsWellTyped, known_before}
-use Rattle.c_ready.specs.Ready.{Stage, IsAlike, IsReadyFunction, static_stage}
-use Rattle.c_ready.proofs.Basics.{at-index, bytes-same, eq_from, some-same}
+use Rattle.c_ready.specs.Ready.{IsAlike, IsReadyFunction, static_stage}
+use Rattle.c_ready.proofs.Basics.{at-index, bytes-same, eq_from}
 use Rattle.c_ready.proofs.ReadyFunctions.{result-in}
 use Rattle.c_ready.proofs.ReadyWhole.{IsDefinedIn, unit-defined}
 use Rattle.unit_sites.proofs.NamesAlike.{same-shapes}
-use Rattle.src_machine.specs.Machine as source
 use Rattle.src_machine.specs.Machine.{is_main}
 use Rattle.cil_form.specs.declared.program.Function.{Function}
 use Rattle.cil_form.specs.declared.program.Program.{Program}
@@ -217,7 +216,8 @@ module _ (u : TypedTranslationUnit) (p : Program) (w : IsWellTyped p.types u) (l
       let first : mine.0 ≡ other.0 =
       same-function mine.0 other.0 (sym mine.1 ∙ (ap (λ n. entry_of w.after.linked n) names ∙ other.1)) in
       let of-main = alike-left p.types other.0 (declared_type w.main.main.declarator) other.2 (w.main.result, w.main.shape.1, w.main.gives.1) in
-      let of-mine = alike-right p.types mine.0 (declared_type d.declarator) mine.2 (subst (λ x. TakesNothing p.types (shape_at p.types x)) (sym first) of-main) in
+      let of-mine = alike-right p.types mine.0 (declared_type d.declarator) mine.2 (subst (λ x. TakesNothing p.types (shape_at p.types x))
+      (sym first) of-main) in
       let ready = at-index (IsReadyFunction (static_stage p.types u)) all (unit-ready u p w l).functions i d found.1 in
       let type = same-type u p w l d at.0 at.2 in (
         at.0,

@@ -1,8 +1,7 @@
 -- The sites of a ready unit name its nodes, its types and its unions.
-use Rattle.std.specs.List.{All, Contains}
-use Rattle.std.proofs.Common.{◌≡◌, ◌⊎◌, ℕ, ◌<◌, Bool, true, false, List, [], ◌∷◌, ◌++◌, ◌&&◌, map, flat_map, length, Option, Some, None, inl, inr, refl, ap, sym, subst, ◌∙◌, if◌then◌else◌, ◌==◌, true≢false}
+use Rattle.std.specs.List.{All}
+use Rattle.std.proofs.Common.{◌≡◌, ℕ, ◌<◌, Bool, true, false, List, [], ◌∷◌, ◌++◌, map, flat_map, length, Option, Some, None, inl, inr, refl, ap, sym, subst, if◌then◌else◌, ◌==◌, true≢false}
 use Rattle.std.proofs.lemmas.List.Elements.{All-nil, All-cons, All-head, All-append, All-map, All-weaker, All-from_get_or}
-use Rattle.std.proofs.lemmas.Option.{none-some}
 use Rattle.cc_base.specs.declared.place.Place.{Place}
 use Rattle.cc_base.specs.declared.number.NodeId.{NodeId}
 use Rattle.cc_base.specs.declared.number.TypeId.{TypeId}
@@ -11,7 +10,7 @@ use Rattle.c_types.specs.declared.shape.TypeShape.TheVariants as shape
 use Rattle.c_types.specs.declared.site.Site.{Site}
 use Rattle.c_types.specs.declared.site.Site.TheVariants as site
 use Rattle.c_types.specs.Solutions.{sites_of_shape, sites_of_table}
-use Rattle.c_types.specs.Table.{Table, Entry, AreNodesOf, HasShape, IsType, IsUnion, is_function, is_union_shape, shape_at, void_entry, named_by}
+use Rattle.c_types.specs.Table.{Table, Entry, AreNodesOf, HasShape, IsType, is_function, is_union_shape, shape_at, void_entry, named_by}
 use Rattle.c_tree.specs.declared.operator.AggregateKind.{AggregateKind}
 use Rattle.c_tree.specs.declared.operator.AggregateKind.TheVariants as aggregate
 use Rattle.c_tree.specs.declared.operator.Binary.{Binary}
@@ -24,7 +23,7 @@ use Rattle.c_tree.specs.TypedParts.{MadeObject, DefinedFunction, type_of, place_
 use Rattle.c_typing.specs.Rules as rule
 use Rattle.c_typing.specs.Shapes as shapes
 use Rattle.c_unit_typing.specs.WellTyped.{IsWellTyped}
-use Rattle.c_ready.specs.Ready.{Stage, Named, IsNode, IsWhole, IsObjectOf, Fits, IsPointerToWhole, IsReady, IsReadyPlace, IsReadySpecifier, IsReadyInitialiser, AreReadyItems, IsReadyFunction, is_of_kind, static_stage, variables_named}
+use Rattle.c_ready.specs.Ready.{Stage, Named, IsNode, IsWhole, IsObjectOf, Fits, IsPointerToWhole, IsReady, IsReadyPlace, IsReadySpecifier, IsReadyInitialiser, AreReadyItems, IsReadyFunction, is_of_kind, static_stage}
 use Rattle.c_ready.proofs.Basics.{unmap}
 use Rattle.c_ready.proofs.Suits.{is_in}
 use Rattle.src_mem.specs.Memory.{Planned}
@@ -33,15 +32,15 @@ use Rattle.src_mem.specs.Runs.{variables_of}
 use Rattle.src_machine.specs.Machine.{head_of}
 use Rattle.src_machine.specs.Names as names
 use Rattle.src_machine.specs.Names.{object_node, object_named, function_named, named_in, first_type, is_same_which, declarators_in}
-use Rattle.src_machine.specs.Pieces.{Piece, AnExpression, APlace, ASpecifier, AnInitialiser, pieces_of_unit}
+use Rattle.src_machine.specs.Pieces.{Piece, pieces_of_unit}
 use Rattle.src_machine.specs.Sites.{address_at, addresses_at, linked_to, moves, moves_where_pointer, sites_of_conversion, sites_of_comparison, sites_of_expression, sites_of_place, sites_of_aggregate, sites_of_specifier, copies_in, copies_in_items, copies_to, sites_of_piece, sites_of_homes, same_as, sites_of_names, sites_of}
 use Rattle.cil_form.specs.Shape.{IsSiteInShape}
-use Rattle.unit_sites.proofs.Elements.{every, only, pair, flat}
+use Rattle.unit_sites.proofs.Elements.{only, pair, flat}
 use Rattle.unit_sites.proofs.NamesAlike.{function-in, first-of}
 use Rattle.unit_sites.proofs.ObjectsAlike.{Names, objects_made, objects-named}
 use Rattle.unit_sites.proofs.PiecesReady.{unit-pieces}
 use Rattle.c_ready.proofs.ReadyUnit.{well-typed-ready}
-use Rattle.lower_shape.proofs.Known.{frame-named}
+use Rattle.unit_sites.proofs.FramesNamed.{frame-named}
 
 -- each pointer type has a node of the unit, and what it points to is a type
 abbrev ArePointersIn : Table → ℕ → Type 0
@@ -76,7 +75,8 @@ module _ (T : Table) (n : ℕ) (w : ArePointersIn T n) where
   stepped-there t at (shape.Union i) e = All-nil Good
 
   linked-there : (m : NodeId) (list : List NodeId) → m.0 < n → All (λ (o : NodeId). o.0 < n) list → Are (map (site.Linked m) list)
-  linked-there m list q h = All-map Good (site.Linked m) list (All-weaker (λ (o : NodeId). o.0 < n) (λ o. Good (site.Linked m o)) (λ o l. (q, l)) list h)
+  linked-there m list q h =
+      All-map Good (site.Linked m) list (All-weaker (λ (o : NodeId). o.0 < n) (λ o. Good (site.Linked m o)) (λ o l. (q, l)) list h)
 
   ordered-there : (t u : TypeId) (at : Place) → IsPointerType t → IsPointerType u → Are (moves T t at ∷ moves T u at ∷ [])
   ordered-there t u at h g = pair Good (moves T t at) (moves T u at) (pointer-node t h) (pointer-node u g)
@@ -181,7 +181,8 @@ module _ (k : Stage) (w : ArePointersIn k.table k.nodes) where
   union-of (shape.Function ps r) h = absurd (true≢false (sym h))
   union-of (shape.Struct n) h = absurd (true≢false (sym h))
 
-  aggregate-fine : (kind : AggregateKind) (at : Place) (t : TypeId) → is_of_kind kind (shape_at k.table t) ≡ true → Fine (sites_of_aggregate kind at t)
+  aggregate-fine : (kind : AggregateKind) (at : Place) (t : TypeId) → is_of_kind kind (shape_at k.table t) ≡ true
+      → Fine (sites_of_aggregate kind at t)
   aggregate-fine aggregate.Struct at t h = All-nil (IsSiteInShape k.table k.nodes)
   aggregate-fine aggregate.Union at t h = only (IsSiteInShape k.table k.nodes) (site.Union t at) (union-of (shape_at k.table t) h)
 
@@ -271,7 +272,8 @@ module _ (T : Table) (u : TypedTranslationUnit) (w : IsWellTyped T u) where
       All-append (IsSiteInShape T count) (map (λ (o : MadeObject). site.Home o.home o.type) (statics_of u))
       (flat_map (λ f. map (λ (v : Planned). site.Home v.node v.type) (variables_of (head_of f))) (functions_of u))
       (All-map (IsSiteInShape T count) (λ (o : MadeObject). site.Home o.home o.type) (statics_of u)
-      (All-weaker (λ (o : MadeObject). IsNode static o.home × IsWhole static o.type) (λ (o : MadeObject). IsSiteInShape T count (site.Home o.home o.type))
+      (All-weaker (λ (o : MadeObject). IsNode static o.home × IsWhole static o.type) (λ (o : MadeObject). IsSiteInShape T count
+      (site.Home o.home o.type))
       (λ o q. (q.0, q.1.0)) (statics_of u) (well-typed-ready T u w).objects.plans))
       (flat (IsSiteInShape T count) (λ f. map (λ (v : Planned). site.Home v.node v.type) (variables_of (head_of f))) (functions_of u)
       (All-weaker (IsReadyFunction static) (λ f. There (map (λ (v : Planned). site.Home v.node v.type) (variables_of (head_of f)))) frame-there
@@ -288,7 +290,8 @@ module _ (T : Table) (u : TypedTranslationUnit) (w : IsWellTyped T u) where
   named-in : (d : TypedDeclarator) → Names static (objects_made u) d → All (λ (x : names.Named). IsType T x.type) (names.named_by T d)
   named-in d h = by (is_function T (declared_type d)) refl
     where
-      function : (o : Option _) → is_function T (declared_type d) ≡ true → All (λ (x : names.Named). IsType T x.type) (function_named o (declared_type d))
+      function : (o : Option _) → is_function T (declared_type d) ≡ true
+          → All (λ (x : names.Named). IsType T x.type) (function_named o (declared_type d))
       function None e = All-nil (λ (x : names.Named). IsType T x.type)
       function (Some id) e = only (λ (x : names.Named). IsType T x.type) _ (function-in T (declared_type d) e)
 

@@ -1,6 +1,6 @@
 -- How many pointers the copies of a statement's code move, and those of the static initialisers in it: as many at most as are counted.
 use Rattle.std.specs.Prelude.{sum_by}
-use Rattle.std.proofs.Common.{ℕ, suc, ◌<◌, ◌≤◌, ◌+◌, ◌^◌, ◌≡◌, refl, ap, sym, subst, Bool, true, false, List, [], ◌∷◌, ◌++◌, length, arith, Option, Some, None, pos}
+use Rattle.std.proofs.Common.{ℕ, suc, ◌≤◌, ◌+◌, ◌≡◌, ap, sym, subst, Bool, true, false, List, [], ◌∷◌, ◌++◌, length, arith, Option, Some, None, pos}
 use Rattle.std.proofs.lemmas.List.Sums.{sum_by-append}
 use Rattle.cc_base.specs.declared.place.Place.{Place}
 use Rattle.cc_base.specs.declared.number.NodeId.{NodeId}
@@ -13,7 +13,6 @@ use Rattle.c_tree.specs.TypedParts as made
 use Rattle.c_tree.specs.TypedParts.{Made, StaticInitialiser, type_of, place_type, place_at, item_place, home_of, home_of_form, declared_type, static_home, initialises, initialisers_in_declarators, initialisers_in_declaration, initialisers_in, initialisers_in_items, made_by, made_by_place, made_by_specifiers, made_by_declarator, made_by_initialiser, made_by_items, made_by_init_declarators, made_by_declaration, made_by_optional, made_by_statement, made_by_block_items}
 use Rattle.c_tree.specs.declared.typed_word.Home.{Home}
 use Rattle.c_tree.specs.declared.typed_word.Home.TheVariants as home
-use Rattle.c_unit_typing.specs.Initialisers.{is_only_text, is_char_array}
 use Rattle.c_unit_typing.specs.Units.{Around, in_a_loop, in_a_switch}
 use Rattle.c_ready.specs.Ready.{Stage, IsReadyInitialiser, AreReadyItems, AreReadyDeclarators, IsReadyDeclaration, IsReadyStatement, AreReadyBlockItems, initialised_in}
 use Rattle.src_mem.specs.Uses.{pointer_offsets}
@@ -34,9 +33,9 @@ use Rattle.lower_rules.specs.Pieces.{Form, Line, Then, Choice, Blocked, Looped, 
 use Rattle.lower_rules.specs.Words as lowered
 use Rattle.lower_rules.specs.Words.{value, work, unsigned_long, Follows}
 use Rattle.lower_rules.specs.Expressions.{IsCodeOf, IsCodeOfPlace}
-use Rattle.lower_rules.specs.Initialisers.{Initialised, part, text_code, Clears, IsCodeOfInitialiser, IsCodeOfItems, IsCodeOfObject, IsCodeOfDeclared, IsCodeOfDeclarators, IsCodeOfDeclaration, IsCodeOfStatics}
+use Rattle.lower_rules.specs.Initialisers.{Initialised, part, text_code, Clears, IsCodeOfInitialiser, IsCodeOfItems, IsCodeOfObject, IsCodeOfDeclared, IsCodeOfDeclarators, IsCodeOfDeclaration}
 use Rattle.lower_rules.specs.Statements.{Nesting, in_loop, in_switch, label_of, guard_code, IsCodeOfEffect, IsCodeOfTest, IsCodeOfTests, Guarded, IsCodeOfStatement, IsCodeOfBlock, IsCodeOfPieces}
-use Rattle.lower_shape.proofs.Cells.{counted, counted-both, copied-most, cells, Moved, cells-append, cells-held, moved-more, moved-line, moved-then, moved-choice, moved_after, follows-moved, one-part, both-parts, value-moved, place-moved}
+use Rattle.lower_shape.proofs.Cells.{counted, counted-both, copied-most, cells, Moved, cells-append, cells-held, moved-more, moved-line, moved-then, moved-choice, follows-moved, one-part, both-parts, value-moved, place-moved}
 
 -- Code beside static initialisers
 
@@ -117,7 +116,8 @@ module _ (T : Table) where
   guarded-moved j l at x =
       moved-more T (Guarded j l at (Line x)) (0 + cells T x) (cells T x) (omega arith)
       (moved-then T (Line (guard_code j l at)) (Choice (value 0) (Line x) (Line [])) 0 (cells T x) (moved-line T (guard_code j l at) 0 (omega arith))
-      (moved-choice T (value 0) (Line x) (Line []) (cells T x) (moved-line T x (cells T x) (omega arith)) (moved-line T [] (cells T x) (omega arith))))
+      (moved-choice T (value 0) (Line x) (Line []) (cells T x) (moved-line T x (cells T x) (omega arith)) (moved-line T [] (cells T x)
+      (omega arith))))
 
 module _ (T : Table) (w : IsWellFormed T) (s : Stage) (k : lowered.Context) where
   mutual
@@ -125,7 +125,8 @@ module _ (T : Table) (w : IsWellFormed T) (s : Stage) (k : lowered.Context) wher
         → Moved T (counted T (made_by_initialiser i)) (IsCodeOfInitialiser i k at t base o)
     initialiser-moved (typed.Value e) at t base o r =
         one-part T w k (IsCodeOf e k 0) (Line (instr.Access (access.Store (part o base) (value 0) t at at) ∷ [])) (made_by e) (counted T (made_by e))
-        (omega arith) (value-moved T w k e (Unit {0}) 0) (moved-line T (instr.Access (access.Store (part o base) (value 0) t at at) ∷ []) 0 (omega arith))
+        (omega arith) (value-moved T w k e (Unit {0}) 0) (moved-line T (instr.Access (access.Store (part o base) (value 0) t at at) ∷ []) 0
+        (omega arith))
     initialiser-moved (typed.Copied p seat) at t base o r =
         moved-more T (IsCodeOfPlace p k 0 (Follows A 0)) (counted T (made_by_place p) + length (pointer_offsets T t))
         (counted T (made_by_place p ++ made.Copy (place_type p) ∷ []))
@@ -355,7 +356,8 @@ module _ (T : Table) (w : IsWellFormed T) (s : Stage) (k : lowered.Context) wher
         (beside-then T (IsCodeOfDeclaration d k) (Looped (Then (IsCodeOfTest c k) (Then (Blocked P) (IsCodeOfEffect step k)))) (counted T A) q
         (counted T B + (n + counted T D)) m (declaration-moved d static r.0)
         (loop-moved c step P n m (statement-moved st (in_a_loop a) static (in_loop v) r.3)))
-    statement-moved (typed.Break at) a static v r = alone T (Line (instr.Break v.breaks ∷ [])) 0 (moved-line T (instr.Break v.breaks ∷ []) 0 (omega arith))
+    statement-moved (typed.Break at) a static v r =
+        alone T (Line (instr.Break v.breaks ∷ [])) 0 (moved-line T (instr.Break v.breaks ∷ []) 0 (omega arith))
     statement-moved (typed.Continue at) a static v r =
         alone T (Line (instr.Break v.continues ∷ [])) 0 (moved-line T (instr.Break v.continues ∷ []) 0 (omega arith))
     statement-moved (typed.Return at None) a static v r = alone T (Line (instr.Return ∷ [])) 0 (moved-line T (instr.Return ∷ []) 0 (omega arith))
@@ -383,7 +385,8 @@ module _ (T : Table) (w : IsWellFormed T) (s : Stage) (k : lowered.Context) wher
         (block-moved all a on static v r.0) (declaration-moved d static r.1))
     block-moved (typed.AndCase all at e z) a on static v r =
         let A = made_by_block_items all in let m = counted_in T (initialisers_in_items all) in
-        beside-more T (IsCodeOfBlock all k v) (counted T A) m (counted T (A ++ made_by e)) m (omega (arith, counted-both T A (made_by e))) (omega arith)
+        beside-more T (IsCodeOfBlock all k v) (counted T A) m (counted T (A ++ made_by e)) m (omega (arith, counted-both T A (made_by e)))
+        (omega arith)
         (block-moved all a on static v r.0)
     block-moved (typed.AndDefault all at) a on static v r = block-moved all a on static v r
 

@@ -1,10 +1,10 @@
 -- The static objects of a program that is lowered from a well typed unit are in shape.
 use Rattle.std.specs.List.{All}
 use Rattle.std.specs.Prelude.{sum, sum_by}
-use Rattle.std.proofs.Common.{◌≡◌, ℕ, ◌<◌, ◌+◌, ◌≤◌, Bool, true, false, List, [], ◌∷◌, ◌++◌, map, length, Option, Some, None, option_map, refl, ap, sym, subst, ◌∙◌, arith}
+use Rattle.std.proofs.Common.{◌≡◌, ℕ, ◌<◌, ◌+◌, ◌≤◌, Bool, true, List, [], ◌∷◌, map, length, Option, Some, None, option_map, refl, ap, sym, subst, ◌∙◌}
 use Rattle.std.proofs.lemmas.List.{length-append}
 use Rattle.std.proofs.lemmas.List.Sums.{sum_by-cons}
-use Rattle.std.proofs.lemmas.List.Elements.{All-nil, All-cons, All-head, All-tail, All-map, All-weaker}
+use Rattle.std.proofs.lemmas.List.Elements.{All-map, All-weaker}
 use Rattle.cc_base.specs.declared.number.TypeId.{TypeId}
 use Rattle.c_types.specs.declared.shape.TypeShape.TheVariants as shape
 use Rattle.c_types.specs.Layouts.{size_of}
@@ -12,7 +12,7 @@ use Rattle.c_types.specs.Table.{Table, HasShape}
 use Rattle.c_tree.specs.declared.leaf.StringPiece.{StringPiece}
 use Rattle.c_tree.specs.TypedTree.{TypedTranslationUnit}
 use Rattle.c_tree.specs.TypedParts.{MadeObject, statics_of}
-use Rattle.c_typing.specs.Rules.{IsStringType, pieces_bytes}
+use Rattle.c_typing.specs.Rules.{pieces_bytes}
 use Rattle.c_unit_typing.specs.Limits.{IsWithinLimits, global_bytes}
 use Rattle.c_unit_typing.specs.WellTyped.{IsWellTyped}
 use Rattle.c_ready.specs.Ready.{Stage, IsNode, IsWhole, IsTextOf, static_stage}
@@ -22,9 +22,7 @@ use Rattle.src_mem.specs.Runs as runs
 use Rattle.src_machine.specs.Machine as source
 use Rattle.cil_form.specs.declared.program.Program.{Program}
 use Rattle.cil_form.specs.declared.program.Static.{Static}
-use Rattle.cil_form.specs.Machine as code
 use Rattle.cil_form.specs.Shape.{IsStaticInShape, IsText, globals_limit}
-use Rattle.cil_form.specs.Sites.{Each}
 use Rattle.lower_shape.specs.Lowered.{IsLoweredFrom, AreBytes}
 use Rattle.lower_shape.proofs.Functions.{all-both}
 use Rattle.lower_shape.proofs.Known.{unit-ready}

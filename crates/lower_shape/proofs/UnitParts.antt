@@ -1,9 +1,8 @@
 -- What stands in the bodies and static initialisers of a unit: their pieces are the unit's, and they hold and are as high as it is at most.
 use Rattle.std.specs.List.{All}
-use Rattle.std.proofs.Common.{◌≡◌, ℕ, suc, ◌≤◌, Bool, true, false, List, [], ◌∷◌, ◌++◌, Option, Some, None, refl, sym, subst, arith}
+use Rattle.std.proofs.Common.{◌≡◌, suc, ◌≤◌, List, [], ◌∷◌, ◌++◌, Some, refl, sym, subst, arith}
 use Rattle.std.proofs.lemmas.List.Elements.{All-nil, All-cons, All-head, All-push, All-append}
 use Rattle.cc_base.specs.declared.place.Place.{Place}
-use Rattle.cc_base.specs.declared.number.NodeId.{NodeId}
 use Rattle.cc_base.specs.declared.number.TypeId.{TypeId}
 use Rattle.c_tree.specs.declared.typed_word.Home.{Home}
 use Rattle.c_tree.specs.declared.typed_word.Home.TheVariants as home
@@ -11,7 +10,7 @@ use Rattle.c_tree.specs.Depth.{statement_height, block_items_height, initialiser
 use Rattle.c_tree.specs.Erasure.{erased_statement, erased_block_items, erased_initialiser, erased_init_declarators, erased_declaration, erased_unit}
 use Rattle.c_tree.specs.TypedTree as typed
 use Rattle.c_tree.specs.TypedTree.{TypedDeclarator, TypedInitialiser, TypedInitDeclarators, TypedDeclaration, TypedStatement, TypedBlockItems, TypedTranslationUnit}
-use Rattle.c_tree.specs.TypedParts.{DefinedFunction, StaticInitialiser, home_of, home_of_form, declared_type, static_home, initialises, initialisers_in_declarators, initialisers_in_declaration, initialisers_in, initialisers_in_items, static_initialisers, functions_of}
+use Rattle.c_tree.specs.TypedParts.{DefinedFunction, StaticInitialiser, home_of, declared_type, static_home, initialises, initialisers_in_declarators, initialisers_in_declaration, initialisers_in, initialisers_in_items, static_initialisers, functions_of}
 use Rattle.c_unit_typing.specs.Holding.{statement_holds, block_items_holds, initialiser_holds, init_declarators_holds, declaration_holds, unit_holds}
 use Rattle.c_ready.proofs.Basics.{all-left, all-right}
 use Rattle.src_machine.specs.Names.{object_node}

@@ -1,6 +1,6 @@
 -- A program that is lowered from a well typed unit within its limits is in shape.
 use Rattle.std.specs.List.{All}
-use Rattle.std.proofs.Common.{◌≡◌, ℕ, ◌≤◌, length, ap, sym, subst, ◌∙◌, arith}
+use Rattle.std.proofs.Common.{◌≤◌, length, sym, subst}
 use Rattle.c_types.specs.Table.{Entry, AreNodesOf}
 use Rattle.c_tree.specs.Depth.{unit_height}
 use Rattle.c_tree.specs.Erasure.{erased_unit}

@@ -1,11 +1,10 @@
 -- The copies of a program that is lowered from a well typed unit move as many pointers at most as are counted for the unit.
 use Rattle.std.specs.List.{All}
-use Rattle.std.specs.Prelude.{sum, sum_by}
-use Rattle.std.proofs.Common.{◌≡◌, ℕ, ◌≤◌, ◌+◌, true, false, List, [], ◌∷◌, ◌++◌, map, Option, Some, None, refl, ap, sym, subst, ◌∙◌, arith}
-use Rattle.std.proofs.lemmas.List.Sums.{sum_by-cons, sum_by-append, sum_by_push}
-use Rattle.std.proofs.lemmas.List.Elements.{All-nil, All-cons, All-head, All-tail, All-weaker}
+use Rattle.std.specs.Prelude.{sum_by}
+use Rattle.std.proofs.Common.{ℕ, ◌≤◌, ◌+◌, false, List, [], ◌∷◌, ◌++◌, None, arith}
+use Rattle.std.proofs.lemmas.List.Sums.{sum_by-cons, sum_by_push}
+use Rattle.std.proofs.lemmas.List.Elements.{All-head, All-tail}
 use Rattle.cc_base.specs.declared.place.Place.{Place}
-use Rattle.cc_base.specs.declared.number.NodeId.{NodeId}
 use Rattle.cc_base.specs.declared.number.TypeId.{TypeId}
 use Rattle.c_types.specs.Table.{Table}
 use Rattle.c_tree.specs.declared.typed_word.Home.{Home}
@@ -16,16 +15,14 @@ use Rattle.c_tree.specs.TypedParts.{DefinedFunction, StaticInitialiser, home_of,
 use Rattle.c_unit_typing.specs.Limits.{IsWithinLimits}
 use Rattle.c_unit_typing.specs.WellTyped.{IsWellTyped}
 use Rattle.c_ready.specs.Ready.{Stage, IsReadyFunction, IsReadyStatic, body_stage, static_stage}
-use Rattle.cil_form.specs.declared.instr.Instr.{Instr}
 use Rattle.cil_form.specs.declared.program.Function.{Function}
 use Rattle.cil_form.specs.declared.program.Program.{Program}
 use Rattle.cil_form.specs.Shape.{cells_moved_by, cells_limit}
 use Rattle.lower_rules.specs.Initialisers.{IsCodeOfObject, IsCodeOfStatics}
 use Rattle.lower_rules.specs.Units as lowered
 use Rattle.lower_rules.specs.Units.{IsCodeOfFunction, AreCodeOf, outermost}
-use Rattle.lower_rules.specs.Words as words
 use Rattle.lower_shape.specs.Lowered.{IsLoweredFrom}
-use Rattle.lower_shape.proofs.Cells.{counted, counted-both, cells, Moved, moved-more, moved-line, moved-then}
+use Rattle.lower_shape.proofs.Cells.{counted, counted-both, Moved, moved-line, moved-then}
 use Rattle.lower_shape.proofs.Known.{unit-ready}
 use Rattle.lower_shape.proofs.StatementCells.{counted_in, counted_in-both, object-moved, block-moved}
 

@@ -1,10 +1,9 @@
 -- Each struct and union that has members was written with them: a specifier of the unit gives them.
 use Rattle.std.specs.List.{All, Contains}
-use Rattle.std.proofs.Common.{◌≡◌, ◌⊎◌, ℕ, zero, suc, Bool, true, false, ◌&&◌, not, List, [], ◌∷◌, ◌++◌, flat_map, length, Option, Some, None, slice_get, slice_set, inl, inr, refl, ap, sym, subst, ◌∙◌, true≢false, arith}
+use Rattle.std.proofs.Common.{◌≡◌, ◌⊎◌, ℕ, zero, suc, Bool, true, false, ◌&&◌, not, List, [], ◌∷◌, ◌++◌, flat_map, length, Option, Some, None, slice_set, inl, inr, refl, ap, sym, subst, ◌∙◌, true≢false, arith}
 use Rattle.std.proofs.lemmas.List.Elements.{All-head, All-contains, All-contains_itself, Contains-append_left, Contains-append_right, Contains-push}
 use Rattle.std.proofs.lemmas.Option.{none-some}
 use Rattle.cc_base.specs.declared.place.Place.{Place}
-use Rattle.cc_base.specs.declared.number.NodeId.{NodeId}
 use Rattle.cc_base.specs.declared.number.TypeId.{TypeId}
 use Rattle.c_types.specs.declared.shape.TypeShape.{TypeShape}
 use Rattle.c_types.specs.declared.shape.TypeShape.TheVariants as shape
@@ -14,13 +13,12 @@ use Rattle.c_types.specs.Table.{Table, IsUnion, IsComplete, is_complete_entry, i
 use Rattle.c_tree.specs.declared.leaf.Identifier.{Identifier}
 use Rattle.c_tree.specs.declared.operator.AggregateKind.{AggregateKind}
 use Rattle.c_tree.specs.declared.operator.AggregateKind.TheVariants as aggregate
-use Rattle.c_tree.specs.declared.typed_word.Adjusted.{Adjusted}
 use Rattle.c_tree.specs.declared.typed_word.Home.{Home}
 use Rattle.c_tree.specs.declared.typed_word.Home.TheVariants as home
 use Rattle.c_tree.specs.declared.typed_word.Runtime.{Runtime}
 use Rattle.c_tree.specs.TypedTree as typed
 use Rattle.c_tree.specs.TypedTree.{TypedExpr, TypedPlace, TypedArguments, TypedTypeName, TypedSpecifiers, TypedSpecifierList, TypedSpecifier, TypedMembers, TypedMemberDeclarators, TypedEnumerators, TypedForm, TypedCore, TypedParts, TypedParameters, TypedDeclared, TypedInitialiser, TypedItems, TypedInitDeclarators, TypedDeclaration, TypedStatement, TypedBlockItems, TypedTranslationUnit}
-use Rattle.c_tree.specs.TypedParts.{specified_type, type_of, item_place, home_of_form, name_of_form, declared_home}
+use Rattle.c_tree.specs.TypedParts.{specified_type, type_of, item_place, home_of_form, declared_home}
 use Rattle.c_typing.specs.declared.declared.Declared.{Declared}
 use Rattle.c_typing.specs.declared.declared.Declared.TheVariants as declared
 use Rattle.c_typing.specs.declared.declared.Tag.{Tag}
@@ -29,7 +27,7 @@ use Rattle.c_typing.specs.Declarators.{Outermost, is_void_list, member_names}
 use Rattle.c_typing.specs.Rules.{number_of_shape, runtime_named}
 use Rattle.c_typing.specs.Scopes.{Name, Scopes, entering, here, members_named, is_no_list}
 use Rattle.c_typing.specs.Shapes.{is_function_shape}
-use Rattle.c_typing.specs.Typing.{IsTyped, IsPlace, AreTyped, IsTypeName, AreSpecifiers, AreAlone, AreListed, IsSpecifier, AreMembers, AreMemberDeclarators, AreEnumerators, IsForm, IsCore, AreParts, AreParameters, IsDeclared, IsNewName, IsNewAggregate, IsTagged, BeginsAggregate, EndsAggregate, DeclaresParameter, tagging, tag_named_here, enumerating}
+use Rattle.c_typing.specs.Typing.{IsTyped, IsPlace, AreTyped, IsTypeName, AreSpecifiers, AreAlone, AreListed, IsSpecifier, AreMembers, AreMemberDeclarators, AreEnumerators, IsForm, IsCore, AreParts, AreParameters, IsDeclared, IsNewAggregate, IsTagged, BeginsAggregate, EndsAggregate, DeclaresParameter, tagging, tag_named_here, enumerating}
 use Rattle.c_unit_typing.specs.Initialisers.{IsInitialiser, AreItems, is_only_text, is_char_array}
 use Rattle.c_unit_typing.specs.Units.{Known, Storage, Unstored, AsTypedef, AsExtern, AsStatic, AsAutomatic, storage_of, with_scopes, unless_here, IsLinked, IsLinkedObject, IsStaticOrLocal, IsObjectDeclared, IsOrdinaryDeclared, IsNameDeclared, IsDeclarator, IsDefinedOnce, IsInitialised, AreDeclarators, IsDeclaration, Around, in_a_loop, in_a_switch, entering_known, IsDropped, IsTestedOrNone, IsReturned, IsStatement, AreBlockItems, with_parameters, parameter_declared, declared_identifier, IsUnitTyped}
 use Rattle.c_unit_typing.specs.WellTyped.{IsWellTyped, known_before}
@@ -37,7 +35,7 @@ use Rattle.c_ready.specs.Ready.{Stage, IsReadySpecifier, is_of_kind, static_stag
 use Rattle.c_ready.proofs.Basics.{all-left, all-right}
 use Rattle.c_ready.proofs.ReadyUnit.{well-typed-ready}
 use Rattle.src_machine.specs.Names.{named_in}
-use Rattle.src_machine.specs.Pieces.{Piece, AnExpression, APlace, ASpecifier, AnInitialiser, pieces_of, pieces_of_place, pieces_of_arguments, pieces_of_type_name, pieces_of_specifiers, pieces_of_specifier_list, pieces_of_specifier, pieces_of_members, pieces_of_member_declarators, pieces_of_enumerators, pieces_of_form, pieces_of_core, pieces_of_parts, pieces_of_parameters, pieces_of_declared, pieces_of_initialiser, pieces_of_items, pieces_of_init_declarators, pieces_of_declaration, pieces_of_optional, pieces_of_statement, pieces_of_block_items, pieces_of_unit}
+use Rattle.src_machine.specs.Pieces.{Piece, ASpecifier, pieces_of, pieces_of_place, pieces_of_arguments, pieces_of_type_name, pieces_of_specifiers, pieces_of_specifier_list, pieces_of_specifier, pieces_of_members, pieces_of_member_declarators, pieces_of_enumerators, pieces_of_form, pieces_of_core, pieces_of_parts, pieces_of_parameters, pieces_of_declared, pieces_of_initialiser, pieces_of_items, pieces_of_init_declarators, pieces_of_declaration, pieces_of_optional, pieces_of_statement, pieces_of_block_items, pieces_of_unit}
 use Rattle.src_machine.specs.Sites.{sites_of_aggregate, sites_of_homes, sites_of_piece, sites_of_names, sites_of}
 use Rattle.unit_sites.proofs.Elements.{unflat}
 use Rattle.unit_sites.proofs.PiecesReady.{unit-pieces}
@@ -438,7 +436,8 @@ module _ (T : Table) where
       (form-grown T form k.scopes d.inside d.parts)
 
   mutual
-    init-grown : (i : TypedInitialiser) (at : Place) (t : TypeId) (s s' : Scopes) → IsInitialiser T i at t s s' → Grown T s s' (pieces_of_initialiser i)
+    init-grown : (i : TypedInitialiser) (at : Place) (t : TypeId) (s s' : Scopes) → IsInitialiser T i at t s s'
+        → Grown T s s' (pieces_of_initialiser i)
     init-grown (typed.Value e) at t s s' h = value-grown T e s s' h.0
     init-grown (typed.Copied p seat) at t s s' h = place-grown T p s s' h.0
     init-grown (typed.Text pieces bytes) at t s s' h = same T s s' [] h.0
@@ -506,14 +505,16 @@ module _ (T : Table) where
   mutual
     statement-grown : (a : Around) (s : TypedStatement) (k m : Known) → IsStatement T a s k m → Grown T k.scopes m.scopes (pieces_of_statement s)
     statement-grown a (typed.Block brace items) k m h =
-        last T k.scopes h.0.scopes m.scopes (pieces_of_block_items items) (ap known_members h.2) (block-grown a None items (entering_known k) k h.0 refl h.1)
+        last T k.scopes h.0.scopes m.scopes (pieces_of_block_items items) (ap known_members h.2) (block-grown a None items
+        (entering_known k) k h.0 refl h.1)
     statement-grown a (typed.Express e) k m h = last T k.scopes h.0 m.scopes (pieces_of e) (ap known_members h.3) (value-grown T e k.scopes h.0 h.1)
     statement-grown a typed.Empty k m h = same T k.scopes m.scopes [] (ap (λ (q : Known). q.scopes) h)
     statement-grown a (typed.If at paren c s) k m h =
         both T k.scopes h.0.scopes m.scopes (pieces_of c) (pieces_of_statement s) (test-grown (Some c) k h.0 h.1) (statement-grown a s h.0 m h.2)
     statement-grown a (typed.IfElse at paren c s r) k m h =
         both T k.scopes h.1.scopes m.scopes (pieces_of c ++ pieces_of_statement s) (pieces_of_statement r)
-        (both T k.scopes h.0.scopes h.1.scopes (pieces_of c) (pieces_of_statement s) (test-grown (Some c) k h.0 h.2) (statement-grown a s h.0 h.1 h.3))
+        (both T k.scopes h.0.scopes h.1.scopes (pieces_of c) (pieces_of_statement s) (test-grown (Some c) k h.0 h.2)
+        (statement-grown a s h.0 h.1 h.3))
         (statement-grown a r h.1 m h.4)
     statement-grown a (typed.Switch at paren e brace items) k m h =
         last T k.scopes h.1.scopes m.scopes (pieces_of e ++ pieces_of_block_items items) (ap known_members h.5)
@@ -644,7 +645,8 @@ module _ (T : Table) (u : TypedTranslationUnit) (w : IsWellTyped T u) where
       let A = sites_of_table T ++ sites_of_homes u in
       let B = flat_map (sites_of_piece T) (pieces_of_unit u) in
       unflat (Contains (sites_of u T)) (sites_of_piece T) (pieces_of_unit u)
-      (all-right (Contains (sites_of u T)) A B (all-left (Contains (sites_of u T)) (A ++ B) (sites_of_names (named_in u T)) (All-contains_itself (sites_of u T))))
+      (all-right (Contains (sites_of u T)) A B (all-left (Contains (sites_of u T)) (A ++ B) (sites_of_names (named_in u T)) (All-contains_itself
+      (sites_of u T))))
 
   -- each union that is complete has a site
   pub unions-told : (v : TypeId) → IsUnion T v → IsComplete T v → (place : Place) × Contains (sites_of u T) (site.Union v place)
@@ -658,8 +660,7 @@ module _ (T : Table) (u : TypedTranslationUnit) (w : IsWellTyped T u) where
             let own = w.structs.own a.type v number.0 a.number number.1 in
             let kindly = All-contains (IsKindly T (static_stage T u).nodes) (pieces_of_unit u) _ all-kindly a.there in
             let kind = kind-of-union a.kind (shape_at T a.type) kindly (subst (λ x. is_union_shape (shape_at T x) ≡ true) (sym own) h) in
-            let at = All-contains (λ piece. All (Contains (sites_of u T)) (sites_of_piece T piece)) (pieces_of_unit u) _ pieces-among a.there in
-            (
+            let at = All-contains (λ piece. All (Contains (sites_of u T)) (sites_of_piece T piece)) (pieces_of_unit u) _ pieces-among a.there in (
               a.place,
               subst (λ x. Contains (sites_of u T) (site.Union x a.place)) own
                   (All-head (Contains (sites_of u T)) (site.Union a.type a.place) []

@@ -1,6 +1,6 @@
 -- The declarators that ready units are said by are those that sites are made of: on a well typed unit, whose declarations have one storage word
 -- (C99 6.7.1).
-use Rattle.std.proofs.Common.{◌≡◌, ℕ, ◌<◌, ◌≤◌, Bool, true, false, List, [], ◌∷◌, ◌++◌, ◌&&◌, Option, Some, None, refl, ap, sym, subst, ◌∙◌, if◌then◌else◌, IsTrue, nat_le, true≢false, arith}
+use Rattle.std.proofs.Common.{◌≡◌, ℕ, ◌<◌, ◌≤◌, Bool, true, false, List, [], ◌∷◌, ◌++◌, ◌&&◌, Option, Some, None, refl, ap, sym, ◌∙◌, if◌then◌else◌, nat_le, true≢false, arith}
 use Rattle.std.proofs.lemmas.Bool.Decides.{nat_tests}
 use Rattle.std.proofs.lemmas.List.{append_assoc}
 use Rattle.cc_base.specs.declared.number.TypeId.{TypeId}

@@ -6,3 +6,5 @@ pub mod NamesAlike
 pub mod ObjectsAlike
 pub mod PiecesReady
 pub mod SitesTold
+pub mod FramesNamed
+pub mod MembersMade

@@ -1,7 +1,6 @@
 -- What is declared of one name is of types that sites tie: each with the first of them, which is physically equal to it.
 use Rattle.std.specs.List.{All, Contains}
-use Rattle.std.specs.Cmp.{IsEquivalence}
-use Rattle.std.proofs.Common.{◌≡◌, ℕ, Bool, true, false, List, [], ◌∷◌, ◌++◌, map, flat_map, Option, Some, None, refl, ap, sym, subst, ◌∙◌, inl, inr, if◌then◌else◌, ◌==◌, IsTrue, bytes_eq, true≢false, suc, length, rules}
+use Rattle.std.proofs.Common.{◌≡◌, ℕ, Bool, true, false, List, [], ◌∷◌, ◌++◌, map, flat_map, Option, Some, None, refl, ap, sym, subst, ◌∙◌, inl, inr, if◌then◌else◌, ◌==◌, IsTrue, bytes_eq, true≢false, length, rules}
 use Rattle.std.proofs.lemmas.List.Elements.{All-nil, All-cons, All-head, All-append, All-map, All-weaker, All-contains, All-contains_itself}
 use Rattle.std.proofs.lemmas.Option.{none-some}
 use Rattle.cc_base.specs.declared.number.NodeId.{NodeId}
@@ -13,24 +12,23 @@ use Rattle.c_types.specs.declared.site.Site.TheVariants as site
 use Rattle.c_types.specs.Equality.{physically_equal}
 use Rattle.c_types.specs.Sameness.{IsSameType, is_same_type, same_shape, same_step}
 use Rattle.c_types.specs.Sound.{IsWellFormed}
-use Rattle.c_types.specs.Table.{Table, IsType, IsComplete, HasShape, is_complete_entry, is_function, is_function_shape, shape_at, members_at, descend}
+use Rattle.c_types.specs.Table.{Table, IsType, IsComplete, is_complete_entry, is_function, is_function_shape, shape_at, members_at, descend}
 use Rattle.c_tree.specs.declared.leaf.Identifier.{Identifier}
 use Rattle.c_tree.specs.declared.typed_word.Home.{Home}
 use Rattle.c_tree.specs.declared.typed_word.Home.TheVariants as home
 use Rattle.c_tree.specs.TypedTree.{TypedDeclarator, TypedTranslationUnit}
-use Rattle.c_tree.specs.TypedParts.{MadeObject, declared_type, home_of, name_of, static_home, made_by_unit, statics_of, functions_of}
+use Rattle.c_tree.specs.TypedParts.{MadeObject, declared_type, home_of, name_of, static_home, statics_of, functions_of}
 use Rattle.c_typing.specs.declared.declared.Declared.{Declared}
 use Rattle.c_typing.specs.declared.declared.Declared.TheVariants as declared
 use Rattle.c_typing.specs.Scopes.{Name, entry_of}
 use Rattle.c_typing.specs.Shapes as shapes
-use Rattle.c_unit_typing.specs.Units as units
 use Rattle.c_unit_typing.specs.WellTyped.{IsWellTyped, known_before}
 use Rattle.c_ready.specs.Declarators as ready
 use Rattle.c_ready.specs.Ready.{Named, IsAlike, IsWhole, IsReadyUnit, static_stage, made_named, variables_named}
 use Rattle.c_ready.specs.Ready as stages
-use Rattle.c_ready.proofs.Basics.{all-left, all-right, eq_from, bytes-same}
+use Rattle.c_ready.proofs.Basics.{all-right, eq_from, bytes-same}
 use Rattle.c_ready.proofs.ReadyUnit.{well-typed-ready}
-use Rattle.c_ready.proofs.Suits.{is_in, whole-in}
+use Rattle.c_ready.proofs.Suits.{is_in}
 use Rattle.type_laws.proofs.Relations.{equal_equiv}
 use Rattle.type_laws.proofs.SameTypes.{same-is-equal}
 use Rattle.cil_form.specs.Typing.{AreDeclaredAlike, same, listed, turned, chained}
@@ -41,9 +39,9 @@ use Rattle.c_types.specs.Solutions.{sites_of_table}
 use Rattle.src_machine.specs.Sites.{sites_of_homes, sites_of_piece, same_as, sites_of_names, sites_of}
 use Rattle.src_machine.specs.Pieces.{pieces_of_unit}
 use Rattle.unit_sites.proofs.DeclaratorsSame.{declarators-same}
-use Rattle.unit_sites.proofs.Elements.{only, flat, unflat, every}
+use Rattle.unit_sites.proofs.Elements.{only, flat, unflat}
 use Rattle.unit_sites.proofs.FunctionsAlike.{IsLinkedDeclarator, unit-linked}
-use Rattle.unit_sites.proofs.ObjectsAlike.{Names, IsObjectAlike, objects_made, objects-named, one-type, statics-named}
+use Rattle.unit_sites.proofs.ObjectsAlike.{Names, objects_made, objects-named, one-type}
 
 -- Types
 
@@ -213,7 +211,8 @@ module _ (T : Table) (u : TypedTranslationUnit) where
 
       by : (b : Bool) → (first.0 == x.type.0) ≡ b → All (Contains sites) (if b then [] else site.Same first x.type ∷ [])
           → AreDeclaredAlike sites first x.type
-      by true g h = subst (λ (z : TypeId). AreDeclaredAlike sites first z) (ap (λ (n : ℕ). record { 0 = n }) (eq_from first.0 x.type.0 g)) (same first)
+      by true g h =
+          subst (λ (z : TypeId). AreDeclaredAlike sites first z) (ap (λ (n : ℕ). record { 0 = n }) (eq_from first.0 x.type.0 g)) (same first)
       by false g h = listed first x.type (All-head (Contains sites) (site.Same first x.type) [] h)
 
   -- what is declared of one name
@@ -379,7 +378,8 @@ module _ (T : Table) (u : TypedTranslationUnit) (w : IsWellTyped T u) where
   both-all (d ∷ ds) h l =
       All-cons (λ x. All IsMadeAlike (named_by T x)) d ds
       (declarator-made d (All-head (Names (static_stage T u) (objects_made u)) d ds h) (All-head (IsLinkedDeclarator T w.after.linked) d ds l))
-      (both-all ds (all-right (Names (static_stage T u) (objects_made u)) (d ∷ []) ds h) (all-right (IsLinkedDeclarator T w.after.linked) (d ∷ []) ds l))
+      (both-all ds (all-right (Names (static_stage T u) (objects_made u)) (d ∷ []) ds h) (all-right (IsLinkedDeclarator T w.after.linked)
+      (d ∷ []) ds l))
 
   all-made : All IsMadeAlike (named_in u T)
   all-made =

@@ -49,13 +49,15 @@ module _ (Q : Table → ℕ → Piece → Type 0)
   own-place k p r = one k.table k.nodes (APlace p) (of-place k p r)
 
   -- an expression of two operands, with or without a piece of its own
-  values : (k : Stage) (a b : TypedExpr) → Are k.table k.nodes (pieces_of a) → Are k.table k.nodes (pieces_of b) → Are k.table k.nodes (pieces_of a ++ pieces_of b)
+  values : (k : Stage) (a b : TypedExpr) → Are k.table k.nodes (pieces_of a) → Are k.table k.nodes (pieces_of b)
+      → Are k.table k.nodes (pieces_of a ++ pieces_of b)
   values k a b p q = both k.table k.nodes (pieces_of a) (pieces_of b) p q
 
   with-own : (k : Stage) (xs : List Piece) (e : TypedExpr) → Are k.table k.nodes xs → IsReady k e → Are k.table k.nodes (xs ++ AnExpression e ∷ [])
   with-own k xs e p r = both k.table k.nodes xs (AnExpression e ∷ []) p (own k e r)
 
-  with-own_place : (k : Stage) (xs : List Piece) (p : TypedPlace) → Are k.table k.nodes xs → IsReadyPlace k p → Are k.table k.nodes (xs ++ APlace p ∷ [])
+  with-own_place : (k : Stage) (xs : List Piece) (p : TypedPlace) → Are k.table k.nodes xs → IsReadyPlace k p
+      → Are k.table k.nodes (xs ++ APlace p ∷ [])
   with-own_place k xs p q r = both k.table k.nodes xs (APlace p ∷ []) q (own-place k p r)
 
   mutual
@@ -92,9 +94,11 @@ module _ (Q : Table → ℕ → Piece → Type 0)
         with-own k (pieces_of a ++ pieces_of b) (typed.Compared operator a at b t) (values k a b (value-pieces k a r.0) (value-pieces k b r.1)) r
     value-pieces k (typed.Logical operator a at b t) r = values k a b (value-pieces k a r.0) (value-pieces k b r.1)
     value-pieces k (typed.Conditional c at a b t) r =
-        both k.table k.nodes (pieces_of c ++ pieces_of a) (pieces_of b) (values k c a (value-pieces k c r.0) (value-pieces k a r.1)) (value-pieces k b r.2)
+        both k.table k.nodes (pieces_of c ++ pieces_of a) (pieces_of b) (values k c a (value-pieces k c r.0) (value-pieces k a r.1))
+        (value-pieces k b r.2)
     value-pieces k (typed.PointerConditional c at a b n t) r =
-        both k.table k.nodes (pieces_of c ++ pieces_of a) (pieces_of b) (values k c a (value-pieces k c r.0) (value-pieces k a r.1)) (value-pieces k b r.2)
+        both k.table k.nodes (pieces_of c ++ pieces_of a) (pieces_of b) (values k c a (value-pieces k c r.0) (value-pieces k a r.1))
+        (value-pieces k b r.2)
     value-pieces k (typed.Comma a b) r = values k a b (value-pieces k a r.0) (value-pieces k b r.1)
     value-pieces k (typed.Assign p at e) r = both k.table k.nodes (pieces_of_place p) (pieces_of e) (place-pieces k p r.0) (value-pieces k e r.1)
     value-pieces k (typed.AssignWith operator p at e t) r =
@@ -146,8 +150,10 @@ module _ (Q : Table → ℕ → Piece → Type 0)
     specifier-pieces k (typed.Typedef name t) r = none k.table k.nodes
     specifier-pieces k (typed.Tagged which at name t) r = none k.table k.nodes
     specifier-pieces k (typed.Aggregate which at name brace members t) r =
-        both k.table k.nodes (pieces_of_members members) (ASpecifier (typed.Aggregate which at name brace members t) ∷ []) (members-pieces k members r.0)
-        (one k.table k.nodes (ASpecifier (typed.Aggregate which at name brace members t)) (of-specifier k (typed.Aggregate which at name brace members t) r))
+        both k.table k.nodes (pieces_of_members members) (ASpecifier (typed.Aggregate which at name brace members t) ∷ [])
+        (members-pieces k members r.0)
+        (one k.table k.nodes (ASpecifier (typed.Aggregate which at name brace members t)) (of-specifier k
+        (typed.Aggregate which at name brace members t) r))
     specifier-pieces k (typed.Enum at name) r = none k.table k.nodes
     specifier-pieces k (typed.Enumeration at name brace all comma) r = enumerators-pieces k all r
 
@@ -155,7 +161,8 @@ module _ (Q : Table → ℕ → Piece → Type 0)
     members-pieces k typed.NoMember r = none k.table k.nodes
     members-pieces k (typed.AndMember all specifiers ds) r =
         both k.table k.nodes (pieces_of_members all ++ pieces_of_specifiers specifiers) (pieces_of_member_declarators ds)
-        (both k.table k.nodes (pieces_of_members all) (pieces_of_specifiers specifiers) (members-pieces k all r.0) (specifiers-pieces k specifiers r.1))
+        (both k.table k.nodes (pieces_of_members all) (pieces_of_specifiers specifiers) (members-pieces k all r.0)
+        (specifiers-pieces k specifiers r.1))
         (member_declarators-pieces k ds r.2)
 
     pub member_declarators-pieces : (k : Stage) (all : TypedMemberDeclarators) → AreReadyMemberDeclarators k all
@@ -199,13 +206,15 @@ module _ (Q : Table → ℕ → Piece → Type 0)
     declared-pieces k (typed.DeclaredBy form) r = form-pieces k form r
 
   mutual
-    pub initialiser-pieces : (k : Stage) (t : TypeId) (i : TypedInitialiser) → IsReadyInitialiser k t i → Are k.table k.nodes (pieces_of_initialiser i)
+    pub initialiser-pieces : (k : Stage) (t : TypeId) (i : TypedInitialiser) → IsReadyInitialiser k t i
+        → Are k.table k.nodes (pieces_of_initialiser i)
     initialiser-pieces k t (typed.Value e) r = value-pieces k e r.0
     initialiser-pieces k t (typed.Copied p at) r = place-pieces k p r.0
     initialiser-pieces k t (typed.Text pieces bytes) r = none k.table k.nodes
     initialiser-pieces k t (typed.Listed at items comma u) r = items-pieces k _ t items r.1
 
-    pub items-pieces : (k : Stage) (text : Bool) (t : TypeId) (items : TypedItems) → AreReadyItems k text t items → Are k.table k.nodes (pieces_of_items items)
+    pub items-pieces : (k : Stage) (text : Bool) (t : TypeId) (items : TypedItems) → AreReadyItems k text t items
+        → Are k.table k.nodes (pieces_of_items items)
     items-pieces k text t typed.NoItem r = none k.table k.nodes
     items-pieces k text t (typed.AndItem all offset u i) r =
         both k.table k.nodes (pieces_of_items all) (pieces_of_initialiser i) (items-pieces k text t all r.0) (initialiser-pieces k u i r.1)
@@ -260,12 +269,14 @@ module _ (Q : Table → ℕ → Piece → Type 0)
         (both static.table static.nodes (x ++ y) z
         (both static.table static.nodes x y (declarators-pieces vs all r.0) (form-pieces (unread (inside vs)) form r.1))
         (initialised-pieces vs (home_of_form form) t i r.5))
-        (one static.table static.nodes (AnInitialiser (typed.Declares form t) i) (own-initialiser vs (typed.Declares form t) (home_of_form form) refl t i r.3 r.5))
+        (one static.table static.nodes (AnInitialiser (typed.Declares form t) i) (own-initialiser vs (typed.Declares form t)
+        (home_of_form form) refl t i r.3 r.5))
 
     declaration-pieces : (vs : List Named) (d : TypedDeclaration) → IsReadyDeclaration (inside vs) static d
         → Are static.table static.nodes (pieces_of_declaration d)
     declaration-pieces vs (typed.Declare specifiers all) r =
-        both static.table static.nodes (pieces_of_specifiers specifiers) (pieces_of_init_declarators all) (specifiers-pieces (unread (inside vs)) specifiers r.0)
+        both static.table static.nodes (pieces_of_specifiers specifiers) (pieces_of_init_declarators all) (specifiers-pieces (unread
+        (inside vs)) specifiers r.0)
         (declarators-pieces vs all r.1)
 
     mutual
@@ -284,18 +295,22 @@ module _ (Q : Table → ℕ → Piece → Type 0)
           both static.table static.nodes (pieces_of e) (pieces_of_block_items items) (value-pieces (inside vs) e r.0)
           (block_items-pieces vs (in_a_switch a) (Some (type_of e)) items r.2)
       statement-pieces vs a (typed.While at paren c s) r =
-          both static.table static.nodes (pieces_of c) (pieces_of_statement s) (value-pieces (inside vs) c r.0.0) (statement-pieces vs (in_a_loop a) s r.1)
+          both static.table static.nodes (pieces_of c) (pieces_of_statement s) (value-pieces (inside vs) c r.0.0) (statement-pieces vs
+          (in_a_loop a) s r.1)
       statement-pieces vs a (typed.DoWhile s at paren c) r =
-          both static.table static.nodes (pieces_of_statement s) (pieces_of c) (statement-pieces vs (in_a_loop a) s r.0) (value-pieces (inside vs) c r.1.0)
+          both static.table static.nodes (pieces_of_statement s) (pieces_of c) (statement-pieces vs (in_a_loop a) s r.0) (value-pieces
+          (inside vs) c r.1.0)
       statement-pieces vs a (typed.For at paren x y z s) r =
           both static.table static.nodes (pieces_of_optional x ++ pieces_of_optional y ++ pieces_of_optional z) (pieces_of_statement s)
           (both static.table static.nodes (pieces_of_optional x ++ pieces_of_optional y) (pieces_of_optional z)
-          (both static.table static.nodes (pieces_of_optional x) (pieces_of_optional y) (optional-pieces (inside vs) x r.0) (test-pieces (inside vs) y r.1))
+          (both static.table static.nodes (pieces_of_optional x) (pieces_of_optional y) (optional-pieces (inside vs) x r.0) (test-pieces
+          (inside vs) y r.1))
           (optional-pieces (inside vs) z r.2)) (statement-pieces vs (in_a_loop a) s r.3)
       statement-pieces vs a (typed.ForDeclaration at paren d y z s) r =
           both static.table static.nodes (pieces_of_declaration d ++ pieces_of_optional y ++ pieces_of_optional z) (pieces_of_statement s)
           (both static.table static.nodes (pieces_of_declaration d ++ pieces_of_optional y) (pieces_of_optional z)
-          (both static.table static.nodes (pieces_of_declaration d) (pieces_of_optional y) (declaration-pieces vs d r.0) (test-pieces (inside vs) y r.1))
+          (both static.table static.nodes (pieces_of_declaration d) (pieces_of_optional y) (declaration-pieces vs d r.0) (test-pieces
+          (inside vs) y r.1))
           (optional-pieces (inside vs) z r.2)) (statement-pieces vs (in_a_loop a) s r.3)
       statement-pieces vs a (typed.Break at) r = none static.table static.nodes
       statement-pieces vs a (typed.Continue at) r = none static.table static.nodes
@@ -305,7 +320,8 @@ module _ (Q : Table → ℕ → Piece → Type 0)
           → AreReadyBlockItems (inside vs) static a on items → Are static.table static.nodes (pieces_of_block_items items)
       block_items-pieces vs a on typed.NoBlockItem r = none static.table static.nodes
       block_items-pieces vs a on (typed.AndStatement all s) r =
-          both static.table static.nodes (pieces_of_block_items all) (pieces_of_statement s) (block_items-pieces vs a on all r.0) (statement-pieces vs a s r.1)
+          both static.table static.nodes (pieces_of_block_items all) (pieces_of_statement s) (block_items-pieces vs a on all r.0)
+          (statement-pieces vs a s r.1)
       block_items-pieces vs a on (typed.AndDeclaration all d) r =
           both static.table static.nodes (pieces_of_block_items all) (pieces_of_declaration d) (block_items-pieces vs a on all r.0)
           (declaration-pieces vs d r.1)
@@ -322,5 +338,6 @@ module _ (Q : Table → ℕ → Piece → Type 0)
         let x = pieces_of_unit u in let y = pieces_of_specifiers specifiers in let z = pieces_of_form form in
         both static.table static.nodes (x ++ y ++ z) (pieces_of_block_items body)
         (both static.table static.nodes (x ++ y) z
-        (both static.table static.nodes x y (unit-pieces u r.0) (specifiers-pieces (unread static) specifiers r.1)) (form-pieces (unread static) form r.2))
+        (both static.table static.nodes x y (unit-pieces u r.0) (specifiers-pieces (unread static) specifiers r.1)) (form-pieces
+        (unread static) form r.2))
         (block_items-pieces (variables_named (record { declarator = typed.Declares form t; body = body })) _ None body r.4.body)

@@ -1,7 +1,7 @@
 -- What the sites of a ready unit tell: its pointer types and objects, and both ends of each flow.
 use Rattle.std.specs.List.{All, Contains}
-use Rattle.std.proofs.Common.{Bool, true, false, List, [], ◌∷◌, ◌++◌, map, flat_map, Option, Some, None, sym, subst, if◌then◌else◌, ◌==◌, ◌≡◌, IsTrue, refl}
-use Rattle.std.proofs.lemmas.List.Elements.{All-nil, All-head, All-append, All-map, All-weaker, All-get_or, All-contains, All-contains_itself}
+use Rattle.std.proofs.Common.{ℕ, ◌≤◌, ◌+◌, ◌⊎◌, inl, inr, ap, ◌∙◌, arith, Bool, true, false, List, [], ◌∷◌, ◌++◌, map, flat_map, Option, Some, None, sym, subst, if◌then◌else◌, ◌==◌, ◌≡◌, IsTrue, refl}
+use Rattle.std.proofs.lemmas.List.Elements.{All-nil, All-head, All-append, All-map, All-weaker, All-get_or, All-contains, All-contains_itself, All-cons, All-from_get_or}
 use Rattle.cc_base.specs.declared.place.Place.{Place}
 use Rattle.cc_base.specs.declared.number.NodeId.{NodeId}
 use Rattle.cc_base.specs.declared.number.TypeId.{TypeId}
@@ -10,7 +10,7 @@ use Rattle.c_types.specs.declared.shape.TypeShape.TheVariants as shape
 use Rattle.c_types.specs.declared.site.Site.{Site}
 use Rattle.c_types.specs.declared.site.Site.TheVariants as site
 use Rattle.c_types.specs.Equality.{physically_equal}
-use Rattle.c_types.specs.Table.{Table, Entry, HasShape, shape_at, void_entry}
+use Rattle.c_types.specs.Table.{Table, Entry, HasShape, IsType, shape_at, void_entry}
 use Rattle.c_types.specs.Solutions.{sites_of_shape, sites_of_table}
 use Rattle.c_tree.specs.declared.operator.AggregateKind.{AggregateKind}
 use Rattle.c_tree.specs.declared.operator.AggregateKind.TheVariants as aggregate
@@ -21,8 +21,13 @@ use Rattle.c_tree.specs.declared.typed_word.Conversion.TheVariants as conversion
 use Rattle.c_tree.specs.TypedTree as typed
 use Rattle.c_tree.specs.TypedTree.{TypedExpr, TypedPlace, TypedSpecifier, TypedDeclarator, TypedInitialiser, TypedItems, TypedTranslationUnit}
 use Rattle.c_tree.specs.TypedParts.{MadeObject, DefinedFunction, type_of, place_type, named_type, home_of, statics_of, functions_of}
-use Rattle.c_unit_typing.specs.WellTyped.{IsWellTyped}
-use Rattle.c_ready.specs.Ready.{Stage, Fits, IsReady, AreReadyExternals, static_stage}
+use Rattle.c_unit_typing.specs.TypesUsed.{used_by_unit}
+use Rattle.c_unit_typing.specs.WellTyped.{IsWellTyped, known_before}
+use Rattle.c_ready.specs.Ready as stages
+use Rattle.c_ready.proofs.HomesApart.{occurs, occurs-all, homes-most}
+use Rattle.c_ready.proofs.NodesOnce.{used-once, used-most, made-once}
+use Rattle.c_ready.proofs.NodesUsed.{uses}
+use Rattle.c_ready.specs.Ready.{Stage, Fits, IsReady, AreReadyExternals, static_stage, homes_of, variables_named}
 use Rattle.c_ready.proofs.Basics.{all-left, all-right, unmap}
 use Rattle.src_mem.specs.Memory.{Planned}
 use Rattle.src_mem.specs.Operations.{node_at, pointee_at, node_of_shape, pointee_of_shape}
@@ -35,6 +40,8 @@ use Rattle.cil_form.specs.Sites.{Each}
 use Rattle.unit_sites.specs.Objects.{objects_in}
 use Rattle.unit_sites.proofs.Elements.{each-of, every, only, pair, flat, unflat}
 use Rattle.c_ready.proofs.ReadyUnit.{well-typed-ready}
+use Rattle.unit_sites.proofs.FramesNamed.{plan_named, frame-named}
+use Rattle.unit_sites.proofs.MembersMade.{members, unit-less, IsMemberOf, HasMember, member-in, some-members, one-member}
 use Rattle.unit_sites.proofs.NamesAlike.{first-equal}
 use Rattle.unit_sites.proofs.PiecesReady.{unit-pieces}
 
@@ -134,9 +141,12 @@ value-join k (typed.Cast which at to e) r = fits-joins k which (type_of e) (name
 value-join k other r = tt
 
 module _ (u : TypedTranslationUnit) (T : Table) where
-  -- what a site tells by itself: a flow of its ends, and two types of one name that they are physically equal
+  -- what a site tells by itself: a flow of its ends, a pointee of a pointer type or a member, a home that it is one, and two types of one name
+  -- that they are physically equal
   abbrev HasEnds : Site → Type 0
   HasEnds (site.Flow m t n v at) = Contains (sites_of u T) (site.Pointee m t) × Contains (sites_of u T) (site.Pointee n v)
+  HasEnds (site.Pointee n t) = ((a : TypeId) × HasShape T a (shape.Pointer n t)) ⊎ HasMember n t (pieces_of_unit u)
+  HasEnds (site.Home n t) = 1 ≤ occurs n.0 (homes_of u)
   HasEnds (site.Same first t) = IsTrue (physically_equal T first t)
   HasEnds other = Unit {0}
 
@@ -182,13 +192,18 @@ module _ (u : TypedTranslationUnit) (T : Table) where
   value-ends (typed.Compared operator a at b t) h = compared-ends operator at (type_of a) (type_of b)
   value-ends other h = none
 
-  place-ends : (p : TypedPlace) → Ends (sites_of_place T p)
-  place-ends (typed.Element which a at b t) = only HasEnds _ tt
-  place-ends (typed.Member p at name i n t) = All-append HasEnds (site.Pointee n t ∷ []) (linked_to T n p) (only HasEnds _ tt) (linked-ends n p)
-  place-ends (typed.MemberAt e at name i n t) = pair HasEnds _ _ tt tt
-  place-ends (typed.StructAssign p at q) = linked-ends _ q
-  place-ends (typed.StructConditional c at p q) = only HasEnds _ tt
-  place-ends other = none
+  abbrev IsListed : Piece → Type 0
+  IsListed x = (n : NodeId) (t : TypeId) → IsMemberOf n t x → HasMember n t (pieces_of_unit u)
+
+  place-ends : (p : TypedPlace) → IsListed (APlace p) → Ends (sites_of_place T p)
+  place-ends (typed.Element which a at b t) l = only HasEnds _ tt
+  place-ends (typed.Member p at name i n t) l =
+      All-append HasEnds (site.Pointee n t ∷ []) (linked_to T n p) (only HasEnds (site.Pointee n t) (inr (l n t (refl, refl)))) (linked-ends n p)
+  place-ends (typed.MemberAt e at name i n t) l =
+      pair HasEnds (site.Pointee n t) (site.Linked n (node_at T (type_of e))) (inr (l n t (refl, refl))) tt
+  place-ends (typed.StructAssign p at q) l = linked-ends _ q
+  place-ends (typed.StructConditional c at p q) l = only HasEnds _ tt
+  place-ends other l = none
 
   aggregate-ends : (kind : AggregateKind) (at : Place) (t : TypeId) → Ends (sites_of_aggregate kind at t)
   aggregate-ends aggregate.Struct at t = none
@@ -214,15 +229,26 @@ module _ (u : TypedTranslationUnit) (T : Table) where
   initialiser-ends None i = none
   initialiser-ends (Some n) i = copies-ends n i
 
-  piece-ends : (piece : Piece) → IsJoin T piece → Ends (sites_of_piece T piece)
-  piece-ends (AnExpression e) h = value-ends e h
-  piece-ends (APlace p) h = place-ends p
-  piece-ends (ASpecifier x) h = specifier-ends x
-  piece-ends (AnInitialiser d i) h = initialiser-ends (object_node (home_of d)) i
+  piece-ends : (piece : Piece) → IsJoin T piece → IsListed piece → Ends (sites_of_piece T piece)
+  piece-ends (AnExpression e) h l = value-ends e h
+  piece-ends (APlace p) h l = place-ends p l
+  piece-ends (ASpecifier x) h l = specifier-ends x
+  piece-ends (AnInitialiser d i) h l = initialiser-ends (object_node (home_of d)) i
 
-  shape-ends : (x : TypeShape) → Ends (sites_of_shape x)
-  shape-ends (shape.Pointer n to) = only HasEnds (site.Pointee n to) tt
-  shape-ends x = none
+  pieces-ends : (xs : List Piece) → All (IsJoin T) xs → All IsListed xs → All (λ piece. Ends (sites_of_piece T piece)) xs
+  pieces-ends [] h l = All-nil (λ piece. Ends (sites_of_piece T piece))
+  pieces-ends (x ∷ xs) h l =
+      All-cons (λ piece. Ends (sites_of_piece T piece)) x xs (piece-ends x (All-head (IsJoin T) x xs h) (All-head IsListed x xs l))
+      (pieces-ends xs (all-right (IsJoin T) (x ∷ []) xs h) (all-right IsListed (x ∷ []) xs l))
+
+  shape-ends : (t : TypeId) → IsType T t → (x : TypeShape) → shape_at T t ≡ x → Ends (sites_of_shape x)
+  shape-ends t q (shape.Pointer n to) e = only HasEnds (site.Pointee n to) (inl (t, (q, e)))
+  shape-ends t q shape.Void e = none
+  shape-ends t q (shape.Integer a s) e = none
+  shape-ends t q (shape.Array v c) e = none
+  shape-ends t q (shape.Function ps r) e = none
+  shape-ends t q (shape.Struct i) e = none
+  shape-ends t q (shape.Union i) e = none
 
   same-ends : (t : TypeId) (o : Option TypeId) → ((first : TypeId) → o ≡ Some first → IsTrue (physically_equal T first t)) → Ends (same_as t o)
   same-ends t None h = none
@@ -233,19 +259,42 @@ module _ (u : TypedTranslationUnit) (T : Table) where
       by false = only HasEnds (site.Same first t) (h first refl)
 
   table-ends : Ends (sites_of_table T)
-  table-ends = flat HasEnds (λ (e : Entry). sites_of_shape e.shape) T (every (λ (e : Entry). Ends (sites_of_shape e.shape)) (λ e. shape-ends e.shape) T)
+  table-ends =
+      flat HasEnds (λ (e : Entry). sites_of_shape e.shape) T
+      (All-from_get_or (λ (e : Entry). Ends (sites_of_shape e.shape)) T void_entry
+      (λ i q. shape-ends (record { 0 = i }) q (shape_at T (record { 0 = i })) refl))
+
+  abbrev IsHome : ℕ → Type 0
+  IsHome m = 1 ≤ occurs m (homes_of u)
+
+  statics-are_homes : All (λ (o : MadeObject). IsHome o.home.0) (statics_of u)
+  statics-are_homes =
+      unmap IsHome (λ (o : MadeObject). o.home.0) (statics_of u)
+      (all-left IsHome (map (λ (o : MadeObject). o.home.0) (statics_of u))
+      (flat_map (λ f. map (λ (o : stages.Named). o.0.0) (variables_named f)) (functions_of u)) (occurs-all (homes_of u)))
+
+  frames-are_homes : All (λ f. All (λ (o : stages.Named). IsHome o.0.0) (variables_named f)) (functions_of u)
+  frames-are_homes =
+      All-weaker (λ f. All IsHome (map (λ (o : stages.Named). o.0.0) (variables_named f)))
+      (λ f. All (λ (o : stages.Named). IsHome o.0.0) (variables_named f))
+      (λ f h. unmap IsHome (λ (o : stages.Named). o.0.0) (variables_named f) h) (functions_of u)
+      (unflat IsHome (λ f. map (λ (o : stages.Named). o.0.0) (variables_named f)) (functions_of u)
+      (all-right IsHome (map (λ (o : MadeObject). o.home.0) (statics_of u))
+      (flat_map (λ f. map (λ (o : stages.Named). o.0.0) (variables_named f)) (functions_of u)) (occurs-all (homes_of u))))
+
+  frame-ends : (f : DefinedFunction) → All (λ (o : stages.Named). IsHome o.0.0) (variables_named f) → Ends (frame_homes u T f)
+  frame-ends f h =
+      All-map HasEnds (λ (v : Planned). site.Home v.node v.type) (variables_of (head_of f))
+      (unmap (λ (o : stages.Named). IsHome o.0.0) plan_named (variables_of (head_of f))
+      (subst (All (λ (o : stages.Named). IsHome o.0.0)) (sym (frame-named f)) h))
 
   homes-ends : Ends (sites_of_homes u)
   homes-ends =
       All-append HasEnds (statics_homes u T) (flat_map (frame_homes u T) (functions_of u))
-      (All-map HasEnds (λ (o : MadeObject). site.Home o.home o.type) (statics_of u)
-      (every (λ (o : MadeObject). HasEnds (site.Home o.home o.type)) (λ o. tt) (statics_of u)))
-      (flat HasEnds (frame_homes u T) (functions_of u) (every (λ f. Ends (frame_homes u T f)) (λ f. frame-ends f) (functions_of u)))
-    where
-      frame-ends : (f : DefinedFunction) → Ends (frame_homes u T f)
-      frame-ends f =
-          All-map HasEnds (λ (v : Planned). site.Home v.node v.type) (variables_of (head_of f))
-          (every (λ (v : Planned). HasEnds (site.Home v.node v.type)) (λ v. tt) (variables_of (head_of f)))
+      (All-map HasEnds (λ (o : MadeObject). site.Home o.home o.type) (statics_of u) statics-are_homes)
+      (flat HasEnds (frame_homes u T) (functions_of u)
+      (All-weaker (λ f. All (λ (o : stages.Named). IsHome o.0.0) (variables_named f)) (λ f. Ends (frame_homes u T f)) frame-ends (functions_of u)
+      frames-are_homes))
 
   names-ends : IsWellTyped T u → Ends (sites_of_names (named_in u T))
   names-ends w =
@@ -267,7 +316,7 @@ module _ (u : TypedTranslationUnit) (T : Table) where
         (All-append HasEnds (sites_of_table T ++ sites_of_homes u) (flat_map (sites_of_piece T) (pieces_of_unit u))
         (All-append HasEnds (sites_of_table T) (sites_of_homes u) table-ends homes-ends)
         (flat HasEnds (sites_of_piece T) (pieces_of_unit u)
-        (All-weaker (IsJoin T) (λ piece. Ends (sites_of_piece T piece)) piece-ends (pieces_of_unit u) joins))) (names-ends w)
+        (pieces-ends (pieces_of_unit u) joins (member-in (pieces_of_unit u))))) (names-ends w)
 
     -- what flows is told of at both ends
     pub flows-told : (m n : NodeId) (t v : TypeId) (at : Place) → Contains (sites_of u T) (site.Flow m t n v at)
@@ -277,3 +326,50 @@ module _ (u : TypedTranslationUnit) (T : Table) where
     -- two types of one name are physically equal
     pub same-told : (first t : TypeId) → Contains (sites_of u T) (site.Same first t) → IsTrue (physically_equal T first t)
     same-told first t c = All-contains HasEnds (sites_of u T) (site.Same first t) all c
+
+    -- Nodes
+
+    members-most : (n : ℕ) → uses T n (used_by_unit T u) + members n (pieces_of_unit u) + occurs n (homes_of u) ≤ 1
+    members-most n =
+        let a = used-most T u (known_before u) w.after w.basic w.numbered w.typed w.types ready n in
+        let b = (unit-less n u).few in
+        let c = homes-most u n in
+        let d = made-once T u (known_before u) w.after w.basic w.numbered w.typed w.types ready n in
+        omega (arith, a, b, c, d)
+
+    used : (t to : TypeId) (n : NodeId) → HasShape T t (shape.Pointer n to) → 1 ≤ uses T n.0 (used_by_unit T u)
+    used t to n h = used-once T u (known_before u) w.after w.basic w.numbered w.typed w.types ready t to n h
+
+    same-pointee : (n : NodeId) (t v : TypeId) → shape.Pointer n t ≡ shape.Pointer n v → t ≡ v
+    same-pointee n t v h = cc
+
+    -- no node points to two types
+    pub pointees-told : (n : NodeId) (t v : TypeId) → Contains (sites_of u T) (site.Pointee n t) → Contains (sites_of u T) (site.Pointee n v)
+        → t ≡ v
+    pointees-told n t v c e =
+        let x = All-contains HasEnds (sites_of u T) (site.Pointee n t) all c in
+        let y = All-contains HasEnds (sites_of u T) (site.Pointee n v) all e in
+        let most = members-most n.0 in
+        elim x [
+          | inl a ↦ elim y [
+            | inl b ↦
+                let one = (well-typed-ready T u w).pointees a.0 t b.0 v n a.1 b.1 in
+                same-pointee n t v (sym a.1.1 ∙ (ap (λ z. shape_at T z) one ∙ b.1.1))
+            | inr b ↦ absurd (omega (arith, most, used a.0 t n a.1, some-members n v (pieces_of_unit u) b))
+          ]
+          | inr a ↦ elim y [
+            | inl b ↦ absurd (omega (arith, most, used b.0 v n b.1, some-members n t (pieces_of_unit u) a))
+            | inr b ↦ one-member n t v (pieces_of_unit u) (omega (arith, most)) a b
+          ]
+        ]
+
+    -- what points is no home
+    pub homes-told : (n : NodeId) (t v : TypeId) → Contains (sites_of u T) (site.Pointee n t) → Contains (sites_of u T) (site.Home n v) → ⊥
+    homes-told n t v c e =
+        let x = All-contains HasEnds (sites_of u T) (site.Pointee n t) all c in
+        let y = All-contains HasEnds (sites_of u T) (site.Home n v) all e in
+        let most = members-most n.0 in
+        elim x [
+          | inl a ↦ omega (arith, most, used a.0 t n a.1, y)
+          | inr a ↦ omega (arith, most, some-members n t (pieces_of_unit u) a, y)
+        ]

@@ -1,4 +1,5 @@
-use Rattle.unit_sites.proofs.SitesTold.{pointers-told, objects-told, flows-told, same-told}
+use Rattle.unit_sites.proofs.SitesTold.{pointers-told, objects-told, flows-told, same-told, pointees-told, homes-told}
+use Rattle.unit_sites.proofs.AggregatesWritten.{unions-told}
 use Rattle.unit_sites.proofs.the_sites_of_a_well_typed_unit_are_told.Goals as goal
 
 pub returns-clause-pointers : goal.returns-clause-pointers
@@ -12,3 +13,12 @@ returns-clause-flows c table unit w m n t u place h = flows-told unit table w m 
 
 pub returns-clause-same : goal.returns-clause-same
 returns-clause-same c table unit w t u h = same-told unit table w t u h
+
+pub returns-clause-unions : goal.returns-clause-unions
+returns-clause-unions c table unit w v h q = unions-told table unit w v h q
+
+pub returns-clause-pointees : goal.returns-clause-pointees
+returns-clause-pointees c table unit w n t u p q = pointees-told unit table w n t u p q
+
+pub returns-clause-homes : goal.returns-clause-homes
+returns-clause-homes c table unit w n t u p q = homes-told unit table w n t u p q

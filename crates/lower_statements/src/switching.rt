@@ -19,7 +19,7 @@ use crate::nesting::Nesting;
 use c_tree::{TypedBlockItem, TypedExpr};
 use cc_base::{Place, TypeId};
 use cil_form::{Calculate, Code, Comparison, Convert, Instr, Operator, Set, Temp, Work};
-use lower_exprs::{Draft, Scope, choose, keep, put, refuse, start};
+use lower_exprs::{Draft, Scope, choose, keep, put, start};
 
 /// `unsigned long`, the type of labels' numbers.
 const UNSIGNED_LONG: TypeId = TypeId(8);
@@ -54,7 +54,8 @@ fn with_item(before: Labels, item: &TypedBlockItem) -> Labels
 
 /// The labels of a block.
 fn labels_in(items: &[TypedBlockItem]) -> Labels
-    ensures { AreLabels (typed_block_view items.now) result }
+    ensures labels { AreLabels (typed_block_view items.now) result }
+    ensures few { result.count < 9223372036854775808 }
 {
     let mut labels = Labels {
         count: 0,
@@ -66,15 +67,12 @@ fn labels_in(items: &[TypedBlockItem]) -> Labels
     labels
 }
 
-/// Only where the labels have numbers.
-pub(crate) fn demand_labels(out: &mut Draft, items: &[TypedBlockItem])
-    ensures { Grows (When (IsFew (typed_block_view items.now)) (Line [])) (IsFew (typed_block_view items.now)) out.old out.new }
+/// Appends nothing: a block is shorter than numbers of labels go, so that its labels have numbers, and one more.
+pub(crate) fn labels_fit(out: &mut Draft, items: &[TypedBlockItem])
+    ensures { Grows (When (IsFew (typed_block_view items.now)) (Line [])) (Unit {0}) out.old out.new }
 {
-    if labels_in(items).count < usize::MAX {
-        keep(out)
-    } else {
-        refuse(out)
-    }
+    prove!(labels_in(items).count < usize::MAX);
+    keep(out)
 }
 
 /// The number of `default`; where there is none, one that no label has.

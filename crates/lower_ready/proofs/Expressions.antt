@@ -143,10 +143,10 @@ module _ (s : Stage) (statics variables : List NodeId) (w : Numbers s (low s sta
     has-code (typed.StepAfter p which at) Z v r m = has-place p (suc v < 256) v r.0 (omega (arith, m)) (omega (arith, m))
     has-code (typed.Arithmetic op a at b t) Z v (ra, rb, rest) m =
         (has-code a Z v ra (omega (arith, m)), ((omega (arith, m), has-code b Z (suc v) rb (omega (arith, m))), omega (arith, m)))
-    has-code (typed.Moved op which a at b t) Z v (ra, rb, rest) m =
-        (has-code a Z v ra (omega (arith, m)), ((omega (arith, m), has-code b Z (suc v) rb (omega (arith, m))), omega (arith, m)))
-    has-code (typed.Difference a at b t) Z v (ra, rb, rest) m =
-        (has-code a Z v ra (omega (arith, m)), ((omega (arith, m), has-code b Z (suc v) rb (omega (arith, m))), omega (arith, m)))
+    has-code (typed.Moved op which a at b t) Z v r m =
+        (has-code a Z v r.0 (omega (arith, m)), ((omega (arith, m), has-code b Z (suc v) r.1 (omega (arith, m))), omega (arith, m)))
+    has-code (typed.Difference a at b t) Z v r m =
+        (has-code a Z v r.0 (omega (arith, m)), ((omega (arith, m), has-code b Z (suc v) r.1 (omega (arith, m))), omega (arith, m)))
     has-code (typed.Compared op a at b t) Z v (ra, rb, h) m = (
       has-code a Z v ra (omega (arith, m)),
       ((omega (arith, m), has-code b Z (suc v) rb (omega (arith, m))), (omega (arith, m), comparison s.table op a at b h.compared)),
@@ -155,9 +155,9 @@ module _ (s : Stage) (statics variables : List NodeId) (w : Numbers s (low s sta
         (has-code a Z v ra (omega (arith, m)), (has-code b Z v rb (omega (arith, m)), tt))
     has-code (typed.Conditional c at a b t) Z v (rc, ra, rb, rest) m =
         (has-code c Z v rc (omega (arith, m)), (has-code a Z v ra (omega (arith, m)), has-code b Z v rb (omega (arith, m))))
-    has-code (typed.PointerConditional c at a b n t) Z v (rc, ra, rb, rest) m =
-        (has-code c Z v rc (omega (arith, m)), (has-code a Z v ra (omega (arith, m)), has-code b Z v rb (omega (arith, m))))
-    has-code (typed.Comma a b) Z v (ra, rb, rest) m = (has-code a Z v ra (omega (arith, m)), has-code b Z v rb (omega (arith, m)))
+    has-code (typed.PointerConditional c at a b n t) Z v r m =
+        (has-code c Z v r.0 (omega (arith, m)), (has-code a Z v r.1 (omega (arith, m)), has-code b Z v r.2 (omega (arith, m))))
+    has-code (typed.Comma a b) Z v r m = (has-code a Z v r.0 (omega (arith, m)), has-code b Z v r.1 (omega (arith, m)))
     has-code (typed.Assign p at e) Z v (rp, re, lvalue, rest) m = (
       fixed p lvalue,
       (
@@ -165,16 +165,16 @@ module _ (s : Stage) (statics variables : List NodeId) (w : Numbers s (low s sta
         ((omega (arith, m), has-code e Z (suc v) re (omega (arith, m))), omega (arith, m)),
       ),
     )
-    has-code (typed.AssignWith op p at e u) Z v (rp, re, compound, lvalue, rest) m = (
-      fixed p lvalue,
+    has-code (typed.AssignWith op p at e u) Z v (rp, re, updated) m = (
+      fixed p updated.1,
       (
         has-place p (Unit {0}) v rp (omega (arith, m)) tt,
         ((omega (arith, m), has-code e Z (suc v) re (omega (arith, m))), omega (arith, m)),
       ),
     )
-    has-code (typed.Call f at arguments t) Z v (rf, ra, rest) m = (
-      has-code f Z v rf (omega (arith, m)),
-      (have-code arguments Z v ra (omega (arith, m)), (omega (arith, m), omega (arith, m, count-same arguments))),
+    has-code (typed.Call f at arguments t) Z v r m = (
+      has-code f Z v r.0 (omega (arith, m)),
+      (have-code arguments Z v r.1 (omega (arith, m)), (omega (arith, m), omega (arith, m, count-same arguments))),
     )
     has-code (typed.CallRuntime which f at arguments t) Z v (ra, call, may) m =
         (have-code arguments Z v ra (omega (arith, m)), runtime s.table which f arguments t v call (omega (arith, m, count-same arguments)))
@@ -202,23 +202,23 @@ module _ (s : Stage) (statics variables : List NodeId) (w : Numbers s (low s sta
     has-place (typed.Variable name home t) S v r m after = (w.objects home t (subst (λ c. IsObjectOf c s home t) w.runs r), after)
     has-place (typed.String pieces home t) S v (r, rest) m after = (w.literals home t r, after)
     has-place (typed.ParenPlace at p) S v r m after = has-place p S v r (omega (arith, m)) after
-    has-place (typed.Target at e t) S v (r, rest) m after = (has-code e S v r (omega (arith, m)), after)
-    has-place (typed.Element which a at b t) S v (ra, rb, rest) m after = (
-      (has-code a S v ra (omega (arith, m)), ((omega (arith, m), has-code b S (suc v) rb (omega (arith, m))), omega (arith, m))),
+    has-place (typed.Target at e t) S v r m after = (has-code e S v r.0 (omega (arith, m)), after)
+    has-place (typed.Element which a at b t) S v r m after = (
+      (has-code a S v r.0 (omega (arith, m)), ((omega (arith, m), has-code b S (suc v) r.1 (omega (arith, m))), omega (arith, m))),
       after,
     )
     has-place (typed.Member p at name i n t) S v (r, rest) m after = (has-place p (Unit {0}) v r (omega (arith, m)) tt, after)
     has-place (typed.MemberAt e at name i n t) S v (r, rest) m after = ((has-code e S v r (omega (arith, m)), tt), after)
-    has-place (typed.StructAssign p at q) S v (rp, rq, lvalue, rest) m after = (
-      fixed p lvalue,
+    has-place (typed.StructAssign p at q) S v r m after = (
+      fixed p r.2,
       (
-        has-place p (Unit {0}) v rp (omega (arith, m)) tt,
-        ((omega (arith, m), has-place q (Unit {0}) (suc v) rq (omega (arith, m)) tt), after),
+        has-place p (Unit {0}) v r.0 (omega (arith, m)) tt,
+        ((omega (arith, m), has-place q (Unit {0}) (suc v) r.1 (omega (arith, m)) tt), after),
       ),
     )
-    has-place (typed.StructConditional c at p q) S v (rc, rp, rq, rest) m after = (
-      has-code c S v rc (omega (arith, m)),
-      (has-place p S v rp (omega (arith, m)) after, has-place q S v rq (omega (arith, m)) after),
+    has-place (typed.StructConditional c at p q) S v r m after = (
+      has-code c S v r.0 (omega (arith, m)),
+      (has-place p S v r.1 (omega (arith, m)) after, has-place q S v r.2 (omega (arith, m)) after),
     )
-    has-place (typed.StructComma e p) S v (re, rp, rest) m after =
-        (has-code e S v re (omega (arith, m)), has-place p S v rp (omega (arith, m)) after)
+    has-place (typed.StructComma e p) S v r m after =
+        (has-code e S v r.0 (omega (arith, m)), has-place p S v r.1 (omega (arith, m)) after)

@@ -100,8 +100,8 @@ module _ (s : Stage) (statics variables : List NodeId) (w : Numbers s (low s sta
         → HasCodeOfInitialiser i K t base
     has-initialiser (typed.Value e) t base d (ready, stored) whole m n b =
         (has-code s statics variables w e (Unit {0}) 0 ready (held-alone (erased e) m), tt)
-    has-initialiser (typed.Copied p seat) t base d (ready, rest) whole m n b =
-        has-place s statics variables w p (Unit {0}) 0 ready (held-alone (erased_place p) m) tt
+    has-initialiser (typed.Copied p seat) t base d r whole m n b =
+        has-place s statics variables w p (Unit {0}) 0 r.0 (held-alone (erased_place p) m) tt
     has-initialiser (typed.Text pieces bytes) t base d (element, count, signed, array, char, few) whole m n b = (
       omega (arith, n, b, few, text-low t element count signed whole.1 array.1 char.1),
       subst (IsConstant K) (sym (ap element_of_shape array.1)) (w.constants (record { bytes = 1; signed = signed }) element char),

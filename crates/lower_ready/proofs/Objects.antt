@@ -110,14 +110,14 @@ told (x ∷ xs) d = (others x xs d.0, told xs d.1)
 
 any-below : (q n : ℕ) (xs : List ℕ) → All (λ m. m < n) xs → list_any (eqb q) xs ≡ true → q < n
 any-below q n [] h e = absurd (cc (e))
-any-below q n (x ∷ xs) h e = by (eqb q x) refl e
+any-below q n (x ∷ xs) h e = by (λ r. any-below q n xs (All-tail (λ m. m < n) x xs h) r) (eqb q x) refl e
   where
     same : (a c : ℕ) → eqb a c ≡ true → a ≡ c
     same a c g = grind (arith, nat_tests)
 
-    by : (b : Bool) → eqb q x ≡ b → (b || list_any (eqb q) xs) ≡ true → q < n
-    by true g r = subst (λ m. m < n) (sym (same q x g)) (All-head (λ m. m < n) x xs h)
-    by false g r = any-below q n xs (All-tail (λ m. m < n) x xs h) r
+    by : (list_any (eqb q) xs ≡ true → q < n) → (b : Bool) → eqb q x ≡ b → (b || list_any (eqb q) xs) ≡ true → q < n
+    by more true g r = subst (λ m. m < n) (sym (same q x g)) (All-head (λ m. m < n) x xs h)
+    by more false g r = more r
 
 -- numbers below n that are apart are n at most
 pub few : (xs : List ℕ) (n : ℕ) → IsDistinct nat_eq xs → All (λ m. m < n) xs → length xs ≤ n

@@ -27,6 +27,6 @@ pub(crate) fn leave(context: &mut Context, at: Place) -> Result<(), Fault>
     if context.scope.depth() < 2 {
         return Err(no_room(at));
     }
-    context.scope.leave();
+    let _ = context.scope.leave();
     Ok(())
 }

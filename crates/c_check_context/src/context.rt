@@ -1,7 +1,7 @@
 //! What is known where a part of a unit is judged, and what is asked of its expressions.
 #![tactic(auto)]
 
-ghost use Rattle.std.specs.Prelude.{◌≡◌};
+ghost use Rattle.std.specs.Prelude.{◌≡◌, None};
 ghost use Rattle.c_tree.specs.Views.{expr_view, specifiers_view, declarator_view};
 ghost use Rattle.c_tree.specs.TypedViews.{typed_expr_view, typed_specifiers_view, typed_declarator_view};
 ghost use Rattle.c_typing.specs.Assignments.{count_global};
@@ -13,7 +13,10 @@ ghost use Rattle.c_check_context.specs.ContextViews.{state_of};
 ghost use Rattle.c_unit_typing.specs.UnitJudging.{Answers, lifted};
 
 use crate::linkage::Linkage;
-use c_check_expr::{check_constant, check_declarator, check_expr, check_specifiers, check_value};
+use c_check_expr::{
+    Level, check_constant, check_declarator, check_definition, check_expr, check_specifiers,
+    check_value,
+};
 use c_check_operators::cells::count_cells;
 use c_check_operators::literals::count_global;
 use c_tree::{Boxed, Declarator, Expr, Specifiers, TypedDeclarator, TypedExpr, TypedSpecifiers};
@@ -85,6 +88,18 @@ impl Context {
         ensures { Answers typed_declarator_view (lifted (judge_declarator naming (typed_specifiers_view base.now) size (declarator_view d.now)) (state_of self.old)) result (state_of self.new) }
     {
         check_declarator(&mut self.scope, &mut self.types, base, d, size, naming)
+    }
+
+    /// The declarator of a function definition, with the scope that its parameters leave.
+    pub fn definition(
+        &mut self,
+        naming: Naming,
+        base: &TypedSpecifiers,
+        d: &Declarator,
+    ) -> Result<(TypedDeclarator, Option<Level>), Fault>
+        ensures { Answers (λ made. typed_declarator_view made.0) (lifted (judge_declarator naming (typed_specifiers_view base.now) None (declarator_view d.now)) (state_of self.old)) result (state_of self.new) }
+    {
+        check_definition(&mut self.scope, &mut self.types, base, d, naming)
     }
 
     /// The pointers that the copy of a struct moves are counted.

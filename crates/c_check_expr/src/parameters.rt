@@ -19,6 +19,7 @@ ghost use Rattle.c_typing.specs.Specifying.{obeying};
 ghost use Rattle.c_typing.specs.Tests as tests;
 ghost use Rattle.c_typing.specs.Tests.{first_broken};
 ghost use Rattle.c_typing.specs.Walks as walks;
+ghost use Rattle.c_unit_typing.specs.ParameterScopes.{level_given, scope_of_list};
 
 use crate::declarators::node_at;
 use crate::walker::Walker;
@@ -33,6 +34,7 @@ use c_tree::{
 };
 use c_types::{TypeShape, Types};
 use c_typing::declared::Declared;
+use c_typing::level::Level;
 use c_typing::naming::Naming;
 use c_typing::operand::Operand;
 use c_typing::scope::Scope;
@@ -309,17 +311,17 @@ impl<
         types: &mut Types,
         at: Place,
         list: &[Parameter],
-    ) -> Result<Items<TypedParameter>, Fault>
+    ) -> Result<(Items<TypedParameter>, Option<Level>), Fault>
         requires nests { Nests self.now.depth (E.pre self.now.judge_expr) (E.post self.now.judge_expr) (S.pre self.now.judge_specifiers) (S.post self.now.judge_specifiers) (D.pre self.now.judge_form) (D.post self.now.judge_form) }
-        ensures { Answers (λ found. added no_typed_parameter (map typed_parameter_view found)) (walks.judge_prototype at (added NoParameter (map parameter_view list.now)) (known types.old scope.old)) result (known types.new scope.new) }
+        ensures level { IfOk result (λ found. found.1 ≡ Some (level_given (scope_of_list (Some (added NoParameter (map parameter_view list.now))) (known types.old scope.old)))) }
+        ensures answers { Answers (λ found. added no_typed_parameter (map typed_parameter_view found.0)) (walks.judge_prototype at (added NoParameter (map parameter_view list.now)) (known types.old scope.old)) result (known types.new scope.new) }
     {
         scope.enter()?;
         let found = self.parameters(scope, types, is_void_alone(list), list)?;
         if scope.depth() <= 1 {
             return Err(no_room(at));
         }
-        scope.leave();
-        Ok(found)
+        Ok((found, scope.leave()))
     }
 }
 

@@ -2,7 +2,7 @@
 #![tactic(auto)]
 
 ghost use Rattle.std.specs.Prelude.{◌≡◌, ◌<◌, ◌≤◌, ◌+◌, true, false, not, OnOk, OnErr, IfOk, IfSome, None, option_copied, length, nat_le, map, slice_set};
-ghost use Rattle.c_typing.specs.Scopes.{file_scope, with_scopes, entering, leaving, declaring, declaring_tag, here, tag_here, name_in, tag_in, place_among, members_named, is_no_list};
+ghost use Rattle.c_typing.specs.Scopes.{file_scope, with_scopes, entering, innermost, leaving, declaring, declaring_tag, here, tag_here, name_in, tag_in, place_among, members_named, is_no_list};
 ghost use Rattle.c_typing.specs.Typing.{counting_aggregate};
 
 use crate::declared::{Declared, Tag};
@@ -69,13 +69,22 @@ impl Scope {
         Ok(())
     }
 
-    /// Takes the innermost scope away. Takes no memory.
-    pub fn leave(&mut self)
-        requires { 1 < length self.old.scopes.levels }
-        ensures { self.new ≡ with_scopes self.old (leaving self.old.scopes) }
+    /// A scope that was left goes on as the innermost one.
+    pub fn go_on(&mut self, level: Level) -> Result<(), NoMemory>
+        ensures entered { OnOk result (self.new ≡ with_scopes self.old (record self.old.scopes { levels = self.old.scopes.levels ++ level ∷ [] })) }
+        ensures unchanged { OnErr result (self.new ≡ self.old) }
     {
-        let last = self.inner.len() - 1;
-        self.inner.truncate(last);
+        self.inner.push(level)?;
+        Ok(())
+    }
+
+    /// Takes the innermost scope away, if it is not the file's. Takes no memory.
+    pub fn leave(&mut self) -> Option<Level>
+        requires { 1 < length self.old.scopes.levels }
+        ensures left { self.new ≡ with_scopes self.old (leaving self.old.scopes) }
+        ensures level { result ≡ Some (innermost self.old.scopes.levels) }
+    {
+        self.inner.pop()
     }
 
     /// How many scopes are open, the file's among them. Takes no memory.

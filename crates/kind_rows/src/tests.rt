@@ -1,3 +1,4 @@
 mod blocks;
+mod known;
 mod pairs;
 mod solutions;

@@ -8,11 +8,11 @@ use phys_types::{FlowClass, Phys};
 use std::alloc::Global;
 use std::process::Abort;
 
-const VOID: TypeId = TypeId(0);
+pub(crate) const VOID: TypeId = TypeId(0);
 
-const CHAR: TypeId = TypeId(1);
+pub(crate) const CHAR: TypeId = TypeId(1);
 
-const INT: TypeId = TypeId(5);
+pub(crate) const INT: TypeId = TypeId(5);
 
 const UNSIGNED: TypeId = TypeId(6);
 
@@ -45,7 +45,7 @@ fn is_open(types: &Types, t: TypeId) -> bool
 }
 
 /// A pointer to a type, with a node.
-fn pointer(rt: &impl Abort, types: &mut Types, node: u32, to: TypeId) -> TypeId {
+pub(crate) fn pointer(rt: &impl Abort, types: &mut Types, node: u32, to: TypeId) -> TypeId {
     assert!(rt; to.0 < types.count());
     types
         .add(TypeShape::Pointer(NodeId(node), to))
@@ -53,7 +53,7 @@ fn pointer(rt: &impl Abort, types: &mut Types, node: u32, to: TypeId) -> TypeId 
 }
 
 /// An array.
-fn array(rt: &impl Abort, types: &mut Types, element: TypeId, count: u64) -> TypeId {
+pub(crate) fn array(rt: &impl Abort, types: &mut Types, element: TypeId, count: u64) -> TypeId {
     assert!(rt; count > 0 && element.0 < types.count());
     assert!(rt; types.is_complete(element));
     types
@@ -72,12 +72,12 @@ fn function(rt: &impl Abort, alloc: Global, types: &mut Types, parameter: TypeId
 }
 
 /// A struct without members.
-fn tag(rt: &impl Abort, types: &mut Types, number: u32) -> TypeId {
+pub(crate) fn tag(rt: &impl Abort, types: &mut Types, number: u32) -> TypeId {
     types.add(TypeShape::Struct(number)).expect(rt, "a struct")
 }
 
 /// Gives a struct or union its members.
-fn define(
+pub(crate) fn define(
     rt: &impl Abort,
     alloc: Global,
     types: &mut Types,
@@ -91,7 +91,7 @@ fn define(
 }
 
 /// A new struct with these members.
-fn structure(
+pub(crate) fn structure(
     rt: &impl Abort,
     alloc: Global,
     types: &mut Types,

@@ -14,10 +14,10 @@ use Rattle.kind_solver.specs.declared.cause.Cause.{Cause}
 use Rattle.kind_solver.specs.declared.constraint.Constraint.{Constraint}
 use Rattle.kind_solver.specs.declared.solved.Solved.{Solved}
 use Rattle.kind_solver.specs.Sets.{HasCause}
-use Rattle.c_build.specs.Built.{IsBuilt, HasKinds}
+use Rattle.c_build.specs.Inferred.{IsInferred, HasKinds}
 use Rattle.c_build.proofs.PrintedNodes.{printed_below}
 
-module _ (text : List ℕ) (t : Typed) (p : Program) (s : Solved) (is : IsBuilt text t p s) where
+module _ (text : List ℕ) (t : Typed) (p : Program) (s : Solved) (is : IsInferred text t p s) where
   within : (count : ℕ) → count ≡ p.nodes → AreWithin count t.printed
   within count same =
       printed_below (made_by_unit (typed_unit_view t.unit)) t.printed count is.typed.typed.numbered (same ∙ is.lowered.nodes ∙ is.counted) is.printed
@@ -40,6 +40,6 @@ module _ (text : List ℕ) (t : Typed) (p : Program) (s : Solved) (is : IsBuilt 
 -- the lines that the report gives are those of the kinds
 pub has_kinds : {A E : Type 0} (items : A → List ℕ) (t : Typed) (p : Program) (s : Solved) (r : Result A E)
     → IfOk r (λ lines. items lines ≡ report_of s.kinds s.causes t.printed)
-    → IfOk r (λ lines. (text : List ℕ) → IsBuilt text t p s → HasKinds text (items lines))
+    → IfOk r (λ lines. (text : List ℕ) → IsInferred text t p s → HasKinds text (items lines))
 has_kinds items t p s (Err e) is = tt {0}
-has_kinds items t p s (Ok lines) is = λ text built. record { typed = t; code = p; solved = s; built = built; lines_are = is }
+has_kinds items t p s (Ok lines) is = λ text inferred. record { typed = t; code = p; solved = s; inferred = inferred; lines_are = is }

@@ -1,3 +1,5 @@
 pub mod PrintedNodes
 pub mod Passes
 pub mod KindLines
+pub mod DataTypes
+pub mod CuringLaws

@@ -1,26 +1,29 @@
 -- What each pass leaves of the ones before it.
-use Rattle.std.proofs.Common.{◌≡◌, ◌≢◌, ◌↔◌, ℕ, List, Result, Ok, Err, IfOk, IfErr, length, sym, subst, refl}
+use Rattle.std.proofs.Common.{◌≡◌, ◌↔◌, ℕ, List, Result, Ok, Err, IfOk, length, sym, subst, refl}
 use Rattle.cc_base.specs.declared.fault.Fault.{Fault}
-use Rattle.cc_base.specs.declared.fault.Fault.TheVariants as fault
 use Rattle.cc_base.specs.declared.fault.NoMemory.{NoMemory}
 use Rattle.cc_base.specs.declared.kind.Kind.{Kind}
 use Rattle.cc_base.specs.declared.number.NodeId.{NodeId}
+use Rattle.runs.specs.Input.{Input}
 use Rattle.c_types.specs.Flows.{by_number}
 use Rattle.c_tree.specs.TypedParts.{made_by_unit, nodes_made}
 use Rattle.c_tree.specs.TypedStatementViews.{typed_unit_view}
 use Rattle.c_tree.specs.declared.typed_unit.Typed.{Typed}
 use Rattle.c_printed.specs.Printing.{AreInOrder, HasPrinted}
+use Rattle.src_machine.specs.Machine.{source_run}
+use Rattle.src_machine.specs.Sites.{sites_of}
 use Rattle.cil_form.specs.declared.program.Program.{Program}
-use Rattle.cil_form.specs.Told.{IsSolutionOf}
+use Rattle.cil_form.specs.Machine.{code_run}
+use Rattle.cil_form.specs.Told.{IsSolutionOf, IsToldOf}
+use Rattle.lower_rules.specs.Units.{IsCodeOfUnit}
 use Rattle.constraint_laws.specs.Given.{AreGiven}
 use Rattle.kind_solver.specs.declared.constraint.Constraint.{Constraint}
 use Rattle.kind_solver.specs.declared.solved.Solved.{Solved}
 use Rattle.kind_solver.specs.Constraints.{MeetsAll, PlainApart}
 use Rattle.kind_solver.specs.Sets.{AreKinds, AreCauses, HasLeastWild, kind_at}
 use Rattle.c_front.specs.Accepted.{IsTypedText}
-use Rattle.c_front.specs.Refused.{IsFirstRefusal}
-use Rattle.c_build.specs.declared.building.Built.{Built}
-use Rattle.c_build.specs.Built.{IsLowered, IsBuilt}
+use Rattle.c_build.specs.declared.inferring.Inferred.{Inferred}
+use Rattle.c_build.specs.Inferred.{IsLowered, IsInferred}
 use Rattle.c_build.specs.Solved.{IsSolvedBy}
 
 pub solved_so : (p : Program) (list : List Constraint) (r : Result Solved NoMemory) → AreGiven p.types p.sites list
@@ -38,23 +41,29 @@ solved_so p list (Ok s) given solutions apart kinds causes meets least = record 
   least = λ kind is n lt wild. least (by_number kind) ((solutions kind).1 is) n.0 lt wild;
 }
 
-pub lowered_so : (t : Typed) (p : Program) (r : Result Built Fault) → IsLowered t p → IfOk r (λ b. b.code ≡ p) → IfOk r (λ b. IsLowered t b.code)
-lowered_so t p (Err f) is same = tt {0}
-lowered_so t p (Ok b) is same = subst (IsLowered t) (sym same) is
+-- what is so of what was made is so of what stands beside what was kept
+pub made_so : {U E : Type 0} (P : U → Type 0) (made : Result U E) (u : U) → made ≡ Ok u → IfOk made P → P u
+made_so P made u same is = subst (λ r. IfOk r P) same is
 
-pub solved_with : (p : Program) (r : Result Built Fault) → IfOk r (λ b. b.code ≡ p) → IfOk r (λ b. IsSolvedBy p b.solved) → IfOk r (λ b. IsSolvedBy b.code b.solved)
-solved_with p (Err f) same is = tt {0}
-solved_with p (Ok b) same is = subst (λ q. IsSolvedBy q b.solved) (sym same) is
+pub lowered_so : (t : Typed) (r : Result Program NoMemory) → IfOk r (IsCodeOfUnit (typed_unit_view t.unit)) → IfOk r (λ p. p.types ≡ t.types)
+    → IfOk r (λ p. p.nodes ≡ t.nodes) → IfOk r (λ p. p.sites ≡ sites_of (typed_unit_view t.unit) t.types) → IfOk r IsToldOf
+    → IfOk r (λ p. (kind : NodeId → Kind) (input : Input) (turns : ℕ) → code_run p kind input turns ≡ source_run (typed_unit_view t.unit) t.types kind input turns)
+    → IfOk r (IsLowered t)
+lowered_so t (Err want) code types nodes sites told means = tt {0}
+lowered_so t (Ok p) code types nodes sites told means =
+    record { code = code; types = types; nodes = nodes; sites = sites; told = told; means = means }
 
-pub built_so : (text : List ℕ) (t : Typed) (r : Result Built Fault) → IsTypedText text t.types (typed_unit_view t.unit)
+-- it is still so where both are kept beside what is made next
+pub kept_lowered : (t : Typed) (made : Result Program NoMemory) (first both : Typed × Program) → made ≡ Ok first.1 → both ≡ first
+    → IfOk made (IsLowered t) → IsLowered t both.1
+kept_lowered t made first both ok same is =
+    subst (λ (z : Typed × Program). IsLowered t z.1) (sym same) (made_so (IsLowered t) made first.1 ok is)
+
+pub inferred_so : (text : List ℕ) (t : Typed) (r : Result Inferred Fault) → IsTypedText text t.types (typed_unit_view t.unit)
     → t.nodes ≡ length (nodes_made (made_by_unit (typed_unit_view t.unit))) → HasPrinted (typed_unit_view t.unit) t.printed → AreInOrder t.printed
-    → IfOk r (λ b. b.typed ≡ t) → IfOk r (λ b. IsLowered t b.code) → IfOk r (λ b. IsSolvedBy b.code b.solved)
-    → IfOk r (λ b. IsBuilt text b.typed b.code b.solved)
-built_so text t (Err f) typed counted printed ordered same lowered solved = tt {0}
-built_so text t (Ok b) typed counted printed ordered same lowered solved =
-    subst (λ u. IsBuilt text u b.code b.solved) (sym same)
+    → IfOk r (λ i. i.typed ≡ t) → IfOk r (λ i. IsLowered t i.code) → IfOk r (λ i. IsSolvedBy i.code i.solved)
+    → IfOk r (λ i. IsInferred text i.typed i.code i.solved)
+inferred_so text t (Err f) typed counted printed ordered same lowered solved = tt {0}
+inferred_so text t (Ok i) typed counted printed ordered same lowered solved =
+    subst (λ u. IsInferred text u i.code i.solved) (sym same)
     (record { typed = typed; counted = counted; printed = printed; ordered = ordered; lowered = lowered; solved = solved })
-
-pub wants_only : {A : Type 0} (text : List ℕ) (r : Result A Fault) → IfErr r (λ f. f ≡ fault.NoMemory) → IfErr r (λ f. f ≢ fault.NoMemory → IsFirstRefusal text f)
-wants_only text (Ok a) want = tt {0}
-wants_only text (Err f) want = λ other. absurd (other want)

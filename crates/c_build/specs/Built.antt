@@ -1,43 +1,35 @@
 -- What a text of C is built to.
-use Rattle.std.specs.Prelude.{ℕ, ◌≡◌, List, length}
-use Rattle.cc_base.specs.declared.kind.Kind.{Kind}
-use Rattle.cc_base.specs.declared.number.NodeId.{NodeId}
-use Rattle.runs.specs.Input.{Input}
-use Rattle.c_tree.specs.TypedParts.{made_by_unit, nodes_made}
-use Rattle.c_tree.specs.TypedStatementViews.{typed_unit_view}
+use Rattle.std.specs.Prelude.{ℕ, ◌≡◌, ◌↔◌, List}
+use Rattle.std.specs.List.{Contains}
+use Rattle.cc_base.specs.declared.number.TypeId.{TypeId}
 use Rattle.c_tree.specs.declared.typed_unit.Typed.{Typed}
-use Rattle.c_printed.specs.Printing.{AreInOrder, HasPrinted}
-use Rattle.src_machine.specs.Machine.{source_run}
-use Rattle.src_machine.specs.Sites.{sites_of}
-use Rattle.cil_form.specs.Machine.{code_run}
 use Rattle.cil_form.specs.declared.program.Program.{Program}
-use Rattle.lower_rules.specs.Units.{IsCodeOfUnit}
-use Rattle.kind_report.specs.Report.{report_of}
 use Rattle.kind_solver.specs.declared.solved.Solved.{Solved}
-use Rattle.c_front.specs.Accepted.{IsTypedText}
-use Rattle.c_build.specs.Solved.{IsSolvedBy}
+use Rattle.rtti_nodes.specs.Classes.{IsData}
+use Rattle.rtti_nodes.specs.TypeNodes.{TypeNodes, AreTypeNodes, node_at}
+use Rattle.cured_code.specs.declared.parts.Parts.{Parts}
+use Rattle.cure_rules.specs.Programs.{IsCuredProgram}
+use Rattle.c_build.specs.Inferred.{IsInferred}
+use Rattle.c_build.specs.Solved.{kind_by}
 
--- the three-address code is that of the unit, of its types, nodes and sites, and means what the unit means for whatever kinds
-pub record IsLowered (t : Typed) (p : Program) : Type 0 where
-  pub code : IsCodeOfUnit (typed_unit_view t.unit) p
-  pub types : p.types ≡ t.types
-  pub nodes : p.nodes ≡ t.nodes
-  pub sites : p.sites ≡ sites_of (typed_unit_view t.unit) t.types
-  pub means : (kind : NodeId → Kind) (input : Input) (turns : ℕ) → code_run p kind input turns ≡ source_run (typed_unit_view t.unit) t.types kind input turns
+-- The cured program of the code under these kinds. Each data type of its table has a type node, so an RTTI pointer can carry whatever type it was
+-- made for.
+pub record IsCuringOf (p : Program) (s : Solved) (c : Parts) : Type 0 where
+  pub nodes : TypeNodes
+  pub table : nodes.table ≡ p.types
+  pub kinds : nodes.kinds ≡ s.kinds
+  pub used : (t : TypeId) → Contains nodes.used t ↔ IsData p.types t
+  pub made : AreTypeNodes nodes
+  pub cured : IsCuredProgram p (kind_by s.kinds) (node_at nodes) nodes.parents c
 
--- The text is accepted with this typed unit, whose printed nodes stand in the order of the text; with its code, and the kinds of that.
-pub record IsBuilt (text : List ℕ) (t : Typed) (p : Program) (s : Solved) : Type 0 where
-  pub typed : IsTypedText text t.types (typed_unit_view t.unit)
-  pub counted : t.nodes ≡ length (nodes_made (made_by_unit (typed_unit_view t.unit)))
-  pub printed : HasPrinted (typed_unit_view t.unit) t.printed
-  pub ordered : AreInOrder t.printed
-  pub lowered : IsLowered t p
-  pub solved : IsSolvedBy p s
+-- The text is accepted; its typed unit, the three-address code of that, the kinds of its nodes with their causes, and its cured program.
+pub record IsBuilt (text : List ℕ) (t : Typed) (p : Program) (s : Solved) (c : Parts) : Type 0 where
+  pub inferred : IsInferred text t p s
+  pub cured : IsCuringOf p s c
 
--- the text is accepted, and these are the lines of its kinds
-pub record HasKinds (text lines : List ℕ) : Type 0 where
+-- the text is accepted, and this is its cured program
+pub record IsCured (text : List ℕ) (c : Parts) : Type 0 where
   pub typed : Typed
   pub code : Program
   pub solved : Solved
-  pub built : IsBuilt text typed code solved
-  pub lines_are : lines ≡ report_of solved.kinds solved.causes typed.printed
+  pub built : IsBuilt text typed code solved c

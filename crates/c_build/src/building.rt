@@ -1,26 +1,20 @@
-//! The passes over a text of C.
-ghost use Rattle.std.specs.Prelude.{◌≡◌, ◌≢◌, ◌≤◌, IfErr, IfOk, length};
+//! From a text of C to its cured program.
+ghost use Rattle.std.specs.Prelude.{◌≡◌, ◌≢◌, ◌≤◌, ℕ, IfErr, IfOk, List, length};
 ghost use Rattle.cc_base.specs.declared.fault.Fault.TheVariants.{NoMemory as IsNoMemory};
 ghost use Rattle.c_types.specs.Table.{Table};
-ghost use Rattle.c_tree.specs.Depth.{unit_height};
-ghost use Rattle.c_tree.specs.Erasure.{erased_unit};
-ghost use Rattle.c_tree.specs.TypedParts.{made_by_unit, nodes_made};
-ghost use Rattle.c_tree.specs.TypedStatementViews.{typed_unit_view};
 ghost use Rattle.c_tree.specs.TypedTree.{TypedTranslationUnit};
-ghost use Rattle.c_unit_typing.specs.Limits.{IsWithinLimits};
-ghost use Rattle.c_unit_typing.specs.WellTyped.{IsWellTyped};
-ghost use Rattle.cil_form.specs.Told.{IsToldOf};
 ghost use Rattle.c_front.specs.Accepted.{IsTypedText};
 ghost use Rattle.c_front.specs.Refused.{IsFirstRefusal};
-ghost use Rattle.c_build.specs.Built.{IsBuilt, IsLowered};
-ghost use Rattle.c_build.specs.Solved.{IsSolvedBy};
+ghost use Rattle.c_build.specs.Built.{IsBuilt};
+ghost use Rattle.c_build.specs.Inferred.{IsInferred};
 
-use crate::solving::solution;
-use c_front::typed;
+use crate::curing::curing;
+use crate::inferring::{Inferred, infer};
+use crate::keeping::beside;
 use c_tree::Typed;
 use cc_base::Fault;
 use cil_form::Cil;
-use cil_lower::lower;
+use cured_code::Cured;
 use kind_solver::Solved;
 use std::alloc::Global;
 
@@ -33,55 +27,44 @@ pub struct Built {
     pub code: Cil,
     /// The kinds of its nodes, with their causes.
     pub solved: Solved,
+    /// The cured program.
+    pub cured: Cured,
 }
 
 /// Builds a text of C. A text that is not accepted is refused by the first pass that refuses it.
 pub fn build(alloc: Global, text: &[u8]) -> Result<Built, Fault>
     requires { length text.now ≤ 1048576 }
-    ensures built { IfOk result (λ b. IsBuilt text.now b.typed b.code b.solved) }
+    ensures built { IfOk result (λ b. IsBuilt text.now b.typed b.code b.solved b.cured) }
     ensures refused { IfErr result (λ fault. fault ≢ IsNoMemory → IsFirstRefusal text.now fault) }
 
     // A text that is accepted is not refused.
     ensures accepts { (T : Table) (whole : TypedTranslationUnit) → IsTypedText text.now T whole
         → IfErr result (λ fault. fault ≡ IsNoMemory) }
 {
-    match typed(alloc, text) {
-        Ok(typed) => with_code(alloc, typed),
+    match infer(alloc, text) {
+        Ok(inferred) => build_inferred(alloc, inferred),
         Err(fault) => Err(fault),
     }
 }
 
-/// A typed unit with its code and its kinds.
-fn with_code(alloc: Global, typed: Typed) -> Result<Built, Fault>
-    requires typed { IsWellTyped typed.types (typed_unit_view typed.unit) }
-    requires limited { IsWithinLimits typed.types (typed_unit_view typed.unit) }
-    requires height { unit_height (erased_unit (typed_unit_view typed.unit)) ≤ 256 }
-    requires nodes { typed.nodes ≡ length (nodes_made (made_by_unit (typed_unit_view typed.unit))) }
-    ensures typed { IfOk result (λ b. b.typed ≡ typed) }
-    ensures lowered { IfOk result (λ b. IsLowered typed b.code) }
-    ensures solved { IfOk result (λ b. IsSolvedBy b.code b.solved) }
+/// What was inferred of a text, with its cured program.
+fn build_inferred(alloc: Global, inferred: Inferred) -> Result<Built, Fault>
+    requires { (text : List ℕ) × IsInferred text inferred.typed inferred.code inferred.solved }
+    ensures built { IfOk result (λ b. (text : List ℕ) → IsInferred text inferred.typed inferred.code inferred.solved
+        → IsBuilt text b.typed b.code b.solved b.cured) }
     ensures wants { IfErr result (λ fault. fault ≡ IsNoMemory) }
 {
-    match lower(alloc, &typed) {
-        Ok(code) => with_kinds(alloc, typed, code),
-        Err(_) => Err(Fault::NoMemory),
-    }
-}
-
-/// A typed unit and its code with their kinds.
-fn with_kinds(alloc: Global, typed: Typed, code: Cil) -> Result<Built, Fault>
-    requires { IsToldOf code }
-    ensures typed { IfOk result (λ b. b.typed ≡ typed) }
-    ensures code { IfOk result (λ b. b.code ≡ code) }
-    ensures solved { IfOk result (λ b. IsSolvedBy code b.solved) }
-    ensures wants { IfErr result (λ fault. fault ≡ IsNoMemory) }
-{
-    match solution(alloc, &code) {
-        Ok(solved) => Ok(Built {
-            typed,
-            code,
-            solved,
-        }),
-        Err(_) => Err(Fault::NoMemory),
-    }
+    let cured = curing(alloc, &inferred.code, &inferred.solved);
+    let (inferred, cured) = beside(inferred, cured)?;
+    let Inferred {
+        typed,
+        code,
+        solved,
+    } = inferred;
+    Ok(Built {
+        typed,
+        code,
+        solved,
+        cured,
+    })
 }

@@ -1,7 +1,7 @@
 -- What stands in the parts of a unit is gathered: its functions, and the initialisers of what lives as long as the program.
 use Rattle.std.specs.List.{All, Contains}
 use Rattle.std.proofs.Common.{◌∷◌, ◌++◌, ◌≡◌, ℕ, true, false, slice_get, List, [], length, Option, Some, None, refl, sym, inr}
-use Rattle.std.proofs.lemmas.List.Elements.{All-nil, All-cons, All-push, All-append, All-weaker, Contains-append_left, Contains-push}
+use Rattle.std.proofs.lemmas.List.Elements.{All-nil, All-cons, All-head, All-push, All-append, All-weaker, All-contains_itself, Contains-append_left, Contains-append_right}
 use Rattle.std.proofs.lemmas.Option.{slice_get_read}
 use Rattle.cc_base.specs.declared.place.Place.{Place}
 use Rattle.cc_base.specs.declared.number.TypeId.{TypeId}
@@ -11,7 +11,7 @@ use Rattle.c_tree.specs.TypedTree as typed
 use Rattle.c_tree.specs.TypedTree.{TypedInitialiser, TypedInitDeclarators, TypedDeclaration, TypedStatement, TypedBlockItems, TypedTranslationUnit}
 use Rattle.c_tree.specs.TypedParts.{DefinedFunction, StaticInitialiser, home_of_form, static_home, initialises, initialisers_in_declarators, initialisers_in_declaration, initialisers_in, initialisers_in_items, static_initialisers, functions_of}
 use Rattle.c_unit_typing.specs.Units.{Around, in_a_loop, in_a_switch}
-use Rattle.c_ready.specs.Declarators.{declarators_of, declarators_in_declaration, declarators_in_items}
+use Rattle.src_machine.specs.Names.{declarators_in, declarators_in_declaration, declarators_in_items}
 use Rattle.c_ready.specs.Ready.{Stage, Named, IsReadyInitialiser, HasObject, initialised_in, IsReadyHome, AreReadyDeclarators, IsReadyDeclaration, IsReadyStatement, AreReadyBlockItems, IsReadyFunction, AreReadyExternals, IsReadyStatic}
 
 module _ (static : Stage) where
@@ -100,17 +100,17 @@ pub at-its-place : {A : Type 0} (xs : List A) (x : A) → Contains xs x → (i :
 at-its-place xs x c = (c.0, slice_get_read xs (length xs) c.0 x refl c.1 (sym c.2))
 
 -- each function is declared where it is defined
-pub functions-declared : (u : TypedTranslationUnit) → All (λ (f : DefinedFunction). Contains (declarators_of u) f.declarator) (functions_of u)
+pub functions-declared : (u : TypedTranslationUnit) → All (λ (f : DefinedFunction). Contains (declarators_in u) f.declarator) (functions_of u)
 functions-declared typed.NoExternal = All-nil (λ (f : DefinedFunction). Contains [] f.declarator)
 functions-declared (typed.AndExternal u d) =
-    All-weaker (λ (f : DefinedFunction). Contains (declarators_of u) f.declarator)
-    (λ (f : DefinedFunction). Contains (declarators_of u ++ declarators_in_declaration d) f.declarator)
-    (λ f c. Contains-append_left (declarators_of u) (declarators_in_declaration d) f.declarator c) (functions_of u) (functions-declared u)
+    All-weaker (λ (f : DefinedFunction). Contains (declarators_in u) f.declarator)
+    (λ (f : DefinedFunction). Contains (declarators_in u ++ declarators_in_declaration d) f.declarator)
+    (λ f c. Contains-append_left (declarators_in u) (declarators_in_declaration d) f.declarator c) (functions_of u) (functions-declared u)
 functions-declared (typed.AndFunctionBody u specifiers d brace body) =
-    let inside = declarators_in_items body in
-    let Q : DefinedFunction → Type 0 = λ f. Contains ((declarators_of u ++ d ∷ []) ++ inside) f.declarator in
+    let later = d ∷ declarators_in_items body in
+    let Q : DefinedFunction → Type 0 = λ f. Contains (declarators_in u ++ later) f.declarator in
     All-push Q (functions_of u) (record { declarator = d; body = body })
-    (All-weaker (λ (f : DefinedFunction). Contains (declarators_of u) f.declarator) Q
-    (λ f c. Contains-append_left (declarators_of u ++ d ∷ []) inside f.declarator (Contains-append_left (declarators_of u) (d ∷ []) f.declarator c))
-    (functions_of u) (functions-declared u))
-    (Contains-append_left (declarators_of u ++ d ∷ []) inside d (Contains-push (declarators_of u) d))
+    (All-weaker (λ (f : DefinedFunction). Contains (declarators_in u) f.declarator) Q
+    (λ f c. Contains-append_left (declarators_in u) later f.declarator c) (functions_of u) (functions-declared u))
+    (Contains-append_right (declarators_in u) later d
+    (All-head (Contains later) d (declarators_in_items body) (All-contains_itself later)))

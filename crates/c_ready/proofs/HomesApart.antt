@@ -51,7 +51,7 @@ unfolding occurs
 none-after n [] h = tt
 none-after n (x ∷ xs) h = (unequal x n (omega (arith, h)), none-after n xs (omega (arith, h)))
 
-distinct-once : (xs : List ℕ) → ((n : ℕ) → occurs n xs ≤ 1) → IsDistinct nat_eq xs
+pub distinct-once : (xs : List ℕ) → ((n : ℕ) → occurs n xs ≤ 1) → IsDistinct nat_eq xs
 unfolding occurs IsDistinct
 distinct-once [] h = tt
 distinct-once (x ∷ xs) h =
@@ -74,7 +74,15 @@ none-equal n (x ∷ xs) h =
     (none-equal n xs (omega (arith, h)))
 
 module _ (n : ℕ) where
-  occurs-append : (xs ys : List ℕ) → occurs n (xs ++ ys) ≡ occurs n xs + occurs n ys
+  pub occurs-none : occurs n [] ≡ 0
+  unfolding occurs
+  occurs-none = refl
+
+  pub occurs-node : (m : NodeId) → occurs n (m.0 ∷ []) ≡ one n m
+  unfolding occurs one
+  occurs-node m = omega arith
+
+  pub occurs-append : (xs ys : List ℕ) → occurs n (xs ++ ys) ≡ occurs n xs + occurs n ys
   unfolding occurs
   occurs-append [] ys = omega arith
   occurs-append (x ∷ xs) ys = let r = occurs-append xs ys in omega (arith, r)

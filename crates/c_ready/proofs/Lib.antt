@@ -25,4 +25,7 @@ pub mod PlacesWhole
 pub mod ReadyRows
 pub mod ParameterObjects
 pub mod PointersMade
-pub mod PointersLess
+pub mod MembersMade
+pub mod Typedefs
+pub mod FunctionsLinked
+pub mod AggregatesWritten

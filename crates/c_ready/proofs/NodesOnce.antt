@@ -1,6 +1,6 @@
 -- Each pointer type of a table has a node of the unit, and no node is that of two.
-use Rattle.std.specs.List.{range_with_len, All}
-use Rattle.std.proofs.Common.{◌≡◌, ◌≢◌, ◌⊎◌, ℕ, zero, suc, ◌<◌, ◌+◌, ◌≤◌, ◌==◌, Bool, true, false, List, [], ◌∷◌, map, length, refl, ap, sym, ◌∙◌, inl, inr, arith, if◌then◌else◌, true≢false}
+use Rattle.std.specs.List.{range_with_len, All, IsDistinct}
+use Rattle.std.proofs.Common.{◌≡◌, ◌≢◌, ◌⊎◌, ℕ, zero, suc, ◌<◌, ◌+◌, ◌≤◌, ◌==◌, Bool, true, false, List, [], ◌∷◌, ◌++◌, map, length, nat_eq, refl, ap, sym, ◌∙◌, inl, inr, arith, if◌then◌else◌, true≢false}
 use Rattle.std.proofs.lemmas.Bool.Decides.{eqb_tells, nat_tests}
 use Rattle.cc_base.specs.declared.number.NodeId.{NodeId}
 use Rattle.cc_base.specs.declared.number.TypeId.{TypeId}
@@ -15,12 +15,11 @@ use Rattle.c_type_order.specs.TypesUsed.{AreUses}
 use Rattle.c_unit_typing.specs.Units as units
 use Rattle.c_unit_typing.specs.Units.{IsUnitTyped}
 use Rattle.c_unit_typing.specs.TypesUsed.{used_by_unit}
-use Rattle.c_ready.specs.Ready.{AreReadyExternals, static_stage, homes_of}
+use Rattle.c_ready.specs.Ready.{AreReadyExternals, static_stage, homes_of, member_nodes}
 use Rattle.c_ready.proofs.Counting.{one, one-self, count, range-once}
-use Rattle.c_ready.proofs.HomesApart.{occurs, none-equal, homes-most}
-use Rattle.c_ready.proofs.NodesUsed.{of_shape, uses, makes}
-use Rattle.c_ready.proofs.PointersMade as pointers
-use Rattle.c_ready.proofs.PointersLess.{unit-less}
+use Rattle.c_ready.proofs.HomesApart.{occurs, occurs-append, distinct-once, none-equal, homes-most}
+use Rattle.c_ready.proofs.NodesUsed.{of_shape, uses}
+use Rattle.c_ready.proofs.MembersMade.{unit-less}
 use Rattle.c_ready.proofs.NodesOfUnits.{unit-uses, single, two}
 
 -- past the end of the range
@@ -85,9 +84,9 @@ module _ (T : Table) (u : TypedTranslationUnit) (before after : units.Known) (ba
     (numbered : map (λ (n : NodeId). n.0) (nodes_made (made_by_unit u)) ≡ range_with_len 0 (length (nodes_made (made_by_unit u))))
     (typed : IsUnitTyped T u before after) (types : AreUses (used_by_unit T u) (length basic_table) (length T))
     (ready : AreReadyExternals (static_stage T u) u) where
-  all-most : (n : ℕ) → uses T n (used_by_unit T u) + occurs n (homes_of u) ≤ count n (nodes_made (made_by_unit u))
+  all-most : (n : ℕ) → uses T n (used_by_unit T u) + occurs n (homes_of u ++ member_nodes u) ≤ count n (nodes_made (made_by_unit u))
   all-most n = let a = unit-uses (static_stage T u) n u before after typed ready in let b = homes-most u n in
-      let c = (unit-less n u).few in omega (arith, a, b, c)
+      let c = (unit-less n u).few in let d = occurs-append n (homes_of u) (member_nodes u) in omega (arith, a, b, c, d)
 
   made-most : (n : ℕ) → uses T n (used_by_unit T u) ≤ count n (nodes_made (made_by_unit u))
   made-most n = let a = all-most n in omega (arith, a)
@@ -95,18 +94,13 @@ module _ (T : Table) (u : TypedTranslationUnit) (before after : units.Known) (ba
   own-node : (t : TypeId) (n : NodeId) (to : TypeId) → HasShape T t (Pointer n to) → of_shape n.0 (shape_at T t) ≡ 1
   own-node t n to h = ap (of_shape n.0) h.1 ∙ one-self n
 
-  -- the node of a pointer type is used
-  pub used-once : (t to : TypeId) (n : NodeId) → HasShape T t (Pointer n to) → 1 ≤ uses T n.0 (used_by_unit T u)
-  used-once t to n h =
-      let once = single T n.0 (used_by_unit T u) (length basic_table) (length T) types t (later T basic t n to h) h.0 in
-      let own = own-node t n to h in omega (arith, once, own)
-
-  -- what pointer types use is made of what they may be of
-  pub used-most : (n : ℕ) → uses T n (used_by_unit T u) ≤ makes n (pointers.made_by_unit u)
-  used-most n = unit-uses (static_stage T u) n u before after typed ready
-
-  pub made-once : (n : ℕ) → count n (nodes_made (made_by_unit u)) ≤ 1
+  made-once : (n : ℕ) → count n (nodes_made (made_by_unit u)) ≤ 1
   made-once n = (range-once n 0 (length (nodes_made (made_by_unit u))) (nodes_made (made_by_unit u)) numbered).1
+
+  -- objects and member expressions have nodes of their own
+  pub members-apart : IsDistinct nat_eq (homes_of u ++ member_nodes u)
+  members-apart =
+      distinct-once (homes_of u ++ member_nodes u) (λ n. let most = all-most n in let once = made-once n in omega (arith, most, once))
 
   pub nodes-there : (t to : TypeId) (n : NodeId) → HasShape T t (Pointer n to) → n.0 < length (nodes_made (made_by_unit u))
   nodes-there t to n h =
@@ -135,10 +129,10 @@ module _ (T : Table) (u : TypedTranslationUnit) (before after : units.Known) (ba
         absurd (omega (arith, both, most, a, b, once))
   ]
 
-  pub homes-other : (t to : TypeId) (n : NodeId) → HasShape T t (Pointer n to) → All (λ h. h ≢ n.0) (homes_of u)
+  pub homes-other : (t to : TypeId) (n : NodeId) → HasShape T t (Pointer n to) → All (λ h. h ≢ n.0) (homes_of u ++ member_nodes u)
   homes-other t to n h =
       let used = single T n.0 (used_by_unit T u) (length basic_table) (length T) types t (later T basic t n to h) h.0 in
       let most = all-most n.0 in
       let own = own-node t n to h in
       let once = (range-once n.0 0 (length (nodes_made (made_by_unit u))) (nodes_made (made_by_unit u)) numbered).1 in
-      none-equal n.0 (homes_of u) (omega (arith, used, most, own, once))
+      none-equal n.0 (homes_of u ++ member_nodes u) (omega (arith, used, most, own, once))

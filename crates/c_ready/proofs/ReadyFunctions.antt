@@ -26,13 +26,14 @@ use Rattle.c_typing.specs.Shapes.{IsScalar, IsVoid, is_scalar_shape}
 use Rattle.c_unit_typing.specs.Units as units
 use Rattle.c_unit_typing.specs.Units.{with_scopes, leaving_known, storage_of, declares_parameters, unless_pointer, parameters_of_form, parameters_of_core, parameter_declared, declared_identifier, with_parameters, IsDefinition, IsUnitTyped, Around, Storage, AsTypedef, AsExtern, AsStatic, AsAutomatic, Unstored}
 use Rattle.c_unit_typing.proofs.FunctionParameters.{function-with}
+use Rattle.src_machine.specs.Names.{declarators_in_declaration, declarators_in_items}
 use Rattle.c_ready.specs.Ready.{Named, parameter_named, made_named, variables_named, parameters_listed}
 use Rattle.c_ready.proofs.Contexts.{IsReadyHome, IsReadyDeclaration, AreReadyBlockItems, Context, unread, IsNode, IsWhole, IsObjectOf, AreReadySpecifiers, IsReadyForm}
 use Rattle.c_ready.proofs.Walked.{IsLevelOf, AreDeclared, IsOuter, declared-of, entered-of, outer-of, outer-same, same-outer, both-outer}
 use Rattle.c_ready.proofs.Suits.{scalar-in}
 use Rattle.c_ready.proofs.ReadyParts.{Known, AreDefinitions, IsMade, AreMade, ml, mr, specified-in, HasNoNames, void-names, scalar-whole}
 use Rattle.c_ready.proofs.ReadyUnits.{In, Last, Fixed, IsGrown, IsLinkedSeen, grown-same, both-grown, last-left, none, AreListed}
-use Rattle.c_ready.specs.Declarators.{unless_typedef, declarators_in_declaration, declarators_in_items}
+use Rattle.c_ready.proofs.Typedefs.{unless_typedef}
 use Rattle.c_ready.proofs.ParameterObjects.{objects_of, variables-are}
 use Rattle.c_ready.proofs.ReadyStatements.{declarator-step, specifiers-step, declaration-step, items-step}
 use Rattle.c_ready.proofs.Basics.{some-same, no_true, all-left, all-right, flat-append}

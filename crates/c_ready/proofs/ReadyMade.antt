@@ -1,7 +1,7 @@
 -- What a unit makes is in its lists, and homes are apart, since its nodes are numbered.
 use Rattle.std.specs.List.{All, Contains, range_with_len}
 use Rattle.std.proofs.Common.{◌≡◌, ℕ, zero, suc, ◌<◌, ◌+◌, true, false, List, [], ◌∷◌, ◌++◌, map, length, refl, ap, sym, subst, ◌∙◌, true≢false, arith, ◌≤◌, flat_map}
-use Rattle.std.proofs.lemmas.List.Elements.{All-nil, All-cons, All-head, All-weaker, All-contains, All-contains_itself, All-append, All-map}
+use Rattle.std.proofs.lemmas.List.Elements.{All-nil, All-cons, All-head, All-tail, All-weaker, All-contains, All-contains_itself, All-append, All-map}
 use Rattle.cc_base.specs.declared.number.NodeId.{NodeId}
 use Rattle.cc_base.specs.declared.number.TypeId.{TypeId}
 use Rattle.c_types.specs.Table.{Table}
@@ -23,7 +23,7 @@ use Rattle.c_ready.proofs.ReadyUnits.{AreListed}
 use Rattle.c_ready.proofs.Counting.{one, one-self, count, count-append, range-once}
 use Rattle.c_ready.proofs.ReadyFunctions.{AreExternalsMade, AreExternalsReady, file_of, in_body, IsApart, no_home}
 use Rattle.c_ready.proofs.ParameterObjects.{objects_of, variables-are}
-use Rattle.c_ready.specs.Declarators.{declarators_of, declarators_in_declaration, declarators_in_items}
+use Rattle.src_machine.specs.Names.{declarators_in, declarators_in_declaration, declarators_in_items}
 use Rattle.c_ready.proofs.ReadyWhole.{whole-ready, IsClosed}
 use Rattle.c_ready.proofs.Basics.{all-left, all-right, flat-append, flat-left, flat-right, unmap}
 
@@ -278,14 +278,14 @@ module _ (T : Table) (w : IsWellFormed T) (u : TypedTranslationUnit) (after : un
       (unmap (Contains (variables_named f)) made_named (locals_of f.body) vs))
 
   externals : (p : TypedTranslationUnit) → IsWithin base (made_by_unit p) → ((n : ℕ) → vars n (made_by_unit p) ≤ vars n (made_by_unit u))
-      → AreListed base (declarators_of p) → AreExternalsMade base p
+      → AreListed base (declarators_in p) → AreExternalsMade base p
   externals typed.NoExternal h most listed = tt
   externals (typed.AndExternal p d) h most listed = (
     externals p (within-left base (made_by_unit p) (made_by_declaration d) h)
         (λ n. let m = most n in let a = vars-append n (made_by_unit p) (made_by_declaration d) in omega (arith, m, a))
-        (all-left (Contains base.declarators) (declarators_of p) (declarators_in_declaration d) listed),
+        (all-left (Contains base.declarators) (declarators_in p) (declarators_in_declaration d) listed),
     in-file (made_by_declaration d) (within-right base (made_by_unit p) (made_by_declaration d) h),
-    all-right (Contains base.declarators) (declarators_of p) (declarators_in_declaration d) listed,
+    all-right (Contains base.declarators) (declarators_in p) (declarators_in_declaration d) listed,
   )
   externals (typed.AndFunctionBody p specifiers (typed.Declares form t) brace body) h most listed =
       let x = made_by_unit p in let y = made_by_specifiers specifiers in let z = made_by_form form t in let v = made_by_block_items body in
@@ -295,18 +295,18 @@ module _ (T : Table) (w : IsWellFormed T) (u : TypedTranslationUnit) (after : un
       let h2 = within-left base (x ++ y) z h3 in
       let sums : (n : ℕ) → vars n (x ++ y ++ z ++ v) ≡ vars n x + vars n y + vars n z + vars n v = λ n.
       let a = vars-append n (x ++ y ++ z) v in let b = vars-append n (x ++ y) z in let c = vars-append n x y in omega (arith, a, b, c) in
-      let outer = all-left (Contains base.declarators) (declarators_of p ++ d ∷ []) (declarators_in_items body) listed in (
+      let later = all-right (Contains base.declarators) (declarators_in p) (d ∷ declarators_in_items body) listed in (
         externals p (within-left base x y h2) (λ n. let m = most n in let s = sums n in omega (arith, m, s))
-            (all-left (Contains base.declarators) (declarators_of p) (d ∷ []) outer),
+            (all-left (Contains base.declarators) (declarators_in p) (d ∷ declarators_in_items body) listed),
         record {
           specified = in-file y (within-right base x y h2);
           formed = in-file z (within-right base (x ++ y) z h3);
           inside = in-function f (within-right base (x ++ y ++ z) v h);
           apart = apart f (variables-counted form t body (made_by_unit u) (λ n. let m = most n in let s = sums n in omega (arith, m, s)));
-          own = All-head (Contains base.declarators) d [] (all-right (Contains base.declarators) (declarators_of p) (d ∷ []) outer);
-          listed = all-right (Contains base.declarators) (declarators_of p ++ d ∷ []) (declarators_in_items body) listed;
+          own = All-head (Contains base.declarators) d (declarators_in_items body) later;
+          listed = All-tail (Contains base.declarators) d (declarators_in_items body) later;
         },
       )
 
   pub unit-ready : IsUnitTyped T u (known_before u) after → IsClosed T after.scopes → AreExternalsReady base u
-  unit-ready h c = whole-ready T w u after h c (externals u within (λ n. omega arith) (All-contains_itself (declarators_of u)))
+  unit-ready h c = whole-ready T w u after h c (externals u within (λ n. omega arith) (All-contains_itself (declarators_in u)))

@@ -1,11 +1,11 @@
 -- Units written out on which a fact of readiness is easily false, by computation.
-use Rattle.std.proofs.Common.{◌≡◌, ◌≢◌, ℕ, suc, ◌<◌, List, [], ◌∷◌, ◌++◌, Some, None, refl, inl, inr, codes, lit<, arith}
+use Rattle.std.proofs.Common.{◌≡◌, ◌≢◌, ℕ, suc, ◌<◌, ◌≤◌, length, List, [], ◌∷◌, ◌++◌, Some, None, refl, inl, inr, codes, lit<, arith}
 use Rattle.std.proofs.lemmas.List.Elements.{All-nil, All-cons, All-contains}
 use Rattle.cc_base.specs.declared.place.Place.{Place}
 use Rattle.cc_base.specs.declared.number.NodeId.{NodeId}
 use Rattle.cc_base.specs.declared.number.TypeId.{TypeId}
 use Rattle.c_types.specs.declared.shape.TypeShape.TheVariants.{Pointer, Function, Struct}
-use Rattle.c_types.specs.Table.{Table}
+use Rattle.c_types.specs.Table.{Table, members_at}
 use Rattle.c_types.specs.Calls.{basic_table, basic_entry}
 use Rattle.c_lexer.specs.declared.number.IntegerType.TheVariants as constant
 use Rattle.c_lexer.specs.declared.word.Keyword.{Keyword}
@@ -19,7 +19,7 @@ use Rattle.c_tree.specs.TypedTree as typed
 use Rattle.c_tree.specs.TypedTree.{TypedExpr, TypedPlace, TypedSpecifiers, TypedSpecifierList, TypedForm, TypedParameters, TypedBlockItems, TypedTranslationUnit}
 use Rattle.c_tree.specs.TypedParts.{DefinedFunction, static_initialisers}
 use Rattle.c_unit_typing.proofs.TypedRow
-use Rattle.c_ready.specs.Ready.{Named, Stage, unread, body_stage, static_stage, variables_named, homes_of, IsReady, IsReadyPlace, IsReadyUnit, IsMember}
+use Rattle.c_ready.specs.Ready.{Named, Stage, unread, body_stage, static_stage, variables_named, homes_of, member_nodes, IsReady, IsReadyPlace, IsReadyUnit, IsMember, IsWritten}
 use Rattle.c_ready.proofs.ReadyUnit.{well-typed-ready}
 
 abbrev type : ℕ → TypeId
@@ -138,6 +138,10 @@ no-variable = refl
 homes : homes_of unit ≡ 1 ∷ 2 ∷ 4 ∷ 7 ∷ []
 homes = refl
 
+-- the node of `q->x` is none of them
+members : member_nodes unit ≡ 9 ∷ []
+members = refl
+
 -- `extern int x;` in the block is a declaration of the file's `x`, the second of its declarators
 x-ready : IsReadyPlace inside x_place
 x-ready = (
@@ -189,6 +193,26 @@ x-member = record { complete = (lit< tt, refl); aggregate = refl; there = lit< t
 -- a member of a higher number is not there
 no-member : (i : ℕ) (n : NodeId) (t : TypeId) → IsMember inside (type 10) (suc i) n t → ⊥
 no-member i n t m = let below : suc i < 1 = m.there in omega (arith, below)
+
+-- and none lies past the last
+none-past : length (members_at table (type 10)) ≤ 0 → ⊥
+none-past h = omega (arith, h)
+
+-- it was written with its member
+x-written : IsWritten unit (type 10)
+x-written = record {
+  kind = aggregate.Struct;
+  place = at 1;
+  name = Some (name (codes "S"));
+  brace = at 1;
+  members = typed.AndMember typed.NoMember (ints []) (typed.AndDeclarator typed.NoDeclarator (typed.Declares (plain home.None (codes "x")) (type 5)));
+  there = (0, lit< tt, refl);
+}
+
+-- `struct S;struct S *q;` writes no struct: only one that is complete was written
+none-written : IsWritten (typed.AndExternal (typed.AndExternal typed.NoExternal (typed.Declare tagged typed.NoInitDeclarator))
+    (typed.Declare tagged (one (pointed 0 (home.Static (node 1)) (codes "q")) 11))) (type 10) → ⊥
+none-written w = let none : w.there.0 < 0 = w.there.1 in omega (arith, none)
 
 -- `int *p=&x;` initialises the object that `extern int *p;` made
 p-initialised : static_initialisers unit ≡ record { home = node 4; type = type 13; place = at 1; initialiser = typed.Value address } ∷ []

@@ -17,7 +17,7 @@ use Rattle.c_tree.specs.declared.leaf.Identifier.{Identifier}
 use Rattle.c_tree.specs.declared.typed_word.Home.{Home}
 use Rattle.c_tree.specs.declared.typed_word.Home.TheVariants as home
 use Rattle.c_tree.specs.TypedTree as typed
-use Rattle.c_tree.specs.TypedTree.{TypedExpr, TypedSpecifiers, TypedForm, TypedInitialiser, TypedInitDeclarators, TypedDeclaration, TypedStatement, TypedBlockItems}
+use Rattle.c_tree.specs.TypedTree.{TypedExpr, TypedSpecifiers, TypedForm, TypedInitialiser, TypedDeclarator, TypedInitDeclarators, TypedDeclaration, TypedStatement, TypedBlockItems}
 use Rattle.c_tree.specs.TypedParts.{type_of, specified_type, Name, made_by, made_by_specifiers, made_by_form, made_by_parts, made_by_stars, home_of_form, name_of_form, made_by_initialiser, made_by_init_declarators, made_by_declaration, made_by_optional, made_by_statement, made_by_block_items}
 use Rattle.c_typing.specs.declared.declared.Declared.{Declared}
 use Rattle.c_typing.specs.Shapes.{is_void_shape, IsVoid}
@@ -29,19 +29,20 @@ use Rattle.c_typing.specs.Typing.{IsTyped, AreSpecifiers, AreAlone}
 use Rattle.c_unit_typing.specs.Units as units
 use Rattle.c_unit_typing.specs.Units.{bytes_of_name, with_scopes, Storage, IsDeclarator, outermost_of, IsDefinedOnce, IsStaticInitialised, IsInitialised, AreDeclarators, IsDeclaration, Around, in_a_loop, in_a_switch, IsDropped, IsTested, IsTestedOrNone, IsReturned, entering_known, leaving_known, IsLabel, IsStatement, AreBlockItems, storage_of, is_linked_home}
 use Rattle.c_unit_typing.specs.Initialisers.{is_among, is_char_array, size_given}
+use Rattle.src_machine.specs.Names.{declarators_in_declaration, declarators_in_statement, declarators_in_items}
 use Rattle.c_ready.specs.Ready.{HasObject, IsReadyLabel}
 use Rattle.c_ready.specs.Ready
 use Rattle.c_ready.proofs.Contexts.{stage, before_main, IsReadyInitialiser, IsReadyHome, AreReadyDeclarators, IsReadyDeclaration, IsReadyOptional, IsReadyTest, IsReadyTestOrNone, IsReadyReturn, IsReadyStatement, AreReadyBlockItems, Context, unread, IsWhole, IsReady, AreReadySpecifiers, IsReadyForm}
 use Rattle.c_ready.proofs.Walked.{same-outer}
 use Rattle.c_ready.proofs.Walked
-use Rattle.c_ready.specs.Declarators.{unless_typedef, declarators_listed, declarators_in_declaration, declarators_in, declarators_in_items}
+use Rattle.c_ready.proofs.Typedefs.{unless_typedef, declarators_listed, declared-same, alone-none}
 use Rattle.c_ready.proofs.Suits.{Suits, plain-suits, droppable-suits, operand-suits, converted-suits, integer-from}
 use Rattle.c_ready.proofs.ReadyParts.{Known, values, at-unread, IsMade, AreMade, ml, mr, mu, form-in, specified-in}
 use Rattle.c_ready.proofs.ReadyTrees.{value-ready, form-ready, specifiers-ready}
 use Rattle.c_ready.proofs.BeforeMain.{initialiser-before}
 use Rattle.c_ready.proofs.ReadyUnits.{In, Fixed, IsGrown, Step, grown-same, both-grown, last-left, none, joins, joins-plain, gives, ends, walks, blocks, init-kept, init-ready}
 use Rattle.c_ready.proofs.ReadyNames.{name-step}
-use Rattle.c_ready.proofs.Basics.{some-same, no_true, eq_from, all-left, all-right}
+use Rattle.c_ready.proofs.Basics.{some-same, no_true, all-left, all-right}
 
 power-some : (n : ℕ) → 0 < 2 ^ n
 power-some n = search rules
@@ -228,18 +229,22 @@ module _ (k : Context) (f : Fixed k) where
       → (specifiers : TypedSpecifiers) (all : TypedInitDeclarators) (m m' : units.Known)
       → ((s : Scopes) × AreSpecifiers k.table specifiers m.scopes s × AreDeclarators k.table file (storage_of specifiers)
       (specified_type specifiers) all (with_scopes m s) m')
-      → Step k m m' (made_by_specifiers specifiers ++ made_by_init_declarators all) (declarators_listed (storage_of specifiers) all)
+      → Step k m m' (made_by_specifiers specifiers ++ made_by_init_declarators all) (declarators_in_declaration (typed.Declare specifiers all))
       (AreReadySpecifiers (unread k) specifiers × AreReadyDeclarators k (before_main k) all)
   some-declarators file fq specifiers all m m' h =
-      joins k (made_by_specifiers specifiers) (made_by_init_declarators all) m (with_scopes m h.0) m' (specifiers-step specifiers m h.0 h.1)
+      subst (λ (ds : List TypedDeclarator). Step k m m' (made_by_specifiers specifiers ++ made_by_init_declarators all) ds
+      (AreReadySpecifiers (unread k) specifiers × AreReadyDeclarators k (before_main k) all)) (declared-same k.table specifiers all m.scopes h.0 h.1)
+      (joins k (made_by_specifiers specifiers) (made_by_init_declarators all) m (with_scopes m h.0) m' (specifiers-step specifiers m h.0 h.1)
       (declarators-step file fq (storage_of specifiers) (specified_type specifiers) all (with_scopes m h.0) m'
-      (specified-in k.table specifiers m.scopes h.0 h.1) h.2)
+      (specified-in k.table specifiers m.scopes h.0 h.1) h.2))
 
   pub declaration-step : (file : Bool) → (file ≡ false → k.file ≡ false) → (d : TypedDeclaration) (m m' : units.Known)
       → IsDeclaration k.table file d m m' → Step k m m' (made_by_declaration d) (declarators_in_declaration d)
       (IsReadyDeclaration k (before_main k) d)
   declaration-step file fq (typed.Declare specifiers typed.NoInitDeclarator) m m' h =
-      joins k (made_by_specifiers specifiers) [] m (with_scopes m h.0) m' (alone-step specifiers m h.0 h.1) (none k (with_scopes m h.0) m' h.2)
+      subst (λ (ds : List TypedDeclarator). Step k m m' (made_by_specifiers specifiers ++ []) ds
+      (IsReadyDeclaration k (before_main k) (typed.Declare specifiers typed.NoInitDeclarator))) (sym (alone-none specifiers))
+      (joins k (made_by_specifiers specifiers) [] m (with_scopes m h.0) m' (alone-step specifiers m h.0 h.1) (none k (with_scopes m h.0) m' h.2))
   declaration-step file fq (typed.Declare specifiers (typed.AndPlain all d)) m m' h =
       some-declarators file fq specifiers (typed.AndPlain all d) m m' h
   declaration-step file fq (typed.Declare specifiers (typed.AndInitialised all d at i)) m m' h =
@@ -295,7 +300,7 @@ module _ (k : Context) (f : Fixed k) where
 
   mutual
     pub statement-step : (a : Around) (st : TypedStatement) (m m' : units.Known) → (IsType k.table a.result × (k.file ≡ false))
-        → IsStatement k.table a st m m' → Step k m m' (made_by_statement st) (declarators_in st) (IsReadyStatement k (before_main k) a st)
+        → IsStatement k.table a st m m' → Step k m m' (made_by_statement st) (declarators_in_statement st) (IsReadyStatement k (before_main k) a st)
     statement-step a (typed.Block brace items) m m' b h =
         ends k (made_by_block_items items) m (leaving_known h.0) m' h.2
         (blocks k (made_by_block_items items) m h.0 (items-step a None items (entering_known m) h.0 b h.1))

@@ -1,12 +1,13 @@
 -- A well typed unit is ready.
 use Rattle.std.specs.List.{All}
-use Rattle.std.proofs.Common.{◌++◌, true, false, List, [], map, flat_map, None, sym, subst}
+use Rattle.std.proofs.Common.{◌++◌, true, false, List, [], map, flat_map, Some, None, ◌≡◌, sym, subst}
 use Rattle.std.proofs.lemmas.List.Elements.{All-nil, All-append, All-map}
 use Rattle.cc_base.specs.declared.number.TypeId.{TypeId}
 use Rattle.c_types.specs.Table.{Table}
+use Rattle.c_tree.specs.declared.leaf.Identifier.{Identifier}
 use Rattle.c_tree.specs.TypedTree as typed
 use Rattle.c_tree.specs.TypedTree.{TypedForm, TypedBlockItems, TypedTranslationUnit}
-use Rattle.c_tree.specs.TypedParts.{Made, node_made, locals_of, functions_of, home_of_form, made_by_unit, made_by_declaration, made_by_specifiers, made_by_form, made_by_block_items, parameters_in_form}
+use Rattle.c_tree.specs.TypedParts.{Made, node_made, locals_of, functions_of, home_of_form, name_of_form, made_by_unit, made_by_declaration, made_by_specifiers, made_by_form, made_by_block_items, parameters_in_form}
 use Rattle.c_unit_typing.specs.Units as units
 use Rattle.c_unit_typing.specs.Units.{IsUnitTyped}
 use Rattle.c_unit_typing.specs.WellTyped.{IsWellTyped, known_before}
@@ -16,7 +17,9 @@ use Rattle.c_ready.proofs.ParameterObjects.{objects_of, variables-are, taken-are
 use Rattle.c_ready.proofs.ReadyFunctions.{AreExternalsReady, IsBodyReady}
 use Rattle.c_ready.proofs.ReadyMade.{unit-ready, within}
 use Rattle.c_ready.proofs.HomesApart.{homes-distinct}
-use Rattle.c_ready.proofs.NodesOnce.{nodes-there, pointees-one, homes-other}
+use Rattle.c_ready.proofs.NodesOnce.{nodes-there, pointees-one, homes-other, members-apart}
+use Rattle.c_ready.proofs.AggregatesWritten.{aggregates-written}
+use Rattle.c_ready.proofs.FunctionsLinked.{functions-alike}
 use Rattle.c_ready.proofs.ObjectsMade.{IsObjectWhole, specifiers-objects, form-objects}
 use Rattle.c_ready.proofs.ObjectsOfUnits.{home-whole, declaration-objects, block-objects, statics-planned, statics-texts, locals-planned}
 use Rattle.c_ready.proofs.Gathered.{functions-gathered, initialisers-gathered, at-its-place}
@@ -39,10 +42,13 @@ module _ (T : Table) (u : TypedTranslationUnit) (after : units.Known) where
   Planned o = IsNode static o.0 × IsWhole static o.1
 
   -- a function's objects
-  frame : (form : TypedForm) (t : TypeId) (body : TypedBlockItems) → IsBodyReady base (record { declarator = typed.Declares form t; body = body })
+  frame : (form : TypedForm) (t : TypeId) (body : TypedBlockItems) (name : Identifier) → name_of_form form ≡ Some name
+      → IsBodyReady base (record { declarator = typed.Declares form t; body = body })
       → AreNodes (made_by_block_items body)
       → All P (made_by_block_items body) → IsReadyFunction static (record { declarator = typed.Declares form t; body = body })
-  frame form t body b nodes whole = record {
+  frame form t body name named b nodes whole = record {
+    name = name;
+    named = named;
     result = b.result;
     parameters = taken-are (parameters_in_form form typed.NoParameter);
     types = b.types;
@@ -71,7 +77,7 @@ module _ (T : Table) (u : TypedTranslationUnit) (after : units.Known) where
       (home-whole static (file_stage static) (home_of_form form) t r.3) in
       let inside = block-objects static _ (record { result = h.2.result; in_loop = false; breakable = false })
       (record { result = r.4.result; in_loop = false; breakable = false }) None body _ h.2.after h.2.statements r.4.body in (
-        (before.0, r.1, r.2, r.3, frame form t body r.4 (flat-right (IsNode static) node_made (x ++ y ++ z) v nodes) inside),
+        (before.0, r.1, r.2, r.3, frame form t body h.2.name h.2.named r.4 (flat-right (IsNode static) node_made (x ++ y ++ z) v nodes) inside),
         All-append P (x ++ y ++ z) v (All-append P (x ++ y) z (All-append P x y before.1 specified) formed) inside,
       )
 
@@ -92,6 +98,9 @@ well-typed-ready T u w =
         texts = statics-texts (static_stage T u) (made_by_unit u) all.1;
         distinct = homes-distinct u w.numbered;
       };
+      alike = functions-alike T u (known_before u) w.after w.typed;
+      written = aggregates-written T u w;
+      members = members-apart T u (known_before u) w.after w.basic w.numbered w.typed w.types all.0;
       nodes = nodes-there T u (known_before u) w.after w.basic w.numbered w.typed w.types all.0;
       pointees = pointees-one T u (known_before u) w.after w.basic w.numbered w.typed w.types all.0;
       homes = homes-other T u (known_before u) w.after w.basic w.numbered w.typed w.types all.0;

@@ -11,7 +11,8 @@ use Rattle.cc_base.specs.declared.number.TypeId.{TypeId}
 use Rattle.integers.specs.Arithmetic.{IntegerType}
 use Rattle.c_types.specs.declared.shape.TypeShape.{TypeShape}
 use Rattle.c_types.specs.declared.shape.TypeShape.TheVariants.{Void, Integer, Pointer, Array, Function, Struct, Union}
-use Rattle.c_types.specs.Table.{Table, Entry, HasShape, IsType, IsComplete, shape_at, is_complete, void_entry}
+use Rattle.c_types.specs.Table as types
+use Rattle.c_types.specs.Table.{Table, Entry, HasShape, IsType, IsComplete, shape_at, is_complete, is_function, void_entry}
 use Rattle.c_types.specs.Sameness.{is_same_type}
 use Rattle.c_tree.specs.declared.operator.Unary.{Unary}
 use Rattle.c_tree.specs.declared.operator.Unary.TheVariants as unary
@@ -83,6 +84,18 @@ scalar-no_void Void h = no_true h
 
 pub scalar-in : (T : Table) (t : TypeId) → IsScalar T t → IsType T t
 scalar-in T t h = is_in T t (scalar-no_void (shape_at T t) h)
+
+function-no_void : (x : TypeShape) → types.is_function_shape x ≡ true → is_void_shape x ≡ false
+function-no_void (Function ps r) h = refl
+function-no_void Void h = no_true h
+function-no_void (Integer bytes signed) h = no_true h
+function-no_void (Pointer n t) h = no_true h
+function-no_void (Array t n) h = no_true h
+function-no_void (Struct n) h = no_true h
+function-no_void (Union n) h = no_true h
+
+pub function-in : (T : Table) (t : TypeId) → is_function T t ≡ true → IsType T t
+function-in T t h = is_in T t (function-no_void (shape_at T t) h)
 
 -- Plain values
 

@@ -1,2 +1,2 @@
-pub mod Declarators
 pub mod Ready
+pub mod Rows

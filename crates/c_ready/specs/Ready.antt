@@ -7,7 +7,7 @@ use Rattle.cc_base.specs.declared.number.TypeId.{TypeId}
 use Rattle.integers.specs.Arithmetic.{IntegerType, int, long, unsigned_long, converted}
 use Rattle.c_types.specs.declared.shape.TypeShape.TheVariants.{Integer, Pointer, Array, Function, Struct, Union}
 use Rattle.c_types.specs.declared.shape.TypeShape.{TypeShape}
-use Rattle.c_types.specs.Table.{Table, HasShape, IsType, IsAggregate, IsComplete, shape_at, members_at}
+use Rattle.c_types.specs.Table.{Table, HasShape, IsType, IsAggregate, IsComplete, is_function, shape_at, members_at}
 use Rattle.c_types.specs.Layouts.{size_of, member_at}
 use Rattle.c_types.specs.Sameness.{IsSameType}
 use Rattle.c_tree.specs.declared.leaf.Identifier.{Identifier}
@@ -33,7 +33,8 @@ use Rattle.c_typing.specs.Rules.{IsStringType, IsDecay, IsLvalue, IsAddress, IsE
 use Rattle.c_typing.specs.Settled.{IsBasic}
 use Rattle.c_unit_typing.specs.Initialisers.{IsSlot, items_count, is_only_text, is_char_array}
 use Rattle.c_unit_typing.specs.Units.{bytes_of_name, Around, in_a_loop, in_a_switch, IsSwitched}
-use Rattle.c_ready.specs.Declarators.{declarators_of}
+use Rattle.src_machine.specs.Names.{declarators_in}
+use Rattle.src_machine.specs.Pieces.{Piece, APlace, ASpecifier, pieces_of_unit}
 
 -- An object: its home and its type as it is named.
 abbrev pub Named : Type 0
@@ -77,6 +78,10 @@ IsWhole k t = IsType k.table t × IsComplete k.table t
 -- the type of the first declaration, or the same type
 abbrev pub IsAlike : Table → TypeId → TypeId → Type 0
 IsAlike T first t = (first ≡ t) ⊎ IsSameType T first t
+
+-- two types that are each alike to one: those of two declarations of one thing (C99 6.2.7)
+abbrev pub AreAlike : Table → TypeId → TypeId → Type 0
+AreAlike T t v = (first : TypeId) × IsAlike T first t × IsAlike T first v
 
 -- a declarator declares the object with the home h, which lives as long as the program, with the type t
 abbrev pub IsObjectDeclared : Stage → NodeId → TypeId → Type 0
@@ -430,7 +435,7 @@ static_stage T u = record {
   statics = flat_map static_named (made_by_unit u);
   literals = flat_map literal_named (made_by_unit u);
   functions = functions_of u;
-  declarators = declarators_of u;
+  declarators = declarators_in u;
   runs = true;
   calls = false;
 }
@@ -448,6 +453,8 @@ parameters_listed (typed.Declares form t) = parameters_in_form form typed.NoPara
 
 -- a function: its type is that of its parameters, which are scalars, and of its result
 pub record IsReadyFunction (static : Stage) (f : DefinedFunction) : Type 0 where
+  pub name : Identifier
+  pub named : name_of f.declarator ≡ Some name
   pub result : TypeId
   pub parameters : map (λ (p : ParameterObject). p.type) (parameters_of f.declarator) ≡ taken_types (parameters_listed f.declarator)
   pub types : HasShape static.table (declared_type f.declarator) (Function (taken_types (parameters_listed f.declarator)) result)
@@ -472,6 +479,24 @@ IsReadyStatic static i = IsReadyInitialiser static i.type i.initialiser × IsObj
 -- the homes of the objects of a unit: of static ones, then of each function's
 abbrev pub homes_of : TypedTranslationUnit → List ℕ
 homes_of u = map (λ (o : MadeObject). o.home.0) (statics_of u) ++ flat_map (λ f. map (λ (o : Named). o.0.0) (variables_named f)) (functions_of u)
+
+-- the nodes of the member expressions of a unit, wherever they stand
+abbrev pub member_node : Piece → List ℕ
+member_node (APlace (typed.Member p at name i n t)) = n.0 ∷ []
+member_node (APlace (typed.MemberAt e at name i n t)) = n.0 ∷ []
+member_node piece = []
+
+abbrev pub member_nodes : TypedTranslationUnit → List ℕ
+member_nodes u = flat_map member_node (pieces_of_unit u)
+
+-- a specifier of the text gives the struct or union its members
+pub record IsWritten (u : TypedTranslationUnit) (t : TypeId) : Type 0 where
+  pub kind : AggregateKind
+  pub place : Place
+  pub name : Option Identifier
+  pub brace : Place
+  pub members : TypedMembers
+  pub there : Contains (pieces_of_unit u) (ASpecifier (typed.Aggregate kind place name brace members t))
 
 -- a literal is an array of chars, as many as it has bytes with its zero
 abbrev pub IsTextOf : Table → TypeId → Option (List StringPiece) → Type 0
@@ -503,8 +528,15 @@ pub record IsReadyUnit (T : Table) (u : TypedTranslationUnit) : Type 0 where
   pub functions : All (IsReadyFunction (static_stage T u)) (functions_of u)
   pub initialisers : All (IsReadyStatic (static_stage T u)) (static_initialisers u)
   pub objects : AreReadyObjects (static_stage T u) u
-  -- each pointer type has a node of the unit, which is that of no other and the home of no object
+  -- the declarators of one function are of types that are alike
+  pub alike : (name : Name) (t v : TypeId) → IsFunctionDeclared (static_stage T u) name t → IsFunctionDeclared (static_stage T u) name v
+      → is_function T t ≡ true → is_function T v ≡ true → AreAlike T t v
+  -- each struct or union that is complete was written with its members
+  pub written : (t : TypeId) → IsAggregate T t → IsComplete T t → IsWritten u t
+  -- no two member expressions have one node, and none has that of an object
+  pub members : IsDistinct nat_eq (homes_of u ++ member_nodes u)
+  -- each pointer type has a node of the unit, which is that of no other, of no object and of no member expression
   pub nodes : (t to : TypeId) (n : NodeId) → HasShape T t (Pointer n to) → n.0 < length (nodes_made (made_by_unit u))
   pub pointees : (t to v w : TypeId) (n : NodeId) → HasShape T t (Pointer n to) → HasShape T v (Pointer n w) → t ≡ v
-  pub homes : (t to : TypeId) (n : NodeId) → HasShape T t (Pointer n to) → All (λ h. h ≢ n.0) (homes_of u)
+  pub homes : (t to : TypeId) (n : NodeId) → HasShape T t (Pointer n to) → All (λ h. h ≢ n.0) (homes_of u ++ member_nodes u)
   pub main : HasReadyMain (static_stage T u)

@@ -1,1 +1,1 @@
-int main(void){int *p;p=0;return *p;}
+int main(void){char *s="hi\n";while(*s){putchar(*s);s=s+1;}return 0;}

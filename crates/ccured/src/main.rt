@@ -3,7 +3,7 @@
 #![tactic(auto)]
 
 use cc_io::{DiskFiles, StdSink, StdSource};
-use cure_core::ccured;
+use program_top::ccured;
 use smallvec::SmallVec;
 use std::env;
 use std::process::ExitCode;

@@ -38,7 +38,7 @@ use Rattle.cil_form.specs.Typing.{HeldType, IntegerOf, PointerTo, PlaceOf, Typin
 use Rattle.cil_form.specs.Meaning.{act}
 use Rattle.cil_form.specs.Told.{IsAsked}
 use Rattle.cil_form.proofs.AskedLaws.{instr-asked}
-use Rattle.cil_facts.specs.Held.{IsHeldAs, IsSolvedFor, AreFacts, GoesOn}
+use Rattle.cil_facts.specs.Held.{IsHeldAs, IsSolvedFor, AreFacts, AreFactsBehind, GoesOn}
 use Rattle.cil_facts.proofs.Written.{goes-storing}
 use Rattle.cil_facts.proofs.Conversions.{converted-fits, shape-in, Given, goes-held}
 
@@ -182,13 +182,13 @@ module _ (k : Context) (a : Around) (solved : IsSolvedFor k a.setting) where
 
     pub load-keeps : (into source : Temp) (node : NodeId) (t : TypeId) (at : Place)
         → IsShaped (instr.Access (access.Load into source node t at)) k types after
-        → GoesOn (act (instr.Access (access.Load into source node t at)) a c) (AreFacts k a after)
+        → GoesOn (act (instr.Access (access.Load into source node t at)) a c) (AreFactsBehind k a after c)
     load-keeps into source node t at shaped = by (shape_at k.table t) refl shaped.0.1.1 shaped.0.3
       where
         goes : (x : HeldType) → Leaves types into (Some x) after
             → ((p : Pointer) → IsHeldBy a.setting k.sites c.state.memory a.depth node t p
             → Gives (loaded a.setting at node t (Address p) c.state) (Given k a solved types after c facts x))
-            → GoesOn (act (instr.Access (access.Load into source node t at)) a c) (AreFacts k a after)
+            → GoesOn (act (instr.Access (access.Load into source node t at)) a c) (AreFactsBehind k a after c)
         goes x l gives =
             let p = address-held source node t shaped.0.2 in
             goes-held k a solved types after c facts (instr.Access (access.Load into source node t at)) into x
@@ -196,7 +196,7 @@ module _ (k : Context) (a : Around) (solved : IsSolvedFor k a.setting) where
             (subst (λ v. Gives (loaded a.setting at node t v c.state) (Given k a solved types after c facts x)) (sym p.1) (gives p.0 p.2))
 
         by : (s : TypeShape) → shape_at k.table t ≡ s → IsSome (held_shape s) → Leaves types into (held_shape s) after
-            → GoesOn (act (instr.Access (access.Load into source node t at)) a c) (AreFacts k a after)
+            → GoesOn (act (instr.Access (access.Load into source node t at)) a c) (AreFactsBehind k a after c)
         by (shape.Integer bytes signed) e some l =
             goes (IntegerOf (record { bytes = bytes; signed = signed })) l
             (λ p h. integer-loaded at node t (record { bytes = bytes; signed = signed }) p (shape-in k a solved t (shape.Integer bytes signed) e) h)
@@ -232,7 +232,7 @@ module _ (k : Context) (a : Around) (solved : IsSolvedFor k a.setting) where
 
     pub store-keeps : (to value : Temp) (node : NodeId) (t : TypeId) (at assignment : Place)
         → IsShaped (instr.Access (access.Store (target.Pointer to node) value t at assignment)) k types after
-        → GoesOn (act (instr.Access (access.Store (target.Pointer to node) value t at assignment)) a c) (AreFacts k a after)
+        → GoesOn (act (instr.Access (access.Store (target.Pointer to node) value t at assignment)) a c) (AreFactsBehind k a after c)
     store-keeps to value node t at assignment shaped =
         let s = shaped.0 in
         let p = address-held to node t s.0.1 in

@@ -25,7 +25,7 @@ use Rattle.cil_form.specs.declared.instr.Instr.TheVariants as instr
 use Rattle.cil_form.specs.State.{Local, Around}
 use Rattle.cil_form.specs.Typing.{IntegerOf, Typing, Context, HoldsInteger, IsRightOperand, result_type, IsShaped}
 use Rattle.cil_form.specs.Meaning.{act, operator_of}
-use Rattle.cil_facts.specs.Held.{IsHeldAs, IsSolvedFor, AreFacts, GoesOn}
+use Rattle.cil_facts.specs.Held.{IsHeldAs, IsSolvedFor, AreFacts, AreFactsBehind, GoesOn}
 use Rattle.cil_facts.proofs.Conversions.{converted-fits, shape-in, Given, goes-held}
 
 -- a truth value is an int
@@ -89,7 +89,7 @@ module _ (k : Context) (a : Around) (solved : IsSolvedFor k a.setting) (types af
           (λ z r. (r.memory ≡ c.state.memory) × (z ≡ computed (operator_of o) i x y)) (λ e. (refl, refl))
       by false = (refl, refl)
 
-  pub calculate-keeps : (i : Calculate) → IsShaped (instr.Calculate i) k types after → GoesOn (act (instr.Calculate i) a c) (AreFacts k a after)
+  pub calculate-keeps : (i : Calculate) → IsShaped (instr.Calculate i) k types after → GoesOn (act (instr.Calculate i) a c) (AreFactsBehind k a after c)
   calculate-keeps (calculate.Negate into x t) s =
       goes-held k a solved types after c facts (instr.Calculate (calculate.Negate into x t)) into (IntegerOf s.0)
       (calculated_alone a.setting Negate t (c.temps x) c.state) s s.3

@@ -35,7 +35,7 @@ use Rattle.cil_form.specs.declared.instr.Instr.{Instr}
 use Rattle.cil_form.specs.Typing.{HeldType, IntegerOf, PointerTo, Typing, Context, Leaves, IsShaped}
 use Rattle.cil_form.specs.Meaning.{act}
 use Rattle.cil_form.proofs.AskedLaws.{instr-asked}
-use Rattle.cil_facts.specs.Held.{IsHeldAs, IsSolvedFor, AreFacts, GoesOn}
+use Rattle.cil_facts.specs.Held.{IsHeldAs, IsSolvedFor, AreFacts, AreFactsBehind, GoesOn}
 use Rattle.cil_facts.proofs.Written.{goes-giving}
 
 -- what was converted to a type fits it
@@ -67,7 +67,7 @@ module _ (k : Context) (a : Around) (solved : IsSolvedFor k a.setting) where
     -- the rest of an instruction that gives such a value
     pub goes-held : (i : Instr) (into : Temp) (x : HeldType) (m : Outcome Ending State Value) → IsShaped i k types after → Leaves types into (Some x) after
         → Gives m (Given x)
-        → GoesOn (from (beside c.temps m) (λ v. leaves (λ (d : Local). record d { temps = with_temp into v d.temps }) >> done Goes)) (AreFacts k a after)
+        → GoesOn (from (beside c.temps m) (λ v. leaves (λ (d : Local). record d { temps = with_temp into v d.temps }) >> done Goes)) (AreFactsBehind k a after c)
     goes-held i into x m shaped l g = goes-giving k a types after c facts (instr-asked i k types after solved.tells facts.asked shaped) into x m l g
 
     -- Integers
@@ -81,7 +81,7 @@ module _ (k : Context) (a : Around) (solved : IsSolvedFor k a.setting) where
     integer-converted i j (Address p) h = absurd h
 
     pub integer-keeps : (into source : Temp) (t : TypeId) → IsShaped (instr.Convert (convert.Integer into source t)) k types after
-        → GoesOn (act (instr.Convert (convert.Integer into source t)) a c) (AreFacts k a after)
+        → GoesOn (act (instr.Convert (convert.Integer into source t)) a c) (AreFactsBehind k a after c)
     integer-keeps into source t shaped =
         let s = shaped.0 in
         goes-held (instr.Convert (convert.Integer into source t)) into (IntegerOf s.0) (converted_integer a.setting t (c.temps source) c.state) shaped s.3
@@ -100,7 +100,7 @@ module _ (k : Context) (a : Around) (solved : IsSolvedFor k a.setting) where
         (λ p r g. (g.memory, record { held = g.held; made = λ x. g.made }))
 
     pub to_pointer-keeps : (into source : Temp) (t : TypeId) (at : Place) → IsShaped (instr.Convert (convert.ToPointer into source t at)) k types after
-        → GoesOn (act (instr.Convert (convert.ToPointer into source t at)) a c) (AreFacts k a after)
+        → GoesOn (act (instr.Convert (convert.ToPointer into source t at)) a c) (AreFactsBehind k a after c)
     to_pointer-keeps into source t at shaped =
         let s = shaped.0 in
         goes-held (instr.Convert (convert.ToPointer into source t at)) into (PointerTo s.0 s.1) (pointer_from_integer (c.temps source) c.state) shaped s.4
@@ -144,7 +144,7 @@ module _ (k : Context) (a : Around) (solved : IsSolvedFor k a.setting) where
         ))
 
     pub pointer-keeps : (into source : Temp) (t u : TypeId) (at : Place) → IsShaped (instr.Convert (convert.Pointer into source t u at)) k types after
-        → GoesOn (act (instr.Convert (convert.Pointer into source t u at)) a c) (AreFacts k a after)
+        → GoesOn (act (instr.Convert (convert.Pointer into source t u at)) a c) (AreFactsBehind k a after c)
     pointer-keeps into source t u at shaped =
         let s = shaped.0 in
         goes-held (instr.Convert (convert.Pointer into source t u at)) into (PointerTo s.1 s.3) (pointer_value a.setting at t u (c.temps source) c.state) shaped s.7

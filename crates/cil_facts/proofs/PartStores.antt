@@ -11,12 +11,12 @@ use Rattle.cc_base.specs.declared.number.TypeId.{TypeId}
 use Rattle.c_types.specs.declared.shape.TypeShape.{TypeShape}
 use Rattle.c_types.specs.declared.shape.TypeShape.TheVariants as shape
 use Rattle.c_types.specs.declared.site.Site.TheVariants as site
-use Rattle.c_types.specs.Table.{Table, IsComplete, shape_at, members_at, is_aggregate_shape, is_complete_entry, is_empty}
+use Rattle.c_types.specs.Table.{IsComplete, shape_at, members_at, is_aggregate_shape, is_complete_entry, is_empty}
 use Rattle.c_types.specs.Layouts.{size_of, offset_of, member_at}
 use Rattle.c_types.specs.Equality.{cells_of}
 use Rattle.c_types.specs.Solutions.{SpreadsWild, IsWildWhereMixed, HoldsMixed}
 use Rattle.integers.specs.Arithmetic.{IntegerType}
-use Rattle.src_mem.specs.Pointers.{Location, Pointer, At, Value, Integer, Address}
+use Rattle.src_mem.specs.Pointers.{Location, At, Value, Integer, Address}
 use Rattle.src_mem.specs.Uses.{forward}
 use Rattle.src_mem.specs.Values.{stored}
 use Rattle.src_mem.specs.Memory as memory
@@ -25,7 +25,7 @@ use Rattle.src_mem.specs.Primitives.{clear}
 use Rattle.src_mem.specs.Outlines.{Life, life, outlines_of, lives_of, LivesAt}
 use Rattle.src_mem.proofs.Outlines.{mapped-from}
 use Rattle.facts_kept.proofs.Clearing.{gives-cleared}
-use Rattle.src_mem.specs.Facts.{IsPlaceIn, IsPlaceAt, IsTypedPlace, IsWildAt, wild_least, wild_most}
+use Rattle.src_mem.specs.Facts.{IsPlaceIn, IsPlaceAt, IsTypedPlace, wild_least, wild_most}
 use Rattle.src_mem.specs.Laws.{Gives}
 use Rattle.src_mem.proofs.Right.{safe≢wild, seq≢wild, rtti≢wild}
 use Rattle.facts_kept.specs.Kept.{IsKept, IsSub}
@@ -41,10 +41,10 @@ use Rattle.cil_form.specs.declared.instr.Target.TheVariants as target
 use Rattle.cil_form.specs.declared.instr.Access.TheVariants as access
 use Rattle.cil_form.specs.declared.instr.Instr.TheVariants as instr
 use Rattle.cil_form.specs.State.{Local, Around}
-use Rattle.cil_form.specs.Typing.{IntegerOf, PointerTo, PlaceOf, Typing, Context, plan_of, IsObject, IsPart, whole, in_member, in_element, IsShaped, held_shape}
+use Rattle.cil_form.specs.Typing.{IntegerOf, PointerTo, Typing, Context, plan_of, IsObject, IsPart, whole, in_member, in_element, IsShaped, held_shape}
 use Rattle.cil_form.specs.Meaning.{number_of, pointer_to, act}
 use Rattle.cil_form.proofs.AskedLaws.{instr-asked}
-use Rattle.cil_facts.specs.Held.{IsHeldAs, IsSolvedFor, AreFacts, GoesOn}
+use Rattle.cil_facts.specs.Held.{IsHeldAs, IsSolvedFor, AreFacts, AreFactsBehind, GoesOn}
 use Rattle.cil_facts.proofs.Written.{goes-storing}
 use Rattle.cil_facts.proofs.Conversions.{shape-in}
 use Rattle.cil_facts.proofs.Accesses.{place-allowed}
@@ -62,7 +62,7 @@ module _ (k : Context) (a : Around) (solved : IsSolvedFor k a.setting) (types af
       part-complete element o y part (element-complete k a solved types after c facts x element count e)
 
   -- what has a complete part is complete
-  whole-complete : (u : TypeId) (offset : ℕ) (t : TypeId) → IsPart a.setting.table u offset t → IsComplete a.setting.table t
+  pub whole-complete : (u : TypeId) (offset : ℕ) (t : TypeId) → IsPart a.setting.table u offset t → IsComplete a.setting.table t
       → IsComplete a.setting.table u
   whole-complete u offset t (whole x) h = h
   whole-complete u offset t (in_element x element count i o y e l part) h = array-complete k a solved types after c facts x element count e
@@ -129,7 +129,7 @@ module _ (k : Context) (a : Around) (solved : IsSolvedFor k a.setting) (types af
 
   -- The place of a part
 
-  part-there : (home : NodeId) (u : TypeId) (offset : ℕ) (t : TypeId) (l : Location) → l.offset ≡ pos 0 → IsPart a.setting.table u offset t
+  pub part-there : (home : NodeId) (u : TypeId) (offset : ℕ) (t : TypeId) (l : Location) → l.offset ≡ pos 0 → IsPart a.setting.table u offset t
       → IsComplete a.setting.table u → IsWildWhereMixed a.setting.table a.setting.kind home u
       → IsPlaceIn a.setting c.state.memory a.depth (a.setting.kind home) u (At l)
       → IsPlaceIn a.setting c.state.memory a.depth (a.setting.kind home) t (At (record l { offset = l.offset +ℤ pos offset }))
@@ -172,6 +172,21 @@ module _ (k : Context) (a : Around) (solved : IsSolvedFor k a.setting) (types af
         most = most l.offset offset start small;
       }
 
+  -- the address of a part of an object that code names
+  named-allowed : (o : Object) (home : NodeId) (u : TypeId) → IsObject k o home u → IsComplete a.setting.table u
+      → SpreadsWild a.setting.table a.setting.kind home u × IsWildWhereMixed a.setting.table a.setting.kind home u
+  named-allowed o home u object complete =
+      place-allowed k a solved home u (complete-data a.setting.table solved.well_formed u complete) (solved.tells.objects o home u object)
+
+  pub part-placed : (o : Object) (home : NodeId) (u : TypeId) (offset : ℕ) (t : TypeId) → IsObject k o home u → IsPart a.setting.table u offset t
+      → IsComplete a.setting.table u
+      → IsPlaceIn a.setting c.state.memory a.depth (a.setting.kind home) t (forward offset (pointer_to a o u))
+  part-placed o home u offset t object part complete =
+      let h = facts.objects o home u object in
+      let allowed = named-allowed o home u object complete in
+      part-there home u offset t (record { object = number_of a o; part = record { low = 0; high = size_of a.setting.table u }; offset = pos 0; made = u })
+      refl part complete allowed.1 h.1
+
   -- Stores
 
   part-stored : (o : Object) (home : NodeId) (u : TypeId) (offset : ℕ) (t : TypeId) (value : Temp) (at assignment : Place) → IsObject k o home u
@@ -182,14 +197,10 @@ module _ (k : Context) (a : Around) (solved : IsSolvedFor k a.setting) (types af
   part-stored o home u offset t value at assignment object complete part some is = by (shape_at k.table t) refl some is
     where
       allowed : SpreadsWild a.setting.table a.setting.kind home u × IsWildWhereMixed a.setting.table a.setting.kind home u
-      allowed =
-          place-allowed k a solved home u (complete-data a.setting.table solved.well_formed u complete) (solved.tells.objects o home u object)
+      allowed = named-allowed o home u object complete
 
       there : IsPlaceIn a.setting c.state.memory a.depth (a.setting.kind home) t (forward offset (pointer_to a o u))
-      there =
-          let h = facts.objects o home u object in
-          part-there home u offset t (record { object = number_of a o; part = record { low = 0; high = size_of a.setting.table u }; offset = pos 0; made = u })
-          refl part complete allowed.1 h.1
+      there = part-placed o home u offset t object part complete
 
       integer : (i : IntegerType) (v : Value) → shape_at a.setting.table t ≡ shape.Integer i.bytes i.signed
           → IsHeldAs a.setting k.sites c.state.memory a.depth (IntegerOf i) v
@@ -226,7 +237,7 @@ module _ (k : Context) (a : Around) (solved : IsSolvedFor k a.setting) (types af
 
   pub part_store-keeps : (o : Object) (home : NodeId) (u : TypeId) (offset : ℕ) (value : Temp) (t : TypeId) (at assignment : Place)
       → IsShaped (instr.Access (access.Store (target.Part o home u offset) value t at assignment)) k types after
-      → GoesOn (act (instr.Access (access.Store (target.Part o home u offset) value t at assignment)) a c) (AreFacts k a after)
+      → GoesOn (act (instr.Access (access.Store (target.Part o home u offset) value t at assignment)) a c) (AreFactsBehind k a after c)
   part_store-keeps o home u offset value t at assignment shaped =
       let s = shaped.0 in
       let part = subst (λ table. IsPart table u offset t) (sym solved.table) s.0.1 in
@@ -258,10 +269,10 @@ module _ (k : Context) (a : Around) (solved : IsSolvedFor k a.setting) (types af
       (l.0, subst (λ n. slice_get c.state.memory.objects n ≡ Some l.0) same l.1, ap (λ (z : Life). z.live) l.2 ∙ h.reaches.live)
 
   pub clear-keeps : (o : Object) → IsShaped (instr.Access (access.Clear o)) k types after
-      → GoesOn (act (instr.Access (access.Clear o)) a c) (AreFacts k a after)
+      → GoesOn (act (instr.Access (access.Clear o)) a c) (AreFactsBehind k a after c)
   clear-keeps o shaped = by (plan_of k o) refl shaped.0.0
     where
-      by : (x : Option Planned) → plan_of k o ≡ x → IsSome x → GoesOn (act (instr.Access (access.Clear o)) a c) (AreFacts k a after)
+      by : (x : Option Planned) → plan_of k o ≡ x → IsSome x → GoesOn (act (instr.Access (access.Clear o)) a c) (AreFactsBehind k a after c)
       by None e some = absurd (cc (some))
       by (Some x) e some =
           let y = there-alive o x e in

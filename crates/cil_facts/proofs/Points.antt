@@ -1,5 +1,5 @@
 -- Pointers that move, arrays that decay, `&`, and tests for null keep the facts.
-use Rattle.std.proofs.Common.{◌≡◌, ◌⊎◌, ◌∙◌, ℕ, zero, suc, ◌<◌, Bool, true, false, not, List, [], ◌∷◌, length, slice_get, Some, refl, ap, sym, subst, arith}
+use Rattle.std.proofs.Common.{◌≡◌, ◌⊎◌, ◌∙◌, ℕ, ◌<◌, Bool, true, false, not, List, [], ◌∷◌, length, refl, ap, sym, subst, arith}
 use Rattle.std.proofs.lemmas.Option.{slice_get-get_or}
 use Rattle.std.specs.Prelude.{◌↔◌}
 use Rattle.std.proofs.lemmas.List.Elements.{All-contains}
@@ -37,7 +37,7 @@ use Rattle.cil_form.specs.declared.instr.Instr.TheVariants as instr
 use Rattle.cil_form.specs.State.{Local, Around}
 use Rattle.cil_form.specs.Typing.{IntegerOf, PointerTo, PlaceOf, Typing, Context, HoldsArray, IsShaped}
 use Rattle.cil_form.specs.Meaning.{act, is_backward}
-use Rattle.cil_facts.specs.Held.{IsHeldAs, IsSolvedFor, AreFacts, GoesOn}
+use Rattle.cil_facts.specs.Held.{IsHeldAs, IsSolvedFor, AreFacts, AreFactsBehind, GoesOn}
 use Rattle.cil_facts.proofs.Conversions.{shape-in, Given, goes-held}
 use Rattle.cil_facts.proofs.Calculations.{truth-fits}
 use Rattle.cil_facts.proofs.Accesses.{address-held, allowed-held}
@@ -70,7 +70,7 @@ module _ (k : Context) (a : Around) (solved : IsSolvedFor k a.setting) (types af
       ))
 
   pub move-keeps : (into p n : Temp) (way : Direction) (t : TypeId) (at : Place) → IsShaped (instr.Point (point.Move into p n way t at)) k types after
-      → GoesOn (act (instr.Point (point.Move into p n way t at)) a c) (AreFacts k a after)
+      → GoesOn (act (instr.Point (point.Move into p n way t at)) a c) (AreFactsBehind k a after c)
   move-keeps into p n way t at shaped =
       let s = shaped.0 in
       goes-held k a solved types after c facts (instr.Point (point.Move into p n way t at)) into (PointerTo s.0 s.1)
@@ -89,7 +89,7 @@ module _ (k : Context) (a : Around) (solved : IsSolvedFor k a.setting) (types af
   null-tested different node u (Address p) h = (refl, truth-fits (negated_where different (is_null p)))
 
   pub null-keeps : (into p : Temp) (t : TypeId) (different : Bool) → IsShaped (instr.Point (point.IsNull into p t different)) k types after
-      → GoesOn (act (instr.Point (point.IsNull into p t different)) a c) (AreFacts k a after)
+      → GoesOn (act (instr.Point (point.IsNull into p t different)) a c) (AreFactsBehind k a after c)
   null-keeps into p t different shaped =
       let s = shaped.0 in
       goes-held k a solved types after c facts (instr.Point (point.IsNull into p t different)) into (IntegerOf int)
@@ -143,7 +143,7 @@ module _ (k : Context) (a : Around) (solved : IsSolvedFor k a.setting) (types af
 
   pub decay-keeps : (into source : Temp) (outer : NodeId) (array : TypeId) (check : Bool) (inner : NodeId) (element : TypeId) (at : Place)
       → IsShaped (instr.Point (point.Decay into source outer array check inner element at)) k types after
-      → GoesOn (act (instr.Point (point.Decay into source outer array check inner element at)) a c) (AreFacts k a after)
+      → GoesOn (act (instr.Point (point.Decay into source outer array check inner element at)) a c) (AreFactsBehind k a after c)
   decay-keeps into source outer array check inner element at shaped =
       let s = shaped.0 in
       goes-held k a solved types after c facts (instr.Point (point.Decay into source outer array check inner element at)) into (PointerTo inner element)
@@ -168,7 +168,7 @@ module _ (k : Context) (a : Around) (solved : IsSolvedFor k a.setting) (types af
       ))
 
   pub address-keeps : (into source : Temp) (outer inner : NodeId) (t : TypeId) → IsShaped (instr.Point (point.Address into source outer inner t)) k types after
-      → GoesOn (act (instr.Point (point.Address into source outer inner t)) a c) (AreFacts k a after)
+      → GoesOn (act (instr.Point (point.Address into source outer inner t)) a c) (AreFactsBehind k a after c)
   address-keeps into source outer inner t shaped =
       let s = shaped.0 in
       goes-held k a solved types after c facts (instr.Point (point.Address into source outer inner t)) into (PointerTo inner t)
@@ -230,7 +230,7 @@ module _ (k : Context) (a : Around) (solved : IsSolvedFor k a.setting) (types af
 
   pub member-keeps : (into source : Temp) (outer : NodeId) (t : TypeId) (i : ℕ) (inner : NodeId) (u : TypeId) (at : Place)
       → IsShaped (instr.Point (point.Member into source outer t i inner u at)) k types after
-      → GoesOn (act (instr.Point (point.Member into source outer t i inner u at)) a c) (AreFacts k a after)
+      → GoesOn (act (instr.Point (point.Member into source outer t i inner u at)) a c) (AreFactsBehind k a after c)
   member-keeps into source outer t i inner u at shaped =
       let s = shaped.0 in
       let complete = complete-in t s.2.1 in

@@ -16,12 +16,13 @@ use Rattle.facts_kept.proofs.Sources.{function-value}
 use Rattle.cil_form.specs.declared.instr.Set.{Set}
 use Rattle.cil_form.specs.declared.instr.Set.TheVariants as set
 use Rattle.cil_form.specs.declared.instr.Instr.TheVariants as instr
-use Rattle.cil_form.specs.State.{Local, Around}
+use Rattle.cil_form.specs.State.{Local, Around, with_temp}
 use Rattle.cil_form.specs.Typing.{IntegerOf, PointerTo, PlaceOf, Typing, Context, AreDeclaredAlike, IsPointer, IsShaped}
 use Rattle.cil_form.specs.Meaning.{pointer_to, act}
+use Rattle.cil_form.specs.Told.{AreAsked}
 use Rattle.cil_form.proofs.AskedLaws.{instr-asked}
-use Rattle.cil_facts.specs.Held.{IsSolvedFor, AreFacts, GoesOn}
-use Rattle.cil_facts.proofs.Written.{written}
+use Rattle.cil_facts.specs.Held.{IsSolvedFor, AreFacts, AreFactsBehind, GoesOn}
+use Rattle.cil_facts.proofs.Written.{written, same-behind}
 use Rattle.cil_facts.proofs.Conversions.{goes-held}
 use Rattle.cil_facts.proofs.Accesses.{alike-class}
 
@@ -45,7 +46,7 @@ module _ (k : Context) (a : Around) (solved : IsSolvedFor k a.setting) (types af
       both true e p h = e
       both false e p h = absurd (cc (h, equal-data a.setting.table solved.well_formed u v e p))
 
-  pub set-keeps : (i : Set) → IsShaped (instr.Set i) k types after → GoesOn (act (instr.Set i) a c) (AreFacts k a after)
+  pub set-keeps : (i : Set) → IsShaped (instr.Set i) k types after → GoesOn (act (instr.Set i) a c) (AreFactsBehind k a after c)
   set-keeps (set.Integer into z t) s =
       goes-held k a solved types after c facts (instr.Set (set.Integer into z t)) into (IntegerOf s.0) (Done (Integer z) c.state) s s.3 (refl, s.2)
   set-keeps (set.Null into t) s =
@@ -59,6 +60,9 @@ module _ (k : Context) (a : Around) (solved : IsSolvedFor k a.setting) (types af
       s.1 (refl, facts.objects o home t s.0)
   set-keeps (set.Copy into source) s = (
     refl,
-    written k a types after c facts (instr-asked (instr.Set (set.Copy into source)) k types after solved.tells facts.asked s) into (types source)
-        (c.temps source) c.state s.1.1 refl (λ x e. facts.held source x e),
+    same-behind k a types after c facts asked (record { state = c.state; temps = with_temp into (c.temps source) c.temps })
+        (written k a types after c facts asked into (types source) (c.temps source) c.state s.1.1 refl (λ x e. facts.held source x e)) refl,
   )
+    where
+      asked : AreAsked k.sites after
+      asked = instr-asked (instr.Set (set.Copy into source)) k types after solved.tells facts.asked s

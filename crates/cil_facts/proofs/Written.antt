@@ -1,5 +1,5 @@
 -- What an instruction leaves: one that gives a value and leaves the memory as it was, and one that stores.
-use Rattle.std.proofs.Common.{◌≡◌, Bool, true, false, Option, Some, refl, sym, subst, if◌then◌else◌}
+use Rattle.std.proofs.Common.{◌≡◌, Bool, true, false, Option, Some, refl, ap, sym, subst, if◌then◌else◌}
 use Rattle.runs.specs.Outcome.{Outcome, Ended, Done, done, leaves, from, ◌>>◌}
 use Rattle.runs.specs.Control.{Goes}
 use Rattle.src_mem.specs.Pointers.{Value, Integer, Address}
@@ -9,13 +9,14 @@ use Rattle.src_mem.specs.Outlines.{outlines_of, lives_of}
 use Rattle.src_mem.specs.Facts.{IsPlace, IsSoundAt}
 use Rattle.src_mem.specs.Laws.{Gives}
 use Rattle.facts_kept.specs.Kept.{IsKept}
+use Rattle.facts_kept.proofs.Later.{later-same}
 use Rattle.facts_kept.proofs.Moments.{kept-sound, kept-held}
 use Rattle.cil_form.specs.declared.number.Temp.{Temp}
 use Rattle.cil_form.specs.State.{Local, Around, is_same, with_temp, beside}
 use Rattle.cil_form.specs.Typing.{HeldType, IntegerOf, PointerTo, PlaceOf, Typing, Context, with_held, Includes, Leaves}
 use Rattle.cil_form.specs.Told.{AreAsked}
 use Rattle.cil_form.specs.Meaning.{pointer_to}
-use Rattle.cil_facts.specs.Held.{IsHeldAs, AreFacts, GoesOn}
+use Rattle.cil_facts.specs.Held.{IsHeldAs, AreFacts, AreFactsBehind, GoesOn}
 
 module _ (k : Context) (a : Around) (types after : Typing) (c : Local) (facts : AreFacts k a types c) (asked : AreAsked k.sites after) where
   -- a temporary is written, and the memory is as it was
@@ -36,10 +37,17 @@ module _ (k : Context) (a : Around) (types after : Typing) (c : Local) (facts : 
       one t y true f = is y f
       one t y false f = facts.held t y f
 
+  -- where the memory is as it was
+  pub same-behind : (d : Local) → AreFacts k a after d → d.state.memory ≡ c.state.memory → AreFactsBehind k a after c d
+  same-behind d f e = record {
+    facts = f;
+    later = later-same a.depth c.state.memory.objects d.state.memory.objects (ap outlines_of e) (ap lives_of e);
+  }
+
   -- an instruction that gives a value and leaves the memory as it was
   pub goes-giving : (into : Temp) (x : HeldType) (m : Outcome Ending State Value) → Leaves types into (Some x) after
       → Gives m (λ v r. (r.memory ≡ c.state.memory) × IsHeldAs a.setting k.sites c.state.memory a.depth x v)
-      → GoesOn (from (beside c.temps m) (λ v. leaves (λ (d : Local). record d { temps = with_temp into v d.temps }) >> done Goes)) (AreFacts k a after)
+      → GoesOn (from (beside c.temps m) (λ v. leaves (λ (d : Local). record d { temps = with_temp into v d.temps }) >> done Goes)) (AreFactsBehind k a after c)
   goes-giving into x (Ended Wrong r) l g = g
   goes-giving into x (Ended (Exited n) r) l g = tt
   goes-giving into x (Ended (Stopped check at) r) l g = tt
@@ -47,8 +55,9 @@ module _ (k : Context) (a : Around) (types after : Typing) (c : Local) (facts : 
   goes-giving into x (Ended Wants r) l g = tt
   goes-giving into x (Done v r) l g = (
     refl,
-    written into (Some x) v r l.1 g.0
-        (λ y e. let it : x ≡ y = cc (e) in subst (λ z. IsHeldAs a.setting k.sites c.state.memory a.depth z v) it g.1),
+    same-behind (record { state = r; temps = with_temp into v c.temps })
+        (written into (Some x) v r l.1 g.0
+        (λ y e. let it : x ≡ y = cc (e) in subst (λ z. IsHeldAs a.setting k.sites c.state.memory a.depth z v) it g.1)) g.0,
   )
 
   -- what is held stays so where outlines and lives do
@@ -74,7 +83,7 @@ module _ (k : Context) (a : Around) (types after : Typing) (c : Local) (facts : 
   -- an instruction that changes what objects contain, and no temporary
   pub goes-storing : (m : Outcome Ending State (Unit {0})) → Includes types after
       → Gives m (λ x r. IsKept a.setting k.sites c.state.memory r.memory)
-      → GoesOn (from (beside c.temps m) (λ x. done Goes)) (AreFacts k a after)
+      → GoesOn (from (beside c.temps m) (λ x. done Goes)) (AreFactsBehind k a after c)
   goes-storing (Ended Wrong r) l g = g
   goes-storing (Ended (Exited n) r) l g = tt
   goes-storing (Ended (Stopped check at) r) l g = tt
@@ -83,9 +92,12 @@ module _ (k : Context) (a : Around) (types after : Typing) (c : Local) (facts : 
   goes-storing (Done x r) l g = (
     refl,
     record {
-      memory = kept-sound a.setting k.sites a.depth c.state.memory r.memory facts.memory g;
-      asked = asked;
-      held = λ t y e. kept-as r.memory g y (c.temps t) (facts.held t y (l t y e));
-      objects = λ o home t h. kept-as r.memory g (PlaceOf home t) (Address (pointer_to a o t)) (facts.objects o home t h);
+      facts = record {
+        memory = kept-sound a.setting k.sites a.depth c.state.memory r.memory facts.memory g;
+        asked = asked;
+        held = λ t y e. kept-as r.memory g y (c.temps t) (facts.held t y (l t y e));
+        objects = λ o home t h. kept-as r.memory g (PlaceOf home t) (Address (pointer_to a o t)) (facts.objects o home t h);
+      };
+      later = later-same a.depth c.state.memory.objects r.memory.objects g.outlines g.lives;
     },
   )

@@ -13,6 +13,7 @@ use Rattle.src_mem.specs.Pointers.{Value, Integer, Address}
 use Rattle.src_mem.specs.Memory.{Memory, Planned}
 use Rattle.src_mem.specs.State.{Ending, Wrong, Setting, Defined}
 use Rattle.src_mem.specs.Facts.{IsHeldBy, IsPlaceIn, IsSoundAt}
+use Rattle.facts_kept.specs.Kept.{IsLater}
 use Rattle.cil_form.specs.declared.number.Temp.{Temp}
 use Rattle.cil_form.specs.declared.number.Object.{Object}
 use Rattle.cil_form.specs.declared.instr.Instr.{Instr}
@@ -56,7 +57,12 @@ GoesOn (Ended Wrong c) P = ⊥
 GoesOn (Ended e c) P = ⊤
 GoesOn (Done x c) P = (x ≡ Goes) × P c
 
+-- The facts behind code: its objects are those that were there before it, or later ones.
+pub record AreFactsBehind (k : Context) (a : Around) (after : Typing) (before now : Local) : Type 0 where
+  pub facts : AreFacts k a after now
+  pub later : IsLater a.depth before.state.memory.objects now.state.memory.objects
+
 -- An instruction in shape keeps the facts: where they are true before it, it isn't wrong, and they are true behind it.
 abbrev pub KeepsFacts : Instr → Type 0
 KeepsFacts i = (k : Context) (a : Around) (types after : Typing) (c : Local) → IsSolvedFor k a.setting → IsShaped i k types after
-    → AreFacts k a types c → GoesOn (act i a c) (AreFacts k a after)
+    → AreFacts k a types c → GoesOn (act i a c) (AreFactsBehind k a after c)

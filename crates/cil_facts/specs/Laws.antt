@@ -12,8 +12,13 @@ use Rattle.cil_form.specs.declared.instr.Point.TheVariants as point
 use Rattle.cil_form.specs.declared.instr.Convert.TheVariants as convert
 use Rattle.cil_form.specs.declared.instr.Target.TheVariants as target
 use Rattle.cil_form.specs.declared.instr.Access.TheVariants as access
+use Rattle.cil_form.specs.declared.instr.Allocate.{Allocate}
+use Rattle.cil_form.specs.declared.instr.Call.{Call}
+use Rattle.cil_form.specs.declared.instr.Comparison.{Comparison}
+use Rattle.cil_form.specs.declared.instr.RuntimeCall.{RuntimeCall}
 use Rattle.cil_form.specs.declared.instr.Instr.TheVariants as instr
 use Rattle.cil_facts.specs.Held.{KeepsFacts}
+use Rattle.cil_facts.specs.Calling.{KeepsFactsAmongCalls}
 
 abbrev pub SettingsKeepTheFacts : Type 0
 SettingsKeepTheFacts = (i : Set) → KeepsFacts (instr.Set i)
@@ -59,9 +64,30 @@ abbrev pub MembersKeepTheFacts : Type 0
 MembersKeepTheFacts = (into source : Temp) (outer : NodeId) (t : TypeId) (i : ℕ) (inner : NodeId) (u : TypeId) (at : Place)
     → KeepsFacts (instr.Point (point.Member into source outer t i inner u at))
 
+abbrev pub DifferencesKeepTheFacts : Type 0
+DifferencesKeepTheFacts = (into p q : Temp) (t u : TypeId) (at : Place) → KeepsFacts (instr.Point (point.Difference into p t q u at))
+
+abbrev pub ComparisonsKeepTheFacts : Type 0
+ComparisonsKeepTheFacts =
+    (into : Temp) (o : Comparison) (p q : Temp) (t u : TypeId) (at : Place) → KeepsFacts (instr.Point (point.Compare into o p t q u at))
+
 abbrev pub PartStoresKeepTheFacts : Type 0
 PartStoresKeepTheFacts = (o : Object) (home : NodeId) (u : TypeId) (offset : ℕ) (value : Temp) (t : TypeId) (at assignment : Place)
     → KeepsFacts (instr.Access (access.Store (target.Part o home u offset) value t at assignment))
 
 abbrev pub ClearingKeepsTheFacts : Type 0
 ClearingKeepsTheFacts = (o : Object) → KeepsFacts (instr.Access (access.Clear o))
+
+abbrev pub PartCopiesKeepTheFacts : Type 0
+PartCopiesKeepTheFacts = (o : Object) (home : NodeId) (u : TypeId) (offset : ℕ) (source : Temp) (node : NodeId) (to_place source_place : Place)
+    (t : TypeId) (assignment : Place)
+    → KeepsFacts (instr.Access (access.Copy (target.Part o home u offset) to_place source node source_place t assignment))
+
+abbrev pub AllocationsKeepTheFacts : Type 0
+AllocationsKeepTheFacts = (i : Allocate) → KeepsFacts (instr.Allocate i)
+
+abbrev pub CallsAmongCalls : Type 0
+CallsAmongCalls = (i : Call) → KeepsFactsAmongCalls (instr.Call i)
+
+abbrev pub RuntimeCallsAmongCalls : Type 0
+RuntimeCallsAmongCalls = (i : RuntimeCall) → KeepsFactsAmongCalls (instr.Runtime i)

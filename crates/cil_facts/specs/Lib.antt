@@ -1,2 +1,4 @@
+pub mod Calling
 pub mod Held
 pub mod Laws
+pub mod Whole

@@ -1,8 +1,8 @@
 //! The words of a command.
-ghost use Rattle.std.specs.Prelude.{◌≡◌, ◌≤◌, IsTrue, length, map, option_map};
+ghost use Rattle.std.specs.Prelude.{◌≡◌, ◌≤◌, IfSome, IsTrue, length, map, option_map};
 ghost use Rattle.std.specs.String.{string_bytes};
 ghost use Rattle.command_words.specs.Commands.{asked_by, command_of, file_of, in_three_words, in_two_words, is_file_name, most_functions, most_turns, on_file, only_file, only_number, running, sets_turns};
-ghost use Rattle.command_words.specs.Views.{command_view};
+ghost use Rattle.command_words.specs.Views.{HasFewFunctions, command_view};
 
 use crate::command::{Action, Command};
 use crate::numbers::number_of;
@@ -18,7 +18,8 @@ const MOST_FUNCTIONS: u64 = 1000;
 /// The command that the words after the program's name are, if they are one: `run FILE`, `exec FILE`, both with `--turns N` or `--turns=N`
 /// before FILE or behind it, `kinds FILE`, `cure FILE` or `make N`. Takes no memory.
 pub fn command_of(words: &[String]) -> Option<Command<'_>>
-    ensures { option_map command_view result ≡ command_of (map string_bytes words.now) }
+    ensures command { option_map command_view result ≡ command_of (map string_bytes words.now) }
+    ensures few { IfSome result HasFewFunctions }
 {
     match words.split_first() {
         None => None,
@@ -28,7 +29,8 @@ pub fn command_of(words: &[String]) -> Option<Command<'_>>
 
 /// What the first word asks for with those behind it.
 fn asked_by<'a>(first: &str, words: &'a [String]) -> Option<Command<'a>>
-    ensures { option_map command_view result ≡ asked_by first.now (map string_bytes words.now) }
+    ensures command { option_map command_view result ≡ asked_by first.now (map string_bytes words.now) }
+    ensures few { IfSome result HasFewFunctions }
 {
     match first {
         "run" => {
@@ -48,7 +50,8 @@ fn asked_by<'a>(first: &str, words: &'a [String]) -> Option<Command<'a>>
 
 /// The number that the words behind `make` are.
 fn only_number(words: &[String]) -> Option<u64>
-    ensures { result ≡ only_number (map string_bytes words.now) }
+    ensures number { result ≡ only_number (map string_bytes words.now) }
+    ensures few { IfSome result (λ n. n ≤ most_functions) }
 {
     match words {
         [n] => number_of(MOST_FUNCTIONS, n.as_bytes()),

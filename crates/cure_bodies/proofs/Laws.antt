@@ -82,7 +82,7 @@ pub noted : (i : Instr) (w : World) (t : Temp) (x : Option HeldType) (h g : Hold
     → Makes P a b → Notes t x b h c g → Makes (InstrCured i w h g) a c
 unfolding Makes Notes InstrCured
 noted i w t x h g a b c P cured tracked m n = λ fine.
-    let q = n fine in let p = m q.0 in let y = q.2.0 in
+    let q = n.0 fine in let p = m q.0 in let y = q.2.0 in
     let e : holds_now g ≡ with_held t x (holds_now h) = ap typing_of q.2.3 ∙ held_one h.items.items y
     ∙ ap (λ z. with_held z (held_views y.held) (holds_now h)) q.2.1 ∙ ap (λ z. with_held t z (holds_now h)) q.2.2 in (
       p.0,

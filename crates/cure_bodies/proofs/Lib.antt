@@ -2,3 +2,4 @@ pub mod Laws
 pub mod Tracks
 pub mod Plain
 pub mod Parts
+mod Ready

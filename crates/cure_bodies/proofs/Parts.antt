@@ -125,7 +125,7 @@ behind-kept : (c : Context) (blocks : List Typing) (entry less : Typing) → Inc
 behind-kept c blocks entry less ends keeps kept ℕ.zero b e = subst (Includes entry) (cc (e)) ends
 behind-kept c blocks entry less ends keeps kept (ℕ.suc n) b e = includes-more entry c.kept b keeps (kept n b e)
 
-inside-block : (w : World) (c : Context) (blocks : List Typing) (entry less : Typing) → IsInside w c blocks → Includes entry less → Includes entry c.kept
+pub inside-block : (w : World) (c : Context) (blocks : List Typing) (entry less : Typing) → IsInside w c blocks → Includes entry less → Includes entry c.kept
     → IsInside w (inside c entry) (less ∷ blocks)
 inside-block w c blocks entry less is ends keeps = record {
   stands = record { formed = is.stands.formed; table = is.stands.table; statics = is.stands.statics; variables = is.stands.variables };
@@ -295,7 +295,7 @@ pub code_ended : (whole : List Instr) (i : ℕ) (k : Scope) (first h : Holdings)
 code_ended whole i k first h a b end begun =
     code-ended whole k first h a b (subst (λ z. Makes (Begun whole z (world_of k) first h) a b) (drop_all i whole end) begun)
 
-drop-at : (xs : List Instr) (i : ℕ) (x : Instr) → i < length xs → x ≡ get_or xs i x → drop i xs ≡ x ∷ drop (suc i) xs
+pub drop-at : (xs : List Instr) (i : ℕ) (x : Instr) → i < length xs → x ≡ get_or xs i x → drop i xs ≡ x ∷ drop (suc i) xs
 drop-at [] i x e f = absurd (omega (arith, e))
 drop-at (y ∷ ys) ℕ.zero x e f = ap (λ z. z ∷ ys) (sym f)
 drop-at (y ∷ ys) (ℕ.suc i) x e f = drop-at ys i x (omega (arith, e)) f

@@ -107,7 +107,7 @@ set_made k i x h g a b c asked made notes =
 
 -- Operators
 
-calculate-asked : (i : Calculate) (c : Context) (T types less : Typing) (x : Option HeldType) → Includes T types → IsAsked i T x
+pub calculate-asked : (i : Calculate) (c : Context) (T types less : Typing) (x : Option HeldType) → Includes T types → IsAsked i T x
     → IsShapedCalculate i c types less → IsAsked i types x
 calculate-asked (calculate.Negate into a t) c T types less x more f s = tt
 calculate-asked (calculate.Complement into a t) c T types less x more f s = tt
@@ -128,7 +128,7 @@ calculate_made k i x h g a b c asked made notes =
 
 -- Pointers
 
-point-asked : (i : Point) (c : Context) (T types less : Typing) (x : Option HeldType) → Includes T types → IsPointAsked i T x
+pub point-asked : (i : Point) (c : Context) (T types less : Typing) (x : Option HeldType) → Includes T types → IsPointAsked i T x
     → IsShapedPoint i c types less → IsPointAsked i types x
 point-asked (point.Move into p n way t at) c T types less x more f s = s.5.1.1 ∙ sym (more n _ s.5.1.1) ∙ f
 point-asked (point.IsNull into p t different) c T types less x more f s = s.3.1 ∙ sym (more p _ s.3.1) ∙ f

@@ -34,11 +34,12 @@ unfoldable pub Makes : Piece → Draft → Draft → Type 0
 Makes P before after =
     after.fine ≡ true → (before.fine ≡ true) × ((code : List flat.Instr) × P code × (after.items.items ≡ before.items.items ++ code))
 
--- Where nothing failed, it is noted that temporary t holds x.
+-- Where nothing failed, it is noted that temporary t holds x. Nothing is met that has no code.
 unfoldable pub Notes : Temp → Option HeldType → Draft → Holdings → Draft → Holdings → Type 0
 Notes t x before held after noted =
-    after.fine ≡ true → (before.fine ≡ true) × (after.items.items ≡ before.items.items)
-    × ((y : Written) × (y.temp ≡ t) × (held_views y.held ≡ x) × (noted.items.items ≡ held.items.items ++ (y ∷ [])))
+    (after.fine ≡ true → (before.fine ≡ true) × (after.items.items ≡ before.items.items)
+    × ((y : Written) × (y.temp ≡ t) × (held_views y.held ≡ x) × (noted.items.items ≡ held.items.items ++ (y ∷ []))))
+    × (after.ready ≡ before.ready)
 
 -- Lines after which the slot tells whether the temporary's value is true.
 unfoldable pub TestedFor : World → Typing → Temp → ℕ → Draft → Draft → Type 0

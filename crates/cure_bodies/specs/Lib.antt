@@ -1,3 +1,4 @@
 pub mod Holding
 pub mod Results
 pub mod Bodies
+pub mod Ready

@@ -1,9 +1,10 @@
 //! The cured code of instructions without code, and what they leave.
-ghost use Rattle.std.specs.Prelude.{◌≡◌};
+ghost use Rattle.std.specs.Prelude.{◌≡◌, true};
 ghost use Rattle.cil_form.specs.declared.instr.Instr.TheVariants as source;
 ghost use Rattle.cure_scope.specs.Scopes.{world_of};
 ghost use Rattle.cure_bodies.specs.Holding.{Makes};
 ghost use Rattle.cure_bodies.specs.Bodies.{InstrCured};
+ghost use Rattle.cure_bodies.specs.Ready.{InstrReady};
 
 use crate::held::held_at;
 use crate::holding::{Holdings, note};
@@ -21,7 +22,9 @@ use phys_types::Known;
 
 /// A constant, an address or a copy.
 pub(crate) fn set(out: &mut Draft, k: &Scope<'_>, held: &mut Holdings, i: Set)
-    ensures { Makes (InstrCured (source.Set i) (world_of k.now) held.old held.new) out.old out.new }
+    requires fine { out.old.fine ≡ true }
+    ensures made { Makes (InstrCured (source.Set i) (world_of k.now) held.old held.new) out.old out.new }
+    ensures ready { InstrReady (source.Set i) (world_of k.now) held.old out.old out.new }
 {
     let from = copied(held, i);
     put_set(out, k, from, i);
@@ -30,7 +33,9 @@ pub(crate) fn set(out: &mut Draft, k: &Scope<'_>, held: &mut Holdings, i: Set)
 
 /// An operator on integers, or a truth value.
 pub(crate) fn calculate(out: &mut Draft, k: &Scope<'_>, held: &mut Holdings, i: Calculate)
-    ensures { Makes (InstrCured (source.Calculate i) (world_of k.now) held.old held.new) out.old out.new }
+    requires fine { out.old.fine ≡ true }
+    ensures made { Makes (InstrCured (source.Calculate i) (world_of k.now) held.old held.new) out.old out.new }
+    ensures ready { InstrReady (source.Calculate i) (world_of k.now) held.old out.old out.new }
 {
     let operand = asked(held, i);
     put_calculate(out, k, operand, i);
@@ -39,7 +44,9 @@ pub(crate) fn calculate(out: &mut Draft, k: &Scope<'_>, held: &mut Holdings, i: 
 
 /// An instruction on pointers.
 pub(crate) fn point(out: &mut Draft, k: &Scope<'_>, held: &mut Holdings, i: Point)
-    ensures { Makes (InstrCured (source.Point i) (world_of k.now) held.old held.new) out.old out.new }
+    requires fine { out.old.fine ≡ true }
+    ensures made { Makes (InstrCured (source.Point i) (world_of k.now) held.old held.new) out.old out.new }
+    ensures ready { InstrReady (source.Point i) (world_of k.now) held.old out.old out.new }
 {
     let operand = point_asked(held, i);
     put_point(out, k, operand, i);
@@ -54,8 +61,10 @@ pub(crate) fn convert(
     held: &mut Holdings,
     i: Convert,
 )
-    requires { known.now ≡ k.now.layouts.now.table }
-    ensures { Makes (InstrCured (source.Convert i) (world_of k.now) held.old held.new) out.old out.new }
+    requires known { known.now ≡ k.now.layouts.now.table }
+    requires fine { out.old.fine ≡ true }
+    ensures made { Makes (InstrCured (source.Convert i) (world_of k.now) held.old held.new) out.old out.new }
+    ensures ready { InstrReady (source.Convert i) (world_of k.now) held.old out.old out.new }
 {
     put_convert(out, k, known, i);
     note_convert(out, k, held, i)
@@ -69,8 +78,10 @@ pub(crate) fn access(
     held: &mut Holdings,
     i: Access,
 )
-    requires { known.now ≡ k.now.layouts.now.table }
-    ensures { Makes (InstrCured (source.Access i) (world_of k.now) held.old held.new) out.old out.new }
+    requires known { known.now ≡ k.now.layouts.now.table }
+    requires fine { out.old.fine ≡ true }
+    ensures made { Makes (InstrCured (source.Access i) (world_of k.now) held.old held.new) out.old out.new }
+    ensures ready { InstrReady (source.Access i) (world_of k.now) held.old out.old out.new }
 {
     put_access(out, k, known, i);
     match i {
@@ -89,8 +100,10 @@ pub(crate) fn allocate(
     held: &mut Holdings,
     i: Allocate,
 )
-    requires { known.now ≡ k.now.layouts.now.table }
-    ensures { Makes (InstrCured (source.Allocate i) (world_of k.now) held.old held.new) out.old out.new }
+    requires known { known.now ≡ k.now.layouts.now.table }
+    requires fine { out.old.fine ≡ true }
+    ensures made { Makes (InstrCured (source.Allocate i) (world_of k.now) held.old held.new) out.old out.new }
+    ensures ready { InstrReady (source.Allocate i) (world_of k.now) held.old out.old out.new }
 {
     put_allocate(out, k, known, i);
     note_allocate(out, held, i)
@@ -98,7 +111,9 @@ pub(crate) fn allocate(
 
 /// A call.
 pub(crate) fn call(out: &mut Draft, k: &Scope<'_>, held: &mut Holdings, i: Call)
-    ensures { Makes (InstrCured (source.Call i) (world_of k.now) held.old held.new) out.old out.new }
+    requires fine { out.old.fine ≡ true }
+    ensures made { Makes (InstrCured (source.Call i) (world_of k.now) held.old held.new) out.old out.new }
+    ensures ready { InstrReady (source.Call i) (world_of k.now) held.old out.old out.new }
 {
     put_call(out, k, i);
     note_call(out, k, held, i)
@@ -106,7 +121,9 @@ pub(crate) fn call(out: &mut Draft, k: &Scope<'_>, held: &mut Holdings, i: Call)
 
 /// A call of the C library.
 pub(crate) fn runtime(out: &mut Draft, k: &Scope<'_>, held: &mut Holdings, i: RuntimeCall)
-    ensures { Makes (InstrCured (source.Runtime i) (world_of k.now) held.old held.new) out.old out.new }
+    requires fine { out.old.fine ≡ true }
+    ensures made { Makes (InstrCured (source.Runtime i) (world_of k.now) held.old held.new) out.old out.new }
+    ensures ready { InstrReady (source.Runtime i) (world_of k.now) held.old out.old out.new }
 {
     let _ = k;
     put_runtime(out, i);

@@ -6,9 +6,11 @@ ghost use Rattle.cure_instrs.specs.Lines.{held_views};
 ghost use Rattle.cil_form.specs.declared.instr.Access.TheVariants as access;
 ghost use Rattle.cure_points.specs.Cured.{PointCured};
 ghost use Rattle.cure_objects.specs.Cured.{ObjectCured};
+ghost use Rattle.cure_ready.specs.Curable.{CanPoint, CanAccess};
 ghost use Rattle.cure_scope.specs.Scopes.{world_of};
 ghost use Rattle.cure_bodies.specs.Holding.{Makes, holds_now};
 ghost use Rattle.cure_bodies.specs.Results.{IsPointAsked};
+ghost use Rattle.cure_bodies.specs.Ready.{StaysReady};
 
 use crate::holding::{Holdings, held_in};
 use cc_base::TypeId;
@@ -66,7 +68,8 @@ pub(crate) fn point_asked(held: &Holdings, i: Point) -> Option<Held>
 
 /// An instruction on pointers. `held` is what the temporary holds whose kind of value it has to know.
 pub(crate) fn put_point(out: &mut Draft, k: &Scope<'_>, held: Option<Held>, i: Point)
-    ensures { (types : Typing) → IsPointAsked i types (held_views held) → Makes (PointCured i (world_of k.now) types) out.old out.new }
+    ensures made { (types : Typing) → IsPointAsked i types (held_views held) → Makes (PointCured i (world_of k.now) types) out.old out.new }
+    ensures ready { (types : Typing) → IsPointAsked i types (held_views held) → StaysReady (CanPoint i (world_of k.now) types) out.old out.new }
 {
     match i {
         Point::Move {
@@ -186,7 +189,8 @@ fn put_stored(
     value: (Temp, TypeId),
     at: StorePlaces,
 )
-    ensures { (types : Typing) → Makes (ObjectCured (access.Store target value.0 value.1 at.own at.assignment) (world_of k.now) types) out.old out.new }
+    ensures made { (types : Typing) → Makes (ObjectCured (access.Store target value.0 value.1 at.own at.assignment) (world_of k.now) types) out.old out.new }
+    ensures ready { StaysReady (CanAccess (access.Store target value.0 value.1 at.own at.assignment) (world_of k.now)) out.old out.new }
 {
     let (v, ty) = value;
     match target {
@@ -224,7 +228,8 @@ fn put_copied(
     at: CopyPlaces,
 )
     requires { known.now ≡ k.now.layouts.now.table }
-    ensures { (types : Typing) → Makes (ObjectCured (access.Copy target at.to from.pointer from.node at.from from.ty at.assignment) (world_of k.now) types) out.old out.new }
+    ensures made { (types : Typing) → Makes (ObjectCured (access.Copy target at.to from.pointer from.node at.from from.ty at.assignment) (world_of k.now) types) out.old out.new }
+    ensures ready { StaysReady (CanAccess (access.Copy target at.to from.pointer from.node at.from from.ty at.assignment) (world_of k.now)) out.old out.new }
 {
     match target {
         Target::Pointer { pointer, node } => {
@@ -250,7 +255,8 @@ fn put_copied(
 /// A load, a store, or a copy.
 pub(crate) fn put_access(out: &mut Draft, k: &Scope<'_>, known: &Known<'_>, i: Access)
     requires { known.now ≡ k.now.layouts.now.table }
-    ensures { (types : Typing) → Makes (ObjectCured i (world_of k.now) types) out.old out.new }
+    ensures made { (types : Typing) → Makes (ObjectCured i (world_of k.now) types) out.old out.new }
+    ensures ready { StaysReady (CanAccess i (world_of k.now)) out.old out.new }
 {
     match i {
         Access::Load {

@@ -1,11 +1,14 @@
 //! The cured code of code: one arm a construct.
-ghost use Rattle.std.specs.Prelude.{◌≡◌};
+ghost use Rattle.std.specs.Prelude.{◌≡◌, true, IsSome};
 ghost use Rattle.check_forms.specs.Pieces.{Line};
 ghost use Rattle.cil_form.specs.declared.instr.Instr.TheVariants as source;
+ghost use Rattle.cil_form.specs.Typing.{Typing, Includes};
+ghost use Rattle.check_insert.specs.Drafts.{Starts};
 ghost use Rattle.cure_instrs.specs.Lines.{tested_slot, tested_lines, held_views};
 ghost use Rattle.cure_scope.specs.Scopes.{world_of};
 ghost use Rattle.cure_bodies.specs.Holding.{Makes, holds_now, TestedFor, BlockOf, LoopOf};
 ghost use Rattle.cure_bodies.specs.Bodies.{InstrCured, CodeCured};
+ghost use Rattle.cure_bodies.specs.Ready.{InstrReady, CodeReady, StaysReady};
 
 use crate::holding::{Holdings, held_in, mark, rewind};
 use crate::instrs::{access, allocate, calculate, call, convert, point, runtime, set};
@@ -19,7 +22,8 @@ use phys_types::Known;
 
 /// A value is made ready to be tested: the slot that isn't 0 where it is true.
 fn test(out: &mut Draft, k: &Scope<'_>, held: &Holdings, t: Temp) -> u32
-    ensures { TestedFor (world_of k.now) (holds_now held.now) t result out.old out.new }
+    ensures made { TestedFor (world_of k.now) (holds_now held.now) t result out.old out.new }
+    ensures ready { (types : Typing) → Includes (holds_now held.now) types → StaysReady (IsSome (types t)) out.old out.new }
 {
     match held_in(held, t) {
         Some(x) => put_tested(out, k, x, t),
@@ -30,10 +34,25 @@ fn test(out: &mut Draft, k: &Scope<'_>, held: &Holdings, t: Temp) -> u32
     }
 }
 
+/// An empty draft behind another one, in which nothing is made where that one failed.
+#[tactic(auto, unfolding(check_insert::specs::Drafts::Starts))]
+fn start_behind(first: &Draft) -> Draft
+    ensures starts { Starts result }
+    ensures fine { result.fine ≡ first.now.fine }
+{
+    Draft {
+        alloc: first.alloc,
+        items: Vec::new(first.alloc),
+        fine: first.fine,
+        ready: true,
+    }
+}
+
 /// A block around a draft.
 #[tactic(auto, unfolding(crate::specs::Holding::BlockOf))]
 fn put_block(out: &mut Draft, inner: Draft)
-    ensures { BlockOf inner out.old out.new }
+    ensures made { BlockOf inner out.old out.new }
+    ensures ready { StaysReady (inner.ready ≡ true) out.old out.new }
 {
     if inner.fine {
         return push(out, cured_code::Instr::Block(Code(inner.items)));
@@ -44,7 +63,8 @@ fn put_block(out: &mut Draft, inner: Draft)
 /// A loop around a draft.
 #[tactic(auto, unfolding(crate::specs::Holding::LoopOf))]
 fn put_loop(out: &mut Draft, inner: Draft)
-    ensures { LoopOf inner out.old out.new }
+    ensures made { LoopOf inner out.old out.new }
+    ensures ready { StaysReady (inner.ready ≡ true) out.old out.new }
 {
     if inner.fine {
         return push(out, cured_code::Instr::Loop(Code(inner.items)));
@@ -62,19 +82,24 @@ pub(crate) fn put_code(
     code: &[Instr],
 )
     requires { known.now ≡ k.now.layouts.now.table }
-    ensures { Makes (CodeCured code.now (world_of k.now) held.old held.new) out.old out.new }
+    ensures made { Makes (CodeCured code.now (world_of k.now) held.old held.new) out.old out.new }
+    ensures ready { CodeReady code.now (world_of k.now) held.old out.old out.new }
 {
     for one in code {
         put_instr(out, k, known, held, one)
     }
 }
 
-/// Appends the cured code of an instruction.
+/// Appends the cured code of an instruction. Nothing is made behind what failed.
 #[cycle(curing)]
 fn put_instr(out: &mut Draft, k: &Scope<'_>, known: &Known<'_>, held: &mut Holdings, i: &Instr)
     requires { known.now ≡ k.now.layouts.now.table }
-    ensures { Makes (InstrCured i.now (world_of k.now) held.old held.new) out.old out.new }
+    ensures made { Makes (InstrCured i.now (world_of k.now) held.old held.new) out.old out.new }
+    ensures ready { InstrReady i.now (world_of k.now) held.old out.old out.new }
 {
+    if !out.fine {
+        return;
+    }
     match i {
         Instr::Set(i) => set(out, k, held, *i),
         Instr::Calculate(i) => calculate(out, k, held, *i),
@@ -94,7 +119,7 @@ fn put_instr(out: &mut Draft, k: &Scope<'_>, known: &Known<'_>, held: &mut Holdi
             let mut yes = start(out);
             put_code(&mut yes, k, known, held, then.0.as_slice());
             rewind(held, before);
-            let mut no = start(out);
+            let mut no = start_behind(&yes);
             put_code(&mut no, k, known, held, otherwise.0.as_slice());
             choose(out, a, yes, no)
         }

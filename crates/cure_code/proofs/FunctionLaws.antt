@@ -1,6 +1,8 @@
 -- Functions of a program in shape, and what they are cured to.
-use Rattle.std.proofs.Common.{◌≡◌, refl, ap, sym, subst, ◌∙◌, ℕ, ◌<◌, ◌≤◌, ◌⊎◌, inl, inr, List, [], ◌∷◌, length, map, flat_map, Option, Some, None, arith}
+use Rattle.std.proofs.Common.{◌≡◌, refl, ap, sym, subst, ◌∙◌, ℕ, suc, ◌<◌, ◌≤◌, ◌⊎◌, inl, inr, List, [], ◌∷◌, length, map, flat_map, Option, Some, None, arith}
+use Rattle.std.specs.Prelude.{if◌then◌else◌, sum_by}
 use Rattle.std.specs.List.{All, Contains, filter_map, cons_option}
+use Rattle.std.proofs.lemmas.Option.{get_or_from_slice_get}
 use Rattle.cc_base.specs.declared.number.TypeId.{TypeId}
 use Rattle.cc_base.specs.declared.number.NodeId.{NodeId}
 use Rattle.cc_base.specs.declared.kind.Kind.{Kind}
@@ -10,7 +12,9 @@ use Rattle.c_types.specs.declared.shape.TypeShape.TheVariants as shape
 use Rattle.c_types.specs.declared.site.Site.TheVariants.{Home}
 use Rattle.c_types.specs.Table.{Table, IsType, IsComplete, AreNodesOf, shape_at}
 use Rattle.c_types.specs.Sound.{IsWellFormed}
+use Rattle.c_types.specs.Equality.{cells_of}
 use Rattle.c_types.specs.Flows.{kind_in}
+use Rattle.c_types.specs.Widths as widths
 use Rattle.src_mem.specs.Memory.{Planned, frame_charge}
 use Rattle.src_mem.specs.Runs as runs
 use Rattle.src_mem.specs.Checks.{frame_limit}
@@ -20,23 +24,27 @@ use Rattle.cil_form.specs.declared.program.Function.{Function}
 use Rattle.cil_form.specs.Machine.{plan, variables_of}
 use Rattle.cil_form.specs.Shape.{IsPlanInShape, IsFunctionInShape, context_of, context_in, result_of_shape}
 use Rattle.cil_form.specs.Sites.{Each}
+use Rattle.cil_form.specs.Told.{IsSolutionOf}
 use Rattle.cil_form.specs.Typing.{IsScalar}
 use Rattle.cured_code.specs.declared.instr.Instr.{Instr}
 use Rattle.cured_code.specs.declared.parts.Function as cured
 use Rattle.cured_code.specs.Tables.{areas_of}
 use Rattle.check_forms.specs.Pieces.{Then, Line}
 use Rattle.sim_relation.specs.Ground.{word_number}
-use Rattle.cure_rules.specs.Known.{words_by, words_in}
+use Rattle.cure_rules.specs.Known.{World, AreSizes, words_by, words_in}
 use Rattle.cure_rules.specs.Accesses.{IsHome}
-use Rattle.cure_rules.specs.Functions.{parameter_words, areas_for, IsBody, HasSlots, IsCuredFunction}
+use Rattle.cure_rules.specs.Functions.{words_at, parameter_words, areas_for, IsBody, HasSlots, IsCuredFunction}
 use Rattle.cure_rules.specs.Programs.{IsStart}
-use Rattle.cure_frames.specs.Storing.{HasHome, HaveHomes, ParametersStored}
+use Rattle.cure_scope.specs.Scopes.{fixed_slots}
+use Rattle.cure_frames.specs.Storing.{HasHome, HaveHomes, CanStoreAll, ParametersStored}
 use Rattle.cure_tables.specs.Objects.{IsObject}
 use Rattle.cure_bodies.specs.Bodies.{IsInside, BodyCured}
+use Rattle.cure_ready.specs.Curable.{IsCurable}
 use Rattle.cure_ready.proofs.PartStarts.{members-whole, parts-whole}
+use Rattle.cure_ready.proofs.Programs.{function-curable, initialisers-curable, parameters-stored}
 use Rattle.cure_code.specs.declared.setting.Setting.{Setting}
 use Rattle.cure_code.specs.Settings.{whole_in, IsSet, IsNumber, world_at, first_world}
-use Rattle.cure_code.specs.Codes.{FunctionCode, StartCode}
+use Rattle.cure_code.specs.Codes.{FunctionCode, StartCode, IsCurableBody}
 use Rattle.cure_code.proofs.Elements.{within, all_at, each_at, all_by, all_mapped, each_front, each_back, each_flat, sum_few}
 use Rattle.cure_code.proofs.SlotLaws.{are_slots}
 
@@ -73,6 +81,20 @@ module _ (w : Setting) (s : IsSet w) where
 
   same_kind : kind_in w.kinds.now ≡ kind_in w.by_node.now
   same_kind = ap kind_in s.listed
+
+  solved : IsSolutionOf w.program.now (kind_in w.kinds.now)
+  solved = subst (IsSolutionOf w.program.now) (sym same_kind) s.solution
+
+  kinds_same : w.layouts.now.kinds ≡ w.kinds.now
+  kinds_same = s.kinds ∙ sym s.listed
+
+  sized : AreSizes (whole_in w)
+  sized = record {
+    size = λ u c. ap (λ b. if b then widths.cured_size w.layouts.now.table (kind_in w.layouts.now.kinds) u else 0) c
+        ∙ ap (λ ks. widths.cured_size w.layouts.now.table (kind_in ks) u) kinds_same;
+    none = λ u c. ap (λ b. if b then widths.cured_size w.layouts.now.table (kind_in w.layouts.now.kinds) u else 0) c;
+    offset = λ u o c l b. ap (λ ks. widths.before (kind_in ks) (cells_of w.layouts.now.table u) o) kinds_same;
+  }
 
   -- A function
 
@@ -158,6 +180,42 @@ module _ (w : Setting) (s : IsSet w) where
       kept = λ n b e. absurd (cc (e));
     }
 
+    there : Contains w.program.now.functions f
+    there = (k, within w.program.now.functions k f at, get_or_from_slice_get w.program.now.functions k f f at)
+
+    curable : IsCurable (context_in w.program.now f) (world_at w k f)
+    curable = function-curable w.program.now f (world_at w k f) s.shape s.told solved there inside.stands sized (λ e. absurd (cc (e))) s.few
+
+    body_curable : IsCurableBody (world_at w k f) f.body.0.items
+    body_curable = record { context = context_in w.program.now f; inside = inside; curable = curable; shaped = in_shape.body.shaped }
+
+    -- the same in a world that was made of these parts
+    pub curable_by : (world : World) (number : ℕ) (variables : List Planned) (result : Option TypeId) (words : ℕ) (parameters : List Parameter)
+        → world ≡ record { whole = whole_in w; number = number; variables = variables; result = result; slots = fixed_slots words }
+        → number ≡ suc k → variables ≡ variables_of f → result ≡ result_of_shape (shape_at w.program.now.types f.ty)
+        → words ≡ sum_by (λ x. words_at w.program.now.types (kind_in w.by_node.now) x.ty) parameters → parameters ≡ f.parameters
+        → IsCurableBody world f.body.0.items
+    curable_by world number variables result words parameters is n v r m p =
+        let r2 : result ≡ result_of_shape (shape_at w.layouts.now.table f.ty) = r ∙ ap (λ (t : Table). result_of_shape (shape_at t f.ty)) (sym s.table) in
+        let m2 : words ≡ parameter_words (whole_in w) f.parameters =
+        m ∙ ap (λ (xs : List Parameter). sum_by (λ x. words_by (kind_in w.by_node.now) (shape_at w.program.now.types x.ty)) xs) p
+        ∙ ap (λ (t : Table). sum_by (λ x. words_by (kind_in w.by_node.now) (shape_at t x.ty)) f.parameters) (sym s.table)
+        ∙ ap (λ (g : NodeId → Kind). sum_by (λ x. words_by g (shape_at w.layouts.now.table x.ty)) f.parameters) (sym same_kind) in
+        subst (λ (x : World). IsCurableBody x f.body.0.items) (sym is)
+        (subst (λ (x : ℕ). IsCurableBody (record { whole = whole_in w; number = x; variables = variables; result = result; slots = fixed_slots words }) f.body.0.items) (sym n)
+        (subst (λ (x : List Planned). IsCurableBody (record { whole = whole_in w; number = suc k; variables = x; result = result; slots = fixed_slots words }) f.body.0.items) (sym v)
+        (subst (λ (x : Option TypeId). IsCurableBody (record { whole = whole_in w; number = suc k; variables = variables_of f; result = x; slots = fixed_slots words }) f.body.0.items) (sym r2)
+        (subst (λ (x : ℕ). IsCurableBody (record {
+          whole = whole_in w;
+          number = suc k;
+          variables = variables_of f;
+          result = result_of_shape (shape_at w.layouts.now.table f.ty);
+          slots = fixed_slots x;
+        }) f.body.0.items) (sym m2) body_curable))))
+
+    pub parameters_stored : CanStoreAll (whole_in w) f.parameters
+    parameters_stored = (parameters-stored w.program.now f (world_at w k f) curable s.shape s.told there).1
+
     body_is : (body : List Instr) → FunctionCode (world_at w k f) f body → IsBody (world_at w k f) f body
     unfolding Then ParametersStored BodyCured Line
     body_is body h = record {
@@ -225,6 +283,14 @@ module _ (w : Setting) (s : IsSet w) where
     parts = parts-whole w.layouts.now.table formed;
     count = refl;
     kept = λ n b e. absurd (cc (e));
+  }
+
+  pub initialisers_curable : IsCurableBody (first_world w) w.program.now.initialisers.0.items
+  initialisers_curable = record {
+    context = context_of w.program.now;
+    inside = starts_inside;
+    curable = initialisers-curable w.program.now (first_world w) s.shape s.told solved starts_inside.stands sized s.few;
+    shaped = s.shape.initialisers.shaped;
   }
 
   pub start_function : (h : cured.Function) → h.slots ≡ 1948 → h.sig ≡ 0 → h.charge ≡ 0 → h.locals ≡ [] → StartCode (first_world w) w.program.now h.body.0.items

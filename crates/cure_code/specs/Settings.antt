@@ -11,6 +11,7 @@ use Rattle.cured_code.specs.declared.parts.Function as cured
 use Rattle.cure_rules.specs.Known.{Whole, World}
 use Rattle.cure_rules.specs.Functions.{world_of, parameter_words, IsCuredFunction}
 use Rattle.cure_rules.specs.Programs.{start_world, IsStart}
+use Rattle.cure_ready.specs.Curable.{HaveFewParameters}
 use Rattle.cure_scope.specs.Scopes.{fixed_slots, size_in, offset_in}
 use Rattle.cure_code.specs.declared.setting.Setting.{Setting}
 
@@ -28,11 +29,12 @@ whole_in w = record {
   signature = λ t. slice_index w.signatures.now t.0;
 }
 
--- The tables are those of the program, which is in shape, and of whose sites the kinds are a solution.
+-- The tables are those of the program, which is in shape and within its limits, and of whose sites the kinds are a solution.
 pub record IsSet (w : Setting) : Type 0 where
   pub shape : IsInShape w.program.now
   pub told : IsToldOf w.program.now
   pub solution : IsSolutionOf w.program.now (kind_in w.by_node.now)
+  pub few : HaveFewParameters w.program.now.types
   pub table : w.layouts.now.table ≡ w.program.now.types
   pub known : w.known.now ≡ w.program.now.types
   pub kinds : w.layouts.now.kinds ≡ w.by_node.now

@@ -1,9 +1,9 @@
 //! Where code begins, and what it gives.
-ghost use Rattle.std.specs.Prelude.{IfOk};
+ghost use Rattle.std.specs.Prelude.{◌≡◌, true, IfOk};
 ghost use Rattle.check_insert.specs.Drafts.{Starts};
 ghost use Rattle.cure_code.specs.Codes.{IsOf};
 
-use crate::faults::CureFault;
+use cc_base::NoMemory;
 use check_insert::Draft;
 use cured_code::Code;
 use std::alloc::Global;
@@ -21,16 +21,14 @@ pub(crate) fn empty(alloc: Global) -> Draft
     }
 }
 
-/// What was made, where nothing failed.
-pub(crate) fn finished(out: Draft) -> Result<Code, CureFault>
+/// What was made, where nothing failed. All that was met has code, so that want of memory alone makes it fail.
+pub(crate) fn finished(out: Draft) -> Result<Code, NoMemory>
+    requires { out.ready ≡ true }
     ensures { IfOk result (IsOf out) }
 {
     if out.fine {
-        return Ok(Code(out.items));
-    }
-    if out.ready {
-        Err(CureFault::NoMemory)
+        Ok(Code(out.items))
     } else {
-        Err(CureFault::NoCode)
+        Err(NoMemory)
     }
 }

@@ -6,15 +6,15 @@ ghost use Rattle.c_types.specs.Flows.{kind_in};
 ghost use Rattle.cil_form.specs.Machine.{plan, variables_of};
 ghost use Rattle.cil_form.specs.Shape.{result_of_shape};
 ghost use Rattle.cure_rules.specs.Functions.{IsCuredFunction, words_at};
-ghost use Rattle.cure_scope.specs.Scopes.{world_of};
+ghost use Rattle.cure_scope.specs.Scopes.{whole_of, world_of};
 ghost use Rattle.cure_code.specs.Settings.{IsSet, IsNumber, world_at};
-ghost use Rattle.cure_code.specs.Codes.{FunctionCode};
+ghost use Rattle.cure_frames.specs.Storing.{CanStoreAll};
+ghost use Rattle.cure_code.specs.Codes.{FunctionCode, IsCurableBody};
 
 use crate::drafts::{empty, finished};
-use crate::faults::CureFault;
 use crate::setting::{Own, Setting, leave, scope, signature_of};
 use c_types::{TypeShape, Types};
-use cc_base::{Kinds, TypeId};
+use cc_base::{Kinds, NoMemory, TypeId};
 use cil_form::{Function, Parameter, Planned};
 use cure_bodies::put_body;
 use cure_frames::put_parameters;
@@ -56,10 +56,12 @@ fn words_of(types: &Types, kinds: &Kinds, parameters: &[Parameter]) -> u32
 }
 
 /// The code of a function in its scope.
-fn code_in(alloc: Global, known: &Known<'_>, k: &Scope<'_>, f: &Function) -> Result<Code, CureFault>
+fn code_in(alloc: Global, known: &Known<'_>, k: &Scope<'_>, f: &Function) -> Result<Code, NoMemory>
     requires known { known.now ≡ k.now.layouts.now.table }
     requires few { length f.now.parameters ≤ 127 }
     requires typed { All (λ x. IsType k.now.layouts.now.table x.ty) f.now.parameters }
+    requires stored { CanStoreAll (whole_of k.now) f.now.parameters }
+    requires curable { IsCurableBody (world_of k.now) f.now.body.0.items }
     ensures { IfOk result (λ code. FunctionCode (world_of k.now) f.now code.0.items) }
 {
     let parameters = &f.parameters;
@@ -76,7 +78,7 @@ fn body_of(
     number: u32,
     f: &Function,
     variables: &[Planned],
-) -> Result<Code, CureFault>
+) -> Result<Code, NoMemory>
     requires set { IsSet w.now }
     requires function { IsNumber w.now number f.now }
     requires variables { map plan variables.now ≡ variables_of f.now }
@@ -118,7 +120,7 @@ pub(crate) fn function(
     w: &Setting<'_>,
     number: u32,
     f: &Function,
-) -> Result<cured_code::Function, CureFault>
+) -> Result<cured_code::Function, NoMemory>
     requires set { IsSet w.now }
     requires function { IsNumber w.now number f.now }
     ensures { IfOk result (IsCuredFunction (world_at w.now number f.now) f.now) }

@@ -2,12 +2,10 @@
 #![tactic(auto)]
 
 mod drafts;
-mod faults;
 mod functions;
 mod lists;
 mod programs;
 mod setting;
 mod start;
 
-pub use faults::CureFault;
 pub use programs::cure;

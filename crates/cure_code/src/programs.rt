@@ -5,11 +5,11 @@ ghost use Rattle.cil_form.specs.Shape.{IsInShape};
 ghost use Rattle.cil_form.specs.Told.{IsToldOf, IsSolutionOf};
 ghost use Rattle.cure_rules.specs.Programs.{IsCuredProgram};
 ghost use Rattle.cure_ranges.specs.Bodies.{AreTargetsNamed};
+ghost use Rattle.cure_ready.specs.Curable.{HaveFewParameters};
 ghost use Rattle.rtti_nodes.specs.TypeNodes.{node_at};
 ghost use Rattle.cure_code.specs.Settings.{AreMade, IsSet, whole_in};
 ghost use Rattle.cure_code.specs.Tabled.{AreTables, whole_with};
 
-use crate::faults::CureFault;
 use crate::functions::function;
 use crate::lists::{kinds_of, planned};
 use crate::setting::Setting;
@@ -67,7 +67,7 @@ fn tables_of<'a>(
 }
 
 /// Function 0 and the functions of a program.
-fn functions_of(w: &Setting<'_>) -> Result<Vec<Function>, CureFault>
+fn functions_of(w: &Setting<'_>) -> Result<Vec<Function>, NoMemory>
     requires { IsSet w.now }
     ensures { IfOk result (λ made. AreMade (whole_in w.now) w.now.program.now (length w.now.program.now.functions) made.items) }
 {
@@ -88,10 +88,11 @@ fn cured_functions(
     kinds: &Kinds,
     nodes: &[u32],
     t: &Tables<'_>,
-) -> Result<Vec<Function>, CureFault>
+) -> Result<Vec<Function>, NoMemory>
     requires shape { IsInShape program.now }
     requires told { IsToldOf program.now }
     requires solution { IsSolutionOf program.now (kind_in kinds.now) }
+    requires few { HaveFewParameters program.now.types }
     requires count { length kinds.now ≡ program.now.nodes }
     requires tables { AreTables program.now kinds.now t.now }
     ensures { IfOk result (λ made. AreMade (whole_with program.now kinds.now nodes.now t.now) program.now (length program.now.functions) made.items) }
@@ -143,15 +144,16 @@ fn parts(functions: Vec<Function>, parents: Vec<u32>, t: Tables<'_>) -> Parts
     }
 }
 
-/// The cured code of a program, by the kinds of its nodes and by its type nodes, of which each data type has one that an
-/// RTTI pointer flows to. All its numbers are in range. Each function has as many slots as any function has. `NoCode` is
-/// for a program that has an instruction that isn't cured yet; no clause says yet that it doesn't come.
-pub fn cure(alloc: Global, code: &Cil, kinds: &Kinds, nodes: &Nodes<'_>) -> Result<Cured, CureFault>
+/// The cured code of a program, by the kinds of its nodes, which are a solution for its sites, and by its type nodes, of
+/// which each data type has one that an RTTI pointer flows to. All its numbers are in range. Each function has as many
+/// slots as any function has. The one error is want of memory.
+pub fn cure(alloc: Global, code: &Cil, kinds: &Kinds, nodes: &Nodes<'_>) -> Result<Cured, NoMemory>
     requires table { nodes.now.table ≡ code.now.types }
     requires kinds { nodes.now.kinds ≡ kinds.now }
     requires count { length kinds.now ≡ code.now.nodes }
     requires told { IsToldOf code.now }
     requires solution { IsSolutionOf code.now (kind_in kinds.now) }
+    requires few { HaveFewParameters code.now.types }
     requires targets { AreTargetsNamed code.now (kind_in kinds.now) (node_at nodes.now) (length nodes.now.parents) }
     ensures curing { IfOk result (IsCuredProgram code.now (kind_in kinds.now) (node_at nodes.now) nodes.now.parents) }
 {

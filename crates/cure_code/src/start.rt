@@ -3,11 +3,11 @@ ghost use Rattle.std.specs.Prelude.{◌≡◌, ◌<◌, IfOk};
 ghost use Rattle.cure_rules.specs.Programs.{IsStart};
 ghost use Rattle.cure_scope.specs.Scopes.{world_of};
 ghost use Rattle.cure_code.specs.Settings.{IsSet, first_world};
-ghost use Rattle.cure_code.specs.Codes.{StartCode};
+ghost use Rattle.cure_code.specs.Codes.{StartCode, IsCurableBody};
 
 use crate::drafts::{empty, finished};
-use crate::faults::CureFault;
 use crate::setting::{Own, Setting, leave, scope};
+use cc_base::NoMemory;
 use cil_form::Program;
 use cure_bodies::put_body;
 use cure_frames::put_main;
@@ -22,9 +22,10 @@ fn code_in(
     known: &Known<'_>,
     k: &Scope<'_>,
     program: &Program,
-) -> Result<Code, CureFault>
+) -> Result<Code, NoMemory>
     requires known { known.now ≡ k.now.layouts.now.table }
     requires main { program.now.main.0 < 65535 }
+    requires curable { IsCurableBody (world_of k.now) program.now.initialisers.0.items }
     ensures { IfOk result (λ code. StartCode (world_of k.now) program.now code.0.items) }
 {
     let initialisers = &program.initialisers;
@@ -35,7 +36,7 @@ fn code_in(
 }
 
 /// The code of function 0.
-fn code_of(w: &Setting<'_>) -> Result<Code, CureFault>
+fn code_of(w: &Setting<'_>) -> Result<Code, NoMemory>
     requires { IsSet w.now }
     ensures { IfOk result (λ code. StartCode (first_world w.now) w.now.program.now code.0.items) }
 {
@@ -52,7 +53,7 @@ fn code_of(w: &Setting<'_>) -> Result<Code, CureFault>
 }
 
 /// Function 0: the static initialisers run, and `main` is entered.
-pub(crate) fn start(w: &Setting<'_>) -> Result<Function, CureFault>
+pub(crate) fn start(w: &Setting<'_>) -> Result<Function, NoMemory>
     requires { IsSet w.now }
     ensures { IfOk result (IsStart (first_world w.now) w.now.program.now) }
 {

@@ -3,3 +3,5 @@ pub mod OperationLaws
 pub mod PartLaws
 pub mod PairLaws
 pub mod PartsRead
+pub mod FaultLaws
+pub mod SpellingTold

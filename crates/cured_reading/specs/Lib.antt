@@ -2,3 +2,4 @@ pub mod Parts
 pub mod Operations
 pub mod Openings
 pub mod Heads
+pub mod Faults

@@ -69,7 +69,7 @@ unfoldable pub fifth_field : Line → Field
 unfolding first_of after_first
 fifth_field line = first_of (after_first (after_first (after_first (after_first line.fields))))
 
-pub head : Line → Head
+unfoldable pub head : Line → Head
 unfolding number form_in check_in tag_in first_field second_field third_field fourth_field fifth_field
 head line =
     let a = number (first_field line) in

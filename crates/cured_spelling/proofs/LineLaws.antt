@@ -17,11 +17,11 @@ words-ended name (f ∷ fs) =
     ∙ ap (λ l. name ++ (32 ∷ l)) (words-ended (field_text f) fs)
     ∙ sym (append_assoc name (32 ∷ []) (ended 32 (field_text f ∷ map field_text fs)))
 
-above-less : (bytes : List ℕ) → AreAbove 32 bytes → AreAbove 10 bytes
+pub above-less : (bytes : List ℕ) → AreAbove 32 bytes → AreAbove 10 bytes
 above-less [] h = tt
 above-less (b ∷ bytes) h = (omega (arith, h.0), above-less bytes h.1)
 
-fields-no_feed : (fs : List Field) → Each IsFieldInRange fs → AreAbove 10 (fields_text fs)
+pub fields-no_feed : (fs : List Field) → Each IsFieldInRange fs → AreAbove 10 (fields_text fs)
 fields-no_feed [] h = tt
 fields-no_feed (f ∷ fs) h = (
   omega arith,
@@ -50,7 +50,7 @@ lines-ended : (ls : List Line) → flat_map line_text ls ≡ ended 10 (map words
 lines-ended [] = refl
 lines-ended (l ∷ ls) = ap (λ t. line_text l ++ t) (lines-ended ls)
 
-words-no_feed : (ls : List Line) → Each IsWritten ls → AreLinesInRange ls → Each (AreAbove 10) (map words_text ls)
+pub words-no_feed : (ls : List Line) → Each IsWritten ls → AreLinesInRange ls → Each (AreAbove 10) (map words_text ls)
 words-no_feed [] w p = tt
 words-no_feed (l ∷ ls) w p = (
   each-append (λ byte. 10 < byte) l.name (fields_text l.fields) (above-less l.name w.0.name) (fields-no_feed l.fields p.0),

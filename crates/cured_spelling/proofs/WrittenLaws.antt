@@ -12,7 +12,7 @@ use Rattle.cured_spelling.proofs.Writings.{IsWritten}
 use Rattle.cured_spelling.proofs.Cuts.{each-append}
 use Rattle.cured_spelling.proofs.FieldLaws.{above-tested}
 
-first-written : (i : Instr) → IsWritten (line_of i)
+pub first-written : (i : Instr) → IsWritten (line_of i)
 first-written (instr.Const v n) = record { name = above-tested (codes "const") refl; fields = refl }
 first-written (instr.Copy v a) = record { name = above-tested (codes "copy") refl; fields = refl }
 first-written (instr.Ext v a form) = record { name = above-tested (codes "ext") refl; fields = refl }
@@ -66,10 +66,10 @@ first-written (instr.Loop' s x) = record { name = above-tested (codes "loop") re
 first-written (instr.Break k) = record { name = above-tested (codes "break") refl; fields = refl }
 first-written (instr.Return a) = record { name = above-tested (codes "return") refl; fields = refl }
 
-else-written : IsWritten else_line
+pub else-written : IsWritten else_line
 else-written = record { name = above-tested (codes "else") refl; fields = refl }
 
-end-written : IsWritten end_line
+pub end-written : IsWritten end_line
 end-written = record { name = above-tested (codes "end") refl; fields = refl }
 
 mutual
@@ -141,7 +141,7 @@ code-written : (is : List Instr) → Each IsWritten (code_lines is)
 code-written [] = tt
 code-written (i ∷ is) = each-append IsWritten (lines_of i) (code_lines is) (instr-written i) (code-written is)
 
-each-written : {A : Type 0} (f : A → Line) → ((x : A) → IsWritten (f x)) → (xs : List A) → Each IsWritten (map f xs)
+pub each-written : {A : Type 0} (f : A → Line) → ((x : A) → IsWritten (f x)) → (xs : List A) → Each IsWritten (map f xs)
 each-written f h [] = tt
 each-written f h (x ∷ xs) = (h x, each-written f h xs)
 

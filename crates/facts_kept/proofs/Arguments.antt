@@ -228,6 +228,7 @@ module _ (w : Setting) (sound : IsWellFormed w.table) (sites : List Site) (depth
       (arguments-later s.memory (after s).memory entered.later variables arguments h))
       (λ a t k. record {
         outlines = k.outlines ∙ entered.outlines;
+        lives = k.lives ∙ entered.lives;
         later =
             later-twice depth depth s.memory.objects (after s).memory.objects t.memory.objects (omega arith) entered.later
             (later-same depth (after s).memory.objects t.memory.objects k.outlines k.lives);

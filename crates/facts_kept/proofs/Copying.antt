@@ -29,7 +29,7 @@ use Rattle.src_mem.specs.Checks.{Condition, HoldsNone, IsAligned, InObject, Outl
 use Rattle.src_mem.specs.Primitives.{access, with_object, load_pointer, copy}
 use Rattle.src_mem.specs.Uses.{forward, load_pointers, keep_pointers, pointers_behind, held_from, pointer_offsets, copy_all}
 use Rattle.src_mem.specs.Outlines.{outline, outlines_of, lives_of, AreOutlines}
-use Rattle.src_mem.specs.Facts.{Reaches, IsHeldIn, IsSoundObject, IsSoundMemory}
+use Rattle.src_mem.specs.Facts.{Reaches, IsHeldIn, IsPlaceIn, IsSoundObject, IsSoundMemory}
 use Rattle.src_mem.specs.Laws.{Gives}
 use Rattle.src_mem.proofs.Spots.{IsRight}
 use Rattle.src_mem.proofs.PointersCopied.{moved_by, right_moved}
@@ -335,10 +335,14 @@ module _ (w : Setting) (sound : IsWellFormed w.table) (sites : List Site) (depth
         by Rtti n h = h
         by Wild n h = absurd (n refl)
 
-    pub gives-copied : (source_place target_place place : Place) (s : State) → IsSoundMemory w sites s.memory → AreOutlines w (outlines_of s.memory)
-        → IsHeldIn w s.memory depth k t source → IsHeldIn w s.memory depth l t target
+    -- what a copy's side is once its conditions held
+    abbrev BecomesPlace : State → Kind → Pointer → Type 0
+    BecomesPlace s c p = AllHold w s.memory (asked_of (size_of w.table t) c p) → IsPlaceIn w s.memory depth c t p
+
+    copied-between : (source_place target_place place : Place) (s : State) → IsSoundMemory w sites s.memory → AreOutlines w (outlines_of s.memory)
+        → BecomesPlace s k source → BecomesPlace s l target
         → Gives (copy_all w t source_place k source target_place l target place s) (λ a r. IsKept w sites s.memory r.memory)
-    gives-copied source_place target_place place s memory ordered a b =
+    copied-between source_place target_place place s memory ordered a b =
         gives-checked w (λ c. source_place) (conditions_of (CopyFrom (holds_pointer w.table t) (size_of w.table t)) k source)
         (all_checked w target_place (conditions_of (CopyTo (holds_pointer w.table t) (size_of w.table t)) l target) >> rest) s
         (λ a r. IsKept w sites s.memory r.memory)
@@ -370,10 +374,9 @@ module _ (w : Setting) (sound : IsWellFormed w.table) (sites : List Site) (depth
         to-asked Seq n p false h = h
         to-asked Wild n p b h = absurd (n refl)
 
-        spot : (c : Kind) → c ≢ Wild → (p : Pointer) → IsHeldIn w s.memory depth c t p → AllHold w s.memory (asked_of (size_of w.table t) c p)
+        spot : (c : Kind) → c ≢ Wild → (p : Pointer) → BecomesPlace s c p → AllHold w s.memory (asked_of (size_of w.table t) c p)
             → TypedSpot w s.memory depth c t (size_of w.table t) p
-        spot c n p held h = typed-spot w s.memory depth c t (size_of w.table t) p n (let m = long in omega (arith, m))
-            (held-place w sound (outlines_of s.memory) (lives_of s.memory) depth s.memory c t p plain held h)
+        spot c n p place h = typed-spot w s.memory depth c t (size_of w.table t) p n (let m = long in omega (arith, m)) (place h)
 
         final : (x : TypedSpot w s.memory depth k t (size_of w.table t) source) (y : TypedSpot w s.memory depth l t (size_of w.table t) target)
             (u : State)
@@ -396,6 +399,22 @@ module _ (w : Setting) (sound : IsWellFormed w.table) (sites : List Site) (depth
             (either (holds_pointer w.table t) (keep_pointers w place k source target t) (done tt) s)
             (λ a. copy (size_of w.table t) k source l target) (between place (holds_pointer w.table t) refl s memory x y)
             (λ a u ready. final x y u ready)
+
+    held-becomes : (s : State) (c : Kind) (p : Pointer) → IsHeldIn w s.memory depth c t p → BecomesPlace s c p
+    held-becomes s c p held h = held-place w sound (outlines_of s.memory) (lives_of s.memory) depth s.memory c t p plain held h
+
+    pub gives-copied : (source_place target_place place : Place) (s : State) → IsSoundMemory w sites s.memory → AreOutlines w (outlines_of s.memory)
+        → IsHeldIn w s.memory depth k t source → IsHeldIn w s.memory depth l t target
+        → Gives (copy_all w t source_place k source target_place l target place s) (λ a r. IsKept w sites s.memory r.memory)
+    gives-copied source_place target_place place s memory ordered a b =
+        copied-between source_place target_place place s memory ordered (held-becomes s k source a) (held-becomes s l target b)
+
+    -- to a place
+    pub gives-copied_to : (source_place target_place place : Place) (s : State) → IsSoundMemory w sites s.memory → AreOutlines w (outlines_of s.memory)
+        → IsHeldIn w s.memory depth k t source → IsPlaceIn w s.memory depth l t target
+        → Gives (copy_all w t source_place k source target_place l target place s) (λ a r. IsKept w sites s.memory r.memory)
+    gives-copied_to source_place target_place place s memory ordered a b =
+        copied-between source_place target_place place s memory ordered (held-becomes s k source a) (λ h. b)
 
   -- Between objects with tags
 
@@ -475,16 +494,17 @@ module _ (w : Setting) (sound : IsWellFormed w.table) (sites : List Site) (depth
               (reaches-more w sound (outlines_of s.memory) (lives_of s.memory) x.object.depth depth q x.older (is.reaches (x.at + j) q e)) d,
         )
 
-    pub gives-copied_tagged : (source_place target_place place : Place) (s : State) → IsSoundMemory w sites s.memory
-        → IsHeldIn w s.memory depth Wild t source → IsHeldIn w s.memory depth Wild t target
+    -- what a copy's side is once its WBOUNDS held
+    abbrev BecomesWild : State → Pointer → Type 0
+    BecomesWild s p = holds w s.memory (InObject (size_of w.table t) p) ≡ true → IsPlaceIn w s.memory depth Wild t p
+
+    copied-tagged : (source_place target_place place : Place) (s : State) → IsSoundMemory w sites s.memory → BecomesWild s source → BecomesWild s target
         → Gives (copy_all w t source_place Wild source target_place Wild target place s) (λ a r. IsKept w sites s.memory r.memory)
-    gives-copied_tagged source_place target_place place s memory a b = by (holds_pointer w.table t)
+    copied-tagged source_place target_place place s memory a b = by (holds_pointer w.table t)
       where
-        spot : (p : Pointer) → IsHeldIn w s.memory depth Wild t p → holds w s.memory (InObject (size_of w.table t) p) ≡ true
+        spot : (p : Pointer) → BecomesWild s p → holds w s.memory (InObject (size_of w.table t) p) ≡ true
             → TaggedSpot w s.memory depth (size_of w.table t) p
-        spot p held h =
-            tagged-spot w s.memory depth t (size_of w.table t) p
-            (held-place w sound (outlines_of s.memory) (lives_of s.memory) depth s.memory Wild t p plain held (h, tt)) h
+        spot p place h = tagged-spot w s.memory depth t (size_of w.table t) p (place h) h
 
         by : (b : Bool)
             → Gives
@@ -509,3 +529,18 @@ module _ (w : Setting) (sound : IsWellFormed w.table) (sites : List Site) (depth
             (λ g. gives-checked w (λ c. place) (conditions_of (Keep (pointers_behind s.memory.objects source (size_of w.table t))) Wild target)
             (copy (size_of w.table t) Wild source Wild target) s (λ a r. IsKept w sites s.memory r.memory)
             (λ kept. let x = spot source a h.0 in let y = spot target b g.0 in tagged-copy s memory x y (all-keeps s memory x y h.1.0 g.1.0 kept))))
+
+    held-wild : (s : State) (p : Pointer) → IsHeldIn w s.memory depth Wild t p → BecomesWild s p
+    held-wild s p held h = held-place w sound (outlines_of s.memory) (lives_of s.memory) depth s.memory Wild t p plain held (h, tt)
+
+    pub gives-copied_tagged : (source_place target_place place : Place) (s : State) → IsSoundMemory w sites s.memory
+        → IsHeldIn w s.memory depth Wild t source → IsHeldIn w s.memory depth Wild t target
+        → Gives (copy_all w t source_place Wild source target_place Wild target place s) (λ a r. IsKept w sites s.memory r.memory)
+    gives-copied_tagged source_place target_place place s memory a b =
+        copied-tagged source_place target_place place s memory (held-wild s source a) (held-wild s target b)
+
+    pub gives-copied_tagged_to : (source_place target_place place : Place) (s : State) → IsSoundMemory w sites s.memory
+        → IsHeldIn w s.memory depth Wild t source → IsPlaceIn w s.memory depth Wild t target
+        → Gives (copy_all w t source_place Wild source target_place Wild target place s) (λ a r. IsKept w sites s.memory r.memory)
+    gives-copied_tagged_to source_place target_place place s memory a b =
+        copied-tagged source_place target_place place s memory (held-wild s source a) (λ h. b)

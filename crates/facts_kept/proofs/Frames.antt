@@ -105,6 +105,7 @@ module _ (w : Setting) (sound : IsWellFormed w.table) (sites : List Site) where
       → Gives (enter w (suc depth) f variables s) (λ x r. HasEntered w sites depth variables s.memory r.memory)
   gives-entered depth f variables s are facts = record {
     outlines = map-both outline s.memory.objects (map (new_variable w.table (suc depth)) variables);
+    lives = map-both life s.memory.objects (map (new_variable w.table (suc depth)) variables);
     later = later-grown depth s.memory.objects (map (new_variable w.table (suc depth)) variables);
     sound = record {
       objects = entered-sound (suc depth) variables s.memory.objects facts.objects;

@@ -21,7 +21,7 @@ use Rattle.facts_kept.proofs.Blocks.{block-safe, block-wild}
 use Rattle.facts_kept.proofs.NonePointers.{variable-filled}
 
 module _ (w : Setting) (sound : IsWellFormed w.table) where
-  home-value : (outlines : List Outline) (number depth : ℕ) (v : Planned) (k : Kind) → w.kind v.node ≡ k → (k ≡ Safe) ⊎ (k ≡ Wild)
+  pub home-value : (outlines : List Outline) (number depth : ℕ) (v : Planned) (k : Kind) → w.kind v.node ≡ k → (k ≡ Safe) ⊎ (k ≡ Wild)
       → IsComplete w.table v.type
       → slice_get outlines number ≡ Some (outline (new_variable w.table depth v)) → IsValueOf w outlines k v.type (home w.table number v.type)
   home-value outlines number depth v k e plain c found = ⊎_elim

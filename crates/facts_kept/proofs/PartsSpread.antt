@@ -1,17 +1,16 @@
 -- What stands at an offset in a type: WILD spreads to its pointers as it does to those of the type, and it fits.
 use Rattle.std.proofs.Common.{◌≡◌, ◌⊎◌, inl, inr, ◌∙◌, ℕ, zero, suc, ◌+◌, ◌*◌, ◌<◌, ◌≤◌, false, true, List, [], ◌∷◌, map, length, slice_get, Option, None, Some, refl, ap, sym, subst, ⊎_elim, arith}
 use Rattle.std.specs.Prelude.{take}
-use Rattle.std.specs.List.{All, Contains}
+use Rattle.std.specs.List.{Contains}
 use Rattle.std.proofs.lemmas.Bool.{cases_eq}
-use Rattle.std.proofs.lemmas.List.Elements.{All-contains}
-use Rattle.std.proofs.lemmas.Option.{slice_get_within, slice_get-get_or}
+use Rattle.std.proofs.lemmas.Option.{slice_get-get_or}
 use Rattle.cc_base.specs.declared.kind.Kind.TheVariants.{Wild}
 use Rattle.cc_base.specs.declared.number.NodeId.{NodeId}
 use Rattle.cc_base.specs.declared.number.TypeId.{TypeId}
 use Rattle.c_types.specs.declared.shape.TypeShape.{TypeShape}
 use Rattle.c_types.specs.declared.shape.TypeShape.TheVariants.{Void, Integer, Pointer, Array, Function, Struct, Union}
 use Rattle.c_types.specs.declared.layout.Layout.{Layout}
-use Rattle.c_types.specs.Table.{IsComplete, IsAggregate, shape_at, members_at, parts_of_shape, is_aggregate_shape, is_function}
+use Rattle.c_types.specs.Table.{IsComplete, IsAggregate, shape_at, members_at, is_aggregate_shape, is_function}
 use Rattle.c_types.specs.Layouts.{size_of, layout_of, layout_of_shape, union_layout, greatest_size, greatest_align, offset_of, offset_of_shape, member_at}
 use Rattle.c_types.specs.Cells.{Cell, raw, pointer, mixed, incomplete}
 use Rattle.c_types.specs.Equality.{cells_of}

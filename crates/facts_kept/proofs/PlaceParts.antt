@@ -1,7 +1,6 @@
 -- The address of a part may be held, and is a place: what it points to is its part.
-use Rattle.std.proofs.Common.{◌≡◌, ℕ, suc, ◌+◌, ℤ, pos, negsuc, ◌+ℤ◌, ◌<◌, ◌↔◌, true, List, length, Option, None, Some, slice_get, refl, ap, sym, subst, arith}
+use Rattle.std.proofs.Common.{◌≡◌, ℕ, ◌+◌, ℤ, pos, negsuc, ◌+ℤ◌, ◌<◌, ◌↔◌, true, List, length, Option, None, Some, slice_get, refl, arith}
 use Rattle.std.proofs.lemmas.Int.{ints}
-use Rattle.std.specs.Prelude.{nat_le, ◌&&◌}
 use Rattle.cc_base.specs.declared.place.Place.{Place}
 use Rattle.cc_base.specs.declared.kind.Kind.{Kind}
 use Rattle.cc_base.specs.declared.kind.Kind.TheVariants.{Safe, Seq, Rtti, Wild}
@@ -16,8 +15,8 @@ use Rattle.c_types.specs.Layouts.{size_of, member_at, offset_of}
 use Rattle.c_types.specs.Solutions.{IsUnionAllowed, IsWildWhereMixed}
 use Rattle.c_types.specs.Sound.{IsWellFormed}
 use Rattle.runs.specs.Outcome.{Outcome, Ended, Done, done, from}
-use Rattle.src_mem.specs.Pointers.{Part, Location, Pointer, Null, Number, At, Function}
-use Rattle.src_mem.specs.Memory.{Object, Memory}
+use Rattle.src_mem.specs.Pointers.{Location, Pointer, Null, Number, At, Function}
+use Rattle.src_mem.specs.Memory.{Object}
 use Rattle.src_mem.specs.State.{Ending, Exited, Stopped, Turns, Wants, Wrong, State, Act, Setting, given}
 use Rattle.src_mem.specs.Checks.{AddressMember, conditions_of, all_checked, fits_between}
 use Rattle.src_mem.specs.Primitives.{new_part, whole_part, address}

@@ -124,6 +124,7 @@ AreArgumentsOf w sites memory depth (x ∷ xs) (v ∷ vs) =
 -- a call has begun: the variables are there behind the objects that were, and the facts hold for the call
 pub record HasEntered (w : Setting) (sites : List Site) (depth : ℕ) (variables : List Planned) (old new : Memory) : Type 0 where
   pub outlines : outlines_of new ≡ outlines_of old ++ map outline (map (new_variable w.table (suc depth)) variables)
+  pub lives : lives_of new ≡ lives_of old ++ map life (map (new_variable w.table (suc depth)) variables)
   pub later : IsLater depth old.objects new.objects
   pub sound : IsSoundAt w sites new (suc depth)
 

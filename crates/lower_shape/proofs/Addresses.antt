@@ -11,7 +11,7 @@ use Rattle.c_types.specs.Table.{Table, is_aggregate_shape, shape_at}
 use Rattle.c_tree.specs.TypedTree as typed
 use Rattle.c_tree.specs.TypedTree.{TypedExpr, TypedPlace}
 use Rattle.c_tree.specs.TypedParts.{place_type}
-use Rattle.c_typing.specs.Rules.{IsLvalue, pointer_behind}
+use Rattle.c_ready.specs.Rows.{IsLvalue, pointer_behind}
 use Rattle.c_ready.specs.Ready.{Stage, IsReadyPlace}
 use Rattle.src_machine.specs.Expressions.{is_through_pointer}
 use Rattle.src_machine.specs.Sites.{address_at, addresses_at}

@@ -12,10 +12,9 @@ use Rattle.c_types.specs.Solutions.{sites_of_table}
 use Rattle.c_types.specs.Table.{Table, shape_at}
 use Rattle.c_tree.specs.TypedTree.{TypedTranslationUnit}
 use Rattle.c_tree.specs.TypedParts.{DefinedFunction, StaticInitialiser, declared_type, functions_of, static_initialisers}
-use Rattle.c_unit_typing.specs.Units.{Around}
-use Rattle.c_unit_typing.specs.WellTyped.{IsWellTyped}
+use Rattle.c_ready.specs.Rows.{Around}
 use Rattle.integers.specs.Arithmetic.{unsigned_long}
-use Rattle.c_ready.specs.Ready.{Stage, Named, IsReadyFunction, IsReadyStatic, static_stage, variables_named}
+use Rattle.c_ready.specs.Ready.{Stage, Named, IsReadyFunction, IsReadyStatic, static_stage, variables_named, IsReadyUnit}
 use Rattle.c_ready.proofs.Basics.{all-left, all-right}
 use Rattle.unit_sites.proofs.Elements.{each-of, unflat}
 use Rattle.src_mem.specs.Memory.{Planned}
@@ -44,7 +43,7 @@ use Rattle.lower_shape.specs.Stands.{Frame, stand, low, Told}
 use Rattle.lower_shape.proofs.Addresses.{In}
 use Rattle.lower_shape.proofs.Between.{between, Does, AllDo, does-nothing, does-then}
 use Rattle.lower_shape.proofs.Initialisers.{object-initialised}
-use Rattle.lower_shape.proofs.Known.{frame_in, stage_in, unit-ready, known, statics-homes, frame-apart, statics-apart, variable-planned}
+use Rattle.lower_shape.proofs.Known.{frame_in, stage_in, known, statics-homes, frame-apart, statics-apart, variable-planned}
 use Rattle.lower_shape.proofs.Nests.{Nests, nests-line, nests-then}
 use Rattle.lower_shape.proofs.StatementNests.{nested-object, nested-block}
 use Rattle.lower_shape.proofs.Statements.{does-items}
@@ -66,7 +65,7 @@ alone-shaped : (k : Context) (c : List Instr) → Does k 0 c → AreShaped c k n
 alone-shaped k c d =
     subst (λ (x : List Instr). AreShaped x k no_types no_types) (append-nil c) (d no_types no_types [] nothing-between (λ U inc. nothing-known U))
 
-module _ (u : TypedTranslationUnit) (p : Program) (w : IsWellTyped p.types u) (l : IsLoweredFrom u p) where
+module _ (u : TypedTranslationUnit) (p : Program) (w : IsReadyUnit p.types u) (l : IsLoweredFrom u p) where
   abbrev pub IsTold : Piece → Type 0
   IsTold piece = All (Contains (sites_of u p.types)) (sites_of_piece p.types piece)
 
@@ -189,7 +188,7 @@ module _ (u : TypedTranslationUnit) (p : Program) (w : IsWellTyped p.types u) (l
   pub statics-shaped : All (IsStaticWithin IsTold) (static_initialisers u) → IsCodeInShape (context_of p) p.initialisers.0.items
   statics-shaped within =
       let is = static_initialisers u in
-      let ready = (unit-ready u p w l).initialisers in
+      let ready = w.initialisers in
       let c = subst (λ (hs : List NodeId). IsCodeOfStatics is (low-in [] hs) p.initialisers.0.items) (sym
       (statics-homes u p w l)) l.code.initialisers in
       subst (λ k. IsCodeInShape k p.initialisers.0.items) (sym start-context) (record {

@@ -13,7 +13,7 @@ use Rattle.c_tree.specs.TypedTree as typed
 use Rattle.c_tree.specs.TypedTree.{TypedExpr, TypedArguments}
 use Rattle.c_tree.specs.TypedParts.{type_of}
 use Rattle.c_typing.specs.Shapes.{IsIntegerType, is_scalar_shape}
-use Rattle.c_typing.specs.Rules.{IsArgument, listed_arguments, IsCall, IsRuntimeCall, IsRuntimeCallOf}
+use Rattle.c_ready.specs.Rows.{IsArgument, listed_arguments, IsCall, IsRuntimeCall, IsRuntimeCallOf, IsFreed}
 use Rattle.c_ready.specs.Ready.{Stage}
 use Rattle.c_ready.proofs.Contexts.{context_of}
 use Rattle.c_ready.proofs.Suits.{converted-suits}
@@ -27,7 +27,6 @@ use Rattle.lower_rules.specs.Pieces.{Form, Line, Then, When}
 use Rattle.lower_rules.specs.Words.{value, RunsRuntime, Allocates}
 use Rattle.lower_rules.specs.Expressions.{count}
 use Rattle.lower_shape.specs.Stands.{Frame, stand, Knows}
-use Rattle.c_typing.specs.Rules.{IsFreed}
 use Rattle.c_tree.specs.TypedParts.{first_place}
 use Rattle.c_typing.specs.Constants.{is_null_constant}
 use Rattle.lower_shape.proofs.Forms.{Agrees, agrees-then, agrees-lower, agrees-same, IsHeld, Leads, AllLead, Asks, head, of-type, scalar-held, all-as}

@@ -13,10 +13,9 @@ use Rattle.c_tree.specs.TypedParts.{type_of, is_null}
 use Rattle.c_typing.specs.Shapes.{IsIntegerType}
 use Rattle.c_typing.specs.Constants.{is_null_constant}
 use Rattle.c_types.specs.Equality.{physically_equal}
-use Rattle.c_typing.specs.Conversions.{IsPlain, bare}
+use Rattle.c_ready.specs.Rows.{IsPlain, bare, IsArithmetic, IsPromoted, Meeting, BothPoint, NeverMeet, RightIsNull, LeftIsNull, meeting, meeting_of, AreOrdered, AreEquated, IsCompared, other_side}
 use Rattle.c_typing.specs.Integers as integers
-use Rattle.c_typing.specs.Rules as rule
-use Rattle.c_typing.specs.Rules.{IsArithmetic, IsPromoted, Meeting, BothPoint, NeverMeet, RightIsNull, LeftIsNull, meeting, meeting_of, AreOrdered, AreEquated, IsCompared, other_side}
+use Rattle.c_ready.specs.Rows as rule
 use Rattle.c_ready.specs.Ready.{Stage}
 use Rattle.c_ready.proofs.Suits.{plain-bare, shaped-pointer}
 use Rattle.src_machine.specs.Expressions.{is_different}

@@ -16,11 +16,11 @@ use Rattle.c_tree.specs.TypedTree.{TypedExpr, TypedPlace, TypedArguments}
 use Rattle.c_tree.specs.TypedParts.{type_of, place_type, named_type, pointer_side, place_at}
 use Rattle.c_typing.specs.Held.{held, held_by_arguments, count_of}
 use Rattle.c_typing.specs.Integers as integers
-use Rattle.c_typing.specs.Rules as rule
+use Rattle.c_ready.specs.Rows as rule
 use Rattle.c_ready.specs.Ready.{Stage, IsReady, IsReadyPlace, AreReady, IsObjectOf, IsStepped, IsUpdated, MayCall, IsWhole}
 use Rattle.c_ready.proofs.Suits.{integer-from, scalar-in}
 use Rattle.c_typing.specs.Shapes.{is_scalar_shape}
-use Rattle.c_typing.specs.Rules.{pointer_behind, other_side}
+use Rattle.c_ready.specs.Rows.{pointer_behind, other_side}
 use Rattle.cil_form.specs.declared.number.Object.{Object}
 use Rattle.cil_form.specs.declared.number.Temp.{Temp}
 use Rattle.c_types.specs.Layouts.{member_at}

@@ -12,8 +12,7 @@ use Rattle.c_tree.specs.TypedParts.{DefinedFunction, ParameterObject, declared_t
 use Rattle.c_typing.specs.Declarators.{taken_types}
 use Rattle.c_typing.specs.Shapes as shapes
 use Rattle.c_unit_typing.specs.Limits.{IsWithinLimits, parameters_of_shape}
-use Rattle.c_unit_typing.specs.WellTyped.{IsWellTyped}
-use Rattle.c_ready.specs.Ready.{Stage, Named, IsNode, IsWhole, IsReadyFunction, static_stage, parameters_listed}
+use Rattle.c_ready.specs.Ready.{Stage, Named, IsNode, IsWhole, IsReadyFunction, static_stage, parameters_listed, IsReadyUnit}
 use Rattle.c_ready.proofs.Basics.{unmap}
 use Rattle.unit_sites.proofs.Elements.{each-of}
 use Rattle.src_mem.specs.Memory.{Planned}
@@ -33,7 +32,6 @@ use Rattle.lower_shape.specs.Lowered.{IsLoweredFrom}
 use Rattle.lower_shape.proofs.Addresses.{In}
 use Rattle.lower_shape.proofs.Bodies.{IsTold, same-type, body-shaped}
 use Rattle.unit_sites.proofs.FramesNamed.{frame-named}
-use Rattle.lower_shape.proofs.Known.{unit-ready}
 use Rattle.lower_shape.proofs.Lists.{all-in}
 use Rattle.lower_shape.proofs.Types.{scalar-some}
 use Rattle.lower_shape.proofs.UnitParts.{IsBodyWithin}
@@ -75,7 +73,7 @@ types-in : (ps : List ParameterObject)
 types-in [] = refl
 types-in (p ∷ ps) = ap (λ (ts : List TypeId). p.type ∷ ts) (types-in ps)
 
-module _ (u : TypedTranslationUnit) (p : Program) (w : IsWellTyped p.types u) (l : IsLoweredFrom u p) (limits : IsWithinLimits p.types u) where
+module _ (u : TypedTranslationUnit) (p : Program) (w : IsReadyUnit p.types u) (l : IsLoweredFrom u p) (limits : IsWithinLimits p.types u) where
   abbrev static : Stage
   static = static_stage p.types u
 
@@ -137,5 +135,5 @@ module _ (u : TypedTranslationUnit) (p : Program) (w : IsWellTyped p.types u) (l
       (functions_of u) p.functions
       (all-both (λ d. In d (functions_of u) × IsReadyFunction static d) (IsBodyWithin (IsTold u p w l)) (functions_of u)
       (all-both (λ d. In d (functions_of u)) (IsReadyFunction static) (functions_of u) (all-in (functions_of u))
-      (unit-ready u p w l).functions) within)
+      w.functions) within)
       l.code.functions

@@ -18,7 +18,7 @@ use Rattle.c_tree.specs.declared.typed_word.Home.TheVariants as home
 use Rattle.c_typing.specs.Held.{held}
 use Rattle.c_typing.specs.Shapes.{is_scalar_shape}
 use Rattle.c_unit_typing.specs.Holding.{expr_holds, initialiser_holds, items_holds, init_declarators_holds, declaration_holds}
-use Rattle.c_unit_typing.specs.Initialisers.{items_count, is_only_text, is_char_array}
+use Rattle.c_ready.specs.Rows.{items_count, is_only_text, is_char_array}
 use Rattle.c_ready.specs.Ready.{Stage, IsReadyInitialiser, AreReadyItems, AreReadyDeclarators, IsReadyDeclaration, IsReadyPlace, IsWhole, IsObjectOf, IsReadyHome, initialised_in}
 use Rattle.src_mem.specs.Operations.{integer_of_shape}
 use Rattle.src_machine.specs.Names.{object_node}

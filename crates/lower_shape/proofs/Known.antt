@@ -1,7 +1,7 @@
 -- What is known of the stages of a well typed unit holds of what its code stands in.
 use Rattle.std.specs.List.{All, Contains, IsDistinct, AllByRecursion}
 use Rattle.std.proofs.Common.{◌≡◌, ℕ, zero, suc, pos, Bool, true, false, List, [], ◌∷◌, ◌++◌, map, flat_map, slice_get, Option, Some, IsSome, option_map, inl, inr, refl, ap, sym, subst, ◌∙◌, nat_eq, arith}
-use Rattle.std.proofs.lemmas.List.Elements.{All-nil, All-head, All-push, All-map, All-weaker, All-contains, Contains-append_left, Contains-append_right}
+use Rattle.std.proofs.lemmas.List.Elements.{All-nil, All-head, All-map, All-weaker, All-contains, Contains-append_left, Contains-append_right}
 use Rattle.std.proofs.lemmas.Option.{none-some}
 use Rattle.std.proofs.lemmas.Bool.Decides.{nat_tests}
 use Rattle.cc_base.specs.declared.number.NodeId.{NodeId}
@@ -12,29 +12,26 @@ use Rattle.c_types.specs.declared.site.Site.TheVariants as site
 use Rattle.c_types.specs.Sound.{IsProper, IsIntegerSize}
 use Rattle.c_types.specs.Table.{Table, IsType, HasShape, named_by, is_function_shape}
 use Rattle.c_tree.specs.declared.leaf.Identifier.{Identifier}
-use Rattle.c_tree.specs.TypedTree as typed
 use Rattle.c_tree.specs.TypedTree.{TypedTranslationUnit}
 use Rattle.c_tree.specs.TypedParts as made
 use Rattle.c_tree.specs.TypedParts.{Made, MadeObject, ParameterObject, DefinedFunction, static_made, declared_type, name_of, parameters_of, locals_of, statics_of, functions_of, made_by_unit, nodes_made}
-use Rattle.c_unit_typing.specs.Units as units
-use Rattle.c_unit_typing.specs.Units.{IsUnitTyped, bytes_of_name}
-use Rattle.c_unit_typing.specs.WellTyped.{IsWellTyped, known_before}
+use Rattle.c_ready.specs.Rows.{bytes_of_name}
 use Rattle.integers.specs.Arithmetic.{IntegerType, converted}
-use Rattle.c_ready.specs.Declarators as ready
 use Rattle.c_ready.specs.Ready.{Stage, Named, IsNode, IsWhole, IsReadyUnit, IsReadyFunction, IsStaticNamed, IsObjectOf, IsFunctionNamed, IsFunctionDeclared, static_stage, literal_named, made_named, variables_named}
 use Rattle.c_ready.proofs.Basics.{at-index, unmap}
 use Rattle.c_ready.proofs.Gathered.{functions-declared}
-use Rattle.c_ready.proofs.ReadyUnit.{well-typed-ready}
 use Rattle.type_laws.proofs.SameTypes.{same-is-equal}
 use Rattle.unit_sites.proofs.Elements.{flat, unflat}
 use Rattle.unit_sites.proofs.FramesNamed.{made_plan, plan_named, frame-named}
-use Rattle.unit_sites.proofs.NamesAlike.{objects-alike, functions-alike, alike-function_left, alike-function_right, function-in, physical, physical-both}
+use Rattle.unit_sites.proofs.NamesAlike.{objects-alike, functions-alike, alike-function_left, alike-function_right, physical, physical-both}
+use Rattle.c_ready.proofs.Suits.{function-in}
 use Rattle.unit_sites.proofs.ObjectsAlike.{objects_made, one-type, statics-named}
 use Rattle.unit_sites.proofs.SitesTold.{pointers-told}
 use Rattle.src_mem.specs.Memory.{Planned}
 use Rattle.src_mem.specs.Runs as runs
 use Rattle.src_mem.specs.Runs.{variables_of, planned}
 use Rattle.src_machine.specs.Machine as source
+use Rattle.src_machine.specs.Names.{declarators_in}
 use Rattle.cil_form.specs.declared.program.Function.{Function}
 use Rattle.cil_form.specs.declared.program.Program.{Program}
 use Rattle.cil_form.specs.declared.program.Static.{Static}
@@ -106,16 +103,6 @@ code-at T statics (x ∷ ds) (f ∷ fs) h zero d e = (f, refl, subst (λ z. IsCo
     same a b g = cc
 code-at T statics (x ∷ ds) (f ∷ fs) h (suc i) d e = code-at T statics ds fs h.1 i d e
 
-abbrev HasName : DefinedFunction → Type 0
-HasName f = (id : Identifier) × (name_of f.declarator ≡ Some id)
-
-pub functions-have_names : (T : Table) (u : TypedTranslationUnit) (k m : units.Known) → IsUnitTyped T u k m → All HasName (functions_of u)
-functions-have_names T typed.NoExternal k m h = All-nil HasName
-functions-have_names T (typed.AndExternal u d) k m h = functions-have_names T u k h.0 h.1
-functions-have_names T (typed.AndFunctionBody u specifiers (typed.Declares form t) brace body) k m h =
-    All-push HasName (functions_of u) (record { declarator = typed.Declares form t; body = body }) (functions-have_names T u k h.0 h.1)
-    (h.2.name, h.2.named)
-
 -- Numbers
 
 one-fits : (bytes : ℕ) (signed : Bool) → IsIntegerSize bytes → converted (record { bytes = bytes; signed = signed }) (pos 1) ≡ pos 1
@@ -160,15 +147,12 @@ literals-named P ms h =
     own (made.Address n) q = All-nil P
     own (made.Copy t) q = All-nil P
 
-module _ (u : TypedTranslationUnit) (p : Program) (w : IsWellTyped p.types u) (l : IsLoweredFrom u p) where
+module _ (u : TypedTranslationUnit) (p : Program) (w : IsReadyUnit p.types u) (l : IsLoweredFrom u p) where
   abbrev pub T : Table
   T = p.types
 
   abbrev pub static : Stage
   static = static_stage p.types u
-
-  pub unit-ready : IsReadyUnit p.types u
-  unit-ready = well-typed-ready p.types u w
 
   -- what code with these variables names, which gives this
   abbrev pub frame_in : List Planned → Option TypeId → Frame
@@ -212,7 +196,7 @@ module _ (u : TypedTranslationUnit) (p : Program) (w : IsWellTyped p.types u) (l
       All-contains (λ (o : Named). IsWhole static o.1) static.statics (h, t)
       (statics-named (λ (o : Named). IsWhole static o.1) (made_by_unit u) (All-map (λ (o : Named). IsWhole static o.1) made_named (statics_of u)
       (All-weaker (λ (o : MadeObject). IsNode static o.home × IsWhole static o.type) (λ (o : MadeObject). IsWhole static o.type) (λ o q. q.1)
-      (statics_of u) unit-ready.objects.plans))) c
+      (statics_of u) w.objects.plans))) c
 
   named-as : (vs : List Planned) (result : Option TypeId) (h : NodeId) (t : TypeId) → IsWhole static t → (r : IsStaticNamed static h t)
       → IsNamedAs (stand static (frame_in vs result) 0 no_types) r.first t
@@ -223,7 +207,7 @@ module _ (u : TypedTranslationUnit) (p : Program) (w : IsWellTyped p.types u) (l
         inr (
           physical p.types w.basic.formed r.first t f.0 whole.0 (inr s),
           subst (λ sites. AreDeclaredAlike sites r.first t) (sym l.sites)
-              (objects-alike p.types u w h r.first t f.1 whole.1 r.begun r.declared),
+              (objects-alike p.types u h r.first t f.1 whole.1 r.begun r.declared),
         )
   ]
 
@@ -249,16 +233,15 @@ module _ (u : TypedTranslationUnit) (p : Program) (w : IsWellTyped p.types u) (l
       let d = named.defined in
       let at = code-at p.types (lowered.homes_of u) (functions_of u) p.functions l.code.functions number d named.there in
       let type : at.0.ty ≡ declared_type d.declarator = ap (λ (h : runs.Head). h.type) at.2.head in
-      let own = at-index (IsReadyFunction static) (functions_of u) unit-ready.functions number d named.there in
+      let own = at-index (IsReadyFunction static) (functions_of u) w.functions number d named.there in
       let function = ap is_function_shape own.types.1 in
       let first = alike-function_left p.types named.first (declared_type d.declarator) named.alike.1 function in
       let other = alike-function_right p.types named.first named.function named.alike.0 first in
-      let id = at-index HasName (functions_of u) (functions-have_names p.types u (known_before u) w.after w.typed) number d named.there in
       let told : IsFunctionDeclared static name.bytes (declared_type d.declarator) = (
         d.declarator,
-        at-index (λ (f : DefinedFunction). Contains (ready.declarators_of u) f.declarator) (functions_of u)
+        at-index (λ (f : DefinedFunction). Contains (declarators_in u) f.declarator) (functions_of u)
             (functions-declared u) number d named.there,
-        (id.0, id.1, ap bytes_of_name (sym id.1) ∙ named.named),
+        (own.name, own.named, ap bytes_of_name (sym own.named) ∙ named.named),
         refl,
       ) in (
         declared_type d.declarator,
@@ -266,7 +249,7 @@ module _ (u : TypedTranslationUnit) (p : Program) (w : IsWellTyped p.types u) (l
         physical-both p.types w.basic.formed named.first named.function (declared_type d.declarator) (function-in p.types named.first first)
             (function-in p.types named.function other) own.types.0 named.alike.0 named.alike.1,
         subst (λ sites. AreDeclaredAlike sites named.function (declared_type d.declarator)) (sym l.sites)
-            (functions-alike p.types u w name.bytes named.function (declared_type d.declarator) other function named.declared told),
+            (functions-alike p.types u name.bytes named.function (declared_type d.declarator) other function named.declared told),
       )
 
   -- Types
@@ -292,7 +275,7 @@ module _ (u : TypedTranslationUnit) (p : Program) (w : IsWellTyped p.types u) (l
         (inr (t, literals-placed h t literal.1, inl refl));
     functions = functions-in variables vs calls result;
     same = λ a b m n t v x y h. same-is-equal p.types w.basic.formed t v (pointee-in a m t x) (pointee-in b n v y) h;
-    nodes = λ t n v h. unit-ready.nodes t v n h;
+    nodes = λ t n v h. w.nodes t v n h;
     basic = w.basic.integers (record { bytes = 4; signed = true }) (inr (inr (inl refl)));
     long = w.basic.integers (record { bytes = 8; signed = false }) (inr (inr (inr refl)));
     ones = ones-fit;
@@ -323,7 +306,7 @@ module _ (u : TypedTranslationUnit) (p : Program) (w : IsWellTyped p.types u) (l
 
   one-plan : (q r : Planned) → Contains (objects_made u) (q.node, q.type) → Contains (objects_made u) (r.node, r.type) → q.node ≡ r.node → q ≡ r
   one-plan q r a b e =
-      let same = one-type u unit-ready.objects.distinct r.node q.type r.type (subst (λ n. Contains (objects_made u) (n, q.type)) e a) b in
+      let same = one-type u w.objects.distinct r.node q.type r.type (subst (λ n. Contains (objects_made u) (n, q.type)) e a) b in
       ap (λ (t : TypeId). record { type = t; node = q.node }) same ∙ ap (λ (n : NodeId). record { type = r.type; node = n }) e
 
   pub frame-apart : (d : DefinedFunction) → In d (functions_of u) → (result : Option TypeId)
@@ -335,7 +318,7 @@ module _ (u : TypedTranslationUnit) (p : Program) (w : IsWellTyped p.types u) (l
         let i = in-image made_plan (statics_of u) r (statics-made r b) in
         apart-lists (map (λ (o : MadeObject). o.home.0) (statics_of u)) (flat_map (λ f. map (λ (o : Named). o.0.0) (variables_named f))
         (functions_of u))
-        unit-ready.objects.distinct i.0.home.0 (in-map (λ (o : MadeObject). o.home.0) (statics_of u) i.0 i.1)
+        w.objects.distinct i.0.home.0 (in-map (λ (o : MadeObject). o.home.0) (statics_of u) i.0 i.1)
         (flat-in (λ f. map (λ (o : Named). o.0.0) (variables_named f)) (functions_of u) d c i.0.home.0
         (subst (λ (n : NodeId). In n.0 (map (λ (o : Named). o.0.0) (variables_named d))) (e ∙ ap (λ (x : Planned). x.node) (sym i.2))
         (in-map (λ (o : Named). o.0.0) (variables_named d) (plan_named q) (frame-in d q a))));

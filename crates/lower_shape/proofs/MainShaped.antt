@@ -1,5 +1,5 @@
 -- `main` of a program that is lowered from a well typed unit is in shape: the first function of this name, which has the type of each.
-use Rattle.std.specs.List.{position, position_or_len}
+use Rattle.std.specs.List.{Contains, position, position_or_len}
 use Rattle.std.proofs.Common.{◌≡◌, ℕ, suc, ◌<◌, ◌+◌, Bool, true, false, not, cond, nat_lt, ◌&&◌, List, [], ◌∷◌, length, slice_get, Option, Some, None, inl, inr, refl, ap, sym, subst, ◌∙◌, true≢false, unwrap_or, codes, bytes_eq, ◌==◌, arith, rules, zero}
 use Rattle.std.proofs.lemmas.Bool.Decides.{nat_tests}
 use Rattle.cc_base.specs.declared.number.TypeId.{TypeId}
@@ -8,21 +8,18 @@ use Rattle.c_types.specs.declared.shape.TypeShape.{TypeShape}
 use Rattle.c_types.specs.declared.shape.TypeShape.TheVariants as shape
 use Rattle.c_types.specs.Equality.{same_bool}
 use Rattle.c_types.specs.Sameness.{same_shape, same_step}
-use Rattle.c_types.specs.Table.{Table, shape_at, descend}
+use Rattle.c_types.specs.Table.{Table, is_function_shape, shape_at, descend}
 use Rattle.c_tree.specs.declared.leaf.Identifier.{Identifier}
 use Rattle.c_tree.specs.TypedTree.{TypedTranslationUnit}
 use Rattle.c_tree.specs.TypedParts.{DefinedFunction, declared_type, name_of, functions_of}
-use Rattle.c_typing.specs.declared.declared.Declared.{Declared}
-use Rattle.c_typing.specs.declared.declared.Declared.TheVariants as declared
-use Rattle.c_typing.specs.Scopes.{entry_of}
-use Rattle.c_unit_typing.specs.Units.{bytes_of_name}
-use Rattle.c_unit_typing.specs.WellTyped.{IsWellTyped, known_before}
-use Rattle.c_ready.specs.Ready.{IsAlike, IsReadyFunction, static_stage}
+use Rattle.c_ready.specs.Rows.{bytes_of_name}
+use Rattle.c_ready.specs.Ready.{Stage, IsAlike, IsFunctionDeclared, IsReadyFunction, IsReadyUnit, static_stage}
 use Rattle.c_ready.proofs.Basics.{at-index, bytes-same, eq_from}
 use Rattle.c_ready.proofs.ReadyFunctions.{result-in}
-use Rattle.c_ready.proofs.ReadyWhole.{IsDefinedIn, unit-defined}
+use Rattle.c_ready.proofs.Gathered.{functions-declared}
 use Rattle.unit_sites.proofs.NamesAlike.{same-shapes}
 use Rattle.src_machine.specs.Machine.{is_main}
+use Rattle.src_machine.specs.Names.{declarators_in}
 use Rattle.cil_form.specs.declared.program.Function.{Function}
 use Rattle.cil_form.specs.declared.program.Program.{Program}
 use Rattle.cil_form.specs.Shape.{IsMain}
@@ -30,8 +27,8 @@ use Rattle.lower_rules.specs.Units as lowered
 use Rattle.lower_shape.specs.Lowered.{IsLoweredFrom}
 use Rattle.lower_shape.proofs.Addresses.{In}
 use Rattle.lower_shape.proofs.Bodies.{same-type}
-use Rattle.lower_shape.proofs.Known.{unit-ready, code-at, functions-have_names}
-use Rattle.lower_shape.proofs.Lists.{in-contained, at-in}
+use Rattle.lower_shape.proofs.Known.{code-at}
+use Rattle.lower_shape.proofs.Lists.{all-in}
 
 -- The first that passes a test
 
@@ -174,32 +171,41 @@ named-main o id e h =
     subst (λ (x : Option Identifier). is_main x ≡ true) (sym e)
     (subst (λ (n : List ℕ). bytes_eq n (codes "main") ≡ true) (sym (ap bytes_of_name (sym e) ∙ h)) (bytes-refl (codes "main")))
 
-function_type : Option Declared → TypeId → TypeId
-function_type (Some (declared.Function t)) u = t
-function_type other u = u
+-- what stands at a place of a list is in it
+slice-in : {A : Type 0} (xs : List A) (i : ℕ) (x : A) → slice_get xs i ≡ Some x → In x xs
+slice-in xs i x e = at-index (λ y. In y xs) xs (all-in xs) i x e
 
-same-function : (t u : TypeId) → Some (declared.Function t) ≡ Some (declared.Function u) → t ≡ u
-unfolding function_type
-same-function t u h = ap (λ (x : Option Declared). function_type x t) h
-
-module _ (u : TypedTranslationUnit) (p : Program) (w : IsWellTyped p.types u) (l : IsLoweredFrom u p) where
+module _ (u : TypedTranslationUnit) (p : Program) (w : IsReadyUnit p.types u) (l : IsLoweredFrom u p) where
   abbrev test : DefinedFunction → Bool
   test f = is_main (name_of f.declarator)
 
   abbrev all : List DefinedFunction
   all = functions_of u
 
+  abbrev static : Stage
+  static = static_stage p.types u
+
   own : In w.main.main all
-  own = in-contained all w.main.main w.main.there
+  own = slice-in all w.main.number w.main.main w.main.there
 
   own-main : test w.main.main ≡ true
   own-main =
-      let name = at-in (λ (f : DefinedFunction). (id : Identifier) × (name_of f.declarator ≡ Some id)) all w.main.main
-      (functions-have_names p.types u (known_before u) w.after w.typed) own in
-      named-main (name_of w.main.main.declarator) name.0 name.1 w.main.named
+      let f = at-index (IsReadyFunction static) all w.functions w.main.number w.main.main w.main.there in
+      named-main (name_of w.main.main.declarator) f.name f.named w.main.named
 
   here : position_or_len test all < length all
   here = first-here test w.main.main all own own-main
+
+  -- a function with this name is declared where it is defined
+  main-declared : (i : ℕ) (d : DefinedFunction) → slice_get all i ≡ Some d → test d ≡ true
+      → IsFunctionDeclared static (codes "main") (declared_type d.declarator)
+  main-declared i d there e =
+      let f = at-index (IsReadyFunction static) all w.functions i d there in (
+        d.declarator,
+        at-index (λ (g : DefinedFunction). Contains (declarators_in u) g.declarator) all (functions-declared u) i d there,
+        (f.name, f.named, ap bytes_of_name (sym f.named) ∙ main-named (name_of d.declarator) e),
+        refl,
+      )
 
   pub main-there : (f : Function) × (slice_get p.functions p.main.0 ≡ Some f) × IsMain p f
   main-there =
@@ -208,17 +214,11 @@ module _ (u : TypedTranslationUnit) (p : Program) (w : IsWellTyped p.types u) (l
       let number : p.main.0 ≡ i = l.code.main ∙ position-there test all here in
       let d = found.0 in
       let at = code-at p.types (lowered.homes_of u) all p.functions l.code.functions i d found.1 in
-      let defined = unit-defined p.types w.basic.formed u (known_before u) w.after w.typed in
-      let mine = at-index (IsDefinedIn p.types w.after.linked) all defined i d found.1 in
-      let other = at-in (IsDefinedIn p.types w.after.linked) all w.main.main defined own in
-      let names : bytes_of_name (name_of d.declarator) ≡ bytes_of_name (name_of w.main.main.declarator) =
-      main-named (name_of d.declarator) found.2 ∙ sym (main-named (name_of w.main.main.declarator) own-main) in
-      let first : mine.0 ≡ other.0 =
-      same-function mine.0 other.0 (sym mine.1 ∙ (ap (λ n. entry_of w.after.linked n) names ∙ other.1)) in
-      let of-main = alike-left p.types other.0 (declared_type w.main.main.declarator) other.2 (w.main.result, w.main.shape.1, w.main.gives.1) in
-      let of-mine = alike-right p.types mine.0 (declared_type d.declarator) mine.2 (subst (λ x. TakesNothing p.types (shape_at p.types x))
-      (sym first) of-main) in
-      let ready = at-index (IsReadyFunction (static_stage p.types u)) all (unit-ready u p w l).functions i d found.1 in
+      let ready = at-index (IsReadyFunction static) all w.functions i d found.1 in
+      let alike = w.alike (codes "main") (declared_type d.declarator) (declared_type w.main.main.declarator) (main-declared i d found.1 found.2)
+      (main-declared w.main.number w.main.main w.main.there own-main) (ap is_function_shape ready.types.1) (ap is_function_shape w.main.shape.1) in
+      let of-main = alike-left p.types alike.0 (declared_type w.main.main.declarator) alike.2 (w.main.result, w.main.shape.1, w.main.gives.1) in
+      let of-mine = alike-right p.types alike.0 (declared_type d.declarator) alike.1 of-main in
       let type = same-type u p w l d at.0 at.2 in (
         at.0,
         ap (λ n. slice_get p.functions n) number ∙ at.1,

@@ -19,7 +19,7 @@ use Rattle.c_tree.specs.declared.typed_word.Runtime.{Runtime}
 use Rattle.c_tree.specs.declared.typed_word.Runtime.TheVariants as function
 use Rattle.c_tree.specs.declared.typed_word.Side.{Side}
 use Rattle.c_tree.specs.declared.typed_word.Side.TheVariants as side
-use Rattle.c_typing.specs.Rules.{IsLvalue}
+use Rattle.c_ready.specs.Rows.{IsLvalue}
 use Rattle.c_ready.specs.Ready.{Stage, IsReady, IsReadyPlace, AreReady}
 use Rattle.src_mem.specs.Operations.{pointee_at}
 use Rattle.src_machine.specs.Expressions.{is_or, is_subtract, operator_of, operator_of_step, operator_of_assignment, is_through_pointer, same_type}

@@ -6,7 +6,7 @@ use Rattle.c_types.specs.declared.shape.TypeShape.{TypeShape}
 use Rattle.c_types.specs.declared.shape.TypeShape.TheVariants as shape
 use Rattle.c_types.specs.Table.{Table, IsComplete, is_complete_entry, IsAggregate, is_aggregate_shape, shape_at, members_at, descend}
 use Rattle.c_types.specs.Layouts.{size_of, layout_of, layout_of_shape, layout_step, no_layout, offset_of, member_at}
-use Rattle.c_unit_typing.specs.Initialisers.{IsSlot, Slot, slot_of_shape}
+use Rattle.c_ready.specs.Rows.{IsSlot, Slot, slot_of_shape}
 use Rattle.cil_form.specs.Typing.{IsPart, whole, in_member, in_element}
 
 -- a part of a part

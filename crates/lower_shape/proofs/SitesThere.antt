@@ -20,10 +20,9 @@ use Rattle.c_tree.specs.declared.typed_word.Conversion.TheVariants as conversion
 use Rattle.c_tree.specs.TypedTree as typed
 use Rattle.c_tree.specs.TypedTree.{TypedExpr, TypedPlace, TypedSpecifier, TypedDeclarator, TypedInitialiser, TypedItems, TypedTranslationUnit}
 use Rattle.c_tree.specs.TypedParts.{MadeObject, DefinedFunction, type_of, place_type, named_type, pointer_side, home_of, name_of, declared_type, statics_of, functions_of, nodes_made, made_by_unit}
-use Rattle.c_typing.specs.Rules as rule
+use Rattle.c_ready.specs.Rows as rule
 use Rattle.c_typing.specs.Shapes as shapes
-use Rattle.c_unit_typing.specs.WellTyped.{IsWellTyped}
-use Rattle.c_ready.specs.Ready.{Stage, Named, IsNode, IsWhole, IsObjectOf, Fits, IsPointerToWhole, IsReady, IsReadyPlace, IsReadySpecifier, IsReadyInitialiser, AreReadyItems, IsReadyFunction, is_of_kind, static_stage}
+use Rattle.c_ready.specs.Ready.{Stage, Named, IsNode, IsWhole, IsObjectOf, Fits, IsPointerToWhole, IsReady, IsReadyPlace, IsReadySpecifier, IsReadyInitialiser, AreReadyItems, IsReadyFunction, is_of_kind, static_stage, IsReadyUnit}
 use Rattle.c_ready.proofs.Basics.{unmap}
 use Rattle.c_ready.proofs.Suits.{is_in}
 use Rattle.src_mem.specs.Memory.{Planned}
@@ -36,10 +35,10 @@ use Rattle.src_machine.specs.Pieces.{Piece, pieces_of_unit}
 use Rattle.src_machine.specs.Sites.{address_at, addresses_at, linked_to, moves, moves_where_pointer, sites_of_conversion, sites_of_comparison, sites_of_expression, sites_of_place, sites_of_aggregate, sites_of_specifier, copies_in, copies_in_items, copies_to, sites_of_piece, sites_of_homes, same_as, sites_of_names, sites_of}
 use Rattle.cil_form.specs.Shape.{IsSiteInShape}
 use Rattle.unit_sites.proofs.Elements.{only, pair, flat}
-use Rattle.unit_sites.proofs.NamesAlike.{function-in, first-of}
+use Rattle.c_ready.proofs.Suits.{function-in}
+use Rattle.unit_sites.proofs.NamesAlike.{first-of}
 use Rattle.unit_sites.proofs.ObjectsAlike.{Names, objects_made, objects-named}
 use Rattle.unit_sites.proofs.PiecesReady.{unit-pieces}
-use Rattle.c_ready.proofs.ReadyUnit.{well-typed-ready}
 use Rattle.unit_sites.proofs.FramesNamed.{frame-named}
 
 -- each pointer type has a node of the unit, and what it points to is a type
@@ -214,7 +213,7 @@ IsPieceFine T n piece = ArePointersIn T n → All (IsSiteInShape T n) (sites_of_
 
 -- The whole
 
-module _ (T : Table) (u : TypedTranslationUnit) (w : IsWellTyped T u) where
+module _ (T : Table) (u : TypedTranslationUnit) (w : IsReadyUnit T u) where
   abbrev count : ℕ
   count = length (nodes_made (made_by_unit u))
 
@@ -226,7 +225,7 @@ module _ (T : Table) (u : TypedTranslationUnit) (w : IsWellTyped T u) where
 
   pointers-in : ArePointersIn T count
   pointers-in t m v h = (
-    (well-typed-ready T u w).nodes t v m h,
+    w.nodes t v m h,
     All-head (IsType T) v [] (subst (λ (x : TypeShape). All (IsType T) (named_by x)) h.1 (w.basic.formed.each t).named),
   )
 
@@ -274,17 +273,17 @@ module _ (T : Table) (u : TypedTranslationUnit) (w : IsWellTyped T u) where
       (All-map (IsSiteInShape T count) (λ (o : MadeObject). site.Home o.home o.type) (statics_of u)
       (All-weaker (λ (o : MadeObject). IsNode static o.home × IsWhole static o.type) (λ (o : MadeObject). IsSiteInShape T count
       (site.Home o.home o.type))
-      (λ o q. (q.0, q.1.0)) (statics_of u) (well-typed-ready T u w).objects.plans))
+      (λ o q. (q.0, q.1.0)) (statics_of u) w.objects.plans))
       (flat (IsSiteInShape T count) (λ f. map (λ (v : Planned). site.Home v.node v.type) (variables_of (head_of f))) (functions_of u)
       (All-weaker (IsReadyFunction static) (λ f. There (map (λ (v : Planned). site.Home v.node v.type) (variables_of (head_of f)))) frame-there
-      (functions_of u) (well-typed-ready T u w).functions))
+      (functions_of u) w.functions))
 
   pieces-there : There (flat_map (sites_of_piece T) (pieces_of_unit u))
   pieces-there =
       flat (IsSiteInShape T count) (sites_of_piece T) (pieces_of_unit u)
       (All-weaker (IsPieceFine T count) (λ piece. There (sites_of_piece T piece)) (λ piece h. h pointers-in) (pieces_of_unit u)
       (unit-pieces IsPieceFine (λ k e r q. value-fine k q e r) (λ k p r q. place-fine k q p r) (λ k x r q. specifier-fine k q x r)
-      (λ k d t i h r q. initialiser-fine k q (object_node (home_of d)) t i h r) static u (well-typed-ready T u w).externals))
+      (λ k d t i h r q. initialiser-fine k q (object_node (home_of d)) t i h r) static u w.externals))
 
   -- the types of what is declared
   named-in : (d : TypedDeclarator) → Names static (objects_made u) d → All (λ (x : names.Named). IsType T x.type) (names.named_by T d)
@@ -309,7 +308,7 @@ module _ (T : Table) (u : TypedTranslationUnit) (w : IsWellTyped T u) where
   all-named_in =
       flat (λ (x : names.Named). IsType T x.type) (names.named_by T) (declarators_in u)
       (All-weaker (Names static (objects_made u)) (λ d. All (λ (x : names.Named). IsType T x.type) (names.named_by T d)) named-in (declarators_in u)
-      (objects-named T u (well-typed-ready T u w).externals))
+      (objects-named T u w.externals))
 
   same-there : (t : TypeId) (o : Option TypeId) → IsType T t → ((first : TypeId) → o ≡ Some first → IsType T first) → There (same_as t o)
   same-there t None q h = All-nil (IsSiteInShape T count)

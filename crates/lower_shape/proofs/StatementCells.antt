@@ -13,7 +13,7 @@ use Rattle.c_tree.specs.TypedParts as made
 use Rattle.c_tree.specs.TypedParts.{Made, StaticInitialiser, type_of, place_type, place_at, item_place, home_of, home_of_form, declared_type, static_home, initialises, initialisers_in_declarators, initialisers_in_declaration, initialisers_in, initialisers_in_items, made_by, made_by_place, made_by_specifiers, made_by_declarator, made_by_initialiser, made_by_items, made_by_init_declarators, made_by_declaration, made_by_optional, made_by_statement, made_by_block_items}
 use Rattle.c_tree.specs.declared.typed_word.Home.{Home}
 use Rattle.c_tree.specs.declared.typed_word.Home.TheVariants as home
-use Rattle.c_unit_typing.specs.Units.{Around, in_a_loop, in_a_switch}
+use Rattle.c_ready.specs.Rows.{Around, in_a_loop, in_a_switch}
 use Rattle.c_ready.specs.Ready.{Stage, IsReadyInitialiser, AreReadyItems, AreReadyDeclarators, IsReadyDeclaration, IsReadyStatement, AreReadyBlockItems, initialised_in}
 use Rattle.src_mem.specs.Uses.{pointer_offsets}
 use Rattle.src_machine.specs.Statements.{labels, otherwise, element_of_shape, clears}

@@ -12,8 +12,7 @@ use Rattle.c_tree.specs.TypedTree.{TypedExpr, TypedStatement, TypedBlockItems, T
 use Rattle.c_tree.specs.TypedParts.{type_of, place_at, item_place, home_of}
 use Rattle.c_tree.specs.declared.typed_word.Home.{Home}
 use Rattle.c_tree.specs.declared.typed_word.Home.TheVariants as home
-use Rattle.c_unit_typing.specs.Initialisers.{is_only_text, is_char_array}
-use Rattle.c_unit_typing.specs.Units.{Around, in_a_loop, in_a_switch}
+use Rattle.c_ready.specs.Rows.{is_only_text, is_char_array, Around, in_a_loop, in_a_switch}
 use Rattle.c_ready.specs.Ready.{Stage, IsReady, IsReadyStatement, AreReadyBlockItems, IsReadyOptional, IsReadyTestOrNone, IsReadyInitialiser, AreReadyItems, AreReadyDeclarators, IsReadyDeclaration, initialised_in}
 use Rattle.src_machine.specs.Statements.{labels, otherwise, element_of_shape, clears}
 use Rattle.cil_form.specs.declared.number.Object.{Object}

@@ -11,7 +11,7 @@ use Rattle.c_tree.specs.TypedParts.{type_of}
 use Rattle.c_typing.specs.Integers.{promoted}
 use Rattle.c_typing.specs.Shapes.{is_scalar_shape}
 use Rattle.c_unit_typing.specs.Holding.{expr_holds, optional_holds, statement_holds, block_items_holds}
-use Rattle.c_unit_typing.specs.Units.{Around, in_a_loop, in_a_switch}
+use Rattle.c_ready.specs.Rows.{Around, in_a_loop, in_a_switch}
 use Rattle.c_ready.specs.Ready.{Stage, IsReadyStatement, AreReadyBlockItems, IsReadyOptional, IsReadyTest, IsReadyTestOrNone, IsReadyReturn}
 use Rattle.src_machine.specs.Statements.{labels, otherwise}
 use Rattle.src_machine.specs.Pieces.{Piece, pieces_of, pieces_of_optional, pieces_of_statement, pieces_of_block_items, pieces_of_declaration}

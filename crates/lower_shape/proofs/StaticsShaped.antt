@@ -12,10 +12,9 @@ use Rattle.c_types.specs.Table.{Table, HasShape}
 use Rattle.c_tree.specs.declared.leaf.StringPiece.{StringPiece}
 use Rattle.c_tree.specs.TypedTree.{TypedTranslationUnit}
 use Rattle.c_tree.specs.TypedParts.{MadeObject, statics_of}
-use Rattle.c_typing.specs.Rules.{pieces_bytes}
+use Rattle.c_ready.specs.Rows.{pieces_bytes}
 use Rattle.c_unit_typing.specs.Limits.{IsWithinLimits, global_bytes}
-use Rattle.c_unit_typing.specs.WellTyped.{IsWellTyped}
-use Rattle.c_ready.specs.Ready.{Stage, IsNode, IsWhole, IsTextOf, static_stage}
+use Rattle.c_ready.specs.Ready.{Stage, IsNode, IsWhole, IsTextOf, static_stage, IsReadyUnit}
 use Rattle.c_ready.proofs.Basics.{unmap}
 use Rattle.src_mem.specs.Memory.{charge_of}
 use Rattle.src_mem.specs.Runs as runs
@@ -25,7 +24,6 @@ use Rattle.cil_form.specs.declared.program.Static.{Static}
 use Rattle.cil_form.specs.Shape.{IsStaticInShape, IsText, globals_limit}
 use Rattle.lower_shape.specs.Lowered.{IsLoweredFrom, AreBytes}
 use Rattle.lower_shape.proofs.Functions.{all-both}
-use Rattle.lower_shape.proofs.Known.{unit-ready}
 use Rattle.lower_shape.proofs.Lists.{all-each}
 
 -- a literal fills an array of chars
@@ -43,7 +41,7 @@ text-shaped : (T : Table) (t : TypeId) (o : Option (List ℕ)) → Fills T t o �
 text-shaped T t None h g = tt
 text-shaped T t (Some text) h g = (h.0, h.1, h.2, h.3, h.4, h.5, g)
 
-module _ (u : TypedTranslationUnit) (p : Program) (w : IsWellTyped p.types u) (l : IsLoweredFrom u p) where
+module _ (u : TypedTranslationUnit) (p : Program) (w : IsReadyUnit p.types u) (l : IsLoweredFrom u p) where
   abbrev static : Stage
   static = static_stage p.types u
 
@@ -57,7 +55,7 @@ module _ (u : TypedTranslationUnit) (p : Program) (w : IsWellTyped p.types u) (l
       (λ (o : MadeObject). IsFine (record { type = o.type; home = o.home; text = option_map source.text_of o.literal }))
       (λ o q. (q.0, filled p.types o.type o.literal q.1)) (statics_of u)
       (all-both (λ (o : MadeObject). IsNode static o.home × IsWhole static o.type) (λ (o : MadeObject). IsTextOf static.table o.type o.literal)
-      (statics_of u) (unit-ready u p w l).objects.plans (unit-ready u p w l).objects.texts))
+      (statics_of u) w.objects.plans w.objects.texts))
 
   abbrev as_static : Static → runs.Static
   as_static o = record { type = o.planned.ty; home = o.planned.home; text = o.text }

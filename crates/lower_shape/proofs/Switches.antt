@@ -10,7 +10,7 @@ use Rattle.integers.specs.Arithmetic.{IntegerType, converted, int}
 use Rattle.integers.proofs.WordLaws.{residue-small}
 use Rattle.c_tree.specs.TypedTree as typed
 use Rattle.c_tree.specs.TypedTree.{TypedBlockItems}
-use Rattle.c_unit_typing.specs.Units.{Around}
+use Rattle.c_ready.specs.Rows.{Around}
 use Rattle.c_ready.specs.Ready.{Stage, AreReadyBlockItems}
 use Rattle.src_machine.specs.Statements.{labels, otherwise, default_or}
 use Rattle.cil_form.specs.declared.number.Temp.TheVariants as temp

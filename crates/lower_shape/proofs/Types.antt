@@ -15,9 +15,8 @@ use Rattle.c_tree.specs.TypedTree as typed
 use Rattle.c_tree.specs.TypedTree.{TypedExpr}
 use Rattle.c_tree.specs.TypedParts.{type_of, is_null}
 use Rattle.c_typing.specs.Shapes.{IsIntegerType, is_scalar_shape}
-use Rattle.c_typing.specs.Conversions.{IsOperand, IsPlain}
+use Rattle.c_ready.specs.Rows.{IsOperand, IsPlain, BothPoint, meeting_of}
 use Rattle.c_typing.specs.Integers as integers
-use Rattle.c_typing.specs.Rules.{BothPoint, meeting_of}
 use Rattle.c_ready.proofs.Suits.{operand-type}
 use Rattle.src_mem.specs.Operations.{node_of_shape, pointee_of_shape, node_at, pointee_at, integer_of_shape}
 use Rattle.cil_form.specs.declared.number.Temp.{Temp}

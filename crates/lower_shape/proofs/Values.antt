@@ -20,8 +20,8 @@ use Rattle.c_tree.specs.TypedTree.{TypedExpr}
 use Rattle.c_tree.specs.TypedParts.{type_of, pointer_side}
 use Rattle.c_typing.specs.Shapes.{IsIntegerType, IsPointerTo}
 use Rattle.c_typing.specs.Integers as integers
-use Rattle.c_typing.specs.Rules as rule
-use Rattle.c_typing.specs.Rules.{IsArithmetic, IsPromoted, Meeting, BothPoint, NeverMeet, RightIsNull, LeftIsNull, meeting, meeting_of, AreOrdered, AreEquated, IsCompared, other_side}
+use Rattle.c_ready.specs.Rows as rule
+use Rattle.c_ready.specs.Rows.{IsArithmetic, IsPromoted, Meeting, BothPoint, NeverMeet, RightIsNull, LeftIsNull, meeting, meeting_of, AreOrdered, AreEquated, IsCompared, other_side}
 use Rattle.c_ready.specs.Ready.{Stage, Fits, IsFunctionNamed, IsPointerToWhole, IsWhole}
 use Rattle.c_ready.proofs.Suits.{integer-from}
 use Rattle.src_mem.specs.Operations.{integer_of_shape}

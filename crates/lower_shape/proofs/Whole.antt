@@ -8,6 +8,8 @@ use Rattle.c_tree.specs.TypedTree.{TypedTranslationUnit}
 use Rattle.c_tree.specs.TypedParts.{functions_of, made_by_unit, nodes_made}
 use Rattle.c_unit_typing.specs.Limits.{IsWithinLimits}
 use Rattle.c_unit_typing.specs.WellTyped.{IsWellTyped}
+use Rattle.c_ready.specs.Ready.{IsReadyUnit}
+use Rattle.c_ready.proofs.ReadyUnit.{well-typed-ready}
 use Rattle.cil_form.specs.declared.program.Program.{Program}
 use Rattle.cil_form.specs.Shape.{IsInShape, IsSiteInShape}
 use Rattle.lower_rules.specs.Units as lowered
@@ -20,9 +22,9 @@ use Rattle.lower_shape.proofs.StaticsShaped.{statics-in_shape, globals-few}
 use Rattle.lower_shape.proofs.UnitParts.{bodies-within, statics-within}
 use Rattle.lower_shape.proofs.WholeCells.{cells-few}
 
-pub program-shaped : (u : TypedTranslationUnit) (p : Program) → IsWellTyped p.types u → IsWithinLimits p.types u → unit_height (erased_unit u) ≤ 256
+ready-shaped : (u : TypedTranslationUnit) (p : Program) → IsReadyUnit p.types u → IsWithinLimits p.types u → unit_height (erased_unit u) ≤ 256
     → IsLoweredFrom u p → IsInShape p
-program-shaped u p w limits height l = record {
+ready-shaped u p w limits height l = record {
   formed = w.basic.formed;
   nodes = subst (λ n. All (λ (e : Entry). AreNodesOf n e.shape) p.types) (sym l.nodes) (table-nodes p.types u w);
   sites =
@@ -36,3 +38,7 @@ program-shaped u p w limits height l = record {
   main = main-there u p w l;
   cells = cells-few u p w l limits;
 }
+
+pub program-shaped : (u : TypedTranslationUnit) (p : Program) → IsWellTyped p.types u → IsWithinLimits p.types u → unit_height (erased_unit u) ≤ 256
+    → IsLoweredFrom u p → IsInShape p
+program-shaped u p typed limits height l = ready-shaped u p (well-typed-ready p.types u typed) limits height l

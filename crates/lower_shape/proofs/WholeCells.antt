@@ -13,8 +13,7 @@ use Rattle.c_tree.specs.TypedTree as typed
 use Rattle.c_tree.specs.TypedTree.{TypedDeclarator, TypedInitialiser, TypedInitDeclarators, TypedDeclaration, TypedTranslationUnit}
 use Rattle.c_tree.specs.TypedParts.{DefinedFunction, StaticInitialiser, home_of, declared_type, static_home, initialises, initialisers_in_declarators, initialisers_in_declaration, initialisers_in_items, static_initialisers, functions_of, made_by_unit, made_by_specifiers, made_by_declarator, made_by_initialiser, made_by_init_declarators, made_by_declaration, made_by_block_items}
 use Rattle.c_unit_typing.specs.Limits.{IsWithinLimits}
-use Rattle.c_unit_typing.specs.WellTyped.{IsWellTyped}
-use Rattle.c_ready.specs.Ready.{Stage, IsReadyFunction, IsReadyStatic, body_stage, static_stage}
+use Rattle.c_ready.specs.Ready.{Stage, IsReadyFunction, IsReadyStatic, body_stage, static_stage, IsReadyUnit}
 use Rattle.cil_form.specs.declared.program.Function.{Function}
 use Rattle.cil_form.specs.declared.program.Program.{Program}
 use Rattle.cil_form.specs.Shape.{cells_moved_by, cells_limit}
@@ -23,7 +22,6 @@ use Rattle.lower_rules.specs.Units as lowered
 use Rattle.lower_rules.specs.Units.{IsCodeOfFunction, AreCodeOf, outermost}
 use Rattle.lower_shape.specs.Lowered.{IsLoweredFrom}
 use Rattle.lower_shape.proofs.Cells.{counted, counted-both, Moved, moved-line, moved-then}
-use Rattle.lower_shape.proofs.Known.{unit-ready}
 use Rattle.lower_shape.proofs.StatementCells.{counted_in, counted_in-both, object-moved, block-moved}
 
 -- Static initialisers among what is made outside functions
@@ -88,7 +86,7 @@ module _ (T : Table) where
         sum_by_push of_statics (functions_of u) f,
       )
 
-module _ (u : TypedTranslationUnit) (p : Program) (w : IsWellTyped p.types u) (l : IsLoweredFrom u p) where
+module _ (u : TypedTranslationUnit) (p : Program) (w : IsReadyUnit p.types u) (l : IsLoweredFrom u p) where
   abbrev static : Stage
   static = static_stage p.types u
 
@@ -131,8 +129,8 @@ module _ (u : TypedTranslationUnit) (p : Program) (w : IsWellTyped p.types u) (l
   cells-few limits =
       omega (
         arith,
-        statics-counted (static_initialisers u) (unit-ready u p w l).initialisers p.initialisers.0.items l.code.initialisers,
-        bodies-counted (functions_of u) p.functions (unit-ready u p w l).functions l.code.functions,
+        statics-counted (static_initialisers u) w.initialisers p.initialisers.0.items l.code.initialisers,
+        bodies-counted (functions_of u) p.functions w.functions l.code.functions,
         unit-counted p.types u,
         limits.cells,
       )

@@ -12,7 +12,7 @@ use Rattle.c_tree.specs.TypedTree.{TypedExpr}
 use Rattle.c_tree.specs.TypedParts.{type_of, named_type}
 use Rattle.c_typing.specs.Shapes.{is_scalar_shape}
 use Rattle.c_typing.specs.Constants.{constant_value, with_value, is_zero_value, is_zero_constant, is_cast_zero, is_null_constant, is_void_pointer, is_void_pointer_shape, converted_value}
-use Rattle.c_typing.specs.Rules.{IsPrefix}
+use Rattle.c_ready.specs.Rows.{IsPrefix}
 use Rattle.cc_base.specs.declared.place.Place.{Place}
 use Rattle.cc_base.specs.declared.number.TypeId.{TypeId}
 use Rattle.c_ready.specs.Ready.{Stage, IsReady, Fits}

@@ -25,13 +25,13 @@ use Rattle.lower_statements.specs.declared.switching.Labels.{Labels}
 use Rattle.lower_initialisers.proofs.Laws.{one_more}
 
 -- where something holds, before what else is appended
-pub grows_where : (A R : Type 0) (P : Form) (a b c : Draft) → Grows (When A (Line [])) A a b → Grows P R b c → Grows (When A P) (A × R) a c
+pub grows_where : (A R : Type 0) (P : Form) (a b c : Draft) → Grows (When A (Line [])) (Unit {0}) a b → Grows P R b c → Grows (When A P) R a c
 unfolding Grows When Line
 grows_where A R P a b c f g = (
   λ fine.
       let q = g.0 fine in let p = f.0 q.0 in
       (p.0, (q.1.0, (p.1.1.0, q.1.1), q.1.2 ∙ ap (λ m. m ++ q.1.0) (p.1.2 ∙ ap (λ m. a.items.items ++ m) p.1.1.1 ∙ append-nil a.items.items))),
-  λ r e. g.1 r.1 (f.1 r.0 e),
+  λ r e. g.1 r (f.1 tt e),
 )
 
 -- code behind two pieces

@@ -7,7 +7,7 @@ use Rattle.lower_rules.specs.Statements.{Nesting, in_loop, in_switch}
 use Rattle.lower_exprs.specs.Ready.{HasCode}
 use Rattle.lower_initialisers.specs.Ready.{HasCodeOfDeclaration}
 use Rattle.lower_statements.specs.declared.nesting.Nesting.{Nesting as CodeNesting}
-use Rattle.lower_statements.specs.Switches.{IsFew, Nests}
+use Rattle.lower_statements.specs.Switches.{Nests}
 
 -- what the relation of trees and code sees of how a statement is nested
 abbrev pub nesting_of : CodeNesting → Nesting
@@ -29,7 +29,7 @@ abbrev mutual
   HasCodeOfStatement (typed.If at paren c s) k v = HasCode c k 0 × (HasCodeOfStatement s k v × Unit {0})
   HasCodeOfStatement (typed.IfElse at paren c s r) k v = HasCode c k 0 × (HasCodeOfStatement s k v × HasCodeOfStatement r k v)
   HasCodeOfStatement (typed.Switch at paren e brace items) k v =
-      IsFew items × (HasCode e k 0 × (Unit {0} × (Unit {0} × (Nests v × HasCodeOfBlock items k (in_switch v)))))
+      HasCode e k 0 × (Unit {0} × (Unit {0} × (Nests v × HasCodeOfBlock items k (in_switch v))))
   HasCodeOfStatement (typed.While at paren c s) k v = HasCodeOfTest (Some c) k × HasCodeOfStatement s k (in_loop v)
   HasCodeOfStatement (typed.DoWhile s at paren c) k v = HasCodeOfStatement s k (in_loop v) × HasCodeOfTest (Some c) k
   HasCodeOfStatement (typed.For at paren first c step s) k v =

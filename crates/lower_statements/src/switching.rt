@@ -1,6 +1,6 @@
 //! What the code of a `switch` has beside the code of its statements (C99 6.8.4.2): the choice of the label where it begins, and the guards
 //! of its pieces.
-ghost use Rattle.std.specs.Prelude.{◌≡◌, ◌≤◌, ◌<◌, suc, pos, true, [], ◌∷◌};
+ghost use Rattle.std.specs.Prelude.{◌≡◌, ◌≤◌, ◌<◌, length, suc, pos, true, [], ◌∷◌};
 ghost use Rattle.c_tree.specs.TypedTree.{TypedBlockItems};
 ghost use Rattle.c_tree.specs.TypedParts.{type_of};
 ghost use Rattle.c_tree.specs.TypedViews.{typed_expr_view};
@@ -19,7 +19,7 @@ use crate::nesting::Nesting;
 use c_tree::{TypedBlockItem, TypedExpr};
 use cc_base::{Place, TypeId};
 use cil_form::{Calculate, Code, Comparison, Convert, Instr, Operator, Set, Temp, Work};
-use lower_exprs::{Draft, Scope, choose, keep, put, refuse, start};
+use lower_exprs::{Draft, Scope, choose, keep, put, start};
 
 /// `unsigned long`, the type of labels' numbers.
 const UNSIGNED_LONG: TypeId = TypeId(8);
@@ -54,7 +54,8 @@ fn with_item(before: Labels, item: &TypedBlockItem) -> Labels
 
 /// The labels of a block.
 fn labels_in(items: &[TypedBlockItem]) -> Labels
-    ensures { AreLabels (typed_block_view items.now) result }
+    ensures labels { AreLabels (typed_block_view items.now) result }
+    ensures few { result.count ≤ length items.now }
 {
     let mut labels = Labels {
         count: 0,
@@ -66,14 +67,14 @@ fn labels_in(items: &[TypedBlockItem]) -> Labels
     labels
 }
 
-/// Only where the labels have numbers.
-pub(crate) fn demand_labels(out: &mut Draft, items: &[TypedBlockItem])
-    ensures { Grows (When (IsFew (typed_block_view items.now)) (Line [])) (IsFew (typed_block_view items.now)) out.old out.new }
+/// Appends nothing: a block has no more labels than items, and fewer than 2^64 - 1 of these, so that its labels have numbers.
+pub(crate) fn labels_fit(out: &mut Draft, items: &[TypedBlockItem])
+    ensures { Grows (When (IsFew (typed_block_view items.now)) (Line [])) (Unit {0}) out.old out.new }
 {
     if labels_in(items).count < usize::MAX {
         keep(out)
     } else {
-        refuse(out)
+        unreachable!()
     }
 }
 

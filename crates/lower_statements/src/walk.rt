@@ -8,7 +8,7 @@ ghost use Rattle.lower_statements.specs.Switches.{Pieces};
 
 use crate::nesting::{Nesting, in_loop, in_switch};
 use crate::pieces::{condition, effect, put_block, put_loop, put_return, test};
-use crate::switching::{close, demand_labels, put_begin, put_piece, put_tests, switch_of};
+use crate::switching::{close, labels_fit, put_begin, put_piece, put_tests, switch_of};
 use c_tree::{TypedBlockItem, TypedStatement};
 use cc_base::Place;
 use cil_form::Instr;
@@ -84,7 +84,7 @@ pub fn statement(out: &mut Draft, k: &Scope<'_>, v: Nesting, s: &TypedStatement)
         }
         TypedStatement::Switch(at, _, e, _, items) => {
             let items = items.as_slice();
-            demand_labels(out, items);
+            labels_fit(out, items);
             let mut inner = start(k);
             expr(&mut inner, k, 0, e);
             put_begin(&mut inner, v.switches, e, items);

@@ -1,4 +1,5 @@
 pub mod Heads
 pub mod Mains
+pub mod Ready
 pub mod Statics
 pub mod Units

@@ -1,9 +1,10 @@
 -- What the outside of a verdict without a run tells, and the file that is too long.
-use Rattle.std.proofs.Common.{◌≡◌, ℕ, suc, ◌≤◌, ◌<◌, List, [], length, replicate, Option, Some, None, IfSome, sym, ◌∙◌, ap, refl, arith}
-use Rattle.std.proofs.lemmas.List.{length-replicate, append-nil}
-use Rattle.cc_io.specs.Bytes.{Gains, Keeps, Takes}
+use Rattle.std.proofs.Common.{◌≡◌, ℕ, suc, ◌<◌, List, [], ◌++◌, length, replicate, Option, Some, None, IfSome, inl, inr, sym, ◌∙◌, ap, subst, refl, arith}
+use Rattle.std.proofs.lemmas.List.{length-replicate, append-nil, append_assoc}
+use Rattle.cc_io.specs.Bytes.{Gains, Keeps}
+use Rattle.cc_io.specs.Faults.{Rose}
 use Rattle.cured_machine.specs.Runs.{Outside}
-use Rattle.program_answers.specs.Causes.{IsIdle}
+use Rattle.program_answers.specs.Causes.{IsIdle, IsBehind}
 
 pub kept_gains : (before after : Option (List ℕ)) → Keeps before after → Gains before after []
 kept_gains None after kept = tt {0}
@@ -38,3 +39,30 @@ is_told most (Some bytes) = refl
 pub is_long : (most : ℕ) (held : Option (List ℕ)) → IfSome held (λ bytes. most < length bytes) → most < length (long_text most held)
 is_long most None long = rw (length-replicate {A = ℕ} (suc most) 0) (omega arith)
 is_long most (Some bytes) long = long
+
+-- behind no line is all of the output
+pub is_behind_nothing : (output : Outside) → IsBehind [] output output
+is_behind_nothing output =
+    record { written = kept_gains output.before output.before (keeps_itself output.before); later = omega arith; after = refl; faults_after = refl }
+
+gains_both : (before middle after : Option (List ℕ)) (xs ys : List ℕ) → Gains before middle xs → Gains middle after ys → Gains before after (xs ++ ys)
+gains_both None middle after xs ys first second = tt {0}
+gains_both (Some bytes) middle after xs ys first second =
+    let gained : Gains (Some (bytes ++ xs)) after ys = rw first at second in
+    gained ∙ ap Some (append_assoc bytes xs ys)
+
+-- what is written behind lines is written, with these, to the whole output
+pub gains_behind : (lines bytes : List ℕ) (output rest : Outside) → IsBehind lines output rest → Gains rest.before rest.after bytes
+    → Gains output.before output.after (lines ++ bytes)
+gains_behind lines bytes output rest behind gained =
+    gains_both output.before rest.before output.after lines bytes behind.written
+    (subst (λ now. Gains rest.before now bytes) behind.after gained)
+
+-- a count that rose behind lines rose over the whole
+pub rose_behind : (lines : List ℕ) (output rest : Outside) → IsBehind lines output rest → Rose rest.faults_before rest.faults_after
+    → Rose output.faults_before output.faults_after
+rose_behind lines output rest behind (inl more) =
+    let same = behind.faults_after in
+    let later = behind.later in
+    inl (omega arith)
+rose_behind lines output rest behind (inr most) = inr (sym behind.faults_after ∙ most)

@@ -1,4 +1,5 @@
 pub mod Verdicts
+pub mod Summaries
 pub mod Texts
 pub mod Answers
 pub mod Causes

@@ -1,14 +1,17 @@
 -- What the statuses say, one by one.
-use Rattle.std.specs.Prelude.{ℕ, ◌≡◌, List, Some, ◌⊎◌, IfSome}
+use Rattle.std.specs.Prelude.{ℕ, ◌≡◌, ◌≤◌, List, [], ◌++◌, length, Option, Some, ◌⊎◌, IfSome}
 use Rattle.cc_io.specs.Faults.{Rose}
-use Rattle.cc_io.specs.Bytes.{Gains}
+use Rattle.cc_io.specs.Bytes.{Takes, Gains}
+use Rattle.runs.specs.Input.{Open}
 use Rattle.cured_code.specs.declared.parts.Parts.{Parts}
-use Rattle.cured_machine.specs.Runs.{Outside, WasCutOff}
+use Rattle.cured_code.specs.FlatState.{Wants}
+use Rattle.cured_code.specs.FlatMachine.{flat_run}
+use Rattle.cured_machine.specs.Runs.{Outside}
 use Rattle.command_words.specs.declared.command.Action.{Action}
-use Rattle.command_words.specs.Commands.{Command, OnFile}
+use Rattle.command_words.specs.Commands.{Command, OnFile, Make, command_of, default_turns}
 use Rattle.program_answers.specs.declared.verdict.Verdict.TheVariants.{FileFault, InputFault, NoMemory}
 use Rattle.program_answers.specs.Verdicts.{line_of, status_of}
-use Rattle.program_answers.specs.Texts.{Texts, command_in, IsCodeOf, turns_of}
+use Rattle.program_answers.specs.Texts.{Texts, IsCodeOf, IsMadeOf, limit_of, turns_of}
 use Rattle.program_answers.specs.Answers.{Answer, IsAnswerTo}
 use Rattle.program_answers.specs.Causes.{Filed, IsIdle}
 
@@ -32,28 +35,39 @@ pub record GivesAnswer (texts : Texts) (words : List (List ℕ)) (files : Filed)
 pub record IsUnread (texts : Texts) (words : List (List ℕ)) (files : Filed) (input output report : Outside) : Type 0 where
   pub action : Action
   pub name : List ℕ
-  pub command : command_in texts words ≡ Some (OnFile action name)
+  pub command : command_of words ≡ Some (OnFile action name)
   pub rose : FilesFailed files
   pub last : files.last ≡ Some name
   pub idle : IsIdle input output
   pub reported : Gains report.before report.after (line_of FileFault)
 
--- a read of the input failed while code ran that the words ask for; the bytes that were taken make it want more, and the report says so
+-- The words ask for a run of this code with so many turns, behind these lines: the code of a file's text, or that of a generated program.
+pub data IsAskedRun (texts : Texts) (words : List (List ℕ)) (holds : List ℕ → Option (List ℕ)) (lines : List ℕ) (parts : Parts) (turns : ℕ)
+    : Type 0 where
+  of_file : (action : Action) (name text : List ℕ) → command_of words ≡ Some (OnFile action name) → IfSome (holds name) (λ bytes. text ≡ bytes)
+      → length text ≤ limit_of action → IsCodeOf texts action text parts → lines ≡ [] → turns ≡ turns_of action
+      → IsAskedRun texts words holds lines parts turns
+  of_number : (n : ℕ) → command_of words ≡ Some (Make n) → IsMadeOf texts n lines parts → turns ≡ default_turns
+      → IsAskedRun texts words holds lines parts turns
+
+-- A read of the input failed while code ran that the words ask for. The bytes that were taken make it want more; its lines and all its
+-- output were written, and the report says so.
 pub record IsCutOff (texts : Texts) (words : List (List ℕ)) (files : Filed) (input output report : Outside) : Type 0 where
-  pub action : Action
-  pub name : List ℕ
-  pub command : command_in texts words ≡ Some (OnFile action name)
-  pub text : List ℕ
-  pub told : IfSome (files.holds name) (λ bytes. text ≡ bytes)
+  pub lines : List ℕ
   pub parts : Parts
-  pub is_code : IsCodeOf texts action text parts
-  pub cut_off : WasCutOff parts (turns_of action) input output
+  pub turns : ℕ
+  pub asked : IsAskedRun texts words files.holds lines parts turns
+  pub failed : FaultsRose input
+  pub taken : List ℕ
+  pub takes : Takes input.before input.after taken
+  pub wants_more : (flat_run parts (Open taken) turns).ending ≡ Wants
+  pub written : Gains output.before output.after (lines ++ (flat_run parts (Open taken) turns).output)
   pub reported : Gains report.before report.after (line_of InputFault)
 
 -- memory was wanted, and the words are a command; nothing is read or written, and the report says so
 pub record IsOutOfMemory (texts : Texts) (words : List (List ℕ)) (input output report : Outside) : Type 0 where
   pub command : Command
-  pub asked : command_in texts words ≡ Some command
+  pub asked : command_of words ≡ Some command
   pub idle : IsIdle input output
   pub reported : Gains report.before report.after (line_of NoMemory)
 

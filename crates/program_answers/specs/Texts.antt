@@ -1,32 +1,31 @@
 -- What is made of a text, as far as answers speak of it. The program gives these relations; the laws of this crate hold for any.
-use Rattle.std.specs.Prelude.{ℕ, ◌≡◌, ◌≢◌, List, Bool, Option, None, Some, option_and_then, if◌then◌else◌}
+use Rattle.std.specs.Prelude.{ℕ, ◌≡◌, ◌≢◌, List, length}
+use Rattle.cc_base.specs.declared.kind.Kind.{Kind}
 use Rattle.cc_base.specs.declared.fault.Fault.{Fault}
 use Rattle.cc_base.specs.declared.fault.Fault.TheVariants as refusal
 use Rattle.cured_code.specs.declared.parts.Parts.{Parts}
 use Rattle.cured_spelling.specs.Spelling.{cured_spelling}
 use Rattle.cured_reading.specs.declared.wrong.CuredFault.{CuredFault}
 use Rattle.cured_reading.specs.declared.wrong.CuredFault.TheVariants as uncured
-use Rattle.command_words.specs.Commands.{Command, command_of}
 use Rattle.command_words.specs.declared.command.Action.{Action}
 use Rattle.command_words.specs.declared.command.Action.TheVariants.{Kinds, Cure, Run, Exec}
 use Rattle.program_answers.specs.declared.verdict.Verdict.{Verdict}
+use Rattle.program_answers.specs.declared.summary.Summary.{Summary}
+use Rattle.program_answers.specs.Summaries.{pointers_in, summary_lines}
 use Rattle.program_answers.specs.Verdicts.{verdict_of_fault, verdict_of_cured_fault}
+use Rattle.program_gen.specs.Generated.{generated}
 
 pub record Texts : Type 1 where
   -- the text of C is accepted, and cured to these parts
   pub IsCured : (text : List ℕ) → Parts → Type 0
   -- it is accepted, and its kinds are written so
   pub HasKinds : (text lines : List ℕ) → Type 0
+  -- it is accepted, and so many of its pointer types are of each kind
+  pub HasPointers : (text : List ℕ) → (Kind → ℕ) → Type 0
   -- it is refused so
   pub IsRefused : (text : List ℕ) → Fault → Type 0
   -- a text spells no cured program, for this reason
   pub IsUncured : (text : List ℕ) → CuredFault → Type 0
-  -- the commands that are there
-  pub is_built : Command → Bool
-
--- the command that the words are, if it is there
-abbrev pub command_in : Texts → List (List ℕ) → Option Command
-command_in texts words = option_and_then (λ command. if texts.is_built command then Some command else None) (command_of words)
 
 -- the most bytes that a text of C may have, and a cured text
 unfoldable pub text_limit : ℕ
@@ -88,3 +87,12 @@ turns_of Kinds = 0
 turns_of Cure = 0
 turns_of (Run n) = n
 turns_of (Exec n) = n
+
+-- The generated program of n functions is accepted, and this code of it is to be run behind these lines, which tell its length and how
+-- many of its pointer types are of each kind.
+pub record IsMadeOf (texts : Texts) (n : ℕ) (lines : List ℕ) (parts : Parts) : Type 0 where
+  pub cured : texts.IsCured (generated n) parts
+  pub summary : Summary
+  pub bytes : summary.bytes ≡ length (generated n)
+  pub pointers : texts.HasPointers (generated n) (pointers_in summary)
+  pub lines_are : lines ≡ summary_lines summary

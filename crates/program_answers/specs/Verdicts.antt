@@ -1,5 +1,5 @@
 -- How a run of the program is reported: the report's one line, or none, and the status.
-use Rattle.std.specs.Prelude.{ℕ, List, [], ◌∷◌, ◌++◌, codes}
+use Rattle.std.specs.Prelude.{ℕ, List, [], ◌++◌, codes}
 use Rattle.std.specs.Fmt.{decimal}
 use Rattle.cc_base.specs.Names.{check_name, rule_name, limit_name}
 use Rattle.cc_base.specs.Places.{place_text}

@@ -1,9 +1,11 @@
-//! What the program answers: its verdicts, how they are reported, and what justifies them.
+//! What the program answers: its verdicts, how they are reported, what `make` tells of a text, and what justifies all that.
 #![tactic(auto)]
 
 mod limits;
 mod report;
+mod summary;
 mod verdict;
 
-pub use report::report_verdict;
+pub use report::{Line, report_verdict};
+pub use summary::Summary;
 pub use verdict::Verdict;

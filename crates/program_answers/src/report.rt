@@ -15,10 +15,11 @@ use cc_io::Sink;
 use cured_reading::{CuredLimit, Form};
 use itoa::Buffer;
 
-/// Room for the longest line.
-const ROOM: usize = 200;
+/// Room for the longest line, and for the lines of a summary.
+const ROOM: usize = 256;
 
-type Line = ArrayString<ROOM>;
+/// Text that is written in one piece.
+pub type Line = ArrayString<ROOM>;
 
 /// Writes the verdict's line to the report, in one piece, if it has one, and answers the status: the verdict's, or 6 where
 /// the write failed.
@@ -145,8 +146,8 @@ fn push_place(line: &mut Line, place: Place)
     push_number(line, u64::from(place.col));
 }
 
-fn push_number(line: &mut Line, n: u64)
-    requires { array_string_len line.old ≤ 150 }
+pub(crate) fn push_number(line: &mut Line, n: u64)
+    requires { array_string_len line.old ≤ 200 }
     ensures number { line.new.bytes ≡ line.old.bytes ++ decimal n }
     ensures short { array_string_len line.new ≤ array_string_len line.old + 40 }
 {

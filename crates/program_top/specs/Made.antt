@@ -1,27 +1,29 @@
--- What is made of texts, and which commands are there.
-use Rattle.std.specs.Prelude.{ℕ, List, Bool, true, false, ⊤}
-use Rattle.command_words.specs.declared.command.Action.{Action}
-use Rattle.command_words.specs.declared.command.Action.TheVariants.{Kinds, Cure, Run, Exec}
-use Rattle.command_words.specs.Commands.{Command, OnFile, Make}
+-- What is made of texts.
+use Rattle.std.specs.Prelude.{ℕ, ◌≡◌, List, ⊤}
+use Rattle.cc_base.specs.declared.kind.Kind.{Kind}
+use Rattle.c_tree.specs.declared.typed_unit.Typed.{Typed}
+use Rattle.cil_form.specs.declared.program.Program.{Program}
+use Rattle.kind_report.specs.Report.{pointers_of}
+use Rattle.kind_solver.specs.declared.solved.Solved.{Solved}
+use Rattle.c_front.specs.Refused.{IsFirstRefusal}
+use Rattle.c_build.specs.Inferred.{HasKinds, IsInferred}
+use Rattle.c_build.specs.Built.{IsCured}
 use Rattle.program_answers.specs.Texts.{Texts}
 
--- C isn't cured yet, so only cured text is run
-abbrev pub is_there : Action → Bool
-is_there Kinds = false
-is_there Cure = false
-is_there (Run n) = false
-is_there (Exec n) = true
-
-abbrev pub is_built : Command → Bool
-is_built (OnFile action name) = is_there action
-is_built (Make n) = false
+-- the text is accepted, and so many of the pointer types for which `kinds` has a line are of each kind
+pub record HasPointers (text : List ℕ) (count : Kind → ℕ) : Type 0 where
+  pub typed : Typed
+  pub code : Program
+  pub solved : Solved
+  pub inferred : IsInferred text typed code solved
+  pub counted : (kind : Kind) → count kind ≡ pointers_of solved.kinds kind typed.printed
 
 -- Of a text that is no cured program it is not said yet why.
 abbrev pub texts : Texts
 texts = record {
-  IsCured = λ text parts. ⊥;
-  HasKinds = λ text lines. ⊥;
-  IsRefused = λ text fault. ⊥;
+  IsCured = IsCured;
+  HasKinds = HasKinds;
+  HasPointers = HasPointers;
+  IsRefused = IsFirstRefusal;
   IsUncured = λ text fault. ⊤;
-  is_built = is_built;
 }

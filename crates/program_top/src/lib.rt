@@ -2,8 +2,9 @@
 #![tactic(auto)]
 
 mod files;
+mod making;
 mod running;
 mod top;
-mod words;
+mod writing;
 
 pub use top::ccured;

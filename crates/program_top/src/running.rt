@@ -1,17 +1,39 @@
-//! Runs of cured code.
+//! Runs of the code of a file.
 ghost use Rattle.std.specs.Prelude.{◌≡◌, ◌≤◌, List, ℕ, length};
 ghost use Rattle.command_words.specs.declared.command.Action.{Action as Asked};
 ghost use Rattle.cured_machine.specs.Runs.{outside};
 ghost use Rattle.program_answers.specs.Causes.{IsTextCause};
-ghost use Rattle.program_answers.specs.Texts.{IsCodeOf, cured_text_limit, turns_of};
+ghost use Rattle.program_answers.specs.Texts.{IsCodeOf, cured_text_limit, text_limit, turns_of};
 ghost use Rattle.program_top.specs.Made.{texts};
 
+use c_build::build;
 use cc_io::{Sink, Source};
 use cured_code::Cured;
 use cured_machine::Machine;
 use cured_reading::read;
 use program_answers::Verdict;
 use std::alloc::Global;
+
+/// Runs the cured program of a text of C.
+#[tactic(auto, unfolding(program_answers::specs::Texts::text_limit))]
+pub(crate) fn run_text<I: Source, O: Sink>(
+    alloc: Global,
+    text: &[u8],
+    turns: u64,
+    input: &mut I,
+    out: &mut O,
+) -> Verdict
+    requires { length text.now ≤ text_limit }
+    ensures { IsTextCause texts (Asked.Run turns) text.now
+        (outside I.held I.faults input.old input.new)
+        (outside O.written O.faults out.old out.new)
+        result }
+{
+    match build(alloc, text) {
+        Ok(built) => run_code(alloc, &built.cured, turns, input, out),
+        Err(fault) => Verdict::of_fault(fault),
+    }
+}
 
 /// Runs the program that a cured text spells.
 #[tactic(auto, unfolding(program_answers::specs::Texts::cured_text_limit))]

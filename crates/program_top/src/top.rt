@@ -1,18 +1,20 @@
 //! All that the program does.
-ghost use Rattle.std.specs.Prelude.{◌≡◌, ◌≢◌, ◌≤◌, ◌⊎◌, None, length, map, true};
+ghost use Rattle.std.specs.Prelude.{◌≡◌, ◌≢◌, ◌≤◌, ◌⊎◌, None, length, map};
 ghost use Rattle.std.specs.String.{string_bytes};
 ghost use Rattle.cc_io.specs.Faults.{Rose};
+ghost use Rattle.command_words.specs.Commands.{command_of};
 ghost use Rattle.cured_machine.specs.Runs.{outside};
 ghost use Rattle.program_answers.specs.Causes.{filed, IsCause, IsFileCause, IsJudged, IsTextCause};
 ghost use Rattle.program_answers.specs.Statuses.{GivesAnswer, HasCause};
-ghost use Rattle.program_answers.specs.Texts.{command_in, limit_of};
-ghost use Rattle.program_top.specs.Made.{is_there, texts};
+ghost use Rattle.program_answers.specs.Texts.{limit_of};
+ghost use Rattle.program_top.specs.Made.{texts};
 
 use crate::files::{limit_of, read_text};
-use crate::running::exec_text;
-use crate::words::asked;
+use crate::making::make_text;
+use crate::running::{exec_text, run_text};
+use crate::writing::{cure_text, kinds_text};
 use cc_io::{FileFault, Files, Sink, Source};
-use command_words::Action;
+use command_words::{Action, Command, command_of};
 use program_answers::{Verdict, report_verdict};
 use std::alloc::Global;
 
@@ -52,7 +54,7 @@ pub fn ccured<F: Files, I: Source, O: Sink, E: Sink>(
         result }
 
     // Words that are no command are refused, and no memory is wanted for that.
-    ensures usage { command_in texts (map string_bytes words.now) ≡ None →
+    ensures usage { command_of (map string_bytes words.now) ≡ None →
         (result ≡ 2) ⊎ ((result ≡ 6) × Rose (E.faults report.old) (E.faults report.new)) }
 {
     let verdict = judge(alloc, words, files, input, out);
@@ -73,9 +75,10 @@ fn judge<F: Files, I: Source, O: Sink>(
         (outside O.written O.faults out.old out.new)
         result }
 {
-    match asked(words) {
+    match command_of(words) {
         None => Verdict::Usage,
-        Some((action, name)) => on_file(alloc, action, name, files, input, out),
+        Some(Command::OnFile(action, name)) => on_file(alloc, action, name, files, input, out),
+        Some(Command::Make(n)) => make_text(alloc, n, input, out),
     }
 }
 
@@ -88,7 +91,6 @@ fn on_file<F: Files, I: Source, O: Sink>(
     input: &mut I,
     out: &mut O,
 ) -> Verdict
-    requires { is_there action ≡ true }
     ensures { IsFileCause texts action name.now
         (filed F.holds F.faults F.last files.old files.new)
         (outside I.held I.faults input.old input.new)
@@ -112,15 +114,16 @@ fn on_text<I: Source, O: Sink>(
     input: &mut I,
     out: &mut O,
 ) -> Verdict
-    requires there { is_there action ≡ true }
-    requires short { length text.now ≤ limit_of action }
+    requires { length text.now ≤ limit_of action }
     ensures { IsTextCause texts action text.now
         (outside I.held I.faults input.old input.new)
         (outside O.written O.faults out.old out.new)
         result }
 {
     match action {
+        Action::Kinds => kinds_text(alloc, text, out),
+        Action::Cure => cure_text(alloc, text, out),
+        Action::Run(turns) => run_text(alloc, text, turns, input, out),
         Action::Exec(turns) => exec_text(alloc, text, turns, input, out),
-        Action::Kinds | Action::Cure | Action::Run(_) => unreachable!(),
     }
 }

@@ -1,10 +1,8 @@
-pub mod AggregatesWritten
-pub mod DeclaratorsSame
 pub mod Elements
-pub mod FunctionsAlike
+pub mod FramesNamed
+pub mod MemberNodes
 pub mod NamesAlike
 pub mod ObjectsAlike
 pub mod PiecesReady
 pub mod SitesTold
-pub mod FramesNamed
-pub mod MembersMade
+pub mod UnionsTold

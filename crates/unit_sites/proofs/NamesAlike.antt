@@ -18,17 +18,10 @@ use Rattle.c_tree.specs.declared.typed_word.Home.{Home}
 use Rattle.c_tree.specs.declared.typed_word.Home.TheVariants as home
 use Rattle.c_tree.specs.TypedTree.{TypedDeclarator, TypedTranslationUnit}
 use Rattle.c_tree.specs.TypedParts.{MadeObject, declared_type, home_of, name_of, static_home, statics_of, functions_of}
-use Rattle.c_typing.specs.declared.declared.Declared.{Declared}
-use Rattle.c_typing.specs.declared.declared.Declared.TheVariants as declared
-use Rattle.c_typing.specs.Scopes.{Name, entry_of}
-use Rattle.c_typing.specs.Shapes as shapes
-use Rattle.c_unit_typing.specs.WellTyped.{IsWellTyped, known_before}
-use Rattle.c_ready.specs.Declarators as ready
 use Rattle.c_ready.specs.Ready.{Named, IsAlike, IsWhole, IsReadyUnit, static_stage, made_named, variables_named}
 use Rattle.c_ready.specs.Ready as stages
 use Rattle.c_ready.proofs.Basics.{all-right, eq_from, bytes-same}
-use Rattle.c_ready.proofs.ReadyUnit.{well-typed-ready}
-use Rattle.c_ready.proofs.Suits.{is_in}
+use Rattle.c_ready.proofs.Suits.{function-in}
 use Rattle.type_laws.proofs.Relations.{equal_equiv}
 use Rattle.type_laws.proofs.SameTypes.{same-is-equal}
 use Rattle.cil_form.specs.Typing.{AreDeclaredAlike, same, listed, turned, chained}
@@ -38,10 +31,8 @@ use Rattle.src_machine.specs.World.{same_node}
 use Rattle.c_types.specs.Solutions.{sites_of_table}
 use Rattle.src_machine.specs.Sites.{sites_of_homes, sites_of_piece, same_as, sites_of_names, sites_of}
 use Rattle.src_machine.specs.Pieces.{pieces_of_unit}
-use Rattle.unit_sites.proofs.DeclaratorsSame.{declarators-same}
 use Rattle.unit_sites.proofs.Elements.{only, flat, unflat}
-use Rattle.unit_sites.proofs.FunctionsAlike.{IsLinkedDeclarator, unit-linked}
-use Rattle.unit_sites.proofs.ObjectsAlike.{Names, objects_made, objects-named, one-type}
+use Rattle.unit_sites.proofs.ObjectsAlike.{Names, IsObjectAlike, objects_made, objects-named, one-type}
 
 -- Types
 
@@ -90,18 +81,6 @@ alike-function_left T t u (inr h) g = function-left _ (shape_at T t) (shape_at T
 pub alike-function_right : (T : Table) (t u : TypeId) → IsAlike T t u → is_function T t ≡ true → is_function T u ≡ true
 alike-function_right T t u (inl e) g = ap (λ (x : TypeId). is_function T x) (sym e) ∙ g
 alike-function_right T t u (inr h) g = function-right _ (shape_at T t) (shape_at T u) (same-shapes T t u h) g
-
-no-void : (x : TypeShape) → is_function_shape x ≡ true → shapes.is_void_shape x ≡ false
-no-void (shape.Function ps r) h = refl
-no-void shape.Void h = absurd (true≢false (sym h))
-no-void (shape.Integer a s) h = absurd (true≢false (sym h))
-no-void (shape.Pointer n t) h = absurd (true≢false (sym h))
-no-void (shape.Array t n) h = absurd (true≢false (sym h))
-no-void (shape.Struct n) h = absurd (true≢false (sym h))
-no-void (shape.Union n) h = absurd (true≢false (sym h))
-
-pub function-in : (T : Table) (t : TypeId) → is_function T t ≡ true → IsType T t
-function-in T t h = is_in T t (no-void (shape_at T t) h)
 
 -- what is complete is no function
 pub whole-plain : (T : Table) (t : TypeId) → IsComplete T t → is_function T t ≡ false
@@ -253,138 +232,118 @@ module _ (T : Table) (u : TypedTranslationUnit) where
       ap (λ (b : Bool). if b then function_named (name_of d) (declared_type d) else object_named (object_node (home_of d)) (declared_type d)) g
       ∙ ap (λ (o : Option Identifier). function_named o (declared_type d)) e) (named-of d c))
 
-module _ (T : Table) (u : TypedTranslationUnit) (w : IsWellTyped T u) where
-  listed-there : (d : TypedDeclarator) → Contains (ready.declarators_of u) d → Contains (declarators_in u) d
-  listed-there d c = subst (λ (ds : List TypedDeclarator). Contains ds d) (declarators-same T u (known_before u) w.after w.typed) c
-
   -- the static object with this home, by two of its declarators
   pub objects-alike : (h : NodeId) (t v : TypeId) → IsComplete T t → IsComplete T v → stages.IsObjectDeclared (static_stage T u) h t
       → stages.IsObjectDeclared (static_stage T u) h v → AreDeclaredAlike (sites_of u T) t v
   objects-alike h t v a b (d, c, e, g) (d', c', e', g') =
       subst (λ (x : TypeId). AreDeclaredAlike (sites_of u T) x v) g (subst (λ (x : TypeId). AreDeclaredAlike (sites_of u T) (declared_type d) x) g'
-      (alike-named T u (record { which = AnObject h; type = declared_type d }) (record { which = AnObject h; type = declared_type d' })
-      (object-there T u d (listed-there d c) h (home-node T u (home_of d) h e)
+      (alike-named (record { which = AnObject h; type = declared_type d }) (record { which = AnObject h; type = declared_type d' })
+      (object-there d c h (home-node (home_of d) h e)
       (ap (λ (x : TypeId). is_function T x) g ∙ whole-plain T t a))
-      (object-there T u d' (listed-there d' c') h (home-node T u (home_of d') h e')
+      (object-there d' c' h (home-node (home_of d') h e')
       (ap (λ (x : TypeId). is_function T x) g' ∙ whole-plain T v b))
       refl))
 
   -- the function of this name, by two of its declarators
-  pub functions-alike : (name : Name) (t v : TypeId) → is_function T t ≡ true → is_function T v ≡ true
+  pub functions-alike : (name : List ℕ) (t v : TypeId) → is_function T t ≡ true → is_function T v ≡ true
       → stages.IsFunctionDeclared (static_stage T u) name t → stages.IsFunctionDeclared (static_stage T u) name v
       → AreDeclaredAlike (sites_of u T) t v
   functions-alike name t v a b (d, c, (id, e, n), g) (d', c', (id', e', n'), g') =
       subst (λ (x : TypeId). AreDeclaredAlike (sites_of u T) x v) g (subst (λ (x : TypeId). AreDeclaredAlike (sites_of u T) (declared_type d) x) g'
-      (alike-named T u (record { which = AFunction id; type = declared_type d }) (record { which = AFunction id'; type = declared_type d' })
-      (function-there T u d (listed-there d c) id e (ap (λ (x : TypeId). is_function T x) g ∙ a))
-      (function-there T u d' (listed-there d' c') id' e' (ap (λ (x : TypeId). is_function T x) g' ∙ b))
+      (alike-named (record { which = AFunction id; type = declared_type d }) (record { which = AFunction id'; type = declared_type d' })
+      (function-there d c id e (ap (λ (x : TypeId). is_function T x) g ∙ a))
+      (function-there d' c' id' e' (ap (λ (x : TypeId). is_function T x) g' ∙ b))
       (first-bytes id id' (n ∙ sym n') (named_in u T))))
 
 -- Types of one name are physically equal
 
-function-shapes : (x : TypeShape) → is_function_shape x ≡ true → shapes.is_function_shape x ≡ true
-function-shapes (shape.Function ps r) h = refl
-function-shapes shape.Void h = absurd (true≢false (sym h))
-function-shapes (shape.Integer a s) h = absurd (true≢false (sym h))
-function-shapes (shape.Pointer n t) h = absurd (true≢false (sym h))
-function-shapes (shape.Array t n) h = absurd (true≢false (sym h))
-function-shapes (shape.Struct n) h = absurd (true≢false (sym h))
-function-shapes (shape.Union n) h = absurd (true≢false (sym h))
-
 node-same : (m n : NodeId) → same_node m n ≡ true → m ≡ n
 node-same m n h = ap (λ (z : ℕ). record { 0 = z }) (eq_from m.0 n.0 h)
 
-function_type : Option Declared → TypeId → TypeId
-function_type (Some (declared.Function t)) u = t
-function_type other u = u
+module _ (T : Table) (u : TypedTranslationUnit) (r : IsReadyUnit T u) where
+  abbrev static : stages.Stage
+  static = static_stage T u
 
-same-function : (t u : TypeId) → Some (declared.Function t) ≡ Some (declared.Function u) → t ≡ u
-unfolding function_type
-same-function t u h = ap (λ (x : Option Declared). function_type x t) h
-
-module _ (T : Table) (u : TypedTranslationUnit) (w : IsWellTyped T u) where
-  -- the type that it was made with, or declared with first
+  -- an object is made with a type that this one is alike to, and a function is declared with this one
   abbrev IsMadeWith : Which → TypeId → Type 0
-  IsMadeWith (AnObject n) g = Contains (objects_made u) (n, g)
-  IsMadeWith (AFunction id) g = entry_of w.after.linked id.bytes ≡ Some (declared.Function g)
+  IsMadeWith (AnObject n) t = IsObjectAlike T (objects_made u) n t
+  IsMadeWith (AFunction id) t = stages.IsFunctionDeclared static id.bytes t × (is_function T t ≡ true)
 
-  ready-unit : IsReadyUnit T u
-  ready-unit = well-typed-ready T u w
+  objects-whole : All (λ (o : Named). IsWhole static o.1) (objects_made u)
+  objects-whole =
+      All-append (λ (o : Named). IsWhole static o.1) (map made_named (statics_of u)) (flat_map variables_named (functions_of u))
+      (All-map (λ (o : Named). IsWhole static o.1) made_named (statics_of u)
+      (All-weaker (λ (o : MadeObject). stages.IsNode static o.home × IsWhole static o.type)
+      (λ (o : MadeObject). IsWhole static o.type) (λ o q. q.1) (statics_of u) r.objects.plans))
+      (flat (λ (o : Named). IsWhole static o.1) variables_named (functions_of u)
+      (All-weaker (stages.IsReadyFunction static) (λ f. All (λ (o : Named). IsWhole static o.1) (variables_named f))
+      (λ f q. All-weaker (λ (o : Named). stages.IsNode static o.0 × IsWhole static o.1)
+      (λ (o : Named). IsWhole static o.1) (λ o z. z.1) (variables_named f) q.plans) (functions_of u) r.functions))
 
-  one-made : (v x : Which) (g h : TypeId) → is_same_which v x ≡ true → IsMadeWith v g → IsMadeWith x h → g ≡ h
-  one-made (AnObject m) (AnObject n) g h e a b =
-      one-type u ready-unit.objects.distinct n g h (subst (λ (i : NodeId). Contains (objects_made u) (i, g)) (node-same m n e) a) b
-  one-made (AFunction v) (AFunction x) g h e a b =
-      same-function g h (sym a ∙ (ap (λ (n : Name). entry_of w.after.linked n) (bytes-same v.bytes x.bytes e) ∙ b))
-  one-made (AnObject m) (AFunction x) g h e a b = absurd (true≢false (sym e))
-  one-made (AFunction v) (AnObject n) g h e a b = absurd (true≢false (sym e))
+  -- a type of the table that both are alike to
+  abbrev HaveFirst : TypeId → TypeId → Type 0
+  HaveFirst t v = (first : TypeId) × IsType T first × IsAlike T first t × IsAlike T first v
+
+  have-first : (v x : Which) (t s : TypeId) → is_same_which v x ≡ true → IsMadeWith v t → IsMadeWith x s → HaveFirst t s
+  have-first (AnObject m) (AnObject n) t s e a b =
+      let one = one-type u r.objects.distinct n a.0 b.0 (subst (λ (i : NodeId). Contains (objects_made u) (i, a.0)) (node-same m n e) a.1) b.1 in (
+        b.0,
+        (All-contains (λ (o : Named). IsWhole static o.1) (objects_made u) (n, b.0) objects-whole b.1).0,
+        subst (λ (f : TypeId). IsAlike T f t) one a.2,
+        b.2,
+      )
+  have-first (AFunction v) (AFunction x) t s e a b =
+      let f = r.alike x.bytes t s
+      (subst (λ (n : List ℕ). stages.IsFunctionDeclared static n t) (bytes-same v.bytes x.bytes e) a.0) b.0 a.1 b.1 in
+      (f.0, function-in T f.0 (alike-function_left T f.0 t f.1 a.1), f.1, f.2)
+  have-first (AnObject m) (AFunction x) t s e a b = absurd (true≢false (sym e))
+  have-first (AFunction v) (AnObject n) t s e a b = absurd (true≢false (sym e))
 
   pub record IsMadeAlike (x : names.Named) : Type 0 where
-    pub first : TypeId
-    pub made : IsMadeWith x.which first
-    pub alike : IsAlike T first x.type
-    pub first_in : IsType T first
+    pub made : IsMadeWith x.which x.type
     pub type_in : IsType T x.type
 
-  objects-whole : All (λ (o : Named). IsWhole (static_stage T u) o.1) (objects_made u)
-  objects-whole =
-      All-append (λ (o : Named). IsWhole (static_stage T u) o.1) (map made_named (statics_of u)) (flat_map variables_named (functions_of u))
-      (All-map (λ (o : Named). IsWhole (static_stage T u) o.1) made_named (statics_of u)
-      (All-weaker (λ (o : MadeObject). stages.IsNode (static_stage T u) o.home × IsWhole (static_stage T u) o.type)
-      (λ (o : MadeObject). IsWhole (static_stage T u) o.type) (λ o q. q.1) (statics_of u) ready-unit.objects.plans))
-      (flat (λ (o : Named). IsWhole (static_stage T u) o.1) variables_named (functions_of u)
-      (All-weaker (stages.IsReadyFunction (static_stage T u)) (λ f. All (λ (o : Named). IsWhole (static_stage T u) o.1) (variables_named f))
-      (λ f r. All-weaker (λ (o : Named). stages.IsNode (static_stage T u) o.0 × IsWhole (static_stage T u) o.1)
-      (λ (o : Named). IsWhole (static_stage T u) o.1) (λ o q. q.1) (variables_named f) r.plans) (functions_of u) ready-unit.functions))
-
-  declarator-made : (d : TypedDeclarator) → Names (static_stage T u) (objects_made u) d → IsLinkedDeclarator T w.after.linked d
-      → All IsMadeAlike (named_by T d)
-  declarator-made d h l = by (is_function T (declared_type d)) refl
+  declarator-made : (d : TypedDeclarator) → Contains (declarators_in u) d → Names static (objects_made u) d → All IsMadeAlike (named_by T d)
+  declarator-made d c h = by (is_function T (declared_type d)) refl
     where
       function : (o : Option Identifier) → name_of d ≡ o → is_function T (declared_type d) ≡ true
           → All IsMadeAlike (function_named o (declared_type d))
       function None e g = All-nil IsMadeAlike
-      function (Some id) e g =
-          let r = l (function-shapes (shape_at T (declared_type d)) g) id e in
-          only IsMadeAlike (record { which = AFunction id; type = declared_type d }) (record {
-            first = r.0;
-            made = r.1;
-            alike = r.2;
-            first_in = function-in T r.0 (alike-function_left T r.0 (declared_type d) r.2 g);
-            type_in = function-in T (declared_type d) g;
-          })
+      function (Some id) e g = only IsMadeAlike (record { which = AFunction id; type = declared_type d }) (record {
+        made = ((d, c, (id, e, refl), refl), g);
+        type_in = function-in T (declared_type d) g;
+      })
 
       object : (o : Option NodeId) → object_node (home_of d) ≡ o → All IsMadeAlike (object_named o (declared_type d))
       object None e = All-nil IsMadeAlike
-      object (Some n) e =
-          let r = h n e in
-          only IsMadeAlike (record { which = AnObject n; type = declared_type d }) (record {
-            first = r.0.0;
-            made = r.0.1;
-            alike = r.0.2;
-            first_in =
-                (All-contains (λ (o : Named). IsWhole (static_stage T u) o.1) (objects_made u) (n, r.0.0) objects-whole r.0.1).0;
-            type_in = r.1.0;
-          })
+      object (Some n) e = only IsMadeAlike (record { which = AnObject n; type = declared_type d }) (record {
+        made = (h n e).0;
+        type_in = (h n e).1.0;
+      })
 
       by : (b : Bool) → is_function T (declared_type d) ≡ b
           → All IsMadeAlike (if b then function_named (name_of d) (declared_type d) else object_named (object_node (home_of d)) (declared_type d))
       by true e = function (name_of d) refl e
       by false e = object (object_node (home_of d)) refl
 
-  both-all : (ds : List TypedDeclarator) → All (Names (static_stage T u) (objects_made u)) ds → All (IsLinkedDeclarator T w.after.linked) ds
+  both-all : (ds : List TypedDeclarator) → All (Contains (declarators_in u)) ds → All (Names static (objects_made u)) ds
       → All (λ d. All IsMadeAlike (named_by T d)) ds
-  both-all [] h l = All-nil (λ d. All IsMadeAlike (named_by T d))
-  both-all (d ∷ ds) h l =
+  both-all [] c h = All-nil (λ d. All IsMadeAlike (named_by T d))
+  both-all (d ∷ ds) c h =
       All-cons (λ x. All IsMadeAlike (named_by T x)) d ds
-      (declarator-made d (All-head (Names (static_stage T u) (objects_made u)) d ds h) (All-head (IsLinkedDeclarator T w.after.linked) d ds l))
-      (both-all ds (all-right (Names (static_stage T u) (objects_made u)) (d ∷ []) ds h) (all-right (IsLinkedDeclarator T w.after.linked)
-      (d ∷ []) ds l))
+      (declarator-made d (All-head (Contains (declarators_in u)) d ds c) (All-head (Names static (objects_made u)) d ds h))
+      (both-all ds (all-right (Contains (declarators_in u)) (d ∷ []) ds c) (all-right (Names static (objects_made u)) (d ∷ []) ds h))
 
   all-made : All IsMadeAlike (named_in u T)
   all-made =
       flat IsMadeAlike (named_by T) (declarators_in u)
-      (both-all (declarators_in u) (objects-named T u ready-unit.externals) (unit-linked T u (known_before u) w.after w.typed).told)
+      (both-all (declarators_in u) (All-contains_itself (declarators_in u)) (objects-named T u r.externals))
+
+  pair-equal : (x y : names.Named) → IsMadeAlike x → IsMadeAlike y → is_same_which y.which x.which ≡ true
+      → IsTrue (physically_equal T y.type x.type)
+  pair-equal x y m q g =
+      let f = have-first y.which x.which y.type x.type g q.made m.made in
+      physical-both T r.basic.formed f.0 y.type x.type f.1 q.type_in m.type_in f.2 f.3
 
   -- the first type of a name is physically equal to each
   pub first-equal : All (λ (x : names.Named). (first : TypeId) → first_type (named_in u T) x.which ≡ Some first
@@ -394,6 +353,5 @@ module _ (T : Table) (u : TypedTranslationUnit) (w : IsWellTyped T u) where
       → IsTrue (physically_equal T first x.type))
       (λ x m first e. first-of (λ t. IsTrue (physically_equal T t x.type)) x.which (named_in u T)
       (All-weaker IsMadeAlike (λ (y : names.Named). is_same_which y.which x.which ≡ true → IsTrue (physically_equal T y.type x.type))
-      (λ y q g. physical-both T w.basic.formed m.first y.type x.type m.first_in q.type_in m.type_in
-      (subst (λ z. IsAlike T z y.type) (one-made y.which x.which q.first m.first g q.made m.made) q.alike) m.alike) (named_in u T) all-made) first e)
+      (λ y q g. pair-equal x y m q g) (named_in u T) all-made) first e)
       (named_in u T) all-made

@@ -14,7 +14,7 @@ use Rattle.c_tree.specs.TypedTree as typed
 use Rattle.c_tree.specs.TypedTree.{TypedForm, TypedSpecifiers, TypedDeclarator, TypedInitDeclarators, TypedDeclaration, TypedStatement, TypedBlockItems, TypedTranslationUnit}
 use Rattle.c_tree.specs.TypedParts as made
 use Rattle.c_tree.specs.TypedParts.{Made, MadeObject, DefinedFunction, static_made, declared_type, home_of, home_of_form, type_of, statics_of, functions_of, made_by_unit}
-use Rattle.c_unit_typing.specs.Units.{Around, in_a_loop, in_a_switch}
+use Rattle.c_ready.specs.Rows.{Around, in_a_loop, in_a_switch}
 use Rattle.c_ready.specs.Ready.{Stage, Named, IsAlike, IsWhole, static_named, made_named, variables_named, IsReadyHome, AreReadyDeclarators, IsReadyDeclaration, IsReadyStatement, AreReadyBlockItems, AreReadyExternals, static_stage, homes_of}
 use Rattle.c_ready.proofs.Basics.{all-left, all-right, unmap, flat-left, flat-right}
 use Rattle.src_machine.specs.Names.{object_node, is_typedef, declarators_of, declarators_in_declaration, declarators_in_statement, declarators_in_items, declarators_in}
@@ -29,7 +29,7 @@ objects_made u = map made_named (statics_of u) ++ flat_map variables_named (func
 abbrev node : Named → ℕ
 node o = o.0.0
 
-same-nat : (m n : ℕ) → m ≡ n → nat_eq m n ≡ false → ⊥
+pub same-nat : (m n : ℕ) → m ≡ n → nat_eq m n ≡ false → ⊥
 same-nat m n e h = grind (arith, nat_tests)
 
 none-in : {A : Type 0} → (x : A) → Contains [] x → ⊥

@@ -10,7 +10,7 @@ use Rattle.c_tree.specs.declared.typed_word.Home.TheVariants as home
 use Rattle.c_tree.specs.TypedTree as typed
 use Rattle.c_tree.specs.TypedTree.{TypedExpr, TypedPlace, TypedArguments, TypedTypeName, TypedSpecifiers, TypedSpecifierList, TypedSpecifier, TypedMembers, TypedMemberDeclarators, TypedEnumerators, TypedDeclarator, TypedForm, TypedCore, TypedParts, TypedParameters, TypedDeclared, TypedInitialiser, TypedItems, TypedInitDeclarators, TypedDeclaration, TypedStatement, TypedBlockItems, TypedTranslationUnit}
 use Rattle.c_tree.specs.TypedParts.{home_of, home_of_form, type_of}
-use Rattle.c_unit_typing.specs.Units.{Around, in_a_loop, in_a_switch}
+use Rattle.c_ready.specs.Rows.{Around, in_a_loop, in_a_switch}
 use Rattle.c_ready.specs.Ready.{IsNode, IsReadyHome, Stage, Named, unread, IsReady, IsReadyPlace, AreReady, IsReadyTypeName, AreReadySpecifiers, AreReadyListed, IsReadySpecifier, AreReadyMembers, AreReadyMemberDeclarators, AreReadyEnumerators, IsReadyForm, IsReadyCore, AreReadyParts, AreReadyParameters, IsReadyDeclared, IsReadyInitialiser, AreReadyItems, initialised_in, AreReadyDeclarators, IsReadyDeclaration, IsReadyOptional, IsReadyTestOrNone, IsReadyReturn, IsReadyStatement, AreReadyBlockItems, AreReadyExternals, variables_named}
 use Rattle.c_ready.proofs.Basics.{some-same}
 use Rattle.src_machine.specs.Names.{object_node}

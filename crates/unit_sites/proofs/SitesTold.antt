@@ -1,7 +1,7 @@
 -- What the sites of a ready unit tell: its pointer types and objects, and both ends of each flow.
 use Rattle.std.specs.List.{All, Contains}
-use Rattle.std.proofs.Common.{ℕ, ◌≤◌, ◌+◌, ◌⊎◌, inl, inr, ap, ◌∙◌, arith, Bool, true, false, List, [], ◌∷◌, ◌++◌, map, flat_map, Option, Some, None, sym, subst, if◌then◌else◌, ◌==◌, ◌≡◌, IsTrue, refl}
-use Rattle.std.proofs.lemmas.List.Elements.{All-nil, All-head, All-append, All-map, All-weaker, All-get_or, All-contains, All-contains_itself, All-cons, All-from_get_or}
+use Rattle.std.proofs.Common.{ℕ, ◌≢◌, ◌⊎◌, inl, inr, ap, ◌∙◌, Bool, true, false, List, [], ◌∷◌, ◌++◌, map, flat_map, Option, Some, None, sym, subst, if◌then◌else◌, ◌==◌, ◌≡◌, IsTrue, refl}
+use Rattle.std.proofs.lemmas.List.Elements.{All-nil, All-head, All-append, All-map, All-weaker, All-get_or, All-contains, All-contains_itself, All-cons, All-from_get_or, Contains-append_left, Contains-append_right}
 use Rattle.cc_base.specs.declared.place.Place.{Place}
 use Rattle.cc_base.specs.declared.number.NodeId.{NodeId}
 use Rattle.cc_base.specs.declared.number.TypeId.{TypeId}
@@ -21,13 +21,8 @@ use Rattle.c_tree.specs.declared.typed_word.Conversion.TheVariants as conversion
 use Rattle.c_tree.specs.TypedTree as typed
 use Rattle.c_tree.specs.TypedTree.{TypedExpr, TypedPlace, TypedSpecifier, TypedDeclarator, TypedInitialiser, TypedItems, TypedTranslationUnit}
 use Rattle.c_tree.specs.TypedParts.{MadeObject, DefinedFunction, type_of, place_type, named_type, home_of, statics_of, functions_of}
-use Rattle.c_unit_typing.specs.TypesUsed.{used_by_unit}
-use Rattle.c_unit_typing.specs.WellTyped.{IsWellTyped, known_before}
 use Rattle.c_ready.specs.Ready as stages
-use Rattle.c_ready.proofs.HomesApart.{occurs, occurs-all, homes-most}
-use Rattle.c_ready.proofs.NodesOnce.{used-once, used-most, made-once}
-use Rattle.c_ready.proofs.NodesUsed.{uses}
-use Rattle.c_ready.specs.Ready.{Stage, Fits, IsReady, AreReadyExternals, static_stage, homes_of, variables_named}
+use Rattle.c_ready.specs.Ready.{Stage, Fits, IsReady, IsReadyUnit, static_stage, homes_of, member_nodes, variables_named}
 use Rattle.c_ready.proofs.Basics.{all-left, all-right, unmap}
 use Rattle.src_mem.specs.Memory.{Planned}
 use Rattle.src_mem.specs.Operations.{node_at, pointee_at, node_of_shape, pointee_of_shape}
@@ -39,9 +34,8 @@ use Rattle.src_machine.specs.Sites.{addresses_at, linked_to, moves_where_pointer
 use Rattle.cil_form.specs.Sites.{Each}
 use Rattle.unit_sites.specs.Objects.{objects_in}
 use Rattle.unit_sites.proofs.Elements.{each-of, every, only, pair, flat, unflat}
-use Rattle.c_ready.proofs.ReadyUnit.{well-typed-ready}
 use Rattle.unit_sites.proofs.FramesNamed.{plan_named, frame-named}
-use Rattle.unit_sites.proofs.MembersMade.{members, unit-less, IsMemberOf, HasMember, member-in, some-members, one-member}
+use Rattle.unit_sites.proofs.MemberNodes.{IsMemberOf, HasMember, member-in, member-listed, distinct-right, never-both, one-member}
 use Rattle.unit_sites.proofs.NamesAlike.{first-equal}
 use Rattle.unit_sites.proofs.PiecesReady.{unit-pieces}
 
@@ -146,7 +140,7 @@ module _ (u : TypedTranslationUnit) (T : Table) where
   abbrev HasEnds : Site → Type 0
   HasEnds (site.Flow m t n v at) = Contains (sites_of u T) (site.Pointee m t) × Contains (sites_of u T) (site.Pointee n v)
   HasEnds (site.Pointee n t) = ((a : TypeId) × HasShape T a (shape.Pointer n t)) ⊎ HasMember n t (pieces_of_unit u)
-  HasEnds (site.Home n t) = 1 ≤ occurs n.0 (homes_of u)
+  HasEnds (site.Home n t) = Contains (homes_of u) n.0
   HasEnds (site.Same first t) = IsTrue (physically_equal T first t)
   HasEnds other = Unit {0}
 
@@ -265,13 +259,13 @@ module _ (u : TypedTranslationUnit) (T : Table) where
       (λ i q. shape-ends (record { 0 = i }) q (shape_at T (record { 0 = i })) refl))
 
   abbrev IsHome : ℕ → Type 0
-  IsHome m = 1 ≤ occurs m (homes_of u)
+  IsHome m = Contains (homes_of u) m
 
   statics-are_homes : All (λ (o : MadeObject). IsHome o.home.0) (statics_of u)
   statics-are_homes =
       unmap IsHome (λ (o : MadeObject). o.home.0) (statics_of u)
       (all-left IsHome (map (λ (o : MadeObject). o.home.0) (statics_of u))
-      (flat_map (λ f. map (λ (o : stages.Named). o.0.0) (variables_named f)) (functions_of u)) (occurs-all (homes_of u)))
+      (flat_map (λ f. map (λ (o : stages.Named). o.0.0) (variables_named f)) (functions_of u)) (All-contains_itself (homes_of u)))
 
   frames-are_homes : All (λ f. All (λ (o : stages.Named). IsHome o.0.0) (variables_named f)) (functions_of u)
   frames-are_homes =
@@ -280,7 +274,7 @@ module _ (u : TypedTranslationUnit) (T : Table) where
       (λ f h. unmap IsHome (λ (o : stages.Named). o.0.0) (variables_named f) h) (functions_of u)
       (unflat IsHome (λ f. map (λ (o : stages.Named). o.0.0) (variables_named f)) (functions_of u)
       (all-right IsHome (map (λ (o : MadeObject). o.home.0) (statics_of u))
-      (flat_map (λ f. map (λ (o : stages.Named). o.0.0) (variables_named f)) (functions_of u)) (occurs-all (homes_of u))))
+      (flat_map (λ f. map (λ (o : stages.Named). o.0.0) (variables_named f)) (functions_of u)) (All-contains_itself (homes_of u))))
 
   frame-ends : (f : DefinedFunction) → All (λ (o : stages.Named). IsHome o.0.0) (variables_named f) → Ends (frame_homes u T f)
   frame-ends f h =
@@ -296,19 +290,16 @@ module _ (u : TypedTranslationUnit) (T : Table) where
       (All-weaker (λ f. All (λ (o : stages.Named). IsHome o.0.0) (variables_named f)) (λ f. Ends (frame_homes u T f)) frame-ends (functions_of u)
       frames-are_homes))
 
-  names-ends : IsWellTyped T u → Ends (sites_of_names (named_in u T))
-  names-ends w =
+  names-ends : IsReadyUnit T u → Ends (sites_of_names (named_in u T))
+  names-ends r =
       let all = named_in u T in
       flat HasEnds (λ (x : Named). same_as x.type (first_type all x.which)) all
       (All-weaker (λ (x : Named). (first : TypeId) → first_type all x.which ≡ Some first → IsTrue (physically_equal T first x.type))
-      (λ (x : Named). Ends (same_as x.type (first_type all x.which))) (λ x h. same-ends x.type (first_type all x.which) h) all (first-equal T u w))
+      (λ (x : Named). Ends (same_as x.type (first_type all x.which))) (λ x h. same-ends x.type (first_type all x.which) h) all (first-equal T u r))
 
-  module _ (w : IsWellTyped T u) where
-    ready : AreReadyExternals (static_stage T u) u
-    ready = (well-typed-ready T u w).externals
-
+  module _ (r : IsReadyUnit T u) where
     joins : All (IsJoin T) (pieces_of_unit u)
-    joins = unit-pieces (λ T n piece. IsJoin T piece) value-join (λ k p r. tt) (λ k x r. tt) (λ k d t i h r. tt) (static_stage T u) u ready
+    joins = unit-pieces (λ T n piece. IsJoin T piece) value-join (λ k p q. tt) (λ k x q. tt) (λ k d t i h q. tt) (static_stage T u) u r.externals
 
     all : Ends (sites_of u T)
     all =
@@ -316,7 +307,7 @@ module _ (u : TypedTranslationUnit) (T : Table) where
         (All-append HasEnds (sites_of_table T ++ sites_of_homes u) (flat_map (sites_of_piece T) (pieces_of_unit u))
         (All-append HasEnds (sites_of_table T) (sites_of_homes u) table-ends homes-ends)
         (flat HasEnds (sites_of_piece T) (pieces_of_unit u)
-        (pieces-ends (pieces_of_unit u) joins (member-in (pieces_of_unit u))))) (names-ends w)
+        (pieces-ends (pieces_of_unit u) joins (member-in (pieces_of_unit u))))) (names-ends r)
 
     -- what flows is told of at both ends
     pub flows-told : (m n : NodeId) (t v : TypeId) (at : Place) → Contains (sites_of u T) (site.Flow m t n v at)
@@ -329,16 +320,9 @@ module _ (u : TypedTranslationUnit) (T : Table) where
 
     -- Nodes
 
-    members-most : (n : ℕ) → uses T n (used_by_unit T u) + members n (pieces_of_unit u) + occurs n (homes_of u) ≤ 1
-    members-most n =
-        let a = used-most T u (known_before u) w.after w.basic w.numbered w.typed w.types ready n in
-        let b = (unit-less n u).few in
-        let c = homes-most u n in
-        let d = made-once T u (known_before u) w.after w.basic w.numbered w.typed w.types ready n in
-        omega (arith, a, b, c, d)
-
-    used : (t to : TypeId) (n : NodeId) → HasShape T t (shape.Pointer n to) → 1 ≤ uses T n.0 (used_by_unit T u)
-    used t to n h = used-once T u (known_before u) w.after w.basic w.numbered w.typed w.types ready t to n h
+    -- the node of a pointer type is no object's and no member's
+    other : (t to : TypeId) (n : NodeId) → HasShape T t (shape.Pointer n to) → Contains (homes_of u ++ member_nodes u) n.0 → ⊥
+    other t to n h c = All-contains (λ m. m ≢ n.0) (homes_of u ++ member_nodes u) n.0 (r.homes t to n h) c refl
 
     same-pointee : (n : NodeId) (t v : TypeId) → shape.Pointer n t ≡ shape.Pointer n v → t ≡ v
     same-pointee n t v h = cc
@@ -349,17 +333,17 @@ module _ (u : TypedTranslationUnit) (T : Table) where
     pointees-told n t v c e =
         let x = All-contains HasEnds (sites_of u T) (site.Pointee n t) all c in
         let y = All-contains HasEnds (sites_of u T) (site.Pointee n v) all e in
-        let most = members-most n.0 in
         elim x [
           | inl a ↦ elim y [
             | inl b ↦
-                let one = (well-typed-ready T u w).pointees a.0 t b.0 v n a.1 b.1 in
-                same-pointee n t v (sym a.1.1 ∙ (ap (λ z. shape_at T z) one ∙ b.1.1))
-            | inr b ↦ absurd (omega (arith, most, used a.0 t n a.1, some-members n v (pieces_of_unit u) b))
+                let one = r.pointees a.0 t b.0 v n a.1 b.1 in same-pointee n t v (sym a.1.1 ∙ (ap (λ z. shape_at T z) one ∙ b.1.1))
+            | inr b ↦
+                absurd (other a.0 t n a.1 (Contains-append_right (homes_of u) (member_nodes u) n.0 (member-listed n v (pieces_of_unit u) b)))
           ]
           | inr a ↦ elim y [
-            | inl b ↦ absurd (omega (arith, most, used b.0 v n b.1, some-members n t (pieces_of_unit u) a))
-            | inr b ↦ one-member n t v (pieces_of_unit u) (omega (arith, most)) a b
+            | inl b ↦
+                absurd (other b.0 v n b.1 (Contains-append_right (homes_of u) (member_nodes u) n.0 (member-listed n t (pieces_of_unit u) a)))
+            | inr b ↦ one-member n t v (pieces_of_unit u) (distinct-right (homes_of u) (member_nodes u) r.members) a b
           ]
         ]
 
@@ -368,8 +352,7 @@ module _ (u : TypedTranslationUnit) (T : Table) where
     homes-told n t v c e =
         let x = All-contains HasEnds (sites_of u T) (site.Pointee n t) all c in
         let y = All-contains HasEnds (sites_of u T) (site.Home n v) all e in
-        let most = members-most n.0 in
         elim x [
-          | inl a ↦ omega (arith, most, used a.0 t n a.1, y)
-          | inr a ↦ omega (arith, most, some-members n t (pieces_of_unit u) a, y)
+          | inl a ↦ other a.0 t n a.1 (Contains-append_left (homes_of u) (member_nodes u) n.0 y)
+          | inr a ↦ never-both (homes_of u) (member_nodes u) r.members n.0 y (member-listed n t (pieces_of_unit u) a)
         ]

@@ -1,3 +1,4 @@
+use Rattle.cil_facts.proofs.Comparing.{difference-keeps, comparison-keeps}
 use Rattle.cil_facts.proofs.Points.{move-keeps, null-keeps, decay-keeps, address-keeps, member-keeps}
 use Rattle.cil_facts.proofs.pointer_operations_keep_the_facts.Goals as goal
 
@@ -18,3 +19,11 @@ returns-clause-addresses f into source outer inner t k a types after c solved sh
 pub returns-clause-members : goal.returns-clause-members
 returns-clause-members f into source outer t i inner u at k a types after c solved shaped facts =
     member-keeps k a solved types after c facts into source outer t i inner u at shaped
+
+pub returns-clause-differences : goal.returns-clause-differences
+returns-clause-differences f into p q t u at k a types after c solved shaped facts =
+    difference-keeps k a solved types after c facts into p q t u at shaped
+
+pub returns-clause-comparisons : goal.returns-clause-comparisons
+returns-clause-comparisons f into o p q t u at k a types after c solved shaped facts =
+    comparison-keeps k a solved types after c facts into o p q t u at shaped

@@ -1,7 +1,10 @@
-use Rattle.c_build.proofs.Passes.{built_so}
+use Rattle.c_front.specs.Refused.{IsFirstRefusal}
+use Rattle.c_build.proofs.CuringLaws.{built_so, wanting}
 use Rattle.c_build.proofs.building.build.Goals as goal
 
 pub returns-in-Ok-clause-built : goal.returns-in-Ok-clause-built
 returns-in-Ok-clause-built c =
-    built_so c.args.text.now c.in-Ok.typed c.with_code.result c.in-Ok.ensures.accepted c.in-Ok.ensures.nodes c.in-Ok.ensures.printed
-    c.in-Ok.ensures.ordered c.with_code.ensures.typed c.with_code.ensures.lowered c.with_code.ensures.solved
+    built_so c.args.text.now c.in-Ok.inferred c.build_inferred.result c.build_inferred.ensures.built c.in-Ok.ensures.inferred
+
+pub returns-in-Ok-clause-refused : goal.returns-in-Ok-clause-refused
+returns-in-Ok-clause-refused c = wanting (IsFirstRefusal c.args.text.now) c.build_inferred.result c.build_inferred.ensures.wants

@@ -9,5 +9,5 @@ report-requires-clause-causes c = rw c.as_slice.ensures (causes_within c.require
 
 pub returns : goal.returns
 returns c =
-    has_kinds (λ lines. lines.items) c.args.built.now.typed c.args.built.now.code c.args.built.now.solved c.report.result
+    has_kinds (λ lines. lines.items) c.args.inferred.now.typed c.args.inferred.now.code c.args.inferred.now.solved c.report.result
     (rw c.as_slice.ensures at c.report.ensures.text)

@@ -1,6 +1,8 @@
-use Rattle.std.proofs.Common.{◌≡◌, length}
+use Rattle.std.proofs.Common.{◌≡◌, ◌≤◌, ℕ, length, sym, subst}
+use Rattle.c_tree.specs.Depth.{unit_height}
 use Rattle.c_tree.specs.Erasure.{erased_unit}
 use Rattle.c_tree.specs.StatementViews.{unit_view}
+use Rattle.c_tree.specs.Tree.{TranslationUnit}
 use Rattle.c_tree.specs.TypedParts.{made_by_unit, nodes_made}
 use Rattle.c_tree.specs.TypedStatementViews.{typed_unit_view}
 use Rattle.c_tree.specs.TypedTree.{TypedTranslationUnit}
@@ -52,6 +54,12 @@ pub returns-clause-limited : goal.returns-clause-limited
 returns-clause-limited c =
     let u = unit_view c.args.unit.now in
     answered-ok u c.checked.result (λ t. IsWithinLimits t.types (typed_unit_view t.unit)) (within-limits u) c.checked.ensures
+
+pub returns-clause-low : goal.returns-clause-low
+returns-clause-low c =
+    let u = unit_view c.args.unit.now in
+    answered-ok u c.checked.result (λ t. unit_height (erased_unit (typed_unit_view t.unit)) ≤ 256)
+    (λ t j. subst (λ (v : TranslationUnit). unit_height v ≤ 256) (sym (erases u t j)) c.requires) c.checked.ensures
 
 pub returns-clause-basic : goal.returns-clause-basic
 returns-clause-basic c =

@@ -1,6 +1,11 @@
-use Rattle.std.proofs.Common.{◌∙◌, arith}
+use Rattle.std.proofs.Common.{sym, subst, ◌∙◌, arith}
+use Rattle.cil_form.specs.declared.program.Program.{Program}
+use Rattle.cure_ready.specs.Curable.{HaveFewParameters}
 use Rattle.cure_code.proofs.ProgramLaws.{cured_as, in_range_as}
 use Rattle.cure_code.proofs.programs.cure.Goals as goal
+
+pub cured_functions-requires-clause-few : goal.cured_functions-requires-clause-few
+cured_functions-requires-clause-few c = subst (λ (p : Program). HaveFewParameters p.types) (sym c.program-program.ensures.same) c.requires.few
 
 pub returns : goal.returns
 returns c = record {

@@ -18,7 +18,7 @@ statement-returns-in-IfElse t c = rw (c.in-IfElse.is, typed_statement-IfElse) (g
 
 pub statement-returns-in-Switch : goal.statement-returns-in-Switch
 unfolding Pieces
-statement-returns-in-Switch t c = rw (c.in-Switch.is, typed_statement-Switch) (grows_where _ _ _ _ _ _ (rw c.as_slice-items.ensures at c.demand_labels.ensures) (grows_blocked _ _ _ _ _ _ c.put_block.ensures c.start-inner.ensures (grows_then _ _ _ _ _ _ _ c.expr-in-Switch.ensures (grows_then _ _ _ _ _ _ _ (rw c.as_slice-items.ensures at c.put_begin.ensures) (grows_then _ _ _ _ _ _ _ (rw (c.as_slice-items.ensures, c.switch_of.ensures) at c.put_tests.ensures) (rw c.as_slice-items.ensures at c.pieces.ensures))))))
+statement-returns-in-Switch t c = rw (c.in-Switch.is, typed_statement-Switch) (grows_where _ _ _ _ _ _ (rw c.as_slice-items.ensures at c.labels_fit.ensures) (grows_blocked _ _ _ _ _ _ c.put_block.ensures c.start-inner.ensures (grows_then _ _ _ _ _ _ _ c.expr-in-Switch.ensures (grows_then _ _ _ _ _ _ _ (rw c.as_slice-items.ensures at c.put_begin.ensures) (grows_then _ _ _ _ _ _ _ (rw (c.as_slice-items.ensures, c.switch_of.ensures) at c.put_tests.ensures) (rw c.as_slice-items.ensures at c.pieces.ensures))))))
 
 pub statement-returns-in-While : goal.statement-returns-in-While
 statement-returns-in-While t c = rw (c.in-While.is, typed_statement-While) (grows_looped _ _ _ _ _ _ c.put_loop.ensures c.start-round.ensures (grows_then _ _ _ _ _ _ _ c.test.ensures (grows_blocked _ _ _ _ _ _ c.put_block-in-While.ensures c.start-body.ensures (rw (c.in_loop.ensures, c.get-in-While.ensures) at c.statement-in-While.ensures))))

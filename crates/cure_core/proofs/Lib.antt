@@ -1,2 +1,0 @@
-pub mod TextCauses
-pub mod JudgedStatuses

@@ -1,4 +1,0 @@
-pub mod SameRun
-pub mod Curing
-pub mod Relation
-pub mod Views

@@ -1,3 +1,0 @@
-mod curing;
-mod language;
-mod top;

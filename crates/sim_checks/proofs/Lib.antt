@@ -1,0 +1,14 @@
+pub mod Addresses
+pub mod Pointing
+pub mod Sequences
+pub mod Escape
+pub mod Division
+pub mod Distances
+pub mod Moves
+pub mod Standing
+pub mod Sameness
+pub mod Differences
+pub mod Calling
+pub mod Tagged
+pub mod Mixed
+pub mod WildCopies

@@ -1,0 +1,5 @@
+pub mod Rows
+pub mod Moving
+pub mod Comparing
+pub mod Calling
+pub mod Tagged

@@ -1,0 +1,204 @@
+-- The check in front of a use of a pointer without tags: NULL or BOUNDS. Where it has passed, the pointer is a place, and both machines find
+-- the same object there.
+use Rattle.std.proofs.Common.{◌≡◌, ◌≢◌, ℕ, ◌+◌, ◌<◌, inl, inr, Bool, true, false, List, [], ◌∷◌, slice_index, Some, refl, ap, sym, subst, ◌∙◌, arith, nat_eq, if◌then◌else◌}
+use Rattle.cc_base.specs.declared.fault.Check.TheVariants as check
+use Rattle.cc_base.specs.declared.kind.Kind.{Kind}
+use Rattle.cc_base.specs.declared.kind.Kind.TheVariants.{Safe, Seq, Rtti, Wild}
+use Rattle.cc_base.specs.declared.number.TypeId.{TypeId}
+use Rattle.cc_base.specs.declared.number.NodeId.{NodeId}
+use Rattle.cc_base.specs.declared.place.Place.{Place}
+use Rattle.c_types.specs.Table.{IsComplete}
+use Rattle.c_types.specs.Layouts.{size_of}
+use Rattle.flat_mem.specs.Bytes.{bytes_at}
+use Rattle.src_mem.specs.Pointers.{Pointer, Value, Integer, Address}
+use Rattle.src_mem.specs.State as source
+use Rattle.src_mem.specs.Checks.{Condition, NotNull, InBounds}
+use Rattle.src_mem.specs.Facts.{IsHeldBy}
+use Rattle.facts_kept.specs.Kept.{asked_of}
+use Rattle.cil_form.specs.declared.number.Temp.{Temp}
+use Rattle.cil_form.specs.State as code
+use Rattle.cil_form.specs.Typing.{HeldType, PointerTo, PlaceOf}
+use Rattle.cured_code.specs.FlatState as flat
+use Rattle.cured_code.specs.FlatState.{slot}
+use Rattle.check_forms.specs.declared.slots.Fixed.{Fixed}
+use Rattle.check_forms.specs.Lines.{IsOther}
+use Rattle.check_forms.specs.Conditions.{IsInPart, IsByteInPart}
+use Rattle.check_forms.specs.Rows.{asked, reached}
+use Rattle.sim_checks.specs.Rows.{AreWordsOf, IsChecked}
+use Rattle.sim_checks.proofs.Pointing.{null-compared}
+use Rattle.sim_checks.proofs.Sequences.{bounds-compared}
+use Rattle.sim_relation.specs.Ground.{Ground, pointer_words, word_number}
+use Rattle.sim_relation.specs.Points.{Known, Knowledge, Sure, StandsFor}
+use Rattle.cure_rules.specs.Slots.{AreSlots, Size, work_of}
+use Rattle.cure_rules.specs.Known.{IsAddress, held_words, pointer_slots}
+use Rattle.cure_rules.specs.Checks.{Seat, need, reach_needs, size_at}
+use Rattle.sim_laws.specs.Scenes.{Scene, Running, setting_of, world_of}
+use Rattle.sim_laws.specs.Points.{Holds, Point, Passed, IsLasting, ground_of}
+use Rattle.sim_laws.proofs.Guards.{lasting-other}
+use Rattle.sim_laws.proofs.Names.{Names}
+use Rattle.sim_laws.proofs.Checks.{AreThere, AreOfRoles, AreReady, AreCompared, known-lasting}
+
+-- A pointer or a place that a temporary holds, in slots that last.
+pub record Pointed (w : Scene) (g : AreSlots w.slots) (b : Running) (l : code.Local) (c : flat.Local) (t : Temp) (n : NodeId) (u : TypeId) (a : ℕ) : Type 0 where
+  pub pointer : Pointer
+  pub value : l.temps t ≡ Address pointer
+  pub held : IsHeldBy (setting_of w.programs) w.programs.sites l.state.memory b.depth n u pointer
+  pub words : bytes_at (word_number (w.programs.whole.kind n)) c.slots a ≡ pointer_words (ground_of w.programs l.state c.state) (w.programs.whole.kind n) pointer
+  pub lasting : (j : ℕ) → j < word_number (w.programs.whole.kind n) → IsLasting (g.owner (a + j))
+
+pointed-to : (w : Scene) (g : AreSlots w.slots) (b : Running) (known : Knowledge) (l : code.Local) (c : flat.Local) → Point w g b known l c → (t : Temp) (x : Known)
+    → known t ≡ Some x → (a : ℕ) → x.place ≡ Some a → (n : NodeId) (u : TypeId) → held_words w.programs.whole x.type ≡ word_number (w.programs.whole.kind n)
+    → (v : Value) → l.temps t ≡ v → Holds w.programs l.state b.depth (PointerTo n u) v
+    → StandsFor (ground_of w.programs l.state c.state) c.slots x (PointerTo n u) v → Pointed w g b l c t n u a
+pointed-to w g b known l c p t x fact a place n u long (Integer z) value held stands = absurd held
+pointed-to w g b known l c p t x fact a place n u long (Address q) value held stands = record {
+  pointer = q;
+  value = value;
+  held = held;
+  words = stands.in_slots a place;
+  lasting = λ j less. known-lasting w g b known l c p t x fact a place j (omega (arith, less, long));
+}
+
+-- a place is a pointer too
+place-pointer : (w : Scene) (s : source.State) (depth : ℕ) (n : NodeId) (u : TypeId) (v : Value) → Holds w.programs s depth (PlaceOf n u) v
+    → Holds w.programs s depth (PointerTo n u) v
+place-pointer w s depth n u (Integer z) h = h
+place-pointer w s depth n u (Address q) h = h.0
+
+place-stands : (gr : Ground) (slots : List ℕ) (x : Known) (n : NodeId) (u : TypeId) (v : Value) → StandsFor gr slots x (PlaceOf n u) v
+    → StandsFor gr slots x (PointerTo n u) v
+place-stands gr slots x n u (Integer z) h = h
+place-stands gr slots x n u (Address q) h = h
+
+pub pointed : (w : Scene) (g : AreSlots w.slots) (b : Running) (known : Knowledge) (l : code.Local) (c : flat.Local) → Point w g b known l c → (t : Temp) (n : NodeId)
+    (u : TypeId) (a : ℕ) (sure : List Sure) → IsAddress known t n u a sure → Pointed w g b l c t n u a
+pointed w g b known l c p t n u a sure (x, fact, inl is, place, listed) =
+    pointed-to w g b known l c p t x fact a place n u (ap (held_words w.programs.whole) is) (l.temps t) refl
+    (subst (λ (h : HeldType). Holds w.programs l.state b.depth h (l.temps t)) is (p.held t x fact))
+    (subst (λ (h : HeldType). StandsFor (ground_of w.programs l.state c.state) c.slots x h (l.temps t)) is (p.stands t x fact))
+pointed w g b known l c p t n u a sure (x, fact, inr is, place, listed) =
+    pointed-to w g b known l c p t x fact a place n u (ap (held_words w.programs.whole) is) (l.temps t) refl
+    (place-pointer w l.state b.depth n u (l.temps t) (subst (λ (h : HeldType). Holds w.programs l.state b.depth h (l.temps t)) is (p.held t x fact)))
+    (place-stands (ground_of w.programs l.state c.state) c.slots x n u (l.temps t)
+    (subst (λ (h : HeldType). StandsFor (ground_of w.programs l.state c.state) c.slots x h (l.temps t)) is (p.stands t x fact)))
+
+-- Its words, wherever the slots that last are as they were
+
+abbrev head : List ℕ → ℕ
+head [] = 0
+head (x ∷ xs) = x
+
+abbrev second : List ℕ → ℕ
+second [] = 0
+second (x ∷ xs) = head xs
+
+abbrev third : List ℕ → ℕ
+third [] = 0
+third (x ∷ xs) = second xs
+
+words-of : (gr : Ground) (k : Kind) (slots : List ℕ) (a : ℕ) (q : Pointer) (e : ℕ → ℕ) → bytes_at (word_number k) slots a ≡ pointer_words gr k q
+    → ((j : ℕ) → j < word_number k → e (a + j) ≡ slice_index slots (a + j)) → AreWordsOf gr e (pointer_slots a) k q
+unfolding bytes_at
+words-of gr k slots a q e h same = by k h same
+  where
+    at : (j m : ℕ) → a + j ≡ m → e (a + j) ≡ slice_index slots (a + j) → e m ≡ slice_index slots m
+    at j m f r = subst (λ (i : ℕ). e i ≡ slice_index slots i) f r
+
+    by : (k : Kind) → bytes_at (word_number k) slots a ≡ pointer_words gr k q → ((j : ℕ) → j < word_number k → e (a + j) ≡ slice_index slots (a + j))
+        → AreWordsOf gr e (pointer_slots a) k q
+    by Safe h same = at 0 a (omega arith) (same 0 (omega arith)) ∙ ap head h
+    by Rtti h same = (at 0 a (omega arith) (same 0 (omega arith)) ∙ ap head h, same 1 (omega arith) ∙ ap second h)
+    by Seq h same = (
+      at 0 a (omega arith) (same 0 (omega arith)) ∙ ap head h,
+      same 1 (omega arith) ∙ ap second h,
+      same 2 (omega arith) ∙ ap (slice_index slots) (let f : a + 2 ≡ a + 1 + 1 = omega arith in f) ∙ ap third h,
+    )
+    by Wild h same = (at 0 a (omega arith) (same 0 (omega arith)) ∙ ap head h, same 1 (omega arith) ∙ ap second h)
+
+pub checked-words : (w : Scene) (g : AreSlots w.slots) (b : Running) (known : Knowledge) (l : code.Local) (c d : flat.Local) → Point w g b known l c
+    → Passed w g c.slots d.slots → (t : Temp) (n : NodeId) (u : TypeId) (a : ℕ) (m : Pointed w g b l c t n u a)
+    → IsChecked (setting_of w.programs) w.programs.whole.node l.state c.state b.depth (w.programs.whole.kind n) u m.pointer (slot d) (pointer_slots a)
+checked-words w g b known l c d p passed t n u a m = record {
+  related = p.there.related;
+  held = m.held.held;
+  words = words-of (ground_of w.programs l.state c.state) (w.programs.whole.kind n) c.slots a m.pointer (slot d) m.words (λ j less. passed.others (a + j) (m.lasting j less));
+}
+
+-- NULL and BOUNDS
+
+module _ (w : Scene) (names : Names w) (g : AreSlots w.slots) (b : Running) (known : Knowledge) (l : code.Local) (c : flat.Local) (p : Point w g b known l c)
+    (t : Temp) (n : NodeId) (u : TypeId) (a : ℕ) (m : Pointed w g b l c t n u a) (complete : IsComplete w.programs.whole.table u) where
+  operand : (j : ℕ) → j < word_number (w.programs.whole.kind n) → IsOther (work_of w.slots) (a + j)
+  operand j less = lasting-other w g (a + j) (m.lasting j less)
+
+  operand-at : (j i : ℕ) → a + j ≡ i → j < word_number (w.programs.whole.kind n) → IsOther (work_of w.slots) i
+  operand-at j i e less = subst (IsOther (work_of w.slots)) e (operand j less)
+
+  -- the numbers are of roles of their own
+  pub reach-roles : (k : Kind) → k ≢ Wild → (size : Fixed) → AreOfRoles (reach_needs k size)
+  reach-roles Safe other size = tt
+  reach-roles Rtti other size = tt
+  reach-roles Seq other size = by (nat_eq size.value 1)
+    where
+      by : (q : Bool) → AreOfRoles (if q then [] else need Size size ∷ [])
+      by true = tt
+      by false = (refl, tt, tt)
+  reach-roles Wild other size = absurd (other refl)
+
+  -- what the lines read is there
+  pub reach-ready : (k : Kind) → w.programs.whole.kind n ≡ k → k ≢ Wild → (size : Fixed) (at : Place) (d : flat.Local) → AreThere w d (reach_needs k size)
+      → AreReady w c d (reached k (pointer_slots a) size at)
+  reach-ready Safe e other size at d there =
+      record { apart = (operand-at 0 a (omega arith) (subst (λ (k : Kind). 0 < word_number k) (sym e) (omega arith)), tt); held = (tt, tt); safe = (tt, λ q. tt) }
+  reach-ready Rtti e other size at d there =
+      record { apart = (operand-at 0 a (omega arith) (subst (λ (k : Kind). 0 < word_number k) (sym e) (omega arith)), tt); held = (tt, tt); safe = (tt, λ q. tt) }
+  reach-ready Seq e other size at d there = by (nat_eq size.value 1) there
+    where
+      few : (j : ℕ) → j < 3 → j < word_number (w.programs.whole.kind n)
+      few j less = subst (λ (k : Kind). j < word_number k) (sym e) less
+
+      by : (q : Bool) → AreThere w d (if q then [] else need Size size ∷ [])
+          → AreReady w c d (asked check.Bounds at (if q then IsByteInPart (pointer_slots a) else IsInPart (pointer_slots a) size) ∷ [])
+      by true are = record {
+        apart = ((operand-at 0 a (omega arith) (few 0 (omega arith)), (operand 1 (few 1 (omega arith)), (operand 2 (few 2 (omega arith)), tt))), tt);
+        held = (tt, tt);
+        safe = (tt, λ q. tt);
+      }
+      by false are = record {
+        apart = ((operand-at 0 a (omega arith) (few 0 (omega arith)), (operand 1 (few 1 (omega arith)), (operand 2 (few 2 (omega arith)), (are.1, tt)))), tt);
+        held = (are.0, tt);
+        safe = (tt, λ q. tt);
+      }
+  reach-ready Wild e other size at d there = absurd (other refl)
+
+  -- the lines compare what C does
+  pub reach-compared : (k : Kind) → w.programs.whole.kind n ≡ k → k ≢ Wild → (seat : Seat) (at : Place) (place : Condition → Place)
+      → ((q : Pointer) → place (NotNull q) ≡ at) → ((i : ℕ) (q : Pointer) → place (InBounds i q) ≡ at) → (d : flat.Local) → Passed w g c.slots d.slots
+      → AreCompared w.programs.parts c.state.memory (slot d) (setting_of w.programs) l.state.memory place
+      (reached k (pointer_slots a) (size_at (world_of w) seat k u) at) (asked_of (size_of w.programs.whole.table u) k m.pointer)
+  reach-compared Safe e other seat at place null bounds d passed = (
+    refl,
+    sym (null m.pointer),
+    null-compared (setting_of w.programs) w.programs.whole.node l.state c.state w.programs.parts b.depth Safe u m.pointer (slot d) (pointer_slots a) (inl refl)
+        (subst (λ (k : Kind). IsChecked (setting_of w.programs) w.programs.whole.node l.state c.state b.depth k u m.pointer (slot d) (pointer_slots a)) e
+        (checked-words w g b known l c d p passed t n u a m)),
+    λ h. tt,
+  )
+  reach-compared Rtti e other seat at place null bounds d passed = (
+    refl,
+    sym (null m.pointer),
+    null-compared (setting_of w.programs) w.programs.whole.node l.state c.state w.programs.parts b.depth Rtti u m.pointer (slot d) (pointer_slots a) (inr refl)
+        (subst (λ (k : Kind). IsChecked (setting_of w.programs) w.programs.whole.node l.state c.state b.depth k u m.pointer (slot d) (pointer_slots a)) e
+        (checked-words w g b known l c d p passed t n u a m)),
+    λ h. tt,
+  )
+  reach-compared Seq e other seat at place null bounds d passed = (
+    refl,
+    sym (bounds (size_of w.programs.whole.table u) m.pointer),
+    bounds-compared (setting_of w.programs) w.programs.whole.node l.state c.state w.programs.parts b.depth u names.solved.well_formed complete (slot d) (pointer_slots a)
+        (size_at (world_of w) seat Seq u) (names.sizes.size u complete) m.pointer
+        (subst (λ (k : Kind). IsChecked (setting_of w.programs) w.programs.whole.node l.state c.state b.depth k u m.pointer (slot d) (pointer_slots a)) e
+        (checked-words w g b known l c d p passed t n u a m)),
+    λ h. tt,
+  )
+  reach-compared Wild e other seat at place null bounds d passed = absurd (other refl)

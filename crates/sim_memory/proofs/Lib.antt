@@ -1,0 +1,14 @@
+pub mod Words
+pub mod Finding
+pub mod Loading
+pub mod Storing
+pub mod Zeros
+pub mod Clearing
+pub mod Blocks
+pub mod Copying
+pub mod BlockWidths
+pub mod WildLoads
+pub mod WildStores
+pub mod WildIntegers
+pub mod WildClears
+pub mod WildMoves

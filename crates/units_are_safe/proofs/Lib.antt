@@ -1,0 +1,4 @@
+pub mod Forms
+pub mod Values
+pub mod Statements
+pub mod Units

@@ -111,7 +111,7 @@ module _ (table : Table) (w : IsWellFormed table) where
       let down = begins-same u t v s f e in
       let tiled = tile-alike t u s v e f in
       λ i. if equal i then Equal else (if up i then (if tiled i then UpTile else Up)
-          else (if down i then (if tiled i then DownTile else Down) else (if tiled i then Tile else Bad)))
+      else (if down i then (if tiled i then DownTile else Down) else (if tiled i then Tile else Bad)))
     where
       back : (x y : TypeId) → physically_equal table x y ≡ true → physically_equal table y x ≡ true
       back x y h = (equal_equiv table).symm y x ∙ h

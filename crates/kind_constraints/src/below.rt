@@ -1,12 +1,11 @@
 #![tactic(auto)]
 
 ghost use Rattle.std.specs.Prelude.{◌≡◌, ◌↔◌, ◌<◌, Some, length, IfOk, OnOk, IsTrue, All};
-ghost use Rattle.std.specs.List.{Contains, list_any};
+ghost use Rattle.std.specs.List.{list_any};
 ghost use Rattle.cc_base.specs.declared.number.TypeId.{TypeId};
 ghost use Rattle.c_types.specs.Table.{IsType};
 ghost use Rattle.c_types.specs.Equality.{strictly_below};
 ghost use Rattle.c_types.specs.Solutions.{HasBelow};
-ghost use Rattle.phys_types.specs.Firsts.{AreFirstEquals};
 ghost use Rattle.kind_constraints.specs.Adding.{Adds};
 ghost use Rattle.kind_constraints.specs.Asked.{IsReady};
 ghost use Rattle.kind_constraints.specs.Pieces.{IsPointee, ArePointees, AreBelows, IsFirstOf, pointee_of};

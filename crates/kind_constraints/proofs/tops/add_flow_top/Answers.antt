@@ -1,6 +1,6 @@
 use Rattle.std.specs.Prelude.{OnOk}
 use Rattle.std.proofs.Common.{◌≡◌, List, sym, subst}
-use Rattle.c_types.specs.Table.{Entry, IsType}
+use Rattle.c_types.specs.Table.{Entry}
 use Rattle.c_types.specs.Flows.{flow_class}
 use Rattle.phys_types.specs.Found.{Gains}
 use Rattle.kind_constraints.specs.Pieces.{IsFlowTop}

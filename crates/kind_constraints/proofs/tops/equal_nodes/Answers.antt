@@ -5,7 +5,7 @@ use Rattle.std.proofs.lemmas.Result.{IfOk-weaker}
 use Rattle.cc_base.specs.declared.number.NodeId.{NodeId}
 use Rattle.cc_base.specs.declared.number.TypeId.{TypeId}
 use Rattle.c_types.specs.Table.{Entry}
-use Rattle.phys_types.specs.Found.{no_pairs, Gains}
+use Rattle.phys_types.specs.Found.{Gains}
 use Rattle.phys_types.specs.Standing.{AreEqualTypes, CorrespondInSome}
 use Rattle.constraint_laws.specs.Given.{AreOfOneCell}
 use Rattle.constraint_laws.proofs.Tops.{equals-found}

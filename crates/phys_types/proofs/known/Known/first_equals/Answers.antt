@@ -1,4 +1,4 @@
-use Rattle.std.proofs.Common.{List, ℕ, ap, sym, subst, ◌∙◌}
+use Rattle.std.proofs.Common.{List, ℕ, subst}
 use Rattle.std.proofs.lemmas.Result.{IfOk-weaker}
 use Rattle.c_types.specs.Table.{Entry}
 use Rattle.phys_types.specs.Firsts.{AreFirstsWith, AreFirstEquals}

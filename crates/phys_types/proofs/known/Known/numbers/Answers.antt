@@ -1,4 +1,4 @@
-use Rattle.std.proofs.Common.{List, ℕ, sym, subst}
+use Rattle.std.proofs.Common.{List, sym, subst}
 use Rattle.c_types.specs.Table.{Entry}
 use Rattle.phys_types.specs.Rounds.{TellEqual}
 use Rattle.phys_types.proofs.Knowing.{known_equal}

@@ -85,7 +85,7 @@ pub tagged-blocks-fit-alike : (w : Setting) (number_of : TypeId → ℕ) (s : so
 tagged-blocks-fit-alike w number_of s c size cells r ordered sized limit end =
     fit-alike w number_of s c size (tagged_area size) r (area-room w.kind Wild size cells ordered sized) limit end
 
-index-zero : (n i : ℕ) → slice_index (replicate n 0) i ≡ 0
+pub index-zero : (n i : ℕ) → slice_index (replicate n 0) i ≡ 0
 index-zero zero i = refl
 index-zero (suc n) zero = refl
 index-zero (suc n) (suc i) = index-zero n i

@@ -45,6 +45,7 @@ use Rattle.sim_relation.proofs.Integers.{not-touched}
 use Rattle.sim_relation.proofs.Kept.{typed-holds, untagged-holds, typed-contents, pointer-inside, words-width}
 use Rattle.sim_relation.proofs.Places.{image-typed, images-append}
 use Rattle.sim_memory.specs.Found.{IsFound, GoOnAlike}
+use Rattle.sim_memory.proofs.Staying.{stays-change}
 use Rattle.sim_memory.proofs.Loading.{right-found}
 
 -- Words that are moved
@@ -319,7 +320,7 @@ copy-right n from to s p q x y e f =
 pub structs-copied : (w : Setting) (number_of : TypeId → ℕ) (from to : Kind) (t : TypeId) (p q : Pointer) (s : source.State) (x : Context) (a b m : ℕ) (c : flat.Local)
     → IsWellFormed w.table → IsComplete w.table t → from ≢ Wild → to ≢ Wild → Related w number_of s c.state
     → IsFound w number_of s c.state t p (slot c b) → IsFound w number_of s c.state t q (slot c a) → m ≡ cured_size w.table w.kind t
-    → GoOnAlike w number_of c (copy (size_of w.table t) from p to q s) (act (instr.Move a b m) x c) tt c.slots
+    → GoOnAlike w number_of s c (copy (size_of w.table t) from p to q s) (act (instr.Move a b m) x c) tt c.slots
 structs-copied w number_of from to t p q s x a b m c sound complete plain typed r f h wide = record {
   next = with_object h.location.object new (source.touched h.location.object h.at n (source.touched f.location.object f.at n s));
   after = copied m (slot c a) (slot c b) (moved m bytes (slot c a) (slot c b)) c;
@@ -332,8 +333,9 @@ structs-copied w number_of from to t p q s x a b m c sound complete plain typed 
   flat_goes = ap (λ (y : Bool). allowed y (Trap x.function) (goes (λ d. copied m (slot d a) (slot d b) (moved m d.state.memory.bytes (slot d a) (slot d b)) d)) c)
       (both (is_in_list c.state (slot c a) m) (is_in_list c.state (slot c b) m) (in_list (slot c a) m (length bytes) target-inside) (in_list (slot c b) m (length bytes) source-inside));
   slots_are = refl;
-  areas = refl;
-  frames = refl;
+  stays = stays-change w number_of s (with_object h.location.object new (source.touched h.location.object h.at n (source.touched f.location.object f.at n s))) c.state
+      (copied m (slot c a) (slot c b) (moved m bytes (slot c a) (slot c b)) c).state h.location.object h.object new h.found h.live refl refl refl refl refl refl
+      (λ j l. get-moved_other m bytes (slot c a) (slot c b) j (outside j (inl l)));
   related = related-change w number_of (source.touched f.location.object f.at n s) (flat.touched (slot c b) m c.state) h.location.object h.object new
       (moved m bytes (slot c a) (slot c b)) (record { object = h.location.object; offset = h.at; size = n }) (record { at = slot c a; size = m })
       read h.found h.live refl (length-moved m bytes (slot c a) (slot c b)) (moved-bytes m bytes (slot c a) (slot c b) r.sound.bytes)

@@ -1,4 +1,5 @@
 pub mod Words
+pub mod Staying
 pub mod Finding
 pub mod Loading
 pub mod Storing

@@ -121,8 +121,7 @@ integers-loaded w number_of kind t i p s x v a c plain e size r f =
         flat_goes = ap (λ (b : Bool). allowed b (Trap x.function) (goes (loaded i.bytes v (slot c a))) c)
             (found-in_list w number_of s c.state kind f.location i.bytes (slot c a) r y);
         slots_are = ap (slice_set c.slots v) (found-number w number_of s c.state kind f.location i.bytes (slot c a) r y);
-        areas = refl;
-        frames = refl;
+        stays = record { outlines = refl; lives = refl; input = refl; areas = refl; frames = refl; bounds = refl; top = refl; before = λ i h. refl };
         related = related-read w number_of s c.state kind f.location i.bytes (slot c a) r y;
       };
       memory = refl;
@@ -203,8 +202,7 @@ pointers-loaded w sites number_of kind t n u p s x v a c sound plain e memory r 
         source_goes = load-pointer kind f.location s f.object f.at right there;
         flat_goes = loads (w.kind n) x v a c inside;
         slots_are = ap (λ ws. written ws c.slots v) words;
-        areas = refl;
-        frames = refl;
+        stays = record { outlines = refl; lives = refl; input = refl; areas = refl; frames = refl; bounds = refl; top = refl; before = λ i h. refl };
         related = record {
           areas = record { count = r.areas.count; sizes = r.areas.sizes; lie = r.areas.lie; apart = r.areas.apart };
           holds = r.holds;

@@ -32,6 +32,7 @@ use Rattle.sim_relation.specs.Objects.{HoldsTagged, HoldsWord, HoldsBy}
 use Rattle.sim_relation.specs.Related.{Related, ground_of}
 use Rattle.sim_relation.proofs.Changes.{related-change}
 use Rattle.sim_memory.specs.Found.{GoOnAlike}
+use Rattle.sim_memory.proofs.Staying.{stays-change}
 use Rattle.sim_memory.specs.Wild.{IsFoundTagged}
 use Rattle.sim_memory.proofs.WildLoads.{IsLaid, laid-found, image-tagged, room-of}
 
@@ -103,7 +104,7 @@ all-zero g bytes b o first k h are above fits range = record {
 pub wild-objects-cleared : (w : Setting) (number_of : TypeId → ℕ) (k : ℕ) (o : Object) (s : source.State) (x : Context) (a b : ℕ) (c : flat.Local)
     → slice_get s.memory.objects k ≡ Some o → o.live ≡ true → w.kind o.node ≡ Wild → 0 < o.size → Related w number_of s c.state
     → slot c a ≡ address (ground_of w number_of s c.state) k → slot c b ≡ address (ground_of w number_of s c.state) k
-    → GoOnAlike w number_of c (clear k s) (act (instr.Tzero a b o.size) x c) tt c.slots
+    → GoOnAlike w number_of s c (clear k s) (act (instr.Tzero a b o.size) x c) tt c.slots
 wild-objects-cleared w number_of k o s x a b c found live tagged some r here base = record {
   next = with_object k (cleared o) (source.touched k 0 o.size s);
   after = accessed (slot c a) o.size (range_zeroed old (slot c a) (slot c b) o.size) c;
@@ -113,10 +114,11 @@ wild-objects-cleared w number_of k o s x a b c found live tagged some r here bas
       (ap (λ (m : ℕ). allows_zero old m (slot c b) o.size) where0 ∙ ap (λ (m : ℕ). allows_zero old (home + 0) m o.size) base
       ∙ tzero-may old home o.size 0 o.size laid.above laid.holds.size some (omega arith) laid.fits);
   slots_are = refl;
-  areas = refl;
-  frames = refl;
+  stays = stays-change w number_of s (with_object k (cleared o) (source.touched k 0 o.size s)) c.state
+      (accessed (slot c a) o.size (range_zeroed old (slot c a) (slot c b) o.size) c).state k o (cleared o) found live refl refl refl refl refl refl
+      (λ j l. ap (λ (xs : List ℕ). slice_index xs j) bytes_are ∙ zeroed-outside old home o.size 0 o.size first count j range (inl l));
   related = subst (λ (xs : List ℕ). Related w number_of (with_object k (cleared o) (source.touched k 0 o.size s)) (flat.touched (slot c a) o.size (record c.state { memory = with_bytes c.state.memory xs })))
-      (sym (ap (λ (m : ℕ). range_zeroed old m (slot c b) o.size) where0 ∙ ap (λ (m : ℕ). range_zeroed old (home + 0) m o.size) base ∙ here-zeroed))
+      (sym bytes_are)
       (related-change w number_of s c.state k o (cleared o) new (record { object = k; offset = 0; size = o.size }) (record { at = slot c a; size = o.size })
       r found live refl (ap length (sym here-zeroed) ∙ length-range_zeroed old (home + 0) home o.size)
       (subst AreBytes here-zeroed (range_zeroed-bytes old (home + 0) home o.size r.sound.bytes))
@@ -169,6 +171,9 @@ wild-objects-cleared w number_of k o s x a b c found live tagged some r here bas
 
     here-zeroed : range_zeroed old (home + 0) home o.size ≡ new
     here-zeroed = zeroed-here old home o.size 0 o.size laid.holds.size
+
+    bytes_are : range_zeroed old (slot c a) (slot c b) o.size ≡ new
+    bytes_are = ap (λ (m : ℕ). range_zeroed old m (slot c b) o.size) where0 ∙ ap (λ (m : ℕ). range_zeroed old (home + 0) m o.size) base ∙ here-zeroed
 
     range : IsTouched o.size 0 o.size first count
     range = range-of home o.size 0 o.size some (omega arith)

@@ -38,6 +38,7 @@ use Rattle.sim_relation.specs.Related.{Related, ground_of}
 use Rattle.sim_relation.proofs.Changes.{related-change}
 use Rattle.sim_relation.proofs.Tagged.{tagged-integer}
 use Rattle.sim_memory.specs.Found.{GoOnAlike}
+use Rattle.sim_memory.proofs.Staying.{stays-change}
 use Rattle.sim_memory.specs.Wild.{IsFoundTagged}
 use Rattle.sim_memory.proofs.Loading.{powers-alike}
 use Rattle.sim_memory.proofs.Storing.{low-bytes, size-some}
@@ -49,7 +50,7 @@ in_list a m n i = grind (arith, nat_tests)
 pub wild-integers-stored : (w : Setting) (sites : List Site) (number_of : TypeId → ℕ) (i : IntegerType) (p : Pointer) (z : ℤ) (s : source.State) (x : Context) (a b v : ℕ)
     (c : flat.Local) → IsAccessSize i.bytes → IsSoundMemory w sites s.memory → Related w number_of s c.state
     → IsFoundTagged w number_of s c.state i.bytes p (slot c a) (slot c b) → slot c v % 2 ^ bits_of i ≡ residue z (2 ^ bits_of i)
-    → GoOnAlike w number_of c (store_integer Wild i p z s) (run (instr.Untag a b i.bytes ∷ instr.St i.bytes a v ∷ []) x c) tt c.slots
+    → GoOnAlike w number_of s c (store_integer Wild i p z s) (run (instr.Untag a b i.bytes ∷ instr.St i.bytes a v ∷ []) x c) tt c.slots
 wild-integers-stored w sites number_of i p z s x a b v c size memory r f low = record {
   next = with_object f.location.object new (source.touched f.location.object f.at i.bytes s);
   after = stored_at i.bytes (slot c a) (slot c v) (with_list (untagged old (slot c a) (slot c b) i.bytes) c);
@@ -62,8 +63,9 @@ wild-integers-stored w sites number_of i p z s x a b v c size memory r f low = r
       (λ y. then_go y (run (instr.St i.bytes a v ∷ []) x))) may
       ∙ ap (λ (q : Bool). from (allowed q (Trap x.function) (goes (stored_at i.bytes (slot c a) (slot c v))) (with_list (untagged old (slot c a) (slot c b) i.bytes) c)) (λ y. then_go y (run [] x))) there;
   slots_are = refl;
-  areas = refl;
-  frames = refl;
+  stays = stays-change w number_of s (with_object f.location.object new (source.touched f.location.object f.at i.bytes s)) c.state
+      (stored_at i.bytes (slot c a) (slot c v) (with_list (untagged old (slot c a) (slot c b) i.bytes) c)).state f.location.object f.object new f.found f.live
+      refl refl refl refl refl refl (λ j l. ap (λ (xs : List ℕ). slice_index xs j) bytes_are ∙ outside j (inl l));
   related = subst (λ (xs : List ℕ). Related w number_of (with_object f.location.object new (source.touched f.location.object f.at i.bytes s))
       (flat.touched (slot c a) i.bytes (record c.state { memory = with_bytes c.state.memory xs }))) (sym bytes_are)
       (related-change w number_of s c.state f.location.object f.object new (stored i.bytes U (home + f.at) (slot c v))

@@ -251,7 +251,7 @@ module _ (w : Setting) (number_of : TypeId → ℕ) (p : Pointer) (s : source.St
       ∙ base-read (ground_of w number_of s c.state) c.state.memory.bytes home f.object (f.at / 8) q laid.holds inside8 (ap f.object.pointers (sym (eighth f.at by8)) ∙ e))
 
   pub wild-pointers-loaded : holds_pointer_at f.at f.object ≡ true
-      → GoOnAlike w number_of c (load_pointer Wild p s) (act (instr.Ld 8 v a) x c) (pointer_or_null (f.object.pointers f.at))
+      → GoOnAlike w number_of s c (load_pointer Wild p s) (act (instr.Ld 8 v a) x c) (pointer_or_null (f.object.pointers f.at))
       (slice_set c.slots v (first_word (ground_of w number_of s c.state) Wild (pointer_or_null (f.object.pointers f.at))))
   wild-pointers-loaded there = record {
     next = source.touched f.location.object f.at 8 s;
@@ -264,8 +264,7 @@ module _ (w : Setting) (number_of : TypeId → ℕ) (p : Pointer) (s : source.St
     slots_are = ap (slice_set c.slots v) (ap (number 8 c.state.memory.bytes) where8
         ∙ first-read (ground_of w number_of s c.state) c.state.memory.bytes home f.object (f.at / 8) laid.holds inside8 (ap (λ m. holds_pointer_at m f.object) (sym (eighth f.at by8)) ∙ there)
         ∙ ap (λ m. first_word (ground_of w number_of s c.state) Wild (pointer_or_null (f.object.pointers m))) (sym (eighth f.at by8)));
-    areas = refl;
-    frames = refl;
+    stays = record { outlines = refl; lives = refl; input = refl; areas = refl; frames = refl; bounds = refl; top = refl; before = λ i h. refl };
     related = read-tagged w number_of s c.state 8 p (slot c a) (slot c b) r f;
   }
 
@@ -332,8 +331,7 @@ wild-integers-loaded w number_of i p s x v a b c size r f none = record {
         (in_list (slot c a) i.bytes (length c.state.memory.bytes)
         (let j = f.inside in let m = f.here in let z = room-of home f.object.size (length c.state.memory.bytes) laid.fits in omega (arith, j, m, z)));
     slots_are = ap (slice_set c.slots v) same;
-    areas = refl;
-    frames = refl;
+    stays = record { outlines = refl; lives = refl; input = refl; areas = refl; frames = refl; bounds = refl; top = refl; before = λ i h. refl };
     related = read-tagged w number_of s c.state i.bytes p (slot c a) (slot c b) r f;
   };
   memory = refl;

@@ -36,6 +36,7 @@ use Rattle.sim_relation.specs.Objects.{HoldsTagged, HoldsWord, HoldsBy}
 use Rattle.sim_relation.specs.Related.{Related, ground_of}
 use Rattle.sim_relation.proofs.Changes.{related-change}
 use Rattle.sim_memory.specs.Found.{GoOnAlike}
+use Rattle.sim_memory.proofs.Staying.{stays-change}
 use Rattle.sim_memory.specs.Wild.{IsFoundTagged}
 use Rattle.sim_memory.proofs.Copying.{copy-right}
 use Rattle.sim_memory.proofs.WildLoads.{IsLaid, laid-found, right-tagged, image-tagged, read-tagged, room-of}
@@ -339,7 +340,7 @@ module _ (w : Setting) (sites : List Site) (number_of : TypeId → ℕ) (p q : P
       (tmove-holds (ground_of w number_of s c.state) bytes home h.object (h.at / 8) origin f.object (f.at / 8) (n / 8) target.holds source-laid.holds r.sound.bytes target.above target.fits
       ((memory.each h.location.object h.object h.found h.live).sized) to-words from-words))))
 
-  pub wild-copied : GoOnAlike w number_of c (copy n Wild p Wild q s) (act (instr.Tmove a b d e n) x c) tt c.slots
+  pub wild-copied : GoOnAlike w number_of s c (copy n Wild p Wild q s) (act (instr.Tmove a b d e n) x c) tt c.slots
   wild-copied = record {
     next = with_object h.location.object new (source.touched h.location.object h.at n (source.touched f.location.object f.at n s));
     after = copied n (slot c a) (slot c d) (words_moved bytes (slot c a) (slot c b) (slot c d) (slot c e) n) c;
@@ -348,8 +349,10 @@ module _ (w : Setting) (sites : List Site) (number_of : TypeId → ℕ) (p q : P
         (ap (λ y. spot Wild s.memory.objects y n) h.is ∙ spot-right Wild s.memory.objects h.location n h.object h.at (right-tagged w number_of s c.state r n q (slot c a) (slot c b) h));
     flat_goes = ap (λ (y : Bool). allowed y (Trap x.function) (goes (λ v. copied n (slot v a) (slot v d) (words_moved v.state.memory.bytes (slot v a) (slot v b) (slot v d) (slot v e) n) v)) c) may;
     slots_are = refl;
-    areas = refl;
-    frames = refl;
+    stays = stays-change w number_of s (with_object h.location.object new (source.touched h.location.object h.at n (source.touched f.location.object f.at n s))) c.state
+        (copied n (slot c a) (slot c d) (words_moved bytes (slot c a) (slot c b) (slot c d) (slot c e) n) c).state h.location.object h.object new h.found h.live
+        refl refl refl refl refl refl (λ j l. ap (λ xs. slice_index xs j) moved-bytes_are
+        ∙ tmove-outside bytes home h.object.size (h.at / 8) origin f.object.size (f.at / 8) (n / 8) j to-words (inl l));
     related = related-change w number_of (source.touched f.location.object f.at n s) (flat.touched (slot c d) n c.state) h.location.object h.object new
         (words_moved bytes (slot c a) (slot c b) (slot c d) (slot c e) n) (record { object = h.location.object; offset = h.at; size = n }) (record { at = slot c a; size = n })
         (read-tagged w number_of s c.state n p (slot c d) (slot c e) r f) h.found h.live refl

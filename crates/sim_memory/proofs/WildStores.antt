@@ -35,6 +35,7 @@ use Rattle.sim_relation.specs.Objects.{HoldsTagged, HoldsWord, HoldsBy, area_of,
 use Rattle.sim_relation.specs.Related.{Related, ground_of}
 use Rattle.sim_relation.proofs.Changes.{related-change}
 use Rattle.sim_memory.specs.Found.{GoOnAlike}
+use Rattle.sim_memory.proofs.Staying.{stays-change}
 use Rattle.sim_memory.specs.Wild.{IsFoundTagged}
 use Rattle.sim_memory.proofs.Storing.{store-right}
 use Rattle.sim_memory.proofs.WildLoads.{IsLaid, laid-found, right-tagged, image-tagged, tagged-may, base-may, room-of}
@@ -320,7 +321,7 @@ module _ (w : Setting) (number_of : TypeId → ℕ) (p : Pointer) (s : source.St
   pub wild-pointers-stored : (q : Pointer) (v u : ℕ) → q ≢ Null
       → slot c v ≡ first_word (ground_of w number_of s c.state) Wild q → slot c u ≡ second_word (ground_of w number_of s c.state) Wild q
       → slot c v < 2 ^ 64 → slot c u < 2 ^ 64
-      → GoOnAlike w number_of c (store_pointer Wild p q s) (run (instr.St 8 a v ∷ instr.Mark a b u ∷ []) x c) tt c.slots
+      → GoOnAlike w number_of s c (store_pointer Wild p q s) (run (instr.St 8 a v ∷ instr.Mark a b u ∷ []) x c) tt c.slots
   wild-pointers-stored q v u some first second sv su = record {
     next = with_object f.location.object (with_pointer f.at q f.object) (source.touched f.location.object f.at 8 s);
     after = with_list (marked (stored 8 old (slot c a) (slot c v)) (slot c a) (slot c b) (slot c u)) (stored_at 8 (slot c a) (slot c v) c);
@@ -330,8 +331,10 @@ module _ (w : Setting) (number_of : TypeId → ℕ) (p : Pointer) (s : source.St
         ∙ ap (λ (y : Bool). from (allowed y (Trap x.function) (goes (λ d. with_list (marked d.state.memory.bytes (slot d a) (slot d b) (slot d u)) d))
         (stored_at 8 (slot c a) (slot c v) c)) (λ z. then_go z (run [] x))) may;
     slots_are = refl;
-    areas = refl;
-    frames = refl;
+    stays = stays-change w number_of s (with_object f.location.object (with_pointer f.at q f.object) (source.touched f.location.object f.at 8 s)) c.state
+        (with_list (marked (stored 8 old (slot c a) (slot c v)) (slot c a) (slot c b) (slot c u)) (stored_at 8 (slot c a) (slot c v) c)).state
+        f.location.object f.object (with_pointer f.at q f.object) f.found f.live refl refl refl refl refl refl
+        (λ j l. ap (λ (xs : List ℕ). slice_index xs j) bytes_are ∙ marked-outside old home f.object.size place (slot c v) (slot c u) j inside8 (inl l));
     related = subst (λ (xs : List ℕ). Related w number_of (with_object f.location.object (with_pointer f.at q f.object) (source.touched f.location.object f.at 8 s))
         (flat.touched (slot c a) 8 (record c.state { memory = with_bytes c.state.memory xs }))) (sym bytes_are)
         (changed q new (ap length (sym (marked-here S home f.object.size place (slot c u) len)) ∙ length-marked S (home + 8 * place) home (slot c u) ∙ length-stored 8 old (home + 8 * place) (slot c v))
@@ -369,7 +372,7 @@ module _ (w : Setting) (number_of : TypeId → ℕ) (p : Pointer) (s : source.St
           ∙ both-true (allows_tagged S (home + 8 * place) home) (allows_base S (home + 8 * place) home)
           (tagged-may S home f.object.size place laid.above len inside8 fits) (base-may S home f.object.size place laid.above len inside8 fits)
 
-  pub nulls-stored : GoOnAlike w number_of c (store_pointer Wild p Null s) (act (instr.Tzero a b 8) x c) tt c.slots
+  pub nulls-stored : GoOnAlike w number_of s c (store_pointer Wild p Null s) (act (instr.Tzero a b 8) x c) tt c.slots
   nulls-stored = record {
     next = with_object f.location.object (with_pointer f.at Null f.object) (source.touched f.location.object f.at 8 s);
     after = accessed (slot c a) 8 (range_zeroed old (slot c a) (slot c b) 8) c;
@@ -378,12 +381,13 @@ module _ (w : Setting) (number_of : TypeId → ℕ) (p : Pointer) (s : source.St
         (ap (λ (k : ℕ). allows_zero old k (slot c b) 8) where8 ∙ ap (λ (k : ℕ). allows_zero old (home + 8 * place) k 8) f.base
         ∙ zero-may old home f.object.size place laid.above laid.holds.size inside8 laid.fits);
     slots_are = refl;
-    areas = refl;
-    frames = refl;
+    stays = stays-change w number_of s (with_object f.location.object (with_pointer f.at Null f.object) (source.touched f.location.object f.at 8 s)) c.state
+        (accessed (slot c a) 8 (range_zeroed old (slot c a) (slot c b) 8) c).state f.location.object f.object (with_pointer f.at Null f.object) f.found f.live
+        refl refl refl refl refl refl
+        (λ j l. ap (λ (xs : List ℕ). slice_index xs j) bytes_are ∙ cleared-outside old home f.object.size place j inside8 (inl l));
     related = subst (λ (xs : List ℕ). Related w number_of (with_object f.location.object (with_pointer f.at Null f.object) (source.touched f.location.object f.at 8 s))
         (flat.touched (slot c a) 8 (record c.state { memory = with_bytes c.state.memory xs })))
-        (sym (ap (λ (k : ℕ). range_zeroed old k (slot c b) 8) where8 ∙ ap (λ (k : ℕ). range_zeroed old (home + 8 * place) k 8) f.base
-        ∙ cleared-here old home f.object.size place laid.holds.size))
+        (sym bytes_are)
         (changed Null new (ap length (sym (cleared-here old home f.object.size place laid.holds.size)) ∙ length-range_zeroed old (home + 8 * place) home 8)
         (subst AreBytes (cleared-here old home f.object.size place laid.holds.size) (range_zeroed-bytes old (home + 8 * place) home 8 r.sound.bytes))
         (λ j z. cleared-outside old home f.object.size place j inside8 z)
@@ -392,3 +396,7 @@ module _ (w : Setting) (number_of : TypeId → ℕ) (p : Pointer) (s : source.St
     where
       new : List ℕ
       new = range_zeroed_at old (home + 8 * place) 8 home f.object.size place 1
+
+      bytes_are : range_zeroed old (slot c a) (slot c b) 8 ≡ new
+      bytes_are = ap (λ (k : ℕ). range_zeroed old k (slot c b) 8) where8 ∙ ap (λ (k : ℕ). range_zeroed old (home + 8 * place) k 8) f.base
+          ∙ cleared-here old home f.object.size place laid.holds.size

@@ -65,7 +65,7 @@ BasesAreRead = (w : Setting) (number_of : TypeId → ℕ) (p q : Pointer) (s : s
 abbrev pub WildPointersAreLoaded : Type 0
 WildPointersAreLoaded = (w : Setting) (number_of : TypeId → ℕ) (p : Pointer) (s : source.State) (x : Context) (v a b : ℕ) (c : flat.Local) → Related w number_of s c.state
     → (f : IsFoundTagged w number_of s c.state 8 p (slot c a) (slot c b)) → f.at % 8 ≡ 0 → holds_pointer_at f.at f.object ≡ true
-    → GoOnAlike w number_of c (load_pointer Wild p s) (act (instr.Ld 8 v a) x c) (pointer_or_null (f.object.pointers f.at))
+    → GoOnAlike w number_of s c (load_pointer Wild p s) (act (instr.Ld 8 v a) x c) (pointer_or_null (f.object.pointers f.at))
     (slice_set c.slots v (first_word (ground_of w number_of s c.state) Wild (pointer_or_null (f.object.pointers f.at))))
 
 -- an integer is loaded where no pointer stands over its bytes
@@ -80,26 +80,26 @@ WildPointersAreStored = (w : Setting) (number_of : TypeId → ℕ) (p q : Pointe
     → Related w number_of s c.state → (f : IsFoundTagged w number_of s c.state 8 p (slot c a) (slot c b)) → f.at % 8 ≡ 0 → q ≢ Null
     → slot c v ≡ first_word (ground_of w number_of s c.state) Wild q → slot c u ≡ second_word (ground_of w number_of s c.state) Wild q
     → slot c v < 2 ^ 64 → slot c u < 2 ^ 64
-    → GoOnAlike w number_of c (store_pointer Wild p q s) (run (instr.St 8 a v ∷ instr.Mark a b u ∷ []) x c) tt c.slots
+    → GoOnAlike w number_of s c (store_pointer Wild p q s) (run (instr.St 8 a v ∷ instr.Mark a b u ∷ []) x c) tt c.slots
 
 abbrev pub NullsAreStored : Type 0
 NullsAreStored = (w : Setting) (number_of : TypeId → ℕ) (p : Pointer) (s : source.State) (x : Context) (a b : ℕ) (c : flat.Local) → Related w number_of s c.state
     → (f : IsFoundTagged w number_of s c.state 8 p (slot c a) (slot c b)) → f.at % 8 ≡ 0
-    → GoOnAlike w number_of c (store_pointer Wild p Null s) (act (instr.Tzero a b 8) x c) tt c.slots
+    → GoOnAlike w number_of s c (store_pointer Wild p Null s) (act (instr.Tzero a b 8) x c) tt c.slots
 
 -- An integer is stored: what tags its bytes touch go.
 abbrev pub WildIntegersAreStored : Type 0
 WildIntegersAreStored = (w : Setting) (sites : List Site) (number_of : TypeId → ℕ) (i : IntegerType) (p : Pointer) (z : ℤ) (s : source.State) (x : Context) (a b v : ℕ)
     (c : flat.Local) → IsAccessSize i.bytes → IsSoundMemory w sites s.memory → Related w number_of s c.state
     → IsFoundTagged w number_of s c.state i.bytes p (slot c a) (slot c b) → slot c v % 2 ^ bits_of i ≡ residue z (2 ^ bits_of i)
-    → GoOnAlike w number_of c (store_integer Wild i p z s) (run (instr.Untag a b i.bytes ∷ instr.St i.bytes a v ∷ []) x c) tt c.slots
+    → GoOnAlike w number_of s c (store_integer Wild i p z s) (run (instr.Untag a b i.bytes ∷ instr.St i.bytes a v ∷ []) x c) tt c.slots
 
 -- An object with tags becomes zero as a whole, and all its tags go.
 abbrev pub WildObjectsAreCleared : Type 0
 WildObjectsAreCleared = (w : Setting) (number_of : TypeId → ℕ) (k : ℕ) (o : Object) (s : source.State) (x : Context) (a b : ℕ) (c : flat.Local)
     → slice_get s.memory.objects k ≡ Some o → o.live ≡ true → w.kind o.node ≡ Wild → 0 < o.size → Related w number_of s c.state
     → slot c a ≡ address (ground_of w number_of s c.state) k → slot c b ≡ address (ground_of w number_of s c.state) k
-    → GoOnAlike w number_of c (clear k s) (act (instr.Tzero a b o.size) x c) tt c.slots
+    → GoOnAlike w number_of s c (clear k s) (act (instr.Tzero a b o.size) x c) tt c.slots
 
 -- Blocks with tags
 
@@ -128,4 +128,4 @@ abbrev pub TaggedWordsAreCopied : Type 0
 TaggedWordsAreCopied = (w : Setting) (sites : List Site) (number_of : TypeId → ℕ) (p q : Pointer) (s : source.State) (x : Context) (a b d e n : ℕ) (c : flat.Local)
     → IsSoundMemory w sites s.memory → Related w number_of s c.state → (f : IsFoundTagged w number_of s c.state n p (slot c d) (slot c e))
     → (h : IsFoundTagged w number_of s c.state n q (slot c a) (slot c b)) → 0 < n → n % 8 ≡ 0 → f.at % 8 ≡ 0 → h.at % 8 ≡ 0
-    → GoOnAlike w number_of c (copy n Wild p Wild q s) (act (instr.Tmove a b d e n) x c) tt c.slots
+    → GoOnAlike w number_of s c (copy n Wild p Wild q s) (act (instr.Tmove a b d e n) x c) tt c.slots

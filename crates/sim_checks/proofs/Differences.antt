@@ -51,7 +51,7 @@ use Rattle.sim_checks.specs.Moving.{all_hold}
 use Rattle.sim_checks.specs.Comparing.{used}
 use Rattle.sim_checks.proofs.Addresses.{there}
 use Rattle.sim_checks.proofs.Distances.{times-sum}
-use Rattle.sim_checks.proofs.Sameness.{parts-alike, eq-true, true-eq}
+use Rattle.sim_checks.proofs.Sameness.{bool-same, parts-alike, eq-true, true-eq}
 use Rattle.sim_checks.proofs.Sequences.{long, ends, small}
 use Rattle.sim_checks.proofs.Standing.{near-small}
 
@@ -141,12 +141,6 @@ rem-euclid (negsuc a) n = zero-eq (n - 1 - a % n)
   where
     zero-eq : (k : ℕ) → int_eq (pos k) (pos 0) ≡ nat_eq k 0
     zero-eq k = grind (arith, nat_tests)
-
-bool-same : (a b : Bool) → (a ≡ true → b ≡ true) → (b ≡ true → a ≡ true) → a ≡ b
-bool-same true true f g = refl
-bool-same true false f g = sym (f refl)
-bool-same false true f g = g refl
-bool-same false false f g = refl
 
 -- SEQ
 

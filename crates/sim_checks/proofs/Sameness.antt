@@ -35,7 +35,7 @@ use Rattle.sim_checks.proofs.Standing.{stands-alike}
 
 -- Truth values
 
-bool-same : (a b : Bool) → (a ≡ true → b ≡ true) → (b ≡ true → a ≡ true) → a ≡ b
+pub bool-same : (a b : Bool) → (a ≡ true → b ≡ true) → (b ≡ true → a ≡ true) → a ≡ b
 bool-same true true f g = refl
 bool-same true false f g = sym (f refl)
 bool-same false true f g = g refl

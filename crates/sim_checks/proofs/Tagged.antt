@@ -48,13 +48,7 @@ use Rattle.sim_checks.specs.Rows.{IsChecked, AreFunctionsLaid}
 use Rattle.sim_checks.specs.Moving.{all_hold}
 use Rattle.sim_checks.specs.Comparing.{used}
 use Rattle.sim_checks.proofs.Differences.{rem-euclid}
-use Rattle.sim_checks.proofs.Sameness.{eq-true, true-eq, eq-false}
-
-bool-same : (a b : Bool) → (a ≡ true → b ≡ true) → (b ≡ true → a ≡ true) → a ≡ b
-bool-same true true f g = refl
-bool-same true false f g = sym (f refl)
-bool-same false true f g = g refl
-bool-same false false f g = refl
+use Rattle.sim_checks.proofs.Sameness.{bool-same, eq-true, true-eq, eq-false}
 
 alone : (b : Bool) → (b && true) ≡ b
 alone true = refl

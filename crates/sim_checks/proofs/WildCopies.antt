@@ -33,14 +33,8 @@ use Rattle.sim_relation.specs.Related.{ground_of}
 use Rattle.sim_checks.specs.Rows.{IsChecked, AreFunctionsApart}
 use Rattle.sim_checks.proofs.Differences.{rem-euclid}
 use Rattle.sim_checks.proofs.Escape.{home-depth, wild-depth, ordered-alike}
-use Rattle.sim_checks.proofs.Sameness.{true-eq}
+use Rattle.sim_checks.proofs.Sameness.{bool-same, true-eq}
 use Rattle.sim_checks.proofs.Tagged.{IsTarget, target, there, tag-of}
-
-bool-same : (a b : Bool) → (a ≡ true → b ≡ true) → (b ≡ true → a ≡ true) → a ≡ b
-bool-same true true f g = refl
-bool-same true false f g = sym (f refl)
-bool-same false true f g = g refl
-bool-same false false f g = refl
 
 le-is : (a b : ℕ) → nat_le a b ≡ true → a ≤ b
 le-is a b h = grind (arith, nat_tests, h)

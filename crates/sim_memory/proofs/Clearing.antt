@@ -26,13 +26,10 @@ use Rattle.sim_relation.specs.Objects.{HoldsTyped, area_of}
 use Rattle.sim_relation.specs.Related.{Related, ground_of}
 use Rattle.sim_relation.proofs.Changes.{related-change}
 use Rattle.sim_relation.proofs.Kept.{typed-holds, untagged-holds, typed-contents}
-use Rattle.sim_relation.proofs.Places.{image-typed}
+use Rattle.sim_relation.proofs.Places.{image-typed, in_list}
 use Rattle.sim_memory.specs.Found.{GoOnAlike}
 use Rattle.sim_memory.proofs.Staying.{stays-change}
 use Rattle.sim_memory.proofs.Zeros.{zeros-hold}
-
-in_list : (a m n : ℕ) → a + m ≤ n → (nat_eq m 0 || nat_le (a + m) n) ≡ true
-in_list a m n i = grind (arith, nat_tests)
 
 pub objects-cleared : (w : Setting) (number_of : TypeId → ℕ) (k : ℕ) (o : Object) (s : source.State) (x : Context) (a n : ℕ) (c : flat.Local)
     → slice_get s.memory.objects k ≡ Some o → o.live ≡ true → w.kind o.node ≢ Wild → length o.cells ≡ o.size → Related w number_of s c.state

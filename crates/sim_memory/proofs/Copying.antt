@@ -43,7 +43,7 @@ use Rattle.sim_relation.proofs.Bounds.{agree-width}
 use Rattle.sim_relation.proofs.Changes.{related-change}
 use Rattle.sim_relation.proofs.Integers.{not-touched}
 use Rattle.sim_relation.proofs.Kept.{typed-holds, untagged-holds, typed-contents, pointer-inside, words-width}
-use Rattle.sim_relation.proofs.Places.{image-typed, images-append}
+use Rattle.sim_relation.proofs.Places.{image-typed, images-append, in_list}
 use Rattle.sim_memory.specs.Found.{IsFound, GoOnAlike}
 use Rattle.sim_memory.proofs.Staying.{stays-change}
 use Rattle.sim_memory.proofs.Loading.{right-found}
@@ -305,9 +305,6 @@ copy-holds w sound t g kinds bytes home house o p at high to end some h k from i
         ∙ ap (with_copied n o.pointers at to p.pointers) (sym same))
 
 -- Both machines
-
-in_list : (a m n : ℕ) → a + m ≤ n → (nat_eq m 0 || nat_le (a + m) n) ≡ true
-in_list a m n i = grind (arith, nat_tests)
 
 pub copy-right : (n : ℕ) (from to : Kind) (s : source.State) (p q : Pointer) (x y : Spot) → spot from s.memory.objects p n ≡ Some x → spot to s.memory.objects q n ≡ Some y
     → copy n from p to q s ≡ Done tt (with_object y.number (with_copy n x.object x.at y.at y.object) (source.touched y.number y.at n (source.touched x.number x.at n s)))

@@ -41,7 +41,7 @@ use Rattle.sim_relation.specs.Objects.{HoldsTyped}
 use Rattle.sim_relation.specs.Points.{AreWords}
 use Rattle.sim_relation.specs.Related.{Related, ground_of}
 use Rattle.sim_relation.proofs.Kept.{typed-holds, pointer-inside, words-width}
-use Rattle.sim_relation.proofs.Places.{FoundRaw, found-in_list, found-number, found-inside, related-read, images-append, image-typed}
+use Rattle.sim_relation.proofs.Places.{FoundRaw, found-in_list, found-number, found-inside, related-read, images-append, image-typed, in_list}
 use Rattle.sim_relation.proofs.Pointers.{FoundPointer}
 use Rattle.type_laws.proofs.Widths.{before-pointer}
 use Rattle.sim_memory.specs.Found.{IsFound, GoOnAlike, loading}
@@ -128,9 +128,6 @@ integers-loaded w number_of kind t i p s x v a c plain e size r f =
     }
 
 -- Pointers
-
-in_list : (a m n : ℕ) → a + m ≤ n → (nat_eq m 0 || nat_le (a + m) n) ≡ true
-in_list a m n i = grind (arith, nat_tests)
 
 -- the line that loads words
 loads : (k : Kind) (x : Context) (v a : ℕ) (c : flat.Local) → slot c a + 8 * word_number k ≤ length c.state.memory.bytes

@@ -40,7 +40,7 @@ use Rattle.sim_relation.specs.Related.{Related, ground_of}
 use Rattle.sim_relation.proofs.Changes.{related-change}
 use Rattle.sim_relation.proofs.Integers.{IntegerStored, integer_stored}
 use Rattle.sim_relation.proofs.Kept.{typed-holds, untagged-holds, typed-contents, words-width}
-use Rattle.sim_relation.proofs.Places.{found-inside, image-typed}
+use Rattle.sim_relation.proofs.Places.{found-inside, image-typed, in_list}
 use Rattle.sim_relation.proofs.Pointers.{row-length, pointer-holds}
 use Rattle.sim_memory.specs.Found.{IsFound, GoOnAlike, storing}
 use Rattle.sim_memory.proofs.Staying.{stays-change}
@@ -103,9 +103,6 @@ integers-stored w number_of kind t i p z s x a v c plain e size r f low =
         live-of y = let a = y.found in let b = f.found in let same : y.old ≡ f.object = cc (a, b) in ap (λ (o : Object). o.live) same ∙ f.live
 
 -- Pointers
-
-in_list : (a m n : ℕ) → a + m ≤ n → (nat_eq m 0 || nat_le (a + m) n) ≡ true
-in_list a m n i = grind (arith, nat_tests)
 
 -- the line that stores words
 stores : (k : Kind) (x : Context) (a v : ℕ) (c : flat.Local) → slot c a + 8 * word_number k ≤ length c.state.memory.bytes

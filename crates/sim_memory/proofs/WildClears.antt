@@ -31,23 +31,15 @@ use Rattle.sim_relation.specs.Ground.{Ground, address}
 use Rattle.sim_relation.specs.Objects.{HoldsTagged, HoldsWord, HoldsBy}
 use Rattle.sim_relation.specs.Related.{Related, ground_of}
 use Rattle.sim_relation.proofs.Changes.{related-change}
+use Rattle.sim_relation.proofs.Places.{in_list}
 use Rattle.sim_memory.specs.Found.{GoOnAlike}
 use Rattle.sim_memory.proofs.Staying.{stays-change}
 use Rattle.sim_memory.specs.Wild.{IsFoundTagged}
-use Rattle.sim_memory.proofs.WildLoads.{IsLaid, laid-found, image-tagged, room-of}
-
-in_list : (a m n : ℕ) → a + m ≤ n → (nat_eq m 0 || nat_le (a + m) n) ≡ true
-in_list a m n i = grind (arith, nat_tests)
-
-both-true : (a b : Bool) → a ≡ true → b ≡ true → (a && b) ≡ true
-both-true a b e f = ap (λ (x : Bool). x && b) e ∙ f
+use Rattle.sim_memory.proofs.WildLoads.{both-true, le-true, IsLaid, laid-found, image-tagged, room-of}
 
 or-true : (a b : Bool) → b ≡ true → (a || b) ≡ true
 or-true true b e = refl
 or-true false b e = e
-
-le-true : (a b : ℕ) → a ≤ b → nat_le a b ≡ true
-le-true a b h = grind (arith, nat_tests)
 
 -- `tzero` in the terms of these laws
 pub zeroed-here : (bytes : List ℕ) (b n at size : ℕ) → length_at bytes b ≡ n

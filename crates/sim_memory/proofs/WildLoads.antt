@@ -37,7 +37,7 @@ use Rattle.sim_relation.specs.Ground.{Ground, address, first_word, second_word}
 use Rattle.sim_relation.specs.Accesses.{covered, image_by, IsImage}
 use Rattle.sim_relation.specs.Objects.{HoldsTagged, HoldsWord, HoldsBy, Lies, area_of, area_by}
 use Rattle.sim_relation.specs.Related.{Related, ground_of}
-use Rattle.sim_relation.proofs.Places.{images-append}
+use Rattle.sim_relation.proofs.Places.{images-append, in_list}
 use Rattle.sim_checks.specs.Rows.{IsChecked}
 use Rattle.sim_checks.proofs.Tagged.{IsTarget, target, there}
 use Rattle.sim_memory.specs.Found.{GoOnAlike}
@@ -51,16 +51,13 @@ pub room-of : (home n len : ℕ) → home + tagged_size n ≤ len → home + 16 
 unfolding tagged_size
 room-of home n len h = omega arith
 
-in_list : (a m n : ℕ) → a + m ≤ n → (nat_eq m 0 || nat_le (a + m) n) ≡ true
-in_list a m n i = grind (arith, nat_tests)
-
-le-true : (a b : ℕ) → a ≤ b → nat_le a b ≡ true
+pub le-true : (a b : ℕ) → a ≤ b → nat_le a b ≡ true
 le-true a b h = grind (arith, nat_tests)
 
-eq-true : (a b : ℕ) → a ≡ b → nat_eq a b ≡ true
+pub eq-true : (a b : ℕ) → a ≡ b → nat_eq a b ≡ true
 eq-true a b h = grind (arith, nat_tests)
 
-both-true : (a b : Bool) → a ≡ true → b ≡ true → (a && b) ≡ true
+pub both-true : (a b : Bool) → a ≡ true → b ≡ true → (a && b) ≡ true
 both-true a b e f = ap (λ (x : Bool). x && b) e ∙ f
 
 -- word k of an area that lies in the list

@@ -35,21 +35,13 @@ use Rattle.sim_relation.specs.Ground.{Ground, address}
 use Rattle.sim_relation.specs.Objects.{HoldsTagged, HoldsWord, HoldsBy}
 use Rattle.sim_relation.specs.Related.{Related, ground_of}
 use Rattle.sim_relation.proofs.Changes.{related-change}
+use Rattle.sim_relation.proofs.Places.{in_list}
 use Rattle.sim_memory.specs.Found.{GoOnAlike}
 use Rattle.sim_memory.proofs.Staying.{stays-change}
 use Rattle.sim_memory.specs.Wild.{IsFoundTagged}
 use Rattle.sim_memory.proofs.Copying.{copy-right}
-use Rattle.sim_memory.proofs.WildLoads.{IsLaid, laid-found, right-tagged, image-tagged, read-tagged, room-of}
+use Rattle.sim_memory.proofs.WildLoads.{both-true, eq-true, IsLaid, laid-found, right-tagged, image-tagged, read-tagged, room-of}
 use Rattle.sim_memory.proofs.WildClears.{tzero-may}
-
-both-true : (a b : Bool) → a ≡ true → b ≡ true → (a && b) ≡ true
-both-true a b e f = ap (λ (x : Bool). x && b) e ∙ f
-
-in_list : (a m n : ℕ) → a + m ≤ n → (nat_eq m 0 || nat_le (a + m) n) ≡ true
-in_list a m n i = grind (arith, nat_tests)
-
-eq-true : (a b : ℕ) → a ≡ b → nat_eq a b ≡ true
-eq-true a b h = grind (arith, nat_tests)
 
 -- Tags of other words, and bytes beside the tags, stay
 

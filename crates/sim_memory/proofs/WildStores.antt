@@ -34,20 +34,12 @@ use Rattle.sim_relation.specs.Ground.{Ground, address, first_word, second_word}
 use Rattle.sim_relation.specs.Objects.{HoldsTagged, HoldsWord, HoldsBy, area_of, room_of}
 use Rattle.sim_relation.specs.Related.{Related, ground_of}
 use Rattle.sim_relation.proofs.Changes.{related-change}
+use Rattle.sim_relation.proofs.Places.{in_list}
 use Rattle.sim_memory.specs.Found.{GoOnAlike}
 use Rattle.sim_memory.proofs.Staying.{stays-change}
 use Rattle.sim_memory.specs.Wild.{IsFoundTagged}
 use Rattle.sim_memory.proofs.Storing.{store-right}
-use Rattle.sim_memory.proofs.WildLoads.{IsLaid, laid-found, right-tagged, image-tagged, tagged-may, base-may, room-of}
-
-in_list : (a m n : ℕ) → a + m ≤ n → (nat_eq m 0 || nat_le (a + m) n) ≡ true
-in_list a m n i = grind (arith, nat_tests)
-
-both-true : (a b : Bool) → a ≡ true → b ≡ true → (a && b) ≡ true
-both-true a b e f = ap (λ (x : Bool). x && b) e ∙ f
-
-le-true : (a b : ℕ) → a ≤ b → nat_le a b ≡ true
-le-true a b h = grind (arith, nat_tests)
+use Rattle.sim_memory.proofs.WildLoads.{both-true, le-true, IsLaid, laid-found, right-tagged, image-tagged, tagged-may, base-may, room-of}
 
 eighth : (at : ℕ) → at % 8 ≡ 0 → at ≡ 8 * (at / 8)
 eighth at h = omega (arith, h)

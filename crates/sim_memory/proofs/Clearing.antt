@@ -1,12 +1,9 @@
 -- An object without tags is cleared.
-use Rattle.std.proofs.Common.{◌≡◌, ◌≢◌, ◌∙◌, ◌⊎◌, ⊎_elim, inl, inr, ℕ, ◌+◌, ◌-◌, ◌<◌, ◌≤◌, Bool, true, List, length, slice_get, slice_index, Option, Some, None, refl, ap, sym, subst, arith, nat_eq, nat_le, ◌||◌}
-use Rattle.std.proofs.lemmas.Bool.Decides.{nat_tests}
-use Rattle.cc_base.specs.declared.kind.Kind.{Kind}
+use Rattle.std.proofs.Common.{◌≡◌, ◌≢◌, ◌∙◌, ⊎_elim, inl, inr, ℕ, ◌+◌, ◌≤◌, Bool, true, List, length, slice_get, Option, Some, refl, ap, arith}
 use Rattle.cc_base.specs.declared.kind.Kind.TheVariants.{Wild}
 use Rattle.cc_base.specs.declared.number.TypeId.{TypeId}
 use Rattle.c_types.specs.Widths.{before, width_of}
-use Rattle.runs.specs.Outcome.{Done, allowed, leaves}
-use Rattle.runs.specs.Control.{Goes}
+use Rattle.runs.specs.Outcome.{allowed, leaves}
 use Rattle.flat_mem.specs.Bytes.{zeroed}
 use Rattle.flat_mem.specs.Placement.{contents_size}
 use Rattle.flat_mem.proofs.ByteLaws.{length-zeroed, zeroed-bytes, get-zeroed_inside, get-zeroed_other}

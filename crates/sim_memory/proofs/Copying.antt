@@ -1,6 +1,6 @@
 -- A struct or union is copied between objects without tags.
-use Rattle.std.proofs.Common.{◌≡◌, ◌≢◌, ◌∙◌, ◌⊎◌, ⊎_elim, inl, inr, ℕ, zero, suc, ◌+◌, ◌-◌, ◌*◌, ◌<◌, ◌≤◌, Bool, true, false, ◌&&◌, ◌||◌, List, [], ◌∷◌, length, nat_eq, nat_le, slice_get, slice_index, Option, Some, None, refl, ap, sym, subst, arith, if◌then◌else◌}
-use Rattle.std.specs.Prelude.{slice_index_or, ◌==◌}
+use Rattle.std.proofs.Common.{◌≡◌, ◌≢◌, ◌∙◌, ◌⊎◌, ⊎_elim, inl, inr, ℕ, zero, suc, ◌+◌, ◌-◌, ◌*◌, ◌<◌, ◌≤◌, Bool, true, false, ◌&&◌, List, ◌∷◌, length, nat_le, slice_get, slice_index, Option, Some, None, refl, ap, sym, subst, arith, if◌then◌else◌}
+use Rattle.std.specs.Prelude.{slice_index_or}
 use Rattle.std.proofs.lemmas.Bool.Decides.{nat_tests}
 use Rattle.std.proofs.lemmas.Option.{slice_get-get_or, slice_get_within}
 use Rattle.cc_base.specs.declared.kind.Kind.{Kind}
@@ -13,24 +13,23 @@ use Rattle.c_types.specs.Cells.{Cell, raw, pointer, mixed, incomplete, AreOrdere
 use Rattle.c_types.specs.Equality.{cells_of, physically_equal}
 use Rattle.c_types.specs.Flows.{CellsAgree}
 use Rattle.c_types.specs.Sound.{IsWellFormed}
-use Rattle.c_types.specs.Widths.{cell_width, kind_width, before, cured_size}
+use Rattle.c_types.specs.Widths.{kind_width, before, cured_size}
 use Rattle.c_types.proofs.Cells.{length_cells}
 use Rattle.c_types.proofs.OrderedPointers.{cells_ordered, pointer_bytes}
 use Rattle.type_laws.proofs.Widths.{before-suc, before-mono, before-next, before-behind}
 use Rattle.runs.specs.Outcome.{Done, allowed}
-use Rattle.runs.specs.Control.{Goes}
 use Rattle.flat_mem.specs.Bytes.{number, bytes_at, written, moved}
 use Rattle.flat_mem.specs.Placement.{contents_size}
 use Rattle.flat_mem.proofs.ByteLaws.{length-bytes_at, length-written, length-moved, get-moved_other, get-moved_inside, get-written_other, get-written_inside, get-bytes_at, number-moved, number-moved_apart, moved-bytes}
-use Rattle.src_mem.specs.Pointers.{Pointer, At}
-use Rattle.src_mem.specs.Memory.{Object, touches, untouched, with_copied, with_copy, pointer_or_null}
+use Rattle.src_mem.specs.Pointers.{Pointer}
+use Rattle.src_mem.specs.Memory.{Object, untouched, with_copied, with_copy, pointer_or_null}
 use Rattle.src_mem.specs.State as source
 use Rattle.src_mem.specs.State.{Setting, given}
 use Rattle.src_mem.specs.Primitives.{Spot, spot, with_object, copy}
 use Rattle.src_mem.specs.Outlines.{outline}
 use Rattle.src_mem.specs.Facts.{HoldType}
 use Rattle.src_mem.proofs.Outlines.{get-mapped}
-use Rattle.src_mem.proofs.Spots.{IsRight, spot-right}
+use Rattle.src_mem.proofs.Spots.{spot-right}
 use Rattle.cured_code.specs.declared.instr.Instr.TheVariants as instr
 use Rattle.cured_code.specs.FlatState as flat
 use Rattle.cured_code.specs.FlatState.{slot, words_at, copied, is_in_list, Trap, goes}
@@ -72,7 +71,7 @@ module _ (w : Setting) (sound : IsWellFormed w.table) (t : TypeId) where
   ts = cells_of w.table t
 
   -- the widths are those of the type
-  before-held : (cells : List Cell) (at high : ℕ) → HoldType w cells at high t → (j : ℕ) → j ≤ length (cells_of w.table t)
+  pub before-held : (cells : List Cell) (at high : ℕ) → HoldType w cells at high t → (j : ℕ) → j ≤ length (cells_of w.table t)
       → before w.kind cells (at + j) ≡ before w.kind cells at + before w.kind (cells_of w.table t) j
   before-held cells at high h zero l = let e : at + 0 ≡ at = omega arith in ap (before w.kind cells) e ∙ (let z : before w.kind cells at ≡ before w.kind cells at + 0 = omega arith in z)
   before-held cells at high h (suc j) l =

@@ -13,3 +13,4 @@ pub mod WildStores
 pub mod WildIntegers
 pub mod WildClears
 pub mod WildMoves
+pub mod WildPlain

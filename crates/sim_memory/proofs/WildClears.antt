@@ -1,11 +1,10 @@
 -- A clearing of an object with tags.
-use Rattle.std.proofs.Common.{◌≡◌, ◌∙◌, ◌⊎◌, ⊎_elim, inl, inr, ℕ, zero, suc, ◌+◌, ◌-◌, ◌*◌, ◌/◌, ◌%◌, ◌<◌, ◌≤◌, pos, Bool, true, false, ◌&&◌, ◌||◌, List, [], ◌∷◌, length, nat_eq, nat_le, slice_get, slice_index, Option, Some, None, refl, ap, sym, subst, arith}
-use Rattle.std.proofs.lemmas.Bool.Decides.{nat_tests}
+use Rattle.std.proofs.Common.{◌≡◌, ◌∙◌, ◌⊎◌, ⊎_elim, inl, inr, ℕ, zero, suc, ◌+◌, ◌-◌, ◌*◌, ◌<◌, ◌≤◌, pos, Bool, true, false, ◌&&◌, ◌||◌, List, length, nat_eq, nat_le, slice_get, slice_index, Option, Some, refl, ap, sym, subst, arith}
 use Rattle.cc_base.specs.declared.kind.Kind.{Kind}
 use Rattle.cc_base.specs.declared.kind.Kind.TheVariants.{Wild}
 use Rattle.cc_base.specs.declared.number.TypeId.{TypeId}
 use Rattle.runs.specs.Outcome.{allowed, leaves}
-use Rattle.flat_mem.specs.Bytes.{number, zeroed, AreBytes}
+use Rattle.flat_mem.specs.Bytes.{zeroed, AreBytes}
 use Rattle.flat_mem.specs.Placement.{word_count, data_word, tag_byte, tagged_size}
 use Rattle.flat_mem.specs.Memory.{with_bytes, in_flat}
 use Rattle.flat_mem.proofs.ByteLaws.{length-zeroed, get-zeroed_other, get-zeroed_inside, zeroed-bytes}
@@ -17,18 +16,17 @@ use Rattle.wild_tags.proofs.ByteRows.{IsTouched, range-of, all-true}
 use Rattle.wild_tags.proofs.CallLaws.{length-range_zeroed, range_zeroed-bytes, get-with_tag_other}
 use Rattle.wild_tags.proofs.MarkLaws.{tag-tags_cleared}
 use Rattle.wild_tags.proofs.UntagLaws.{range_zeroed_at, number-range_zeroed, number-range_zeroed_other}
-use Rattle.src_mem.specs.Pointers.{Location, Pointer, At}
+use Rattle.src_mem.specs.Pointers.{Location, At}
 use Rattle.src_mem.specs.Memory.{Object, cleared}
 use Rattle.src_mem.specs.State as source
 use Rattle.src_mem.specs.State.{Setting, Wrong}
 use Rattle.src_mem.specs.Primitives.{with_object, clear, clear_at}
-use Rattle.src_mem.specs.Outlines.{outline}
 use Rattle.cured_code.specs.declared.instr.Instr.TheVariants as instr
 use Rattle.cured_code.specs.FlatState as flat
 use Rattle.cured_code.specs.FlatState.{slot, accessed, Trap, goes}
 use Rattle.cured_code.specs.FlatMachine.{Context, act}
 use Rattle.sim_relation.specs.Ground.{Ground, address}
-use Rattle.sim_relation.specs.Objects.{HoldsTagged, HoldsWord, HoldsBy}
+use Rattle.sim_relation.specs.Objects.{HoldsTagged, HoldsBy}
 use Rattle.sim_relation.specs.Related.{Related, ground_of}
 use Rattle.sim_relation.proofs.Changes.{related-change}
 use Rattle.sim_relation.proofs.Places.{in_list}

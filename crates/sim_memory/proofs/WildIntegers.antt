@@ -1,6 +1,5 @@
 -- A store of an integer in an object with tags: `untag` and then `st`.
-use Rattle.std.proofs.Common.{◌≡◌, ◌∙◌, ◌⊎◌, ⊎_elim, inl, inr, ℕ, ◌+◌, ◌*◌, ◌/◌, ◌%◌, ◌<◌, ◌≤◌, ◌^◌, ℤ, Bool, true, List, [], ◌∷◌, length, nat_eq, nat_le, ◌||◌, slice_index, refl, ap, sym, subst, arith}
-use Rattle.std.proofs.lemmas.Bool.Decides.{nat_tests}
+use Rattle.std.proofs.Common.{◌≡◌, ◌∙◌, ◌⊎◌, ⊎_elim, inl, inr, ℕ, ◌+◌, ◌%◌, ◌<◌, ◌≤◌, ◌^◌, ℤ, Bool, true, List, [], ◌∷◌, length, nat_eq, nat_le, ◌||◌, slice_index, refl, ap, sym, subst, arith}
 use Rattle.cc_base.specs.declared.kind.Kind.{Kind}
 use Rattle.cc_base.specs.declared.kind.Kind.TheVariants.{Wild}
 use Rattle.cc_base.specs.declared.number.TypeId.{TypeId}
@@ -10,7 +9,7 @@ use Rattle.integers.specs.Arithmetic.{IntegerType, bits_of}
 use Rattle.runs.specs.Outcome.{allowed, from}
 use Rattle.runs.specs.Control.{then_go}
 use Rattle.flat_mem.specs.Bytes.{stored, IsAccessSize, AreBytes}
-use Rattle.flat_mem.specs.Placement.{word_count, tagged_size}
+use Rattle.flat_mem.specs.Placement.{tagged_size}
 use Rattle.flat_mem.specs.Memory.{with_bytes}
 use Rattle.flat_mem.proofs.ByteLaws.{length-stored, get-stored_other, stored-bytes}
 use Rattle.wild_tags.specs.Words.{word_at, touched_count}
@@ -19,13 +18,13 @@ use Rattle.wild_tags.specs.Inside.{allows_untag}
 use Rattle.wild_tags.proofs.CallLaws.{length-untagged, untagged-bytes}
 use Rattle.wild_tags.proofs.UntagLaws.{untagged_at}
 use Rattle.wild_tags.proofs.ByteRows.{IsTouched, range-of, untagged-here, get-untagged_outside, length-untagged_at, untag-may}
-use Rattle.src_mem.specs.Pointers.{Pointer, At}
+use Rattle.src_mem.specs.Pointers.{Pointer}
 use Rattle.src_mem.specs.Memory.{Object, with_integer}
 use Rattle.src_mem.specs.State as source
 use Rattle.src_mem.specs.State.{Setting, given}
 use Rattle.src_mem.specs.Facts.{IsSoundMemory, IsSoundObject}
 use Rattle.src_mem.specs.Primitives.{Spot, with_object, store_integer}
-use Rattle.src_mem.specs.Outlines.{outline, outlines_of, lives_of}
+use Rattle.src_mem.specs.Outlines.{outlines_of, lives_of}
 use Rattle.src_mem.proofs.Spots.{spot-right}
 use Rattle.runs.specs.Outcome.{Done}
 use Rattle.cured_code.specs.declared.instr.Instr.TheVariants as instr
@@ -33,7 +32,7 @@ use Rattle.cured_code.specs.FlatState as flat
 use Rattle.cured_code.specs.FlatState.{slot, stored_at, with_list, Trap, goes}
 use Rattle.cured_code.specs.FlatMachine.{Context, run}
 use Rattle.sim_relation.specs.Ground.{Ground, address}
-use Rattle.sim_relation.specs.Objects.{HoldsBy, room_of}
+use Rattle.sim_relation.specs.Objects.{HoldsBy}
 use Rattle.sim_relation.specs.Related.{Related, ground_of}
 use Rattle.sim_relation.proofs.Changes.{related-change}
 use Rattle.sim_relation.proofs.Tagged.{tagged-integer}

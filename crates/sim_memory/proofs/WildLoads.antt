@@ -1,5 +1,5 @@
 -- Loads from objects with tags: both machines read the same, and the states stay related.
-use Rattle.std.proofs.Common.{◌≡◌, ◌≢◌, ◌∙◌, ◌⊎◌, ⊎_elim, inl, inr, ℕ, zero, suc, ◌+◌, ◌-◌, ◌*◌, ◌/◌, ◌%◌, ◌<◌, ◌≤◌, ◌^◌, ℤ, pos, Bool, true, false, not, ◌&&◌, ◌||◌, List, [], ◌∷◌, length, nat_eq, nat_lt, nat_le, slice_get, slice_index, slice_set, Option, Some, None, is_none, refl, ap, sym, subst, arith, if◌then◌else◌}
+use Rattle.std.proofs.Common.{◌≡◌, ◌∙◌, ◌⊎◌, ⊎_elim, ℕ, zero, suc, ◌+◌, ◌-◌, ◌*◌, ◌/◌, ◌%◌, ◌<◌, ◌≤◌, pos, Bool, true, false, not, ◌&&◌, ◌||◌, List, [], length, nat_eq, nat_le, slice_index, slice_set, Option, Some, None, is_none, refl, ap, sym, subst, arith}
 use Rattle.std.specs.Prelude.{is_some, ◌==◌}
 use Rattle.std.specs.List.{list_all, range_with_len}
 use Rattle.std.proofs.lemmas.Bool.Decides.{nat_tests}
@@ -7,25 +7,25 @@ use Rattle.cc_base.specs.declared.kind.Kind.{Kind}
 use Rattle.cc_base.specs.declared.kind.Kind.TheVariants.{Wild}
 use Rattle.cc_base.specs.declared.number.TypeId.{TypeId}
 use Rattle.integers.specs.Words.{truth_word}
-use Rattle.integers.specs.Arithmetic.{IntegerType, converted, bits_of}
-use Rattle.runs.specs.Outcome.{Done, allowed, done}
+use Rattle.integers.specs.Arithmetic.{IntegerType}
+use Rattle.runs.specs.Outcome.{Done, allowed}
 use Rattle.runs.specs.Control.{Goes}
 use Rattle.flat_mem.specs.Bytes.{number, IsAccessSize}
-use Rattle.flat_mem.specs.Placement.{word_count, data_word, base_word, tag_byte, tagged_size, contents_size}
+use Rattle.flat_mem.specs.Placement.{word_count, base_word, tag_byte, tagged_size, contents_size}
 use Rattle.flat_mem.specs.Memory.{in_flat}
 use Rattle.flat_mem.proofs.ByteLaws.{number-below, number-same}
 use Rattle.wild_tags.specs.Words.{length_at, word_at, tag_at, base_at}
 use Rattle.wild_tags.specs.Calls.{is_tagged, base_of}
 use Rattle.wild_tags.specs.Inside.{has_length, allows_word, allows_tagged, allows_base}
-use Rattle.src_mem.specs.Pointers.{Location, Pointer, Null, Number, At, Function}
+use Rattle.src_mem.specs.Pointers.{Pointer, Null, Number, At, Function}
 use Rattle.src_mem.specs.Memory.{Object, touches, holds_none, holds_pointer_at, pointer_or_null, size_of_object}
 use Rattle.src_mem.specs.State as source
 use Rattle.src_mem.specs.State.{Setting, Access, given, Wrong}
-use Rattle.src_mem.specs.Primitives.{Spot, load_integer, load_pointer}
+use Rattle.src_mem.specs.Primitives.{load_integer, load_pointer}
 use Rattle.src_mem.specs.Checks.{InObject, fits_between, holds}
 use Rattle.src_mem.specs.Outlines.{outline}
 use Rattle.src_mem.proofs.Outlines.{get-mapped}
-use Rattle.src_mem.proofs.Spots.{IsRight, spot-right}
+use Rattle.src_mem.proofs.Spots.{IsRight}
 use Rattle.facts_kept.proofs.Holds.{in-bounds}
 use Rattle.cured_code.specs.declared.parts.Parts.{Parts}
 use Rattle.cured_code.specs.declared.instr.Instr.TheVariants as instr
@@ -35,7 +35,7 @@ use Rattle.cured_code.specs.FlatMachine.{Context, act}
 use Rattle.check_forms.specs.declared.slots.PointerSlots.{PointerSlots}
 use Rattle.sim_relation.specs.Ground.{Ground, address, first_word, second_word}
 use Rattle.sim_relation.specs.Accesses.{covered, image_by, IsImage}
-use Rattle.sim_relation.specs.Objects.{HoldsTagged, HoldsWord, HoldsBy, Lies, area_of, area_by}
+use Rattle.sim_relation.specs.Objects.{HoldsTagged, HoldsWord, HoldsBy, area_of, area_by}
 use Rattle.sim_relation.specs.Related.{Related, ground_of}
 use Rattle.sim_relation.proofs.Places.{images-append, in_list}
 use Rattle.sim_checks.specs.Rows.{IsChecked}

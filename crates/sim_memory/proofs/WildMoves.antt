@@ -1,5 +1,5 @@
 -- A copy between objects with tags, `tmove`: words come over with their base words and their tags.
-use Rattle.std.proofs.Common.{◌≡◌, ◌≢◌, ◌∙◌, ◌⊎◌, ⊎_elim, inl, inr, ℕ, zero, suc, ◌+◌, ◌-◌, ◌*◌, ◌/◌, ◌%◌, ◌<◌, ◌≤◌, Bool, true, false, ◌&&◌, ◌||◌, List, [], ◌∷◌, map, length, nat_eq, nat_lt, nat_le, slice_get, slice_index, Option, Some, None, refl, ap, sym, subst, arith, if◌then◌else◌}
+use Rattle.std.proofs.Common.{◌≡◌, ◌∙◌, ◌⊎◌, ⊎_elim, inl, inr, ℕ, zero, suc, ◌+◌, ◌-◌, ◌*◌, ◌/◌, ◌%◌, ◌<◌, ◌≤◌, Bool, true, false, ◌&&◌, List, [], ◌∷◌, map, length, nat_eq, nat_le, slice_index, Option, Some, None, refl, ap, sym, subst, arith, if◌then◌else◌}
 use Rattle.std.specs.Int.{bit_at}
 use Rattle.std.proofs.lemmas.Bool.Decides.{nat_tests}
 use Rattle.cc_base.specs.declared.kind.Kind.{Kind}
@@ -7,12 +7,12 @@ use Rattle.cc_base.specs.declared.kind.Kind.TheVariants.{Wild}
 use Rattle.cc_base.specs.declared.number.TypeId.{TypeId}
 use Rattle.c_types.specs.declared.site.Site.{Site}
 use Rattle.runs.specs.Outcome.{allowed}
-use Rattle.flat_mem.specs.Bytes.{number, bytes_at, written, moved, AreBytes}
+use Rattle.flat_mem.specs.Bytes.{bytes_at, written, moved, AreBytes}
 use Rattle.flat_mem.specs.Placement.{word_count, data_word, base_word, tag_byte, tagged_size}
-use Rattle.flat_mem.specs.Memory.{with_bytes, in_flat}
-use Rattle.flat_mem.proofs.ByteLaws.{number-moved, number-moved_apart, number-written_apart, get-moved_inside, get-moved_other, get-written_inside, get-written_other, get-bytes_at, length-bytes_at, length-moved, length-written, written-bytes, moved-bytes, bytes_at-bytes}
+use Rattle.flat_mem.specs.Memory.{in_flat}
+use Rattle.flat_mem.proofs.ByteLaws.{number-moved_apart, number-written_apart, get-moved_inside, get-moved_other, get-written_inside, get-written_other, get-bytes_at, length-bytes_at, length-moved, length-written, written-bytes, moved-bytes, bytes_at-bytes}
 use Rattle.flat_mem.proofs.StoreLaws.{number-one}
-use Rattle.wild_tags.specs.Words.{length_at, word_at, touched, touched_count, counted, tag_at, base_at, with_tag, with_tags}
+use Rattle.wild_tags.specs.Words.{length_at, word_at, touched, touched_count, counted, tag_at, with_tag, with_tags}
 use Rattle.wild_tags.specs.Calls.{words_moved}
 use Rattle.wild_tags.specs.Inside.{allows_zero, allows_side, allows_move, have_bases}
 use Rattle.wild_tags.proofs.ByteRows.{range-of, all-true}
@@ -25,7 +25,6 @@ use Rattle.src_mem.specs.State as source
 use Rattle.src_mem.specs.State.{Setting}
 use Rattle.src_mem.specs.Facts.{IsSoundMemory}
 use Rattle.src_mem.specs.Primitives.{with_object, copy, spot}
-use Rattle.src_mem.specs.Outlines.{outline}
 use Rattle.src_mem.proofs.Spots.{spot-right}
 use Rattle.cured_code.specs.declared.instr.Instr.TheVariants as instr
 use Rattle.cured_code.specs.FlatState as flat

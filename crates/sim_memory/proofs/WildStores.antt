@@ -1,26 +1,26 @@
 -- Stores of pointers in objects with tags: a word gets its tag and its base word, or becomes zero without one.
-use Rattle.std.proofs.Common.{◌≡◌, ◌≢◌, ◌∙◌, ◌⊎◌, ⊎_elim, inl, inr, ℕ, zero, suc, ◌+◌, ◌-◌, ◌*◌, ◌/◌, ◌%◌, ◌<◌, ◌≤◌, ◌^◌, ℤ, pos, Bool, true, false, ◌&&◌, ◌||◌, List, [], ◌∷◌, length, nat_eq, nat_lt, nat_le, slice_get, slice_index, Option, Some, None, refl, ap, sym, subst, arith, if◌then◌else◌}
+use Rattle.std.proofs.Common.{◌≡◌, ◌≢◌, ◌∙◌, ◌⊎◌, ⊎_elim, inl, inr, ℕ, ◌+◌, ◌-◌, ◌*◌, ◌/◌, ◌%◌, ◌<◌, ◌≤◌, ◌^◌, Bool, true, false, ◌&&◌, ◌||◌, List, [], ◌∷◌, length, nat_eq, nat_le, slice_index, Option, Some, None, refl, ap, sym, subst, arith, if◌then◌else◌}
 use Rattle.std.specs.Int.{bit_at}
 use Rattle.std.proofs.lemmas.Bool.Decides.{nat_tests}
 use Rattle.cc_base.specs.declared.kind.Kind.{Kind}
 use Rattle.cc_base.specs.declared.kind.Kind.TheVariants.{Wild}
 use Rattle.cc_base.specs.declared.number.TypeId.{TypeId}
 use Rattle.runs.specs.Outcome.{Done, allowed, from}
-use Rattle.runs.specs.Control.{Goes, then_go}
-use Rattle.flat_mem.specs.Bytes.{number, stored, zeroed, AreBytes}
+use Rattle.runs.specs.Control.{then_go}
+use Rattle.flat_mem.specs.Bytes.{stored, zeroed, AreBytes}
 use Rattle.flat_mem.specs.Placement.{word_count, data_word, base_word, tag_byte, tagged_size}
 use Rattle.flat_mem.specs.Memory.{with_bytes, in_flat}
-use Rattle.flat_mem.proofs.ByteLaws.{length-stored, length-zeroed, get-stored_other, get-zeroed_other, get-zeroed_inside, stored-bytes, zeroed-bytes, number-stored, number-stored_apart, number-zeroed_apart}
+use Rattle.flat_mem.proofs.ByteLaws.{length-stored, length-zeroed, get-stored_other, get-zeroed_other, get-zeroed_inside, stored-bytes, zeroed-bytes, number-stored, number-stored_apart}
 use Rattle.flat_mem.proofs.StoreLaws.{number-zero, number-one}
-use Rattle.wild_tags.specs.Words.{length_at, word_at, touched, touched_count, counted, tag_at, base_at, with_tag, tags_cleared}
+use Rattle.wild_tags.specs.Words.{length_at, word_at, touched, touched_count, counted, tag_at, with_tag, tags_cleared}
 use Rattle.wild_tags.specs.Calls.{marked, range_zeroed}
 use Rattle.wild_tags.specs.Inside.{allows_plain, allows_tagged, allows_base, allows_mark, allows_zero, has_length, have_tags}
-use Rattle.wild_tags.proofs.ByteRows.{IsTouched, range-of, all-true, get-marked_data, tag-stored}
+use Rattle.wild_tags.proofs.ByteRows.{range-of, all-true, get-marked_data, tag-stored}
 use Rattle.wild_tags.proofs.CallLaws.{length-marked, length-range_zeroed, marked-bytes, range_zeroed-bytes, get-with_tag_other}
-use Rattle.wild_tags.proofs.MarkLaws.{marked_at, length_at-marked, tag-marked, tag-marked_other, base-marked, base-marked_other, data-marked, tag-tags_cleared, tag-tags_cleared_other, number-tags_cleared}
+use Rattle.wild_tags.proofs.MarkLaws.{marked_at, length_at-marked, tag-marked, tag-marked_other, base-marked, base-marked_other, data-marked, tag-tags_cleared, tag-tags_cleared_other}
 use Rattle.wild_tags.proofs.UntagLaws.{range_zeroed_at, number-range_zeroed, number-range_zeroed_other}
 use Rattle.wild_tags.proofs.WriteLaws.{tags_cleared-one}
-use Rattle.src_mem.specs.Pointers.{Location, Pointer, Null, Number, At, Function}
+use Rattle.src_mem.specs.Pointers.{Pointer, Null, Number, At, Function}
 use Rattle.src_mem.specs.Memory.{Object, touches, untouched, with_entry, entry_of, with_pointer}
 use Rattle.src_mem.specs.State as source
 use Rattle.src_mem.specs.State.{Setting}
@@ -31,7 +31,7 @@ use Rattle.cured_code.specs.FlatState as flat
 use Rattle.cured_code.specs.FlatState.{slot, stored_at, accessed, with_list, Trap, goes}
 use Rattle.cured_code.specs.FlatMachine.{Context, act, run}
 use Rattle.sim_relation.specs.Ground.{Ground, address, first_word, second_word}
-use Rattle.sim_relation.specs.Objects.{HoldsTagged, HoldsWord, HoldsBy, area_of, room_of}
+use Rattle.sim_relation.specs.Objects.{HoldsTagged, HoldsWord, HoldsBy, room_of}
 use Rattle.sim_relation.specs.Related.{Related, ground_of}
 use Rattle.sim_relation.proofs.Changes.{related-change}
 use Rattle.sim_relation.proofs.Places.{in_list}

@@ -1,5 +1,5 @@
 -- The statements of the laws of memory: what one act of C and one line of the flat machine leave of related states.
-use Rattle.std.specs.Prelude.{◌≡◌, ◌≢◌, ℕ, suc, ◌+◌, ◌*◌, ◌%◌, ◌^◌, ◌<◌, ◌≤◌, ℤ, pos, Bool, true, false, List, [], ◌∷◌, ◌++◌, length, slice_get, slice_set, Some, nat_le, IsTrue}
+use Rattle.std.specs.Prelude.{◌≡◌, ◌≢◌, ℕ, suc, ◌+◌, ◌*◌, ◌%◌, ◌^◌, ◌<◌, ◌≤◌, ℤ, pos, true, false, List, length, slice_get, slice_set, Some, nat_le, IsTrue}
 use Rattle.cc_base.specs.declared.kind.Kind.{Kind}
 use Rattle.cc_base.specs.declared.kind.Kind.TheVariants.{Wild}
 use Rattle.cc_base.specs.declared.number.TypeId.{TypeId}
@@ -12,9 +12,9 @@ use Rattle.c_types.specs.Cells.{Cell, AreOrdered, holds_pointer}
 use Rattle.c_types.specs.Equality.{cells_of}
 use Rattle.c_types.specs.Sound.{IsWellFormed}
 use Rattle.c_types.specs.Widths.{width_of, cured_size}
-use Rattle.integers.specs.Words.{word, residue}
+use Rattle.integers.specs.Words.{residue}
 use Rattle.integers.specs.Arithmetic.{IntegerType, converted, bits_of}
-use Rattle.flat_mem.specs.Bytes.{IsAccessSize, bytes_at, written}
+use Rattle.flat_mem.specs.Bytes.{IsAccessSize, written}
 use Rattle.flat_mem.specs.declared.Area.{Area}
 use Rattle.flat_mem.specs.Memory.{block_fits, block_address}
 use Rattle.src_mem.specs.Pointers.{Pointer}

@@ -1,10 +1,12 @@
 -- Memory with tags: what loads and stores through WILD pointers leave of related states.
-use Rattle.std.specs.Prelude.{◌≡◌, ◌≢◌, ℕ, ◌+◌, ◌*◌, ◌%◌, ◌^◌, ◌<◌, ◌≤◌, ℤ, pos, true, List, [], ◌∷◌, length, slice_get, slice_set, Option, Some, is_some, nat_le, IsTrue}
+use Rattle.std.specs.Prelude.{◌≡◌, ◌≢◌, ℕ, ◌+◌, ◌*◌, ◌%◌, ◌^◌, ◌<◌, ◌≤◌, ℤ, pos, true, List, [], ◌∷◌, length, slice_get, slice_set, Some, is_some, nat_le, IsTrue}
+use Rattle.cc_base.specs.declared.kind.Kind.{Kind}
 use Rattle.cc_base.specs.declared.kind.Kind.TheVariants.{Wild}
 use Rattle.cc_base.specs.declared.number.TypeId.{TypeId}
 use Rattle.cc_base.specs.declared.number.NodeId.{NodeId}
 use Rattle.c_types.specs.declared.site.Site.{Site}
-use Rattle.c_types.specs.Cells.{Cell, AreOrdered}
+use Rattle.c_types.specs.Cells.{Cell, raw, AreOrdered}
+use Rattle.c_types.specs.Equality.{cells_of}
 use Rattle.integers.specs.Words.{residue, truth_word}
 use Rattle.integers.specs.Arithmetic.{IntegerType, bits_of}
 use Rattle.flat_mem.specs.Bytes.{IsAccessSize}
@@ -27,7 +29,7 @@ use Rattle.check_forms.specs.declared.slots.PointerSlots.{PointerSlots}
 use Rattle.sim_relation.specs.Ground.{address, first_word, second_word}
 use Rattle.sim_relation.specs.Related.{Related, ground_of}
 use Rattle.sim_checks.specs.Rows.{IsChecked}
-use Rattle.sim_memory.specs.Found.{GoOnAlike}
+use Rattle.sim_memory.specs.Found.{IsFound, GoOnAlike}
 use Rattle.sim_memory.specs.Laws.{IntegerIsLoaded, AreBelowHeap}
 
 -- The pointer stands at so many bytes of a living object with tags; these are the address of the first one and that of the area.
@@ -129,3 +131,12 @@ TaggedWordsAreCopied = (w : Setting) (sites : List Site) (number_of : TypeId →
     → IsSoundMemory w sites s.memory → Related w number_of s c.state → (f : IsFoundTagged w number_of s c.state n p (slot c d) (slot c e))
     → (h : IsFoundTagged w number_of s c.state n q (slot c a) (slot c b)) → 0 < n → n % 8 ≡ 0 → f.at % 8 ≡ 0 → h.at % 8 ≡ 0
     → GoOnAlike w number_of s c (copy n Wild p Wild q s) (act (instr.Tmove a b d e n) x c) tt c.slots
+
+-- Bytes that are no pointer's are copied from an object without tags into one with tags: what tags they touch there go.
+abbrev pub PlainBytesAreCopied : Type 0
+PlainBytesAreCopied = (w : Setting) (sites : List Site) (number_of : TypeId → ℕ) (kind : Kind) (t : TypeId) (p q : Pointer) (s : source.State) (x : Context) (a b d : ℕ)
+    (c : flat.Local) → kind ≢ Wild → ((i : ℕ) → i < length (cells_of w.table t) → slice_get (cells_of w.table t) i ≡ Some raw) → 0 < length (cells_of w.table t)
+    → IsSoundMemory w sites s.memory → Related w number_of s c.state → IsFound w number_of s c.state t p (slot c d)
+    → IsFoundTagged w number_of s c.state (length (cells_of w.table t)) q (slot c a) (slot c b)
+    → GoOnAlike w number_of s c (copy (length (cells_of w.table t)) kind p Wild q s)
+    (run (instr.Untag a b (length (cells_of w.table t)) ∷ instr.Move a d (length (cells_of w.table t)) ∷ []) x c) tt c.slots

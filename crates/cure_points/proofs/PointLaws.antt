@@ -219,7 +219,12 @@ pub null_cured : (k : Scope) (types : Typing) (into p : Temp) (t : TypeId) (diff
     → PointCured (point.IsNull into p t different) (world_of k) types code
 unfolding PointCured Then
 null_cured k types into p t different x code e h c after is whole s = (
+  s.0,
+  s.1,
+  fixed_column p,
+  [],
   tested_slot (is_wide (whole_of k) x) (fixed_column p),
+  points k.parameters types p s.0 s.1 s.3,
   (s.4.0, omega arith),
   (h.0, h.1, is_tested k types p x h.0 e h.2, h.3, h.4),
   leaves_held k.parameters types after into (Some (IntegerOf int)) s.4.1,

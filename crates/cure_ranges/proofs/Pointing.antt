@@ -152,7 +152,7 @@ module _ (w : World) (s : AreSlots w.slots) (r : Around) (b n : ℕ) (deep : n +
             (compares which (kind_of w m) (kind_of w o) (column w into) (pointer_slots p) (pointer_slots q) (at_0 (column w into) w.slots.count c) lp lq)),
         left_at w known into (an_integer (column w into) Exact int) after (column w into) k refl c l,
       )
-  point_in_range (point.IsNull into p t different) known after code k (a, t', (x, y, g, f, e), l) =
+  point_in_range (point.IsNull into p t different) known after code k (m, u, q, sure, a, points, t', (x, y, g, f, e), l) =
       let c = room w s into 1 t' in
       let h = tested w s r b n deep known p a x k g in (
         in_turn (names_at w r b n) x y code e h.0

@@ -1,3 +1,17 @@
+pub mod Laid
+pub mod Stays
+pub mod Fitting
+pub mod Growing
+pub mod Beginning
+pub mod Leaving
+pub mod Framed
+pub mod Keeping
+pub mod Prologues
+pub mod Starting
+pub mod Accessing
+pub mod Parts
+pub mod Storing
+pub mod Plain
 pub mod Points
 pub mod Control
 pub mod Calls

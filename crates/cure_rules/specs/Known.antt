@@ -233,6 +233,15 @@ abbrev pub IsAddress : Knowledge → Temp → NodeId → TypeId → ℕ → List
 IsAddress known t n u a sure =
     (x : Known) × (known t ≡ Some x) × ((x.type ≡ PointerTo n u) ⊎ (x.type ≡ PlaceOf n u)) × (x.place ≡ Some a) × (x.sure ≡ sure)
 
+-- those of a place, which isn't null
+abbrev pub IsPlaced : Knowledge → Temp → NodeId → TypeId → ℕ → List Sure → Type 0
+IsPlaced known t n u a sure = (x : Known) × (known t ≡ Some x) × (x.type ≡ PlaceOf n u) × (x.place ≡ Some a) × (x.sure ≡ sure)
+
+-- those of an array: a place, or a pointer where it is checked
+abbrev pub IsArrayAt : Bool → Knowledge → Temp → NodeId → TypeId → ℕ → List Sure → Type 0
+IsArrayAt true known t n u a sure = IsAddress known t n u a sure
+IsArrayAt false known t n u a sure = IsPlaced known t n u a sure
+
 -- so many slots are copied, one by one
 abbrev pub copies : ℕ → ℕ → ℕ → List Instr
 copies ℕ.zero v a = []

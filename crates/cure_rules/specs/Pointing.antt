@@ -30,7 +30,7 @@ use Rattle.check_forms.specs.Rows.{home_slot}
 use Rattle.sim_relation.specs.Ground.{word_number}
 use Rattle.sim_relation.specs.Points.{Exact, Sure, Knowledge, Number}
 use Rattle.cure_rules.specs.Slots.{First, Second, Moved, Size, Offset, Word, slot_of}
-use Rattle.cure_rules.specs.Known.{World, kind_of, cured_size, reach_of, column, Takes, Gets, IsPointer, IsPlainInteger, IsExactly, Points, IsAddress, Leaves, an_integer, a_pointer, a_place, pointer_slots, copies, narrow_of, narrowed_lines}
+use Rattle.cure_rules.specs.Known.{World, kind_of, cured_size, reach_of, column, Takes, Gets, IsPointer, IsPlainInteger, IsExactly, Points, IsAddress, IsPlaced, IsArrayAt, Leaves, an_integer, a_pointer, a_place, pointer_slots, copies, narrow_of, narrowed_lines}
 use Rattle.cure_rules.specs.Checks.{Seat, number_at, wild_numbers, move_by, address_of_part, IsGuarded}
 use Rattle.cure_rules.specs.Setting.{is_wide_kind, IsTested, comparison_lines}
 
@@ -133,11 +133,11 @@ IsCuringPoint (point.Member into from outer t i inner u at) w known after lines 
     (PartWords (kind_of w inner) w seat (cured_size w.whole u) u (column w into) a (seat Offset) (a + 1))) lines
     × Leaves known into (Some (a_place (column w into) inner u [])) after
 IsCuringPoint (point.Decay into from outer array check inner element at) w known after lines = (a : ℕ) × (sure : List Sure) × (seat : Seat)
-    × IsAddress known from outer array a sure × Takes w into (word_number (kind_of w inner))
+    × IsArrayAt check known from outer array a sure × Takes w into (word_number (kind_of w inner))
     × Decays check w seat (kind_of w outer) (kind_of w inner) array element (column w into) a at lines
     × Leaves known into (Some (a_pointer (column w into) inner element [])) after
 IsCuringPoint (point.Address into from outer inner t) w known after lines = (a : ℕ) × (sure : List Sure) × (seat : Seat)
-    × IsAddress known from outer t a sure × Takes w into (word_number (kind_of w inner))
+    × IsPlaced known from outer t a sure × Takes w into (word_number (kind_of w inner))
     × PartWords (kind_of w inner) w seat (cured_size w.whole t) t (column w into) a w.slots.nought (a + 1) lines
     × Leaves known into (Some (a_pointer (column w into) inner t [])) after
 

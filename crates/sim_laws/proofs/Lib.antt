@@ -11,6 +11,7 @@ pub mod Starting
 pub mod Accessing
 pub mod Parts
 pub mod Storing
+pub mod Making
 pub mod Plain
 pub mod Points
 pub mod Control

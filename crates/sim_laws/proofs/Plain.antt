@@ -13,6 +13,7 @@ use Rattle.cil_form.specs.declared.number.Temp.{Temp}
 use Rattle.cil_form.specs.declared.instr.Access.TheVariants as access
 use Rattle.cil_form.specs.declared.instr.Target.TheVariants as target
 use Rattle.cil_form.specs.declared.instr.Convert.TheVariants as convert
+use Rattle.cil_form.specs.declared.instr.Point.TheVariants as point
 use Rattle.cil_form.specs.declared.instr.Instr.{Instr}
 use Rattle.cil_form.specs.declared.instr.Instr.TheVariants as instr
 use Rattle.cil_form.specs.declared.program.Function.{Function}
@@ -29,7 +30,7 @@ use Rattle.sim_relation.specs.Points.{Knowledge}
 use Rattle.cure_rules.specs.Slots.{AreSlots}
 use Rattle.cure_rules.specs.Known.{held_shape}
 use Rattle.cure_rules.specs.Setting.{IsCuringSet}
-use Rattle.cure_rules.specs.Pointing.{IsCuringConvert}
+use Rattle.cure_rules.specs.Pointing.{IsCuringPoint, IsCuringConvert}
 use Rattle.cure_rules.specs.Accesses.{IsHome, StoresInteger, StoresPointer, IsCuringAccess}
 use Rattle.cure_rules.specs.Code.{Blocks, ReturnGuard, Returns}
 use Rattle.cure_rules.specs.Programs.{IsCuredProgram}
@@ -50,6 +51,7 @@ use Rattle.sim_laws.proofs.Accessing.{load-integer-follows, load-pointer-follows
 use Rattle.sim_laws.proofs.Names.{Names, context_in, pointer-asked}
 use Rattle.sim_laws.proofs.Parts.{store-part-follows}
 use Rattle.sim_laws.proofs.Storing.{store-pointer-follows}
+use Rattle.sim_laws.proofs.Making.{address-follows}
 use Rattle.sim_laws.proofs.Shaped.{Shaped}
 use Rattle.sim_laws.proofs.Settled as settled
 use Rattle.sim_laws.proofs.Framed as framed
@@ -70,6 +72,21 @@ module _ (w : Scene) (g : AreSlots w.slots) (b : Running) (whole : List Instr) (
   -- no type is one of integers and of pointers
   not-both : (h : TypeShape) (m : NodeId) (u : TypeId) → IsIntegerShape h → h ≡ shape.Pointer m u → ⊥
   not-both h m u integer e = absurd (subst IsIntegerShape e integer)
+
+  point-follows : AllFollow w g b whole (λ i. instr.Point i) IsCuringPoint
+  point-follows (point.Address into from outer inner t) inside known after blocks lines h = of (shaped (instr.Point (point.Address into from outer inner t)) inside)
+    where
+      of : Shaped (instr.Point (point.Address into from outer inner t)) (context_in w names 0 no_types)
+          → Follows w g b blocks known after (meaning.act (instr.Point (point.Address into from outer inner t)) (around_of w b)) lines
+      of z = address-follows w names g b into from outer inner t known after blocks lines (plain (instr.Point (point.Address into from outer inner t)) inside).0
+          (plain (instr.Point (point.Address into from outer inner t)) inside).1 z.is.0.2.1 z.is.1.0 h
+  point-follows (point.Move into p n way t at) inside known after blocks lines h = absurd (plain (instr.Point (point.Move into p n way t at)) inside)
+  point-follows (point.Difference into a t b' s at) inside known after blocks lines h = absurd (plain (instr.Point (point.Difference into a t b' s at)) inside)
+  point-follows (point.Compare into comparison a t b' s at) inside known after blocks lines h = absurd (plain (instr.Point (point.Compare into comparison a t b' s at)) inside)
+  point-follows (point.IsNull into p t different) inside known after blocks lines h = absurd (plain (instr.Point (point.IsNull into p t different)) inside)
+  point-follows (point.Member into from outer t i inner u at) inside known after blocks lines h = absurd (plain (instr.Point (point.Member into from outer t i inner u at)) inside)
+  point-follows (point.Decay into from outer array check inner element at) inside known after blocks lines h =
+      absurd (plain (instr.Point (point.Decay into from outer array check inner element at)) inside)
 
   -- a home that isn't WILD is SAFE
   safe-home : (k : Kind) → IsHome k → k ≢ Wild → k ≡ Safe
@@ -143,7 +160,7 @@ module _ (w : Scene) (g : AreSlots w.slots) (b : Running) (whole : List Instr) (
   plain-laws = record {
     set = sets;
     calculate = calculate-follows w g b whole;
-    point = λ i inside known after blocks lines h. absurd (plain (instr.Point i) inside);
+    point = point-follows;
     convert = convert-follows;
     access = access-follows;
     allocate = λ i inside known after blocks lines h. absurd (plain (instr.Allocate i) inside);

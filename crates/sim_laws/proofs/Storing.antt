@@ -1,5 +1,5 @@
 -- Stores of pointers through pointers without tags: behind NULL or BOUNDS, and ESCAPE.
-use Rattle.std.proofs.Common.{◌≡◌, ◌≢◌, ℕ, ◌+◌, ◌<◌, ◌⊎◌, inl, inr, Bool, true, false, List, [], ◌∷◌, ◌++◌, length, slice_index, Option, Some, None, refl, ap, sym, subst, ◌∙◌, arith}
+use Rattle.std.proofs.Common.{◌≡◌, ◌≢◌, ℕ, ◌+◌, ◌<◌, inl, inr, false, List, [], ◌∷◌, ◌++◌, Option, Some, None, refl, ap, sym, subst, ◌∙◌, arith}
 use Rattle.std.proofs.lemmas.List.{append-nil}
 use Rattle.cc_base.specs.declared.fault.Check.TheVariants as check
 use Rattle.cc_base.specs.declared.kind.Kind.{Kind}
@@ -8,20 +8,19 @@ use Rattle.cc_base.specs.declared.number.TypeId.{TypeId}
 use Rattle.cc_base.specs.declared.number.NodeId.{NodeId}
 use Rattle.cc_base.specs.declared.place.Place.{Place}
 use Rattle.c_types.specs.declared.shape.TypeShape.{TypeShape}
-use Rattle.c_types.specs.declared.shape.TypeShape.TheVariants as shape
-use Rattle.c_types.specs.Table.{IsComplete, shape_at, members_at, is_complete_entry, is_function}
+use Rattle.c_types.specs.Table.{IsComplete, members_at, is_complete_entry, is_function}
 use Rattle.c_types.specs.Layouts.{size_of}
 use Rattle.c_types.specs.Solutions.{SpreadsWild}
-use Rattle.runs.specs.Outcome.{Outcome, Ended, Done, done, from}
+use Rattle.runs.specs.Outcome.{Outcome, Done, done, from}
 use Rattle.runs.specs.Control.{Goes, then_go}
 use Rattle.flat_mem.specs.Bytes.{bytes_at}
 use Rattle.flat_mem.specs.Memory as flat_memory
-use Rattle.src_mem.specs.Pointers.{Pointer, Value, Integer, Address}
+use Rattle.src_mem.specs.Pointers.{Pointer, Value, Address}
 use Rattle.src_mem.specs.Memory as stored_memory
 use Rattle.src_mem.specs.Memory.{Memory}
 use Rattle.src_mem.specs.State as source
 use Rattle.src_mem.specs.State.{Setting}
-use Rattle.src_mem.specs.Checks.{Condition, NotNull, InBounds, Outlives, WritePointer, conditions_of, holds, all_placed, place_of_write}
+use Rattle.src_mem.specs.Checks.{Condition, Outlives, WritePointer, conditions_of, all_placed, place_of_write}
 use Rattle.src_mem.specs.Primitives.{store_pointer}
 use Rattle.src_mem.specs.Uses.{conditions_of_write, store_shape}
 use Rattle.src_mem.specs.Values.{stored}
@@ -39,7 +38,7 @@ use Rattle.cil_form.specs.declared.instr.Target.TheVariants as target
 use Rattle.cil_form.specs.declared.instr.Instr.TheVariants as instr
 use Rattle.cil_form.specs.State as code
 use Rattle.cil_form.specs.State.{beside}
-use Rattle.cil_form.specs.Typing.{HeldType, PointerTo, PlaceOf, IsTemp, HoldsAddress, no_types}
+use Rattle.cil_form.specs.Typing.{HeldType, PointerTo, IsTemp, HoldsAddress, no_types}
 use Rattle.cil_form.specs.Meaning as meaning
 use Rattle.cil_facts.proofs.Accesses.{allowed-held}
 use Rattle.cured_code.specs.FlatState as flat
@@ -55,16 +54,16 @@ use Rattle.check_forms.specs.Pieces.{Line, Then}
 use Rattle.check_forms.specs.Conditions.{IsNoDeeper}
 use Rattle.check_forms.specs.Lines.{IsOther}
 use Rattle.check_forms.specs.Rows.{Asked, asked, flat_conditions, reached, home_slot}
-use Rattle.check_forms.specs.RowChecks.{AreChecks, AreAllApart, AreAllHeld, AreSafe, first_false, stopped_by}
+use Rattle.check_forms.specs.RowChecks.{AreChecks, AreAllApart, AreAllHeld, AreSafe, first_false}
 use Rattle.sim_checks.proofs.Escape.{escape-compared}
-use Rattle.sim_relation.specs.Ground.{Ground, pointer_words, word_number}
-use Rattle.sim_relation.specs.Points.{Known, Knowledge, Sure, AreWords, StandsFor}
+use Rattle.sim_relation.specs.Ground.{pointer_words, word_number}
+use Rattle.sim_relation.specs.Points.{Knowledge, Sure, AreWords, StandsFor}
 use Rattle.sim_memory.specs.Found.{IsFound, GoOnAlike, storing}
 use Rattle.sim_memory.proofs.Finding.{places-found}
 use Rattle.sim_memory.proofs.Storing.{pointers-stored}
 use Rattle.cure_rules.specs.Slots.{AreSlots, work_of}
 use Rattle.cure_rules.specs.Known.{Includes, IsAddress, Points, pointer_slots}
-use Rattle.cure_rules.specs.Checks.{Need, Seat, AreGot, numbers_of, reach_needs, size_at, wild_numbers, write_pointer}
+use Rattle.cure_rules.specs.Checks.{Need, AreGot, numbers_of, reach_needs, size_at, wild_numbers, write_pointer}
 use Rattle.cure_rules.specs.Accesses.{PointerStored, StoresPointer, words_stored}
 use Rattle.cure_rules.specs.Code.{Blocks}
 use Rattle.sim_laws.specs.Scenes.{Scene, Running, setting_of, world_of, around_of, context_of}
@@ -73,7 +72,7 @@ use Rattle.sim_laws.specs.Statements.{Lines, CodeOutcome, FlatOutcome, Match, Fo
 use Rattle.sim_laws.proofs.Points.{some-words, unwritten}
 use Rattle.sim_laws.proofs.Guards.{passed-none, lasting-other}
 use Rattle.sim_laws.proofs.Names.{Names, context_in, solved-in, facts-at, types_of, held_type, pointer-asked}
-use Rattle.sim_laws.proofs.Checks.{AreThere, AreReady, AreCompared, Guarded, StopsAlike, guarded, guarded-lasting, stops-alike}
+use Rattle.sim_laws.proofs.Checks.{AreReady, AreCompared, Guarded, StopsAlike, guarded, guarded-lasting, stops-alike}
 use Rattle.sim_laws.proofs.Reaching.{Pointed, pointed, checked-words, reach-roles, reach-ready, reach-compared}
 use Rattle.sim_laws.proofs.Accessing.{all-held, first-of, guard-changes, facts-kept}
 use Rattle.sim_laws.proofs.Stays.{grows-kept, there-kept}

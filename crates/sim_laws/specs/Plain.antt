@@ -1,9 +1,9 @@
--- A part of three-address code whose laws are all there: constants and addresses, calculations, conversions of integers and from them, loads and
--- stores of integers and pointers through pointers that aren't WILD, stores of integers into parts of objects that are named, `free`, `getchar`,
--- `putchar` and `exit`, control, and the return of nothing or of an integer; in functions without parameters.
+-- A part of three-address code whose laws are all there: constants and addresses, `&` of a place as a SAFE pointer, calculations, conversions of
+-- integers and from them, loads and stores of integers and pointers through pointers that aren't WILD, stores of integers into parts of objects
+-- that are named, `free`, `getchar`, `putchar` and `exit`, control, and the return of nothing or of an integer; in functions without parameters.
 use Rattle.std.specs.Prelude.{◌≡◌, ◌≢◌, ⊤, List, [], All}
 use Rattle.cc_base.specs.declared.kind.Kind.{Kind}
-use Rattle.cc_base.specs.declared.kind.Kind.TheVariants.{Wild}
+use Rattle.cc_base.specs.declared.kind.Kind.TheVariants.{Safe, Wild}
 use Rattle.cc_base.specs.declared.number.NodeId.{NodeId}
 use Rattle.cc_base.specs.declared.number.TypeId.{TypeId}
 use Rattle.c_types.specs.declared.shape.TypeShape.{TypeShape}
@@ -14,6 +14,8 @@ use Rattle.cil_form.specs.declared.instr.Access.TheVariants as access
 use Rattle.cil_form.specs.declared.instr.Target.TheVariants as target
 use Rattle.cil_form.specs.declared.instr.Convert.{Convert}
 use Rattle.cil_form.specs.declared.instr.Convert.TheVariants as convert
+use Rattle.cil_form.specs.declared.instr.Point.{Point}
+use Rattle.cil_form.specs.declared.instr.Point.TheVariants as point
 use Rattle.cil_form.specs.declared.instr.Instr.{Instr}
 use Rattle.cil_form.specs.declared.instr.Instr.TheVariants as instr
 use Rattle.cil_form.specs.declared.program.Function.{Function}
@@ -40,11 +42,16 @@ IsPlainAccess table kind (access.Store (target.Pointer p n) v t at assignment) =
 IsPlainAccess table kind (access.Store (target.Part o n u offset) v t at assignment) = IsPlainUse table kind n t
 IsPlainAccess table kind other = ⊥
 
+-- the address of what stands at a place, as a SAFE pointer
+abbrev pub IsPlainPoint : (NodeId → Kind) → Point → Type 0
+IsPlainPoint kind (point.Address into from outer inner t) = (kind outer ≢ Wild) × (kind inner ≡ Safe)
+IsPlainPoint kind other = ⊥
+
 -- a single instruction; control holds others, of which the same is said
 abbrev pub IsPlainInstr : Table → (NodeId → Kind) → Instr → Type 0
 IsPlainInstr table kind (instr.Set i) = ⊤
 IsPlainInstr table kind (instr.Calculate i) = ⊤
-IsPlainInstr table kind (instr.Point i) = ⊥
+IsPlainInstr table kind (instr.Point i) = IsPlainPoint kind i
 IsPlainInstr table kind (instr.Convert i) = IsPlainConvert i
 IsPlainInstr table kind (instr.Access i) = IsPlainAccess table kind i
 IsPlainInstr table kind (instr.Allocate i) = ⊥

@@ -4,6 +4,7 @@ pub mod RowLaws
 pub mod LookupLaws
 pub mod ReachedLaws
 pub mod LeavingLaws
+pub mod NestLaws
 pub mod KeptLaws
 pub mod CallLaws
 pub mod ControlLaws

@@ -1,6 +1,7 @@
 pub mod Stack
 pub mod Rows
 pub mod Spelled
+pub mod Nests
 pub mod Kept
 pub mod Sizes
 pub mod Ready

@@ -9,6 +9,7 @@ mod loading;
 mod lookups;
 mod machine;
 mod making;
+mod nesting;
 mod reading;
 mod row;
 mod running;

@@ -37,8 +37,7 @@ pub record IsKept (bytes : List ℕ) (bounds : Bounds) (marks : List Mark) (addr
   pub addresses_fit : bounds.stack_end ≤ bounds.stack_start + 8 * address_room
   pub small : length bytes < 2 ^ 32
 
--- what holds of all fields: there is room besides to keep the base words and tags of as many words as the list can hold
-pub record IsWhole (bytes : List ℕ) (bounds : Bounds) (marks : List Mark) (addresses : List ℕ) (top charge heap_top heap_charge mark_room address_room base_room tag_room : ℕ) : Type 0 where
+-- what holds of all fields: there is room besides to keep the tags of as many words as the list can hold
+pub record IsWhole (bytes : List ℕ) (bounds : Bounds) (marks : List Mark) (addresses : List ℕ) (top charge heap_top heap_charge mark_room address_room tag_room : ℕ) : Type 0 where
   pub kept : IsKept bytes bounds marks addresses top charge heap_top heap_charge mark_room address_room
-  pub bases_fit : bounds.heap_end ≤ base_room
   pub tags_fit : bounds.heap_end ≤ 8 * tag_room

@@ -8,6 +8,7 @@ mod areas;
 mod frames;
 mod memory;
 mod numbers;
+mod rows;
 mod tags;
 
 pub use areas::size_of as area_size;

@@ -8,6 +8,7 @@ ghost use Rattle.c_types.specs.Flows.{kind_in};
 ghost use Rattle.c_types.specs.Sound.{IsWellFormed};
 ghost use Rattle.cured_code.specs.Ranges.{IsSigInRange};
 ghost use Rattle.cure_rules.specs.Functions.{words_at, signature_of, AreSignatures};
+ghost use Rattle.rtti_nodes.specs.Numbering.{TellClasses};
 ghost use Rattle.cure_tables.specs.Signed.{IsAlikeAt, IsNoneAlike, IsPassed, AreSigned};
 
 use crate::words::words_in;
@@ -15,7 +16,7 @@ use c_types::{TypeShape, Types};
 use cc_base::{Kinds, NoMemory, TypeId};
 use cured_code::Sig;
 use phys_types::Known;
-use rtti_nodes::is_of_one_class;
+use rtti_nodes::{ClassNumbers, class_numbers, is_of_one_class};
 use std::alloc::Global;
 
 /// How many words values of these types take together.
@@ -55,9 +56,9 @@ fn signature_of(types: &Types, kinds: &Kinds, t: TypeId) -> Sig
 
 /// The place of the first of the types that is of the class of a type.
 fn place_of(
-    alloc: Global,
     known: &Known,
     kinds: &Kinds,
+    told: &ClassNumbers,
     firsts: &[TypeId],
     t: TypeId,
 ) -> Result<Option<usize>, NoMemory>
@@ -65,13 +66,14 @@ fn place_of(
     requires types { All (IsType known.now) firsts.now }
     requires typed { IsType known.now t }
     requires nodes { All (λ e. AreNodesOf (length kinds.now) e.shape) known.now }
+    requires told { TellClasses known.now (kind_in kinds.now) told.now }
     ensures found { IfOk result
         (λ place. IfSome place (IsAlikeAt known.now (kind_in kinds.now) firsts.now t)) }
     ensures none { IfOk result
         (λ place. IfNone place (IsNoneAlike known.now (kind_in kinds.now) firsts.now t)) }
 {
     'firsts: for i in 0..firsts.len() {
-        if is_of_one_class(alloc, known, kinds, t, firsts[i])? {
+        if is_of_one_class(known, kinds, told, t, firsts[i])? {
             return Ok(Some(i));
         }
     }
@@ -96,10 +98,10 @@ fn is_function(types: &Types, t: TypeId) -> bool
 
 /// Gives a function type the signature of its class, or a new one; any other type is passed.
 fn sign(
-    alloc: Global,
     known: &Known,
     types: &Types,
     kinds: &Kinds,
+    told: &ClassNumbers,
     state: &mut Signing,
     t: TypeId,
 ) -> Result<(), NoMemory>
@@ -109,13 +111,14 @@ fn sign(
     requires nodes { All (λ e. AreNodesOf (length kinds.now) e.shape) known.now }
     requires few { length state.old.firsts.items < 4294967295 }
     requires fits { t.0 < length state.old.numbers.items }
+    requires told { TellClasses known.now (kind_in kinds.now) told.now }
     ensures { OnOk result (IsPassed known.now (kind_in kinds.now) t state.old state.new) }
 {
     let _count = types.count();
     if !is_function(types, t) {
         return Ok(());
     }
-    if let Some(place) = place_of(alloc, known, kinds, &state.firsts, t)? {
+    if let Some(place) = place_of(known, kinds, told, &state.firsts, t)? {
         state.numbers[t.0 as usize] = place as u32 + 1;
         return Ok(());
     }
@@ -160,6 +163,7 @@ pub fn signatures_of(
     ensures few { IfOk result (λ s. length s.sigs.items ≤ 65536) }
 {
     let count = types.count();
+    let told = class_numbers(alloc, known, types, kinds)?;
     let mut state = Signing {
         firsts: Vec::new(alloc),
         sigs: vec![in alloc; Sig {
@@ -169,7 +173,7 @@ pub fn signatures_of(
         numbers: vec![in alloc; 0; count as usize]?,
     };
     'types: for t in 0..count {
-        sign(alloc, known, types, kinds, &mut state, TypeId(t))?;
+        sign(known, types, kinds, &told, &mut state, TypeId(t))?;
     }
     Ok(finished(state))
 }

@@ -1,3 +1,3 @@
 pub mod NodeCells
 mod StopLaws
-mod LayoutLaws
+pub mod LayoutLaws

@@ -1,6 +1,6 @@
--- Which types have a pointee below them.
+-- Which types have a pointee below them, by the first types that are physically equal.
 use Rattle.std.specs.Prelude.{◌↔◌, IsTrue}
-use Rattle.std.proofs.Common.{◌≡◌, ℕ, ◌<◌, Bool, true, false, List, length, get_or, Some, refl, ap, sym, subst, ◌∙◌}
+use Rattle.std.proofs.Common.{◌≡◌, Bool, true, false, List, Some, refl, ap, sym, subst, ◌∙◌}
 use Rattle.std.specs.Bool.{Decides}
 use Rattle.std.specs.List.{Contains, list_any}
 use Rattle.std.proofs.lemmas.Bool.Decides.{Decides-eqb}
@@ -9,12 +9,17 @@ use Rattle.cc_base.specs.declared.place.Place.{Place}
 use Rattle.cc_base.specs.contracts.number.TypeIdPartialEq.TheImpl as types
 use Rattle.c_types.specs.declared.site.Site.{Site}
 use Rattle.c_types.specs.declared.site.Site.TheVariants as site
-use Rattle.c_types.specs.Table.{Table}
-use Rattle.c_types.specs.Equality.{strictly_below}
+use Rattle.c_types.specs.Table.{Table, IsType}
+use Rattle.c_types.specs.Equality.{physically_equal, strictly_below}
 use Rattle.c_types.specs.Solutions.{HasBelow}
+use Rattle.c_types.specs.Sound.{IsWellFormed}
+use Rattle.type_laws.proofs.Relations.{equal_equiv}
+use Rattle.phys_types.specs.Firsts.{IsFirstEqual, AreFirstEquals}
+use Rattle.phys_types.proofs.FirstEquals.{first_typed}
+use Rattle.constraint_laws.proofs.Below.{below-alike, has-below-alike}
 use Rattle.constraint_laws.proofs.Solved.{any-true, true-any}
 use Rattle.kind_constraints.specs.Adding.{OfSome}
-use Rattle.kind_constraints.specs.Pieces.{IsPointee, AreBelows, pointee_of, union_place_of}
+use Rattle.kind_constraints.specs.Pieces.{IsPointee, IsFirstOf, ArePointees, first_in, pointee_of, union_place_of}
 
 abbrev pub type_eq : TypeId → TypeId → Bool
 type_eq = types.ghosts.eq
@@ -38,19 +43,45 @@ pointee_told sites t (s, c, e) = by s c e
 pub told_pointee : (sites : List Site) (t : TypeId) → IsPointee sites t → OfSome sites (λ s t. pointee_of s ≡ Some t) t
 told_pointee sites t (n, c) = (site.Pointee n t, c, refl)
 
-pub below_told : (table : Table) (sites : List Site) (pointees : List TypeId) → ((t : TypeId) → Contains pointees t ↔ IsPointee sites t) → (t : TypeId)
-    → IsTrue (list_any (λ q. strictly_below table q t) pointees) ↔ HasBelow table sites t
-below_told table sites pointees each t = (
-  λ h. let r = true-any (λ q. strictly_below table q t) pointees h in let p = (each r.0).0 r.1 in record { node = p.0; pointee = r.0; site = p.1; below = r.2 },
-  λ b. any-true (λ q. strictly_below table q t) pointees b.pointee ((each b.pointee).1 (b.node, b.site)) b.below,
-)
+-- the first of the types like each pointee
+pub first_told : (firsts : List TypeId) (sites : List Site) (q : TypeId) → OfSome sites (IsFirstOf firsts) q → (t : TypeId) × IsPointee sites t × (q ≡ first_in firsts t)
+first_told firsts sites q (s, c, (t, e, f)) = (t, pointee_told sites t (s, c, e), f)
 
-pub belows_tell : (table : Table) (sites : List Site) (pointees : List TypeId) (belows : List Bool) → ((t : TypeId) → Contains pointees t ↔ IsPointee sites t) → length belows ≡ length table
-    → ((i : ℕ) (d : Bool) → i < length table → get_or belows i d ≡ list_any (λ q. strictly_below table q (record { 0 = i })) pointees) → AreBelows table sites belows
-belows_tell table sites pointees belows each count f = record {
-  count = count;
-  tell = λ t d l. let b = below_told table sites pointees each t in (λ h. b.0 (sym (f t.0 d l) ∙ h), λ h. f t.0 d l ∙ b.1 h);
-}
+pub told_first : (firsts : List TypeId) (sites : List Site) (q : TypeId) → (t : TypeId) × IsPointee sites t × (q ≡ first_in firsts t) → OfSome sites (IsFirstOf firsts) q
+told_first firsts sites q (t, (n, c), f) = (site.Pointee n t, c, (t, refl, f))
+
+module _ (table : Table) (w : IsWellFormed table) (sites : List Site) (firsts : List TypeId) (equal : AreFirstEquals table firsts)
+    (typed : (t : TypeId) → IsPointee sites t → IsType table t) where
+  turned : (x y : TypeId) → physically_equal table x y ≡ true → physically_equal table y x ≡ true
+  turned x y h = (equal_equiv table).symm y x ∙ h
+
+  -- a type has a pointee below it where one of the first types does lie below it
+  pub below_told : (pointees : List TypeId) → ArePointees firsts sites pointees → (t : TypeId) → IsTrue (list_any (λ q. strictly_below table q t) pointees) ↔ HasBelow table sites t
+  below_told pointees each t = (
+    λ h.
+        let r = true-any (λ q. strictly_below table q t) pointees h in
+        let p = (each r.0).0 r.1 in
+        let g : IsFirstEqual table p.0 r.0 = subst (IsFirstEqual table p.0) (sym p.2) (equal.first p.0 (record { 0 = 0 }) (typed p.0 p.1)) in
+        record { node = p.1.0; pointee = p.0; site = p.1.1; below = below-alike table w r.0 t p.0 t r.2 (turned p.0 r.0 g.equal) ((equal_equiv table).refl t) },
+    λ b.
+        let g = equal.first b.pointee (record { 0 = 0 }) (typed b.pointee (b.node, b.site)) in
+        any-true (λ q. strictly_below table q t) pointees (first_in firsts b.pointee)
+        ((each (first_in firsts b.pointee)).1 (b.pointee, (b.node, b.site), refl))
+        (below-alike table w b.pointee t (first_in firsts b.pointee) t b.below g.equal ((equal_equiv table).refl t)),
+  )
+
+  -- and where the first type that is equal to it has one
+  pub first_below : (t f : TypeId) → IsFirstEqual table t f → (b : Bool) → IsTrue b ↔ HasBelow table sites f → IsTrue b ↔ HasBelow table sites t
+  first_below t f e b h = (
+    λ k. has-below-alike table w sites f t (turned t f e.equal) (h.0 k),
+    λ k. h.1 (has-below-alike table w sites t f e.equal k),
+  )
+
+  -- the types that are kept are types of the table
+  pub pointees_typed : (pointees : List TypeId) → ArePointees firsts sites pointees → (q : TypeId) → Contains pointees q → IsType table q
+  pointees_typed pointees each q c =
+      let p = (each q).0 c in
+      subst (IsType table) (sym p.2) (first_typed table firsts equal p.0 (record { 0 = 0 }) (typed p.0 p.1))
 
 -- the unions that sites tell of, with their places
 pub place_told : (sites : List Site) (x : TypeId × Place) → OfSome sites (λ s x. union_place_of s ≡ Some x) x → Contains sites (site.Union x.0 x.1)

@@ -1,6 +1,6 @@
 -- The constraints of a program are those that its sites give one by one, and its equalities.
 use Rattle.std.specs.Prelude.{◌↔◌}
-use Rattle.std.proofs.Common.{◌≡◌, ℕ, List, [], refl, ap, sym, subst, inl, inr, ◌⊎◌, ⊎_elim}
+use Rattle.std.proofs.Common.{◌≡◌, ℕ, List, [], Some, refl, ap, sym, subst, inl, inr, ◌⊎◌, ⊎_elim}
 use Rattle.std.specs.List.{Contains, All}
 use Rattle.std.proofs.lemmas.List.Elements.{All-contains}
 use Rattle.cc_base.specs.declared.number.TypeId.{TypeId}
@@ -15,14 +15,14 @@ use Rattle.cil_form.specs.Shape.{IsSiteInShape}
 use Rattle.cil_form.specs.Told.{AreSitesTold}
 use Rattle.phys_types.specs.Found.{Pairs, no_pairs, Gains}
 use Rattle.phys_types.specs.Standing.{AreEqualTypes}
-use Rattle.phys_types.proofs.FoundLemmas.{gains_as}
+use Rattle.phys_types.proofs.FoundLemmas.{gains_more}
 use Rattle.kind_solver.specs.declared.constraint.Constraint.{Constraint}
 use Rattle.kind_solver.specs.declared.constraint.Constraint.TheVariants.{Flow, Needs, Equal, Inside, Linked, Force, Plain}
 use Rattle.kind_solver.specs.declared.constraint.Why.TheVariants as why
 use Rattle.constraint_laws.specs.Given.{HasContents, AreOfOneCell, IsGiven, AreGiven}
 use Rattle.constraint_laws.proofs.Tops.{IsTop, flow_top, same_top, union_top, tops-equal}
 use Rattle.kind_constraints.specs.Adding.{Adds, OfSome, RelatedBySome}
-use Rattle.kind_constraints.specs.Pieces.{IsPointee, IsOfContents, IsGivenBy, IsUnlike, IsEquality, IsTopOf}
+use Rattle.kind_constraints.specs.Pieces.{IsPointee, IsOfContents, IsGivenBy, IsUnlike, IsEquality, ArePairs, flow_pair_of, IsFlowTop, IsOtherTop}
 use Rattle.kind_constraints.proofs.Adding.{none_in}
 
 module _ (table : Table) (sites : List Site) where
@@ -86,42 +86,71 @@ module _ (table : Table) (sites : List Site) where
         (given_one c g)),
   )
 
-  -- The tops of all sites are those of each
+  -- The tops of all sites are those of the pairs of flows, and those of each other site
 
-  pub top_some : (p q : HeldPointer) → IsTop table sites p q → RelatedBySome sites (IsTopOf table) p q
-  top_some p q (flow_top m n t u place c h) = (site.Flow m t n u place, c, h)
-  top_some p q (same_top t u c h) = (site.Same t u, c, h)
-  top_some p q (union_top v u m place c f k l h) = (site.Union v place, c, (f, (u, m, k, l, h)))
+  module _ (pairs : List (TypeId × TypeId)) (each : ArePairs sites pairs) where
+    top_parts : (p q : HeldPointer) → IsTop table sites p q → RelatedBySome pairs (IsFlowTop table) p q ⊎ RelatedBySome sites (IsOtherTop table) p q
+    top_parts p q (flow_top m n t u place c h) = inl ((t, u), (each (t, u)).1 (site.Flow m t n u place, c, refl), h)
+    top_parts p q (same_top t u c h) = inr (site.Same t u, c, h)
+    top_parts p q (union_top v u m place c f k l h) = inr (site.Union v place, c, (f, (u, m, k, l, h)))
 
-  pub some_top : (p q : HeldPointer) → RelatedBySome sites (IsTopOf table) p q → IsTop table sites p q
-  some_top p q (s, c, h) = by s c h
-    where
-      by : (s : Site) → Contains sites s → IsTopOf table s p q → IsTop table sites p q
-      by (site.Flow m t n u place) c h = flow_top m n t u place c h
-      by (site.Same t u) c h = same_top t u c h
-      by (site.Union v place) c h = let z = h.1 in union_top v z.0 z.1 place c h.0 z.2 z.3 z.4
-      by (site.Arith n place) c h = absurd h
-      by (site.Integer n place) c h = absurd h
-      by (site.Linked a b) c h = absurd h
-      by (site.Pointee n t) c h = absurd h
-      by (site.Home n t) c h = absurd h
+    flow_is_top : (p q : HeldPointer) → RelatedBySome pairs (IsFlowTop table) p q → IsTop table sites p q
+    flow_is_top p q (x, c, h) = let s = (each x).0 c in by s.0 s.1 s.2
+      where
+        by : (s : Site) → Contains sites s → flow_pair_of s ≡ Some x → IsTop table sites p q
+        by (site.Flow m t n u place) k e = let z : (t, u) ≡ x = cc (e) in flow_top m n t u place k (subst (λ (y : TypeId × TypeId). IsFlowTop table y p q) (sym z) h)
+        by (site.Same t u) k e = absurd (cc (e))
+        by (site.Union v place) k e = absurd (cc (e))
+        by (site.Arith n place) k e = absurd (cc (e))
+        by (site.Integer n place) k e = absurd (cc (e))
+        by (site.Linked a b) k e = absurd (cc (e))
+        by (site.Pointee n t) k e = absurd (cc (e))
+        by (site.Home n t) k e = absurd (cc (e))
 
-  -- What the sites make correspond at the top points to equal types, and what is found is all that has to be equal
+    other_is_top : (p q : HeldPointer) → RelatedBySome sites (IsOtherTop table) p q → IsTop table sites p q
+    other_is_top p q (s, c, h) = by s c h
+      where
+        by : (s : Site) → Contains sites s → IsOtherTop table s p q → IsTop table sites p q
+        by (site.Same t u) c h = same_top t u c h
+        by (site.Union v place) c h = let z = h.1 in union_top v z.0 z.1 place c h.0 z.2 z.3 z.4
+        by (site.Flow m t n u place) c h = absurd h
+        by (site.Arith n place) c h = absurd h
+        by (site.Integer n place) c h = absurd h
+        by (site.Linked a b) c h = absurd h
+        by (site.Pointee n t) c h = absurd h
+        by (site.Home n t) c h = absurd h
 
-  abbrev SomeTop : HeldPointer → HeldPointer → Type 0
-  SomeTop = RelatedBySome sites (IsTopOf table)
+    pub tops_found : (flows found : Pairs) → Gains (RelatedBySome pairs (IsFlowTop table)) no_pairs flows → Gains (RelatedBySome sites (IsOtherTop table)) flows found
+        → Gains (IsTop table sites) no_pairs found
+    tops_found flows found g h =
+        gains_more (RelatedBySome pairs (IsFlowTop table)) (RelatedBySome sites (IsOtherTop table)) (IsTop table sites) no_pairs flows found top_parts flow_is_top other_is_top g h
 
-  pub tops_found : (found : Pairs) → Gains SomeTop no_pairs found → Gains (IsTop table sites) no_pairs found
-  tops_found found g = gains_as SomeTop (IsTop table sites) no_pairs found some_top top_some g
+  -- What the sites make correspond at the top points to equal types
 
   module _ (w : IsWellFormed table) (nodes : ℕ) (made : List Planned) (shaped : All (IsSiteInShape table nodes) sites) (told : AreSitesTold table made sites) where
-    pub found_equal : (found : Pairs) → Gains SomeTop no_pairs found → (t u : TypeId) → Contains found.pointees (t, u) → AreEqualTypes table t u
+    pub found_equal : (found : Pairs) → Gains (IsTop table sites) no_pairs found → (t u : TypeId) → Contains found.pointees (t, u) → AreEqualTypes table t u
     found_equal found g t u c = elim (g.pointees t u c) [
       | inl k ↦ absurd (none_in (t, u) k)
       | inr k ↦
           subst (λ (y : TypeId). AreEqualTypes table t y) k.second (subst (λ (x : TypeId). AreEqualTypes table x k.q.to) k.first
-          (tops-equal table sites nodes made w told (λ s m. All-contains (IsSiteInShape table nodes) sites s shaped m) k.p k.q (some_top k.p k.q k.related)))
+          (tops-equal table sites nodes made w told (λ s m. All-contains (IsSiteInShape table nodes) sites s shaped m) k.p k.q k.related))
     ]
 
     pub typed_pointee : (t : TypeId) → IsPointee sites t → IsType table t
     typed_pointee t p = (All-contains (IsSiteInShape table nodes) sites (site.Pointee p.0 t) shaped p.1).1
+
+    pub typed_pair : (pairs : List (TypeId × TypeId)) → ArePairs sites pairs → (x : TypeId × TypeId) → Contains pairs x → IsType table x.0 × IsType table x.1
+    typed_pair pairs each x c = let s = (each x).0 c in by s.0 s.1 s.2
+      where
+        by : (s : Site) → Contains sites s → flow_pair_of s ≡ Some x → IsType table x.0 × IsType table x.1
+        by (site.Flow m t n u place) k e =
+            let z : (t, u) ≡ x = cc (e) in
+            let h = All-contains (IsSiteInShape table nodes) sites (site.Flow m t n u place) shaped k in
+            subst (λ (y : TypeId × TypeId). IsType table y.0 × IsType table y.1) z (h.1, h.3)
+        by (site.Same t u) k e = absurd (cc (e))
+        by (site.Union v place) k e = absurd (cc (e))
+        by (site.Arith n place) k e = absurd (cc (e))
+        by (site.Integer n place) k e = absurd (cc (e))
+        by (site.Linked a b) k e = absurd (cc (e))
+        by (site.Pointee n t) k e = absurd (cc (e))
+        by (site.Home n t) k e = absurd (cc (e))

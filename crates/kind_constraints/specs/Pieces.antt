@@ -1,18 +1,20 @@
 -- The constraints of a program, piece by piece: what each site gives.
-use Rattle.std.specs.Prelude.{◌≡◌, ◌≢◌, ◌⊎◌, ◌↔◌, Bool, List, length, slice_index_or, Option, None, Some, IsTrue}
-use Rattle.std.specs.List.{Contains}
+use Rattle.std.specs.Prelude.{◌≡◌, ◌≢◌, ◌⊎◌, ◌↔◌, Bool, List, slice_index_or, Option, None, Some, IsTrue}
+use Rattle.std.specs.List.{Contains, AllByRecursion}
 use Rattle.cc_base.specs.declared.number.TypeId.{TypeId}
 use Rattle.cc_base.specs.declared.number.NodeId.{NodeId}
 use Rattle.cc_base.specs.declared.place.Place.{Place}
 use Rattle.c_types.specs.declared.site.Site.{Site}
 use Rattle.c_types.specs.declared.site.Site.TheVariants as site
-use Rattle.c_types.specs.Table.{Table, IsType, members_at, is_function}
+use Rattle.c_types.specs.declared.flow_class.FlowClass.{FlowClass}
+use Rattle.c_types.specs.Table.{Table, members_at, is_function}
 use Rattle.c_types.specs.Flows.{HeldPointer, flow_class, StandAlike, CorrespondAtTop}
 use Rattle.c_types.specs.Solutions.{HasBelow, HoldsMixed, IsLargest}
 use Rattle.kind_solver.specs.declared.constraint.Constraint.{Constraint}
 use Rattle.kind_solver.specs.declared.constraint.Constraint.TheVariants.{Flow, Needs, Equal, Inside, Linked, Force, Plain}
 use Rattle.kind_solver.specs.declared.constraint.Why.TheVariants as why
 use Rattle.constraint_laws.specs.Given.{AreOfOneCell, HoldsNode}
+use Rattle.kind_constraints.specs.Adding.{OfSome}
 
 -- What a type holds
 
@@ -43,10 +45,25 @@ abbrev pub union_place_of : Site → Option (TypeId × Place)
 union_place_of (site.Union v place) = Some (v, place)
 union_place_of other = None
 
--- of each type of the table, whether some node's pointee lies strictly below it
-pub record AreBelows (table : Table) (sites : List Site) (belows : List Bool) : Type 0 where
-  pub count : length belows ≡ length table
-  pub tell : (t : TypeId) (d : Bool) → IsType table t → IsTrue (slice_index_or belows t.0 d) ↔ HasBelow table sites t
+-- the first of the types like t
+abbrev pub first_in : List TypeId → TypeId → TypeId
+first_in firsts t = slice_index_or firsts t.0 (record { 0 = 0 })
+
+-- q is the first of the types like what the site says that a pointer points to
+abbrev pub IsFirstOf : List TypeId → Site → TypeId → Type 0
+IsFirstOf firsts site q = (t : TypeId) × (pointee_of site ≡ Some t) × (q ≡ first_in firsts t)
+
+-- the first of the types like each that a node points to, and no others
+abbrev pub ArePointees : List TypeId → List Site → List TypeId → Type 0
+ArePointees firsts sites pointees = (q : TypeId) → Contains pointees q ↔ ((t : TypeId) × IsPointee sites t × (q ≡ first_in firsts t))
+
+-- the classes of flows between types
+abbrev pub AreClasses : Table → List ((TypeId × TypeId) × FlowClass) → Type 0
+AreClasses table classes = AllByRecursion (λ e. e.1 ≡ flow_class table e.0.0 e.0.1) classes
+
+-- of types, whether some node's pointee lies strictly below them
+abbrev pub AreBelows : Table → List Site → List (TypeId × Bool) → Type 0
+AreBelows table sites belows = AllByRecursion (λ e. IsTrue e.1 ↔ HasBelow table sites e.0) belows
 
 -- the unions whose members stand at a place, with it
 abbrev pub AreUnionPlaces : List Site → List (TypeId × Place) → Type 0
@@ -91,13 +108,26 @@ IsEquality table sites c = (a : NodeId) × (b : NodeId) × AreOfOneCell table si
 abbrev pub StandInUnion : Table → TypeId → HeldPointer → HeldPointer → Type 0
 StandInUnion table v p q = (u : TypeId) × (m : TypeId) × Contains (members_at table v) u × IsLargest table v m × StandAlike table u m p q
 
--- the pointers that a site makes correspond, at the top
-abbrev pub IsTopOf : Table → Site → HeldPointer → HeldPointer → Type 0
-IsTopOf table (site.Flow m t n u place) p q = CorrespondAtTop table (flow_class table t u) t u p q
-IsTopOf table (site.Arith n place) p q = ⊥
-IsTopOf table (site.Integer n place) p q = ⊥
-IsTopOf table (site.Linked a b) p q = ⊥
-IsTopOf table (site.Same t u) p q = StandAlike table t u p q
-IsTopOf table (site.Pointee n t) p q = ⊥
-IsTopOf table (site.Home n t) p q = ⊥
-IsTopOf table (site.Union v place) p q = (HoldsMixed table v v → ⊥) × StandInUnion table v p q
+-- the types that a flow goes between
+abbrev pub flow_pair_of : Site → Option (TypeId × TypeId)
+flow_pair_of (site.Flow m t n u place) = Some (t, u)
+flow_pair_of other = None
+
+-- the pairs of types that flows go between
+abbrev pub ArePairs : List Site → List (TypeId × TypeId) → Type 0
+ArePairs sites pairs = (x : TypeId × TypeId) → Contains pairs x ↔ OfSome sites (λ s y. flow_pair_of s ≡ Some y) x
+
+-- the pointers that correspond in a flow between the types, at the top
+abbrev pub IsFlowTop : Table → TypeId × TypeId → HeldPointer → HeldPointer → Type 0
+IsFlowTop table x p q = CorrespondAtTop table (flow_class table x.0 x.1) x.0 x.1 p q
+
+-- the pointers that a site other than a flow makes correspond, at the top
+abbrev pub IsOtherTop : Table → Site → HeldPointer → HeldPointer → Type 0
+IsOtherTop table (site.Flow m t n u place) p q = ⊥
+IsOtherTop table (site.Arith n place) p q = ⊥
+IsOtherTop table (site.Integer n place) p q = ⊥
+IsOtherTop table (site.Linked a b) p q = ⊥
+IsOtherTop table (site.Same t u) p q = StandAlike table t u p q
+IsOtherTop table (site.Pointee n t) p q = ⊥
+IsOtherTop table (site.Home n t) p q = ⊥
+IsOtherTop table (site.Union v place) p q = (HoldsMixed table v v → ⊥) × StandInUnion table v p q

@@ -12,10 +12,11 @@ ghost use Rattle.constraint_laws.specs.Given.{AreGiven};
 ghost use Rattle.kind_solver.specs.declared.constraint.Constraint.TheVariants.{Equal};
 ghost use Rattle.kind_constraints.specs.Adding.{Adds, OfSome};
 ghost use Rattle.kind_constraints.specs.Pieces.{IsPointee, IsGivenBy, IsUnlike};
-ghost use Rattle.kind_constraints.specs.Asked.{IsAsked, IsReady, AreShaped, AreTold};
+ghost use Rattle.kind_constraints.specs.Asked.{IsAsked, IsReady, IsAnswered, AreShaped, AreTold};
 
+use crate::answered::{Answered, nothing};
 use crate::asked::Asked;
-use crate::below::belows;
+use crate::below::pointees_of;
 use crate::sites::add_given;
 use crate::tops::equal_nodes;
 use crate::unions::union_places;
@@ -50,15 +51,18 @@ fn add_equalities(list: &mut Vec<Constraint>, pairs: &[(NodeId, NodeId)]) -> Res
 }
 
 /// The constraints other than equalities that the sites give, one after another.
-fn given(asked: &Asked) -> Result<Vec<Constraint>, NoMemory>
+fn given(asked: &Asked, answered: &mut Answered) -> Result<Vec<Constraint>, NoMemory>
     requires asked { IsReady asked.now }
     requires shaped { AreShaped asked.now }
-    ensures { IfOk result
+    requires answered { IsAnswered asked.now.types.now asked.now.sites.now answered.old }
+    ensures given { IfOk result
         (λ list. Adds (OfSome asked.now.sites.now (IsGivenBy asked.now.types.now asked.now.sites.now)) [] list.items) }
+    ensures answered { OnOk result
+        (IsAnswered asked.now.types.now asked.now.sites.now answered.new) }
 {
     let mut list = Vec::new(asked.alloc);
     'sites: for site in asked.sites {
-        add_given(asked, &mut list, *site)?;
+        add_given(asked, answered, &mut list, *site)?;
     }
     Ok(list)
 }
@@ -69,8 +73,9 @@ fn list_of(asked: &Asked) -> Result<Vec<Constraint>, NoMemory>
     requires told { AreTold asked.now }
     ensures { IfOk result (λ list. AreGiven asked.now.types.now asked.now.sites.now list.items) }
 {
-    let mut list = given(asked)?;
-    let pairs = equal_nodes(asked)?;
+    let mut answered = nothing(asked.alloc);
+    let mut list = given(asked, &mut answered)?;
+    let pairs = equal_nodes(asked, &mut answered)?;
     add_equalities(&mut list, &pairs)?;
     Ok(list)
 }
@@ -84,19 +89,21 @@ fn ask<'a>(
 ) -> Result<Asked<'a>, NoMemory>
     requires { (t : TypeId) → IsPointee sites.now t → IsType types.now t }
     ensures asked { IfOk result
-        (λ asked. IsAsked types.now sites.now asked.known asked.belows.items asked.unions.items) }
+        (λ asked. IsAsked types.now sites.now asked.known asked.firsts.items asked.pointees.items asked.unions.items) }
     ensures same { IfOk result
         (λ asked. (asked.types.now ≡ types.now) × (asked.sites.now ≡ sites.now)) }
 {
     let known = phys.over(types)?;
-    let belows = belows(alloc, &known, types, sites)?;
+    let firsts = known.first_equals()?;
+    let pointees = pointees_of(alloc, &firsts, sites)?;
     let unions = union_places(alloc, sites)?;
     Ok(Asked {
         alloc,
         types,
         sites,
         known,
-        belows,
+        firsts,
+        pointees,
         unions,
     })
 }

@@ -5,9 +5,10 @@ ghost use Rattle.c_types.specs.Table.{IsType, is_function};
 ghost use Rattle.kind_solver.specs.declared.constraint.Constraint.TheVariants.{Plain};
 ghost use Rattle.kind_constraints.specs.Adding.{Adds};
 ghost use Rattle.kind_constraints.specs.Pieces.{IsOfContents, IsOfFlow, IsGivenBy};
-ghost use Rattle.kind_constraints.specs.Asked.{IsReady};
+ghost use Rattle.kind_constraints.specs.Asked.{IsReady, IsAnswered};
 ghost use Rattle.cil_form.specs.Shape.{IsSiteInShape};
 
+use crate::answered::{Answered, below_of, class_of};
 use crate::asked::Asked;
 use crate::contents::add_contents;
 use c_types::{Site, TypeShape, Types};
@@ -24,6 +25,7 @@ fn push(list: &mut Vec<Constraint>, constraint: Constraint) -> Result<(), NoMemo
 /// Adds the condition on a flow between pointers of these nodes to these types.
 fn add_flow(
     asked: &Asked,
+    answered: &mut Answered,
     list: &mut Vec<Constraint>,
     source: (NodeId, TypeId),
     target: (NodeId, TypeId),
@@ -32,12 +34,15 @@ fn add_flow(
     requires asked { IsReady asked.now }
     requires from { IsType asked.now.types.now source.1 }
     requires to { IsType asked.now.types.now target.1 }
-    ensures { OnOk result
+    requires answered { IsAnswered asked.now.types.now asked.now.sites.now answered.old }
+    ensures added { OnOk result
         (Adds (IsOfFlow asked.now.types.now asked.now.sites.now source.0 source.1 target.0 target.1 place)
         list.old.items list.new.items) }
+    ensures answered { OnOk result
+        (IsAnswered asked.now.types.now asked.now.sites.now answered.new) }
 {
-    let class = asked.known.class(source.1, target.1)?;
-    let below = asked.belows[source.1.0 as usize];
+    let class = class_of(asked, answered, source.1, target.1)?;
+    let below = below_of(asked, answered, source.1)?;
     push(
         list,
         Constraint::Flow {
@@ -99,14 +104,18 @@ fn add_home(
 /// Adds the constraints other than equalities that a site gives.
 pub(crate) fn add_given(
     asked: &Asked,
+    answered: &mut Answered,
     list: &mut Vec<Constraint>,
     site: Site,
 ) -> Result<(), NoMemory>
     requires asked { IsReady asked.now }
     requires shaped { (nodes : ℕ) × IsSiteInShape asked.now.types.now nodes site }
-    ensures { OnOk result
+    requires answered { IsAnswered asked.now.types.now asked.now.sites.now answered.old }
+    ensures added { OnOk result
         (Adds (IsGivenBy asked.now.types.now asked.now.sites.now site)
         list.old.items list.new.items) }
+    ensures answered { OnOk result
+        (IsAnswered asked.now.types.now asked.now.sites.now answered.new) }
 {
     match site {
         Site::Flow {
@@ -115,7 +124,7 @@ pub(crate) fn add_given(
             to,
             to_ty,
             place,
-        } => add_flow(asked, list, (from, from_ty), (to, to_ty), place),
+        } => add_flow(asked, answered, list, (from, from_ty), (to, to_ty), place),
         Site::Arith { node, place } => push(
             list,
             Constraint::Needs {

@@ -36,3 +36,4 @@ pub mod Turned
 pub mod Reading
 pub mod Signing
 pub mod Stable
+pub mod FirstEquals

@@ -7,6 +7,7 @@ pub mod Refining
 pub mod Signatures
 pub mod Turning
 pub mod Orders
+pub mod Firsts
 pub mod Views
 pub mod Laws
 pub mod Pairs

@@ -41,6 +41,10 @@ AreStable table order numbers =
     (t u : TypeId) → Contains order t → Contains order u → IsTrue (same_number (number_in numbers) t u)
     → IsTrue (made_alike table (same_number (number_in numbers)) t u)
 
+-- types of the table have one number exactly where they are physically equal
+abbrev pub TellEqual : Table → List ℕ → Type 0
+TellEqual table numbers = (t u : TypeId) → IsType table t → IsType table u → same_number (number_in numbers) t u ≡ physically_equal table t u
+
 -- the numbers tell physical equality apart
 pub record AreSettled (table : Table) (order : List TypeId) (numbers : List ℕ) (layouts : List Layout) : Type 0 where
   pub equal : (t u : TypeId) → Contains order t → Contains order u → same_number (number_in numbers) t u ≡ physically_equal table t u

@@ -8,8 +8,8 @@ ghost use Rattle.phys_types.specs.Numbers.{number_in, same_item, same_spot, same
 use crate::spot::{Item, Layout, Spot};
 use cc_base::TypeId;
 
-/// The number of a type.
-pub(crate) fn number_of(numbers: &[usize], t: TypeId) -> usize
+/// The number of a type, by the list of all; 0 for one that isn't in it.
+pub fn number_of(numbers: &[usize], t: TypeId) -> usize
     ensures { result ≡ number_in numbers.now t }
 {
     numbers.get(t.0 as usize).copied().unwrap_or(0)

@@ -54,6 +54,13 @@ impl Found {
         self.pointees.as_slice().get(i).copied()
     }
 
+    /// The pairs of types that are pointed to. Takes no memory.
+    pub fn all_pointees(&self) -> &[(TypeId, TypeId)]
+        ensures { result.now ≡ self.now.pointees }
+    {
+        self.pointees.as_slice()
+    }
+
     /// The pairs of nodes.
     pub fn into_nodes(self, alloc: Global) -> Result<Vec<(NodeId, NodeId)>, NoMemory>
         ensures pairs { IfOk result (λ pairs. pairs.items ≡ self.nodes) }

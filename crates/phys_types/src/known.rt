@@ -9,14 +9,17 @@ ghost use Rattle.c_types.specs.Table.{IsType};
 ghost use Rattle.c_types.specs.Equality.{physically_equal, begins_with, strictly_below};
 ghost use Rattle.c_types.specs.Flows.{flow_class, CorrespondAtTop, StandAlike};
 ghost use Rattle.c_types.specs.Solutions.{HoldsMixed};
+ghost use Rattle.phys_types.specs.Firsts.{AreFirstEquals};
 ghost use Rattle.phys_types.specs.Found.{Gains};
 ghost use Rattle.phys_types.specs.Pairs.{AreCorrespondingNodes, TellsEqualKinds};
+ghost use Rattle.phys_types.specs.Rounds.{TellEqual};
 ghost use Rattle.phys_types.specs.Shown.{IsLayoutOf};
 ghost use Rattle.phys_types.specs.Standing.{AreEqualTypes, CorrespondInSome};
 
 use crate::alike::{add_alike, add_spots};
 use crate::building::kept;
 use crate::comparing::{begins, number_of};
+use crate::firsts::firsts_of;
 use crate::following::follow;
 use crate::found::Found;
 use crate::mixed_unions::{has_union, unions_of};
@@ -88,6 +91,20 @@ impl<'a> Known<'a> {
         ensures { result ≡ physically_equal self.now t u }
     {
         number_of(&self.numbers, t) == number_of(&self.numbers, u)
+    }
+
+    /// Numbers of the types that are the same exactly for physically equal ones. Takes no memory.
+    pub fn numbers(&self) -> &[usize]
+        ensures { TellEqual self.now result.now }
+    {
+        &self.numbers
+    }
+
+    /// Of each type the first that is physically equal: types are physically equal exactly where these are the same.
+    pub fn first_equals(&self) -> Result<Vec<TypeId>, NoMemory>
+        ensures { IfOk result (λ firsts. AreFirstEquals self.now firsts.items) }
+    {
+        firsts_of(self.alloc, self.types.count(), &self.numbers)
     }
 
     /// Whether a type begins with another.
@@ -165,13 +182,19 @@ impl<'a> Known<'a> {
         has_union(&self.layout(t).spots, t)
     }
 
-    /// Adds the pointers of two types that correspond in a flow between pointers to them, but not those that they lead to.
-    pub fn add_flow(&self, found: &mut Found, from: TypeId, to: TypeId) -> Result<(), NoMemory>
+    /// Adds the pointers of two types that correspond in a flow of this class between pointers to them, but not those that they lead to.
+    pub fn add_flow(
+        &self,
+        found: &mut Found,
+        class: FlowClass,
+        from: TypeId,
+        to: TypeId,
+    ) -> Result<(), NoMemory>
+        requires class { class ≡ flow_class self.now from to }
         requires from { IsType self.now from }
         requires to { IsType self.now to }
         ensures { OnOk result (Gains (CorrespondAtTop self.now (flow_class self.now from to) from to) found.old found.new) }
     {
-        let class = self.class(from, to)?;
         add_top(
             self.alloc,
             self.types,

@@ -7,6 +7,7 @@ mod building;
 mod comparing;
 mod copying;
 mod crossing;
+mod firsts;
 mod following;
 mod found;
 mod held;
@@ -27,6 +28,8 @@ mod top;
 mod turning;
 
 pub use c_types::FlowClass;
+pub use comparing::number_of;
+pub use firsts::firsts_of;
 pub use found::Found;
 pub use known::Known;
 pub use laws::{
@@ -35,4 +38,5 @@ pub use laws::{
     types_that_tile_begin_with_one_another,
 };
 pub use phys::Phys;
+pub use signature::mixed;
 pub use spot::{Item, Layout, Spot};

@@ -17,7 +17,7 @@ const FACTOR: usize = 6_364_136_223_846_793_005;
 
 /// A number from two: others give another one, but for rare accidents. Zeros give zero.
 #[tactic(auto, unfolding(crate::specs::Signatures::mixed))]
-pub(crate) fn mixed(first: usize, second: usize) -> usize
+pub fn mixed(first: usize, second: usize) -> usize
     ensures { result ≡ mixed first second }
 {
     let sum = first.wrapping_mul(FACTOR).wrapping_add(second);

@@ -4,3 +4,5 @@ pub mod PointerKinds
 pub mod Below
 pub mod Adding
 pub mod Standing
+pub mod Labelled
+pub mod Depths

@@ -82,7 +82,7 @@ module _ (n : ℕ) where
         by (shape.Struct g) e = in_cells (cells_of table t) i p have e
         by (shape.Union g) e = in_cells (cells_of table t) i p have e
 
-    at_places : (t u : TypeId) (p q : HeldPointer) → StandAlike table t u p q → (p.node.0 < n) × (q.node.0 < n)
+    pub at_places : (t u : TypeId) (p q : HeldPointer) → StandAlike table t u p q → (p.node.0 < n) × (q.node.0 < n)
     at_places t u p q (i, x, y) = (at_place t i p x, at_place u i q y)
 
     corresponding : (t u : TypeId) (p q : HeldPointer) → CorrespondByPlace table t u p q → (p.node.0 < n) × (q.node.0 < n)

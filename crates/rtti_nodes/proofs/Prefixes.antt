@@ -131,3 +131,12 @@ module _ (table : Table) (w : IsWellFormed table) (kind : NodeId → Kind) where
   pub covers_along : (t t' u u' : TypeId) → is_function table t' ≡ false → IsOfOneClass table kind t t' → IsOfOneClass table kind u u' → Covers table kind t u → Covers table kind t' u'
   covers_along t t' u u' f a b c =
       covers_class table kind t' u u' w (covers_twice table kind w t' t u (class_covers t' t f (class_turned table kind t t' a)) c) b
+
+  -- two types of one length that aren't equal don't begin with one another
+  pub other_of_length : (t u : TypeId) → IsType table t → IsType table u → length (cells_of table t) ≡ length (cells_of table u) → (b : Bool) → b ≡ physically_equal table t u → b ≡ false
+      → false ≡ begins_with table t u
+  other_of_length t u a c l b e f = by (begins_with table t u) refl
+    where
+      by : (r : Bool) → begins_with table t u ≡ r → false ≡ begins_with table t u
+      by true h = absurd (true≢false (sym (equal_if_long t u a c l h) ∙ sym e ∙ f))
+      by false h = sym h

@@ -1,2 +1,3 @@
 pub mod TypeNodes
 pub mod Classes
+pub mod Numbering

@@ -1,19 +1,22 @@
 //! Whether a type covers another: it begins with it, and the pointers at the same places, at every depth, have equal kinds.
 #![tactic(auto)]
 
-ghost use Rattle.std.specs.Prelude.{◌≡◌, ◌<◌, ◌↔◌, ◌⊎◌, IfOk, IsTrue, length};
+ghost use Rattle.std.specs.Prelude.{◌≡◌, ◌↔◌, ◌⊎◌, IfOk, IsTrue, length};
 ghost use Rattle.std.specs.List.{All, Contains};
 ghost use Rattle.cc_base.specs.declared.number.NodeId.{NodeId};
 ghost use Rattle.c_types.specs.Table.{IsType, AreNodesOf};
 ghost use Rattle.c_types.specs.Equality.{physically_equal, begins_with};
 ghost use Rattle.c_types.specs.Flows.{kind_in, CorrespondByPlace};
-ghost use Rattle.c_types.specs.Coverage.{covers, of_one_class, same_kind};
+ghost use Rattle.c_types.specs.Coverage.{covers, of_one_class};
 ghost use Rattle.c_types.specs.Sound.{IsWellFormed};
 ghost use Rattle.phys_types.specs.Pairs.{HaveNodes};
 ghost use Rattle.rtti_nodes.specs.Classes.{IsLastCovered};
+ghost use Rattle.rtti_nodes.specs.Numbering.{TellClasses};
 
-use cc_base::{Kind, Kinds, NoMemory, NodeId, TypeId};
-use phys_types::{Found, Known};
+use crate::agreeing::{have_equal_kinds, places_agree};
+use crate::numbering::ClassNumbers;
+use cc_base::{Kinds, NoMemory, NodeId, TypeId};
+use phys_types::{Found, Known, number_of};
 use std::alloc::Global;
 
 /// The nodes of the pointers at the same places of two types, at every depth, where they are physically equal or the first begins with
@@ -37,35 +40,21 @@ fn nodes_by_place(
     found.into_nodes(alloc)
 }
 
-/// Whether two kinds are the same.
-fn is_same(k: Kind, l: Kind) -> bool
-    ensures { result ≡ same_kind k l }
+/// Whether a type begins with another. Of two types with as many cells it does so where they are physically equal, which takes less.
+fn begins_with(known: &Known, t: TypeId, u: TypeId) -> bool
+    requires formed { IsWellFormed known.now }
+    requires first { IsType known.now t }
+    requires second { IsType known.now u }
+    ensures { result ≡ begins_with known.now t u }
 {
-    match k {
-        Kind::Safe => matches!(l, Kind::Safe),
-        Kind::Seq => matches!(l, Kind::Seq),
-        Kind::Rtti => matches!(l, Kind::Rtti),
-        Kind::Wild => matches!(l, Kind::Wild),
+    if known.layout(t).size == known.layout(u).size && !known.is_equal(t, u) {
+        return false;
     }
+    known.begins_with(t, u)
 }
 
-/// Whether the nodes of each pair have one kind.
-fn have_equal_kinds(kinds: &Kinds, pairs: &[(NodeId, NodeId)]) -> bool
-    requires first { (a b : NodeId) → Contains pairs.now (a, b) → a.0 < length kinds.now }
-    requires second { (a b : NodeId) → Contains pairs.now (a, b) → b.0 < length kinds.now }
-    ensures { IsTrue result ↔ ((a b : NodeId) →
-        Contains pairs.now (a, b) → kind_in kinds.now a ≡ kind_in kinds.now b) }
-{
-    'pairs: for pair in pairs {
-        if !is_same(kinds.kind_of(pair.0), kinds.kind_of(pair.1)) {
-            return false;
-        }
-    }
-    true
-}
-
-/// Whether a type covers another.
-pub(crate) fn covers(
+/// Whether a type covers another, by all pairs of pointers that correspond.
+fn covers_by_pairs(
     alloc: Global,
     known: &Known,
     kinds: &Kinds,
@@ -75,19 +64,40 @@ pub(crate) fn covers(
     requires formed { IsWellFormed known.now }
     requires first { IsType known.now t }
     requires second { IsType known.now u }
+    requires begins { IsTrue (begins_with known.now t u) }
     requires nodes { All (λ e. AreNodesOf (length kinds.now) e.shape) known.now }
     ensures { IfOk result (λ covered. covered ≡ covers known.now (kind_in kinds.now) t u) }
 {
-    if !known.begins_with(t, u) {
-        return Ok(false);
-    }
     let pairs = nodes_by_place(alloc, known, t, u)?;
     Ok(have_equal_kinds(kinds, &pairs))
 }
 
-/// Whether two types are of one class: they are physically equal, and the pointers at the same places, at every depth, have equal
-/// kinds.
-pub fn is_of_one_class(
+/// Whether a type covers another.
+pub(crate) fn covers(
+    known: &Known,
+    kinds: &Kinds,
+    told: &ClassNumbers,
+    t: TypeId,
+    u: TypeId,
+) -> Result<bool, NoMemory>
+    requires formed { IsWellFormed known.now }
+    requires first { IsType known.now t }
+    requires second { IsType known.now u }
+    requires nodes { All (λ e. AreNodesOf (length kinds.now) e.shape) known.now }
+    requires told { TellClasses known.now (kind_in kinds.now) told.now }
+    ensures { IfOk result (λ covered. covered ≡ covers known.now (kind_in kinds.now) t u) }
+{
+    if !begins_with(known, t, u) {
+        return Ok(false);
+    }
+    if !told.are_exact {
+        return covers_by_pairs(told.alloc, known, kinds, t, u);
+    }
+    places_agree(told.alloc, known, kinds, &told.numbers, t, u)
+}
+
+/// Whether two types are of one class, by all pairs of pointers that correspond.
+fn is_class_by_pairs(
     alloc: Global,
     known: &Known,
     kinds: &Kinds,
@@ -107,11 +117,36 @@ pub fn is_of_one_class(
     Ok(have_equal_kinds(kinds, &pairs))
 }
 
-/// The number of the last of the types that a type covers, from 1, or 0 where it covers none.
-pub(crate) fn last_covered(
-    alloc: Global,
+/// Whether two types are of one class: they are physically equal, and the pointers at the same places, at every depth, have equal
+/// kinds.
+pub fn is_of_one_class(
     known: &Known,
     kinds: &Kinds,
+    told: &ClassNumbers,
+    t: TypeId,
+    u: TypeId,
+) -> Result<bool, NoMemory>
+    requires formed { IsWellFormed known.now }
+    requires first { IsType known.now t }
+    requires second { IsType known.now u }
+    requires nodes { All (λ e. AreNodesOf (length kinds.now) e.shape) known.now }
+    requires told { TellClasses known.now (kind_in kinds.now) told.now }
+    ensures { IfOk result (λ one. one ≡ of_one_class known.now (kind_in kinds.now) t u) }
+{
+    if number_of(&told.numbers, t) != number_of(&told.numbers, u) {
+        return Ok(false);
+    }
+    if told.are_exact {
+        return Ok(true);
+    }
+    is_class_by_pairs(told.alloc, known, kinds, t, u)
+}
+
+/// The number of the last of the types that a type covers, from 1, or 0 where it covers none.
+pub(crate) fn last_covered(
+    known: &Known,
+    kinds: &Kinds,
+    told: &ClassNumbers,
     firsts: &[TypeId],
     t: TypeId,
 ) -> Result<usize, NoMemory>
@@ -119,12 +154,13 @@ pub(crate) fn last_covered(
     requires types { All (IsType known.now) firsts.now }
     requires typed { IsType known.now t }
     requires nodes { All (λ e. AreNodesOf (length kinds.now) e.shape) known.now }
+    requires told { TellClasses known.now (kind_in kinds.now) told.now }
     ensures { IfOk result (λ last.
         IsLastCovered known.now (kind_in kinds.now) firsts.now (length firsts.now) t last) }
 {
     let mut last = firsts.len();
     'firsts: while last > 0 {
-        if covers(alloc, known, kinds, t, firsts[last - 1])? {
+        if covers(known, kinds, told, t, firsts[last - 1])? {
             return Ok(last);
         }
         last -= 1;

@@ -10,8 +10,10 @@ ghost use Rattle.c_types.specs.Flows.{kind_in};
 ghost use Rattle.c_types.specs.Equality.{physically_equal};
 ghost use Rattle.c_types.specs.Sound.{IsWellFormed};
 ghost use Rattle.rtti_nodes.specs.Classes.{IsAdded, IsLast, AreSorted, IsSizedType};
+ghost use Rattle.rtti_nodes.specs.Numbering.{TellClasses};
 
 use crate::covering::last_covered;
+use crate::numbering::ClassNumbers;
 use crate::ordering::Sized;
 use cc_base::{Kinds, NoMemory, TypeId};
 use phys_types::Known;
@@ -38,9 +40,9 @@ fn is_of_last(known: &Known, firsts: &[TypeId], last: usize, t: TypeId) -> bool
 
 /// Puts a type into its class.
 fn add(
-    alloc: Global,
     known: &Known,
     kinds: &Kinds,
+    told: &ClassNumbers,
     classes: &mut Classes,
     t: TypeId,
 ) -> Result<(), NoMemory>
@@ -50,9 +52,10 @@ fn add(
     requires nodes { All (λ e. AreNodesOf (length kinds.now) e.shape) known.now }
     requires few { length classes.old.firsts.items < 4294967295 }
     requires fits { t.0 < length classes.old.numbers.items }
+    requires told { TellClasses known.now (kind_in kinds.now) told.now }
     ensures { OnOk result (IsAdded known.now (kind_in kinds.now) t classes.old classes.new) }
 {
-    let last = last_covered(alloc, known, kinds, &classes.firsts, t)?;
+    let last = last_covered(known, kinds, told, &classes.firsts, t)?;
     if is_of_last(known, &classes.firsts, last, t) {
         classes.numbers[t.0 as usize] = last as u32;
         return Ok(());
@@ -68,6 +71,7 @@ pub(crate) fn classes_of(
     alloc: Global,
     known: &Known,
     kinds: &Kinds,
+    told: &ClassNumbers,
     count: u32,
     ordered: &[Sized],
 ) -> Result<Classes, NoMemory>
@@ -76,6 +80,7 @@ pub(crate) fn classes_of(
     requires nodes { All (λ e. AreNodesOf (length kinds.now) e.shape) known.now }
     requires types { All (IsSizedType known.now) ordered.now }
     requires sorted { IsNonDecreasingBy (λ s. s.size) ordered.now }
+    requires told { TellClasses known.now (kind_in kinds.now) told.now }
     ensures { IfOk result (λ c.
         AreSorted known.now (kind_in kinds.now) ordered.now (length ordered.now) c.firsts.items c.parents.items c.numbers.items) }
 {
@@ -85,7 +90,7 @@ pub(crate) fn classes_of(
         numbers: vec![in alloc; 0; count as usize]?,
     };
     'types: for one in ordered {
-        add(alloc, known, kinds, &mut classes, one.ty)?;
+        add(known, kinds, told, &mut classes, one.ty)?;
     }
     Ok(classes)
 }

@@ -9,6 +9,7 @@ ghost use Rattle.cured_code.specs.Tables.{parent_of, is_below};
 ghost use Rattle.rtti_nodes.specs.TypeNodes.{AreTypeNodes, node_at, kind_by};
 
 use crate::joining::{Classes, classes_of};
+use crate::numbering::class_numbers;
 use crate::ordering::by_size;
 use c_types::Types;
 use cc_base::{Kinds, NoMemory, TypeId};
@@ -94,12 +95,13 @@ impl<'a> Nodes<'a> {
         ensures used { IfOk result (λ n. n.used ≡ used.now) }
     {
         let known = Phys::new(alloc).over(types)?;
+        let told = class_numbers(alloc, &known, types, kinds)?;
         let ordered = by_size(alloc, &known, used)?;
         let Classes {
             firsts: _firsts,
             parents,
             numbers,
-        } = classes_of(alloc, &known, kinds, types.count(), &ordered)?;
+        } = classes_of(alloc, &known, kinds, &told, types.count(), &ordered)?;
         Ok(Nodes {
             types,
             kinds,

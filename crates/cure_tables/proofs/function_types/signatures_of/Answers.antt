@@ -1,12 +1,18 @@
 use Rattle.std.proofs.Common.{length, refl, ap, sym, subst, arith}
+use Rattle.c_types.specs.Table.{Table}
 use Rattle.c_types.specs.Flows.{kind_in}
 use Rattle.c_types.specs.Sound.{IsWellFormed}
+use Rattle.rtti_nodes.specs.Numbering.{TellClasses}
 use Rattle.cure_tables.proofs.Signed.{firsts_typed, passed_one, signature_small, signed_result}
 use Rattle.cure_tables.proofs.function_types.signatures_of.Goals as goal
 
 pub sign-requires-clause-first : goal.sign-requires-clause-first
 sign-requires-clause-first c =
     firsts_typed c.args.known.now (subst IsWellFormed (sym c.requires.table) c.count-count.ensures.formed) (kind_in c.args.kinds.now) c.types.t c.types.state c.types.invariant
+
+pub sign-requires-clause-told : goal.sign-requires-clause-told
+sign-requires-clause-told c =
+    subst (λ (table : Table). TellClasses table (kind_in c.args.kinds.now) c.in_ok-told.told) (sym c.requires.table) c.in_ok-told.ensures
 
 pub types-preserved : goal.types-preserved
 types-preserved c =

@@ -1,24 +1,16 @@
-use Rattle.std.specs.Prelude.{◌↔◌}
-use Rattle.std.proofs.Common.{List, sym, subst}
-use Rattle.std.specs.List.{Contains}
-use Rattle.cc_base.specs.declared.number.NodeId.{NodeId}
-use Rattle.c_types.specs.Flows.{kind_in, CorrespondByPlace}
-use Rattle.phys_types.specs.Pairs.{HaveNodes}
-use Rattle.rtti_nodes.proofs.PointerKinds.{in_range, covers_tell}
+use Rattle.std.specs.Prelude.{◌↔◌, IsTrue}
+use Rattle.std.proofs.Common.{List, ℕ, sym, subst}
+use Rattle.std.proofs.lemmas.Result.{IfOk-weaker}
+use Rattle.c_types.specs.Flows.{kind_in}
+use Rattle.rtti_nodes.specs.Numbering.{AgreeAtPlaces}
+use Rattle.rtti_nodes.proofs.Depths.{covers_by_places}
 use Rattle.rtti_nodes.proofs.covering.covers.Goals as goal
-
-pub have_equal_kinds-requires-clause-first : goal.have_equal_kinds-requires-clause-first
-have_equal_kinds-requires-clause-first c a b m =
-    (in_range _ c.args.known.now c.requires.formed c.requires.nodes c.args.t c.args.u c.deref.result.now
-    (subst (λ (xs : List (NodeId × NodeId)). (x y : NodeId) → Contains xs (x, y) ↔ HaveNodes (CorrespondByPlace c.args.known.now c.args.t c.args.u) x y) (sym c.deref.ensures.value) c.in_ok-pairs.ensures) a b m).0
-
-pub have_equal_kinds-requires-clause-second : goal.have_equal_kinds-requires-clause-second
-have_equal_kinds-requires-clause-second c a b m =
-    (in_range _ c.args.known.now c.requires.formed c.requires.nodes c.args.t c.args.u c.deref.result.now
-    (subst (λ (xs : List (NodeId × NodeId)). (x y : NodeId) → Contains xs (x, y) ↔ HaveNodes (CorrespondByPlace c.args.known.now c.args.t c.args.u) x y) (sym c.deref.ensures.value) c.in_ok-pairs.ensures) a b m).1
 
 pub returns : goal.returns
 returns c =
-    covers_tell c.args.known.now (kind_in c.args.kinds.now) c.args.t c.args.u c.deref.result.now
-    (subst (λ (xs : List (NodeId × NodeId)). (x y : NodeId) → Contains xs (x, y) ↔ HaveNodes (CorrespondByPlace c.args.known.now c.args.t c.args.u) x y) (sym c.deref.ensures.value) c.in_ok-pairs.ensures)
-    c.have_equal_kinds.result (sym c.if-not-begins_with.ensures) c.have_equal_kinds.ensures
+    let a = c.args in
+    IfOk-weaker c.places_agree.result _ _
+    (λ agree h. covers_by_places a.known.now c.requires.formed (kind_in a.kinds.now) a.told.now.numbers.items c.requires.told.coarse (c.requires.told.fine c.if-not-told.false) a.t a.u
+    c.requires.first c.requires.second agree (sym c.if-not-begins_with.ensures)
+    (subst (λ (ns : List ℕ). IsTrue agree ↔ AgreeAtPlaces a.known.now (kind_in a.kinds.now) ns a.t a.u) c.deref.ensures.value h))
+    c.places_agree.ensures

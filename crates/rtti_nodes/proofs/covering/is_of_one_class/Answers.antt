@@ -1,24 +1,19 @@
-use Rattle.std.specs.Prelude.{◌↔◌}
-use Rattle.std.proofs.Common.{List, sym, subst}
-use Rattle.std.specs.List.{Contains}
-use Rattle.cc_base.specs.declared.number.NodeId.{NodeId}
-use Rattle.c_types.specs.Flows.{kind_in, CorrespondByPlace}
-use Rattle.phys_types.specs.Pairs.{HaveNodes}
-use Rattle.rtti_nodes.proofs.PointerKinds.{in_range, class_tells}
+use Rattle.std.proofs.Common.{List, ℕ, ap, ◌∙◌}
+use Rattle.c_types.specs.Flows.{kind_in}
+use Rattle.phys_types.specs.Numbers.{number_in}
+use Rattle.rtti_nodes.proofs.Depths.{other_class, one_class}
 use Rattle.rtti_nodes.proofs.covering.is_of_one_class.Goals as goal
 
-pub have_equal_kinds-requires-clause-first : goal.have_equal_kinds-requires-clause-first
-have_equal_kinds-requires-clause-first c a b m =
-    (in_range _ c.args.known.now c.requires.formed c.requires.nodes c.args.t c.args.u c.deref.result.now
-    (subst (λ (xs : List (NodeId × NodeId)). (x y : NodeId) → Contains xs (x, y) ↔ HaveNodes (CorrespondByPlace c.args.known.now c.args.t c.args.u) x y) (sym c.deref.ensures.value) c.in_ok-pairs.ensures) a b m).0
+pub returns-then-number_of : goal.returns-then-number_of
+returns-then-number_of c =
+    let a = c.args in
+    other_class a.known.now c.requires.formed (kind_in a.kinds.now) a.told.now.numbers.items c.requires.told.coarse a.t a.u c.requires.first c.requires.second
+    c.number_of.result c.number_of-2.result (c.number_of.ensures ∙ ap (λ (ns : List ℕ). number_in ns a.t) c.deref.ensures.value)
+    (c.number_of-2.ensures ∙ ap (λ (ns : List ℕ). number_in ns a.u) c.deref-2.ensures.value) c.if-number_of.true
 
-pub have_equal_kinds-requires-clause-second : goal.have_equal_kinds-requires-clause-second
-have_equal_kinds-requires-clause-second c a b m =
-    (in_range _ c.args.known.now c.requires.formed c.requires.nodes c.args.t c.args.u c.deref.result.now
-    (subst (λ (xs : List (NodeId × NodeId)). (x y : NodeId) → Contains xs (x, y) ↔ HaveNodes (CorrespondByPlace c.args.known.now c.args.t c.args.u) x y) (sym c.deref.ensures.value) c.in_ok-pairs.ensures) a b m).1
-
-pub returns : goal.returns
-returns c =
-    class_tells c.args.known.now (kind_in c.args.kinds.now) c.args.t c.args.u c.deref.result.now
-    (subst (λ (xs : List (NodeId × NodeId)). (x y : NodeId) → Contains xs (x, y) ↔ HaveNodes (CorrespondByPlace c.args.known.now c.args.t c.args.u) x y) (sym c.deref.ensures.value) c.in_ok-pairs.ensures)
-    c.have_equal_kinds.result (sym c.if-not-is_equal.ensures) c.have_equal_kinds.ensures
+pub returns-then-told : goal.returns-then-told
+returns-then-told c =
+    let a = c.args in
+    one_class a.known.now c.requires.formed (kind_in a.kinds.now) a.told.now.numbers.items (c.requires.told.fine c.if-told.true) a.t a.u c.requires.first c.requires.second
+    c.number_of.result c.number_of-2.result (c.number_of.ensures ∙ ap (λ (ns : List ℕ). number_in ns a.t) c.deref.ensures.value)
+    (c.number_of-2.ensures ∙ ap (λ (ns : List ℕ). number_in ns a.u) c.deref-2.ensures.value) c.if-number_of.false

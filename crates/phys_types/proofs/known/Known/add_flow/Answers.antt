@@ -6,7 +6,7 @@ use Rattle.phys_types.specs.Found.{Gains}
 use Rattle.phys_types.proofs.known.Known.add_flow.Goals as goal
 
 pub add_top-requires-clause-class : goal.add_top-requires-clause-class
-add_top-requires-clause-class c = subst (λ (table : List Entry). c.in_ok-class.class ≡ flow_class table c.args.from c.args.to) (sym c.self.view_is) c.in_ok-class.ensures
+add_top-requires-clause-class c = subst (λ (table : List Entry). c.args.class ≡ flow_class table c.args.from c.args.to) (sym c.self.view_is) c.requires.class
 
 pub returns : goal.returns
 returns c =

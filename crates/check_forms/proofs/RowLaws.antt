@@ -1,19 +1,20 @@
 -- The law of rows: the instructions of what a primitive asks stop by the first condition that is false.
-use Rattle.std.proofs.Common.{◌≡◌, ℕ, Bool, true, false, List, [], ◌∷◌, ◌++◌, length, Option, Some, refl, ap, sym, subst, ◌∙◌, if◌then◌else◌}
+use Rattle.std.proofs.Common.{◌≡◌, ℕ, Bool, true, false, List, [], ◌∷◌, ◌++◌, length, Option, Some, None, refl, ap, sym, subst, ◌∙◌, if◌then◌else◌}
 use Rattle.flat_mem.specs.Memory.{Memory}
+use Rattle.integers.specs.Operators.{product_words}
 use Rattle.runs.specs.Outcome.{from}
 use Rattle.runs.specs.Control.{then_go}
 use Rattle.cured_code.specs.declared.instr.Instr.{Instr}
 use Rattle.cured_code.specs.declared.parts.Parts.{Parts}
 use Rattle.cured_code.specs.FlatState.{State, Local, slot}
 use Rattle.cured_code.specs.FlatMachine.{Context, run}
-use Rattle.check_forms.specs.Conditions.{flat_holds}
+use Rattle.check_forms.specs.Conditions.{PointerSlots, Fixed, Distance, Bytes, Elements, Direction, Condition, IsNear, moved, distance_of, flat_holds}
 use Rattle.check_forms.specs.Rows.{Asked}
 use Rattle.check_forms.specs.Tests.{Checked, slots_behind}
-use Rattle.check_forms.specs.Lines.{Work, test_of, IsOther}
-use Rattle.check_forms.specs.RowChecks.{AreChecks, first_false, stopped_by, AreChecked, AreAllApart, AreAllHeld, AreSafe}
+use Rattle.check_forms.specs.Lines.{Work, test_of, IsOther, AreApart, AreHeld}
+use Rattle.check_forms.specs.RowChecks.{AreChecks, first_false, stopped_by, slots_after, AreChecked, AreAllApart, AreAllHeld, AreSafe}
 use Rattle.check_forms.proofs.TestLaws.{append-append, tests}
-use Rattle.check_forms.proofs.ConditionLaws.{IsReady, ready-same, held-same, holds-same, safe-same, exact, kept, can}
+use Rattle.check_forms.proofs.ConditionLaws.{IsReady, ready-same, held-same, holds-same, safe-same, exact, kept, can, moved-to}
 
 all-held-same : (k : Work) (more : List Asked) (e f : ℕ → ℕ) → ((a : ℕ) → IsOther k a → f a ≡ e a) → AreAllApart k more → AreAllHeld e more
     → AreAllHeld f more
@@ -61,6 +62,9 @@ row-step k a more x y w c true e o one next = of (next refl one.after one.state 
       state = z.state ∙ one.state;
       slots = λ b h. z.slots b h ∙ others b h;
       count = z.count ∙ one.count;
+      behind = λ passed. z.behind (same ∙ passed)
+          ∙ ap (λ (s : State). slots_after k w.parts s.memory more (slot one.after)) one.state
+          ∙ ap (λ (e : ℕ → ℕ). slots_after k w.parts c.state.memory more e) one.slots;
     }
 row-step k a more x y w c false e o one next = record {
   after = one.after;
@@ -71,6 +75,7 @@ row-step k a more x y w c false e o one next = record {
   state = one.state;
   slots = λ b z. ap (λ (f : ℕ → ℕ). f b) one.slots ∙ kept k w.parts c.state.memory a.condition (slot c) b z;
   count = one.count;
+  behind = λ passed. absurd (let f : first_false w.parts c.state.memory (a ∷ more) (slot c) ≡ Some a = ap (λ q. if q then first_false w.parts c.state.memory more (slot c) else Some a) e in cc (f, passed));
 }
 
 -- THE LAW OF ROWS
@@ -78,7 +83,7 @@ pub rows : (k : Work) (more : List Asked) (is : List Instr) (w : Context) (c : L
     → AreAllHeld (slot c) more
     → AreSafe w.parts c.state.memory more (slot c) → AreChecks k more is → AreChecked k more is w c
 rows k [] is w c r o h s i =
-    subst (λ (js : List Instr). AreChecked k [] js w c) (sym i) (record { after = c; runs = λ rest. refl; state = refl; slots = λ a z. refl; count = refl })
+    subst (λ (js : List Instr). AreChecked k [] js w c) (sym i) (record { after = c; runs = λ rest. refl; state = refl; slots = λ a z. refl; count = refl; behind = λ passed. refl })
 rows k (a ∷ more) is w c r o h s i = subst (λ (js : List Instr). AreChecked k (a ∷ more) js w c) (sym i.4)
     (row-step k a more i.0 i.1 w c (flat_holds w.parts c.state.memory a.condition (slot c)) refl o.1
     (subst (λ (q : Bool). Checked a.check a.place q (slots_behind w.parts c.state.memory (test_of k a.condition) (slot c)) i.0 w c)
@@ -89,3 +94,36 @@ rows k (a ∷ more) is w c r o h s i = subst (λ (js : List Instr). AreChecked k
     o.1 (all-held-same k more (slot c) (slot d) f o.1 h.1)
     (subst (λ (z : State). AreSafe w.parts z.memory more (slot d)) (sym state)
     (all-safe-same k w.parts c.state.memory more (slot c) (slot d) f o.1 (s.1 t))) i.3))
+
+-- A pointer that moves: behind RANGE, which comes after one other condition, the slot that it moves in holds the address that is moved to.
+
+moved-same : (k : Work) (e f : ℕ → ℕ) → ((a : ℕ) → IsOther k a → f a ≡ e a) → (p : PointerSlots) (way : Direction) (d : Distance) (least span : Fixed)
+    → AreApart k (IsNear p way d least span) → moved way (f p.first) (distance_of d f) ≡ moved way (e p.first) (distance_of d e)
+moved-same k e f same p way (Bytes n) least span o = ap (λ (x : ℕ). moved way x (f n)) (same p.first o.0) ∙ ap (moved way (e p.first)) (same n o.1.1.1.1.0)
+moved-same k e f same p way (Elements n size) least span o =
+    ap (λ (x : ℕ). moved way x (distance_of (Elements n size) f)) (same p.first o.0)
+    ∙ ap (λ (x : ℕ). moved way (e p.first) (product_words x size.value)) (same n o.1.1.1.1.0)
+
+pub moved-behind : (k : Work) (a b : Asked) (p : PointerSlots) (way : Direction) (d : Distance) (least span : Fixed) → b.condition ≡ IsNear p way d least span
+    → (is : List Instr) (w : Context) (c : Local) → IsReady (length c.slots) k (slot c) → AreAllApart k (a ∷ b ∷ []) → AreAllHeld (slot c) (a ∷ b ∷ [])
+    → (z : AreChecked k (a ∷ b ∷ []) is w c) → first_false w.parts c.state.memory (a ∷ b ∷ []) (slot c) ≡ None
+    → slot z.after k.to ≡ moved way (slot c p.first) (distance_of d (slot c))
+moved-behind k a b p way d least span near is w c ready apart held z passed =
+    ap (λ (e : ℕ → ℕ). e k.to) (z.behind passed) ∙ of b.condition near apart.1.0 held.1.0
+  where
+    e : ℕ → ℕ
+    e = slots_behind w.parts c.state.memory (test_of k a.condition) (slot c)
+
+    others : (x : ℕ) → IsOther k x → slots_behind w.parts c.state.memory (test_of k a.condition) (slot c) x ≡ slot c x
+    others x o = kept k w.parts c.state.memory a.condition (slot c) x o
+
+    of : (q : Condition) → q ≡ IsNear p way d least span → AreApart k q → AreHeld (slot c) q
+        → slots_behind w.parts c.state.memory (test_of k q) (slots_behind w.parts c.state.memory (test_of k a.condition) (slot c)) k.to
+        ≡ moved way (slot c p.first) (distance_of d (slot c))
+    of q is o h =
+        subst (λ (x : Condition). AreApart k x → AreHeld (slot c) x
+        → slots_behind w.parts c.state.memory (test_of k x) (slots_behind w.parts c.state.memory (test_of k a.condition) (slot c)) k.to
+        ≡ moved way (slot c p.first) (distance_of d (slot c))) (sym is)
+        (λ o h. moved-to (length c.slots) k w.parts c.state.memory p way d least span e (ready-same (length c.slots) k (slot c) e ready others) o
+        (held-same k (IsNear p way d least span) (slot c) e others o h)
+        ∙ moved-same k (slot c) e others p way d least span o) o h

@@ -9,7 +9,7 @@ use Rattle.cured_code.specs.FlatState.{Ending, Stopped, Local, slot}
 use Rattle.cured_code.specs.FlatMachine.{Context, run}
 use Rattle.check_forms.specs.Conditions.{flat_holds}
 use Rattle.check_forms.specs.Rows.{Asked}
-use Rattle.check_forms.specs.Tests.{IsTest}
+use Rattle.check_forms.specs.Tests.{IsTest, slots_behind}
 use Rattle.check_forms.specs.Lines.{Work, test_of, IsOther, AreApart, AreHeld, IsSafe}
 
 -- the instructions of each condition, in order
@@ -28,8 +28,13 @@ abbrev pub stopped_by : Option Asked → Local → Outcome Ending Local (Control
 stopped_by None c = Done Goes c
 stopped_by (Some a) c = Ended (Stopped a.check a.place) c
 
+-- what the lines leave in the slots, one condition after another
+abbrev pub slots_after : Work → Parts → Memory → List Asked → (ℕ → ℕ) → ℕ → ℕ
+slots_after k parts m [] e = e
+slots_after k parts m (a ∷ rest) e = slots_after k parts m rest (slots_behind parts m (test_of k a.condition) e)
+
 -- The instructions stop by the check, at the place, of the first condition that is false, else they go on. Either way the state is as
--- it was, and of the slots none has changed but working ones.
+-- it was, and of the slots none has changed but working ones; where they go on, these hold what the tests leave.
 pub record AreChecked (k : Work) (conditions : List Asked) (is : List Instr) (w : Context) (c : Local) : Type 0 where
   pub after : Local
   pub runs : (rest : List Instr) → run (is ++ rest) w c ≡ from (stopped_by (first_false w.parts c.state.memory conditions (slot c)) after)
@@ -37,6 +42,7 @@ pub record AreChecked (k : Work) (conditions : List Asked) (is : List Instr) (w 
   pub state : after.state ≡ c.state
   pub slots : (a : ℕ) → IsOther k a → slot after a ≡ slot c a
   pub count : length after.slots ≡ length c.slots
+  pub behind : first_false w.parts c.state.memory conditions (slot c) ≡ None → slot after ≡ slots_after k w.parts c.state.memory conditions (slot c)
 
 -- What the law of a row takes: working slots are apart from operands, slots of numbers hold them, and what a condition looks up is
 -- there once those before it hold.

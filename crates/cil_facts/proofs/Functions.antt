@@ -76,11 +76,11 @@ pub each-left : {X : Type 0} (P : X → Type 0) (xs ys : List X) → Each P (xs 
 each-left P [] ys h = tt
 each-left P (x ∷ xs) ys h = (h.0, each-left P xs ys h.1)
 
-each-right : {X : Type 0} (P : X → Type 0) (xs ys : List X) → Each P (xs ++ ys) → Each P ys
+pub each-right : {X : Type 0} (P : X → Type 0) (xs ys : List X) → Each P (xs ++ ys) → Each P ys
 each-right P [] ys h = h
 each-right P (x ∷ xs) ys h = each-right P xs ys h.1
 
-each-flat : {X A : Type 0} (P : A → Type 0) (f : X → List A) (xs : List X) (n : ℕ) (x : X) → slice_get xs n ≡ Some x → Each P (flat_map f xs) → Each P (f x)
+pub each-flat : {X A : Type 0} (P : A → Type 0) (f : X → List A) (xs : List X) (n : ℕ) (x : X) → slice_get xs n ≡ Some x → Each P (flat_map f xs) → Each P (f x)
 each-flat P f [] n x e h = absurd (cc (e))
 each-flat P f (y ∷ ys) zero x e h = let it : y ≡ x = cc (e) in subst (λ z. Each P (f z)) it (each-left P (f y) (flat_map f ys) h)
 each-flat P f (y ∷ ys) (suc n) x e h = each-flat P f ys n x e (each-right P (f y) (flat_map f ys) h)
@@ -98,7 +98,7 @@ listed xs n x e =
 
 -- Zero of a type is a value of it
 
-zero-fits : (t : IntegerType) → converted t (pos 0) ≡ pos 0
+pub zero-fits : (t : IntegerType) → converted t (pos 0) ≡ pos 0
 zero-fits t = by t.signed
   where
     by : (q : Bool) → (if q then as_signed (8 * t.bytes) (pos 0) else as_unsigned (8 * t.bytes) (pos 0)) ≡ pos 0

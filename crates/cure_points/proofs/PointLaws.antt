@@ -24,9 +24,9 @@ use Rattle.check_forms.specs.declared.slots.PointerSlots.{PointerSlots}
 use Rattle.check_forms.specs.declared.slots.Fixed.{Fixed}
 use Rattle.cil_form.specs.declared.instr.Comparison.{Comparison}
 use Rattle.cil_form.specs.declared.instr.Comparison.TheVariants as comparison
-use Rattle.sim_relation.specs.Points.{Number}
+use Rattle.sim_relation.specs.Points.{Number, Exact}
 use Rattle.cure_rules.specs.Slots.{Size, Offset, Moved}
-use Rattle.cure_rules.specs.Known.{Whole, World, Gets, known_of, cured_size, pointer_slots, reach_of}
+use Rattle.cure_rules.specs.Known.{Whole, World, Gets, IsPlaced, IsArrayAt, known_at, known_of, cured_size, pointer_slots, reach_of}
 use Rattle.cure_rules.specs.Checks.{number_at, numbers_of, apart_needs, base_needs, factor_needs, distance_needs, near_needs, wild_numbers, reach_at, factor_at, distance_at, move_by, address_of_part, IsGuarded}
 use Rattle.cure_rules.specs.Pointing.{moved_words, PartWords, Decays, cured_offset, null_operation, order_by, comparing}
 use Rattle.cure_rules.specs.Setting.{is_wide, IsTested}
@@ -157,9 +157,13 @@ decays : (k : Scope) (checked : Bool) (outer inner : Kind) (of t : TypeId) (v a 
 decays k true outer inner of t v a at code h = part-of k outer of inner (cured_size (whole_of k) of) t 0 v a at code h
 decays k false outer inner of t v a at code h = part-words k inner (cured_size (whole_of k) of) t v a 381 code h
 
-held-array : (checked : Bool) (types : Typing) (from : Temp) (n : NodeId) (t : TypeId) → shaped.HoldsArray checked types from n t → shaped.HoldsAddress types from n t
-held-array true types from n t h = h
-held-array false types from n t h = inr h
+placed-at : (p : ℕ) (types : Typing) (t : Temp) (n : NodeId) (u : TypeId) → shaped.Holds types t (PlaceOf n u) → IsPlaced (known_of (fixed_slots p) types) t n u (fixed_column t) []
+placed-at p types t n u h = (record { type = PlaceOf n u; place = Some (fixed_column t); form = Exact; sure = [] }, ap (known_at (fixed_column t)) h.1, refl, refl, refl)
+
+array-at : (checked : Bool) (p : ℕ) (types : Typing) (from : Temp) (n : NodeId) (t : TypeId) → shaped.HoldsArray checked types from n t
+    → IsArrayAt checked (known_of (fixed_slots p) types) from n t (fixed_column from) []
+array-at true p types from n t h = is_address p types from n t h
+array-at false p types from n t h = placed-at p types from n t h
 
 pub decay_cured : (k : Scope) (types : Typing) (into from : Temp) (outer : NodeId) (of : TypeId) (checked : Bool) (inner : NodeId) (t : TypeId) (at : Place) (code : List Instr)
     → DecayOf checked (world_of k) ((whole_of k).kind outer) of ((whole_of k).kind inner) (cured_size (whole_of k) of) t (fixed_column into) (fixed_column from) at code
@@ -169,7 +173,7 @@ decay_cured k types into from outer of checked inner t at code h c after is whol
   fixed_column from,
   [],
   seat,
-  is_address k.parameters types from outer of (held-array checked types from outer of s.4),
+  array-at checked k.parameters types from outer of s.4,
   takes k into (whole_of k).kind inner s.5.0,
   decays k checked ((whole_of k).kind outer) ((whole_of k).kind inner) of t (fixed_column into) (fixed_column from) at code h,
   leaves_held k.parameters types after into (Some (PointerTo inner t)) s.5.1,
@@ -183,7 +187,7 @@ address_cured k types into from outer inner t code h c after is whole s = (
   fixed_column from,
   [],
   seat,
-  is_address k.parameters types from outer t (inr s.3),
+  placed-at k.parameters types from outer t s.3,
   takes k into (whole_of k).kind inner s.4.0,
   part-words k ((whole_of k).kind inner) (cured_size (whole_of k) t) t (fixed_column into) (fixed_column from) 381 code h,
   leaves_held k.parameters types after into (Some (PointerTo inner t)) s.4.1,
@@ -219,7 +223,12 @@ pub null_cured : (k : Scope) (types : Typing) (into p : Temp) (t : TypeId) (diff
     → PointCured (point.IsNull into p t different) (world_of k) types code
 unfolding PointCured Then
 null_cured k types into p t different x code e h c after is whole s = (
+  s.0,
+  s.1,
+  fixed_column p,
+  [],
   tested_slot (is_wide (whole_of k) x) (fixed_column p),
+  points k.parameters types p s.0 s.1 s.3,
   (s.4.0, omega arith),
   (h.0, h.1, is_tested k types p x h.0 e h.2, h.3, h.4),
   leaves_held k.parameters types after into (Some (IntegerOf int)) s.4.1,

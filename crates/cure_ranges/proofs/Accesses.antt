@@ -42,7 +42,7 @@ nests n l = omega (arith, l)
 
 -- what is planned is one of the function's objects
 pub planned : (w : World) (o : Object) (x : Planned) → plan_of w o ≡ Some x → IsKnownContent w (Start o)
-planned w (object.Static v) x e = tt
+planned w (object.Static v) x e = slice_get_within w.whole.statics v.0 x e
 planned w (object.Variable v) x e = slice_get_within w.variables v.0 x e
 
 module _ (w : World) (s : AreSlots w.slots) (r : Around) (b n : ℕ) (deep : n + 4 ≤ 1024) where

@@ -163,7 +163,7 @@ module _ (p : Program) (kind : NodeId → Kind) (node : TypeId → ℕ) (parents
         let sets = kept_set w s (around parts results) 0 0 shallow slots.kept body.sets (kept_there slots s) body.are_set in
         let stores = stored w s (around parts results) 0 0 shallow f.parameters 0 0 body.stores room few body.are_stored in
         let code = body_in_range w s (around parts results) (can_pass w s refl is.slots.row results) can_return f.body.0.items (context_in p f) no_types no_types outside 0 0 nothing_known body.after body.code
-        (record { variables = refl; table = refl; nodes = nodes_named }) (omega arith) (let l = in_shape.body.nested in omega (arith, l)) (nothing w) in_shape.body.shaped body.are_curing in
+        (record { variables = refl; statics = refl; table = refl; nodes = nodes_named }) (omega arith) (let l = in_shape.body.nested in omega (arith, l)) (nothing w) in_shape.body.shaped body.are_curing in
         in_function parts w h results is.slots.count areas
         (in_turn n (body.sets ++ body.stores) body.code h.body.0.items body.is (appended n body.sets body.stores sets stores) code.0)
 
@@ -209,7 +209,7 @@ module _ (p : Program) (kind : NodeId → Kind) (node : TypeId → ℕ) (parents
       let sets = kept_set w s (around parts 0) 0 0 shallow slots.kept is.sets (kept_there slots s) is.are_set in
       let code = body_in_range w s (around parts 0) (can_pass w s refl is.row 0) (record { few = omega arith; none = λ t number result words. refl }) p.initialisers.0.items (context_of p) no_types no_types outside 0 0
       nothing_known is.after is.code
-      (record { variables = refl; table = refl; nodes = nodes_named }) (omega arith) (let l = shape.initialisers.nested in omega (arith, l)) (nothing w) shape.initialisers.shaped is.are_curing in
+      (record { variables = refl; statics = refl; table = refl; nodes = nodes_named }) (omega arith) (let l = shape.initialisers.nested in omega (arith, l)) (nothing w) shape.initialisers.shaped is.are_curing in
       subst (λ (o : Option Sig). IfSome o (λ sig. AreInstrsInRange (names_in parts.sigs (sigs_of parts.functions) (length parts.nodes) h sig.results) h.body.0.items))
       (sym (ap (slice_get parts.sigs) is.sig ∙ c.signatures.start))
       (in_function parts w h 0 is.count (ap length is.areas)

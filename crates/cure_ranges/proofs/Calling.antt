@@ -159,10 +159,10 @@ module _ (w : World) (s : AreSlots w.slots) (r : Around) where
           (line (names_at w r b n) (instr.Icall (w.whole.signature u) a w.slots.row (column w call.into) ∷ []) v e1
           ((at_0 a w.slots.count la, passes (w.whole.signature u) w.slots.row (column w call.into) there can.row lv), tt)))
 
-      calls_known : (known : Knowledge) (call : Call) (sure : List Sure) (ts : List TypeId) (code : List Instr) → Placed w known → column w call.into + 3 ≤ w.slots.count
-          → CallsKnown w known call sure ts code → Fits (names_at w r b n) code
+      calls_known : (known : Knowledge) (call : Call) (k : Kind) (sure : List Sure) (ts : List TypeId) (code : List Instr) → Placed w known → column w call.into + 3 ≤ w.slots.count
+          → CallsKnown w known call k sure ts code → Fits (names_at w r b n) code
       unfolding Line Then
-      calls_known known call sure ts code p lv (f, seat, among, there, (x, y, g, (z, v, ck, (t, u, ar, e1, e3), e2), e)) =
+      calls_known known call k sure ts code p lv (f, seat, typed, among, there, (x, y, g, (z, v, ck, (t, u, ar, e1, e3), e2), e)) =
           let word = number w s r b n Word (function_word f) (seat Word) x g in
           let known_function = can.functions f there in
           in_turn (names_at w r b n) x y code e word.0
@@ -183,4 +183,4 @@ module _ (w : World) (s : AreSlots w.slots) (r : Around) where
           )
       call_in_range call known after code p (m, u, ts, result, a, sure, is, shape, count, number', pts, t', inr h, l) =
           let lv = room w s call.into (words_in w.whole result) t' in
-          (calls_known known call sure ts code p lv h, given known call.into (held_by w result) (column w call.into) after p lv l)
+          (calls_known known call (kind_of w m) sure ts code p lv h, given known call.into (held_by w result) (column w call.into) after p lv l)

@@ -181,7 +181,7 @@ names_at w r blocks nest = record {
 abbrev pub Placed : World → Knowledge → Type 0
 Placed w known = (t : Temp) (x : Known) (a : ℕ) → known t ≡ Some x → x.place ≡ Some a → a + 3 ≤ w.slots.count
 
--- an object that is named is one of the function's, where it is a variable
+-- an object that is named is one of the function's variables, or of the static objects
 abbrev pub NamesObject : World → Set → Type 0
 NamesObject w (set.Object into o home t) = IsKnownContent w (Start o)
 NamesObject w other = Unit {0}
@@ -192,7 +192,7 @@ NamesNode w nodes (convert.Pointer into from t s at) = (m n : NodeId) (u v : Typ
     → (flow_class w.whole.table u v ≡ Lower) ⊎ (flow_class w.whole.table u v ≡ DownTile) → (0 < w.whole.node v) × (w.whole.node v ≤ nodes)
 NamesNode w nodes other = Unit {0}
 
--- the object that a store goes to is one of the function's, where it is a variable
+-- so is the object that a store goes to
 abbrev pub NamesTarget : World → Target → Type 0
 NamesTarget w (target.Part o home u offset) = IsKnownContent w (Start o)
 NamesTarget w other = Unit {0}
@@ -213,6 +213,7 @@ pub record CanPassIn (w : World) (r : Around) : Type 0 where
 -- the context of source code that is cured here
 pub record IsCuredIn (w : World) (r : Around) (k : Context) : Type 0 where
   pub variables : k.variables ≡ w.variables
+  pub statics : k.statics ≡ w.whole.statics
   pub table : k.table ≡ w.whole.table
   pub nodes : (a b : NodeId) (t u : TypeId) (at : Place) → Contains k.sites (Flow a t b u at) → w.whole.kind a ≡ Rtti → is_function w.whole.table u ≡ false
       → (0 < w.whole.node u) × (w.whole.node u ≤ r.nodes)

@@ -58,7 +58,8 @@ down_to_data table u v h =
 
 module _ (w : World) (r : Around) (k : Context) (here : IsCuredIn w r k) where
   object_there : (o : Object) (home : NodeId) (t : TypeId) → IsObject k o home t → IsKnownContent w (Start o)
-  object_there (object.Static v) home t h = tt
+  object_there (object.Static v) home t (u, e, named) =
+      let l = slice_get_within k.statics v.0 _ e in subst (λ xs. v.0 < length xs) here.statics l
   object_there (object.Variable v) home t (u, e, named) =
       let l = slice_get_within k.variables v.0 _ e in subst (λ xs. v.0 < length xs) here.variables l
 

@@ -26,9 +26,11 @@ use Rattle.check_forms.specs.declared.slots.Distance.TheVariants.{Bytes, Element
 use Rattle.check_forms.specs.declared.op.Op.TheVariants as op
 use Rattle.check_forms.specs.Rows.{home_slot}
 use Rattle.sim_relation.specs.Ground.{word_number}
-use Rattle.sim_relation.specs.Points.{Exact, Knowledge}
+use Rattle.cc_base.specs.declared.number.NodeId.{NodeId}
+use Rattle.cil_form.specs.declared.number.Temp.{Temp}
+use Rattle.sim_relation.specs.Points.{Exact, Knowledge, Sure}
 use Rattle.cure_rules.specs.Slots.{AreSlots, First, Second, Moved, Size, Offset, Word, slot_of}
-use Rattle.cure_rules.specs.Known.{World, kind_of, cured_size, reach_of, column, an_integer, a_pointer, a_place, pointer_slots, copies, narrow_of, narrowed_lines}
+use Rattle.cure_rules.specs.Known.{World, IsAddress, IsArrayAt, kind_of, cured_size, reach_of, column, an_integer, a_pointer, a_place, pointer_slots, copies, narrow_of, narrowed_lines}
 use Rattle.cure_rules.specs.Checks.{Seat, need, size_needed, base_needs, number_at, wild_numbers, move_by, address_of_part}
 use Rattle.cure_rules.specs.Setting.{is_wide_kind}
 use Rattle.cure_rules.specs.Pointing.{moved_words, order_by, quotient_lines, equal_lines, sameness_lines, comparing, compared_lines, null_operation, PartWords, cured_offset, Decays, IsCuringPoint, shrink_by, lower_by, conversion_by, made_type, noded_lines, ConvertedWords, NumberWords, IsCuringConvert}
@@ -37,6 +39,12 @@ use Rattle.cure_ranges.proofs.Tests.{appended, line, in_turn}
 use Rattle.cure_ranges.proofs.Rows.{home, back}
 use Rattle.cure_ranges.proofs.Guards.{at_0, at_1, at_2, pointer, copied, narrowed, left_at, points, addressed, exact, role, nought, room, number, guarded, guarded_with}
 use Rattle.cure_ranges.proofs.Setting.{tested, compared}
+
+-- an array that decays has an address
+array-address : (check : Bool) (known : Knowledge) (t : Temp) (n : NodeId) (u : TypeId) (a : ℕ) (sure : List Sure) → IsArrayAt check known t n u a sure
+    → IsAddress known t n u a sure
+array-address true known t n u a sure h = h
+array-address false known t n u a sure (x, fact, is, place, listed) = (x, fact, inr is, place, listed)
 
 module _ (w : World) (s : AreSlots w.slots) (r : Around) (b n : ℕ) (deep : n + 4 ≤ 1024) where
   moved : (k : Kind) (v a to : ℕ) → v + 3 ≤ w.slots.count → a + 3 ≤ w.slots.count → to < w.slots.count → Fits (names_at w r b n) (moved_words k v a to)
@@ -152,7 +160,7 @@ module _ (w : World) (s : AreSlots w.slots) (r : Around) (b n : ℕ) (deep : n +
             (compares which (kind_of w m) (kind_of w o) (column w into) (pointer_slots p) (pointer_slots q) (at_0 (column w into) w.slots.count c) lp lq)),
         left_at w known into (an_integer (column w into) Exact int) after (column w into) k refl c l,
       )
-  point_in_range (point.IsNull into p t different) known after code k (a, t', (x, y, g, f, e), l) =
+  point_in_range (point.IsNull into p t different) known after code k (m, u, q, sure, a, points, t', (x, y, g, f, e), l) =
       let c = room w s into 1 t' in
       let h = tested w s r b n deep known p a x k g in (
         in_turn (names_at w r b n) x y code e h.0
@@ -171,13 +179,13 @@ module _ (w : World) (s : AreSlots w.slots) (r : Around) (b n : ℕ) (deep : n +
       )
   point_in_range (point.Decay into from outer array check inner element at) known after code k (a, sure, seat, ad, t', h, l) =
       let c = room w s into (word_number (kind_of w inner)) t' in
-      let la = addressed w known from outer array a sure k ad in (
+      let la = addressed w known from outer array a sure k (array-address check known from outer array a sure ad) in (
         decays check seat (kind_of w outer) (kind_of w inner) array element (column w into) a at code c la h,
         left_at w known into (a_pointer (column w into) inner element []) after (column w into) k refl c l,
       )
   point_in_range (point.Address into from outer inner t) known after code k (a, sure, seat, ad, t', h, l) =
       let c = room w s into (word_number (kind_of w inner)) t' in
-      let la = addressed w known from outer t a sure k ad in (
+      let la = addressed w known from outer t a sure k (array-address false known from outer t a sure ad) in (
         parts (kind_of w inner) seat (cured_size w.whole t) t (column w into) a w.slots.nought (a + 1) code c (at_0 a w.slots.count la) (nought w s) (at_1 a w.slots.count la) h,
         left_at w known into (a_pointer (column w into) inner t []) after (column w into) k refl c l,
       )

@@ -48,7 +48,7 @@ rest : (n a b : ℕ) → n + max a b ≤ 1000 → n + b ≤ 1000
 rest n a b l = omega (arith, l)
 
 inside_here : (w : World) (r : Around) (k : Context) (entry : Typing) → IsCuredIn w r k → IsCuredIn w r (inside k entry)
-inside_here w r k entry h = record { variables = h.variables; table = h.table; nodes = h.nodes }
+inside_here w r k entry h = record { variables = h.variables; statics = h.statics; table = h.table; nodes = h.nodes }
 
 module _ (w : World) (s : AreSlots w.slots) (r : Around) (can : CanPassIn w r) (ret : CanReturnIn w r) where
   -- Returns

@@ -1,11 +1,10 @@
 -- The lines of loads, stores, clearing and copies.
-use Rattle.std.specs.Prelude.{◌≡◌, ◌⊎◌, ⊤, ℕ, ◌+◌, Bool, true, false, List, [], ◌∷◌, slice_get, Option, Some, None}
+use Rattle.std.specs.Prelude.{◌≡◌, ◌⊎◌, ⊤, ℕ, ◌+◌, Bool, true, false, List, [], ◌∷◌, slice_get, Option, Some}
 use Rattle.cc_base.specs.declared.kind.Kind.{Kind}
 use Rattle.cc_base.specs.declared.kind.Kind.TheVariants.{Safe, Seq, Rtti, Wild}
 use Rattle.cc_base.specs.declared.number.TypeId.{TypeId}
 use Rattle.cc_base.specs.declared.number.NodeId.{NodeId}
 use Rattle.cc_base.specs.declared.place.Place.{Place}
-use Rattle.c_types.specs.Layouts.{size_of}
 use Rattle.c_types.specs.Cells.{holds_pointer}
 use Rattle.c_types.specs.Flows.{HeldPointer, pointer_at}
 use Rattle.integers.specs.Arithmetic.{IntegerType}
@@ -22,14 +21,13 @@ use Rattle.cil_form.specs.Meaning.{target_node}
 use Rattle.cured_code.specs.declared.instr.Instr.{Instr}
 use Rattle.cured_code.specs.declared.instr.Instr.TheVariants as instr
 use Rattle.check_forms.specs.declared.slots.PointerSlots.{PointerSlots}
-use Rattle.check_forms.specs.declared.op.Op.{Op}
 use Rattle.check_forms.specs.declared.op.Op.TheVariants as op
 use Rattle.check_forms.specs.Rows.{home_slot}
 use Rattle.check_forms.specs.Pieces.{Piece, Line, Then, Choice}
 use Rattle.sim_relation.specs.Ground.{word_number}
 use Rattle.sim_relation.specs.Points.{Form, Exact, Zeroed, Low, Sure, Knowledge, Number, Start}
-use Rattle.cure_rules.specs.Slots.{First, Second, Offset, Address, Base, Word, OtherWord, Made, slot_of}
-use Rattle.cure_rules.specs.Known.{World, kind_of, cured_size, source_size, reach_of, column, Takes, Gets, Includes, IsPointer, IsPlainInteger, IsLowly, Points, IsAddress, Leaves, an_integer, a_pointer, pointer_slots, narrow_of, narrowing_lines}
+use Rattle.cure_rules.specs.Slots.{First, Offset, Address, Base, Word, OtherWord, Made, slot_of}
+use Rattle.cure_rules.specs.Known.{World, kind_of, cured_size, source_size, column, Takes, Gets, Includes, IsPointer, IsPlainInteger, IsLowly, Points, IsAddress, Leaves, an_integer, a_pointer, pointer_slots, narrow_of, narrowing_lines}
 use Rattle.cure_rules.specs.Checks.{Seat, size_at, wild_numbers, read_integer, read_pointer, write_integer, write_pointer, IsGuarded}
 use Rattle.cure_rules.specs.Pointing.{cured_offset}
 

@@ -1,5 +1,5 @@
 -- The lines of allocations, calls, and the functions of the C library.
-use Rattle.std.specs.Prelude.{◌≡◌, ◌≢◌, ◌⊎◌, ℕ, suc, ◌+◌, ◌<◌, ◌≤◌, Bool, true, false, not, ◌&&◌, List, [], ◌∷◌, length, Option, Some, None}
+use Rattle.std.specs.Prelude.{◌≡◌, ◌≢◌, ◌⊎◌, ℕ, suc, ◌+◌, ◌<◌, ◌≤◌, Bool, true, false, List, [], ◌∷◌, length, Some, None}
 use Rattle.std.specs.List.{Contains}
 use Rattle.cc_base.specs.declared.fault.Check.TheVariants as check
 use Rattle.cc_base.specs.declared.kind.Kind.{Kind}
@@ -9,10 +9,8 @@ use Rattle.cc_base.specs.declared.number.NodeId.{NodeId}
 use Rattle.cc_base.specs.declared.place.Place.{Place}
 use Rattle.c_types.specs.declared.shape.TypeShape.TheVariants as shape
 use Rattle.c_types.specs.Table.{shape_at}
-use Rattle.c_types.specs.Layouts.{size_of}
 use Rattle.c_types.specs.Cells.{holds_pointer}
 use Rattle.integers.specs.Arithmetic.{int, unsigned_long}
-use Rattle.cil_form.specs.declared.number.Temp.{Temp}
 use Rattle.cil_form.specs.declared.number.Temp.TheVariants as temp
 use Rattle.cil_form.specs.declared.instr.Allocate.{Allocate}
 use Rattle.cil_form.specs.declared.instr.Allocate.TheVariants as allocate
@@ -29,7 +27,7 @@ use Rattle.check_forms.specs.RowChecks.{AreChecks}
 use Rattle.sim_relation.specs.Ground.{word_number, function_word}
 use Rattle.sim_relation.specs.Points.{Exact, Sure, IsFunction, Known, Knowledge, Number}
 use Rattle.cure_rules.specs.Slots.{First, Size, Offset, Word, Amount, Bytes, Charge, Made, slot_of, work_of}
-use Rattle.cure_rules.specs.Known.{World, kind_of, cured_size, source_size, column, Takes, Gets, IsPointer, IsExactly, IsLowly, Points, words_in, held_words, held_by, known_at, Leaves, an_integer, a_pointer, pointer_slots, copies}
+use Rattle.cure_rules.specs.Known.{World, kind_of, cured_size, source_size, column, Takes, Gets, IsPointer, IsExactly, IsLowly, Points, words_in, held_by, known_at, Leaves, an_integer, a_pointer, pointer_slots, copies}
 use Rattle.cure_rules.specs.Checks.{Seat, number_at, call_of, IsGuarded}
 use Rattle.cure_rules.specs.Pointing.{noded_lines}
 
@@ -100,9 +98,10 @@ CallsAny w known call k u parameters a lines = (seat : Seat)
     × Then (IsGuarded w (call_of w seat u (pointer_slots a)) k call.place)
     (Then (AreArguments w known call.first parameters 0) (Line (instr.Icall (w.whole.signature u) a w.slots.row (column w call.into) ∷ []))) lines
 
--- one that is known is called by its number: there is room for its frame
-abbrev pub CallsKnown : World → Knowledge → Call → List Sure → List TypeId → Piece
-CallsKnown w known call sure parameters lines = (f : ℕ) × (seat : Seat) × Contains sure (IsFunction f) × (f < w.whole.functions)
+-- One that is known is called by its number: there is room for its frame. A pointer that isn't WILD is to a function of its type's class, so
+-- nothing else is asked.
+abbrev pub CallsKnown : World → Knowledge → Call → Kind → List Sure → List TypeId → Piece
+CallsKnown w known call k sure parameters lines = (f : ℕ) × (seat : Seat) × (k ≢ Wild) × Contains sure (IsFunction f) × (f < w.whole.functions)
     × Then (Gets w Word (Number (function_word f)) (seat Word)) (Then (AreChecks (work_of w.slots) (asked check.Depth call.place (HasRoom (seat Word)) ∷ []))
     (Then (AreArguments w known call.first parameters 0) (Line (instr.Call (suc f) w.slots.row (column w call.into) ∷ [])))) lines
 
@@ -110,7 +109,7 @@ abbrev pub IsCuringCall : Call → World → Knowledge → Knowledge → Piece
 IsCuringCall call w known after lines = (n : NodeId) × (u : TypeId) × (parameters : List TypeId) × (result : TypeId) × (a : ℕ) × (sure : List Sure)
     × IsPointer w call.ty n u × (shape_at w.whole.table u ≡ shape.Function parameters result) × (call.count ≡ length parameters)
     × (w.number ≢ 0) × Points known call.callee n u a sure × Takes w call.into (words_in w.whole result)
-    × (CallsAny w known call (kind_of w n) u parameters a lines ⊎ CallsKnown w known call sure parameters lines)
+    × (CallsAny w known call (kind_of w n) u parameters a lines ⊎ CallsKnown w known call (kind_of w n) sure parameters lines)
     × Leaves known call.into (known_at (column w call.into) (held_by w result)) after
 
 -- The C library. Nothing is reclaimed by `free`; `putchar` gives the byte that it writes.

@@ -1,12 +1,11 @@
 -- The lines that check what an operation asks, with the numbers that they compare with.
-use Rattle.std.specs.Prelude.{◌≡◌, ℕ, ◌+◌, ◌*◌, ◌/◌, ◌-◌, ◌^◌, ◌≤◌, Bool, true, false, List, [], ◌∷◌, ◌++◌, Option, Some, None, nat_eq, nat_le, if◌then◌else◌}
+use Rattle.std.specs.Prelude.{ℕ, ◌+◌, ◌*◌, ◌/◌, ◌-◌, ◌^◌, Bool, true, false, List, [], ◌∷◌, ◌++◌, Option, Some, None, nat_eq, nat_le, if◌then◌else◌}
 use Rattle.cc_base.specs.declared.kind.Kind.{Kind}
 use Rattle.cc_base.specs.declared.kind.Kind.TheVariants.{Safe, Seq, Rtti, Wild}
 use Rattle.cc_base.specs.declared.number.TypeId.{TypeId}
 use Rattle.cc_base.specs.declared.place.Place.{Place}
 use Rattle.integers.specs.Words.{word}
 use Rattle.integers.specs.Arithmetic.{IntegerType, least}
-use Rattle.c_types.specs.Layouts.{size_of}
 use Rattle.cil_form.specs.declared.instr.Direction as code
 use Rattle.cil_form.specs.declared.instr.Direction.TheVariants as direction
 use Rattle.check_forms.specs.Pieces.{Piece, Line, Then}
@@ -27,9 +26,8 @@ use Rattle.check_forms.specs.declared.op.Op.TheVariants.{ReadInteger, ReadPointe
 use Rattle.check_forms.specs.Rows.{flat_conditions}
 use Rattle.check_forms.specs.RowChecks.{AreChecks}
 use Rattle.sim_relation.specs.Points.{Number}
-use Rattle.cure_rules.specs.Slots as slots
 use Rattle.cure_rules.specs.Slots.{Role, Size, Least, Span, LeastFactor, SpanFactor, Seven, Eight, Last, Signature, Offset, work_of}
-use Rattle.cure_rules.specs.Known.{World, Gets, cured_size, reach_of, last_function, pointer_slots}
+use Rattle.cure_rules.specs.Known.{World, Gets, reach_of, last_function}
 
 -- Where the numbers of each role stand: in a kept slot, or in the working slot of the role.
 abbrev pub Seat : Type 0

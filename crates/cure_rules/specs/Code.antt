@@ -1,11 +1,11 @@
 -- Cured code of three-address code, one clause an instruction.
-use Rattle.std.specs.Prelude.{◌≡◌, ◌≢◌, ℕ, List, [], ◌∷◌, slice_get, Option, Some, None}
+use Rattle.std.specs.Prelude.{◌≡◌, ◌≢◌, ℕ, List, [], ◌∷◌, slice_get, Some}
 use Rattle.cc_base.specs.declared.number.TypeId.{TypeId}
 use Rattle.cc_base.specs.declared.place.Place.{Place}
 use Rattle.cil_form.specs.declared.number.Temp.{Temp}
 use Rattle.cil_form.specs.declared.instr.Instr.{Instr, Row_of-Instr, end_of-Instr, more_of-Instr}
 use Rattle.cil_form.specs.declared.instr.Instr.TheVariants as instr
-use Rattle.cil_form.specs.Typing.{HeldType, IntegerOf, PointerTo, PlaceOf}
+use Rattle.cil_form.specs.Typing.{HeldType, PointerTo}
 use Rattle.src_mem.specs.Memory.{Planned}
 use Rattle.cured_code.specs.declared.instr.Instr.TheVariants as flat
 use Rattle.check_forms.specs.declared.op.Op.TheVariants as op

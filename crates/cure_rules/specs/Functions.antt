@@ -62,9 +62,10 @@ pub record AreSignatures (table : Table) (kind : NodeId → Kind) (signature : T
 
 -- Prologues
 
--- a variable whose address is kept is one of the function's
+-- an object whose address is kept is one of the function's variables, or of the static objects
 abbrev pub IsKnownContent : World → Content → Type 0
 IsKnownContent w (Start (object.Variable k)) = k.0 < length w.variables
+IsKnownContent w (Start (object.Static k)) = k.0 < length w.whole.statics
 IsKnownContent w other = ⊤
 
 -- each kept slot is set

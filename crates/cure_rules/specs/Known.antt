@@ -1,10 +1,10 @@
 -- What cured code stands in, what is known of temporaries where it has come to, and operands.
-use Rattle.std.specs.Prelude.{◌≡◌, ◌⊎◌, ℕ, ◌+◌, ◌*◌, ◌<◌, ◌≤◌, ◌^◌, ◌-◌, Bool, true, false, List, [], ◌∷◌, length, map, slice_get, slice_index, Option, Some, None, nat_eq, if◌then◌else◌}
+use Rattle.std.specs.Prelude.{◌≡◌, ◌⊎◌, ℕ, ◌+◌, ◌≤◌, Bool, true, false, List, [], ◌∷◌, slice_index, Option, Some, None, nat_eq, if◌then◌else◌}
 use Rattle.std.specs.List.{Contains}
 use Rattle.cc_base.specs.declared.number.TypeId.{TypeId}
 use Rattle.cc_base.specs.declared.number.NodeId.{NodeId}
 use Rattle.cc_base.specs.declared.kind.Kind.{Kind}
-use Rattle.cc_base.specs.declared.kind.Kind.TheVariants.{Safe, Seq, Rtti, Wild}
+use Rattle.cc_base.specs.declared.kind.Kind.TheVariants.{Wild}
 use Rattle.c_types.specs.declared.shape.TypeShape.{TypeShape}
 use Rattle.c_types.specs.declared.shape.TypeShape.TheVariants as shape
 use Rattle.c_types.specs.Table.{Table, IsComplete, shape_at, entry_at, is_complete}
@@ -12,11 +12,10 @@ use Rattle.c_types.specs.Cells.{IsBetweenPointers}
 use Rattle.c_types.specs.Equality.{cells_of}
 use Rattle.c_types.specs.Layouts.{size_of}
 use Rattle.c_types.specs.Widths as widths
-use Rattle.integers.specs.Arithmetic.{IntegerType, bits_of}
+use Rattle.integers.specs.Arithmetic.{IntegerType}
 use Rattle.flat_mem.specs.Placement.{function_address}
 use Rattle.src_mem.specs.Memory.{Planned}
 use Rattle.cil_form.specs.declared.number.Temp.{Temp}
-use Rattle.cil_form.specs.declared.number.Object.{Object}
 use Rattle.cil_form.specs.declared.number.Object.TheVariants as object
 use Rattle.cil_form.specs.State.{is_same}
 use Rattle.cil_form.specs.Typing.{HeldType, IntegerOf, PointerTo, PlaceOf, Typing, IsTemp}
@@ -233,6 +232,15 @@ Points known t n u a sure = (x : Known) × (known t ≡ Some x) × (x.type ≡ P
 abbrev pub IsAddress : Knowledge → Temp → NodeId → TypeId → ℕ → List Sure → Type 0
 IsAddress known t n u a sure =
     (x : Known) × (known t ≡ Some x) × ((x.type ≡ PointerTo n u) ⊎ (x.type ≡ PlaceOf n u)) × (x.place ≡ Some a) × (x.sure ≡ sure)
+
+-- those of a place, which isn't null
+abbrev pub IsPlaced : Knowledge → Temp → NodeId → TypeId → ℕ → List Sure → Type 0
+IsPlaced known t n u a sure = (x : Known) × (known t ≡ Some x) × (x.type ≡ PlaceOf n u) × (x.place ≡ Some a) × (x.sure ≡ sure)
+
+-- those of an array: a place, or a pointer where it is checked
+abbrev pub IsArrayAt : Bool → Knowledge → Temp → NodeId → TypeId → ℕ → List Sure → Type 0
+IsArrayAt true known t n u a sure = IsAddress known t n u a sure
+IsArrayAt false known t n u a sure = IsPlaced known t n u a sure
 
 -- so many slots are copied, one by one
 abbrev pub copies : ℕ → ℕ → ℕ → List Instr

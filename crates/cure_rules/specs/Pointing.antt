@@ -1,24 +1,22 @@
 -- The lines of pointer arithmetic, comparisons of pointers, addresses of parts, and conversions.
-use Rattle.std.specs.Prelude.{◌≡◌, ◌⊎◌, ℕ, ◌+◌, Bool, true, false, ◌&&◌, ◌||◌, not, List, [], ◌∷◌, ◌++◌, Option, Some, None, nat_eq, if◌then◌else◌}
+use Rattle.std.specs.Prelude.{ℕ, ◌+◌, Bool, true, false, ◌||◌, List, [], ◌∷◌, ◌++◌, Option, Some, None, nat_eq, if◌then◌else◌}
 use Rattle.cc_base.specs.declared.kind.Kind.{Kind}
 use Rattle.cc_base.specs.declared.kind.Kind.TheVariants.{Safe, Seq, Rtti, Wild}
 use Rattle.cc_base.specs.declared.number.TypeId.{TypeId}
 use Rattle.cc_base.specs.declared.number.NodeId.{NodeId}
 use Rattle.cc_base.specs.declared.place.Place.{Place}
 use Rattle.c_types.specs.declared.flow_class.FlowClass.{FlowClass}
-use Rattle.c_types.specs.declared.flow_class.FlowClass.TheVariants.{Equal, UpTile, Up, DownTile, Down, Tile, Bad}
+use Rattle.c_types.specs.declared.flow_class.FlowClass.TheVariants.{DownTile, Down, Tile}
 use Rattle.c_types.specs.Table.{IsComplete}
 use Rattle.c_types.specs.Layouts.{offset_of}
 use Rattle.c_types.specs.Flows.{flow_class}
 use Rattle.integers.specs.Arithmetic.{IntegerType, int, long}
-use Rattle.cil_form.specs.declared.number.Temp.{Temp}
 use Rattle.cil_form.specs.declared.instr.Comparison.{Comparison}
 use Rattle.cil_form.specs.declared.instr.Comparison.TheVariants as comparison
 use Rattle.cil_form.specs.declared.instr.Point.{Point}
 use Rattle.cil_form.specs.declared.instr.Point.TheVariants as point
 use Rattle.cil_form.specs.declared.instr.Convert.{Convert as Conversion}
 use Rattle.cil_form.specs.declared.instr.Convert.TheVariants as convert
-use Rattle.cil_form.specs.Typing.{HeldType}
 use Rattle.cured_code.specs.declared.instr.Instr.{Instr}
 use Rattle.cured_code.specs.declared.instr.Instr.TheVariants as instr
 use Rattle.check_forms.specs.Pieces.{Piece, Line, Then}
@@ -30,11 +28,11 @@ use Rattle.check_forms.specs.declared.op.Op.{Op}
 use Rattle.check_forms.specs.declared.op.Op.TheVariants as op
 use Rattle.check_forms.specs.Rows.{home_slot}
 use Rattle.sim_relation.specs.Ground.{word_number}
-use Rattle.sim_relation.specs.Points.{Exact, Sure, Known, Knowledge, Number}
-use Rattle.cure_rules.specs.Slots.{First, Second, Third, Moved, Size, Offset, Word, slot_of}
-use Rattle.cure_rules.specs.Known.{World, kind_of, cured_size, reach_of, column, Takes, Gets, IsPointer, IsPlainInteger, IsExactly, Points, IsAddress, Leaves, an_integer, a_pointer, a_place, pointer_slots, copies, narrow_of, narrowed_lines}
+use Rattle.sim_relation.specs.Points.{Exact, Sure, Knowledge, Number}
+use Rattle.cure_rules.specs.Slots.{First, Second, Moved, Size, Offset, Word, slot_of}
+use Rattle.cure_rules.specs.Known.{World, kind_of, cured_size, reach_of, column, Takes, Gets, IsPointer, IsPlainInteger, IsExactly, Points, IsAddress, IsPlaced, IsArrayAt, Leaves, an_integer, a_pointer, a_place, pointer_slots, copies, narrow_of, narrowed_lines}
 use Rattle.cure_rules.specs.Checks.{Seat, number_at, wild_numbers, move_by, address_of_part, IsGuarded}
-use Rattle.cure_rules.specs.Setting.{is_wide_kind, IsTested, comparison_lines, less}
+use Rattle.cure_rules.specs.Setting.{is_wide_kind, IsTested, comparison_lines}
 
 -- Arithmetic
 
@@ -124,7 +122,8 @@ IsCuringPoint (point.Compare into which a t b s at) w known after lines = (m n :
     × Then (IsGuarded w (comparing which w seat (kind_of w m) (pointer_slots p) (kind_of w n) (pointer_slots q)) (kind_of w m) at)
     (Line (compared_lines which w (kind_of w m) (kind_of w n) (column w into) (pointer_slots p) (pointer_slots q))) lines
     × Leaves known into (Some (an_integer (column w into) Exact int)) after
-IsCuringPoint (point.IsNull into p t different) w known after lines = (a : ℕ) × Takes w into 1
+IsCuringPoint (point.IsNull into p t different) w known after lines = (n : NodeId) × (u : TypeId) × (q : ℕ) × (sure : List Sure) × (a : ℕ)
+    × Points known p n u q sure × Takes w into 1
     × Then (IsTested w known p a) (Line (null_operation different (column w into) a w.slots.nought ∷ [])) lines
     × Leaves known into (Some (an_integer (column w into) Exact int)) after
 IsCuringPoint (point.Member into from outer t i inner u at) w known after lines = (a : ℕ) × (sure : List Sure) × (seat : Seat)
@@ -134,11 +133,11 @@ IsCuringPoint (point.Member into from outer t i inner u at) w known after lines 
     (PartWords (kind_of w inner) w seat (cured_size w.whole u) u (column w into) a (seat Offset) (a + 1))) lines
     × Leaves known into (Some (a_place (column w into) inner u [])) after
 IsCuringPoint (point.Decay into from outer array check inner element at) w known after lines = (a : ℕ) × (sure : List Sure) × (seat : Seat)
-    × IsAddress known from outer array a sure × Takes w into (word_number (kind_of w inner))
+    × IsArrayAt check known from outer array a sure × Takes w into (word_number (kind_of w inner))
     × Decays check w seat (kind_of w outer) (kind_of w inner) array element (column w into) a at lines
     × Leaves known into (Some (a_pointer (column w into) inner element [])) after
 IsCuringPoint (point.Address into from outer inner t) w known after lines = (a : ℕ) × (sure : List Sure) × (seat : Seat)
-    × IsAddress known from outer t a sure × Takes w into (word_number (kind_of w inner))
+    × IsPlaced known from outer t a sure × Takes w into (word_number (kind_of w inner))
     × PartWords (kind_of w inner) w seat (cured_size w.whole t) t (column w into) a w.slots.nought (a + 1) lines
     × Leaves known into (Some (a_pointer (column w into) inner t [])) after
 

@@ -1,6 +1,6 @@
 -- CAST, FUN, DEPTH, ESCAPE of a return, and BOUNDS of an allocation.
-use Rattle.std.proofs.Common.{◌≡◌, ◌≢◌, ◌∙◌, ◌⊎◌, ⊎_elim, inl, inr, ℕ, zero, suc, ◌+◌, ◌-◌, ◌*◌, ◌/◌, ◌%◌, ◌<◌, ◌≤◌, ◌^◌, ℤ, pos, negsuc, ◌+ℤ◌, Bool, true, false, not, ◌&&◌, ◌||◌, List, [], ◌∷◌, length, nat_eq, nat_lt, nat_le, slice_get, Option, Some, None, refl, ap, sym, subst, arith, if◌then◌else◌}
-use Rattle.std.specs.Prelude.{int_le, ◌==◌}
+use Rattle.std.proofs.Common.{◌≡◌, ◌∙◌, ◌⊎◌, inl, inr, ℕ, zero, suc, ◌+◌, ◌-◌, ◌*◌, ◌/◌, ◌<◌, ◌≤◌, pos, Bool, true, false, not, ◌&&◌, ◌||◌, List, [], ◌∷◌, length, nat_eq, nat_lt, nat_le, slice_get, Option, Some, None, refl, ap, sym, arith, if◌then◌else◌}
+use Rattle.std.specs.Prelude.{◌==◌}
 use Rattle.std.specs.List.{list_all}
 use Rattle.std.proofs.lemmas.Bool.Decides.{nat_tests}
 use Rattle.std.proofs.lemmas.Int.{ints}
@@ -14,20 +14,18 @@ use Rattle.cc_base.specs.declared.place.Place.{Place}
 use Rattle.c_types.specs.Layouts.{size_of}
 use Rattle.c_types.specs.Coverage.{covers, of_one_class}
 use Rattle.c_types.specs.Widths.{cured_size}
-use Rattle.integers.specs.Words.{word}
 use Rattle.flat_mem.specs.declared.Area.{Area}
 use Rattle.flat_mem.specs.Placement.{function_address, areas_size}
 use Rattle.flat_mem.specs.Memory as memory
 use Rattle.flat_mem.specs.Memory.{Frame, Memory, fits, frame_area, frames_end, next_frame, charges, Consecutive}
-use Rattle.src_mem.specs.Pointers.{Location, Pointer, Null, Number, At, Function, is_at}
+use Rattle.src_mem.specs.Pointers.{Location, Pointer, Null, Number, At, Function}
 use Rattle.src_mem.specs.Memory as objects
 use Rattle.src_mem.specs.Memory.{Object, depth_of_object}
 use Rattle.src_mem.specs.State as source
 use Rattle.src_mem.specs.State.{Setting, Defined}
-use Rattle.src_mem.specs.Primitives.{block_pointer}
-use Rattle.src_mem.specs.Checks.{IsMadeFor, IsNotOfFrame, IsFunctionOf, HasRoom, InBounds, depth_limit, frame_limit, has_room, fits_between, function_passes, function_passes_or_none, conditions_of_allocation, holds}
+use Rattle.src_mem.specs.Checks.{IsMadeFor, IsNotOfFrame, IsFunctionOf, HasRoom, depth_limit, frame_limit, has_room, fits_between, function_passes, function_passes_or_none, conditions_of_allocation, holds}
 use Rattle.src_mem.specs.Facts.{IsTypedAt, IsWildAt}
-use Rattle.src_mem.specs.Outlines.{outline, outlines_of}
+use Rattle.src_mem.specs.Outlines.{outlines_of}
 use Rattle.src_mem.proofs.Outlines.{has-outline}
 use Rattle.cured_code.specs.FlatState as flat
 use Rattle.cured_code.specs.declared.parts.Parts.{Parts}
@@ -38,9 +36,8 @@ use Rattle.check_forms.specs.declared.slots.Fixed.{Fixed}
 use Rattle.check_forms.specs.Conditions as condition
 use Rattle.check_forms.specs.Conditions.{IsNotOwn, Unless, IsAtLeast, flat_holds}
 use Rattle.check_forms.specs.Rows.{asked, home_slot, allocated}
-use Rattle.sim_relation.specs.Ground.{Ground, address, place, natural, function_word, first_word}
+use Rattle.sim_relation.specs.Ground.{address, place, natural, function_word}
 use Rattle.sim_relation.specs.Objects.{flat_depth}
-use Rattle.sim_relation.specs.Related as relation
 use Rattle.sim_relation.specs.Related.{Related, ground_of, AreRoomy}
 use Rattle.sim_checks.specs.Rows.{IsChecked, AreFunctionsApart, AreFunctionsLaid}
 use Rattle.sim_checks.specs.Moving.{all_hold}

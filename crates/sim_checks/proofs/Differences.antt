@@ -1,5 +1,5 @@
 -- SAME of a difference: a whole number of elements lies between two pointers of one part exactly where their words say so.
-use Rattle.std.proofs.Common.{◌≡◌, ◌∙◌, ◌⊎◌, ⊎_elim, inl, inr, ℕ, zero, suc, ◌+◌, ◌-◌, ◌*◌, ◌/◌, ◌<◌, ◌≤◌, ◌%◌, ◌^◌, ℤ, pos, negsuc, neg_ℤ, ◌+ℤ◌, ◌-ℤ◌, Bool, true, false, not, ◌&&◌, List, [], ◌∷◌, length, nat_eq, slice_get, Some, refl, ap, sym, subst, arith, if◌then◌else◌}
+use Rattle.std.proofs.Common.{◌≡◌, ◌∙◌, ◌⊎◌, ⊎_elim, ℕ, suc, ◌+◌, ◌-◌, ◌*◌, ◌/◌, ◌<◌, ◌≤◌, ◌%◌, ◌^◌, ℤ, pos, negsuc, neg_ℤ, ◌+ℤ◌, ◌-ℤ◌, Bool, true, false, ◌&&◌, [], ◌∷◌, length, nat_eq, Some, refl, ap, sym, subst, arith, if◌then◌else◌}
 use Rattle.std.specs.Prelude.{◌==◌, ◌*ℤ◌, int_rem, slice_index_or}
 use Rattle.std.specs.Int.{int_div_euclid, int_rem_euclid}
 use Rattle.std.specs.Ordering.{int_eq}
@@ -18,7 +18,7 @@ use Rattle.c_types.specs.Cells.{Cell, raw, IsBetweenPointers}
 use Rattle.c_types.specs.Equality.{cells_of, repeated_cell}
 use Rattle.c_types.specs.Flows.{CellsAgree}
 use Rattle.c_types.specs.Sound.{IsWellFormed}
-use Rattle.c_types.specs.Widths.{before, cured_size, cured_distance}
+use Rattle.c_types.specs.Widths.{before, cured_size}
 use Rattle.c_types.proofs.OrderedPointers.{cells_ordered}
 use Rattle.type_laws.proofs.OneClass.{move-alike}
 use Rattle.type_laws.proofs.Pointers.{class_turned}
@@ -26,7 +26,7 @@ use Rattle.type_laws.proofs.Stairs.{IsWithin, steps-stair, stair-within, residue
 use Rattle.type_laws.proofs.Widths.{before-same-place}
 use Rattle.integers.specs.Words.{word, residue}
 use Rattle.integers.specs.Operators.{signed, difference_words, remainder_signed}
-use Rattle.integers.proofs.SignedLaws.{IsNear, signed-word, difference-word}
+use Rattle.integers.proofs.SignedLaws.{signed-word, difference-word}
 use Rattle.integers.proofs.WordLaws.{residue-below, word-small}
 use Rattle.src_mem.specs.Pointers.{Location, Pointer, Null, Number, At, Function, distance, same_part}
 use Rattle.src_mem.specs.State as source
@@ -43,15 +43,14 @@ use Rattle.check_forms.specs.declared.slots.Fixed.{Fixed}
 use Rattle.check_forms.specs.Conditions as condition
 use Rattle.check_forms.specs.Conditions.{AreOfPart, flat_holds}
 use Rattle.check_forms.specs.Rows.{all_asked, elements_apart}
-use Rattle.sim_relation.specs.Ground.{Ground, place, first_word}
+use Rattle.sim_relation.specs.Ground.{Ground, place}
 use Rattle.sim_relation.specs.Related.{ground_of}
 use Rattle.sim_relation.proofs.Bounds.{step_of, cell-steps, width-most, distance-is, widths}
 use Rattle.sim_checks.specs.Rows.{IsChecked}
 use Rattle.sim_checks.specs.Moving.{all_hold}
 use Rattle.sim_checks.specs.Comparing.{used}
-use Rattle.sim_checks.proofs.Addresses.{there}
 use Rattle.sim_checks.proofs.Distances.{times-sum}
-use Rattle.sim_checks.proofs.Sameness.{parts-alike, eq-true, true-eq}
+use Rattle.sim_checks.proofs.Sameness.{bool-same, parts-alike, eq-true, true-eq}
 use Rattle.sim_checks.proofs.Sequences.{long, ends, small}
 use Rattle.sim_checks.proofs.Standing.{near-small}
 
@@ -141,12 +140,6 @@ rem-euclid (negsuc a) n = zero-eq (n - 1 - a % n)
   where
     zero-eq : (k : ℕ) → int_eq (pos k) (pos 0) ≡ nat_eq k 0
     zero-eq k = grind (arith, nat_tests)
-
-bool-same : (a b : Bool) → (a ≡ true → b ≡ true) → (b ≡ true → a ≡ true) → a ≡ b
-bool-same true true f g = refl
-bool-same true false f g = sym (f refl)
-bool-same false true f g = g refl
-bool-same false false f g = refl
 
 -- SEQ
 

@@ -1,5 +1,5 @@
 -- RANGE: a pointer that is moved lies near enough to the start of its part exactly where C says so.
-use Rattle.std.proofs.Common.{◌≡◌, ◌∙◌, ◌⊎◌, ⊎_elim, inl, inr, ℕ, zero, suc, ◌+◌, ◌-◌, ◌*◌, ◌/◌, ◌%◌, ◌<◌, ◌≤◌, ◌^◌, ℤ, pos, negsuc, neg_ℤ, ◌+ℤ◌, ◌-ℤ◌, ◌<ℤ◌, ◌≤ℤ◌, Bool, true, false, not, ◌&&◌, nat_lt, length, refl, ap, sym, subst, arith, if◌then◌else◌}
+use Rattle.std.proofs.Common.{◌≡◌, ◌∙◌, ◌⊎◌, ⊎_elim, inl, inr, ℕ, suc, ◌+◌, ◌*◌, ◌/◌, ◌%◌, ◌<◌, ◌≤◌, ◌^◌, ℤ, pos, negsuc, neg_ℤ, ◌+ℤ◌, ◌-ℤ◌, ◌≤ℤ◌, Bool, true, false, ◌&&◌, nat_lt, length, refl, ap, sym, subst, arith}
 use Rattle.std.specs.Prelude.{int_lt, int_le, ◌*ℤ◌, [], ◌∷◌, ◌++◌, slice_index_or}
 use Rattle.std.specs.Int.{int_div_euclid}
 use Rattle.std.proofs.lemmas.Bool.Decides.{nat_tests}
@@ -18,12 +18,11 @@ use Rattle.c_types.specs.Widths.{before, stair, cured_size, cured_distance}
 use Rattle.c_types.proofs.OrderedPointers.{cells_ordered}
 use Rattle.type_laws.proofs.OneClass.{move-alike}
 use Rattle.type_laws.proofs.Pointers.{class_turned}
-use Rattle.type_laws.proofs.Stairs.{IsWithin, steps-stair, stair-within, same_le, le-true, le-false}
+use Rattle.type_laws.proofs.Stairs.{IsWithin, steps-stair, stair-within, same_le}
 use Rattle.integers.specs.Words.{word, residue, as_unsigned}
-use Rattle.integers.specs.Arithmetic.{IntegerType, converted, bits_of}
+use Rattle.integers.specs.Arithmetic.{IntegerType, bits_of}
 use Rattle.integers.specs.Operators.{sum_words, difference_words, product_words}
-use Rattle.integers.proofs.SignedLaws.{sum-word, difference-word}
-use Rattle.integers.proofs.WordLaws.{residue-below, word-small}
+use Rattle.integers.proofs.WordLaws.{residue-below}
 use Rattle.flat_mem.specs.Bytes.{IsAccessSize}
 use Rattle.src_mem.specs.Pointers.{Location, Pointer, Null, Number, At, Function, distance}
 use Rattle.src_mem.specs.State as source
@@ -45,14 +44,14 @@ use Rattle.check_forms.specs.declared.op.Factor.TheVariants.{Any, Signed, Unsign
 use Rattle.check_forms.specs.declared.op.Reach.{Reach}
 use Rattle.check_forms.specs.Conditions.{distance_of, is_near, moved}
 use Rattle.check_forms.specs.Rows.{factor_asked, near}
-use Rattle.sim_relation.specs.Ground.{Ground, address, place, first_word, second_word}
+use Rattle.sim_relation.specs.Ground.{Ground, address, place, first_word}
 use Rattle.sim_relation.specs.Related.{ground_of}
 use Rattle.sim_relation.proofs.Bounds.{step_of, cell-steps, width-most, distance-is}
 use Rattle.sim_relation.proofs.Room.{three-bytes}
 use Rattle.sim_checks.specs.Rows.{IsChecked}
-use Rattle.sim_checks.specs.Moving.{all_hold, steps, IsFactor, IsDistance, IsMoved}
+use Rattle.sim_checks.specs.Moving.{all_hold, steps, IsDistance, IsMoved}
 use Rattle.sim_checks.proofs.Addresses.{there}
-use Rattle.sim_checks.proofs.Distances.{times-sum, times-neg, product-word, IsClose, close, near-word, near-moved, elements-between, integer-within, within-times, within-steps}
+use Rattle.sim_checks.proofs.Distances.{times-neg, product-word, close, near-word, near-moved, elements-between, integer-within, within-times, within-steps}
 use Rattle.sim_checks.proofs.Division.{IsShort, powers, signed-short, as-signed, as-unsigned}
 use Rattle.sim_checks.proofs.Sequences.{long, ends, small, some-size}
 

@@ -1,5 +1,5 @@
 -- SAME: two pointers are of one part, or stand in their parts, exactly where their words say so.
-use Rattle.std.proofs.Common.{◌≡◌, ◌≢◌, ◌∙◌, ◌⊎◌, ⊎_elim, inl, inr, ℕ, zero, suc, ◌+◌, ◌-◌, ◌*◌, ◌<◌, ◌≤◌, ◌%◌, ◌^◌, ℤ, pos, negsuc, ◌+ℤ◌, ◌-ℤ◌, Bool, true, false, not, ◌&&◌, ◌||◌, List, [], ◌∷◌, ◌++◌, length, nat_eq, slice_get, Some, refl, ap, sym, subst, arith, if◌then◌else◌}
+use Rattle.std.proofs.Common.{◌≡◌, ◌≢◌, ◌∙◌, ⊎_elim, ℕ, ◌+◌, ◌≤◌, Bool, true, false, ◌&&◌, ◌||◌, length, nat_eq, slice_get, Some, refl, ap, sym, subst, arith}
 use Rattle.std.specs.Prelude.{◌==◌}
 use Rattle.std.proofs.lemmas.Bool.Decides.{nat_tests}
 use Rattle.cc_base.specs.declared.fault.Check.TheVariants as check
@@ -11,31 +11,31 @@ use Rattle.c_types.specs.Cells.{AreOrdered, IsBetweenPointers}
 use Rattle.c_types.specs.Sound.{IsWellFormed}
 use Rattle.c_types.specs.Widths.{before}
 use Rattle.type_laws.proofs.Widths.{before-same-place}
-use Rattle.src_mem.specs.Pointers.{Location, Pointer, Null, Number, At, Function, is_at, same_part}
+use Rattle.src_mem.specs.Pointers.{Location, Pointer, Null, Number, At, Function, same_part}
 use Rattle.src_mem.specs.State as source
 use Rattle.src_mem.specs.State.{Setting}
-use Rattle.src_mem.specs.Checks.{HasBase, AreOfOnePart, AreComparable, of_one_part, stands_within, between, used_alike, holds}
+use Rattle.src_mem.specs.Checks.{HasBase, AreOfOnePart, AreComparable, of_one_part, stands_within, holds}
 use Rattle.src_mem.specs.Facts.{IsSequenceAt}
 use Rattle.src_mem.specs.Outlines.{Outline, outline, outlines_of, lives_of, LivesAt, AreOutlines}
-use Rattle.src_mem.proofs.Outlines.{HasOutline, has-outline}
+use Rattle.src_mem.proofs.Outlines.{has-outline}
 use Rattle.cured_code.specs.FlatState as flat
 use Rattle.cured_code.specs.declared.parts.Parts.{Parts}
 use Rattle.check_forms.specs.declared.slots.PointerSlots.{PointerSlots}
-use Rattle.check_forms.specs.Conditions.{AreOfPart, AreOfPartOr, Both, Unless, IsWithinPart, is_within_part, flat_holds}
-use Rattle.check_forms.specs.Rows.{all_asked, equated, settled}
-use Rattle.sim_relation.specs.Ground.{Ground, address, place, first_word, second_word, third_word}
-use Rattle.sim_relation.specs.Objects.{HoldsTyped, Apart, room_of}
+use Rattle.check_forms.specs.Conditions.{AreOfPart, Unless, IsWithinPart, is_within_part, flat_holds}
+use Rattle.check_forms.specs.Rows.{all_asked, equated}
+use Rattle.sim_relation.specs.Ground.{Ground, address, place, first_word}
+use Rattle.sim_relation.specs.Objects.{Apart}
 use Rattle.sim_relation.specs.Related.{Related, ground_of}
-use Rattle.sim_relation.proofs.Kept.{typed-holds, typed-contents}
-use Rattle.sim_checks.specs.Rows.{IsChecked, AreWordsOf}
+use Rattle.sim_relation.proofs.Kept.{typed-contents}
+use Rattle.sim_checks.specs.Rows.{IsChecked}
 use Rattle.sim_checks.specs.Moving.{all_hold}
 use Rattle.sim_checks.specs.Comparing.{used}
-use Rattle.sim_checks.proofs.Addresses.{IsThere, there}
+use Rattle.sim_checks.proofs.Addresses.{there}
 use Rattle.sim_checks.proofs.Standing.{stands-alike}
 
 -- Truth values
 
-bool-same : (a b : Bool) → (a ≡ true → b ≡ true) → (b ≡ true → a ≡ true) → a ≡ b
+pub bool-same : (a b : Bool) → (a ≡ true → b ≡ true) → (b ≡ true → a ≡ true) → a ≡ b
 bool-same true true f g = refl
 bool-same true false f g = sym (f refl)
 bool-same false true f g = g refl

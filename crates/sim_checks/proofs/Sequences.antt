@@ -29,7 +29,7 @@ use Rattle.src_mem.specs.Pointers.{Location, Pointer, Null, Number, At, Function
 use Rattle.src_mem.specs.State as source
 use Rattle.src_mem.specs.State.{Setting}
 use Rattle.src_mem.specs.Checks.{InBounds, null_or_in_bounds, holds}
-use Rattle.src_mem.specs.Facts.{IsSequenceAt}
+use Rattle.src_mem.specs.Facts.{IsSequenceAt, RepeatType}
 use Rattle.src_mem.specs.Outlines.{Outline, outlines_of}
 use Rattle.cil_facts.proofs.Homes.{complete-along}
 use Rattle.cured_code.specs.FlatState as flat
@@ -40,7 +40,7 @@ use Rattle.check_forms.specs.Conditions.{IsInPart, IsByteInPart, UnlessNull, is_
 use Rattle.check_forms.specs.Rows.{in_part}
 use Rattle.sim_relation.specs.Ground.{Ground, address, first_word, second_word, third_word}
 use Rattle.sim_relation.specs.Related.{ground_of}
-use Rattle.sim_relation.proofs.Bounds.{step_of, cell-steps, width-most, EndsWhole, sequence-bounds}
+use Rattle.sim_relation.proofs.Bounds.{step_of, cell-steps, width-most, EndsWhole, AreAsWide, own-wide, agree-wide, sequence-bounds}
 use Rattle.sim_checks.specs.Rows.{IsChecked}
 use Rattle.sim_checks.proofs.Addresses.{there}
 
@@ -106,8 +106,9 @@ numbers-same m n h = grind (arith, nat_tests)
 byte-alike : (a low high : ℕ) → a < 2 ^ 64 → low ≤ high → high < 2 ^ 33 → is_in_part 1 a low high ≡ nat_lt (difference_words a low) (difference_words high low)
 byte-alike a low high below ordered small = grind (arith, nat_tests, ints)
 
-module _ (w : Setting) (number_of : TypeId → ℕ) (s : source.State) (c : flat.State) (parts : Parts) (depth : ℕ) (t : TypeId) (sound : IsWellFormed w.table)
-    (complete : IsComplete w.table t) (e : ℕ → ℕ) (p : PointerSlots) (size : Fixed) (is : size.value ≡ cured_size w.table w.kind t) where
+module _ (w : Setting) (number_of : TypeId → ℕ) (s : source.State) (c : flat.State) (parts : Parts) (depth : ℕ) (t u : TypeId) (sound : IsWellFormed w.table)
+    (complete : IsComplete w.table t) (target : IsComplete w.table u) (as_wide : AreAsWide w.kind (cells_of w.table u) (cells_of w.table t)) (e : ℕ → ℕ) (p : PointerSlots) (size : Fixed)
+    (is : size.value ≡ cured_size w.table w.kind u) where
   abbrev g : Ground
   g = ground_of w number_of s c
 
@@ -125,10 +126,10 @@ module _ (w : Setting) (number_of : TypeId → ℕ) (s : source.State) (c : flat
           nothing x = grind (arith, nat_tests)
       by false =
           ap (λ x. is_in_part x (e p.first) (e p.second) (e p.third)) is
-          ∙ ap (λ x. is_in_part (cured_size w.table w.kind t) x (e p.second) (e p.third)) first
-          ∙ ap (λ x. is_in_part (cured_size w.table w.kind t) n x (e p.third)) second
-          ∙ ap (λ x. is_in_part (cured_size w.table w.kind t) n 0 x) third
-          ∙ no-part (cured_size w.table w.kind t) n (some-size w sound t complete) (small w sound t complete) below
+          ∙ ap (λ x. is_in_part (cured_size w.table w.kind u) x (e p.second) (e p.third)) first
+          ∙ ap (λ x. is_in_part (cured_size w.table w.kind u) n x (e p.third)) second
+          ∙ ap (λ x. is_in_part (cured_size w.table w.kind u) n 0 x) third
+          ∙ no-part (cured_size w.table w.kind u) n (some-size w sound u target) (small w sound u target) below
 
   module _ (l : Location) (x : IsChecked w number_of s c depth Seq t (At l) e p) where
     value : IsSequenceAt w (outlines_of s.memory) t l
@@ -142,13 +143,14 @@ module _ (w : Setting) (number_of : TypeId → ℕ) (s : source.State) (c : flat
         let k : address g l.object + before w.kind v.object.cells i < 2 ^ 33 = (let a = h.is in let b = h.below in omega (arith, a, b)) in
         subst (λ (y : Outline). address g l.object + before w.kind y.cells i < 2 ^ 33) same k
 
-    whole-words : is_in_part (cured_size w.table w.kind t) (first_word g Seq (At l)) (second_word g Seq (At l)) (third_word g (At l))
-        ≡ holds w s.memory (InBounds (size_of w.table t) (At l))
+    whole-words : is_in_part (cured_size w.table w.kind u) (first_word g Seq (At l)) (second_word g Seq (At l)) (third_word g (At l))
+        ≡ holds w s.memory (InBounds (size_of w.table u) (At l))
     whole-words =
         let class = value.made in
         let made = complete-along w sound t l.made (class_turned w.table w.kind l.made t class) complete in
-        sequence-bounds w number_of s.memory c.areas depth t l
-        (λ z. move-alike w.table sound w.kind l.made t made complete class z) x.held complete (ends w sound t complete) (small w sound t complete) inside
+        sequence-bounds w number_of s.memory c.areas depth t u l
+        (λ z. move-alike w.table sound w.kind l.made t made complete class z) x.held complete (ends w sound t complete) (ends w sound u target) as_wide
+        (small w sound u target) inside
 
     ends-below : third_word g (At l) < 2 ^ 33
     ends-below =
@@ -164,16 +166,16 @@ module _ (w : Setting) (number_of : TypeId → ℕ) (s : source.State) (c : flat
         let m = before-mono w.kind v.object.cells l.part.low l.part.high v.located.ordered in
         let f = a.is in let h = b.is in omega (arith, f, h, m)
 
-    at-compared : flat_holds parts c.memory (in_part p size) e ≡ holds w s.memory (InBounds (size_of w.table t) (At l))
+    at-compared : flat_holds parts c.memory (in_part p size) e ≡ holds w s.memory (InBounds (size_of w.table u) (At l))
     at-compared = by (nat_eq size.value 1) refl
       where
         by : (b : Bool) → nat_eq size.value 1 ≡ b
-            → flat_holds parts c.memory (if b then IsByteInPart p else IsInPart p size) e ≡ holds w s.memory (InBounds (size_of w.table t) (At l))
+            → flat_holds parts c.memory (if b then IsByteInPart p else IsInPart p size) e ≡ holds w s.memory (InBounds (size_of w.table u) (At l))
         by false f =
             ap (λ y. is_in_part y (e p.first) (e p.second) (e p.third)) is
-            ∙ ap (λ y. is_in_part (cured_size w.table w.kind t) y (e p.second) (e p.third)) x.words.0
-            ∙ ap (λ y. is_in_part (cured_size w.table w.kind t) (first_word g Seq (At l)) y (e p.third)) x.words.1
-            ∙ ap (λ y. is_in_part (cured_size w.table w.kind t) (first_word g Seq (At l)) (second_word g Seq (At l)) y) x.words.2
+            ∙ ap (λ y. is_in_part (cured_size w.table w.kind u) y (e p.second) (e p.third)) x.words.0
+            ∙ ap (λ y. is_in_part (cured_size w.table w.kind u) (first_word g Seq (At l)) y (e p.third)) x.words.1
+            ∙ ap (λ y. is_in_part (cured_size w.table w.kind u) (first_word g Seq (At l)) (second_word g Seq (At l)) y) x.words.2
             ∙ whole-words
         by true f =
             let one : size.value ≡ 1 = numbers-same size.value 1 f in
@@ -184,12 +186,12 @@ module _ (w : Setting) (number_of : TypeId → ℕ) (s : source.State) (c : flat
             ∙ ap (λ y. is_in_part y (first_word g Seq (At l)) (second_word g Seq (At l)) (third_word g (At l))) (sym one ∙ is)
             ∙ whole-words
 
-  pub bounds-compared : (q : Pointer) → IsChecked w number_of s c depth Seq t q e p
-      → flat_holds parts c.memory (in_part p size) e ≡ holds w s.memory (InBounds (size_of w.table t) q)
-  bounds-compared Null x = none 0 (omega arith) x.words.0 x.words.1 x.words.2
-  bounds-compared (Number n) x = none n x.held.value.1 x.words.0 x.words.1 x.words.2
-  bounds-compared (At l) x = at-compared l x
-  bounds-compared (Function f) x = absurd x.held.value
+  part-compared : (q : Pointer) → IsChecked w number_of s c depth Seq t q e p
+      → flat_holds parts c.memory (in_part p size) e ≡ holds w s.memory (InBounds (size_of w.table u) q)
+  part-compared Null x = none 0 (omega arith) x.words.0 x.words.1 x.words.2
+  part-compared (Number n) x = none n x.held.value.1 x.words.0 x.words.1 x.words.2
+  part-compared (At l) x = at-compared l x
+  part-compared (Function f) x = absurd x.held.value
 
   -- where it isn't null
 
@@ -201,23 +203,39 @@ module _ (w : Setting) (number_of : TypeId → ℕ) (s : source.State) (c : flat
   some-word m n (inl h) = let a = le_or_l m n in grind (arith, nat_tests, h, a)
   some-word m n (inr h) = let a = le_or_r m n in grind (arith, nat_tests, h, a)
 
-  pub shrinking-compared : (q : Pointer) → IsChecked w number_of s c depth Seq t q e p
-      → flat_holds parts c.memory (UnlessNull p (in_part p size)) e ≡ list_all (holds w s.memory) (null_or_in_bounds (size_of w.table t) q)
-  shrinking-compared Null x =
+  part-shrinking : (q : Pointer) → IsChecked w number_of s c depth Seq t q e p
+      → flat_holds parts c.memory (UnlessNull p (in_part p size)) e ≡ list_all (holds w s.memory) (null_or_in_bounds (size_of w.table u) q)
+  part-shrinking Null x =
       ap (λ y. nat_eq (bit_or y (e p.second)) 0 || flat_holds parts c.memory (in_part p size) e) x.words.0
       ∙ ap (λ y. nat_eq (bit_or 0 y) 0 || flat_holds parts c.memory (in_part p size) e) x.words.1
-  shrinking-compared (Number n) x =
+  part-shrinking (Number n) x =
       ap (λ b. b || flat_holds parts c.memory (in_part p size) e)
       (some-word (e p.first) (e p.second) (inl (let h = x.held.value.0 in let f = x.words.0 in positive n (e p.first) h f)))
-      ∙ bounds-compared (Number n) x ∙ alone (holds w s.memory (InBounds (size_of w.table t) (Number n)))
+      ∙ part-compared (Number n) x ∙ alone (holds w s.memory (InBounds (size_of w.table u) (Number n)))
     where
       positive : (n m : ℕ) → n ≢ 0 → m ≡ n → 0 < m
       positive zero m h f = absurd (h refl)
       positive (suc n) m h f = omega (arith, f)
-  shrinking-compared (At l) x =
+  part-shrinking (At l) x =
       ap (λ b. b || flat_holds parts c.memory (in_part p size) e)
       (some-word (e p.first) (e p.second) (inr (let v = value l x in
       let h = there w number_of s c x.related depth l.object l.part.low v.object v.located.found x.held.reaches v.typed.untagged in
       let a = h.above in let f = x.words.1 in omega (arith, a, f))))
-      ∙ bounds-compared (At l) x ∙ alone (holds w s.memory (InBounds (size_of w.table t) (At l)))
-  shrinking-compared (Function f) x = absurd x.held.value
+      ∙ part-compared (At l) x ∙ alone (holds w s.memory (InBounds (size_of w.table u) (At l)))
+  part-shrinking (Function f) x = absurd x.held.value
+
+-- before a use, for what the pointer points to
+pub bounds-compared : (w : Setting) (number_of : TypeId → ℕ) (s : source.State) (c : flat.State) (parts : Parts) (depth : ℕ) (t : TypeId) → IsWellFormed w.table
+    → IsComplete w.table t → (e : ℕ → ℕ) (p : PointerSlots) (size : Fixed) → size.value ≡ cured_size w.table w.kind t → (q : Pointer)
+    → IsChecked w number_of s c depth Seq t q e p → flat_holds parts c.memory (in_part p size) e ≡ holds w s.memory (InBounds (size_of w.table t) q)
+bounds-compared w number_of s c parts depth t sound complete e p size is =
+    part-compared w number_of s c parts depth t t sound complete complete (own-wide w.kind (cells_of w.table t)) e p size is
+
+-- before it becomes one of one word, for what that one points to
+pub shrinking-compared : (w : Setting) (number_of : TypeId → ℕ) (s : source.State) (c : flat.State) (parts : Parts) (depth : ℕ) (t u : TypeId) → IsWellFormed w.table
+    → IsComplete w.table t → IsComplete w.table u → RepeatType w (cells_of w.table u) 0 (length (cells_of w.table u)) t
+    → (e : ℕ → ℕ) (p : PointerSlots) (size : Fixed) → size.value ≡ cured_size w.table w.kind u → (q : Pointer)
+    → IsChecked w number_of s c depth Seq t q e p
+    → flat_holds parts c.memory (UnlessNull p (in_part p size)) e ≡ list_all (holds w s.memory) (null_or_in_bounds (size_of w.table u) q)
+shrinking-compared w number_of s c parts depth t u sound complete target begins e p size is =
+    part-shrinking w number_of s c parts depth t u sound complete target (agree-wide w (cells_of w.table u) t begins) e p size is

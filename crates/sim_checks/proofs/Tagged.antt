@@ -1,6 +1,6 @@
 -- The rows of WILD pointers.
-use Rattle.std.proofs.Common.{◌≡◌, ◌≢◌, ◌∙◌, ◌⊎◌, ⊎_elim, inl, inr, ℕ, zero, suc, ◌+◌, ◌-◌, ◌*◌, ◌/◌, ◌%◌, ◌<◌, ◌≤◌, ◌^◌, ℤ, pos, negsuc, ◌+ℤ◌, ◌-ℤ◌, ◌≤ℤ◌, Bool, true, false, not, ◌&&◌, ◌||◌, List, [], ◌∷◌, length, nat_eq, nat_lt, nat_le, slice_get, slice_index, Option, Some, None, is_none, refl, ap, sym, subst, arith, if◌then◌else◌}
-use Rattle.std.specs.Prelude.{int_le, is_some, ◌==◌}
+use Rattle.std.proofs.Common.{◌≡◌, ◌≢◌, ◌∙◌, ◌⊎◌, ⊎_elim, ℕ, zero, suc, ◌+◌, ◌-◌, ◌*◌, ◌/◌, ◌%◌, ◌<◌, ◌≤◌, ◌^◌, ℤ, pos, negsuc, ◌+ℤ◌, ◌-ℤ◌, ◌≤ℤ◌, Bool, true, false, not, ◌&&◌, ◌||◌, List, length, nat_eq, nat_lt, slice_get, Option, Some, None, is_none, refl, ap, sym, subst, arith, if◌then◌else◌}
+use Rattle.std.specs.Prelude.{is_some, ◌==◌}
 use Rattle.std.specs.Int.{int_rem_euclid}
 use Rattle.std.specs.Ordering.{int_eq}
 use Rattle.std.specs.List.{list_all, range_with_len}
@@ -18,8 +18,7 @@ use Rattle.integers.specs.Operators.{difference_words}
 use Rattle.integers.proofs.SignedLaws.{IsReach, in_area-word, difference-word}
 use Rattle.integers.proofs.WordLaws.{word-below, word-small, word-sum}
 use Rattle.flat_mem.specs.Bytes.{number}
-use Rattle.flat_mem.specs.Placement.{function_address, contents_size, word_count, data_word}
-use Rattle.flat_mem.specs.declared.Area.{Area}
+use Rattle.flat_mem.specs.Placement.{function_address, contents_size, word_count}
 use Rattle.flat_mem.proofs.AreaLaws.{area_size-least}
 use Rattle.flat_mem.proofs.ByteLaws.{number-same}
 use Rattle.wild_tags.specs.Words.{length_at, word_at, touched, touched_count, tag_at, counted}
@@ -33,7 +32,7 @@ use Rattle.src_mem.specs.Checks.{HasBase, InObject, HoldsNone, AreOfOnePart, Are
 use Rattle.src_mem.specs.Checks as conditions
 use Rattle.src_mem.specs.Facts.{IsWildAt, IsSoundMemory}
 use Rattle.src_mem.specs.Outlines.{Outline, outline, outlines_of}
-use Rattle.src_mem.proofs.Outlines.{HasOutline, has-outline}
+use Rattle.src_mem.proofs.Outlines.{has-outline}
 use Rattle.facts_kept.proofs.Holds.{in-bounds}
 use Rattle.cured_code.specs.FlatState as flat
 use Rattle.cured_code.specs.declared.parts.Parts.{Parts}
@@ -41,20 +40,14 @@ use Rattle.check_forms.specs.declared.slots.PointerSlots.{PointerSlots}
 use Rattle.check_forms.specs.declared.slots.Fixed.{Fixed}
 use Rattle.check_forms.specs.Conditions.{IsArea, IsAligned, IsInArea, IsByteInArea, IsWithinArea, Unless, HoldsNoPointer, HoldsPointer, AreOfArea, is_in_area, flat_holds}
 use Rattle.check_forms.specs.Rows.{all_asked, equated, reached, in_area}
-use Rattle.sim_relation.specs.Ground.{Ground, address, function_word, first_word, second_word}
-use Rattle.sim_relation.specs.Objects.{HoldsTagged, HoldsWord, HoldsBy, Apart, area_of, area_by, room_of}
+use Rattle.sim_relation.specs.Ground.{Ground, address, function_word}
+use Rattle.sim_relation.specs.Objects.{HoldsTagged, HoldsWord, HoldsBy, area_of, area_by}
 use Rattle.sim_relation.specs.Related.{Related, ground_of}
 use Rattle.sim_checks.specs.Rows.{IsChecked, AreFunctionsLaid}
 use Rattle.sim_checks.specs.Moving.{all_hold}
 use Rattle.sim_checks.specs.Comparing.{used}
 use Rattle.sim_checks.proofs.Differences.{rem-euclid}
-use Rattle.sim_checks.proofs.Sameness.{eq-true, true-eq, eq-false}
-
-bool-same : (a b : Bool) → (a ≡ true → b ≡ true) → (b ≡ true → a ≡ true) → a ≡ b
-bool-same true true f g = refl
-bool-same true false f g = sym (f refl)
-bool-same false true f g = g refl
-bool-same false false f g = refl
+use Rattle.sim_checks.proofs.Sameness.{bool-same, eq-true, true-eq, eq-false}
 
 alone : (b : Bool) → (b && true) ≡ b
 alone true = refl

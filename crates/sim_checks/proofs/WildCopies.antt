@@ -1,5 +1,5 @@
 -- ESCAPE of the pointers that a copy of bytes with tags brings along: the greatest depth of their bases.
-use Rattle.std.proofs.Common.{◌≡◌, ◌∙◌, ◌⊎◌, ⊎_elim, inl, inr, ℕ, zero, suc, ◌+◌, ◌-◌, ◌*◌, ◌/◌, ◌%◌, ◌<◌, ◌≤◌, ◌^◌, ℤ, pos, Bool, true, false, not, ◌&&◌, List, [], ◌∷◌, map, max, length, nat_eq, nat_le, slice_get, Option, Some, None, is_none, refl, ap, sym, subst, arith, if◌then◌else◌}
+use Rattle.std.proofs.Common.{◌≡◌, ◌∙◌, ◌⊎◌, ⊎_elim, ℕ, zero, suc, ◌+◌, ◌*◌, ◌/◌, ◌%◌, ◌<◌, ◌≤◌, pos, Bool, true, false, not, ◌&&◌, List, [], ◌∷◌, map, max, nat_le, slice_get, Option, Some, None, is_none, refl, ap, sym, subst, arith, if◌then◌else◌}
 use Rattle.std.specs.Int.{int_rem_euclid}
 use Rattle.std.specs.Ordering.{int_eq}
 use Rattle.std.specs.List.{filter, filter_map, cons_option, list_all, range_with_len}
@@ -19,28 +19,22 @@ use Rattle.src_mem.specs.State as source
 use Rattle.src_mem.specs.State.{Setting}
 use Rattle.src_mem.specs.Checks.{InObject, Outlives, Keep, conditions_of, fits_between, holds}
 use Rattle.src_mem.specs.Checks as conditions
-use Rattle.src_mem.specs.Facts.{IsSoundMemory, IsHeldIn, IsSoundObject}
-use Rattle.src_mem.specs.Outlines.{Outline, outlines_of, lives_of}
+use Rattle.src_mem.specs.Facts.{IsSoundMemory, IsSoundObject}
+use Rattle.src_mem.specs.Outlines.{outlines_of, lives_of}
 use Rattle.src_mem.specs.Uses.{pointers_behind, held_from}
 use Rattle.facts_kept.proofs.Holds.{in-bounds}
 use Rattle.cured_code.specs.FlatState as flat
 use Rattle.cured_code.specs.declared.parts.Parts.{Parts}
 use Rattle.check_forms.specs.declared.slots.PointerSlots.{PointerSlots}
 use Rattle.check_forms.specs.Conditions.{AreNoDeeper, flat_holds}
-use Rattle.sim_relation.specs.Ground.{address, second_word}
-use Rattle.sim_relation.specs.Objects.{HoldsTagged, HoldsWord, flat_depth}
+use Rattle.sim_relation.specs.Ground.{address}
+use Rattle.sim_relation.specs.Objects.{HoldsWord, flat_depth}
 use Rattle.sim_relation.specs.Related.{ground_of}
 use Rattle.sim_checks.specs.Rows.{IsChecked, AreFunctionsApart}
 use Rattle.sim_checks.proofs.Differences.{rem-euclid}
 use Rattle.sim_checks.proofs.Escape.{home-depth, wild-depth, ordered-alike}
-use Rattle.sim_checks.proofs.Sameness.{true-eq}
+use Rattle.sim_checks.proofs.Sameness.{bool-same, true-eq}
 use Rattle.sim_checks.proofs.Tagged.{IsTarget, target, there, tag-of}
-
-bool-same : (a b : Bool) → (a ≡ true → b ≡ true) → (b ≡ true → a ≡ true) → a ≡ b
-bool-same true true f g = refl
-bool-same true false f g = sym (f refl)
-bool-same false true f g = g refl
-bool-same false false f g = refl
 
 le-is : (a b : ℕ) → nat_le a b ≡ true → a ≤ b
 le-is a b h = grind (arith, nat_tests, h)

@@ -1,11 +1,10 @@
 -- CAST, FUN, DEPTH, ESCAPE of a return, and BOUNDS of an allocation, compared. What the tables of the cured program say is a premise.
-use Rattle.std.specs.Prelude.{◌≡◌, ◌≢◌, ◌⊎◌, ℕ, suc, ◌+◌, ◌*◌, ◌<◌, ◌≤◌, Bool, true, ◌&&◌, length, nat_eq, nat_lt, nat_le, slice_get, Option, Some, List}
+use Rattle.std.specs.Prelude.{◌≡◌, ◌≢◌, ◌⊎◌, ℕ, suc, ◌+◌, ◌*◌, ◌<◌, ◌≤◌, true, ◌&&◌, length, nat_eq, nat_lt, nat_le, slice_get, Some, List}
 use Rattle.std.specs.List.{list_all}
 use Rattle.cc_base.specs.declared.kind.Kind.{Kind}
-use Rattle.cc_base.specs.declared.kind.Kind.TheVariants.{Safe, Seq, Rtti, Wild}
+use Rattle.cc_base.specs.declared.kind.Kind.TheVariants.{Rtti, Wild}
 use Rattle.cc_base.specs.declared.number.TypeId.{TypeId}
 use Rattle.cc_base.specs.declared.place.Place.{Place}
-use Rattle.c_types.specs.Table.{IsComplete}
 use Rattle.c_types.specs.Layouts.{size_of}
 use Rattle.c_types.specs.Coverage.{covers, of_one_class}
 use Rattle.c_types.specs.Widths.{cured_size}
@@ -26,7 +25,7 @@ use Rattle.check_forms.specs.declared.slots.Fixed.{Fixed}
 use Rattle.check_forms.specs.Conditions as condition
 use Rattle.check_forms.specs.Conditions.{IsNotOwn, Unless, flat_holds}
 use Rattle.check_forms.specs.Rows.{home_slot, allocated}
-use Rattle.sim_relation.specs.Ground.{Ground, address, function_word}
+use Rattle.sim_relation.specs.Ground.{address, function_word}
 use Rattle.sim_relation.specs.Related.{Related, ground_of}
 use Rattle.sim_checks.specs.Rows.{IsChecked, AreFunctionsApart, AreFunctionsLaid}
 use Rattle.sim_checks.specs.Moving.{all_hold}

@@ -7,6 +7,7 @@ use Rattle.cc_base.specs.declared.kind.Kind.TheVariants.{Safe, Seq, Rtti, Wild}
 use Rattle.cc_base.specs.declared.number.TypeId.{TypeId}
 use Rattle.c_types.specs.Table.{IsComplete}
 use Rattle.c_types.specs.Layouts.{size_of}
+use Rattle.c_types.specs.Equality.{cells_of}
 use Rattle.c_types.specs.Widths.{cured_size}
 use Rattle.c_types.specs.Sound.{IsWellFormed}
 use Rattle.flat_mem.specs.Bytes.{IsAccessSize}
@@ -20,7 +21,7 @@ use Rattle.src_mem.specs.Memory.{Object}
 use Rattle.src_mem.specs.State as source
 use Rattle.src_mem.specs.State.{Setting, Defined}
 use Rattle.src_mem.specs.Checks.{NotNull, HasBase, InBounds, Outlives, CanDivide, null_or_in_bounds, holds}
-use Rattle.src_mem.specs.Facts.{IsHeldIn}
+use Rattle.src_mem.specs.Facts.{IsHeldIn, RepeatType}
 use Rattle.cured_code.specs.FlatState as flat
 use Rattle.cured_code.specs.declared.parts.Parts.{Parts}
 use Rattle.check_forms.specs.declared.slots.PointerSlots.{PointerSlots}
@@ -63,12 +64,14 @@ BoundsAreCompared = (w : Setting) (number_of : TypeId → ℕ) (s : source.State
     → IsChecked w number_of s c depth Seq t q e p
     → flat_holds parts c.memory (in_part p size) e ≡ holds w s.memory (InBounds (size_of w.table t) q)
 
--- BOUNDS of a SEQ pointer that becomes one of one word, where it isn't null
+-- BOUNDS of a SEQ pointer that becomes one of one word, where it isn't null: as much has to be there as the new pointer points to, with which the
+-- endless repetition of what the old one points to begins
 abbrev pub ShrinkingIsCompared : Type 0
-ShrinkingIsCompared = (w : Setting) (number_of : TypeId → ℕ) (s : source.State) (c : flat.State) (parts : Parts) (depth : ℕ) (t : TypeId) (q : Pointer)
-    (e : ℕ → ℕ) (p : PointerSlots) (size : Fixed) → IsWellFormed w.table → IsComplete w.table t → size.value ≡ cured_size w.table w.kind t
+ShrinkingIsCompared = (w : Setting) (number_of : TypeId → ℕ) (s : source.State) (c : flat.State) (parts : Parts) (depth : ℕ) (t u : TypeId) (q : Pointer)
+    (e : ℕ → ℕ) (p : PointerSlots) (size : Fixed) → IsWellFormed w.table → IsComplete w.table t → IsComplete w.table u
+    → RepeatType w (cells_of w.table u) 0 (length (cells_of w.table u)) t → size.value ≡ cured_size w.table w.kind u
     → IsChecked w number_of s c depth Seq t q e p
-    → flat_holds parts c.memory (UnlessNull p (in_part p size)) e ≡ list_all (holds w s.memory) (null_or_in_bounds (size_of w.table t) q)
+    → flat_holds parts c.memory (UnlessNull p (in_part p size)) e ≡ list_all (holds w s.memory) (null_or_in_bounds (size_of w.table u) q)
 
 -- the addresses of functions are in no frame
 abbrev pub AreFunctionsApart : Setting → Memory → Type 0

@@ -16,8 +16,8 @@ pub fn null_and_base_are_compared()
     ensures base { BaseIsCompared }
 {}
 
-/// BOUNDS of a SEQ pointer, on its three words and the cured size of what it points to: before a use, and before the pointer becomes
-/// one of one word. A test of one byte has a shorter form with the same value.
+/// BOUNDS of a SEQ pointer, on its three words and a cured size: before a use, of what it points to; before the pointer becomes one of
+/// one word, of what that one points to. A test of one byte has a shorter form with the same value.
 pub fn bounds_are_compared()
     ensures using { BoundsAreCompared }
     ensures shrinking { ShrinkingIsCompared }

@@ -206,7 +206,7 @@ pub record SetsAddress (ctx : Context) (c : flat.Local) (a n : ℕ) (lines : Lin
   pub is : lines ≡ instr ∷ []
   pub runs : (rest : Lines) → run (instr ∷ rest) ctx c ≡ run rest ctx (with_slot a n c)
 
-sets-address : (w : Scene) (g : AreSlots w.slots) (b : Running) (known : Knowledge) (l : code.Local) (c : flat.Local) → Point w g b known l c
+pub sets-address : (w : Scene) (g : AreSlots w.slots) (b : Running) (known : Knowledge) (l : code.Local) (c : flat.Local) → Point w g b known l c
     → (o : Object) (home : NodeId) (t : TypeId) → IsNamed w b o home t → (a : ℕ) (lines : Lines) → Sets (world_of w) (Start o) a lines
     → SetsAddress (context_of w b) c a (address (ground_of w.programs l.state c.state) (object_number b.first o)) lines
 unfolding Line

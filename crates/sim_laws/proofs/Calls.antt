@@ -65,7 +65,7 @@ back p laws b k call enters s t c d v words out there inner result = from-left (
   where
     from-left : Left p b.depth k.function t d → Returned p b k.function s c v (source_left p (suc b.depth) (variables_of k.function) t) words (without_frame d)
     from-left x = record {
-      there = there-on p b s (source_left p (suc b.depth) (variables_of k.function) t) c (without_frame d) out there x.related x.facts (ap older_frames inner.frames) all;
+      there = there-on p b s (source_left p (suc b.depth) (variables_of k.function) t) c (without_frame d) out there x.related x.facts x.laid (ap older_frames inner.frames) all;
       grows = all;
       result = passed-on p b.depth t (source_left p (suc b.depth) (variables_of k.function) t) d (without_frame d) Exact
           (held_result p.whole (result_type p k.function)) v words x.grows result;

@@ -24,6 +24,7 @@ use Rattle.check_forms.specs.Lines.{IsOther}
 use Rattle.check_forms.specs.Rows.{Asked}
 use Rattle.check_forms.specs.RowChecks.{AreChecks, AreChecked, AreAllApart, AreAllHeld, AreSafe, first_false, stopped_by}
 use Rattle.check_forms.proofs.RowLaws.{rows}
+use Rattle.check_forms.proofs.TestLaws.{append-append}
 use Rattle.sim_relation.specs.Points.{Known, Knowledge, Number}
 use Rattle.cure_rules.specs.Slots.{AreSlots, Role, role_number, slot_of, work_of}
 use Rattle.cure_rules.specs.Known.{Gets, held_words}
@@ -33,7 +34,7 @@ use Rattle.sim_laws.specs.Scenes.{Scene, Running, world_of, context_of}
 use Rattle.sim_laws.specs.Points.{Point, IsLasting, Passed}
 use Rattle.sim_laws.specs.Statements.{Lines, CodeOutcome, StatesEndAlike, Match}
 use Rattle.sim_laws.proofs.Points.{unwritten, grows-same, some-held, steady-at, steady-lasting}
-use Rattle.sim_laws.proofs.Guards.{append-append, kept-at, passed-none, passed-then, lasting-apart, lasting-other, role-below, ready, Got, got-number}
+use Rattle.sim_laws.proofs.Guards.{kept-at, passed-none, passed-then, lasting-apart, lasting-other, role-below, ready, Got, got-number}
 use Rattle.sim_laws.proofs.Giving.{Gave, gives-follows}
 
 -- a point at which other working slots are set
@@ -78,7 +79,7 @@ got-spot w g r n a lines (inl h) =
 got-spot w g r n a lines (inr h) = inr h.0
 
 -- setting one leaves the working slots of other roles
-got-spares : (w : Scene) (g : AreSlots w.slots) (b : Running) (c : flat.Local) (r : Role) (n a : ℕ) (lines : Lines) → Gets (world_of w) r (Number n) a lines
+pub got-spares : (w : Scene) (g : AreSlots w.slots) (b : Running) (c : flat.Local) (r : Role) (n a : ℕ) (lines : Lines) → Gets (world_of w) r (Number n) a lines
     → (z : Got w g (context_of w b) lines c a n) (q : Role) → nat_eq (role_number q) (role_number r) ≡ false → (d : ℕ)
     → IsLasting (g.owner d) ⊎ (d ≡ slot_of w.slots q) → slot z.after d ≡ slot c d
 got-spares w g b c r n a lines gets z q other d (inl lasts) = z.passed.others d lasts

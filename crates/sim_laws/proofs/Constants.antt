@@ -52,7 +52,7 @@ named-function w names b f u v found alike = of (names.solved.functions f v foun
           (alike-class (context_in w names 0 no_types) (around_of w b) names.solved v u (turned u v alike));
     }
 
-named-object : (w : Scene) (b : Running) (names : Names w) (blocks : ℕ) (kept : Typing) (o : Object) (home : NodeId) (t : TypeId)
+pub named-object : (w : Scene) (b : Running) (names : Names w) (blocks : ℕ) (kept : Typing) (o : Object) (home : NodeId) (t : TypeId)
     → IsObject (context_in w names blocks kept) o home t → IsNamed w b o home t
 named-object w b names blocks kept o home t (u, found, which) = record {
   planned = record { type = u; node = home };

@@ -29,10 +29,6 @@ get-of (y ∷ xs) (suc k) x h e = get-of xs k x (omega (arith, h)) e
 pub kept-at : (w : Scene) (x : KeptSlot) → Contains w.slots.kept x → (k : ℕ) × (slice_get w.slots.kept k ≡ Some x)
 kept-at w x h = (h.0, get-of w.slots.kept h.0 x h.1 h.2)
 
-pub append-append : (a b d : Lines) → (a ++ b) ++ d ≡ a ++ (b ++ d)
-append-append [] b d = refl
-append-append (i ∷ a) b d = ap (λ (r : Lines). i ∷ r) (append-append a b d)
-
 -- Slots that lines write
 
 pub passed-none : (w : Scene) (g : AreSlots w.slots) (slots : List ℕ) → Passed w g slots slots

@@ -98,7 +98,7 @@ object-held w names b s c same there blocks kept o m t (u, found, named) =
 
 -- What is known, as three-address code has it
 
-abbrev held_type : Option Known → Option HeldType
+abbrev pub held_type : Option Known → Option HeldType
 held_type None = None
 held_type (Some x) = Some x.type
 

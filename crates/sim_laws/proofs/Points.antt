@@ -1,13 +1,15 @@
 -- What is known at a point stays known where nothing of it changes, and behind an instruction that writes.
-use Rattle.std.proofs.Common.{◌≡◌, ℕ, zero, suc, ◌+◌, ◌<◌, ◌≤◌, ◌⊎◌, inl, inr, Bool, true, false, List, ◌∷◌, length, slice_index, Option, Some, refl, ap, sym, subst, ◌∙◌, arith, if◌then◌else◌, nat_eq}
+use Rattle.std.proofs.Common.{◌≡◌, ℕ, zero, suc, ◌+◌, ◌<◌, ◌≤◌, ◌⊎◌, inl, inr, Bool, true, false, List, ◌∷◌, length, slice_get, slice_index, Option, Some, refl, ap, sym, subst, ◌∙◌, arith, if◌then◌else◌, nat_eq}
 use Rattle.std.proofs.lemmas.Bool.Decides.{nat_tests}
 use Rattle.cc_base.specs.declared.kind.Kind.{Kind}
 use Rattle.cc_base.specs.declared.kind.Kind.TheVariants.{Safe, Seq, Rtti, Wild}
 use Rattle.flat_mem.specs.Bytes.{bytes_at}
+use Rattle.flat_mem.specs.Memory as flat_memory
 use Rattle.src_mem.specs.Pointers.{Pointer, Value, Integer, Address}
 use Rattle.src_mem.specs.Memory.{Memory}
 use Rattle.src_mem.specs.State as source
 use Rattle.src_mem.specs.Uses.{home}
+use Rattle.src_mem.specs.Outlines.{lives_of}
 use Rattle.src_mem.specs.Facts.{IsSoundAt}
 use Rattle.cil_form.specs.declared.number.Temp.{Temp}
 use Rattle.cil_form.specs.declared.number.Temp.TheVariants as temp
@@ -24,7 +26,8 @@ use Rattle.sim_relation.specs.Points.{Known, Knowledge, Content, Number, Start, 
 use Rattle.cure_rules.specs.Slots.{AreSlots, Owner, Column, Working, Argument, Nought, Kept}
 use Rattle.cure_rules.specs.Known.{Includes, Leaves, held_words}
 use Rattle.sim_laws.specs.Scenes.{Programs, Scene, Running, setting_of}
-use Rattle.sim_laws.specs.Points.{Holds, Grows, There, Point, IsSteady, AreInColumn, AreKept, Settled, IsSpared, Wrote, IsLasting, Passed, Fits, IsWordFor, ground_of}
+use Rattle.sim_laws.specs.Points.{Holds, Grows, IsLaid, There, Point, IsSteady, AreInColumn, AreKept, Settled, IsSpared, Wrote, IsLasting, Passed, Fits, IsWordFor, ground_of}
+use Rattle.sim_laws.proofs.Laid.{laid-same}
 
 pub weaker : (w : Scene) (g : AreSlots w.slots) (b : Running) (known less : Knowledge) (l : code.Local) (c : flat.Local)
     → Includes known less → Point w g b known l c → Point w g b less l c
@@ -51,6 +54,7 @@ there-more n m first (End o) h q = omega (arith, h, q)
 pub grows-same : (p : Programs) (depth : ℕ) (s t : source.State) (c d : flat.State) → t.memory ≡ s.memory → d.areas ≡ c.areas → Grows p depth s t c d
 grows-same p depth s t c d e f = record {
   more = subst (λ (m : Memory). length s.memory.objects ≤ length m.objects) (sym e) (omega arith);
+  lived = λ k x h live some less. subst (λ (m : Memory). slice_get (lives_of m) k ≡ Some x) e h;
   held = λ k l x v h. subst (λ (m : Memory). Holds p (record t { memory = m }) k x v) (sym e) h;
   words = λ k l x q v h. ap (λ (g : Ground). pointer_words g q v) grounds;
   contents = λ first x h. ap (λ (g : Ground). content_word g first x) grounds;
@@ -63,6 +67,7 @@ grows-same p depth s t c d e f = record {
 pub grows-then : (p : Programs) (depth : ℕ) (s t u : source.State) (c d e : flat.State) → Grows p depth s t c d → Grows p depth t u d e → Grows p depth s u c e
 grows-then p depth s t u c d e g h = record {
   more = (let a = g.more in let b = h.more in omega (arith, a, b));
+  lived = λ k x i live some less. g.lived k x (h.lived k x i live some less) live some less;
   held = λ k l x v i. h.held k l x v (g.held k l x v i);
   words = λ k l x q v i. h.words k l x q v (g.held k l x (Address v) i) ∙ g.words k l x q v i;
   contents = λ first x m. h.contents first x (there-more (length s.memory.objects) (length t.memory.objects) first x g.more m) ∙ g.contents first x m;
@@ -71,6 +76,7 @@ grows-then p depth s t u c d e g h = record {
 pub grows-less : (p : Programs) (depth less : ℕ) (s t : source.State) (c d : flat.State) → less ≤ depth → Grows p depth s t c d → Grows p less s t c d
 grows-less p depth less s t c d h g = record {
   more = g.more;
+  lived = λ k x i live some l. g.lived k x i live some (omega (arith, l, h));
   held = λ k l. g.held k (omega (arith, l, h));
   words = λ k l. g.words k (omega (arith, l, h));
   contents = g.contents;
@@ -78,11 +84,12 @@ grows-less p depth less s t c d h g = record {
 
 -- the states behind an instruction
 pub there-on : (p : Programs) (b : Running) (s t : source.State) (c d : flat.State) → b.outer ≤ b.depth → There p b s c
-    → Related (setting_of p) p.whole.node t d → IsSoundAt (setting_of p) p.sites t.memory b.depth → d.memory.frames ≡ c.memory.frames
+    → Related (setting_of p) p.whole.node t d → IsSoundAt (setting_of p) p.sites t.memory b.depth → IsLaid p t d → d.memory.frames ≡ c.memory.frames
     → Grows p b.depth s t c d → There p b t d
-there-on p b s t c d out h r facts frames grow = record {
+there-on p b s t c d out h r facts laid frames grow = record {
   related = r;
   facts = facts;
+  laid = laid;
   frames = frames ∙ h.frames;
   deep = h.deep;
   made = (let a = h.made in let e = grow.more in omega (arith, a, e));
@@ -90,19 +97,20 @@ there-on p b s t c d out h r facts frames grow = record {
   globals = (let a = h.globals in let e = grow.more in omega (arith, a, e));
   statics = λ k l. h.statics k l ∙ sym (grow.contents 0 (Start (object.Static (record { 0 = k }))) (let a = h.globals in omega (arith, a, l)));
   objects = λ o v u e m. grow.held b.depth (omega arith) (PlaceOf v.node u) (Address (home p.whole.table (object_number b.first o) u)) (h.objects o v u e m);
+  own = λ some k x e live deep. h.own some k x (grow.lived k x e live (omega (arith, some, deep)) (omega (arith, deep))) live deep;
   since = grows-then p b.outer b.start s t b.flat_start c d h.since (grows-less p b.depth b.outer s t c d out grow);
 }
 
--- the same where neither memory nor areas change
+-- the same where neither memory nor areas change, nor the input
 pub there-same : (p : Programs) (b : Running) (s t : source.State) (c d : flat.State) → b.outer ≤ b.depth → There p b s c
-    → Related (setting_of p) p.whole.node t d → t.memory ≡ s.memory → d.areas ≡ c.areas → d.memory.frames ≡ c.memory.frames → There p b t d
-there-same p b s t c d out h r memory areas frames =
-    there-on p b s t c d out h r (subst (λ (m : Memory). IsSoundAt (setting_of p) p.sites m b.depth) (sym memory) h.facts) frames
-    (grows-same p b.depth s t c d memory areas)
+    → Related (setting_of p) p.whole.node t d → t.memory ≡ s.memory → t.input ≡ s.input → d.areas ≡ c.areas → d.memory ≡ c.memory → There p b t d
+there-same p b s t c d out h r memory input areas same =
+    there-on p b s t c d out h r (subst (λ (m : Memory). IsSoundAt (setting_of p) p.sites m b.depth) (sym memory) h.facts)
+    (laid-same p s t c d memory input areas same h.laid) (ap (λ (m : flat_memory.Memory). m.frames) same) (grows-same p b.depth s t c d memory areas)
 
 -- Values in slots
 
-some-words : (k : Kind) → 0 < word_number k
+pub some-words : (k : Kind) → 0 < word_number k
 some-words Safe = omega arith
 some-words Rtti = omega arith
 some-words Seq = omega arith
@@ -299,7 +307,7 @@ related-turned p s c n r = record {
 pub there-turned : (p : Programs) (b : Running) (s : source.State) (c : flat.State) (n : ℕ) → b.outer ≤ b.depth → There p b s c
     → There p b (record s { turns = n }) (record c { turns = n })
 there-turned p b s c n out there =
-    there-same p b s (record s { turns = n }) c (record c { turns = n }) out there (related-turned p s c n there.related) refl refl refl
+    there-same p b s (record s { turns = n }) c (record c { turns = n }) out there (related-turned p s c n there.related) refl refl refl refl
 
 pub turned : (w : Scene) (g : AreSlots w.slots) (b : Running) (known : Knowledge) (l : code.Local) (c : flat.Local) (n : ℕ) → Point w g b known l c
     → Point w g b known (record l { state = record l.state { turns = n } }) (record c { state = record c.state { turns = n } })

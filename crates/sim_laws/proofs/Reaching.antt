@@ -84,7 +84,7 @@ pointed w g b known l c p t n u a sure (x, fact, inr is, place, listed) =
 
 -- Its words, wherever the slots that last are as they were
 
-abbrev head : List ℕ → ℕ
+abbrev pub head : List ℕ → ℕ
 head [] = 0
 head (x ∷ xs) = x
 

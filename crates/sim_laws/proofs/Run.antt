@@ -52,6 +52,7 @@ use Rattle.check_forms.specs.Conditions.{HasRoom}
 use Rattle.check_forms.specs.Rows.{Asked, asked}
 use Rattle.check_forms.specs.RowChecks.{AreChecks, AreChecked, stopped_by}
 use Rattle.check_forms.proofs.RowLaws.{rows}
+use Rattle.check_forms.proofs.TestLaws.{append-append}
 use Rattle.sim_relation.specs.Ground.{function_word}
 use Rattle.sim_relation.specs.Related.{Related}
 use Rattle.sim_relation.specs.Outcomes.{RunAlike}
@@ -69,7 +70,7 @@ use Rattle.sim_laws.specs.Points.{Point}
 use Rattle.sim_laws.specs.Statements.{Lines, CodeOutcome, FlatOutcome, StatesEndAlike, IsPassed, held_result, Match}
 use Rattle.sim_laws.specs.Calls.{AreArgumentsOf, parameter_types, result_type, Returned, Callee, called_from, FrameLaws, InstructionLaws}
 use Rattle.sim_laws.specs.Runs.{programs_of, source_first, first_running, CuredProgramsRunAlike}
-use Rattle.sim_laws.proofs.Guards.{append-append, role-there, Got, got-number, ready}
+use Rattle.sim_laws.proofs.Guards.{role-there, Got, got-number, ready}
 use Rattle.sim_laws.proofs.Control.{follows-list}
 use Rattle.sim_laws.proofs.Returns.{none-at}
 use Rattle.sim_laws.proofs.Calls.{AreCured, calls, called-alike, callee_at, calls_within, source_called}
@@ -122,7 +123,7 @@ record Main (p : Programs) (f : ℕ) (d : function.Function) : Type 0 where
   takes : params_of p.parts (suc f) ≡ 0
   there : suc f < length p.parts.functions
 
-named-none : (ps : List runs.Parameter) → named_arguments ps [] ≡ []
+pub named-none : (ps : List runs.Parameter) → named_arguments ps [] ≡ []
 named-none [] = refl
 named-none (p ∷ ps) = refl
 
@@ -285,7 +286,7 @@ nested-is : nested_limit ≡ 1022
 unfolding nested_limit
 nested-is = refl
 
-start-fits : (parts : Parts) (h : cured.Function) → h.locals ≡ [] → h.charge ≡ 0 → fits (loaded_memory parts) (areas_of h.locals) h.charge ≡ true
+pub start-fits : (parts : Parts) (h : cured.Function) → h.locals ≡ [] → h.charge ≡ 0 → fits (loaded_memory parts) (areas_of h.locals) h.charge ≡ true
 unfolding areas_size
 start-fits parts h none free = fits-start parts (areas_of h.locals) h.charge (rw free (omega arith)) (rw none (omega arith))
 

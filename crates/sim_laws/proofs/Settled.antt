@@ -10,13 +10,16 @@ use Rattle.flat_mem.specs.Placement.{globals_start}
 use Rattle.src_mem.specs.State.{Defined}
 use Rattle.src_mem.specs.Runs.{defined}
 use Rattle.src_mem.proofs.Outlines.{mapped-from, get-mapped}
+use Rattle.cil_form.specs.declared.instr.Instr.{Instr}
 use Rattle.cil_form.specs.declared.instr.Instr.TheVariants as instr
 use Rattle.cil_form.specs.declared.program.Function.{Function}
 use Rattle.cil_form.specs.declared.program.Program.{Program}
 use Rattle.cil_form.specs.Machine.{head_of}
-use Rattle.cil_form.specs.Shape.{IsInShape, IsFunctionInShape, functions_limit, result_of_shape}
+use Rattle.cil_form.specs.Shape.{IsInShape, IsFunctionInShape, context_of, functions_limit, result_of_shape}
 use Rattle.cil_form.specs.Told.{objects_of, IsToldOf, IsSolutionOf}
+use Rattle.cil_form.specs.Typing.{no_types}
 use Rattle.cil_form.proofs.TellsLaws.{function-told, outer-told}
+use Rattle.cil_facts.specs.Held.{IsSolvedFor}
 use Rattle.cil_facts.proofs.Functions.{listed}
 use Rattle.cured_code.specs.declared.parts.Parts.{Parts}
 use Rattle.cured_code.specs.FlatState.{PlacedArea}
@@ -27,11 +30,12 @@ use Rattle.cure_rules.specs.Setting.{IsCuringSet}
 use Rattle.cure_rules.specs.Functions.{area_for}
 use Rattle.cure_rules.specs.Programs.{Numbers, AreCured, whole_of}
 use Rattle.sim_laws.specs.Scenes.{Programs, Running, setting_of, scene_of, first_scene}
+use Rattle.sim_laws.specs.Held.{IsInCode}
 use Rattle.sim_laws.specs.Statements.{AllFollow}
 use Rattle.sim_laws.specs.Runs.{programs_of}
 use Rattle.sim_laws.proofs.Run.{all-at}
-use Rattle.sim_laws.proofs.Shaped.{shaped-in, shaped-first}
-use Rattle.sim_laws.proofs.Names.{Names}
+use Rattle.sim_laws.proofs.Shaped.{Shaped, shaped-in, shaped-first}
+use Rattle.sim_laws.proofs.Names.{Names, context_in}
 use Rattle.sim_laws.proofs.Constants.{set-follows}
 
 module _ (p : Program) (kind : NodeId → Kind) (node : TypeId → ℕ) (numbers : Numbers) (parents : List ℕ) (parts : Parts) (shaped : IsInShape p)
@@ -85,24 +89,37 @@ module _ (p : Program) (kind : NodeId → Kind) (node : TypeId → ℕ) (numbers
   }
 
   -- and in function 0
+  pub solved-first : IsSolvedFor (context_of p) (setting_of both)
+  solved-first = record {
+    table = refl;
+    well_formed = shaped.formed;
+    solution = solution;
+    made = objects_of p;
+    told = told;
+    tells = outer-told p told;
+    functions = of-function;
+  }
+
   pub names-first : (slots : Slots) → Names (first_scene both slots)
   names-first slots = record {
     nodes = p.nodes;
     functions = map (λ (x : Function). x.ty) p.functions;
     result = None;
-    solved = record {
-      table = refl;
-      well_formed = shaped.formed;
-      solution = solution;
-      made = objects_of p;
-      told = told;
-      tells = outer-told p told;
-      functions = of-function;
-    };
+    solved = solved-first;
     laid = laid;
     few = few;
     sizes = cured.sizes;
   }
+
+  -- each instruction is in shape
+  pub shaped-at : (n : ℕ) (f : Function) (found : slice_get p.functions n ≡ Some f) (slots : Slots) (j : Instr) → IsInCode j f.body.0.items
+      → Shaped j (context_in (scene_of both n f slots) (names-in n f found slots) 0 no_types)
+  unfolding names-in
+  shaped-at n f found slots = shaped-in p shaped n f found
+
+  pub shaped-begin : (slots : Slots) (j : Instr) → IsInCode j p.initialisers.0.items → Shaped j (context_in (first_scene both slots) (names-first slots) 0 no_types)
+  unfolding names-first
+  shaped-begin slots = shaped-first p shaped
 
   -- The laws of instructions that set a temporary, for the whole program
   pub set-in : (n : ℕ) (f : Function) → slice_get p.functions n ≡ Some f → (slots : Slots) (g : AreSlots slots) (b : Running)

@@ -27,6 +27,7 @@ use Rattle.cured_code.specs.FlatState as flat
 use Rattle.cured_code.specs.FlatState.{slot, with_slot}
 use Rattle.cured_code.specs.FlatMachine.{run}
 use Rattle.check_forms.specs.Pieces.{Line, Then}
+use Rattle.check_forms.proofs.TestLaws.{append-append}
 use Rattle.sim_relation.specs.Points.{Exact, Low, HoldsAs, Knowledge}
 use Rattle.cure_rules.specs.Slots.{AreSlots, First, Mask, slot_of}
 use Rattle.cure_rules.specs.Checks.{Seat}
@@ -35,7 +36,7 @@ use Rattle.cure_rules.specs.Code.{Blocks}
 use Rattle.sim_laws.specs.Scenes.{Scene, Running, setting_of, world_of, around_of, context_of}
 use Rattle.sim_laws.specs.Points.{Point}
 use Rattle.sim_laws.specs.Statements.{Lines, FlatOutcome, StatesEndAlike, Match, Follows}
-use Rattle.sim_laws.proofs.Guards.{append-append, passed-role, role-there, Got, got-number}
+use Rattle.sim_laws.proofs.Guards.{passed-role, role-there, Got, got-number}
 use Rattle.sim_laws.proofs.Giving.{Gave, gives-follows}
 use Rattle.sim_laws.proofs.Calculations.{Operand, lowly, exactly, integer_type, low-gives, exact-gives}
 use Rattle.sim_laws.proofs.Integers.{width-of}

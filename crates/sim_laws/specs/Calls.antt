@@ -29,7 +29,7 @@ use Rattle.cure_rules.specs.Slots.{Slots, AreSlots}
 use Rattle.cure_rules.specs.Known.{nothing_known}
 use Rattle.cure_rules.specs.Functions.{IsCuredFunction, IsEntered}
 use Rattle.sim_laws.specs.Scenes.{Programs, Scene, Running, Enters, setting_of, world_of, scene_of, first_scene, context_of}
-use Rattle.sim_laws.specs.Points.{There, Grows, Point}
+use Rattle.sim_laws.specs.Points.{IsLaid, There, Grows, Point}
 use Rattle.sim_laws.specs.Statements.{StatesEndAlike, IsPassed, held_at, held_result, Laws}
 
 -- Calls
@@ -117,6 +117,7 @@ source_left p depth variables s = record s {
 pub record Left (p : Programs) (depth : ℕ) (f : Function) (s : source.State) (c : flat.State) : Type 0 where
   pub related : Related (setting_of p) p.whole.node (source_left p (suc depth) (variables_of f) s) (without_frame c)
   pub facts : IsSoundAt (setting_of p) p.sites (source_left p (suc depth) (variables_of f) s).memory depth
+  pub laid : IsLaid p (source_left p (suc depth) (variables_of f) s) (without_frame c)
   pub grows : Grows p depth s (source_left p (suc depth) (variables_of f) s) c (without_frame c)
 
 -- the parameters are stored: behind the prologue the body begins, of whose temporaries nothing is known
@@ -124,28 +125,46 @@ abbrev pub BodyBegins : (p : Programs) (k : Callee p) → Running → Unit {0} �
 BodyBegins p k b u s x c =
     (x ≡ Goes) × Point (scene_in p k) k.is.slots.slots b nothing_known (record { state = s; temps = no_temps }) c
 
+-- where C has room for a call, the stack has
+abbrev pub CallsFit : Programs → Type 0
+CallsFit p = (b : Running) (k : ℕ) (f : Function) (s : source.State) (c : flat.State) → slice_get p.functions k ≡ Some f → There p b s c
+    → call_fits p.parts (suc k) c.memory ≡ has_room (setting_of p) s.memory (suc b.depth) (defined (head_of f))
+
+-- a call that has room begins in states where it has come to
+abbrev pub CallsBegin : Programs → Type 0
+CallsBegin p = (b : Running) (k : Callee p) (call : Calls) (enters : Enters) (s : source.State) (c : flat.State) → There p b s c
+    → has_room (setting_of p) s.memory (suc b.depth) (defined (head_of k.function)) ≡ true
+    → There p (called_from b k call enters s c) (source_entered p (suc b.depth) k s) (flat_entered k c).state
+
+-- the prologue sets the kept slots, and stores the parameters as C does
+abbrev pub ProloguesFollow : Programs → Type 0
+ProloguesFollow p = (b : Running) (k : Callee p) (call : Calls) (enters : Enters) (arguments : List Value) (words : List ℕ) (s : source.State) (c : flat.State)
+    → There p b s c → AreArgumentsOf p b.depth s c (parameter_types k.function) arguments words
+    → There p (called_from b k call enters s c) (source_entered p (suc b.depth) k s) (flat_entered k c).state
+    → Matches (BodyBegins p k (called_from b k call enters s c)) (λ e t f d. StatesEndAlike p e t f d.state)
+    (store_arguments (setting_of p) (length s.memory.objects) (variables_of k.function)
+    (named_arguments (head_of k.function).parameters arguments) (source_entered p (suc b.depth) k s))
+    (run (k.enters.body.sets ++ k.enters.body.stores) (context_of (scene_in p k) (called_from b k call enters s c))
+    (with_slots 0 words (flat_entered k c)))
+
+-- a call ends, and all stays that the call around speaks of
+abbrev pub CallsEnd : Programs → Type 0
+CallsEnd p = (b : Running) (k : Callee p) (call : Calls) (enters : Enters) (s t : source.State) (c d : flat.State)
+    → There p (called_from b k call enters s c) t d → Left p b.depth k.function t d
+
+-- the end of a body gives zeros, which stand for zero of the result's type
+abbrev pub EndsGiveZero : Programs → Type 0
+EndsGiveZero p = (k : Callee p) (depth : ℕ) (s : source.State) (c : flat.State)
+    → IsPassed p depth s c Exact (held_result p.whole (result_type p k.function))
+    (zero_of_function (setting_of p) (shape_at p.whole.table k.function.ty)) (replicate (results_of p.parts (suc k.number)) 0)
+
 -- The laws of frames: of related states and sound memory alone, whatever code runs.
 pub record FrameLaws (p : Programs) : Type 0 where
-  -- where C has room for a call, the stack has
-  pub fits : (b : Running) (k : ℕ) (f : Function) (s : source.State) (c : flat.State) → slice_get p.functions k ≡ Some f → There p b s c
-      → call_fits p.parts (suc k) c.memory ≡ has_room (setting_of p) s.memory (suc b.depth) (defined (head_of f))
-  pub begins : (b : Running) (k : Callee p) (call : Calls) (enters : Enters) (s : source.State) (c : flat.State) → There p b s c
-      → has_room (setting_of p) s.memory (suc b.depth) (defined (head_of k.function)) ≡ true
-      → There p (called_from b k call enters s c) (source_entered p (suc b.depth) k s) (flat_entered k c).state
-  pub prologue : (b : Running) (k : Callee p) (call : Calls) (enters : Enters) (arguments : List Value) (words : List ℕ) (s : source.State) (c : flat.State)
-      → There p b s c → AreArgumentsOf p b.depth s c (parameter_types k.function) arguments words
-      → There p (called_from b k call enters s c) (source_entered p (suc b.depth) k s) (flat_entered k c).state
-      → Matches (BodyBegins p k (called_from b k call enters s c)) (λ e t f d. StatesEndAlike p e t f d.state)
-      (store_arguments (setting_of p) (length s.memory.objects) (variables_of k.function)
-      (named_arguments (head_of k.function).parameters arguments) (source_entered p (suc b.depth) k s))
-      (run (k.enters.body.sets ++ k.enters.body.stores) (context_of (scene_in p k) (called_from b k call enters s c))
-      (with_slots 0 words (flat_entered k c)))
-  pub ends : (b : Running) (k : Callee p) (call : Calls) (enters : Enters) (s t : source.State) (c d : flat.State)
-      → There p (called_from b k call enters s c) t d → Left p b.depth k.function t d
-  -- the value for the end of a body
-  pub none : (k : Callee p) (depth : ℕ) (s : source.State) (c : flat.State)
-      → IsPassed p depth s c Exact (held_result p.whole (result_type p k.function))
-      (zero_of_function (setting_of p) (shape_at p.whole.table k.function.ty)) (replicate (results_of p.parts (suc k.number)) 0)
+  pub fits : CallsFit p
+  pub begins : CallsBegin p
+  pub prologue : ProloguesFollow p
+  pub ends : CallsEnd p
+  pub none : EndsGiveZero p
 
 -- The laws of instructions: in every call of a function in which calls match, and in function 0, which makes no calls but that of `main`.
 pub record InstructionLaws (p : Programs) : Type 0 where

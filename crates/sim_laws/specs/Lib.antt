@@ -5,3 +5,5 @@ pub mod Statements
 pub mod Calls
 pub mod Runs
 pub mod Instructions
+pub mod Plain
+pub mod Frames

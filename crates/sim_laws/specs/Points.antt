@@ -1,14 +1,16 @@
 -- What is true of two states wherever a body has come to, and what of them stays.
-use Rattle.std.specs.Prelude.{◌≡◌, ◌⊎◌, ℕ, suc, ◌+◌, ◌^◌, ◌<◌, ◌≤◌, ⊤, false, List, length, slice_get, slice_index, Option, Some}
+use Rattle.std.specs.Prelude.{◌≡◌, ◌⊎◌, ℕ, suc, ◌+◌, ◌^◌, ◌<◌, ◌≤◌, ⊤, true, false, List, length, slice_get, slice_index, Option, Some}
 use Rattle.cc_base.specs.declared.kind.Kind.{Kind}
 use Rattle.cc_base.specs.declared.number.TypeId.{TypeId}
 use Rattle.c_types.specs.declared.site.Site.{Site}
-use Rattle.flat_mem.specs.Bytes.{IsAccessSize}
-use Rattle.flat_mem.specs.Memory.{newest_addresses}
+use Rattle.flat_mem.specs.Bytes.{IsAccessSize, AreBytes}
+use Rattle.flat_mem.specs.Memory.{newest_addresses, bounds_of}
 use Rattle.src_mem.specs.Pointers.{Pointer, Value, Address}
 use Rattle.src_mem.specs.Memory.{Planned}
 use Rattle.src_mem.specs.State as source
+use Rattle.src_mem.specs.State.{bytes_of}
 use Rattle.src_mem.specs.Uses.{home}
+use Rattle.src_mem.specs.Outlines.{Life, lives_of}
 use Rattle.src_mem.specs.Facts.{IsSoundAt}
 use Rattle.cil_form.specs.declared.number.Temp.{Temp}
 use Rattle.cil_form.specs.declared.number.Object.{Object}
@@ -20,10 +22,13 @@ use Rattle.cil_form.specs.Told.{IsAsked}
 use Rattle.cil_facts.specs.Held.{IsHeldAs}
 use Rattle.cured_code.specs.FlatState as flat
 use Rattle.cured_code.specs.FlatState.{slot}
+use Rattle.cured_code.specs.FlatMachine.{plan_of}
 use Rattle.sim_relation.specs.Ground.{Ground, address, pointer_words}
 use Rattle.sim_relation.specs.Related as relation
 use Rattle.sim_relation.specs.Related.{Related}
 use Rattle.sim_relation.specs.Points.{Known, Knowledge, Content, KeptSlot, StandsFor, IsThere, object_number, content_word}
+use Rattle.sim_checks.specs.Rows.{AreFunctionsLaid}
+use Rattle.sim_memory.specs.Laws.{AreBelowHeap}
 use Rattle.cure_rules.specs.Slots.{AreSlots, Owner, Column, Working, Argument, Nought, Kept}
 use Rattle.cure_rules.specs.Known.{held_words}
 use Rattle.sim_laws.specs.Scenes.{Programs, Scene, Running, setting_of}
@@ -37,9 +42,11 @@ abbrev pub Holds : Programs → source.State → ℕ → HeldType → Value → 
 Holds p s depth x v = IsHeldAs (setting_of p) p.sites s.memory depth x v
 
 -- From one pair of states to another, all stays that temporaries and kept slots of calls of this depth and less speak of: no object is gone,
--- what is held may be held, with the same words, and what a kept slot holds is the same.
+-- what is held may be held, with the same words, and what a kept slot holds is the same. What lives of these calls' variables lived before:
+-- no new variable is one of theirs.
 pub record Grows (p : Programs) (depth : ℕ) (s t : source.State) (c d : flat.State) : Type 0 where
   pub more : length s.memory.objects ≤ length t.memory.objects
+  pub lived : (k : ℕ) (x : Life) → slice_get (lives_of t.memory) k ≡ Some x → x.live ≡ true → 0 < x.depth → x.depth ≤ depth → slice_get (lives_of s.memory) k ≡ Some x
   pub held : (e : ℕ) → e ≤ depth → (x : HeldType) (v : Value) → Holds p s e x v → Holds p t e x v
   pub words : (e : ℕ) → e ≤ depth → (x : HeldType) (k : Kind) (q : Pointer) → Holds p s e x (Address q)
       → pointer_words (ground_of p t d) k q ≡ pointer_words (ground_of p s c) k q
@@ -55,12 +62,26 @@ planned_at statics variables (object.Variable k) = slice_get variables k.0
 abbrev pub NamesAlike : List Site → TypeId → TypeId → Type 0
 NamesAlike sites t u = (t ≡ u) ⊎ AreDeclaredAlike sites t u
 
--- The states wherever a call has come to: they are related, and C's memory is sound; the frames are those with which the call began, one more
--- than its depth; the areas of its variables are those of its frame, those of the static objects stand where they were laid; each object that code
--- may name is a place of each type that it is named with; and since the call began all has stayed that calls further out speak of.
+-- What is so in a whole run, beside what is related: the flat memory has the bounds of the program's plan; no block ends behind the place where
+-- the next one begins; functions lie before all areas, in no frame, and the word before each is 0; and the input consists of bytes.
+pub record IsLaid (p : Programs) (s : source.State) (c : flat.State) : Type 0 where
+  pub bounds : c.memory.bounds ≡ bounds_of (plan_of p.parts)
+  pub heap : AreBelowHeap (setting_of p) p.whole.node s c
+  pub functions : AreFunctionsLaid (setting_of p) p.whole.node s c
+  pub input : AreBytes (bytes_of s.input)
+
+-- what lives and was made in the call is one of these variables
+abbrev pub AreOwn : ℕ → ℕ → ℕ → List Life → Type 0
+AreOwn depth first count lives = (k : ℕ) (x : Life) → slice_get lives k ≡ Some x → x.live ≡ true → x.depth ≡ depth → (first ≤ k) × (k < first + count)
+
+-- The states wherever a call has come to: they are related, C's memory is sound, and all is laid as in the whole run; the frames are those with
+-- which the call began, one more than its depth; the areas of its variables are those of its frame, those of the static objects stand where they
+-- were laid; each object that code may name is a place of each type that it is named with; what a function has made and lives is one of its
+-- variables; and since the call began all has stayed that calls further out speak of.
 pub record There (p : Programs) (b : Running) (s : source.State) (c : flat.State) : Type 0 where
   pub related : Related (setting_of p) p.whole.node s c
   pub facts : IsSoundAt (setting_of p) p.sites s.memory b.depth
+  pub laid : IsLaid p s c
   pub frames : c.memory.frames ≡ b.frames
   pub deep : length b.frames ≡ suc b.depth
   pub made : b.first + length b.variables ≤ length s.memory.objects
@@ -69,6 +90,7 @@ pub record There (p : Programs) (b : Running) (s : source.State) (c : flat.State
   pub statics : (k : ℕ) → k < length p.whole.addresses → slice_index p.whole.addresses k ≡ address (ground_of p s c) k
   pub objects : (o : Object) (v : Planned) (t : TypeId) → planned_at p.whole.statics b.variables o ≡ Some v → NamesAlike p.sites v.type t
       → Holds p s b.depth (PlaceOf v.node t) (Address (home p.whole.table (object_number b.first o) t))
+  pub own : 0 < b.depth → AreOwn b.depth b.first (length b.variables) (lives_of s.memory)
   pub since : Grows p b.outer b.start s b.flat_start c
 
 -- a slot that writing another temporary leaves: in the column of the temporary, or kept

@@ -4,6 +4,8 @@
 
 ghost use Rattle.sim_laws.specs.Instructions.{ConstantsFollow, FirstConstantsFollow, CalculationsFollow};
 ghost use Rattle.sim_laws.specs.Runs.{CuredProgramsRunAlike};
+ghost use Rattle.sim_laws.specs.Calls.{CallsFit, CallsBegin, CallsEnd, EndsGiveZero};
+ghost use Rattle.sim_laws.specs.Frames.{OfCuredPrograms, PlainProgramsRunAlike};
 
 /// A conditional theorem: a cured program runs as its three-address code, for every input and every number of turns, with the same ending,
 /// output and bytes read, faithful accesses and calls, and bytes that stand for the memory, where three things hold of the program: each
@@ -20,4 +22,23 @@ pub fn constants_and_calculations_follow()
     ensures constants { ConstantsFollow }
     ensures first { FirstConstantsFollow }
     ensures calculations { CalculationsFollow }
+{}
+
+/// Frames of every cured program of a program in shape whose sites are told, under kinds that are a solution for them: the stack has room for a
+/// call exactly where C has; a call that has room begins, and one that is over ends, in related states where all has stayed that the calls
+/// around speak of; and the end of a body gives zero of the result's type. That a prologue stores its parameters is not said here.
+pub fn frames_follow()
+    ensures fits { OfCuredPrograms CallsFit }
+    ensures begins { OfCuredPrograms CallsBegin }
+    ensures ends { OfCuredPrograms CallsEnd }
+    ensures none { OfCuredPrograms EndsGiveZero }
+{}
+
+/// The cured program of a plain program runs as its three-address code, for every input of bytes and every number of turns: this has no premise
+/// on instructions, frames or the start. A plain program has no static objects, its functions take nothing, and its code is of constants,
+/// addresses, `&` of a place as a SAFE pointer, calculations, conversions of integers, loads and stores of integers and pointers through pointers
+/// that aren't WILD, stores of integers into parts of objects that are named, `free`, `getchar`, `putchar`, `exit`, control, and the return of
+/// nothing or of an integer.
+pub fn plain_programs_run_alike()
+    ensures { PlainProgramsRunAlike }
 {}

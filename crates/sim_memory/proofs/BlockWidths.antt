@@ -1,9 +1,7 @@
 -- How many bytes a block takes once it is cured.
-use Rattle.std.proofs.Common.{◌≡◌, ◌∙◌, ℕ, zero, suc, ◌+◌, ◌-◌, ◌*◌, ◌/◌, ◌<◌, ◌≤◌, ◌%◌, ℤ, pos, ◌+ℤ◌, Bool, true, false, List, [], ◌∷◌, length, replicate, slice_get, Some, refl, ap, sym, subst, arith, if◌then◌else◌}
-use Rattle.std.specs.Prelude.{slice_index_or, ◌*ℤ◌, ◌==◌}
-use Rattle.std.specs.Int.{int_div_euclid}
-use Rattle.std.proofs.lemmas.Int.{ints}
-use Rattle.std.proofs.lemmas.Nat.{div-mul-add, mod-mul-add}
+use Rattle.std.proofs.Common.{◌≡◌, ◌∙◌, ℕ, zero, suc, ◌+◌, ◌*◌, ◌<◌, ◌≤◌, ◌%◌, false, List, [], ◌∷◌, length, replicate, slice_get, Some, refl, ap, sym, arith}
+use Rattle.std.specs.Prelude.{slice_index_or}
+use Rattle.std.proofs.lemmas.Nat.{mod-mul-add}
 use Rattle.std.proofs.lemmas.Option.{slice_get-get_or, slice_get_within}
 use Rattle.cc_base.specs.declared.kind.Kind.{Kind}
 use Rattle.cc_base.specs.declared.number.TypeId.{TypeId}
@@ -13,7 +11,7 @@ use Rattle.c_types.specs.Layouts.{size_of}
 use Rattle.c_types.specs.Cells.{Cell, raw, pointer, mixed, incomplete, holds_pointer}
 use Rattle.c_types.specs.Equality.{cells_of, repeated_cell}
 use Rattle.c_types.specs.Sound.{IsWellFormed}
-use Rattle.c_types.specs.Widths.{kind_width, cell_width, before, width_of, cured_size}
+use Rattle.c_types.specs.Widths.{cell_width, before, width_of, cured_size}
 use Rattle.type_laws.proofs.Widths.{before-suc}
 use Rattle.src_mem.specs.Memory.{block_cells}
 use Rattle.src_mem.specs.State.{Setting}

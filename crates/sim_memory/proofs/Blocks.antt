@@ -1,22 +1,20 @@
 -- A block is made.
-use Rattle.std.proofs.Common.{◌≡◌, ◌≢◌, ◌∙◌, ◌⊎◌, ⊎_elim, inl, inr, ℕ, zero, suc, ◌+◌, ◌-◌, ◌*◌, ◌/◌, ◌%◌, ◌<◌, ◌≤◌, ◌^◌, Bool, true, false, ◌&&◌, List, [], ◌∷◌, ◌++◌, map, length, replicate, slice_get, slice_index, Option, Some, None, refl, ap, sym, subst, arith, nat_eq, nat_le}
+use Rattle.std.proofs.Common.{◌≡◌, ◌≢◌, ◌∙◌, ◌⊎◌, ⊎_elim, inl, inr, ℕ, zero, suc, ◌+◌, ◌-◌, ◌*◌, ◌/◌, ◌%◌, ◌<◌, ◌≤◌, ◌^◌, Bool, true, false, ◌&&◌, List, [], ◌∷◌, ◌++◌, map, length, replicate, slice_get, slice_index, Some, None, refl, ap, sym, subst, arith, nat_eq, nat_le}
 use Rattle.std.specs.Prelude.{IsTrue}
 use Rattle.std.specs.Int.{bit_at}
 use Rattle.std.proofs.lemmas.Bool.Decides.{nat_tests}
 use Rattle.std.proofs.lemmas.List.{length-append, length-replicate}
-use Rattle.std.proofs.lemmas.Option.{slice_get_within}
 use Rattle.cc_base.specs.declared.kind.Kind.{Kind}
 use Rattle.cc_base.specs.declared.kind.Kind.TheVariants.{Safe, Seq, Rtti, Wild}
 use Rattle.cc_base.specs.declared.number.TypeId.{TypeId}
 use Rattle.cc_base.specs.declared.number.NodeId.{NodeId}
 use Rattle.c_types.specs.declared.site.Site.{Site}
 use Rattle.c_types.specs.Cells.{Cell, AreOrdered}
-use Rattle.c_types.specs.Widths.{before, width_of}
 use Rattle.c_types.proofs.OrderedPointers.{get_back, Which, old, new, which}
 use Rattle.flat_mem.specs.declared.Area.{Area}
 use Rattle.flat_mem.specs.Bytes.{number}
 use Rattle.flat_mem.specs.Placement.{contents_size, area_size, first_word, word_count, data_word, tag_byte, tagged_size}
-use Rattle.flat_mem.specs.Memory.{Memory, block_fits, block_address, block_made, next_frame}
+use Rattle.flat_mem.specs.Memory.{block_fits, block_address, block_made, next_frame}
 use Rattle.flat_mem.proofs.AreaLaws.{length-area_made, area_size-least}
 use Rattle.flat_mem.proofs.BlockLaws.{IsNewBlock, block-new}
 use Rattle.flat_mem.proofs.FrameLaws.{depth_in-past}
@@ -35,7 +33,7 @@ use Rattle.cured_code.specs.FlatMachine as machine
 use Rattle.sim_relation.specs.Ground.{Ground, ground, address, address_in}
 use Rattle.sim_relation.specs.Objects.{Holds, HoldsBy, HoldsWord, Lies, Apart, area_of, area_by, room_of, flat_depth}
 use Rattle.sim_relation.specs.Related.{Related, ground_of}
-use Rattle.sim_relation.proofs.Growth.{AllThere, holds-grow, address-grow, area-grow, images-grow}
+use Rattle.sim_relation.proofs.Growth.{holds-grow, address-grow, area-grow, images-grow}
 use Rattle.sim_relation.proofs.Kept.{holds-agree, untagged-holds}
 use Rattle.sim_relation.proofs.Room.{area-room, all-there}
 use Rattle.sim_memory.specs.Laws.{AreBelowHeap, plain_area}
@@ -85,7 +83,7 @@ pub tagged-blocks-fit-alike : (w : Setting) (number_of : TypeId → ℕ) (s : so
 tagged-blocks-fit-alike w number_of s c size cells r ordered sized limit end =
     fit-alike w number_of s c size (tagged_area size) r (area-room w.kind Wild size cells ordered sized) limit end
 
-index-zero : (n i : ℕ) → slice_index (replicate n 0) i ≡ 0
+pub index-zero : (n i : ℕ) → slice_index (replicate n 0) i ≡ 0
 index-zero zero i = refl
 index-zero (suc n) zero = refl
 index-zero (suc n) (suc i) = index-zero n i

@@ -1,12 +1,9 @@
 -- An object without tags is cleared.
-use Rattle.std.proofs.Common.{◌≡◌, ◌≢◌, ◌∙◌, ◌⊎◌, ⊎_elim, inl, inr, ℕ, ◌+◌, ◌-◌, ◌<◌, ◌≤◌, Bool, true, List, length, slice_get, slice_index, Option, Some, None, refl, ap, sym, subst, arith, nat_eq, nat_le, ◌||◌}
-use Rattle.std.proofs.lemmas.Bool.Decides.{nat_tests}
-use Rattle.cc_base.specs.declared.kind.Kind.{Kind}
+use Rattle.std.proofs.Common.{◌≡◌, ◌≢◌, ◌∙◌, ⊎_elim, inl, inr, ℕ, ◌+◌, ◌≤◌, Bool, true, List, length, slice_get, Option, Some, refl, ap, arith}
 use Rattle.cc_base.specs.declared.kind.Kind.TheVariants.{Wild}
 use Rattle.cc_base.specs.declared.number.TypeId.{TypeId}
 use Rattle.c_types.specs.Widths.{before, width_of}
-use Rattle.runs.specs.Outcome.{Done, allowed, leaves}
-use Rattle.runs.specs.Control.{Goes}
+use Rattle.runs.specs.Outcome.{allowed, leaves}
 use Rattle.flat_mem.specs.Bytes.{zeroed}
 use Rattle.flat_mem.specs.Placement.{contents_size}
 use Rattle.flat_mem.proofs.ByteLaws.{length-zeroed, zeroed-bytes, get-zeroed_inside, get-zeroed_other}
@@ -26,17 +23,15 @@ use Rattle.sim_relation.specs.Objects.{HoldsTyped, area_of}
 use Rattle.sim_relation.specs.Related.{Related, ground_of}
 use Rattle.sim_relation.proofs.Changes.{related-change}
 use Rattle.sim_relation.proofs.Kept.{typed-holds, untagged-holds, typed-contents}
-use Rattle.sim_relation.proofs.Places.{image-typed}
+use Rattle.sim_relation.proofs.Places.{image-typed, in_list}
 use Rattle.sim_memory.specs.Found.{GoOnAlike}
+use Rattle.sim_memory.proofs.Staying.{stays-change}
 use Rattle.sim_memory.proofs.Zeros.{zeros-hold}
-
-in_list : (a m n : ℕ) → a + m ≤ n → (nat_eq m 0 || nat_le (a + m) n) ≡ true
-in_list a m n i = grind (arith, nat_tests)
 
 pub objects-cleared : (w : Setting) (number_of : TypeId → ℕ) (k : ℕ) (o : Object) (s : source.State) (x : Context) (a n : ℕ) (c : flat.Local)
     → slice_get s.memory.objects k ≡ Some o → o.live ≡ true → w.kind o.node ≢ Wild → length o.cells ≡ o.size → Related w number_of s c.state
     → slot c a ≡ address (ground_of w number_of s c.state) k → n ≡ width_of w.kind o.cells
-    → GoOnAlike w number_of c (clear k s) (act (instr.Zero a n) x c) tt c.slots
+    → GoOnAlike w number_of s c (clear k s) (act (instr.Zero a n) x c) tt c.slots
 objects-cleared w number_of k o s x a n c found live plain celled r here wide = record {
   next = with_object k (cleared o) (source.touched k 0 o.size s);
   after = accessed (slot c a) n (zeroed n bytes (slot c a)) c;
@@ -45,8 +40,8 @@ objects-cleared w number_of k o s x a n c found live plain celled r here wide = 
   flat_goes = ap (λ (b : Bool). allowed b (Trap x.function) (goes (λ d. accessed (slot d a) n (zeroed n d.state.memory.bytes (slot d a)) d)) c)
       (in_list (slot c a) n (length c.state.memory.bytes) (let h = inside in let z = most in omega (arith, h, z, here, wide)));
   slots_are = refl;
-  areas = refl;
-  frames = refl;
+  stays = stays-change w number_of s (with_object k (cleared o) (source.touched k 0 o.size s)) c.state (accessed (slot c a) n (zeroed n bytes (slot c a)) c).state
+      k o (cleared o) found live refl refl refl refl refl refl (λ j l. get-zeroed_other n bytes (slot c a) j (inl (omega (arith, here, l))));
   related = related-change w number_of s c.state k o (cleared o) (zeroed n bytes (slot c a)) (record { object = k; offset = 0; size = o.size })
       (record { at = slot c a; size = n }) r found live refl (length-zeroed n bytes (slot c a)) (zeroed-bytes n bytes (slot c a) r.sound.bytes)
       (λ j z. get-zeroed_other n bytes (slot c a) j (⊎_elim (λ m. inl (omega (arith, here, m))) (λ m. inr (let u = most in omega (arith, here, m, u, wide))) z))

@@ -1,6 +1,6 @@
 -- A struct or union is copied between objects without tags.
-use Rattle.std.proofs.Common.{◌≡◌, ◌≢◌, ◌∙◌, ◌⊎◌, ⊎_elim, inl, inr, ℕ, zero, suc, ◌+◌, ◌-◌, ◌*◌, ◌<◌, ◌≤◌, Bool, true, false, ◌&&◌, ◌||◌, List, [], ◌∷◌, length, nat_eq, nat_le, slice_get, slice_index, Option, Some, None, refl, ap, sym, subst, arith, if◌then◌else◌}
-use Rattle.std.specs.Prelude.{slice_index_or, ◌==◌}
+use Rattle.std.proofs.Common.{◌≡◌, ◌≢◌, ◌∙◌, ◌⊎◌, ⊎_elim, inl, inr, ℕ, zero, suc, ◌+◌, ◌-◌, ◌*◌, ◌<◌, ◌≤◌, Bool, true, false, ◌&&◌, List, ◌∷◌, length, nat_le, slice_get, slice_index, Option, Some, None, refl, ap, sym, subst, arith, if◌then◌else◌}
+use Rattle.std.specs.Prelude.{slice_index_or}
 use Rattle.std.proofs.lemmas.Bool.Decides.{nat_tests}
 use Rattle.std.proofs.lemmas.Option.{slice_get-get_or, slice_get_within}
 use Rattle.cc_base.specs.declared.kind.Kind.{Kind}
@@ -13,24 +13,23 @@ use Rattle.c_types.specs.Cells.{Cell, raw, pointer, mixed, incomplete, AreOrdere
 use Rattle.c_types.specs.Equality.{cells_of, physically_equal}
 use Rattle.c_types.specs.Flows.{CellsAgree}
 use Rattle.c_types.specs.Sound.{IsWellFormed}
-use Rattle.c_types.specs.Widths.{cell_width, kind_width, before, cured_size}
+use Rattle.c_types.specs.Widths.{kind_width, before, cured_size}
 use Rattle.c_types.proofs.Cells.{length_cells}
 use Rattle.c_types.proofs.OrderedPointers.{cells_ordered, pointer_bytes}
 use Rattle.type_laws.proofs.Widths.{before-suc, before-mono, before-next, before-behind}
 use Rattle.runs.specs.Outcome.{Done, allowed}
-use Rattle.runs.specs.Control.{Goes}
 use Rattle.flat_mem.specs.Bytes.{number, bytes_at, written, moved}
 use Rattle.flat_mem.specs.Placement.{contents_size}
 use Rattle.flat_mem.proofs.ByteLaws.{length-bytes_at, length-written, length-moved, get-moved_other, get-moved_inside, get-written_other, get-written_inside, get-bytes_at, number-moved, number-moved_apart, moved-bytes}
-use Rattle.src_mem.specs.Pointers.{Pointer, At}
-use Rattle.src_mem.specs.Memory.{Object, touches, untouched, with_copied, with_copy, pointer_or_null}
+use Rattle.src_mem.specs.Pointers.{Pointer}
+use Rattle.src_mem.specs.Memory.{Object, untouched, with_copied, with_copy, pointer_or_null}
 use Rattle.src_mem.specs.State as source
 use Rattle.src_mem.specs.State.{Setting, given}
 use Rattle.src_mem.specs.Primitives.{Spot, spot, with_object, copy}
 use Rattle.src_mem.specs.Outlines.{outline}
 use Rattle.src_mem.specs.Facts.{HoldType}
 use Rattle.src_mem.proofs.Outlines.{get-mapped}
-use Rattle.src_mem.proofs.Spots.{IsRight, spot-right}
+use Rattle.src_mem.proofs.Spots.{spot-right}
 use Rattle.cured_code.specs.declared.instr.Instr.TheVariants as instr
 use Rattle.cured_code.specs.FlatState as flat
 use Rattle.cured_code.specs.FlatState.{slot, words_at, copied, is_in_list, Trap, goes}
@@ -43,8 +42,9 @@ use Rattle.sim_relation.proofs.Bounds.{agree-width}
 use Rattle.sim_relation.proofs.Changes.{related-change}
 use Rattle.sim_relation.proofs.Integers.{not-touched}
 use Rattle.sim_relation.proofs.Kept.{typed-holds, untagged-holds, typed-contents, pointer-inside, words-width}
-use Rattle.sim_relation.proofs.Places.{image-typed, images-append}
+use Rattle.sim_relation.proofs.Places.{image-typed, images-append, in_list}
 use Rattle.sim_memory.specs.Found.{IsFound, GoOnAlike}
+use Rattle.sim_memory.proofs.Staying.{stays-change}
 use Rattle.sim_memory.proofs.Loading.{right-found}
 
 -- Words that are moved
@@ -71,7 +71,7 @@ module _ (w : Setting) (sound : IsWellFormed w.table) (t : TypeId) where
   ts = cells_of w.table t
 
   -- the widths are those of the type
-  before-held : (cells : List Cell) (at high : ℕ) → HoldType w cells at high t → (j : ℕ) → j ≤ length (cells_of w.table t)
+  pub before-held : (cells : List Cell) (at high : ℕ) → HoldType w cells at high t → (j : ℕ) → j ≤ length (cells_of w.table t)
       → before w.kind cells (at + j) ≡ before w.kind cells at + before w.kind (cells_of w.table t) j
   before-held cells at high h zero l = let e : at + 0 ≡ at = omega arith in ap (before w.kind cells) e ∙ (let z : before w.kind cells at ≡ before w.kind cells at + 0 = omega arith in z)
   before-held cells at high h (suc j) l =
@@ -305,9 +305,6 @@ copy-holds w sound t g kinds bytes home house o p at high to end some h k from i
 
 -- Both machines
 
-in_list : (a m n : ℕ) → a + m ≤ n → (nat_eq m 0 || nat_le (a + m) n) ≡ true
-in_list a m n i = grind (arith, nat_tests)
-
 pub copy-right : (n : ℕ) (from to : Kind) (s : source.State) (p q : Pointer) (x y : Spot) → spot from s.memory.objects p n ≡ Some x → spot to s.memory.objects q n ≡ Some y
     → copy n from p to q s ≡ Done tt (with_object y.number (with_copy n x.object x.at y.at y.object) (source.touched y.number y.at n (source.touched x.number x.at n s)))
 copy-right n from to s p q x y e f =
@@ -319,7 +316,7 @@ copy-right n from to s p q x y e f =
 pub structs-copied : (w : Setting) (number_of : TypeId → ℕ) (from to : Kind) (t : TypeId) (p q : Pointer) (s : source.State) (x : Context) (a b m : ℕ) (c : flat.Local)
     → IsWellFormed w.table → IsComplete w.table t → from ≢ Wild → to ≢ Wild → Related w number_of s c.state
     → IsFound w number_of s c.state t p (slot c b) → IsFound w number_of s c.state t q (slot c a) → m ≡ cured_size w.table w.kind t
-    → GoOnAlike w number_of c (copy (size_of w.table t) from p to q s) (act (instr.Move a b m) x c) tt c.slots
+    → GoOnAlike w number_of s c (copy (size_of w.table t) from p to q s) (act (instr.Move a b m) x c) tt c.slots
 structs-copied w number_of from to t p q s x a b m c sound complete plain typed r f h wide = record {
   next = with_object h.location.object new (source.touched h.location.object h.at n (source.touched f.location.object f.at n s));
   after = copied m (slot c a) (slot c b) (moved m bytes (slot c a) (slot c b)) c;
@@ -332,8 +329,9 @@ structs-copied w number_of from to t p q s x a b m c sound complete plain typed 
   flat_goes = ap (λ (y : Bool). allowed y (Trap x.function) (goes (λ d. copied m (slot d a) (slot d b) (moved m d.state.memory.bytes (slot d a) (slot d b)) d)) c)
       (both (is_in_list c.state (slot c a) m) (is_in_list c.state (slot c b) m) (in_list (slot c a) m (length bytes) target-inside) (in_list (slot c b) m (length bytes) source-inside));
   slots_are = refl;
-  areas = refl;
-  frames = refl;
+  stays = stays-change w number_of s (with_object h.location.object new (source.touched h.location.object h.at n (source.touched f.location.object f.at n s))) c.state
+      (copied m (slot c a) (slot c b) (moved m bytes (slot c a) (slot c b)) c).state h.location.object h.object new h.found h.live refl refl refl refl refl refl
+      (λ j l. get-moved_other m bytes (slot c a) (slot c b) j (outside j (inl l)));
   related = related-change w number_of (source.touched f.location.object f.at n s) (flat.touched (slot c b) m c.state) h.location.object h.object new
       (moved m bytes (slot c a) (slot c b)) (record { object = h.location.object; offset = h.at; size = n }) (record { at = slot c a; size = m })
       read h.found h.live refl (length-moved m bytes (slot c a) (slot c b)) (moved-bytes m bytes (slot c a) (slot c b) r.sound.bytes)

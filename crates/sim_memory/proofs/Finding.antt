@@ -1,5 +1,5 @@
 -- A held place is found: its first word is the address of the byte.
-use Rattle.std.proofs.Common.{◌≡◌, ◌≢◌, ◌∙◌, ℕ, ◌+◌, ◌-◌, ◌<◌, ◌≤◌, ◌^◌, ℤ, pos, ◌+ℤ◌, ◌-ℤ◌, Bool, true, false, length, slice_get, Option, Some, refl, ap, sym, subst, arith, if◌then◌else◌}
+use Rattle.std.proofs.Common.{◌≡◌, ◌≢◌, ◌∙◌, ℕ, ◌+◌, ◌-◌, ◌<◌, ◌≤◌, ℤ, pos, ◌+ℤ◌, ◌-ℤ◌, Bool, true, false, length, slice_get, Option, Some, refl, ap, sym, subst, arith, if◌then◌else◌}
 use Rattle.std.proofs.lemmas.Int.{ints}
 use Rattle.cc_base.specs.declared.kind.Kind.{Kind}
 use Rattle.cc_base.specs.declared.kind.Kind.TheVariants.{Safe, Seq, Rtti, Wild}
@@ -62,6 +62,11 @@ module _ (w : Setting) (number_of : TypeId → ℕ) (s : source.State) (c : flat
   word-is t l x =
       place-is l.object (natural l.offset) x.object x.located.found
       ∙ ap (λ i. address g l.object + before w.kind x.object.cells (natural i)) x.stands.offset
+
+  -- a place in an object without tags is found, whatever pointer leads there
+  pub typed-found : Related w number_of s c → (depth : ℕ) (t : TypeId) (l : Location) (x : IsTypedPlace w (outlines_of s.memory) t l) → LivesAt (lives_of s.memory) depth l.object
+      → IsFound w number_of s c t (At l) (place g l.object (natural l.offset))
+  typed-found r depth t l x lives = spot-of depth t l x lives (place g l.object (natural l.offset)) (word-is t l x)
 
   -- the first word of a SEQ pointer that stands in its part
   module _ (sound : IsWellFormed w.table) (t : TypeId) (l : Location) (v : IsSequenceAt w (outlines_of s.memory) t l) where

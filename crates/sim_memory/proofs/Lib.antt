@@ -1,4 +1,5 @@
 pub mod Words
+pub mod Staying
 pub mod Finding
 pub mod Loading
 pub mod Storing
@@ -12,3 +13,4 @@ pub mod WildStores
 pub mod WildIntegers
 pub mod WildClears
 pub mod WildMoves
+pub mod WildPlain

@@ -1,6 +1,5 @@
 -- Loads of what was found: both machines read the same, and the states stay related.
-use Rattle.std.proofs.Common.{◌≡◌, ◌≢◌, ◌∙◌, inl, inr, ℕ, zero, suc, ◌+◌, ◌*◌, ◌<◌, ◌≤◌, ◌^◌, ℤ, pos, Bool, true, List, [], ◌∷◌, length, replicate, slice_get, slice_index, slice_set, Option, Some, refl, ap, sym, subst, arith, nat_eq, nat_le, ◌||◌}
-use Rattle.std.proofs.lemmas.Bool.Decides.{nat_tests}
+use Rattle.std.proofs.Common.{◌≡◌, ◌≢◌, ◌∙◌, inl, inr, ℕ, zero, suc, ◌+◌, ◌*◌, ◌<◌, ◌≤◌, ◌^◌, pos, Bool, true, List, [], length, replicate, slice_get, slice_set, Option, Some, refl, ap, sym, subst, arith}
 use Rattle.cc_base.specs.declared.kind.Kind.{Kind}
 use Rattle.cc_base.specs.declared.kind.Kind.TheVariants.{Safe, Seq, Rtti, Wild}
 use Rattle.cc_base.specs.declared.number.TypeId.{TypeId}
@@ -13,8 +12,7 @@ use Rattle.c_types.specs.Equality.{cells_of, physically_equal}
 use Rattle.c_types.specs.Flows.{CellsAgree}
 use Rattle.c_types.specs.Sound.{IsWellFormed}
 use Rattle.c_types.specs.Widths.{before, kind_width}
-use Rattle.type_laws.proofs.Widths.{AreRaw}
-use Rattle.integers.specs.Arithmetic.{IntegerType, converted, bits_of}
+use Rattle.integers.specs.Arithmetic.{IntegerType, converted}
 use Rattle.runs.specs.Outcome.{Done, allowed, done}
 use Rattle.runs.specs.Control.{Goes}
 use Rattle.flat_mem.specs.Bytes.{number, IsAccessSize, written}
@@ -25,13 +23,12 @@ use Rattle.src_mem.specs.State as source
 use Rattle.src_mem.specs.State.{Setting, given, Wrong}
 use Rattle.src_mem.specs.Primitives.{Spot, load_integer, load_pointer}
 use Rattle.src_mem.specs.Outlines.{outline, outlines_of}
-use Rattle.src_mem.specs.Facts.{HoldType, IsSoundMemory}
+use Rattle.src_mem.specs.Facts.{IsSoundMemory}
 use Rattle.src_mem.proofs.Outlines.{get-mapped}
 use Rattle.src_mem.proofs.Right.{integer_cells, pointer_cells_are, in_part}
 use Rattle.src_mem.proofs.Spots.{IsRight, spot-right}
 use Rattle.facts_kept.proofs.Places.{Stands, stands-pointer}
 use Rattle.facts_kept.proofs.Reading.{zero-holds}
-use Rattle.cured_code.specs.declared.instr.Instr.TheVariants as instr
 use Rattle.cured_code.specs.FlatState as flat
 use Rattle.cured_code.specs.FlatState.{slot, loaded, words_at, with_slots, accessed, is_in_list, Trap, goes, PlacedArea}
 use Rattle.cured_code.specs.FlatMachine.{Context, act}
@@ -40,11 +37,11 @@ use Rattle.sim_relation.specs.Accesses.{IsImage}
 use Rattle.sim_relation.specs.Objects.{HoldsTyped}
 use Rattle.sim_relation.specs.Points.{AreWords}
 use Rattle.sim_relation.specs.Related.{Related, ground_of}
-use Rattle.sim_relation.proofs.Kept.{typed-holds, pointer-inside, words-width}
-use Rattle.sim_relation.proofs.Places.{FoundRaw, found-in_list, found-number, found-inside, related-read, images-append, image-typed}
+use Rattle.sim_relation.proofs.Kept.{typed-holds, words-width}
+use Rattle.sim_relation.proofs.Places.{FoundRaw, found-in_list, found-number, found-inside, related-read, images-append, image-typed, in_list}
 use Rattle.sim_relation.proofs.Pointers.{FoundPointer}
 use Rattle.type_laws.proofs.Widths.{before-pointer}
-use Rattle.sim_memory.specs.Found.{IsFound, GoOnAlike, loading}
+use Rattle.sim_memory.specs.Found.{IsFound, loading}
 use Rattle.sim_memory.specs.Laws.{IntegerIsLoaded, PointerIsLoaded}
 use Rattle.sim_memory.proofs.Words.{words-below}
 
@@ -60,7 +57,7 @@ get-replicate zero j h = absurd (omega (arith, h))
 get-replicate (suc n) zero h = refl
 get-replicate (suc n) (suc j) h = get-replicate n j (omega (arith, h))
 
-agrees-raw : (w : Setting) (c : Cell) → CellsAgree w.table w.kind c raw → c ≡ raw
+pub agrees-raw : (w : Setting) (c : Cell) → CellsAgree w.table w.kind c raw → c ≡ raw
 agrees-raw w raw a = refl
 agrees-raw w (pointer n t i) a = absurd a
 agrees-raw w (mixed t i) a = absurd a
@@ -121,17 +118,13 @@ integers-loaded w number_of kind t i p s x v a c plain e size r f =
         flat_goes = ap (λ (b : Bool). allowed b (Trap x.function) (goes (loaded i.bytes v (slot c a))) c)
             (found-in_list w number_of s c.state kind f.location i.bytes (slot c a) r y);
         slots_are = ap (slice_set c.slots v) (found-number w number_of s c.state kind f.location i.bytes (slot c a) r y);
-        areas = refl;
-        frames = refl;
+        stays = record { outlines = refl; lives = refl; input = refl; areas = refl; frames = refl; bounds = refl; top = refl; before = λ i h. refl };
         related = related-read w number_of s c.state kind f.location i.bytes (slot c a) r y;
       };
       memory = refl;
     }
 
 -- Pointers
-
-in_list : (a m n : ℕ) → a + m ≤ n → (nat_eq m 0 || nat_le (a + m) n) ≡ true
-in_list a m n i = grind (arith, nat_tests)
 
 -- the line that loads words
 loads : (k : Kind) (x : Context) (v a : ℕ) (c : flat.Local) → slot c a + 8 * word_number k ≤ length c.state.memory.bytes
@@ -203,8 +196,7 @@ pointers-loaded w sites number_of kind t n u p s x v a c sound plain e memory r 
         source_goes = load-pointer kind f.location s f.object f.at right there;
         flat_goes = loads (w.kind n) x v a c inside;
         slots_are = ap (λ ws. written ws c.slots v) words;
-        areas = refl;
-        frames = refl;
+        stays = record { outlines = refl; lives = refl; input = refl; areas = refl; frames = refl; bounds = refl; top = refl; before = λ i h. refl };
         related = record {
           areas = record { count = r.areas.count; sizes = r.areas.sizes; lie = r.areas.lie; apart = r.areas.apart };
           holds = r.holds;

@@ -1,6 +1,5 @@
 -- Stores where something was found: both memories change alike.
-use Rattle.std.proofs.Common.{◌≡◌, ◌≢◌, ◌∙◌, ◌⊎◌, ⊎_elim, inl, inr, ℕ, ◌+◌, ◌-◌, ◌*◌, ◌<◌, ◌≤◌, ◌%◌, ◌^◌, ℤ, pos, negsuc, Bool, true, List, [], ◌∷◌, length, slice_get, slice_index, Option, Some, refl, ap, sym, subst, arith, nat_eq, nat_le, ◌||◌}
-use Rattle.std.proofs.lemmas.Bool.Decides.{nat_tests}
+use Rattle.std.proofs.Common.{◌≡◌, ◌≢◌, ◌∙◌, ◌⊎◌, ⊎_elim, inl, inr, ℕ, ◌+◌, ◌*◌, ◌<◌, ◌≤◌, ◌%◌, ◌^◌, ℤ, pos, negsuc, Bool, true, List, length, slice_index, Option, refl, ap, sym, subst, arith}
 use Rattle.cc_base.specs.declared.kind.Kind.{Kind}
 use Rattle.cc_base.specs.declared.kind.Kind.TheVariants.{Safe, Seq, Rtti, Wild}
 use Rattle.cc_base.specs.declared.number.TypeId.{TypeId}
@@ -40,9 +39,10 @@ use Rattle.sim_relation.specs.Related.{Related, ground_of}
 use Rattle.sim_relation.proofs.Changes.{related-change}
 use Rattle.sim_relation.proofs.Integers.{IntegerStored, integer_stored}
 use Rattle.sim_relation.proofs.Kept.{typed-holds, untagged-holds, typed-contents, words-width}
-use Rattle.sim_relation.proofs.Places.{found-inside, image-typed}
+use Rattle.sim_relation.proofs.Places.{found-inside, image-typed, in_list}
 use Rattle.sim_relation.proofs.Pointers.{row-length, pointer-holds}
 use Rattle.sim_memory.specs.Found.{IsFound, GoOnAlike, storing}
+use Rattle.sim_memory.proofs.Staying.{stays-change}
 use Rattle.sim_memory.proofs.Loading.{raw-found, right-found, stands-found, powers-alike}
 use Rattle.sim_memory.proofs.Words.{words-each}
 
@@ -80,29 +80,28 @@ size-some n (inr (inr (inr e))) = omega (arith, e)
 pub integers-stored : (w : Setting) (number_of : TypeId → ℕ) (kind : Kind) (t : TypeId) (i : IntegerType) (p : Pointer) (z : ℤ) (s : source.State) (x : Context)
     (a v : ℕ) (c : flat.Local) → kind ≢ Wild → shape_at w.table t ≡ shape.Integer i.bytes i.signed → IsAccessSize i.bytes → Related w number_of s c.state
     → IsFound w number_of s c.state t p (slot c a) → slot c v % 2 ^ bits_of i ≡ residue z (2 ^ bits_of i)
-    → GoOnAlike w number_of c (store_integer kind i p z s) (act (instr.St i.bytes a v) x c) tt c.slots
+    → GoOnAlike w number_of s c (store_integer kind i p z s) (act (instr.St i.bytes a v) x c) tt c.slots
 integers-stored w number_of kind t i p z s x a v c plain e size r f low =
-    subst (λ q. GoOnAlike w number_of c (store_integer kind i q z s) (act (instr.St i.bytes a v) x c) tt c.slots) (sym f.is)
+    subst (λ q. GoOnAlike w number_of s c (store_integer kind i q z s) (act (instr.St i.bytes a v) x c) tt c.slots) (sym f.is)
     (of (integer_stored w number_of kind i f.location z s x a v c r (size-some i.bytes size) (raw-found w number_of s c.state kind t i p (slot c a) plain e f)
     (ap (λ k. slot c v % k) (powers-alike i.bytes size) ∙ low ∙ sym (low-bytes i.bytes size z))))
   where
     of : IntegerStored w number_of kind i f.location z s x a v c
-        → GoOnAlike w number_of c (store_integer kind i (At f.location) z s) (act (instr.St i.bytes a v) x c) tt c.slots
+        → GoOnAlike w number_of s c (store_integer kind i (At f.location) z s) (act (instr.St i.bytes a v) x c) tt c.slots
     of y = record {
       next = y.next;
       after = y.after;
       source_goes = y.source_gives;
       flat_goes = y.flat_gives;
       slots_are = y.slots;
-      areas = y.areas;
-      frames = y.frames;
+      stays = stays-change w number_of s y.next c.state y.after.state f.location.object y.old y.new y.found (live-of y) y.outlined y.alive y.objects y.input y.areas y.memory y.before;
       related = y.related;
     }
+      where
+        live-of : (y : IntegerStored w number_of kind i f.location z s x a v c) → y.old.live ≡ true
+        live-of y = let a = y.found in let b = f.found in let same : y.old ≡ f.object = cc (a, b) in ap (λ (o : Object). o.live) same ∙ f.live
 
 -- Pointers
-
-in_list : (a m n : ℕ) → a + m ≤ n → (nat_eq m 0 || nat_le (a + m) n) ≡ true
-in_list a m n i = grind (arith, nat_tests)
 
 -- the line that stores words
 stores : (k : Kind) (x : Context) (a v : ℕ) (c : flat.Local) → slot c a + 8 * word_number k ≤ length c.state.memory.bytes
@@ -127,9 +126,9 @@ pub pointers-stored : (w : Setting) (number_of : TypeId → ℕ) (kind : Kind) (
     → IsFound w number_of s c.state t p (slot c a)
     → slots_at (word_number (w.kind n)) v c ≡ pointer_words (ground_of w number_of s c.state) (w.kind n) q
     → AreWords (pointer_words (ground_of w number_of s c.state) (w.kind n) q)
-    → GoOnAlike w number_of c (store_pointer kind p q s) (act (storing (w.kind n) a v) x c) tt c.slots
+    → GoOnAlike w number_of s c (store_pointer kind p q s) (act (storing (w.kind n) a v) x c) tt c.slots
 pointers-stored w number_of kind t n u p q s x a v c sound plain e r f words are =
-    subst (λ y. GoOnAlike w number_of c (store_pointer kind y q s) (act (storing (w.kind n) a v) x c) tt c.slots) (sym f.is)
+    subst (λ y. GoOnAlike w number_of s c (store_pointer kind y q s) (act (storing (w.kind n) a v) x c) tt c.slots) (sym f.is)
     (to (stands-found w number_of sound s c.state t n u p (slot c a) e f))
   where
     g : Ground
@@ -149,15 +148,17 @@ pointers-stored w number_of kind t n u p q s x a v c sound plain e r f words are
     new = with_pointer f.at q f.object
 
     to : Stands w sound (outlines_of s.memory) (w.kind n) u f.object.cells f.at
-        → GoOnAlike w number_of c (store_pointer kind (At f.location) q s) (act (storing (w.kind n) a v) x c) tt c.slots
+        → GoOnAlike w number_of s c (store_pointer kind (At f.location) q s) (act (storing (w.kind n) a v) x c) tt c.slots
     to y = record {
       next = with_object f.location.object new (source.touched f.location.object f.at 8 s);
       after = accessed (slot c a) (8 * word_number (w.kind n)) (words_stored (slots_at (word_number (w.kind n)) v c) bytes (slot c a)) c;
       source_goes = store-right kind f.location q s f.object f.at right;
       flat_goes = stores (w.kind n) x a v c (let h = inside in let k = width in omega (arith, h, k));
       slots_are = refl;
-      areas = refl;
-      frames = refl;
+      stays = stays-change w number_of s (with_object f.location.object new (source.touched f.location.object f.at 8 s)) c.state
+          (accessed (slot c a) (8 * word_number (w.kind n)) (words_stored (slots_at (word_number (w.kind n)) v c) bytes (slot c a)) c).state
+          f.location.object f.object new f.found f.live refl refl refl refl refl refl
+          (λ j l. ap (λ (ws : List ℕ). slice_index (words_stored ws bytes (slot c a)) j) words ∙ get-words_stored_other ws bytes (slot c a) j (outside j (inl l)));
       related = subst (λ (ws : List ℕ). Related w number_of (with_object f.location.object new (source.touched f.location.object f.at 8 s))
           (accessed (slot c a) (8 * word_number (w.kind n)) (words_stored ws bytes (slot c a)) c).state) (sym words)
           (related-change w number_of s c.state f.location.object f.object new (words_stored ws bytes (slot c a))

@@ -1,11 +1,10 @@
 -- A clearing of an object with tags.
-use Rattle.std.proofs.Common.{◌≡◌, ◌∙◌, ◌⊎◌, ⊎_elim, inl, inr, ℕ, zero, suc, ◌+◌, ◌-◌, ◌*◌, ◌/◌, ◌%◌, ◌<◌, ◌≤◌, pos, Bool, true, false, ◌&&◌, ◌||◌, List, [], ◌∷◌, length, nat_eq, nat_le, slice_get, slice_index, Option, Some, None, refl, ap, sym, subst, arith}
-use Rattle.std.proofs.lemmas.Bool.Decides.{nat_tests}
+use Rattle.std.proofs.Common.{◌≡◌, ◌∙◌, ◌⊎◌, ⊎_elim, inl, inr, ℕ, zero, suc, ◌+◌, ◌-◌, ◌*◌, ◌<◌, ◌≤◌, pos, Bool, true, false, ◌&&◌, ◌||◌, List, length, nat_eq, nat_le, slice_get, slice_index, Option, Some, refl, ap, sym, subst, arith}
 use Rattle.cc_base.specs.declared.kind.Kind.{Kind}
 use Rattle.cc_base.specs.declared.kind.Kind.TheVariants.{Wild}
 use Rattle.cc_base.specs.declared.number.TypeId.{TypeId}
 use Rattle.runs.specs.Outcome.{allowed, leaves}
-use Rattle.flat_mem.specs.Bytes.{number, zeroed, AreBytes}
+use Rattle.flat_mem.specs.Bytes.{zeroed, AreBytes}
 use Rattle.flat_mem.specs.Placement.{word_count, data_word, tag_byte, tagged_size}
 use Rattle.flat_mem.specs.Memory.{with_bytes, in_flat}
 use Rattle.flat_mem.proofs.ByteLaws.{length-zeroed, get-zeroed_other, get-zeroed_inside, zeroed-bytes}
@@ -17,36 +16,28 @@ use Rattle.wild_tags.proofs.ByteRows.{IsTouched, range-of, all-true}
 use Rattle.wild_tags.proofs.CallLaws.{length-range_zeroed, range_zeroed-bytes, get-with_tag_other}
 use Rattle.wild_tags.proofs.MarkLaws.{tag-tags_cleared}
 use Rattle.wild_tags.proofs.UntagLaws.{range_zeroed_at, number-range_zeroed, number-range_zeroed_other}
-use Rattle.src_mem.specs.Pointers.{Location, Pointer, At}
+use Rattle.src_mem.specs.Pointers.{Location, At}
 use Rattle.src_mem.specs.Memory.{Object, cleared}
 use Rattle.src_mem.specs.State as source
 use Rattle.src_mem.specs.State.{Setting, Wrong}
 use Rattle.src_mem.specs.Primitives.{with_object, clear, clear_at}
-use Rattle.src_mem.specs.Outlines.{outline}
 use Rattle.cured_code.specs.declared.instr.Instr.TheVariants as instr
 use Rattle.cured_code.specs.FlatState as flat
 use Rattle.cured_code.specs.FlatState.{slot, accessed, Trap, goes}
 use Rattle.cured_code.specs.FlatMachine.{Context, act}
 use Rattle.sim_relation.specs.Ground.{Ground, address}
-use Rattle.sim_relation.specs.Objects.{HoldsTagged, HoldsWord, HoldsBy}
+use Rattle.sim_relation.specs.Objects.{HoldsTagged, HoldsBy}
 use Rattle.sim_relation.specs.Related.{Related, ground_of}
 use Rattle.sim_relation.proofs.Changes.{related-change}
+use Rattle.sim_relation.proofs.Places.{in_list}
 use Rattle.sim_memory.specs.Found.{GoOnAlike}
+use Rattle.sim_memory.proofs.Staying.{stays-change}
 use Rattle.sim_memory.specs.Wild.{IsFoundTagged}
-use Rattle.sim_memory.proofs.WildLoads.{IsLaid, laid-found, image-tagged, room-of}
-
-in_list : (a m n : ℕ) → a + m ≤ n → (nat_eq m 0 || nat_le (a + m) n) ≡ true
-in_list a m n i = grind (arith, nat_tests)
-
-both-true : (a b : Bool) → a ≡ true → b ≡ true → (a && b) ≡ true
-both-true a b e f = ap (λ (x : Bool). x && b) e ∙ f
+use Rattle.sim_memory.proofs.WildLoads.{both-true, le-true, IsLaid, laid-found, image-tagged, room-of}
 
 or-true : (a b : Bool) → b ≡ true → (a || b) ≡ true
 or-true true b e = refl
 or-true false b e = e
-
-le-true : (a b : ℕ) → a ≤ b → nat_le a b ≡ true
-le-true a b h = grind (arith, nat_tests)
 
 -- `tzero` in the terms of these laws
 pub zeroed-here : (bytes : List ℕ) (b n at size : ℕ) → length_at bytes b ≡ n
@@ -103,7 +94,7 @@ all-zero g bytes b o first k h are above fits range = record {
 pub wild-objects-cleared : (w : Setting) (number_of : TypeId → ℕ) (k : ℕ) (o : Object) (s : source.State) (x : Context) (a b : ℕ) (c : flat.Local)
     → slice_get s.memory.objects k ≡ Some o → o.live ≡ true → w.kind o.node ≡ Wild → 0 < o.size → Related w number_of s c.state
     → slot c a ≡ address (ground_of w number_of s c.state) k → slot c b ≡ address (ground_of w number_of s c.state) k
-    → GoOnAlike w number_of c (clear k s) (act (instr.Tzero a b o.size) x c) tt c.slots
+    → GoOnAlike w number_of s c (clear k s) (act (instr.Tzero a b o.size) x c) tt c.slots
 wild-objects-cleared w number_of k o s x a b c found live tagged some r here base = record {
   next = with_object k (cleared o) (source.touched k 0 o.size s);
   after = accessed (slot c a) o.size (range_zeroed old (slot c a) (slot c b) o.size) c;
@@ -113,10 +104,11 @@ wild-objects-cleared w number_of k o s x a b c found live tagged some r here bas
       (ap (λ (m : ℕ). allows_zero old m (slot c b) o.size) where0 ∙ ap (λ (m : ℕ). allows_zero old (home + 0) m o.size) base
       ∙ tzero-may old home o.size 0 o.size laid.above laid.holds.size some (omega arith) laid.fits);
   slots_are = refl;
-  areas = refl;
-  frames = refl;
+  stays = stays-change w number_of s (with_object k (cleared o) (source.touched k 0 o.size s)) c.state
+      (accessed (slot c a) o.size (range_zeroed old (slot c a) (slot c b) o.size) c).state k o (cleared o) found live refl refl refl refl refl refl
+      (λ j l. ap (λ (xs : List ℕ). slice_index xs j) bytes_are ∙ zeroed-outside old home o.size 0 o.size first count j range (inl l));
   related = subst (λ (xs : List ℕ). Related w number_of (with_object k (cleared o) (source.touched k 0 o.size s)) (flat.touched (slot c a) o.size (record c.state { memory = with_bytes c.state.memory xs })))
-      (sym (ap (λ (m : ℕ). range_zeroed old m (slot c b) o.size) where0 ∙ ap (λ (m : ℕ). range_zeroed old (home + 0) m o.size) base ∙ here-zeroed))
+      (sym bytes_are)
       (related-change w number_of s c.state k o (cleared o) new (record { object = k; offset = 0; size = o.size }) (record { at = slot c a; size = o.size })
       r found live refl (ap length (sym here-zeroed) ∙ length-range_zeroed old (home + 0) home o.size)
       (subst AreBytes here-zeroed (range_zeroed-bytes old (home + 0) home o.size r.sound.bytes))
@@ -169,6 +161,9 @@ wild-objects-cleared w number_of k o s x a b c found live tagged some r here bas
 
     here-zeroed : range_zeroed old (home + 0) home o.size ≡ new
     here-zeroed = zeroed-here old home o.size 0 o.size laid.holds.size
+
+    bytes_are : range_zeroed old (slot c a) (slot c b) o.size ≡ new
+    bytes_are = ap (λ (m : ℕ). range_zeroed old m (slot c b) o.size) where0 ∙ ap (λ (m : ℕ). range_zeroed old (home + 0) m o.size) base ∙ here-zeroed
 
     range : IsTouched o.size 0 o.size first count
     range = range-of home o.size 0 o.size some (omega arith)

@@ -1,6 +1,5 @@
 -- A store of an integer in an object with tags: `untag` and then `st`.
-use Rattle.std.proofs.Common.{◌≡◌, ◌∙◌, ◌⊎◌, ⊎_elim, inl, inr, ℕ, ◌+◌, ◌*◌, ◌/◌, ◌%◌, ◌<◌, ◌≤◌, ◌^◌, ℤ, Bool, true, List, [], ◌∷◌, length, nat_eq, nat_le, ◌||◌, slice_index, refl, ap, sym, subst, arith}
-use Rattle.std.proofs.lemmas.Bool.Decides.{nat_tests}
+use Rattle.std.proofs.Common.{◌≡◌, ◌∙◌, ◌⊎◌, ⊎_elim, inl, inr, ℕ, ◌+◌, ◌%◌, ◌<◌, ◌≤◌, ◌^◌, ℤ, Bool, true, List, [], ◌∷◌, length, nat_eq, nat_le, ◌||◌, slice_index, refl, ap, sym, subst, arith}
 use Rattle.cc_base.specs.declared.kind.Kind.{Kind}
 use Rattle.cc_base.specs.declared.kind.Kind.TheVariants.{Wild}
 use Rattle.cc_base.specs.declared.number.TypeId.{TypeId}
@@ -10,7 +9,7 @@ use Rattle.integers.specs.Arithmetic.{IntegerType, bits_of}
 use Rattle.runs.specs.Outcome.{allowed, from}
 use Rattle.runs.specs.Control.{then_go}
 use Rattle.flat_mem.specs.Bytes.{stored, IsAccessSize, AreBytes}
-use Rattle.flat_mem.specs.Placement.{word_count, tagged_size}
+use Rattle.flat_mem.specs.Placement.{tagged_size}
 use Rattle.flat_mem.specs.Memory.{with_bytes}
 use Rattle.flat_mem.proofs.ByteLaws.{length-stored, get-stored_other, stored-bytes}
 use Rattle.wild_tags.specs.Words.{word_at, touched_count}
@@ -19,13 +18,13 @@ use Rattle.wild_tags.specs.Inside.{allows_untag}
 use Rattle.wild_tags.proofs.CallLaws.{length-untagged, untagged-bytes}
 use Rattle.wild_tags.proofs.UntagLaws.{untagged_at}
 use Rattle.wild_tags.proofs.ByteRows.{IsTouched, range-of, untagged-here, get-untagged_outside, length-untagged_at, untag-may}
-use Rattle.src_mem.specs.Pointers.{Pointer, At}
+use Rattle.src_mem.specs.Pointers.{Pointer}
 use Rattle.src_mem.specs.Memory.{Object, with_integer}
 use Rattle.src_mem.specs.State as source
 use Rattle.src_mem.specs.State.{Setting, given}
 use Rattle.src_mem.specs.Facts.{IsSoundMemory, IsSoundObject}
 use Rattle.src_mem.specs.Primitives.{Spot, with_object, store_integer}
-use Rattle.src_mem.specs.Outlines.{outline, outlines_of, lives_of}
+use Rattle.src_mem.specs.Outlines.{outlines_of, lives_of}
 use Rattle.src_mem.proofs.Spots.{spot-right}
 use Rattle.runs.specs.Outcome.{Done}
 use Rattle.cured_code.specs.declared.instr.Instr.TheVariants as instr
@@ -33,23 +32,22 @@ use Rattle.cured_code.specs.FlatState as flat
 use Rattle.cured_code.specs.FlatState.{slot, stored_at, with_list, Trap, goes}
 use Rattle.cured_code.specs.FlatMachine.{Context, run}
 use Rattle.sim_relation.specs.Ground.{Ground, address}
-use Rattle.sim_relation.specs.Objects.{HoldsBy, room_of}
+use Rattle.sim_relation.specs.Objects.{HoldsBy}
 use Rattle.sim_relation.specs.Related.{Related, ground_of}
 use Rattle.sim_relation.proofs.Changes.{related-change}
 use Rattle.sim_relation.proofs.Tagged.{tagged-integer}
+use Rattle.sim_relation.proofs.Places.{in_list}
 use Rattle.sim_memory.specs.Found.{GoOnAlike}
+use Rattle.sim_memory.proofs.Staying.{stays-change}
 use Rattle.sim_memory.specs.Wild.{IsFoundTagged}
 use Rattle.sim_memory.proofs.Loading.{powers-alike}
 use Rattle.sim_memory.proofs.Storing.{low-bytes, size-some}
 use Rattle.sim_memory.proofs.WildLoads.{IsLaid, laid-found, right-tagged, image-tagged, room-of}
 
-in_list : (a m n : ℕ) → a + m ≤ n → (nat_eq m 0 || nat_le (a + m) n) ≡ true
-in_list a m n i = grind (arith, nat_tests)
-
 pub wild-integers-stored : (w : Setting) (sites : List Site) (number_of : TypeId → ℕ) (i : IntegerType) (p : Pointer) (z : ℤ) (s : source.State) (x : Context) (a b v : ℕ)
     (c : flat.Local) → IsAccessSize i.bytes → IsSoundMemory w sites s.memory → Related w number_of s c.state
     → IsFoundTagged w number_of s c.state i.bytes p (slot c a) (slot c b) → slot c v % 2 ^ bits_of i ≡ residue z (2 ^ bits_of i)
-    → GoOnAlike w number_of c (store_integer Wild i p z s) (run (instr.Untag a b i.bytes ∷ instr.St i.bytes a v ∷ []) x c) tt c.slots
+    → GoOnAlike w number_of s c (store_integer Wild i p z s) (run (instr.Untag a b i.bytes ∷ instr.St i.bytes a v ∷ []) x c) tt c.slots
 wild-integers-stored w sites number_of i p z s x a b v c size memory r f low = record {
   next = with_object f.location.object new (source.touched f.location.object f.at i.bytes s);
   after = stored_at i.bytes (slot c a) (slot c v) (with_list (untagged old (slot c a) (slot c b) i.bytes) c);
@@ -62,8 +60,9 @@ wild-integers-stored w sites number_of i p z s x a b v c size memory r f low = r
       (λ y. then_go y (run (instr.St i.bytes a v ∷ []) x))) may
       ∙ ap (λ (q : Bool). from (allowed q (Trap x.function) (goes (stored_at i.bytes (slot c a) (slot c v))) (with_list (untagged old (slot c a) (slot c b) i.bytes) c)) (λ y. then_go y (run [] x))) there;
   slots_are = refl;
-  areas = refl;
-  frames = refl;
+  stays = stays-change w number_of s (with_object f.location.object new (source.touched f.location.object f.at i.bytes s)) c.state
+      (stored_at i.bytes (slot c a) (slot c v) (with_list (untagged old (slot c a) (slot c b) i.bytes) c)).state f.location.object f.object new f.found f.live
+      refl refl refl refl refl refl (λ j l. ap (λ (xs : List ℕ). slice_index xs j) bytes_are ∙ outside j (inl l));
   related = subst (λ (xs : List ℕ). Related w number_of (with_object f.location.object new (source.touched f.location.object f.at i.bytes s))
       (flat.touched (slot c a) i.bytes (record c.state { memory = with_bytes c.state.memory xs }))) (sym bytes_are)
       (related-change w number_of s c.state f.location.object f.object new (stored i.bytes U (home + f.at) (slot c v))

@@ -1,5 +1,5 @@
 -- Loads from objects with tags: both machines read the same, and the states stay related.
-use Rattle.std.proofs.Common.{◌≡◌, ◌≢◌, ◌∙◌, ◌⊎◌, ⊎_elim, inl, inr, ℕ, zero, suc, ◌+◌, ◌-◌, ◌*◌, ◌/◌, ◌%◌, ◌<◌, ◌≤◌, ◌^◌, ℤ, pos, Bool, true, false, not, ◌&&◌, ◌||◌, List, [], ◌∷◌, length, nat_eq, nat_lt, nat_le, slice_get, slice_index, slice_set, Option, Some, None, is_none, refl, ap, sym, subst, arith, if◌then◌else◌}
+use Rattle.std.proofs.Common.{◌≡◌, ◌∙◌, ◌⊎◌, ⊎_elim, ℕ, zero, suc, ◌+◌, ◌-◌, ◌*◌, ◌/◌, ◌%◌, ◌<◌, ◌≤◌, pos, Bool, true, false, not, ◌&&◌, ◌||◌, List, [], length, nat_eq, nat_le, slice_index, slice_set, Option, Some, None, is_none, refl, ap, sym, subst, arith}
 use Rattle.std.specs.Prelude.{is_some, ◌==◌}
 use Rattle.std.specs.List.{list_all, range_with_len}
 use Rattle.std.proofs.lemmas.Bool.Decides.{nat_tests}
@@ -7,25 +7,25 @@ use Rattle.cc_base.specs.declared.kind.Kind.{Kind}
 use Rattle.cc_base.specs.declared.kind.Kind.TheVariants.{Wild}
 use Rattle.cc_base.specs.declared.number.TypeId.{TypeId}
 use Rattle.integers.specs.Words.{truth_word}
-use Rattle.integers.specs.Arithmetic.{IntegerType, converted, bits_of}
-use Rattle.runs.specs.Outcome.{Done, allowed, done}
+use Rattle.integers.specs.Arithmetic.{IntegerType}
+use Rattle.runs.specs.Outcome.{Done, allowed}
 use Rattle.runs.specs.Control.{Goes}
 use Rattle.flat_mem.specs.Bytes.{number, IsAccessSize}
-use Rattle.flat_mem.specs.Placement.{word_count, data_word, base_word, tag_byte, tagged_size, contents_size}
+use Rattle.flat_mem.specs.Placement.{word_count, base_word, tag_byte, tagged_size, contents_size}
 use Rattle.flat_mem.specs.Memory.{in_flat}
 use Rattle.flat_mem.proofs.ByteLaws.{number-below, number-same}
 use Rattle.wild_tags.specs.Words.{length_at, word_at, tag_at, base_at}
 use Rattle.wild_tags.specs.Calls.{is_tagged, base_of}
 use Rattle.wild_tags.specs.Inside.{has_length, allows_word, allows_tagged, allows_base}
-use Rattle.src_mem.specs.Pointers.{Location, Pointer, Null, Number, At, Function}
+use Rattle.src_mem.specs.Pointers.{Pointer, Null, Number, At, Function}
 use Rattle.src_mem.specs.Memory.{Object, touches, holds_none, holds_pointer_at, pointer_or_null, size_of_object}
 use Rattle.src_mem.specs.State as source
 use Rattle.src_mem.specs.State.{Setting, Access, given, Wrong}
-use Rattle.src_mem.specs.Primitives.{Spot, load_integer, load_pointer}
+use Rattle.src_mem.specs.Primitives.{load_integer, load_pointer}
 use Rattle.src_mem.specs.Checks.{InObject, fits_between, holds}
 use Rattle.src_mem.specs.Outlines.{outline}
 use Rattle.src_mem.proofs.Outlines.{get-mapped}
-use Rattle.src_mem.proofs.Spots.{IsRight, spot-right}
+use Rattle.src_mem.proofs.Spots.{IsRight}
 use Rattle.facts_kept.proofs.Holds.{in-bounds}
 use Rattle.cured_code.specs.declared.parts.Parts.{Parts}
 use Rattle.cured_code.specs.declared.instr.Instr.TheVariants as instr
@@ -35,9 +35,9 @@ use Rattle.cured_code.specs.FlatMachine.{Context, act}
 use Rattle.check_forms.specs.declared.slots.PointerSlots.{PointerSlots}
 use Rattle.sim_relation.specs.Ground.{Ground, address, first_word, second_word}
 use Rattle.sim_relation.specs.Accesses.{covered, image_by, IsImage}
-use Rattle.sim_relation.specs.Objects.{HoldsTagged, HoldsWord, HoldsBy, Lies, area_of, area_by}
+use Rattle.sim_relation.specs.Objects.{HoldsTagged, HoldsWord, HoldsBy, area_of, area_by}
 use Rattle.sim_relation.specs.Related.{Related, ground_of}
-use Rattle.sim_relation.proofs.Places.{images-append}
+use Rattle.sim_relation.proofs.Places.{images-append, in_list}
 use Rattle.sim_checks.specs.Rows.{IsChecked}
 use Rattle.sim_checks.proofs.Tagged.{IsTarget, target, there}
 use Rattle.sim_memory.specs.Found.{GoOnAlike}
@@ -51,16 +51,13 @@ pub room-of : (home n len : ℕ) → home + tagged_size n ≤ len → home + 16 
 unfolding tagged_size
 room-of home n len h = omega arith
 
-in_list : (a m n : ℕ) → a + m ≤ n → (nat_eq m 0 || nat_le (a + m) n) ≡ true
-in_list a m n i = grind (arith, nat_tests)
-
-le-true : (a b : ℕ) → a ≤ b → nat_le a b ≡ true
+pub le-true : (a b : ℕ) → a ≤ b → nat_le a b ≡ true
 le-true a b h = grind (arith, nat_tests)
 
-eq-true : (a b : ℕ) → a ≡ b → nat_eq a b ≡ true
+pub eq-true : (a b : ℕ) → a ≡ b → nat_eq a b ≡ true
 eq-true a b h = grind (arith, nat_tests)
 
-both-true : (a b : Bool) → a ≡ true → b ≡ true → (a && b) ≡ true
+pub both-true : (a b : Bool) → a ≡ true → b ≡ true → (a && b) ≡ true
 both-true a b e f = ap (λ (x : Bool). x && b) e ∙ f
 
 -- word k of an area that lies in the list
@@ -251,7 +248,7 @@ module _ (w : Setting) (number_of : TypeId → ℕ) (p : Pointer) (s : source.St
       ∙ base-read (ground_of w number_of s c.state) c.state.memory.bytes home f.object (f.at / 8) q laid.holds inside8 (ap f.object.pointers (sym (eighth f.at by8)) ∙ e))
 
   pub wild-pointers-loaded : holds_pointer_at f.at f.object ≡ true
-      → GoOnAlike w number_of c (load_pointer Wild p s) (act (instr.Ld 8 v a) x c) (pointer_or_null (f.object.pointers f.at))
+      → GoOnAlike w number_of s c (load_pointer Wild p s) (act (instr.Ld 8 v a) x c) (pointer_or_null (f.object.pointers f.at))
       (slice_set c.slots v (first_word (ground_of w number_of s c.state) Wild (pointer_or_null (f.object.pointers f.at))))
   wild-pointers-loaded there = record {
     next = source.touched f.location.object f.at 8 s;
@@ -264,8 +261,7 @@ module _ (w : Setting) (number_of : TypeId → ℕ) (p : Pointer) (s : source.St
     slots_are = ap (slice_set c.slots v) (ap (number 8 c.state.memory.bytes) where8
         ∙ first-read (ground_of w number_of s c.state) c.state.memory.bytes home f.object (f.at / 8) laid.holds inside8 (ap (λ m. holds_pointer_at m f.object) (sym (eighth f.at by8)) ∙ there)
         ∙ ap (λ m. first_word (ground_of w number_of s c.state) Wild (pointer_or_null (f.object.pointers m))) (sym (eighth f.at by8)));
-    areas = refl;
-    frames = refl;
+    stays = record { outlines = refl; lives = refl; input = refl; areas = refl; frames = refl; bounds = refl; top = refl; before = λ i h. refl };
     related = read-tagged w number_of s c.state 8 p (slot c a) (slot c b) r f;
   }
 
@@ -332,8 +328,7 @@ wild-integers-loaded w number_of i p s x v a b c size r f none = record {
         (in_list (slot c a) i.bytes (length c.state.memory.bytes)
         (let j = f.inside in let m = f.here in let z = room-of home f.object.size (length c.state.memory.bytes) laid.fits in omega (arith, j, m, z)));
     slots_are = ap (slice_set c.slots v) same;
-    areas = refl;
-    frames = refl;
+    stays = record { outlines = refl; lives = refl; input = refl; areas = refl; frames = refl; bounds = refl; top = refl; before = λ i h. refl };
     related = read-tagged w number_of s c.state i.bytes p (slot c a) (slot c b) r f;
   };
   memory = refl;

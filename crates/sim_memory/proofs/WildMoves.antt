@@ -1,5 +1,5 @@
 -- A copy between objects with tags, `tmove`: words come over with their base words and their tags.
-use Rattle.std.proofs.Common.{◌≡◌, ◌≢◌, ◌∙◌, ◌⊎◌, ⊎_elim, inl, inr, ℕ, zero, suc, ◌+◌, ◌-◌, ◌*◌, ◌/◌, ◌%◌, ◌<◌, ◌≤◌, Bool, true, false, ◌&&◌, ◌||◌, List, [], ◌∷◌, map, length, nat_eq, nat_lt, nat_le, slice_get, slice_index, Option, Some, None, refl, ap, sym, subst, arith, if◌then◌else◌}
+use Rattle.std.proofs.Common.{◌≡◌, ◌∙◌, ◌⊎◌, ⊎_elim, inl, inr, ℕ, zero, suc, ◌+◌, ◌-◌, ◌*◌, ◌/◌, ◌%◌, ◌<◌, ◌≤◌, Bool, true, false, ◌&&◌, List, [], ◌∷◌, map, length, nat_eq, nat_le, slice_index, Option, Some, None, refl, ap, sym, subst, arith, if◌then◌else◌}
 use Rattle.std.specs.Int.{bit_at}
 use Rattle.std.proofs.lemmas.Bool.Decides.{nat_tests}
 use Rattle.cc_base.specs.declared.kind.Kind.{Kind}
@@ -7,12 +7,12 @@ use Rattle.cc_base.specs.declared.kind.Kind.TheVariants.{Wild}
 use Rattle.cc_base.specs.declared.number.TypeId.{TypeId}
 use Rattle.c_types.specs.declared.site.Site.{Site}
 use Rattle.runs.specs.Outcome.{allowed}
-use Rattle.flat_mem.specs.Bytes.{number, bytes_at, written, moved, AreBytes}
+use Rattle.flat_mem.specs.Bytes.{bytes_at, written, moved, AreBytes}
 use Rattle.flat_mem.specs.Placement.{word_count, data_word, base_word, tag_byte, tagged_size}
-use Rattle.flat_mem.specs.Memory.{with_bytes, in_flat}
-use Rattle.flat_mem.proofs.ByteLaws.{number-moved, number-moved_apart, number-written_apart, get-moved_inside, get-moved_other, get-written_inside, get-written_other, get-bytes_at, length-bytes_at, length-moved, length-written, written-bytes, moved-bytes, bytes_at-bytes}
+use Rattle.flat_mem.specs.Memory.{in_flat}
+use Rattle.flat_mem.proofs.ByteLaws.{number-moved_apart, number-written_apart, get-moved_inside, get-moved_other, get-written_inside, get-written_other, get-bytes_at, length-bytes_at, length-moved, length-written, written-bytes, moved-bytes, bytes_at-bytes}
 use Rattle.flat_mem.proofs.StoreLaws.{number-one}
-use Rattle.wild_tags.specs.Words.{length_at, word_at, touched, touched_count, counted, tag_at, base_at, with_tag, with_tags}
+use Rattle.wild_tags.specs.Words.{length_at, word_at, touched, touched_count, counted, tag_at, with_tag, with_tags}
 use Rattle.wild_tags.specs.Calls.{words_moved}
 use Rattle.wild_tags.specs.Inside.{allows_zero, allows_side, allows_move, have_bases}
 use Rattle.wild_tags.proofs.ByteRows.{range-of, all-true}
@@ -25,7 +25,6 @@ use Rattle.src_mem.specs.State as source
 use Rattle.src_mem.specs.State.{Setting}
 use Rattle.src_mem.specs.Facts.{IsSoundMemory}
 use Rattle.src_mem.specs.Primitives.{with_object, copy, spot}
-use Rattle.src_mem.specs.Outlines.{outline}
 use Rattle.src_mem.proofs.Spots.{spot-right}
 use Rattle.cured_code.specs.declared.instr.Instr.TheVariants as instr
 use Rattle.cured_code.specs.FlatState as flat
@@ -35,20 +34,13 @@ use Rattle.sim_relation.specs.Ground.{Ground, address}
 use Rattle.sim_relation.specs.Objects.{HoldsTagged, HoldsWord, HoldsBy}
 use Rattle.sim_relation.specs.Related.{Related, ground_of}
 use Rattle.sim_relation.proofs.Changes.{related-change}
+use Rattle.sim_relation.proofs.Places.{in_list}
 use Rattle.sim_memory.specs.Found.{GoOnAlike}
+use Rattle.sim_memory.proofs.Staying.{stays-change}
 use Rattle.sim_memory.specs.Wild.{IsFoundTagged}
 use Rattle.sim_memory.proofs.Copying.{copy-right}
-use Rattle.sim_memory.proofs.WildLoads.{IsLaid, laid-found, right-tagged, image-tagged, read-tagged, room-of}
+use Rattle.sim_memory.proofs.WildLoads.{both-true, eq-true, IsLaid, laid-found, right-tagged, image-tagged, read-tagged, room-of}
 use Rattle.sim_memory.proofs.WildClears.{tzero-may}
-
-both-true : (a b : Bool) → a ≡ true → b ≡ true → (a && b) ≡ true
-both-true a b e f = ap (λ (x : Bool). x && b) e ∙ f
-
-in_list : (a m n : ℕ) → a + m ≤ n → (nat_eq m 0 || nat_le (a + m) n) ≡ true
-in_list a m n i = grind (arith, nat_tests)
-
-eq-true : (a b : ℕ) → a ≡ b → nat_eq a b ≡ true
-eq-true a b h = grind (arith, nat_tests)
 
 -- Tags of other words, and bytes beside the tags, stay
 
@@ -339,7 +331,7 @@ module _ (w : Setting) (sites : List Site) (number_of : TypeId → ℕ) (p q : P
       (tmove-holds (ground_of w number_of s c.state) bytes home h.object (h.at / 8) origin f.object (f.at / 8) (n / 8) target.holds source-laid.holds r.sound.bytes target.above target.fits
       ((memory.each h.location.object h.object h.found h.live).sized) to-words from-words))))
 
-  pub wild-copied : GoOnAlike w number_of c (copy n Wild p Wild q s) (act (instr.Tmove a b d e n) x c) tt c.slots
+  pub wild-copied : GoOnAlike w number_of s c (copy n Wild p Wild q s) (act (instr.Tmove a b d e n) x c) tt c.slots
   wild-copied = record {
     next = with_object h.location.object new (source.touched h.location.object h.at n (source.touched f.location.object f.at n s));
     after = copied n (slot c a) (slot c d) (words_moved bytes (slot c a) (slot c b) (slot c d) (slot c e) n) c;
@@ -348,8 +340,10 @@ module _ (w : Setting) (sites : List Site) (number_of : TypeId → ℕ) (p q : P
         (ap (λ y. spot Wild s.memory.objects y n) h.is ∙ spot-right Wild s.memory.objects h.location n h.object h.at (right-tagged w number_of s c.state r n q (slot c a) (slot c b) h));
     flat_goes = ap (λ (y : Bool). allowed y (Trap x.function) (goes (λ v. copied n (slot v a) (slot v d) (words_moved v.state.memory.bytes (slot v a) (slot v b) (slot v d) (slot v e) n) v)) c) may;
     slots_are = refl;
-    areas = refl;
-    frames = refl;
+    stays = stays-change w number_of s (with_object h.location.object new (source.touched h.location.object h.at n (source.touched f.location.object f.at n s))) c.state
+        (copied n (slot c a) (slot c d) (words_moved bytes (slot c a) (slot c b) (slot c d) (slot c e) n) c).state h.location.object h.object new h.found h.live
+        refl refl refl refl refl refl (λ j l. ap (λ xs. slice_index xs j) moved-bytes_are
+        ∙ tmove-outside bytes home h.object.size (h.at / 8) origin f.object.size (f.at / 8) (n / 8) j to-words (inl l));
     related = related-change w number_of (source.touched f.location.object f.at n s) (flat.touched (slot c d) n c.state) h.location.object h.object new
         (words_moved bytes (slot c a) (slot c b) (slot c d) (slot c e) n) (record { object = h.location.object; offset = h.at; size = n }) (record { at = slot c a; size = n })
         (read-tagged w number_of s c.state n p (slot c d) (slot c e) r f) h.found h.live refl

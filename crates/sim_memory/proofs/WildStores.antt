@@ -1,26 +1,26 @@
 -- Stores of pointers in objects with tags: a word gets its tag and its base word, or becomes zero without one.
-use Rattle.std.proofs.Common.{◌≡◌, ◌≢◌, ◌∙◌, ◌⊎◌, ⊎_elim, inl, inr, ℕ, zero, suc, ◌+◌, ◌-◌, ◌*◌, ◌/◌, ◌%◌, ◌<◌, ◌≤◌, ◌^◌, ℤ, pos, Bool, true, false, ◌&&◌, ◌||◌, List, [], ◌∷◌, length, nat_eq, nat_lt, nat_le, slice_get, slice_index, Option, Some, None, refl, ap, sym, subst, arith, if◌then◌else◌}
+use Rattle.std.proofs.Common.{◌≡◌, ◌≢◌, ◌∙◌, ◌⊎◌, ⊎_elim, inl, inr, ℕ, ◌+◌, ◌-◌, ◌*◌, ◌/◌, ◌%◌, ◌<◌, ◌≤◌, ◌^◌, Bool, true, false, ◌&&◌, ◌||◌, List, [], ◌∷◌, length, nat_eq, nat_le, slice_index, Option, Some, None, refl, ap, sym, subst, arith, if◌then◌else◌}
 use Rattle.std.specs.Int.{bit_at}
 use Rattle.std.proofs.lemmas.Bool.Decides.{nat_tests}
 use Rattle.cc_base.specs.declared.kind.Kind.{Kind}
 use Rattle.cc_base.specs.declared.kind.Kind.TheVariants.{Wild}
 use Rattle.cc_base.specs.declared.number.TypeId.{TypeId}
 use Rattle.runs.specs.Outcome.{Done, allowed, from}
-use Rattle.runs.specs.Control.{Goes, then_go}
-use Rattle.flat_mem.specs.Bytes.{number, stored, zeroed, AreBytes}
+use Rattle.runs.specs.Control.{then_go}
+use Rattle.flat_mem.specs.Bytes.{stored, zeroed, AreBytes}
 use Rattle.flat_mem.specs.Placement.{word_count, data_word, base_word, tag_byte, tagged_size}
 use Rattle.flat_mem.specs.Memory.{with_bytes, in_flat}
-use Rattle.flat_mem.proofs.ByteLaws.{length-stored, length-zeroed, get-stored_other, get-zeroed_other, get-zeroed_inside, stored-bytes, zeroed-bytes, number-stored, number-stored_apart, number-zeroed_apart}
+use Rattle.flat_mem.proofs.ByteLaws.{length-stored, length-zeroed, get-stored_other, get-zeroed_other, get-zeroed_inside, stored-bytes, zeroed-bytes, number-stored, number-stored_apart}
 use Rattle.flat_mem.proofs.StoreLaws.{number-zero, number-one}
-use Rattle.wild_tags.specs.Words.{length_at, word_at, touched, touched_count, counted, tag_at, base_at, with_tag, tags_cleared}
+use Rattle.wild_tags.specs.Words.{length_at, word_at, touched, touched_count, counted, tag_at, with_tag, tags_cleared}
 use Rattle.wild_tags.specs.Calls.{marked, range_zeroed}
 use Rattle.wild_tags.specs.Inside.{allows_plain, allows_tagged, allows_base, allows_mark, allows_zero, has_length, have_tags}
-use Rattle.wild_tags.proofs.ByteRows.{IsTouched, range-of, all-true, get-marked_data, tag-stored}
+use Rattle.wild_tags.proofs.ByteRows.{range-of, all-true, get-marked_data, tag-stored}
 use Rattle.wild_tags.proofs.CallLaws.{length-marked, length-range_zeroed, marked-bytes, range_zeroed-bytes, get-with_tag_other}
-use Rattle.wild_tags.proofs.MarkLaws.{marked_at, length_at-marked, tag-marked, tag-marked_other, base-marked, base-marked_other, data-marked, tag-tags_cleared, tag-tags_cleared_other, number-tags_cleared}
+use Rattle.wild_tags.proofs.MarkLaws.{marked_at, length_at-marked, tag-marked, tag-marked_other, base-marked, base-marked_other, data-marked, tag-tags_cleared, tag-tags_cleared_other}
 use Rattle.wild_tags.proofs.UntagLaws.{range_zeroed_at, number-range_zeroed, number-range_zeroed_other}
 use Rattle.wild_tags.proofs.WriteLaws.{tags_cleared-one}
-use Rattle.src_mem.specs.Pointers.{Location, Pointer, Null, Number, At, Function}
+use Rattle.src_mem.specs.Pointers.{Pointer, Null, Number, At, Function}
 use Rattle.src_mem.specs.Memory.{Object, touches, untouched, with_entry, entry_of, with_pointer}
 use Rattle.src_mem.specs.State as source
 use Rattle.src_mem.specs.State.{Setting}
@@ -31,22 +31,15 @@ use Rattle.cured_code.specs.FlatState as flat
 use Rattle.cured_code.specs.FlatState.{slot, stored_at, accessed, with_list, Trap, goes}
 use Rattle.cured_code.specs.FlatMachine.{Context, act, run}
 use Rattle.sim_relation.specs.Ground.{Ground, address, first_word, second_word}
-use Rattle.sim_relation.specs.Objects.{HoldsTagged, HoldsWord, HoldsBy, area_of, room_of}
+use Rattle.sim_relation.specs.Objects.{HoldsTagged, HoldsWord, HoldsBy, room_of}
 use Rattle.sim_relation.specs.Related.{Related, ground_of}
 use Rattle.sim_relation.proofs.Changes.{related-change}
+use Rattle.sim_relation.proofs.Places.{in_list}
 use Rattle.sim_memory.specs.Found.{GoOnAlike}
+use Rattle.sim_memory.proofs.Staying.{stays-change}
 use Rattle.sim_memory.specs.Wild.{IsFoundTagged}
 use Rattle.sim_memory.proofs.Storing.{store-right}
-use Rattle.sim_memory.proofs.WildLoads.{IsLaid, laid-found, right-tagged, image-tagged, tagged-may, base-may, room-of}
-
-in_list : (a m n : ℕ) → a + m ≤ n → (nat_eq m 0 || nat_le (a + m) n) ≡ true
-in_list a m n i = grind (arith, nat_tests)
-
-both-true : (a b : Bool) → a ≡ true → b ≡ true → (a && b) ≡ true
-both-true a b e f = ap (λ (x : Bool). x && b) e ∙ f
-
-le-true : (a b : ℕ) → a ≤ b → nat_le a b ≡ true
-le-true a b h = grind (arith, nat_tests)
+use Rattle.sim_memory.proofs.WildLoads.{both-true, le-true, IsLaid, laid-found, right-tagged, image-tagged, tagged-may, base-may, room-of}
 
 eighth : (at : ℕ) → at % 8 ≡ 0 → at ≡ 8 * (at / 8)
 eighth at h = omega (arith, h)
@@ -320,7 +313,7 @@ module _ (w : Setting) (number_of : TypeId → ℕ) (p : Pointer) (s : source.St
   pub wild-pointers-stored : (q : Pointer) (v u : ℕ) → q ≢ Null
       → slot c v ≡ first_word (ground_of w number_of s c.state) Wild q → slot c u ≡ second_word (ground_of w number_of s c.state) Wild q
       → slot c v < 2 ^ 64 → slot c u < 2 ^ 64
-      → GoOnAlike w number_of c (store_pointer Wild p q s) (run (instr.St 8 a v ∷ instr.Mark a b u ∷ []) x c) tt c.slots
+      → GoOnAlike w number_of s c (store_pointer Wild p q s) (run (instr.St 8 a v ∷ instr.Mark a b u ∷ []) x c) tt c.slots
   wild-pointers-stored q v u some first second sv su = record {
     next = with_object f.location.object (with_pointer f.at q f.object) (source.touched f.location.object f.at 8 s);
     after = with_list (marked (stored 8 old (slot c a) (slot c v)) (slot c a) (slot c b) (slot c u)) (stored_at 8 (slot c a) (slot c v) c);
@@ -330,8 +323,10 @@ module _ (w : Setting) (number_of : TypeId → ℕ) (p : Pointer) (s : source.St
         ∙ ap (λ (y : Bool). from (allowed y (Trap x.function) (goes (λ d. with_list (marked d.state.memory.bytes (slot d a) (slot d b) (slot d u)) d))
         (stored_at 8 (slot c a) (slot c v) c)) (λ z. then_go z (run [] x))) may;
     slots_are = refl;
-    areas = refl;
-    frames = refl;
+    stays = stays-change w number_of s (with_object f.location.object (with_pointer f.at q f.object) (source.touched f.location.object f.at 8 s)) c.state
+        (with_list (marked (stored 8 old (slot c a) (slot c v)) (slot c a) (slot c b) (slot c u)) (stored_at 8 (slot c a) (slot c v) c)).state
+        f.location.object f.object (with_pointer f.at q f.object) f.found f.live refl refl refl refl refl refl
+        (λ j l. ap (λ (xs : List ℕ). slice_index xs j) bytes_are ∙ marked-outside old home f.object.size place (slot c v) (slot c u) j inside8 (inl l));
     related = subst (λ (xs : List ℕ). Related w number_of (with_object f.location.object (with_pointer f.at q f.object) (source.touched f.location.object f.at 8 s))
         (flat.touched (slot c a) 8 (record c.state { memory = with_bytes c.state.memory xs }))) (sym bytes_are)
         (changed q new (ap length (sym (marked-here S home f.object.size place (slot c u) len)) ∙ length-marked S (home + 8 * place) home (slot c u) ∙ length-stored 8 old (home + 8 * place) (slot c v))
@@ -369,7 +364,7 @@ module _ (w : Setting) (number_of : TypeId → ℕ) (p : Pointer) (s : source.St
           ∙ both-true (allows_tagged S (home + 8 * place) home) (allows_base S (home + 8 * place) home)
           (tagged-may S home f.object.size place laid.above len inside8 fits) (base-may S home f.object.size place laid.above len inside8 fits)
 
-  pub nulls-stored : GoOnAlike w number_of c (store_pointer Wild p Null s) (act (instr.Tzero a b 8) x c) tt c.slots
+  pub nulls-stored : GoOnAlike w number_of s c (store_pointer Wild p Null s) (act (instr.Tzero a b 8) x c) tt c.slots
   nulls-stored = record {
     next = with_object f.location.object (with_pointer f.at Null f.object) (source.touched f.location.object f.at 8 s);
     after = accessed (slot c a) 8 (range_zeroed old (slot c a) (slot c b) 8) c;
@@ -378,12 +373,13 @@ module _ (w : Setting) (number_of : TypeId → ℕ) (p : Pointer) (s : source.St
         (ap (λ (k : ℕ). allows_zero old k (slot c b) 8) where8 ∙ ap (λ (k : ℕ). allows_zero old (home + 8 * place) k 8) f.base
         ∙ zero-may old home f.object.size place laid.above laid.holds.size inside8 laid.fits);
     slots_are = refl;
-    areas = refl;
-    frames = refl;
+    stays = stays-change w number_of s (with_object f.location.object (with_pointer f.at Null f.object) (source.touched f.location.object f.at 8 s)) c.state
+        (accessed (slot c a) 8 (range_zeroed old (slot c a) (slot c b) 8) c).state f.location.object f.object (with_pointer f.at Null f.object) f.found f.live
+        refl refl refl refl refl refl
+        (λ j l. ap (λ (xs : List ℕ). slice_index xs j) bytes_are ∙ cleared-outside old home f.object.size place j inside8 (inl l));
     related = subst (λ (xs : List ℕ). Related w number_of (with_object f.location.object (with_pointer f.at Null f.object) (source.touched f.location.object f.at 8 s))
         (flat.touched (slot c a) 8 (record c.state { memory = with_bytes c.state.memory xs })))
-        (sym (ap (λ (k : ℕ). range_zeroed old k (slot c b) 8) where8 ∙ ap (λ (k : ℕ). range_zeroed old (home + 8 * place) k 8) f.base
-        ∙ cleared-here old home f.object.size place laid.holds.size))
+        (sym bytes_are)
         (changed Null new (ap length (sym (cleared-here old home f.object.size place laid.holds.size)) ∙ length-range_zeroed old (home + 8 * place) home 8)
         (subst AreBytes (cleared-here old home f.object.size place laid.holds.size) (range_zeroed-bytes old (home + 8 * place) home 8 r.sound.bytes))
         (λ j z. cleared-outside old home f.object.size place j inside8 z)
@@ -392,3 +388,7 @@ module _ (w : Setting) (number_of : TypeId → ℕ) (p : Pointer) (s : source.St
     where
       new : List ℕ
       new = range_zeroed_at old (home + 8 * place) 8 home f.object.size place 1
+
+      bytes_are : range_zeroed old (slot c a) (slot c b) 8 ≡ new
+      bytes_are = ap (λ (k : ℕ). range_zeroed old k (slot c b) 8) where8 ∙ ap (λ (k : ℕ). range_zeroed old (home + 8 * place) k 8) f.base
+          ∙ cleared-here old home f.object.size place laid.holds.size

@@ -1,5 +1,5 @@
 -- Words in lists, by either form of what they are.
-use Rattle.std.proofs.Common.{◌≡◌, ℕ, zero, suc, ◌+◌, ◌<◌, ◌^◌, List, [], ◌∷◌, length, subst, arith}
+use Rattle.std.proofs.Common.{ℕ, zero, suc, ◌+◌, ◌<◌, ◌^◌, List, [], ◌∷◌, subst, arith}
 use Rattle.std.specs.List.{Contains}
 use Rattle.c_types.proofs.Lists.{contains_head, contains_tail}
 use Rattle.flat_mem.specs.Bytes.{number, AreBytes}

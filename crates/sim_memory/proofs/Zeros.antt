@@ -1,9 +1,9 @@
 -- Zero bytes hold an object without tags that is zero.
-use Rattle.std.proofs.Common.{◌≡◌, ◌∙◌, ℕ, zero, suc, ◌+◌, ◌*◌, ◌<◌, ◌≤◌, List, length, replicate, slice_get, slice_index, Option, Some, None, refl, ap, sym, arith}
+use Rattle.std.proofs.Common.{◌≡◌, ◌∙◌, ℕ, ◌+◌, ◌<◌, List, length, replicate, slice_index, Option, None, refl, ap, sym, arith}
 use Rattle.std.proofs.lemmas.Option.{slice_get_within}
 use Rattle.cc_base.specs.declared.kind.Kind.{Kind}
 use Rattle.cc_base.specs.declared.kind.Kind.TheVariants.{Safe, Seq, Rtti, Wild}
-use Rattle.c_types.specs.Cells.{raw, pointer, AreOrdered}
+use Rattle.c_types.specs.Cells.{raw, AreOrdered}
 use Rattle.c_types.specs.Widths.{before}
 use Rattle.src_mem.specs.Pointers.{Pointer}
 use Rattle.src_mem.specs.Memory.{Object, pointer_or_null}

@@ -1,5 +1,5 @@
 -- What both machines find where a pointer points to, and how an operation of both goes.
-use Rattle.std.specs.Prelude.{◌≡◌, ◌≢◌, ℕ, ◌+◌, ◌≤◌, pos, true, List, slice_get, Some}
+use Rattle.std.specs.Prelude.{◌≡◌, ◌≢◌, ℕ, ◌+◌, ◌<◌, ◌≤◌, pos, true, List, slice_get, slice_index, Some}
 use Rattle.cc_base.specs.declared.kind.Kind.{Kind}
 use Rattle.cc_base.specs.declared.kind.Kind.TheVariants.{Safe, Wild}
 use Rattle.cc_base.specs.declared.number.TypeId.{TypeId}
@@ -10,6 +10,7 @@ use Rattle.src_mem.specs.Pointers.{Location, Pointer, At}
 use Rattle.src_mem.specs.Memory.{Object}
 use Rattle.src_mem.specs.State as source
 use Rattle.src_mem.specs.State.{Setting}
+use Rattle.src_mem.specs.Outlines.{outlines_of, lives_of}
 use Rattle.src_mem.specs.Facts.{HoldType}
 use Rattle.cured_code.specs.declared.instr.Instr.{Instr}
 use Rattle.cured_code.specs.declared.instr.Instr.TheVariants as instr
@@ -48,13 +49,25 @@ SourceOutcome A = Outcome source.Ending source.State A
 abbrev pub FlatOutcome : Type 0
 FlatOutcome = Outcome flat.Ending flat.Local (Control (List ℕ))
 
--- Both machines go on, to related states with the same areas and frames: C gives a value, and the flat machine's slots are these.
-pub record GoOnAlike {A : Type 0} (w : Setting) (number_of : TypeId → ℕ) (c : flat.Local) (m : SourceOutcome A) (q : FlatOutcome) (value : A) (slots : List ℕ) : Type 0 where
+-- What an act on what objects hold leaves of both machines: the outlines and lives of objects, and the input; areas, frames and regions, and
+-- where the next block begins; and each byte that lies before the areas of all living objects.
+pub record StaysAlike (w : Setting) (number_of : TypeId → ℕ) (s t : source.State) (c d : flat.State) : Type 0 where
+  pub outlines : outlines_of t.memory ≡ outlines_of s.memory
+  pub lives : lives_of t.memory ≡ lives_of s.memory
+  pub input : t.input ≡ s.input
+  pub areas : d.areas ≡ c.areas
+  pub frames : d.memory.frames ≡ c.memory.frames
+  pub bounds : d.memory.bounds ≡ c.memory.bounds
+  pub top : d.memory.heap_top ≡ c.memory.heap_top
+  pub before : (i : ℕ) → ((k : ℕ) (o : Object) → slice_get s.memory.objects k ≡ Some o → o.live ≡ true → i < address (ground_of w number_of s c) k)
+      → slice_index d.memory.bytes i ≡ slice_index c.memory.bytes i
+
+-- Both machines go on, to related states in which all but what objects hold stays: C gives a value, and the flat machine's slots are these.
+pub record GoOnAlike {A : Type 0} (w : Setting) (number_of : TypeId → ℕ) (s : source.State) (c : flat.Local) (m : SourceOutcome A) (q : FlatOutcome) (value : A) (slots : List ℕ) : Type 0 where
   pub next : source.State
   pub after : flat.Local
   pub source_goes : m ≡ Done value next
   pub flat_goes : q ≡ Done Goes after
   pub slots_are : after.slots ≡ slots
-  pub areas : after.state.areas ≡ c.state.areas
-  pub frames : after.state.memory.frames ≡ c.state.memory.frames
+  pub stays : StaysAlike w number_of s next c.state after.state
   pub related : Related w number_of next after.state

@@ -1,5 +1,5 @@
 -- The statements of the laws of memory: what one act of C and one line of the flat machine leave of related states.
-use Rattle.std.specs.Prelude.{◌≡◌, ◌≢◌, ℕ, suc, ◌+◌, ◌*◌, ◌%◌, ◌^◌, ◌<◌, ◌≤◌, ℤ, pos, Bool, true, false, List, [], ◌∷◌, ◌++◌, length, slice_get, slice_set, Some, nat_le, IsTrue}
+use Rattle.std.specs.Prelude.{◌≡◌, ◌≢◌, ℕ, suc, ◌+◌, ◌*◌, ◌%◌, ◌^◌, ◌<◌, ◌≤◌, ℤ, pos, true, false, List, length, slice_get, slice_set, Some, nat_le, IsTrue}
 use Rattle.cc_base.specs.declared.kind.Kind.{Kind}
 use Rattle.cc_base.specs.declared.kind.Kind.TheVariants.{Wild}
 use Rattle.cc_base.specs.declared.number.TypeId.{TypeId}
@@ -12,9 +12,9 @@ use Rattle.c_types.specs.Cells.{Cell, AreOrdered, holds_pointer}
 use Rattle.c_types.specs.Equality.{cells_of}
 use Rattle.c_types.specs.Sound.{IsWellFormed}
 use Rattle.c_types.specs.Widths.{width_of, cured_size}
-use Rattle.integers.specs.Words.{word, residue}
+use Rattle.integers.specs.Words.{residue}
 use Rattle.integers.specs.Arithmetic.{IntegerType, converted, bits_of}
-use Rattle.flat_mem.specs.Bytes.{IsAccessSize, bytes_at, written}
+use Rattle.flat_mem.specs.Bytes.{IsAccessSize, written}
 use Rattle.flat_mem.specs.declared.Area.{Area}
 use Rattle.flat_mem.specs.Memory.{block_fits, block_address}
 use Rattle.src_mem.specs.Pointers.{Pointer}
@@ -48,7 +48,7 @@ pub record IntegerIsLoaded (w : Setting) (number_of : TypeId → ℕ) (kind : Ki
     (c : flat.Local) : Type 0 where
   pub number : ℕ
   pub below : number < 2 ^ bits_of i
-  pub goes_on : GoOnAlike w number_of c (load_integer kind i p s) (act (instr.Ld i.bytes v a) x c) (converted i (pos number)) (slice_set c.slots v number)
+  pub goes_on : GoOnAlike w number_of s c (load_integer kind i p s) (act (instr.Ld i.bytes v a) x c) (converted i (pos number)) (slice_set c.slots v number)
   pub memory : goes_on.next.memory ≡ s.memory
 
 abbrev pub IntegersAreLoaded : Type 0
@@ -61,7 +61,7 @@ pub record PointerIsLoaded (w : Setting) (number_of : TypeId → ℕ) (kind : Ki
     (c : flat.Local) : Type 0 where
   pub pointer : Pointer
   pub words : AreWords (pointer_words (ground_of w number_of s c.state) (w.kind n) pointer)
-  pub goes_on : GoOnAlike w number_of c (load_pointer kind p s) (act (loading (w.kind n) v a) x c) pointer
+  pub goes_on : GoOnAlike w number_of s c (load_pointer kind p s) (act (loading (w.kind n) v a) x c) pointer
       (written (pointer_words (ground_of w number_of s c.state) (w.kind n) pointer) c.slots v)
   pub memory : goes_on.next.memory ≡ s.memory
 
@@ -77,7 +77,7 @@ abbrev pub IntegersAreStored : Type 0
 IntegersAreStored = (w : Setting) (number_of : TypeId → ℕ) (kind : Kind) (t : TypeId) (i : IntegerType) (p : Pointer) (z : ℤ) (s : source.State) (x : Context)
     (a v : ℕ) (c : flat.Local) → kind ≢ Wild → shape_at w.table t ≡ shape.Integer i.bytes i.signed → IsAccessSize i.bytes → Related w number_of s c.state
     → IsFound w number_of s c.state t p (slot c a) → slot c v % 2 ^ bits_of i ≡ residue z (2 ^ bits_of i)
-    → GoOnAlike w number_of c (store_integer kind i p z s) (act (instr.St i.bytes a v) x c) tt c.slots
+    → GoOnAlike w number_of s c (store_integer kind i p z s) (act (instr.St i.bytes a v) x c) tt c.slots
 
 abbrev pub PointersAreStored : Type 0
 PointersAreStored = (w : Setting) (number_of : TypeId → ℕ) (kind : Kind) (t : TypeId) (n : NodeId) (u : TypeId) (p q : Pointer) (s : source.State) (x : Context)
@@ -85,7 +85,7 @@ PointersAreStored = (w : Setting) (number_of : TypeId → ℕ) (kind : Kind) (t 
     → IsFound w number_of s c.state t p (slot c a)
     → slots_at (word_number (w.kind n)) v c ≡ pointer_words (ground_of w number_of s c.state) (w.kind n) q
     → AreWords (pointer_words (ground_of w number_of s c.state) (w.kind n) q)
-    → GoOnAlike w number_of c (store_pointer kind p q s) (act (storing (w.kind n) a v) x c) tt c.slots
+    → GoOnAlike w number_of s c (store_pointer kind p q s) (act (storing (w.kind n) a v) x c) tt c.slots
 
 -- Whole objects
 
@@ -94,7 +94,7 @@ abbrev pub ObjectsAreCleared : Type 0
 ObjectsAreCleared = (w : Setting) (number_of : TypeId → ℕ) (k : ℕ) (o : Object) (s : source.State) (x : Context) (a n : ℕ) (c : flat.Local)
     → slice_get s.memory.objects k ≡ Some o → o.live ≡ true → w.kind o.node ≢ Wild → length o.cells ≡ o.size → Related w number_of s c.state
     → slot c a ≡ address (ground_of w number_of s c.state) k → n ≡ width_of w.kind o.cells
-    → GoOnAlike w number_of c (clear k s) (act (instr.Zero a n) x c) tt c.slots
+    → GoOnAlike w number_of s c (clear k s) (act (instr.Zero a n) x c) tt c.slots
 
 -- Blocks
 
@@ -132,7 +132,7 @@ abbrev pub StructsAreCopied : Type 0
 StructsAreCopied = (w : Setting) (number_of : TypeId → ℕ) (from to : Kind) (t : TypeId) (p q : Pointer) (s : source.State) (x : Context) (a b m : ℕ) (c : flat.Local)
     → IsWellFormed w.table → IsComplete w.table t → from ≢ Wild → to ≢ Wild → Related w number_of s c.state
     → IsFound w number_of s c.state t p (slot c b) → IsFound w number_of s c.state t q (slot c a) → m ≡ cured_size w.table w.kind t
-    → GoOnAlike w number_of c (copy (size_of w.table t) from p to q s) (act (instr.Move a b m) x c) tt c.slots
+    → GoOnAlike w number_of s c (copy (size_of w.table t) from p to q s) (act (instr.Move a b m) x c) tt c.slots
 
 -- that no block lies behind the heap's top stays where neither objects' outlines and lives nor areas change, and as a call begins
 abbrev pub HeapIsKept : Type 0

@@ -1,10 +1,12 @@
 -- Memory with tags: what loads and stores through WILD pointers leave of related states.
-use Rattle.std.specs.Prelude.{◌≡◌, ◌≢◌, ℕ, ◌+◌, ◌*◌, ◌%◌, ◌^◌, ◌<◌, ◌≤◌, ℤ, pos, true, List, [], ◌∷◌, length, slice_get, slice_set, Option, Some, is_some, nat_le, IsTrue}
+use Rattle.std.specs.Prelude.{◌≡◌, ◌≢◌, ℕ, ◌+◌, ◌*◌, ◌%◌, ◌^◌, ◌<◌, ◌≤◌, ℤ, pos, true, List, [], ◌∷◌, length, slice_get, slice_set, Some, is_some, nat_le, IsTrue}
+use Rattle.cc_base.specs.declared.kind.Kind.{Kind}
 use Rattle.cc_base.specs.declared.kind.Kind.TheVariants.{Wild}
 use Rattle.cc_base.specs.declared.number.TypeId.{TypeId}
 use Rattle.cc_base.specs.declared.number.NodeId.{NodeId}
 use Rattle.c_types.specs.declared.site.Site.{Site}
-use Rattle.c_types.specs.Cells.{Cell, AreOrdered}
+use Rattle.c_types.specs.Cells.{Cell, raw, AreOrdered}
+use Rattle.c_types.specs.Equality.{cells_of}
 use Rattle.integers.specs.Words.{residue, truth_word}
 use Rattle.integers.specs.Arithmetic.{IntegerType, bits_of}
 use Rattle.flat_mem.specs.Bytes.{IsAccessSize}
@@ -27,7 +29,7 @@ use Rattle.check_forms.specs.declared.slots.PointerSlots.{PointerSlots}
 use Rattle.sim_relation.specs.Ground.{address, first_word, second_word}
 use Rattle.sim_relation.specs.Related.{Related, ground_of}
 use Rattle.sim_checks.specs.Rows.{IsChecked}
-use Rattle.sim_memory.specs.Found.{GoOnAlike}
+use Rattle.sim_memory.specs.Found.{IsFound, GoOnAlike}
 use Rattle.sim_memory.specs.Laws.{IntegerIsLoaded, AreBelowHeap}
 
 -- The pointer stands at so many bytes of a living object with tags; these are the address of the first one and that of the area.
@@ -65,7 +67,7 @@ BasesAreRead = (w : Setting) (number_of : TypeId → ℕ) (p q : Pointer) (s : s
 abbrev pub WildPointersAreLoaded : Type 0
 WildPointersAreLoaded = (w : Setting) (number_of : TypeId → ℕ) (p : Pointer) (s : source.State) (x : Context) (v a b : ℕ) (c : flat.Local) → Related w number_of s c.state
     → (f : IsFoundTagged w number_of s c.state 8 p (slot c a) (slot c b)) → f.at % 8 ≡ 0 → holds_pointer_at f.at f.object ≡ true
-    → GoOnAlike w number_of c (load_pointer Wild p s) (act (instr.Ld 8 v a) x c) (pointer_or_null (f.object.pointers f.at))
+    → GoOnAlike w number_of s c (load_pointer Wild p s) (act (instr.Ld 8 v a) x c) (pointer_or_null (f.object.pointers f.at))
     (slice_set c.slots v (first_word (ground_of w number_of s c.state) Wild (pointer_or_null (f.object.pointers f.at))))
 
 -- an integer is loaded where no pointer stands over its bytes
@@ -80,26 +82,26 @@ WildPointersAreStored = (w : Setting) (number_of : TypeId → ℕ) (p q : Pointe
     → Related w number_of s c.state → (f : IsFoundTagged w number_of s c.state 8 p (slot c a) (slot c b)) → f.at % 8 ≡ 0 → q ≢ Null
     → slot c v ≡ first_word (ground_of w number_of s c.state) Wild q → slot c u ≡ second_word (ground_of w number_of s c.state) Wild q
     → slot c v < 2 ^ 64 → slot c u < 2 ^ 64
-    → GoOnAlike w number_of c (store_pointer Wild p q s) (run (instr.St 8 a v ∷ instr.Mark a b u ∷ []) x c) tt c.slots
+    → GoOnAlike w number_of s c (store_pointer Wild p q s) (run (instr.St 8 a v ∷ instr.Mark a b u ∷ []) x c) tt c.slots
 
 abbrev pub NullsAreStored : Type 0
 NullsAreStored = (w : Setting) (number_of : TypeId → ℕ) (p : Pointer) (s : source.State) (x : Context) (a b : ℕ) (c : flat.Local) → Related w number_of s c.state
     → (f : IsFoundTagged w number_of s c.state 8 p (slot c a) (slot c b)) → f.at % 8 ≡ 0
-    → GoOnAlike w number_of c (store_pointer Wild p Null s) (act (instr.Tzero a b 8) x c) tt c.slots
+    → GoOnAlike w number_of s c (store_pointer Wild p Null s) (act (instr.Tzero a b 8) x c) tt c.slots
 
 -- An integer is stored: what tags its bytes touch go.
 abbrev pub WildIntegersAreStored : Type 0
 WildIntegersAreStored = (w : Setting) (sites : List Site) (number_of : TypeId → ℕ) (i : IntegerType) (p : Pointer) (z : ℤ) (s : source.State) (x : Context) (a b v : ℕ)
     (c : flat.Local) → IsAccessSize i.bytes → IsSoundMemory w sites s.memory → Related w number_of s c.state
     → IsFoundTagged w number_of s c.state i.bytes p (slot c a) (slot c b) → slot c v % 2 ^ bits_of i ≡ residue z (2 ^ bits_of i)
-    → GoOnAlike w number_of c (store_integer Wild i p z s) (run (instr.Untag a b i.bytes ∷ instr.St i.bytes a v ∷ []) x c) tt c.slots
+    → GoOnAlike w number_of s c (store_integer Wild i p z s) (run (instr.Untag a b i.bytes ∷ instr.St i.bytes a v ∷ []) x c) tt c.slots
 
 -- An object with tags becomes zero as a whole, and all its tags go.
 abbrev pub WildObjectsAreCleared : Type 0
 WildObjectsAreCleared = (w : Setting) (number_of : TypeId → ℕ) (k : ℕ) (o : Object) (s : source.State) (x : Context) (a b : ℕ) (c : flat.Local)
     → slice_get s.memory.objects k ≡ Some o → o.live ≡ true → w.kind o.node ≡ Wild → 0 < o.size → Related w number_of s c.state
     → slot c a ≡ address (ground_of w number_of s c.state) k → slot c b ≡ address (ground_of w number_of s c.state) k
-    → GoOnAlike w number_of c (clear k s) (act (instr.Tzero a b o.size) x c) tt c.slots
+    → GoOnAlike w number_of s c (clear k s) (act (instr.Tzero a b o.size) x c) tt c.slots
 
 -- Blocks with tags
 
@@ -128,4 +130,13 @@ abbrev pub TaggedWordsAreCopied : Type 0
 TaggedWordsAreCopied = (w : Setting) (sites : List Site) (number_of : TypeId → ℕ) (p q : Pointer) (s : source.State) (x : Context) (a b d e n : ℕ) (c : flat.Local)
     → IsSoundMemory w sites s.memory → Related w number_of s c.state → (f : IsFoundTagged w number_of s c.state n p (slot c d) (slot c e))
     → (h : IsFoundTagged w number_of s c.state n q (slot c a) (slot c b)) → 0 < n → n % 8 ≡ 0 → f.at % 8 ≡ 0 → h.at % 8 ≡ 0
-    → GoOnAlike w number_of c (copy n Wild p Wild q s) (act (instr.Tmove a b d e n) x c) tt c.slots
+    → GoOnAlike w number_of s c (copy n Wild p Wild q s) (act (instr.Tmove a b d e n) x c) tt c.slots
+
+-- Bytes that are no pointer's are copied from an object without tags into one with tags: what tags they touch there go.
+abbrev pub PlainBytesAreCopied : Type 0
+PlainBytesAreCopied = (w : Setting) (sites : List Site) (number_of : TypeId → ℕ) (kind : Kind) (t : TypeId) (p q : Pointer) (s : source.State) (x : Context) (a b d : ℕ)
+    (c : flat.Local) → kind ≢ Wild → ((i : ℕ) → i < length (cells_of w.table t) → slice_get (cells_of w.table t) i ≡ Some raw) → 0 < length (cells_of w.table t)
+    → IsSoundMemory w sites s.memory → Related w number_of s c.state → IsFound w number_of s c.state t p (slot c d)
+    → IsFoundTagged w number_of s c.state (length (cells_of w.table t)) q (slot c a) (slot c b)
+    → GoOnAlike w number_of s c (copy (length (cells_of w.table t)) kind p Wild q s)
+    (run (instr.Untag a b (length (cells_of w.table t)) ∷ instr.Move a d (length (cells_of w.table t)) ∷ []) x c) tt c.slots

@@ -14,6 +14,7 @@ use Rattle.runs.specs.Outcome.{Done, allowed}
 use Rattle.runs.specs.Control.{Goes}
 use Rattle.flat_mem.specs.Bytes.{number, stored}
 use Rattle.flat_mem.specs.Placement.{contents_size}
+use Rattle.flat_mem.specs.Memory.{with_bytes}
 use Rattle.flat_mem.proofs.ByteLaws.{length-stored, get-stored_other, stored-bytes, number-stored_apart}
 use Rattle.flat_mem.proofs.StoreLaws.{stored-both, stored-low}
 use Rattle.src_mem.specs.Pointers.{Location, At}
@@ -101,6 +102,9 @@ pub record IntegerStored (w : Setting) (number_of : TypeId → ℕ) (kind : Kind
   pub objects : next.memory.objects ≡ slice_set s.memory.objects l.object new
   pub outlined : outline new ≡ outline old
   pub alive : new.live ≡ old.live
+  pub input : next.input ≡ s.input
+  pub memory : after.state.memory ≡ with_bytes c.state.memory after.state.memory.bytes
+  pub before : (j : ℕ) → j < address (ground w number_of s.memory.objects c.state.areas) l.object → slice_index after.state.memory.bytes j ≡ slice_index c.state.memory.bytes j
   pub related : Related w number_of next after.state
 
 pub integer_stored : (w : Setting) (number_of : TypeId → ℕ) (kind : Kind) (i : IntegerType) (l : Location) (z : ℤ) (s : source.State) (x : Context) (a v : ℕ) (c : flat.Local)
@@ -121,6 +125,9 @@ integer_stored w number_of kind i l z s x a v c r some f low = record {
   objects = refl;
   outlined = refl;
   alive = refl;
+  input = refl;
+  memory = refl;
+  before = λ j h. get-stored_other i.bytes bytes (slot c a) (slot c v) j (inl (let e = f.here in omega (arith, e, h)));
   related = related-change w number_of s c.state l.object f.object new (stored i.bytes bytes (slot c a) (slot c v)) _ _ r f.right.found f.right.live refl
       (length-stored i.bytes bytes (slot c a) (slot c v)) (stored-bytes i.bytes bytes (slot c a) (slot c v) r.sound.bytes)
       (λ j q. get-stored_other i.bytes bytes (slot c a) (slot c v) j (⊎_elim (λ m. inl (let e = f.here in omega (arith, e, m))) (λ m. inr (let e = f.here in let t = run in let u = most in omega (arith, e, m, t, u))) q))

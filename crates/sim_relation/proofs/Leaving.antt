@@ -44,7 +44,7 @@ lived-one d o z e l = by (o.depth == d) refl e
     by true t e = absurd (let f : false ≡ z.live = ap (λ (x : Object). x.live) e in cc (f, l))
     by false t e = (e, λ h. let g : o.depth ≡ d = ap (λ (x : Object). x.depth) e ∙ h in let u : (o.depth == d) ≡ true = grind (arith, nat_tests) in absurd (cc (t, u)))
 
-lived : (d : ℕ) (l : List Object) (k : ℕ) (z : Object) → slice_get (map (ended d) l) k ≡ Some z → z.live ≡ true → Lived d l k z
+pub lived : (d : ℕ) (l : List Object) (k : ℕ) (z : Object) → slice_get (map (ended d) l) k ≡ Some z → z.live ≡ true → Lived d l k z
 lived d [] k z e h = absurd (cc (e))
 lived d (o ∷ l) zero z e h = let f : ended d o ≡ z = cc (e) in let x = lived-one d o z f h in record { found = ap Some x.0; live = h; other = x.1 }
 lived d (o ∷ l) (suc k) z e h = let x = lived d l k z e h in record { found = x.found; live = x.live; other = x.other }

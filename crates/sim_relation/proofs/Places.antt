@@ -42,6 +42,10 @@ image-typed k n g o a r e f = ap (λ (x : ℕ). record { start = x; end = r.at +
     ends Rtti m = ap (λ (x : ℕ). record { start = address g a.object + before g.kind o.cells a.offset; end = x }) f
     ends Wild m = absurd (m refl)
 
+-- so many bytes from an address on are in a list
+pub in_list : (a m n : ℕ) → a + m ≤ n → (nat_eq m 0 || nat_le (a + m) n) ≡ true
+in_list a m n i = grind (arith, nat_tests)
+
 -- Found: m raw bytes of a living object without tags, at this address
 
 pub record FoundRaw (w : Setting) (number_of : TypeId → ℕ) (objects : List Object) (areas : List PlacedArea) (kind : Kind) (l : Location) (m a : ℕ) : Type 0 where
@@ -67,10 +71,7 @@ found-in_list w number_of s c kind l m a r f =
     let h = found-inside w number_of s c kind l m f.object f.at r f.right f.untagged (f.at + m) in
     let b = before-raw w.kind f.object.cells f.at m f.are_raw in
     let e = f.here in
-    let i : a + m ≤ length c.memory.bytes = omega (arith, h, b, e) in by a m (length c.memory.bytes) i
-  where
-    by : (a m n : ℕ) → a + m ≤ n → (nat_eq m 0 || nat_le (a + m) n) ≡ true
-    by a m n i = grind (arith, nat_tests)
+    let i : a + m ≤ length c.memory.bytes = omega (arith, h, b, e) in in_list a m (length c.memory.bytes) i
 
 -- they are the image of the access
 pub found-image : (w : Setting) (number_of : TypeId → ℕ) (objects : List Object) (areas : List PlacedArea) (kind : Kind) (l : Location) (m a : ℕ) (f : FoundRaw w number_of objects areas kind l m a)

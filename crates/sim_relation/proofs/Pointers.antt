@@ -1,5 +1,5 @@
 -- A store of a pointer, of any kind, where a pointer of its type begins in an object without tags.
-use Rattle.std.proofs.Common.{◌≡◌, ◌≢◌, ℕ, zero, suc, ◌+◌, ◌-◌, ◌*◌, ◌<◌, ◌≤◌, ◌⊎◌, inl, inr, Bool, true, false, List, length, slice_get, slice_index, Option, Some, None, refl, ap, sym, subst, ◌∙◌, ⊎_elim, arith, nat_eq, nat_le, ◌||◌, if◌then◌else◌}
+use Rattle.std.proofs.Common.{◌≡◌, ◌≢◌, ℕ, zero, suc, ◌+◌, ◌-◌, ◌*◌, ◌<◌, ◌≤◌, ◌⊎◌, inl, inr, Bool, true, false, List, length, slice_get, slice_index, Option, Some, None, refl, ap, sym, subst, ◌∙◌, ⊎_elim, arith, nat_eq, if◌then◌else◌}
 use Rattle.std.proofs.lemmas.Bool.Decides.{nat_tests}
 use Rattle.cc_base.specs.declared.number.TypeId.{TypeId}
 use Rattle.cc_base.specs.declared.number.NodeId.{NodeId}
@@ -32,7 +32,7 @@ use Rattle.sim_relation.specs.Objects.{HoldsTyped, area_of}
 use Rattle.sim_relation.specs.Accesses.{IsImage}
 use Rattle.sim_relation.specs.Related.{Related}
 use Rattle.sim_relation.proofs.Kept.{typed-holds, untagged-holds, typed-contents, words-width}
-use Rattle.sim_relation.proofs.Places.{image-typed, found-inside}
+use Rattle.sim_relation.proofs.Places.{image-typed, found-inside, in_list}
 use Rattle.sim_relation.proofs.Changes.{related-change}
 use Rattle.sim_relation.proofs.Integers.{not-touched}
 
@@ -160,9 +160,6 @@ pub record PointerStored (w : Setting) (number_of : TypeId → ℕ) (kind : Kind
   pub flat_gives : act (instr.Stw k a v) x c ≡ Done Goes after
   pub slots : after.slots ≡ c.slots
   pub related : Related w number_of next after.state
-
-in_list : (a m n : ℕ) → a + m ≤ n → (nat_eq m 0 || nat_le (a + m) n) ≡ true
-in_list a m n i = grind (arith, nat_tests)
 
 pub pointer_stored : (w : Setting) (number_of : TypeId → ℕ) (kind : Kind) (l : Location) (n : NodeId) (q : Pointer) (s : source.State) (x : Context) (a v : ℕ) (c : flat.Local)
     → Related w number_of s c.state → FoundPointer w number_of s.memory.objects c.state.areas kind l n (slot c a)

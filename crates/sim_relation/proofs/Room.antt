@@ -125,7 +125,7 @@ at_there w objects Rtti t l v = is_there objects l.object v.object v.located.fou
 at_there w objects Seq t l v = is_there objects l.object v.object v.located.found
 at_there w objects Wild t l v = is_there objects l.object v.object v.found
 
-value_there : (w : Setting) (objects : List Object) (k : Kind) (t : TypeId) (p : Pointer) → IsValueOf w (map outline objects) k t p → IsThere (length objects) p
+pub value_there : (w : Setting) (objects : List Object) (k : Kind) (t : TypeId) (p : Pointer) → IsValueOf w (map outline objects) k t p → IsThere (length objects) p
 value_there w objects k t Null v = tt
 value_there w objects k t (Number n) v = tt
 value_there w objects k t (Function f) v = tt

@@ -1,5 +1,5 @@
 -- A store of an integer through a WILD pointer, `untag` and then `st`: the tags of the words that it touches go.
-use Rattle.std.proofs.Common.{◌≡◌, ℕ, ◌+◌, ◌-◌, ◌*◌, ◌/◌, ◌%◌, ◌^◌, ◌<◌, ◌≤◌, ◌⊎◌, inl, inr, ℤ, Bool, true, false, List, [], ◌∷◌, length, slice_index, Option, Some, None, refl, ap, sym, subst, ◌∙◌, ⊎_elim, arith, nat_eq, nat_le, ◌||◌, if◌then◌else◌}
+use Rattle.std.proofs.Common.{◌≡◌, ℕ, ◌+◌, ◌-◌, ◌*◌, ◌/◌, ◌%◌, ◌^◌, ◌<◌, ◌≤◌, ◌⊎◌, inl, inr, ℤ, Bool, true, false, List, [], ◌∷◌, length, slice_index, Option, Some, None, refl, ap, sym, subst, ◌∙◌, ⊎_elim, arith, if◌then◌else◌}
 use Rattle.std.proofs.lemmas.Bool.Decides.{nat_tests}
 use Rattle.cc_base.specs.declared.number.TypeId.{TypeId}
 use Rattle.cc_base.specs.declared.kind.Kind.{Kind}
@@ -37,6 +37,7 @@ use Rattle.sim_relation.specs.Accesses.{covered, image_by, IsImage}
 use Rattle.sim_relation.specs.Related.{Related}
 use Rattle.sim_relation.proofs.Changes.{related-change}
 use Rattle.sim_relation.proofs.Integers.{Side, beside, within, side}
+use Rattle.sim_relation.proofs.Places.{in_list}
 
 touches-true : (n at i : ℕ) → (8 * i < at + n) × (at < 8 * i + 8) → touches n at (8 * i) ≡ true
 touches-true n at i h = let a = h.0 in let b = h.1 in grind (arith, nat_tests)
@@ -141,9 +142,6 @@ room-of home n len h = omega arith
 in-area : (home n at m len : ℕ) → at + m ≤ n → home + tagged_size n ≤ len → home + at + m ≤ len
 unfolding tagged_size
 in-area home n at m len h k = omega arith
-
-in_list : (a m n : ℕ) → a + m ≤ n → (nat_eq m 0 || nat_le (a + m) n) ≡ true
-in_list a m n i = grind (arith, nat_tests)
 
 -- found: m bytes of a live object with tags
 pub record FoundTagged (w : Setting) (number_of : TypeId → ℕ) (objects : List Object) (areas : List PlacedArea) (l : Location) (m a : ℕ) : Type 0 where

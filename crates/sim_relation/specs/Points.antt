@@ -1,27 +1,18 @@
--- A point of a body: the slots of the flat machine hold what is known of the temporaries of three-address code.
-use Rattle.std.specs.Prelude.{◌≡◌, ℕ, ◌+◌, ◌%◌, ◌^◌, ◌<◌, ⊤, ℤ, true, false, List, length, slice_get, slice_index, Option, Some}
+-- What is known of the temporaries of three-address code at a point of a body, and how slots of the flat machine stand for it.
+use Rattle.std.specs.Prelude.{◌≡◌, ℕ, ◌+◌, ◌%◌, ◌^◌, ◌<◌, ⊤, ℤ, true, false, List, slice_index, Option, Some}
 use Rattle.std.specs.List.{Contains}
-use Rattle.cc_base.specs.declared.number.TypeId.{TypeId}
 use Rattle.cc_base.specs.declared.number.NodeId.{NodeId}
-use Rattle.c_types.specs.declared.site.Site.{Site}
 use Rattle.c_types.specs.Widths.{width_of}
 use Rattle.integers.specs.Words.{word, residue}
-use Rattle.integers.specs.Arithmetic.{IntegerType, converted, bits_of}
+use Rattle.integers.specs.Arithmetic.{IntegerType, bits_of}
 use Rattle.flat_mem.specs.Bytes.{bytes_at}
 use Rattle.src_mem.specs.Pointers.{Pointer, Function, Value, Integer, Address, is_null, is_at}
-use Rattle.src_mem.specs.Memory.{Memory}
 use Rattle.src_mem.specs.Checks.{fits_between}
-use Rattle.src_mem.specs.State.{Setting}
-use Rattle.src_mem.specs.Facts.{IsHeldBy, IsPlaceIn}
 use Rattle.cil_form.specs.declared.number.Temp.{Temp}
 use Rattle.cil_form.specs.declared.number.Object.{Object}
 use Rattle.cil_form.specs.declared.number.Object.TheVariants as object
-use Rattle.cil_form.specs.State as code
 use Rattle.cil_form.specs.Typing.{HeldType, IntegerOf, PointerTo, PlaceOf}
-use Rattle.cured_code.specs.FlatState as flat
-use Rattle.cured_code.specs.FlatState.{slot}
 use Rattle.sim_relation.specs.Ground.{Ground, address, cells, pointer_words, word_number}
-use Rattle.sim_relation.specs.Related.{Related, ground_of}
 
 -- What is known of a temporary
 
@@ -60,13 +51,6 @@ pub record Known : Type 0 where
 -- what is known where code has come to
 abbrev pub Knowledge : Type 0
 Knowledge = Temp → Option Known
-
--- The temporaries' side: a value of this type, held by a call of this depth.
-abbrev pub IsHeldAs : Setting → List Site → Memory → ℕ → HeldType → Value → Type 0
-IsHeldAs w sites memory depth (IntegerOf i) (Integer z) = converted i z ≡ z
-IsHeldAs w sites memory depth (PointerTo n t) (Address p) = IsHeldBy w sites memory depth n t p
-IsHeldAs w sites memory depth (PlaceOf n t) (Address p) = IsPlaceIn w memory depth (w.kind n) t p
-IsHeldAs w sites memory depth type v = ⊥
 
 -- each number is one word
 pub record AreWords (words : List ℕ) : Type 0 where
@@ -112,29 +96,3 @@ abbrev pub IsThere : ℕ → ℕ → Content → Type 0
 IsThere count first (Number n) = ⊤
 IsThere count first (Start o) = object_number first o < count
 IsThere count first (End o) = object_number first o < count
-
--- A point
-
--- what is the same at all points of a body: the setting, the numbers of types, the sites, the depth of the call, the number of its first
--- variable, how many slots there are, one that is never written, and the kept ones
-pub record Body : Type 0 where
-  pub setting : Setting
-  pub number_of : TypeId → ℕ
-  pub sites : List Site
-  pub depth : ℕ
-  pub first : ℕ
-  pub slot_count : ℕ
-  pub nought : ℕ
-  pub kept : List KeptSlot
-
--- The two machines are at one point of a body: the states are related; each temporary of which something is known holds a value of its type,
--- and the slots stand for it; the kept slots hold what they are kept for, and the slot that is never written holds 0.
-pub record At (b : Body) (known : Knowledge) (l : code.Local) (c : flat.Local) : Type 0 where
-  pub related : Related b.setting b.number_of l.state c.state
-  pub held : (t : Temp) (x : Known) → known t ≡ Some x → IsHeldAs b.setting b.sites l.state.memory b.depth x.type (l.temps t)
-  pub stands : (t : Temp) (x : Known) → known t ≡ Some x
-      → StandsFor (ground_of b.setting b.number_of l.state c.state) c.slots x x.type (l.temps t)
-  pub kept : (j : ℕ) (x : KeptSlot) → slice_get b.kept j ≡ Some x → IsThere (length l.state.memory.objects) b.first x.content
-      × (slot c x.slot ≡ content_word (ground_of b.setting b.number_of l.state c.state) b.first x.content)
-  pub nought : slot c b.nought ≡ 0
-  pub count : length c.slots ≡ b.slot_count

@@ -6,5 +6,5 @@ returns-clause-using f w number_of s c parts depth t q e p size sound complete i
     bounds-compared w number_of s c parts depth t sound complete e p size is q x
 
 pub returns-clause-shrinking : goal.returns-clause-shrinking
-returns-clause-shrinking f w number_of s c parts depth t q e p size sound complete is x =
-    shrinking-compared w number_of s c parts depth t sound complete e p size is q x
+returns-clause-shrinking f w number_of s c parts depth t u q e p size sound complete target begins is x =
+    shrinking-compared w number_of s c parts depth t u sound complete target begins e p size is q x

@@ -2,6 +2,7 @@ use Rattle.sim_memory.proofs.WildStores.{wild-pointers-stored, nulls-stored}
 use Rattle.sim_memory.proofs.WildIntegers.{wild-integers-stored}
 use Rattle.sim_memory.proofs.WildClears.{wild-objects-cleared}
 use Rattle.sim_memory.proofs.WildMoves.{wild-copied}
+use Rattle.sim_memory.proofs.WildPlain.{plain-copied}
 use Rattle.sim_memory.proofs.tagged_words_are_written.Goals as goal
 
 pub returns-clause-pointer : goal.returns-clause-pointer
@@ -21,3 +22,7 @@ returns-clause-clearing f w number_of k o s x a b c found live tagged some r her
 
 pub returns-clause-copy : goal.returns-clause-copy
 returns-clause-copy f w sites number_of p q s x a b d e n c memory r y z some rows from8 to8 = wild-copied w sites number_of p q s x a b d e n c memory r y z some rows from8 to8
+
+pub returns-clause-plain : goal.returns-clause-plain
+returns-clause-plain f w sites number_of kind t p q s x a b d c plain all_raw some memory r y z =
+    plain-copied w sites number_of kind t p q s x a b d c plain all_raw some memory r y z

@@ -1,0 +1,219 @@
+-- Programs of plain code run as their three-address code: all laws of their instructions, of their frames and of their start are there.
+use Rattle.std.proofs.Common.{◌≡◌, ◌≢◌, ℕ, ◌≤◌, inl, inr, ⊎_elim, List, [], ◌++◌, length, map, refl, ap, sym, subst, ◌∙◌, arith}
+use Rattle.std.proofs.lemmas.List.{length-map}
+use Rattle.cc_base.specs.declared.kind.Kind.{Kind}
+use Rattle.cc_base.specs.declared.kind.Kind.TheVariants.{Safe, Seq, Rtti, Wild}
+use Rattle.cc_base.specs.declared.number.NodeId.{NodeId}
+use Rattle.cc_base.specs.declared.number.TypeId.{TypeId}
+use Rattle.cc_base.specs.declared.place.Place.{Place}
+use Rattle.c_types.specs.declared.shape.TypeShape.{TypeShape}
+use Rattle.c_types.specs.declared.shape.TypeShape.TheVariants as shape
+use Rattle.c_types.specs.Table.{shape_at}
+use Rattle.cil_form.specs.declared.number.Temp.{Temp}
+use Rattle.cil_form.specs.declared.instr.Access.TheVariants as access
+use Rattle.cil_form.specs.declared.instr.Target.TheVariants as target
+use Rattle.cil_form.specs.declared.instr.Convert.TheVariants as convert
+use Rattle.cil_form.specs.declared.instr.Point.TheVariants as point
+use Rattle.cil_form.specs.declared.instr.Instr.{Instr}
+use Rattle.cil_form.specs.declared.instr.Instr.TheVariants as instr
+use Rattle.cil_form.specs.declared.program.Function.{Function}
+use Rattle.cil_form.specs.declared.program.Parameter.{Parameter}
+use Rattle.cil_form.specs.declared.program.Program.{Program}
+use Rattle.cil_form.specs.Shape.{IsInShape, IsFunctionInShape}
+use Rattle.cil_form.specs.Told.{IsToldOf, IsSolutionOf}
+use Rattle.cil_form.specs.Typing.{HeldType, IntegerOf, IsTemp, no_types}
+use Rattle.cil_form.specs.Meaning as meaning
+use Rattle.cured_code.specs.declared.parts.Parts.{Parts}
+use Rattle.check_forms.specs.declared.slots.PointerSlots.{PointerSlots}
+use Rattle.check_forms.specs.Pieces.{Line, Then}
+use Rattle.sim_relation.specs.Points.{Knowledge}
+use Rattle.cure_rules.specs.Slots.{AreSlots}
+use Rattle.cure_rules.specs.Known.{held_shape}
+use Rattle.cure_rules.specs.Setting.{IsCuringSet}
+use Rattle.cure_rules.specs.Pointing.{IsCuringPoint, IsCuringConvert}
+use Rattle.cure_rules.specs.Accesses.{IsHome, StoresInteger, StoresPointer, IsCuringAccess}
+use Rattle.cure_rules.specs.Code.{Blocks, ReturnGuard, Returns}
+use Rattle.cure_rules.specs.Programs.{IsCuredProgram}
+use Rattle.sim_laws.specs.Scenes.{Programs, Scene, Running, world_of, around_of, first_scene}
+use Rattle.sim_laws.specs.Held.{IsInCode}
+use Rattle.sim_laws.specs.Statements.{Lines, Follows, AllFollow, Laws}
+use Rattle.sim_laws.specs.Calls.{Callee, FrameLaws, InstructionLaws, scene_in}
+use Rattle.sim_laws.specs.Runs.{programs_of}
+use Rattle.sim_laws.specs.Plain.{IsIntegerShape, IsPlainCode, IsPlainProgram}
+use Rattle.sim_laws.specs.Frames.{PlainProgramsRunAlike}
+use Rattle.sim_laws.proofs.Run.{all-at, runs-alike}
+use Rattle.sim_laws.proofs.Tests.{tested}
+use Rattle.sim_laws.proofs.Returns.{ResultFits, given-none, given-integer, result-fits}
+use Rattle.sim_laws.proofs.Operators.{calculate-follows}
+use Rattle.sim_laws.proofs.Conversions.{integer-follows, to-pointer-follows}
+use Rattle.sim_laws.proofs.Library.{runtime-follows}
+use Rattle.sim_laws.proofs.Accessing.{load-integer-follows, load-pointer-follows, store-integer-follows}
+use Rattle.sim_laws.proofs.Names.{Names, context_in, pointer-asked}
+use Rattle.sim_laws.proofs.Parts.{store-part-follows}
+use Rattle.sim_laws.proofs.Storing.{store-pointer-follows}
+use Rattle.sim_laws.proofs.Making.{address-follows}
+use Rattle.sim_laws.proofs.Shaped.{Shaped}
+use Rattle.sim_laws.proofs.Settled as settled
+use Rattle.sim_laws.proofs.Framed as framed
+use Rattle.sim_laws.proofs.Prologues.{prologue-alone}
+use Rattle.sim_laws.proofs.Starting.{started-alone}
+
+-- The instructions of plain code in a scene
+
+module _ (w : Scene) (g : AreSlots w.slots) (b : Running) (whole : List Instr) (plain : IsPlainCode w.programs.whole.table w.programs.whole.kind whole) (names : Names w)
+    (shaped : (j : Instr) → IsInCode j whole → Shaped j (context_in w names 0 no_types)) (sets : AllFollow w g b whole (λ i. instr.Set i) IsCuringSet) (result : ResultFits w) where
+  convert-follows : AllFollow w g b whole (λ i. instr.Convert i) IsCuringConvert
+  convert-follows (convert.Integer into from t) inside known after blocks lines h = integer-follows w g b into from t known after blocks lines h
+  convert-follows (convert.ToPointer into from t at) inside known after blocks lines h =
+      to-pointer-follows w g b into from t at known after blocks lines (pointer-asked w names t) h
+  convert-follows (convert.FromPointer into from t s) inside known after blocks lines h = absurd (plain (instr.Convert (convert.FromPointer into from t s)) inside)
+  convert-follows (convert.Pointer into from t s at) inside known after blocks lines h = absurd (plain (instr.Convert (convert.Pointer into from t s at)) inside)
+
+  -- no type is one of integers and of pointers
+  not-both : (h : TypeShape) (m : NodeId) (u : TypeId) → IsIntegerShape h → h ≡ shape.Pointer m u → ⊥
+  not-both h m u integer e = absurd (subst IsIntegerShape e integer)
+
+  point-follows : AllFollow w g b whole (λ i. instr.Point i) IsCuringPoint
+  point-follows (point.Address into from outer inner t) inside known after blocks lines h = of (shaped (instr.Point (point.Address into from outer inner t)) inside)
+    where
+      of : Shaped (instr.Point (point.Address into from outer inner t)) (context_in w names 0 no_types)
+          → Follows w g b blocks known after (meaning.act (instr.Point (point.Address into from outer inner t)) (around_of w b)) lines
+      of z = address-follows w names g b into from outer inner t known after blocks lines (plain (instr.Point (point.Address into from outer inner t)) inside).0
+          (plain (instr.Point (point.Address into from outer inner t)) inside).1 z.is.0.2.1 z.is.1.0 h
+  point-follows (point.Move into p n way t at) inside known after blocks lines h = absurd (plain (instr.Point (point.Move into p n way t at)) inside)
+  point-follows (point.Difference into a t b' s at) inside known after blocks lines h = absurd (plain (instr.Point (point.Difference into a t b' s at)) inside)
+  point-follows (point.Compare into comparison a t b' s at) inside known after blocks lines h = absurd (plain (instr.Point (point.Compare into comparison a t b' s at)) inside)
+  point-follows (point.IsNull into p t different) inside known after blocks lines h = absurd (plain (instr.Point (point.IsNull into p t different)) inside)
+  point-follows (point.Member into from outer t i inner u at) inside known after blocks lines h = absurd (plain (instr.Point (point.Member into from outer t i inner u at)) inside)
+  point-follows (point.Decay into from outer array check inner element at) inside known after blocks lines h =
+      absurd (plain (instr.Point (point.Decay into from outer array check inner element at)) inside)
+
+  -- a home that isn't WILD is SAFE
+  safe-home : (k : Kind) → IsHome k → k ≢ Wild → k ≡ Safe
+  safe-home Safe home other = refl
+  safe-home Wild home other = absurd (other refl)
+  safe-home Seq home other = absurd home
+  safe-home Rtti home other = absurd home
+
+  access-follows : AllFollow w g b whole (λ i. instr.Access i) IsCuringAccess
+  unfolding Line Then
+  access-follows (access.Load into from n t at) inside known after blocks lines (a, sure, address, inl h) =
+      load-integer-follows w names g b into from n t at known after blocks lines a sure (plain (instr.Access (access.Load into from n t at)) inside) address h
+  access-follows (access.Load into from n t at) inside known after blocks lines (a, sure, address, inr h) =
+      load-pointer-follows w names g b into from n t at known after blocks lines a sure (plain (instr.Access (access.Load into from n t at)) inside) address h
+  access-follows (access.Store (target.Pointer to n) v t at assignment) inside known after blocks lines (s, inl (x, y, (a, sure, address, same, empty), stores, is), less) =
+      subst (λ (js : Lines). Follows w g b blocks known after (meaning.act (instr.Access (access.Store (target.Pointer to n) v t at assignment)) (around_of w b)) js)
+      (sym (is ∙ ap (λ (js : Lines). js ++ y) empty))
+      (store-integer-follows w names g b to v n t at assignment known after blocks y a sure (plain (instr.Access (access.Store (target.Pointer to n) v t at assignment)) inside) address less
+      (subst (λ (z : PointerSlots). StoresInteger (world_of w) v t z (w.programs.whole.kind n) at known y) same stores))
+  access-follows (access.Store (target.Pointer to n) v t at assignment) inside known after blocks lines (s, inr (x, y, (a, sure, address, same, empty), stores, is), less) =
+      subst (λ (js : Lines). Follows w g b blocks known after (meaning.act (instr.Access (access.Store (target.Pointer to n) v t at assignment)) (around_of w b)) js)
+      (sym (is ∙ ap (λ (js : Lines). js ++ y) empty))
+      (store-pointer-follows w names g b to v n t at assignment known after blocks y a sure (temp (shaped (instr.Access (access.Store (target.Pointer to n) v t at assignment)) inside))
+      (plain (instr.Access (access.Store (target.Pointer to n) v t at assignment)) inside) address less
+      (subst (λ (z : PointerSlots). StoresPointer (world_of w) v t z (w.programs.whole.kind n) at assignment known y) same stores))
+    where
+      temp : Shaped (instr.Access (access.Store (target.Pointer to n) v t at assignment)) (context_in w names 0 no_types) → IsTemp to
+      temp z = ⊎_elim (λ h. h.0) (λ h. h.0) z.is.0.0.1
+  access-follows (access.Store (target.Part o home u offset) v t at assignment) inside known after blocks lines
+      (s, inl (x, y, (base, seat, is_home, same, gets), stores, is), less) =
+      subst (λ (js : Lines). Follows w g b blocks known after (meaning.act (instr.Access (access.Store (target.Part o home u offset) v t at assignment)) (around_of w b)) js) (sym is)
+      (of (shaped (instr.Access (access.Store (target.Part o home u offset) v t at assignment)) inside))
+    where
+      of : Shaped (instr.Access (access.Store (target.Part o home u offset) v t at assignment)) (context_in w names 0 no_types)
+          → Follows w g b blocks known after (meaning.act (instr.Access (access.Store (target.Part o home u offset) v t at assignment)) (around_of w b)) (x ++ y)
+      of z = store-part-follows w names g b z.blocks z.kept o home u offset v t at assignment known after blocks base seat x y
+          (safe-home (w.programs.whole.kind home) is_home (plain (instr.Access (access.Store (target.Part o home u offset) v t at assignment)) inside).1)
+          z.is.0.0.0 z.is.0.0.1 less gets
+          (subst (λ (q : PointerSlots). StoresInteger (world_of w) v t q (w.programs.whole.kind home) at known y) same stores)
+  access-follows (access.Store (target.Part o home u offset) v t at assignment) inside known after blocks lines
+      (s, inr (x, y, targets, (m, u', b', sure, seat, pointer, points, rest), is), less) =
+      absurd (not-both (shape_at w.programs.whole.table t) m u' (plain (instr.Access (access.Store (target.Part o home u offset) v t at assignment)) inside).0 pointer)
+  access-follows (access.Clear o) inside known after blocks lines h = absurd (plain (instr.Access (access.Clear o)) inside)
+  access-follows (access.Copy to to_place from n from_place t assignment) inside known after blocks lines h =
+      absurd (plain (instr.Access (access.Copy to to_place from n from_place t assignment)) inside)
+
+  given-follows : (known after : Knowledge) (blocks : Blocks) (v : Temp) (t : TypeId) (at : Place) (lines : Lines) → IsInCode (instr.ReturnValue v t at) whole
+      → Returns (world_of w) known v t at lines → Follows w g b blocks known after (meaning.act (instr.ReturnValue v t at) (around_of w b)) lines
+  unfolding Line Then
+  given-follows known after blocks v t at lines inside (x, a, number, is, fact, place, form, held, (first, rest, guard, last, lines_are)) =
+      by (shape_at w.programs.whole.table t) refl (plain (instr.ReturnValue v t at) inside)
+    where
+      by : (h : TypeShape) → shape_at w.programs.whole.table t ≡ h → IsIntegerShape h
+          → Follows w g b blocks known after (meaning.act (instr.ReturnValue v t at) (around_of w b)) lines
+      by (shape.Integer bytes signed) e integer = given-integer w g b result known after blocks v t at lines x (record { bytes = bytes; signed = signed }) a number is fact type place form
+          (ap held_shape e) (lines_are ∙ ap (λ (js : Lines). js ++ rest) none ∙ last)
+        where
+          type : x.type ≡ IntegerOf (record { bytes = bytes; signed = signed })
+          type = let f = sym held ∙ ap held_shape e in cc (f)
+
+          none : first ≡ []
+          none = subst (λ (h : HeldType). ReturnGuard h w.variables (world_of w) a at first) type guard
+      by shape.Void e integer = absurd integer
+      by (shape.Pointer n u) e integer = absurd integer
+      by (shape.Array n u) e integer = absurd integer
+      by (shape.Function n u) e integer = absurd integer
+      by (shape.Struct n) e integer = absurd integer
+      by (shape.Union n) e integer = absurd integer
+
+  pub plain-laws : Laws w g b whole
+  plain-laws = record {
+    set = sets;
+    calculate = calculate-follows w g b whole;
+    point = point-follows;
+    convert = convert-follows;
+    access = access-follows;
+    allocate = λ i inside known after blocks lines h. absurd (plain (instr.Allocate i) inside);
+    call = λ i inside known after blocks lines h. absurd (plain (instr.Call i) inside);
+    runtime = runtime-follows w g b whole;
+    test = tested w g b;
+    given = given-follows;
+    given_none = given-none w g b result;
+  }
+
+-- A whole program
+
+module _ (p : Program) (kind : NodeId → Kind) (node : TypeId → ℕ) (parents : List ℕ) (parts : Parts) (shaped : IsInShape p) (told : IsToldOf p)
+    (solution : IsSolutionOf p kind) (is : IsCuredProgram p kind node parents parts) (plain : IsPlainProgram p kind) where
+  abbrev both : Programs
+  both = programs_of p kind node is.numbers p.sites parts
+
+  laid : length both.whole.statics ≤ length both.whole.addresses
+  laid = (settled.names-first p kind node is.numbers parents parts shaped told solution is.are_cured is.are_cured.slots).laid
+
+  frame-laws : FrameLaws both
+  frame-laws = record {
+    fits = framed.calls-fit p kind node is.numbers parents parts shaped told solution is.are_cured;
+    begins = framed.calls-begin p kind node is.numbers parents parts shaped told solution is.are_cured;
+    prologue = λ b k call enters arguments words s c there are begun. prologue-alone both laid b k (all-at (λ (f : Function). f.parameters ≡ []) p.functions plain.parameters k.number k.function k.found)
+        call enters arguments words s c are begun;
+    ends = framed.calls-end p kind node is.numbers parents parts shaped told solution is.are_cured;
+    none = framed.ends-give-zero p kind node is.numbers parents parts shaped told solution is.are_cured;
+  }
+
+  result-in : (k : Callee both) → ResultFits (scene_in both k)
+  result-in k = result-fits both k is.are_cured.signatures (map (λ (x : Parameter). x.ty) k.function.parameters) f.type.0 f.type.2
+      (let e = length-map k.function.parameters (λ (x : Parameter). x.ty) in let l = f.parameters in omega (arith, e, l))
+    where
+      f : IsFunctionInShape p k.function
+      f = all-at (IsFunctionInShape p) p.functions shaped.functions k.number k.function k.found
+
+  instruction-laws : InstructionLaws both
+  instruction-laws = record {
+    function = λ k b calls. plain-laws (scene_in both k) k.is.slots.slots b k.function.body.0.items
+        (all-at (λ (f : Function). IsPlainCode p.types kind f.body.0.items) p.functions plain.functions k.number k.function k.found)
+        (settled.names-in p kind node is.numbers parents parts shaped told solution is.are_cured k.number k.function k.found k.slots)
+        (settled.shaped-at p kind node is.numbers parents parts shaped told solution is.are_cured k.number k.function k.found k.slots)
+        (settled.set-in p kind node is.numbers parents parts shaped told solution is.are_cured k.number k.function k.found k.slots k.is.slots.slots b) (result-in k);
+    start = λ slots g b. plain-laws (first_scene both slots) g b p.initialisers.0.items plain.initialisers
+        (settled.names-first p kind node is.numbers parents parts shaped told solution is.are_cured slots)
+        (settled.shaped-begin p kind node is.numbers parents parts shaped told solution is.are_cured slots)
+        (settled.set-first p kind node is.numbers parents parts shaped told solution is.are_cured slots g b) (record { words = λ t e. absurd (cc (e)) });
+  }
+
+-- THE THEOREM OF PLAIN PROGRAMS
+pub plain-alike : PlainProgramsRunAlike
+plain-alike p kind node parents parts input turns shaped told solution plain is bytes =
+    runs-alike p kind node parents parts p.sites input turns shaped is (frame-laws p kind node parents parts shaped told solution is plain)
+    (instruction-laws p kind node parents parts shaped told solution is plain)
+    (started-alone p kind node is.numbers parents parts shaped is.are_cured plain.statics input bytes turns)

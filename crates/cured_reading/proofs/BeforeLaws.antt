@@ -60,10 +60,12 @@ word_read line part at after e f =
     rw e (sym (two-parts 32 (drop at line)) ∙ ap (λ l. before 32 (drop at line) ++ l) (drop-drop (size_before 32 (drop at line)) at line
     ∙ ap (λ n. drop n line) (omega arith)))
 
+pub ended-at : (text : List ℕ) (from : ℕ) → from ≤ length text → drop from text ≡ [] → from ≡ length text
+ended-at text from h e = let n : length (drop from text) ≡ 0 = ap length e in omega (arith, n, length-drop from text)
+
 -- nothing is left at the end alone
 pub nothing_left : (text : List ℕ) (from : ℕ) → from ≤ length text → IsTrue (nat_eq from (length text)) ↔ (drop from text ≡ [])
 nothing_left text from h = (
   (λ t. let e : from ≡ length text = grind (arith, nat_tests, t) in rw e (drop-length text)),
-  (λ e. let n : length (drop from text) ≡ 0 = ap length e in let same : from ≡ length text = omega (arith, n, length-drop from text) in
-      grind (arith, nat_tests, same)),
+  (λ e. let same = ended-at text from h e in grind (arith, nat_tests, same)),
 )

@@ -19,7 +19,7 @@ use Rattle.cured_reading.specs.Faults.{Section, Sigs, Nodes, Globals, Functions,
 
 -- What a line says, read back from it where it may stand
 
-from_head : Head → Told
+unfoldable pub from_head : Head → Told
 from_head (One i) = Straight i
 from_head (OpensIf a) = If a
 from_head OpensBlock = Block
@@ -27,7 +27,7 @@ from_head OpensLoop = Loop
 from_head TurnsElse = Else
 from_head Ends = End
 
-read_back : Awaited → Line → Told
+unfoldable pub read_back : Awaited → Line → Told
 unfolding from_head first_of after_first number tag_in bytes_in first_field second_field third_field fourth_field
 read_back TheVersion l = Version (number (first_field l))
 read_back TheSigs l = Count Sigs (number (first_field l))
@@ -44,14 +44,14 @@ read_back (InBody zero part parts rest) l = from_head (head l)
 read_back (InBody (suc k) part parts rest) l = Local (record { tagged = tag_in (first_field l); bytes = number (second_field l) })
 read_back Nothing l = End
 
-straight-head : (i : Instr) → IsStraight i → head_of i ≡ One i
+pub straight-head : (i : Instr) → IsStraight i → head_of i ≡ One i
 unfolding head_of
 straight-head (instr.If' a s x t y) h = absurd h
 straight-head (instr.Block' s x) h = absurd h
 straight-head (instr.Loop' s x) h = absurd h
 straight-head i h = refl
 
-read-back : (s : Awaited) (t : Told) → MayStand s t → read_back s (told_line t) ≡ t
+pub read-back : (s : Awaited) (t : Told) → MayStand s t → read_back s (told_line t) ≡ t
 unfolding read_back from_head head first_of after_first number tag_in bytes_in first_field second_field third_field fourth_field
 read-back TheVersion (Version n) h = refl
 read-back TheSigs (Count Sigs n) h = refl
@@ -84,7 +84,7 @@ read-back (InBody (suc k) part parts rest) Else h = absurd (let e = h.0 in omega
 read-back (InBody (suc k) part parts rest) End h = absurd (let e = h.0 in omega (arith, e))
 read-back s t h = absurd h
 
-told-written : (t : Told) → IsWritten (told_line t)
+pub told-written : (t : Told) → IsWritten (told_line t)
 told-written (Version n) = record { name = above-tested (codes "ccured") refl; fields = refl }
 told-written (Count Sigs n) = record { name = above-tested (codes "sigs") refl; fields = refl }
 told-written (Count Nodes n) = record { name = above-tested (codes "nodes") refl; fields = refl }
@@ -123,7 +123,7 @@ told_first s t u x y h v k w e =
 
 -- A line that is right isn't wrong
 
-none_stands : (t : Told) → MayStand Nothing t → ⊥
+pub none_stands : (t : Told) → MayStand Nothing t → ⊥
 none_stands (Version n) h = h
 none_stands (Count section n) h = h
 none_stands (Signature sig) h = h

@@ -5,3 +5,13 @@ pub mod PairLaws
 pub mod PartsRead
 pub mod FaultLaws
 pub mod SpellingTold
+pub mod WordLaws
+pub mod NumberLaws
+pub mod RefusalLaws
+pub mod SectionLaws
+pub mod MisreadLaws
+pub mod ExitLaws
+pub mod InstrLaws
+pub mod StraightLaws
+pub mod BodyLaws
+pub mod ReadingLaws

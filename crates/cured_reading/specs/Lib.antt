@@ -3,3 +3,4 @@ pub mod Operations
 pub mod Openings
 pub mod Heads
 pub mod Faults
+pub mod Refusals

@@ -1,5 +1,6 @@
 -- The instructions whose fields are numbers alone.
-use Rattle.std.specs.Prelude.{ℕ, List, [], ◌∷◌, codes}
+use Rattle.std.specs.Prelude.{ℕ, ◌≡◌, List, [], ◌∷◌, map, codes}
+use Rattle.cured_spelling.specs.Lines.{Field, Number}
 use Rattle.cured_code.specs.declared.instr.Instr.{Instr}
 use Rattle.cured_code.specs.declared.instr.Instr.TheVariants as instr
 use Rattle.cured_reading.specs.declared.operation.Operation.{Operation}
@@ -176,3 +177,19 @@ wide_numbers_of TwoLong of = of.a ∷ of.b ∷ of.n ∷ []
 wide_numbers_of ThreeLong of = of.a ∷ of.b ∷ of.c ∷ of.n ∷ []
 wide_numbers_of FourLong of = of.a ∷ of.b ∷ of.c ∷ of.d ∷ of.n ∷ []
 wide_numbers_of Access of = of.n ∷ of.a ∷ of.b ∷ []
+
+-- the same as fields
+abbrev pub wide_fields : Format → Wide → List Field
+wide_fields format of = map Number (wide_numbers_of format of)
+
+-- what a format doesn't have is 0
+abbrev pub IsPadded : Format → Wide → Type 0
+IsPadded One of = (of.b ≡ 0) × (of.c ≡ 0) × (of.d ≡ 0)
+IsPadded Two of = (of.c ≡ 0) × (of.d ≡ 0)
+IsPadded Three of = of.d ≡ 0
+IsPadded Four of = Unit {0}
+IsPadded OneLong of = (of.b ≡ 0) × (of.c ≡ 0) × (of.d ≡ 0)
+IsPadded TwoLong of = (of.c ≡ 0) × (of.d ≡ 0)
+IsPadded ThreeLong of = of.d ≡ 0
+IsPadded FourLong of = Unit {0}
+IsPadded Access of = (of.c ≡ 0) × (of.d ≡ 0)

@@ -1,5 +1,6 @@
 -- Parts of a text: its lines, and the words of a line.
-use Rattle.std.specs.Prelude.{ℕ, suc, ◌≡◌, ◌<◌, ◌+◌, List, [], ◌∷◌, length, take, drop, min, nat_eq, cond}
+use Rattle.std.specs.Prelude.{ℕ, suc, ◌≡◌, ◌≢◌, ◌<◌, ◌+◌, List, [], ◌∷◌, length, take, drop, min, nat_eq, cond}
+use Rattle.std.specs.List.{AllByRecursion}
 
 -- how many bytes stand before the first that equals b; all of them where none does
 abbrev pub size_before : ℕ → List ℕ → ℕ
@@ -30,3 +31,18 @@ pub record IsWordAt (line : List ℕ) (from : ℕ) (part : List ℕ) (after : �
 pub record Left : Type 0 where
   pub text : List ℕ
   pub number : ℕ
+
+-- no byte of the list equals b
+abbrev pub IsWithout : ℕ → List ℕ → Type 0
+IsWithout b bytes = AllByRecursion (λ byte. byte ≢ b) bytes
+
+-- a word that comes before these bytes ends there
+abbrev pub EndsWord : List ℕ → Type 0
+EndsWord [] = Unit {0}
+EndsWord (byte ∷ bytes) = byte ≡ 32
+
+-- a word, and what comes after it
+pub record IsWordBefore (word bytes : List ℕ) : Type 0 where
+  pub some : 0 < length word
+  pub whole : IsWithout 32 word
+  pub ends : EndsWord bytes

@@ -1,8 +1,13 @@
 //! Reading instructions, with those that they hold.
-ghost use Rattle.std.specs.Prelude.{◌≡◌, ◌≤◌, ◌<◌, ◌++◌, ◌∷◌, [], ℕ, List, IfOk, OnOk, codes, flat_map, length};
-ghost use Rattle.cured_spelling.specs.Lines.{line_text, words_text};
+ghost use Rattle.std.specs.Prelude.{◌≡◌, ◌≢◌, ◌≤◌, ◌<◌, ◌++◌, ◌∷◌, [], ℕ, Bool, List, IfOk, OnOk, IfErr, codes, flat_map, length};
+ghost use Rattle.cured_code.specs.Ranges.{Names as Scope, IsInstrInRange, AreInstrsInRange, inside_block, nest_limit};
+ghost use Rattle.cured_spelling.specs.Lines.{line_text};
 ghost use Rattle.cured_spelling.specs.Spelling.{lines_of, code_lines, else_line, end_line};
 ghost use Rattle.cured_reading.specs.Openings.{IsOpening, closing_line};
+ghost use Rattle.cured_reading.specs.declared.code.Closing.{Closing as AnyClosing};
+ghost use Rattle.cured_reading.specs.Parts.{Left as Place};
+ghost use Rattle.cured_reading.specs.Faults.{Part as Outer, next, told_line};
+ghost use Rattle.cured_reading.specs.Refusals.{IsFew, IsBegun, in_part, told_held, told_closing, AreRead, IsRefused};
 
 use crate::lines::{Fields, Lines};
 use crate::straight::{low, straight};
@@ -45,12 +50,13 @@ fn opening_of(name: &[u8]) -> Opening
 }
 
 /// The end of a part: this line may stand here, and has no field.
-fn close(found: Opening, closing: Closing, fields: &Fields) -> Result<(), Wrong>
-    ensures { OnOk result ((fields.now ≡ []) × ((name : List ℕ) → IsOpening name found → name ≡ words_text (closing_line closing))) }
+fn close(found: Closing, closing: Closing, fields: &Fields) -> Result<(), Wrong>
+    ensures closed { OnOk result ((found ≡ closing) × (fields.now ≡ [])) }
+    ensures open { IfErr result (λ why. (why ≡ SYNTAX) × (found ≡ closing → fields.now ≢ [])) }
 {
     match (found, closing) {
-        (Opening::Else, Closing::Else) => fields.end(),
-        (Opening::End, Closing::End) => fields.end(),
+        (Closing::Else, Closing::Else) => fields.end(),
+        (Closing::End, Closing::End) => fields.end(),
         _ => Err(SYNTAX),
     }
 }
@@ -63,8 +69,14 @@ pub(crate) fn part(
     closing: Closing,
     alloc: Global,
 ) -> Result<Code, Wrong>
+    requires { IsFew names.now }
     ensures spelled { IfOk result (λ code. lines.old.text ≡ flat_map line_text (code_lines code.0.items) ++ (line_text (closing_line closing) ++ lines.new.text)) }
     ensures shorter { OnOk result (length lines.new.text < length lines.old.text) }
+    ensures kept { IfOk result (λ code. AreInstrsInRange names.now code.0.items) }
+    ensures read { OnOk result ((parts : List Outer) (rest : List Scope)
+        → AreRead (in_part names.now closing parts rest) lines.old (next (in_part names.now closing parts rest) (told_closing closing)) lines.new) }
+    ensures refused { IfErr result (λ why. (parts : List Outer) (rest : List Scope)
+        → IsRefused (in_part names.now closing parts rest) lines.old why lines.new.number) }
 {
     let mut instrs = Vec::new(alloc);
     'reading: loop {
@@ -72,8 +84,12 @@ pub(crate) fn part(
         let name = fields.name()?;
         let found = opening_of(name);
         match found {
-            Opening::Else | Opening::End => {
-                close(found, closing, &fields)?;
+            Opening::Else => {
+                close(Closing::Else, closing, &fields)?;
+                return Ok(Code(instrs));
+            }
+            Opening::End => {
+                close(Closing::End, closing, &fields)?;
                 return Ok(Code(instrs));
             }
             Opening::Straight => instrs.push(straight(names, name, &mut fields)?)?,
@@ -98,8 +114,16 @@ fn branch(
     fields: &mut Fields,
     alloc: Global,
 ) -> Result<Instr, Wrong>
+    requires { IsFew names.now }
     ensures spelled { IfOk result (λ i. codes "if" ++ (fields.old ++ (10 ∷ lines.old.text)) ≡ flat_map line_text (lines_of i) ++ lines.new.text) }
     ensures shorter { OnOk result (length lines.new.text ≤ length lines.old.text) }
+    ensures kept { IfOk result (λ i. IsInstrInRange names.now i) }
+    ensures read { OnOk result ((before : Place) (closing : AnyClosing) (parts : List Outer) (rest : List Scope)
+        → IsBegun (codes "if") fields.old before lines.old
+        → AreRead (in_part names.now closing parts rest) before (in_part names.now closing parts rest) lines.new) }
+    ensures refused { IfErr result (λ why. (before : Place) (closing : AnyClosing) (parts : List Outer) (rest : List Scope)
+        → IsBegun (codes "if") fields.old before lines.old
+        → IsRefused (in_part names.now closing parts rest) before why lines.new.number) }
 {
     let a = fields.number()?;
     fields.end()?;
@@ -119,9 +143,18 @@ fn branch(
 /// The part of a `block` or a `loop`.
 #[cycle(reading)]
 fn held(lines: &mut Lines, names: &Names, fields: &Fields, alloc: Global) -> Result<Code, Wrong>
+    requires { IsFew names.now }
     ensures fields { OnOk result (fields.now ≡ []) }
     ensures spelled { IfOk result (λ code. lines.old.text ≡ flat_map line_text (code_lines code.0.items) ++ (line_text end_line ++ lines.new.text)) }
     ensures shorter { OnOk result (length lines.new.text ≤ length lines.old.text) }
+    ensures nest { OnOk result (names.now.nest < nest_limit) }
+    ensures kept { IfOk result (λ code. AreInstrsInRange (inside_block names.now) code.0.items) }
+    ensures read { OnOk result ((is_loop : Bool) (before : Place) (closing : AnyClosing) (parts : List Outer) (rest : List Scope)
+        → IsBegun (told_line (told_held is_loop)).name fields.now before lines.old
+        → AreRead (in_part names.now closing parts rest) before (in_part names.now closing parts rest) lines.new) }
+    ensures refused { IfErr result (λ why. (is_loop : Bool) (before : Place) (closing : AnyClosing) (parts : List Outer) (rest : List Scope)
+        → IsBegun (told_line (told_held is_loop)).name fields.now before lines.old
+        → IsRefused (in_part names.now closing parts rest) before why lines.new.number) }
 {
     fields.end()?;
     if names.nest >= NEST_LIMIT {

@@ -1,6 +1,8 @@
 //! The lines of a text, one after another, and the fields of a line.
-ghost use Rattle.std.specs.Prelude.{◌≡◌, ◌≤◌, ◌++◌, ◌∷◌, [], length, OnOk, IfOk, IsTrue, ◌↔◌};
+ghost use Rattle.std.specs.Prelude.{◌≡◌, ◌≢◌, ◌≤◌, ◌<◌, ◌+◌, ◌^◌, ◌++◌, ◌∷◌, [], ℕ, length, OnOk, OnErr, IfOk, IfErr, IsTrue, ◌↔◌};
 ghost use Rattle.std.specs.Fmt.{decimal};
+ghost use Rattle.cured_reading.specs.Parts.{IsWithout, EndsWord, IsWordBefore};
+ghost use Rattle.cured_reading.specs.Refusals.{LacksFields, any_field, one_number};
 
 use crate::parts_of_text::{line, word};
 use crate::wrong::{SYNTAX, Wrong};
@@ -42,7 +44,11 @@ impl<'a> Lines<'a> {
     /// The next line.
     #[tactic(auto, using(crate::proofs::BeforeLaws::line_read))]
     pub(crate) fn next(&mut self) -> Result<Fields<'a>, Wrong>
-        ensures { IfOk result (λ fields. self.old.text ≡ fields ++ (10 ∷ self.new.text)) }
+        ensures cut { IfOk result (λ fields. self.old.text ≡ fields ++ (10 ∷ self.new.text)) }
+        ensures whole { IfOk result (λ fields. IsWithout 10 fields) }
+        ensures counted { OnOk result (self.new.number ≡ self.old.number + 1) }
+        ensures none { IfErr result (λ why. (why ≡ Wrong.Next) × IsWithout 10 self.old.text) }
+        ensures still { OnErr result (self.new.number ≡ self.old.number) }
     {
         match line(self.text, self.from) {
             None => Err(Wrong::Next),
@@ -91,7 +97,9 @@ impl<'a> Fields<'a> {
     /// The name that a line begins with.
     #[tactic(auto, using(crate::proofs::BeforeLaws::word_read))]
     pub(crate) fn name(&mut self) -> Result<&'a [u8], Wrong>
-        ensures { IfOk result (λ name. self.old ≡ name.now ++ self.new) }
+        ensures cut { IfOk result (λ name. self.old ≡ name.now ++ self.new) }
+        ensures word { IfOk result (λ name. IsWordBefore name.now self.new) }
+        ensures none { IfErr result (λ why. (why ≡ SYNTAX) × EndsWord self.old) }
     {
         match word(self.line, self.at) {
             None => Err(SYNTAX),
@@ -104,7 +112,9 @@ impl<'a> Fields<'a> {
 
     /// The next field.
     pub(crate) fn field(&mut self) -> Result<&'a [u8], Wrong>
-        ensures { IfOk result (λ field. self.old ≡ 32 ∷ (field.now ++ self.new)) }
+        ensures cut { IfOk result (λ field. self.old ≡ 32 ∷ (field.now ++ self.new)) }
+        ensures word { IfOk result (λ field. IsWordBefore field.now self.new) }
+        ensures none { IfErr result (λ why. (why ≡ SYNTAX) × LacksFields any_field self.old) }
     {
         if self.at == self.line.len() || self.line[self.at] != b' ' {
             return Err(SYNTAX);
@@ -115,7 +125,10 @@ impl<'a> Fields<'a> {
 
     /// The next field, a number: digits without leading zeros, and below 2^64.
     pub(crate) fn number(&mut self) -> Result<u64, Wrong>
-        ensures { IfOk result (λ n. self.old ≡ 32 ∷ (decimal n ++ self.new)) }
+        ensures cut { IfOk result (λ n. self.old ≡ 32 ∷ (decimal n ++ self.new)) }
+        ensures small { IfOk result (λ n. n < 2 ^ 64) }
+        ensures ends { OnOk result (EndsWord self.new) }
+        ensures none { IfErr result (λ why. (why ≡ SYNTAX) × LacksFields one_number self.old) }
     {
         let field = self.field()?;
         let n = value(field);
@@ -129,7 +142,8 @@ impl<'a> Fields<'a> {
 
     /// The end of the line.
     pub(crate) fn end(&self) -> Result<(), Wrong>
-        ensures { OnOk result (self.now ≡ []) }
+        ensures ended { OnOk result (self.now ≡ []) }
+        ensures more { IfErr result (λ why. (why ≡ SYNTAX) × (self.now ≢ [])) }
     {
         if self.at == self.line.len() {
             Ok(())
@@ -140,7 +154,9 @@ impl<'a> Fields<'a> {
 }
 
 /// The number that decimal digits give, modulo 2^64.
-fn value(digits: &[u8]) -> u64 {
+fn value(digits: &[u8]) -> u64
+    ensures { (n : ℕ) → n < 2 ^ 64 → digits.now ≡ decimal n → result ≡ n }
+{
     let mut value: u64 = 0;
     for digit in digits {
         value = value.wrapping_mul(10).wrapping_add(u64::from(digit & 15));

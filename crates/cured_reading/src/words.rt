@@ -1,5 +1,5 @@
 //! Fields that are words.
-ghost use Rattle.std.specs.Prelude.{◌≡◌, IfSome};
+ghost use Rattle.std.specs.Prelude.{◌≡◌, ◌≢◌, All, Bool, IfSome, IfNone};
 ghost use Rattle.cc_base.specs.Names.{check_name};
 ghost use Rattle.cured_spelling.specs.Lines.{form_text, tag_text};
 ghost use Rattle.cured_reading.specs.Operations.{operation_name};
@@ -36,16 +36,26 @@ const CHECKS: [Check; 13] = [
 
 /// The part of a word that has this name.
 pub(crate) fn form_of(name: &[u8]) -> Option<Narrow>
-    ensures { IfSome result (λ form. form_text form ≡ name.now) }
+    ensures found { IfSome result (λ form. form_text form ≡ name.now) }
+    ensures none { IfNone result (All (λ form. form_text form ≢ name.now) FORMS) }
 {
     FORMS.iter().copied().find(|form| form_name(*form) == name)
 }
 
 /// The check that has this name.
 pub(crate) fn check_of(name: &[u8]) -> Option<Check>
-    ensures { IfSome result (λ check. check_name check ≡ name.now) }
+    ensures found { IfSome result (λ check. check_name check ≡ name.now) }
+    ensures none { IfNone result (All (λ check. check_name check ≢ name.now) CHECKS) }
 {
-    CHECKS
+    check_among(&CHECKS, name)
+}
+
+/// That of these which has this name.
+fn check_among(checks: &[Check], name: &[u8]) -> Option<Check>
+    ensures found { IfSome result (λ check. check_name check ≡ name.now) }
+    ensures none { IfNone result (All (λ check. check_name check ≢ name.now) checks.now) }
+{
+    checks
         .iter()
         .copied()
         .find(|check| check.name().as_bytes() == name)
@@ -53,7 +63,8 @@ pub(crate) fn check_of(name: &[u8]) -> Option<Check>
 
 /// Whether an area of this letter is tagged.
 pub(crate) fn tag_of(letter: &[u8]) -> Option<bool>
-    ensures { IfSome result (λ tagged. tag_text tagged ≡ letter.now) }
+    ensures found { IfSome result (λ tagged. tag_text tagged ≡ letter.now) }
+    ensures none { IfNone result ((tagged : Bool) → tag_text tagged ≢ letter.now) }
 {
     [true, false]
         .iter()
@@ -63,9 +74,18 @@ pub(crate) fn tag_of(letter: &[u8]) -> Option<bool>
 
 /// The operation that has this name.
 pub(crate) fn operation_of(name: &[u8]) -> Option<Operation>
-    ensures { IfSome result (λ operation. operation_name operation ≡ name.now) }
+    ensures found { IfSome result (λ operation. operation_name operation ≡ name.now) }
+    ensures none { IfNone result (All (λ operation. operation_name operation ≢ name.now) OPERATIONS) }
 {
-    OPERATIONS
+    operation_among(&OPERATIONS, name)
+}
+
+/// That of these which has this name.
+fn operation_among(operations: &[Operation], name: &[u8]) -> Option<Operation>
+    ensures found { IfSome result (λ operation. operation_name operation ≡ name.now) }
+    ensures none { IfNone result (All (λ operation. operation_name operation ≢ name.now) operations.now) }
+{
+    operations
         .iter()
         .copied()
         .find(|operation| operation.name() == name)

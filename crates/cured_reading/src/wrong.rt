@@ -1,5 +1,6 @@
 //! What is wrong with a text.
-ghost use Rattle.std.specs.Prelude.{◌<◌};
+ghost use Rattle.std.specs.Prelude.{◌<◌, ◌≡◌};
+ghost use Rattle.cured_reading.specs.Refusals.{fault_at};
 
 use cc_base::NoMemory;
 use std::alloc::{AllocError, AllocFailed};
@@ -68,6 +69,7 @@ impl Wrong {
     /// As a fault of the text, of which so many lines were read.
     pub(crate) fn at(self, line: u32) -> CuredFault
         requires { line < 4294967295 }
+        ensures { result ≡ fault_at self line }
     {
         match self {
             Wrong::Next => CuredFault::Form {
@@ -82,18 +84,33 @@ impl Wrong {
 }
 
 impl From<AllocError> for Wrong {
+    ghost use Rattle.std.specs.Prelude.{◌≡◌};
+    ghost use Rattle.cured_reading.specs.declared.wrong.Wrong.TheVariants.{NoMemory as IsNoMemory};
+
+    ghost from_gives = { λ _ why. why ≡ IsNoMemory };
+
     fn from(_error: AllocError) -> Wrong {
         Wrong::NoMemory
     }
 }
 
 impl<T: Drop> From<AllocFailed<T>> for Wrong {
+    ghost use Rattle.std.specs.Prelude.{◌≡◌};
+    ghost use Rattle.cured_reading.specs.declared.wrong.Wrong.TheVariants.{NoMemory as IsNoMemory};
+
+    ghost from_gives = { λ _ why. why ≡ IsNoMemory };
+
     fn from(_error: AllocFailed<T>) -> Wrong {
         Wrong::NoMemory
     }
 }
 
 impl From<NoMemory> for Wrong {
+    ghost use Rattle.std.specs.Prelude.{◌≡◌};
+    ghost use Rattle.cured_reading.specs.declared.wrong.Wrong.TheVariants.{NoMemory as IsNoMemory};
+
+    ghost from_gives = { λ _ why. why ≡ IsNoMemory };
+
     fn from(_error: NoMemory) -> Wrong {
         Wrong::NoMemory
     }

@@ -1,3 +1,4 @@
+//! What the sites of a program are gone through with.
 #![tactic(auto)]
 
 use c_types::{Site, Types};

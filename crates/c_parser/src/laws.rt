@@ -1,3 +1,4 @@
+//! What the grammar says of every text: one unit at most, and one answer.
 // Laws of units: each is the contract of a function that does nothing, so that it is proved once and can be cited.
 
 ghost use Rattle.std.specs.Prelude.{◌≡◌, ℕ, false, List};

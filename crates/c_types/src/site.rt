@@ -1,3 +1,4 @@
+//! The sites of a program: what its constructs ask of kinds.
 #![tactic(auto)]
 
 use cc_base::{NodeId, Place, TypeId};

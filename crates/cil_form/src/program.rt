@@ -1,3 +1,4 @@
+//! The parts of a program in three-address code.
 use crate::instr::Code;
 use crate::number::{FunctionNumber, Planned};
 use c_types::{Site, Types};

@@ -1,3 +1,4 @@
+//! The ranges of all numbers of a cured program, and its limits.
 ghost use Rattle.std.specs.Prelude.{◌≤◌, ◌<◌, ◌↔◌, IsTrue, All, length, sum_by, slice_get, IfSome};
 ghost use Rattle.cured_code.specs.Ranges.{IsInRange, IsSigInRange, AreParentsEarlier, IsGlobalInRange, IsFunctionInRange, IsBare, IsStartBare, AreInstrsInRange, names_in, sigs_of, sigs_limit, nodes_limit, globals_limit, global_bytes_limit, functions_limit, locals_limit, local_bytes_limit};
 

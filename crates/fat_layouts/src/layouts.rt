@@ -1,3 +1,4 @@
+//! Sizes and offsets of cured types.
 #![tactic(auto)]
 
 ghost use Rattle.std.specs.Prelude.{◌≡◌, ◌≤◌, IfOk, length};

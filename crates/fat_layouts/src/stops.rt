@@ -1,3 +1,4 @@
+//! The layout of a type as a list of places where its items end, in the source and once cured.
 #![tactic(auto)]
 
 ghost use Rattle.std.specs.Prelude.{◌≡◌, IfOk, length, slice_get, Some};

@@ -1,3 +1,4 @@
+//! The memory itself: its regions, frames and blocks, loads and stores.
 // The flat memory.
 
 ghost use Rattle.std.specs.Prelude.{◌≡◌, ◌<◌, ◌^◌, ◌*◌, IfOk, IsTrue, Some, None, length, replicate, if◌then◌else◌};

@@ -1,3 +1,4 @@
+//! Numbers of 1, 2, 4 and 8 bytes in a list of bytes, low byte first.
 // Numbers in a slice of bytes, little-endian; zeroing and moving bytes.
 
 ghost use Rattle.std.specs.Prelude.{◌≡◌, ◌+◌, ◌≤◌, length};

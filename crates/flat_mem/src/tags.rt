@@ -1,3 +1,4 @@
+//! Bits of a list of bytes: the tags of words.
 // Tags in a slice of bytes: bits whose place is how many bits stand before them.
 
 ghost use Rattle.std.specs.Prelude.{◌≡◌, ◌+◌, ◌*◌, ◌<◌, ◌≤◌, ◌^◌, length, vec_capacity};

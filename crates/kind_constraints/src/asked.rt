@@ -1,3 +1,4 @@
+//! What the sites of a program are gone through with.
 #![tactic(auto)]
 
 ghost use Rattle.c_types.specs.Table.{IsType};

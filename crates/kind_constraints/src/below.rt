@@ -1,3 +1,4 @@
+//! Of which types some node's pointee is strictly below.
 #![tactic(auto)]
 
 ghost use Rattle.std.specs.Prelude.{◌≡◌, ◌↔◌, ◌<◌, Some, length, IfOk, OnOk, IsTrue, All};

@@ -1,3 +1,4 @@
+//! The constraints of one site.
 #![tactic(auto)]
 
 ghost use Rattle.std.specs.Prelude.{◌≡◌, ◌⊎◌, ℕ, OnOk, IsTrue};

@@ -1,3 +1,4 @@
+//! The pairs of nodes that have to be of one kind, found from the sites on.
 #![tactic(auto)]
 
 ghost use Rattle.std.specs.Prelude.{◌≡◌, ◌↔◌, ℕ, Some, IfOk, OnOk, IsTrue};

@@ -1,3 +1,4 @@
+//! The unions at sites, and the pointers at like places of the members of a union that isn't mixed.
 #![tactic(auto)]
 
 ghost use Rattle.std.specs.Prelude.{◌≡◌, [], Some, OnOk, IfOk, IfNone, IfSome};

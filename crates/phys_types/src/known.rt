@@ -1,3 +1,4 @@
+//! The view of a table that remembers what it found.
 #![tactic(auto)]
 
 ghost use Rattle.std.specs.Prelude.{ℕ, ◌≡◌, ◌≢◌, ◌↔◌, ◌⊎◌, IfOk, OnOk, IsTrue};

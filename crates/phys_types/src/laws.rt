@@ -1,3 +1,4 @@
+//! What equality of layouts and covering mean for values.
 #![tactic(auto)]
 
 ghost use Rattle.std.specs.Prelude.{◌≡◌, ℕ, ◌%◌, ◌<◌, Some, ◌||◌, length, IsTrue};

@@ -5,7 +5,5 @@ pub mod CallLaws
 pub mod LiteralLaws
 pub mod MemberLaws
 pub mod RuntimeLaws
-pub mod CountLaws
-pub mod CellLaws
 pub mod ConstructLaws
 pub mod StepLaws

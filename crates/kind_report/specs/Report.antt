@@ -1,5 +1,6 @@
 use Rattle.std.specs.Prelude.{ℕ, Bool, true, false, List, [], ◌∷◌, ◌++◌, Option, None, Some, IsSome, codes, slice_index_or, All, ◌⊎◌, ◌≡◌, ◌<◌}
 use Rattle.std.specs.List.{flat_map, count_by}
+use Rattle.cc_base.specs.Kinds.{kind_at}
 use Rattle.cc_base.specs.Names.{kind_name}
 use Rattle.cc_base.specs.Places.{place_text}
 use Rattle.cc_base.specs.declared.kind.Kind.{Kind}
@@ -36,9 +37,6 @@ home_line p Rtti cause = []
 abbrev pub line_by : Bool → Printed → Kind → Option Cause → List ℕ
 line_by true p kind cause = home_line p kind cause
 line_by false p kind cause = line_text p (codes " pointer ") kind cause
-
-abbrev pub kind_at : List Kind → NodeId → Kind
-kind_at kinds node = slice_index_or kinds node.0 Safe
 
 abbrev pub cause_at : List (Option Cause) → NodeId → Option Cause
 cause_at causes node = slice_index_or causes node.0 None

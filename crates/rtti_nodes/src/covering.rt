@@ -6,7 +6,8 @@ ghost use Rattle.std.specs.List.{All, Contains};
 ghost use Rattle.cc_base.specs.declared.number.NodeId.{NodeId};
 ghost use Rattle.c_types.specs.Table.{IsType, AreNodesOf};
 ghost use Rattle.c_types.specs.Equality.{physically_equal, begins_with};
-ghost use Rattle.c_types.specs.Flows.{kind_in, CorrespondByPlace};
+ghost use Rattle.cc_base.specs.Kinds.{kind_at};
+ghost use Rattle.c_types.specs.Flows.{CorrespondByPlace};
 ghost use Rattle.c_types.specs.Coverage.{covers, of_one_class, same_kind};
 ghost use Rattle.c_types.specs.Sound.{IsWellFormed};
 ghost use Rattle.phys_types.specs.Pairs.{HaveNodes};
@@ -54,7 +55,7 @@ fn have_equal_kinds(kinds: &Kinds, pairs: &[(NodeId, NodeId)]) -> bool
     requires first { (a b : NodeId) → Contains pairs.now (a, b) → a.0 < length kinds.now }
     requires second { (a b : NodeId) → Contains pairs.now (a, b) → b.0 < length kinds.now }
     ensures { IsTrue result ↔ ((a b : NodeId) →
-        Contains pairs.now (a, b) → kind_in kinds.now a ≡ kind_in kinds.now b) }
+        Contains pairs.now (a, b) → kind_at kinds.now a ≡ kind_at kinds.now b) }
 {
     'pairs: for pair in pairs {
         if !is_same(kinds.kind_of(pair.0), kinds.kind_of(pair.1)) {
@@ -76,7 +77,7 @@ pub(crate) fn covers(
     requires first { IsType known.now t }
     requires second { IsType known.now u }
     requires nodes { All (λ e. AreNodesOf (length kinds.now) e.shape) known.now }
-    ensures { IfOk result (λ covered. covered ≡ covers known.now (kind_in kinds.now) t u) }
+    ensures { IfOk result (λ covered. covered ≡ covers known.now (kind_at kinds.now) t u) }
 {
     if !known.begins_with(t, u) {
         return Ok(false);
@@ -98,7 +99,7 @@ pub fn is_of_one_class(
     requires first { IsType known.now t }
     requires second { IsType known.now u }
     requires nodes { All (λ e. AreNodesOf (length kinds.now) e.shape) known.now }
-    ensures { IfOk result (λ one. one ≡ of_one_class known.now (kind_in kinds.now) t u) }
+    ensures { IfOk result (λ one. one ≡ of_one_class known.now (kind_at kinds.now) t u) }
 {
     if !known.is_equal(t, u) {
         return Ok(false);
@@ -120,7 +121,7 @@ pub(crate) fn last_covered(
     requires typed { IsType known.now t }
     requires nodes { All (λ e. AreNodesOf (length kinds.now) e.shape) known.now }
     ensures { IfOk result (λ last.
-        IsLastCovered known.now (kind_in kinds.now) firsts.now (length firsts.now) t last) }
+        IsLastCovered known.now (kind_at kinds.now) firsts.now (length firsts.now) t last) }
 {
     let mut last = firsts.len();
     'firsts: while last > 0 {

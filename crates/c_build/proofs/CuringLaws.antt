@@ -9,7 +9,7 @@ use Rattle.cc_base.specs.declared.fault.NoMemory.{NoMemory}
 use Rattle.cc_base.specs.declared.kind.Kind.{Kind}
 use Rattle.cc_base.specs.declared.number.NodeId.{NodeId}
 use Rattle.cc_base.specs.declared.number.TypeId.{TypeId}
-use Rattle.c_types.specs.declared.site.Site.TheVariants.{Flow}
+use Rattle.kind_sites.specs.declared.site.Site.TheVariants.{Flow}
 use Rattle.c_types.specs.Table.{Table, Entry, IsType, is_function, void_entry}
 use Rattle.c_unit_typing.specs.Limits.{parameters_of_shape}
 use Rattle.cil_form.specs.declared.program.Program.{Program}

@@ -5,8 +5,8 @@ use Rattle.std.specs.declared.alloc.Global.{Global}
 use Rattle.cc_base.specs.Kinds.{kind_at}
 use Rattle.cc_base.specs.declared.kind.Kind.TheVariants.{Safe, Seq}
 use Rattle.c_types.specs.declared.shape.TypeShape.TheVariants as shape
-use Rattle.c_types.specs.declared.site.Site.{Site}
-use Rattle.c_types.specs.declared.site.Site.TheVariants.{Flow, Arith, Linked, Same, Pointee, Home}
+use Rattle.kind_sites.specs.declared.site.Site.{Site}
+use Rattle.kind_sites.specs.declared.site.Site.TheVariants.{Flow, Arith, Linked, Same, Pointee, Home}
 use Rattle.c_types.specs.Table.{Table}
 use Rattle.c_types.specs.Calls.{basic_table}
 use Rattle.runs.specs.Input.{Closed}

@@ -1,10 +1,10 @@
 -- To begin with a type, and to lie strictly below it, respect physical equality on both sides; so `below` may be asked of one type of each class.
 use Rattle.std.proofs.Common.{◌≡◌, Bool, true, false, not, ◌&&◌, List, refl, sym, ◌∙◌, true≢false}
 use Rattle.cc_base.specs.declared.number.TypeId.{TypeId}
-use Rattle.c_types.specs.declared.site.Site.{Site}
+use Rattle.kind_sites.specs.declared.site.Site.{Site}
 use Rattle.c_types.specs.Table.{Table, is_function}
 use Rattle.c_types.specs.Equality.{physically_equal, begins_with, strictly_below}
-use Rattle.c_types.specs.Solutions.{HasBelow}
+use Rattle.kind_sites.specs.Solutions.{HasBelow}
 use Rattle.c_types.specs.Sound.{IsWellFormed}
 use Rattle.c_types.proofs.Shapes.{first_true, second_true}
 use Rattle.type_laws.proofs.Relations.{equal_equiv}

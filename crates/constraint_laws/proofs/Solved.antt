@@ -7,12 +7,13 @@ use Rattle.cc_base.specs.declared.number.TypeId.{TypeId}
 use Rattle.cc_base.specs.declared.number.NodeId.{NodeId}
 use Rattle.cc_base.specs.declared.place.Place.{Place}
 use Rattle.cc_base.specs.declared.kind.Kind.{Kind}
-use Rattle.c_types.specs.declared.site.Site.{Site}
-use Rattle.c_types.specs.declared.site.Site.TheVariants as site
+use Rattle.kind_sites.specs.declared.site.Site.{Site}
+use Rattle.kind_sites.specs.declared.site.Site.TheVariants as site
 use Rattle.c_types.specs.Table.{Table}
 use Rattle.c_types.specs.Equality.{strictly_below}
 use Rattle.c_types.specs.Flows.{HeldPointer, flow_class, CorrespondInFlow, CorrespondByPlace, HaveEqualKinds}
-use Rattle.c_types.specs.Solutions.{allows, HasBelow, HoldsMixed, IsAllowed, IsFlowAllowed, IsPointeeAllowed, IsHomeAllowed, SpreadsWild, IsWildWhereMixed, IsUnionAllowed, IsSolution}
+use Rattle.c_types.specs.Contents.{HoldsMixed}
+use Rattle.kind_sites.specs.Solutions.{allows, HasBelow, IsAllowed, IsFlowAllowed, IsPointeeAllowed, IsHomeAllowed, SpreadsWild, IsWildWhereMixed, IsUnionAllowed, IsSolution}
 use Rattle.c_types.proofs.Lists.{contains_head, contains_tail}
 use Rattle.kind_solver.specs.declared.constraint.Constraint.{Constraint}
 use Rattle.kind_solver.specs.declared.constraint.Constraint.TheVariants.{Flow, Needs, Equal, Inside, Linked, Force, Plain}

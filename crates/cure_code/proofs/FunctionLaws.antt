@@ -9,7 +9,7 @@ use Rattle.cc_base.specs.declared.kind.Kind.{Kind}
 use Rattle.cc_base.specs.declared.kind.Kind.TheVariants.{Safe, Seq, Rtti, Wild}
 use Rattle.c_types.specs.declared.shape.TypeShape.{TypeShape}
 use Rattle.c_types.specs.declared.shape.TypeShape.TheVariants as shape
-use Rattle.c_types.specs.declared.site.Site.TheVariants.{Home}
+use Rattle.kind_sites.specs.declared.site.Site.TheVariants.{Home}
 use Rattle.c_types.specs.Table.{Table, IsType, IsComplete, AreNodesOf, shape_at}
 use Rattle.c_types.specs.Sound.{IsWellFormed}
 use Rattle.c_types.specs.Equality.{cells_of}

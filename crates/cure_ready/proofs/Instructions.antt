@@ -11,12 +11,12 @@ use Rattle.cc_base.specs.declared.number.TypeId.{TypeId}
 use Rattle.c_types.specs.declared.flow_class.FlowClass.{FlowClass}
 use Rattle.c_types.specs.declared.shape.TypeShape.{TypeShape}
 use Rattle.c_types.specs.declared.shape.TypeShape.TheVariants as shape
-use Rattle.c_types.specs.declared.site.Site.TheVariants as site
+use Rattle.kind_sites.specs.declared.site.Site.TheVariants as site
 use Rattle.c_types.specs.Table.{Table, IsType, IsComplete, shape_at, members_at, is_complete, is_function, is_union_shape, is_complete_entry, named_by, void_entry}
 use Rattle.c_types.specs.Cells.{holds_pointer, Cell, raw, pointer, mixed, incomplete}
 use Rattle.c_types.specs.Equality.{cells_of, physically_equal}
 use Rattle.c_types.specs.Flows.{CellsAgree, flow_class}
-use Rattle.c_types.specs.Solutions.{SpreadsWild, IsUnionAllowed, IsPointeeAllowed, allows}
+use Rattle.kind_sites.specs.Solutions.{SpreadsWild, IsUnionAllowed, IsPointeeAllowed, allows}
 use Rattle.c_types.specs.Sound.{IsWellFormed, IsProper}
 use Rattle.c_types.proofs.Lists.{contains_head}
 use Rattle.type_laws.proofs.Sizes.{equal_counts}

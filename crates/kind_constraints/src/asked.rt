@@ -1,7 +1,8 @@
 #![tactic(auto)]
 
-use c_types::{Site, Types};
+use c_types::Types;
 use cc_base::{Place, TypeId};
+use kind_sites::Site;
 use phys_types::Known;
 use std::alloc::Global;
 

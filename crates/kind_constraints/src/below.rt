@@ -8,9 +8,10 @@ ghost use Rattle.c_types.specs.Equality.{strictly_below};
 ghost use Rattle.kind_constraints.specs.Adding.{Adds};
 ghost use Rattle.kind_constraints.specs.Pieces.{IsPointee, AreBelows, pointee_of};
 
-use c_types::{Site, Types};
+use c_types::Types;
 use cc_base::{NoMemory, TypeId};
 use indexmap::IndexSet;
+use kind_sites::Site;
 use phys_types::Known;
 use std::alloc::Global;
 

@@ -4,7 +4,7 @@ ghost use Rattle.std.specs.Prelude.{◌≡◌, ◌↔◌, ℕ, IfOk, OnOk, IsTru
 ghost use Rattle.std.specs.List.{Contains};
 ghost use Rattle.cc_base.specs.declared.number.NodeId.{NodeId};
 ghost use Rattle.cc_base.specs.declared.number.TypeId.{TypeId};
-ghost use Rattle.c_types.specs.declared.site.Site.TheVariants.{Same};
+ghost use Rattle.kind_sites.specs.declared.site.Site.TheVariants.{Same};
 ghost use Rattle.c_types.specs.Equality.{physically_equal};
 ghost use Rattle.phys_types.specs.Found.{Gains};
 ghost use Rattle.cil_form.specs.Shape.{IsSiteInShape};
@@ -14,8 +14,8 @@ ghost use Rattle.kind_constraints.specs.Asked.{IsReady, AreTold};
 
 use crate::asked::Asked;
 use crate::unions::add_union;
-use c_types::Site;
 use cc_base::{NoMemory, NodeId};
+use kind_sites::Site;
 use phys_types::Found;
 
 /// Adds the pointers that a site makes correspond, but not those that they lead to.

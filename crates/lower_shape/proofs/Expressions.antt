@@ -6,7 +6,7 @@ use Rattle.cc_base.specs.declared.number.NodeId.{NodeId}
 use Rattle.cc_base.specs.declared.number.TypeId.{TypeId}
 use Rattle.c_types.specs.declared.shape.TypeShape.{TypeShape}
 use Rattle.c_types.specs.declared.shape.TypeShape.TheVariants as shape
-use Rattle.c_types.specs.declared.site.Site.TheVariants as site
+use Rattle.kind_sites.specs.declared.site.Site.TheVariants as site
 use Rattle.c_types.specs.Table.{HasShape, IsAggregate, shape_at}
 use Rattle.integers.specs.Arithmetic.{IntegerType, int, long, unsigned_long}
 use Rattle.c_tree.specs.Erasure.{erased, erased_place, erased_arguments}

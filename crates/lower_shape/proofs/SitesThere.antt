@@ -7,9 +7,9 @@ use Rattle.cc_base.specs.declared.number.NodeId.{NodeId}
 use Rattle.cc_base.specs.declared.number.TypeId.{TypeId}
 use Rattle.c_types.specs.declared.shape.TypeShape.{TypeShape}
 use Rattle.c_types.specs.declared.shape.TypeShape.TheVariants as shape
-use Rattle.c_types.specs.declared.site.Site.{Site}
-use Rattle.c_types.specs.declared.site.Site.TheVariants as site
-use Rattle.c_types.specs.Solutions.{sites_of_shape, sites_of_table}
+use Rattle.kind_sites.specs.declared.site.Site.{Site}
+use Rattle.kind_sites.specs.declared.site.Site.TheVariants as site
+use Rattle.kind_sites.specs.Solutions.{sites_of_shape, sites_of_table}
 use Rattle.c_types.specs.Table.{Table, Entry, AreNodesOf, HasShape, IsType, is_function, is_union_shape, shape_at, void_entry, named_by}
 use Rattle.c_tree.specs.declared.operator.AggregateKind.{AggregateKind}
 use Rattle.c_tree.specs.declared.operator.AggregateKind.TheVariants as aggregate

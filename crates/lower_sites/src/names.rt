@@ -10,8 +10,9 @@ ghost use Rattle.lower_sites.specs.Telling.{Tells};
 use crate::firsts::{FirstFunctions, FirstObjects};
 use c_check_declarators::homes::{home_of, name_of};
 use c_tree::{Home, Identifier, TypedDeclarator};
-use c_types::{Site, TypeShape, Types};
+use c_types::{TypeShape, Types};
 use cc_base::{NodeId, TypeId};
+use kind_sites::Site;
 use std::alloc::Global;
 
 /// What a walk over declarations looks at beside the tree.

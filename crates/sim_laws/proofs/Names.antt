@@ -2,7 +2,7 @@
 use Rattle.std.proofs.Common.{◌≡◌, ℕ, ◌≤◌, List, length, Option, Some, None, refl, ap, sym, subst, ◌∙◌, inl, inr, Bool, if◌then◌else◌}
 use Rattle.cc_base.specs.declared.number.NodeId.{NodeId}
 use Rattle.cc_base.specs.declared.number.TypeId.{TypeId}
-use Rattle.c_types.specs.declared.site.Site.{Site}
+use Rattle.kind_sites.specs.declared.site.Site.{Site}
 use Rattle.runs.specs.Outcome.{Outcome, Ended, Done, done, leaves, from, ◌>>◌}
 use Rattle.runs.specs.Control.{Goes}
 use Rattle.src_mem.specs.Pointers.{Value, Address}

@@ -6,11 +6,11 @@ use Rattle.cc_base.specs.declared.number.TypeId.{TypeId}
 use Rattle.cc_base.specs.declared.kind.Kind.{Kind}
 use Rattle.c_types.specs.declared.shape.TypeShape.{TypeShape}
 use Rattle.c_types.specs.declared.shape.TypeShape.TheVariants as shape
-use Rattle.c_types.specs.declared.site.Site.{Site}
-use Rattle.c_types.specs.declared.site.Site.TheVariants as site
+use Rattle.kind_sites.specs.declared.site.Site.{Site}
+use Rattle.kind_sites.specs.declared.site.Site.TheVariants as site
 use Rattle.c_types.specs.Table.{Table, shape_at}
-use Rattle.c_types.specs.Solutions as solutions
-use Rattle.c_types.specs.Solutions.{sites_of_table}
+use Rattle.kind_sites.specs.Solutions as solutions
+use Rattle.kind_sites.specs.Solutions.{sites_of_table}
 use Rattle.c_tree.specs.declared.operator.AggregateKind.{AggregateKind}
 use Rattle.c_tree.specs.declared.operator.AggregateKind.TheVariants as aggregate
 use Rattle.c_tree.specs.declared.operator.Binary.{Binary}

@@ -4,7 +4,7 @@ use Rattle.std.proofs.lemmas.Grind.{flat_map-append}
 use Rattle.std.proofs.lemmas.List.{map-append}
 use Rattle.std.proofs.Math.Seq.{take-suc}
 use Rattle.cc_base.specs.declared.number.NodeId.{NodeId}
-use Rattle.c_types.specs.declared.site.Site.{Site}
+use Rattle.kind_sites.specs.declared.site.Site.{Site}
 use Rattle.c_types.specs.Table.{Table}
 use Rattle.c_tree.specs.TypedParts.{Made, static_made, local_made, made_by_stars, made_by_adjusted}
 use Rattle.c_tree.specs.declared.typed_word.TypedStar.{TypedStar}
@@ -14,7 +14,7 @@ use Rattle.src_mem.specs.Runs as runs
 use Rattle.src_machine.specs.Pieces.{Piece}
 use Rattle.c_tree.specs.TypedTree.{TypedPlace}
 use Rattle.src_machine.specs.Sites.{address_at, addresses_at, linked_to, sites_of_piece}
-use Rattle.c_types.specs.declared.site.Site.TheVariants as site
+use Rattle.kind_sites.specs.declared.site.Site.TheVariants as site
 use Rattle.cil_form.specs.declared.program.Static.{Static}
 use Rattle.cil_form.specs.declared.number.Planned.{Planned as PlannedObject}
 use Rattle.cil_form.specs.Machine.{plan}

@@ -7,8 +7,8 @@ use Rattle.cc_base.specs.declared.number.NodeId.{NodeId}
 use Rattle.cc_base.specs.declared.number.TypeId.{TypeId}
 use Rattle.c_types.specs.declared.shape.TypeShape.{TypeShape}
 use Rattle.c_types.specs.declared.shape.TypeShape.TheVariants as shape
-use Rattle.c_types.specs.declared.site.Site.{Site}
-use Rattle.c_types.specs.declared.site.Site.TheVariants as site
+use Rattle.kind_sites.specs.declared.site.Site.{Site}
+use Rattle.kind_sites.specs.declared.site.Site.TheVariants as site
 use Rattle.c_types.specs.Equality.{physically_equal}
 use Rattle.c_types.specs.Sameness.{IsSameType, is_same_type, same_shape, same_step}
 use Rattle.c_types.specs.Sound.{IsWellFormed}
@@ -28,7 +28,7 @@ use Rattle.cil_form.specs.Typing.{AreDeclaredAlike, same, listed, turned, chaine
 use Rattle.src_machine.specs.Names as names
 use Rattle.src_machine.specs.Names.{Which, AnObject, AFunction, object_node, object_named, function_named, named_by, named_in, is_same_which, first_type, declarators_in}
 use Rattle.src_machine.specs.World.{same_node}
-use Rattle.c_types.specs.Solutions.{sites_of_table}
+use Rattle.kind_sites.specs.Solutions.{sites_of_table}
 use Rattle.src_machine.specs.Sites.{sites_of_homes, sites_of_piece, same_as, sites_of_names, sites_of}
 use Rattle.src_machine.specs.Pieces.{pieces_of_unit}
 use Rattle.unit_sites.proofs.Elements.{only, flat, unflat}

@@ -3,7 +3,7 @@ use Rattle.std.proofs.Common.{◌≡◌, Bool, List, sym, subst}
 use Rattle.std.proofs.lemmas.Result.{on_ok_weaker}
 use Rattle.c_types.specs.Table.{Entry}
 use Rattle.c_types.specs.Flows.{flow_class}
-use Rattle.c_types.specs.Solutions.{HasBelow}
+use Rattle.kind_sites.specs.Solutions.{HasBelow}
 use Rattle.kind_constraints.proofs.GivenPieces.{flow_pieces}
 use Rattle.kind_constraints.proofs.sites.add_flow.Goals as goal
 

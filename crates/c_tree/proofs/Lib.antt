@@ -1,3 +1,4 @@
+pub mod LiteralLaws
 pub mod PushLaws
 pub mod StatementViewLaws
 pub mod ViewLaws

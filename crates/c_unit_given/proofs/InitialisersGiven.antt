@@ -8,6 +8,7 @@ use Rattle.cc_base.specs.declared.fault.Rule.TheVariants as rule
 use Rattle.c_types.specs.declared.shape.TypeShape.{TypeShape}
 use Rattle.c_types.specs.declared.shape.TypeShape.TheVariants.{Void, Integer, Pointer, Array, Function, Struct, Union}
 use Rattle.c_types.specs.Table.{Table, IsComplete, shape_at, is_aggregate_shape}
+use Rattle.c_tree.specs.Literals.{pieces_bytes}
 use Rattle.c_tree.specs.declared.leaf.StringPiece.{StringPiece}
 use Rattle.c_tree.specs.Erasure.{erased, erased_place, erased_initialiser, erased_items}
 use Rattle.c_tree.specs.Places.{expr_place}
@@ -19,7 +20,6 @@ use Rattle.c_typing.specs.Cells.{count_cells}
 use Rattle.c_typing.specs.Checking.{checked_value}
 use Rattle.c_typing.specs.Conversions.{IsAssigned}
 use Rattle.c_typing.specs.Judging.{State}
-use Rattle.c_typing.specs.Rules.{pieces_bytes}
 use Rattle.c_typing.specs.Scopes.{Scopes}
 use Rattle.c_typing.specs.Settled.{IsBasic, IsKnown}
 use Rattle.c_typing.specs.Shapes.{IsScalar, is_scalar_shape}

@@ -12,7 +12,7 @@ use Rattle.c_types.specs.Table.{Table, HasShape}
 use Rattle.c_tree.specs.declared.leaf.StringPiece.{StringPiece}
 use Rattle.c_tree.specs.TypedTree.{TypedTranslationUnit}
 use Rattle.c_tree.specs.TypedParts.{MadeObject, statics_of}
-use Rattle.c_ready.specs.Rows.{pieces_bytes}
+use Rattle.c_tree.specs.Literals.{pieces_bytes}
 use Rattle.c_unit_typing.specs.Limits.{IsWithinLimits, global_bytes}
 use Rattle.c_ready.specs.Ready.{Stage, IsNode, IsWhole, IsTextOf, static_stage, IsReadyUnit}
 use Rattle.c_ready.proofs.Basics.{unmap}

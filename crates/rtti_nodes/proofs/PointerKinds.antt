@@ -13,9 +13,9 @@ use Rattle.c_types.specs.declared.shape.TypeShape.TheVariants as shape
 use Rattle.c_types.specs.Table.{Table, Entry, AreNodesOf, IsType, shape_at, void_entry}
 use Rattle.c_types.specs.Cells.{Cell, raw, pointer, mixed, incomplete}
 use Rattle.c_types.specs.Equality.{physically_equal, cells_of, begins_with}
-use Rattle.cc_base.specs.Kinds.{kind_at}
+use Rattle.cc_base.specs.Kinds.{kind_at, same_kind}
 use Rattle.c_types.specs.Flows.{HeldPointer, pointer_in_cell, pointer_of_shape, and_then, pointer_in, pointer_at, StandAlike, top, inside, CorrespondByPlace, HaveEqualKinds, IsOfOneClass, Covers}
-use Rattle.c_types.specs.Coverage.{same_kind, covers, of_one_class}
+use Rattle.c_types.specs.Coverage.{covers, of_one_class}
 use Rattle.c_types.specs.Sound.{IsWellFormed}
 use Rattle.type_laws.proofs.Coverage.{covers_is, one_class_is}
 use Rattle.type_laws.proofs.Pointers.{Mirrors, equal_mirrors, begins_mirrors}

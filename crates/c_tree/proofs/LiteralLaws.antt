@@ -1,8 +1,8 @@
 -- The bytes of string literals, piece by piece.
 use Rattle.std.proofs.Common.{◌≡◌, ℕ, ◌<◌, List, [], ◌∷◌, ◌++◌, length, sym, refl, arith, append_assoc}
 use Rattle.c_lexer.specs.Literals.{literal_bytes}
+use Rattle.c_tree.specs.Literals.{pieces_bytes}
 use Rattle.c_tree.specs.declared.leaf.StringPiece.{StringPiece}
-use Rattle.c_typing.specs.Rules.{pieces_bytes}
 
 -- what has no quotes holds no byte
 pub no_quotes : (literal : List ℕ) → length literal < 2 → [] ≡ literal_bytes literal

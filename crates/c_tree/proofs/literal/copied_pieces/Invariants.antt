@@ -1,5 +1,5 @@
 use Rattle.std.proofs.Common.{◌≡◌, ◌++◌, length}
-use Rattle.c_check_operators.proofs.literals.copied_pieces.Given as goal
+use Rattle.c_tree.proofs.literal.copied_pieces.Given as goal
 
 abbrev pub invariant-pieces : goal.invariant-pieces
 invariant-pieces l = l.pieces ≡ l.copy ++ l.rest

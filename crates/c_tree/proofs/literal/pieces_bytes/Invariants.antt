@@ -1,6 +1,6 @@
 use Rattle.std.proofs.Common.{◌≡◌, ◌++◌, length}
-use Rattle.c_typing.specs.Rules.{pieces_bytes}
-use Rattle.c_check_operators.proofs.literals.pieces_bytes.Given as goal
+use Rattle.c_tree.proofs.literal.pieces_bytes.Given as goal
+use Rattle.c_tree.specs.Literals.{pieces_bytes}
 
 abbrev pub invariant-pieces : goal.invariant-pieces
 invariant-pieces l = pieces_bytes l.pieces ≡ l.bytes.items ++ pieces_bytes l.rest

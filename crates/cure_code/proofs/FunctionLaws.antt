@@ -17,7 +17,7 @@ use Rattle.cc_base.specs.Kinds.{kind_at}
 use Rattle.c_types.specs.Widths as widths
 use Rattle.src_mem.specs.Memory.{Planned, frame_charge}
 use Rattle.src_mem.specs.Runs as runs
-use Rattle.src_mem.specs.Checks.{frame_limit}
+use Rattle.src_mem.specs.Checks.{source_frame_limit}
 use Rattle.cil_form.specs.declared.number.Planned.{Planned as PlannedObject}
 use Rattle.cil_form.specs.declared.program.Parameter.{Parameter}
 use Rattle.cil_form.specs.declared.program.Function.{Function}
@@ -243,8 +243,8 @@ module _ (w : Setting) (s : IsSet w) where
     charge_same vs e = (λ i. frame_charge (sym s.table i) (e i))
 
     pub entered_function : (vs : List PlannedObject) (h : cured.Function) → map plan vs ≡ variables_of f → h.slots ≡ 1948 → h.sig ≡ (whole_in w).signature f.ty
-        → (frame_charge w.program.now.types (map plan vs) ≤ frame_limit → h.charge ≡ frame_charge w.program.now.types (map plan vs))
-        → (frame_limit < frame_charge w.program.now.types (map plan vs) → frame_limit < h.charge) → h.charge ≤ 1048576
+        → (frame_charge w.program.now.types (map plan vs) ≤ source_frame_limit → h.charge ≡ frame_charge w.program.now.types (map plan vs))
+        → (source_frame_limit < frame_charge w.program.now.types (map plan vs) → source_frame_limit < h.charge) → h.charge ≤ 1048576
         → areas_of h.locals ≡ areas_for w.layouts.now.table (kind_at w.by_node.now) (map plan vs) → FunctionCode (world_at w k f) f h.body.0.items
         → IsCuredFunction (world_at w k f) f h
     entered_function vs h e slots sig exact above few areas code =
@@ -261,7 +261,7 @@ module _ (w : Setting) (s : IsSet w) where
         }
 
     pub never_function : (vs : List PlannedObject) (h : cured.Function) → map plan vs ≡ variables_of f → h.slots ≡ 1948 → h.sig ≡ (whole_in w).signature f.ty
-        → (frame_charge w.program.now.types (map plan vs) ≤ frame_limit → h.charge ≡ frame_charge w.program.now.types (map plan vs))
+        → (frame_charge w.program.now.types (map plan vs) ≤ source_frame_limit → h.charge ≡ frame_charge w.program.now.types (map plan vs))
         → 1048576 < h.charge → h.locals ≡ [] → h.body.0.items ≡ [] → IsCuredFunction (world_at w k f) f h
     never_function vs h e slots sig exact many areas body =
         let same = charge_same vs e in

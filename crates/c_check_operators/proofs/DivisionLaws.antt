@@ -1,9 +1,10 @@
 -- The quotient of two constants, each in the type that the operator asks for.
 use Rattle.std.proofs.Common.{◌≡◌, ℤ, Bool, Some, refl}
 use Rattle.c_types.specs.Sound.{IsIntegerSize}
+use Rattle.c_tree.specs.Arithmetic.{operator_of}
 use Rattle.c_tree.specs.declared.operator.Binary.{Binary}
 use Rattle.integers.specs.Arithmetic.{IntegerType}
-use Rattle.c_typing.specs.Constants.{operator_of, cannot_divide}
+use Rattle.c_typing.specs.Constants.{cannot_divide}
 use Rattle.c_typing.specs.Integers.{left_type, right_type}
 use Rattle.c_typing.specs.Tests as tests
 use Rattle.c_typing.proofs.KindLaws.{left_sized, right_sized}

@@ -1,3 +1,4 @@
+pub mod Arithmetic
 pub mod Depth
 pub mod Grammar
 pub mod Literals

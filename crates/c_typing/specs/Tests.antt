@@ -12,6 +12,7 @@ use Rattle.c_types.specs.declared.shape.TypeShape.TheVariants.{Void, Integer, Po
 use Rattle.c_types.specs.Table.{Table, shape_at, is_aggregate_shape, is_empty}
 use Rattle.c_types.specs.Equality.{same_bool}
 use Rattle.c_types.specs.Sameness.{is_same_type}
+use Rattle.c_tree.specs.Arithmetic.{operator_of}
 use Rattle.c_tree.specs.declared.operator.Assignment.{Assignment}
 use Rattle.c_tree.specs.declared.operator.Assignment.TheVariants as assignment
 use Rattle.c_tree.specs.declared.operator.Binary.{Binary}
@@ -36,7 +37,7 @@ use Rattle.integers.specs.Arithmetic.{IntegerType, converted}
 use Rattle.c_typing.specs.Shapes.{is_data, is_integer_shape, is_pointer_shape, is_scalar_shape, is_void_shape, is_function_shape, integer_at}
 use Rattle.c_typing.specs.Integers.{is_order, is_equality, is_logical, assigning, left_type, right_type}
 use Rattle.c_typing.specs.Scopes.{Name, Scopes, name_in, tag_in, here, tag_here, place_among, members_named, is_complete_at}
-use Rattle.c_typing.specs.Constants.{constant_value, is_null_constant, operator_of, cannot_divide}
+use Rattle.c_typing.specs.Constants.{constant_value, is_null_constant, cannot_divide}
 use Rattle.c_typing.specs.Conversions.{is_taken_as, implicit_between, cast_between}
 use Rattle.c_typing.specs.Rules.{is_lvalue, is_designator, is_compound, number_of_shape, runtime_named}
 

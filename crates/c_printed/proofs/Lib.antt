@@ -1,1 +1,3 @@
-pub mod PrintLaws
+pub mod Items
+pub mod Laws
+pub mod Views

@@ -1,3 +1,4 @@
+pub mod ListLaws
 pub mod LiteralLaws
 pub mod PushLaws
 pub mod StatementViewLaws
@@ -5,3 +6,4 @@ pub mod ViewLaws
 pub mod TypedViewLaws
 pub mod TypedStatementViewLaws
 pub mod TypedPushLaws
+pub mod TypedPartLaws

@@ -4,8 +4,8 @@ use Rattle.c_tree.specs.TypedTree as typed
 use Rattle.c_tree.specs.TypedStatementViews.{typed_item_view}
 use Rattle.c_tree.proofs.TypedStatementViewLaws.{typed_initialiser-Value, typed_initialiser-Copied, typed_initialiser-Text, typed_initialiser-Listed}
 use Rattle.c_printed.proofs.Laws.{prints_nothing, prints_other, prints_then}
-use Rattle.c_printed.proofs.Views.{one_more}
-use Rattle.c_printed.proofs.Items.{of_item}
+use Rattle.c_tree.proofs.ListLaws.{one_more}
+use Rattle.c_tree.proofs.TypedPartLaws.{of_item}
 use Rattle.c_printed.proofs.statements.+initialisers.Goals as goal
 
 pub initialiser-returns-in-Value : goal.initialiser-returns-in-Value

@@ -1,7 +1,7 @@
--- Parts of the tree by what they hold, and lists up to an element, with it.
-use Rattle.std.proofs.Common.{◌≡◌, ap, sym, ◌∙◌, ℕ, zero, suc, ◌+◌, ◌<◌, List, [], ◌∷◌, map, fold, take, get_or, length, add-one, arith, option_map}
+-- Parts of the typed tree by what they hold.
+use Rattle.std.proofs.Common.{◌≡◌, ap, sym, ◌∙◌, map, option_map}
 use Rattle.c_tree.specs.TypedTree as typed
-use Rattle.c_tree.specs.TypedTree.{TypedDeclarator, TypedForm, TypedMembers, TypedParameters, TypedSpecifiers, TypedTypeName}
+use Rattle.c_tree.specs.TypedTree.{TypedItems, TypedMembers, TypedParameters}
 use Rattle.c_tree.specs.TypedViews.{typed_core_view, typed_declared_of, typed_declarator_view, typed_form_view, typed_member_declarators_of, typed_members_view, typed_parameter_view, typed_part_view, typed_specifier_view, typed_specifiers_of, typed_specifiers_view, typed_type_name_view}
 use Rattle.c_tree.specs.Views.{added}
 use Rattle.c_tree.specs.declared.typed_expr.TypedDeclarator.{TypedDeclarator as CodeDeclarator, out-TypedDeclarator, roll-out-TypedDeclarator}
@@ -11,6 +11,9 @@ use Rattle.c_tree.specs.declared.typed_expr.TypedParameter.{TypedParameter as Co
 use Rattle.c_tree.specs.declared.typed_expr.TypedSpecifiers.{TypedSpecifiers as CodeSpecifiers, out-TypedSpecifiers, roll-out-TypedSpecifiers}
 use Rattle.c_tree.specs.declared.typed_expr.TypedTypeName.{TypedTypeName as CodeTypeName, out-TypedTypeName, roll-out-TypedTypeName}
 use Rattle.c_tree.proofs.TypedViewLaws.{seen-TypedDeclarator, seen-TypedForm, seen-TypedMembers, seen-TypedParameter, seen-TypedSpecifiers, seen-TypedTypeName}
+use Rattle.c_tree.specs.TypedStatementViews.{typed_initialiser_view, typed_item_view}
+use Rattle.c_tree.specs.declared.typed_statement.TypedItem.{TypedItem as CodeItem, out-TypedItem, roll-out-TypedItem}
+use Rattle.c_tree.proofs.TypedStatementViewLaws.{seen-TypedItem}
 
 pub of_declarator : (one : CodeDeclarator) → typed_declarator_view one ≡ typed.Declares (typed_form_view (out-TypedDeclarator one).form) (out-TypedDeclarator one).ty
 of_declarator one = ap typed_declarator_view (sym (roll-out-TypedDeclarator one))
@@ -43,24 +46,8 @@ of_parameter one all = ap (λ (v : CodeParameter). typed_parameter_view v all) (
     ∙ ap (λ (add : TypedParameters → TypedParameters). add all)
     (seen-TypedParameter (out-TypedParameter one).specifiers (out-TypedParameter one).declarator (out-TypedParameter one).adjusted (out-TypedParameter one).ty)
 
-with_next : {X A : Type 0} (view : X → A → A) (xs : List X) (i : ℕ) (x : X) → i < length xs → x ≡ get_or xs i x
-    → (a : A) → added a (map view (take (suc i) xs)) ≡ view x (added a (map view (take i xs)))
-with_next view [] i x within at a = absurd (omega arith)
-with_next view (y ∷ ys) zero x within at a = ap (λ z. view z a) (sym at)
-with_next view (y ∷ ys) (suc i) x within at a = with_next view ys i x (omega arith) at (view y a)
-
--- of elements that are seen by what they add
-pub one_more : {X A : Type 0} (view : X → A → A) (xs : List X) (i : ℕ) (x : X) → i < length xs → x ≡ get_or xs i x
-    → (a : A) → added a (map view (take (i + 1) xs)) ≡ view x (added a (map view (take i xs)))
-one_more view xs i x within at a = rw add-one (with_next view xs i x within at a)
-
-with_one : {X Y A : Type 0} (add : A → Y → A) (view : X → Y) (xs : List X) (i : ℕ) (x : X) → i < length xs → x ≡ get_or xs i x
-    → (a : A) → fold add a (map view (take (suc i) xs)) ≡ add (fold add a (map view (take i xs))) (view x)
-with_one add view [] i x within at a = absurd (omega arith)
-with_one add view (y ∷ ys) zero x within at a = ap (λ z. add a (view z)) (sym at)
-with_one add view (y ∷ ys) (suc i) x within at a = with_one add view ys i x (omega arith) at (add a (view y))
-
--- of elements that are seen by themselves
-pub one_longer : {X Y A : Type 0} (add : A → Y → A) (view : X → Y) (xs : List X) (i : ℕ) (x : X) → i < length xs → x ≡ get_or xs i x
-    → (a : A) → fold add a (map view (take (i + 1) xs)) ≡ add (fold add a (map view (take i xs))) (view x)
-one_longer add view xs i x within at a = rw add-one (with_one add view xs i x within at a)
+pub of_item : (one : CodeItem) (all : TypedItems)
+    → typed_item_view one all ≡ typed.AndItem all (out-TypedItem one).offset (out-TypedItem one).ty (typed_initialiser_view (out-TypedItem one).initialiser)
+of_item one all =
+    ap (λ (v : CodeItem). typed_item_view v all) (sym (roll-out-TypedItem one))
+    ∙ ap (λ (add : TypedItems → TypedItems). add all) (seen-TypedItem (out-TypedItem one).offset (out-TypedItem one).ty (out-TypedItem one).initialiser)

@@ -3,6 +3,7 @@ pub mod DivisionLaws
 pub mod SizeLaws
 pub mod CallLaws
 pub mod MemberLaws
+pub mod NullLaws
 pub mod RuntimeLaws
 pub mod ConstructLaws
 pub mod StepLaws

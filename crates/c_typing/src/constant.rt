@@ -172,9 +172,15 @@ pub fn constant_value(types: &Types, e: &TypedExpr) -> Option<i128>
         TypedExpr::Enumerator(_, value, _) => Some(*value),
         TypedExpr::Paren(_, inner) => constant_value(types, inner.get()),
         TypedExpr::Convert(which, _, t, inner) => {
+            if *which != Conversion::IntegerToInteger {
+                return None;
+            }
             converted_value(types, *which, *t, constant_value(types, inner.get()))
         }
         TypedExpr::Cast(which, _, to, inner) => {
+            if *which != Conversion::IntegerToInteger {
+                return None;
+            }
             converted_value(
                 types,
                 *which,

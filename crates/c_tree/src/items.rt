@@ -72,10 +72,14 @@ impl<T: Copy> Items<T> {
 }
 
 impl<T: Drop> Items<T> {
+    /// Appends an element. Most lists of a tree have one element: they take the memory of one.
     pub fn push(&mut self, item: T) -> Result<(), AllocError>
         ensures ok { OnOk result (self.new ≡ self.old ++ item ∷ []) }
         ensures err { OnErr result (self.new ≡ self.old) }
     {
+        if self.items.is_empty() {
+            self.items.reserve_exact(1)?;
+        }
         self.items.push(item)?;
         Ok(())
     }

@@ -22,7 +22,7 @@ use Rattle.c_tree.specs.Places.{nowhere}
 use Rattle.c_tree.specs.Tree as tree
 use Rattle.c_tree.specs.TypedTree as typed
 use Rattle.c_tree.specs.TypedTree.{TypedSpecifierList, TypedSpecifier, TypedMembers, TypedMemberDeclarators, TypedEnumerators, TypedForm, TypedParts, TypedParameters, TypedDeclared}
-use Rattle.c_tree.specs.TypedParts.{Made, Name, Written, made_by, made_by_specifier_list, made_by_specifier, made_by_members, made_by_member_declarators, made_by_enumerators, made_by_stars, made_by_form, made_by_parts, made_by_parameters, made_by_adjusted, made_by_declared}
+use Rattle.c_tree.specs.TypedParts.{Made, Name, Written, made_by, made_by_specifier_list, made_by_specifier, made_by_members, made_by_member_declarators, made_by_enumerators, made_by_stars, made_by_form, made_by_parts, made_by_parameters, made_by_adjusted, made_by_declared, declared_home}
 use Rattle.c_typing.specs.declared.declared.Declared.{Declared}
 use Rattle.c_typing.specs.declared.declared.Declared.TheVariants as declared
 use Rattle.c_typing.specs.declared.naming.Naming.{Naming}
@@ -30,7 +30,7 @@ use Rattle.c_typing.specs.declared.naming.Naming.TheVariants as naming
 use Rattle.c_typing.specs.Constants.{constant_value}
 use Rattle.c_typing.specs.Declarators.{Counted, counted, counting_word}
 use Rattle.c_typing.specs.Declarators
-use Rattle.c_typing.specs.Declaring.{home_as, stars_with_nodes, size_given, sized_part, sized, form_makes, member_type, member_named, adjusted_with_node, parameter_makes, parameter_declared, declared_home, parameter}
+use Rattle.c_typing.specs.Declaring.{home_as, stars_with_nodes, size_given, sized_part, sized, form_makes, member_type, member_named, adjusted_with_node, parameter_makes, parameter_declared, parameter}
 use Rattle.c_typing.specs.Judging.{State, Judging, Gives, next, ◌>>=◌, pure, unless, by_known, new_node}
 use Rattle.c_typing.specs.Operands.{Value}
 use Rattle.c_typing.specs.Refusals.{one_named, tag_place, is_empty_row, declared_identifier, is_here, is_void_alone, has_name}

@@ -10,7 +10,7 @@ ghost use Rattle.c_types.specs.Table.{IsAggregate, IsType, Table, is_aggregate_s
 ghost use Rattle.c_types.specs.Sameness.{is_same_type};
 ghost use Rattle.c_tree.specs.Erasure.{erased_specifiers};
 ghost use Rattle.c_tree.specs.Spelling.{declarator_spelling, expr_spelling, specifiers_spelling};
-ghost use Rattle.c_tree.specs.TypedParts.{home_of, made_by, made_by_declarator, made_by_place, made_by_specifiers, place_type, specified_type};
+ghost use Rattle.c_tree.specs.TypedParts.{home_of, made_by, made_by_declarator, made_by_place, made_by_specifiers, place_type, specified_type, home_node};
 ghost use Rattle.c_tree.specs.TypedTree as typed_tree;
 ghost use Rattle.c_tree.specs.TypedViews.{typed_declarator_view, typed_expr_view, typed_specifiers_view};
 ghost use Rattle.c_tree.specs.Views.{declarator_view, expr_view, specifiers_view};
@@ -29,7 +29,6 @@ ghost use Rattle.c_typing_laws.specs.Judged.{AreSpecifiersBy, AreSpecifiersJudge
 ghost use Rattle.c_typing_laws.specs.Numbers.{AreNumberedFrom};
 ghost use Rattle.c_typing_unique.specs.Points.{IsRead, IsReadAs, IsReadPlace, Point};
 ghost use Rattle.c_unit_typing.specs.Holding.{declarator_holds, expr_holds, specifiers_holds};
-ghost use Rattle.c_check_declarators.specs.HomeNodes.{home_node};
 ghost use Rattle.c_check_expr.specs.Accepted.{CanBeGiven, IsDeclaratorRead, IsTaken};
 ghost use Rattle.c_check_expr.specs.Limited.{IsWithin};
 ghost use Rattle.c_check_expr.specs.CheckingViews.{constant_view};

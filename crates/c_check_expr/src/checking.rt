@@ -3,14 +3,13 @@
 
 ghost use Rattle.std.specs.Prelude.{◌≡◌, IfOk, IfSome, None, map, true};
 ghost use Rattle.c_types.specs.Table as table;
-ghost use Rattle.c_tree.specs.TypedParts.{home_of};
+ghost use Rattle.c_tree.specs.TypedParts.{home_of, home_node};
 ghost use Rattle.c_tree.specs.Tree.{AndSpecifier, NoSpecifier, Tagged};
 ghost use Rattle.c_tree.specs.Views.{expr_view, specifier_view, specifiers_of, specifiers_view, declarator_view};
 ghost use Rattle.c_tree.specs.TypedViews.{typed_expr_view, typed_specifiers_view, typed_declarator_view};
 ghost use Rattle.c_typing.specs.Checking as checking;
 ghost use Rattle.c_typing.specs.Declaring as declaring;
 ghost use Rattle.c_check_expr.specs.CheckingViews.{constant_view};
-ghost use Rattle.c_check_declarators.specs.HomeNodes.{home_node};
 ghost use Rattle.c_check_declarators.specs.MakingViews.{nearest_view};
 ghost use Rattle.c_typing.specs.Judging.{Answers, known};
 ghost use Rattle.c_typing.specs.OperandViews.{operand_view, part_view, value_view, part_ref_view};

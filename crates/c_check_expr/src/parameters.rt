@@ -4,6 +4,7 @@
 ghost use Rattle.std.specs.Prelude.{◌≡◌, ◌≢◌, false, Some, None, IfSome, IfOk, IfErr, map, option_map, option_copied};
 ghost use Rattle.cc_base.specs.declared.fault.Fault.TheVariants.{NoMemory as no_memory};
 ghost use Rattle.c_types.specs.Table.{Table, shape_at};
+ghost use Rattle.c_tree.specs.TypedParts.{declared_home};
 ghost use Rattle.c_tree.specs.Tree.{Parameters, NoParameter, AndParameter, NotDeclared, Specifiers as PlainSpecifiers, AndSpecifier};
 ghost use Rattle.c_tree.specs.TypedTree.{TypedParameters, NoParameter as no_typed_parameter};
 ghost use Rattle.c_tree.specs.Views.{added, declarator_view, declared_of, parameter_view, specifier_view, specifiers_of, specifiers_view};
@@ -197,7 +198,7 @@ fn declared_name(d: Option<&TypedForm>) -> Option<&Identifier>
 }
 
 fn declared_home(d: Option<&TypedForm>) -> Home
-    ensures { result ≡ declaring.declared_home (typed_declared_of (option_map typed_form_view (option_copied d.entry))) }
+    ensures { result ≡ declared_home (typed_declared_of (option_map typed_form_view (option_copied d.entry))) }
 {
     match d {
         Some(form) => home_of(form),
@@ -216,7 +217,7 @@ fn declared_type(
     base: TypeId,
 ) -> Result<TypeId, Fault>
     requires { is_here scope.old.scopes (declared_identifier (typed_declared_of (option_map typed_form_view (option_copied d)))) ≡ false }
-    ensures { let one = typed_declared_of (option_map typed_form_view (option_copied d.entry)) in Answers (λ t. t) (next (declaring.parameter_makes at adjusted one base (known types.old scope.old)) (λ t. obeying (λ s. tests.parameter_type_tests s.table s.seen.scopes void t at) (declaring.parameter_declared at (declared_identifier one) (declaring.declared_home one) t))) result (known types.new scope.new) }
+    ensures { let one = typed_declared_of (option_map typed_form_view (option_copied d.entry)) in Answers (λ t. t) (next (declaring.parameter_makes at adjusted one base (known types.old scope.old)) (λ t. obeying (λ s. tests.parameter_type_tests s.table s.seen.scopes void t at) (declaring.parameter_declared at (declared_identifier one) (declared_home one) t))) result (known types.new scope.new) }
 {
     let t = parameter_makes(scope, types, at, adjusted, d, base)?;
     if let Some(fault) = type_fault(scope, types, void, t, at) {

@@ -15,18 +15,19 @@ use Rattle.c_tree.specs.declared.typed_word.Home.TheVariants as home
 use Rattle.c_tree.specs.declared.typed_word.Runtime.{Runtime}
 use Rattle.c_tree.specs.TypedTree as typed
 use Rattle.c_tree.specs.TypedTree.{TypedExpr, TypedPlace, TypedArguments, TypedTypeName, TypedSpecifiers, TypedSpecifierList, TypedSpecifier, TypedMembers, TypedMemberDeclarators, TypedEnumerators, TypedForm, TypedCore, TypedParts, TypedParameters, TypedDeclared, TypedInitialiser, TypedItems, TypedInitDeclarators, TypedDeclaration, TypedStatement, TypedBlockItems, TypedTranslationUnit}
-use Rattle.c_tree.specs.TypedParts.{specified_type, type_of, item_place, home_of_form, declared_home}
+use Rattle.c_tree.specs.TypedParts.{specified_type, type_of, item_place, home_of_form, declared_home, is_void_list}
+use Rattle.c_typing.specs.Refusals.{declared_identifier}
 use Rattle.c_typing.specs.declared.declared.Declared.{Declared}
 use Rattle.c_typing.specs.declared.declared.Declared.TheVariants as declared
 use Rattle.c_typing.specs.declared.declared.Tag.{Tag}
 use Rattle.c_typing.specs.declared.declared.Tag.TheVariants as tag
-use Rattle.c_typing.specs.Declarators.{Outermost, is_void_list, member_names}
+use Rattle.c_typing.specs.Declarators.{Outermost, member_names}
 use Rattle.c_typing.specs.Rules.{number_of_shape, runtime_named}
-use Rattle.c_typing.specs.Scopes.{Name, Scopes, entering, here, members_named, is_no_list}
+use Rattle.c_typing.specs.Scopes.{Name, Scopes, entering, here, members_named}
 use Rattle.c_typing.specs.Shapes.{is_function_shape}
 use Rattle.c_typing.specs.Typing.{IsTyped, IsPlace, AreTyped, IsTypeName, AreSpecifiers, AreAlone, AreListed, IsSpecifier, AreMembers, AreMemberDeclarators, AreEnumerators, IsForm, IsCore, AreParts, AreParameters, IsDeclared, IsNewAggregate, IsTagged, BeginsAggregate, EndsAggregate, DeclaresParameter, tagging, tag_named_here, enumerating}
 use Rattle.c_unit_typing.specs.Initialisers.{IsInitialiser, AreItems, is_only_text, is_char_array}
-use Rattle.c_unit_typing.specs.Units.{Known, Storage, Unstored, AsTypedef, AsExtern, AsStatic, AsAutomatic, storage_of, with_scopes, unless_here, IsLinked, IsLinkedObject, IsStaticOrLocal, IsObjectDeclared, IsOrdinaryDeclared, IsNameDeclared, IsDeclarator, IsDefinedOnce, IsInitialised, AreDeclarators, IsDeclaration, Around, in_a_loop, in_a_switch, entering_known, leaving_known, IsDropped, IsTestedOrNone, IsReturned, IsStatement, AreBlockItems, with_parameters, parameter_declared, declared_identifier, IsUnitTyped}
+use Rattle.c_unit_typing.specs.Units.{Known, Storage, Unstored, AsTypedef, AsExtern, AsStatic, AsAutomatic, storage_of, with_scopes, unless_here, IsLinked, IsLinkedObject, IsStaticOrLocal, IsObjectDeclared, IsOrdinaryDeclared, IsNameDeclared, IsDeclarator, IsDefinedOnce, IsInitialised, AreDeclarators, IsDeclaration, Around, in_a_loop, in_a_switch, entering_known, leaving_known, IsDropped, IsTestedOrNone, IsReturned, IsStatement, AreBlockItems, with_parameters, parameter_declared, IsUnitTyped}
 use Rattle.c_unit_typing.specs.WellTyped.{IsWellTyped, known_before}
 use Rattle.c_ready.specs.Ready.{IsWritten}
 use Rattle.src_machine.specs.Pieces.{Piece, ASpecifier, pieces_of, pieces_of_place, pieces_of_arguments, pieces_of_type_name, pieces_of_specifiers, pieces_of_specifier_list, pieces_of_specifier, pieces_of_members, pieces_of_member_declarators, pieces_of_enumerators, pieces_of_form, pieces_of_core, pieces_of_parts, pieces_of_parameters, pieces_of_declared, pieces_of_initialiser, pieces_of_items, pieces_of_init_declarators, pieces_of_declaration, pieces_of_optional, pieces_of_statement, pieces_of_block_items, pieces_of_unit}
@@ -69,10 +70,10 @@ module _ (T : Table) where
 
   -- what has members behind a part and not before it is written in the part
   pub record Grown (s s' : Scopes) (xs : List Piece) : Type 0 where
-    pub told : (n : ℕ) → is_no_list (members_named s' n) ≡ false → (is_no_list (members_named s n) ≡ false) ⊎ HasAggregate n xs
+    pub told : (n : ℕ) → is_empty (members_named s' n) ≡ false → (is_empty (members_named s n) ≡ false) ⊎ HasAggregate n xs
 
   kept : (s s' : Scopes) (xs : List Piece) → s'.members ≡ s.members → Grown s s' xs
-  kept s s' xs e = record { told = λ n h. inl (ap (λ (ms : List (List Name)). is_no_list (members_named (naming ms) n)) (sym e) ∙ h) }
+  kept s s' xs e = record { told = λ n h. inl (ap (λ (ms : List (List Name)). is_empty (members_named (naming ms) n)) (sym e) ∙ h) }
 
   same : (s s' : Scopes) (xs : List Piece) → s' ≡ s → Grown s s' xs
   same s s' xs e = kept s s' xs (ap (λ (q : Scopes). q.members) e)
@@ -118,14 +119,14 @@ module _ (T : Table) where
   first : (s m s' : Scopes) (xs : List Piece) → m.members ≡ s.members → Grown m s' xs → Grown s s' xs
   first s m s' xs e p = record {
     told = λ n h. elim (p.told n h) [
-      | inl f ↦ inl (ap (λ (ms : List (List Name)). is_no_list (members_named (naming ms) n)) (sym e) ∙ f)
+      | inl f ↦ inl (ap (λ (ms : List (List Name)). is_empty (members_named (naming ms) n)) (sym e) ∙ f)
       | inr a ↦ inr a
     ];
   }
 
   last : (s m s' : Scopes) (xs : List Piece) → s'.members ≡ m.members → Grown s m xs → Grown s s' xs
   last s m s' xs e p = record {
-    told = λ n h. p.told n (ap (λ (ms : List (List Name)). is_no_list (members_named (naming ms) n)) (sym e) ∙ h);
+    told = λ n h. p.told n (ap (λ (ms : List (List Name)). is_empty (members_named (naming ms) n)) (sym e) ∙ h);
   }
 
   runtime-same : (f : TypedExpr) (function : Runtime) (s s' : Scopes) → runtime_named f ≡ Some function → IsTyped T f s s' → s' ≡ s
@@ -140,7 +141,7 @@ module _ (T : Table) where
   new-grown : (which : AggregateKind) (name : Option Identifier) (t : TypeId) (s s' : Scopes) (xs : List Piece) → IsNewAggregate T which name t s s'
       → Grown s s' xs
   new-grown which name t s s' xs h = record {
-    told = λ n q. inl (sym (ap (λ (names : List Name). is_no_list names)
+    told = λ n q. inl (sym (ap (λ (names : List Name). is_empty names)
         (ap (λ (z : Scopes). members_named (naming z.members) n) h.after
         ∙ (ap (λ (ms : List (List Name)). members_named (naming ms) n) (tagging-kept name (tag.Aggregate which t) _)
         ∙ counting_names s.members n))) ∙ q);
@@ -170,7 +171,7 @@ module _ (T : Table) where
         there = Contains-push [] (ASpecifier (typed.Aggregate which at name brace members t));
         number = h.declared ∙ ap (λ i. Some i) (sym e);
       })
-      | inr e ↦ inl (sym (ap (λ (names : List Name). is_no_list names) (ap (λ (z : Scopes). members_named (naming z.members) n) h.after ∙ e)) ∙ q)
+      | inr e ↦ inl (sym (ap (λ (names : List Name). is_empty names) (ap (λ (z : Scopes). members_named (naming z.members) n) h.after ∙ e)) ∙ q)
     ];
   }
 
@@ -626,7 +627,7 @@ module _ (T : Table) (u : TypedTranslationUnit) (w : IsWellTyped T u) where
   number-of (shape.Array t n) h = absurd (true≢false (sym h))
   number-of (shape.Function ps r) h = absurd (true≢false (sym h))
 
-  some-names : (names : List Name) (ms : List TypeId) → length names ≡ length ms → is_empty ms ≡ false → is_no_list names ≡ false
+  some-names : (names : List Name) (ms : List TypeId) → length names ≡ length ms → is_empty ms ≡ false → is_empty names ≡ false
   some-names [] [] e h = absurd (true≢false h)
   some-names [] (m ∷ ms) e h = absurd (omega (arith, e))
   some-names (n ∷ ns) ms e h = refl

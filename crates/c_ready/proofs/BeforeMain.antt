@@ -4,6 +4,7 @@ use Rattle.std.proofs.Common.{◌≡◌, ℕ, ℤ, Bool, true, false, List, Opti
 use Rattle.cc_base.specs.declared.number.NodeId.{NodeId}
 use Rattle.cc_base.specs.declared.number.TypeId.{TypeId}
 use Rattle.integers.specs.Arithmetic.{IntegerType, converted, computed}
+use Rattle.c_tree.specs.Arithmetic.{operator_of}
 use Rattle.c_tree.specs.declared.leaf.Identifier.{Identifier}
 use Rattle.c_tree.specs.declared.typed_word.Side.TheVariants as side
 use Rattle.c_tree.specs.TypedTree as typed
@@ -11,7 +12,7 @@ use Rattle.c_tree.specs.TypedTree.{TypedExpr, TypedPlace, TypedInitialiser, Type
 use Rattle.c_tree.specs.TypedParts.{type_of, named_type}
 use Rattle.c_tree.specs.declared.typed_word.Conversion.{Conversion}
 use Rattle.c_typing.specs.Shapes.{integer_at}
-use Rattle.c_typing.specs.Constants.{constant_value, with_type, with_value, converted_value, is_to_integer, cannot_divide, operator_of, logical, is_true, alone}
+use Rattle.c_typing.specs.Constants.{constant_value, with_type, with_value, converted_value, is_to_integer, cannot_divide, logical, is_true, alone}
 use Rattle.c_unit_typing.specs.Initialisers.{is_constant, is_constant_place, is_constant_array, is_constant_initialiser, are_constant_items, is_among, is_integer_constant, has_value, is_char_array, is_only_text}
 use Rattle.c_ready.proofs.Contexts.{before_main, IsReadyInitialiser, AreReadyItems, Context, IsObjectOf, IsFunctionNamed, IsReady, IsReadyPlace}
 use Rattle.c_ready.proofs.Basics.{no_true}

@@ -14,17 +14,18 @@ use Rattle.c_tree.specs.declared.typed_word.Home.{Home}
 use Rattle.c_tree.specs.declared.typed_word.Home.TheVariants as home
 use Rattle.c_tree.specs.TypedTree as typed
 use Rattle.c_tree.specs.TypedTree.{TypedSpecifiers, TypedForm, TypedCore, TypedParts, TypedParameters, TypedDeclared, TypedBlockItems, TypedTranslationUnit, TypedDeclarator}
-use Rattle.c_tree.specs.TypedParts.{specified_type, DefinedFunction, Name, made_by, made_by_specifiers, made_by_form, made_by_core, made_by_parts, made_by_parameters, made_by_declared, made_by_adjusted, made_by_stars, home_of_form, made_by_declaration, made_by_block_items, declared_home, ParameterObject, parameter_home, parameter_objects, parameters_in_form, parameters_in_core, nearest_parameters, unless_starred, locals_of, declared_type}
+use Rattle.c_tree.specs.TypedParts.{specified_type, DefinedFunction, Name, made_by, made_by_specifiers, made_by_form, made_by_core, made_by_parts, made_by_parameters, made_by_declared, made_by_adjusted, made_by_stars, home_of_form, made_by_declaration, made_by_block_items, declared_home, ParameterObject, parameter_home, parameter_objects, parameters_in_form, parameters_in_core, nearest_parameters, unless_starred, locals_of, declared_type, is_void_list}
 use Rattle.c_tree.specs.declared.typed_word.TypedStar.{TypedStar}
+use Rattle.c_typing.specs.Refusals.{declared_identifier}
 use Rattle.c_typing.specs.declared.declared.Declared.{Declared}
 use Rattle.c_typing.specs.declared.declared.Declared.TheVariants as declared
 use Rattle.c_typing.specs.Scopes as scopes
 use Rattle.c_typing.specs.Scopes.{Level, Scopes, empty_level, entering, without_innermost, with_name}
-use Rattle.c_typing.specs.Declarators.{is_void_list, Written, taken_types, parameter_types, is_result_shape}
+use Rattle.c_typing.specs.Declarators.{Written, taken_types, parameter_types, is_result_shape}
 use Rattle.c_typing.specs.Typing.{IsForm, IsCore, AreParts, AreParameters, IsTakenType}
 use Rattle.c_typing.specs.Shapes.{IsScalar, IsVoid, is_scalar_shape}
 use Rattle.c_unit_typing.specs.Units as units
-use Rattle.c_unit_typing.specs.Units.{with_scopes, leaving_known, storage_of, declares_parameters, unless_pointer, parameters_of_form, parameters_of_core, parameter_declared, declared_identifier, with_parameters, IsDefinition, IsUnitTyped, Around, Storage, AsTypedef, AsExtern, AsStatic, AsAutomatic, Unstored}
+use Rattle.c_unit_typing.specs.Units.{with_scopes, leaving_known, storage_of, declares_parameters, unless_pointer, parameters_of_form, parameters_of_core, parameter_declared, with_parameters, IsDefinition, IsUnitTyped, Around, Storage, AsTypedef, AsExtern, AsStatic, AsAutomatic, Unstored}
 use Rattle.c_unit_typing.proofs.FunctionParameters.{function-with}
 use Rattle.src_machine.specs.Names.{declarators_in_declaration, declarators_in_items}
 use Rattle.c_ready.specs.Ready.{Named, parameter_named, made_named, variables_named, parameters_listed}

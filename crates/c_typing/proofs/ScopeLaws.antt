@@ -14,6 +14,10 @@ use Rattle.c_typing.specs.Scopes.{Name, Level, Seen, entry_of, seen_entries, wit
 abbrev level : List (Name × Declared) → List (Name × Tag) → Level
 level names tags = record { names = names; tags = tags }
 
+-- an empty map has no entry
+pub none-seen : {K A : Type 0} (bytes : K → Name) (name : Name) (es : List (K × A)) → es ≡ [] → None ≡ entry_of (seen_entries bytes es) name
+none-seen bytes name es e = rw e refl
+
 -- what is found in a map is the entry of the name
 pub lookup-seen : {K A : Type 0} (bytes : K → Name) (test : K → Bool) (name : Name) → ((k : K) → test k ≡ bytes_eq name (bytes k))
     → (es : List (K × A)) → lookup test es ≡ entry_of (seen_entries bytes es) name

@@ -9,9 +9,10 @@ use Rattle.cc_base.specs.declared.fault.Fault.{Fault}
 use Rattle.cc_base.specs.declared.fault.Fault.TheVariants.{Refused}
 use Rattle.c_types.specs.declared.shape.TypeShape.{TypeShape}
 use Rattle.c_types.specs.declared.shape.TypeShape.TheVariants.{Void, Integer, Pointer, Array, Function}
-use Rattle.c_types.specs.Table.{Table, shape_at, is_aggregate_shape}
+use Rattle.c_types.specs.Table.{Table, shape_at, is_aggregate_shape, is_empty}
 use Rattle.c_types.specs.Equality.{same_bool}
 use Rattle.c_types.specs.Sameness.{is_same_type}
+use Rattle.c_tree.specs.Arithmetic.{operator_of}
 use Rattle.c_tree.specs.declared.operator.Assignment.{Assignment}
 use Rattle.c_tree.specs.declared.operator.Assignment.TheVariants as assignment
 use Rattle.c_tree.specs.declared.operator.Binary.{Binary}
@@ -35,8 +36,8 @@ use Rattle.c_tree.specs.declared.leaf.Word.{Word}
 use Rattle.integers.specs.Arithmetic.{IntegerType, converted}
 use Rattle.c_typing.specs.Shapes.{is_data, is_integer_shape, is_pointer_shape, is_scalar_shape, is_void_shape, is_function_shape, integer_at}
 use Rattle.c_typing.specs.Integers.{is_order, is_equality, is_logical, assigning, left_type, right_type}
-use Rattle.c_typing.specs.Scopes.{Name, Scopes, name_in, tag_in, here, tag_here, place_among, members_named, is_complete_at, is_no_list}
-use Rattle.c_typing.specs.Constants.{constant_value, is_null_constant, operator_of, cannot_divide}
+use Rattle.c_typing.specs.Scopes.{Name, Scopes, name_in, tag_in, here, tag_here, place_among, members_named, is_complete_at}
+use Rattle.c_typing.specs.Constants.{constant_value, is_null_constant, cannot_divide}
 use Rattle.c_typing.specs.Conversions.{is_taken_as, implicit_between, cast_between}
 use Rattle.c_typing.specs.Rules.{is_lvalue, is_designator, is_compound, number_of_shape, runtime_named}
 
@@ -445,7 +446,7 @@ abbrev pub array_tests : Table → Scopes → Outermost → (sized : Bool) → P
 array_tests T s outermost sized bracket words element at =
     broken_at rule.Incomplete bracket (lacks_size outermost sized)
     ∷ broken_at rule.Incomplete at (not (is_complete_at T s element))
-    ∷ broken_at rule.Mismatch (first_word_place words bracket) (not (is_no_list words) && not (is_pointed outermost))
+    ∷ broken_at rule.Mismatch (first_word_place words bracket) (not (is_empty words) && not (is_pointed outermost))
     ∷ []
 
 -- a function part: it gives an array, a function, or a struct or union

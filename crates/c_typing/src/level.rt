@@ -40,6 +40,9 @@ impl Level {
     pub fn name(&self, name: &[u8]) -> Option<&Declared>
         ensures { option_copied result ≡ entry_of self.now.names name.now }
     {
+        if self.names.is_empty() {
+            return None;
+        }
         self.names.get(name)
     }
 
@@ -47,6 +50,9 @@ impl Level {
     pub fn tag(&self, name: &[u8]) -> Option<&Tag>
         ensures { option_copied result ≡ entry_of self.now.tags name.now }
     {
+        if self.tags.is_empty() {
+            return None;
+        }
         self.tags.get(name)
     }
 

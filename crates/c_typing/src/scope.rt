@@ -2,7 +2,7 @@
 #![tactic(auto)]
 
 ghost use Rattle.std.specs.Prelude.{◌≡◌, ◌<◌, ◌≤◌, ◌+◌, true, false, not, OnOk, OnErr, IfOk, IfSome, None, option_copied, length, nat_le, map, slice_set};
-ghost use Rattle.c_typing.specs.Scopes.{file_scope, with_scopes, entering, leaving, declaring, declaring_tag, here, tag_here, name_in, tag_in, place_among, members_named, is_no_list};
+ghost use Rattle.c_typing.specs.Scopes.{file_scope, with_scopes, entering, leaving, declaring, declaring_tag, here, tag_here, name_in, tag_in, place_among, members_named};
 ghost use Rattle.c_typing.specs.Typing.{counting_aggregate};
 
 use crate::declared::{Declared, Tag};
@@ -35,6 +35,7 @@ pub struct Scope {
 impl Model for Scope {
     ghost use Rattle.std.specs.Prelude.{◌∷◌, [], map, ◌≤◌};
     ghost use Rattle.c_typing.specs.Scopes.{Seen};
+    ghost use Rattle.c_types.specs.Table.{is_empty};
 
     ghost Value = { Seen };
 
@@ -205,7 +206,7 @@ impl Scope {
 
     /// Whether a struct or union has members so far. Takes no memory.
     pub fn has_members(&self, number: usize) -> bool
-        ensures { result ≡ not (is_no_list (members_named self.now.scopes number)) }
+        ensures { result ≡ not (is_empty (members_named self.now.scopes number)) }
     {
         match self.members.get(number) {
             Some(names) => names.is_some(),

@@ -2,12 +2,12 @@
 use Rattle.std.proofs.Common.{◌≡◌, Bool, refl, ap, sym, subst, ◌∙◌, inl, inr}
 use Rattle.cc_base.specs.declared.place.Place.{Place}
 use Rattle.c_types.specs.Table.{Table}
+use Rattle.c_tree.specs.TypedParts.{is_void_list}
 use Rattle.c_tree.specs.declared.operator.MemberOperator.TheVariants as member
 use Rattle.c_tree.specs.Erasure.{erased_parameters}
 use Rattle.c_tree.specs.Tree as tree
 use Rattle.c_tree.specs.TypedTree as typed
-use Rattle.c_tree.specs.TypedTree.{TypedParts, TypedParameters}
-use Rattle.c_typing.specs.Declarators.{is_void_list}
+use Rattle.c_tree.specs.TypedTree.{TypedParameters}
 use Rattle.c_typing.specs.Refusals.{is_void_alone}
 use Rattle.c_typing.specs.Settled.{IsBasic}
 use Rattle.c_typing_unique.specs.Points.{Point, HasOwn}

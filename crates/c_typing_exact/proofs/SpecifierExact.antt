@@ -5,7 +5,7 @@ use Rattle.cc_base.specs.declared.place.Place.{Place}
 use Rattle.cc_base.specs.declared.number.TypeId.{TypeId}
 use Rattle.cc_base.specs.declared.fault.Fault.{Fault}
 use Rattle.cc_base.specs.declared.fault.Rule.TheVariants as rule
-use Rattle.c_types.specs.Table.{Table}
+use Rattle.c_types.specs.Table.{Table, is_empty}
 use Rattle.c_lexer.specs.declared.word.Keyword.{Keyword}
 use Rattle.c_lexer.specs.declared.word.Keyword.TheVariants as keyword
 use Rattle.c_tree.specs.declared.leaf.Identifier.{Identifier}
@@ -14,12 +14,12 @@ use Rattle.c_tree.specs.declared.operator.AggregateKind.{AggregateKind}
 use Rattle.c_tree.specs.declared.operator.AggregateKind.TheVariants as kind
 use Rattle.c_tree.specs.Tree as tree
 use Rattle.c_tree.specs.TypedTree as typed
-use Rattle.c_tree.specs.TypedTree.{TypedSpecifier, TypedSpecifierList, TypedSpecifiers, TypedMembers, TypedMemberDeclarators, TypedEnumerators}
+use Rattle.c_tree.specs.TypedTree.{TypedSpecifier, TypedSpecifierList, TypedSpecifiers, TypedMembers, TypedEnumerators}
 use Rattle.c_typing.specs.declared.declared.Tag.{Tag}
 use Rattle.c_typing.specs.declared.declared.Tag.TheVariants as tag
 use Rattle.c_typing.specs.Declarators.{Counted, counted, counting, counting_word, are_allowed, member_names}
 use Rattle.c_typing.specs.Refusals.{Fails, BeginsOrStays, one_named, tag_place, is_empty_row}
-use Rattle.c_typing.specs.Scopes.{Name, Level, Scopes, or_outer, entry_of, tag_here, tag_in, is_complete_at, is_no_list}
+use Rattle.c_typing.specs.Scopes.{Name, Level, Scopes, or_outer, entry_of, tag_here, tag_in, is_complete_at}
 use Rattle.c_typing.specs.Settled.{IsBasic}
 use Rattle.c_typing.specs.Tests.{broken_at, word_tests, tag_tests, enum_tests, aggregate_tests, enumeration_tests, is_tag_of, is_other_tag, is_taken_tag, is_enumeration, has_some, is_none}
 use Rattle.c_typing.specs.Typing.{IsTagged, BeginsAggregate, AreDistinct, AreSpecifiers, AreListed, AreMembers, AreEnumerators, IsSpecifier, tag_named_here}
@@ -159,7 +159,7 @@ abbrev pub AreEnumeratorsExact : Table → tree.Enumerators → Type 0
 AreEnumeratorsExact T xs =
     (list : TypedEnumerators) (a b : Point) (f : Fault) → IsReadAs erased_enumerators made_by_enumerators (AreEnumerators T) xs list a b → HasOwn a → RefusesEnumeratorsAt T xs a f → ⊥
 
-some_members : (rows : TypedMembers) → is_no_list (member_names rows) ≡ false → is_empty_row rows ≡ false
+some_members : (rows : TypedMembers) → is_empty (member_names rows) ≡ false → is_empty_row rows ≡ false
 some_members typed.NoMember h = no_true (sym h)
 some_members (typed.AndMember all specifiers declarators) h = refl
 

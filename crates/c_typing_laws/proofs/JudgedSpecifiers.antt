@@ -10,7 +10,7 @@ use Rattle.cc_base.specs.declared.fault.Limit.TheVariants.{Types}
 use Rattle.cc_base.specs.declared.fault.Rule.TheVariants as rule
 use Rattle.c_types.specs.declared.shape.TypeShape.{TypeShape}
 use Rattle.c_types.specs.declared.shape.TypeShape.TheVariants.{Void, Integer, Pointer, Array, Function, Struct, Union}
-use Rattle.c_types.specs.Table.{Table, IsType, entry_at, shape_at, is_complete}
+use Rattle.c_types.specs.Table.{Table, IsType, entry_at, shape_at, is_complete, is_empty}
 use Rattle.c_tree.specs.declared.leaf.Identifier.{Identifier}
 use Rattle.c_tree.specs.declared.leaf.Word.{Word}
 use Rattle.c_tree.specs.declared.operator.AggregateKind.{AggregateKind}
@@ -30,10 +30,10 @@ use Rattle.c_typing.specs.declared.declared.Tag.TheVariants as tag
 use Rattle.c_typing.specs.Declarators.{Counted, counting_word, are_allowed, member_names}
 use Rattle.c_typing.specs.Judging.{State, Gives, next, pure, by_known}
 use Rattle.c_typing.specs.Refusals.{one_named, tag_place, is_empty_row}
-use Rattle.c_typing.specs.Scopes.{Name, Scopes, name_in, tag_in, here, tag_here, declaring, is_no_list, members_named, is_complete_shape_at, is_complete_at, with_scopes}
+use Rattle.c_typing.specs.Scopes.{Name, Scopes, name_in, tag_in, here, tag_here, declaring, members_named, is_complete_shape_at, is_complete_at, with_scopes}
 use Rattle.c_typing.specs.Settled.{IsTagThere, IsLevelThere, IsKnown, GoesOn, IsSpecifierJudged, IsBegun, AreEnumeratorsJudged, IsValueOf}
 use Rattle.c_typing.specs.Specifying
-use Rattle.c_typing.specs.Specifying.{in_scopes, typedef_named, tagged_as, tagged_by, begun_as, begun, ended, is_taken_at_end, enum_tag, enumeration_begun, enumeration, enumerator, enumerator_with, valued_enumerator, new_aggregate, completed}
+use Rattle.c_typing.specs.Specifying.{in_scopes, typedef_named, tagged_as, tagged_by, begun_as, begun, ended, enum_tag, enumeration_begun, enumeration, enumerator, enumerator_with, valued_enumerator, new_aggregate, completed}
 use Rattle.c_typing.specs.Tests
 use Rattle.c_typing.specs.Tests.{is_tag_of, is_other_tag, is_enumeration, is_taken_tag, is_none, has_some, first_broken}
 use Rattle.c_typing.specs.Typing.{IsTagged, BeginsAggregate, AreMembers, AreDistinct, tag_named_here, tagging, enumerating, next_value, last_value}
@@ -57,8 +57,8 @@ one_of true f rest h = absurd (none-some f (sym h))
 one_of false f rest h = (refl, h)
 
 members_complete : (c d : Scopes) → d.members ≡ c.members → (w : Bool) (x : TypeShape) → is_complete_shape_at d w x ≡ is_complete_shape_at c w x
-members_complete c d same w (Struct n) = ap (λ (ms : List (List Name)). not (is_no_list (members_named (record c { members = ms }) n))) same
-members_complete c d same w (Union n) = ap (λ (ms : List (List Name)). not (is_no_list (members_named (record c { members = ms }) n))) same
+members_complete c d same w (Struct n) = ap (λ (ms : List (List Name)). not (is_empty (members_named (record c { members = ms }) n))) same
+members_complete c d same w (Union n) = ap (λ (ms : List (List Name)). not (is_empty (members_named (record c { members = ms }) n))) same
 members_complete c d same w Void = refl
 members_complete c d same w (Integer bytes signed) = refl
 members_complete c d same w (Pointer m t) = refl

@@ -7,9 +7,9 @@ use Rattle.c_tree.specs.declared.typed_word.Adjusted.{Adjusted}
 use Rattle.c_tree.specs.Erasure.{erased_declared, erased_specifier_list}
 use Rattle.c_tree.specs.TypedTree as typed
 use Rattle.c_tree.specs.TypedTree.{TypedExpr, TypedPlace, TypedArguments, TypedTypeName, TypedSpecifiers, TypedSpecifierList, TypedSpecifier, TypedMembers, TypedMemberDeclarators, TypedEnumerators, TypedForm, TypedCore, TypedParts, TypedParameters, TypedDeclared}
-use Rattle.c_tree.specs.TypedParts.{type_of, place_type, named_type, specified_type}
+use Rattle.c_tree.specs.TypedParts.{type_of, place_type, named_type, specified_type, is_void_list}
 use Rattle.c_typing.specs.Adjusting.{IsAdjusted, derived_by_declared, typedef_place, adjusted_at}
-use Rattle.c_typing.specs.Declarators.{Written, is_void_list}
+use Rattle.c_typing.specs.Declarators.{Written}
 use Rattle.c_typing.specs.Extensions.{IsExtended}
 use Rattle.c_typing.specs.Scopes.{Scopes, tag_in, entering}
 use Rattle.c_typing.specs.Settled.{IsBasic}

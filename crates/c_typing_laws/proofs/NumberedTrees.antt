@@ -25,8 +25,8 @@ use Rattle.c_tree.specs.declared.typed_word.TypedStar.{TypedStar}
 use Rattle.c_tree.specs.Places.{nowhere}
 use Rattle.c_tree.specs.Tree as tree
 use Rattle.c_tree.specs.TypedTree as typed
-use Rattle.c_tree.specs.TypedTree.{TypedExpr, TypedTypeName, TypedSpecifiers, TypedSpecifierList, TypedSpecifier, TypedMembers, TypedMemberDeclarators, TypedEnumerators, TypedForm, TypedCore, TypedParts, TypedParameters, TypedDeclared}
-use Rattle.c_tree.specs.TypedParts.{Made, Name, made_by, made_by_type_name, made_by_specifier_list, made_by_specifier, made_by_members, made_by_member_declarators, made_by_enumerators, made_by_stars, made_by_form, made_by_core, made_by_parts, made_by_parameters, made_by_adjusted, made_by_declared}
+use Rattle.c_tree.specs.TypedTree.{TypedTypeName, TypedSpecifierList, TypedSpecifier, TypedMembers, TypedMemberDeclarators, TypedEnumerators, TypedForm, TypedCore, TypedParts, TypedParameters, TypedDeclared}
+use Rattle.c_tree.specs.TypedParts.{Made, Name, made_by, made_by_type_name, made_by_specifier_list, made_by_specifier, made_by_members, made_by_member_declarators, made_by_enumerators, made_by_stars, made_by_form, made_by_core, made_by_parts, made_by_parameters, made_by_adjusted, made_by_declared, declared_home}
 use Rattle.c_typing.specs.declared.declared.Declared.{Declared}
 use Rattle.c_typing.specs.declared.declared.Declared.TheVariants as declared
 use Rattle.c_typing.specs.declared.naming.Naming.{Naming}
@@ -36,7 +36,7 @@ use Rattle.c_typing.specs.Assignments
 use Rattle.c_typing.specs.Constants.{constant_value}
 use Rattle.c_typing.specs.Declarators.{Counted, counted, counting_word, declarator_names, member_names}
 use Rattle.c_typing.specs.Declarators
-use Rattle.c_typing.specs.Declaring.{declarator_name, home_as, stars_with_nodes, size_given, sized_part, sized, declared_makes, form_makes, member_type, member_named, adjusted_with_node, parameter_makes, parameter_declared, declared_home, parameter, entered, left}
+use Rattle.c_typing.specs.Declaring.{declarator_name, home_as, stars_with_nodes, size_given, sized_part, sized, declared_makes, form_makes, member_type, member_named, adjusted_with_node, parameter_makes, parameter_declared, parameter, entered, left}
 use Rattle.c_typing.specs.Judging.{State, Judging, Gives, Stops, next, ◌>>=◌, pure, unless, by_known, new_node}
 use Rattle.c_typing.specs.Operands.{Operand, Value, value}
 use Rattle.c_typing.specs.Operations

@@ -14,10 +14,10 @@ use Rattle.c_tree.specs.Erasure.{erased_specifiers, erased_form, erased_block_it
 use Rattle.c_tree.specs.Tree as tree
 use Rattle.c_tree.specs.TypedTree as typed
 use Rattle.c_tree.specs.TypedTree.{TypedSpecifiers, TypedForm, TypedDeclarator, TypedParameters, TypedBlockItems, TypedTranslationUnit}
-use Rattle.c_tree.specs.TypedParts.{made_by_specifiers, made_by_form, made_by_block_items, specified_type, declared_type, name_of_form, home_of_form}
+use Rattle.c_tree.specs.TypedParts.{made_by_specifiers, made_by_form, made_by_block_items, specified_type, declared_type, name_of_form, home_of_form, form_of}
 use Rattle.c_typing.specs.declared.declared.Declared.TheVariants as declared
 use Rattle.c_typing.specs.declared.naming.Naming.{Naming}
-use Rattle.c_typing.specs.Declarators.{Written}
+use Rattle.c_typing.specs.Declarators.{Written, name_bytes}
 use Rattle.c_typing.specs.Declaring.{declarator_name, entered, left, unless_function}
 use Rattle.c_typing.specs.Judging as judging
 use Rattle.c_typing.specs.Judging.{State}
@@ -38,10 +38,10 @@ use Rattle.c_typing_given.specs.Given.{IsHere}
 use Rattle.c_type_order.specs.TypesUsed.{AreUses, used_by_specifiers, used_by_declarator}
 use Rattle.c_typing_given.proofs.ValuesGiven.{uses-first}
 use Rattle.c_unit_typing.specs.DeclarationJudging.{naming_for, linked_first}
-use Rattle.c_unit_typing.specs.DefinitionJudging.{declare_parameters, form_of, result_of, body, defined_as, judge_definition}
+use Rattle.c_unit_typing.specs.DefinitionJudging.{declare_parameters, result_of, body, defined_as, judge_definition}
 use Rattle.c_unit_typing.specs.Holding.{specifiers_holds, declarator_holds, block_items_holds}
 use Rattle.c_unit_typing.specs.StatementJudging.{judge_block_items}
-use Rattle.c_unit_typing.specs.Units.{Known, Around, with_scopes, leaving_known, storage_of, is_one_of, bytes_of_name, parameters_of_form, with_parameters, defaults_in, AreDifferent, IsLinked, IsDeclarator, AreBlockItems, IsDefinition}
+use Rattle.c_unit_typing.specs.Units.{Known, Around, with_scopes, leaving_known, storage_of, is_one_of, parameters_of_form, with_parameters, defaults_in, AreDifferent, IsLinked, IsDeclarator, AreBlockItems, IsDefinition}
 use Rattle.c_unit_typing.specs.UnitJudged.{state_of}
 use Rattle.c_unit_typing.specs.UnitJudging.{UnitState, UnitJudging, Gives, known_of, known, next, by_known, pure, lifted, ◌>>=◌}
 use Rattle.c_unit_typing.proofs.DeclaredNames.{is_typedef}
@@ -127,7 +127,7 @@ module _ (T : Table) (basic : IsBasic T) (exprs : AreExpressionsGiven T) (scopes
   -- The whole
 
   module _ (names : List Name) (few : length names ≤ 65535) (before : TypedTranslationUnit) (specifiers : TypedSpecifiers) (form : TypedForm) (t : TypeId) (brace : Place) (list : TypedBlockItems)
-      (among : is_one_of names (bytes_of_name (name_of_form form)) ≡ true) (run : AreBlockItemsRun T basic exprs scopes decls sizes list)
+      (among : is_one_of names (name_bytes (name_of_form form)) ≡ true) (run : AreBlockItemsRun T basic exprs scopes decls sizes list)
       (holds : max (specifiers_holds (erased_specifiers specifiers)) (max (declarator_holds (erased_form form)) (block_items_holds (erased_block_items list))) ≤ 256) where
     declarator_held : declarator_holds (erased_form form) ≤ 256
     declarator_held =
@@ -204,7 +204,7 @@ module _ (T : Table) (basic : IsBasic T) (exprs : AreExpressionsGiven T) (scopes
       tried =
           let m : UnitState = formed.after in
           let name : Identifier = q.1.name in
-          let there = placed names name.bytes (ap (λ (o : Option Identifier). is_one_of names (bytes_of_name o)) (sym q.1.named) ∙ among) in
+          let there = placed names name.bytes (ap (λ (o : Option Identifier). is_one_of names (name_bytes o)) (sym q.1.named) ∙ among) in
           let low = there.2 in
           let same : m.seen.scopes.defined ≡ names =
           ap (λ (l : Known). l.scopes.defined) formed.reached.known ∙ (form-defined T form s.seen.scopes one.inside one.parts ∙ q.3) in

@@ -4,7 +4,6 @@ mod LevelsBelow
 mod InnermostNames
 mod Runs
 mod Texts
-mod CellsCounted
 mod NameRules
 mod NamesGiven
 mod NamesDeclared

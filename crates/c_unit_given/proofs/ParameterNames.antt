@@ -9,9 +9,9 @@ use Rattle.c_tree.specs.declared.typed_word.Home.TheVariants as home
 use Rattle.c_tree.specs.declared.typed_word.TypedStar.{TypedStar}
 use Rattle.c_tree.specs.TypedTree as typed
 use Rattle.c_tree.specs.TypedTree.{TypedForm, TypedCore, TypedParts, TypedParameters, TypedDeclared}
-use Rattle.c_tree.specs.TypedParts.{made_by, made_by_stars, made_by_specifiers, made_by_form, made_by_core, made_by_parts, made_by_parameters, made_by_declared, made_by_adjusted, declared_home}
+use Rattle.c_tree.specs.TypedParts.{made_by, made_by_stars, made_by_specifiers, made_by_form, made_by_core, made_by_parts, made_by_parameters, made_by_declared, made_by_adjusted, declared_home, is_void_list}
+use Rattle.c_typing.specs.Refusals.{declared_identifier}
 use Rattle.c_typing.specs.declared.declared.Declared.TheVariants as declared
-use Rattle.c_typing.specs.Declarators.{is_void_list}
 use Rattle.c_typing.specs.Scopes.{Scopes, with_name, declaring, entering}
 use Rattle.c_typing.specs.Typing.{IsForm, IsCore, AreParts, AreParameters, IsDeclared}
 use Rattle.c_typing_unique.specs.Points.{Numbers}
@@ -19,7 +19,7 @@ use Rattle.c_typing_unique.proofs.DeclaratorSteps.{name_declared, DeclaresName, 
 use Rattle.c_typing_unique.proofs.Numbering.{two-parts}
 use Rattle.c_typing_given.proofs.LevelsKept.{length-innermost, entered-levels}
 use Rattle.c_typing_given.proofs.Settling.{numbers-end}
-use Rattle.c_unit_typing.specs.Units.{declares_parameters, unless_pointer, parameters_of_form, parameters_of_core, parameter_declared, declared_identifier, with_parameters}
+use Rattle.c_unit_typing.specs.Units.{declares_parameters, unless_pointer, parameters_of_form, parameters_of_core, parameter_declared, with_parameters}
 use Rattle.c_unit_typing.proofs.NameSteps.{some-same}
 use Rattle.c_unit_given.proofs.UnitGiven.{AreScopesKept, IsScopeKept}
 use Rattle.c_unit_given.proofs.DeclaratorHomes.{IsMadeBetween, form-between}

@@ -8,6 +8,7 @@ use Rattle.c_tree.specs.declared.typed_word.Home.TheVariants as home
 use Rattle.c_tree.specs.TypedTree as typed
 use Rattle.c_tree.specs.TypedTree.{TypedParameters}
 use Rattle.c_tree.specs.TypedParts.{declared_home}
+use Rattle.c_typing.specs.Refusals.{declared_identifier}
 use Rattle.c_typing.specs.declared.declared.Declared.{Declared}
 use Rattle.c_typing.specs.declared.declared.Declared.TheVariants as declared
 use Rattle.c_typing.specs.Extensions.{IsExtended}
@@ -15,7 +16,7 @@ use Rattle.c_typing.specs.Scopes.{Scopes, here}
 use Rattle.c_typing_laws.proofs.ExtensionLaws.{extended_refl, still_in}
 use Rattle.c_unit_typing.specs.DeclarationJudging.{new_name}
 use Rattle.c_unit_typing.specs.DefinitionJudging.{declare_parameter, declare_parameters}
-use Rattle.c_unit_typing.specs.Units.{Known, with_scopes, parameter_declared, declared_identifier, with_parameters}
+use Rattle.c_unit_typing.specs.Units.{Known, with_scopes, parameter_declared, with_parameters}
 use Rattle.c_unit_typing.specs.UnitJudging.{UnitState, UnitJudging, Gives, known_of, pure}
 use Rattle.c_unit_typing.proofs.FunctionParameters.{AreParametersThere}
 use Rattle.c_unit_given.proofs.UnitGiven.{IsUnitHere, IsUnitGivenAs, Nothing}

@@ -8,11 +8,10 @@ use Rattle.c_tree.specs.declared.operator.AggregateKind.{AggregateKind}
 use Rattle.c_tree.specs.declared.typed_word.Home.TheVariants as home
 use Rattle.c_tree.specs.TypedTree as typed
 use Rattle.c_tree.specs.TypedTree.{TypedExpr, TypedPlace, TypedArguments, TypedTypeName, TypedSpecifiers, TypedSpecifierList, TypedSpecifier, TypedMembers, TypedMemberDeclarators, TypedEnumerators, TypedForm, TypedCore, TypedParts, TypedParameters, TypedDeclared}
-use Rattle.c_tree.specs.TypedParts.{specified_type}
+use Rattle.c_tree.specs.TypedParts.{specified_type, is_void_list}
 use Rattle.c_typing.specs.declared.declared.Declared.TheVariants as declared
 use Rattle.c_typing.specs.declared.declared.Tag.{Tag}
 use Rattle.c_typing.specs.declared.declared.Tag.TheVariants as tag
-use Rattle.c_typing.specs.Declarators.{is_void_list}
 use Rattle.c_typing.specs.Scopes.{Name, Level, Scopes, empty_level, at_innermost, without_innermost, with_name, with_tag, tag_in, tag_here, here, entry_of, entering, leaving}
 use Rattle.c_typing.specs.Typing.{IsTyped, IsPlace, AreTyped, IsTypeName, AreSpecifiers, AreAlone, AreListed, IsSpecifier, AreMembers, AreMemberDeclarators, AreEnumerators, IsForm, IsCore, AreParts, AreParameters, IsDeclared, IsNewName, IsNewAggregate, IsTagged, BeginsAggregate, DeclaresParameter, tagging, counting_aggregate, tag_named_here, enumerating}
 use Rattle.c_typing_given.proofs.LevelsKept.{length-innermost}

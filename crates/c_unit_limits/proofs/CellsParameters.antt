@@ -5,14 +5,14 @@ use Rattle.cc_base.specs.declared.number.TypeId.{TypeId}
 use Rattle.c_types.specs.Table.{Table, IsComplete, shape_at, members_at, is_complete_entry}
 use Rattle.c_types.specs.declared.shape.TypeShape.{TypeShape}
 use Rattle.c_types.specs.declared.shape.TypeShape.TheVariants.{Void, Integer, Pointer, Array, Function, Struct, Union}
+use Rattle.c_tree.specs.TypedParts.{declared_home, is_void_list}
 use Rattle.c_tree.specs.declared.leaf.Identifier.{Identifier}
 use Rattle.c_tree.specs.declared.typed_word.Home.{Home}
 use Rattle.c_tree.specs.declared.typed_word.Home.TheVariants as home
 use Rattle.c_tree.specs.declared.typed_word.TypedStar.{TypedStar}
 use Rattle.c_tree.specs.TypedTree as typed
 use Rattle.c_tree.specs.TypedTree.{TypedForm, TypedCore, TypedParts, TypedParameters}
-use Rattle.c_typing.specs.Declarators.{is_void_list}
-use Rattle.c_typing.specs.Declaring.{declared_home}
+use Rattle.c_typing.specs.Refusals.{declared_identifier}
 use Rattle.c_typing.specs.Extensions.{IsExtended}
 use Rattle.c_typing.specs.Scopes.{Scopes, entering}
 use Rattle.c_typing.specs.Shapes.{is_scalar_shape}
@@ -23,7 +23,7 @@ use Rattle.c_cells_kept.proofs.CellsMoved.{complete_later}
 use Rattle.c_unit_typing.specs.DeclarationJudging.{new_name}
 use Rattle.c_unit_typing.specs.DefinitionJudging.{declare_parameter, declare_parameters}
 use Rattle.c_unit_typing.specs.UnitJudging.{UnitState, Gives, pure}
-use Rattle.c_unit_typing.specs.Units.{declared_identifier, declares_parameters, unless_pointer, parameters_of_form, parameters_of_core}
+use Rattle.c_unit_typing.specs.Units.{declares_parameters, unless_pointer, parameters_of_form, parameters_of_core}
 use Rattle.c_unit_typing.proofs.NameSteps.{some-same, new-name-gives}
 use Rattle.c_unit_typing.proofs.UnitOutcomes.{bind-gives, gives-state}
 use Rattle.c_unit_limits.proofs.CellsNames.{stays-then, new-name-stays}

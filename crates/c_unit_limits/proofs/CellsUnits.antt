@@ -7,14 +7,14 @@ use Rattle.c_types.specs.Table.{Table, shape_at}
 use Rattle.c_tree.specs.Tree as tree
 use Rattle.c_tree.specs.TypedTree as typed
 use Rattle.c_tree.specs.TypedTree.{TypedSpecifiers, TypedForm, TypedDeclarator, TypedParameters, TypedBlockItems, TypedTranslationUnit}
-use Rattle.c_tree.specs.TypedParts.{specified_type, declared_type, made_by_specifiers, made_by_declarator, made_by_declaration, made_by_block_items, made_by_unit}
+use Rattle.c_tree.specs.TypedParts.{specified_type, declared_type, made_by_specifiers, made_by_declarator, made_by_declaration, made_by_block_items, made_by_unit, form_of}
 use Rattle.c_typing.specs.declared.declared.Declared.TheVariants as declared
 use Rattle.c_typing.specs.declared.naming.Naming.{Naming}
 use Rattle.c_typing.specs.Declaring.{declarator_name, entered, left}
 use Rattle.c_typing.specs.Walks.{judge_declarator, judge_specifiers_of}
 use Rattle.c_typing_laws.proofs.ExtensionLaws.{still_in, extended_refl}
 use Rattle.c_unit_typing.specs.DeclarationJudging.{naming_for, linked_first, judge_declaration}
-use Rattle.c_unit_typing.specs.DefinitionJudging.{declare_parameters, form_of, result_of, body, defined_as, judge_definition, judge_unit, before_unit, judged_unit}
+use Rattle.c_unit_typing.specs.DefinitionJudging.{declare_parameters, result_of, body, defined_as, judge_definition, judge_unit, before_unit, judged_unit}
 use Rattle.c_unit_typing.specs.Limits.{pointers_copied_by, pointers_copied}
 use Rattle.c_unit_typing.specs.StatementJudging.{judge_block_items}
 use Rattle.c_unit_typing.specs.Units.{Around, storage_of, parameters_of_form}

@@ -5,6 +5,7 @@ use Rattle.cc_base.specs.declared.number.TypeId.{TypeId}
 use Rattle.cc_base.specs.declared.place.Place.{Place}
 use Rattle.c_types.specs.declared.shape.TypeShape.{TypeShape}
 use Rattle.c_types.specs.declared.shape.TypeShape.TheVariants as shape
+use Rattle.c_tree.specs.TypedParts.{declared_home}
 use Rattle.c_tree.specs.declared.leaf.Identifier.{Identifier}
 use Rattle.c_tree.specs.declared.leaf.Star.{Star}
 use Rattle.c_tree.specs.declared.leaf.Word.{Word}
@@ -22,7 +23,7 @@ use Rattle.c_typing.specs.declared.declared.Tag.TheVariants as tag
 use Rattle.c_typing.specs.declared.naming.Naming.{Naming}
 use Rattle.c_typing.specs.declared.naming.Naming.TheVariants as naming
 use Rattle.c_typing.specs.Declarators.{Counted, Outermost, Written, Counts, Points, is_derived_declared, member_types, nearest, outside, taken_types}
-use Rattle.c_typing.specs.Declaring.{home_as, stars_with_nodes, sized_part, sized, stars_make, array_of, array_makes, function_as, function_makes, last_makes, parts_make, form_makes, core_makes, declared_makes, member_type, member_named, adjusted_with_node, adjusted_shape, adjusted_makes, parameter_makes, parameter_declared, parameter, declared_home}
+use Rattle.c_typing.specs.Declaring.{home_as, stars_with_nodes, sized_part, sized, stars_make, array_of, array_makes, function_as, function_makes, last_makes, parts_make, form_makes, core_makes, declared_makes, member_type, member_named, adjusted_with_node, adjusted_shape, adjusted_makes, parameter_makes, parameter_declared, parameter}
 use Rattle.c_typing.specs.Judging.{State}
 use Rattle.c_typing.specs.Operands.{Value}
 use Rattle.c_typing.specs.Refusals.{declared_identifier, tag_place}

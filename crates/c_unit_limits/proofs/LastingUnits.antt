@@ -9,7 +9,7 @@ use Rattle.c_tree.specs.declared.typed_word.Home.TheVariants as home
 use Rattle.c_tree.specs.Tree as tree
 use Rattle.c_tree.specs.TypedTree as typed
 use Rattle.c_tree.specs.TypedTree.{TypedSpecifiers, TypedForm, TypedDeclarator, TypedParameters, TypedBlockItems, TypedTranslationUnit}
-use Rattle.c_tree.specs.TypedParts.{specified_type, declared_type, home_of_form, name_of_form, made_by_specifiers, made_by_declarator, made_by_declaration, made_by_block_items, made_by_unit}
+use Rattle.c_tree.specs.TypedParts.{specified_type, declared_type, home_of_form, name_of_form, made_by_specifiers, made_by_declarator, made_by_declaration, made_by_block_items, made_by_unit, form_of}
 use Rattle.c_typing.specs.declared.declared.Declared.TheVariants as declared
 use Rattle.c_typing.specs.declared.naming.Naming.{Naming}
 use Rattle.c_typing.specs.Declaring.{declarator_name, entered, left, unless_function}
@@ -19,7 +19,7 @@ use Rattle.c_typing_laws.specs.Judged.{IsHomeOf}
 use Rattle.c_typing_laws.proofs.ExtensionLaws.{still_in, extended_refl}
 use Rattle.c_typing_laws.proofs.JudgedDeclarators.{no_home}
 use Rattle.c_unit_typing.specs.DeclarationJudging.{naming_for, linked_first, new_name, judge_declaration}
-use Rattle.c_unit_typing.specs.DefinitionJudging.{declare_parameter, declare_parameters, form_of, result_of, body, defined_as, judge_definition, judge_unit, before_unit, judged_unit}
+use Rattle.c_unit_typing.specs.DefinitionJudging.{declare_parameter, declare_parameters, result_of, body, defined_as, judge_definition, judge_unit, before_unit, judged_unit}
 use Rattle.c_unit_typing.specs.Limits.{global_bytes}
 use Rattle.c_unit_typing.specs.StatementJudging.{judge_block_items}
 use Rattle.c_unit_typing.specs.Units.{Around, storage_of, parameters_of_form}

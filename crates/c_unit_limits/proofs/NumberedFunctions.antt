@@ -12,15 +12,15 @@ use Rattle.c_types.specs.Table.{shape_at}
 use Rattle.c_tree.specs.declared.leaf.Identifier.{Identifier}
 use Rattle.c_tree.specs.Tree as tree
 use Rattle.c_tree.specs.TypedTree as typed
-use Rattle.c_tree.specs.TypedTree.{TypedSpecifiers, TypedDeclarator, TypedBlockItems, TypedTranslationUnit}
-use Rattle.c_tree.specs.TypedParts.{DefinedFunction, functions_of, declared_type}
+use Rattle.c_tree.specs.TypedTree.{TypedSpecifiers, TypedDeclarator, TypedTranslationUnit}
+use Rattle.c_tree.specs.TypedParts.{DefinedFunction, functions_of, declared_type, form_of}
 use Rattle.c_typing.specs.Declaring.{declarator_name}
 use Rattle.c_typing.specs.Scopes.{Name, place_among}
 use Rattle.c_typing.specs.Tests.{first_broken, has_some}
 use Rattle.c_typing.specs.Walks.{judge_specifiers_of, judge_declarator}
 use Rattle.c_typing_laws.proofs.ExtensionLaws.{no_true, extended_refl}
 use Rattle.c_unit_typing.specs.DeclarationJudging.{naming_for, linked_first, judge_declaration}
-use Rattle.c_unit_typing.specs.DefinitionJudging.{form_of, counted, defined, defined_as, result_of, body, judge_definition, judge_unit}
+use Rattle.c_unit_typing.specs.DefinitionJudging.{counted, defined, defined_as, result_of, body, judge_definition, judge_unit}
 use Rattle.c_unit_typing.specs.UnitJudged.{IsUnitKnown}
 use Rattle.c_unit_typing.specs.UnitJudging.{UnitState, Gives, Stops, known_of, pure, next, lifted}
 use Rattle.c_unit_typing.specs.UnitRefusals.{definition_tests}

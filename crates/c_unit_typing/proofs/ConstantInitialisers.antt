@@ -7,6 +7,7 @@ use Rattle.cc_base.specs.declared.fault.Fault.TheVariants.{Refused, TooLarge}
 use Rattle.cc_base.specs.declared.fault.Limit.TheVariants.{Types}
 use Rattle.cc_base.specs.declared.fault.Rule.TheVariants as rule
 use Rattle.c_types.specs.Table.{Table, IsComplete, shape_at}
+use Rattle.c_tree.specs.Literals.{pieces_bytes}
 use Rattle.c_tree.specs.declared.typed_word.Side.TheVariants as side
 use Rattle.c_tree.specs.Places.{expr_place, initialiser_place, nowhere}
 use Rattle.c_tree.specs.Tree as tree
@@ -16,7 +17,6 @@ use Rattle.c_tree.specs.TypedParts.{item_place}
 use Rattle.c_typing.specs.Checking.{checked_value}
 use Rattle.c_typing.specs.Constants.{constant_value}
 use Rattle.c_typing.specs.Extensions.{IsExtended}
-use Rattle.c_typing.specs.Rules.{pieces_bytes}
 use Rattle.c_typing.specs.Scopes.{Scopes}
 use Rattle.c_typing.specs.Settled.{IsBasic, IsKnown}
 use Rattle.c_typing.specs.Shapes.{is_scalar_shape}

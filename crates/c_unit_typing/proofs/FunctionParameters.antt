@@ -13,15 +13,16 @@ use Rattle.c_tree.specs.declared.typed_word.Home.TheVariants as home
 use Rattle.c_tree.specs.declared.typed_word.TypedStar.{TypedStar}
 use Rattle.c_tree.specs.TypedTree as typed
 use Rattle.c_tree.specs.TypedTree.{TypedForm, TypedCore, TypedParts, TypedParameters}
-use Rattle.c_tree.specs.TypedParts.{declared_home}
+use Rattle.c_tree.specs.TypedParts.{declared_home, is_void_list}
+use Rattle.c_typing.specs.Refusals.{declared_identifier}
 use Rattle.c_typing.specs.declared.declared.Declared.TheVariants as declared
-use Rattle.c_typing.specs.Declarators.{Outermost, Written, Counts, Points, is_pointed, MakesFunction, nearest, PartsMake, StarsMake, is_derived_core, outside, FormMakes, CoreMakes, is_result_shape, is_void_list, parameter_types, taken_types}
+use Rattle.c_typing.specs.Declarators.{Outermost, Written, Counts, Points, is_pointed, MakesFunction, nearest, PartsMake, StarsMake, is_derived_core, outside, FormMakes, CoreMakes, is_result_shape, parameter_types, taken_types}
 use Rattle.c_typing.specs.Scopes.{Scopes}
 use Rattle.c_typing.specs.Settled.{IsBasic}
 use Rattle.c_typing_laws.proofs.ExtensionLaws.{no_true, still_in}
 use Rattle.c_unit_typing.specs.DeclarationJudging.{new_name}
 use Rattle.c_unit_typing.specs.DefinitionJudging.{declare_parameter, declare_parameters}
-use Rattle.c_unit_typing.specs.Units.{Known, with_scopes, declares_parameters, unless_pointer, parameters_of_form, parameters_of_core, parameter_declared, declared_identifier, with_parameters}
+use Rattle.c_unit_typing.specs.Units.{Known, with_scopes, declares_parameters, unless_pointer, parameters_of_form, parameters_of_core, parameter_declared, with_parameters}
 use Rattle.c_unit_typing.specs.UnitJudged.{IsUnitKnown, UnitGoesOn, IsResult}
 use Rattle.c_unit_typing.specs.UnitJudging.{UnitState, Gives, known_of, pure}
 use Rattle.c_unit_typing.proofs.NameSteps.{some-same, named-goes, new-name-gives}

@@ -16,7 +16,7 @@ use Rattle.c_tree.specs.Erasure.{erased_specifiers, erased_declarator, erased_bl
 use Rattle.c_tree.specs.Tree as tree
 use Rattle.c_tree.specs.TypedTree as typed
 use Rattle.c_tree.specs.TypedTree.{TypedSpecifiers, TypedForm, TypedDeclarator, TypedParameters, TypedBlockItems, TypedTranslationUnit}
-use Rattle.c_tree.specs.TypedParts.{Made, specified_type, declared_type, home_of_form, name_of_form, made_by_specifiers, made_by_declarator, made_by_block_items}
+use Rattle.c_tree.specs.TypedParts.{Made, specified_type, declared_type, home_of_form, name_of_form, made_by_specifiers, made_by_declarator, made_by_block_items, form_of}
 use Rattle.runtime_calls.specs.Prototypes.{IsNoName, runtime_of}
 use Rattle.c_typing.specs.declared.declared.Declared.{Declared}
 use Rattle.c_typing.specs.declared.declared.Declared.TheVariants as declared
@@ -42,7 +42,7 @@ use Rattle.c_type_order.specs.TypesUsed.{Use, used_by_specifiers, used_by_declar
 use Rattle.c_type_order.specs.Uses.{IsUsed}
 use Rattle.c_type_order.proofs.Uses.{then_used}
 use Rattle.c_unit_typing.specs.DeclarationJudging.{naming_for, linked_first, linked_name}
-use Rattle.c_unit_typing.specs.DefinitionJudging.{declare_parameters, form_of, counted, defined, result_of, body, defined_as, judge_definition}
+use Rattle.c_unit_typing.specs.DefinitionJudging.{declare_parameters, counted, defined, result_of, body, defined_as, judge_definition}
 use Rattle.c_unit_typing.specs.Linkage.{Linkage, with_name}
 use Rattle.c_unit_typing.specs.StatementJudging.{judge_block_items}
 use Rattle.c_unit_typing.specs.Units.{Known, Storage, AsTypedef, Around, is_one_of, storage_of, with_scopes, leaving_known, unless_linked, IsNameDeclared, IsDeclarator, parameters_of_form, with_parameters, defaults_in, AreBlockItems, IsDefinition}

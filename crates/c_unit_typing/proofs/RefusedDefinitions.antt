@@ -14,13 +14,13 @@ use Rattle.c_tree.specs.Erasure.{erased_form}
 use Rattle.c_tree.specs.Places.{nowhere}
 use Rattle.c_tree.specs.Tree as tree
 use Rattle.c_tree.specs.TypedTree as typed
-use Rattle.c_tree.specs.TypedTree.{TypedSpecifiers, TypedForm, TypedDeclarator, TypedParameters, TypedBlockItems, TypedTranslationUnit}
-use Rattle.c_tree.specs.TypedParts.{specified_type, declared_type, declared_home, name_of_form}
+use Rattle.c_tree.specs.TypedTree.{TypedSpecifiers, TypedForm, TypedDeclarator, TypedParameters, TypedTranslationUnit}
+use Rattle.c_tree.specs.TypedParts.{specified_type, declared_type, declared_home, name_of_form, form_of}
 use Rattle.c_typing.specs.declared.declared.Declared.TheVariants as declared
 use Rattle.c_typing.specs.declared.naming.Naming.{Naming}
 use Rattle.c_typing.specs.Declarators.{Written, FormMakes, taken_types}
 use Rattle.c_typing.specs.Declaring.{declarator_name, entered, left}
-use Rattle.c_typing.specs.Refusals.{Fails, FormFails, RefusesDeclarator, RefusesSpecifiers, name_place}
+use Rattle.c_typing.specs.Refusals.{Fails, FormFails, RefusesDeclarator, RefusesSpecifiers, name_place, declared_identifier}
 use Rattle.c_typing.specs.Scopes.{Name, Scopes, entering, place_among}
 use Rattle.c_typing.specs.Tests.{has_some}
 use Rattle.c_typing.specs.Typing.{IsForm}
@@ -29,10 +29,10 @@ use Rattle.c_typing_laws.proofs.ExtensionLaws.{still_in, extended_refl}
 use Rattle.c_typing_laws.proofs.KeptRules.{has-kept}
 use Rattle.c_typing_laws.proofs.KeptTrees.{specifiers-kept}
 use Rattle.c_unit_typing.specs.DeclarationJudging.{naming_for, linked_first, linked_name, new_name}
-use Rattle.c_unit_typing.specs.DefinitionJudging.{declare_parameter, declare_parameters, form_of, counted, defined, result_of, body, defined_as, judge_definition}
+use Rattle.c_unit_typing.specs.DefinitionJudging.{declare_parameter, declare_parameters, counted, defined, result_of, body, defined_as, judge_definition}
 use Rattle.c_unit_typing.specs.Linkage.{Linkage, with_name}
 use Rattle.c_unit_typing.specs.StatementJudging.{judge_block_items}
-use Rattle.c_unit_typing.specs.Units.{Known, storage_of, with_scopes, IsDeclarator, parameters_of_form, declared_identifier, with_parameters}
+use Rattle.c_unit_typing.specs.Units.{Known, storage_of, with_scopes, IsDeclarator, parameters_of_form, with_parameters}
 use Rattle.c_unit_typing.specs.UnitJudged.{IsResult, IsUnitKnown}
 use Rattle.c_unit_typing.specs.UnitJudging.{UnitState, Gives, Stops, known_of, next, pure, stop, lifted}
 use Rattle.c_unit_typing.specs.UnitRefusals.{start_of_text, definition_tests, RefusesItemsOf, RefusesDefinition}
@@ -40,7 +40,7 @@ use Rattle.c_unit_typing.proofs.FunctionParameters.{AreParametersThere, paramete
 use Rattle.c_unit_typing.proofs.JudgedDeclarations.{base-judged}
 use Rattle.c_unit_typing.proofs.JudgedDeclarators.{IsFormKnown, form-known, named-form, form-later, makes-later}
 use Rattle.c_unit_typing.proofs.JudgedDefinitions as definitions
-use Rattle.c_unit_typing.proofs.JudgedDefinitions.{IsFunctionName, function_name, inside_function, defined_function, IsNameDefined, name-defined}
+use Rattle.c_unit_typing.proofs.JudgedDefinitions.{inside_function, defined_function, IsNameDefined, name-defined}
 use Rattle.c_unit_typing.proofs.JudgedStatements.{enter-judged, result-kept}
 use Rattle.c_unit_typing.proofs.JudgedTests.{scopes-alone}
 use Rattle.c_unit_typing.proofs.NameSteps.{linked_state}

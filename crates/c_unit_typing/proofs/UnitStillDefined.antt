@@ -9,13 +9,15 @@ use Rattle.c_tree.specs.declared.typed_word.Home.TheVariants as home
 use Rattle.c_tree.specs.TypedTree as typed
 use Rattle.c_tree.specs.TypedTree.{TypedExpr, TypedSpecifiers, TypedForm, TypedParameters, TypedInitialiser, TypedInitDeclarators, TypedDeclaration, TypedStatement, TypedBlockItems, TypedTranslationUnit}
 use Rattle.c_tree.specs.TypedParts.{type_of, specified_type, declared_home, home_of, name_of_form}
+use Rattle.c_typing.specs.Refusals.{declared_identifier}
+use Rattle.c_typing.specs.Walks.{outermost_of}
 use Rattle.c_typing.specs.declared.declared.Declared.{Declared}
 use Rattle.c_typing.specs.declared.declared.Declared.TheVariants as declared
-use Rattle.c_typing.specs.Declarators.{Outermost, Written}
+use Rattle.c_typing.specs.Declarators.{Outermost, Written, name_bytes}
 use Rattle.c_typing.specs.Scopes.{Name, Scopes, here, entry_of, entering}
 use Rattle.c_typing.specs.Shapes.{is_function_shape}
 use Rattle.c_unit_typing.specs.Initialisers.{is_char_array, size_given}
-use Rattle.c_unit_typing.specs.Units.{Known, Storage, Unstored, AsTypedef, AsExtern, AsStatic, AsAutomatic, Around, storage_of, with_scopes, unless_here, IsLinked, IsLinkedObject, IsStaticOrLocal, IsFunctionDeclared, IsObjectDeclared, IsTypedefDeclared, IsOrdinaryDeclared, IsNameDeclared, IsDeclarator, outermost_of, bytes_of_name, is_linked_home, IsDefinedOnce, IsInitialised, AreDeclarators, IsDeclaration, in_a_loop, in_a_switch, IsDropped, IsTested, IsTestedOrNone, IsReturned, entering_known, leaving_known, IsStatement, AreBlockItems, parameter_declared, declared_identifier, with_parameters, IsDefinition, IsUnitTyped}
+use Rattle.c_unit_typing.specs.Units.{Known, Storage, Unstored, AsTypedef, AsExtern, AsStatic, AsAutomatic, Around, storage_of, with_scopes, unless_here, IsLinked, IsLinkedObject, IsStaticOrLocal, IsFunctionDeclared, IsObjectDeclared, IsTypedefDeclared, IsOrdinaryDeclared, IsNameDeclared, IsDeclarator, is_linked_home, IsDefinedOnce, IsInitialised, AreDeclarators, IsDeclaration, in_a_loop, in_a_switch, IsDropped, IsTested, IsTestedOrNone, IsReturned, entering_known, leaving_known, IsStatement, AreBlockItems, parameter_declared, with_parameters, IsDefinition, IsUnitTyped}
 use Rattle.c_unit_typing.proofs.StillDefined.{value-defined, specifiers-defined, form-defined, alone-defined, initialiser-defined}
 
 -- the same functions
@@ -97,7 +99,7 @@ module _ (T : Table) where
   declarators_defined file storage base (typed.AndPlain all (typed.Declares form t)) k k' d =
       declarator_defined file storage base Written form t d.0 k' d.2 ∙ declarators_defined file storage base all k d.0 d.1
   declarators_defined file storage base (typed.AndInitialised all (typed.Declares form t) at i) k k' d =
-      initialised_defined (home_of (typed.Declares form t)) (with_scopes d.1 d.2) (bytes_of_name (name_of_form form)) i k' d.6
+      initialised_defined (home_of (typed.Declares form t)) (with_scopes d.1 d.2) (name_bytes (name_of_form form)) i k' d.6
       ∙ (initialiser-defined T i at t d.1.scopes d.2 d.5
       ∙ (declarator_defined file storage base (outermost_of (size_given (is_char_array T t) i)) form t d.0 d.1 d.4 ∙ declarators_defined file storage base all k d.0 d.3))
 

@@ -14,15 +14,16 @@ use Rattle.c_tree.specs.declared.typed_word.Home.{Home}
 use Rattle.c_tree.specs.declared.typed_word.Home.TheVariants as home
 use Rattle.c_tree.specs.Tree as tree
 use Rattle.c_tree.specs.TypedTree as typed
-use Rattle.c_tree.specs.TypedTree.{TypedSpecifiers, TypedDeclarator, TypedForm, TypedParameters, TypedBlockItems, TypedTranslationUnit}
-use Rattle.c_tree.specs.TypedParts.{declared_home, declared_type}
+use Rattle.c_tree.specs.TypedTree.{TypedSpecifiers, TypedDeclarator, TypedParameters, TypedBlockItems, TypedTranslationUnit}
+use Rattle.c_tree.specs.TypedParts.{declared_home, declared_type, form_of}
+use Rattle.c_typing.specs.Refusals.{declared_identifier}
 use Rattle.c_typing.specs.declared.declared.Declared.{Declared}
 use Rattle.c_typing.specs.declared.declared.Declared.TheVariants as declared
 use Rattle.c_typing.specs.Scopes.{Name, file_scope, place_among, entry_of}
 use Rattle.c_typing.specs.Tests.{Test, broken_at, has_some}
 use Rattle.c_typing.specs.Declaring.{declarator_name, entered, left}
 use Rattle.c_typing.specs.Walks.{judge_declarator, judge_specifiers_of}
-use Rattle.c_unit_typing.specs.Units.{storage_of, parameters_of_form, declared_identifier}
+use Rattle.c_unit_typing.specs.Units.{storage_of, parameters_of_form}
 use Rattle.c_unit_typing.specs.UnitRefusals.{definition_tests, start_of_text, is_integer_of}
 use Rattle.c_unit_typing.specs.Linkage.{no_linkage, with_name}
 use Rattle.c_unit_typing.specs.UnitJudging.{UnitState, UnitJudging, Gives, known_of, known, pure, stop, obeying, by_known, lifted, ◌>>=◌, ◌>>◌}
@@ -45,9 +46,6 @@ declare_parameters (typed.AndParameter all specifiers one adjusted t) = do
   declare_parameter (declared_identifier one) (declared_home one) t
 
 -- Function definitions
-
-abbrev pub form_of : TypedDeclarator → TypedForm
-form_of (typed.Declares form t) = form
 
 -- a unit defines no more than 65,535 functions; `number` is how many come before
 unfoldable pub counted : Place → (number : Option ℕ) → UnitJudging ℕ

@@ -16,7 +16,8 @@ use Rattle.c_tree.specs.Tree as tree
 use Rattle.c_tree.specs.TypedTree as typed
 use Rattle.c_tree.specs.TypedTree.{TypedForm, TypedSpecifiers, TypedParameters, TypedDeclaration, TypedBlockItems, TypedTranslationUnit}
 use Rattle.c_tree.specs.TypedParts.{DefinedFunction, made_by_form, made_by_specifiers, made_by_declaration, made_by_block_items, made_by_unit, nodes_made, functions_of, name_of, name_of_form, specified_type, declared_home}
-use Rattle.c_typing.specs.Declarators.{Written}
+use Rattle.c_typing.specs.Refusals.{declared_identifier}
+use Rattle.c_typing.specs.Declarators.{Written, name_bytes}
 use Rattle.c_typing.specs.Declaring.{declarator_name}
 use Rattle.c_typing.specs.Scopes.{Name, Scopes, empty_level, entering, place_among}
 use Rattle.c_typing_unique.specs.Sameness.{HasOwnFunctions}
@@ -26,7 +27,7 @@ use Rattle.c_typing_unique.proofs.Shapes.{IsDistinct, no_true, some-same}
 use Rattle.c_typing_unique.proofs.SpecifierSteps.{specifiers-unique}
 use Rattle.c_typing_unique.proofs.UniqueTrees.{list-one}
 use Rattle.runtime_calls.specs.Prototypes.{IsNoName}
-use Rattle.c_unit_typing.specs.Units.{Known, with_scopes, storage_of, Around, IsDeclaration, IsDeclarator, parameters_of_form, parameter_declared, declared_identifier, with_parameters, AreBlockItems, leaving_known, IsDefinition, IsUnitTyped, bytes_of_name}
+use Rattle.c_unit_typing.specs.Units.{Known, with_scopes, storage_of, Around, IsDeclaration, IsDeclarator, parameters_of_form, parameter_declared, with_parameters, AreBlockItems, leaving_known, IsDefinition, IsUnitTyped}
 use Rattle.c_unit_typing.specs.WellTyped.{defined_names, known_before, IsTypable, IsWellTyped}
 use Rattle.c_unit_unique.proofs.DeclarationSteps.{Spot, OwnSpot, point_of, spot-same, IsReadIn, IsUniqueIn, declarator-one, declaration-one, same-sized}
 use Rattle.c_unit_unique.proofs.HomeLaws.{OwnKnown}
@@ -184,14 +185,14 @@ module _ (T : Table) (D : IsDistinct T) where
   own_push [] x h k = (k, tt)
   own_push (y ∷ xs) x h k = (h.0, own_push xs x h.1 k)
 
-  names_own : (u : TypedTranslationUnit) (k l : Known) → IsUnitTyped T u k l → AreOwn (map (λ (f : DefinedFunction). bytes_of_name (name_of f.declarator)) (functions_of u))
+  names_own : (u : TypedTranslationUnit) (k l : Known) → IsUnitTyped T u k l → AreOwn (map (λ (f : DefinedFunction). name_bytes (name_of f.declarator)) (functions_of u))
   names_own typed.NoExternal k l h = tt
   names_own (typed.AndExternal u d) k l h = names_own u k h.0 h.1
   names_own (typed.AndFunctionBody u words (typed.Declares form t) brace body) k l h =
       let this : DefinedFunction = record { declarator = typed.Declares form t; body = body } in
-      let name = ap bytes_of_name h.2.named in
-      subst AreOwn (sym (map-append (λ (f : DefinedFunction). bytes_of_name (name_of f.declarator)) (functions_of u) (this ∷ [])))
-      (own_push (map (λ (f : DefinedFunction). bytes_of_name (name_of f.declarator)) (functions_of u)) (bytes_of_name (name_of_form form)) (names_own u k h.0 h.1) (subst IsNoName (sym name) h.2.own))
+      let name = ap name_bytes h.2.named in
+      subst AreOwn (sym (map-append (λ (f : DefinedFunction). name_bytes (name_of f.declarator)) (functions_of u) (this ∷ [])))
+      (own_push (map (λ (f : DefinedFunction). name_bytes (name_of f.declarator)) (functions_of u)) (name_bytes (name_of_form form)) (names_own u k h.0 h.1) (subst IsNoName (sym name) h.2.own))
 
   fewer : (n m : ℕ) → nat_lt (1 + n) (suc m) ≡ true → nat_lt n m ≡ true
   fewer n m h = grind (arith, nat_tests)
@@ -222,7 +223,7 @@ module _ (T : Table) (D : IsDistinct T) where
   erased_names : tree.TranslationUnit → List Name
   erased_names tree.NoExternal = []
   erased_names (tree.AndExternal u d) = erased_names u
-  erased_names (tree.AndFunctionBody u specifiers d brace items) = erased_names u ++ bytes_of_name (declarator_name d) ∷ []
+  erased_names (tree.AndFunctionBody u specifiers d brace items) = erased_names u ++ name_bytes (declarator_name d) ∷ []
 
   names_erased : (u : TypedTranslationUnit) → defined_names u ≡ erased_names (erased_unit u)
   unfolding erased_names
@@ -231,8 +232,8 @@ module _ (T : Table) (D : IsDistinct T) where
   names_erased (typed.AndFunctionBody u words (typed.Declares form t) brace body) =
       let this : DefinedFunction = record { declarator = typed.Declares form t; body = body } in
       let before = names_erased u in
-      let last = ap bytes_of_name (sym (form-name form)) in
-      map-append (λ (f : DefinedFunction). bytes_of_name (name_of f.declarator)) (functions_of u) (this ∷ []) ∙ (λ i. before i ++ last i ∷ [])
+      let last = ap name_bytes (sym (form-name form)) in
+      map-append (λ (f : DefinedFunction). name_bytes (name_of f.declarator)) (functions_of u) (this ∷ []) ∙ (λ i. before i ++ last i ∷ [])
 
 -- a unit has one typed tree
 pub unit-whole : (T : Table) (u v : TypedTranslationUnit) → IsWellFormed T → IsWellTyped T u → IsWellTyped T v → erased_unit u ≡ erased_unit v → u ≡ v

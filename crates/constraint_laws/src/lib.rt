@@ -6,10 +6,9 @@ ghost use Rattle.std.specs.Prelude.{◌↔◌, ℕ, List, All};
 ghost use Rattle.std.specs.List.{Contains};
 ghost use Rattle.cc_base.specs.declared.number.NodeId.{NodeId};
 ghost use Rattle.cc_base.specs.declared.kind.Kind.{Kind};
-ghost use Rattle.c_types.specs.declared.site.Site.{Site};
+ghost use Rattle.kind_sites.specs.declared.site.Site.{Site};
 ghost use Rattle.c_types.specs.Table.{Table};
-ghost use Rattle.c_types.specs.Flows.{by_number};
-ghost use Rattle.c_types.specs.Solutions.{IsSolution};
+ghost use Rattle.kind_sites.specs.Solutions.{IsSolution};
 ghost use Rattle.c_types.specs.Sound.{IsWellFormed};
 ghost use Rattle.kind_solver.specs.declared.constraint.Constraint.{Constraint};
 ghost use Rattle.kind_solver.specs.Constraints.{AreWithin, MeetsAll, PlainApart, HaveSameMembers};
@@ -20,7 +19,7 @@ ghost use Rattle.constraint_laws.specs.Given.{AreGiven};
 
 /// A map from nodes to kinds meets the constraints of a program exactly where it is a solution of the program's sites.
 pub fn constraints_have_the_solutions_of_the_sites()
-    ensures { (table : Table) (made : List Planned) (sites : List Site) (list : List Constraint) (kind : NodeId → Kind) → AreSitesTold table made sites → AreGiven table sites list → MeetsAll (by_number kind) list ↔ IsSolution table sites kind }
+    ensures { (table : Table) (made : List Planned) (sites : List Site) (list : List Constraint) (kind : NodeId → Kind) → AreSitesTold table made sites → AreGiven table sites list → MeetsAll kind list ↔ IsSolution table sites kind }
 {}
 
 /// The constraints of a program name its nodes alone, and join function pointers and homes to their like only.

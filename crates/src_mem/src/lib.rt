@@ -15,7 +15,7 @@ ghost use Rattle.cc_base.specs.declared.number.NodeId.{NodeId};
 ghost use Rattle.flat_mem.specs.Bytes.{IsAccessSize};
 ghost use Rattle.integers.specs.Words.{residue};
 ghost use Rattle.integers.specs.Arithmetic.{IntegerType, Operator, converted};
-ghost use Rattle.c_types.specs.declared.site.Site.{Site};
+ghost use Rattle.kind_sites.specs.declared.site.Site.{Site};
 ghost use Rattle.c_types.specs.Table.{IsComplete, shape_at, is_function};
 ghost use Rattle.c_types.specs.Sound.{IsWellFormed};
 ghost use Rattle.runs.specs.Outcome.{Done, from};

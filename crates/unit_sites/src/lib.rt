@@ -8,7 +8,7 @@ ghost use Rattle.cc_base.specs.declared.number.NodeId.{NodeId};
 ghost use Rattle.cc_base.specs.declared.number.TypeId.{TypeId};
 ghost use Rattle.cc_base.specs.declared.place.Place.{Place};
 ghost use Rattle.c_types.specs.declared.shape.TypeShape.TheVariants.{Pointer};
-ghost use Rattle.c_types.specs.declared.site.Site.TheVariants.{Flow, Same, Pointee, Home, Union};
+ghost use Rattle.kind_sites.specs.declared.site.Site.TheVariants.{Flow, Same, Pointee, Home, Union};
 ghost use Rattle.c_types.specs.Equality.{physically_equal};
 ghost use Rattle.c_types.specs.Table.{Table, HasShape, IsUnion, IsComplete};
 ghost use Rattle.c_tree.specs.TypedTree.{TypedTranslationUnit};

@@ -1,6 +1,6 @@
 use Rattle.std.proofs.Common.{rules}
+use Rattle.c_tree.specs.TypedViews.{parameters_seen}
 use Rattle.c_tree.specs.StatementViews.{block_view}
-use Rattle.c_check.specs.CodeViews.{parameters_seen}
 use Rattle.c_check.proofs.LeaveLaws.{body_gives, body_stops}
 use Rattle.c_check.proofs.definitions.body_with.Goals as goal
 

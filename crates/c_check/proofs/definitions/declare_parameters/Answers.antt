@@ -1,11 +1,11 @@
 use Rattle.std.proofs.Common.{rules, add-one, take}
 use Rattle.c_tree.specs.TypedTree.{NoParameter}
-use Rattle.c_tree.specs.TypedViews.{typed_parameter_view}
+use Rattle.c_tree.specs.TypedViews.{typed_parameter_view, parameters_seen}
 use Rattle.c_check_context.specs.ContextViews.{state_of}
-use Rattle.c_check.specs.CodeViews.{parameters_seen}
 use Rattle.c_unit_typing.specs.DefinitionJudging.{declare_parameters}
 use Rattle.c_check.proofs.ParameterLaws.{parameters-stay}
-use Rattle.c_check_declarations.proofs.SeriesLaws.{fails, with_next}
+use Rattle.c_check_declarations.proofs.SeriesLaws.{fails}
+use Rattle.c_tree.proofs.ListLaws.{with_next}
 use Rattle.c_check.proofs.definitions.declare_parameters.Goals as goal
 
 pub returns-in_err-declare_parameter : goal.returns-in_err-declare_parameter

@@ -25,6 +25,7 @@ use Rattle.lower_units.specs.declared.externals.Found.{Found}
 use Rattle.lower_units.specs.declared.units.Lowered.{Lowered}
 use Rattle.lower_units.specs.Heads.{homes_of_statics}
 use Rattle.lower_units.specs.Mains.{IsMade, IsMainOf, is_other}
+use Rattle.lower_units.specs.Ready.{HasCodeOfUnit}
 use Rattle.lower_units.specs.Units.{IsFoundIn, IsLoweredIn, number_in, place_in}
 use Rattle.lower_units.proofs.MainLaws.{code_count}
 
@@ -59,6 +60,14 @@ homes_seen : (all : List Static) → homes_of_statics all ≡ map home_seen (see
 homes_seen [] = refl
 homes_seen (o ∷ all) = ap (λ m. o.planned.home ∷ m) (homes_seen all)
 
+pub found_homes : (table : Table) (u : TypedTranslationUnit) (c : Collected) → IsFoundIn table u c → homes_of_statics c.statics.items ≡ homes_of u
+found_homes table u c f = homes_seen c.statics.items ∙ ap (map home_seen) f.statics ∙ seen_homes (statics_of u)
+
+-- a unit that has code has it among the static objects that were found
+pub found_ready : (table : Table) (u : TypedTranslationUnit) (c : Collected) → IsFoundIn table u c → HasCodeOfUnit table (homes_of u) u
+    → HasCodeOfUnit table (homes_of_statics c.statics.items) u
+found_ready table u c f has = subst (λ h. HasCodeOfUnit table h u) (sym (found_homes table u c f)) has
+
 -- the number of `main`
 main_at : (fs : List DefinedFunction) (n : ℕ) → prefix_len is_other fs ≡ n → n < length fs
     → unwrap_or (position (λ f. is_main (name_of f.declarator)) fs) (length fs) ≡ n
@@ -79,6 +88,18 @@ main_number : (u : TypedTranslationUnit) (m : Option Found) (count : ℕ) → Is
 main_number u None count h e = e ∙ sym (main_nowhere (functions_of u) h)
 main_number u (Some m) count h e = sym (main_at (functions_of u) m.number h.0 h.1)
 
+-- it is below 2^32
+pub main_numbered : (table : Table) (statics : List Static) (u : TypedTranslationUnit) (l : Lowered) → IsLoweredIn table statics u l
+    → length (functions_of u) ≤ 65535 → number_in l.made.main (length l.made.functions.items) < 4294967296
+main_numbered table statics u l low few = by l.made.main low.made.main
+  where
+    same : length (functions_of u) ≡ length l.made.functions.items
+    same = code_count table (homes_of_statics statics) (functions_of u) l.made.functions.items low.made.functions
+
+    by : (m : Option Found) → IsMainOf (functions_of u) m → number_in m (length l.made.functions.items) < 4294967296
+    by None h = omega (arith, few, same)
+    by (Some m) h = omega (arith, few, h.1)
+
 main_place : (u : TypedTranslationUnit) (m : Option Found) → IsMainOf (functions_of u) m → place_in m ≡ source.main_place u
 main_place u None h =
     sym (ap (λ n. place_of_function (slice_get (functions_of u) n)) (main_nowhere (functions_of u) h)
@@ -92,8 +113,7 @@ pub code_of_unit : (u : TypedTranslationUnit) (p : Program) (found : Collected) 
     → p.initialisers ≡ l.initialisers → p.main.0 ≡ number_in l.made.main (length l.made.functions.items) → p.main_place ≡ place_in l.made.main
     → IsCodeOfUnit u p
 code_of_unit u p found l f low statics functions initialisers main at =
-    let homes : homes_of_statics found.statics.items ≡ homes_of u
-    = homes_seen found.statics.items ∙ ap (map home_seen) f.statics ∙ seen_homes (statics_of u) in
+    let homes = found_homes p.types u found f in
     record {
       functions = subst (λ h. AreCodeOf p.types h (functions_of u) p.functions) homes
           (subst (λ fs. AreCodeOf p.types (homes_of_statics found.statics.items) (functions_of u) fs) (sym functions) low.made.functions);

@@ -1,6 +1,5 @@
 -- What heads and bodies are made of is what the tree says, and a function that has code has these.
-use Rattle.std.proofs.Common.{◌≡◌, refl, ap, sym, subst, ◌∙◌, List, [], ◌∷◌, ◌++◌, append_assoc, length, map, true, Option, None, Some, Result, Ok, Err, IfOk}
-use Rattle.std.proofs.lemmas.List.{map-append}
+use Rattle.std.proofs.Common.{◌≡◌, refl, ap, sym, subst, ◌∙◌, List, [], ◌∷◌, ◌++◌, map, true, Option, None, Some, Result, Ok, Err, IfOk}
 use Rattle.std.specs.List.{filter_map}
 use Rattle.cc_base.specs.declared.fault.NoMemory.{NoMemory}
 use Rattle.cc_base.specs.declared.number.NodeId.{NodeId}
@@ -23,7 +22,7 @@ use Rattle.lower_exprs.specs.declared.draft.Draft.{Draft}
 use Rattle.lower_exprs.specs.Drafts.{Grows, Starts}
 use Rattle.lower_rules.specs.Statements.{IsCodeOfBlock}
 use Rattle.lower_statements.specs.Ready.{HasCodeOfBlock}
-use Rattle.lower_rules.specs.Units.{IsCodeOfFunction, context_in, outermost}
+use Rattle.lower_rules.specs.Units.{IsCodeOfFunction, outermost}
 use Rattle.unit_parts.specs.declared.collected.Collected.{Collected}
 use Rattle.unit_parts.specs.Collecting.{Adds, Collects, locals_from}
 use Rattle.lower_units.specs.Heads.{home_or_none, homes_of_parameters, homes_of_planned, taken_as}

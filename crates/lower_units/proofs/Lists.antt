@@ -1,5 +1,5 @@
 -- Lists of homes, one more at a time. Those of objects that are apart are all new.
-use Rattle.std.proofs.Common.{◌≡◌, refl, ap, sym, subst, ◌∙◌, ℕ, ◌+◌, ◌<◌, ◌==◌, ◌||◌, add-one, arith, List, [], ◌∷◌, ◌++◌, append-nil, append_assoc, length, take, get_or, map, false, Bool, if◌then◌else◌}
+use Rattle.std.proofs.Common.{◌≡◌, refl, ap, sym, subst, ◌∙◌, ℕ, ◌+◌, ◌<◌, ◌==◌, ◌||◌, add-one, arith, List, [], ◌∷◌, ◌++◌, append-nil, append_assoc, length, take, get_or, false, Bool, if◌then◌else◌}
 use Rattle.std.specs.List.{AllByRecursion, IsDistinct, list_any}
 use Rattle.std.proofs.lemmas.Bool.Decides.{nat_tests}
 use Rattle.std.proofs.lemmas.List.{map-append}

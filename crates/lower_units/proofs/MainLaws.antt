@@ -1,9 +1,8 @@
 -- `main` among the functions of a unit, one more at a time, and their code.
-use Rattle.std.proofs.Common.{◌≡◌, refl, ap, sym, subst, ◌∙◌, ℕ, zero, suc, ◌+◌, ◌<◌, arith, List, [], ◌∷◌, ◌++◌, length, map, get_or, slice_get, Bool, true, false, not, cond, Option, None, Some}
+use Rattle.std.proofs.Common.{◌≡◌, refl, ap, sym, subst, ◌∙◌, ℕ, zero, suc, ◌+◌, ◌<◌, arith, List, [], ◌∷◌, ◌++◌, length, map, get_or, slice_get, Bool, true, false, not, cond, None, Some}
 use Rattle.std.specs.List.{All, prefix_len}
 use Rattle.std.proofs.lemmas.List.Elements.{All-nil, All-cons, All-head, All-tail}
 use Rattle.cc_base.specs.declared.number.NodeId.{NodeId}
-use Rattle.cc_base.specs.declared.place.Place.{Place}
 use Rattle.c_types.specs.Table.{Table}
 use Rattle.c_tree.specs.Views.{added}
 use Rattle.c_tree.specs.TypedTree as typed

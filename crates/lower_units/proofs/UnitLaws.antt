@@ -1,12 +1,11 @@
 -- A unit is lowered from what was found in it.
-use Rattle.std.proofs.Common.{◌≡◌, refl, ap, sym, subst, ◌∙◌, ℕ, zero, suc, ◌+◌, ◌<◌, ◌≤◌, arith, List, [], ◌∷◌, ◌++◌, length, map, flat_map, true, false, Bool, not, cond, nat_lt, Option, None, Some, option_map, slice_get}
+use Rattle.std.proofs.Common.{◌≡◌, refl, ap, sym, subst, ◌∙◌, ℕ, ◌<◌, ◌≤◌, arith, List, [], ◌∷◌, ◌++◌, length, map, flat_map, true, false, Bool, cond, nat_lt, Option, None, Some, slice_get}
 use Rattle.std.specs.Option.{unwrap_or}
-use Rattle.std.specs.List.{position, position_or_len, prefix_len}
+use Rattle.std.specs.List.{position, prefix_len}
 use Rattle.std.proofs.lemmas.Bool.{lt-ltb}
 use Rattle.std.proofs.lemmas.Option.{slice_get_past}
 use Rattle.cc_base.specs.declared.number.NodeId.{NodeId}
 use Rattle.c_types.specs.Table.{Table}
-use Rattle.c_tree.specs.Places.{nowhere}
 use Rattle.c_tree.specs.TypedTree.{TypedTranslationUnit}
 use Rattle.c_tree.specs.TypedParts.{DefinedFunction, MadeObject, functions_of, made_by_unit, name_of, static_initialisers, statics_of}
 use Rattle.src_mem.specs.Runs as runs
@@ -16,7 +15,6 @@ use Rattle.src_machine.specs.Pieces.{pieces_of_unit}
 use Rattle.src_machine.specs.Sites.{sites_of_piece}
 use Rattle.cil_form.specs.declared.program.Program.{Program}
 use Rattle.cil_form.specs.declared.program.Static.{Static}
-use Rattle.cil_form.specs.Machine as code
 use Rattle.lower_rules.specs.Initialisers.{IsCodeOfStatics}
 use Rattle.lower_rules.specs.Units.{AreCodeOf, IsCodeOfUnit, homes_of, static_context}
 use Rattle.unit_parts.specs.declared.collected.Collected.{Collected}

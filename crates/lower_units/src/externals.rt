@@ -1,8 +1,8 @@
 //! The functions of a unit in the order of their definitions, and `main` among them.
 ghost use Rattle.std.specs.Prelude.{◌≡◌, ◌++◌, ◌∷◌, [], List, length, map, option_copied, IfOk, OnOk};
+ghost use Rattle.std.specs.List.{All};
 ghost use Rattle.c_tree.specs.Views.{added};
 ghost use Rattle.c_tree.specs.TypedTree as typed;
-ghost use Rattle.std.specs.List.{All};
 ghost use Rattle.c_tree.specs.TypedParts.{DefinedFunction, functions_of, name_of};
 ghost use Rattle.c_tree.specs.TypedViews.{typed_declarator_view};
 ghost use Rattle.c_tree.specs.TypedStatementViews.{typed_external_view};

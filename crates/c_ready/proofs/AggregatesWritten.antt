@@ -24,7 +24,7 @@ use Rattle.c_typing.specs.Declarators.{Outermost, is_void_list, member_names}
 use Rattle.c_typing.specs.Rules.{number_of_shape, runtime_named}
 use Rattle.c_typing.specs.Scopes.{Name, Scopes, entering, here, members_named, is_no_list}
 use Rattle.c_typing.specs.Shapes.{is_function_shape}
-use Rattle.c_typing.specs.Typing.{IsTyped, IsPlace, AreTyped, IsTypeName, AreSpecifiers, AreAlone, AreListed, IsSpecifier, AreMembers, AreMemberDeclarators, AreEnumerators, IsForm, IsCore, AreParts, AreParameters, IsDeclared, IsNewAggregate, IsTagged, BeginsAggregate, EndsAggregate, DeclaresParameter, tagging, tag_named_here, enumerating}
+use Rattle.c_typing.specs.Typing.{IsTyped, IsPlace, AreTyped, IsTypeName, AreSpecifiers, AreAlone, AreListed, IsSpecifier, AreMembers, AreMemberDeclarators, AreEnumerators, IsForm, IsCore, AreParts, AreParameters, IsDeclared, IsNewAggregate, IsTagged, BeginsAggregate, EndsAggregate, DeclaresParameter, tagging, tag_named_here, enumerating, EndsEnumeration}
 use Rattle.c_unit_typing.specs.Initialisers.{IsInitialiser, AreItems, is_only_text, is_char_array}
 use Rattle.c_unit_typing.specs.Units.{Known, Storage, Unstored, AsTypedef, AsExtern, AsStatic, AsAutomatic, storage_of, with_scopes, unless_here, IsLinked, IsLinkedObject, IsStaticOrLocal, IsObjectDeclared, IsOrdinaryDeclared, IsNameDeclared, IsDeclarator, IsDefinedOnce, IsInitialised, AreDeclarators, IsDeclaration, Around, in_a_loop, in_a_switch, entering_known, leaving_known, IsDropped, IsTestedOrNone, IsReturned, IsStatement, AreBlockItems, with_parameters, parameter_declared, declared_identifier, IsUnitTyped}
 use Rattle.c_unit_typing.specs.WellTyped.{IsWellTyped, known_before}
@@ -174,9 +174,17 @@ module _ (T : Table) where
     ];
   }
 
-  enumerating-kept : (name : Option Identifier) (s : Scopes) → tag_named_here s name ≡ None → (enumerating name s).members ≡ s.members
-  enumerating-kept None s h = refl
-  enumerating-kept (Some name) s h = rw h refl
+  enumerating-kept : (name : Option Identifier) (s : Scopes) → (enumerating name s).members ≡ s.members
+  enumerating-kept None s = refl
+  enumerating-kept (Some name) s = by (tag_named_here s (Some name)) refl
+    where
+      by : (o : Option Tag) → tag_named_here s (Some name) ≡ o → (enumerating (Some name) s).members ≡ s.members
+      by None h = rw h refl
+      by (Some found) h = rw h refl
+
+  enumerated-kept : (name : Option Identifier) (s s' : Scopes) → EndsEnumeration name s s' → s'.members ≡ s.members
+  enumerated-kept None s s' h = ap (λ (q : Scopes). q.members) h.after
+  enumerated-kept (Some name) s s' h = ap (λ (q : Scopes). q.members) h.after
 
   parameter-kept : (form : TypedForm) (t : TypeId) (s s' : Scopes) → DeclaresParameter (typed.DeclaredBy form) t s s' → s'.members ≡ s.members
   parameter-kept (typed.Form stars (typed.Names name (home.Parameter n)) parts) t s s' h = ap (λ (q : Scopes). q.members) h.after
@@ -293,7 +301,8 @@ module _ (T : Table) where
         (ended-grown which at name brace members t h.1 s' h.4)
     specifier-grown (typed.Enum at name) s s' h = same s s' [] h.0
     specifier-grown (typed.Enumeration at name brace all comma) s s' h =
-        first s (enumerating name s) s' (pieces_of_enumerators all) (enumerating-kept name s h.0) (enumerators-grown all (enumerating name s) s' h.1)
+        first s (enumerating name s) s' (pieces_of_enumerators all) (enumerating-kept name s)
+        (last (enumerating name s) h.0 s' (pieces_of_enumerators all) (enumerated-kept name h.0 s' h.2) (enumerators-grown all (enumerating name s) h.0 h.1))
 
     pub members-grown : (all : TypedMembers) (s s' : Scopes) → AreMembers T all s s' → Grown s s' (pieces_of_members all)
     members-grown typed.NoMember s s' h = same s s' [] h

@@ -2,7 +2,7 @@
 #![tactic(auto)]
 
 ghost use Rattle.std.specs.Prelude.{◌≡◌, ◌<◌, ◌≤◌, ◌+◌, true, false, not, OnOk, OnErr, IfOk, IfSome, None, option_copied, length, nat_le, map, slice_set};
-ghost use Rattle.c_typing.specs.Scopes.{file_scope, with_scopes, entering, leaving, declaring, declaring_tag, here, tag_here, name_in, tag_in, place_among, members_named, is_no_list};
+ghost use Rattle.c_typing.specs.Scopes.{file_scope, with_scopes, entering, leaving, declaring, declaring_tag, setting_tag, here, tag_here, name_in, tag_in, place_among, members_named, is_no_list};
 ghost use Rattle.c_typing.specs.Typing.{counting_aggregate};
 
 use crate::declared::{Declared, Tag};
@@ -152,11 +152,19 @@ impl Scope {
         ensures declared { OnOk result (self.new ≡ with_scopes self.old (declaring_tag name.now what self.old.scopes)) }
         ensures unchanged { OnErr result (self.new ≡ self.old) }
     {
+        self.set_tag(name, what)
+    }
+
+    /// Declares a tag in the innermost scope as this, whatever it was before. It keeps its place among the others.
+    pub fn set_tag(&mut self, name: &[u8], what: Tag) -> Result<(), NoMemory>
+        ensures declared { OnOk result (self.new ≡ with_scopes self.old (setting_tag name.now what self.old.scopes)) }
+        ensures unchanged { OnErr result (self.new ≡ self.old) }
+    {
         let count = self.inner.len();
         if count == 0 {
-            return self.file.declare_tag(self.alloc, name, what);
+            return self.file.set_tag(self.alloc, name, what);
         }
-        self.inner[count - 1].declare_tag(self.alloc, name, what)
+        self.inner[count - 1].set_tag(self.alloc, name, what)
     }
 
     /// Where a function stands among those that the unit defines, counted from 0. Takes no memory.

@@ -93,7 +93,7 @@ left-of T Q (l ∷ (m ∷ ls)) h =
     All-cons (IsLevelOf T Q) l (without_innermost (m ∷ ls)) (All-head (IsLevelOf T Q) l (m ∷ ls) h)
     (left-of T Q (m ∷ ls) (All-tail (IsLevelOf T Q) l (m ∷ ls) h))
 
-innermost-of : (T : Table) (Q : Name → Declared → Type 0) (ls : List Level) → AreDeclared T Q ls → IsLevelOf T Q (innermost ls)
+pub innermost-of : (T : Table) (Q : Name → Declared → Type 0) (ls : List Level) → AreDeclared T Q ls → IsLevelOf T Q (innermost ls)
 innermost-of T Q [] h = record { names = All-nil (λ (e : Name × Declared). Q e.0 e.1); tags = All-nil (λ (e : Name × Tag). IsTagOf T e.1) }
 innermost-of T Q (l ∷ []) h = All-head (IsLevelOf T Q) l [] h
 innermost-of T Q (l ∷ (m ∷ ls)) h = innermost-of T Q (m ∷ ls) (All-tail (IsLevelOf T Q) l (m ∷ ls) h)

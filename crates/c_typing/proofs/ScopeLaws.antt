@@ -52,13 +52,14 @@ entry-last name what (e ∷ es) h =
 pub entries-with : {A : Type 0} (P : Name → A → Type 0) (name : Name) (what : A) (es : List (Name × A)) → ((n : Name) → P n what)
     → All (λ (e : Name × A). P e.0 e.1) es → All (λ (e : Name × A). P e.0 e.1) (with_entry name what es)
 entries-with {A} P name what [] p h = All-cons (λ (d : Name × A). P d.0 d.1) (name, what) [] (p name) h
-entries-with {A} P name what (e ∷ es) p h = by (bytes_eq name e.0)
+entries-with {A} P name what (e ∷ es) p h =
+    by (bytes_eq name e.0) (All-tail (λ (d : Name × A). P d.0 d.1) e es h) (λ t. entries-with P name what es p t)
   where
-    by : (b : Bool) → All (λ (d : Name × A). P d.0 d.1) (if b then (e.0, what) ∷ es else e ∷ with_entry name what es)
-    by true = All-cons (λ (d : Name × A). P d.0 d.1) (e.0, what) es (p e.0) (All-tail (λ (d : Name × A). P d.0 d.1) e es h)
-    by false =
-        All-cons (λ (d : Name × A). P d.0 d.1) e (with_entry name what es) (All-head (λ (d : Name × A). P d.0 d.1) e es h)
-        (entries-with P name what es p (All-tail (λ (d : Name × A). P d.0 d.1) e es h))
+    by : (b : Bool) → All (λ (d : Name × A). P d.0 d.1) es
+        → (All (λ (d : Name × A). P d.0 d.1) es → All (λ (d : Name × A). P d.0 d.1) (with_entry name what es))
+        → All (λ (d : Name × A). P d.0 d.1) (if b then (e.0, what) ∷ es else e ∷ with_entry name what es)
+    by true t more = All-cons (λ (d : Name × A). P d.0 d.1) (e.0, what) es (p e.0) t
+    by false t more = All-cons (λ (d : Name × A). P d.0 d.1) e (with_entry name what es) (All-head (λ (d : Name × A). P d.0 d.1) e es h) (more t)
 
 -- a map of names with one more
 pub names-declared : {K : Type 0} (bytes : K → Name) (eq : K → K → Bool) → ((k x : K) → eq k x ≡ bytes_eq (bytes k) (bytes x))
@@ -121,6 +122,14 @@ left file inner changed defined members node globals cells now seen made =
     → seen_of file changed defined members node globals cells ≡ with_scopes t (leaving t.scopes) in
     subst P seen (λ more. ap (λ ls. with_scopes (seen_of file inner defined members node globals cells) (record { levels = ls; defined = defined; members = members }))
     (ap (λ ls. file ∷ ls) made ∙ sym (without-last file inner (omega arith))))
+
+-- the last of the scopes, which is not the file's
+pub innermost-popped : (file : Level) (inner : List Level) (defined : List Name) (members : List (List Name)) (node globals cells : ℕ) (now : Seen)
+    → seen_of file inner defined members node globals cells ≡ now → 1 < length now.scopes.levels
+    → (0 < length inner) × (get_or inner (length inner - 1) file ≡ innermost now.scopes.levels)
+innermost-popped file inner defined members node globals cells now seen =
+    let P : Seen → Type 0 = λ t. 1 < length t.scopes.levels → (0 < length inner) × (get_or inner (length inner - 1) file ≡ innermost t.scopes.levels) in
+    subst P seen (λ more. let some : 0 < length inner = omega arith in (some, sym (innermost-last file inner file some)))
 
 -- the declaration of a name in the last of the scopes
 pub here-last : (file : Level) (inner : List Level) (defined : List Name) (members : List (List Name)) (node globals cells : ℕ) (now : Seen) (name : Name) (m : Level)

@@ -1,8 +1,8 @@
 //! The scopes that are open, and what is counted.
 #![tactic(auto)]
 
-ghost use Rattle.std.specs.Prelude.{◌≡◌, ◌<◌, ◌≤◌, ◌+◌, true, false, not, OnOk, OnErr, IfOk, IfSome, None, option_copied, length, nat_le, map, slice_set};
-ghost use Rattle.c_typing.specs.Scopes.{file_scope, with_scopes, entering, leaving, declaring, declaring_tag, setting_tag, here, tag_here, name_in, tag_in, place_among, members_named, is_no_list};
+ghost use Rattle.std.specs.Prelude.{◌≡◌, ◌<◌, ◌≤◌, ◌+◌, true, false, not, OnOk, OnErr, IfOk, IfSome, None, Some, option_copied, [], ◌∷◌, ◌++◌, length, nat_le, map, slice_set};
+ghost use Rattle.c_typing.specs.Scopes.{file_scope, with_scopes, entering, innermost, leaving, declaring, declaring_tag, setting_tag, here, tag_here, name_in, tag_in, place_among, members_named, is_no_list};
 ghost use Rattle.c_typing.specs.Typing.{counting_aggregate};
 
 use crate::declared::{Declared, Tag};
@@ -76,6 +76,24 @@ impl Scope {
     {
         let last = self.inner.len() - 1;
         self.inner.truncate(last);
+    }
+
+    /// Takes the innermost scope away and gives it, where it isn't the file's. Takes no memory.
+    pub fn take_innermost(&mut self) -> Option<Level>
+        requires { 1 < length self.old.scopes.levels }
+        ensures left { self.new ≡ with_scopes self.old (leaving self.old.scopes) }
+        ensures level { result ≡ Some (innermost self.old.scopes.levels) }
+    {
+        self.inner.pop()
+    }
+
+    /// A scope that was taken away goes on as the innermost one.
+    pub fn go_on(&mut self, level: Level) -> Result<(), NoMemory>
+        ensures entered { OnOk result (self.new ≡ with_scopes self.old (record self.old.scopes { levels = self.old.scopes.levels ++ level ∷ [] })) }
+        ensures unchanged { OnErr result (self.new ≡ self.old) }
+    {
+        self.inner.push(level)?;
+        Ok(())
     }
 
     /// How many scopes are open, the file's among them. Takes no memory.

@@ -31,7 +31,6 @@ mod MainGiven
 mod UnitsGiven
 pub mod WholeGiven
 mod ScopesKept
-mod ParametersDeclared
 mod ParameterNames
 mod FunctionsDefined
 mod DefinitionsGiven

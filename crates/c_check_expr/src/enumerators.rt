@@ -35,7 +35,7 @@ use c_typing::naming::Naming;
 use c_typing::operand::{Operand, Value};
 use c_typing::scope::Scope;
 use c_typing::stops::{no_room, refusal};
-use c_typing::value::converted;
+use c_typing::value::{converted, sum};
 use cc_base::{Fault, NoMemory, Place, Rule};
 
 /// `int`.
@@ -45,15 +45,12 @@ const INT: Kind = Kind {
 };
 
 /// The value after one; the next one of the greatest int wraps.
-fn next_value(last: Option<i128>) -> Result<i128, NoMemory>
-    ensures { IfOk result (λ z. z ≡ next_value last) }
+fn next_value(last: Option<i128>) -> i128
+    ensures { result ≡ next_value last }
 {
     match last {
-        None => Ok(0),
-        Some(z) => match z.checked_add(1) {
-            Some(next) => Ok(converted(INT, next)),
-            None => Err(NoMemory),
-        },
+        None => 0,
+        Some(z) => sum(INT, z, 1),
     }
 }
 
@@ -84,7 +81,7 @@ fn plain(
     if is_taken(scope, name) {
         return Err(refusal(name.place, Rule::Redeclared));
     }
-    let value = next_value(last)?;
+    let value = next_value(last);
     scope.declare(name.bytes.as_slice(), Declared::Enumerator(value))?;
     let name = copied_name(scope.alloc(), name)?;
     Ok((TypedEnumerator::Plain(name, value), value))

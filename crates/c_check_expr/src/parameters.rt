@@ -20,6 +20,7 @@ ghost use Rattle.c_typing.specs.Specifying.{obeying};
 ghost use Rattle.c_typing.specs.Tests as tests;
 ghost use Rattle.c_typing.specs.Tests.{first_broken};
 ghost use Rattle.c_typing.specs.Walks as walks;
+ghost use Rattle.c_unit_typing.specs.ParameterScopes.{level_given, scope_of_list};
 
 use crate::declarators::node_at;
 use crate::walker::Walker;
@@ -34,6 +35,7 @@ use c_tree::{
 };
 use c_types::{TypeShape, Types};
 use c_typing::declared::Declared;
+use c_typing::level::Level;
 use c_typing::naming::Naming;
 use c_typing::operand::Operand;
 use c_typing::scope::Scope;
@@ -302,25 +304,28 @@ impl<
         Ok(found)
     }
 
-    /// Parameters in a scope of their own.
-    #[tactic(auto, unfolding(c_typing::specs::Walks::judge_prototype, c_typing::specs::Declaring::entered, c_typing::specs::Declaring::left))]
-    pub(crate) fn prototype(
+    /// Parameters in a scope of their own, with that scope as they leave it.
+    #[tactic(auto, unfolding(c_typing::specs::Walks::judge_prototype, c_typing::specs::Declaring::entered, c_typing::specs::Declaring::left, c_unit_typing::specs::ParameterScopes::scope_of_list))]
+    pub(crate) fn prototype_left(
         &self,
         scope: &mut Scope,
         types: &mut Types,
         at: Place,
         list: &[Parameter],
-    ) -> Result<Items<TypedParameter>, Fault>
+    ) -> Result<(Items<TypedParameter>, Level), Fault>
         requires nests { Nests self.now.depth (E.pre self.now.judge_expr) (E.post self.now.judge_expr) (S.pre self.now.judge_specifiers) (S.post self.now.judge_specifiers) (D.pre self.now.judge_form) (D.post self.now.judge_form) }
-        ensures { Answers (λ found. added no_typed_parameter (map typed_parameter_view found)) (walks.judge_prototype at (added NoParameter (map parameter_view list.now)) (known types.old scope.old)) result (known types.new scope.new) }
+        ensures level { IfOk result (λ made. level_given (scope_of_list (Some (added NoParameter (map parameter_view list.now))) (known types.old scope.old)) ≡ made.1) }
+        ensures answers { Answers (λ made. added no_typed_parameter (map typed_parameter_view made.0)) (walks.judge_prototype at (added NoParameter (map parameter_view list.now)) (known types.old scope.old)) result (known types.new scope.new) }
     {
         scope.enter()?;
         let found = self.parameters(scope, types, is_void_alone(list), list)?;
         if scope.depth() <= 1 {
             return Err(no_room(at));
         }
-        scope.leave();
-        Ok(found)
+        match scope.take_innermost() {
+            Some(level) => Ok((found, level)),
+            None => Err(no_room(at)),
+        }
     }
 }
 

@@ -473,7 +473,7 @@ module _ (n : ℕ) where
         let z = number-zero k.table n (shape_at k.table t) h.4.number h.4.declared in let m = members-uses k members h.0 h.1 h.3 r.0 in omega
         (arith, z, m)
     specifier-uses k (typed.Enum at name) s s' h r = omega arith
-    specifier-uses k (typed.Enumeration at name brace all comma) s s' h r = enumerators-uses k all (enumerating name s) s' h.1 r
+    specifier-uses k (typed.Enumeration at name brace all comma) s s' h r = enumerators-uses k all (enumerating name s) h.0 h.1 r
 
     pub members-uses : (k : Stage) (all : TypedMembers) (s s' : Scopes) → AreMembers k.table all s s' → AreReadyMembers k all
         → uses k.table n (used_by_members k.table all) ≤ makes n (made_by_members all)

@@ -163,7 +163,7 @@ module _ (T : Table) where
     specifier-objects (typed.Tagged which at name t) s s' h = All-nil P
     specifier-objects (typed.Aggregate which at name brace members t) s s' h = members-objects members h.0 h.1 h.3
     specifier-objects (typed.Enum at name) s s' h = All-nil P
-    specifier-objects (typed.Enumeration at name brace all comma) s s' h = enumerators-objects all (enumerating name s) s' h.1
+    specifier-objects (typed.Enumeration at name brace all comma) s s' h = enumerators-objects all (enumerating name s) h.0 h.1
 
     pub members-objects : (all : TypedMembers) (s s' : Scopes) → AreMembers T all s s' → All P (made_by_members all)
     members-objects typed.NoMember s s' h = All-nil P

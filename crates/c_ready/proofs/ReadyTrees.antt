@@ -344,8 +344,9 @@ mutual
       )
   specifier-ready k w u (typed.Enum at name) s s' h a m = tt
   specifier-ready k w u (typed.Enumeration at name brace all comma) s s' h a m =
-      enumerators-ready k w u all (enumerating name s) s' h.1
-      (at-right k s (enumerating name s) s' (Walked.enumerating-kept k.table (Known k) (values k) name s h.0) a) m
+      enumerators-ready k w u all (enumerating name s) h.0 h.1
+      (at-right k s (enumerating name s) h.0 (Walked.enumerating-kept k.table (Known k) (values k) name s)
+      (at-left k s h.0 s' (Walked.enumerated-kept k.table (Known k) (values k) name h.0 s' h.2).stays a)) m
 
   pub members-ready : (k : Context) → IsFormed k → k.runs ≡ false → (all : TypedMembers) (s s' : Scopes) → AreMembers k.table all s s' → At k s s'
       → AreMade k (made_by_members all) → AreReadyMembers k all

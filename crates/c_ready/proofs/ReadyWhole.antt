@@ -19,11 +19,11 @@ use Rattle.c_typing.specs.declared.declared.Declared.{Declared}
 use Rattle.c_typing.specs.declared.declared.Declared.TheVariants as declared
 use Rattle.c_typing.specs.Shapes.{is_function_shape}
 use Rattle.c_typing.specs.Scopes as scopes
-use Rattle.c_typing.specs.Scopes.{Scopes, entry_of, members_named, is_complete_at, is_complete_shape_at, entering, empty_level}
+use Rattle.c_typing.specs.Scopes.{Scopes, entry_of, members_named, is_complete_at, is_complete_shape_at, innermost, empty_level}
 use Rattle.c_typing.specs.Rules.{number_of_shape}
 use Rattle.c_typing.specs.declared.declared.Tag.{Tag}
 use Rattle.c_unit_typing.specs.Units as units
-use Rattle.c_unit_typing.specs.Units.{with_scopes, Storage, AsTypedef, AsExtern, AsStatic, AsAutomatic, Unstored, AgreesWith, unless_linked, IsLinked, IsFunctionDeclared, IsOrdinaryDeclared, IsNameDeclared, leaving_known, storage_of, IsUnitTyped, with_parameters}
+use Rattle.c_unit_typing.specs.Units.{with_scopes, Storage, AsTypedef, AsExtern, AsStatic, AsAutomatic, Unstored, AgreesWith, unless_linked, IsLinked, IsFunctionDeclared, IsOrdinaryDeclared, IsNameDeclared, leaving_known, storage_of, IsUnitTyped, going_on}
 use Rattle.c_unit_typing.specs.WellTyped.{known_before}
 use Rattle.c_ready.specs.Ready.{IsAlike, static_stage}
 use Rattle.c_ready.proofs.Contexts.{Context, context_of}
@@ -155,7 +155,7 @@ module _ (T : Table) (w : IsWellFormed T) where
       (with_scopes (with_scopes h.0 f.before) f.declares.inside) f.declared f.shape.1 f.declares.declares in
       let own = linked-function T f.declares.name.bytes t (with_scopes (with_scopes h.0 f.before) f.declares.inside) f.declared linked in
       let start : units.Known = record f.declared
-      { scopes = with_parameters f.parameters (entering f.declared.scopes); defined = f.declared.defined ++ f.name.bytes ∷ [] } in
+      { scopes = going_on (innermost f.inside.levels) f.declared.scopes; defined = f.declared.defined ++ f.name.bytes ∷ [] } in
       let inside = items-step (block_of (bare_stage T)) (fixed-block (bare_stage T) w (no_functions T))
       (record { result = f.result; in_loop = false; breakable = false }) None body start f.after (result-in T w t f.result f.types f.shape, refl)
       f.statements in

@@ -61,6 +61,7 @@ module _ (J T : Table) (x : IsExtended J T) (b : IsBasic J) where
   tag-over s which (Some (tag.Aggregate k t)) h =
       ap (λ (c : Bool). not (is_tag_of which (tag.Aggregate k t)) || c) (TypesAlike.complete-over J T x b s t h.1.0)
   tag-over s which (Some tag.Enumeration) h = refl
+  tag-over s which (Some tag.Enumerating) h = refl
 
   -- whether a struct or union is taken by the end of its members, and the rules of its end
   pub end-over : (seen : Seen) (begun : Option TypeId) → ((t : TypeId) → begun ≡ Some t → IsType J t)

@@ -123,7 +123,7 @@ module _ (T U : Table) (l : IsLater T U) where
     specifier-same (typed.Tagged which at name t) s s' h = refl
     specifier-same (typed.Aggregate which at name brace members t) s s' h = ap (λ (us : List Use). OfType t ∷ us) (members-same members h.0 h.1 h.3)
     specifier-same (typed.Enum at name) s s' h = refl
-    specifier-same (typed.Enumeration at name brace all comma) s s' h = enumerators-same all (enumerating name s) s' h.1
+    specifier-same (typed.Enumeration at name brace all comma) s s' h = enumerators-same all (enumerating name s) h.0 h.1
 
     pub members-same : (all : TypedMembers) (s s' : Scopes) → AreMembers T all s s' → used_by_members U all ≡ used_by_members T all
     members-same typed.NoMember s s' h = refl

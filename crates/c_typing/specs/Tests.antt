@@ -24,7 +24,7 @@ use Rattle.c_tree.specs.TypedParts.{type_of, place_type}
 use Rattle.c_tree.specs.declared.typed_word.Runtime.{Runtime}
 use Rattle.runtime_calls.specs.declared.function.RuntimeType.{RuntimeType}
 use Rattle.runtime_calls.specs.declared.function.RuntimeType.TheVariants as prototype
-use Rattle.runtime_calls.specs.Prototypes.{prototype_of}
+use Rattle.runtime_calls.specs.Prototypes.{prototype_of, runtime_of}
 use Rattle.c_typing.specs.declared.declared.Declared.{Declared}
 use Rattle.c_typing.specs.declared.declared.Declared.TheVariants as declared
 use Rattle.c_typing.specs.declared.declared.Tag.{Tag}
@@ -385,9 +385,15 @@ abbrev pub is_enumeration : Tag → Bool
 is_enumeration tag.Enumeration = true
 is_enumeration what = false
 
+-- no tag, or one of an enumeration whose list goes on
+abbrev pub lacks_enumeration : Option Tag → Bool
+lacks_enumeration None = true
+lacks_enumeration (Some tag.Enumerating) = true
+lacks_enumeration (Some what) = false
+
 -- `enum E` without a list
 abbrev pub enum_tests : Scopes → Name → Place → List Test
-enum_tests s name at = broken_at rule.UnknownName at (is_none (tag_in s.levels name)) ∷ tag_tests s is_enumeration name at
+enum_tests s name at = broken_at rule.UnknownName at (lacks_enumeration (tag_in s.levels name)) ∷ tag_tests s is_enumeration name at
 
 -- whether the innermost scope has the tag as something else, or complete
 abbrev pub is_taken_tag : Table → Scopes → AggregateKind → Option Tag → Bool
@@ -407,13 +413,17 @@ aggregate_tests taken at empty =
     ∷ broken_at rule.Mismatch at empty
     ∷ []
 
--- `enum E { .. }`, after its enumerators: `taken` says that the innermost scope had the tag before
+-- `enum E { .. }`, after its enumerators: `taken` says that the innermost scope has the tag as something else, or complete by then
 abbrev pub enumeration_tests : (taken : Bool) → Place → List Test
 enumeration_tests taken at = broken_at rule.Redeclared at taken ∷ []
 
+-- the name of a runtime function, where the innermost scope is the file's (C99 7.1.3)
+abbrev pub is_reserved : Scopes → Name → Bool
+is_reserved s name = (length s.levels == 1) && has_some (runtime_of name)
+
 -- an enumerator, and its value where it has one
 abbrev pub enumerator_tests : Scopes → Name → Place → List Test
-enumerator_tests s name at = broken_at rule.Redeclared at (has_some (here s.levels name)) ∷ []
+enumerator_tests s name at = broken_at rule.Redeclared at (has_some (here s.levels name) || is_reserved s name) ∷ []
 
 abbrev pub has_constant : Table → Elaborated → Bool
 has_constant T (AsValue e) = has_some (constant_value T e)

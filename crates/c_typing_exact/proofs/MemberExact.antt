@@ -1,5 +1,5 @@
 -- Members and enumerators that are well typed are not refused, where their parts are not.
-use Rattle.std.proofs.Common.{◌≡◌, ℤ, Bool, true, false, not, List, [], ◌∷◌, ◌++◌, Option, Some, None, refl, ap, sym, subst, ◌∙◌, inl, inr, ◌⊎◌, bytes_eq, append_assoc}
+use Rattle.std.proofs.Common.{◌≡◌, ℤ, Bool, true, false, not, ◌||◌, List, [], ◌∷◌, ◌++◌, Option, Some, None, refl, ap, sym, subst, ◌∙◌, inl, inr, ◌⊎◌, bytes_eq, append_assoc}
 use Rattle.std.specs.List.{All, list_any}
 use Rattle.std.proofs.lemmas.List.Elements.{All-nil, All-cons, All-head, All-tail}
 use Rattle.std.proofs.lemmas.Slice.Eq.{bytes_eq-Decides}
@@ -17,16 +17,14 @@ use Rattle.c_tree.specs.Tree as tree
 use Rattle.c_tree.specs.TypedTree as typed
 use Rattle.c_tree.specs.TypedTree.{TypedExpr, TypedForm, TypedMembers, TypedMemberDeclarators, TypedEnumerators, TypedSpecifiers}
 use Rattle.c_tree.specs.TypedParts.{name_of_form, home_of_form, specified_type, made_by_member_declarators, made_by_specifiers}
-use Rattle.c_typing.specs.declared.declared.Declared.{Declared}
-use Rattle.c_typing.specs.declared.declared.Declared.TheVariants as declared
 use Rattle.c_typing.specs.Constants.{constant_value}
 use Rattle.c_typing.specs.Conversions.{bare}
 use Rattle.c_typing.specs.Declarators.{Written, FormMakes, declarator_names, member_names, name_bytes}
 use Rattle.c_typing.specs.Refusals.{Fails, MemberFails, MemberFailsBy, MemberTypeFails, has_name, name_place}
 use Rattle.c_typing.specs.Scopes.{Name, Scopes, here, is_complete_at}
 use Rattle.c_typing.specs.Settled.{IsBasic}
-use Rattle.c_typing.specs.Tests.{member_type_tests, enumerator_tests, constant_tests, has_constant, has_some}
-use Rattle.c_typing.specs.Typing.{AreDistinct, AreSpecifiers, AreMemberDeclarators, IsNewName, IsConstant}
+use Rattle.c_typing.specs.Tests.{member_type_tests, enumerator_tests, constant_tests, has_constant, has_some, is_reserved}
+use Rattle.c_typing.specs.Typing.{AreDistinct, AreSpecifiers, AreMemberDeclarators, IsNewEnumerator, IsConstant}
 use Rattle.c_typing_laws.proofs.PartsTaken.{constant-alike}
 use Rattle.c_typing_unique.specs.Points.{Point, HasOwn, IsRead, IsReadAs}
 use Rattle.c_typing_unique.proofs.DeclaratorSteps.{IsFormRead, homes-none}
@@ -181,8 +179,10 @@ module _ (T : Table) (basic : IsBasic T) where
 
   -- Enumerators
 
-  fresh : (s r : Scopes) (name : Identifier) (what : Declared) → IsNewName name.bytes what s r → Passes (enumerator_tests s name.bytes name.place)
-  fresh s r name what h = passes_one rule.Redeclared name.place (has_some (here s.levels name.bytes)) (ap has_some h.fresh)
+  fresh : (s r : Scopes) (name : Identifier) (value : ℤ) → IsNewEnumerator name.bytes value s r → Passes (enumerator_tests s name.bytes name.place)
+  fresh s r name value h =
+      passes_one rule.Redeclared name.place (has_some (here s.levels name.bytes) || is_reserved s name.bytes)
+      (or_off (has_some (here s.levels name.bytes)) (is_reserved s name.bytes) (ap has_some h.fresh) h.unreserved)
 
   pub no-enumerator-exact : AreEnumeratorsExact T tree.NoEnumerator
   no-enumerator-exact list a b f h own k = absurd k
@@ -193,7 +193,7 @@ module _ (T : Table) (basic : IsBasic T) where
   enumerator-exact all name u list a b f h own (inr k) =
       let left = are_enumerators T D (tree.AndEnumerator all name) list a b h in
       let same = enumerators-one T D all k.0 left.0 a k.1 a left.2 k.2 left.3 refl own in
-      passes-fails (enumerator_tests left.2.scopes name.bytes name.place) f (fresh left.2.scopes b.scopes name (declared.Enumerator left.1) left.5)
+      passes-fails (enumerator_tests left.2.scopes name.bytes name.place) f (fresh left.2.scopes b.scopes name left.1 left.5)
       (subst (λ (m : Point). Fails (enumerator_tests m.scopes name.bytes name.place) f) same.1 k.3)
 
   pub valued-exact : (all : tree.Enumerators) (name : Identifier) (at : Place) (x : tree.Expr) → AreEnumeratorsExact T all → IsExact T x → AreEnumeratorsExact T (tree.AndValued all name at x)
@@ -203,7 +203,7 @@ module _ (T : Table) (basic : IsBasic T) where
       let left = are_enumerators T D (tree.AndValued all name at x) list a b h in
       let same = enumerators-one T D all list' left.0 a m a left.3 read left.5 refl own in
       let plain = bare-plain left.1 left.7.plain in
-      by left.1 left.2 left.3 left.4 left.6 left.7 (fresh left.4.scopes b.scopes name (declared.Enumerator left.2) left.8) (subst HasOwn same.1 same.2)
+      by left.1 left.2 left.3 left.4 left.6 left.7 (fresh left.4.scopes b.scopes name left.2 left.8) (subst HasOwn same.1 same.2)
       (subst (λ (p : Point). RefusesAt T false x p f ⊎ AfterPart T x p (λ y n. Fails (enumerator_tests n.scopes name.bytes name.place ++ constant_tests T (expr_place x) y) f)) same.1 r)
     where
       by : (e : TypedExpr) (z : ℤ) (m n : Point) → IsRead T x e m n → IsConstant T e z → Passes (enumerator_tests n.scopes name.bytes name.place)

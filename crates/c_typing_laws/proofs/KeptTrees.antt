@@ -136,7 +136,7 @@ module _ (T U : Table) (x : IsExtended T U) (b : IsBasic T) where
       KeptDeclarators.ends-kept T U x b members t h.1 s' h.4,
     )
     specifier-kept (typed.Enum at name) s s' h = h
-    specifier-kept (typed.Enumeration at name brace all comma) s s' h = (h.0, enumerators-kept all (enumerating name s) s' h.1)
+    specifier-kept (typed.Enumeration at name brace all comma) s s' h = (h.0, enumerators-kept all (enumerating name s) h.0 h.1, h.2)
 
     pub members-kept : (all : TypedMembers) (s s' : Scopes) → AreMembers T all s s' → AreMembers U all s s'
     members-kept typed.NoMember s s' h = h

@@ -18,8 +18,7 @@ ghost use Rattle.c_typing.specs.Scopes.{Scopes, is_complete_at};
 ghost use Rattle.c_typing.specs.Settled.{AreEnumeratorsJudged, GoesOn, IsBegun, IsKnown, IsSpecifierJudged, IsValueOf};
 ghost use Rattle.c_typing.specs.Specifying;
 ghost use Rattle.c_typing.specs.Specifying.{completed, new_aggregate};
-ghost use Rattle.c_typing.specs.Tests.{has_some};
-ghost use Rattle.c_typing.specs.Typing.{AreDistinct, AreMembers, EndsAggregate, IsNewAggregate, enumerating, tag_named_here};
+ghost use Rattle.c_typing.specs.Typing.{AreDistinct, AreMembers, EndsAggregate, IsNewAggregate, enumerating};
 
 /// What is judged of a word, of a typedef's name and of a tag (C99 6.7.2, 6.7.7).
 pub fn a_specifier_is_judged()
@@ -37,10 +36,10 @@ pub fn a_struct_is_judged()
 
 /// An enumeration and its enumerators (C99 6.7.2.2): how it begins, each enumerator behind those before it, and the whole.
 pub fn an_enumeration_is_judged()
-    ensures begun { (name : Option Identifier) (found : Bool) (s m : State) → IsKnown s → Specifying.enumeration_begun name s ≡ Gives found m → (found ≡ has_some (tag_named_here s.seen.scopes name)) × (m.seen.scopes ≡ enumerating name s.seen.scopes) × GoesOn s m }
+    ensures begun { (name : Option Identifier) (begun : Bool) (s m : State) → IsKnown s → Specifying.enumeration_begun name s ≡ Gives begun m → (m.seen.scopes ≡ enumerating name s.seen.scopes) × GoesOn s m }
     ensures enumerator { (all : tree.Enumerators) (list made : TypedEnumerators) (name : Identifier) (c : Scopes) (before s r : State) → IsKnown s → AreEnumeratorsJudged all list c before s → Specifying.enumerator list name s ≡ Gives made r → AreEnumeratorsJudged (tree.AndEnumerator all name) made c before r }
     ensures valued { (all : tree.Enumerators) (list made : TypedEnumerators) (name : Identifier) (at : Place) (e : tree.Expr) (v : Value) (c : Scopes) (before m s r : State) → IsKnown s → AreEnumeratorsJudged all list c before m → GoesOn m s → IsValueOf s.table e v.expr m.seen.scopes s.seen.scopes → is_droppable v.expr ≡ true → Specifying.valued_enumerator list name at v s ≡ Gives made r → AreEnumeratorsJudged (tree.AndValued all name at e) made c before r }
-    ensures whole { (counts : Counted) (at : Place) (name : Option Identifier) (brace : Place) (found : Bool) (all : tree.Enumerators) (list : TypedEnumerators) (comma : Bool) (one : TypedSpecifier) (before s r : State) → IsKnown s → found ≡ has_some (tag_named_here before.seen.scopes name) → AreEnumeratorsJudged all list (enumerating name before.seen.scopes) before s → Specifying.enumeration counts at name brace found list comma s ≡ Gives one r → IsSpecifierJudged counts (tree.Enumeration at name brace all comma) one before.seen.scopes before r }
+    ensures whole { (counts : Counted) (at : Place) (name : Option Identifier) (brace : Place) (all : tree.Enumerators) (list : TypedEnumerators) (comma : Bool) (one : TypedSpecifier) (before s r : State) → IsKnown s → AreEnumeratorsJudged all list (enumerating name before.seen.scopes) before s → Specifying.enumeration counts at name brace list comma s ≡ Gives one r → IsSpecifierJudged counts (tree.Enumeration at name brace all comma) one before.seen.scopes before r }
 {}
 
 /// A struct or union that ends has its members, of which no two have one name, and is complete from there on (C99 6.7.2.1).

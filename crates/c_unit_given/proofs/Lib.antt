@@ -30,7 +30,6 @@ mod MainGiven
 mod UnitsGiven
 pub mod WholeGiven
 mod ScopesKept
-mod ParametersDeclared
 mod ParameterNames
 mod FunctionsDefined
 mod DefinitionsGiven

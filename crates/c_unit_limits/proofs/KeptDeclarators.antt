@@ -62,6 +62,7 @@ unfolding tagged_as
 tagged_as-kept which name None = new_aggregate-kept which name.place (Some name)
 tagged_as-kept which name (Some (tag.Aggregate k t)) = pure-kept t
 tagged_as-kept which name (Some tag.Enumeration) = stop-kept (_)
+tagged_as-kept which name (Some tag.Enumerating) = stop-kept (_)
 
 tagged_by-kept : (which : AggregateKind) (at : Place) (name : Identifier) (found : State → Option Tag) → IsKept (tagged_by which at name found)
 unfolding tagged_by
@@ -80,6 +81,7 @@ unfolding begun_as
 begun_as-kept which at name found true = pure-kept None
 begun_as-kept which at name (Some (tag.Aggregate k t)) false = pure-kept (_)
 begun_as-kept which at name (Some tag.Enumeration) false = pure-kept None
+begun_as-kept which at name (Some tag.Enumerating) false = pure-kept None
 begun_as-kept which at name None false = bind-kept (new_aggregate-kept which at name) (λ t. pure-kept (_))
 
 pub begun-kept : (which : AggregateKind) (at : Place) (name : Option Identifier) → IsKept (begun which at name)
@@ -117,10 +119,10 @@ pub enumeration_begun-kept : (name : Option Identifier) → IsKept (enumeration_
 unfolding enumeration_begun
 enumeration_begun-kept name = record { kept = λ s. (λ h. h, refl) }
 
-pub enumeration-kept : (before : Counted) (at : Place) (name : Option Identifier) (brace : Place) (found : Bool) (all : TypedEnumerators) (comma : Bool)
-    → IsKept (enumeration before at name brace found all comma)
+pub enumeration-kept : (before : Counted) (at : Place) (name : Option Identifier) (brace : Place) (all : TypedEnumerators) (comma : Bool)
+    → IsKept (enumeration before at name brace all comma)
 unfolding enumeration
-enumeration-kept before at name brace found all comma = known-kept (λ q. unless-kept (_) (pure-kept (_)))
+enumeration-kept before at name brace all comma = known-kept (λ q. unless-kept (_) (seen-kept (_) (_) (λ s. (refl, refl))))
 
 -- Names and parts
 

@@ -201,7 +201,7 @@ module _ (T : Table) (w : IsWellFormed T) where
     specifier-alike (typed.Tagged which at name t) s s' h = none T
     specifier-alike (typed.Aggregate which at name brace members t) s s' h = members-alike members h.0 h.1 h.3
     specifier-alike (typed.Enum at name) s s' h = none T
-    specifier-alike (typed.Enumeration at name brace all comma) s s' h = enumerators-alike all (enumerating name s) s' h.1
+    specifier-alike (typed.Enumeration at name brace all comma) s s' h = enumerators-alike all (enumerating name s) h.0 h.1
 
     members-alike : (all : TypedMembers) (s s' : Scopes) → AreMembers T all s s' → IsAlike T (made_by_members all) 0
     members-alike typed.NoMember s s' h = none T

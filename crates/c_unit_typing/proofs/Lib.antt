@@ -26,6 +26,7 @@ pub mod JudgedLabels
 pub mod JudgedStatements
 pub mod StatementParts
 pub mod Scoped
+pub mod NearestLists
 pub mod JudgedDeclarations
 pub mod JudgedDeclarators
 pub mod HomeNumbers

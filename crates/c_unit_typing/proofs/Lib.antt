@@ -4,7 +4,6 @@ pub mod UnitStates
 pub mod NumberedTests
 pub mod TypesOfTests
 pub mod TypesOfInitialisers
-pub mod LimitedUnits
 pub mod RefusedUnits
 pub mod RefusedDefinitions
 pub mod RefusedStatements
@@ -40,6 +39,4 @@ pub mod NumberedInitialisers
 pub mod JudgedInitialisers
 pub mod JudgedTests
 pub mod JudgedSwitches
-pub mod RefusedUnit
-pub mod RefusedBodies
 pub mod TypedRow

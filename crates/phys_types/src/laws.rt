@@ -6,7 +6,6 @@ ghost use Rattle.cc_base.specs.declared.number.TypeId.{TypeId};
 ghost use Rattle.cc_base.specs.declared.number.NodeId.{NodeId};
 ghost use Rattle.cc_base.specs.declared.kind.Kind.{Kind};
 ghost use Rattle.c_types.specs.Table.{Table};
-ghost use Rattle.c_types.specs.Cells.{alike};
 ghost use Rattle.c_types.specs.Equality.{tile, begins_with};
 ghost use Rattle.c_types.specs.Flows.{IsOfOneClass, Covers};
 ghost use Rattle.c_types.specs.Sound.{IsWellFormed};

@@ -1,7 +1,7 @@
 //! What a row asks, by its word.
 ghost use Rattle.std.specs.Prelude.{◌≤◌, length};
 
-use crate::objects::{Wanted, declared, layout, typed_expression};
+use crate::objects::{Asked, alone};
 use crate::parts::{declarator, expression, specifiers, unit};
 use c_expr_parse::Level;
 use c_front::typed;
@@ -39,14 +39,14 @@ fn known(alloc: Global, word: &str, text: &[u8]) -> Result<String, Fault>
     requires { length text.now ≤ 1048576 }
 {
     match word {
-        "value" => typed_expression(alloc, text, Wanted::Value),
-        "char" => typed_expression(alloc, text, Wanted::Char),
-        "constant" => typed_expression(alloc, text, Wanted::Constant),
-        "layout" => layout(alloc, text),
-        "type" => declared(alloc, text, Naming::None),
-        "static" => declared(alloc, text, Naming::Static),
-        "local" => declared(alloc, text, Naming::Local),
-        "known" => declared(alloc, text, Naming::Known(NodeId(1))),
+        "value" => alone(alloc, text, Asked::Value),
+        "char" => alone(alloc, text, Asked::Char),
+        "constant" => alone(alloc, text, Asked::Constant),
+        "layout" => alone(alloc, text, Asked::Layout),
+        "type" => alone(alloc, text, Asked::Declared(Naming::None)),
+        "static" => alone(alloc, text, Asked::Declared(Naming::Static)),
+        "local" => alone(alloc, text, Asked::Declared(Naming::Local)),
+        "known" => alone(alloc, text, Asked::Declared(Naming::Known(NodeId(1)))),
         "library" => Ok(library(alloc, text)?),
         "globals" => Ok(globals(alloc, str::from_utf8(text).unwrap_or(""))?),
         _ => Ok(String::from_str(alloc, "no such word")?),

@@ -6,7 +6,7 @@ use c_check_expr::{
 };
 use c_expr_parse::{Level, parse_declarator, parse_expr, parse_specifiers};
 use c_lexer::tokens;
-use c_tree::{Declarator, Expr, Specifiers};
+use c_tree::{Declarator, Expr, Specifiers, TypedExpr};
 use c_types::{TypeShape, Types};
 use cc_base::{Fault, NodeId, Place, TypeId};
 use indexmap::IndexSet;
@@ -40,72 +40,87 @@ fn read_expression(alloc: Global, text: &[u8]) -> Result<Expr, Fault>
     }
 }
 
-/// What an expression is judged as.
+/// What is asked of a text before which no other stands.
 #[derive(Clone, Copy)]
-pub(crate) enum Wanted {
+pub(crate) enum Asked {
+    /// The type of an expression.
     Value,
-    /// What initialises a `char` at 7:3.
+    /// The type of what initialises a `char` at 7:3.
     Char,
+    /// The type and the value of a constant expression.
     Constant,
+    /// The size and the alignment of what is declared, and where its members are.
+    Layout,
+    /// The type of what is declared so, its home, and how many nodes there are then.
+    Declared(Naming),
 }
 
-/// The type of an expression.
-fn value(alloc: Global, scope: &mut Scope, types: &mut Types, e: &Expr) -> Result<String, Fault> {
-    match check_expr(scope, types, e) {
-        Ok(made) => made_of(alloc, types, made.ty()),
-        Err(fault) => Err(fault),
+/// What an expression is judged as, with its value where it is to be a constant.
+fn judged(
+    scope: &mut Scope,
+    types: &mut Types,
+    e: &Expr,
+    asked: Asked,
+) -> Result<(TypedExpr, Option<i128>), Fault> {
+    match asked {
+        Asked::Char => {
+            let at = Place { line: 7, col: 3 };
+            match check_value(scope, types, CHAR, at, true, e) {
+                Ok(made) => Ok((made, None)),
+                Err(fault) => Err(fault),
+            }
+        }
+        Asked::Constant => match check_constant(scope, types, e) {
+            Ok((made, value)) => Ok((made, Some(value))),
+            Err(fault) => Err(fault),
+        },
+        _ => match check_expr(scope, types, e) {
+            Ok(made) => Ok((made, None)),
+            Err(fault) => Err(fault),
+        },
     }
 }
 
-/// The type of an expression that initialises a `char`.
-fn for_char(
+/// A type, and a value of it where there is one.
+fn with_value(
+    alloc: Global,
+    types: &Types,
+    ty: TypeId,
+    value: Option<i128>,
+) -> Result<String, Fault> {
+    let mut out = made_of(alloc, types, ty)?;
+    if let Some(value) = value {
+        write!(out, " {value}")?;
+    }
+    Ok(out)
+}
+
+/// The type of an expression, and its value where it is to be a constant.
+fn typed(
     alloc: Global,
     scope: &mut Scope,
     types: &mut Types,
     e: &Expr,
+    asked: Asked,
 ) -> Result<String, Fault> {
-    let at = Place { line: 7, col: 3 };
-    match check_value(scope, types, CHAR, at, true, e) {
-        Ok(made) => made_of(alloc, types, made.ty()),
-        Err(fault) => Err(fault),
-    }
-}
-
-/// A type and a value of it.
-fn with_value(alloc: Global, types: &Types, ty: TypeId, value: i128) -> Result<String, Fault> {
-    let shape = made_of(alloc, types, ty)?;
-    Ok(format!(in alloc; "{shape} {value}")?)
-}
-
-/// The type and the value of a constant expression.
-fn constant(
-    alloc: Global,
-    scope: &mut Scope,
-    types: &mut Types,
-    e: &Expr,
-) -> Result<String, Fault> {
-    match check_constant(scope, types, e) {
+    match judged(scope, types, e, asked) {
         Ok((made, value)) => with_value(alloc, types, made.ty(), value),
         Err(fault) => Err(fault),
     }
 }
 
-/// What is judged of an expression before any other text.
-fn judged(alloc: Global, e: &Expr, wanted: Wanted) -> Result<String, Fault> {
-    let (mut scope, mut types) = before(alloc)?;
-    match wanted {
-        Wanted::Value => value(alloc, &mut scope, &mut types, e),
-        Wanted::Char => for_char(alloc, &mut scope, &mut types, e),
-        Wanted::Constant => constant(alloc, &mut scope, &mut types, e),
-    }
-}
-
-/// What is judged of the expression that a text is.
-pub(crate) fn typed_expression(alloc: Global, text: &[u8], wanted: Wanted) -> Result<String, Fault>
+/// The same of the expression that a text is.
+fn expression(
+    alloc: Global,
+    scope: &mut Scope,
+    types: &mut Types,
+    text: &[u8],
+    asked: Asked,
+) -> Result<String, Fault>
     requires { length text.now ≤ 1048576 }
 {
     match read_expression(alloc, text) {
-        Ok(e) => judged(alloc, &e, wanted),
+        Ok(e) => typed(alloc, scope, types, &e, asked),
         Err(fault) => Err(fault),
     }
 }
@@ -158,17 +173,6 @@ fn with_home(
     Ok(out)
 }
 
-/// The type of what a text declares, its home, and how many nodes there are then.
-pub(crate) fn declared(alloc: Global, text: &[u8], naming: Naming) -> Result<String, Fault>
-    requires { length text.now ≤ 1048576 }
-{
-    let (mut scope, mut types) = before(alloc)?;
-    match object(alloc, &mut scope, &mut types, text, naming) {
-        Ok((ty, home)) => with_home(alloc, &types, ty, home, scope.next_node()),
-        Err(fault) => Err(fault),
-    }
-}
-
 /// Adds the size and the alignment of a type in bytes.
 fn add_layout(out: &mut String, types: &Types, ty: TypeId) -> Result<(), AllocError> {
     if ty.0 >= types.count() || !types.is_complete(ty) {
@@ -203,13 +207,36 @@ fn laid_out(alloc: Global, types: &Types, ty: TypeId) -> Result<String, Fault> {
     Ok(out)
 }
 
-/// The size and the alignment of what a text declares, and where its members are.
-pub(crate) fn layout(alloc: Global, text: &[u8]) -> Result<String, Fault>
+/// What is declared, as it is asked.
+fn declared(
+    alloc: Global,
+    scope: &mut Scope,
+    types: &mut Types,
+    text: &[u8],
+    asked: Asked,
+) -> Result<String, Fault>
+    requires { length text.now ≤ 1048576 }
+{
+    let naming = match asked {
+        Asked::Declared(naming) => naming,
+        _ => Naming::Static,
+    };
+    let (ty, home) = object(alloc, scope, types, text, naming)?;
+    match asked {
+        Asked::Layout => laid_out(alloc, types, ty),
+        _ => with_home(alloc, types, ty, home, scope.next_node()),
+    }
+}
+
+/// What is answered to a text before which no other stands.
+pub(crate) fn alone(alloc: Global, text: &[u8], asked: Asked) -> Result<String, Fault>
     requires { length text.now ≤ 1048576 }
 {
     let (mut scope, mut types) = before(alloc)?;
-    match object(alloc, &mut scope, &mut types, text, Naming::Static) {
-        Ok((ty, _)) => laid_out(alloc, &types, ty),
-        Err(fault) => Err(fault),
+    match asked {
+        Asked::Layout | Asked::Declared(_) => {
+            declared(alloc, &mut scope, &mut types, text, asked)
+        }
+        _ => expression(alloc, &mut scope, &mut types, text, asked),
     }
 }

@@ -91,6 +91,13 @@ fn assignment(operator: Assignment) -> &'static [u8] {
     }
 }
 
+fn member(operator: MemberOperator) -> &'static [u8] {
+    match operator {
+        MemberOperator::Dot => b"{. ",
+        MemberOperator::Arrow => b"{-> ",
+    }
+}
+
 fn aggregate(kind: AggregateKind) -> &'static [u8] {
     match kind {
         AggregateKind::Struct => b"struct ",
@@ -132,6 +139,19 @@ impl<'a> Writing<'a> {
             Expr::String(_) => self.put(&[Text(b"\"")]),
             Expr::Paren(_, e) => self.put(&[Text(b"("), Piece::Expr(e.get()), Text(b")")]),
             Expr::Index(a, _, i) => self.two(b"{[] ", a.get(), i.get()),
+            Expr::Postfix(e, Step::Increment, _) => self.one(b"{after++ ", e.get()),
+            Expr::Postfix(e, Step::Decrement, _) => self.one(b"{after-- ", e.get()),
+            Expr::Prefix(operator, _, e) => self.one(unary(*operator), e.get()),
+            Expr::Infix(operator, a, _, b) => self.two(binary(*operator), a.get(), b.get()),
+            Expr::Assign(operator, a, _, b) => self.two(assignment(*operator), a.get(), b.get()),
+            Expr::Comma(a, b) => self.two(b"{, ", a.get(), b.get()),
+            other => self.longer(other),
+        }
+    }
+
+    /// Calls, members, types in expressions, and `?:`.
+    fn longer(&mut self, e: &'a Expr) -> Written {
+        match e {
             Expr::Call(f, _, arguments) => self.put(&[
                 Text(b"{call "),
                 Piece::Expr(f.get()),
@@ -139,18 +159,12 @@ impl<'a> Writing<'a> {
                 Text(b"}"),
             ]),
             Expr::Member(e, operator, _, name) => self.put(&[
-                Text(match operator {
-                    MemberOperator::Dot => b"{. ",
-                    MemberOperator::Arrow => b"{-> ",
-                }),
+                Text(member(*operator)),
                 Piece::Expr(e.get()),
                 Text(b" "),
                 Text(name.bytes.as_slice()),
                 Text(b"}"),
             ]),
-            Expr::Postfix(e, Step::Increment, _) => self.one(b"{after++ ", e.get()),
-            Expr::Postfix(e, Step::Decrement, _) => self.one(b"{after-- ", e.get()),
-            Expr::Prefix(operator, _, e) => self.one(unary(*operator), e.get()),
             Expr::SizeOfType(_, _, t) => {
                 self.put(&[Text(b"{sizeof "), Type(t.get()), Text(b"}")])
             }
@@ -161,7 +175,6 @@ impl<'a> Writing<'a> {
                 Piece::Expr(e.get()),
                 Text(b"}"),
             ]),
-            Expr::Infix(operator, a, _, b) => self.two(binary(*operator), a.get(), b.get()),
             Expr::Conditional(c, _, a, b) => self.put(&[
                 Text(b"{? "),
                 Piece::Expr(c.get()),
@@ -171,8 +184,7 @@ impl<'a> Writing<'a> {
                 Piece::Expr(b.get()),
                 Text(b"}"),
             ]),
-            Expr::Assign(operator, a, _, b) => self.two(assignment(*operator), a.get(), b.get()),
-            Expr::Comma(a, b) => self.two(b"{, ", a.get(), b.get()),
+            _ => Ok(()),
         }
     }
 

@@ -25,7 +25,7 @@ use Rattle.c_typing.specs.Scopes.{Name, Scopes, here, entering, is_complete_at}
 use Rattle.c_typing.specs.Conversions.{is_plain, is_allocation, is_taken_over}
 use Rattle.c_typing.specs.Rules.{is_made_of_place, runtime_named}
 use Rattle.c_typing.specs.Declarators
-use Rattle.c_typing.specs.Typing.{IsTyped, IsPlace, IsTypeName, AreSpecifiers, AreListed, IsForm, IsCore, AreParts, AreParameters, IsDeclared, AreMembers, AreMemberDeclarators, AreEnumerators, BeginsAggregate, tag_named_here, enumerating}
+use Rattle.c_typing.specs.Typing.{IsTyped, IsPlace, IsTypeName, AreSpecifiers, AreListed, IsForm, IsCore, AreParts, AreParameters, IsDeclared, AreMembers, AreMemberDeclarators, AreEnumerators, BeginsAggregate, tag_named_here, enumerating, is_taken_enumeration}
 use Rattle.c_typing.specs.Tests
 
 abbrev pub Fails : List Tests.Test → Fault → Type 0
@@ -235,7 +235,7 @@ abbrev mutual
   RefusesSpecifier T before (tree.Enumeration at name brace all comma) s f =
       RefusesEnumerators T all (enumerating name s) f
       ⊎ ((list : TypedEnumerators) × (m : Scopes) × AreEnumerators T list (enumerating name s) m × (erased_enumerators list ≡ all)
-      × Fails (Tests.enumeration_tests (Tests.has_some (tag_named_here s name)) (tag_place at name) ++ Tests.word_tests at (one_named before)) f)
+      × Fails (Tests.enumeration_tests (is_taken_enumeration (tag_named_here m name)) (tag_place at name) ++ Tests.word_tests at (one_named before)) f)
 
   pub RefusesMembers : Table → tree.Members → Scopes → Fault → Type 0
   RefusesMembers T tree.NoMember s f = ⊥

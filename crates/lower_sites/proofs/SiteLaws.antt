@@ -5,9 +5,9 @@ use Rattle.std.proofs.Math.Seq.{take-suc}
 use Rattle.std.specs.List.{filter_map}
 use Rattle.cc_base.specs.declared.number.NodeId.{NodeId}
 use Rattle.cc_base.specs.declared.number.TypeId.{TypeId}
-use Rattle.c_types.specs.declared.site.Site.{Site}
-use Rattle.c_types.specs.declared.site.Site.TheVariants as site
-use Rattle.c_types.specs.Solutions.{sites_of_shape, sites_of_table}
+use Rattle.kind_sites.specs.declared.site.Site.{Site}
+use Rattle.kind_sites.specs.declared.site.Site.TheVariants as site
+use Rattle.kind_sites.specs.Solutions.{sites_of_shape, sites_of_table}
 use Rattle.c_types.specs.Table.{Entry, Table, shape_at, void_entry}
 use Rattle.c_tree.specs.TypedTree.{TypedTranslationUnit}
 use Rattle.c_tree.specs.TypedParts.{DefinedFunction, MadeObject, functions_of, statics_of}

@@ -23,7 +23,7 @@ use Rattle.src_mem.specs.Memory as objects
 use Rattle.src_mem.specs.Memory.{Object, depth_of_object}
 use Rattle.src_mem.specs.State as source
 use Rattle.src_mem.specs.State.{Setting, Defined}
-use Rattle.src_mem.specs.Checks.{IsMadeFor, IsNotOfFrame, IsFunctionOf, HasRoom, depth_limit, frame_limit, has_room, fits_between, function_passes, function_passes_or_none, conditions_of_allocation, holds}
+use Rattle.src_mem.specs.Checks.{IsMadeFor, IsNotOfFrame, IsFunctionOf, HasRoom, depth_limit, source_frame_limit, has_room, fits_between, function_passes, function_passes_or_none, conditions_of_allocation, holds}
 use Rattle.src_mem.specs.Facts.{IsTypedAt, IsWildAt}
 use Rattle.src_mem.specs.Outlines.{outlines_of}
 use Rattle.src_mem.proofs.Outlines.{has-outline}
@@ -111,9 +111,9 @@ roomy-end start (frame ∷ frames) h r =
     let i = roomy-end start frames h.3 r.1 in let a = h.0 in let b = r.0 in omega (arith, i, a, b)
 
 pub frames-fit-alike : (w : Setting) (number_of : TypeId → ℕ) (s : source.State) (c : flat.State) (areas : List Area) (charge depth : ℕ) → Related w number_of s c
-    → length c.memory.frames ≡ depth → c.memory.bounds.stack_limit ≡ frame_limit → c.memory.bounds.stack_end ≡ c.memory.bounds.stack_start + 3 * frame_limit
+    → length c.memory.frames ≡ depth → c.memory.bounds.stack_limit ≡ source_frame_limit → c.memory.bounds.stack_end ≡ c.memory.bounds.stack_start + 3 * source_frame_limit
     → areas_size areas ≤ 3 * charge
-    → fits c.memory areas charge ≡ (nat_lt depth depth_limit && nat_le (s.memory.frame_bytes + charge) frame_limit)
+    → fits c.memory areas charge ≡ (nat_lt depth depth_limit && nat_le (s.memory.frame_bytes + charge) source_frame_limit)
 frames-fit-alike w number_of s c areas charge depth r deep limit end room =
     ap (λ n. nat_lt n 1024 && (nat_le (charges c.memory.frames + charge) c.memory.bounds.stack_limit && nat_le (next_frame c.memory + areas_size areas) c.memory.bounds.stack_end)) deep
     ∙ ap (λ n. nat_lt depth 1024 && (nat_le (n + charge) c.memory.bounds.stack_limit && nat_le (next_frame c.memory + areas_size areas) c.memory.bounds.stack_end)) r.room.frame_charge

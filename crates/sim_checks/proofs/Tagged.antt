@@ -12,7 +12,7 @@ use Rattle.cc_base.specs.declared.kind.Kind.{Kind}
 use Rattle.cc_base.specs.declared.kind.Kind.TheVariants.{Wild}
 use Rattle.cc_base.specs.declared.number.TypeId.{TypeId}
 use Rattle.cc_base.specs.declared.place.Place.{Place}
-use Rattle.c_types.specs.declared.site.Site.{Site}
+use Rattle.kind_sites.specs.declared.site.Site.{Site}
 use Rattle.integers.specs.Words.{word, residue}
 use Rattle.integers.specs.Operators.{difference_words}
 use Rattle.integers.proofs.SignedLaws.{IsReach, in_area-word, difference-word}

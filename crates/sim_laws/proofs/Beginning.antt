@@ -19,7 +19,7 @@ use Rattle.src_mem.specs.Pointers.{Value, Integer, Address}
 use Rattle.src_mem.specs.Memory.{Object, Planned, new_variable, frame_charge}
 use Rattle.src_mem.specs.State as source
 use Rattle.src_mem.specs.State.{Setting, Defined}
-use Rattle.src_mem.specs.Checks.{depth_limit, frame_limit}
+use Rattle.src_mem.specs.Checks.{depth_limit, source_frame_limit}
 use Rattle.src_mem.specs.Primitives as primitive
 use Rattle.src_mem.specs.Outlines.{Life, outline, life, outlines_of, lives_of}
 use Rattle.src_mem.specs.Uses.{home}
@@ -83,7 +83,7 @@ related-noted p s c k r = record {
 }
 
 module _ (p : Programs) (variables : List Planned) (is : IsPlanned p variables) (b : Running) (s : source.State) (c : flat.State) (k : ℕ) (there : There p b s c)
-    (room : (nat_lt (suc b.depth) depth_limit && nat_le (s.memory.frame_bytes + frame_charge p.whole.table variables) frame_limit) ≡ true) where
+    (room : (nat_lt (suc b.depth) depth_limit && nat_le (s.memory.frame_bytes + frame_charge p.whole.table variables) source_frame_limit) ≡ true) where
   abbrev w : Setting
   w = setting_of p
 

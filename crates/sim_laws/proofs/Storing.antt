@@ -10,7 +10,7 @@ use Rattle.cc_base.specs.declared.place.Place.{Place}
 use Rattle.c_types.specs.declared.shape.TypeShape.{TypeShape}
 use Rattle.c_types.specs.Table.{IsComplete, members_at, is_complete_entry, is_function}
 use Rattle.c_types.specs.Layouts.{size_of}
-use Rattle.c_types.specs.Solutions.{SpreadsWild}
+use Rattle.kind_sites.specs.Solutions.{SpreadsWild}
 use Rattle.runs.specs.Outcome.{Outcome, Done, done, from}
 use Rattle.runs.specs.Control.{Goes, then_go}
 use Rattle.flat_mem.specs.Bytes.{bytes_at}

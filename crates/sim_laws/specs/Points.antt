@@ -2,7 +2,7 @@
 use Rattle.std.specs.Prelude.{◌≡◌, ◌⊎◌, ℕ, suc, ◌+◌, ◌^◌, ◌<◌, ◌≤◌, ⊤, true, false, List, length, slice_get, slice_index, Option, Some}
 use Rattle.cc_base.specs.declared.kind.Kind.{Kind}
 use Rattle.cc_base.specs.declared.number.TypeId.{TypeId}
-use Rattle.c_types.specs.declared.site.Site.{Site}
+use Rattle.kind_sites.specs.declared.site.Site.{Site}
 use Rattle.flat_mem.specs.Bytes.{IsAccessSize, AreBytes}
 use Rattle.flat_mem.specs.Memory.{newest_addresses, bounds_of}
 use Rattle.src_mem.specs.Pointers.{Pointer, Value, Address}

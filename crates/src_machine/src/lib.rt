@@ -11,7 +11,7 @@ ghost use Rattle.src_mem.specs.Laws.{AreWhole};
 ghost use Rattle.src_mem.specs.RunLaws.{AllLie};
 ghost use Rattle.src_machine.specs.Laws.{EachRun};
 ghost use Rattle.src_machine.specs.Switches.{SwitchesRunWhatIsBehind};
-ghost use Rattle.c_types.specs.declared.site.Site.TheVariants.{Pointee, Home, Linked, Flow, Same};
+ghost use Rattle.kind_sites.specs.declared.site.Site.TheVariants.{Pointee, Home, Linked, Flow, Same};
 ghost use Rattle.src_machine.specs.Sites.{sites_of};
 ghost use Rattle.src_machine.specs.Small.{node, type, char, int, at, at_line, access, Shows};
 ghost use Rattle.src_machine.specs.Programs.{null_read, past_the_end, stepped_over, address_kept, address_program, address_table, hidden_program, hidden_table, redeclared_program, redeclared_table, freed_read, size_of_pointer, union_read, divided_by_zero, echoes, goes_on, recursion, recursion_at, moved_too_far, cast_down, called_otherwise, struct_kept, hashed_and_compared, controlled, initialised, null_freed, integer_as_address, copied_from_choice, copied_from_comma, copied_from_assignment, chosen, block_typedefs, block_typedefs_table, compared_with_null};

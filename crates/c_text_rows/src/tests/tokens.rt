@@ -1,4 +1,4 @@
-use c_lexer::{IntegerType, Keyword, Punctuator, TokenKind, end_of, literal_bytes, tokens};
+use c_lexer::{IntegerType, Keyword, Punctuator, Token, TokenKind, end_of, literal_bytes, tokens};
 use cc_base::{Fault, Place, Rule};
 use std::alloc::Global;
 use std::test::Fail;
@@ -164,6 +164,56 @@ fn character_constants_have_the_value_of_a_signed_char(rt: HostRuntime) -> Resul
             Some(TokenKind::Character(*value))
         );
     }
+    Ok(())
+}
+
+/// The keywords of C99 6.4.1 that the language leaves out.
+const LEFT_OUT: [&[u8]; 6] = [
+    b"double",
+    b"float",
+    b"goto",
+    b"_Bool",
+    b"_Complex",
+    b"_Imaginary",
+];
+
+fn is_keyword(token: &Token) -> bool {
+    match token.kind() {
+        TokenKind::Keyword(word) => word.spelling() == token.bytes(),
+        _ => false,
+    }
+}
+
+fn is_punctuator(token: &Token) -> bool {
+    match token.kind() {
+        TokenKind::Punctuator(mark) => mark.spelling() == token.bytes(),
+        _ => false,
+    }
+}
+
+// The other keywords of C99 6.4.1, in its order.
+#[test]
+fn each_keyword_of_c99_is_known(rt: HostRuntime) -> Result<(), Fail> {
+    let text = b"auto break case char const continue default do else enum extern for if inline int \
+        long register restrict return short signed sizeof static struct switch typedef union \
+        unsigned void volatile while";
+    let list = tokens(rt.alloc(), text)?;
+    assert_eq!(rt; list.len(), 31);
+    assert!(rt; list.iter().all(|token| is_keyword(token)));
+    for word in &LEFT_OUT {
+        assert_eq!(rt; refusal(rt.alloc(), word), Some((1, 1, Rule::Unsupported)));
+    }
+    Ok(())
+}
+
+// Those of C99 6.4.6 in its order, without `...` and digraphs.
+#[test]
+fn each_punctuator_of_c99_is_known(rt: HostRuntime) -> Result<(), Fail> {
+    let text = b"[ ] ( ) { } . -> ++ -- & * + - ~ ! / % << >> < > <= >= == != ^ | && || ? : ; \
+        = *= /= %= += -= <<= >>= &= ^= |= , # ##";
+    let list = tokens(rt.alloc(), text)?;
+    assert_eq!(rt; list.len(), 47);
+    assert!(rt; list.iter().all(|token| is_punctuator(token)));
     Ok(())
 }
 

@@ -205,6 +205,28 @@ fn tmove_reads_all_before_it_writes(rt: HostRuntime) -> Result<(), Fail> {
 }
 
 #[test]
+fn tmove_reads_all_where_words_and_base_words_cross(rt: HostRuntime) -> Result<(), Fail> {
+    let mut flat = Flat::new(rt.alloc(), &small_plan(rt.alloc())?)?;
+    // The word at 16 is the length of an area at 24: its base words stand one word behind its words, and the tags of its
+    // words 1 to 3 are bits 1 to 3 of the byte at 40.
+    store(&rt, &mut flat, 16, 8);
+    store(&rt, &mut flat, 32, 0x1100);
+    store(&rt, &mut flat, 40, 0x220A);
+    store(&rt, &mut flat, 48, 0x3300);
+    store(&rt, &mut flat, 56, 0x4405);
+    // The words at 32 to 48 go down to 24, over base words that go up, from 40 to 48, over words. The tags go to bits 1 to
+    // 3 of the byte at 64, in the last base word.
+    tmove(&rt, &mut flat, 24, FIRST, 32, 24, 24);
+    let mut at = 16;
+    for want in [8, 0x1100, 0x220A, 0x3300, 0x220A, 0x3300, 0x440B, 72] {
+        assert_eq!(rt; load(&rt, &flat, at, 8), want, "at {at}");
+        assert!(rt; at < 1000);
+        at += 8;
+    }
+    Ok(())
+}
+
+#[test]
 fn tdepth_is_the_greatest_of_the_tagged_words(rt: HostRuntime) -> Result<(), Fail> {
     let mut flat = Flat::new(rt.alloc(), &small_plan(rt.alloc())?)?;
     let area = Area {

@@ -1,0 +1,152 @@
+-- What the declarator of a definition tells of the scope that the list of parameters nearest to its name leaves.
+use Rattle.std.proofs.Common.{◌≡◌, Bool, true, false, ◌&&◌, List, [], ◌∷◌, map, Option, None, Some, refl, ap, sym, subst, ◌∙◌, true≢false, if◌then◌else◌}
+use Rattle.cc_base.specs.declared.place.Place.{Place}
+use Rattle.c_tree.specs.declared.expr.Core.TheOpen as layer
+use Rattle.c_tree.specs.declared.expr.Core.TheFolds.{fold_out-Part}
+use Rattle.c_tree.specs.declared.expr.Part.{Part}
+use Rattle.c_tree.specs.declared.leaf.Identifier.{Identifier}
+use Rattle.c_tree.specs.declared.leaf.Star.{Star}
+use Rattle.c_tree.specs.declared.typed_word.TypedStar.{TypedStar}
+use Rattle.c_tree.specs.Tree as tree
+use Rattle.c_tree.specs.Tree.{Parameters}
+use Rattle.c_tree.specs.TypedTree as typed
+use Rattle.c_tree.specs.TypedTree.{TypedCore, TypedForm, TypedParts}
+use Rattle.c_tree.specs.Views.{added, part_view, part_layer, core_layer, enumerator_layer, expr_layer, specifier_layer, declarator_layer, members_layer, parameter_layer, specifiers_layer, type_name_layer}
+use Rattle.c_typing.specs.declared.naming.Naming.{Naming}
+use Rattle.c_typing.specs.Declaring.{home_as, stars_with_nodes}
+use Rattle.c_typing.specs.Judging.{State, Judging, Gives, next, pure}
+use Rattle.c_typing.specs.Scopes.{Level, empty_level}
+use Rattle.c_typing.specs.Walks.{judge_core, judge_form, judge_parts}
+use Rattle.c_typing_laws.proofs.Outcomes.{bind-gives, gives-state}
+use Rattle.c_unit_typing.specs.ParameterScopes.{level_given, parameters_written, scope_of_core, scope_of_declarator, scope_of_list}
+use Rattle.c_unit_typing.specs.Units.{unless_pointer}
+use Rattle.c_check_expr.specs.Leaving.{AreLeaving, Tells, is_bare}
+
+-- where nothing follows
+pub tells-none : (f : Option Parameters → Judging Level) (bare : Bool) (level : Level) (s r : State) → Tells f bare level s r → level_given (f None s) ≡ level
+unfolding scope_of_list
+tells-none f true level s r t = ap level_given (t.follows refl None) ∙ sym (t.nothing refl)
+tells-none f false level s r t = t.leaves refl None
+
+-- Cores
+
+pub names-tell : (which : Naming) (at : Place) (name : Identifier) (one : TypedCore) (s r : State) → judge_core which at (tree.Names name) s ≡ Gives one r
+    → Tells (scope_of_core which at (tree.Names name)) true empty_level s r
+unfolding judge_core scope_of_core
+names-tell which at name one s r h =
+    let two = bind-gives (home_as at which s) (λ home. pure (typed.Names name home)) one r h in
+    let state = gives-state (typed.Names name two.0) one two.1 r two.3 in
+    record {
+      follows = λ b outer. ap (λ o. next o (λ home. scope_of_list outer)) two.2 ∙ ap (scope_of_list outer) state;
+      nothing = λ b. refl;
+      leaves = λ b. absurd (true≢false b);
+    }
+
+pub unnamed-tells : (which : Naming) (at : Place) (one : TypedCore) (s r : State) → judge_core which at tree.Unnamed s ≡ Gives one r
+    → Tells (scope_of_core which at tree.Unnamed) true empty_level s r
+unfolding judge_core scope_of_core
+unnamed-tells which at one s r h =
+    record {
+      follows = λ b outer. ap (scope_of_list outer) (gives-state typed.Unnamed one s r h);
+      nothing = λ b. refl;
+      leaves = λ b. absurd (true≢false b);
+    }
+
+pub nested-tells : (which : Naming) (at paren : Place) (d : tree.Declarator) (bare : Bool) (level : Level) (s r : State)
+    → Tells (scope_of_declarator which at d) bare level s r → Tells (scope_of_core which at (tree.Nested paren d)) bare level s r
+unfolding scope_of_core
+nested-tells which at paren d bare level s r t = record { follows = t.follows; nothing = t.nothing; leaves = t.leaves }
+
+-- Parts
+
+pub no-part-leaves : (s : State) → AreLeaving [] empty_level s
+unfolding scope_of_list
+no-part-leaves s outer none = ap (λ o. level_given (scope_of_list o s)) (none refl)
+
+abbrev Layer : (Type 0 → Type 0 → Type 0 → Type 0 → Type 0 → Type 0 → Type 0 → Type 0 → Type 0 → Type 0 → Type 0) → Type 0
+Layer L = L tree.Core (tree.Enumerators → tree.Enumerators) tree.Expr (tree.Parts → tree.Parts) tree.Specifier tree.Declarator
+    (tree.Members → tree.Members) (tree.Parameters → tree.Parameters) tree.Specifiers tree.TypeName
+
+-- what is written nearest to the name is written further in than this part, or is this part
+abbrev IsWrittenIn : (tree.Parts → tree.Parts) → Type 0
+IsWrittenIn add = (all : tree.Parts) (outer : Option Parameters) → (found : Option Parameters) × (parameters_written (add all) outer ≡ parameters_written all found)
+
+layer_written : (y : Layer layer.Part-F) → IsWrittenIn (part_layer y)
+layer_written (layer.Array bracket words None) all outer = (None, refl)
+layer_written (layer.Array bracket words (Some e)) all outer = (None, refl)
+layer_written (layer.Function paren parameters) all outer = (Some (added tree.NoParameter parameters), refl)
+
+part_written : (p : Part) → IsWrittenIn (part_view p)
+part_written p =
+    subst IsWrittenIn (sym (fold_out-Part tree.Core (tree.Enumerators → tree.Enumerators) tree.Expr (tree.Parts → tree.Parts) tree.Specifier tree.Declarator
+    (tree.Members → tree.Members) (tree.Parameters → tree.Parameters) tree.Specifiers tree.TypeName
+    core_layer enumerator_layer expr_layer part_layer specifier_layer declarator_layer members_layer parameter_layer specifiers_layer type_name_layer p))
+    (layer_written _)
+
+-- what stands nearest decides, whatever stands outside of it
+nearest_decides : (first : tree.Parts) (rest : List Part) (level : Level) (s : State)
+    → ((outer : Option Parameters) → level_given (scope_of_list (parameters_written first outer) s) ≡ level)
+    → (outer : Option Parameters) → level_given (scope_of_list (parameters_written (added first (map part_view rest)) outer) s) ≡ level
+nearest_decides first [] level s h = h
+nearest_decides first (p ∷ ps) level s h =
+    nearest_decides (part_view p first) ps level s
+    (λ outer. let w = part_written p first outer in ap (λ o. level_given (scope_of_list o s)) w.1 ∙ h w.0)
+
+pub parts-leave : (first : Part) (rest : List Part) (level : Level) (s : State)
+    → ((outer : Option Parameters) → level_given (scope_of_list (parameters_written (part_view first tree.NoPart) outer) s) ≡ level) → AreLeaving (first ∷ rest) level s
+parts-leave first rest level s h outer none = nearest_decides (part_view first tree.NoPart) rest level s h outer
+
+-- Declarators
+
+module _ (which : Naming) (at : Place) (core : tree.Core) (list : List TypedStar) (made : TypedParts) (inner level : Level) (s m n r : State) where
+  abbrev Whole : List Star → List Part → Option Parameters → Judging Level
+  Whole stars parts = scope_of_declarator which at (tree.Declares stars core (added tree.NoPart (map part_view parts)))
+
+  -- the list that is written nearest, where these parts stand between a core and its stars
+  abbrev Written : List Star → List Part → Option Parameters → Option Parameters
+  Written stars parts outer = parameters_written (added tree.NoPart (map part_view parts)) (unless_pointer stars outer)
+
+  behind_stars : (stars : List Star) (parts : List Part) → stars_with_nodes at stars s ≡ Gives list m → (outer : Option Parameters)
+      → Whole stars parts outer s ≡ scope_of_core which at core (Written stars parts outer) m
+  unfolding scope_of_declarator
+  behind_stars stars parts h outer = ap (λ o. next o (λ made. scope_of_core which at core (Written stars parts outer))) h
+
+  -- a core that tells what is left
+  told : (stars : List Star) (parts : List Part) → stars_with_nodes at stars s ≡ Gives list m → Tells (scope_of_core which at core) false inner m n
+      → Tells (Whole stars parts) false inner s r
+  told stars parts h t = record {
+    follows = λ b. absurd (true≢false (sym b));
+    nothing = λ b. absurd (true≢false (sym b));
+    leaves = λ b outer. ap level_given (behind_stars stars parts h outer) ∙ t.leaves refl (Written stars parts outer);
+  }
+
+  -- parts or stars around a bare core
+  around : (stars : List Star) (parts : List Part) → ((outer : Option Parameters) → parts ≡ [] → unless_pointer stars outer ≡ None)
+      → stars_with_nodes at stars s ≡ Gives list m → Tells (scope_of_core which at core) true inner m n → AreLeaving parts level n → Tells (Whole stars parts) false level s r
+  around stars parts none h t a = record {
+    follows = λ b. absurd (true≢false (sym b));
+    nothing = λ b. absurd (true≢false (sym b));
+    leaves = λ b outer.
+        ap level_given (behind_stars stars parts h outer ∙ t.follows refl (Written stars parts outer)) ∙ a (unless_pointer stars outer) (none outer);
+  }
+
+  -- nothing around a bare core
+  alone : stars_with_nodes at [] s ≡ Gives list m → Tells (scope_of_core which at core) true inner m n → AreLeaving [] level n
+      → judge_parts at tree.NoPart n ≡ Gives made r → Tells (Whole [] []) true level s r
+  unfolding judge_parts scope_of_list
+  alone h t a p = record {
+    follows = λ b outer. behind_stars [] [] h outer ∙ t.follows refl outer ∙ ap (scope_of_list outer) (gives-state typed.NoPart made n r p);
+    nothing = λ b. sym (a None (λ e. refl));
+    leaves = λ b. absurd (true≢false b);
+  }
+
+  pub declarator-tells : (stars : List Star) (parts : List Part) (bare : Bool) → stars_with_nodes at stars s ≡ Gives list m
+      → Tells (scope_of_core which at core) bare inner m n → AreLeaving parts level n → judge_parts at (added tree.NoPart (map part_view parts)) n ≡ Gives made r
+      → Tells (Whole stars parts) (bare && is_bare stars parts) (if bare then level else inner) s r
+  declarator-tells stars parts false h t a p = told stars parts h t
+  declarator-tells [] [] true h t a p = alone h t a p
+  declarator-tells [] (first ∷ rest) true h t a p =
+      around [] (first ∷ rest) (λ outer e. absurd (true≢false (sym (ap (λ (ps : List Part). is_bare [] ps) e)))) h t a
+  declarator-tells (star ∷ stars) parts true h t a p = around (star ∷ stars) parts (λ outer e. refl) h t a
+
+pub ruleset leaving = (tells-none, names-tell, unnamed-tells, nested-tells, no-part-leaves, parts-leave, declarator-tells)

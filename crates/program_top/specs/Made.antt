@@ -1,5 +1,5 @@
 -- What is made of texts.
-use Rattle.std.specs.Prelude.{ℕ, ◌≡◌, List, ⊤}
+use Rattle.std.specs.Prelude.{ℕ, ◌≡◌, List}
 use Rattle.cc_base.specs.declared.kind.Kind.{Kind}
 use Rattle.c_tree.specs.declared.typed_unit.Typed.{Typed}
 use Rattle.cil_form.specs.declared.program.Program.{Program}
@@ -8,6 +8,7 @@ use Rattle.kind_solver.specs.declared.solved.Solved.{Solved}
 use Rattle.c_front.specs.Refused.{IsFirstRefusal}
 use Rattle.c_build.specs.Inferred.{HasKinds, IsInferred}
 use Rattle.c_build.specs.Built.{IsCured}
+use Rattle.cured_reading.specs.Faults.{IsUncured}
 use Rattle.program_answers.specs.Texts.{Texts}
 
 -- the text is accepted, and so many of the pointer types for which `kinds` has a line are of each kind
@@ -18,12 +19,11 @@ pub record HasPointers (text : List ℕ) (count : Kind → ℕ) : Type 0 where
   pub inferred : IsInferred text typed code solved
   pub counted : (kind : Kind) → count kind ≡ pointers_of solved.kinds kind typed.printed
 
--- Of a text that is no cured program it is not said yet why.
 abbrev pub texts : Texts
 texts = record {
   IsCured = IsCured;
   HasKinds = HasKinds;
   HasPointers = HasPointers;
   IsRefused = IsFirstRefusal;
-  IsUncured = λ text fault. ⊤;
+  IsUncured = IsUncured;
 }

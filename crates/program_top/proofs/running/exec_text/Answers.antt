@@ -9,4 +9,4 @@ returns-in-Ok g c = c.run_code.ensures (Exec c.args.turns) _ refl c.in-Ok.ensure
 
 pub returns-in-Err : goal.returns-in-Err
 returns-in-Err g c =
-    rw c.of_cured_fault.ensures (uncured_cause c.args.turns _ c.in-Err.fault _ _ (λ other. tt {0}) (nothing_done _ _ refl refl))
+    rw c.of_cured_fault.ensures (uncured_cause c.args.turns _ c.in-Err.fault _ _ c.in-Err.ensures.refused (nothing_done _ _ refl refl))

@@ -5,7 +5,7 @@ use Rattle.indexmap.specs.IndexMap.{insert_entry}
 use Rattle.indexmap.specs.IndexSet.{insert_key}
 use Rattle.c_typing.specs.declared.declared.Declared.{Declared}
 use Rattle.c_typing.specs.Scopes.{Name, entry_of, seen_entries}
-use Rattle.c_typing.proofs.ScopeLaws.{insert-seen}
+use Rattle.named_lists.proofs.EntryLaws.{insert-seen}
 use Rattle.c_unit_typing.specs.Linkage.{with_name}
 
 -- a map of names with one more

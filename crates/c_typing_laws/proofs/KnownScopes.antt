@@ -17,7 +17,7 @@ use Rattle.c_typing.specs.Judging.{State}
 use Rattle.c_typing.specs.Rules.{number_of_shape}
 use Rattle.c_typing.specs.Scopes.{Name, Level, Scopes, entry_of, or_outer, name_in, tag_in, at_innermost, innermost, without_innermost, tag_here, empty_level, with_name, with_tag, with_tag_set}
 use Rattle.c_typing.specs.Settled.{IsThere, IsTagThere, IsLevelThere, AreNumbered, IsKnown}
-use Rattle.c_typing.proofs.ScopeLaws.{entries-with}
+use Rattle.named_lists.proofs.EntryLaws.{entries-with}
 use Rattle.c_typing_laws.proofs.ExtensionLaws.{no_true, still_in}
 
 some_same : {A : Type 0} (a b : A) → Some a ≡ Some b → a ≡ b

@@ -9,8 +9,8 @@ use Rattle.kind_sites.specs.declared.site.Site.TheVariants as site
 use Rattle.c_types.specs.Table.{Table}
 use Rattle.c_tree.specs.declared.leaf.Identifier.{Identifier}
 use Rattle.c_tree.specs.TypedTree.{TypedDeclarator}
-use Rattle.c_typing.specs.Scopes.{Name, entry_of, seen_entries}
-use Rattle.c_typing.proofs.ScopeLaws.{insert-seen}
+use Rattle.named_lists.specs.Entries.{Name, entry_of, seen_entries}
+use Rattle.named_lists.proofs.EntryLaws.{insert-seen}
 use Rattle.src_machine.specs.World.{same_node}
 use Rattle.src_machine.specs.Names.{Named, Which, AnObject, AFunction, first_type, is_same_which, named_by}
 use Rattle.src_machine.specs.Sites.{same_as, sites_of_names}

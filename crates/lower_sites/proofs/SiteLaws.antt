@@ -31,7 +31,7 @@ use Rattle.lower_sites.specs.declared.names.Names.{Names}
 use Rattle.lower_sites.specs.Objects.{home_if_named, site_of_parameter, site_of_planned, site_of_static, sites_of_function, sites_of_objects}
 use Rattle.lower_sites.specs.HomeNames.{home_name}
 use Rattle.lower_sites.specs.Telling.{IsTold, Tells, named_by_all}
-use Rattle.c_typing.specs.Scopes.{entry_of}
+use Rattle.named_lists.specs.Entries.{entry_of}
 
 pub names_told : (u : TypedTranslationUnit) (table : Table) (a b : Names) → Tells (named_by_all table (declarators_in u)) a b
     → a.objects ≡ [] → a.functions ≡ [] → a.sites.items ≡ [] → b.fine ≡ true → b.sites.items ≡ sites_of_names (named_in u table)

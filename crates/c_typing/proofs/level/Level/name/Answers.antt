@@ -1,7 +1,7 @@
 use Rattle.std.proofs.Common.{refl, ap, ◌∙◌}
 use Rattle.std.proofs.lemmas.List.{nil_from_length}
 use Rattle.c_typing.specs.Scopes.{entry_of}
-use Rattle.c_typing.proofs.ScopeLaws.{lookup-seen, none-seen}
+use Rattle.named_lists.proofs.EntryLaws.{lookup-seen, none-seen}
 use Rattle.c_typing.proofs.level.Level.name.Goals as goal
 
 pub returns-then-is_empty : goal.returns-then-is_empty

@@ -17,8 +17,8 @@ use Rattle.c_tree.specs.declared.typed_word.Adjusted.{Adjusted}
 use Rattle.c_tree.specs.Places.{nowhere, expr_place, specifiers_place}
 use Rattle.c_tree.specs.Tree as tree
 use Rattle.c_tree.specs.TypedTree as typed
-use Rattle.c_tree.specs.TypedTree.{TypedExpr, TypedPlace, TypedTypeName, TypedSpecifiers, TypedSpecifierList, TypedForm, TypedCore, TypedParts, TypedParameters, TypedDeclared, TypedMembers, TypedMemberDeclarators, TypedEnumerators}
-use Rattle.c_tree.specs.TypedParts.{named_type, specified_type, name_of_form}
+use Rattle.c_tree.specs.TypedTree.{TypedExpr, TypedTypeName, TypedSpecifiers, TypedSpecifierList, TypedForm, TypedCore, TypedParts, TypedParameters, TypedDeclared, TypedMembers, TypedMemberDeclarators, TypedEnumerators}
+use Rattle.c_tree.specs.TypedParts.{named_type, specified_type, name_of_form, is_void_keyword}
 use Rattle.c_tree.specs.Erasure.{erased, erased_place, erased_type_name, erased_specifiers, erased_specifier_list, erased_form, erased_declared, erased_members, erased_member_declarators, erased_enumerators, erased_parameters, erased_parts, erased_core}
 use Rattle.runtime_calls.specs.Prototypes.{runtime_of}
 use Rattle.c_typing.specs.Scopes.{Name, Scopes, here, entering, is_complete_at}
@@ -158,7 +158,7 @@ BeginsOrStays T which name t s s' =
 -- `(void)`
 abbrev pub is_void_alone : tree.Parameters → Bool
 is_void_alone (tree.AndParameter tree.NoParameter (tree.AndSpecifier tree.NoSpecifier (tree.Keyword word)) tree.NotDeclared) =
-    Declarators.is_void_keyword word.keyword
+    is_void_keyword word.keyword
 is_void_alone parameters = false
 
 abbrev mutual

@@ -2,6 +2,7 @@
 #![tactic(auto)]
 
 ghost use Rattle.std.specs.Prelude.{◌≡◌, [], ◌∷◌, ◌++◌, OnOk, OnErr, None, not};
+ghost use Rattle.c_types.specs.Table.{is_empty};
 ghost use Rattle.c_typing.specs.Scopes.{place_among};
 
 use cc_base::NoMemory;
@@ -16,7 +17,6 @@ pub struct MemberNames(IndexSet<Vec<u8>>);
 impl Model for MemberNames {
     ghost use Rattle.std.specs.Prelude.{List, map};
     ghost use Rattle.c_typing.specs.Scopes.{Name};
-    ghost use Rattle.c_types.specs.Table.{is_empty};
 
     ghost Value = { List Name };
 

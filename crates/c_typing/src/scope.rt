@@ -2,6 +2,7 @@
 #![tactic(auto)]
 
 ghost use Rattle.std.specs.Prelude.{◌≡◌, ◌<◌, ◌≤◌, ◌+◌, true, false, not, OnOk, OnErr, IfOk, IfSome, None, Some, option_copied, [], ◌∷◌, ◌++◌, length, nat_le, map, slice_set};
+ghost use Rattle.c_types.specs.Table.{is_empty};
 ghost use Rattle.c_typing.specs.Scopes.{file_scope, with_scopes, entering, innermost, leaving, declaring, declaring_tag, setting_tag, here, tag_here, name_in, tag_in, place_among, members_named};
 ghost use Rattle.c_typing.specs.Typing.{counting_aggregate};
 
@@ -35,7 +36,6 @@ pub struct Scope {
 impl Model for Scope {
     ghost use Rattle.std.specs.Prelude.{◌∷◌, [], map, ◌≤◌};
     ghost use Rattle.c_typing.specs.Scopes.{Seen};
-    ghost use Rattle.c_types.specs.Table.{is_empty};
 
     ghost Value = { Seen };
 

@@ -2,7 +2,7 @@
 #![tactic(auto)]
 
 ghost use Rattle.std.specs.Prelude.{◌≡◌, IfOk, None, Option, map, if◌then◌else◌};
-ghost use Rattle.c_tree.specs.Tree.{NoPart, Parts};
+ghost use Rattle.c_tree.specs.Tree.{NoPart, Parts, Parameters};
 ghost use Rattle.c_tree.specs.TypedParts.{home_of, specified_type, home_node};
 ghost use Rattle.c_tree.specs.TypedTree.{TypedParts, NoPart as no_typed_part};
 ghost use Rattle.c_tree.specs.Views.{added, core_view, declarator_view, part_view};

@@ -11,7 +11,7 @@ use Rattle.c_typing.specs.Judging.{State, Outcome, Judging, Stops}
 abbrev pub Stays : {X A B : Type 0} → (A → Judging B) → (X → A → A) → Type 0
 Stays {X} {A} {B} judge view = (x : X) (a : A) (s t : State) (fault : Fault) → judge a s ≡ Stops fault t → judge (view x a) s ≡ Stops fault t
 
-stays_behind : {X A B : Type 0} (judge : A → Judging B) (view : X → A → A) → Stays judge view
+pub stays_behind : {X A B : Type 0} (judge : A → Judging B) (view : X → A → A) → Stays judge view
     → (xs : List X) (a : A) (s t : State) (fault : Fault) → judge a s ≡ Stops fault t → judge (added a (map view xs)) s ≡ Stops fault t
 stays_behind judge view stays [] a s t fault p = p
 stays_behind judge view stays (x ∷ xs) a s t fault p = stays_behind judge view stays xs (view x a) s t fault (stays x a s t fault p)

@@ -44,7 +44,7 @@ pub(crate) fn node_at(scope: &mut Scope, at: Place) -> Result<NodeId, Fault>
 
 /// The home of a name, whose node is made where the name stands.
 #[tactic(auto, unfolding(c_typing::specs::Declaring::home_as))]
-fn home_as(scope: &mut Scope, at: Place, which: Naming) -> Result<Home, Fault>
+pub(crate) fn home_as(scope: &mut Scope, at: Place, which: Naming) -> Result<Home, Fault>
     ensures { (table : Table) → Answers (λ home. home) (declaring.home_as at which (known table scope.old)) result (known table scope.new) }
 {
     match which {

@@ -1,11 +1,11 @@
 //! The declarator of a function definition: what its list of parameters declares is seen in the body (C99 6.2.1).
 #![tactic(auto)]
 
-ghost use Rattle.std.specs.Prelude.{◌≡◌, IfOk, None, Option, map, if◌then◌else◌};
-ghost use Rattle.c_tree.specs.Tree.{NoPart, Parts};
+ghost use Rattle.std.specs.Prelude.{◌≡◌, ◌&&◌, IfOk, None, Option, map, if◌then◌else◌};
+ghost use Rattle.c_tree.specs.Tree.{NoPart, AndFunction, NoParameter, Parts, Parameters};
 ghost use Rattle.c_tree.specs.TypedParts.{home_of, specified_type, home_node};
 ghost use Rattle.c_tree.specs.TypedTree.{TypedParts, NoPart as no_typed_part};
-ghost use Rattle.c_tree.specs.Views.{added, core_view, declarator_view, part_view};
+ghost use Rattle.c_tree.specs.Views.{added, core_view, declarator_view, parameter_view, part_view};
 ghost use Rattle.c_tree.specs.TypedViews.{typed_core_view, typed_declarator_view, typed_form_view, typed_part_view, typed_specifiers_view};
 ghost use Rattle.c_check_expr.specs.Leaving.{AreLeaving, Tells, is_bare};
 ghost use Rattle.c_check_expr.specs.Nests.{Nests};
@@ -14,15 +14,16 @@ ghost use Rattle.c_typing.specs.Walks as walks;
 ghost use Rattle.c_unit_typing.specs.ParameterScopes.{level_given, level_of, parameters_written, scope_of_core, scope_of_declarator, scope_of_list};
 
 use crate::checking::{LEVELS, NOWHERE, naming_of, with_type};
-use crate::declarators::stars_with_nodes;
+use crate::declarators::{home_as, stars_with_nodes};
 use crate::walk::{judge_expr, judge_form, judge_specifiers};
 use crate::walker::Walker;
 use c_check_declarators::places::{declarator_name, name_place};
 use c_tree::{
-    Boxed, Core, Declarator, Expr, Items, Part, Specifiers, Star, TypedCore, TypedDeclarator,
-    TypedForm, TypedPart, TypedSpecifiers,
+    Boxed, Core, Declarator, Expr, Items, Parameter, Part, Specifiers, Star, TypedCore,
+    TypedDeclarator, TypedForm, TypedPart, TypedSpecifiers,
 };
 use c_types::Types;
+use c_typing::copies::copied_name;
 use c_typing::level::Level;
 use c_typing::naming::Naming;
 use c_typing::operand::Operand;
@@ -38,12 +39,12 @@ pub(crate) struct Left<T> {
     level: Level,
 }
 
-/// Whether no star and no part stands by a name.
-fn is_bare(stars: &[Star], parts: &[Part]) -> bool
-    ensures { result ≡ is_bare stars.now parts.now }
+/// Whether no star and no part stands by what is bare itself.
+fn stays_bare(inner: bool, stars: &[Star], parts: &[Part]) -> bool
+    ensures { result ≡ (inner && is_bare stars.now parts.now) }
 {
     match (stars, parts) {
-        ([], []) => true,
+        ([], []) => inner,
         _ => false,
     }
 }
@@ -60,8 +61,26 @@ impl<
     S: Fn(&mut Scope, &mut Types, u16, &Specifiers) -> Result<TypedSpecifiers, Fault>,
     D: Fn(&mut Scope, &mut Types, u16, Naming, Place, &Declarator) -> Result<TypedForm, Fault>,
 > Walker<E, S, D> {
+    /// The list of parameters that stands nearest to the name, with the scope that it leaves.
+    #[tactic(auto, using(c_tree::proofs::TypedViewLaws::typed_views, crate::proofs::LeavingLaws::function_nearest))]
+    fn function_left(
+        &self,
+        scope: &mut Scope,
+        types: &mut Types,
+        at: Place,
+        paren: Place,
+        parameters: &[Parameter],
+    ) -> Result<(TypedPart, Level), Fault>
+        requires nests { Nests self.now.depth (E.pre self.now.judge_expr) (E.post self.now.judge_expr) (S.pre self.now.judge_specifiers) (S.post self.now.judge_specifiers) (D.pre self.now.judge_form) (D.post self.now.judge_form) }
+        ensures judged { Answers (λ made. typed_part_view made.0 no_typed_part) (walks.judge_parts at (AndFunction NoPart paren (added NoParameter (map parameter_view parameters.now))) (known types.old scope.old)) result (known types.new scope.new) }
+        ensures left { IfOk result (λ made. (outer : Option Parameters) → level_given (scope_of_list (parameters_written (AndFunction NoPart paren (added NoParameter (map parameter_view parameters.now))) outer) (known types.old scope.old)) ≡ made.1) }
+    {
+        let (list, level) = self.prototype_left(scope, types, at, parameters)?;
+        Ok((TypedPart::Function(paren, list), level))
+    }
+
     /// The part that stands nearest to the name.
-    #[tactic(auto, using(c_tree::proofs::ViewLaws::expr_views, c_tree::proofs::TypedViewLaws::typed_views, crate::proofs::PartLaws::function_judged, crate::proofs::StayLaws::none_judged), unfolding(c_unit_typing::specs::ParameterScopes::scope_of_list))]
+    #[tactic(auto, using(c_tree::proofs::ViewLaws::expr_views, c_tree::proofs::TypedViewLaws::typed_views, crate::proofs::StayLaws::none_judged), unfolding(c_unit_typing::specs::ParameterScopes::scope_of_list))]
     fn nearest_part(
         &self,
         scope: &mut Scope,
@@ -75,8 +94,7 @@ impl<
     {
         match part {
             Part::Function(paren, parameters) => {
-                let (list, level) = self.prototype_left(scope, types, at, parameters.as_slice())?;
-                Ok((TypedPart::Function(*paren, list), level))
+                self.function_left(scope, types, at, *paren, parameters.as_slice())
             }
             part => {
                 let one = self.part(scope, types, at, part)?;
@@ -124,25 +142,25 @@ fn core_left(
     ensures tells { IfOk result (λ left. Tells (scope_of_core which at (core_view core.now)) left.bare left.level (known types.old scope.old) (known types.new scope.new)) }
 {
     match core {
+        Core::Names(name) => {
+            let home = home_as(scope, at, which)?;
+            Ok(Left {
+                one: TypedCore::Names(copied_name(scope.alloc(), name)?, home),
+                bare: true,
+                level: Level::new(scope.alloc()),
+            })
+        }
+        Core::Unnamed => Ok(Left {
+            one: TypedCore::Unnamed,
+            bare: true,
+            level: Level::new(scope.alloc()),
+        }),
         Core::Nested(paren, d) => {
             let form = judge_definition(scope, types, depth, which, at, d.get())?;
             Ok(Left {
                 one: TypedCore::Nested(*paren, Boxed::new(scope.alloc(), form.one)?),
                 bare: form.bare,
                 level: form.level,
-            })
-        }
-        core => {
-            let walker = Walker {
-                depth,
-                judge_expr,
-                judge_specifiers,
-                judge_form,
-            };
-            Ok(Left {
-                one: walker.core(scope, types, which, at, core)?,
-                bare: true,
-                level: Level::new(scope.alloc()),
             })
         }
     }
@@ -180,7 +198,7 @@ fn judge_definition(
             core: inner.one,
             parts,
         },
-        bare: inner.bare && is_bare(d.stars.as_slice(), d.parts.as_slice()),
+        bare: stays_bare(inner.bare, d.stars.as_slice(), d.parts.as_slice()),
         level: nearest(inner.bare, level, inner.level),
     })
 }

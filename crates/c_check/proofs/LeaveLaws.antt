@@ -21,7 +21,7 @@ use Rattle.c_unit_typing.specs.DefinitionJudging.{body}
 use Rattle.c_unit_typing.specs.Linkage.{Linkage}
 use Rattle.c_unit_typing.specs.StatementJudging.{dropped, judge_block_items, judge_statement, promotion, switched, tested, tested_or_none, within}
 use Rattle.c_unit_typing.specs.Units.{Around, going_on, in_a_loop, in_a_switch}
-use Rattle.c_unit_typing.specs.UnitJudging.{UnitState, UnitOutcome, UnitJudging, Gives, Stops, lifted, with_linkage}
+use Rattle.c_unit_typing.specs.UnitJudging.{UnitState, UnitOutcome, UnitJudging, Gives, Stops, lifted, next, with_linkage}
 
 -- the same outcome with another value
 abbrev pub relabel : {A B : Type 0} → A → UnitOutcome B → UnitOutcome A
@@ -311,7 +311,11 @@ body_goes : (brace : Place) (to : TypeId) (level : Level) (items : tree.BlockIte
     → lifted (in_scopes (going_on level) true) s ≡ Gives true i → judge_block_items (record { result = to; in_loop = false; breakable = false }) None items i ≡ Gives list m
     → lifted (left brace true) m ≡ o → body brace (Some to) level items s ≡ relabel list o
 unfolding body
-body_goes brace to level items list s i m o goes lists leaves = rw goes (rw lists (left_with brace list m o leaves))
+body_goes brace to level items list s i m o goes lists leaves =
+    let inside : Around = record { result = to; in_loop = false; breakable = false } in
+    ap (λ (x : UnitOutcome Bool). next x (λ b. λ t. next (judge_block_items inside None items t) (λ made. lifted (left brace made)))) goes
+    ∙ ap (λ (x : UnitOutcome TypedBlockItems). next x (λ made. lifted (left brace made))) lists
+    ∙ left_with brace list m o leaves
 
 pub body_gives : (brace : Place) (to : TypeId) (level : Level) (items : tree.BlockItems) (list : TypedBlockItems) (s i m r : UnitState)
     → lifted (in_scopes (going_on level) true) s ≡ Gives true i → judge_block_items (record { result = to; in_loop = false; breakable = false }) None items i ≡ Gives list m

@@ -5,6 +5,7 @@ ghost use Rattle.std.specs.Prelude.{◌≡◌, ◌&&◌, map, Option, Some, opti
 ghost use Rattle.c_types.specs.Table.{shape_at};
 ghost use Rattle.c_tree.specs.TypedTree as typed;
 ghost use Rattle.c_tree.specs.TypedTree.{TypedParts as SeenParts, TypedParameters as SeenParameters, TypedTranslationUnit};
+ghost use Rattle.c_tree.specs.TypedParts.{declared_type};
 ghost use Rattle.c_tree.specs.Views.{added, declarator_view, specifiers_view};
 ghost use Rattle.c_tree.specs.StatementViews.{block_view};
 ghost use Rattle.c_tree.specs.TypedViews.{typed_core_view, typed_declarator_view, typed_form_view, typed_part_view, typed_specifiers_view, parameters_seen};
@@ -16,6 +17,7 @@ ghost use Rattle.c_typing.specs.Tests.{first_broken, has_some};
 ghost use Rattle.runtime_calls.specs.Prototypes.{runtime_of};
 ghost use Rattle.c_check_context.specs.CodeViews.{storage_view};
 ghost use Rattle.c_check_context.specs.ContextViews.{state_of};
+ghost use Rattle.c_unit_typing.specs.UnitJudging as outcomes;
 ghost use Rattle.c_unit_typing.specs.UnitJudging.{Answers, known_of};
 ghost use Rattle.c_unit_typing.specs.UnitRefusals.{definition_tests, is_function_declared};
 ghost use Rattle.c_unit_typing.specs.Units as units;
@@ -178,6 +180,21 @@ fn body(
     }
 }
 
+/// The body of the function that a declarator declares.
+#[tactic(auto, using(c_tree::proofs::TypedViewLaws::typed_views))]
+fn body_of(
+    context: &mut Context,
+    one: &TypedDeclarator,
+    brace: Place,
+    level: Level,
+    items: &[BlockItem],
+) -> Result<Items<TypedBlockItem>, Fault>
+    ensures { Answers typed_block_view (judging.body brace (judging.result_of (shape_at context.old.types (declared_type (typed_declarator_view one.now)))) level (block_view items.now) (state_of context.old)) result (state_of context.new) }
+{
+    let to = result_of(shape_at(&context.types, one.ty));
+    body(context, brace, to, level, items)
+}
+
 /// The first rule that the name of a function with a body breaks.
 fn broken_by_definition(
     context: &Context,
@@ -253,6 +270,26 @@ fn define_as(
     define(context, name, one.ty)
 }
 
+/// A function whose declarator is judged and defined, with its body.
+#[tactic(auto, using(c_tree::proofs::TypedViewLaws::typed_views))]
+fn with_body(
+    context: &mut Context,
+    specifiers: TypedSpecifiers,
+    declarator: TypedDeclarator,
+    level: Level,
+    f: &FunctionDefinition,
+) -> Result<TypedFunction, Fault>
+    ensures { (before : TypedTranslationUnit) → Answers (λ made. typed.AndFunctionBody before (typed_specifiers_view made.specifiers) (typed_declarator_view made.declarator) made.brace (typed_block_view made.body)) (outcomes.next (judging.body f.now.brace (judging.result_of (shape_at context.old.types (declared_type (typed_declarator_view declarator)))) level (block_view f.now.body) (state_of context.old)) (λ list. outcomes.pure (typed.AndFunctionBody before (typed_specifiers_view specifiers) (typed_declarator_view declarator) f.now.brace list))) result (state_of context.new) }
+{
+    let items = body_of(context, &declarator, f.brace, level, f.body.as_slice())?;
+    Ok(TypedFunction {
+        specifiers,
+        declarator,
+        brace: f.brace,
+        body: items,
+    })
+}
+
 /// A function with its body.
 #[tactic(auto, using(c_tree::proofs::TypedViewLaws::typed_views), unfolding(c_unit_typing::specs::DefinitionJudging::judge_definition))]
 pub(crate) fn definition(
@@ -266,12 +303,5 @@ pub(crate) fn definition(
     let naming = naming_for(true, storage_of(&specifiers), context.first_linked(name));
     let (declarator, level) = context.definition(naming, &specifiers, &f.declarator)?;
     define_as(context, name, &specifiers, &declarator)?;
-    let to = result_of(shape_at(&context.types, declarator.ty));
-    let items = body(context, f.brace, to, level, f.body.as_slice())?;
-    Ok(TypedFunction {
-        specifiers,
-        declarator,
-        brace: f.brace,
-        body: items,
-    })
+    with_body(context, specifiers, declarator, level, f)
 }

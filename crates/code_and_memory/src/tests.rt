@@ -1,4 +1,3 @@
 mod code;
 mod memory;
-mod programs;
 mod tags;

@@ -10,7 +10,7 @@ use Rattle.c_types.specs.Flows.{IsOfOneClass}
 use Rattle.c_types.specs.Sound.{IsWellFormed}
 use Rattle.flat_mem.specs.declared.Area.{Area}
 use Rattle.flat_mem.specs.declared.memory.Bounds.{Bounds}
-use Rattle.flat_mem.specs.Memory.{Frame, fits, frame_of, next_frame}
+use Rattle.flat_mem.specs.Memory.{Frame, fits, frame_of, next_frame, newest_addresses, depth_in}
 use Rattle.flat_mem.specs.Placement.{addresses, function_address}
 use Rattle.flat_mem.proofs.AreaLaws.{area-after_start, get-areas_made_other}
 use Rattle.flat_mem.proofs.ByteLaws.{number-same}
@@ -38,7 +38,7 @@ use Rattle.cured_code.specs.FlatState.{PlacedArea}
 use Rattle.cured_code.specs.FlatMachine as machine
 use Rattle.cured_code.specs.FlatMachine.{noted, placed, plan_of}
 use Rattle.sim_relation.specs.Ground.{address, address_in, function_word}
-use Rattle.sim_relation.specs.Objects.{frame_areas, variable_area}
+use Rattle.sim_relation.specs.Objects.{frame_areas, variable_area, flat_depth}
 use Rattle.sim_relation.specs.Related.{Related}
 use Rattle.sim_relation.specs.Points.{object_number}
 use Rattle.sim_relation.proofs.Frames.{get-placed}
@@ -234,6 +234,15 @@ module _ (p : Programs) (variables : List Planned) (is : IsPlanned p variables) 
               let e = ap (λ (z : Life). z.depth) same in omega (arith, h, e, d_is))
           of (new i q f) = (omega (arith, q), (let l = slice_get_within more i o f in let m = count-more in omega (arith, q, l, m)))
 
+  -- the areas of the variables lie in the new frame
+  own-frame : (n : ℕ) → n < length variables → depth_in d.memory.frames (slice_index (newest_addresses d.memory.frames) n) ≡ flat_depth (suc b.depth)
+  own-frame n less =
+      let v = there-is variables n less in
+      let o : Object = new_variable p.whole.table (suc b.depth) v.0 in
+      let lies = related.areas.lie (length s.memory.objects + n) o (found-variable n v.0 v.1) refl in
+      ap (depth_in d.memory.frames) (sym (new-address n less) ∙ (let e : address (ground_of p t d) (length s.memory.objects + n) ≡ address (ground_of p t d) (length s.memory.objects + n) + 0 = omega arith in e))
+      ∙ lies.depth 0 (omega arith)
+
   -- the call that has begun
   abbrev pub begun_call : Calls → Enters → Running
   begun_call call enter = record {
@@ -257,6 +266,7 @@ module _ (p : Programs) (variables : List Planned) (is : IsPlanned p variables) 
     deep = ap suc deep;
     made = (let e = length-append s.memory.objects more in let m = count-more in omega (arith, e, m));
     areas = λ n l. sym (new-address n l);
+    own_frame = own-frame;
     globals = (let e = length-append s.memory.objects more in let m = there.globals in omega (arith, e, m));
     statics = λ n l. there.statics n l ∙ sym (old-address n (let m = there.globals in omega (arith, l, m)));
     objects = objects;

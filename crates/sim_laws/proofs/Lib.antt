@@ -41,3 +41,12 @@ pub mod Divisions
 pub mod Reaching
 pub mod Operators
 pub mod Settled
+pub mod PointerWords
+pub mod PartAddresses
+pub mod PointerTests
+pub mod Moving
+pub mod Ordering
+pub mod Equalities
+pub mod PointerComparisons
+pub mod PointerDifferences
+pub mod Given

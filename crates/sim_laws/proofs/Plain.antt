@@ -1,6 +1,7 @@
 -- Programs of plain code run as their three-address code: all laws of their instructions, of their frames and of their start are there.
-use Rattle.std.proofs.Common.{◌≡◌, ◌≢◌, ℕ, ◌≤◌, inl, inr, ⊎_elim, List, [], ◌++◌, length, map, refl, ap, sym, subst, ◌∙◌, arith}
+use Rattle.std.proofs.Common.{true, false, ◌≡◌, ◌≢◌, ℕ, ◌≤◌, inl, inr, ⊎_elim, List, [], ◌++◌, length, map, refl, ap, sym, subst, ◌∙◌, arith}
 use Rattle.std.proofs.lemmas.List.{length-map}
+use Rattle.std.specs.List.{Contains}
 use Rattle.cc_base.specs.declared.kind.Kind.{Kind}
 use Rattle.cc_base.specs.declared.kind.Kind.TheVariants.{Safe, Seq, Rtti, Wild}
 use Rattle.cc_base.specs.declared.number.NodeId.{NodeId}
@@ -9,7 +10,12 @@ use Rattle.cc_base.specs.declared.place.Place.{Place}
 use Rattle.c_types.specs.declared.shape.TypeShape.{TypeShape}
 use Rattle.c_types.specs.declared.shape.TypeShape.TheVariants as shape
 use Rattle.c_types.specs.Table.{shape_at}
+use Rattle.c_types.specs.Flows.{IsOfOneClass}
+use Rattle.kind_sites.specs.declared.site.Site.TheVariants as site
+use Rattle.src_mem.specs.Operations.{node_at, node_of_shape, pointee_of_shape}
 use Rattle.cil_form.specs.declared.number.Temp.{Temp}
+use Rattle.cil_form.specs.declared.instr.Comparison.{Comparison}
+use Rattle.cil_form.specs.declared.instr.Comparison.TheVariants as comparison
 use Rattle.cil_form.specs.declared.instr.Access.TheVariants as access
 use Rattle.cil_form.specs.declared.instr.Target.TheVariants as target
 use Rattle.cil_form.specs.declared.instr.Convert.TheVariants as convert
@@ -21,14 +27,15 @@ use Rattle.cil_form.specs.declared.program.Parameter.{Parameter}
 use Rattle.cil_form.specs.declared.program.Program.{Program}
 use Rattle.cil_form.specs.Shape.{IsInShape, IsFunctionInShape}
 use Rattle.cil_form.specs.Told.{IsToldOf, IsSolutionOf}
-use Rattle.cil_form.specs.Typing.{HeldType, IntegerOf, IsTemp, no_types}
+use Rattle.cil_form.specs.Sites.{AreAmong, sites_of_comparison}
+use Rattle.cil_form.specs.Typing.{HeldType, IntegerOf, PointerTo, IsTemp, no_types}
 use Rattle.cil_form.specs.Meaning as meaning
 use Rattle.cured_code.specs.declared.parts.Parts.{Parts}
 use Rattle.check_forms.specs.declared.slots.PointerSlots.{PointerSlots}
 use Rattle.check_forms.specs.Pieces.{Line, Then}
 use Rattle.sim_relation.specs.Points.{Knowledge}
 use Rattle.cure_rules.specs.Slots.{AreSlots}
-use Rattle.cure_rules.specs.Known.{held_shape}
+use Rattle.cure_rules.specs.Known.{IsPointer, held_shape}
 use Rattle.cure_rules.specs.Setting.{IsCuringSet}
 use Rattle.cure_rules.specs.Pointing.{IsCuringPoint, IsCuringConvert}
 use Rattle.cure_rules.specs.Accesses.{IsHome, StoresInteger, StoresPointer, IsCuringAccess}
@@ -39,11 +46,12 @@ use Rattle.sim_laws.specs.Held.{IsInCode}
 use Rattle.sim_laws.specs.Statements.{Lines, Follows, AllFollow, Laws}
 use Rattle.sim_laws.specs.Calls.{Callee, FrameLaws, InstructionLaws, scene_in}
 use Rattle.sim_laws.specs.Runs.{programs_of}
-use Rattle.sim_laws.specs.Plain.{IsIntegerShape, IsPlainCode, IsPlainProgram}
+use Rattle.sim_laws.specs.Plain.{IsIntegerShape, IsPlainKind, IsPlainPointer, ArePlainPointers, IsPlainCode, IsPlainProgram}
 use Rattle.sim_laws.specs.Frames.{PlainProgramsRunAlike}
 use Rattle.sim_laws.proofs.Run.{all-at, runs-alike}
 use Rattle.sim_laws.proofs.Tests.{tested}
 use Rattle.sim_laws.proofs.Returns.{ResultFits, given-none, given-integer, result-fits}
+use Rattle.sim_laws.proofs.Given.{given-pointer}
 use Rattle.sim_laws.proofs.Operators.{calculate-follows}
 use Rattle.sim_laws.proofs.Conversions.{integer-follows, to-pointer-follows}
 use Rattle.sim_laws.proofs.Library.{runtime-follows}
@@ -51,7 +59,13 @@ use Rattle.sim_laws.proofs.Accessing.{load-integer-follows, load-pointer-follows
 use Rattle.sim_laws.proofs.Names.{Names, context_in, pointer-asked}
 use Rattle.sim_laws.proofs.Parts.{store-part-follows}
 use Rattle.sim_laws.proofs.Storing.{store-pointer-follows}
-use Rattle.sim_laws.proofs.Making.{address-follows}
+use Rattle.sim_laws.proofs.Reaching.{plain-tags}
+use Rattle.sim_laws.proofs.Making.{address-follows, decay-place-follows}
+use Rattle.sim_laws.proofs.PartAddresses.{member-follows, decay-follows}
+use Rattle.sim_laws.proofs.Moving.{move-follows}
+use Rattle.sim_laws.proofs.PointerTests.{null-follows}
+use Rattle.sim_laws.proofs.PointerComparisons.{IsOrder, compare-pointers-follows}
+use Rattle.sim_laws.proofs.PointerDifferences.{difference-follows}
 use Rattle.sim_laws.proofs.Shaped.{Shaped}
 use Rattle.sim_laws.proofs.Settled as settled
 use Rattle.sim_laws.proofs.Framed as framed
@@ -73,6 +87,34 @@ module _ (w : Scene) (g : AreSlots w.slots) (b : Running) (whole : List Instr) (
   not-both : (h : TypeShape) (m : NodeId) (u : TypeId) → IsIntegerShape h → h ≡ shape.Pointer m u → ⊥
   not-both h m u integer e = absurd (subst IsIntegerShape e integer)
 
+  -- a pointer that is moved, ordered or subtracted isn't SAFE
+  sequence-in : (t : TypeId) (at : Place) → Contains w.programs.sites (site.Arith (node_at w.programs.whole.table t) at) → IsPlainPointer w.programs.whole.table w.programs.whole.kind t
+      → (m : NodeId) (u : TypeId) → IsPointer (world_of w) t m u → w.programs.whole.kind m ≡ Seq
+  sequence-in t at told is_plain m u pointer =
+      subst (λ (h : TypeShape). w.programs.whole.kind (node_of_shape h) ≡ Seq) pointer
+      (⊎_elim (λ e. e) (λ e. absurd (plain-tags (w.programs.whole.kind (node_at w.programs.whole.table t)) is_plain e))
+      (names.solved.solution.each (site.Arith (node_at w.programs.whole.table t) at) told))
+
+  -- of the kinds and the types of two pointers
+  together-in : (t s : TypeId) → ArePlainPointers w.programs.whole.table w.programs.whole.kind t s → (m n : NodeId) (u v : TypeId) → IsPointer (world_of w) t m u → IsPointer (world_of w) s n v
+      → IsPlainKind (w.programs.whole.kind m) × IsPlainKind (w.programs.whole.kind n)
+      × (w.programs.whole.kind m ≡ Seq → w.programs.whole.kind n ≡ Seq → IsOfOneClass w.programs.whole.table w.programs.whole.kind u v)
+  together-in t s h m n u v e f = subst (λ (x : TypeShape). Of x (shape.Pointer n v)) e (subst (λ (y : TypeShape). Of (shape_at w.programs.whole.table t) y) f h)
+    where
+      Of : TypeShape → TypeShape → Type 0
+      Of x y = IsPlainKind (w.programs.whole.kind (node_of_shape x)) × IsPlainKind (w.programs.whole.kind (node_of_shape y))
+          × (w.programs.whole.kind (node_of_shape x) ≡ Seq → w.programs.whole.kind (node_of_shape y) ≡ Seq
+          → IsOfOneClass w.programs.whole.table w.programs.whole.kind (pointee_of_shape x) (pointee_of_shape y))
+
+  orders-told : (which : Comparison) (t s : TypeId) (at : Place) → AreAmong w.programs.sites (sites_of_comparison w.programs.whole.table which t s at) → IsOrder which
+      → Contains w.programs.sites (site.Arith (node_at w.programs.whole.table t) at) × Contains w.programs.sites (site.Arith (node_at w.programs.whole.table s) at)
+  orders-told comparison.Equal t s at told order = absurd order
+  orders-told comparison.Different t s at told order = absurd order
+  orders-told comparison.Less t s at told order = (told.0, told.1.0)
+  orders-told comparison.LessOrEqual t s at told order = (told.0, told.1.0)
+  orders-told comparison.Greater t s at told order = (told.0, told.1.0)
+  orders-told comparison.GreaterOrEqual t s at told order = (told.0, told.1.0)
+
   point-follows : AllFollow w g b whole (λ i. instr.Point i) IsCuringPoint
   point-follows (point.Address into from outer inner t) inside known after blocks lines h = of (shaped (instr.Point (point.Address into from outer inner t)) inside)
     where
@@ -80,13 +122,56 @@ module _ (w : Scene) (g : AreSlots w.slots) (b : Running) (whole : List Instr) (
           → Follows w g b blocks known after (meaning.act (instr.Point (point.Address into from outer inner t)) (around_of w b)) lines
       of z = address-follows w names g b into from outer inner t known after blocks lines (plain (instr.Point (point.Address into from outer inner t)) inside).0
           (plain (instr.Point (point.Address into from outer inner t)) inside).1 z.is.0.2.1 z.is.1.0 h
-  point-follows (point.Move into p n way t at) inside known after blocks lines h = absurd (plain (instr.Point (point.Move into p n way t at)) inside)
-  point-follows (point.Difference into a t b' s at) inside known after blocks lines h = absurd (plain (instr.Point (point.Difference into a t b' s at)) inside)
-  point-follows (point.Compare into comparison a t b' s at) inside known after blocks lines h = absurd (plain (instr.Point (point.Compare into comparison a t b' s at)) inside)
-  point-follows (point.IsNull into p t different) inside known after blocks lines h = absurd (plain (instr.Point (point.IsNull into p t different)) inside)
-  point-follows (point.Member into from outer t i inner u at) inside known after blocks lines h = absurd (plain (instr.Point (point.Member into from outer t i inner u at)) inside)
-  point-follows (point.Decay into from outer array check inner element at) inside known after blocks lines h =
-      absurd (plain (instr.Point (point.Decay into from outer array check inner element at)) inside)
+  point-follows (point.Move into p n way t at) inside known after blocks lines h = of (shaped (instr.Point (point.Move into p n way t at)) inside)
+    where
+      of : Shaped (instr.Point (point.Move into p n way t at)) (context_in w names 0 no_types)
+          → Follows w g b blocks known after (meaning.act (instr.Point (point.Move into p n way t at)) (around_of w b)) lines
+      of z = move-follows w names g b into p n way t at known after blocks lines (sequence-in t at z.is.1.0 (plain (instr.Point (point.Move into p n way t at)) inside)) h
+  point-follows (point.Difference into a t i s at) inside known after blocks lines h = of (shaped (instr.Point (point.Difference into a t i s at)) inside)
+    where
+      both : ArePlainPointers w.programs.whole.table w.programs.whole.kind t s
+      both = plain (instr.Point (point.Difference into a t i s at)) inside
+
+      of : Shaped (instr.Point (point.Difference into a t i s at)) (context_in w names 0 no_types)
+          → Follows w g b blocks known after (meaning.act (instr.Point (point.Difference into a t i s at)) (around_of w b)) lines
+      of z = difference-follows w names g b into a t i s at known after blocks lines
+          (λ m n u v e f. let x = sequence-in t at z.is.1.0 both.0 m u e in let y = sequence-in s at z.is.1.1.0 both.1 n v f in (x, y, (together-in t s both m n u v e f).2 x y)) h
+  point-follows (point.Compare into which a t i s at) inside known after blocks lines h = of (shaped (instr.Point (point.Compare into which a t i s at)) inside)
+    where
+      both : ArePlainPointers w.programs.whole.table w.programs.whole.kind t s
+      both = plain (instr.Point (point.Compare into which a t i s at)) inside
+
+      of : Shaped (instr.Point (point.Compare into which a t i s at)) (context_in w names 0 no_types)
+          → Follows w g b blocks known after (meaning.act (instr.Point (point.Compare into which a t i s at)) (around_of w b)) lines
+      of z = compare-pointers-follows w names g b into a which t i s at known after blocks lines
+          (λ m n u v e f. let k = together-in t s both m n u v e f in (
+            k.0,
+            k.1,
+            k.2,
+            λ order. let told = orders-told which t s at z.is.1 order in
+                (sequence-in t at told.0 both.0 m u e, sequence-in s at told.1 both.1 n v f),
+          )) h
+  point-follows (point.IsNull into p t different) inside known after blocks lines h = null-follows w g b into p t different known after blocks lines h
+  point-follows (point.Member into from outer t i inner u at) inside known after blocks lines h = of (shaped (instr.Point (point.Member into from outer t i inner u at)) inside)
+    where
+      of : Shaped (instr.Point (point.Member into from outer t i inner u at)) (context_in w names 0 no_types)
+          → Follows w g b blocks known after (meaning.act (instr.Point (point.Member into from outer t i inner u at)) (around_of w b)) lines
+      of z = member-follows w names g b into from outer inner t u i at known after blocks lines (plain (instr.Point (point.Member into from outer t i inner u at)) inside).0
+          (plain (instr.Point (point.Member into from outer t i inner u at)) inside).1 (⊎_elim (λ h. h.0) (λ h. h.0) z.is.0.6) z.is.0.2.1 z.is.0.3 z.is.0.4 z.is.0.5 z.is.1.0 h
+  point-follows (point.Decay into from outer array true inner element at) inside known after blocks lines h = of (shaped (instr.Point (point.Decay into from outer array true inner element at)) inside)
+    where
+      of : Shaped (instr.Point (point.Decay into from outer array true inner element at)) (context_in w names 0 no_types)
+          → Follows w g b blocks known after (meaning.act (instr.Point (point.Decay into from outer array true inner element at)) (around_of w b)) lines
+      of z = decay-follows w names g b into from outer inner array element z.is.0.3.0 at known after blocks lines
+          (plain (instr.Point (point.Decay into from outer array true inner element at)) inside).0 (plain (instr.Point (point.Decay into from outer array true inner element at)) inside).1
+          z.is.0.3.1 z.is.1.0 h
+  point-follows (point.Decay into from outer array false inner element at) inside known after blocks lines h = of (shaped (instr.Point (point.Decay into from outer array false inner element at)) inside)
+    where
+      of : Shaped (instr.Point (point.Decay into from outer array false inner element at)) (context_in w names 0 no_types)
+          → Follows w g b blocks known after (meaning.act (instr.Point (point.Decay into from outer array false inner element at)) (around_of w b)) lines
+      of z = decay-place-follows w names g b into from outer inner array element z.is.0.3.0 at known after blocks lines
+          (plain (instr.Point (point.Decay into from outer array false inner element at)) inside).0 (plain (instr.Point (point.Decay into from outer array false inner element at)) inside).1
+          z.is.0.3.1 z.is.1.0 h
 
   -- a home that isn't WILD is SAFE
   safe-home : (k : Kind) → IsHome k → k ≢ Wild → k ≡ Safe
@@ -137,11 +222,10 @@ module _ (w : Scene) (g : AreSlots w.slots) (b : Running) (whole : List Instr) (
       → Returns (world_of w) known v t at lines → Follows w g b blocks known after (meaning.act (instr.ReturnValue v t at) (around_of w b)) lines
   unfolding Line Then
   given-follows known after blocks v t at lines inside (x, a, number, is, fact, place, form, held, (first, rest, guard, last, lines_are)) =
-      by (shape_at w.programs.whole.table t) refl (plain (instr.ReturnValue v t at) inside)
+      by (shape_at w.programs.whole.table t) refl
     where
-      by : (h : TypeShape) → shape_at w.programs.whole.table t ≡ h → IsIntegerShape h
-          → Follows w g b blocks known after (meaning.act (instr.ReturnValue v t at) (around_of w b)) lines
-      by (shape.Integer bytes signed) e integer = given-integer w g b result known after blocks v t at lines x (record { bytes = bytes; signed = signed }) a number is fact type place form
+      by : (h : TypeShape) → shape_at w.programs.whole.table t ≡ h → Follows w g b blocks known after (meaning.act (instr.ReturnValue v t at) (around_of w b)) lines
+      by (shape.Integer bytes signed) e = given-integer w g b result known after blocks v t at lines x (record { bytes = bytes; signed = signed }) a number is fact type place form
           (ap held_shape e) (lines_are ∙ ap (λ (js : Lines). js ++ rest) none ∙ last)
         where
           type : x.type ≡ IntegerOf (record { bytes = bytes; signed = signed })
@@ -149,12 +233,16 @@ module _ (w : Scene) (g : AreSlots w.slots) (b : Running) (whole : List Instr) (
 
           none : first ≡ []
           none = subst (λ (h : HeldType). ReturnGuard h w.variables (world_of w) a at first) type guard
-      by shape.Void e integer = absurd integer
-      by (shape.Pointer n u) e integer = absurd integer
-      by (shape.Array n u) e integer = absurd integer
-      by (shape.Function n u) e integer = absurd integer
-      by (shape.Struct n) e integer = absurd integer
-      by (shape.Union n) e integer = absurd integer
+      by (shape.Pointer n u) e = given-pointer w g b result known after blocks v t at lines x n u a number is fact type place (ap held_shape e)
+          (first, rest, subst (λ (h : HeldType). ReturnGuard h w.variables (world_of w) a at first) type guard, last, lines_are)
+        where
+          type : x.type ≡ PointerTo n u
+          type = let f = sym held ∙ ap held_shape e in cc (f)
+      by shape.Void e = absurd (let f = sym held ∙ ap held_shape e in cc (f))
+      by (shape.Array n u) e = absurd (let f = sym held ∙ ap held_shape e in cc (f))
+      by (shape.Function n u) e = absurd (let f = sym held ∙ ap held_shape e in cc (f))
+      by (shape.Struct n) e = absurd (let f = sym held ∙ ap held_shape e in cc (f))
+      by (shape.Union n) e = absurd (let f = sym held ∙ ap held_shape e in cc (f))
 
   pub plain-laws : Laws w g b whole
   plain-laws = record {

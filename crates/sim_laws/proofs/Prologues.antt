@@ -1,5 +1,5 @@
 -- The prologue of a function without parameters: its kept slots are set, and its body begins.
-use Rattle.std.proofs.Common.{◌≡◌, ℕ, suc, ◌≤◌, List, [], ◌∷◌, ◌++◌, length, map, replicate, refl, ap, sym, subst, ◌∙◌, arith}
+use Rattle.std.proofs.Common.{◌≢◌, ◌≡◌, ℕ, suc, ◌≤◌, List, [], ◌∷◌, ◌++◌, length, map, replicate, refl, ap, sym, subst, ◌∙◌, arith}
 use Rattle.std.proofs.lemmas.List.{append-nil, length-replicate}
 use Rattle.flat_mem.specs.Bytes.{written}
 use Rattle.runs.specs.Outcome.{Done, Matches}
@@ -31,12 +31,13 @@ written-none slots = refl
 
 -- A point at which nothing is known: the kept slots are set, in slots that were all 0.
 pub begun-point : (w : Scene) (g : AreSlots w.slots) (b : Running) (s : source.State) (state : flat.State) (there : There w.programs b s state) → b.outer ≤ b.depth
-    → (variables : b.variables ≡ w.variables) (laid : length w.programs.whole.statics ≤ length w.programs.whole.addresses) (lines : Lines)
+    → (w.number ≢ 0 → b.depth ≡ suc b.outer) → (variables : b.variables ≡ w.variables) (laid : length w.programs.whole.statics ≤ length w.programs.whole.addresses) (lines : Lines)
     (z : AllSet w g b s state there variables laid w.slots.kept lines (replicate w.slots.count 0))
     → Point w g b nothing_known (record { state = s; temps = no_temps }) (record { state = state; slots = z.after })
-begun-point w g b s state there outer variables laid lines z = record {
+begun-point w g b s state there outer called variables laid lines z = record {
   there = there;
   outer = outer;
+  called = called;
   variables = variables;
   held = λ t x e. absurd (cc (e));
   stands = λ t x e. absurd (cc (e));
@@ -95,7 +96,7 @@ prologue-alone p laid b k none call enters arguments words s c are there =
         (subst (λ (o : FlatOutcome). Matches (BodyBegins p k (called_from b k call enters s c)) (λ e t f d. StatesEndAlike p e t f d.state)
         (Done tt (source_entered p (suc b.depth) k s)) o) (sym (set.runs [])) (
           refl,
-          begun-point (scene_in p k) k.is.slots.slots (called_from b k call enters s c) (source_entered p (suc b.depth) k s) (flat_entered k c).state there (omega arith) refl laid
+          begun-point (scene_in p k) k.is.slots.slots (called_from b k call enters s c) (source_entered p (suc b.depth) k s) (flat_entered k c).state there (omega arith) (λ e. refl) refl laid
               k.enters.body.sets set,
         ))
 

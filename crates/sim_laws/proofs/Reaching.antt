@@ -10,7 +10,7 @@ use Rattle.cc_base.specs.declared.place.Place.{Place}
 use Rattle.c_types.specs.Table.{IsComplete}
 use Rattle.c_types.specs.Layouts.{size_of}
 use Rattle.flat_mem.specs.Bytes.{bytes_at}
-use Rattle.src_mem.specs.Pointers.{Pointer, Value, Integer, Address}
+use Rattle.src_mem.specs.Pointers.{Location, Pointer, Null, Number, At, Function, Value, Integer, Address, is_at}
 use Rattle.src_mem.specs.State as source
 use Rattle.src_mem.specs.Checks.{Condition, NotNull, InBounds}
 use Rattle.src_mem.specs.Facts.{IsHeldBy}
@@ -34,6 +34,8 @@ use Rattle.cure_rules.specs.Known.{IsAddress, held_words, pointer_slots}
 use Rattle.cure_rules.specs.Checks.{Seat, need, reach_needs, size_at}
 use Rattle.sim_laws.specs.Scenes.{Scene, Running, setting_of, world_of}
 use Rattle.sim_laws.specs.Points.{Holds, Point, Passed, IsLasting, ground_of}
+use Rattle.sim_laws.specs.Plain.{IsPlainKind}
+use Rattle.sim_laws.proofs.Points.{some-words}
 use Rattle.sim_laws.proofs.Guards.{lasting-other}
 use Rattle.sim_laws.proofs.Names.{Names}
 use Rattle.sim_laws.proofs.Checks.{AreThere, AreOfRoles, AreReady, AreCompared, known-lasting}
@@ -81,6 +83,28 @@ pointed w g b known l c p t n u a sure (x, fact, inr is, place, listed) =
     (place-pointer w l.state b.depth n u (l.temps t) (subst (λ (h : HeldType). Holds w.programs l.state b.depth h (l.temps t)) is (p.held t x fact)))
     (place-stands (ground_of w.programs l.state c.state) c.slots x n u (l.temps t)
     (subst (λ (h : HeldType). StandsFor (ground_of w.programs l.state c.state) c.slots x h (l.temps t)) is (p.stands t x fact)))
+
+-- the first word stands in a slot that lasts
+pub first-lasts : (w : Scene) (g : AreSlots w.slots) (b : Running) (l : code.Local) (c : flat.Local) (t : Temp) (n : NodeId) (u : TypeId) (a : ℕ) → Pointed w g b l c t n u a
+    → IsLasting (g.owner a)
+first-lasts w g b l c t n u a m =
+    subst (λ (j : ℕ). IsLasting (g.owner j)) (let e : a + 0 ≡ a = omega arith in e) (m.lasting 0 (some-words (w.programs.whole.kind n)))
+
+-- Kinds and pointers
+
+-- kinds of plain code aren't WILD
+pub plain-tags : (k : Kind) → IsPlainKind k → k ≢ Wild
+plain-tags Safe plain e = absurd (cc (e))
+plain-tags Seq plain e = absurd (cc (e))
+plain-tags Rtti plain e = absurd plain
+plain-tags Wild plain e = absurd plain
+
+-- a pointer that was made for an object
+pub based-at : (q : Pointer) → is_at q (λ l. true) ≡ true → (l : Location) × (q ≡ At l)
+based-at Null e = absurd (cc (e))
+based-at (Number n) e = absurd (cc (e))
+based-at (At l) e = (l, refl)
+based-at (Function f) e = absurd (cc (e))
 
 -- Its words, wherever the slots that last are as they were
 

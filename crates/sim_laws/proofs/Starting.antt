@@ -201,6 +201,7 @@ module _ (p : Program) (kind : NodeId → Kind) (node : TypeId → ℕ) (numbers
     deep = refl;
     made = omega arith;
     areas = λ k l. absurd (omega (arith, l));
+    own_frame = λ k l. absurd (omega (arith, l));
     globals = (let e = no-addresses in omega (arith, e));
     statics = λ k l. absurd (let e = no-addresses in omega (arith, l, e));
     objects = objects;
@@ -232,5 +233,5 @@ module _ (p : Program) (kind : NodeId → Kind) (node : TypeId → ℕ) (numbers
       of z = record {
         after = record { state = c; slots = z.after };
         runs = z.runs;
-        point = begun-point (first_scene both cured.slots) cured.start.slots (first_running both s c) s c there-first (omega arith) refl no-more cured.start.sets z;
+        point = begun-point (first_scene both cured.slots) cured.start.slots (first_running both s c) s c there-first (omega arith) (λ e. absurd (e refl)) refl no-more cured.start.sets z;
       }

@@ -1,14 +1,17 @@
--- A part of three-address code whose laws are all there: constants and addresses, `&` of a place as a SAFE pointer, calculations, conversions of
--- integers and from them, loads and stores of integers and pointers through pointers that aren't WILD, stores of integers into parts of objects
--- that are named, `free`, `getchar`, `putchar` and `exit`, control, and the return of nothing or of an integer; in functions without parameters.
+-- A part of three-address code whose laws are all there: constants and addresses, tests for null, calculations, conversions of integers and from
+-- them, loads and stores of integers and pointers through pointers that aren't WILD, stores of integers into parts of objects that are named,
+-- `free`, `getchar`, `putchar` and `exit`, control and returns; and of pointers that are SAFE or SEQ `&`, members, arrays that decay, moves,
+-- comparisons and differences; in functions without parameters.
 use Rattle.std.specs.Prelude.{◌≡◌, ◌≢◌, ⊤, List, [], All}
 use Rattle.cc_base.specs.declared.kind.Kind.{Kind}
-use Rattle.cc_base.specs.declared.kind.Kind.TheVariants.{Safe, Wild}
+use Rattle.cc_base.specs.declared.kind.Kind.TheVariants.{Safe, Seq, Wild}
 use Rattle.cc_base.specs.declared.number.NodeId.{NodeId}
 use Rattle.cc_base.specs.declared.number.TypeId.{TypeId}
 use Rattle.c_types.specs.declared.shape.TypeShape.{TypeShape}
 use Rattle.c_types.specs.declared.shape.TypeShape.TheVariants as shape
 use Rattle.c_types.specs.Table.{Table, shape_at}
+use Rattle.c_types.specs.Flows.{IsOfOneClass}
+use Rattle.src_mem.specs.Operations.{node_at, pointee_at}
 use Rattle.cil_form.specs.declared.instr.Access.{Access}
 use Rattle.cil_form.specs.declared.instr.Access.TheVariants as access
 use Rattle.cil_form.specs.declared.instr.Target.TheVariants as target
@@ -27,6 +30,12 @@ IsPlainConvert (convert.Integer into from t) = ⊤
 IsPlainConvert (convert.ToPointer into from t at) = ⊤
 IsPlainConvert other = ⊥
 
+-- the kind is SAFE or SEQ
+abbrev pub IsPlainKind : Kind → Type 0
+IsPlainKind Safe = ⊤
+IsPlainKind Seq = ⊤
+IsPlainKind other = ⊥
+
 -- the type is one of integers
 abbrev pub IsIntegerShape : TypeShape → Type 0
 IsIntegerShape (shape.Integer bytes signed) = ⊤
@@ -42,16 +51,30 @@ IsPlainAccess table kind (access.Store (target.Pointer p n) v t at assignment) =
 IsPlainAccess table kind (access.Store (target.Part o n u offset) v t at assignment) = IsPlainUse table kind n t
 IsPlainAccess table kind other = ⊥
 
--- the address of what stands at a place, as a SAFE pointer
-abbrev pub IsPlainPoint : (NodeId → Kind) → Point → Type 0
-IsPlainPoint kind (point.Address into from outer inner t) = (kind outer ≢ Wild) × (kind inner ≡ Safe)
-IsPlainPoint kind other = ⊥
+-- pointers of the type t are SAFE or SEQ
+abbrev pub IsPlainPointer : Table → (NodeId → Kind) → TypeId → Type 0
+IsPlainPointer table kind t = IsPlainKind (kind (node_at table t))
+
+-- And those of s; where both are SEQ, they point to types of one class. C has them point to compatible types (6.5.6, 6.5.8, 6.5.9), or one of them to `void`.
+abbrev pub ArePlainPointers : Table → (NodeId → Kind) → TypeId → TypeId → Type 0
+ArePlainPointers table kind t s = IsPlainPointer table kind t × IsPlainPointer table kind s
+    × (kind (node_at table t) ≡ Seq → kind (node_at table s) ≡ Seq → IsOfOneClass table kind (pointee_at table t) (pointee_at table s))
+
+-- pointers that are SAFE or SEQ, also where they are made for a part
+abbrev pub IsPlainPoint : Table → (NodeId → Kind) → Point → Type 0
+IsPlainPoint table kind (point.Move into p n way t at) = IsPlainPointer table kind t
+IsPlainPoint table kind (point.Difference into a t b s at) = ArePlainPointers table kind t s
+IsPlainPoint table kind (point.Compare into which a t b s at) = ArePlainPointers table kind t s
+IsPlainPoint table kind (point.IsNull into p t different) = ⊤
+IsPlainPoint table kind (point.Member into from outer t i inner u at) = (kind outer ≢ Wild) × IsPlainKind (kind inner)
+IsPlainPoint table kind (point.Decay into from outer array check inner element at) = (kind outer ≢ Wild) × IsPlainKind (kind inner)
+IsPlainPoint table kind (point.Address into from outer inner t) = (kind outer ≢ Wild) × IsPlainKind (kind inner)
 
 -- a single instruction; control holds others, of which the same is said
 abbrev pub IsPlainInstr : Table → (NodeId → Kind) → Instr → Type 0
 IsPlainInstr table kind (instr.Set i) = ⊤
 IsPlainInstr table kind (instr.Calculate i) = ⊤
-IsPlainInstr table kind (instr.Point i) = IsPlainPoint kind i
+IsPlainInstr table kind (instr.Point i) = IsPlainPoint table kind i
 IsPlainInstr table kind (instr.Convert i) = IsPlainConvert i
 IsPlainInstr table kind (instr.Access i) = IsPlainAccess table kind i
 IsPlainInstr table kind (instr.Allocate i) = ⊥
@@ -62,7 +85,7 @@ IsPlainInstr table kind (instr.Block' shape code) = ⊤
 IsPlainInstr table kind (instr.Loop' shape code) = ⊤
 IsPlainInstr table kind (instr.Break n) = ⊤
 IsPlainInstr table kind instr.Return = ⊤
-IsPlainInstr table kind (instr.ReturnValue v t at) = IsIntegerShape (shape_at table t)
+IsPlainInstr table kind (instr.ReturnValue v t at) = ⊤
 
 -- each instruction that code consists of
 abbrev pub IsPlainCode : Table → (NodeId → Kind) → List Instr → Type 0

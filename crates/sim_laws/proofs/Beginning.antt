@@ -10,11 +10,11 @@ use Rattle.c_types.specs.Flows.{IsOfOneClass}
 use Rattle.c_types.specs.Sound.{IsWellFormed}
 use Rattle.flat_mem.specs.declared.Area.{Area}
 use Rattle.flat_mem.specs.declared.memory.Bounds.{Bounds}
-use Rattle.flat_mem.specs.Memory.{Frame, fits, frame_of, next_frame}
+use Rattle.flat_mem.specs.Memory.{Frame, depth_in, fits, frame_of, newest_addresses, next_frame}
 use Rattle.flat_mem.specs.Placement.{addresses, function_address}
 use Rattle.flat_mem.proofs.AreaLaws.{area-after_start, get-areas_made_other}
 use Rattle.flat_mem.proofs.ByteLaws.{number-same}
-use Rattle.flat_mem.proofs.FrameLaws.{frames_end-least, depth_in-older}
+use Rattle.flat_mem.proofs.FrameLaws.{frames_end-least, depth_in-older, depth-of_new_area}
 use Rattle.src_mem.specs.Pointers.{Value, Integer, Address}
 use Rattle.src_mem.specs.Memory.{Object, Planned, new_variable, frame_charge}
 use Rattle.src_mem.specs.State as source
@@ -38,7 +38,7 @@ use Rattle.cured_code.specs.FlatState.{PlacedArea}
 use Rattle.cured_code.specs.FlatMachine as machine
 use Rattle.cured_code.specs.FlatMachine.{noted, placed, plan_of}
 use Rattle.sim_relation.specs.Ground.{address, address_in, function_word}
-use Rattle.sim_relation.specs.Objects.{frame_areas, variable_area}
+use Rattle.sim_relation.specs.Objects.{flat_depth, frame_areas, variable_area}
 use Rattle.sim_relation.specs.Related.{Related}
 use Rattle.sim_relation.specs.Points.{object_number}
 use Rattle.sim_relation.proofs.Frames.{get-placed}
@@ -58,7 +58,7 @@ pub record IsPlanned (p : Programs) (variables : List Planned) : Type 0 where
   pub count : length p.parts.functions ≡ suc (length (setting_of p).functions)
 
 -- a list has each of its elements
-there-is : {A : Type 0} (xs : List A) (j : ℕ) → j < length xs → (x : A) × (slice_get xs j ≡ Some x)
+pub there-is : {A : Type 0} (xs : List A) (j : ℕ) → j < length xs → (x : A) × (slice_get xs j ≡ Some x)
 there-is [] j h = absurd (omega (arith, h))
 there-is (x ∷ xs) zero h = (x, refl)
 there-is (x ∷ xs) (suc j) h = there-is xs j (omega (arith, h))
@@ -234,6 +234,13 @@ module _ (p : Programs) (variables : List Planned) (is : IsPlanned p variables) 
               let e = ap (λ (z : Life). z.depth) same in omega (arith, h, e, d_is))
           of (new i q f) = (omega (arith, q), (let l = slice_get_within more i o f in let m = count-more in omega (arith, q, l, m)))
 
+  -- they lie in the new frame
+  in-frame : (n : ℕ) → n < length variables → depth_in d.memory.frames (slice_index (newest_addresses d.memory.frames) n) ≡ flat_depth (suc b.depth)
+  in-frame n less =
+      let v = there-is variables n less in let none : slice_index (addresses areas (next_frame c.memory)) n + 0 ≡ slice_index (addresses areas (next_frame c.memory)) n = omega arith in
+      ap (depth_in d.memory.frames) (sym none) ∙ depth-of_new_area c.memory areas charge n 0 (variable_area w v.0) (get-mapped (variable_area w) variables n v.0 v.1) (omega arith)
+      ∙ ap suc deep
+
   -- the call that has begun
   abbrev pub begun_call : Calls → Enters → Running
   begun_call call enter = record {
@@ -257,6 +264,7 @@ module _ (p : Programs) (variables : List Planned) (is : IsPlanned p variables) 
     deep = ap suc deep;
     made = (let e = length-append s.memory.objects more in let m = count-more in omega (arith, e, m));
     areas = λ n l. sym (new-address n l);
+    newest = λ n l. in-frame n l;
     globals = (let e = length-append s.memory.objects more in let m = there.globals in omega (arith, e, m));
     statics = λ n l. there.statics n l ∙ sym (old-address n (let m = there.globals in omega (arith, l, m)));
     objects = objects;

@@ -34,6 +34,7 @@ pub weaker : (w : Scene) (g : AreSlots w.slots) (b : Running) (known less : Know
 weaker w g b known less l c h p = record {
   there = p.there;
   outer = p.outer;
+  nested = p.nested;
   variables = p.variables;
   held = λ t x e. p.held t x (h t x e);
   stands = λ t x e. p.stands t x (h t x e);
@@ -94,6 +95,7 @@ there-on p b s t c d out h r facts laid frames grow = record {
   deep = h.deep;
   made = (let a = h.made in let e = grow.more in omega (arith, a, e));
   areas = λ k l. h.areas k l ∙ sym (grow.contents b.first (Start (object.Variable (record { 0 = k }))) (let a = h.made in omega (arith, a, l)));
+  newest = h.newest;
   globals = (let a = h.globals in let e = grow.more in omega (arith, a, e));
   statics = λ k l. h.statics k l ∙ sym (grow.contents 0 (Start (object.Static (record { 0 = k }))) (let a = h.globals in omega (arith, a, l)));
   objects = λ o v u e m. grow.held b.depth (omega arith) (PlaceOf v.node u) (Address (home p.whole.table (object_number b.first o) u)) (h.objects o v u e m);
@@ -222,6 +224,7 @@ pub written : (w : Scene) (g : AreSlots w.slots) (b : Running) (known after : Kn
 written w g b known after into x v l s c d p there grow wrote fits leave = record {
   there = there;
   outer = p.outer;
+  nested = p.nested;
   variables = p.variables;
   held = λ t y e. held_after t y (is_same t into) refl (leave t y e);
   stands = λ t y e. stands_after t y (is_same t into) refl (leave t y e);
@@ -272,6 +275,7 @@ pub unwritten : (w : Scene) (g : AreSlots w.slots) (b : Running) (known after : 
 unwritten w g b known after l s c d p there grow passed less = record {
   there = there;
   outer = p.outer;
+  nested = p.nested;
   variables = p.variables;
   held = λ t x e. grow.held b.depth (omega arith) x.type (l.temps t) (p.held t x (less t x e));
   stands = λ t x e. stands-on w.programs b.depth l.state s c.state d.state c.slots d.slots x x.type (l.temps t) grow
@@ -314,6 +318,7 @@ pub turned : (w : Scene) (g : AreSlots w.slots) (b : Running) (known : Knowledge
 turned w g b known l c n p = record {
   there = there-turned w.programs b l.state c.state n p.outer p.there;
   outer = p.outer;
+  nested = p.nested;
   variables = p.variables;
   held = p.held;
   stands = p.stands;

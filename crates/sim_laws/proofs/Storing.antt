@@ -137,7 +137,7 @@ line-of-words Rtti a v = refl
 line-of-words Seq a v = refl
 line-of-words Wild a v = refl
 
-line-of-pointer : (outer k : Kind) → outer ≢ Wild → (w : Scene) (s : PointerSlots) (v : ℕ) (lines : Lines) → PointerStored outer k (world_of w) s v lines → lines ≡ storing k s.first v ∷ []
+pub line-of-pointer : (outer k : Kind) → outer ≢ Wild → (w : Scene) (s : PointerSlots) (v : ℕ) (lines : Lines) → PointerStored outer k (world_of w) s v lines → lines ≡ storing k s.first v ∷ []
 unfolding Line
 line-of-pointer Safe k plain w s v lines h = h ∙ line-of-words k s.first v
 line-of-pointer Rtti k plain w s v lines h = h ∙ line-of-words k s.first v
@@ -145,7 +145,7 @@ line-of-pointer Seq k plain w s v lines h = h ∙ line-of-words k s.first v
 line-of-pointer Wild k plain w s v lines h = absurd (plain refl)
 
 -- the slot that tells how deep a pointer's object lies
-home-other : (w : Scene) (g : AreSlots w.slots) (k : Kind) (a : ℕ) → ((j : ℕ) → j < word_number k → IsLasting (g.owner (a + j))) → IsOther (work_of w.slots) (home_slot k (pointer_slots a))
+pub home-other : (w : Scene) (g : AreSlots w.slots) (k : Kind) (a : ℕ) → ((j : ℕ) → j < word_number k → IsLasting (g.owner (a + j))) → IsOther (work_of w.slots) (home_slot k (pointer_slots a))
 home-other w g Safe a h = lasting-other w g a (subst (λ (j : ℕ). IsLasting (g.owner j)) (let e : a + 0 ≡ a = omega arith in e) (h 0 (omega arith)))
 home-other w g Rtti a h = lasting-other w g a (subst (λ (j : ℕ). IsLasting (g.owner j)) (let e : a + 0 ≡ a = omega arith in e) (h 0 (omega arith)))
 home-other w g Seq a h = lasting-other w g (a + 1) (h 1 (omega arith))
@@ -157,7 +157,7 @@ holds-address known t n u a sure temp (x, fact, inl is, place, listed) = inl (te
 holds-address known t n u a sure temp (x, fact, inr is, place, listed) = inr (temp, ap held_type fact ∙ ap Some is)
 
 -- a known pointer's words are words
-known-words : (w : Scene) (g : AreSlots w.slots) (b : Running) (known : Knowledge) (l : code.Local) (c : flat.Local) → Point w g b known l c → (v : Temp) (m : NodeId) (u : TypeId) (d : ℕ)
+pub known-words : (w : Scene) (g : AreSlots w.slots) (b : Running) (known : Knowledge) (l : code.Local) (c : flat.Local) → Point w g b known l c → (v : Temp) (m : NodeId) (u : TypeId) (d : ℕ)
     (sure : List Sure) → Points known v m u d sure → (q : Pointer) → l.temps v ≡ Address q → AreWords (pointer_words (ground_of w.programs l.state c.state) (w.programs.whole.kind m) q)
 known-words w g b known l c p v m u d sure (x, fact, is, place, listed) q value =
     of (subst (λ (z : Value). StandsFor (ground_of w.programs l.state c.state) c.slots x (PointerTo m u) z) value
@@ -166,7 +166,7 @@ known-words w g b known l c p v m u d sure (x, fact, is, place, listed) q value 
     of : StandsFor (ground_of w.programs l.state c.state) c.slots x (PointerTo m u) (Address q) → AreWords (pointer_words (ground_of w.programs l.state c.state) (w.programs.whole.kind m) q)
     of h = h.words
 
-as-address : (known : Knowledge) (v : Temp) (m : NodeId) (u : TypeId) (d : ℕ) (sure : List Sure) → Points known v m u d sure → IsAddress known v m u d sure
+pub as-address : (known : Knowledge) (v : Temp) (m : NodeId) (u : TypeId) (d : ℕ) (sure : List Sure) → Points known v m u d sure → IsAddress known v m u d sure
 as-address known v m u d sure (x, fact, is, place, listed) = (x, fact, inl is, place, listed)
 
 pub store-pointer-follows : (w : Scene) (names : Names w) (g : AreSlots w.slots) (b : Running) (to v : Temp) (n : NodeId) (t : TypeId) (at assignment : Place) (known after : Knowledge)

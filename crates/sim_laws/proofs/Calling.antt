@@ -396,6 +396,16 @@ known-sure w g b known l c p v n u a sure (x, fact, is, place, listed) q value y
     of : StandsFor (ground_of w.programs l.state c.state) c.slots x (PointerTo n u) (Address q) → IsTrueOf y q
     of h = h.sure y (subst (λ (ys : List Sure). Contains ys y) (sym listed) holds)
 
+-- where C checks a call, what it hands over, and what it does with what is given
+abbrev place-of : code_call.Call → Condition → Place
+place-of call q = call.place
+
+abbrev arguments-of : code_call.Call → code.Local → List Value
+arguments-of call l = row_of l.temps call.first call.count
+
+abbrev call-gave : Temp → code.Local → Outcome source.Ending source.State Value → CodeOutcome
+call-gave into l o = from (beside l.temps o) (λ v. leaves (λ (k : code.Local). record k { temps = with_temp into v k.temps }) >> done Goes)
+
 pub call-follows : (w : Scene) (names : Names w) (ask : IsCallable w.programs) (g : AreSlots w.slots) (b : Running) → CallsAlike w.programs b → (call : code_call.Call)
     (known after : Knowledge) (blocks : Blocks) (lines : Lines)
     → ((n : NodeId) (u : TypeId) → shape_at w.programs.whole.table call.ty ≡ shape.Pointer n u → w.programs.whole.kind n ≢ Wild)
@@ -404,23 +414,14 @@ unfolding Then Line
 call-follows w names ask g b alike call known after blocks lines plain
     (n, u, parameters, result, a, sure, pointer, shaped, count, number, points, takes, inl (seat, (x, y, (gx, gy, got, checks_are, x_is), (put, last, args, last_is, y_is), is)), leave) l c p =
     subst (λ (js : Lines). Match w g b after blocks (meaning.act (instr.Call call) (around_of w b) l) (run js (context_of w b) c)) (sym is)
-    (subst (λ (v : Value). Match w g b after blocks (code.gives_to call.into (called_value S b.call b.depth call.place call.ty v arguments) l) (run (x ++ y) (context_of w b) c)) (sym m.value)
-    (subst (λ (o : Outcome source.Ending source.State Value). Match w g b after blocks (gave o) (run (x ++ y) (context_of w b) c))
-    (sym (source-called w b call.place call.ty n u m.pointer arguments l.state pointer safe))
-    (subst (λ (o : FlatOutcome). Match w g b after blocks (gave (called-by b m.pointer arguments (all_placed S place conditions l.state))) o) (sym (z.runs y))
-    (guard-gives w g b known after blocks call.into l z.after z.point stop (all_placed S place conditions l.state) same (called-by b m.pointer arguments) (λ e s. refl) y goes))))
+    (subst (λ (v : Value). Match w g b after blocks (code.gives_to call.into (called_value S b.call b.depth call.place call.ty v (arguments-of call l)) l) (run (x ++ y) (context_of w b) c)) (sym m.value)
+    (subst (λ (o : Outcome source.Ending source.State Value). Match w g b after blocks (call-gave call.into l o) (run (x ++ y) (context_of w b) c))
+    (sym (source-called w b call.place call.ty n u m.pointer (arguments-of call l) l.state pointer safe))
+    (subst (λ (o : FlatOutcome). Match w g b after blocks (call-gave call.into l (called-by b m.pointer (arguments-of call l) (all_placed S (place-of call) conditions l.state))) o) (sym (z.runs y))
+    (guard-gives w g b known after blocks call.into l z.after z.point stop (all_placed S (place-of call) conditions l.state) same (called-by b m.pointer (arguments-of call l)) (λ e s. refl) y goes))))
   where
     S : Setting
     S = setting_of w.programs
-
-    place : Condition → Place
-    place q = call.place
-
-    arguments : List Value
-    arguments = row_of l.temps call.first call.count
-
-    gave : Outcome source.Ending source.State Value → CodeOutcome
-    gave o = from (beside l.temps o) (λ v. leaves (λ (k : code.Local). record k { temps = with_temp call.into v k.temps }) >> done Goes)
 
     type : is_function w.programs.whole.table u ≡ true
     type = ap is_function_shape shaped
@@ -467,7 +468,7 @@ call-follows w names ask g b alike call known after blocks lines plain
     words-are f e = one-written c.slots a (function_word f) (subst (λ (k : Kind). bytes_at (word_number k) c.slots a ≡ pointer_words (ground_of w.programs l.state c.state) k m.pointer) safe m.words
         ∙ ap (pointer_words (ground_of w.programs l.state c.state) Safe) e)
 
-    compared : AreCompared w.programs.parts c.state.memory (slot z.middle) S l.state.memory place asks conditions
+    compared : AreCompared w.programs.parts c.state.memory (slot z.middle) S l.state.memory (place-of call) asks conditions
     compared = (
       refl,
       refl,
@@ -485,23 +486,23 @@ call-follows w names ask g b alike call known after blocks lines plain
             (first-is ∙ words-are k.number k.is) (ask.fits b k.number e.callee l.state c.state e.found p.there)
             ∙ ap (λ (q : Pointer). holds S l.state.memory (HasRoom (suc b.depth) q)) (sym k.is)
 
-    same : StopsAlike stop (all_placed S place conditions l.state) l.state
-    same = stops-alike w.programs.parts c.state.memory (slot z.middle) S place l.state asks conditions compared
+    same : StopsAlike stop (all_placed S (place-of call) conditions l.state) l.state
+    same = stops-alike w.programs.parts c.state.memory (slot z.middle) S (place-of call) l.state asks conditions compared
 
     Goal : Outcome source.Ending source.State Value → Type 0
     Goal o = Matches (Gave w g b known after call.into l z.after) (λ e s h k. StatesEndAlike w.programs e s h k.state) o (run y (context_of w b) z.after)
 
-    goes : stop ≡ None → Goal (called-by b m.pointer arguments (Done tt l.state))
-    goes none = of (all-held S place conditions l.state (subst (λ (o : Option Asked). StopsAlike o (all_placed S place conditions l.state) l.state) none same))
+    goes : stop ≡ None → Goal (called-by b m.pointer (arguments-of call l) (Done tt l.state))
+    goes none = of (all-held S (place-of call) conditions l.state (subst (λ (o : Option Asked). StopsAlike o (all_placed S (place-of call) conditions l.state) l.state) none same))
       where
-        of : AllHold S l.state.memory conditions → Goal (called-by b m.pointer arguments (Done tt l.state))
+        of : AllHold S l.state.memory conditions → Goal (called-by b m.pointer (arguments-of call l) (Done tt l.state))
         of held = with_function (called-safe S l.state.memory u m.pointer type value held.0)
           where
-            with_function : IsCalled S u m.pointer → Goal (called-by b m.pointer arguments (Done tt l.state))
+            with_function : IsCalled S u m.pointer → Goal (called-by b m.pointer (arguments-of call l) (Done tt l.state))
             with_function k =
-                subst (λ (q : Pointer). Goal (called-by b q arguments (Done tt l.state))) (sym k.is)
+                subst (λ (q : Pointer). Goal (called-by b q (arguments-of call l) (Done tt l.state))) (sym k.is)
                 (subst (λ (js : Lines). Matches (Gave w g b known after call.into l z.after) (λ e s h i. StatesEndAlike w.programs e s h i.state)
-                (b.call k.number (suc b.depth) arguments l.state) (run js (context_of w b) z.after)) (sym (y_is ∙ ap (λ (js : Lines). put ++ js) last_is))
+                (b.call k.number (suc b.depth) (arguments-of call l) l.state) (run js (context_of w b) z.after)) (sym (y_is ∙ ap (λ (js : Lines). put ++ js) last_is))
                 (enters-function w names ask g b alike known after call l u parameters result shaped count number takes leave k.number e z.after z.point put
                 (flat_instr.Icall (w.programs.whole.signature u) a w.slots.row (w.slots.column call.into))
                 (room-held S l.state.memory (suc b.depth) k.number (defined (head_of e.callee)) e.stands
@@ -535,25 +536,16 @@ call-follows w names ask g b alike call known after blocks lines plain (
   leave,
 ) l c p =
     subst (λ (js : Lines). Match w g b after blocks (meaning.act (instr.Call call) (around_of w b) l) (run js (context_of w b) c)) (sym (is ∙ ap (λ (js : Lines). x ++ js) others_is))
-    (subst (λ (v : Value). Match w g b after blocks (code.gives_to call.into (called_value S b.call b.depth call.place call.ty v arguments) l) (run (x ++ (y ++ rest)) (context_of w b) c))
+    (subst (λ (v : Value). Match w g b after blocks (code.gives_to call.into (called_value S b.call b.depth call.place call.ty v (arguments-of call l)) l) (run (x ++ (y ++ rest)) (context_of w b) c))
     (sym (m.value ∙ ap (λ (q : Pointer). Address q) function))
-    (subst (λ (o : Outcome source.Ending source.State Value). Match w g b after blocks (gave o) (run (x ++ (y ++ rest)) (context_of w b) c))
-    (sym (source-called w b call.place call.ty n u (Function f) arguments l.state pointer safe))
-    (subst (λ (o : FlatOutcome). Match w g b after blocks (gave (called-by b (Function f) arguments (all_placed S place conditions l.state))) o)
+    (subst (λ (o : Outcome source.Ending source.State Value). Match w g b after blocks (call-gave call.into l o) (run (x ++ (y ++ rest)) (context_of w b) c))
+    (sym (source-called w b call.place call.ty n u (Function f) (arguments-of call l) l.state pointer safe))
+    (subst (λ (o : FlatOutcome). Match w g b after blocks (call-gave call.into l (called-by b (Function f) (arguments-of call l) (all_placed S (place-of call) conditions l.state))) o)
     (sym (z.runs (y ++ rest) ∙ k.runs rest))
-    (guard-gives w g b known after blocks call.into l k.after p2 stop (all_placed S place conditions l.state) same (called-by b (Function f) arguments) (λ e s. refl) rest goes))))
+    (guard-gives w g b known after blocks call.into l k.after p2 stop (all_placed S (place-of call) conditions l.state) same (called-by b (Function f) (arguments-of call l)) (λ e s. refl) rest goes))))
   where
     S : Setting
     S = setting_of w.programs
-
-    place : Condition → Place
-    place q = call.place
-
-    arguments : List Value
-    arguments = row_of l.temps call.first call.count
-
-    gave : Outcome source.Ending source.State Value → CodeOutcome
-    gave o = from (beside l.temps o) (λ v. leaves (λ (k : code.Local). record k { temps = with_temp call.into v k.temps }) >> done Goes)
 
     conditions : List Condition
     conditions = HasRoom (suc b.depth) (Function f) ∷ []
@@ -593,8 +585,8 @@ call-follows w names ask g b alike call known after blocks lines plain (
     stop : Option Asked
     stop = first_false w.programs.parts z.after.state.memory asks (slot z.after)
 
-    same : StopsAlike stop (all_placed S place conditions l.state) l.state
-    same = stops-alike w.programs.parts z.after.state.memory (slot z.after) S place l.state asks conditions (
+    same : StopsAlike stop (all_placed S (place-of call) conditions l.state) l.state
+    same = stops-alike w.programs.parts z.after.state.memory (slot z.after) S (place-of call) l.state asks conditions (
       refl,
       refl,
       room-compared S l.state z.after.state.memory w.programs.parts (suc b.depth) f (seat Word) (defined (head_of e.callee)) (slot z.after) e.stands ask.count z.is
@@ -603,12 +595,12 @@ call-follows w names ask g b alike call known after blocks lines plain (
     )
 
     goes : stop ≡ None → Matches (Gave w g b known after call.into l k.after) (λ e s h i. StatesEndAlike w.programs e s h i.state)
-        (called-by b (Function f) arguments (Done tt l.state)) (run rest (context_of w b) k.after)
+        (called-by b (Function f) (arguments-of call l) (Done tt l.state)) (run rest (context_of w b) k.after)
     goes stopped =
         subst (λ (js : Lines). Matches (Gave w g b known after call.into l k.after) (λ e s h i. StatesEndAlike w.programs e s h i.state)
-        (b.call f (suc b.depth) arguments l.state) (run js (context_of w b) k.after)) (sym (rest_is ∙ ap (λ (js : Lines). put ++ js) last_is))
+        (b.call f (suc b.depth) (arguments-of call l) l.state) (run js (context_of w b) k.after)) (sym (rest_is ∙ ap (λ (js : Lines). put ++ js) last_is))
         (enters-function w names ask g b alike known after call l u parameters result shaped count number takes leave f e k.after p2 put
         (flat_instr.Call (suc f) w.slots.row (w.slots.column call.into))
         (room-held S l.state.memory (suc b.depth) f (defined (head_of e.callee)) e.stands
-        (all-held S place conditions l.state (subst (λ (o : Option Asked). StopsAlike o (all_placed S place conditions l.state) l.state) stopped same)).0) args
+        (all-held S (place-of call) conditions l.state (subst (λ (o : Option Asked). StopsAlike o (all_placed S (place-of call) conditions l.state) l.state) stopped same)).0) args
         (λ i passed. refl))

@@ -14,7 +14,7 @@ use Rattle.flat_mem.specs.Memory.{Frame, fits, frame_of, next_frame, newest_addr
 use Rattle.flat_mem.specs.Placement.{addresses, function_address}
 use Rattle.flat_mem.proofs.AreaLaws.{area-after_start, get-areas_made_other}
 use Rattle.flat_mem.proofs.ByteLaws.{number-same}
-use Rattle.flat_mem.proofs.FrameLaws.{frames_end-least, depth_in-older}
+use Rattle.flat_mem.proofs.FrameLaws.{frames_end-least, depth_in-older, depth-of_new_area}
 use Rattle.src_mem.specs.Pointers.{Value, Integer, Address}
 use Rattle.src_mem.specs.Memory.{Object, Planned, new_variable, frame_charge}
 use Rattle.src_mem.specs.State as source
@@ -58,7 +58,7 @@ pub record IsPlanned (p : Programs) (variables : List Planned) : Type 0 where
   pub count : length p.parts.functions ≡ suc (length (setting_of p).functions)
 
 -- a list has each of its elements
-there-is : {A : Type 0} (xs : List A) (j : ℕ) → j < length xs → (x : A) × (slice_get xs j ≡ Some x)
+pub there-is : {A : Type 0} (xs : List A) (j : ℕ) → j < length xs → (x : A) × (slice_get xs j ≡ Some x)
 there-is [] j h = absurd (omega (arith, h))
 there-is (x ∷ xs) zero h = (x, refl)
 there-is (x ∷ xs) (suc j) h = there-is xs j (omega (arith, h))

@@ -6,7 +6,10 @@ pub mod Beginning
 pub mod Leaving
 pub mod Framed
 pub mod Keeping
+pub mod PassedWords
 pub mod Prologues
+pub mod Globals
+pub mod StaticObjects
 pub mod Starting
 pub mod Accessing
 pub mod Parts
@@ -22,6 +25,9 @@ pub mod Integers
 pub mod Giving
 pub mod Tests
 pub mod Returns
+pub mod Handing
+pub mod ArgumentRows
+pub mod Calling
 pub mod Sets
 pub mod Calculations
 pub mod Comparisons

@@ -87,7 +87,7 @@ start-spot w g r o a lines (inl h) =
     let k = kept-at w (record { slot = a; content = Start o }) h.0 in inl (subst IsLasting (sym (g.kept k.0 (record { slot = a; content = Start o }) k.1).is) tt)
 start-spot w g r o a lines (inr h) = inr h.0
 
-got-start : (w : Scene) (g : AreSlots w.slots) (b : Running) (known : Knowledge) (l : code.Local) (c : flat.Local) → Point w g b known l c
+pub got-start : (w : Scene) (g : AreSlots w.slots) (b : Running) (known : Knowledge) (l : code.Local) (c : flat.Local) → Point w g b known l c
     → (o : Object) (home : NodeId) (t : TypeId) → IsNamed w b o home t → (r : Role) → 4 ≤ role_number r → (a : ℕ) (lines : Lines) → Gets (world_of w) r (Start o) a lines
     → Got w g (context_of w b) lines c a (address (ground_of w.programs l.state c.state) (object_number b.first o))
 unfolding Line

@@ -1,9 +1,10 @@
 -- Programs of plain code run as their three-address code: all laws of their instructions, of their frames and of their start are there.
-use Rattle.std.proofs.Common.{true, false, ◌≡◌, ◌≢◌, ℕ, ◌≤◌, inl, inr, ⊎_elim, List, [], ◌++◌, length, map, refl, ap, sym, subst, ◌∙◌, arith}
+use Rattle.std.specs.Prelude.{All}
+use Rattle.std.proofs.Common.{true, false, ◌≡◌, ◌≢◌, ℕ, ◌≤◌, inl, inr, ⊎_elim, List, [], ◌++◌, length, map, slice_get, Some, refl, ap, sym, subst, ◌∙◌, arith}
 use Rattle.std.proofs.lemmas.List.{length-map}
 use Rattle.std.specs.List.{Contains}
 use Rattle.cc_base.specs.declared.kind.Kind.{Kind}
-use Rattle.cc_base.specs.declared.kind.Kind.TheVariants.{Safe, Seq, Rtti, Wild}
+use Rattle.cc_base.specs.declared.kind.Kind.TheVariants.{Seq, Wild}
 use Rattle.cc_base.specs.declared.number.NodeId.{NodeId}
 use Rattle.cc_base.specs.declared.number.TypeId.{TypeId}
 use Rattle.cc_base.specs.declared.place.Place.{Place}
@@ -18,6 +19,7 @@ use Rattle.cil_form.specs.declared.instr.Comparison.{Comparison}
 use Rattle.cil_form.specs.declared.instr.Comparison.TheVariants as comparison
 use Rattle.cil_form.specs.declared.instr.Access.TheVariants as access
 use Rattle.cil_form.specs.declared.instr.Target.TheVariants as target
+use Rattle.cil_form.specs.declared.instr.Call.{Call}
 use Rattle.cil_form.specs.declared.instr.Convert.TheVariants as convert
 use Rattle.cil_form.specs.declared.instr.Point.TheVariants as point
 use Rattle.cil_form.specs.declared.instr.Instr.{Instr}
@@ -25,7 +27,7 @@ use Rattle.cil_form.specs.declared.instr.Instr.TheVariants as instr
 use Rattle.cil_form.specs.declared.program.Function.{Function}
 use Rattle.cil_form.specs.declared.program.Parameter.{Parameter}
 use Rattle.cil_form.specs.declared.program.Program.{Program}
-use Rattle.cil_form.specs.Shape.{IsInShape, IsFunctionInShape}
+use Rattle.cil_form.specs.Shape.{IsInShape, IsFunctionInShape, parameters_limit}
 use Rattle.cil_form.specs.Told.{IsToldOf, IsSolutionOf}
 use Rattle.cil_form.specs.Sites.{AreAmong, sites_of_comparison}
 use Rattle.cil_form.specs.Typing.{HeldType, IntegerOf, PointerTo, IsTemp, no_types}
@@ -34,19 +36,20 @@ use Rattle.cured_code.specs.declared.parts.Parts.{Parts}
 use Rattle.check_forms.specs.declared.slots.PointerSlots.{PointerSlots}
 use Rattle.check_forms.specs.Pieces.{Line, Then}
 use Rattle.sim_relation.specs.Points.{Knowledge}
-use Rattle.cure_rules.specs.Slots.{AreSlots}
+use Rattle.cure_rules.specs.Slots.{Slots, AreSlots}
 use Rattle.cure_rules.specs.Known.{IsPointer, held_shape}
 use Rattle.cure_rules.specs.Setting.{IsCuringSet}
 use Rattle.cure_rules.specs.Pointing.{IsCuringPoint, IsCuringConvert}
-use Rattle.cure_rules.specs.Accesses.{IsHome, StoresInteger, StoresPointer, IsCuringAccess}
+use Rattle.cure_rules.specs.Accesses.{StoresInteger, StoresPointer, IsCuringAccess}
+use Rattle.cure_rules.specs.Calling.{IsCuringCall}
 use Rattle.cure_rules.specs.Code.{Blocks, ReturnGuard, Returns}
 use Rattle.cure_rules.specs.Programs.{IsCuredProgram}
 use Rattle.sim_laws.specs.Scenes.{Programs, Scene, Running, world_of, around_of, first_scene}
 use Rattle.sim_laws.specs.Held.{IsInCode}
 use Rattle.sim_laws.specs.Statements.{Lines, Follows, AllFollow, Laws}
-use Rattle.sim_laws.specs.Calls.{Callee, FrameLaws, InstructionLaws, scene_in}
+use Rattle.sim_laws.specs.Calls.{Callee, FrameLaws, InstructionLaws, parameter_types, scene_in}
 use Rattle.sim_laws.specs.Runs.{programs_of}
-use Rattle.sim_laws.specs.Plain.{IsIntegerShape, IsPlainKind, IsPlainPointer, ArePlainPointers, IsPlainCode, IsPlainProgram}
+use Rattle.sim_laws.specs.Plain.{IsIntegerShape, IsPlainKind, IsPlainPointer, ArePlainPointers, IsPlainCallee, IsPlainCode, IsPlainHome, IsPlainProgram}
 use Rattle.sim_laws.specs.Frames.{PlainProgramsRunAlike}
 use Rattle.sim_laws.proofs.Run.{all-at, runs-alike}
 use Rattle.sim_laws.proofs.Tests.{tested}
@@ -69,13 +72,15 @@ use Rattle.sim_laws.proofs.PointerDifferences.{difference-follows}
 use Rattle.sim_laws.proofs.Shaped.{Shaped}
 use Rattle.sim_laws.proofs.Settled as settled
 use Rattle.sim_laws.proofs.Framed as framed
-use Rattle.sim_laws.proofs.Prologues.{prologue-alone}
-use Rattle.sim_laws.proofs.Starting.{started-alone}
+use Rattle.sim_laws.proofs.Calling.{IsCallable, call-follows}
+use Rattle.sim_laws.proofs.Prologues.{prologue-stores, safe-home}
+use Rattle.sim_laws.proofs.Starting.{started}
 
 -- The instructions of plain code in a scene
 
 module _ (w : Scene) (g : AreSlots w.slots) (b : Running) (whole : List Instr) (plain : IsPlainCode w.programs.whole.table w.programs.whole.kind whole) (names : Names w)
-    (shaped : (j : Instr) → IsInCode j whole → Shaped j (context_in w names 0 no_types)) (sets : AllFollow w g b whole (λ i. instr.Set i) IsCuringSet) (result : ResultFits w) where
+    (shaped : (j : Instr) → IsInCode j whole → Shaped j (context_in w names 0 no_types)) (sets : AllFollow w g b whole (λ i. instr.Set i) IsCuringSet)
+    (calls : AllFollow w g b whole (λ i. instr.Call i) IsCuringCall) (result : ResultFits w) where
   convert-follows : AllFollow w g b whole (λ i. instr.Convert i) IsCuringConvert
   convert-follows (convert.Integer into from t) inside known after blocks lines h = integer-follows w g b into from t known after blocks lines h
   convert-follows (convert.ToPointer into from t at) inside known after blocks lines h =
@@ -173,13 +178,6 @@ module _ (w : Scene) (g : AreSlots w.slots) (b : Running) (whole : List Instr) (
           (plain (instr.Point (point.Decay into from outer array false inner element at)) inside).0 (plain (instr.Point (point.Decay into from outer array false inner element at)) inside).1
           z.is.0.3.1 z.is.1.0 h
 
-  -- a home that isn't WILD is SAFE
-  safe-home : (k : Kind) → IsHome k → k ≢ Wild → k ≡ Safe
-  safe-home Safe home other = refl
-  safe-home Wild home other = absurd (other refl)
-  safe-home Seq home other = absurd home
-  safe-home Rtti home other = absurd home
-
   access-follows : AllFollow w g b whole (λ i. instr.Access i) IsCuringAccess
   unfolding Line Then
   access-follows (access.Load into from n t at) inside known after blocks lines (a, sure, address, inl h) =
@@ -252,7 +250,7 @@ module _ (w : Scene) (g : AreSlots w.slots) (b : Running) (whole : List Instr) (
     convert = convert-follows;
     access = access-follows;
     allocate = λ i inside known after blocks lines h. absurd (plain (instr.Allocate i) inside);
-    call = λ i inside known after blocks lines h. absurd (plain (instr.Call i) inside);
+    call = calls;
     runtime = runtime-follows w g b whole;
     test = tested w g b;
     given = given-follows;
@@ -269,12 +267,21 @@ module _ (p : Program) (kind : NodeId → Kind) (node : TypeId → ℕ) (parents
   laid : length both.whole.statics ≤ length both.whole.addresses
   laid = (settled.names-first p kind node is.numbers parents parts shaped told solution is.are_cured is.are_cured.slots).laid
 
+  -- a home of a parameter has no tags
+  plain-homes : (n : ℕ) (f : Function) → slice_get p.functions n ≡ Some f → (i : ℕ) (x : Parameter) (m : NodeId) → slice_get f.parameters i ≡ Some x → x.home ≡ Some m
+      → kind m ≢ Wild
+  plain-homes n f found i x m e home = subst (IsPlainHome kind) home
+      (all-at (λ (y : Parameter). IsPlainHome kind y.home) f.parameters
+      (all-at (λ (g : Function). All (λ (y : Parameter). IsPlainHome kind y.home) g.parameters) p.functions plain.parameters n f found) i x e)
+
   frame-laws : FrameLaws both
   frame-laws = record {
     fits = framed.calls-fit p kind node is.numbers parents parts shaped told solution is.are_cured;
     begins = framed.calls-begin p kind node is.numbers parents parts shaped told solution is.are_cured;
-    prologue = λ b k call enters arguments words s c there are begun. prologue-alone both laid b k (all-at (λ (f : Function). f.parameters ≡ []) p.functions plain.parameters k.number k.function k.found)
-        call enters arguments words s c are begun;
+    prologue = λ b k call enters arguments words s c there are begun. prologue-stores both k
+        (settled.names-in p kind node is.numbers parents parts shaped told solution is.are_cured k.number k.function k.found k.slots)
+        (framed.planned-in p kind node is.numbers parents parts shaped told solution is.are_cured k.number k.function k.found) b call enters s c laid
+        (plain-homes k.number k.function k.found) arguments words are begun;
     ends = framed.calls-end p kind node is.numbers parents parts shaped told solution is.are_cured;
     none = framed.ends-give-zero p kind node is.numbers parents parts shaped told solution is.are_cured;
   }
@@ -286,17 +293,46 @@ module _ (p : Program) (kind : NodeId → Kind) (node : TypeId → ℕ) (parents
       f : IsFunctionInShape p k.function
       f = all-at (IsFunctionInShape p) p.functions shaped.functions k.number k.function k.found
 
+  callable : IsCallable both
+  callable = record {
+    formed = shaped.formed;
+    signatures = is.are_cured.signatures;
+    cured = is.are_cured.functions;
+    count = (framed.planned-statics p kind node is.numbers parents parts shaped told solution is.are_cured).count;
+    types = λ n f found. of f (all-at (IsFunctionInShape p) p.functions shaped.functions n f found);
+    fits = frame-laws.fits;
+  }
+    where
+      of : (f : Function) → IsFunctionInShape p f
+          → (result : TypeId) × (shape_at p.types f.ty ≡ shape.Function (parameter_types f) result) × (length (parameter_types f) ≤ parameters_limit)
+      of f h = (h.type.0, h.type.2, (let e = length-map f.parameters (λ (x : Parameter). x.ty) in let l = h.parameters in omega (arith, e, l)))
+
+  -- a callee isn't WILD
+  plain-callee : (code : List Instr) → IsPlainCode p.types kind code → (i : Call) → IsInCode (instr.Call i) code → (n : NodeId) (u : TypeId)
+      → shape_at p.types i.ty ≡ shape.Pointer n u → kind n ≢ Wild
+  plain-callee code plain i inside n u e = subst (IsPlainCallee kind) e (plain (instr.Call i) inside)
+
+  -- function 0 calls nothing
+  no-call : (slots : Slots) (known after : Knowledge) (i : Call) (lines : Lines) → IsCuringCall i (world_of (first_scene both slots)) known after lines → ⊥
+  no-call slots known after i lines h = h.9 refl
+
   instruction-laws : InstructionLaws both
   instruction-laws = record {
     function = λ k b calls. plain-laws (scene_in both k) k.is.slots.slots b k.function.body.0.items
         (all-at (λ (f : Function). IsPlainCode p.types kind f.body.0.items) p.functions plain.functions k.number k.function k.found)
         (settled.names-in p kind node is.numbers parents parts shaped told solution is.are_cured k.number k.function k.found k.slots)
         (settled.shaped-at p kind node is.numbers parents parts shaped told solution is.are_cured k.number k.function k.found k.slots)
-        (settled.set-in p kind node is.numbers parents parts shaped told solution is.are_cured k.number k.function k.found k.slots k.is.slots.slots b) (result-in k);
+        (settled.set-in p kind node is.numbers parents parts shaped told solution is.are_cured k.number k.function k.found k.slots k.is.slots.slots b)
+        (λ i inside known after blocks lines h. call-follows (scene_in both k)
+        (settled.names-in p kind node is.numbers parents parts shaped told solution is.are_cured k.number k.function k.found k.slots) callable k.is.slots.slots b calls i known after blocks
+        lines (plain-callee k.function.body.0.items
+        (all-at (λ (f : Function). IsPlainCode p.types kind f.body.0.items) p.functions plain.functions k.number k.function k.found) i inside) h)
+        (result-in k);
     start = λ slots g b. plain-laws (first_scene both slots) g b p.initialisers.0.items plain.initialisers
         (settled.names-first p kind node is.numbers parents parts shaped told solution is.are_cured slots)
         (settled.shaped-begin p kind node is.numbers parents parts shaped told solution is.are_cured slots)
-        (settled.set-first p kind node is.numbers parents parts shaped told solution is.are_cured slots g b) (record { words = λ t e. absurd (cc (e)) });
+        (settled.set-first p kind node is.numbers parents parts shaped told solution is.are_cured slots g b)
+        (λ i inside known after blocks lines h. absurd (no-call slots known after i lines h)) (record { words = λ t e. absurd (cc (e)) });
   }
 
 -- THE THEOREM OF PLAIN PROGRAMS
@@ -304,4 +340,4 @@ pub plain-alike : PlainProgramsRunAlike
 plain-alike p kind node parents parts input turns shaped told solution plain is bytes =
     runs-alike p kind node parents parts p.sites input turns shaped is (frame-laws p kind node parents parts shaped told solution is plain)
     (instruction-laws p kind node parents parts shaped told solution is plain)
-    (started-alone p kind node is.numbers parents parts shaped is.are_cured plain.statics input bytes turns)
+    (started p kind node is.numbers parents parts shaped told solution is.are_cured input bytes turns)

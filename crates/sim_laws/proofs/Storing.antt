@@ -137,7 +137,7 @@ line-of-words Rtti a v = refl
 line-of-words Seq a v = refl
 line-of-words Wild a v = refl
 
-line-of-pointer : (outer k : Kind) → outer ≢ Wild → (w : Scene) (s : PointerSlots) (v : ℕ) (lines : Lines) → PointerStored outer k (world_of w) s v lines → lines ≡ storing k s.first v ∷ []
+pub line-of-pointer : (outer k : Kind) → outer ≢ Wild → (w : Scene) (s : PointerSlots) (v : ℕ) (lines : Lines) → PointerStored outer k (world_of w) s v lines → lines ≡ storing k s.first v ∷ []
 unfolding Line
 line-of-pointer Safe k plain w s v lines h = h ∙ line-of-words k s.first v
 line-of-pointer Rtti k plain w s v lines h = h ∙ line-of-words k s.first v

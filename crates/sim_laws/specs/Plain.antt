@@ -1,8 +1,8 @@
 -- A part of three-address code whose laws are all there: constants and addresses, tests for null, calculations, conversions of integers and from
 -- them, loads and stores of integers and pointers through pointers that aren't WILD, stores of integers into parts of objects that are named,
 -- `free`, `getchar`, `putchar` and `exit`, control and returns; and of pointers that are SAFE or SEQ `&`, members, arrays that decay, moves,
--- comparisons and differences; in functions without parameters.
-use Rattle.std.specs.Prelude.{◌≡◌, ◌≢◌, ⊤, List, [], All}
+-- comparisons and differences; calls through pointers that aren't WILD; in functions whose parameters have homes without tags.
+use Rattle.std.specs.Prelude.{◌≡◌, ◌≢◌, ⊤, List, Option, Some, None, All}
 use Rattle.cc_base.specs.declared.kind.Kind.{Kind}
 use Rattle.cc_base.specs.declared.kind.Kind.TheVariants.{Safe, Seq, Wild}
 use Rattle.cc_base.specs.declared.number.NodeId.{NodeId}
@@ -21,6 +21,7 @@ use Rattle.cil_form.specs.declared.instr.Point.{Point}
 use Rattle.cil_form.specs.declared.instr.Point.TheVariants as point
 use Rattle.cil_form.specs.declared.instr.Instr.{Instr}
 use Rattle.cil_form.specs.declared.instr.Instr.TheVariants as instr
+use Rattle.cil_form.specs.declared.program.Parameter.{Parameter}
 use Rattle.cil_form.specs.declared.program.Function.{Function}
 use Rattle.cil_form.specs.declared.program.Program.{Program}
 use Rattle.sim_laws.specs.Held.{IsInCode}
@@ -70,6 +71,11 @@ IsPlainPoint table kind (point.Member into from outer t i inner u at) = (kind ou
 IsPlainPoint table kind (point.Decay into from outer array check inner element at) = (kind outer ≢ Wild) × IsPlainKind (kind inner)
 IsPlainPoint table kind (point.Address into from outer inner t) = (kind outer ≢ Wild) × IsPlainKind (kind inner)
 
+-- a call through a pointer that isn't WILD
+abbrev pub IsPlainCallee : (NodeId → Kind) → TypeShape → Type 0
+IsPlainCallee kind (shape.Pointer n u) = kind n ≢ Wild
+IsPlainCallee kind other = ⊤
+
 -- a single instruction; control holds others, of which the same is said
 abbrev pub IsPlainInstr : Table → (NodeId → Kind) → Instr → Type 0
 IsPlainInstr table kind (instr.Set i) = ⊤
@@ -78,7 +84,7 @@ IsPlainInstr table kind (instr.Point i) = IsPlainPoint table kind i
 IsPlainInstr table kind (instr.Convert i) = IsPlainConvert i
 IsPlainInstr table kind (instr.Access i) = IsPlainAccess table kind i
 IsPlainInstr table kind (instr.Allocate i) = ⊥
-IsPlainInstr table kind (instr.Call i) = ⊥
+IsPlainInstr table kind (instr.Call i) = IsPlainCallee kind (shape_at table i.ty)
 IsPlainInstr table kind (instr.Runtime i) = ⊤
 IsPlainInstr table kind (instr.If' t shape code shape' other) = ⊤
 IsPlainInstr table kind (instr.Block' shape code) = ⊤
@@ -91,9 +97,13 @@ IsPlainInstr table kind (instr.ReturnValue v t at) = ⊤
 abbrev pub IsPlainCode : Table → (NodeId → Kind) → List Instr → Type 0
 IsPlainCode table kind code = (i : Instr) → IsInCode i code → IsPlainInstr table kind i
 
--- A program of such code under these kinds, without static objects, whose functions take nothing.
+-- a parameter is stored into a home without tags
+abbrev pub IsPlainHome : (NodeId → Kind) → Option NodeId → Type 0
+IsPlainHome kind None = ⊤
+IsPlainHome kind (Some n) = kind n ≢ Wild
+
+-- A program of such code under these kinds, whose functions take such parameters.
 pub record IsPlainProgram (p : Program) (kind : NodeId → Kind) : Type 0 where
-  pub statics : p.statics ≡ []
   pub initialisers : IsPlainCode p.types kind p.initialisers.0.items
-  pub parameters : All (λ (f : Function). f.parameters ≡ []) p.functions
+  pub parameters : All (λ (f : Function). All (λ (x : Parameter). IsPlainHome kind x.home) f.parameters) p.functions
   pub functions : All (λ (f : Function). IsPlainCode p.types kind f.body.0.items) p.functions

@@ -124,7 +124,8 @@ abbrev pub IsWordFor : HeldType → ℕ → Type 0
 IsWordFor (IntegerOf i) n = n < 2 ^ 64
 IsWordFor x n = ⊤
 
--- The two machines are at one point of a body: beside what is so wherever a call has come to, each temporary of which something is known holds
+-- The two machines are at one point of a body, which a call one deeper than that around it runs, if it isn't function 0's: beside what is so wherever
+-- a call has come to, each temporary of which something is known holds
 -- a value of its type, and slots that writing another temporary leaves stand for it; the kept slots hold what they are kept for, and the slot
 -- that is never written holds 0.
 pub record Point (w : Scene) (g : AreSlots w.slots) (b : Running) (known : Knowledge) (l : code.Local) (c : flat.Local) : Type 0 where

@@ -5,6 +5,7 @@ use Rattle.std.proofs.lemmas.Option.{slice_get_within}
 use Rattle.cc_base.specs.declared.kind.Kind.{Kind}
 use Rattle.cc_base.specs.declared.number.NodeId.{NodeId}
 use Rattle.cc_base.specs.declared.number.TypeId.{TypeId}
+use Rattle.c_types.specs.Widths.{width_of, cured_size}
 use Rattle.flat_mem.specs.Bytes.{AreBytes}
 use Rattle.flat_mem.specs.Memory.{IsSound, first_memory, fits, next_frame}
 use Rattle.flat_mem.specs.Placement.{areas_made, areas_size, first_bytes, flat_size, globals_start}
@@ -38,7 +39,7 @@ use Rattle.cured_code.specs.Tables.{area_of, areas_of}
 use Rattle.cured_code.specs.FlatMachine.{blocks_charge_limit, frames_charge_limit, entry, first_state, global_areas, globals_written, loaded_memory, placed, plan_of}
 use Rattle.cured_code.proofs.SlotLaws.{words-zero}
 use Rattle.cured_code.proofs.StartLaws.{length-entry, length-loaded}
-use Rattle.sim_relation.specs.Ground.{function_word}
+use Rattle.sim_relation.specs.Ground.{cells, function_word}
 use Rattle.sim_relation.specs.Related.{Related}
 use Rattle.sim_relation.specs.Points.{object_number}
 use Rattle.sim_relation.proofs.Frames.{length-placed}
@@ -46,7 +47,7 @@ use Rattle.sim_memory.proofs.Blocks.{index-zero}
 use Rattle.cure_rules.specs.Functions.{areas_for}
 use Rattle.cure_rules.specs.Programs.{Numbers, AreCured, whole_of}
 use Rattle.sim_laws.specs.Scenes.{Programs, setting_of, first_scene}
-use Rattle.sim_laws.specs.Points.{Holds, IsLaid, NamesAlike, There, planned_at}
+use Rattle.sim_laws.specs.Points.{Holds, IsLaid, NamesAlike, There, planned_at, ground_of}
 use Rattle.sim_laws.specs.Runs.{Started, programs_of, source_first, first_running}
 use Rattle.sim_laws.proofs.Points.{grows-same}
 use Rattle.sim_laws.proofs.Run.{start-fits}
@@ -204,6 +205,7 @@ module _ (p : Program) (kind : NodeId → Kind) (node : TypeId → ℕ) (numbers
     globals = (let e = no-addresses in omega (arith, e));
     statics = λ k l. absurd (let e = no-addresses in omega (arith, l, e));
     objects = objects;
+    wide = wide;
     own = λ some. absurd (omega (arith, some));
     since = grows-same both 0 s s c c refl refl;
   }
@@ -218,6 +220,11 @@ module _ (p : Program) (kind : NodeId → Kind) (node : TypeId → ℕ) (numbers
           → Holds both s 0 (PlaceOf v.node t) (Address (home p.types (object_number 0 o) t))
       objects (object.Static n) v t e m = absurd (let f = ap (λ (xs : List Planned). slice_get xs n.0) no-statics in cc (e, f))
       objects (object.Variable n) v t e m = absurd (cc (e))
+
+      wide : (o : named.Object) (v : Planned) → planned_at both.whole.statics [] o ≡ Some v
+          → width_of kind (cells (ground_of both s c) (object_number 0 o)) ≡ cured_size p.types kind v.type
+      wide (object.Static n) v e = absurd (let f = ap (λ (xs : List Planned). slice_get xs n.0) no-statics in cc (e, f))
+      wide (object.Variable n) v e = absurd (cc (e))
 
   no-more : length both.whole.statics ≤ length both.whole.addresses
   no-more = let e = ap (λ (xs : List Planned). length xs) no-statics in omega (arith, e)

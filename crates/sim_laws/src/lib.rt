@@ -36,9 +36,10 @@ pub fn frames_follow()
 
 /// The cured program of a plain program runs as its three-address code, for every input of bytes and every number of turns: this has no premise
 /// on instructions, frames or the start. A plain program has no static objects, its functions take nothing, and its code is of constants,
-/// addresses, `&` of a place as a SAFE pointer, calculations, conversions of integers, loads and stores of integers and pointers through pointers
-/// that aren't WILD, stores of integers into parts of objects that are named, `free`, `getchar`, `putchar`, `exit`, control, and the return of
-/// nothing or of an integer.
+/// addresses, `&` of a place as a SAFE pointer, calculations, conversions of integers, from them, and between pointers that are SAFE or SEQ, loads
+/// and stores of integers and pointers through pointers that aren't WILD or into parts of objects that are named, copies of structs and
+/// clearing of variables without tags, `malloc` and `calloc` into pointers that are SAFE or SEQ, `free`, `getchar`, `putchar`, `exit`,
+/// control, and the return of nothing or of an integer.
 pub fn plain_programs_run_alike()
     ensures { PlainProgramsRunAlike }
 {}

@@ -25,7 +25,6 @@ use Rattle.cil_form.specs.declared.number.Object.{Object}
 use Rattle.cil_form.specs.declared.number.Object.TheVariants as object
 use Rattle.cil_form.specs.declared.instr.Access.TheVariants as access
 use Rattle.cil_form.specs.declared.instr.Instr.TheVariants as instr
-use Rattle.cil_form.specs.State as code
 use Rattle.cil_form.specs.State.{beside}
 use Rattle.cil_form.specs.Typing.{IsObject, no_types}
 use Rattle.cil_form.specs.Meaning as meaning

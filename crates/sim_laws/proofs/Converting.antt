@@ -1,5 +1,5 @@
 -- Conversions between pointers that are SAFE or SEQ.
-use Rattle.std.proofs.Common.{◌≡◌, ◌⊎◌, inl, inr, ℕ, zero, suc, ◌+◌, ◌^◌, ◌<◌, ◌≤◌, ℤ, pos, ◌+ℤ◌, Bool, true, false, List, [], ◌∷◌, ◌++◌, length, Option, Some, None, refl, ap, sym, subst, ◌∙◌, arith, nat_eq, if◌then◌else◌}
+use Rattle.std.proofs.Common.{◌≡◌, ◌⊎◌, inl, inr, ℕ, suc, ◌+◌, ◌^◌, ◌<◌, ◌≤◌, ℤ, pos, ◌+ℤ◌, Bool, true, false, List, [], ◌∷◌, ◌++◌, length, Option, Some, None, refl, ap, sym, subst, ◌∙◌, arith, nat_eq, if◌then◌else◌}
 use Rattle.std.specs.List.{Contains, list_all}
 use Rattle.cc_base.specs.declared.fault.Check.TheVariants as check
 use Rattle.cc_base.specs.declared.kind.Kind.{Kind}
@@ -22,7 +22,7 @@ use Rattle.flat_mem.specs.Memory as flat_memory
 use Rattle.src_mem.specs.Pointers.{Location, Pointer, Null, Number, At, Function, Value, Address}
 use Rattle.src_mem.specs.State as source
 use Rattle.src_mem.specs.State.{Setting}
-use Rattle.src_mem.specs.Checks.{Condition, Conversion, InBounds, null_or_in_bounds, conditions_by_kinds, conditions_of_conversion, all_checked, holds}
+use Rattle.src_mem.specs.Checks.{Condition, InBounds, null_or_in_bounds, conditions_by_kinds, conditions_of_conversion, all_checked, holds}
 use Rattle.src_mem.specs.Primitives.{convert as convert_by, is_made_anew, made_at}
 use Rattle.src_mem.specs.Operations.{node_of_shape, pointee_of_shape, node_at, pointee_at}
 use Rattle.src_mem.specs.Values.{pointer_value}
@@ -50,7 +50,7 @@ use Rattle.check_forms.specs.Conditions.{IsInPart, IsByteInPart, UnlessNull, fla
 use Rattle.check_forms.specs.Lines.{IsOther}
 use Rattle.check_forms.specs.Rows.{Asked, asked, in_part, flat_conditions}
 use Rattle.check_forms.specs.RowChecks.{AreChecks, first_false}
-use Rattle.sim_relation.specs.Ground.{Ground, place, natural, row, first_word, pointer_words, word_number}
+use Rattle.sim_relation.specs.Ground.{Ground, place, natural, first_word, pointer_words, word_number}
 use Rattle.sim_relation.specs.Points.{Knowledge, Sure, AreWords}
 use Rattle.sim_checks.specs.Rows.{IsChecked}
 use Rattle.sim_memory.proofs.Finding.{sequence-here}

@@ -24,7 +24,7 @@ use Rattle.integers.specs.Operators.{sum_words}
 use Rattle.runs.specs.Outcome.{Outcome, Done, done, from}
 use Rattle.runs.specs.Control.{Goes, then_go}
 use Rattle.flat_mem.specs.Bytes.{bytes_at, written}
-use Rattle.src_mem.specs.Pointers.{Location, Pointer, At, Address}
+use Rattle.src_mem.specs.Pointers.{Location, Pointer, At}
 use Rattle.src_mem.specs.Memory.{Memory}
 use Rattle.src_mem.specs.State as source_state
 use Rattle.src_mem.specs.State.{Setting}
@@ -44,7 +44,7 @@ use Rattle.cil_form.specs.State.{beside}
 use Rattle.cured_code.specs.declared.instr.Instr.TheVariants as flat_instr
 use Rattle.cured_code.specs.FlatState as flat
 use Rattle.cured_code.specs.FlatState.{slot, with_slot}
-use Rattle.cured_code.specs.FlatMachine.{act, run}
+use Rattle.cured_code.specs.FlatMachine.{run}
 use Rattle.check_forms.specs.declared.slots.PointerSlots.{PointerSlots}
 use Rattle.check_forms.specs.declared.op.Op.TheVariants as op
 use Rattle.check_forms.specs.Pieces.{Line, Then}
@@ -56,7 +56,7 @@ use Rattle.check_forms.proofs.TestLaws.{append-append}
 use Rattle.sim_checks.specs.Rows.{AreWordsOf, IsChecked}
 use Rattle.sim_checks.proofs.Addresses.{there}
 use Rattle.sim_checks.proofs.Escape.{escape-compared}
-use Rattle.sim_relation.specs.Ground.{Ground, address, place, pointer_words, word_number}
+use Rattle.sim_relation.specs.Ground.{Ground, address, pointer_words, word_number}
 use Rattle.sim_relation.specs.Points.{Knowledge, Number}
 use Rattle.sim_relation.specs.Related as relation
 use Rattle.sim_relation.proofs.Pointers.{row-length}

@@ -378,7 +378,7 @@ lines-of-load Seq k plain w v a lines h = h ∙ line-of-load k v a
 lines-of-load Wild k plain w v a lines h = absurd (plain refl)
 
 -- what is written into a row of slots stands there
-written-row : (words slots : List ℕ) (v : ℕ) → v + length words ≤ length slots → bytes_at (length words) (written words slots v) v ≡ words
+pub written-row : (words slots : List ℕ) (v : ℕ) → v + length words ≤ length slots → bytes_at (length words) (written words slots v) v ≡ words
 unfolding bytes_at written
 written-row [] slots v room = refl
 written-row (n ∷ words) slots v room =

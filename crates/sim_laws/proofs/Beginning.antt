@@ -1,5 +1,5 @@
 -- A call begins: the states are those where the call has come to, once its frame is pushed.
-use Rattle.std.proofs.Common.{◌≡◌, ℕ, zero, suc, ◌+◌, ◌-◌, ◌<◌, ◌≤◌, ◌⊎◌, inl, inr, true, List, [], ◌∷◌, ◌++◌, length, map, slice_get, slice_index, Some, refl, ap, sym, ◌∙◌, arith, nat_le, nat_lt, ◌&&◌}
+use Rattle.std.proofs.Common.{◌≡◌, ℕ, zero, suc, ◌+◌, ◌-◌, ◌<◌, ◌≤◌, ◌⊎◌, inl, inr, true, List, [], ◌∷◌, ◌++◌, length, map, slice_get, slice_index, Option, Some, refl, ap, sym, ◌∙◌, arith, nat_le, nat_lt, ◌&&◌}
 use Rattle.std.proofs.lemmas.List.{length-append, length-map, map-append}
 use Rattle.std.proofs.lemmas.Option.{slice_get_within}
 use Rattle.cc_base.specs.declared.number.NodeId.{NodeId}
@@ -7,6 +7,7 @@ use Rattle.cc_base.specs.declared.number.TypeId.{TypeId}
 use Rattle.c_types.proofs.OrderedPointers.{Which, old, new, which, get_back}
 use Rattle.c_types.specs.Table.{IsComplete}
 use Rattle.c_types.specs.Flows.{IsOfOneClass}
+use Rattle.c_types.specs.Widths.{width_of, cured_size}
 use Rattle.c_types.specs.Sound.{IsWellFormed}
 use Rattle.flat_mem.specs.declared.Area.{Area}
 use Rattle.flat_mem.specs.declared.memory.Bounds.{Bounds}
@@ -21,7 +22,7 @@ use Rattle.src_mem.specs.State as source
 use Rattle.src_mem.specs.State.{Setting, Defined}
 use Rattle.src_mem.specs.Checks.{depth_limit, source_frame_limit}
 use Rattle.src_mem.specs.Primitives as primitive
-use Rattle.src_mem.specs.Outlines.{Life, outline, life, outlines_of, lives_of}
+use Rattle.src_mem.specs.Outlines.{Outline, Life, outline, life, outlines_of, lives_of}
 use Rattle.src_mem.specs.Uses.{home}
 use Rattle.src_mem.specs.Runs.{Calls}
 use Rattle.src_mem.specs.Facts.{IsSoundAt}
@@ -36,9 +37,9 @@ use Rattle.cil_facts.proofs.Homes.{home-named}
 use Rattle.cured_code.specs.FlatState as flat
 use Rattle.cured_code.specs.FlatState.{PlacedArea}
 use Rattle.cured_code.specs.FlatMachine as machine
-use Rattle.cured_code.specs.FlatMachine.{noted, placed, plan_of}
-use Rattle.sim_relation.specs.Ground.{address, address_in, function_word}
-use Rattle.sim_relation.specs.Objects.{frame_areas, variable_area, flat_depth}
+use Rattle.cured_code.specs.FlatMachine.{noted, placed}
+use Rattle.sim_relation.specs.Ground.{address, address_in, cells, cells_in, function_word}
+use Rattle.sim_relation.specs.Objects.{flat_depth, frame_areas, variable_area}
 use Rattle.sim_relation.specs.Related.{Related}
 use Rattle.sim_relation.specs.Points.{object_number}
 use Rattle.sim_relation.proofs.Frames.{get-placed}
@@ -48,6 +49,7 @@ use Rattle.sim_memory.proofs.Blocks.{heap-kept_by_call}
 use Rattle.sim_laws.specs.Scenes.{Programs, Running, Enters, setting_of}
 use Rattle.sim_laws.specs.Points.{Holds, NamesAlike, IsLaid, AreOwn, There, Grows, planned_at, ground_of}
 use Rattle.sim_laws.proofs.Fitting.{entered-fits}
+use Rattle.sim_laws.proofs.Points.{named-there, width-kept}
 use Rattle.sim_laws.proofs.Growing as growing
 
 -- What calls and frames ask of a program: types that are well formed, a solution of its kinds for variables, and functions before its globals.
@@ -222,6 +224,12 @@ module _ (p : Programs) (variables : List Planned) (is : IsPlanned p variables) 
         older = omega arith;
       }) u (is.class v.type u m)
 
+  wide : (o : named.Object) (v : Planned) → planned_at p.whole.statics variables o ≡ Some v
+      → width_of p.whole.kind (cells (ground_of p t d) (object_number (length s.memory.objects) o)) ≡ cured_size p.whole.table p.whole.kind v.type
+  wide (object.Static n) v e = width-kept p b.depth s t c d since-begun b.first (object.Static n) (named-there p b s c there (object.Static n) v e) ∙ there.wide (object.Static n) v e
+  wide (object.Variable n) v e = ap (λ (x : Option Outline). width_of p.whole.kind (cells_in x))
+      (get-mapped outline t.memory.objects (length s.memory.objects + n.0) (new_variable p.whole.table (suc b.depth) v) (found-variable n.0 v e))
+
   own : AreOwn (suc b.depth) (length s.memory.objects) (length variables) (lives_of t.memory)
   own n x e live d_is = by (mapped-from life t.memory.objects n x e)
     where
@@ -270,6 +278,7 @@ module _ (p : Programs) (variables : List Planned) (is : IsPlanned p variables) 
     globals = (let e = length-append s.memory.objects more in let m = there.globals in omega (arith, e, m));
     statics = λ n l. there.statics n l ∙ sym (old-address n (let m = there.globals in omega (arith, l, m)));
     objects = objects;
+    wide = wide;
     own = λ some. own;
     since = since-begun;
   }

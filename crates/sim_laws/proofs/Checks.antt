@@ -1,5 +1,5 @@
 -- Checks: the numbers that they compare with, and that the lines stop exactly where C does.
-use Rattle.std.proofs.Common.{◌&&◌, ◌≡◌, ℕ, ◌+◌, ◌<◌, ◌≤◌, ◌⊎◌, inl, inr, Bool, true, false, List, [], ◌∷◌, ◌++◌, Option, Some, None, refl, ap, sym, subst, ◌∙◌, arith, nat_eq, nat_le, is_none, if◌then◌else◌}
+use Rattle.std.proofs.Common.{◌&&◌, ◌≡◌, ℕ, ◌+◌, ◌<◌, ◌≤◌, ◌⊎◌, inl, inr, Bool, true, false, List, [], ◌∷◌, ◌++◌, slice_index, Option, Some, None, refl, ap, sym, subst, ◌∙◌, arith, nat_eq, nat_le, is_none, if◌then◌else◌}
 use Rattle.std.proofs.lemmas.Bool.Decides.{nat_tests}
 use Rattle.cc_base.specs.declared.fault.Check.{Check}
 use Rattle.cc_base.specs.declared.fault.Check.TheVariants as check_name
@@ -64,6 +64,10 @@ abbrev pub AreOfRoles : List Need → Type 0
 AreOfRoles [] = Unit {0}
 AreOfRoles (x ∷ xs) = (nat_le 4 (role_number x.role) ≡ true) × IsNoneOf x.role xs × AreOfRoles xs
 
+-- the working slot of another role, and each that lasts, is left
+abbrev pub IsSpared : (w : Scene) → AreSlots w.slots → List Need → List ℕ → List ℕ → Type 0
+IsSpared w g needs slots after = (r : Role) → IsNoneOf r needs → (a : ℕ) → IsLasting (g.owner a) ⊎ (a ≡ slot_of w.slots r) → slice_index after a ≡ slice_index slots a
+
 -- behind the lines that set them
 pub record AllGot (w : Scene) (g : AreSlots w.slots) (b : Running) (needs : List Need) (lines : Lines) (c : flat.Local) : Type 0 where
   pub after : flat.Local
@@ -71,8 +75,7 @@ pub record AllGot (w : Scene) (g : AreSlots w.slots) (b : Running) (needs : List
   pub passed : Passed w g c.slots after.slots
   pub runs : (rest : Lines) → run (lines ++ rest) (context_of w b) c ≡ run rest (context_of w b) after
   pub there : AreThere w after needs
-  -- the working slot of another role, and each that lasts, is left
-  pub spares : (r : Role) → IsNoneOf r needs → (a : ℕ) → IsLasting (g.owner a) ⊎ (a ≡ slot_of w.slots r) → slot after a ≡ slot c a
+  pub spares : IsSpared w g needs c.slots after.slots
 
 -- where a number stands that is kept, or set
 pub got-spot : (w : Scene) (g : AreSlots w.slots) (r : Role) (n a : ℕ) (lines : Lines) → Gets (world_of w) r (Number n) a lines
@@ -149,37 +152,56 @@ pub guarded-lasting : (w : Scene) (g : AreSlots w.slots) (b : Running) (known : 
     (c : flat.Local) (z : Guarded w g b known l needs conditions lines c) (a : ℕ) → IsLasting (g.owner a) → slot z.after a ≡ slot c a
 guarded-lasting w g b known l needs conditions lines c z a lasts = z.others a (lasting-other w g a lasts) ∙ z.passed.others a lasts
 
+-- the same, where the working slot of a role that no number has is left as well
+pub record Sparing (w : Scene) (g : AreSlots w.slots) (b : Running) (known : Knowledge) (l : code.Local) (needs : List Need) (conditions : List Asked) (lines : Lines)
+    (c : flat.Local) : Type 0 where
+  pub guarded : Guarded w g b known l needs conditions lines c
+  pub spared : IsSpared w g needs c.slots guarded.middle.slots
+
+-- checks behind numbers that are got
+pub checked-got : (w : Scene) (g : AreSlots w.slots) (b : Running) (known : Knowledge) (l : code.Local) (needs : List Need) (conditions : List Asked) (x y : Lines)
+    (c : flat.Local) → Point w g b known l c → (z : AllGot w g b needs x c) → AreChecks (work_of w.slots) conditions y → AreReady w c z.after conditions
+    → Sparing w g b known l needs conditions (x ++ y) c
+checked-got w g b known l needs conditions x y c p z checks r = with_checks (rows (work_of w.slots) conditions y (context_of w b) z.after
+    (ready w g c z.after p.count p.nought z.passed) r.apart r.held
+    (subst (λ (s : flat.State). AreSafe w.programs.parts s.memory conditions (slot z.after)) (sym z.state) r.safe) checks)
+  where
+    with_checks : AreChecked (work_of w.slots) conditions y (context_of w b) z.after → Sparing w g b known l needs conditions (x ++ y) c
+    with_checks k = record {
+      guarded = record {
+        middle = z.after;
+        passed = z.passed;
+        there = z.there;
+        after = k.after;
+        point = passed-point w g b known l c k.after p (k.state ∙ z.state)
+            (passed-then w g c.slots z.after.slots k.after.slots z.passed
+            (record { others = λ a h. k.slots a (lasting-other w g a h); long = k.count }));
+        state = k.state ∙ z.state;
+        runs = λ rest. ap (λ (js : Lines). run js (context_of w b) c) (append-append x y rest) ∙ z.runs (y ++ rest) ∙ k.runs rest
+            ∙ ap (λ (s : flat.State). from (stopped_by (first_false w.programs.parts s.memory conditions (slot z.after)) k.after) (λ u. then_go u (run rest (context_of w b)))) z.state;
+        others = k.slots;
+        behind = λ passed. k.behind (ap (λ (s : flat.State). first_false w.programs.parts s.memory conditions (slot z.after)) z.state ∙ passed)
+            ∙ ap (λ (s : flat.State). slots_after (work_of w.slots) w.programs.parts s.memory conditions (slot z.after)) z.state;
+      };
+      spared = z.spares;
+    }
+
+pub guarded-sparing : (w : Scene) (g : AreSlots w.slots) (b : Running) (known : Knowledge) (l : code.Local) (needs : List Need) (conditions : List Asked) (lines : Lines)
+    (c : flat.Local) → Point w g b known l c → AreOfRoles needs → Then (AreGot (world_of w) needs) (AreChecks (work_of w.slots) conditions) lines
+    → ((d : flat.Local) → Passed w g c.slots d.slots → AreThere w d needs → AreReady w c d conditions)
+    → Sparing w g b known l needs conditions lines c
+unfolding Then
+guarded-sparing w g b known l needs conditions lines c p roles (x, y, gets, checks, is) are_ready =
+    subst (λ (js : Lines). Sparing w g b known l needs conditions js c) (sym is) (of (all-got w g b known l needs x c p roles gets))
+  where
+    of : AllGot w g b needs x c → Sparing w g b known l needs conditions (x ++ y) c
+    of z = checked-got w g b known l needs conditions x y c p z checks (are_ready z.after z.passed z.there)
+
 pub guarded : (w : Scene) (g : AreSlots w.slots) (b : Running) (known : Knowledge) (l : code.Local) (needs : List Need) (conditions : List Asked) (lines : Lines)
     (c : flat.Local) → Point w g b known l c → AreOfRoles needs → Then (AreGot (world_of w) needs) (AreChecks (work_of w.slots) conditions) lines
     → ((d : flat.Local) → Passed w g c.slots d.slots → AreThere w d needs → AreReady w c d conditions) → Guarded w g b known l needs conditions lines c
-unfolding Then
-guarded w g b known l needs conditions lines c p roles (x, y, gets, checks, is) are_ready = subst (λ (js : Lines). Guarded w g b known l needs conditions js c) (sym is)
-    (with_numbers (all-got w g b known l needs x c p roles gets))
-  where
-    with_numbers : AllGot w g b needs x c → Guarded w g b known l needs conditions (x ++ y) c
-    with_numbers z = with_checks (rows (work_of w.slots) conditions y (context_of w b) z.after
-        (ready w g c z.after p.count p.nought z.passed) r.apart r.held
-        (subst (λ (s : flat.State). AreSafe w.programs.parts s.memory conditions (slot z.after)) (sym z.state) r.safe) checks)
-      where
-        r : AreReady w c z.after conditions
-        r = are_ready z.after z.passed z.there
-
-        with_checks : AreChecked (work_of w.slots) conditions y (context_of w b) z.after → Guarded w g b known l needs conditions (x ++ y) c
-        with_checks k = record {
-          middle = z.after;
-          passed = z.passed;
-          there = z.there;
-          after = k.after;
-          point = passed-point w g b known l c k.after p (k.state ∙ z.state)
-              (passed-then w g c.slots z.after.slots k.after.slots z.passed
-              (record { others = λ a h. k.slots a (lasting-other w g a h); long = k.count }));
-          state = k.state ∙ z.state;
-          runs = λ rest. ap (λ (js : Lines). run js (context_of w b) c) (append-append x y rest) ∙ z.runs (y ++ rest) ∙ k.runs rest
-              ∙ ap (λ (s : flat.State). from (stopped_by (first_false w.programs.parts s.memory conditions (slot z.after)) k.after) (λ u. then_go u (run rest (context_of w b)))) z.state;
-          others = k.slots;
-          behind = λ passed. k.behind (ap (λ (s : flat.State). first_false w.programs.parts s.memory conditions (slot z.after)) z.state ∙ passed)
-              ∙ ap (λ (s : flat.State). slots_after (work_of w.slots) w.programs.parts s.memory conditions (slot z.after)) z.state;
-        }
+guarded w g b known l needs conditions lines c p roles guard are_ready =
+    (guarded-sparing w g b known l needs conditions lines c p roles guard are_ready).guarded
 
 -- C and the lines
 

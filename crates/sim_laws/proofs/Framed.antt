@@ -17,7 +17,6 @@ use Rattle.flat_mem.specs.Memory.{Frame, frame_of, next_frame}
 use Rattle.src_mem.specs.Pointers.{Null}
 use Rattle.src_mem.specs.Memory.{Planned, frame_charge}
 use Rattle.src_mem.specs.State as source
-use Rattle.src_mem.specs.State.{Defined}
 use Rattle.src_mem.specs.Operations.{zero_of_shape, zero_of_function}
 use Rattle.src_mem.specs.Runs.{defined}
 use Rattle.src_mem.proofs.Outlines.{mapped-from}
@@ -109,7 +108,8 @@ module _ (p : Program) (kind : NodeId → Kind) (node : TypeId → ℕ) (numbers
   alike t u (inr h) = alike-class (context_of p) (record { setting = setting_of both; depth = 0; first = 0; call = λ f depth vs. source.wrong })
       (solved-first p kind node numbers parents parts shaped told solution cured) t u h
 
-  counted : length parts.functions ≡ suc (length (setting_of both).functions)
+  -- function 0 comes before the defined ones
+  pub counted : length parts.functions ≡ suc (length (setting_of both).functions)
   counted = cured.count ∙ ap suc (sym (length-map p.functions (λ (x : Function). defined (head_of x))))
 
   pub planned-in : (n : ℕ) (f : Function) → slice_get p.functions n ≡ Some f → IsPlanned both (variables_of f)

@@ -13,8 +13,16 @@ pub mod StaticObjects
 pub mod Starting
 pub mod Accessing
 pub mod Parts
+pub mod Clearing
+pub mod Copying
+pub mod KeptCells
+pub mod Allocating
 pub mod Storing
+pub mod Aiming
 pub mod Making
+pub mod Tiles
+pub mod Shrinking
+pub mod Converting
 pub mod Plain
 pub mod Points
 pub mod Control

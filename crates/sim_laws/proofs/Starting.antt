@@ -8,6 +8,7 @@ use Rattle.cc_base.specs.declared.number.TypeId.{TypeId}
 use Rattle.kind_sites.specs.declared.site.Site.TheVariants as site
 use Rattle.c_types.specs.Layouts.{size_of}
 use Rattle.c_types.specs.Cells.{AreOrdered}
+use Rattle.c_types.specs.Widths.{width_of, cured_size}
 use Rattle.c_types.proofs.OrderedPointers.{get_front}
 use Rattle.flat_mem.specs.declared.Area.{Area}
 use Rattle.flat_mem.specs.Bytes.{AreBytes, number}
@@ -48,7 +49,7 @@ use Rattle.cured_code.specs.Tables.{areas_of}
 use Rattle.cured_code.specs.FlatMachine as machine
 use Rattle.cured_code.specs.FlatMachine.{blocks_charge_limit, frames_charge_limit, entry, first_state, global_areas, globals_written, loaded_memory, placed, plan_of}
 use Rattle.cured_code.proofs.StartLaws.{fits-start, length-loaded}
-use Rattle.sim_relation.specs.Ground.{address, address_in, function_word}
+use Rattle.sim_relation.specs.Ground.{address, address_in, cells, cells_in, function_word}
 use Rattle.sim_relation.specs.Objects.{Apart, Holds, Lies, frame_areas, variable_area}
 use Rattle.sim_relation.specs.Objects as objects_laid
 use Rattle.sim_relation.specs.Related.{Related}
@@ -418,6 +419,16 @@ module _ (p : Program) (kind : NodeId → Kind) (node : TypeId → ℕ) (numbers
   count-addresses : length both.whole.addresses ≡ length s.memory.objects
   count-addresses = length-map (placed areas start) (λ (a : PlacedArea). a.address) ∙ ap (λ (xs : List PlacedArea). length xs) (sym (append-nil (placed areas start))) ∙ no-areas
 
+  -- the outline of a static object is that of a variable of its type
+  static-outline : (n : ℕ) (v : Planned) → slice_get statics n ≡ Some v → slice_get (outlines_of s.memory) n ≡ Some (outline (new_variable p.types 0 v))
+  static-outline n v e = of (mapped-from (λ (o : Static). plan o.planned) p.statics n v e)
+    where
+      of : (o : Static) × (slice_get p.statics n ≡ Some o) × (plan o.planned ≡ v) → slice_get (outlines_of s.memory) n ≡ Some (outline (new_variable p.types 0 v))
+      of (o, at, same) =
+          let l = laid-at n o at in
+          get-mapped outline s.memory.objects n (x n o l.0 l.1) (object-at n o l.0 l.1) ∙ ap Some (begins n o l.0 l.1).outlined
+          ∙ ap (λ (z : Planned). Some (outline (new_variable p.types 0 z))) same
+
   static-named : (n : ℕ) (v : Planned) (t : TypeId) → slice_get statics n ≡ Some v → NamesAlike p.sites v.type t
       → points.Holds both s 0 (PlaceOf v.node t) (Address (home p.types n t))
   static-named n v t e m = of (mapped-from (λ (o : Static). plan o.planned) p.statics n v e)
@@ -426,7 +437,7 @@ module _ (p : Program) (kind : NodeId → Kind) (node : TypeId → ℕ) (numbers
       of (o, at, same) =
           let l = laid-at n o at in let y = object-at n o l.0 l.1 in let d = ap (λ (z : Life). z.depth) (begins n o l.0 l.1).lives in
           home-named w shaped.formed s.memory p.sites n 0 0 v (is.are n v e).complete (is.are n v e).plain
-          (get-mapped outline s.memory.objects n (x n o l.0 l.1) y ∙ ap Some (begins n o l.0 l.1).outlined ∙ ap (λ (z : Planned). Some (outline (new_variable p.types 0 z))) same)
+          (static-outline n v e)
           (record {
             life = life (x n o l.0 l.1);
             found = get-mapped life s.memory.objects n (x n o l.0 l.1) y;
@@ -447,6 +458,7 @@ module _ (p : Program) (kind : NodeId → Kind) (node : TypeId → ℕ) (numbers
     globals = (let e = count-addresses in omega (arith, e));
     statics = static-address;
     objects = objects;
+    wide = wide;
     own = λ some. absurd (omega (arith, some));
     since = grows-same both 0 s s c c refl refl;
   }
@@ -462,6 +474,11 @@ module _ (p : Program) (kind : NodeId → Kind) (node : TypeId → ℕ) (numbers
           → points.Holds both s 0 (PlaceOf v.node t) (Address (home p.types (object_number 0 o) t))
       objects (object.Static n) v t e m = static-named n.0 v t e m
       objects (object.Variable n) v t e m = absurd (cc (e))
+
+      wide : (o : named.Object) (v : Planned) → planned_at both.whole.statics [] o ≡ Some v
+          → width_of kind (cells (ground_of both s c) (object_number 0 o)) ≡ cured_size p.types kind v.type
+      wide (object.Static n) v e = ap (λ (q : Option Outline). width_of kind (cells_in q)) (static-outline n.0 v e)
+      wide (object.Variable n) v e = absurd (cc (e))
 
   no-more : length both.whole.statics ≤ length both.whole.addresses
   no-more =

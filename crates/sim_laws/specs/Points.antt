@@ -3,6 +3,7 @@ use Rattle.std.specs.Prelude.{◌≡◌, ◌≢◌, ◌⊎◌, ℕ, suc, ◌+◌
 use Rattle.cc_base.specs.declared.kind.Kind.{Kind}
 use Rattle.cc_base.specs.declared.number.TypeId.{TypeId}
 use Rattle.kind_sites.specs.declared.site.Site.{Site}
+use Rattle.c_types.specs.Widths.{width_of, cured_size}
 use Rattle.flat_mem.specs.Bytes.{IsAccessSize, AreBytes}
 use Rattle.flat_mem.specs.Memory.{newest_addresses, depth_in, bounds_of}
 use Rattle.src_mem.specs.Pointers.{Pointer, Value, Address}
@@ -23,7 +24,7 @@ use Rattle.cil_facts.specs.Held.{IsHeldAs}
 use Rattle.cured_code.specs.FlatState as flat
 use Rattle.cured_code.specs.FlatState.{slot}
 use Rattle.cured_code.specs.FlatMachine.{plan_of}
-use Rattle.sim_relation.specs.Ground.{Ground, address, pointer_words}
+use Rattle.sim_relation.specs.Ground.{Ground, address, cells, pointer_words}
 use Rattle.sim_relation.specs.Objects.{flat_depth}
 use Rattle.sim_relation.specs.Related as relation
 use Rattle.sim_relation.specs.Related.{Related}
@@ -77,8 +78,9 @@ AreOwn depth first count lives = (k : ℕ) (x : Life) → slice_get lives k ≡ 
 
 -- The states wherever a call has come to: they are related, C's memory is sound, and all is laid as in the whole run; the frames are those with
 -- which the call began, one more than its depth; the areas of its variables are those of its frame, which lies as deep, those of the static
--- objects stand where they were laid; each object that code may name is a place of each type that it is named with; what a function has made and lives is one of its
--- variables; and since the call began all has stayed that calls further out speak of.
+-- objects stand where they were laid; each object that code may name is a place of each type that it is named with, and its area is as long as its
+-- type's is once cured; what a function has made and lives is one of its variables; and since the call began all has stayed that calls further out
+-- speak of.
 pub record There (p : Programs) (b : Running) (s : source.State) (c : flat.State) : Type 0 where
   pub related : Related (setting_of p) p.whole.node s c
   pub facts : IsSoundAt (setting_of p) p.sites s.memory b.depth
@@ -92,6 +94,8 @@ pub record There (p : Programs) (b : Running) (s : source.State) (c : flat.State
   pub statics : (k : ℕ) → k < length p.whole.addresses → slice_index p.whole.addresses k ≡ address (ground_of p s c) k
   pub objects : (o : Object) (v : Planned) (t : TypeId) → planned_at p.whole.statics b.variables o ≡ Some v → NamesAlike p.sites v.type t
       → Holds p s b.depth (PlaceOf v.node t) (Address (home p.whole.table (object_number b.first o) t))
+  pub wide : (o : Object) (v : Planned) → planned_at p.whole.statics b.variables o ≡ Some v
+      → width_of p.whole.kind (cells (ground_of p s c) (object_number b.first o)) ≡ cured_size p.whole.table p.whole.kind v.type
   pub own : 0 < b.depth → AreOwn b.depth b.first (length b.variables) (lives_of s.memory)
   pub since : Grows p b.outer b.start s b.flat_start c
 

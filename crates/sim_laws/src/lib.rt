@@ -35,10 +35,11 @@ pub fn frames_follow()
 {}
 
 /// The cured program of a plain program runs as its three-address code, for every input of bytes and every number of turns: this has no premise
-/// on instructions, frames or the start. A plain program has no static objects, its functions take nothing, and its code is of constants,
-/// addresses, tests for null, calculations, conversions of integers, loads and stores of integers and pointers through pointers that aren't WILD,
-/// stores of integers into parts of objects that are named, `free`, `getchar`, `putchar`, `exit`, control and returns, and, where pointers are
-/// SAFE or SEQ, of `&`, members, arrays that decay, moves, comparisons and differences.
+/// on instructions, frames or the start. A plain program's code is of constants, addresses, tests for null, calculations, conversions of integers
+/// and from them, loads and stores of integers and pointers through pointers that aren't WILD or into parts of objects that are named, copies of
+/// structs and clearing where no tags are, calls of functions and through pointers to them that aren't WILD, `free`, `getchar`, `putchar`, `exit`,
+/// control and returns, and, where pointers are SAFE or SEQ, of `&`, members, arrays that decay, moves, comparisons, differences, conversions,
+/// `malloc` and `calloc`; two SEQ pointers that are compared or subtracted point to types of one class, and no parameter's home is WILD.
 pub fn plain_programs_run_alike()
     ensures { PlainProgramsRunAlike }
 {}

@@ -15,7 +15,7 @@ use Rattle.flat_mem.specs.Memory.{Frame, fits, frame_of, next_frame, newest_addr
 use Rattle.flat_mem.specs.Placement.{addresses, function_address}
 use Rattle.flat_mem.proofs.AreaLaws.{area-after_start, get-areas_made_other}
 use Rattle.flat_mem.proofs.ByteLaws.{number-same}
-use Rattle.flat_mem.proofs.FrameLaws.{frames_end-least, depth_in-older, depth-of_new_area}
+use Rattle.flat_mem.proofs.FrameLaws.{frames_end-least, depth_in-older}
 use Rattle.src_mem.specs.Pointers.{Value, Integer, Address}
 use Rattle.src_mem.specs.Memory.{Object, Planned, new_variable, frame_charge}
 use Rattle.src_mem.specs.State as source

@@ -55,7 +55,6 @@ use Rattle.sim_laws.specs.Held.{IsInCode}
 use Rattle.sim_laws.specs.Statements.{Lines, Follows, AllFollow, Laws}
 use Rattle.sim_laws.specs.Calls.{Callee, FrameLaws, InstructionLaws, parameter_types, scene_in}
 use Rattle.sim_laws.specs.Runs.{programs_of}
-use Rattle.sim_laws.specs.Points.{planned_at}
 use Rattle.sim_laws.specs.Plain.{IsPlainKind, IsPlainPointer, ArePlainPointers, IsPlainCallee, IsPlainCode, IsPlainHome, IsPlainObject, IsPlainProgram}
 use Rattle.sim_laws.specs.Frames.{PlainProgramsRunAlike}
 use Rattle.sim_laws.proofs.Run.{all-at, runs-alike}

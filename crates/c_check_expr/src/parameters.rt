@@ -1,10 +1,11 @@
 //! Parameters (C99 6.7.5.3).
 #![tactic(auto)]
 
-ghost use Rattle.std.specs.Prelude.{◌≡◌, ◌≢◌, false, Some, None, IfSome, IfOk, IfErr, map, option_map, option_copied};
+ghost use Rattle.std.specs.Prelude.{◌≡◌, ◌≢◌, false, Some, None, IfSome, IfOk, IfErr, map, option_map, option_copied, suc};
 ghost use Rattle.cc_base.specs.declared.fault.Fault.TheVariants.{NoMemory as no_memory};
 ghost use Rattle.c_types.specs.Table.{Table, shape_at};
 ghost use Rattle.c_tree.specs.TypedParts.{declared_home};
+ghost use Rattle.c_tree.specs.Depth.{parameters_height};
 ghost use Rattle.c_tree.specs.Tree.{Parameters, NoParameter, AndParameter, NotDeclared, Specifiers as PlainSpecifiers, AndSpecifier};
 ghost use Rattle.c_tree.specs.TypedTree.{TypedParameters, NoParameter as no_typed_parameter};
 ghost use Rattle.c_tree.specs.Views.{added, declarator_view, declared_of, parameter_view, specifier_view, specifiers_of, specifiers_view};
@@ -259,9 +260,9 @@ fn made_parameter(
 }
 
 impl<
-    E: Fn(&mut Scope, &mut Types, u16, bool, &Expr) -> Result<Operand, Fault>,
-    S: Fn(&mut Scope, &mut Types, u16, &Specifiers) -> Result<TypedSpecifiers, Fault>,
-    D: Fn(&mut Scope, &mut Types, u16, Naming, Place, &Declarator) -> Result<TypedForm, Fault>,
+    E: Fn(&mut Scope, &mut Types, bool, &Expr) -> Result<Operand, Fault>,
+    S: Fn(&mut Scope, &mut Types, &Specifiers) -> Result<TypedSpecifiers, Fault>,
+    D: Fn(&mut Scope, &mut Types, Naming, Place, &Declarator) -> Result<TypedForm, Fault>,
 > Walker<E, S, D> {
     /// A parameter after those that are judged.
     #[tactic(auto, using(c_tree::proofs::ViewLaws::expr_views, c_tree::proofs::TypedViewLaws::typed_views), unfolding(c_typing::specs::Walks::judge_parameters))]
@@ -272,7 +273,7 @@ impl<
         void: bool,
         one: &Parameter,
     ) -> Result<TypedParameter, Fault>
-        requires nests { Nests self.now.depth (E.pre self.now.judge_expr) (E.post self.now.judge_expr) (S.pre self.now.judge_specifiers) (S.post self.now.judge_specifiers) (D.pre self.now.judge_form) (D.post self.now.judge_form) }
+        requires nests { Nests (suc (parameters_height (parameter_view one.now NoParameter))) (E.pre self.now.judge_expr) (E.post self.now.judge_expr) (S.pre self.now.judge_specifiers) (S.post self.now.judge_specifiers) (D.pre self.now.judge_form) (D.post self.now.judge_form) }
         ensures { (start : State) (before : Parameters) (done : TypedParameters) → walks.judge_parameters void before start ≡ Gives done (known types.old scope.old) → Answers (λ made. typed_parameter_view made done) (walks.judge_parameters void (parameter_view one.now before) start) result (known types.new scope.new) }
     {
         let at = declared_place(&one.specifiers, &one.declarator);
@@ -294,7 +295,7 @@ impl<
         void: bool,
         list: &[Parameter],
     ) -> Result<Items<TypedParameter>, Fault>
-        requires nests { Nests self.now.depth (E.pre self.now.judge_expr) (E.post self.now.judge_expr) (S.pre self.now.judge_specifiers) (S.post self.now.judge_specifiers) (D.pre self.now.judge_form) (D.post self.now.judge_form) }
+        requires nests { Nests (suc (parameters_height (added NoParameter (map parameter_view list.now)))) (E.pre self.now.judge_expr) (E.post self.now.judge_expr) (S.pre self.now.judge_specifiers) (S.post self.now.judge_specifiers) (D.pre self.now.judge_form) (D.post self.now.judge_form) }
         ensures { Answers (λ found. added no_typed_parameter (map typed_parameter_view found)) (walks.judge_parameters void (added NoParameter (map parameter_view list.now)) (known types.old scope.old)) result (known types.new scope.new) }
     {
         let mut found = Items::new(scope.alloc());
@@ -313,7 +314,7 @@ impl<
         at: Place,
         list: &[Parameter],
     ) -> Result<(Items<TypedParameter>, Level), Fault>
-        requires nests { Nests self.now.depth (E.pre self.now.judge_expr) (E.post self.now.judge_expr) (S.pre self.now.judge_specifiers) (S.post self.now.judge_specifiers) (D.pre self.now.judge_form) (D.post self.now.judge_form) }
+        requires nests { Nests (suc (parameters_height (added NoParameter (map parameter_view list.now)))) (E.pre self.now.judge_expr) (E.post self.now.judge_expr) (S.pre self.now.judge_specifiers) (S.post self.now.judge_specifiers) (D.pre self.now.judge_form) (D.post self.now.judge_form) }
         ensures level { IfOk result (λ made. level_given (scope_of_list (Some (added NoParameter (map parameter_view list.now))) (known types.old scope.old)) ≡ made.1) }
         ensures answers { Answers (λ made. added no_typed_parameter (map typed_parameter_view made.0)) (walks.judge_prototype at (added NoParameter (map parameter_view list.now)) (known types.old scope.old)) result (known types.new scope.new) }
     {

@@ -1,0 +1,9 @@
+pub mod Kept
+pub mod KeptTypes
+pub mod KeptConstructs
+pub mod KeptAssignments
+pub mod KeptDeclarators
+pub mod OpenScopes
+pub mod OpenSteps
+pub mod OpenTrees
+pub mod OpenWhole

@@ -20,16 +20,16 @@ pure-kept {K} a = record { kept = λ s. K.same s }
 pub stop-kept : {K : Keeping} {A : Type 0} (f : Fault) → IsKept K {A = A} (stop f)
 stop-kept {K} f = record { kept = λ s. K.here s }
 
-pub later-kept : {K : Keeping} {B : Type 0} (o : Outcome B) (s r : State) → K.keeps s r → Kept K o r → Kept K o s
-later-kept {K} (Gives b q) s r h k = K.both s r q h k
-later-kept {K} (Stops x q) s r h k = K.behind s r q h k
+pub later-kept : (K : Keeping) {B : Type 0} (o : Outcome B) (s r : State) → K.keeps s r → Kept K o r → Kept K o s
+later-kept K (Gives b q) s r h k = K.both s r q h k
+later-kept K (Stops x q) s r h k = K.behind s r q h k
 
-next_kept : {K : Keeping} {A B : Type 0} (m : Outcome A) (f : A → Judging B) (s : State) → Kept K m s → ((a : A) → IsKept K (f a)) → Kept K (next m f) s
-next_kept (Gives a r) f s h g = later-kept (f a r) s r h ((g a).kept r)
-next_kept (Stops x r) f s h g = h
+next_kept : (K : Keeping) {A B : Type 0} (m : Outcome A) (f : A → Judging B) (s : State) → Kept K m s → ((a : A) → IsKept K (f a)) → Kept K (next m f) s
+next_kept K (Gives a r) f s h g = later-kept K (f a r) s r h ((g a).kept r)
+next_kept K (Stops x r) f s h g = h
 
 pub bind-kept : {K : Keeping} {A B : Type 0} {p : Judging A} {f : A → Judging B} → IsKept K p → ((a : A) → IsKept K (f a)) → IsKept K (p >>= f)
-bind-kept {p} {f} h g = record { kept = λ s. next_kept (p s) f s (h.kept s) g }
+bind-kept {K} {p} {f} h g = record { kept = λ s. next_kept K (p s) f s (h.kept s) g }
 
 pub known-kept : {K : Keeping} {A : Type 0} {f : State → Judging A} → ((q : State) → IsKept K (f q)) → IsKept K (by_known f)
 known-kept h = record { kept = λ s. (h s).kept s }

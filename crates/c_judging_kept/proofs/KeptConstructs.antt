@@ -70,34 +70,34 @@ Fits K (Stops f r) s = K.stops s r
 pub record IsFit (K : Keeping) (p : Judging Operand) : Type 0 where
   pub fits : (s : State) → Fits K (p s) s
 
-later_fits : {K : Keeping} (o : Outcome Operand) (s r : State) → Keeps s r → Fits K o r → Fits K o s
-later_fits {K} (Gives b q) s r h k = (K.both s r q h k.0, k.1)
-later_fits {K} (Stops x q) s r h k = K.behind s r q h k
+later_fits : (K : Keeping) (o : Outcome Operand) (s r : State) → K.keeps s r → Fits K o r → Fits K o s
+later_fits K (Gives b q) s r h k = (K.both s r q h k.0, k.1)
+later_fits K (Stops x q) s r h k = K.behind s r q h k
 
-next_fits : {K : Keeping} {A : Type 0} (m : Outcome A) (f : A → Judging Operand) (s : State) → Kept K m s → ((a : A) → IsFit K (f a)) → Fits K (next m f) s
-next_fits (Gives a r) f s h g = later_fits (f a r) s r h ((g a).fits r)
-next_fits (Stops x r) f s h g = h
+next_fits : (K : Keeping) {A : Type 0} (m : Outcome A) (f : A → Judging Operand) (s : State) → Kept K m s → ((a : A) → IsFit K (f a)) → Fits K (next m f) s
+next_fits K (Gives a r) f s h g = later_fits K (f a r) s r h ((g a).fits r)
+next_fits K (Stops x r) f s h g = h
 
 pub bind-fit : {K : Keeping} {A : Type 0} {p : Judging A} {f : A → Judging Operand} → IsKept K p → ((a : A) → IsFit K (f a)) → IsFit K (p >>= f)
-bind-fit {p} {f} h g = record { fits = λ s. next_fits (p s) f s (h.kept s) g }
+bind-fit {K} {p} {f} h g = record { fits = λ s. next_fits K (p s) f s (h.kept s) g }
 
 known-fit : {K : Keeping} {f : State → Judging Operand} → ((q : State) → IsFit K (f q)) → IsFit K (by_known f)
 known-fit h = record { fits = λ s. (h s).fits s }
 
-kept_of : {K : Keeping} (o : Outcome Operand) (s : State) → Fits K o s → Kept K o s
-kept_of (Gives b q) s h = h.0
-kept_of (Stops x q) s h = h
+kept_of : (K : Keeping) (o : Outcome Operand) (s : State) → Fits K o s → Kept K o s
+kept_of K (Gives b q) s h = h.0
+kept_of K (Stops x q) s h = h
 
 pub fit-kept : {K : Keeping} {p : Judging Operand} → IsFit K p → IsKept K p
-fit-kept {p} h = record { kept = λ s. kept_of (p s) s (h.fits s) }
+fit-kept {K} {p} h = record { kept = λ s. kept_of K (p s) s (h.fits s) }
 
 operand_with : Place → ℕ → Elaborated → Operand
 operand_with begin h x = record { part = x; place = begin; held = h }
 
-made_fit : {K : Keeping} (begin : Place) (h : ℕ) (m : Outcome Elaborated) (s : State) → h ≤ 256 → Kept K m s → Fits K (next m (λ x. pure (operand_with begin h x))) s
+made_fit : (K : Keeping) (begin : Place) (h : ℕ) (m : Outcome Elaborated) (s : State) → h ≤ 256 → Kept K m s → Fits K (next m (λ x. pure (operand_with begin h x))) s
 unfolding operand_with
-made_fit begin h (Gives x r) s le k = (k, le)
-made_fit begin h (Stops f r) s le k = k
+made_fit K begin h (Gives x r) s le k = (k, le)
+made_fit K begin h (Stops f r) s le k = k
 
 few_when : (n : ℕ) → nat_lt 256 n ≡ false → n ≤ 256
 few_when n h = grind (arith, nat_tests)
@@ -109,7 +109,7 @@ body_fit {K} begin n {made} k = record { fits = λ s. by s (nat_lt 256 n) (few_w
     by : (s : State) (b : Bool) → (b ≡ false → n ≤ 256)
         → Fits K (next (if b then Stops (TooLarge begin Held) s else Gives n s) (λ h. made >>= (λ x. pure (operand_with begin h x)))) s
     by s true le = K.here s
-    by s false le = made_fit begin n (made s) s (le refl) (k.kept s)
+    by s false le = made_fit K begin n (made s) s (le refl) (k.kept s)
 
 unless_fit : {K : Keeping} (o : Option Fault) (go : Judging Operand) → IsFit K go → IsFit K (unless o go)
 unless_fit None go h = h
@@ -121,7 +121,7 @@ construct-fit rules begin held {made} k = record { fits = λ s. (unless_fit (fir
 
 pub leaf-fit : {K : Keeping} (at : Place) {made : Judging Elaborated} → IsKept K made → IsFit K (leaf at made)
 unfolding leaf operand_with
-leaf-fit at {made} k = record { fits = λ s. made_fit at 1 (made s) s (omega arith) (k.kept s) }
+leaf-fit {K} at {made} k = record { fits = λ s. made_fit K at 1 (made s) s (omega arith) (k.kept s) }
 
 pub integer-fit : {K : Keeping} (of : ConstantType) (n : ℕ) (at : Place) → IsFit K (operations.integer of n at)
 unfolding operations.integer

@@ -27,30 +27,30 @@ use Rattle.c_judging_kept.specs.Keeping.{Keeping, with_type_added}
 use Rattle.c_judging_kept.proofs.Kept.{Kept, IsKept, pure-kept, bind-kept}
 
 -- by a test
-if_kept : {K : Keeping} {A : Type 0} (b : Bool) (m k : Outcome A) (s : State) → Kept K m s → Kept K k s → Kept K (if b then m else k) s
-if_kept true m k s h g = h
-if_kept false m k s h g = g
+if_kept : (K : Keeping) {A : Type 0} (b : Bool) (m k : Outcome A) (s : State) → Kept K m s → Kept K k s → Kept K (if b then m else k) s
+if_kept K true m k s h g = h
+if_kept K false m k s h g = g
 
 pub new_node-kept : {K : Keeping} (at : Place) → IsKept K (new_node at)
 unfolding new_node
-new_node-kept {K} at = record { kept = λ s. if_kept (nat_lt s.seen.node 4294967295) (Gives (_) (_)) (Stops (TooLarge at Types) s) s (K.node s) (K.here s) }
+new_node-kept {K} at = record { kept = λ s. if_kept K (nat_lt s.seen.node 4294967295) (Gives (_) (_)) (Stops (TooLarge at Types) s) s (K.node s) (K.here s) }
 
 pub holding-kept : {K : Keeping} (at : Place) (n : ℕ) → IsKept K (holding at n)
 unfolding holding
-holding-kept {K} at n = record { kept = λ s. if_kept (nat_lt 256 n) (Stops (_) s) (Gives n s) s (K.here s) (K.same s) }
+holding-kept {K} at n = record { kept = λ s. if_kept K (nat_lt 256 n) (Stops (_) s) (Gives n s) s (K.here s) (K.same s) }
 
-type_kept : {K : Keeping} (at : Place) (x : TypeShape) → parameters_of_shape x ≤ 127 → (s : State) (o : Option TypeId) → Kept K (there_or_added at x s o) s
-type_kept {K} at x few s (Some t) = K.same s
-type_kept {K} at x few s None =
-    if_kept (nat_lt (length s.table) 16384)
+type_kept : (K : Keeping) (at : Place) (x : TypeShape) → parameters_of_shape x ≤ 127 → (s : State) (o : Option TypeId) → Kept K (there_or_added at x s o) s
+type_kept K at x few s (Some t) = K.same s
+type_kept K at x few s None =
+    if_kept K (nat_lt (length s.table) 16384)
     (if nat_le (new_layout s.table x).size 1048576 then Gives (record { 0 = length s.table }) (record s { table = s.table ++ basic_entry x ∷ [] }) else Stops (TooLarge at Object) s)
     (Stops (TooLarge at Types) s) s
-    (if_kept (nat_le (new_layout s.table x).size 1048576) (Gives (record { 0 = length s.table }) (record s { table = s.table ++ basic_entry x ∷ [] })) (Stops (TooLarge at Object) s) s
+    (if_kept K (nat_le (new_layout s.table x).size 1048576) (Gives (record { 0 = length s.table }) (record s { table = s.table ++ basic_entry x ∷ [] })) (Stops (TooLarge at Object) s) s
     (K.type s x few) (K.here s)) (K.here s)
 
 pub type_with-kept : {K : Keeping} (at : Place) (x : TypeShape) → parameters_of_shape x ≤ 127 → IsKept K (type_with at x)
 unfolding type_with
-type_with-kept at x few = record { kept = λ s. type_kept at x few s (type_among 0 s.table x) }
+type_with-kept {K} at x few = record { kept = λ s. type_kept K at x few s (type_among 0 s.table x) }
 
 none_few : 0 ≤ 127
 none_few = omega arith
@@ -59,7 +59,7 @@ pub pointer_type-kept : {K : Keeping} (at : Place) (n : NodeId) (to : TypeId) �
 unfolding pointer_type
 pointer_type-kept {K} at n to = record {
   kept = λ s.
-      if_kept (nat_lt to.0 (length s.table)) (type_with at (shape.Pointer n to) s) (Stops (TooLarge at Types) s) s ((type_with-kept at (shape.Pointer n to) none_few).kept s) (K.here s);
+      if_kept K (nat_lt to.0 (length s.table)) (type_with at (shape.Pointer n to) s) (Stops (TooLarge at Types) s) s ((type_with-kept {K = K} at (shape.Pointer n to) none_few).kept s) (K.here s);
 }
 
 pub new_pointer-kept : {K : Keeping} (at : Place) (to : TypeId) → IsKept K (new_pointer at to)
@@ -70,15 +70,15 @@ pub array_type-kept : {K : Keeping} (at : Place) (element : TypeId) (count : ℕ
 unfolding array_type
 array_type-kept {K} at element count = record {
   kept = λ s.
-      if_kept (is_element s.table element count) (type_with at (shape.Array element count) s) (Stops (TooLarge at Types) s) s ((type_with-kept at (shape.Array element count) none_few).kept s) (K.here s);
+      if_kept K (is_element s.table element count) (type_with at (shape.Array element count) s) (Stops (TooLarge at Types) s) s ((type_with-kept {K = K} at (shape.Array element count) none_few).kept s) (K.here s);
 }
 
 pub string_type-kept : {K : Keeping} (at : Place) (count : ℕ) → IsKept K (string_type at count)
 unfolding string_type
 string_type-kept {K} at count = record {
   kept = λ s.
-      if_kept (is_char_array s.table count) (type_with at (shape.Array (integer_type char) count) s) (Stops (TooLarge at Types) s) s
-      ((type_with-kept at (shape.Array (integer_type char) count) none_few).kept s) (K.here s);
+      if_kept K (is_char_array s.table count) (type_with at (shape.Array (integer_type char) count) s) (Stops (TooLarge at Types) s) s
+      ((type_with-kept {K = K} at (shape.Array (integer_type char) count) none_few).kept s) (K.here s);
 }
 
 kind_few : (which : AggregateKind) (number : ℕ) → parameters_of_shape (shape_of_kind which number) ≤ 127
@@ -92,46 +92,46 @@ few_when : (n : ℕ) → nat_lt 127 n ≡ false → n ≤ 127
 few_when n h = grind (arith, nat_tests)
 
 -- a function type with more stops, whether it was added or not
-function_kept : {K : Keeping} (at : Place) (parameters : List TypeId) (result : TypeId) (s : State) → Kept K (next (type_with at (shape.Function parameters result) s) (counting_parameters at parameters)) s
-unfolding counting_parameters
-function_kept {K} at parameters result s = counts (nat_lt 127 (length parameters)) refl (few_when (length parameters))
+function_kept : (K : Keeping) (at : Place) (parameters : List TypeId) (result : TypeId) (s : State) → Kept K (next (type_with at (shape.Function parameters result) s) (counting_parameters at parameters)) s
+unfolding counting_parameters type_with
+function_kept K at parameters result s = counts (nat_lt 127 (length parameters)) refl (few_when (length parameters))
   where
     go : Bool → TypeId → Judging TypeId
     go b t = if b then stop (TooLarge at Params) else pure t
 
+    by : (room small : Bool)
+        → Kept K (next (if room then (if small then Gives (record { 0 = length s.table }) (with_type_added s (shape.Function parameters result)) else Stops (TooLarge at Object) s) else Stops (TooLarge at Types) s) (go true)) s
+    by true true = K.many s (shape.Function parameters result)
+    by true false = K.here s
+    by false small = K.here s
+
     added : (o : Option TypeId) → Kept K (next (there_or_added at (shape.Function parameters result) s o) (go true)) s
     added (Some t) = K.here s
     added None = by (nat_lt (length s.table) 16384) (nat_le (new_layout s.table (shape.Function parameters result)).size 1048576)
-      where
-        by : (room small : Bool) → Kept K (next (if room then (if small then Gives (record { 0 = length s.table }) (with_type_added s (shape.Function parameters result)) else Stops (TooLarge at Object) s) else Stops (TooLarge at Types) s) (go true)) s
-        by true true = K.many s (shape.Function parameters result)
-        by true false = K.here s
-        by false small = K.here s
 
     stopped : Kept K (next (type_with at (shape.Function parameters result) s) (go true)) s
-    unfolding type_with
     stopped = added (type_among 0 s.table (shape.Function parameters result))
 
     counts : (b : Bool) → (nat_lt 127 (length parameters) ≡ b) → (b ≡ false → length parameters ≤ 127) → Kept K (next (type_with at (shape.Function parameters result) s) (go b)) s
     counts true e few = stopped
-    counts false e few = (bind-kept (type_with-kept at (shape.Function parameters result) (few refl)) (λ t. pure-kept t)).kept s
+    counts false e few = (bind-kept {K = K} (type_with-kept {K = K} at (shape.Function parameters result) (few refl)) (λ t. pure-kept t)).kept s
 
 pub function_type-kept : {K : Keeping} (at : Place) (parameters : List TypeId) (result : TypeId) → IsKept K (function_type at parameters result)
 unfolding function_type
 function_type-kept {K} at parameters result = record {
   kept = λ s.
-      if_kept (are_types s.table (result ∷ parameters)) (next (type_with at (shape.Function parameters result) s) (counting_parameters at parameters)) (Stops (TooLarge at Types) s) s
-      (function_kept at parameters result s) (K.here s);
+      if_kept K (are_types s.table (result ∷ parameters)) (next (type_with at (shape.Function parameters result) s) (counting_parameters at parameters)) (Stops (TooLarge at Types) s) s
+      (function_kept K at parameters result s) (K.here s);
 }
 
 pub defined-kept : {K : Keeping} (at : Place) (t : TypeId) (members : List TypeId) → IsKept K (defined at t members)
 unfolding defined
 defined-kept {K} at t members = record {
   kept = λ s.
-      if_kept (is_definable s.table t members)
+      if_kept K (is_definable s.table t members)
       (if nat_le (defined_layout s.table t members).size 1048576 then Gives t (record s { table = with_members s.table t members }) else Stops (TooLarge at Object) s)
       (Stops (TooLarge at Types) s) s
-      (if_kept (nat_le (defined_layout s.table t members).size 1048576) (Gives t (record s { table = with_members s.table t members })) (Stops (TooLarge at Object) s) s
+      (if_kept K (nat_le (defined_layout s.table t members).size 1048576) (Gives t (record s { table = with_members s.table t members })) (Stops (TooLarge at Object) s) s
       (K.members s t members) (K.here s)) (K.here s);
 }
 

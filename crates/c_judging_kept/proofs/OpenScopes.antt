@@ -144,8 +144,8 @@ module _ (P : Declared → Type 0) where
       changed (with_tag_set name.bytes tag.Enumeration) (λ l. no_names P l.names) (λ l. set_tag name.bytes tag.Enumeration l.tags) s
 
 -- a scope of its own was entered, and is left
-pub left-open : (P Q : Declared → Type 0) (s r : Scopes) → AreStillOpen Q (entering s) r → (leaving r).levels ≡ s.levels
-left-open P Q s r h = h.outer ∙ outer-of s.levels empty_level
+pub left-open : (Q : Declared → Type 0) (s r : Scopes) → AreStillOpen Q (entering s) r → (leaving r).levels ≡ s.levels
+left-open Q s r h = h.outer ∙ outer-of s.levels empty_level
 
 pub entered-many : (Q : Declared → Type 0) (s r : Scopes) → 0 < length s.levels → AreStillOpen Q (entering s) r → nat_lt 1 (length r.levels) ≡ true
 entered-many Q s r some h =

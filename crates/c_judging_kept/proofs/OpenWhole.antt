@@ -4,7 +4,6 @@ use Rattle.cc_base.specs.declared.fault.Fault.{Fault}
 use Rattle.cc_base.specs.declared.number.TypeId.{TypeId}
 use Rattle.cc_base.specs.declared.place.Place.{Place}
 use Rattle.c_tree.specs.Tree as tree
-use Rattle.c_typing.specs.declared.declared.Declared.{Declared}
 use Rattle.c_typing.specs.declared.naming.Naming.{Naming}
 use Rattle.c_typing.specs.Checking.{checked, taken, converted_value, checked_value, constant_as, checked_constant}
 use Rattle.c_typing.specs.Judging.{State, Outcome, Gives, Stops}
@@ -15,18 +14,18 @@ use Rattle.c_judging_kept.specs.Keeping.{Keeping}
 use Rattle.c_judging_kept.proofs.Kept.{Kept, IsKept, pure-kept, stop-kept, bind-kept, known-kept, unless-kept}
 use Rattle.c_judging_kept.proofs.KeptConstructs.{value-kept, given-kept}
 use Rattle.c_judging_kept.proofs.KeptDeclarators.{tagged_alone-kept, form_makes-kept}
-use Rattle.c_judging_kept.proofs.OpenSteps.{HasEnumerators, open_scopes}
+use Rattle.c_judging_kept.proofs.OpenSteps.{open_scopes}
 use Rattle.c_judging_kept.proofs.OpenTrees.{expr-open, specifiers-open, declarator-open}
 
 -- Expressions
 
-value_open : {P : Declared → Type 0} {h : HasEnumerators P} (e : tree.Expr) → IsKept (open_scopes P h) (judge_value e)
+value_open : (any : Bool) (e : tree.Expr) → IsKept (open_scopes any) (judge_value e)
 unfolding judge_value
-value_open e = bind-kept (expr-open e false) (λ x. value-kept x)
+value_open any e = bind-kept (expr-open any e false) (λ x. value-kept x)
 
-pub checked-open : {P : Declared → Type 0} {h : HasEnumerators P} (e : tree.Expr) → IsKept (open_scopes P h) (checked e)
+pub checked-open : (any : Bool) (e : tree.Expr) → IsKept (open_scopes any) (checked e)
 unfolding checked
-checked-open e = bind-kept (value_open e) (λ v. pure-kept (_))
+checked-open any e = bind-kept (value_open any e) (λ v. pure-kept (_))
 
 taken_kept : {K : Keeping} (init : Bool) (t : TypeId) (x : Operand) → IsKept K (taken init t x)
 unfolding taken
@@ -37,33 +36,33 @@ converted_kept : {K : Keeping} (t : TypeId) (at : Place) (x : Elaborated) → Is
 unfolding converted_value
 converted_kept t at x = known-kept (λ q. unless-kept (_) (known-kept (λ s. pure-kept (_))))
 
-pub checked_value-open : {P : Declared → Type 0} {h : HasEnumerators P} (t : TypeId) (at : Place) (init : Bool) (e : tree.Expr) → IsKept (open_scopes P h) (checked_value t at init e)
+pub checked_value-open : (any : Bool) (t : TypeId) (at : Place) (init : Bool) (e : tree.Expr) → IsKept (open_scopes any) (checked_value t at init e)
 unfolding checked_value
-checked_value-open t at init e = bind-kept (expr-open e false) (λ x. bind-kept (taken_kept init t x) (λ y. converted_kept t at y))
+checked_value-open any t at init e = bind-kept (expr-open any e false) (λ x. bind-kept (taken_kept init t x) (λ y. converted_kept t at y))
 
 constant_kept : {K : Keeping} (v : Value) (o : Option ℤ) → IsKept K (constant_as v o)
 unfolding constant_as
 constant_kept v None = stop-kept (_)
 constant_kept v (Some z) = pure-kept (_)
 
-pub checked_constant-open : {P : Declared → Type 0} {h : HasEnumerators P} (e : tree.Expr) → IsKept (open_scopes P h) (checked_constant e)
+pub checked_constant-open : (any : Bool) (e : tree.Expr) → IsKept (open_scopes any) (checked_constant e)
 unfolding checked_constant
-checked_constant-open e = bind-kept (value_open e) (λ v. known-kept (λ s. constant_kept v (_)))
+checked_constant-open any e = bind-kept (value_open any e) (λ v. known-kept (λ s. constant_kept v (_)))
 
 -- Specifiers and declarators
 
-alone_open : {P : Declared → Type 0} {h : HasEnumerators P} (all : tree.Specifiers) → IsKept (open_scopes P h) (judge_alone_list all)
-alone_open (tree.AndSpecifier tree.NoSpecifier (tree.Tagged which at name)) = (bind-kept (tagged_alone-kept which at name) (λ one. pure-kept (_)))
-alone_open tree.NoSpecifier = specifiers-open tree.NoSpecifier
-alone_open (tree.AndSpecifier (tree.AndSpecifier all one) specifier) = specifiers-open (tree.AndSpecifier (tree.AndSpecifier all one) specifier)
-alone_open (tree.AndSpecifier tree.NoSpecifier specifier) = specifiers-open (tree.AndSpecifier tree.NoSpecifier specifier)
+alone_open : (any : Bool) (all : tree.Specifiers) → IsKept (open_scopes any) (judge_alone_list all)
+alone_open any (tree.AndSpecifier tree.NoSpecifier (tree.Tagged which at name)) = (bind-kept (tagged_alone-kept which at name) (λ one. pure-kept (_)))
+alone_open any tree.NoSpecifier = specifiers-open any tree.NoSpecifier
+alone_open any (tree.AndSpecifier (tree.AndSpecifier all one) specifier) = specifiers-open any (tree.AndSpecifier (tree.AndSpecifier all one) specifier)
+alone_open any (tree.AndSpecifier tree.NoSpecifier specifier) = specifiers-open any (tree.AndSpecifier tree.NoSpecifier specifier)
 
-pub specifiers_of-open : {P : Declared → Type 0} {h : HasEnumerators P} (alone : Bool) (all : tree.Specifiers) → IsKept (open_scopes P h) (judge_specifiers_of alone all)
+pub specifiers_of-open : (any : Bool) (alone : Bool) (all : tree.Specifiers) → IsKept (open_scopes any) (judge_specifiers_of alone all)
 unfolding judge_specifiers_of judge_specifiers
-specifiers_of-open false all = bind-kept (specifiers-open all) (λ list. pure-kept (_))
-specifiers_of-open true all = bind-kept (alone_open all) (λ list. pure-kept (_))
+specifiers_of-open any false all = bind-kept (specifiers-open any all) (λ list. pure-kept (_))
+specifiers_of-open any true all = bind-kept (alone_open any all) (λ list. pure-kept (_))
 
-pub declarator_at-open : {P : Declared → Type 0} {h : HasEnumerators P} (at : Place) (which : Naming) (base : TypeId) (size : Option ℕ) (d : tree.Declarator) → IsKept (open_scopes P h) (judge_declarator_at at which base size d)
+pub declarator_at-open : (any : Bool) (at : Place) (which : Naming) (base : TypeId) (size : Option ℕ) (d : tree.Declarator) → IsKept (open_scopes any) (judge_declarator_at at which base size d)
 unfolding judge_declarator_at
-declarator_at-open at which base size d =
-    bind-kept (known-kept (λ s. declarator-open d (_) at)) (λ form. bind-kept (form_makes-kept at (outermost_of size) form base) (λ t. pure-kept (_)))
+declarator_at-open any at which base size d =
+    bind-kept (known-kept (λ s. declarator-open any d (_) at)) (λ form. bind-kept (form_makes-kept at (outermost_of size) form base) (λ t. pure-kept (_)))

@@ -3,6 +3,7 @@ pub mod KeptTypes
 pub mod KeptConstructs
 pub mod KeptAssignments
 pub mod KeptDeclarators
+pub mod KeptChecking
 pub mod OpenScopes
 pub mod OpenSteps
 pub mod OpenTrees

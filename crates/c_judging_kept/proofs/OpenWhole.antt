@@ -1,19 +1,19 @@
 -- What units ask of expressions, specifiers and declarators keeps the scopes that are open.
-use Rattle.std.proofs.Common.{◌≡◌, ◌<◌, ℕ, ℤ, Bool, true, false, length, Option, Some, None, subst}
+use Rattle.std.proofs.Common.{◌≡◌, ◌≢◌, ◌<◌, ℕ, Bool, true, false, length, Option, Result, Ok, Err, subst, ap}
 use Rattle.cc_base.specs.declared.fault.Fault.{Fault}
+use Rattle.cc_base.specs.declared.fault.Fault.TheVariants.{NoMemory}
 use Rattle.cc_base.specs.declared.number.TypeId.{TypeId}
 use Rattle.cc_base.specs.declared.place.Place.{Place}
 use Rattle.c_tree.specs.Tree as tree
 use Rattle.c_typing.specs.declared.naming.Naming.{Naming}
-use Rattle.c_typing.specs.Checking.{checked, taken, converted_value, checked_value, constant_as, checked_constant}
-use Rattle.c_typing.specs.Judging.{State, Outcome, Gives, Stops}
-use Rattle.c_typing.specs.Operands.{Operand, Value}
-use Rattle.c_typing.specs.Tests.{Elaborated}
+use Rattle.c_typing.specs.Checking.{checked, checked_value, checked_constant}
+use Rattle.c_typing.specs.Judging.{State, Outcome, Judging, Answers}
 use Rattle.c_typing.specs.Walks.{outermost_of, judge_value, judge_alone_list, judge_specifiers, judge_specifiers_of, judge_declarator_at}
-use Rattle.c_judging_kept.specs.Keeping.{Keeping}
-use Rattle.c_judging_kept.proofs.Kept.{Kept, IsKept, pure-kept, stop-kept, bind-kept, known-kept, unless-kept}
-use Rattle.c_judging_kept.proofs.KeptConstructs.{value-kept, given-kept}
+use Rattle.c_judging_kept.specs.OpenScopes.{IsEnumerator, AreStillOpen}
+use Rattle.c_judging_kept.proofs.Kept.{Kept, IsKept, pure-kept, bind-kept, known-kept}
+use Rattle.c_judging_kept.proofs.KeptConstructs.{value-kept}
 use Rattle.c_judging_kept.proofs.KeptDeclarators.{tagged_alone-kept, form_makes-kept}
+use Rattle.c_judging_kept.proofs.KeptChecking.{taken-kept, converted-kept, constant-kept}
 use Rattle.c_judging_kept.proofs.OpenSteps.{open_scopes}
 use Rattle.c_judging_kept.proofs.OpenTrees.{expr-open, specifiers-open, declarator-open}
 
@@ -27,27 +27,13 @@ pub checked-open : (any : Bool) (e : tree.Expr) → IsKept (open_scopes any) (ch
 unfolding checked
 checked-open any e = bind-kept (value_open any e) (λ v. pure-kept (_))
 
-taken_kept : {K : Keeping} (init : Bool) (t : TypeId) (x : Operand) → IsKept K (taken init t x)
-unfolding taken
-taken_kept true t x = given-kept t x.place x.part
-taken_kept false t x = bind-kept (value-kept x) (λ v. pure-kept (_))
-
-converted_kept : {K : Keeping} (t : TypeId) (at : Place) (x : Elaborated) → IsKept K (converted_value t at x)
-unfolding converted_value
-converted_kept t at x = known-kept (λ q. unless-kept (_) (known-kept (λ s. pure-kept (_))))
-
 pub checked_value-open : (any : Bool) (t : TypeId) (at : Place) (init : Bool) (e : tree.Expr) → IsKept (open_scopes any) (checked_value t at init e)
 unfolding checked_value
-checked_value-open any t at init e = bind-kept (expr-open any e false) (λ x. bind-kept (taken_kept init t x) (λ y. converted_kept t at y))
-
-constant_kept : {K : Keeping} (v : Value) (o : Option ℤ) → IsKept K (constant_as v o)
-unfolding constant_as
-constant_kept v None = stop-kept (_)
-constant_kept v (Some z) = pure-kept (_)
+checked_value-open any t at init e = bind-kept (expr-open any e false) (λ x. bind-kept (taken-kept init t x) (λ y. converted-kept t at y))
 
 pub checked_constant-open : (any : Bool) (e : tree.Expr) → IsKept (open_scopes any) (checked_constant e)
 unfolding checked_constant
-checked_constant-open any e = bind-kept (value_open any e) (λ v. known-kept (λ s. constant_kept v (_)))
+checked_constant-open any e = bind-kept (value_open any e) (λ v. known-kept (λ s. constant-kept v (_)))
 
 -- Specifiers and declarators
 
@@ -66,3 +52,11 @@ pub declarator_at-open : (any : Bool) (at : Place) (which : Naming) (base : Type
 unfolding judge_declarator_at
 declarator_at-open any at which base size d =
     bind-kept (known-kept (λ s. declarator-open any d (_) at)) (λ form. bind-kept (form_makes-kept at (outermost_of size) form base) (λ t. pure-kept (_)))
+
+-- What a call answers, want of memory apart
+
+pub scopes-answer : {A B : Type 0} (view : B → A) (p : Judging A) (s r : State) (result : Result B Fault) → IsKept (open_scopes false) p → 0 < length s.seen.scopes.levels
+    → Answers view (p s) result r → result ≢ Err NoMemory → AreStillOpen IsEnumerator s.seen.scopes r.seen.scopes
+unfolding open_scopes
+scopes-answer view p s r (Ok b) k some h n = subst (λ (m : Outcome _). Kept (open_scopes false) m s) h (k.kept s) some
+scopes-answer view p s r (Err f) k some h n = subst (λ (m : Outcome _). Kept (open_scopes false) m s) (h (λ e. n (ap Err e))) (k.kept s) some

@@ -259,6 +259,15 @@ fn made_parameter(
     })
 }
 
+/// The innermost scope is left, unless it is the file's.
+fn leave_innermost(scope: &mut Scope)
+    ensures { (table : Table) → known table scope.new ≡ declaring.once_left (known table scope.old) }
+{
+    if scope.depth() > 1 {
+        scope.leave();
+    }
+}
+
 impl<
     E: Fn(&mut Scope, &mut Types, bool, &Expr) -> Result<Operand, Fault>,
     S: Fn(&mut Scope, &mut Types, &Specifiers) -> Result<TypedSpecifiers, Fault>,
@@ -305,6 +314,27 @@ impl<
         Ok(found)
     }
 
+    /// Parameters in the scope that is open for them; where they stop, it is left.
+    fn parameters_inside(
+        &self,
+        scope: &mut Scope,
+        types: &mut Types,
+        void: bool,
+        list: &[Parameter],
+    ) -> Result<Items<TypedParameter>, Fault>
+        requires nests { Nests (suc (parameters_height (added NoParameter (map parameter_view list.now)))) (E.pre self.now.judge_expr) (E.post self.now.judge_expr) (S.pre self.now.judge_specifiers) (S.post self.now.judge_specifiers) (D.pre self.now.judge_form) (D.post self.now.judge_form) }
+        ensures answers { Answers (λ found. added no_typed_parameter (map typed_parameter_view found)) (declaring.stopping_outside (walks.judge_parameters void (added NoParameter (map parameter_view list.now))) (known types.old scope.old)) result (known types.new scope.new) }
+        ensures judged { IfOk result (λ found. walks.judge_parameters void (added NoParameter (map parameter_view list.now)) (known types.old scope.old) ≡ Gives (added no_typed_parameter (map typed_parameter_view found)) (known types.new scope.new)) }
+    {
+        match self.parameters(scope, types, void, list) {
+            Ok(found) => Ok(found),
+            Err(fault) => {
+                leave_innermost(scope);
+                Err(fault)
+            }
+        }
+    }
+
     /// Parameters in a scope of their own, with that scope as they leave it.
     #[tactic(auto, unfolding(c_typing::specs::Walks::judge_prototype, c_typing::specs::Declaring::entered, c_typing::specs::Declaring::left, c_unit_typing::specs::ParameterScopes::scope_of_list))]
     pub(crate) fn prototype_left(
@@ -319,7 +349,7 @@ impl<
         ensures answers { Answers (λ made. added no_typed_parameter (map typed_parameter_view made.0)) (walks.judge_prototype at (added NoParameter (map parameter_view list.now)) (known types.old scope.old)) result (known types.new scope.new) }
     {
         scope.enter()?;
-        let found = self.parameters(scope, types, is_void_alone(list), list)?;
+        let found = self.parameters_inside(scope, types, is_void_alone(list), list)?;
         if scope.depth() <= 1 {
             return Err(no_room(at));
         }

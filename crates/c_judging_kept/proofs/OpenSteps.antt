@@ -46,7 +46,7 @@ gained : (any : Bool) (z : ℤ) → Gained any (declared.Enumerator z)
 gained true z = tt
 gained false z = tt
 
-pub open_scopes : (any : Bool) → Keeping
+unfoldable pub open_scopes : (any : Bool) → Keeping
 open_scopes any = record {
   keeps = StayOpen (Gained any);
   stops = StayOpen (Gained any);

@@ -41,7 +41,7 @@ shape_few T t h = elim (leb_tells (length T) t.0) [
 ]
 
 -- nothing is said of a stop
-pub limits : Keeping
+unfoldable pub limits : Keeping
 limits = record {
   keeps = Keeps;
   stops = λ s r. Unit {0};

@@ -46,11 +46,6 @@ outer-of [] l = refl
 outer-of (m ∷ []) l = refl
 outer-of (m ∷ (k ∷ ls)) l = ap (λ (all : List Level). m ∷ all) (outer-of (k ∷ ls) l)
 
-length_left : (ls : List Level) (n : ℕ) → length ls ≡ suc n → length (without_innermost ls) ≡ n
-length_left [] n h = absurd (omega (arith, h))
-length_left (l ∷ []) n h = omega (arith, h)
-length_left (l ∷ (m ∷ ls)) n h = let k = length_left (m ∷ ls) (length ls) refl in omega (arith, k, h)
-
 -- What a level gains
 
 no_names : (P : Declared → Type 0) (xs : List (Name × Declared)) → GainNames P xs xs

@@ -1,7 +1,8 @@
 -- Each step of judging keeps the scopes that are open, whether it gives something or stops; and a scope of its own is left at its end.
-use Rattle.std.proofs.Common.{◌≡◌, ◌<◌, ◌+◌, ℕ, ℤ, Bool, true, false, nat_lt, nat_le, List, [], ◌∷◌, length, arith, refl, sym, subst, ◌∙◌, true≢false, if◌then◌else◌}
+use Rattle.std.proofs.Common.{◌≡◌, ◌≢◌, ◌<◌, ◌+◌, ℕ, ℤ, Bool, true, false, nat_lt, nat_le, List, [], ◌∷◌, length, Result, Ok, Err, arith, refl, ap, sym, subst, ◌∙◌, true≢false, if◌then◌else◌}
 use Rattle.std.proofs.lemmas.List.{length-append}
-use Rattle.cc_base.specs.declared.fault.Fault.TheVariants.{TooLarge}
+use Rattle.cc_base.specs.declared.fault.Fault.{Fault}
+use Rattle.cc_base.specs.declared.fault.Fault.TheVariants.{TooLarge, NoMemory}
 use Rattle.cc_base.specs.declared.fault.Limit.TheVariants.{Globals, Types}
 use Rattle.cc_base.specs.declared.place.Place.{Place}
 use Rattle.c_tree.specs.declared.leaf.StringPiece.{StringPiece}
@@ -11,7 +12,7 @@ use Rattle.c_typing.specs.declared.declared.Declared.TheVariants as declared
 use Rattle.c_typing.specs.declared.declared.Tag.TheVariants as tag
 use Rattle.c_typing.specs.Assignments.{count_global, literal_size, literal}
 use Rattle.c_typing.specs.Declaring.{entered, left, stopped_outside, stopping_outside}
-use Rattle.c_typing.specs.Judging.{State, Outcome, Judging, Gives, Stops, next, pure, ◌>>=◌}
+use Rattle.c_typing.specs.Judging.{State, Outcome, Judging, Answers, Gives, Stops, next, pure, ◌>>=◌}
 use Rattle.c_typing.specs.Scopes.{Scopes, empty_level, entering, leaving}
 use Rattle.c_typing.specs.Specifying.{in_scopes}
 use Rattle.c_judging_kept.specs.Keeping.{Keeping, in_other}
@@ -46,7 +47,7 @@ gained : (any : Bool) (z : ℤ) → Gained any (declared.Enumerator z)
 gained true z = tt
 gained false z = tt
 
-unfoldable pub open_scopes : (any : Bool) → Keeping
+pub open_scopes : (any : Bool) → Keeping
 open_scopes any = record {
   keeps = StayOpen (Gained any);
   stops = StayOpen (Gained any);
@@ -124,3 +125,11 @@ pub own-kept : (any : Bool) {A B : Type 0} {p : Judging A} (at : Place) (f : A �
     → IsKept (open_scopes any) (entered >>= (λ b. stopping_outside p >>= (λ a. left at a >>= (λ w. pure (f w)))))
 unfolding entered
 own-kept any {p} at f h = record { kept = λ s. own any at f s (p (inside s)) (h.kept (inside s)) }
+
+-- What a call answers, want of memory apart
+
+pub scopes-answer : {A B : Type 0} (view : B → A) (p : Judging A) (s r : State) (result : Result B Fault) → IsKept (open_scopes false) p → 0 < length s.seen.scopes.levels
+    → Answers view (p s) result r → result ≢ Err NoMemory → AreStillOpen IsEnumerator s.seen.scopes r.seen.scopes
+unfolding open_scopes
+scopes-answer view p s r (Ok b) k some h n = subst (λ (m : Outcome _). Kept (open_scopes false) m s) h (k.kept s) some
+scopes-answer view p s r (Err f) k some h n = subst (λ (m : Outcome _). Kept (open_scopes false) m s) (h (λ e. n (ap Err e))) (k.kept s) some

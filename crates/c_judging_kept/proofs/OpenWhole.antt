@@ -1,16 +1,12 @@
 -- What units ask of expressions, specifiers and declarators keeps the scopes that are open.
-use Rattle.std.proofs.Common.{◌≡◌, ◌≢◌, ◌<◌, ℕ, Bool, true, false, length, Option, Result, Ok, Err, subst, ap}
-use Rattle.cc_base.specs.declared.fault.Fault.{Fault}
-use Rattle.cc_base.specs.declared.fault.Fault.TheVariants.{NoMemory}
+use Rattle.std.proofs.Common.{ℕ, Bool, true, false, Option}
 use Rattle.cc_base.specs.declared.number.TypeId.{TypeId}
 use Rattle.cc_base.specs.declared.place.Place.{Place}
 use Rattle.c_tree.specs.Tree as tree
 use Rattle.c_typing.specs.declared.naming.Naming.{Naming}
 use Rattle.c_typing.specs.Checking.{checked, checked_value, checked_constant}
-use Rattle.c_typing.specs.Judging.{State, Outcome, Judging, Answers}
 use Rattle.c_typing.specs.Walks.{outermost_of, judge_value, judge_alone_list, judge_specifiers, judge_specifiers_of, judge_declarator_at}
-use Rattle.c_judging_kept.specs.OpenScopes.{IsEnumerator, AreStillOpen}
-use Rattle.c_judging_kept.proofs.Kept.{Kept, IsKept, pure-kept, bind-kept, known-kept}
+use Rattle.c_judging_kept.proofs.Kept.{IsKept, pure-kept, bind-kept, known-kept}
 use Rattle.c_judging_kept.proofs.KeptConstructs.{value-kept}
 use Rattle.c_judging_kept.proofs.KeptDeclarators.{tagged_alone-kept, form_makes-kept}
 use Rattle.c_judging_kept.proofs.KeptChecking.{taken-kept, converted-kept, constant-kept}
@@ -52,11 +48,3 @@ pub declarator_at-open : (any : Bool) (at : Place) (which : Naming) (base : Type
 unfolding judge_declarator_at
 declarator_at-open any at which base size d =
     bind-kept (known-kept (λ s. declarator-open any d (_) at)) (λ form. bind-kept (form_makes-kept at (outermost_of size) form base) (λ t. pure-kept (_)))
-
--- What a call answers, want of memory apart
-
-pub scopes-answer : {A B : Type 0} (view : B → A) (p : Judging A) (s r : State) (result : Result B Fault) → IsKept (open_scopes false) p → 0 < length s.seen.scopes.levels
-    → Answers view (p s) result r → result ≢ Err NoMemory → AreStillOpen IsEnumerator s.seen.scopes r.seen.scopes
-unfolding open_scopes
-scopes-answer view p s r (Ok b) k some h n = subst (λ (m : Outcome _). Kept (open_scopes false) m s) h (k.kept s) some
-scopes-answer view p s r (Err f) k some h n = subst (λ (m : Outcome _). Kept (open_scopes false) m s) (h (λ e. n (ap Err e))) (k.kept s) some

@@ -18,10 +18,10 @@ use Rattle.c_typing.specs.Operations.{leaf}
 use Rattle.c_typing.specs.Tests.{Elaborated}
 use Rattle.c_typing.specs.Walks.{judge}
 use Rattle.c_typing_laws.proofs.HeldTrees.{held-law}
-use Rattle.c_judging_kept.proofs.Kept.{Kept, IsKept, pure-kept}
-use Rattle.c_unit_limits.proofs.Kept.{limits, Out, KeepsTypes}
+use Rattle.c_judging_kept.proofs.Kept.{IsKept, pure-kept}
+use Rattle.c_unit_limits.proofs.Kept.{limits, Out, Keeps, KeepsTypes, out-kept, out-fits}
 use Rattle.c_judging_kept.proofs.KeptTypes.{new_node-kept, string_type-kept}
-use Rattle.c_judging_kept.proofs.KeptConstructs.{Fits, IsFit}
+use Rattle.c_judging_kept.proofs.KeptConstructs.{IsFit}
 use Rattle.c_typing.specs.Declaring.{stopped_outside, stopping_outside}
 
 -- `w` is what is counted
@@ -49,13 +49,12 @@ next_holds (Stops x r) f m n v w s h g = tt
 pub bind-held : {A B : Type 0} {p : Judging A} {f : A → Judging B} {m n v w : ℕ} → IsHeld p m v → ((a : A) → IsHeld (f a) n w) → IsHeld (p >>= f) (max m n) (v + w)
 bind-held {p} {f} {m} {n} {v} {w} h g = record { holds = λ s. next_holds (p s) f m n v w s (h.holds s) g }
 
-of_kept : {A : Type 0} (o : Outcome A) (s : State) → Kept limits o s → Holds o 0 0 s
-unfolding limits
+of_kept : {A : Type 0} (o : Outcome A) (s : State) → Out o (λ a r. Keeps s r) → Holds o 0 0 s
 of_kept (Gives b q) s h = (h.0, omega arith, no_more s.seen.globals q.seen.globals h.1)
 of_kept (Stops x q) s h = tt
 
 pub kept-held : {A : Type 0} {p : Judging A} → IsKept limits p → IsHeld p 0 0
-kept-held {p} h = record { holds = λ s. of_kept (p s) s (h.kept s) }
+kept-held {p} h = record { holds = λ s. of_kept (p s) s (out-kept (p s) s (h.kept s)) }
 
 less : {A : Type 0} (o : Outcome A) (m n v w : ℕ) (s : State) → m ≤ n → w ≡ v → Holds o n w s → Holds o m v s
 less (Gives b q) m n v w s le e h = (h.0, (let k = h.1 in omega arith), h.2 ∙ ap (λ (x : ℕ). s.seen.globals + x) e)
@@ -138,13 +137,12 @@ less_both (Stops x q) m n v w s le e h = tt
 as_whole : {p : Judging Operand} (m n v w : ℕ) → m ≤ n → w ≡ v → IsWhole p n w → IsWhole p m v
 as_whole {p} m n v w le e h = record { both = λ s. less_both (p s) m n v w s le e (h.both s) }
 
-fit_both : (o : Outcome Operand) (s : State) → Fits limits o s → Both o 0 0 s
-unfolding limits
+fit_both : (o : Outcome Operand) (s : State) → Out o (λ x r. Keeps s r × (x.held ≤ 256)) → Both o 0 0 s
 fit_both (Gives b q) s h = (h.0.0, h.1, omega arith, no_more s.seen.globals q.seen.globals h.0.1)
 fit_both (Stops x q) s h = tt
 
 pub fit-whole : {p : Judging Operand} → IsFit limits p → IsWhole p 0 0
-fit-whole {p} h = record { both = λ s. fit_both (p s) s (h.fits s) }
+fit-whole {p} h = record { both = λ s. fit_both (p s) s (out-fits (p s) s (h.fits s)) }
 
 -- the last step makes the operand
 pub then-whole : {A : Type 0} {p : Judging A} {f : A → Judging Operand} {n w : ℕ} → IsHeld p n w → ((a : A) → IsFit limits (f a)) → IsWhole (p >>= f) n w

@@ -12,11 +12,13 @@ use Rattle.c_types.specs.Table.{Table, shape_at, void_entry}
 use Rattle.c_types.specs.Calls.{basic_entry}
 use Rattle.c_typing.specs.Declaring.{entered, left}
 use Rattle.c_typing.specs.Judging.{State, Outcome, Gives, Stops}
+use Rattle.c_typing.specs.Operands.{Operand}
 use Rattle.c_typing.specs.Scopes.{Scopes, entering, leaving}
 use Rattle.c_typing.specs.Specifying.{in_scopes}
 use Rattle.c_unit_typing.specs.Limits.{parameters_of_shape}
 use Rattle.c_judging_kept.specs.Keeping.{Keeping}
 use Rattle.c_judging_kept.proofs.Kept.{Kept, IsKept, scopes-kept}
+use Rattle.c_judging_kept.proofs.KeptConstructs.{Fits}
 use Rattle.c_judging_kept.proofs.KeptDeclarators.{DeclaresObjects}
 use Rattle.c_unit_limits.specs.Few.{HasFewParameters, AreFew, IsBounded}
 
@@ -41,7 +43,7 @@ shape_few T t h = elim (leb_tells (length T) t.0) [
 ]
 
 -- nothing is said of a stop
-unfoldable pub limits : Keeping
+pub limits : Keeping
 limits = record {
   keeps = Keeps;
   stops = λ s r. Unit {0};
@@ -63,6 +65,16 @@ limits = record {
   begins = λ s name. (λ h. h, refl);
   ends = λ s name. (λ h. h, refl);
 }
+
+pub out-kept : {A : Type 0} (o : Outcome A) (s : State) → Kept limits o s → Out o (λ a r. Keeps s r)
+unfolding limits
+out-kept (Gives a r) s h = h
+out-kept (Stops f r) s h = tt
+
+pub out-fits : (o : Outcome Operand) (s : State) → Fits limits o s → Out o (λ x r. Keeps s r × (x.held ≤ 256))
+unfolding limits
+out-fits (Gives x r) s h = h
+out-fits (Stops f r) s h = tt
 
 -- whatever the scopes are
 pub objects : DeclaresObjects limits

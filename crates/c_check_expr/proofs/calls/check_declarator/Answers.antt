@@ -19,7 +19,8 @@ use Rattle.c_check_expr.proofs.AcceptedLaws.{accepted}
 use Rattle.c_unit_typing.specs.Holding.{declarator_holds}
 use Rattle.c_check_expr.specs.Limited.{IsWithin}
 use Rattle.c_check_expr.proofs.LimitFacts.{declarator-within}
-use Rattle.c_judging_kept.proofs.OpenWhole.{scopes-answer, declarator_at-open}
+use Rattle.c_judging_kept.proofs.OpenSteps.{scopes-answer}
+use Rattle.c_judging_kept.proofs.OpenWhole.{declarator_at-open}
 use Rattle.c_check_expr.proofs.calls.check_declarator.Goals as goal
 
 pub returns-clause-typed : goal.returns-clause-typed

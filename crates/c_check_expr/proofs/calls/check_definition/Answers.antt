@@ -7,7 +7,8 @@ use Rattle.c_typing.specs.Declaring.{declarator_name}
 use Rattle.c_typing.specs.Judging.{known}
 use Rattle.c_typing.specs.Refusals.{name_place}
 use Rattle.c_typing.specs.Walks.{judge_declarator}
-use Rattle.c_judging_kept.proofs.OpenWhole.{scopes-answer, declarator_at-open}
+use Rattle.c_judging_kept.proofs.OpenSteps.{scopes-answer}
+use Rattle.c_judging_kept.proofs.OpenWhole.{declarator_at-open}
 use Rattle.c_check_expr.proofs.calls.check_definition.Goals as goal
 
 pub returns-clause-scopes : goal.returns-clause-scopes

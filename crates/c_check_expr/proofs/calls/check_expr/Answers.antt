@@ -18,7 +18,8 @@ use Rattle.c_check_expr.proofs.AcceptedLaws.{accepted}
 use Rattle.c_unit_typing.specs.Holding.{expr_holds}
 use Rattle.c_check_expr.specs.Limited.{IsWithin}
 use Rattle.c_check_expr.proofs.LimitFacts.{expr-within}
-use Rattle.c_judging_kept.proofs.OpenWhole.{scopes-answer, checked-open}
+use Rattle.c_judging_kept.proofs.OpenSteps.{scopes-answer}
+use Rattle.c_judging_kept.proofs.OpenWhole.{checked-open}
 use Rattle.c_check_expr.proofs.calls.check_expr.Goals as goal
 
 pub returns-clause-typed : goal.returns-clause-typed

@@ -16,7 +16,8 @@ use Rattle.c_check_expr.proofs.AcceptedLaws.{accepted}
 use Rattle.c_unit_typing.specs.Holding.{specifiers_holds}
 use Rattle.c_check_expr.specs.Limited.{IsWithin}
 use Rattle.c_check_expr.proofs.LimitFacts.{specifiers-within}
-use Rattle.c_judging_kept.proofs.OpenWhole.{scopes-answer, specifiers_of-open}
+use Rattle.c_judging_kept.proofs.OpenSteps.{scopes-answer}
+use Rattle.c_judging_kept.proofs.OpenWhole.{specifiers_of-open}
 use Rattle.c_check_expr.proofs.calls.check_specifiers.Goals as goal
 
 pub returns-clause-typed : goal.returns-clause-typed

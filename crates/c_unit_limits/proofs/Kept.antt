@@ -90,7 +90,7 @@ unfolding entered
 entered-kept = in_scopes-kept entering true
 
 pub left-kept : {A : Type 0} (at : Place) (a : A) → IsKept limits (left at a)
-unfolding left
+unfolding left limits
 left-kept {A} at a = record { kept = λ s. by s (nat_lt 1 (length s.seen.scopes.levels)) }
   where
     by : (s : State) (b : Bool) → Kept limits {A = A} (if b then in_scopes leaving a s else Stops (TooLarge at Types) s) s

@@ -4,7 +4,6 @@ pub mod KeptConstructs
 pub mod KeptAssignments
 pub mod KeptDeclarators
 pub mod KeptChecking
-pub mod OpenScopes
 pub mod OpenSteps
 pub mod OpenTrees
 pub mod OpenWhole

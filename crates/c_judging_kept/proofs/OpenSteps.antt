@@ -16,19 +16,16 @@ use Rattle.c_typing.specs.Judging.{State, Outcome, Judging, Answers, Gives, Stop
 use Rattle.c_typing.specs.Scopes.{Scopes, empty_level, entering, leaving}
 use Rattle.c_typing.specs.Specifying.{in_scopes}
 use Rattle.c_judging_kept.specs.Keeping.{Keeping, in_other}
-use Rattle.c_judging_kept.specs.OpenScopes.{IsEnumerator, AreStillOpen}
+use Rattle.c_typing.specs.OpenScopes.{IsEnumerator, Anything, Gained, AreStillOpen}
 use Rattle.c_judging_kept.proofs.Kept.{Kept, IsKept, pure-kept, bind-kept}
 use Rattle.c_judging_kept.proofs.KeptTypes.{new_node-kept, string_type-kept}
 use Rattle.c_judging_kept.proofs.KeptConstructs.{IsFit, leaf-fit}
 use Rattle.c_judging_kept.proofs.KeptDeclarators.{DeclaresObjects}
-use Rattle.c_judging_kept.proofs.OpenScopes.{still-open, both-open, declaring-open, aggregate-open, completing-open, enumerating-open, enumerated-open, left-open, entered-many}
+use Rattle.c_typing.proofs.OpenScopes.{still-open, both-open, declaring-open, aggregate-open, completing-open, enumerating-open, enumerated-open, left-open, entered-many}
 
 -- where a scope is open at all
 abbrev pub StayOpen : (Declared → Type 0) → State → State → Type 0
 StayOpen P s r = 0 < length s.seen.scopes.levels → AreStillOpen P s.seen.scopes r.seen.scopes
-
-abbrev pub Anything : Declared → Type 0
-Anything what = Unit {0}
 
 stay : (P : Declared → Type 0) (c : Scopes) → AreStillOpen P c c
 stay P c = still-open P c c refl refl
@@ -37,11 +34,6 @@ both : (P : Declared → Type 0) (s q r : State) → StayOpen P s q → StayOpen
 both P s q r g h some =
     let first = g some in
     both-open P s.seen.scopes q.seen.scopes r.seen.scopes first (h (subst (λ (n : ℕ). 0 < n) (sym first.many) some))
-
--- the names that a scope gains, as far as is said: any, as that of a list of parameters does, or those of enumerators
-abbrev pub Gained : (any : Bool) → Declared → Type 0
-Gained true = Anything
-Gained false = IsEnumerator
 
 gained : (any : Bool) (z : ℤ) → Gained any (declared.Enumerator z)
 gained true z = tt

@@ -23,3 +23,5 @@ pub mod Declaring
 pub mod Walks
 pub mod Cells
 pub mod Checking
+pub mod OpenScopes
+pub mod Growing

@@ -9,10 +9,10 @@ use Rattle.c_typing.specs.declared.declared.Declared.{Declared}
 use Rattle.c_typing.specs.declared.declared.Declared.TheVariants as declared
 use Rattle.c_typing.specs.declared.declared.Tag.{Tag}
 use Rattle.c_typing.specs.declared.declared.Tag.TheVariants as tag
-use Rattle.c_typing.specs.Scopes.{Name, Level, Scopes, with_entry, empty_level, at_innermost, innermost, without_innermost, with_name, with_tag, with_tag_set, declaring, entering, leaving}
+use Rattle.c_typing.specs.Scopes.{Name, Level, Scopes, with_entry, empty_level, at_innermost, innermost, without_innermost, with_name, with_tag, with_tag_set, declaring, declaring_tag, setting_tag, entering, leaving}
 use Rattle.c_typing.specs.Specifying.{completing}
 use Rattle.c_typing.specs.Typing.{tagging, counting_aggregate, tag_named_here, enumerating, enumerated}
-use Rattle.c_judging_kept.specs.OpenScopes.{IsEnumerator, GainNames, GainTags, AreStillOpen}
+use Rattle.c_typing.specs.OpenScopes.{IsEnumerator, GainNames, GainTags, AreStillOpen}
 
 -- Levels
 
@@ -113,9 +113,15 @@ module _ (P : Declared → Type 0) where
   pub declaring-open : (name : Name) (what : Declared) → P what → (s : Scopes) → AreStillOpen P s (declaring name what s)
   declaring-open name what p s = changed (with_name name what) (λ l. one_name P name what p l.names) (λ l. no_tags l.tags) s
 
+  pub declaring_tag-open : (name : Name) (what : Tag) (s : Scopes) → AreStillOpen P s (declaring_tag name what s)
+  declaring_tag-open name what s = changed (with_tag name what) (λ l. no_names P l.names) (λ l. one_tag name what l.tags) s
+
+  pub setting_tag-open : (name : Name) (what : Tag) (s : Scopes) → AreStillOpen P s (setting_tag name what s)
+  setting_tag-open name what s = changed (with_tag_set name what) (λ l. no_names P l.names) (λ l. set_tag name what l.tags) s
+
   pub tagging-open : (name : Option Identifier) (what : Tag) (s : Scopes) → AreStillOpen P s (tagging name what s)
   tagging-open None what s = still-open s s refl refl
-  tagging-open (Some name) what s = changed (with_tag name.bytes what) (λ l. no_names P l.names) (λ l. one_tag name.bytes what l.tags) s
+  tagging-open (Some name) what s = declaring_tag-open name.bytes what s
 
   pub aggregate-open : (name : Option Identifier) (what : Tag) (s : Scopes) → AreStillOpen P s (tagging name what (counting_aggregate s))
   aggregate-open name what s =
@@ -135,8 +141,7 @@ module _ (P : Declared → Type 0) where
 
   pub enumerated-open : (name : Option Identifier) (s : Scopes) → AreStillOpen P s (enumerated name s)
   enumerated-open None s = still-open s s refl refl
-  enumerated-open (Some name) s =
-      changed (with_tag_set name.bytes tag.Enumeration) (λ l. no_names P l.names) (λ l. set_tag name.bytes tag.Enumeration l.tags) s
+  enumerated-open (Some name) s = setting_tag-open name.bytes tag.Enumeration s
 
 -- a scope of its own was entered, and is left
 pub left-open : (Q : Declared → Type 0) (s r : Scopes) → AreStillOpen Q (entering s) r → (leaving r).levels ≡ s.levels

@@ -1,5 +1,5 @@
 -- What judging keeps of the scopes that are open.
-use Rattle.std.specs.Prelude.{◌≡◌, List, ◌++◌, length, map}
+use Rattle.std.specs.Prelude.{◌≡◌, Bool, true, false, List, ◌++◌, length, map}
 use Rattle.std.specs.List.{All}
 use Rattle.c_typing.specs.declared.declared.Declared.{Declared}
 use Rattle.c_typing.specs.declared.declared.Declared.TheVariants as declared
@@ -28,3 +28,11 @@ pub record AreStillOpen (P : Declared → Type 0) (s r : Scopes) : Type 0 where
   pub names : GainNames P (innermost s.levels).names (innermost r.levels).names
   pub tags : GainTags (innermost s.levels).tags (innermost r.levels).tags
   pub defined : r.defined ≡ s.defined
+
+abbrev pub Anything : Declared → Type 0
+Anything what = Unit {0}
+
+-- the names that a scope gains, as far as is said: any, as that of a list of parameters does, or those of enumerators
+abbrev pub Gained : (any : Bool) → Declared → Type 0
+Gained true = Anything
+Gained false = IsEnumerator

@@ -11,10 +11,13 @@ returns-in_err-star_with_node-clause-answers c = λ table.
     search rules
 
 pub loop-star-preserved : goal.loop-star-preserved
-loop-star-preserved c = (λ table.
-    c.loop-star.invariant.0 table ∙ (let given = star_given c.args.at c.args.stars.now c.loop-star.star-index c.star-item.result c.loop-star-test.true c.star-item.is c.loop-star.found
-    c.in_ok-star_with_node.field-0.node (known table c.loop-star.scope) (known table c.star_with_node.new.scope) (c.in_ok-star_with_node.ensures.ok table) in
-    first_of (grind (arith, common_steps), search rules)), search rules)
+loop-star-preserved c = (
+  λ table.
+      c.loop-star.invariant.0 table ∙ (let given = star_given c.args.at c.args.stars.now c.loop-star.star-index c.star-item.result c.loop-star-test.true c.star-item.is c.loop-star.found
+      c.in_ok-star_with_node.field-0.node (known table c.loop-star.scope) (known table c.star_with_node.new.scope) (c.in_ok-star_with_node.ensures.ok table) in
+      first_of (grind (arith, common_steps), search rules)),
+  search rules,
+)
 
 pub returns-clause-answers : goal.returns-clause-answers
 returns-clause-answers c = λ table. c.loop-star.invariant.0 table ∙ no_star_left c.args.at c.args.stars.now c.loop-star.star-index c.loop-star-test.false c.loop-star.found (known table c.loop-star.scope)

@@ -25,8 +25,11 @@ returns-in_err-part-clause-answers g c = λ start before judged.
     search rules
 
 pub loop-part-preserved : goal.loop-part-preserved
-loop-part-preserved g c = (λ start before judged.
-    let going = goes (judge_parts c.args.at) part_view c.args.rest.now c.loop-part.part-index c.part-item.result c.loop-part-test.true c.part-item.is before
-    start _
-    (c.in_ok-part.ensures.answers start (added before (map part_view (take c.loop-part.part-index c.args.rest.now))) (added none_typed (map typed_part_view c.loop-part.found)) (c.loop-part.invariant.0 start before judged)) in
-    first_of (grind (arith, common_steps, pushes), search (rules, pushes)), search rules)
+loop-part-preserved g c = (
+  λ start before judged.
+      let going = goes (judge_parts c.args.at) part_view c.args.rest.now c.loop-part.part-index c.part-item.result c.loop-part-test.true c.part-item.is before
+      start _
+      (c.in_ok-part.ensures.answers start (added before (map part_view (take c.loop-part.part-index c.args.rest.now))) (added none_typed (map typed_part_view c.loop-part.found)) (c.loop-part.invariant.0 start before judged)) in
+      first_of (grind (arith, common_steps, pushes), search (rules, pushes)),
+  search rules,
+)

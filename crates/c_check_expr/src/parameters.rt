@@ -1,7 +1,7 @@
 //! Parameters (C99 6.7.5.3).
 #![tactic(auto)]
 
-ghost use Rattle.c_typing.specs.Growing.{Grows, GrowsAny};
+ghost use Rattle.c_typing.specs.Growing.{Grows, GrowsAny, GrowsOrLeaves};
 ghost use Rattle.std.specs.Prelude.{◌≡◌, ◌≢◌, false, Some, None, IfSome, IfOk, IfErr, map, option_map, option_copied, suc};
 ghost use Rattle.cc_base.specs.declared.fault.Fault.TheVariants.{NoMemory as no_memory};
 ghost use Rattle.c_types.specs.Table.{Table, shape_at};
@@ -335,6 +335,7 @@ impl<
         requires nests { Nests (suc (parameters_height (added NoParameter (map parameter_view list.now)))) (E.pre self.now.judge_expr) (E.post self.now.judge_expr) (S.pre self.now.judge_specifiers) (S.post self.now.judge_specifiers) (D.pre self.now.judge_form) (D.post self.now.judge_form) }
         ensures answers { Answers (λ found. added no_typed_parameter (map typed_parameter_view found)) (declaring.stopping_outside (walks.judge_parameters void (added NoParameter (map parameter_view list.now))) (known types.old scope.old)) result (known types.new scope.new) }
         ensures judged { IfOk result (λ found. walks.judge_parameters void (added NoParameter (map parameter_view list.now)) (known types.old scope.old) ≡ Gives (added no_typed_parameter (map typed_parameter_view found)) (known types.new scope.new)) }
+        ensures grows { GrowsOrLeaves result (known types.old scope.old) (known types.new scope.new) }
     {
         match self.parameters(scope, types, void, list) {
             Ok(found) => Ok(found),
@@ -359,6 +360,7 @@ impl<
         ensures answers { Answers (λ made. added no_typed_parameter (map typed_parameter_view made.0)) (walks.judge_prototype at (added NoParameter (map parameter_view list.now)) (known types.old scope.old)) result (known types.new scope.new) }
         ensures grows { Grows (known types.old scope.old) (known types.new scope.new) }
     {
+        let _open = scope.depth();
         scope.enter()?;
         let found = self.parameters_inside(scope, types, is_void_alone(list), list)?;
         if scope.depth() <= 1 {

@@ -1,8 +1,9 @@
 -- Each change of what is known that the code makes is one by which it grows.
-use Rattle.std.proofs.Common.{◌≡◌, ◌<◌, ◌≤◌, ◌+◌, ℕ, ℤ, Bool, true, false, nat_lt, nat_le, List, [], ◌∷◌, ◌++◌, length, Option, Some, None, refl, ap, sym, subst, ◌∙◌, inl, inr, true≢false, if◌then◌else◌, slice_set, arith}
+use Rattle.std.proofs.Common.{◌≡◌, ◌<◌, ◌≤◌, ◌+◌, ℕ, ℤ, Bool, true, false, nat_lt, nat_le, List, [], ◌∷◌, ◌++◌, length, Option, Some, None, Result, Ok, Err, refl, ap, sym, subst, ◌∙◌, inl, inr, true≢false, if◌then◌else◌, slice_set, arith}
 use Rattle.std.proofs.lemmas.Bool.Decides.{leb_tells, eqb_tells}
 use Rattle.std.proofs.lemmas.Grind.{get_or-set_at}
 use Rattle.std.proofs.lemmas.List.{get_or_past, get_or_append_left, get_or-set_other, length-append, length-set}
+use Rattle.cc_base.specs.declared.fault.Fault.{Fault}
 use Rattle.cc_base.specs.declared.fault.Fault.TheVariants.{TooLarge}
 use Rattle.cc_base.specs.declared.fault.Limit.TheVariants.{Types, Object}
 use Rattle.cc_base.specs.declared.number.NodeId.{NodeId}
@@ -15,7 +16,7 @@ use Rattle.c_typing.specs.declared.declared.Declared.{Declared}
 use Rattle.c_typing.specs.declared.declared.Declared.TheVariants as declared
 use Rattle.c_typing.specs.declared.declared.Tag.{Tag}
 use Rattle.c_typing.specs.Declaring.{once_left}
-use Rattle.c_typing.specs.Growing.{HasMoreTypes, HasGrown, Grows, GrowsAny}
+use Rattle.c_typing.specs.Growing.{HasMoreTypes, HasGrown, Grows, GrowsAny, GrowsOrLeaves}
 use Rattle.c_typing.specs.Judging.{State, Outcome, Gives, Stops, known, type_among, there_or_added, type_with}
 use Rattle.c_typing.specs.OpenScopes.{AreStillOpen, Gained}
 use Rattle.c_typing.specs.Scopes.{Name, Scopes, Seen, with_scopes, declaring, declaring_tag, setting_tag, entering, leaving}
@@ -171,3 +172,13 @@ stopped-grown any first s q some h g = by (nat_lt 1 (length q.seen.scopes.levels
     by : (b : Bool) → b ≡ true → HasGrown any first (if b then record q { seen = with_scopes q.seen (leaving q.seen.scopes) } else q)
     by true e = left-grown any first s q h g
     by false e = absurd (true≢false (sym e))
+
+pub stopped-left : {A : Type 0} (fault : Fault) (any : Bool) (first s r : State) → 0 < length s.seen.scopes.levels
+    → GrowsOrLeaves {A = A} (Err fault) (known s.table (with_scopes s.seen (entering s.seen.scopes))) r → HasGrown any first s → HasGrown any first r
+stopped-left fault any first s r some g h = subst (λ (q : State). HasGrown any first q) (sym g.2) (stopped-grown any first s g.0 some h g.1)
+
+-- the scope that was entered is not the file's
+pub deep : (s q : State) → 0 < length s.seen.scopes.levels → GrowsAny (known s.table (with_scopes s.seen (entering s.seen.scopes))) q → nat_lt 1 (length q.seen.scopes.levels) ≡ true
+deep s q some g =
+    let inside = known s.table (with_scopes s.seen (entering s.seen.scopes)) in
+    entered-many (Gained true) s.seen.scopes q.seen.scopes some (g inside (grown-same true inside)).scopes

@@ -1,7 +1,9 @@
 -- What is known has at most grown.
-use Rattle.std.specs.Prelude.{◌≡◌, ◌≤◌, Bool, true, length}
+use Rattle.std.specs.Prelude.{◌≡◌, ◌≤◌, Bool, true, length, Result, Ok, Err}
+use Rattle.cc_base.specs.declared.fault.Fault.{Fault}
 use Rattle.cc_base.specs.declared.number.TypeId.{TypeId}
 use Rattle.c_types.specs.Table.{Table, IsType, IsComplete, shape_at, entry_at}
+use Rattle.c_typing.specs.Declaring.{once_left}
 use Rattle.c_typing.specs.Judging.{State}
 use Rattle.c_typing.specs.OpenScopes.{AreStillOpen, Gained}
 
@@ -26,3 +28,8 @@ Grows s r = (any : Bool) (first : State) → HasGrown any first s → HasGrown a
 -- the same where any name may be declared
 abbrev pub GrowsAny : State → State → Type 0
 GrowsAny s r = (first : State) → HasGrown true first s → HasGrown true first r
+
+-- in a scope of its own: where it stops, that scope is left
+abbrev pub GrowsOrLeaves : {A : Type 0} → Result A Fault → State → State → Type 0
+GrowsOrLeaves (Ok a) s r = GrowsAny s r
+GrowsOrLeaves (Err fault) s r = (q : State) × GrowsAny s q × (r ≡ once_left q)

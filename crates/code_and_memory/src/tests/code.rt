@@ -1,3 +1,4 @@
+//! Which code is in range: lines, parts of lines, and the limits of a program.
 use cc_base::{Check, Place};
 use cured_code::{
     AreaLine, Bytes, Code, Cured, Function, Functions, GlobalLine, Globals, Instr, Locals, Narrow,
@@ -72,8 +73,10 @@ fn accepts(alloc: Global, line: Instr) -> Result<bool, AllocError> {
 }
 
 #[test]
-fn words_name_slots_in_range(rt: HostRuntime) -> Result<(), Fail> {
+fn a_line_names_what_is_there(rt: HostRuntime) -> Result<(), Fail> {
+    let place = Place { line: 1, col: 1 };
     for (line, accepted) in [
+        // Words.
         (Instr::Const(3, u64::MAX), true),
         (Instr::Const(4, 0), false),
         (Instr::Copy(3, 3), true),
@@ -91,15 +94,7 @@ fn words_name_slots_in_range(rt: HostRuntime) -> Result<(), Fail> {
         (Instr::Shl(0, 4, 0), false),
         (Instr::Shr(3, 3, 3), true),
         (Instr::Sar(0, 0, 4), false),
-    ] {
-        assert_eq!(rt; accepts(rt.alloc(), line)?, accepted);
-    }
-    Ok(())
-}
-
-#[test]
-fn tests_and_divisions_name_slots_in_range(rt: HostRuntime) -> Result<(), Fail> {
-    for (line, accepted) in [
+        // Divisions, tests, input and output.
         (Instr::Divu(3, 3, 3), true),
         (Instr::Divu(0, 0, 4), false),
         (Instr::Divs(4, 0, 0), false),
@@ -116,15 +111,7 @@ fn tests_and_divisions_name_slots_in_range(rt: HostRuntime) -> Result<(), Fail> 
         (Instr::Put(4), false),
         (Instr::Exit(3), true),
         (Instr::Exit(4), false),
-    ] {
-        assert_eq!(rt; accepts(rt.alloc(), line)?, accepted);
-    }
-    Ok(())
-}
-
-#[test]
-fn bytes_are_read_and_written_in_the_sizes_that_there_are(rt: HostRuntime) -> Result<(), Fail> {
-    for (line, accepted) in [
+        // Bytes are read and written in the sizes that there are.
         (Instr::Ld(1, 3, 3), true),
         (Instr::Ld(2, 3, 3), true),
         (Instr::Ld(4, 3, 3), true),
@@ -156,15 +143,7 @@ fn bytes_are_read_and_written_in_the_sizes_that_there_are(rt: HostRuntime) -> Re
         (Instr::Zero(4, 0), false),
         (Instr::Len(3, 3), true),
         (Instr::Len(0, 4), false),
-    ] {
-        assert_eq!(rt; accepts(rt.alloc(), line)?, accepted);
-    }
-    Ok(())
-}
-
-#[test]
-fn tagged_areas_are_named_by_slots_in_range(rt: HostRuntime) -> Result<(), Fail> {
-    for (line, accepted) in [
+        // Tagged areas.
         (Instr::Plain(3, 3, 3, u64::MAX), true),
         (Instr::Plain(0, 0, 4, 0), false),
         (Instr::Untag(3, 3, u64::MAX), true),
@@ -182,16 +161,7 @@ fn tagged_areas_are_named_by_slots_in_range(rt: HostRuntime) -> Result<(), Fail>
         (Instr::Tzero(4, 0, 0), false),
         (Instr::Tdepth(3, 3, 3, u64::MAX), true),
         (Instr::Tdepth(0, 4, 0, 0), false),
-    ] {
-        assert_eq!(rt; accepts(rt.alloc(), line)?, accepted);
-    }
-    Ok(())
-}
-
-#[test]
-fn areas_and_nodes_that_are_named_are_there(rt: HostRuntime) -> Result<(), Fail> {
-    let place = Place { line: 1, col: 1 };
-    for (line, accepted) in [
+        // Areas, type nodes, functions, blocks and checks.
         (Instr::Frame(3, 0), true),
         (Instr::Frame(3, 1), false),
         (Instr::Frame(4, 0), false),
@@ -209,15 +179,7 @@ fn areas_and_nodes_that_are_named_are_there(rt: HostRuntime) -> Result<(), Fail>
         (Instr::New(false, 0, 0, 4), false),
         (Instr::Check(Check::Null, place, 3), true),
         (Instr::Check(Check::Null, place, 4), false),
-    ] {
-        assert_eq!(rt; accepts(rt.alloc(), line)?, accepted);
-    }
-    Ok(())
-}
-
-#[test]
-fn calls_pass_rows_of_slots_that_are_there(rt: HostRuntime) -> Result<(), Fail> {
-    for (line, accepted) in [
+        // Calls pass rows of slots.
         (Instr::Call(1, 2, 3), true),
         (Instr::Call(1, 3, 0), false),
         (Instr::Call(1, 0, 4), false),
@@ -241,58 +203,75 @@ fn calls_pass_rows_of_slots_that_are_there(rt: HostRuntime) -> Result<(), Fail> 
     Ok(())
 }
 
-/// A block of one line.
-fn block(alloc: Global, line: Instr) -> Result<Instr, AllocError> {
-    Ok(Instr::Block(Code(vec![in alloc; line]?)))
+/// A line that holds another.
+#[derive(Clone, Copy)]
+enum Holder {
+    Block,
+    Loop,
+    /// A branch, in its first part.
+    Branch,
+    /// A branch, in its second part.
+    Otherwise,
 }
 
-/// A branch whose first part is one line.
-fn branch(alloc: Global, line: Instr) -> Result<Instr, AllocError> {
-    Ok(Instr::If(3, Code(vec![in alloc; line]?), Code(Vec::new(alloc))))
-}
-
-/// A branch whose second part is one line.
-fn otherwise(alloc: Global, line: Instr) -> Result<Instr, AllocError> {
-    Ok(Instr::If(3, Code(Vec::new(alloc)), Code(vec![in alloc; line]?)))
-}
-
-/// A loop of one line.
-fn endless(alloc: Global, line: Instr) -> Result<Instr, AllocError> {
-    Ok(Instr::Loop(Code(vec![in alloc; line]?)))
+/// A line that holds this one alone, or the line itself where there is no holder.
+fn held(alloc: Global, holder: Option<Holder>, line: Instr) -> Result<Instr, AllocError> {
+    let Some(holder) = holder else {
+        return Ok(line);
+    };
+    let part = Code(vec![in alloc; line]?);
+    Ok(match holder {
+        Holder::Block => Instr::Block(part),
+        Holder::Loop => Instr::Loop(part),
+        Holder::Branch => Instr::If(3, part, Code(Vec::new(alloc))),
+        Holder::Otherwise => Instr::If(3, Code(Vec::new(alloc)), part),
+    })
 }
 
 #[test]
-fn a_break_leaves_a_block_or_a_loop_that_it_stands_in(rt: HostRuntime) -> Result<(), Fail> {
+fn a_line_in_others_names_what_is_there(rt: HostRuntime) -> Result<(), Fail> {
     let alloc = rt.alloc();
-    assert!(rt; !accepts(alloc, Instr::Break(0))?);
-    assert!(rt; accepts(alloc, block(alloc, Instr::Break(0))?)?);
-    assert!(rt; !accepts(alloc, block(alloc, Instr::Break(1))?)?);
-    assert!(rt; accepts(alloc, endless(alloc, Instr::Break(0))?)?);
-    assert!(rt; !accepts(alloc, endless(alloc, Instr::Break(1))?)?);
-    // A branch is none.
-    assert!(rt; !accepts(alloc, branch(alloc, Instr::Break(0))?)?);
-    assert!(rt; !accepts(alloc, otherwise(alloc, Instr::Break(0))?)?);
-    let inner = branch(alloc, Instr::Break(1))?;
-    assert!(rt; !accepts(alloc, block(alloc, inner)?)?);
-    let inner = block(alloc, Instr::Break(1))?;
-    assert!(rt; accepts(alloc, endless(alloc, inner)?)?);
+    // The holder of the line, and the holder of that one.
+    for (line, inner, outer, accepted) in [
+        (Instr::Put(3), Some(Holder::Block), None, true),
+        (Instr::Put(4), Some(Holder::Block), None, false),
+        (Instr::Put(4), Some(Holder::Loop), None, false),
+        (Instr::Put(4), Some(Holder::Branch), None, false),
+        (Instr::Put(4), Some(Holder::Otherwise), None, false),
+        // A break leaves a block or a loop that it stands in; a branch is none.
+        (Instr::Break(0), None, None, false),
+        (Instr::Break(0), Some(Holder::Block), None, true),
+        (Instr::Break(1), Some(Holder::Block), None, false),
+        (Instr::Break(0), Some(Holder::Loop), None, true),
+        (Instr::Break(1), Some(Holder::Loop), None, false),
+        (Instr::Break(0), Some(Holder::Branch), None, false),
+        (Instr::Break(0), Some(Holder::Otherwise), None, false),
+        (
+            Instr::Break(1),
+            Some(Holder::Branch),
+            Some(Holder::Block),
+            false,
+        ),
+        (
+            Instr::Break(1),
+            Some(Holder::Block),
+            Some(Holder::Loop),
+            true,
+        ),
+    ] {
+        let line = held(alloc, outer, held(alloc, inner, line)?)?;
+        assert_eq!(rt; accepts(alloc, line)?, accepted);
+    }
     Ok(())
 }
 
 #[test]
-fn lines_in_lines_are_in_range(rt: HostRuntime) -> Result<(), Fail> {
+fn a_branch_names_a_slot_that_is_there(rt: HostRuntime) -> Result<(), Fail> {
     let alloc = rt.alloc();
-    assert!(rt; accepts(alloc, block(alloc, Instr::Put(3))?)?);
-    assert!(rt; !accepts(alloc, block(alloc, Instr::Put(4))?)?);
-    assert!(rt; !accepts(alloc, endless(alloc, Instr::Put(4))?)?);
-    assert!(rt; !accepts(alloc, branch(alloc, Instr::Put(4))?)?);
-    assert!(rt; !accepts(alloc, otherwise(alloc, Instr::Put(4))?)?);
-    assert!(rt;
-        !accepts(
-            alloc,
-            Instr::If(4, Code(Vec::new(alloc)), Code(Vec::new(alloc)))
-        )?
-    );
+    for (slot, accepted) in [(3, true), (4, false)] {
+        let branch = Instr::If(slot, Code(Vec::new(alloc)), Code(Vec::new(alloc)));
+        assert_eq!(rt; accepts(alloc, branch)?, accepted);
+    }
     Ok(())
 }
 
@@ -300,12 +279,13 @@ fn lines_in_lines_are_in_range(rt: HostRuntime) -> Result<(), Fail> {
 fn nested(alloc: Global, depth: u32) -> Result<Instr, AllocError> {
     let mut line = Instr::Put(0);
     for level in 0..depth {
-        line = match level % 4 {
-            0 => block(alloc, line)?,
-            1 => branch(alloc, line)?,
-            2 => otherwise(alloc, line)?,
-            _ => endless(alloc, line)?,
+        let holder = match level % 4 {
+            0 => Holder::Block,
+            1 => Holder::Branch,
+            2 => Holder::Otherwise,
+            _ => Holder::Loop,
         };
+        line = held(alloc, Some(holder), line)?;
     }
     Ok(line)
 }
@@ -387,13 +367,22 @@ fn the_bytes_of_all_globals_are_limited_together(rt: HostRuntime) -> Result<(), 
 }
 
 #[test]
-fn a_function_has_a_signature_that_is_there(rt: HostRuntime) -> Result<(), Fail> {
+fn a_function_has_a_signature_that_is_there_and_slots_for_its_parameters(
+    rt: HostRuntime,
+) -> Result<(), Fail> {
     let alloc = rt.alloc();
-    for (sig, accepted) in [(1, true), (2, false), (u32::MAX, false)] {
+    for (sig, slots, accepted) in [
+        (1, 4, true),
+        (2, 4, false),
+        (u32::MAX, 4, false),
+        (1, 2, true),
+        (1, 1, false),
+    ] {
         let mut parts = program_of_two(alloc, Vec::new(alloc))?;
         let functions = &mut parts.functions;
         if let Some(function) = functions.0.last_mut() {
             function.sig = sig;
+            function.slots = slots;
         }
         assert_eq!(rt; Cured::new(parts).is_some(), accepted);
     }
@@ -401,33 +390,21 @@ fn a_function_has_a_signature_that_is_there(rt: HostRuntime) -> Result<(), Fail>
 }
 
 #[test]
-fn function_0_takes_and_gives_nothing(rt: HostRuntime) -> Result<(), Fail> {
+fn signatures_keep_their_limits_and_function_0_takes_and_gives_nothing(
+    rt: HostRuntime,
+) -> Result<(), Fail> {
     let alloc = rt.alloc();
-    for (sig, accepted) in [
-        (
-            Sig {
-                params: 0,
-                results: 0,
-            },
-            true,
-        ),
-        (
-            Sig {
-                params: 1,
-                results: 0,
-            },
-            false,
-        ),
-        (
-            Sig {
-                params: 0,
-                results: 1,
-            },
-            false,
-        ),
+    for (first, second, accepted) in [
+        (sig(0, 0), sig(0, 0), true),
+        (sig(1, 0), sig(0, 0), false),
+        (sig(0, 1), sig(0, 0), false),
+        (sig(0, 0), sig(381, 3), true),
+        (sig(0, 0), sig(382, 0), false),
+        (sig(0, 0), sig(0, 4), false),
     ] {
         let mut parts = program(alloc, 1, Vec::new(alloc), Vec::new(alloc), Vec::new(alloc))?;
-        parts.sigs = Sigs(vec![in alloc; sig]?);
+        let sigs = vec![in alloc; first, second]?;
+        parts.sigs = Sigs(sigs);
         assert_eq!(rt; Cured::new(parts).is_some(), accepted);
     }
     Ok(())
@@ -512,38 +489,12 @@ fn counts_keep_their_limits(rt: HostRuntime) -> Result<(), Fail> {
 }
 
 #[test]
-fn a_signature_keeps_its_limits(rt: HostRuntime) -> Result<(), Fail> {
-    let alloc = rt.alloc();
-    for (params, results, accepted) in [(381, 3, true), (382, 0, false), (0, 4, false)] {
-        let mut parts = program(alloc, 0, Vec::new(alloc), Vec::new(alloc), Vec::new(alloc))?;
-        let sigs = vec![in alloc; sig(0, 0), sig(params, results)]?;
-        parts.sigs = Sigs(sigs);
-        assert_eq!(rt; Cured::new(parts).is_some(), accepted);
-    }
-    Ok(())
-}
-
-#[test]
 fn a_node_s_parent_is_an_earlier_one(rt: HostRuntime) -> Result<(), Fail> {
     let alloc = rt.alloc();
     for (first, second, accepted) in [(0, 0, true), (0, 1, true), (0, 2, false), (1, 0, false)] {
         let mut parts = program(alloc, 0, Vec::new(alloc), Vec::new(alloc), Vec::new(alloc))?;
         let parents = vec![in alloc; first, second]?;
         parts.nodes = Parents(parents);
-        assert_eq!(rt; Cured::new(parts).is_some(), accepted);
-    }
-    Ok(())
-}
-
-#[test]
-fn a_function_has_slots_for_its_parameters(rt: HostRuntime) -> Result<(), Fail> {
-    let alloc = rt.alloc();
-    for (slots, accepted) in [(2, true), (1, false)] {
-        let mut parts = program_of_two(alloc, Vec::new(alloc))?;
-        let functions = &mut parts.functions;
-        if let Some(function) = functions.0.last_mut() {
-            function.slots = slots;
-        }
         assert_eq!(rt; Cured::new(parts).is_some(), accepted);
     }
     Ok(())

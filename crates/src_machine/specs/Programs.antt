@@ -588,15 +588,16 @@ chosen = source_run program table (kind_at []) (Closed []) 10
         (value 57 0 int) int)
         ∷ [])
 
--- int main(void){{typedef char *g;}{typedef int *g;}return 0;}
+-- int main(void){{typedef int g(int *);}{typedef char *g(void);}return 0;}
 abbrev pub block_typedefs_table : Table
-block_typedefs_table = basic_table ++ entry (shape.Pointer (node 0) char) ∷ entry (shape.Pointer (node 1) int) ∷ entry (shape.Function [] int) ∷ []
+block_typedefs_table = basic_table ++ entry (shape.Pointer (node 0) int) ∷ entry (shape.Function (type 9 ∷ []) int) ∷ entry (shape.Pointer (node 1) char)
+    ∷ entry (shape.Function [] (type 11)) ∷ entry (shape.Function [] int) ∷ []
 
 abbrev pub block_typedefs : TypedTranslationUnit
-block_typedefs = main (type 11) (
-    runs (typed.Block (at 16) (body (named char (type 9) ∷ [])))
-    ∷ runs (typed.Block (at 34) (body (named int (type 10) ∷ [])))
-    ∷ returns (at 51) (number 0)
+block_typedefs = main (type 13) (
+    runs (typed.Block (at 16) (body (named int (type 10) ∷ [])))
+    ∷ runs (typed.Block (at 39) (body (named char (type 12) ∷ [])))
+    ∷ returns (at 63) (number 0)
     ∷ [])
   where
     named : TypeId → TypeId → Item

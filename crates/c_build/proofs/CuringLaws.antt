@@ -65,11 +65,11 @@ few_parameters table all t parameters result is =
 -- What was made
 
 pub curing_so : (p : Program) (s : Solved) (n : TypeNodes) (r : Result Parts NoMemory) → n.table ≡ p.types → n.kinds ≡ s.kinds
-    → ((t : TypeId) → Contains n.used t ↔ IsData p.types t) → AreTypeNodes n
+    → ((t : TypeId) → Contains n.used t ↔ IsData p.types t) → AreTypeNodes n → IsInShape p
     → IfOk r (λ c. IsCuredProgram p (kind_at s.kinds) (node_at n) n.parents c) → IfOk r (λ c. IsCuringOf p s c)
-curing_so p s n (Err want) table kinds used made cured = tt {0}
-curing_so p s n (Ok c) table kinds used made cured =
-    record { nodes = n; table = table; kinds = kinds; used = used; made = made; cured = cured }
+curing_so p s n (Err want) table kinds used made in_shape cured = tt {0}
+curing_so p s n (Ok c) table kinds used made in_shape cured =
+    record { nodes = n; table = table; kinds = kinds; used = used; made = made; in_shape = in_shape; cured = cured }
 
 pub few_of : (text : List ℕ) (i : Inferred) → IsInferred text i.typed i.code i.solved → HaveFewParameters i.code.types
 few_of text i is = subst HaveFewParameters (sym is.lowered.types) (few_parameters i.typed.types is.typed.limited.parameters)

@@ -21,4 +21,4 @@ returns c =
     (c.in_ok-nodes.ensures.table ∙ ap (λ (p : Program). p.types) c.program-program.ensures.same) c.in_ok-nodes.ensures.kinds
     (members_of c.args.code.now c.program-program.result.now c.in_ok-nodes.nodes.used c.deref.result.now c.in_ok-used.used.items
     c.program-program.ensures.same c.in_ok-nodes.ensures.used c.deref.ensures.value c.in_ok-used.ensures)
-    c.parents-parents.ensures.nodes c.cure.ensures.curing
+    c.parents-parents.ensures.nodes c.program-program.ensures.in_shape c.cure.ensures.curing

@@ -1,0 +1,27 @@
+-- What the cured program of a text does.
+use Rattle.std.specs.Prelude.{ℕ}
+use Rattle.cc_base.specs.Kinds.{kind_at}
+use Rattle.cc_base.specs.declared.number.TypeId.{TypeId}
+use Rattle.flat_mem.specs.Bytes.{AreBytes}
+use Rattle.runs.specs.Input.{Input}
+use Rattle.c_tree.specs.TypedStatementViews.{typed_unit_view}
+use Rattle.c_tree.specs.declared.typed_unit.Typed.{Typed}
+use Rattle.src_mem.specs.State.{bytes_of}
+use Rattle.src_machine.specs.Machine.{source_run}
+use Rattle.cil_form.specs.Machine.{setting_of}
+use Rattle.cil_form.specs.declared.program.Program.{Program}
+use Rattle.kind_solver.specs.declared.solved.Solved.{Solved}
+use Rattle.cured_code.specs.FlatMachine.{flat_run}
+use Rattle.cured_code.specs.declared.parts.Parts.{Parts}
+use Rattle.sim_relation.specs.Outcomes.{RunAlike}
+use Rattle.sim_laws.specs.Plain.{IsPlainProgram}
+
+-- THE CURED RUN IS THE SOURCE'S RUN: for every input of bytes and every number of turns. The numbers of type nodes are those that RTTI pointers carry.
+pub record RunsAsSource (t : Typed) (p : Program) (s : Solved) (c : Parts) : Type 0 where
+  pub number_of : TypeId → ℕ
+  pub alike : (input : Input) (turns : ℕ) → AreBytes (bytes_of input)
+      → RunAlike (setting_of p (kind_at s.kinds)) number_of (source_run (typed_unit_view t.unit) t.types (kind_at s.kinds) input turns) (flat_run c input turns)
+
+-- so it is where the inferred kinds make the code plain
+abbrev pub RunsAlikeIfPlain : Typed → Program → Solved → Parts → Type 0
+RunsAlikeIfPlain t p s c = IsPlainProgram p (kind_at s.kinds) → RunsAsSource t p s c

@@ -16,7 +16,7 @@ use Rattle.sim_relation.proofs.Small.{small-related, wrong-byte, too-short}
 use Rattle.sim_relation.proofs.Ends.{ends-alike}
 use Rattle.src_mem.specs.State as source
 use Rattle.cured_code.specs.FlatState as flat
-use Rattle.sim_checks.specs.Small.{flat_with_byte, flat_with_short_area, short_ground, flat_with_frame, flat_with_output, small_run, small_cured_run, run_with_byte, run_with_status, run_with_short_range, run_with_call, known, within, slots_to}
+use Rattle.sim_checks.specs.Small.{flat_with_byte, flat_with_short_area, short_ground, flat_with_frame, flat_with_output, small_run, small_cured_run, run_with_byte, run_with_status, run_with_short_range, run_with_call, known_p, p_within, slots_to}
 
 -- States
 
@@ -77,7 +77,7 @@ words-of : pointer_words small_ground Seq pointer_one_past ≡ 20 ∷ 16 ∷ 20 
 unfolding layout_of cells_at
 words-of = refl
 
-pub pointer-stands : PointerStands small_ground (slots_to 20) known (node 1) pointer_one_past
+pub pointer-stands : PointerStands small_ground (slots_to 20) known_p (node 1) pointer_one_past
 unfolding bytes_at
 pointer-stands = record {
   words = subst AreWords (sym words-of) are-words;
@@ -90,9 +90,9 @@ pointer-stands = record {
     each y (suc zero, less, e) = subst (λ (z : Sure). IsTrueOf z pointer_one_past) e refl
     each y (suc (suc k), less, e) = absurd (omega (arith, less))
 
-pub other-end : PointerStands small_ground (slots_to 16) known (node 1) pointer_one_past → ⊥
+pub other-end : PointerStands small_ground (slots_to 16) known_p (node 1) pointer_one_past → ⊥
 unfolding bytes_at
 other-end h = let e : 20 ∷ 16 ∷ 16 ∷ [] ≡ 20 ∷ 16 ∷ 20 ∷ [] = h.in_slots 1 refl ∙ words-of in absurd (cc (e))
 
-pub not-within : PointerStands small_ground (slots_to 20) within (node 1) pointer_one_past → ⊥
+pub not-within : PointerStands small_ground (slots_to 20) p_within (node 1) pointer_one_past → ⊥
 not-within h = let e : false ≡ true = h.sure (IsWithin 4) (0, omega arith, refl) in absurd (cc (e))

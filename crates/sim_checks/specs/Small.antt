@@ -59,12 +59,12 @@ run_with_call = machine.seen (flat.Exited 0) (record small_flat { entered = 0 �
 -- Slots
 
 -- p in the slots from 1 on, of which it is sure that it was made for an object
-abbrev pub known : Known
-known = record { type = PointerTo (node 1) int; place = Some 1; form = Exact; sure = IsNotNull ∷ IsBased ∷ [] }
+abbrev pub known_p : Known
+known_p = record { type = PointerTo (node 1) int; place = Some 1; form = Exact; sure = IsNotNull ∷ IsBased ∷ [] }
 
 -- the same, and that four bytes from it on lie in its part
-abbrev pub within : Known
-within = record known { sure = IsWithin 4 ∷ [] }
+abbrev pub p_within : Known
+p_within = record known_p { sure = IsWithin 4 ∷ [] }
 
 -- where it stands, and where its part begins and ends
 abbrev pub slots_to : ℕ → List ℕ

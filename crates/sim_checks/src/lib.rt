@@ -15,7 +15,7 @@ ghost use Rattle.sim_checks.specs.Comparing.{OrdersAreCompared, DifferencesAreCo
 ghost use Rattle.sim_checks.specs.Calling.{CastsAreCompared, ReturnsAreCompared, FramesFitAlike, RoomIsCompared, FunctionsAreCompared, AllocationsAreCompared, UnsizedAllocationsAreCompared};
 ghost use Rattle.sim_checks.specs.Tagged.{WildBoundsAreCompared, WildBaseIsCompared, AlignmentIsCompared, PlainIsCompared, TagIsCompared, WildOrdersAreCompared, WildDifferencesAreCompared, WildEqualitiesAreCompared, MixedEqualitiesAreCompared, WildCopiesAreCompared};
 ghost use Rattle.sim_checks.specs.Words.{SumsStand, DifferencesStand, ProductsStand, ReadingsStand, QuotientsStand, SignedQuotientsStand, ComparisonsStand, ShiftsStand, NarrowingsStand, MovesAreExact, ElementsAreExact, PartsAreExact, CuredPartsAreExact, CuredDistancesAreOrdered, RemaindersAreExact, AreasAreExact, AlignmentsAreExact};
-ghost use Rattle.sim_checks.specs.Small.{flat_with_byte, flat_with_short_area, short_ground, flat_with_frame, flat_with_output, small_run, small_cured_run, run_with_byte, run_with_status, run_with_short_range, run_with_call, known, within, slots_to};
+ghost use Rattle.sim_checks.specs.Small.{flat_with_byte, flat_with_short_area, short_ground, flat_with_frame, flat_with_output, small_run, small_cured_run, run_with_byte, run_with_status, run_with_short_range, run_with_call, known_p, p_within, slots_to};
 
 /// NULL of SAFE and RTTI pointers, and BASE of SEQ ones: a word isn't 0 exactly where the pointer isn't null, or was made for an
 /// object.
@@ -142,7 +142,7 @@ pub fn small_runs_are_told_apart()
     ensures other_memory { StandsForMemory small_setting number_of small_run run_with_byte → ⊥ }
     ensures are_words { AreWords (20 ∷ 16 ∷ 20 ∷ []) }
     ensures no_word { AreWords (20 ∷ 2 ^ 64 ∷ []) → ⊥ }
-    ensures stands { PointerStands small_ground (slots_to 20) known (node 1) pointer_one_past }
-    ensures end { PointerStands small_ground (slots_to 16) known (node 1) pointer_one_past → ⊥ }
-    ensures sure { PointerStands small_ground (slots_to 20) within (node 1) pointer_one_past → ⊥ }
+    ensures stands { PointerStands small_ground (slots_to 20) known_p (node 1) pointer_one_past }
+    ensures end { PointerStands small_ground (slots_to 16) known_p (node 1) pointer_one_past → ⊥ }
+    ensures sure { PointerStands small_ground (slots_to 20) p_within (node 1) pointer_one_past → ⊥ }
 {}

@@ -1,4 +1,4 @@
--- SAME of a WILD pointer and one that isn't. Of `==`: both are settled, or one of them isn't. An order and a difference never are.
+-- SAME of a WILD pointer and one that isn't. Of `==`: both are settled, or one of them isn't. An order and a difference never hold.
 use Rattle.std.proofs.Common.{◌≡◌, ◌≢◌, ◌∙◌, ℕ, Bool, true, false, ◌&&◌, pos, Option, refl, ap, sym}
 use Rattle.std.specs.Prelude.{◌∷◌, ◌==◌}
 use Rattle.std.specs.Int.{int_rem_euclid}
@@ -10,10 +10,9 @@ use Rattle.cc_base.specs.declared.number.TypeId.{TypeId}
 use Rattle.cc_base.specs.declared.place.Place.{Place}
 use Rattle.c_types.specs.Sound.{IsWellFormed}
 use Rattle.flat_mem.specs.Memory.{Memory}
-use Rattle.src_mem.specs.Pointers.{Pointer, same_part}
+use Rattle.src_mem.specs.Pointers.{Pointer, is_at, same_part}
 use Rattle.src_mem.specs.State as source
 use Rattle.src_mem.specs.State.{Setting}
-use Rattle.src_mem.specs.Pointers.{is_at}
 use Rattle.src_mem.specs.Checks.{AreOfOnePart, AreElementsApart, AreComparable, stands_within, used_alike, apart, holds}
 use Rattle.src_mem.specs.Outlines.{outlines_of, AreOutlines}
 use Rattle.cured_code.specs.FlatState as flat

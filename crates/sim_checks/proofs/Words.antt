@@ -1,12 +1,12 @@
 -- Words against integers, and distances on words.
-use Rattle.std.proofs.Common.{◌≡◌, ◌∙◌, ℕ, ◌+◌, ◌-◌, ◌*◌, ◌/◌, ◌%◌, ◌≤◌, ◌^◌, ℤ, pos, negsuc, ◌+ℤ◌, true, ◌&&◌, inl, inr, nat_lt, refl, ap, sym, subst, arith}
+use Rattle.std.proofs.Common.{◌≡◌, ◌∙◌, ℕ, ◌+◌, ◌-◌, ◌*◌, ◌/◌, ◌%◌, ◌≤◌, ◌^◌, ℤ, pos, negsuc, ◌+ℤ◌, ◌-ℤ◌, true, ◌&&◌, inl, inr, nat_lt, nat_eq, refl, ap, sym, subst, arith}
 use Rattle.std.specs.Prelude.{int_lt, int_le, int_div, int_rem, neg_ℤ, ◌*ℤ◌}
 use Rattle.std.proofs.lemmas.Bool.Decides.{nat_tests}
 use Rattle.std.proofs.lemmas.Int.{ints}
 use Rattle.flat_mem.specs.Bytes.{IsAccessSize}
 use Rattle.type_laws.proofs.Stairs.{stair-bounds, stair-mono}
 use Rattle.integers.specs.Words.{word, residue, signed_of, truth_word}
-use Rattle.integers.specs.Operators.{signed, low_bits, shifted_down}
+use Rattle.integers.specs.Operators.{signed, remainder_signed, low_bits, shifted_down}
 use Rattle.integers.proofs.WordLaws.{word-small}
 use Rattle.integers.proofs.SignedLaws.{IsNear, IsReach, sum-word, difference-word, signed-word, less-word, in_part-word, in_area-word}
 use Rattle.sim_checks.specs.Moving.{steps}
@@ -108,7 +108,12 @@ pub cured-distances-are-ordered : CuredDistancesAreOrdered
 cured-distances-are-ordered f u n some first next x y h = stair-mono f u n (record { some = some; first = first; next = next }) x y h
 
 pub remainders-are-exact : RemaindersAreExact
-remainders-are-exact z m some few = rem-zero z m some few
+remainders-are-exact x y m h some few =
+    ap (λ a. nat_eq (remainder_signed a m) 0) (difference-word x y)
+    ∙ ap (λ a. nat_eq (word (int_rem a (signed m))) 0) (signed-word (x -ℤ y) (near (x -ℤ y) h))
+    ∙ ap (λ a. nat_eq (word (int_rem (x -ℤ y) (signed a))) 0) (sym (word-small m (omega (arith, few))))
+    ∙ ap (λ a. nat_eq (word (int_rem (x -ℤ y) a)) 0) (signed-word (pos m) (near (pos m) (omega (arith, few))))
+    ∙ rem-zero (x -ℤ y) m some few
 
 reach : (z : ℤ) → int_le (neg_ℤ (pos (2 ^ 41))) z ≡ true → int_le z (pos (2 ^ 41)) ≡ true → IsReach z
 reach (pos n) h k = let x : n ≤ 2 ^ 41 = grind (arith, ints, k) in x

@@ -90,9 +90,11 @@ abbrev pub CuredDistancesAreOrdered : Type 0
 CuredDistancesAreOrdered = (f u : ℕ → ℕ) (n : ℕ) → 0 < n → f 0 ≡ 0 → ((r : ℕ) → r < n → f (suc r) ≡ f r + u r)
     → (x y : ℤ) → x ≤ℤ y → stair f n (f n) x ≤ℤ stair f n (f n) y
 
--- SAME: a remainder of words is 0 exactly where the residue is
+-- SAME: whole elements of m bytes lie between two places: the signed remainder of the words' difference is 0 exactly where the residue of the
+-- integers' difference is
 abbrev pub RemaindersAreExact : Type 0
-RemaindersAreExact = (z : ℤ) (m : ℕ) → 0 < m → m < 2 ^ 60 → nat_eq (word (int_rem z (pos m))) 0 ≡ nat_eq (residue z m) 0
+RemaindersAreExact = (x y : ℤ) (m : ℕ) → IsSigned (x -ℤ y) → 0 < m → m < 2 ^ 60
+    → nat_eq (remainder_signed (difference_words (word x) (word y)) m) 0 ≡ nat_eq (residue (x -ℤ y) m) 0
 
 -- WBOUNDS: m bytes at the distance z lie in an area
 abbrev pub AreasAreExact : Type 0

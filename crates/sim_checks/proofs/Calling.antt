@@ -23,7 +23,8 @@ use Rattle.src_mem.specs.Memory as objects
 use Rattle.src_mem.specs.Memory.{Object, depth_of_object}
 use Rattle.src_mem.specs.State as source
 use Rattle.src_mem.specs.State.{Setting, Defined}
-use Rattle.src_mem.specs.Checks.{IsMadeFor, IsNotOfFrame, IsFunctionOf, HasRoom, depth_limit, source_frame_limit, has_room, fits_between, function_passes, function_passes_or_none, conditions_of_allocation, holds}
+use Rattle.src_mem.specs.Checks.{IsMadeFor, IsNotOfFrame, IsFunctionOf, HasRoom, depth_limit, source_frame_limit, has_room, fits_between, function_passes, function_passes_or_none, null_or_in_bounds, conditions_of_allocation, holds}
+use Rattle.src_mem.specs.Primitives.{block_pointer}
 use Rattle.src_mem.specs.Facts.{IsTypedAt, IsWildAt}
 use Rattle.src_mem.specs.Outlines.{outlines_of}
 use Rattle.src_mem.proofs.Outlines.{has-outline}
@@ -231,6 +232,27 @@ module _ (w : Setting) (s : source.State) (m : Memory) (parts : Parts) (t : Type
   allocations-compared Rtti q h = ap (λ b. all_hold parts m (if b then [] else asked check.Bounds at (Unless made (IsAtLeast size needed)) ∷ []) e) asked-alike ∙ bounds-alike q h
   allocations-compared Seq q h = refl
   allocations-compared Wild q h = refl
+
+module _ (w : Setting) (s : source.State) (m : Memory) (parts : Parts) (t : TypeId) (e : ℕ → ℕ) (made size : ℕ) (needed : Fixed) (at : Place) (unsized : size_of w.table t ≡ 0)
+    (none : needed.value ≡ 0) where
+  block-there : (q : Pointer) → (q ≡ Null) ⊎ ((n bytes : ℕ) × (q ≡ block_pointer n t bytes)) → list_all (holds w s.memory) (null_or_in_bounds (size_of w.table t) q) ≡ true
+  block-there q h = ap (λ (n : ℕ). list_all (holds w s.memory) (null_or_in_bounds n q)) unsized ∙ of h
+    where
+      of : (q ≡ Null) ⊎ ((n bytes : ℕ) × (q ≡ block_pointer n t bytes)) → list_all (holds w s.memory) (null_or_in_bounds 0 q) ≡ true
+      of (inl f) = ap (λ (x : Pointer). list_all (holds w s.memory) (null_or_in_bounds 0 x)) f
+      of (inr (n, bytes, f)) = ap (λ (x : Pointer). list_all (holds w s.memory) (null_or_in_bounds 0 x)) f ∙ ap (λ b. b && true) (block-fits 0 bytes ∙ any bytes)
+        where
+          any : (n : ℕ) → nat_le 0 n ≡ true
+          any n = grind (arith, nat_tests)
+
+  pub unsized-allocations-compared : (kind : Kind) (q : Pointer) → (q ≡ Null) ⊎ ((n bytes : ℕ) × (q ≡ block_pointer n t bytes))
+      → all_hold parts m (allocated kind made size needed at) e ≡ list_all (holds w s.memory) (conditions_of_allocation kind (size_of w.table t) q)
+  unsized-allocations-compared Safe q h =
+      ap (λ n. all_hold parts m (if nat_eq n 0 then [] else asked check.Bounds at (Unless made (IsAtLeast size needed)) ∷ []) e) none ∙ sym (block-there q h)
+  unsized-allocations-compared Rtti q h =
+      ap (λ n. all_hold parts m (if nat_eq n 0 then [] else asked check.Bounds at (Unless made (IsAtLeast size needed)) ∷ []) e) none ∙ sym (block-there q h)
+  unsized-allocations-compared Seq q h = refl
+  unsized-allocations-compared Wild q h = refl
 
 -- FUN
 

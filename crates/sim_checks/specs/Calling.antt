@@ -79,3 +79,9 @@ AllocationsAreCompared = (w : Setting) (s : source.State) (m : Memory) (parts : 
     (at : Place) → 0 < size_of w.table t → 0 < cured_size w.table w.kind t → needed.value ≡ cured_size w.table w.kind t
     → IsAllocated w t (e made) (e size) q
     → all_hold parts m (allocated kind made size needed at) e ≡ list_all (holds w s.memory) (conditions_of_allocation kind (size_of w.table t) q)
+
+-- The same for a pointer to what has no size, as `void`: any block is enough. C's condition holds, and nothing is asked.
+abbrev pub UnsizedAllocationsAreCompared : Type 0
+UnsizedAllocationsAreCompared = (w : Setting) (s : source.State) (m : Memory) (parts : Parts) (kind : Kind) (t : TypeId) (q : Pointer) (e : ℕ → ℕ) (made size : ℕ)
+    (needed : Fixed) (at : Place) → size_of w.table t ≡ 0 → needed.value ≡ 0 → (q ≡ Null) ⊎ ((n bytes : ℕ) × (q ≡ block_pointer n t bytes))
+    → all_hold parts m (allocated kind made size needed at) e ≡ list_all (holds w s.memory) (conditions_of_allocation kind (size_of w.table t) q)

@@ -38,7 +38,7 @@ use Rattle.flat_mem.specs.Placement.{area_size, function_address}
 use Rattle.flat_mem.proofs.BlockLaws.{IsNewBlock, block-new}
 use Rattle.flat_mem.proofs.ByteLaws.{number-same}
 use Rattle.flat_mem.proofs.FrameLaws.{frames_end-least}
-use Rattle.src_mem.specs.Pointers.{Pointer, Null, Value, Integer, Address}
+use Rattle.src_mem.specs.Pointers.{Pointer, Null, Number as OfNumber, At, Function, Value, Integer, Address}
 use Rattle.src_mem.specs.Memory.{Object, zero_object, new_block, block_cells, block_size, charge_of}
 use Rattle.src_mem.specs.State as source
 use Rattle.src_mem.specs.State.{Setting, as_pointer}
@@ -85,7 +85,7 @@ use Rattle.sim_checks.specs.Rows.{AreFunctionsLaid}
 use Rattle.sim_checks.specs.Calling.{IsAllocated}
 use Rattle.sim_checks.specs.Moving.{all_hold}
 use Rattle.sim_checks.proofs.Addresses.{not-zero}
-use Rattle.sim_checks.proofs.Calling.{allocations-compared}
+use Rattle.sim_checks.proofs.Calling.{allocations-compared, unsized-allocations-compared}
 use Rattle.sim_checks.proofs.Sequences.{small, some-size}
 use Rattle.sim_memory.specs.Laws.{AreBelowHeap, plain_area}
 use Rattle.sim_memory.proofs.Blocks.{blocks-made, blocks-fit-alike}
@@ -952,24 +952,36 @@ module _ (w : Scene) (names : Names w) (g : AreSlots w.slots) (b : Running) (kno
       are : conditions ≡ null_or_in_bounds (size_of w.programs.whole.table t) (z).pointer
       are = ap (λ (i : Kind). conditions_of_allocation i (size_of w.programs.whole.table t) (z).pointer) safe
 
-      -- what has no size
+      -- what has no size: nothing is asked, and C's condition holds
       unsized-goes : nat_eq (rules.cured_size w.programs.whole t) 0 ≡ true → all_checked Here at conditions (z).next ≡ Done tt (z).next
-      unsized-goes e = ap (λ (cs : List Condition). all_checked Here at cs (z).next) are ∙ of (is_complete (entry_at w.programs.whole.table t)) refl
+      unsized-goes e = ap (λ (cs : List Condition). all_checked Here at cs (z).next) are ∙ goes (z).pointer (size_of w.programs.whole.table t) (sym compared ∙ nothing)
         where
           none : rules.cured_size w.programs.whole t ≡ 0
           none = grind (arith, nat_tests, e)
 
-          passes : (q : Pointer) → IsGiven w.programs t (slot (z).after at_made) (slot (z).after d) (z).next (z).after.state q → all_checked Here at (null_or_in_bounds 0 q) (z).next ≡ Done tt (z).next
-          passes q (inl (nowhere, null)) = ap (λ (i : Pointer). all_checked Here at (null_or_in_bounds 0 i) (z).next) null
-          passes q (inr x) = ap (λ (i : Pointer). all_checked Here at (null_or_in_bounds 0 i) (z).next) x.is
-              ∙ ap (λ (y : Bool). from (allowed y (source.Stopped check.Bounds at) (done tt) (z).next) (λ i. done tt)) (fits x.size)
-            where
-              fits : (n : ℕ) → fits_between 0 n (pos 0) 0 ≡ true
-              fits n = grind (arith, nat_tests, ints)
+          nothing : all_hold w.programs.parts (z).after.state.memory (allocated Safe at_made d needed at) (slot (z).after) ≡ true
+          nothing = ap (λ (q : Bool). all_hold w.programs.parts (z).after.state.memory (if q then [] else asked check.Bounds at (Unless at_made (IsAtLeast d needed)) ∷ []) (slot (z).after)) e
 
-          of : (q : Bool) → is_complete (entry_at w.programs.whole.table t) ≡ q → all_checked Here at (null_or_in_bounds (size_of w.programs.whole.table t) (z).pointer) (z).next ≡ Done tt (z).next
+          of : (q : Bool) → is_complete (entry_at w.programs.whole.table t) ≡ q → size_of w.programs.whole.table t ≡ 0
           of true h = absurd (let a = some-size Here names.solved.well_formed t h in let f = names.sizes.size t h in omega (arith, a, f, none))
-          of false h = ap (λ (n : ℕ). all_checked Here at (null_or_in_bounds n (z).pointer) (z).next) (unsized Here names.solved.well_formed t h) ∙ passes (z).pointer (z).is
+          of false h = unsized Here names.solved.well_formed t h
+
+          block : IsGiven w.programs t (slot (z).after at_made) (slot (z).after d) (z).next (z).after.state (z).pointer
+              → ((z).pointer ≡ Null) ⊎ ((n bytes : ℕ) × ((z).pointer ≡ block_pointer n t bytes))
+          block (inl i) = inl i.1
+          block (inr x) = inr (x.number, x.size, x.is)
+
+          compared : all_hold w.programs.parts (z).after.state.memory (allocated Safe at_made d needed at) (slot (z).after)
+              ≡ list_all (holds Here (z).next.memory) (conditions_of_allocation Safe (size_of w.programs.whole.table t) (z).pointer)
+          compared = unsized-allocations-compared Here (z).next (z).after.state.memory w.programs.parts t (slot (z).after) at_made d needed at
+              (of (is_complete (entry_at w.programs.whole.table t)) refl) none Safe (z).pointer (block (z).is)
+
+          goes : (q : Pointer) (n : ℕ) → list_all (holds Here (z).next.memory) (null_or_in_bounds n q) ≡ true → all_checked Here at (null_or_in_bounds n q) (z).next ≡ Done tt (z).next
+          goes Null n h = refl
+          goes (OfNumber k) n h = absurd (cc (h))
+          goes (At l) n h = ap (λ (y : Bool). from (allowed y (source.Stopped check.Bounds at) (done tt) (z).next) (λ i. done tt))
+              (and-true (fits_between l.part.low l.part.high l.offset n) ∙ h)
+          goes (Function f) n h = absurd (cc (h))
 
       by : (q : Bool) → nat_eq (rules.cured_size w.programs.whole t) 0 ≡ q
           → Then (AreGot (world_of w) (if q then [] else need Size needed ∷ []))

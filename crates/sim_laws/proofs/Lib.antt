@@ -24,6 +24,7 @@ pub mod Tiles
 pub mod Shrinking
 pub mod Converting
 pub mod Plain
+pub mod PlainKinds
 pub mod Points
 pub mod Control
 pub mod Calls

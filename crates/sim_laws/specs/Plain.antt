@@ -45,10 +45,15 @@ IsPlainKind other = ⊥
 abbrev pub IsPlainPointer : Table → (NodeId → Kind) → TypeId → Type 0
 IsPlainPointer table kind t = IsPlainKind (kind (node_at table t))
 
--- And those of s; where both are SEQ, they point to types of one class. C has them point to compatible types (6.5.6, 6.5.8, 6.5.9), or one of them to `void`.
+-- Where pointers of the types t and s are both SEQ, they point to types of one class. C has them point to compatible types (6.5.6, 6.5.8, 6.5.9), or
+-- one of them to `void`.
+abbrev pub SequencesPointToOneClass : Table → (NodeId → Kind) → TypeId → TypeId → Type 0
+SequencesPointToOneClass table kind t s = kind (node_at table t) ≡ Seq → kind (node_at table s) ≡ Seq
+    → IsOfOneClass table kind (pointee_at table t) (pointee_at table s)
+
+-- pointers of both types are SAFE or SEQ, and SEQ ones point to types of one class
 abbrev pub ArePlainPointers : Table → (NodeId → Kind) → TypeId → TypeId → Type 0
-ArePlainPointers table kind t s = IsPlainPointer table kind t × IsPlainPointer table kind s
-    × (kind (node_at table t) ≡ Seq → kind (node_at table s) ≡ Seq → IsOfOneClass table kind (pointee_at table t) (pointee_at table s))
+ArePlainPointers table kind t s = IsPlainPointer table kind t × IsPlainPointer table kind s × SequencesPointToOneClass table kind t s
 
 abbrev pub IsPlainConvert : Table → (NodeId → Kind) → Convert → Type 0
 IsPlainConvert table kind (convert.Integer into from t) = ⊤

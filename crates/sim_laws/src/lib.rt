@@ -6,6 +6,7 @@ ghost use Rattle.sim_laws.specs.Instructions.{ConstantsFollow, FirstConstantsFol
 ghost use Rattle.sim_laws.specs.Runs.{CuredProgramsRunAlike};
 ghost use Rattle.sim_laws.specs.Calls.{CallsFit, CallsBegin, CallsEnd, EndsGiveZero};
 ghost use Rattle.sim_laws.specs.Frames.{OfCuredPrograms, PlainProgramsRunAlike};
+ghost use Rattle.sim_laws.specs.PlainKinds.{ProgramsOfPlainKindsArePlain};
 
 /// A conditional theorem: a cured program runs as its three-address code, for every input and every number of turns, with the same ending,
 /// output and bytes read, faithful accesses and calls, and bytes that stand for the memory, where three things hold of the program: each
@@ -42,4 +43,10 @@ pub fn frames_follow()
 /// `malloc` and `calloc`; two SEQ pointers that are compared or subtracted point to types of one class, and no parameter's home is WILD.
 pub fn plain_programs_run_alike()
     ensures { PlainProgramsRunAlike }
+{}
+
+/// Which programs are plain by their kinds: those in shape of which each node is SAFE or SEQ, whose code converts no pointer to an integer, and
+/// which compare and subtract two SEQ pointers only where these point to types of one class.
+pub fn programs_of_plain_kinds_are_plain()
+    ensures { ProgramsOfPlainKindsArePlain }
 {}

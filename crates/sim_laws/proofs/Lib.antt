@@ -25,6 +25,7 @@ pub mod Shrinking
 pub mod Converting
 pub mod Plain
 pub mod PlainKinds
+pub mod SmallPlain
 pub mod Points
 pub mod Control
 pub mod Calls

@@ -1,14 +1,15 @@
 -- What curing asks of what was inferred, and what it leaves.
-use Rattle.std.proofs.Common.{◌≡◌, ◌↔◌, ℕ, zero, suc, ◌<◌, ◌≤◌, ◌≢◌, List, [], ◌∷◌, length, slice_index_or, IsFalse, Result, Ok, Err, IfOk, IfErr, sym, ◌∙◌, subst, arith}
+use Rattle.std.proofs.Common.{◌≡◌, ◌↔◌, ℕ, zero, suc, ◌≤◌, ◌≢◌, List, [], ◌∷◌, length, slice_index_or, IsFalse, Result, Ok, Err, IfOk, IfErr, sym, ◌∙◌, subst, arith}
 use Rattle.std.specs.List.{All, Contains}
 use Rattle.std.proofs.lemmas.List.Elements.{All-contains, All-contains_itself, All-head, All-tail, All-weaker}
+use Rattle.cc_base.specs.Kinds.{kind_at}
 use Rattle.cc_base.specs.declared.fault.Fault.{Fault}
 use Rattle.cc_base.specs.declared.fault.Fault.TheVariants.{NoMemory as IsNoMemory}
 use Rattle.cc_base.specs.declared.fault.NoMemory.{NoMemory}
 use Rattle.cc_base.specs.declared.kind.Kind.{Kind}
 use Rattle.cc_base.specs.declared.number.NodeId.{NodeId}
 use Rattle.cc_base.specs.declared.number.TypeId.{TypeId}
-use Rattle.c_types.specs.declared.site.Site.TheVariants.{Flow}
+use Rattle.kind_sites.specs.declared.site.Site.TheVariants.{Flow}
 use Rattle.c_types.specs.Table.{Table, Entry, IsType, is_function, void_entry}
 use Rattle.c_unit_typing.specs.Limits.{parameters_of_shape}
 use Rattle.cil_form.specs.declared.program.Program.{Program}
@@ -24,7 +25,6 @@ use Rattle.c_build.specs.declared.building.Built.{Built}
 use Rattle.c_build.specs.declared.inferring.Inferred.{Inferred}
 use Rattle.c_build.specs.Built.{IsBuilt, IsCuringOf}
 use Rattle.c_build.specs.Inferred.{IsInferred}
-use Rattle.c_build.specs.Solved.{kind_by}
 
 -- The list of the data types
 
@@ -65,11 +65,11 @@ few_parameters table all t parameters result is =
 -- What was made
 
 pub curing_so : (p : Program) (s : Solved) (n : TypeNodes) (r : Result Parts NoMemory) → n.table ≡ p.types → n.kinds ≡ s.kinds
-    → ((t : TypeId) → Contains n.used t ↔ IsData p.types t) → AreTypeNodes n
-    → IfOk r (λ c. IsCuredProgram p (kind_by s.kinds) (node_at n) n.parents c) → IfOk r (λ c. IsCuringOf p s c)
-curing_so p s n (Err want) table kinds used made cured = tt {0}
-curing_so p s n (Ok c) table kinds used made cured =
-    record { nodes = n; table = table; kinds = kinds; used = used; made = made; cured = cured }
+    → ((t : TypeId) → Contains n.used t ↔ IsData p.types t) → AreTypeNodes n → IsInShape p
+    → IfOk r (λ c. IsCuredProgram p (kind_at s.kinds) (node_at n) n.parents c) → IfOk r (λ c. IsCuringOf p s c)
+curing_so p s n (Err want) table kinds used made in_shape cured = tt {0}
+curing_so p s n (Ok c) table kinds used made in_shape cured =
+    record { nodes = n; table = table; kinds = kinds; used = used; made = made; in_shape = in_shape; cured = cured }
 
 pub few_of : (text : List ℕ) (i : Inferred) → IsInferred text i.typed i.code i.solved → HaveFewParameters i.code.types
 few_of text i is = subst HaveFewParameters (sym is.lowered.types) (few_parameters i.typed.types is.typed.limited.parameters)

@@ -1,15 +1,14 @@
 -- What the text of `kinds` asks of what was built.
-use Rattle.std.proofs.Common.{◌≡◌, ℕ, ◌<◌, ◌⊎◌, List, length, Option, Some, None, IsSome, Result, Ok, Err, IfOk, inl, inr, sym, ◌∙◌, refl, subst}
-use Rattle.std.specs.List.{All}
+use Rattle.std.proofs.Common.{◌≡◌, ℕ, ◌<◌, ◌⊎◌, List, length, Option, Some, None, IsSome, Result, Ok, Err, IfOk, inl, inr, ◌∙◌, refl}
 use Rattle.std.proofs.lemmas.List.Elements.{All-weaker}
+use Rattle.cc_base.specs.Kinds.{kind_at}
 use Rattle.cc_base.specs.declared.kind.Kind.{Kind}
 use Rattle.cc_base.specs.declared.kind.Kind.TheVariants.{Safe}
 use Rattle.c_tree.specs.TypedParts.{made_by_unit}
 use Rattle.c_tree.specs.TypedStatementViews.{typed_unit_view}
 use Rattle.c_tree.specs.declared.typed_unit.Typed.{Typed}
-use Rattle.c_tree.specs.declared.typed_unit.Printed.{Printed}
 use Rattle.cil_form.specs.declared.program.Program.{Program}
-use Rattle.kind_report.specs.Report.{AreWithin, HaveCauses, kind_at, cause_at, report_of}
+use Rattle.kind_report.specs.Report.{AreWithin, HaveCauses, cause_at, report_of}
 use Rattle.kind_solver.specs.declared.cause.Cause.{Cause}
 use Rattle.kind_solver.specs.declared.constraint.Constraint.{Constraint}
 use Rattle.kind_solver.specs.declared.solved.Solved.{Solved}
@@ -35,7 +34,7 @@ module _ (text : List ℕ) (t : Typed) (p : Program) (s : Solved) (is : IsInferr
   pub have_causes : HaveCauses s.kinds s.causes t.printed
   have_causes =
       All-weaker (λ one. one.node.0 < p.nodes) (λ one. (kind_at s.kinds one.node ≡ Safe) ⊎ IsSome (cause_at s.causes one.node))
-      (λ one lt. has_cause is.solved.list one.node.0 _ _ (is.solved.causes.each one.node.0 lt)) t.printed (within p.nodes refl)
+      (λ one lt. has_cause is.solved.list one.node.0 _ _ (is.solved.causes.each one.node lt)) t.printed (within p.nodes refl)
 
 -- the lines that the report gives are those of the kinds
 pub has_kinds : {A E : Type 0} (items : A → List ℕ) (t : Typed) (p : Program) (s : Solved) (r : Result A E)

@@ -3,3 +3,4 @@ pub mod Passes
 pub mod KindLines
 pub mod DataTypes
 pub mod CuringLaws
+pub mod AlikeLaws

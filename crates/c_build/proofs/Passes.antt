@@ -1,11 +1,11 @@
 -- What each pass leaves of the ones before it.
-use Rattle.std.proofs.Common.{◌≡◌, ◌↔◌, ℕ, List, Result, Ok, Err, IfOk, length, sym, subst, refl}
+use Rattle.std.proofs.Common.{◌≡◌, ◌↔◌, ℕ, List, Result, Ok, Err, IfOk, length, sym, subst}
 use Rattle.cc_base.specs.declared.fault.Fault.{Fault}
 use Rattle.cc_base.specs.declared.fault.NoMemory.{NoMemory}
+use Rattle.cc_base.specs.Kinds.{kind_at}
 use Rattle.cc_base.specs.declared.kind.Kind.{Kind}
 use Rattle.cc_base.specs.declared.number.NodeId.{NodeId}
 use Rattle.runs.specs.Input.{Input}
-use Rattle.c_types.specs.Flows.{by_number}
 use Rattle.c_tree.specs.TypedParts.{made_by_unit, nodes_made}
 use Rattle.c_tree.specs.TypedStatementViews.{typed_unit_view}
 use Rattle.c_tree.specs.declared.typed_unit.Typed.{Typed}
@@ -20,14 +20,14 @@ use Rattle.constraint_laws.specs.Given.{AreGiven}
 use Rattle.kind_solver.specs.declared.constraint.Constraint.{Constraint}
 use Rattle.kind_solver.specs.declared.solved.Solved.{Solved}
 use Rattle.kind_solver.specs.Constraints.{MeetsAll, PlainApart}
-use Rattle.kind_solver.specs.Sets.{AreKinds, AreCauses, HasLeastWild, kind_at}
+use Rattle.kind_solver.specs.Sets.{AreKinds, AreCauses, HasLeastWild}
 use Rattle.c_front.specs.Accepted.{IsTypedText}
 use Rattle.c_build.specs.declared.inferring.Inferred.{Inferred}
 use Rattle.c_build.specs.Inferred.{IsLowered, IsInferred}
 use Rattle.c_build.specs.Solved.{IsSolvedBy}
 
 pub solved_so : (p : Program) (list : List Constraint) (r : Result Solved NoMemory) → AreGiven p.types p.sites list
-    → ((kind : NodeId → Kind) → MeetsAll (by_number kind) list ↔ IsSolutionOf p kind) → PlainApart list
+    → ((kind : NodeId → Kind) → MeetsAll kind list ↔ IsSolutionOf p kind) → PlainApart list
     → IfOk r (λ s. AreKinds list p.nodes s.kinds) → IfOk r (λ s. AreCauses list p.nodes s.kinds s.causes)
     → (PlainApart list → IfOk r (λ s. MeetsAll (kind_at s.kinds) list)) → IfOk r (λ s. HasLeastWild list p.nodes s.kinds)
     → IfOk r (λ s. IsSolvedBy p s)
@@ -37,8 +37,8 @@ solved_so p list (Ok s) given solutions apart kinds causes meets least = record 
   given = given;
   kinds = kinds;
   causes = causes;
-  solution = (solutions (λ n. kind_at s.kinds n.0)).0 (meets apart);
-  least = λ kind is n lt wild. least (by_number kind) ((solutions kind).1 is) n.0 lt wild;
+  solution = (solutions (kind_at s.kinds)).0 (meets apart);
+  least = λ kind is n lt wild. least kind ((solutions kind).1 is) n lt wild;
 }
 
 -- what is so of what was made is so of what stands beside what was kept

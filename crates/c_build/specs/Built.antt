@@ -1,18 +1,19 @@
 -- What a text of C is built to.
 use Rattle.std.specs.Prelude.{ℕ, ◌≡◌, ◌↔◌, List}
 use Rattle.std.specs.List.{Contains}
+use Rattle.cc_base.specs.Kinds.{kind_at}
 use Rattle.cc_base.specs.declared.number.TypeId.{TypeId}
 use Rattle.c_tree.specs.declared.typed_unit.Typed.{Typed}
 use Rattle.cil_form.specs.declared.program.Program.{Program}
+use Rattle.cil_form.specs.Shape.{IsInShape}
 use Rattle.kind_solver.specs.declared.solved.Solved.{Solved}
 use Rattle.rtti_nodes.specs.Classes.{IsData}
 use Rattle.rtti_nodes.specs.TypeNodes.{TypeNodes, AreTypeNodes, node_at}
 use Rattle.cured_code.specs.declared.parts.Parts.{Parts}
 use Rattle.cure_rules.specs.Programs.{IsCuredProgram}
 use Rattle.c_build.specs.Inferred.{IsInferred}
-use Rattle.c_build.specs.Solved.{kind_by}
 
--- The cured program of the code under these kinds. Each data type of its table has a type node, so an RTTI pointer can carry whatever type it was
+-- The cured program of the code, which is in shape, under these kinds. Each data type of its table has a type node, so an RTTI pointer can carry whatever type it was
 -- made for.
 pub record IsCuringOf (p : Program) (s : Solved) (c : Parts) : Type 0 where
   pub nodes : TypeNodes
@@ -20,7 +21,8 @@ pub record IsCuringOf (p : Program) (s : Solved) (c : Parts) : Type 0 where
   pub kinds : nodes.kinds ≡ s.kinds
   pub used : (t : TypeId) → Contains nodes.used t ↔ IsData p.types t
   pub made : AreTypeNodes nodes
-  pub cured : IsCuredProgram p (kind_by s.kinds) (node_at nodes) nodes.parents c
+  pub in_shape : IsInShape p
+  pub cured : IsCuredProgram p (kind_at s.kinds) (node_at nodes) nodes.parents c
 
 -- The text is accepted; its typed unit, the three-address code of that, the kinds of its nodes with their causes, and its cured program.
 pub record IsBuilt (text : List ℕ) (t : Typed) (p : Program) (s : Solved) (c : Parts) : Type 0 where

@@ -1,3 +1,4 @@
 pub mod Solved
 pub mod Inferred
 pub mod Built
+pub mod Alike

@@ -5,6 +5,7 @@ ghost use Rattle.c_types.specs.Table.{Table};
 ghost use Rattle.c_tree.specs.TypedTree.{TypedTranslationUnit};
 ghost use Rattle.c_front.specs.Accepted.{IsTypedText};
 ghost use Rattle.c_front.specs.Refused.{IsFirstRefusal};
+ghost use Rattle.c_build.specs.Alike.{RunsAlikeIfPlain};
 ghost use Rattle.c_build.specs.Built.{IsBuilt};
 ghost use Rattle.c_build.specs.Inferred.{IsInferred};
 
@@ -35,6 +36,9 @@ pub struct Built {
 pub fn build(alloc: Global, text: &[u8]) -> Result<Built, Fault>
     requires { length text.now ≤ 1048576 }
     ensures built { IfOk result (λ b. IsBuilt text.now b.typed b.code b.solved b.cured) }
+
+    // Where its kinds make it plain, the cured program runs as the text does.
+    ensures alike { IfOk result (λ b. RunsAlikeIfPlain b.typed b.code b.solved b.cured) }
     ensures refused { IfErr result (λ fault. fault ≢ IsNoMemory → IsFirstRefusal text.now fault) }
 
     // A text that is accepted is not refused.

@@ -6,9 +6,11 @@ mod curing;
 mod data_types;
 mod inferring;
 mod keeping;
+mod laws;
 mod lines;
 mod solving;
 
 pub use building::{Built, build};
 pub use inferring::{Inferred, infer};
+pub use laws::built_programs_run_alike;
 pub use lines::kinds;

@@ -22,7 +22,7 @@ use Rattle.c_tree.specs.Places.{nowhere}
 use Rattle.c_tree.specs.Tree as tree
 use Rattle.c_tree.specs.TypedTree as typed
 use Rattle.c_tree.specs.TypedTree.{TypedSpecifierList, TypedSpecifier, TypedMembers, TypedMemberDeclarators, TypedEnumerators, TypedForm, TypedParts, TypedParameters, TypedDeclared}
-use Rattle.c_tree.specs.TypedParts.{Made, Name, Written, made_by, made_by_specifier_list, made_by_specifier, made_by_members, made_by_member_declarators, made_by_enumerators, made_by_stars, made_by_form, made_by_parts, made_by_parameters, made_by_adjusted, made_by_declared}
+use Rattle.c_tree.specs.TypedParts.{Made, Name, Written, made_by, made_by_specifier_list, made_by_specifier, made_by_members, made_by_member_declarators, made_by_enumerators, made_by_stars, made_by_form, made_by_parts, made_by_parameters, made_by_adjusted, made_by_declared, declared_home}
 use Rattle.c_typing.specs.declared.declared.Declared.{Declared}
 use Rattle.c_typing.specs.declared.declared.Declared.TheVariants as declared
 use Rattle.c_typing.specs.declared.naming.Naming.{Naming}
@@ -30,7 +30,7 @@ use Rattle.c_typing.specs.declared.naming.Naming.TheVariants as naming
 use Rattle.c_typing.specs.Constants.{constant_value}
 use Rattle.c_typing.specs.Declarators.{Counted, counted, counting_word}
 use Rattle.c_typing.specs.Declarators
-use Rattle.c_typing.specs.Declaring.{home_as, stars_with_nodes, size_given, sized_part, sized, form_makes, member_type, member_named, adjusted_with_node, parameter_makes, parameter_declared, declared_home, parameter}
+use Rattle.c_typing.specs.Declaring.{home_as, stars_with_nodes, size_given, sized_part, sized, form_makes, member_type, member_named, adjusted_with_node, parameter_makes, parameter_declared, parameter}
 use Rattle.c_typing.specs.Judging.{State, Judging, Gives, next, ◌>>=◌, pure, unless, by_known, new_node}
 use Rattle.c_typing.specs.Operands.{Value}
 use Rattle.c_typing.specs.Refusals.{one_named, tag_place, is_empty_row, declared_identifier, is_here, is_void_alone, has_name}
@@ -40,14 +40,14 @@ use Rattle.c_typing.specs.Specifying
 use Rattle.c_typing.specs.Specifying.{specified, typedef_named, tagged_by, tagged_as, ended, is_taken_at_end, completed, enum_tag, enumerator, enumerator_with, valued_enumerator, enumeration}
 use Rattle.c_typing.specs.Tests
 use Rattle.c_typing.specs.Tests.{AsValue, first_broken, is_tag_of, has_some}
-use Rattle.c_typing.specs.Typing.{next_value, last_value}
+use Rattle.c_typing.specs.Typing.{tag_named_here, enumerated, is_taken_enumeration, next_value, last_value}
 use Rattle.c_typing.specs.Walks.{listed, judge_declared}
 use Rattle.c_cells_kept.proofs.StepsKept.{form-keeps, declared-keeps, adjusted-keeps, named-keeps}
 use Rattle.c_typing_laws.proofs.ConstructLaws.{two_unbroken, not_false}
 use Rattle.c_typing_laws.proofs.ExtensionLaws.{no_true}
 use Rattle.c_cells_kept.specs.Counted.{Stays, Moves}
 use Rattle.c_cells_kept.proofs.CellsMoved.{stays-refl, stays-same, stays-on, two-made, made-as, made-to, made-none, moves-none, node-stays}
-use Rattle.c_cells_kept.proofs.WholeScopes.{constant_stays}
+use Rattle.c_cells_kept.proofs.WholeScopes.{constant_stays, enumerated_stays}
 use Rattle.c_typing_laws.proofs.Outcomes.{bind-gives, unless-gives, gives-value, gives-state, never-gives}
 use Rattle.c_typing_laws.proofs.ValuesTaken.{given-same}
 
@@ -88,13 +88,15 @@ valued-made all list name at v s r h =
     (by_known (λ (q : State). enumerator_with all name at v.expr (constant_value q.table v.expr))) s list r h in
     valued_by all list name at v s r (constant_value s.table v.expr) go.1
 
-pub enumeration-made : (counts : Counted) (at : Place) (name : Option Identifier) (brace : Place) (found : Bool) (list : TypedEnumerators) (comma : Bool) (one : TypedSpecifier) (s r : State)
-    → enumeration counts at name brace found list comma s ≡ Gives one r → IsMadeWith made_by_specifier (made_by_enumerators list) s one r
+pub enumeration-made : (counts : Counted) (at : Place) (name : Option Identifier) (brace : Place) (list : TypedEnumerators) (comma : Bool) (one : TypedSpecifier) (s r : State)
+    → enumeration counts at name brace list comma s ≡ Gives one r → IsMadeWith made_by_specifier (made_by_enumerators list) s one r
 unfolding enumeration
-enumeration-made counts at name brace found list comma one s r h =
-    let go = unless-gives (first_broken (Tests.enumeration_tests found (tag_place at name) ++ Tests.word_tests at (one_named counts)))
-    (pure (typed.Enumeration at name brace list comma)) s one r h in
-    pure-made made_by_specifier (typed.Enumeration at name brace list comma) one s r go.1
+enumeration-made counts at name brace list comma one s r h =
+    let go = unless-gives
+    (first_broken (Tests.enumeration_tests (is_taken_enumeration (tag_named_here s.seen.scopes name)) (tag_place at name) ++ Tests.word_tests at (one_named counts)))
+    (Specifying.in_scopes (enumerated name) (typed.Enumeration at name brace list comma)) s one r h in
+    given-same (IsMadeWith made_by_specifier (made_by_enumerators list) s) (typed.Enumeration at name brace list comma) one (_) r go.1
+    (refl, enumerated_stays name s s (stays-refl s))
 
 pub ended-made : (counts : Counted) (which : AggregateKind) (at : Place) (name : Option Identifier) (brace : Place) (o : Option TypeId) (rows : TypedMembers) (one : TypedSpecifier) (s r : State)
     → ended counts which at name brace o rows s ≡ Gives one r → made_by_specifier one ≡ made_by_members rows

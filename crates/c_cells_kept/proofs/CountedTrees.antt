@@ -186,12 +186,12 @@ mutual
   specifier-makes (tree.Enum at name) counts one s r k h =
       made-as (made_by_specifier one) [] s r (enum-made counts at name one s r h) (made-none [] s r (λ U. refl) (enum-keeps counts at name s s (stays-refl s) one r h))
   specifier-makes (tree.Enumeration at name brace all comma) counts one s r k h =
-      let start = bind-gives (enumeration_begun name s) (λ f. λ m. next (judge_enumerators all m) (λ list. enumeration counts at name brace f list comma)) one r h in
+      let start = bind-gives (enumeration_begun name s) (λ f. λ m. next (judge_enumerators all m) (λ list. enumeration counts at name brace list comma)) one r h in
       let b = enumeration_begun-judged name start.0 s start.1 k start.2 in
       let kept = begun_enumeration-keeps name s s (stays-refl s) start.0 start.1 start.2 in
-      let two = bind-gives (judge_enumerators all start.1) (λ list. enumeration counts at name brace start.0 list comma) one r start.3 in
-      let made = enumerators-make all two.0 start.1 two.1 b.2.known two.2 in
-      makes-with made_by_specifier (made_by_enumerators two.0) one s two.1 r (enumeration-made counts at name brace start.0 two.0 comma one two.1 r two.3)
+      let two = bind-gives (judge_enumerators all start.1) (λ list. enumeration counts at name brace list comma) one r start.3 in
+      let made = enumerators-make all two.0 start.1 two.1 b.1.known two.2 in
+      makes-with made_by_specifier (made_by_enumerators two.0) one s two.1 r (enumeration-made counts at name brace two.0 comma one two.1 r two.3)
       (made-from (made_by_enumerators two.0) s start.1 two.1 kept made)
 
   pub members-make : (all : tree.Members) (rows : TypedMembers) (s r : State) → IsKnown s → judge_members all s ≡ Gives rows r → Moves (made_by_members rows) s r

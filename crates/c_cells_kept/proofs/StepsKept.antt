@@ -207,6 +207,7 @@ unfolding tagged_as
 tagged_as-keeps which name None s n e = new_aggregate-keeps which name.place (Some name) s n e
 tagged_as-keeps which name (Some (tag.Aggregate other u)) s n e = gives-keeps u s n e
 tagged_as-keeps which name (Some tag.Enumeration) s n e = stops-keeps TypeId (TooLarge name.place Types) s n
+tagged_as-keeps which name (Some tag.Enumerating) s n e = stops-keeps TypeId (TooLarge name.place Types) s n
 
 typedef-keeps : (name : Identifier) (o : Option Declared) (s : State) (n : State) → Stays n s → Keeps (typedef_named name o s) n
 unfolding typedef_named
@@ -224,6 +225,7 @@ begun-keeps which at name s n e = by (is_taken_tag s.table s.seen.scopes which (
     by true o = gives-keeps None s n e
     by false (Some (tag.Aggregate other u)) = gives-keeps (Some u) s n e
     by false (Some tag.Enumeration) = gives-keeps None s n e
+    by false (Some tag.Enumerating) = gives-keeps None s n e
     by false None =
         next-keeps (new_aggregate which (tag_place at name) name s) (λ u. pure (Some u)) n (new_aggregate-keeps which (tag_place at name) name s n e)
         (λ u q e2. gives-keeps (Some u) q n e2)
@@ -287,4 +289,4 @@ enum-keeps counts at name s n e =
 
 pub begun_enumeration-keeps : (name : Option Identifier) (s : State) (n : State) → Stays n s → Keeps (enumeration_begun name s) n
 unfolding enumeration_begun
-begun_enumeration-keeps name s n e = gives-keeps (has_some (tag_named_here s.seen.scopes name)) (_) n (enumerating_stays name n s e)
+begun_enumeration-keeps name s n e = gives-keeps true (_) n (enumerating_stays name n s e)

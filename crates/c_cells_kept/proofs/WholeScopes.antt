@@ -8,9 +8,9 @@ use Rattle.c_types.specs.Calls.{with_members, defined_layout}
 use Rattle.c_types.specs.Table.{Table, IsComplete, entry_at, shape_at, members_at, is_aggregate_shape, is_complete, is_empty}
 use Rattle.c_tree.specs.declared.leaf.Identifier.{Identifier}
 use Rattle.c_typing.specs.Judging.{State}
-use Rattle.c_typing.specs.Scopes.{Name, Level, Scopes, empty_level, at_innermost, without_innermost, with_name, with_tag, with_scopes, declaring, entering, leaving}
+use Rattle.c_typing.specs.Scopes.{Name, Level, Scopes, empty_level, at_innermost, without_innermost, with_name, with_tag, with_tag_set, with_scopes, declaring, entering, leaving}
 use Rattle.c_typing.specs.Specifying.{is_definable, completing}
-use Rattle.c_typing.specs.Typing.{tagging, tag_named_here, enumerating, counting_aggregate}
+use Rattle.c_typing.specs.Typing.{tagging, tag_named_here, enumerating, enumerated, counting_aggregate}
 use Rattle.c_typing.specs.declared.declared.Declared.{Declared}
 use Rattle.c_typing.specs.declared.declared.Declared.TheVariants as declared
 use Rattle.c_typing.specs.declared.declared.Tag.{Tag}
@@ -48,17 +48,21 @@ left_whole T (l ∷ (m ∷ ls)) h =
     All-cons (IsLevelWhole T) l (without_innermost (m ∷ ls)) (All-head (IsLevelWhole T) l (m ∷ ls) h) (left_whole T (m ∷ ls) (All-tail (IsLevelWhole T) l (m ∷ ls) h))
 
 unless_found : Option Identifier → Scopes → Option Tag → Scopes
-unless_found name s None = tagging name tag.Enumeration s
+unless_found name s None = tagging name tag.Enumerating s
 unless_found name s (Some found) = s
 
 begun_whole : (T : Table) (name : Option Identifier) (c : Scopes) (o : Option Tag) → AreWhole T c.levels → AreWhole T (unless_found name c o).levels
 unfolding unless_found
 begun_whole T name c (Some found) h = h
-begun_whole T name c None h = tagging_whole T name tag.Enumeration c h
+begun_whole T name c None h = tagging_whole T name tag.Enumerating c h
 
 enumerating_is : (name : Option Identifier) (c : Scopes) → unless_found name c (tag_named_here c name) ≡ enumerating name c
 unfolding unless_found
 enumerating_is name c = refl
+
+enumerated_whole : (T : Table) (name : Option Identifier) (c : Scopes) → AreWhole T c.levels → AreWhole T (enumerated name c).levels
+enumerated_whole T None c h = h
+enumerated_whole T (Some name) c h = changed_whole T (with_tag_set name.bytes tag.Enumeration) (λ l own. record { names = own.names }) c.levels h
 
 completing_whole : (T : Table) (o : Option ℕ) (names : List Name) (c : Scopes) → AreWhole T c.levels → AreWhole T (completing o names c).levels
 completing_whole T None names c h = h
@@ -89,6 +93,9 @@ enumerating_stays name n s e =
     subst (λ (d : Scopes). Stays n (record s { seen = with_scopes s.seen d })) (enumerating_is name s.seen.scopes)
     (scoped (unless_found name s.seen.scopes (tag_named_here s.seen.scopes name)) n s
     (begun_whole s.table name s.seen.scopes (tag_named_here s.seen.scopes name)) e)
+
+pub enumerated_stays : (name : Option Identifier) (n s : State) → Stays n s → Stays n (record s { seen = with_scopes s.seen (enumerated name s.seen.scopes) })
+enumerated_stays name n s e = scoped (enumerated name s.seen.scopes) n s (enumerated_whole s.table name s.seen.scopes) e
 
 pub declared_stays : (name : Name) (t : TypeId) (home : NodeId) (n s : State) → IsComplete s.table t → Stays n s
     → Stays n (record s { seen = with_scopes s.seen (declaring name (declared.Object t home) s.seen.scopes) })

@@ -1,5 +1,3 @@
 //! The pointers that assignments of structs move: what judging counts of a part of the text is what the assignments in it move.
+//! The crate has lemmas only.
 #![tactic(auto)]
-
-pub mod cells;
-pub mod places;

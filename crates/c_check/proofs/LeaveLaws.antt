@@ -8,20 +8,20 @@ use Rattle.cc_base.specs.declared.number.TypeId.{TypeId}
 use Rattle.cc_base.specs.declared.place.Place.{Place}
 use Rattle.c_tree.specs.Tree as tree
 use Rattle.c_tree.specs.TypedTree as typed
-use Rattle.c_tree.specs.TypedTree.{TypedBlockItems, TypedDeclaration, TypedExpr, TypedParameters, TypedStatement}
+use Rattle.c_tree.specs.TypedTree.{TypedBlockItems, TypedDeclaration, TypedExpr, TypedStatement}
 use Rattle.c_tree.specs.TypedParts.{type_of}
 use Rattle.c_typing.specs.Judging as judging
 use Rattle.c_typing.specs.Judging.{State}
 use Rattle.c_typing.specs.Checking.{checked}
 use Rattle.c_typing.specs.Declaring.{entered, left}
-use Rattle.c_typing.specs.Scopes.{leaving}
+use Rattle.c_typing.specs.Scopes.{Level, leaving}
 use Rattle.c_typing.specs.Specifying.{in_scopes}
 use Rattle.c_unit_typing.specs.DeclarationJudging.{judge_declaration}
-use Rattle.c_unit_typing.specs.DefinitionJudging.{body, declare_parameters}
+use Rattle.c_unit_typing.specs.DefinitionJudging.{body}
 use Rattle.c_unit_typing.specs.Linkage.{Linkage}
 use Rattle.c_unit_typing.specs.StatementJudging.{dropped, judge_block_items, judge_statement, promotion, switched, tested, tested_or_none, within}
-use Rattle.c_unit_typing.specs.Units.{Around, in_a_loop, in_a_switch}
-use Rattle.c_unit_typing.specs.UnitJudging.{UnitState, UnitOutcome, UnitJudging, Gives, Stops, lifted, with_linkage}
+use Rattle.c_unit_typing.specs.Units.{Around, going_on, in_a_loop, in_a_switch}
+use Rattle.c_unit_typing.specs.UnitJudging.{UnitState, UnitOutcome, UnitJudging, Gives, Stops, lifted, next, with_linkage}
 
 -- the same outcome with another value
 abbrev pub relabel : {A B : Type 0} → A → UnitOutcome B → UnitOutcome A
@@ -307,27 +307,22 @@ pub block_stops : (a : Around) (brace : Place) (items : tree.BlockItems) (list :
     → f ≢ NoMemory → judge_statement a (tree.Block brace items) s ≡ Stops f r
 block_stops a brace items list s i m r f enters lists leaves real = block_goes a brace items list s i m (Stops f r) enters lists (leaves real)
 
-body_goes : (brace : Place) (to : TypeId) (parameters : TypedParameters) (items : tree.BlockItems) (has : Bool) (list : TypedBlockItems)
-    (s i k m : UnitState) (o : UnitOutcome Bool)
-    → lifted entered s ≡ Gives true i → declare_parameters parameters i ≡ Gives has k
-    → judge_block_items (record { result = to; in_loop = false; breakable = false }) None items k ≡ Gives list m → lifted (left brace true) m ≡ o
-    → body brace (Some to) (Some parameters) items s ≡ relabel list o
+body_goes : (brace : Place) (to : TypeId) (level : Level) (items : tree.BlockItems) (list : TypedBlockItems) (s i m : UnitState) (o : UnitOutcome Bool)
+    → lifted (in_scopes (going_on level) true) s ≡ Gives true i → judge_block_items (record { result = to; in_loop = false; breakable = false }) None items i ≡ Gives list m
+    → lifted (left brace true) m ≡ o → body brace (Some to) level items s ≡ relabel list o
 unfolding body
-body_goes brace to parameters items has list s i k m o enters declares lists leaves =
-    rw enters (rw declares (rw lists (left_with brace list m o leaves)))
+body_goes brace to level items list s i m o goes lists leaves =
+    let inside : Around = record { result = to; in_loop = false; breakable = false } in
+    ap (λ (x : UnitOutcome Bool). next x (λ b. λ t. next (judge_block_items inside None items t) (λ made. lifted (left brace made)))) goes
+    ∙ ap (λ (x : UnitOutcome TypedBlockItems). next x (λ made. lifted (left brace made))) lists
+    ∙ left_with brace list m o leaves
 
-pub body_gives : (brace : Place) (to : TypeId) (parameters : TypedParameters) (items : tree.BlockItems) (has : Bool) (list : TypedBlockItems)
-    (s i k m r : UnitState)
-    → lifted entered s ≡ Gives true i → declare_parameters parameters i ≡ Gives has k
-    → judge_block_items (record { result = to; in_loop = false; breakable = false }) None items k ≡ Gives list m → lifted (left brace true) m ≡ Gives true r
-    → body brace (Some to) (Some parameters) items s ≡ Gives list r
-body_gives brace to parameters items has list s i k m r enters declares lists leaves =
-    body_goes brace to parameters items has list s i k m (Gives true r) enters declares lists leaves
+pub body_gives : (brace : Place) (to : TypeId) (level : Level) (items : tree.BlockItems) (list : TypedBlockItems) (s i m r : UnitState)
+    → lifted (in_scopes (going_on level) true) s ≡ Gives true i → judge_block_items (record { result = to; in_loop = false; breakable = false }) None items i ≡ Gives list m
+    → lifted (left brace true) m ≡ Gives true r → body brace (Some to) level items s ≡ Gives list r
+body_gives brace to level items list s i m r goes lists leaves = body_goes brace to level items list s i m (Gives true r) goes lists leaves
 
-pub body_stops : (brace : Place) (to : TypeId) (parameters : TypedParameters) (items : tree.BlockItems) (has : Bool) (list : TypedBlockItems)
-    (s i k m r : UnitState) (f : Fault)
-    → lifted entered s ≡ Gives true i → declare_parameters parameters i ≡ Gives has k
-    → judge_block_items (record { result = to; in_loop = false; breakable = false }) None items k ≡ Gives list m → (f ≢ NoMemory → lifted (left brace true) m ≡ Stops f r)
-    → f ≢ NoMemory → body brace (Some to) (Some parameters) items s ≡ Stops f r
-body_stops brace to parameters items has list s i k m r f enters declares lists leaves real =
-    body_goes brace to parameters items has list s i k m (Stops f r) enters declares lists (leaves real)
+pub body_stops : (brace : Place) (to : TypeId) (level : Level) (items : tree.BlockItems) (list : TypedBlockItems) (s i m r : UnitState) (f : Fault)
+    → lifted (in_scopes (going_on level) true) s ≡ Gives true i → judge_block_items (record { result = to; in_loop = false; breakable = false }) None items i ≡ Gives list m
+    → (f ≢ NoMemory → lifted (left brace true) m ≡ Stops f r) → f ≢ NoMemory → body brace (Some to) level items s ≡ Stops f r
+body_stops brace to level items list s i m r f goes lists leaves real = body_goes brace to level items list s i m (Stops f r) goes lists (leaves real)

@@ -1,5 +1,4 @@
 pub mod StayLaws
-pub mod ParameterLaws
 pub mod LabelLaws
 pub mod DefinitionLaws
 pub mod LeaveLaws

@@ -5,34 +5,35 @@ ghost use Rattle.std.specs.Prelude.{◌≡◌, ◌&&◌, map, Option, Some, opti
 ghost use Rattle.c_types.specs.Table.{shape_at};
 ghost use Rattle.c_tree.specs.TypedTree as typed;
 ghost use Rattle.c_tree.specs.TypedTree.{TypedParts as SeenParts, TypedParameters as SeenParameters, TypedTranslationUnit};
+ghost use Rattle.c_tree.specs.TypedParts.{declared_type};
 ghost use Rattle.c_tree.specs.Views.{added, declarator_view, specifiers_view};
 ghost use Rattle.c_tree.specs.StatementViews.{block_view};
-ghost use Rattle.c_tree.specs.TypedViews.{typed_core_view, typed_declarator_view, typed_form_view, typed_parameter_view, typed_part_view, typed_specifiers_view};
+ghost use Rattle.c_tree.specs.TypedViews.{typed_core_view, typed_declarator_view, typed_form_view, typed_part_view, typed_specifiers_view, parameters_seen};
 ghost use Rattle.c_tree.specs.TypedStatementViews.{typed_block_view};
 ghost use Rattle.c_typing.specs.KindViews.{shape_or_void};
 ghost use Rattle.c_typing.specs.declared.declared.Declared.TheVariants as declared;
 ghost use Rattle.c_typing.specs.Scopes.{place_among};
 ghost use Rattle.c_typing.specs.Tests.{first_broken, has_some};
 ghost use Rattle.runtime_calls.specs.Prototypes.{runtime_of};
-ghost use Rattle.c_check.specs.CodeViews.{declares_last, parameters_seen};
 ghost use Rattle.c_check_context.specs.CodeViews.{storage_view};
 ghost use Rattle.c_check_context.specs.ContextViews.{state_of};
-ghost use Rattle.c_unit_typing.specs.UnitJudging.{Answers, Gives, known_of, UnitState};
+ghost use Rattle.c_unit_typing.specs.UnitJudging as outcomes;
+ghost use Rattle.c_unit_typing.specs.UnitJudging.{Answers, known_of};
 ghost use Rattle.c_unit_typing.specs.UnitRefusals.{definition_tests, is_function_declared};
 ghost use Rattle.c_unit_typing.specs.Units as units;
 ghost use Rattle.c_unit_typing.specs.DefinitionJudging as judging;
 
 use crate::around::Around;
-use crate::blocks::{enter, leave};
+use crate::blocks::{go_on, leave};
 use crate::statements::block_items;
 use c_check_context::Context;
 use c_check_context::conflicts::{declared_as, runtime_of};
 use c_check_context::homes::{Storage, naming_for, storage_of};
-use c_check_expr::homes::{home_of, name_of};
+use c_check_expr::Level;
 use c_check_expr::places::declarator_name;
 use c_tree::{
-    BlockItem, FunctionDefinition, Home, Identifier, Items, TypedBlockItem, TypedCore,
-    TypedDeclarator, TypedForm, TypedFunction, TypedParameter, TypedPart, TypedSpecifiers,
+    BlockItem, FunctionDefinition, Identifier, Items, TypedBlockItem, TypedCore, TypedDeclarator,
+    TypedForm, TypedFunction, TypedParameter, TypedPart, TypedSpecifiers,
 };
 use c_types::TypeShape;
 use c_typing::Declared;
@@ -140,47 +141,18 @@ fn result_of(shape: Option<&TypeShape>) -> Option<TypeId>
     }
 }
 
-/// A parameter is a name of the body's scope, where it has a name.
-#[tactic(auto, using(c_tree::proofs::TypedViewLaws::typed_views), unfolding(c_unit_typing::specs::DefinitionJudging::declare_parameters, c_unit_typing::specs::DefinitionJudging::declare_parameter))]
-fn declare_parameter(context: &mut Context, parameter: &TypedParameter) -> Result<(), Fault>
-    ensures { (all : SeenParameters) (start : UnitState) → judging.declare_parameters all start ≡ Gives (declares_last all) (state_of context.old) → Answers (λ u. declares_last (typed_parameter_view parameter.now all)) (judging.declare_parameters (typed_parameter_view parameter.now all) start) result (state_of context.new) }
-{
-    let Some(form) = &parameter.declarator else {
-        return Ok(());
-    };
-    let Home::Parameter(n) = home_of(form) else {
-        return Ok(());
-    };
-    match name_of(form) {
-        Some(name) => context.new_name(name, Declared::Object(parameter.ty, n)),
-        None => Ok(()),
-    }
-}
-
-/// The parameters are the first names of the body's scope.
-#[tactic(auto, unfolding(c_unit_typing::specs::DefinitionJudging::declare_parameters))]
-fn declare_parameters(context: &mut Context, parameters: &[TypedParameter]) -> Result<(), Fault>
-    ensures { Answers (λ u. declares_last (parameters_seen parameters.now)) (judging.declare_parameters (parameters_seen parameters.now) (state_of context.old)) result (state_of context.new) }
-{
-    for parameter in parameters {
-        declare_parameter(context, parameter)?;
-    }
-    Ok(())
-}
-
-/// The body of a function with this result, in a scope that begins with the parameters.
+/// The body of a function with this result, in the scope that its parameters leave.
 #[tactic(auto, unfolding(c_unit_typing::specs::DefinitionJudging::body))]
-fn body_with(
+fn body_in(
     context: &mut Context,
     brace: Place,
     to: TypeId,
-    parameters: &[TypedParameter],
+    level: Level,
     items: &[BlockItem],
 ) -> Result<Items<TypedBlockItem>, Fault>
-    ensures { Answers typed_block_view (judging.body brace (Some to) (Some (parameters_seen parameters.now)) (block_view items.now) (state_of context.old)) result (state_of context.new) }
+    ensures { Answers typed_block_view (judging.body brace (Some to) level (block_view items.now) (state_of context.old)) result (state_of context.new) }
 {
-    enter(context)?;
-    declare_parameters(context, parameters)?;
+    go_on(context, level)?;
     let around = Around {
         result: to,
         in_loop: false,
@@ -197,15 +169,30 @@ fn body(
     context: &mut Context,
     brace: Place,
     to: Option<TypeId>,
-    parameters: Option<&[TypedParameter]>,
+    level: Level,
     items: &[BlockItem],
 ) -> Result<Items<TypedBlockItem>, Fault>
-    ensures { Answers typed_block_view (judging.body brace to (option_map (λ p. parameters_seen p.now) parameters.entry) (block_view items.now) (state_of context.old)) result (state_of context.new) }
+    ensures { Answers typed_block_view (judging.body brace to level (block_view items.now) (state_of context.old)) result (state_of context.new) }
 {
-    match (to, parameters) {
-        (Some(to), Some(parameters)) => body_with(context, brace, to, parameters, items),
-        _ => Err(no_room(brace)),
+    match to {
+        Some(to) => body_in(context, brace, to, level, items),
+        None => Err(no_room(brace)),
     }
+}
+
+/// The body of the function that a declarator declares.
+#[tactic(auto, using(c_tree::proofs::TypedViewLaws::typed_views))]
+fn body_of(
+    context: &mut Context,
+    one: &TypedDeclarator,
+    brace: Place,
+    level: Level,
+    items: &[BlockItem],
+) -> Result<Items<TypedBlockItem>, Fault>
+    ensures { Answers typed_block_view (judging.body brace (judging.result_of (shape_at context.old.types (declared_type (typed_declarator_view one.now)))) level (block_view items.now) (state_of context.old)) result (state_of context.new) }
+{
+    let to = result_of(shape_at(&context.types, one.ty));
+    body(context, brace, to, level, items)
 }
 
 /// The first rule that the name of a function with a body breaks.
@@ -283,6 +270,26 @@ fn define_as(
     define(context, name, one.ty)
 }
 
+/// A function whose declarator is judged and defined, with its body.
+#[tactic(auto, using(c_tree::proofs::TypedViewLaws::typed_views))]
+fn with_body(
+    context: &mut Context,
+    specifiers: TypedSpecifiers,
+    declarator: TypedDeclarator,
+    level: Level,
+    f: &FunctionDefinition,
+) -> Result<TypedFunction, Fault>
+    ensures { (before : TypedTranslationUnit) → Answers (λ made. typed.AndFunctionBody before (typed_specifiers_view made.specifiers) (typed_declarator_view made.declarator) made.brace (typed_block_view made.body)) (outcomes.next (judging.body f.now.brace (judging.result_of (shape_at context.old.types (declared_type (typed_declarator_view declarator)))) level (block_view f.now.body) (state_of context.old)) (λ list. outcomes.pure (typed.AndFunctionBody before (typed_specifiers_view specifiers) (typed_declarator_view declarator) f.now.brace list))) result (state_of context.new) }
+{
+    let items = body_of(context, &declarator, f.brace, level, f.body.as_slice())?;
+    Ok(TypedFunction {
+        specifiers,
+        declarator,
+        brace: f.brace,
+        body: items,
+    })
+}
+
 /// A function with its body.
 #[tactic(auto, using(c_tree::proofs::TypedViewLaws::typed_views), unfolding(c_unit_typing::specs::DefinitionJudging::judge_definition))]
 pub(crate) fn definition(
@@ -294,15 +301,7 @@ pub(crate) fn definition(
     let specifiers = context.specifiers(&f.specifiers, false)?;
     let name = declarator_name(&f.declarator);
     let naming = naming_for(true, storage_of(&specifiers), context.first_linked(name));
-    let declarator = context.declarator(naming, &specifiers, None, &f.declarator)?;
+    let (declarator, level) = context.definition(naming, &specifiers, &f.declarator)?;
     define_as(context, name, &specifiers, &declarator)?;
-    let to = result_of(shape_at(&context.types, declarator.ty));
-    let parameters = parameters_of(&declarator.form, None);
-    let items = body(context, f.brace, to, parameters, f.body.as_slice())?;
-    Ok(TypedFunction {
-        specifiers,
-        declarator,
-        brace: f.brace,
-        body: items,
-    })
+    with_body(context, specifiers, declarator, level, f)
 }

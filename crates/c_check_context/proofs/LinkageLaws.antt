@@ -4,8 +4,8 @@ use Rattle.std.specs.List.{list_any}
 use Rattle.indexmap.specs.IndexMap.{insert_entry}
 use Rattle.indexmap.specs.IndexSet.{insert_key}
 use Rattle.c_typing.specs.declared.declared.Declared.{Declared}
-use Rattle.c_typing.specs.Scopes.{Name, entry_of, seen_entries}
-use Rattle.c_typing.proofs.ScopeLaws.{insert-seen}
+use Rattle.c_typing.specs.Scopes.{Name, entry_of, seen_entries, with_entry}
+use Rattle.named_lists.proofs.EntryLaws.{insert-seen, entry-last}
 use Rattle.c_unit_typing.specs.Linkage.{with_name}
 
 -- a map of names with one more
@@ -16,8 +16,9 @@ pub declarations-added : {K : Type 0} (bytes : K → Name) (eq : K → K → Boo
 declarations-added bytes eq same es changed k name what l seen named made =
     let P : List (Name × Declared) → Type 0 = λ m. entry_of m name ≡ None → seen_entries bytes changed ≡ m ++ (name, what) ∷ [] in
     subst P seen (λ none. ap (seen_entries bytes) made
-    ∙ insert-seen bytes eq k what (same k) es (ap (entry_of (seen_entries bytes es)) named ∙ none)
-    ∙ ap (λ n. seen_entries bytes es ++ (n, what) ∷ []) named)
+    ∙ insert-seen bytes eq k what (same k) es
+    ∙ ap (λ n. with_entry n what (seen_entries bytes es)) named
+    ∙ entry-last name what (seen_entries bytes es) none)
 
 pub any-map : {A B : Type 0} (f : A → B) (p : B → Bool) (xs : List A) → list_any p (map f xs) ≡ list_any (λ x. p (f x)) xs
 any-map f p [] = refl

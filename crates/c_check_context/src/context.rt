@@ -1,19 +1,25 @@
 //! What is known where a part of a unit is judged, and what is asked of its expressions.
 #![tactic(auto)]
 
-ghost use Rattle.std.specs.Prelude.{◌≡◌};
+ghost use Rattle.std.specs.Prelude.{◌≡◌, IfOk, None};
 ghost use Rattle.c_tree.specs.Views.{expr_view, specifiers_view, declarator_view};
 ghost use Rattle.c_tree.specs.TypedViews.{typed_expr_view, typed_specifiers_view, typed_declarator_view};
 ghost use Rattle.c_typing.specs.Assignments.{count_global};
 ghost use Rattle.c_typing.specs.Cells.{count_cells};
 ghost use Rattle.c_typing.specs.Checking.{checked, checked_value, checked_constant};
 ghost use Rattle.c_check_expr.specs.CheckingViews.{constant_view};
+ghost use Rattle.c_typing.specs.Judging.{known};
 ghost use Rattle.c_typing.specs.Walks.{judge_specifiers_of, judge_declarator};
+ghost use Rattle.c_tree.specs.TypedParts.{specified_type};
+ghost use Rattle.c_unit_typing.specs.ParameterScopes.{level_of};
 ghost use Rattle.c_check_context.specs.ContextViews.{state_of};
 ghost use Rattle.c_unit_typing.specs.UnitJudging.{Answers, lifted};
 
 use crate::linkage::Linkage;
-use c_check_expr::{check_constant, check_declarator, check_expr, check_specifiers, check_value};
+use c_check_expr::{
+    Level, check_constant, check_declarator, check_definition, check_expr, check_specifiers,
+    check_value,
+};
 use c_check_operators::cells::count_cells;
 use c_check_operators::literals::count_global;
 use c_tree::{Boxed, Declarator, Expr, Specifiers, TypedDeclarator, TypedExpr, TypedSpecifiers};
@@ -85,6 +91,19 @@ impl Context {
         ensures { Answers typed_declarator_view (lifted (judge_declarator naming (typed_specifiers_view base.now) size (declarator_view d.now)) (state_of self.old)) result (state_of self.new) }
     {
         check_declarator(&mut self.scope, &mut self.types, base, d, size, naming)
+    }
+
+    /// The declarator of a function definition, with the scope that its parameters leave.
+    pub fn definition(
+        &mut self,
+        naming: Naming,
+        base: &TypedSpecifiers,
+        d: &Declarator,
+    ) -> Result<(TypedDeclarator, Level), Fault>
+        ensures level { IfOk result (λ made. level_of naming (specified_type (typed_specifiers_view base.now)) (declarator_view d.now) (known self.old.types self.old.scope) ≡ made.1) }
+        ensures judged { Answers (λ made. typed_declarator_view made.0) (lifted (judge_declarator naming (typed_specifiers_view base.now) None (declarator_view d.now)) (state_of self.old)) result (state_of self.new) }
+    {
+        check_definition(&mut self.scope, &mut self.types, base, d, naming)
     }
 
     /// The pointers that the copy of a struct moves are counted.

@@ -1,5 +1,6 @@
 -- A literal that stands in braces by itself.
 use Rattle.std.proofs.Common.{◌≡◌, ℕ, ◌+◌, suc, Bool, true, false, List, [], ◌∷◌, length, fold, map, Option, Some, None, refl, ap, sym, ◌∙◌, subst, zero-add, arith}
+use Rattle.c_tree.specs.Literals.{pieces_bytes}
 use Rattle.c_tree.specs.declared.leaf.StringPiece.{StringPiece}
 use Rattle.c_tree.specs.Tree as tree
 use Rattle.c_tree.specs.StatementViews.{items_of, initialiser_view}
@@ -10,7 +11,6 @@ use Rattle.c_tree.specs.declared.typed_statement.TypedInitialiser.TheFolds.{fold
 use Rattle.c_tree.specs.declared.typed_statement.TypedItem.{TypedItem}
 use Rattle.c_unit_typing.specs.Initialisers.{items_count}
 use Rattle.c_tree.specs.declared.statement.Initialiser.{Initialiser}
-use Rattle.c_typing.specs.Rules.{pieces_bytes}
 use Rattle.c_check_declarations.specs.ListedViews.{only_literal}
 use Rattle.c_unit_typing.specs.InitialiserJudging as judging
 use Rattle.c_unit_typing.specs.UnitRefusals.{listed_written, count_written}

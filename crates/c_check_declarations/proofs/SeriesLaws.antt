@@ -6,6 +6,7 @@ use Rattle.cc_base.specs.declared.number.TypeId.{TypeId}
 use Rattle.c_tree.specs.Tree as tree
 use Rattle.c_tree.specs.TypedTree.{TypedSpecifiers}
 use Rattle.c_tree.specs.Views.{added}
+use Rattle.c_tree.proofs.ListLaws.{with_next}
 use Rattle.c_tree.specs.StatementViews.{init_declarator_view}
 use Rattle.c_tree.specs.declared.statement.InitDeclarator.{InitDeclarator}
 use Rattle.c_tree.specs.declared.statement.InitDeclarator.TheVariants as init
@@ -21,13 +22,6 @@ stays_behind : {X A B : Type 0} (judge : A → UnitJudging B) (view : X → A �
     → (xs : List X) (a : A) (s t : UnitState) (fault : Fault) → judge a s ≡ Stops fault t → judge (added a (map view xs)) s ≡ Stops fault t
 stays_behind judge view stays [] a s t fault p = p
 stays_behind judge view stays (x ∷ xs) a s t fault p = stays_behind judge view stays xs (view x a) s t fault (stays x a s t fault p)
-
--- the list up to an element, with it
-pub with_next : {X A : Type 0} (view : X → A → A) (xs : List X) (i : ℕ) (x : X) → i < length xs → x ≡ get_or xs i x
-    → (a : A) → added a (map view (take (suc i) xs)) ≡ view x (added a (map view (take i xs)))
-with_next view [] i x within at a = absurd (omega arith)
-with_next view (y ∷ ys) zero x within at a = ap (λ z. view z a) (sym at)
-with_next view (y ∷ ys) (suc i) x within at a = with_next view ys i x (omega arith) at (view y a)
 
 pub stopped_at : {X A B : Type 0} (judge : A → UnitJudging B) (view : X → A → A) → Stays judge view
     → (xs : List X) (i : ℕ) (x : X) → i < length xs → x ≡ get_or xs i x

@@ -6,9 +6,10 @@ ghost use Rattle.c_tree.specs.TypedViews.{typed_expr_view, typed_place_view};
 ghost use Rattle.c_unit_typing.specs.Initialisers as initialisers;
 
 use c_check_context::linkage::Homes;
-use c_tree::{Side, TypedExpr, TypedPlace};
+use c_tree::{Binary, Side, TypedExpr, TypedPlace};
 use c_types::Types;
 use c_typing::constant::constant_value;
+use c_typing::shapes::{is_integer, shape_at};
 
 fn is_integer_constant(types: &Types, e: &TypedExpr) -> bool
     ensures { result ≡ initialisers.is_integer_constant types.now (typed_expr_view e.now) }
@@ -16,6 +17,22 @@ fn is_integer_constant(types: &Types, e: &TypedExpr) -> bool
     match constant_value(types, e) {
         None => false,
         Some(_) => true,
+    }
+}
+
+fn is_integer_value(types: &Types, e: &TypedExpr) -> bool
+    ensures { result ≡ initialisers.is_integer_value types.now (typed_expr_view e.now) }
+{
+    is_integer(shape_at(types, e.ty()))
+}
+
+fn is_division(operator: Binary) -> bool
+    ensures { result ≡ initialisers.is_division operator }
+{
+    match operator {
+        Binary::Divide => true,
+        Binary::Remainder => true,
+        _ => false,
     }
 }
 
@@ -53,7 +70,8 @@ fn is_constant_array(types: &Types, statics: &Homes, e: &TypedExpr) -> bool
     }
 }
 
-/// A constant expression in an initialiser: an integer, an address, or an address plus or minus an integer.
+/// A constant expression in an initialiser: an integer, an address, an address plus or minus an integer, or what casts and operators on
+/// integers make of these.
 #[tactic(auto, using(c_tree::proofs::TypedViewLaws::typed_views))]
 pub(crate) fn is_constant(types: &Types, statics: &Homes, e: &TypedExpr) -> bool
     ensures { result ≡ initialisers.is_constant types.now statics.now (typed_expr_view e.now) }
@@ -73,6 +91,24 @@ pub(crate) fn is_constant(types: &Types, statics: &Homes, e: &TypedExpr) -> bool
         }
         TypedExpr::Moved(_, Side::Right, a, _, b, _) => {
             is_integer_constant(types, a.get()) && is_constant(types, statics, b.get())
+        }
+        TypedExpr::Prefix(_, _, inner, _) => {
+            is_integer_value(types, inner.get()) && is_constant(types, statics, inner.get())
+        }
+        TypedExpr::Arithmetic(operator, a, _, b, _) => {
+            if is_division(*operator) {
+                is_integer_constant(types, e)
+            } else {
+                is_constant(types, statics, a.get()) && is_constant(types, statics, b.get())
+            }
+        }
+        TypedExpr::Logical(_, a, _, b, _) => {
+            (is_integer_value(types, a.get()) && is_constant(types, statics, a.get()))
+                && (is_integer_value(types, b.get()) && is_constant(types, statics, b.get()))
+        }
+        TypedExpr::Conditional(c, _, a, b, _) => {
+            (is_integer_value(types, c.get()) && is_constant(types, statics, c.get()))
+                && (is_constant(types, statics, a.get()) && is_constant(types, statics, b.get()))
         }
         _ => is_integer_constant(types, e),
     }

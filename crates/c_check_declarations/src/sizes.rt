@@ -3,17 +3,16 @@
 
 ghost use Rattle.std.specs.Prelude.{◌≡◌, ◌+◌, length, map, option_copied, option_map, IfOk};
 ghost use Rattle.c_types.specs.Table.{shape_at};
+ghost use Rattle.c_tree.specs.Literals.{pieces_bytes};
 ghost use Rattle.c_tree.specs.StatementViews.{initialiser_view, items_of};
 ghost use Rattle.c_tree.specs.Tree as tree;
 ghost use Rattle.c_tree.specs.Views.{core_view, declarator_view, expr_view};
-ghost use Rattle.c_typing.specs.Rules.{pieces_bytes};
 ghost use Rattle.c_check_declarations.specs.ListedViews.{only_literal};
 ghost use Rattle.c_typing.specs.KindViews.{shape_or_void};
 ghost use Rattle.c_unit_typing.specs.Initialisers as initialisers;
 ghost use Rattle.c_unit_typing.specs.UnitRefusals as refusals;
 
-use c_check_operators::literals::pieces_bytes;
-use c_tree::{Core, Declarator, Expr, Initialiser, Part, StringPiece};
+use c_tree::{Core, Declarator, Expr, Initialiser, Part, StringPiece, pieces_bytes};
 use c_types::{TypeShape, Types};
 use c_typing::shapes::shape_at;
 use cc_base::{NoMemory, TypeId};

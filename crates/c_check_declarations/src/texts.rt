@@ -8,8 +8,7 @@ ghost use Rattle.c_unit_typing.specs.UnitJudging.{Answers};
 ghost use Rattle.c_unit_typing.specs.InitialiserJudging as judging;
 
 use c_check_context::Context;
-use c_check_operators::literals::{copied_pieces, pieces_bytes};
-use c_tree::{Boxed, Items, StringPiece, TypedInitialiser};
+use c_tree::{Boxed, Items, StringPiece, TypedInitialiser, copied_pieces, pieces_bytes};
 use c_typing::stops::refusal;
 use cc_base::{Fault, NoMemory, Place, Rule};
 

@@ -1,4 +1,3 @@
 pub mod WordViews
 pub mod DerivedViews
 pub mod MakingViews
-pub mod HomeNodes

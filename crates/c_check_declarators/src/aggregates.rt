@@ -56,6 +56,7 @@ fn is_taken_tag(scope: &Scope, types: &Types, which: AggregateKind, found: Optio
     match found {
         None => false,
         Some(Tag::Enumeration) => true,
+        Some(Tag::Enumerating) => true,
         Some(Tag::Aggregate(kind, t)) => {
             !is_tag_of(which, Tag::Aggregate(kind, t)) || is_complete_at(scope, types, t)
         }
@@ -80,6 +81,7 @@ pub fn begun(
     match found {
         Some(Tag::Aggregate(_, t)) => Ok(Some(t)),
         Some(Tag::Enumeration) => Ok(None),
+        Some(Tag::Enumerating) => Ok(None),
         None => {
             let place = tag_place(at, name);
             Ok(Some(new_aggregate(scope, types, which, place, name)?))

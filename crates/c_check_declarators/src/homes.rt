@@ -2,9 +2,8 @@
 #![tactic(auto)]
 
 ghost use Rattle.std.specs.Prelude.{◌≡◌, option_copied};
-ghost use Rattle.c_tree.specs.TypedParts.{home_of_core, home_of_form, name_of_core, name_of_form};
+ghost use Rattle.c_tree.specs.TypedParts.{home_of_core, home_of_form, name_of_core, name_of_form, home_node};
 ghost use Rattle.c_tree.specs.TypedViews.{typed_core_view, typed_form_view};
-ghost use Rattle.c_check_declarators.specs.HomeNodes.{home_node};
 
 use c_tree::{Home, Identifier, TypedCore, TypedForm};
 use cc_base::NodeId;

@@ -3,6 +3,7 @@
 
 pub mod aggregates;
 pub mod derived;
+pub mod enumerations;
 pub mod homes;
 pub mod making;
 pub mod places;

@@ -118,6 +118,7 @@ pub(crate) fn is_tag_of(which: AggregateKind, tag: Tag) -> bool
         Tag::Aggregate(AggregateKind::Struct, _) => which == AggregateKind::Struct,
         Tag::Aggregate(AggregateKind::Union, _) => which == AggregateKind::Union,
         Tag::Enumeration => false,
+        Tag::Enumerating => false,
     }
 }
 
@@ -158,6 +159,7 @@ fn tagged_as(
     match found {
         Some(Tag::Aggregate(_, t)) => Ok(t),
         Some(Tag::Enumeration) => Err(no_room(name.place)),
+        Some(Tag::Enumerating) => Err(no_room(name.place)),
         None => new_aggregate(scope, types, which, name.place, Some(name)),
     }
 }
@@ -208,18 +210,39 @@ pub fn tagged_alone(
     Ok((TypedSpecifier::Tagged(which, at, name, t), t))
 }
 
+/// Whether there is no tag, or one of an enumeration whose list goes on.
+fn lacks_enumeration(found: Option<&Tag>) -> bool
+    ensures { result ≡ tests.lacks_enumeration (option_copied found.entry) }
+{
+    match found {
+        None => true,
+        Some(Tag::Enumerating) => true,
+        Some(_) => false,
+    }
+}
+
+/// Whether a tag stands for something else than a complete enumeration.
+fn is_no_enumeration(found: Option<&Tag>) -> bool
+    ensures { result ≡ tests.is_other_tag tests.is_enumeration (option_copied found.entry) }
+{
+    match found {
+        None => false,
+        Some(Tag::Enumeration) => false,
+        Some(_) => true,
+    }
+}
+
 /// The rules of `enum E` without a list.
 fn enum_fault(scope: &Scope, name: &Identifier) -> Option<Fault>
     ensures { result ≡ first_broken (tests.enum_tests scope.now.scopes name.now.bytes name.now.place) }
 {
-    match scope.tag(name.bytes.as_slice()) {
-        None => return Some(refusal(name.place, Rule::UnknownName)),
-        Some(_) => {}
+    if lacks_enumeration(scope.tag(name.bytes.as_slice())) {
+        return Some(refusal(name.place, Rule::UnknownName));
     }
-    if let Some(Tag::Aggregate(_, _)) = scope.tag_here(name.bytes.as_slice()) {
+    if is_no_enumeration(scope.tag_here(name.bytes.as_slice())) {
         return Some(refusal(name.place, Rule::Redeclared));
     }
-    if let Some(Tag::Aggregate(_, _)) = scope.tag(name.bytes.as_slice()) {
+    if is_no_enumeration(scope.tag(name.bytes.as_slice())) {
         return Some(refusal(name.place, Rule::Mismatch));
     }
     None

@@ -12,3 +12,4 @@ pub mod AcceptedLaws
 pub mod RoomLaws
 pub mod GivenLaws
 pub mod LimitFacts
+pub mod LeavingLaws

@@ -9,10 +9,11 @@ use Rattle.c_types.specs.Table.{Table, shape_at}
 use Rattle.c_tree.specs.Erasure.{erased_declarator}
 use Rattle.c_tree.specs.Symbols.{Symbol}
 use Rattle.c_tree.specs.Tree as tree
-use Rattle.c_tree.specs.TypedParts.{Made, declared_type, home_of, made_by_declarator, name_of}
+use Rattle.c_tree.specs.TypedParts.{Made, declared_type, home_of, made_by_declarator, name_of, form_of}
 use Rattle.c_tree.specs.TypedTree.{TypedDeclarator}
 use Rattle.c_tree_sizes.specs.Pieces.{HasPieces}
 use Rattle.c_type_order.specs.TypesUsed.{AreUses, Use}
+use Rattle.c_typing.specs.Assignments.{literal_cost}
 use Rattle.c_typing.specs.declared.naming.Naming.{Naming}
 use Rattle.c_typing.specs.Declarators.{FormMakes, Outermost}
 use Rattle.c_typing.specs.Declaring.{unless_function}
@@ -22,9 +23,10 @@ use Rattle.c_typing.specs.Shapes.{is_function_shape}
 use Rattle.c_typing.specs.Typing.{IsForm}
 use Rattle.c_typing_given.specs.Given.{IsHere, IsReached}
 use Rattle.c_typing_given.specs.Limits.{IsLimited}
-use Rattle.c_typing_given.specs.Spending.{cell_cost, literal_cost, total}
-use Rattle.c_typing_laws.specs.Judged.{IsHomeOf, form_of}
+use Rattle.c_typing_given.specs.Spending.{total}
+use Rattle.c_typing_laws.specs.Judged.{IsHomeOf}
 use Rattle.c_typing_unique.specs.Points.{Numbers, Point}
+use Rattle.c_cells_kept.specs.Counted.{copied_by}
 
 -- From the state s, at a point of a text whose table is T, a tree can be given that has these tokens, and makes and uses so much, of a text
 -- whose expressions hold at most `held` values at once: the types that it uses are numbered in the order of their first use, `count` of them
@@ -41,7 +43,7 @@ pub record CanBeGiven (T : Table) (tokens : List Symbol) (made : List Made) (use
   -- the bytes of literals are within their limit
   pub globals : s.seen.globals + total literal_cost made ≤ 4194304
   -- and so are the pointers that assignments of structs move
-  pub cells : s.seen.cells + total (cell_cost T) made ≤ 65536
+  pub cells : s.seen.cells + total (copied_by T) made ≤ 65536
   pub few : held ≤ 256
 
 -- A typed declarator of d stands from the point a to the point b, whose name is to be `which`, and it makes its type of the type `base`. The

@@ -4,3 +4,4 @@ pub mod NamedViews
 pub mod Listed
 pub mod Accepted
 pub mod Limited
+pub mod Leaving

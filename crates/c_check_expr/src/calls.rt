@@ -10,7 +10,7 @@ ghost use Rattle.c_types.specs.Table.{IsAggregate, IsType, Table, is_aggregate_s
 ghost use Rattle.c_types.specs.Sameness.{is_same_type};
 ghost use Rattle.c_tree.specs.Erasure.{erased_specifiers};
 ghost use Rattle.c_tree.specs.Spelling.{declarator_spelling, expr_spelling, specifiers_spelling};
-ghost use Rattle.c_tree.specs.TypedParts.{home_of, made_by, made_by_declarator, made_by_place, made_by_specifiers, place_type, specified_type};
+ghost use Rattle.c_tree.specs.TypedParts.{home_of, made_by, made_by_declarator, made_by_place, made_by_specifiers, place_type, specified_type, home_node};
 ghost use Rattle.c_tree.specs.TypedTree as typed_tree;
 ghost use Rattle.c_tree.specs.TypedViews.{typed_declarator_view, typed_expr_view, typed_specifiers_view};
 ghost use Rattle.c_tree.specs.Views.{declarator_view, expr_view, specifiers_view};
@@ -28,15 +28,17 @@ ghost use Rattle.c_typing_given.specs.Given.{point_at};
 ghost use Rattle.c_typing_laws.specs.Judged.{AreSpecifiersBy, AreSpecifiersJudged, BecomesBy, ConstantFails, DeclaratorFails, IsChecked, IsCheckedFor, IsConstantJudged, IsDeclaratorJudged, IsRefused, SpecifiersFail, ValueFails};
 ghost use Rattle.c_typing_laws.specs.Numbers.{AreNumberedFrom};
 ghost use Rattle.c_typing_unique.specs.Points.{IsRead, IsReadAs, IsReadPlace, Point};
+ghost use Rattle.c_unit_typing.specs.ParameterScopes.{level_of};
 ghost use Rattle.c_unit_typing.specs.Holding.{declarator_holds, expr_holds, specifiers_holds};
-ghost use Rattle.c_check_declarators.specs.HomeNodes.{home_node};
 ghost use Rattle.c_check_expr.specs.Accepted.{CanBeGiven, IsDeclaratorRead, IsTaken};
 ghost use Rattle.c_check_expr.specs.Limited.{IsWithin};
 ghost use Rattle.c_check_expr.specs.CheckingViews.{constant_view};
 
 use crate::checking::{checked, checked_constant, checked_for, declarator_behind, specifiers_by};
+use crate::definitions::definition_behind;
 use c_tree::{Declarator, Expr, Specifiers, TypedDeclarator, TypedExpr, TypedSpecifiers};
 use c_types::Types;
+use c_typing::level::Level;
 use c_typing::naming::Naming;
 use c_typing::scope::Scope;
 use cc_base::{Fault, Place, TypeId};
@@ -128,4 +130,20 @@ pub fn check_declarator(
     ensures accepts { (T : Table) (one : typed_tree.TypedDeclarator) (b : Point) (count : ℕ) → CanBeGiven T (declarator_spelling (declarator_view d.now)) (made_by_declarator one) (used_by_declarator T Written one) (declarator_holds (declarator_view d.now)) (known types.old scope.old) count → IsType types.old (specified_type (typed_specifiers_view base.now)) → IsDeclaratorRead T naming (walks.outermost_of size) (specified_type (typed_specifiers_view base.now)) (declarator_view d.now) one (point_at (known types.old scope.old)) b → IsTaken typed_declarator_view one T (made_by_declarator one) (known types.old scope.old) b count result (known types.new scope.new) }
 {
     declarator_behind(scope, types, naming, base, size, d)
+}
+
+/// The declarator of a function definition behind specifiers, with the scope that its own parameters leave for the body (C99 6.2.1); the
+/// scope is empty where no list of parameters stands nearest to the name.
+pub fn check_definition(
+    scope: &mut Scope,
+    types: &mut Types,
+    base: &TypedSpecifiers,
+    d: &Declarator,
+    naming: Naming,
+) -> Result<(TypedDeclarator, Level), Fault>
+    ensures judged { Answers (λ made. typed_declarator_view made.0) (walks.judge_declarator naming (typed_specifiers_view base.now) None (declarator_view d.now) (known types.old scope.old)) result (known types.new scope.new) }
+    ensures home { IfOk result (λ made. made.0.home ≡ home_node (home_of (typed_declarator_view made.0))) }
+    ensures level { IfOk result (λ made. level_of naming (specified_type (typed_specifiers_view base.now)) (declarator_view d.now) (known types.old scope.old) ≡ made.1) }
+{
+    definition_behind(scope, types, naming, base, d)
 }

@@ -3,15 +3,16 @@
 
 ghost use Rattle.std.specs.Prelude.{◌≡◌, IfOk, IfSome, None, map, true};
 ghost use Rattle.c_types.specs.Table as table;
-ghost use Rattle.c_tree.specs.TypedParts.{home_of};
+ghost use Rattle.c_tree.specs.TypedParts.{home_of, home_node};
 ghost use Rattle.c_tree.specs.Tree.{AndSpecifier, NoSpecifier, Tagged};
 ghost use Rattle.c_tree.specs.Views.{expr_view, specifier_view, specifiers_of, specifiers_view, declarator_view};
-ghost use Rattle.c_tree.specs.TypedViews.{typed_expr_view, typed_specifiers_view, typed_declarator_view};
+ghost use Rattle.c_tree.specs.TypedTree as typed;
+ghost use Rattle.c_tree.specs.TypedViews.{typed_expr_view, typed_specifiers_view, typed_form_view, typed_declarator_view};
 ghost use Rattle.c_typing.specs.Checking as checking;
 ghost use Rattle.c_typing.specs.Declaring as declaring;
 ghost use Rattle.c_check_expr.specs.CheckingViews.{constant_view};
-ghost use Rattle.c_check_declarators.specs.HomeNodes.{home_node};
 ghost use Rattle.c_check_declarators.specs.MakingViews.{nearest_view};
+ghost use Rattle.c_typing.specs.Judging as judging;
 ghost use Rattle.c_typing.specs.Judging.{Answers, known};
 ghost use Rattle.c_typing.specs.OperandViews.{operand_view, part_view, value_view, part_ref_view};
 ghost use Rattle.c_typing.specs.Walks as walks;
@@ -25,7 +26,7 @@ use c_check_declarators::specifying::tagged_alone;
 use c_check_operators::conversion::{converted_to, fits, given};
 use c_tree::{
     AggregateKind, Boxed, Declarator, Expr, Identifier, Items, Specifier, Specifiers,
-    TypedDeclarator, TypedExpr, TypedSpecifiers,
+    TypedDeclarator, TypedExpr, TypedForm, TypedSpecifiers,
 };
 use c_types::Types;
 use c_typing::constant::constant_value;
@@ -39,10 +40,10 @@ use c_typing::typing::{side_of, value};
 use cc_base::{Fault, NoMemory, Place, Rule, TypeId};
 
 /// More levels of expressions, specifiers and declarators than the parser lets lie in one another.
-const LEVELS: u16 = 512;
+pub(crate) const LEVELS: u16 = 512;
 
 /// The first place of a text.
-const NOWHERE: Place = Place { line: 1, col: 1 };
+pub(crate) const NOWHERE: Place = Place { line: 1, col: 1 };
 
 /// An expression whose value is taken.
 #[tactic(auto, unfolding(c_typing::specs::Walks::judge_value))]
@@ -211,7 +212,7 @@ pub(crate) fn specifiers_by(
 }
 
 /// What the name of a declarator is to be, unless it is a function.
-fn naming_of(types: &Types, naming: Naming, base: TypeId, d: &Declarator) -> Naming
+pub(crate) fn naming_of(types: &Types, naming: Naming, base: TypeId, d: &Declarator) -> Naming
     ensures { result ≡ declaring.unless_function (declaring.is_function_by (declaring.derived_by (declarator_view d.now) declaring.NotDerived) (table.shape_at types.now base)) naming }
 {
     if is_function_by(types, derived_by(d, Derived::Nothing), base) {
@@ -231,6 +232,23 @@ fn nearest_of(size: Option<u64>) -> Nearest
     }
 }
 
+/// What stands in a declarator behind specifiers of a type, with the type that it makes.
+pub(crate) fn with_type(
+    scope: &mut Scope,
+    types: &mut Types,
+    at: Place,
+    size: Option<u64>,
+    form: TypedForm,
+    base: TypeId,
+) -> Result<TypedDeclarator, Fault>
+    ensures made { Answers typed_declarator_view (judging.next (declaring.form_makes at (walks.outermost_of size) (typed_form_view form) base (known types.old scope.old)) (λ t. judging.pure (typed.Declares (typed_form_view form) t))) result (known types.new scope.new) }
+    ensures home { IfOk result (λ one. one.home ≡ home_node (home_of (typed_declarator_view one))) }
+{
+    let ty = form_makes(scope, types, at, nearest_of(size), &form, base)?;
+    let home = home_node(home_of(&form));
+    Ok(TypedDeclarator { form, ty, home })
+}
+
 /// A declarator behind specifiers. `size` is what an initialiser gives to the array part that stands nearest to the name.
 #[tactic(auto, using(c_tree::proofs::TypedViewLaws::typed_views), unfolding(c_typing::specs::Walks::judge_declarator_at))]
 pub(crate) fn declarator_behind(
@@ -247,7 +265,5 @@ pub(crate) fn declarator_behind(
     let at = name_place(declarator_name(d), NOWHERE);
     let which = naming_of(types, naming, base.ty, d);
     let form = judge_form(scope, types, LEVELS, which, at, d)?;
-    let ty = form_makes(scope, types, at, nearest_of(size), &form, base.ty)?;
-    let home = home_node(home_of(&form));
-    Ok(TypedDeclarator { form, ty, home })
+    with_type(scope, types, at, size, form, base.ty)
 }

@@ -44,7 +44,7 @@ pub(crate) fn node_at(scope: &mut Scope, at: Place) -> Result<NodeId, Fault>
 
 /// The home of a name, whose node is made where the name stands.
 #[tactic(auto, unfolding(c_typing::specs::Declaring::home_as))]
-fn home_as(scope: &mut Scope, at: Place, which: Naming) -> Result<Home, Fault>
+pub(crate) fn home_as(scope: &mut Scope, at: Place, which: Naming) -> Result<Home, Fault>
     ensures { (table : Table) → Answers (λ home. home) (declaring.home_as at which (known table scope.old)) result (known table scope.new) }
 {
     match which {
@@ -67,7 +67,11 @@ fn star_with_node(scope: &mut Scope, at: Place, star: &Star) -> Result<TypedStar
 }
 
 /// The nodes of stars, in the order of the text.
-fn stars_with_nodes(scope: &mut Scope, at: Place, stars: &[Star]) -> Result<Items<TypedStar>, Fault>
+pub(crate) fn stars_with_nodes(
+    scope: &mut Scope,
+    at: Place,
+    stars: &[Star],
+) -> Result<Items<TypedStar>, Fault>
     ensures { (table : Table) → Answers (λ found. found) (declaring.stars_with_nodes at stars.now (known table scope.old)) result (known table scope.new) }
 {
     let mut found = Items::new(scope.alloc());
@@ -156,13 +160,13 @@ impl<
         requires nests { Nests self.now.depth (E.pre self.now.judge_expr) (E.post self.now.judge_expr) (S.pre self.now.judge_specifiers) (S.post self.now.judge_specifiers) (D.pre self.now.judge_form) (D.post self.now.judge_form) }
         ensures { (start : State) (before : Parts) (done : TypedParts) → walks.judge_parts at before start ≡ Gives done (known types.old scope.old) → Answers (λ made. typed_part_view made done) (walks.judge_parts at (AndFunction before paren (added NoParameter (map parameter_view parameters.now))) start) result (known types.new scope.new) }
     {
-        let list = self.prototype(scope, types, at, parameters)?;
+        let (list, _) = self.prototype_left(scope, types, at, parameters)?;
         Ok(TypedPart::Function(paren, list))
     }
 
     /// A part after those that are judged.
     #[tactic(auto, using(c_tree::proofs::ViewLaws::expr_views, c_tree::proofs::TypedViewLaws::typed_views), unfolding(c_typing::specs::Walks::judge_parts, c_typing::specs::Walks::judge_value))]
-    fn part(
+    pub(crate) fn part(
         &self,
         scope: &mut Scope,
         types: &mut Types,
@@ -187,8 +191,28 @@ impl<
         }
     }
 
+    /// Parts behind those that are judged.
+    #[tactic(auto, using(c_tree::proofs::PushLaws::pushes))]
+    pub(crate) fn parts_behind(
+        &self,
+        scope: &mut Scope,
+        types: &mut Types,
+        at: Place,
+        first: Items<TypedPart>,
+        rest: &[Part],
+    ) -> Result<Items<TypedPart>, Fault>
+        requires nests { Nests self.now.depth (E.pre self.now.judge_expr) (E.post self.now.judge_expr) (S.pre self.now.judge_specifiers) (S.post self.now.judge_specifiers) (D.pre self.now.judge_form) (D.post self.now.judge_form) }
+        ensures { (start : State) (before : Parts) → walks.judge_parts at before start ≡ Gives (added no_typed_part (map typed_part_view first)) (known types.old scope.old) → Answers (λ found. added no_typed_part (map typed_part_view found)) (walks.judge_parts at (added before (map part_view rest.now)) start) result (known types.new scope.new) }
+    {
+        let mut found = first;
+        for part in rest {
+            found.push(self.part(scope, types, at, part)?)?;
+        }
+        Ok(found)
+    }
+
     /// Parts, one after another.
-    #[tactic(auto, using(c_tree::proofs::PushLaws::pushes, crate::proofs::StayLaws::none_judged))]
+    #[tactic(auto, using(crate::proofs::StayLaws::none_judged))]
     fn parts(
         &self,
         scope: &mut Scope,
@@ -199,16 +223,12 @@ impl<
         requires nests { Nests self.now.depth (E.pre self.now.judge_expr) (E.post self.now.judge_expr) (S.pre self.now.judge_specifiers) (S.post self.now.judge_specifiers) (D.pre self.now.judge_form) (D.post self.now.judge_form) }
         ensures { Answers (λ found. added no_typed_part (map typed_part_view found)) (walks.judge_parts at (added NoPart (map part_view parts.now)) (known types.old scope.old)) result (known types.new scope.new) }
     {
-        let mut found = Items::new(scope.alloc());
-        for part in parts {
-            found.push(self.part(scope, types, at, part)?)?;
-        }
-        Ok(found)
+        self.parts_behind(scope, types, at, Items::new(scope.alloc()), parts)
     }
 
     /// A name, nothing, or a declarator in parentheses.
     #[tactic(auto, using(c_tree::proofs::ViewLaws::expr_views, c_tree::proofs::TypedViewLaws::typed_views), unfolding(c_typing::specs::Walks::judge_core))]
-    fn core(
+    pub(crate) fn core(
         &self,
         scope: &mut Scope,
         types: &mut Types,

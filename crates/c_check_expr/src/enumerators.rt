@@ -1,7 +1,7 @@
 //! Enumerators (C99 6.7.2.2).
 #![tactic(auto)]
 
-ghost use Rattle.std.specs.Prelude.{◌≡◌, ◌≢◌, ◌++◌, IfOk, IfErr, map, Some, None};
+ghost use Rattle.std.specs.Prelude.{◌≡◌, ◌≢◌, ◌++◌, ◌||◌, IfOk, IfErr, map, Some, None};
 ghost use Rattle.cc_base.specs.declared.fault.Fault.TheVariants.{NoMemory as no_memory};
 ghost use Rattle.c_types.specs.Table.{Table};
 ghost use Rattle.c_tree.specs.Tree.{Enumerators, NoEnumerator};
@@ -21,6 +21,7 @@ ghost use Rattle.c_typing.specs.Typing.{next_value, last_value};
 ghost use Rattle.c_typing.specs.Walks as walks;
 
 use crate::walker::Walker;
+use c_check_operators::names::runtime_of;
 use c_tree::{
     Declarator, Enumerator, Expr, Identifier, Items, Specifiers, TypedEnumerator, TypedForm,
     TypedSpecifiers,
@@ -34,7 +35,7 @@ use c_typing::naming::Naming;
 use c_typing::operand::{Operand, Value};
 use c_typing::scope::Scope;
 use c_typing::stops::{no_room, refusal};
-use c_typing::value::converted;
+use c_typing::value::{converted, sum};
 use cc_base::{Fault, NoMemory, Place, Rule};
 
 /// `int`.
@@ -44,16 +45,27 @@ const INT: Kind = Kind {
 };
 
 /// The value after one; the next one of the greatest int wraps.
-fn next_value(last: Option<i128>) -> Result<i128, NoMemory>
-    ensures { IfOk result (λ z. z ≡ next_value last) }
+fn next_value(last: Option<i128>) -> i128
+    ensures { result ≡ next_value last }
 {
     match last {
-        None => Ok(0),
-        Some(z) => match z.checked_add(1) {
-            Some(next) => Ok(converted(INT, next)),
-            None => Err(NoMemory),
-        },
+        None => 0,
+        Some(z) => sum(INT, z, 1),
     }
+}
+
+/// Whether a name is one of a runtime function, where the innermost scope is the file's.
+fn is_reserved(scope: &Scope, name: &Identifier) -> bool
+    ensures { result ≡ tests.is_reserved scope.now.scopes name.now.bytes }
+{
+    scope.depth() == 1 && runtime_of(name.bytes.as_slice()).is_some()
+}
+
+/// Whether no enumerator of the name can be declared in the innermost scope.
+fn is_taken(scope: &Scope, name: &Identifier) -> bool
+    ensures { result ≡ (tests.has_some (here scope.now.scopes.levels name.now.bytes) || tests.is_reserved scope.now.scopes name.now.bytes) }
+{
+    scope.here(name.bytes.as_slice()).is_some() || is_reserved(scope, name)
 }
 
 /// An enumerator without a value, after one of this value.
@@ -66,10 +78,10 @@ fn plain(
     ensures answers { (all : TypedEnumerators) (table : Table) → last_value all ≡ last → Answers (λ r. typed_enumerator_view r.0 all) (specifying.enumerator all name.now (known table scope.old)) result (known table scope.new) }
     ensures value { IfOk result (λ r. (all : TypedEnumerators) → last_value (typed_enumerator_view r.0 all) ≡ Some r.1) }
 {
-    if scope.here(name.bytes.as_slice()).is_some() {
+    if is_taken(scope, name) {
         return Err(refusal(name.place, Rule::Redeclared));
     }
-    let value = next_value(last)?;
+    let value = next_value(last);
     scope.declare(name.bytes.as_slice(), Declared::Enumerator(value))?;
     let name = copied_name(scope.alloc(), name)?;
     Ok((TypedEnumerator::Plain(name, value), value))
@@ -79,7 +91,7 @@ fn plain(
 fn value_fault(scope: &Scope, types: &Types, name: &Identifier, v: &Value) -> Option<Fault>
     ensures { result ≡ first_broken (tests.enumerator_tests scope.now.scopes name.now.bytes name.now.place ++ tests.constant_tests types.now v.now.place (AsValue (value_view v.now).expr)) }
 {
-    if scope.here(name.bytes.as_slice()).is_some() {
+    if is_taken(scope, name) {
         return Some(refusal(name.place, Rule::Redeclared));
     }
     match constant_value(types, v.expr.get()) {

@@ -4,6 +4,7 @@
 mod calls;
 mod checking;
 mod declarators;
+mod definitions;
 mod enumerators;
 mod expression;
 mod members;
@@ -14,5 +15,8 @@ mod walk;
 mod walker;
 
 pub use c_check_declarators::{homes, places};
+pub use c_typing::level::Level;
 pub use c_typing::{Declared, Naming, Scope, Tag};
-pub use calls::{check_constant, check_declarator, check_expr, check_specifiers, check_value};
+pub use calls::{
+    check_constant, check_declarator, check_definition, check_expr, check_specifiers, check_value,
+};

@@ -4,6 +4,7 @@
 ghost use Rattle.std.specs.Prelude.{◌≡◌, ◌≢◌, false, Some, None, IfSome, IfOk, IfErr, map, option_map, option_copied};
 ghost use Rattle.cc_base.specs.declared.fault.Fault.TheVariants.{NoMemory as no_memory};
 ghost use Rattle.c_types.specs.Table.{Table, shape_at};
+ghost use Rattle.c_tree.specs.TypedParts.{declared_home};
 ghost use Rattle.c_tree.specs.Tree.{Parameters, NoParameter, AndParameter, NotDeclared, Specifiers as PlainSpecifiers, AndSpecifier};
 ghost use Rattle.c_tree.specs.TypedTree.{TypedParameters, NoParameter as no_typed_parameter};
 ghost use Rattle.c_tree.specs.Views.{added, declarator_view, declared_of, parameter_view, specifier_view, specifiers_of, specifiers_view};
@@ -19,6 +20,7 @@ ghost use Rattle.c_typing.specs.Specifying.{obeying};
 ghost use Rattle.c_typing.specs.Tests as tests;
 ghost use Rattle.c_typing.specs.Tests.{first_broken};
 ghost use Rattle.c_typing.specs.Walks as walks;
+ghost use Rattle.c_unit_typing.specs.ParameterScopes.{level_given, scope_of_list};
 
 use crate::declarators::node_at;
 use crate::walker::Walker;
@@ -33,6 +35,7 @@ use c_tree::{
 };
 use c_types::{TypeShape, Types};
 use c_typing::declared::Declared;
+use c_typing::level::Level;
 use c_typing::naming::Naming;
 use c_typing::operand::Operand;
 use c_typing::scope::Scope;
@@ -197,7 +200,7 @@ fn declared_name(d: Option<&TypedForm>) -> Option<&Identifier>
 }
 
 fn declared_home(d: Option<&TypedForm>) -> Home
-    ensures { result ≡ declaring.declared_home (typed_declared_of (option_map typed_form_view (option_copied d.entry))) }
+    ensures { result ≡ declared_home (typed_declared_of (option_map typed_form_view (option_copied d.entry))) }
 {
     match d {
         Some(form) => home_of(form),
@@ -216,7 +219,7 @@ fn declared_type(
     base: TypeId,
 ) -> Result<TypeId, Fault>
     requires { is_here scope.old.scopes (declared_identifier (typed_declared_of (option_map typed_form_view (option_copied d)))) ≡ false }
-    ensures { let one = typed_declared_of (option_map typed_form_view (option_copied d.entry)) in Answers (λ t. t) (next (declaring.parameter_makes at adjusted one base (known types.old scope.old)) (λ t. obeying (λ s. tests.parameter_type_tests s.table s.seen.scopes void t at) (declaring.parameter_declared at (declared_identifier one) (declaring.declared_home one) t))) result (known types.new scope.new) }
+    ensures { let one = typed_declared_of (option_map typed_form_view (option_copied d.entry)) in Answers (λ t. t) (next (declaring.parameter_makes at adjusted one base (known types.old scope.old)) (λ t. obeying (λ s. tests.parameter_type_tests s.table s.seen.scopes void t at) (declaring.parameter_declared at (declared_identifier one) (declared_home one) t))) result (known types.new scope.new) }
 {
     let t = parameter_makes(scope, types, at, adjusted, d, base)?;
     if let Some(fault) = type_fault(scope, types, void, t, at) {
@@ -301,25 +304,28 @@ impl<
         Ok(found)
     }
 
-    /// Parameters in a scope of their own.
-    #[tactic(auto, unfolding(c_typing::specs::Walks::judge_prototype, c_typing::specs::Declaring::entered, c_typing::specs::Declaring::left))]
-    pub(crate) fn prototype(
+    /// Parameters in a scope of their own, with that scope as they leave it.
+    #[tactic(auto, unfolding(c_typing::specs::Walks::judge_prototype, c_typing::specs::Declaring::entered, c_typing::specs::Declaring::left, c_unit_typing::specs::ParameterScopes::scope_of_list))]
+    pub(crate) fn prototype_left(
         &self,
         scope: &mut Scope,
         types: &mut Types,
         at: Place,
         list: &[Parameter],
-    ) -> Result<Items<TypedParameter>, Fault>
+    ) -> Result<(Items<TypedParameter>, Level), Fault>
         requires nests { Nests self.now.depth (E.pre self.now.judge_expr) (E.post self.now.judge_expr) (S.pre self.now.judge_specifiers) (S.post self.now.judge_specifiers) (D.pre self.now.judge_form) (D.post self.now.judge_form) }
-        ensures { Answers (λ found. added no_typed_parameter (map typed_parameter_view found)) (walks.judge_prototype at (added NoParameter (map parameter_view list.now)) (known types.old scope.old)) result (known types.new scope.new) }
+        ensures level { IfOk result (λ made. level_given (scope_of_list (Some (added NoParameter (map parameter_view list.now))) (known types.old scope.old)) ≡ made.1) }
+        ensures answers { Answers (λ made. added no_typed_parameter (map typed_parameter_view made.0)) (walks.judge_prototype at (added NoParameter (map parameter_view list.now)) (known types.old scope.old)) result (known types.new scope.new) }
     {
         scope.enter()?;
         let found = self.parameters(scope, types, is_void_alone(list), list)?;
         if scope.depth() <= 1 {
             return Err(no_room(at));
         }
-        scope.leave();
-        Ok(found)
+        match scope.take_innermost() {
+            Some(level) => Ok((found, level)),
+            None => Err(no_room(at)),
+        }
     }
 }
 

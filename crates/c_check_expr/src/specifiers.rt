@@ -2,7 +2,6 @@
 #![tactic(auto)]
 
 ghost use Rattle.std.specs.Prelude.{◌≡◌, IfOk, map, option_copied};
-ghost use Rattle.c_types.specs.Table.{Table};
 ghost use Rattle.c_tree.specs.Tree as tree;
 ghost use Rattle.c_tree.specs.Views.{added, enumerator_view, members_view, specifier_view, specifiers_of, specifiers_view};
 ghost use Rattle.c_tree.specs.TypedViews.{typed_specifier_view, typed_specifiers_view};
@@ -15,7 +14,10 @@ ghost use Rattle.c_typing.specs.Walks as walks;
 
 use crate::walker::Walker;
 use c_check_declarators::aggregates::{begun, ended, tag_named_here, tag_place};
-use c_check_declarators::specifying::{declare_tag_of, enum_named, tagged, typedef_name, word};
+use c_check_declarators::enumerations::{
+    enumeration_begun, enumeration_ended, is_taken_enumeration,
+};
+use c_check_declarators::specifying::{enum_named, tagged, typedef_name, word};
 use c_check_declarators::words::Words;
 use c_tree::{
     AggregateKind, Declarator, Enumerator, Expr, Identifier, Items, Members, Specifier, Specifiers,
@@ -23,7 +25,6 @@ use c_tree::{
 };
 use c_types::Types;
 use c_typing::copies::copied_tag;
-use c_typing::declared::Tag;
 use c_typing::member::MemberNames;
 use c_typing::naming::Naming;
 use c_typing::operand::Operand;
@@ -63,18 +64,6 @@ pub(crate) fn listed_type(named: Named, words: &Words) -> TypeId
         Named::Type(t) => t,
         Named::Enumeration => TypeId(5),
     }
-}
-
-/// `enum E { .. }` begins: its tag is declared, unless the innermost scope has it; says whether that has it.
-#[tactic(auto, unfolding(c_typing::specs::Specifying::enumeration_begun))]
-fn enumeration_begun(scope: &mut Scope, name: Option<&Identifier>) -> Result<bool, Fault>
-    ensures { (table : Table) → Answers (λ found. found) (specifying.enumeration_begun (option_copied name.entry) (known table scope.old)) result (known table scope.new) }
-{
-    if tag_named_here(scope, name).is_some() {
-        return Ok(true);
-    }
-    declare_tag_of(scope, name, Tag::Enumeration)?;
-    Ok(false)
 }
 
 impl<
@@ -127,14 +116,15 @@ impl<
         ensures answers { Answers (λ r. typed_specifier_view r.0) (walks.judge_specifier before.now (tree.Enumeration at (option_copied name.entry) brace (added tree.NoEnumerator (map enumerator_view list.now)) comma) (known types.old scope.old)) result (known types.new scope.new) }
         ensures counts { IfOk result (λ r. r.1 ≡ counting (typed_specifier_view r.0) before.now) }
     {
-        let found = enumeration_begun(scope, name)?;
+        enumeration_begun(scope, name)?;
         let list = self.enumerators(scope, types, list)?;
-        if found {
+        if is_taken_enumeration(tag_named_here(scope, name)) {
             return Err(refusal(tag_place(at, name), Rule::Redeclared));
         }
         let Some(words) = before.with_name() else {
             return Err(refusal(at, Rule::Mismatch));
         };
+        enumeration_ended(scope, name)?;
         let name = copied_tag(scope.alloc(), name)?;
         Ok((
             TypedSpecifier::Enumeration(at, name, brace, list, comma),

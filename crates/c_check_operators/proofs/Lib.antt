@@ -2,10 +2,8 @@ pub mod AssigningLaws
 pub mod DivisionLaws
 pub mod SizeLaws
 pub mod CallLaws
-pub mod LiteralLaws
 pub mod MemberLaws
+pub mod NullLaws
 pub mod RuntimeLaws
-pub mod CountLaws
-pub mod CellLaws
 pub mod ConstructLaws
 pub mod StepLaws

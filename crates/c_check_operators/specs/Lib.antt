@@ -1,3 +1,2 @@
 pub mod MemberViews
 pub mod ShapeViews
-pub mod Counts

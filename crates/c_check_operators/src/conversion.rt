@@ -1,7 +1,7 @@
 //! Conversions that C makes without being told, and casts (C99 6.3, 6.5.4, 6.5.16.1).
 #![tactic(auto)]
 
-ghost use Rattle.std.specs.Prelude.{◌≡◌, IfOk, false, option_copied};
+ghost use Rattle.std.specs.Prelude.{◌≡◌, ◌&&◌, IfOk, false, option_copied};
 ghost use Rattle.cc_base.specs.declared.number.NodeId.{NodeId};
 ghost use Rattle.c_types.specs.declared.shape.TypeShape.TheVariants.{Pointer};
 ghost use Rattle.c_tree.specs.TypedViews.{typed_expr_view};
@@ -11,6 +11,7 @@ ghost use Rattle.c_typing.specs.Judging.{Answers, known};
 ghost use Rattle.c_typing.specs.KindViews.{shape_or_void};
 ghost use Rattle.c_typing.specs.Operands as operands;
 ghost use Rattle.c_typing.specs.OperandViews.{part_view, part_ref_view};
+ghost use Rattle.c_typing.specs.Shapes.{is_pointer_shape};
 ghost use Rattle.c_typing.specs.Tests as tests;
 
 use crate::unary::to_integer;
@@ -21,7 +22,7 @@ use c_typing::constant::is_null_constant;
 use c_typing::operand::{Part, PartRef};
 use c_typing::same::is_same_type;
 use c_typing::scope::Scope;
-use c_typing::shapes::{is_complete_at, is_data, is_void, shape_at};
+use c_typing::shapes::{is_complete_at, is_data, is_pointer, is_void, shape_at};
 use c_typing::typing::{made_for, raw_value, side_of, value_of};
 use cc_base::{Fault, NoMemory, Place, TypeId};
 
@@ -82,11 +83,13 @@ pub(crate) fn implicit_between(
     }
 }
 
+#[tactic(auto, using(crate::proofs::NullLaws::implicit_null))]
 fn implicit(types: &Types, e: &TypedExpr, t: TypeId) -> Option<Conversion>
     ensures { result ≡ conversions.implicit types.now (typed_expr_view e.now) t }
 {
-    let null = is_null_constant(types, e);
-    implicit_between(types, null, shape_at(types, e.ty()), shape_at(types, t))
+    let to = shape_at(types, t);
+    let null = is_null_with(types, PartRef::Value(e), to);
+    implicit_between(types, null, shape_at(types, e.ty()), to)
 }
 
 /// A value with a conversion; one to the integer type that it has makes nothing.
@@ -131,12 +134,24 @@ pub(crate) fn is_null_part(types: &Types, x: PartRef) -> bool
     }
 }
 
+/// Whether a part is a null constant where a value of this shape is wanted, or meets it. Only a pointer asks for its value.
+pub(crate) fn is_null_with(types: &Types, x: PartRef, other: Option<&TypeShape>) -> bool
+    ensures { result ≡ tests.is_null_part types.now (part_ref_view x.entry) && is_pointer_shape (shape_or_void (option_copied other.entry)) }
+{
+    if is_pointer(other) {
+        return is_null_part(types, x);
+    }
+    false
+}
+
 /// Whether a value becomes one of this shape without being told.
+#[tactic(auto, using(crate::proofs::NullLaws::implicit_null))]
 pub fn fits(types: &Types, x: PartRef, to: Option<&TypeShape>) -> bool
     ensures { result ≡ tests.fits types.now (part_ref_view x.entry) (shape_or_void (option_copied to.entry)) }
 {
     let value = shape_of(types, x);
-    implicit_between(types, is_null_part(types, x), value.get(), to).is_some()
+    let null = is_null_with(types, x, to);
+    implicit_between(types, null, value.get(), to).is_some()
 }
 
 /// The conversion that a cast makes (C99 6.5.4).
@@ -158,19 +173,23 @@ fn cast_between(null: bool, from: Option<&TypeShape>, to: Option<&TypeShape>) ->
     }
 }
 
+#[tactic(auto, using(crate::proofs::NullLaws::cast_null))]
 pub(crate) fn cast_conversion(types: &Types, e: &TypedExpr, t: TypeId) -> Option<Conversion>
     ensures { result ≡ conversions.cast_conversion types.now (typed_expr_view e.now) t }
 {
-    let null = is_null_constant(types, e);
-    cast_between(null, shape_at(types, e.ty()), shape_at(types, t))
+    let to = shape_at(types, t);
+    let null = is_null_with(types, PartRef::Value(e), to);
+    cast_between(null, shape_at(types, e.ty()), to)
 }
 
 /// Whether a part can be cast to a type of this shape.
+#[tactic(auto, using(crate::proofs::NullLaws::cast_null))]
 pub(crate) fn is_castable(types: &Types, x: PartRef, to: Option<&TypeShape>) -> bool
     ensures { result ≡ tests.is_castable types.now (part_ref_view x.entry) (shape_or_void (option_copied to.entry)) }
 {
     let value = shape_of(types, x);
-    is_void(to) || cast_between(is_null_part(types, x), value.get(), to).is_some()
+    let null = is_null_with(types, x, to);
+    is_void(to) || cast_between(null, value.get(), to).is_some()
 }
 
 /// Whether a type is a pointer to what is complete.

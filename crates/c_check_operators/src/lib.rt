@@ -10,7 +10,6 @@ pub mod casting;
 pub mod cells;
 pub mod choosing;
 pub mod conversion;
-mod counts;
 pub mod leaf;
 pub mod literals;
 mod meeting;

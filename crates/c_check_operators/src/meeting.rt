@@ -11,14 +11,14 @@ ghost use Rattle.c_check_operators.specs.ShapeViews.{meeting_view};
 ghost use Rattle.c_typing.specs.OperandViews.{part_ref_view};
 ghost use Rattle.c_typing.specs.Tests as tests;
 
-use crate::conversion::{are_data, is_null_part, is_taken_as, points_to_void};
+use crate::conversion::{are_data, is_null_with, is_taken_as, points_to_void};
 use crate::value_shape::shape_of;
 use c_tree::TypedExpr;
 use c_types::{TypeShape, Types};
 use c_typing::constant::is_null_constant;
 use c_typing::operand::PartRef;
 use c_typing::same::is_same_type;
-use c_typing::shapes::{is_pointer, shape_at};
+use c_typing::shapes::shape_at;
 use cc_base::TypeId;
 
 /// How two operands of `==` or of a `?:` that are no integers meet, and the type that they both point to.
@@ -134,7 +134,7 @@ pub(crate) fn meet(types: &Types, x: PartRef, y: PartRef) -> bool
 {
     let left = shape_of(types, x);
     let right = shape_of(types, y);
-    (is_null_part(types, y) && is_pointer(left.get()))
-        || (is_null_part(types, x) && is_pointer(right.get()))
+    is_null_with(types, y, left.get())
+        || is_null_with(types, x, right.get())
         || is_taken(types, left.get(), right.get())
 }

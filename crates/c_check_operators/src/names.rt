@@ -95,7 +95,7 @@ fn name_fault(scope: &Scope, runtime: bool, called: bool, word: &Identifier) -> 
 }
 
 /// The runtime function with a name.
-fn runtime_of(name: &[u8]) -> Option<Runtime>
+pub fn runtime_of(name: &[u8]) -> Option<Runtime>
     ensures { result ≡ runtime_of name.now }
 {
     runtime(name)

@@ -106,8 +106,8 @@ fn divides_as(operator: Binary, left: Kind, right: Kind, x: i128, y: i128) -> bo
     cannot_divide(operator, to, x, y)
 }
 
-/// Whether both operands are constant, and the operator divides without a result.
-fn divides_part(types: &Types, operator: Binary, a: &TypedExpr, b: &TypedExpr) -> bool
+/// Whether both operands are constant, and the operator divides them without a result.
+fn divides_constants(types: &Types, operator: Binary, a: &TypedExpr, b: &TypedExpr) -> bool
     ensures { result ≡ tests.divides_part types.now operator (AsValue (typed_expr_view a.now)) (AsValue (typed_expr_view b.now)) }
 {
     let left = integer_at(types, a.ty());
@@ -116,6 +116,16 @@ fn divides_part(types: &Types, operator: Binary, a: &TypedExpr, b: &TypedExpr) -
     let y = constant_value(types, b);
     match (left, right, x, y) {
         (Some(left), Some(right), Some(x), Some(y)) => divides_as(operator, left, right, x, y),
+        _ => false,
+    }
+}
+
+/// Whether both operands are constant, and the operator divides without a result. Only an operator that divides looks at them.
+fn divides_part(types: &Types, operator: Binary, a: &TypedExpr, b: &TypedExpr) -> bool
+    ensures { result ≡ tests.divides_part types.now operator (AsValue (typed_expr_view a.now)) (AsValue (typed_expr_view b.now)) }
+{
+    match operator {
+        Binary::Divide | Binary::Remainder => divides_constants(types, operator, a, b),
         _ => false,
     }
 }

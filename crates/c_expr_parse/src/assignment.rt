@@ -11,6 +11,7 @@ ghost use Rattle.c_expr_parse.specs.ExprRules as spec;
 ghost use Rattle.c_expr_parse.specs.Rules.{rules};
 ghost use Rattle.c_expr_parse.specs.Nests.{Nests, IsMeasured};
 
+use crate::boxing::boxed;
 use crate::grammar::Grammar;
 use c_parse_words::begins::Naming;
 use c_parse_words::cursor::Cursor;
@@ -19,29 +20,10 @@ use c_parse_words::lookahead::is_colon;
 use c_parse_words::measured::Measured;
 use c_parse_words::stop::Stop;
 use c_parse_words::words::Scope;
-use c_tree::{Assignment, Boxed, Declarator, Expr, Specifiers};
+use c_tree::{Assignment, Declarator, Expr, Specifiers};
 use cc_base::Place;
 use indexmap::IndexSet;
-use std::alloc::{AllocError, Global};
-
-/// The conditional of three expressions.
-#[tactic(auto, using(c_tree::proofs::ViewLaws::expr_views))]
-fn conditional_of(
-    alloc: Global,
-    test: Expr,
-    at: Place,
-    holds: Expr,
-    fails: Expr,
-) -> Result<Expr, AllocError>
-    ensures { IfOk result (λ e. expr_view e ≡ tree.Conditional (expr_view test) at (expr_view holds) (expr_view fails)) }
-{
-    Ok(Expr::Conditional(
-        Boxed::new(alloc, test)?,
-        at,
-        Boxed::new(alloc, holds)?,
-        Boxed::new(alloc, fails)?,
-    ))
-}
+use std::alloc::Global;
 
 impl<
     'a,
@@ -73,14 +55,15 @@ impl<
         ensures reads { Reads (λ m. expr_view m.tree) (spec.with_question self.now.depth (rules (names_of self.now.names.now) self.now.depth) (expr_view test.tree) (Some at) cursor.old) result cursor.new }
         ensures height { IfOk result (λ m. IsMeasured (suc self.now.depth) (expr_height (expr_view m.tree)) m.height) }
     {
+        let test = boxed(self.alloc, test)?;
         cursor.take_above(self.depth, test.height)?;
-        let holds = self.expr(cursor, 0)?;
+        let holds = boxed(self.alloc, self.expr(cursor, 0)?)?;
         let colon = is_colon(cursor.peek());
         cursor.expect(colon)?;
-        let fails = self.expr(cursor, 2)?;
+        let fails = boxed(self.alloc, self.expr(cursor, 2)?)?;
         Ok(Measured {
             height: 1 + test.height.max(holds.height.max(fails.height)),
-            tree: conditional_of(self.alloc, test.tree, at, holds.tree, fails.tree)?,
+            tree: Expr::Conditional(test.tree, at, holds.tree, fails.tree),
         })
     }
 
@@ -116,16 +99,12 @@ impl<
         ensures reads { Reads (λ m. expr_view m.tree) (spec.with_assignment self.now.depth (rules (names_of self.now.names.now) self.now.depth) (expr_view left.tree) (Some (tests.At op at)) cursor.old) result cursor.new }
         ensures height { IfOk result (λ m. IsMeasured (suc self.now.depth) (expr_height (expr_view m.tree)) m.height) }
     {
+        let left = boxed(self.alloc, left)?;
         cursor.take_above(self.depth, left.height)?;
-        let right = self.expr(cursor, 1)?;
+        let right = boxed(self.alloc, self.expr(cursor, 1)?)?;
         Ok(Measured {
             height: 1 + left.height.max(right.height),
-            tree: Expr::Assign(
-                op,
-                Boxed::new(self.alloc, left.tree)?,
-                at,
-                Boxed::new(self.alloc, right.tree)?,
-            ),
+            tree: Expr::Assign(op, left.tree, at, right.tree),
         })
     }
 
@@ -159,14 +138,12 @@ impl<
         ensures reads { Reads (λ m. expr_view m.tree) (spec.comma_step self.now.depth (rules (names_of self.now.names.now) self.now.depth) (expr_view left.tree) cursor.old) result cursor.new }
         ensures height { IfOk result (λ m. IsMeasured (suc self.now.depth) (expr_height (expr_view m.tree)) m.height) }
     {
+        let left = boxed(self.alloc, left)?;
         cursor.take_above(self.depth, left.height)?;
-        let right = self.expr(cursor, 1)?;
+        let right = boxed(self.alloc, self.expr(cursor, 1)?)?;
         Ok(Measured {
             height: 1 + left.height.max(right.height),
-            tree: Expr::Comma(
-                Boxed::new(self.alloc, left.tree)?,
-                Boxed::new(self.alloc, right.tree)?,
-            ),
+            tree: Expr::Comma(left.tree, right.tree),
         })
     }
 

@@ -9,6 +9,7 @@ ghost use Rattle.c_expr_parse.specs.DeclaratorRules as spec;
 ghost use Rattle.c_expr_parse.specs.Rules.{rules};
 ghost use Rattle.c_expr_parse.specs.Nests.{Nests, IsMeasured};
 
+use crate::boxing::boxed;
 use crate::grammar::Grammar;
 use c_parse_words::begins::{CoreStart, Naming, begins_parameters, may_omit_name, next_core};
 use c_parse_words::cursor::Cursor;
@@ -17,7 +18,7 @@ use c_parse_words::measured::Measured;
 use c_parse_words::stars::stars;
 use c_parse_words::stop::Stop;
 use c_parse_words::words::Scope;
-use c_tree::{Boxed, Core, Declarator, Expr, Identifier, Items, Part, Specifiers, Star};
+use c_tree::{Core, Declarator, Expr, Identifier, Items, Part, Specifiers, Star};
 use cc_base::Place;
 use indexmap::IndexSet;
 use std::alloc::Global;
@@ -89,12 +90,12 @@ impl<
         ensures reads { Reads (λ m. declarator_view m.tree) (spec.nested (names_of self.now.names.now) (rules (names_of self.now.names.now) self.now.depth) (naming_view naming) stars at cursor.old) result cursor.new }
         ensures height { IfOk result (λ m. IsMeasured (suc self.now.depth) (declarator_height (declarator_view m.tree)) m.height) }
     {
-        let Measured { tree, height } = self.declarator(cursor, naming)?;
+        let inner = boxed(self.alloc, self.declarator(cursor, naming)?)?;
         let close = is_close_paren(cursor.peek());
         cursor.expect(close)?;
         let core = Measured {
-            tree: Core::Nested(at, Boxed::new(self.alloc, tree)?),
-            height,
+            tree: Core::Nested(at, inner.tree),
+            height: inner.height,
         };
         self.parts_from(cursor, stars, core, self.no_parts())
     }

@@ -10,6 +10,7 @@ ghost use Rattle.c_expr_parse.specs.ExprRules as spec;
 ghost use Rattle.c_expr_parse.specs.Rules.{rules};
 ghost use Rattle.c_expr_parse.specs.Nests.{Nests, IsMeasured};
 
+use crate::boxing::boxed;
 use crate::grammar::Grammar;
 use c_parse_words::begins::Naming;
 use c_parse_words::cursor::Cursor;
@@ -18,7 +19,7 @@ use c_parse_words::measured::Measured;
 use c_parse_words::operators::precedence;
 use c_parse_words::stop::Stop;
 use c_parse_words::words::Scope;
-use c_tree::{Binary, Boxed, Declarator, Expr, Specifiers};
+use c_tree::{Binary, Declarator, Expr, Specifiers};
 use cc_base::Place;
 use indexmap::IndexSet;
 use std::alloc::Global;
@@ -54,16 +55,12 @@ impl<
         ensures reads { Reads (λ m. expr_view m.tree) (spec.with_operator self.now.depth (rules (names_of self.now.names.now) self.now.depth) (expr_view left.tree) (Some (tests.At op at)) cursor.old) result cursor.new }
         ensures height { IfOk result (λ m. IsMeasured (suc self.now.depth) (expr_height (expr_view m.tree)) m.height) }
     {
+        let left = boxed(self.alloc, left)?;
         cursor.take_above(self.depth, left.height)?;
-        let right = self.expr(cursor, precedence(op) + 1)?;
+        let right = boxed(self.alloc, self.expr(cursor, precedence(op) + 1)?)?;
         Ok(Measured {
             height: 1 + left.height.max(right.height),
-            tree: Expr::Infix(
-                op,
-                Boxed::new(self.alloc, left.tree)?,
-                at,
-                Boxed::new(self.alloc, right.tree)?,
-            ),
+            tree: Expr::Infix(op, left.tree, at, right.tree),
         })
     }
 

@@ -3,6 +3,7 @@
 
 mod arguments;
 mod assignment;
+mod boxing;
 mod calls;
 mod declarator_layer;
 mod enumerator_list;

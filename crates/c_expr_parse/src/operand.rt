@@ -10,6 +10,7 @@ ghost use Rattle.c_expr_parse.specs.Operands as operands;
 ghost use Rattle.c_expr_parse.specs.Rules.{rules};
 ghost use Rattle.c_expr_parse.specs.Nests.{Nests, IsMeasured};
 
+use crate::boxing::boxed;
 use crate::grammar::Grammar;
 use c_parse_words::begins::{Naming, Start, begins_expr, begins_specifier, next_start};
 use c_parse_words::cursor::Cursor;
@@ -107,10 +108,10 @@ impl<
         ensures reads { Reads (λ m. expr_view m.tree) (spec.after_paren (names_of self.now.names.now) self.now.depth (rules (names_of self.now.names.now) self.now.depth) at cursor.old) result cursor.new }
         ensures height { IfOk result (λ m. IsMeasured (suc self.now.depth) (expr_height (expr_view m.tree)) m.height) }
     {
-        let e = self.expr(cursor, 0)?;
+        let e = boxed(self.alloc, self.expr(cursor, 0)?)?;
         let close = is_close_paren(cursor.peek());
         cursor.expect(close)?;
-        let tree = Expr::Paren(at, Boxed::new(self.alloc, e.tree)?);
+        let tree = Expr::Paren(at, e.tree);
         let height = 1 + e.height;
         self.postfix(cursor, Measured { tree, height })
     }
@@ -131,14 +132,11 @@ impl<
         if open_brace(cursor.peek()).is_some() {
             return Err(Stop::Unsupported);
         }
-        let e = self.expr(cursor, 13)?;
+        let to = boxed(self.alloc, to)?;
+        let e = boxed(self.alloc, self.expr(cursor, 13)?)?;
         Ok(Measured {
             height: 1 + to.height.max(e.height),
-            tree: Expr::Cast(
-                at,
-                Boxed::new(self.alloc, to.tree)?,
-                Boxed::new(self.alloc, e.tree)?,
-            ),
+            tree: Expr::Cast(at, to.tree, e.tree),
         })
     }
 
@@ -227,15 +225,15 @@ impl<
         ensures reads { Reads (λ m. expr_view m.tree) (spec.after_sizeof_paren (names_of self.now.names.now) (rules (names_of self.now.names.now) self.now.depth) at paren cursor.old) result cursor.new }
         ensures height { IfOk result (λ m. IsMeasured (suc self.now.depth) (expr_height (expr_view m.tree)) m.height) }
     {
-        let measured = self.type_name(cursor)?;
+        let name = boxed(self.alloc, self.type_name(cursor)?)?;
         let close = is_close_paren(cursor.peek());
         cursor.expect(close)?;
         if open_brace(cursor.peek()).is_some() {
             return Err(Stop::Unsupported);
         }
         Ok(Measured {
-            height: 1 + measured.height,
-            tree: Expr::SizeOfType(at, paren, Boxed::new(self.alloc, measured.tree)?),
+            height: 1 + name.height,
+            tree: Expr::SizeOfType(at, paren, name.tree),
         })
     }
 

@@ -9,6 +9,7 @@ ghost use Rattle.c_expr_parse.specs.Rules.{rules};
 ghost use Rattle.c_expr_parse.specs.Nests.{Nests, IsMeasured};
 ghost use Rattle.parse_rules.specs.Parsers.{loop};
 
+use crate::boxing::boxed;
 use crate::grammar::Grammar;
 use c_parse_words::begins::Naming;
 use c_parse_words::cursor::Cursor;
@@ -16,7 +17,7 @@ use c_parse_words::lookahead::{Suffix, has_suffix, is_close_bracket, is_close_pa
 use c_parse_words::measured::Measured;
 use c_parse_words::stop::Stop;
 use c_parse_words::words::Scope;
-use c_tree::{Boxed, Declarator, Expr, MemberOperator, Specifiers, Step};
+use c_tree::{Declarator, Expr, MemberOperator, Specifiers, Step};
 use cc_base::Place;
 use indexmap::IndexSet;
 use std::alloc::Global;
@@ -51,17 +52,14 @@ impl<
         ensures reads { Reads (λ m. expr_view m.tree) (spec.with_suffix (names_of self.now.names.now) self.now.depth (rules (names_of self.now.names.now) self.now.depth) (expr_view e.tree) (tests.IndexAt at) cursor.old) result cursor.new }
         ensures height { IfOk result (λ m. IsMeasured (suc self.now.depth) (expr_height (expr_view m.tree)) m.height) }
     {
+        let e = boxed(self.alloc, e)?;
         cursor.take_above(self.depth, e.height)?;
-        let index = self.expr(cursor, 0)?;
+        let index = boxed(self.alloc, self.expr(cursor, 0)?)?;
         let close = is_close_bracket(cursor.peek());
         cursor.expect(close)?;
         Ok(Measured {
             height: 1 + e.height.max(index.height),
-            tree: Expr::Index(
-                Boxed::new(self.alloc, e.tree)?,
-                at,
-                Boxed::new(self.alloc, index.tree)?,
-            ),
+            tree: Expr::Index(e.tree, at, index.tree),
         })
     }
 
@@ -77,13 +75,14 @@ impl<
         ensures reads { Reads (λ m. expr_view m.tree) (spec.with_suffix (names_of self.now.names.now) self.now.depth (rules (names_of self.now.names.now) self.now.depth) (expr_view e.tree) (tests.CallAt at) cursor.old) result cursor.new }
         ensures height { IfOk result (λ m. IsMeasured (suc self.now.depth) (expr_height (expr_view m.tree)) m.height) }
     {
+        let e = boxed(self.alloc, e)?;
         cursor.take_above(self.depth, e.height)?;
         let arguments = self.arguments(cursor)?;
         let close = is_close_paren(cursor.peek());
         cursor.expect(close)?;
         Ok(Measured {
             height: 1 + e.height.max(arguments.height),
-            tree: Expr::Call(Boxed::new(self.alloc, e.tree)?, at, arguments.tree),
+            tree: Expr::Call(e.tree, at, arguments.tree),
         })
     }
 
@@ -100,11 +99,12 @@ impl<
         ensures reads { Reads (λ m. expr_view m.tree) (spec.with_suffix (names_of self.now.names.now) self.now.depth (rules (names_of self.now.names.now) self.now.depth) (expr_view e.tree) (tests.MemberAt op at) cursor.old) result cursor.new }
         ensures height { IfOk result (λ m. IsMeasured (suc self.now.depth) (expr_height (expr_view m.tree)) m.height) }
     {
+        let e = boxed(self.alloc, e)?;
         cursor.take_above(self.depth, e.height)?;
         let name = cursor.take_name(self.alloc)?;
         Ok(Measured {
             height: 1 + e.height,
-            tree: Expr::Member(Boxed::new(self.alloc, e.tree)?, op, at, name),
+            tree: Expr::Member(e.tree, op, at, name),
         })
     }
 
@@ -121,10 +121,11 @@ impl<
         ensures reads { Reads (λ m. expr_view m.tree) (spec.with_suffix (names_of self.now.names.now) self.now.depth (rules (names_of self.now.names.now) self.now.depth) (expr_view e.tree) (tests.StepAt step at) cursor.old) result cursor.new }
         ensures height { IfOk result (λ m. IsMeasured (suc self.now.depth) (expr_height (expr_view m.tree)) m.height) }
     {
+        let e = boxed(self.alloc, e)?;
         cursor.take_above(self.depth, e.height)?;
         Ok(Measured {
             height: 1 + e.height,
-            tree: Expr::Postfix(Boxed::new(self.alloc, e.tree)?, step, at),
+            tree: Expr::Postfix(e.tree, step, at),
         })
     }
 

@@ -1,2 +1,1 @@
-pub mod FewTokens
 pub mod Passes

@@ -8,6 +8,7 @@ use Rattle.cc_base.specs.declared.fault.Fault.TheVariants.{Refused, TooLarge, No
 use Rattle.parse_rules.specs.Grammars.{Supported}
 use Rattle.c_lexer.specs.Cut.{IsCut, IsLexicalFault}
 use Rattle.c_lexer.specs.Tokens.{Token}
+use Rattle.c_lexer.proofs.FewTokens.{few_tokens}
 use Rattle.c_types.specs.Table.{Table}
 use Rattle.c_tree.specs.Depth.{unit_height}
 use Rattle.c_tree.specs.Erasure.{erased_unit}
@@ -28,7 +29,6 @@ use Rattle.c_unit_typing.specs.WellTyped.{IsWellTyped}
 use Rattle.c_check.specs.Judged.{IsAccepted, IsAnswered}
 use Rattle.c_front.specs.Accepted.{IsTypedText, IsUnitOf}
 use Rattle.c_front.specs.Refused.{IsFirstRefusal, uncut, unread, ill_typed}
-use Rattle.c_front.proofs.FewTokens.{few_tokens}
 
 pub uncut_so : (text : List ℕ) (fault : Fault) → IsLexicalFault text fault → fault ≢ NoMemory → IsFirstRefusal text fault
 uncut_so text (Refused place rule) is wants = uncut place rule refl is

@@ -1,4 +1,5 @@
 pub mod CutLaws
+pub mod FewTokens
 pub mod FirstLexeme
 pub mod GapLaws
 pub mod LexemeLaws

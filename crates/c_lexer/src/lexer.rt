@@ -38,6 +38,7 @@ pub fn tokens<'a>(alloc: Global, text: &'a [u8]) -> Result<Vec<Token<'a>>, Fault
     requires { length text.now ≤ 1048576 }
     ensures cut { IfOk result (λ found. IsCut text.now found.items) }
     ensures refused { IfErr result (IsLexicalFault text.now) }
+    ensures few { IfOk result (λ found. length found.items ≤ length text.now) }
 
     // No other list of tokens is cut from the text, and a text that can be cut is not refused.
     ensures accepts { (list : List TokenValue) → IsCut text.now list

@@ -1,5 +1,6 @@
 //! Punctuators.
 ghost use Rattle.std.specs.Prelude.{◌≡◌};
+ghost use Rattle.c_lexer.specs.Lexemes.{lexeme_kind};
 ghost use Rattle.c_lexer.specs.Punctuators.{punctuator_spelling};
 ghost use Rattle.c_lexer.specs.Reading.{punctuator_at, punctuator_step};
 
@@ -111,9 +112,10 @@ pub(crate) const PUNCTUATORS: [Punctuator; 47] = [
 ];
 
 impl Punctuator {
-    /// The bytes that spell it.
+    /// The bytes that spell it. As a token they are this punctuator: none is missing in the table.
     pub fn spelling(self) -> &'static [u8]
-        ensures { result.now ≡ punctuator_spelling self }
+        ensures bytes { result.now ≡ punctuator_spelling self }
+        ensures token { lexeme_kind result.now ≡ Ok (TokenKind.Punctuator self) }
     {
         match self {
             Punctuator::ShiftLeftEqual => b"<<=",

@@ -2,6 +2,7 @@
 ghost use Rattle.std.specs.Prelude.{◌≡◌, ◌≤◌, length, bytes_eq};
 ghost use Rattle.std.specs.List.{prefix_len, list_any};
 ghost use Rattle.c_lexer.specs.Bytes.{is_word_byte};
+ghost use Rattle.c_lexer.specs.Lexemes.{lexeme_kind};
 ghost use Rattle.c_lexer.specs.Words.{keyword_spelling, keyword_of, is_left_out, word_kind};
 
 use crate::byte::is_word_byte;
@@ -80,9 +81,10 @@ pub(crate) const KEYWORDS: [Keyword; 31] = [
 ];
 
 impl Keyword {
-    /// The bytes that spell it.
+    /// The bytes that spell it. As a token they are this keyword: no keyword is missing in the table.
     pub fn spelling(self) -> &'static [u8]
-        ensures { result.now ≡ keyword_spelling self }
+        ensures bytes { result.now ≡ keyword_spelling self }
+        ensures token { lexeme_kind result.now ≡ Ok (TokenKind.Keyword self) }
     {
         match self {
             Keyword::Auto => b"auto",

@@ -6,3 +6,4 @@ pub mod Names
 pub mod Seen
 pub mod Nests
 pub mod Answers
+pub mod Theorems

@@ -15,18 +15,18 @@ use Rattle.c_tree.specs.declared.typed_word.Home.TheVariants as home
 use Rattle.c_tree.specs.declared.typed_word.Runtime.{Runtime}
 use Rattle.c_tree.specs.TypedTree as typed
 use Rattle.c_tree.specs.TypedTree.{TypedExpr, TypedPlace, TypedArguments, TypedTypeName, TypedSpecifiers, TypedSpecifierList, TypedSpecifier, TypedMembers, TypedMemberDeclarators, TypedEnumerators, TypedForm, TypedCore, TypedParts, TypedParameters, TypedDeclared, TypedInitialiser, TypedItems, TypedInitDeclarators, TypedDeclaration, TypedStatement, TypedBlockItems, TypedTranslationUnit}
-use Rattle.c_tree.specs.TypedParts.{specified_type, type_of, item_place, home_of_form, declared_home}
+use Rattle.c_tree.specs.TypedParts.{specified_type, type_of, item_place, home_of_form, declared_home, is_void_list}
 use Rattle.c_typing.specs.declared.declared.Declared.{Declared}
 use Rattle.c_typing.specs.declared.declared.Declared.TheVariants as declared
 use Rattle.c_typing.specs.declared.declared.Tag.{Tag}
 use Rattle.c_typing.specs.declared.declared.Tag.TheVariants as tag
-use Rattle.c_typing.specs.Declarators.{Outermost, is_void_list, member_names}
+use Rattle.c_typing.specs.Declarators.{Outermost, member_names}
 use Rattle.c_typing.specs.Rules.{number_of_shape, runtime_named}
-use Rattle.c_typing.specs.Scopes.{Name, Scopes, entering, here, members_named, is_no_list}
+use Rattle.c_typing.specs.Scopes.{Name, Scopes, entering, here, members_named}
 use Rattle.c_typing.specs.Shapes.{is_function_shape}
-use Rattle.c_typing.specs.Typing.{IsTyped, IsPlace, AreTyped, IsTypeName, AreSpecifiers, AreAlone, AreListed, IsSpecifier, AreMembers, AreMemberDeclarators, AreEnumerators, IsForm, IsCore, AreParts, AreParameters, IsDeclared, IsNewAggregate, IsTagged, BeginsAggregate, EndsAggregate, DeclaresParameter, tagging, tag_named_here, enumerating}
+use Rattle.c_typing.specs.Typing.{IsTyped, IsPlace, AreTyped, IsTypeName, AreSpecifiers, AreAlone, AreListed, IsSpecifier, AreMembers, AreMemberDeclarators, AreEnumerators, IsForm, IsCore, AreParts, AreParameters, IsDeclared, IsNewAggregate, IsTagged, BeginsAggregate, EndsAggregate, DeclaresParameter, tagging, tag_named_here, enumerating, EndsEnumeration}
 use Rattle.c_unit_typing.specs.Initialisers.{IsInitialiser, AreItems, is_only_text, is_char_array}
-use Rattle.c_unit_typing.specs.Units.{Known, Storage, Unstored, AsTypedef, AsExtern, AsStatic, AsAutomatic, storage_of, with_scopes, unless_here, IsLinked, IsLinkedObject, IsStaticOrLocal, IsObjectDeclared, IsOrdinaryDeclared, IsNameDeclared, IsDeclarator, IsDefinedOnce, IsInitialised, AreDeclarators, IsDeclaration, Around, in_a_loop, in_a_switch, entering_known, leaving_known, IsDropped, IsTestedOrNone, IsReturned, IsStatement, AreBlockItems, with_parameters, parameter_declared, declared_identifier, IsUnitTyped}
+use Rattle.c_unit_typing.specs.Units.{Known, Storage, Unstored, AsTypedef, AsExtern, AsStatic, AsAutomatic, storage_of, with_scopes, unless_here, IsLinked, IsLinkedObject, IsStaticOrLocal, IsObjectDeclared, IsOrdinaryDeclared, IsNameDeclared, IsDeclarator, IsDefinedOnce, IsInitialised, AreDeclarators, IsDeclaration, Around, in_a_loop, in_a_switch, entering_known, leaving_known, IsDropped, IsTestedOrNone, IsReturned, IsStatement, AreBlockItems, IsUnitTyped}
 use Rattle.c_unit_typing.specs.WellTyped.{IsWellTyped, known_before}
 use Rattle.c_ready.specs.Ready.{IsWritten}
 use Rattle.src_machine.specs.Pieces.{Piece, ASpecifier, pieces_of, pieces_of_place, pieces_of_arguments, pieces_of_type_name, pieces_of_specifiers, pieces_of_specifier_list, pieces_of_specifier, pieces_of_members, pieces_of_member_declarators, pieces_of_enumerators, pieces_of_form, pieces_of_core, pieces_of_parts, pieces_of_parameters, pieces_of_declared, pieces_of_initialiser, pieces_of_items, pieces_of_init_declarators, pieces_of_declaration, pieces_of_optional, pieces_of_statement, pieces_of_block_items, pieces_of_unit}
@@ -69,10 +69,10 @@ module _ (T : Table) where
 
   -- what has members behind a part and not before it is written in the part
   pub record Grown (s s' : Scopes) (xs : List Piece) : Type 0 where
-    pub told : (n : ℕ) → is_no_list (members_named s' n) ≡ false → (is_no_list (members_named s n) ≡ false) ⊎ HasAggregate n xs
+    pub told : (n : ℕ) → is_empty (members_named s' n) ≡ false → (is_empty (members_named s n) ≡ false) ⊎ HasAggregate n xs
 
   kept : (s s' : Scopes) (xs : List Piece) → s'.members ≡ s.members → Grown s s' xs
-  kept s s' xs e = record { told = λ n h. inl (ap (λ (ms : List (List Name)). is_no_list (members_named (naming ms) n)) (sym e) ∙ h) }
+  kept s s' xs e = record { told = λ n h. inl (ap (λ (ms : List (List Name)). is_empty (members_named (naming ms) n)) (sym e) ∙ h) }
 
   same : (s s' : Scopes) (xs : List Piece) → s' ≡ s → Grown s s' xs
   same s s' xs e = kept s s' xs (ap (λ (q : Scopes). q.members) e)
@@ -118,14 +118,14 @@ module _ (T : Table) where
   first : (s m s' : Scopes) (xs : List Piece) → m.members ≡ s.members → Grown m s' xs → Grown s s' xs
   first s m s' xs e p = record {
     told = λ n h. elim (p.told n h) [
-      | inl f ↦ inl (ap (λ (ms : List (List Name)). is_no_list (members_named (naming ms) n)) (sym e) ∙ f)
+      | inl f ↦ inl (ap (λ (ms : List (List Name)). is_empty (members_named (naming ms) n)) (sym e) ∙ f)
       | inr a ↦ inr a
     ];
   }
 
   last : (s m s' : Scopes) (xs : List Piece) → s'.members ≡ m.members → Grown s m xs → Grown s s' xs
   last s m s' xs e p = record {
-    told = λ n h. p.told n (ap (λ (ms : List (List Name)). is_no_list (members_named (naming ms) n)) (sym e) ∙ h);
+    told = λ n h. p.told n (ap (λ (ms : List (List Name)). is_empty (members_named (naming ms) n)) (sym e) ∙ h);
   }
 
   runtime-same : (f : TypedExpr) (function : Runtime) (s s' : Scopes) → runtime_named f ≡ Some function → IsTyped T f s s' → s' ≡ s
@@ -140,7 +140,7 @@ module _ (T : Table) where
   new-grown : (which : AggregateKind) (name : Option Identifier) (t : TypeId) (s s' : Scopes) (xs : List Piece) → IsNewAggregate T which name t s s'
       → Grown s s' xs
   new-grown which name t s s' xs h = record {
-    told = λ n q. inl (sym (ap (λ (names : List Name). is_no_list names)
+    told = λ n q. inl (sym (ap (λ (names : List Name). is_empty names)
         (ap (λ (z : Scopes). members_named (naming z.members) n) h.after
         ∙ (ap (λ (ms : List (List Name)). members_named (naming ms) n) (tagging-kept name (tag.Aggregate which t) _)
         ∙ counting_names s.members n))) ∙ q);
@@ -170,13 +170,21 @@ module _ (T : Table) where
         there = Contains-push [] (ASpecifier (typed.Aggregate which at name brace members t));
         number = h.declared ∙ ap (λ i. Some i) (sym e);
       })
-      | inr e ↦ inl (sym (ap (λ (names : List Name). is_no_list names) (ap (λ (z : Scopes). members_named (naming z.members) n) h.after ∙ e)) ∙ q)
+      | inr e ↦ inl (sym (ap (λ (names : List Name). is_empty names) (ap (λ (z : Scopes). members_named (naming z.members) n) h.after ∙ e)) ∙ q)
     ];
   }
 
-  enumerating-kept : (name : Option Identifier) (s : Scopes) → tag_named_here s name ≡ None → (enumerating name s).members ≡ s.members
-  enumerating-kept None s h = refl
-  enumerating-kept (Some name) s h = rw h refl
+  enumerating-kept : (name : Option Identifier) (s : Scopes) → (enumerating name s).members ≡ s.members
+  enumerating-kept None s = refl
+  enumerating-kept (Some name) s = by (tag_named_here s (Some name)) refl
+    where
+      by : (o : Option Tag) → tag_named_here s (Some name) ≡ o → (enumerating (Some name) s).members ≡ s.members
+      by None h = rw h refl
+      by (Some found) h = rw h refl
+
+  enumerated-kept : (name : Option Identifier) (s s' : Scopes) → EndsEnumeration name s s' → s'.members ≡ s.members
+  enumerated-kept None s s' h = ap (λ (q : Scopes). q.members) h.after
+  enumerated-kept (Some name) s s' h = ap (λ (q : Scopes). q.members) h.after
 
   parameter-kept : (form : TypedForm) (t : TypeId) (s s' : Scopes) → DeclaresParameter (typed.DeclaredBy form) t s s' → s'.members ≡ s.members
   parameter-kept (typed.Form stars (typed.Names name (home.Parameter n)) parts) t s s' h = ap (λ (q : Scopes). q.members) h.after
@@ -293,7 +301,8 @@ module _ (T : Table) where
         (ended-grown which at name brace members t h.1 s' h.4)
     specifier-grown (typed.Enum at name) s s' h = same s s' [] h.0
     specifier-grown (typed.Enumeration at name brace all comma) s s' h =
-        first s (enumerating name s) s' (pieces_of_enumerators all) (enumerating-kept name s h.0) (enumerators-grown all (enumerating name s) s' h.1)
+        first s (enumerating name s) s' (pieces_of_enumerators all) (enumerating-kept name s)
+        (last (enumerating name s) h.0 s' (pieces_of_enumerators all) (enumerated-kept name h.0 s' h.2) (enumerators-grown all (enumerating name s) h.0 h.1))
 
     pub members-grown : (all : TypedMembers) (s s' : Scopes) → AreMembers T all s s' → Grown s s' (pieces_of_members all)
     members-grown typed.NoMember s s' h = same s s' [] h
@@ -573,19 +582,6 @@ module _ (T : Table) where
         (value-grown T e h.0.scopes h.1 h.3))
     block-grown a on (typed.AndDefault all at) k j m e h = block-grown a on all k j m e h
 
-  with-kept : (ps : TypedParameters) (s : Scopes) → (with_parameters ps s).members ≡ s.members
-  with-kept typed.NoParameter s = refl
-  with-kept (typed.AndParameter all specifiers d adjusted t) s =
-      one (declared_identifier d) (declared_home d) t (with_parameters all s) ∙ with-kept all s
-    where
-      one : (o : Option Identifier) (h : Home) (t : TypeId) (q : Scopes) → (parameter_declared o h t q).members ≡ q.members
-      one (Some name) (home.Parameter n) t q = refl
-      one None h t q = refl
-      one (Some name) home.None t q = refl
-      one (Some name) (home.Static n) t q = refl
-      one (Some name) (home.Known n) t q = refl
-      one (Some name) (home.Local n) t q = refl
-
   unit-grown : (u : TypedTranslationUnit) (k m : Known) → IsUnitTyped T u k m → Grown T k.scopes m.scopes (pieces_of_unit u)
   unit-grown typed.NoExternal k m h = same T k.scopes m.scopes [] (ap (λ (q : Known). q.scopes) h)
   unit-grown (typed.AndExternal u d) k m h =
@@ -599,7 +595,7 @@ module _ (T : Table) where
       (both T k.scopes h.0.scopes f.before x y (unit-grown u k h.0 h.1) (specifiers-grown T specifiers h.0.scopes f.before f.specified))
       (declarator-grown true (storage_of specifiers) (specified_type specifiers) _ form t (with_scopes h.0 f.before) f.declared f.declares))
       (block-grown (record { result = f.result; in_loop = false; breakable = false }) None body _ f.declared f.after
-      (with-kept f.parameters (entering f.declared.scopes)) f.statements))
+      refl f.statements))
 
 -- Each that is complete was written
 
@@ -626,7 +622,7 @@ module _ (T : Table) (u : TypedTranslationUnit) (w : IsWellTyped T u) where
   number-of (shape.Array t n) h = absurd (true≢false (sym h))
   number-of (shape.Function ps r) h = absurd (true≢false (sym h))
 
-  some-names : (names : List Name) (ms : List TypeId) → length names ≡ length ms → is_empty ms ≡ false → is_no_list names ≡ false
+  some-names : (names : List Name) (ms : List TypeId) → length names ≡ length ms → is_empty ms ≡ false → is_empty names ≡ false
   some-names [] [] e h = absurd (true≢false h)
   some-names [] (m ∷ ms) e h = absurd (omega (arith, e))
   some-names (n ∷ ns) ms e h = refl

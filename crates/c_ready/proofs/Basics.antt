@@ -6,7 +6,7 @@ use Rattle.std.proofs.lemmas.List.{append-nil, append_assoc}
 use Rattle.std.proofs.lemmas.List.Elements.{All-nil, All-cons, All-head, All-tail}
 use Rattle.std.proofs.lemmas.Option.{none-some}
 use Rattle.c_types.specs.Table.{is_empty}
-use Rattle.c_typing.specs.Scopes.{Name, is_no_list}
+use Rattle.c_typing.specs.Scopes.{Name}
 
 pub some-same : {A : Type 0} (a b : A) → Some a ≡ Some b → a ≡ b
 some-same a b h = cc
@@ -59,7 +59,7 @@ pub flat-right : {A B : Type 0} (P : B → Type 0) (f : A → List B) (xs ys : L
 flat-right P f xs ys h = all-right P (flat_map f xs) (flat_map f ys) (subst (All P) (flat-both f xs ys) h)
 
 -- two lists of one length are both empty, or neither is
-pub no-empty : {A B : Type 0} (xs : List A) (ys : List B) → length xs ≡ length ys → is_no_list xs ≡ false → is_empty ys ≡ false
+pub no-empty : {A B : Type 0} (xs : List A) (ys : List B) → length xs ≡ length ys → is_empty xs ≡ false → is_empty ys ≡ false
 no-empty [] ys h x = absurd (true≢false x)
 no-empty (x ∷ xs) [] h q = absurd (omega (arith, h))
 no-empty (x ∷ xs) (y ∷ ys) h q = refl

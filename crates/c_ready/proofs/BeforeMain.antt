@@ -1,9 +1,10 @@
 -- What runs before `main` calls nothing and names no variable of a call.
 use Rattle.std.specs.List.{Contains}
-use Rattle.std.proofs.Common.{◌≡◌, ℕ, ℤ, Bool, true, false, List, Option, Some, None, refl, inl, inr, ◌&&◌, if◌then◌else◌}
+use Rattle.std.proofs.Common.{◌≡◌, ◌⊎◌, ℕ, ℤ, Bool, true, false, List, Option, Some, None, refl, inl, inr, ◌&&◌, if◌then◌else◌}
 use Rattle.cc_base.specs.declared.number.NodeId.{NodeId}
 use Rattle.cc_base.specs.declared.number.TypeId.{TypeId}
 use Rattle.integers.specs.Arithmetic.{IntegerType, converted, computed}
+use Rattle.c_tree.specs.Arithmetic.{operator_of}
 use Rattle.c_tree.specs.declared.leaf.Identifier.{Identifier}
 use Rattle.c_tree.specs.declared.typed_word.Side.TheVariants as side
 use Rattle.c_tree.specs.TypedTree as typed
@@ -11,8 +12,8 @@ use Rattle.c_tree.specs.TypedTree.{TypedExpr, TypedPlace, TypedInitialiser, Type
 use Rattle.c_tree.specs.TypedParts.{type_of, named_type}
 use Rattle.c_tree.specs.declared.typed_word.Conversion.{Conversion}
 use Rattle.c_typing.specs.Shapes.{integer_at}
-use Rattle.c_typing.specs.Constants.{constant_value, with_type, with_value, converted_value, is_to_integer, cannot_divide, operator_of, logical, is_true, alone}
-use Rattle.c_unit_typing.specs.Initialisers.{is_constant, is_constant_place, is_constant_array, is_constant_initialiser, are_constant_items, is_among, is_integer_constant, has_value, is_char_array, is_only_text}
+use Rattle.c_typing.specs.Constants.{constant_value, with_type, with_value, converted_value, is_to_integer, cannot_divide, logical, is_true, alone}
+use Rattle.c_unit_typing.specs.Initialisers.{is_constant, is_constant_place, is_constant_array, is_constant_initialiser, are_constant_items, is_among, is_integer_constant, is_integer_value, is_division, has_value, is_char_array, is_only_text}
 use Rattle.c_ready.proofs.Contexts.{before_main, IsReadyInitialiser, AreReadyItems, Context, IsObjectOf, IsFunctionNamed, IsReady, IsReadyPlace}
 use Rattle.c_ready.proofs.Basics.{no_true}
 
@@ -27,6 +28,10 @@ module _ (k : Context) (runs : k.runs ≡ true) (homes : List NodeId)
   and-right : (a b : Bool) → (a && b) ≡ true → b ≡ true
   and-right true b h = h
   and-right false b h = no_true h
+
+  either-holds : (d a b : Bool) → (if d then a else b) ≡ true → (a ≡ true) ⊎ (b ≡ true)
+  either-holds true a b h = inl h
+  either-holds false a b h = inr h
 
   object-before : (h : NodeId) (t : TypeId) → is_among homes h ≡ true → IsObjectOf k.runs k h t → IsObjectOf k.runs (before_main k) h t
   object-before h t g o = by k.runs o
@@ -167,6 +172,32 @@ module _ (k : Context) (runs : k.runs ≡ true) (homes : List NodeId)
     r.4,
     r.5,
   )
+  value-before (typed.Prefix operator at e t) g r = (value-before e (and-right (is_integer_value k.table e) (is_constant k.table homes e) g) r.0, r.1)
+  value-before (typed.Arithmetic operator a at b t) g r =
+      elim (either-holds (is_division operator) (is_integer_constant k.table (typed.Arithmetic operator a at b t))
+      (is_constant k.table homes a && is_constant k.table homes b) g) [
+        | inl w ↦ constant-before (typed.Arithmetic operator a at b t) w r
+        | inr h ↦ (
+          value-before a (and-left (is_constant k.table homes a) (is_constant k.table homes b) h) r.0,
+          value-before b (and-right (is_constant k.table homes a) (is_constant k.table homes b) h) r.1,
+          r.2,
+        )
+      ]
+  value-before (typed.Logical operator a at b t) g r =
+      let left = and-left (is_integer_value k.table a && is_constant k.table homes a) (is_integer_value k.table b && is_constant k.table homes b) g in
+      let right = and-right (is_integer_value k.table a && is_constant k.table homes a) (is_integer_value k.table b && is_constant k.table homes b) g in (
+        value-before a (and-right (is_integer_value k.table a) (is_constant k.table homes a) left) r.0,
+        value-before b (and-right (is_integer_value k.table b) (is_constant k.table homes b) right) r.1,
+        r.2,
+      )
+  value-before (typed.Conditional c at a b t) g r =
+      let test = and-left (is_integer_value k.table c && is_constant k.table homes c) (is_constant k.table homes a && is_constant k.table homes b) g in
+      let sides = and-right (is_integer_value k.table c && is_constant k.table homes c) (is_constant k.table homes a && is_constant k.table homes b) g in (
+        value-before c (and-right (is_integer_value k.table c) (is_constant k.table homes c) test) r.0,
+        value-before a (and-left (is_constant k.table homes a) (is_constant k.table homes b) sides) r.1,
+        value-before b (and-right (is_constant k.table homes a) (is_constant k.table homes b) sides) r.2,
+        r.3,
+      )
   value-before e g r = constant-before e g r
 
   mutual

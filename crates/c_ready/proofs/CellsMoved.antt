@@ -12,10 +12,10 @@ use Rattle.c_types.specs.Layouts.{rounded, size_of, align_of}
 use Rattle.c_types.specs.Cells.{Cell, raw, pointer, mixed, incomplete, Relation, pointer_cells, padded_to, member_cells, longest, union_cells, cells_of_shape, cells_at, begins, holds_pointer}
 use Rattle.c_types.specs.Equality.{cells_of, physically_equal}
 use Rattle.c_types.specs.Flows.{pointer_in_cell, and_then, pointer_at, pointer_in}
+use Rattle.c_types.specs.PointerCounts.{largest_member, of_some, pointers_of_shape}
 use Rattle.c_types.specs.Sound.{IsWellFormed}
 use Rattle.c_types.proofs.Lists.{contains_head, contains_tail}
 use Rattle.c_types.proofs.Cells.{cells_are, length_cells}
-use Rattle.c_typing.specs.Cells.{largest_member, of_some, pointers_of_shape}
 
 abbrev first_of : Cell → ℕ
 first_of (pointer n u zero) = 1

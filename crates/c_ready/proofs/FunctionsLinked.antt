@@ -18,8 +18,8 @@ use Rattle.c_typing.specs.declared.declared.Declared.{Declared}
 use Rattle.c_typing.specs.declared.declared.Declared.TheVariants as declared
 use Rattle.c_typing.specs.Shapes.{is_function_shape}
 use Rattle.c_typing.specs.Scopes.{Name, entry_of}
-use Rattle.c_typing.specs.Declarators.{Outermost}
-use Rattle.c_unit_typing.specs.Units.{Known, Storage, Unstored, AsTypedef, AsExtern, AsStatic, AsAutomatic, storage_of, AgreesWith, unless_linked, IsLinked, IsLinkedObject, IsStaticOrLocal, IsObjectDeclared, IsOrdinaryDeclared, IsNameDeclared, IsDeclarator, IsDefinedOnce, IsInitialised, bytes_of_name, AreDeclarators, IsDeclaration, Around, in_a_loop, in_a_switch, IsDropped, IsTestedOrNone, IsReturned, entering_known, leaving_known, IsStatement, AreBlockItems, IsUnitTyped}
+use Rattle.c_typing.specs.Declarators.{Outermost, name_bytes}
+use Rattle.c_unit_typing.specs.Units.{Known, Storage, Unstored, AsTypedef, AsExtern, AsStatic, AsAutomatic, storage_of, AgreesWith, unless_linked, IsLinked, IsLinkedObject, IsStaticOrLocal, IsObjectDeclared, IsOrdinaryDeclared, IsNameDeclared, IsDeclarator, IsDefinedOnce, IsInitialised, AreDeclarators, IsDeclaration, Around, in_a_loop, in_a_switch, IsDropped, IsTestedOrNone, IsReturned, entering_known, leaving_known, IsStatement, AreBlockItems, IsUnitTyped}
 use Rattle.c_ready.specs.Ready.{IsAlike, AreAlike, IsFunctionDeclared, static_stage}
 use Rattle.c_ready.proofs.ReadyNames.{entry-kept, entry-new}
 use Rattle.c_ready.proofs.Typedefs.{is_for_types, types-are-typedefs, plain-storage, not-typedef}
@@ -155,7 +155,7 @@ module _ (T : Table) where
   name-adds Unstored file h name t k m o = ordinary-adds (is_function_shape (shape_at T t)) file Unstored h name t k m refl o
 
   some-bytes : (a b : Option Identifier) (x y : Identifier) → a ≡ Some x → a ≡ Some y → x.bytes ≡ y.bytes
-  some-bytes a b x y h g = ap bytes_of_name (sym h ∙ g)
+  some-bytes a b x y h g = ap name_bytes (sym h ∙ g)
 
   declarator-linked : (file : Bool) (storage : Storage) → is_for_types storage ≡ false → (base : TypeId) (o : Outermost) (form : TypedForm) (t : TypeId)
       → (k m : Known) → IsDeclarator T file storage base o form t k m → AreLinked k.linked m.linked (typed.Declares form t ∷ [])

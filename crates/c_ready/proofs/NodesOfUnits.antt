@@ -10,11 +10,12 @@ use Rattle.c_tree.specs.TypedParts.{type_of, place_type, specified_type, Made, C
 use Rattle.c_ready.proofs.PointersMade.{made_by, made_by_place, made_by_specifiers, made_by_form, made_by_initialiser, made_by_items, made_by_init_declarators, made_by_declaration, made_by_optional, made_by_statement, made_by_block_items, made_by_unit}
 use Rattle.c_tree.specs.declared.typed_word.Home.{Home}
 use Rattle.c_tree.specs.declared.typed_word.Home.TheVariants as home
+use Rattle.c_typing.specs.Walks.{outermost_of}
 use Rattle.c_typing.specs.Scopes.{Scopes, entering}
 use Rattle.c_typing.specs.Declarators.{Written, Counts, FormMakes, is_derived_core, is_derived}
 use Rattle.c_typing.specs.Typing.{AreSpecifiers, IsForm, AreAlone}
 use Rattle.c_type_order.specs.TypesUsed.{Use, OfType, OfSize, OfMember, types_of, made_in, parts_steps, form_steps, core_steps, used_by, used_by_place, used_by_specifiers, used_by_declarator, used_by_form, AreUses}
-use Rattle.c_unit_typing.specs.Units.{Storage, AreDeclarators, IsDeclaration, IsStatement, AreBlockItems, IsDropped, IsTestedOrNone, IsReturned, entering_known, leaving_known, with_scopes, Around, in_a_loop, in_a_switch, storage_of, outermost_of, IsUnitTyped}
+use Rattle.c_unit_typing.specs.Units.{Storage, AreDeclarators, IsDeclaration, IsStatement, AreBlockItems, IsDropped, IsTestedOrNone, IsReturned, entering_known, leaving_known, with_scopes, Around, in_a_loop, in_a_switch, storage_of, IsUnitTyped}
 use Rattle.c_unit_typing.specs.TypesUsed.{used_by_initialiser, used_by_items, used_by_init_declarators, used_by_declaration, used_by_optional, used_by_statement, used_by_block_items, used_by_unit}
 use Rattle.c_unit_typing.specs.Units as units
 use Rattle.c_unit_typing.specs.Initialisers.{IsInitialiser, AreItems, is_only_text, is_char_array, size_given}

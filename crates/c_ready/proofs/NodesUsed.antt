@@ -10,14 +10,14 @@ use Rattle.c_types.specs.Table.{Table, HasShape, shape_at, is_aggregate_shape}
 use Rattle.c_tree.specs.TypedTree as typed
 use Rattle.c_tree.specs.TypedTree.{TypedExpr, TypedPlace, TypedArguments, TypedTypeName, TypedSpecifiers, TypedSpecifierList, TypedSpecifier, TypedMembers, TypedMemberDeclarators, TypedEnumerators, TypedForm, TypedCore, TypedParts, TypedParameters, TypedDeclared}
 use Rattle.c_tree.specs.TypedParts as made
-use Rattle.c_tree.specs.TypedParts.{place_type, specified_type, name_of, Made, Literal, Address, Copy, made_by_adjusted, made_by_stars}
+use Rattle.c_tree.specs.TypedParts.{place_type, specified_type, name_of, Made, Literal, Address, Copy, made_by_adjusted, made_by_stars, is_void_list}
 use Rattle.c_ready.proofs.PointersMade.{made_by, made_by_place, made_by_arguments, made_by_type_name, made_by_specifiers, made_by_specifier_list, made_by_specifier, made_by_members, made_by_member_declarators, made_by_enumerators, made_by_form, made_by_core, made_by_parts, made_by_parameters, made_by_declared}
 use Rattle.c_tree.specs.declared.typed_word.TypedStar.{TypedStar}
 use Rattle.c_tree.specs.declared.leaf.Word.{Word}
 use Rattle.c_tree.specs.declared.typed_word.Adjusted.{Adjusted}
 use Rattle.c_tree.specs.declared.typed_word.Runtime.{Runtime}
 use Rattle.c_typing.specs.Scopes.{Scopes, entering}
-use Rattle.c_typing.specs.Declarators.{is_void_list, taken_types, Outermost, Written, Counts, Points, StarsMake, MakesArray, MakesFunction, nearest, PartsMake, outside, FormMakes, CoreMakes, DeclaredMakes, ParameterMakes, MakesAdjusted, AdjustedShape, is_derived_declared, is_derived_core, is_derived, is_no_part}
+use Rattle.c_typing.specs.Declarators.{taken_types, Outermost, Written, Counts, Points, StarsMake, MakesArray, MakesFunction, nearest, PartsMake, outside, FormMakes, CoreMakes, DeclaredMakes, ParameterMakes, MakesAdjusted, AdjustedShape, is_derived_declared, is_derived_core, is_derived, is_no_part}
 use Rattle.c_typing.specs.Rules.{number_of_shape, runtime_named}
 use Rattle.c_typing.specs.Typing.{IsTyped, IsPlace, AreTyped, IsTypeName, AreSpecifiers, AreListed, IsSpecifier, AreMembers, AreMemberDeclarators, AreEnumerators, IsForm, IsCore, AreParts, AreParameters, IsDeclared, enumerating}
 use Rattle.c_type_order.specs.TypesUsed.{Use, OfType, OfSize, OfMember, types_of, derived_from, made_in, function_steps, parts_steps, form_steps, core_steps, declared_steps, adjusted_steps, parameter_steps, used_by, used_by_place, used_by_arguments, used_by_type_name, used_by_specifiers, used_by_specifier_list, used_by_specifier, used_by_members, used_by_member_declarators, used_by_enumerators, used_by_declarator, used_by_form, used_by_core, used_by_parts, used_by_parameters, used_by_declared}
@@ -473,7 +473,7 @@ module _ (n : ℕ) where
         let z = number-zero k.table n (shape_at k.table t) h.4.number h.4.declared in let m = members-uses k members h.0 h.1 h.3 r.0 in omega
         (arith, z, m)
     specifier-uses k (typed.Enum at name) s s' h r = omega arith
-    specifier-uses k (typed.Enumeration at name brace all comma) s s' h r = enumerators-uses k all (enumerating name s) s' h.1 r
+    specifier-uses k (typed.Enumeration at name brace all comma) s s' h r = enumerators-uses k all (enumerating name s) h.0 h.1 r
 
     pub members-uses : (k : Stage) (all : TypedMembers) (s s' : Scopes) → AreMembers k.table all s s' → AreReadyMembers k all
         → uses k.table n (used_by_members k.table all) ≤ makes n (made_by_members all)

@@ -13,8 +13,7 @@ use Rattle.c_tree.specs.declared.typed_word.Home.TheVariants as home
 use Rattle.c_tree.specs.declared.typed_word.TypedStar.{TypedStar}
 use Rattle.c_tree.specs.TypedTree as typed
 use Rattle.c_tree.specs.TypedTree.{TypedExpr, TypedPlace, TypedArguments, TypedTypeName, TypedSpecifiers, TypedSpecifierList, TypedSpecifier, TypedMembers, TypedMemberDeclarators, TypedEnumerators, TypedForm, TypedCore, TypedParts, TypedParameters, TypedDeclared}
-use Rattle.c_tree.specs.TypedParts.{Made, Written, Name, Literal, Address, Copy, place_type, specified_type, home_of_form, home_of_core, declared_home, made_by, made_by_place, made_by_arguments, made_by_type_name, made_by_specifiers, made_by_specifier_list, made_by_specifier, made_by_members, made_by_member_declarators, made_by_enumerators, made_by_form, made_by_core, made_by_parts, made_by_parameters, made_by_declared, made_by_adjusted, made_by_stars}
-use Rattle.c_typing.specs.Declarators.{is_void_list}
+use Rattle.c_tree.specs.TypedParts.{Made, Written, Name, Literal, Address, Copy, place_type, specified_type, home_of_form, home_of_core, declared_home, made_by, made_by_place, made_by_arguments, made_by_type_name, made_by_specifiers, made_by_specifier_list, made_by_specifier, made_by_members, made_by_member_declarators, made_by_enumerators, made_by_form, made_by_core, made_by_parts, made_by_parameters, made_by_declared, made_by_adjusted, made_by_stars, is_void_list}
 use Rattle.c_typing.specs.Rules.{IsStringType}
 use Rattle.c_typing.specs.Scopes.{Scopes, entering}
 use Rattle.c_typing.specs.Typing.{IsTyped, IsPlace, AreTyped, IsTypeName, AreSpecifiers, AreListed, IsSpecifier, AreMembers, AreMemberDeclarators, AreEnumerators, IsForm, IsCore, AreParts, AreParameters, IsDeclared, IsHomelessDeclared, DeclaresParameter, enumerating}
@@ -164,7 +163,7 @@ module _ (T : Table) where
     specifier-objects (typed.Tagged which at name t) s s' h = All-nil P
     specifier-objects (typed.Aggregate which at name brace members t) s s' h = members-objects members h.0 h.1 h.3
     specifier-objects (typed.Enum at name) s s' h = All-nil P
-    specifier-objects (typed.Enumeration at name brace all comma) s s' h = enumerators-objects all (enumerating name s) s' h.1
+    specifier-objects (typed.Enumeration at name brace all comma) s s' h = enumerators-objects all (enumerating name s) h.0 h.1
 
     pub members-objects : (all : TypedMembers) (s s' : Scopes) → AreMembers T all s s' → All P (made_by_members all)
     members-objects typed.NoMember s s' h = All-nil P

@@ -2,13 +2,10 @@
 use Rattle.std.proofs.Common.{◌≡◌, Bool, true, false, List, [], ◌∷◌, ◌++◌, map, flat_map, refl, ap, sym, ◌∙◌, if◌then◌else◌}
 use Rattle.std.proofs.lemmas.List.{map-append}
 use Rattle.cc_base.specs.declared.number.TypeId.{TypeId}
-use Rattle.c_lexer.specs.declared.word.Keyword.{Keyword}
-use Rattle.c_lexer.specs.declared.word.Keyword.TheVariants as keyword
 use Rattle.c_tree.specs.TypedTree as typed
-use Rattle.c_tree.specs.TypedTree.{TypedSpecifierList, TypedForm, TypedParameters, TypedBlockItems}
+use Rattle.c_tree.specs.TypedTree.{TypedForm, TypedParameters, TypedBlockItems}
 use Rattle.c_tree.specs.TypedParts as made
 use Rattle.c_tree.specs.TypedParts.{ParameterObject, declared_home, parameter_home, parameter_objects, taken_parameters, parameters_in_form, locals_of}
-use Rattle.c_typing.specs.Declarators
 use Rattle.c_typing.specs.Declarators.{parameter_types, taken_types}
 use Rattle.c_ready.specs.Ready.{Named, parameter_named, made_named, variables_named}
 use Rattle.c_ready.proofs.Basics.{no_true}
@@ -37,18 +34,6 @@ variables-are form t body =
 
 -- types
 
-same-word : (list : TypedSpecifierList) → made.is_void_word list ≡ Declarators.is_void_word list
-same-word (typed.AndSpecifier typed.NoSpecifier (typed.Keyword word)) = by word.keyword
-  where
-    by : (k : Keyword) → made.is_void_keyword k ≡ Declarators.is_void_keyword k
-    by keyword.Void = refl
-    by k = refl
-same-word list = refl
-
-same-void : (ps : TypedParameters) → made.is_void_list ps ≡ Declarators.is_void_list ps
-same-void (typed.AndParameter typed.NoParameter (typed.Specified list t) typed.NotDeclared adjusted u) = same-word list
-same-void ps = refl
-
 object-types : (ps : TypedParameters) → map (λ (p : ParameterObject). p.type) (parameter_objects ps) ≡ parameter_types ps
 object-types typed.NoParameter = refl
 object-types (typed.AndParameter all specifiers d adjusted t) =
@@ -56,7 +41,7 @@ object-types (typed.AndParameter all specifiers d adjusted t) =
     ∙ ap (λ (ts : List TypeId). ts ++ t ∷ []) (object-types all)
 
 pub taken-are : (ps : TypedParameters) → map (λ (p : ParameterObject). p.type) (taken_parameters ps) ≡ taken_types ps
-taken-are ps = by (made.is_void_list ps) ∙ ap (λ (b : Bool). if b then [] else parameter_types ps) (same-void ps)
+taken-are ps = by (made.is_void_list ps)
   where
     by : (b : Bool) → map (λ (p : ParameterObject). p.type) (if b then [] else parameter_objects ps) ≡ (if b then [] else parameter_types ps)
     by true = refl

@@ -9,29 +9,29 @@ use Rattle.c_types.specs.declared.shape.TypeShape.{TypeShape}
 use Rattle.c_types.specs.declared.shape.TypeShape.TheVariants.{Function, Void, Integer, Pointer, Array, Struct, Union}
 use Rattle.c_types.specs.Table.{Table, HasShape, IsType, named_by, shape_at}
 use Rattle.c_types.specs.Sound.{IsWellFormed}
-use Rattle.c_tree.specs.declared.leaf.Identifier.{Identifier}
 use Rattle.c_tree.specs.declared.typed_word.Home.{Home}
 use Rattle.c_tree.specs.declared.typed_word.Home.TheVariants as home
 use Rattle.c_tree.specs.TypedTree as typed
 use Rattle.c_tree.specs.TypedTree.{TypedSpecifiers, TypedForm, TypedCore, TypedParts, TypedParameters, TypedDeclared, TypedBlockItems, TypedTranslationUnit, TypedDeclarator}
-use Rattle.c_tree.specs.TypedParts.{specified_type, DefinedFunction, Name, made_by, made_by_specifiers, made_by_form, made_by_core, made_by_parts, made_by_parameters, made_by_declared, made_by_adjusted, made_by_stars, home_of_form, made_by_declaration, made_by_block_items, declared_home, ParameterObject, parameter_home, parameter_objects, parameters_in_form, parameters_in_core, nearest_parameters, unless_starred, locals_of, declared_type}
+use Rattle.c_tree.specs.TypedParts.{specified_type, DefinedFunction, Name, made_by, made_by_specifiers, made_by_form, made_by_core, made_by_parts, made_by_parameters, made_by_declared, made_by_adjusted, made_by_stars, home_of_form, made_by_declaration, made_by_block_items, declared_home, ParameterObject, parameter_home, parameter_objects, parameters_in_form, parameters_in_core, nearest_parameters, unless_starred, locals_of, declared_type, is_void_list}
 use Rattle.c_tree.specs.declared.typed_word.TypedStar.{TypedStar}
 use Rattle.c_typing.specs.declared.declared.Declared.{Declared}
 use Rattle.c_typing.specs.declared.declared.Declared.TheVariants as declared
 use Rattle.c_typing.specs.Scopes as scopes
-use Rattle.c_typing.specs.Scopes.{Level, Scopes, empty_level, entering, without_innermost, with_name}
-use Rattle.c_typing.specs.Declarators.{is_void_list, Written, taken_types, parameter_types, is_result_shape}
-use Rattle.c_typing.specs.Typing.{IsForm, IsCore, AreParts, AreParameters, IsTakenType}
+use Rattle.c_typing.specs.Scopes.{Level, Scopes, entering, without_innermost, innermost}
+use Rattle.c_typing.specs.Declarators.{Written, taken_types, parameter_types, is_result_shape}
+use Rattle.c_typing.specs.Typing.{IsForm, IsCore, AreParts, AreParameters, IsTakenType, DeclaresParameter}
 use Rattle.c_typing.specs.Shapes.{IsScalar, IsVoid, is_scalar_shape}
 use Rattle.c_unit_typing.specs.Units as units
-use Rattle.c_unit_typing.specs.Units.{with_scopes, leaving_known, storage_of, declares_parameters, unless_pointer, parameters_of_form, parameters_of_core, parameter_declared, declared_identifier, with_parameters, IsDefinition, IsUnitTyped, Around, Storage, AsTypedef, AsExtern, AsStatic, AsAutomatic, Unstored}
+use Rattle.c_unit_typing.specs.Units.{with_scopes, leaving_known, storage_of, declares_parameters, unless_pointer, parameters_of_form, parameters_of_core, IsDefinition, IsUnitTyped, Around, going_on, Storage, AsTypedef, AsExtern, AsStatic, AsAutomatic, Unstored}
 use Rattle.c_unit_typing.proofs.FunctionParameters.{function-with}
 use Rattle.src_machine.specs.Names.{declarators_in_declaration, declarators_in_items}
 use Rattle.c_ready.specs.Ready.{Named, parameter_named, made_named, variables_named, parameters_listed}
 use Rattle.c_ready.proofs.Contexts.{IsReadyHome, IsReadyDeclaration, AreReadyBlockItems, Context, unread, IsNode, IsWhole, IsObjectOf, AreReadySpecifiers, IsReadyForm}
-use Rattle.c_ready.proofs.Walked.{IsLevelOf, AreDeclared, IsOuter, declared-of, entered-of, outer-of, outer-same, same-outer, both-outer}
+use Rattle.c_ready.proofs.Walked.{innermost-of, IsLevelOf, AreDeclared, declared-of, entered-of, outer-of}
+use Rattle.c_ready.proofs.Walked
 use Rattle.c_ready.proofs.Suits.{scalar-in}
-use Rattle.c_ready.proofs.ReadyParts.{Known, AreDefinitions, IsMade, AreMade, ml, mr, specified-in, HasNoNames, void-names, scalar-whole}
+use Rattle.c_ready.proofs.ReadyParts.{Known, values, AreDefinitions, IsMade, AreMade, ml, mr, specified-in, HasNoNames, void-names, scalar-whole}
 use Rattle.c_ready.proofs.ReadyUnits.{In, Last, Fixed, IsGrown, IsLinkedSeen, grown-same, both-grown, last-left, none, AreListed}
 use Rattle.c_ready.proofs.Typedefs.{unless_typedef}
 use Rattle.c_ready.proofs.ParameterObjects.{objects_of, variables-are}
@@ -175,45 +175,38 @@ objects-made k void (typed.AndParameter all specifiers d adjusted t) none s s' h
     (objects-made k void all (λ q. (none q).0) s h.0 h.3 (ml k x y (ml k (x ++ y) z m3)))
     (parameter-object k void d (λ q. (none q).1) t h.2 h.8 (mr k (x ++ y) z m3)))
 
--- the scope of a body, which begins with the parameters
+-- the scope of a body
 
-parameter_declared-outer : (name : Option Identifier) (h : Home) (t : TypeId) (s : Scopes) → IsOuter s (parameter_declared name h t s)
-parameter_declared-outer None h t s = same-outer s s refl
-parameter_declared-outer (Some name) (home.Parameter n) t s =
-    record { outer = outer-same (with_name name.bytes (declared.Object t n)) s.levels; defined = refl; members = λ i x. refl }
-parameter_declared-outer (Some name) home.None t s = same-outer s s refl
-parameter_declared-outer (Some name) (home.Static n) t s = same-outer s s refl
-parameter_declared-outer (Some name) (home.Local n) t s = same-outer s s refl
-parameter_declared-outer (Some name) (home.Known n) t s = same-outer s s refl
+names-of-form : (k : Context) → k.runs ≡ true → (form : TypedForm) (t : TypeId) (s s' : Scopes) → DeclaresParameter (typed.DeclaredBy form) t s s'
+    → All (λ (o : Named). IsObjectOf true k o.0 o.1) (parameter_named (record { home = parameter_home (home_of_form form); type = t }))
+    → AreDeclared k.table (Known k) s.levels → AreDeclared k.table (Known k) s'.levels
+names-of-form k r (typed.Form stars (typed.Names name (home.Parameter n)) parts) t s s' h all d =
+    subst (λ (q : Scopes). AreDeclared k.table (Known k) q.levels) (sym h.after)
+    (declared-of k.table (Known k) name.bytes (declared.Object t n) s.levels
+    (subst (λ (b : Bool). IsObjectOf b k n t) (sym r) (All-head (λ (o : Named). IsObjectOf true k o.0 o.1) (n, t) [] all)) d)
+names-of-form k r (typed.Form stars (typed.Names name other) parts) t s s' h all d = absurd h
+names-of-form k r (typed.Form stars typed.Unnamed parts) t s s' h all d = subst (λ (q : Scopes). AreDeclared k.table (Known k) q.levels) (sym h) d
+names-of-form k r (typed.Form stars (typed.Nested at form) parts) t s s' h all d = names-of-form k r form t s s' h all d
 
-with_parameters-outer : (ps : TypedParameters) (s : Scopes) → IsOuter s (with_parameters ps s)
-with_parameters-outer typed.NoParameter s = same-outer s s refl
-with_parameters-outer (typed.AndParameter ps specifiers one adjusted t) s =
-    both-outer (with_parameters-outer ps s) (parameter_declared-outer (declared_identifier one) (declared_home one) t (with_parameters ps s))
-
-parameter_declared-in : (k : Context) → k.runs ≡ true → (name : Option Identifier) (h : Home) (t : TypeId) (s : Scopes)
-    → All (λ (o : Named). IsObjectOf true k o.0 o.1) (parameter_named (record { home = parameter_home h; type = t }))
-    → AreDeclared k.table (Known k) s.levels → AreDeclared k.table (Known k) (parameter_declared name h t s).levels
-parameter_declared-in k r None h t s all d = d
-parameter_declared-in k r (Some name) (home.Parameter n) t s all d =
-    declared-of k.table (Known k) name.bytes (declared.Object t n) s.levels
-    (subst (λ (b : Bool). IsObjectOf b k n t) (sym r) (All-head (λ (o : Named). IsObjectOf true k o.0 o.1) (n, t) [] all)) d
-parameter_declared-in k r (Some name) home.None t s all d = d
-parameter_declared-in k r (Some name) (home.Static n) t s all d = d
-parameter_declared-in k r (Some name) (home.Local n) t s all d = d
-parameter_declared-in k r (Some name) (home.Known n) t s all d = d
-
-with_parameters-in : (k : Context) → k.runs ≡ true → (ps : TypedParameters) (s : Scopes)
+-- the scope that a list of parameters leaves
+parameters-in : (k : Context) → k.runs ≡ true → (void : Bool) (ps : TypedParameters) (s s' : Scopes) → AreParameters k.table void ps s s'
     → All (λ (o : Named). IsObjectOf true k o.0 o.1) (objects_of ps)
-    → AreDeclared k.table (Known k) s.levels → AreDeclared k.table (Known k) (with_parameters ps s).levels
-with_parameters-in k r typed.NoParameter s all d = d
-with_parameters-in k r (typed.AndParameter ps specifiers one adjusted t) s all d =
+    → AreDeclared k.table (Known k) s.levels → AreDeclared k.table (Known k) s'.levels
+parameters-in k r void typed.NoParameter s s' h all d = subst (λ (q : Scopes). AreDeclared k.table (Known k) q.levels) (sym h) d
+parameters-in k r void (typed.AndParameter ps specifiers one adjusted t) s s' h all d =
     let P : Named → Type 0 = λ o. IsObjectOf true k o.0 o.1 in
     let own : ParameterObject = record { home = parameter_home (declared_home one); type = t } in
     let both = subst (All P) (flat-append parameter_named (parameter_objects ps) own) all in
-    parameter_declared-in k r (declared_identifier one) (declared_home one) t (with_parameters ps s)
-    (all-right P (objects_of ps) (parameter_named own) both)
-    (with_parameters-in k r ps s (all-left P (objects_of ps) (parameter_named own) both) d)
+    let before = parameters-in k r void ps s h.0 h.3 (all-left P (objects_of ps) (parameter_named own) both) d in
+    let behind = (Walked.declared-kept k.table (Known k) (values k) one h.1 h.2 h.5).names
+    ((Walked.specifiers-kept k.table (Known k) (values k) specifiers h.0 h.1 h.4).names before) in
+    by one h.9 (all-right P (objects_of ps) (parameter_named own) both) behind
+  where
+    by : (x : TypedDeclared) → DeclaresParameter x t h.2 s'
+        → All (λ (o : Named). IsObjectOf true k o.0 o.1) (parameter_named (record { home = parameter_home (declared_home x); type = t }))
+        → AreDeclared k.table (Known k) h.2.levels → AreDeclared k.table (Known k) s'.levels
+    by typed.NotDeclared g all d = subst (λ (q : Scopes). AreDeclared k.table (Known k) q.levels) (sym g) d
+    by (typed.DeclaredBy form) g all d = names-of-form k r form t h.2 s' g all d
 
 -- Functions and units
 
@@ -399,21 +392,19 @@ module _ (base : Context) (w : IsWellFormed base.table) (definitions : AreDefini
       let second = declarator-step k fixed-file true (λ e. absurd (true≢false e)) (storage_of specifiers) (specified_type specifiers) Written form t
       n h.declared
       (specified-in base.table specifiers m.scopes h.before h.specified) h.declares in
-      let ps = h.parameters in
-      let entered = entering h.declared.scopes in
-      let start : units.Known = record h.declared { scopes = with_parameters ps entered; defined = h.declared.defined ++ h.name.bytes ∷ [] } in
-      let begins = with_parameters-outer ps entered in
+      let level = innermost h.inside.levels in
+      let start : units.Known = record h.declared { scopes = going_on level h.declared.scopes; defined = h.declared.defined ++ h.name.bytes ∷ [] }
+      in
       let result = result-in base.table w t h.result h.types h.shape in
       let around : Around = record { result = h.result; in_loop = false; breakable = false } in
       let third = items-step (block_of base) fixed-block around None body start h.after (result, refl) h.statements in
-      let stays : IsOuter entered h.after.scopes = both-outer begins third.grown.stays in
-      let leaves : without_innermost h.after.scopes.levels ≡ h.declared.scopes.levels = stays.outer ∙ outer-of h.declared.scopes.levels empty_level
-      in
+      let leaves : without_innermost h.after.scopes.levels ≡ h.declared.scopes.levels = third.grown.stays.outer ∙ outer-of h.declared.scopes.levels
+      level in
       let whole : IsGrown h.declared (leaving_known h.after) = record {
         stays = record {
           outer = ap (λ (ls : List Level). without_innermost ls) leaves;
-          defined = stays.defined;
-          members = stays.members;
+          defined = third.grown.stays.defined;
+          members = third.grown.stays.members;
         };
         linked = third.grown.linked;
       } in
@@ -427,18 +418,21 @@ module _ (base : Context) (w : IsWellFormed base.table) (definitions : AreDefini
             let r1 = first.ready i l2 made.specified (All-nil (Contains k.declarators)) in
             let r2 = second.ready r1.1 l3 made.formed (listed-one (Contains k.declarators) (storage_of specifiers) (typed.Declares form t) made.own)
             in
+            let ps = h.parameters in
             let has = given (form-has base.table k ps form t None h.before h.declares.inside h.written h.declares.parts made.formed) in
-            let objects = objects-made k (is_void_list ps) ps (void-names ps) has.before has.behind has.are has.made in
+            let objects = objects-made k (is_void_list ps) ps (void-names ps) (entering h.before) h.inside h.listed has.made in
             let same = form-same base.table k ps form None typed.NoParameter (λ x. absurd (none-some ps x)) h.written in
             let listed : All (Contains b.variables) (objects_of ps) =
             subst (λ (qs : TypedParameters). All (Contains b.variables) (objects_of qs)) same
             (all-left (Contains b.variables) (objects_of (parameters_in_form form typed.NoParameter)) (map made_named (locals_of body))
             (subst (All (Contains b.variables)) (variables-are form t body) (All-contains_itself b.variables))) in
-            let names = with_parameters-in b refl ps entered (objects-with b (objects_of ps) objects listed)
-            (entered-of b.table (Known b) h.declared.scopes.levels (levels-in base f h.declared.scopes.levels r2.1.names)) in
+            let names = parameters-in b refl (is_void_list ps) ps (entering h.before) h.inside h.listed
+            (objects-with b (objects_of ps) objects listed)
+            (entered-of b.table (Known b) h.before.levels (levels-in base f h.before.levels r1.1.names)) in
             let in3 : In b start = record {
-              names = names;
-              defined = begins.defined ∙ r2.1.defined;
+              names = All-push (IsLevelOf b.table (Known b)) h.declared.scopes.levels level (levels-in base f h.declared.scopes.levels r2.1.names)
+                  (innermost-of b.table (Known b) h.inside.levels names);
+              defined = r2.1.defined;
               linked = All-weaker (λ (e : scopes.Name × Declared). IsLinkedSeen k e.0 e.1) (λ (e : scopes.Name × Declared). IsLinkedSeen b e.0 e.1)
                   (λ e q. linked-in-body base f e.0 e.1 q) h.declared.linked r2.1.linked;
               statics = r2.1.statics;
@@ -449,7 +443,7 @@ module _ (base : Context) (w : IsWellFormed base.table) (definitions : AreDefini
             let function = function-with base.table h.declares.inside form (specified_type specifiers) t ps h.written h.declares.type in
             let one = same-result h.types (taken_types ps) h.result function.0 (sym h.shape.1 ∙ function.1.1) in
             let types = subst (λ (r : TypeId). HasShape base.table t (Function (taken_types ps) r)) (sym one) function.1 in
-            let scalars = taken-scalars k ps (is_void_list ps) refl has.before has.behind has.are in (
+            let scalars = taken-scalars k ps (is_void_list ps) refl (entering h.before) h.inside h.listed in (
               (
                 r1.0,
                 r2.0.0,

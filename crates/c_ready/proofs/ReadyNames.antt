@@ -17,7 +17,7 @@ use Rattle.c_typing.specs.Shapes.{is_function_shape}
 use Rattle.c_typing.specs.Scopes as scopes
 use Rattle.c_typing.specs.Scopes.{Scopes, entry_of, with_name, here, declaring}
 use Rattle.c_unit_typing.specs.Units as units
-use Rattle.c_unit_typing.specs.Units.{bytes_of_name, with_scopes, Storage, AsTypedef, AsExtern, AsStatic, AsAutomatic, Unstored, AgreesWith, unless_here, unless_linked, IsLinkedHome, IsLinked, IsLinkedObject, IsBlockObject, IsStaticOrLocal, IsTypedefDeclared, IsOrdinaryDeclared, IsNameDeclared}
+use Rattle.c_unit_typing.specs.Units.{with_scopes, Storage, AsTypedef, AsExtern, AsStatic, AsAutomatic, Unstored, AgreesWith, unless_here, unless_linked, IsLinkedHome, IsLinked, IsLinkedObject, IsBlockObject, IsStaticOrLocal, IsTypedefDeclared, IsOrdinaryDeclared, IsNameDeclared}
 use Rattle.c_unit_typing.specs.Initialisers.{is_among, with_home}
 use Rattle.c_ready.proofs.Typedefs.{unless_typedef}
 use Rattle.c_ready.proofs.Contexts.{IsObjectDeclared, IsFunctionDeclared, IsStaticNamed, IsReadyHome, Context, IsNode, IsWhole, IsObjectOf}

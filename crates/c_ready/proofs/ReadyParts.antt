@@ -20,7 +20,7 @@ use Rattle.c_tree.specs.declared.typed_word.Side.{Side}
 use Rattle.c_tree.specs.declared.typed_word.Side.TheVariants as side
 use Rattle.c_tree.specs.TypedTree as typed
 use Rattle.c_tree.specs.TypedTree.{TypedExpr, TypedPlace, TypedArguments, TypedSpecifiers, TypedMembers, TypedMemberDeclarators, TypedForm, TypedCore, TypedParts, TypedParameters, TypedDeclared}
-use Rattle.c_tree.specs.TypedParts.{type_of, specified_type, declared_type, pointer_side, name_of, DefinedFunction, Made, Name, Literal, Address, Copy, made_by_form, made_by_parts, made_by_declared, made_by_stars}
+use Rattle.c_tree.specs.TypedParts.{type_of, specified_type, declared_type, pointer_side, name_of, DefinedFunction, Made, Name, Literal, Address, Copy, made_by_form, made_by_parts, made_by_declared, made_by_stars, is_void_list}
 use Rattle.c_tree.specs.TypedParts as made
 use Rattle.c_tree.specs.declared.typed_word.TypedStar.{TypedStar}
 use Rattle.c_tree.specs.declared.leaf.Word.{Word}
@@ -28,13 +28,12 @@ use Rattle.c_typing.specs.declared.declared.Declared.{Declared}
 use Rattle.c_typing.specs.declared.declared.Declared.TheVariants as declared
 use Rattle.c_typing.specs.Shapes.{IsScalar, is_scalar_shape, is_void_shape}
 use Rattle.c_typing.specs.Scopes as scopes
-use Rattle.c_typing.specs.Scopes.{Level, Scopes, entry_of, place_among, members_named, is_no_list, is_complete_at, is_complete_shape_at}
+use Rattle.c_typing.specs.Scopes.{Level, Scopes, entry_of, place_among, members_named, is_complete_at, is_complete_shape_at}
 use Rattle.c_typing.specs.Integers.{assigning}
 use Rattle.c_typing.specs.Conversions.{IsPlain}
-use Rattle.c_typing.specs.Declarators.{is_void_list, member_names, member_types, declarator_names, declarator_types, name_bytes, Outermost, Written, Counts, Points, StarsMake, MakesArray, MakesFunction, nearest, PartsMake, outside, FormMakes, CoreMakes, DeclaredMakes}
+use Rattle.c_typing.specs.Declarators.{member_names, member_types, declarator_names, declarator_types, name_bytes, Outermost, Written, Counts, Points, StarsMake, MakesArray, MakesFunction, nearest, PartsMake, outside, FormMakes, CoreMakes, DeclaredMakes}
 use Rattle.c_typing.specs.Rules.{number_of_shape, HasMember, is_steppable_shape, IsPointer, other_side, listed_arguments, IsUpdate, IsIntegerUpdate, IsPointerUpdate, IsFunctionName}
 use Rattle.c_typing.specs.Typing.{AreSpecifiers, IsTakenType, DeclaresParameter, EndsAggregate}
-use Rattle.c_unit_typing.specs.Units.{bytes_of_name}
 use Rattle.c_ready.specs.Ready.{IsAlike}
 use Rattle.c_ready.proofs.Contexts.{IsFunctionDeclared, Context, unread, IsNode, IsWhole, IsObjectOf, IsFunctionNamed, IsPointerToWhole, IsMember, IsStepped, IsUpdated, MayCall, IsLiteral}
 use Rattle.c_ready.proofs.Walked.{IsLevelOf, AreDeclared, IsOuter, IsWalked, declared-of, seen-of}
@@ -44,7 +43,7 @@ use Rattle.c_ready.proofs.Basics.{no_true, not_true, eq_from, bytes-same, all-le
 -- What is known of names
 
 abbrev pub defined_in : Context → List scopes.Name
-defined_in k = map (λ (f : DefinedFunction). bytes_of_name (name_of f.declarator)) k.functions
+defined_in k = map (λ (f : DefinedFunction). name_bytes (name_of f.declarator)) k.functions
 
 pub record IsFunctionSeen (k : Context) (name : scopes.Name) (t : TypeId) : Type 0 where
   pub told : IsFunctionDeclared k name t
@@ -55,7 +54,7 @@ pub record IsFunctionSeen (k : Context) (name : scopes.Name) (t : TypeId) : Type
 -- each definition is of what has linkage
 abbrev pub AreDefinitions : Context → Type 0
 AreDefinitions k = (i : ℕ) (d : DefinedFunction) → slice_get k.functions i ≡ Some d
-    → (first : TypeId) × (entry_of k.linked (bytes_of_name (name_of d.declarator)) ≡ Some (declared.Function first))
+    → (first : TypeId) × (entry_of k.linked (name_bytes (name_of d.declarator)) ≡ Some (declared.Function first))
     × IsAlike k.table first (declared_type d.declarator)
 
 abbrev pub Known : Context → scopes.Name → Declared → Type 0
@@ -72,21 +71,21 @@ pub record At (k : Context) (s s' : Scopes) : Type 0 where
   pub names : AreDeclared k.table (Known k) s.levels
   pub defined : s.defined ≡ defined_in k
   pub followed : (t : TypeId) → is_complete_at k.table s' t ≡ true → IsComplete k.table t
-  pub lengths : (t : TypeId) (n : ℕ) → number_of_shape (shape_at k.table t) ≡ Some n → is_no_list (members_named s' n) ≡ false
+  pub lengths : (t : TypeId) (n : ℕ) → number_of_shape (shape_at k.table t) ≡ Some n → is_empty (members_named s' n) ≡ false
       → length (members_named s' n) ≡ length (members_at k.table t)
   pub calls : MayCall k
   pub definitions : AreDefinitions k
 
-pub nonempty-same : (a b : List scopes.Name) → a ≡ b → is_no_list b ≡ false → is_no_list a ≡ false
-nonempty-same a b h x = ap (λ (xs : List scopes.Name). is_no_list xs) h ∙ x
+pub nonempty-same : (a b : List scopes.Name) → a ≡ b → is_empty b ≡ false → is_empty a ≡ false
+nonempty-same a b h x = ap (λ (xs : List scopes.Name). is_empty xs) h ∙ x
 
 pub shape-later : (m s' : Scopes) → IsOuter m s' → (w : Bool) (x : TypeShape) → is_complete_shape_at m w x ≡ true → is_complete_shape_at s' w x ≡ true
 shape-later m s' o w (Struct n) h =
-    ap not (nonempty-same (members_named s' n) (members_named m n) (o.members n (not_true (is_no_list (members_named m n)) h))
-    (not_true (is_no_list (members_named m n)) h))
+    ap not (nonempty-same (members_named s' n) (members_named m n) (o.members n (not_true (is_empty (members_named m n)) h))
+    (not_true (is_empty (members_named m n)) h))
 shape-later m s' o w (Union n) h =
-    ap not (nonempty-same (members_named s' n) (members_named m n) (o.members n (not_true (is_no_list (members_named m n)) h))
-    (not_true (is_no_list (members_named m n)) h))
+    ap not (nonempty-same (members_named s' n) (members_named m n) (o.members n (not_true (is_empty (members_named m n)) h))
+    (not_true (is_empty (members_named m n)) h))
 shape-later m s' o w Void h = h
 shape-later m s' o w (Integer bytes signed) h = h
 shape-later m s' o w (Pointer n t) h = h
@@ -148,9 +147,9 @@ at-unread k s s' a =
 
 -- Functions
 
-defined_at : (fs : List DefinedFunction) (i : ℕ) → i < length (map (λ (f : DefinedFunction). bytes_of_name (name_of f.declarator)) fs)
+defined_at : (fs : List DefinedFunction) (i : ℕ) → i < length (map (λ (f : DefinedFunction). name_bytes (name_of f.declarator)) fs)
     → (d : DefinedFunction) × (slice_get fs i ≡ Some d) ×
-    (get_or (map (λ (f : DefinedFunction). bytes_of_name (name_of f.declarator)) fs) i [] ≡ bytes_of_name (name_of d.declarator))
+    (get_or (map (λ (f : DefinedFunction). name_bytes (name_of f.declarator)) fs) i [] ≡ name_bytes (name_of d.declarator))
 defined_at [] i h = absurd (omega (arith, h))
 defined_at (f ∷ fs) zero h = (f, refl, refl)
 defined_at (f ∷ fs) (suc i) h = defined_at fs i (omega (arith, h))
@@ -170,7 +169,7 @@ function-named k s s' name number n t a h =
     let at = position-Some (bytes_eq name.bytes) (defined_in k) number []
     (subst (λ (ns : List scopes.Name). place_among ns name.bytes ≡ Some number) a.defined h.defined) in
     let d = defined_at k.functions number at.0 in
-    let named : bytes_of_name (name_of d.0.declarator) ≡ name.bytes = sym (bytes-same name.bytes (get_or (defined_in k) number []) at.1 ∙ d.2) in
+    let named : name_bytes (name_of d.0.declarator) ≡ name.bytes = sym (bytes-same name.bytes (get_or (defined_in k) number []) at.1 ∙ d.2) in
     let own = a.definitions number d.0 d.1 in
     let first = same_function seen.first own.0 (sym seen.linked ∙ (ap (λ (x : scopes.Name). entry_of k.linked x) (sym named) ∙ own.1)) in
     record {
@@ -205,7 +204,7 @@ parts-aggregate P (Pointer m t) ms n e h = absurd (none-some n e)
 parts-aggregate P (Array t m) ms n e h = absurd (none-some n e)
 parts-aggregate P (Function ps r) ms n e h = absurd (none-some n e)
 
-some_list : {A : Type 0} (xs : List A) (i : ℕ) → i < length xs → is_no_list xs ≡ false
+some_list : {A : Type 0} (xs : List A) (i : ℕ) → i < length xs → is_empty xs ≡ false
 some_list [] i h = absurd (omega (arith, h))
 some_list (x ∷ xs) i h = refl
 

@@ -4,9 +4,12 @@ use Rattle.std.proofs.lemmas.List.Elements.{All-nil, All-cons, All-contains}
 use Rattle.cc_base.specs.declared.place.Place.{Place}
 use Rattle.cc_base.specs.declared.number.NodeId.{NodeId}
 use Rattle.cc_base.specs.declared.number.TypeId.{TypeId}
+use Rattle.integers.specs.Arithmetic.{int, unsigned_long}
 use Rattle.c_types.specs.declared.shape.TypeShape.TheVariants.{Pointer, Function, Struct}
 use Rattle.c_types.specs.Table.{Table, members_at}
 use Rattle.c_types.specs.Calls.{basic_table, basic_entry}
+use Rattle.c_types.specs.Layouts.{layout_of}
+use Rattle.c_types.specs.Sameness.{IsSameType, is_same_type}
 use Rattle.c_lexer.specs.declared.number.IntegerType.TheVariants as constant
 use Rattle.c_lexer.specs.declared.word.Keyword.{Keyword}
 use Rattle.c_lexer.specs.declared.word.Keyword.TheVariants as keyword
@@ -16,10 +19,10 @@ use Rattle.c_tree.specs.declared.typed_word.Conversion.TheVariants as conversion
 use Rattle.c_tree.specs.declared.typed_word.Home.{Home}
 use Rattle.c_tree.specs.declared.typed_word.Home.TheVariants as home
 use Rattle.c_tree.specs.TypedTree as typed
-use Rattle.c_tree.specs.TypedTree.{TypedExpr, TypedPlace, TypedSpecifiers, TypedSpecifierList, TypedForm, TypedParameters, TypedBlockItems, TypedTranslationUnit}
-use Rattle.c_tree.specs.TypedParts.{DefinedFunction, static_initialisers}
+use Rattle.c_tree.specs.TypedTree.{TypedExpr, TypedPlace, TypedTypeName, TypedSpecifiers, TypedSpecifierList, TypedDeclarator, TypedForm, TypedParameters, TypedBlockItems, TypedTranslationUnit}
+use Rattle.c_tree.specs.TypedParts.{DefinedFunction, static_initialisers, made_by_unit, nodes_made}
 use Rattle.c_unit_typing.proofs.TypedRow
-use Rattle.c_ready.specs.Ready.{Named, Stage, unread, body_stage, static_stage, variables_named, homes_of, member_nodes, IsReady, IsReadyPlace, IsReadyUnit, IsMember, IsWritten}
+use Rattle.c_ready.specs.Ready.{Named, Stage, unread, body_stage, static_stage, variables_named, homes_of, member_nodes, IsReady, IsReadyPlace, IsReadyReturn, IsReadyUnit, IsMember, IsWritten}
 use Rattle.c_ready.proofs.ReadyUnit.{well-typed-ready}
 
 abbrev type : ℕ → TypeId
@@ -218,12 +221,31 @@ none-written w = let none : w.there.0 < 0 = w.there.1 in omega (arith, none)
 p-initialised : static_initialisers unit ≡ record { home = node 4; type = type 13; place = at 1; initialiser = typed.Value address } ∷ []
 p-initialised = refl
 
+-- the types that the two declarations of `p` name are one type with two numbers
+p-alike : IsSameType table (type 12) (type 13)
+unfolding is_same_type
+p-alike = refl
+
+-- `p`, named with the type of its second declaration, is the object that the first one made, whose type has another number
+p-ready : IsReadyPlace static (typed.Variable (name (codes "p")) (node 4) (type 13))
+p-ready = (
+  lit< tt,
+  (lit< tt, refl),
+  inr (record {
+    first = type 12;
+    made = (2, lit< tt, refl);
+    alike = inr p-alike;
+    declared = (typed.Declares (pointed 5 (home.Known (node 4)) (codes "p")) (type 13), (3, lit< tt, refl), refl, refl);
+    begun = (typed.Declares (pointed 3 (home.Static (node 4)) (codes "p")) (type 12), (2, lit< tt, refl), refl, refl);
+  }),
+)
+
 abbrev IsOther : Named → Type 0
 IsOther o = o.0.0 ≢ 3
 
--- what is no object is not ready where something runs
-none-ready : (r : IsReadyPlace inside (typed.Variable (name (codes "a")) (node 3) (type 5))) → ⊥
-none-ready r = elim r.2 [
+-- node 3 is that of the first pointer type of `p`: no object has it, of any type
+no-object : (t : TypeId) → IsReadyPlace inside (typed.Variable (name (codes "p")) (node 3) t) → ⊥
+no-object t r = elim r.2 [
   | inl local ↦ let none : local.0 < 0 = local.1 in omega (arith, none)
   | inr kept ↦ All-contains IsOther inside.statics (node 3, kept.first)
       (All-cons IsOther (node 1, type 11) ((node 2, type 5) ∷ (node 4, type 12) ∷ (node 7, type 5) ∷ []) (omega arith)
@@ -232,9 +254,98 @@ none-ready r = elim r.2 [
       (All-cons IsOther (node 7, type 5) [] (omega arith) (All-nil IsOther))))) kept.made refl
 ]
 
--- `int main(void){return sizeof(int(*)(int a,int b[sizeof a]));}`: the parameter of a prototype is no object, and is named where nothing runs
-a-unread : IsReadyPlace (unread inside) (typed.Variable (name (codes "a")) (node 3) (type 5))
+-- `int main(void){return sizeof(int(*)(int a,int b[sizeof a]));}`: a parameter of a prototype is no object, and is named where nothing runs
+
+-- `int(void)`, the type of `b`, that of the function, and the pointer to it
+abbrev sized_table : Table
+sized_table =
+    basic_table ++ basic_entry (Function [] (type 5)) ∷ basic_entry (Pointer (node 3) (type 5))
+    ∷ basic_entry (Function (type 5 ∷ type 10 ∷ []) (type 5)) ∷ basic_entry (Pointer (node 0) (type 11)) ∷ []
+
+abbrev a_place : TypedPlace
+a_place = typed.Variable (name (codes "a")) (node 1) (type 5)
+
+abbrev b_form : TypedForm
+b_form = typed.Form [] (typed.Names (name (codes "b")) (home.Parameter (node 2)))
+    (typed.AndSizedArray typed.NoPart (at 1) [] (typed.SizeOfPlace (at 1) a_place 4 (type 8)) 4)
+
+abbrev a_and_b : TypedParameters
+a_and_b =
+    typed.AndParameter
+    (typed.AndParameter typed.NoParameter (ints []) (typed.DeclaredBy (plain (home.Parameter (node 1)) (codes "a"))) None (type 5))
+    (ints []) (typed.DeclaredBy b_form) (Some (record { node = node 3; place = at 1 })) (type 10)
+
+abbrev to_function : TypedTypeName
+to_function = typed.Named (ints []) (typed.DeclaredBy (typed.Form []
+    (typed.Nested (at 1) (typed.Form (record { star = record { place = at 1; qualifiers = [] }; node = node 0 } ∷ []) typed.Unnamed typed.NoPart))
+    (typed.AndFunction typed.NoPart (at 1) a_and_b))) (type 12)
+
+abbrev sized : TypedExpr
+sized = typed.SizeOfType (at 1) (at 1) to_function 8 (type 8)
+
+-- the size, as an int
+abbrev returned : TypedExpr
+returned = typed.Convert conversion.IntegerToInteger (at 1) (type 5) sized
+
+abbrev sized_body : TypedBlockItems
+sized_body = typed.AndStatement typed.NoBlockItem (typed.Return (at 1) (Some returned))
+
+abbrev sized_main : TypedDeclarator
+sized_main = typed.Declares (without_parameters (codes "main")) (type 9)
+
+abbrev sized_unit : TypedTranslationUnit
+sized_unit = typed.AndFunctionBody typed.NoExternal (ints []) sized_main (at 1) sized_body
+
+abbrev sized_inside : Stage
+sized_inside = body_stage (static_stage sized_table sized_unit) (record { declarator = sized_main; body = sized_body })
+
+-- four nodes are made: of the `*`, of `a`, of `b`, and of the pointer that `b` is
+sized-nodes : nodes_made (made_by_unit sized_unit) ≡ node 0 ∷ node 1 ∷ node 2 ∷ node 3 ∷ []
+sized-nodes = refl
+
+-- there is no object
+sized-homes : homes_of sized_unit ≡ []
+sized-homes = refl
+
+-- `a` is named where nothing runs
+a-unread : IsReadyPlace (unread sized_inside) a_place
 a-unread = (lit< tt, (lit< tt, refl))
+
+-- where something runs it would not be ready, since it is no object
+a-unready : IsReady sized_inside (typed.Read a_place) → ⊥
+a-unready r = elim r.0.2 [
+  | inl local ↦ let none : local.0 < 0 = local.1 in omega (arith, none)
+  | inr kept ↦ let none : kept.made.0 < 0 = kept.made.1 in omega (arith, none)
+]
+
+-- the whole of `sizeof` is ready, with the size of `b` in its type name
+sized-ready : IsReady sized_inside sized
+unfolding layout_of
+sized-ready = (
+  (
+    (tt, tt),
+    (
+      (tt, tt),
+      (
+        tt,
+        (
+          (tt, (tt, tt), (tt, tt), lit< tt),
+          (tt, tt),
+          (tt, (tt, (a-unread, (lit< tt, refl), refl, (lit< tt, refl)))),
+          lit< tt,
+        ),
+      ),
+    ),
+    lit< tt,
+  ),
+  (lit< tt, refl),
+  refl,
+  (lit< tt, refl),
+)
+
+-- and so is what `main` returns
+returned-ready : IsReadyReturn sized_inside (type 5) (Some returned)
+returned-ready = ((sized-ready, ((unsigned_long, (lit< tt, refl)), (int, (lit< tt, refl)))), (refl, lit< tt, refl))
 
 -- the unit of `TypedRow` is well typed, so it is ready
 row-ready : IsReadyUnit TypedRow.table TypedRow.unit

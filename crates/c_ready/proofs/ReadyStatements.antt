@@ -19,15 +19,16 @@ use Rattle.c_tree.specs.declared.typed_word.Home.TheVariants as home
 use Rattle.c_tree.specs.TypedTree as typed
 use Rattle.c_tree.specs.TypedTree.{TypedExpr, TypedSpecifiers, TypedForm, TypedInitialiser, TypedDeclarator, TypedInitDeclarators, TypedDeclaration, TypedStatement, TypedBlockItems}
 use Rattle.c_tree.specs.TypedParts.{type_of, specified_type, Name, made_by, made_by_specifiers, made_by_form, made_by_parts, made_by_stars, home_of_form, name_of_form, made_by_initialiser, made_by_init_declarators, made_by_declaration, made_by_optional, made_by_statement, made_by_block_items}
+use Rattle.c_typing.specs.Walks.{outermost_of}
 use Rattle.c_typing.specs.declared.declared.Declared.{Declared}
 use Rattle.c_typing.specs.Shapes.{is_void_shape, IsVoid}
 use Rattle.c_typing.specs.Scopes as scopes
 use Rattle.c_typing.specs.Scopes.{Scopes, entry_of}
 use Rattle.c_typing.specs.Conversions.{IsPlain}
-use Rattle.c_typing.specs.Declarators.{Outermost, Written}
+use Rattle.c_typing.specs.Declarators.{Outermost, Written, name_bytes}
 use Rattle.c_typing.specs.Typing.{IsTyped, AreSpecifiers, AreAlone}
 use Rattle.c_unit_typing.specs.Units as units
-use Rattle.c_unit_typing.specs.Units.{bytes_of_name, with_scopes, Storage, IsDeclarator, outermost_of, IsDefinedOnce, IsStaticInitialised, IsInitialised, AreDeclarators, IsDeclaration, Around, in_a_loop, in_a_switch, IsDropped, IsTested, IsTestedOrNone, IsReturned, entering_known, leaving_known, IsLabel, IsStatement, AreBlockItems, storage_of, is_linked_home}
+use Rattle.c_unit_typing.specs.Units.{with_scopes, Storage, IsDeclarator, IsDefinedOnce, IsStaticInitialised, IsInitialised, AreDeclarators, IsDeclaration, Around, in_a_loop, in_a_switch, IsDropped, IsTested, IsTestedOrNone, IsReturned, entering_known, leaving_known, IsLabel, IsStatement, AreBlockItems, storage_of, is_linked_home}
 use Rattle.c_unit_typing.specs.Initialisers.{is_among, is_char_array, size_given}
 use Rattle.src_machine.specs.Names.{declarators_in_declaration, declarators_in_statement, declarators_in_items}
 use Rattle.c_ready.specs.Ready.{HasObject, IsReadyLabel}
@@ -179,7 +180,7 @@ module _ (k : Context) (f : Fixed k) where
       let first = declarators-step file fq storage base all m h.0 b h.3 in
       let second = declarator-step file fq storage base o form t h.0 h.1 b h.4 in
       let hm = home_of_form form in
-      let fourth = initialised-step hm t (with_scopes h.1 h.2) m' (bytes_of_name (name_of_form form)) i h.6 in
+      let fourth = initialised-step hm t (with_scopes h.1 h.2) m' (name_bytes (name_of_form form)) i h.6 in
       let walked = init-kept k.table (Known k) (values k) i at t h.1.scopes h.2 h.5 in
       let third : IsGrown h.1 (with_scopes h.1 h.2) = record { stays = walked.stays; linked = λ name u v. v } in
       record {

@@ -3,15 +3,15 @@ use Rattle.std.specs.List.{All}
 use Rattle.std.proofs.Common.{◌≡◌, Bool, true, false, [], ◌∷◌, ◌++◌, length, refl, sym, subst}
 use Rattle.std.proofs.lemmas.List.Elements.{All-head}
 use Rattle.cc_base.specs.declared.number.TypeId.{TypeId}
-use Rattle.c_types.specs.Table.{shape_at, members_at}
+use Rattle.c_types.specs.Table.{shape_at, members_at, is_empty}
 use Rattle.c_types.specs.Sound.{IsWellFormed}
 use Rattle.c_tree.specs.TypedTree as typed
 use Rattle.c_tree.specs.TypedTree.{TypedExpr, TypedPlace, TypedArguments, TypedTypeName, TypedSpecifiers, TypedSpecifierList, TypedSpecifier, TypedMembers, TypedMemberDeclarators, TypedEnumerators, TypedForm, TypedCore, TypedParts, TypedParameters, TypedDeclared}
-use Rattle.c_tree.specs.TypedParts.{type_of, place_type, named_type, specified_type, pointer_side, Literal, Address, Copy, made_by, made_by_place, made_by_arguments, made_by_type_name, made_by_specifiers, made_by_specifier_list, made_by_specifier, made_by_members, made_by_member_declarators, made_by_enumerators, made_by_form, made_by_core, made_by_parts, made_by_parameters, made_by_declared, made_by_adjusted, made_by_stars}
+use Rattle.c_tree.specs.TypedParts.{type_of, place_type, named_type, specified_type, pointer_side, Literal, Address, Copy, made_by, made_by_place, made_by_arguments, made_by_type_name, made_by_specifiers, made_by_specifier_list, made_by_specifier, made_by_members, made_by_member_declarators, made_by_enumerators, made_by_form, made_by_core, made_by_parts, made_by_parameters, made_by_declared, made_by_adjusted, made_by_stars, is_void_list}
 use Rattle.runtime_calls.specs.Prototypes.{prototype_of}
 use Rattle.c_typing.specs.declared.declared.Declared.TheVariants as declared
-use Rattle.c_typing.specs.Scopes.{Scopes, members_named, is_no_list, is_complete_at, entering}
-use Rattle.c_typing.specs.Declarators.{is_void_list, Written}
+use Rattle.c_typing.specs.Scopes.{Scopes, members_named, is_complete_at, entering}
+use Rattle.c_typing.specs.Declarators.{Written}
 use Rattle.c_typing.specs.Rules.{listed_arguments, IsArgument, IsRuntimeArgument}
 use Rattle.c_typing.specs.Typing.{IsTyped, IsPlace, AreTyped, IsTypeName, AreSpecifiers, AreListed, IsSpecifier, AreMembers, AreMemberDeclarators, AreEnumerators, IsForm, IsCore, AreParts, AreParameters, IsDeclared, enumerating, tag_named_here}
 use Rattle.c_ready.proofs.Contexts.{Context, unread, IsReady, IsReadyPlace, AreReady, IsReadyTypeName, AreReadySpecifiers, AreReadyListed, IsReadySpecifier, AreReadyMembers, AreReadyMemberDeclarators, AreReadyEnumerators, IsReadyForm, IsReadyCore, AreReadyParts, AreReadyParameters, IsReadyDeclared}
@@ -344,8 +344,9 @@ mutual
       )
   specifier-ready k w u (typed.Enum at name) s s' h a m = tt
   specifier-ready k w u (typed.Enumeration at name brace all comma) s s' h a m =
-      enumerators-ready k w u all (enumerating name s) s' h.1
-      (at-right k s (enumerating name s) s' (Walked.enumerating-kept k.table (Known k) (values k) name s h.0) a) m
+      enumerators-ready k w u all (enumerating name s) h.0 h.1
+      (at-right k s (enumerating name s) h.0 (Walked.enumerating-kept k.table (Known k) (values k) name s)
+      (at-left k s h.0 s' (Walked.enumerated-kept k.table (Known k) (values k) name h.0 s' h.2).stays a)) m
 
   pub members-ready : (k : Context) → IsFormed k → k.runs ≡ false → (all : TypedMembers) (s s' : Scopes) → AreMembers k.table all s s' → At k s s'
       → AreMade k (made_by_members all) → AreReadyMembers k all
@@ -427,7 +428,7 @@ mutual
         defined = begins.defined;
         followed = λ t c. begins.followed t (subst (λ (q : Scopes). is_complete_at k.table q t ≡ true) (sym h.4) c);
         lengths = λ t n g x. subst (λ (q : Scopes). length (members_named q n) ≡ length (members_at k.table t)) h.4
-            (begins.lengths t n g (subst (λ (q : Scopes). is_no_list (members_named q n) ≡ false) (sym h.4) x));
+            (begins.lengths t n g (subst (λ (q : Scopes). is_empty (members_named q n) ≡ false) (sym h.4) x));
         calls = begins.calls;
         definitions = begins.definitions;
       } in (

@@ -9,7 +9,7 @@ use Rattle.cc_base.specs.declared.number.NodeId.{NodeId}
 use Rattle.cc_base.specs.declared.number.TypeId.{TypeId}
 use Rattle.c_types.specs.declared.shape.TypeShape.{TypeShape}
 use Rattle.c_types.specs.declared.shape.TypeShape.TheVariants.{Void, Integer, Pointer, Array, Function, Struct, Union}
-use Rattle.c_types.specs.Table.{Table, HasShape, IsAggregate, IsComplete, shape_at, members_at, entry_at, is_complete, parts_of_shape}
+use Rattle.c_types.specs.Table.{Table, HasShape, IsAggregate, IsComplete, shape_at, members_at, entry_at, is_complete, parts_of_shape, is_empty}
 use Rattle.c_types.specs.Sound.{IsWellFormed}
 use Rattle.c_types.specs.Layouts.{member_at}
 use Rattle.c_tree.specs.TypedTree as typed
@@ -19,7 +19,7 @@ use Rattle.c_typing.specs.declared.declared.Declared.{Declared}
 use Rattle.c_typing.specs.declared.declared.Declared.TheVariants as declared
 use Rattle.c_typing.specs.Shapes.{is_void_shape}
 use Rattle.c_typing.specs.Scopes as scopes
-use Rattle.c_typing.specs.Scopes.{Level, Scopes, entry_of, members_named, is_no_list, is_complete_at, without_innermost, empty_level}
+use Rattle.c_typing.specs.Scopes.{Level, Scopes, entry_of, members_named, is_complete_at, without_innermost, empty_level}
 use Rattle.c_typing.specs.Rules.{number_of_shape}
 use Rattle.c_unit_typing.specs.Units as units
 use Rattle.c_unit_typing.specs.Units.{with_scopes, entering_known, leaving_known}
@@ -174,7 +174,7 @@ pub record In (k : Context) (m : units.Known) : Type 0 where
 
 pub record Last (k : Context) (m : units.Known) : Type 0 where
   pub followed : (t : TypeId) → is_complete_at k.table m.scopes t ≡ true → IsComplete k.table t
-  pub lengths : (t : TypeId) (n : ℕ) → number_of_shape (shape_at k.table t) ≡ Some n → is_no_list (members_named m.scopes n) ≡ false
+  pub lengths : (t : TypeId) (n : ℕ) → number_of_shape (shape_at k.table t) ≡ Some n → is_empty (members_named m.scopes n) ≡ false
       → length (members_named m.scopes n) ≡ length (members_at k.table t)
   pub linked : (name : scopes.Name) (x : Declared) → entry_of m.linked name ≡ Some x → entry_of k.linked name ≡ Some x
 

@@ -6,7 +6,7 @@ use Rattle.std.proofs.lemmas.Option.{none-some}
 use Rattle.cc_base.specs.declared.number.TypeId.{TypeId}
 use Rattle.c_types.specs.declared.shape.TypeShape.{TypeShape}
 use Rattle.c_types.specs.declared.shape.TypeShape.TheVariants.{Void, Integer, Pointer, Array, Function, Struct, Union}
-use Rattle.c_types.specs.Table.{Table, IsComplete, shape_at, members_at, entry_at, is_complete, is_complete_entry}
+use Rattle.c_types.specs.Table.{Table, IsComplete, shape_at, members_at, entry_at, is_complete, is_complete_entry, is_empty}
 use Rattle.c_types.specs.Sound.{IsWellFormed}
 use Rattle.c_tree.specs.declared.leaf.Identifier.{Identifier}
 use Rattle.c_tree.specs.declared.typed_word.Home.{Home}
@@ -14,15 +14,16 @@ use Rattle.c_tree.specs.declared.typed_word.Home.TheVariants as home
 use Rattle.c_tree.specs.TypedTree as typed
 use Rattle.c_tree.specs.TypedTree.{TypedTranslationUnit}
 use Rattle.c_tree.specs.TypedParts.{declared_type, name_of, DefinedFunction, home_of_form, name_of_form, functions_of}
+use Rattle.c_typing.specs.Declarators.{name_bytes}
 use Rattle.c_typing.specs.declared.declared.Declared.{Declared}
 use Rattle.c_typing.specs.declared.declared.Declared.TheVariants as declared
 use Rattle.c_typing.specs.Shapes.{is_function_shape}
 use Rattle.c_typing.specs.Scopes as scopes
-use Rattle.c_typing.specs.Scopes.{Scopes, entry_of, members_named, is_no_list, is_complete_at, is_complete_shape_at, entering, empty_level}
+use Rattle.c_typing.specs.Scopes.{Scopes, entry_of, members_named, is_complete_at, is_complete_shape_at, innermost, empty_level}
 use Rattle.c_typing.specs.Rules.{number_of_shape}
 use Rattle.c_typing.specs.declared.declared.Tag.{Tag}
 use Rattle.c_unit_typing.specs.Units as units
-use Rattle.c_unit_typing.specs.Units.{bytes_of_name, with_scopes, Storage, AsTypedef, AsExtern, AsStatic, AsAutomatic, Unstored, AgreesWith, unless_linked, IsLinked, IsFunctionDeclared, IsOrdinaryDeclared, IsNameDeclared, leaving_known, storage_of, IsUnitTyped, with_parameters}
+use Rattle.c_unit_typing.specs.Units.{with_scopes, Storage, AsTypedef, AsExtern, AsStatic, AsAutomatic, Unstored, AgreesWith, unless_linked, IsLinked, IsFunctionDeclared, IsOrdinaryDeclared, IsNameDeclared, leaving_known, storage_of, IsUnitTyped, going_on}
 use Rattle.c_unit_typing.specs.WellTyped.{known_before}
 use Rattle.c_ready.specs.Ready.{IsAlike, static_stage}
 use Rattle.c_ready.proofs.Contexts.{Context, context_of}
@@ -45,9 +46,9 @@ closed-followed T s c t h = by (shape_at T t) refl h
   where
     by : (x : TypeShape) → shape_at T t ≡ x → is_complete_shape_at s (is_complete (entry_at T t)) x ≡ true → is_complete (entry_at T t) ≡ true
     by (Struct n) e g = subst (λ (x : TypeShape). is_complete_entry x (members_at T t) ≡ true) (sym e)
-        (ap not (no-empty (members_named s n) (members_at T t) (c t n (ap number_of_shape e)) (not_true (is_no_list (members_named s n)) g)))
+        (ap not (no-empty (members_named s n) (members_at T t) (c t n (ap number_of_shape e)) (not_true (is_empty (members_named s n)) g)))
     by (Union n) e g = subst (λ (x : TypeShape). is_complete_entry x (members_at T t) ≡ true) (sym e)
-        (ap not (no-empty (members_named s n) (members_at T t) (c t n (ap number_of_shape e)) (not_true (is_no_list (members_named s n)) g)))
+        (ap not (no-empty (members_named s n) (members_at T t) (c t n (ap number_of_shape e)) (not_true (is_empty (members_named s n)) g)))
     by Void e g = g
     by (Integer bytes signed) e g = g
     by (Pointer n u) e g = g
@@ -58,7 +59,7 @@ closed-followed T s c t h = by (shape_at T t) refl h
 
 abbrev pub IsDefinedIn : Table → List (scopes.Name × Declared) → DefinedFunction → Type 0
 IsDefinedIn T linked d =
-    (first : TypeId) × (entry_of linked (bytes_of_name (name_of d.declarator)) ≡ Some (declared.Function first))
+    (first : TypeId) × (entry_of linked (name_bytes (name_of d.declarator)) ≡ Some (declared.Function first))
     × IsAlike T first (declared_type d.declarator)
 
 linked-function : (T : Table) (name : scopes.Name) (t : TypeId) (m m' : units.Known) → IsLinked T name (declared.Function t) m m'
@@ -135,7 +136,7 @@ no_functions T i d h = absurd (none-some d h)
 grown-defined : (T : Table) (l l' : List (scopes.Name × Declared))
     → ((name : scopes.Name) (x : Declared) → entry_of l name ≡ Some x → entry_of l' name ≡ Some x) → (d : DefinedFunction) → IsDefinedIn T l d
     → IsDefinedIn T l' d
-grown-defined T l l' g d h = (h.0, g (bytes_of_name (name_of d.declarator)) (declared.Function h.0) h.1, h.2)
+grown-defined T l l' g d h = (h.0, g (name_bytes (name_of d.declarator)) (declared.Function h.0) h.1, h.2)
 
 module _ (T : Table) (w : IsWellFormed T) where
   pub unit-defined : (u : TypedTranslationUnit) (m m' : units.Known) → IsUnitTyped T u m m' → All (IsDefinedIn T m'.linked) (functions_of u)
@@ -154,16 +155,16 @@ module _ (T : Table) (w : IsWellFormed T) where
       (with_scopes (with_scopes h.0 f.before) f.declares.inside) f.declared f.shape.1 f.declares.declares in
       let own = linked-function T f.declares.name.bytes t (with_scopes (with_scopes h.0 f.before) f.declares.inside) f.declared linked in
       let start : units.Known = record f.declared
-      { scopes = with_parameters f.parameters (entering f.declared.scopes); defined = f.declared.defined ++ f.name.bytes ∷ [] } in
+      { scopes = going_on (innermost f.inside.levels) f.declared.scopes; defined = f.declared.defined ++ f.name.bytes ∷ [] } in
       let inside = items-step (block_of (bare_stage T)) (fixed-block (bare_stage T) w (no_functions T))
       (record { result = f.result; in_loop = false; breakable = false }) None body start f.after (result-in T w t f.result f.types f.shape, refl)
       f.statements in
       let ends = grown-same (leaving_known f.after) m' f.leaves in
       let here_ : IsDefinedIn T m'.linked d = (
         own.0,
-        ends.linked (bytes_of_name (name_of_form form)) (declared.Function own.0)
-            (inside.grown.linked (bytes_of_name (name_of_form form)) (declared.Function own.0)
-            (subst (λ (o : Option Identifier). entry_of f.declared.linked (bytes_of_name o) ≡ Some (declared.Function own.0)) (sym f.declares.named)
+        ends.linked (name_bytes (name_of_form form)) (declared.Function own.0)
+            (inside.grown.linked (name_bytes (name_of_form form)) (declared.Function own.0)
+            (subst (λ (o : Option Identifier). entry_of f.declared.linked (name_bytes o) ≡ Some (declared.Function own.0)) (sym f.declares.named)
             own.1)),
         own.2,
       ) in

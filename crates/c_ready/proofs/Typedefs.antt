@@ -5,13 +5,14 @@ use Rattle.std.proofs.lemmas.Bool.Decides.{nat_tests}
 use Rattle.c_types.specs.Table.{Table}
 use Rattle.c_lexer.specs.declared.word.Keyword.{Keyword}
 use Rattle.c_lexer.specs.declared.word.Keyword.TheVariants as keyword
+use Rattle.c_tree.specs.Words.{is_typedef_word}
 use Rattle.c_tree.specs.TypedTree as typed
 use Rattle.c_tree.specs.TypedTree.{TypedSpecifiers, TypedSpecifierList, TypedDeclarator, TypedInitDeclarators}
 use Rattle.c_typing.specs.Declarators.{Counted, counted, counting_word}
 use Rattle.c_typing.specs.Scopes.{Scopes}
 use Rattle.c_typing.specs.Typing.{AreSpecifiers}
 use Rattle.c_unit_typing.specs.Units.{Storage, Unstored, AsTypedef, AsExtern, AsStatic, AsAutomatic, storage_of_word, storage_of_list, storage_of}
-use Rattle.src_machine.specs.Names.{is_typedef_word, is_typedef_list, is_typedef, declarators_of, declarators_in_declaration}
+use Rattle.src_machine.specs.Names.{is_typedef_list, is_typedef, declarators_of, declarators_in_declaration}
 
 abbrev pub is_for_types : Storage → Bool
 is_for_types AsTypedef = true

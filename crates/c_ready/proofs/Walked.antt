@@ -5,7 +5,7 @@ use Rattle.std.proofs.Common.{length, ◌≡◌, ◌≢◌, ℕ, zero, suc, ℤ,
 use Rattle.std.proofs.lemmas.List.Elements.{All-nil, All-cons, All-head, All-tail, All-push}
 use Rattle.std.proofs.lemmas.Option.{none-some}
 use Rattle.cc_base.specs.declared.number.TypeId.{TypeId}
-use Rattle.c_types.specs.Table.{Table, shape_at, entry_at, is_complete, HasShape, is_aggregate_shape}
+use Rattle.c_types.specs.Table.{Table, shape_at, entry_at, is_complete, HasShape, is_aggregate_shape, is_empty}
 use Rattle.c_types.specs.declared.shape.TypeShape.{TypeShape}
 use Rattle.c_types.specs.declared.shape.TypeShape.TheVariants.{Void, Integer, Pointer, Array, Function, Struct, Union}
 use Rattle.c_tree.specs.declared.leaf.Identifier.{Identifier}
@@ -13,17 +13,18 @@ use Rattle.c_tree.specs.declared.operator.AggregateKind.{AggregateKind}
 use Rattle.c_tree.specs.declared.typed_word.Home.TheVariants as home
 use Rattle.c_tree.specs.TypedTree as typed
 use Rattle.c_tree.specs.TypedTree.{TypedExpr, TypedPlace, TypedArguments, TypedTypeName, TypedSpecifiers, TypedSpecifierList, TypedSpecifier, TypedMembers, TypedMemberDeclarators, TypedEnumerators, TypedForm, TypedCore, TypedParts, TypedParameters, TypedDeclared}
-use Rattle.c_tree.specs.TypedParts.{specified_type}
+use Rattle.c_tree.specs.TypedParts.{specified_type, is_void_list}
 use Rattle.c_tree.specs.declared.operator.AggregateKind.TheVariants as kind
 use Rattle.c_typing.specs.declared.declared.Declared.{Declared}
 use Rattle.c_typing.specs.declared.declared.Declared.TheVariants as declared
 use Rattle.c_typing.specs.declared.declared.Tag.{Tag}
 use Rattle.c_typing.specs.declared.declared.Tag.TheVariants as tag
-use Rattle.c_typing.specs.Declarators.{is_void_list, member_names}
+use Rattle.c_typing.specs.Declarators.{member_names}
 use Rattle.c_typing.specs.Rules.{number_of_shape}
-use Rattle.c_typing.specs.Scopes.{Name, Level, Scopes, empty_level, at_innermost, without_innermost, with_name, with_tag, tag_in, tag_here, entry_of, name_in, or_outer, entering, leaving, members_named, is_no_list, is_complete_shape_at, innermost}
-use Rattle.c_typing.specs.Typing.{IsTyped, IsPlace, AreTyped, IsTypeName, AreSpecifiers, AreAlone, AreListed, IsSpecifier, AreMembers, AreMemberDeclarators, AreEnumerators, IsForm, IsCore, AreParts, AreParameters, IsDeclared, IsNewName, IsNewAggregate, IsTagged, BeginsAggregate, EndsAggregate, DeclaresParameter, tagging, counting_aggregate, tag_named_here, enumerating, shape_of_kind}
+use Rattle.c_typing.specs.Scopes.{Name, Level, Scopes, empty_level, at_innermost, without_innermost, with_name, with_tag, with_tag_set, tag_in, tag_here, entry_of, name_in, or_outer, entering, leaving, members_named, is_complete_shape_at, innermost}
+use Rattle.c_typing.specs.Typing.{IsTyped, IsPlace, AreTyped, IsTypeName, AreSpecifiers, AreAlone, AreListed, IsSpecifier, AreMembers, AreMemberDeclarators, AreEnumerators, IsForm, IsCore, AreParts, AreParameters, IsDeclared, IsNewName, IsNewEnumerator, IsNewAggregate, IsTagged, BeginsAggregate, EndsAggregate, DeclaresParameter, tagging, counting_aggregate, tag_named_here, enumerating, EndsEnumeration, shape_of_kind}
 use Rattle.c_ready.specs.Ready.{is_of_kind}
+use Rattle.named_lists.proofs.EntryLaws.{entries-with}
 use Rattle.c_ready.proofs.Basics.{some-same, no_true, bytes-same}
 
 -- What is declared
@@ -32,6 +33,7 @@ use Rattle.c_ready.proofs.Basics.{some-same, no_true, bytes-same}
 abbrev pub IsTagOf : Table → Tag → Type 0
 IsTagOf T (tag.Aggregate which t) = is_of_kind which (shape_at T t) ≡ true
 IsTagOf T tag.Enumeration = Unit {0}
+IsTagOf T tag.Enumerating = Unit {0}
 
 pub record IsLevelOf (T : Table) (Q : Name → Declared → Type 0) (level : Level) : Type 0 where
   pub names : All (λ (e : Name × Declared). Q e.0 e.1) level.names
@@ -44,7 +46,7 @@ AreDeclared T Q levels = All (IsLevelOf T Q) levels
 pub record IsOuter (s s' : Scopes) : Type 0 where
   pub outer : without_innermost s'.levels ≡ without_innermost s.levels
   pub defined : s'.defined ≡ s.defined
-  pub members : (n : ℕ) → is_no_list (members_named s n) ≡ false → members_named s' n ≡ members_named s n
+  pub members : (n : ℕ) → is_empty (members_named s n) ≡ false → members_named s' n ≡ members_named s n
 
 pub record IsWalked (T : Table) (Q : Name → Declared → Type 0) (s s' : Scopes) : Type 0 where
   pub stays : IsOuter s s'
@@ -91,7 +93,7 @@ left-of T Q (l ∷ (m ∷ ls)) h =
     All-cons (IsLevelOf T Q) l (without_innermost (m ∷ ls)) (All-head (IsLevelOf T Q) l (m ∷ ls) h)
     (left-of T Q (m ∷ ls) (All-tail (IsLevelOf T Q) l (m ∷ ls) h))
 
-innermost-of : (T : Table) (Q : Name → Declared → Type 0) (ls : List Level) → AreDeclared T Q ls → IsLevelOf T Q (innermost ls)
+pub innermost-of : (T : Table) (Q : Name → Declared → Type 0) (ls : List Level) → AreDeclared T Q ls → IsLevelOf T Q (innermost ls)
 innermost-of T Q [] h = record { names = All-nil (λ (e : Name × Declared). Q e.0 e.1); tags = All-nil (λ (e : Name × Tag). IsTagOf T e.1) }
 innermost-of T Q (l ∷ []) h = All-head (IsLevelOf T Q) l [] h
 innermost-of T Q (l ∷ (m ∷ ls)) h = innermost-of T Q (m ∷ ls) (All-tail (IsLevelOf T Q) l (m ∷ ls) h)
@@ -160,11 +162,11 @@ not_false true h = refl
 not_false false h = no_true (sym h)
 
 open_names : (s : Scopes) (n : ℕ) (x : TypeShape) (w : Bool) → number_of_shape x ≡ Some n → is_complete_shape_at s w x ≡ false
-    → is_no_list (members_named s n) ≡ true
+    → is_empty (members_named s n) ≡ true
 open_names s n (Struct k) w h c =
-    subst (λ (m : ℕ). is_no_list (members_named s m) ≡ true) (some-same k n h) (not_false (is_no_list (members_named s k)) c)
+    subst (λ (m : ℕ). is_empty (members_named s m) ≡ true) (some-same k n h) (not_false (is_empty (members_named s k)) c)
 open_names s n (Union k) w h c =
-    subst (λ (m : ℕ). is_no_list (members_named s m) ≡ true) (some-same k n h) (not_false (is_no_list (members_named s k)) c)
+    subst (λ (m : ℕ). is_empty (members_named s m) ≡ true) (some-same k n h) (not_false (is_empty (members_named s k)) c)
 open_names s n Void w h c = absurd (none-some n h)
 open_names s n (Integer bytes signed) w h c = absurd (none-some n h)
 open_names s n (Pointer k u) w h c = absurd (none-some n h)
@@ -172,11 +174,11 @@ open_names s n (Array u k) w h c = absurd (none-some n h)
 open_names s n (Function ps r) w h c = absurd (none-some n h)
 
 ended_names : (T : Table) (members : TypedMembers) (t : TypeId) (s s' : Scopes) (h : EndsAggregate T members t s s') (n : ℕ)
-    → is_no_list (members_named s n) ≡ false
+    → is_empty (members_named s n) ≡ false
     → members_named (naming (slice_set s.members h.number (member_names members))) n ≡ members_named s n
 ended_names T members t s s' h n x =
     set_names s.members n h.number (member_names members)
-    (λ e. no_true (sym x ∙ (ap (λ (m : ℕ). is_no_list (members_named s m)) e ∙ open_names s h.number (shape_at T t) (is_complete (entry_at T t))
+    (λ e. no_true (sym x ∙ (ap (λ (m : ℕ). is_empty (members_named s m)) e ∙ open_names s h.number (shape_at T t) (is_complete (entry_at T t))
     h.declared h.unfinished)))
 
 pub same-outer : (s s' : Scopes) → s' ≡ s → IsOuter s s'
@@ -186,8 +188,8 @@ same-outer s s' h = record {
   members = λ n x. ap (λ (q : Scopes). members_named q n) h;
 }
 
-no_list_is : {A : Type 0} (xs ys : List A) → xs ≡ ys → is_no_list ys ≡ false → is_no_list xs ≡ false
-no_list_is xs ys h x = ap (λ zs. is_no_list zs) h ∙ x
+no_list_is : {A : Type 0} (xs ys : List A) → xs ≡ ys → is_empty ys ≡ false → is_empty xs ≡ false
+no_list_is xs ys h x = ap (λ zs. is_empty zs) h ∙ x
 
 pub both-outer : {a b c : Scopes} → IsOuter a b → IsOuter b c → IsOuter a c
 both-outer {a} {b} {c} p q = record {
@@ -279,11 +281,22 @@ module _ (T : Table) (Q : Name → Declared → Type 0) (values : (name : Name) 
     names = λ d. d;
   }) (same (record s { members = slice_set s.members h.number (member_names members) }) s' h.after)
 
-  pub enumerating-kept : (name : Option Identifier) (s : Scopes) → tag_named_here s name ≡ None → IsWalked T Q s (enumerating name s)
-  enumerating-kept None s h = same s s refl
-  enumerating-kept (Some name) s h = rw h (tagging-kept (Some name) tag.Enumeration s tt)
+  pub enumerating-kept : (name : Option Identifier) (s : Scopes) → IsWalked T Q s (enumerating name s)
+  enumerating-kept None s = same s s refl
+  enumerating-kept (Some name) s = by (tag_named_here s (Some name)) refl
+    where
+      by : (o : Option Tag) → tag_named_here s (Some name) ≡ o → IsWalked T Q s (enumerating (Some name) s)
+      by None h = rw h (tagging-kept (Some name) tag.Enumerating s tt)
+      by (Some found) h = rw h (same s s refl)
 
-  pub enumerator-kept : (name : Name) (value : ℤ) (s s' : Scopes) → IsNewName name (declared.Enumerator value) s s' → IsWalked T Q s s'
+  pub enumerated-kept : (name : Option Identifier) (s s' : Scopes) → EndsEnumeration name s s' → IsWalked T Q s s'
+  enumerated-kept None s s' h = same s s' h.after
+  enumerated-kept (Some name) s s' h =
+      innermost-kept (with_tag_set name.bytes tag.Enumeration)
+      (λ l own. record { names = own.names; tags = entries-with (λ (n : Name) (x : Tag). IsTagOf T x) name.bytes tag.Enumeration l.tags (λ n. tt) own.tags })
+      s s' h.after
+
+  pub enumerator-kept : (name : Name) (value : ℤ) (s s' : Scopes) → IsNewEnumerator name value s s' → IsWalked T Q s s'
   enumerator-kept name value s s' h =
       innermost-kept (with_name name (declared.Enumerator value))
       (λ l own. level-more T Q name (declared.Enumerator value) l (values name value) own) s s' h.after
@@ -416,7 +429,7 @@ module _ (T : Table) (Q : Name → Declared → Type 0) (values : (name : Name) 
           (both (members-kept members h.0 h.1 h.3) (ended-kept members t h.1 s' h.4))
       specifier-kept (typed.Enum at name) s s' h = same s s' h.0
       specifier-kept (typed.Enumeration at name brace all comma) s s' h =
-          both (enumerating-kept name s h.0) (enumerators-kept all (enumerating name s) s' h.1)
+          both (enumerating-kept name s) (both (enumerators-kept all (enumerating name s) h.0 h.1) (enumerated-kept name h.0 s' h.2))
 
       pub members-kept : (all : TypedMembers) (s s' : Scopes) → AreMembers T all s s' → IsWalked T Q s s'
       members-kept typed.NoMember s s' h = same s s' h

@@ -27,12 +27,12 @@ use Rattle.c_tree.specs.TypedParts as made
 use Rattle.c_typing.specs.Shapes.{IsIntegerType, IsScalar, IsVoid, IsPointerTo}
 use Rattle.c_typing.specs.Integers.{constant_type, assigning}
 use Rattle.c_typing.specs.Scopes.{Name}
-use Rattle.c_typing.specs.Declarators.{taken_types}
+use Rattle.c_typing.specs.Declarators.{taken_types, name_bytes}
 use Rattle.c_typing.specs.Conversions.{IsPlain}
 use Rattle.c_typing.specs.Rules.{IsStringType, IsDecay, IsLvalue, IsAddress, IsElementAddress, IsFunctionAt, IsPrefix, IsArithmetic, is_move, other_side, IsInteger, IsPointer, IsCompared, IsLogical, IsChoice, IsPointerChoice, IsIntegerUpdate, is_compound, IsCall, IsRuntimeCall, IsAllocation, IsAllocationFor, IsDroppable, IsCondition, is_designator}
 use Rattle.c_typing.specs.Settled.{IsBasic}
 use Rattle.c_unit_typing.specs.Initialisers.{IsSlot, items_count, is_only_text, is_char_array}
-use Rattle.c_unit_typing.specs.Units.{bytes_of_name, Around, in_a_loop, in_a_switch, IsSwitched}
+use Rattle.c_unit_typing.specs.Units.{Around, in_a_loop, in_a_switch, IsSwitched}
 use Rattle.src_machine.specs.Names.{declarators_in}
 use Rattle.src_machine.specs.Pieces.{Piece, APlace, ASpecifier, pieces_of_unit}
 
@@ -112,7 +112,7 @@ pub record IsFunctionNamed (k : Stage) (name : Identifier) (number : ℕ) (n : N
   pub type : HasShape k.table t (Pointer n function)
   pub defined : DefinedFunction
   pub there : slice_get k.functions number ≡ Some defined
-  pub named : bytes_of_name (name_of defined.declarator) ≡ name.bytes
+  pub named : name_bytes (name_of defined.declarator) ≡ name.bytes
   pub first : TypeId
   pub alike : IsAlike k.table first function × IsAlike k.table first (declared_type defined.declarator)
   pub declared : IsFunctionDeclared k name.bytes function
@@ -515,7 +515,7 @@ pub record HasReadyMain (static : Stage) : Type 0 where
   pub number : ℕ
   pub main : DefinedFunction
   pub there : slice_get static.functions number ≡ Some main
-  pub named : bytes_of_name (name_of main.declarator) ≡ codes "main"
+  pub named : name_bytes (name_of main.declarator) ≡ codes "main"
   pub result : TypeId
   pub gives : IsIntegerType static.table int result
   pub shape : HasShape static.table (declared_type main.declarator) (Function [] result)

@@ -5,7 +5,7 @@ use Rattle.cc_base.specs.declared.place.Place.{Place}
 use Rattle.cc_base.specs.declared.number.TypeId.{TypeId}
 use Rattle.cc_base.specs.declared.fault.Rule.TheVariants as rule
 use Rattle.c_types.specs.declared.shape.TypeShape.{TypeShape}
-use Rattle.c_types.specs.Table.{Table, IsType, is_aggregate_shape}
+use Rattle.c_types.specs.Table.{Table, IsType, is_aggregate_shape, is_empty}
 use Rattle.c_tree.specs.declared.leaf.Word.{Word}
 use Rattle.c_tree.specs.declared.operator.AggregateKind.{AggregateKind}
 use Rattle.c_typing.specs.declared.declared.Tag.{Tag}
@@ -13,7 +13,7 @@ use Rattle.c_typing.specs.declared.declared.Tag.TheVariants as tag
 use Rattle.c_typing.specs.Declarators.{Outermost, first_word_place, is_pointed, is_result_shape}
 use Rattle.c_typing.specs.Extensions.{IsExtended}
 use Rattle.c_typing.specs.Judging.{known}
-use Rattle.c_typing.specs.Scopes.{Scopes, Seen, is_no_list, is_complete_at}
+use Rattle.c_typing.specs.Scopes.{Scopes, Seen, is_complete_at}
 use Rattle.c_typing.specs.Settled.{IsBasic}
 use Rattle.c_typing.specs.Specifying.{is_taken_at_end}
 use Rattle.c_typing.specs.Tests.{Elaborated, broken_at, aggregate_tests, is_tag_of, is_taken_tag, lacks_size, constant_tests, array_size_tests, array_tests, function_tests, member_type_tests, parameter_type_tests}
@@ -38,7 +38,7 @@ module _ (J T : Table) (x : IsExtended J T) (b : IsBasic J) where
       let complete = TypesAlike.complete-over J T x b s t h in
       λ i. broken_at rule.Incomplete bracket (lacks_size outermost sized)
       ∷ broken_at rule.Incomplete at (not (complete i))
-      ∷ broken_at rule.Mismatch (first_word_place words bracket) (not (is_no_list words) && not (is_pointed outermost))
+      ∷ broken_at rule.Mismatch (first_word_place words bracket) (not (is_empty words) && not (is_pointed outermost))
       ∷ []
 
   pub function-over : (t : TypeId) (at : Place) → IsType J t → function_tests J t at ≡ function_tests T t at
@@ -61,6 +61,7 @@ module _ (J T : Table) (x : IsExtended J T) (b : IsBasic J) where
   tag-over s which (Some (tag.Aggregate k t)) h =
       ap (λ (c : Bool). not (is_tag_of which (tag.Aggregate k t)) || c) (TypesAlike.complete-over J T x b s t h.1.0)
   tag-over s which (Some tag.Enumeration) h = refl
+  tag-over s which (Some tag.Enumerating) h = refl
 
   -- whether a struct or union is taken by the end of its members, and the rules of its end
   pub end-over : (seen : Seen) (begun : Option TypeId) → ((t : TypeId) → begun ≡ Some t → IsType J t)

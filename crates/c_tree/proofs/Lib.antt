@@ -1,6 +1,9 @@
+pub mod ListLaws
+pub mod LiteralLaws
 pub mod PushLaws
 pub mod StatementViewLaws
 pub mod ViewLaws
 pub mod TypedViewLaws
 pub mod TypedStatementViewLaws
 pub mod TypedPushLaws
+pub mod TypedPartLaws

@@ -1,5 +1,7 @@
+pub mod Arithmetic
 pub mod Depth
 pub mod Grammar
+pub mod Literals
 pub mod Operators
 pub mod Places
 pub mod Spelling

@@ -1,5 +1,5 @@
 -- What is read off a typed tree: the types of its expressions, what it makes, its objects, its functions and its static initialisers.
-use Rattle.std.specs.Prelude.{ℕ, Bool, true, false, List, [], ◌∷◌, ◌++◌, flat_map, Option, None, Some, if◌then◌else◌}
+use Rattle.std.specs.Prelude.{Bool, true, false, List, [], ◌∷◌, ◌++◌, flat_map, Option, None, Some, if◌then◌else◌}
 use Rattle.cc_base.specs.declared.place.Place.{Place}
 use Rattle.cc_base.specs.declared.number.NodeId.{NodeId}
 use Rattle.cc_base.specs.declared.number.TypeId.{TypeId}
@@ -44,6 +44,9 @@ named_type (typed.Named specifiers declared t) = t
 
 abbrev pub specified_type : TypedSpecifiers → TypeId
 specified_type (typed.Specified list t) = t
+
+abbrev pub form_of : TypedDeclarator → TypedForm
+form_of (typed.Declares form t) = form
 
 abbrev pub declared_type : TypedDeclarator → TypeId
 declared_type (typed.Declares form t) = t
@@ -387,6 +390,14 @@ abbrev mutual
 
 abbrev pub home_of : TypedDeclarator → Home
 home_of (typed.Declares form t) = home_of_form form
+
+-- the node of a home: an object has it, and a function or a typedef has none
+abbrev pub home_node : Home → Option NodeId
+home_node home.None = None
+home_node (home.Static n) = Some n
+home_node (home.Local n) = Some n
+home_node (home.Parameter n) = Some n
+home_node (home.Known n) = Some n
 
 -- the name of what a form declares
 abbrev mutual

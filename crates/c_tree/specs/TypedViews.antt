@@ -1,5 +1,5 @@
 -- The code's typed tree as plain data, by one fold.
-use Rattle.std.specs.Prelude.{List, fold, Option, Some, None}
+use Rattle.std.specs.Prelude.{List, map, fold, Option, Some, None}
 use Rattle.c_tree.specs.TypedTree as typed
 use Rattle.c_tree.specs.Views.{added}
 use Rattle.c_tree.specs.declared.typed_expr.TypedCore.TheOpen as layer
@@ -173,3 +173,7 @@ typed_specifiers_view = fold-TypedSpecifiers typed.TypedCore (typed.TypedEnumera
 abbrev pub typed_type_name_view : TypedTypeName → typed.TypedTypeName
 typed_type_name_view = fold-TypedTypeName typed.TypedCore (typed.TypedEnumerators → typed.TypedEnumerators) typed.TypedExpr (typed.TypedParts → typed.TypedParts) typed.TypedPlace typed.TypedSpecifier typed.TypedDeclarator typed.TypedForm (typed.TypedMembers → typed.TypedMembers) (typed.TypedParameters → typed.TypedParameters) typed.TypedSpecifiers typed.TypedTypeName
     typed_core_layer typed_enumerator_layer typed_expr_layer typed_part_layer typed_place_layer typed_specifier_layer typed_declarator_layer typed_form_layer typed_members_layer typed_parameter_layer typed_specifiers_layer typed_type_name_layer
+
+-- parameters as plain data
+abbrev pub parameters_seen : List TypedParameter → typed.TypedParameters
+parameters_seen all = added typed.NoParameter (map typed_parameter_view all)

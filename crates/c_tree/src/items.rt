@@ -36,6 +36,13 @@ impl<T> Items<T> {
         Items { items }
     }
 
+    pub fn into_vec(self) -> Vec<T>
+        ensures { result.items ≡ self }
+    {
+        let Items { items } = self;
+        items
+    }
+
     pub fn as_slice(&self) -> &[T]
         ensures { result.now ≡ self.now }
     {
@@ -65,10 +72,14 @@ impl<T: Copy> Items<T> {
 }
 
 impl<T: Drop> Items<T> {
+    /// Appends an element. Most lists of a tree have one element: they take the memory of one.
     pub fn push(&mut self, item: T) -> Result<(), AllocError>
         ensures ok { OnOk result (self.new ≡ self.old ++ item ∷ []) }
         ensures err { OnErr result (self.new ≡ self.old) }
     {
+        if self.items.is_empty() {
+            self.items.reserve_exact(1)?;
+        }
         self.items.push(item)?;
         Ok(())
     }

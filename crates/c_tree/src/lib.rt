@@ -5,6 +5,7 @@ mod boxed;
 mod expr;
 mod items;
 mod leaf;
+mod literal;
 mod operator;
 mod place;
 mod statement;
@@ -20,6 +21,7 @@ pub use expr::{
 };
 pub use items::Items;
 pub use leaf::{Identifier, Separator, Star, StringPiece, Word};
+pub use literal::{copied_pieces, pieces_bytes};
 pub use operator::{AggregateKind, Assignment, Binary, MemberOperator, Step, Unary};
 pub use statement::{
     BlockItem, Declaration, External, FunctionDefinition, InitDeclarator, Initialiser, Statement,

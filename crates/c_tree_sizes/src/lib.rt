@@ -4,11 +4,12 @@
 
 ghost use Rattle.std.specs.List.{All};
 ghost use Rattle.std.specs.Prelude.{◌+◌, ◌≤◌, length};
-ghost use Rattle.c_tree.specs.Erasure.{erased, erased_declarator, erased_place, erased_specifiers, erased_unit};
-ghost use Rattle.c_tree.specs.Spelling.{declarator_spelling, expr_spelling, specifiers_spelling, unit_spelling};
-ghost use Rattle.c_tree.specs.TypedParts.{made_by, made_by_declarator, made_by_place, made_by_specifiers, made_by_unit, statics_of};
-ghost use Rattle.c_tree.specs.TypedTree.{TypedDeclarator, TypedExpr, TypedPlace, TypedSpecifiers, TypedTranslationUnit};
+ghost use Rattle.c_tree.specs.Erasure.{erased, erased_place, erased_unit};
+ghost use Rattle.c_tree.specs.Spelling.{expr_spelling, unit_spelling};
+ghost use Rattle.c_tree.specs.TypedParts.{made_by, made_by_place, made_by_unit, statics_of};
+ghost use Rattle.c_tree.specs.TypedTree.{TypedExpr, TypedPlace, TypedTranslationUnit};
 ghost use Rattle.c_tree_sizes.specs.Pieces.{HasPieces};
+ghost use Rattle.c_tree_sizes.specs.Theorems.{SpecifiersMakeTwoForAToken, DeclaratorsMakeTwoForAToken};
 
 /// A typed unit, well typed or not, makes at most two things for each token that it is spelled with, and two more for each string literal
 /// and each other object that lives as long as the program. So a number of 32 bits counts what a unit of fewer than 2 ^ 29 tokens and
@@ -22,6 +23,6 @@ pub fn a_unit_makes_few_things_for_its_tokens()
 pub fn a_part_makes_two_things_for_a_token()
     ensures expression { (e : TypedExpr) → All HasPieces (made_by e) → length (made_by e) ≤ length (expr_spelling (erased e)) + length (expr_spelling (erased e)) }
     ensures place { (p : TypedPlace) → All HasPieces (made_by_place p) → length (made_by_place p) ≤ length (expr_spelling (erased_place p)) + length (expr_spelling (erased_place p)) }
-    ensures specifiers { (x : TypedSpecifiers) → All HasPieces (made_by_specifiers x) → length (made_by_specifiers x) ≤ length (specifiers_spelling (erased_specifiers x)) + length (specifiers_spelling (erased_specifiers x)) }
-    ensures declarator { (d : TypedDeclarator) → All HasPieces (made_by_declarator d) → length (made_by_declarator d) ≤ length (declarator_spelling (erased_declarator d)) + length (declarator_spelling (erased_declarator d)) }
+    ensures specifiers { SpecifiersMakeTwoForAToken }
+    ensures declarator { DeclaratorsMakeTwoForAToken }
 {}

@@ -7,6 +7,4 @@ pub mod UsedSteps
 pub mod UsedParameters
 pub mod UsedTrees
 pub mod UsedWhole
-pub mod SameChains
-pub mod SameUses
 pub mod UsedValues

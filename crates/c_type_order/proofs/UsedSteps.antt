@@ -31,7 +31,7 @@ use Rattle.c_typing.specs.Specifying
 use Rattle.c_typing.specs.Specifying.{in_scopes, typedef_named, tagged_by, tagged_as, new_aggregate, begun_as, begun, is_definable, defined, completing, ended, is_taken_at_end, completed, enum_tag, enumerator, enumerator_with, valued_enumerator, enumeration_begun, enumeration}
 use Rattle.c_typing.specs.Tests
 use Rattle.c_typing.specs.Tests.{AsValue, first_broken, is_tag_of, is_taken_tag}
-use Rattle.c_typing.specs.Typing.{next_value, last_value, shape_of_kind, tagging, counting_aggregate, tag_named_here}
+use Rattle.c_typing.specs.Typing.{next_value, last_value, shape_of_kind, tagging, counting_aggregate, tag_named_here, enumerated, is_taken_enumeration}
 use Rattle.c_typing_laws.proofs.ExtensionLaws.{and_left}
 use Rattle.c_typing_laws.proofs.JudgedSpecifiers.{named_here-there}
 use Rattle.c_typing_laws.proofs.KnownScopes.{tag-there}
@@ -109,6 +109,7 @@ tagged_as-used which name None t s r there h = new_aggregate-used which name.pla
 tagged_as-used which name (Some (tag.Aggregate other u)) t s r there h =
     given-same (λ (v : TypeId) (q : State). IsUsed (Alone v) s.table q.table) u t s r h (there-used s.table u (there (tag.Aggregate other u) refl).1.0)
 tagged_as-used which name (Some tag.Enumeration) t s r there h = never-gives t (TooLarge name.place Types) s r h
+tagged_as-used which name (Some tag.Enumerating) t s r there h = never-gives t (TooLarge name.place Types) s r h
 
 pub tagged_by-used : (which : AggregateKind) (at : Place) (name : Identifier) (found : State → Option Tag) (one : TypedSpecifier) (s r : State)
     → ((what : Tag) → found s ≡ Some what → IsTagThere s.table what) → tagged_by which at name found s ≡ Gives one r → SpecifierUsed one s.table r.table
@@ -141,6 +142,7 @@ module _ (which : AggregateKind) (at : Place) (name : Option Identifier) (o : Op
   begun_by false (Some (tag.Aggregate other t)) q h =
       begun-same (Some t) s h (there-used s.table t (named_here-there s.table s.seen.scopes name (tag.Aggregate other t) k.levels q).1.0)
   begun_by false (Some tag.Enumeration) q h = begun-same None s h (used-none s.table)
+  begun_by false (Some tag.Enumerating) q h = begun-same None s h (used-none s.table)
   begun_by false None q h =
       let two = bind-gives (new_aggregate which (tag_place at name) name s) (λ t. pure (Some t)) o m h in
       begun-same (Some two.0) two.1 two.3 (new_aggregate-used which (tag_place at name) name two.0 s two.1 two.2)
@@ -225,14 +227,15 @@ valued-used all list name at v S s r p h =
     (by_known (λ (q : State). enumerator_with all name at v.expr (constant_value q.table v.expr))) s list r h in
     valued_by all list name at v S s r (constant_value s.table v.expr) p go.1
 
-pub begun-table : (name : Option Identifier) (found : Bool) (s r : State) → enumeration_begun name s ≡ Gives found r → r.table ≡ s.table
+pub begun-table : (name : Option Identifier) (begun : Bool) (s r : State) → enumeration_begun name s ≡ Gives begun r → r.table ≡ s.table
 unfolding enumeration_begun
-begun-table name found s r h = ap (λ (q : State). q.table) (sym (gives-state (_) found (_) r h))
+begun-table name begun s r h = ap (λ (q : State). q.table) (sym (gives-state (_) begun (_) r h))
 
-pub enumeration-used : (counts : Counted) (at : Place) (name : Option Identifier) (brace : Place) (found : Bool) (list : TypedEnumerators) (comma : Bool) (one : TypedSpecifier) (S : Table) (s r : State)
-    → IsUsed (λ U. used_by_enumerators U list) S s.table → enumeration counts at name brace found list comma s ≡ Gives one r → SpecifierUsed one S r.table
+pub enumeration-used : (counts : Counted) (at : Place) (name : Option Identifier) (brace : Place) (list : TypedEnumerators) (comma : Bool) (one : TypedSpecifier) (S : Table) (s r : State)
+    → IsUsed (λ U. used_by_enumerators U list) S s.table → enumeration counts at name brace list comma s ≡ Gives one r → SpecifierUsed one S r.table
 unfolding enumeration
-enumeration-used counts at name brace found list comma one S s r p h =
-    let go = unless-gives (first_broken (Tests.enumeration_tests found (tag_place at name) ++ Tests.word_tests at (one_named counts)))
-    (pure (typed.Enumeration at name brace list comma)) s one r h in
-    specifier-same (typed.Enumeration at name brace list comma) one S s r go.1 p
+enumeration-used counts at name brace list comma one S s r p h =
+    let go = unless-gives
+    (first_broken (Tests.enumeration_tests (is_taken_enumeration (tag_named_here s.seen.scopes name)) (tag_place at name) ++ Tests.word_tests at (one_named counts)))
+    (in_scopes (enumerated name) (typed.Enumeration at name brace list comma)) s one r h in
+    specifier-same (typed.Enumeration at name brace list comma) one S (_) r go.1 p

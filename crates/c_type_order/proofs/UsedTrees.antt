@@ -185,11 +185,11 @@ mutual
       (then_used (begun_uses start.0) (λ U. used_by_members U rows.0) s.table start.1.table rows.1.table (begun-used which at name start.0 s start.1 k start.2) made) rows.3
   specifier-uses (tree.Enum at name) counts one s r k h = enum-used counts at name one s r h
   specifier-uses (tree.Enumeration at name brace all comma) counts one s r k h =
-      let start = bind-gives (enumeration_begun name s) (λ f. λ m. next (judge_enumerators all m) (λ list. enumeration counts at name brace f list comma)) one r h in
+      let start = bind-gives (enumeration_begun name s) (λ f. λ m. next (judge_enumerators all m) (λ list. enumeration counts at name brace list comma)) one r h in
       let b = enumeration_begun-judged name start.0 s start.1 k start.2 in
-      let two = bind-gives (judge_enumerators all start.1) (λ list. enumeration counts at name brace start.0 list comma) one r start.3 in
-      let made = enumerators-use all two.0 start.1 two.1 b.2.known two.2 in
-      enumeration-used counts at name brace start.0 two.0 comma one s.table two.1 r
+      let two = bind-gives (judge_enumerators all start.1) (λ list. enumeration counts at name brace list comma) one r start.3 in
+      let made = enumerators-use all two.0 start.1 two.1 b.1.known two.2 in
+      enumeration-used counts at name brace two.0 comma one s.table two.1 r
       (subst (λ (T : Table). IsUsed (λ U. used_by_enumerators U two.0) T two.1.table) (begun-table name start.0 s start.1 start.2) made) two.3
 
   pub members-use : (all : tree.Members) (rows : TypedMembers) (s r : State) → IsKnown s → judge_members all s ≡ Gives rows r → IsUsed (λ U. used_by_members U rows) s.table r.table

@@ -1,2 +1,3 @@
 pub mod TypesUsed
 pub mod Uses
+pub mod Theorems

@@ -7,4 +7,3 @@
 
 pub mod declarations;
 pub mod expressions;
-pub mod growth;

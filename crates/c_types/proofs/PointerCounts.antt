@@ -1,14 +1,15 @@
 -- How many pointers a type holds: by the counts of its parts, and as a table changes.
-use Rattle.std.proofs.Common.{◌≡◌, ◌≢◌, ℕ, zero, suc, ◌+◌, ◌*◌, ◌<◌, ◌≤◌, max, Bool, true, false, List, [], ◌∷◌, ◌++◌, length, map, Option, Some, None, refl, ap, sym, ◌∙◌, nat_lt, if◌then◌else◌, arith}
+use Rattle.std.proofs.Common.{◌≡◌, ◌≢◌, ℕ, zero, suc, ◌+◌, ◌*◌, ◌<◌, ◌≤◌, max, Bool, true, false, true≢false, List, [], ◌∷◌, ◌++◌, length, map, Option, Some, None, refl, ap, sym, ◌∙◌, nat_lt, if◌then◌else◌, arith}
 use Rattle.std.specs.Prelude.{IfSome}
 use Rattle.std.specs.List.{Contains, fold}
 use Rattle.std.proofs.Math.Nat.{mul-le-mul_left}
+use Rattle.std.proofs.lemmas.List.{get_or_past}
 use Rattle.std.proofs.lemmas.List.Elements.{All-contains}
 use Rattle.cc_base.specs.declared.number.TypeId.{TypeId}
 use Rattle.c_types.specs.Layouts.{rounded, layout_of_shape, layout_of, layout_step, size_of}
 use Rattle.c_types.specs.PointerCounts.{larger, largest_member, of_some, pointers_of_shape, pointers_step, pointers_in}
 use Rattle.c_types.specs.Sound.{IsFormed, IsWellFormed}
-use Rattle.c_types.specs.Table.{Table, Entry, IsComplete, IsRanked, shape_at, members_at, parts_at, parts_of_shape}
+use Rattle.c_types.specs.Table.{Table, Entry, IsComplete, IsRanked, void_entry, entry_at, shape_at, members_at, parts_at, parts_of_shape, is_complete, is_complete_entry, descend}
 use Rattle.c_types.specs.declared.layout.Layout.{Layout}
 use Rattle.c_types.specs.declared.shape.TypeShape.{TypeShape}
 use Rattle.c_types.specs.declared.shape.TypeShape.TheVariants.{Void, Integer, Pointer, Array, Function, Struct, Union}
@@ -56,7 +57,7 @@ module _ (size length_of f g : TypeId → ℕ) where
       union_same (Some (larger size found m)) ms (larger_agrees found m p own) (λ u c. same u (contains_tail m ms u c))
       ∙ ap (λ (k : TypeId). of_some g (largest_member length_of (Some k) ms)) (larger_same found m p own)
 
-  pointers_same : (x : TypeShape) (ms : List TypeId) → ((m : TypeId) → Contains (parts_of_shape x ms) m → Agree m)
+  pub pointers_same : (x : TypeShape) (ms : List TypeId) → ((m : TypeId) → Contains (parts_of_shape x ms) m → Agree m)
       → pointers_of_shape size f x ms ≡ pointers_of_shape length_of g x ms
   pointers_same Void ms same = refl
   pointers_same (Integer bytes signed) ms same = refl
@@ -73,6 +74,26 @@ pointers_are table rank r t =
     descend_is (pointers_step table) 0 (parts_at table) rank
     (λ f g u same. pointers_same (size_of table) (size_of table) f g (shape_at table u) (members_at table u) (λ m c. (refl, same m c)))
     r.falls (suc (length table)) t (rank_bound table rank r t)
+
+-- what is not complete holds none
+open_none : (size p : TypeId → ℕ) (x : TypeShape) (ms : List TypeId) → is_complete_entry x ms ≡ false → pointers_of_shape size p x ms ≡ 0
+open_none size p Void ms h = refl
+open_none size p (Function ps r) ms h = refl
+open_none size p (Struct n) [] h = refl
+open_none size p (Union n) [] h = refl
+open_none size p (Struct n) (m ∷ ms) h = absurd (true≢false h)
+open_none size p (Union n) (m ∷ ms) h = absurd (true≢false h)
+open_none size p (Integer bytes signed) ms h = absurd (true≢false h)
+open_none size p (Pointer node to) ms h = absurd (true≢false h)
+open_none size p (Array element count) ms h = absurd (true≢false h)
+
+pub pointers_none : (table : Table) (t : TypeId) → is_complete (entry_at table t) ≡ false → pointers_in table t ≡ 0
+unfolding pointers_in
+pointers_none table t h = open_none (size_of table) (descend (pointers_step table) 0 (length table)) (shape_at table t) (members_at table t) h
+
+-- nor does what is no type
+pub pointers_outside : (table : Table) (t : TypeId) → length table ≤ t.0 → pointers_in table t ≡ 0
+pointers_outside table t h = pointers_none table t (ap is_complete (get_or_past table t.0 void_entry h))
 
 -- A table changes at one place.
 

@@ -8,6 +8,6 @@ pub mod Cells
 pub mod Equality
 pub mod Sameness
 pub mod Flows
+pub mod Contents
 pub mod Widths
-pub mod Solutions
 pub mod Coverage

@@ -1,3 +1,4 @@
+//! Why a table of types refuses a type.
 #![tactic(auto)]
 
 use cc_base::Limit;

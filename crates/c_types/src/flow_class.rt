@@ -1,3 +1,4 @@
+//! The classes of a flow between pointers, by what the two types have in common.
 #![tactic(auto)]
 
 /// How a pointer to one type may become a pointer to another (CCured, TOPLAS 2005).

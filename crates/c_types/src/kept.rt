@@ -1,3 +1,4 @@
+//! What the table keeps of each type beside its shape.
 #![tactic(auto)]
 
 use crate::layout::Layout;

@@ -1,3 +1,4 @@
+//! Sizes and alignments.
 #![tactic(auto)]
 
 ghost use Rattle.std.specs.Prelude.{◌≡◌, ◌≤◌, ◌<◌};

@@ -7,7 +7,6 @@ mod flow_class;
 mod kept;
 mod layout;
 mod shape;
-mod site;
 mod table;
 
 pub use fault::TypeFault;
@@ -15,5 +14,4 @@ pub use flow_class::FlowClass;
 pub use kept::FieldPlace;
 pub use layout::Layout;
 pub use shape::{TypeList, TypeShape};
-pub use site::Site;
 pub use table::Types;

@@ -1,3 +1,4 @@
+//! The shapes of types: what each type of the table is.
 #![tactic(auto)]
 
 ghost use Rattle.std.specs.Prelude.{◌≡◌};

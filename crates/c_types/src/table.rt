@@ -1,3 +1,4 @@
+//! The table of types: adding, defining and reading types.
 #![tactic(auto)]
 
 ghost use Rattle.std.specs.Prelude.{◌≡◌, ◌↔◌, ◌⊎◌, ◌+◌, ◌<◌, ◌≤◌, [], ◌∷◌, ◌++◌, length, sum_by, None, Some, IfOk, IfErr, OnOk, OnErr, SomeIff, IfSome, IsTrue, MatchOption, map, ◌*◌};

@@ -1,7 +1,6 @@
 -- Laws on scopes, and on what is seen of the maps that keep them.
 use Rattle.std.proofs.Common.{◌≡◌, ℕ, suc, ◌+◌, ◌-◌, not, ◌<◌, Bool, true, false, cond, List, [], ◌∷◌, ◌++◌, length, take, get_or, slice_set, map, nat_lt, Result, Ok, Err, OnOk, Option, Some, None, refl, ap, sym, ◌∙◌, bytes_eq, subst, ◌||◌, arith}
 use Rattle.std.specs.List.{list_any, position, position_or_len}
-use Rattle.std.specs.Map.{lookup}
 use Rattle.std.proofs.lemmas.List.{length-map}
 use Rattle.std.proofs.lemmas.Bool.Decides.{nat_tests}
 use Rattle.std.proofs.lemmas.Option.{none-some}
@@ -9,35 +8,11 @@ use Rattle.indexmap.specs.IndexMap.{insert_entry}
 use Rattle.indexmap.specs.IndexSet.{insert_key}
 use Rattle.c_typing.specs.declared.declared.Declared.{Declared}
 use Rattle.c_typing.specs.declared.declared.Tag.{Tag}
-use Rattle.c_typing.specs.Scopes.{Name, Level, Seen, entry_of, seen_entries, with_name, with_tag, with_scopes, leaving, declaring, declaring_tag, here, tag_here, at_innermost, or_outer, name_in, tag_in, innermost, without_innermost, place_among}
+use Rattle.named_lists.proofs.EntryLaws.{insert-seen, entry-last}
+use Rattle.c_typing.specs.Scopes.{Name, Level, Seen, entry_of, with_entry, seen_entries, with_name, with_tag, with_tag_set, with_scopes, leaving, here, tag_here, at_innermost, or_outer, name_in, tag_in, innermost, without_innermost, place_among}
 
 abbrev level : List (Name × Declared) → List (Name × Tag) → Level
 level names tags = record { names = names; tags = tags }
-
--- what is found in a map is the entry of the name
-pub lookup-seen : {K A : Type 0} (bytes : K → Name) (test : K → Bool) (name : Name) → ((k : K) → test k ≡ bytes_eq name (bytes k))
-    → (es : List (K × A)) → lookup test es ≡ entry_of (seen_entries bytes es) name
-lookup-seen bytes test name same [] = refl
-lookup-seen bytes test name same (e ∷ es) =
-    ap (λ b. cond b (Some e.1) (lookup test es)) (same e.0)
-    ∙ ap (λ r. cond (bytes_eq name (bytes e.0)) (Some e.1) r) (lookup-seen bytes test name same es)
-
-inserted : {K A : Type 0} (bytes : K → Name) (e : K × A) (k : K) (v : A) (es changed : List (K × A)) (rest : Option A) (b : Bool)
-    → cond b (Some e.1) rest ≡ None
-    → (rest ≡ None → seen_entries bytes changed ≡ seen_entries bytes es ++ (bytes k, v) ∷ [])
-    → seen_entries bytes (cond b ((e.0, v) ∷ es) (e ∷ changed)) ≡ seen_entries bytes (e ∷ es) ++ (bytes k, v) ∷ []
-inserted bytes e k v es changed rest true h step = absurd (none-some e.1 (sym h))
-inserted bytes e k v es changed rest false h step = ap (λ r. (bytes e.0, e.1) ∷ r) (step h)
-
--- a name that a map does not have is put at its end
-pub insert-seen : {K A : Type 0} (bytes : K → Name) (eq : K → K → Bool) (k : K) (v : A) → ((x : K) → eq k x ≡ bytes_eq (bytes k) (bytes x))
-    → (es : List (K × A)) → entry_of (seen_entries bytes es) (bytes k) ≡ None
-    → seen_entries bytes (insert_entry eq es k v) ≡ seen_entries bytes es ++ (bytes k, v) ∷ []
-insert-seen bytes eq k v same [] h = refl
-insert-seen bytes eq k v same (e ∷ es) h =
-    ap (λ b. seen_entries bytes (cond b ((e.0, v) ∷ es) (e ∷ insert_entry eq es k v))) (same e.0)
-    ∙ inserted bytes e k v es (insert_entry eq es k v) (entry_of (seen_entries bytes es) (bytes k)) (bytes_eq (bytes k) (bytes e.0)) h
-    (λ g. insert-seen bytes eq k v same es g)
 
 -- a map of names with one more
 pub names-declared : {K : Type 0} (bytes : K → Name) (eq : K → K → Bool) → ((k x : K) → eq k x ≡ bytes_eq (bytes k) (bytes x))
@@ -47,19 +22,20 @@ pub names-declared : {K : Type 0} (bytes : K → Name) (eq : K → K → Bool) �
 names-declared bytes eq same es changed tags k name what l seen named made =
     let P : Level → Type 0 = λ m. entry_of m.names name ≡ None → level (seen_entries bytes changed) tags ≡ with_name name what m in
     subst P seen (λ none. ap (λ ns. level ns tags) (ap (seen_entries bytes) made
-    ∙ insert-seen bytes eq k what (same k) es (ap (entry_of (seen_entries bytes es)) named ∙ none)
-    ∙ ap (λ n. seen_entries bytes es ++ (n, what) ∷ []) named))
+    ∙ insert-seen bytes eq k what (same k) es
+    ∙ ap (λ n. with_entry n what (seen_entries bytes es)) named
+    ∙ entry-last name what (seen_entries bytes es) none))
 
--- a map of tags with one more
-pub tags-declared : {K : Type 0} (bytes : K → Name) (eq : K → K → Bool) → ((k x : K) → eq k x ≡ bytes_eq (bytes k) (bytes x))
+-- a map of tags in which a tag is set
+pub tags-set : {K : Type 0} (bytes : K → Name) (eq : K → K → Bool) → ((k x : K) → eq k x ≡ bytes_eq (bytes k) (bytes x))
     → (es changed : List (K × Tag)) (names : List (Name × Declared)) (k : K) (name : Name) (what : Tag) (l : Level)
-    → level names (seen_entries bytes es) ≡ l → bytes k ≡ name → changed ≡ insert_entry eq es k what → entry_of l.tags name ≡ None
-    → level names (seen_entries bytes changed) ≡ with_tag name what l
-tags-declared bytes eq same es changed names k name what l seen named made =
-    let P : Level → Type 0 = λ m. entry_of m.tags name ≡ None → level names (seen_entries bytes changed) ≡ with_tag name what m in
-    subst P seen (λ none. ap (λ ts. level names ts) (ap (seen_entries bytes) made
-    ∙ insert-seen bytes eq k what (same k) es (ap (entry_of (seen_entries bytes es)) named ∙ none)
-    ∙ ap (λ n. seen_entries bytes es ++ (n, what) ∷ []) named))
+    → level names (seen_entries bytes es) ≡ l → bytes k ≡ name → changed ≡ insert_entry eq es k what
+    → level names (seen_entries bytes changed) ≡ with_tag_set name what l
+tags-set bytes eq same es changed names k name what l seen named made =
+    let P : Level → Type 0 = λ m. level names (seen_entries bytes changed) ≡ with_tag_set name what m in
+    subst P seen (ap (λ ts. level names ts) (ap (seen_entries bytes) made
+    ∙ insert-seen bytes eq k what (same k) es
+    ∙ ap (λ n. with_entry n what (seen_entries bytes es)) named))
 
 -- the innermost scope is the last
 pub innermost-last : (l : Level) (ls : List Level) (d : Level) → 0 < length ls → innermost (l ∷ ls) ≡ get_or ls (length ls - 1) d
@@ -100,6 +76,14 @@ left file inner changed defined members node globals cells now seen made =
     subst P seen (λ more. ap (λ ls. with_scopes (seen_of file inner defined members node globals cells) (record { levels = ls; defined = defined; members = members }))
     (ap (λ ls. file ∷ ls) made ∙ sym (without-last file inner (omega arith))))
 
+-- the last of the scopes, which is not the file's
+pub innermost-popped : (file : Level) (inner : List Level) (defined : List Name) (members : List (List Name)) (node globals cells : ℕ) (now : Seen)
+    → seen_of file inner defined members node globals cells ≡ now → 1 < length now.scopes.levels
+    → (0 < length inner) × (get_or inner (length inner - 1) file ≡ innermost now.scopes.levels)
+innermost-popped file inner defined members node globals cells now seen =
+    let P : Seen → Type 0 = λ t. 1 < length t.scopes.levels → (0 < length inner) × (get_or inner (length inner - 1) file ≡ innermost t.scopes.levels) in
+    subst P seen (λ more. let some : 0 < length inner = omega arith in (some, sym (innermost-last file inner file some)))
+
 -- the declaration of a name in the last of the scopes
 pub here-last : (file : Level) (inner : List Level) (defined : List Name) (members : List (List Name)) (node globals cells : ℕ) (now : Seen) (name : Name) (m : Level)
     → seen_of file inner defined members node globals cells ≡ now → 0 < length inner → m ≡ get_or inner (length inner - 1) m
@@ -121,13 +105,15 @@ at-last f l (k ∷ (j ∷ ls)) m d h e =
     ∙ ap (λ n. k ∷ slice_set (j ∷ ls) n m) (sym g)
     ∙ ap (λ n. slice_set (k ∷ (j ∷ ls)) n m) i)
 
-pub declared-last : (file : Level) (inner : List Level) (defined : List Name) (members : List (List Name)) (node globals cells : ℕ) (now : Seen) (name : Name) (what : Declared) (m n : Level)
-    → seen_of file inner defined members node globals cells ≡ now → 0 < length inner → m ≡ get_or inner (length inner - 1) m → n ≡ with_name name what m
-    → seen_of file (slice_set inner (length inner - 1) n) defined members node globals cells ≡ with_scopes now (declaring name what now.scopes)
-declared-last file inner defined members node globals cells now name what m n seen some last new =
-    let P : Seen → Type 0 = λ t. seen_of file (slice_set inner (length inner - 1) n) defined members node globals cells ≡ with_scopes t (declaring name what t.scopes) in
+pub changed-last : (f : Level → Level) (file : Level) (inner : List Level) (defined : List Name) (members : List (List Name)) (node globals cells : ℕ) (now : Seen) (m n : Level)
+    → seen_of file inner defined members node globals cells ≡ now → 0 < length inner → m ≡ get_or inner (length inner - 1) m → n ≡ f m
+    → seen_of file (slice_set inner (length inner - 1) n) defined members node globals cells
+    ≡ with_scopes now (record now.scopes { levels = at_innermost f now.scopes.levels })
+changed-last f file inner defined members node globals cells now m n seen some last new =
+    let P : Seen → Type 0 = λ t. seen_of file (slice_set inner (length inner - 1) n) defined members node globals cells
+    ≡ with_scopes t (record t.scopes { levels = at_innermost f t.scopes.levels }) in
     subst P seen (ap (λ ls. with_scopes (seen_of file inner defined members node globals cells) (record { levels = ls; defined = defined; members = members }))
-    (sym (at-last (with_name name what) file inner n m some (new ∙ ap (with_name name what) last))))
+    (sym (at-last f file inner n m some (new ∙ ap f last))))
 
 or-none : {A : Type 0} (o : Option A) → o ≡ or_outer o None
 or-none None = refl
@@ -149,22 +135,13 @@ pub on_ok : {T E : Type 0} (P Q : Type 0) (r : Result T E) → (P → Q) → OnO
 on_ok P Q (Ok x) f p = f p
 on_ok P Q (Err e) f p = p
 
--- the same of tags
+-- Tags
 
-pub tag_here-last : (file : Level) (inner : List Level) (defined : List Name) (members : List (List Name)) (node globals cells : ℕ) (now : Seen) (name : Name) (m : Level)
-    → seen_of file inner defined members node globals cells ≡ now → 0 < length inner → m ≡ get_or inner (length inner - 1) m
-    → tag_here now.scopes.levels name ≡ None → entry_of m.tags name ≡ None
-tag_here-last file inner defined members node globals cells now name m seen some last none =
-    ap (λ l. entry_of l.tags name) (last ∙ sym (innermost-last file inner m some))
-    ∙ ap (λ t. tag_here t.scopes.levels name) seen ∙ none
-
-pub tag_declared-last : (file : Level) (inner : List Level) (defined : List Name) (members : List (List Name)) (node globals cells : ℕ) (now : Seen) (name : Name) (what : Tag) (m n : Level)
-    → seen_of file inner defined members node globals cells ≡ now → 0 < length inner → m ≡ get_or inner (length inner - 1) m → n ≡ with_tag name what m
-    → seen_of file (slice_set inner (length inner - 1) n) defined members node globals cells ≡ with_scopes now (declaring_tag name what now.scopes)
-tag_declared-last file inner defined members node globals cells now name what m n seen some last new =
-    let P : Seen → Type 0 = λ t. seen_of file (slice_set inner (length inner - 1) n) defined members node globals cells ≡ with_scopes t (declaring_tag name what t.scopes) in
-    subst P seen (ap (λ ls. with_scopes (seen_of file inner defined members node globals cells) (record { levels = ls; defined = defined; members = members }))
-    (sym (at-last (with_tag name what) file inner n m some (new ∙ ap (with_tag name what) last))))
+-- a tag that the innermost scope does not have is declared there where it is set
+pub tag_set-new : (name : Name) (what : Tag) (ls : List Level) → tag_here ls name ≡ None → at_innermost (with_tag_set name what) ls ≡ at_innermost (with_tag name what) ls
+tag_set-new name what [] h = refl
+tag_set-new name what (l ∷ []) h = ap (λ ts. level l.names ts ∷ []) (entry-last name what l.tags h)
+tag_set-new name what (l ∷ (m ∷ ls)) h = ap (λ r. l ∷ r) (tag_set-new name what (m ∷ ls) h)
 
 pub tag_in-push : (ls : List Level) (l : Level) (name : Name) → tag_in (ls ++ l ∷ []) name ≡ or_outer (entry_of l.tags name) (tag_in ls name)
 tag_in-push [] l name = or-none (entry_of l.tags name)

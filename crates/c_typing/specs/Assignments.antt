@@ -8,6 +8,7 @@ use Rattle.c_types.specs.declared.shape.TypeShape.{TypeShape}
 use Rattle.c_types.specs.declared.shape.TypeShape.TheVariants as shape
 use Rattle.c_types.specs.Table.{Table, shape_at, entry_at, is_complete}
 use Rattle.c_types.specs.Layouts.{size_of}
+use Rattle.c_tree.specs.Literals.{pieces_bytes}
 use Rattle.c_tree.specs.declared.leaf.Identifier.{Identifier}
 use Rattle.c_tree.specs.declared.leaf.StringPiece.{StringPiece}
 use Rattle.c_tree.specs.declared.operator.Assignment.{Assignment}
@@ -18,7 +19,7 @@ use Rattle.c_tree.specs.declared.typed_word.Runtime.{Runtime}
 use Rattle.c_tree.specs.Places.{pieces_place}
 use Rattle.c_tree.specs.TypedTree as typed
 use Rattle.c_tree.specs.TypedTree.{TypedExpr, TypedPlace, TypedArguments, TypedTypeName}
-use Rattle.c_tree.specs.TypedParts.{type_of, place_type, named_type}
+use Rattle.c_tree.specs.TypedParts.{Made, Literal, type_of, place_type, named_type}
 use Rattle.runtime_calls.specs.declared.function.RuntimeType.{RuntimeType}
 use Rattle.runtime_calls.specs.declared.function.RuntimeType.TheVariants as prototype
 use Rattle.runtime_calls.specs.Prototypes.{prototype_of, runtime_of}
@@ -29,7 +30,7 @@ use Rattle.c_typing.specs.Integers.{char, common, left_type, right_type, assigni
 use Rattle.c_typing.specs.Shapes.{is_void_shape, integer_at}
 use Rattle.c_typing.specs.Scopes.{name_in, place_among}
 use Rattle.c_typing.specs.Conversions.{to_integer, implicit, converting, cast_conversion}
-use Rattle.c_typing.specs.Rules.{meeting, meeting_type, into_choice, pieces_bytes, runtime_named}
+use Rattle.c_typing.specs.Rules.{meeting, meeting_type, into_choice, runtime_named}
 use Rattle.c_typing.specs.Tests as tests
 use Rattle.c_typing.specs.Tests.{Elaborated, AsPlace, AsValue, AsAllocation}
 use Rattle.c_typing.specs.Refusals.{type_size_tests}
@@ -259,3 +260,8 @@ literal pieces = leaf (pieces_place pieces) (do
   t ← string_type (pieces_place pieces) (literal_size pieces)
   bytes ← count_global (pieces_place pieces) (literal_size pieces)
   pure (AsPlace (typed.String pieces n t)))
+
+-- the bytes of a literal are counted, and 16 more
+abbrev pub literal_cost : Made → ℕ
+literal_cost (Literal pieces home t) = literal_size pieces + 16
+literal_cost made = 0

@@ -1,15 +1,11 @@
 -- The pointers that an object holds: what the assignment of a struct or union moves.
-use Rattle.std.specs.Prelude.{ℕ, ◌+◌, nat_le, Option, None, Some, if◌then◌else◌}
+use Rattle.std.specs.Prelude.{◌+◌, nat_le, if◌then◌else◌}
 use Rattle.cc_base.specs.declared.place.Place.{Place}
 use Rattle.cc_base.specs.declared.number.TypeId.{TypeId}
 use Rattle.cc_base.specs.declared.fault.Fault.TheVariants.{TooLarge}
 use Rattle.cc_base.specs.declared.fault.Limit.TheVariants.{Cells}
-pub use Rattle.c_types.specs.PointerCounts.{larger, largest_member, of_some, pointers_of_shape, pointers_step, pointers_in}
+pub use Rattle.c_types.specs.PointerCounts.{pointers_in}
 use Rattle.c_typing.specs.Judging.{Judging, Gives, Stops}
-
--- a number that is within the limit
-abbrev pub limited : ℕ → Option ℕ
-limited n = if nat_le n 65536 then Some n else None
 
 -- those that one assignment of the type t moves are counted
 unfoldable pub count_cells : Place → TypeId → Judging TypeId

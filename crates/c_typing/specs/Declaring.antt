@@ -19,8 +19,8 @@ use Rattle.c_tree.specs.declared.typed_word.TypedStar.{TypedStar}
 use Rattle.c_tree.specs.Tree as tree
 use Rattle.c_tree.specs.Places.{nowhere}
 use Rattle.c_tree.specs.TypedTree as typed
-use Rattle.c_tree.specs.TypedTree.{TypedExpr, TypedSpecifiers, TypedForm, TypedCore, TypedParts, TypedParameters, TypedDeclared, TypedMemberDeclarators}
-use Rattle.c_tree.specs.TypedParts.{specified_type, home_of_form}
+use Rattle.c_tree.specs.TypedTree.{TypedSpecifiers, TypedForm, TypedCore, TypedParts, TypedParameters, TypedDeclared, TypedMemberDeclarators}
+use Rattle.c_tree.specs.TypedParts.{specified_type, declared_home}
 use Rattle.c_typing.specs.declared.declared.Declared.TheVariants as declared
 use Rattle.c_typing.specs.declared.naming.Naming.{Naming}
 use Rattle.c_typing.specs.declared.naming.Naming.TheVariants as naming
@@ -224,10 +224,6 @@ unfoldable pub parameter_declared : Place → Option Identifier → Home → Typ
 parameter_declared at (Some name) (home.Parameter n) t = in_scopes (declaring name.bytes (declared.Object t n)) t
 parameter_declared at None home t = pure t
 parameter_declared at name home t = stop (TooLarge at Types)
-
-abbrev pub declared_home : TypedDeclared → Home
-declared_home typed.NotDeclared = home.None
-declared_home (typed.DeclaredBy form) = home_of_form form
 
 -- a parameter at the place, whose specifiers and declarator are judged: `adjusting` says from its specifiers' shape whether it is made a pointer
 unfoldable pub parameter : (void : Bool) → Place → (TypeShape → Option Place) → TypedParameters → TypedSpecifiers → TypedDeclared → Judging TypedParameters

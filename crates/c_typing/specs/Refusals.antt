@@ -17,15 +17,15 @@ use Rattle.c_tree.specs.declared.typed_word.Adjusted.{Adjusted}
 use Rattle.c_tree.specs.Places.{nowhere, expr_place, specifiers_place}
 use Rattle.c_tree.specs.Tree as tree
 use Rattle.c_tree.specs.TypedTree as typed
-use Rattle.c_tree.specs.TypedTree.{TypedExpr, TypedPlace, TypedTypeName, TypedSpecifiers, TypedSpecifierList, TypedForm, TypedCore, TypedParts, TypedParameters, TypedDeclared, TypedMembers, TypedMemberDeclarators, TypedEnumerators}
-use Rattle.c_tree.specs.TypedParts.{named_type, specified_type, name_of_form}
+use Rattle.c_tree.specs.TypedTree.{TypedExpr, TypedTypeName, TypedSpecifiers, TypedSpecifierList, TypedForm, TypedCore, TypedParts, TypedParameters, TypedDeclared, TypedMembers, TypedMemberDeclarators, TypedEnumerators}
+use Rattle.c_tree.specs.TypedParts.{named_type, specified_type, name_of_form, is_void_keyword}
 use Rattle.c_tree.specs.Erasure.{erased, erased_place, erased_type_name, erased_specifiers, erased_specifier_list, erased_form, erased_declared, erased_members, erased_member_declarators, erased_enumerators, erased_parameters, erased_parts, erased_core}
 use Rattle.runtime_calls.specs.Prototypes.{runtime_of}
 use Rattle.c_typing.specs.Scopes.{Name, Scopes, here, entering, is_complete_at}
 use Rattle.c_typing.specs.Conversions.{is_plain, is_allocation, is_taken_over}
 use Rattle.c_typing.specs.Rules.{is_made_of_place, runtime_named}
 use Rattle.c_typing.specs.Declarators
-use Rattle.c_typing.specs.Typing.{IsTyped, IsPlace, IsTypeName, AreSpecifiers, AreListed, IsForm, IsCore, AreParts, AreParameters, IsDeclared, AreMembers, AreMemberDeclarators, AreEnumerators, BeginsAggregate, tag_named_here, enumerating}
+use Rattle.c_typing.specs.Typing.{IsTyped, IsPlace, IsTypeName, AreSpecifiers, AreListed, IsForm, IsCore, AreParts, AreParameters, IsDeclared, AreMembers, AreMemberDeclarators, AreEnumerators, BeginsAggregate, tag_named_here, enumerating, is_taken_enumeration}
 use Rattle.c_typing.specs.Tests
 
 abbrev pub Fails : List Tests.Test → Fault → Type 0
@@ -158,7 +158,7 @@ BeginsOrStays T which name t s s' =
 -- `(void)`
 abbrev pub is_void_alone : tree.Parameters → Bool
 is_void_alone (tree.AndParameter tree.NoParameter (tree.AndSpecifier tree.NoSpecifier (tree.Keyword word)) tree.NotDeclared) =
-    Declarators.is_void_keyword word.keyword
+    is_void_keyword word.keyword
 is_void_alone parameters = false
 
 abbrev mutual
@@ -235,7 +235,7 @@ abbrev mutual
   RefusesSpecifier T before (tree.Enumeration at name brace all comma) s f =
       RefusesEnumerators T all (enumerating name s) f
       ⊎ ((list : TypedEnumerators) × (m : Scopes) × AreEnumerators T list (enumerating name s) m × (erased_enumerators list ≡ all)
-      × Fails (Tests.enumeration_tests (Tests.has_some (tag_named_here s name)) (tag_place at name) ++ Tests.word_tests at (one_named before)) f)
+      × Fails (Tests.enumeration_tests (is_taken_enumeration (tag_named_here m name)) (tag_place at name) ++ Tests.word_tests at (one_named before)) f)
 
   pub RefusesMembers : Table → tree.Members → Scopes → Fault → Type 0
   RefusesMembers T tree.NoMember s f = ⊥

@@ -84,7 +84,7 @@ IsThere table (declared.Enumerator value) = Unit {0}
 -- so is that of a tag, and it is a struct or a union as the tag says
 abbrev pub IsTagThere : Table → Tag → Type 0
 IsTagThere table (tag.Aggregate which t) = (number : ℕ) × HasShape table t (shape_of_kind which number)
-IsTagThere table tag.Enumeration = Unit {0}
+IsTagThere table what = Unit {0}
 
 -- so it is with all that a scope declares
 pub record IsLevelThere (table : Table) (level : Level) : Type 0 where

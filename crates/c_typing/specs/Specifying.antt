@@ -21,9 +21,9 @@ use Rattle.c_typing.specs.Scopes.{Name, Scopes, with_scopes, name_in, tag_in, ta
 use Rattle.c_typing.specs.Constants.{constant_value}
 use Rattle.c_typing.specs.Rules.{number_of_shape}
 use Rattle.c_typing.specs.Declarators.{Counted, Named, NoType, IsType, IsEnumeration, counting_word, words_bytes, counted, named_by_list, member_names, member_types}
-use Rattle.c_typing.specs.Typing.{shape_of_kind, counting_aggregate, tagging, tag_named_here, enumerating, next_value, last_value}
+use Rattle.c_typing.specs.Typing.{shape_of_kind, counting_aggregate, tagging, tag_named_here, enumerating, enumerated, is_taken_enumeration, next_value, last_value}
 use Rattle.c_typing.specs.Tests as tests
-use Rattle.c_typing.specs.Tests.{Test, AsValue, first_broken, has_some}
+use Rattle.c_typing.specs.Tests.{Test, AsValue, first_broken}
 use Rattle.c_typing.specs.Refusals.{one_named, tag_place, is_empty_row}
 use Rattle.c_typing.specs.Judging.{State, Judging, Gives, Stops, pure, stop, unless, by_known, ◌>>=◌, type_with, void_type, integer_type}
 use Rattle.c_typing.specs.Operands.{Value}
@@ -76,7 +76,7 @@ new_aggregate which at name = do
 unfoldable pub tagged_as : AggregateKind → Identifier → Option Tag → Judging TypeId
 tagged_as which name None = new_aggregate which name.place (Some name)
 tagged_as which name (Some (tag.Aggregate k t)) = pure t
-tagged_as which name (Some tag.Enumeration) = stop (TooLarge name.place Types)
+tagged_as which name (Some what) = stop (TooLarge name.place Types)
 
 unfoldable pub tagged_by : AggregateKind → Place → Identifier → (State → Option Tag) → Judging TypedSpecifier
 tagged_by which at name found = do
@@ -97,7 +97,7 @@ tagged_alone which at name = obeying (λ s. tests.alone_tests s.seen.scopes (tes
 unfoldable pub begun_as : AggregateKind → Place → Option Identifier → Option Tag → (taken : Bool) → Judging (Option TypeId)
 begun_as which at name found true = pure None
 begun_as which at name (Some (tag.Aggregate k t)) false = pure (Some t)
-begun_as which at name (Some tag.Enumeration) false = pure None
+begun_as which at name (Some what) false = pure None
 begun_as which at name None false = do
   t ← new_aggregate which at name
   pure (Some t)
@@ -169,11 +169,12 @@ valued_enumerator all name at v = obeying
     (λ s. tests.enumerator_tests s.seen.scopes name.bytes name.place ++ tests.constant_tests s.table v.place (AsValue v.expr))
     (by_known (λ s. enumerator_with all name at v.expr (constant_value s.table v.expr)))
 
--- `enum E { .. }` begins: its tag is declared, unless the innermost scope has it; the answer says whether that has it
+-- `enum E { .. }` begins: its tag is declared, unless the innermost scope has it
 unfoldable pub enumeration_begun : Option Identifier → Judging Bool
-enumeration_begun name = by_known (λ s. in_scopes (enumerating name) (has_some (tag_named_here s.seen.scopes name)))
+enumeration_begun name = in_scopes (enumerating name) true
 
-unfoldable pub enumeration : (before : Counted) → Place → Option Identifier → Place → (found : Bool) → TypedEnumerators → (comma : Bool) → Judging TypedSpecifier
-enumeration before at name brace found all comma = obeying
-    (λ s. tests.enumeration_tests found (tag_place at name) ++ tests.word_tests at (one_named before))
-    (pure (typed.Enumeration at name brace all comma))
+-- it ends: from here on its tag is complete
+unfoldable pub enumeration : (before : Counted) → Place → Option Identifier → Place → TypedEnumerators → (comma : Bool) → Judging TypedSpecifier
+enumeration before at name brace all comma = obeying
+    (λ s. tests.enumeration_tests (is_taken_enumeration (tag_named_here s.seen.scopes name)) (tag_place at name) ++ tests.word_tests at (one_named before))
+    (in_scopes (enumerated name) (typed.Enumeration at name brace all comma))

@@ -9,9 +9,10 @@ use Rattle.cc_base.specs.declared.fault.Fault.{Fault}
 use Rattle.cc_base.specs.declared.fault.Fault.TheVariants.{Refused}
 use Rattle.c_types.specs.declared.shape.TypeShape.{TypeShape}
 use Rattle.c_types.specs.declared.shape.TypeShape.TheVariants.{Void, Integer, Pointer, Array, Function}
-use Rattle.c_types.specs.Table.{Table, shape_at, is_aggregate_shape}
+use Rattle.c_types.specs.Table.{Table, shape_at, is_aggregate_shape, is_empty}
 use Rattle.c_types.specs.Equality.{same_bool}
 use Rattle.c_types.specs.Sameness.{is_same_type}
+use Rattle.c_tree.specs.Arithmetic.{operator_of}
 use Rattle.c_tree.specs.declared.operator.Assignment.{Assignment}
 use Rattle.c_tree.specs.declared.operator.Assignment.TheVariants as assignment
 use Rattle.c_tree.specs.declared.operator.Binary.{Binary}
@@ -23,7 +24,7 @@ use Rattle.c_tree.specs.TypedParts.{type_of, place_type}
 use Rattle.c_tree.specs.declared.typed_word.Runtime.{Runtime}
 use Rattle.runtime_calls.specs.declared.function.RuntimeType.{RuntimeType}
 use Rattle.runtime_calls.specs.declared.function.RuntimeType.TheVariants as prototype
-use Rattle.runtime_calls.specs.Prototypes.{prototype_of}
+use Rattle.runtime_calls.specs.Prototypes.{prototype_of, runtime_of}
 use Rattle.c_typing.specs.declared.declared.Declared.{Declared}
 use Rattle.c_typing.specs.declared.declared.Declared.TheVariants as declared
 use Rattle.c_typing.specs.declared.declared.Tag.{Tag}
@@ -35,8 +36,8 @@ use Rattle.c_tree.specs.declared.leaf.Word.{Word}
 use Rattle.integers.specs.Arithmetic.{IntegerType, converted}
 use Rattle.c_typing.specs.Shapes.{is_data, is_integer_shape, is_pointer_shape, is_scalar_shape, is_void_shape, is_function_shape, integer_at}
 use Rattle.c_typing.specs.Integers.{is_order, is_equality, is_logical, assigning, left_type, right_type}
-use Rattle.c_typing.specs.Scopes.{Name, Scopes, name_in, tag_in, here, tag_here, place_among, members_named, is_complete_at, is_no_list}
-use Rattle.c_typing.specs.Constants.{constant_value, is_null_constant, operator_of, cannot_divide}
+use Rattle.c_typing.specs.Scopes.{Name, Scopes, name_in, tag_in, here, tag_here, place_among, members_named, is_complete_at}
+use Rattle.c_typing.specs.Constants.{constant_value, is_null_constant, cannot_divide}
 use Rattle.c_typing.specs.Conversions.{is_taken_as, implicit_between, cast_between}
 use Rattle.c_typing.specs.Rules.{is_lvalue, is_designator, is_compound, number_of_shape, runtime_named}
 
@@ -384,9 +385,15 @@ abbrev pub is_enumeration : Tag → Bool
 is_enumeration tag.Enumeration = true
 is_enumeration what = false
 
+-- no tag, or one of an enumeration whose list goes on
+abbrev pub lacks_enumeration : Option Tag → Bool
+lacks_enumeration None = true
+lacks_enumeration (Some tag.Enumerating) = true
+lacks_enumeration (Some what) = false
+
 -- `enum E` without a list
 abbrev pub enum_tests : Scopes → Name → Place → List Test
-enum_tests s name at = broken_at rule.UnknownName at (is_none (tag_in s.levels name)) ∷ tag_tests s is_enumeration name at
+enum_tests s name at = broken_at rule.UnknownName at (lacks_enumeration (tag_in s.levels name)) ∷ tag_tests s is_enumeration name at
 
 -- whether the innermost scope has the tag as something else, or complete
 abbrev pub is_taken_tag : Table → Scopes → AggregateKind → Option Tag → Bool
@@ -406,13 +413,17 @@ aggregate_tests taken at empty =
     ∷ broken_at rule.Mismatch at empty
     ∷ []
 
--- `enum E { .. }`, after its enumerators: `taken` says that the innermost scope had the tag before
+-- `enum E { .. }`, after its enumerators: `taken` says that the innermost scope has the tag as something else, or complete by then
 abbrev pub enumeration_tests : (taken : Bool) → Place → List Test
 enumeration_tests taken at = broken_at rule.Redeclared at taken ∷ []
 
+-- the name of a runtime function, where the innermost scope is the file's (C99 7.1.3)
+abbrev pub is_reserved : Scopes → Name → Bool
+is_reserved s name = (length s.levels == 1) && has_some (runtime_of name)
+
 -- an enumerator, and its value where it has one
 abbrev pub enumerator_tests : Scopes → Name → Place → List Test
-enumerator_tests s name at = broken_at rule.Redeclared at (has_some (here s.levels name)) ∷ []
+enumerator_tests s name at = broken_at rule.Redeclared at (has_some (here s.levels name) || is_reserved s name) ∷ []
 
 abbrev pub has_constant : Table → Elaborated → Bool
 has_constant T (AsValue e) = has_some (constant_value T e)
@@ -445,7 +456,7 @@ abbrev pub array_tests : Table → Scopes → Outermost → (sized : Bool) → P
 array_tests T s outermost sized bracket words element at =
     broken_at rule.Incomplete bracket (lacks_size outermost sized)
     ∷ broken_at rule.Incomplete at (not (is_complete_at T s element))
-    ∷ broken_at rule.Mismatch (first_word_place words bracket) (not (is_no_list words) && not (is_pointed outermost))
+    ∷ broken_at rule.Mismatch (first_word_place words bracket) (not (is_empty words) && not (is_pointed outermost))
     ∷ []
 
 -- a function part: it gives an array, a function, or a struct or union

@@ -123,9 +123,9 @@ unfoldable mutual
     specifying.ended before which at name brace t rows
   judge_specifier before (tree.Enum at name) = specifying.enum_tag before at name
   judge_specifier before (tree.Enumeration at name brace all comma) = do
-    found ← specifying.enumeration_begun name
+    begun ← specifying.enumeration_begun name
     list ← judge_enumerators all
-    specifying.enumeration before at name brace found list comma
+    specifying.enumeration before at name brace list comma
 
   pub judge_members : tree.Members → Judging TypedMembers
   judge_members tree.NoMember = pure typed.NoMember

@@ -4,11 +4,11 @@
 ghost use Rattle.std.specs.Prelude.{◌≡◌, pos, true, false, Some, None, if◌then◌else◌};
 ghost use Rattle.std.specs.Ordering.{int_eq};
 ghost use Rattle.c_types.specs.Sound.{IsIntegerSize};
+ghost use Rattle.c_tree.specs.Arithmetic.{operator_of};
 ghost use Rattle.c_tree.specs.TypedParts.{type_of};
 ghost use Rattle.c_tree.specs.TypedViews.{typed_expr_view};
 ghost use Rattle.integers.specs.Arithmetic as arithmetic;
 ghost use Rattle.c_typing.specs.Constants as constants;
-ghost use Rattle.c_typing.specs.Constants.{operator_of};
 ghost use Rattle.c_typing.specs.KindViews.{kind_view};
 ghost use Rattle.c_typing.specs.Shapes.{integer_at};
 
@@ -172,9 +172,15 @@ pub fn constant_value(types: &Types, e: &TypedExpr) -> Option<i128>
         TypedExpr::Enumerator(_, value, _) => Some(*value),
         TypedExpr::Paren(_, inner) => constant_value(types, inner.get()),
         TypedExpr::Convert(which, _, t, inner) => {
+            if *which != Conversion::IntegerToInteger {
+                return None;
+            }
             converted_value(types, *which, *t, constant_value(types, inner.get()))
         }
         TypedExpr::Cast(which, _, to, inner) => {
+            if *which != Conversion::IntegerToInteger {
+                return None;
+            }
             converted_value(
                 types,
                 *which,

@@ -2,7 +2,7 @@
 #![tactic(auto)]
 
 ghost use Rattle.std.specs.Prelude.{◌≡◌, OnOk, OnErr, None, option_copied};
-ghost use Rattle.c_typing.specs.Scopes.{entry_of, with_name, with_tag, empty_level};
+ghost use Rattle.c_typing.specs.Scopes.{entry_of, with_name, with_tag_set, empty_level};
 
 use crate::declared::{Declared, Tag};
 use cc_base::NoMemory;
@@ -40,6 +40,9 @@ impl Level {
     pub fn name(&self, name: &[u8]) -> Option<&Declared>
         ensures { option_copied result ≡ entry_of self.now.names name.now }
     {
+        if self.names.is_empty() {
+            return None;
+        }
         self.names.get(name)
     }
 
@@ -47,6 +50,9 @@ impl Level {
     pub fn tag(&self, name: &[u8]) -> Option<&Tag>
         ensures { option_copied result ≡ entry_of self.now.tags name.now }
     {
+        if self.tags.is_empty() {
+            return None;
+        }
         self.tags.get(name)
     }
 
@@ -61,10 +67,9 @@ impl Level {
         Ok(())
     }
 
-    /// Declares a tag that this scope does not have.
-    pub fn declare_tag(&mut self, alloc: Global, name: &[u8], what: Tag) -> Result<(), NoMemory>
-        requires { entry_of self.old.tags name.now ≡ None }
-        ensures declared { OnOk result (self.new ≡ with_tag name.now what self.old) }
+    /// Declares a tag as this, whatever it was before. It keeps its place among the others.
+    pub fn set_tag(&mut self, alloc: Global, name: &[u8], what: Tag) -> Result<(), NoMemory>
+        ensures declared { OnOk result (self.new ≡ with_tag_set name.now what self.old) }
         ensures unchanged { OnErr result (self.new ≡ self.old) }
     {
         let key = Vec::from_slice(alloc, name)?;

@@ -2,7 +2,8 @@
 #![tactic(auto)]
 
 ghost use Rattle.std.specs.Prelude.{◌≡◌, [], ◌∷◌, ◌++◌, OnOk, OnErr, None, not};
-ghost use Rattle.c_typing.specs.Scopes.{place_among, is_no_list};
+ghost use Rattle.c_types.specs.Table.{is_empty};
+ghost use Rattle.c_typing.specs.Scopes.{place_among};
 
 use cc_base::NoMemory;
 use indexmap::IndexSet;
@@ -32,7 +33,7 @@ impl MemberNames {
 
     /// Whether there are any.
     pub fn is_some(&self) -> bool
-        ensures { result ≡ not (is_no_list self.now) }
+        ensures { result ≡ not (is_empty self.now) }
     {
         !self.0.is_empty()
     }

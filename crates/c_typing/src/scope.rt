@@ -1,8 +1,9 @@
 //! The scopes that are open, and what is counted.
 #![tactic(auto)]
 
-ghost use Rattle.std.specs.Prelude.{◌≡◌, ◌<◌, ◌≤◌, ◌+◌, true, false, not, OnOk, OnErr, IfOk, IfSome, None, option_copied, length, nat_le, map, slice_set};
-ghost use Rattle.c_typing.specs.Scopes.{file_scope, with_scopes, entering, leaving, declaring, declaring_tag, here, tag_here, name_in, tag_in, place_among, members_named, is_no_list};
+ghost use Rattle.std.specs.Prelude.{◌≡◌, ◌<◌, ◌≤◌, ◌+◌, true, false, not, OnOk, OnErr, IfOk, IfSome, None, Some, option_copied, [], ◌∷◌, ◌++◌, length, nat_le, map, slice_set};
+ghost use Rattle.c_types.specs.Table.{is_empty};
+ghost use Rattle.c_typing.specs.Scopes.{file_scope, with_scopes, entering, innermost, leaving, declaring, declaring_tag, setting_tag, here, tag_here, name_in, tag_in, place_among, members_named};
 ghost use Rattle.c_typing.specs.Typing.{counting_aggregate};
 
 use crate::declared::{Declared, Tag};
@@ -76,6 +77,24 @@ impl Scope {
     {
         let last = self.inner.len() - 1;
         self.inner.truncate(last);
+    }
+
+    /// Takes the innermost scope away and gives it, where it isn't the file's. Takes no memory.
+    pub fn take_innermost(&mut self) -> Option<Level>
+        requires { 1 < length self.old.scopes.levels }
+        ensures left { self.new ≡ with_scopes self.old (leaving self.old.scopes) }
+        ensures level { result ≡ Some (innermost self.old.scopes.levels) }
+    {
+        self.inner.pop()
+    }
+
+    /// A scope that was taken away goes on as the innermost one.
+    pub fn go_on(&mut self, level: Level) -> Result<(), NoMemory>
+        ensures entered { OnOk result (self.new ≡ with_scopes self.old (record self.old.scopes { levels = self.old.scopes.levels ++ level ∷ [] })) }
+        ensures unchanged { OnErr result (self.new ≡ self.old) }
+    {
+        self.inner.push(level)?;
+        Ok(())
     }
 
     /// How many scopes are open, the file's among them. Takes no memory.
@@ -152,11 +171,19 @@ impl Scope {
         ensures declared { OnOk result (self.new ≡ with_scopes self.old (declaring_tag name.now what self.old.scopes)) }
         ensures unchanged { OnErr result (self.new ≡ self.old) }
     {
+        self.set_tag(name, what)
+    }
+
+    /// Declares a tag in the innermost scope as this, whatever it was before. It keeps its place among the others.
+    pub fn set_tag(&mut self, name: &[u8], what: Tag) -> Result<(), NoMemory>
+        ensures declared { OnOk result (self.new ≡ with_scopes self.old (setting_tag name.now what self.old.scopes)) }
+        ensures unchanged { OnErr result (self.new ≡ self.old) }
+    {
         let count = self.inner.len();
         if count == 0 {
-            return self.file.declare_tag(self.alloc, name, what);
+            return self.file.set_tag(self.alloc, name, what);
         }
-        self.inner[count - 1].declare_tag(self.alloc, name, what)
+        self.inner[count - 1].set_tag(self.alloc, name, what)
     }
 
     /// Where a function stands among those that the unit defines, counted from 0. Takes no memory.
@@ -205,7 +232,7 @@ impl Scope {
 
     /// Whether a struct or union has members so far. Takes no memory.
     pub fn has_members(&self, number: usize) -> bool
-        ensures { result ≡ not (is_no_list (members_named self.now.scopes number)) }
+        ensures { result ≡ not (is_empty (members_named self.now.scopes number)) }
     {
         match self.members.get(number) {
             Some(names) => names.is_some(),

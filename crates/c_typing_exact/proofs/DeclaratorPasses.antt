@@ -6,7 +6,7 @@ use Rattle.cc_base.specs.declared.number.NodeId.{NodeId}
 use Rattle.cc_base.specs.declared.number.TypeId.{TypeId}
 use Rattle.cc_base.specs.declared.fault.Fault.{Fault}
 use Rattle.cc_base.specs.declared.fault.Rule.TheVariants as rule
-use Rattle.c_types.specs.Table.{Table, shape_at}
+use Rattle.c_types.specs.Table.{Table, shape_at, is_empty}
 use Rattle.c_tree.specs.declared.leaf.Word.{Word}
 use Rattle.c_tree.specs.declared.typed_word.TypedStar.{TypedStar}
 use Rattle.c_tree.specs.TypedTree as typed
@@ -14,7 +14,7 @@ use Rattle.c_tree.specs.TypedTree.{TypedForm, TypedCore, TypedParts, TypedParame
 use Rattle.c_tree.specs.TypedParts.{name_of_form}
 use Rattle.c_typing.specs.Declarators.{Outermost, Written, Counts, Points, MakesArray, MakesFunction, PartsMake, StarsMake, FormMakes, CoreMakes, DeclaredMakes, nearest, outside, is_derived, is_derived_core, is_pointed, first_word_place, is_result_shape}
 use Rattle.c_typing.specs.Refusals.{Fails, PartsFail, FormFails, CoreFails, DeclaredFails, name_place}
-use Rattle.c_typing.specs.Scopes.{Scopes, is_complete_at, is_no_list}
+use Rattle.c_typing.specs.Scopes.{Scopes, is_complete_at}
 use Rattle.c_typing.specs.Tests.{Test, broken_at, array_tests, function_tests, lacks_size}
 use Rattle.c_typing_unique.proofs.FormLaws.{parts-make, stars-make, makes-array, makes-function}
 use Rattle.c_typing_unique.proofs.Shapes.{IsDistinct, no_true}
@@ -30,31 +30,31 @@ Allows other o = (other ≡ o) ⊎ ((n : NodeId) × (other ≡ Points n))
 
 -- what an array part keeps to
 abbrev KeepsArray : Table → Scopes → Outermost → Bool → List Word → TypeId → Type 0
-KeepsArray T s o sized words v = (is_complete_at T s v ≡ true) × (lacks_size o sized ≡ false) × ((not (is_no_list words) && not (is_pointed o)) ≡ false)
+KeepsArray T s o sized words v = (is_complete_at T s v ≡ true) × (lacks_size o sized ≡ false) × ((not (is_empty words) && not (is_pointed o)) ≡ false)
 
 array_kept : (T : Table) (s : Scopes) (o : Outermost) (words : List Word) (v u : TypeId) → MakesArray T s o words None v u → KeepsArray T s o false words v
-array_kept T s (Points n) words v u h = (h.0, refl, and_off (not (is_no_list words)) false refl)
-array_kept T s (Counts c) words v u h = (h.1.0, refl, ap (λ (w : List Word). not (is_no_list w) && true) h.0)
+array_kept T s (Points n) words v u h = (h.0, refl, and_off (not (is_empty words)) false refl)
+array_kept T s (Counts c) words v u h = (h.1.0, refl, ap (λ (w : List Word). not (is_empty w) && true) h.0)
 array_kept T s Written words v u h = absurd h
 
 sized_kept : (T : Table) (s : Scopes) (o : Outermost) (words : List Word) (c : ℕ) (v u : TypeId) → MakesArray T s o words (Some c) v u → KeepsArray T s o true words v
-sized_kept T s (Points n) words c v u h = (h.0, refl, and_off (not (is_no_list words)) false refl)
-sized_kept T s (Counts d) words c v u h = (h.1.0, refl, ap (λ (w : List Word). not (is_no_list w) && true) h.0)
-sized_kept T s Written words c v u h = (h.1.0, refl, ap (λ (w : List Word). not (is_no_list w) && true) h.0)
+sized_kept T s (Points n) words c v u h = (h.0, refl, and_off (not (is_empty words)) false refl)
+sized_kept T s (Counts d) words c v u h = (h.1.0, refl, ap (λ (w : List Word). not (is_empty w) && true) h.0)
+sized_kept T s Written words c v u h = (h.1.0, refl, ap (λ (w : List Word). not (is_empty w) && true) h.0)
 
 kept_allowed : (T : Table) (s : Scopes) (o other : Outermost) (sized : Bool) (words : List Word) (v : TypeId) → Allows other o → KeepsArray T s o sized words v → KeepsArray T s other sized words v
 kept_allowed T s o other sized words v (inl q) h = subst (λ (z : Outermost). KeepsArray T s z sized words v) (sym q) h
 kept_allowed T s o other sized words v (inr q) h =
-    subst (λ (z : Outermost). KeepsArray T s z sized words v) (sym q.1) (h.0, refl, and_off (not (is_no_list words)) false refl)
+    subst (λ (z : Outermost). KeepsArray T s z sized words v) (sym q.1) (h.0, refl, and_off (not (is_empty words)) false refl)
 
 kept_passes : (T : Table) (s : Scopes) (o : Outermost) (sized : Bool) (bracket : Place) (words : List Word) (v : TypeId) (at : Place) → KeepsArray T s o sized words v
     → Passes (array_tests T s o sized bracket words v at)
 kept_passes T s o sized bracket words v at h =
     passes_and rule.Incomplete bracket (lacks_size o sized)
-    (broken_at rule.Incomplete at (not (is_complete_at T s v)) ∷ broken_at rule.Mismatch (first_word_place words bracket) (not (is_no_list words) && not (is_pointed o)) ∷ []) h.1
-    (passes_and rule.Incomplete at (not (is_complete_at T s v)) (broken_at rule.Mismatch (first_word_place words bracket) (not (is_no_list words) && not (is_pointed o)) ∷ [])
+    (broken_at rule.Incomplete at (not (is_complete_at T s v)) ∷ broken_at rule.Mismatch (first_word_place words bracket) (not (is_empty words) && not (is_pointed o)) ∷ []) h.1
+    (passes_and rule.Incomplete at (not (is_complete_at T s v)) (broken_at rule.Mismatch (first_word_place words bracket) (not (is_empty words) && not (is_pointed o)) ∷ [])
     (off (is_complete_at T s v) h.0)
-    (passes_one rule.Mismatch (first_word_place words bracket) (not (is_no_list words) && not (is_pointed o)) h.2))
+    (passes_one rule.Mismatch (first_word_place words bracket) (not (is_empty words) && not (is_pointed o)) h.2))
 
 function_result : (T : Table) (o : Outermost) (parameters : TypedParameters) (v u : TypeId) → MakesFunction T o parameters v u → is_result_shape (shape_at T v) ≡ true
 function_result T (Points n) parameters v u h = h.1.gives

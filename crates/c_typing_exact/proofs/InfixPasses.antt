@@ -9,6 +9,7 @@ use Rattle.c_types.specs.declared.shape.TypeShape.TheVariants.{Void, Integer, Po
 use Rattle.c_types.specs.Sound.{IsIntegerSize}
 use Rattle.c_types.specs.Table.{Table, shape_at}
 use Rattle.c_types.specs.Sameness.{is_same_type}
+use Rattle.c_tree.specs.Arithmetic.{operator_of}
 use Rattle.c_tree.specs.declared.operator.Binary.{Binary}
 use Rattle.c_tree.specs.declared.operator.Binary.TheVariants as binary
 use Rattle.c_tree.specs.declared.typed_word.Side.{Side}
@@ -16,7 +17,7 @@ use Rattle.c_tree.specs.declared.typed_word.Side.TheVariants as side
 use Rattle.c_tree.specs.TypedTree.{TypedExpr}
 use Rattle.c_tree.specs.TypedParts.{type_of}
 use Rattle.integers.specs.Arithmetic.{IntegerType, divides, can_divide}
-use Rattle.c_typing.specs.Constants.{constant_value, is_null_constant, divides_badly, cannot_divide, operator_of}
+use Rattle.c_typing.specs.Constants.{constant_value, is_null_constant, divides_badly, cannot_divide}
 use Rattle.c_typing.specs.Conversions.{bare, IsPlain, IsOperand, to_integer, are_data, points_to_void}
 use Rattle.c_typing.specs.Integers.{is_logical, is_order, is_equality, left_type, right_type}
 use Rattle.c_typing.specs.Judging.{integer_type}

@@ -8,8 +8,4 @@ pub mod NamePasses
 pub mod DeclaratorPasses
 pub mod SameParts
 pub mod ExprExact
-pub mod MixedExact
 pub mod SpecifierExact
-pub mod MemberExact
-pub mod DeclaratorExact
-pub mod ExactTrees

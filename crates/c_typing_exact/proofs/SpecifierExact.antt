@@ -5,7 +5,7 @@ use Rattle.cc_base.specs.declared.place.Place.{Place}
 use Rattle.cc_base.specs.declared.number.TypeId.{TypeId}
 use Rattle.cc_base.specs.declared.fault.Fault.{Fault}
 use Rattle.cc_base.specs.declared.fault.Rule.TheVariants as rule
-use Rattle.c_types.specs.Table.{Table}
+use Rattle.c_types.specs.Table.{Table, is_empty}
 use Rattle.c_lexer.specs.declared.word.Keyword.{Keyword}
 use Rattle.c_lexer.specs.declared.word.Keyword.TheVariants as keyword
 use Rattle.c_tree.specs.declared.leaf.Identifier.{Identifier}
@@ -14,22 +14,22 @@ use Rattle.c_tree.specs.declared.operator.AggregateKind.{AggregateKind}
 use Rattle.c_tree.specs.declared.operator.AggregateKind.TheVariants as kind
 use Rattle.c_tree.specs.Tree as tree
 use Rattle.c_tree.specs.TypedTree as typed
-use Rattle.c_tree.specs.TypedTree.{TypedSpecifier, TypedSpecifierList, TypedSpecifiers, TypedMembers, TypedMemberDeclarators, TypedEnumerators}
+use Rattle.c_tree.specs.TypedTree.{TypedSpecifier, TypedSpecifierList, TypedSpecifiers, TypedMembers, TypedEnumerators}
 use Rattle.c_typing.specs.declared.declared.Tag.{Tag}
 use Rattle.c_typing.specs.declared.declared.Tag.TheVariants as tag
 use Rattle.c_typing.specs.Declarators.{Counted, counted, counting, counting_word, are_allowed, member_names}
 use Rattle.c_typing.specs.Refusals.{Fails, BeginsOrStays, one_named, tag_place, is_empty_row}
-use Rattle.c_typing.specs.Scopes.{Name, Level, Scopes, or_outer, entry_of, tag_here, tag_in, is_complete_at, is_no_list}
+use Rattle.c_typing.specs.Scopes.{Name, Level, Scopes, or_outer, entry_of, tag_here, tag_in, is_complete_at}
 use Rattle.c_typing.specs.Settled.{IsBasic}
-use Rattle.c_typing.specs.Tests.{broken_at, word_tests, tag_tests, enum_tests, aggregate_tests, enumeration_tests, is_tag_of, is_other_tag, is_taken_tag, is_enumeration, has_some, is_none}
-use Rattle.c_typing.specs.Typing.{IsTagged, BeginsAggregate, AreDistinct, AreSpecifiers, AreListed, AreMembers, AreEnumerators, IsSpecifier, tag_named_here}
+use Rattle.c_typing.specs.Tests.{broken_at, word_tests, tag_tests, enum_tests, aggregate_tests, enumeration_tests, is_tag_of, is_other_tag, is_taken_tag, is_enumeration, lacks_enumeration}
+use Rattle.c_typing.specs.Typing.{IsTagged, BeginsAggregate, AreDistinct, AreSpecifiers, AreListed, AreMembers, AreEnumerators, IsSpecifier, tag_named_here, is_taken_enumeration}
 use Rattle.c_typing_unique.specs.Sameness.{HasOwnFunctions}
 use Rattle.c_typing_unique.specs.Points.{Point, HasOwn, IsReadAs}
 use Rattle.c_tree.specs.Erasure.{erased_specifiers, erased_specifier_list, erased_specifier, erased_members, erased_enumerators}
 use Rattle.c_tree.specs.TypedParts.{made_by_specifiers, made_by_specifier_list, made_by_specifier, made_by_members, made_by_enumerators}
 use Rattle.c_typing_unique.proofs.Shapes.{IsDistinct, no_true}
 use Rattle.c_typing_unique.proofs.SpecifierSteps.{is_list, is_specifier, begins_one, IsWhole, enumerating_own, begun}
-use Rattle.c_typing_unique.proofs.UniqueTrees.{list-one, members-one}
+use Rattle.c_typing_unique.proofs.UniqueTrees.{list-one, members-one, enumerators-one}
 use Rattle.c_typing_exact.specs.Numbered.{RefusesSpecifiersAt, RefusesSpecifierAt, RefusesMembersAt, RefusesEnumeratorsAt, with_scopes}
 use Rattle.c_typing_exact.specs.Passing.{Passes}
 use Rattle.c_typing_exact.proofs.DeclaratorPasses.{passes-fails}
@@ -159,7 +159,7 @@ abbrev pub AreEnumeratorsExact : Table → tree.Enumerators → Type 0
 AreEnumeratorsExact T xs =
     (list : TypedEnumerators) (a b : Point) (f : Fault) → IsReadAs erased_enumerators made_by_enumerators (AreEnumerators T) xs list a b → HasOwn a → RefusesEnumeratorsAt T xs a f → ⊥
 
-some_members : (rows : TypedMembers) → is_no_list (member_names rows) ≡ false → is_empty_row rows ≡ false
+some_members : (rows : TypedMembers) → is_empty (member_names rows) ≡ false → is_empty_row rows ≡ false
 some_members typed.NoMember h = no_true (sym h)
 some_members (typed.AndMember all specifiers declarators) h = refl
 
@@ -210,7 +210,7 @@ module _ (T : Table) (basic : IsBasic T) where
       let found = (subst (λ (z : TypedSpecifier). IsSpecifier T z a.scopes b.scopes) left.0 h.1).1 in
       passes-fails (enum_tests a.scopes name.bytes name.place ++ word_tests at (one_named before)) f
       (passes_append (enum_tests a.scopes name.bytes name.place) (word_tests at (one_named before))
-      (passes_and rule.UnknownName name.place (is_none (tag_in a.scopes.levels name.bytes)) (tag_tests a.scopes is_enumeration name.bytes name.place) (ap is_none found)
+      (passes_and rule.UnknownName name.place (lacks_enumeration (tag_in a.scopes.levels name.bytes)) (tag_tests a.scopes is_enumeration name.bytes name.place) (ap lacks_enumeration found)
       (tag_passes a.scopes is_enumeration name.bytes name.place (ap (is_other_tag is_enumeration) found)))
       (word_passes at (one_named before) (subst (λ (z : TypedSpecifier). are_allowed (counting z before) ≡ true) left.0 allowed))) k
 
@@ -218,13 +218,16 @@ module _ (T : Table) (basic : IsBasic T) where
       → IsSpecifierExact T (tree.Enumeration at name brace all comma)
   enumeration-exact at name brace all comma u before one a b f h own allowed (inl k) =
       let left = is_specifier T D (tree.Enumeration at name brace all comma) one a b h in
-      u left.0 (begun name a) b f left.1 (enumerating_own name a.scopes own) k
+      u left.0 (begun name a) (record { scopes = left.1.inside; node = b.node }) f left.1.enumerators (enumerating_own name a.scopes own) k
   enumeration-exact at name brace all comma u before one a b f h own allowed (inr k) =
       let left = is_specifier T D (tree.Enumeration at name brace all comma) one a b h in
-      let none = (subst (λ (z : TypedSpecifier). IsSpecifier T z a.scopes b.scopes) left.2 h.1).0 in
-      passes-fails (enumeration_tests (has_some (tag_named_here a.scopes name)) (tag_place at name) ++ word_tests at (one_named before)) f
-      (passes_append (enumeration_tests (has_some (tag_named_here a.scopes name)) (tag_place at name)) (word_tests at (one_named before))
-      (passes_one rule.Redeclared (tag_place at name) (has_some (tag_named_here a.scopes name)) (ap has_some none))
+      let inside : Point = record { scopes = left.1.inside; node = b.node } in
+      let same = enumerators-one T D all k.0 left.0 (begun name a) k.1 (begun name a) inside k.2 left.1.enumerators refl (enumerating_own name a.scopes own) in
+      let taken : Bool = is_taken_enumeration (tag_named_here k.1.scopes name) in
+      let free : taken ≡ false = ap (λ (m : Point). is_taken_enumeration (tag_named_here m.scopes name)) same.1 ∙ left.1.ends.unfinished in
+      passes-fails (enumeration_tests taken (tag_place at name) ++ word_tests at (one_named before)) f
+      (passes_append (enumeration_tests taken (tag_place at name)) (word_tests at (one_named before))
+      (passes_one rule.Redeclared (tag_place at name) taken free)
       (word_passes at (one_named before) (subst (λ (z : TypedSpecifier). are_allowed (counting z before) ≡ true) left.2 allowed))) k.3
 
   pub aggregate-exact : (which : AggregateKind) (at : Place) (name : Option Identifier) (brace : Place) (all : tree.Members) → AreMembersExact T all

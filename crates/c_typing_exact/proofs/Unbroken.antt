@@ -8,9 +8,9 @@ use Rattle.cc_base.specs.declared.fault.Fault.TheVariants.{Refused}
 use Rattle.cc_base.specs.declared.fault.Rule.{Rule}
 use Rattle.c_types.specs.declared.shape.TypeShape.{TypeShape}
 use Rattle.c_types.specs.declared.shape.TypeShape.TheVariants.{Void, Integer, Pointer, Array, Function, Struct, Union}
-use Rattle.c_types.specs.Table.{Table, shape_at, members_at, is_complete_entry, descend}
+use Rattle.c_types.specs.Table.{Table, shape_at, members_at, is_complete_entry, descend, is_empty}
 use Rattle.c_types.specs.Sameness.{is_same_type, same_step, same_shape}
-use Rattle.c_typing.specs.Scopes.{Scopes, is_complete_at, is_complete_shape_at, is_no_list, members_named}
+use Rattle.c_typing.specs.Scopes.{Scopes, is_complete_at, is_complete_shape_at, members_named}
 use Rattle.c_typing.specs.Tests.{Test, broken_at, first_broken}
 use Rattle.c_typing_unique.proofs.Shapes.{no_true}
 use Rattle.c_typing_exact.specs.Passing.{Passes}
@@ -58,8 +58,8 @@ same_complete f T s t u (Integer a m) (Integer b n) h = refl
 same_complete f T s t u (Pointer n v) (Pointer m w) h = refl
 same_complete f T s t u (Array v a) (Array w b) h = refl
 same_complete f T s t u (Function ps r) (Function qs q) h = refl
-same_complete f T s t u (Struct a) (Struct b) h = ap (λ n. not (is_no_list (members_named s n))) ((Decides-eqb a b).0 h)
-same_complete f T s t u (Union a) (Union b) h = ap (λ n. not (is_no_list (members_named s n))) ((Decides-eqb a b).0 h)
+same_complete f T s t u (Struct a) (Struct b) h = ap (λ n. not (is_empty (members_named s n))) ((Decides-eqb a b).0 h)
+same_complete f T s t u (Union a) (Union b) h = ap (λ n. not (is_empty (members_named s n))) ((Decides-eqb a b).0 h)
 same_complete f T s t u x y h = no_true h
 
 pub same-complete : (T : Table) (s : Scopes) (t u : TypeId) → is_same_type T t u ≡ true → is_complete_at T s t ≡ is_complete_at T s u

@@ -1,3 +1,2 @@
 pub mod Passing
 pub mod Numbered
-pub mod Exactness

@@ -23,7 +23,7 @@ use Rattle.c_typing.specs.Refusals.{Fails, is_natural, member_shape_tests, type_
 use Rattle.c_typing.specs.Scopes.{Name, Scopes, entering, is_complete_at}
 use Rattle.c_typing.specs.Settled.{is_converted}
 use Rattle.c_typing.specs.Tests
-use Rattle.c_typing.specs.Typing.{IsTypeName, AreSpecifiers, AreListed, IsForm, IsCore, AreParts, AreParameters, AreMembers, AreMemberDeclarators, AreEnumerators, tag_named_here, enumerating}
+use Rattle.c_typing.specs.Typing.{IsTypeName, AreSpecifiers, AreListed, IsForm, IsCore, AreParts, AreParameters, AreMembers, AreMemberDeclarators, AreEnumerators, tag_named_here, enumerating, is_taken_enumeration}
 use Rattle.c_typing_unique.specs.Points.{Point, IsReadAs, IsRead, IsReadPlace}
 
 -- Expressions
@@ -165,7 +165,7 @@ abbrev mutual
   RefusesSpecifierAt T before (tree.Enumeration at name brace all comma) a f =
       RefusesEnumeratorsAt T all (with_scopes (enumerating name a.scopes) a) f
       ⊎ ((list : TypedEnumerators) × (m : Point) × IsReadAs erased_enumerators made_by_enumerators (AreEnumerators T) all list (with_scopes (enumerating name a.scopes) a) m
-      × Fails (Tests.enumeration_tests (Tests.has_some (tag_named_here a.scopes name)) (tag_place at name) ++ Tests.word_tests at (one_named before)) f)
+      × Fails (Tests.enumeration_tests (is_taken_enumeration (tag_named_here m.scopes name)) (tag_place at name) ++ Tests.word_tests at (one_named before)) f)
 
   pub RefusesMembersAt : Table → tree.Members → Point → Fault → Type 0
   RefusesMembersAt T tree.NoMember a f = ⊥

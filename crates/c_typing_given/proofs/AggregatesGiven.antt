@@ -7,7 +7,7 @@ use Rattle.cc_base.specs.declared.fault.Rule.TheVariants as rule
 use Rattle.cc_base.specs.declared.place.Place.{Place}
 use Rattle.cc_base.specs.declared.number.TypeId.{TypeId}
 use Rattle.c_types.specs.declared.shape.TypeShape.TheVariants.{Function}
-use Rattle.c_types.specs.Table.{Table, HasShape, IsType, shape_at}
+use Rattle.c_types.specs.Table.{Table, HasShape, IsType, shape_at, is_empty}
 use Rattle.c_types.specs.Calls.{with_members}
 use Rattle.c_tree.specs.declared.leaf.Identifier.{Identifier}
 use Rattle.c_tree.specs.declared.operator.AggregateKind.{AggregateKind}
@@ -21,7 +21,7 @@ use Rattle.c_typing.specs.Declarators.{Counted, counting, are_allowed, member_na
 use Rattle.c_typing.specs.Judging.{State, Outcome, Gives, ◌>>=◌, pure}
 use Rattle.c_typing.specs.Refusals.{one_named, tag_place, is_empty_row}
 use Rattle.c_typing.specs.Rules.{number_of_shape}
-use Rattle.c_typing.specs.Scopes.{Name, Scopes, is_no_list, is_complete_at, place_among}
+use Rattle.c_typing.specs.Scopes.{Name, Scopes, is_complete_at, place_among}
 use Rattle.c_typing.specs.Settled.{IsBasic}
 use Rattle.c_typing.specs.Specifying.{new_aggregate, begun_as, begun, completed, ended, is_taken_at_end}
 use Rattle.c_typing.specs.Tests.{first_broken, broken_at, aggregate_tests, word_tests, is_taken_tag, is_tag_of}
@@ -91,11 +91,11 @@ judges_aggregate before which at name brace all t rows s j k o h g f =
     then-is (begun which at name) (λ u. judge_members all >>= (λ r. ended before which at name brace u r)) (Some t) s j o h
     (then-is (judge_members all) (λ r. ended before which at name brace (Some t) r) rows j k o g f)
 
-some_row : (rows : TypedMembers) → is_no_list (member_names rows) ≡ false → is_empty_row rows ≡ false
+some_row : (rows : TypedMembers) → is_empty (member_names rows) ≡ false → is_empty_row rows ≡ false
 some_row typed.NoMember h = no_true (sym h)
 some_row (typed.AndMember all specifiers row) h = refl
 
-some_listed : (names : List Name) → is_no_list names ≡ false → 0 < length names
+some_listed : (names : List Name) → is_empty names ≡ false → 0 < length names
 some_listed [] h = no_true (sym h)
 some_listed (n ∷ names) h = omega arith
 

@@ -2,10 +2,7 @@
 use Rattle.std.proofs.Common.{◌≡◌, ◌≤◌, ◌+◌, ℕ, max, Bool, true, false, List, [], ◌∷◌, ◌++◌, length, None, refl, ap, sym, subst, ◌∙◌, arith}
 use Rattle.cc_base.specs.declared.place.Place.{Place}
 use Rattle.cc_base.specs.declared.number.TypeId.{TypeId}
-use Rattle.c_types.specs.declared.shape.TypeShape.{TypeShape}
-use Rattle.c_types.specs.declared.shape.TypeShape.TheVariants.{Void, Integer, Pointer, Array, Function, Struct, Union}
-use Rattle.c_types.specs.Layouts.{size_of}
-use Rattle.c_types.specs.Table.{Table, IsAggregate, entry_at, shape_at, members_at, is_complete, is_complete_entry, is_aggregate_shape, descend}
+use Rattle.c_types.specs.Table.{Table}
 use Rattle.c_tree.specs.declared.operator.Assignment.{Assignment}
 use Rattle.c_tree.specs.declared.operator.Assignment.TheVariants as assignment
 use Rattle.c_tree.specs.Tree as tree
@@ -13,10 +10,9 @@ use Rattle.c_tree.specs.TypedTree as typed
 use Rattle.c_tree.specs.TypedTree.{TypedExpr, TypedPlace}
 use Rattle.c_tree.specs.TypedParts.{Made, Copy, made_by, made_by_place, type_of, place_type}
 use Rattle.c_typing.specs.Assignments.{assign, assign_given, assign_part, assigned, part_type, update_by, update_part, updated}
-use Rattle.c_types.specs.PointerCounts.{pointers_step, pointers_of_shape, pointers_in}
+use Rattle.c_types.specs.PointerCounts.{pointers_in}
 use Rattle.c_typing.specs.Cells.{count_cells}
 use Rattle.c_typing.specs.Conversions.{bare, is_plain, takes_over, IsAssignedBy}
-use Rattle.c_typing.specs.Extensions.{IsExtended}
 use Rattle.c_typing.specs.Held.{held, held_with}
 use Rattle.c_typing.specs.Judging.{State, Outcome, Judging, Gives, next, ◌>>=◌}
 use Rattle.c_typing.specs.Operands.{Operand, Value, value, given}
@@ -38,7 +34,7 @@ use Rattle.c_typing_exact.proofs.ConversionPasses.{given-assign-passes, struct-a
 use Rattle.c_rules_alike.specs.PartsThere.{IsPartThere}
 use Rattle.c_rules_alike.proofs.ConversionRules.{assign-over}
 use Rattle.c_rules_alike.proofs.PartsThere.{part_there-kept}
-use Rattle.c_cells_kept.proofs.PointersKept.{pointers-kept}
+use Rattle.c_cells_kept.proofs.PointersKept.{pointers-most}
 use Rattle.c_type_order.specs.Uses.{used_by_part}
 use Rattle.c_typing_given.specs.Given.{point_at, IsHere, IsPartGiven, IsGiven}
 use Rattle.c_unit_typing.specs.Holding.{expr_holds}
@@ -110,8 +106,12 @@ block_assigned : (at : Place) (p : TypedPlace) (e : TypedExpr) (k : State) → a
 unfolding assign_part
 block_assigned at p e k = refl
 
-abbrev counting_cells : TypeId → State → State
+abbrev pub counting_cells : TypeId → State → State
 counting_cells t s = record s { seen = record s.seen { cells = s.seen.cells + pointers_in s.table t } }
+
+pub cells-counted : (at : Place) (t : TypeId) (s : State) → s.seen.cells + pointers_in s.table t ≤ 65536 → count_cells at t s ≡ Gives t (counting_cells t s)
+unfolding count_cells
+cells-counted at t s h = rw (le_true (s.seen.cells + pointers_in s.table t) 65536 h) refl
 
 struct_assigned : (at : Place) (p q : TypedPlace) (k : State) → k.seen.cells + pointers_in k.table (place_type p) ≤ 65536
     → assign_part at (AsPlace p) (AsPlace q) k ≡ Gives (AsPlace (typed.StructAssign p at q)) (counting_cells (place_type p) k)
@@ -128,31 +128,7 @@ update_is operator x at v p k h pass few =
     (AsValue (updated operator at p v.expr (integer_at k.table (place_type p)) (integer_at k.table (type_of v.expr))))
     (ap (λ (z : Elaborated). first_broken (assign_tests k.table k.seen.scopes operator at z (AsValue v.expr))) h ∙ pass) few (ap (λ (z : Elaborated). update_part operator at z v.expr k) h)
 
--- The pointers of a struct that is not complete are not counted
-
-open_none : (size f : TypeId → ℕ) (x : TypeShape) (members : List TypeId) → is_aggregate_shape x ≡ true → is_complete_entry x members ≡ false → pointers_of_shape size f x members ≡ 0
-open_none size f (Struct n) [] h k = refl
-open_none size f (Union n) [] h k = refl
-open_none size f (Struct n) (m ∷ ms) h k = no_true (sym k)
-open_none size f (Union n) (m ∷ ms) h k = no_true (sym k)
-open_none size f Void ms h k = no_true h
-open_none size f (Integer bytes signed) ms h k = no_true h
-open_none size f (Pointer n t) ms h k = no_true h
-open_none size f (Array t n) ms h k = no_true h
-open_none size f (Function ps r) ms h k = no_true h
-
-pointers_open : (J : Table) (t : TypeId) → IsAggregate J t → is_complete (entry_at J t) ≡ false → pointers_in J t ≡ 0
-unfolding pointers_in
-pointers_open J t h k = open_none (size_of J) (descend (pointers_step J) 0 (length J)) (shape_at J t) (members_at J t) h k
-
 module _ (T : Table) (basic : IsBasic T) where
-  pointers_most : (J : Table) (t : TypeId) → IsExtended J T → IsBasic J → IsAggregate J t → pointers_in J t ≤ pointers_in T t
-  pointers_most J t first base h = by (is_complete (entry_at J t)) refl
-    where
-      by : (b : Bool) → is_complete (entry_at J t) ≡ b → pointers_in J t ≤ pointers_in T t
-      by true q = let e = pointers-kept J T first base.formed t q in omega (arith, e)
-      by false q = let e = pointers_open J t h q in omega (arith, e)
-
   module _ (operator : Assignment) (x : tree.Expr) (at : Place) (y : tree.Expr) (gx : IsGiven T x) (gy : IsGiven T y) (called : Bool) (z : Elaborated) (s : State) (b : Point) (count : ℕ)
       (here : IsHere T s) (h : IsElaboratedAt T (tree.Assign operator x at y) z (point_at s) b) (uses : AreUses (used_by_part T z) (length s.table) count)
       (room : HasRoom T (made_by_part z) s) (holds : expr_holds (tree.Assign operator x at y) ≤ 256) where
@@ -242,9 +218,7 @@ module _ (T : Table) (basic : IsBasic T) where
         ∙ struct-assign-passes T r.seen.scopes at p p' w in
         let few = few_of g.operand.held d.operand.held g.held d.held in
         let cells = (room-then T (made_by_place p ++ made_by_place p') (Copy (place_type p) ∷ []) s r rm whole.way.spent).cells in
-        let aggregate : IsAggregate r.table (place_type p) =
-        subst (λ (i : TypeShape). is_aggregate_shape i ≡ true) (d.reached.way.first.shapes (place_type p) left.type) w.types.aggregate in
-        let most = pointers_most r.table (place_type p) d.reached.way.first d.reached.here.known.basic aggregate in
+        let most = pointers-most r.table T d.reached.way.first d.reached.here.known.basic.formed (place_type p) in
         let after : State = record r { seen = record r.seen { cells = r.seen.cells + pointers_in r.table (place_type p) } } in
         finish T basic called (tree.Assign operator x at y) z (AsPlace (typed.StructAssign p at p'))
         (operand_with g.operand.place (AsPlace (typed.StructAssign p at p')) (held_with 0 (g.operand.held ∷ d.operand.held ∷ []))) s

@@ -18,7 +18,7 @@ use Rattle.c_typing.specs.Declarators.{member_names, member_types}
 use Rattle.c_typing.specs.Extensions.{IsExtended}
 use Rattle.c_typing.specs.Judging.{State, Gives, by_known}
 use Rattle.c_typing.specs.Rules.{number_of_shape}
-use Rattle.c_typing.specs.Scopes.{Name, Scopes, Seen, is_no_list, members_named, is_complete_at, is_complete_shape_at, with_scopes}
+use Rattle.c_typing.specs.Scopes.{Name, Scopes, Seen, members_named, is_complete_at, is_complete_shape_at, with_scopes}
 use Rattle.c_typing.specs.Settled.{IsBasic}
 use Rattle.c_typing.specs.Specifying.{in_scopes, is_definable, defined, completing, completed}
 use Rattle.c_tree.specs.TypedTree.{TypedMembers}
@@ -61,9 +61,9 @@ not_off true h = refl
 not_off false h = no_true (sym h)
 
 -- a struct that is not complete has no names of members
-shape_open : (c : Scopes) (w : Bool) (x : TypeShape) (n : ℕ) → number_of_shape x ≡ Some n → is_complete_shape_at c w x ≡ false → is_no_list (members_named c n) ≡ true
-shape_open c w (Struct m) n h k = ap (λ (i : ℕ). is_no_list (members_named c i)) (sym (some-same m n h)) ∙ not_off (is_no_list (members_named c m)) k
-shape_open c w (Union m) n h k = ap (λ (i : ℕ). is_no_list (members_named c i)) (sym (some-same m n h)) ∙ not_off (is_no_list (members_named c m)) k
+shape_open : (c : Scopes) (w : Bool) (x : TypeShape) (n : ℕ) → number_of_shape x ≡ Some n → is_complete_shape_at c w x ≡ false → is_empty (members_named c n) ≡ true
+shape_open c w (Struct m) n h k = ap (λ (i : ℕ). is_empty (members_named c i)) (sym (some-same m n h)) ∙ not_off (is_empty (members_named c m)) k
+shape_open c w (Union m) n h k = ap (λ (i : ℕ). is_empty (members_named c i)) (sym (some-same m n h)) ∙ not_off (is_empty (members_named c m)) k
 shape_open c w Void n h k = absurd (let e : ◌≡◌ {A = Option ℕ} None (Some n) = h in cc)
 shape_open c w (Integer bytes signed) n h k = absurd (let e : ◌≡◌ {A = Option ℕ} None (Some n) = h in cc)
 shape_open c w (Pointer m t) n h k = absurd (let e : ◌≡◌ {A = Option ℕ} None (Some n) = h in cc)
@@ -151,15 +151,15 @@ module _ (T : Table) (basic : IsBasic T) (J : Table) (w : IsWellFormed J) (first
   defined-is at seen = rw (definable J t n ms h, le_true (defined_layout J t ms).size 1048576 defined_small) refl
 
   -- what has its members in the table is complete
-  pub defined-finished : (all : List (List Name)) (names : List Name) → n < length all → is_no_list names ≡ false
-      → ((u : TypeId) (m : ℕ) → number_of_shape (shape_at J u) ≡ Some m → IsComplete J u → is_no_list (members_named (naming all) m) ≡ false)
+  pub defined-finished : (all : List (List Name)) (names : List Name) → n < length all → is_empty names ≡ false
+      → ((u : TypeId) (m : ℕ) → number_of_shape (shape_at J u) ≡ Some m → IsComplete J u → is_empty (members_named (naming all) m) ≡ false)
       → (u : TypeId) (m : ℕ) → number_of_shape (shape_at (with_members J t ms) u) ≡ Some m → IsComplete (with_members J t ms) u
-      → is_no_list (members_named (naming (slice_set all n names)) m) ≡ false
+      → is_empty (members_named (naming (slice_set all n names)) m) ≡ false
   defined-finished all names below some old u m number whole = elim (eqb_tells u.0 t.0) [
     | inl q ↦
         let same : u ≡ t = same_id u t q.1 in
         let numbers : n ≡ m = some-same n m (sym defined-number ∙ (ap (λ (v : TypeId). number_of_shape (shape_at (with_members J t ms) v)) (sym same) ∙ number)) in
-        subst (λ (i : ℕ). is_no_list (members_named (naming (slice_set all n names)) i) ≡ false) numbers (set-here all n names below some)
+        subst (λ (i : ℕ). is_empty (members_named (naming (slice_set all n names)) i) ≡ false) numbers (set-here all n names below some)
     | inr q ↦
         let other : entry_at (with_members J t ms) u ≡ entry_at J u = change.other u q.1 in
         set-still all m n names some

@@ -1,5 +1,5 @@
 -- Enumerations are given, with their enumerators.
-use Rattle.std.proofs.Common.{◌≡◌, ◌≤◌, ◌<◌, ℕ, ℤ, Bool, true, false, not, List, [], ◌++◌, length, Option, Some, None, refl, ap, sym, subst, ◌∙◌, arith}
+use Rattle.std.proofs.Common.{◌≡◌, ◌≤◌, ◌<◌, ℕ, ℤ, Bool, true, false, not, ◌||◌, List, [], ◌++◌, length, Option, Some, None, refl, ap, sym, subst, ◌∙◌, arith}
 use Rattle.cc_base.specs.declared.fault.Rule.TheVariants as rule
 use Rattle.cc_base.specs.declared.place.Place.{Place}
 use Rattle.c_types.specs.Table.{Table}
@@ -20,10 +20,10 @@ use Rattle.c_typing.specs.Refusals.{one_named, tag_place}
 use Rattle.c_typing.specs.Scopes.{Name, Scopes, here as named_here, declaring, place_among, with_name, with_scopes}
 use Rattle.c_typing.specs.Settled.{IsBasic, IsKnown}
 use Rattle.c_typing.specs.Specifying.{in_scopes, enumerator, enumerator_with, valued_enumerator, enumeration_begun, enumeration}
-use Rattle.c_typing.specs.Tests.{AsValue, first_broken, has_some, has_constant, word_tests, enumerator_tests, constant_tests, enumeration_tests}
-use Rattle.c_typing.specs.Typing.{IsSpecifier, tag_named_here, enumerating, next_value, last_value}
+use Rattle.c_typing.specs.Tests.{AsValue, first_broken, has_some, has_constant, is_reserved, word_tests, enumerator_tests, constant_tests, enumeration_tests}
+use Rattle.c_typing.specs.Typing.{IsNewEnumerator, tag_named_here, enumerating, enumerated, is_taken_enumeration, next_value, last_value}
 use Rattle.c_typing.specs.Walks.{judge, judge_specifier, judge_enumerators}
-use Rattle.c_typing_laws.proofs.JudgedSpecifiers.{enumeration_begun-judged}
+use Rattle.c_typing_laws.proofs.JudgedSpecifiers.{enumeration_begun-judged, enumerated-goes}
 use Rattle.c_typing_laws.proofs.JudgedTrees.{enumerators-judged}
 use Rattle.c_typing_unique.specs.Points.{Point, IsRead}
 use Rattle.c_typing_unique.specs.Sameness.{HasOwnFunctions}
@@ -33,7 +33,7 @@ use Rattle.c_typing_unique.proofs.Reading.{plain-bare, point-same}
 use Rattle.c_typing_unique.proofs.SpecifierSteps.{AreEnumeratorsRead, is_specifier, begun}
 use Rattle.c_typing_exact.proofs.SameParts.{distinct}
 use Rattle.c_typing_exact.proofs.SpecifierExact.{word_passes}
-use Rattle.c_typing_exact.proofs.Unbroken.{passes_one, passes_append}
+use Rattle.c_typing_exact.proofs.Unbroken.{passes_one, passes_append, or_off}
 use Rattle.c_rules_alike.proofs.PartsAlike.{constant-over}
 use Rattle.c_typing_given.specs.Given.{point_at, IsHere, IsReached, IsGiven, IsGivenAs}
 use Rattle.c_unit_typing.specs.Holding.{expr_holds, enumerators_holds}
@@ -41,7 +41,7 @@ use Rattle.c_typing_given.specs.Spending.{HasRoom}
 use Rattle.c_type_order.specs.TypesUsed.{AreUses, used_by, used_by_enumerators, used_by_specifier}
 use Rattle.c_typing_given.proofs.CallsGiven.{reached-none}
 use Rattle.c_typing_given.proofs.Constructing.{reached-both, uses-at, plain-given, max-left, max-right}
-use Rattle.c_typing_given.proofs.LevelsKept.{length-innermost, enumerating-levels}
+use Rattle.c_typing_given.proofs.LevelsKept.{length-innermost, enumerating-levels, enumerated-levels}
 use Rattle.c_typing_given.proofs.Settling.{small-kept}
 use Rattle.c_typing_given.proofs.TypeGiven.{none-same}
 use Rattle.c_typing_given.proofs.SpecifiersGiven.{IsSpecifierGiven}
@@ -84,22 +84,23 @@ judges_valued all name at e list v z s k r h g pass c =
     (Gives (typed.AndValued list name at v.expr (converted int z)) (in_state (declaring name.bytes (declared.Enumerator (converted int z)) r.seen.scopes) r)) pass
     (ap (λ (o : Option ℤ). enumerator_with list name at v.expr o r) c)))
 
-begun_is : (name : Option Identifier) (s : State) → enumeration_begun name s ≡ Gives (has_some (tag_named_here s.seen.scopes name)) (in_state (enumerating name s.seen.scopes) s)
+begun_is : (name : Option Identifier) (s : State) → enumeration_begun name s ≡ Gives true (in_state (enumerating name s.seen.scopes) s)
 unfolding enumeration_begun
 begun_is name s = refl
 
 judges_enumeration : (before : Counted) (at : Place) (name : Option Identifier) (brace : Place) (all : tree.Enumerators) (comma : Bool) (list : TypedEnumerators) (s r : State)
     → judge_enumerators all (in_state (enumerating name s.seen.scopes) s) ≡ Gives list r
-    → first_broken (enumeration_tests (has_some (tag_named_here s.seen.scopes name)) (tag_place at name) ++ word_tests at (one_named before)) ≡ None
-    → judge_specifier before (tree.Enumeration at name brace all comma) s ≡ Gives (typed.Enumeration at name brace list comma) r
+    → first_broken (enumeration_tests (is_taken_enumeration (tag_named_here r.seen.scopes name)) (tag_place at name) ++ word_tests at (one_named before)) ≡ None
+    → judge_specifier before (tree.Enumeration at name brace all comma) s ≡ Gives (typed.Enumeration at name brace list comma) (in_state (enumerated name r.seen.scopes) r)
 unfolding judge_specifier enumeration
 judges_enumeration before at name brace all comma list s r h pass =
-    then-is (enumeration_begun name) (λ found. judge_enumerators all >>= (λ l. enumeration before at name brace found l comma)) (has_some (tag_named_here s.seen.scopes name)) s
-    (in_state (enumerating name s.seen.scopes) s) (Gives (typed.Enumeration at name brace list comma) r) (begun_is name s)
-    (then-is (judge_enumerators all) (λ l. enumeration before at name brace (has_some (tag_named_here s.seen.scopes name)) l comma) list (in_state (enumerating name s.seen.scopes) s) r
-    (Gives (typed.Enumeration at name brace list comma) r) h
-    (obeying-is (λ (q : State). enumeration_tests (has_some (tag_named_here s.seen.scopes name)) (tag_place at name) ++ word_tests at (one_named before))
-    (pure (typed.Enumeration at name brace list comma)) r (Gives (typed.Enumeration at name brace list comma) r) pass refl))
+    let part : TypedSpecifier = typed.Enumeration at name brace list comma in
+    let whole = Gives part (in_state (enumerated name r.seen.scopes) r) in
+    then-is (enumeration_begun name) (λ begun. judge_enumerators all >>= (λ l. enumeration before at name brace l comma)) true s
+    (in_state (enumerating name s.seen.scopes) s) whole (begun_is name s)
+    (then-is (judge_enumerators all) (λ l. enumeration before at name brace l comma) list (in_state (enumerating name s.seen.scopes) s) r whole h
+    (obeying-is (λ (q : State). enumeration_tests (is_taken_enumeration (tag_named_here q.seen.scopes name)) (tag_place at name) ++ word_tests at (one_named before))
+    (in_scopes (enumerated name) part) r whole pass refl))
 
 enumerating_keeps : (name : Option Identifier) (c : Scopes) → ((enumerating name c).members ≡ c.members) × ((enumerating name c).defined ≡ c.defined)
 enumerating_keeps None c = (refl, refl)
@@ -109,8 +110,21 @@ enumerating_keeps (Some name) c = by (tag_named_here c (Some name)) refl
     by None q = rw q (refl, refl)
     by (Some w) q = rw q (refl, refl)
 
+enumerated_keeps : (name : Option Identifier) (c : Scopes) → ((enumerated name c).members ≡ c.members) × ((enumerated name c).defined ≡ c.defined)
+enumerated_keeps None c = (refl, refl)
+enumerated_keeps (Some name) c = (refl, refl)
+
 pub declaring-opened : (name : Name) (what : Declared) (c : Scopes) → 0 < length c.levels → 0 < length (declaring name what c).levels
 declaring-opened name what c o = let l = length-innermost (with_name name what) c.levels in omega (arith, l, o)
+
+-- whether no enumerator of the name can be declared
+abbrev is_taken : Identifier → Scopes → Bool
+is_taken name c = has_some (named_here c.levels name.bytes) || is_reserved c name.bytes
+
+free : (name : Identifier) (value : ℤ) (m b c : Scopes) → c ≡ m → IsNewEnumerator name.bytes value m b → is_taken name c ≡ false
+free name value m b c same h =
+    ap (is_taken name) same
+    ∙ or_off (has_some (named_here m.levels name.bytes)) (is_reserved m name.bytes) (ap has_some h.fresh) h.unreserved
 
 module _ (T : Table) (basic : IsBasic T) where
   abbrev pub AreEnumeratorsGiven : tree.Enumerators → Type 0
@@ -151,8 +165,7 @@ module _ (T : Table) (basic : IsBasic T) where
       let k : State = g.after in
       let scopes : g.after.seen.scopes ≡ i.2.scopes = ap (λ (a : Point). a.scopes) g.reached.point in
       let pass : first_broken (enumerator_tests g.after.seen.scopes name.bytes name.place) ≡ None =
-      passes_one rule.Redeclared name.place (has_some (named_here g.after.seen.scopes.levels name.bytes))
-      (ap (λ (c : Scopes). has_some (named_here c.levels name.bytes)) scopes ∙ ap has_some i.5.fresh) in
+      passes_one rule.Redeclared name.place (is_taken name g.after.seen.scopes) (free name i.1 i.2.scopes b.scopes g.after.seen.scopes scopes i.5) in
       let gives = judges_plain all name i.0 s g.after g.gives pass in
       let c : Scopes = declaring name.bytes (declared.Enumerator (next_value (last_value i.0))) g.after.seen.scopes in
       let law = enumerators-judged (tree.AndEnumerator all name) (typed.AndEnumerator i.0 name (next_value (last_value i.0))) s
@@ -187,8 +200,7 @@ module _ (T : Table) (basic : IsBasic T) where
       let scopes : d.after.seen.scopes ≡ i.4.scopes = ap (λ (a : Point). a.scopes) d.reached.point in
       let pass : first_broken (enumerator_tests d.after.seen.scopes name.bytes name.place ++ constant_tests d.after.table d.value.place (AsValue d.value.expr)) ≡ None =
       passes_append (enumerator_tests d.after.seen.scopes name.bytes name.place) (constant_tests d.after.table d.value.place (AsValue d.value.expr))
-      (passes_one rule.Redeclared name.place (has_some (named_here d.after.seen.scopes.levels name.bytes))
-      (ap (λ (c : Scopes). has_some (named_here c.levels name.bytes)) scopes ∙ ap has_some i.8.fresh))
+      (passes_one rule.Redeclared name.place (is_taken name d.after.seen.scopes) (free name i.2 i.4.scopes b.scopes d.after.seen.scopes scopes i.8))
       (passes_one rule.NotConstant d.value.place (not (has_constant d.after.table (AsValue d.value.expr))) (ap (λ (o : Option ℤ). not (has_some o)) constant)) in
       let gives = judges_valued all name at e i.0 d.value i.7.constant s g.after d.after g.gives d.gives pass constant in
       let law = enumerators-judged (tree.AndValued all name at e) (typed.AndValued i.0 name at d.value.expr (converted int i.7.constant)) s
@@ -209,27 +221,35 @@ module _ (T : Table) (basic : IsBasic T) where
   enumeration-given at name brace all comma ga before one s b count here h allowed uses room holds =
       let i = is_specifier T (distinct T basic) (tree.Enumeration at name brace all comma) one (point_at s) b h in
       let ok = subst (λ (y : TypedSpecifier). are_allowed (counting y before) ≡ true) i.2 allowed in
-      let fresh : tag_named_here s.seen.scopes name ≡ None = (subst (λ (y : TypedSpecifier). IsSpecifier T y s.seen.scopes b.scopes) i.2 h.1).0 in
       let keeps = enumerating_keeps name s.seen.scopes in
-      let known = (enumeration_begun-judged name (has_some (tag_named_here s.seen.scopes name)) s (in_state (enumerating name s.seen.scopes) s) here.known (begun_is name s)).2.known in
+      let known = (enumeration_begun-judged name true s (in_state (enumerating name s.seen.scopes) s) here.known (begun_is name s)).1.known in
       let start = reached-none T basic s (point_at s) (length s.table) here refl refl in
       let began =
-      reached-in [] s s (point_at s) (begun name (point_at s)) (length s.table) (enumerating name s.seen.scopes) start known keeps.0 keeps.1 (λ o. let l = enumerating-levels name s.seen.scopes in omega (arith, l, o)) (own_kept name s.seen.scopes here.own) refl refl in
+      reached-in [] s s (point_at s) (begun name (point_at s)) (length s.table) (enumerating name s.seen.scopes) start known keeps.0 keeps.1 (λ o. let l = enumerating-levels name s.seen.scopes in omega (arith, l, o)) (own_kept s.seen.scopes (enumerating name s.seen.scopes) keeps.1 here.own) refl refl in
+      let inside : Point = record { scopes = i.1.inside; node = b.node } in
       let g =
-      ga i.0 (in_state (enumerating name s.seen.scopes) s) b count began.here i.1 (subst (λ (y : TypedSpecifier). AreUses (used_by_specifier T y) (length s.table) count) i.2 uses)
+      ga i.0 (in_state (enumerating name s.seen.scopes) s) inside count began.here i.1.enumerators (subst (λ (y : TypedSpecifier). AreUses (used_by_specifier T y) (length s.table) count) i.2 uses)
       (room_in (subst (λ (y : TypedSpecifier). HasRoom T (made_by_specifier y) s) i.2 room)) holds in
-      let pass : first_broken (enumeration_tests (has_some (tag_named_here s.seen.scopes name)) (tag_place at name) ++ word_tests at (one_named before)) ≡ None =
-      passes_append (enumeration_tests (has_some (tag_named_here s.seen.scopes name)) (tag_place at name)) (word_tests at (one_named before))
-      (passes_one rule.Redeclared (tag_place at name) (has_some (tag_named_here s.seen.scopes name)) (ap has_some fresh)) (word_passes at (one_named before) ok) in
+      let c : Scopes = g.after.seen.scopes in
+      let same : c ≡ i.1.inside = ap (λ (p : Point). p.scopes) g.reached.point in
+      let taken : Bool = is_taken_enumeration (tag_named_here c name) in
+      let free : taken ≡ false = ap (λ (d : Scopes). is_taken_enumeration (tag_named_here d name)) same ∙ i.1.ends.unfinished in
+      let pass : first_broken (enumeration_tests taken (tag_place at name) ++ word_tests at (one_named before)) ≡ None =
+      passes_append (enumeration_tests taken (tag_place at name)) (word_tests at (one_named before))
+      (passes_one rule.Redeclared (tag_place at name) taken free) (word_passes at (one_named before) ok) in
+      let both =
+      reached-both T basic [] (made_by_enumerators i.0) s (in_state (enumerating name s.seen.scopes) s) g.after (begun name (point_at s)) inside (length s.table) count began g.reached in
+      let ends = enumerated_keeps name c in
       subst (λ (y : TypedSpecifier). IsGivenAs T (made_by_specifier y) (judge_specifier before (tree.Enumeration at name brace all comma) s) y s b count) (sym i.2)
       (record {
-        after = g.after;
+        after = in_state (enumerated name c) g.after;
         gives = judges_enumeration before at name brace all comma i.0 s g.after g.gives pass;
-        reached = reached-both T basic [] (made_by_enumerators i.0) s (in_state (enumerating name s.seen.scopes) s) g.after (begun name (point_at s)) b (length s.table) count began g.reached;
+        reached = reached-in (made_by_enumerators i.0) s g.after inside b count (enumerated name c) both (enumerated-goes name g.after g.reached.here.known).known ends.0 ends.1
+            (λ o. let l = enumerated-levels name c in omega (arith, l, o)) (own_kept c (enumerated name c) ends.1 g.reached.here.own) (i.1.ends.after ∙ ap (enumerated name) (sym same)) refl;
       })
     where
-      own_kept : (name : Option Identifier) (c : Scopes) → HasOwnFunctions c → HasOwnFunctions (enumerating name c)
-      own_kept name c h = λ word number p. h word number (ap (λ (all : List Name). place_among all word) (sym (enumerating_keeps name c).1) ∙ p)
+      own_kept : (c d : Scopes) → d.defined ≡ c.defined → HasOwnFunctions c → HasOwnFunctions d
+      own_kept c d e h = λ word number p. h word number (ap (λ (all : List Name). place_among all word) (sym e) ∙ p)
 
       room_in : {made : List Made} → HasRoom T made s → HasRoom T made (in_state (enumerating name s.seen.scopes) s)
       room_in r = record { things = r.things; nodes = r.nodes; globals = r.globals; cells = r.cells }

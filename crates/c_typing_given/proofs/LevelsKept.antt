@@ -1,5 +1,5 @@
 -- Typed parts keep the number of open scopes: what they declare is declared in the innermost one, and the scope of a prototype is left.
-use Rattle.std.proofs.Common.{◌≡◌, ℕ, ◌+◌, suc, Bool, List, [], ◌∷◌, length, Option, Some, None, refl, ap, ◌∙◌, arith}
+use Rattle.std.proofs.Common.{◌≡◌, ℕ, ℤ, ◌+◌, suc, Bool, List, [], ◌∷◌, length, Option, Some, None, refl, ap, ◌∙◌, arith}
 use Rattle.std.proofs.lemmas.List.{length-append}
 use Rattle.cc_base.specs.declared.number.TypeId.{TypeId}
 use Rattle.c_types.specs.Table.{Table}
@@ -9,12 +9,11 @@ use Rattle.c_tree.specs.declared.typed_word.Home.{Home}
 use Rattle.c_tree.specs.declared.typed_word.Home.TheVariants as home
 use Rattle.c_tree.specs.TypedTree as typed
 use Rattle.c_tree.specs.TypedTree.{TypedExpr, TypedPlace, TypedArguments, TypedTypeName, TypedSpecifiers, TypedSpecifierList, TypedSpecifier, TypedMembers, TypedMemberDeclarators, TypedEnumerators, TypedForm, TypedCore, TypedParts, TypedParameters, TypedDeclared}
-use Rattle.c_tree.specs.TypedParts.{specified_type, declared_home}
-use Rattle.c_typing.specs.Declarators.{is_void_list}
+use Rattle.c_tree.specs.TypedParts.{specified_type, declared_home, is_void_list}
 use Rattle.c_typing.specs.declared.declared.Declared.{Declared}
 use Rattle.c_typing.specs.declared.declared.Tag.{Tag}
-use Rattle.c_typing.specs.Scopes.{Name, Level, Scopes, empty_level, at_innermost, without_innermost, with_name, with_tag, declaring, entering, leaving, tag_in}
-use Rattle.c_typing.specs.Typing.{IsTyped, IsPlace, AreTyped, IsTypeName, AreSpecifiers, AreListed, IsSpecifier, AreMembers, AreMemberDeclarators, AreEnumerators, IsForm, IsCore, AreParts, AreParameters, IsDeclared, IsTagged, BeginsAggregate, IsNewName, tagging, tag_named_here, enumerating, counting_aggregate}
+use Rattle.c_typing.specs.Scopes.{Name, Level, Scopes, empty_level, at_innermost, without_innermost, with_name, with_tag, with_tag_set, declaring, entering, leaving, tag_in}
+use Rattle.c_typing.specs.Typing.{IsTyped, IsPlace, AreTyped, IsTypeName, AreSpecifiers, AreListed, IsSpecifier, AreMembers, AreMemberDeclarators, AreEnumerators, IsForm, IsCore, AreParts, AreParameters, IsDeclared, IsTagged, BeginsAggregate, IsNewName, IsNewEnumerator, tagging, tag_named_here, enumerating, enumerated, counting_aggregate}
 use Rattle.c_typing_unique.proofs.DeclaratorSteps.{DeclaresName, name_declared, declares-by}
 
 -- Scopes
@@ -41,11 +40,18 @@ enumerating-levels (Some name) c = by (tag_named_here c (Some name)) refl
     by None q = rw q (length-innermost (with_tag name.bytes _) c.levels)
     by (Some w) q = rw q refl
 
+pub enumerated-levels : (name : Option Identifier) (c : Scopes) → length (enumerated name c).levels ≡ length c.levels
+enumerated-levels None c = refl
+enumerated-levels (Some name) c = length-innermost (with_tag_set name.bytes _) c.levels
+
 same : (s s' : Scopes) → s' ≡ s → length s'.levels ≡ length s.levels
 same s s' h = ap (λ (c : Scopes). length c.levels) h
 
 declared_levels : (name : Name) (what : Declared) (s s' : Scopes) → IsNewName name what s s' → length s'.levels ≡ length s.levels
 declared_levels name what s s' h = same (declaring name what s) s' h.after ∙ length-innermost (with_name name what) s.levels
+
+enumerator_levels : (name : Name) (value : ℤ) (s s' : Scopes) → IsNewEnumerator name value s s' → length s'.levels ≡ length s.levels
+enumerator_levels name value s s' h = same (declaring name _ s) s' h.after ∙ length-innermost (with_name name _) s.levels
 
 parameter_levels : (name : Option Identifier) (h : Home) (t : TypeId) (s s' : Scopes) → DeclaresName name h t s s' → length s'.levels ≡ length s.levels
 parameter_levels (Some name) (home.Parameter n) t s s' d = declared_levels name.bytes _ s s' d
@@ -141,7 +147,8 @@ module _ (T : Table) where
     specifier-levels (typed.Aggregate which at name brace members t) s s' h =
         ap (λ (c : Scopes). length c.levels) h.4.after ∙ members-levels members h.0 h.1 h.3 ∙ begun_levels (tag_named_here s name) which name t s h.0 h.2
     specifier-levels (typed.Enum at name) s s' h = same s s' h.0
-    specifier-levels (typed.Enumeration at name brace all comma) s s' h = enumerators-levels all (enumerating name s) s' h.1 ∙ enumerating-levels name s
+    specifier-levels (typed.Enumeration at name brace all comma) s s' h =
+        same (enumerated name h.0) s' h.2.after ∙ enumerated-levels name h.0 ∙ enumerators-levels all (enumerating name s) h.0 h.1 ∙ enumerating-levels name s
 
     pub members-levels : (x : TypedMembers) (s s' : Scopes) → AreMembers T x s s' → length s'.levels ≡ length s.levels
     members-levels typed.NoMember s s' h = same s s' h
@@ -154,9 +161,9 @@ module _ (T : Table) where
 
     pub enumerators-levels : (x : TypedEnumerators) (s s' : Scopes) → AreEnumerators T x s s' → length s'.levels ≡ length s.levels
     enumerators-levels typed.NoEnumerator s s' h = same s s' h
-    enumerators-levels (typed.AndEnumerator all name value) s s' h = declared_levels name.bytes _ h.0 s' h.3 ∙ enumerators-levels all s h.0 h.1
+    enumerators-levels (typed.AndEnumerator all name value) s s' h = enumerator_levels name.bytes value h.0 s' h.3 ∙ enumerators-levels all s h.0 h.1
     enumerators-levels (typed.AndValued all name at e value) s s' h =
-        declared_levels name.bytes _ h.1 s' h.5 ∙ value-levels e h.0 h.1 h.3 ∙ enumerators-levels all s h.0 h.2
+        enumerator_levels name.bytes value h.1 s' h.5 ∙ value-levels e h.0 h.1 h.3 ∙ enumerators-levels all s h.0 h.2
 
     pub form-levels : (x : TypedForm) (s s' : Scopes) → IsForm T x s s' → length s'.levels ≡ length s.levels
     form-levels (typed.Form stars core parts) s s' h = parts-levels parts h.0 s' h.2 ∙ core-levels core s h.0 h.1

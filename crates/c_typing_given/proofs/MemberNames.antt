@@ -4,10 +4,11 @@ use Rattle.std.specs.Prelude.{bytes_eq, slice_set}
 use Rattle.std.specs.List.{All, list_any}
 use Rattle.std.proofs.lemmas.List.Elements.{All-nil, All-cons, All-head, All-tail}
 use Rattle.std.proofs.lemmas.Slice.Eq.{bytes_eq-Decides}
-use Rattle.c_typing.specs.Scopes.{Name, is_no_list, members_named}
+use Rattle.c_typing.specs.Scopes.{Name, members_named}
 use Rattle.c_typing.specs.Typing.{AreDistinct}
 use Rattle.c_typing_exact.proofs.Unbroken.{or_off}
 use Rattle.c_typing_given.proofs.Settling.{naming}
+use Rattle.c_types.specs.Table.{is_empty}
 
 all_prefix : (P : Name → Type 0) (xs ys : List Name) → All P (xs ++ ys) → All P xs
 all_prefix P [] ys h = All-nil P
@@ -33,15 +34,15 @@ last-new (x ∷ xs) n h =
     (other_bytes x n (all_last (λ (o : Name). x ≡ o → ⊥) xs n h.0) (bytes_eq n x) refl) (last-new xs n h.1)
 
 -- where names of members are set, there are some
-pub set-here : (all : List (List Name)) (k : ℕ) (names : List Name) → k < length all → is_no_list names ≡ false
-    → is_no_list (members_named (naming (slice_set all k names)) k) ≡ false
+pub set-here : (all : List (List Name)) (k : ℕ) (names : List Name) → k < length all → is_empty names ≡ false
+    → is_empty (members_named (naming (slice_set all k names)) k) ≡ false
 set-here [] k names l h = absurd (omega (arith, l))
 set-here (m ∷ all) zero names l h = h
 set-here (m ∷ all) (suc k) names l h = set-here all k names (omega (arith, l)) h
 
 -- and where there were some, there are
-pub set-still : (all : List (List Name)) (n k : ℕ) (names : List Name) → is_no_list names ≡ false → is_no_list (members_named (naming all) n) ≡ false
-    → is_no_list (members_named (naming (slice_set all k names)) n) ≡ false
+pub set-still : (all : List (List Name)) (n k : ℕ) (names : List Name) → is_empty names ≡ false → is_empty (members_named (naming all) n) ≡ false
+    → is_empty (members_named (naming (slice_set all k names)) n) ≡ false
 set-still [] n k names h p = p
 set-still (m ∷ all) zero zero names h p = h
 set-still (m ∷ all) zero (suc k) names h p = p

@@ -17,7 +17,6 @@ use Rattle.c_tree.specs.TypedParts.{declared_home, specified_type}
 use Rattle.c_typing.specs.declared.declared.Declared.TheVariants as declared
 use Rattle.c_typing.specs.declared.naming.Naming.TheVariants as naming
 use Rattle.c_typing.specs.Adjusting.{adjusted_at, derived_by_declared, typedef_place}
-use Rattle.c_typing.specs.Declaring
 use Rattle.c_typing.specs.Declaring.{adjusted_with_node, adjusted_shape, adjusted_makes, parameter_makes, parameter_declared, parameter}
 use Rattle.c_typing.specs.Judging.{State, Outcome, Judging, Gives, ◌>>=◌, by_known, pure, new_node}
 use Rattle.c_typing.specs.Refusals.{is_here, declared_identifier}
@@ -64,13 +63,13 @@ pub parameter-is : (void : Bool) (at : Place) (adjusting : TypeShape → Option 
     (t : TypeId) (s k m r : State) → first_broken (parameter_name_tests (is_here s.seen.scopes (declared_identifier one)) at) ≡ None
     → adjusted_with_node at (adjusting (shape_at s.table (specified_type x))) s ≡ Gives f k → parameter_makes at f one (specified_type x) k ≡ Gives t m
     → first_broken (parameter_type_tests m.table m.seen.scopes void t at) ≡ None
-    → parameter_declared at (declared_identifier one) (Declaring.declared_home one) t m ≡ Gives t r
+    → parameter_declared at (declared_identifier one) (declared_home one) t m ≡ Gives t r
     → parameter void at adjusting list x one s ≡ Gives (typed.AndParameter list x one f t) r
 unfolding parameter
 parameter-is void at adjusting list x one f t s k m r pass h g tested e =
     let o : Outcome TypedParameters = Gives (typed.AndParameter list x one f t) r in
     let check : TypeId → Judging TypeId = λ u. obeying (λ (q : State). parameter_type_tests q.table q.seen.scopes void u at)
-    (parameter_declared at (declared_identifier one) (Declaring.declared_home one) u) in
+    (parameter_declared at (declared_identifier one) (declared_home one) u) in
     obeying-is (λ (q : State). parameter_name_tests (is_here q.seen.scopes (declared_identifier one)) at)
     (by_known (λ (q : State). adjusted_with_node at (adjusting (shape_at q.table (specified_type x))))
     >>= (λ a. parameter_makes at a one (specified_type x) >>= (λ u. check u >>= (λ v. pure (typed.AndParameter list x one a v))))) s o pass
@@ -78,7 +77,7 @@ parameter-is void at adjusting list x one f t s k m r pass h g tested e =
     (λ a. parameter_makes at a one (specified_type x) >>= (λ u. check u >>= (λ v. pure (typed.AndParameter list x one a v)))) f s k o h
     (then-is (parameter_makes at f one (specified_type x)) (λ u. check u >>= (λ v. pure (typed.AndParameter list x one f v))) t k m o g
     (then-is (check t) (λ v. pure (typed.AndParameter list x one f v)) t m r o
-    (obeying-is (λ (q : State). parameter_type_tests q.table q.seen.scopes void t at) (parameter_declared at (declared_identifier one) (Declaring.declared_home one) t) m
+    (obeying-is (λ (q : State). parameter_type_tests q.table q.seen.scopes void t at) (parameter_declared at (declared_identifier one) (declared_home one) t) m
     (Gives t r) tested e) refl)))
 
 pub adjusted-none : (at : Place) (s : State) → adjusted_with_node at None s ≡ Gives None s
@@ -95,7 +94,7 @@ pub same-identifier : (x : TypedDeclared) → declared_identifier x ≡ name_dec
 same-identifier typed.NotDeclared = refl
 same-identifier (typed.DeclaredBy form) = refl
 
-pub same-home : (x : TypedDeclared) → Declaring.declared_home x ≡ declared_home x
+pub same-home : (x : TypedDeclared) → declared_home x ≡ declared_home x
 same-home typed.NotDeclared = refl
 same-home (typed.DeclaredBy form) = refl
 

@@ -7,8 +7,7 @@ use Rattle.c_types.specs.Table.{Table, HasShape}
 use Rattle.c_tree.specs.Tree as tree
 use Rattle.c_tree.specs.TypedTree as typed
 use Rattle.c_tree.specs.TypedTree.{TypedParts, TypedParameters}
-use Rattle.c_tree.specs.TypedParts.{made_by_parts, made_by_parameters}
-use Rattle.c_typing.specs.Declarators.{is_void_list}
+use Rattle.c_tree.specs.TypedParts.{made_by_parts, made_by_parameters, is_void_list}
 use Rattle.c_typing.specs.Declaring
 use Rattle.c_typing.specs.Declaring.{left}
 use Rattle.c_typing.specs.Judging.{State, Outcome, Gives, ◌>>=◌, pure}

@@ -4,7 +4,7 @@ use Rattle.std.proofs.Common.{◌≡◌, ◌≤◌, ◌<◌, ◌+◌, ℕ, Bool,
 use Rattle.std.proofs.lemmas.List.{length-append, length-map}
 use Rattle.std.specs.List.{All, flat_map}
 use Rattle.cc_base.specs.declared.number.NodeId.{NodeId}
-use Rattle.c_types.specs.Table.{Table}
+use Rattle.c_types.specs.Table.{Table, is_empty}
 use Rattle.c_tree.specs.Tree as tree
 use Rattle.c_tree.specs.TypedTree.{TypedExpr}
 use Rattle.c_tree.specs.TypedParts.{Made, made_by, made_by_place, nodes_made, node_made}
@@ -13,7 +13,7 @@ use Rattle.c_typing.specs.Extensions.{IsExtended}
 use Rattle.c_typing.specs.Judging.{State, Gives}
 use Rattle.c_typing.specs.Operands.{Operand}
 use Rattle.c_typing.specs.Refusals.{is_natural, IsElaborated}
-use Rattle.c_typing.specs.Scopes.{Name, Scopes, is_no_list, members_named}
+use Rattle.c_typing.specs.Scopes.{Name, Scopes, members_named}
 use Rattle.c_typing.specs.Settled.{IsBasic}
 use Rattle.c_typing.specs.Tests.{Elaborated, AsPlace, AsValue, AsAllocation}
 use Rattle.c_typing.specs.Walks.{judge}
@@ -61,7 +61,7 @@ small-kept s r h m d l k none = record {
   short = subst (λ (all : List (List Name)). All (λ (names : List Name). length names ≤ 4294967296) all) (sym m) h.short;
   functions = let a = h.functions in omega (arith, a, ap length d);
   opened = k h.opened;
-  finished = λ t n p full. let own = none t n p full in ap (λ (all : List (List Name)). is_no_list (members_named (naming all) n)) m ∙ h.finished t n own.0 own.1;
+  finished = λ t n p full. let own = none t n p full in ap (λ (all : List (List Name)). is_empty (members_named (naming all) n)) m ∙ h.finished t n own.0 own.1;
 }
 
 -- Parts

@@ -22,7 +22,7 @@ use Rattle.c_typing.specs.Refusals.{one_named}
 use Rattle.c_typing.specs.Scopes.{Name, Level, Scopes, name_in, tag_in, tag_here, or_outer, entry_of}
 use Rattle.c_typing.specs.Settled.{IsBasic}
 use Rattle.c_typing.specs.Specifying.{word, typedef_named, typedef_name, enum_tag, tagged, tagged_as, tagged_by, new_aggregate}
-use Rattle.c_typing.specs.Tests.{first_broken, broken_at, word_tests, tag_tests, enum_tests, is_other_tag, is_tag_of, is_enumeration, is_none}
+use Rattle.c_typing.specs.Tests.{first_broken, broken_at, word_tests, tag_tests, enum_tests, is_other_tag, is_tag_of, is_enumeration, lacks_enumeration}
 use Rattle.c_typing.specs.Typing.{IsSpecifier}
 use Rattle.c_typing.specs.Walks.{judge_list, judge_specifier}
 use Rattle.c_typing_laws.proofs.KnownScopes.{tag-there}
@@ -181,7 +181,7 @@ module _ (T : Table) (basic : IsBasic T) where
       (subst (λ (y : TypedSpecifier). IsSpecifier T y s.seen.scopes b.scopes) i.0 h.1).1 in
       let pass =
       passes_append (enum_tests s.seen.scopes name.bytes name.place) (word_tests at (one_named before))
-      (passes_and rule.UnknownName name.place (is_none (tag_in s.seen.scopes.levels name.bytes)) (tag_tests s.seen.scopes is_enumeration name.bytes name.place) (ap is_none known)
+      (passes_and rule.UnknownName name.place (lacks_enumeration (tag_in s.seen.scopes.levels name.bytes)) (tag_tests s.seen.scopes is_enumeration name.bytes name.place) (ap lacks_enumeration known)
       (tag-passes s.seen.scopes is_enumeration name.bytes name.place (ap (is_other_tag is_enumeration) known)))
       (word_passes at (one_named before) ok) in
       subst (λ (y : TypedSpecifier). IsGivenAs T (made_by_specifier y) (judge_specifier before (tree.Enum at name) s) y s b count) (sym i.0)

@@ -3,8 +3,10 @@ use Rattle.std.proofs.Common.{◌≡◌, ◌+◌, ℕ, List, [], ◌∷◌, ◌+
 use Rattle.std.proofs.lemmas.List.{length-append}
 use Rattle.c_types.specs.Table.{Table}
 use Rattle.c_tree.specs.TypedParts.{Made}
+use Rattle.c_typing.specs.Assignments.{literal_cost}
 use Rattle.c_typing.specs.Judging.{State}
-use Rattle.c_typing_given.specs.Spending.{node_cost, literal_cost, cell_cost, total, HasRoom, HasSpent}
+use Rattle.c_typing_given.specs.Spending.{node_cost, total, HasRoom, HasSpent}
+use Rattle.c_cells_kept.specs.Counted.{copied_by}
 
 pub total-append : (cost : Made → ℕ) (xs ys : List Made) → total cost (xs ++ ys) ≡ total cost xs + total cost ys
 total-append cost [] ys = omega arith
@@ -21,7 +23,7 @@ module _ (T : Table) where
     things = let a = h.things in omega (arith, a, length-append xs ys);
     nodes = let a = h.nodes in omega (arith, a, total-append node_cost xs ys);
     globals = let a = h.globals in omega (arith, a, total-append literal_cost xs ys);
-    cells = let a = h.cells in omega (arith, a, total-append (cell_cost T) xs ys);
+    cells = let a = h.cells in omega (arith, a, total-append (copied_by T) xs ys);
   }
 
   pub room-then : (xs ys : List Made) (s r : State) → HasRoom T (xs ++ ys) s → HasSpent T xs s r → HasRoom T ys r
@@ -29,14 +31,14 @@ module _ (T : Table) where
     things = let a = h.things in omega (arith, a, length-append xs ys);
     nodes = let a = h.nodes in let b = k.nodes in omega (arith, a, b, total-append node_cost xs ys);
     globals = let a = h.globals in let b = k.globals in omega (arith, a, b, total-append literal_cost xs ys);
-    cells = let a = h.cells in let b = k.cells in omega (arith, a, b, total-append (cell_cost T) xs ys);
+    cells = let a = h.cells in let b = k.cells in omega (arith, a, b, total-append (copied_by T) xs ys);
   }
 
   pub spent-both : (xs ys : List Made) (s m r : State) → HasSpent T xs s m → HasSpent T ys m r → HasSpent T (xs ++ ys) s r
   spent-both xs ys s m r h k = record {
     nodes = let a = h.nodes in let b = k.nodes in omega (arith, a, b, total-append node_cost xs ys);
     globals = let a = h.globals in let b = k.globals in omega (arith, a, b, total-append literal_cost xs ys);
-    cells = let a = h.cells in let b = k.cells in omega (arith, a, b, total-append (cell_cost T) xs ys);
+    cells = let a = h.cells in let b = k.cells in omega (arith, a, b, total-append (copied_by T) xs ys);
   }
 
   pub spent-none : (s r : State) → r.seen.node ≡ s.seen.node → r.seen.globals ≡ s.seen.globals → r.seen.cells ≡ s.seen.cells → HasSpent T [] s r

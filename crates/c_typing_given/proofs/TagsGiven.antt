@@ -5,7 +5,7 @@ use Rattle.std.proofs.lemmas.List.{length-append}
 use Rattle.std.proofs.lemmas.List.Elements.{All-nil, All-cons, All-append}
 use Rattle.cc_base.specs.declared.place.Place.{Place}
 use Rattle.cc_base.specs.declared.number.TypeId.{TypeId}
-use Rattle.c_types.specs.Table.{Table, HasShape, IsComplete, parts_of_shape}
+use Rattle.c_types.specs.Table.{Table, HasShape, IsComplete, parts_of_shape, is_empty}
 use Rattle.c_tree.specs.declared.leaf.Identifier.{Identifier}
 use Rattle.c_tree.specs.declared.operator.AggregateKind.{AggregateKind}
 use Rattle.c_tree.specs.declared.operator.AggregateKind.TheVariants as kind
@@ -21,7 +21,7 @@ use Rattle.c_typing.specs.Judging.{State, Gives, ◌>>=◌, by_known, type_with}
 use Rattle.c_typing.specs.Operations.{numbered}
 use Rattle.c_typing.specs.Refusals.{one_named}
 use Rattle.c_typing.specs.Rules.{number_of_shape}
-use Rattle.c_typing.specs.Scopes.{Name, Scopes, Seen, tag_in, with_scopes, is_no_list, members_named}
+use Rattle.c_typing.specs.Scopes.{Name, Scopes, Seen, tag_in, with_scopes, members_named}
 use Rattle.c_typing.specs.Settled.{IsBasic}
 use Rattle.c_typing.specs.Specifying.{new_aggregate, in_scopes, tagged_as}
 use Rattle.c_typing.specs.Tests.{word_tests, tag_tests, is_other_tag, is_tag_of}
@@ -60,7 +60,7 @@ tagging-keeps None w c = (refl, refl)
 tagging-keeps (Some name) w c = (refl, refl)
 
 -- a new struct or union has no names of members so far
-more_names : (all : List (List Name)) (n : ℕ) → is_no_list (members_named (naming (all ++ [] ∷ [])) n) ≡ is_no_list (members_named (naming all) n)
+more_names : (all : List (List Name)) (n : ℕ) → is_empty (members_named (naming (all ++ [] ∷ [])) n) ≡ is_empty (members_named (naming all) n)
 more_names [] zero = refl
 more_names [] (suc n) = refl
 more_names (names ∷ all) zero = refl
@@ -126,7 +126,7 @@ module _ (T : Table) (basic : IsBasic T) where
               omega (arith, o, l);
           finished = λ u m p full.
               let own = g.bare u m p full in
-              ap (λ (all : List (List Name)). is_no_list (members_named (naming all) m)) members ∙ more_names s.seen.scopes.members m
+              ap (λ (all : List (List Name)). is_empty (members_named (naming all) m)) members ∙ more_names s.seen.scopes.members m
               ∙ here.small.finished u m own.0 own.1;
         };
         spent = spent-none T s (tagged_state name which t g.after) (ap (λ (v : Seen). v.node) seen) (ap (λ (v : Seen). v.globals) seen) (ap (λ (v : Seen). v.cells) seen);

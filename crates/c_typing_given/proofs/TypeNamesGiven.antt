@@ -9,8 +9,9 @@ use Rattle.c_tree.specs.declared.typed_word.Home.{Home}
 use Rattle.c_tree.specs.Erasure.{erased_specifier_list, erased_declared}
 use Rattle.c_tree.specs.Tree as tree
 use Rattle.c_tree.specs.TypedTree as typed
-use Rattle.c_tree.specs.TypedTree.{TypedTypeName, TypedSpecifierList, TypedForm, TypedCore, TypedDeclared}
+use Rattle.c_tree.specs.TypedTree.{TypedSpecifierList, TypedForm, TypedCore, TypedDeclared}
 use Rattle.c_tree.specs.TypedParts.{Made, Name, made_by_stars, made_by_form, made_by_core, made_by_parts, made_by_declared, made_by_specifier_list, declared_home, home_of_form, name_of_form}
+use Rattle.c_typing.specs.Assignments.{literal_cost}
 use Rattle.c_typing.specs.declared.naming.Naming.TheVariants as naming
 use Rattle.c_typing.specs.Declarators.{Written, DeclaredMakes, named_by_list, counted}
 use Rattle.c_typing.specs.Declaring.{declared_makes}
@@ -36,7 +37,7 @@ use Rattle.c_typing_unique.proofs.Numbering.{two-parts}
 use Rattle.c_typing_exact.proofs.SameParts.{distinct}
 use Rattle.c_typing_given.specs.Given.{point_at, IsReached, IsNameGiven}
 use Rattle.c_unit_typing.specs.Holding.{specifiers_holds, declared_holds}
-use Rattle.c_typing_given.specs.Spending.{node_cost, literal_cost, cell_cost, total, HasRoom, HasSpent}
+use Rattle.c_typing_given.specs.Spending.{node_cost, total, HasRoom, HasSpent}
 use Rattle.c_type_order.specs.TypesUsed.{made_in, declared_steps, AreUses, types_of, used_by_specifier_list, used_by_declared}
 use Rattle.c_typing_given.proofs.Constructing.{reached-both, uses-at, scopes-at, max-left, max-right}
 use Rattle.c_typing_given.proofs.FormsGiven.{IsDeclaredGiven}
@@ -46,6 +47,7 @@ use Rattle.c_typing_given.proofs.SpecifiersGiven.{AreListGiven}
 use Rattle.c_typing_given.proofs.Spent.{room-first, room-then, total-append, total-ones}
 use Rattle.c_typing_given.proofs.Steps.{then-is}
 use Rattle.c_typing_given.proofs.ValuesGiven.{uses-first}
+use Rattle.c_cells_kept.specs.Counted.{copied_by}
 
 -- What a declarator costs does not hang on its type
 
@@ -80,14 +82,14 @@ module _ (T : Table) where
         omega (arith, a, declared_cost (λ m. 1) (λ n k v w. refl) x t u, total-ones (made_by_declared x t), total-ones (made_by_declared x u));
     nodes = let a = h.nodes in omega (arith, a, declared_cost node_cost (λ n k v w. refl) x t u);
     globals = let a = h.globals in omega (arith, a, declared_cost literal_cost (λ n k v w. refl) x t u);
-    cells = let a = h.cells in omega (arith, a, declared_cost (cell_cost T) (λ n k v w. refl) x t u);
+    cells = let a = h.cells in omega (arith, a, declared_cost (copied_by T) (λ n k v w. refl) x t u);
   }
 
   pub declared-spent : (x : TypedDeclared) (t u : TypeId) (s r : State) → HasSpent T (made_by_declared x t) s r → HasSpent T (made_by_declared x u) s r
   declared-spent x t u s r h = record {
     nodes = let a = h.nodes in omega (arith, a, declared_cost node_cost (λ n k v w. refl) x t u);
     globals = let a = h.globals in omega (arith, a, declared_cost literal_cost (λ n k v w. refl) x t u);
-    cells = let a = h.cells in omega (arith, a, declared_cost (cell_cost T) (λ n k v w. refl) x t u);
+    cells = let a = h.cells in omega (arith, a, declared_cost (copied_by T) (λ n k v w. refl) x t u);
   }
 
 judges_named : (specifiers : tree.Specifiers) (d : tree.Declared) (list : TypedSpecifierList) (one : TypedDeclared) (t : TypeId) (s j k r : State) → judge_list specifiers s ≡ Gives list j

@@ -7,15 +7,15 @@ use Rattle.cc_base.specs.declared.number.NodeId.{NodeId}
 use Rattle.cc_base.specs.declared.number.TypeId.{TypeId}
 use Rattle.c_types.specs.declared.shape.TypeShape.{TypeShape}
 use Rattle.c_types.specs.declared.shape.TypeShape.TheVariants.{Pointer, Array, Function}
-use Rattle.c_types.specs.Table.{Table, HasShape, shape_at}
+use Rattle.c_types.specs.Table.{Table, HasShape, shape_at, is_empty}
 use Rattle.c_tree.specs.declared.leaf.Word.{Word}
 use Rattle.c_tree.specs.declared.typed_word.TypedStar.{TypedStar}
 use Rattle.c_tree.specs.TypedTree as typed
-use Rattle.c_tree.specs.TypedTree.{TypedForm, TypedCore, TypedParts, TypedParameters, TypedDeclared}
+use Rattle.c_tree.specs.TypedTree.{TypedForm, TypedCore, TypedParts, TypedParameters}
 use Rattle.c_typing.specs.Declarators.{Outermost, Written, Counts, Points, StarsMake, PartsMake, MakesArray, MakesFunction, FormMakes, CoreMakes, nearest, outside, taken_types, is_pointed, is_result_shape, first_word_place}
 use Rattle.c_typing.specs.Declaring.{array_makes, array_of, function_makes, function_type, function_as}
 use Rattle.c_typing.specs.Judging.{State, Outcome, Gives, next, pointer_type}
-use Rattle.c_typing.specs.Scopes.{Scopes, is_complete_at, is_no_list}
+use Rattle.c_typing.specs.Scopes.{Scopes, is_complete_at}
 use Rattle.c_typing.specs.Tests.{first_broken, array_tests, function_tests, lacks_size, broken_at, has_some}
 use Rattle.c_typing_exact.specs.Passing.{Passes}
 use Rattle.c_typing_exact.proofs.Unbroken.{passes_one, passes_and, off, and_off}
@@ -113,15 +113,15 @@ mutual
 -- Rules
 
 pub KeepsArray : Table → Scopes → Outermost → Bool → List Word → TypeId → Type 0
-KeepsArray T s o sized words v = (is_complete_at T s v ≡ true) × (lacks_size o sized ≡ false) × ((not (is_no_list words) && not (is_pointed o)) ≡ false)
+KeepsArray T s o sized words v = (is_complete_at T s v ≡ true) × (lacks_size o sized ≡ false) × ((not (is_empty words) && not (is_pointed o)) ≡ false)
 
 pub array-keeps : (T : Table) (s : Scopes) (o : Outermost) (words : List Word) (count : Option ℕ) (v u : TypeId) → MakesArray T s o words count v u → KeepsArray T s o (has_some count) words v
 unfolding KeepsArray
-array-keeps T s (Points n) words None v u h = (h.0, refl, and_off (not (is_no_list words)) false refl)
-array-keeps T s (Points n) words (Some c) v u h = (h.0, refl, and_off (not (is_no_list words)) false refl)
-array-keeps T s (Counts d) words (Some c) v u h = (h.1.0, refl, ap (λ (w : List Word). not (is_no_list w) && true) h.0)
-array-keeps T s Written words (Some c) v u h = (h.1.0, refl, ap (λ (w : List Word). not (is_no_list w) && true) h.0)
-array-keeps T s (Counts d) words None v u h = (h.1.0, refl, ap (λ (w : List Word). not (is_no_list w) && true) h.0)
+array-keeps T s (Points n) words None v u h = (h.0, refl, and_off (not (is_empty words)) false refl)
+array-keeps T s (Points n) words (Some c) v u h = (h.0, refl, and_off (not (is_empty words)) false refl)
+array-keeps T s (Counts d) words (Some c) v u h = (h.1.0, refl, ap (λ (w : List Word). not (is_empty w) && true) h.0)
+array-keeps T s Written words (Some c) v u h = (h.1.0, refl, ap (λ (w : List Word). not (is_empty w) && true) h.0)
+array-keeps T s (Counts d) words None v u h = (h.1.0, refl, ap (λ (w : List Word). not (is_empty w) && true) h.0)
 array-keeps T s Written words None v u h = absurd h
 
 pub array-passes : (T : Table) (s : Scopes) (o : Outermost) (sized : Bool) (bracket : Place) (words : List Word) (v : TypeId) (at : Place) → KeepsArray T s o sized words v
@@ -129,10 +129,10 @@ pub array-passes : (T : Table) (s : Scopes) (o : Outermost) (sized : Bool) (brac
 unfolding KeepsArray
 array-passes T s o sized bracket words v at h =
     passes_and rule.Incomplete bracket (lacks_size o sized)
-    (broken_at rule.Incomplete at (not (is_complete_at T s v)) ∷ broken_at rule.Mismatch (first_word_place words bracket) (not (is_no_list words) && not (is_pointed o)) ∷ []) h.1
-    (passes_and rule.Incomplete at (not (is_complete_at T s v)) (broken_at rule.Mismatch (first_word_place words bracket) (not (is_no_list words) && not (is_pointed o)) ∷ [])
+    (broken_at rule.Incomplete at (not (is_complete_at T s v)) ∷ broken_at rule.Mismatch (first_word_place words bracket) (not (is_empty words) && not (is_pointed o)) ∷ []) h.1
+    (passes_and rule.Incomplete at (not (is_complete_at T s v)) (broken_at rule.Mismatch (first_word_place words bracket) (not (is_empty words) && not (is_pointed o)) ∷ [])
     (off (is_complete_at T s v) h.0)
-    (passes_one rule.Mismatch (first_word_place words bracket) (not (is_no_list words) && not (is_pointed o)) h.2))
+    (passes_one rule.Mismatch (first_word_place words bracket) (not (is_empty words) && not (is_pointed o)) h.2))
 
 pub complete-element : (T : Table) (s : Scopes) (o : Outermost) (words : List Word) (count : Option ℕ) (v u : TypeId) → MakesArray T s o words count v u → is_complete_at T s v ≡ true
 unfolding KeepsArray

@@ -1,3 +1,4 @@
 pub mod Spending
 pub mod Given
 pub mod Limits
+pub mod Theorems

@@ -3,25 +3,16 @@
 use Rattle.std.specs.Prelude.{◌≡◌, ◌≤◌, ◌<◌, ◌+◌, ℕ, false, List, [], ◌∷◌, length, Some}
 use Rattle.std.specs.List.{All}
 use Rattle.cc_base.specs.declared.number.TypeId.{TypeId}
-use Rattle.c_types.specs.Table.{Table, IsComplete, shape_at}
-use Rattle.c_tree.specs.TypedParts.{Made, Literal, Copy, node_made}
-use Rattle.c_typing.specs.Assignments.{literal_size}
-use Rattle.c_typing.specs.Cells.{pointers_in}
+use Rattle.c_types.specs.Table.{Table, IsComplete, shape_at, is_empty}
+use Rattle.c_tree.specs.TypedParts.{Made, node_made}
+use Rattle.c_typing.specs.Assignments.{literal_cost}
 use Rattle.c_typing.specs.Judging.{State}
 use Rattle.c_typing.specs.Rules.{number_of_shape}
-use Rattle.c_typing.specs.Scopes.{Name, is_no_list, members_named}
+use Rattle.c_typing.specs.Scopes.{Name, members_named}
+use Rattle.c_cells_kept.specs.Counted.{copied_by}
 
 abbrev pub node_cost : Made → ℕ
 node_cost made = length (node_made made)
-
--- the bytes of a literal are counted, and 16 more
-abbrev pub literal_cost : Made → ℕ
-literal_cost (Literal pieces home t) = literal_size pieces + 16
-literal_cost made = 0
-
-abbrev pub cell_cost : Table → Made → ℕ
-cell_cost T (Copy t) = pointers_in T t
-cell_cost T made = 0
 
 abbrev pub total : (Made → ℕ) → List Made → ℕ
 total cost [] = 0
@@ -32,13 +23,13 @@ pub record HasRoom (T : Table) (made : List Made) (s : State) : Type 0 where
   pub things : length made ≤ 4294967296
   pub nodes : s.seen.node + total node_cost made ≤ 4294967295
   pub globals : s.seen.globals + total literal_cost made ≤ 4194304
-  pub cells : s.seen.cells + total (cell_cost T) made ≤ 65536
+  pub cells : s.seen.cells + total (copied_by T) made ≤ 65536
 
 -- so much was counted; of the pointers of a struct that is not complete so far, none
 pub record HasSpent (T : Table) (made : List Made) (s r : State) : Type 0 where
   pub nodes : r.seen.node ≡ s.seen.node + total node_cost made
   pub globals : r.seen.globals ≡ s.seen.globals + total literal_cost made
-  pub cells : r.seen.cells ≤ s.seen.cells + total (cell_cost T) made
+  pub cells : r.seen.cells ≤ s.seen.cells + total (copied_by T) made
 
 -- There are no more structs and unions than types, and 32 bits can number the members of each and the functions of the unit. A scope is
 -- open, and each struct and union that has its members in the table is complete.
@@ -47,4 +38,4 @@ pub record IsSmall (s : State) : Type 0 where
   pub short : All (λ (names : List Name). length names ≤ 4294967296) s.seen.scopes.members
   pub functions : length s.seen.scopes.defined ≤ 4294967296
   pub opened : 0 < length s.seen.scopes.levels
-  pub finished : (t : TypeId) (n : ℕ) → number_of_shape (shape_at s.table t) ≡ Some n → IsComplete s.table t → is_no_list (members_named s.seen.scopes n) ≡ false
+  pub finished : (t : TypeId) (n : ℕ) → number_of_shape (shape_at s.table t) ≡ Some n → IsComplete s.table t → is_empty (members_named s.seen.scopes n) ≡ false

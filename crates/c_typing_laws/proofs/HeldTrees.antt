@@ -7,6 +7,7 @@ use Rattle.cc_base.specs.declared.fault.Limit.TheVariants.{Types}
 use Rattle.c_lexer.specs.declared.number.IntegerType.{IntegerType as ConstantType}
 use Rattle.c_types.specs.Table.{shape_at}
 use Rattle.c_types.specs.Layouts.{size_of}
+use Rattle.c_tree.specs.Literals.{pieces_bytes}
 use Rattle.c_tree.specs.declared.leaf.Identifier.{Identifier}
 use Rattle.c_tree.specs.declared.leaf.StringPiece.{StringPiece}
 use Rattle.c_tree.specs.declared.operator.Assignment.{Assignment}
@@ -27,7 +28,7 @@ use Rattle.c_typing.specs.Operands.{Operand, Value, value, value_of, side_of, gi
 use Rattle.c_typing.specs.Operations
 use Rattle.c_typing.specs.Operations.{construct, leaf, prefix, target, size_type, int_type, pointed, target_of, address_behind, address_of_part, address, operator_on, prefix_of, size_of_part, step_part, step_before, step_after, element, index, operation, infix_of, numbered, named_member, Found, found, member_of, member_at_pointer, pointed_member, in_parens, paren, integer, character}
 use Rattle.c_typing.specs.Refusals.{type_size_tests}
-use Rattle.c_typing.specs.Rules.{runtime_named, pieces_bytes}
+use Rattle.c_typing.specs.Rules.{runtime_named}
 use Rattle.c_typing.specs.Scopes.{name_in}
 use Rattle.c_typing.specs.Shapes.{pointee_at}
 use Rattle.c_typing.specs.Tests.{AsPlace, AsValue, has_some, target_tests, address_tests, prefix_tests, size_tests, step_tests, index_tests, infix_tests, member_tests, shape_of, pointed_shape, choice_tests, assign_tests, cast_tests, call_tests, name_tests}

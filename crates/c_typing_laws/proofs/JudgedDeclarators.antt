@@ -28,8 +28,8 @@ use Rattle.c_tree.specs.Erasure.{erased_stars, erased_form, erased_core, erased_
 use Rattle.c_tree.specs.Places.{nowhere}
 use Rattle.c_tree.specs.Tree as tree
 use Rattle.c_tree.specs.TypedTree as typed
-use Rattle.c_tree.specs.TypedTree.{TypedExpr, TypedTypeName, TypedSpecifiers, TypedSpecifierList, TypedSpecifier, TypedMembers, TypedMemberDeclarators, TypedForm, TypedCore, TypedParts, TypedParameters, TypedDeclared}
-use Rattle.c_tree.specs.TypedParts.{home_of_form, home_of_core, name_of_form, name_of_core}
+use Rattle.c_tree.specs.TypedTree.{TypedTypeName, TypedSpecifiers, TypedSpecifierList, TypedMembers, TypedMemberDeclarators, TypedForm, TypedCore, TypedParts, TypedParameters, TypedDeclared}
+use Rattle.c_tree.specs.TypedParts.{home_of_form, home_of_core, name_of_form, name_of_core, declared_home, is_void_keyword, is_void_word, is_void_list}
 use Rattle.c_typing.specs.declared.declared.Declared.{Declared}
 use Rattle.c_typing.specs.declared.declared.Declared.TheVariants as declared
 use Rattle.c_typing.specs.declared.naming.Naming.{Naming}
@@ -38,8 +38,8 @@ use Rattle.c_typing.specs.Adjusting.{derived_by_declared, typedef_place, adjuste
 use Rattle.c_typing.specs.Constants.{constant_value}
 use Rattle.c_typing.specs.Conversions.{is_droppable}
 use Rattle.c_typing.specs.Declarators
-use Rattle.c_typing.specs.Declarators.{Written, AreOfType, words_shape, none_counted, counting_word, is_void_keyword, is_void_word, is_void_list, is_object_shape, FormMakes, DeclaredMakes, ParameterMakes, name_bytes, declarator_names, member_names}
-use Rattle.c_typing.specs.Declaring.{declarator_name, core_name, home_as, stars_with_nodes, size_given, sized_part, sized, declared_makes, form_makes, member_type, member_named, adjusted_with_node, parameter_makes, parameter_declared, declared_home, parameter, entered, left}
+use Rattle.c_typing.specs.Declarators.{Written, AreOfType, words_shape, none_counted, counting_word, is_object_shape, FormMakes, ParameterMakes, name_bytes, declarator_names, member_names}
+use Rattle.c_typing.specs.Declaring.{declarator_name, core_name, home_as, stars_with_nodes, size_given, sized_part, sized, declared_makes, form_makes, member_type, member_named, adjusted_with_node, parameter_makes, parameter_declared, parameter, entered, left}
 use Rattle.c_typing.specs.Judging.{State, Judging, Gives, Stops, next, ◌>>=◌, pure, unless, by_known, new_node}
 use Rattle.c_typing.specs.Operands.{Value}
 use Rattle.c_typing.specs.Refusals.{has_name, declared_identifier, is_here, is_void_alone}
@@ -47,7 +47,7 @@ use Rattle.c_typing.specs.Scopes.{Name, Scopes, here, declaring, entering, leavi
 use Rattle.c_typing.specs.Settled.{IsKnown, GoesOn, GoesOnThere, IsValueOf, IsListJudged}
 use Rattle.c_typing.specs.Specifying.{specified, in_scopes}
 use Rattle.c_typing.specs.Tests
-use Rattle.c_typing.specs.Tests.{AsValue, has_some, has_size, first_broken}
+use Rattle.c_typing.specs.Tests.{AsValue, has_size, first_broken}
 use Rattle.c_typing.specs.Typing.{AreMembers, AreMemberDeclarators, IsForm, IsCore, AreParts, AreParameters, IsDeclared, IsHomelessDeclared, IsNewName, DeclaresParameter, IsTakenType, AreDistinct}
 use Rattle.c_typing.specs.Walks.{listed}
 use Rattle.c_typing_laws.specs.Judged.{IsTypeNameJudged, IsHomeAs, IsHomeOf}

@@ -10,7 +10,7 @@ use Rattle.cc_base.specs.declared.fault.Limit.TheVariants.{Types, Params}
 use Rattle.cc_base.specs.declared.fault.Rule.TheVariants as rule
 use Rattle.c_types.specs.declared.shape.TypeShape.{TypeShape}
 use Rattle.c_types.specs.declared.shape.TypeShape.TheVariants.{Pointer, Array, Function}
-use Rattle.c_types.specs.Table.{Table, HasShape, IsType, IsComplete, entry_at, shape_at, is_complete}
+use Rattle.c_types.specs.Table.{Table, HasShape, IsType, IsComplete, entry_at, shape_at, is_complete, is_empty}
 use Rattle.c_types.specs.Calls.{IsAddable}
 use Rattle.c_tree.specs.declared.leaf.Word.{Word}
 use Rattle.c_tree.specs.declared.typed_word.TypedStar.{TypedStar}
@@ -19,7 +19,7 @@ use Rattle.c_tree.specs.TypedTree.{TypedForm, TypedCore, TypedParts, TypedParame
 use Rattle.c_typing.specs.Declarators.{Outermost, Written, Counts, Points, MakesArray, is_result_shape, is_pointed, first_word_place, taken_types, IsFunctionOf, MakesFunction, nearest, PartsMake, StarsMake, outside, FormMakes, CoreMakes, DeclaredMakes}
 use Rattle.c_typing.specs.Declaring.{stars_make, is_element, array_type, array_of, array_makes, counting_parameters, are_types, function_type, function_as, function_makes, last_makes, parts_make, form_makes, core_makes, declared_makes}
 use Rattle.c_typing.specs.Judging.{State, Gives, Stops, next, ◌>>=◌, pure, stop, type_with, pointer_type}
-use Rattle.c_typing.specs.Scopes.{Scopes, is_no_list, is_complete_at}
+use Rattle.c_typing.specs.Scopes.{Scopes, is_complete_at}
 use Rattle.c_typing.specs.Settled.{IsKnown, GoesOnThere}
 use Rattle.c_typing.specs.Tests
 use Rattle.c_typing.specs.Tests.{lacks_size, has_some, first_broken}
@@ -99,7 +99,7 @@ array-type at element t count s r k h = by (is_element s.table element count) re
         record { makes = found.shape; there = found.shape.0; goes = type_with-there at (Array element count) t s r k addable parts refl q }
     by false p q = never-gives t (TooLarge at Types) s r q
 
-no_words : (words : List Word) (pointed : Bool) → pointed ≡ false → (not (is_no_list words) && not pointed) ≡ false → words ≡ []
+no_words : (words : List Word) (pointed : Bool) → pointed ≡ false → (not (is_empty words) && not pointed) ≡ false → words ≡ []
 no_words [] pointed p h = refl
 no_words (w ∷ words) pointed p h = no_true (sym h ∙ ap not p)
 
@@ -114,7 +114,7 @@ module _ (at : Place) (words : List Word) (element t : TypeId) (s r : State) (k 
       let made = array-type at element t count s r k h in
       record { makes = (none, still_complete made.goes, made.makes); there = made.there; goes = made.goes }
 
-  array_by : (outermost : Outermost) (count : Option ℕ) → lacks_size outermost (has_some count) ≡ false → (not (is_no_list words) && not (is_pointed outermost)) ≡ false
+  array_by : (outermost : Outermost) (count : Option ℕ) → lacks_size outermost (has_some count) ≡ false → (not (is_empty words) && not (is_pointed outermost)) ≡ false
       → array_of at outermost count element s ≡ Gives t r → IsMade (ByArrayPart outermost words count element) t s r
   unfolding array_of
   array_by (Points n) count l w h =
@@ -138,7 +138,7 @@ array-made at outermost bracket words count element t s r k there h =
     let go = unless-gives (first_broken (Tests.array_tests s.table s.seen.scopes outermost (has_some count) bracket words element at))
     (array_of at outermost count element) s t r h in
     let three = three_unbroken (lacks_size outermost (has_some count)) (not (is_complete_at s.table s.seen.scopes element))
-    (not (is_no_list words) && not (is_pointed outermost)) (Refused bracket rule.Incomplete) (Refused at rule.Incomplete)
+    (not (is_empty words) && not (is_pointed outermost)) (Refused bracket rule.Incomplete) (Refused at rule.Incomplete)
     (Refused (first_word_place words bracket) rule.Mismatch) go.0 in
     array_by at words element t s r k there (not_false (is_complete_at s.table s.seen.scopes element) three.1) outermost count three.0 three.2 go.1
 

@@ -9,7 +9,7 @@ use Rattle.cc_base.specs.declared.fault.Limit.TheVariants.{Types}
 use Rattle.cc_base.specs.declared.fault.Rule.TheVariants as rule
 use Rattle.c_types.specs.declared.shape.TypeShape.{TypeShape}
 use Rattle.c_types.specs.declared.shape.TypeShape.TheVariants.{Void, Integer, Pointer, Array, Function, Struct, Union}
-use Rattle.c_types.specs.Table.{Table, HasShape, shape_at, members_at, is_complete_entry}
+use Rattle.c_types.specs.Table.{Table, HasShape, shape_at, members_at, is_complete_entry, is_empty}
 use Rattle.c_types.specs.Layouts.{size_of, member_at}
 use Rattle.c_tree.specs.declared.leaf.Identifier.{Identifier}
 use Rattle.c_tree.specs.declared.operator.MemberOperator.TheVariants as member
@@ -18,7 +18,7 @@ use Rattle.c_tree.specs.Erasure.{erased_type_name}
 use Rattle.c_tree.specs.Places.{expr_place}
 use Rattle.c_tree.specs.Tree as tree
 use Rattle.c_tree.specs.TypedTree as typed
-use Rattle.c_tree.specs.TypedTree.{TypedExpr, TypedPlace, TypedTypeName}
+use Rattle.c_tree.specs.TypedTree.{TypedExpr, TypedTypeName}
 use Rattle.c_tree.specs.TypedParts.{type_of, place_type, named_type}
 use Rattle.integers.specs.Arithmetic.{unsigned_long}
 use Rattle.c_typing.specs.Assignments.{size_of_type}
@@ -29,7 +29,7 @@ use Rattle.c_typing.specs.Operations
 use Rattle.c_typing.specs.Operations.{size_type, size_of_part, size, numbered, named_member, Found, found, member_of, member_at_pointer, pointed_member}
 use Rattle.c_typing.specs.Refusals.{is_natural, IsElaborated, type_size_tests}
 use Rattle.c_typing.specs.Rules.{is_designator, is_made_of_place, runtime_named, number_of_shape, HasMember, IsSize}
-use Rattle.c_typing.specs.Scopes.{Scopes, is_complete_shape_at, is_complete_at, members_named, place_among, is_no_list}
+use Rattle.c_typing.specs.Scopes.{Scopes, is_complete_shape_at, is_complete_at, members_named, place_among}
 use Rattle.c_typing.specs.Settled.{IsValueOf, IsKnown, GoesOn, IsJudged}
 use Rattle.c_typing.specs.Shapes.{pointee_at, pointee_of_shape, is_void_shape}
 use Rattle.c_typing.specs.Tests.{Elaborated, AsPlace, AsValue, AsAllocation, first_broken, size_tests, is_complete_part, has_some, member_tests, shape_of, pointed_shape}
@@ -203,17 +203,17 @@ named-by s (Pointer n t) name i h = absurd (none-some i h)
 named-by s (Array t n) name i h = absurd (none-some i h)
 named-by s (Function ps r) name i h = absurd (none-some i h)
 
-some_named : (names : List (List ℕ)) (name : List ℕ) (i : ℕ) → place_among names name ≡ Some i → is_no_list names ≡ false
+some_named : (names : List (List ℕ)) (name : List ℕ) (i : ℕ) → place_among names name ≡ Some i → is_empty names ≡ false
 some_named [] name i h = absurd (none-some i h)
 some_named (n ∷ names) name i h = refl
 
-named_whole : (s : Scopes) (x : TypeShape) (number : ℕ) (ms : List TypeId) → number_of_shape x ≡ Some number → is_no_list (members_named s number) ≡ false
+named_whole : (s : Scopes) (x : TypeShape) (number : ℕ) (ms : List TypeId) → number_of_shape x ≡ Some number → is_empty (members_named s number) ≡ false
     → is_complete_shape_at s (is_complete_entry x ms) x ≡ true
-named_whole s (Struct n) number ms h e = subst (λ (m : ℕ). not (is_no_list (members_named s m)) ≡ true) (sym (some_number n number h)) (ap not e)
+named_whole s (Struct n) number ms h e = subst (λ (m : ℕ). not (is_empty (members_named s m)) ≡ true) (sym (some_number n number h)) (ap not e)
   where
     some_number : (a b : ℕ) → Some a ≡ Some b → a ≡ b
     some_number a b p = cc
-named_whole s (Union n) number ms h e = subst (λ (m : ℕ). not (is_no_list (members_named s m)) ≡ true) (sym (some_number n number h)) (ap not e)
+named_whole s (Union n) number ms h e = subst (λ (m : ℕ). not (is_empty (members_named s m)) ≡ true) (sym (some_number n number h)) (ap not e)
   where
     some_number : (a b : ℕ) → Some a ≡ Some b → a ≡ b
     some_number a b p = cc

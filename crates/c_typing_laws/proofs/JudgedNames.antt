@@ -10,6 +10,7 @@ use Rattle.c_types.specs.declared.shape.TypeShape.{TypeShape}
 use Rattle.c_types.specs.declared.shape.TypeShape.TheVariants.{Integer, Array}
 use Rattle.c_types.specs.Table.{Table, IsType, IsComplete, shape_at, members_at, is_complete_entry}
 use Rattle.c_types.specs.Calls.{IsAddable}
+use Rattle.c_tree.specs.Literals.{pieces_bytes}
 use Rattle.c_tree.specs.declared.leaf.Identifier.{Identifier}
 use Rattle.c_tree.specs.declared.leaf.StringPiece.{StringPiece}
 use Rattle.c_tree.specs.declared.typed_word.Runtime.{Runtime}
@@ -26,7 +27,7 @@ use Rattle.c_typing.specs.Integers.{char}
 use Rattle.c_typing.specs.Judging.{State, Gives, Stops, ◌>>=◌, pure, by_known, new_node, new_pointer, type_with, void_type, integer_type}
 use Rattle.c_typing.specs.Operands.{Operand}
 use Rattle.c_typing.specs.Operations.{int_type, numbered}
-use Rattle.c_typing.specs.Rules.{pieces_bytes, is_hidden}
+use Rattle.c_typing.specs.Rules.{is_hidden}
 use Rattle.c_typing.specs.Scopes.{name_in, place_among}
 use Rattle.c_typing.specs.Settled.{IsKnown, GoesOnThere, IsJudged}
 use Rattle.c_typing.specs.Tests.{AsPlace, AsValue, name_tests, has_some, is_main, is_none, is_function_declared, is_type_declared}

@@ -1,5 +1,5 @@
 -- What judging gives for one specifier: words, names of types, tags, structs and unions, and enumerations.
-use Rattle.std.proofs.Common.{◌≡◌, ℤ, Bool, true, false, not, List, ◌++◌, Option, Some, None, refl, ap, sym, subst, ◌∙◌, true≢false, ◌<◌, length, if◌then◌else◌}
+use Rattle.std.proofs.Common.{◌≡◌, ℤ, Bool, true, false, not, ◌||◌, List, ◌++◌, Option, Some, None, refl, ap, sym, subst, ◌∙◌, true≢false, ◌<◌, length, if◌then◌else◌}
 use Rattle.std.specs.List.{All}
 use Rattle.std.proofs.lemmas.Option.{none-some}
 use Rattle.cc_base.specs.declared.place.Place.{Place}
@@ -10,7 +10,7 @@ use Rattle.cc_base.specs.declared.fault.Limit.TheVariants.{Types}
 use Rattle.cc_base.specs.declared.fault.Rule.TheVariants as rule
 use Rattle.c_types.specs.declared.shape.TypeShape.{TypeShape}
 use Rattle.c_types.specs.declared.shape.TypeShape.TheVariants.{Void, Integer, Pointer, Array, Function, Struct, Union}
-use Rattle.c_types.specs.Table.{Table, IsType, entry_at, shape_at, is_complete}
+use Rattle.c_types.specs.Table.{Table, IsType, entry_at, shape_at, is_complete, is_empty}
 use Rattle.c_tree.specs.declared.leaf.Identifier.{Identifier}
 use Rattle.c_tree.specs.declared.leaf.Word.{Word}
 use Rattle.c_tree.specs.declared.operator.AggregateKind.{AggregateKind}
@@ -30,19 +30,19 @@ use Rattle.c_typing.specs.declared.declared.Tag.TheVariants as tag
 use Rattle.c_typing.specs.Declarators.{Counted, counting_word, are_allowed, member_names}
 use Rattle.c_typing.specs.Judging.{State, Gives, next, pure, by_known}
 use Rattle.c_typing.specs.Refusals.{one_named, tag_place, is_empty_row}
-use Rattle.c_typing.specs.Scopes.{Name, Scopes, name_in, tag_in, here, tag_here, declaring, is_no_list, members_named, is_complete_shape_at, is_complete_at, with_scopes}
+use Rattle.c_typing.specs.Scopes.{Name, Scopes, name_in, tag_in, here, tag_here, declaring, members_named, is_complete_shape_at, is_complete_at, with_scopes}
 use Rattle.c_typing.specs.Settled.{IsTagThere, IsLevelThere, IsKnown, GoesOn, IsSpecifierJudged, IsBegun, AreEnumeratorsJudged, IsValueOf}
 use Rattle.c_typing.specs.Specifying
-use Rattle.c_typing.specs.Specifying.{in_scopes, typedef_named, tagged_as, tagged_by, begun_as, begun, ended, is_taken_at_end, enum_tag, enumeration_begun, enumeration, enumerator, enumerator_with, valued_enumerator, new_aggregate, completed}
+use Rattle.c_typing.specs.Specifying.{in_scopes, typedef_named, tagged_as, tagged_by, begun_as, begun, ended, enum_tag, enumeration_begun, enumeration, enumerator, enumerator_with, valued_enumerator, new_aggregate, completed}
 use Rattle.c_typing.specs.Tests
-use Rattle.c_typing.specs.Tests.{is_tag_of, is_other_tag, is_enumeration, is_taken_tag, is_none, has_some, first_broken}
-use Rattle.c_typing.specs.Typing.{IsTagged, BeginsAggregate, AreMembers, AreDistinct, tag_named_here, tagging, enumerating, next_value, last_value}
+use Rattle.c_typing.specs.Tests.{is_tag_of, is_other_tag, is_enumeration, lacks_enumeration, is_taken_tag, has_some, first_broken}
+use Rattle.c_typing.specs.Typing.{IsTagged, BeginsAggregate, AreMembers, AreDistinct, IsNewEnumerator, tag_named_here, tagging, enumerating, enumerated, is_taken_enumeration, next_value, last_value}
 use Rattle.c_typing_laws.proofs.ConstructLaws.{one_unbroken, two_unbroken, three_unbroken, or_left, or_right}
 use Rattle.c_typing_laws.proofs.ExtensionLaws.{no_true, still_in, extended_refl}
 use Rattle.c_typing_laws.proofs.KeptTrees.{members-kept, enumerators-kept}
 use Rattle.c_typing_laws.proofs.KeptDeclarators.{begins-kept}
 use Rattle.c_typing_laws.proofs.KnownMembers.{completed-judged}
-use Rattle.c_typing_laws.proofs.KnownScopes.{typedef-there, tag-there, tag_here-there, tagged-there, declared-there}
+use Rattle.c_typing_laws.proofs.KnownScopes.{typedef-there, tag-there, tag_here-there, tagged-there, tag_set-there, declared-there}
 use Rattle.c_typing_laws.proofs.KnownStates.{stays, goes-on}
 use Rattle.c_typing_laws.proofs.KnownTags.{new_aggregate-judged}
 use Rattle.c_typing_laws.proofs.Outcomes.{bind-gives, unless-gives, gives-value, gives-state, never-gives}
@@ -57,8 +57,8 @@ one_of true f rest h = absurd (none-some f (sym h))
 one_of false f rest h = (refl, h)
 
 members_complete : (c d : Scopes) → d.members ≡ c.members → (w : Bool) (x : TypeShape) → is_complete_shape_at d w x ≡ is_complete_shape_at c w x
-members_complete c d same w (Struct n) = ap (λ (ms : List (List Name)). not (is_no_list (members_named (record c { members = ms }) n))) same
-members_complete c d same w (Union n) = ap (λ (ms : List (List Name)). not (is_no_list (members_named (record c { members = ms }) n))) same
+members_complete c d same w (Struct n) = ap (λ (ms : List (List Name)). not (is_empty (members_named (record c { members = ms }) n))) same
+members_complete c d same w (Union n) = ap (λ (ms : List (List Name)). not (is_empty (members_named (record c { members = ms }) n))) same
 members_complete c d same w Void = refl
 members_complete c d same w (Integer bytes signed) = refl
 members_complete c d same w (Pointer m t) = refl
@@ -130,6 +130,7 @@ tagged_as-judged which name t s m (Some (tag.Aggregate other u)) k there fits h 
       (stays s k).goes,
     ))
 tagged_as-judged which name t s m (Some tag.Enumeration) k there fits h = never-gives t (TooLarge name.place Types) s m h
+tagged_as-judged which name t s m (Some tag.Enumerating) k there fits h = never-gives t (TooLarge name.place Types) s m h
 
 module _ (counts : Counted) (which : AggregateKind) (at : Place) (name : Identifier) (one : TypedSpecifier) (s r : State) (k : IsKnown s)
     (allowed : are_allowed (one_named counts) ≡ true) where
@@ -185,6 +186,7 @@ module _ (which : AggregateKind) (at : Place) (name : Option Identifier) (o : Op
         (stays s k).goes,
       ))
   begun_by false (Some tag.Enumeration) q u h = none_begun h
+  begun_by false (Some tag.Enumerating) q u h = none_begun h
   begun_by false None q u h =
       let two = bind-gives (new_aggregate which (tag_place at name) name s) (λ t. pure (Some t)) o m h in
       let made = new_aggregate-judged which (tag_place at name) name two.0 s two.1 k two.2 in
@@ -241,9 +243,10 @@ module _ (counts : Counted) (which : AggregateKind) (at : Place) (name : Option 
 
 -- Enumerations
 
-is_enumerated : (o : Option Tag) → is_none o ≡ false → is_other_tag is_enumeration o ≡ false → o ≡ Some tag.Enumeration
+is_enumerated : (o : Option Tag) → lacks_enumeration o ≡ false → is_other_tag is_enumeration o ≡ false → o ≡ Some tag.Enumeration
 is_enumerated None h g = absurd (true≢false h)
 is_enumerated (Some tag.Enumeration) h g = refl
+is_enumerated (Some tag.Enumerating) h g = absurd (true≢false h)
 is_enumerated (Some (tag.Aggregate which t)) h g = absurd (true≢false g)
 
 pub enum-judged : (counts : Counted) (at : Place) (name : Identifier) (one : TypedSpecifier) (s r : State) → IsKnown s → enum_tag counts at name s ≡ Gives one r
@@ -253,7 +256,7 @@ enum-judged counts at name one s r k h =
     let found = tag_in s.seen.scopes.levels name.bytes in
     let go = unless-gives (first_broken (Tests.enum_tests s.seen.scopes name.bytes name.place ++ Tests.word_tests at (one_named counts)))
     (pure (typed.Enum at name)) s one r h in
-    let known = one_of (is_none found) (Refused name.place rule.UnknownName)
+    let known = one_of (lacks_enumeration found) (Refused name.place rule.UnknownName)
     (first_broken (Tests.tag_tests s.seen.scopes is_enumeration name.bytes name.place ++ Tests.word_tests at (one_named counts))) go.0 in
     let three = three_unbroken (is_other_tag is_enumeration (tag_here s.seen.scopes.levels name.bytes)) (is_other_tag is_enumeration found)
     (not (are_allowed (one_named counts))) (Refused name.place rule.Redeclared) (Refused name.place rule.Mismatch) (Refused at rule.Mismatch) known.1 in
@@ -286,7 +289,7 @@ scopes-known s d k same there = record {
 
 -- the scopes where the list of an enumeration begins, by whether the innermost one has its tag
 unless_found : Option Identifier → Scopes → Option Tag → Scopes
-unless_found name s None = tagging name tag.Enumeration s
+unless_found name s None = tagging name tag.Enumerating s
 unless_found name s (Some found) = s
 
 begun_scopes : (T : Table) (name : Option Identifier) (c : Scopes) (o : Option Tag) → All (IsLevelThere T) c.levels
@@ -294,50 +297,54 @@ begun_scopes : (T : Table) (name : Option Identifier) (c : Scopes) (o : Option T
 unfolding unless_found
 begun_scopes T name c (Some found) h = (refl, h)
 begun_scopes T None c None h = (refl, h)
-begun_scopes T (Some name) c None h = (refl, tagged-there T name.bytes tag.Enumeration c.levels tt h)
+begun_scopes T (Some name) c None h = (refl, tagged-there T name.bytes tag.Enumerating c.levels tt h)
 
 enumerating_is : (name : Option Identifier) (c : Scopes) → enumerating name c ≡ unless_found name c (tag_named_here c name)
 unfolding unless_found
 enumerating_is name c = refl
 
-pub enumeration_begun-judged : (name : Option Identifier) (found : Bool) (s m : State) → IsKnown s → enumeration_begun name s ≡ Gives found m
-    → (found ≡ has_some (tag_named_here s.seen.scopes name)) × (m.seen.scopes ≡ enumerating name s.seen.scopes) × GoesOn s m
+pub enumeration_begun-judged : (name : Option Identifier) (begun : Bool) (s m : State) → IsKnown s → enumeration_begun name s ≡ Gives begun m
+    → (m.seen.scopes ≡ enumerating name s.seen.scopes) × GoesOn s m
 unfolding enumeration_begun
-enumeration_begun-judged name found s m k h =
+enumeration_begun-judged name begun s m k h =
     let c = s.seen.scopes in
     let d : Scopes = enumerating name c in
     let after : State = record s { seen = with_scopes s.seen d } in
-    let state = gives-state (has_some (tag_named_here c name)) found after m h in
+    let state = gives-state true begun after m h in
     let kept = begun_scopes s.table name c (tag_named_here c name) k.levels in
     let same = enumerating_is name c in (
-      sym (gives-value (has_some (tag_named_here c name)) found after m h),
       subst (λ (q : State). q.seen.scopes ≡ d) state refl,
       subst (GoesOn s) state (scopes-known s d k (ap (λ (e : Scopes). e.members) same ∙ kept.0)
           (subst (λ (e : Scopes). All (IsLevelThere s.table) e.levels) (sym same) kept.1)),
     )
 
-no_tag : (o : Option Tag) → has_some o ≡ false → o ≡ None
-no_tag None h = refl
-no_tag (Some found) h = absurd (true≢false h)
+-- an enumeration that ends
+pub enumerated-goes : (name : Option Identifier) (s : State) → IsKnown s → GoesOn s (record s { seen = with_scopes s.seen (enumerated name s.seen.scopes) })
+enumerated-goes None s k = scopes-known s (enumerated None s.seen.scopes) k refl k.levels
+enumerated-goes (Some name) s k =
+    scopes-known s (enumerated (Some name) s.seen.scopes) k refl (tag_set-there s.table name.bytes tag.Enumeration s.seen.scopes.levels tt k.levels)
 
-pub enumeration-judged : (counts : Counted) (at : Place) (name : Option Identifier) (brace : Place) (found : Bool) (all : tree.Enumerators) (list : TypedEnumerators)
-    (comma : Bool) (one : TypedSpecifier) (s0 s r : State) → IsKnown s → found ≡ has_some (tag_named_here s0.seen.scopes name)
-    → AreEnumeratorsJudged all list (enumerating name s0.seen.scopes) s0 s → enumeration counts at name brace found list comma s ≡ Gives one r
+pub enumeration-judged : (counts : Counted) (at : Place) (name : Option Identifier) (brace : Place) (all : tree.Enumerators) (list : TypedEnumerators)
+    (comma : Bool) (one : TypedSpecifier) (s0 s r : State) → IsKnown s
+    → AreEnumeratorsJudged all list (enumerating name s0.seen.scopes) s0 s → enumeration counts at name brace list comma s ≡ Gives one r
     → IsSpecifierJudged counts (tree.Enumeration at name brace all comma) one s0.seen.scopes s0 r
 unfolding enumeration
-enumeration-judged counts at name brace found all list comma one s0 s r k was l h =
-    let go = unless-gives (first_broken (Tests.enumeration_tests found (tag_place at name) ++ Tests.word_tests at (one_named counts)))
-    (pure (typed.Enumeration at name brace list comma)) s one r h in
-    let two = two_unbroken found (not (are_allowed (one_named counts))) (Refused (tag_place at name) rule.Redeclared) (Refused at rule.Mismatch) go.0 in
+enumeration-judged counts at name brace all list comma one s0 s r k l h =
+    let c = s.seen.scopes in
+    let taken = is_taken_enumeration (tag_named_here c name) in
     let part : TypedSpecifier = typed.Enumeration at name brace list comma in
-    subst (λ (v : TypedSpecifier). IsSpecifierJudged counts (tree.Enumeration at name brace all comma) v s0.seen.scopes s0 r) (gives-value part one s r go.1)
-    (subst (λ (q : State). IsSpecifierJudged counts (tree.Enumeration at name brace all comma) part s0.seen.scopes s0 q) (gives-state part one s r go.1)
+    let after : State = record s { seen = with_scopes s.seen (enumerated name c) } in
+    let go = unless-gives (first_broken (Tests.enumeration_tests taken (tag_place at name) ++ Tests.word_tests at (one_named counts)))
+    (in_scopes (enumerated name) part) s one r h in
+    let two = two_unbroken taken (not (are_allowed (one_named counts))) (Refused (tag_place at name) rule.Redeclared) (Refused at rule.Mismatch) go.0 in
+    subst (λ (v : TypedSpecifier). IsSpecifierJudged counts (tree.Enumeration at name brace all comma) v s0.seen.scopes s0 r) (gives-value part one after r go.1)
+    (subst (λ (q : State). IsSpecifierJudged counts (tree.Enumeration at name brace all comma) part s0.seen.scopes s0 q) (gives-state part one after r go.1)
     (record {
-      typed = (no_tag (tag_named_here s0.seen.scopes name) (sym was ∙ two.0), l.typed);
+      typed = (c, l.typed, record { unfinished = two.0; after = refl });
       erases = ap (λ (e : tree.Enumerators). tree.Enumeration at name brace e comma) l.erases;
       allowed = not_false (are_allowed (one_named counts)) two.1;
       there = λ n u. tt;
-      goes = l.goes;
+      goes = goes-on s0 s after l.goes (enumerated-goes name s k);
     }))
 
 -- Enumerators
@@ -351,6 +358,14 @@ declaring-goes s name value k =
     scopes-known s (declaring name (declared.Enumerator value) s.seen.scopes) k refl
     (declared-there s.table name (declared.Enumerator value) s.seen.scopes.levels tt k.levels)
 
+enumerator_new : (name : Identifier) (value : ℤ) (s : Scopes) → (has_some (here s.levels name.bytes) || Tests.is_reserved s name.bytes) ≡ false
+    → IsNewEnumerator name.bytes value s (declaring name.bytes (declared.Enumerator value) s)
+enumerator_new name value s free = record {
+  fresh = no_name (here s.levels name.bytes) (or_left (has_some (here s.levels name.bytes)) (Tests.is_reserved s name.bytes) free);
+  unreserved = or_right (has_some (here s.levels name.bytes)) (Tests.is_reserved s name.bytes) free;
+  after = refl;
+}
+
 -- s0 stands before the enumerators, c are the scopes where they begin
 pub enumerator-judged : (all : tree.Enumerators) (list made : TypedEnumerators) (name : Identifier) (c : Scopes) (s0 s r : State) → IsKnown s
     → AreEnumeratorsJudged all list c s0 s → enumerator list name s ≡ Gives made r → AreEnumeratorsJudged (tree.AndEnumerator all name) made c s0 r
@@ -361,11 +376,11 @@ enumerator-judged all list made name c s0 s r k l h =
     let after : State = record s { seen = with_scopes s.seen (declaring name.bytes (declared.Enumerator value) s.seen.scopes) } in
     let go = unless-gives (first_broken (Tests.enumerator_tests s.seen.scopes name.bytes name.place))
     (in_scopes (declaring name.bytes (declared.Enumerator value)) part) s made r h in
-    let fresh = one_unbroken (has_some (here s.seen.scopes.levels name.bytes)) (Refused name.place rule.Redeclared) go.0 in
+    let free = one_unbroken (has_some (here s.seen.scopes.levels name.bytes) || Tests.is_reserved s.seen.scopes name.bytes) (Refused name.place rule.Redeclared) go.0 in
     subst (λ (v : TypedEnumerators). AreEnumeratorsJudged (tree.AndEnumerator all name) v c s0 r) (gives-value part made after r go.1)
     (subst (λ (q : State). AreEnumeratorsJudged (tree.AndEnumerator all name) part c s0 q) (gives-state part made after r go.1)
     (record {
-      typed = (s.seen.scopes, l.typed, refl, record { fresh = no_name (here s.seen.scopes.levels name.bytes) fresh; after = refl });
+      typed = (s.seen.scopes, l.typed, refl, enumerator_new name value s.seen.scopes free);
       erases = ap (λ (e : tree.Enumerators). tree.AndEnumerator e name) l.erases;
       goes = goes-on s0 s after l.goes (declaring-goes s name.bytes value k);
     }))
@@ -376,7 +391,7 @@ constant_plain T e z d h = d
 
 module _ (all : tree.Enumerators) (list made : TypedEnumerators) (name : Identifier) (at : Place) (e : tree.Expr) (v : TypedExpr) (c : Scopes)
     (s0 m s r : State) (k : IsKnown s) (l : AreEnumeratorsJudged all list c s0 m) (goes : GoesOn m s) (value : IsValueOf s.table e v m.seen.scopes s.seen.scopes)
-    (taken : is_droppable v ≡ true) (fresh : has_some (here s.seen.scopes.levels name.bytes) ≡ false) where
+    (taken : is_droppable v ≡ true) (free : (has_some (here s.seen.scopes.levels name.bytes) || Tests.is_reserved s.seen.scopes name.bytes) ≡ false) where
   valued_by : (o : Option ℤ) → constant_value s.table v ≡ o → enumerator_with list name at v o s ≡ Gives made r
       → AreEnumeratorsJudged (tree.AndValued all name at e) made c s0 r
   unfolding enumerator_with
@@ -394,7 +409,7 @@ module _ (all : tree.Enumerators) (list made : TypedEnumerators) (name : Identif
           enumerators-kept m.table s.table goes.extends l.goes.known.basic list c m.seen.scopes l.typed,
           value.typed,
           record { plain = constant_plain s.table v z taken q; constant = z; known = q; int = refl },
-          record { fresh = no_name (here s.seen.scopes.levels name.bytes) fresh; after = refl },
+          enumerator_new name given s.seen.scopes free,
         );
         erases = λ i. tree.AndValued (l.erases i) name at (value.erases i);
         goes = goes-on s0 m after l.goes (goes-on m s after goes (declaring-goes s name.bytes given k));
@@ -408,6 +423,6 @@ valued-judged all list made name at e v c s0 m s r k l goes value taken h =
     let go = unless-gives
     (first_broken (Tests.enumerator_tests s.seen.scopes name.bytes name.place ++ Tests.constant_tests s.table v.place (Tests.AsValue v.expr)))
     (by_known (λ (q : State). enumerator_with list name at v.expr (constant_value q.table v.expr))) s made r h in
-    let two = two_unbroken (has_some (here s.seen.scopes.levels name.bytes)) (not (Tests.has_constant s.table (Tests.AsValue v.expr)))
+    let two = two_unbroken (has_some (here s.seen.scopes.levels name.bytes) || Tests.is_reserved s.seen.scopes name.bytes) (not (Tests.has_constant s.table (Tests.AsValue v.expr)))
     (Refused name.place rule.Redeclared) (Refused v.place rule.NotConstant) go.0 in
     valued_by all list made name at e v.expr c s0 m s r k l goes value taken two.0 (constant_value s.table v.expr) refl go.1

@@ -541,14 +541,14 @@ mutual
       ended_by counts which at name brace members rows.0 one s start.1 rows.1 r m.goes.known m.goes m.typed m.distinct m.erases start.0 b rows.3
   specifier-judged (tree.Enum at name) counts one s r k h = enum-judged counts at name one s r k h
   specifier-judged (tree.Enumeration at name brace all comma) counts one s r k h =
-      let start = bind-gives (enumeration_begun name s) (λ f. λ m. next (judge_enumerators all m) (λ list. enumeration counts at name brace f list comma)) one r h in
+      let start = bind-gives (enumeration_begun name s) (λ f. λ m. next (judge_enumerators all m) (λ list. enumeration counts at name brace list comma)) one r h in
       let b = enumeration_begun-judged name start.0 s start.1 k start.2 in
-      let two = bind-gives (judge_enumerators all start.1) (λ list. enumeration counts at name brace start.0 list comma) one r start.3 in
-      let e = enumerators-judged all two.0 start.1 two.1 b.2.known two.2 in
-      enumeration-judged counts at name brace start.0 all two.0 comma one s two.1 r e.goes.known b.0 (record {
-        typed = subst (λ (c : Scopes). AreEnumerators two.1.table two.0 c two.1.seen.scopes) b.1 e.typed;
+      let two = bind-gives (judge_enumerators all start.1) (λ list. enumeration counts at name brace list comma) one r start.3 in
+      let e = enumerators-judged all two.0 start.1 two.1 b.1.known two.2 in
+      enumeration-judged counts at name brace all two.0 comma one s two.1 r e.goes.known (record {
+        typed = subst (λ (c : Scopes). AreEnumerators two.1.table two.0 c two.1.seen.scopes) b.0 e.typed;
         erases = e.erases;
-        goes = goes-on s start.1 two.1 b.2 e.goes;
+        goes = goes-on s start.1 two.1 b.1 e.goes;
       }) two.3
 
   pub members-judged : (all : tree.Members) (rows : TypedMembers) (s r : State) → IsKnown s → judge_members all s ≡ Gives rows r → AreMembersJudged all rows s r

@@ -11,14 +11,14 @@ use Rattle.c_tree.specs.declared.operator.AggregateKind.{AggregateKind}
 use Rattle.c_tree.specs.Erasure.{erased_place, erased_specifier_list, erased_form}
 use Rattle.c_tree.specs.Tree as tree
 use Rattle.c_tree.specs.TypedTree as typed
-use Rattle.c_tree.specs.TypedTree.{TypedExpr, TypedPlace, TypedSpecifiers, TypedSpecifierList, TypedSpecifier, TypedDeclarator, TypedForm, TypedParameters}
-use Rattle.c_tree.specs.TypedParts.{specified_type, place_type, type_of, name_of_form, home_of_form}
+use Rattle.c_tree.specs.TypedTree.{TypedExpr, TypedPlace, TypedSpecifiers, TypedSpecifierList, TypedSpecifier, TypedDeclarator, TypedParameters}
+use Rattle.c_tree.specs.TypedParts.{specified_type, place_type, type_of, name_of_form, home_of_form, is_void_list}
 use Rattle.c_typing.specs.declared.naming.Naming.{Naming}
 use Rattle.c_typing.specs.Assignments.{converted_to}
 use Rattle.c_typing.specs.Checking.{checked, taken, becomes, value_tests, converted_part, converted_value, checked_value, Constant, constant_as, checked_constant}
 use Rattle.c_typing.specs.Constants.{constant_value, is_null_constant}
 use Rattle.c_typing.specs.Conversions.{implicit, is_allocation, is_pointer_to_complete, takes_over, IsAssignedBy}
-use Rattle.c_typing.specs.Declarators.{is_pointed, is_void_list}
+use Rattle.c_typing.specs.Declarators.{is_pointed}
 use Rattle.c_typing.specs.Declaring.{NotDerived, derived_by, is_function_by, unless_function, form_makes, entered, left}
 use Rattle.c_typing.specs.Judging.{State, Gives, next, pure}
 use Rattle.c_typing.specs.Operands.{Operand, Value, value, side_of}

@@ -8,6 +8,7 @@ use Rattle.cc_base.specs.declared.number.TypeId.{TypeId}
 use Rattle.c_types.specs.declared.shape.TypeShape.{TypeShape}
 use Rattle.c_types.specs.declared.shape.TypeShape.TheVariants.{Void, Integer, Pointer, Array, Function, Struct, Union}
 use Rattle.c_types.specs.Table.{Table, IsType, shape_at}
+use Rattle.c_tree.specs.Arithmetic.{operator_of}
 use Rattle.c_tree.specs.declared.operator.Unary.{Unary}
 use Rattle.c_tree.specs.declared.operator.Unary.TheVariants as unary
 use Rattle.c_tree.specs.declared.typed_word.Conversion.{Conversion}
@@ -16,7 +17,7 @@ use Rattle.c_tree.specs.TypedTree as typed
 use Rattle.c_tree.specs.TypedTree.{TypedExpr}
 use Rattle.c_tree.specs.TypedParts.{type_of, named_type}
 use Rattle.integers.specs.Arithmetic.{IntegerType, converted, computed}
-use Rattle.c_typing.specs.Constants.{constant_value, converted_value, is_to_integer, with_type, with_value, alone, operator_of, cannot_divide, logical, is_true, is_zero_value, is_zero_constant, is_cast_zero, is_null_constant, is_void_pointer, is_void_pointer_shape}
+use Rattle.c_typing.specs.Constants.{constant_value, converted_value, is_to_integer, with_type, with_value, alone, cannot_divide, logical, is_true, is_zero_value, is_zero_constant, is_cast_zero, is_null_constant, is_void_pointer, is_void_pointer_shape}
 use Rattle.c_typing.specs.Conversions.{bare, IsPlain, IsOperand, is_pointer_to_complete, is_pointer_to_complete_shape, is_allocation, takes_over, cast_between}
 use Rattle.c_typing.specs.Extensions.{IsExtended}
 use Rattle.c_typing.specs.Rules.{IsCast, IsScalarCast, IsPrefix, IsIntegerChoice, IsVoidChoice, is_made_of_place}

@@ -16,14 +16,14 @@ use Rattle.c_tree.specs.declared.operator.AggregateKind.{AggregateKind}
 use Rattle.c_tree.specs.declared.typed_word.Adjusted.{Adjusted}
 use Rattle.c_tree.specs.declared.typed_word.TypedStar.{TypedStar}
 use Rattle.c_tree.specs.TypedTree as typed
-use Rattle.c_tree.specs.TypedTree.{TypedExpr, TypedSpecifierList, TypedForm, TypedCore, TypedParts, TypedParameters, TypedDeclared, TypedMembers, TypedMemberDeclarators}
+use Rattle.c_tree.specs.TypedTree.{TypedSpecifierList, TypedForm, TypedCore, TypedParts, TypedParameters, TypedDeclared, TypedMembers, TypedMemberDeclarators}
 use Rattle.c_tree.specs.TypedParts.{name_of, declared_type}
 use Rattle.c_typing.specs.declared.declared.Tag.{Tag}
 use Rattle.c_typing.specs.Declarators
 use Rattle.c_typing.specs.Declarators.{Named, NoType, IsEnumeration, IsNamedType, AreOfType, Outermost, Written, Counts, Points, MakesArray, is_result_shape, IsFunctionOf, MakesFunction, nearest, PartsMake, StarsMake, outside, FormMakes, CoreMakes, DeclaredMakes, AdjustedShape, is_derived_declared, is_object_shape, MakesAdjusted, ParameterMakes, taken_types, declarator_names, declarator_types, member_names, member_types}
 use Rattle.c_typing.specs.Extensions.{IsExtended}
 use Rattle.c_typing.specs.Rules.{number_of_shape}
-use Rattle.c_typing.specs.Scopes.{Scopes, is_no_list}
+use Rattle.c_typing.specs.Scopes.{Scopes}
 use Rattle.c_typing.specs.Settled.{IsBasic}
 use Rattle.c_typing.specs.Shapes.{is_void_shape}
 use Rattle.c_typing.specs.Typing.{IsNewAggregate, IsTagged, BeginsAggregate, EndsAggregate, IsTakenType}
@@ -52,7 +52,7 @@ members_alike (typed.AndMember all specifiers declarators) =
     let more = declarators_alike declarators in
     omega (arith, same, more, length-append (member_names all) (declarator_names declarators), length-append (member_types all) (declarator_types declarators))
 
-no_empty : {A B : Type 0} (xs : List A) (ys : List B) → length xs ≡ length ys → is_no_list xs ≡ false → is_empty ys ≡ false
+no_empty : {A B : Type 0} (xs : List A) (ys : List B) → length xs ≡ length ys → is_empty xs ≡ false → is_empty ys ≡ false
 no_empty [] ys e h = no_true (sym h)
 no_empty (x ∷ xs) [] e h = absurd (omega (arith, e))
 no_empty (x ∷ xs) (y ∷ ys) e h = refl

@@ -7,9 +7,9 @@ use Rattle.c_tree.specs.declared.typed_word.Adjusted.{Adjusted}
 use Rattle.c_tree.specs.Erasure.{erased_declared, erased_specifier_list}
 use Rattle.c_tree.specs.TypedTree as typed
 use Rattle.c_tree.specs.TypedTree.{TypedExpr, TypedPlace, TypedArguments, TypedTypeName, TypedSpecifiers, TypedSpecifierList, TypedSpecifier, TypedMembers, TypedMemberDeclarators, TypedEnumerators, TypedForm, TypedCore, TypedParts, TypedParameters, TypedDeclared}
-use Rattle.c_tree.specs.TypedParts.{type_of, place_type, named_type, specified_type}
+use Rattle.c_tree.specs.TypedParts.{type_of, place_type, named_type, specified_type, is_void_list}
 use Rattle.c_typing.specs.Adjusting.{IsAdjusted, derived_by_declared, typedef_place, adjusted_at}
-use Rattle.c_typing.specs.Declarators.{Written, is_void_list}
+use Rattle.c_typing.specs.Declarators.{Written}
 use Rattle.c_typing.specs.Extensions.{IsExtended}
 use Rattle.c_typing.specs.Scopes.{Scopes, tag_in, entering}
 use Rattle.c_typing.specs.Settled.{IsBasic}
@@ -136,7 +136,7 @@ module _ (T U : Table) (x : IsExtended T U) (b : IsBasic T) where
       KeptDeclarators.ends-kept T U x b members t h.1 s' h.4,
     )
     specifier-kept (typed.Enum at name) s s' h = h
-    specifier-kept (typed.Enumeration at name brace all comma) s s' h = (h.0, enumerators-kept all (enumerating name s) s' h.1)
+    specifier-kept (typed.Enumeration at name brace all comma) s s' h = (h.0, enumerators-kept all (enumerating name s) h.0 h.1, h.2)
 
     pub members-kept : (all : TypedMembers) (s s' : Scopes) → AreMembers T all s s' → AreMembers U all s s'
     members-kept typed.NoMember s s' h = h

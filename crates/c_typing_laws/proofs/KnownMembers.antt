@@ -19,7 +19,7 @@ use Rattle.c_typing.specs.Declarators.{member_names, member_types}
 use Rattle.c_typing.specs.Extensions.{IsExtended}
 use Rattle.c_typing.specs.Judging.{State, Judging, Gives, Stops, next, by_known}
 use Rattle.c_typing.specs.Rules.{number_of_shape}
-use Rattle.c_typing.specs.Scopes.{Name, Scopes, members_named, is_no_list, is_complete_shape_at, is_complete_at, with_scopes}
+use Rattle.c_typing.specs.Scopes.{Name, Scopes, members_named, is_complete_shape_at, is_complete_at, with_scopes}
 use Rattle.c_typing.specs.Settled.{IsBasic, IsFollowed, AreNumbered, IsKnown, GoesOn}
 use Rattle.c_typing.specs.Specifying.{in_scopes, is_definable, defined, completing, completed}
 use Rattle.c_typing.specs.Typing.{AreDistinct, EndsAggregate}
@@ -50,7 +50,7 @@ not_empty : {A : Type 0} (xs : List A) → 0 < length xs → is_empty xs ≡ fal
 not_empty [] h = absurd (omega arith)
 not_empty (x ∷ xs) h = refl
 
-some_names : (xs : List Name) → 0 < length xs → is_no_list xs ≡ false
+some_names : (xs : List Name) → 0 < length xs → is_empty xs ≡ false
 some_names [] h = absurd (omega arith)
 some_names (x ∷ xs) h = refl
 
@@ -83,8 +83,8 @@ some_number a b h = cc
 
 other_complete : (c d : Scopes) (w : Bool) (x : TypeShape) → ((n : ℕ) → number_of_shape x ≡ Some n → members_named d n ≡ members_named c n)
     → is_complete_shape_at d w x ≡ is_complete_shape_at c w x
-other_complete c d w (Struct n) same = ap (λ (l : List Name). not (is_no_list l)) (same n refl)
-other_complete c d w (Union n) same = ap (λ (l : List Name). not (is_no_list l)) (same n refl)
+other_complete c d w (Struct n) same = ap (λ (l : List Name). not (is_empty l)) (same n refl)
+other_complete c d w (Union n) same = ap (λ (l : List Name). not (is_empty l)) (same n refl)
 other_complete c d w Void same = refl
 other_complete c d w (Integer bytes signed) same = refl
 other_complete c d w (Pointer m t) same = refl

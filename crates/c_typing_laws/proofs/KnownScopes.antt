@@ -15,8 +15,9 @@ use Rattle.c_typing.specs.declared.declared.Tag.TheVariants as tag
 use Rattle.c_typing.specs.Extensions.{IsExtended}
 use Rattle.c_typing.specs.Judging.{State}
 use Rattle.c_typing.specs.Rules.{number_of_shape}
-use Rattle.c_typing.specs.Scopes.{Name, Level, Scopes, entry_of, or_outer, name_in, tag_in, at_innermost, innermost, without_innermost, tag_here, empty_level, with_name, with_tag}
+use Rattle.c_typing.specs.Scopes.{Name, Level, Scopes, entry_of, or_outer, name_in, tag_in, at_innermost, innermost, without_innermost, tag_here, empty_level, with_name, with_tag, with_tag_set}
 use Rattle.c_typing.specs.Settled.{IsThere, IsTagThere, IsLevelThere, AreNumbered, IsKnown}
+use Rattle.named_lists.proofs.EntryLaws.{entries-with}
 use Rattle.c_typing_laws.proofs.ExtensionLaws.{no_true, still_in}
 
 some_same : {A : Type 0} (a b : A) → Some a ≡ Some b → a ≡ b
@@ -94,6 +95,11 @@ tagged-there T name what ls t h =
     changed_there T (with_tag name what)
     (λ l own. record { names = own.names; tags = All-push (λ (e : Name × Tag). IsTagThere T e.1) l.tags (name, what) own.tags t }) ls h
 
+pub tag_set-there : (T : Table) (name : Name) (what : Tag) (ls : List Level) → IsTagThere T what → All (IsLevelThere T) ls
+    → All (IsLevelThere T) (at_innermost (with_tag_set name what) ls)
+tag_set-there T name what ls t h =
+    changed_there T (with_tag_set name what) (λ l own. record { names = own.names; tags = entries-with (λ (n : Name) (x : Tag). IsTagThere T x) name what l.tags (λ n. t) own.tags }) ls h
+
 pub entered-there : (T : Table) (ls : List Level) → All (IsLevelThere T) ls → All (IsLevelThere T) (ls ++ empty_level ∷ [])
 entered-there T ls h = All-push (IsLevelThere T) ls empty_level h (empty-there T)
 
@@ -116,6 +122,7 @@ module _ (T U : Table) (x : IsExtended T U) where
   tag_kept : (what : Tag) → IsTagThere T what → IsTagThere U what
   tag_kept (tag.Aggregate which t) h = (h.0, (still_in T U x t h.1.0, x.shapes t h.1.0 ∙ h.1.1))
   tag_kept tag.Enumeration h = tt
+  tag_kept tag.Enumerating h = tt
 
   level_kept : (l : Level) → IsLevelThere T l → IsLevelThere U l
   level_kept l h = record {

@@ -10,7 +10,7 @@ use Rattle.cc_base.specs.declared.fault.Fault.TheVariants.{TooLarge}
 use Rattle.cc_base.specs.declared.fault.Limit.TheVariants.{Types, Object}
 use Rattle.c_types.specs.declared.shape.TypeShape.{TypeShape}
 use Rattle.c_types.specs.declared.shape.TypeShape.TheVariants.{Void, Integer, Pointer, Array, Function, Struct, Union}
-use Rattle.c_types.specs.Table.{Table, Entry, HasShape, IsType, IsComplete, entry_at, shape_at, is_complete, is_aggregate_shape, parts_of_shape}
+use Rattle.c_types.specs.Table.{Table, Entry, HasShape, IsType, IsComplete, entry_at, shape_at, is_complete, is_aggregate_shape, parts_of_shape, is_empty}
 use Rattle.c_types.specs.Calls.{IsNew, IsAddable, basic_entry, new_layout}
 use Rattle.c_types.proofs.Adding.{appends}
 use Rattle.c_types.proofs.Growth.{Changes}
@@ -23,7 +23,7 @@ use Rattle.c_typing.specs.Extensions.{IsExtended}
 use Rattle.c_typing.specs.Judging.{State, Judging, Gives, Stops, next, ◌>>=◌, type_among, there_or_added, type_with}
 use Rattle.c_typing.specs.Operations.{numbered}
 use Rattle.c_typing.specs.Rules.{number_of_shape}
-use Rattle.c_typing.specs.Scopes.{Name, Scopes, members_named, is_no_list, is_complete_shape_at, with_scopes}
+use Rattle.c_typing.specs.Scopes.{Name, Scopes, members_named, is_complete_shape_at, with_scopes}
 use Rattle.c_typing.specs.Settled.{IsBasic, IsFollowed, IsLevelThere, IsTagThere, AreNumbered, IsKnown, GoesOn}
 use Rattle.c_typing.specs.Specifying.{in_scopes, new_aggregate}
 use Rattle.c_typing.specs.Typing.{shape_of_kind, counting_aggregate, tagging, IsNewAggregate}
@@ -61,8 +61,8 @@ past_names (m ∷ ms) (suc n) h = past_names ms n (omega (arith, h))
 
 same_complete : (c d : Scopes) → ((n : ℕ) → members_named d n ≡ members_named c n) → (w : Bool) (x : TypeShape)
     → is_complete_shape_at d w x ≡ is_complete_shape_at c w x
-same_complete c d same w (Struct n) = ap (λ l. not (is_no_list l)) (same n)
-same_complete c d same w (Union n) = ap (λ l. not (is_no_list l)) (same n)
+same_complete c d same w (Struct n) = ap (λ l. not (is_empty l)) (same n)
+same_complete c d same w (Union n) = ap (λ l. not (is_empty l)) (same n)
 same_complete c d same w Void = refl
 same_complete c d same w (Integer bytes signed) = refl
 same_complete c d same w (Pointer m t) = refl
@@ -87,7 +87,7 @@ kind_parts : (T : Table) (which : AggregateKind) (n : ℕ) → All (IsComplete T
 kind_parts T kind.Struct n = All-nil (IsComplete T)
 kind_parts T kind.Union n = All-nil (IsComplete T)
 
-kind_complete : (c : Scopes) (w : Bool) (which : AggregateKind) (n : ℕ) → is_complete_shape_at c w (shape_of_kind which n) ≡ not (is_no_list (members_named c n))
+kind_complete : (c : Scopes) (w : Bool) (which : AggregateKind) (n : ℕ) → is_complete_shape_at c w (shape_of_kind which n) ≡ not (is_empty (members_named c n))
 kind_complete c w kind.Struct n = refl
 kind_complete c w kind.Union n = refl
 
@@ -130,7 +130,7 @@ module _ (T : Table) (which : AggregateKind) (c d : Scopes) (more : d.members �
         subst (λ (e : Entry). is_complete_shape_at d (is_complete e) e.shape ≡ true) own h in
         let empty : members_named d (length c.members) ≡ [] = names_same (length c.members) ∙ past_names c.members (length c.members) refl in
         no_true (sym (kind_complete d (is_complete (basic_entry (shape_of_kind which (length c.members)))) which (length c.members)
-        ∙ ap (λ (l : List Name). not (is_no_list l)) empty) ∙ here)
+        ∙ ap (λ (l : List Name). not (is_empty l)) empty) ∙ here)
     | inr m ↦
         let same = change.other t m.1 in
         subst (λ (e : Entry). is_complete e ≡ true) (sym same)

@@ -1,10 +1,8 @@
-pub mod RefusedRows
 pub mod ConstructLaws
 pub mod ConversionLaws
 pub mod ExtensionLaws
 pub mod InfixLaws
 pub mod TableGrowth
-pub mod TypedRows
 pub mod KeptTypes
 pub mod KeptConstants
 pub mod KeptConversions

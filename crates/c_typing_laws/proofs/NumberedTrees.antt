@@ -25,8 +25,8 @@ use Rattle.c_tree.specs.declared.typed_word.TypedStar.{TypedStar}
 use Rattle.c_tree.specs.Places.{nowhere}
 use Rattle.c_tree.specs.Tree as tree
 use Rattle.c_tree.specs.TypedTree as typed
-use Rattle.c_tree.specs.TypedTree.{TypedExpr, TypedTypeName, TypedSpecifiers, TypedSpecifierList, TypedSpecifier, TypedMembers, TypedMemberDeclarators, TypedEnumerators, TypedForm, TypedCore, TypedParts, TypedParameters, TypedDeclared}
-use Rattle.c_tree.specs.TypedParts.{Made, Name, made_by, made_by_type_name, made_by_specifier_list, made_by_specifier, made_by_members, made_by_member_declarators, made_by_enumerators, made_by_stars, made_by_form, made_by_core, made_by_parts, made_by_parameters, made_by_adjusted, made_by_declared}
+use Rattle.c_tree.specs.TypedTree.{TypedTypeName, TypedSpecifierList, TypedSpecifier, TypedMembers, TypedMemberDeclarators, TypedEnumerators, TypedForm, TypedCore, TypedParts, TypedParameters, TypedDeclared}
+use Rattle.c_tree.specs.TypedParts.{Made, Name, made_by, made_by_type_name, made_by_specifier_list, made_by_specifier, made_by_members, made_by_member_declarators, made_by_enumerators, made_by_stars, made_by_form, made_by_core, made_by_parts, made_by_parameters, made_by_adjusted, made_by_declared, declared_home}
 use Rattle.c_typing.specs.declared.declared.Declared.{Declared}
 use Rattle.c_typing.specs.declared.declared.Declared.TheVariants as declared
 use Rattle.c_typing.specs.declared.naming.Naming.{Naming}
@@ -36,7 +36,7 @@ use Rattle.c_typing.specs.Assignments
 use Rattle.c_typing.specs.Constants.{constant_value}
 use Rattle.c_typing.specs.Declarators.{Counted, counted, counting_word, declarator_names, member_names}
 use Rattle.c_typing.specs.Declarators
-use Rattle.c_typing.specs.Declaring.{declarator_name, home_as, stars_with_nodes, size_given, sized_part, sized, declared_makes, form_makes, member_type, member_named, adjusted_with_node, parameter_makes, parameter_declared, declared_home, parameter, entered, left}
+use Rattle.c_typing.specs.Declaring.{declarator_name, home_as, stars_with_nodes, size_given, sized_part, sized, declared_makes, form_makes, member_type, member_named, adjusted_with_node, parameter_makes, parameter_declared, parameter, entered, left}
 use Rattle.c_typing.specs.Judging.{State, Judging, Gives, Stops, next, ◌>>=◌, pure, unless, by_known, new_node}
 use Rattle.c_typing.specs.Operands.{Operand, Value, value}
 use Rattle.c_typing.specs.Operations
@@ -49,7 +49,7 @@ use Rattle.c_typing.specs.Specifying
 use Rattle.c_typing.specs.Specifying.{specified, typedef_named, tagged_by, tagged_as, begun, ended, is_taken_at_end, completed, enum_tag, enumerator, enumerator_with, valued_enumerator, enumeration_begun, enumeration}
 use Rattle.c_typing.specs.Tests
 use Rattle.c_typing.specs.Tests.{AsPlace, AsValue, AsAllocation, Elaborated, first_broken, is_tag_of}
-use Rattle.c_typing.specs.Typing.{next_value, last_value}
+use Rattle.c_typing.specs.Typing.{tag_named_here, enumerated, is_taken_enumeration, next_value, last_value}
 use Rattle.c_typing.specs.Walks.{listed, declared_place, judge, judge_arguments, judge_type_name, judge_list, judge_specifier, judge_members, judge_member_declarators, judge_enumerators, judge_form, judge_core, judge_parts, judge_parameters, judge_declared}
 use Rattle.c_typing_laws.proofs.JudgedDeclarators.{IsVoidOf, first_alone, stars-judged, entered-judged}
 use Rattle.c_typing_laws.proofs.JudgedLists.{list-typed}
@@ -111,13 +111,15 @@ valued-made all list name at v s r h =
     (by_known (λ (q : State). enumerator_with all name at v.expr (constant_value q.table v.expr))) s list r h in
     valued_by all list name at v s r (constant_value s.table v.expr) go.1
 
-enumeration-made : (counts : Counted) (at : Place) (name : Option Identifier) (brace : Place) (found : Bool) (list : TypedEnumerators) (comma : Bool) (one : TypedSpecifier) (s r : State)
-    → enumeration counts at name brace found list comma s ≡ Gives one r → IsMadeWith made_by_specifier (made_by_enumerators list) s one r
+enumeration-made : (counts : Counted) (at : Place) (name : Option Identifier) (brace : Place) (list : TypedEnumerators) (comma : Bool) (one : TypedSpecifier) (s r : State)
+    → enumeration counts at name brace list comma s ≡ Gives one r → IsMadeWith made_by_specifier (made_by_enumerators list) s one r
 unfolding enumeration
-enumeration-made counts at name brace found list comma one s r h =
-    let go = unless-gives (first_broken (Tests.enumeration_tests found (tag_place at name) ++ Tests.word_tests at (one_named counts)))
-    (pure (typed.Enumeration at name brace list comma)) s one r h in
-    pure-made made_by_specifier (typed.Enumeration at name brace list comma) one s r go.1
+enumeration-made counts at name brace list comma one s r h =
+    let part : TypedSpecifier = typed.Enumeration at name brace list comma in
+    let go = unless-gives
+    (first_broken (Tests.enumeration_tests (is_taken_enumeration (tag_named_here s.seen.scopes name)) (tag_place at name) ++ Tests.word_tests at (one_named counts)))
+    (Specifying.in_scopes (enumerated name) part) s one r h in
+    given-same (IsMadeWith made_by_specifier (made_by_enumerators list) s) part one (_) r go.1 (refl, refl)
 
 ended-made : (counts : Counted) (which : AggregateKind) (at : Place) (name : Option Identifier) (brace : Place) (o : Option TypeId) (rows : TypedMembers) (one : TypedSpecifier) (s r : State)
     → ended counts which at name brace o rows s ≡ Gives one r → made_by_specifier one ≡ made_by_members rows
@@ -469,12 +471,12 @@ mutual
   specifier-makes (tree.Enum at name) counts one s r k h =
       made-as (made_by_specifier one) [] s.seen.node r.seen.node (enum-made counts at name one s r h) (enum-keeps counts at name s s.seen.node refl one r h)
   specifier-makes (tree.Enumeration at name brace all comma) counts one s r k h =
-      let start = bind-gives (enumeration_begun name s) (λ f. λ m. next (judge_enumerators all m) (λ list. enumeration counts at name brace f list comma)) one r h in
+      let start = bind-gives (enumeration_begun name s) (λ f. λ m. next (judge_enumerators all m) (λ list. enumeration counts at name brace list comma)) one r h in
       let b = enumeration_begun-judged name start.0 s start.1 k start.2 in
       let kept = begun_enumeration-keeps name s s.seen.node refl start.0 start.1 start.2 in
-      let two = bind-gives (judge_enumerators all start.1) (λ list. enumeration counts at name brace start.0 list comma) one r start.3 in
-      let made = enumerators-make all two.0 start.1 two.1 b.2.known two.2 in
-      makes-with made_by_specifier (made_by_enumerators two.0) one s two.1 r (enumeration-made counts at name brace start.0 two.0 comma one two.1 r two.3)
+      let two = bind-gives (judge_enumerators all start.1) (λ list. enumeration counts at name brace list comma) one r start.3 in
+      let made = enumerators-make all two.0 start.1 two.1 b.1.known two.2 in
+      makes-with made_by_specifier (made_by_enumerators two.0) one s two.1 r (enumeration-made counts at name brace two.0 comma one two.1 r two.3)
       (subst (λ (n : ℕ). Numbers (made_by_enumerators two.0) n two.1.seen.node) kept made)
 
   pub members-make : (all : tree.Members) (rows : TypedMembers) (s r : State) → IsKnown s → judge_members all s ≡ Gives rows r → Makes (made_by_members rows) s r

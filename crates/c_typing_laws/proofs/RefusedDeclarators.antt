@@ -23,11 +23,11 @@ use Rattle.c_tree.specs.Places.{nowhere}
 use Rattle.c_tree.specs.Tree as tree
 use Rattle.c_tree.specs.TypedTree as typed
 use Rattle.c_tree.specs.TypedTree.{TypedForm, TypedCore, TypedParts, TypedParameters, TypedDeclared, TypedMemberDeclarators, TypedSpecifierList}
-use Rattle.c_tree.specs.TypedParts.{name_of_form}
+use Rattle.c_tree.specs.TypedParts.{name_of_form, declared_home}
 use Rattle.c_typing.specs.Adjusting.{Derived, NotDerived, ByStar, ByArray, ByFunction, by_stars, by_parts, derived_by, derived_by_core, derived_by_declared, typedef_place, adjusted_at, adjusted_place}
 use Rattle.c_typing.specs.Declarators
-use Rattle.c_typing.specs.Declarators.{Outermost, Written, Counts, Points, MakesArray, MakesFunction, nearest, is_no_part, PartsMake, StarsMake, is_derived, is_derived_core, outside, FormMakes, CoreMakes, is_derived_declared, taken_types, first_word_place}
-use Rattle.c_typing.specs.Declaring.{stars_make, is_element, array_type, array_of, array_makes, counting_parameters, are_types, function_type, function_as, function_makes, last_makes, parts_make, form_makes, core_makes, declared_makes, member_type, member_named, adjusted_with_node, adjusted_shape, adjusted_makes, parameter_makes, parameter_declared, declared_home, parameter}
+use Rattle.c_typing.specs.Declarators.{Outermost, Written, Counts, Points, MakesArray, nearest, is_no_part, PartsMake, is_derived, is_derived_core, outside, FormMakes, is_derived_declared, taken_types}
+use Rattle.c_typing.specs.Declaring.{stars_make, is_element, array_type, array_of, array_makes, counting_parameters, are_types, function_type, function_as, function_makes, last_makes, parts_make, form_makes, core_makes, declared_makes, member_type, member_named, adjusted_with_node, adjusted_shape, adjusted_makes, parameter_makes, parameter_declared, parameter}
 use Rattle.c_typing.specs.Extensions.{IsExtended}
 use Rattle.c_typing.specs.Judging.{State, Judging, Stops, next, ◌>>=◌, pure, stop, unless, new_node, type_with, pointer_type}
 use Rattle.c_typing.specs.Refusals.{Fails, name_place, PartsFail, FormFails, CoreFails, DeclaredFails, has_name, MemberTypeFails, MemberFailsBy, MemberFails, declared_identifier, is_here, ParameterTypeFails, ParameterFailsBy, ParameterFails}

@@ -55,8 +55,8 @@ use Rattle.c_typing.specs.Settled.{IsBasic, IsKnown, GoesOn, IsBegun, IsTagThere
 use Rattle.c_typing.specs.Specifying
 use Rattle.c_typing.specs.Specifying.{specified, listed_type, obeying, typedef_named, tagged_as, tagged_by, new_aggregate, begun_as, begun, is_taken_at_end, is_definable, defined, completed, ended, enum_tag, enumerator, enumerator_with, valued_enumerator, enumeration_begun, enumeration}
 use Rattle.c_typing.specs.Tests
-use Rattle.c_typing.specs.Tests.{Elaborated, AsPlace, AsValue, AsAllocation, Test, first_broken, has_some, is_tag_of, is_taken_tag}
-use Rattle.c_typing.specs.Typing.{tag_named_here, next_value, last_value, shape_of_kind, tagging, counting_aggregate}
+use Rattle.c_typing.specs.Tests.{Elaborated, AsPlace, AsValue, AsAllocation, Test, first_broken, is_tag_of, is_taken_tag}
+use Rattle.c_typing.specs.Typing.{tag_named_here, enumerated, is_taken_enumeration, next_value, last_value, shape_of_kind, tagging, counting_aggregate}
 use Rattle.c_typing.specs.Walks.{judge, judge_arguments}
 use Rattle.c_typing_laws.specs.Judged.{IsRefused}
 use Rattle.c_typing_laws.proofs.ExtensionLaws.{no_true, extended_refl}
@@ -163,6 +163,7 @@ unfolding tagged_as
 tagged_as-never which name None s = new_aggregate-never which name.place (Some name) s
 tagged_as-never which name (Some (tag.Aggregate other u)) s = gives-never u s
 tagged_as-never which name (Some tag.Enumeration) s = large-never TypeId name.place Types s
+tagged_as-never which name (Some tag.Enumerating) s = large-never TypeId name.place Types s
 
 pub tagged_by-never : (which : AggregateKind) (at : Place) (name : Identifier) (found : State → Option Tag) (s : State) → NeverRefuses (tagged_by which at name found s)
 unfolding tagged_by
@@ -178,6 +179,7 @@ begun-never which at name s = by (is_taken_tag s.table s.seen.scopes which (tag_
     by true o = gives-never None s
     by false (Some (tag.Aggregate other u)) = gives-never (Some u) s
     by false (Some tag.Enumeration) = gives-never None s
+    by false (Some tag.Enumerating) = gives-never None s
     by false None =
         next-never (new_aggregate which (tag_place at name) name s) (λ u. pure (Some u)) (new_aggregate-never which (tag_place at name) name s) (λ u q. gives-never (Some u) q)
 
@@ -257,6 +259,7 @@ module _ (which : AggregateKind) (at : Place) (name : Option Identifier) (o : Op
   started_by true found q u h = given-same (IsStarted which name s) None o s m h (u, refl)
   started_by false (Some (tag.Aggregate other t)) q u h = given-same (IsStarted which name s) (Some t) o s m h u
   started_by false (Some tag.Enumeration) q u h = no_true (sym u ∙ ap (is_taken_tag s.table s.seen.scopes which) q)
+  started_by false (Some tag.Enumerating) q u h = no_true (sym u ∙ ap (is_taken_tag s.table s.seen.scopes which) q)
   started_by false None q u h =
       let two = bind-gives (new_aggregate which (tag_place at name) name s) (λ t. pure (Some t)) o m h in
       given-same (IsStarted which name s) (Some two.0) o two.1 m two.3 u
@@ -272,6 +275,7 @@ taken_exact T U x b c which None h = refl
 taken_exact T U x b c which (Some (tag.Aggregate other u)) h =
     ap (λ (v : Bool). not (is_tag_of which (tag.Aggregate other u)) || v) (complete_exact T U x b c u (h (tag.Aggregate other u) refl).1.0)
 taken_exact T U x b c which (Some tag.Enumeration) h = refl
+taken_exact T U x b c which (Some tag.Enumerating) h = refl
 
 module _ (which : AggregateKind) (at : Place) (name : Option Identifier) (s m : State) (k : IsKnown s) where
   stays_taken : (U : Table) → IsExtended s.table U
@@ -548,13 +552,15 @@ module _ (p : Place) (t : Rule) where
       obeying-refuses (λ q. Tests.enum_tests q.seen.scopes name.bytes name.place ++ Tests.word_tests at (one_named counts)) (pure (typed.Enum at name)) s p t r
       (gives-never (typed.Enum at name) s) h
 
-  pub enumeration-fails : (counts : Counted) (at : Place) (name : Option Identifier) (brace : Place) (found : Bool) (list : TypedEnumerators) (comma : Bool) (s r : State)
-      → enumeration counts at name brace found list comma s ≡ Stops (Refused p t) r
-      → Fails (Tests.enumeration_tests found (tag_place at name) ++ Tests.word_tests at (one_named counts)) (Refused p t) × (r ≡ s)
+  pub enumeration-fails : (counts : Counted) (at : Place) (name : Option Identifier) (brace : Place) (list : TypedEnumerators) (comma : Bool) (s r : State)
+      → enumeration counts at name brace list comma s ≡ Stops (Refused p t) r
+      → Fails (Tests.enumeration_tests (is_taken_enumeration (tag_named_here s.seen.scopes name)) (tag_place at name) ++ Tests.word_tests at (one_named counts)) (Refused p t)
+      × (r ≡ s)
   unfolding enumeration
-  enumeration-fails counts at name brace found list comma s r h =
-      obeying-refuses (λ q. Tests.enumeration_tests found (tag_place at name) ++ Tests.word_tests at (one_named counts)) (pure (typed.Enumeration at name brace list comma)) s p t r
-      (gives-never (typed.Enumeration at name brace list comma) s) h
+  enumeration-fails counts at name brace list comma s r h =
+      obeying-refuses
+      (λ q. Tests.enumeration_tests (is_taken_enumeration (tag_named_here q.seen.scopes name)) (tag_place at name) ++ Tests.word_tests at (one_named counts))
+      (Specifying.in_scopes (enumerated name) (typed.Enumeration at name brace list comma)) s p t r (gives-never (typed.Enumeration at name brace list comma) (_)) h
 
   pub ended-fails : (counts : Counted) (which : AggregateKind) (at : Place) (name : Option Identifier) (brace : Place) (o : Option TypeId) (rows : TypedMembers) (s r : State)
       → ended counts which at name brace o rows s ≡ Stops (Refused p t) r
@@ -568,7 +574,7 @@ module _ (p : Place) (t : Rule) where
 
   pub begun_enumeration-never : (name : Option Identifier) (s : State) → NeverRefuses (enumeration_begun name s)
   unfolding enumeration_begun
-  begun_enumeration-never name s = gives-never (has_some (tag_named_here s.seen.scopes name)) (_)
+  begun_enumeration-never name s = gives-never true (_)
 
   pub entered-never : (s : State) → NeverRefuses (entered s)
   unfolding entered

@@ -310,26 +310,25 @@ module _ (p : Place) (t : Rule) where
         let c = enum-fails p t counts at name s r h in refused-here (λ T. RefusesSpecifier T counts (tree.Enum at name) s.seen.scopes (Refused p t)) s r c.1 c.0
     specifier-refuses (tree.Enumeration at name brace all comma) counts s r k h =
         let P : Table → Type 0 = λ T. RefusesSpecifier T counts (tree.Enumeration at name brace all comma) s.seen.scopes (Refused p t) in
-        step-refused p t (enumeration_begun name s) (λ f. λ m. next (judge_enumerators all m) (λ list. enumeration counts at name brace f list comma)) P s r
+        step-refused p t (enumeration_begun name s) (λ f. λ m. next (judge_enumerators all m) (λ list. enumeration counts at name brace list comma)) P s r
         (λ q. absurd (begun_enumeration-never p t name s p t r q))
-        (λ found m q g.
-        let b = enumeration_begun-judged name found s m k q in
-        refused-after P s m r b.2.extends
-        (step-refused p t (judge_enumerators all m) (λ list. enumeration counts at name brace found list comma) P m r
-        (λ q2. let i = enumerators-refuses all m r b.2.known q2 in record {
-          fails = inl (subst (λ (c : Scopes). RefusesEnumerators r.table all c (Refused p t)) b.1 i.fails);
+        (λ begun m q g.
+        let b = enumeration_begun-judged name begun s m k q in
+        refused-after P s m r b.1.extends
+        (step-refused p t (judge_enumerators all m) (λ list. enumeration counts at name brace list comma) P m r
+        (λ q2. let i = enumerators-refuses all m r b.1.known q2 in record {
+          fails = inl (subst (λ (c : Scopes). RefusesEnumerators r.table all c (Refused p t)) b.0 i.fails);
           extends = i.extends;
         })
         (λ list n q2 g2.
-        let j = enumerators-judged all list m n b.2.known q2 in
-        let c = enumeration-fails p t counts at name brace found list comma n r g2 in
-        let was = b.0 in
+        let j = enumerators-judged all list m n b.1.known q2 in
+        let c = enumeration-fails p t counts at name brace list comma n r g2 in
         refused-after P m n r j.goes.extends (refused-here P n r c.1 (inr (
           list,
           n.seen.scopes,
-          subst (λ (c : Scopes). AreEnumerators n.table list c n.seen.scopes) b.1 j.typed,
+          subst (λ (c : Scopes). AreEnumerators n.table list c n.seen.scopes) b.0 j.typed,
           j.erases,
-          (λ i. first_broken (Tests.enumeration_tests (sym was i) (tag_place at name) ++ Tests.word_tests at (one_named counts))) ∙ c.0,
+          c.0,
         )))) g)) h
 
     pub members-refuses : (all : tree.Members) (s r : State) → IsKnown s → judge_members all s ≡ Stops (Refused p t) r

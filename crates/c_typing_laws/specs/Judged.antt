@@ -15,13 +15,13 @@ use Rattle.c_tree.specs.Places.{nowhere, expr_place}
 use Rattle.c_tree.specs.Tree as tree
 use Rattle.c_tree.specs.TypedTree as typed
 use Rattle.c_tree.specs.TypedTree.{TypedExpr, TypedPlace, TypedTypeName, TypedSpecifiers, TypedDeclarator, TypedForm, TypedParameters}
-use Rattle.c_tree.specs.TypedParts.{named_type, specified_type, declared_type, place_type, name_of, home_of}
+use Rattle.c_tree.specs.TypedParts.{named_type, specified_type, declared_type, place_type, name_of, home_of, is_void_list, form_of}
 use Rattle.c_typing.specs.declared.naming.Naming.{Naming}
 use Rattle.c_typing.specs.declared.naming.Naming.TheVariants as naming
 use Rattle.c_typing.specs.Checking.{Constant, value_tests}
 use Rattle.c_typing.specs.Constants.{constant_value}
 use Rattle.c_typing.specs.Conversions.{IsConverted, IsAssigned}
-use Rattle.c_typing.specs.Declarators.{Outermost, FormMakes, is_void_list}
+use Rattle.c_typing.specs.Declarators.{Outermost, FormMakes}
 use Rattle.c_typing.specs.Declaring.{declarator_name, unless_function}
 use Rattle.c_typing.specs.Extensions.{IsExtended}
 use Rattle.c_typing.specs.Judging.{State}
@@ -49,9 +49,6 @@ pub record AreSpecifiersJudged (alone : Bool) (all : tree.Specifiers) (t : Typed
   pub erases : erased_specifiers t ≡ all
   pub there : IsType r.table (specified_type t)
   pub goes : GoesOn s r
-
-abbrev pub form_of : TypedDeclarator → TypedForm
-form_of (typed.Declares form t) = form
 
 -- the home of a name that is to be this
 abbrev pub IsHomeAs : Naming → Home → Type 0

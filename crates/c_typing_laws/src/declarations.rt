@@ -1,18 +1,15 @@
 //! What judging gives for specifiers, type names, declarators and prototypes is well typed, and erases to what was judged.
 #![tactic(auto)]
 
-ghost use Rattle.std.specs.Prelude.{Bool, Option, false, ◌≡◌, ℕ};
-ghost use Rattle.cc_base.specs.declared.number.TypeId.{TypeId};
+ghost use Rattle.std.specs.Prelude.{Bool, false, ◌≡◌};
 ghost use Rattle.cc_base.specs.declared.place.Place.{Place};
-ghost use Rattle.c_types.specs.Table.{IsType};
 ghost use Rattle.c_tree.specs.Tree as tree;
-ghost use Rattle.c_tree.specs.TypedParts.{specified_type};
-ghost use Rattle.c_tree.specs.TypedTree.{TypedDeclarator, TypedParameters, TypedSpecifierList, TypedSpecifiers, TypedTypeName};
+ghost use Rattle.c_tree.specs.TypedTree.{TypedParameters, TypedSpecifierList, TypedSpecifiers, TypedTypeName};
 ghost use Rattle.c_typing.specs.Judging.{Gives, State};
 ghost use Rattle.c_typing.specs.Settled.{IsKnown, IsListJudged};
-ghost use Rattle.c_typing.specs.Walks.{judge_declarator, judge_list, judge_prototype, judge_specifiers, judge_specifiers_of, judge_type_name, outermost_of};
-ghost use Rattle.c_typing.specs.declared.naming.Naming.{Naming};
-ghost use Rattle.c_typing_laws.specs.Judged.{AreSpecifiersJudged, IsDeclaratorJudged, IsPrototypeJudged, IsTypeNameJudged};
+ghost use Rattle.c_typing.specs.Walks.{judge_list, judge_prototype, judge_specifiers, judge_specifiers_of, judge_type_name};
+ghost use Rattle.c_typing_laws.specs.Judged.{AreSpecifiersJudged, IsPrototypeJudged, IsTypeNameJudged};
+ghost use Rattle.c_typing_laws.specs.Theorems.{DeclaratorsAreJudged};
 
 /// What is judged of a list of specifiers, and of the type that they name together (C99 6.7.2). `alone` says that no declarator follows them (C99 6.7.2.3).
 pub fn specifiers_are_judged()
@@ -28,6 +25,6 @@ pub fn a_type_name_is_judged()
 
 /// What is judged of a declarator behind specifiers, and of a function's parameters by themselves (C99 6.7.5).
 pub fn a_declarator_is_judged()
-    ensures declarator { (which : Naming) (base : TypedSpecifiers) (size : Option ℕ) (d : tree.Declarator) (one : TypedDeclarator) (s r : State) → IsKnown s → IsType s.table (specified_type base) → judge_declarator which base size d s ≡ Gives one r → IsDeclaratorJudged which (outermost_of size) (specified_type base) d one s r }
+    ensures declarator { DeclaratorsAreJudged }
     ensures prototype { (at : Place) (all : tree.Parameters) (list : TypedParameters) (s r : State) → IsKnown s → judge_prototype at all s ≡ Gives list r → IsPrototypeJudged all list s r }
 {}

@@ -8,6 +8,7 @@ use Rattle.c_types.specs.Layouts.{member_at}
 use Rattle.c_types.specs.Table.{Table, is_aggregate_shape, shape_at}
 use Rattle.integers.specs.Arithmetic.{int}
 use Rattle.c_lexer.specs.declared.number.IntegerType.{IntegerType as ConstantType}
+use Rattle.c_tree.specs.Literals.{pieces_bytes}
 use Rattle.c_tree.specs.declared.leaf.Identifier.{Identifier}
 use Rattle.c_tree.specs.declared.leaf.StringPiece.{StringPiece}
 use Rattle.c_tree.specs.declared.operator.Binary.{Binary}
@@ -23,7 +24,7 @@ use Rattle.c_typing.specs.declared.declared.Declared.{Declared}
 use Rattle.c_typing.specs.declared.declared.Declared.TheVariants as declared
 use Rattle.c_typing.specs.Conversions.{bare, IsPlain}
 use Rattle.c_typing.specs.Integers.{char, constant_type}
-use Rattle.c_typing.specs.Rules.{IsElement, HasMember, is_hidden, number_of_shape, pieces_bytes}
+use Rattle.c_typing.specs.Rules.{IsElement, HasMember, is_hidden, number_of_shape}
 use Rattle.c_typing.specs.Scopes.{Scopes, members_named, place_among}
 use Rattle.c_typing.specs.Shapes.{is_array_shape, is_integer_shape, is_pointer_shape, is_scalar_shape}
 use Rattle.c_typing.specs.Typing.{IsTypeName}

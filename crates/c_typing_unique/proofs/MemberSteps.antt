@@ -15,7 +15,7 @@ use Rattle.c_typing.specs.Constants.{constant_value}
 use Rattle.c_typing.specs.Conversions.{bare}
 use Rattle.c_typing.specs.Declarators.{FormMakes, Written}
 use Rattle.c_typing.specs.Scopes.{Scopes, declaring}
-use Rattle.c_typing.specs.Typing.{AreSpecifiers, AreMembers, AreMemberDeclarators, AreEnumerators, IsHomeless, IsNewName, IsConstant, next_value, last_value}
+use Rattle.c_typing.specs.Typing.{AreSpecifiers, AreMembers, AreMemberDeclarators, AreEnumerators, IsHomeless, IsNewEnumerator, IsConstant, next_value, last_value}
 use Rattle.c_typing_unique.specs.Sameness.{HasOwnFunctions}
 use Rattle.c_typing_unique.proofs.DeclaratorSteps.{IsFormRead, IsFormUnique, AreSpecifiersUnique, form-numbers, homes-none}
 use Rattle.c_typing_unique.proofs.FormLaws.{form-makes-one}
@@ -117,10 +117,10 @@ module _ (T : Table) (D : IsDistinct T) where
   AreEnumeratorsOf tree.NoEnumerator y a b = (y ≡ typed.NoEnumerator) × (b ≡ a)
   AreEnumeratorsOf (tree.AndEnumerator all name) y a b =
       (list : TypedEnumerators) × (z : ℤ) × (m : Point) × AreEnumeratorsRead T D all list a m × (z ≡ next_value (last_value list))
-      × IsNewName name.bytes (declared.Enumerator z) m.scopes b.scopes × (b.node ≡ m.node) × (y ≡ typed.AndEnumerator list name z)
+      × IsNewEnumerator name.bytes z m.scopes b.scopes × (b.node ≡ m.node) × (y ≡ typed.AndEnumerator list name z)
   AreEnumeratorsOf (tree.AndValued all name at x) y a b =
       (list : TypedEnumerators) × (v : TypedExpr) × (z : ℤ) × (m n : Point) × AreEnumeratorsRead T D all list a m × IsRead T x v m n × IsConstant T v z
-      × IsNewName name.bytes (declared.Enumerator z) n.scopes b.scopes × (b.node ≡ n.node) × (y ≡ typed.AndValued list name at v z)
+      × IsNewEnumerator name.bytes z n.scopes b.scopes × (b.node ≡ n.node) × (y ≡ typed.AndValued list name at v z)
 
   enumerators_of : (y : TypedEnumerators) (a b : Point) → AreEnumerators T y a.scopes b.scopes → Numbers (made_by_enumerators y) a.node b.node → AreEnumeratorsOf (erased_enumerators y) y a b
   enumerators_of typed.NoEnumerator a b h k = (refl, point-same b a h k)
@@ -132,7 +132,7 @@ module _ (T : Table) (D : IsDistinct T) where
   pub are_enumerators : (x : tree.Enumerators) (y : TypedEnumerators) (a b : Point) → AreEnumeratorsRead T D x y a b → AreEnumeratorsOf x y a b
   are_enumerators x y a b h = subst (λ (w : tree.Enumerators). AreEnumeratorsOf w y a b) h.0 (enumerators_of y a b h.1 h.2)
 
-  new_name : (name : Identifier) (y z : ℤ) (s r p q : Scopes) → y ≡ z → s ≡ r → HasOwnFunctions s → IsNewName name.bytes (declared.Enumerator y) s p → IsNewName name.bytes (declared.Enumerator z) r q
+  new_name : (name : Identifier) (y z : ℤ) (s r p q : Scopes) → y ≡ z → s ≡ r → HasOwnFunctions s → IsNewEnumerator name.bytes y s p → IsNewEnumerator name.bytes z r q
       → (p ≡ q) × HasOwnFunctions p
   new_name name y z s r p q d e own h k =
       (h.after ∙ (λ i. declaring name.bytes (declared.Enumerator (d i)) (e i)) ∙ sym k.after, subst HasOwnFunctions (sym h.after) own)

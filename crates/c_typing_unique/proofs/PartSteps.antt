@@ -8,12 +8,12 @@ use Rattle.c_tree.specs.declared.typed_word.Adjusted.{Adjusted}
 use Rattle.c_tree.specs.Erasure.{erased, erased_parts, erased_parameters, erased_declared, erased_specifiers}
 use Rattle.c_tree.specs.Tree as tree
 use Rattle.c_tree.specs.TypedTree as typed
-use Rattle.c_tree.specs.TypedTree.{TypedExpr, TypedParts, TypedParameters, TypedDeclared, TypedSpecifiers, TypedTypeName}
-use Rattle.c_tree.specs.TypedParts.{made_by, made_by_parts, made_by_parameters, made_by_declared, made_by_adjusted, made_by_specifiers, specified_type, declared_home}
+use Rattle.c_tree.specs.TypedTree.{TypedExpr, TypedParts, TypedParameters, TypedDeclared, TypedSpecifiers}
+use Rattle.c_tree.specs.TypedParts.{made_by, made_by_parts, made_by_parameters, made_by_declared, made_by_adjusted, made_by_specifiers, specified_type, declared_home, is_void_list}
 use Rattle.c_typing.specs.Adjusting.{IsAdjusted, adjusted_place, adjusted_at, derived_by_declared, typedef_place}
 use Rattle.c_typing.specs.Constants.{constant_value}
 use Rattle.c_typing.specs.Conversions.{bare, IsPlain}
-use Rattle.c_typing.specs.Declarators.{Written, ParameterMakes, is_void_list}
+use Rattle.c_typing.specs.Declarators.{Written, ParameterMakes}
 use Rattle.c_typing.specs.Declaring.{declared_name}
 use Rattle.c_typing.specs.Scopes.{entering, leaving}
 use Rattle.c_typing.specs.Typing.{IsTyped, AreSpecifiers, AreParts, AreParameters, DeclaresParameter, IsTakenType}

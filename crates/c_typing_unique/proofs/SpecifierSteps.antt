@@ -18,7 +18,7 @@ use Rattle.c_typing.specs.Conversions.{bare}
 use Rattle.c_typing.specs.Declarators.{member_names}
 use Rattle.c_typing.specs.Rules.{number_of_shape}
 use Rattle.c_typing.specs.Scopes.{Scopes, name_in, tag_in}
-use Rattle.c_typing.specs.Typing.{IsTyped, AreTyped, AreListed, IsSpecifier, AreMembers, AreMemberDeclarators, AreEnumerators, IsTagged, IsNewAggregate, BeginsAggregate, EndsAggregate, tag_named_here, tagging, counting_aggregate, shape_of_kind, enumerating}
+use Rattle.c_typing.specs.Typing.{IsTyped, AreTyped, AreListed, IsSpecifier, AreMembers, AreMemberDeclarators, AreEnumerators, IsTagged, IsNewAggregate, BeginsAggregate, EndsAggregate, tag_named_here, tagging, counting_aggregate, shape_of_kind, enumerating, enumerated, EndsEnumeration}
 use Rattle.c_typing_unique.specs.Sameness.{HasOwnFunctions}
 use Rattle.c_typing_unique.proofs.CallLaws.{ArePlain, bares, bares-last}
 use Rattle.c_typing_unique.proofs.DeclaratorSteps.{AreSpecifiersUnique}
@@ -55,7 +55,7 @@ tag_same k l t u h = cc
 
 -- where an enumeration begins, by whether the innermost scope has its tag
 unless_found : Option Identifier → Scopes → Option Tag → Scopes
-unless_found name s None = tagging name tag.Enumeration s
+unless_found name s None = tagging name tag.Enumerating s
 unless_found name s (Some found) = s
 
 enumerating_is : (name : Option Identifier) (s : Scopes) → enumerating name s ≡ unless_found name s (tag_named_here s name)
@@ -71,8 +71,15 @@ unfolding unless_found
 enumerating_own name s own = subst HasOwnFunctions (sym (enumerating_is name s)) (by (tag_named_here s name))
   where
     by : (o : Option Tag) → HasOwnFunctions (unless_found name s o)
-    by None = tagging_own name tag.Enumeration s own
+    by None = tagging_own name tag.Enumerating s own
     by (Some found) = own
+
+enumerated_own : (name : Option Identifier) (s : Scopes) → HasOwnFunctions s → HasOwnFunctions (enumerated name s)
+enumerated_own None s own = own
+enumerated_own (Some name) s own = own
+
+enumerated_one : (name : Option Identifier) (s r p q : Scopes) → s ≡ r → HasOwnFunctions s → EndsEnumeration name s p → EndsEnumeration name r q → (p ≡ q) × HasOwnFunctions p
+enumerated_one name s r p q e own h k = (h.after ∙ ap (enumerated name) e ∙ sym k.after, subst HasOwnFunctions (sym h.after) (enumerated_own name s own))
 
 abbrev pub begun : Option Identifier → Point → Point
 begun name a = record { scopes = enumerating name a.scopes; node = a.node }
@@ -208,6 +215,12 @@ module _ (T : Table) (D : IsDistinct T) where
     pub members : AreMembersRead all rows (record { scopes = middle; node = a.node }) (record { scopes = inside; node = b.node })
     pub ends : EndsAggregate T rows t inside b.scopes
 
+  -- an enumeration with its enumerators
+  pub record IsEnumerationWhole (name : Option Identifier) (all : tree.Enumerators) (list : TypedEnumerators) (a b : Point) : Type 0 where
+    pub inside : Scopes
+    pub enumerators : AreEnumeratorsRead all list (begun name a) (record { scopes = inside; node = b.node })
+    pub ends : EndsEnumeration name inside b.scopes
+
   abbrev pub IsSpecifierOf : tree.Specifier → TypedSpecifier → Point → Point → Type 0
   IsSpecifierOf (tree.Keyword word) y a b = (y ≡ typed.Keyword word) × (b ≡ a)
   IsSpecifierOf (tree.Typedef name) y a b = (t : TypeId) × (name_in a.scopes.levels name.bytes ≡ Some (declared.Typedef t)) × (b ≡ a) × (y ≡ typed.Typedef name t)
@@ -217,7 +230,7 @@ module _ (T : Table) (D : IsDistinct T) where
       (rows : TypedMembers) × (t : TypeId) × IsWhole which name all rows t a b × (y ≡ typed.Aggregate which at name brace rows t)
   IsSpecifierOf (tree.Enum at name) y a b = (y ≡ typed.Enum at name) × (b ≡ a)
   IsSpecifierOf (tree.Enumeration at name brace all comma) y a b =
-      (list : TypedEnumerators) × AreEnumeratorsRead all list (begun name a) b × (y ≡ typed.Enumeration at name brace list comma)
+      (list : TypedEnumerators) × IsEnumerationWhole name all list a b × (y ≡ typed.Enumeration at name brace list comma)
 
   specifier_of : (y : TypedSpecifier) (a b : Point) → IsSpecifier T y a.scopes b.scopes → Numbers (made_by_specifier y) a.node b.node → IsSpecifierOf (erased_specifier y) y a b
   specifier_of (typed.Keyword word) a b h k = (refl, point-same b a h k)
@@ -226,7 +239,7 @@ module _ (T : Table) (D : IsDistinct T) where
   specifier_of (typed.Aggregate which at name brace rows t) a b h k =
       (rows, t, record { middle = h.0; inside = h.1; begins = h.2; members = (refl, h.3, k); ends = h.4 }, refl)
   specifier_of (typed.Enum at name) a b h k = (refl, point-same b a h.0 k)
-  specifier_of (typed.Enumeration at name brace all comma) a b h k = (all, (refl, h.1, k), refl)
+  specifier_of (typed.Enumeration at name brace all comma) a b h k = (all, record { inside = h.0; enumerators = (refl, h.1, k); ends = h.2 }, refl)
 
   pub is_specifier : (x : tree.Specifier) (y : TypedSpecifier) (a b : Point) → IsSpecifierRead x y a b → IsSpecifierOf x y a b
   is_specifier x y a b h = subst (λ (w : tree.Specifier). IsSpecifierOf w y a b) h.0 (specifier_of y a b h.1 h.2)
@@ -282,5 +295,12 @@ module _ (T : Table) (D : IsDistinct T) where
   enumeration-unique at name brace all comma u x y a b c e h k o own =
       let left = is_specifier (tree.Enumeration at name brace all comma) x a b h in
       let right = is_specifier (tree.Enumeration at name brace all comma) y c e k in
-      let one = u left.0 right.0 (begun name a) b (begun name c) e left.1 right.1 (ap (begun name) o) (enumerating_own name a.scopes own) in
-      (left.2 ∙ ap (λ (list : TypedEnumerators). typed.Enumeration at name brace list comma) one.0 ∙ sym right.2, one.1, one.2)
+      let inside : Point = record { scopes = left.1.inside; node = b.node } in
+      let inside' : Point = record { scopes = right.1.inside; node = e.node } in
+      let one =
+      u left.0 right.0 (begun name a) inside (begun name c) inside' left.1.enumerators right.1.enumerators (ap (begun name) o) (enumerating_own name a.scopes own) in
+      let ended = enumerated_one name left.1.inside right.1.inside b.scopes e.scopes (scopes-of inside inside' one.1) one.2 left.1.ends right.1.ends in (
+        left.2 ∙ ap (λ (list : TypedEnumerators). typed.Enumeration at name brace list comma) one.0 ∙ sym right.2,
+        point-same b e ended.0 (node-of inside inside' one.1),
+        ended.1,
+      )

@@ -7,9 +7,10 @@ use Rattle.c_tree.specs.declared.leaf.Identifier.{Identifier}
 use Rattle.c_tree.specs.Erasure.{erased_form, erased_initialiser, erased_init_declarators}
 use Rattle.c_tree.specs.Tree as tree
 use Rattle.c_tree.specs.TypedTree as typed
-use Rattle.c_tree.specs.TypedTree.{TypedSpecifiers, TypedForm, TypedInitialiser, TypedInitDeclarators, TypedDeclaration}
-use Rattle.c_tree.specs.TypedParts.{Made, made_by_form, made_by_specifiers, made_by_initialiser, made_by_init_declarators, made_by_declaration, specified_type, name_of_form, home_of_form}
-use Rattle.c_typing.specs.Declarators.{Written}
+use Rattle.c_tree.specs.TypedTree.{TypedSpecifiers, TypedForm, TypedInitialiser, TypedInitDeclarators}
+use Rattle.c_tree.specs.TypedParts.{made_by_form, made_by_initialiser, made_by_init_declarators, specified_type, name_of_form, home_of_form}
+use Rattle.c_typing.specs.Walks.{outermost_of}
+use Rattle.c_typing.specs.Declarators.{Written, name_bytes}
 use Rattle.c_typing.specs.Declaring.{declarator_name}
 use Rattle.c_typing.specs.Scopes.{Scopes, entry_of}
 use Rattle.c_typing.specs.Settled.{IsBasic}
@@ -23,9 +24,9 @@ use Rattle.c_type_order.specs.TypesUsed.{used_by_declarator}
 use Rattle.c_unit_rules_alike.proofs.InitialiserRules.{makes_chars-over}
 use Rattle.c_unit_typing.specs.DeclarationJudging.{defining, is_linked_by, judge_named, judge_init_declarators}
 use Rattle.c_unit_typing.specs.InitialiserJudging.{judge_initialiser}
-use Rattle.c_unit_typing.specs.Initialisers.{IsInitialiser, is_char_array, is_only_text, size_given, makes_chars}
+use Rattle.c_unit_typing.specs.Initialisers.{IsInitialiser, is_char_array, makes_chars}
 use Rattle.c_unit_typing.specs.Linkage.{with_name}
-use Rattle.c_unit_typing.specs.Units.{Known, Storage, with_scopes, storage_of, outermost_of, IsDeclarator, IsInitialised, AreDeclarators, bytes_of_name}
+use Rattle.c_unit_typing.specs.Units.{Known, with_scopes, storage_of, IsDeclarator, IsInitialised, AreDeclarators}
 use Rattle.c_unit_typing.specs.UnitJudging.{UnitState, UnitJudging, Gives, known_of, by_known, pure, ◌>>=◌}
 use Rattle.c_unit_typing.specs.UnitRefusals.{size_written, is_lasting}
 use Rattle.c_unit_typing.proofs.WrittenSizes.{IsTextAsWritten}
@@ -80,7 +81,7 @@ module _ (T : Table) (basic : IsBasic T) (exprs : AreExpressionsGiven T) (scopes
 
   -- the initialiser, after which the name is defined
   abbrev IsValued : TypedForm → TypeId → Place → TypedInitialiser → Known → Known → Type 0
-  IsValued form t at i n k' = (s : Scopes) × IsInitialiser T i at t n.scopes s × IsInitialised T (home_of_form form) (with_scopes n s) (bytes_of_name (name_of_form form)) i k'
+  IsValued form t at i n k' = (s : Scopes) × IsInitialiser T i at t n.scopes s × IsInitialised T (home_of_form form) (with_scopes n s) (name_bytes (name_of_form form)) i k'
 
   module _ (file : Bool) (base : TypedSpecifiers) (form : TypedForm) (t : TypeId) (at : Place) (i : TypedInitialiser) (all : TypedInitDeclarators) (name : Identifier)
       (named : name_of_form form ≡ Some name) (holds : initialiser_holds (erased_initialiser i) ≤ 256) where
@@ -120,7 +121,7 @@ module _ (T : Table) (basic : IsBasic T) (exprs : AreExpressionsGiven T) (scopes
             grown = one.reached.grown;
             known = ap (defining_known it name.bytes) one.reached.known
                 ∙ defines T it (with_scopes (known_of s) h.0.0) name.bytes i k'
-                (subst (λ (o : Option Identifier). IsInitialised T it (with_scopes (known_of s) h.0.0) (bytes_of_name o) i k') named h.0.2);
+                (subst (λ (o : Option Identifier). IsInitialised T it (with_scopes (known_of s) h.0.0) (name_bytes o) i k') named h.0.2);
             node = one.reached.node;
             types = one.reached.types;
             outer = one.reached.outer;
@@ -177,7 +178,7 @@ module _ (T : Table) (basic : IsBasic T) (exprs : AreExpressionsGiven T) (scopes
         declares = h.4.declares;
       } in
       let value : IsInitialised T (home_of_form form) (with_scopes h.1 h.2) h.4.name.bytes i k' =
-      subst (λ (o : Option Identifier). IsInitialised T (home_of_form form) (with_scopes h.1 h.2) (bytes_of_name o) i k') h.4.named h.6 in
+      subst (λ (o : Option Identifier). IsInitialised T (home_of_form form) (with_scopes h.1 h.2) (name_bytes o) i k') h.4.named h.6 in
       let before : Known = with_scopes h.0 h.4.inside in
       let run = declarator-run T basic scopes decls file base true size form t (middle_held holds) in
       let values = value_run file base form t at i all h.4.name h.4.named (rest_held holds) in
@@ -209,7 +210,7 @@ module _ (T : Table) (basic : IsBasic T) (exprs : AreExpressionsGiven T) (scopes
             decl,
             λ q. (
               object-home T (home_of_form form) (with_scopes h.1 h.2) h.4.name.bytes i k' value,
-              λ l. ap (λ (o : Option Identifier). Rattle.c_unit_typing.specs.Units.is_one_of h.0.defined (bytes_of_name o)) h.4.named
+              λ l. ap (λ (o : Option Identifier). Rattle.c_unit_typing.specs.Units.is_one_of h.0.defined (name_bytes o)) h.4.named
                   ∙ named-once T h.4.name.bytes t before h.1 (home_of_form form) (with_scopes h.1 h.2) i k' refl refl value file (storage_of base) h.4.declares l,
             ),
           ),

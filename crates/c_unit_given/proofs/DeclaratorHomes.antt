@@ -8,8 +8,9 @@ use Rattle.c_types.specs.Table.{Table, shape_at}
 use Rattle.c_tree.specs.declared.typed_word.Home.{Home}
 use Rattle.c_tree.specs.declared.typed_word.Home.TheVariants as home
 use Rattle.c_tree.specs.TypedTree as typed
-use Rattle.c_tree.specs.TypedTree.{TypedForm, TypedCore, TypedParts}
+use Rattle.c_tree.specs.TypedTree.{TypedForm, TypedCore}
 use Rattle.c_tree.specs.TypedParts.{Name, made_by_stars, made_by_form, made_by_core, made_by_parts, home_of_form, home_of_core}
+use Rattle.c_typing.specs.Assignments.{literal_cost}
 use Rattle.c_typing.specs.declared.declared.Declared.{Declared}
 use Rattle.c_typing.specs.declared.declared.Declared.TheVariants as declared
 use Rattle.c_typing.specs.declared.naming.Naming.TheVariants as naming
@@ -21,7 +22,7 @@ use Rattle.c_typing_laws.specs.Judged.{IsHomeAs}
 use Rattle.c_typing_unique.specs.Points.{Numbers}
 use Rattle.c_typing_unique.proofs.Numbering.{two-parts}
 use Rattle.c_typing_unique.proofs.Shapes.{no_true}
-use Rattle.c_typing_given.specs.Spending.{literal_cost, total}
+use Rattle.c_typing_given.specs.Spending.{total}
 use Rattle.c_typing_given.proofs.Settling.{numbers-end}
 use Rattle.c_unit_typing.specs.DeclarationJudging.{first_home, naming_for}
 use Rattle.c_unit_typing.specs.Units.{Known, Storage, Unstored, AsTypedef, AsExtern, AsStatic, AsAutomatic, IsLinkedHome, IsOrdinaryDeclared, IsObjectDeclared, IsFunctionDeclared, IsTypedefDeclared, IsNameDeclared}

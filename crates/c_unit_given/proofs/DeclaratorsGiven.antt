@@ -8,18 +8,18 @@ use Rattle.c_tree.specs.declared.typed_word.Home.{Home}
 use Rattle.c_tree.specs.declared.typed_word.Home.TheVariants as home
 use Rattle.c_tree.specs.Erasure.{erased_form}
 use Rattle.c_tree.specs.TypedTree as typed
-use Rattle.c_tree.specs.TypedTree.{TypedSpecifiers, TypedForm, TypedDeclarator}
+use Rattle.c_tree.specs.TypedTree.{TypedSpecifiers, TypedForm}
 use Rattle.c_tree.specs.TypedParts.{Made, made_by_form, specified_type, name_of_form, home_of_form}
 use Rattle.c_typing.specs.declared.declared.Declared.TheVariants as declared
 use Rattle.c_typing.specs.declared.naming.Naming.{Naming}
-use Rattle.c_typing.specs.Declarators.{Written}
+use Rattle.c_typing.specs.Declarators.{Written, name_bytes}
 use Rattle.c_typing.specs.Declaring.{declarator_name, unless_function}
 use Rattle.c_typing.specs.Extensions.{IsExtended}
 use Rattle.c_typing.specs.Scopes.{Scopes}
 use Rattle.c_typing.specs.Settled.{IsBasic}
 use Rattle.c_typing.specs.Shapes.{is_function_shape}
 use Rattle.c_typing.specs.Tests.{first_broken}
-use Rattle.c_typing.specs.Walks.{judge_declarator}
+use Rattle.c_typing.specs.Walks.{judge_declarator, outermost_of}
 use Rattle.c_typing_laws.specs.Judged.{IsHomeOf}
 use Rattle.c_typing_laws.proofs.JudgedDeclarators.{form_name}
 use Rattle.c_typing_unique.specs.Points.{Point, Numbers}
@@ -29,12 +29,12 @@ use Rattle.c_type_order.specs.TypesUsed.{AreUses, used_by_declarator}
 use Rattle.c_unit_rules_alike.proofs.DeclarationRules.{declared-over}
 use Rattle.c_unit_rules_alike.proofs.NamesThere.{name-there}
 use Rattle.c_unit_typing.specs.DeclarationJudging.{naming_for, linked_first, declare, named, judge_named, is_linked_object}
-use Rattle.c_unit_typing.specs.Units.{Known, Storage, with_scopes, storage_of, outermost_of, is_one_of, IsNameDeclared, IsDeclarator, bytes_of_name}
+use Rattle.c_unit_typing.specs.Units.{Known, Storage, with_scopes, storage_of, is_one_of, IsNameDeclared, IsDeclarator}
 use Rattle.c_unit_typing.specs.UnitJudged.{state_of}
 use Rattle.c_unit_typing.specs.UnitJudging.{UnitState, Gives, known_of, known, by_known, pure, lifted, ◌>>=◌}
 use Rattle.c_unit_typing.specs.UnitRefusals.{declared_tests}
 use Rattle.c_unit_typing.proofs.JudgedDeclarators.{form-known, one-judged}
-use Rattle.c_unit_given.proofs.UnitGiven.{HasUnitRoom, IsUnitHere, IsUnitReached, IsUnitGivenAs, IsRun, And, HasType, AreScopesKept, AreDeclaratorsGiven}
+use Rattle.c_unit_given.proofs.UnitGiven.{HasUnitRoom, IsUnitHere, IsUnitGivenAs, IsRun, HasType, AreScopesKept, AreDeclaratorsGiven}
 use Rattle.c_unit_given.proofs.DeclaratorHomes.{home-as, IsMadeBetween, form-between, form-cost, here-below}
 use Rattle.c_unit_given.proofs.NameRules.{IsObjectHome, IsNotBefore, name-passes}
 use Rattle.c_unit_given.proofs.NamesDeclared.{declare-given}
@@ -45,7 +45,7 @@ use Rattle.c_unit_given.proofs.UnitRoom.{part-room}
 -- an initialiser stands behind the declarator: it declares an object, which no initialiser defined before
 abbrev pub IsInitialisable : Bool → Bool → Storage → TypedForm → Known → Type 0
 IsInitialisable initialised file storage form k =
-    initialised ≡ true → IsObjectHome (home_of_form form) × (is_linked_object file storage ≡ true → is_one_of k.defined (bytes_of_name (name_of_form form)) ≡ false)
+    initialised ≡ true → IsObjectHome (home_of_form form) × (is_linked_object file storage ≡ true → is_one_of k.defined (name_bytes (name_of_form form)) ≡ false)
 
 below_of : (T : Table) (a b : ℕ) (h : Home) → IsMadeBetween a b h → IsMadeBelow T b h
 below_of T a b (home.Static m) h = h.1
@@ -108,7 +108,7 @@ module _ (T : Table) (basic : IsBasic T) (scopes : AreScopesKept T) (decls : Are
         let inner : one.after.seen.scopes ≡ h.0.inside = ap (λ (p : Point). p.scopes) one.reached.point in
         let homes = subst (λ (q : Scopes). Rattle.c_unit_given.proofs.UnitGiven.AreHomesBelow s.seen.node q.levels) (sym inner) (kept.homes s.seen.node here.homes) in
         let once : initialised ≡ true → is_linked_object file (storage_of base) ≡ true → is_one_of s.linkage.defined name.bytes ≡ false =
-        λ q l. ap (λ (o : Option Identifier). is_one_of s.linkage.defined (bytes_of_name o)) (sym h.0.named) ∙ (h.1 q).1 l in
+        λ q l. ap (λ (o : Option Identifier). is_one_of s.linkage.defined (name_bytes o)) (sym h.0.named) ∙ (h.1 q).1 l in
         let passes =
         name-passes T (known_of m) name.bytes file (storage_of base) initialised t name.place it k declares (λ q. (h.1 q).0)
         (λ u l q. not_before s.seen.node n 0 it l between (here-below s.seen.node m.seen.scopes.levels name.bytes (declared.Object u l) homes q)) once in

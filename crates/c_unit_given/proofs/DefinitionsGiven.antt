@@ -1,7 +1,7 @@
 -- The definition of a function that is well typed is given.
-use Rattle.std.proofs.Common.{◌≡◌, ◌≤◌, ℕ, Bool, true, false, max, List, [], ◌++◌, length, Option, Some, None, refl, ap, sym, subst, ◌∙◌, arith}
+use Rattle.std.proofs.Common.{◌≡◌, ◌≤◌, ℕ, Bool, true, false, max, List, [], ◌∷◌, ◌++◌, length, Option, Some, None, refl, ap, sym, subst, ◌∙◌, arith}
 use Rattle.std.specs.List.{All}
-use Rattle.std.proofs.lemmas.List.Elements.{All-head}
+use Rattle.std.proofs.lemmas.List.Elements.{All-head, All-cons, All-nil, All-push}
 use Rattle.cc_base.specs.declared.place.Place.{Place}
 use Rattle.cc_base.specs.declared.number.TypeId.{TypeId}
 use Rattle.c_types.specs.declared.shape.TypeShape.{TypeShape}
@@ -13,22 +13,24 @@ use Rattle.c_tree.specs.declared.typed_word.Home.TheVariants as home
 use Rattle.c_tree.specs.Erasure.{erased_specifiers, erased_form, erased_block_items}
 use Rattle.c_tree.specs.Tree as tree
 use Rattle.c_tree.specs.TypedTree as typed
-use Rattle.c_tree.specs.TypedTree.{TypedSpecifiers, TypedForm, TypedDeclarator, TypedParameters, TypedBlockItems, TypedTranslationUnit}
-use Rattle.c_tree.specs.TypedParts.{made_by_specifiers, made_by_form, made_by_block_items, specified_type, declared_type, name_of_form, home_of_form}
+use Rattle.c_tree.specs.TypedTree.{TypedSpecifiers, TypedForm, TypedDeclarator, TypedBlockItems, TypedTranslationUnit}
+use Rattle.c_tree.specs.TypedParts.{made_by_specifiers, made_by_form, made_by_block_items, specified_type, name_of_form, home_of_form, is_void_list}
 use Rattle.c_typing.specs.declared.declared.Declared.TheVariants as declared
 use Rattle.c_typing.specs.declared.naming.Naming.{Naming}
-use Rattle.c_typing.specs.Declarators.{Written}
-use Rattle.c_typing.specs.Declaring.{declarator_name, entered, left, unless_function}
+use Rattle.c_typing.specs.declared.declared.Declared.{Declared}
+use Rattle.c_typing.specs.Declarators.{Written, name_bytes}
+use Rattle.c_typing.specs.Declaring.{declarator_name, unless_function}
 use Rattle.c_typing.specs.Judging as judging
 use Rattle.c_typing.specs.Judging.{State}
-use Rattle.c_typing.specs.Scopes.{Name, entering, place_among}
-use Rattle.c_typing.specs.Settled.{IsBasic}
+use Rattle.c_typing.specs.Scopes.{Name, Level, Scopes, empty_level, entering, innermost, place_among}
+use Rattle.c_typing.specs.Settled.{IsBasic, IsLevelThere}
 use Rattle.c_typing.specs.Shapes.{is_function_shape}
 use Rattle.c_typing.specs.Tests.{has_some}
-use Rattle.c_typing.specs.Typing.{AreSpecifiers}
+use Rattle.c_typing.specs.Typing.{AreSpecifiers, AreParameters}
 use Rattle.c_typing.specs.Walks.{judge_specifiers_of, judge_declarator}
 use Rattle.c_typing_laws.specs.Judged.{IsHomeOf}
 use Rattle.c_typing_laws.proofs.ExtensionLaws.{extended_refl, still_in}
+use Rattle.c_typing_laws.proofs.KnownScopes.{levels-kept}
 use Rattle.c_typing_laws.proofs.JudgedDeclarators.{form_name}
 use Rattle.c_typing_laws.proofs.JudgedWhole.{specifiers_of-judged}
 use Rattle.c_typing_unique.specs.Points.{Point, Numbers}
@@ -37,27 +39,31 @@ use Rattle.c_typing_unique.proofs.Numbering.{two-parts}
 use Rattle.c_typing_given.specs.Given.{IsHere}
 use Rattle.c_type_order.specs.TypesUsed.{AreUses, used_by_specifiers, used_by_declarator}
 use Rattle.c_typing_given.proofs.ValuesGiven.{uses-first}
+use Rattle.c_typing_given.proofs.Settling.{numbers-end}
 use Rattle.c_unit_typing.specs.DeclarationJudging.{naming_for, linked_first}
-use Rattle.c_unit_typing.specs.DefinitionJudging.{declare_parameters, form_of, result_of, body, defined_as, judge_definition}
+use Rattle.c_unit_typing.specs.DefinitionJudging.{result_of, body, defined_as, judge_definition}
 use Rattle.c_unit_typing.specs.Holding.{specifiers_holds, declarator_holds, block_items_holds}
 use Rattle.c_unit_typing.specs.StatementJudging.{judge_block_items}
-use Rattle.c_unit_typing.specs.Units.{Known, Around, with_scopes, leaving_known, storage_of, is_one_of, bytes_of_name, parameters_of_form, with_parameters, defaults_in, AreDifferent, IsLinked, IsDeclarator, AreBlockItems, IsDefinition}
+use Rattle.c_unit_typing.specs.Units.{Known, Around, with_scopes, leaving_known, storage_of, is_one_of, going_on, defaults_in, AreDifferent, IsLinked, IsDeclarator, AreBlockItems, IsDefinition}
 use Rattle.c_unit_typing.specs.UnitJudged.{state_of}
-use Rattle.c_unit_typing.specs.UnitJudging.{UnitState, UnitJudging, Gives, known_of, known, next, by_known, pure, lifted, ◌>>=◌}
+use Rattle.c_unit_typing.specs.UnitJudging.{UnitState, UnitJudging, Gives, known_of, known, pure, lifted, ◌>>=◌}
 use Rattle.c_unit_typing.proofs.DeclaredNames.{is_typedef}
-use Rattle.c_unit_typing.proofs.FunctionParameters.{IsFunctionWith, function-with, AreParametersThere, parameters-there, there-later}
+use Rattle.c_unit_typing.proofs.FunctionParameters.{IsFunctionWith, function-with}
+use Rattle.c_unit_typing.proofs.JudgedDefinitions.{level_at, behind_declarator, behind_specifiers}
+use Rattle.c_unit_typing.proofs.NearestLists.{level-judged}
+use Rattle.c_unit_typing.proofs.UnitOutcomes.{lifted-gives}
 use Rattle.c_unit_typing.proofs.JudgedDeclarators.{IsFormKnown, form-known, makes-later}
 use Rattle.c_unit_typing.proofs.NameSteps.{some-same}
 use Rattle.c_unit_typing.proofs.StillDefined.{specifiers-defined, form-defined}
-use Rattle.c_unit_given.proofs.UnitGiven.{HasUnitRoom, IsUnitHere, IsUnitReached, IsUnitGivenAs, IsRun, Nothing, And, HasType, Always, AreSizesWritten, AreScopesKept, AreExpressionsGiven, AreDeclaratorsGiven}
+use Rattle.c_unit_given.proofs.UnitGiven.{IsHomeBelow, HasUnitRoom, IsUnitHere, IsUnitReached, IsUnitGivenAs, IsRun, Nothing, And, HasType, Always, AreSizesWritten, AreScopesKept, AreExpressionsGiven, AreDeclaratorsGiven}
 use Rattle.c_unit_typing.specs.TypesUsed.{used_by_block_items}
 use Rattle.c_unit_given.proofs.BlockItemsGiven.{AreBlockItemsRun, no-labels}
 use Rattle.c_unit_given.proofs.DeclarationsGiven.{left-held, right-held}
 use Rattle.c_unit_given.proofs.FunctionsDefined.{placed, no-typedef, IsFunctionLinked, function-linked, defining_function, defined-given}
-use Rattle.c_unit_given.proofs.ParameterNames.{own-parameters}
-use Rattle.c_unit_given.proofs.ParametersDeclared.{AreNewParameters, parameters-given}
-use Rattle.c_unit_given.proofs.Runs.{Then, Among, then-is, lifted-is, lift-reached, reached-then, run-then, run-as, run-three, run-lifted, nothing-kept}
-use Rattle.c_unit_given.proofs.ScopesGiven.{bind-assoc, in_scopes, enter-here, scoped-given}
+use Rattle.c_unit_given.proofs.ParameterNames.{own-parameters, parameters-below, list-leaves}
+use Rattle.c_unit_given.proofs.LevelsBelow.{IsLevelBelow, innermost-below}
+use Rattle.c_unit_given.proofs.Runs.{Then, Among, homes-later, then-is, lifted-is, lift-reached, reached-then, run-then, run-as, run-three, run-lifted, nothing-kept}
+use Rattle.c_unit_given.proofs.ScopesGiven.{in_scopes, opened-here, opened-given}
 use Rattle.c_unit_given.proofs.UnitRoom.{part-room, unit-room-first, unit-room-then}
 
 -- the name of a function has no home
@@ -71,63 +77,34 @@ inside_function result = record { result = result; in_loop = false; breakable = 
 
 -- what follows the specifiers
 abbrev defining : TypedTranslationUnit → TypedSpecifiers → tree.Declarator → Place → tree.BlockItems → UnitJudging TypedTranslationUnit
-defining before base d brace items =
-    by_known (λ (s : UnitState). lifted (judge_declarator (naming_for true (storage_of base) (linked_first s.linkage.linked (declarator_name d))) base None d))
-    >>= (λ (one : TypedDeclarator). defined_as (declarator_name d) base one
-    >>= (λ (again : TypedDeclarator). by_known (λ (s : UnitState). body brace (result_of (shape_at s.table (declared_type one))) (parameters_of_form (form_of one) None) items)
-    >>= (λ (list : TypedBlockItems). pure (typed.AndFunctionBody before base one brace list))))
+defining before base d brace items = λ (s : UnitState). behind_specifiers before d brace items base s
 
 module _ (T : Table) (basic : IsBasic T) (exprs : AreExpressionsGiven T) (scopes : AreScopesKept T) (decls : AreDeclaratorsGiven T) (sizes : AreSizesWritten T) where
   -- The body
 
-  module _ (brace : Place) (result : TypeId) (ps : TypedParameters) (list : TypedBlockItems) (run : AreBlockItemsRun T basic exprs scopes decls sizes list)
+  module _ (brace : Place) (result : TypeId) (level : Level) (list : TypedBlockItems) (run : AreBlockItemsRun T basic exprs scopes decls sizes list)
       (holds : block_items_holds (erased_block_items list) ≤ 256) (s : UnitState) (after k : Known) (n count : ℕ) (here : IsUnitHere T s) (known_result : IsType s.table result)
-      (there : AreParametersThere s.table ps) (new : AreNewParameters s.seen.node ps (entering s.seen.scopes))
-      (well : AreBlockItems T (inside_function result) None list (with_scopes (known_of s) (with_parameters ps (entering s.seen.scopes))) after) (defaults : defaults_in list ≤ 1) (leaves : k ≡ leaving_known after)
+      (there : IsLevelThere s.table level) (below : IsLevelBelow s.seen.node level)
+      (well : AreBlockItems T (inside_function result) None list (with_scopes (known_of s) (going_on level s.seen.scopes)) after) (defaults : defaults_in list ≤ 1) (leaves : k ≡ leaving_known after)
       (numbers : Numbers (made_by_block_items list) s.seen.node n) (uses : AreUses (used_by_block_items T list) (length s.table) count) (room : HasUnitRoom T (made_by_block_items list) s) where
     abbrev inner : UnitJudging TypedBlockItems
-    inner = declare_parameters ps >>= (λ (declared : Bool). judge_block_items (inside_function result) None (erased_block_items list))
+    inner = judge_block_items (inside_function result) None (erased_block_items list)
 
-    inner_given : IsUnitGivenAs T Nothing (made_by_block_items list) (inner (in_scopes entering s)) list (in_scopes entering s) after n count
+    inner_given : IsUnitGivenAs T Nothing (made_by_block_items list) (inner (in_scopes (going_on level) s)) list (in_scopes (going_on level) s) after n count
     inner_given =
-        let a : Around = inside_function result in
-        let items = erased_block_items list in
-        let s1 : UnitState = in_scopes entering s in
-        let start : Known = with_scopes (known_of s) (with_parameters ps (entering s.seen.scopes)) in
-        let first = parameters-given T ps s1 (enter-here T s here) there new in
-        let one = first.1 in
-        let s2 : UnitState = one.after in
-        let none = no-labels T a list start after well in
-        let two =
-        run a None (subst AreDifferent (sym none) tt) defaults holds s2 after n count one.reached.here (still_in s.table s2.table one.reached.grown result known_result, tt)
-        (subst (λ (c : Known). AreBlockItems T a None list c after) (sym one.reached.known) well) (subst (λ (i : ℕ). Numbers (made_by_block_items list) i n) (sym one.reached.node) numbers)
-        (subst (λ (i : ℕ). AreUses (used_by_block_items T list) i count) (sym one.reached.types) uses)
-        (unit-room-then T [] (made_by_block_items list) s1 s2 (record { things = room.things; nodes = room.nodes; globals = room.globals; cells = room.cells }) one.reached.spent) in
-        record {
-          after = two.after;
-          gives = then-is (declare_parameters ps) (λ (declared : Bool). judge_block_items a None items) first.0 s1 s2 (Gives list two.after) one.gives two.gives;
-          reached = reached-then T [] (made_by_block_items list) s1 s2 two.after start after s1.seen.node n (length s1.table) count one.reached two.reached;
-          gains = tt;
-        }
+        let s1 : UnitState = in_scopes (going_on level) s in
+        let none = no-labels T (inside_function result) list (known_of s1) after well in
+        run (inside_function result) None (subst AreDifferent (sym none) tt) defaults holds s1 after n count (opened-here T level s here there below) (known_result, tt) well numbers uses
+        (record { things = room.things; nodes = room.nodes; globals = room.globals; cells = room.cells })
 
-    body_given : IsUnitGivenAs T Nothing (made_by_block_items list) (body brace (Some result) (Some ps) (erased_block_items list) s) list s k n count
+    body_given : IsUnitGivenAs T Nothing (made_by_block_items list) (body brace (Some result) level (erased_block_items list) s) list s k n count
     unfolding body
-    body_given =
-        let out = scoped-given T Nothing (made_by_block_items list) inner list brace (λ (v : TypedBlockItems). v) s after k n count here inner_given leaves in
-        let joined : body brace (Some result) (Some ps) (erased_block_items list) s ≡ (lifted entered >>= (λ (inside : Bool). inner >>= (λ (v : TypedBlockItems). lifted (left brace v)))) s =
-        λ i. next (lifted entered s) (λ (inside : Bool) (q : UnitState).
-        sym (bind-assoc (declare_parameters ps q) (λ (declared : Bool). judge_block_items (inside_function result) None (erased_block_items list)) (λ (v : TypedBlockItems). lifted (left brace v))) i) in
-        record {
-          after = out.after;
-          gives = joined ∙ out.gives;
-          reached = out.reached;
-          gains = tt;
-        }
+    body_given = opened-given T Nothing (made_by_block_items list) inner list brace (λ (v : TypedBlockItems). v) level s after k n count here inner_given leaves
 
   -- The whole
 
   module _ (names : List Name) (few : length names ≤ 65535) (before : TypedTranslationUnit) (specifiers : TypedSpecifiers) (form : TypedForm) (t : TypeId) (brace : Place) (list : TypedBlockItems)
-      (among : is_one_of names (bytes_of_name (name_of_form form)) ≡ true) (run : AreBlockItemsRun T basic exprs scopes decls sizes list)
+      (among : is_one_of names (name_bytes (name_of_form form)) ≡ true) (run : AreBlockItemsRun T basic exprs scopes decls sizes list)
       (holds : max (specifiers_holds (erased_specifiers specifiers)) (max (declarator_holds (erased_form form)) (block_items_holds (erased_block_items list))) ≤ 256) where
     declarator_held : declarator_holds (erased_form form) ≤ 256
     declarator_held =
@@ -204,7 +181,7 @@ module _ (T : Table) (basic : IsBasic T) (exprs : AreExpressionsGiven T) (scopes
       tried =
           let m : UnitState = formed.after in
           let name : Identifier = q.1.name in
-          let there = placed names name.bytes (ap (λ (o : Option Identifier). is_one_of names (bytes_of_name o)) (sym q.1.named) ∙ among) in
+          let there = placed names name.bytes (ap (λ (o : Option Identifier). is_one_of names (name_bytes o)) (sym q.1.named) ∙ among) in
           let low = there.2 in
           let same : m.seen.scopes.defined ≡ names =
           ap (λ (l : Known). l.scopes.defined) formed.reached.known ∙ (form-defined T form s.seen.scopes one.inside one.parts ∙ q.3) in
@@ -216,26 +193,54 @@ module _ (T : Table) (basic : IsBasic T) (exprs : AreExpressionsGiven T) (scopes
       shape_there =
           sym (tried.reached.here.here.first.shapes t (still_in formed.after.table tried.after.table tried.reached.grown t form_is.judged.there)) ∙ q.1.shape.1
 
+      -- the scope that its parameters leave
+      abbrev level : Level
+      level = level_at before (erased_form form) brace (erased_block_items list) specifiers s
+
+      record IsLevelGiven : Type 0 where
+        same : level ≡ innermost q.1.inside.levels
+        there : IsLevelThere formed.after.table level
+        below : IsLevelBelow cut.0 level
+
+      leveled : IsLevelGiven
+      leveled =
+          let m : UnitState = formed.after in
+          let ps = q.1.parameters in
+          let l = level-judged which specifiers (erased_form form) form t ps (state_of s) (state_of m) here.here.known c
+          (lifted-gives (judge_declarator which specifiers None (erased_form form)) (typed.Declares form t) s m formed.gives).0 q.1.written in
+          let start : Scopes = s.seen.scopes in
+          let begins : start ≡ q.1.before = ap (λ (w : Known). w.scopes) q.2 in
+          let listed : AreParameters T (is_void_list ps) ps (entering start) q.1.inside =
+          subst (λ (w : Scopes). AreParameters T (is_void_list ps) ps (entering w) q.1.inside) (sym begins) q.1.listed in
+          let own = own-parameters T cut.0 form t start one.inside s.seen.node ps one.parts cut.1 q.1.written in
+          let inside : l.inside ≡ q.1.inside =
+          list-leaves T basic (is_void_list ps) (is_void_list ps) ps (entering start) l.inside q.1.inside own.first own.last (l.listed T formed.reached.here.here.first) listed own.numbers here.here.own in
+          let same : level ≡ innermost q.1.inside.levels = l.same ∙ ap (λ (w : Scopes). innermost w.levels) inside in
+          let end = numbers-end (made_by_form form t) s.seen.node cut.0 cut.1 in
+          let up : s.seen.node ≤ cut.0 = omega (arith, end) in
+          let homes = parameters-below T scopes cut.0 (is_void_list ps) ps own.first own.last (entering start) q.1.inside own.below listed own.numbers
+          (All-push (IsLevelBelow cut.0) start.levels empty_level (homes-later s.seen.node cut.0 start.levels up here.homes) (All-nil (λ (e : Name × Declared). IsHomeBelow cut.0 e.1))) in
+          record { same = same; there = l.there; below = subst (IsLevelBelow cut.0) (sym same) (innermost-below cut.0 q.1.inside.levels homes) }
+
       -- its body
-      bodied : IsUnitGivenAs T Nothing (made_by_block_items list) (body brace (Some q.1.result) (Some q.1.parameters) (erased_block_items list) tried.after) list tried.after k n count
+      bodied : IsUnitGivenAs T Nothing (made_by_block_items list) (body brace (Some q.1.result) level (erased_block_items list) tried.after) list tried.after k n count
       bodied =
           let m : UnitState = formed.after in
           let r : UnitState = tried.after in
           let xs = made_by_form form t in
           let ys = made_by_block_items list in
-          let ps = q.1.parameters in
           let grown = tried.reached.grown in
           let node : r.seen.node ≡ cut.0 = tried.reached.node ∙ formed.reached.node in
           let types : length r.table ≡ parts.0 = tried.reached.types ∙ formed.reached.types in
-          let there = there-later m.table r.table ps (still_in m.table r.table grown) (parameters-there m.table t ps formed.reached.here.here.known.basic function_is) in
-          let new =
-          subst (λ (i : ℕ). AreNewParameters i ps (entering r.seen.scopes)) (sym node)
-          (own-parameters T scopes cut.0 form t s.seen.scopes one.inside s.seen.node ps one.parts cut.1 q.1.written r.seen.scopes) in
+          let there = All-head (IsLevelThere r.table) level [] (levels-kept m.table r.table grown (level ∷ []) (All-cons (IsLevelThere m.table) level [] leveled.there (All-nil (IsLevelThere m.table)))) in
+          let below = subst (λ (i : ℕ). IsLevelBelow i level) (sym node) leveled.below in
           let known_result =
           All-head (IsType r.table) q.1.result q.1.types
           (subst (λ (y : TypeShape). All (IsType r.table) (named_by y)) shape_there (tried.reached.here.here.known.basic.formed.each t).named) in
-          body_given brace q.1.result ps list run items_held r q.1.after k n count tried.reached.here known_result there new
-          (subst (λ (l : Known). AreBlockItems T (inside_function q.1.result) None list (with_scopes l (with_parameters ps (entering l.scopes))) q.1.after) (sym tried.reached.known) q.1.statements) q.1.defaults
+          body_given brace q.1.result level list run items_held r q.1.after k n count tried.reached.here known_result there below
+          (subst (λ (l : Known). AreBlockItems T (inside_function q.1.result) None list (with_scopes l (going_on level l.scopes)) q.1.after) (sym tried.reached.known)
+          (subst (λ (v : Level). AreBlockItems T (inside_function q.1.result) None list (with_scopes (defining_function q.1.name.bytes q.1.declared) (going_on v q.1.declared.scopes)) q.1.after) (sym leveled.same) q.1.statements))
+          q.1.defaults
           q.1.leaves (subst (λ (i : ℕ). Numbers ys i n) (sym node) cut.2) (subst (λ (i : ℕ). AreUses (used_by_block_items T list) i count) (sym types) parts.2)
           (unit-room-then T [] ys m r (unit-room-then T xs ys s m room formed.reached.spent) tried.reached.spent)
 
@@ -247,22 +252,19 @@ module _ (T : Table) (basic : IsBasic T) (exprs : AreExpressionsGiven T) (scopes
           let z : UnitState = bodied.after in
           let xs = made_by_form form t in
           let ys = made_by_block_items list in
+          let d = erased_form form in
           let items = erased_block_items list in
           let here_is : TypedDeclarator = typed.Declares form t in
           let whole = typed.AndFunctionBody before specifiers here_is brace list in
-          let written : declarator_name (erased_form form) ≡ Some q.1.name = form_name form ∙ q.1.named in
+          let written : declarator_name d ≡ Some q.1.name = form_name form ∙ q.1.named in
           let give : TypedBlockItems → UnitJudging TypedTranslationUnit = λ v. pure (typed.AndFunctionBody before specifiers here_is brace v) in
-          let third : UnitJudging TypedBlockItems = by_known (λ (w : UnitState). body brace (result_of (shape_at w.table t)) (parameters_of_form form None) items) in
+          let third : UnitJudging TypedBlockItems = λ (w : UnitState). body brace (result_of (shape_at w.table t)) level items w in
           let second : Option Identifier → UnitJudging TypedTranslationUnit = λ o. defined_as o specifiers here_is >>= (λ (again : TypedDeclarator). third >>= give) in
-          let inside : third r ≡ Gives list z =
-          ap (λ (o : Option TypeId). body brace o (parameters_of_form form None) items r) (ap result_of shape_there)
-          ∙ (ap (λ (o : Option TypedParameters). body brace (Some q.1.result) o items r) q.1.written ∙ bodied.gives) in
+          let inside : third r ≡ Gives list z = ap (λ (o : Option TypeId). body brace o level items r) (ap result_of shape_there) ∙ bodied.gives in
           record {
             after = z;
-            gives = then-is (lifted (judge_declarator which specifiers None (erased_form form)))
-                (λ (one : TypedDeclarator). defined_as (declarator_name (erased_form form)) specifiers one
-                >>= (λ (again : TypedDeclarator). by_known (λ (w : UnitState). body brace (result_of (shape_at w.table (declared_type one))) (parameters_of_form (form_of one) None) items)
-                >>= (λ (v : TypedBlockItems). pure (typed.AndFunctionBody before specifiers one brace v)))) here_is s m (Gives whole z) formed.gives
+            gives = then-is (lifted (judge_declarator which specifiers None d)) (λ (one : TypedDeclarator) (w : UnitState). behind_declarator before d brace items specifiers s one w) here_is s m (Gives whole z)
+                formed.gives
                 (ap (λ (o : Option Identifier). second o m) written
                 ∙ then-is (defined_as (Some q.1.name) specifiers here_is) (λ (again : TypedDeclarator). third >>= give) here_is m r (Gives whole z) tried.gives
                 (then-is third give list r z (Gives whole z) inside refl));

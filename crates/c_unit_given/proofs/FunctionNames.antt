@@ -10,8 +10,9 @@ use Rattle.c_tree.specs.TypedTree as typed
 use Rattle.c_tree.specs.TypedTree.{TypedTranslationUnit}
 use Rattle.c_tree.specs.TypedParts.{DefinedFunction, functions_of, name_of, name_of_form}
 use Rattle.runtime_calls.specs.Prototypes.{IsNoName}
+use Rattle.c_typing.specs.Declarators.{name_bytes}
 use Rattle.c_typing.specs.Scopes.{Name, place_among}
-use Rattle.c_unit_typing.specs.Units.{Known, is_one_of, bytes_of_name, IsUnitTyped}
+use Rattle.c_unit_typing.specs.Units.{Known, is_one_of, IsUnitTyped}
 use Rattle.c_unit_typing.specs.WellTyped.{defined_names}
 use Rattle.c_unit_typing.proofs.JudgedUnits.{name_in_bytes}
 
@@ -23,7 +24,7 @@ names-own T (typed.AndExternal u d) k l h = names-own T u k h.0 h.1
 names-own T (typed.AndFunctionBody u x (typed.Declares form t) brace body) k l h =
     let this : DefinedFunction = record { declarator = typed.Declares form t; body = body } in
     subst (All IsNoName) (sym (map-append name_in_bytes (functions_of u) (this ∷ [])))
-    (All-push IsNoName (defined_names u) (bytes_of_name (name_of_form form)) (names-own T u k h.0 h.1) (subst IsNoName (sym (ap bytes_of_name h.2.named)) h.2.own))
+    (All-push IsNoName (defined_names u) (name_bytes (name_of_form form)) (names-own T u k h.0 h.1) (subst IsNoName (sym (ap name_bytes h.2.named)) h.2.own))
 
 pub place-own : (names : List Name) → All IsNoName names → (name : Name) (number : ℕ) → place_among names name ≡ Some number → IsNoName name
 place-own names own name number h =
@@ -44,14 +45,14 @@ among_own (other ∷ before) name rest = or_true (bytes_eq name other) (is_one_o
 abbrev pub AreAmong : List Name → TypedTranslationUnit → Type 0
 AreAmong names typed.NoExternal = Unit {0}
 AreAmong names (typed.AndExternal u d) = AreAmong names u
-AreAmong names (typed.AndFunctionBody u x d brace body) = AreAmong names u × (is_one_of names (bytes_of_name (name_of d)) ≡ true)
+AreAmong names (typed.AndFunctionBody u x d brace body) = AreAmong names u × (is_one_of names (name_bytes (name_of d)) ≡ true)
 
 pub all-among : (names : List Name) (u : TypedTranslationUnit) (rest : List Name) → names ≡ defined_names u ++ rest → AreAmong names u
 all-among names typed.NoExternal rest e = tt
 all-among names (typed.AndExternal u d) rest e = all-among names u rest e
 all-among names (typed.AndFunctionBody u x d brace body) rest e =
     let this : DefinedFunction = record { declarator = d; body = body } in
-    let name : Name = bytes_of_name (name_of d) in
+    let name : Name = name_bytes (name_of d) in
     let whole : names ≡ defined_names u ++ name ∷ rest =
     e ∙ (ap (λ (all : List Name). all ++ rest) (map-append name_in_bytes (functions_of u) (this ∷ [])) ∙ append_assoc (defined_names u) (name ∷ []) rest) in
     (all-among names u (name ∷ rest) whole, ap (λ (all : List Name). is_one_of all name) whole ∙ among_own (defined_names u) name rest)

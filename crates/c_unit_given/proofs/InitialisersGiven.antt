@@ -8,6 +8,7 @@ use Rattle.cc_base.specs.declared.fault.Rule.TheVariants as rule
 use Rattle.c_types.specs.declared.shape.TypeShape.{TypeShape}
 use Rattle.c_types.specs.declared.shape.TypeShape.TheVariants.{Void, Integer, Pointer, Array, Function, Struct, Union}
 use Rattle.c_types.specs.Table.{Table, IsComplete, shape_at, is_aggregate_shape}
+use Rattle.c_tree.specs.Literals.{pieces_bytes}
 use Rattle.c_tree.specs.declared.leaf.StringPiece.{StringPiece}
 use Rattle.c_tree.specs.Erasure.{erased, erased_place, erased_initialiser, erased_items}
 use Rattle.c_tree.specs.Places.{expr_place}
@@ -19,7 +20,6 @@ use Rattle.c_typing.specs.Cells.{count_cells}
 use Rattle.c_typing.specs.Checking.{checked_value}
 use Rattle.c_typing.specs.Conversions.{IsAssigned}
 use Rattle.c_typing.specs.Judging.{State}
-use Rattle.c_typing.specs.Rules.{pieces_bytes}
 use Rattle.c_typing.specs.Scopes.{Scopes}
 use Rattle.c_typing.specs.Settled.{IsBasic, IsKnown}
 use Rattle.c_typing.specs.Shapes.{IsScalar, is_scalar_shape}
@@ -29,7 +29,9 @@ use Rattle.c_typing_unique.proofs.Numbering.{two-parts}
 use Rattle.c_typing_unique.proofs.Shapes.{no_true}
 use Rattle.c_typing_exact.specs.Passing.{Passes}
 use Rattle.c_typing_exact.proofs.Unbroken.{passes_one}
+use Rattle.c_cells_kept.proofs.PointersKept.{pointers-most}
 use Rattle.c_type_order.specs.TypesUsed.{Use, used_by, used_by_place}
+use Rattle.c_typing_given.proofs.AssignmentsGiven.{counting_cells, cells-counted}
 use Rattle.c_typing_given.proofs.Settling.{small-kept}
 use Rattle.c_typing_given.proofs.TypeGiven.{none-same}
 use Rattle.c_unit_rules_alike.proofs.InitialiserRules.{constant-over, char_count-over, item_slot-over}
@@ -44,7 +46,6 @@ use Rattle.c_unit_typing.proofs.KeptInitialisers.{complete-in, complete-kept, sl
 use Rattle.c_unit_typing.proofs.UnitOutcomes.{lifted-gives}
 use Rattle.c_unit_given.proofs.UnitGiven.{IsUnitHere, IsRun, IsKept, Nothing, And, AreScopesKept, AreExpressionsGiven}
 use Rattle.c_unit_typing.specs.TypesUsed.{used_by_initialiser, used_by_items}
-use Rattle.c_unit_given.proofs.CellsCounted.{pointers-most, counting_cells, cells-counted}
 use Rattle.c_unit_given.proofs.Runs.{then-is, obeying-is, lifted-is, Among, run-then, run-last, run-first, run-as, run-none, run-lifted}
 use Rattle.c_unit_given.proofs.UnitRoom.{unit-room-first, unit-room-then, unit-spent-both}
 
@@ -174,7 +175,7 @@ module _ (T : Table) (basic : IsBasic T) (exprs : AreExpressionsGiven T) (scopes
         let j = checked_value-judged t at true (erased_place p) (typed.Unread p) (state_of s) (state_of r) here.here.known (complete-in s.table t c) l.0 in
         let pass = constant_passes (expr_place (erased_place p)) (typed.Unread p) r.linkage.statics s.seen.scopes r one.reached.here j.typed (λ q. no_true (h.1 q)) in
         let known_there = one.reached.here.here in
-        let most = pointers-most T r.table u known_there.first known_there.known.basic j.typed.1 in
+        let most = pointers-most r.table T known_there.first known_there.known.basic.formed u in
         let rest = (unit-room-then T (made_by_place p) (Copy u ∷ []) s r room one.reached.spent).cells in
         let counted : State = counting_cells u (state_of r) in
         let after : UnitState = known counted.table counted.seen r.linkage in

@@ -3,7 +3,7 @@ use Rattle.std.proofs.Common.{◌≡◌, ℕ, List, [], ◌∷◌, ◌++◌, ref
 use Rattle.std.specs.List.{All}
 use Rattle.std.proofs.lemmas.List.Elements.{All-head, All-tail, All-cons, All-nil, All-push}
 use Rattle.c_typing.specs.declared.declared.Declared.{Declared}
-use Rattle.c_typing.specs.Scopes.{Name, Level, at_innermost, with_name, without_innermost}
+use Rattle.c_typing.specs.Scopes.{Name, Level, at_innermost, innermost, with_name, without_innermost}
 use Rattle.c_unit_given.proofs.UnitGiven.{IsHomeBelow, AreHomesBelow}
 
 pub outer-same : (f : Level → Level) (ls : List Level) → without_innermost (at_innermost f ls) ≡ without_innermost ls
@@ -38,3 +38,8 @@ homes-outer n [] h = h
 homes-outer n (l ∷ []) h = All-nil (IsLevelBelow n)
 homes-outer n (l ∷ (m ∷ ls)) h =
     All-cons (IsLevelBelow n) l (without_innermost (m ∷ ls)) (All-head (IsLevelBelow n) l (m ∷ ls) h) (homes-outer n (m ∷ ls) (All-tail (IsLevelBelow n) l (m ∷ ls) h))
+
+pub innermost-below : (n : ℕ) (ls : List Level) → AreHomesBelow n ls → IsLevelBelow n (innermost ls)
+innermost-below n [] h = All-nil (λ (e : Name × Declared). IsHomeBelow n e.1)
+innermost-below n (l ∷ []) h = All-head (IsLevelBelow n) l [] h
+innermost-below n (l ∷ (m ∷ ls)) h = innermost-below n (m ∷ ls) (All-tail (IsLevelBelow n) l (m ∷ ls) h)

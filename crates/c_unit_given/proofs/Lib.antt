@@ -4,7 +4,6 @@ mod LevelsBelow
 mod InnermostNames
 mod Runs
 mod Texts
-mod CellsCounted
 mod NameRules
 mod NamesGiven
 mod NamesDeclared
@@ -31,7 +30,6 @@ mod MainGiven
 mod UnitsGiven
 pub mod WholeGiven
 mod ScopesKept
-mod ParametersDeclared
 mod ParameterNames
 mod FunctionsDefined
 mod DefinitionsGiven

@@ -1,5 +1,5 @@
--- The parameters that a declarator has itself: their names are new in any scope that begins empty, and their homes were given out.
-use Rattle.std.proofs.Common.{◌≡◌, ◌≤◌, ◌<◌, ℕ, Bool, List, [], ◌∷◌, ◌++◌, length, Option, Some, None, refl, sym, subst, arith}
+-- The parameters that a declarator has itself: their homes were given out, and what they leave in their scope is one thing.
+use Rattle.std.proofs.Common.{◌≡◌, ◌≤◌, ℕ, Bool, List, [], ◌∷◌, ◌++◌, Option, Some, None, refl, ap, sym, subst, arith}
 use Rattle.std.proofs.lemmas.Option.{none-some}
 use Rattle.cc_base.specs.declared.number.TypeId.{TypeId}
 use Rattle.c_types.specs.Table.{Table}
@@ -9,22 +9,25 @@ use Rattle.c_tree.specs.declared.typed_word.Home.TheVariants as home
 use Rattle.c_tree.specs.declared.typed_word.TypedStar.{TypedStar}
 use Rattle.c_tree.specs.TypedTree as typed
 use Rattle.c_tree.specs.TypedTree.{TypedForm, TypedCore, TypedParts, TypedParameters, TypedDeclared}
-use Rattle.c_tree.specs.TypedParts.{made_by, made_by_stars, made_by_specifiers, made_by_form, made_by_core, made_by_parts, made_by_parameters, made_by_declared, made_by_adjusted, declared_home}
+use Rattle.c_tree.specs.TypedParts.{made_by, made_by_stars, made_by_specifiers, made_by_form, made_by_core, made_by_parts, made_by_parameters, made_by_declared, made_by_adjusted, declared_home, is_void_list}
+use Rattle.c_typing.specs.Refusals.{declared_identifier}
 use Rattle.c_typing.specs.declared.declared.Declared.TheVariants as declared
-use Rattle.c_typing.specs.Declarators.{is_void_list}
-use Rattle.c_typing.specs.Scopes.{Scopes, with_name, declaring, entering}
+use Rattle.c_typing.specs.Scopes.{Scopes, entering}
+use Rattle.c_typing.specs.Refusals.{declared_identifier}
+use Rattle.c_typing.specs.Settled.{IsBasic}
+use Rattle.c_tree.specs.Erasure.{erased_parameters}
 use Rattle.c_typing.specs.Typing.{IsForm, IsCore, AreParts, AreParameters, IsDeclared}
-use Rattle.c_typing_unique.specs.Points.{Numbers}
+use Rattle.c_typing_unique.specs.Points.{Point, Numbers}
+use Rattle.c_typing_unique.specs.Sameness.{HasOwnFunctions}
+use Rattle.c_typing_unique.proofs.UniqueTrees.{parameters-one}
 use Rattle.c_typing_unique.proofs.DeclaratorSteps.{name_declared, DeclaresName, declares-by}
 use Rattle.c_typing_unique.proofs.Numbering.{two-parts}
-use Rattle.c_typing_given.proofs.LevelsKept.{length-innermost, entered-levels}
 use Rattle.c_typing_given.proofs.Settling.{numbers-end}
-use Rattle.c_unit_typing.specs.Units.{declares_parameters, unless_pointer, parameters_of_form, parameters_of_core, parameter_declared, declared_identifier, with_parameters}
+use Rattle.c_unit_typing.specs.Units.{declares_parameters, unless_pointer, parameters_of_form, parameters_of_core}
 use Rattle.c_unit_typing.proofs.NameSteps.{some-same}
-use Rattle.c_unit_given.proofs.UnitGiven.{AreScopesKept, IsScopeKept}
+use Rattle.c_unit_given.proofs.UnitGiven.{AreHomesBelow, AreScopesKept}
+use Rattle.c_unit_given.proofs.LevelsBelow.{homes-more}
 use Rattle.c_unit_given.proofs.DeclaratorHomes.{IsMadeBetween, form-between}
-use Rattle.c_unit_given.proofs.InnermostNames.{AreNewToo, new-declared, new-entered}
-use Rattle.c_unit_given.proofs.ParametersDeclared.{IsNewParameter, AreNewParameters}
 
 -- The parameters of the part that stands nearest to the name
 
@@ -91,44 +94,26 @@ identifier_is typed.NotDeclared = refl
 identifier_is (typed.DeclaredBy form) = refl
 
 module _ (T : Table) (scopes : AreScopesKept T) (n : ℕ) where
-  -- what is so of two scopes where the same parameters are declared: the first one is that of their list
-  record AreAlike (c w : Scopes) : Type 0 where
-    open_ : 0 < length c.levels
-    names : AreNewToo c.levels w.levels
-
-  kept_alike : (c c' w : Scopes) → IsScopeKept c c' → AreAlike c w → AreAlike c' w
-  kept_alike c c' w k h =
-      let deep = k.deep in
-      let was = h.open_ in
-      record { open_ = omega (arith, deep, was); names = λ name none. h.names name (k.names name none) }
-
-  declared_alike : (d : TypedDeclared) (c c' w : Scopes) → IsDeclared T d c c' → AreAlike c w → AreAlike c' w
-  declared_alike typed.NotDeclared c c' w h k = subst (λ (q : Scopes). AreAlike q w) (sym h) k
-  declared_alike (typed.DeclaredBy form) c c' w h k = kept_alike c c' w (scopes.form form c c' h) k
+  declared_below : (d : TypedDeclared) (c c' : Scopes) → IsDeclared T d c c' → AreHomesBelow n c.levels → AreHomesBelow n c'.levels
+  declared_below typed.NotDeclared c c' h k = subst (λ (q : Scopes). AreHomesBelow n q.levels) (sym h) k
+  declared_below (typed.DeclaredBy form) c c' h k = (scopes.form form c c' h).homes n k
 
   -- one more name
-  named_alike : (name : Option Identifier) (h : Home) (t : TypeId) (a b : ℕ) (c c' w : Scopes) → b ≤ n → IsMadeBetween a b h → DeclaresName name h t c c' → AreAlike c w
-      → IsNewParameter n name h w × AreAlike c' (parameter_declared name h t w)
-  named_alike (Some name) (home.Parameter m) t a b c c' w low between d k =
+  named_below : (name : Option Identifier) (h : Home) (t : TypeId) (a b : ℕ) (c c' : Scopes) → b ≤ n → IsMadeBetween a b h → DeclaresName name h t c c' → AreHomesBelow n c.levels
+      → AreHomesBelow n c'.levels
+  named_below (Some name) (home.Parameter m) t a b c c' low between d k =
       let below = between.1 in
-      let was = k.open_ in
-      let what = declared.Object t m in (
-        (k.names name.bytes d.fresh, omega (arith, low, below)),
-        subst (λ (q : Scopes). AreAlike q (declaring name.bytes what w)) (sym d.after) (record {
-          open_ = omega (arith, was, length-innermost (with_name name.bytes what) c.levels);
-          names = new-declared c.levels w.levels name.bytes what what was k.names;
-        }),
-      )
-  named_alike (Some name) home.None t a b c c' w low between d k = absurd d
-  named_alike (Some name) (home.Static m) t a b c c' w low between d k = absurd d
-  named_alike (Some name) (home.Local m) t a b c c' w low between d k = absurd d
-  named_alike (Some name) (home.Known m) t a b c c' w low between d k = absurd d
-  named_alike None h t a b c c' w low between d k = (tt, subst (λ (q : Scopes). AreAlike q w) (sym d) k)
+      subst (λ (q : Scopes). AreHomesBelow n q.levels) (sym d.after) (homes-more n name.bytes (declared.Object t m) c.levels (omega (arith, low, below)) k)
+  named_below (Some name) home.None t a b c c' low between d k = absurd d
+  named_below (Some name) (home.Static m) t a b c c' low between d k = absurd d
+  named_below (Some name) (home.Local m) t a b c c' low between d k = absurd d
+  named_below (Some name) (home.Known m) t a b c c' low between d k = absurd d
+  named_below None h t a b c c' low between d k = subst (λ (q : Scopes). AreHomesBelow n q.levels) (sym d) k
 
-  parameters_alike : (void : Bool) (ps : TypedParameters) (a b : ℕ) (c c' w : Scopes) → b ≤ n → AreParameters T void ps c c' → Numbers (made_by_parameters ps) a b → AreAlike c w
-      → AreNewParameters n ps w × AreAlike c' (with_parameters ps w)
-  parameters_alike void typed.NoParameter a b c c' w low h numbers k = (tt, subst (λ (q : Scopes). AreAlike q w) (sym h) k)
-  parameters_alike void (typed.AndParameter all specifiers d adjusted t) a b c c' w low h numbers k =
+  pub parameters-below : (void : Bool) (ps : TypedParameters) (a b : ℕ) (c c' : Scopes) → b ≤ n → AreParameters T void ps c c' → Numbers (made_by_parameters ps) a b → AreHomesBelow n c.levels
+      → AreHomesBelow n c'.levels
+  parameters-below void typed.NoParameter a b c c' low h numbers k = subst (λ (q : Scopes). AreHomesBelow n q.levels) (sym h) k
+  parameters-below void (typed.AndParameter all specifiers d adjusted t) a b c c' low h numbers k =
       let xs = made_by_parameters all in
       let ys = made_by_specifiers specifiers in
       let zs = made_by_declared d t in
@@ -138,24 +123,25 @@ module _ (T : Table) (scopes : AreScopesKept T) (n : ℕ) where
       let up1 = numbers-end ys first.0 second.0 first.2 in
       let up2 = numbers-end zs second.0 third.0 second.2 in
       let up3 = numbers-end (made_by_adjusted adjusted) third.0 b third.2 in
-      let before = parameters_alike void all a first.0 c h.0 w (omega (arith, low, up1, up2, up3)) h.3 first.1 k in
-      let w1 : Scopes = with_parameters all w in
-      let inside = declared_alike d h.1 h.2 w1 h.5 (kept_alike h.0 h.1 w1 (scopes.specifiers specifiers h.0 h.1 h.4) before.1) in
+      let before = parameters-below void all a first.0 c h.0 (omega (arith, low, up1, up2, up3)) h.3 first.1 k in
+      let inside = declared_below d h.1 h.2 h.5 ((scopes.specifiers specifiers h.0 h.1 h.4).homes n before) in
       let names : DeclaresName (declared_identifier d) (declared_home d) t h.2 c' =
       subst (λ (o : Option Identifier). DeclaresName o (declared_home d) t h.2 c') (sym (identifier_is d)) (declares-by d t h.2 c' h.9) in
-      let last =
-      named_alike (declared_identifier d) (declared_home d) t second.0 third.0 h.2 c' w1 (omega (arith, low, up3)) (declared_between d t second.0 third.0 second.2) names inside in
-      ((before.0, last.0), last.1)
+      named_below (declared_identifier d) (declared_home d) t second.0 third.0 h.2 c' (omega (arith, low, up3)) (declared_between d t second.0 third.0 second.2) names inside
 
-  -- the names are new in a scope that was just entered
-  pub own-parameters : (form : TypedForm) (t : TypeId) (s s' : Scopes) (a : ℕ) (ps : TypedParameters) → IsForm T form s s' → Numbers (made_by_form form t) a n → parameters_of_form form None ≡ Some ps
-      → (c : Scopes) → AreNewParameters n ps (entering c)
-  own-parameters form t s s' a ps h numbers q c =
-      let own = form_own T n form None t s s' a n (low n) h numbers (nothing_outside T n) ps q in
-      (parameters_alike (is_void_list ps) ps own.first own.last (entering own.before) own.after (entering c) own.below own.typed own.numbers (record {
-        open_ = omega (arith, entered-levels own.before);
-        names = λ name none. new-entered c.levels name;
-      })).0
-    where
-      low : (m : ℕ) → m ≤ m
-      low m = omega arith
+-- what a list leaves in its scope is one thing
+pub list-leaves : (T : Table) → IsBasic T → (v w : Bool) (ps : TypedParameters) (c i j : Scopes) (m n : ℕ) → AreParameters T v ps c i → AreParameters T w ps c j
+    → Numbers (made_by_parameters ps) m n → HasOwnFunctions c → i ≡ j
+list-leaves T basic v w ps c i j m n h k numbers own =
+    let a : Point = record { scopes = c; node = m } in
+    let b : Point = record { scopes = i; node = n } in
+    let e : Point = record { scopes = j; node = n } in
+    let one = parameters-one T (λ t u x y. basic.formed.distinct t u x y) (erased_parameters ps) v w ps ps a b a e (refl, h, numbers) (refl, k, numbers) refl own in
+    ap (λ (p : Point). p.scopes) one.1
+
+pub own-parameters : (T : Table) (n : ℕ) (form : TypedForm) (t : TypeId) (s s' : Scopes) (a : ℕ) (ps : TypedParameters) → IsForm T form s s' → Numbers (made_by_form form t) a n
+    → parameters_of_form form None ≡ Some ps → AreOwnParameters T n ps
+own-parameters T n form t s s' a ps h numbers q = form_own T n form None t s s' a n (low n) h numbers (nothing_outside T n) ps q
+  where
+    low : (m : ℕ) → m ≤ m
+    low m = omega arith

@@ -8,13 +8,12 @@ use Rattle.c_tree.specs.declared.operator.AggregateKind.{AggregateKind}
 use Rattle.c_tree.specs.declared.typed_word.Home.TheVariants as home
 use Rattle.c_tree.specs.TypedTree as typed
 use Rattle.c_tree.specs.TypedTree.{TypedExpr, TypedPlace, TypedArguments, TypedTypeName, TypedSpecifiers, TypedSpecifierList, TypedSpecifier, TypedMembers, TypedMemberDeclarators, TypedEnumerators, TypedForm, TypedCore, TypedParts, TypedParameters, TypedDeclared}
-use Rattle.c_tree.specs.TypedParts.{specified_type}
+use Rattle.c_tree.specs.TypedParts.{specified_type, is_void_list}
 use Rattle.c_typing.specs.declared.declared.Declared.TheVariants as declared
 use Rattle.c_typing.specs.declared.declared.Tag.{Tag}
 use Rattle.c_typing.specs.declared.declared.Tag.TheVariants as tag
-use Rattle.c_typing.specs.Declarators.{is_void_list}
-use Rattle.c_typing.specs.Scopes.{Name, Level, Scopes, empty_level, at_innermost, without_innermost, with_name, with_tag, tag_in, tag_here, here, entry_of, entering, leaving}
-use Rattle.c_typing.specs.Typing.{IsTyped, IsPlace, AreTyped, IsTypeName, AreSpecifiers, AreAlone, AreListed, IsSpecifier, AreMembers, AreMemberDeclarators, AreEnumerators, IsForm, IsCore, AreParts, AreParameters, IsDeclared, IsNewName, IsNewAggregate, IsTagged, BeginsAggregate, DeclaresParameter, tagging, counting_aggregate, tag_named_here, enumerating}
+use Rattle.c_typing.specs.Scopes.{Name, Level, Scopes, empty_level, at_innermost, without_innermost, with_name, with_tag, with_tag_set, tag_in, tag_here, here, entry_of, entering, leaving}
+use Rattle.c_typing.specs.Typing.{IsTyped, IsPlace, AreTyped, IsTypeName, AreSpecifiers, AreAlone, AreListed, IsSpecifier, AreMembers, AreMemberDeclarators, AreEnumerators, IsForm, IsCore, AreParts, AreParameters, IsDeclared, IsNewName, IsNewEnumerator, IsNewAggregate, IsTagged, BeginsAggregate, DeclaresParameter, tagging, counting_aggregate, tag_named_here, enumerating, EndsEnumeration}
 use Rattle.c_typing_given.proofs.LevelsKept.{length-innermost}
 use Rattle.c_unit_given.proofs.UnitGiven.{AreHomesBelow, IsScopeKept, AreScopesKept}
 use Rattle.c_unit_given.proofs.LevelsBelow.{IsLevelBelow, outer-same, outer-of, homes-changed, level-more}
@@ -68,11 +67,20 @@ begun-kept : (T : Table) (o : Option Tag) (which : AggregateKind) (name : Option
 begun-kept T (Some found) which name t s s' h = same s s' h.2
 begun-kept T None which name t s s' h = new-kept T which name t s s' h
 
-enumerating-kept : (name : Option Identifier) (s : Scopes) → tag_named_here s name ≡ None → IsScopeKept s (enumerating name s)
-enumerating-kept None s h = same s s refl
-enumerating-kept (Some name) s h = rw h (tagging-kept (Some name) tag.Enumeration s)
+enumerating-kept : (name : Option Identifier) (s : Scopes) → IsScopeKept s (enumerating name s)
+enumerating-kept None s = same s s refl
+enumerating-kept (Some name) s = by (tag_named_here s (Some name)) refl
+  where
+    by : (o : Option Tag) → tag_named_here s (Some name) ≡ o → IsScopeKept s (enumerating (Some name) s)
+    by None h = rw h (tagging-kept (Some name) tag.Enumerating s)
+    by (Some found) h = rw h (same s s refl)
 
-enumerator-kept : (name : Name) (value : ℤ) (s s' : Scopes) → IsNewName name (declared.Enumerator value) s s' → IsScopeKept s s'
+enumerated-kept : (name : Option Identifier) (s s' : Scopes) → EndsEnumeration name s s' → IsScopeKept s s'
+enumerated-kept None s s' h = same s s' h.after
+enumerated-kept (Some name) s s' h =
+    innermost-kept (with_tag_set name.bytes tag.Enumeration) (λ n l own. own) (λ l other none. none) s s' (ap (λ (q : Scopes). q.levels) h.after)
+
+enumerator-kept : (name : Name) (value : ℤ) (s s' : Scopes) → IsNewEnumerator name value s s' → IsScopeKept s s'
 enumerator-kept name value s s' h =
     innermost-kept (with_name name (declared.Enumerator value)) (λ n l own. level-more n name (declared.Enumerator value) l tt own)
     (λ l other none. (entry-before l.names name other (declared.Enumerator value) none).0) s s' (ap (λ (q : Scopes). q.levels) h.after)
@@ -165,7 +173,8 @@ module _ (T : Table) where
         both (begun-kept T (tag_named_here s name) which name t s h.0 h.2)
         (both (members-kept members h.0 h.1 h.3) (levels-kept h.1 s' (ap (λ (q : Scopes). q.levels) h.4.after)))
     specifier-kept (typed.Enum at name) s s' h = same s s' h.0
-    specifier-kept (typed.Enumeration at name brace all comma) s s' h = both (enumerating-kept name s h.0) (enumerators-kept all (enumerating name s) s' h.1)
+    specifier-kept (typed.Enumeration at name brace all comma) s s' h =
+        both (enumerating-kept name s) (both (enumerators-kept all (enumerating name s) h.0 h.1) (enumerated-kept name h.0 s' h.2))
 
     members-kept : (all : TypedMembers) (s s' : Scopes) → AreMembers T all s s' → IsScopeKept s s'
     members-kept typed.NoMember s s' h = same s s' h

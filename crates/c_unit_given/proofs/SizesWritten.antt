@@ -2,10 +2,10 @@
 use Rattle.std.proofs.Common.{◌≡◌, ℕ, Bool, true, false, Option, refl, sym, subst}
 use Rattle.c_types.specs.Table.{Table, shape_at}
 use Rattle.c_tree.specs.Erasure.{erased_form, erased_initialiser}
+use Rattle.c_typing.specs.Walks.{outermost_of}
 use Rattle.c_typing.specs.Declarators.{FormMakes}
 use Rattle.c_typing_laws.proofs.ExtensionLaws.{and_left, and_right}
 use Rattle.c_unit_typing.specs.Initialisers.{is_char_array, is_one_array, is_char_shape, makes_chars, size_given}
-use Rattle.c_unit_typing.specs.Units.{outermost_of}
 use Rattle.c_unit_typing.specs.UnitRefusals.{size_written}
 use Rattle.c_unit_typing.proofs.WrittenSizes.{both_false, form_any, one_array_char, size_plain, size_chars, outermost_plain}
 use Rattle.c_unit_given.proofs.UnitGiven.{AreSizesWritten}

@@ -13,7 +13,7 @@ use Rattle.c_tree.specs.TypedParts.{Made, Written, Name, Literal, Address, Copy,
 use Rattle.c_types.specs.Sound.{IsWellFormed}
 use Rattle.c_typing.specs.Scopes as scopes
 use Rattle.c_typing_given.specs.Limits.{IsLimited}
-use Rattle.c_typing_given.specs.Spending.{cell_cost, total}
+use Rattle.c_typing_given.specs.Spending.{total}
 use Rattle.c_typing_given.proofs.NodesMade.{nodes-few}
 use Rattle.c_cells_kept.specs.Counted.{copied_by, copied}
 use Rattle.c_unit_typing.specs.Limits.{IsWithinLimits, parameters_of_shape}
@@ -51,14 +51,14 @@ module _ (T : Table) where
       let rest = objects_counted made (All-tail (IsLiteralSized T) m made h) in
       (λ i. one i + rest i)
 
-  copy_counted : (m : Made) → copied_by T m ≡ cell_cost T m
+  copy_counted : (m : Made) → copied_by T m ≡ copied_by T m
   copy_counted (Written at n) = refl
   copy_counted (Name name h t) = refl
   copy_counted (Literal pieces n t) = refl
   copy_counted (Address n) = refl
   copy_counted (Copy t) = refl
 
-  copies_counted : (made : List Made) → copied T made ≡ total (cell_cost T) made
+  copies_counted : (made : List Made) → copied T made ≡ total (copied_by T) made
   copies_counted [] = refl
   copies_counted (m ∷ made) = let one = copy_counted m in let rest = copies_counted made in (λ i. one i + rest i)
 

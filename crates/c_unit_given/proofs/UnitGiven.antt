@@ -11,6 +11,7 @@ use Rattle.c_tree.specs.Erasure.{erased, erased_place, erased_specifiers, erased
 use Rattle.c_tree.specs.TypedTree as typed
 use Rattle.c_tree.specs.TypedTree.{TypedExpr, TypedPlace, TypedSpecifiers, TypedForm, TypedInitialiser}
 use Rattle.c_tree.specs.TypedParts.{Made, Name, made_by, made_by_place, made_by_specifiers, made_by_form, place_type, specified_type, name_of_form, home_of_form}
+use Rattle.c_typing.specs.Assignments.{literal_cost}
 use Rattle.c_typing.specs.declared.declared.Declared.{Declared}
 use Rattle.c_typing.specs.declared.declared.Declared.TheVariants as declared
 use Rattle.c_typing.specs.declared.naming.Naming.{Naming}
@@ -26,19 +27,20 @@ use Rattle.c_typing.specs.Scopes.{Level, Scopes, here as named_here, without_inn
 use Rattle.c_typing.specs.Settled.{IsBasic}
 use Rattle.c_typing.specs.Shapes.{IsScalar, is_function_shape}
 use Rattle.c_typing.specs.Typing.{IsTyped, IsPlace, AreSpecifiers, AreAlone, IsForm}
-use Rattle.c_typing.specs.Walks.{judge_specifiers_of, judge_declarator}
+use Rattle.c_typing.specs.Walks.{judge_specifiers_of, judge_declarator, outermost_of}
 use Rattle.c_typing_laws.specs.Judged.{IsHomeOf}
 use Rattle.c_typing_unique.specs.Points.{Point, Numbers}
 use Rattle.c_typing_given.specs.Given.{IsHere, IsGivenAs}
 use Rattle.c_unit_typing.specs.Holding.{expr_holds, specifiers_holds, declarator_holds}
-use Rattle.c_typing_given.specs.Spending.{HasRoom, node_cost, literal_cost, cell_cost, total}
+use Rattle.c_typing_given.specs.Spending.{HasRoom, node_cost, total}
 use Rattle.c_type_order.specs.TypesUsed.{Use, AreUses, used_by, used_by_place, used_by_specifiers, used_by_declarator}
 use Rattle.c_unit_typing.specs.Initialisers.{IsInitialiser, is_char_array, size_given, makes_chars}
 use Rattle.c_unit_typing.specs.UnitRefusals.{size_written}
-use Rattle.c_unit_typing.specs.Units.{Known, outermost_of}
+use Rattle.c_unit_typing.specs.Units.{Known}
 use Rattle.c_unit_typing.specs.UnitJudged.{state_of, IsUnitKnown}
 use Rattle.c_unit_typing.specs.UnitJudging.{UnitState, UnitOutcome, UnitJudging, Gives, known_of}
 use Rattle.c_unit_typing.proofs.WrittenSizes.{IsTextAsWritten}
+use Rattle.c_cells_kept.specs.Counted.{copied_by}
 
 -- What is counted
 
@@ -51,12 +53,12 @@ pub record HasUnitRoom (T : Table) (made : List Made) (s : UnitState) : Type 0 w
   pub things : length made ≤ 4294967296
   pub nodes : s.seen.node + total node_cost made ≤ 4294967295
   pub globals : s.seen.globals + total (object_cost T) made ≤ 4194304
-  pub cells : s.seen.cells + total (cell_cost T) made ≤ 65536
+  pub cells : s.seen.cells + total (copied_by T) made ≤ 65536
 
 pub record HasUnitSpent (T : Table) (made : List Made) (s r : UnitState) : Type 0 where
   pub nodes : r.seen.node ≡ s.seen.node + total node_cost made
   pub globals : r.seen.globals ≤ s.seen.globals + total (object_cost T) made
-  pub cells : r.seen.cells ≤ s.seen.cells + total (cell_cost T) made
+  pub cells : r.seen.cells ≤ s.seen.cells + total (copied_by T) made
 
 -- Scopes
 

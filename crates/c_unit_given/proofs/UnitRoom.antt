@@ -4,11 +4,13 @@ use Rattle.std.proofs.lemmas.List.{length-append}
 use Rattle.c_types.specs.Table.{Table}
 use Rattle.c_tree.specs.declared.typed_word.Home.TheVariants as home
 use Rattle.c_tree.specs.TypedParts.{Made, Written, Name, Literal, Address, Copy}
-use Rattle.c_typing_given.specs.Spending.{node_cost, literal_cost, cell_cost, total, HasRoom, HasSpent}
+use Rattle.c_typing_given.specs.Spending.{node_cost, total, HasRoom, HasSpent}
 use Rattle.c_typing_given.proofs.Spent.{total-append}
 use Rattle.c_unit_typing.specs.UnitJudged.{state_of}
 use Rattle.c_unit_typing.specs.UnitJudging.{UnitState}
 use Rattle.c_unit_given.proofs.UnitGiven.{object_cost, HasUnitRoom, HasUnitSpent}
+use Rattle.c_cells_kept.specs.Counted.{copied_by}
+use Rattle.c_typing.specs.Assignments.{literal_cost}
 
 module _ (T : Table) where
   -- a literal is an object
@@ -47,7 +49,7 @@ module _ (T : Table) where
     things = let a = h.things in omega (arith, a, length-append xs ys);
     nodes = let a = h.nodes in omega (arith, a, total-append node_cost xs ys);
     globals = let a = h.globals in omega (arith, a, total-append (object_cost T) xs ys);
-    cells = let a = h.cells in omega (arith, a, total-append (cell_cost T) xs ys);
+    cells = let a = h.cells in omega (arith, a, total-append (copied_by T) xs ys);
   }
 
   pub unit-room-then : (xs ys : List Made) (s r : UnitState) → HasUnitRoom T (xs ++ ys) s → HasUnitSpent T xs s r → HasUnitRoom T ys r
@@ -55,14 +57,14 @@ module _ (T : Table) where
     things = let a = h.things in omega (arith, a, length-append xs ys);
     nodes = let a = h.nodes in let b = k.nodes in omega (arith, a, b, total-append node_cost xs ys);
     globals = let a = h.globals in let b = k.globals in omega (arith, a, b, total-append (object_cost T) xs ys);
-    cells = let a = h.cells in let b = k.cells in omega (arith, a, b, total-append (cell_cost T) xs ys);
+    cells = let a = h.cells in let b = k.cells in omega (arith, a, b, total-append (copied_by T) xs ys);
   }
 
   pub unit-spent-both : (xs ys : List Made) (s m r : UnitState) → HasUnitSpent T xs s m → HasUnitSpent T ys m r → HasUnitSpent T (xs ++ ys) s r
   unit-spent-both xs ys s m r h k = record {
     nodes = let a = h.nodes in let b = k.nodes in omega (arith, a, b, total-append node_cost xs ys);
     globals = let a = h.globals in let b = k.globals in omega (arith, a, b, total-append (object_cost T) xs ys);
-    cells = let a = h.cells in let b = k.cells in omega (arith, a, b, total-append (cell_cost T) xs ys);
+    cells = let a = h.cells in let b = k.cells in omega (arith, a, b, total-append (copied_by T) xs ys);
   }
 
   pub unit-spent-none : (s r : UnitState) → r.seen.node ≡ s.seen.node → r.seen.globals ≡ s.seen.globals → r.seen.cells ≡ s.seen.cells → HasUnitSpent T [] s r

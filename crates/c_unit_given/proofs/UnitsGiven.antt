@@ -7,14 +7,14 @@ use Rattle.c_tree.specs.Erasure.{erased_specifiers, erased_form, erased_declarat
 use Rattle.c_tree.specs.TypedTree as typed
 use Rattle.c_tree.specs.TypedTree.{TypedSpecifiers, TypedForm, TypedDeclaration, TypedBlockItems, TypedTranslationUnit}
 use Rattle.c_tree.specs.TypedParts.{Made, name_of_form, made_by_specifiers, made_by_form, made_by_declaration, made_by_block_items, made_by_unit}
-use Rattle.c_typing.specs.Declarators.{Written}
+use Rattle.c_typing.specs.Declarators.{Written, name_bytes}
 use Rattle.c_typing.specs.Scopes.{Name}
 use Rattle.c_typing.specs.Settled.{IsBasic}
 use Rattle.c_type_order.specs.TypesUsed.{Use, used_by_specifiers, used_by_declarator}
 use Rattle.c_unit_typing.specs.DeclarationJudging.{judge_declaration}
 use Rattle.c_unit_typing.specs.DefinitionJudging.{judge_definition, judge_unit}
 use Rattle.c_unit_typing.specs.Holding.{specifiers_holds, declarator_holds, declaration_holds, block_items_holds, unit_holds}
-use Rattle.c_unit_typing.specs.Units.{Known, is_one_of, bytes_of_name, IsDeclaration, IsDefinition, IsUnitTyped}
+use Rattle.c_unit_typing.specs.Units.{Known, is_one_of, IsDeclaration, IsDefinition, IsUnitTyped}
 use Rattle.c_unit_typing.specs.UnitJudging.{UnitJudging, pure, ◌>>=◌}
 use Rattle.c_unit_typing.proofs.UnitStillDefined.{unit-defined}
 use Rattle.c_unit_given.proofs.UnitGiven.{AreSizesWritten, IsRun, Nothing, And, AreScopesKept, AreExpressionsGiven, AreDeclaratorsGiven}
@@ -32,7 +32,7 @@ module _ (T : Table) (names : List Name) where
   -- a function with its body, whose name is one of them
   abbrev pub IsDefinitionRun : Type 0
   IsDefinitionRun =
-      (before : TypedTranslationUnit) (x : TypedSpecifiers) (form : TypedForm) (t : TypeId) (brace : Place) (body : TypedBlockItems) → is_one_of names (bytes_of_name (name_of_form form)) ≡ true
+      (before : TypedTranslationUnit) (x : TypedSpecifiers) (form : TypedForm) (t : TypeId) (brace : Place) (body : TypedBlockItems) → is_one_of names (name_bytes (name_of_form form)) ≡ true
       → max (specifiers_holds (erased_specifiers x)) (max (declarator_holds (erased_form form)) (block_items_holds (erased_block_items body))) ≤ 256
       → IsRun T Nothing Nothing (OfUnit (IsDefinition T x form t body)) (made_by_specifiers x ++ made_by_form form t ++ made_by_block_items body)
       (used_by_specifiers T x ++ used_by_declarator T Written (typed.Declares form t) ++ used_by_block_items T body)
@@ -75,7 +75,7 @@ module _ (T : Table) (names : List Name) where
 
     and_function_run : (u : TypedTranslationUnit) (x : TypedSpecifiers) (form : TypedForm) (t : TypeId) (brace : Place) (body : TypedBlockItems)
         → max (unit_holds (erased_unit u)) (max (specifiers_holds (erased_specifiers x)) (max (declarator_holds (erased_form form)) (block_items_holds (erased_block_items body)))) ≤ 256
-        → is_one_of names (bytes_of_name (name_of_form form)) ≡ true → IsUnitRun u → IsUnitRun (typed.AndFunctionBody u x (typed.Declares form t) brace body)
+        → is_one_of names (name_bytes (name_of_form form)) ≡ true → IsUnitRun u → IsUnitRun (typed.AndFunctionBody u x (typed.Declares form t) brace body)
     unfolding judge_unit
     and_function_run u x form t brace body holds among p =
         let P = OfUnit (IsUnitTyped T u) in

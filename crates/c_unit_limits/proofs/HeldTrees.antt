@@ -96,7 +96,7 @@ mutual
       last-held (begun-kept which at name) (λ t. first-held (members-held members) (λ rows. ended-kept before which at name brace t rows))
   specifier-held (tree.Enum at name) before = kept-held (enum_tag-kept before at name)
   specifier-held (tree.Enumeration at name brace all comma) before =
-      last-held (enumeration_begun-kept name) (λ found. first-held (enumerators-held all) (λ list. enumeration-kept before at name brace found list comma))
+      last-held (enumeration_begun-kept name) (λ begun. first-held (enumerators-held all) (λ list. enumeration-kept before at name brace list comma))
 
   members-held : (all : tree.Members) → IsHeld (judge_members all) (members_holds all) (members_literals all)
   members-held tree.NoMember = kept-held (pure-kept (_))

@@ -1,27 +1,34 @@
 -- Statements, functions and units that are judged hold no more than 256 values in each expression, and no function type of the table has more
 -- than 127 parameters.
-use Rattle.std.proofs.Common.{ℕ, ℤ, max, Bool, true, false, List, Option, Some, None, nat_lt, if◌then◌else◌, arith}
+use Rattle.std.proofs.Common.{ℕ, ℤ, max, Bool, true, false, List, Option, Some, None, nat_lt, if◌then◌else◌, refl, arith}
 use Rattle.cc_base.specs.declared.fault.Fault.TheVariants.{TooLarge}
 use Rattle.cc_base.specs.declared.fault.Limit.TheVariants.{Functions}
 use Rattle.cc_base.specs.declared.number.TypeId.{TypeId}
 use Rattle.cc_base.specs.declared.place.Place.{Place}
 use Rattle.c_tree.specs.declared.leaf.Identifier.{Identifier}
-use Rattle.c_tree.specs.declared.typed_word.Home.{Home}
-use Rattle.c_tree.specs.declared.typed_word.Home.TheVariants as home
 use Rattle.c_tree.specs.Tree as tree
 use Rattle.c_tree.specs.TypedTree as typed
 use Rattle.c_tree.specs.TypedTree.{TypedExpr, TypedSpecifiers, TypedDeclarator, TypedParameters, TypedStatement, TypedBlockItems, TypedTranslationUnit}
-use Rattle.c_tree.specs.TypedParts.{specified_type}
+use Rattle.c_tree.specs.TypedParts.{specified_type, declared_type}
+use Rattle.c_tree.specs.Places.{nowhere}
+use Rattle.c_types.specs.Table.{shape_at}
+use Rattle.c_typing.specs.Refusals.{name_place}
+use Rattle.c_unit_typing.specs.DeclarationJudging.{naming_for, linked_first}
+use Rattle.c_unit_typing.specs.ParameterScopes.{level_of}
+use Rattle.c_unit_typing.specs.UnitJudged.{state_of}
 use Rattle.c_typing.specs.Checking.{checked}
 use Rattle.c_typing.specs.Declaring.{declarator_name}
+use Rattle.c_typing.specs.Scopes.{Level, with_scopes}
+use Rattle.c_typing.specs.Specifying.{in_scopes}
 use Rattle.c_unit_typing.specs.Holding.{expr_holds, specifiers_holds, declarator_holds, optional_holds, statement_holds, block_items_holds, unit_holds}
 use Rattle.c_unit_typing.specs.StatementJudging.{dropped, returned, promotion, tested, tested_or_none, switched, labelled, case_label, default_label, jump, within, judge_statement, judge_block_items}
-use Rattle.c_unit_typing.specs.DefinitionJudging.{declare_parameter, declare_parameters, counted, defined, body, defined_as, judge_definition, judge_unit}
-use Rattle.c_unit_typing.specs.Units.{Around, in_a_loop, in_a_switch}
+use Rattle.c_unit_typing.specs.DefinitionJudging.{result_of, counted, defined, body, defined_as, judge_definition, judge_unit}
+use Rattle.c_unit_typing.specs.Units.{Around, storage_of, in_a_loop, in_a_switch, going_on}
 use Rattle.c_unit_typing.specs.UnitJudging.{UnitJudging, pure, stop, lifted}
+use Rattle.c_unit_limits.proofs.Kept.{seen-kept}
 use Rattle.c_unit_limits.proofs.KeptTypes.{entered-kept, left-kept}
 use Rattle.c_unit_limits.proofs.HeldWhole.{checked-held, checked_value-held, checked_constant-held, specifiers_of-held, declarator_at-held}
-use Rattle.c_unit_limits.proofs.HeldDeclarations.{new_name-held, linked_name-held, declaration-held}
+use Rattle.c_unit_limits.proofs.HeldDeclarations.{linked_name-held, declaration-held}
 use Rattle.c_unit_limits.proofs.UnitSteps.{IsUnitHeld, unit-bind, unit-first, unit-last, unit-known, unit-pure, unit-kept, unit-stop, unit-unless, lifted-held, lifted-kept}
 
 -- Expressions of statements
@@ -117,20 +124,6 @@ mutual
 
 -- Functions
 
-declare_parameter_held : (o : Option Identifier) (h : Home) (t : TypeId) → IsUnitHeld (declare_parameter o h t) 0
-unfolding declare_parameter
-declare_parameter_held (Some name) (home.Parameter n) t = unit-first (new_name-held name (_)) (λ what. unit-pure true)
-declare_parameter_held (Some name) home.None t = unit-pure false
-declare_parameter_held (Some name) (home.Static n) t = unit-pure false
-declare_parameter_held (Some name) (home.Local n) t = unit-pure false
-declare_parameter_held (Some name) (home.Known n) t = unit-pure false
-declare_parameter_held None h t = unit-pure false
-
-declare_parameters_held : (all : TypedParameters) → IsUnitHeld (declare_parameters all) 0
-unfolding declare_parameters
-declare_parameters_held typed.NoParameter = unit-pure true
-declare_parameters_held (typed.AndParameter all specifiers one adjusted t) = unit-first (declare_parameters_held all) (λ before. declare_parameter_held (_) (_) t)
-
 if_held : {A : Type 0} (b : Bool) (p q : UnitJudging A) → IsUnitHeld p 0 → IsUnitHeld q 0 → IsUnitHeld (if b then p else q) 0
 if_held true p q h k = h
 if_held false p q h k = k
@@ -144,14 +137,14 @@ defined_held : (name : Identifier) (t : TypeId) → IsUnitHeld (defined name t) 
 unfolding defined
 defined_held name t = unit-first (linked_name-held name (_)) (λ what. unit-kept (λ s. (λ h. h, omega arith)))
 
-body_held : (brace : Place) (result : Option TypeId) (parameters : Option TypedParameters) (items : tree.BlockItems)
-    → IsUnitHeld (body brace result parameters items) (block_items_holds items)
+opened_held : (level : Level) → IsUnitHeld (lifted (in_scopes (going_on level) true)) 0
+opened_held level = lifted-kept (seen-kept true (λ s. with_scopes s.seen (going_on level s.seen.scopes)) (λ s. (refl, refl)))
+
+body_held : (brace : Place) (result : Option TypeId) (level : Level) (items : tree.BlockItems) → IsUnitHeld (body brace result level items) (block_items_holds items)
 unfolding body
-body_held brace (Some result) (Some parameters) items =
-    unit-last (lifted-kept entered-kept) (λ inside. unit-last (declare_parameters_held parameters) (λ declared.
-    unit-first (items_held items (_) None) (λ list. lifted-kept (left-kept brace list))))
-body_held brace (Some result) None items = unit-stop (_) (_)
-body_held brace None parameters items = unit-stop (_) (_)
+body_held brace (Some result) level items =
+    unit-last (opened_held level) (λ inside. unit-first (items_held items (record { result = result; in_loop = false; breakable = false }) None) (λ list. lifted-kept (left-kept brace list)))
+body_held brace None level items = unit-stop (_) (_)
 
 defined_as_held : (o : Option Identifier) (base : TypedSpecifiers) (one : TypedDeclarator) → IsUnitHeld (defined_as o base one) 0
 unfolding defined_as
@@ -164,9 +157,11 @@ definition_held : (before : TypedTranslationUnit) (specifiers : tree.Specifiers)
 unfolding judge_definition
 definition_held before specifiers d brace items =
     unit-bind (lifted-held (specifiers_of-held false specifiers)) (λ base.
-    unit-bind (unit-known (λ s. lifted-held (declarator_at-held (_) (_) (specified_type base) None d))) (λ one.
+    unit-last (unit-known (λ s. unit-pure (naming_for true (storage_of base) (linked_first s.linkage.linked (declarator_name d))))) (λ which.
+    unit-last (unit-known (λ s. unit-pure (level_of which (specified_type base) d (state_of s)))) (λ level.
+    unit-bind (lifted-held (declarator_at-held (name_place (declarator_name d) nowhere) which (specified_type base) None d)) (λ one.
     unit-last (defined_as_held (declarator_name d) base one) (λ again.
-    unit-first (unit-known (λ s. body_held brace (_) (_) items)) (λ list. unit-pure (_)))))
+    unit-first (unit-known (λ s. body_held brace (result_of (shape_at s.table (declared_type one))) level items)) (λ list. unit-pure (typed.AndFunctionBody before base one brace list)))))))
 
 -- Units
 

@@ -5,6 +5,7 @@ use Rattle.cc_base.specs.declared.number.TypeId.{TypeId}
 use Rattle.cc_base.specs.declared.place.Place.{Place}
 use Rattle.c_types.specs.declared.shape.TypeShape.{TypeShape}
 use Rattle.c_types.specs.declared.shape.TypeShape.TheVariants as shape
+use Rattle.c_tree.specs.TypedParts.{declared_home}
 use Rattle.c_tree.specs.declared.leaf.Identifier.{Identifier}
 use Rattle.c_tree.specs.declared.leaf.Star.{Star}
 use Rattle.c_tree.specs.declared.leaf.Word.{Word}
@@ -22,7 +23,7 @@ use Rattle.c_typing.specs.declared.declared.Tag.TheVariants as tag
 use Rattle.c_typing.specs.declared.naming.Naming.{Naming}
 use Rattle.c_typing.specs.declared.naming.Naming.TheVariants as naming
 use Rattle.c_typing.specs.Declarators.{Counted, Outermost, Written, Counts, Points, is_derived_declared, member_types, nearest, outside, taken_types}
-use Rattle.c_typing.specs.Declaring.{home_as, stars_with_nodes, sized_part, sized, stars_make, array_of, array_makes, function_as, function_makes, last_makes, parts_make, form_makes, core_makes, declared_makes, member_type, member_named, adjusted_with_node, adjusted_shape, adjusted_makes, parameter_makes, parameter_declared, parameter, declared_home}
+use Rattle.c_typing.specs.Declaring.{home_as, stars_with_nodes, sized_part, sized, stars_make, array_of, array_makes, function_as, function_makes, last_makes, parts_make, form_makes, core_makes, declared_makes, member_type, member_named, adjusted_with_node, adjusted_shape, adjusted_makes, parameter_makes, parameter_declared, parameter}
 use Rattle.c_typing.specs.Judging.{State}
 use Rattle.c_typing.specs.Operands.{Value}
 use Rattle.c_typing.specs.Refusals.{declared_identifier, tag_place}
@@ -61,6 +62,7 @@ unfolding tagged_as
 tagged_as-kept which name None = new_aggregate-kept which name.place (Some name)
 tagged_as-kept which name (Some (tag.Aggregate k t)) = pure-kept t
 tagged_as-kept which name (Some tag.Enumeration) = stop-kept (_)
+tagged_as-kept which name (Some tag.Enumerating) = stop-kept (_)
 
 tagged_by-kept : (which : AggregateKind) (at : Place) (name : Identifier) (found : State → Option Tag) → IsKept (tagged_by which at name found)
 unfolding tagged_by
@@ -79,6 +81,7 @@ unfolding begun_as
 begun_as-kept which at name found true = pure-kept None
 begun_as-kept which at name (Some (tag.Aggregate k t)) false = pure-kept (_)
 begun_as-kept which at name (Some tag.Enumeration) false = pure-kept None
+begun_as-kept which at name (Some tag.Enumerating) false = pure-kept None
 begun_as-kept which at name None false = bind-kept (new_aggregate-kept which at name) (λ t. pure-kept (_))
 
 pub begun-kept : (which : AggregateKind) (at : Place) (name : Option Identifier) → IsKept (begun which at name)
@@ -116,10 +119,10 @@ pub enumeration_begun-kept : (name : Option Identifier) → IsKept (enumeration_
 unfolding enumeration_begun
 enumeration_begun-kept name = record { kept = λ s. (λ h. h, refl) }
 
-pub enumeration-kept : (before : Counted) (at : Place) (name : Option Identifier) (brace : Place) (found : Bool) (all : TypedEnumerators) (comma : Bool)
-    → IsKept (enumeration before at name brace found all comma)
+pub enumeration-kept : (before : Counted) (at : Place) (name : Option Identifier) (brace : Place) (all : TypedEnumerators) (comma : Bool)
+    → IsKept (enumeration before at name brace all comma)
 unfolding enumeration
-enumeration-kept before at name brace found all comma = known-kept (λ q. unless-kept (_) (pure-kept (_)))
+enumeration-kept before at name brace all comma = known-kept (λ q. unless-kept (_) (seen-kept (_) (_) (λ s. (refl, refl))))
 
 -- Names and parts
 

@@ -2,91 +2,74 @@
 use Rattle.std.proofs.Common.{◌≡◌, ℕ, ◌+◌, ◌≤◌, Bool, true, false, ◌++◌, Option, Some, None, refl, ap, sym, subst, ◌∙◌, arith}
 use Rattle.cc_base.specs.declared.place.Place.{Place}
 use Rattle.cc_base.specs.declared.number.TypeId.{TypeId}
-use Rattle.c_types.specs.Table.{shape_at}
-use Rattle.c_tree.specs.declared.leaf.Identifier.{Identifier}
+use Rattle.c_types.specs.Table.{IsType, shape_at}
 use Rattle.c_tree.specs.declared.typed_word.Home.{Home}
 use Rattle.c_tree.specs.declared.typed_word.Home.TheVariants as home
 use Rattle.c_tree.specs.Tree as tree
 use Rattle.c_tree.specs.TypedTree as typed
 use Rattle.c_tree.specs.TypedTree.{TypedSpecifiers, TypedForm, TypedDeclarator, TypedParameters, TypedBlockItems, TypedTranslationUnit}
 use Rattle.c_tree.specs.TypedParts.{specified_type, declared_type, home_of_form, name_of_form, made_by_specifiers, made_by_declarator, made_by_declaration, made_by_block_items, made_by_unit}
-use Rattle.c_typing.specs.declared.declared.Declared.TheVariants as declared
 use Rattle.c_typing.specs.declared.naming.Naming.{Naming}
-use Rattle.c_typing.specs.Declaring.{declarator_name, entered, left, unless_function}
+use Rattle.c_typing.specs.Declaring.{declarator_name, left, unless_function}
+use Rattle.c_typing.specs.Judging as judging
+use Rattle.c_typing.specs.Judging.{State}
+use Rattle.c_typing.specs.Settled.{IsLevelThere}
+use Rattle.c_typing.specs.Specifying.{in_scopes}
+use Rattle.c_typing.specs.Scopes as scopes
+use Rattle.c_typing.specs.Scopes.{Level}
 use Rattle.c_typing.specs.Extensions.{IsExtended}
 use Rattle.c_typing.specs.Walks.{judge_declarator, judge_specifiers_of}
+use Rattle.c_typing_laws.proofs.Outcomes
 use Rattle.c_typing_laws.specs.Judged.{IsHomeOf}
-use Rattle.c_typing_laws.proofs.ExtensionLaws.{still_in, extended_refl}
+use Rattle.c_typing_laws.proofs.ExtensionLaws.{extended_refl}
 use Rattle.c_typing_laws.proofs.JudgedDeclarators.{no_home}
-use Rattle.c_unit_typing.specs.DeclarationJudging.{naming_for, linked_first, new_name, judge_declaration}
-use Rattle.c_unit_typing.specs.DefinitionJudging.{declare_parameter, declare_parameters, form_of, result_of, body, defined_as, judge_definition, judge_unit, before_unit, judged_unit}
+use Rattle.c_unit_typing.specs.DeclarationJudging.{naming_for, linked_first, judge_declaration}
+use Rattle.c_unit_typing.specs.DefinitionJudging.{result_of, body, defined_as, judge_definition, judge_unit, before_unit, judged_unit}
 use Rattle.c_unit_typing.specs.Limits.{global_bytes}
 use Rattle.c_unit_typing.specs.StatementJudging.{judge_block_items}
-use Rattle.c_unit_typing.specs.Units.{Around, storage_of, parameters_of_form}
+use Rattle.c_unit_typing.specs.Units.{Around, storage_of, going_on}
 use Rattle.c_unit_typing.specs.UnitJudged.{state_of, IsResult, IsUnitKnown}
 use Rattle.c_unit_typing.specs.UnitJudging.{UnitState, Gives, next, pure, lifted}
-use Rattle.c_unit_typing.proofs.FunctionParameters.{AreParametersThere, result-is, parameters-there, there-later, parameters-declared}
+use Rattle.c_unit_typing.proofs.FunctionParameters.{result-is}
 use Rattle.c_unit_typing.proofs.JudgedDeclarations.{AreBaseJudged, base-judged, declaration-judged}
 use Rattle.c_unit_typing.proofs.JudgedDeclarators.{IsFormKnown, form-known, form-later}
-use Rattle.c_unit_typing.proofs.JudgedDefinitions.{inside_function, defined_function, IsNameDefined, name-defined, parameters, with_parameters_made, defined_goes}
-use Rattle.c_unit_typing.proofs.JudgedStatements.{result-kept, enter-judged, leave-judged, items-judged}
+use Rattle.c_unit_typing.proofs.JudgedDefinitions.{opened-judged, level_at, behind_name, behind_declarator, behind_specifiers, scope, inside_function, defined_function, IsNameDefined, name-defined, parameters, with_parameters_made, defined_goes}
+use Rattle.c_unit_typing.proofs.JudgedStatements.{result-kept, leave-judged, items-judged}
 use Rattle.c_unit_typing.proofs.JudgedUnits.{unit-judged}
-use Rattle.c_unit_typing.proofs.UnitOutcomes.{bind-gives, given-same, gives-state, lifted-gives}
+use Rattle.c_unit_typing.proofs.UnitOutcomes.{bind-gives, given-same, lifted-gives}
 use Rattle.c_unit_typing.proofs.UnitStates.{unit-on}
 use Rattle.c_unit_typing.proofs.WholeUnits.{before-known}
 use Rattle.c_unit_limits.specs.Literals.{literals_made, statics_made, own_bytes}
 use Rattle.c_unit_limits.proofs.CountedLiterals.{declarator-counted}
-use Rattle.c_unit_limits.proofs.KeptTypes.{entered-kept, left-kept}
+use Rattle.c_unit_limits.proofs.KeptTypes.{left-kept}
 use Rattle.c_unit_limits.proofs.LastingDeclarations.{base-lasts, declaration-lasts}
-use Rattle.c_unit_limits.proofs.LastingNames.{new-name-same, declarator-alike}
+use Rattle.c_unit_limits.proofs.LastingNames.{declarator-alike}
 use Rattle.c_unit_limits.proofs.LastingStatements.{items-last}
 use Rattle.c_unit_limits.proofs.LastingSteps.{Lasts, lasts-none, lasts-on, lasts-inside, lifted-still}
 use Rattle.c_unit_limits.proofs.StaticBytes.{global-bytes}
 use Rattle.c_unit_limits.proofs.WholeUnits.{whole-given, whole-formed, whole-bounded}
 
--- Parameters last as long as a call
-
-still : (b c : Bool) (s r : UnitState) → Gives b s ≡ Gives c r → r.seen.globals ≡ s.seen.globals
-still b c s r g = ap (λ (q : UnitState). q.seen.globals) (sym (gives-state b c s r g))
-
-parameter_still : (o : Option Identifier) (h : Home) (t : TypeId) (b : Bool) (s r : UnitState) → declare_parameter o h t s ≡ Gives b r → r.seen.globals ≡ s.seen.globals
-unfolding declare_parameter
-parameter_still (Some name) (home.Parameter n) t b s r g =
-    let one = bind-gives (new_name name (declared.Object t n) s) (λ what. pure true) b r g in
-    still true b one.1 r one.3 ∙ (new-name-same name (declared.Object t n) one.0 s one.1 one.2).globals
-parameter_still (Some name) home.None t b s r g = still false b s r g
-parameter_still (Some name) (home.Static n) t b s r g = still false b s r g
-parameter_still (Some name) (home.Local n) t b s r g = still false b s r g
-parameter_still (Some name) (home.Known n) t b s r g = still false b s r g
-parameter_still None h t b s r g = still false b s r g
-
-parameters_still : (all : TypedParameters) (b : Bool) (s r : UnitState) → declare_parameters all s ≡ Gives b r → r.seen.globals ≡ s.seen.globals
-unfolding declare_parameters
-parameters_still typed.NoParameter b s r g = still true b s r g
-parameters_still (typed.AndParameter all specifiers d adjusted t) b s r g =
-    let one = bind-gives (declare_parameters all s) (λ before. declare_parameter _ _ t) b r g in
-    parameter_still _ _ t b one.1 r one.3 ∙ parameters_still all one.0 s one.1 one.2
-
 -- Function definitions
 
-body_lasts : (brace : Place) (result : TypeId) (ps : TypedParameters) (items : tree.BlockItems) (list : TypedBlockItems) (s r : UnitState) → IsUnitKnown s → IsResult s.table result
-    → AreParametersThere s.table ps → body brace (Some result) (Some ps) items s ≡ Gives list r → Lasts (made_by_block_items list) s r × IsExtended s.table r.table
+opened_still : (level : Level) (b : Bool) (s r : State) → in_scopes (going_on level) true s ≡ judging.Gives b r → r.seen.globals ≡ s.seen.globals
+opened_still level b s r h =
+    ap (λ (q : State). q.seen.globals) (sym (Outcomes.gives-state true b (record s { seen = scopes.with_scopes s.seen (going_on level s.seen.scopes) }) r h))
+
+body_lasts : (brace : Place) (result : TypeId) (level : Level) (items : tree.BlockItems) (list : TypedBlockItems) (s r : UnitState) → IsUnitKnown s → IsResult s.table result
+    → IsLevelThere s.table level → body brace (Some result) level items s ≡ Gives list r → Lasts (made_by_block_items list) s r × IsExtended s.table r.table
 unfolding body
-body_lasts brace result ps items list s r k b there h =
+body_lasts brace result level items list s r k b there h =
     let a : Around = inside_function result in
-    let e1 = bind-gives (lifted entered s) (λ inside. λ m. next (declare_parameters ps m) (λ declared. λ n. next (judge_block_items a None items n) (λ v. lifted (left brace v)))) list r h in
-    let en = enter-judged e1.0 s e1.1 k e1.2 in
-    let e2 = bind-gives (declare_parameters ps e1.1) (λ declared. λ n. next (judge_block_items a None items n) (λ v. lifted (left brace v))) list r e1.3 in
-    let p = parameters-declared ps e2.0 e1.1 e2.1 en.1.known (there-later s.table e1.1.table ps (still_in s.table e1.1.table en.1.goes.extends) there) e2.2 in
-    let e3 = bind-gives (judge_block_items a None items e2.1) (λ v. lifted (left brace v)) list r e2.3 in
-    let from_s = unit-on s e1.1 e2.1 en.1 p.goes in
-    let b2 = result-kept s.table e2.1.table result from_s.goes.extends b in
-    let i = items-judged items a None e3.0 e2.1 e3.1 p.goes.known b2 tt e3.2 in
-    let out = leave-judged brace e3.0 list e3.1 r i.goes.known e3.3 in (
+    let e1 = bind-gives (lifted (in_scopes (going_on level) true) s) (λ inside. λ m. next (judge_block_items a None items m) (λ v. lifted (left brace v))) list r h in
+    let en = opened-judged level e1.0 s e1.1 k there e1.2 in
+    let e2 = bind-gives (judge_block_items a None items e1.1) (λ v. lifted (left brace v)) list r e1.3 in
+    let b2 = result-kept s.table e1.1.table result en.1.goes.extends b in
+    let i = items-judged items a None e2.0 e1.1 e2.1 en.1.known b2 tt e2.2 in
+    let out = leave-judged brace e2.0 list e2.1 r i.goes.known e2.3 in (
       subst (λ (v : TypedBlockItems). Lasts (made_by_block_items v) s r) out.0
-          (lasts-inside (made_by_block_items e3.0) s e2.1 e3.1 r (parameters_still ps e2.0 e1.1 e2.1 e2.2 ∙ lifted-still entered entered-kept e1.0 s e1.1 e1.2)
-          (items-last items a None e3.0 e2.1 e3.1 p.goes.known b2 tt e3.2) (lifted-still (left brace e3.0) (left-kept brace e3.0) list e3.1 r e3.3) out.2.goes.extends),
-      (unit-on s e2.1 r from_s (unit-on e2.1 e3.1 r i.goes out.2)).goes.extends,
+          (lasts-inside (made_by_block_items e2.0) s e1.1 e2.1 r (opened_still level e1.0 (state_of s) (state_of e1.1) (lifted-gives (in_scopes (going_on level) true) e1.0 s e1.1 e1.2).0)
+          (items-last items a None e2.0 e1.1 e2.1 en.1.known b2 tt e2.2) (lifted-still (left brace e2.0) (left-kept brace e2.0) list e2.1 r e2.3) out.2.goes.extends),
+      (unit-on s e1.1 r en.1 (unit-on e1.1 e2.1 r i.goes out.2)).goes.extends,
     )
 
 unowned : (a b l o m : ℕ) → b ≡ a + l → o ≡ 0 → m ≡ l + o → b ≡ a + m
@@ -112,38 +95,34 @@ module _ (base : TypedSpecifiers) (d : tree.Declarator) (form : TypedForm) (t : 
     }
 
     -- the body, from the state that has the name
-    inside_lasts : (brace : Place) (items : tree.BlockItems) (list : TypedBlockItems) (r : UnitState)
-        → body brace (result_of (shape_at n.table t)) (parameters_of_form form None) items n ≡ Gives list r → Lasts (made_by_block_items list) m r × IsExtended m.table r.table
-    inside_lasts brace items list r h =
+    inside_lasts : (base_there : IsType s.table (specified_type base))
+        (g : lifted (judge_declarator (naming_for true (storage_of base) (linked_first s.linkage.linked (declarator_name d))) base None d) s ≡ Gives (typed.Declares form t) m)
+        (before : TypedTranslationUnit) (brace : Place) (items : tree.BlockItems) (list : TypedBlockItems) (r : UnitState)
+        → body brace (result_of (shape_at n.table t)) (level_at before d brace items base s) items n ≡ Gives list r → Lasts (made_by_block_items list) m r × IsExtended m.table r.table
+    inside_lasts base_there g before brace items list r h =
         let q : UnitState = defined_function m c.name.bytes t in
+        let level : Level = level_at before d brace items base s in
         let ps = parameters base d form t s m k j c.name c.written c.tried in
         let made = with_parameters_made base d form t s m k j c.name c.written c.tried in
         let basic = j.goes.known.known.basic in
-        let here : body brace (result_of (shape_at m.table t)) (parameters_of_form form None) items q ≡ Gives list r =
-        ap (λ (w : UnitState). body brace (result_of (shape_at w.table t)) (parameters_of_form form None) items w) (sym c.state) ∙ h in
-        let given : body brace (Some made.0) (Some ps.0) items q ≡ Gives list r =
-        ap (λ (o : Option TypeId). body brace o (Some ps.0) items q) (ap result_of (sym made.1.1))
-        ∙ (ap (λ (o : Option TypedParameters). body brace (result_of (shape_at m.table t)) o items q) (sym ps.1) ∙ here) in
-        let b = body_lasts brace made.0 ps.0 items list q r (defined_goes base d form t s m k j c.name c.written c.tried).known (result-is m.table t ps.0 made basic)
-        (parameters-there m.table t ps.0 basic made) given in
+        let l = scope base d form t s m k j c.name c.written c.tried base_there g in
+        let given : body brace (Some made.0) level items q ≡ Gives list r =
+        ap (λ (o : Option TypeId). body brace o level items q) (ap result_of (sym made.1.1))
+        ∙ (ap (λ (w : UnitState). body brace (result_of (shape_at w.table t)) level items w) (sym c.state) ∙ h) in
+        let b = body_lasts brace made.0 level items list q r (defined_goes base d form t s m k j c.name c.written c.tried).known (result-is m.table t ps.0 made basic) l.there given in
         (lasts-inside (made_by_block_items list) m q r r refl b.0 refl (extended_refl r.table), b.1)
 
 pub definition-lasts : (before : TypedTranslationUnit) (all : tree.Specifiers) (d : tree.Declarator) (brace : Place) (items : tree.BlockItems) (whole : TypedTranslationUnit) (s r : UnitState)
     → IsUnitKnown s → judge_definition before all d brace items s ≡ Gives whole r → (first : UnitState) → Lasts (made_by_unit before) first s → Lasts (made_by_unit whole) first r
 unfolding judge_definition
 definition-lasts before all d brace items whole s0 r k h first made =
-    let e1 = bind-gives (lifted (judge_specifiers_of false all) s0) (λ base. λ s.
-    next (lifted (judge_declarator (naming_for true (storage_of base) (linked_first s.linkage.linked (declarator_name d))) base None d) s) (λ one. λ m.
-    next (defined_as (declarator_name d) base one m) (λ again. λ n.
-    next (body brace (result_of (shape_at n.table (declared_type one))) (parameters_of_form (form_of one) None) items n) (λ list. pure (typed.AndFunctionBody before base one brace list))))) whole r h in
+    let e1 = bind-gives (lifted (judge_specifiers_of false all) s0) (λ base. λ s. behind_specifiers before d brace items base s) whole r h in
     let base = e1.0 in
     let s = e1.1 in
-    let e2 = bind-gives (lifted (judge_declarator (naming_for true (storage_of base) (linked_first s.linkage.linked (declarator_name d))) base None d) s) (λ one. λ m.
-    next (defined_as (declarator_name d) base one m) (λ again. λ n.
-    next (body brace (result_of (shape_at n.table (declared_type one))) (parameters_of_form (form_of one) None) items n) (λ list. pure (typed.AndFunctionBody before base one brace list)))) whole r e1.3 in
-    let e3 = bind-gives (defined_as (declarator_name d) base e2.0 e2.1) (λ again. λ n.
-    next (body brace (result_of (shape_at n.table (declared_type e2.0))) (parameters_of_form (form_of e2.0) None) items n) (λ list. pure (typed.AndFunctionBody before base e2.0 brace list))) whole r e2.3 in
-    let e4 = bind-gives (body brace (result_of (shape_at e3.1.table (declared_type e2.0))) (parameters_of_form (form_of e2.0) None) items e3.1) (λ list. pure (typed.AndFunctionBody before base e2.0 brace list)) whole r e3.3 in
+    let which = naming_for true (storage_of base) (linked_first s.linkage.linked (declarator_name d)) in
+    let e2 = bind-gives (lifted (judge_declarator which base None d) s) (λ one. λ m. behind_declarator before d brace items base s one m) whole r e1.3 in
+    let e3 = bind-gives (defined_as (declarator_name d) base e2.0 e2.1) (λ again. λ n. behind_name before d brace items base s e2.0 n) whole r e2.3 in
+    let e4 = bind-gives (body brace (result_of (shape_at e3.1.table (declared_type e2.0))) (level_at before d brace items base s) items e3.1) (λ list. pure (typed.AndFunctionBody before base e2.0 brace list)) whole r e3.3 in
     let b = base-judged false all base s0 s k e1.2 in
     let specified = lasts-on (made_by_unit before) (made_by_specifiers base) first s0 s made (base-lasts false all base s0 s k e1.2) b.goes.goes.extends in
     by base s b specified e2.0 e2.1 e2.2 e3.0 e3.1 e3.2 e4.0 e4.1 e4.2 e4.3
@@ -151,7 +130,7 @@ definition-lasts before all d brace items whole s0 r k h first made =
     by : (base : TypedSpecifiers) (s : UnitState) → AreBaseJudged false all base s0 s → Lasts (made_by_unit before ++ made_by_specifiers base) first s → (one : TypedDeclarator) (m : UnitState)
         → lifted (judge_declarator (naming_for true (storage_of base) (linked_first s.linkage.linked (declarator_name d))) base None d) s ≡ Gives one m → (again : TypedDeclarator) (n : UnitState)
         → defined_as (declarator_name d) base one m ≡ Gives again n → (list : TypedBlockItems) (q : UnitState)
-        → body brace (result_of (shape_at n.table (declared_type one))) (parameters_of_form (form_of one) None) items n ≡ Gives list q
+        → body brace (result_of (shape_at n.table (declared_type one))) (level_at before d brace items base s) items n ≡ Gives list q
         → pure (typed.AndFunctionBody before base one brace list) q ≡ Gives whole r → Lasts (made_by_unit whole) first r
     by base s b specified (typed.Declares form t) m g2 again n g3 list q g4 g5 =
         let which : Naming = naming_for true (storage_of base) (linked_first s.linkage.linked (declarator_name d)) in
@@ -160,7 +139,7 @@ definition-lasts before all d brace items whole s0 r k h first made =
         let c = name-defined base d form t (declarator_name d) again m n refl g3 in
         let literals = declarator-counted which base None d (typed.Declares form t) (state_of s) (state_of m) k1.known b.judged.there
         (lifted-gives (judge_declarator which base None d) (typed.Declares form t) s m g2).0 in
-        let inside = inside_lasts base d form t s m k1 j n c brace items list q g4 in
+        let inside = inside_lasts base d form t s m k1 j n c b.judged.there g2 before brace items list q g4 in
         given-same (λ (v : TypedTranslationUnit) (w : UnitState). Lasts (made_by_unit v) first w) (typed.AndFunctionBody before base (typed.Declares form t) brace list) whole q r g5
         (lasts-on (made_by_unit before ++ made_by_specifiers base ++ made_by_declarator (typed.Declares form t)) (made_by_block_items list) first m q
         (lasts-on (made_by_unit before ++ made_by_specifiers base) (made_by_declarator (typed.Declares form t)) first s m specified

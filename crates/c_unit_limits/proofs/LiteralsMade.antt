@@ -7,14 +7,15 @@ use Rattle.c_tree.specs.Erasure.{erased, erased_place, erased_arguments, erased_
 use Rattle.c_tree.specs.TypedTree as typed
 use Rattle.c_tree.specs.TypedTree.{TypedExpr, TypedPlace, TypedArguments, TypedTypeName, TypedSpecifiers, TypedSpecifierList, TypedSpecifier, TypedMembers, TypedMemberDeclarators, TypedEnumerators, TypedDeclarator, TypedForm, TypedCore, TypedParts, TypedParameters, TypedDeclared}
 use Rattle.c_tree.specs.TypedParts.{Made, Address, made_by, made_by_place, made_by_arguments, made_by_type_name, made_by_specifiers, made_by_specifier_list, made_by_specifier, made_by_members, made_by_member_declarators, made_by_enumerators, made_by_declarator, made_by_stars, made_by_adjusted, made_by_form, made_by_core, made_by_parts, made_by_parameters, made_by_declared}
-use Rattle.c_unit_limits.specs.Literals.{expr_literals, arguments_literals, type_name_literals, specifiers_literals, specifier_literals, members_literals, member_declarators_literals, enumerators_literals, declarator_literals, core_literals, parts_literals, parameters_literals, declared_literals, literal_bytes, literals_made}
+use Rattle.c_unit_limits.specs.Literals.{expr_literals, arguments_literals, type_name_literals, specifiers_literals, specifier_literals, members_literals, member_declarators_literals, enumerators_literals, declarator_literals, core_literals, parts_literals, parameters_literals, declared_literals, literals_made}
+use Rattle.c_typing.specs.Assignments.{literal_cost}
 
 pub literals-append : (xs ys : List Made) → literals_made (xs ++ ys) ≡ literals_made xs + literals_made ys
 literals-append [] ys = none (literals_made ys)
   where
     none : (n : ℕ) → n ≡ 0 + n
     none n = omega arith
-literals-append (x ∷ xs) ys = ap (λ (n : ℕ). literal_bytes x + n) (literals-append xs ys) ∙ apart (literal_bytes x) (literals_made xs) (literals_made ys)
+literals-append (x ∷ xs) ys = ap (λ (n : ℕ). literal_cost x + n) (literals-append xs ys) ∙ apart (literal_cost x) (literals_made xs) (literals_made ys)
   where
     apart : (a b c : ℕ) → a + (b + c) ≡ a + b + c
     apart a b c = omega arith

@@ -8,19 +8,18 @@ use Rattle.std.proofs.Math.ListN.{get_or-append}
 use Rattle.cc_base.specs.declared.place.Place.{Place}
 use Rattle.cc_base.specs.declared.fault.Fault.TheVariants.{TooLarge}
 use Rattle.cc_base.specs.declared.fault.Limit.TheVariants.{Types, Functions}
-use Rattle.c_types.specs.Table.{shape_at}
 use Rattle.c_tree.specs.declared.leaf.Identifier.{Identifier}
 use Rattle.c_tree.specs.Tree as tree
 use Rattle.c_tree.specs.TypedTree as typed
-use Rattle.c_tree.specs.TypedTree.{TypedSpecifiers, TypedDeclarator, TypedBlockItems, TypedTranslationUnit}
-use Rattle.c_tree.specs.TypedParts.{DefinedFunction, functions_of, declared_type}
+use Rattle.c_tree.specs.TypedTree.{TypedSpecifiers, TypedDeclarator, TypedTranslationUnit}
+use Rattle.c_tree.specs.TypedParts.{DefinedFunction, functions_of, declared_type, form_of}
 use Rattle.c_typing.specs.Declaring.{declarator_name}
 use Rattle.c_typing.specs.Scopes.{Name, place_among}
 use Rattle.c_typing.specs.Tests.{first_broken, has_some}
 use Rattle.c_typing.specs.Walks.{judge_specifiers_of, judge_declarator}
 use Rattle.c_typing_laws.proofs.ExtensionLaws.{no_true, extended_refl}
 use Rattle.c_unit_typing.specs.DeclarationJudging.{naming_for, linked_first, judge_declaration}
-use Rattle.c_unit_typing.specs.DefinitionJudging.{form_of, counted, defined, defined_as, result_of, body, judge_definition, judge_unit}
+use Rattle.c_unit_typing.specs.DefinitionJudging.{counted, defined, defined_as, judge_definition, judge_unit}
 use Rattle.c_unit_typing.specs.UnitJudged.{IsUnitKnown}
 use Rattle.c_unit_typing.specs.UnitJudging.{UnitState, Gives, Stops, known_of, pure, next, lifted}
 use Rattle.c_unit_typing.specs.UnitRefusals.{definition_tests}
@@ -28,7 +27,7 @@ use Rattle.c_unit_typing.specs.Units.{is_one_of, storage_of, parameters_of_form}
 use Rattle.c_unit_typing.specs.WellTyped.{defined_names}
 use Rattle.c_unit_typing.proofs.JudgedDeclarations.{AreBaseJudged, base-judged}
 use Rattle.c_unit_typing.proofs.JudgedDeclarators.{form-known}
-use Rattle.c_unit_typing.proofs.JudgedDefinitions.{definition-judged}
+use Rattle.c_unit_typing.proofs.JudgedDefinitions.{behind_specifiers, behind_declarator, behind_name, definition-judged}
 use Rattle.c_unit_typing.proofs.JudgedUnits.{name_in_bytes, unit-judged}
 use Rattle.c_unit_typing.proofs.StillDefined.{specifiers-defined, form-defined}
 use Rattle.c_unit_typing.proofs.UnitStillDefined.{unit-defined}
@@ -73,17 +72,12 @@ definition_number : (before : TypedTranslationUnit) (all : tree.Specifiers) (d :
     → IsUnitKnown s0 → declarator_name d ≡ Some name → judge_definition before all d brace items s0 ≡ Gives whole r → IsNumber s0.seen.scopes.defined name.bytes
 unfolding judge_definition
 definition_number before all d brace items whole name s0 r k q h =
-    let e1 = bind-gives (lifted (judge_specifiers_of false all) s0) (λ base. λ s.
-    next (lifted (judge_declarator (naming_for true (storage_of base) (linked_first s.linkage.linked (declarator_name d))) base None d) s) (λ one. λ m.
-    next (defined_as (declarator_name d) base one m) (λ again. λ n.
-    next (body brace (result_of (shape_at n.table (declared_type one))) (parameters_of_form (form_of one) None) items n) (λ list. pure (typed.AndFunctionBody before base one brace list))))) whole r h in
+    let e1 = bind-gives (lifted (judge_specifiers_of false all) s0) (λ base. λ s. behind_specifiers before d brace items base s) whole r h in
     let base = e1.0 in
     let s = e1.1 in
-    let e2 = bind-gives (lifted (judge_declarator (naming_for true (storage_of base) (linked_first s.linkage.linked (declarator_name d))) base None d) s) (λ one. λ m.
-    next (defined_as (declarator_name d) base one m) (λ again. λ n.
-    next (body brace (result_of (shape_at n.table (declared_type one))) (parameters_of_form (form_of one) None) items n) (λ list. pure (typed.AndFunctionBody before base one brace list)))) whole r e1.3 in
-    let e3 = bind-gives (defined_as (declarator_name d) base e2.0 e2.1) (λ again. λ n.
-    next (body brace (result_of (shape_at n.table (declared_type e2.0))) (parameters_of_form (form_of e2.0) None) items n) (λ list. pure (typed.AndFunctionBody before base e2.0 brace list))) whole r e2.3 in
+    let which = naming_for true (storage_of base) (linked_first s.linkage.linked (declarator_name d)) in
+    let e2 = bind-gives (lifted (judge_declarator which base None d) s) (λ one. λ m. behind_declarator before d brace items base s one m) whole r e1.3 in
+    let e3 = bind-gives (defined_as (declarator_name d) base e2.0 e2.1) (λ again. λ n. behind_name before d brace items base s e2.0 n) whole r e2.3 in
     by base s (base-judged false all base s0 s k e1.2) e2.0 e2.1 e2.2 e3.0 e3.1 e3.2
   where
     by : (base : TypedSpecifiers) (s : UnitState) → AreBaseJudged false all base s0 s → (one : TypedDeclarator) (m : UnitState)

@@ -6,9 +6,9 @@ use Rattle.c_types.specs.Table.{Table}
 use Rattle.c_tree.specs.TypedTree as typed
 use Rattle.c_tree.specs.TypedTree.{TypedExpr, TypedForm, TypedInitDeclarators, TypedDeclaration, TypedStatement, TypedBlockItems, TypedTranslationUnit}
 use Rattle.c_tree.specs.TypedParts.{type_of, specified_type, made_by, made_by_form, made_by_init_declarators, made_by_declaration, made_by_optional, made_by_statement, made_by_block_items, made_by_unit}
-use Rattle.c_typing.specs.Scopes.{Scopes, entering}
+use Rattle.c_typing.specs.Scopes.{Scopes, entering, innermost}
 use Rattle.c_typing.specs.Typing.{IsForm}
-use Rattle.c_unit_typing.specs.Units.{Known, Storage, Around, storage_of, with_scopes, entering_known, leaving_known, in_a_loop, in_a_switch, AreDeclarators, IsDeclaration, IsTested, IsTestedOrNone, IsStatement, AreBlockItems, with_parameters, IsUnitTyped}
+use Rattle.c_unit_typing.specs.Units.{Known, Storage, Around, storage_of, with_scopes, entering_known, leaving_known, in_a_loop, in_a_switch, AreDeclarators, IsDeclaration, IsTested, IsTestedOrNone, IsStatement, AreBlockItems, going_on, IsUnitTyped}
 use Rattle.c_unit_limits.proofs.LastingDeclarations.{alone-alike}
 use Rattle.c_unit_limits.proofs.LastingSteps.{dropped-alike, returned-alike, initialiser-alike}
 use Rattle.c_unit_limits.proofs.StaticsMade.{AreSized, nothing-sized, two-sized, value-alike, specifiers-alike, form-alike}
@@ -78,6 +78,6 @@ module _ (T : Table) (w : IsWellFormed T) where
       let d = h.2 in
       two-sized T (two-sized T (two-sized T (unit-sized u k h.0 h.1) (specifiers-alike T w x h.0.scopes d.before d.specified).sized) (form_sized form t d.before d.declares.inside d.declares.parts))
       (items_sized body (record { result = d.result; in_loop = false; breakable = false }) None (record d.declared {
-        scopes = with_parameters d.parameters (entering d.declared.scopes);
+        scopes = going_on (innermost d.inside.levels) d.declared.scopes;
         defined = d.declared.defined ++ d.name.bytes ∷ [];
       }) d.after d.statements)

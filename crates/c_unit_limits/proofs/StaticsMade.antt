@@ -9,6 +9,7 @@ use Rattle.c_types.specs.Layouts.{size_of, layout_of, layout_of_shape}
 use Rattle.c_types.specs.Sound.{IsWellFormed}
 use Rattle.c_types.specs.Table.{Table, shape_at, members_at}
 use Rattle.c_types.proofs.Descent.{layout_is}
+use Rattle.c_tree.specs.Literals.{pieces_bytes}
 use Rattle.c_tree.specs.declared.leaf.StringPiece.{StringPiece}
 use Rattle.c_tree.specs.declared.typed_word.Adjusted.{Adjusted}
 use Rattle.c_tree.specs.declared.typed_word.Home.{Home}
@@ -16,13 +17,12 @@ use Rattle.c_tree.specs.declared.typed_word.Home.TheVariants as home
 use Rattle.c_tree.specs.declared.typed_word.TypedStar.{TypedStar}
 use Rattle.c_tree.specs.TypedTree as typed
 use Rattle.c_tree.specs.TypedTree.{TypedExpr, TypedPlace, TypedArguments, TypedTypeName, TypedSpecifiers, TypedSpecifierList, TypedSpecifier, TypedMembers, TypedMemberDeclarators, TypedEnumerators, TypedForm, TypedCore, TypedParts, TypedParameters, TypedDeclared}
-use Rattle.c_tree.specs.TypedParts.{Made, Written, Name, Address, Literal, specified_type, home_of_form, home_of_core, made_by, made_by_place, made_by_arguments, made_by_type_name, made_by_specifiers, made_by_specifier_list, made_by_specifier, made_by_members, made_by_member_declarators, made_by_enumerators, made_by_stars, made_by_adjusted, made_by_form, made_by_core, made_by_parts, made_by_parameters, made_by_declared}
-use Rattle.c_typing.specs.Assignments.{literal_size}
-use Rattle.c_typing.specs.Declarators.{is_void_list}
-use Rattle.c_typing.specs.Rules.{IsStringType, pieces_bytes}
+use Rattle.c_tree.specs.TypedParts.{Made, Written, Name, Address, Literal, specified_type, home_of_form, home_of_core, made_by, made_by_place, made_by_arguments, made_by_type_name, made_by_specifiers, made_by_specifier_list, made_by_specifier, made_by_members, made_by_member_declarators, made_by_enumerators, made_by_stars, made_by_adjusted, made_by_form, made_by_core, made_by_parts, made_by_parameters, made_by_declared, is_void_list}
+use Rattle.c_typing.specs.Assignments.{literal_size, literal_cost}
+use Rattle.c_typing.specs.Rules.{IsStringType}
 use Rattle.c_typing.specs.Scopes.{Scopes, entering}
 use Rattle.c_typing.specs.Typing.{IsTyped, IsPlace, AreTyped, IsTypeName, AreSpecifiers, AreListed, IsSpecifier, AreMembers, AreMemberDeclarators, AreEnumerators, IsForm, IsCore, AreParts, AreParameters, IsDeclared, DeclaresParameter, IsHomelessDeclared, enumerating}
-use Rattle.c_unit_limits.specs.Literals.{literal_bytes, literals_made, static_bytes, statics_made, own_bytes}
+use Rattle.c_unit_limits.specs.Literals.{literals_made, static_bytes, statics_made, own_bytes}
 use Rattle.c_unit_limits.proofs.LiteralsMade.{literals-append}
 
 -- a literal has the size of its type
@@ -58,7 +58,7 @@ module _ (T : Table) where
   pub two-sized : {xs ys : List Made} → AreSized T xs → AreSized T ys → AreSized T (xs ++ ys)
   two-sized {xs} {ys} h k = record { each = All-append (IsLiteralSized T) xs ys h.each k.each }
 
-  sized_by : (m : Made) → static_bytes T m ≡ literal_bytes m → IsLiteralSized T m
+  sized_by : (m : Made) → static_bytes T m ≡ literal_cost m → IsLiteralSized T m
   sized_by (Literal pieces home t) e = omega (arith, e)
   sized_by m e = tt
 
@@ -68,8 +68,8 @@ module _ (T : Table) where
   pub none : IsAlike T [] 0
   none = record { same = refl; sized = nothing-sized }
 
-  pub alone : (m : Made) → static_bytes T m ≡ literal_bytes m → IsAlike T (m ∷ []) 0
-  alone m e = record { same = ap (λ (n : ℕ). n + 0) e ∙ more (literal_bytes m + 0); sized = one-sized m (sized_by m e) }
+  pub alone : (m : Made) → static_bytes T m ≡ literal_cost m → IsAlike T (m ∷ []) 0
+  alone m e = record { same = ap (λ (n : ℕ). n + 0) e ∙ more (literal_cost m + 0); sized = one-sized m (sized_by m e) }
     where
       more : (n : ℕ) → n ≡ n + 0
       more n = omega arith
@@ -201,7 +201,7 @@ module _ (T : Table) (w : IsWellFormed T) where
     specifier-alike (typed.Tagged which at name t) s s' h = none T
     specifier-alike (typed.Aggregate which at name brace members t) s s' h = members-alike members h.0 h.1 h.3
     specifier-alike (typed.Enum at name) s s' h = none T
-    specifier-alike (typed.Enumeration at name brace all comma) s s' h = enumerators-alike all (enumerating name s) s' h.1
+    specifier-alike (typed.Enumeration at name brace all comma) s s' h = enumerators-alike all (enumerating name s) h.0 h.1
 
     members-alike : (all : TypedMembers) (s s' : Scopes) → AreMembers T all s s' → IsAlike T (made_by_members all) 0
     members-alike typed.NoMember s s' h = none T

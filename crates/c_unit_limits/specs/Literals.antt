@@ -7,7 +7,7 @@ use Rattle.c_tree.specs.declared.typed_word.Home.TheVariants as home
 use Rattle.cc_base.specs.declared.number.TypeId.{TypeId}
 use Rattle.c_types.specs.Layouts.{size_of}
 use Rattle.c_types.specs.Table.{Table}
-use Rattle.c_typing.specs.Assignments.{literal_size}
+use Rattle.c_typing.specs.Assignments.{literal_size, literal_cost}
 
 abbrev mutual
   pub expr_literals : tree.Expr → ℕ
@@ -86,14 +86,9 @@ abbrev mutual
   declared_literals tree.NotDeclared = 0
   declared_literals (tree.DeclaredBy d) = declarator_literals d
 
--- the bytes of the string literals among what a typed tree makes, with 16 for each
-abbrev pub literal_bytes : Made → ℕ
-literal_bytes (Literal pieces home t) = literal_size pieces + 16
-literal_bytes made = 0
-
 abbrev pub literals_made : List Made → ℕ
 literals_made [] = 0
-literals_made (m ∷ made) = literal_bytes m + literals_made made
+literals_made (m ∷ made) = literal_cost m + literals_made made
 
 -- the bytes of the objects that last among what a typed tree makes, with 16 for each, as their types are in the table
 abbrev pub static_bytes : Table → Made → ℕ

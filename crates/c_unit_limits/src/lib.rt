@@ -3,6 +3,4 @@
 
 pub mod cells;
 pub mod lasting;
-pub mod literals;
 pub mod units;
-pub mod values;

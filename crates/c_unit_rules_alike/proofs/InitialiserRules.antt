@@ -11,20 +11,21 @@ use Rattle.c_tree.specs.declared.typed_word.Side.TheVariants as side
 use Rattle.c_tree.specs.Tree as tree
 use Rattle.c_tree.specs.TypedTree as typed
 use Rattle.c_tree.specs.TypedTree.{TypedExpr, TypedPlace}
-use Rattle.c_tree.specs.TypedParts.{place_type}
+use Rattle.c_tree.specs.TypedParts.{place_type, type_of}
+use Rattle.c_typing.specs.Shapes.{is_integer_shape}
 use Rattle.c_typing.specs.Extensions.{IsExtended}
 use Rattle.c_typing.specs.Scopes.{Scopes}
 use Rattle.c_typing.specs.Settled.{IsBasic}
 use Rattle.c_typing.specs.Tests.{Elaborated, AsPlace, AsValue, AsAllocation, broken_at}
 use Rattle.c_typing.specs.Typing.{IsTyped, IsPlace}
 use Rattle.c_typing_laws.proofs.ExtensionLaws.{array_in}
-use Rattle.c_typing_laws.proofs.KeptConstants.{Own, own-plain, constant-kept}
+use Rattle.c_typing_laws.proofs.KeptConstants.{Own, own-plain, scalar_in, prefix-in, constant-kept}
 use Rattle.c_rules_alike.specs.PartsThere.{IsPartThere}
 use Rattle.c_rules_alike.proofs.TypesAlike
 use Rattle.c_rules_alike.proofs.PartsAlike
 use Rattle.c_unit_typing.specs.DeclarationJudging.{complete_size}
 use Rattle.c_unit_typing.specs.InitialiserJudging.{constant_tests, item_slot}
-use Rattle.c_unit_typing.specs.Initialisers.{slot_of_shape, char_count_of_shape, char_count_of_element, has_count, has_value, is_char_array, is_integer_constant, is_constant_place, is_constant_array, is_constant, is_one_array, is_char_shape, makes_chars}
+use Rattle.c_unit_typing.specs.Initialisers.{slot_of_shape, char_count_of_shape, char_count_of_element, has_count, has_value, is_char_array, is_integer_constant, is_integer_value, is_division, is_constant_place, is_constant_array, is_constant, is_one_array, is_char_shape, makes_chars}
 use Rattle.c_unit_typing.specs.UnitRefusals.{Asked, is_constant_part, initialises_type, value_tests}
 use Rattle.c_unit_typing.proofs.KeptInitialisers.{slot-same}
 
@@ -33,6 +34,9 @@ module _ (J T : Table) (x : IsExtended J T) (b : IsBasic J) where
 
   integer_over : (e : TypedExpr) (s s' : Scopes) → IsTyped J e s s' → Own J e → is_integer_constant J e ≡ is_integer_constant T e
   integer_over e s s' j o = ap has_value (sym (constant-kept J T x b e s s' j o))
+
+  integer_value_over : (e : TypedExpr) → IsType J (type_of e) → is_integer_value J e ≡ is_integer_value T e
+  integer_value_over e h = ap is_integer_shape (TypesAlike.shape-over J T x b (type_of e) h)
 
   mutual
     pub constant_place-over : (homes : List NodeId) (p : TypedPlace) (s s' : Scopes) → IsPlace J p s s'
@@ -73,6 +77,27 @@ module _ (J T : Table) (x : IsExtended J T) (b : IsBasic J) where
       let one = integer_over a s j.0 j.1 (own-plain J a j.3.integer.plain) in
       let other = constant-over homes c j.0 s' j.2 in
       λ i. one i && other i
+  constant-over homes (typed.Prefix operator at e t) s s' j =
+      let value = integer_value_over e (prefix-in operator J at e t j.1) in
+      let one = constant-over homes e s s' j.0 in
+      λ i. value i && one i
+  constant-over homes (typed.Arithmetic operator a at c t) s s' j =
+      let whole = integer_over (typed.Arithmetic operator a at c t) s s' j tt in
+      let one = constant-over homes a s j.0 j.1 in
+      let other = constant-over homes c j.0 s' j.2 in
+      λ i. if is_division operator then whole i else (one i && other i)
+  constant-over homes (typed.Logical operator a at c t) s s' j =
+      let left = integer_value_over a (scalar_in J (type_of a) j.3.first.scalar) in
+      let right = integer_value_over c (scalar_in J (type_of c) j.3.second.scalar) in
+      let one = constant-over homes a s j.0 j.1 in
+      let other = constant-over homes c j.0 s' j.2 in
+      λ i. (left i && one i) && (right i && other i)
+  constant-over homes (typed.Conditional e at a c t) s s' j =
+      let test = integer_value_over e (scalar_in J (type_of e) j.5.0.scalar) in
+      let first = constant-over homes e s j.0 j.2 in
+      let one = constant-over homes a j.0 j.1 j.3 in
+      let other = constant-over homes c j.1 s' j.4 in
+      λ i. (test i && first i) && (one i && other i)
   constant-over homes e s s' j = integer_over e s s' j tt
 
   pub constant_part-over : (homes : List NodeId) (p : Elaborated) → IsPartThere J p → is_constant_part J homes p ≡ is_constant_part T homes p

@@ -1,31 +1,33 @@
 -- What judging gives for the initialiser of what lives as long as the program is constant, and stays so.
-use Rattle.std.proofs.Common.{◌≡◌, ℕ, ℤ, Bool, true, false, not, ◌&&◌, List, [], ◌∷◌, ◌++◌, take, Option, Some, None, refl, ap, sym, ◌∙◌}
+use Rattle.std.proofs.Common.{◌≡◌, ℕ, ℤ, Bool, true, false, not, ◌&&◌, List, [], ◌∷◌, ◌++◌, take, Option, Some, None, refl, ap, sym, ◌∙◌, if◌then◌else◌}
 use Rattle.cc_base.specs.declared.place.Place.{Place}
 use Rattle.cc_base.specs.declared.number.NodeId.{NodeId}
 use Rattle.cc_base.specs.declared.number.TypeId.{TypeId}
 use Rattle.cc_base.specs.declared.fault.Fault.TheVariants.{Refused, TooLarge}
 use Rattle.cc_base.specs.declared.fault.Limit.TheVariants.{Types}
 use Rattle.cc_base.specs.declared.fault.Rule.TheVariants as rule
+use Rattle.c_types.specs.declared.shape.TypeShape.{TypeShape}
+use Rattle.c_types.specs.declared.shape.TypeShape.TheVariants.{Void, Integer, Pointer, Array, Function, Struct, Union}
 use Rattle.c_types.specs.Table.{Table, IsComplete, shape_at}
+use Rattle.c_tree.specs.Literals.{pieces_bytes}
 use Rattle.c_tree.specs.declared.typed_word.Side.TheVariants as side
 use Rattle.c_tree.specs.Places.{expr_place, initialiser_place, nowhere}
 use Rattle.c_tree.specs.Tree as tree
 use Rattle.c_tree.specs.TypedTree as typed
 use Rattle.c_tree.specs.TypedTree.{TypedExpr, TypedPlace, TypedInitialiser, TypedItems}
-use Rattle.c_tree.specs.TypedParts.{item_place}
+use Rattle.c_tree.specs.TypedParts.{type_of, item_place}
 use Rattle.c_typing.specs.Checking.{checked_value}
 use Rattle.c_typing.specs.Constants.{constant_value}
 use Rattle.c_typing.specs.Extensions.{IsExtended}
-use Rattle.c_typing.specs.Rules.{pieces_bytes}
 use Rattle.c_typing.specs.Scopes.{Scopes}
 use Rattle.c_typing.specs.Settled.{IsBasic, IsKnown}
-use Rattle.c_typing.specs.Shapes.{is_scalar_shape}
+use Rattle.c_typing.specs.Shapes.{is_integer_shape, is_scalar_shape}
 use Rattle.c_typing.specs.Tests.{first_broken}
 use Rattle.c_typing.specs.Typing.{IsTyped, IsPlace}
 use Rattle.c_typing_laws.proofs.ConstructLaws.{one_unbroken, not_false}
 use Rattle.c_typing_laws.proofs.ExtensionLaws.{no_true, and_left, and_right, and_true}
-use Rattle.c_typing_laws.proofs.KeptConstants.{own-in, constant-in, constant-kept}
-use Rattle.c_unit_typing.specs.Initialisers.{Slot, char_count_of_shape, is_char_array, is_only_text, items_count, has_value, is_integer_constant, is_constant_place, is_constant_array, is_constant, is_constant_initialiser, are_constant_items, IsInitialiser, AreItems}
+use Rattle.c_typing_laws.proofs.KeptConstants.{own-in, scalar_in, constant-in, constant-kept}
+use Rattle.c_unit_typing.specs.Initialisers.{Slot, char_count_of_shape, is_char_array, is_only_text, items_count, has_value, is_integer_constant, is_integer_value, is_division, is_constant_place, is_constant_array, is_constant, is_constant_initialiser, are_constant_items, IsInitialiser, AreItems}
 use Rattle.c_unit_typing.specs.InitialiserJudging.{text_tests, text, initialised, constant_tests, value_for, value_or_text, judge_plain, is_only_literal, item_slot, slot_type, with_item, judge_initialiser, judge_items}
 use Rattle.c_unit_typing.specs.Linkage.{Linkage}
 use Rattle.c_unit_typing.specs.UnitJudged.{state_of, AreItemsJudged}
@@ -40,7 +42,27 @@ some_value : (o : Option ℤ) → has_value o ≡ true → (z : ℤ) × (o ≡ S
 some_value (Some z) h = (z, refl)
 some_value None h = no_true h
 
+both_kept : (a c a' c' : Bool) → (a ≡ true → a' ≡ true) → (c ≡ true → c' ≡ true) → (a && c) ≡ true → (a' && c') ≡ true
+both_kept a c a' c' f g h = and_true a' c' (f (and_left a c h)) (g (and_right a c h))
+
+either_kept : (d a c a' c' : Bool) → (a ≡ true → a' ≡ true) → (c ≡ true → c' ≡ true) → (if d then a else c) ≡ true → (if d then a' else c') ≡ true
+either_kept true a c a' c' f g h = f h
+either_kept false a c a' c' f g h = g h
+
+integer_scalar : (s : TypeShape) → is_integer_shape s ≡ true → is_scalar_shape s ≡ true
+integer_scalar (Integer bytes signed) h = refl
+integer_scalar (Pointer n t) h = no_true h
+integer_scalar Void h = no_true h
+integer_scalar (Array t n) h = no_true h
+integer_scalar (Function ps r) h = no_true h
+integer_scalar (Struct n) h = no_true h
+integer_scalar (Union n) h = no_true h
+
 module _ (T U : Table) (x : IsExtended T U) (b : IsBasic T) where
+  integer_value-kept : (e : TypedExpr) → is_integer_value T e ≡ true → is_integer_value U e ≡ true
+  integer_value-kept e h =
+      ap is_integer_shape (x.shapes (type_of e) (scalar_in T (type_of e) (integer_scalar (shape_at T (type_of e)) h))) ∙ h
+
   integer-kept : (e : TypedExpr) (s s' : Scopes) → IsTyped T e s s' → is_integer_constant T e ≡ true → is_integer_constant U e ≡ true
   integer-kept e s s' typed h =
       let v = some_value (constant_value T e) h in
@@ -85,6 +107,29 @@ module _ (T U : Table) (x : IsExtended T U) (b : IsBasic T) where
       and_true (is_integer_constant U a) (is_constant U homes c)
       (integer-kept a s j.0 j.1 (and_left (is_integer_constant T a) (is_constant T homes c) h))
       (is_constant-kept homes c j.0 s' j.2 (and_right (is_integer_constant T a) (is_constant T homes c) h))
+  is_constant-kept homes (typed.Prefix operator at e t) s s' j h =
+      both_kept (is_integer_value T e) (is_constant T homes e) (is_integer_value U e) (is_constant U homes e) (integer_value-kept e)
+      (λ g. is_constant-kept homes e s s' j.0 g) h
+  is_constant-kept homes (typed.Arithmetic operator a at c t) s s' j h =
+      either_kept (is_division operator) (is_integer_constant T (typed.Arithmetic operator a at c t)) (is_constant T homes a && is_constant T homes c)
+      (is_integer_constant U (typed.Arithmetic operator a at c t)) (is_constant U homes a && is_constant U homes c)
+      (λ g. integer-kept (typed.Arithmetic operator a at c t) s s' j g)
+      (both_kept (is_constant T homes a) (is_constant T homes c) (is_constant U homes a) (is_constant U homes c) (λ g. is_constant-kept homes a s j.0 j.1 g)
+      (λ g. is_constant-kept homes c j.0 s' j.2 g)) h
+  is_constant-kept homes (typed.Logical operator a at c t) s s' j h =
+      both_kept (is_integer_value T a && is_constant T homes a) (is_integer_value T c && is_constant T homes c)
+      (is_integer_value U a && is_constant U homes a) (is_integer_value U c && is_constant U homes c)
+      (both_kept (is_integer_value T a) (is_constant T homes a) (is_integer_value U a) (is_constant U homes a) (integer_value-kept a)
+      (λ g. is_constant-kept homes a s j.0 j.1 g))
+      (both_kept (is_integer_value T c) (is_constant T homes c) (is_integer_value U c) (is_constant U homes c) (integer_value-kept c)
+      (λ g. is_constant-kept homes c j.0 s' j.2 g)) h
+  is_constant-kept homes (typed.Conditional e at a c t) s s' j h =
+      both_kept (is_integer_value T e && is_constant T homes e) (is_constant T homes a && is_constant T homes c)
+      (is_integer_value U e && is_constant U homes e) (is_constant U homes a && is_constant U homes c)
+      (both_kept (is_integer_value T e) (is_constant T homes e) (is_integer_value U e) (is_constant U homes e) (integer_value-kept e)
+      (λ g. is_constant-kept homes e s j.0 j.2 g))
+      (both_kept (is_constant T homes a) (is_constant T homes c) (is_constant U homes a) (is_constant U homes c) (λ g. is_constant-kept homes a j.0 j.1 j.3 g)
+      (λ g. is_constant-kept homes c j.1 s' j.4 g)) h
   is_constant-kept homes e s s' j h = integer-kept e s s' j h
 
   mutual

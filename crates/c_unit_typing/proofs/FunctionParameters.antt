@@ -1,32 +1,22 @@
--- The parameters of a function that is defined: their types are in the table, and the body's scope begins with them.
-use Rattle.std.proofs.Common.{◌≡◌, Bool, true, false, List, [], ◌∷◌, Option, Some, None, refl, ap, sym, subst, ◌∙◌, if◌then◌else◌}
-use Rattle.std.specs.List.{All, Contains}
-use Rattle.std.proofs.lemmas.List.Elements.{All-contains, All-head, All-tail, Contains-append_left, Contains-push}
+-- The type of a function that is defined, by the parameters that its declarator begins with.
+use Rattle.std.proofs.Common.{◌≡◌, Bool, true, false, List, [], ◌∷◌, Option, Some, None, refl, sym, subst, if◌then◌else◌}
+use Rattle.std.specs.List.{All}
+use Rattle.std.proofs.lemmas.List.Elements.{All-head}
 use Rattle.std.proofs.lemmas.Option.{none-some}
 use Rattle.cc_base.specs.declared.number.TypeId.{TypeId}
 use Rattle.c_types.specs.declared.shape.TypeShape.{TypeShape}
 use Rattle.c_types.specs.declared.shape.TypeShape.TheVariants.{Void, Integer, Pointer, Array, Function, Struct, Union}
 use Rattle.c_types.specs.Table.{Table, HasShape, IsType, shape_at, named_by, is_aggregate_shape}
-use Rattle.c_tree.specs.declared.leaf.Identifier.{Identifier}
-use Rattle.c_tree.specs.declared.typed_word.Home.{Home}
-use Rattle.c_tree.specs.declared.typed_word.Home.TheVariants as home
 use Rattle.c_tree.specs.declared.typed_word.TypedStar.{TypedStar}
 use Rattle.c_tree.specs.TypedTree as typed
 use Rattle.c_tree.specs.TypedTree.{TypedForm, TypedCore, TypedParts, TypedParameters}
-use Rattle.c_tree.specs.TypedParts.{declared_home}
-use Rattle.c_typing.specs.declared.declared.Declared.TheVariants as declared
-use Rattle.c_typing.specs.Declarators.{Outermost, Written, Counts, Points, is_pointed, MakesFunction, nearest, PartsMake, StarsMake, is_derived_core, outside, FormMakes, CoreMakes, is_result_shape, is_void_list, parameter_types, taken_types}
+use Rattle.c_typing.specs.Declarators.{Outermost, Written, Counts, Points, is_pointed, MakesFunction, nearest, PartsMake, StarsMake, is_derived_core, outside, FormMakes, CoreMakes, is_result_shape, taken_types}
 use Rattle.c_typing.specs.Scopes.{Scopes}
 use Rattle.c_typing.specs.Settled.{IsBasic}
-use Rattle.c_typing_laws.proofs.ExtensionLaws.{no_true, still_in}
-use Rattle.c_unit_typing.specs.DeclarationJudging.{new_name}
-use Rattle.c_unit_typing.specs.DefinitionJudging.{declare_parameter, declare_parameters}
-use Rattle.c_unit_typing.specs.Units.{Known, with_scopes, declares_parameters, unless_pointer, parameters_of_form, parameters_of_core, parameter_declared, declared_identifier, with_parameters}
-use Rattle.c_unit_typing.specs.UnitJudged.{IsUnitKnown, UnitGoesOn, IsResult}
-use Rattle.c_unit_typing.specs.UnitJudging.{UnitState, Gives, known_of, pure}
-use Rattle.c_unit_typing.proofs.NameSteps.{some-same, named-goes, new-name-gives}
-use Rattle.c_unit_typing.proofs.UnitOutcomes.{bind-gives, gives-state}
-use Rattle.c_unit_typing.proofs.UnitStates.{unit-stays, unit-on}
+use Rattle.c_typing_laws.proofs.ExtensionLaws.{no_true}
+use Rattle.c_unit_typing.specs.Units.{declares_parameters, unless_pointer, parameters_of_form, parameters_of_core}
+use Rattle.c_unit_typing.specs.UnitJudged.{IsResult}
+use Rattle.c_unit_typing.proofs.NameSteps.{some-same}
 
 -- The type of a declarator that has its own parameters
 
@@ -103,92 +93,3 @@ result-is T t ps f b = record {
   there = All-head (IsType T) f.0 (taken_types ps) (named_there T t f.0 (taken_types ps) b f.1);
   no_struct = result_plain (shape_at T f.0) f.2;
 }
-
--- Types of parameters
-
--- each parameter with a name has a type of the table
-abbrev pub AreParametersThere : Table → TypedParameters → Type 0
-AreParametersThere T typed.NoParameter = Unit {0}
-AreParametersThere T (typed.AndParameter all specifiers d adjusted t) = AreParametersThere T all × ((name : Identifier) → declared_identifier d ≡ Some name → IsType T t)
-
-each_there : (T : Table) (ps : TypedParameters) → ((t : TypeId) → Contains (parameter_types ps) t → IsType T t) → AreParametersThere T ps
-each_there T typed.NoParameter h = tt
-each_there T (typed.AndParameter all specifiers d adjusted t) h = (
-  each_there T all (λ u e. h u (Contains-append_left (parameter_types all) (t ∷ []) u e)),
-  λ name e. h t (Contains-push (parameter_types all) t),
-)
-
-void_there : (T : Table) (ps : TypedParameters) → is_void_list ps ≡ true → AreParametersThere T ps
-void_there T (typed.AndParameter typed.NoParameter (typed.Specified list t) typed.NotDeclared adjusted u) h = (tt, λ name e. absurd (none-some name e))
-void_there T ps h = no_true h
-
-taken_there : (T : Table) (ps : TypedParameters) (b : Bool) → is_void_list ps ≡ b → All (IsType T) (if b then [] else parameter_types ps) → AreParametersThere T ps
-taken_there T ps true q h = void_there T ps q
-taken_there T ps false q h = each_there T ps (λ t e. All-contains (IsType T) (parameter_types ps) t h e)
-
-pub parameters-there : (T : Table) (t : TypeId) (ps : TypedParameters) → IsBasic T → IsFunctionWith T ps t → AreParametersThere T ps
-parameters-there T t ps b f =
-    taken_there T ps (is_void_list ps) refl (All-tail (IsType T) f.0 (taken_types ps) (named_there T t f.0 (taken_types ps) b f.1))
-
-pub there-later : (T U : Table) (ps : TypedParameters) → ((t : TypeId) → IsType T t → IsType U t) → AreParametersThere T ps → AreParametersThere U ps
-there-later T U typed.NoParameter more h = tt
-there-later T U (typed.AndParameter all specifiers d adjusted t) more h = (there-later T U all more h.0, λ name e. more t (h.1 name e))
-
--- The scope of the body
-
-pub record AreParametersDeclared (ps : TypedParameters) (s r : UnitState) : Type 0 where
-  pub known : known_of r ≡ with_scopes (known_of s) (with_parameters ps s.seen.scopes)
-  pub table : r.table ≡ s.table
-  pub node : r.seen.node ≡ s.seen.node
-  pub goes : UnitGoesOn s r
-
--- one more parameter
-record IsParameterDeclared (name : Option Identifier) (h : Home) (t : TypeId) (s r : UnitState) : Type 0 where
-  known : known_of r ≡ with_scopes (known_of s) (parameter_declared name h t s.seen.scopes)
-  table : r.table ≡ s.table
-  node : r.seen.node ≡ s.seen.node
-  goes : UnitGoesOn s r
-
-undeclared : (name : Option Identifier) (h : Home) (t : TypeId) (b : Bool) (s r : UnitState) → IsUnitKnown s → parameter_declared name h t s.seen.scopes ≡ s.seen.scopes
-    → pure false s ≡ Gives b r → IsParameterDeclared name h t s r
-undeclared name h t b s r k q g =
-    let state = gives-state false b s r g in
-    subst (λ (w : UnitState). IsParameterDeclared name h t s w) state (record {
-      known = ap (with_scopes (known_of s)) (sym q);
-      table = refl;
-      node = refl;
-      goes = unit-stays s k;
-    })
-
-parameter_is : (name : Option Identifier) (h : Home) (t : TypeId) (b : Bool) (s r : UnitState) → IsUnitKnown s → ((n : Identifier) → name ≡ Some n → IsType s.table t)
-    → declare_parameter name h t s ≡ Gives b r → IsParameterDeclared name h t s r
-unfolding declare_parameter
-parameter_is (Some name) (home.Parameter n) t b s r k there g =
-    let one = bind-gives (new_name name (declared.Object t n) s) (λ what. pure true) b r g in
-    let made = new-name-gives name (declared.Object t n) one.0 s one.1 one.2 in
-    let state = sym (gives-state true b one.1 r one.3) ∙ made.1 in
-    subst (λ (w : UnitState). IsParameterDeclared (Some name) (home.Parameter n) t s w) (sym state) (record {
-      known = refl;
-      table = refl;
-      node = refl;
-      goes = named-goes name.bytes (declared.Object t n) s k (there name refl);
-    })
-parameter_is (Some name) h t b s r k there g = undeclared (Some name) h t b s r k refl g
-parameter_is None h t b s r k there g = undeclared None h t b s r k refl g
-
-pub parameters-declared : (ps : TypedParameters) (b : Bool) (s r : UnitState) → IsUnitKnown s → AreParametersThere s.table ps → declare_parameters ps s ≡ Gives b r
-    → AreParametersDeclared ps s r
-unfolding declare_parameters
-parameters-declared typed.NoParameter b s r k there g =
-    let state = gives-state true b s r g in
-    subst (λ (w : UnitState). AreParametersDeclared typed.NoParameter s w) state (record { known = refl; table = refl; node = refl; goes = unit-stays s k })
-parameters-declared (typed.AndParameter all specifiers d adjusted t) b s r k there g =
-    let one = bind-gives (declare_parameters all s) (λ before. declare_parameter (declared_identifier d) (declared_home d) t) b r g in
-    let j = parameters-declared all one.0 s one.1 k there.0 one.2 in
-    let i = parameter_is (declared_identifier d) (declared_home d) t b one.1 r j.goes.known (λ n e. still_in s.table one.1.table j.goes.goes.extends t (there.1 n e)) one.3 in
-    record {
-      known = i.known ∙ ap (λ (c : Known). with_scopes c (parameter_declared (declared_identifier d) (declared_home d) t c.scopes)) j.known;
-      table = i.table ∙ j.table;
-      node = i.node ∙ j.node;
-      goes = unit-on s one.1 r j.goes i.goes;
-    }

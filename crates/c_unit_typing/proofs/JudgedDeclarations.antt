@@ -10,16 +10,16 @@ use Rattle.c_tree.specs.declared.typed_word.Home.{Home}
 use Rattle.c_tree.specs.Erasure.{erased_form, erased_declarator, erased_initialiser, erased_init_declarators}
 use Rattle.c_tree.specs.Tree as tree
 use Rattle.c_tree.specs.TypedTree as typed
-use Rattle.c_tree.specs.TypedTree.{TypedSpecifiers, TypedSpecifierList, TypedForm, TypedDeclarator, TypedInitialiser, TypedInitDeclarators, TypedDeclaration}
+use Rattle.c_tree.specs.TypedTree.{TypedSpecifiers, TypedForm, TypedDeclarator, TypedInitialiser, TypedInitDeclarators, TypedDeclaration}
 use Rattle.c_tree.specs.TypedParts.{specified_type, declared_type, home_of, home_of_form, name_of, name_of_form, made_by_specifiers, made_by_declarator, made_by_initialiser, made_by_init_declarators}
 use Rattle.c_typing.specs.Declarators
-use Rattle.c_typing.specs.Declarators.{FormMakes}
+use Rattle.c_typing.specs.Declarators.{FormMakes, name_bytes}
 use Rattle.c_typing.specs.Declaring.{declarator_name}
 use Rattle.c_typing.specs.Extensions.{IsExtended}
 use Rattle.c_typing.specs.Scopes.{Name, Scopes, entry_of, tag_here}
 use Rattle.c_typing.specs.Settled.{IsBasic}
 use Rattle.c_typing.specs.Typing.{AreSpecifiers, AreAlone}
-use Rattle.c_typing.specs.Walks.{judge_specifiers_of}
+use Rattle.c_typing.specs.Walks.{judge_specifiers_of, outermost_of}
 use Rattle.c_typing_laws.specs.Judged.{AreSpecifiersJudged}
 use Rattle.c_typing_laws.specs.Numbers.{AreNumberedFrom}
 use Rattle.c_typing_laws.proofs.ExtensionLaws.{no_true, still_in, extended_refl}
@@ -36,7 +36,7 @@ use Rattle.c_unit_typing.specs.DeclarationJudging.{is_linked_by, defining, judge
 use Rattle.c_unit_typing.specs.InitialiserJudging.{judge_initialiser}
 use Rattle.c_unit_typing.specs.Initialisers.{is_char_array, is_char_shape, is_one_array, makes_chars, size_given, is_constant_initialiser, IsInitialiser}
 use Rattle.c_unit_typing.specs.Linkage.{Linkage, with_name}
-use Rattle.c_unit_typing.specs.Units.{Known, is_one_of, is_linked_home, storage_of, with_scopes, outermost_of, bytes_of_name, IsDefinedOnce, IsStaticInitialised, IsInitialised, IsDeclarator, AreDeclarators, IsDeclaration}
+use Rattle.c_unit_typing.specs.Units.{Known, is_one_of, is_linked_home, storage_of, with_scopes, IsDefinedOnce, IsStaticInitialised, IsInitialised, IsDeclarator, AreDeclarators, IsDeclaration}
 use Rattle.c_unit_typing.specs.UnitJudged.{state_of, IsUnitKnown, UnitGoesOn, IsInitialiserJudged, AreDeclaratorsJudged, IsDeclarationJudged}
 use Rattle.c_unit_typing.specs.UnitJudging.{UnitState, Gives, known_of, next, pure, lifted}
 use Rattle.c_unit_typing.specs.UnitRefusals.{is_lasting, size_written}
@@ -192,8 +192,8 @@ module _ (file : Bool) (base : TypedSpecifiers) (i : tree.Initialiser) (at : Pla
                 (j.typed T from_m)),
             initialiser-kept q.table T from_q value.goes.known.basic v at t m.seen.scopes q.seen.scopes (complete-kept m.table q.table value.goes.extends j.goes.known.known.basic t whole)
                 (subst (λ (w : TypedDeclarator). IsInitialiser q.table v at (declared_type w) m.seen.scopes q.seen.scopes) e value.typed),
-            subst (λ (c : Known). IsInitialised T (home_of_form form) c (bytes_of_name (name_of_form form)) v (known_of r)) (scopes-alone m q value.linkage)
-                (subst (λ (o : Option Identifier). IsInitialised T (home_of_form form) (known_of q) (bytes_of_name o) v (known_of r))
+            subst (λ (c : Known). IsInitialised T (home_of_form form) c (name_bytes (name_of_form form)) v (known_of r)) (scopes-alone m q value.linkage)
+                (subst (λ (o : Option Identifier). IsInitialised T (home_of_form form) (known_of q) (name_bytes o) v (known_of r))
                 (sym (subst (λ (w : TypedDeclarator). name_of w ≡ Some j.name) e j.named))
                 (subst (λ (w : TypedDeclarator). IsInitialised T (home_of w) (known_of q) j.name.bytes v (known_of r)) e (defines T from_q))),
           );

@@ -24,7 +24,7 @@ use Rattle.c_typing.specs.Shapes.{is_function_shape}
 use Rattle.c_typing.specs.Tests.{first_broken}
 use Rattle.c_typing.specs.Typing.{IsForm}
 use Rattle.c_typing.specs.Walks
-use Rattle.c_typing.specs.Walks.{judge_declarator, judge_declarator_at}
+use Rattle.c_typing.specs.Walks.{judge_declarator, outermost_of}
 use Rattle.c_typing_laws.specs.Judged.{IsHomeAs, IsHomeOf, IsDeclaratorJudged}
 use Rattle.c_typing_laws.specs.Numbers.{AreNumberedFrom}
 use Rattle.c_typing_laws.proofs.JudgedDeclarators.{form_name}
@@ -37,7 +37,7 @@ use Rattle.c_type_order.proofs.Uses.{used-still}
 use Rattle.c_type_order.proofs.UsedWhole.{DeclaratorUsed, declarator-used}
 use Rattle.c_unit_typing.specs.DeclarationJudging.{naming_for, linked_first, declare, named, judge_named}
 use Rattle.c_unit_typing.specs.Linkage.{Linkage}
-use Rattle.c_unit_typing.specs.Units.{Known, Storage, is_one_of, is_linked_home, storage_of, outermost_of, IsNameDeclared, IsDeclarator}
+use Rattle.c_unit_typing.specs.Units.{Known, Storage, is_one_of, is_linked_home, storage_of, IsNameDeclared, IsDeclarator}
 use Rattle.c_unit_typing.specs.UnitJudged.{state_of, IsUnitKnown, UnitGoesOn, OverLater}
 use Rattle.c_unit_typing.specs.UnitJudging.{UnitState, Gives, known_of, next, pure, lifted}
 use Rattle.c_unit_typing.specs.UnitRefusals.{declared_tests, is_lasting}

@@ -11,6 +11,7 @@ use Rattle.c_types.specs.declared.shape.TypeShape.{TypeShape}
 use Rattle.c_types.specs.declared.shape.TypeShape.TheVariants.{Void, Integer, Pointer, Array, Function, Struct, Union}
 use Rattle.c_types.specs.Table.{Table, IsComplete, shape_at, descend, is_aggregate_shape}
 use Rattle.c_types.specs.Sameness.{is_same_type, same_shape, same_step}
+use Rattle.c_tree.specs.Literals.{pieces_bytes}
 use Rattle.c_tree.specs.declared.leaf.StringPiece.{StringPiece}
 use Rattle.c_tree.specs.Erasure.{erased_items}
 use Rattle.c_tree.specs.Places.{expr_place, initialiser_place}
@@ -21,7 +22,6 @@ use Rattle.c_tree.specs.TypedParts.{place_type, item_place}
 use Rattle.c_typing.specs.Cells.{count_cells}
 use Rattle.c_typing.specs.Checking.{checked, checked_value}
 use Rattle.c_typing.specs.Conversions.{IsAssigned}
-use Rattle.c_typing.specs.Rules.{pieces_bytes}
 use Rattle.c_typing.specs.Scopes.{Scopes}
 use Rattle.c_typing.specs.Settled.{IsKnown, GoesOnThere}
 use Rattle.c_typing.specs.Shapes.{IsScalar, is_scalar_shape}

@@ -9,8 +9,9 @@ use Rattle.c_types.specs.Table.{IsType}
 use Rattle.c_tree.specs.declared.leaf.Identifier.{Identifier}
 use Rattle.c_tree.specs.Tree as tree
 use Rattle.c_tree.specs.TypedTree as typed
-use Rattle.c_tree.specs.TypedTree.{TypedTranslationUnit, TypedDeclaration}
+use Rattle.c_tree.specs.TypedTree.{TypedTranslationUnit}
 use Rattle.c_tree.specs.TypedParts.{DefinedFunction, functions_of, name_of, declared_type, made_by_unit, made_by_declaration}
+use Rattle.c_typing.specs.Declarators.{name_bytes}
 use Rattle.c_typing.specs.declared.declared.Declared.TheVariants as declared
 use Rattle.c_typing.specs.Scopes.{Name}
 use Rattle.c_typing_laws.proofs.ExtensionLaws.{no_true, still_in}
@@ -20,7 +21,7 @@ use Rattle.c_type_order.proofs.Uses.{used-none, then_used}
 use Rattle.c_unit_typing.specs.DeclarationJudging.{judge_declaration}
 use Rattle.c_unit_typing.specs.DefinitionJudging.{judge_definition, judge_unit, with_named, functions_written}
 use Rattle.c_unit_typing.specs.Linkage.{with_name}
-use Rattle.c_unit_typing.specs.Units.{is_one_of, bytes_of_name}
+use Rattle.c_unit_typing.specs.Units.{is_one_of}
 use Rattle.c_unit_typing.specs.UnitJudged.{state_of, IsUnitKnown, UnitGoesOn, IsUnitJudged}
 use Rattle.c_unit_typing.specs.UnitJudging.{UnitState, Gives, known_of, next, pure}
 use Rattle.c_unit_typing.specs.WellTyped.{defined_names}
@@ -43,7 +44,7 @@ use Rattle.c_unit_typing.specs.TypesUsed.{used_by_declaration, used_by_unit}
 -- Functions that were defined
 
 abbrev pub name_in_bytes : DefinedFunction → Name
-name_in_bytes f = bytes_of_name (name_of f.declarator)
+name_in_bytes f = name_bytes (name_of f.declarator)
 
 -- a defined function has linkage, and its type is in the table
 abbrev pub IsFunctionHere : UnitState → DefinedFunction → Type 0
@@ -160,7 +161,7 @@ unit-judged (tree.AndFunctionBody u specifiers d brace items) whole s r k h =
     let j = w.judged in
     let i = definition-judged e1.0 specifiers d brace items whole m r j.goes.known e1.3 in
     let one : DefinedFunction = record { declarator = typed.Declares i.form i.type; body = i.body } in
-    let bytes : name_in_bytes one ≡ i.name.bytes = ap bytes_of_name i.named in
+    let bytes : name_in_bytes one ≡ i.name.bytes = ap name_bytes i.named in
     let written : functions_written (tree.AndFunctionBody u specifiers d brace items) ≡ functions_written u ++ i.name.bytes ∷ [] =
     ap (λ (o : Option Identifier). with_named o (functions_written u)) i.written ∙ added (functions_written u) m.linkage.defined i.name.bytes w.defined i.fresh in
     subst (λ (v : TypedTranslationUnit). IsWholeJudged (tree.AndFunctionBody u specifiers d brace items) v s r) (sym i.made) (record {

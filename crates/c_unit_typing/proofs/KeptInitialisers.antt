@@ -13,11 +13,11 @@ use Rattle.c_types.specs.declared.shape.TypeShape.TheVariants.{Void, Integer, Po
 use Rattle.c_types.specs.Table.{Table, Entry, IsType, IsComplete, shape_at, members_at, is_complete, is_complete_entry, parts_of_shape}
 use Rattle.c_types.specs.Layouts.{layout_of, size_of, offset_of, offset_of_shape, member_at}
 use Rattle.c_types.proofs.Lists.{map_same, contains_head, contains_take}
+use Rattle.c_tree.specs.Literals.{pieces_bytes}
 use Rattle.c_tree.specs.TypedTree as typed
 use Rattle.c_tree.specs.TypedTree.{TypedInitialiser, TypedItems}
 use Rattle.c_tree.specs.TypedParts.{place_type, item_place}
 use Rattle.c_typing.specs.Extensions.{IsExtended}
-use Rattle.c_typing.specs.Rules.{pieces_bytes}
 use Rattle.c_typing.specs.Scopes.{Scopes}
 use Rattle.c_typing.specs.Settled.{IsBasic}
 use Rattle.c_typing.specs.Shapes.{is_scalar_shape, is_void_shape}

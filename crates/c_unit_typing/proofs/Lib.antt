@@ -4,7 +4,6 @@ pub mod UnitStates
 pub mod NumberedTests
 pub mod TypesOfTests
 pub mod TypesOfInitialisers
-pub mod LimitedUnits
 pub mod RefusedUnits
 pub mod RefusedDefinitions
 pub mod RefusedStatements
@@ -26,6 +25,7 @@ pub mod JudgedLabels
 pub mod JudgedStatements
 pub mod StatementParts
 pub mod Scoped
+pub mod NearestLists
 pub mod JudgedDeclarations
 pub mod JudgedDeclarators
 pub mod HomeNumbers
@@ -39,6 +39,4 @@ pub mod NumberedInitialisers
 pub mod JudgedInitialisers
 pub mod JudgedTests
 pub mod JudgedSwitches
-pub mod RefusedUnit
-pub mod RefusedBodies
 pub mod TypedRow

@@ -17,7 +17,7 @@ use Rattle.c_typing.specs.Refusals.{RefusesSpecifiers}
 use Rattle.c_typing.specs.Scopes.{Scopes}
 use Rattle.c_typing.specs.Settled.{IsKnown}
 use Rattle.c_typing.specs.Typing.{AreSpecifiers}
-use Rattle.c_typing.specs.Walks.{judge_specifiers_of}
+use Rattle.c_typing.specs.Walks.{judge_specifiers_of, outermost_of}
 use Rattle.c_typing_laws.specs.Judged.{SpecifiersFail}
 use Rattle.c_typing_laws.proofs.ExtensionLaws.{no_true, still_in}
 use Rattle.c_typing_laws.proofs.KeptTrees.{specifiers-kept}
@@ -26,7 +26,7 @@ use Rattle.c_typing_laws.proofs.TableGrowth.{extended_trans}
 use Rattle.c_unit_typing.specs.DeclarationJudging.{defining, judge_named, judge_init_declarators, is_none, judge_declaration}
 use Rattle.c_unit_typing.specs.InitialiserJudging.{judge_initialiser}
 use Rattle.c_unit_typing.specs.Initialisers.{is_one_array, is_char_shape, makes_chars}
-use Rattle.c_unit_typing.specs.Units.{Known, storage_of, with_scopes, outermost_of, AreDeclarators, IsDeclarator}
+use Rattle.c_unit_typing.specs.Units.{Known, storage_of, with_scopes, AreDeclarators, IsDeclarator}
 use Rattle.c_unit_typing.specs.UnitJudged.{state_of, IsUnitKnown, AreDeclaratorsJudged}
 use Rattle.c_unit_typing.specs.UnitJudging.{UnitState, Stops, known_of, next, pure, lifted}
 use Rattle.c_unit_typing.specs.UnitRefusals.{size_written, is_lasting, RefusesInitialiser, RefusesName, RefusesDeclarators, RefusesDeclaration}

@@ -9,6 +9,7 @@ use Rattle.cc_base.specs.declared.fault.Limit.TheVariants.{Types, Cells}
 use Rattle.cc_base.specs.declared.fault.Rule.{Rule}
 use Rattle.cc_base.specs.declared.fault.Rule.TheVariants as rule
 use Rattle.c_types.specs.Table.{Table, IsComplete, shape_at}
+use Rattle.c_tree.specs.Literals.{pieces_bytes}
 use Rattle.c_tree.specs.Places.{expr_place, initialiser_place, nowhere}
 use Rattle.c_tree.specs.Tree as tree
 use Rattle.c_tree.specs.TypedTree as typed
@@ -21,7 +22,6 @@ use Rattle.c_typing.specs.Extensions.{IsExtended}
 use Rattle.c_typing.specs.Judging as judging
 use Rattle.c_typing.specs.Judging.{State}
 use Rattle.c_typing.specs.Refusals.{Fails, After, Refuses}
-use Rattle.c_typing.specs.Rules.{pieces_bytes}
 use Rattle.c_typing.specs.Scopes.{Scopes}
 use Rattle.c_typing.specs.Settled.{IsBasic, IsKnown, GoesOn}
 use Rattle.c_typing.specs.Shapes.{is_scalar_shape}
@@ -36,7 +36,6 @@ use Rattle.c_unit_typing.specs.InitialiserJudging.{text_tests, text, initialised
 use Rattle.c_unit_typing.specs.Linkage.{Linkage}
 use Rattle.c_unit_typing.specs.UnitJudged.{state_of, AreItemsJudged}
 use Rattle.c_unit_typing.specs.UnitJudging.{UnitState, Gives, Stops, next, pure, stop, obeying, lifted}
-use Rattle.c_unit_typing.specs.UnitRefusals as refusals
 use Rattle.c_unit_typing.specs.UnitRefusals.{Asked, is_constant_part, initialises_type, value_tests, is_too_long, RefusesValue, item_type, IsExcess, AreExcess, RefusesExcess, RefusesAllExcess, RefusesBraces, RefusesInitialiser, RefusesItems}
 use Rattle.c_unit_typing.proofs.ConstantParts.{initial-part}
 use Rattle.c_unit_typing.proofs.JudgedInitialisers.{slot_is, items-judged}
@@ -99,7 +98,7 @@ value_refused T asked (tree.String pieces) at t true s f n h = no_true (sym n)
 value_refused T asked (tree.String pieces) at t false s f n h = h
 value_refused T asked e at t b s f n h = h
 
-slot_type_same : (o : Option Slot) → refusals.slot_type o ≡ slot_type o
+slot_type_same : (o : Option Slot) → slot_type o ≡ slot_type o
 slot_type_same None = refl
 slot_type_same (Some slot) = refl
 
@@ -288,7 +287,7 @@ module _ (p : Place) (t : Rule) where
   slot_whole T b text u n c (Some slot) q v h =
       subst (IsComplete T) (some-same slot.type v h) (slot-complete T b text u n slot.offset slot.type c (slot_is T text u n slot q))
 
-  literal_same : (items : tree.Items) → is_only_literal items ≡ refusals.is_only_literal items
+  literal_same : (items : tree.Items) → is_only_literal items ≡ is_only_literal items
   literal_same tree.NoItem = refl
   literal_same (tree.AndItem tree.NoItem (tree.Value (tree.String pieces))) = refl
   literal_same (tree.AndItem tree.NoItem (tree.Value e)) = refl
@@ -338,7 +337,7 @@ module _ (p : Place) (t : Rule) where
         let P : Table → Type 0 = λ T. RefusesInitialiser T (asked_at constant s) (tree.Listed brace items comma) at (Some u) false s.seen.scopes (Refused p t) in
         stopped-step p t (judge_items constant items text u s) (λ list. pure (typed.Listed brace list comma u)) P s r
         (λ q. stopped-as p t (λ T. RefusesItems T (asked_at constant s) items u text s.seen.scopes (Refused p t)) P s r
-        (λ x f. subst (λ (b : Bool). RefusesItems r.table (asked_at constant s) items u (refusals.is_only_literal items && b) s.seen.scopes (Refused p t)) (sym (is_chars-same s.table r.table x k.basic u (c u refl)))
+        (λ x f. subst (λ (b : Bool). RefusesItems r.table (asked_at constant s) items u (is_only_literal items && b) s.seen.scopes (Refused p t)) (sym (is_chars-same s.table r.table x k.basic u (c u refl)))
         (subst (λ (b : Bool). RefusesItems r.table (asked_at constant s) items u (b && is_char_array s.table u) s.seen.scopes (Refused p t)) (literal_same items) f))
         (items-stopped items constant text u s r k (c u refl) q))
         (λ list m q g. never-stops (typed.Listed brace list comma u) (Refused p t) m r g) h

@@ -30,13 +30,13 @@ use Rattle.c_typing.specs.Settled.{IsKnown}
 use Rattle.c_typing.specs.Shapes.{is_function_shape}
 use Rattle.c_typing.specs.Typing.{IsForm}
 use Rattle.c_typing.specs.Walks
-use Rattle.c_typing.specs.Walks.{judge_declarator}
+use Rattle.c_typing.specs.Walks.{judge_declarator, outermost_of}
 use Rattle.c_typing_laws.proofs.ExtensionLaws.{extended_refl}
 use Rattle.c_typing_laws.proofs.JudgedDeclarators.{form_name}
 use Rattle.c_typing_laws.proofs.Outcomes
 use Rattle.c_typing_laws.proofs.RefusedWhole.{declarator-refuses}
 use Rattle.c_unit_typing.specs.DeclarationJudging.{naming_for, linked_first, is_linked_object, complete_size, new_in, new_name, linked_name, object_name, count_object, lasting, new_static, declare_object, declare_by, declare, defining, named, judge_named}
-use Rattle.c_unit_typing.specs.Units.{Known, Storage, Unstored, AsTypedef, AsExtern, AsStatic, AsAutomatic, storage_of, outermost_of}
+use Rattle.c_unit_typing.specs.Units.{Known, Storage, Unstored, AsTypedef, AsExtern, AsStatic, AsAutomatic, storage_of}
 use Rattle.c_unit_typing.specs.UnitJudged.{state_of, IsUnitKnown}
 use Rattle.c_unit_typing.specs.UnitJudging.{UnitState, Gives, Stops, known_of, next, pure, lifted}
 use Rattle.c_unit_typing.specs.UnitRefusals.{declared_tests, RefusesName}

@@ -8,12 +8,11 @@ use Rattle.c_tree.specs.declared.operator.AggregateKind.{AggregateKind}
 use Rattle.c_tree.specs.declared.typed_word.Home.TheVariants as home
 use Rattle.c_tree.specs.TypedTree as typed
 use Rattle.c_tree.specs.TypedTree.{TypedExpr, TypedPlace, TypedArguments, TypedTypeName, TypedSpecifiers, TypedSpecifierList, TypedSpecifier, TypedMembers, TypedMemberDeclarators, TypedEnumerators, TypedForm, TypedCore, TypedParts, TypedParameters, TypedDeclared, TypedInitialiser, TypedItems}
-use Rattle.c_tree.specs.TypedParts.{specified_type, item_place}
+use Rattle.c_tree.specs.TypedParts.{specified_type, item_place, is_void_list}
 use Rattle.c_typing.specs.declared.declared.Tag.{Tag}
 use Rattle.c_typing.specs.declared.declared.Tag.TheVariants as tag
-use Rattle.c_typing.specs.Declarators.{is_void_list}
 use Rattle.c_typing.specs.Scopes.{Scopes, tag_in, tag_here, entering}
-use Rattle.c_typing.specs.Typing.{IsTyped, IsPlace, AreTyped, IsTypeName, AreSpecifiers, AreAlone, AreListed, IsSpecifier, AreMembers, AreMemberDeclarators, AreEnumerators, IsForm, IsCore, AreParts, AreParameters, IsDeclared, IsNewAggregate, IsTagged, BeginsAggregate, DeclaresParameter, tagging, counting_aggregate, tag_named_here, enumerating}
+use Rattle.c_typing.specs.Typing.{IsTyped, IsPlace, AreTyped, IsTypeName, AreSpecifiers, AreAlone, AreListed, IsSpecifier, AreMembers, AreMemberDeclarators, AreEnumerators, IsForm, IsCore, AreParts, AreParameters, IsDeclared, IsNewAggregate, IsTagged, BeginsAggregate, DeclaresParameter, tagging, counting_aggregate, tag_named_here, enumerating, EndsEnumeration}
 use Rattle.c_unit_typing.specs.Initialisers.{is_only_text, is_char_array, IsInitialiser, AreItems}
 
 as_it_is : (s s' : Scopes) → s' ≡ s → s'.defined ≡ s.defined
@@ -34,9 +33,17 @@ begun-defined : (T : Table) (o : Option Tag) (which : AggregateKind) (name : Opt
 begun-defined T (Some found) which name t s s' h = as_it_is s s' h.2
 begun-defined T None which name t s s' h = new-defined T which name t s s' h
 
-enumerating-defined : (name : Option Identifier) (s : Scopes) → tag_named_here s name ≡ None → (enumerating name s).defined ≡ s.defined
-enumerating-defined None s h = refl
-enumerating-defined (Some name) s h = rw h refl
+enumerating-defined : (name : Option Identifier) (s : Scopes) → (enumerating name s).defined ≡ s.defined
+enumerating-defined None s = refl
+enumerating-defined (Some name) s = by (tag_named_here s (Some name)) refl
+  where
+    by : (o : Option Tag) → tag_named_here s (Some name) ≡ o → (enumerating (Some name) s).defined ≡ s.defined
+    by None h = rw h refl
+    by (Some found) h = rw h refl
+
+enumerated-defined : (name : Option Identifier) (s s' : Scopes) → EndsEnumeration name s s' → s'.defined ≡ s.defined
+enumerated-defined None s s' h = as_it_is s s' h.after
+enumerated-defined (Some name) s s' h = ap (λ (q : Scopes). q.defined) h.after
 
 parameter_form-defined : (form : TypedForm) (t : TypeId) (s s' : Scopes) → DeclaresParameter (typed.DeclaredBy form) t s s' → s'.defined ≡ s.defined
 parameter_form-defined (typed.Form stars (typed.Names name (home.Parameter n)) parts) t s s' h = ap (λ (q : Scopes). q.defined) h.after
@@ -121,7 +128,8 @@ module _ (T : Table) where
         ap (λ (q : Scopes). q.defined) h.4.after
         ∙ (members-defined members h.0 h.1 h.3 ∙ begun-defined T (tag_named_here s name) which name t s h.0 h.2)
     specifier-defined (typed.Enum at name) s s' h = as_it_is s s' h.0
-    specifier-defined (typed.Enumeration at name brace all comma) s s' h = enumerators-defined all (enumerating name s) s' h.1 ∙ enumerating-defined name s h.0
+    specifier-defined (typed.Enumeration at name brace all comma) s s' h =
+        enumerated-defined name h.0 s' h.2 ∙ enumerators-defined all (enumerating name s) h.0 h.1 ∙ enumerating-defined name s
 
     members-defined : (all : TypedMembers) (s s' : Scopes) → AreMembers T all s s' → s'.defined ≡ s.defined
     members-defined typed.NoMember s s' h = as_it_is s s' h

@@ -208,6 +208,8 @@ main-defined = record {
     type = (type 5, type 9, refl, (type 9, record { gives = refl; shape = (lit< tt, refl) }, refl), refl);
     declares = record { here_agrees = tt; linked_agrees = tt; runtime_agrees = λ function h. absurd (main-own function h); after = refl };
   };
+  inside = prototype;
+  listed = (prototype, prototype, prototype, refl, voids-typed prototype, refl, refl, (refl, refl), (lit< tt, refl), refl);
   once = refl;
   own = main-own;
   after = with_p;

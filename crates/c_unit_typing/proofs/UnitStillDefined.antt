@@ -3,19 +3,19 @@ use Rattle.std.proofs.Common.{◌≡◌, Bool, true, false, [], ◌∷◌, ◌++
 use Rattle.cc_base.specs.declared.place.Place.{Place}
 use Rattle.cc_base.specs.declared.number.TypeId.{TypeId}
 use Rattle.c_types.specs.Table.{Table, shape_at}
-use Rattle.c_tree.specs.declared.leaf.Identifier.{Identifier}
 use Rattle.c_tree.specs.declared.typed_word.Home.{Home}
 use Rattle.c_tree.specs.declared.typed_word.Home.TheVariants as home
 use Rattle.c_tree.specs.TypedTree as typed
-use Rattle.c_tree.specs.TypedTree.{TypedExpr, TypedSpecifiers, TypedForm, TypedParameters, TypedInitialiser, TypedInitDeclarators, TypedDeclaration, TypedStatement, TypedBlockItems, TypedTranslationUnit}
-use Rattle.c_tree.specs.TypedParts.{type_of, specified_type, declared_home, home_of, name_of_form}
+use Rattle.c_tree.specs.TypedTree.{TypedExpr, TypedSpecifiers, TypedForm, TypedInitialiser, TypedInitDeclarators, TypedDeclaration, TypedStatement, TypedBlockItems, TypedTranslationUnit}
+use Rattle.c_tree.specs.TypedParts.{type_of, specified_type, home_of, name_of_form}
+use Rattle.c_typing.specs.Walks.{outermost_of}
 use Rattle.c_typing.specs.declared.declared.Declared.{Declared}
 use Rattle.c_typing.specs.declared.declared.Declared.TheVariants as declared
-use Rattle.c_typing.specs.Declarators.{Outermost, Written}
-use Rattle.c_typing.specs.Scopes.{Name, Scopes, here, entry_of, entering}
+use Rattle.c_typing.specs.Declarators.{Outermost, Written, name_bytes}
+use Rattle.c_typing.specs.Scopes.{Name, Scopes, here, innermost, entry_of, entering}
 use Rattle.c_typing.specs.Shapes.{is_function_shape}
 use Rattle.c_unit_typing.specs.Initialisers.{is_char_array, size_given}
-use Rattle.c_unit_typing.specs.Units.{Known, Storage, Unstored, AsTypedef, AsExtern, AsStatic, AsAutomatic, Around, storage_of, with_scopes, unless_here, IsLinked, IsLinkedObject, IsStaticOrLocal, IsFunctionDeclared, IsObjectDeclared, IsTypedefDeclared, IsOrdinaryDeclared, IsNameDeclared, IsDeclarator, outermost_of, bytes_of_name, is_linked_home, IsDefinedOnce, IsInitialised, AreDeclarators, IsDeclaration, in_a_loop, in_a_switch, IsDropped, IsTested, IsTestedOrNone, IsReturned, entering_known, leaving_known, IsStatement, AreBlockItems, parameter_declared, declared_identifier, with_parameters, IsDefinition, IsUnitTyped}
+use Rattle.c_unit_typing.specs.Units.{Known, Storage, Unstored, AsTypedef, AsExtern, AsStatic, AsAutomatic, Around, storage_of, with_scopes, unless_here, IsLinked, IsLinkedObject, IsStaticOrLocal, IsFunctionDeclared, IsObjectDeclared, IsTypedefDeclared, IsOrdinaryDeclared, IsNameDeclared, IsDeclarator, is_linked_home, IsDefinedOnce, IsInitialised, AreDeclarators, IsDeclaration, in_a_loop, in_a_switch, IsDropped, IsTested, IsTestedOrNone, IsReturned, entering_known, leaving_known, IsStatement, AreBlockItems, going_on, IsDefinition, IsUnitTyped}
 use Rattle.c_unit_typing.proofs.StillDefined.{value-defined, specifiers-defined, form-defined, alone-defined, initialiser-defined}
 
 -- the same functions
@@ -28,16 +28,6 @@ as_known k k' h = ap (λ (q : Known). q.scopes.defined) h
 unless_defined : (o : Option Declared) (name : Name) (what : Declared) (s : Scopes) → (unless_here o name what s).defined ≡ s.defined
 unless_defined None name what s = refl
 unless_defined (Some first) name what s = refl
-
-parameter_defined : (name : Option Identifier) (h : Home) (t : TypeId) (s : Scopes) → (parameter_declared name h t s).defined ≡ s.defined
-parameter_defined (Some name) (home.Parameter n) t s = refl
-parameter_defined (Some name) h t s = refl
-parameter_defined None h t s = refl
-
-parameters_defined : (ps : TypedParameters) (s : Scopes) → (with_parameters ps s).defined ≡ s.defined
-parameters_defined typed.NoParameter s = refl
-parameters_defined (typed.AndParameter all specifiers d adjusted t) s =
-    parameter_defined (declared_identifier d) (declared_home d) t (with_parameters all s) ∙ parameters_defined all s
 
 module _ (T : Table) where
   linked_defined : (name : Name) (what : Declared) (k k' : Known) → IsLinked T name what k k' → IsSame k k'
@@ -97,7 +87,7 @@ module _ (T : Table) where
   declarators_defined file storage base (typed.AndPlain all (typed.Declares form t)) k k' d =
       declarator_defined file storage base Written form t d.0 k' d.2 ∙ declarators_defined file storage base all k d.0 d.1
   declarators_defined file storage base (typed.AndInitialised all (typed.Declares form t) at i) k k' d =
-      initialised_defined (home_of (typed.Declares form t)) (with_scopes d.1 d.2) (bytes_of_name (name_of_form form)) i k' d.6
+      initialised_defined (home_of (typed.Declares form t)) (with_scopes d.1 d.2) (name_bytes (name_of_form form)) i k' d.6
       ∙ (initialiser-defined T i at t d.1.scopes d.2 d.5
       ∙ (declarator_defined file storage base (outermost_of (size_given (is_char_array T t) i)) form t d.0 d.1 d.4 ∙ declarators_defined file storage base all k d.0 d.3))
 
@@ -166,12 +156,11 @@ module _ (T : Table) where
   definition_defined specifiers form t body k k' d =
       as_known (leaving_known d.after) k' d.leaves
       ∙ (items_defined body (record { result = d.result; in_loop = false; breakable = false }) None (record d.declared {
-        scopes = with_parameters d.parameters (entering d.declared.scopes);
+        scopes = going_on (innermost d.inside.levels) d.declared.scopes;
         defined = d.declared.defined ++ d.name.bytes ∷ [];
       }) d.after d.statements
-      ∙ (parameters_defined d.parameters (entering d.declared.scopes)
       ∙ (declarator_defined true (storage_of specifiers) (specified_type specifiers) Written form t (with_scopes k d.before) d.declared d.declares
-      ∙ specifiers-defined T specifiers k.scopes d.before d.specified)))
+      ∙ specifiers-defined T specifiers k.scopes d.before d.specified))
 
   pub unit-defined : (u : TypedTranslationUnit) (k k' : Known) → IsUnitTyped T u k k' → IsSame k k'
   unit-defined typed.NoExternal k k' d = as_known k k' d

@@ -13,6 +13,7 @@ use Rattle.c_tree.specs.Tree as tree
 use Rattle.c_tree.specs.TypedTree as typed
 use Rattle.c_tree.specs.TypedTree.{TypedForm, TypedCore, TypedParts, TypedParameters, TypedInitialiser, TypedItems}
 use Rattle.c_tree.specs.TypedParts.{place_type}
+use Rattle.c_typing.specs.Walks.{outermost_of}
 use Rattle.c_typing.specs.Declarators.{Outermost, Written, Counts, Points, is_pointed, MakesArray, MakesFunction, nearest, PartsMake, StarsMake, is_no_part, is_derived, is_derived_core, outside, FormMakes, CoreMakes}
 use Rattle.c_typing.specs.Scopes.{Scopes}
 use Rattle.c_typing.specs.Settled.{IsKnown}
@@ -21,7 +22,6 @@ use Rattle.c_typing_laws.proofs.ConstructLaws.{either_false}
 use Rattle.c_typing_laws.proofs.ExtensionLaws.{no_true, and_left, and_right}
 use Rattle.c_unit_typing.specs.Initialisers.{is_char_array, has_count, char_count_of_shape, char_count_of_element, is_bare, is_bare_core, is_one_array, is_one_array_core, is_char_shape, makes_chars, is_only_text, items_count, listed_size, size_given, IsInitialiser, AreItems}
 use Rattle.c_unit_typing.specs.InitialiserJudging.{is_only_literal, judge_initialiser, judge_items}
-use Rattle.c_unit_typing.specs.Units.{outermost_of}
 use Rattle.c_unit_typing.specs.UnitJudged.{state_of}
 use Rattle.c_unit_typing.specs.UnitJudging.{UnitState, Gives, pure}
 use Rattle.c_unit_typing.specs.UnitRefusals.{count_written, listed_written, size_written}

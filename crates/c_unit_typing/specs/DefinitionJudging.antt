@@ -10,44 +10,27 @@ use Rattle.c_types.specs.declared.shape.TypeShape.TheVariants as shape
 use Rattle.c_types.specs.Table.{Table, shape_at}
 use Rattle.c_types.specs.Calls.{basic_table}
 use Rattle.c_tree.specs.declared.leaf.Identifier.{Identifier}
-use Rattle.c_tree.specs.declared.typed_word.Home.{Home}
-use Rattle.c_tree.specs.declared.typed_word.Home.TheVariants as home
 use Rattle.c_tree.specs.Tree as tree
 use Rattle.c_tree.specs.TypedTree as typed
-use Rattle.c_tree.specs.TypedTree.{TypedSpecifiers, TypedDeclarator, TypedForm, TypedParameters, TypedBlockItems, TypedTranslationUnit}
-use Rattle.c_tree.specs.TypedParts.{declared_home, declared_type}
+use Rattle.c_tree.specs.TypedTree.{TypedSpecifiers, TypedDeclarator, TypedBlockItems, TypedTranslationUnit}
+use Rattle.c_tree.specs.TypedParts.{declared_type, specified_type, form_of}
 use Rattle.c_typing.specs.declared.declared.Declared.{Declared}
 use Rattle.c_typing.specs.declared.declared.Declared.TheVariants as declared
-use Rattle.c_typing.specs.Scopes.{Name, file_scope, place_among, entry_of}
+use Rattle.c_typing.specs.Scopes.{Name, Level, file_scope, place_among, entry_of}
 use Rattle.c_typing.specs.Tests.{Test, broken_at, has_some}
-use Rattle.c_typing.specs.Declaring.{declarator_name, entered, left}
+use Rattle.c_typing.specs.Judging as judging
+use Rattle.c_typing.specs.Specifying.{in_scopes}
+use Rattle.c_typing.specs.Declaring.{declarator_name, left}
 use Rattle.c_typing.specs.Walks.{judge_declarator, judge_specifiers_of}
-use Rattle.c_unit_typing.specs.Units.{storage_of, parameters_of_form, declared_identifier}
+use Rattle.c_unit_typing.specs.Units.{storage_of, parameters_of_form, going_on}
+use Rattle.c_unit_typing.specs.ParameterScopes.{level_of}
 use Rattle.c_unit_typing.specs.UnitRefusals.{definition_tests, start_of_text, is_integer_of}
 use Rattle.c_unit_typing.specs.Linkage.{no_linkage, with_name}
 use Rattle.c_unit_typing.specs.UnitJudging.{UnitState, UnitJudging, Gives, known_of, known, pure, stop, obeying, by_known, lifted, ◌>>=◌, ◌>>◌}
-use Rattle.c_unit_typing.specs.DeclarationJudging.{naming_for, linked_first, linked_name, new_name, judge_declaration}
+use Rattle.c_unit_typing.specs.DeclarationJudging.{naming_for, linked_first, linked_name, judge_declaration}
 use Rattle.c_unit_typing.specs.StatementJudging.{judge_block_items}
 
--- Parameters
-
-unfoldable pub declare_parameter : Option Identifier → Home → TypeId → UnitJudging Bool
-declare_parameter (Some name) (home.Parameter n) t = do
-  what ← new_name name (declared.Object t n)
-  pure true
-declare_parameter name home t = pure false
-
--- the parameters are the first names of the body's scope
-unfoldable pub declare_parameters : TypedParameters → UnitJudging Bool
-declare_parameters typed.NoParameter = pure true
-declare_parameters (typed.AndParameter all specifiers one adjusted t) = do
-  before ← declare_parameters all
-  declare_parameter (declared_identifier one) (declared_home one) t
-
 -- Function definitions
-
-abbrev pub form_of : TypedDeclarator → TypedForm
-form_of (typed.Declares form t) = form
 
 -- a unit defines no more than 65,535 functions; `number` is how many come before
 unfoldable pub counted : Place → (number : Option ℕ) → UnitJudging ℕ
@@ -64,14 +47,13 @@ abbrev pub result_of : TypeShape → Option TypeId
 result_of (shape.Function parameters result) = Some result
 result_of shape = None
 
--- the body, in a scope that begins with the parameters
-unfoldable pub body : Place → Option TypeId → Option TypedParameters → tree.BlockItems → UnitJudging TypedBlockItems
-body brace (Some result) (Some parameters) items = do
-  inside ← lifted entered
-  declared ← declare_parameters parameters
+-- the body, in the scope that the list of parameters leaves
+unfoldable pub body : Place → Option TypeId → Level → tree.BlockItems → UnitJudging TypedBlockItems
+body brace None level items = stop (TooLarge brace Types)
+body brace (Some result) level items = do
+  inside ← lifted (in_scopes (going_on level) true)
   list ← judge_block_items (record { result = result; in_loop = false; breakable = false }) None items
   lifted (left brace list)
-body brace result parameters items = stop (TooLarge brace Types)
 
 unfoldable pub defined_as : Option Identifier → TypedSpecifiers → TypedDeclarator → UnitJudging TypedDeclarator
 defined_as None base one = stop (TooLarge start_of_text Types)
@@ -85,9 +67,11 @@ defined_as (Some name) base one = obeying
 unfoldable pub judge_definition : TypedTranslationUnit → tree.Specifiers → tree.Declarator → Place → tree.BlockItems → UnitJudging TypedTranslationUnit
 judge_definition before specifiers d brace items = do
   base ← lifted (judge_specifiers_of false specifiers)
-  one ← by_known (λ s. lifted (judge_declarator (naming_for true (storage_of base) (linked_first s.linkage.linked (declarator_name d))) base None d))
+  which ← by_known (λ s. pure (naming_for true (storage_of base) (linked_first s.linkage.linked (declarator_name d))))
+  level ← by_known (λ s. pure (level_of which (specified_type base) d (judging.known s.table s.seen)))
+  one ← lifted (judge_declarator which base None d)
   again ← defined_as (declarator_name d) base one
-  list ← by_known (λ s. body brace (result_of (shape_at s.table (declared_type one))) (parameters_of_form (form_of one) None) items)
+  list ← by_known (λ s. body brace (result_of (shape_at s.table (declared_type one))) level items)
   pure (typed.AndFunctionBody before base one brace list)
 
 -- Units

@@ -7,13 +7,13 @@ use Rattle.cc_base.specs.declared.fault.Fault.TheVariants.{Refused, TooLarge}
 use Rattle.cc_base.specs.declared.fault.Rule.TheVariants as rule
 use Rattle.cc_base.specs.declared.fault.Limit.TheVariants.{Types}
 use Rattle.c_types.specs.Table.{Table, shape_at}
+use Rattle.c_tree.specs.Literals.{pieces_bytes}
 use Rattle.c_tree.specs.declared.leaf.StringPiece.{StringPiece}
 use Rattle.c_tree.specs.Places.{expr_place, initialiser_place, nowhere}
 use Rattle.c_tree.specs.Tree as tree
 use Rattle.c_tree.specs.TypedTree as typed
 use Rattle.c_tree.specs.TypedTree.{TypedExpr, TypedInitialiser, TypedItems}
 use Rattle.c_tree.specs.TypedParts.{place_type}
-use Rattle.c_typing.specs.Rules.{pieces_bytes}
 use Rattle.c_typing.specs.Shapes.{is_scalar_shape}
 use Rattle.c_typing.specs.Tests.{Test, broken_at}
 use Rattle.c_typing.specs.Cells.{count_cells}

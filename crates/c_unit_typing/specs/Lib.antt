@@ -10,5 +10,6 @@ pub mod UnitJudging
 pub mod InitialiserJudging
 pub mod DeclarationJudging
 pub mod StatementJudging
+pub mod ParameterScopes
 pub mod DefinitionJudging
 pub mod UnitJudged

@@ -14,6 +14,7 @@ use Rattle.c_types.specs.declared.shape.TypeShape.TheVariants.{Integer, Function
 use Rattle.c_types.specs.Equality.{same_bool}
 use Rattle.c_types.specs.Table.{Table, HasShape, shape_at, is_aggregate_shape}
 use Rattle.c_types.specs.Sameness.{is_same_type}
+use Rattle.c_tree.specs.Literals.{pieces_bytes}
 use Rattle.c_tree.specs.declared.leaf.Identifier.{Identifier}
 use Rattle.c_tree.specs.declared.leaf.StringPiece.{StringPiece}
 use Rattle.c_tree.specs.declared.typed_word.Runtime.{Runtime}
@@ -21,27 +22,28 @@ use Rattle.c_tree.specs.Places.{expr_place, initialiser_place, nowhere}
 use Rattle.c_tree.specs.Tree as tree
 use Rattle.c_tree.specs.TypedTree as typed
 use Rattle.c_tree.specs.TypedTree.{TypedExpr, TypedSpecifiers, TypedForm, TypedParameters, TypedItems, TypedInitDeclarators, TypedDeclaration, TypedStatement, TypedBlockItems, TypedTranslationUnit}
-use Rattle.c_tree.specs.TypedParts.{place_type, type_of, specified_type, name_of_form}
+use Rattle.c_tree.specs.TypedParts.{place_type, type_of, specified_type, name_of_form, is_void_list}
 use Rattle.c_tree.specs.Erasure.{erased, erased_specifiers, erased_form, erased_items, erased_init_declarators, erased_declaration, erased_optional, erased_statement, erased_block_items, erased_unit}
 use Rattle.integers.specs.Arithmetic.{IntegerType, converted}
 use Rattle.runtime_calls.specs.declared.function.RuntimeType.{RuntimeType}
 use Rattle.runtime_calls.specs.declared.function.RuntimeType.TheVariants as prototype
 use Rattle.runtime_calls.specs.Prototypes.{prototype_of, runtime_of}
+use Rattle.c_typing.specs.Walks.{outermost_of}
 use Rattle.c_typing.specs.declared.declared.Declared.{Declared}
 use Rattle.c_typing.specs.declared.declared.Declared.TheVariants as declared
 use Rattle.c_typing.specs.Shapes.{integer_at, is_integer_shape, is_scalar_shape, is_void_shape, is_function_shape}
-use Rattle.c_typing.specs.Scopes.{Name, Scopes, here, entry_of, entering, leaving, is_complete_at}
+use Rattle.c_typing.specs.Scopes.{Name, Scopes, here, innermost, entry_of, entering, leaving, is_complete_at}
 use Rattle.c_typing.specs.Constants.{constant_value, with_value, is_void_pointer}
 use Rattle.c_typing.specs.Conversions.{IsPlain}
 use Rattle.c_typing.specs.Declarators.{Outermost, Written, FormMakes}
-use Rattle.c_typing.specs.Typing.{IsTyped, AreSpecifiers, IsForm}
-use Rattle.c_typing.specs.Rules.{pieces_bytes}
+use Rattle.c_typing.specs.Typing.{IsTyped, AreSpecifiers, AreParameters, IsForm}
 use Rattle.c_typing.specs.Integers.{promoted}
 use Rattle.c_typing.specs.Judging.{integer_type}
 use Rattle.c_typing.specs.Tests
 use Rattle.c_typing.specs.Refusals.{Fails, IsElaborated, Refuses, After, name_place, RefusesSpecifiers, RefusesAlone, RefusesDeclarator, FormFails}
-use Rattle.c_unit_typing.specs.Initialisers.{Slot, slot_of_shape, items_count, char_count_of_shape, is_char_array, is_constant, is_constant_place, AreItems, makes_chars}
-use Rattle.c_unit_typing.specs.Units.{Known, Storage, AsTypedef, AsExtern, AsStatic, storage_of, with_scopes, is_one_of, outermost_of, is_linked_home, IsDeclarator, AreDeclarators, IsDeclaration, Around, in_a_loop, in_a_switch, IsDropped, entering_known, AreDifferent, labels_of, defaults_in, IsStatement, parameters_of_form, with_parameters, leaving_known, IsUnitTyped}
+use Rattle.c_unit_typing.specs.InitialiserJudging.{is_only_literal, slot_type}
+use Rattle.c_unit_typing.specs.Initialisers.{slot_of_shape, items_count, char_count_of_shape, is_char_array, is_constant, is_constant_place, AreItems, makes_chars}
+use Rattle.c_unit_typing.specs.Units.{Known, Storage, AsTypedef, AsExtern, AsStatic, storage_of, with_scopes, is_one_of, is_linked_home, IsDeclarator, AreDeclarators, IsDeclaration, Around, in_a_loop, in_a_switch, IsDropped, entering_known, AreDifferent, labels_of, defaults_in, IsStatement, parameters_of_form, going_on, leaving_known, IsUnitTyped}
 use Rattle.c_unit_typing.specs.WellTyped.{HasMain}
 
 -- Initialisers (C99 6.7.8)
@@ -79,14 +81,6 @@ abbrev pub RefusesValue : Table → Asked → tree.Expr → Place → TypeId →
 RefusesValue T asked (tree.String pieces) at t true s f =
     Fails (Tests.broken_at rule.Mismatch at (is_too_long (char_count_of_shape T (shape_at T t)) pieces) ∷ []) f
 RefusesValue T asked e at t of_char s f = Refuses T false e s f ⊎ After T e s (λ x m. Fails (value_tests T asked at (expr_place e) t x) f)
-
-abbrev pub is_only_literal : tree.Items → Bool
-is_only_literal (tree.AndItem tree.NoItem (tree.Value (tree.String pieces))) = true
-is_only_literal items = false
-
-abbrev pub slot_type : Option Slot → Option TypeId
-slot_type None = None
-slot_type (Some slot) = Some slot.type
 
 -- the type of the item with this number
 abbrev pub item_type : Table → (text : Bool) → TypeId → ℕ → Option TypeId
@@ -438,10 +432,10 @@ RefusesDefinition T specifiers d items k f =
     ⊎ ((name : Identifier) × (t : TypeId) × (name_of_form form ≡ Some name) × FormMakes T m form Written (specified_type u) t
     × (Fails (definition_tests T (with_scopes k m) (storage_of u) (Tests.has_some (parameters_of_form form None)) name.bytes t name.place) f
     ⊎ ((parameters : TypedParameters) × (n : Known) × (types : List TypeId) × (result : TypeId) × (parameters_of_form form None ≡ Some parameters)
-    × HasShape T t (Function types result)
+    × HasShape T t (Function types result) × (inside : Scopes) × AreParameters T (is_void_list parameters) parameters (entering s) inside
     × IsDeclarator T true (storage_of u) (specified_type u) Written form t (with_scopes k s) n
     × RefusesItemsOf T (record { result = result; in_loop = false; breakable = false }) None items
-    (record n { scopes = with_parameters parameters (entering n.scopes); defined = n.defined ++ name.bytes ∷ [] }) f)))))))
+    (record n { scopes = going_on (innermost inside.levels) n.scopes; defined = n.defined ++ name.bytes ∷ [] }) f)))))))
 
 abbrev pub RefusesParts : Table → tree.TranslationUnit → Known → Fault → Type 0
 RefusesParts T tree.NoExternal k f = ⊥

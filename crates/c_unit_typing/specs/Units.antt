@@ -13,20 +13,21 @@ use Rattle.c_tree.specs.declared.leaf.Identifier.{Identifier}
 use Rattle.c_tree.specs.declared.typed_word.Home.{Home}
 use Rattle.c_tree.specs.declared.typed_word.Home.TheVariants as home
 use Rattle.c_tree.specs.TypedTree as typed
-use Rattle.c_tree.specs.TypedTree.{TypedExpr, TypedSpecifiers, TypedSpecifierList, TypedForm, TypedCore, TypedParts, TypedParameters, TypedDeclared, TypedInitialiser, TypedInitDeclarators, TypedDeclaration, TypedStatement, TypedBlockItems, TypedTranslationUnit}
-use Rattle.c_tree.specs.TypedParts.{type_of, specified_type, home_of, declared_home, name_of_form}
+use Rattle.c_tree.specs.TypedTree.{TypedExpr, TypedSpecifiers, TypedSpecifierList, TypedForm, TypedCore, TypedParts, TypedParameters, TypedInitialiser, TypedInitDeclarators, TypedDeclaration, TypedStatement, TypedBlockItems, TypedTranslationUnit}
+use Rattle.c_tree.specs.TypedParts.{type_of, specified_type, home_of, name_of_form, is_void_list}
 use Rattle.integers.specs.Arithmetic.{IntegerType, converted}
 use Rattle.c_tree.specs.declared.typed_word.Runtime.{Runtime}
 use Rattle.runtime_calls.specs.Prototypes.{IsNamed, IsNoName, HasPrototype}
+use Rattle.c_typing.specs.Walks.{outermost_of}
 use Rattle.c_typing.specs.declared.declared.Declared.{Declared}
 use Rattle.c_typing.specs.declared.declared.Declared.TheVariants as declared
 use Rattle.c_typing.specs.Shapes.{integer_at, is_function_shape, is_void_shape}
-use Rattle.c_typing.specs.Scopes.{Name, Scopes, here, declaring, entering, leaving, entry_of, is_complete_at}
+use Rattle.c_typing.specs.Scopes.{Name, Level, Scopes, here, innermost, declaring, entering, leaving, entry_of, is_complete_at}
 use Rattle.c_typing.specs.Constants.{constant_value}
 use Rattle.c_typing.specs.Conversions.{IsPlain, IsConverted}
 use Rattle.c_typing.specs.Rules.{IsCondition, IsPromoted, IsDroppable}
-use Rattle.c_typing.specs.Declarators.{Outermost, Written, Counts, FormMakes}
-use Rattle.c_typing.specs.Typing.{IsTyped, AreSpecifiers, AreAlone, IsForm, IsNewName}
+use Rattle.c_typing.specs.Declarators.{Outermost, Written, FormMakes, name_bytes}
+use Rattle.c_typing.specs.Typing.{IsTyped, AreSpecifiers, AreAlone, IsForm, IsNewName, AreParameters}
 use Rattle.c_unit_typing.specs.Initialisers.{IsInitialiser, is_constant_initialiser, is_char_array, size_given, with_home}
 
 -- What is known at a point of a unit.
@@ -172,11 +173,6 @@ pub record IsDeclarator (table : Table) (file : Bool) (storage : Storage) (base 
 
 -- Initialised declarators (C99 6.7.8)
 
--- what an initialiser says of the missing size of an array
-abbrev pub outermost_of : Option ℕ → Outermost
-outermost_of None = Written
-outermost_of (Some count) = Counts count
-
 -- the home is that of the name with linkage
 abbrev pub is_linked_home : Option Declared → NodeId → Bool
 is_linked_home (Some (declared.Object t m)) n = m.0 == n.0
@@ -198,10 +194,6 @@ IsInitialised table (home.Static n) k name i k' = IsStaticInitialised table k n 
 IsInitialised table (home.Known n) k name i k' = IsStaticInitialised table k n name i k'
 IsInitialised table other k name i k' = ⊥
 
-abbrev pub bytes_of_name : Option Identifier → Name
-bytes_of_name None = []
-bytes_of_name (Some name) = name.bytes
-
 abbrev pub AreDeclarators : Table → Bool → Storage → TypeId → TypedInitDeclarators → Known → Known → Type 0
 AreDeclarators T file storage base typed.NoInitDeclarator k k' = k' ≡ k
 AreDeclarators T file storage base (typed.AndPlain all (typed.Declares form t)) k k' =
@@ -209,7 +201,7 @@ AreDeclarators T file storage base (typed.AndPlain all (typed.Declares form t)) 
 AreDeclarators T file storage base (typed.AndInitialised all (typed.Declares form t) at i) k k' =
     (m n : Known) × (s : Scopes) × AreDeclarators T file storage base all k m
     × IsDeclarator T file storage base (outermost_of (size_given (is_char_array T t) i)) form t m n
-    × IsInitialiser T i at t n.scopes s × IsInitialised T (home_of (typed.Declares form t)) (with_scopes n s) (bytes_of_name (name_of_form form)) i k'
+    × IsInitialiser T i at t n.scopes s × IsInitialised T (home_of (typed.Declares form t)) (with_scopes n s) (name_bytes (name_of_form form)) i k'
 
 -- a declaration; without declarators it may declare tags and enumerators
 abbrev pub IsDeclaration : Table → Bool → TypedDeclaration → Known → Known → Type 0
@@ -349,19 +341,9 @@ abbrev mutual
   parameters_of_core typed.Unnamed found = found
   parameters_of_core (typed.Nested at form) found = parameters_of_form form found
 
-abbrev pub parameter_declared : Option Identifier → Home → TypeId → Scopes → Scopes
-parameter_declared (Some name) (home.Parameter n) t s = declaring name.bytes (declared.Object t n) s
-parameter_declared name home t s = s
-
-abbrev pub declared_identifier : TypedDeclared → Option Identifier
-declared_identifier typed.NotDeclared = None
-declared_identifier (typed.DeclaredBy form) = name_of_form form
-
--- the scope of a body begins with the parameters
-abbrev pub with_parameters : TypedParameters → Scopes → Scopes
-with_parameters typed.NoParameter s = s
-with_parameters (typed.AndParameter all specifiers declared adjusted t) s =
-    parameter_declared (declared_identifier declared) (declared_home declared) t (with_parameters all s)
+-- the scope of a body: that of the list of parameters that stands nearest to the name goes on in it, behind those of the declarator (C99 6.2.1)
+abbrev pub going_on : Level → Scopes → Scopes
+going_on level s = record s { levels = s.levels ++ level ∷ [] }
 
 -- a function with its body
 pub record IsDefinition (T : Table) (specifiers : TypedSpecifiers) (form : TypedForm) (t : TypeId) (body : TypedBlockItems) (k k' : Known) : Type 0 where
@@ -377,13 +359,16 @@ pub record IsDefinition (T : Table) (specifiers : TypedSpecifiers) (form : Typed
   pub no_typedef : ¬ (storage_of specifiers ≡ AsTypedef)
   pub declared : Known
   pub declares : IsDeclarator T true (storage_of specifiers) (specified_type specifiers) Written form t (with_scopes k before) declared
+  -- what the list of its parameters leaves, in a scope of its own
+  pub inside : Scopes
+  pub listed : AreParameters T (is_void_list parameters) parameters (entering before) inside
   -- it is defined once, and is no runtime function
   pub once : is_one_of declared.defined name.bytes ≡ false
   pub own : IsNoName name.bytes
   pub after : Known
   pub statements : AreBlockItems T (record { result = result; in_loop = false; breakable = false }) None body
       (record declared {
-        scopes = with_parameters parameters (entering declared.scopes);
+        scopes = going_on (innermost inside.levels) declared.scopes;
         defined = declared.defined ++ name.bytes ∷ [];
       }) after
   pub defaults : defaults_in body ≤ 1

@@ -10,17 +10,18 @@ use Rattle.c_tree.specs.TypedTree.{TypedTranslationUnit}
 use Rattle.c_tree.specs.TypedParts.{made_by_unit, nodes_made, DefinedFunction, functions_of, name_of, declared_type}
 use Rattle.c_tree.specs.Erasure.{erased_unit}
 use Rattle.integers.specs.Arithmetic.{int}
+use Rattle.c_typing.specs.Declarators.{name_bytes}
 use Rattle.c_typing.specs.Shapes.{IsIntegerType}
 use Rattle.c_typing.specs.Scopes.{Name, empty_level}
 use Rattle.c_typing.specs.Settled
 use Rattle.c_typing.specs.Settled.{IsBasic}
 use Rattle.c_type_order.specs.TypesUsed.{AreUses}
 use Rattle.c_unit_typing.specs.TypesUsed.{used_by_unit}
-use Rattle.c_unit_typing.specs.Units.{Known, IsUnitTyped, bytes_of_name}
+use Rattle.c_unit_typing.specs.Units.{Known, IsUnitTyped}
 
 -- the names of the functions that the unit defines, in order
 abbrev pub defined_names : TypedTranslationUnit → List Name
-defined_names unit = map (λ f. bytes_of_name (name_of f.declarator)) (functions_of unit)
+defined_names unit = map (λ f. name_bytes (name_of f.declarator)) (functions_of unit)
 
 -- what is known before the text
 abbrev pub known_before : TypedTranslationUnit → Known
@@ -39,7 +40,7 @@ AreNumbered unit = map (λ n. n.0) (nodes_made (made_by_unit unit)) ≡ range_wi
 pub record HasMain (table : Table) (unit : TypedTranslationUnit) : Type 0 where
   pub main : DefinedFunction
   pub there : Contains (functions_of unit) main
-  pub named : bytes_of_name (name_of main.declarator) ≡ codes "main"
+  pub named : name_bytes (name_of main.declarator) ≡ codes "main"
   pub result : TypeId
   pub gives : IsIntegerType table int result
   pub shape : HasShape table (declared_type main.declarator) (Function [] result)

@@ -2,9 +2,5 @@
 //! that is named.
 #![tactic(auto)]
 
-pub mod growth;
-pub mod initialisers;
-pub mod limits;
 pub mod refusals;
-pub mod statements;
 pub mod units;

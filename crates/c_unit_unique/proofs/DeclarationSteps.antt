@@ -11,8 +11,9 @@ use Rattle.c_tree.specs.Tree as tree
 use Rattle.c_tree.specs.TypedTree as typed
 use Rattle.c_tree.specs.TypedTree.{TypedForm, TypedInitialiser, TypedInitDeclarators, TypedSpecifiers, TypedDeclaration}
 use Rattle.c_tree.specs.TypedParts.{Made, made_by_form, made_by_initialiser, made_by_init_declarators, made_by_specifiers, made_by_declaration, specified_type, home_of_form, name_of_form}
+use Rattle.c_typing.specs.Walks.{outermost_of}
 use Rattle.c_typing.specs.Adjusting.{NotDerived, derived_by}
-use Rattle.c_typing.specs.Declarators.{Written, is_pointed}
+use Rattle.c_typing.specs.Declarators.{Written, is_pointed, name_bytes}
 use Rattle.c_typing.specs.Declaring.{declarator_name, is_function_by}
 use Rattle.c_typing.specs.Scopes.{Name, Scopes, entry_of}
 use Rattle.c_typing.specs.Typing.{AreAlone, AreSpecifiers}
@@ -25,7 +26,7 @@ use Rattle.c_typing_unique.proofs.SpecifierSteps.{specifiers-unique}
 use Rattle.c_typing_unique.proofs.UniqueTrees.{form-one, list-one}
 use Rattle.c_typing_unique.proofs.UniqueWhole.{alone-one}
 use Rattle.c_unit_typing.specs.Initialisers.{is_char_array, size_given}
-use Rattle.c_unit_typing.specs.Units.{Known, with_scopes, Storage, storage_of, IsNameDeclared, IsDeclarator, outermost_of, IsInitialised, IsDefinedOnce, is_linked_home, bytes_of_name, AreDeclarators, IsDeclaration}
+use Rattle.c_unit_typing.specs.Units.{Known, with_scopes, Storage, storage_of, IsNameDeclared, IsDeclarator, IsInitialised, IsDefinedOnce, is_linked_home, AreDeclarators, IsDeclaration}
 use Rattle.c_unit_unique.proofs.HomeLaws.{OwnKnown, name-homes, name-one}
 use Rattle.c_unit_unique.proofs.Initialisers.{IsInitialiserRead, initialiser-one}
 use Rattle.c_unit_unique.proofs.SizedForms.{AreSized, form-sized, sized-one}
@@ -100,7 +101,7 @@ module _ (T : Table) (D : IsDistinct T) where
     declares : IsDeclarator T file storage base (outermost_of (size_given (is_char_array T t) i)) form t a.known middle.known
     numbers : Numbers (made_by_form form t) a.node middle.node
     value : IsInitialiserRead T at t x i (point_of middle) (record { scopes = inside; node = b.node })
-    known : IsInitialised T (home_of_form form) (with_scopes middle.known inside) (bytes_of_name (name_of_form form)) i b.known
+    known : IsInitialised T (home_of_form form) (with_scopes middle.known inside) (name_bytes (name_of_form form)) i b.known
 
   abbrev AreDeclaratorsOf : Bool → Storage → TypeId → tree.InitDeclarators → TypedInitDeclarators → Spot → Spot → Type 0
   AreDeclaratorsOf file storage base tree.NoInitDeclarator y a b = (y ≡ typed.NoInitDeclarator) × (b ≡ a)
@@ -187,10 +188,10 @@ module _ (T : Table) (D : IsDistinct T) where
       let middle = second.2 in
       let scopes = scopes-of inside inside' third.1 in
       let known : with_scopes p.middle.known p.inside ≡ with_scopes q.middle.known q.inside = (λ i. with_scopes (middle i).known (scopes i)) in
-      let again = subst (λ (f : TypedForm). IsInitialised T (home_of_form f) (with_scopes p.middle.known p.inside) (bytes_of_name (name_of_form f)) left.3 d.known) (sym form)
-      (subst (λ (s : Known). IsInitialised T (home_of_form right.1) s (bytes_of_name (name_of_form right.1)) left.3 d.known) (sym known)
-      (subst (λ (i : TypedInitialiser). IsInitialised T (home_of_form right.1) (with_scopes q.middle.known q.inside) (bytes_of_name (name_of_form right.1)) i d.known) (sym value) q.known)) in
-      let last = initialised_one (home_of_form left.1) (with_scopes p.middle.known p.inside) (bytes_of_name (name_of_form left.1)) left.3 b.known d.known third.2 p.known again in
+      let again = subst (λ (f : TypedForm). IsInitialised T (home_of_form f) (with_scopes p.middle.known p.inside) (name_bytes (name_of_form f)) left.3 d.known) (sym form)
+      (subst (λ (s : Known). IsInitialised T (home_of_form right.1) s (name_bytes (name_of_form right.1)) left.3 d.known) (sym known)
+      (subst (λ (i : TypedInitialiser). IsInitialised T (home_of_form right.1) (with_scopes q.middle.known q.inside) (name_bytes (name_of_form right.1)) i d.known) (sym value) q.known)) in
+      let last = initialised_one (home_of_form left.1) (with_scopes p.middle.known p.inside) (name_bytes (name_of_form left.1)) left.3 b.known d.known third.2 p.known again in
       let whole : typed.AndInitialised left.0 (typed.Declares left.1 left.2) at left.3 ≡ typed.AndInitialised right.0 (typed.Declares right.1 right.2) at right.3 =
       (λ i. typed.AndInitialised (before i) (typed.Declares (form i) (type i)) at (value i)) in
       (left.7 ∙ whole ∙ sym right.7, spot-same b d last.0 (node-of inside inside' third.1), last.1)

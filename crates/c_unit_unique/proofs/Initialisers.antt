@@ -7,6 +7,7 @@ use Rattle.c_types.specs.declared.shape.TypeShape.TheVariants.{Void, Integer, Po
 use Rattle.c_types.specs.Layouts.{size_of}
 use Rattle.c_types.specs.Table.{Table, descend, is_aggregate_shape, shape_at}
 use Rattle.c_types.specs.Sameness.{IsSameType, is_same_type, same_shape, same_step}
+use Rattle.c_tree.specs.Literals.{pieces_bytes}
 use Rattle.c_tree.specs.declared.leaf.StringPiece.{StringPiece}
 use Rattle.c_tree.specs.declared.typed_word.Conversion.{Conversion}
 use Rattle.c_tree.specs.Erasure.{erased, erased_initialiser, erased_items}
@@ -16,7 +17,6 @@ use Rattle.c_tree.specs.TypedTree as typed
 use Rattle.c_tree.specs.TypedTree.{TypedExpr, TypedPlace, TypedInitialiser, TypedItems}
 use Rattle.c_tree.specs.TypedParts.{Copy, place_type, made_by, made_by_place, made_by_initialiser, made_by_items, item_place}
 use Rattle.c_typing.specs.Conversions.{bare, IsAssigned, IsAssignedBy, takes_over, is_pointer_to_complete, is_allocation, implicit, implicit_between, converting_by}
-use Rattle.c_typing.specs.Rules.{pieces_bytes}
 use Rattle.c_typing.specs.Scopes.{Scopes}
 use Rattle.c_typing.specs.Shapes.{IsScalar, is_scalar_shape, is_array_shape, is_integer_shape, is_pointer_shape}
 use Rattle.c_typing_unique.proofs.Numbering.{Point, HasOwn, Numbers, ends, two-parts}

@@ -4,4 +4,5 @@ pub mod HomeLaws
 pub mod DeclarationSteps
 pub mod StatementValues
 pub mod StatementSteps
+pub mod ScopesOnce
 pub mod UnitSteps

@@ -6,6 +6,7 @@ use Rattle.cc_base.specs.declared.number.TypeId.{TypeId}
 use Rattle.c_types.specs.declared.shape.TypeShape.{TypeShape}
 use Rattle.c_types.specs.declared.shape.TypeShape.TheVariants.{Void, Integer, Pointer, Array, Function, Struct, Union}
 use Rattle.c_types.specs.Table.{Table, HasShape, shape_at}
+use Rattle.c_tree.specs.Literals.{pieces_bytes}
 use Rattle.c_tree.specs.declared.leaf.StringPiece.{StringPiece}
 use Rattle.c_tree.specs.declared.leaf.Word.{Word}
 use Rattle.c_tree.specs.Erasure.{erased_initialiser, erased_items}
@@ -13,14 +14,13 @@ use Rattle.c_tree.specs.Tree as tree
 use Rattle.c_tree.specs.TypedTree as typed
 use Rattle.c_tree.specs.TypedTree.{TypedForm, TypedCore, TypedParts, TypedParameters, TypedInitialiser, TypedItems}
 use Rattle.c_tree.specs.TypedParts.{made_by_initialiser}
+use Rattle.c_typing.specs.Walks.{outermost_of}
 use Rattle.c_typing.specs.Declarators.{MakesFunction, Outermost, Written, MakesArray, is_derived, is_derived_core, PartsMake, FormMakes, CoreMakes}
-use Rattle.c_typing.specs.Rules.{pieces_bytes}
 use Rattle.c_typing.specs.Scopes.{Scopes}
 use Rattle.c_typing_unique.proofs.FormLaws.{makes-array, makes-function, parts-make, stars-make}
 use Rattle.c_typing_unique.proofs.Numbering.{Point, Numbers}
 use Rattle.c_typing_unique.proofs.Shapes.{IsDistinct, no_true, shape-one, some-same}
 use Rattle.c_unit_typing.specs.Initialisers.{IsInitialiser, char_count_of_shape, char_count_of_element, has_count, is_char_array, is_only_text, items_count, listed_size, size_given}
-use Rattle.c_unit_typing.specs.Units.{outermost_of}
 use Rattle.c_unit_unique.proofs.Initialisers.{only-text-same}
 
 module _ (T : Table) (D : IsDistinct T) where

@@ -8,44 +8,27 @@ use Rattle.cc_base.specs.declared.number.TypeId.{TypeId}
 use Rattle.c_types.specs.declared.shape.TypeShape.TheVariants.{Function}
 use Rattle.c_types.specs.Sound.{IsWellFormed}
 use Rattle.c_types.specs.Table.{Table, shape_at}
-use Rattle.c_tree.specs.declared.leaf.Identifier.{Identifier}
-use Rattle.c_tree.specs.declared.typed_word.Home.{Home}
-use Rattle.c_tree.specs.declared.typed_word.Home.TheVariants as home
 use Rattle.c_tree.specs.Erasure.{erased_form, erased_declaration, erased_specifiers, erased_block_items, erased_unit}
 use Rattle.c_tree.specs.Tree as tree
 use Rattle.c_tree.specs.TypedTree as typed
 use Rattle.c_tree.specs.TypedTree.{TypedForm, TypedSpecifiers, TypedParameters, TypedDeclaration, TypedBlockItems, TypedTranslationUnit}
-use Rattle.c_tree.specs.TypedParts.{DefinedFunction, made_by_form, made_by_specifiers, made_by_declaration, made_by_block_items, made_by_unit, nodes_made, functions_of, name_of, name_of_form, specified_type, declared_home}
-use Rattle.c_typing.specs.Declarators.{Written}
+use Rattle.c_tree.specs.TypedParts.{DefinedFunction, made_by_form, made_by_specifiers, made_by_declaration, made_by_block_items, made_by_unit, nodes_made, functions_of, name_of, name_of_form, specified_type, is_void_list}
+use Rattle.c_typing.specs.Declarators.{Written, name_bytes}
 use Rattle.c_typing.specs.Declaring.{declarator_name}
-use Rattle.c_typing.specs.Scopes.{Name, Scopes, empty_level, entering, place_among}
-use Rattle.c_typing_unique.specs.Sameness.{HasOwnFunctions}
+use Rattle.c_typing.specs.Scopes.{Name, Scopes, empty_level, entering, innermost, place_among}
+use Rattle.c_typing.specs.Typing.{AreParameters}
 use Rattle.c_typing_unique.proofs.DeclaratorSteps.{form-name}
 use Rattle.c_typing_unique.proofs.Numbering.{Point, Numbers, numbers-from, two-parts}
 use Rattle.c_typing_unique.proofs.Shapes.{IsDistinct, no_true, some-same}
 use Rattle.c_typing_unique.proofs.SpecifierSteps.{specifiers-unique}
 use Rattle.c_typing_unique.proofs.UniqueTrees.{list-one}
 use Rattle.runtime_calls.specs.Prototypes.{IsNoName}
-use Rattle.c_unit_typing.specs.Units.{Known, with_scopes, storage_of, Around, IsDeclaration, IsDeclarator, parameters_of_form, parameter_declared, declared_identifier, with_parameters, AreBlockItems, leaving_known, IsDefinition, IsUnitTyped, bytes_of_name}
+use Rattle.c_unit_typing.specs.Units.{Known, with_scopes, storage_of, Around, IsDeclaration, IsDeclarator, parameters_of_form, going_on, AreBlockItems, leaving_known, IsDefinition, IsUnitTyped}
 use Rattle.c_unit_typing.specs.WellTyped.{defined_names, known_before, IsTypable, IsWellTyped}
 use Rattle.c_unit_unique.proofs.DeclarationSteps.{Spot, OwnSpot, point_of, spot-same, IsReadIn, IsUniqueIn, declarator-one, declaration-one, same-sized}
 use Rattle.c_unit_unique.proofs.HomeLaws.{OwnKnown}
+use Rattle.c_unit_unique.proofs.ScopesOnce.{parameters-once}
 use Rattle.c_unit_unique.proofs.StatementSteps.{InBoth, in-both, both-one, items-one}
-
--- The scope of a body declares no function
-
-declared_own : (name : Option Identifier) (h : Home) (t : TypeId) (s : Scopes) → HasOwnFunctions s → HasOwnFunctions (parameter_declared name h t s)
-declared_own (Some name) (home.Parameter n) t s own = own
-declared_own (Some name) home.None t s own = own
-declared_own (Some name) (home.Static n) t s own = own
-declared_own (Some name) (home.Local n) t s own = own
-declared_own (Some name) (home.Known n) t s own = own
-declared_own None h t s own = own
-
-parameters_own : (x : TypedParameters) (s : Scopes) → HasOwnFunctions s → HasOwnFunctions (with_parameters x s)
-parameters_own typed.NoParameter s own = own
-parameters_own (typed.AndParameter all specifiers one adjusted t) s own =
-    declared_own (declared_identifier one) (declared_home one) t (with_parameters all s) (parameters_own all s own)
 
 function_result : (ps qs : List TypeId) (t u : TypeId) → Function ps t ≡ Function qs u → t ≡ u
 function_result ps qs t u h = cc
@@ -54,8 +37,8 @@ abbrev body_around : TypeId → Around
 body_around t = record { result = t; in_loop = false; breakable = false }
 
 -- what is known where a body begins
-abbrev body_known : TypedParameters → Name → Known → Known
-body_known parameters name k = record k { scopes = with_parameters parameters (entering k.scopes); defined = k.defined ++ name ∷ [] }
+abbrev body_known : Scopes → Name → Known → Known
+body_known inside name k = record k { scopes = going_on (innermost inside.levels) k.scopes; defined = k.defined ++ name ∷ [] }
 
 module _ (T : Table) (D : IsDistinct T) where
   record IsFunction (specifiers : tree.Specifiers) (d : tree.Declarator) (items : tree.BlockItems) (words : TypedSpecifiers) (form : TypedForm) (t : TypeId) (body : TypedBlockItems) (a b : Spot) : Type 0 where
@@ -92,14 +75,18 @@ module _ (T : Table) (D : IsDistinct T) where
       let name = some-same p.name q.name (sym p.named ∙ ap name_of_form form ∙ q.named) in
       let parameters = some-same p.parameters q.parameters (sym p.written ∙ ap (λ (f : TypedForm). parameters_of_form f None) form ∙ q.written) in
       let result = function_result p.types q.types p.result q.result (sym p.shape.1 ∙ ap (shape_at T) type ∙ q.shape.1) in
-      let inside : Spot = record { known = body_known p.parameters p.name.bytes p.declared; node = h.second } in
-      let inside' : Spot = record { known = body_known q.parameters q.name.bytes q.declared; node = k.second } in
-      let entry : inside ≡ inside' = (λ i. record { known = body_known (parameters i) (name i).bytes (two.2 i).known; node = (two.2 i).node }) in
+      let listed = subst (λ (w : TypedParameters). AreParameters T (is_void_list w) w (entering q.before) q.inside) (sym parameters) q.listed in
+      let left : p.inside ≡ q.inside =
+      parameters-once T (is_void_list p.parameters) p.parameters (entering p.before) p.inside q.inside p.listed
+      (subst (λ (s : Scopes). AreParameters T (is_void_list p.parameters) p.parameters (entering s) q.inside) (sym (ap (λ (s : Point). s.scopes) one.1)) listed) in
+      let inside : Spot = record { known = body_known p.inside p.name.bytes p.declared; node = h.second } in
+      let inside' : Spot = record { known = body_known q.inside q.name.bytes q.declared; node = k.second } in
+      let entry : inside ≡ inside' = (λ i. record { known = body_known (left i) (name i).bytes (two.2 i).known; node = (two.2 i).node }) in
       let after : Spot = record { known = p.after; node = b.node } in
       let after' : Spot = record { known = q.after; node = e.node } in
       let statements = subst (λ (v : TypeId). AreBlockItems T (body_around v) None other inside'.known q.after) (sym result) q.statements in
       let three = items-one T D items (body_around p.result) None body other inside after inside' after' (h.bodied, p.statements, h.body_made) (k.bodied, statements, k.body_made) entry
-      (parameters_own p.parameters (entering p.declared.scopes) two.3) in (
+      two.3 in (
         list,
         form,
         type,
@@ -184,14 +171,14 @@ module _ (T : Table) (D : IsDistinct T) where
   own_push [] x h k = (k, tt)
   own_push (y ∷ xs) x h k = (h.0, own_push xs x h.1 k)
 
-  names_own : (u : TypedTranslationUnit) (k l : Known) → IsUnitTyped T u k l → AreOwn (map (λ (f : DefinedFunction). bytes_of_name (name_of f.declarator)) (functions_of u))
+  names_own : (u : TypedTranslationUnit) (k l : Known) → IsUnitTyped T u k l → AreOwn (map (λ (f : DefinedFunction). name_bytes (name_of f.declarator)) (functions_of u))
   names_own typed.NoExternal k l h = tt
   names_own (typed.AndExternal u d) k l h = names_own u k h.0 h.1
   names_own (typed.AndFunctionBody u words (typed.Declares form t) brace body) k l h =
       let this : DefinedFunction = record { declarator = typed.Declares form t; body = body } in
-      let name = ap bytes_of_name h.2.named in
-      subst AreOwn (sym (map-append (λ (f : DefinedFunction). bytes_of_name (name_of f.declarator)) (functions_of u) (this ∷ [])))
-      (own_push (map (λ (f : DefinedFunction). bytes_of_name (name_of f.declarator)) (functions_of u)) (bytes_of_name (name_of_form form)) (names_own u k h.0 h.1) (subst IsNoName (sym name) h.2.own))
+      let name = ap name_bytes h.2.named in
+      subst AreOwn (sym (map-append (λ (f : DefinedFunction). name_bytes (name_of f.declarator)) (functions_of u) (this ∷ [])))
+      (own_push (map (λ (f : DefinedFunction). name_bytes (name_of f.declarator)) (functions_of u)) (name_bytes (name_of_form form)) (names_own u k h.0 h.1) (subst IsNoName (sym name) h.2.own))
 
   fewer : (n m : ℕ) → nat_lt (1 + n) (suc m) ≡ true → nat_lt n m ≡ true
   fewer n m h = grind (arith, nat_tests)
@@ -222,7 +209,7 @@ module _ (T : Table) (D : IsDistinct T) where
   erased_names : tree.TranslationUnit → List Name
   erased_names tree.NoExternal = []
   erased_names (tree.AndExternal u d) = erased_names u
-  erased_names (tree.AndFunctionBody u specifiers d brace items) = erased_names u ++ bytes_of_name (declarator_name d) ∷ []
+  erased_names (tree.AndFunctionBody u specifiers d brace items) = erased_names u ++ name_bytes (declarator_name d) ∷ []
 
   names_erased : (u : TypedTranslationUnit) → defined_names u ≡ erased_names (erased_unit u)
   unfolding erased_names
@@ -231,8 +218,8 @@ module _ (T : Table) (D : IsDistinct T) where
   names_erased (typed.AndFunctionBody u words (typed.Declares form t) brace body) =
       let this : DefinedFunction = record { declarator = typed.Declares form t; body = body } in
       let before = names_erased u in
-      let last = ap bytes_of_name (sym (form-name form)) in
-      map-append (λ (f : DefinedFunction). bytes_of_name (name_of f.declarator)) (functions_of u) (this ∷ []) ∙ (λ i. before i ++ last i ∷ [])
+      let last = ap name_bytes (sym (form-name form)) in
+      map-append (λ (f : DefinedFunction). name_bytes (name_of f.declarator)) (functions_of u) (this ∷ []) ∙ (λ i. before i ++ last i ∷ [])
 
 -- a unit has one typed tree
 pub unit-whole : (T : Table) (u v : TypedTranslationUnit) → IsWellFormed T → IsWellTyped T u → IsWellTyped T v → erased_unit u ≡ erased_unit v → u ≡ v

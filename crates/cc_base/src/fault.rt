@@ -1,3 +1,4 @@
+//! Checks, rules, limits, and the faults that a text can be refused with.
 #![tactic(auto)]
 
 ghost use Rattle.std.specs.Prelude.{◌≡◌, Some};

@@ -1,3 +1,4 @@
+//! Numbers of nodes, types and functions.
 #![tactic(auto)]
 
 /// The number of a node: a pointer type as it is written, a variable's home or an address

@@ -1,3 +1,4 @@
+//! Places in a text.
 #![tactic(auto)]
 
 ghost use Rattle.std.specs.Prelude.{Some, IsTrue, ◌↔◌};

@@ -8,12 +8,13 @@ use Rattle.cc_base.specs.declared.number.NodeId.{NodeId}
 use Rattle.cc_base.specs.declared.number.TypeId.{TypeId}
 use Rattle.c_types.specs.declared.shape.TypeShape.{TypeShape}
 use Rattle.c_types.specs.declared.shape.TypeShape.TheVariants as shape
-use Rattle.c_types.specs.declared.site.Site.TheVariants as site
+use Rattle.kind_sites.specs.declared.site.Site.TheVariants as site
 use Rattle.c_types.specs.Table.{shape_at, is_function}
 use Rattle.c_types.specs.Cells.{Cell, raw, pointer, mixed, incomplete}
 use Rattle.c_types.specs.Equality.{cells_of}
 use Rattle.c_types.specs.Flows.{HeldPointer, IsOfOneClass, CellsAgree, pointer_in_cell, and_then}
-use Rattle.c_types.specs.Solutions.{SpreadsWild, IsWildWhereMixed, HoldsMixed, at_place, in_member}
+use Rattle.c_types.specs.Contents.{HoldsMixed, at_place, in_member}
+use Rattle.kind_sites.specs.Solutions.{SpreadsWild, IsWildWhereMixed}
 use Rattle.type_laws.proofs.Pointers.{class_own, class_turned, class_twice}
 use Rattle.type_laws.proofs.OneClass.{data-pointer}
 use Rattle.integers.specs.Arithmetic.{IntegerType, converted}

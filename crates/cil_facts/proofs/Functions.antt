@@ -11,7 +11,7 @@ use Rattle.cc_base.specs.declared.number.TypeId.{TypeId}
 use Rattle.c_types.proofs.OrderedPointers.{get_back}
 use Rattle.c_types.specs.declared.shape.TypeShape.{TypeShape}
 use Rattle.c_types.specs.declared.shape.TypeShape.TheVariants as shape
-use Rattle.c_types.specs.declared.site.Site.TheVariants as site
+use Rattle.kind_sites.specs.declared.site.Site.TheVariants as site
 use Rattle.c_types.specs.Table.{IsType, shape_at, is_function, is_function_shape}
 use Rattle.c_types.specs.Flows.{IsOfOneClass}
 use Rattle.type_laws.proofs.Pointers.{class_own}

@@ -3,13 +3,13 @@ use Rattle.std.proofs.Common.{◌≡◌, ◌⊎◌, ◌∙◌, inl, inr, ℕ, �
 use Rattle.cc_base.specs.declared.kind.Kind.{Kind}
 use Rattle.cc_base.specs.declared.kind.Kind.TheVariants.{Safe, Wild}
 use Rattle.cc_base.specs.declared.number.TypeId.{TypeId}
-use Rattle.c_types.specs.declared.site.Site.{Site}
+use Rattle.kind_sites.specs.declared.site.Site.{Site}
 use Rattle.c_types.specs.Table.{IsComplete}
 use Rattle.c_types.specs.Layouts.{size_of}
 use Rattle.c_types.specs.Cells.{Cell, raw, pointer, mixed, incomplete}
 use Rattle.c_types.specs.Equality.{cells_of}
 use Rattle.c_types.specs.Flows.{IsOfOneClass, CellsAgree}
-use Rattle.c_types.specs.Solutions.{IsPlain}
+use Rattle.kind_sites.specs.Solutions.{IsPlain}
 use Rattle.c_types.specs.Sound.{IsWellFormed}
 use Rattle.type_laws.proofs.Pointers.{covers_own}
 use Rattle.type_laws.proofs.Sizes.{equal_counts, equal_sizes}

@@ -20,7 +20,7 @@ use Rattle.cil_form.specs.State.{Local, Around, is_same, with_temp, beside}
 use Rattle.cil_form.specs.Typing.{HeldType, IntegerOf, PointerTo, PlaceOf, Typing, Context, with_held, Includes, Leaves}
 use Rattle.cil_form.specs.Told.{AreAsked}
 use Rattle.cil_form.specs.Meaning.{pointer_to}
-use Rattle.c_types.specs.declared.site.Site.{Site}
+use Rattle.kind_sites.specs.declared.site.Site.{Site}
 use Rattle.cil_facts.specs.Held.{IsHeldAs, AreFacts, AreFactsBehind, GoesOn}
 
 -- Places

@@ -10,11 +10,12 @@ use Rattle.cc_base.specs.declared.number.NodeId.{NodeId}
 use Rattle.cc_base.specs.declared.number.TypeId.{TypeId}
 use Rattle.c_types.specs.declared.shape.TypeShape.{TypeShape}
 use Rattle.c_types.specs.declared.shape.TypeShape.TheVariants as shape
-use Rattle.c_types.specs.declared.site.Site.TheVariants as site
+use Rattle.kind_sites.specs.declared.site.Site.TheVariants as site
 use Rattle.c_types.specs.Table.{IsComplete, shape_at, members_at, is_aggregate_shape, is_complete_entry, is_empty}
 use Rattle.c_types.specs.Layouts.{size_of, offset_of, member_at}
 use Rattle.c_types.specs.Equality.{cells_of}
-use Rattle.c_types.specs.Solutions.{SpreadsWild, IsWildWhereMixed, HoldsMixed}
+use Rattle.c_types.specs.Contents.{HoldsMixed}
+use Rattle.kind_sites.specs.Solutions.{SpreadsWild, IsWildWhereMixed}
 use Rattle.integers.specs.Arithmetic.{IntegerType}
 use Rattle.src_mem.specs.Pointers.{Location, At, Value, Integer, Address}
 use Rattle.src_mem.specs.Uses.{forward}

@@ -10,10 +10,10 @@ use Rattle.cc_base.specs.declared.number.NodeId.{NodeId}
 use Rattle.cc_base.specs.declared.number.TypeId.{TypeId}
 use Rattle.c_types.specs.declared.shape.TypeShape.{TypeShape}
 use Rattle.c_types.specs.declared.shape.TypeShape.TheVariants as shape
-use Rattle.c_types.specs.declared.site.Site.TheVariants as site
+use Rattle.kind_sites.specs.declared.site.Site.TheVariants as site
 use Rattle.c_types.specs.Table.{IsComplete, IsAggregate, shape_at, members_at, parts_at, parts_of_shape, is_aggregate_shape, is_union_shape, is_empty, is_complete_entry}
 use Rattle.c_types.specs.Layouts.{member_at}
-use Rattle.c_types.specs.Solutions.{IsUnionAllowed, IsWildWhereMixed}
+use Rattle.kind_sites.specs.Solutions.{IsUnionAllowed, IsWildWhereMixed}
 use Rattle.c_types.proofs.Lists.{contains_head}
 use Rattle.integers.specs.Arithmetic.{IntegerType, int}
 use Rattle.runs.specs.Outcome.{done}

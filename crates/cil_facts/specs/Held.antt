@@ -2,9 +2,9 @@
 use Rattle.std.specs.Prelude.{◌≡◌, ℕ, ⊤, List, slice_get, Some, IsTrue}
 use Rattle.cc_base.specs.declared.number.NodeId.{NodeId}
 use Rattle.cc_base.specs.declared.number.TypeId.{TypeId}
-use Rattle.c_types.specs.declared.site.Site.{Site}
+use Rattle.kind_sites.specs.declared.site.Site.{Site}
 use Rattle.c_types.specs.Table.{is_function}
-use Rattle.c_types.specs.Solutions.{IsSolution}
+use Rattle.kind_sites.specs.Solutions.{IsSolution}
 use Rattle.c_types.specs.Sound.{IsWellFormed}
 use Rattle.integers.specs.Arithmetic.{converted}
 use Rattle.runs.specs.Outcome.{Outcome, Ended, Done}

@@ -4,7 +4,7 @@ use Rattle.std.specs.List.{Contains}
 use Rattle.cc_base.specs.declared.number.NodeId.{NodeId}
 use Rattle.cc_base.specs.declared.number.TypeId.{TypeId}
 use Rattle.c_types.specs.declared.shape.TypeShape.TheVariants as shape
-use Rattle.c_types.specs.declared.site.Site.TheVariants.{Home}
+use Rattle.kind_sites.specs.declared.site.Site.TheVariants.{Home}
 use Rattle.c_types.specs.Table.{Table, void_entry}
 use Rattle.src_mem.specs.Memory.{Planned}
 use Rattle.cil_form.specs.declared.number.Object.{Object}

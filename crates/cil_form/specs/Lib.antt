@@ -9,3 +9,4 @@ pub mod Laws
 pub mod Computes
 pub mod Small
 pub mod Programs
+pub mod Theorems

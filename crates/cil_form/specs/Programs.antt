@@ -2,10 +2,11 @@
 use Rattle.std.specs.Prelude.{ℕ, pos, false, List, [], ◌∷◌, ◌++◌, None}
 use Rattle.std.proofs.Common.{lit<}
 use Rattle.std.specs.declared.alloc.Global.{Global}
+use Rattle.cc_base.specs.Kinds.{kind_at}
 use Rattle.cc_base.specs.declared.kind.Kind.TheVariants.{Safe, Seq}
 use Rattle.c_types.specs.declared.shape.TypeShape.TheVariants as shape
-use Rattle.c_types.specs.declared.site.Site.{Site}
-use Rattle.c_types.specs.declared.site.Site.TheVariants.{Flow, Arith, Linked, Same, Pointee, Home}
+use Rattle.kind_sites.specs.declared.site.Site.{Site}
+use Rattle.kind_sites.specs.declared.site.Site.TheVariants.{Flow, Arith, Linked, Same, Pointee, Home}
 use Rattle.c_types.specs.Table.{Table}
 use Rattle.c_types.specs.Calls.{basic_table}
 use Rattle.runs.specs.Input.{Closed}
@@ -28,7 +29,7 @@ use Rattle.cil_form.specs.declared.instr.Instr.TheVariants as instr
 use Rattle.cil_form.specs.declared.program.Function.{Function}
 use Rattle.cil_form.specs.declared.program.Program.{Program}
 use Rattle.cil_form.specs.Machine.{code_run}
-use Rattle.cil_form.specs.Small.{at, node, type, int, entry, kinds, value, kept, variable, code, parameter, local, program}
+use Rattle.cil_form.specs.Small.{at, node, type, int, entry, value, kept, variable, code, parameter, local, program}
 
 -- an int of a variable, into value t: the address of the variable, and then a load
 abbrev read_int : ℕ → ℕ → ℕ → ℕ → List Instr
@@ -70,7 +71,7 @@ loop_program alloc = program loop_table 1 (loop_main alloc ∷ []) 0 (at 5) (Hom
 
 -- its run with so many turns
 abbrev pub loop_run : Global → ℕ → SourceOutcome
-loop_run alloc turns = code_run (loop_program alloc) (kinds []) (Closed []) turns
+loop_run alloc turns = code_run (loop_program alloc) (kind_at []) (Closed []) turns
 
 -- int f(int a){return a+1;}int main(void){return f(4);}
 
@@ -104,7 +105,7 @@ call_program alloc =
     program call_table 2 (called alloc ∷ calling alloc ∷ []) 1 (at 30) (Pointee (node 1) (type 9) ∷ Home (node 0) int ∷ []) (code alloc [] (lit< tt))
 
 abbrev pub call_run : Global → SourceOutcome
-call_run alloc = code_run (call_program alloc) (kinds []) (Closed []) 1
+call_run alloc = code_run (call_program alloc) (kind_at []) (Closed []) 1
 
 -- int main(void){int a[3];a[3]=1;return 0;}
 
@@ -135,7 +136,7 @@ access_program alloc = program access_table 2 (access_main alloc ∷ []) 0 (at 5
 
 -- its run, where the address of the array's first element is SEQ
 abbrev pub access_run : Global → SourceOutcome
-access_run alloc = code_run (access_program alloc) (kinds (Safe ∷ Seq ∷ [])) (Closed []) 1
+access_run alloc = code_run (access_program alloc) (kind_at (Safe ∷ Seq ∷ [])) (Closed []) 1
 
 -- int main(void){switch(getchar()){case 97:for(;;){putchar(49);break;}case 98:putchar(50);}return 0;}
 
@@ -194,7 +195,7 @@ switch_program alloc = program loop_table 0 (switch_main alloc ∷ []) 0 (at 5) 
 
 -- its run on one byte of input
 abbrev pub switch_run : Global → ℕ → SourceOutcome
-switch_run alloc byte = code_run (switch_program alloc) (kinds []) (Closed (byte ∷ [])) 9
+switch_run alloc byte = code_run (switch_program alloc) (kind_at []) (Closed (byte ∷ [])) 9
 
 -- int x;extern int *p;int *p=&x;int main(void){return 0;}
 
@@ -231,4 +232,4 @@ renamed_program alloc = record (program renamed_table 5 (renamed_main alloc ∷ 
 }
 
 abbrev pub renamed_run : Global → SourceOutcome
-renamed_run alloc = code_run (renamed_program alloc) (kinds []) (Closed []) 1
+renamed_run alloc = code_run (renamed_program alloc) (kind_at []) (Closed []) 1

@@ -3,8 +3,8 @@ use Rattle.std.specs.Prelude.{◌≡◌, ◌⊎◌, ℕ, Bool, suc, ◌+◌, ◌
 use Rattle.cc_base.specs.declared.number.TypeId.{TypeId}
 use Rattle.c_types.specs.declared.shape.TypeShape.{TypeShape}
 use Rattle.c_types.specs.declared.shape.TypeShape.TheVariants as shape
-use Rattle.c_types.specs.declared.site.Site.{Site}
-use Rattle.c_types.specs.declared.site.Site.TheVariants as site
+use Rattle.kind_sites.specs.declared.site.Site.{Site}
+use Rattle.kind_sites.specs.declared.site.Site.TheVariants as site
 use Rattle.c_types.specs.Table.{Table, HasShape, IsType, IsUnion, AreNodesOf, shape_at}
 use Rattle.c_types.specs.Sound.{IsWellFormed}
 use Rattle.c_types.specs.Layouts.{size_of}
@@ -24,18 +24,18 @@ use Rattle.cil_form.specs.Typing.{Context, AreShaped, IsObjectType, IsNode, IsSc
 
 -- Limits
 
-abbrev pub nest_limit : ℕ
-nest_limit = 1000
+abbrev pub source_nest_limit : ℕ
+source_nest_limit = 1000
 
 abbrev pub parameters_limit : ℕ
 parameters_limit = 127
 
-abbrev pub functions_limit : ℕ
-functions_limit = 65535
+abbrev pub source_functions_limit : ℕ
+source_functions_limit = 65535
 
 -- the bytes of static objects and literals, with 16 more for each
-abbrev pub globals_limit : ℕ
-globals_limit = 4194304
+abbrev pub source_globals_limit : ℕ
+source_globals_limit = 4194304
 
 -- the pointers that all copies of structs and unions move
 abbrev pub cells_limit : ℕ
@@ -130,7 +130,7 @@ pub record IsStaticInShape (p : Program) (s : Static) : Type 0 where
 -- code that begins and ends with nothing known of the temporaries
 pub record IsCodeInShape (k : Context) (code : List Instr) : Type 0 where
   pub shaped : AreShaped code k no_types no_types
-  pub nested : nest_of_code code ≤ nest_limit
+  pub nested : nest_of_code code ≤ source_nest_limit
 
 -- a function gives a scalar or nothing
 abbrev pub IsResult : Program → TypeId → Type 0
@@ -154,9 +154,9 @@ pub record IsInShape (p : Program) : Type 0 where
   pub nodes : All (λ e. AreNodesOf p.nodes e.shape) p.types
   pub sites : All (IsSiteInShape p.types p.nodes) p.sites
   pub statics : All (IsStaticInShape p) p.statics
-  pub globals : sum_by (λ s. charge_of (size_of p.types s.planned.ty)) p.statics ≤ globals_limit
+  pub globals : sum_by (λ s. charge_of (size_of p.types s.planned.ty)) p.statics ≤ source_globals_limit
   pub initialisers : IsCodeInShape (context_of p) p.initialisers.0.items
   pub functions : All (IsFunctionInShape p) p.functions
-  pub count : length p.functions ≤ functions_limit
+  pub count : length p.functions ≤ source_functions_limit
   pub main : (f : Function) × (slice_get p.functions p.main.0 ≡ Some f) × IsMain p f
   pub cells : cells_moved_by p.initialisers.0.items p.types + sum_by (λ f. cells_moved_by f.body.0.items p.types) p.functions ≤ cells_limit

@@ -3,8 +3,8 @@ use Rattle.std.specs.Prelude.{List, [], ◌∷◌}
 use Rattle.std.specs.List.{Contains}
 use Rattle.cc_base.specs.declared.number.TypeId.{TypeId}
 use Rattle.cc_base.specs.declared.place.Place.{Place}
-use Rattle.c_types.specs.declared.site.Site.{Site}
-use Rattle.c_types.specs.declared.site.Site.TheVariants.{Flow, Arith, Integer, Linked, Pointee}
+use Rattle.kind_sites.specs.declared.site.Site.{Site}
+use Rattle.kind_sites.specs.declared.site.Site.TheVariants.{Flow, Arith, Integer, Linked, Pointee}
 use Rattle.c_types.specs.Table.{Table}
 use Rattle.src_mem.specs.Operations.{node_at, pointee_at}
 use Rattle.cil_form.specs.declared.instr.Comparison.{Comparison}

@@ -1,15 +1,13 @@
 -- Words to write small programs in three-address code with.
-use Rattle.std.specs.Prelude.{ℕ, ◌<◌, ◌^◌, List, [], length, slice_index_or, Some, refl}
+use Rattle.std.specs.Prelude.{ℕ, ◌<◌, ◌^◌, List, [], length, Some, refl}
 use Rattle.std.proofs.Common.{le_refl}
 use Rattle.std.specs.declared.alloc.Global.{Global}
 use denote.RawPtr.{null_ptr}
 use Rattle.cc_base.specs.declared.place.Place.{Place}
 use Rattle.cc_base.specs.declared.number.NodeId.{NodeId}
 use Rattle.cc_base.specs.declared.number.TypeId.{TypeId}
-use Rattle.cc_base.specs.declared.kind.Kind.{Kind}
-use Rattle.cc_base.specs.declared.kind.Kind.TheVariants.{Safe}
 use Rattle.c_types.specs.declared.shape.TypeShape.{TypeShape}
-use Rattle.c_types.specs.declared.site.Site.{Site}
+use Rattle.kind_sites.specs.declared.site.Site.{Site}
 use Rattle.c_types.specs.Table.{Table, Entry}
 use Rattle.cil_form.specs.declared.number.Temp.{Temp}
 use Rattle.cil_form.specs.declared.number.Temp.TheVariants as temp
@@ -41,10 +39,6 @@ int = type 5
 -- a type that has no members
 abbrev pub entry : TypeShape → Entry
 entry shape = record { shape = shape; members = [] }
-
--- the kinds of the nodes in order; those behind are SAFE
-abbrev pub kinds : List Kind → NodeId → Kind
-kinds list n = slice_index_or list n.0 Safe
 
 -- value t, what the `switch` with so many others around it keeps, variable k of the call
 abbrev pub value : ℕ → Temp

@@ -6,11 +6,11 @@ use Rattle.cc_base.specs.declared.number.NodeId.{NodeId}
 use Rattle.cc_base.specs.declared.number.TypeId.{TypeId}
 use Rattle.cc_base.specs.declared.place.Place.{Place}
 use Rattle.c_types.specs.declared.shape.TypeShape.TheVariants as shape
-use Rattle.c_types.specs.declared.site.Site.{Site}
-use Rattle.c_types.specs.declared.site.Site.TheVariants.{Flow, Same, Pointee, Home, Union}
+use Rattle.kind_sites.specs.declared.site.Site.{Site}
+use Rattle.kind_sites.specs.declared.site.Site.TheVariants.{Flow, Same, Pointee, Home, Union}
 use Rattle.c_types.specs.Table.{Table, HasShape, IsComplete, IsUnion, shape_at}
 use Rattle.c_types.specs.Equality.{physically_equal}
-use Rattle.c_types.specs.Solutions.{IsSolution}
+use Rattle.kind_sites.specs.Solutions.{IsSolution}
 use Rattle.src_mem.specs.Memory.{Planned}
 use Rattle.cil_form.specs.declared.number.Temp.{Temp}
 use Rattle.cil_form.specs.declared.number.Object.{Object}

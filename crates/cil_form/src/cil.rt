@@ -1,3 +1,4 @@
+//! Programs in three-address code that are in shape.
 ghost use Rattle.std.specs.Prelude.{◌≡◌};
 ghost use Rattle.cil_form.specs.Shape.{IsInShape};
 

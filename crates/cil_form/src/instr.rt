@@ -1,3 +1,4 @@
+//! The instructions of three-address code.
 use crate::number::{FunctionNumber, Object, Temp};
 use cc_base::{NodeId, Place, TypeId};
 

@@ -6,26 +6,27 @@ ghost use Rattle.cc_base.specs.declared.fault.Check.TheVariants.{Bounds};
 ghost use Rattle.runs.specs.Outcome.{Ended, Done, Matches, from, either};
 ghost use Rattle.runs.specs.Control.{Control, Leaves, then_go, block, go_round, rounds};
 ghost use Rattle.src_mem.specs.Pointers.{Value, is_true};
-ghost use Rattle.src_mem.specs.State.{State, Act, Exited, Turns, Stopped};
+ghost use Rattle.src_mem.specs.State.{Act, Exited, Turns, Stopped};
 ghost use Rattle.cil_form.specs.declared.number.Temp.{Temp};
 ghost use Rattle.cil_form.specs.declared.number.Temp.TheVariants as temp;
 ghost use Rattle.cil_form.specs.declared.number.Work.{Work};
 ghost use Rattle.cil_form.specs.declared.instr.Instr.{Instr};
 ghost use Rattle.cil_form.specs.declared.instr.Instr.TheVariants.{If, Block, Loop, Break};
 ghost use Rattle.cil_form.specs.declared.instr.Code.{Code};
-ghost use Rattle.cil_form.specs.State.{Temporaries, Local, Step, Around, gives_to};
+ghost use Rattle.cil_form.specs.State.{Local, Step, Around, gives_to};
 ghost use Rattle.cil_form.specs.Meaning.{act, run, round_of, loop};
-ghost use Rattle.cil_form.specs.Typing.{Typing, no_types, Context, Includes, AreTemps, HoldsAtMost, HoldsScalar, Passes, inside, IsShaped, AreShaped};
+ghost use Rattle.cil_form.specs.Typing.{Typing, no_types, Context, Includes, AreTemps, Passes, inside, IsShaped, AreShaped};
 ghost use Rattle.cil_form.specs.Told.{TellsOf, AreAsked, IsToldOf};
 ghost use Rattle.std.specs.List.{Contains};
 ghost use Rattle.cil_form.specs.declared.program.Function.{Function};
 ghost use Rattle.cil_form.specs.declared.program.Program.{Program};
 ghost use Rattle.cil_form.specs.Laws.{IsBelow, IsAround, CodeSpares, Keeps};
-ghost use Rattle.cil_form.specs.Computes.{EndsAlike, Held, LeftAlike, Computes, Executes, looped};
+ghost use Rattle.cil_form.specs.Computes.{EndsAlike, Held, Executes, looped};
 ghost use Rattle.cil_form.specs.Small.{at, shown, access};
 ghost use Rattle.cil_form.specs.Programs.{loop_program, loop_run, call_program, call_run, access_program, access_run, switch_program, switch_run, renamed_program, renamed_run};
 ghost use Rattle.cil_form.specs.Shape.{IsInShape, context_of, context_in};
 ghost use Rattle.c_types.specs.Sound.{IsWellFormed};
+ghost use Rattle.cil_form.specs.Theorems.{CodeBehindAValueComputes, StatementsExecuteInTurn, CodeBehindAValueExecutes, AChoiceExecutes, FewValuesAreHeldBetween, NoValueIsHeldAtABlock, NoValueIsHeldAtALoop, AChoiceIsInShape};
 
 /// Code after code: the first runs, and then the second where the first goes on.
 pub fn code_runs_after_code()
@@ -66,21 +67,21 @@ pub fn an_instruction_computes_its_value()
 
 /// Code that computes an operation, and then code that does the next one on the value that it finds, compute both.
 pub fn code_after_code_computes()
-    ensures { (a b : List Instr) (w : Around) (m : Act Value) (f : Value → Act Value) (t : ℕ) → Computes a w m t → ((T : Temporaries) (s : State) → Matches (Held (temp.Value t) (IsBelow t) T) EndsAlike (f (T (temp.Value t)) s) (run b w (record { state = s; temps = T }))) → Computes (a ++ b) w (λ s. from (m s) f) t }
+    ensures { CodeBehindAValueComputes }
 {}
 
 /// Code that executes a statement, and then code that executes the next one, execute both. So do code that computes an expression, and then
 /// code that executes a statement on the value that it finds. The code of a statement inside a `switch` may stand where less has to be kept.
 pub fn code_after_code_executes()
-    ensures statements { (a b : List Instr) (w : Around) (m n : Act (Control Value)) (depth : ℕ) → Executes a w m depth → Executes b w n depth → Executes (a ++ b) w (λ s. from (m s) (λ y. then_go y n)) depth }
-    ensures expression { (a b : List Instr) (w : Around) (m : Act Value) (f : Value → Act (Control Value)) (t depth : ℕ) → Computes a w m t → ((T : Temporaries) (s : State) → Matches (LeftAlike (IsAround depth) T) EndsAlike (f (T (temp.Value t)) s) (run b w (record { state = s; temps = T }))) → Executes (a ++ b) w (λ s. from (m s) f) depth }
+    ensures statements { StatementsExecuteInTurn }
+    ensures expression { CodeBehindAValueExecutes }
     ensures outside { (a : List Instr) (w : Around) (m : Act (Control Value)) (fewer depth : ℕ) → fewer ≤ depth → Executes a w m depth → Executes a w m fewer }
 {}
 
 /// An instruction that holds code which executes a statement executes a choice, a block or a loop of it. A loop keeps, from round to round, what
 /// the `switch` statements around it do.
 pub fn held_code_executes()
-    ensures choice { (a : List Instr) (x y : Code) (w : Around) (m : Act Value) (n o : Act (Control Value)) (t depth : ℕ) → Computes a w m t → Executes x.0.items w n depth → Executes y.0.items w o depth → Executes (a ++ If (temp.Value t) x y ∷ []) w (λ s. from (m s) (λ v. either (is_true v) n o)) depth }
+    ensures choice { AChoiceExecutes }
     ensures once { (x : Code) (w : Around) (m : Act (Control Value)) (depth : ℕ) → Executes x.0.items w m depth → Executes (Block x ∷ []) w (block m) depth }
     ensures again { (x : Code) (w : Around) (m : Act (Control Value)) (depth : ℕ) → Executes x.0.items w m depth → Executes (Loop x ∷ []) w (looped m) depth }
 {}
@@ -95,10 +96,10 @@ pub fn more_may_be_known()
 /// of a function begins, at each point of the code behind, on both sides of an `if`, and inside blocks and loops, which begin with none held.
 pub fn at_most_256_values_are_held()
     ensures begins { AreTemps no_types }
-    ensures behind { (is js : List Instr) (k : Context) (types after : Typing) → AreTemps types → AreShaped (is ++ js) k types after → (middle : Typing) × AreShaped is k types middle × AreShaped js k middle after × AreTemps middle × HoldsAtMost 256 middle }
+    ensures behind { FewValuesAreHeldBetween }
     ensures sides { (t : Temp) (x y : Code) (k : Context) (types after : Typing) → IsShaped (If t x y) k types after → AreShaped x.0.items k types after × AreShaped y.0.items k types after }
-    ensures blocks { (x : Code) (k : Context) (types after : Typing) → AreTemps types → IsShaped (Block x) k types after → (entry : Typing) × AreShaped x.0.items (inside k entry) entry entry × AreTemps entry × HoldsAtMost 0 entry }
-    ensures loops { (x : Code) (k : Context) (types after : Typing) → AreTemps types → IsShaped (Loop x) k types after → (entry : Typing) × AreShaped x.0.items (inside k entry) entry entry × AreTemps entry × HoldsAtMost 0 entry }
+    ensures blocks { NoValueIsHeldAtABlock }
+    ensures loops { NoValueIsHeldAtALoop }
 {}
 
 /// Code after code is in shape where what the first leaves is what the second begins with.
@@ -108,7 +109,7 @@ pub fn code_after_code_is_in_shape()
 
 /// An instruction that holds code is in shape where the list of its instructions is.
 pub fn held_code_is_in_shape_as_its_list()
-    ensures choice { (t : Temp) (x y : Code) (k : Context) (types after : Typing) → HoldsScalar types t → AreShaped x.0.items k types after → AreShaped y.0.items k types after → IsShaped (If t x y) k types after }
+    ensures choice { AChoiceIsInShape }
     ensures once { (x : Code) (k : Context) (types entry after : Typing) → Passes types entry k after → AreShaped x.0.items (inside k entry) entry entry → IsShaped (Block x) k types after }
     ensures again { (x : Code) (k : Context) (types entry after : Typing) → Passes types entry k after → AreShaped x.0.items (inside k entry) entry entry → IsShaped (Loop x) k types after }
 {}

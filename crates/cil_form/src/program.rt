@@ -1,7 +1,9 @@
+//! The parts of a program in three-address code.
 use crate::instr::Code;
 use crate::number::{FunctionNumber, Planned};
-use c_types::{Site, Types};
+use c_types::Types;
 use cc_base::{NodeId, Place, TypeId};
+use kind_sites::Site;
 use std::marker::Model;
 
 /// A parameter: its type, and its home where it has a name.
@@ -107,7 +109,7 @@ pub struct Sites(pub Vec<Site>);
 
 impl Model for Sites {
     ghost use Rattle.std.specs.Prelude.{List};
-    ghost use Rattle.c_types.specs.declared.site.Site.{Site};
+    ghost use Rattle.kind_sites.specs.declared.site.Site.{Site};
 
     ghost Value = { List Site };
 

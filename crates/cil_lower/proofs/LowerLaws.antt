@@ -1,9 +1,9 @@
 -- A program that is lowered from a unit is in shape and means what the unit means.
-use Rattle.std.proofs.Common.{◌≡◌, ◌≤◌, ℕ, ap, sym, subst, ◌∙◌, List, [], ◌∷◌, length, map, Option, None, Some}
+use Rattle.std.proofs.Common.{◌≡◌, ◌≤◌, ℕ, ap, sym, subst, ◌∙◌, List, [], ◌∷◌, length, Option, None, Some}
 use Rattle.cc_base.specs.declared.kind.Kind.{Kind}
 use Rattle.cc_base.specs.declared.number.NodeId.{NodeId}
 use Rattle.c_types.specs.Table.{Table}
-use Rattle.c_types.specs.declared.site.Site.{Site}
+use Rattle.kind_sites.specs.declared.site.Site.{Site}
 use Rattle.c_tree.specs.Depth.{unit_height}
 use Rattle.c_tree.specs.Erasure.{erased_unit}
 use Rattle.c_tree.specs.TypedTree.{TypedTranslationUnit}

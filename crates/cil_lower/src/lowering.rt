@@ -41,7 +41,10 @@ fn with_sites(program: Program, sites: Sites) -> Program
 
 /// The code of a unit, with its nodes and all of its sites.
 fn program_of(alloc: Global, unit: &Typed) -> Result<Program, NoMemory>
-    requires { unit.now.nodes ≡ length (nodes_made (made_by_unit (typed_unit_view unit.now.unit))) }
+    requires typed { IsWellTyped unit.now.types (typed_unit_view unit.now.unit) }
+    requires limited { IsWithinLimits unit.now.types (typed_unit_view unit.now.unit) }
+    requires height { unit_height (erased_unit (typed_unit_view unit.now.unit)) ≤ 256 }
+    requires nodes { unit.now.nodes ≡ length (nodes_made (made_by_unit (typed_unit_view unit.now.unit))) }
     ensures lowered { IfOk result (λ p. IsLoweredFrom (typed_unit_view unit.now.unit) p) }
     ensures types { IfOk result (λ p. p.types ≡ unit.now.types) }
     ensures nodes { IfOk result (λ p. p.nodes ≡ unit.now.nodes) }
@@ -55,7 +58,7 @@ fn program_of(alloc: Global, unit: &Typed) -> Result<Program, NoMemory>
 /// The three-address code of a well typed unit, which is in shape. For whatever kinds the nodes have, every input and
 /// every bound on turns it runs as the unit does: in its ending, its output, the bytes that it reads, its accesses, the
 /// functions that it enters and the memory at the end. Its types, nodes and sites are the unit's, and its sites tell of all
-/// of it. The one error is `NoMemory`; no clause says that nothing else than want of memory gives it.
+/// of it. Such a unit has code, so that the one error is want of memory.
 pub fn lower(alloc: Global, unit: &Typed) -> Result<Cil, NoMemory>
     requires typed { IsWellTyped unit.now.types (typed_unit_view unit.now.unit) }
     requires limited { IsWithinLimits unit.now.types (typed_unit_view unit.now.unit) }

@@ -1,3 +1,4 @@
+//! What the words of a command line can ask for.
 /// What is done with a file.
 #[derive(Clone, Copy, Debug, PartialEq, Eq)]
 pub enum Action {

@@ -11,14 +11,14 @@ use Rattle.c_types.specs.declared.shape.TypeShape.{TypeShape}
 use Rattle.c_types.specs.declared.shape.TypeShape.TheVariants as shape
 use Rattle.c_types.specs.declared.flow_class.FlowClass.{FlowClass}
 use Rattle.c_types.specs.declared.flow_class.FlowClass.TheVariants as class
-use Rattle.c_types.specs.declared.site.Site.{Site}
-use Rattle.c_types.specs.declared.site.Site.TheVariants as site
+use Rattle.kind_sites.specs.declared.site.Site.{Site}
+use Rattle.kind_sites.specs.declared.site.Site.TheVariants as site
 use Rattle.c_types.specs.Table.{Table, IsType, IsComplete, shape_at, members_at, is_function, is_function_shape, is_complete_entry, parts_of_shape}
 use Rattle.c_types.specs.Layouts.{size_of}
 use Rattle.c_types.specs.Cells.{mixed, begins, longest, padded_to, union_cells, cells_of_shape, holds_pointer, holds_in_shape}
 use Rattle.c_types.specs.Equality.{physically_equal, begins_with, cells_of}
 use Rattle.c_types.specs.Flows.{HeldPointer, pointer_at, flow_class, StandAlike, StandInTiles, CorrespondAtTop, Correspond, top, inside, CorrespondInFlow, CorrespondByPlace}
-use Rattle.c_types.specs.Solutions.{HoldsMixed, Holds, at_place, in_member, IsLargest}
+use Rattle.c_types.specs.Contents.{HoldsMixed, Holds, at_place, in_member, IsLargest}
 use Rattle.c_types.specs.Sound.{IsWellFormed}
 use Rattle.c_types.proofs.Cells.{cells_are}
 use Rattle.type_laws.proofs.Relations.{equal_equiv}

@@ -5,12 +5,12 @@ use Rattle.std.specs.List.{list_all, range_with_len}
 use lib.Pointwise.{pointwise_long}
 use Rattle.cc_base.specs.declared.number.TypeId.{TypeId}
 use Rattle.c_types.specs.declared.flow_class.FlowClass.TheVariants.{Equal, UpTile, Up, DownTile, Down, Tile, Bad}
-use Rattle.c_types.specs.declared.site.Site.{Site}
+use Rattle.kind_sites.specs.declared.site.Site.{Site}
 use Rattle.c_types.specs.Table.{Table, is_function, is_empty}
 use Rattle.c_types.specs.Cells.{Cell, raw, Relation, alike, all_alike}
 use Rattle.c_types.specs.Equality.{physically_equal, cells_of, begins_with, strictly_below, repeated_cell, repeat_alike, tile}
 use Rattle.c_types.specs.Flows.{flow_class}
-use Rattle.c_types.specs.Solutions.{HasBelow}
+use Rattle.kind_sites.specs.Solutions.{HasBelow}
 use Rattle.c_types.specs.Sound.{IsWellFormed}
 use Rattle.c_types.proofs.Shapes.{first_true, second_true}
 use Rattle.type_laws.proofs.Relations.{equal_equiv, alike_equiv}

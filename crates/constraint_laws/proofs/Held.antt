@@ -13,7 +13,7 @@ use Rattle.c_types.specs.Layouts.{rounded, size_of, align_of}
 use Rattle.c_types.specs.Cells.{Cell, raw, pointer, mixed, incomplete, Relation, begins, padded_to, member_cells, longest, union_cells, cells_of_shape, cells_step, cells_at, holds_pointer}
 use Rattle.c_types.specs.Equality.{physically_equal, cells_of}
 use Rattle.c_types.specs.Flows.{HeldPointer, pointer_at, pointer_of_shape}
-use Rattle.c_types.specs.Solutions.{HoldsMixed}
+use Rattle.c_types.specs.Contents.{HoldsMixed}
 use Rattle.c_types.specs.Table.{IsUnion, is_union_shape}
 use Rattle.phys_types.proofs.Classes.{function_tag}
 use Rattle.phys_types.proofs.Reached.{cell_at, at_cell, at_slot}

@@ -7,11 +7,11 @@ use Rattle.cc_base.specs.declared.number.TypeId.{TypeId}
 use Rattle.cc_base.specs.declared.number.NodeId.{NodeId}
 use Rattle.cc_base.specs.declared.place.Place.{Place}
 use Rattle.cc_base.specs.declared.kind.Kind.{Kind}
-use Rattle.c_types.specs.declared.site.Site.{Site}
-use Rattle.c_types.specs.declared.site.Site.TheVariants as site
+use Rattle.kind_sites.specs.declared.site.Site.{Site}
+use Rattle.kind_sites.specs.declared.site.Site.TheVariants as site
 use Rattle.c_types.specs.Table.{Table}
-use Rattle.c_types.specs.Flows.{by_number}
-use Rattle.c_types.specs.Solutions.{HoldsMixed, IsSolution}
+use Rattle.c_types.specs.Contents.{HoldsMixed}
+use Rattle.kind_sites.specs.Solutions.{IsSolution}
 use Rattle.c_types.specs.Sound.{IsWellFormed}
 use Rattle.kind_solver.specs.declared.constraint.Constraint.{Constraint}
 use Rattle.kind_solver.specs.Constraints.{AreWithin, MeetsAll, PlainApart}
@@ -28,7 +28,7 @@ module _ (table : Table) (made : List Planned) (sites : List Site) (told : AreSi
   forced : (t v : TypeId) → HoldsMixed table t v → (place : Place) × Contains sites (site.Union v place)
   forced t v h = let u = mixed-is-union table t v h in told.unions v u.0 u.1
 
-  pub given_is_a_solution : (list : List Constraint) → AreGiven table sites list → (kind : NodeId → Kind) → MeetsAll (by_number kind) list ↔ IsSolution table sites kind
+  pub given_is_a_solution : (list : List Constraint) → AreGiven table sites list → (kind : NodeId → Kind) → MeetsAll kind list ↔ IsSolution table sites kind
   given_is_a_solution list given kind = given-is-solution table sites list given kind forced
 
   module _ (nodes : ℕ) (shaped : All (IsSiteInShape table nodes) sites) (w : IsWellFormed table) (list : List Constraint) (given : AreGiven table sites list) where

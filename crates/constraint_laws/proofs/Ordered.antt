@@ -4,10 +4,10 @@ use Rattle.std.specs.Prelude.{◌↔◌}
 use Rattle.std.specs.List.{Contains}
 use Rattle.cc_base.specs.declared.number.TypeId.{TypeId}
 use Rattle.cc_base.specs.declared.number.NodeId.{NodeId}
-use Rattle.c_types.specs.declared.site.Site.{Site}
-use Rattle.c_types.specs.declared.site.Site.TheVariants as site
+use Rattle.kind_sites.specs.declared.site.Site.{Site}
+use Rattle.kind_sites.specs.declared.site.Site.TheVariants as site
 use Rattle.c_types.specs.Table.{Table}
-use Rattle.c_types.specs.Solutions.{HasBelow}
+use Rattle.kind_sites.specs.Solutions.{HasBelow}
 use Rattle.kind_solver.specs.declared.constraint.Constraint.{Constraint}
 use Rattle.kind_solver.specs.declared.constraint.Constraint.TheVariants.{Flow, Needs, Equal, Inside, Linked, Force, Plain}
 use Rattle.kind_solver.specs.declared.constraint.Why.TheVariants as why

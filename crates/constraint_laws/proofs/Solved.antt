@@ -7,12 +7,13 @@ use Rattle.cc_base.specs.declared.number.TypeId.{TypeId}
 use Rattle.cc_base.specs.declared.number.NodeId.{NodeId}
 use Rattle.cc_base.specs.declared.place.Place.{Place}
 use Rattle.cc_base.specs.declared.kind.Kind.{Kind}
-use Rattle.c_types.specs.declared.site.Site.{Site}
-use Rattle.c_types.specs.declared.site.Site.TheVariants as site
+use Rattle.kind_sites.specs.declared.site.Site.{Site}
+use Rattle.kind_sites.specs.declared.site.Site.TheVariants as site
 use Rattle.c_types.specs.Table.{Table}
 use Rattle.c_types.specs.Equality.{strictly_below}
-use Rattle.c_types.specs.Flows.{HeldPointer, flow_class, CorrespondInFlow, CorrespondByPlace, HaveEqualKinds, by_number}
-use Rattle.c_types.specs.Solutions.{allows, HasBelow, HoldsMixed, IsAllowed, IsFlowAllowed, IsPointeeAllowed, IsHomeAllowed, SpreadsWild, IsWildWhereMixed, IsUnionAllowed, IsSolution}
+use Rattle.c_types.specs.Flows.{HeldPointer, flow_class, CorrespondInFlow, CorrespondByPlace, HaveEqualKinds}
+use Rattle.c_types.specs.Contents.{HoldsMixed}
+use Rattle.kind_sites.specs.Solutions.{allows, HasBelow, IsAllowed, IsFlowAllowed, IsPointeeAllowed, IsHomeAllowed, SpreadsWild, IsWildWhereMixed, IsUnionAllowed, IsSolution}
 use Rattle.c_types.proofs.Lists.{contains_head, contains_tail}
 use Rattle.kind_solver.specs.declared.constraint.Constraint.{Constraint}
 use Rattle.kind_solver.specs.declared.constraint.Constraint.TheVariants.{Flow, Needs, Equal, Inside, Linked, Force, Plain}
@@ -92,8 +93,8 @@ one-node m n = by (m.0 == n.0) refl
 module _ (table : Table) (sites : List Site) (list : List Constraint) (given : AreGiven table sites list) (kind : NodeId → Kind) where
   -- From the list to the sites
 
-  module _ (meets : MeetsAll (by_number kind) list) where
-    met : (c : Constraint) → IsGiven table sites c → Meets (by_number kind) c
+  module _ (meets : MeetsAll kind list) where
+    met : (c : Constraint) → IsGiven table sites c → Meets kind c
     met c g = meets c ((given c).1 g)
 
     equal-met : (R : HeldPointer → HeldPointer → Type 0) → ((a b : NodeId) → HaveNodes R a b → AreOfOneCell table sites a b) → HaveEqualKinds kind R
@@ -150,7 +151,7 @@ module _ (table : Table) (sites : List Site) (list : List Constraint) (given : A
     mixed-told n t (inl c) = let f : IsPointeeAllowed table kind n t = solution.each (site.Pointee n t) c in f.mixed
     mixed-told n t (inr c) = let f : IsHomeAllowed table kind n t = solution.each (site.Home n t) c in f.mixed
 
-    meet : (c : Constraint) → IsGiven table sites c → Meets (by_number kind) c
+    meet : (c : Constraint) → IsGiven table sites c → Meets kind c
     meet (Flow from to class below place) g =
         let f : IsFlowAllowed table sites kind from g.0 to g.1 = solution.each (site.Flow from g.0 to g.1 place) g.2 in
         let same : f.below ≡ below = one-answer f.below below (HasBelow table sites g.0) f.tells g.4 in
@@ -173,7 +174,7 @@ module _ (table : Table) (sites : List Site) (list : List Constraint) (given : A
     meet (Plain n) (inl g) = let f : IsHomeAllowed table kind n g.0 = solution.each (site.Home n g.0) g.1 in f.plain
     meet (Plain n) (inr g) = let f : IsPointeeAllowed table kind n g.0 = solution.each (site.Pointee n g.0) g.1 in f.function g.2
 
-  pub given-is-solution : ((t v : TypeId) → HoldsMixed table t v → (place : Place) × Contains sites (site.Union v place)) → MeetsAll (by_number kind) list ↔ IsSolution table sites kind
+  pub given-is-solution : ((t v : TypeId) → HoldsMixed table t v → (place : Place) × Contains sites (site.Union v place)) → MeetsAll kind list ↔ IsSolution table sites kind
   given-is-solution unions = (
     λ m. record { each = λ s c. allowed m unions s c },
     λ s c k. meet s c ((given c).0 k),

@@ -5,11 +5,11 @@ use Rattle.std.specs.List.{Contains}
 use Rattle.cc_base.specs.declared.number.TypeId.{TypeId}
 use Rattle.cc_base.specs.declared.number.NodeId.{NodeId}
 use Rattle.cc_base.specs.declared.place.Place.{Place}
-use Rattle.c_types.specs.declared.site.Site.{Site}
-use Rattle.c_types.specs.declared.site.Site.TheVariants as site
+use Rattle.kind_sites.specs.declared.site.Site.{Site}
+use Rattle.kind_sites.specs.declared.site.Site.TheVariants as site
 use Rattle.c_types.specs.Table.{Table, members_at}
 use Rattle.c_types.specs.Flows.{HeldPointer, flow_class, StandAlike, CorrespondAtTop, Correspond, top, inside, CorrespondInFlow, CorrespondByPlace}
-use Rattle.c_types.specs.Solutions.{HoldsMixed, IsLargest}
+use Rattle.c_types.specs.Contents.{HoldsMixed, IsLargest}
 use Rattle.c_types.specs.Sound.{IsWellFormed}
 use Rattle.phys_types.specs.Pairs.{HaveNodes}
 use Rattle.phys_types.specs.Found.{Pairs, no_pairs, Gains}

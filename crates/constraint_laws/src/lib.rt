@@ -2,31 +2,24 @@
 //! nothing, so that it is proved once and can be cited.
 #![tactic(auto)]
 
-ghost use Rattle.std.specs.Prelude.{◌↔◌, ℕ, List, All};
+ghost use Rattle.std.specs.Prelude.{◌↔◌, List};
 ghost use Rattle.std.specs.List.{Contains};
-ghost use Rattle.cc_base.specs.declared.number.NodeId.{NodeId};
-ghost use Rattle.cc_base.specs.declared.kind.Kind.{Kind};
-ghost use Rattle.c_types.specs.declared.site.Site.{Site};
+ghost use Rattle.kind_sites.specs.declared.site.Site.{Site};
 ghost use Rattle.c_types.specs.Table.{Table};
-ghost use Rattle.c_types.specs.Flows.{by_number};
-ghost use Rattle.c_types.specs.Solutions.{IsSolution};
-ghost use Rattle.c_types.specs.Sound.{IsWellFormed};
 ghost use Rattle.kind_solver.specs.declared.constraint.Constraint.{Constraint};
-ghost use Rattle.kind_solver.specs.Constraints.{AreWithin, MeetsAll, PlainApart, HaveSameMembers};
-ghost use Rattle.src_mem.specs.Memory.{Planned};
-ghost use Rattle.cil_form.specs.Shape.{IsSiteInShape};
-ghost use Rattle.cil_form.specs.Told.{AreSitesTold};
+ghost use Rattle.kind_solver.specs.Constraints.{HaveSameMembers};
 ghost use Rattle.constraint_laws.specs.Given.{AreGiven};
+ghost use Rattle.constraint_laws.specs.Theorems.{SolutionsAreThoseOfTheSites, NodesAreWithinTheProgram, PlainNodesAreApart};
 
 /// A map from nodes to kinds meets the constraints of a program exactly where it is a solution of the program's sites.
 pub fn constraints_have_the_solutions_of_the_sites()
-    ensures { (table : Table) (made : List Planned) (sites : List Site) (list : List Constraint) (kind : NodeId → Kind) → AreSitesTold table made sites → AreGiven table sites list → MeetsAll (by_number kind) list ↔ IsSolution table sites kind }
+    ensures { SolutionsAreThoseOfTheSites }
 {}
 
 /// The constraints of a program name its nodes alone, and join function pointers and homes to their like only.
 pub fn constraints_keep_plain_nodes_apart()
-    ensures within { (table : Table) (made : List Planned) (nodes : ℕ) (sites : List Site) (list : List Constraint) → IsWellFormed table → AreSitesTold table made sites → All (IsSiteInShape table nodes) sites → AreGiven table sites list → AreWithin nodes list }
-    ensures apart { (table : Table) (made : List Planned) (nodes : ℕ) (sites : List Site) (list : List Constraint) → IsWellFormed table → AreSitesTold table made sites → All (IsSiteInShape table nodes) sites → AreGiven table sites list → PlainApart list }
+    ensures within { NodesAreWithinTheProgram }
+    ensures apart { PlainNodesAreApart }
 {}
 
 /// The constraints don't depend on the order of the sites, nor on how often one is there; and a program's constraints are one set.

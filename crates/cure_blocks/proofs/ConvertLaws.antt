@@ -30,7 +30,7 @@ use Rattle.cure_scope.specs.declared.scope.Scope.{Scope}
 use Rattle.cure_scope.specs.Scopes.{fixed_column, fixed_slots, seat, whole_of, world_of}
 use Rattle.cure_scope.specs.Needs.{Guards, AreSeated}
 use Rattle.cure_scope.proofs.GuardLaws.{guarded}
-use Rattle.cure_instrs.specs.Cured.{kind_at}
+use Rattle.cure_instrs.specs.Cured.{kind_in}
 use Rattle.cure_instrs.proofs.KnownLaws.{leaves_held, is_plain, is_exactly, kind_same, takes}
 use Rattle.cure_blocks.specs.Cured.{ConvertCured}
 use Rattle.cure_blocks.specs.Rows.{narrow_at, pointee_at, PointerConverted}
@@ -101,7 +101,7 @@ integer_converted k types into from t code line c after is h =
     )
 
 pub number_converted : (k : Scope) (types : Typing) (into from : Temp) (t : TypeId) (at : Place) (code : List Instr)
-    → NumberWords (kind_at (whole_of k) t) (fixed_column into) (fixed_column from) code → ConvertCured (convert.ToPointer into from t at) (world_of k) types code
+    → NumberWords (kind_in (whole_of k) t) (fixed_column into) (fixed_column from) code → ConvertCured (convert.ToPointer into from t at) (world_of k) types code
 unfolding ConvertCured
 number_converted k types into from t at code line c after is h =
     let e = kind_same (world_of k) c t h.0 h.1 is h.2 in (
@@ -182,7 +182,7 @@ guarded-words k from to class u v c a at code h = (
 )
 
 pub pointer_converted : (k : Scope) (types : Typing) (into from : Temp) (t s : TypeId) (at : Place) (code : List Instr)
-    → PointerConverted (kind_at (whole_of k) t) (kind_at (whole_of k) s) (world_of k)
+    → PointerConverted (kind_in (whole_of k) t) (kind_in (whole_of k) s) (world_of k)
     (flow_class k.layouts.now.table (pointee_at (shape_at k.layouts.now.table t)) (pointee_at (shape_at k.layouts.now.table s)))
     (pointee_at (shape_at k.layouts.now.table t)) (pointee_at (shape_at k.layouts.now.table s)) (fixed_column into) (fixed_column from) at code
     → ConvertCured (convert.Pointer into from t s at) (world_of k) types code
@@ -192,11 +192,11 @@ pointer_converted k types into from t s at code line c after is h =
     let table = k.layouts.now.table in
     let e = kind_same w c t h.0 h.2 is h.4 in
     let f = kind_same w c s h.1 h.3 is h.5 in
-    let source = subst (λ x. PointerConverted (kind_at (whole_of k) t) (kind_at (whole_of k) s) w (flow_class table x (pointee_at (shape_at table s)))
+    let source = subst (λ x. PointerConverted (kind_in (whole_of k) t) (kind_in (whole_of k) s) w (flow_class table x (pointee_at (shape_at table s)))
     x (pointee_at (shape_at table s)) (fixed_column into) (fixed_column from) at code) (ap pointee_at e.0) line in
-    let target = subst (λ x. PointerConverted (kind_at (whole_of k) t) (kind_at (whole_of k) s) w (flow_class table h.2 x)
+    let target = subst (λ x. PointerConverted (kind_in (whole_of k) t) (kind_in (whole_of k) s) w (flow_class table h.2 x)
     h.2 x (fixed_column into) (fixed_column from) at code) (ap pointee_at f.0) source in
-    let one = subst (λ x. PointerConverted x (kind_at (whole_of k) s) w (flow_class table h.2 h.3)
+    let one = subst (λ x. PointerConverted x (kind_in (whole_of k) s) w (flow_class table h.2 h.3)
     h.2 h.3 (fixed_column into) (fixed_column from) at code) e.1 target in
     let both = subst (λ x. PointerConverted ((whole_of k).kind h.0) x w (flow_class table h.2 h.3)
     h.2 h.3 (fixed_column into) (fixed_column from) at code) f.1 one in (

@@ -13,7 +13,7 @@ use Rattle.check_forms.specs.Pieces.{Piece}
 use Rattle.cure_rules.specs.Known.{Whole, World, known_of}
 use Rattle.cure_rules.specs.Pointing.{IsCuringConvert}
 use Rattle.cure_rules.specs.Calling.{IsCuringAllocate, IsCuringRuntime}
-use Rattle.cure_instrs.specs.Cured.{IsIn, kind_at}
+use Rattle.cure_instrs.specs.Cured.{IsIn, kind_in}
 use Rattle.cure_blocks.specs.Rows.{pointee_at}
 
 unfoldable pub ConvertCured : Convert → World → Typing → Piece
@@ -50,9 +50,9 @@ abbrev pub AreTypes : Table → TypeId → TypeId → Type 0
 AreTypes table u v = IsType table u × IsType table v
 
 abbrev pub CanConvert : Convert → Whole → Type 0
-CanConvert (convert.ToPointer into from t at) w = IsNumbered (kind_at w t)
+CanConvert (convert.ToPointer into from t at) w = IsNumbered (kind_in w t)
 CanConvert (convert.Pointer into from t s at) w =
-    AreTypes w.table (pointee_at (shape_at w.table t)) (pointee_at (shape_at w.table s)) × AreConverted (kind_at w t) (kind_at w s)
+    AreTypes w.table (pointee_at (shape_at w.table t)) (pointee_at (shape_at w.table s)) × AreConverted (kind_in w t) (kind_in w s)
 CanConvert i w = Unit {0}
 
 -- a type of the program

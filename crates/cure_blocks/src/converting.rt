@@ -10,7 +10,7 @@ ghost use Rattle.check_forms.specs.Pieces.{Line, When};
 ghost use Rattle.check_insert.specs.Drafts.{Grows};
 ghost use Rattle.cure_rules.specs.Known.{cured_size, narrowed_lines};
 ghost use Rattle.cure_rules.specs.Pointing.{NumberWords, ConvertedWords, conversion_by, made_type, noded_lines};
-ghost use Rattle.cure_instrs.specs.Cured.{kind_at};
+ghost use Rattle.cure_instrs.specs.Cured.{kind_in};
 ghost use Rattle.cure_scope.specs.Scopes.{fixed_column, seat, whole_of, world_of};
 ghost use Rattle.cure_blocks.specs.Cured.{AreConverted, AreTypes, CanConvert, ConvertCured, IsNumbered};
 ghost use Rattle.cure_blocks.specs.Rows.{narrow_at, node_in, pointee_at, PointerConverted};
@@ -75,8 +75,8 @@ fn put_number(out: &mut Draft, kind: Kind, v: u32, a: u32)
 }
 
 /// The kind of the pointers of a type; of another type that of node 0.
-fn kind_at(k: &Scope<'_>, t: TypeId) -> Kind
-    ensures { result ≡ kind_at (whole_of k.now) t }
+fn kind_in(k: &Scope<'_>, t: TypeId) -> Kind
+    ensures { result ≡ kind_in (whole_of k.now) t }
 {
     k.kind_of(node_of(k, t))
 }
@@ -270,7 +270,7 @@ pub fn put_convert(out: &mut Draft, k: &Scope<'_>, known: &Known<'_>, i: Convert
             from,
             ty,
             place: _,
-        } => put_number(out, kind_at(k, ty), column(into), column(from)),
+        } => put_number(out, kind_in(k, ty), column(into), column(from)),
         Convert::FromPointer {
             into,
             from,
@@ -288,8 +288,8 @@ pub fn put_convert(out: &mut Draft, k: &Scope<'_>, known: &Known<'_>, i: Convert
             let target = pointee_of(k, ty);
             let class = class_of(out, known, source, target, k.layouts.types().count());
             let c = Converted {
-                from: kind_at(k, from_ty),
-                to: kind_at(k, ty),
+                from: kind_in(k, from_ty),
+                to: kind_in(k, ty),
                 source,
                 target,
                 class,

@@ -9,15 +9,15 @@ use Rattle.cc_base.specs.declared.kind.Kind.{Kind}
 use Rattle.cc_base.specs.declared.kind.Kind.TheVariants.{Safe, Seq, Rtti, Wild}
 use Rattle.c_types.specs.declared.shape.TypeShape.{TypeShape}
 use Rattle.c_types.specs.declared.shape.TypeShape.TheVariants as shape
-use Rattle.c_types.specs.declared.site.Site.TheVariants.{Home}
+use Rattle.kind_sites.specs.declared.site.Site.TheVariants.{Home}
 use Rattle.c_types.specs.Table.{Table, IsType, IsComplete, AreNodesOf, shape_at}
 use Rattle.c_types.specs.Sound.{IsWellFormed}
 use Rattle.c_types.specs.Equality.{cells_of}
-use Rattle.c_types.specs.Flows.{kind_in}
+use Rattle.cc_base.specs.Kinds.{kind_at}
 use Rattle.c_types.specs.Widths as widths
 use Rattle.src_mem.specs.Memory.{Planned, frame_charge}
 use Rattle.src_mem.specs.Runs as runs
-use Rattle.src_mem.specs.Checks.{frame_limit}
+use Rattle.src_mem.specs.Checks.{source_frame_limit}
 use Rattle.cil_form.specs.declared.number.Planned.{Planned as PlannedObject}
 use Rattle.cil_form.specs.declared.program.Parameter.{Parameter}
 use Rattle.cil_form.specs.declared.program.Function.{Function}
@@ -79,10 +79,10 @@ module _ (w : Setting) (s : IsSet w) where
   main_few =
       let m = s.shape.main in let l = within w.program.now.functions w.program.now.main.0 m.0 m.1 in let c = s.shape.count in omega (arith, l, c)
 
-  same_kind : kind_in w.kinds.now ≡ kind_in w.by_node.now
-  same_kind = ap kind_in s.listed
+  same_kind : kind_at w.kinds.now ≡ kind_at w.by_node.now
+  same_kind = ap kind_at s.listed
 
-  solved : IsSolutionOf w.program.now (kind_in w.kinds.now)
+  solved : IsSolutionOf w.program.now (kind_at w.kinds.now)
   solved = subst (IsSolutionOf w.program.now) (sym same_kind) s.solution
 
   kinds_same : w.layouts.now.kinds ≡ w.kinds.now
@@ -90,10 +90,10 @@ module _ (w : Setting) (s : IsSet w) where
 
   sized : AreSizes (whole_in w)
   sized = record {
-    size = λ u c. ap (λ b. if b then widths.cured_size w.layouts.now.table (kind_in w.layouts.now.kinds) u else 0) c
-        ∙ ap (λ ks. widths.cured_size w.layouts.now.table (kind_in ks) u) kinds_same;
-    none = λ u c. ap (λ b. if b then widths.cured_size w.layouts.now.table (kind_in w.layouts.now.kinds) u else 0) c;
-    offset = λ u o c l b. ap (λ ks. widths.before (kind_in ks) (cells_of w.layouts.now.table u) o) kinds_same;
+    size = λ u c. ap (λ b. if b then widths.cured_size w.layouts.now.table (kind_at w.layouts.now.kinds) u else 0) c
+        ∙ ap (λ ks. widths.cured_size w.layouts.now.table (kind_at ks) u) kinds_same;
+    none = λ u c. ap (λ b. if b then widths.cured_size w.layouts.now.table (kind_at w.layouts.now.kinds) u else 0) c;
+    offset = λ u o c l b. ap (λ ks. widths.before (kind_at ks) (cells_of w.layouts.now.table u) o) kinds_same;
   }
 
   -- A function
@@ -119,7 +119,7 @@ module _ (w : Setting) (s : IsSet w) where
 
     words_most : parameter_words (whole_in w) f.parameters ≤ 381
     words_most =
-        let l = sum_few (λ (x : Parameter). words_in (whole_in w) x.ty) f.parameters (λ x. words_few (kind_in w.kinds.now) (shape_at w.layouts.now.table x.ty)) in
+        let l = sum_few (λ (x : Parameter). words_in (whole_in w) x.ty) f.parameters (λ x. words_few (kind_at w.kinds.now) (shape_at w.layouts.now.table x.ty)) in
         let n = parameters_few in omega (arith, l, n)
 
     pub objects_of_frame : (vs : List PlannedObject) → map plan vs ≡ variables_of f → All (IsObject w.layouts.now.table (length w.by_node.now)) vs
@@ -142,10 +142,10 @@ module _ (w : Setting) (s : IsSet w) where
         (each_back (λ (o : Planned). Contains w.program.now.sites (Home o.node o.type)) (map (λ o. plan o.planned) w.program.now.statics)
         (flat_map variables_of w.program.now.functions) s.told.objects) k f at
 
-    plain : (o : Planned) → Contains w.program.now.sites (Home o.node o.type) → IsHome (kind_in w.kinds.now o.node)
+    plain : (o : Planned) → Contains w.program.now.sites (Home o.node o.type) → IsHome (kind_at w.kinds.now o.node)
     plain o c = by ((s.solution.each (Home o.node o.type) c).plain)
       where
-        by : (kind_in w.by_node.now o.node ≡ Safe) ⊎ (kind_in w.by_node.now o.node ≡ Wild) → IsHome (kind_in w.kinds.now o.node)
+        by : (kind_at w.by_node.now o.node ≡ Safe) ⊎ (kind_at w.by_node.now o.node ≡ Wild) → IsHome (kind_at w.kinds.now o.node)
         by (inl e) = subst IsHome (sym (ap (λ (g : NodeId → Kind). g o.node) same_kind ∙ e)) tt
         by (inr e) = subst IsHome (sym (ap (λ (g : NodeId → Kind). g o.node) same_kind ∙ e)) tt
 
@@ -193,13 +193,13 @@ module _ (w : Setting) (s : IsSet w) where
     pub curable_by : (world : World) (number : ℕ) (variables : List Planned) (result : Option TypeId) (words : ℕ) (parameters : List Parameter)
         → world ≡ record { whole = whole_in w; number = number; variables = variables; result = result; slots = fixed_slots words }
         → number ≡ suc k → variables ≡ variables_of f → result ≡ result_of_shape (shape_at w.program.now.types f.ty)
-        → words ≡ sum_by (λ x. words_at w.program.now.types (kind_in w.by_node.now) x.ty) parameters → parameters ≡ f.parameters
+        → words ≡ sum_by (λ x. words_at w.program.now.types (kind_at w.by_node.now) x.ty) parameters → parameters ≡ f.parameters
         → IsCurableBody world f.body.0.items
     curable_by world number variables result words parameters is n v r m p =
         let r2 : result ≡ result_of_shape (shape_at w.layouts.now.table f.ty) = r ∙ ap (λ (t : Table). result_of_shape (shape_at t f.ty)) (sym s.table) in
         let m2 : words ≡ parameter_words (whole_in w) f.parameters =
-        m ∙ ap (λ (xs : List Parameter). sum_by (λ x. words_by (kind_in w.by_node.now) (shape_at w.program.now.types x.ty)) xs) p
-        ∙ ap (λ (t : Table). sum_by (λ x. words_by (kind_in w.by_node.now) (shape_at t x.ty)) f.parameters) (sym s.table)
+        m ∙ ap (λ (xs : List Parameter). sum_by (λ x. words_by (kind_at w.by_node.now) (shape_at w.program.now.types x.ty)) xs) p
+        ∙ ap (λ (t : Table). sum_by (λ x. words_by (kind_at w.by_node.now) (shape_at t x.ty)) f.parameters) (sym s.table)
         ∙ ap (λ (g : NodeId → Kind). sum_by (λ x. words_by g (shape_at w.layouts.now.table x.ty)) f.parameters) (sym same_kind) in
         subst (λ (x : World). IsCurableBody x f.body.0.items) (sym is)
         (subst (λ (x : ℕ). IsCurableBody (record { whole = whole_in w; number = x; variables = variables; result = result; slots = fixed_slots words }) f.body.0.items) (sym n)
@@ -243,9 +243,9 @@ module _ (w : Setting) (s : IsSet w) where
     charge_same vs e = (λ i. frame_charge (sym s.table i) (e i))
 
     pub entered_function : (vs : List PlannedObject) (h : cured.Function) → map plan vs ≡ variables_of f → h.slots ≡ 1948 → h.sig ≡ (whole_in w).signature f.ty
-        → (frame_charge w.program.now.types (map plan vs) ≤ frame_limit → h.charge ≡ frame_charge w.program.now.types (map plan vs))
-        → (frame_limit < frame_charge w.program.now.types (map plan vs) → frame_limit < h.charge) → h.charge ≤ 1048576
-        → areas_of h.locals ≡ areas_for w.layouts.now.table (kind_in w.by_node.now) (map plan vs) → FunctionCode (world_at w k f) f h.body.0.items
+        → (frame_charge w.program.now.types (map plan vs) ≤ source_frame_limit → h.charge ≡ frame_charge w.program.now.types (map plan vs))
+        → (source_frame_limit < frame_charge w.program.now.types (map plan vs) → source_frame_limit < h.charge) → h.charge ≤ 1048576
+        → areas_of h.locals ≡ areas_for w.layouts.now.table (kind_at w.by_node.now) (map plan vs) → FunctionCode (world_at w k f) f h.body.0.items
         → IsCuredFunction (world_at w k f) f h
     entered_function vs h e slots sig exact above few areas code =
         let same = charge_same vs e in
@@ -261,7 +261,7 @@ module _ (w : Setting) (s : IsSet w) where
         }
 
     pub never_function : (vs : List PlannedObject) (h : cured.Function) → map plan vs ≡ variables_of f → h.slots ≡ 1948 → h.sig ≡ (whole_in w).signature f.ty
-        → (frame_charge w.program.now.types (map plan vs) ≤ frame_limit → h.charge ≡ frame_charge w.program.now.types (map plan vs))
+        → (frame_charge w.program.now.types (map plan vs) ≤ source_frame_limit → h.charge ≡ frame_charge w.program.now.types (map plan vs))
         → 1048576 < h.charge → h.locals ≡ [] → h.body.0.items ≡ [] → IsCuredFunction (world_at w k f) f h
     never_function vs h e slots sig exact many areas body =
         let same = charge_same vs e in

@@ -4,7 +4,7 @@ use Rattle.std.proofs.Common.{◌≡◌, refl, ap, sym, subst, ◌∙◌, ℕ, z
 use Rattle.std.specs.List.{All}
 use Rattle.cc_base.specs.declared.kind.Kind.{Kind}
 use Rattle.c_types.specs.Table.{Table, AreNodesOf}
-use Rattle.c_types.specs.Flows.{kind_in}
+use Rattle.cc_base.specs.Kinds.{kind_at}
 use Rattle.c_types.specs.Layouts.{size_of}
 use Rattle.c_types.specs.Widths as widths
 use Rattle.flat_mem.specs.declared.Area.{Area}
@@ -104,16 +104,16 @@ objects_of p kinds shape count =
     record { complete = h.planned.1.1; home = (let l = h.planned.0 in omega (arith, l, count)) })
 
 pub globals_given : (p : Program) (kinds : List Kind) (c : Curing) (statics : List Static) (globals : List GlobalLine) → c ≡ curing_of p kinds → statics ≡ p.statics
-    → AreGlobals c.table (kind_in kinds) statics globals → AreGlobals p.types (kind_in kinds) p.statics globals
+    → AreGlobals c.table (kind_at kinds) statics globals → AreGlobals p.types (kind_at kinds) p.statics globals
 globals_given p kinds c statics globals e f g =
-    subst (λ (xs : List Static). AreGlobals p.types (kind_in kinds) xs globals) f
-    (subst (λ (t : Table). AreGlobals t (kind_in kinds) statics globals) (ap (λ (x : Curing). x.table) e) g)
+    subst (λ (xs : List Static). AreGlobals p.types (kind_at kinds) xs globals) f
+    (subst (λ (t : Table). AreGlobals t (kind_at kinds) statics globals) (ap (λ (x : Curing). x.table) e) g)
 
-module _ (p : Program) (kinds : List Kind) (shape : IsInShape p) (globals : List GlobalLine) (g : AreGlobals p.types (kind_in kinds) p.statics globals) where
+module _ (p : Program) (kinds : List Kind) (shape : IsInShape p) (globals : List GlobalLine) (g : AreGlobals p.types (kind_at kinds) p.statics globals) where
   same_count : length globals ≡ length p.statics
   same_count =
       let a = mapped_length (λ (x : GlobalLine). area_of x.area) globals in
-      let b = mapped_length (area_for p.types (kind_in kinds)) (map (λ (o : Static). plan o.planned) p.statics) in
+      let b = mapped_length (area_for p.types (kind_at kinds)) (map (λ (o : Static). plan o.planned) p.statics) in
       let d = mapped_length (λ (o : Static). plan o.planned) p.statics in
       let e = ap length g.areas in omega (arith, a, b, d, e)
 
@@ -135,11 +135,11 @@ module _ (p : Program) (kinds : List Kind) (shape : IsInShape p) (globals : List
       small i x e =
           let n = same_count in
           let o = there p.statics i (let l = within globals i x e in omega (arith, l, n)) in
-          let same : area_of x.area ≡ area_for p.types (kind_in kinds) (plan o.0.planned) =
-          same_some (area_of x.area) (area_for p.types (kind_in kinds) (plan o.0.planned))
+          let same : area_of x.area ≡ area_for p.types (kind_at kinds) (plan o.0.planned) =
+          same_some (area_of x.area) (area_for p.types (kind_at kinds) (plan o.0.planned))
           (sym (mapped_get (λ (y : GlobalLine). area_of y.area) globals i x e) ∙ ap (λ xs. slice_get xs i) g.areas
-          ∙ mapped_get (area_for p.types (kind_in kinds)) (map (λ (s : Static). plan s.planned) p.statics) i (plan o.0.planned) (mapped_get (λ (s : Static). plan s.planned) p.statics i o.0 o.1)) in
-          let most = area_small p.types shape.formed (kind_in kinds) (plan o.0.planned) (all_at (IsStaticInShape p) p.statics shape.statics i o.0 o.1).planned.1.1 in
+          ∙ mapped_get (area_for p.types (kind_at kinds)) (map (λ (s : Static). plan s.planned) p.statics) i (plan o.0.planned) (mapped_get (λ (s : Static). plan s.planned) p.statics i o.0 o.1)) in
+          let most = area_small p.types shape.formed (kind_at kinds) (plan o.0.planned) (all_at (IsStaticInShape p) p.statics shape.statics i o.0 o.1).planned.1.1 in
           subst (λ (m : ℕ). m ≤ 3145728) (sym (ap (λ (b : Area). b.bytes) same)) most
 
 -- What is the same in all functions
@@ -148,7 +148,7 @@ pub same_whole : (w : Setting) (s : IsSet w) (t : Tables) → w.layouts.now ≡ 
     → w.signatures.now ≡ t.signatures.numbers.items → whole_in w ≡ whole_with w.program.now w.by_node.now w.nodes.now t
 same_whole w s t e a g = λ i. record {
   table = (e i).table;
-  kind = kind_in (s.listed i);
+  kind = kind_at (s.listed i);
   size = size_in (e i);
   offset = offset_in (e i);
   node = λ u. slice_index w.nodes.now u.0;
@@ -165,8 +165,8 @@ parts_of parents t made = record { sigs = t.signatures.sigs.items; nodes = paren
 
 sizes : (p : Program) (kinds : List Kind) (nodes : List ℕ) (t : Tables) → AreSizes (whole_with p kinds nodes t)
 sizes p kinds nodes t = record {
-  size = λ u c. ap (λ b. if b then widths.cured_size p.types (kind_in kinds) u else 0) c;
-  none = λ u c. ap (λ b. if b then widths.cured_size p.types (kind_in kinds) u else 0) c;
+  size = λ u c. ap (λ b. if b then widths.cured_size p.types (kind_at kinds) u else 0) c;
+  none = λ u c. ap (λ b. if b then widths.cured_size p.types (kind_at kinds) u else 0) c;
   offset = λ u o c l b. refl;
 }
 
@@ -175,7 +175,7 @@ module _ (p : Program) (kinds : List Kind) (nodes parents : List ℕ) (t : Table
   at_addresses : t.addresses.items ≡ global_addresses (parts_of parents t made)
   at_addresses = a.addresses ∙ ap (λ n. map (λ (x : PlacedArea). x.address) (placed (global_areas t.globals.items) (8 * n))) (sym m.count)
 
-  whole_same : whole_with p kinds nodes t ≡ whole_of p (kind_in kinds) (λ u. slice_index nodes u.0) (numbers_with p kinds t) (parts_of parents t made)
+  whole_same : whole_with p kinds nodes t ≡ whole_of p (kind_at kinds) (λ u. slice_index nodes u.0) (numbers_with p kinds t) (parts_of parents t made)
   whole_same = λ i. record (whole_with p kinds nodes t) { addresses = at_addresses i }
 
   are_cured : AreCured (whole_with p kinds nodes t) p parents (parts_of parents t made)
@@ -194,7 +194,7 @@ module _ (p : Program) (kinds : List Kind) (nodes parents : List ℕ) (t : Table
     start = m.start;
   }
 
-  pub cured_program : IsCuredProgram p (kind_in kinds) (λ u. slice_index nodes u.0) parents (parts_of parents t made)
+  pub cured_program : IsCuredProgram p (kind_at kinds) (λ u. slice_index nodes u.0) parents (parts_of parents t made)
   cured_program = record {
     numbers = numbers_with p kinds t;
     are_cured = subst (λ (w : Whole). AreCured w p parents (parts_of parents t made)) whole_same are_cured;
@@ -203,21 +203,21 @@ module _ (p : Program) (kinds : List Kind) (nodes parents : List ℕ) (t : Table
 -- the same of what is given under other names
 pub cured_as : (p code : Program) (kinds : List Kind) (nodes numbers ps parents : List ℕ) (t : Tables) (made : List cured.Function) (parts cured : Parts)
     → p ≡ code → nodes ≡ numbers → ps ≡ parents → AreTables p kinds t → AreMade (whole_with p kinds nodes t) p (length p.functions) made
-    → parts ≡ parts_of ps t made → cured ≡ parts → IsCuredProgram code (kind_in kinds) (λ u. slice_index numbers u.0) parents cured
+    → parts ≡ parts_of ps t made → cured ≡ parts → IsCuredProgram code (kind_at kinds) (λ u. slice_index numbers u.0) parents cured
 cured_as p code kinds nodes numbers ps parents t made parts cured e f g a m h k =
-    subst (λ (x : Parts). IsCuredProgram code (kind_in kinds) (λ u. slice_index numbers u.0) parents x) (sym (k ∙ h))
-    (subst (λ (x : Program). IsCuredProgram x (kind_in kinds) (λ u. slice_index numbers u.0) parents (parts_of ps t made)) e
-    (subst (λ (x : List ℕ). IsCuredProgram p (kind_in kinds) (λ u. slice_index x u.0) parents (parts_of ps t made)) f
-    (subst (λ (x : List ℕ). IsCuredProgram p (kind_in kinds) (λ u. slice_index nodes u.0) x (parts_of ps t made)) g
+    subst (λ (x : Parts). IsCuredProgram code (kind_at kinds) (λ u. slice_index numbers u.0) parents x) (sym (k ∙ h))
+    (subst (λ (x : Program). IsCuredProgram x (kind_at kinds) (λ u. slice_index numbers u.0) parents (parts_of ps t made)) e
+    (subst (λ (x : List ℕ). IsCuredProgram p (kind_at kinds) (λ u. slice_index x u.0) parents (parts_of ps t made)) f
+    (subst (λ (x : List ℕ). IsCuredProgram p (kind_at kinds) (λ u. slice_index nodes u.0) x (parts_of ps t made)) g
     (cured_program p kinds nodes ps t made a m))))
 
 -- its numbers are in range
 pub in_range_as : (p code : Program) (kinds : List Kind) (nodes numbers ps parents : List ℕ) (t : Tables) (made : List cured.Function) (parts : Parts)
     → p ≡ code → nodes ≡ numbers → ps ≡ parents → AreTables p kinds t → AreMade (whole_with p kinds nodes t) p (length p.functions) made
-    → parts ≡ parts_of ps t made → IsInShape code → AreTargetsNamed code (kind_in kinds) (λ u. slice_index numbers u.0) (length parents)
+    → parts ≡ parts_of ps t made → IsInShape code → AreTargetsNamed code (kind_at kinds) (λ u. slice_index numbers u.0) (length parents)
     → length parents ≤ 65536 → AreParentsEarlier parents → IsInRange parts
 in_range_as p code kinds nodes numbers ps parents t made parts e f g a m h shape targets few earlier =
     let c = cured_as p code kinds nodes numbers ps parents t made parts parts e f g a m h refl in
     let sigs : length parts.sigs ≤ 65536 = subst (λ (x : Parts). length x.sigs ≤ 65536) (sym h) a.few in
-    in_range code (kind_in kinds) (λ u. slice_index numbers u.0) parents parts shape c.numbers c.are_cured
-    (bodies code (kind_in kinds) (λ u. slice_index numbers u.0) parents parts shape c.numbers c.are_cured targets) few earlier sigs
+    in_range code (kind_at kinds) (λ u. slice_index numbers u.0) parents parts shape c.numbers c.are_cured
+    (bodies code (kind_at kinds) (λ u. slice_index numbers u.0) parents parts shape c.numbers c.are_cured targets) few earlier sigs

@@ -1,6 +1,6 @@
 -- What the functions of a program are cured by.
 use Rattle.std.specs.Prelude.{◌≡◌, ℕ, suc, ◌<◌, List, length, map, slice_get, slice_index, Some}
-use Rattle.c_types.specs.Flows.{kind_in}
+use Rattle.cc_base.specs.Kinds.{kind_at}
 use Rattle.cil_form.specs.declared.program.Function.{Function}
 use Rattle.cil_form.specs.declared.program.Program.{Program}
 use Rattle.cil_form.specs.declared.program.Static.{Static}
@@ -19,7 +19,7 @@ use Rattle.cure_code.specs.declared.setting.Setting.{Setting}
 abbrev pub whole_in : Setting → Whole
 whole_in w = record {
   table = w.layouts.now.table;
-  kind = kind_in w.kinds.now;
+  kind = kind_at w.kinds.now;
   size = size_in w.layouts.now;
   offset = offset_in w.layouts.now;
   node = λ t. slice_index w.nodes.now t.0;
@@ -33,7 +33,7 @@ whole_in w = record {
 pub record IsSet (w : Setting) : Type 0 where
   pub shape : IsInShape w.program.now
   pub told : IsToldOf w.program.now
-  pub solution : IsSolutionOf w.program.now (kind_in w.by_node.now)
+  pub solution : IsSolutionOf w.program.now (kind_at w.by_node.now)
   pub few : HaveFewParameters w.program.now.types
   pub table : w.layouts.now.table ≡ w.program.now.types
   pub known : w.known.now ≡ w.program.now.types

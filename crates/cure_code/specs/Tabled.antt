@@ -1,7 +1,7 @@
 -- The tables of a program.
 use Rattle.std.specs.Prelude.{◌≡◌, ℕ, suc, ◌*◌, ◌≤◌, List, length, map, slice_index}
 use Rattle.cc_base.specs.declared.kind.Kind.{Kind}
-use Rattle.c_types.specs.Flows.{kind_in}
+use Rattle.cc_base.specs.Kinds.{kind_at}
 use Rattle.cil_form.specs.declared.program.Program.{Program}
 use Rattle.cil_form.specs.declared.program.Static.{Static}
 use Rattle.cil_form.specs.Machine.{plan}
@@ -19,10 +19,10 @@ pub record AreTables (p : Program) (kinds : List Kind) (t : Tables) : Type 0 whe
   pub listed : t.kinds.items ≡ kinds
   pub known : t.known ≡ p.types
   pub layouts : t.layouts ≡ record { table = p.types; kinds = kinds }
-  pub signatures : AreSignatures p.types (kind_in kinds) (λ u. slice_index t.signatures.numbers.items u.0) t.signatures.sigs.items
+  pub signatures : AreSignatures p.types (kind_at kinds) (λ u. slice_index t.signatures.numbers.items u.0) t.signatures.sigs.items
   pub few : length t.signatures.sigs.items ≤ 65536
   pub statics : map plan t.statics.items ≡ map (λ (o : Static). plan o.planned) p.statics
-  pub globals : AreGlobals p.types (kind_in kinds) p.statics t.globals.items
+  pub globals : AreGlobals p.types (kind_at kinds) p.statics t.globals.items
   pub addresses : t.addresses.items ≡ map (λ (a : PlacedArea). a.address) (placed (global_areas t.globals.items) (8 * suc (length p.functions)))
 
 abbrev pub curing_of : Program → List Kind → Curing
@@ -39,7 +39,7 @@ numbers_with p kinds t = record {
 abbrev pub whole_with : Program → List Kind → List ℕ → Tables → Whole
 whole_with p kinds nodes t = record {
   table = p.types;
-  kind = kind_in kinds;
+  kind = kind_at kinds;
   size = size_in (curing_of p kinds);
   offset = offset_in (curing_of p kinds);
   node = λ u. slice_index nodes u.0;

@@ -2,7 +2,7 @@
 ghost use Rattle.std.specs.Prelude.{◌≡◌, ◌+◌, ◌<◌, ◌≤◌, [], IfOk, Some, length, map, slice_get, sum_by};
 ghost use Rattle.std.specs.List.{All};
 ghost use Rattle.c_types.specs.Table.{IsType, AreNodesOf, shape_at};
-ghost use Rattle.c_types.specs.Flows.{kind_in};
+ghost use Rattle.cc_base.specs.Kinds.{kind_at};
 ghost use Rattle.cil_form.specs.Machine.{plan, variables_of};
 ghost use Rattle.cil_form.specs.Shape.{result_of_shape};
 ghost use Rattle.cure_rules.specs.Functions.{IsCuredFunction, words_at};
@@ -45,7 +45,7 @@ fn words_of(types: &Types, kinds: &Kinds, parameters: &[Parameter]) -> u32
     requires few { length parameters.now ≤ 127 }
     requires typed { All (λ x. IsType types.now x.ty) parameters.now }
     requires nodes { All (λ e. AreNodesOf (length kinds.now) e.shape) types.now }
-    ensures sum { result ≡ sum_by (λ x. words_at types.now (kind_in kinds.now) x.ty) parameters.now }
+    ensures sum { result ≡ sum_by (λ x. words_at types.now (kind_at kinds.now) x.ty) parameters.now }
     ensures most { result ≤ 381 }
 {
     let mut sum = 0;

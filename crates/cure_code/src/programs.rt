@@ -1,6 +1,6 @@
 //! The one call of the curer.
 ghost use Rattle.std.specs.Prelude.{◌≡◌, IfOk, length};
-ghost use Rattle.c_types.specs.Flows.{kind_in};
+ghost use Rattle.cc_base.specs.Kinds.{kind_at};
 ghost use Rattle.cil_form.specs.Shape.{IsInShape};
 ghost use Rattle.cil_form.specs.Told.{IsToldOf, IsSolutionOf};
 ghost use Rattle.cure_rules.specs.Programs.{IsCuredProgram};
@@ -91,7 +91,7 @@ fn cured_functions(
 ) -> Result<Vec<Function>, NoMemory>
     requires shape { IsInShape program.now }
     requires told { IsToldOf program.now }
-    requires solution { IsSolutionOf program.now (kind_in kinds.now) }
+    requires solution { IsSolutionOf program.now (kind_at kinds.now) }
     requires few { HaveFewParameters program.now.types }
     requires count { length kinds.now ≡ program.now.nodes }
     requires tables { AreTables program.now kinds.now t.now }
@@ -152,10 +152,10 @@ pub fn cure(alloc: Global, code: &Cil, kinds: &Kinds, nodes: &Nodes<'_>) -> Resu
     requires kinds { nodes.now.kinds ≡ kinds.now }
     requires count { length kinds.now ≡ code.now.nodes }
     requires told { IsToldOf code.now }
-    requires solution { IsSolutionOf code.now (kind_in kinds.now) }
+    requires solution { IsSolutionOf code.now (kind_at kinds.now) }
     requires few { HaveFewParameters code.now.types }
-    requires targets { AreTargetsNamed code.now (kind_in kinds.now) (node_at nodes.now) (length nodes.now.parents) }
-    ensures curing { IfOk result (IsCuredProgram code.now (kind_in kinds.now) (node_at nodes.now) nodes.now.parents) }
+    requires targets { AreTargetsNamed code.now (kind_at kinds.now) (node_at nodes.now) (length nodes.now.parents) }
+    ensures curing { IfOk result (IsCuredProgram code.now (kind_at kinds.now) (node_at nodes.now) nodes.now.parents) }
 {
     let program = code.program();
     let parents = nodes.parents();

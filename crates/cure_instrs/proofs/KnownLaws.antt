@@ -22,7 +22,7 @@ use Rattle.cure_rules.specs.Known as known
 use Rattle.cure_rules.specs.Known.{World, known_at, known_of, with_known, Leaves, IsPlainInteger, IsExactly, IsLowly}
 use Rattle.cure_scope.specs.declared.scope.Scope.{Scope}
 use Rattle.cure_scope.specs.Scopes.{fixed_column, fixed_slots, world_of}
-use Rattle.cure_instrs.specs.Cured.{IsIn, node_at, kind_at}
+use Rattle.cure_instrs.specs.Cured.{IsIn, node_at, kind_in}
 
 same-number : (m n : ℕ) → nat_eq m n ≡ true → n ≡ m
 same-number m n e = grind (arith, nat_tests, e)
@@ -85,7 +85,7 @@ is_lowly p types t i h = (record { type = IntegerOf i; place = Some (fixed_colum
 
 -- a pointer type of the code is one of the world, and its node's kind is that of the type
 pub kind_same : (w : World) (k : Context) (t : TypeId) (n : NodeId) (u : TypeId) → IsIn w k → shaped.IsPointer k t n u
-    → known.IsPointer w t n u × (kind_at w.whole t ≡ w.whole.kind n)
+    → known.IsPointer w t n u × (kind_in w.whole t ≡ w.whole.kind n)
 kind_same w k t n u is h =
     let e : shape_at w.whole.table t ≡ shape.Pointer n u = ap (λ z. shape_at z t) (sym is.table) ∙ h.1 in
     (e, ap (λ z. w.whole.kind (node_at z)) e)

@@ -25,7 +25,7 @@ use Rattle.cure_rules.specs.Known.{World, Takes, Sets, copies, noughts, held_wor
 use Rattle.cure_rules.specs.Setting.{AreTrue, FunctionWords, ObjectWords, CopiedWords}
 use Rattle.cure_scope.specs.declared.scope.Scope.{Scope}
 use Rattle.cure_scope.specs.Scopes.{fixed_column, whole_of, world_of}
-use Rattle.cure_instrs.specs.Cured.{SetCured, IsIn, node_at, kind_at}
+use Rattle.cure_instrs.specs.Cured.{SetCured, IsIn, node_at, kind_in}
 use Rattle.cure_instrs.specs.Lines.{function_row, object_row, start_line, copied_lines}
 use Rattle.cure_instrs.proofs.FitLaws.{read_back}
 use Rattle.cure_instrs.proofs.KnownLaws.{leaves_held, is_plain, kind_same, takes}
@@ -39,7 +39,7 @@ integer_set k types into z t code line c after is h =
     (h.0, fixed_column into, plain, h.2, inr (refl, (h.3.0, omega arith), line'), leaves_held k.parameters types after into (Some (IntegerOf h.0)) h.3.1)
 
 pub null_set : (k : Scope) (types : Typing) (into : Temp) (t : TypeId) (code : List Instr)
-    → Line (noughts (word_number (kind_at (whole_of k) t)) (fixed_column into)) code → SetCured (set.Null into t) (world_of k) types code
+    → Line (noughts (word_number (kind_in (whole_of k) t)) (fixed_column into)) code → SetCured (set.Null into t) (world_of k) types code
 unfolding SetCured
 null_set k types into t code line c after is h =
     let e = kind_same (world_of k) c t h.0 h.1 is h.2 in (
@@ -62,7 +62,7 @@ function-words k Seq into n code is h = absurd h
 function-words k Rtti into n code is h = absurd h
 
 pub function_set : (k : Scope) (types : Typing) (into : Temp) (f : FunctionNumber) (t : TypeId) (code : List Instr)
-    → function_row (kind_at (whole_of k) t) (fixed_column into) (function_word f.0) code → SetCured (set.Function into f t) (world_of k) types code
+    → function_row (kind_in (whole_of k) t) (fixed_column into) (function_word f.0) code → SetCured (set.Function into f t) (world_of k) types code
 unfolding SetCured
 function_set k types into f t code line c after is h =
     let e = kind_same (world_of k) c t h.0 h.1 is h.3 in

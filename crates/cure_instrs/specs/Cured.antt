@@ -59,11 +59,11 @@ abbrev pub node_at : TypeShape → NodeId
 node_at (shape.Pointer n u) = n
 node_at other = record { 0 = 0 }
 
-abbrev pub kind_at : Whole → TypeId → Kind
-kind_at w t = w.kind (node_at (shape_at w.table t))
+abbrev pub kind_in : Whole → TypeId → Kind
+kind_in w t = w.kind (node_at (shape_at w.table t))
 
 abbrev pub CanSet : Set → Whole → Type 0
-CanSet (set.Function into f t) w = IsHome (kind_at w t)
+CanSet (set.Function into f t) w = IsHome (kind_in w t)
 CanSet (set.Object into o home t) w = IsHome (w.kind home)
 CanSet i w = Unit {0}
 

@@ -2,7 +2,7 @@
 use Rattle.std.specs.Prelude.{slice_index, nat_le, sum_by, IfSome, if◌then◌else◌}
 use Rattle.std.proofs.Common.{◌≡◌, ℕ, zero, suc, ◌+◌, ◌<◌, ◌≤◌, Bool, true, false, List, [], ◌∷◌, ◌++◌, length, map, slice_get, Option, Some, refl, ap, sym, subst, ◌∙◌, inl, inr, ◌⊎◌, arith}
 use Rattle.std.specs.List.{All, Contains}
-use Rattle.c_types.specs.declared.site.Site.TheVariants.{Flow}
+use Rattle.kind_sites.specs.declared.site.Site.TheVariants.{Flow}
 use Rattle.std.proofs.lemmas.Bool.Decides.{nat_tests}
 use Rattle.std.proofs.lemmas.Option.{get_or_from_slice_get}
 use Rattle.std.proofs.lemmas.List.{length-append}
@@ -14,7 +14,7 @@ use Rattle.cc_base.specs.declared.kind.Kind.TheVariants.{Safe, Rtti}
 use Rattle.c_types.specs.declared.shape.TypeShape.{TypeShape}
 use Rattle.c_types.specs.Table.{is_function, is_function_shape}
 use Rattle.src_mem.specs.Memory.{frame_charge}
-use Rattle.src_mem.specs.Checks.{frame_limit}
+use Rattle.src_mem.specs.Checks.{source_frame_limit}
 use Rattle.cil_form.specs.declared.program.Parameter.{Parameter}
 use Rattle.cil_form.specs.declared.program.Function.{Function}
 use Rattle.cil_form.specs.declared.program.Program.{Program}
@@ -170,7 +170,7 @@ module _ (p : Program) (kind : NodeId → Kind) (node : TypeId → ℕ) (parents
     order : (a b : ℕ) → (a ≤ b) ⊎ (b < a)
     order a b = grind arith
 
-    by_charge : (frame_charge p.types (variables_of f) ≤ frame_limit) ⊎ (frame_limit < frame_charge p.types (variables_of f))
+    by_charge : (frame_charge p.types (variables_of f) ≤ source_frame_limit) ⊎ (source_frame_limit < frame_charge p.types (variables_of f))
         → AreInstrsInRange (names_in parts.sigs (sigs_of parts.functions) (length parts.nodes) h (signature_of p.types kind f.ty).results) h.body.0.items
     by_charge (inl l) = entered (is.entered l)
     by_charge (inr l) = subst (λ (xs : List Instr). AreInstrsInRange (names_in parts.sigs (sigs_of parts.functions) (length parts.nodes) h (signature_of p.types kind f.ty).results) xs) (sym (is.never l).body)
@@ -180,7 +180,7 @@ module _ (p : Program) (kind : NodeId → Kind) (node : TypeId → ℕ) (parents
     function_in_range = subst
         (λ (o : Option Sig). IfSome o (λ sig. AreInstrsInRange (names_in parts.sigs (sigs_of parts.functions) (length parts.nodes) h sig.results) h.body.0.items))
         (sym (ap (slice_get parts.sigs) is.sig ∙ signed f.ty (typed f in_shape)))
-        (by_charge (order (frame_charge p.types (variables_of f)) frame_limit))
+        (by_charge (order (frame_charge p.types (variables_of f)) source_frame_limit))
 
   -- Function 0
 

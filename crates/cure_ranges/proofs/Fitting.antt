@@ -33,7 +33,7 @@ use Rattle.cil_form.specs.declared.instr.Convert.{Convert}
 use Rattle.cil_form.specs.declared.instr.Convert.TheVariants as convert
 use Rattle.std.specs.List.{Contains}
 use Rattle.cc_base.specs.declared.place.Place.{Place}
-use Rattle.c_types.specs.declared.site.Site.TheVariants.{Flow}
+use Rattle.kind_sites.specs.declared.site.Site.TheVariants.{Flow}
 use Rattle.c_types.specs.Table.{is_function}
 use Rattle.cil_form.specs.Typing.{Context}
 use Rattle.cure_rules.specs.Known.{World, IsPointer, words_in}

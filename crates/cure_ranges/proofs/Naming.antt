@@ -6,7 +6,7 @@ use Rattle.std.specs.List.{Contains}
 use Rattle.cc_base.specs.declared.number.TypeId.{TypeId}
 use Rattle.cc_base.specs.declared.number.NodeId.{NodeId}
 use Rattle.c_types.specs.declared.flow_class.FlowClass.TheVariants.{Equal, UpTile, Up, DownTile, Down, Tile, Bad}
-use Rattle.c_types.specs.declared.site.Site.TheVariants.{Flow}
+use Rattle.kind_sites.specs.declared.site.Site.TheVariants.{Flow}
 use Rattle.c_types.specs.Table.{Table, is_function}
 use Rattle.c_types.specs.Equality.{physically_equal, begins_with, tile, cells_of}
 use Rattle.c_types.specs.Cells.{begins}

@@ -13,7 +13,7 @@ use Rattle.c_types.specs.declared.shape.TypeShape.{TypeShape}
 use Rattle.c_types.specs.Table.{Table, is_function, is_function_shape}
 use Rattle.c_types.specs.Layouts.{size_of}
 use Rattle.src_mem.specs.Memory.{Planned, charge_of, frame_charge}
-use Rattle.src_mem.specs.Checks.{frame_limit}
+use Rattle.src_mem.specs.Checks.{source_frame_limit}
 use Rattle.cil_form.specs.declared.program.Static.{Static}
 use Rattle.cil_form.specs.declared.program.Parameter.{Parameter}
 use Rattle.cil_form.specs.declared.program.Function.{Function}
@@ -216,7 +216,7 @@ module _ (p : Program) (kind : NodeId → Kind) (node : TypeId → ℕ) (parents
             let m = mapped_length (λ (x : Parameter). x.ty) f.parameters in
             let n : parameters_limit < length (map (λ (x : Parameter). x.ty) f.parameters) = grind (arith, nat_tests) in absurd (omega (arith, l, m, n))
 
-    locals_of : (frame_charge p.types (variables_of f) ≤ frame_limit) ⊎ (frame_limit < frame_charge p.types (variables_of f))
+    locals_of : (frame_charge p.types (variables_of f) ≤ source_frame_limit) ⊎ (source_frame_limit < frame_charge p.types (variables_of f))
         → (length h.locals ≤ 1048576) × All (λ (a : AreaLine). a.bytes ≤ 3145728) h.locals
     locals_of (inr l) =
         let n = (is.never l).areas in (
@@ -256,8 +256,8 @@ module _ (p : Program) (kind : NodeId → Kind) (node : TypeId → ℕ) (parents
       params_held = subst (λ (o : Option Sig). IfSome o (λ s. s.params ≤ h.slots)) (sym signed)
           (let t = taken in let q = is.slots.parameters in let r = is.slots.held in let z = is.slots.count in omega (arith, t, q, r, z));
       slots_kept = (let r = is.slots.few in let z = is.slots.count in omega (arith, r, z));
-      locals_kept = (locals_of (order (frame_charge p.types (variables_of f)) frame_limit)).0;
-      locals_bytes = (locals_of (order (frame_charge p.types (variables_of f)) frame_limit)).1;
+      locals_kept = (locals_of (order (frame_charge p.types (variables_of f)) source_frame_limit)).0;
+      locals_bytes = (locals_of (order (frame_charge p.types (variables_of f)) source_frame_limit)).1;
       body_kept = body;
     }
 

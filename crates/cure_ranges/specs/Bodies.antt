@@ -6,7 +6,7 @@ use Rattle.cc_base.specs.declared.number.NodeId.{NodeId}
 use Rattle.cc_base.specs.declared.place.Place.{Place}
 use Rattle.cc_base.specs.declared.kind.Kind.{Kind}
 use Rattle.cc_base.specs.declared.kind.Kind.TheVariants.{Rtti}
-use Rattle.c_types.specs.declared.site.Site.TheVariants.{Flow}
+use Rattle.kind_sites.specs.declared.site.Site.TheVariants.{Flow}
 use Rattle.c_types.specs.Table.{is_function}
 use Rattle.cil_form.specs.declared.program.Program.{Program}
 use Rattle.cured_code.specs.declared.parts.Function.{Function}

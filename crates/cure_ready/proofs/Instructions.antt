@@ -11,12 +11,12 @@ use Rattle.cc_base.specs.declared.number.TypeId.{TypeId}
 use Rattle.c_types.specs.declared.flow_class.FlowClass.{FlowClass}
 use Rattle.c_types.specs.declared.shape.TypeShape.{TypeShape}
 use Rattle.c_types.specs.declared.shape.TypeShape.TheVariants as shape
-use Rattle.c_types.specs.declared.site.Site.TheVariants as site
+use Rattle.kind_sites.specs.declared.site.Site.TheVariants as site
 use Rattle.c_types.specs.Table.{Table, IsType, IsComplete, shape_at, members_at, is_complete, is_function, is_union_shape, is_complete_entry, named_by, void_entry}
 use Rattle.c_types.specs.Cells.{holds_pointer, Cell, raw, pointer, mixed, incomplete}
 use Rattle.c_types.specs.Equality.{cells_of, physically_equal}
 use Rattle.c_types.specs.Flows.{CellsAgree, flow_class}
-use Rattle.c_types.specs.Solutions.{SpreadsWild, IsUnionAllowed, IsPointeeAllowed, allows}
+use Rattle.kind_sites.specs.Solutions.{SpreadsWild, IsUnionAllowed, IsPointeeAllowed, allows}
 use Rattle.c_types.specs.Sound.{IsWellFormed, IsProper}
 use Rattle.c_types.proofs.Lists.{contains_head}
 use Rattle.type_laws.proofs.Sizes.{equal_counts}
@@ -60,7 +60,7 @@ use Rattle.sim_relation.specs.Ground.{word_number}
 use Rattle.cure_rules.specs.Known.{World, words_by, words_in}
 use Rattle.cure_rules.specs.Accesses as accesses
 use Rattle.cure_instrs.specs.Lines.{HasInteger, AgreeOn}
-use Rattle.cure_instrs.specs.Cured.{IsHome, node_at, kind_at, CanSet, CanCalculate, IsAsked, HasPointer, IsPointerAt, CanReach}
+use Rattle.cure_instrs.specs.Cured.{IsHome, node_at, kind_in, CanSet, CanCalculate, IsAsked, HasPointer, IsPointerAt, CanReach}
 use Rattle.cure_points.specs.Lines.{IsSmallReach, IsIntegerHeld, CanMove, HavePointers}
 use Rattle.cure_calls.specs.Lines.{FitsRow, IsFunctionAt, HasFunction, CanCall, CanReturn}
 use Rattle.cure_blocks.specs.Cured.{IsNumbered, AreConverted, AreTypes, CanConvert, CanAllocate}
@@ -334,7 +334,7 @@ module _ (k : Context) (w : World) (r : IsCurable (seen k w) w) (types after : T
       subst (λ x. IsNumbered (w.whole.kind (node_at x))) (sym s.2.1)
       (numbered (w.whole.kind s.0) (r.solution.each (site.Integer s.0 at) known))
   can-convert (convert.Pointer into source t v at) s a =
-      subst (λ x. AreTypes w.whole.table (pointee_at x) (pointee_at (shape_at w.whole.table v)) × AreConverted (w.whole.kind (node_at x)) (kind_at w.whole v))
+      subst (λ x. AreTypes w.whole.table (pointee_at x) (pointee_at (shape_at w.whole.table v)) × AreConverted (w.whole.kind (node_at x)) (kind_in w.whole v))
       (sym s.4.1)
       (subst (λ y. AreTypes w.whole.table s.2 (pointee_at y) × AreConverted (w.whole.kind s.0) (w.whole.kind (node_at y))) (sym s.5.1)
       ((named t s.0 s.2 s.4.1, named v s.1 s.3 s.5.1), converted))

@@ -13,7 +13,7 @@ use Rattle.c_types.specs.Layouts.{size_of, layout_of, offset_of, offset_of_shape
 use Rattle.c_types.specs.Cells.{Cell, raw, pointer, mixed, incomplete, alike, begins, longest, padded_to, union_cells, cells_of_shape, holds_pointer, IsBetweenPointers}
 use Rattle.c_types.specs.Equality.{cells_of, physically_equal}
 use Rattle.c_types.specs.Flows.{CellsAgree}
-use Rattle.c_types.specs.Solutions.{IsUnionAllowed}
+use Rattle.kind_sites.specs.Solutions.{IsUnionAllowed}
 use Rattle.c_types.specs.Sound.{IsWellFormed}
 use Rattle.c_types.proofs.Cells.{cells_are}
 use Rattle.c_types.proofs.OrderedPointers.{cells_ordered, get_front}

@@ -10,7 +10,7 @@ use Rattle.c_types.specs.declared.shape.TypeShape.TheVariants.{Void, Integer, Po
 use Rattle.c_types.specs.Table.{IsComplete, IsAggregate, shape_at, members_at, parts_at, parts_of_shape, is_aggregate_shape}
 use Rattle.c_types.specs.Layouts.{size_of, member_at}
 use Rattle.c_types.specs.Equality.{cells_of}
-use Rattle.c_types.specs.Solutions.{SpreadsWild, IsUnionAllowed}
+use Rattle.kind_sites.specs.Solutions.{SpreadsWild, IsUnionAllowed}
 use Rattle.c_types.specs.Sound.{IsWellFormed}
 use Rattle.c_types.proofs.Lists.{contains_head}
 use Rattle.src_mem.specs.State.{Setting}

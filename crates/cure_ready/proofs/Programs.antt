@@ -5,9 +5,9 @@ use Rattle.std.specs.List.{Contains}
 use Rattle.std.proofs.lemmas.Option.{slice_get_within, slice_get-get_or, get_or_from_slice_get}
 use Rattle.std.proofs.lemmas.List.Elements.{All-contains}
 use Rattle.cc_base.specs.declared.number.TypeId.{TypeId}
-use Rattle.c_types.specs.declared.site.Site.TheVariants as site
+use Rattle.kind_sites.specs.declared.site.Site.TheVariants as site
 use Rattle.c_types.specs.Table.{is_function, is_function_shape}
-use Rattle.c_types.specs.Solutions.{IsSolution}
+use Rattle.kind_sites.specs.Solutions.{IsSolution}
 use Rattle.src_mem.specs.Memory.{Planned}
 use Rattle.cil_form.specs.declared.number.Object.{Object}
 use Rattle.cil_form.specs.declared.number.Object.TheVariants as object

@@ -3,9 +3,9 @@ use Rattle.std.specs.Prelude.{◌≡◌, ◌≢◌, ℕ, ◌≤◌, List, length
 use Rattle.std.specs.List.{Contains}
 use Rattle.cc_base.specs.declared.number.TypeId.{TypeId}
 use Rattle.c_types.specs.declared.shape.TypeShape.TheVariants as shape
-use Rattle.c_types.specs.declared.site.Site.TheVariants as site
+use Rattle.kind_sites.specs.declared.site.Site.TheVariants as site
 use Rattle.c_types.specs.Table.{Table, shape_at, is_function}
-use Rattle.c_types.specs.Solutions.{IsSolution}
+use Rattle.kind_sites.specs.Solutions.{IsSolution}
 use Rattle.src_mem.specs.Memory.{Planned}
 use Rattle.cil_form.specs.declared.number.Object.{Object}
 use Rattle.cil_form.specs.declared.instr.Point.{Point}

@@ -1,1 +1,2 @@
 pub mod Curable
+pub mod Theorems

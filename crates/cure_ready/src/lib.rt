@@ -2,22 +2,16 @@
 //! programs. Each law is the contract of a function that does nothing.
 #![tactic(auto)]
 
-ghost use Rattle.std.specs.Prelude.{◌≢◌};
-ghost use Rattle.std.specs.List.{Contains};
 ghost use Rattle.c_types.specs.Table.{Table};
 ghost use Rattle.c_types.specs.Sound.{IsWellFormed};
 ghost use Rattle.cil_form.specs.declared.instr.Instr.{Instr};
-ghost use Rattle.cil_form.specs.declared.program.Function.{Function};
-ghost use Rattle.cil_form.specs.declared.program.Program.{Program};
-ghost use Rattle.cil_form.specs.Shape.{IsInShape, context_of, context_in};
-ghost use Rattle.cil_form.specs.Told.{AreAsked, IsToldOf, IsSolutionOf};
+ghost use Rattle.cil_form.specs.Told.{AreAsked};
 ghost use Rattle.cil_form.specs.Typing.{Context, Typing, IsShaped};
-ghost use Rattle.cure_rules.specs.Known.{World, AreSizes};
-ghost use Rattle.cure_instrs.specs.Cured.{IsIn};
+ghost use Rattle.cure_rules.specs.Known.{World};
 ghost use Rattle.cure_points.specs.Cured.{AreMembersWhole};
 ghost use Rattle.cure_objects.specs.Cured.{ArePartsWhole};
-ghost use Rattle.cure_frames.specs.Storing.{HaveHomes, CanStoreAll};
-ghost use Rattle.cure_ready.specs.Curable.{HaveFewParameters, IsCurable, CanBeCured};
+ghost use Rattle.cure_ready.specs.Curable.{IsCurable, CanBeCured};
+ghost use Rattle.cure_ready.specs.Theorems.{FunctionsAreCurable, InitialisersAreCurable, ParametersCanBeStored};
 
 /// No pointer has begun before a member, or before a part of an object, and ends in it.
 pub fn parts_begin_between_pointers()
@@ -34,11 +28,11 @@ pub fn can_be_cured()
 /// The functions and the static initialisers of a program in shape are curable under a solution: the sites tell all of the program,
 /// and function types have at most 127 parameters.
 pub fn programs_are_curable()
-    ensures functions { (p : Program) (f : Function) (w : World) → IsInShape p → IsToldOf p → IsSolutionOf p w.whole.kind → Contains p.functions f → IsIn w (context_in p f) → AreSizes w.whole → w.number ≢ 0 → HaveFewParameters p.types → IsCurable (context_in p f) w }
-    ensures initialisers { (p : Program) (w : World) → IsInShape p → IsToldOf p → IsSolutionOf p w.whole.kind → IsIn w (context_of p) → AreSizes w.whole → HaveFewParameters p.types → IsCurable (context_of p) w }
+    ensures functions { FunctionsAreCurable }
+    ensures initialisers { InitialisersAreCurable }
 {}
 
 /// What the parameters of a function hold may be stored into their homes, which are SAFE or WILD.
 pub fn parameters_can_be_stored()
-    ensures { (p : Program) (f : Function) (w : World) → IsInShape p → IsToldOf p → Contains p.functions f → IsCurable (context_in p f) w → HaveHomes w.whole f.parameters × CanStoreAll w.whole f.parameters }
+    ensures { ParametersCanBeStored }
 {}

@@ -12,7 +12,7 @@ use Rattle.c_types.specs.Flows.{IsOfOneClass}
 use Rattle.flat_mem.specs.declared.Area.{Area}
 use Rattle.integers.specs.Arithmetic.{IntegerType}
 use Rattle.src_mem.specs.Memory.{Planned, frame_charge}
-use Rattle.src_mem.specs.Checks.{frame_limit}
+use Rattle.src_mem.specs.Checks.{source_frame_limit}
 use Rattle.cil_form.specs.declared.number.Object.TheVariants as object
 use Rattle.cil_form.specs.declared.program.Parameter.{Parameter}
 use Rattle.cil_form.specs.declared.program.Function.{Function}
@@ -138,7 +138,7 @@ pub record IsEntered (w : World) (f : Function) (h : cured.Function) : Type 0 wh
 -- One whose variables alone are more than all frames may have: it is never entered, and has no areas and no instructions.
 pub record IsNeverEntered (h : cured.Function) : Type 0 where
   pub areas : h.locals ≡ []
-  pub charge : frame_limit < h.charge
+  pub charge : source_frame_limit < h.charge
   pub body : h.body.0.items ≡ []
 
 -- The slots of a function: its parameters come in the first, and the arguments of its calls find room in the row.
@@ -154,5 +154,5 @@ pub record HasSlots (w : World) (f : Function) (h : cured.Function) : Type 0 whe
 pub record IsCuredFunction (w : World) (f : Function) (h : cured.Function) : Type 0 where
   pub slots : HasSlots w f h
   pub sig : h.sig ≡ w.whole.signature f.ty
-  pub entered : frame_charge w.whole.table (variables_of f) ≤ frame_limit → IsEntered w f h
-  pub never : frame_limit < frame_charge w.whole.table (variables_of f) → IsNeverEntered h
+  pub entered : frame_charge w.whole.table (variables_of f) ≤ source_frame_limit → IsEntered w f h
+  pub never : source_frame_limit < frame_charge w.whole.table (variables_of f) → IsNeverEntered h

@@ -3,7 +3,7 @@ use Rattle.std.specs.Prelude.{ℕ, ◌+◌, ◌*◌, List, [], map, slice_index,
 use Rattle.cc_base.specs.declared.number.TypeId.{TypeId}
 use Rattle.c_types.specs.Table.{Table, entry_at, is_complete}
 use Rattle.c_types.specs.Equality.{cells_of}
-use Rattle.c_types.specs.Flows.{kind_in}
+use Rattle.cc_base.specs.Kinds.{kind_at}
 use Rattle.c_types.specs.Widths as widths
 use Rattle.cil_form.specs.declared.number.Temp.{Temp}
 use Rattle.cil_form.specs.declared.number.Temp.TheVariants as temp
@@ -46,15 +46,15 @@ fixed_work = work_of (fixed_slots 0)
 
 -- the bytes that an object of a type takes once cured; of one that isn't complete none
 abbrev pub size_in : Curing → TypeId → ℕ
-size_in c t = if is_complete (entry_at c.table t) then widths.cured_size c.table (kind_in c.kinds) t else 0
+size_in c t = if is_complete (entry_at c.table t) then widths.cured_size c.table (kind_at c.kinds) t else 0
 
 abbrev pub offset_in : Curing → TypeId → ℕ → ℕ
-offset_in c t offset = widths.before (kind_in c.kinds) (cells_of c.table t) offset
+offset_in c t offset = widths.before (kind_at c.kinds) (cells_of c.table t) offset
 
 abbrev pub whole_of : Scope → Whole
 whole_of k = record {
   table = k.layouts.now.table;
-  kind = kind_in k.kinds.now;
+  kind = kind_at k.kinds.now;
   size = size_in k.layouts.now;
   offset = offset_in k.layouts.now;
   node = λ t. slice_index k.nodes.now t.0;

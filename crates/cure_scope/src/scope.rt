@@ -1,6 +1,6 @@
 //! What code is cured by, and the slots of a function.
 ghost use Rattle.std.specs.Prelude.{◌≡◌, ◌+◌, ◌≤◌, ◌<◌, ◌^◌, Some, None, true, false};
-ghost use Rattle.c_types.specs.Flows.{kind_in};
+ghost use Rattle.cc_base.specs.Kinds.{kind_at};
 ghost use Rattle.c_types.specs.Table.{shape_at};
 ghost use Rattle.c_types.specs.Cells.{IsBetweenPointers};
 ghost use Rattle.c_types.specs.Equality.{cells_of};
@@ -124,7 +124,7 @@ pub fn pointer_slots(a: u32) -> PointerSlots
 impl<'a> Scope<'a> {
     /// The kind of a node.
     pub fn kind_of(&self, node: NodeId) -> Kind
-        ensures { result ≡ kind_in self.now.kinds.now node }
+        ensures { result ≡ kind_at self.now.kinds.now node }
     {
         match self.kinds.get(node.0 as usize) {
             Some(kind) => *kind,

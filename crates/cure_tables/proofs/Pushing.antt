@@ -8,13 +8,13 @@ use Rattle.std.proofs.lemmas.List.Sums.{sum_by-cons}
 use Rattle.cc_base.specs.declared.number.NodeId.{NodeId}
 use Rattle.cc_base.specs.declared.kind.Kind.{Kind}
 use Rattle.cc_base.specs.declared.kind.Kind.TheVariants.{Safe, Seq, Rtti, Wild}
+use Rattle.cc_base.specs.Kinds.{kind_at}
 use Rattle.c_types.specs.Cells.{Cell}
-use Rattle.c_types.specs.Flows.{kind_in}
 use Rattle.c_types.specs.Widths.{width_of}
 use Rattle.sim_relation.specs.Objects.{area_by}
 use Rattle.cure_rules.specs.Calling.{is_tagged_kind}
 
-pub kind_told : (kinds : List Kind) (n : NodeId) (k : Kind) → slice_get kinds n.0 ≡ Some k → kind_in kinds n ≡ k
+pub kind_told : (kinds : List Kind) (n : NodeId) (k : Kind) → slice_get kinds n.0 ≡ Some k → kind_at kinds n ≡ k
 kind_told kinds n k e = get_or_from_slice_get kinds n.0 k Safe e
 
 tagged : (f : NodeId → Kind) (k : Kind) (size : ℕ) (cells : List Cell) → is_tagged_kind k ≡ true → area_by f k size cells ≡ record { tagged = true; bytes = size }
@@ -31,14 +31,14 @@ typed f Rtti size cells h = refl
 
 -- the area of an object whose home has a kind that is told
 pub tagged_area : (kinds : List Kind) (n : NodeId) (k : Kind) (size : ℕ) (cells : List Cell) (bytes : ℕ) → slice_get kinds n.0 ≡ Some k → is_tagged_kind k ≡ true → bytes ≡ size
-    → record { tagged = true; bytes = bytes } ≡ area_by (kind_in kinds) (kind_in kinds n) size cells
+    → record { tagged = true; bytes = bytes } ≡ area_by (kind_at kinds) (kind_at kinds n) size cells
 tagged_area kinds n k size cells bytes e h b =
-    (λ i. record { tagged = true; bytes = b i }) ∙ sym (tagged (kind_in kinds) k size cells h) ∙ ap (λ l. area_by (kind_in kinds) l size cells) (sym (kind_told kinds n k e))
+    (λ i. record { tagged = true; bytes = b i }) ∙ sym (tagged (kind_at kinds) k size cells h) ∙ ap (λ l. area_by (kind_at kinds) l size cells) (sym (kind_told kinds n k e))
 
-pub typed_area : (kinds : List Kind) (n : NodeId) (k : Kind) (size : ℕ) (cells : List Cell) (bytes : ℕ) → slice_get kinds n.0 ≡ Some k → is_tagged_kind k ≡ false → bytes ≡ width_of (kind_in kinds) cells
-    → record { tagged = false; bytes = bytes } ≡ area_by (kind_in kinds) (kind_in kinds n) size cells
+pub typed_area : (kinds : List Kind) (n : NodeId) (k : Kind) (size : ℕ) (cells : List Cell) (bytes : ℕ) → slice_get kinds n.0 ≡ Some k → is_tagged_kind k ≡ false → bytes ≡ width_of (kind_at kinds) cells
+    → record { tagged = false; bytes = bytes } ≡ area_by (kind_at kinds) (kind_at kinds n) size cells
 typed_area kinds n k size cells bytes e h b =
-    (λ i. record { tagged = false; bytes = b i }) ∙ sym (typed (kind_in kinds) k size cells h) ∙ ap (λ l. area_by (kind_in kinds) l size cells) (sym (kind_told kinds n k e))
+    (λ i. record { tagged = false; bytes = b i }) ∙ sym (typed (kind_at kinds) k size cells h) ∙ ap (λ l. area_by (kind_at kinds) l size cells) (sym (kind_told kinds n k e))
 
 -- lists with one more
 

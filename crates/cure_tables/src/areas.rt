@@ -3,7 +3,7 @@
 
 ghost use Rattle.std.specs.Prelude.{◌≡◌, IfOk, length, map};
 ghost use Rattle.std.specs.List.{All};
-ghost use Rattle.c_types.specs.Flows.{kind_in};
+ghost use Rattle.cc_base.specs.Kinds.{kind_at};
 ghost use Rattle.cil_form.specs.Machine.{plan};
 ghost use Rattle.cured_code.specs.Tables.{area_of as line_area, areas_of as line_areas};
 ghost use Rattle.cure_rules.specs.Calling.{is_tagged_kind};
@@ -27,7 +27,7 @@ fn is_tagged(kind: Kind) -> bool
 pub fn area_of(layouts: &Layouts, kinds: &Kinds, object: Planned) -> AreaLine
     requires object { IsObject layouts.now.table (length kinds.now) object }
     requires kinds { layouts.now.kinds ≡ kinds.now }
-    ensures { line_area result ≡ area_for layouts.now.table (kind_in kinds.now) (plan object) }
+    ensures { line_area result ≡ area_for layouts.now.table (kind_at kinds.now) (plan object) }
 {
     if is_tagged(kinds.kind_of(object.home)) {
         AreaLine {
@@ -52,7 +52,7 @@ pub fn areas_of(
     requires objects { All (IsObject layouts.now.table (length kinds.now)) objects.now }
     requires kinds { layouts.now.kinds ≡ kinds.now }
     ensures { IfOk result (λ areas.
-        line_areas areas.items ≡ areas_for layouts.now.table (kind_in kinds.now) (map plan objects.now)) }
+        line_areas areas.items ≡ areas_for layouts.now.table (kind_at kinds.now) (map plan objects.now)) }
 {
     let mut areas = Vec::with_capacity(alloc, objects.len())?;
     'objects: for object in objects {

@@ -6,7 +6,7 @@ ghost use Rattle.std.specs.Option.{option_to_list};
 ghost use Rattle.std.specs.List.{All, filter_map};
 ghost use Rattle.c_types.specs.Table.{IsComplete};
 ghost use Rattle.src_mem.specs.Memory.{frame_charge};
-ghost use Rattle.src_mem.specs.Checks.{frame_limit};
+ghost use Rattle.src_mem.specs.Checks.{source_frame_limit};
 ghost use Rattle.src_mem.specs.Runs.{planned};
 ghost use Rattle.cil_form.specs.Machine.{plan, variables_of};
 
@@ -56,10 +56,10 @@ pub fn variables(alloc: Global, function: &Function) -> Result<Vec<Planned>, NoM
 /// together may be charged, it is some number that is more.
 pub fn charge_of(types: &Types, variables: &[Planned]) -> u64
     requires { All (λ v. IsComplete types.now v.ty) variables.now }
-    ensures exact { frame_charge types.now (map plan variables.now) ≤ frame_limit
+    ensures exact { frame_charge types.now (map plan variables.now) ≤ source_frame_limit
         → result ≡ frame_charge types.now (map plan variables.now) }
-    ensures above { frame_limit < frame_charge types.now (map plan variables.now)
-        → frame_limit < result }
+    ensures above { source_frame_limit < frame_charge types.now (map plan variables.now)
+        → source_frame_limit < result }
 {
     let _count = types.count();
     let mut charge = 0;

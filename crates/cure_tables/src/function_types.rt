@@ -3,8 +3,8 @@
 
 ghost use Rattle.std.specs.Prelude.{◌≡◌, ◌*◌, ◌≤◌, ◌<◌, IfOk, OnOk, IfSome, IfNone, true, length, slice_index, sum_by};
 ghost use Rattle.std.specs.List.{All};
+ghost use Rattle.cc_base.specs.Kinds.{kind_at};
 ghost use Rattle.c_types.specs.Table.{IsType, AreNodesOf, is_function};
-ghost use Rattle.c_types.specs.Flows.{kind_in};
 ghost use Rattle.c_types.specs.Sound.{IsWellFormed};
 ghost use Rattle.cured_code.specs.Ranges.{IsSigInRange};
 ghost use Rattle.cure_rules.specs.Functions.{words_at, signature_of, AreSignatures};
@@ -24,7 +24,7 @@ fn sum_of_words(types: &Types, kinds: &Kinds, ts: &[TypeId]) -> u32
     requires few { length ts.now ≤ 127 }
     requires typed { All (IsType types.now) ts.now }
     requires nodes { All (λ e. AreNodesOf (length kinds.now) e.shape) types.now }
-    ensures sum { result ≡ sum_by (words_at types.now (kind_in kinds.now)) ts.now }
+    ensures sum { result ≡ sum_by (words_at types.now (kind_at kinds.now)) ts.now }
     ensures most { result ≤ 381 }
 {
     let mut sum = 0;
@@ -38,7 +38,7 @@ fn sum_of_words(types: &Types, kinds: &Kinds, ts: &[TypeId]) -> u32
 fn signature_of(types: &Types, kinds: &Kinds, t: TypeId) -> Sig
     requires typed { IsType types.now t }
     requires nodes { All (λ e. AreNodesOf (length kinds.now) e.shape) types.now }
-    ensures sig { result ≡ signature_of types.now (kind_in kinds.now) t }
+    ensures sig { result ≡ signature_of types.now (kind_at kinds.now) t }
     ensures kept { IsSigInRange result }
 {
     let _count = types.count();
@@ -66,11 +66,11 @@ fn place_of(
     requires types { All (IsType known.now) firsts.now }
     requires typed { IsType known.now t }
     requires nodes { All (λ e. AreNodesOf (length kinds.now) e.shape) known.now }
-    requires told { TellClasses known.now (kind_in kinds.now) told.now }
+    requires told { TellClasses known.now (kind_at kinds.now) told.now }
     ensures found { IfOk result
-        (λ place. IfSome place (IsAlikeAt known.now (kind_in kinds.now) firsts.now t)) }
+        (λ place. IfSome place (IsAlikeAt known.now (kind_at kinds.now) firsts.now t)) }
     ensures none { IfOk result
-        (λ place. IfNone place (IsNoneAlike known.now (kind_in kinds.now) firsts.now t)) }
+        (λ place. IfNone place (IsNoneAlike known.now (kind_at kinds.now) firsts.now t)) }
 {
     'firsts: for i in 0..firsts.len() {
         if is_of_one_class(known, kinds, told, t, firsts[i])? {
@@ -111,8 +111,8 @@ fn sign(
     requires nodes { All (λ e. AreNodesOf (length kinds.now) e.shape) known.now }
     requires few { length state.old.firsts.items < 4294967295 }
     requires fits { t.0 < length state.old.numbers.items }
-    requires told { TellClasses known.now (kind_in kinds.now) told.now }
-    ensures { OnOk result (IsPassed known.now (kind_in kinds.now) t state.old state.new) }
+    requires told { TellClasses known.now (kind_at kinds.now) told.now }
+    ensures { OnOk result (IsPassed known.now (kind_at kinds.now) t state.old state.new) }
 {
     let _count = types.count();
     if !is_function(types, t) {
@@ -157,7 +157,7 @@ pub fn signatures_of(
 ) -> Result<Signatures, NoMemory>
     requires table { known.now ≡ types.now }
     requires nodes { All (λ e. AreNodesOf (length kinds.now) e.shape) known.now }
-    ensures signed { IfOk result (λ s. AreSignatures types.now (kind_in kinds.now)
+    ensures signed { IfOk result (λ s. AreSignatures types.now (kind_at kinds.now)
         (λ t. slice_index s.numbers.items t.0) s.sigs.items) }
     ensures kept { IfOk result (λ s. All IsSigInRange s.sigs.items) }
     ensures few { IfOk result (λ s. length s.sigs.items ≤ 65536) }

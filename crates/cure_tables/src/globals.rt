@@ -3,7 +3,7 @@
 
 ghost use Rattle.std.specs.Prelude.{◌≡◌, ◌*◌, ◌≤◌, IfOk, Some, length, map};
 ghost use Rattle.std.specs.List.{All};
-ghost use Rattle.c_types.specs.Flows.{kind_in};
+ghost use Rattle.cc_base.specs.Kinds.{kind_at};
 ghost use Rattle.cured_code.specs.FlatMachine.{global_areas, placed};
 ghost use Rattle.cure_rules.specs.Programs.{IsFirstOf, AreGlobals};
 ghost use Rattle.cure_tables.specs.Objects.{IsObject, IsGlobalOf};
@@ -46,7 +46,7 @@ fn global_of(
 ) -> Result<GlobalLine, NoMemory>
     requires object { IsObject layouts.now.table (length kinds.now) object.now.planned }
     requires kinds { layouts.now.kinds ≡ kinds.now }
-    ensures { IfOk result (IsGlobalOf layouts.now.table (kind_in kinds.now) object.now) }
+    ensures { IfOk result (IsGlobalOf layouts.now.table (kind_at kinds.now) object.now) }
 {
     let first = first_bytes(alloc, object)?;
     Ok(GlobalLine {
@@ -64,7 +64,7 @@ pub fn globals_of(
 ) -> Result<Vec<GlobalLine>, NoMemory>
     requires objects { All (λ s. IsObject layouts.now.table (length kinds.now) s.planned) statics.now }
     requires kinds { layouts.now.kinds ≡ kinds.now }
-    ensures { IfOk result (λ all. AreGlobals layouts.now.table (kind_in kinds.now) statics.now all.items) }
+    ensures { IfOk result (λ all. AreGlobals layouts.now.table (kind_at kinds.now) statics.now all.items) }
 {
     let mut all = Vec::with_capacity(alloc, statics.len())?;
     'statics: for object in statics {

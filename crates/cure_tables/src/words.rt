@@ -3,8 +3,8 @@
 
 ghost use Rattle.std.specs.Prelude.{◌≡◌, ◌≤◌, length};
 ghost use Rattle.std.specs.List.{All};
+ghost use Rattle.cc_base.specs.Kinds.{kind_at};
 ghost use Rattle.c_types.specs.Table.{IsType, AreNodesOf};
-ghost use Rattle.c_types.specs.Flows.{kind_in};
 ghost use Rattle.sim_relation.specs.Ground.{word_number};
 ghost use Rattle.cure_rules.specs.Functions.{words_at};
 
@@ -28,7 +28,7 @@ pub fn words_of_kind(kind: Kind) -> u32
 pub fn words_in(types: &Types, kinds: &Kinds, t: TypeId) -> u32
     requires typed { IsType types.now t }
     requires nodes { All (λ e. AreNodesOf (length kinds.now) e.shape) types.now }
-    ensures words { result ≡ words_at types.now (kind_in kinds.now) t }
+    ensures words { result ≡ words_at types.now (kind_at kinds.now) t }
     ensures few { result ≤ 3 }
 {
     match types.shape(t) {

@@ -1,3 +1,4 @@
+//! Cured programs whose numbers are in range.
 ghost use Rattle.std.specs.Prelude.{◌≡◌, ◌↔◌, IsSome, IfSome};
 ghost use Rattle.cured_code.specs.Ranges.{IsInRange};
 

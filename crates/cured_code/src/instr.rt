@@ -1,3 +1,4 @@
+//! The instructions of cured code.
 use cc_base::{Check, Place};
 
 /// The part of a word that a narrowing keeps: its low 8, 16 or 32 bits, with the sign copied or with zeros above.

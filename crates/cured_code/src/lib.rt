@@ -1,4 +1,4 @@
-// Cured code as data, the ranges that its numbers keep, and the definition of what it means: the flat machine.
+//! Cured code as data, the ranges that its numbers keep, and the definition of what it means: the flat machine.
 #![tactic(auto)]
 
 mod cured;

@@ -1,7 +1,7 @@
 //! What instructions name, and whether it is there.
 ghost use Rattle.std.specs.Prelude.{◌≡◌, ◌<◌, ◌≤◌, ◌↔◌, IsTrue, MatchOption};
 ghost use Rattle.cured_code.specs.Groups.{group, Words, Tests, Bytes, Tags, Lookups, Outside, Flow};
-ghost use Rattle.cured_code.specs.Ranges.{IsAccessSize, IsRowSize, IsInstrInRange, AreInstrsInRange, HasSlot, HasSlots, CanPass, nest_limit, inside_if, inside_block};
+ghost use Rattle.cured_code.specs.Ranges.{IsAccessSize, IsRowSize, IsInstrInRange, AreInstrsInRange, HasSlot, HasSlots, CanPass, flat_nest_limit, inside_if, inside_block};
 
 use crate::instr::Instr;
 use crate::parts::{Function, Sig};
@@ -47,7 +47,7 @@ impl<'a> Model for Names<'a> {
 impl<'a> Names<'a> {
     /// What may be named inside an `if`.
     pub fn inside_if(&self) -> Names<'a>
-        requires { self.now.nest < nest_limit }
+        requires { self.now.nest < flat_nest_limit }
         ensures { result ≡ inside_if self.now }
     {
         Names {
@@ -58,7 +58,7 @@ impl<'a> Names<'a> {
 
     /// What may be named inside a `block` or a `loop`.
     pub fn inside_block(&self) -> Names<'a>
-        requires { self.now.nest < nest_limit }
+        requires { self.now.nest < flat_nest_limit }
         ensures { result ≡ inside_block self.now }
     {
         Names {
@@ -263,7 +263,7 @@ fn is_flow_kept(names: &Names, instr: &Instr) -> bool
 
 #[cycle(naming)]
 fn is_branch_kept(names: &Names, x: &[Instr]) -> bool
-    ensures { IsTrue result ↔ ((names.now.nest < nest_limit) × AreInstrsInRange (inside_if names.now) x.now) }
+    ensures { IsTrue result ↔ ((names.now.nest < flat_nest_limit) × AreInstrsInRange (inside_if names.now) x.now) }
 {
     if names.nest >= NEST_LIMIT {
         return false;
@@ -274,7 +274,7 @@ fn is_branch_kept(names: &Names, x: &[Instr]) -> bool
 
 #[cycle(naming)]
 fn is_block_kept(names: &Names, x: &[Instr]) -> bool
-    ensures { IsTrue result ↔ ((names.now.nest < nest_limit) × AreInstrsInRange (inside_block names.now) x.now) }
+    ensures { IsTrue result ↔ ((names.now.nest < flat_nest_limit) × AreInstrsInRange (inside_block names.now) x.now) }
 {
     if names.nest >= NEST_LIMIT {
         return false;

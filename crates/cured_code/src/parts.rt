@@ -1,3 +1,4 @@
+//! The parts of a cured program.
 use crate::instr::Code;
 use std::marker::Model;
 

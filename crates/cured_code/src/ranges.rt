@@ -1,5 +1,6 @@
+//! The ranges of all numbers of a cured program, and its limits.
 ghost use Rattle.std.specs.Prelude.{◌≤◌, ◌<◌, ◌↔◌, IsTrue, All, length, sum_by, slice_get, IfSome};
-ghost use Rattle.cured_code.specs.Ranges.{IsInRange, IsSigInRange, AreParentsEarlier, IsGlobalInRange, IsFunctionInRange, IsBare, IsStartBare, AreInstrsInRange, names_in, sigs_of, sigs_limit, nodes_limit, globals_limit, global_bytes_limit, functions_limit, locals_limit, local_bytes_limit};
+ghost use Rattle.cured_code.specs.Ranges.{IsInRange, IsSigInRange, AreParentsEarlier, IsGlobalInRange, IsFunctionInRange, IsBare, IsStartBare, AreInstrsInRange, names_in, sigs_of, sigs_limit, nodes_limit, flat_globals_limit, global_bytes_limit, flat_functions_limit, locals_limit, local_bytes_limit};
 
 use crate::naming::{Names, are_instrs_in_range};
 use crate::parts::{AreaLine, Function, GlobalLine, Parts, Sig};
@@ -69,7 +70,7 @@ fn are_parents_earlier(parents: &[u32]) -> bool
 }
 
 fn are_globals_in_range(globals: &[GlobalLine]) -> bool
-    ensures { IsTrue result ↔ ((length globals.now ≤ globals_limit) × All IsGlobalInRange globals.now × (sum_by (λ g. g.area.bytes) globals.now ≤ global_bytes_limit)) }
+    ensures { IsTrue result ↔ ((length globals.now ≤ flat_globals_limit) × All IsGlobalInRange globals.now × (sum_by (λ g. g.area.bytes) globals.now ≤ global_bytes_limit)) }
 {
     globals.len() <= GLOBALS_LIMIT
         && globals.iter().all(|global| is_global_in_range(global))
@@ -97,7 +98,7 @@ fn are_bytes_kept(globals: &[GlobalLine]) -> bool
 }
 
 fn are_functions_in_range(sigs: &[Sig], nodes: usize, functions: &[Function]) -> bool
-    ensures { IsTrue result ↔ ((length functions.now ≤ functions_limit)
+    ensures { IsTrue result ↔ ((length functions.now ≤ flat_functions_limit)
         × All (IsFunctionInRange sigs.now (sigs_of functions.now) nodes) functions.now × IsStartBare sigs.now functions.now) }
 {
     functions.len() <= FUNCTIONS_LIMIT

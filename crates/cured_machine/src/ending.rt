@@ -1,3 +1,4 @@
+//! How a run of the machine ends.
 use cc_base::{Check, FnId, Place};
 
 /// How a run ends.

@@ -4,7 +4,7 @@ ghost use Rattle.flat_mem.specs.Bytes.{written};
 ghost use Rattle.flat_mem.specs.Placement.{areas_size};
 ghost use Rattle.flat_mem.specs.Memory.{first_memory, with_bytes};
 ghost use Rattle.cured_code.specs.FlatMachine.{area_of, areas_of, global_areas, globals_written, loaded_memory};
-ghost use Rattle.cured_code.specs.Ranges.{IsGlobalInRange, IsInRange, functions_limit, globals_limit, global_bytes_limit};
+ghost use Rattle.cured_code.specs.Ranges.{IsGlobalInRange, IsInRange, flat_functions_limit, flat_globals_limit, global_bytes_limit};
 ghost use Rattle.cured_machine.specs.Loading.{plan_for};
 ghost use Rattle.cured_machine.specs.Ready.{frame_areas};
 
@@ -69,8 +69,8 @@ pub(crate) fn load_parts(alloc: Global, parts: &Parts) -> Result<Flat, AllocErro
 
 /// The memory at the start for these functions and globals.
 fn load(alloc: Global, functions: &[Function], globals: &[GlobalLine]) -> Result<Flat, AllocError>
-    requires functions { length functions.now ≤ functions_limit }
-    requires globals { length globals.now ≤ globals_limit }
+    requires functions { length functions.now ≤ flat_functions_limit }
+    requires globals { length globals.now ≤ flat_globals_limit }
     requires bytes { sum_by (λ g. g.area.bytes) globals.now ≤ global_bytes_limit }
     requires within { All IsGlobalInRange globals.now }
     ensures { IfOk result (λ flat. let memory = first_memory (plan_for functions.now globals.now) in
@@ -86,7 +86,7 @@ fn load(alloc: Global, functions: &[Function], globals: &[GlobalLine]) -> Result
 /// How the memory is laid out.
 #[tactic(auto, unfolding(cured_code::specs::FlatMachine::frames_charge_limit, cured_code::specs::FlatMachine::blocks_charge_limit))]
 fn plan(alloc: Global, functions: &[Function], globals: &[GlobalLine]) -> Result<Plan, AllocError>
-    requires { length functions.now ≤ functions_limit }
+    requires { length functions.now ≤ flat_functions_limit }
     ensures { IfOk result (λ plan. plan ≡ plan_for functions.now globals.now) }
 {
     let areas = areas_of_globals(alloc, globals)?;

@@ -5,7 +5,7 @@ use Rattle.std.specs.List.{AllByRecursion as Each}
 use Rattle.std.specs.Fmt.{decimal}
 use Rattle.cured_code.specs.declared.instr.Instr.{Instr}
 use Rattle.cured_code.specs.declared.instr.Instr.TheVariants as instr
-use Rattle.cured_code.specs.Ranges.{Names, IsInstrInRange, HasSlot, inside_if, inside_block, nest_limit}
+use Rattle.cured_code.specs.Ranges.{Names, IsInstrInRange, HasSlot, inside_if, inside_block, flat_nest_limit}
 use Rattle.cured_spelling.specs.Lines.{Field, Number, Line, line, fields_text, words_text, line_text}
 use Rattle.cured_spelling.specs.Spelling.{line_of, else_line, end_line}
 use Rattle.cured_spelling.specs.InRange.{IsFieldInRange}
@@ -212,25 +212,25 @@ module _ (names : Names) (c : Closing) (parts : List Part) (rest : List Names) (
         let kept : IsWritable (If same.0) = subst IsWritable same.1 w in
         none same.0 kept.0 (f ∙ ap (λ u. fields_text (told_line u).fields) same.1))
 
-    pub if-nested : (slot : ℕ) → slot < 2 ^ 64 → fields ≡ 32 ∷ (decimal slot ++ []) → nest_limit ≤ names.nest
+    pub if-nested : (slot : ℕ) → slot < 2 ^ 64 → fields ≡ 32 ∷ (decimal slot ++ []) → flat_nest_limit ≤ names.nest
         → IsRefused (in_part names c parts rest) a (wrong.TooLarge limit.Nest) b.number
     if-nested slot small e over =
         limit-fails (in_part names c parts rest) (If slot) a b.text b.number limit.Nest refl (small, tt) (refl, over) (if-text slot e) g.counted
 
-    pub if-out : (slot : ℕ) → slot < 2 ^ 64 → fields ≡ 32 ∷ (decimal slot ++ []) → names.nest < nest_limit → names.slots ≤ slot
+    pub if-out : (slot : ℕ) → slot < 2 ^ 64 → fields ≡ 32 ∷ (decimal slot ++ []) → names.nest < flat_nest_limit → names.slots ≤ slot
         → IsRefused (in_part names c parts rest) a (wrong.Form form.Range) b.number
     if-out slot small e nest out =
         range-fails (in_part names c parts rest) (If slot) a b.text b.number refl (small, tt) (λ o. o) (λ l p. let q = p.1 in omega (arith, q, nest))
         (λ r. omega (arith, r, out)) (if-text slot e) g.counted
 
-    if-read-inside : (slot : ℕ) → slot < 2 ^ 64 → fields ≡ 32 ∷ (decimal slot ++ []) → names.nest < nest_limit → HasSlot names slot
+    if-read-inside : (slot : ℕ) → slot < 2 ^ 64 → fields ≡ 32 ∷ (decimal slot ++ []) → names.nest < flat_nest_limit → HasSlot names slot
         → AreRead (in_part names c parts rest) a (in_part (inside_if names) closing.Else (record { names = names; closing = c } ∷ parts) rest) b
     if-read-inside slot small e nest in_range =
         one-read (in_part names c parts rest) (If slot) a b
         (record { stands = refl; writable = (small, tt); known = λ o. o; limits = λ l p. let q = p.1 in omega (arith, q, nest); range = in_range })
         (if-text slot e) g.counted
 
-    pub if-read : (slot : ℕ) (inner : Names) → inner ≡ inside_if names → slot < 2 ^ 64 → fields ≡ 32 ∷ (decimal slot ++ []) → names.nest < nest_limit → HasSlot names slot
+    pub if-read : (slot : ℕ) (inner : Names) → inner ≡ inside_if names → slot < 2 ^ 64 → fields ≡ 32 ∷ (decimal slot ++ []) → names.nest < flat_nest_limit → HasSlot names slot
         → AreRead (in_part names c parts rest) a (in_part inner closing.Else (record { names = names; closing = c } ∷ parts) rest) b
     if-read slot inner same small e nest in_range =
         subst (λ n. AreRead (in_part names c parts rest) a (in_part n closing.Else (record { names = names; closing = c } ∷ parts) rest) b) (sym same) (if-read-inside slot small e nest in_range)
@@ -244,7 +244,7 @@ module _ (names : Names) (c : Closing) (parts : List Part) (rest : List Names) (
       none-there names c parts rest (codes "block") fields a b g (λ t h e w f.
       none (f ∙ ap (λ u. fields_text (told_line u).fields) (told-block (record { names = names; closing = c }) parts rest t h e)))
 
-  pub held-nested : (is_loop : Bool) → IsBegun (told_line (told_held is_loop)).name fields a b → fields ≡ [] → nest_limit ≤ names.nest
+  pub held-nested : (is_loop : Bool) → IsBegun (told_line (told_held is_loop)).name fields a b → fields ≡ [] → flat_nest_limit ≤ names.nest
       → IsRefused (in_part names c parts rest) a (wrong.TooLarge limit.Nest) b.number
   held-nested true g e over =
       limit-fails (in_part names c parts rest) Loop a b.text b.number limit.Nest refl tt (refl, over)
@@ -253,7 +253,7 @@ module _ (names : Names) (c : Closing) (parts : List Part) (rest : List Names) (
       limit-fails (in_part names c parts rest) Block a b.text b.number limit.Nest refl tt (refl, over)
       (line-text names c parts rest (codes "block") fields a b g (told_line Block) refl e) g.counted
 
-  held-inside : (is_loop : Bool) → IsBegun (told_line (told_held is_loop)).name fields a b → fields ≡ [] → names.nest < nest_limit
+  held-inside : (is_loop : Bool) → IsBegun (told_line (told_held is_loop)).name fields a b → fields ≡ [] → names.nest < flat_nest_limit
       → AreRead (in_part names c parts rest) a (in_part (inside_block names) closing.End (record { names = names; closing = c } ∷ parts) rest) b
   held-inside true g e nest =
       one-read (in_part names c parts rest) Loop a b
@@ -265,7 +265,7 @@ module _ (names : Names) (c : Closing) (parts : List Part) (rest : List Names) (
       (line-text names c parts rest (codes "block") fields a b g (told_line Block) refl e) g.counted
 
   pub held-read : (is_loop : Bool) (inner : Names) → inner ≡ inside_block names → IsBegun (told_line (told_held is_loop)).name fields a b → fields ≡ []
-      → names.nest < nest_limit
+      → names.nest < flat_nest_limit
       → AreRead (in_part names c parts rest) a (in_part inner closing.End (record { names = names; closing = c } ∷ parts) rest) b
   held-read is_loop inner same g e nest =
       subst (λ n. AreRead (in_part names c parts rest) a (in_part n closing.End (record { names = names; closing = c } ∷ parts) rest) b) (sym same)
@@ -273,7 +273,7 @@ module _ (names : Names) (c : Closing) (parts : List Part) (rest : List Names) (
 
 -- What an inner part may name is as few
 
-pub few-if : (names inner : Names) → inner ≡ inside_if names → IsFew names → names.nest < nest_limit → IsFew inner
+pub few-if : (names inner : Names) → inner ≡ inside_if names → IsFew names → names.nest < flat_nest_limit → IsFew inner
 few-if names inner e few lt =
     let blocks = few.blocks in
     subst IsFew (sym e) (record {
@@ -286,7 +286,7 @@ few-if names inner e few lt =
       nest = omega (arith, lt);
     })
 
-pub few-block : (names inner : Names) → inner ≡ inside_block names → IsFew names → names.nest < nest_limit → IsFew inner
+pub few-block : (names inner : Names) → inner ≡ inside_block names → IsFew names → names.nest < flat_nest_limit → IsFew inner
 few-block names inner e few lt =
     let blocks = few.blocks in
     subst IsFew (sym e) (record {

@@ -7,7 +7,7 @@ use Rattle.std.proofs.lemmas.List.Elements.{All-push}
 use Rattle.cured_code.specs.declared.instr.Instr.{Instr}
 use Rattle.cured_code.specs.declared.instr.Instr.TheVariants as instr
 use Rattle.cured_code.specs.declared.instr.Code.{Code}
-use Rattle.cured_code.specs.Ranges.{Names, IsInstrInRange, AreInstrsInRange, HasSlot, inside_if, inside_block, nest_limit}
+use Rattle.cured_code.specs.Ranges.{Names, IsInstrInRange, AreInstrsInRange, HasSlot, inside_if, inside_block, flat_nest_limit}
 use Rattle.cured_code.proofs.RangeLaws.{list-code}
 use Rattle.cured_spelling.specs.Lines.{Line, line, line_text, words_text}
 use Rattle.cured_spelling.specs.Spelling.{lines_of, code_lines, else_line, end_line}
@@ -72,15 +72,15 @@ pub instrs-push : (names : Names) (instrs more : List Instr) (i : Instr) → mor
     → AreInstrsInRange names more
 instrs-push names instrs more i e h k = subst (AreInstrsInRange names) (sym e) (All-push (IsInstrInRange names) instrs i h k)
 
-pub if-in_range : (names : Names) (a : ℕ) (x y : Code) → HasSlot names a → names.nest < nest_limit → AreInstrsInRange (inside_if names) x.0.items
+pub if-in_range : (names : Names) (a : ℕ) (x y : Code) → HasSlot names a → names.nest < flat_nest_limit → AreInstrsInRange (inside_if names) x.0.items
     → AreInstrsInRange (inside_if names) y.0.items → IsInstrInRange names (instr.If a x y)
 if-in_range names a x y slot nest h k = (slot, nest, list-code (inside_if names) x h, list-code (inside_if names) y k)
 
-pub block-in_range : (names : Names) (x : Code) → names.nest < nest_limit → AreInstrsInRange (inside_block names) x.0.items
+pub block-in_range : (names : Names) (x : Code) → names.nest < flat_nest_limit → AreInstrsInRange (inside_block names) x.0.items
     → IsInstrInRange names (instr.Block x)
 block-in_range names x nest h = (nest, list-code (inside_block names) x h)
 
-pub loop-in_range : (names : Names) (x : Code) → names.nest < nest_limit → AreInstrsInRange (inside_block names) x.0.items
+pub loop-in_range : (names : Names) (x : Code) → names.nest < flat_nest_limit → AreInstrsInRange (inside_block names) x.0.items
     → IsInstrInRange names (instr.Loop x)
 loop-in_range names x nest h = (nest, list-code (inside_block names) x h)
 

@@ -9,7 +9,7 @@ use Rattle.cured_code.specs.declared.parts.Sig.{Sig}
 use Rattle.cured_code.specs.declared.parts.GlobalLine.{GlobalLine}
 use Rattle.cured_code.specs.declared.parts.Function.{Function}
 use Rattle.cured_code.specs.declared.parts.Parts.{Parts}
-use Rattle.cured_code.specs.Ranges.{Names, IsInRange, IsSigInRange, IsGlobalInRange, IsFunctionInRange, IsStartBare, IsBare, AreInstrsInRange, AreParentsEarlier, sigs_of, names_in, sigs_limit, nodes_limit, globals_limit, global_bytes_limit, local_bytes_limit}
+use Rattle.cured_code.specs.Ranges.{Names, IsInRange, IsSigInRange, IsGlobalInRange, IsFunctionInRange, IsStartBare, IsBare, AreInstrsInRange, AreParentsEarlier, sigs_of, names_in, sigs_limit, nodes_limit, flat_globals_limit, global_bytes_limit, local_bytes_limit}
 use Rattle.cured_reading.specs.declared.sections.Head.{Head}
 use Rattle.cured_reading.specs.Parts.{Left}
 use Rattle.cured_reading.specs.declared.code.Closing.TheVariants as closing
@@ -181,7 +181,7 @@ start-bare sigs (f ∷ fs) (head ∷ heads) e h = record {
 }
 
 pub parts-kept : (p : Parts) (heads : List Head) → length p.sigs ≤ sigs_limit → All IsSigInRange p.sigs → length p.nodes ≤ nodes_limit
-    → AreParentsEarlier p.nodes → length p.globals ≤ globals_limit
+    → AreParentsEarlier p.nodes → length p.globals ≤ flat_globals_limit
     → All IsGlobalInRange p.globals
     → sum_by (λ g. g.area.bytes) p.globals ≤ global_bytes_limit
     → AreHeadsKept p.sigs heads

@@ -12,7 +12,7 @@ use Rattle.cured_code.specs.declared.parts.AreaLine.{AreaLine}
 use Rattle.cured_code.specs.declared.parts.GlobalLine.{GlobalLine}
 use Rattle.cured_code.specs.declared.parts.Function.{Function}
 use Rattle.cured_code.specs.declared.parts.Parts.{Parts}
-use Rattle.cured_code.specs.Ranges.{Names, IsInRange, IsSigInRange, IsGlobalInRange, IsFunctionInRange, IsInstrInRange, IsRowInRange, AreInstrsInRange, nest_limit, sigs_of, names_in, IsBare, local_bytes_limit, global_bytes_limit}
+use Rattle.cured_code.specs.Ranges.{Names, IsInRange, IsSigInRange, IsGlobalInRange, IsFunctionInRange, IsInstrInRange, IsRowInRange, AreInstrsInRange, flat_nest_limit, sigs_of, names_in, IsBare, local_bytes_limit, global_bytes_limit}
 use Rattle.cured_spelling.specs.Lines.{Line, line, line_text}
 use Rattle.cured_spelling.specs.Spelling.{line_of, lines_of, lines_of_row, code_lines, else_line, end_line, sig_line, node_line, area_line, function_line, local_line, body_lines, counted, program_lines, cured_spelling}
 use Rattle.cured_spelling.specs.InRange.{IsFieldInRange}

@@ -6,7 +6,7 @@ use Rattle.cured_code.specs.declared.instr.Instr.TheVariants as instr
 use Rattle.cured_code.specs.declared.parts.Sig.{Sig}
 use Rattle.cured_code.specs.declared.parts.AreaLine.{AreaLine}
 use Rattle.cured_code.specs.declared.parts.GlobalLine.{GlobalLine}
-use Rattle.cured_code.specs.Ranges.{Names, IsSigInRange, IsGlobalInRange, IsInstrInRange, IsBare, HasSlot, inside_if, inside_block, sigs_limit, nodes_limit, globals_limit, global_bytes_limit, functions_limit, slots_limit, locals_limit, local_bytes_limit, nest_limit}
+use Rattle.cured_code.specs.Ranges.{Names, IsSigInRange, IsGlobalInRange, IsInstrInRange, IsBare, HasSlot, inside_if, inside_block, sigs_limit, nodes_limit, flat_globals_limit, global_bytes_limit, flat_functions_limit, slots_limit, locals_limit, local_bytes_limit, flat_nest_limit}
 use Rattle.cured_spelling.specs.Lines.{Field, Number, Name, Line, line, line_text}
 use Rattle.cured_spelling.specs.Spelling.{line_of, else_line, end_line, sig_line, node_line, area_line, local_line}
 use Rattle.cured_spelling.specs.InRange.{IsFieldInRange}
@@ -191,8 +191,8 @@ section_limit Functions = limit.Functions
 abbrev pub most_lines : Section → ℕ
 most_lines Sigs = sigs_limit
 most_lines Nodes = nodes_limit
-most_lines Globals = globals_limit
-most_lines Functions = functions_limit
+most_lines Globals = flat_globals_limit
+most_lines Functions = flat_functions_limit
 
 -- the line passes this limit; of two limits of one line the first that is passed
 abbrev pub Passes : Awaited → Told → CuredLimit → Type 0
@@ -201,9 +201,9 @@ Passes (MoreGlobals k left sigs nodes) (Area global) l = (l ≡ limit.Bytes) × 
 Passes awaited (Fn head) l = ((l ≡ limit.Slots) × (slots_limit < head.slots))
     ⊎ ((l ≡ limit.Locals) × (head.slots ≤ slots_limit) × (locals_limit < head.areas))
 Passes awaited (Local area) l = (l ≡ limit.LocalBytes) × (local_bytes_limit < area.bytes)
-Passes (InBody k part parts rest) (If a) l = (l ≡ limit.Nest) × (nest_limit ≤ part.names.nest)
-Passes (InBody k part parts rest) Block l = (l ≡ limit.Nest) × (nest_limit ≤ part.names.nest)
-Passes (InBody k part parts rest) Loop l = (l ≡ limit.Nest) × (nest_limit ≤ part.names.nest)
+Passes (InBody k part parts rest) (If a) l = (l ≡ limit.Nest) × (flat_nest_limit ≤ part.names.nest)
+Passes (InBody k part parts rest) Block l = (l ≡ limit.Nest) × (flat_nest_limit ≤ part.names.nest)
+Passes (InBody k part parts rest) Loop l = (l ≡ limit.Nest) × (flat_nest_limit ≤ part.names.nest)
 Passes awaited told l = ⊥
 
 abbrev pub PassesNone : Awaited → Told → Type 0

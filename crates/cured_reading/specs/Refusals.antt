@@ -5,7 +5,7 @@ use Rattle.cured_code.specs.declared.instr.Instr.{Instr}
 use Rattle.cured_code.specs.declared.parts.Sig.{Sig}
 use Rattle.cured_code.specs.declared.parts.AreaLine.{AreaLine}
 use Rattle.cured_code.specs.declared.parts.Function.{Function}
-use Rattle.cured_code.specs.Ranges.{Names, IsInstrInRange, slots_limit, locals_limit, functions_limit, nest_limit}
+use Rattle.cured_code.specs.Ranges.{Names, IsInstrInRange, slots_limit, locals_limit, flat_functions_limit, flat_nest_limit}
 use Rattle.cured_spelling.specs.Lines.{Field, Number, Tag, Line, line, fields_text, line_text}
 use Rattle.cured_spelling.specs.Spelling.{line_of}
 use Rattle.cured_spelling.specs.InRange.{IsFieldInRange}
@@ -88,7 +88,7 @@ pub record IsFew (names : Names) : Type 0 where
   pub slots : names.slots < 2 ^ 32
   pub areas : names.areas ≤ 2 ^ 32
   pub blocks : names.blocks ≤ names.nest
-  pub nest : names.nest ≤ nest_limit
+  pub nest : names.nest ≤ flat_nest_limit
 
 -- a line whose name was read, and its fields not yet
 pub record IsBegun (name fields : List ℕ) (before after : Left) : Type 0 where
@@ -169,7 +169,7 @@ AreHeadsInOrder sigs before (head ∷ heads) = IsHeadKept sigs before head × Ar
 -- those of all functions, of which there is one
 pub record AreHeadsKept (sigs : List Sig) (heads : List Head) : Type 0 where
   pub some : 0 < length heads
-  pub count : length heads ≤ functions_limit
+  pub count : length heads ≤ flat_functions_limit
   pub each : AreHeadsInOrder sigs 0 heads
 
 -- the function has what its line gave

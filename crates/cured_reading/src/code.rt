@@ -1,6 +1,6 @@
 //! Reading instructions, with those that they hold.
 ghost use Rattle.std.specs.Prelude.{◌≡◌, ◌≢◌, ◌≤◌, ◌<◌, ◌++◌, ◌∷◌, [], ℕ, Bool, List, IfOk, OnOk, IfErr, codes, flat_map, length};
-ghost use Rattle.cured_code.specs.Ranges.{Names as Scope, IsInstrInRange, AreInstrsInRange, inside_block, nest_limit};
+ghost use Rattle.cured_code.specs.Ranges.{Names as Scope, IsInstrInRange, AreInstrsInRange, inside_block, flat_nest_limit};
 ghost use Rattle.cured_spelling.specs.Lines.{line_text};
 ghost use Rattle.cured_spelling.specs.Spelling.{lines_of, code_lines, else_line, end_line};
 ghost use Rattle.cured_reading.specs.Openings.{IsOpening, closing_line};
@@ -147,7 +147,7 @@ fn held(lines: &mut Lines, names: &Names, fields: &Fields, alloc: Global) -> Res
     ensures fields { OnOk result (fields.now ≡ []) }
     ensures spelled { IfOk result (λ code. lines.old.text ≡ flat_map line_text (code_lines code.0.items) ++ (line_text end_line ++ lines.new.text)) }
     ensures shorter { OnOk result (length lines.new.text ≤ length lines.old.text) }
-    ensures nest { OnOk result (names.now.nest < nest_limit) }
+    ensures nest { OnOk result (names.now.nest < flat_nest_limit) }
     ensures kept { IfOk result (λ code. AreInstrsInRange (inside_block names.now) code.0.items) }
     ensures read { OnOk result ((is_loop : Bool) (before : Place) (closing : AnyClosing) (parts : List Outer) (rest : List Scope)
         → IsBegun (told_line (told_held is_loop)).name fields.now before lines.old

@@ -2,7 +2,7 @@
 ghost use Rattle.std.specs.Prelude.{◌≡◌, ◌≢◌, ◌≤◌, ◌<◌, ◌-◌, ◌++◌, ◌∷◌, ◌↔◌, [], ℕ, List, IsTrue, All, IfOk, OnOk, IfErr, codes, flat_map, length, sum_by};
 ghost use Rattle.std.specs.List.{AllByRecursion};
 ghost use Rattle.cured_code.specs.declared.parts.Sig.{Sig as AnySig};
-ghost use Rattle.cured_code.specs.Ranges.{IsGlobalInRange, globals_limit, global_bytes_limit};
+ghost use Rattle.cured_code.specs.Ranges.{IsGlobalInRange, flat_globals_limit, global_bytes_limit};
 ghost use Rattle.cured_spelling.specs.Lines.{line_text, hex_byte, hex_digit, hex_text};
 ghost use Rattle.cured_spelling.specs.Spelling.{counted, area_line};
 ghost use Rattle.cured_reading.specs.Faults.{MoreNodes, MoreGlobals};
@@ -110,7 +110,7 @@ fn global(lines: &mut Lines, left: u64, alloc: Global) -> Result<GlobalLine, Wro
 /// The globals.
 pub(crate) fn globals(lines: &mut Lines, alloc: Global) -> Result<Vec<GlobalLine>, Wrong>
     ensures spelled { IfOk result (λ globals. lines.old.text ≡ flat_map line_text (counted (codes "globals") area_line globals.items) ++ lines.new.text) }
-    ensures few { IfOk result (λ globals. length globals.items ≤ globals_limit) }
+    ensures few { IfOk result (λ globals. length globals.items ≤ flat_globals_limit) }
     ensures bytes { IfOk result (λ globals. sum_by (λ g. g.area.bytes) globals.items ≤ global_bytes_limit) }
     ensures kept { IfOk result (λ globals. All IsGlobalInRange globals.items) }
     ensures read { OnOk result ((sigs : List AnySig) (nodes : ℕ)

@@ -9,15 +9,15 @@ use Rattle.cc_base.specs.declared.number.TypeId.{TypeId}
 use Rattle.cc_base.specs.declared.number.NodeId.{NodeId}
 use Rattle.cc_base.specs.declared.kind.Kind.{Kind}
 use Rattle.cc_base.specs.declared.kind.Kind.TheVariants.{Safe, Seq, Rtti, Wild}
-use Rattle.c_types.specs.declared.site.Site.{Site}
-use Rattle.c_types.specs.declared.site.Site.TheVariants as site
+use Rattle.kind_sites.specs.declared.site.Site.{Site}
+use Rattle.kind_sites.specs.declared.site.Site.TheVariants as site
 use Rattle.c_types.specs.declared.shape.TypeShape.TheVariants.{Array, Union}
 use Rattle.c_types.specs.Table.{IsComplete, shape_at, members_at, IsAggregate}
 use Rattle.c_types.specs.Layouts.{member_at}
 use Rattle.c_types.specs.Layouts.{size_of, offset_of}
 use Rattle.c_types.specs.Cells.{AreOrdered}
 use Rattle.c_types.specs.Equality.{cells_of}
-use Rattle.c_types.specs.Solutions.{IsUnionAllowed, IsWildWhereMixed}
+use Rattle.kind_sites.specs.Solutions.{IsUnionAllowed, IsWildWhereMixed}
 use Rattle.c_types.specs.Sound.{IsWellFormed}
 use Rattle.runs.specs.Outcome.{done, ◌>>◌}
 use Rattle.src_mem.specs.Pointers.{Location, Pointer, Null, Number, At, Function}

@@ -1,6 +1,6 @@
 -- A living object that is cleared leaves the memory sound.
 use Rattle.std.proofs.Common.{◌≡◌, ℕ, true, List, slice_get, Some, refl, sym, subst}
-use Rattle.c_types.specs.declared.site.Site.{Site}
+use Rattle.kind_sites.specs.declared.site.Site.{Site}
 use Rattle.runs.specs.Outcome.{leaves, allowed}
 use Rattle.src_mem.specs.Memory.{Object, cleared}
 use Rattle.src_mem.specs.State.{State, Setting, Wrong, touched}

@@ -2,7 +2,7 @@
 use Rattle.std.proofs.Common.{List, Bool, true, false, ℕ, refl, if◌then◌else◌}
 use Rattle.cc_base.specs.declared.place.Place.{Place}
 use Rattle.cc_base.specs.declared.number.TypeId.{TypeId}
-use Rattle.c_types.specs.declared.site.Site.{Site}
+use Rattle.kind_sites.specs.declared.site.Site.{Site}
 use Rattle.c_types.specs.Flows.{flow_class}
 use Rattle.c_types.specs.Sound.{IsWellFormed}
 use Rattle.src_mem.specs.Pointers.{Pointer, Null, Number, At, Function}

@@ -8,7 +8,7 @@ use Rattle.cc_base.specs.declared.number.TypeId.{TypeId}
 use Rattle.cc_base.specs.declared.number.NodeId.{NodeId}
 use Rattle.cc_base.specs.declared.kind.Kind.{Kind}
 use Rattle.cc_base.specs.declared.kind.Kind.TheVariants.{Safe, Seq, Rtti, Wild}
-use Rattle.c_types.specs.declared.site.Site.{Site}
+use Rattle.kind_sites.specs.declared.site.Site.{Site}
 use Rattle.c_types.specs.declared.flow_class.FlowClass.{FlowClass}
 use Rattle.c_types.specs.declared.flow_class.FlowClass.TheVariants.{Equal, UpTile, Up, DownTile, Down, Tile, Bad}
 use Rattle.c_types.specs.Table.{IsComplete, is_complete, entry_at, is_function}
@@ -16,7 +16,7 @@ use Rattle.c_types.specs.Layouts.{size_of}
 use Rattle.c_types.specs.Cells.{Cell, raw}
 use Rattle.c_types.specs.Equality.{physically_equal, cells_of, repeated_cell, tile}
 use Rattle.c_types.specs.Flows.{Correspond, CorrespondAtTop, HaveEqualKinds, IsOfOneClass, Covers, flow_class, CellsAgree}
-use Rattle.c_types.specs.Solutions.{allows, is_upward, is_downward, is_tiled, HasBelow, IsPointeeAllowed}
+use Rattle.kind_sites.specs.Solutions.{allows, is_upward, is_downward, is_tiled, HasBelow, IsPointeeAllowed}
 use Rattle.c_types.specs.Sound.{IsWellFormed}
 use Rattle.type_laws.proofs.Pointers.{class_own, class_turned, class_twice, covers_own, covers_twice}
 use Rattle.type_laws.proofs.Sizes.{equal_counts}

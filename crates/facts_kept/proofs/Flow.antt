@@ -17,7 +17,7 @@ use Rattle.c_types.specs.Table.{Table, shape_at, is_function, is_function_shape,
 use Rattle.c_types.specs.Cells.{Cell, raw, alike, all_alike, same_type, cells_at, begins}
 use Rattle.c_types.specs.Equality.{bytes, makeup_of, same_makeup, made_alike, physically_equal, begins_with, cells_of, repeated_cell, tile}
 use Rattle.c_types.specs.Flows.{HeldPointer, StandAlike, StandInTiles, Correspond, top, inside, CorrespondAtTop, CorrespondByPlace, HaveEqualKinds, IsOfOneClass, Covers, flow_class, CellsAgree}
-use Rattle.c_types.specs.Solutions.{is_upward, is_tiled}
+use Rattle.kind_sites.specs.Solutions.{is_upward, is_tiled}
 use Rattle.c_types.specs.Sound.{IsWellFormed}
 use Rattle.type_laws.proofs.Levels.{still}
 use Rattle.type_laws.proofs.Relations.{same_id}

@@ -2,7 +2,7 @@
 use Rattle.std.proofs.Common.{◌≡◌, ◌≢◌, ℕ, suc, ◌≤◌, ◌⊎◌, Bool, true, false, List, ◌++◌, map, length, slice_get, Some, refl, ap, sym, subst, ◌∙◌, ⊎_elim, arith, if◌then◌else◌}
 use Rattle.std.specs.Prelude.{◌==◌}
 use Rattle.std.proofs.lemmas.Bool.Decides.{nat_tests}
-use Rattle.c_types.specs.declared.site.Site.{Site}
+use Rattle.kind_sites.specs.declared.site.Site.{Site}
 use Rattle.c_types.specs.Table.{Table, IsComplete}
 use Rattle.c_types.specs.Layouts.{size_of}
 use Rattle.c_types.specs.Cells.{AreOrdered}

@@ -13,7 +13,7 @@ use Rattle.c_types.specs.Cells.{Cell, AreOrdered}
 use Rattle.src_mem.specs.Pointers.{Location, Pointer, Null, Number, At, Function}
 use Rattle.src_mem.specs.Memory.{Object, Memory, zero_object, depth_of_object}
 use Rattle.src_mem.specs.Primitives.{ended}
-use Rattle.c_types.specs.declared.site.Site.{Site}
+use Rattle.kind_sites.specs.declared.site.Site.{Site}
 use Rattle.src_mem.specs.State.{Setting}
 use Rattle.src_mem.specs.Checks.{holds, IsNotOfFrame}
 use Rattle.c_types.proofs.OrderedPointers.{get_front, Which, old, new, which}

@@ -5,7 +5,7 @@ use Rattle.cc_base.specs.declared.kind.Kind.{Kind}
 use Rattle.cc_base.specs.declared.kind.Kind.TheVariants.{Safe, Wild}
 use Rattle.c_types.specs.Table.{IsComplete}
 use Rattle.c_types.specs.Layouts.{size_of}
-use Rattle.c_types.specs.Solutions.{IsPlain}
+use Rattle.kind_sites.specs.Solutions.{IsPlain}
 use Rattle.c_types.specs.Sound.{IsWellFormed}
 use Rattle.src_mem.specs.Memory.{Memory, Planned, new_variable, size_of_object}
 use Rattle.src_mem.specs.State.{Setting}

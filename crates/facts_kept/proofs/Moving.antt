@@ -4,7 +4,7 @@ use Rattle.cc_base.specs.declared.place.Place.{Place}
 use Rattle.cc_base.specs.declared.number.TypeId.{TypeId}
 use Rattle.cc_base.specs.declared.kind.Kind.{Kind}
 use Rattle.cc_base.specs.declared.kind.Kind.TheVariants.{Seq, Wild}
-use Rattle.c_types.specs.declared.site.Site.{Site}
+use Rattle.kind_sites.specs.declared.site.Site.{Site}
 use Rattle.c_types.specs.Table.{IsComplete}
 use Rattle.c_types.specs.Sound.{IsWellFormed}
 use Rattle.runs.specs.Outcome.{◌>>◌}

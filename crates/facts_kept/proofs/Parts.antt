@@ -13,7 +13,8 @@ use Rattle.c_types.specs.Table.{IsComplete, IsAggregate, shape_at, members_at, p
 use Rattle.c_types.specs.Layouts.{size_of, layout_of, layout_of_shape, union_layout, greatest_size, greatest_align, offset_of, offset_of_shape, member_at}
 use Rattle.c_types.specs.Cells.{Cell, raw, pointer, mixed, incomplete, cells_of_shape}
 use Rattle.c_types.specs.Equality.{cells_of, physically_equal}
-use Rattle.c_types.specs.Solutions.{HoldsMixed, IsUnionAllowed}
+use Rattle.c_types.specs.Contents.{HoldsMixed}
+use Rattle.kind_sites.specs.Solutions.{IsUnionAllowed}
 use Rattle.c_types.specs.Sound.{IsWellFormed}
 use Rattle.c_types.proofs.Cells.{cells_are}
 use Rattle.c_types.proofs.Descent.{layout_is}

@@ -15,7 +15,8 @@ use Rattle.c_types.specs.Layouts.{size_of, layout_of, layout_of_shape, union_lay
 use Rattle.c_types.specs.Cells.{Cell, raw, pointer, mixed, incomplete}
 use Rattle.c_types.specs.Equality.{cells_of}
 use Rattle.c_types.specs.Flows.{HeldPointer, CellsAgree, pointer_in_cell, and_then}
-use Rattle.c_types.specs.Solutions.{SpreadsWild, HoldsMixed, Holds, IsUnionAllowed, at_place, in_member}
+use Rattle.c_types.specs.Contents.{HoldsMixed, Holds, at_place, in_member}
+use Rattle.kind_sites.specs.Solutions.{SpreadsWild, IsUnionAllowed}
 use Rattle.c_types.specs.Sound.{IsWellFormed}
 use Rattle.c_types.proofs.Lists.{contains_head, contains_tail}
 use Rattle.c_types.proofs.Descent.{layout_is}

@@ -5,14 +5,14 @@ use Rattle.cc_base.specs.declared.place.Place.{Place}
 use Rattle.cc_base.specs.declared.kind.Kind.{Kind}
 use Rattle.cc_base.specs.declared.kind.Kind.TheVariants.{Safe, Seq, Rtti, Wild}
 use Rattle.cc_base.specs.declared.number.TypeId.{TypeId}
-use Rattle.c_types.specs.declared.site.Site.{Site}
+use Rattle.kind_sites.specs.declared.site.Site.{Site}
 use Rattle.std.specs.List.{Contains}
 use Rattle.cc_base.specs.declared.number.NodeId.{NodeId}
-use Rattle.c_types.specs.declared.site.Site.TheVariants as site
+use Rattle.kind_sites.specs.declared.site.Site.TheVariants as site
 use Rattle.c_types.specs.declared.shape.TypeShape.TheVariants.{Union}
 use Rattle.c_types.specs.Table.{IsComplete, IsAggregate, shape_at, members_at}
 use Rattle.c_types.specs.Layouts.{size_of, member_at, offset_of}
-use Rattle.c_types.specs.Solutions.{IsUnionAllowed, IsWildWhereMixed}
+use Rattle.kind_sites.specs.Solutions.{IsUnionAllowed, IsWildWhereMixed}
 use Rattle.c_types.specs.Sound.{IsWellFormed}
 use Rattle.runs.specs.Outcome.{Outcome, Ended, Done, done, from}
 use Rattle.src_mem.specs.Pointers.{Location, Pointer, Null, Number, At, Function}

@@ -5,14 +5,15 @@ use Rattle.cc_base.specs.declared.number.NodeId.{NodeId}
 use Rattle.cc_base.specs.declared.kind.Kind.{Kind}
 use Rattle.cc_base.specs.declared.kind.Kind.TheVariants.{Safe, Seq, Rtti, Wild}
 use Rattle.c_types.specs.declared.shape.TypeShape.TheVariants as shape
-use Rattle.c_types.specs.declared.site.Site.{Site}
+use Rattle.kind_sites.specs.declared.site.Site.{Site}
 use Rattle.c_types.specs.declared.flow_class.FlowClass.TheVariants.{Equal}
 use Rattle.c_types.specs.Table.{IsComplete, shape_at, is_function}
 use Rattle.c_types.specs.Layouts.{size_of}
 use Rattle.c_types.specs.Cells.{Cell, raw, pointer, mixed, incomplete}
 use Rattle.c_types.specs.Equality.{cells_of, repeated_cell}
 use Rattle.c_types.specs.Flows.{IsOfOneClass, CellsAgree}
-use Rattle.c_types.specs.Solutions.{SpreadsWild, at_place}
+use Rattle.c_types.specs.Contents.{at_place}
+use Rattle.kind_sites.specs.Solutions.{SpreadsWild}
 use Rattle.c_types.specs.Sound.{IsWellFormed}
 use Rattle.type_laws.proofs.Pointers.{class_turned, class_twice, covers_own, covers_twice}
 use Rattle.src_mem.specs.Outlines.{Outline, Life}

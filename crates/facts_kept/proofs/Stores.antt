@@ -18,7 +18,7 @@ use Rattle.c_types.specs.Sound.{IsWellFormed}
 use Rattle.type_laws.proofs.Pointers.{class_turned}
 use Rattle.src_mem.specs.Pointers.{Pointer, Null, Number, At, Function}
 use Rattle.src_mem.specs.Memory.{Object, touches, untouched, with_integer, with_pointer, with_entry, entry_of, cleared, with_copy, with_copied}
-use Rattle.c_types.specs.declared.site.Site.{Site}
+use Rattle.kind_sites.specs.declared.site.Site.{Site}
 use Rattle.src_mem.specs.State.{Setting}
 use Rattle.src_mem.specs.Facts.{IsMade, AreSound, HoldType, IsValueOf, Reaches, IsStoredTyped, IsStoredTagged, IsSoundObject}
 use Rattle.c_types.proofs.OrderedPointers.{pointer_bytes, cells_ordered}

@@ -13,7 +13,8 @@ use Rattle.c_types.specs.Layouts.{rounded, size_of, align_of}
 use Rattle.c_types.specs.Cells.{Cell, raw, mixed, Relation, begins, longest, padded_to, member_cells, union_cells, cells_of_shape, cells_at, holds_pointer, holds_in_shape}
 use Rattle.c_types.specs.Equality.{cells_of, physically_equal}
 use Rattle.c_types.specs.Flows.{CellsAgree}
-use Rattle.c_types.specs.Solutions.{HoldsMixed, IsLargest, IsUnionAllowed}
+use Rattle.c_types.specs.Contents.{HoldsMixed, IsLargest}
+use Rattle.kind_sites.specs.Solutions.{IsUnionAllowed}
 use Rattle.c_types.specs.Sound.{IsWellFormed}
 use Rattle.c_types.proofs.Cells.{cells_are}
 use Rattle.c_types.proofs.Lists.{contains_head, contains_tail}

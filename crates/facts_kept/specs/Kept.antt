@@ -4,8 +4,8 @@ use Rattle.std.specs.List.{Contains}
 use Rattle.cc_base.specs.declared.kind.Kind.{Kind}
 use Rattle.cc_base.specs.declared.number.TypeId.{TypeId}
 use Rattle.cc_base.specs.declared.number.NodeId.{NodeId}
-use Rattle.c_types.specs.declared.site.Site.{Site}
-use Rattle.c_types.specs.declared.site.Site.TheVariants as site
+use Rattle.kind_sites.specs.declared.site.Site.{Site}
+use Rattle.kind_sites.specs.declared.site.Site.TheVariants as site
 use Rattle.c_types.specs.declared.shape.TypeShape.{TypeShape}
 use Rattle.c_types.specs.declared.shape.TypeShape.TheVariants as shape
 use Rattle.c_types.specs.Table.{IsComplete, shape_at}
@@ -13,7 +13,7 @@ use Rattle.c_types.specs.Layouts.{size_of}
 use Rattle.c_types.specs.Cells.{Cell}
 use Rattle.c_types.specs.Equality.{cells_of}
 use Rattle.c_types.specs.Flows.{CellsAgree}
-use Rattle.c_types.specs.Solutions.{IsFlowAllowed, IsPointeeAllowed, IsPlain, SpreadsWild}
+use Rattle.kind_sites.specs.Solutions.{IsFlowAllowed, IsPointeeAllowed, IsPlain, SpreadsWild}
 use Rattle.integers.specs.Arithmetic.{IntegerType, converted}
 use Rattle.src_mem.specs.Pointers.{Pointer, Value, Integer, Address}
 use Rattle.src_mem.specs.Memory.{Object, Memory, Planned, new_variable}

@@ -6,13 +6,14 @@ use Rattle.cc_base.specs.declared.kind.Kind.{Kind}
 use Rattle.cc_base.specs.declared.kind.Kind.TheVariants.{Safe, Seq, Wild}
 use Rattle.cc_base.specs.declared.number.TypeId.{TypeId}
 use Rattle.cc_base.specs.declared.number.NodeId.{NodeId}
-use Rattle.c_types.specs.declared.site.Site.{Site}
-use Rattle.c_types.specs.declared.site.Site.TheVariants.{Pointee}
+use Rattle.kind_sites.specs.declared.site.Site.{Site}
+use Rattle.kind_sites.specs.declared.site.Site.TheVariants.{Pointee}
 use Rattle.c_types.specs.declared.shape.TypeShape.TheVariants as shape
 use Rattle.c_types.specs.Table.{IsComplete, IsAggregate, shape_at, members_at, is_function}
 use Rattle.c_types.specs.Layouts.{size_of, member_at, offset_of}
 use Rattle.c_types.specs.Flows.{HeldPointer, pointer_at, IsOfOneClass}
-use Rattle.c_types.specs.Solutions.{IsPlain, SpreadsWild, IsUnionAllowed, IsWildWhereMixed, HoldsMixed}
+use Rattle.c_types.specs.Contents.{HoldsMixed}
+use Rattle.kind_sites.specs.Solutions.{IsPlain, SpreadsWild, IsUnionAllowed, IsWildWhereMixed}
 use Rattle.c_types.specs.Sound.{IsWellFormed}
 use Rattle.integers.specs.Arithmetic.{IntegerType}
 use Rattle.src_mem.specs.Pointers.{Location, Pointer, Function, Value, Integer, Address}

@@ -11,7 +11,7 @@ use Rattle.c_types.specs.Table.{Table, Entry, IsType, IsComplete, AreNodesOf, sh
 use Rattle.c_types.specs.Layouts.{size_of}
 use Rattle.c_types.specs.Cells.{Cell, IsBetweenPointers}
 use Rattle.c_types.specs.Equality.{cells_of, physically_equal}
-use Rattle.c_types.specs.Flows.{kind_in}
+use Rattle.cc_base.specs.Kinds.{kind_at}
 use Rattle.c_types.specs.Widths.{before, cured_size}
 use Rattle.c_types.specs.Sound.{IsWellFormed}
 use Rattle.c_types.proofs.Cells.{length_cells}
@@ -44,7 +44,7 @@ last_at (u ∷ us) a (suc i) d l = last_at us a i d (omega arith)
 
 module _ (table : Table) (kinds : List Kind) (t : TypeId) (x : CuredLayout) (h : IsCuredLayout table kinds t x) where
   pub layout_ordered : IsNonDecreasingBy (λ (s : Stop). s.end) x.stops.items
-  layout_ordered = subst (IsNonDecreasingBy (λ (s : Stop). s.end)) (sym h.stops) (stops_ordered (kind_in kinds) (size_of table) first_stop h.spots x.size h.stand (omega arith))
+  layout_ordered = subst (IsNonDecreasingBy (λ (s : Stop). s.end)) (sym h.stops) (stops_ordered (kind_at kinds) (size_of table) first_stop h.spots x.size h.stand (omega arith))
 
   pub layout_first : slice_get x.stops.items 0 ≡ Some first_stop
   layout_first = ap (λ (xs : List Stop). slice_get xs 0) h.stops
@@ -54,24 +54,24 @@ module _ (table : Table) (kinds : List Kind) (t : TypeId) (x : CuredLayout) (h :
     size_same : x.size ≡ size_of table t
     size_same = sym (length_all (size_of table) h.spots x.size h.stand) ∙ ap length h.cells ∙ length_cells table w (physically_equal table) t complete
 
-    at_stop : (o : ℕ) (s : Stop) (l : IsLastPassed x.stops.items o s) → slice_get (all_stops (kind_in kinds) h.spots) l.index ≡ Some s
+    at_stop : (o : ℕ) (s : Stop) (l : IsLastPassed x.stops.items o s) → slice_get (all_stops (kind_at kinds) h.spots) l.index ≡ Some s
     at_stop o s l = subst (λ (xs : List Stop). slice_get xs l.index ≡ Some s) h.stops l.there
 
     pub offset_small : (o : ℕ) (s : Stop) → o ≤ size_of table t → IsLastPassed x.stops.items o s → s.cured + (o - s.end) ≤ 4194304
     offset_small o s k l =
-        let r = (stops_rise (kind_in kinds) (size_of table) first_stop h.spots x.size l.index s h.stand (omega arith) (at_stop o s l)).1 in
+        let r = (stops_rise (kind_at kinds) (size_of table) first_stop h.spots x.size l.index s h.stand (omega arith) (at_stop o s l)).1 in
         let p = l.passed in
         let m = (w.sized t complete).most in omega arith
 
     pub offset_is : (o : ℕ) (s : Stop) → o ≤ size_of table t → IsBetweenPointers (cells_of table t) o → IsLastPassed x.stops.items o s
-        → s.cured + (o - s.end) ≡ before (kind_in kinds) (cells_of table t) o
+        → s.cured + (o - s.end) ≡ before (kind_at kinds) (cells_of table t) o
     offset_is o s k b l =
         let e = size_same in
-        let r = width_before (kind_in kinds) (size_of table) first_stop h.spots x.size o l.index s h.stand (omega arith) (at_stop o s l) l.passed (omega arith)
+        let r = width_before (kind_at kinds) (size_of table) first_stop h.spots x.size o l.index s h.stand (omega arith) (at_stop o s l) l.passed (omega arith)
         (λ y q. l.next y (subst (λ (xs : List Stop). slice_get xs (suc l.index) ≡ Some y) (sym h.stops) q))
         (λ n u j q. b.whole n u j (ap (λ (cs : List Cell). slice_get cs o) (sym h.cells) ∙ ap (slice_get (cells_from 0 h.spots x.size)) (sym f) ∙ q)) in
-        let g = ap (before (kind_in kinds) (cells_from 0 h.spots x.size)) f in
-        let z = ap (λ (cs : List Cell). before (kind_in kinds) cs o) h.cells in omega arith
+        let g = ap (before (kind_at kinds) (cells_from 0 h.spots x.size)) f in
+        let z = ap (λ (cs : List Cell). before (kind_at kinds) cs o) h.cells in omega arith
       where
         f : o - 0 ≡ o
         f = omega arith
@@ -84,8 +84,8 @@ end_is_whole table w t complete =
     record { whole = λ n u i q. absurd (cc (p, q)) }
 
 pub all_before : (table : Table) → IsWellFormed table → (kinds : List Kind) (t : TypeId) → IsComplete table t
-    → before (kind_in kinds) (cells_of table t) (size_of table t) ≡ cured_size table (kind_in kinds) t
-all_before table w kinds t complete = ap (before (kind_in kinds) (cells_of table t)) (sym (length_cells table w (physically_equal table) t complete))
+    → before (kind_at kinds) (cells_of table t) (size_of table t) ≡ cured_size table (kind_at kinds) t
+all_before table w kinds t complete = ap (before (kind_at kinds) (cells_of table t)) (sym (length_cells table w (physically_equal table) t complete))
 
 -- what the building of stops asks of a type's layout
 pub layout_laid : (table : Table) → IsWellFormed table → (t : TypeId) (x : Layout) → IsLayoutOf table (physically_equal table) t x → IsLaid x.spots.items

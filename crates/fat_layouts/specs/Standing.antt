@@ -4,7 +4,7 @@ use Rattle.cc_base.specs.declared.kind.Kind.{Kind}
 use Rattle.c_types.specs.Table.{Table, IsType}
 use Rattle.c_types.specs.Layouts.{size_of}
 use Rattle.c_types.specs.Equality.{cells_of}
-use Rattle.c_types.specs.Flows.{kind_in}
+use Rattle.cc_base.specs.Kinds.{kind_at}
 use Rattle.c_types.specs.Sound.{IsWellFormed}
 use Rattle.phys_types.specs.declared.spot.Spot.{Spot}
 use Rattle.phys_types.specs.Spots.{cells_from, AreSpots}
@@ -21,7 +21,7 @@ pub record IsCuredLayout (table : Table) (kinds : List Kind) (t : TypeId) (x : C
   pub spots : List Spot
   pub stand : AreSpots (size_of table) 0 spots x.size
   pub cells : cells_from 0 spots x.size ≡ cells_of table t
-  pub stops : x.stops.items ≡ all_stops (kind_in kinds) spots
+  pub stops : x.stops.items ≡ all_stops (kind_at kinds) spots
 
 -- the layouts are those of the types of the table, in the order of their numbers
 pub record AreCuredLayouts (table : Table) (kinds : List Kind) (layouts : List CuredLayout) : Type 0 where

@@ -1,3 +1,4 @@
+//! Sizes and offsets of cured types.
 #![tactic(auto)]
 
 ghost use Rattle.std.specs.Prelude.{◌≡◌, ◌≤◌, IfOk, length};
@@ -6,7 +7,7 @@ ghost use Rattle.c_types.specs.Table.{IsType, IsComplete, AreNodesOf};
 ghost use Rattle.c_types.specs.Layouts.{size_of};
 ghost use Rattle.c_types.specs.Cells.{IsBetweenPointers};
 ghost use Rattle.c_types.specs.Equality.{cells_of};
-ghost use Rattle.c_types.specs.Flows.{kind_in};
+ghost use Rattle.cc_base.specs.Kinds.{kind_at};
 ghost use Rattle.c_types.specs.Widths.{before, cured_size};
 ghost use Rattle.c_types.specs.Sound.{IsWellFormed};
 ghost use Rattle.fat_layouts.specs.Standing.{IsCuredLayout};
@@ -77,7 +78,7 @@ impl<'a> Layouts<'a> {
     /// The bytes that an object of a complete type takes once cured. Takes no memory.
     pub fn cured_size(&self, t: TypeId) -> u64
         requires { IsComplete self.now.table t }
-        ensures { result ≡ cured_size self.now.table (kind_in self.now.kinds) t }
+        ensures { result ≡ cured_size self.now.table (kind_at self.now.kinds) t }
     {
         self.cured_offset(t, self.types.size_of(t))
     }
@@ -95,7 +96,7 @@ impl<'a> Layouts<'a> {
     pub fn cured_offset(&self, t: TypeId, offset: u64) -> u64
         requires complete { IsComplete self.now.table t }
         requires within { offset ≤ size_of self.now.table t }
-        ensures { IsBetweenPointers (cells_of self.now.table t) offset → result ≡ before (kind_in self.now.kinds) (cells_of self.now.table t) offset }
+        ensures { IsBetweenPointers (cells_of self.now.table t) offset → result ≡ before (kind_at self.now.kinds) (cells_of self.now.table t) offset }
     {
         let stop = last_passed(&self.layouts[t.0 as usize].stops, offset);
         stop.cured + (offset - stop.end)

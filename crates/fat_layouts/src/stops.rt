@@ -1,9 +1,10 @@
+//! The layout of a type as a list of places where its items end, in the source and once cured.
 #![tactic(auto)]
 
 ghost use Rattle.std.specs.Prelude.{◌≡◌, IfOk, length, slice_get, Some};
 ghost use Rattle.std.specs.List.{All};
 ghost use Rattle.std.specs.List.Sorted.{IsNonDecreasingBy};
-ghost use Rattle.c_types.specs.Flows.{kind_in};
+ghost use Rattle.cc_base.specs.Kinds.{kind_at};
 ghost use Rattle.fat_layouts.specs.Stops.{HasNode, IsLaid, item_width, all_stops, first_stop, IsLastPassed};
 
 use crate::widths::width;
@@ -28,7 +29,7 @@ pub(crate) struct CuredLayout {
 /// The bytes that an item takes once cured.
 fn item_width(kinds: &Kinds, item: Item) -> u64
     requires { HasNode (length kinds.now) item }
-    ensures { result ≡ item_width (kind_in kinds.now) item }
+    ensures { result ≡ item_width (kind_at kinds.now) item }
 {
     match item {
         Item::Pointer(node, _) => width(kinds.kind_of(node)),
@@ -40,7 +41,7 @@ fn item_width(kinds: &Kinds, item: Item) -> u64
 pub(crate) fn stops_of(alloc: Global, kinds: &Kinds, spots: &[Spot]) -> Result<Vec<Stop>, NoMemory>
     requires nodes { All (λ s. HasNode (length kinds.now) s.item) spots.now }
     requires laid { IsLaid spots.now }
-    ensures { IfOk result (λ stops. stops.items ≡ all_stops (kind_in kinds.now) spots.now) }
+    ensures { IfOk result (λ stops. stops.items ≡ all_stops (kind_at kinds.now) spots.now) }
 {
     let mut last = Stop { end: 0, cured: 0 };
     let mut stops = vec![in alloc; last; 1]?;

@@ -1,3 +1,4 @@
+//! The width of a pointer of each kind.
 #![tactic(auto)]
 
 ghost use Rattle.std.specs.Prelude.{◌≡◌};

@@ -14,4 +14,5 @@ pub mod DepthCode
 pub mod NewCode
 pub mod RangeLaws
 pub mod TagLaws
+pub mod RowLaws
 pub mod TagCode

@@ -7,13 +7,13 @@ use Rattle.flat_mem.specs.declared.Area.{Area}
 use Rattle.flat_mem.specs.declared.Plan.{Plan}
 use Rattle.flat_mem.specs.Bytes.{AreBytes}
 use Rattle.flat_mem.specs.Placement.{area_size, areas_size, flat_size, globals_start, first_bytes}
-use Rattle.flat_mem.specs.Memory.{Frame, Memory, IsSound, Consecutive, first_memory, with_bytes, fits, pushed, popped, older_frames, frames_end, frame_limit, charges, next_frame, block_fits, block_made}
+use Rattle.flat_mem.specs.Memory.{Frame, Memory, IsSound, Consecutive, first_memory, with_bytes, fits, pushed, popped, older_frames, frames_end, flat_frame_limit, charges, next_frame, block_fits, block_made}
 use Rattle.flat_mem.proofs.FrameLaws.{next_frame-by_8}
 use Rattle.flat_mem.proofs.AreaLaws.{area_size-by_8, areas_size-by_8, length-area_made, length-areas_made, area_made-bytes, areas_made-bytes}
 
 -- what `fits` tests
 pub record Room (m : Memory) (areas : List Area) (charge : ℕ) : Type 0 where
-  pub frames : length m.frames < frame_limit
+  pub frames : length m.frames < flat_frame_limit
   pub charges : charges m.frames + charge ≤ m.bounds.stack_limit
   pub region : next_frame m + areas_size areas ≤ m.bounds.stack_end
 
@@ -22,7 +22,7 @@ below_tests a b c d e f h = (grind (arith, nat_tests), grind (arith, nat_tests),
 
 pub room_of-fits : (m : Memory) (areas : List Area) (charge : ℕ) → IsTrue (fits m areas charge) → Room m areas charge
 room_of-fits m areas charge h =
-    let t = below_tests (length m.frames) frame_limit (charges m.frames + charge) m.bounds.stack_limit (next_frame m + areas_size areas) m.bounds.stack_end h in
+    let t = below_tests (length m.frames) flat_frame_limit (charges m.frames + charge) m.bounds.stack_limit (next_frame m + areas_size areas) m.bounds.stack_end h in
     record { frames = t.0; charges = t.1; region = t.2 }
 
 two_tests : (c d e f : ℕ) → IsTrue (nat_le c d && nat_le e f) → (c ≤ d) × (e ≤ f)

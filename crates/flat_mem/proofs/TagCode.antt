@@ -1,11 +1,10 @@
 -- What the code of tags and of moving words computes is what the definitions say.
-use Rattle.std.specs.Prelude.{◌≡◌, ℕ, zero, suc, ◌+◌, ◌-◌, ◌*◌, ◌/◌, ◌%◌, ◌<◌, ◌≤◌, Bool, List, [], ◌∷◌, ◌++◌, length, slice_index, slice_set, take, drop, refl}
+use Rattle.std.specs.Prelude.{◌≡◌, ℕ, zero, suc, ◌+◌, ◌*◌, ◌/◌, ◌%◌, ◌<◌, ◌≤◌, Bool, List, [], ◌∷◌, ◌++◌, length, slice_index, slice_set, take, drop, refl}
 use Rattle.std.proofs.Common.{sym, ◌∙◌, ap, arith, get_or, drop-cons}
 use Rattle.std.proofs.lemmas.List.{drop_all, take_all}
 use Rattle.flat_mem.specs.declared.WordRow.{WordRow}
-use Rattle.flat_mem.specs.Bytes.{bytes_at, written, moved}
+use Rattle.flat_mem.specs.Bytes.{written}
 use Rattle.flat_mem.specs.Tags.{with_bit, tag_in, tag_written, tags_in, tags_written, IsRowInside}
-use Rattle.flat_mem.proofs.ByteLaws.{length-bytes_at, length-moved, length-written}
 use Rattle.flat_mem.proofs.MemoryCode.{stored-1, written-more}
 use Rattle.flat_mem.proofs.TagLaws.{length-tags_in, tags_in-none, tags_in-more}
 
@@ -45,15 +44,7 @@ pub write-done : (tags : List Bool) (k : ℕ) (bytes now : List ℕ) (t at : ℕ
 unfolding tags_written
 write-done tags k bytes now t at is h = sym (ap (λ l. tags_written l now at) (drop_all k tags h)) ∙ is
 
--- Keeping and writing bytes
-
-pub bytes_at-slice : (n : ℕ) (bytes : List ℕ) (a : ℕ) → a + n ≤ length bytes → take n (drop a bytes) ≡ bytes_at n bytes a
-unfolding bytes_at
-bytes_at-slice zero bytes a room = refl
-bytes_at-slice (suc n) bytes a room =
-    let more : suc a ≡ a + 1 = omega arith in
-    ap (take (suc n)) (drop-cons bytes a 0 (omega arith))
-    ∙ ap (λ l. slice_index bytes a ∷ l) (ap (λ j. take n (drop j bytes)) more ∙ bytes_at-slice n bytes (a + 1) (omega arith))
+-- Writing bytes
 
 take-more : (new : List ℕ) (i : ℕ) → i < length new → take (i + 1) new ≡ take i new ++ slice_index new i ∷ []
 take-more [] i h = absurd (omega arith)
@@ -79,24 +70,10 @@ write_bytes-next bytes now new at i is h =
 pub write_bytes-done : (bytes now new : List ℕ) (at i : ℕ) → now ≡ written (take i new) bytes at → length new ≤ i → now ≡ written new bytes at
 write_bytes-done bytes now new at i is h = is ∙ ap (λ l. written l bytes at) (take_all i new h)
 
-pub keep_bytes-is : (cleared bytes : List ℕ) (at n : ℕ) → cleared ≡ [] → at + n ≤ length bytes → cleared ++ take (at + n - at) (drop at bytes) ≡ bytes_at n bytes at
-keep_bytes-is cleared bytes at n none room =
-    let count : at + n - at ≡ n = omega arith in
-    ap (λ l. l ++ take (at + n - at) (drop at bytes)) none ∙ (ap (λ k. take k (drop at bytes)) count ∙ bytes_at-slice n bytes at room)
-
 -- Moving words
 
-pub base-room : (bytes bases kept now : List ℕ) (row : WordRow) (count start place to : ℕ) → IsRowInside bytes row count → bases ≡ kept → kept ≡ bytes_at (8 * count) bytes place → now ≡ moved (8 * count) bytes to start → row.bases + length bases ≤ length now
-base-room bytes bases kept now row count start place to inside lent is move =
-    let a : length bases ≡ 8 * count = ap length (lent ∙ is) ∙ length-bytes_at (8 * count) bytes place in
-    let b : length now ≡ length bytes = ap length move ∙ length-moved (8 * count) bytes to start in
-    let e : row.bases + 8 * count ≤ length bytes = inside.bases in
-    omega (arith, a, b, e)
-
-pub tag-room : (bytes now after bases : List ℕ) (tags kept : List Bool) (row : WordRow) (count start place to t : ℕ) → IsRowInside bytes row count → tags ≡ kept → kept ≡ tags_in count bytes t → now ≡ moved (8 * count) bytes to start → after ≡ written bases now place → row.tags + length tags ≤ 8 * length after
-tag-room bytes now after bases tags kept row count start place to t inside lent is move write =
+pub tag-room : (bytes after : List ℕ) (tags kept : List Bool) (row : WordRow) (count t : ℕ) → IsRowInside bytes row count → tags ≡ kept → kept ≡ tags_in count bytes t → length after ≡ length bytes → row.tags + length tags ≤ 8 * length after
+tag-room bytes after tags kept row count t inside lent is same =
     let a : length tags ≡ count = ap length (lent ∙ is) ∙ length-tags_in count bytes t in
-    let b : length now ≡ length bytes = ap length move ∙ length-moved (8 * count) bytes to start in
-    let d : length after ≡ length now = ap length write ∙ length-written bases now place in
     let e : row.tags + count ≤ 8 * length bytes = inside.tags in
-    omega (arith, a, b, d, e)
+    omega (arith, a, e, same)

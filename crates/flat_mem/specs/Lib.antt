@@ -1,4 +1,5 @@
 pub mod Bytes
+pub mod Rows
 pub mod Placement
 pub mod Memory
 pub mod Marks

@@ -1,7 +1,7 @@
 -- What the code keeps of the live frames, the oldest first, and how a memory is seen in it.
 use Rattle.std.specs.Prelude.{◌≡◌, ℕ, ◌+◌, ◌*◌, ◌^◌, ◌<◌, ◌≤◌, List, [], ◌∷◌, length, map, reverse, take, drop}
 use Rattle.flat_mem.specs.declared.memory.Mark.{Mark}
-use Rattle.flat_mem.specs.Memory.{Bounds, Frame, Memory, IsSound, frames_end, charges, frame_limit}
+use Rattle.flat_mem.specs.Memory.{Bounds, Frame, Memory, IsSound, frames_end, charges, flat_frame_limit}
 
 -- the frame of a mark, whose areas' addresses are some of all addresses
 abbrev pub frame_seen : List ℕ → Mark → Frame
@@ -33,12 +33,11 @@ pub record IsKept (bytes : List ℕ) (bounds : Bounds) (marks : List Mark) (addr
   pub lie : MarksLie (reverse marks) (length addresses)
   pub at_top : frames_end bounds.stack_start (frames_seen addresses marks) ≡ top
   pub charged : charges (frames_seen addresses marks) ≡ charge
-  pub marks_fit : frame_limit ≤ mark_room
+  pub marks_fit : flat_frame_limit ≤ mark_room
   pub addresses_fit : bounds.stack_end ≤ bounds.stack_start + 8 * address_room
   pub small : length bytes < 2 ^ 32
 
--- what holds of all fields: there is room besides to keep the base words and tags of as many words as the list can hold
-pub record IsWhole (bytes : List ℕ) (bounds : Bounds) (marks : List Mark) (addresses : List ℕ) (top charge heap_top heap_charge mark_room address_room base_room tag_room : ℕ) : Type 0 where
+-- what holds of all fields: there is room besides to keep the tags of as many words as the list can hold
+pub record IsWhole (bytes : List ℕ) (bounds : Bounds) (marks : List Mark) (addresses : List ℕ) (top charge heap_top heap_charge mark_room address_room tag_room : ℕ) : Type 0 where
   pub kept : IsKept bytes bounds marks addresses top charge heap_top heap_charge mark_room address_room
-  pub bases_fit : bounds.heap_end ≤ base_room
   pub tags_fit : bounds.heap_end ≤ 8 * tag_room

@@ -25,8 +25,9 @@ unfoldable pub tags_written : List Bool → List ℕ → ℕ → List ℕ
 tags_written [] bytes t = bytes
 tags_written (tag ∷ tags) bytes t = tags_written tags (tag_written tag bytes t) (t + 1)
 
--- `count` words of a row lie in the list, with their base words and tags
+-- `count` words of a row lie in the list, with their base words, which stand behind them, and tags
 pub record IsRowInside (bytes : List ℕ) (row : WordRow) (count : ℕ) : Type 0 where
+  pub order : row.words ≤ row.bases
   pub words : row.words + 8 * count ≤ length bytes
   pub bases : row.bases + 8 * count ≤ length bytes
   pub tags : row.tags + count ≤ 8 * length bytes

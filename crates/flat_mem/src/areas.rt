@@ -1,3 +1,4 @@
+//! Sizes of areas, and making them.
 // The sizes of areas, and making them in the bytes.
 
 ghost use Rattle.std.specs.Prelude.{◌≡◌, ◌+◌, ◌<◌, ◌≤◌, ◌^◌, ◌++◌, false, All, Some, None, length, map, nat_le, vec_capacity, vec_len, if◌then◌else◌};

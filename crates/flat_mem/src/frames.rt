@@ -1,3 +1,4 @@
+//! Frames laid out beforehand.
 // Frames laid out before they are pushed.
 
 ghost use Rattle.std.specs.Prelude.{◌≡◌, ◌+◌, ◌≤◌, ◌<◌, ◌^◌, IfOk, length};

@@ -1,5 +1,5 @@
-// The memory of the flat machine: one list of bytes, in which functions, globals, frames and heap blocks have
-// their areas.
+//! The memory of the flat machine: one list of bytes, in which functions, globals, frames and heap blocks have
+//! their areas.
 #![tactic(auto)]
 
 ghost use Rattle.std.specs.Prelude.{◌≡◌};
@@ -8,6 +8,7 @@ mod areas;
 mod frames;
 mod memory;
 mod numbers;
+mod rows;
 mod tags;
 
 pub use areas::size_of as area_size;

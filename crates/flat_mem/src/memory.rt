@@ -1,3 +1,4 @@
+//! The memory itself: its regions, frames and blocks, loads and stores.
 // The flat memory.
 
 ghost use Rattle.std.specs.Prelude.{◌≡◌, ◌<◌, ◌^◌, ◌*◌, IfOk, IsTrue, Some, None, length, replicate, if◌then◌else◌};
@@ -47,8 +48,7 @@ pub struct Flat {
     charge: u64,
     heap_top: u64,
     heap_charge: u64,
-    // room for the base words and tags that a move of tagged words reads before it writes
-    spare_bases: Vec<u8>,
+    // room for the tags that a move of tagged words reads before it writes
     spare_tags: Vec<bool>,
 }
 
@@ -61,7 +61,7 @@ impl Model for Flat {
 
     ghost view = { λ s. memory_seen s.bytes.items s.bounds s.marks.items s.addresses.items s.heap_top s.heap_charge };
 
-    ghost invariant = { λ s. IsWhole s.bytes.items s.bounds s.marks.items s.addresses.items s.top s.charge s.heap_top s.heap_charge (vec_capacity s.marks) (vec_capacity s.addresses) (vec_capacity s.spare_bases) (vec_capacity s.spare_tags) };
+    ghost invariant = { λ s. IsWhole s.bytes.items s.bounds s.marks.items s.addresses.items s.top s.charge s.heap_top s.heap_charge (vec_capacity s.marks) (vec_capacity s.addresses) (vec_capacity s.spare_tags) };
 }
 
 fn zeros(alloc: Global, count: usize) -> Result<Vec<u8>, AllocError>
@@ -87,7 +87,6 @@ impl Flat {
         areas::make_areas(&mut bytes, globals, globals_start);
         let marks = Vec::with_capacity(alloc, FRAME_LIMIT)?;
         let addresses = Vec::with_capacity(alloc, u64::div_ceil(3 * plan.stack, 8) as usize)?;
-        let spare_bases = Vec::with_capacity(alloc, heap_end as usize)?;
         let spare_tags = Vec::with_capacity(alloc, heap_end.div_ceil(8) as usize)?;
         Ok(Flat {
             bytes,
@@ -104,7 +103,6 @@ impl Flat {
             charge: 0,
             heap_top: stack_end.next_multiple_of(8),
             heap_charge: 0,
-            spare_bases,
             spare_tags,
         })
     }
@@ -188,14 +186,7 @@ impl Flat {
         requires source { IsRowInside self.old.bytes from count }
         ensures { self.new ≡ with_bytes self.old (row_moved count self.old.bytes to from) }
     {
-        tags::move_row(
-            &mut self.bytes,
-            &mut self.spare_bases,
-            &mut self.spare_tags,
-            to,
-            from,
-            count,
-        );
+        tags::move_row(&mut self.bytes, &mut self.spare_tags, to, from, count);
     }
 
     /// Whether a frame with these areas may be pushed and charged `charge`: fewer than 1,024 frames are live, the

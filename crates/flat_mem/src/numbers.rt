@@ -1,7 +1,8 @@
+//! Numbers of 1, 2, 4 and 8 bytes in a list of bytes, low byte first.
 // Numbers in a slice of bytes, little-endian; zeroing and moving bytes.
 
-ghost use Rattle.std.specs.Prelude.{◌≡◌, ◌+◌, ◌≤◌, length, vec_capacity};
-ghost use Rattle.flat_mem.specs.Bytes.{number, stored, zeroed, moved, bytes_at, written, IsAccessSize};
+ghost use Rattle.std.specs.Prelude.{◌≡◌, ◌+◌, ◌≤◌, length};
+ghost use Rattle.flat_mem.specs.Bytes.{number, stored, zeroed, moved, IsAccessSize};
 
 // The number of `n` bytes at `at`.
 pub(crate) fn number_at(bytes: &[u8], at: usize, n: u64) -> u64
@@ -151,26 +152,5 @@ fn move_up(bytes: &mut [u8], to: usize, from: usize, n: usize)
 {
     for i in (0..n).rev() {
         bytes[to + i] = bytes[from + i];
-    }
-}
-
-// Makes `list` the `n` bytes at `at`.
-pub(crate) fn keep_bytes(list: &mut Vec<u8>, bytes: &[u8], at: usize, n: usize)
-    requires room { n ≤ vec_capacity list.old }
-    requires inside { at + n ≤ length bytes.now }
-    ensures bytes { list.new.items ≡ bytes_at n bytes.now at }
-    ensures capacity { vec_capacity list.old ≤ vec_capacity list.new }
-{
-    list.clear();
-    list.extend_from_slice(&bytes[at..at + n]).unwrap();
-}
-
-// Writes the bytes of `new` at `at`.
-pub(crate) fn write_bytes(bytes: &mut [u8], at: usize, new: &[u8])
-    requires { at + length new.now ≤ length bytes.old }
-    ensures { bytes.new ≡ written new.now bytes.old at }
-{
-    for i in 0..new.len() {
-        bytes[at + i] = new[i];
     }
 }

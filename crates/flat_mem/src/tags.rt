@@ -1,9 +1,11 @@
+//! Bits of a list of bytes: the tags of words.
 // Tags in a slice of bytes: bits whose place is how many bits stand before them.
 
 ghost use Rattle.std.specs.Prelude.{◌≡◌, ◌+◌, ◌*◌, ◌<◌, ◌≤◌, ◌^◌, length, vec_capacity};
 ghost use Rattle.flat_mem.specs.Tags.{with_bit, tag_in, tag_written, tags_in, tags_written, row_moved, IsRowInside};
 
-use crate::{WordRow, numbers};
+use crate::WordRow;
+use crate::rows::{Shift, move_both};
 
 // The byte with bit `k` set or cleared.
 fn with_bit(byte: u8, k: u64, bit: bool) -> u8
@@ -59,11 +61,10 @@ pub(crate) fn write_tags(bytes: &mut [u8], t: u64, tags: &[bool])
     }
 }
 
-// Copies `count` words with their base words and tags, as if all were read before the first is written. `bases` and
-// `tags` are room to keep those that are read.
+// Copies `count` words with their base words and tags, as if all were read before the first is written. `tags` is room to
+// keep the tags that are read: words and base words need none.
 pub(crate) fn move_row(
     bytes: &mut [u8],
-    bases: &mut Vec<u8>,
     tags: &mut Vec<bool>,
     to: WordRow,
     from: WordRow,
@@ -71,17 +72,23 @@ pub(crate) fn move_row(
 )
     requires target { IsRowInside bytes.old to count }
     requires source { IsRowInside bytes.old from count }
-    requires base_room { 8 * count ≤ vec_capacity bases.old }
     requires tag_room { count ≤ vec_capacity tags.old }
     requires small { length bytes.old < 2 ^ 32 }
     ensures moved { bytes.new ≡ row_moved count bytes.old to from }
-    ensures bases { vec_capacity bases.old ≤ vec_capacity bases.new }
     ensures tags { vec_capacity tags.old ≤ vec_capacity tags.new }
 {
-    let n = (8 * count) as usize;
-    numbers::keep_bytes(bases, bytes, from.bases as usize, n);
+    let count_bytes = (8 * count) as usize;
+    let words = Shift {
+        to: to.words as usize,
+        from: from.words as usize,
+        count: count_bytes,
+    };
+    let bases = Shift {
+        to: to.bases as usize,
+        from: from.bases as usize,
+        count: count_bytes,
+    };
     keep_tags(tags, bytes, from.tags, count);
-    numbers::move_within(bytes, to.words as usize, from.words as usize, n);
-    numbers::write_bytes(bytes, to.bases as usize, bases);
+    move_both(bytes, words, bases);
     write_tags(bytes, to.tags, tags);
 }

@@ -7,11 +7,11 @@ use Rattle.std.proofs.lemmas.Bool.Decides.{Decides-eqb}
 use Rattle.cc_base.specs.declared.number.TypeId.{TypeId}
 use Rattle.cc_base.specs.declared.place.Place.{Place}
 use Rattle.cc_base.specs.contracts.number.TypeIdPartialEq.TheImpl as types
-use Rattle.c_types.specs.declared.site.Site.{Site}
-use Rattle.c_types.specs.declared.site.Site.TheVariants as site
+use Rattle.kind_sites.specs.declared.site.Site.{Site}
+use Rattle.kind_sites.specs.declared.site.Site.TheVariants as site
 use Rattle.c_types.specs.Table.{Table, IsType}
 use Rattle.c_types.specs.Equality.{physically_equal, strictly_below}
-use Rattle.c_types.specs.Solutions.{HasBelow}
+use Rattle.kind_sites.specs.Solutions.{HasBelow}
 use Rattle.c_types.specs.Sound.{IsWellFormed}
 use Rattle.type_laws.proofs.Relations.{equal_equiv}
 use Rattle.phys_types.specs.Firsts.{IsFirstEqual, AreFirstEquals}

@@ -6,10 +6,11 @@ use Rattle.cc_base.specs.declared.number.TypeId.{TypeId}
 use Rattle.cc_base.specs.declared.number.NodeId.{NodeId}
 use Rattle.cc_base.specs.declared.place.Place.{Place}
 use Rattle.c_types.specs.declared.flow_class.FlowClass.{FlowClass}
-use Rattle.c_types.specs.declared.site.Site.{Site}
+use Rattle.kind_sites.specs.declared.site.Site.{Site}
 use Rattle.c_types.specs.Table.{Table}
 use Rattle.c_types.specs.Flows.{flow_class}
-use Rattle.c_types.specs.Solutions.{HasBelow, HoldsMixed}
+use Rattle.c_types.specs.Contents.{HoldsMixed}
+use Rattle.kind_sites.specs.Solutions.{HasBelow}
 use Rattle.kind_solver.specs.declared.constraint.Constraint.{Constraint}
 use Rattle.kind_solver.specs.declared.constraint.Constraint.TheVariants.{Flow, Inside, Force, Plain}
 use Rattle.kind_solver.specs.declared.constraint.Why.TheVariants as why

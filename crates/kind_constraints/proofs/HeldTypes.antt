@@ -15,7 +15,7 @@ use Rattle.cc_base.specs.declared.number.TypeId.{TypeId}
 use Rattle.cc_base.specs.declared.number.NodeId.{NodeId}
 use Rattle.c_types.specs.Table.{Table, IsType, IsUnion, shape_at}
 use Rattle.c_types.specs.Flows.{HeldPointer, pointer_at, StandAlike}
-use Rattle.c_types.specs.Solutions.{HoldsMixed, Holds, at_place, in_member}
+use Rattle.c_types.specs.Contents.{HoldsMixed, Holds, at_place, in_member}
 use Rattle.c_types.specs.Sound.{IsWellFormed}
 use Rattle.c_types.proofs.OrderedPointers.{get_front}
 use Rattle.phys_types.specs.Pairs.{HaveNodes}

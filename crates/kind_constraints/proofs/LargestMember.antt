@@ -11,7 +11,7 @@ use Rattle.c_types.specs.Table.{Table, IsType, IsUnion, IsComplete, members_at}
 use Rattle.c_types.specs.Layouts.{size_of}
 use Rattle.c_types.specs.PointerCounts.{larger}
 use Rattle.c_types.specs.Equality.{cells_of, physically_equal, begins_with}
-use Rattle.c_types.specs.Solutions.{HoldsMixed, IsLargest}
+use Rattle.c_types.specs.Contents.{HoldsMixed, IsLargest}
 use Rattle.c_types.specs.Sound.{IsWellFormed}
 use Rattle.c_types.proofs.Cells.{length_cells}
 use Rattle.constraint_laws.proofs.Apart.{member-begins}

@@ -4,12 +4,13 @@ use Rattle.std.specs.List.{Contains, AllByRecursion}
 use Rattle.cc_base.specs.declared.number.TypeId.{TypeId}
 use Rattle.cc_base.specs.declared.number.NodeId.{NodeId}
 use Rattle.cc_base.specs.declared.place.Place.{Place}
-use Rattle.c_types.specs.declared.site.Site.{Site}
-use Rattle.c_types.specs.declared.site.Site.TheVariants as site
+use Rattle.kind_sites.specs.declared.site.Site.{Site}
+use Rattle.kind_sites.specs.declared.site.Site.TheVariants as site
 use Rattle.c_types.specs.declared.flow_class.FlowClass.{FlowClass}
 use Rattle.c_types.specs.Table.{Table, members_at, is_function}
 use Rattle.c_types.specs.Flows.{HeldPointer, flow_class, StandAlike, CorrespondAtTop}
-use Rattle.c_types.specs.Solutions.{HasBelow, HoldsMixed, IsLargest}
+use Rattle.c_types.specs.Contents.{HoldsMixed, IsLargest}
+use Rattle.kind_sites.specs.Solutions.{HasBelow}
 use Rattle.kind_solver.specs.declared.constraint.Constraint.{Constraint}
 use Rattle.kind_solver.specs.declared.constraint.Constraint.TheVariants.{Flow, Needs, Equal, Inside, Linked, Force, Plain}
 use Rattle.kind_solver.specs.declared.constraint.Why.TheVariants as why

@@ -3,9 +3,9 @@
 
 ghost use Rattle.std.specs.Prelude.{◌≡◌, ◌↔◌, List, IfOk, OnOk, IsTrue};
 ghost use Rattle.c_types.specs.Table.{IsType, Table};
-ghost use Rattle.c_types.specs.declared.site.Site.{Site};
+ghost use Rattle.kind_sites.specs.declared.site.Site.{Site};
 ghost use Rattle.c_types.specs.Flows.{flow_class};
-ghost use Rattle.c_types.specs.Solutions.{HasBelow};
+ghost use Rattle.kind_sites.specs.Solutions.{HasBelow};
 ghost use Rattle.kind_constraints.specs.Asked.{IsReady, IsAnswered};
 ghost use Rattle.kind_constraints.specs.Pieces.{AreClasses};
 

@@ -1,11 +1,13 @@
+//! What the sites of a program are gone through with.
 #![tactic(auto)]
 
 ghost use Rattle.c_types.specs.Table.{IsType};
 ghost use Rattle.phys_types.specs.Firsts.{IsFirstEqual};
 ghost use Rattle.kind_constraints.specs.Asked.{IsReady};
 
-use c_types::{Site, Types};
+use c_types::Types;
 use cc_base::{Place, TypeId};
+use kind_sites::Site;
 use phys_types::Known;
 use std::alloc::Global;
 

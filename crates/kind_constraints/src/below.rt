@@ -1,3 +1,4 @@
+//! Of which types some node's pointee is strictly below.
 #![tactic(auto)]
 
 ghost use Rattle.std.specs.Prelude.{◌≡◌, ◌↔◌, ◌<◌, Some, length, IfOk, OnOk, IsTrue, All};
@@ -5,15 +6,15 @@ ghost use Rattle.std.specs.List.{list_any};
 ghost use Rattle.cc_base.specs.declared.number.TypeId.{TypeId};
 ghost use Rattle.c_types.specs.Table.{IsType};
 ghost use Rattle.c_types.specs.Equality.{strictly_below};
-ghost use Rattle.c_types.specs.Solutions.{HasBelow};
+ghost use Rattle.kind_sites.specs.Solutions.{HasBelow};
 ghost use Rattle.kind_constraints.specs.Adding.{Adds};
 ghost use Rattle.kind_constraints.specs.Asked.{IsReady};
 ghost use Rattle.kind_constraints.specs.Pieces.{IsPointee, ArePointees, AreBelows, IsFirstOf, pointee_of};
 
 use crate::asked::{Asked, first_of};
-use c_types::Site;
 use cc_base::{NoMemory, TypeId};
 use indexmap::{IndexMap, IndexSet};
+use kind_sites::Site;
 use phys_types::Known;
 use std::alloc::Global;
 

@@ -1,3 +1,4 @@
+//! The constraints on what a WILD node holds, and on nodes that mixed unions make WILD.
 #![tactic(auto)]
 
 ghost use Rattle.std.specs.Prelude.{◌≡◌, OnOk};

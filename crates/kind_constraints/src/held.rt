@@ -1,3 +1,4 @@
+//! The nodes of the pointers that a type holds, those in mixed unions included.
 #![tactic(auto)]
 
 ghost use Rattle.std.specs.Prelude.{◌≡◌, ◌≢◌, ◌↔◌, ◌++◌, List, slice_get, IfOk, OnOk};

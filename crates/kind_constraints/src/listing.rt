@@ -1,3 +1,4 @@
+//! All constraints of a program, in their order.
 #![tactic(auto)]
 
 ghost use Rattle.std.specs.Prelude.{◌≡◌, ◌↔◌, [], IfOk, OnOk};
@@ -5,7 +6,6 @@ ghost use Rattle.cc_base.specs.declared.number.NodeId.{NodeId};
 ghost use Rattle.cc_base.specs.declared.number.TypeId.{TypeId};
 ghost use Rattle.cc_base.specs.declared.kind.Kind.{Kind};
 ghost use Rattle.c_types.specs.Table.{IsType};
-ghost use Rattle.c_types.specs.Flows.{by_number};
 ghost use Rattle.kind_solver.specs.Constraints.{AreWithin, MeetsAll, PlainApart};
 ghost use Rattle.cil_form.specs.Told.{IsToldOf, IsSolutionOf};
 ghost use Rattle.constraint_laws.specs.Given.{AreGiven};
@@ -20,9 +20,10 @@ use crate::below::pointees_of;
 use crate::sites::add_given;
 use crate::tops::equal_nodes;
 use crate::unions::union_places;
-use c_types::{Site, Types};
+use c_types::Types;
 use cc_base::{NoMemory, NodeId};
 use cil_form::Cil;
+use kind_sites::Site;
 use kind_solver::Constraint;
 use phys_types::Phys;
 use std::alloc::Global;
@@ -115,7 +116,7 @@ pub fn constraints(alloc: Global, code: &Cil, phys: &Phys) -> Result<Vec<Constra
     ensures within { IfOk result (λ list. AreWithin code.now.nodes list.items) }
     ensures members { IfOk result (λ list. AreGiven code.now.types code.now.sites list.items) }
     ensures solutions { (kind : NodeId → Kind) → IfOk result
-        (λ list. MeetsAll (by_number kind) list.items ↔ IsSolutionOf code.now kind) }
+        (λ list. MeetsAll kind list.items ↔ IsSolutionOf code.now kind) }
     ensures apart { IfOk result (λ list. PlainApart list.items) }
 {
     let program = code.program();

@@ -1,3 +1,4 @@
+//! The constraints of one site.
 #![tactic(auto)]
 
 ghost use Rattle.std.specs.Prelude.{◌≡◌, ◌⊎◌, ℕ, OnOk, IsTrue};
@@ -11,8 +12,9 @@ ghost use Rattle.cil_form.specs.Shape.{IsSiteInShape};
 use crate::answered::{Answered, below_of, class_of};
 use crate::asked::Asked;
 use crate::contents::add_contents;
-use c_types::{Site, TypeShape, Types};
+use c_types::{TypeShape, Types};
 use cc_base::{NoMemory, NodeId, Place, TypeId};
+use kind_sites::Site;
 use kind_solver::{Constraint, Why};
 
 fn push(list: &mut Vec<Constraint>, constraint: Constraint) -> Result<(), NoMemory>

@@ -1,10 +1,11 @@
+//! The pairs of nodes that have to be of one kind, found from the sites on.
 #![tactic(auto)]
 
 ghost use Rattle.std.specs.Prelude.{◌≡◌, ◌↔◌, ℕ, Some, IfOk, OnOk, IsTrue};
 ghost use Rattle.std.specs.List.{Contains};
 ghost use Rattle.cc_base.specs.declared.number.NodeId.{NodeId};
 ghost use Rattle.cc_base.specs.declared.number.TypeId.{TypeId};
-ghost use Rattle.c_types.specs.declared.site.Site.TheVariants.{Same};
+ghost use Rattle.kind_sites.specs.declared.site.Site.TheVariants.{Same};
 ghost use Rattle.c_types.specs.Table.{IsType};
 ghost use Rattle.c_types.specs.Equality.{physically_equal};
 ghost use Rattle.phys_types.specs.Found.{Gains};
@@ -17,9 +18,9 @@ ghost use Rattle.kind_constraints.specs.Asked.{IsReady, AreTold, IsAnswered};
 use crate::answered::{Answered, class_of};
 use crate::asked::Asked;
 use crate::unions::add_union;
-use c_types::Site;
 use cc_base::{NoMemory, NodeId, TypeId};
 use indexmap::IndexSet;
+use kind_sites::Site;
 use phys_types::Found;
 use std::alloc::Global;
 

@@ -1,3 +1,4 @@
+//! The unions at sites, and the pointers at like places of the members of a union that isn't mixed.
 #![tactic(auto)]
 
 ghost use Rattle.std.specs.Prelude.{◌≡◌, [], Some, OnOk, IfOk, IfNone, IfSome};
@@ -6,14 +7,15 @@ ghost use Rattle.cc_base.specs.declared.place.Place.{Place};
 ghost use Rattle.c_types.specs.Table.{IsType, IsComplete, IsUnion, members_at};
 ghost use Rattle.c_types.specs.Layouts.{size_of};
 ghost use Rattle.c_types.specs.PointerCounts.{larger};
-ghost use Rattle.c_types.specs.Solutions.{HoldsMixed, IsLargest};
+ghost use Rattle.c_types.specs.Contents.{HoldsMixed, IsLargest};
 ghost use Rattle.c_types.specs.Sound.{IsWellFormed};
 ghost use Rattle.phys_types.specs.Found.{Gains};
 ghost use Rattle.kind_constraints.specs.Adding.{Adds};
 ghost use Rattle.kind_constraints.specs.Pieces.{AreUnionPlaces, StandInUnion, union_place_of};
 
-use c_types::{Site, Types};
+use c_types::Types;
 use cc_base::{NoMemory, Place, TypeId};
+use kind_sites::Site;
 use phys_types::{Found, Known};
 use std::alloc::Global;
 

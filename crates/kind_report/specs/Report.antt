@@ -1,5 +1,6 @@
 use Rattle.std.specs.Prelude.{ℕ, Bool, true, false, List, [], ◌∷◌, ◌++◌, Option, None, Some, IsSome, codes, slice_index_or, All, ◌⊎◌, ◌≡◌, ◌<◌}
 use Rattle.std.specs.List.{flat_map, count_by}
+use Rattle.cc_base.specs.Kinds.{kind_at, same_kind}
 use Rattle.cc_base.specs.Names.{kind_name}
 use Rattle.cc_base.specs.Places.{place_text}
 use Rattle.cc_base.specs.declared.kind.Kind.{Kind}
@@ -37,9 +38,6 @@ abbrev pub line_by : Bool → Printed → Kind → Option Cause → List ℕ
 line_by true p kind cause = home_line p kind cause
 line_by false p kind cause = line_text p (codes " pointer ") kind cause
 
-abbrev pub kind_at : List Kind → NodeId → Kind
-kind_at kinds node = slice_index_or kinds node.0 Safe
-
 abbrev pub cause_at : List (Option Cause) → NodeId → Option Cause
 cause_at causes node = slice_index_or causes node.0 None
 
@@ -58,19 +56,12 @@ AreWithin count printed = All (λ p. p.node.0 < count) printed
 abbrev pub HaveCauses : List Kind → List (Option Cause) → List Printed → Type 0
 HaveCauses kinds causes printed = All (λ p. (kind_at kinds p.node ≡ Safe) ⊎ IsSome (cause_at causes p.node)) printed
 
-abbrev pub is_kind : Kind → Kind → Bool
-is_kind Safe Safe = true
-is_kind Seq Seq = true
-is_kind Rtti Rtti = true
-is_kind Wild Wild = true
-is_kind k l = false
-
 abbrev pub pointer_by : Bool → Bool → Bool
 pointer_by true same = false
 pointer_by false same = same
 
 abbrev pub is_pointer_of : List Kind → Kind → Printed → Bool
-is_pointer_of kinds kind p = pointer_by p.home (is_kind kind (kind_at kinds p.node))
+is_pointer_of kinds kind p = pointer_by p.home (same_kind kind (kind_at kinds p.node))
 
 -- how many pointer types of the text are of a kind
 abbrev pub pointers_of : List Kind → Kind → List Printed → ℕ

@@ -1,11 +1,12 @@
 use Rattle.std.proofs.Common.{ℕ, List, Option, None, Some, ◌≡◌, ◌<◌, refl, sym, ap, subst, ◌∙◌, arith}
 use Rattle.std.proofs.lemmas.Option.{same_Some}
+use Rattle.cc_base.specs.Kinds.{kind_at}
 use Rattle.cc_base.specs.declared.kind.Kind.{Kind}
 use Rattle.kind_solver.specs.declared.cause.Cause.{Cause}
 use Rattle.kind_solver.specs.declared.constraint.Constraint.{Constraint}
 use Rattle.kind_solver.specs.Constraints.{AreWithin, PlainApart, MeetsAll}
 use Rattle.kind_solver.specs.Order.{rank, ComesBefore}
-use Rattle.kind_solver.specs.Sets.{Holds, WildFrom, NeedFrom, TypeFrom, HasKind, HasCause, kind_at, AreKinds, AreCauses, HasLeastWild}
+use Rattle.kind_solver.specs.Sets.{Holds, WildFrom, NeedFrom, TypeFrom, HasKind, HasCause, AreKinds, AreCauses, HasLeastWild}
 use Rattle.kind_solver.specs.Tables.{Table, entry, Shows, kind_from, cause_from, ReadsOff}
 use Rattle.kind_solver.proofs.Least.{wild_at_least}
 use Rattle.kind_solver.proofs.Meeting.{has_wild, meets_all}
@@ -51,7 +52,8 @@ pub are_kinds : (list : List Constraint) (count : ℕ) (wild needs types : Table
     → ReadsOff wild needs types count kinds causes → AreKinds list count kinds
 are_kinds list count wild needs types kinds causes sw ss st r = record {
   len = r.kinds_len;
-  each = λ n within.
+  each = λ node within.
+      let n : ℕ = node.0 in
       subst (λ k. HasKind list n k) (sym (r.kind n within))
       (has_kind list n (entry wild n) (entry needs n) (entry types n) (says (WildFrom list) count n wild sw within)
       (says (NeedFrom list) count n needs ss within) (says (TypeFrom list) count n types st within));
@@ -62,7 +64,8 @@ pub are_causes : (list : List Constraint) (count : ℕ) (wild needs types : Tabl
     → ReadsOff wild needs types count kinds causes → AreCauses list count kinds causes
 are_causes list count wild needs types kinds causes sw ss st r = record {
   len = r.causes_len;
-  each = λ n within.
+  each = λ node within.
+      let n : ℕ = node.0 in
       subst (λ k. HasCause list n k (entry causes n)) (sym (r.kind n within))
       (subst (λ o. HasCause list n (kind_from (entry wild n) (entry needs n) (entry types n)) o) (sym (r.cause n within))
       (has_cause list n (entry wild n) (entry needs n) (entry types n) (says (WildFrom list) count n wild sw within)
@@ -72,7 +75,7 @@ are_causes list count wild needs types kinds causes sw ss st r = record {
 -- No map that meets the list has fewer WILD nodes.
 pub least : (list : List Constraint) (count : ℕ) (kinds : List Kind) → AreKinds list count kinds → HasLeastWild list count kinds
 least list count kinds h k meets n within e =
-    let wild = has_wild list n (kind_at kinds n) (h.each n within) e in
+    let wild = has_wild list n.0 (kind_at kinds n) (h.each n within) e in
     wild_at_least k list meets n wild.0 wild.1
 
 pub meets : (list : List Constraint) (count : ℕ) (kinds : List Kind) → AreWithin count list → AreKinds list count kinds

@@ -1,8 +1,10 @@
 use Rattle.std.proofs.Common.{ℕ, zero, suc, List, Option, None, Some, ◌≡◌, ◌<◌, Contains, refl, sym, ap, subst, ◌∙◌, get_or, inl, inr}
 use Rattle.std.proofs.lemmas.List.{ext_get_or}
 use Rattle.std.proofs.lemmas.Bool.{cases_order}
+use Rattle.cc_base.specs.Kinds.{kind_at}
 use Rattle.cc_base.specs.declared.kind.Kind.{Kind}
 use Rattle.cc_base.specs.declared.kind.Kind.TheVariants.{Safe, Seq, Rtti, Wild}
+use Rattle.cc_base.specs.declared.number.NodeId.{NodeId}
 use Rattle.kind_solver.specs.declared.cause.Cause.{Cause}
 use Rattle.kind_solver.specs.declared.constraint.Why.{Why}
 use Rattle.kind_solver.specs.declared.constraint.Why.TheVariants.{Arith, Integer, Down, Tile, Bad, Union}
@@ -15,7 +17,7 @@ use Rattle.kind_solver.specs.declared.gathering.Start.TheVariants as start
 use Rattle.kind_solver.specs.Order.{why_order, ComesBefore}
 use Rattle.kind_solver.specs.Constraints.{HaveSameMembers}
 use Rattle.kind_solver.specs.Chains.{edge, origin, edges_of, origins_of, edges, origins, Path, Leads}
-use Rattle.kind_solver.specs.Sets.{Holds, FirstNeedFrom, TurnsWild, WildFrom, RisesFrom, IsFree, StartsNeed, NeedFrom, TypeFrom, ChainTo, HasKind, HasCause, kind_at, AreKinds, AreCauses}
+use Rattle.kind_solver.specs.Sets.{Holds, FirstNeedFrom, TurnsWild, WildFrom, RisesFrom, IsFree, StartsNeed, NeedFrom, TypeFrom, ChainTo, HasKind, HasCause, AreKinds, AreCauses}
 use Rattle.kind_solver.proofs.Members.{into_flat_map, from_flat_map}
 use Rattle.kind_solver.proofs.Solution.{same_kinds}
 
@@ -82,9 +84,10 @@ one_table list count kinds others h g =
     ext_get_or Safe kinds others (h.len ∙ sym g.len)
     (λ n within.
     let inside : n < count = subst (λ m. n < m) h.len within in
-    same_kinds list n n (kind_at kinds n) (kind_at others n)
+    let node : NodeId = record { 0 = n } in
+    same_kinds list n n (kind_at kinds node) (kind_at others node)
     (record { wild_on = λ w. w; wild_back = λ w. w; need_on = λ w. w; need_back = λ w. w; type_on = λ w. w; type_back = λ w. w })
-    (h.each n inside) (g.each n inside))
+    (h.each node inside) (g.each node inside))
 
 pub one_table_of_causes : (list : List Constraint) (count : ℕ) (kinds : List Kind) (causes others : List (Option Cause))
     → AreCauses list count kinds causes → AreCauses list count kinds others → causes ≡ others
@@ -92,7 +95,8 @@ one_table_of_causes list count kinds causes others h g =
     ext_get_or None causes others (h.len ∙ sym g.len)
     (λ n within.
     let inside : n < count = subst (λ m. n < m) h.len within in
-    one_cause list n (kind_at kinds n) (get_or causes n None) (get_or others n None) (h.each n inside) (g.each n inside))
+    let node : NodeId = record { 0 = n } in
+    one_cause list n (kind_at kinds node) (get_or causes n None) (get_or others n None) (h.each node inside) (g.each node inside))
 
 -- The order of the constraints does not matter.
 
@@ -202,7 +206,7 @@ pub kinds_kept : (l m : List Constraint) (count : ℕ) (kinds : List Kind) → H
     → AreKinds m count kinds
 kinds_kept l m count kinds same h = record {
   len = h.len;
-  each = λ n inside. kind_kept l m (λ c. (same c).0) (λ c. (same c).1) n (kind_at kinds n) (h.each n inside);
+  each = λ n inside. kind_kept l m (λ c. (same c).0) (λ c. (same c).1) n.0 (kind_at kinds n) (h.each n inside);
 }
 
 pub causes_kept : (l m : List Constraint) (count : ℕ) (kinds : List Kind) (causes : List (Option Cause)) → HaveSameMembers l m
@@ -210,5 +214,5 @@ pub causes_kept : (l m : List Constraint) (count : ℕ) (kinds : List Kind) (cau
 causes_kept l m count kinds causes same h = record {
   len = h.len;
   each = λ n inside.
-      cause_kept l m (λ c. (same c).0) (λ c. (same c).1) n (kind_at kinds n) (get_or causes n None) (h.each n inside);
+      cause_kept l m (λ c. (same c).0) (λ c. (same c).1) n.0 (kind_at kinds n) (get_or causes n.0 None) (h.each n inside);
 }

@@ -1,5 +1,6 @@
 use Rattle.std.proofs.Common.{ℕ, List, [], ◌∷◌, ◌≡◌, ◌⊎◌, ◌<◌, Contains, refl, inl, inr}
 use Rattle.std.proofs.lemmas.List.Elements.{All-contains}
+use Rattle.cc_base.specs.declared.number.NodeId.{NodeId}
 use Rattle.cc_base.specs.declared.kind.Kind.{Kind}
 use Rattle.cc_base.specs.declared.kind.Kind.TheVariants.{Safe, Seq, Rtti, Wild}
 use Rattle.kind_solver.specs.declared.constraint.Constraint.{Constraint}
@@ -38,38 +39,38 @@ plain_kind list n Safe h needs types = inl refl
 plain_kind list n Seq h needs types = absurd (h.0 (needs h.1))
 plain_kind list n Rtti h needs types = absurd (h.0 (types h.2))
 
-pub meets_one : (list : List Constraint) (count : ℕ) (k : ℕ → Kind) → ((n : ℕ) → n < count → HasKind list n (k n))
+pub meets_one : (list : List Constraint) (count : ℕ) (k : NodeId → Kind) → ((n : NodeId) → n.0 < count → HasKind list n.0 (k n))
     → PlainApart list → (c : Constraint) → Contains list c → IsWithin count c → Meets k c
 meets_one list count k has apart (Flow from to class below place) within nodes =
-    flow_allowed list from.0 to.0 class below (k from.0) (k to.0) (flow_says list from to class below place within)
-    (has from.0 nodes.0) (has to.0 nodes.1)
+    flow_allowed list from.0 to.0 class below (k from) (k to) (flow_says list from to class below place within)
+    (has from nodes.0) (has to nodes.1)
 meets_one list count k has apart (Needs node why place) within nodes =
-    may_move list node.0 (k node.0) (has node.0 nodes)
+    may_move list node.0 (k node) (has node nodes)
     (need_start list (Needs node why place) node.0 (record { site = place; why = why }) within
     (Contains-head (origin node.0 (record { site = place; why = why })) []))
 meets_one list count k has apart (Equal a b) within nodes =
-    same_kinds list a.0 b.0 (k a.0) (k b.0) (equal_sets list a b within) (has a.0 nodes.0) (has b.0 nodes.1)
+    same_kinds list a.0 b.0 (k a) (k b) (equal_sets list a b within) (has a nodes.0) (has b nodes.1)
 meets_one list count k has apart (Inside outer inner) within nodes = λ e.
-    is_wild list inner.0 (k inner.0) (has inner.0 nodes.1)
+    is_wild list inner.0 (k inner) (has inner nodes.1)
     (wild_step list (Inside outer inner) outer.0 inner.0 within (Contains-head (edge outer.0 inner.0) [])
-    (has_wild list outer.0 (k outer.0) (has outer.0 nodes.0) e))
+    (has_wild list outer.0 (k outer) (has outer nodes.0) e))
 meets_one list count k has apart (Linked a b) within nodes = (
-  (λ e. is_wild list b.0 (k b.0) (has b.0 nodes.1)
+  (λ e. is_wild list b.0 (k b) (has b nodes.1)
       (wild_step list (Linked a b) a.0 b.0 within (Contains-head (edge a.0 b.0) (edge b.0 a.0 ∷ []))
-      (has_wild list a.0 (k a.0) (has a.0 nodes.0) e))),
-  (λ e. is_wild list a.0 (k a.0) (has a.0 nodes.0)
+      (has_wild list a.0 (k a) (has a nodes.0) e))),
+  (λ e. is_wild list a.0 (k a) (has a nodes.0)
       (wild_step list (Linked a b) b.0 a.0 within
       (Contains-tail (edge a.0 b.0) (edge b.0 a.0) (edge b.0 a.0 ∷ []) (Contains-head (edge b.0 a.0) []))
-      (has_wild list b.0 (k b.0) (has b.0 nodes.1) e))),
+      (has_wild list b.0 (k b) (has b nodes.1) e))),
 )
 meets_one list count k has apart (Force node why place) within nodes =
-    is_wild list node.0 (k node.0) (has node.0 nodes)
+    is_wild list node.0 (k node) (has node nodes)
     (wild_start list (Force node why place) node.0 (record { site = place; why = why }) within
     (Contains-head (origin node.0 (record { site = place; why = why })) []))
 meets_one list count k has apart (Plain node) within nodes =
-    plain_kind list node.0 (k node.0) (has node.0 nodes) (plain_needs list apart node.0 within) (plain_types list apart node.0 within)
+    plain_kind list node.0 (k node) (has node nodes) (plain_needs list apart node.0 within) (plain_types list apart node.0 within)
 
-pub meets_all : (list : List Constraint) (count : ℕ) (k : ℕ → Kind) → AreWithin count list
-    → ((n : ℕ) → n < count → HasKind list n (k n)) → PlainApart list → MeetsAll k list
+pub meets_all : (list : List Constraint) (count : ℕ) (k : NodeId → Kind) → AreWithin count list
+    → ((n : NodeId) → n.0 < count → HasKind list n.0 (k n)) → PlainApart list → MeetsAll k list
 meets_all list count k nodes has apart c within =
     meets_one list count k has apart c within (All-contains (IsWithin count) list c nodes within)

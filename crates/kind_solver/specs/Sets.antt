@@ -1,6 +1,8 @@
 use Rattle.std.specs.Prelude.{ℕ, List, Option, None, Some, Contains, length, slice_index_or, ◌≡◌, ◌<◌, ◌⊎◌}
+use Rattle.cc_base.specs.Kinds.{kind_at}
 use Rattle.cc_base.specs.declared.kind.Kind.{Kind}
 use Rattle.cc_base.specs.declared.kind.Kind.TheVariants.{Safe, Seq, Rtti, Wild}
+use Rattle.cc_base.specs.declared.number.NodeId.{NodeId}
 use Rattle.kind_solver.specs.declared.cause.Cause.{Cause}
 use Rattle.kind_solver.specs.declared.constraint.Constraint.{Constraint}
 use Rattle.kind_solver.specs.declared.gathering.Pass.TheVariants as pass
@@ -88,21 +90,17 @@ HasCause list n kind None = kind ≡ Safe
 HasCause list n kind (Some c) =
     ChainTo list kind c n × ((d : Cause) → ChainTo list kind d n → ¬ (ComesBefore d c))
 
--- a table of kinds as a map
-abbrev pub kind_at : List Kind → ℕ → Kind
-kind_at kinds n = slice_index_or kinds n Safe
-
 -- The table has the kind of each of the nodes.
 pub record AreKinds (list : List Constraint) (count : ℕ) (kinds : List Kind) : Type 0 where
   pub len : length kinds ≡ count
-  pub each : (n : ℕ) → n < count → HasKind list n (kind_at kinds n)
+  pub each : (n : NodeId) → n.0 < count → HasKind list n.0 (kind_at kinds n)
 
 -- The table has the cause of each of the nodes.
 pub record AreCauses (list : List Constraint) (count : ℕ) (kinds : List Kind) (causes : List (Option Cause)) : Type 0 where
   pub len : length causes ≡ count
-  pub each : (n : ℕ) → n < count → HasCause list n (kind_at kinds n) (slice_index_or causes n None)
+  pub each : (n : NodeId) → n.0 < count → HasCause list n.0 (kind_at kinds n) (slice_index_or causes n.0 None)
 
 -- Every map that meets the list has WILD wherever these kinds have it.
 abbrev pub HasLeastWild : List Constraint → ℕ → List Kind → Type 0
 HasLeastWild list count kinds =
-    (k : ℕ → Kind) → MeetsAll k list → (n : ℕ) → n < count → kind_at kinds n ≡ Wild → k n ≡ Wild
+    (kind : NodeId → Kind) → MeetsAll kind list → (n : NodeId) → n.0 < count → kind_at kinds n ≡ Wild → kind n ≡ Wild

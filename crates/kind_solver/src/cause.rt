@@ -1,3 +1,4 @@
+//! Why a node is of its kind, and which of two causes is the first.
 #![tactic(auto)]
 
 ghost use Rattle.std.specs.Prelude.{◌≡◌, ◌<◌, ◌↔◌, IsTrue};

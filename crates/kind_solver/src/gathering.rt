@@ -1,3 +1,4 @@
+//! The steps and the beginnings of derivations that a list of constraints gives.
 #![tactic(auto)]
 
 ghost use Rattle.std.specs.Prelude.{◌≡◌, ◌++◌, IfOk, OnOk, All};

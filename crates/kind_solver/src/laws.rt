@@ -1,3 +1,4 @@
+//! What holds of every list of constraints: one answer, whatever its order.
 #![tactic(auto)]
 
 ghost use Rattle.std.specs.Prelude.{ℕ, List, Option, ◌≡◌};

@@ -1,3 +1,4 @@
+//! The three sets that the kinds are read off, each with its first causes.
 #![tactic(auto)]
 
 ghost use Rattle.std.specs.Prelude.{◌≡◌, ◌++◌, ◌<◌, IfOk, OnOk, length, filter};

@@ -1,3 +1,4 @@
+//! The answer of the solver.
 #![tactic(auto)]
 
 use crate::causes::Causes;

@@ -1,10 +1,12 @@
+//! The solver.
 #![tactic(auto)]
 
-ghost use Rattle.std.specs.Prelude.{ℕ, ◌≡◌, ◌<◌, IfOk, length};
+ghost use Rattle.std.specs.Prelude.{◌≡◌, ◌<◌, IfOk, length};
+ghost use Rattle.cc_base.specs.Kinds.{kind_at};
 ghost use Rattle.cc_base.specs.declared.kind.Kind.{Kind};
 ghost use Rattle.cc_base.specs.declared.kind.Kind.TheVariants.{Wild};
 ghost use Rattle.kind_solver.specs.Constraints.{AreWithin, PlainApart, MeetsAll};
-ghost use Rattle.kind_solver.specs.Sets.{AreKinds, AreCauses, HasLeastWild, kind_at};
+ghost use Rattle.kind_solver.specs.Sets.{AreKinds, AreCauses, HasLeastWild};
 ghost use Rattle.kind_solver.specs.Tables.{ReadsOff};
 ghost use Rattle.kind_solver.specs.Tables as table;
 

@@ -1,3 +1,4 @@
+//! First causes, spread along the steps of a derivation.
 #![tactic(auto)]
 
 ghost use Rattle.std.specs.Prelude.{ℕ, ◌≡◌, ◌<◌, ◌≤◌, IfOk, length, MatchBool, sum_by};

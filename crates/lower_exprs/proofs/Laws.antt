@@ -1,5 +1,5 @@
 -- How drafts grow.
-use Rattle.std.proofs.Common.{◌≡◌, refl, ap, sym, subst, ◌∙◌, zero, ◌+◌, ◌<◌, ◌≤◌, min, map, fold, take, get_or, length, add-one, arith, length-take, ℕ, suc, Bool, true, false, List, [], ◌∷◌, ◌++◌, append_assoc, append-nil, Some}
+use Rattle.std.proofs.Common.{◌≡◌, refl, ap, sym, subst, ◌∙◌, ◌+◌, ◌<◌, map, fold, take, get_or, length, add-one, arith, length-take, ℕ, Bool, true, false, List, [], ◌∷◌, ◌++◌, append_assoc, append-nil, Some}
 use Rattle.cil_form.specs.declared.number.Temp.{Temp}
 use Rattle.cil_form.specs.declared.instr.Instr.{Instr}
 use Rattle.cil_form.specs.declared.instr.Instr.TheVariants as instr
@@ -11,14 +11,15 @@ use Rattle.c_tree.specs.TypedTree as typed
 use Rattle.c_tree.specs.TypedTree.{TypedExpr, TypedPlace, TypedArguments}
 use Rattle.c_tree.specs.TypedViews.{typed_expr_view, typed_arguments_of}
 use Rattle.c_tree.specs.declared.typed_expr.TypedExpr.{TypedExpr as CodeExpr}
+use Rattle.c_tree.proofs.ListLaws.{with_one}
 use Rattle.lower_rules.specs.Pieces.{Form, Line, Then, Choice, When}
-use Rattle.lower_rules.specs.Words.{Context, value, LogicalOf, Truth, Objects, object_in, Follows, comparison_of}
+use Rattle.lower_rules.specs.Words.{Context, value, LogicalOf, Truth, Objects, object_in, Follows}
 use Rattle.lower_rules.specs.Expressions.{IsCodeOf, IsCodeOfPlace, IsCodeOfArguments, IsFixed, node_in_place, count}
 use Rattle.lower_rules.specs.declared.after.After.{After}
 use Rattle.lower_rules.specs.declared.after.After.TheVariants as after
 use Rattle.lower_exprs.specs.declared.draft.Draft.{Draft}
 use Rattle.lower_exprs.specs.Drafts.{Grows, Starts, Chosen, Decided, AreBothReady, Fixed, Numbered, numbered}
-use Rattle.lower_exprs.specs.Ready.{HasCode, HasCodeOfPlace, HaveCode, HasRoom, HasObject}
+use Rattle.lower_exprs.specs.Ready.{HasCode, HasCodeOfPlace, HaveCode}
 
 -- one instruction is appended
 pub grows_one : (one : Instr) (a b : Draft)
@@ -261,12 +262,6 @@ grows_side p k n what S a b c f g =
     numbered-code n (λ m. IsCodeOfPlace p k m (Follows what m)) (λ m. HasCodeOfPlace p k m S) a b c f g
 
 -- Arguments
-
-with_one : {X Y A : Type 0} (add : A → Y → A) (view : X → Y) (xs : List X) (i : ℕ) (x : X) → i < length xs → x ≡ get_or xs i x
-    → (a : A) → fold add a (map view (take (suc i) xs)) ≡ add (fold add a (map view (take i xs))) (view x)
-with_one add view [] i x within at a = absurd (omega arith)
-with_one add view (y ∷ ys) zero x within at a = ap (λ z. add a (view z)) (sym at)
-with_one add view (y ∷ ys) (suc i) x within at a = with_one add view ys i x (omega arith) at (add a (view y))
 
 counted : (a : TypedArguments) (es : List CodeExpr) → count (fold typed.AndArgument a (map typed_expr_view es)) ≡ count a + length es
 counted a [] = omega arith

@@ -2,13 +2,14 @@
 ghost use Rattle.std.specs.Prelude.{◌≡◌, ◌<◌, suc, pos, IfSome, IfNone, Some, None, [], ◌∷◌, true, IsTrue, ◌↔◌};
 ghost use Rattle.c_types.specs.Table.{shape_at};
 ghost use Rattle.c_typing.specs.KindViews.{kind_view};
+ghost use Rattle.c_tree.specs.Arithmetic.{operator_of};
 ghost use Rattle.c_tree.specs.TypedParts.{is_null, type_of};
 ghost use Rattle.c_tree.specs.TypedViews.{typed_expr_view};
 ghost use Rattle.cil_form.specs.declared.instr.Instr.TheVariants as instr;
 ghost use Rattle.cil_form.specs.declared.instr.Set.TheVariants as set;
 ghost use Rattle.cil_form.specs.declared.instr.Calculate.TheVariants as calculate;
 ghost use Rattle.cil_form.specs.declared.instr.Point.TheVariants as point;
-ghost use Rattle.src_machine.specs.Expressions.{is_or, is_different, is_subtract, operator_of, operator_of_step, operator_of_assignment};
+ghost use Rattle.src_machine.specs.Expressions.{is_or, is_different, is_subtract, operator_of_step, operator_of_assignment};
 ghost use Rattle.src_mem.specs.Operations.{integer_of_shape};
 ghost use Rattle.lower_rules.specs.Pieces.{Line};
 ghost use Rattle.lower_rules.specs.Words.{value, constant, lowered, lowered_assignment, lowered_step, direction_of, comparison_of, ComparesBy, Constant, Truth, Prefixes, Calculates, Moves, Compares, Converts, Objects};

@@ -1,5 +1,5 @@
 -- How drafts grow by declarators, items and bytes.
-use Rattle.std.proofs.Common.{◌≡◌, ap, sym, subst, ◌∙◌, zero, ◌+◌, ◌<◌, add-one, map, take, get_or, length, arith, ℕ, suc, true, false, List, [], ◌∷◌, ◌++◌, append-nil, append_assoc, pos, Some, ◌^◌}
+use Rattle.std.proofs.Common.{◌≡◌, ap, sym, subst, ◌∙◌, zero, ◌+◌, ◌<◌, add-one, map, take, get_or, length, arith, ℕ, suc, false, List, [], ◌∷◌, ◌++◌, append-nil, append_assoc, pos, Some, ◌^◌}
 use Rattle.cc_base.specs.declared.number.NodeId.{NodeId}
 use Rattle.cc_base.specs.declared.number.TypeId.{TypeId}
 use Rattle.cc_base.specs.declared.place.Place.{Place}
@@ -7,10 +7,9 @@ use Rattle.c_tree.specs.Views.{added}
 use Rattle.c_tree.specs.TypedTree as typed
 use Rattle.c_tree.specs.TypedTree.{TypedInitialiser, TypedItems}
 use Rattle.c_tree.specs.TypedParts.{item_place}
-use Rattle.c_tree.specs.TypedStatementViews.{typed_init_declarator_view, typed_initialiser_view, typed_item_view}
+use Rattle.c_tree.specs.TypedStatementViews.{typed_init_declarator_view}
 use Rattle.c_tree.specs.declared.typed_statement.TypedInitDeclarator.{TypedInitDeclarator}
-use Rattle.c_tree.specs.declared.typed_statement.TypedItem.{TypedItem as CodeItem, out-TypedItem, roll-out-TypedItem}
-use Rattle.c_tree.proofs.TypedStatementViewLaws.{seen-TypedItem}
+use Rattle.c_tree.proofs.ListLaws.{one_more}
 use Rattle.cil_form.specs.declared.instr.Access.TheVariants as access
 use Rattle.cil_form.specs.declared.instr.Instr.{Instr}
 use Rattle.cil_form.specs.declared.instr.Instr.TheVariants as instr
@@ -50,13 +49,6 @@ pub grows_missing : (P : Form) (H R : Type 0) (a b : Draft) → (H → ⊥) → 
 unfolding Grows
 grows_missing P H R a b never f = ((λ fine. cc), λ r e. absurd (never r.0))
 
--- one item more
-pub one_more : {X A : Type 0} (view : X → A → A) (xs : List X) (i : ℕ) (x : X) (a : A) → i < length xs → x ≡ get_or xs i x
-    → added a (map view (take (suc i) xs)) ≡ view x (added a (map view (take i xs)))
-one_more view [] i x a within at = absurd (omega arith)
-one_more view (y ∷ ys) zero x a within at = ap (λ z. view z a) (sym at)
-one_more view (y ∷ ys) (suc i) x a within at = one_more view ys i x (view y a) (omega arith) at
-
 pub more_declarators : (ds : List TypedInitDeclarator) (i : ℕ) (d : TypedInitDeclarator) (k : Context) (a c : Draft)
     → i < length ds → d ≡ get_or ds i d
     → Grows (IsCodeOfDeclarators (typed_init_declarator_view d (added typed.NoInitDeclarator (map typed_init_declarator_view (take i ds)))) k)
@@ -66,16 +58,10 @@ pub more_declarators : (ds : List TypedInitDeclarator) (i : ℕ) (d : TypedInitD
 more_declarators ds i d k a c within at f =
     let law : added typed.NoInitDeclarator (map typed_init_declarator_view (take (i + 1) ds))
     ≡ typed_init_declarator_view d (added typed.NoInitDeclarator (map typed_init_declarator_view (take i ds)))
-    = rw add-one (one_more typed_init_declarator_view ds i d typed.NoInitDeclarator within at) in
+    = one_more typed_init_declarator_view ds i d within at typed.NoInitDeclarator in
     subst (λ all. Grows (IsCodeOfDeclarators all k) (HasCodeOfDeclarators all k) a c) (sym law) f
 
 -- Items
-
-pub of_item : (one : CodeItem) (all : TypedItems)
-    → typed_item_view one all ≡ typed.AndItem all (out-TypedItem one).offset (out-TypedItem one).ty (typed_initialiser_view (out-TypedItem one).initialiser)
-of_item one all =
-    ap (λ (v : CodeItem). typed_item_view v all) (sym (roll-out-TypedItem one))
-    ∙ ap (λ (add : TypedItems → TypedItems). add all) (seen-TypedItem (out-TypedItem one).offset (out-TypedItem one).ty (out-TypedItem one).initialiser)
 
 -- at a number, where it is one of those that there are
 grows_at : (n c : ℕ) (P : ℕ → Form) (R : ℕ → Type 0) (A : Type 0) (a b d : Draft)

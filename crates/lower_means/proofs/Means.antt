@@ -3,6 +3,7 @@ use Rattle.std.proofs.Common.{ℕ, suc, ◌+◌, refl, pos, true, false, List, [
 use Rattle.cc_base.specs.declared.number.NodeId.{NodeId}
 use Rattle.runs.specs.Outcome.{done, from, ◌>>=◌}
 use Rattle.integers.specs.Arithmetic.{truth}
+use Rattle.c_tree.specs.Arithmetic.{operator_of}
 use Rattle.c_tree.specs.TypedTree as typed
 use Rattle.c_tree.specs.TypedTree.{TypedExpr, TypedPlace, TypedArguments}
 use Rattle.c_tree.specs.TypedParts.{type_of, place_type, named_type, pointer_side, place_at, is_null}
@@ -12,7 +13,7 @@ use Rattle.src_mem.specs.Operations.{node_in, pointee}
 use Rattle.src_mem.specs.Values.{loaded, decayed_value, addressed, member_value, difference_value, allocated}
 use Rattle.runtime_calls.specs.Meanings.{call_runtime, call_allocation}
 use Rattle.src_machine.specs.World.{World}
-use Rattle.src_machine.specs.Expressions.{Where, eval, eval_all, locate, locate_object, is_through_pointer, is_or, is_pointer_in, is_subtract, operator_of, operator_of_step, operator_of_assignment, moved_by_side, prefixed, converted_value}
+use Rattle.src_machine.specs.Expressions.{Where, eval, eval_all, locate, locate_object, is_through_pointer, is_or, is_pointer_in, is_subtract, operator_of_step, operator_of_assignment, moved_by_side, prefixed, converted_value}
 use Rattle.cil_form.specs.declared.instr.Set.TheVariants as set
 use Rattle.cil_form.specs.declared.instr.Calculate.TheVariants as calculate
 use Rattle.cil_form.specs.declared.instr.Point.TheVariants as point

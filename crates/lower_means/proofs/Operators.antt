@@ -2,6 +2,7 @@
 use Rattle.std.proofs.Common.{◌≡◌, refl, ap, Bool, true, false, Some, arith}
 use Rattle.std.proofs.lemmas.Bool.Decides.{nat_tests}
 use Rattle.cc_base.specs.declared.number.TypeId.{TypeId}
+use Rattle.c_tree.specs.Arithmetic.{operator_of}
 use Rattle.c_tree.specs.declared.operator.Assignment.{Assignment}
 use Rattle.c_tree.specs.declared.operator.Assignment.TheVariants as assignment
 use Rattle.c_tree.specs.declared.operator.Binary.{Binary}
@@ -14,7 +15,7 @@ use Rattle.cil_form.specs.declared.instr.Comparison.TheVariants as comparison
 use Rattle.cil_form.specs.Meaning as code
 use Rattle.lower_rules.specs.Words.{lowered, lowered_assignment, lowered_step, direction_of, comparison_of}
 
-pub same-operator : (o : Binary) → code.operator_of (lowered o) ≡ source.operator_of o
+pub same-operator : (o : Binary) → code.operator_of (lowered o) ≡ operator_of o
 unfolding lowered
 same-operator binary.Multiply = refl
 same-operator binary.Divide = refl
@@ -62,7 +63,7 @@ same-direction false = refl
 pub same-type : (t : TypeId) → source.same_type t t ≡ true
 same-type t = grind (arith, nat_tests)
 
-pub same-comparison : (o : Binary) (c : Comparison) → comparison_of o ≡ Some c → code.operator_of_comparison c ≡ source.operator_of o
+pub same-comparison : (o : Binary) (c : Comparison) → comparison_of o ≡ Some c → code.operator_of_comparison c ≡ operator_of o
 unfolding comparison_of
 same-comparison binary.Less c h = let e : c ≡ comparison.Less = cc (h) in ap code.operator_of_comparison e
 same-comparison binary.Greater c h = let e : c ≡ comparison.Greater = cc (h) in ap code.operator_of_comparison e

@@ -5,7 +5,7 @@ use crate::code::put_code;
 use crate::pen::Pen;
 use crate::row::Row;
 use c_front::typed;
-use cc_base::Fault;
+use cc_base::{Fault, NoMemory};
 use cil_form::{Cil, Function, Parameter, Program, Static};
 use cil_lower::lower;
 use std::alloc::Global;
@@ -15,7 +15,10 @@ fn code_of(alloc: Global, text: &[u8]) -> Result<Cil, Fault>
     requires { length text.now ≤ 1048576 }
 {
     match typed(alloc, text) {
-        Ok(typed) => Ok(lower(alloc, &typed)?),
+        Ok(typed) => match lower(alloc, &typed) {
+            Ok(code) => Ok(code),
+            Err(NoMemory) => Err(Fault::NoMemory),
+        },
         Err(fault) => Err(fault),
     }
 }
@@ -75,6 +78,13 @@ fn put_program(pen: &mut Pen<'_>, program: &Program) {
     }
 }
 
+/// The code of a program as text.
+fn text_of(alloc: Global, program: &Program, has_nodes: bool) -> anyhow::Result<String> {
+    let mut pen = Pen::new(alloc, &program.types, has_nodes);
+    put_program(&mut pen, program);
+    pen.done()
+}
+
 /// The code of a row as text.
 pub(crate) fn written(alloc: Global, row: &Row) -> anyhow::Result<String> {
     let text = row.text.as_bytes();
@@ -82,12 +92,7 @@ pub(crate) fn written(alloc: Global, row: &Row) -> anyhow::Result<String> {
         return Ok(String::from_str(alloc, "too long")?);
     }
     match code_of(alloc, text) {
-        Ok(code) => {
-            let program = code.program();
-            let mut pen = Pen::new(alloc, &program.types, row.has_nodes());
-            put_program(&mut pen, program);
-            pen.done()
-        }
+        Ok(code) => text_of(alloc, code.program(), row.has_nodes()),
         Err(fault) => Ok(format!(in alloc; "{fault}")?),
     }
 }

@@ -1,11 +1,12 @@
 -- What the code of an expression and of a place is. The operands stand in values one after another, and the result comes into the first.
 use Rattle.std.specs.Prelude.{ℕ, suc, ◌+◌, pos, true, false, [], ◌∷◌}
 use Rattle.cc_base.specs.declared.number.NodeId.{NodeId}
+use Rattle.c_tree.specs.Arithmetic.{operator_of}
 use Rattle.c_tree.specs.TypedTree as typed
 use Rattle.c_tree.specs.TypedTree.{TypedExpr, TypedPlace, TypedArguments}
 use Rattle.c_tree.specs.TypedParts.{type_of, place_type, named_type, pointer_side, place_at, address_node, is_null}
 use Rattle.src_mem.specs.Operations.{node_at, pointee_at}
-use Rattle.src_machine.specs.Expressions.{is_through_pointer, is_subtract, operator_of, operator_of_assignment, is_or}
+use Rattle.src_machine.specs.Expressions.{is_through_pointer, is_subtract, operator_of_assignment, is_or}
 use Rattle.cil_form.specs.declared.instr.Set.TheVariants as set
 use Rattle.cil_form.specs.declared.instr.Calculate.TheVariants as calculate
 use Rattle.cil_form.specs.declared.instr.Point.TheVariants as point

@@ -1,3 +1,4 @@
+//! What waits for the address of a place.
 use c_tree::Step;
 use cc_base::{NodeId, Place, TypeId};
 use cil_form::Target;

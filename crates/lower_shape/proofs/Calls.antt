@@ -4,7 +4,7 @@ use Rattle.std.specs.List.{Contains, AllZip}
 use Rattle.cc_base.specs.declared.place.Place.{Place}
 use Rattle.cc_base.specs.declared.number.NodeId.{NodeId}
 use Rattle.cc_base.specs.declared.number.TypeId.{TypeId}
-use Rattle.c_types.specs.declared.site.Site.TheVariants as site
+use Rattle.kind_sites.specs.declared.site.Site.TheVariants as site
 use Rattle.c_types.specs.Table.{shape_at}
 use Rattle.integers.specs.Arithmetic.{IntegerType, int, unsigned_long}
 use Rattle.c_tree.specs.declared.typed_word.Runtime.{Runtime}

@@ -7,6 +7,7 @@ use Rattle.cc_base.specs.declared.number.NodeId.{NodeId}
 use Rattle.cc_base.specs.declared.number.TypeId.{TypeId}
 use Rattle.c_types.specs.Sound.{IsWellFormed}
 use Rattle.c_types.specs.Table.{Table, shape_at}
+use Rattle.c_tree.specs.Arithmetic.{operator_of}
 use Rattle.c_tree.specs.TypedTree as typed
 use Rattle.c_tree.specs.TypedTree.{TypedExpr, TypedPlace, TypedArguments}
 use Rattle.c_tree.specs.TypedParts as made
@@ -26,7 +27,7 @@ use Rattle.c_types.proofs.PointerCounts.{pointers_are}
 use Rattle.c_ready.proofs.CellsMoved.{cells-most, offsets-most}
 use Rattle.src_mem.specs.Operations.{pointee_at}
 use Rattle.src_mem.specs.Uses.{pointer_offsets}
-use Rattle.src_machine.specs.Expressions.{is_or, is_subtract, operator_of, operator_of_step, operator_of_assignment, is_through_pointer, same_type}
+use Rattle.src_machine.specs.Expressions.{is_or, is_subtract, operator_of_step, operator_of_assignment, is_through_pointer, same_type}
 use Rattle.cil_form.specs.declared.number.Temp.{Temp}
 use Rattle.cil_form.specs.declared.instr.Calculate.TheVariants as calculate
 use Rattle.cil_form.specs.declared.instr.Comparison.{Comparison}

@@ -6,9 +6,10 @@ use Rattle.cc_base.specs.declared.number.NodeId.{NodeId}
 use Rattle.cc_base.specs.declared.number.TypeId.{TypeId}
 use Rattle.c_types.specs.declared.shape.TypeShape.{TypeShape}
 use Rattle.c_types.specs.declared.shape.TypeShape.TheVariants as shape
-use Rattle.c_types.specs.declared.site.Site.TheVariants as site
+use Rattle.kind_sites.specs.declared.site.Site.TheVariants as site
 use Rattle.c_types.specs.Table.{HasShape, IsAggregate, shape_at}
 use Rattle.integers.specs.Arithmetic.{IntegerType, int, long, unsigned_long}
+use Rattle.c_tree.specs.Arithmetic.{operator_of}
 use Rattle.c_tree.specs.Erasure.{erased, erased_place, erased_arguments}
 use Rattle.c_tree.specs.Tree as tree
 use Rattle.c_tree.specs.TypedTree as typed
@@ -20,7 +21,7 @@ use Rattle.c_ready.specs.Rows as rule
 use Rattle.c_ready.specs.Ready.{Stage, IsReady, IsReadyPlace, AreReady, IsObjectOf, IsStepped, IsUpdated, MayCall, IsWhole}
 use Rattle.c_ready.proofs.Suits.{integer-from, scalar-in}
 use Rattle.c_typing.specs.Shapes.{is_scalar_shape}
-use Rattle.c_ready.specs.Rows.{pointer_behind, other_side}
+use Rattle.c_ready.specs.Rows.{pointer_behind}
 use Rattle.cil_form.specs.declared.number.Object.{Object}
 use Rattle.cil_form.specs.declared.number.Temp.{Temp}
 use Rattle.c_types.specs.Layouts.{member_at}
@@ -28,7 +29,7 @@ use Rattle.std.proofs.Common.{length}
 use Rattle.c_types.specs.Table.{is_aggregate_shape, members_at}
 use Rattle.c_tree.specs.declared.operator.Assignment.{Assignment}
 use Rattle.src_mem.specs.Operations.{node_at, pointee_at}
-use Rattle.src_machine.specs.Expressions.{is_or, is_pointer_shape, is_subtract, operator_of, operator_of_step, operator_of_assignment, is_through_pointer}
+use Rattle.src_machine.specs.Expressions.{is_or, is_pointer_shape, is_subtract, operator_of_step, operator_of_assignment, is_through_pointer}
 use Rattle.src_machine.specs.Pieces.{pieces_of, pieces_of_place, pieces_of_arguments, pieces_of_type_name, Piece, AnExpression, APlace}
 use Rattle.src_machine.specs.Sites.{sites_of_piece, addresses_at, address_at, moves_where_pointer}
 use Rattle.cil_form.specs.declared.instr.Set.TheVariants as set

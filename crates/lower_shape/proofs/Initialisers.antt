@@ -12,7 +12,7 @@ use Rattle.c_tree.specs.Erasure.{erased, erased_place, erased_initialiser, erase
 use Rattle.c_tree.specs.Tree as tree
 use Rattle.c_tree.specs.TypedTree as typed
 use Rattle.c_tree.specs.TypedTree.{TypedPlace, TypedInitialiser, TypedItems, TypedInitDeclarators, TypedDeclaration, TypedDeclarator}
-use Rattle.c_tree.specs.TypedParts.{type_of, place_type, place_at, item_place, home_of}
+use Rattle.c_tree.specs.TypedParts.{type_of, place_type, place_at, item_place, home_of, home_node}
 use Rattle.c_tree.specs.declared.typed_word.Home.{Home}
 use Rattle.c_tree.specs.declared.typed_word.Home.TheVariants as home
 use Rattle.c_typing.specs.Held.{held}
@@ -21,7 +21,6 @@ use Rattle.c_unit_typing.specs.Holding.{expr_holds, initialiser_holds, items_hol
 use Rattle.c_ready.specs.Rows.{items_count, is_only_text, is_char_array}
 use Rattle.c_ready.specs.Ready.{Stage, IsReadyInitialiser, AreReadyItems, AreReadyDeclarators, IsReadyDeclaration, IsReadyPlace, IsWhole, IsObjectOf, IsReadyHome, initialised_in}
 use Rattle.src_mem.specs.Operations.{integer_of_shape}
-use Rattle.src_machine.specs.Names.{object_node}
 use Rattle.src_machine.specs.Statements.{element_of_shape, clears}
 use Rattle.src_machine.specs.Pieces.{Piece, AnInitialiser, pieces_of_place, pieces_of_initialiser, pieces_of_items, pieces_of_declarator, pieces_of_init_declarators, pieces_of_declaration, pieces_of_specifiers}
 use Rattle.src_machine.specs.Sites.{copies_in, copies_in_items, copies_to, linked_to, addresses_at}
@@ -213,7 +212,7 @@ module _ (s : Stage) (f : Frame) (w : Knows s f) (b : ℕ) (kept : Typing) (n : 
   -- a local object is initialised where it is declared, and another before `main` begins
   by-home : (h : Home) (static : Stage) (t : TypeId) (at : Place) (i : TypedInitialiser) → s.runs ≡ true → IsReadyHome s h t
       → IsReadyInitialiser (initialised_in h s static) t i → Told s f (pieces_of_initialiser i)
-      → AreAmong f.sites (copies_to s.table (object_node h) i) → initialiser_holds (erased_initialiser i) ≤ 256
+      → AreAmong f.sites (copies_to s.table (home_node h) i) → initialiser_holds (erased_initialiser i) ≤ 256
       → AllDo K n (IsCodeOfDeclared h t at i (low s f))
   by-home (home.Local node) static t at i runs (number, complete, there) ready told copies m =
       object-initialised node t at i (number, complete, inl there) ready told copies m

@@ -8,14 +8,14 @@ use Rattle.cc_base.specs.declared.number.NodeId.{NodeId}
 use Rattle.cc_base.specs.declared.number.TypeId.{TypeId}
 use Rattle.c_types.specs.declared.shape.TypeShape.TheVariants as shape
 use Rattle.c_types.specs.declared.shape.TypeShape.{TypeShape}
-use Rattle.c_types.specs.declared.site.Site.TheVariants as site
+use Rattle.kind_sites.specs.declared.site.Site.TheVariants as site
 use Rattle.c_types.specs.Sound.{IsProper, IsIntegerSize}
 use Rattle.c_types.specs.Table.{Table, IsType, HasShape, named_by, is_function_shape}
 use Rattle.c_tree.specs.declared.leaf.Identifier.{Identifier}
 use Rattle.c_tree.specs.TypedTree.{TypedTranslationUnit}
 use Rattle.c_tree.specs.TypedParts as made
-use Rattle.c_tree.specs.TypedParts.{Made, MadeObject, ParameterObject, DefinedFunction, static_made, declared_type, name_of, parameters_of, locals_of, statics_of, functions_of, made_by_unit, nodes_made}
-use Rattle.c_ready.specs.Rows.{bytes_of_name}
+use Rattle.c_tree.specs.TypedParts.{Made, MadeObject, DefinedFunction, static_made, declared_type, statics_of, functions_of, made_by_unit}
+use Rattle.c_typing.specs.Declarators.{name_bytes}
 use Rattle.integers.specs.Arithmetic.{IntegerType, converted}
 use Rattle.c_ready.specs.Ready.{Stage, Named, IsNode, IsWhole, IsReadyUnit, IsReadyFunction, IsStaticNamed, IsObjectOf, IsFunctionNamed, IsFunctionDeclared, static_stage, literal_named, made_named, variables_named}
 use Rattle.c_ready.proofs.Basics.{at-index, unmap}
@@ -241,7 +241,7 @@ module _ (u : TypedTranslationUnit) (p : Program) (w : IsReadyUnit p.types u) (l
         d.declarator,
         at-index (λ (f : DefinedFunction). Contains (declarators_in u) f.declarator) (functions_of u)
             (functions-declared u) number d named.there,
-        (own.name, own.named, ap bytes_of_name (sym own.named) ∙ named.named),
+        (own.name, own.named, ap name_bytes (sym own.named) ∙ named.named),
         refl,
       ) in (
         declared_type d.declarator,

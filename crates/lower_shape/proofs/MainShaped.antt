@@ -12,7 +12,7 @@ use Rattle.c_types.specs.Table.{Table, is_function_shape, shape_at, descend}
 use Rattle.c_tree.specs.declared.leaf.Identifier.{Identifier}
 use Rattle.c_tree.specs.TypedTree.{TypedTranslationUnit}
 use Rattle.c_tree.specs.TypedParts.{DefinedFunction, declared_type, name_of, functions_of}
-use Rattle.c_ready.specs.Rows.{bytes_of_name}
+use Rattle.c_typing.specs.Declarators.{name_bytes}
 use Rattle.c_ready.specs.Ready.{Stage, IsAlike, IsFunctionDeclared, IsReadyFunction, IsReadyUnit, static_stage}
 use Rattle.c_ready.proofs.Basics.{at-index, bytes-same, eq_from}
 use Rattle.c_ready.proofs.ReadyFunctions.{result-in}
@@ -162,14 +162,14 @@ module _ (T : Table) where
 bytes-refl : (n : List ℕ) → bytes_eq n n ≡ true
 bytes-refl n = search rules
 
-main-named : (o : Option Identifier) → is_main o ≡ true → bytes_of_name o ≡ codes "main"
+main-named : (o : Option Identifier) → is_main o ≡ true → name_bytes o ≡ codes "main"
 main-named None h = absurd (true≢false (sym h))
 main-named (Some name) h = bytes-same name.bytes (codes "main") h
 
-named-main : (o : Option Identifier) (id : Identifier) → o ≡ Some id → bytes_of_name o ≡ codes "main" → is_main o ≡ true
+named-main : (o : Option Identifier) (id : Identifier) → o ≡ Some id → name_bytes o ≡ codes "main" → is_main o ≡ true
 named-main o id e h =
     subst (λ (x : Option Identifier). is_main x ≡ true) (sym e)
-    (subst (λ (n : List ℕ). bytes_eq n (codes "main") ≡ true) (sym (ap bytes_of_name (sym e) ∙ h)) (bytes-refl (codes "main")))
+    (subst (λ (n : List ℕ). bytes_eq n (codes "main") ≡ true) (sym (ap name_bytes (sym e) ∙ h)) (bytes-refl (codes "main")))
 
 -- what stands at a place of a list is in it
 slice-in : {A : Type 0} (xs : List A) (i : ℕ) (x : A) → slice_get xs i ≡ Some x → In x xs
@@ -203,7 +203,7 @@ module _ (u : TypedTranslationUnit) (p : Program) (w : IsReadyUnit p.types u) (l
       let f = at-index (IsReadyFunction static) all w.functions i d there in (
         d.declarator,
         at-index (λ (g : DefinedFunction). Contains (declarators_in u) g.declarator) all (functions-declared u) i d there,
-        (f.name, f.named, ap bytes_of_name (sym f.named) ∙ main-named (name_of d.declarator) e),
+        (f.name, f.named, ap name_bytes (sym f.named) ∙ main-named (name_of d.declarator) e),
         refl,
       )
 

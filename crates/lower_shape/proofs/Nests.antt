@@ -4,6 +4,7 @@ use Rattle.std.proofs.Common.{ℕ, ℤ, suc, ◌<◌, ◌≤◌, ◌+◌, ◌-�
 use Rattle.cc_base.specs.declared.place.Place.{Place}
 use Rattle.cc_base.specs.declared.number.NodeId.{NodeId}
 use Rattle.cc_base.specs.declared.number.TypeId.{TypeId}
+use Rattle.c_tree.specs.Arithmetic.{operator_of}
 use Rattle.c_tree.specs.Depth.{expr_height, arguments_height}
 use Rattle.c_tree.specs.Erasure.{erased, erased_place, erased_arguments}
 use Rattle.c_tree.specs.Tree as tree
@@ -22,7 +23,7 @@ use Rattle.c_tree.specs.declared.typed_word.Side.TheVariants as side
 use Rattle.c_ready.specs.Rows.{IsLvalue}
 use Rattle.c_ready.specs.Ready.{Stage, IsReady, IsReadyPlace, AreReady}
 use Rattle.src_mem.specs.Operations.{pointee_at}
-use Rattle.src_machine.specs.Expressions.{is_or, is_subtract, operator_of, operator_of_step, operator_of_assignment, is_through_pointer, same_type}
+use Rattle.src_machine.specs.Expressions.{is_or, is_subtract, operator_of_step, operator_of_assignment, is_through_pointer, same_type}
 use Rattle.cil_form.specs.declared.number.Temp.{Temp}
 use Rattle.cil_form.specs.declared.instr.Calculate.TheVariants as calculate
 use Rattle.cil_form.specs.declared.instr.Comparison.{Comparison}

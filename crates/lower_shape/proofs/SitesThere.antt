@@ -7,9 +7,9 @@ use Rattle.cc_base.specs.declared.number.NodeId.{NodeId}
 use Rattle.cc_base.specs.declared.number.TypeId.{TypeId}
 use Rattle.c_types.specs.declared.shape.TypeShape.{TypeShape}
 use Rattle.c_types.specs.declared.shape.TypeShape.TheVariants as shape
-use Rattle.c_types.specs.declared.site.Site.{Site}
-use Rattle.c_types.specs.declared.site.Site.TheVariants as site
-use Rattle.c_types.specs.Solutions.{sites_of_shape, sites_of_table}
+use Rattle.kind_sites.specs.declared.site.Site.{Site}
+use Rattle.kind_sites.specs.declared.site.Site.TheVariants as site
+use Rattle.kind_sites.specs.Solutions.{sites_of_shape, sites_of_table}
 use Rattle.c_types.specs.Table.{Table, Entry, AreNodesOf, HasShape, IsType, is_function, is_union_shape, shape_at, void_entry, named_by}
 use Rattle.c_tree.specs.declared.operator.AggregateKind.{AggregateKind}
 use Rattle.c_tree.specs.declared.operator.AggregateKind.TheVariants as aggregate
@@ -19,7 +19,7 @@ use Rattle.c_tree.specs.declared.typed_word.Conversion.{Conversion}
 use Rattle.c_tree.specs.declared.typed_word.Conversion.TheVariants as conversion
 use Rattle.c_tree.specs.TypedTree as typed
 use Rattle.c_tree.specs.TypedTree.{TypedExpr, TypedPlace, TypedSpecifier, TypedDeclarator, TypedInitialiser, TypedItems, TypedTranslationUnit}
-use Rattle.c_tree.specs.TypedParts.{MadeObject, DefinedFunction, type_of, place_type, named_type, pointer_side, home_of, name_of, declared_type, statics_of, functions_of, nodes_made, made_by_unit}
+use Rattle.c_tree.specs.TypedParts.{MadeObject, DefinedFunction, type_of, place_type, named_type, pointer_side, home_of, name_of, declared_type, statics_of, functions_of, nodes_made, made_by_unit, home_node}
 use Rattle.c_ready.specs.Rows as rule
 use Rattle.c_typing.specs.Shapes as shapes
 use Rattle.c_ready.specs.Ready.{Stage, Named, IsNode, IsWhole, IsObjectOf, Fits, IsPointerToWhole, IsReady, IsReadyPlace, IsReadySpecifier, IsReadyInitialiser, AreReadyItems, IsReadyFunction, is_of_kind, static_stage, IsReadyUnit}
@@ -30,7 +30,7 @@ use Rattle.src_mem.specs.Operations.{node_at, pointee_at, node_of_shape, pointee
 use Rattle.src_mem.specs.Runs.{variables_of}
 use Rattle.src_machine.specs.Machine.{head_of}
 use Rattle.src_machine.specs.Names as names
-use Rattle.src_machine.specs.Names.{object_node, object_named, function_named, named_in, first_type, is_same_which, declarators_in}
+use Rattle.src_machine.specs.Names.{object_named, function_named, named_in, first_type, is_same_which, declarators_in}
 use Rattle.src_machine.specs.Pieces.{Piece, pieces_of_unit}
 use Rattle.src_machine.specs.Sites.{address_at, addresses_at, linked_to, moves, moves_where_pointer, sites_of_conversion, sites_of_comparison, sites_of_expression, sites_of_place, sites_of_aggregate, sites_of_specifier, copies_in, copies_in_items, copies_to, sites_of_piece, sites_of_homes, same_as, sites_of_names, sites_of}
 use Rattle.cil_form.specs.Shape.{IsSiteInShape}
@@ -283,7 +283,7 @@ module _ (T : Table) (u : TypedTranslationUnit) (w : IsReadyUnit T u) where
       flat (IsSiteInShape T count) (sites_of_piece T) (pieces_of_unit u)
       (All-weaker (IsPieceFine T count) (λ piece. There (sites_of_piece T piece)) (λ piece h. h pointers-in) (pieces_of_unit u)
       (unit-pieces IsPieceFine (λ k e r q. value-fine k q e r) (λ k p r q. place-fine k q p r) (λ k x r q. specifier-fine k q x r)
-      (λ k d t i h r q. initialiser-fine k q (object_node (home_of d)) t i h r) static u w.externals))
+      (λ k d t i h r q. initialiser-fine k q (home_node (home_of d)) t i h r) static u w.externals))
 
   -- the types of what is declared
   named-in : (d : TypedDeclarator) → Names static (objects_made u) d → All (λ (x : names.Named). IsType T x.type) (names.named_by T d)
@@ -294,15 +294,15 @@ module _ (T : Table) (u : TypedTranslationUnit) (w : IsReadyUnit T u) where
       function None e = All-nil (λ (x : names.Named). IsType T x.type)
       function (Some id) e = only (λ (x : names.Named). IsType T x.type) _ (function-in T (declared_type d) e)
 
-      object : (o : Option NodeId) → object_node (home_of d) ≡ o → All (λ (x : names.Named). IsType T x.type) (object_named o (declared_type d))
+      object : (o : Option NodeId) → home_node (home_of d) ≡ o → All (λ (x : names.Named). IsType T x.type) (object_named o (declared_type d))
       object None e = All-nil (λ (x : names.Named). IsType T x.type)
       object (Some n) e = only (λ (x : names.Named). IsType T x.type) _ (h n e).1.0
 
       by : (b : Bool) → is_function T (declared_type d) ≡ b
           → All (λ (x : names.Named). IsType T x.type)
-          (if b then function_named (name_of d) (declared_type d) else object_named (object_node (home_of d)) (declared_type d))
+          (if b then function_named (name_of d) (declared_type d) else object_named (home_node (home_of d)) (declared_type d))
       by true e = function (name_of d) e
-      by false e = object (object_node (home_of d)) refl
+      by false e = object (home_node (home_of d)) refl
 
   all-named_in : All (λ (x : names.Named). IsType T x.type) (named_in u T)
   all-named_in =

@@ -12,7 +12,7 @@ use Rattle.c_types.specs.Table.{Table, HasShape}
 use Rattle.c_tree.specs.declared.leaf.StringPiece.{StringPiece}
 use Rattle.c_tree.specs.TypedTree.{TypedTranslationUnit}
 use Rattle.c_tree.specs.TypedParts.{MadeObject, statics_of}
-use Rattle.c_ready.specs.Rows.{pieces_bytes}
+use Rattle.c_tree.specs.Literals.{pieces_bytes}
 use Rattle.c_unit_typing.specs.Limits.{IsWithinLimits, global_bytes}
 use Rattle.c_ready.specs.Ready.{Stage, IsNode, IsWhole, IsTextOf, static_stage, IsReadyUnit}
 use Rattle.c_ready.proofs.Basics.{unmap}
@@ -21,7 +21,7 @@ use Rattle.src_mem.specs.Runs as runs
 use Rattle.src_machine.specs.Machine as source
 use Rattle.cil_form.specs.declared.program.Program.{Program}
 use Rattle.cil_form.specs.declared.program.Static.{Static}
-use Rattle.cil_form.specs.Shape.{IsStaticInShape, IsText, globals_limit}
+use Rattle.cil_form.specs.Shape.{IsStaticInShape, IsText, source_globals_limit}
 use Rattle.lower_shape.specs.Lowered.{IsLoweredFrom, AreBytes}
 use Rattle.lower_shape.proofs.Functions.{all-both}
 use Rattle.lower_shape.proofs.Lists.{all-each}
@@ -104,5 +104,5 @@ module _ (u : TypedTranslationUnit) (p : Program) (w : IsReadyUnit p.types u) (l
       ∙ (ap (λ (xs : List runs.Static). sum_by (λ (s : runs.Static). charge_of (size_of p.types s.type)) xs) l.code.statics
       ∙ (charges p.types (source.statics_in u) ∙ ap sum (sizes p.types (statics_of u))))
 
-  pub globals-few : IsWithinLimits p.types u → sum_by (λ (s : Static). charge_of (size_of p.types s.planned.ty)) p.statics ≤ globals_limit
+  pub globals-few : IsWithinLimits p.types u → sum_by (λ (s : Static). charge_of (size_of p.types s.planned.ty)) p.statics ≤ source_globals_limit
   globals-few limits = subst (λ n. n ≤ 4194304) (sym global) limits.globals

@@ -10,10 +10,9 @@ use Rattle.c_tree.specs.Depth.{statement_height, block_items_height, initialiser
 use Rattle.c_tree.specs.Erasure.{erased_statement, erased_block_items, erased_initialiser, erased_init_declarators, erased_declaration, erased_unit}
 use Rattle.c_tree.specs.TypedTree as typed
 use Rattle.c_tree.specs.TypedTree.{TypedDeclarator, TypedInitialiser, TypedInitDeclarators, TypedDeclaration, TypedStatement, TypedBlockItems, TypedTranslationUnit}
-use Rattle.c_tree.specs.TypedParts.{DefinedFunction, StaticInitialiser, home_of, declared_type, static_home, initialises, initialisers_in_declarators, initialisers_in_declaration, initialisers_in, initialisers_in_items, static_initialisers, functions_of}
+use Rattle.c_tree.specs.TypedParts.{DefinedFunction, StaticInitialiser, home_of, declared_type, static_home, initialises, initialisers_in_declarators, initialisers_in_declaration, initialisers_in, initialisers_in_items, static_initialisers, functions_of, home_node}
 use Rattle.c_unit_typing.specs.Holding.{statement_holds, block_items_holds, initialiser_holds, init_declarators_holds, declaration_holds, unit_holds}
 use Rattle.c_ready.proofs.Basics.{all-left, all-right}
-use Rattle.src_machine.specs.Names.{object_node}
 use Rattle.src_machine.specs.Pieces.{Piece, AnInitialiser, pieces_of, pieces_of_optional, pieces_of_specifiers, pieces_of_declarator, pieces_of_initialiser, pieces_of_init_declarators, pieces_of_declaration, pieces_of_statement, pieces_of_block_items, pieces_of_unit}
 
 module _ (P : Piece → Type 0) where
@@ -42,7 +41,7 @@ module _ (P : Piece → Type 0) where
   pub record IsStaticWithin (i : StaticInitialiser) : Type 0 where
     pub pieces : All P (pieces_of_initialiser i.initialiser)
     pub declarator : TypedDeclarator
-    pub home : object_node (home_of declarator) ≡ Some i.home
+    pub home : home_node (home_of declarator) ≡ Some i.home
     pub own : P (AnInitialiser declarator i.initialiser)
     pub holds : initialiser_holds (erased_initialiser i.initialiser) ≤ 256
     pub height : initialiser_height (erased_initialiser i.initialiser) ≤ 256
@@ -54,10 +53,10 @@ module _ (P : Piece → Type 0) where
       → P (AnInitialiser d i) → initialiser_holds (erased_initialiser i) ≤ 256 → initialiser_height (erased_initialiser i) ≤ 256
       → Statics (initialises (static_home h) t at i)
   one-static d (home.Static n) e t at i ps own m k = All-cons IsStaticWithin (record { home = n; type = t; place = at; initialiser = i }) []
-      (record { pieces = ps; declarator = d; home = subst (λ x. object_node x ≡ Some n) (sym e) refl; own = own; holds = m; height = k })
+      (record { pieces = ps; declarator = d; home = subst (λ x. home_node x ≡ Some n) (sym e) refl; own = own; holds = m; height = k })
       (All-nil IsStaticWithin)
   one-static d (home.Known n) e t at i ps own m k = All-cons IsStaticWithin (record { home = n; type = t; place = at; initialiser = i }) []
-      (record { pieces = ps; declarator = d; home = subst (λ x. object_node x ≡ Some n) (sym e) refl; own = own; holds = m; height = k })
+      (record { pieces = ps; declarator = d; home = subst (λ x. home_node x ≡ Some n) (sym e) refl; own = own; holds = m; height = k })
       (All-nil IsStaticWithin)
   one-static d (home.Local n) e t at i ps own m k = All-nil IsStaticWithin
   one-static d home.None e t at i ps own m k = All-nil IsStaticWithin

@@ -1,2 +1,3 @@
 pub mod Stands
 pub mod Lowered
+pub mod Theorems

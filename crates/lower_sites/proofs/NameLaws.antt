@@ -4,13 +4,13 @@ use Rattle.std.proofs.lemmas.Grind.{flat_map-append}
 use Rattle.std.proofs.lemmas.Slice.Eq.{bytes_eq-Decides}
 use Rattle.cc_base.specs.declared.number.NodeId.{NodeId}
 use Rattle.cc_base.specs.declared.number.TypeId.{TypeId}
-use Rattle.c_types.specs.declared.site.Site.{Site}
-use Rattle.c_types.specs.declared.site.Site.TheVariants as site
+use Rattle.kind_sites.specs.declared.site.Site.{Site}
+use Rattle.kind_sites.specs.declared.site.Site.TheVariants as site
 use Rattle.c_types.specs.Table.{Table}
 use Rattle.c_tree.specs.declared.leaf.Identifier.{Identifier}
 use Rattle.c_tree.specs.TypedTree.{TypedDeclarator}
-use Rattle.c_typing.specs.Scopes.{Name, entry_of, seen_entries}
-use Rattle.c_typing.proofs.ScopeLaws.{insert-seen}
+use Rattle.named_lists.specs.Entries.{Name, entry_of, seen_entries, with_entry}
+use Rattle.named_lists.proofs.EntryLaws.{insert-seen, entry-last}
 use Rattle.src_machine.specs.World.{same_node}
 use Rattle.src_machine.specs.Names.{Named, Which, AnObject, AFunction, first_type, is_same_which, named_by}
 use Rattle.src_machine.specs.Sites.{same_as, sites_of_names}
@@ -28,8 +28,9 @@ pub firsts_added : {K : Type 0} (bytes : K → Name) (eq : K → K → Bool) →
 firsts_added bytes eq same es changed k name what l seen named made =
     let P : List (Name × TypeId) → Type 0 = λ m. entry_of m name ≡ None → seen_entries bytes changed ≡ m ++ (name, what) ∷ [] in
     subst P seen (λ none. ap (seen_entries bytes) made
-    ∙ insert-seen bytes eq k what (same k) es (ap (entry_of (seen_entries bytes es)) named ∙ none)
-    ∙ ap (λ n. seen_entries bytes es ++ (n, what) ∷ []) named)
+    ∙ insert-seen bytes eq k what (same k) es
+    ∙ ap (λ n. with_entry n what (seen_entries bytes es)) named
+    ∙ entry-last name what (seen_entries bytes es) none)
 
 pub home_names : (k x : NodeId) → (k.0 == x.0) ≡ bytes_eq (home_name k) (home_name x)
 home_names k x = by (k.0 == x.0)

@@ -5,9 +5,9 @@ use Rattle.std.proofs.Math.Seq.{take-suc}
 use Rattle.std.specs.List.{filter_map}
 use Rattle.cc_base.specs.declared.number.NodeId.{NodeId}
 use Rattle.cc_base.specs.declared.number.TypeId.{TypeId}
-use Rattle.c_types.specs.declared.site.Site.{Site}
-use Rattle.c_types.specs.declared.site.Site.TheVariants as site
-use Rattle.c_types.specs.Solutions.{sites_of_shape, sites_of_table}
+use Rattle.kind_sites.specs.declared.site.Site.{Site}
+use Rattle.kind_sites.specs.declared.site.Site.TheVariants as site
+use Rattle.kind_sites.specs.Solutions.{sites_of_shape, sites_of_table}
 use Rattle.c_types.specs.Table.{Entry, Table, shape_at, void_entry}
 use Rattle.c_tree.specs.TypedTree.{TypedTranslationUnit}
 use Rattle.c_tree.specs.TypedParts.{DefinedFunction, MadeObject, functions_of, statics_of}
@@ -31,7 +31,7 @@ use Rattle.lower_sites.specs.declared.names.Names.{Names}
 use Rattle.lower_sites.specs.Objects.{home_if_named, site_of_parameter, site_of_planned, site_of_static, sites_of_function, sites_of_objects}
 use Rattle.lower_sites.specs.HomeNames.{home_name}
 use Rattle.lower_sites.specs.Telling.{IsTold, Tells, named_by_all}
-use Rattle.c_typing.specs.Scopes.{entry_of}
+use Rattle.named_lists.specs.Entries.{entry_of}
 
 pub names_told : (u : TypedTranslationUnit) (table : Table) (a b : Names) → Tells (named_by_all table (declarators_in u)) a b
     → a.objects ≡ [] → a.functions ≡ [] → a.sites.items ≡ [] → b.fine ≡ true → b.sites.items ≡ sites_of_names (named_in u table)

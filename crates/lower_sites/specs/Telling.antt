@@ -5,7 +5,7 @@ use Rattle.cc_base.specs.declared.number.TypeId.{TypeId}
 use Rattle.c_types.specs.Table.{Table}
 use Rattle.c_tree.specs.declared.leaf.Identifier.{Identifier}
 use Rattle.c_tree.specs.TypedTree.{TypedDeclarator}
-use Rattle.c_typing.specs.Scopes.{entry_of}
+use Rattle.named_lists.specs.Entries.{entry_of}
 use Rattle.src_machine.specs.Names.{Named, AnObject, AFunction, first_type, named_by}
 use Rattle.src_machine.specs.Sites.{sites_of_names}
 use Rattle.lower_sites.specs.HomeNames.{home_name}

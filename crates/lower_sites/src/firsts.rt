@@ -1,6 +1,6 @@
 //! The types of first declarations.
 ghost use Rattle.std.specs.Prelude.{◌≡◌, [], ◌∷◌, ◌++◌, None, OnOk, option_copied};
-ghost use Rattle.c_typing.specs.Scopes.{entry_of};
+ghost use Rattle.named_lists.specs.Entries.{entry_of};
 ghost use Rattle.lower_sites.specs.HomeNames.{home_name};
 
 use cc_base::{NoMemory, NodeId, TypeId};
@@ -15,7 +15,7 @@ pub(crate) struct FirstFunctions(IndexMap<Vec<u8>, TypeId>);
 impl Model for FirstFunctions {
     ghost use Rattle.std.specs.Prelude.{List};
     ghost use Rattle.cc_base.specs.declared.number.TypeId.{TypeId};
-    ghost use Rattle.c_typing.specs.Scopes.{Name, seen_entries};
+    ghost use Rattle.named_lists.specs.Entries.{Name, seen_entries};
 
     ghost Value = { List (Name × TypeId) };
 
@@ -55,7 +55,7 @@ pub(crate) struct FirstObjects(IndexMap<NodeId, TypeId>);
 impl Model for FirstObjects {
     ghost use Rattle.std.specs.Prelude.{List};
     ghost use Rattle.cc_base.specs.declared.number.TypeId.{TypeId};
-    ghost use Rattle.c_typing.specs.Scopes.{Name, seen_entries};
+    ghost use Rattle.named_lists.specs.Entries.{Name, seen_entries};
     ghost use Rattle.lower_sites.specs.HomeNames.{home_name};
 
     ghost Value = { List (Name × TypeId) };

@@ -1,17 +1,18 @@
 //! Two declarations of one name, with the types that they give it (C99 6.2.7).
 ghost use Rattle.std.specs.Prelude.{◌≡◌, true, Some, [], ◌∷◌, ◌++◌, option_copied};
 ghost use Rattle.c_types.specs.Table.{is_function};
-ghost use Rattle.c_tree.specs.TypedParts.{declared_type, home_of, name_of};
+ghost use Rattle.c_tree.specs.TypedParts.{declared_type, home_of, name_of, home_node};
 ghost use Rattle.c_tree.specs.TypedViews.{typed_declarator_view};
-ghost use Rattle.src_machine.specs.Names.{AFunction, AnObject, function_named, named_by, object_named, object_node};
+ghost use Rattle.src_machine.specs.Names.{AFunction, AnObject, function_named, named_by, object_named};
 ghost use Rattle.src_machine.specs.Sites.{same_as};
 ghost use Rattle.lower_sites.specs.Telling.{Tells};
 
 use crate::firsts::{FirstFunctions, FirstObjects};
 use c_check_declarators::homes::{home_of, name_of};
 use c_tree::{Home, Identifier, TypedDeclarator};
-use c_types::{Site, TypeShape, Types};
+use c_types::{TypeShape, Types};
 use cc_base::{NodeId, TypeId};
+use kind_sites::Site;
 use std::alloc::Global;
 
 /// What a walk over declarations looks at beside the tree.
@@ -121,7 +122,7 @@ fn declared_name(d: &TypedDeclarator) -> Option<&Identifier>
 
 /// An object is declared, if the home is one.
 fn tell_home(out: &mut Names, home: Home, t: TypeId)
-    ensures { Tells (object_named (object_node home) t) out.old out.new }
+    ensures { Tells (object_named (home_node home) t) out.old out.new }
 {
     match home {
         Home::None => skip(out),

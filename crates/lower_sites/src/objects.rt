@@ -1,13 +1,14 @@
 //! The sites of types and of objects.
 ghost use Rattle.std.specs.Prelude.{◌≡◌, [], ◌∷◌, ◌++◌, flat_map, OnOk};
 ghost use Rattle.c_types.specs.Table.{IsType, shape_at};
-ghost use Rattle.c_types.specs.Solutions.{sites_of_shape, sites_of_table};
-ghost use Rattle.c_types.specs.declared.site.Site.TheVariants as site;
+ghost use Rattle.kind_sites.specs.Solutions.{sites_of_shape, sites_of_table};
+ghost use Rattle.kind_sites.specs.declared.site.Site.TheVariants as site;
 ghost use Rattle.lower_sites.specs.Objects.{site_of_parameter, site_of_planned, site_of_static, sites_of_function};
 
-use c_types::{Site, TypeShape, Types};
+use c_types::{TypeShape, Types};
 use cc_base::{NoMemory, NodeId, TypeId};
 use cil_form::{Function, Parameter, Planned, Static};
+use kind_sites::Site;
 
 /// A pointer type has a site.
 fn put_type(out: &mut Vec<Site>, types: &Types, t: TypeId) -> Result<(), NoMemory>

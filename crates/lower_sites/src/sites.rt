@@ -12,9 +12,10 @@ use crate::names::{Names, Scope};
 use crate::objects::{put_functions, put_statics, put_table};
 use crate::walk::externals;
 use c_tree::TypedUnit;
-use c_types::{Site, Types};
+use c_types::Types;
 use cc_base::NoMemory;
 use cil_form::{Program, Sites};
+use kind_sites::Site;
 use std::alloc::Global;
 
 /// The sites of the declarations of names.

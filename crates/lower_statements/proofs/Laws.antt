@@ -1,16 +1,15 @@
 -- How drafts grow by blocks, loops and items.
-use Rattle.std.proofs.Common.{◌≡◌, ap, sym, subst, ◌∙◌, ◌+◌, ◌<◌, add-one, take, get_or, length, ℕ, true, List, [], ◌∷◌, ◌++◌}
+use Rattle.std.proofs.Common.{◌≡◌, ap, sym, subst, ◌∙◌, ◌+◌, ◌<◌, take, get_or, length, ℕ, true, List, [], ◌∷◌, ◌++◌}
 use Rattle.c_tree.specs.TypedTree as typed
 use Rattle.c_tree.specs.TypedStatementViews.{typed_block_item_view, typed_block_view}
 use Rattle.c_tree.specs.declared.typed_statement.TypedBlockItem.{TypedBlockItem}
-use Rattle.cil_form.specs.declared.instr.Instr.{Instr}
 use Rattle.cil_form.specs.declared.instr.Instr.TheVariants as instr
 use Rattle.lower_rules.specs.Pieces.{Form, Line, Blocked, Looped, When}
 use Rattle.lower_rules.specs.Words.{Context}
 use Rattle.lower_rules.specs.Statements.{IsCodeOfBlock, Nesting}
 use Rattle.lower_exprs.specs.declared.draft.Draft.{Draft}
 use Rattle.lower_exprs.specs.Drafts.{Grows, Starts}
-use Rattle.lower_initialisers.proofs.Laws.{one_more}
+use Rattle.c_tree.proofs.ListLaws.{one_more}
 use Rattle.lower_statements.specs.Ready.{HasCodeOfBlock}
 
 -- Blocks and loops. The draft of what is in them begins empty.
@@ -52,5 +51,5 @@ pub more_block : (items : List TypedBlockItem) (i : ℕ) (item : TypedBlockItem)
     → Grows (IsCodeOfBlock (typed_block_view (take (i + 1) items)) k v) (HasCodeOfBlock (typed_block_view (take (i + 1) items)) k v) a c
 more_block items i item k v a c within at f =
     let law : typed_block_view (take (i + 1) items) ≡ typed_block_item_view item (typed_block_view (take i items))
-    = rw add-one (one_more typed_block_item_view items i item typed.NoBlockItem within at) in
+    = one_more typed_block_item_view items i item within at typed.NoBlockItem in
     subst (λ all. Grows (IsCodeOfBlock all k v) (HasCodeOfBlock all k v) a c) (sym law) f

@@ -1,5 +1,5 @@
 -- The laws of the code of a `switch`.
-use Rattle.std.proofs.Common.{◌≡◌, ap, sym, subst, ◌∙◌, zero, ◌+◌, ◌-◌, ◌<◌, ◌≤◌, add-one, take, get_or, length, min, arith, ℕ, ℤ, suc, true, List, [], ◌++◌, append-nil, append_assoc, refl}
+use Rattle.std.proofs.Common.{◌≡◌, ap, sym, subst, ◌∙◌, zero, ◌+◌, ◌-◌, ◌<◌, ◌≤◌, take, get_or, length, min, arith, ℕ, ℤ, suc, true, List, [], ◌++◌, append-nil, append_assoc, refl}
 use Rattle.std.proofs.Math.Seq.{take-length}
 use Rattle.cc_base.specs.declared.number.TypeId.{TypeId}
 use Rattle.cc_base.specs.declared.place.Place.{Place}
@@ -22,7 +22,7 @@ use Rattle.lower_initialisers.specs.Ready.{HasCodeOfDeclaration}
 use Rattle.lower_statements.specs.Ready.{HasCodeOfStatement, HasPieces}
 use Rattle.lower_statements.specs.Switches.{AreLabels, Chosen, GrowsInPieces, Guards, Nests, Pieces, Tested, capped, equal_code}
 use Rattle.lower_statements.specs.declared.switching.Labels.{Labels}
-use Rattle.lower_initialisers.proofs.Laws.{one_more}
+use Rattle.c_tree.proofs.ListLaws.{one_more, with_next}
 
 -- where something holds, before what else is appended
 pub grows_where : (A R : Type 0) (P : Form) (a b c : Draft) → Grows (When A (Line [])) (Unit {0}) a b → Grows P R b c → Grows (When A P) R a c
@@ -82,7 +82,7 @@ last_item : (xs : List TypedBlockItem) (i : ℕ) (x : TypedBlockItem) → 0 < i 
 last_item xs zero x some within at = absurd (omega arith)
 last_item xs (suc i) x some within at =
     let number : suc i - 1 ≡ i = omega arith in
-    rw number (one_more typed_block_item_view xs i x typed.NoBlockItem (omega arith) (at ∙ ap (λ j. get_or xs j x) number))
+    rw number (with_next typed_block_item_view xs i x (omega arith) (at ∙ ap (λ j. get_or xs j x) number) typed.NoBlockItem)
 
 pub tests_all : (xs : List TypedBlockItem) (n : ℕ) (t : TypeId) (at : Place) (a c : Draft)
     → Grows (IsCodeOfTests (typed_block_view (take (length xs) xs)) n t at) (Unit {0}) a c
@@ -115,7 +115,7 @@ pub more_number : (items : List TypedBlockItem) (i : ℕ) (item : TypedBlockItem
     → n ≡ labels (typed_block_item_view item (typed_block_view (take i items))) → n ≡ labels (typed_block_view (take (i + 1) items))
 more_number items i item n within e same =
     let law : typed_block_view (take (i + 1) items) ≡ typed_block_item_view item (typed_block_view (take i items))
-    = rw add-one (one_more typed_block_item_view items i item typed.NoBlockItem within e) in
+    = one_more typed_block_item_view items i item within e typed.NoBlockItem in
     same ∙ ap labels (sym law)
 
 pub one_label : (a b : ℕ) → a ≡ b → a + 1 ≡ suc b
@@ -126,7 +126,7 @@ pub more_labels : (items : List TypedBlockItem) (i : ℕ) (item : TypedBlockItem
     → AreLabels (typed_block_view (take (i + 1) items)) m
 more_labels items i item l m within e made f =
     let law : typed_block_view (take (i + 1) items) ≡ typed_block_item_view item (typed_block_view (take i items))
-    = rw add-one (one_more typed_block_item_view items i item typed.NoBlockItem within e) in
+    = one_more typed_block_item_view items i item within e typed.NoBlockItem in
     subst (λ all. AreLabels all m) (sym law) (f (typed_block_view (take i items)) made)
 
 -- Pieces
@@ -274,5 +274,5 @@ pub more_pieces : (items : List TypedBlockItem) (i : ℕ) (item : TypedBlockItem
     → GrowsInPieces (typed_block_view (take (i + 1) items)) k v at (HasPieces (typed_block_view (take (i + 1) items)) k v) a c d
 more_pieces items i item k v at a c d within e f =
     let law : typed_block_view (take (i + 1) items) ≡ typed_block_item_view item (typed_block_view (take i items))
-    = rw add-one (one_more typed_block_item_view items i item typed.NoBlockItem within e) in
+    = one_more typed_block_item_view items i item within e typed.NoBlockItem in
     subst (λ all. GrowsInPieces all k v at (HasPieces all k v) a c d) (sym law) f

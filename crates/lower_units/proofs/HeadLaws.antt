@@ -1,7 +1,7 @@
--- What heads, bodies and units are made of is what the tree says.
-use Rattle.std.proofs.Common.{◌≡◌, refl, ap, sym, subst, ◌∙◌, List, [], ◌∷◌, ◌++◌, append_assoc, length, map, true, Option, None, Some}
-use Rattle.std.proofs.lemmas.List.{map-append}
+-- What heads and bodies are made of is what the tree says, and a function that has code has these.
+use Rattle.std.proofs.Common.{◌≡◌, refl, ap, sym, subst, ◌∙◌, List, [], ◌∷◌, ◌++◌, map, true, Option, None, Some, Result, Ok, Err, IfOk}
 use Rattle.std.specs.List.{filter_map}
+use Rattle.cc_base.specs.declared.fault.NoMemory.{NoMemory}
 use Rattle.cc_base.specs.declared.number.NodeId.{NodeId}
 use Rattle.cc_base.specs.declared.number.TypeId.{TypeId}
 use Rattle.c_types.specs.Table.{Table}
@@ -21,15 +21,29 @@ use Rattle.lower_rules.specs.Pieces.{Form}
 use Rattle.lower_exprs.specs.declared.draft.Draft.{Draft}
 use Rattle.lower_exprs.specs.Drafts.{Grows, Starts}
 use Rattle.lower_rules.specs.Statements.{IsCodeOfBlock}
-use Rattle.lower_rules.specs.Units.{IsCodeOfFunction, context_in, outermost}
+use Rattle.lower_statements.specs.Ready.{HasCodeOfBlock}
+use Rattle.lower_rules.specs.Units.{IsCodeOfFunction, outermost}
 use Rattle.unit_parts.specs.declared.collected.Collected.{Collected}
 use Rattle.unit_parts.specs.Collecting.{Adds, Collects, locals_from}
 use Rattle.lower_units.specs.Heads.{home_or_none, homes_of_parameters, homes_of_planned, taken_as}
+use Rattle.lower_units.specs.Ready.{AreApart, HasCodeOfFunction}
 
--- the code of a draft that began empty
-pub made_code : (P : Form) (R : Type 0) (s d : Draft) → Starts s → Grows P R s d → d.fine ≡ true → P d.items.items
+-- Drafts that began empty
+
+-- all that was met has code
+pub draft_ready : (P : Form) (R : Type 0) (s d : Draft) → Starts s → Grows P R s d → R → d.ready ≡ true
 unfolding Grows Starts
-made_code P R s d empty f fine = let p = (f.0 fine).1 in subst P (sym (p.2 ∙ ap (λ z. z ++ p.0) empty.0)) p.1
+draft_ready P R s d empty f r = f.1 r empty.1
+
+-- the code of one that is finished
+pub draft_finished : (P : Form) (R : Type 0) (s d : Draft) (r : Result Code NoMemory) → Starts s → Grows P R s d
+    → IfOk r (λ code. (d.fine ≡ true) × (code.0.items ≡ d.items.items)) → IfOk r (λ code. P code.0.items)
+unfolding Grows Starts
+draft_finished P R s d (Err want) empty f made = tt {0}
+draft_finished P R s d (Ok code) empty f made =
+    let p = (f.0 made.0).1 in subst P (sym (made.1 ∙ p.2 ∙ ap (λ z. z ++ p.0) empty.0)) p.1
+
+-- Heads and bodies
 
 pub locals_found : (table : Table) (made : List Made) (pieces : List Piece) (a b : Collected) → Collects table made pieces a b → a.locals.items ≡ []
     → b.fine ≡ true → map plan b.locals.items ≡ locals_from made
@@ -78,17 +92,36 @@ planned_homes : (all : List PlannedObject) → homes_of_planned all ≡ map node
 planned_homes [] = refl
 planned_homes (o ∷ all) = ap (λ m. o.home ∷ m) (planned_homes all)
 
+-- the homes of a function's variables
+pub homes_of_variables : (d : DefinedFunction) (ps : List Parameter) (ls : List PlannedObject) → map taken_as ps ≡ parameters_of d.declarator
+    → map plan ls ≡ locals_from (made_by_block_items d.body)
+    → homes_of_parameters ps ++ homes_of_planned ls ≡ map node_of (runs.variables_of (source.head_of d))
+homes_of_variables d ps ls p l =
+    ap (λ m. homes_of_parameters ps ++ m) (planned_homes ls) ∙ parameter_homes ps (map plan ls)
+    ∙ ap (λ (x : List runs.Parameter). map node_of (filter_map planned_as x ++ map plan ls)) (parameters_same ps ∙ ap (map declared_as) p)
+    ∙ ap (λ (x : List Planned). map node_of (filter_map planned_as (map declared_as (parameters_of d.declarator)) ++ x)) l
+
+pub variables_apart : (table : Table) (statics : List NodeId) (d : DefinedFunction) (ps : List Parameter) (ls : List PlannedObject)
+    → map taken_as ps ≡ parameters_of d.declarator → map plan ls ≡ locals_from (made_by_block_items d.body)
+    → HasCodeOfFunction table statics d → AreApart (homes_of_parameters ps ++ homes_of_planned ls)
+variables_apart table statics d ps ls p l has = subst AreApart (sym (homes_of_variables d ps ls p l)) has.homes
+
+pub body_has_code : (table : Table) (statics : List NodeId) (d : DefinedFunction) (ps : List Parameter) (ls : List PlannedObject)
+    (variables : List NodeId) → map taken_as ps ≡ parameters_of d.declarator → map plan ls ≡ locals_from (made_by_block_items d.body)
+    → variables ≡ homes_of_parameters ps ++ homes_of_planned ls → HasCodeOfFunction table statics d
+    → HasCodeOfBlock d.body (record { table = table; statics = statics; variables = variables }) outermost
+body_has_code table statics d ps ls variables p l vs has =
+    subst (λ v. HasCodeOfBlock d.body (record { table = table; statics = statics; variables = v }) outermost)
+    (sym (vs ∙ homes_of_variables d ps ls p l)) has.body
+
 pub code_of_function : (table : Table) (statics : List NodeId) (d : DefinedFunction) (f : Function) (variables : List NodeId)
     → f.ty ≡ declared_type d.declarator → map taken_as f.parameters ≡ parameters_of d.declarator
     → map plan f.locals ≡ locals_from (made_by_block_items d.body) → variables ≡ homes_of_parameters f.parameters ++ homes_of_planned f.locals
     → IsCodeOfBlock d.body (record { table = table; statics = statics; variables = variables }) outermost f.body.0.items
     → IsCodeOfFunction table statics d f
 code_of_function table statics d f variables t ps ls vs body =
-    let head = head_made f d t ps ls in
-    let homes : variables ≡ map node_of (runs.variables_of (source.head_of d))
-    = vs ∙ ap (λ m. homes_of_parameters f.parameters ++ m) (planned_homes f.locals) ∙ parameter_homes f.parameters (map plan f.locals)
-    ∙ ap (λ h. map node_of (runs.variables_of h)) head in
     record {
-      head = head;
-      body = subst (λ v. IsCodeOfBlock d.body (record { table = table; statics = statics; variables = v }) outermost f.body.0.items) homes body;
+      head = head_made f d t ps ls;
+      body = subst (λ v. IsCodeOfBlock d.body (record { table = table; statics = statics; variables = v }) outermost f.body.0.items)
+          (vs ∙ homes_of_variables d f.parameters f.locals ps ls) body;
     }

@@ -1,10 +1,16 @@
 -- `main` among the functions of a unit, one more at a time, and their code.
-use Rattle.std.proofs.Common.{◌≡◌, refl, ap, sym, subst, ◌∙◌, ℕ, zero, suc, ◌+◌, ◌<◌, arith, List, [], ◌∷◌, ◌++◌, length, slice_get, Bool, true, false, not, cond, Option, None, Some}
-use Rattle.std.specs.List.{prefix_len}
+use Rattle.std.proofs.Common.{◌≡◌, refl, ap, sym, subst, ◌∙◌, ℕ, zero, suc, ◌+◌, ◌<◌, arith, List, [], ◌∷◌, ◌++◌, length, map, get_or, slice_get, Bool, true, false, not, cond, None, Some}
+use Rattle.std.specs.List.{All, prefix_len}
+use Rattle.std.proofs.lemmas.List.Elements.{All-nil, All-cons, All-head, All-tail}
 use Rattle.cc_base.specs.declared.number.NodeId.{NodeId}
-use Rattle.cc_base.specs.declared.place.Place.{Place}
 use Rattle.c_types.specs.Table.{Table}
-use Rattle.c_tree.specs.TypedParts.{DefinedFunction, name_of}
+use Rattle.c_tree.specs.Views.{added}
+use Rattle.c_tree.specs.TypedTree as typed
+use Rattle.c_tree.specs.TypedTree.{TypedTranslationUnit}
+use Rattle.c_tree.specs.TypedParts.{DefinedFunction, functions_of, name_of}
+use Rattle.c_tree.specs.TypedStatementViews.{typed_external_view}
+use Rattle.c_tree.specs.declared.typed_statement.TypedExternal.{TypedExternal}
+use Rattle.c_tree.specs.declared.typed_statement.TypedExternal.TheVariants as external
 use Rattle.src_machine.specs.Machine.{is_main, place_of_function, place_of_name}
 use Rattle.cil_form.specs.declared.program.Function.{Function}
 use Rattle.lower_rules.specs.Units.{AreCodeOf, IsCodeOfFunction}
@@ -82,3 +88,38 @@ code_behind table statics [] [] d f h g = (g, tt)
 code_behind table statics [] (x ∷ fs) d f h g = absurd h
 code_behind table statics (y ∷ ds) [] d f h g = absurd h
 code_behind table statics (y ∷ ds) (x ∷ fs) d f h g = (h.0, code_behind table statics ds fs d f h.1 g)
+
+-- what is so of each function of a unit
+
+all_front : {X : Type 0} (P : X → Type 0) (xs : List X) (x : X) → All P (xs ++ x ∷ []) → All P xs
+all_front P [] x h = All-nil P
+all_front P (y ∷ xs) x h = All-cons P y xs (All-head P y (xs ++ x ∷ []) h) (all_front P xs x (All-tail P y (xs ++ x ∷ []) h))
+
+all_last : {X : Type 0} (P : X → Type 0) (xs : List X) (x : X) → All P (xs ++ x ∷ []) → P x
+all_last P [] x h = All-head P x [] h
+all_last P (y ∷ xs) x h = all_last P xs x (All-tail P y (xs ++ x ∷ []) h)
+
+module _ (P : DefinedFunction → Type 0) where
+  abbrev Functions : TypedTranslationUnit → Type 0
+  Functions u = All P (functions_of u)
+
+  before_one : (u : TypedTranslationUnit) (one : TypedExternal) → Functions (typed_external_view one u) → Functions u
+  before_one u (external.Declaration d) h = h
+  before_one u (external.Function f) h = all_front P (functions_of u) _ h
+
+  alone : (u : TypedTranslationUnit) (one : TypedExternal) → Functions (typed_external_view one u) → Functions (typed_external_view one typed.NoExternal)
+  alone u (external.Declaration d) h = All-nil P
+  alone u (external.Function f) h = All-cons P _ [] (all_last P (functions_of u) _ h) (All-nil P)
+
+  before_all : (u : TypedTranslationUnit) (all : List TypedExternal) → Functions (added u (map typed_external_view all)) → Functions u
+  before_all u [] h = h
+  before_all u (one ∷ all) h = before_one u one (before_all (typed_external_view one u) all h)
+
+  -- is so of those of each of its parts
+  pub one_alone : (u : TypedTranslationUnit) (all : List TypedExternal) (i : ℕ) (one d : TypedExternal) → i < length all → one ≡ get_or all i d
+      → Functions (added u (map typed_external_view all)) → Functions (typed_external_view one typed.NoExternal)
+  one_alone u [] i one d within at h = absurd (omega arith)
+  one_alone u (x ∷ all) zero one d within at h =
+      subst (λ (y : TypedExternal). Functions (typed_external_view y typed.NoExternal)) (sym at)
+      (alone u x (before_all (typed_external_view x u) all h))
+  one_alone u (x ∷ all) (suc i) one d within at h = one_alone (typed_external_view x u) all i one d (omega arith) at h

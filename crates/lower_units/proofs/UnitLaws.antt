@@ -1,12 +1,11 @@
 -- A unit is lowered from what was found in it.
-use Rattle.std.proofs.Common.{◌≡◌, refl, ap, sym, subst, ◌∙◌, ℕ, zero, suc, ◌+◌, ◌<◌, ◌≤◌, arith, List, [], ◌∷◌, ◌++◌, length, map, flat_map, true, false, Bool, not, cond, nat_lt, Option, None, Some, option_map, slice_get}
+use Rattle.std.proofs.Common.{◌≡◌, refl, ap, sym, subst, ◌∙◌, ℕ, ◌<◌, ◌≤◌, arith, List, [], ◌∷◌, ◌++◌, length, map, flat_map, true, false, Bool, cond, nat_lt, Option, None, Some, slice_get}
 use Rattle.std.specs.Option.{unwrap_or}
-use Rattle.std.specs.List.{position, position_or_len, prefix_len}
+use Rattle.std.specs.List.{position, prefix_len}
 use Rattle.std.proofs.lemmas.Bool.{lt-ltb}
 use Rattle.std.proofs.lemmas.Option.{slice_get_past}
 use Rattle.cc_base.specs.declared.number.NodeId.{NodeId}
 use Rattle.c_types.specs.Table.{Table}
-use Rattle.c_tree.specs.Places.{nowhere}
 use Rattle.c_tree.specs.TypedTree.{TypedTranslationUnit}
 use Rattle.c_tree.specs.TypedParts.{DefinedFunction, MadeObject, functions_of, made_by_unit, name_of, static_initialisers, statics_of}
 use Rattle.src_mem.specs.Runs as runs
@@ -16,7 +15,6 @@ use Rattle.src_machine.specs.Pieces.{pieces_of_unit}
 use Rattle.src_machine.specs.Sites.{sites_of_piece}
 use Rattle.cil_form.specs.declared.program.Program.{Program}
 use Rattle.cil_form.specs.declared.program.Static.{Static}
-use Rattle.cil_form.specs.Machine as code
 use Rattle.lower_rules.specs.Initialisers.{IsCodeOfStatics}
 use Rattle.lower_rules.specs.Units.{AreCodeOf, IsCodeOfUnit, homes_of, static_context}
 use Rattle.unit_parts.specs.declared.collected.Collected.{Collected}
@@ -25,6 +23,7 @@ use Rattle.lower_units.specs.declared.externals.Found.{Found}
 use Rattle.lower_units.specs.declared.units.Lowered.{Lowered}
 use Rattle.lower_units.specs.Heads.{homes_of_statics}
 use Rattle.lower_units.specs.Mains.{IsMade, IsMainOf, is_other}
+use Rattle.lower_units.specs.Ready.{HasCodeOfUnit}
 use Rattle.lower_units.specs.Units.{IsFoundIn, IsLoweredIn, number_in, place_in}
 use Rattle.lower_units.proofs.MainLaws.{code_count}
 
@@ -59,6 +58,14 @@ homes_seen : (all : List Static) → homes_of_statics all ≡ map home_seen (see
 homes_seen [] = refl
 homes_seen (o ∷ all) = ap (λ m. o.planned.home ∷ m) (homes_seen all)
 
+pub found_homes : (table : Table) (u : TypedTranslationUnit) (c : Collected) → IsFoundIn table u c → homes_of_statics c.statics.items ≡ homes_of u
+found_homes table u c f = homes_seen c.statics.items ∙ ap (map home_seen) f.statics ∙ seen_homes (statics_of u)
+
+-- a unit that has code has it among the static objects that were found
+pub found_ready : (table : Table) (u : TypedTranslationUnit) (c : Collected) → IsFoundIn table u c → HasCodeOfUnit table (homes_of u) u
+    → HasCodeOfUnit table (homes_of_statics c.statics.items) u
+found_ready table u c f has = subst (λ h. HasCodeOfUnit table h u) (sym (found_homes table u c f)) has
+
 -- the number of `main`
 main_at : (fs : List DefinedFunction) (n : ℕ) → prefix_len is_other fs ≡ n → n < length fs
     → unwrap_or (position (λ f. is_main (name_of f.declarator)) fs) (length fs) ≡ n
@@ -79,6 +86,18 @@ main_number : (u : TypedTranslationUnit) (m : Option Found) (count : ℕ) → Is
 main_number u None count h e = e ∙ sym (main_nowhere (functions_of u) h)
 main_number u (Some m) count h e = sym (main_at (functions_of u) m.number h.0 h.1)
 
+-- it is below 2^32
+pub main_numbered : (table : Table) (statics : List Static) (u : TypedTranslationUnit) (l : Lowered) → IsLoweredIn table statics u l
+    → length (functions_of u) ≤ 65535 → number_in l.made.main (length l.made.functions.items) < 4294967296
+main_numbered table statics u l low few = by l.made.main low.made.main
+  where
+    same : length (functions_of u) ≡ length l.made.functions.items
+    same = code_count table (homes_of_statics statics) (functions_of u) l.made.functions.items low.made.functions
+
+    by : (m : Option Found) → IsMainOf (functions_of u) m → number_in m (length l.made.functions.items) < 4294967296
+    by None h = omega (arith, few, same)
+    by (Some m) h = omega (arith, few, h.1)
+
 main_place : (u : TypedTranslationUnit) (m : Option Found) → IsMainOf (functions_of u) m → place_in m ≡ source.main_place u
 main_place u None h =
     sym (ap (λ n. place_of_function (slice_get (functions_of u) n)) (main_nowhere (functions_of u) h)
@@ -92,8 +111,7 @@ pub code_of_unit : (u : TypedTranslationUnit) (p : Program) (found : Collected) 
     → p.initialisers ≡ l.initialisers → p.main.0 ≡ number_in l.made.main (length l.made.functions.items) → p.main_place ≡ place_in l.made.main
     → IsCodeOfUnit u p
 code_of_unit u p found l f low statics functions initialisers main at =
-    let homes : homes_of_statics found.statics.items ≡ homes_of u
-    = homes_seen found.statics.items ∙ ap (map home_seen) f.statics ∙ seen_homes (statics_of u) in
+    let homes = found_homes p.types u found f in
     record {
       functions = subst (λ h. AreCodeOf p.types h (functions_of u) p.functions) homes
           (subst (λ fs. AreCodeOf p.types (homes_of_statics found.statics.items) (functions_of u) fs) (sym functions) low.made.functions);

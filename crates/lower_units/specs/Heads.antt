@@ -1,21 +1,13 @@
 -- What the heads of functions and the objects of a unit are made of.
 use Rattle.std.specs.Prelude.{List, [], ◌∷◌, ◌++◌, map, Option, None, Some}
 use Rattle.cc_base.specs.declared.number.NodeId.{NodeId}
-use Rattle.c_tree.specs.Views.{added}
-use Rattle.c_tree.specs.TypedTree as typed
-use Rattle.c_tree.specs.TypedTree.{TypedParameters}
 use Rattle.c_tree.specs.TypedParts.{DefinedFunction, ParameterObject}
-use Rattle.c_tree.specs.TypedViews.{typed_declarator_view, typed_parameter_view}
+use Rattle.c_tree.specs.TypedViews.{typed_declarator_view}
 use Rattle.c_tree.specs.TypedStatementViews.{typed_block_view}
-use Rattle.c_tree.specs.declared.typed_expr.TypedParameter.{TypedParameter}
 use Rattle.c_tree.specs.declared.typed_statement.TypedFunction.{TypedFunction}
 use Rattle.cil_form.specs.declared.number.Planned.{Planned}
 use Rattle.cil_form.specs.declared.program.Parameter.{Parameter}
 use Rattle.cil_form.specs.declared.program.Static.{Static}
-
--- parameters as plain data
-abbrev pub parameters_seen : List TypedParameter → TypedParameters
-parameters_seen all = added typed.NoParameter (map typed_parameter_view all)
 
 -- a parameter as the tree has it
 abbrev pub taken_as : Parameter → ParameterObject

@@ -1,5 +1,5 @@
 -- Which function is `main`, and the code of functions with it.
-use Rattle.std.specs.Prelude.{◌≡◌, ◌<◌, ℕ, Bool, not, List, map, length, slice_get, Option, None, Some}
+use Rattle.std.specs.Prelude.{◌≡◌, ◌<◌, Bool, not, List, length, slice_get, Option, None, Some}
 use Rattle.std.specs.List.{prefix_len}
 use Rattle.cc_base.specs.declared.number.NodeId.{NodeId}
 use Rattle.c_types.specs.Table.{Table}

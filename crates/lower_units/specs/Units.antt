@@ -1,11 +1,10 @@
 -- What a unit is made of, as it is found.
-use Rattle.std.specs.Prelude.{◌≡◌, ℕ, List, map, flat_map, length, Option, None, Some}
-use Rattle.std.specs.List.{prefix_len}
+use Rattle.std.specs.Prelude.{◌≡◌, ℕ, List, flat_map, Option, None, Some}
 use Rattle.cc_base.specs.declared.place.Place.{Place}
 use Rattle.c_types.specs.Table.{Table}
 use Rattle.c_tree.specs.Places.{nowhere}
 use Rattle.c_tree.specs.TypedTree.{TypedTranslationUnit}
-use Rattle.c_tree.specs.TypedParts.{DefinedFunction, functions_of, static_initialisers}
+use Rattle.c_tree.specs.TypedParts.{static_initialisers}
 use Rattle.src_machine.specs.Machine as source
 use Rattle.src_machine.specs.Pieces.{pieces_of_unit}
 use Rattle.src_machine.specs.Sites.{sites_of_piece}
@@ -17,7 +16,7 @@ use Rattle.unit_parts.specs.Collecting.{HaveBytes, seen_statics}
 use Rattle.lower_units.specs.declared.externals.Found.{Found}
 use Rattle.lower_units.specs.declared.units.Lowered.{Lowered}
 use Rattle.lower_units.specs.Heads.{homes_of_statics}
-use Rattle.lower_units.specs.Mains.{IsMade, is_other}
+use Rattle.lower_units.specs.Mains.{IsMade}
 
 -- the objects of a unit that live as long as the program, and the sites of its pieces
 pub record IsFoundIn (table : Table) (u : TypedTranslationUnit) (c : Collected) : Type 0 where

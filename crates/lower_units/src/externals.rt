@@ -1,14 +1,16 @@
 //! The functions of a unit in the order of their definitions, and `main` among them.
 ghost use Rattle.std.specs.Prelude.{◌≡◌, ◌++◌, ◌∷◌, [], List, length, map, option_copied, IfOk, OnOk};
+ghost use Rattle.std.specs.List.{All};
 ghost use Rattle.c_tree.specs.Views.{added};
 ghost use Rattle.c_tree.specs.TypedTree as typed;
-ghost use Rattle.c_tree.specs.TypedParts.{DefinedFunction, name_of};
+ghost use Rattle.c_tree.specs.TypedParts.{DefinedFunction, functions_of, name_of};
 ghost use Rattle.c_tree.specs.TypedViews.{typed_declarator_view};
 ghost use Rattle.c_tree.specs.TypedStatementViews.{typed_external_view};
 ghost use Rattle.src_machine.specs.Machine.{is_main, place_of_name};
 ghost use Rattle.c_tree.specs.declared.typed_statement.TypedExternal.TheVariants as external;
 ghost use Rattle.lower_units.specs.Heads.{function_seen};
 ghost use Rattle.lower_units.specs.Mains.{IsMade, IsMainOf};
+ghost use Rattle.lower_units.specs.Ready.{HasCodeOfFunction};
 
 use crate::functions::{Unit, function};
 use c_check_declarators::homes::name_of;
@@ -81,6 +83,7 @@ fn main_with(found: Option<Found>, number: usize, f: &TypedFunction) -> Option<F
 
 /// A function behind others.
 fn add(made: &mut Made, k: &Unit<'_>, f: &TypedFunction) -> Result<(), NoMemory>
+    requires { HasCodeOfFunction k.now.types.now k.now.statics.now.keys (function_seen f.now) }
     ensures { (all : typed.TypedTranslationUnit) → OnOk result (IsMade k.now.types.now k.now.statics.now.keys all made.old → IsMade k.now.types.now k.now.statics.now.keys (typed_external_view (external.Function f.now) all) made.new) }
 {
     let number = made.functions.as_slice().len();
@@ -92,6 +95,7 @@ fn add(made: &mut Made, k: &Unit<'_>, f: &TypedFunction) -> Result<(), NoMemory>
 
 /// A declaration or a function behind others.
 fn external(made: &mut Made, k: &Unit<'_>, one: &TypedExternal) -> Result<(), NoMemory>
+    requires { All (HasCodeOfFunction k.now.types.now k.now.statics.now.keys) (functions_of (typed_external_view one.now typed.NoExternal)) }
     ensures { (all : typed.TypedTranslationUnit) → OnOk result (IsMade k.now.types.now k.now.statics.now.keys all made.old → IsMade k.now.types.now k.now.statics.now.keys (typed_external_view one.now all) made.new) }
 {
     match one {
@@ -102,6 +106,7 @@ fn external(made: &mut Made, k: &Unit<'_>, one: &TypedExternal) -> Result<(), No
 
 /// The code of the functions of a unit.
 pub(crate) fn functions(k: &Unit<'_>, all: &[TypedExternal]) -> Result<Made, NoMemory>
+    requires { All (HasCodeOfFunction k.now.types.now k.now.statics.now.keys) (functions_of (added typed.NoExternal (map typed_external_view all.now))) }
     ensures { IfOk result (λ made. IsMade k.now.types.now k.now.statics.now.keys (added typed.NoExternal (map typed_external_view all.now)) made) }
 {
     let mut made = Made {

@@ -7,9 +7,12 @@ ghost use Rattle.c_tree.specs.TypedStatementViews.{typed_block_view};
 ghost use Rattle.c_tree.specs.TypedParts.{made_by_block_items};
 ghost use Rattle.lower_exprs.specs.Drafts.{context_of};
 ghost use Rattle.unit_parts.specs.Collecting.{locals_from};
+ghost use Rattle.lower_statements.specs.Ready.{HasCodeOfBlock};
 ghost use Rattle.lower_units.specs.Heads.{function_seen};
+ghost use Rattle.lower_units.specs.Ready.{HasCodeOfFunction};
 
 use crate::collecting::nothing;
+use crate::drafts::finished;
 use crate::homes::variable_homes;
 use crate::parameters::parameters_of;
 use crate::statics::declared_type;
@@ -52,6 +55,7 @@ fn locals_of(k: &Unit<'_>, body: &[TypedBlockItem]) -> Result<Locals, NoMemory>
 
 /// The code of a body in its function.
 fn body_of(scope: &Scope<'_>, body: &[TypedBlockItem]) -> Result<Code, NoMemory>
+    requires { HasCodeOfBlock (typed_block_view body.now) (context_of scope.now) outermost }
     ensures { IfOk result (λ code. IsCodeOfBlock (typed_block_view body.now) (context_of scope.now) outermost code.0.items) }
 {
     let mut out = start(scope);
@@ -61,15 +65,12 @@ fn body_of(scope: &Scope<'_>, body: &[TypedBlockItem]) -> Result<Code, NoMemory>
         switches: 0,
     };
     block(&mut out, scope, nesting, body);
-    if out.fine {
-        Ok(Code(out.items))
-    } else {
-        Err(NoMemory)
-    }
+    finished(out)
 }
 
 /// The code of a function.
 pub(crate) fn function(k: &Unit<'_>, f: &TypedFunction) -> Result<Function, NoMemory>
+    requires { HasCodeOfFunction k.now.types.now k.now.statics.now.keys (function_seen f.now) }
     ensures { IfOk result (λ made. IsCodeOfFunction k.now.types.now k.now.statics.now.keys (function_seen f.now) made) }
 {
     let body = f.body.as_slice();

@@ -3,6 +3,7 @@
 #![tactic(auto)]
 
 mod collecting;
+mod drafts;
 mod externals;
 mod functions;
 mod homes;

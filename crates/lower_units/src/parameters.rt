@@ -3,8 +3,8 @@ ghost use Rattle.std.specs.Prelude.{◌≡◌, [], ◌∷◌, ◌++◌, map, opt
 ghost use Rattle.c_tree.specs.Views.{added};
 ghost use Rattle.c_tree.specs.TypedTree as typed;
 ghost use Rattle.c_tree.specs.TypedParts.{declared_home, is_void_list, is_void_word, nearest_parameters, parameter_home, parameter_objects, parameters_in_core, parameters_in_form, parameters_of, unless_starred};
-ghost use Rattle.c_tree.specs.TypedViews.{typed_core_view, typed_declarator_view, typed_declared_of, typed_form_view, typed_parameter_view, typed_part_view, typed_specifier_view, typed_specifiers_of};
-ghost use Rattle.lower_units.specs.Heads.{parameters_seen, taken_as};
+ghost use Rattle.c_tree.specs.TypedViews.{typed_core_view, typed_declarator_view, typed_declared_of, typed_form_view, typed_parameter_view, typed_part_view, typed_specifier_view, typed_specifiers_of, parameters_seen};
+ghost use Rattle.lower_units.specs.Heads.{taken_as};
 
 use c_check_declarators::homes::home_of;
 use c_lexer::Keyword;

@@ -1,15 +1,19 @@
 //! The code of a unit.
-ghost use Rattle.std.specs.Prelude.{◌≡◌, [], flat_map, IfOk};
+ghost use Rattle.std.specs.Prelude.{◌≡◌, ◌<◌, [], flat_map, IfOk};
 ghost use Rattle.c_tree.specs.TypedStatementViews.{typed_unit_view};
 ghost use Rattle.c_tree.specs.TypedParts.{static_initialisers};
 ghost use Rattle.src_machine.specs.Pieces.{pieces_of_unit};
 ghost use Rattle.src_machine.specs.Sites.{sites_of_piece};
 ghost use Rattle.lower_rules.specs.Initialisers.{IsCodeOfStatics};
-ghost use Rattle.lower_rules.specs.Units.{IsCodeOfUnit, static_context};
+ghost use Rattle.lower_rules.specs.Units.{IsCodeOfUnit, homes_of, static_context};
 ghost use Rattle.unit_parts.specs.Collecting.{HaveBytes};
+ghost use Rattle.lower_units.specs.Heads.{homes_of_statics};
+ghost use Rattle.lower_units.specs.Ready.{HasCodeOfUnit};
+ghost use Rattle.lower_units.specs.Statics.{HaveCodeOfStatics};
 ghost use Rattle.lower_units.specs.Units.{IsFoundIn, IsLoweredIn, number_in, place_in};
 
 use crate::collecting::nothing;
+use crate::drafts::finished;
 use crate::externals::{Found, Made, functions};
 use crate::functions::Unit;
 use crate::homes::static_homes;
@@ -45,6 +49,7 @@ fn collected(alloc: Global, types: &Types, unit: &TypedUnit) -> Result<Collected
 
 /// The code of the static initialisers of a unit.
 fn initialisers(k: &Unit<'_>, unit: &TypedUnit) -> Result<Code, NoMemory>
+    requires { HaveCodeOfStatics (static_initialisers (typed_unit_view unit.now)) (static_context k.now.types.now k.now.statics.now.keys) }
     ensures { IfOk result (λ code. IsCodeOfStatics (static_initialisers (typed_unit_view unit.now)) (static_context k.now.types.now k.now.statics.now.keys) code.0.items) }
 {
     let variables = IndexSet::new(k.alloc);
@@ -62,11 +67,7 @@ fn initialisers(k: &Unit<'_>, unit: &TypedUnit) -> Result<Code, NoMemory>
         statics: _,
         variables: _,
     } = scope;
-    if out.fine {
-        Ok(Code(out.items))
-    } else {
-        Err(NoMemory)
-    }
+    finished(out)
 }
 
 /// The functions of a unit and its static initialisers, among its static objects.
@@ -77,6 +78,7 @@ fn lowered_parts(
     objects: &[Static],
     unit: &TypedUnit,
 ) -> Result<Lowered, NoMemory>
+    requires { HasCodeOfUnit types.now (homes_of_statics objects.now) (typed_unit_view unit.now) }
     ensures { IfOk result (λ l. IsLoweredIn types.now objects.now (typed_unit_view unit.now) l) }
 {
     let homes = static_homes(alloc, objects)?;
@@ -91,17 +93,13 @@ fn lowered_parts(
 }
 
 /// The number of `main` among so many functions.
-fn number_of(main: Option<Found>, count: usize) -> Result<FunctionNumber, NoMemory>
-    ensures { IfOk result (λ n. n.0 ≡ number_in main count) }
+fn number_of(main: Option<Found>, count: usize) -> FunctionNumber
+    requires { number_in main count < 4294967296 }
+    ensures { result.0 ≡ number_in main count }
 {
-    let number = match main {
-        Some(main) => main.number,
-        None => count,
-    };
-    if number < 4_294_967_296 {
-        Ok(FunctionNumber(number as u32))
-    } else {
-        Err(NoMemory)
+    match main {
+        Some(main) => FunctionNumber(main.number as u32),
+        None => FunctionNumber(count as u32),
     }
 }
 
@@ -115,13 +113,14 @@ fn place_of(main: Option<Found>) -> Place
     }
 }
 
-/// The code of a unit with its types and the number of its nodes. Its sites are those of its pieces alone.
+/// The code of a unit that has code, with its types and the number of its nodes. Its sites are those of its pieces alone.
 pub fn program(
     alloc: Global,
     unit: &TypedUnit,
     types: Types,
     nodes: u32,
 ) -> Result<Program, NoMemory>
+    requires { HasCodeOfUnit types (homes_of (typed_unit_view unit.now)) (typed_unit_view unit.now) }
     ensures code { IfOk result (λ p. IsCodeOfUnit (typed_unit_view unit.now) p) }
     ensures types { IfOk result (λ p. p.types ≡ types) }
     ensures nodes { IfOk result (λ p. p.nodes ≡ nodes) }
@@ -131,7 +130,7 @@ pub fn program(
     let found = collected(alloc, &types, unit)?;
     let lowered = lowered_parts(alloc, &types, found.statics.as_slice(), unit)?;
     let main = lowered.made.main;
-    let number = number_of(main, lowered.made.functions.as_slice().len())?;
+    let number = number_of(main, lowered.made.functions.as_slice().len());
     Ok(Program {
         types,
         nodes,

@@ -9,7 +9,7 @@ use Rattle.cc_base.specs.declared.number.NodeId.{NodeId}
 use Rattle.c_types.specs.Cells.{Cell, raw, pointer, mixed}
 use Rattle.c_types.specs.Equality.{physically_equal}
 use Rattle.c_types.specs.Layouts.{size_of}
-use Rattle.c_types.specs.Solutions.{HoldsMixed}
+use Rattle.c_types.specs.Contents.{HoldsMixed}
 use Rattle.c_types.specs.Table.{Table}
 use Rattle.cc_base.specs.contracts.number.TypeIdPartialEq.TheImpl as types
 use Rattle.indexmap.specs.IndexSet.{insert_key}

@@ -13,3 +13,4 @@ pub mod Laws
 pub mod Pairs
 pub mod Found
 pub mod Standing
+pub mod Theorems

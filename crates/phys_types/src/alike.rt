@@ -1,3 +1,4 @@
+//! The pointers at the same places of two types.
 #![tactic(auto)]
 
 ghost use Rattle.std.specs.Prelude.{◌≡◌, OnOk, IsTrue};

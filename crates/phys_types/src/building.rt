@@ -1,3 +1,4 @@
+//! The layouts of types, each from those of its parts.
 #![tactic(auto)]
 
 ghost use Rattle.std.specs.Prelude.{ℕ, ◌≡◌, ◌<◌, ◌≤◌, ◌*◌, length, slice_index_or, IfOk, true, false, map, List, [], ◌∷◌};

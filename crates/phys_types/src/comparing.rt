@@ -1,3 +1,4 @@
+//! Layouts compared under numbers for what their pointers point to.
 #![tactic(auto)]
 
 ghost use Rattle.std.specs.Prelude.{ℕ, ◌≡◌, ◌+◌, ◌<◌, ◌≤◌, ◌&&◌, length, nat_le};

@@ -1,3 +1,4 @@
+//! The pointers that correspond where two layouts repeat and tile.
 #![tactic(auto)]
 
 ghost use Rattle.std.specs.Prelude.{ℕ, ◌≡◌, ◌↔◌, ◌⊎◌, ◌<◌, ◌^◌, Some, length, IfOk, OnOk};

@@ -1,3 +1,4 @@
+//! Pairs of pointers, followed through what they point to.
 #![tactic(auto)]
 
 ghost use Rattle.std.specs.Prelude.{OnOk};

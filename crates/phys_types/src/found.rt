@@ -1,3 +1,4 @@
+//! The pairs of pointers that were found to correspond.
 #![tactic(auto)]
 
 ghost use Rattle.std.specs.Prelude.{◌≡◌, ◌≢◌, OnOk, IfOk, slice_get};

@@ -1,3 +1,4 @@
+//! A pointer in a type.
 #![tactic(auto)]
 
 use cc_base::{NodeId, TypeId};

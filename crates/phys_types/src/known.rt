@@ -1,3 +1,4 @@
+//! The view of a table that remembers what it found.
 #![tactic(auto)]
 
 ghost use Rattle.std.specs.Prelude.{ℕ, ◌≡◌, ◌≢◌, ◌↔◌, ◌⊎◌, IfOk, OnOk, IsTrue};
@@ -8,7 +9,7 @@ ghost use Rattle.cc_base.specs.declared.kind.Kind.{Kind};
 ghost use Rattle.c_types.specs.Table.{IsType};
 ghost use Rattle.c_types.specs.Equality.{physically_equal, begins_with, strictly_below};
 ghost use Rattle.c_types.specs.Flows.{flow_class, CorrespondAtTop, StandAlike};
-ghost use Rattle.c_types.specs.Solutions.{HoldsMixed};
+ghost use Rattle.c_types.specs.Contents.{HoldsMixed};
 ghost use Rattle.phys_types.specs.Firsts.{AreFirstEquals};
 ghost use Rattle.phys_types.specs.Found.{Gains};
 ghost use Rattle.phys_types.specs.Pairs.{AreCorrespondingNodes, TellsEqualKinds};

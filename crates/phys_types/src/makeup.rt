@@ -1,3 +1,4 @@
+//! Whether two types are made alike, up to what they point to.
 #![tactic(auto)]
 
 ghost use Rattle.std.specs.Prelude.{ℕ, ◌≡◌, ◌≤◌, ◌&&◌, List, ◌∷◌, length, map};

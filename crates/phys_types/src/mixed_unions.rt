@@ -1,3 +1,4 @@
+//! The mixed unions in a layout.
 #![tactic(auto)]
 
 ghost use Rattle.std.specs.Prelude.{◌≡◌, ◌↔◌, ◌⊎◌, Some, IfOk, OnOk, IsTrue};

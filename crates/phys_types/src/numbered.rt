@@ -1,3 +1,4 @@
+//! A type with a number.
 #![tactic(auto)]
 
 use cc_base::TypeId;

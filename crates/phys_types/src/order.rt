@@ -1,3 +1,4 @@
+//! An order of the types in which parts come first.
 #![tactic(auto)]
 
 ghost use Rattle.std.specs.Prelude.{ℕ, ◌≡◌, ◌<◌, ◌≤◌, List, length, slice_index_or, IfOk, OnOk, IsTrue, false, replicate};

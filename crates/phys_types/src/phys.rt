@@ -1,3 +1,4 @@
+//! Questions on two types, each answered afresh.
 #![tactic(auto)]
 
 ghost use Rattle.std.specs.Prelude.{ℕ, ◌≡◌, ◌≢◌, ◌≤◌, ◌<◌, ◌||◌, if◌then◌else◌, IfOk};

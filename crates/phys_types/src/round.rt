@@ -1,3 +1,4 @@
+//! A round of the refinement that finds which types are physically equal.
 #![tactic(auto)]
 
 ghost use Rattle.std.specs.Prelude.{ℕ, ◌≡◌, ◌<◌, ◌≤◌, Some, List, length, take, replicate, slice_index_or, nat_eq, IfOk, OnOk, IsTrue};

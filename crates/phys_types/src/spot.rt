@@ -1,3 +1,4 @@
+//! What stands at a place in a layout.
 #![tactic(auto)]
 
 ghost use Rattle.std.specs.Prelude.{◌≡◌};

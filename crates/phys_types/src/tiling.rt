@@ -1,3 +1,4 @@
+//! Whether a layout is made of repetitions of a shorter one.
 #![tactic(auto)]
 
 ghost use Rattle.std.specs.Prelude.{ℕ, ◌≡◌, ◌≤◌, ◌&&◌, nat_lt, IfOk};

@@ -1,3 +1,4 @@
+//! The pairs of pointers that one flow gives at once.
 #![tactic(auto)]
 
 ghost use Rattle.std.specs.Prelude.{◌≡◌, OnOk};

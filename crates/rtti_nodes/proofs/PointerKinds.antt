@@ -8,13 +8,14 @@ use Rattle.cc_base.specs.declared.number.TypeId.{TypeId}
 use Rattle.cc_base.specs.declared.number.NodeId.{NodeId}
 use Rattle.cc_base.specs.declared.kind.Kind.{Kind}
 use Rattle.cc_base.specs.declared.kind.Kind.TheVariants.{Safe, Seq, Rtti, Wild}
+use Rattle.cc_base.specs.Kinds.{kind_at, same_kind}
 use Rattle.c_types.specs.declared.shape.TypeShape.{TypeShape}
 use Rattle.c_types.specs.declared.shape.TypeShape.TheVariants as shape
 use Rattle.c_types.specs.Table.{Table, Entry, AreNodesOf, IsType, shape_at, void_entry}
 use Rattle.c_types.specs.Cells.{Cell, raw, pointer, mixed, incomplete}
 use Rattle.c_types.specs.Equality.{physically_equal, cells_of, begins_with}
-use Rattle.c_types.specs.Flows.{kind_in, HeldPointer, pointer_in_cell, pointer_of_shape, and_then, pointer_in, pointer_at, StandAlike, top, inside, CorrespondByPlace, HaveEqualKinds, IsOfOneClass, Covers}
-use Rattle.c_types.specs.Coverage.{same_kind, covers, of_one_class}
+use Rattle.c_types.specs.Flows.{HeldPointer, pointer_in_cell, pointer_of_shape, and_then, pointer_in, pointer_at, StandAlike, top, inside, CorrespondByPlace, HaveEqualKinds, IsOfOneClass, Covers}
+use Rattle.c_types.specs.Coverage.{covers, of_one_class}
 use Rattle.c_types.specs.Sound.{IsWellFormed}
 use Rattle.type_laws.proofs.Coverage.{covers_is, one_class_is}
 use Rattle.type_laws.proofs.Pointers.{Mirrors, equal_mirrors, begins_mirrors}
@@ -215,13 +216,13 @@ own_kind Seq = refl
 own_kind Rtti = refl
 own_kind Wild = refl
 
-kind_told : (kinds : List Kind) (n : NodeId) (k : Kind) → slice_get kinds n.0 ≡ Some k → kind_in kinds n ≡ k
+kind_told : (kinds : List Kind) (n : NodeId) (k : Kind) → slice_get kinds n.0 ≡ Some k → kind_at kinds n ≡ k
 kind_told kinds n k e = get_or_from_slice_get kinds n.0 k Safe e
 
-pub told_equal : (kinds : List Kind) (m n : NodeId) (k l : Kind) → slice_get kinds m.0 ≡ Some k → slice_get kinds n.0 ≡ Some l → same_kind k l ≡ true → kind_in kinds m ≡ kind_in kinds n
+pub told_equal : (kinds : List Kind) (m n : NodeId) (k l : Kind) → slice_get kinds m.0 ≡ Some k → slice_get kinds n.0 ≡ Some l → same_kind k l ≡ true → kind_at kinds m ≡ kind_at kinds n
 told_equal kinds m n k l e f h = kind_told kinds m k e ∙ one_kind k l h ∙ sym (kind_told kinds n l f)
 
-pub told_unequal : (kinds : List Kind) (m n : NodeId) (k l : Kind) → slice_get kinds m.0 ≡ Some k → slice_get kinds n.0 ≡ Some l → same_kind k l ≡ false → kind_in kinds m ≡ kind_in kinds n → ⊥
+pub told_unequal : (kinds : List Kind) (m n : NodeId) (k l : Kind) → slice_get kinds m.0 ≡ Some k → slice_get kinds n.0 ≡ Some l → same_kind k l ≡ false → kind_at kinds m ≡ kind_at kinds n → ⊥
 told_unequal kinds m n k l e f h g =
     let s : k ≡ l = sym (kind_told kinds m k e) ∙ g ∙ kind_told kinds n l f in
     true≢false (sym (own_kind k) ∙ ap (same_kind k) s ∙ h)

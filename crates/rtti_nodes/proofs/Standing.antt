@@ -9,6 +9,7 @@ use Rattle.std.proofs.lemmas.List.{length-map, get_or-map}
 use Rattle.std.proofs.lemmas.List.Elements.{Contains-get_or}
 use Rattle.std.proofs.lemmas.Map.Made.{IsDistinct-from_AllPairs}
 use Rattle.std.proofs.lemmas.Map.Steps.{length-le_from_distinct_below}
+use Rattle.cc_base.specs.Kinds.{kind_at}
 use Rattle.indexmap.proofs.CallerLemmas.{Contains-list_any}
 use Rattle.std.specs.List.Sorted.{IsPermutation, IsNonDecreasingBy}
 use Rattle.std.proofs.lemmas.List.Sorted.{Contains-permutation, IsPermutation-sym}
@@ -17,7 +18,7 @@ use Rattle.cc_base.specs.declared.number.NodeId.{NodeId}
 use Rattle.cc_base.specs.declared.kind.Kind.{Kind}
 use Rattle.c_types.specs.Table.{Table, IsType, is_function}
 use Rattle.c_types.specs.Equality.{cells_of}
-use Rattle.c_types.specs.Flows.{kind_in, IsOfOneClass, Covers}
+use Rattle.c_types.specs.Flows.{IsOfOneClass, Covers}
 use Rattle.c_types.specs.Sound.{IsWellFormed}
 use Rattle.type_laws.proofs.Pointers.{class_own, class_turned, class_twice}
 use Rattle.type_laws.proofs.Sizes.{equal_counts}
@@ -132,14 +133,14 @@ sizes_at table ordered h j s e = subst (IsSizedType table) (get_or_from_slice_ge
 
 module _ (table : Table) (w : IsWellFormed table) (kinds : List Kind) (used : List TypeId) (typed : All (IsType table) used)
     (plain : All (λ t. IsFalse (is_function table t)) used) (ordered : List Sized) (same : IsPermutation (map (sized table) used) ordered)
-    (firsts : List TypeId) (parents numbers : List ℕ) (a : AreSorted table (kind_in kinds) ordered (length ordered) firsts parents numbers) where
+    (firsts : List TypeId) (parents numbers : List ℕ) (a : AreSorted table (kind_at kinds) ordered (length ordered) firsts parents numbers) where
   kind : NodeId → Kind
-  kind = kind_in kinds
+  kind = kind_at kinds
 
   abbrev nodes : TypeNodes
   nodes = record { table = table; kinds = kinds; used = used; numbers = numbers; parents = parents }
 
-  placed : (t : TypeId) → Contains used t → IsNumbered table (kind_in kinds) firsts numbers t
+  placed : (t : TypeId) → Contains used t → IsNumbered table (kind_at kinds) firsts numbers t
   placed t c =
       let i = contains_get ordered (sized table t) (Contains-permutation (map (sized table) used) ordered (sized table t) same (map_contains (sized table) used t c)) in
       a.numbered i.0 (sized table t) (within ordered i.0 (sized table t) i.1) i.1
@@ -157,44 +158,44 @@ module _ (table : Table) (w : IsWellFormed table) (kinds : List Kind) (used : Li
       let u = used_of table used typed plain ordered same m.one (get_contains ordered m.place m.one m.found) in
       (subst (Contains used) (ap (λ (s : Sized). s.ty) u.2 ∙ m.is) u.1, m.number)
 
-  same_place : (i j : ℕ) (t u : TypeId) → slice_get firsts i ≡ Some t → slice_get firsts j ≡ Some u → IsOfOneClass table (kind_in kinds) t u → i ≡ j
+  same_place : (i j : ℕ) (t u : TypeId) → slice_get firsts i ≡ Some t → slice_get firsts j ≡ Some u → IsOfOneClass table (kind_at kinds) t u → i ≡ j
   same_place i j t u e f c = by (order_of i j)
     where
       by : (i ≡ j) ⊎ (i < j) ⊎ (j < i) → i ≡ j
       by (inl x) = x
       by (inr (inl x)) = absurd (a.stand.apart i j t u x e f c)
-      by (inr (inr x)) = absurd (a.stand.apart j i u t x f e (class_turned table (kind_in kinds) t u c))
+      by (inr (inr x)) = absurd (a.stand.apart j i u t x f e (class_turned table (kind_at kinds) t u c))
 
-  one_class : (t u : TypeId) (c : Contains used t) (d : Contains used u) → IsOfOneClass table (kind_in kinds) t u
-      → IsOfOneClass table (kind_in kinds) (placed t c).first (placed u d).first
+  one_class : (t u : TypeId) (c : Contains used t) (d : Contains used u) → IsOfOneClass table (kind_at kinds) t u
+      → IsOfOneClass table (kind_at kinds) (placed t c).first (placed u d).first
   one_class t u c d h =
-      class_twice table (kind_in kinds) w (placed t c).first t (placed u d).first (class_turned table (kind_in kinds) t (placed t c).first (placed t c).class)
-      (class_twice table (kind_in kinds) w t u (placed u d).first h (placed u d).class)
+      class_twice table (kind_at kinds) w (placed t c).first t (placed u d).first (class_turned table (kind_at kinds) t (placed t c).first (placed t c).class)
+      (class_twice table (kind_at kinds) w t u (placed u d).first h (placed u d).class)
 
-  classes : (t u : TypeId) → Contains used t → Contains used u → (node_at nodes t ≡ node_at nodes u) ↔ IsOfOneClass table (kind_in kinds) t u
+  classes : (t u : TypeId) → Contains used t → Contains used u → (node_at nodes t ≡ node_at nodes u) ↔ IsOfOneClass table (kind_at kinds) t u
   classes t u c d = (
     λ e.
         let p : (placed t c).place ≡ (placed u d).place = (let x = (placed t c).number in let y = (placed u d).number in omega (arith, e, x, y)) in
         let f : (placed t c).first ≡ (placed u d).first = same_some _ _ (sym (placed t c).found ∙ ap (slice_get firsts) p ∙ (placed u d).found) in
-        class_twice table (kind_in kinds) w t (placed t c).first u (placed t c).class
-        (subst (λ (v : TypeId). IsOfOneClass table (kind_in kinds) v u) (sym f) (class_turned table (kind_in kinds) u (placed u d).first (placed u d).class)),
+        class_twice table (kind_at kinds) w t (placed t c).first u (placed t c).class
+        (subst (λ (v : TypeId). IsOfOneClass table (kind_at kinds) v u) (sym f) (class_turned table (kind_at kinds) u (placed u d).first (placed u d).class)),
     λ h. (placed t c).number ∙ ap suc (same_place (placed t c).place (placed u d).place (placed t c).first (placed u d).first (placed t c).found (placed u d).found (one_class t u c d h))
         ∙ sym (placed u d).number,
   )
 
-  covers_firsts : (t u : TypeId) (c : Contains used t) (d : Contains used u) → Covers table (kind_in kinds) t u → Covers table (kind_in kinds) (placed t c).first (placed u d).first
+  covers_firsts : (t u : TypeId) (c : Contains used t) (d : Contains used u) → Covers table (kind_at kinds) t u → Covers table (kind_at kinds) (placed t c).first (placed u d).first
   covers_firsts t u c d =
-      covers_along table w (kind_in kinds) t (placed t c).first u (placed u d).first (a.stand.types (placed t c).place (placed t c).first (placed t c).found).plain
+      covers_along table w (kind_at kinds) t (placed t c).first u (placed u d).first (a.stand.types (placed t c).place (placed t c).first (placed t c).found).plain
       (placed t c).class (placed u d).class
 
-  covers_used : (t u : TypeId) (c : Contains used t) (d : Contains used u) → Covers table (kind_in kinds) (placed t c).first (placed u d).first → Covers table (kind_in kinds) t u
+  covers_used : (t u : TypeId) (c : Contains used t) (d : Contains used u) → Covers table (kind_at kinds) (placed t c).first (placed u d).first → Covers table (kind_at kinds) t u
   covers_used t u c d =
-      covers_along table w (kind_in kinds) (placed t c).first t (placed u d).first u (data_of t c).plain
-      (class_turned table (kind_in kinds) t (placed t c).first (placed t c).class) (class_turned table (kind_in kinds) u (placed u d).first (placed u d).class)
+      covers_along table w (kind_at kinds) (placed t c).first t (placed u d).first u (data_of t c).plain
+      (class_turned table (kind_at kinds) t (placed t c).first (placed t c).class) (class_turned table (kind_at kinds) u (placed u d).first (placed u d).class)
 
-  below_holds : (t u : TypeId) → Contains used t → Contains used u → IsTrue (is_below parents (node_at nodes t) (node_at nodes u)) ↔ Covers table (kind_in kinds) t u
+  below_holds : (t u : TypeId) → Contains used t → Contains used u → IsTrue (is_below parents (node_at nodes t) (node_at nodes u)) ↔ Covers table (kind_at kinds) t u
   below_holds t u c d =
-      let k = below_is table w (kind_in kinds) firsts parents a.stand (placed t c).place (placed u d).place (placed t c).first (placed u d).first (placed t c).found (placed u d).found in
+      let k = below_is table w (kind_at kinds) firsts parents a.stand (placed t c).place (placed u d).place (placed t c).first (placed u d).first (placed t c).found (placed u d).found in
       let e : is_below parents (node_at nodes t) (node_at nodes u) ≡ is_below parents (suc (placed t c).place) (suc (placed u d).place) =
       ap (λ n. is_below parents n (node_at nodes u)) (placed t c).number ∙ ap (is_below parents (suc (placed t c).place)) (placed u d).number in
       (λ h. covers_used t u c d (k.0 (sym e ∙ h)), λ h. e ∙ k.1 (covers_firsts t u c d h))
@@ -209,17 +210,17 @@ module _ (table : Table) (w : IsWellFormed table) (kinds : List Kind) (used : Li
     i : ℕ
     i = (placed t c).place
 
-    is_last : IsLastCovered table (kind_in kinds) firsts (placed t c).place (placed t c).first (slice_index parents (placed t c).place)
+    is_last : IsLastCovered table (kind_at kinds) firsts (placed t c).place (placed t c).first (slice_index parents (placed t c).place)
     is_last = a.stand.parent (placed t c).place (placed t c).first (placed t c).found
 
     small : (placed t c).place < length firsts
     small = within firsts (placed t c).place (placed t c).first (placed t c).found
 
     -- what t covers and isn't of its class comes before
-    comes_before : (u : TypeId) (d : Contains used u) → Covers table (kind_in kinds) t u → (IsOfOneClass table (kind_in kinds) t u → ⊥) → (placed u d).place < (placed t c).place
+    comes_before : (u : TypeId) (d : Contains used u) → Covers table (kind_at kinds) t u → (IsOfOneClass table (kind_at kinds) t u → ⊥) → (placed u d).place < (placed t c).place
     comes_before u d h n = by (order_of (placed u d).place (placed t c).place)
       where
-        g : Covers table (kind_in kinds) (placed t c).first (placed u d).first
+        g : Covers table (kind_at kinds) (placed t c).first (placed u d).first
         g = covers_firsts t u c d h
 
         by : ((placed u d).place ≡ (placed t c).place) ⊎ ((placed u d).place < (placed t c).place) ⊎ ((placed t c).place < (placed u d).place) → (placed u d).place < (placed t c).place
@@ -227,11 +228,11 @@ module _ (table : Table) (w : IsWellFormed table) (kinds : List Kind) (used : Li
         by (inr (inl x)) = x
         by (inr (inr x)) =
             absurd (a.stand.apart (placed t c).place (placed u d).place (placed t c).first (placed u d).first x (placed t c).found (placed u d).found
-            (class_if_long table w (kind_in kinds) (placed t c).first (placed u d).first (a.stand.types (placed t c).place (placed t c).first (placed t c).found).typed
+            (class_if_long table w (kind_at kinds) (placed t c).first (placed u d).first (a.stand.types (placed t c).place (placed t c).first (placed t c).found).typed
             (a.stand.types (placed u d).place (placed u d).first (placed u d).found).typed
             (a.stand.rising (placed t c).place (placed u d).place (placed t c).first (placed u d).first (omega (arith, x)) (placed t c).found (placed u d).found) g))
 
-    at_most : (u : TypeId) (d : Contains used u) → Covers table (kind_in kinds) t u → (placed u d).place < (placed t c).place → suc (placed u d).place ≤ slice_index parents (placed t c).place
+    at_most : (u : TypeId) (d : Contains used u) → Covers table (kind_at kinds) t u → (placed u d).place < (placed t c).place → suc (placed u d).place ≤ slice_index parents (placed t c).place
     at_most u d h l = by (order (placed u d).place (slice_index parents (placed t c).place))
       where
         order : (x y : ℕ) → (x < y) ⊎ (y ≤ x)
@@ -259,15 +260,15 @@ module _ (table : Table) (w : IsWellFormed table) (kinds : List Kind) (used : Li
       v_used : Contains used v
       v_used = (first_used k v v_found).0
 
-      v_covered : Covers table (kind_in kinds) t v
+      v_covered : Covers table (kind_at kinds) t v
       v_covered =
-          covers_along table w (kind_in kinds) (placed t c).first t v v (data_of t c).plain (class_turned table (kind_in kinds) t (placed t c).first (placed t c).class)
-          (class_own table (kind_in kinds) v) (is_last.covered k v e v_found)
+          covers_along table w (kind_at kinds) (placed t c).first t v v (data_of t c).plain (class_turned table (kind_at kinds) t (placed t c).first (placed t c).class)
+          (class_own table (kind_at kinds) v) (is_last.covered k v e v_found)
 
-      v_other : IsOfOneClass table (kind_in kinds) t v → ⊥
+      v_other : IsOfOneClass table (kind_at kinds) t v → ⊥
       v_other h =
           a.stand.apart k (placed t c).place v (placed t c).first before v_found (placed t c).found
-          (class_twice table (kind_in kinds) w v t (placed t c).first (class_turned table (kind_in kinds) t v h) (placed t c).class)
+          (class_twice table (kind_at kinds) w v t (placed t c).first (class_turned table (kind_at kinds) t v h) (placed t c).class)
 
       longest : (u : TypeId) (d : Contains used u) → (placed u d).place ≤ k → length (cells_of table u) ≤ length (cells_of table v)
       longest u d l =
@@ -300,8 +301,8 @@ module _ (table : Table) (w : IsWellFormed table) (kinds : List Kind) (used : Li
         same_node : (k : ℕ) (e : slice_index parents (placed t c).place ≡ suc k) → (placed u n.used).place ≤ k → node_at nodes u ≡ node_at nodes (v k e)
         same_node k e l =
             (classes u (v k e) n.used (v_used k e)).1
-            (class_if_long table w (kind_in kinds) u (v k e) (data_of u n.used).typed (data_of (v k e) (v_used k e)).typed (longest k e u n.used l)
-            (covers_between table w (kind_in kinds) t u (v k e) (n.longest (v k e) (v_used k e) (v_covered k e) (v_other k e)) n.covers (v_covered k e)))
+            (class_if_long table w (kind_at kinds) u (v k e) (data_of u n.used).typed (data_of (v k e) (v_used k e)).typed (longest k e u n.used l)
+            (covers_between table w (kind_at kinds) t u (v k e) (n.longest (v k e) (v_used k e) (v_covered k e) (v_other k e)) n.covers (v_covered k e)))
 
         by : (slice_index parents (placed t c).place ≡ 0) ⊎ ((k : ℕ) × (slice_index parents (placed t c).place ≡ suc k)) → slice_index parents (placed t c).place ≡ node_at nodes u
         by (inl x) = absurd (let y = b in omega (arith, x, y))
@@ -316,7 +317,7 @@ module _ (table : Table) (w : IsWellFormed table) (kinds : List Kind) (used : Li
   type_nodes = record {
     formed = w;
     fits = λ t c. let l = (data_of t c).typed in let e = a.fits in omega (arith, l, e);
-    few = let l = few_firsts table (kind_in kinds) firsts parents a.stand in let e = a.stand.count in omega (arith, l, e);
+    few = let l = few_firsts table (kind_at kinds) firsts parents a.stand in let e = a.stand.count in omega (arith, l, e);
     each = λ t c.
         let n = (placed t c).number in let l = small t c in let e = a.stand.count in (omega (arith, n), omega (arith, n, l, e));
     all = all_made;

@@ -4,9 +4,10 @@ use Rattle.std.specs.List.{Contains}
 use Rattle.cc_base.specs.declared.number.TypeId.{TypeId}
 use Rattle.cc_base.specs.declared.number.NodeId.{NodeId}
 use Rattle.cc_base.specs.declared.kind.Kind.{Kind}
+use Rattle.cc_base.specs.Kinds.{kind_at}
 use Rattle.c_types.specs.Table.{Table}
 use Rattle.c_types.specs.Equality.{cells_of}
-use Rattle.c_types.specs.Flows.{kind_in, IsOfOneClass, Covers}
+use Rattle.c_types.specs.Flows.{IsOfOneClass, Covers}
 use Rattle.c_types.specs.Sound.{IsWellFormed}
 use Rattle.cured_code.specs.Tables.{parent_of, is_below}
 use Rattle.cured_code.specs.Ranges.{AreParentsEarlier}
@@ -24,7 +25,7 @@ abbrev pub node_at : TypeNodes → TypeId → ℕ
 node_at n t = slice_index n.numbers t.0
 
 abbrev pub kind_by : TypeNodes → NodeId → Kind
-kind_by n = kind_in n.kinds
+kind_by n = kind_at n.kinds
 
 -- u is a longest used type among those that t covers and that aren't of its class
 pub record IsNextCovered (n : TypeNodes) (t u : TypeId) : Type 0 where

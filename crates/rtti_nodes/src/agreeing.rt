@@ -5,10 +5,9 @@ ghost use Rattle.std.specs.Prelude.{◌≡◌, ◌<◌, ◌↔◌, ◌⊎◌, If
 ghost use Rattle.std.specs.List.{All, Contains};
 ghost use Rattle.cc_base.specs.declared.number.NodeId.{NodeId};
 ghost use Rattle.cc_base.specs.declared.number.TypeId.{TypeId};
+ghost use Rattle.cc_base.specs.Kinds.{kind_at, same_kind};
 ghost use Rattle.c_types.specs.Table.{IsType, AreNodesOf};
 ghost use Rattle.c_types.specs.Equality.{physically_equal, begins_with};
-ghost use Rattle.c_types.specs.Flows.{kind_in};
-ghost use Rattle.c_types.specs.Coverage.{same_kind};
 ghost use Rattle.c_types.specs.Sound.{IsWellFormed};
 ghost use Rattle.phys_types.specs.Numbers.{number_in};
 ghost use Rattle.rtti_nodes.specs.Numbering.{AgreeAtPlaces};
@@ -34,7 +33,7 @@ pub(crate) fn have_equal_kinds(kinds: &Kinds, pairs: &[(NodeId, NodeId)]) -> boo
     requires first { (a b : NodeId) → Contains pairs.now (a, b) → a.0 < length kinds.now }
     requires second { (a b : NodeId) → Contains pairs.now (a, b) → b.0 < length kinds.now }
     ensures { IsTrue result ↔ ((a b : NodeId) →
-        Contains pairs.now (a, b) → kind_in kinds.now a ≡ kind_in kinds.now b) }
+        Contains pairs.now (a, b) → kind_at kinds.now a ≡ kind_at kinds.now b) }
 {
     'pairs: for pair in pairs {
         if !is_same(kinds.kind_of(pair.0), kinds.kind_of(pair.1)) {
@@ -73,7 +72,7 @@ pub(crate) fn places_agree(
     requires near { IsTrue (physically_equal known.now t u) ⊎ IsTrue (begins_with known.now t u) }
     requires nodes { All (λ e. AreNodesOf (length kinds.now) e.shape) known.now }
     ensures { IfOk result
-        (λ agree. IsTrue agree ↔ AgreeAtPlaces known.now (kind_in kinds.now) numbers.now t u) }
+        (λ agree. IsTrue agree ↔ AgreeAtPlaces known.now (kind_at kinds.now) numbers.now t u) }
 {
     let mut found = Found::new(alloc);
     known.add_places(&mut found, t, u)?;

@@ -4,9 +4,10 @@
 ghost use Rattle.std.specs.Prelude.{◌≡◌, ◌↔◌, ◌⊎◌, IfOk, IsTrue, length};
 ghost use Rattle.std.specs.List.{All, Contains};
 ghost use Rattle.cc_base.specs.declared.number.NodeId.{NodeId};
+ghost use Rattle.cc_base.specs.Kinds.{kind_at};
 ghost use Rattle.c_types.specs.Table.{IsType, AreNodesOf};
 ghost use Rattle.c_types.specs.Equality.{physically_equal, begins_with};
-ghost use Rattle.c_types.specs.Flows.{kind_in, CorrespondByPlace};
+ghost use Rattle.c_types.specs.Flows.{CorrespondByPlace};
 ghost use Rattle.c_types.specs.Coverage.{covers, of_one_class};
 ghost use Rattle.c_types.specs.Sound.{IsWellFormed};
 ghost use Rattle.phys_types.specs.Pairs.{HaveNodes};
@@ -66,7 +67,7 @@ fn covers_by_pairs(
     requires second { IsType known.now u }
     requires begins { IsTrue (begins_with known.now t u) }
     requires nodes { All (λ e. AreNodesOf (length kinds.now) e.shape) known.now }
-    ensures { IfOk result (λ covered. covered ≡ covers known.now (kind_in kinds.now) t u) }
+    ensures { IfOk result (λ covered. covered ≡ covers known.now (kind_at kinds.now) t u) }
 {
     let pairs = nodes_by_place(alloc, known, t, u)?;
     Ok(have_equal_kinds(kinds, &pairs))
@@ -84,8 +85,8 @@ pub(crate) fn covers(
     requires first { IsType known.now t }
     requires second { IsType known.now u }
     requires nodes { All (λ e. AreNodesOf (length kinds.now) e.shape) known.now }
-    requires told { TellClasses known.now (kind_in kinds.now) told.now }
-    ensures { IfOk result (λ covered. covered ≡ covers known.now (kind_in kinds.now) t u) }
+    requires told { TellClasses known.now (kind_at kinds.now) told.now }
+    ensures { IfOk result (λ covered. covered ≡ covers known.now (kind_at kinds.now) t u) }
 {
     if !begins_with(known, t, u) {
         return Ok(false);
@@ -108,7 +109,7 @@ fn is_class_by_pairs(
     requires first { IsType known.now t }
     requires second { IsType known.now u }
     requires nodes { All (λ e. AreNodesOf (length kinds.now) e.shape) known.now }
-    ensures { IfOk result (λ one. one ≡ of_one_class known.now (kind_in kinds.now) t u) }
+    ensures { IfOk result (λ one. one ≡ of_one_class known.now (kind_at kinds.now) t u) }
 {
     if !known.is_equal(t, u) {
         return Ok(false);
@@ -130,8 +131,8 @@ pub fn is_of_one_class(
     requires first { IsType known.now t }
     requires second { IsType known.now u }
     requires nodes { All (λ e. AreNodesOf (length kinds.now) e.shape) known.now }
-    requires told { TellClasses known.now (kind_in kinds.now) told.now }
-    ensures { IfOk result (λ one. one ≡ of_one_class known.now (kind_in kinds.now) t u) }
+    requires told { TellClasses known.now (kind_at kinds.now) told.now }
+    ensures { IfOk result (λ one. one ≡ of_one_class known.now (kind_at kinds.now) t u) }
 {
     if number_of(&told.numbers, t) != number_of(&told.numbers, u) {
         return Ok(false);
@@ -154,9 +155,9 @@ pub(crate) fn last_covered(
     requires types { All (IsType known.now) firsts.now }
     requires typed { IsType known.now t }
     requires nodes { All (λ e. AreNodesOf (length kinds.now) e.shape) known.now }
-    requires told { TellClasses known.now (kind_in kinds.now) told.now }
+    requires told { TellClasses known.now (kind_at kinds.now) told.now }
     ensures { IfOk result (λ last.
-        IsLastCovered known.now (kind_in kinds.now) firsts.now (length firsts.now) t last) }
+        IsLastCovered known.now (kind_at kinds.now) firsts.now (length firsts.now) t last) }
 {
     let mut last = firsts.len();
     'firsts: while last > 0 {

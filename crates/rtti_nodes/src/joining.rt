@@ -5,8 +5,8 @@ ghost use Rattle.std.specs.Prelude.{ℕ, ◌≡◌, ◌<◌, ◌≤◌, suc, Som
 ghost use Rattle.std.specs.List.{All};
 ghost use Rattle.std.specs.List.Sorted.{IsNonDecreasingBy};
 ghost use Rattle.cc_base.specs.declared.number.TypeId.{TypeId};
+ghost use Rattle.cc_base.specs.Kinds.{kind_at};
 ghost use Rattle.c_types.specs.Table.{IsType, AreNodesOf};
-ghost use Rattle.c_types.specs.Flows.{kind_in};
 ghost use Rattle.c_types.specs.Equality.{physically_equal};
 ghost use Rattle.c_types.specs.Sound.{IsWellFormed};
 ghost use Rattle.rtti_nodes.specs.Classes.{IsAdded, IsLast, AreSorted, IsSizedType};
@@ -52,8 +52,8 @@ fn add(
     requires nodes { All (λ e. AreNodesOf (length kinds.now) e.shape) known.now }
     requires few { length classes.old.firsts.items < 4294967295 }
     requires fits { t.0 < length classes.old.numbers.items }
-    requires told { TellClasses known.now (kind_in kinds.now) told.now }
-    ensures { OnOk result (IsAdded known.now (kind_in kinds.now) t classes.old classes.new) }
+    requires told { TellClasses known.now (kind_at kinds.now) told.now }
+    ensures { OnOk result (IsAdded known.now (kind_at kinds.now) t classes.old classes.new) }
 {
     let last = last_covered(known, kinds, told, &classes.firsts, t)?;
     if is_of_last(known, &classes.firsts, last, t) {
@@ -80,9 +80,9 @@ pub(crate) fn classes_of(
     requires nodes { All (λ e. AreNodesOf (length kinds.now) e.shape) known.now }
     requires types { All (IsSizedType known.now) ordered.now }
     requires sorted { IsNonDecreasingBy (λ s. s.size) ordered.now }
-    requires told { TellClasses known.now (kind_in kinds.now) told.now }
+    requires told { TellClasses known.now (kind_at kinds.now) told.now }
     ensures { IfOk result (λ c.
-        AreSorted known.now (kind_in kinds.now) ordered.now (length ordered.now) c.firsts.items c.parents.items c.numbers.items) }
+        AreSorted known.now (kind_at kinds.now) ordered.now (length ordered.now) c.firsts.items c.parents.items c.numbers.items) }
 {
     let mut classes = Classes {
         firsts: Vec::new(alloc),

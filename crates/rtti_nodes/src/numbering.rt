@@ -4,8 +4,8 @@
 
 ghost use Rattle.std.specs.Prelude.{◌≡◌, IfOk, IsTrue, length};
 ghost use Rattle.std.specs.List.{All};
+ghost use Rattle.cc_base.specs.Kinds.{kind_at};
 ghost use Rattle.c_types.specs.Table.{IsType, AreNodesOf};
-ghost use Rattle.c_types.specs.Flows.{kind_in};
 ghost use Rattle.c_types.specs.Sound.{IsWellFormed};
 ghost use Rattle.rtti_nodes.specs.Numbering.{AreCoarse, AreFine, AreAlikeBy, TellClasses};
 
@@ -41,7 +41,7 @@ fn look_alike(
     requires second { IsType known.now u }
     requires nodes { All (λ e. AreNodesOf (length kinds.now) e.shape) known.now }
     ensures { IfOk result
-        (λ alike. IsTrue alike → AreAlikeBy known.now (kind_in kinds.now) numbers.now t u) }
+        (λ alike. IsTrue alike → AreAlikeBy known.now (kind_at kinds.now) numbers.now t u) }
 {
     if t.0 == u.0 {
         return Ok(true);
@@ -64,7 +64,7 @@ fn are_fine(
     requires count { count ≡ length known.now }
     requires nodes { All (λ e. AreNodesOf (length kinds.now) e.shape) known.now }
     ensures { IfOk result
-        (λ fine. IsTrue fine → AreFine known.now (kind_in kinds.now) numbers.now) }
+        (λ fine. IsTrue fine → AreFine known.now (kind_at kinds.now) numbers.now) }
 {
     let firsts = firsts_of(alloc, count, numbers)?;
     'types: for t in 0..count {
@@ -86,8 +86,8 @@ fn finer(
 ) -> Result<Vec<usize>, NoMemory>
     requires table { known.now ≡ types.now }
     requires nodes { All (λ e. AreNodesOf (length kinds.now) e.shape) types.now }
-    ensures { AreCoarse types.now (kind_in kinds.now) numbers.now
-        → IfOk result (λ finer. AreCoarse types.now (kind_in kinds.now) finer.items) }
+    ensures { AreCoarse types.now (kind_at kinds.now) numbers.now
+        → IfOk result (λ finer. AreCoarse types.now (kind_at kinds.now) finer.items) }
 {
     let count = types.count();
     let mut finer = Vec::with_capacity(alloc, count as usize)?;
@@ -109,8 +109,8 @@ fn refined(
 ) -> Result<Vec<usize>, NoMemory>
     requires table { known.now ≡ types.now }
     requires nodes { All (λ e. AreNodesOf (length kinds.now) e.shape) types.now }
-    requires coarse { AreCoarse types.now (kind_in kinds.now) coarse.now }
-    ensures { IfOk result (λ fine. AreCoarse types.now (kind_in kinds.now) fine.items) }
+    requires coarse { AreCoarse types.now (kind_at kinds.now) coarse.now }
+    ensures { IfOk result (λ fine. AreCoarse types.now (kind_at kinds.now) fine.items) }
 {
     let mut numbers = Vec::from_slice(alloc, coarse)?;
     'times: for _time in 0..times {
@@ -129,7 +129,7 @@ pub fn class_numbers(
 ) -> Result<ClassNumbers, NoMemory>
     requires table { known.now ≡ types.now }
     requires nodes { All (λ e. AreNodesOf (length kinds.now) e.shape) types.now }
-    ensures { IfOk result (TellClasses types.now (kind_in kinds.now)) }
+    ensures { IfOk result (TellClasses types.now (kind_at kinds.now)) }
 {
     let count = types.count();
     let mut numbers = Vec::from_slice(alloc, known.numbers())?;

@@ -1,3 +1,4 @@
+//! The prototypes of the six runtime functions.
 #![tactic(auto)]
 
 ghost use Rattle.std.specs.Prelude.{◌≡◌};

@@ -1,3 +1,4 @@
+//! The runtime functions by their names.
 #![tactic(auto)]
 
 ghost use Rattle.std.specs.Prelude.{◌≡◌, MatchOption};

@@ -23,7 +23,8 @@ use Rattle.src_mem.specs.Memory as objects
 use Rattle.src_mem.specs.Memory.{Object, depth_of_object}
 use Rattle.src_mem.specs.State as source
 use Rattle.src_mem.specs.State.{Setting, Defined}
-use Rattle.src_mem.specs.Checks.{IsMadeFor, IsNotOfFrame, IsFunctionOf, HasRoom, depth_limit, frame_limit, has_room, fits_between, function_passes, function_passes_or_none, conditions_of_allocation, holds}
+use Rattle.src_mem.specs.Checks.{IsMadeFor, IsNotOfFrame, IsFunctionOf, HasRoom, depth_limit, source_frame_limit, has_room, fits_between, function_passes, function_passes_or_none, null_or_in_bounds, conditions_of_allocation, holds}
+use Rattle.src_mem.specs.Primitives.{block_pointer}
 use Rattle.src_mem.specs.Facts.{IsTypedAt, IsWildAt}
 use Rattle.src_mem.specs.Outlines.{outlines_of}
 use Rattle.src_mem.proofs.Outlines.{has-outline}
@@ -111,9 +112,9 @@ roomy-end start (frame ∷ frames) h r =
     let i = roomy-end start frames h.3 r.1 in let a = h.0 in let b = r.0 in omega (arith, i, a, b)
 
 pub frames-fit-alike : (w : Setting) (number_of : TypeId → ℕ) (s : source.State) (c : flat.State) (areas : List Area) (charge depth : ℕ) → Related w number_of s c
-    → length c.memory.frames ≡ depth → c.memory.bounds.stack_limit ≡ frame_limit → c.memory.bounds.stack_end ≡ c.memory.bounds.stack_start + 3 * frame_limit
+    → length c.memory.frames ≡ depth → c.memory.bounds.stack_limit ≡ source_frame_limit → c.memory.bounds.stack_end ≡ c.memory.bounds.stack_start + 3 * source_frame_limit
     → areas_size areas ≤ 3 * charge
-    → fits c.memory areas charge ≡ (nat_lt depth depth_limit && nat_le (s.memory.frame_bytes + charge) frame_limit)
+    → fits c.memory areas charge ≡ (nat_lt depth depth_limit && nat_le (s.memory.frame_bytes + charge) source_frame_limit)
 frames-fit-alike w number_of s c areas charge depth r deep limit end room =
     ap (λ n. nat_lt n 1024 && (nat_le (charges c.memory.frames + charge) c.memory.bounds.stack_limit && nat_le (next_frame c.memory + areas_size areas) c.memory.bounds.stack_end)) deep
     ∙ ap (λ n. nat_lt depth 1024 && (nat_le (n + charge) c.memory.bounds.stack_limit && nat_le (next_frame c.memory + areas_size areas) c.memory.bounds.stack_end)) r.room.frame_charge
@@ -231,6 +232,27 @@ module _ (w : Setting) (s : source.State) (m : Memory) (parts : Parts) (t : Type
   allocations-compared Rtti q h = ap (λ b. all_hold parts m (if b then [] else asked check.Bounds at (Unless made (IsAtLeast size needed)) ∷ []) e) asked-alike ∙ bounds-alike q h
   allocations-compared Seq q h = refl
   allocations-compared Wild q h = refl
+
+module _ (w : Setting) (s : source.State) (m : Memory) (parts : Parts) (t : TypeId) (e : ℕ → ℕ) (made size : ℕ) (needed : Fixed) (at : Place) (unsized : size_of w.table t ≡ 0)
+    (none : needed.value ≡ 0) where
+  block-there : (q : Pointer) → (q ≡ Null) ⊎ ((n bytes : ℕ) × (q ≡ block_pointer n t bytes)) → list_all (holds w s.memory) (null_or_in_bounds (size_of w.table t) q) ≡ true
+  block-there q h = ap (λ (n : ℕ). list_all (holds w s.memory) (null_or_in_bounds n q)) unsized ∙ of h
+    where
+      of : (q ≡ Null) ⊎ ((n bytes : ℕ) × (q ≡ block_pointer n t bytes)) → list_all (holds w s.memory) (null_or_in_bounds 0 q) ≡ true
+      of (inl f) = ap (λ (x : Pointer). list_all (holds w s.memory) (null_or_in_bounds 0 x)) f
+      of (inr (n, bytes, f)) = ap (λ (x : Pointer). list_all (holds w s.memory) (null_or_in_bounds 0 x)) f ∙ ap (λ b. b && true) (block-fits 0 bytes ∙ any bytes)
+        where
+          any : (n : ℕ) → nat_le 0 n ≡ true
+          any n = grind (arith, nat_tests)
+
+  pub unsized-allocations-compared : (kind : Kind) (q : Pointer) → (q ≡ Null) ⊎ ((n bytes : ℕ) × (q ≡ block_pointer n t bytes))
+      → all_hold parts m (allocated kind made size needed at) e ≡ list_all (holds w s.memory) (conditions_of_allocation kind (size_of w.table t) q)
+  unsized-allocations-compared Safe q h =
+      ap (λ n. all_hold parts m (if nat_eq n 0 then [] else asked check.Bounds at (Unless made (IsAtLeast size needed)) ∷ []) e) none ∙ sym (block-there q h)
+  unsized-allocations-compared Rtti q h =
+      ap (λ n. all_hold parts m (if nat_eq n 0 then [] else asked check.Bounds at (Unless made (IsAtLeast size needed)) ∷ []) e) none ∙ sym (block-there q h)
+  unsized-allocations-compared Seq q h = refl
+  unsized-allocations-compared Wild q h = refl
 
 -- FUN
 

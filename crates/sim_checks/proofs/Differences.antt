@@ -60,7 +60,7 @@ low-zero : (k : ℕ) → k < 2 ^ 60 → nat_eq (k % 2 ^ 64) 0 ≡ nat_eq k 0
 low-zero k h = grind (arith, nat_tests)
 
 -- a signed remainder is 0 where the residue is
-rem-zero : (z : ℤ) (m : ℕ) → 0 < m → m < 2 ^ 60 → nat_eq (word (int_rem z (pos m))) 0 ≡ nat_eq (residue z m) 0
+pub rem-zero : (z : ℤ) (m : ℕ) → 0 < m → m < 2 ^ 60 → nat_eq (word (int_rem z (pos m))) 0 ≡ nat_eq (residue z m) 0
 rem-zero (pos a) m some few = low-zero (a % m) (let h = mod-lt a some in omega (arith, h, few))
 rem-zero (negsuc a) m some few = ⊎_elim inside last (case (suc (a % m)) m (mod-lt a some))
   where

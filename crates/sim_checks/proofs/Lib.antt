@@ -12,3 +12,7 @@ pub mod Calling
 pub mod Tagged
 pub mod Mixed
 pub mod WildCopies
+pub mod WildDifferences
+pub mod Unsized
+pub mod Words
+pub mod Small

@@ -22,7 +22,7 @@ use Rattle.type_laws.proofs.Stairs.{IsWithin, steps-stair, stair-within, same_le
 use Rattle.integers.specs.Words.{word, residue, as_unsigned}
 use Rattle.integers.specs.Arithmetic.{IntegerType, bits_of}
 use Rattle.integers.specs.Operators.{sum_words, difference_words, product_words}
-use Rattle.integers.proofs.WordLaws.{residue-below}
+use Rattle.integers.proofs.WordLaws.{residue-below, word-small}
 use Rattle.flat_mem.specs.Bytes.{IsAccessSize}
 use Rattle.src_mem.specs.Pointers.{Location, Pointer, Null, Number, At, Function, distance}
 use Rattle.src_mem.specs.State as source
@@ -497,3 +497,47 @@ module _ (w : Setting) (number_of : TypeId → ℕ) (s : source.State) (c : flat
   wild-moves-compared (Number k) e p i z way a factor d reach at x base moves least span = absurd (cc (base))
   wild-moves-compared (At l) e p i z way a factor d reach at x base moves least span = wild-alike l e p x i z way a factor d reach at moves least span
   wild-moves-compared (Function f) e p i z way a factor d reach at x base moves least span = absurd (cc (base))
+
+-- the address of a part
+
+module _ (w : Setting) (number_of : TypeId → ℕ) (s : source.State) (c : flat.State) (parts : Parts) (depth : ℕ) (t : TypeId) where
+  part-alike : (l : Location) (e : ℕ → ℕ) (p : PointerSlots) (offset n : ℕ) (reach : Reach) (at : Place) → IsChecked w number_of s c depth Wild t (At l) e p
+      → offset ≤ 2 ^ 62 → e n ≡ offset → reach.least.value ≡ 2 ^ 40 → reach.span.value ≡ 2 ^ 41 + 1
+      → all_hold parts c.memory (near p Forward (Bytes n) reach at ∷ []) e ≡ holds w s.memory (InReach (pos offset) (At l))
+  part-alike l e p offset n reach at x few is least span =
+      and-true (is_near (difference_words (moved Forward (e p.first) (e n)) (e p.second)) reach.least.value reach.span.value)
+      ∙ ap (λ k. is_near (difference_words (moved Forward k (e n)) (e p.second)) reach.least.value reach.span.value) x.words.0
+      ∙ ap (λ k. is_near (difference_words (moved Forward (word (pos base +ℤ l.offset)) k) (e p.second)) reach.least.value reach.span.value)
+      (distance-word 1 n (Bytes n) e (pos offset) (refl, refl) (is ∙ sym (word-small offset (omega (arith, few)))))
+      ∙ ap (λ k. is_near (difference_words (moved Forward (word (pos base +ℤ l.offset)) (word (pos offset *ℤ pos 1))) k) reach.least.value reach.span.value) x.words.1
+      ∙ ap (λ k. is_near (difference_words (moved Forward (word (pos base +ℤ l.offset)) (word (pos offset *ℤ pos 1))) base) k reach.span.value) least
+      ∙ ap (λ k. is_near (difference_words (moved Forward (word (pos base +ℤ l.offset)) (word (pos offset *ℤ pos 1))) base) (2 ^ 40) k) span
+      ∙ near-moved Forward base 1 l.offset (pos offset) (2 ^ 40) (2 ^ 41 + 1) small-base (omega arith)
+      ∙ near-word ((l.offset +ℤ pos offset *ℤ pos 1) +ℤ pos (2 ^ 40)) (2 ^ 41 + 1) (omega arith)
+      (close ((l.offset +ℤ pos offset *ℤ pos 1) +ℤ pos (2 ^ 40))
+      (within-sum l.offset (pos offset *ℤ pos 1) (pos (2 ^ 40)) (2 ^ 40) (2 ^ 62) (2 ^ 40) (2 ^ 62 + 2 ^ 59) offset-near
+      (record { low = omega (arith, ints); high = omega (arith, ints, few) }) refl (omega arith)))
+      ∙ reach-between (l.offset +ℤ pos offset *ℤ pos 1)
+      ∙ ap (λ z. between (neg_ℤ (pos (2 ^ 40))) (l.offset +ℤ z) (pos (2 ^ 40))) (let f : pos offset *ℤ pos 1 ≡ pos offset = omega (arith, ints) in f)
+    where
+      v : IsWildAt w (outlines_of s.memory) l
+      v = x.held.value
+
+      base : ℕ
+      base = address (ground_of w number_of s c) l.object
+
+      small-base : address (ground_of w number_of s c) l.object < 2 ^ 64
+      small-base =
+          let o = has-outline s.memory depth l.object v.object v.found x.held.reaches in
+          let h = (x.related.areas.lie l.object o.object o.found o.live).inside in let k = x.related.small in omega (arith, h, k)
+
+      offset-near : IsWithin l.offset (2 ^ 40)
+      offset-near = let h = v.least in let k = v.most in record { low = omega (arith, ints, h); high = omega (arith, ints, k) }
+
+  pub wild-parts-compared : (q : Pointer) (e : ℕ → ℕ) (p : PointerSlots) (offset n : ℕ) (reach : Reach) (at : Place) → IsChecked w number_of s c depth Wild t q e p
+      → holds w s.memory (HasBase q) ≡ true → offset ≤ 2 ^ 62 → e n ≡ offset → reach.least.value ≡ 2 ^ 40 → reach.span.value ≡ 2 ^ 41 + 1
+      → all_hold parts c.memory (near p Forward (Bytes n) reach at ∷ []) e ≡ holds w s.memory (InReach (pos offset) q)
+  wild-parts-compared Null e p offset n reach at x base few is least span = absurd (cc (base))
+  wild-parts-compared (Number k) e p offset n reach at x base few is least span = absurd (cc (base))
+  wild-parts-compared (At l) e p offset n reach at x base few is least span = part-alike l e p offset n reach at x few is least span
+  wild-parts-compared (Function f) e p offset n reach at x base few is least span = absurd (cc (base))

@@ -12,7 +12,7 @@ use Rattle.cc_base.specs.declared.kind.Kind.{Kind}
 use Rattle.cc_base.specs.declared.kind.Kind.TheVariants.{Wild}
 use Rattle.cc_base.specs.declared.number.TypeId.{TypeId}
 use Rattle.cc_base.specs.declared.place.Place.{Place}
-use Rattle.c_types.specs.declared.site.Site.{Site}
+use Rattle.kind_sites.specs.declared.site.Site.{Site}
 use Rattle.integers.specs.Words.{word, residue}
 use Rattle.integers.specs.Operators.{difference_words}
 use Rattle.integers.proofs.SignedLaws.{IsReach, in_area-word, difference-word}
@@ -71,7 +71,7 @@ reach (pos n) h k = omega (arith, ints, k)
 reach (negsuc n) h k = omega (arith, ints, h)
 
 -- an address modulo 8
-align-word : (a : ℕ) (z : ℤ) → a % 8 ≡ 0 → word (pos a +ℤ z) % 8 ≡ residue z 8
+pub align-word : (a : ℕ) (z : ℤ) → a % 8 ≡ 0 → word (pos a +ℤ z) % 8 ≡ residue z 8
 align-word a z h = ap (λ n. n % 8) (word-sum (pos a) z) ∙ of z
   where
     of : (z : ℤ) → (word (pos a) + word z) % 2 ^ 64 % 8 ≡ residue z 8

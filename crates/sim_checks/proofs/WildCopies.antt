@@ -6,7 +6,7 @@ use Rattle.std.specs.List.{filter, filter_map, cons_option, list_all, range_with
 use Rattle.std.proofs.lemmas.Bool.Decides.{nat_tests}
 use Rattle.cc_base.specs.declared.kind.Kind.TheVariants.{Wild}
 use Rattle.cc_base.specs.declared.number.TypeId.{TypeId}
-use Rattle.c_types.specs.declared.site.Site.{Site}
+use Rattle.kind_sites.specs.declared.site.Site.{Site}
 use Rattle.flat_mem.specs.Placement.{word_count}
 use Rattle.flat_mem.specs.Memory as memory
 use Rattle.wild_tags.specs.Words.{word_at, touched_count, counted, tag_at, base_at}

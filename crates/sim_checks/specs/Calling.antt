@@ -16,7 +16,7 @@ use Rattle.src_mem.specs.Memory.{Object}
 use Rattle.src_mem.specs.State as source
 use Rattle.src_mem.specs.State.{Setting, Defined}
 use Rattle.src_mem.specs.Primitives.{block_pointer}
-use Rattle.src_mem.specs.Checks.{IsMadeFor, IsNotOfFrame, IsFunctionOf, HasRoom, depth_limit, frame_limit, has_room, conditions_of_allocation, holds}
+use Rattle.src_mem.specs.Checks.{IsMadeFor, IsNotOfFrame, IsFunctionOf, HasRoom, depth_limit, source_frame_limit, has_room, conditions_of_allocation, holds}
 use Rattle.cured_code.specs.FlatState as flat
 use Rattle.cured_code.specs.declared.parts.Parts.{Parts}
 use Rattle.cured_code.specs.Tables.{call_fits, is_below, sig_word}
@@ -47,9 +47,9 @@ ReturnsAreCompared = (w : Setting) (number_of : TypeId → ℕ) (s : source.Stat
 -- The stack has room for a frame exactly where C has. The region has three bytes for each that frames may be charged.
 abbrev pub FramesFitAlike : Type 0
 FramesFitAlike = (w : Setting) (number_of : TypeId → ℕ) (s : source.State) (c : flat.State) (areas : List Area) (charge depth : ℕ) → Related w number_of s c
-    → length c.memory.frames ≡ depth → c.memory.bounds.stack_limit ≡ frame_limit → c.memory.bounds.stack_end ≡ c.memory.bounds.stack_start + 3 * frame_limit
+    → length c.memory.frames ≡ depth → c.memory.bounds.stack_limit ≡ source_frame_limit → c.memory.bounds.stack_end ≡ c.memory.bounds.stack_start + 3 * source_frame_limit
     → areas_size areas ≤ 3 * charge
-    → fits c.memory areas charge ≡ (nat_lt depth depth_limit && nat_le (s.memory.frame_bytes + charge) frame_limit)
+    → fits c.memory areas charge ≡ (nat_lt depth depth_limit && nat_le (s.memory.frame_bytes + charge) source_frame_limit)
 
 -- DEPTH: a call of a function, whose frame fits exactly where C has room for it
 abbrev pub RoomIsCompared : Type 0
@@ -78,4 +78,10 @@ abbrev pub AllocationsAreCompared : Type 0
 AllocationsAreCompared = (w : Setting) (s : source.State) (m : Memory) (parts : Parts) (kind : Kind) (t : TypeId) (q : Pointer) (e : ℕ → ℕ) (made size : ℕ) (needed : Fixed)
     (at : Place) → 0 < size_of w.table t → 0 < cured_size w.table w.kind t → needed.value ≡ cured_size w.table w.kind t
     → IsAllocated w t (e made) (e size) q
+    → all_hold parts m (allocated kind made size needed at) e ≡ list_all (holds w s.memory) (conditions_of_allocation kind (size_of w.table t) q)
+
+-- The same for a pointer to what has no size, as `void`: any block is enough. C's condition holds, and nothing is asked.
+abbrev pub UnsizedAllocationsAreCompared : Type 0
+UnsizedAllocationsAreCompared = (w : Setting) (s : source.State) (m : Memory) (parts : Parts) (kind : Kind) (t : TypeId) (q : Pointer) (e : ℕ → ℕ) (made size : ℕ)
+    (needed : Fixed) (at : Place) → size_of w.table t ≡ 0 → needed.value ≡ 0 → (q ≡ Null) ⊎ ((n bytes : ℕ) × (q ≡ block_pointer n t bytes))
     → all_hold parts m (allocated kind made size needed at) e ≡ list_all (holds w s.memory) (conditions_of_allocation kind (size_of w.table t) q)

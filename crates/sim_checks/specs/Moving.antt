@@ -78,3 +78,11 @@ WildMovesAreCompared = (w : Setting) (number_of : TypeId → ℕ) (s : source.St
     → IsMoved i z (size_of w.table t) n factor distance e → reach.least.value ≡ 2 ^ 40 → reach.span.value ≡ 2 ^ 41 + 1
     → all_hold parts c.memory (factor_asked factor n at ++ near p way distance reach at ∷ []) e
     ≡ holds w s.memory (InReach (steps way z *ℤ pos (size_of w.table t)) q)
+
+-- RANGE of the address of a member, or of an array that decays, so many bytes behind where a WILD pointer stands that was made for an object
+abbrev pub WildPartsAreCompared : Type 0
+WildPartsAreCompared = (w : Setting) (number_of : TypeId → ℕ) (s : source.State) (c : flat.State) (parts : Parts) (depth : ℕ) (t : TypeId) (q : Pointer) (e : ℕ → ℕ)
+    (p : PointerSlots) (offset n : ℕ) (reach : Reach) (at : Place)
+    → IsChecked w number_of s c depth Wild t q e p → holds w s.memory (HasBase q) ≡ true → offset ≤ 2 ^ 62 → e n ≡ offset
+    → reach.least.value ≡ 2 ^ 40 → reach.span.value ≡ 2 ^ 41 + 1
+    → all_hold parts c.memory (near p Forward (Bytes n) reach at ∷ []) e ≡ holds w s.memory (InReach (pos offset) q)

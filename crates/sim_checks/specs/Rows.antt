@@ -73,6 +73,13 @@ ShrinkingIsCompared = (w : Setting) (number_of : TypeId → ℕ) (s : source.Sta
     → IsChecked w number_of s c depth Seq t q e p
     → flat_holds parts c.memory (UnlessNull p (in_part p size)) e ≡ list_all (holds w s.memory) (null_or_in_bounds (size_of w.table u) q)
 
+-- The same where it is a conversion to a pointer to what has no size, or from one, as `void`: of no bytes, it has to stand in its part or at
+-- the end.
+abbrev pub UnsizedShrinkingIsCompared : Type 0
+UnsizedShrinkingIsCompared = (w : Setting) (number_of : TypeId → ℕ) (s : source.State) (c : flat.State) (parts : Parts) (depth : ℕ) (t : TypeId) (q : Pointer)
+    (e : ℕ → ℕ) (p : PointerSlots) (size : Fixed) → IsWellFormed w.table → size.value ≡ 0 → IsChecked w number_of s c depth Seq t q e p
+    → flat_holds parts c.memory (UnlessNull p (in_part p size)) e ≡ list_all (holds w s.memory) (null_or_in_bounds 0 q)
+
 -- the addresses of functions are in no frame
 abbrev pub AreFunctionsApart : Setting → Memory → Type 0
 AreFunctionsApart w m = (f : ℕ) (d : Defined) → slice_get w.functions f ≡ Some d → depth_of m (function_word f) ≡ 0

@@ -1,18 +1,20 @@
 -- The rows of WILD pointers, compared: WBOUNDS, BASE, ALIGN, TAG, SAME.
-use Rattle.std.specs.Prelude.{◌≡◌, ◌≢◌, ℕ, ◌<◌, ◌^◌, true, List, length}
+use Rattle.std.specs.Prelude.{◌≡◌, ◌≢◌, ℕ, ◌<◌, ◌^◌, true, List, ◌∷◌, length, Some}
 use Rattle.std.specs.List.{list_all}
 use Rattle.cc_base.specs.declared.fault.Check.TheVariants as check
 use Rattle.cc_base.specs.declared.kind.Kind.{Kind}
 use Rattle.cc_base.specs.declared.kind.Kind.TheVariants.{Wild}
 use Rattle.cc_base.specs.declared.number.TypeId.{TypeId}
 use Rattle.cc_base.specs.declared.place.Place.{Place}
-use Rattle.c_types.specs.declared.site.Site.{Site}
+use Rattle.kind_sites.specs.declared.site.Site.{Site}
+use Rattle.c_types.specs.Table.{IsComplete}
+use Rattle.c_types.specs.Layouts.{size_of}
 use Rattle.c_types.specs.Sound.{IsWellFormed}
 use Rattle.flat_mem.specs.Placement.{function_address}
 use Rattle.src_mem.specs.Pointers.{Pointer}
 use Rattle.src_mem.specs.State as source
 use Rattle.src_mem.specs.State.{Setting}
-use Rattle.src_mem.specs.Checks.{HasBase, InObject, HoldsNone, AreOfOnePart, AreComparable, Keep, conditions_of, holds}
+use Rattle.src_mem.specs.Checks.{HasBase, InObject, HoldsNone, AreOfOnePart, AreElementsApart, AreComparable, Keep, conditions_of, holds}
 use Rattle.src_mem.specs.Uses.{pointers_behind}
 use Rattle.src_mem.specs.Checks as conditions
 use Rattle.src_mem.specs.Facts.{IsSoundMemory}
@@ -22,7 +24,7 @@ use Rattle.cured_code.specs.declared.parts.Parts.{Parts}
 use Rattle.check_forms.specs.declared.slots.PointerSlots.{PointerSlots}
 use Rattle.check_forms.specs.declared.slots.Fixed.{Fixed}
 use Rattle.check_forms.specs.Conditions.{IsArea, IsAligned, HoldsNoPointer, HoldsPointer, AreNoDeeper, AreOfArea, flat_holds}
-use Rattle.check_forms.specs.Rows.{all_asked, equated, reached}
+use Rattle.check_forms.specs.Rows.{all_asked, elements_apart, equated, reached}
 use Rattle.sim_checks.specs.Rows.{IsChecked, AreFunctionsApart, AreFunctionsLaid}
 use Rattle.sim_checks.specs.Moving.{all_hold}
 use Rattle.sim_checks.specs.Comparing.{used}
@@ -60,12 +62,20 @@ TagIsCompared = (w : Setting) (number_of : TypeId → ℕ) (s : source.State) (c
     → holds w s.memory (InObject 8 q) ≡ true → holds w s.memory (conditions.IsAligned q) ≡ true
     → flat_holds parts c.memory (HoldsPointer p eight) e ≡ holds w s.memory (conditions.HoldsPointer q)
 
--- SAME: an order, or a difference in bytes, and equality
+-- SAME: an order, a difference in elements of any size, and equality
 abbrev pub WildOrdersAreCompared : Type 0
 WildOrdersAreCompared = (w : Setting) (number_of : TypeId → ℕ) (s : source.State) (c : flat.State) (parts : Parts) (depth : ℕ) (t u : TypeId) (q r : Pointer) (e : ℕ → ℕ)
     (p o : PointerSlots) → IsChecked w number_of s c depth Wild t q e p → IsChecked w number_of s c depth Wild u r e o
     → holds w s.memory (HasBase q) ≡ true → holds w s.memory (HasBase r) ≡ true
     → flat_holds parts c.memory (AreOfArea p o) e ≡ holds w s.memory (AreOfOnePart (used Wild q) (used Wild r))
+
+abbrev pub WildDifferencesAreCompared : Type 0
+WildDifferencesAreCompared = (w : Setting) (number_of : TypeId → ℕ) (s : source.State) (c : flat.State) (parts : Parts) (depth : ℕ) (t u : TypeId) (q r : Pointer)
+    (e : ℕ → ℕ) (p o : PointerSlots) (size : Fixed) (at : Place) → IsWellFormed w.table → IsComplete w.table t → size.value ≡ size_of w.table t
+    → IsChecked w number_of s c depth Wild t q e p → IsChecked w number_of s c depth Wild u r e o
+    → holds w s.memory (HasBase q) ≡ true → holds w s.memory (HasBase r) ≡ true
+    → all_hold parts c.memory (all_asked check.Same at (AreOfArea p o ∷ elements_apart p o (Some size))) e
+    ≡ holds w s.memory (AreElementsApart (size_of w.table t) (used Wild q) (used Wild r))
 
 abbrev pub WildEqualitiesAreCompared : Type 0
 WildEqualitiesAreCompared = (w : Setting) (number_of : TypeId → ℕ) (s : source.State) (c : flat.State) (parts : Parts) (depth : ℕ) (t u : TypeId) (q r : Pointer)

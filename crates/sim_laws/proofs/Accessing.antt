@@ -7,7 +7,7 @@ use Rattle.cc_base.specs.declared.number.TypeId.{TypeId}
 use Rattle.cc_base.specs.declared.number.NodeId.{NodeId}
 use Rattle.cc_base.specs.declared.place.Place.{Place}
 use Rattle.c_types.specs.declared.shape.TypeShape.{TypeShape}
-use Rattle.c_types.specs.declared.site.Site.{Site}
+use Rattle.kind_sites.specs.declared.site.Site.{Site}
 use Rattle.c_types.specs.declared.shape.TypeShape.TheVariants as shape
 use Rattle.c_types.specs.Table.{IsComplete, shape_at, members_at, is_complete_entry}
 use Rattle.c_types.specs.Layouts.{size_of}
@@ -378,7 +378,7 @@ lines-of-load Seq k plain w v a lines h = h ∙ line-of-load k v a
 lines-of-load Wild k plain w v a lines h = absurd (plain refl)
 
 -- what is written into a row of slots stands there
-written-row : (words slots : List ℕ) (v : ℕ) → v + length words ≤ length slots → bytes_at (length words) (written words slots v) v ≡ words
+pub written-row : (words slots : List ℕ) (v : ℕ) → v + length words ≤ length slots → bytes_at (length words) (written words slots v) v ≡ words
 unfolding bytes_at written
 written-row [] slots v room = refl
 written-row (n ∷ words) slots v room =

@@ -1,5 +1,5 @@
 -- A call begins: the states are those where the call has come to, once its frame is pushed.
-use Rattle.std.proofs.Common.{◌≡◌, ℕ, zero, suc, ◌+◌, ◌-◌, ◌<◌, ◌≤◌, ◌⊎◌, inl, inr, true, List, [], ◌∷◌, ◌++◌, length, map, slice_get, slice_index, Some, refl, ap, sym, ◌∙◌, arith, nat_le, nat_lt, ◌&&◌}
+use Rattle.std.proofs.Common.{◌≡◌, ℕ, zero, suc, ◌+◌, ◌-◌, ◌<◌, ◌≤◌, ◌⊎◌, inl, inr, true, List, [], ◌∷◌, ◌++◌, length, map, slice_get, slice_index, Option, Some, refl, ap, sym, ◌∙◌, arith, nat_le, nat_lt, ◌&&◌}
 use Rattle.std.proofs.lemmas.List.{length-append, length-map, map-append}
 use Rattle.std.proofs.lemmas.Option.{slice_get_within}
 use Rattle.cc_base.specs.declared.number.NodeId.{NodeId}
@@ -7,10 +7,11 @@ use Rattle.cc_base.specs.declared.number.TypeId.{TypeId}
 use Rattle.c_types.proofs.OrderedPointers.{Which, old, new, which, get_back}
 use Rattle.c_types.specs.Table.{IsComplete}
 use Rattle.c_types.specs.Flows.{IsOfOneClass}
+use Rattle.c_types.specs.Widths.{width_of, cured_size}
 use Rattle.c_types.specs.Sound.{IsWellFormed}
 use Rattle.flat_mem.specs.declared.Area.{Area}
 use Rattle.flat_mem.specs.declared.memory.Bounds.{Bounds}
-use Rattle.flat_mem.specs.Memory.{Frame, fits, frame_of, next_frame}
+use Rattle.flat_mem.specs.Memory.{Frame, fits, frame_of, next_frame, newest_addresses, depth_in}
 use Rattle.flat_mem.specs.Placement.{addresses, function_address}
 use Rattle.flat_mem.proofs.AreaLaws.{area-after_start, get-areas_made_other}
 use Rattle.flat_mem.proofs.ByteLaws.{number-same}
@@ -19,9 +20,9 @@ use Rattle.src_mem.specs.Pointers.{Value, Integer, Address}
 use Rattle.src_mem.specs.Memory.{Object, Planned, new_variable, frame_charge}
 use Rattle.src_mem.specs.State as source
 use Rattle.src_mem.specs.State.{Setting, Defined}
-use Rattle.src_mem.specs.Checks.{depth_limit, frame_limit}
+use Rattle.src_mem.specs.Checks.{depth_limit, source_frame_limit}
 use Rattle.src_mem.specs.Primitives as primitive
-use Rattle.src_mem.specs.Outlines.{Life, outline, life, outlines_of, lives_of}
+use Rattle.src_mem.specs.Outlines.{Outline, Life, outline, life, outlines_of, lives_of}
 use Rattle.src_mem.specs.Uses.{home}
 use Rattle.src_mem.specs.Runs.{Calls}
 use Rattle.src_mem.specs.Facts.{IsSoundAt}
@@ -36,9 +37,9 @@ use Rattle.cil_facts.proofs.Homes.{home-named}
 use Rattle.cured_code.specs.FlatState as flat
 use Rattle.cured_code.specs.FlatState.{PlacedArea}
 use Rattle.cured_code.specs.FlatMachine as machine
-use Rattle.cured_code.specs.FlatMachine.{noted, placed, plan_of}
-use Rattle.sim_relation.specs.Ground.{address, address_in, function_word}
-use Rattle.sim_relation.specs.Objects.{frame_areas, variable_area}
+use Rattle.cured_code.specs.FlatMachine.{noted, placed}
+use Rattle.sim_relation.specs.Ground.{address, address_in, cells, cells_in, function_word}
+use Rattle.sim_relation.specs.Objects.{flat_depth, frame_areas, variable_area}
 use Rattle.sim_relation.specs.Related.{Related}
 use Rattle.sim_relation.specs.Points.{object_number}
 use Rattle.sim_relation.proofs.Frames.{get-placed}
@@ -48,6 +49,7 @@ use Rattle.sim_memory.proofs.Blocks.{heap-kept_by_call}
 use Rattle.sim_laws.specs.Scenes.{Programs, Running, Enters, setting_of}
 use Rattle.sim_laws.specs.Points.{Holds, NamesAlike, IsLaid, AreOwn, There, Grows, planned_at, ground_of}
 use Rattle.sim_laws.proofs.Fitting.{entered-fits}
+use Rattle.sim_laws.proofs.Points.{named-there, width-kept}
 use Rattle.sim_laws.proofs.Growing as growing
 
 -- What calls and frames ask of a program: types that are well formed, a solution of its kinds for variables, and functions before its globals.
@@ -58,7 +60,7 @@ pub record IsPlanned (p : Programs) (variables : List Planned) : Type 0 where
   pub count : length p.parts.functions ≡ suc (length (setting_of p).functions)
 
 -- a list has each of its elements
-there-is : {A : Type 0} (xs : List A) (j : ℕ) → j < length xs → (x : A) × (slice_get xs j ≡ Some x)
+pub there-is : {A : Type 0} (xs : List A) (j : ℕ) → j < length xs → (x : A) × (slice_get xs j ≡ Some x)
 there-is [] j h = absurd (omega (arith, h))
 there-is (x ∷ xs) zero h = (x, refl)
 there-is (x ∷ xs) (suc j) h = there-is xs j (omega (arith, h))
@@ -83,7 +85,7 @@ related-noted p s c k r = record {
 }
 
 module _ (p : Programs) (variables : List Planned) (is : IsPlanned p variables) (b : Running) (s : source.State) (c : flat.State) (k : ℕ) (there : There p b s c)
-    (room : (nat_lt (suc b.depth) depth_limit && nat_le (s.memory.frame_bytes + frame_charge p.whole.table variables) frame_limit) ≡ true) where
+    (room : (nat_lt (suc b.depth) depth_limit && nat_le (s.memory.frame_bytes + frame_charge p.whole.table variables) source_frame_limit) ≡ true) where
   abbrev w : Setting
   w = setting_of p
 
@@ -222,6 +224,12 @@ module _ (p : Programs) (variables : List Planned) (is : IsPlanned p variables) 
         older = omega arith;
       }) u (is.class v.type u m)
 
+  wide : (o : named.Object) (v : Planned) → planned_at p.whole.statics variables o ≡ Some v
+      → width_of p.whole.kind (cells (ground_of p t d) (object_number (length s.memory.objects) o)) ≡ cured_size p.whole.table p.whole.kind v.type
+  wide (object.Static n) v e = width-kept p b.depth s t c d since-begun b.first (object.Static n) (named-there p b s c there (object.Static n) v e) ∙ there.wide (object.Static n) v e
+  wide (object.Variable n) v e = ap (λ (x : Option Outline). width_of p.whole.kind (cells_in x))
+      (get-mapped outline t.memory.objects (length s.memory.objects + n.0) (new_variable p.whole.table (suc b.depth) v) (found-variable n.0 v e))
+
   own : AreOwn (suc b.depth) (length s.memory.objects) (length variables) (lives_of t.memory)
   own n x e live d_is = by (mapped-from life t.memory.objects n x e)
     where
@@ -233,6 +241,15 @@ module _ (p : Programs) (variables : List Planned) (is : IsPlanned p variables) 
               let h = there.facts.lives.each n (life o) (get-mapped life s.memory.objects n o f) (ap (λ (z : Life). z.live) same ∙ live) in
               let e = ap (λ (z : Life). z.depth) same in omega (arith, h, e, d_is))
           of (new i q f) = (omega (arith, q), (let l = slice_get_within more i o f in let m = count-more in omega (arith, q, l, m)))
+
+  -- the areas of the variables lie in the new frame
+  own-frame : (n : ℕ) → n < length variables → depth_in d.memory.frames (slice_index (newest_addresses d.memory.frames) n) ≡ flat_depth (suc b.depth)
+  own-frame n less =
+      let v = there-is variables n less in
+      let o : Object = new_variable p.whole.table (suc b.depth) v.0 in
+      let lies = related.areas.lie (length s.memory.objects + n) o (found-variable n v.0 v.1) refl in
+      ap (depth_in d.memory.frames) (sym (new-address n less) ∙ (let e : address (ground_of p t d) (length s.memory.objects + n) ≡ address (ground_of p t d) (length s.memory.objects + n) + 0 = omega arith in e))
+      ∙ lies.depth 0 (omega arith)
 
   -- the call that has begun
   abbrev pub begun_call : Calls → Enters → Running
@@ -257,9 +274,11 @@ module _ (p : Programs) (variables : List Planned) (is : IsPlanned p variables) 
     deep = ap suc deep;
     made = (let e = length-append s.memory.objects more in let m = count-more in omega (arith, e, m));
     areas = λ n l. sym (new-address n l);
+    own_frame = own-frame;
     globals = (let e = length-append s.memory.objects more in let m = there.globals in omega (arith, e, m));
     statics = λ n l. there.statics n l ∙ sym (old-address n (let m = there.globals in omega (arith, l, m)));
     objects = objects;
+    wide = wide;
     own = λ some. own;
     since = since-begun;
   }

@@ -258,10 +258,10 @@ truth-word false = refl
 pub int-size : IsAccessSize int.bytes
 int-size = inr (inr (inl refl))
 
-different-zero : (n : ℕ) → different_words n 0 ≡ truth_word (is_true_word n)
+pub different-zero : (n : ℕ) → different_words n 0 ≡ truth_word (is_true_word n)
 different-zero n = refl
 
-equal-zero : (n : ℕ) → equal_words n 0 ≡ truth_word (not (is_true_word n))
+pub equal-zero : (n : ℕ) → equal_words n 0 ≡ truth_word (not (is_true_word n))
 equal-zero n = by (nat_eq n 0)
   where
     by : (q : Bool) → truth_word q ≡ truth_word (not (if q then false else true))
@@ -269,7 +269,7 @@ equal-zero n = by (nat_eq n 0)
     by false = refl
 
 -- a truth value is given behind the lines of a test
-told : (w : Scene) (g : AreSlots w.slots) (b : Running) (known after : Knowledge) (into : Temp) (q : Bool) (l : code.Local) (d : flat.Local) (n : ℕ)
+pub told : (w : Scene) (g : AreSlots w.slots) (b : Running) (known after : Knowledge) (into : Temp) (q : Bool) (l : code.Local) (d : flat.Local) (n : ℕ)
     → Point w g b known l d → Takes (world_of w) into 1 → n ≡ truth_word q → rules.Leaves known into (Some (an_integer (w.slots.column into) Exact int)) after
     → Gave w g b known after into l d (Integer (truth q)) l.state Goes (with_slot (w.slots.column into) n d)
 told w g b known after into q l d n point takes e leave =

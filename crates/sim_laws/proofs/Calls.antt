@@ -10,7 +10,7 @@ use Rattle.src_mem.specs.Pointers.{Value, Integer, Address}
 use Rattle.src_mem.specs.Memory.{frame_charge}
 use Rattle.src_mem.specs.State as source
 use Rattle.src_mem.specs.State.{given}
-use Rattle.src_mem.specs.Checks.{has_room, frame_limit}
+use Rattle.src_mem.specs.Checks.{has_room, source_frame_limit}
 use Rattle.src_mem.specs.Uses.{store_arguments}
 use Rattle.src_mem.specs.Operations.{zero_of_function}
 use Rattle.src_mem.specs.Runs.{Calls, Callable, call_body, call_within, defined, named_arguments}
@@ -176,7 +176,7 @@ returned-turned p b f s c n v t words d r = record {
 }
 
 -- where C has room, the frame alone isn't too large
-pub few-charged : (charged : ℕ) (m : ℕ) (h : Bool) → (h && nat_le (m + charged) frame_limit) ≡ true → charged ≤ frame_limit
+pub few-charged : (charged : ℕ) (m : ℕ) (h : Bool) → (h && nat_le (m + charged) source_frame_limit) ≡ true → charged ≤ source_frame_limit
 few-charged charged m true e = grind (arith, nat_tests, e)
 few-charged charged m false e = absurd (cc (e))
 
@@ -231,5 +231,5 @@ no-room depth q e h = let f : nat_lt (suc depth) 1024 ≡ false = grind (arith, 
 -- `depth` calls are around, and n more may be nested: DEPTH stops the one that would be one more
 pub calls : (p : Programs) → FrameLaws p → InstructionLaws p → AreCured p → (n : ℕ) → CallsWithin p n
 calls p laws code_laws cured zero = λ b count call_is enter_is k f arguments words s c found out there are room.
-    absurd (no-room b.depth (nat_le (s.memory.frame_bytes + frame_charge p.whole.table (variables_of f)) frame_limit) (omega (arith, count)) room)
+    absurd (no-room b.depth (nat_le (s.memory.frame_bytes + frame_charge p.whole.table (variables_of f)) source_frame_limit) (omega (arith, count)) room)
 calls p laws code_laws cured (suc n) = calls-step p laws code_laws cured n (calls p laws code_laws cured n)

@@ -1,7 +1,8 @@
 -- Checks: the numbers that they compare with, and that the lines stop exactly where C does.
-use Rattle.std.proofs.Common.{◌≡◌, ℕ, ◌+◌, ◌<◌, ◌≤◌, ◌⊎◌, inl, inr, Bool, true, false, List, [], ◌∷◌, ◌++◌, Option, Some, None, refl, ap, sym, subst, ◌∙◌, arith, nat_eq, nat_le, is_none, if◌then◌else◌}
+use Rattle.std.proofs.Common.{◌&&◌, ◌≡◌, ℕ, ◌+◌, ◌<◌, ◌≤◌, ◌⊎◌, inl, inr, Bool, true, false, List, [], ◌∷◌, ◌++◌, slice_index, Option, Some, None, refl, ap, sym, subst, ◌∙◌, arith, nat_eq, nat_le, is_none, if◌then◌else◌}
 use Rattle.std.proofs.lemmas.Bool.Decides.{nat_tests}
 use Rattle.cc_base.specs.declared.fault.Check.{Check}
+use Rattle.cc_base.specs.declared.fault.Check.TheVariants as check_name
 use Rattle.cc_base.specs.declared.place.Place.{Place}
 use Rattle.runs.specs.Outcome.{Outcome, Ended, Done, done, leaves, from, allowed, Matches, ◌>>◌}
 use Rattle.runs.specs.Control.{Goes, then_go}
@@ -19,13 +20,15 @@ use Rattle.cured_code.specs.FlatState as flat
 use Rattle.cured_code.specs.FlatState.{slot}
 use Rattle.cured_code.specs.FlatMachine.{run}
 use Rattle.check_forms.specs.Pieces.{Line, Then}
+use Rattle.check_forms.specs.Conditions as condition
 use Rattle.check_forms.specs.Conditions.{flat_holds}
 use Rattle.check_forms.specs.Lines.{IsOther}
-use Rattle.check_forms.specs.Rows.{Asked}
-use Rattle.check_forms.specs.RowChecks.{AreChecks, AreChecked, AreAllApart, AreAllHeld, AreSafe, first_false, stopped_by}
+use Rattle.check_forms.specs.Rows.{Asked, all_asked}
+use Rattle.check_forms.specs.RowChecks.{AreChecks, AreChecked, AreAllApart, AreAllHeld, AreSafe, first_false, stopped_by, slots_after}
 use Rattle.check_forms.proofs.RowLaws.{rows}
 use Rattle.check_forms.proofs.TestLaws.{append-append}
 use Rattle.sim_relation.specs.Points.{Known, Knowledge, Number}
+use Rattle.sim_checks.specs.Moving.{all_hold}
 use Rattle.cure_rules.specs.Slots.{AreSlots, Role, role_number, slot_of, work_of}
 use Rattle.cure_rules.specs.Known.{Gets, held_words}
 use Rattle.cure_rules.specs.Checks.{Need, AreGot}
@@ -61,6 +64,10 @@ abbrev pub AreOfRoles : List Need → Type 0
 AreOfRoles [] = Unit {0}
 AreOfRoles (x ∷ xs) = (nat_le 4 (role_number x.role) ≡ true) × IsNoneOf x.role xs × AreOfRoles xs
 
+-- the working slot of another role, and each that lasts, is left
+abbrev pub IsSpared : (w : Scene) → AreSlots w.slots → List Need → List ℕ → List ℕ → Type 0
+IsSpared w g needs slots after = (r : Role) → IsNoneOf r needs → (a : ℕ) → IsLasting (g.owner a) ⊎ (a ≡ slot_of w.slots r) → slice_index after a ≡ slice_index slots a
+
 -- behind the lines that set them
 pub record AllGot (w : Scene) (g : AreSlots w.slots) (b : Running) (needs : List Need) (lines : Lines) (c : flat.Local) : Type 0 where
   pub after : flat.Local
@@ -68,8 +75,7 @@ pub record AllGot (w : Scene) (g : AreSlots w.slots) (b : Running) (needs : List
   pub passed : Passed w g c.slots after.slots
   pub runs : (rest : Lines) → run (lines ++ rest) (context_of w b) c ≡ run rest (context_of w b) after
   pub there : AreThere w after needs
-  -- the working slot of another role, and each that lasts, is left
-  pub spares : (r : Role) → IsNoneOf r needs → (a : ℕ) → IsLasting (g.owner a) ⊎ (a ≡ slot_of w.slots r) → slot after a ≡ slot c a
+  pub spares : IsSpared w g needs c.slots after.slots
 
 -- where a number stands that is kept, or set
 pub got-spot : (w : Scene) (g : AreSlots w.slots) (r : Role) (n a : ℕ) (lines : Lines) → Gets (world_of w) r (Number n) a lines
@@ -137,41 +143,65 @@ pub record Guarded (w : Scene) (g : AreSlots w.slots) (b : Running) (known : Kno
   pub runs : (rest : Lines) → run (lines ++ rest) (context_of w b) c
       ≡ from (stopped_by (first_false w.programs.parts c.state.memory conditions (slot middle)) after) (λ x. then_go x (run rest (context_of w b)))
   pub others : (a : ℕ) → IsOther (work_of w.slots) a → slot after a ≡ slot middle a
+  -- where they go on, working slots hold what the tests leave
+  pub behind : first_false w.programs.parts c.state.memory conditions (slot middle) ≡ None
+      → slot after ≡ slots_after (work_of w.slots) w.programs.parts c.state.memory conditions (slot middle)
 
 -- slots that last are as they were
 pub guarded-lasting : (w : Scene) (g : AreSlots w.slots) (b : Running) (known : Knowledge) (l : code.Local) (needs : List Need) (conditions : List Asked) (lines : Lines)
     (c : flat.Local) (z : Guarded w g b known l needs conditions lines c) (a : ℕ) → IsLasting (g.owner a) → slot z.after a ≡ slot c a
 guarded-lasting w g b known l needs conditions lines c z a lasts = z.others a (lasting-other w g a lasts) ∙ z.passed.others a lasts
 
+-- the same, where the working slot of a role that no number has is left as well
+pub record Sparing (w : Scene) (g : AreSlots w.slots) (b : Running) (known : Knowledge) (l : code.Local) (needs : List Need) (conditions : List Asked) (lines : Lines)
+    (c : flat.Local) : Type 0 where
+  pub guarded : Guarded w g b known l needs conditions lines c
+  pub spared : IsSpared w g needs c.slots guarded.middle.slots
+
+-- checks behind numbers that are got
+pub checked-got : (w : Scene) (g : AreSlots w.slots) (b : Running) (known : Knowledge) (l : code.Local) (needs : List Need) (conditions : List Asked) (x y : Lines)
+    (c : flat.Local) → Point w g b known l c → (z : AllGot w g b needs x c) → AreChecks (work_of w.slots) conditions y → AreReady w c z.after conditions
+    → Sparing w g b known l needs conditions (x ++ y) c
+checked-got w g b known l needs conditions x y c p z checks r = with_checks (rows (work_of w.slots) conditions y (context_of w b) z.after
+    (ready w g c z.after p.count p.nought z.passed) r.apart r.held
+    (subst (λ (s : flat.State). AreSafe w.programs.parts s.memory conditions (slot z.after)) (sym z.state) r.safe) checks)
+  where
+    with_checks : AreChecked (work_of w.slots) conditions y (context_of w b) z.after → Sparing w g b known l needs conditions (x ++ y) c
+    with_checks k = record {
+      guarded = record {
+        middle = z.after;
+        passed = z.passed;
+        there = z.there;
+        after = k.after;
+        point = passed-point w g b known l c k.after p (k.state ∙ z.state)
+            (passed-then w g c.slots z.after.slots k.after.slots z.passed
+            (record { others = λ a h. k.slots a (lasting-other w g a h); long = k.count }));
+        state = k.state ∙ z.state;
+        runs = λ rest. ap (λ (js : Lines). run js (context_of w b) c) (append-append x y rest) ∙ z.runs (y ++ rest) ∙ k.runs rest
+            ∙ ap (λ (s : flat.State). from (stopped_by (first_false w.programs.parts s.memory conditions (slot z.after)) k.after) (λ u. then_go u (run rest (context_of w b)))) z.state;
+        others = k.slots;
+        behind = λ passed. k.behind (ap (λ (s : flat.State). first_false w.programs.parts s.memory conditions (slot z.after)) z.state ∙ passed)
+            ∙ ap (λ (s : flat.State). slots_after (work_of w.slots) w.programs.parts s.memory conditions (slot z.after)) z.state;
+      };
+      spared = z.spares;
+    }
+
+pub guarded-sparing : (w : Scene) (g : AreSlots w.slots) (b : Running) (known : Knowledge) (l : code.Local) (needs : List Need) (conditions : List Asked) (lines : Lines)
+    (c : flat.Local) → Point w g b known l c → AreOfRoles needs → Then (AreGot (world_of w) needs) (AreChecks (work_of w.slots) conditions) lines
+    → ((d : flat.Local) → Passed w g c.slots d.slots → AreThere w d needs → AreReady w c d conditions)
+    → Sparing w g b known l needs conditions lines c
+unfolding Then
+guarded-sparing w g b known l needs conditions lines c p roles (x, y, gets, checks, is) are_ready =
+    subst (λ (js : Lines). Sparing w g b known l needs conditions js c) (sym is) (of (all-got w g b known l needs x c p roles gets))
+  where
+    of : AllGot w g b needs x c → Sparing w g b known l needs conditions (x ++ y) c
+    of z = checked-got w g b known l needs conditions x y c p z checks (are_ready z.after z.passed z.there)
+
 pub guarded : (w : Scene) (g : AreSlots w.slots) (b : Running) (known : Knowledge) (l : code.Local) (needs : List Need) (conditions : List Asked) (lines : Lines)
     (c : flat.Local) → Point w g b known l c → AreOfRoles needs → Then (AreGot (world_of w) needs) (AreChecks (work_of w.slots) conditions) lines
     → ((d : flat.Local) → Passed w g c.slots d.slots → AreThere w d needs → AreReady w c d conditions) → Guarded w g b known l needs conditions lines c
-unfolding Then
-guarded w g b known l needs conditions lines c p roles (x, y, gets, checks, is) are_ready = subst (λ (js : Lines). Guarded w g b known l needs conditions js c) (sym is)
-    (with_numbers (all-got w g b known l needs x c p roles gets))
-  where
-    with_numbers : AllGot w g b needs x c → Guarded w g b known l needs conditions (x ++ y) c
-    with_numbers z = with_checks (rows (work_of w.slots) conditions y (context_of w b) z.after
-        (ready w g c z.after p.count p.nought z.passed) r.apart r.held
-        (subst (λ (s : flat.State). AreSafe w.programs.parts s.memory conditions (slot z.after)) (sym z.state) r.safe) checks)
-      where
-        r : AreReady w c z.after conditions
-        r = are_ready z.after z.passed z.there
-
-        with_checks : AreChecked (work_of w.slots) conditions y (context_of w b) z.after → Guarded w g b known l needs conditions (x ++ y) c
-        with_checks k = record {
-          middle = z.after;
-          passed = z.passed;
-          there = z.there;
-          after = k.after;
-          point = passed-point w g b known l c k.after p (k.state ∙ z.state)
-              (passed-then w g c.slots z.after.slots k.after.slots z.passed
-              (record { others = λ a h. k.slots a (lasting-other w g a h); long = k.count }));
-          state = k.state ∙ z.state;
-          runs = λ rest. ap (λ (js : Lines). run js (context_of w b) c) (append-append x y rest) ∙ z.runs (y ++ rest) ∙ k.runs rest
-              ∙ ap (λ (s : flat.State). from (stopped_by (first_false w.programs.parts s.memory conditions (slot z.after)) k.after) (λ u. then_go u (run rest (context_of w b)))) z.state;
-          others = k.slots;
-        }
+guarded w g b known l needs conditions lines c p roles guard are_ready =
+    (guarded-sparing w g b known l needs conditions lines c p roles guard are_ready).guarded
 
 -- C and the lines
 
@@ -188,14 +218,12 @@ AreCompared parts m e w memory place (a ∷ as') [] = ⊥
 AreCompared parts m e w memory place (a ∷ as') (c ∷ cs) = (a.check ≡ check_of c) × (a.place ≡ place c)
     × (flat_holds parts m a.condition e ≡ holds w memory c) × (holds w memory c ≡ true → AreCompared parts m e w memory place as' cs)
 
-pub stops-alike : (parts : Parts) (m : flat_memory.Memory) (e : ℕ → ℕ) (w : Setting) (place : Condition → Place) (s : source.State) (as' : List Asked)
-    (cs : List Condition) → AreCompared parts m e w s.memory place as' cs → StopsAlike (first_false parts m as' e) (all_placed w place cs s) s
-stops-alike parts m e w place s [] [] h = refl
-stops-alike parts m e w place s [] (c ∷ cs) h = absurd h
-stops-alike parts m e w place s (a ∷ as') [] h = absurd h
-stops-alike parts m e w place s (a ∷ as') (c ∷ cs) (check, at, value, more) =
-    subst (λ (p : Bool). Goal p (holds w s.memory c)) (sym value)
-    (by (λ is. stops-alike parts m e w place s as' cs (more is)) (holds w s.memory c) refl)
+-- one condition, and then more
+pub stops-then : (parts : Parts) (m : flat_memory.Memory) (e : ℕ → ℕ) (w : Setting) (place : Condition → Place) (s : source.State) (a : Asked) (as' : List Asked)
+    (c : Condition) (cs : List Condition) → a.check ≡ check_of c → a.place ≡ place c → flat_holds parts m a.condition e ≡ holds w s.memory c
+    → (holds w s.memory c ≡ true → StopsAlike (first_false parts m as' e) (all_placed w place cs s) s)
+    → StopsAlike (first_false parts m (a ∷ as') e) (all_placed w place (c ∷ cs) s) s
+stops-then parts m e w place s a as' c cs check at value more = subst (λ (p : Bool). Goal p (holds w s.memory c)) (sym value) (by (holds w s.memory c) refl)
   where
     passes : Bool → Outcome source.Ending source.State (Unit {0})
     passes q = allowed q (source.Stopped (check_of c) (place c)) (done tt) s
@@ -203,9 +231,17 @@ stops-alike parts m e w place s (a ∷ as') (c ∷ cs) (check, at, value, more) 
     Goal : Bool → Bool → Type 0
     Goal p q = StopsAlike (if p then first_false parts m as' e else Some a) (from (passes q) (λ _. all_placed w place cs)) s
 
-    by : (holds w s.memory c ≡ true → StopsAlike (first_false parts m as' e) (all_placed w place cs s) s) → (q : Bool) → holds w s.memory c ≡ q → Goal q q
-    by further true is = further is
-    by further false is = ap (λ z. Ended (source.Stopped z (place c)) s) (sym check) ∙ ap (λ z. Ended (source.Stopped a.check z) s) (sym at)
+    by : (q : Bool) → holds w s.memory c ≡ q → Goal q q
+    by true is = more is
+    by false is = ap (λ z. Ended (source.Stopped z (place c)) s) (sym check) ∙ ap (λ z. Ended (source.Stopped a.check z) s) (sym at)
+
+pub stops-alike : (parts : Parts) (m : flat_memory.Memory) (e : ℕ → ℕ) (w : Setting) (place : Condition → Place) (s : source.State) (as' : List Asked)
+    (cs : List Condition) → AreCompared parts m e w s.memory place as' cs → StopsAlike (first_false parts m as' e) (all_placed w place cs s) s
+stops-alike parts m e w place s [] [] h = refl
+stops-alike parts m e w place s [] (c ∷ cs) h = absurd h
+stops-alike parts m e w place s (a ∷ as') [] h = absurd h
+stops-alike parts m e w place s (a ∷ as') (c ∷ cs) (check, at, value, more) =
+    stops-then parts m e w place s a as' c cs check at value (λ is. stops-alike parts m e w place s as' cs (more is))
 
 -- An instruction that gives a value behind what it checks: `F` is what C does with the outcome of its conditions.
 pub guard-gives : (w : Scene) (g : AreSlots w.slots) (b : Running) (known after : Knowledge) (blocks : Blocks) (into : Temp) (l : code.Local) (d : flat.Local)
@@ -236,6 +272,11 @@ abbrev pub AllStop : Check → Place → List Asked → Type 0
 AllStop check at [] = Unit {0}
 AllStop check at (a ∷ as') = (a.check ≡ check) × (a.place ≡ at) × AllStop check at as'
 
+-- conditions of SAME at one place
+pub all-stop : (at : Place) (cs : List condition.Condition) → AllStop check_name.Same at (all_asked check_name.Same at cs)
+all-stop at [] = tt
+all-stop at (c ∷ cs) = (refl, refl, all-stop at cs)
+
 stops-by : (parts : Parts) (m : flat_memory.Memory) (e : ℕ → ℕ) (check : Check) (at : Place) (as' : List Asked) → AllStop check at as' → (a : Asked)
     → first_false parts m as' e ≡ Some a → (a.check ≡ check) × (a.place ≡ at)
 stops-by parts m e check at [] all a h = absurd (cc (h))
@@ -257,6 +298,26 @@ stops-together parts m e w s at as' c all value = by (first_false parts m as' e)
         let h = stops-by parts m e (check_of c) at as' all a f in
         ap (λ (q : Bool). allowed q (source.Stopped (check_of c) at) (done tt) s) (sym v)
         ∙ ap (λ z. Ended (source.Stopped z at) s) (sym h.0) ∙ ap (λ z. Ended (source.Stopped a.check z) s) (sym h.1)
+
+-- the only condition of C
+pub one-placed : (w : Setting) (place : Condition → Place) (c : Condition) (s : source.State) → all_placed w place (c ∷ []) s ≡ checked w (place c) c s
+one-placed w place c s = by (holds w s.memory c)
+  where
+    passes : Bool → Outcome source.Ending source.State (Unit {0})
+    passes q = allowed q (source.Stopped (check_of c) (place c)) (done tt) s
+
+    by : (q : Bool) → from (passes q) (λ _. all_placed w place []) ≡ passes q
+    by true = refl
+    by false = refl
+
+-- none is false where all hold
+pub none-false : (parts : Parts) (m : flat_memory.Memory) (as' : List Asked) (e : ℕ → ℕ) → is_none (first_false parts m as' e) ≡ all_hold parts m as' e
+none-false parts m [] e = refl
+none-false parts m (a ∷ as') e = by (none-false parts m as' e) (flat_holds parts m a.condition e)
+  where
+    by : is_none (first_false parts m as' e) ≡ all_hold parts m as' e → (q : Bool) → is_none (if q then first_false parts m as' e else Some a) ≡ (q && all_hold parts m as' e)
+    by more true = more
+    by more false = refl
 
 -- where a known temporary stands, no check writes
 pub known-lasting : (w : Scene) (g : AreSlots w.slots) (b : Running) (known : Knowledge) (l : code.Local) (c : flat.Local) → Point w g b known l c

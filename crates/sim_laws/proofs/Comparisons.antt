@@ -48,7 +48,7 @@ pub word-same : (i : IntegerType) → IsAccessSize i.bytes → (x y : ℤ) → c
 word-same i size x y hx hy e =
     sym hx ∙ converted-same i x y (sym (word-low (2 ^ bits_of i) (width-of i.bytes size) x) ∙ ap (λ (n : ℕ). n % 2 ^ bits_of i) e ∙ word-low (2 ^ bits_of i) (width-of i.bytes size) y) ∙ hy
 
-int-same : (x y : ℤ) → x ≡ y → int_eq x y ≡ true
+pub int-same : (x y : ℤ) → x ≡ y → int_eq x y ≡ true
 int-same x y h = grind (arith, nat_tests, h)
 
 int-other : (x y : ℤ) → x ≢ y → int_eq x y ≡ false
@@ -147,7 +147,7 @@ not-less x y = grind (arith, nat_tests)
 
 -- The lines
 
-abbrev result_of : Comparison → ℤ → ℤ → Bool
+abbrev pub result_of : Comparison → ℤ → ℤ → Bool
 result_of comparison.Equal x y = int_eq x y
 result_of comparison.Different x y = not (int_eq x y)
 result_of comparison.Less x y = int_lt x y
@@ -165,11 +165,11 @@ calculated-is comparison.Greater w at t x y s = refl
 calculated-is comparison.GreaterOrEqual w at t x y s = refl
 
 -- lines that leave a truth value in slot v, and change nothing else
-record Compared (ctx : Context) (c : flat.Local) (lines : Lines) (v : ℕ) (q : Bool) : Type 0 where
-  slots : List ℕ
-  runs : run lines ctx c ≡ Done Goes (record c { slots = slots })
-  changed : Changed 1 v c.slots slots
-  holds : slice_index slots v ≡ truth_word q
+pub record Compared (ctx : Context) (c : flat.Local) (lines : Lines) (v : ℕ) (q : Bool) : Type 0 where
+  pub slots : List ℕ
+  pub runs : run lines ctx c ≡ Done Goes (record c { slots = slots })
+  pub changed : Changed 1 v c.slots slots
+  pub holds : slice_index slots v ≡ truth_word q
 
 different-word : (q : Bool) → truth_word (if q then false else true) ≡ truth_word (not q)
 different-word true = refl
@@ -210,7 +210,7 @@ turned signed ctx c v a b none q r room other clear is same = record {
     m : ℕ
     m = equal_words (slot d v) (slot d none)
 
-compared : (which : Comparison) (signed : Bool) (ctx : Context) (c : flat.Local) (none v p q : ℕ) (x y : ℤ) → v < length c.slots → none ≢ v → slot c none ≡ 0
+pub compared : (which : Comparison) (signed : Bool) (ctx : Context) (c : flat.Local) (none v p q : ℕ) (x y : ℤ) → v < length c.slots → none ≢ v → slot c none ≡ 0
     → nat_eq (slot c p) (slot c q) ≡ int_eq x y → less_by signed (slot c p) (slot c q) ≡ truth_word (int_lt x y) → less_by signed (slot c q) (slot c p) ≡ truth_word (int_lt y x)
     → Compared ctx c (comparison_lines which signed none v p q) v (result_of which x y)
 compared comparison.Equal signed ctx c none v p q x y room other clear eq lt gt =
@@ -228,7 +228,7 @@ compared comparison.GreaterOrEqual signed ctx c none v p q x y room other clear 
     turned signed ctx c v p q none (int_lt x y) (int_le y x) room other clear lt (not-less y x)
 
 -- the slot that holds 0 is in no column
-nought-apart : (w : Scene) (g : AreSlots w.slots) (into : Temp) → Takes (world_of w) into 1 → w.slots.nought ≢ w.slots.column into
+pub nought-apart : (w : Scene) (g : AreSlots w.slots) (into : Temp) → Takes (world_of w) into 1 → w.slots.nought ≢ w.slots.column into
 nought-apart w g into takes e =
     column-apart w g into 1 takes w.slots.nought 0 (subst (IsSpared into) (sym g.nought.is) tt) (omega arith) (omega (arith, e))
 

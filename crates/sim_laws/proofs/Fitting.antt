@@ -8,7 +8,7 @@ use Rattle.flat_mem.specs.Memory.{Frame, charges, fits, next_frame}
 use Rattle.flat_mem.specs.Placement.{areas_size}
 use Rattle.src_mem.specs.Memory.{Planned, frame_charge}
 use Rattle.src_mem.specs.State as source
-use Rattle.src_mem.specs.Checks.{depth_limit, frame_limit, has_room}
+use Rattle.src_mem.specs.Checks.{depth_limit, source_frame_limit, has_room}
 use Rattle.src_mem.specs.Runs.{defined}
 use Rattle.cil_form.specs.declared.program.Function.{Function}
 use Rattle.cil_form.specs.Machine.{head_of, variables_of}
@@ -49,7 +49,7 @@ module _ (p : Programs) (formed : IsWellFormed p.whole.table) (b : Running) (s :
   -- a function that may be entered
   pub entered-fits : (variables : List Planned) → AreComplete (setting_of p) variables → (areas : List Area) (charge : ℕ)
       → areas ≡ frame_areas (setting_of p) variables → charge ≡ frame_charge p.whole.table variables
-      → fits c.memory areas charge ≡ (nat_lt (suc b.depth) depth_limit && nat_le (s.memory.frame_bytes + frame_charge p.whole.table variables) frame_limit)
+      → fits c.memory areas charge ≡ (nat_lt (suc b.depth) depth_limit && nat_le (s.memory.frame_bytes + frame_charge p.whole.table variables) source_frame_limit)
   entered-fits variables complete areas charge areas_are charge_is =
       ap (λ (xs : List Area). fits c.memory xs charge) areas_are ∙ ap (fits c.memory (frame_areas (setting_of p) variables)) charge_is
       ∙ frames-fit-alike (setting_of p) p.whole.node s c (frame_areas (setting_of p) variables) (frame_charge p.whole.table variables) (suc b.depth) there.related

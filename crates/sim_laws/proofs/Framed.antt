@@ -8,7 +8,7 @@ use Rattle.cc_base.specs.declared.number.NodeId.{NodeId}
 use Rattle.cc_base.specs.declared.number.TypeId.{TypeId}
 use Rattle.c_types.specs.declared.shape.TypeShape.{TypeShape}
 use Rattle.c_types.specs.declared.shape.TypeShape.TheVariants as shape
-use Rattle.c_types.specs.declared.site.Site.TheVariants as site
+use Rattle.kind_sites.specs.declared.site.Site.TheVariants as site
 use Rattle.c_types.specs.Flows.{IsOfOneClass}
 use Rattle.c_types.specs.Table.{IsType, shape_at}
 use Rattle.type_laws.proofs.Pointers.{class_own}
@@ -17,18 +17,19 @@ use Rattle.flat_mem.specs.Memory.{Frame, frame_of, next_frame}
 use Rattle.src_mem.specs.Pointers.{Null}
 use Rattle.src_mem.specs.Memory.{Planned, frame_charge}
 use Rattle.src_mem.specs.State as source
-use Rattle.src_mem.specs.State.{Defined}
 use Rattle.src_mem.specs.Operations.{zero_of_shape, zero_of_function}
 use Rattle.src_mem.specs.Runs.{defined}
+use Rattle.src_mem.proofs.Outlines.{mapped-from}
 use Rattle.facts_kept.specs.Kept.{IsVariable}
 use Rattle.cil_form.specs.declared.program.Function.{Function}
 use Rattle.cil_form.specs.declared.program.Parameter.{Parameter}
+use Rattle.cil_form.specs.declared.program.Static.{Static}
 use Rattle.cil_form.specs.declared.program.Program.{Program}
 use Rattle.cil_form.specs.Machine.{plan, head_of, variables_of}
-use Rattle.cil_form.specs.Shape.{IsInShape, IsPlanInShape, IsFunctionInShape, IsResult, parameters_limit, context_of, result_of_shape}
+use Rattle.cil_form.specs.Shape.{IsInShape, IsPlanInShape, IsStaticInShape, IsFunctionInShape, IsResult, parameters_limit, context_of, result_of_shape}
 use Rattle.cil_form.specs.Told.{IsToldOf, IsSolutionOf}
 use Rattle.cil_facts.proofs.Accesses.{alike-class}
-use Rattle.cil_facts.proofs.Functions.{zero-fits, each-got, each-right, each-flat}
+use Rattle.cil_facts.proofs.Functions.{zero-fits, each-got, each-left, each-right, each-flat}
 use Rattle.cured_code.specs.declared.parts.Parts.{Parts}
 use Rattle.cured_code.specs.FlatState as flat
 use Rattle.cured_code.specs.Tables.{areas_of, results_of}
@@ -80,28 +81,47 @@ module _ (p : Program) (kind : NodeId → Kind) (node : TypeId → ℕ) (numbers
   function-shaped : (n : ℕ) (f : Function) → slice_get p.functions n ≡ Some f → IsFunctionInShape p f
   function-shaped n f found = all-at (IsFunctionInShape p) p.functions shaped.functions n f found
 
-  -- the variables of a function: a site tells of the home of each
+  -- an object that can be made is one that frames may have: a site tells of its home
+  object-plan : (v : Planned) → IsPlanInShape p v → Contains p.sites (site.Home v.node v.type) → IsVariable (setting_of both) v
+  object-plan v planned told_of =
+      let home = solution.each (site.Home v.node v.type) told_of in record { complete = planned.1.1; plain = home.plain; spreads = home.spreads }
+
+  -- the variables of a function
   variable : (n : ℕ) (f : Function) → slice_get p.functions n ≡ Some f → (j : ℕ) (v : Planned) → slice_get (variables_of f) j ≡ Some v
       → IsVariable (setting_of both) v
   variable n f found j v e =
-      let planned = each-got (IsPlanInShape p) (variables_of f) j v (function-shaped n f found).variables e in
-      let home = solution.each (site.Home v.node v.type) (each-got (λ (o : Planned). Contains p.sites (site.Home o.node o.type)) (variables_of f) j v
+      object-plan v (each-got (IsPlanInShape p) (variables_of f) j v (function-shaped n f found).variables e)
+      (each-got (λ (o : Planned). Contains p.sites (site.Home o.node o.type)) (variables_of f) j v
       (each-flat (λ (o : Planned). Contains p.sites (site.Home o.node o.type)) variables_of p.functions n f found
-      (each-right (λ (o : Planned). Contains p.sites (site.Home o.node o.type)) (map (λ s. plan s.planned) p.statics) (flat_map variables_of p.functions) told.objects)) e) in
-      record { complete = planned.1.1; plain = home.plain; spreads = home.spreads }
+      (each-right (λ (o : Planned). Contains p.sites (site.Home o.node o.type)) (map (λ s. plan s.planned) p.statics) (flat_map variables_of p.functions) told.objects)) e)
+
+  -- the static objects
+  static-plan : (j : ℕ) (v : Planned) → slice_get (map (λ (o : Static). plan o.planned) p.statics) j ≡ Some v → IsVariable (setting_of both) v
+  static-plan j v e =
+      let o = mapped-from (λ (o : Static). plan o.planned) p.statics j v e in
+      object-plan v (subst (IsPlanInShape p) o.2 (all-at (IsStaticInShape p) p.statics shaped.statics j o.0 o.1).planned)
+      (each-got (λ (o : Planned). Contains p.sites (site.Home o.node o.type)) (map (λ (o : Static). plan o.planned) p.statics) j v
+      (each-left (λ (o : Planned). Contains p.sites (site.Home o.node o.type)) (map (λ (o : Static). plan o.planned) p.statics) (flat_map variables_of p.functions) told.objects) e)
 
   alike : (t u : TypeId) → NamesAlike p.sites t u → IsOfOneClass p.types kind t u
   alike t u (inl e) = subst (λ (x : TypeId). IsOfOneClass p.types kind t x) e (class_own p.types kind t)
   alike t u (inr h) = alike-class (context_of p) (record { setting = setting_of both; depth = 0; first = 0; call = λ f depth vs. source.wrong })
       (solved-first p kind node numbers parents parts shaped told solution cured) t u h
 
+  -- function 0 comes before the defined ones
+  pub counted : length parts.functions ≡ suc (length (setting_of both).functions)
+  counted = cured.count ∙ ap suc (sym (length-map p.functions (λ (x : Function). defined (head_of x))))
+
   pub planned-in : (n : ℕ) (f : Function) → slice_get p.functions n ≡ Some f → IsPlanned both (variables_of f)
   planned-in n f found = record {
     formed = shaped.formed;
     are = variable n f found;
     class = alike;
-    count = cured.count ∙ ap suc (sym (length-map p.functions (λ (x : Function). defined (head_of x))));
+    count = counted;
   }
+
+  pub planned-statics : IsPlanned both (map (λ (o : Static). plan o.planned) p.statics)
+  planned-statics = record { formed = shaped.formed; are = static-plan; class = alike; count = counted }
 
   pub calls-fit : CallsFit both
   calls-fit b k f s c found there = call-fits-alike both shaped.formed b s c there k f (record { each = λ j v e. (variable k f found j v e).complete }) (cured.functions k f found)

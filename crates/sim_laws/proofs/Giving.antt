@@ -15,11 +15,11 @@ use Rattle.cured_code.specs.FlatState as flat
 use Rattle.cured_code.specs.FlatState.{slot, with_slot}
 use Rattle.cured_code.specs.FlatMachine.{Context, run}
 use Rattle.sim_relation.specs.Points.{Known, Knowledge}
-use Rattle.cure_rules.specs.Slots.{AreSlots, Column}
+use Rattle.cure_rules.specs.Slots.{AreSlots, Owner, Column, Working, Argument, Nought, Kept}
 use Rattle.cure_rules.specs.Known as rules
 use Rattle.cure_rules.specs.Known.{Takes, an_integer, held_words, noughts, copies}
 use Rattle.sim_laws.specs.Scenes.{Scene, Running, world_of}
-use Rattle.sim_laws.specs.Points.{Grows, There, Point, IsSpared, Wrote, Fits}
+use Rattle.sim_laws.specs.Points.{Grows, There, Point, IsSpared, IsLasting, Wrote, Passed, Fits}
 use Rattle.sim_laws.specs.Statements.{Lines, FlatOutcome, StatesEndAlike, Match}
 use Rattle.cure_rules.specs.Code.{Blocks}
 use Rattle.sim_laws.proofs.Points.{written}
@@ -45,6 +45,31 @@ gives-follows w g b known after blocks into l c p (Done v s) (Done Goes d) h =
     written w g b known after into h.fact v l s c d p h.there h.grows h.wrote h.fits h.leave
 gives-follows w g b known after blocks into l c p (Done v s) (Done (Leaves j) d) h = let e = h.goes in absurd (cc (e))
 gives-follows w g b known after blocks into l c p (Done v s) (Done (Gives ws) d) h = let e = h.goes in absurd (cc (e))
+
+-- a slot that an instruction leaves lasts
+spared-lasting : (into : Temp) (o : Owner) → IsSpared into o → IsLasting o
+spared-lasting into (Column t j) h = tt
+spared-lasting into (Working j) h = h
+spared-lasting into (Argument j) h = h
+spared-lasting into Nought h = tt
+spared-lasting into (Kept j) h = tt
+
+-- what is given behind lines that write working slots alone
+pub gave-past : (w : Scene) (g : AreSlots w.slots) (b : Running) (known after : Knowledge) (into : Temp) (l : code.Local) (c d : flat.Local) → d.state ≡ c.state
+    → Passed w g c.slots d.slots → (v : Value) (s : source.State) (z : Control (List ℕ)) (e : flat.Local) → Gave w g b known after into l d v s z e
+    → Gave w g b known after into l c v s z e
+gave-past w g b known after into l c d same passed v s z e h = record {
+  goes = h.goes;
+  there = h.there;
+  grows = subst (λ (x : flat.State). Grows w.programs b.depth l.state s x e.state) same h.grows;
+  wrote = record {
+    others = λ a spared. h.wrote.others a spared ∙ passed.others a (spared-lasting into (g.owner a) spared);
+    long = h.wrote.long ∙ passed.long;
+  };
+  fact = h.fact;
+  fits = h.fits;
+  leave = h.leave;
+}
 
 -- Columns
 

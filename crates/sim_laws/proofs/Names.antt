@@ -2,7 +2,7 @@
 use Rattle.std.proofs.Common.{◌≡◌, ℕ, ◌≤◌, List, length, Option, Some, None, refl, ap, sym, subst, ◌∙◌, inl, inr, Bool, if◌then◌else◌}
 use Rattle.cc_base.specs.declared.number.NodeId.{NodeId}
 use Rattle.cc_base.specs.declared.number.TypeId.{TypeId}
-use Rattle.c_types.specs.declared.site.Site.{Site}
+use Rattle.kind_sites.specs.declared.site.Site.{Site}
 use Rattle.runs.specs.Outcome.{Outcome, Ended, Done, done, leaves, from, ◌>>◌}
 use Rattle.runs.specs.Control.{Goes}
 use Rattle.src_mem.specs.Pointers.{Value, Address}
@@ -18,7 +18,7 @@ use Rattle.cil_form.specs.declared.number.Object.TheVariants as object
 use Rattle.cil_form.specs.declared.instr.Instr.{Instr}
 use Rattle.cil_form.specs.State as code
 use Rattle.cil_form.specs.State.{with_temp, is_same, beside}
-use Rattle.cil_form.specs.Shape.{functions_limit}
+use Rattle.cil_form.specs.Shape.{source_functions_limit}
 use Rattle.cil_form.specs.Typing.{HeldType, PointerTo, PlaceOf, Context, Typing, IsNamedAs, IsObject, IsShaped, no_types, plan_of, with_held}
 use Rattle.cil_form.specs.Told.{IsAsked}
 use Rattle.cil_form.proofs.AskedLaws.{instr-asked}
@@ -54,7 +54,7 @@ pub record Names (w : Scene) : Type 0 where
   pub result : Option TypeId
   pub solved : IsSolvedFor (context_at w nodes functions result 0 no_types) (setting_of w.programs)
   pub laid : length w.programs.whole.statics ≤ length w.programs.whole.addresses
-  pub few : length (setting_of w.programs).functions ≤ functions_limit
+  pub few : length (setting_of w.programs).functions ≤ source_functions_limit
   pub sizes : AreSizes w.programs.whole
 
 -- with so many blocks around

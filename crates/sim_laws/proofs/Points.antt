@@ -3,16 +3,18 @@ use Rattle.std.proofs.Common.{◌≡◌, ℕ, zero, suc, ◌+◌, ◌<◌, ◌�
 use Rattle.std.proofs.lemmas.Bool.Decides.{nat_tests}
 use Rattle.cc_base.specs.declared.kind.Kind.{Kind}
 use Rattle.cc_base.specs.declared.kind.Kind.TheVariants.{Safe, Seq, Rtti, Wild}
+use Rattle.c_types.specs.Widths.{width_of}
 use Rattle.flat_mem.specs.Bytes.{bytes_at}
 use Rattle.flat_mem.specs.Memory as flat_memory
 use Rattle.src_mem.specs.Pointers.{Pointer, Value, Integer, Address}
-use Rattle.src_mem.specs.Memory.{Memory}
+use Rattle.src_mem.specs.Memory.{Memory, Planned}
 use Rattle.src_mem.specs.State as source
 use Rattle.src_mem.specs.Uses.{home}
 use Rattle.src_mem.specs.Outlines.{lives_of}
 use Rattle.src_mem.specs.Facts.{IsSoundAt}
 use Rattle.cil_form.specs.declared.number.Temp.{Temp}
 use Rattle.cil_form.specs.declared.number.Temp.TheVariants as temp
+use Rattle.cil_form.specs.declared.number.Object.{Object}
 use Rattle.cil_form.specs.declared.number.Object.TheVariants as object
 use Rattle.cil_form.specs.declared.number.Work.TheVariants.{First, Second}
 use Rattle.cil_form.specs.State as code
@@ -20,13 +22,14 @@ use Rattle.cil_form.specs.State.{with_temp, is_same}
 use Rattle.cil_form.specs.Typing.{HeldType, IntegerOf, PointerTo, PlaceOf}
 use Rattle.cured_code.specs.FlatState as flat
 use Rattle.cured_code.specs.FlatState.{slot, PlacedArea}
-use Rattle.sim_relation.specs.Ground.{Ground, ground, pointer_words, word_number}
+use Rattle.sim_relation.specs.Ground.{Ground, ground, cells, pointer_words, word_number}
 use Rattle.sim_relation.specs.Related.{Related}
 use Rattle.sim_relation.specs.Points.{Known, Knowledge, Content, Number, Start, End, HoldsAs, AreWords, PointerStands, StandsFor, IsThere, object_number, content_word}
+use Rattle.sim_relation.proofs.Room.{value_there}
 use Rattle.cure_rules.specs.Slots.{AreSlots, Owner, Column, Working, Argument, Nought, Kept}
 use Rattle.cure_rules.specs.Known.{Includes, Leaves, held_words}
 use Rattle.sim_laws.specs.Scenes.{Programs, Scene, Running, setting_of}
-use Rattle.sim_laws.specs.Points.{Holds, Grows, IsLaid, There, Point, IsSteady, AreInColumn, AreKept, Settled, IsSpared, Wrote, IsLasting, Passed, Fits, IsWordFor, ground_of}
+use Rattle.sim_laws.specs.Points.{Holds, Grows, IsLaid, There, Point, IsSteady, AreInColumn, AreKept, Settled, IsSpared, Wrote, IsLasting, Passed, Fits, IsWordFor, ground_of, planned_at}
 use Rattle.sim_laws.proofs.Laid.{laid-same}
 
 pub weaker : (w : Scene) (g : AreSlots w.slots) (b : Running) (known less : Knowledge) (l : code.Local) (c : flat.Local)
@@ -34,6 +37,7 @@ pub weaker : (w : Scene) (g : AreSlots w.slots) (b : Running) (known less : Know
 weaker w g b known less l c h p = record {
   there = p.there;
   outer = p.outer;
+  called = p.called;
   variables = p.variables;
   held = λ t x e. p.held t x (h t x e);
   stands = λ t x e. p.stands t x (h t x e);
@@ -82,6 +86,18 @@ grows-less p depth less s t c d h g = record {
   contents = g.contents;
 }
 
+-- an object that code may name is there
+pub named-there : (p : Programs) (b : Running) (s : source.State) (c : flat.State) → There p b s c → (o : Object) (v : Planned)
+    → planned_at p.whole.statics b.variables o ≡ Some v → object_number b.first o < length s.memory.objects
+named-there p b s c h o v e = value_there (setting_of p) s.memory.objects (p.whole.kind v.node) v.type (home p.whole.table (object_number b.first o) v.type)
+    (h.objects o v v.type e (inl refl)).0.held.value
+
+-- and its area stays as long as it is
+pub width-kept : (p : Programs) (depth : ℕ) (s t : source.State) (c d : flat.State) → Grows p depth s t c d → (first : ℕ) (o : Object)
+    → object_number first o < length s.memory.objects
+    → width_of p.whole.kind (cells (ground_of p t d) (object_number first o)) ≡ width_of p.whole.kind (cells (ground_of p s c) (object_number first o))
+width-kept p depth s t c d grow first o less = let a = grow.contents first (Start o) less in let e = grow.contents first (End o) less in omega (arith, a, e)
+
 -- the states behind an instruction
 pub there-on : (p : Programs) (b : Running) (s t : source.State) (c d : flat.State) → b.outer ≤ b.depth → There p b s c
     → Related (setting_of p) p.whole.node t d → IsSoundAt (setting_of p) p.sites t.memory b.depth → IsLaid p t d → d.memory.frames ≡ c.memory.frames
@@ -94,9 +110,11 @@ there-on p b s t c d out h r facts laid frames grow = record {
   deep = h.deep;
   made = (let a = h.made in let e = grow.more in omega (arith, a, e));
   areas = λ k l. h.areas k l ∙ sym (grow.contents b.first (Start (object.Variable (record { 0 = k }))) (let a = h.made in omega (arith, a, l)));
+  own_frame = h.own_frame;
   globals = (let a = h.globals in let e = grow.more in omega (arith, a, e));
   statics = λ k l. h.statics k l ∙ sym (grow.contents 0 (Start (object.Static (record { 0 = k }))) (let a = h.globals in omega (arith, a, l)));
   objects = λ o v u e m. grow.held b.depth (omega arith) (PlaceOf v.node u) (Address (home p.whole.table (object_number b.first o) u)) (h.objects o v u e m);
+  wide = λ o v e. width-kept p b.depth s t c d grow b.first o (named-there p b s c h o v e) ∙ h.wide o v e;
   own = λ some k x e live deep. h.own some k x (grow.lived k x e live (omega (arith, some, deep)) (omega (arith, deep))) live deep;
   since = grows-then p b.outer b.start s t b.flat_start c d h.since (grows-less p b.depth b.outer s t c d out grow);
 }
@@ -222,6 +240,7 @@ pub written : (w : Scene) (g : AreSlots w.slots) (b : Running) (known after : Kn
 written w g b known after into x v l s c d p there grow wrote fits leave = record {
   there = there;
   outer = p.outer;
+  called = p.called;
   variables = p.variables;
   held = λ t y e. held_after t y (is_same t into) refl (leave t y e);
   stands = λ t y e. stands_after t y (is_same t into) refl (leave t y e);
@@ -272,6 +291,7 @@ pub unwritten : (w : Scene) (g : AreSlots w.slots) (b : Running) (known after : 
 unwritten w g b known after l s c d p there grow passed less = record {
   there = there;
   outer = p.outer;
+  called = p.called;
   variables = p.variables;
   held = λ t x e. grow.held b.depth (omega arith) x.type (l.temps t) (p.held t x (less t x e));
   stands = λ t x e. stands-on w.programs b.depth l.state s c.state d.state c.slots d.slots x x.type (l.temps t) grow
@@ -314,6 +334,7 @@ pub turned : (w : Scene) (g : AreSlots w.slots) (b : Running) (known : Knowledge
 turned w g b known l c n p = record {
   there = there-turned w.programs b l.state c.state n p.outer p.there;
   outer = p.outer;
+  called = p.called;
   variables = p.variables;
   held = p.held;
   stands = p.stands;

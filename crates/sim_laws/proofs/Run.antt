@@ -9,7 +9,7 @@ use Rattle.cc_base.specs.declared.kind.Kind.{Kind}
 use Rattle.cc_base.specs.declared.fault.Check.TheVariants as check
 use Rattle.c_types.specs.declared.shape.TypeShape.{TypeShape}
 use Rattle.c_types.specs.declared.shape.TypeShape.TheVariants as shape
-use Rattle.c_types.specs.declared.site.Site.{Site}
+use Rattle.kind_sites.specs.declared.site.Site.{Site}
 use Rattle.c_types.specs.Table.{shape_at, is_function_shape}
 use Rattle.integers.specs.Words.{word, low_byte}
 use Rattle.integers.specs.Arithmetic.{int}

@@ -262,7 +262,7 @@ word-moved w slots after v a (PointerTo n u) same below = tt
 word-moved w slots after v a (PlaceOf n u) same below = tt
 
 -- where the words of a value stand, and a column that they are copied into: none is written before it is read
-settled-apart : (w : Scene) (g : AreSlots w.slots) (into from : Temp) (x : Known) (a : ℕ) → Settled w g.owner from x → x.place ≡ Some a
+pub settled-apart : (w : Scene) (g : AreSlots w.slots) (into from : Temp) (x : Known) (a : ℕ) → Settled w g.owner from x → x.place ≡ Some a
     → Takes (world_of w) into (held_words w.programs.whole x.type) → (i j : ℕ) → i < j → j < held_words w.programs.whole x.type
     → a + j ≡ w.slots.column into + i → ⊥
 settled-apart w g into from x a h place takes i j less below same = by (h.slots a place)

@@ -15,7 +15,7 @@ use Rattle.cil_form.specs.declared.instr.Instr.TheVariants as instr
 use Rattle.cil_form.specs.declared.program.Function.{Function}
 use Rattle.cil_form.specs.declared.program.Program.{Program}
 use Rattle.cil_form.specs.Machine.{head_of}
-use Rattle.cil_form.specs.Shape.{IsInShape, IsFunctionInShape, context_of, functions_limit, result_of_shape}
+use Rattle.cil_form.specs.Shape.{IsInShape, IsFunctionInShape, context_of, source_functions_limit, result_of_shape}
 use Rattle.cil_form.specs.Told.{objects_of, IsToldOf, IsSolutionOf}
 use Rattle.cil_form.specs.Typing.{no_types}
 use Rattle.cil_form.proofs.TellsLaws.{function-told, outer-told}
@@ -56,7 +56,7 @@ module _ (p : Program) (kind : NodeId → Kind) (node : TypeId → ℕ) (numbers
         ap (λ (t : TypeId). is_function p.types t) (sym is) ∙ ap is_function_shape (all-at (IsFunctionInShape p) p.functions shaped.functions f x at).type.2,
       )
 
-  few : length (setting_of both).functions ≤ functions_limit
+  few : length (setting_of both).functions ≤ source_functions_limit
   few = let e : length (map (λ (f : Function). defined (head_of f)) p.functions) ≡ length p.functions = length-map p.functions (λ (f : Function). defined (head_of f)) in
       let n = shaped.count in omega (arith, e, n)
 

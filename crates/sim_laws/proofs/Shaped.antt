@@ -49,15 +49,15 @@ mutual
   row (more_of-Instr i r) j k n kept types after (middle, first, rest) q =
       ⊎_elim (one i j k n kept types middle first) (row r j k n kept middle after rest) q
 
-list : (is : List Instr) (j : Instr) (k : Context) (n : ℕ) (kept types after : Typing) → AreShaped is (within k n kept) types after → IsInCode j is → Shaped j k
-list [] j k n kept types after h q = absurd q
-list (i ∷ is) j k n kept types after (middle, first, rest) q =
-    ⊎_elim (one i j k n kept types middle first) (list is j k n kept middle after rest) q
+pub shaped-code : (is : List Instr) (j : Instr) (k : Context) (n : ℕ) (kept types after : Typing) → AreShaped is (within k n kept) types after → IsInCode j is → Shaped j k
+shaped-code [] j k n kept types after h q = absurd q
+shaped-code (i ∷ is) j k n kept types after (middle, first, rest) q =
+    ⊎_elim (one i j k n kept types middle first) (shaped-code is j k n kept middle after rest) q
 
 pub shaped-in : (p : Program) → IsInShape p → (n : ℕ) (f : Function) → slice_get p.functions n ≡ Some f → (j : Instr) → IsInCode j f.body.0.items
     → Shaped j (context_in p f)
 shaped-in p shape n f found j q =
-    list f.body.0.items j (context_in p f) 0 no_types no_types no_types (all-at (IsFunctionInShape p) p.functions shape.functions n f found).body.shaped q
+    shaped-code f.body.0.items j (context_in p f) 0 no_types no_types no_types (all-at (IsFunctionInShape p) p.functions shape.functions n f found).body.shaped q
 
 pub shaped-first : (p : Program) → IsInShape p → (j : Instr) → IsInCode j p.initialisers.0.items → Shaped j (context_of p)
-shaped-first p shape j q = list p.initialisers.0.items j (context_of p) 0 no_types no_types no_types shape.initialisers.shaped q
+shaped-first p shape j q = shaped-code p.initialisers.0.items j (context_of p) 0 no_types no_types no_types shape.initialisers.shaped q

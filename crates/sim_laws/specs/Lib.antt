@@ -6,4 +6,5 @@ pub mod Calls
 pub mod Runs
 pub mod Instructions
 pub mod Plain
+pub mod PlainKinds
 pub mod Frames

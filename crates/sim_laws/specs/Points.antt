@@ -1,10 +1,11 @@
 -- What is true of two states wherever a body has come to, and what of them stays.
-use Rattle.std.specs.Prelude.{◌≡◌, ◌⊎◌, ℕ, suc, ◌+◌, ◌^◌, ◌<◌, ◌≤◌, ⊤, true, false, List, length, slice_get, slice_index, Option, Some}
+use Rattle.std.specs.Prelude.{◌≡◌, ◌≢◌, ◌⊎◌, ℕ, suc, ◌+◌, ◌^◌, ◌<◌, ◌≤◌, ⊤, true, false, List, length, slice_get, slice_index, Option, Some}
 use Rattle.cc_base.specs.declared.kind.Kind.{Kind}
 use Rattle.cc_base.specs.declared.number.TypeId.{TypeId}
-use Rattle.c_types.specs.declared.site.Site.{Site}
+use Rattle.kind_sites.specs.declared.site.Site.{Site}
+use Rattle.c_types.specs.Widths.{width_of, cured_size}
 use Rattle.flat_mem.specs.Bytes.{IsAccessSize, AreBytes}
-use Rattle.flat_mem.specs.Memory.{newest_addresses, bounds_of}
+use Rattle.flat_mem.specs.Memory.{newest_addresses, depth_in, bounds_of}
 use Rattle.src_mem.specs.Pointers.{Pointer, Value, Address}
 use Rattle.src_mem.specs.Memory.{Planned}
 use Rattle.src_mem.specs.State as source
@@ -23,7 +24,8 @@ use Rattle.cil_facts.specs.Held.{IsHeldAs}
 use Rattle.cured_code.specs.FlatState as flat
 use Rattle.cured_code.specs.FlatState.{slot}
 use Rattle.cured_code.specs.FlatMachine.{plan_of}
-use Rattle.sim_relation.specs.Ground.{Ground, address, pointer_words}
+use Rattle.sim_relation.specs.Ground.{Ground, address, cells, pointer_words}
+use Rattle.sim_relation.specs.Objects.{flat_depth}
 use Rattle.sim_relation.specs.Related as relation
 use Rattle.sim_relation.specs.Related.{Related}
 use Rattle.sim_relation.specs.Points.{Known, Knowledge, Content, KeptSlot, StandsFor, IsThere, object_number, content_word}
@@ -75,9 +77,10 @@ abbrev pub AreOwn : ℕ → ℕ → ℕ → List Life → Type 0
 AreOwn depth first count lives = (k : ℕ) (x : Life) → slice_get lives k ≡ Some x → x.live ≡ true → x.depth ≡ depth → (first ≤ k) × (k < first + count)
 
 -- The states wherever a call has come to: they are related, C's memory is sound, and all is laid as in the whole run; the frames are those with
--- which the call began, one more than its depth; the areas of its variables are those of its frame, those of the static objects stand where they
--- were laid; each object that code may name is a place of each type that it is named with; what a function has made and lives is one of its
--- variables; and since the call began all has stayed that calls further out speak of.
+-- which the call began, one more than its depth; the areas of its variables are those of its frame, which lies as deep, those of the static
+-- objects stand where they were laid; each object that code may name is a place of each type that it is named with, and its area is as long as its
+-- type's is once cured; what a function has made and lives is one of its variables; and since the call began all has stayed that calls further out
+-- speak of.
 pub record There (p : Programs) (b : Running) (s : source.State) (c : flat.State) : Type 0 where
   pub related : Related (setting_of p) p.whole.node s c
   pub facts : IsSoundAt (setting_of p) p.sites s.memory b.depth
@@ -86,10 +89,13 @@ pub record There (p : Programs) (b : Running) (s : source.State) (c : flat.State
   pub deep : length b.frames ≡ suc b.depth
   pub made : b.first + length b.variables ≤ length s.memory.objects
   pub areas : (k : ℕ) → k < length b.variables → slice_index (newest_addresses b.frames) k ≡ address (ground_of p s c) (b.first + k)
+  pub own_frame : (k : ℕ) → k < length b.variables → depth_in b.frames (slice_index (newest_addresses b.frames) k) ≡ flat_depth b.depth
   pub globals : length p.whole.addresses ≤ length s.memory.objects
   pub statics : (k : ℕ) → k < length p.whole.addresses → slice_index p.whole.addresses k ≡ address (ground_of p s c) k
   pub objects : (o : Object) (v : Planned) (t : TypeId) → planned_at p.whole.statics b.variables o ≡ Some v → NamesAlike p.sites v.type t
       → Holds p s b.depth (PlaceOf v.node t) (Address (home p.whole.table (object_number b.first o) t))
+  pub wide : (o : Object) (v : Planned) → planned_at p.whole.statics b.variables o ≡ Some v
+      → width_of p.whole.kind (cells (ground_of p s c) (object_number b.first o)) ≡ cured_size p.whole.table p.whole.kind v.type
   pub own : 0 < b.depth → AreOwn b.depth b.first (length b.variables) (lives_of s.memory)
   pub since : Grows p b.outer b.start s b.flat_start c
 
@@ -122,12 +128,15 @@ abbrev pub IsWordFor : HeldType → ℕ → Type 0
 IsWordFor (IntegerOf i) n = n < 2 ^ 64
 IsWordFor x n = ⊤
 
--- The two machines are at one point of a body: beside what is so wherever a call has come to, each temporary of which something is known holds
+-- The two machines are at one point of a body, which a call one deeper than that around it runs, if it isn't function 0's: beside what is so wherever
+-- a call has come to, each temporary of which something is known holds
 -- a value of its type, and slots that writing another temporary leaves stand for it; the kept slots hold what they are kept for, and the slot
 -- that is never written holds 0.
 pub record Point (w : Scene) (g : AreSlots w.slots) (b : Running) (known : Knowledge) (l : code.Local) (c : flat.Local) : Type 0 where
   pub there : There w.programs b l.state c.state
   pub outer : b.outer ≤ b.depth
+  -- a function is called from a call that is one less deep
+  pub called : w.number ≢ 0 → b.depth ≡ suc b.outer
   pub variables : b.variables ≡ w.variables
   pub held : (t : Temp) (x : Known) → known t ≡ Some x → Holds w.programs l.state b.depth x.type (l.temps t)
   pub stands : (t : Temp) (x : Known) → known t ≡ Some x → StandsFor (ground_of w.programs l.state c.state) c.slots x x.type (l.temps t)

@@ -1,7 +1,7 @@
 -- What two bodies of code run in: the program and its cured program, a function of both, and a call of it.
 use Rattle.std.specs.Prelude.{ℕ, suc, List, [], map, Option, None}
 use Rattle.cc_base.specs.declared.number.TypeId.{TypeId}
-use Rattle.c_types.specs.declared.site.Site.{Site}
+use Rattle.kind_sites.specs.declared.site.Site.{Site}
 use Rattle.c_types.specs.Table.{shape_at}
 use Rattle.runs.specs.Outcome.{Run}
 use Rattle.flat_mem.specs.Memory.{Frame}

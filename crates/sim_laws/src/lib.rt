@@ -2,10 +2,20 @@
 //! start, and the induction from them to whole code, to calls and to the run of a program. Laws alone: nothing here runs.
 #![tactic(auto)]
 
+ghost use Rattle.std.specs.Prelude.{◌≡◌, [], ◌∷◌};
+ghost use Rattle.std.specs.declared.alloc.Global.{Global};
+ghost use Rattle.cc_base.specs.Kinds.{kind_at};
+ghost use Rattle.cc_base.specs.declared.kind.Kind.{Kind};
+ghost use Rattle.cc_base.specs.declared.kind.Kind.TheVariants.{Safe, Seq, Wild};
+ghost use Rattle.cc_base.specs.declared.number.NodeId.{NodeId};
+ghost use Rattle.cil_form.specs.Small.{node};
+ghost use Rattle.cil_form.specs.Programs.{loop_program, call_program, access_program};
 ghost use Rattle.sim_laws.specs.Instructions.{ConstantsFollow, FirstConstantsFollow, CalculationsFollow};
 ghost use Rattle.sim_laws.specs.Runs.{CuredProgramsRunAlike};
 ghost use Rattle.sim_laws.specs.Calls.{CallsFit, CallsBegin, CallsEnd, EndsGiveZero};
 ghost use Rattle.sim_laws.specs.Frames.{OfCuredPrograms, PlainProgramsRunAlike};
+ghost use Rattle.sim_laws.specs.Plain.{IsPlainProgram};
+ghost use Rattle.sim_laws.specs.PlainKinds.{ProgramsOfPlainKindsArePlain};
 
 /// A conditional theorem: a cured program runs as its three-address code, for every input and every number of turns, with the same ending,
 /// output and bytes read, faithful accesses and calls, and bytes that stand for the memory, where three things hold of the program: each
@@ -35,10 +45,33 @@ pub fn frames_follow()
 {}
 
 /// The cured program of a plain program runs as its three-address code, for every input of bytes and every number of turns: this has no premise
-/// on instructions, frames or the start. A plain program has no static objects, its functions take nothing, and its code is of constants,
-/// addresses, `&` of a place as a SAFE pointer, calculations, conversions of integers, loads and stores of integers and pointers through pointers
-/// that aren't WILD, stores of integers into parts of objects that are named, `free`, `getchar`, `putchar`, `exit`, control, and the return of
-/// nothing or of an integer.
+/// on instructions, frames or the start. A plain program's code is of constants, addresses, tests for null, calculations, conversions of integers
+/// and from them, loads and stores of integers and pointers through pointers that aren't WILD or into parts of objects that are named, copies of
+/// structs and clearing where no tags are, calls of functions and through pointers to them that aren't WILD, `free`, `getchar`, `putchar`, `exit`,
+/// control and returns, and, where pointers are SAFE or SEQ, of `&`, members, arrays that decay, moves, comparisons, differences, conversions,
+/// `malloc` and `calloc`; two SEQ pointers that are compared or subtracted point to types of one class, and no parameter's home is WILD.
 pub fn plain_programs_run_alike()
     ensures { PlainProgramsRunAlike }
+{}
+
+/// Which programs are plain by their kinds: those in shape of which each node is SAFE or SEQ, whose code converts no pointer to an integer, and
+/// which compare and subtract two SEQ pointers only where these point to types of one class.
+pub fn programs_of_plain_kinds_are_plain()
+    ensures { ProgramsOfPlainKindsArePlain }
+{}
+
+/// There are plain programs, and others. `int main(void){int i;while(i<3){putchar('a');i=i+1;}return i;}` is plain where the variable is SAFE, and
+/// `int f(int a){return a+1;}int main(void){return f(4);}` where all is SAFE. `int main(void){int a[3];a[3]=1;return 0;}` is plain where the array is
+/// SAFE and the address of its element SEQ, and never where that address, through which it stores, is WILD; nor is the second program where the
+/// home of its parameter is WILD.
+pub fn small_programs_are_plain()
+    ensures looping { (alloc : Global) → IsPlainProgram (loop_program alloc) (kind_at (Safe ∷ [])) }
+    ensures calling { (alloc : Global) →
+        IsPlainProgram (call_program alloc) (kind_at (Safe ∷ Safe ∷ [])) }
+    ensures accessing { (alloc : Global) →
+        IsPlainProgram (access_program alloc) (kind_at (Safe ∷ Seq ∷ [])) }
+    ensures wild_pointer { (alloc : Global) (kind : NodeId → Kind) → kind (node 1) ≡ Wild →
+        ¬ (IsPlainProgram (access_program alloc) kind) }
+    ensures wild_home { (alloc : Global) (kind : NodeId → Kind) → kind (node 0) ≡ Wild →
+        ¬ (IsPlainProgram (call_program alloc) kind) }
 {}

@@ -13,4 +13,6 @@ pub mod WildStores
 pub mod WildIntegers
 pub mod WildClears
 pub mod WildMoves
+pub mod PlainMoves
 pub mod WildPlain
+pub mod TaggedPlain

@@ -268,7 +268,7 @@ module _ (w : Setting) (number_of : TypeId → ℕ) (p : Pointer) (s : source.St
 -- Integers
 
 -- no pointer stands over these bytes
-none-at : (n at : ℕ) (o : Object) (i : ℕ) → holds_none n at o ≡ true → i < at + n → touches n at i ≡ true → o.pointers i ≡ None
+pub none-at : (n at : ℕ) (o : Object) (i : ℕ) → holds_none n at o ≡ true → i < at + n → touches n at i ≡ true → o.pointers i ≡ None
 none-at n at o i h l t = is (o.pointers i) refl (ap (λ (q : Bool). not q || is_none (o.pointers i)) (sym t) ∙ all 0 (at + n) h i (omega arith) (omega (arith, l)))
   where
     is : (x : Option Pointer) → o.pointers i ≡ x → is_none (o.pointers i) ≡ true → o.pointers i ≡ None
@@ -295,23 +295,26 @@ none-at n at o i h l t = is (o.pointers i) refl (ap (λ (q : Bool). not q || is_
         (λ e. all (a + 1) k (second (not (touches n at a) || is_none (o.pointers a)) (list_all (λ k. not (touches n at k) || is_none (o.pointers k)) (range_with_len (a + 1) k)) h) i e
         (omega (arith, m))) (case a i l)
 
+-- nor in their words
+pub none-in-word : (n at : ℕ) (o : Object) → holds_none n at o ≡ true → (j : ℕ) → j < n → o.pointers (8 * ((at + j) / 8)) ≡ None
+none-in-word n at o none j l =
+    let split : at + j ≡ 8 * ((at + j) / 8) + (at + j) % 8 = omega arith in
+    let less : (at + j) % 8 < 8 = omega arith in
+    none-at n at o (8 * ((at + j) / 8)) none (omega (arith, split, l)) (touched at n j ((at + j) / 8) ((at + j) % 8) split less l)
+  where
+    touched : (at n j k i : ℕ) → at + j ≡ 8 * k + i → i < 8 → j < n → touches n at (8 * k) ≡ true
+    touched at n j k i e l m = grind (arith, nat_tests, e, l, m)
+
 -- so they are those of the area
 pub bytes-read : (g : Ground) (bytes : List ℕ) (b : ℕ) (o : Object) (n at : ℕ) → HoldsTagged g bytes b o → at + n ≤ o.size → holds_none n at o ≡ true → (j : ℕ) → j < n
     → slice_index bytes (b + at + j) ≡ slice_index o.bytes (at + j)
 bytes-read g bytes b o n at h inside none j l =
-    let k : ℕ = (at + j) / 8 in
-    let i : ℕ = (at + j) % 8 in
     let split : at + j ≡ 8 * ((at + j) / 8) + (at + j) % 8 = omega arith in
     let less : (at + j) % 8 < 8 = omega arith in
     let own : (at + j) / 8 < word_count o.size = omega (arith, inside, l) in
-    let t : touches n at (8 * ((at + j) / 8)) ≡ true = touched at n j ((at + j) / 8) ((at + j) % 8) split less l in
-    let e = none-at n at o (8 * ((at + j) / 8)) none (omega (arith, split, l)) t in
-    let y = (subst (HoldsWord g bytes b o ((at + j) / 8)) e (h.words ((at + j) / 8) own)).1 ((at + j) % 8) less (omega (arith, split, inside, l)) in
+    let y = (subst (HoldsWord g bytes b o ((at + j) / 8)) (none-in-word n at o none j l) (h.words ((at + j) / 8) own)).1 ((at + j) % 8) less (omega (arith, split, inside, l)) in
     let f : b + at + j ≡ b + 8 * ((at + j) / 8) + (at + j) % 8 = omega (arith, split) in
     ap (slice_index bytes) f ∙ y ∙ ap (slice_index o.bytes) (sym split)
-  where
-    touched : (at n j k i : ℕ) → at + j ≡ 8 * k + i → i < 8 → j < n → touches n at (8 * k) ≡ true
-    touched at n j k i e l m = grind (arith, nat_tests, e, l, m)
 
 pub wild-integers-loaded : (w : Setting) (number_of : TypeId → ℕ) (i : IntegerType) (p : Pointer) (s : source.State) (x : Context) (v a b : ℕ) (c : flat.Local)
     → IsAccessSize i.bytes → Related w number_of s c.state → (f : IsFoundTagged w number_of s c.state i.bytes p (slot c a) (slot c b))

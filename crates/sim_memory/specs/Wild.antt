@@ -4,7 +4,7 @@ use Rattle.cc_base.specs.declared.kind.Kind.{Kind}
 use Rattle.cc_base.specs.declared.kind.Kind.TheVariants.{Wild}
 use Rattle.cc_base.specs.declared.number.TypeId.{TypeId}
 use Rattle.cc_base.specs.declared.number.NodeId.{NodeId}
-use Rattle.c_types.specs.declared.site.Site.{Site}
+use Rattle.kind_sites.specs.declared.site.Site.{Site}
 use Rattle.c_types.specs.Cells.{Cell, raw, AreOrdered}
 use Rattle.c_types.specs.Equality.{cells_of}
 use Rattle.integers.specs.Words.{residue, truth_word}
@@ -140,3 +140,12 @@ PlainBytesAreCopied = (w : Setting) (sites : List Site) (number_of : TypeId → 
     → IsFoundTagged w number_of s c.state (length (cells_of w.table t)) q (slot c a) (slot c b)
     → GoOnAlike w number_of s c (copy (length (cells_of w.table t)) kind p Wild q s)
     (run (instr.Untag a b (length (cells_of w.table t)) ∷ instr.Move a d (length (cells_of w.table t)) ∷ []) x c) tt c.slots
+
+-- Bytes that are no pointer's are copied between objects with tags, which may be one object, and their places there may overlap: what tags they
+-- touch in the target go, and the source's bytes are read as they were.
+abbrev pub TaggedPlainBytesAreCopied : Type 0
+TaggedPlainBytesAreCopied = (w : Setting) (sites : List Site) (number_of : TypeId → ℕ) (p q : Pointer) (s : source.State) (x : Context) (a b d e n : ℕ)
+    (c : flat.Local) → 0 < n → IsSoundMemory w sites s.memory → Related w number_of s c.state
+    → (f : IsFoundTagged w number_of s c.state n p (slot c d) (slot c e)) → holds_none n f.at f.object ≡ true
+    → IsFoundTagged w number_of s c.state n q (slot c a) (slot c b)
+    → GoOnAlike w number_of s c (copy n Wild p Wild q s) (run (instr.Untag a b n ∷ instr.Move a d n ∷ []) x c) tt c.slots

@@ -3,7 +3,7 @@
 #![tactic(auto)]
 
 ghost use Rattle.sim_memory.specs.Laws.{PlacesAreFound, IntegersAreLoaded, PointersAreLoaded, IntegersAreStored, PointersAreStored, ObjectsAreCleared, StructsAreCopied, BlocksFitAlike, BlocksAreMade, BlocksOfBytes, BlocksOfElements, HeapIsKept, HeapIsKeptByCalls};
-ghost use Rattle.sim_memory.specs.Wild.{WildBytesAreFound, TagsAreRead, BasesAreRead, WildPointersAreLoaded, WildIntegersAreLoaded, WildPointersAreStored, NullsAreStored, WildIntegersAreStored, WildObjectsAreCleared, TaggedBlocksFitAlike, TaggedBlocksAreMade, TaggedWordsAreCopied, PlainBytesAreCopied};
+ghost use Rattle.sim_memory.specs.Wild.{WildBytesAreFound, TagsAreRead, BasesAreRead, WildPointersAreLoaded, WildIntegersAreLoaded, WildPointersAreStored, NullsAreStored, WildIntegersAreStored, WildObjectsAreCleared, TaggedBlocksFitAlike, TaggedBlocksAreMade, TaggedWordsAreCopied, PlainBytesAreCopied, TaggedPlainBytesAreCopied};
 
 /// A pointer that may be held and is a place of its type has the address of its byte as its first word: a SAFE one, an RTTI one, and a
 /// SEQ one that passed BOUNDS.
@@ -54,7 +54,7 @@ pub fn tagged_words_are_read()
 
 /// A pointer is stored with its tag and its base word, a null pointer as zeros without one; an integer takes the tags of the words that it
 /// touches away; a whole object is cleared; whole words are copied with the pointers in them; and bytes that are no pointer's are copied from
-/// an object without tags, and take tags away as an integer does.
+/// an object without tags, or from one with tags, which may be the same one, and take tags away as an integer does.
 pub fn tagged_words_are_written()
     ensures pointer { WildPointersAreStored }
     ensures null { NullsAreStored }
@@ -62,4 +62,5 @@ pub fn tagged_words_are_written()
     ensures clearing { WildObjectsAreCleared }
     ensures copy { TaggedWordsAreCopied }
     ensures plain { PlainBytesAreCopied }
+    ensures tagged_plain { TaggedPlainBytesAreCopied }
 {}

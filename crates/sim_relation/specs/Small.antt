@@ -26,14 +26,14 @@ abbrev pub int : TypeId
 int = record { 0 = 5 }
 
 -- node 1 is SEQ and node 2 is WILD
-abbrev pub kind_at : ℕ → Kind
-kind_at zero = Safe
-kind_at (suc zero) = Seq
-kind_at (suc (suc zero)) = Wild
-kind_at (suc (suc (suc n))) = Safe
+abbrev pub small_kind : ℕ → Kind
+small_kind zero = Safe
+small_kind (suc zero) = Seq
+small_kind (suc (suc zero)) = Wild
+small_kind (suc (suc (suc n))) = Safe
 
 abbrev pub small_setting : Setting
-small_setting = record { table = basic_table; kind = λ n. kind_at n.0; functions = [] }
+small_setting = record { table = basic_table; kind = λ n. small_kind n.0; functions = [] }
 
 abbrev pub number_of : TypeId → ℕ
 number_of t = t.0

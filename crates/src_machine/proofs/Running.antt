@@ -8,6 +8,7 @@ use Rattle.integers.specs.Arithmetic as integer
 use Rattle.integers.specs.Arithmetic.{Operator, converted, truth}
 use Rattle.runs.specs.Outcome.{done, ◌>>=◌, ◌>>◌}
 use Rattle.runs.specs.Control.{Control, Goes, Leaves, Gives, then_go, rounds, go_round}
+use Rattle.c_tree.specs.Arithmetic.{operator_of}
 use Rattle.c_tree.specs.declared.operator.Binary.{Binary}
 use Rattle.c_tree.specs.declared.operator.Unary.{Unary}
 use Rattle.c_tree.specs.declared.operator.Unary.TheVariants as unary
@@ -31,7 +32,7 @@ use Rattle.src_mem.proofs.Keeping.{acts, keep_integer, keep_done, keep_ends, kee
 use Rattle.src_mem.proofs.KeepingValues.{keep_calculated, keep_calculated_alone, keep_converted_integer, keep_pointer_from_integer, keep_integer_from_pointer, keep_pointer_value, keep_moved_value, keep_difference_value, keep_compared_value, keep_null_value, keep_member_value, keep_decayed_value, keep_addressed, keep_loaded, keep_stored, keep_copied, keep_allocated, keep_called_value, keep_returned}
 use Rattle.src_machine.specs.World.{World, object_of}
 use Rattle.src_machine.specs.Statements.{Flow, Normal, Breaks, Continues, Returns, Whole, part, store_text, initialise, initialise_items, element_of_shape, clears, initialise_object, initialise_declared, declare_all, declare, loop, flow_of_loop, condition, effect, round_of, while_loop, again, do_loop, then_do, labels, chosen, runs_from, exec, exec_items, exec_piece, exec_before}
-use Rattle.src_machine.specs.Expressions.{is_through_pointer, is_subtract, is_pointer_in, same_type, is_different, is_or, operator_of, operator_of_step, operator_of_assignment, eval, eval_all, stands, locate, locate_object, converted_unless, updated_where, updated, prefixed, converted_value, moved_by_side, compared_with, logical}
+use Rattle.src_machine.specs.Expressions.{is_through_pointer, is_subtract, is_pointer_in, same_type, is_different, is_or, operator_of_step, operator_of_assignment, eval, eval_all, stands, locate, locate_object, converted_unless, updated_where, updated, prefixed, converted_value, moved_by_side, compared_with, logical}
 
 module _ {P : State → Type 0} (I : IsInvariant P) where
   keep_unless : (b : Bool) (w : World) (u : TypeId) (v : Value) → Keeps P (converted_unless b w u v)

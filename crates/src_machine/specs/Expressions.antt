@@ -8,8 +8,9 @@ use Rattle.c_types.specs.declared.shape.TypeShape.{TypeShape}
 use Rattle.c_types.specs.declared.shape.TypeShape.TheVariants as shape
 use Rattle.c_types.specs.Table.{shape_at}
 use Rattle.integers.specs.Arithmetic as integer
-use Rattle.integers.specs.Arithmetic.{Operator, converted, computed_alone, truth}
+use Rattle.integers.specs.Arithmetic.{Operator, converted, truth}
 use Rattle.runs.specs.Outcome.{done, either, ◌>>=◌, ◌>>◌}
+use Rattle.c_tree.specs.Arithmetic.{operator_of}
 use Rattle.c_tree.specs.declared.operator.Assignment.{Assignment}
 use Rattle.c_tree.specs.declared.operator.Assignment.TheVariants as assignment
 use Rattle.c_tree.specs.declared.operator.Binary.{Binary}
@@ -47,27 +48,6 @@ abbrev pub locate_object : World → NodeId → TypeId → Act Value
 locate_object w node t = given (object_of w node) (λ number. done (Address (home w.setting.table number t)))
 
 -- Operators
-
--- the operator on integers that a binary operator is; `&&` and `||` are none, and never stand between two integers alone
-abbrev pub operator_of : Binary → Operator
-operator_of binary.Multiply = integer.Multiply
-operator_of binary.Divide = integer.Divide
-operator_of binary.Remainder = integer.Remainder
-operator_of binary.Add = integer.Add
-operator_of binary.Subtract = integer.Subtract
-operator_of binary.ShiftLeft = integer.ShiftLeft
-operator_of binary.ShiftRight = integer.ShiftRight
-operator_of binary.Less = integer.Less
-operator_of binary.Greater = integer.Greater
-operator_of binary.LessEqual = integer.LessOrEqual
-operator_of binary.GreaterEqual = integer.GreaterOrEqual
-operator_of binary.Equal = integer.Equal
-operator_of binary.NotEqual = integer.Different
-operator_of binary.BitAnd = integer.And
-operator_of binary.BitXor = integer.ExclusiveOr
-operator_of binary.BitOr = integer.Or
-operator_of binary.LogicalAnd = integer.And
-operator_of binary.LogicalOr = integer.Or
 
 -- the operator of a compound assignment
 abbrev pub operator_of_assignment : Assignment → Operator

@@ -1,13 +1,13 @@
 -- What a unit means: its static initialisers run, and then `main` (C99 5.1.2).
-use Rattle.std.specs.Prelude.{ℕ, Bool, false, List, [], ◌∷◌, ◌++◌, map, flat_map, length, slice_get, Option, None, Some, option_map, unwrap_or, codes, bytes_eq}
+use Rattle.std.specs.Prelude.{ℕ, Bool, false, List, [], ◌∷◌, ◌++◌, map, length, slice_get, Option, None, Some, option_map, unwrap_or, codes, bytes_eq}
 use Rattle.std.specs.List.{position}
 use Rattle.cc_base.specs.declared.place.Place.{Place}
 use Rattle.cc_base.specs.declared.number.NodeId.{NodeId}
 use Rattle.cc_base.specs.declared.kind.Kind.{Kind}
 use Rattle.c_types.specs.Table.{Table}
-use Rattle.c_lexer.specs.Literals.{literal_bytes}
 use Rattle.runs.specs.Outcome.{done, ◌>>=◌, ◌>>◌}
 use Rattle.runs.specs.Input.{Input}
+use Rattle.c_tree.specs.Literals.{pieces_bytes}
 use Rattle.c_tree.specs.declared.leaf.Identifier.{Identifier}
 use Rattle.c_tree.specs.declared.leaf.StringPiece.{StringPiece}
 use Rattle.c_tree.specs.TypedTree.{TypedTranslationUnit}
@@ -36,7 +36,7 @@ setting_of u table kind = record { table = table; kind = kind; functions = map (
 
 -- the bytes of adjacent string literals, and a zero byte (C99 6.4.5)
 abbrev pub text_of : List StringPiece → List ℕ
-text_of pieces = flat_map (λ p. literal_bytes p.bytes) pieces ++ 0 ∷ []
+text_of pieces = pieces_bytes pieces ++ 0 ∷ []
 
 -- the objects that live as long as the program
 abbrev pub statics_in : TypedTranslationUnit → List Static

@@ -4,20 +4,14 @@ use Rattle.cc_base.specs.declared.number.NodeId.{NodeId}
 use Rattle.cc_base.specs.declared.number.TypeId.{TypeId}
 use Rattle.c_types.specs.Table.{Table, is_function}
 use Rattle.c_lexer.specs.declared.word.Keyword.{Keyword}
-use Rattle.c_lexer.specs.declared.word.Keyword.TheVariants as keyword
+use Rattle.c_tree.specs.Words.{is_typedef_word}
 use Rattle.c_tree.specs.declared.leaf.Identifier.{Identifier}
-use Rattle.c_tree.specs.declared.typed_word.Home.{Home}
-use Rattle.c_tree.specs.declared.typed_word.Home.TheVariants as home
 use Rattle.c_tree.specs.TypedTree as typed
 use Rattle.c_tree.specs.TypedTree.{TypedSpecifiers, TypedSpecifierList, TypedDeclarator, TypedInitDeclarators, TypedDeclaration, TypedStatement, TypedBlockItems, TypedTranslationUnit}
-use Rattle.c_tree.specs.TypedParts.{declared_type, home_of, name_of}
+use Rattle.c_tree.specs.TypedParts.{declared_type, home_of, name_of, home_node}
 use Rattle.src_machine.specs.World.{same_node}
 
 -- Declarators
-
-abbrev pub is_typedef_word : Keyword → Bool
-is_typedef_word keyword.Typedef = true
-is_typedef_word word = false
 
 -- whether specifiers say `typedef`
 abbrev pub is_typedef_list : TypedSpecifierList → Bool
@@ -63,14 +57,6 @@ declarators_in (typed.AndFunctionBody u specifiers d brace items) = declarators_
 
 -- What they declare
 
--- the object that a declarator names
-abbrev pub object_node : Home → Option NodeId
-object_node home.None = None
-object_node (home.Static n) = Some n
-object_node (home.Local n) = Some n
-object_node (home.Parameter n) = Some n
-object_node (home.Known n) = Some n
-
 -- Which object or function it is: an object by its home, and a function by its name, since a name of a function type is that of one function
 -- wherever it is declared (C99 6.2.2).
 pub data Which : Type 0 where
@@ -92,7 +78,7 @@ function_named (Some name) t = record { which = AFunction name; type = t } ∷ [
 
 abbrev pub named_by : Table → TypedDeclarator → List Named
 named_by table d =
-    if is_function table (declared_type d) then function_named (name_of d) (declared_type d) else object_named (object_node (home_of d)) (declared_type d)
+    if is_function table (declared_type d) then function_named (name_of d) (declared_type d) else object_named (home_node (home_of d)) (declared_type d)
 
 abbrev pub named_in : TypedTranslationUnit → Table → List Named
 named_in u table = flat_map (named_by table) (declarators_in u)

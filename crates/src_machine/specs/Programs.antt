@@ -1,6 +1,7 @@
 -- Small programs as typed trees, each with the kinds of its nodes, and what they give. The C text stands above each; what a tree
 -- doesn't say is the text's layout.
 use Rattle.std.specs.Prelude.{ℕ, pos, ◌+◌, List, [], ◌∷◌, ◌++◌, codes, Some, false}
+use Rattle.cc_base.specs.Kinds.{kind_at}
 use Rattle.cc_base.specs.declared.kind.Kind.{Kind}
 use Rattle.cc_base.specs.declared.kind.Kind.TheVariants.{Safe, Seq, Rtti, Wild}
 use Rattle.c_lexer.specs.declared.number.IntegerType.TheVariants.{Long}
@@ -29,11 +30,11 @@ use Rattle.src_mem.specs.Memory.{new_variable}
 use Rattle.src_machine.specs.World.{World}
 use Rattle.src_machine.specs.Statements.{exec_items}
 use Rattle.src_machine.specs.Machine.{source_run, setting_of, result_of}
-use Rattle.src_machine.specs.Small.{Item, at, at_line, node, type, char, int, long, unsigned_long, entry, kinds, name, number, variable, value, null, flows, widened, type_name, arguments, string, specifiers, form, body, local, local_is, declares, does, runs, returns, while, main, function, global, declared, put, get, runtime_call, aggregate}
+use Rattle.src_machine.specs.Small.{Item, at, at_line, node, type, char, int, long, unsigned_long, entry, name, number, variable, value, null, flows, widened, type_name, arguments, string, specifiers, form, body, local, local_is, declares, does, runs, returns, while, main, function, global, declared, put, get, runtime_call, aggregate}
 
 -- int main(void){int *p;p=0;return *p;}
 abbrev pub null_read : SourceOutcome
-null_read = source_run program table (kinds []) (Closed []) 10
+null_read = source_run program table (kind_at []) (Closed []) 10
   where
     table : Table
     table = basic_table ++ entry (shape.Pointer (node 0) int) ∷ entry (shape.Function [] int) ∷ []
@@ -47,7 +48,7 @@ null_read = source_run program table (kinds []) (Closed []) 10
 
 -- int main(void){int a[3];a[2]=7;putchar(a[2]+48);a[3]=1;return 0;}
 abbrev pub past_the_end : SourceOutcome
-past_the_end = source_run program table (kinds (Safe ∷ Seq ∷ Seq ∷ Seq ∷ [])) (Closed []) 10
+past_the_end = source_run program table (kind_at (Safe ∷ Seq ∷ Seq ∷ Seq ∷ [])) (Closed []) 10
   where
     table : Table
     table = basic_table ++ entry (shape.Array int 3)
@@ -67,7 +68,7 @@ past_the_end = source_run program table (kinds (Safe ∷ Seq ∷ Seq ∷ Seq ∷
 
 -- int main(void){int a[3];int *p=a-1;int n=0;while(++p<a+3)n++;return n;}
 abbrev pub stepped_over : ℕ → SourceOutcome
-stepped_over turns = source_run program table (kinds (Safe ∷ Seq ∷ Safe ∷ Seq ∷ Safe ∷ Seq ∷ [])) (Closed []) turns
+stepped_over turns = source_run program table (kind_at (Safe ∷ Seq ∷ Safe ∷ Seq ∷ Safe ∷ Seq ∷ [])) (Closed []) turns
   where
     -- homes of a, p and n: 0, 2, 4; the pointer type of p: 1; the two decays: 3, 5
     table : Table
@@ -98,7 +99,7 @@ address_program = function (name (codes "main") (at 12)) (type 11) [] (
     ∷ []) (global 1 (type 9) typed.NoExternal)
 
 abbrev pub address_kept : SourceOutcome
-address_kept = source_run address_program address_table (kinds []) (Closed []) 10
+address_kept = source_run address_program address_table (kind_at []) (Closed []) 10
 
 -- int g(int);int main(void){typedef char *g(void);return 0;}
 abbrev pub hidden_table : Table
@@ -124,7 +125,7 @@ redeclared_program = function (name (codes "main") (at 0)) (type 15) [] (
 
 -- int main(void){char *p=(char *)malloc(1);*p=107;free(p);putchar(*p);return 0;}
 abbrev pub freed_read : SourceOutcome
-freed_read = source_run program table (kinds []) (Closed []) 10
+freed_read = source_run program table (kind_at []) (Closed []) 10
   where
     table : Table
     table = basic_table ++ entry (shape.Pointer (node 0) char) ∷ entry (shape.Pointer (node 2) char) ∷ entry (shape.Function [] int) ∷ []
@@ -144,7 +145,7 @@ freed_read = source_run program table (kinds []) (Closed []) 10
 
 -- int main(void){char *q="ab";q++;return sizeof(q);}
 abbrev pub size_of_pointer : SourceOutcome
-size_of_pointer = source_run program table (kinds (Seq ∷ Safe ∷ Safe ∷ Seq ∷ [])) (Closed []) 10
+size_of_pointer = source_run program table (kind_at (Seq ∷ Safe ∷ Safe ∷ Seq ∷ [])) (Closed []) 10
   where
     table : Table
     table = basic_table ++ entry (shape.Array char 3)
@@ -160,7 +161,7 @@ size_of_pointer = source_run program table (kinds (Seq ∷ Safe ∷ Safe ∷ Seq
 -- union U{long n;char *p;};
 -- int main(void){union U u;u.n=0;if(u.p==0)putchar(48);u.n=5;return *u.p;}
 abbrev pub union_read : SourceOutcome
-union_read = source_run program table (kinds (Wild ∷ Wild ∷ Wild ∷ Wild ∷ Wild ∷ Wild ∷ [])) (Closed []) 10
+union_read = source_run program table (kind_at (Wild ∷ Wild ∷ Wild ∷ Wild ∷ Wild ∷ Wild ∷ [])) (Closed []) 10
   where
     -- the pointer of the member p: 0; the home of u: 1; the places of the members: 2 to 5
     table : Table
@@ -183,7 +184,7 @@ union_read = source_run program table (kinds (Wild ∷ Wild ∷ Wild ∷ Wild �
 
 -- int main(void){int z=0;return 5/z;}
 abbrev pub divided_by_zero : SourceOutcome
-divided_by_zero = source_run program table (kinds []) (Closed []) 10
+divided_by_zero = source_run program table (kind_at []) (Closed []) 10
   where
     table : Table
     table = basic_table ++ entry (shape.Function [] int) ∷ []
@@ -196,7 +197,7 @@ divided_by_zero = source_run program table (kinds []) (Closed []) 10
 
 -- int main(void){int c=getchar();if(c<0)putchar(45);return c;}
 abbrev pub echoes : Input → SourceOutcome
-echoes input = source_run program table (kinds []) input 10
+echoes input = source_run program table (kind_at []) input 10
   where
     table : Table
     table = basic_table ++ entry (shape.Function [] int) ∷ []
@@ -210,7 +211,7 @@ echoes input = source_run program table (kinds []) input 10
 
 -- int main(void){while(1)putchar('a');return 0;}
 abbrev pub goes_on : SourceOutcome
-goes_on = source_run program table (kinds []) (Closed []) 5
+goes_on = source_run program table (kind_at []) (Closed []) 5
   where
     table : Table
     table = basic_table ++ entry (shape.Function [] int) ∷ []
@@ -237,7 +238,7 @@ recursion_program = function (name (codes "main") (at 33)) (type 9) [] (returns 
     (function (name (codes "f") (at 5)) (type 10) ((0, int) ∷ []) ((λ all. body_of_f) ∷ []) typed.NoExternal)
 
 abbrev pub recursion : ℕ → SourceOutcome
-recursion turns = source_run recursion_program recursion_table (kinds []) (Closed []) turns
+recursion turns = source_run recursion_program recursion_table (kind_at []) (Closed []) turns
 
 -- the body of `f` in a call of this depth, whose own calls give 7
 abbrev pub recursion_at : ℕ → SourceOutcome
@@ -246,7 +247,7 @@ recursion_at depth = run_program (done tt) (exec_items body_of_f world >>= (λ f
   where
     world : World
     world = record {
-      setting = setting_of recursion_program recursion_table (kinds []);
+      setting = setting_of recursion_program recursion_table (kind_at []);
       statics = [];
       frame = record { depth = depth; first = 0; homes = node 0 ∷ [] };
       call = λ f d vs. done (Integer (pos 7));
@@ -254,7 +255,7 @@ recursion_at depth = run_program (done tt) (exec_items body_of_f world >>= (λ f
 
 -- int main(void){long v[2];long *p=v;p=p+4611686018427387904;return 0;}
 abbrev pub moved_too_far : SourceOutcome
-moved_too_far = source_run program table (kinds (Safe ∷ Seq ∷ Safe ∷ Seq ∷ [])) (Closed []) 10
+moved_too_far = source_run program table (kind_at (Safe ∷ Seq ∷ Safe ∷ Seq ∷ [])) (Closed []) 10
   where
     table : Table
     table = basic_table ++ entry (shape.Array long 2)
@@ -279,7 +280,7 @@ moved_too_far = source_run program table (kinds (Safe ∷ Seq ∷ Safe ∷ Seq �
 -- putchar(((struct G *)s)->t);
 -- return 0;}
 abbrev pub cast_down : SourceOutcome
-cast_down = source_run program table (kinds (Safe ∷ Safe ∷ Rtti ∷ Safe ∷ Rtti ∷ Rtti ∷ [])) (Closed []) 10
+cast_down = source_run program table (kind_at (Safe ∷ Safe ∷ Rtti ∷ Safe ∷ Rtti ∷ Rtti ∷ [])) (Closed []) 10
   where
     -- the member f: 0; the homes of c and s: 1, 3; s: 2; the cast to S: 4; the address of c: 5; the casts to C and G: 6, 7; the members' places: 8 to 10
     table : Table
@@ -308,7 +309,7 @@ cast_down = source_run program table (kinds (Safe ∷ Safe ∷ Rtti ∷ Safe ∷
 -- putchar(((int (*)(int))q)(65));
 -- return q(1,2);}
 abbrev pub called_otherwise : SourceOutcome
-called_otherwise = source_run program table (kinds (Wild ∷ Wild ∷ Wild ∷ Wild ∷ Wild ∷ [])) (Closed []) 10
+called_otherwise = source_run program table (kind_at (Wild ∷ Wild ∷ Wild ∷ Wild ∷ Wild ∷ [])) (Closed []) 10
   where
     -- p, q, the two casts and the name f: 0 to 4; the homes of a, p and q: 5 to 7
     table : Table
@@ -331,7 +332,7 @@ called_otherwise = source_run program table (kinds (Wild ∷ Wild ∷ Wild ∷ W
 -- struct P g;
 -- int main(void){int x;struct P l;l.q=&x;g=l;return 0;}
 abbrev pub struct_kept : SourceOutcome
-struct_kept = source_run program table (kinds []) (Closed []) 10
+struct_kept = source_run program table (kind_at []) (Closed []) 10
   where
     -- the member q: 0; the homes of g, x and l: 1 to 3; the place l.q: 4; the address of x: 5
     table : Table
@@ -351,7 +352,7 @@ struct_kept = source_run program table (kinds []) (Closed []) 10
 -- int same(char *a,char *b){while(*a&&*a==*b){a++;b++;}return *a==*b;}
 -- int main(void){return hash("the")*10+same("cat","cat");}
 abbrev pub hashed_and_compared : SourceOutcome
-hashed_and_compared = source_run program table (kinds (Seq ∷ Seq ∷ Seq ∷ Safe ∷ Safe ∷ Seq ∷ Seq ∷ Seq ∷ [])) (Closed []) 20
+hashed_and_compared = source_run program table (kind_at (Seq ∷ Seq ∷ Seq ∷ Safe ∷ Safe ∷ Seq ∷ Seq ∷ Seq ∷ [])) (Closed []) 20
   where
     -- the pointers s, a and b: 0 to 2; the two functions' names: 3, 4; the decays: 5 to 7; the homes of s, h, a and b: 8 to 11; those of the literals: 12 to 14
     table : Table
@@ -407,7 +408,7 @@ hashed_and_compared = source_run program table (kinds (Seq ∷ Seq ∷ Seq ∷ S
 -- for(i=0;i<9;i++){if(i==5)break;s=s+1;}
 -- putchar(f(1));putchar(f(2));putchar(f(3));putchar(f(9));putchar(s);putchar(i);return 0;}
 abbrev pub controlled : SourceOutcome
-controlled = source_run program table (kinds []) (Closed []) 20
+controlled = source_run program table (kind_at []) (Closed []) 20
   where
     -- the homes of n, r, i and s: 0 to 3; the name f: 4 to 7
     table : Table
@@ -464,7 +465,7 @@ controlled = source_run program table (kinds []) (Closed []) 20
 -- k+=a[0]+a[1]+a[2];t[3]=k;t[0]-=1;
 -- putchar(t[0]);putchar(t[2]);putchar(t[3]);return -1<1u;}
 abbrev pub initialised : SourceOutcome
-initialised = source_run program table (kinds (Safe ∷ Safe ∷ Safe ∷ Seq ∷ Seq ∷ Seq ∷ Seq ∷ Seq ∷ Seq ∷ Seq ∷ Seq ∷ [])) (Closed []) 20
+initialised = source_run program table (kind_at (Safe ∷ Safe ∷ Safe ∷ Seq ∷ Seq ∷ Seq ∷ Seq ∷ Seq ∷ Seq ∷ Seq ∷ Seq ∷ [])) (Closed []) 20
   where
     -- the homes of a, t and k: 0 to 2; the decays: 3 to 10
     table : Table
@@ -499,7 +500,7 @@ initialised = source_run program table (kinds (Safe ∷ Safe ∷ Safe ∷ Seq �
 
 -- int main(void){free(0);return 3;}
 abbrev pub null_freed : SourceOutcome
-null_freed = source_run program table (kinds []) (Closed []) 10
+null_freed = source_run program table (kind_at []) (Closed []) 10
   where
     table : Table
     table = basic_table ++ entry (shape.Function [] int) ∷ []
@@ -516,7 +517,7 @@ null_freed = source_run program table (kinds []) (Closed []) 10
 -- *q()=putchar(65);
 -- return 0;}
 abbrev pub integer_as_address : List Kind → SourceOutcome
-integer_as_address list = source_run program table (kinds list) (Closed []) 10
+integer_as_address list = source_run program table (kind_at list) (Closed []) 10
   where
     -- q, the cast, the home of q, the name f, and the pointers that q and the cast give: 0 to 5
     table : Table
@@ -540,7 +541,7 @@ integer_as_address list = source_run program table (kinds list) (Closed []) 10
 -- s=SIDE;
 -- return 0;}
 abbrev copied_from : TypedPlace → SourceOutcome
-copied_from side = source_run program table (kinds []) (Closed []) 10
+copied_from side = source_run program table (kind_at []) (Closed []) 10
   where
     -- p: 0; the homes of s and p: 1, 2
     table : Table
@@ -574,7 +575,7 @@ copied_from_assignment = copied_from (typed.ParenPlace (at_line 4 3)
 
 -- int main(void){int x=2;return (putchar(65),x)?(x=7,x+1):x;}
 abbrev pub chosen : SourceOutcome
-chosen = source_run program table (kinds []) (Closed []) 10
+chosen = source_run program table (kind_at []) (Closed []) 10
   where
     table : Table
     table = basic_table ++ entry (shape.Function [] int) ∷ []
@@ -587,15 +588,16 @@ chosen = source_run program table (kinds []) (Closed []) 10
         (value 57 0 int) int)
         ∷ [])
 
--- int main(void){{typedef char *g;}{typedef int *g;}return 0;}
+-- int main(void){{typedef int g(int *);}{typedef char *g(void);}return 0;}
 abbrev pub block_typedefs_table : Table
-block_typedefs_table = basic_table ++ entry (shape.Pointer (node 0) char) ∷ entry (shape.Pointer (node 1) int) ∷ entry (shape.Function [] int) ∷ []
+block_typedefs_table = basic_table ++ entry (shape.Pointer (node 0) int) ∷ entry (shape.Function (type 9 ∷ []) int) ∷ entry (shape.Pointer (node 1) char)
+    ∷ entry (shape.Function [] (type 11)) ∷ entry (shape.Function [] int) ∷ []
 
 abbrev pub block_typedefs : TypedTranslationUnit
-block_typedefs = main (type 11) (
-    runs (typed.Block (at 16) (body (named char (type 9) ∷ [])))
-    ∷ runs (typed.Block (at 34) (body (named int (type 10) ∷ [])))
-    ∷ returns (at 51) (number 0)
+block_typedefs = main (type 13) (
+    runs (typed.Block (at 16) (body (named int (type 10) ∷ [])))
+    ∷ runs (typed.Block (at 39) (body (named char (type 12) ∷ [])))
+    ∷ returns (at 63) (number 0)
     ∷ [])
   where
     named : TypeId → TypeId → Item
@@ -607,7 +609,7 @@ block_typedefs = main (type 11) (
 -- c+=100;d++;(void)putchar(c);(void)putchar(d);
 -- return (p!=0)+(0==p)*2+(p==0||p!=0)*4;}
 abbrev pub compared_with_null : SourceOutcome
-compared_with_null = source_run program table (kinds (Safe ∷ Seq ∷ Safe ∷ Seq ∷ [])) (Closed []) 10
+compared_with_null = source_run program table (kind_at (Safe ∷ Seq ∷ Safe ∷ Seq ∷ [])) (Closed []) 10
   where
     -- the homes of a, p, c and d: 0, 2, 4 and 5; p: 1; the decay: 3
     table : Table

@@ -6,11 +6,11 @@ use Rattle.cc_base.specs.declared.number.TypeId.{TypeId}
 use Rattle.cc_base.specs.declared.kind.Kind.{Kind}
 use Rattle.c_types.specs.declared.shape.TypeShape.{TypeShape}
 use Rattle.c_types.specs.declared.shape.TypeShape.TheVariants as shape
-use Rattle.c_types.specs.declared.site.Site.{Site}
-use Rattle.c_types.specs.declared.site.Site.TheVariants as site
+use Rattle.kind_sites.specs.declared.site.Site.{Site}
+use Rattle.kind_sites.specs.declared.site.Site.TheVariants as site
 use Rattle.c_types.specs.Table.{Table, shape_at}
-use Rattle.c_types.specs.Solutions as solutions
-use Rattle.c_types.specs.Solutions.{sites_of_table}
+use Rattle.kind_sites.specs.Solutions as solutions
+use Rattle.kind_sites.specs.Solutions.{sites_of_table}
 use Rattle.c_tree.specs.declared.operator.AggregateKind.{AggregateKind}
 use Rattle.c_tree.specs.declared.operator.AggregateKind.TheVariants as aggregate
 use Rattle.c_tree.specs.declared.operator.Binary.{Binary}
@@ -19,12 +19,12 @@ use Rattle.c_tree.specs.declared.typed_word.Conversion.{Conversion}
 use Rattle.c_tree.specs.declared.typed_word.Conversion.TheVariants as conversion
 use Rattle.c_tree.specs.TypedTree as typed
 use Rattle.c_tree.specs.TypedTree.{TypedExpr, TypedPlace, TypedSpecifier, TypedInitialiser, TypedItems, TypedTranslationUnit}
-use Rattle.c_tree.specs.TypedParts.{type_of, place_type, named_type, pointer_side, address_node, home_of, statics_of, functions_of}
+use Rattle.c_tree.specs.TypedParts.{type_of, place_type, named_type, pointer_side, address_node, home_of, statics_of, functions_of, home_node}
 use Rattle.src_mem.specs.Operations.{node_at, pointee_at}
 use Rattle.src_mem.specs.Runs.{variables_of}
 use Rattle.src_machine.specs.Machine.{head_of}
 use Rattle.src_machine.specs.Pieces.{Piece, AnExpression, APlace, ASpecifier, AnInitialiser, pieces_of_unit}
-use Rattle.src_machine.specs.Names.{Named, object_node, first_type, named_in}
+use Rattle.src_machine.specs.Names.{Named, first_type, named_in}
 
 -- the node of the address of a place
 abbrev pub address_at : Table → TypedPlace → NodeId
@@ -118,7 +118,7 @@ abbrev pub sites_of_piece : Table → Piece → List Site
 sites_of_piece table (AnExpression e) = sites_of_expression table e
 sites_of_piece table (APlace p) = sites_of_place table p
 sites_of_piece table (ASpecifier s) = sites_of_specifier s
-sites_of_piece table (AnInitialiser d i) = copies_to table (object_node (home_of d)) i
+sites_of_piece table (AnInitialiser d i) = copies_to table (home_node (home_of d)) i
 
 -- Homes
 

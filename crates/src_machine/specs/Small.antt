@@ -1,11 +1,9 @@
 -- Words to write small typed trees with: they leave out what the machine doesn't look at.
-use Rattle.std.specs.Prelude.{◌≡◌, ℕ, List, [], ◌∷◌, None, Some, slice_index_or, codes}
+use Rattle.std.specs.Prelude.{◌≡◌, ℕ, List, [], ◌∷◌, None, Some, codes}
 use Rattle.std.specs.List.{fold}
 use Rattle.cc_base.specs.declared.place.Place.{Place}
 use Rattle.cc_base.specs.declared.number.NodeId.{NodeId}
 use Rattle.cc_base.specs.declared.number.TypeId.{TypeId}
-use Rattle.cc_base.specs.declared.kind.Kind.{Kind}
-use Rattle.cc_base.specs.declared.kind.Kind.TheVariants.{Safe}
 use Rattle.c_lexer.specs.declared.number.IntegerType.TheVariants.{Int}
 use Rattle.c_types.specs.declared.shape.TypeShape.{TypeShape}
 use Rattle.c_types.specs.Table.{Entry}
@@ -16,7 +14,7 @@ use Rattle.c_tree.specs.declared.typed_word.Conversion.TheVariants as conversion
 use Rattle.c_tree.specs.declared.typed_word.Runtime.{Runtime}
 use Rattle.c_tree.specs.declared.typed_word.Runtime.TheVariants as runtime
 use Rattle.c_tree.specs.TypedTree as typed
-use Rattle.c_tree.specs.TypedTree.{TypedExpr, TypedPlace, TypedArguments, TypedForm, TypedDeclarator, TypedParameters, TypedInitialiser, TypedDeclaration, TypedStatement, TypedBlockItems, TypedTranslationUnit, TypedSpecifiers, TypedTypeName}
+use Rattle.c_tree.specs.TypedTree.{TypedExpr, TypedPlace, TypedArguments, TypedForm, TypedParameters, TypedDeclaration, TypedStatement, TypedBlockItems, TypedTranslationUnit, TypedSpecifiers, TypedTypeName}
 use Rattle.src_mem.specs.State.{Ending, Access}
 use Rattle.src_mem.specs.Runs.{SourceOutcome}
 
@@ -53,10 +51,6 @@ entry shape = record { shape = shape; members = [] }
 -- a struct or union with these members
 abbrev pub aggregate : TypeShape → List TypeId → Entry
 aggregate shape members = record { shape = shape; members = members }
-
--- the kinds of the nodes in order; those behind are SAFE
-abbrev pub kinds : List Kind → NodeId → Kind
-kinds list n = slice_index_or list n.0 Safe
 
 abbrev pub name : List ℕ → Place → Identifier
 name text place = record { bytes = text; place = place }

@@ -11,7 +11,7 @@ ghost use Rattle.src_mem.specs.Laws.{AreWhole};
 ghost use Rattle.src_mem.specs.RunLaws.{AllLie};
 ghost use Rattle.src_machine.specs.Laws.{EachRun};
 ghost use Rattle.src_machine.specs.Switches.{SwitchesRunWhatIsBehind};
-ghost use Rattle.c_types.specs.declared.site.Site.TheVariants.{Pointee, Home, Linked, Flow, Same};
+ghost use Rattle.kind_sites.specs.declared.site.Site.TheVariants.{Pointee, Home, Linked, Flow, Same};
 ghost use Rattle.src_machine.specs.Sites.{sites_of};
 ghost use Rattle.src_machine.specs.Small.{node, type, char, int, at, at_line, access, Shows};
 ghost use Rattle.src_machine.specs.Programs.{null_read, past_the_end, stepped_over, address_kept, address_program, address_table, hidden_program, hidden_table, redeclared_program, redeclared_table, freed_read, size_of_pointer, union_read, divided_by_zero, echoes, goes_on, recursion, recursion_at, moved_too_far, cast_down, called_otherwise, struct_kept, hashed_and_compared, controlled, initialised, null_freed, integer_as_address, copied_from_choice, copied_from_comma, copied_from_assignment, chosen, block_typedefs, block_typedefs_table, compared_with_null};
@@ -98,10 +98,10 @@ pub fn recursion_is_stopped()
 /// part of x, and its flow into g.
 /// In `int g(int);int main(void){typedef char *g(void);return 0;}` the typedef declares no function, so it is not tied to g. Of three declarations of
 /// one function the first is tied to each of the others. In
-/// `int main(void){{typedef char *g;}{typedef int *g;}return 0;}` two typedefs of one name in two blocks tie nothing.
+/// `int main(void){{typedef int g(int *);}{typedef char *g(void);}return 0;}` two typedefs of one name in two blocks tie nothing.
 pub fn sites_of_a_program()
     ensures redeclared { sites_of redeclared_program redeclared_table ≡ Pointee (node 0) int ∷ Pointee (node 1) int ∷ Pointee (node 2) int ∷ Same (type 10) (type 12) ∷ Same (type 10) (type 14) ∷ [] }
-    ensures block_typedefs { sites_of block_typedefs block_typedefs_table ≡ Pointee (node 0) char ∷ Pointee (node 1) int ∷ [] }
+    ensures block_typedefs { sites_of block_typedefs block_typedefs_table ≡ Pointee (node 0) int ∷ Pointee (node 1) char ∷ [] }
     ensures hidden { sites_of hidden_program hidden_table ≡ Pointee (node 0) char ∷ [] }
     ensures address { sites_of address_program address_table ≡ Pointee (node 0) int ∷ Pointee (node 3) int ∷ Home (node 1) (type 9)
         ∷ Home (node 2) int ∷ Linked (node 3) (node 2) ∷ Flow (node 3) int (node 0) int (at 30) ∷ [] }

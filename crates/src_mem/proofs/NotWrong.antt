@@ -20,7 +20,7 @@ use Rattle.src_mem.specs.State.{Ending, Exited, Stopped, Turns, Wants, Wrong, St
 use Rattle.src_mem.specs.Checks.{Condition, InObject, HoldsNone, HoldsPointer, IsAligned, Outlives, ReadInteger, ReadPointer, WriteInteger, WritePointer, conditions_of, check_of, holds, looks, object_at, all_placed, place_of_write}
 use Rattle.src_mem.specs.Primitives.{Spot, spot, access, with_object, load_integer, load_pointer, store_integer, store_pointer}
 use Rattle.src_mem.specs.Uses.{read_shape, store_shape, conditions_of_write}
-use Rattle.c_types.specs.declared.site.Site.{Site}
+use Rattle.kind_sites.specs.declared.site.Site.{Site}
 use Rattle.src_mem.specs.Outlines.{Outline, outline, outlines_of, lives_of}
 use Rattle.src_mem.specs.Facts.{IsHeldIn, IsSoundMemory, IsSafeAt, IsTypedAt, IsSequenceAt}
 use Rattle.src_mem.specs.Laws.{IsNotWrong, IsScalar, IsScalarValue}

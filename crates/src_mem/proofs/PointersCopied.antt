@@ -30,7 +30,7 @@ use Rattle.src_mem.specs.Laws.{IsNotWrong}
 use Rattle.src_mem.proofs.Spots.{IsRight, spot-right}
 use Rattle.src_mem.proofs.NotWrong.{begun, goes_on, checked_right}
 use Rattle.src_mem.proofs.CopiesRight.{both_touched, from_bounds, to_bounds, copy_right}
-use Rattle.c_types.specs.declared.site.Site.{Site}
+use Rattle.kind_sites.specs.declared.site.Site.{Site}
 use Rattle.src_mem.specs.Outlines.{Outline, outlines_of}
 use Rattle.src_mem.specs.Facts.{HoldType, IsSequenceAt, IsSafeAt, IsTypedAt, IsHeldIn, IsSoundMemory}
 use Rattle.src_mem.proofs.Right.{MayTouch, touches, IsFirst, Begins, begins_first, second_true, first_of, distance_is, safe≢wild, seq≢wild, rtti≢wild}

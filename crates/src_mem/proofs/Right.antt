@@ -21,7 +21,7 @@ use Rattle.src_mem.specs.Pointers.{Location, Pointer, Null, Number, At, Function
 use Rattle.src_mem.specs.Memory.{Object, Memory, size_of_object, holds_pointer_at}
 use Rattle.src_mem.specs.State.{Setting}
 use Rattle.src_mem.specs.Checks.{Condition, NotNull, InBounds, InObject, holds, fits_between}
-use Rattle.c_types.specs.declared.site.Site.{Site}
+use Rattle.kind_sites.specs.declared.site.Site.{Site}
 use Rattle.src_mem.specs.Outlines.{Outline, Life, LivesAt, outlines_of, lives_of}
 use Rattle.src_mem.specs.Facts.{IsSoundObject, IsSafeAt, IsTypedAt, IsSequenceAt, IsWildAt, IsFunctionOf, IsHeldIn, HoldType}
 use Rattle.src_mem.proofs.Outlines.{has-outline}

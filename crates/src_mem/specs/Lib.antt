@@ -15,3 +15,4 @@ pub mod Small
 pub mod Values
 pub mod ValueLaws
 pub mod RunLaws
+pub mod Theorems

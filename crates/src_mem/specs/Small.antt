@@ -1,5 +1,6 @@
 -- A small memory, on which conditions and operations are tried.
-use Rattle.std.specs.Prelude.{ℕ, ℤ, pos, Bool, true, [], ◌∷◌, replicate, slice_index_or}
+use Rattle.std.specs.Prelude.{ℕ, ℤ, pos, Bool, true, [], ◌∷◌, replicate}
+use Rattle.cc_base.specs.Kinds.{kind_at}
 use Rattle.cc_base.specs.declared.place.Place.{Place}
 use Rattle.cc_base.specs.declared.number.TypeId.{TypeId}
 use Rattle.cc_base.specs.declared.number.NodeId.{NodeId}
@@ -88,7 +89,7 @@ small_table =
 
 -- the kinds of the nodes in order; those behind are SAFE
 abbrev pub small_kind : NodeId → Kind
-small_kind n = slice_index_or (Seq ∷ Wild ∷ Safe ∷ Rtti ∷ Rtti ∷ []) n.0 Safe
+small_kind = kind_at (Seq ∷ Wild ∷ Safe ∷ Rtti ∷ Rtti ∷ [])
 
 abbrev pub small : Setting
 small = record { table = small_table; kind = small_kind; functions = record { type = gives_int; variables = [] } ∷ [] }

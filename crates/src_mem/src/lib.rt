@@ -5,30 +5,26 @@
 
 pub mod table;
 
-ghost use Rattle.std.specs.Prelude.{◌≡◌, ◌≢◌, ◌⊎◌, ◌↔◌, ℕ, ◌+◌, ◌≤◌, ℤ, pos, Bool, List, ◌∷◌, [], ◌++◌, length, slice_get, Some, IsTrue, IsFalse};
+ghost use Rattle.std.specs.Prelude.{◌≡◌, ◌⊎◌, ℕ, ◌+◌, ◌≤◌, ℤ, pos, List, ◌∷◌, [], ◌++◌, length, slice_get, Some, IsTrue};
 ghost use Rattle.std.specs.Cmp.{IsEquivalence};
 ghost use Rattle.cc_base.specs.declared.place.Place.{Place};
 ghost use Rattle.cc_base.specs.declared.kind.Kind.{Kind};
-ghost use Rattle.cc_base.specs.declared.kind.Kind.TheVariants.{Safe, Seq, Wild};
+ghost use Rattle.cc_base.specs.declared.kind.Kind.TheVariants.{Seq, Wild};
 ghost use Rattle.cc_base.specs.declared.number.TypeId.{TypeId};
 ghost use Rattle.cc_base.specs.declared.number.NodeId.{NodeId};
-ghost use Rattle.flat_mem.specs.Bytes.{IsAccessSize};
 ghost use Rattle.integers.specs.Words.{residue};
-ghost use Rattle.integers.specs.Arithmetic.{IntegerType, Operator, converted};
-ghost use Rattle.c_types.specs.declared.site.Site.{Site};
-ghost use Rattle.c_types.specs.Table.{IsComplete, shape_at, is_function};
-ghost use Rattle.c_types.specs.Sound.{IsWellFormed};
+ghost use Rattle.integers.specs.Arithmetic.{IntegerType, Operator};
 ghost use Rattle.runs.specs.Outcome.{Done, from};
-ghost use Rattle.src_mem.specs.Pointers.{Pointer, Location, At, Value, same_pointer};
+ghost use Rattle.src_mem.specs.Pointers.{Pointer, Value, same_pointer};
 ghost use Rattle.src_mem.specs.Memory.{Object, Planned};
-ghost use Rattle.src_mem.specs.State.{State, Act, Setting, bytes_of, turn};
-ghost use Rattle.src_mem.specs.Primitives.{Spot, spot, load_integer, load_pointer, store_integer, store_pointer, clear, copy, allocate, allocate_elements, enter, leave, called, get, put, exit};
-ghost use Rattle.src_mem.specs.Checks.{Used, HasBase, Call, conditions_of, holds, all_checked};
-ghost use Rattle.src_mem.specs.Uses.{read, write, copy_all, enter_with};
-ghost use Rattle.src_mem.specs.Operations.{calculate, allocated_for, decayed, kind_in, moved, subtracted, equated, compared, converted_pointer, member};
+ghost use Rattle.src_mem.specs.State.{State, Setting, bytes_of, turn};
+ghost use Rattle.src_mem.specs.Primitives.{load_integer, load_pointer, store_integer, store_pointer, clear, copy, allocate, allocate_elements, enter, leave, get, put, exit};
+ghost use Rattle.src_mem.specs.Checks.{Used};
+ghost use Rattle.src_mem.specs.Uses.{read};
+ghost use Rattle.src_mem.specs.Operations.{calculate, allocated_for, kind_in, moved, subtracted, equated, compared, converted_pointer};
 ghost use Rattle.src_mem.specs.ValueLaws.{AddressesAreNotWrong};
-ghost use Rattle.src_mem.specs.Facts.{IsSoundMemory, IsHeldIn};
-ghost use Rattle.src_mem.specs.Laws.{AreWhole, KeepsWhole, GivesNext, IsInvariant, AccessesLie, IsNotWrong, Where, NotesAccess, NotesTwo, IsScalar, IsScalarValue, IsOrder, AreArguments, left_by};
+ghost use Rattle.src_mem.specs.Laws.{AreWhole, KeepsWhole, GivesNext, IsInvariant, AccessesLie, IsNotWrong, Where, NotesAccess, NotesTwo, IsOrder, left_by};
+ghost use Rattle.src_mem.specs.Theorems.{AStoredIntegerIsLoaded, SpotsLieInParts, ReadingIsNotWrong, WritingIsNotWrong, MembersAreNotWrong, CallsAreNotWrong, DecayIsNotWrong, CopyingIsNotWrong, EntryIsNotWrong};
 
 /// Equality of pointers (C99 6.5.9) is an equivalence.
 pub fn pointer_equality_is_an_equivalence()
@@ -37,7 +33,7 @@ pub fn pointer_equality_is_an_equivalence()
 
 /// A load after a store through the same pointer gives what was stored: an integer as its type holds it, and a pointer as it was.
 pub fn loads_give_what_was_stored()
-    ensures integer { (kind : Kind) (t : IntegerType) (p : Pointer) (z : ℤ) (s : State) → AreWhole s.memory.objects → IsAccessSize t.bytes → GivesNext (store_integer kind t p z s) (load_integer kind t p) (converted t z) }
+    ensures integer { AStoredIntegerIsLoaded }
     ensures pointer { (kind : Kind) (p q : Pointer) (s : State) → AreWhole s.memory.objects → GivesNext (store_pointer kind p q s) (load_pointer kind p) q }
 {}
 
@@ -66,7 +62,7 @@ pub fn accesses_lie_in_parts()
     ensures integer_stored { (kind : Kind) (t : IntegerType) (p : Pointer) (z : ℤ) (s : State) → Where (store_integer kind t p z s) (NotesAccess kind p t.bytes s) }
     ensures pointer_stored { (kind : Kind) (p q : Pointer) (s : State) → Where (store_pointer kind p q s) (NotesAccess kind p 8 s) }
     ensures copied { (n : ℕ) (from : Kind) (source : Pointer) (to : Kind) (target : Pointer) (s : State) → Where (copy n from source to target s) (NotesTwo from source to target n s) }
-    ensures inside { (kind : Kind) (objects : List Object) (l : Location) (size : ℕ) (x : Spot) → kind ≢ Wild → spot kind objects (At l) size ≡ Some x → (l.part.low ≤ x.at) × (x.at + size ≤ l.part.high) × IsTrue x.object.live }
+    ensures inside { SpotsLieInParts }
 {}
 
 /// `putchar` appends the low byte of its argument to the output, and changes nothing else.
@@ -82,8 +78,8 @@ pub fn get_reads_what_is_there()
 /// A read or a write of a scalar, with its conditions before it, is wrong nowhere: through a pointer of its kind to the type,
 /// in a memory that meets the facts of a run. It gives a value, or a check stops it.
 pub fn reads_and_writes_are_not_wrong()
-    ensures reading { (w : Setting) (sites : List Site) (place : Place) (depth : ℕ) (kind : Kind) (t : TypeId) (p : Pointer) (s : State) → IsSoundMemory w sites s.memory → IsScalar (shape_at w.table t) → IsHeldIn w s.memory depth kind t p → IsNotWrong (read w place kind t p s) }
-    ensures writing { (w : Setting) (own assignment : Place) (depth : ℕ) (kind : Kind) (t : TypeId) (p : Pointer) (v : Value) (s : State) → IsScalarValue (shape_at w.table t) v → IsHeldIn w s.memory depth kind t p → IsNotWrong (write w own assignment kind t p v s) }
+    ensures reading { ReadingIsNotWrong }
+    ensures writing { WritingIsNotWrong }
 {}
 
 /// An operation on pointers, with its conditions before it, is wrong nowhere, where the kinds are those that it asks for: SEQ or WILD
@@ -95,15 +91,15 @@ pub fn pointer_operations_are_not_wrong()
     ensures order { (w : Setting) (at : Place) (operator : Operator) (p q : Used) (s : State) → IsOrder operator → (p.kind ≡ Seq) ⊎ (p.kind ≡ Wild) → IsNotWrong (compared w at operator p q s) }
     ensures equality { (w : Setting) (at : Place) (p q : Used) (s : State) → IsNotWrong (equated w at p q s) }
     ensures conversion { (w : Setting) (at : Place) (t u : TypeId) (p : Pointer) (s : State) → IsNotWrong (converted_pointer w at t u p s) }
-    ensures members { (w : Setting) (at : Place) (depth : ℕ) (kind : Kind) (t : TypeId) (i : ℕ) (node : NodeId) (u : TypeId) (p : Pointer) (s : State) → ((kind ≡ Wild) ↔ (w.kind node ≡ Wild)) → IsFalse (is_function w.table t) → IsHeldIn w s.memory depth kind t p → IsNotWrong (member w at kind t i node u p s) }
-    ensures calls { (w : Setting) (at : Place) (depth deeper : ℕ) (kind : Kind) (t : TypeId) (p : Pointer) (next : ℕ → Act Value) (s : State) → (kind ≡ Safe) ⊎ (kind ≡ Wild) → IsTrue (is_function w.table t) → IsHeldIn w s.memory depth kind t p → ((f : ℕ) → IsNotWrong (next f s)) → IsNotWrong (from (all_checked w at (conditions_of (Call t deeper) kind p) s) (λ a. called p next)) }
+    ensures members { MembersAreNotWrong }
+    ensures calls { CallsAreNotWrong }
 {}
 
 /// The decay of an array, and the copy of a struct or union, with their conditions before them, are wrong nowhere. An array that no
 /// condition is tried for is a variable's or a member's, which is at an object.
 pub fn decays_and_copies_are_not_wrong()
-    ensures decay { (w : Setting) (at : Place) (depth : ℕ) (kind : Kind) (array : TypeId) (check : Bool) (node : NodeId) (element : TypeId) (p : Pointer) (s : State) → ((kind ≡ Wild) ↔ (w.kind node ≡ Wild)) → IsFalse (is_function w.table array) → IsHeldIn w s.memory depth kind array p → IsTrue check ⊎ ((kind ≢ Seq) × IsTrue (holds w s.memory (HasBase p))) → IsNotWrong (decayed w at kind array check node element p s) }
-    ensures copying { (w : Setting) (sites : List Site) (depth : ℕ) (t : TypeId) (source_place : Place) (from_kind : Kind) (source : Pointer) (target_place : Place) (to_kind : Kind) (target : Pointer) (place : Place) (s : State) → IsWellFormed w.table → IsComplete w.table t → IsSoundMemory w sites s.memory → IsHeldIn w s.memory depth from_kind t source → IsHeldIn w s.memory depth to_kind t target → IsNotWrong (copy_all w t source_place from_kind source target_place to_kind target place s) }
+    ensures decay { DecayIsNotWrong }
+    ensures copying { CopyingIsNotWrong }
 {}
 
 /// `&` of a place is wrong nowhere, where the address that it makes is WILD exactly where the place's own is.
@@ -122,7 +118,7 @@ pub fn clearing_and_allocation_are_not_wrong()
 
 /// A call begins wrong nowhere, where its arguments are values of its parameters, and ends wrong nowhere.
 pub fn calls_and_returns_are_not_wrong()
-    ensures entry { (w : Setting) (depth f : ℕ) (variables : List Planned) (arguments : List Value) (s : State) → AreArguments w.table variables arguments → IsNotWrong (enter_with w depth f variables arguments s) }
+    ensures entry { EntryIsNotWrong }
     ensures leaving { (w : Setting) (depth : ℕ) (variables : List Planned) (s : State) → IsNotWrong (leave w depth variables s) }
 {}
 

@@ -4,6 +4,7 @@ use Rattle.std.specs.Prelude.{◌↔◌, IsTrue}
 use Rattle.std.specs.List.{list_all, range_with_len}
 use Rattle.std.proofs.lemmas.Bool.Decides.{nat_tests}
 use Rattle.std.proofs.Math.ListN.{get_or-eq_default}
+use Rattle.cc_base.specs.Kinds.{same_kind}
 use Rattle.cc_base.specs.declared.number.TypeId.{TypeId}
 use Rattle.cc_base.specs.declared.number.NodeId.{NodeId}
 use Rattle.cc_base.specs.declared.kind.Kind.{Kind}
@@ -14,7 +15,7 @@ use Rattle.c_types.specs.Table.{Table, Entry, descend, void_entry, entry_at, sha
 use Rattle.c_types.specs.Cells.{Relation, cells_at, cells_step, cells_of_shape}
 use Rattle.c_types.specs.Equality.{cells_of, physically_equal, begins_with}
 use Rattle.c_types.specs.Flows.{HeldPointer, and_then, pointer_in_cell, pointer_of_shape, pointer_in, pointer_at, StandAlike, top, inside, CorrespondByPlace, HaveEqualKinds, IsOfOneClass, Covers}
-use Rattle.c_types.specs.Coverage.{same_kind, places, places_of_shape, agree, kinds_agree_at_level, kinds_agree, of_one_class, covers}
+use Rattle.c_types.specs.Coverage.{places, places_of_shape, agree, kinds_agree_at_level, kinds_agree, of_one_class, covers}
 use Rattle.type_laws.proofs.Standing.{AreLevels, stand}
 
 first_of : (a b : Bool) → (a && b) ≡ true → a ≡ true

@@ -3,7 +3,7 @@
 //! nothing, so that it is proved once and can be cited.
 #![tactic(auto)]
 
-ghost use Rattle.std.specs.Prelude.{◌≡◌, ◌↔◌, ℕ, suc, ◌+◌, ◌*◌, ◌≤◌, List, ◌++◌, length, map, take, replicate, ℤ, IsTrue, IsFalse};
+ghost use Rattle.std.specs.Prelude.{◌≡◌, ◌↔◌, ℕ, suc, ◌+◌, ◌*◌, ◌≤◌, List, ◌++◌, length, map, take, replicate, IsTrue, IsFalse};
 ghost use Rattle.std.specs.List.{range_with_len, sum_by};
 ghost use Rattle.std.specs.Cmp.{IsEquivalence};
 ghost use Rattle.c_types.specs.declared.flow_class.FlowClass.TheVariants.{UpTile, Bad};
@@ -12,14 +12,15 @@ ghost use Rattle.cc_base.specs.declared.number.NodeId.{NodeId};
 ghost use Rattle.cc_base.specs.declared.kind.Kind.{Kind};
 ghost use Rattle.c_types.specs.Table.{Table, IsType, IsComplete, is_function};
 ghost use Rattle.c_types.specs.Layouts.{size_of, offset_of};
-ghost use Rattle.c_types.specs.Cells.{Cell, raw, mixed, Relation, pointer_cells, AreOrdered};
+ghost use Rattle.c_types.specs.Cells.{Cell, raw, mixed, pointer_cells, AreOrdered};
 ghost use Rattle.c_types.specs.Equality.{made_alike, within, equal_at_level, physically_equal, begins_with, strictly_below, cells_of};
 ghost use Rattle.c_types.specs.Flows.{flow_class, IsOfOneClass, Covers};
 ghost use Rattle.c_types.specs.Coverage.{covers, of_one_class};
 ghost use Rattle.c_types.specs.Sound.{IsWellFormed};
-ghost use Rattle.c_types.specs.Widths.{cell_width, before, width_of, cured_distance};
+ghost use Rattle.c_types.specs.Widths.{cell_width, before, width_of};
 ghost use Rattle.c_types.specs.Sameness.{is_same_type};
 ghost use Rattle.type_laws.specs.Small.{node, int, char_and_pointer, char_alone, int_array, mixed_union, other_union, int_list, other_list, small_table};
+ghost use Rattle.type_laws.specs.Theorems.{EqualityIsTheWidest, TypesOfOneClassMoveAlike};
 
 /// Physical equality is an equivalence.
 pub fn equality_is_an_equivalence()
@@ -37,7 +38,7 @@ pub fn levels_fall_and_stand_still()
 /// pointees: it is one, and each other one lies within it.
 pub fn equality_is_the_widest()
     ensures one { (table : Table) → IsWellFormed table → physically_equal table ≡ within table (made_alike table (physically_equal table)) }
-    ensures widest { (table : Table) (R : Relation) → IsWellFormed table → ((t u : TypeId) → IsTrue (R t u) → IsTrue (within table (made_alike table R) t u)) → (t u : TypeId) → IsTrue (R t u) → IsTrue (physically_equal table t u) }
+    ensures widest { EqualityIsTheWidest }
 {}
 
 /// A complete type has a cell for each byte, and physically equal types have equal sizes.
@@ -89,7 +90,7 @@ pub fn widths_are_sums()
 
 /// By types of one class a pointer moves alike: any distance in bytes comes to one distance once cured.
 pub fn types_of_one_class_move_alike()
-    ensures { (table : Table) (kind : NodeId → Kind) (t u : TypeId) (z : ℤ) → IsWellFormed table → IsComplete table t → IsComplete table u → IsOfOneClass table kind t u → cured_distance table kind t z ≡ cured_distance table kind u z }
+    ensures { TypesOfOneClassMoveAlike }
 {}
 
 /// The width of a list of cells is the sum of the widths of its parts.

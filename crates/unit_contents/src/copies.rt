@@ -2,10 +2,9 @@
 ghost use Rattle.std.specs.Prelude.{◌≡◌, Some, map};
 ghost use Rattle.c_tree.specs.Views.{added};
 ghost use Rattle.c_tree.specs.TypedTree as typed;
-ghost use Rattle.c_tree.specs.TypedParts.{home_of};
+ghost use Rattle.c_tree.specs.TypedParts.{home_of, home_node};
 ghost use Rattle.c_tree.specs.TypedViews.{typed_declarator_view};
 ghost use Rattle.c_tree.specs.TypedStatementViews.{typed_initialiser_view, typed_item_view};
-ghost use Rattle.src_machine.specs.Names.{object_node};
 ghost use Rattle.src_machine.specs.Sites.{copies_in, copies_in_items, copies_to};
 ghost use Rattle.unit_parts.specs.declared.collected.Collected.{Collected as Seen};
 ghost use Rattle.unit_parts.specs.Collecting.{Asks};
@@ -30,7 +29,7 @@ pub(crate) fn ask_copies(
     d: &TypedDeclarator,
     i: &TypedInitialiser,
 )
-    ensures { Asks (copies_to k.now.types.now (object_node (home_of (typed_declarator_view d.now))) (typed_initialiser_view i.now)) out.old out.new }
+    ensures { Asks (copies_to k.now.types.now (home_node (home_of (typed_declarator_view d.now))) (typed_initialiser_view i.now)) out.old out.new }
 {
     match declared_home(d) {
         Home::None => ask_nothing(out),

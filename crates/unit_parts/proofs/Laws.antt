@@ -1,10 +1,10 @@
 -- How what is collected grows.
-use Rattle.std.proofs.Common.{◌≡◌, refl, ap, sym, subst, ◌∙◌, zero, ◌+◌, ◌<◌, take, map, flat_map, length, ℕ, suc, true, false, List, [], ◌∷◌, ◌++◌, append-nil, append_assoc, Option, Some, None, option_map, arith, add-one, get_or}
+use Rattle.std.proofs.Common.{◌≡◌, refl, ap, sym, subst, ◌∙◌, ◌+◌, ◌<◌, take, map, flat_map, length, ℕ, true, false, List, [], ◌∷◌, ◌++◌, append-nil, append_assoc, Option, Some, None, add-one, get_or}
 use Rattle.std.proofs.lemmas.Grind.{flat_map-append}
 use Rattle.std.proofs.lemmas.List.{map-append}
 use Rattle.std.proofs.Math.Seq.{take-suc}
 use Rattle.cc_base.specs.declared.number.NodeId.{NodeId}
-use Rattle.c_types.specs.declared.site.Site.{Site}
+use Rattle.kind_sites.specs.declared.site.Site.{Site}
 use Rattle.c_types.specs.Table.{Table}
 use Rattle.c_tree.specs.TypedParts.{Made, static_made, local_made, made_by_stars, made_by_adjusted}
 use Rattle.c_tree.specs.declared.typed_word.TypedStar.{TypedStar}
@@ -12,15 +12,13 @@ use Rattle.c_tree.specs.declared.typed_word.Adjusted.{Adjusted}
 use Rattle.src_mem.specs.Memory.{Planned}
 use Rattle.src_mem.specs.Runs as runs
 use Rattle.src_machine.specs.Pieces.{Piece}
-use Rattle.c_tree.specs.TypedTree.{TypedPlace}
-use Rattle.src_machine.specs.Sites.{address_at, addresses_at, linked_to, sites_of_piece}
-use Rattle.c_types.specs.declared.site.Site.TheVariants as site
+use Rattle.src_machine.specs.Sites.{sites_of_piece}
+use Rattle.kind_sites.specs.declared.site.Site.TheVariants as site
 use Rattle.cil_form.specs.declared.program.Static.{Static}
 use Rattle.cil_form.specs.declared.number.Planned.{Planned as PlannedObject}
 use Rattle.cil_form.specs.Machine.{plan}
 use Rattle.unit_parts.specs.declared.collected.Collected.{Collected}
 use Rattle.cil_form.specs.Sites.{Each}
-use Rattle.c_lexer.specs.Literals.{literal_bytes}
 use Rattle.unit_parts.specs.Collecting.{Adds, AreBytes, Asks, Collects, Forgets, HaveBytes, IsBytes, local_of, locals_from, seen_statics, static_of, statics_from}
 
 -- lists, one after another
@@ -219,21 +217,9 @@ one_local table x o a b none same f statics sites = λ fine.
 pub more_bytes : (xs : List ℕ) (b : ℕ) → AreBytes xs → b < 256 → AreBytes (xs ++ b ∷ [])
 more_bytes xs b h small = each_append _ xs (b ∷ []) h (small, tt)
 
-pub short_literal : (l : List ℕ) → length l < 2 → literal_bytes l ≡ []
-short_literal [] short = refl
-short_literal (x ∷ []) short = refl
-short_literal (x ∷ y ∷ l) short = absurd (omega arith)
-
--- a byte more, and a literal more
+-- a byte more
 pub more_taken : (xs : List ℕ) (i x : ℕ) (start now next : List ℕ) → i < length xs → x ≡ get_or xs i 0
     → now ≡ start ++ take i xs → next ≡ now ++ x ∷ [] → next ≡ start ++ take (i + 1) xs
 more_taken xs i x start now next within at e f =
     let law : take (i + 1) xs ≡ take i xs ++ x ∷ [] = rw add-one (take-suc xs i 0 within ∙ ap (λ y. take i xs ++ y ∷ []) (sym at)) in
     f ∙ ap (λ m. m ++ x ∷ []) e ∙ append_assoc start (take i xs) (x ∷ []) ∙ ap (λ m. start ++ m) (sym law)
-
-pub more_mapped : {X Y : Type 0} (f : X → List Y) (xs : List X) (i : ℕ) (x : X) (now next : List Y) → i < length xs → x ≡ get_or xs i x
-    → now ≡ flat_map f (take i xs) → next ≡ now ++ f x → next ≡ flat_map f (take (i + 1) xs)
-more_mapped f xs i x now next within at e g =
-    let law : take (i + 1) xs ≡ take i xs ++ x ∷ [] = rw add-one (take-suc xs i x within ∙ ap (λ y. take i xs ++ y ∷ []) (sym at)) in
-    g ∙ ap (λ m. m ++ f x) e ∙ ap (λ m. flat_map f (take i xs) ++ m) (sym (append-nil (f x)))
-    ∙ sym (flat_map-append f (take i xs) (x ∷ [])) ∙ ap (flat_map f) (sym law)

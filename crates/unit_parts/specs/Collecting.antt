@@ -1,6 +1,6 @@
 -- What a walk over a typed tree collects.
 use Rattle.std.specs.Prelude.{◌≡◌, ℕ, ◌<◌, true, List, [], ◌∷◌, ◌++◌, map, flat_map, option_map, take, length, Option, Some, None}
-use Rattle.c_types.specs.declared.site.Site.{Site}
+use Rattle.kind_sites.specs.declared.site.Site.{Site}
 use Rattle.c_types.specs.Table.{Table}
 use Rattle.c_tree.specs.TypedParts.{Made, MadeObject, static_made, local_made}
 use Rattle.src_mem.specs.Memory.{Planned}

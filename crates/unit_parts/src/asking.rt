@@ -1,7 +1,7 @@
 //! The sites that single parts ask.
 ghost use Rattle.std.specs.Prelude.{◌≡◌, true, [], ◌∷◌, ◌++◌};
 ghost use Rattle.c_types.specs.Table.{shape_at};
-ghost use Rattle.c_types.specs.declared.site.Site.TheVariants as site;
+ghost use Rattle.kind_sites.specs.declared.site.Site.TheVariants as site;
 ghost use Rattle.c_tree.specs.TypedParts.{named_type, pointer_side, type_of};
 ghost use Rattle.c_tree.specs.TypedViews.{typed_expr_view, typed_place_view, typed_type_name_view};
 ghost use Rattle.src_mem.specs.Operations.{node_at, pointee_at};
@@ -10,8 +10,9 @@ ghost use Rattle.unit_parts.specs.Collecting.{Asks};
 
 use crate::collected::{Collected, Scope};
 use c_tree::{AggregateKind, Binary, Conversion, Side, TypedExpr, TypedPlace, TypedTypeName};
-use c_types::{Site, TypeShape};
+use c_types::TypeShape;
 use cc_base::{NodeId, Place, TypeId};
+use kind_sites::Site;
 
 /// Appends a site, or remembers that memory was wanted.
 #[tactic(auto, using(crate::proofs::Rules::site_rules))]

@@ -1,6 +1,7 @@
 //! What is collected.
-use c_types::{Site, Types};
+use c_types::Types;
 use cil_form::{Planned, Static};
+use kind_sites::Site;
 use std::alloc::Global;
 
 /// What a walk over a tree looks at beside the tree.

@@ -1,14 +1,12 @@
 //! String literals and declared objects.
 ghost use Rattle.std.specs.Prelude.{◌≡◌, [], ◌∷◌, ◌++◌, length, IfOk, OnOk};
-ghost use Rattle.c_lexer.specs.Literals.{literal_bytes};
 ghost use Rattle.c_tree.specs.TypedParts as parts;
 ghost use Rattle.c_tree.specs.declared.typed_word.Home.TheVariants as homes;
 ghost use Rattle.src_machine.specs.Machine.{text_of};
 ghost use Rattle.unit_parts.specs.Collecting.{AreBytes, Collects, Forgets};
 
 use crate::collected::{Collected, Scope};
-use c_lexer::literal_bytes;
-use c_tree::{Home, Identifier, StringPiece};
+use c_tree::{Home, Identifier, StringPiece, pieces_bytes};
 use cc_base::{NoMemory, NodeId, TypeId};
 use cil_form::{Bytes, Planned, Static};
 
@@ -114,26 +112,11 @@ fn text_of(k: &Scope<'_>, pieces: &[StringPiece]) -> Result<Bytes, NoMemory>
     ensures text { IfOk result (λ t. t ≡ text_of pieces.now) }
     ensures bytes { IfOk result (λ t. AreBytes t) }
 {
+    let bytes = pieces_bytes(k.alloc, pieces)?;
     let mut text = Vec::new(k.alloc);
-    for piece in pieces {
-        put_bytes(&mut text, k, piece)?;
-    }
+    append(&mut text, bytes.as_slice())?;
     push_byte(&mut text, 0)?;
     Ok(Bytes(text))
-}
-
-/// Appends the bytes that a string literal holds.
-#[tactic(auto, using(crate::proofs::Laws::short_literal, crate::proofs::Laws::more_bytes))]
-fn put_bytes(text: &mut Vec<u8>, k: &Scope<'_>, piece: &StringPiece) -> Result<(), NoMemory>
-    ensures text { OnOk result (text.new.items ≡ text.old.items ++ literal_bytes piece.now.bytes) }
-    ensures bytes { OnOk result (AreBytes text.old.items → AreBytes text.new.items) }
-{
-    let literal = piece.bytes.as_slice();
-    if literal.len() < 2 {
-        return Ok(());
-    }
-    let bytes = literal_bytes(k.alloc, literal)?;
-    append(text, bytes.as_slice())
 }
 
 /// Appends bytes.

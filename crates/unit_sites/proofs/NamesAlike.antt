@@ -7,8 +7,8 @@ use Rattle.cc_base.specs.declared.number.NodeId.{NodeId}
 use Rattle.cc_base.specs.declared.number.TypeId.{TypeId}
 use Rattle.c_types.specs.declared.shape.TypeShape.{TypeShape}
 use Rattle.c_types.specs.declared.shape.TypeShape.TheVariants as shape
-use Rattle.c_types.specs.declared.site.Site.{Site}
-use Rattle.c_types.specs.declared.site.Site.TheVariants as site
+use Rattle.kind_sites.specs.declared.site.Site.{Site}
+use Rattle.kind_sites.specs.declared.site.Site.TheVariants as site
 use Rattle.c_types.specs.Equality.{physically_equal}
 use Rattle.c_types.specs.Sameness.{IsSameType, is_same_type, same_shape, same_step}
 use Rattle.c_types.specs.Sound.{IsWellFormed}
@@ -17,7 +17,7 @@ use Rattle.c_tree.specs.declared.leaf.Identifier.{Identifier}
 use Rattle.c_tree.specs.declared.typed_word.Home.{Home}
 use Rattle.c_tree.specs.declared.typed_word.Home.TheVariants as home
 use Rattle.c_tree.specs.TypedTree.{TypedDeclarator, TypedTranslationUnit}
-use Rattle.c_tree.specs.TypedParts.{MadeObject, declared_type, home_of, name_of, static_home, statics_of, functions_of}
+use Rattle.c_tree.specs.TypedParts.{MadeObject, declared_type, home_of, name_of, static_home, statics_of, functions_of, home_node}
 use Rattle.c_ready.specs.Ready.{Named, IsAlike, IsWhole, IsReadyUnit, static_stage, made_named, variables_named}
 use Rattle.c_ready.specs.Ready as stages
 use Rattle.c_ready.proofs.Basics.{all-right, eq_from, bytes-same}
@@ -26,9 +26,9 @@ use Rattle.type_laws.proofs.Relations.{equal_equiv}
 use Rattle.type_laws.proofs.SameTypes.{same-is-equal}
 use Rattle.cil_form.specs.Typing.{AreDeclaredAlike, same, listed, turned, chained}
 use Rattle.src_machine.specs.Names as names
-use Rattle.src_machine.specs.Names.{Which, AnObject, AFunction, object_node, object_named, function_named, named_by, named_in, is_same_which, first_type, declarators_in}
+use Rattle.src_machine.specs.Names.{Which, AnObject, AFunction, object_named, function_named, named_by, named_in, is_same_which, first_type, declarators_in}
 use Rattle.src_machine.specs.World.{same_node}
-use Rattle.c_types.specs.Solutions.{sites_of_table}
+use Rattle.kind_sites.specs.Solutions.{sites_of_table}
 use Rattle.src_machine.specs.Sites.{sites_of_homes, sites_of_piece, same_as, sites_of_names, sites_of}
 use Rattle.src_machine.specs.Pieces.{pieces_of_unit}
 use Rattle.unit_sites.proofs.Elements.{only, flat, unflat}
@@ -209,19 +209,19 @@ module _ (T : Table) (u : TypedTranslationUnit) where
       All-contains (λ (z : TypedDeclarator). All (Contains all_named) (named_by T z)) (declarators_in u) d
       (unflat (Contains all_named) (named_by T) (declarators_in u) (All-contains_itself all_named)) c
 
-  home-node : (h : Home) (n : NodeId) → static_home h ≡ n ∷ [] → object_node h ≡ Some n
+  home-node : (h : Home) (n : NodeId) → static_home h ≡ n ∷ [] → home_node h ≡ Some n
   home-node (home.Static m) n e = cc
   home-node (home.Known m) n e = cc
   home-node home.None n e = absurd (cc (e))
   home-node (home.Local m) n e = absurd (cc (e))
   home-node (home.Parameter m) n e = absurd (cc (e))
 
-  object-there : (d : TypedDeclarator) → Contains (declarators_in u) d → (n : NodeId) → object_node (home_of d) ≡ Some n
+  object-there : (d : TypedDeclarator) → Contains (declarators_in u) d → (n : NodeId) → home_node (home_of d) ≡ Some n
       → is_function T (declared_type d) ≡ false → Contains all_named (record { which = AnObject n; type = declared_type d })
   object-there d c n e g =
       All-head (Contains all_named) (record { which = AnObject n; type = declared_type d }) []
       (subst (λ (ns : List names.Named). All (Contains all_named) ns) (
-      ap (λ (b : Bool). if b then function_named (name_of d) (declared_type d) else object_named (object_node (home_of d)) (declared_type d)) g
+      ap (λ (b : Bool). if b then function_named (name_of d) (declared_type d) else object_named (home_node (home_of d)) (declared_type d)) g
       ∙ ap (λ (o : Option NodeId). object_named o (declared_type d)) e) (named-of d c))
 
   function-there : (d : TypedDeclarator) → Contains (declarators_in u) d → (id : Identifier) → name_of d ≡ Some id
@@ -229,7 +229,7 @@ module _ (T : Table) (u : TypedTranslationUnit) where
   function-there d c id e g =
       All-head (Contains all_named) (record { which = AFunction id; type = declared_type d }) []
       (subst (λ (ns : List names.Named). All (Contains all_named) ns) (
-      ap (λ (b : Bool). if b then function_named (name_of d) (declared_type d) else object_named (object_node (home_of d)) (declared_type d)) g
+      ap (λ (b : Bool). if b then function_named (name_of d) (declared_type d) else object_named (home_node (home_of d)) (declared_type d)) g
       ∙ ap (λ (o : Option Identifier). function_named o (declared_type d)) e) (named-of d c))
 
   -- the static object with this home, by two of its declarators
@@ -314,7 +314,7 @@ module _ (T : Table) (u : TypedTranslationUnit) (r : IsReadyUnit T u) where
         type_in = function-in T (declared_type d) g;
       })
 
-      object : (o : Option NodeId) → object_node (home_of d) ≡ o → All IsMadeAlike (object_named o (declared_type d))
+      object : (o : Option NodeId) → home_node (home_of d) ≡ o → All IsMadeAlike (object_named o (declared_type d))
       object None e = All-nil IsMadeAlike
       object (Some n) e = only IsMadeAlike (record { which = AnObject n; type = declared_type d }) (record {
         made = (h n e).0;
@@ -322,9 +322,9 @@ module _ (T : Table) (u : TypedTranslationUnit) (r : IsReadyUnit T u) where
       })
 
       by : (b : Bool) → is_function T (declared_type d) ≡ b
-          → All IsMadeAlike (if b then function_named (name_of d) (declared_type d) else object_named (object_node (home_of d)) (declared_type d))
+          → All IsMadeAlike (if b then function_named (name_of d) (declared_type d) else object_named (home_node (home_of d)) (declared_type d))
       by true e = function (name_of d) refl e
-      by false e = object (object_node (home_of d)) refl
+      by false e = object (home_node (home_of d)) refl
 
   both-all : (ds : List TypedDeclarator) → All (Contains (declarators_in u)) ds → All (Names static (objects_made u)) ds
       → All (λ d. All IsMadeAlike (named_by T d)) ds

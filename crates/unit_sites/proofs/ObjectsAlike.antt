@@ -11,13 +11,13 @@ use Rattle.c_types.specs.Table.{Table}
 use Rattle.c_tree.specs.declared.typed_word.Home.{Home}
 use Rattle.c_tree.specs.declared.typed_word.Home.TheVariants as home
 use Rattle.c_tree.specs.TypedTree as typed
-use Rattle.c_tree.specs.TypedTree.{TypedForm, TypedSpecifiers, TypedDeclarator, TypedInitDeclarators, TypedDeclaration, TypedStatement, TypedBlockItems, TypedTranslationUnit}
+use Rattle.c_tree.specs.TypedTree.{TypedDeclarator, TypedInitDeclarators, TypedDeclaration, TypedStatement, TypedBlockItems, TypedTranslationUnit}
 use Rattle.c_tree.specs.TypedParts as made
-use Rattle.c_tree.specs.TypedParts.{Made, MadeObject, DefinedFunction, static_made, declared_type, home_of, home_of_form, type_of, statics_of, functions_of, made_by_unit}
+use Rattle.c_tree.specs.TypedParts.{Made, MadeObject, DefinedFunction, static_made, declared_type, home_of, home_of_form, type_of, statics_of, functions_of, made_by_unit, home_node}
 use Rattle.c_ready.specs.Rows.{Around, in_a_loop, in_a_switch}
 use Rattle.c_ready.specs.Ready.{Stage, Named, IsAlike, IsWhole, static_named, made_named, variables_named, IsReadyHome, AreReadyDeclarators, IsReadyDeclaration, IsReadyStatement, AreReadyBlockItems, AreReadyExternals, static_stage, homes_of}
 use Rattle.c_ready.proofs.Basics.{all-left, all-right, unmap, flat-left, flat-right}
-use Rattle.src_machine.specs.Names.{object_node, is_typedef, declarators_of, declarators_in_declaration, declarators_in_statement, declarators_in_items, declarators_in}
+use Rattle.src_machine.specs.Names.{is_typedef, declarators_of, declarators_in_declaration, declarators_in_statement, declarators_in_items, declarators_in}
 use Rattle.unit_sites.proofs.Elements.{only, flat, unflat}
 
 -- all objects of a unit, each by its home and the type that it is made with
@@ -111,7 +111,7 @@ IsObjectAlike T objects n t = (first : TypeId) × Contains objects (n, first) ×
 
 abbrev pub Names : Stage → List Named → TypedDeclarator → Type 0
 Names static objects d =
-    (n : NodeId) → object_node (home_of d) ≡ Some n → IsObjectAlike static.table objects n (declared_type d) × IsWhole static (declared_type d)
+    (n : NodeId) → home_node (home_of d) ≡ Some n → IsObjectAlike static.table objects n (declared_type d) × IsWhole static (declared_type d)
 
 module _ (static : Stage) (objects : List Named) (statics : All (Contains objects) static.statics) where
   abbrev NamesObject : TypedDeclarator → Type 0
@@ -126,7 +126,7 @@ module _ (static : Stage) (objects : List Named) (statics : All (Contains object
   some-node : (m n : NodeId) → Some m ≡ Some n → m ≡ n
   some-node m n h = cc
 
-  home-alike : (vs : List Named) → Within vs → (h : Home) (t : TypeId) → IsReadyHome (inside vs) h t → (n : NodeId) → object_node h ≡ Some n
+  home-alike : (vs : List Named) → Within vs → (h : Home) (t : TypeId) → IsReadyHome (inside vs) h t → (n : NodeId) → home_node h ≡ Some n
       → IsObjectAlike static.table objects n t × IsWhole static t
   home-alike vs w home.None t r n e = absurd (none-some n e)
   home-alike vs w (home.Parameter m) t r n e = absurd r

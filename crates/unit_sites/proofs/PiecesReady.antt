@@ -9,15 +9,14 @@ use Rattle.c_tree.specs.declared.typed_word.Home.{Home}
 use Rattle.c_tree.specs.declared.typed_word.Home.TheVariants as home
 use Rattle.c_tree.specs.TypedTree as typed
 use Rattle.c_tree.specs.TypedTree.{TypedExpr, TypedPlace, TypedArguments, TypedTypeName, TypedSpecifiers, TypedSpecifierList, TypedSpecifier, TypedMembers, TypedMemberDeclarators, TypedEnumerators, TypedDeclarator, TypedForm, TypedCore, TypedParts, TypedParameters, TypedDeclared, TypedInitialiser, TypedItems, TypedInitDeclarators, TypedDeclaration, TypedStatement, TypedBlockItems, TypedTranslationUnit}
-use Rattle.c_tree.specs.TypedParts.{home_of, home_of_form, type_of}
+use Rattle.c_tree.specs.TypedParts.{home_of, home_of_form, type_of, home_node}
 use Rattle.c_ready.specs.Rows.{Around, in_a_loop, in_a_switch}
 use Rattle.c_ready.specs.Ready.{IsNode, IsReadyHome, Stage, Named, unread, IsReady, IsReadyPlace, AreReady, IsReadyTypeName, AreReadySpecifiers, AreReadyListed, IsReadySpecifier, AreReadyMembers, AreReadyMemberDeclarators, AreReadyEnumerators, IsReadyForm, IsReadyCore, AreReadyParts, AreReadyParameters, IsReadyDeclared, IsReadyInitialiser, AreReadyItems, initialised_in, AreReadyDeclarators, IsReadyDeclaration, IsReadyOptional, IsReadyTestOrNone, IsReadyReturn, IsReadyStatement, AreReadyBlockItems, AreReadyExternals, variables_named}
 use Rattle.c_ready.proofs.Basics.{some-same}
-use Rattle.src_machine.specs.Names.{object_node}
 use Rattle.src_machine.specs.Pieces.{Piece, AnExpression, APlace, ASpecifier, AnInitialiser, pieces_of, pieces_of_place, pieces_of_arguments, pieces_of_type_name, pieces_of_specifiers, pieces_of_specifier_list, pieces_of_specifier, pieces_of_members, pieces_of_member_declarators, pieces_of_enumerators, pieces_of_form, pieces_of_core, pieces_of_parts, pieces_of_parameters, pieces_of_declared, pieces_of_initialiser, pieces_of_items, pieces_of_init_declarators, pieces_of_declaration, pieces_of_optional, pieces_of_statement, pieces_of_block_items, pieces_of_unit}
 
 -- the home of an object is a node
-node-of-home : (k : Stage) (h : Home) (t : TypeId) → IsReadyHome k h t → (n : NodeId) → object_node h ≡ Some n → IsNode k n
+node-of-home : (k : Stage) (h : Home) (t : TypeId) → IsReadyHome k h t → (n : NodeId) → home_node h ≡ Some n → IsNode k n
 node-of-home k home.None t r n e = absurd (cc (e))
 node-of-home k (home.Parameter m) t r n e = absurd r
 node-of-home k (home.Static m) t r n e = subst (IsNode k) (some-same m n e) r.0
@@ -29,7 +28,7 @@ module _ (Q : Table → ℕ → Piece → Type 0)
     (of-place : (k : Stage) (p : TypedPlace) → IsReadyPlace k p → Q k.table k.nodes (APlace p))
     (of-specifier : (k : Stage) (x : TypedSpecifier) → IsReadySpecifier k x → Q k.table k.nodes (ASpecifier x))
     (of-initialiser : (k : Stage) (d : TypedDeclarator) (t : TypeId) (i : TypedInitialiser)
-    → ((n : NodeId) → object_node (home_of d) ≡ Some n → IsNode k n) → IsReadyInitialiser k t i → Q k.table k.nodes (AnInitialiser d i)) where
+    → ((n : NodeId) → home_node (home_of d) ≡ Some n → IsNode k n) → IsReadyInitialiser k t i → Q k.table k.nodes (AnInitialiser d i)) where
   abbrev Are : Table → ℕ → List Piece → Type 0
   Are T n pieces = All (Q T n) pieces
 
@@ -248,13 +247,13 @@ module _ (Q : Table → ℕ → Piece → Type 0)
         → IsReadyHome (inside vs) h t → IsReadyInitialiser (initialised_in h (inside vs) static) t i
         → Q static.table static.nodes (AnInitialiser d i)
     own-initialiser vs d (home.Local m) e t i r q =
-        of-initialiser (inside vs) d t i (λ n g. node-of-home (inside vs) (home.Local m) t r n (ap object_node (sym e) ∙ g)) q
+        of-initialiser (inside vs) d t i (λ n g. node-of-home (inside vs) (home.Local m) t r n (ap home_node (sym e) ∙ g)) q
     own-initialiser vs d (home.Static m) e t i r q =
-        of-initialiser static d t i (λ n g. node-of-home (inside vs) (home.Static m) t r n (ap object_node (sym e) ∙ g)) q
+        of-initialiser static d t i (λ n g. node-of-home (inside vs) (home.Static m) t r n (ap home_node (sym e) ∙ g)) q
     own-initialiser vs d (home.Known m) e t i r q =
-        of-initialiser static d t i (λ n g. node-of-home (inside vs) (home.Known m) t r n (ap object_node (sym e) ∙ g)) q
+        of-initialiser static d t i (λ n g. node-of-home (inside vs) (home.Known m) t r n (ap home_node (sym e) ∙ g)) q
     own-initialiser vs d home.None e t i r q =
-        of-initialiser static d t i (λ n g. node-of-home (inside vs) home.None t r n (ap object_node (sym e) ∙ g)) q
+        of-initialiser static d t i (λ n g. node-of-home (inside vs) home.None t r n (ap home_node (sym e) ∙ g)) q
     own-initialiser vs d (home.Parameter m) e t i r q = absurd r
 
     declarators-pieces : (vs : List Named) (all : TypedInitDeclarators) → AreReadyDeclarators (inside vs) static all

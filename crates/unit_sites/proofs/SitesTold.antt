@@ -7,11 +7,11 @@ use Rattle.cc_base.specs.declared.number.NodeId.{NodeId}
 use Rattle.cc_base.specs.declared.number.TypeId.{TypeId}
 use Rattle.c_types.specs.declared.shape.TypeShape.{TypeShape}
 use Rattle.c_types.specs.declared.shape.TypeShape.TheVariants as shape
-use Rattle.c_types.specs.declared.site.Site.{Site}
-use Rattle.c_types.specs.declared.site.Site.TheVariants as site
+use Rattle.kind_sites.specs.declared.site.Site.{Site}
+use Rattle.kind_sites.specs.declared.site.Site.TheVariants as site
 use Rattle.c_types.specs.Equality.{physically_equal}
 use Rattle.c_types.specs.Table.{Table, Entry, HasShape, IsType, shape_at, void_entry}
-use Rattle.c_types.specs.Solutions.{sites_of_shape, sites_of_table}
+use Rattle.kind_sites.specs.Solutions.{sites_of_shape, sites_of_table}
 use Rattle.c_tree.specs.declared.operator.AggregateKind.{AggregateKind}
 use Rattle.c_tree.specs.declared.operator.AggregateKind.TheVariants as aggregate
 use Rattle.c_tree.specs.declared.operator.Binary.{Binary}
@@ -19,8 +19,8 @@ use Rattle.c_tree.specs.declared.operator.Binary.TheVariants as binary
 use Rattle.c_tree.specs.declared.typed_word.Conversion.{Conversion}
 use Rattle.c_tree.specs.declared.typed_word.Conversion.TheVariants as conversion
 use Rattle.c_tree.specs.TypedTree as typed
-use Rattle.c_tree.specs.TypedTree.{TypedExpr, TypedPlace, TypedSpecifier, TypedDeclarator, TypedInitialiser, TypedItems, TypedTranslationUnit}
-use Rattle.c_tree.specs.TypedParts.{MadeObject, DefinedFunction, type_of, place_type, named_type, home_of, statics_of, functions_of}
+use Rattle.c_tree.specs.TypedTree.{TypedExpr, TypedPlace, TypedSpecifier, TypedInitialiser, TypedItems, TypedTranslationUnit}
+use Rattle.c_tree.specs.TypedParts.{MadeObject, DefinedFunction, type_of, place_type, named_type, home_of, statics_of, functions_of, home_node}
 use Rattle.c_ready.specs.Ready as stages
 use Rattle.c_ready.specs.Ready.{Stage, Fits, IsReady, IsReadyUnit, static_stage, homes_of, member_nodes, variables_named}
 use Rattle.c_ready.proofs.Basics.{all-left, all-right, unmap}
@@ -29,7 +29,7 @@ use Rattle.src_mem.specs.Operations.{node_at, pointee_at, node_of_shape, pointee
 use Rattle.src_mem.specs.Runs.{variables_of}
 use Rattle.src_machine.specs.Machine.{head_of}
 use Rattle.src_machine.specs.Pieces.{Piece, AnExpression, APlace, ASpecifier, AnInitialiser, pieces_of_unit}
-use Rattle.src_machine.specs.Names.{Named, object_node, first_type, named_in}
+use Rattle.src_machine.specs.Names.{Named, first_type, named_in}
 use Rattle.src_machine.specs.Sites.{addresses_at, linked_to, moves_where_pointer, sites_of_conversion, sites_of_comparison, sites_of_expression, sites_of_place, sites_of_aggregate, sites_of_specifier, copies_in, copies_in_items, copies_to, sites_of_piece, sites_of_homes, same_as, sites_of_names, sites_of}
 use Rattle.cil_form.specs.Sites.{Each}
 use Rattle.unit_sites.specs.Objects.{objects_in}
@@ -227,7 +227,7 @@ module _ (u : TypedTranslationUnit) (T : Table) where
   piece-ends (AnExpression e) h l = value-ends e h
   piece-ends (APlace p) h l = place-ends p l
   piece-ends (ASpecifier x) h l = specifier-ends x
-  piece-ends (AnInitialiser d i) h l = initialiser-ends (object_node (home_of d)) i
+  piece-ends (AnInitialiser d i) h l = initialiser-ends (home_node (home_of d)) i
 
   pieces-ends : (xs : List Piece) → All (IsJoin T) xs → All IsListed xs → All (λ piece. Ends (sites_of_piece T piece)) xs
   pieces-ends [] h l = All-nil (λ piece. Ends (sites_of_piece T piece))

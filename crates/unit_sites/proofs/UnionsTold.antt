@@ -6,8 +6,8 @@ use Rattle.cc_base.specs.declared.place.Place.{Place}
 use Rattle.cc_base.specs.declared.number.TypeId.{TypeId}
 use Rattle.c_types.specs.declared.shape.TypeShape.{TypeShape}
 use Rattle.c_types.specs.declared.shape.TypeShape.TheVariants as shape
-use Rattle.c_types.specs.declared.site.Site.TheVariants as site
-use Rattle.c_types.specs.Solutions.{sites_of_table}
+use Rattle.kind_sites.specs.declared.site.Site.TheVariants as site
+use Rattle.kind_sites.specs.Solutions.{sites_of_table}
 use Rattle.c_types.specs.Table.{Table, IsUnion, IsComplete, is_aggregate_shape, is_union_shape, shape_at}
 use Rattle.c_tree.specs.declared.operator.AggregateKind.{AggregateKind}
 use Rattle.c_tree.specs.declared.operator.AggregateKind.TheVariants as aggregate

@@ -3,6 +3,7 @@ use Rattle.std.proofs.Common.{ℕ, ℤ, suc, ◌+◌, sym, subst, Bool, true, fa
 use Rattle.cc_base.specs.declared.place.Place.{Place}
 use Rattle.cc_base.specs.declared.number.NodeId.{NodeId}
 use Rattle.cc_base.specs.declared.number.TypeId.{TypeId}
+use Rattle.c_tree.specs.Arithmetic.{operator_of}
 use Rattle.c_tree.specs.TypedTree as typed
 use Rattle.c_tree.specs.TypedTree.{TypedExpr, TypedPlace, TypedArguments}
 use Rattle.c_tree.specs.TypedParts.{type_of, place_type, place_at, named_type, pointer_side, is_null}
@@ -17,7 +18,7 @@ use Rattle.c_tree.specs.declared.typed_word.Side.{Side}
 use Rattle.c_tree.specs.declared.typed_word.Side.TheVariants as side
 use Rattle.c_ready.specs.Ready.{Stage, Fits, IsReady, IsReadyPlace, AreReady}
 use Rattle.src_mem.specs.Operations.{pointee_at}
-use Rattle.src_machine.specs.Expressions.{is_or, is_subtract, operator_of, operator_of_step, operator_of_assignment, is_through_pointer, same_type}
+use Rattle.src_machine.specs.Expressions.{is_or, is_subtract, operator_of_step, operator_of_assignment, is_through_pointer, same_type}
 use Rattle.cil_form.specs.declared.number.Temp.{Temp}
 use Rattle.cil_form.specs.declared.instr.Calculate.TheVariants as calculate
 use Rattle.cil_form.specs.declared.instr.Comparison.{Comparison}

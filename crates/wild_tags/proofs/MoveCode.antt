@@ -114,7 +114,7 @@ row-inside bytes a b n row at side some whole =
     let w : a + n ≤ length bytes = side.words in
     let e : base_word b (length_at bytes b) (word_at b a) + n ≤ length bytes = last-base bytes a b n side some whole in
     let t : 8 * (b + 16 * word_count (length_at bytes b)) + word_at b a + n / 8 ≤ 8 * length bytes = last-tag bytes a b n side some whole in
-    record { words = omega (arith, first, words, w, whole); bases = omega (arith, bases, e, whole); tags = omega (arith, tags, t) }
+    record { order = omega (arith, words, bases); words = omega (arith, first, words, w, whole); bases = omega (arith, bases, e, whole); tags = omega (arith, tags, t) }
 
 pub move-none : (m : Memory) (a b c d n : ℕ) → n ≡ 0 → m ≡ with_bytes m (words_moved m.bytes a b c d n)
 unfolding with_tags bytes_at written

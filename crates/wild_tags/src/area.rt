@@ -1,3 +1,4 @@
+//! The base words and tags of one area.
 // One tagged area: where its words, base words and tags stand, and its tags.
 
 ghost use Rattle.std.specs.Prelude.{◌≡◌, ◌+◌, ◌-◌, ◌*◌, ◌≤◌, ◌<◌, ◌^◌, List, [], ◌∷◌, IsTrue, length, filter, min, max, nat_lt};

@@ -1,3 +1,4 @@
+//! Whether a call lies in the byte list.
 // Where the calls may be made: all that they read and write lies in the byte list.
 
 ghost use Rattle.std.specs.Prelude.{◌≡◌};

@@ -1,5 +1,5 @@
-// Tagged areas: areas of the byte list that have, beside each word of data, a base word and a tag. In each call `b`
-// is the address of such an area, and `a` that of bytes in it.
+//! Tagged areas: areas of the byte list that have, beside each word of data, a base word and a tag. In each call `b`
+//! is the address of such an area, and `a` that of bytes in it.
 #![tactic(auto)]
 
 ghost use Rattle.std.specs.Prelude.{◌≡◌, IsTrue};

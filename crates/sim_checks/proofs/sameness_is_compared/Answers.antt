@@ -1,5 +1,6 @@
 use Rattle.sim_checks.proofs.Sameness.{orders-compared, equalities-compared}
 use Rattle.sim_checks.proofs.Differences.{differences-compared}
+use Rattle.sim_checks.proofs.Mixed.{mixed-orders-compared}
 use Rattle.sim_checks.proofs.sameness_is_compared.Goals as goal
 
 pub returns-clause-order : goal.returns-clause-order
@@ -13,3 +14,6 @@ returns-clause-difference f w number_of s c parts depth t q r e p o size at soun
 pub returns-clause-equality : goal.returns-clause-equality
 returns-clause-equality f w number_of s c parts depth kind other t u q r e p o at sound outlines n m x y =
     equalities-compared w number_of s c x.related outlines parts depth e sound kind other t u q r p o at n m x y
+
+pub returns-clause-mixed : goal.returns-clause-mixed
+returns-clause-mixed f w s m parts kind other q r e p o apart at size unlike = mixed-orders-compared w s m parts kind other q r e p o apart at size unlike

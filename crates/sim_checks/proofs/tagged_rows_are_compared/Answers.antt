@@ -1,5 +1,6 @@
 use Rattle.sim_checks.proofs.Tagged.{bounds-at, base-at, alignment-at, plain-at, tag-at, wild-orders-compared, wild-equalities-compared}
 use Rattle.sim_checks.proofs.WildCopies.{wild-copies-compared}
+use Rattle.sim_checks.proofs.WildDifferences.{wild-differences-compared}
 use Rattle.sim_checks.proofs.Mixed.{mixed-equalities-compared}
 use Rattle.sim_checks.proofs.tagged_rows_are_compared.Goals as goal
 
@@ -33,3 +34,7 @@ returns-clause-mixed f w number_of s c parts depth other t u q r e p o at sound 
 pub returns-clause-copies : goal.returns-clause-copies
 returns-clause-copies f w sites number_of s c parts depth t u q r e p o n apart sound some x y h k =
     wild-copies-compared w number_of s c parts depth e apart sites sound t u q r p o n some x y h k
+
+pub returns-clause-difference : goal.returns-clause-difference
+returns-clause-difference f w number_of s c parts depth t u q r e p o size at sound complete is x y h i =
+    wild-differences-compared w number_of s c parts depth e t u sound complete size is q r p o at x y h i

@@ -3,6 +3,7 @@ use Rattle.sim_memory.proofs.WildIntegers.{wild-integers-stored}
 use Rattle.sim_memory.proofs.WildClears.{wild-objects-cleared}
 use Rattle.sim_memory.proofs.WildMoves.{wild-copied}
 use Rattle.sim_memory.proofs.WildPlain.{plain-copied}
+use Rattle.sim_memory.proofs.TaggedPlain.{tagged-plain-copied}
 use Rattle.sim_memory.proofs.tagged_words_are_written.Goals as goal
 
 pub returns-clause-pointer : goal.returns-clause-pointer
@@ -26,3 +27,7 @@ returns-clause-copy f w sites number_of p q s x a b d e n c memory r y z some ro
 pub returns-clause-plain : goal.returns-clause-plain
 returns-clause-plain f w sites number_of kind t p q s x a b d c plain all_raw some memory r y z =
     plain-copied w sites number_of kind t p q s x a b d c plain all_raw some memory r y z
+
+pub returns-clause-tagged_plain : goal.returns-clause-tagged_plain
+returns-clause-tagged_plain f w sites number_of p q s x a b d e n c some memory r y none z =
+    tagged-plain-copied w sites number_of p q s x a b d e n c some memory r y none z

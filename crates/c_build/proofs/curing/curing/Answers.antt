@@ -1,5 +1,5 @@
 use Rattle.std.proofs.Common.{◌∙◌, ap}
-use Rattle.c_types.specs.Flows.{kind_in}
+use Rattle.cc_base.specs.Kinds.{kind_at}
 use Rattle.cil_form.specs.declared.program.Program.{Program}
 use Rattle.c_build.proofs.CuringLaws.{are_types, members_of, targets_named, curing_so}
 use Rattle.c_build.proofs.curing.curing.Goals as goal
@@ -10,7 +10,7 @@ make-requires-clause-used c =
 
 pub cure-requires-clause-targets : goal.cure-requires-clause-targets
 cure-requires-clause-targets c =
-    targets_named c.args.code.now (kind_in c.args.solved.now.kinds) c.in_ok-nodes.nodes c.program-program.ensures.in_shape
+    targets_named c.args.code.now (kind_at c.args.solved.now.kinds) c.in_ok-nodes.nodes c.program-program.ensures.in_shape
     (members_of c.args.code.now c.program-program.result.now c.in_ok-nodes.nodes.used c.deref.result.now c.in_ok-used.used.items
     c.program-program.ensures.same c.in_ok-nodes.ensures.used c.deref.ensures.value c.in_ok-used.ensures)
     c.parents-parents.ensures.nodes
@@ -21,4 +21,4 @@ returns c =
     (c.in_ok-nodes.ensures.table ∙ ap (λ (p : Program). p.types) c.program-program.ensures.same) c.in_ok-nodes.ensures.kinds
     (members_of c.args.code.now c.program-program.result.now c.in_ok-nodes.nodes.used c.deref.result.now c.in_ok-used.used.items
     c.program-program.ensures.same c.in_ok-nodes.ensures.used c.deref.ensures.value c.in_ok-used.ensures)
-    c.parents-parents.ensures.nodes c.cure.ensures.curing
+    c.parents-parents.ensures.nodes c.program-program.ensures.in_shape c.cure.ensures.curing

@@ -1,9 +1,8 @@
 use Rattle.std.proofs.Common.{◌≡◌, map, length}
 use Rattle.std.specs.Prelude.{option_map}
 use Rattle.c_tree.specs.TypedTree.{NoPart}
-use Rattle.c_tree.specs.TypedViews.{typed_part_view}
+use Rattle.c_tree.specs.TypedViews.{typed_part_view, parameters_seen}
 use Rattle.c_tree.specs.Views.{added}
-use Rattle.c_check.specs.CodeViews.{parameters_seen}
 use Rattle.c_unit_typing.specs.Units.{declares_parameters}
 use Rattle.c_check.proofs.definitions.nearest_parameters.Given as goal
 

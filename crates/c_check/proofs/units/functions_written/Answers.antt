@@ -3,7 +3,7 @@ use Rattle.c_tree.specs.Tree.{NoExternal}
 use Rattle.c_tree.specs.Views.{added}
 use Rattle.c_tree.specs.StatementViews.{external_view}
 use Rattle.c_unit_typing.specs.DefinitionJudging.{functions_written}
-use Rattle.c_check_declarations.proofs.SeriesLaws.{with_next}
+use Rattle.c_tree.proofs.ListLaws.{with_next}
 use Rattle.c_check.proofs.units.functions_written.Goals as goal
 
 pub loop-external-preserved : goal.loop-external-preserved

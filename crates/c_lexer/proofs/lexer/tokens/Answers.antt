@@ -1,6 +1,7 @@
 use Rattle.std.proofs.Common.{◌∙◌, Err, sym, refl, ap, inl, arith}
 use Rattle.cc_base.specs.declared.fault.Fault.TheVariants.{Refused}
 use Rattle.c_lexer.proofs.CutLaws.{one_cut, one_refusal, cut_not_refused}
+use Rattle.c_lexer.proofs.FewTokens.{few_tokens}
 use Rattle.c_lexer.proofs.ReachedLaws.{cut_at, refused_at, reached_all, reached_step, column_room, rest_fits}
 use Rattle.c_lexer.proofs.lexer.tokens.Goals as goal
 
@@ -44,3 +45,7 @@ returns-clause-accepts c = λ list cut.
 pub returns-clause-refuses : goal.returns-clause-refuses
 returns-clause-refuses c = λ place rule refusal.
     absurd (cut_not_refused c.args.text.now _ place rule (reached_all c.args.text.now _ c.cutting.rest.now c.cutting.position c.cutting.invariant (sym c.cutting-test.ensures)) refusal)
+
+pub returns-clause-few : goal.returns-clause-few
+returns-clause-few c =
+    few_tokens c.args.text.now _ (reached_all c.args.text.now _ c.cutting.rest.now c.cutting.position c.cutting.invariant (sym c.cutting-test.ensures))

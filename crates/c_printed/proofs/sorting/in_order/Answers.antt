@@ -1,6 +1,6 @@
 use Rattle.std.proofs.Common.{◌≡◌, rules}
 use Rattle.std.proofs.lemmas.Fn.{always_returns_same}
-use Rattle.c_printed.proofs.PrintLaws.{in_order_of_sorted}
+use Rattle.c_printed.proofs.Laws.{in_order_of_sorted}
 use Rattle.c_printed.proofs.sorting.in_order.Goals as goal
 
 pub returns-clause-sorted : goal.returns-clause-sorted

@@ -1,11 +1,16 @@
 use Rattle.std.proofs.Common.{map, take}
+use Rattle.c_tree.specs.Views.{added}
 use Rattle.c_tree.specs.TypedTree as typed
 use Rattle.c_tree.specs.TypedStatementViews.{typed_external_view}
-use Rattle.c_tree.specs.Views.{added}
-use Rattle.c_printed.proofs.PrintLaws.{one_more}
+use Rattle.c_printed.proofs.Laws.{prints_nothing}
+use Rattle.c_tree.proofs.ListLaws.{one_more}
 use Rattle.c_printed.proofs.statements.externals.Goals as goal
 
+pub loop-one-init : goal.loop-one-init
+loop-one-init c = record { found = prints_nothing _ }
+
 pub loop-one-preserved : goal.loop-one-preserved
-loop-one-preserved c =
-    rw (one_more typed_external_view c.args.all.now c.loop-one.one-index c.one-item.result c.loop-one-test.true c.one-item.is typed.NoExternal)
-    (c.in_ok-external.ensures (added typed.NoExternal (map typed_external_view (take c.loop-one.one-index c.args.all.now))) c.args.out.now.items c.loop-one.invariant)
+loop-one-preserved c = record {
+  found = rw (one_more typed_external_view c.args.all.now c.loop-one.one-index c.one-item.result c.loop-one-test.true c.one-item.is typed.NoExternal)
+      (c.external.ensures (added typed.NoExternal (map typed_external_view (take c.loop-one.one-index c.args.all.now))) c.args.out.now c.loop-one.invariant.found);
+}

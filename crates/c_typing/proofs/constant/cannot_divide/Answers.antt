@@ -1,11 +1,11 @@
 use Rattle.std.proofs.Common.{◌≡◌, ◌≢◌, ℤ, ap, sym, ◌∙◌, refl, not, false}
 use mir.Syntax.{w128}
 use Rattle.std.proofs.lemmas.Int.{to_z-of_z}
+use Rattle.c_tree.specs.Arithmetic.{operator_of}
 use Rattle.c_tree.specs.declared.operator.Binary.{Binary}
 use Rattle.c_tree.specs.declared.operator.Binary.TheVariants as binary
 use Rattle.integers.specs.Arithmetic as arithmetic
 use Rattle.c_typing.specs.Constants as constants
-use Rattle.c_typing.specs.Constants.{operator_of}
 use Rattle.c_typing.specs.KindViews.{kind_view}
 use Rattle.c_typing.proofs.constant.cannot_divide.Goals as goal
 

@@ -1,10 +1,10 @@
 use Rattle.std.proofs.Common.{sym, ◌∙◌}
 use mir.Syntax.{w128}
 use Rattle.std.proofs.lemmas.Int.{to_z-of_z}
-use Rattle.c_typing.specs.Constants.{operator_of}
 use Rattle.c_typing.specs.KindViews.{kind_view}
 use Rattle.c_typing.proofs.ValueLaws.{divisor_is_some, checked_none, checked_some}
 use Rattle.c_typing.proofs.constant.checked.Goals as goal
+use Rattle.c_tree.specs.Arithmetic.{operator_of}
 
 pub returns-then-cannot_divide : goal.returns-then-cannot_divide
 returns-then-cannot_divide c =

@@ -3,10 +3,11 @@ use mir.Syntax.{w128}
 use mir.Val.{SFits}
 use Rattle.std.proofs.lemmas.Int.{to_z-of_z}
 use Rattle.integers.specs.Arithmetic.{computed}
-use Rattle.c_typing.specs.Constants.{operator_of, cannot_divide}
+use Rattle.c_typing.specs.Constants.{cannot_divide}
 use Rattle.c_typing.specs.KindViews.{kind_view}
 use Rattle.c_typing.proofs.ValueLaws.{values-there}
 use Rattle.c_typing.proofs.constant.checked_values.Goals as goal
+use Rattle.c_tree.specs.Arithmetic.{operator_of}
 
 pub returns-in-Some-Some : goal.returns-in-Some-Some
 returns-in-Some-Some c =

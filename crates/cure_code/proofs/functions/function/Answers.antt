@@ -1,5 +1,5 @@
 use Rattle.std.proofs.Common.{refl, ap, sym, ◌∙◌, map, arith}
-use Rattle.c_types.specs.Flows.{kind_in}
+use Rattle.cc_base.specs.Kinds.{kind_at}
 use Rattle.cil_form.specs.Machine.{plan}
 use Rattle.cure_rules.specs.Functions.{areas_for}
 use Rattle.cure_code.proofs.FunctionLaws.{frame_complete, objects_of_frame, entered_function, never_function}
@@ -28,5 +28,5 @@ returns c =
     (ap (map plan) c.deref.ensures.value ∙ c.in_ok-variables.ensures) refl c.signature_of-sig.ensures
     c.charge_of-charge.ensures.exact c.charge_of-charge.ensures.above (omega (arith, few))
     (c.in_ok-locals.ensures
-    ∙ ap (λ x. areas_for c.args.w.now.layouts.now.table (kind_in c.args.w.now.by_node.now) (map plan x)) (c.deref-2.ensures.value ∙ sym c.deref.ensures.value))
+    ∙ ap (λ x. areas_for c.args.w.now.layouts.now.table (kind_at c.args.w.now.by_node.now) (map plan x)) (c.deref-2.ensures.value ∙ sym c.deref.ensures.value))
     c.in_ok-body.ensures

@@ -1,7 +1,7 @@
 use Rattle.std.proofs.Common.{arith, ◌<◌, ◌≤◌, ◌∷◌, [], ◌≡◌, ◌++◌, ◌∙◌, true, false, ap, sym, subst, refl}
 use Rattle.std.specs.Fmt.{decimal}
 use Rattle.std.proofs.lemmas.Result.{IfErr-weaker, on_ok_weaker}
-use Rattle.cured_code.specs.Ranges.{Names, AreInstrsInRange, nest_limit}
+use Rattle.cured_code.specs.Ranges.{Names, AreInstrsInRange, flat_nest_limit}
 use Rattle.cured_spelling.specs.Lines.{Number, words_text}
 use Rattle.cured_reading.specs.Faults.{Part}
 use Rattle.cured_reading.specs.Openings.{closing_line}
@@ -38,7 +38,7 @@ branch-returns-in_err-end-clause-refused t c =
 pub branch-returns-then-names-ge-NEST_LIMIT-clause-refused : goal.branch-returns-then-names-ge-NEST_LIMIT-clause-refused
 branch-returns-then-names-ge-NEST_LIMIT-clause-refused t c =
     λ before closing parts rest g.
-    if-nested c.args.names.now closing parts rest _ before c.args.lines.now g c.in_ok-a.a c.in_ok-a.ensures.small (c.in_ok-a.ensures.cut ∙ ap (λ l. 32 ∷ (decimal c.in_ok-a.a ++ l)) c.in_ok-end.ensures.ended) (subst (λ (n : Names). nest_limit ≤ n.nest) c.names.view_is c.if-names-ge-NEST_LIMIT.true)
+    if-nested c.args.names.now closing parts rest _ before c.args.lines.now g c.in_ok-a.a c.in_ok-a.ensures.small (c.in_ok-a.ensures.cut ∙ ap (λ l. 32 ∷ (decimal c.in_ok-a.a ++ l)) c.in_ok-end.ensures.ended) (subst (λ (n : Names). flat_nest_limit ≤ n.nest) c.names.view_is c.if-names-ge-NEST_LIMIT.true)
 
 pub branch-returns-in_err-a-2-clause-refused : goal.branch-returns-in_err-a-2-clause-refused
 branch-returns-in_err-a-2-clause-refused t c =
@@ -46,13 +46,13 @@ branch-returns-in_err-a-2-clause-refused t c =
     exit-passes c.from_residual-in_err-a-2.result _ _ c.from_residual-in_err-a-2.ensures.1
     (λ before closing parts rest g.
     refused-as _ _ _ _ _ c.in_err-a-2.ensures.over.0
-    (if-out c.args.names.now closing parts rest _ before c.args.lines.now g c.in_ok-a.a c.in_ok-a.ensures.small (c.in_ok-a.ensures.cut ∙ ap (λ l. 32 ∷ (decimal c.in_ok-a.a ++ l)) c.in_ok-end.ensures.ended) (subst (λ (n : Names). n.nest < nest_limit) c.names.view_is c.if-names-ge-NEST_LIMIT.false)
+    (if-out c.args.names.now closing parts rest _ before c.args.lines.now g c.in_ok-a.a c.in_ok-a.ensures.small (c.in_ok-a.ensures.cut ∙ ap (λ l. 32 ∷ (decimal c.in_ok-a.a ++ l)) c.in_ok-end.ensures.ended) (subst (λ (n : Names). n.nest < flat_nest_limit) c.names.view_is c.if-names-ge-NEST_LIMIT.false)
     (omega (arith, few.slots, c.in_err-a-2.ensures.over.1))))
 
 pub branch-returns-then-a-names-clause-refused : goal.branch-returns-then-a-names-clause-refused
 branch-returns-then-a-names-clause-refused t c =
     λ before closing parts rest g.
-    if-out c.args.names.now closing parts rest _ before c.args.lines.now g c.in_ok-a.a c.in_ok-a.ensures.small (c.in_ok-a.ensures.cut ∙ ap (λ l. 32 ∷ (decimal c.in_ok-a.a ++ l)) c.in_ok-end.ensures.ended) (subst (λ (n : Names). n.nest < nest_limit) c.names.view_is c.if-names-ge-NEST_LIMIT.false)
+    if-out c.args.names.now closing parts rest _ before c.args.lines.now g c.in_ok-a.a c.in_ok-a.ensures.small (c.in_ok-a.ensures.cut ∙ ap (λ l. 32 ∷ (decimal c.in_ok-a.a ++ l)) c.in_ok-end.ensures.ended) (subst (λ (n : Names). n.nest < flat_nest_limit) c.names.view_is c.if-names-ge-NEST_LIMIT.false)
     (omega (arith, c.in_ok-a-2.ensures.same, subst (λ (n : Names). n.slots ≤ c.in_ok-a-2.a) c.names.view_is c.if-a-names.true))
 
 pub branch-returns-in_err-first-clause-refused : goal.branch-returns-in_err-first-clause-refused
@@ -61,7 +61,7 @@ branch-returns-in_err-first-clause-refused t c =
     (λ before closing parts rest g.
     let here : Part = record { names = c.args.names.now; closing = closing } in
     refused-on _ _ _ _ _ _ (if-read c.args.names.now closing parts rest _ before c.args.lines.now g c.in_ok-a.a c.inside_if-inner.result c.inside_if-inner.ensures c.in_ok-a.ensures.small
-    (c.in_ok-a.ensures.cut ∙ ap (λ l. 32 ∷ (decimal c.in_ok-a.a ++ l)) c.in_ok-end.ensures.ended) (subst (λ (n : Names). n.nest < nest_limit) c.names.view_is c.if-names-ge-NEST_LIMIT.false)
+    (c.in_ok-a.ensures.cut ∙ ap (λ l. 32 ∷ (decimal c.in_ok-a.a ++ l)) c.in_ok-end.ensures.ended) (subst (λ (n : Names). n.nest < flat_nest_limit) c.names.view_is c.if-names-ge-NEST_LIMIT.false)
     (omega (arith, c.in_ok-a-2.ensures.same, subst (λ (n : Names). c.in_ok-a-2.a < n.slots) c.names.view_is c.if-a-names.false))) (c.in_err-first.ensures.refused (here ∷ parts) rest))
 
 pub branch-returns-in_err-second-clause-refused : goal.branch-returns-in_err-second-clause-refused
@@ -70,7 +70,7 @@ branch-returns-in_err-second-clause-refused t c =
     (λ before closing parts rest g.
     let here : Part = record { names = c.args.names.now; closing = closing } in
     refused-on _ _ _ _ _ _ (read-on _ _ _ _ _ _ (if-read c.args.names.now closing parts rest _ before c.args.lines.now g c.in_ok-a.a c.inside_if-inner.result c.inside_if-inner.ensures c.in_ok-a.ensures.small
-    (c.in_ok-a.ensures.cut ∙ ap (λ l. 32 ∷ (decimal c.in_ok-a.a ++ l)) c.in_ok-end.ensures.ended) (subst (λ (n : Names). n.nest < nest_limit) c.names.view_is c.if-names-ge-NEST_LIMIT.false)
+    (c.in_ok-a.ensures.cut ∙ ap (λ l. 32 ∷ (decimal c.in_ok-a.a ++ l)) c.in_ok-end.ensures.ended) (subst (λ (n : Names). n.nest < flat_nest_limit) c.names.view_is c.if-names-ge-NEST_LIMIT.false)
     (omega (arith, c.in_ok-a-2.ensures.same, subst (λ (n : Names). c.in_ok-a-2.a < n.slots) c.names.view_is c.if-a-names.false))) (c.in_ok-first.ensures.read (here ∷ parts) rest))
     (c.in_err-second.ensures.refused (here ∷ parts) rest))
 
@@ -79,12 +79,12 @@ branch-returns-clause-read t c =
     λ before closing parts rest g.
     let here : Part = record { names = c.args.names.now; closing = closing } in
     read-on _ _ _ _ _ _ (read-on _ _ _ _ _ _ (if-read c.args.names.now closing parts rest _ before c.args.lines.now g c.in_ok-a.a c.inside_if-inner.result c.inside_if-inner.ensures c.in_ok-a.ensures.small
-    (c.in_ok-a.ensures.cut ∙ ap (λ l. 32 ∷ (decimal c.in_ok-a.a ++ l)) c.in_ok-end.ensures.ended) (subst (λ (n : Names). n.nest < nest_limit) c.names.view_is c.if-names-ge-NEST_LIMIT.false)
+    (c.in_ok-a.ensures.cut ∙ ap (λ l. 32 ∷ (decimal c.in_ok-a.a ++ l)) c.in_ok-end.ensures.ended) (subst (λ (n : Names). n.nest < flat_nest_limit) c.names.view_is c.if-names-ge-NEST_LIMIT.false)
     (omega (arith, c.in_ok-a-2.ensures.same, subst (λ (n : Names). c.in_ok-a-2.a < n.slots) c.names.view_is c.if-a-names.false))) (c.in_ok-first.ensures.read (here ∷ parts) rest)) (c.in_ok-second.ensures.read (here ∷ parts) rest)
 
 pub branch-returns-clause-kept : goal.branch-returns-clause-kept
 branch-returns-clause-kept t c =
-    if-in_range c.args.names.now c.in_ok-a-2.a c.in_ok-first.first c.in_ok-second.second (subst (λ (n : Names). c.in_ok-a-2.a < n.slots) c.names.view_is c.if-a-names.false) (subst (λ (n : Names). n.nest < nest_limit) c.names.view_is c.if-names-ge-NEST_LIMIT.false)
+    if-in_range c.args.names.now c.in_ok-a-2.a c.in_ok-first.first c.in_ok-second.second (subst (λ (n : Names). c.in_ok-a-2.a < n.slots) c.names.view_is c.if-a-names.false) (subst (λ (n : Names). n.nest < flat_nest_limit) c.names.view_is c.if-names-ge-NEST_LIMIT.false)
     (subst (λ n. AreInstrsInRange n c.in_ok-first.first.0.items) c.inside_if-inner.ensures c.in_ok-first.ensures.kept)
     (subst (λ n. AreInstrsInRange n c.in_ok-second.second.0.items) c.inside_if-inner.ensures c.in_ok-second.ensures.kept)
 
@@ -100,7 +100,7 @@ held-returns-in_err-end-clause-refused t c =
 pub held-returns-then-names-ge-NEST_LIMIT-clause-refused : goal.held-returns-then-names-ge-NEST_LIMIT-clause-refused
 held-returns-then-names-ge-NEST_LIMIT-clause-refused t c =
     λ is_loop before closing parts rest g.
-    held-nested c.args.names.now closing parts rest _ before c.args.lines.now is_loop g c.in_ok-end.ensures.ended (subst (λ (n : Names). nest_limit ≤ n.nest) c.names.view_is c.if-names-ge-NEST_LIMIT.true)
+    held-nested c.args.names.now closing parts rest _ before c.args.lines.now is_loop g c.in_ok-end.ensures.ended (subst (λ (n : Names). flat_nest_limit ≤ n.nest) c.names.view_is c.if-names-ge-NEST_LIMIT.true)
 
 pub held-returns-clause-read : goal.held-returns-clause-read
 held-returns-clause-read t c =
@@ -108,7 +108,7 @@ held-returns-clause-read t c =
     (λ h is_loop before closing parts rest g.
     let here : Part = record { names = c.args.names.now; closing = closing } in
     read-on _ _ _ _ _ _ (held-read c.args.names.now closing parts rest _ before c.args.lines.now is_loop c.inside_block-inner.result c.inside_block-inner.ensures g
-    c.in_ok-end.ensures.ended (subst (λ (n : Names). n.nest < nest_limit) c.names.view_is c.if-names-ge-NEST_LIMIT.false)) (h (here ∷ parts) rest))
+    c.in_ok-end.ensures.ended (subst (λ (n : Names). n.nest < flat_nest_limit) c.names.view_is c.if-names-ge-NEST_LIMIT.false)) (h (here ∷ parts) rest))
     c.part.ensures.read
 
 pub held-returns-clause-refused : goal.held-returns-clause-refused
@@ -117,7 +117,7 @@ held-returns-clause-refused t c =
     (λ why h is_loop before closing parts rest g.
     let here : Part = record { names = c.args.names.now; closing = closing } in
     refused-on _ _ _ _ _ _ (held-read c.args.names.now closing parts rest _ before c.args.lines.now is_loop c.inside_block-inner.result c.inside_block-inner.ensures g
-    c.in_ok-end.ensures.ended (subst (λ (n : Names). n.nest < nest_limit) c.names.view_is c.if-names-ge-NEST_LIMIT.false)) (h (here ∷ parts) rest))
+    c.in_ok-end.ensures.ended (subst (λ (n : Names). n.nest < flat_nest_limit) c.names.view_is c.if-names-ge-NEST_LIMIT.false)) (h (here ∷ parts) rest))
     c.part.ensures.refused
 
 -- A part

@@ -1,6 +1,6 @@
 use Rattle.std.proofs.Common.{◌≡◌, List, Some, refl, ap, sym, subst, ◌∙◌}
 use Rattle.cc_base.specs.declared.number.TypeId.{TypeId}
-use Rattle.c_types.specs.declared.site.Site.{Site}
+use Rattle.kind_sites.specs.declared.site.Site.{Site}
 use Rattle.kind_constraints.specs.Adding.{Adds}
 use Rattle.kind_constraints.specs.Pieces.{IsFirstOf, first_in, pointee_of}
 use Rattle.kind_constraints.proofs.Adding.{insert_adds, adds_as}

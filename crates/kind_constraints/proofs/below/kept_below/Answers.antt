@@ -5,7 +5,7 @@ use Rattle.std.proofs.lemmas.List.Elements.{Contains-get_or}
 use Rattle.cc_base.specs.declared.number.TypeId.{TypeId}
 use Rattle.c_types.specs.Table.{Entry, IsType}
 use Rattle.c_types.specs.Equality.{strictly_below}
-use Rattle.c_types.specs.Solutions.{HasBelow}
+use Rattle.kind_sites.specs.Solutions.{HasBelow}
 use Rattle.kind_constraints.specs.Pieces.{AreBelows}
 use Rattle.kind_constraints.proofs.Belows.{type_eq, same_id, below_told, pointees_typed}
 use Rattle.kind_constraints.proofs.Kept.{looked_up, inserted}

@@ -6,7 +6,7 @@ use Rattle.cc_base.specs.declared.number.TypeId.{TypeId}
 use Rattle.cc_base.specs.declared.number.NodeId.{NodeId}
 use Rattle.cc_base.specs.declared.place.Place.{Place}
 use Rattle.c_types.specs.Table.{Entry}
-use Rattle.c_types.specs.Solutions.{HoldsMixed}
+use Rattle.c_types.specs.Contents.{HoldsMixed}
 use Rattle.kind_constraints.specs.Pieces.{AreNodesIn, AreUnionPlaces}
 use Rattle.kind_constraints.proofs.GivenPieces.{contents_pieces}
 use Rattle.kind_constraints.proofs.contents.add_contents.Goals as goal

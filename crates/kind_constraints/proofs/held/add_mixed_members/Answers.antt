@@ -3,7 +3,7 @@ use Rattle.std.specs.List.{Contains}
 use Rattle.std.proofs.lemmas.List.Elements.{Contains-get_or}
 use Rattle.cc_base.specs.declared.number.TypeId.{TypeId}
 use Rattle.c_types.specs.Table.{Entry, members_at}
-use Rattle.c_types.specs.Solutions.{HoldsMixed}
+use Rattle.c_types.specs.Contents.{HoldsMixed}
 use Rattle.kind_constraints.specs.Adding.{OfSome}
 use Rattle.kind_constraints.specs.Pieces.{IsMixedMember}
 use Rattle.kind_constraints.proofs.Adding.{behind_then, adds_more, adds_done, adds_as}

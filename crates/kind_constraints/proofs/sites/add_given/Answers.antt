@@ -1,6 +1,6 @@
 use Rattle.std.specs.Prelude.{OnOk}
 use Rattle.std.proofs.Common.{sym, subst}
-use Rattle.c_types.specs.declared.site.Site.{Site}
+use Rattle.kind_sites.specs.declared.site.Site.{Site}
 use Rattle.kind_constraints.specs.Adding.{Adds}
 use Rattle.kind_constraints.specs.Pieces.{IsGivenBy}
 use Rattle.kind_constraints.proofs.sites.add_given.Goals as goal

@@ -1,6 +1,6 @@
 use Rattle.std.specs.Prelude.{OnOk}
 use Rattle.std.proofs.Common.{List, sym, subst}
-use Rattle.c_types.specs.declared.site.Site.{Site}
+use Rattle.kind_sites.specs.declared.site.Site.{Site}
 use Rattle.c_types.specs.Table.{Entry}
 use Rattle.c_types.specs.Flows.{StandAlike}
 use Rattle.phys_types.specs.Found.{Gains}

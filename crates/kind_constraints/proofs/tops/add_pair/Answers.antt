@@ -1,6 +1,6 @@
 use Rattle.std.proofs.Common.{◌≡◌, List, Some, ap, sym, subst}
 use Rattle.cc_base.specs.declared.number.TypeId.{TypeId}
-use Rattle.c_types.specs.declared.site.Site.{Site}
+use Rattle.kind_sites.specs.declared.site.Site.{Site}
 use Rattle.phys_types.proofs.NumberPairs.{type_pair_eq, same_type_pair}
 use Rattle.kind_constraints.specs.Adding.{Adds}
 use Rattle.kind_constraints.specs.Pieces.{flow_pair_of}

@@ -5,7 +5,7 @@ use Rattle.cc_base.specs.declared.number.TypeId.{TypeId}
 use Rattle.c_types.specs.Table.{Entry, members_at}
 use Rattle.c_types.specs.Equality.{begins_with}
 use Rattle.c_types.specs.Flows.{StandAlike}
-use Rattle.c_types.specs.Solutions.{HoldsMixed}
+use Rattle.c_types.specs.Contents.{HoldsMixed}
 use Rattle.phys_types.specs.Found.{Gains}
 use Rattle.phys_types.proofs.FoundLemmas.{gains_as}
 use Rattle.kind_constraints.specs.Adding.{RelatedBySome}

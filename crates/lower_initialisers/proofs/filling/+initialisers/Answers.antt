@@ -5,7 +5,9 @@ use Rattle.c_tree.specs.TypedTree as typed
 use Rattle.c_tree.specs.TypedStatementViews.{typed_initialiser_view, typed_item_view}
 use Rattle.c_tree.specs.declared.typed_statement.TypedItem.{out-TypedItem}
 use Rattle.lower_exprs.proofs.Laws.{grows_nothing, grows_then}
-use Rattle.lower_initialisers.proofs.Laws.{of_item, one_item, one_more}
+use Rattle.c_tree.proofs.ListLaws.{with_next}
+use Rattle.c_tree.proofs.TypedPartLaws.{of_item}
+use Rattle.lower_initialisers.proofs.Laws.{one_item}
 use Rattle.lower_initialisers.proofs.filling.+initialisers.Goals as goal
 
 pub fill-returns-in-Value : goal.fill-returns-in-Value
@@ -25,7 +27,7 @@ items-loop-one-init t c = record { made = grows_nothing _ _ }
 
 pub items-loop-one-preserved : goal.items-loop-one-preserved
 items-loop-one-preserved t c = record {
-  made = rw (add-one, one_more typed_item_view c.args.all.now c.loop-one.one-index c.one-item.result typed.NoItem c.loop-one-test.true c.one-item.is)
+  made = rw (add-one, with_next typed_item_view c.args.all.now c.loop-one.one-index c.one-item.result c.loop-one-test.true c.one-item.is typed.NoItem)
       (c.item.ensures (added typed.NoItem (map typed_item_view (take c.loop-one.one-index c.args.all.now))) c.args.out.now c.loop-one.invariant.made);
 }
 

@@ -1,6 +1,6 @@
 use Rattle.std.proofs.Common.{◌≡◌, ◌++◌, flat_map, take}
 use Rattle.c_types.specs.Table.{Entry}
-use Rattle.c_types.specs.Solutions.{sites_of_shape}
+use Rattle.kind_sites.specs.Solutions.{sites_of_shape}
 use Rattle.lower_sites.proofs.objects.put_table.Given as goal
 
 abbrev pub invariant-types : goal.invariant-types

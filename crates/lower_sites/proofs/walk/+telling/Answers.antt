@@ -2,7 +2,7 @@ use Rattle.std.proofs.Common.{take}
 use Rattle.c_tree.specs.TypedTree as typed
 use Rattle.c_tree.specs.TypedStatementViews.{typed_block_item_view, typed_block_view}
 use Rattle.c_tree.proofs.TypedStatementViewLaws.{typed_block_item-Statement, typed_block_item-Declaration, typed_block_item-Case, typed_block_item-Default, typed_statement-Block, typed_statement-Express, typed_statement-Empty, typed_statement-If, typed_statement-IfElse, typed_statement-Switch, typed_statement-While, typed_statement-DoWhile, typed_statement-For, typed_statement-ForDeclaration, typed_statement-Break, typed_statement-Continue, typed_statement-Return}
-use Rattle.unit_parts.proofs.Views.{one_more}
+use Rattle.c_tree.proofs.ListLaws.{one_more}
 use Rattle.lower_sites.proofs.NameLaws.{tells_all, tells_begin, tells_kept, tells_skip}
 use Rattle.lower_sites.proofs.walk.+telling.Goals as goal
 

@@ -2,7 +2,7 @@ use Rattle.std.proofs.Common.{map, take}
 use Rattle.c_tree.specs.Views.{added}
 use Rattle.c_tree.specs.TypedTree as typed
 use Rattle.c_tree.specs.TypedStatementViews.{typed_init_declarator_view}
-use Rattle.unit_parts.proofs.Views.{one_more}
+use Rattle.c_tree.proofs.ListLaws.{one_more}
 use Rattle.lower_sites.proofs.NameLaws.{tells_begin}
 use Rattle.lower_sites.proofs.walk.declarators.Goals as goal
 

@@ -1,4 +1,4 @@
-use Rattle.unit_parts.proofs.Views.{of_specifiers}
+use Rattle.c_tree.proofs.TypedPartLaws.{of_specifiers}
 use Rattle.lower_sites.proofs.walk.is_typedef.Goals as goal
 
 pub returns : goal.returns

@@ -1,7 +1,7 @@
 use Rattle.std.proofs.Common.{map, take}
 use Rattle.c_tree.specs.TypedTree as typed
 use Rattle.c_tree.specs.TypedViews.{typed_specifiers_of, typed_specifier_view}
-use Rattle.unit_parts.proofs.Views.{one_longer}
+use Rattle.c_tree.proofs.ListLaws.{one_longer}
 use Rattle.lower_sites.proofs.NameLaws.{typedef_more}
 use Rattle.lower_sites.proofs.walk.is_typedef_list.Goals as goal
 

@@ -1,6 +1,7 @@
 use Rattle.std.proofs.Common.{◌≡◌, map, take}
+use Rattle.c_tree.specs.TypedViews.{parameters_seen}
 use Rattle.c_tree.specs.TypedParts.{parameter_objects}
-use Rattle.lower_units.specs.Heads.{parameters_seen, taken_as}
+use Rattle.lower_units.specs.Heads.{taken_as}
 use Rattle.lower_units.proofs.parameters.listed.Given as goal
 
 -- the parameters so far

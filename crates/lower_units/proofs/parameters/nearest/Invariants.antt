@@ -2,8 +2,7 @@ use Rattle.std.proofs.Common.{◌≡◌, length, map}
 use Rattle.c_tree.specs.Views.{added}
 use Rattle.c_tree.specs.TypedTree as typed
 use Rattle.c_tree.specs.TypedParts.{nearest_parameters}
-use Rattle.c_tree.specs.TypedViews.{typed_part_view}
-use Rattle.lower_units.specs.Heads.{parameters_seen}
+use Rattle.c_tree.specs.TypedViews.{typed_part_view, parameters_seen}
 use Rattle.lower_units.proofs.parameters.nearest.Given as goal
 
 -- those of the rest, where it has none these, are those of all parts

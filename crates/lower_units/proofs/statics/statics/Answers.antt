@@ -2,7 +2,7 @@ use Rattle.std.proofs.Common.{map, take}
 use Rattle.c_tree.specs.Views.{added}
 use Rattle.c_tree.specs.TypedTree as typed
 use Rattle.c_tree.specs.TypedStatementViews.{typed_external_view}
-use Rattle.unit_parts.proofs.Views.{one_more}
+use Rattle.c_tree.proofs.ListLaws.{one_more}
 use Rattle.lower_exprs.specs.Drafts.{context_of}
 use Rattle.lower_units.proofs.StaticLaws.{statics_none}
 use Rattle.lower_units.proofs.statics.statics.Goals as goal

@@ -2,7 +2,8 @@ use Rattle.std.specs.Prelude.{◌↔◌}
 use Rattle.std.proofs.Common.{List, sym, subst}
 use Rattle.std.specs.List.{Contains}
 use Rattle.cc_base.specs.declared.number.NodeId.{NodeId}
-use Rattle.c_types.specs.Flows.{kind_in, CorrespondByPlace}
+use Rattle.cc_base.specs.Kinds.{kind_at}
+use Rattle.c_types.specs.Flows.{CorrespondByPlace}
 use Rattle.phys_types.specs.Pairs.{HaveNodes}
 use Rattle.rtti_nodes.proofs.PointerKinds.{in_range, class_tells}
 use Rattle.rtti_nodes.proofs.covering.is_class_by_pairs.Goals as goal
@@ -19,6 +20,6 @@ have_equal_kinds-requires-clause-second c a b m =
 
 pub returns : goal.returns
 returns c =
-    class_tells c.args.known.now (kind_in c.args.kinds.now) c.args.t c.args.u c.deref.result.now
+    class_tells c.args.known.now (kind_at c.args.kinds.now) c.args.t c.args.u c.deref.result.now
     (subst (λ (xs : List (NodeId × NodeId)). (x y : NodeId) → Contains xs (x, y) ↔ HaveNodes (CorrespondByPlace c.args.known.now c.args.t c.args.u) x y) (sym c.deref.ensures.value) c.in_ok-pairs.ensures)
     c.have_equal_kinds.result (sym c.if-not-is_equal.ensures) c.have_equal_kinds.ensures

@@ -1,6 +1,6 @@
 use Rattle.std.proofs.Common.{List, ap, sym, subst, ◌∙◌}
 use Rattle.std.specs.List.{All}
-use Rattle.c_types.specs.Flows.{kind_in}
+use Rattle.cc_base.specs.Kinds.{kind_at}
 use Rattle.c_types.specs.Table.{IsType, shape_at}
 use Rattle.phys_types.specs.declared.spot.Spot.{Spot}
 use Rattle.phys_types.specs.Numbers.{number_in}
@@ -20,6 +20,6 @@ slots_label-requires-clause-parameters c =
 pub returns-in_default : goal.returns-in_default
 returns-in_default c =
     c.spots_label.ensures
-    ∙ ap (λ (ss : List Spot). mixed_all 0 (spot_label (kind_in c.args.kinds.now) (number_in c.args.numbers.now)) ss) c.deref.ensures.value
-    ∙ sym (data_label c.args.types.now (kind_in c.args.kinds.now) (number_in c.args.numbers.now) c.args.layout.now (shape_at c.args.types.now c.args.t)
+    ∙ ap (λ (ss : List Spot). mixed_all 0 (spot_label (kind_at c.args.kinds.now) (number_in c.args.numbers.now)) ss) c.deref.ensures.value
+    ∙ sym (data_label c.args.types.now (kind_at c.args.kinds.now) (number_in c.args.numbers.now) c.args.layout.now (shape_at c.args.types.now c.args.t)
     (no_function c.args.types.now c.args.t (λ ps r e. c.in_default.not-Function ps r (c.shape.ensures ∙ e))))

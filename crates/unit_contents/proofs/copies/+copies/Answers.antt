@@ -4,8 +4,8 @@ use Rattle.c_tree.specs.TypedTree as typed
 use Rattle.c_tree.specs.TypedStatementViews.{typed_item_view}
 use Rattle.c_tree.proofs.TypedStatementViewLaws.{typed_initialiser-Value, typed_initialiser-Copied, typed_initialiser-Text, typed_initialiser-Listed}
 use Rattle.unit_parts.proofs.Laws.{asks_nothing, asks_then}
-use Rattle.unit_parts.proofs.Views.{one_more}
-use Rattle.unit_contents.proofs.Items.{of_item}
+use Rattle.c_tree.proofs.ListLaws.{one_more}
+use Rattle.c_tree.proofs.TypedPartLaws.{of_item}
 use Rattle.unit_contents.proofs.copies.+copies.Goals as goal
 
 pub copies-returns-in-Value : goal.copies-returns-in-Value

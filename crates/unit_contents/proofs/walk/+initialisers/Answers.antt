@@ -4,8 +4,8 @@ use Rattle.c_tree.specs.TypedTree as typed
 use Rattle.c_tree.specs.TypedStatementViews.{typed_item_view}
 use Rattle.c_tree.proofs.TypedStatementViewLaws.{typed_initialiser-Value, typed_initialiser-Copied, typed_initialiser-Text, typed_initialiser-Listed}
 use Rattle.unit_parts.proofs.Laws.{collects_nothing, collects_other, collects_then}
-use Rattle.unit_parts.proofs.Views.{one_more}
-use Rattle.unit_contents.proofs.Items.{of_item}
+use Rattle.c_tree.proofs.ListLaws.{one_more}
+use Rattle.c_tree.proofs.TypedPartLaws.{of_item}
 use Rattle.unit_contents.proofs.walk.+initialisers.Goals as goal
 
 pub initialiser-returns-in-Value : goal.initialiser-returns-in-Value

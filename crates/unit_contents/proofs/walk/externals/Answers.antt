@@ -3,7 +3,7 @@ use Rattle.c_tree.specs.Views.{added}
 use Rattle.c_tree.specs.TypedTree as typed
 use Rattle.c_tree.specs.TypedStatementViews.{typed_external_view}
 use Rattle.unit_parts.proofs.Laws.{collects_nothing}
-use Rattle.unit_parts.proofs.Views.{one_more}
+use Rattle.c_tree.proofs.ListLaws.{one_more}
 use Rattle.unit_contents.proofs.walk.externals.Goals as goal
 
 pub loop-one-init : goal.loop-one-init

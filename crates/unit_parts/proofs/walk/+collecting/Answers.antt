@@ -4,7 +4,8 @@ use Rattle.c_tree.specs.TypedTree as typed
 use Rattle.c_tree.specs.TypedViews.{typed_expr_view, typed_specifier_view, typed_members_view, typed_declarator_view, typed_enumerator_view, typed_part_view, typed_parameter_view}
 use Rattle.c_tree.proofs.TypedViewLaws.{typed_expr-Integer, typed_expr-Character, typed_expr-Enumerator, typed_expr-FunctionName, typed_expr-RuntimeName, typed_expr-Paren, typed_expr-Read, typed_expr-Unread, typed_expr-Decay, typed_expr-Convert, typed_expr-Cast, typed_expr-AddressOf, typed_expr-AddressOfElement, typed_expr-AddressOfFunction, typed_expr-FunctionAt, typed_expr-Prefix, typed_expr-SizeOfPlace, typed_expr-SizeOfValue, typed_expr-SizeOfType, typed_expr-StepBefore, typed_expr-StepAfter, typed_expr-Arithmetic, typed_expr-Moved, typed_expr-Difference, typed_expr-Compared, typed_expr-Logical, typed_expr-Conditional, typed_expr-PointerConditional, typed_expr-Comma, typed_expr-Assign, typed_expr-AssignWith, typed_expr-Call, typed_expr-CallRuntime, typed_expr-Allocate, typed_expr-AllocateFor, typed_place-Variable, typed_place-String, typed_place-ParenPlace, typed_place-Target, typed_place-Element, typed_place-Member, typed_place-MemberAt, typed_place-StructAssign, typed_place-StructConditional, typed_place-StructComma, typed_specifier-Keyword, typed_specifier-Typedef, typed_specifier-Tagged, typed_specifier-Aggregate, typed_specifier-Enum, typed_specifier-Enumeration, typed_enumerator-Plain, typed_enumerator-Valued, typed_core-Names, typed_core-Unnamed, typed_core-Nested, typed_part-Array, typed_part-SizedArray, typed_part-Function}
 use Rattle.unit_parts.proofs.Laws.{collects_adjusted, collects_asks, collects_forgotten, collects_kept, collects_nothing, collects_other, collects_silent, collects_stars, collects_then}
-use Rattle.unit_parts.proofs.Views.{of_declarator, of_form, of_members, of_parameter, of_specifiers, of_type_name, one_longer, one_more}
+use Rattle.c_tree.proofs.ListLaws.{one_longer, one_more}
+use Rattle.c_tree.proofs.TypedPartLaws.{of_declarator, of_form, of_members, of_parameter, of_specifiers, of_type_name}
 use Rattle.unit_parts.proofs.walk.+collecting.Goals as goal
 
 pub expr-returns-in-Integer : goal.expr-returns-in-Integer

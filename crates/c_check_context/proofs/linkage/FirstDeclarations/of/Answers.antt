@@ -1,6 +1,6 @@
 use Rattle.std.proofs.Common.{refl, ap, ◌∙◌}
 use Rattle.c_typing.specs.Scopes.{entry_of}
-use Rattle.c_typing.proofs.ScopeLaws.{lookup-seen}
+use Rattle.named_lists.proofs.EntryLaws.{lookup-seen}
 use Rattle.c_check_context.proofs.linkage.FirstDeclarations.of.Goals as goal
 
 pub returns : goal.returns

@@ -1,5 +1,6 @@
 use Rattle.std.proofs.Common.{◌≡◌, ap, ◌∙◌, ◌-◌, ◌<◌, length, get_or, slice_set, map, arith}
-use Rattle.c_typing.proofs.ScopeLaws.{seen_of, here-last, declared-last, on_ok}
+use Rattle.c_typing.specs.Scopes.{with_name}
+use Rattle.c_typing.proofs.ScopeLaws.{seen_of, here-last, changed-last, on_ok}
 use Rattle.c_typing.proofs.scope.Scope.declare.Goals as goal
 
 pub declare-requires-2 : goal.declare-requires-2
@@ -20,7 +21,7 @@ returns-clause-declared c =
     on_ok _ _ c.declare-2.result (λ new.
     ap (λ n. seen_of c.self.inside.file (slice_set c.self.inside.inner.items (n - 1) c.declare-2.new.self) (map (λ k. k.items) c.self.inside.defined.keys) c.self.inside.members.items
     c.self.inside.next_node c.self.inside.globals c.self.inside.cells) e
-    ∙ declared-last c.self.inside.file c.self.inside.inner.items (map (λ k. k.items) c.self.inside.defined.keys) c.self.inside.members.items
-    c.self.inside.next_node c.self.inside.globals c.self.inside.cells c.args.self.now c.args.name.now c.args.what c.index_mut.result.now c.declare-2.new.self
+    ∙ changed-last (with_name c.args.name.now c.args.what) c.self.inside.file c.self.inside.inner.items (map (λ k. k.items) c.self.inside.defined.keys) c.self.inside.members.items
+    c.self.inside.next_node c.self.inside.globals c.self.inside.cells c.args.self.now c.index_mut.result.now c.declare-2.new.self
     c.self.view_is some last new)
     c.declare-2.ensures.declared

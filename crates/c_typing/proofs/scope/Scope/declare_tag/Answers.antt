@@ -1,26 +1,11 @@
-use Rattle.std.proofs.Common.{◌≡◌, ap, ◌∙◌, ◌-◌, ◌<◌, length, get_or, slice_set, map, arith}
-use Rattle.c_typing.proofs.ScopeLaws.{seen_of, tag_here-last, tag_declared-last, on_ok}
+use Rattle.std.proofs.Common.{ap, ◌∙◌}
+use Rattle.c_typing.specs.Scopes.{with_scopes}
+use Rattle.c_typing.proofs.ScopeLaws.{tag_set-new, on_ok}
 use Rattle.c_typing.proofs.scope.Scope.declare_tag.Goals as goal
-
-pub declare_tag-requires-2 : goal.declare_tag-requires-2
-declare_tag-requires-2 c =
-    let e : c.len-count.result ≡ length c.self.inside.inner.items = c.len-count.ensures ∙ c.self.inside.inner.ok.0 in
-    let last : c.index_mut.result.now ≡ get_or c.self.inside.inner.items (length c.self.inside.inner.items - 1) c.index_mut.result.now =
-    c.index_mut.ensures.value ∙ ap (λ n. get_or c.self.inside.inner.items (n - 1) c.index_mut.result.now) e in
-    tag_here-last c.self.inside.file c.self.inside.inner.items (map (λ k. k.items) c.self.inside.defined.keys) c.self.inside.members.items
-    c.self.inside.next_node c.self.inside.globals c.self.inside.cells c.args.self.now c.args.name.now c.index_mut.result.now c.self.view_is
-    (let t = c.if-count-eq0.false in omega (arith, e, t)) last c.requires
 
 pub returns-clause-declared : goal.returns-clause-declared
 returns-clause-declared c =
-    let e : c.len-count.result ≡ length c.self.inside.inner.items = c.len-count.ensures ∙ c.self.inside.inner.ok.0 in
-    let last : c.index_mut.result.now ≡ get_or c.self.inside.inner.items (length c.self.inside.inner.items - 1) c.index_mut.result.now =
-    c.index_mut.ensures.value ∙ ap (λ n. get_or c.self.inside.inner.items (n - 1) c.index_mut.result.now) e in
-    let some : 0 < length c.self.inside.inner.items = let t = c.if-count-eq0.false in omega (arith, e, t) in
-    on_ok _ _ c.declare_tag-2.result (λ new.
-    ap (λ n. seen_of c.self.inside.file (slice_set c.self.inside.inner.items (n - 1) c.declare_tag-2.new.self) (map (λ k. k.items) c.self.inside.defined.keys) c.self.inside.members.items
-    c.self.inside.next_node c.self.inside.globals c.self.inside.cells) e
-    ∙ tag_declared-last c.self.inside.file c.self.inside.inner.items (map (λ k. k.items) c.self.inside.defined.keys) c.self.inside.members.items
-    c.self.inside.next_node c.self.inside.globals c.self.inside.cells c.args.self.now c.args.name.now c.args.what c.index_mut.result.now c.declare_tag-2.new.self
-    c.self.view_is some last new)
-    c.declare_tag-2.ensures.declared
+    on_ok _ _ c.set_tag.result
+    (λ new. new ∙ ap (λ ls. with_scopes c.args.self.now (record c.args.self.now.scopes { levels = ls }))
+    (tag_set-new c.args.name.now c.args.what c.args.self.now.scopes.levels c.requires))
+    c.set_tag.ensures.declared

@@ -34,7 +34,6 @@ invariant_of-result c =
           let made = areas-back _ _ _ _ _ _ c.deref_mut.ensures.value c.deref_mut.ensures.len c.make_areas.ensures.made in
           let bytes = first_bytes-made c.args.plan.now _ _ _ _ _ _ c.from-globals_start.ensures globals list c.in_ok-bytes.ensures refl made in
           kept-first c.args.plan.now _ _ _ _ _ _ _ _ c.requires c.from-globals_start.ensures globals bytes c.in_ok-marks.ensures.items c.in_ok-addresses.ensures.items c.next_multiple_of.ensures.value c.in_ok-marks.ensures.exact (c.in_ok-addresses.ensures.exact ∙ c.div_ceil.ensures);
-      bases_fit = omega (arith, c.in_ok-spare_bases.ensures.exact);
       tags_fit = omega (arith, c.in_ok-spare_tags.ensures.exact, c.div_ceil-2.ensures);
     }
 

@@ -7,6 +7,5 @@ invariant_of-self c =
       kept = let made = area-back _ _ _ _ _ _ c.deref_mut.ensures.value c.deref_mut.ensures.len c.make_area.ensures in
           let fit = block-fits _ _ _ _ _ _ _ _ _ _ _ _ _ _ _ c.self.view_is c.in_ok-size.ensures c.saturating_sub.ensures c.if-charge-self.false c.self.invariant.kept in
           kept-block _ _ _ _ _ _ _ _ _ _ _ _ _ _ _ c.self.view_is made fit.0 fit.1 c.self.invariant.kept;
-      bases_fit = c.self.invariant.bases_fit;
       tags_fit = c.self.invariant.tags_fit;
     }

@@ -30,7 +30,6 @@ invariant_of-self c =
     let listed = c.list_shifted.ensures.added ∙ ap (λ l. c.self.inside.addresses.items ++ l) (ap (map (λ o. c.self.inside.top + o)) c.deref.ensures.value ∙ plan-addresses _ c.args.plan.now _ _ _ c.self.inside.top c.plan.view_is c.plan.invariant small) in
     record {
       kept = kept-pushed _ _ _ _ _ _ _ _ _ _ _ _ _ _ _ _ _ _ _ _ c.self.view_is made first end marked listed c.push_reserved.ensures.capacity c.list_shifted.ensures.capacity c.requires c.self.invariant.kept;
-      bases_fit = c.self.invariant.bases_fit;
       tags_fit = c.self.invariant.tags_fit;
     }
 

@@ -1,6 +1,6 @@
 use Rattle.std.proofs.Common.{refl, ap, ◌∙◌}
-use Rattle.c_typing.specs.Scopes.{entry_of}
-use Rattle.c_typing.proofs.ScopeLaws.{lookup-seen}
+use Rattle.named_lists.specs.Entries.{entry_of}
+use Rattle.named_lists.proofs.EntryLaws.{lookup-seen}
 use Rattle.lower_sites.proofs.firsts.FirstFunctions.of.Goals as goal
 
 pub returns : goal.returns

@@ -1,8 +1,8 @@
 use Rattle.std.specs.Prelude.{List, length, IsFalse}
 use Rattle.std.specs.List.{All}
 use Rattle.std.proofs.Common.{sym, subst}
+use Rattle.cc_base.specs.Kinds.{kind_at}
 use Rattle.c_types.specs.Table.{Table, IsType, is_function}
-use Rattle.c_types.specs.Flows.{kind_in}
 use Rattle.c_types.specs.Sound.{IsWellFormed}
 use Rattle.rtti_nodes.specs.declared.ordering.Sized.{Sized}
 use Rattle.rtti_nodes.specs.TypeNodes.{AreTypeNodes}
@@ -23,7 +23,7 @@ invariant_of-result c =
     let plain = subst (λ (table : Table). All (λ t. IsFalse (is_function table t)) c.args.used.now) (sym c.in_ok-known.ensures) c.requires.data in
     let formed = subst IsWellFormed (sym c.in_ok-known.ensures) c.count.ensures.formed in
     let made = c.in_ok-_firsts.field-0 in
-    let sorted = subst (λ (xs : List Sized). AreSorted c.in_ok-known.known (kind_in c.args.kinds.now) xs (length xs) made.firsts.items made.parents.items made.numbers.items)
+    let sorted = subst (λ (xs : List Sized). AreSorted c.in_ok-known.known (kind_at c.args.kinds.now) xs (length xs) made.firsts.items made.parents.items made.numbers.items)
     c.deref.ensures.value c.in_ok-_firsts.ensures in
     subst (λ (table : Table). AreTypeNodes (record {
       table = table;

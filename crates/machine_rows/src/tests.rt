@@ -1,4 +1,0 @@
-mod code;
-mod memory;
-mod programs;
-mod tags;

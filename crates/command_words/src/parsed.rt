@@ -1,11 +1,21 @@
 //! Words behind a command's own, read by `clap`.
+ghost use Rattle.std.specs.Prelude.{◌≡◌, IfOk, map, true};
+ghost use Rattle.std.specs.String.{string_bytes};
+ghost use Rattle.clap.specs.Words.{app_of, is_simple_and_free};
+ghost use Rattle.command_words.specs.Apps.{Parses, run_app, word_app};
+ghost use Rattle.command_words.specs.Passed.{are_read};
+ghost use Rattle.command_words.specs.Reads.{ReadsRun, ReadsWord};
+
 use crate::fault::WordsFault;
 use clap::error::ErrorKind;
 use clap::{Arg, ArgAction, ArgMatches, Command};
 use std::alloc::{AllocError, Global};
 
 /// The one word that stands behind `kinds`, `cure` or `make`.
-pub(crate) fn only_word<'a>(alloc: Global, words: &'a [String]) -> Result<&'a str, WordsFault> {
+pub(crate) fn only_word<'a>(alloc: Global, words: &'a [String]) -> Result<&'a str, WordsFault>
+    requires { are_read (map string_bytes words.now) ≡ true }
+    ensures { ReadsWord (map string_bytes words.now) result }
+{
     let command = command_of_word(alloc)?;
     let matches = matches_on(command, words)?;
     match matches.get_str("word") {
@@ -18,7 +28,10 @@ pub(crate) fn only_word<'a>(alloc: Global, words: &'a [String]) -> Result<&'a st
 pub(crate) fn run_words<'a>(
     alloc: Global,
     words: &'a [String],
-) -> Result<(&'a str, Option<&'a str>), WordsFault> {
+) -> Result<(&'a str, Option<&'a str>), WordsFault>
+    requires { are_read (map string_bytes words.now) ≡ true }
+    ensures { ReadsRun (map string_bytes words.now) result }
+{
     let command = command_of_run(alloc)?;
     let matches = matches_on(command, words)?;
     match matches.get_str("file") {
@@ -28,7 +41,9 @@ pub(crate) fn run_words<'a>(
 }
 
 /// A command with one word.
-fn command_of_word<'a>(alloc: Global) -> Result<Command<'a>, AllocError> {
+fn command_of_word<'a>(alloc: Global) -> Result<Command<'a>, AllocError>
+    ensures { IfOk result (λ c. app_of c ≡ word_app) }
+{
     let word = Arg::new(alloc, "word")
         .required(true)
         .action(ArgAction::Set);
@@ -39,7 +54,9 @@ fn command_of_word<'a>(alloc: Global) -> Result<Command<'a>, AllocError> {
 }
 
 /// A command with a file and the option `--turns`.
-fn command_of_run<'a>(alloc: Global) -> Result<Command<'a>, AllocError> {
+fn command_of_run<'a>(alloc: Global) -> Result<Command<'a>, AllocError>
+    ensures { IfOk result (λ c. app_of c ≡ run_app) }
+{
     let file = Arg::new(alloc, "file")
         .required(true)
         .action(ArgAction::Set);
@@ -57,7 +74,10 @@ fn command_of_run<'a>(alloc: Global) -> Result<Command<'a>, AllocError> {
 fn matches_on<'a>(
     command: Command<'a>,
     words: &'a [String],
-) -> Result<ArgMatches<'a>, WordsFault> {
+) -> Result<ArgMatches<'a>, WordsFault>
+    requires { is_simple_and_free (app_of command) ≡ true }
+    ensures { Parses (app_of command.entry) (map string_bytes words.now) result }
+{
     match command.try_get_matches_from(words) {
         Ok(matches) => Ok(matches),
         Err(error) => {

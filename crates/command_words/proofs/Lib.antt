@@ -1,0 +1,2 @@
+pub mod WordKinds
+pub mod RunWords

@@ -1,2 +1,4 @@
 pub mod WordKinds
+pub mod Turns
 pub mod RunWords
+pub mod OneWord

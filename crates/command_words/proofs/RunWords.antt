@@ -1,23 +1,24 @@
 -- What the command of a run makes of words that are read: it fails and they are no run's, or it has the file and the turns.
-use Rattle.std.proofs.Common.{ℕ, ◌≡◌, ◌∙◌, sym, ap, subst, refl, List, [], ◌∷◌, ◌++◌, codes, Option, Some, None, Bool, true, false, cond, ◌==◌, ◌&&◌, fold, option_map, option_and_then}
-use Rattle.clap.specs.Words.{App, Row, Rule, Text, Shape, Kinds, first_of, fault_of, is_simple_and_free, matches_of}
-use Rattle.clap.specs.Kinds.{or_else}
+use Rattle.std.proofs.Common.{IsErrAnd, Err, Ok, Result, ap₂, unwrap_or, ◌≢◌, ℕ, ◌≡◌, ◌∙◌, sym, ap, subst, refl, List, [], ◌∷◌, ◌++◌, codes, Option, Some, None, Bool, true, false, cond, ◌==◌, ◌&&◌, fold, option_map, option_and_then}
+use Rattle.clap.specs.Words.{App, Row, Text, Shape, Kinds, first_of, first_value, found_of, fault_of, is_simple_and_free, matches_of}
 use Rattle.clap.specs.Simple.{built}
-use Rattle.clap.specs.Values.{reading_of}
-use Rattle.clap.specs.Faults.{check_fault, defaults_fault, settle_fault, turn_fault, walk_fault}
-use Rattle.clap.specs.Walk.{Held, Walk, Waiting, idle, option, finished, has_row, nothing_held, settled, walk_from, walked}
+use Rattle.clap.specs.Faults.{turn_fault}
+use Rattle.clap.specs.Walk.{Walk, idle, option, has_row, nothing_held, walk_from, walked}
 use Rattle.clap.specs.declared.error.kind.ErrorKind.{ErrorKind}
 use Rattle.clap.specs.declared.error.kind.ErrorKind.TheVariants as kind
-use Rattle.clap.specs.declared.builder.value_parser.ValueParser.TheVariants as vp
-use Rattle.clap.specs.declared.parser.matches.ValueSource.TheVariants.{CommandLine}
+use Rattle.clap.specs.declared.parser.matches.ArgMatches.{ArgMatches}
+use Rattle.std.specs.Borrow.{Bor}
 use Rattle.clap.proofs.FaultLemmas.{leaf_fault}
-use Rattle.clap.proofs.WalkLemmas.{both}
+use Rattle.clap.proofs.WalkLemmas.{both, first_value-rows}
 use Rattle.clap.proofs.OnLiterals.{clap_on_literals}
-use Rattle.command_words.specs.Apps.{run_app}
+use Rattle.command_words.specs.Apps.{Parses, run_app}
 use Rattle.command_words.specs.Commands.{file_of, in_three_words, in_two_words, is_file_name, most_turns, on_file, running}
 use Rattle.command_words.specs.Numbers.{number_of}
+use Rattle.command_words.specs.declared.fault.WordsFault.{WordsFault}
+use Rattle.command_words.specs.declared.fault.WordsFault.TheVariants.{NoCommand, NoMemory}
 use Rattle.command_words.specs.Passed.{are_read, is_read}
-use Rattle.command_words.specs.Reads.{run_of}
+use Rattle.command_words.specs.Reads.{ReadsRun, run_of}
+use Rattle.command_words.proofs.Turns.{at, fails_at, fault_from, passes, row, rows_from}
 use Rattle.command_words.proofs.WordKinds.{IsPlain, by_kind}
 
 pub run_app_is_simple : is_simple_and_free run_app ≡ true
@@ -26,23 +27,6 @@ run_app_is_simple = refl
 
 abbrev top : Shape
 top = (built run_app).top
-
-abbrev rules : List Rule
-rules = top.rules
-
--- what is held at the end of the words, from a place of the walk
-abbrev end_from : Walk → List Text → Held
-end_from w words = (fold (walked rules []) w words).held
-
-abbrev end_fault : Held → Kinds
-end_fault end = or_else (settle_fault rules false end)
-    (or_else (defaults_fault (settled rules end).rows rules) (check_fault top (finished rules end) false))
-
-abbrev fault_from : Walk → List Text → Kinds
-fault_from w words = or_else (walk_fault top [] w words) (end_fault (end_from w words))
-
-abbrev rows_from : Walk → List Text → List Row
-rows_from w words = finished rules (end_from w words)
 
 -- ---- what words come to
 
@@ -53,23 +37,15 @@ pub data Comes (words : List Text) (kinds : Kinds) (rows : List Row) : Type 0 wh
 
 -- what all the words come to, where these are left
 abbrev From : (words : List Text) → Walk → List Text → Type 0
-From words w rest = Comes words (fault_from w rest) (rows_from w rest)
+From words w rest = Comes words (fault_from top w rest) (rows_from top w rest)
 
-goes : (words : List Text) (w v : Walk) (word : Text) (rest : List Text) → turn_fault top [] w word ≡ [] → walked rules [] w word ≡ v
+goes : (words : List Text) (w v : Walk) (word : Text) (rest : List Text) → turn_fault top [] w word ≡ [] → walked top.rules [] w word ≡ v
     → From words v rest → From words w (word ∷ rest)
-unfolding walk_fault
-goes words w v word rest none next h =
-    let there : Comes words (or_else (or_else [] (walk_fault top [] (walked rules [] w word) rest)) (end_fault (end_from (walked rules [] w word) rest)))
-        (rows_from (walked rules [] w word) rest) =
-    subst (λ (x : Walk). Comes words (or_else (or_else [] (walk_fault top [] x rest)) (end_fault (end_from x rest))) (rows_from x rest)) (sym next) h in
-    subst (λ (t : Kinds). Comes words (or_else (or_else t (walk_fault top [] (walked rules [] w word) rest)) (end_fault (end_from (walked rules [] w word) rest)))
-    (rows_from (walked rules [] w word) rest)) (sym none) there
+goes words w v word rest none next h = passes top w word rest (Comes words) v none next h
 
 stops : (words : List Text) (w : Walk) (word : Text) (rest : List Text) (k : ErrorKind) → turn_fault top [] w word ≡ k ∷ [] → running words ≡ None
     → From words w (word ∷ rest)
-unfolding walk_fault
-stops words w word rest k bad none =
-    fails k [] (ap (λ (t : Kinds). or_else (or_else t (walk_fault top [] (walked rules [] w word) rest)) (end_fault (end_from (walked rules [] w word) rest))) bad) none
+stops words w word rest k bad none = fails k [] (fails_at top w word rest k bad) none
 
 -- ---- words that are no run's
 
@@ -90,18 +66,6 @@ none_behind_three a b c three [] = three
 none_behind_three a b c three (d ∷ rest) = refl
 
 -- ---- places of the walk
-
-abbrev row : Text → Text → Row
-row id v = record { id = id; values = v ∷ []; count = None; source = Some CommandLine; reading = reading_of vp.String }
-
-abbrev at : List Row → Option (Text × List Text) → Waiting → ℕ → Walk
-at rows pending waiting position = record {
-  held = record { rows = rows; pending = pending; skip = 0 };
-  waiting = waiting;
-  position = position;
-  is_trailing = false;
-  stopped = None;
-}
 
 abbrev option_word : Text
 option_word = codes "--turns"
@@ -197,3 +161,154 @@ module _ (f v : Text) (before : List Text → List Text) (is_last : running (bef
       (twice (before (option_word ∷ rest)) (is_none option_word rest) (file_row ∷ turns_row ∷ []) refl 2 rest (both _ _ read).1))
       (λ u. stops (before (setting_word u ∷ rest)) setting_last (setting_word u) rest kind.ArgumentConflict refl (is_none (setting_word u) rest))
       c (both _ _ read).0
+
+-- FILE came first, and nothing else yet
+module _ (f : Text) (plain_file : IsPlain f) where
+  abbrev file_first : Walk
+  file_first = at [] (Some (codes "file", f ∷ [])) idle 2
+
+  -- then the option
+  abbrev option_second : Walk
+  option_second = at (row (codes "file") f ∷ []) (Some (codes "turns", [])) (option (codes "turns")) 2
+
+  behind_option : (rest : List Text) → are_read rest ≡ true → From (f ∷ option_word ∷ rest) option_second rest
+  unfolding clap_on_literals
+  behind_option [] read = fails kind.InvalidValue [] refl (rw plain_file.setting refl)
+  behind_option (c ∷ rest) read =
+      by_kind (λ c. From (f ∷ option_word ∷ c ∷ rest) option_second (c ∷ rest))
+      (λ n p. goes (f ∷ option_word ∷ n ∷ rest) option_second (number_last f n (λ more. f ∷ option_word ∷ n ∷ more) (rw plain_file.option refl) (λ d more. refl)) n rest
+      (rw (p.dashes, p.undashed, p.undashed) refl) (rw (p.dashes, p.undashed, p.undashed) refl)
+      (behind_number f n (λ more. f ∷ option_word ∷ n ∷ more) (rw plain_file.option refl) (λ d more. refl) rest (both _ _ read).1))
+      (stops (f ∷ option_word ∷ option_word ∷ rest) option_second option_word rest kind.InvalidValue refl
+      (none_behind_three f option_word option_word (rw plain_file.option (no_number f option_word refl)) rest))
+      (λ u. stops (f ∷ option_word ∷ setting_word u ∷ rest) option_second (setting_word u) rest kind.InvalidValue refl
+      (none_behind_three f option_word (setting_word u) (rw plain_file.option (no_number f (setting_word u) refl)) rest))
+      c (both _ _ read).0
+
+  behind_first_file : (rest : List Text) → are_read rest ≡ true → From (f ∷ rest) file_first rest
+  unfolding clap_on_literals
+  behind_first_file [] read = reads f None refl refl refl refl
+  behind_first_file (c ∷ rest) read =
+      by_kind (λ c. From (f ∷ c ∷ rest) file_first (c ∷ rest))
+      (λ c p. stops (f ∷ c ∷ rest) file_first c rest kind.UnknownArgument (rw (p.dashes, p.undashed, p.undashed) refl)
+      (none_behind_two f c (rw (plain_file.setting, p.setting) refl) (λ d. rw (plain_file.option, p.option) refl) rest))
+      (goes (f ∷ option_word ∷ rest) file_first option_second option_word rest refl refl (behind_option rest (both _ _ read).1))
+      (λ u. goes (f ∷ setting_word u ∷ rest) file_first
+      (setting_last f u (λ more. f ∷ setting_word u ∷ more) (rw plain_file.setting refl) (λ d more. with_setting u d more)) (setting_word u) rest refl refl
+      (behind_setting f u (λ more. f ∷ setting_word u ∷ more) (rw plain_file.setting refl) (λ d more. with_setting u d more) rest (both _ _ read).1))
+      c (both _ _ read).0
+    where
+      with_setting : (u d : Text) (more : List Text) → running (f ∷ setting_word u ∷ d ∷ more) ≡ None
+      with_setting u d more = none_behind_three f (setting_word u) d (rw plain_file.option refl) more
+
+-- the option and N came first
+module _ (n : Text) (plain_number : IsPlain n) where
+  abbrev number_second : Walk
+  number_second = at [] (Some (codes "turns", n ∷ [])) idle 1
+
+  behind_first_number : (rest : List Text) → are_read rest ≡ true → From (option_word ∷ n ∷ rest) number_second rest
+  unfolding clap_on_literals
+  behind_first_number [] read = fails kind.MissingRequiredArgument [] refl (rw plain_number.setting refl)
+  behind_first_number (c ∷ rest) read =
+      by_kind (λ c. From (option_word ∷ n ∷ c ∷ rest) number_second (c ∷ rest))
+      (λ f p. goes (option_word ∷ n ∷ f ∷ rest) number_second (file_last f n (λ more. option_word ∷ n ∷ f ∷ more) refl (λ d more. refl)) f rest
+      (rw (p.dashes, p.undashed, p.undashed) refl) (rw (p.dashes, p.undashed, p.undashed) refl)
+      (behind_file f n (λ more. option_word ∷ n ∷ f ∷ more) refl (λ d more. refl) rest (both _ _ read).1))
+      (goes (option_word ∷ n ∷ option_word ∷ rest) number_second (again (row (codes "turns") n ∷ []) 1) option_word rest refl refl
+      (twice (option_word ∷ n ∷ option_word ∷ rest) (none_behind_three option_word n option_word refl rest) (row (codes "turns") n ∷ []) refl 1 rest (both _ _ read).1))
+      (λ u. stops (option_word ∷ n ∷ setting_word u ∷ rest) number_second (setting_word u) rest kind.ArgumentConflict refl
+      (none_behind_three option_word n (setting_word u) refl rest))
+      c (both _ _ read).0
+
+-- the option came first
+abbrev option_first : Walk
+option_first = at [] (Some (codes "turns", [])) (option (codes "turns")) 1
+
+behind_first_option : (rest : List Text) → are_read rest ≡ true → From (option_word ∷ rest) option_first rest
+unfolding clap_on_literals
+behind_first_option [] read = fails kind.InvalidValue [] refl refl
+behind_first_option (c ∷ rest) read =
+    by_kind (λ c. From (option_word ∷ c ∷ rest) option_first (c ∷ rest))
+    (λ n p. goes (option_word ∷ n ∷ rest) option_first (number_second n p) n rest (rw (p.dashes, p.undashed, p.undashed) refl) (rw (p.dashes, p.undashed, p.undashed) refl)
+    (behind_first_number n p rest (both _ _ read).1))
+    (stops (option_word ∷ option_word ∷ rest) option_first option_word rest kind.InvalidValue refl
+    (none_behind_two option_word option_word refl (λ d. no_number d option_word refl) rest))
+    (λ u. stops (option_word ∷ setting_word u ∷ rest) option_first (setting_word u) rest kind.InvalidValue refl
+    (none_behind_two option_word (setting_word u) refl (λ d. no_number d (setting_word u) refl) rest))
+    c (both _ _ read).0
+
+-- the option and its value came first
+module _ (v : Text) where
+  abbrev setting_first : Walk
+  setting_first = at (row (codes "turns") v ∷ []) None idle 1
+
+  behind_first_setting : (rest : List Text) → are_read rest ≡ true → From (setting_word v ∷ rest) setting_first rest
+  unfolding clap_on_literals
+  behind_first_setting [] read = fails kind.MissingRequiredArgument [] refl refl
+  behind_first_setting (c ∷ rest) read =
+      by_kind (λ c. From (setting_word v ∷ c ∷ rest) setting_first (c ∷ rest))
+      (λ f p. goes (setting_word v ∷ f ∷ rest) setting_first
+      (file_last f v (λ more. setting_word v ∷ f ∷ more) refl (λ d more. none_behind_three (setting_word v) f d (rw p.option refl) more)) f rest
+      (rw (p.dashes, p.undashed, p.undashed) refl) (rw (p.dashes, p.undashed, p.undashed) refl)
+      (behind_file f v (λ more. setting_word v ∷ f ∷ more) refl (λ d more. none_behind_three (setting_word v) f d (rw p.option refl) more) rest (both _ _ read).1))
+      (goes (setting_word v ∷ option_word ∷ rest) setting_first (again (row (codes "turns") v ∷ []) 1) option_word rest refl refl
+      (twice (setting_word v ∷ option_word ∷ rest) (none_behind_two (setting_word v) option_word refl (λ d. refl) rest) (row (codes "turns") v ∷ []) refl 1 rest (both _ _ read).1))
+      (λ u. stops (setting_word v ∷ setting_word u ∷ rest) setting_first (setting_word u) rest kind.ArgumentConflict refl
+      (none_behind_two (setting_word v) (setting_word u) refl (λ d. refl) rest))
+      c (both _ _ read).0
+
+comes : (words : List Text) → are_read words ≡ true → From words (walk_from nothing_held) words
+unfolding clap_on_literals
+comes [] read = fails kind.MissingRequiredArgument [] refl refl
+comes (c ∷ rest) read =
+    by_kind (λ c. From (c ∷ rest) (walk_from nothing_held) (c ∷ rest))
+    (λ f p. goes (f ∷ rest) (walk_from nothing_held) (file_first f p) f rest (rw (p.dashes, p.undashed, p.undashed) refl) (rw (p.dashes, p.undashed, p.undashed) refl)
+    (behind_first_file f p rest (both _ _ read).1))
+    (goes (option_word ∷ rest) (walk_from nothing_held) option_first option_word rest refl refl (behind_first_option rest (both _ _ read).1))
+    (λ v. goes (setting_word v ∷ rest) (walk_from nothing_held) (setting_first v) (setting_word v) rest refl refl (behind_first_setting v rest (both _ _ read).1))
+    c (both _ _ read).0
+
+-- ---- the command on all the words
+
+whole : (words : List Text) → are_read words ≡ true → Comes words (fault_of run_app words) (matches_of run_app words)
+whole words read =
+    subst (λ (k : Kinds). Comes words k (matches_of run_app words)) (sym (leaf_fault (built run_app) nothing_held words refl)) (comes words read)
+
+by_fault : (words : List Text) (kinds : Kinds) (rows : List Row) → Comes words kinds rows → kinds ≢ [] → running words ≡ None
+by_fault words kinds rows (fails k ks same none) bad = none
+by_fault words kinds rows (reads file turns same has_file has_turns is) bad = absurd (bad same)
+
+by_rows : (words : List Text) (kinds : Kinds) (rows : List Row) → Comes words kinds rows → kinds ≡ [] → (file : Text) (turns : Option Text)
+    → Some file ≡ first_of (codes "file") rows → turns ≡ first_of (codes "turns") rows → running words ≡ run_of file turns
+by_rows words kinds rows (fails k ks same none) empty file turns has_file has_turns = absurd (cc (same, empty))
+by_rows words kinds rows (reads f t same is_file is_turns is) empty file turns has_file has_turns =
+    let names : Some f ≡ Some file = sym is_file ∙ sym has_file in
+    is ∙ ap₂ run_of (ap (λ (o : Option Text). unwrap_or o f) names) (sym is_turns ∙ sym has_turns)
+
+without_file : (words : List Text) (kinds : Kinds) (rows : List Row) → Comes words kinds rows → kinds ≡ [] → None ≡ first_of (codes "file") rows → running words ≡ None
+without_file words kinds rows (fails k ks same none) empty missing = none
+without_file words kinds rows (reads f t same is_file is_turns is) empty missing = absurd (cc (missing, is_file))
+
+module _ (words : List Text) (read : are_read words ≡ true) (a : App) (is_app : a ≡ run_app) where
+  on_app : Comes words (fault_of a words) (matches_of a words)
+  on_app = subst (λ (b : App). Comes words (fault_of b words) (matches_of b words)) (sym is_app) (whole words read)
+
+  -- an error that is passed up says what it should
+  pub refused : (r : Result (Bor Text × Option (Bor Text)) WordsFault) (fault : WordsFault) → Parses a words (Err fault)
+      → IsErrAnd r (λ (e : WordsFault). e ≡ fault) → ReadsRun words r
+  refused (Ok x) fault parses same = absurd same
+  refused (Err NoMemory) fault parses same = tt {0}
+  refused (Err NoCommand) fault parses same =
+      by_fault words (fault_of a words) (matches_of a words) on_app (subst (λ (e : WordsFault). Parses a words (Err e)) (sym same) parses)
+
+  module _ (m : ArgMatches) (parses : Parses a words (Ok m)) where
+    found : (id : Text) → first_value (found_of m) id ≡ first_of id (matches_of a words)
+    found id = first_value-rows (found_of m) id ∙ ap (first_of id) parses.1
+
+    pub taken : (file : Text) (turns : Option Text) → Some file ≡ first_value (found_of m) (codes "file") → turns ≡ first_value (found_of m) (codes "turns")
+        → running words ≡ run_of file turns
+    taken file turns has_file has_turns =
+        by_rows words (fault_of a words) (matches_of a words) on_app parses.0 file turns (has_file ∙ found (codes "file")) (has_turns ∙ found (codes "turns"))
+
+    pub without : None ≡ first_value (found_of m) (codes "file") → running words ≡ None
+    without missing = without_file words (fault_of a words) (matches_of a words) on_app parses.0 (missing ∙ found (codes "file"))

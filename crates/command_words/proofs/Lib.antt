@@ -2,3 +2,4 @@ pub mod WordKinds
 pub mod Turns
 pub mod RunWords
 pub mod OneWord
+pub mod Refused

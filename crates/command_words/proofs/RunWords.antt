@@ -49,7 +49,7 @@ stops words w word rest k bad none = fails k [] (fails_at top w word rest k bad)
 
 -- ---- words that are no run's
 
-no_number : (f n : Text) → number_of most_turns n ≡ None → on_file f n ≡ None
+pub no_number : (f n : Text) → number_of most_turns n ≡ None → on_file f n ≡ None
 no_number f n none = go (is_file_name f)
   where
     go : (b : Bool) → option_and_then {U = Text × ℕ} (λ name. option_map (λ k. (name, k)) (number_of most_turns n)) (cond b (Some f) None) ≡ None

@@ -4,7 +4,7 @@ use Rattle.std.specs.Borrow.{Bor}
 use Rattle.clap.specs.Words.{App, Row, Text, Shape, Kinds, first_of, first_value, found_of, fault_of, is_simple_and_free, matches_of}
 use Rattle.clap.specs.Simple.{built}
 use Rattle.clap.specs.Faults.{turn_fault}
-use Rattle.clap.specs.Walk.{Walk, idle, nothing_held, walk_from, walked}
+use Rattle.clap.specs.Walk.{Walk, idle, nothing_held, walk_from}
 use Rattle.clap.specs.declared.error.kind.ErrorKind.{ErrorKind}
 use Rattle.clap.specs.declared.error.kind.ErrorKind.TheVariants as kind
 use Rattle.clap.specs.declared.parser.matches.ArgMatches.{ArgMatches}
@@ -18,7 +18,7 @@ use Rattle.command_words.specs.Reads.{ReadsWord}
 use Rattle.command_words.specs.declared.fault.WordsFault.{WordsFault}
 use Rattle.command_words.specs.declared.fault.WordsFault.TheVariants.{NoCommand, NoMemory}
 use Rattle.command_words.proofs.Turns.{at, fails_at, fault_from, passes, rows_from}
-use Rattle.command_words.proofs.WordKinds.{IsPlain, by_kind}
+use Rattle.command_words.proofs.WordKinds.{by_kind}
 
 pub word_app_is_simple : is_simple_and_free word_app ≡ true
 unfolding clap_on_literals

@@ -1,5 +1,5 @@
 -- Words of which one is refused are no command's.
-use Rattle.std.proofs.Common.{ℕ, ◌≡◌, sym, subst, refl, List, [], ◌∷◌, Option, None, Some, option_map, Bool, true, false, not, cond, ◌==◌, ◌&&◌, ◌||◌, bytes_eq, codes, drop, true≢false, eqb-true}
+use Rattle.std.proofs.Common.{ℕ, ◌≡◌, sym, subst, refl, List, [], ◌∷◌, Option, None, option_map, Bool, true, false, not, cond, ◌&&◌, ◌||◌, bytes_eq, codes, drop, true≢false, eqb-true}
 use Rattle.command_words.specs.declared.command.Action.TheVariants.{Kinds, Cure, Run, Exec}
 use Rattle.command_words.specs.Commands.{Command, OnFile, Make, asked_by, in_three_words, in_two_words, is_file_name, most_turns, on_file, only_file, only_number, running, sets_turns}
 use Rattle.command_words.specs.Numbers.{number_of}

@@ -1,5 +1,5 @@
 -- What the command of a run makes of words that are read: it fails and they are no run's, or it has the file and the turns.
-use Rattle.std.proofs.Common.{IsErrAnd, Err, Ok, Result, ap₂, unwrap_or, ◌≢◌, ℕ, ◌≡◌, ◌∙◌, sym, ap, subst, refl, List, [], ◌∷◌, ◌++◌, codes, Option, Some, None, Bool, true, false, cond, ◌==◌, ◌&&◌, fold, option_map, option_and_then}
+use Rattle.std.proofs.Common.{IsErrAnd, Err, Ok, Result, ap₂, unwrap_or, ◌≢◌, ℕ, ◌≡◌, ◌∙◌, sym, ap, subst, refl, List, [], ◌∷◌, ◌++◌, codes, Option, Some, None, Bool, true, false, cond, ◌==◌, option_map, option_and_then}
 use Rattle.clap.specs.Words.{App, Row, Text, Shape, Kinds, first_of, first_value, found_of, fault_of, is_simple_and_free, matches_of}
 use Rattle.clap.specs.Simple.{built}
 use Rattle.clap.specs.Faults.{turn_fault}
@@ -12,11 +12,11 @@ use Rattle.clap.proofs.FaultLemmas.{leaf_fault}
 use Rattle.clap.proofs.WalkLemmas.{both, first_value-rows}
 use Rattle.clap.proofs.OnLiterals.{clap_on_literals}
 use Rattle.command_words.specs.Apps.{Parses, run_app}
-use Rattle.command_words.specs.Commands.{file_of, in_three_words, in_two_words, is_file_name, most_turns, on_file, running}
+use Rattle.command_words.specs.Commands.{in_three_words, in_two_words, is_file_name, most_turns, on_file, running}
 use Rattle.command_words.specs.Numbers.{number_of}
 use Rattle.command_words.specs.declared.fault.WordsFault.{WordsFault}
 use Rattle.command_words.specs.declared.fault.WordsFault.TheVariants.{NoCommand, NoMemory}
-use Rattle.command_words.specs.Passed.{are_read, is_read}
+use Rattle.command_words.specs.Passed.{are_read}
 use Rattle.command_words.specs.Reads.{ReadsRun, run_of}
 use Rattle.command_words.proofs.Turns.{at, fails_at, fault_from, passes, row, rows_from}
 use Rattle.command_words.proofs.WordKinds.{IsPlain, by_kind}

@@ -1,6 +1,6 @@
 -- A walk of `clap` over words, word by word, for a command with no subcommand.
-use Rattle.std.proofs.Common.{ℕ, ◌≡◌, sym, ap, subst, List, [], ◌∷◌, codes, Option, Some, None, false, fold}
-use Rattle.clap.specs.Words.{Row, Rule, Text, Shape, Kinds}
+use Rattle.std.proofs.Common.{ℕ, ◌≡◌, sym, ap, subst, List, [], ◌∷◌, Option, Some, None, false, fold}
+use Rattle.clap.specs.Words.{Row, Text, Shape, Kinds}
 use Rattle.clap.specs.Kinds.{or_else}
 use Rattle.clap.specs.Values.{reading_of}
 use Rattle.clap.specs.Faults.{check_fault, defaults_fault, settle_fault, turn_fault, walk_fault}

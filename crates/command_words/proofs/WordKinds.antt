@@ -1,5 +1,5 @@
 -- The kinds of words that are read: the option, the option and its value, and other words, which don't begin with `-`.
-use Rattle.std.proofs.Common.{ℕ, ◌≡◌, ◌∙◌, sym, ap, refl, subst, List, [], ◌∷◌, ◌++◌, drop, length, take, Bool, true, false, not, ◌||◌, ◌==◌, nat_eq, bytes_eq, codes, None, true≢false, inl, inr, ◌⊎◌, eqb-true}
+use Rattle.std.proofs.Common.{ℕ, ◌≡◌, ◌∙◌, sym, ap, refl, subst, List, [], ◌∷◌, ◌++◌, drop, take, Bool, true, false, not, ◌||◌, ◌==◌, nat_eq, bytes_eq, codes, None, true≢false, eqb-true}
 use Rattle.std.proofs.lemmas.List.{take-append-drop}
 use Rattle.std.proofs.lemmas.Slice.Eq.{bytes_eq-Decides}
 use Rattle.clap.specs.Lexer.{strip_byte}

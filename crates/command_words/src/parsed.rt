@@ -71,10 +71,7 @@ fn command_of_run<'a>(alloc: Global) -> Result<Command<'a>, AllocError>
 }
 
 /// What a command makes of words.
-fn matches_on<'a>(
-    command: Command<'a>,
-    words: &'a [String],
-) -> Result<ArgMatches<'a>, WordsFault>
+fn matches_on<'a>(command: Command<'a>, words: &'a [String]) -> Result<ArgMatches<'a>, WordsFault>
     requires { is_simple_and_free (app_of command) ≡ true }
     ensures { Parses (app_of command.entry) (map string_bytes words.now) result }
 {

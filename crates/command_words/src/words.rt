@@ -37,11 +37,7 @@ pub fn command_of(alloc: Global, words: &[String]) -> Result<Command<'_>, WordsF
 
 /// What the first word asks for with those behind it.
 #[tactic(auto, using(crate::proofs::Refused::none_asked))]
-fn asked_by<'a>(
-    alloc: Global,
-    first: &str,
-    words: &'a [String],
-) -> Result<Command<'a>, WordsFault>
+fn asked_by<'a>(alloc: Global, first: &str, words: &'a [String]) -> Result<Command<'a>, WordsFault>
     ensures command { Reads command_view (asked_by first.now (map string_bytes words.now)) result }
     ensures few { IfOk result HasFewFunctions }
     ensures memory { result ≡ Err NoMemory

@@ -3,3 +3,4 @@ pub mod Turns
 pub mod RunWords
 pub mod OneWord
 pub mod Refused
+pub mod Asked

@@ -1,4 +1,4 @@
-use Rattle.program_answers.proofs.JudgedStatuses.{has_cause, gives_answer, says_usage}
+use Rattle.program_answers.proofs.JudgedStatuses.{has_cause, gives_answer, says_usage, says_usage_at_once}
 use Rattle.program_top.proofs.top.ccured.Goals as goal
 
 pub returns-clause-cause : goal.returns-clause-cause
@@ -10,3 +10,6 @@ returns-clause-answer g c =
 
 pub returns-clause-usage : goal.returns-clause-usage
 returns-clause-usage g c = says_usage _ _ _ _ _ _ _ (record { verdict = c.judge-verdict.result; cause = c.judge-verdict.ensures; reported = c.report_verdict.ensures })
+
+pub returns-clause-at_once : goal.returns-clause-at_once
+returns-clause-at_once g c = says_usage_at_once _ _ _ _ _ _ _ (record { verdict = c.judge-verdict.result; cause = c.judge-verdict.ensures; reported = c.report_verdict.ensures })

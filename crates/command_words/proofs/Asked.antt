@@ -1,5 +1,5 @@
 -- Words that are a command begin with a command's own word, and each word behind it is read.
-use Rattle.std.proofs.Common.{ℕ, ◌≡◌, refl, List, [], ◌∷◌, Option, None, Some, option_map, Bool, true, false, cond, ◌&&◌, ◌||◌, bytes_eq, codes, true≢false}
+use Rattle.std.proofs.Common.{ℕ, ◌≡◌, refl, List, [], ◌∷◌, None, Some, option_map, Bool, true, false, cond, ◌&&◌, ◌||◌, bytes_eq, codes, true≢false}
 use Rattle.command_words.specs.declared.command.Action.TheVariants.{Kinds, Cure, Run, Exec}
 use Rattle.command_words.specs.Commands.{Command, OnFile, Make, asked_by, command_of, only_file, only_number, running}
 use Rattle.command_words.specs.Passed.{are_asked, are_read, is_name}

@@ -137,7 +137,8 @@ fn running(alloc: Global, words: &[String]) -> Result<(&str, u64), WordsFault>
 
 /// The file and the turns of a run, by the words of both.
 fn run_of<'a>(file: &'a str, turns: Option<&str>) -> Option<(&'a str, u64)>
-    ensures { option_map (λ r. (r.0.now, r.1)) result ≡ run_of file.now (option_map (λ turns. turns.now) turns.entry) }
+    ensures { option_map (λ r. (r.0.now, r.1)) result
+        ≡ run_of file.now (option_map (λ turns. turns.now) turns.entry) }
 {
     let name = file_of(file)?;
     match turns {

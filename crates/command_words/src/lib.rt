@@ -2,8 +2,13 @@
 #![tactic(auto)]
 
 mod command;
+mod fault;
 mod numbers;
+mod parsed;
+#[cfg(test)]
+mod tests;
 mod words;
 
 pub use command::{Action, Command};
+pub use fault::WordsFault;
 pub use words::command_of;

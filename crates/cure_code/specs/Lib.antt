@@ -1,3 +1,4 @@
 pub mod Settings
 pub mod Codes
 pub mod Tabled
+pub mod Alike

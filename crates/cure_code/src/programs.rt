@@ -7,6 +7,8 @@ ghost use Rattle.cure_rules.specs.Programs.{IsCuredProgram};
 ghost use Rattle.cure_ranges.specs.Bodies.{AreTargetsNamed};
 ghost use Rattle.cure_ready.specs.Curable.{HaveFewParameters};
 ghost use Rattle.rtti_nodes.specs.TypeNodes.{node_at};
+ghost use Rattle.sim_laws.specs.Plain.{IsPlainProgram};
+ghost use Rattle.cure_code.specs.Alike.{RunsAsCode};
 ghost use Rattle.cure_code.specs.Settings.{AreMade, IsSet, whole_in};
 ghost use Rattle.cure_code.specs.Tabled.{AreTables, whole_with};
 
@@ -156,6 +158,10 @@ pub fn cure(alloc: Global, code: &Cil, kinds: &Kinds, nodes: &Nodes<'_>) -> Resu
     requires few { HaveFewParameters code.now.types }
     requires targets { AreTargetsNamed code.now (kind_at kinds.now) (node_at nodes.now) (length nodes.now.parents) }
     ensures curing { IfOk result (IsCuredProgram code.now (kind_at kinds.now) (node_at nodes.now) nodes.now.parents) }
+
+    // So it runs as its code, where the kinds make that plain.
+    ensures alike { IfOk result (λ cured. IsPlainProgram code.now (kind_at kinds.now) →
+        RunsAsCode code.now (kind_at kinds.now) (node_at nodes.now) cured) }
 {
     let program = code.program();
     let parents = nodes.parents();

@@ -1,5 +1,5 @@
 -- What justifies how the program reports, also where the outside fails.
-use Rattle.std.specs.Prelude.{ℕ, ◌≡◌, ◌≤◌, ◌<◌, List, length, Option, None, Some, IfSome}
+use Rattle.std.specs.Prelude.{ℕ, ◌≡◌, ◌≤◌, ◌<◌, true, List, length, Option, None, Some, IfSome}
 use Rattle.cc_io.specs.Faults.{Rose}
 use Rattle.cc_io.specs.Bytes.{Keeps, Gains, GainsFront}
 use Rattle.cured_code.specs.declared.parts.Parts.{Parts}
@@ -7,6 +7,7 @@ use Rattle.cured_machine.specs.declared.ending.Ending.{Ending}
 use Rattle.cured_machine.specs.Runs.{Outside, IsRun}
 use Rattle.command_words.specs.declared.command.Action.{Action}
 use Rattle.command_words.specs.Commands.{OnFile, Make, command_of, default_turns}
+use Rattle.command_words.specs.Passed.{are_asked}
 use Rattle.program_gen.specs.Generated.{generated}
 use Rattle.program_answers.specs.declared.verdict.Verdict.{Verdict}
 use Rattle.program_answers.specs.declared.verdict.Verdict.TheVariants.{Done, Usage, FileFault, OutputFault, TextTooLong, NoMemory}
@@ -80,9 +81,11 @@ pub data IsMadeCause (texts : Texts) (n : ℕ) (input output : Outside) (verdict
   made_ran : (lines : List ℕ) (parts : Parts) → IsMadeOf texts n lines parts → (ending : Ending) → verdict ≡ verdict_of_run ending
       → (rest : Outside) → IsBehind lines output rest → IsRun parts default_turns input rest ending → IsMadeCause texts n input output verdict
 
--- Why a verdict is given on the words. The words are judged first, then the file, then the text, then the run.
+-- Why a verdict is given on the words. The words are judged first, then the file, then the text, then the run. To read words that begin as a
+-- command does memory is wanted, whether they are one or not.
 pub data IsCause (texts : Texts) (words : List (List ℕ)) (files : Filed) (input output : Outside) (verdict : Verdict) : Type 0 where
   no_command : command_of words ≡ None → verdict ≡ Usage → IsIdle input output → IsCause texts words files input output verdict
+  unread_words : are_asked words ≡ true → verdict ≡ NoMemory → IsIdle input output → IsCause texts words files input output verdict
   on_file : (action : Action) (name : List ℕ) → command_of words ≡ Some (OnFile action name)
       → IsFileCause texts action name files input output verdict → IsCause texts words files input output verdict
   on_number : (n : ℕ) → command_of words ≡ Some (Make n) → IsMadeCause texts n input output verdict → IsCause texts words files input output verdict

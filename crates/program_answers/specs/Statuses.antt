@@ -1,5 +1,5 @@
 -- What the statuses say, one by one.
-use Rattle.std.specs.Prelude.{ℕ, ◌≡◌, ◌≤◌, List, [], ◌++◌, length, Option, Some, ◌⊎◌, IfSome}
+use Rattle.std.specs.Prelude.{ℕ, ◌≡◌, ◌≤◌, true, List, [], ◌++◌, length, Option, Some, ◌⊎◌, IfSome}
 use Rattle.cc_io.specs.Faults.{Rose}
 use Rattle.cc_io.specs.Bytes.{Takes, Gains}
 use Rattle.runs.specs.Input.{Open}
@@ -8,7 +8,8 @@ use Rattle.cured_code.specs.FlatState.{Wants}
 use Rattle.cured_code.specs.FlatMachine.{flat_run}
 use Rattle.cured_machine.specs.Runs.{Outside}
 use Rattle.command_words.specs.declared.command.Action.{Action}
-use Rattle.command_words.specs.Commands.{Command, OnFile, Make, command_of, default_turns}
+use Rattle.command_words.specs.Commands.{OnFile, Make, command_of, default_turns}
+use Rattle.command_words.specs.Passed.{are_asked}
 use Rattle.program_answers.specs.declared.verdict.Verdict.TheVariants.{FileFault, InputFault, NoMemory}
 use Rattle.program_answers.specs.Verdicts.{line_of, status_of}
 use Rattle.program_answers.specs.Texts.{Texts, IsCodeOf, IsMadeOf, limit_of, turns_of}
@@ -64,10 +65,9 @@ pub record IsCutOff (texts : Texts) (words : List (List ℕ)) (files : Filed) (i
   pub written : Gains output.before output.after (lines ++ (flat_run parts (Open taken) turns).output)
   pub reported : Gains report.before report.after (line_of InputFault)
 
--- memory was wanted, and the words are a command; nothing is read or written, and the report says so
+-- memory was wanted, and the words begin as a command does; nothing is read or written, and the report says so
 pub record IsOutOfMemory (texts : Texts) (words : List (List ℕ)) (input output report : Outside) : Type 0 where
-  pub command : Command
-  pub asked : command_of words ≡ Some command
+  pub asked : are_asked words ≡ true
   pub idle : IsIdle input output
   pub reported : Gains report.before report.after (line_of NoMemory)
 

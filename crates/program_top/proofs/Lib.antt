@@ -1,2 +1,3 @@
 pub mod Causing
 pub mod Generated
+pub mod Sources

@@ -1,12 +1,15 @@
 //! All that the program does.
-ghost use Rattle.std.specs.Prelude.{◌≡◌, ◌≢◌, ◌≤◌, ◌⊎◌, None, length, map};
+ghost use Rattle.std.specs.Prelude.{◌≡◌, ◌≢◌, ◌≤◌, ◌⊎◌, List, None, Some, false, length, map, ℕ};
 ghost use Rattle.std.specs.String.{string_bytes};
 ghost use Rattle.cc_io.specs.Faults.{Rose};
-ghost use Rattle.command_words.specs.Commands.{command_of};
+ghost use Rattle.command_words.specs.Commands.{OnFile, command_of};
+ghost use Rattle.command_words.specs.declared.command.Action.TheVariants.{Run};
+ghost use Rattle.command_words.specs.Passed.{are_asked};
 ghost use Rattle.cured_machine.specs.Runs.{outside};
 ghost use Rattle.program_answers.specs.Causes.{filed, IsCause, IsFileCause, IsJudged, IsTextCause};
 ghost use Rattle.program_answers.specs.Statuses.{GivesAnswer, HasCause};
 ghost use Rattle.program_answers.specs.Texts.{limit_of};
+ghost use Rattle.program_top.specs.AsSource.{GivesSourceAnswer};
 ghost use Rattle.program_top.specs.Made.{texts};
 
 use crate::files::{limit_of, read_text};
@@ -14,7 +17,7 @@ use crate::making::make_text;
 use crate::running::{exec_text, run_text};
 use crate::writing::{cure_text, kinds_text};
 use cc_io::{FileFault, Files, Sink, Source};
-use command_words::{Action, Command, command_of};
+use command_words::{Action, Command, WordsFault, command_of};
 use program_answers::{Verdict, report_verdict};
 use std::alloc::Global;
 
@@ -53,8 +56,23 @@ pub fn ccured<F: Files, I: Source, O: Sink, E: Sink>(
         (outside E.written E.faults report.old report.new)
         result }
 
-    // Words that are no command are refused, and no memory is wanted for that.
+    // THE ANSWER TO `run` IS THE SOURCE'S, where nothing failed, memory was there, and the kinds make the program plain.
+    ensures source { ¬ (Rose (F.faults files.old) (F.faults files.new)) → ¬ (Rose (I.faults input.old) (I.faults input.new)) →
+        ¬ (Rose (O.faults out.old) (O.faults out.new)) → ¬ (Rose (E.faults report.old) (E.faults report.new)) → result ≢ 9 →
+        (name : List ℕ) (turns : ℕ) → command_of (map string_bytes words.now) ≡ Some (OnFile (Run turns) name) →
+        GivesSourceAnswer name turns
+        (filed F.holds F.faults F.last files.old files.new)
+        (outside I.held I.faults input.old input.new)
+        (outside O.written O.faults out.old out.new)
+        (outside E.written E.faults report.old report.new)
+        result }
+
+    // Words that are no command are refused, if memory to read them was there.
     ensures usage { command_of (map string_bytes words.now) ≡ None →
+        (result ≡ 2) ⊎ ((result ≡ 9) ⊎ ((result ≡ 6) × Rose (E.faults report.old) (E.faults report.new))) }
+
+    // No memory is wanted where the first word is no command's own, or a word behind it begins with `-` and isn't the option.
+    ensures at_once { are_asked (map string_bytes words.now) ≡ false →
         (result ≡ 2) ⊎ ((result ≡ 6) × Rose (E.faults report.old) (E.faults report.new)) }
 {
     let verdict = judge(alloc, words, files, input, out);
@@ -75,10 +93,11 @@ fn judge<F: Files, I: Source, O: Sink>(
         (outside O.written O.faults out.old out.new)
         result }
 {
-    match command_of(words) {
-        None => Verdict::Usage,
-        Some(Command::OnFile(action, name)) => on_file(alloc, action, name, files, input, out),
-        Some(Command::Make(n)) => make_text(alloc, n, input, out),
+    match command_of(alloc, words) {
+        Ok(Command::OnFile(action, name)) => on_file(alloc, action, name, files, input, out),
+        Ok(Command::Make(n)) => make_text(alloc, n, input, out),
+        Err(WordsFault::NoCommand) => Verdict::Usage,
+        Err(WordsFault::NoMemory) => Verdict::NoMemory,
     }
 }
 

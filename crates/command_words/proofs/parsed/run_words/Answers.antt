@@ -1,0 +1,18 @@
+use Rattle.std.proofs.Common.{ap, ◌∙◌}
+use Rattle.clap.specs.Words.{is_simple_and_free}
+use Rattle.command_words.proofs.RunWords.{refused, run_app_is_simple, taken, without}
+use Rattle.command_words.proofs.parsed.run_words.Goals as goal
+
+pub matches_on-requires : goal.matches_on-requires
+matches_on-requires c = ap is_simple_and_free c.in_ok-command.ensures ∙ run_app_is_simple
+
+pub returns-in_err-matches : goal.returns-in_err-matches
+returns-in_err-matches c =
+    refused _ c.requires _ c.in_ok-command.ensures c.from_residual-in_err-matches.result c.in_err-matches.field-0.0 c.in_err-matches.ensures
+    c.from_residual-in_err-matches.ensures.1
+
+pub returns-in-Some : goal.returns-in-Some
+returns-in-Some c = taken _ c.requires _ c.in_ok-command.ensures c.in_ok-matches.matches c.in_ok-matches.ensures _ _ c.in-Some.ensures c.get_str-in-Some.ensures
+
+pub returns : goal.returns
+returns c = without _ c.requires _ c.in_ok-command.ensures c.in_ok-matches.matches c.in_ok-matches.ensures c.in-None.ensures

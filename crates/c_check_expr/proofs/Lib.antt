@@ -13,3 +13,4 @@ pub mod RoomLaws
 pub mod GivenLaws
 pub mod LimitFacts
 pub mod LeavingLaws
+pub mod NestLaws

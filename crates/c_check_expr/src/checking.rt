@@ -39,9 +39,6 @@ use c_typing::stops::refusal;
 use c_typing::typing::{side_of, value};
 use cc_base::{Fault, NoMemory, Place, Rule, TypeId};
 
-/// More levels of expressions, specifiers and declarators than the parser lets lie in one another.
-pub(crate) const LEVELS: u16 = 512;
-
 /// The first place of a text.
 pub(crate) const NOWHERE: Place = Place { line: 1, col: 1 };
 
@@ -50,7 +47,7 @@ pub(crate) const NOWHERE: Place = Place { line: 1, col: 1 };
 fn judged_value(scope: &mut Scope, types: &mut Types, e: &Expr) -> Result<Value, Fault>
     ensures { Answers value_view (walks.judge_value (expr_view e.now) (known types.old scope.old)) result (known types.new scope.new) }
 {
-    let x = judge_expr(scope, types, LEVELS, false, e)?;
+    let x = judge_expr(scope, types, false, e)?;
     value(scope, types, x)
 }
 
@@ -123,7 +120,7 @@ pub(crate) fn checked_for(
 ) -> Result<TypedExpr, Fault>
     ensures { Answers typed_expr_view (checking.checked_value to at init (expr_view e.now) (known types.old scope.old)) result (known types.new scope.new) }
 {
-    let x = judge_expr(scope, types, LEVELS, false, e)?;
+    let x = judge_expr(scope, types, false, e)?;
     let part = taken(scope, types, init, to, x)?;
     if !becomes(types, to, part.as_ref()) {
         return Err(refusal(at, Rule::Mismatch));
@@ -186,7 +183,7 @@ fn alone_specifiers(
     ensures { Answers typed_specifiers_view (walks.judge_specifiers_of true (specifiers_view specifiers.now) (known types.old scope.old)) result (known types.new scope.new) }
 {
     let Some((which, at, name)) = tag_alone(specifiers.list.as_slice()) else {
-        return judge_specifiers(scope, types, LEVELS, specifiers);
+        return judge_specifiers(scope, types, specifiers);
     };
     let (one, ty) = tagged_alone(scope, types, which, at, name)?;
     let mut list = Items::new(scope.alloc());
@@ -207,7 +204,7 @@ pub(crate) fn specifiers_by(
     if alone {
         alone_specifiers(scope, types, specifiers)
     } else {
-        judge_specifiers(scope, types, LEVELS, specifiers)
+        judge_specifiers(scope, types, specifiers)
     }
 }
 
@@ -264,6 +261,6 @@ pub(crate) fn declarator_behind(
 {
     let at = name_place(declarator_name(d), NOWHERE);
     let which = naming_of(types, naming, base.ty, d);
-    let form = judge_form(scope, types, LEVELS, which, at, d)?;
+    let form = judge_form(scope, types, which, at, d)?;
     with_type(scope, types, at, size, form, base.ty)
 }

@@ -1,8 +1,9 @@
 //! What stands in a declarator (C99 6.7.5): nodes, homes, sizes and parameters, in the order of the text.
 #![tactic(auto)]
 
-ghost use Rattle.std.specs.Prelude.{◌≡◌, IfOk, List, map};
+ghost use Rattle.std.specs.Prelude.{◌≡◌, IfOk, List, map, suc};
 ghost use Rattle.c_types.specs.Table.{Table};
+ghost use Rattle.c_tree.specs.Depth.{core_height, declarator_height, parameters_height, parts_height};
 ghost use Rattle.c_tree.specs.Tree.{Parts, NoPart, AndFunction, NoParameter};
 ghost use Rattle.c_tree.specs.TypedTree.{TypedParts, AndSizedArray, NoPart as no_typed_part};
 ghost use Rattle.c_tree.specs.Views.{added, core_view, declarator_view, parameter_view, part_view};
@@ -143,9 +144,9 @@ fn sized(
 }
 
 impl<
-    E: Fn(&mut Scope, &mut Types, u16, bool, &Expr) -> Result<Operand, Fault>,
-    S: Fn(&mut Scope, &mut Types, u16, &Specifiers) -> Result<TypedSpecifiers, Fault>,
-    D: Fn(&mut Scope, &mut Types, u16, Naming, Place, &Declarator) -> Result<TypedForm, Fault>,
+    E: Fn(&mut Scope, &mut Types, bool, &Expr) -> Result<Operand, Fault>,
+    S: Fn(&mut Scope, &mut Types, &Specifiers) -> Result<TypedSpecifiers, Fault>,
+    D: Fn(&mut Scope, &mut Types, Naming, Place, &Declarator) -> Result<TypedForm, Fault>,
 > Walker<E, S, D> {
     /// A function part after the parts that are judged.
     #[tactic(auto, using(c_tree::proofs::TypedViewLaws::typed_views, crate::proofs::PartLaws::function_judged))]
@@ -157,7 +158,7 @@ impl<
         paren: Place,
         parameters: &[Parameter],
     ) -> Result<TypedPart, Fault>
-        requires nests { Nests self.now.depth (E.pre self.now.judge_expr) (E.post self.now.judge_expr) (S.pre self.now.judge_specifiers) (S.post self.now.judge_specifiers) (D.pre self.now.judge_form) (D.post self.now.judge_form) }
+        requires nests { Nests (suc (parameters_height (added NoParameter (map parameter_view parameters.now)))) (E.pre self.now.judge_expr) (E.post self.now.judge_expr) (S.pre self.now.judge_specifiers) (S.post self.now.judge_specifiers) (D.pre self.now.judge_form) (D.post self.now.judge_form) }
         ensures { (start : State) (before : Parts) (done : TypedParts) → walks.judge_parts at before start ≡ Gives done (known types.old scope.old) → Answers (λ made. typed_part_view made done) (walks.judge_parts at (AndFunction before paren (added NoParameter (map parameter_view parameters.now))) start) result (known types.new scope.new) }
     {
         let (list, _) = self.prototype_left(scope, types, at, parameters)?;
@@ -165,7 +166,7 @@ impl<
     }
 
     /// A part after those that are judged.
-    #[tactic(auto, using(c_tree::proofs::ViewLaws::expr_views, c_tree::proofs::TypedViewLaws::typed_views), unfolding(c_typing::specs::Walks::judge_parts, c_typing::specs::Walks::judge_value))]
+    #[tactic(auto, using(crate::proofs::NestLaws::nests, c_tree::proofs::ViewLaws::expr_views, c_tree::proofs::TypedViewLaws::typed_views), unfolding(c_typing::specs::Walks::judge_parts, c_typing::specs::Walks::judge_value))]
     pub(crate) fn part(
         &self,
         scope: &mut Scope,
@@ -173,7 +174,7 @@ impl<
         at: Place,
         part: &Part,
     ) -> Result<TypedPart, Fault>
-        requires nests { Nests self.now.depth (E.pre self.now.judge_expr) (E.post self.now.judge_expr) (S.pre self.now.judge_specifiers) (S.post self.now.judge_specifiers) (D.pre self.now.judge_form) (D.post self.now.judge_form) }
+        requires nests { Nests (suc (parts_height (part_view part.now NoPart))) (E.pre self.now.judge_expr) (E.post self.now.judge_expr) (S.pre self.now.judge_specifiers) (S.post self.now.judge_specifiers) (D.pre self.now.judge_form) (D.post self.now.judge_form) }
         ensures { (start : State) (before : Parts) (done : TypedParts) → walks.judge_parts at before start ≡ Gives done (known types.old scope.old) → Answers (λ made. typed_part_view made done) (walks.judge_parts at (part_view part.now before) start) result (known types.new scope.new) }
     {
         match part {
@@ -201,7 +202,7 @@ impl<
         first: Items<TypedPart>,
         rest: &[Part],
     ) -> Result<Items<TypedPart>, Fault>
-        requires nests { Nests self.now.depth (E.pre self.now.judge_expr) (E.post self.now.judge_expr) (S.pre self.now.judge_specifiers) (S.post self.now.judge_specifiers) (D.pre self.now.judge_form) (D.post self.now.judge_form) }
+        requires nests { Nests (suc (parts_height (added NoPart (map part_view rest.now)))) (E.pre self.now.judge_expr) (E.post self.now.judge_expr) (S.pre self.now.judge_specifiers) (S.post self.now.judge_specifiers) (D.pre self.now.judge_form) (D.post self.now.judge_form) }
         ensures { (start : State) (before : Parts) → walks.judge_parts at before start ≡ Gives (added no_typed_part (map typed_part_view first)) (known types.old scope.old) → Answers (λ found. added no_typed_part (map typed_part_view found)) (walks.judge_parts at (added before (map part_view rest.now)) start) result (known types.new scope.new) }
     {
         let mut found = first;
@@ -220,7 +221,7 @@ impl<
         at: Place,
         parts: &[Part],
     ) -> Result<Items<TypedPart>, Fault>
-        requires nests { Nests self.now.depth (E.pre self.now.judge_expr) (E.post self.now.judge_expr) (S.pre self.now.judge_specifiers) (S.post self.now.judge_specifiers) (D.pre self.now.judge_form) (D.post self.now.judge_form) }
+        requires nests { Nests (suc (parts_height (added NoPart (map part_view parts.now)))) (E.pre self.now.judge_expr) (E.post self.now.judge_expr) (S.pre self.now.judge_specifiers) (S.post self.now.judge_specifiers) (D.pre self.now.judge_form) (D.post self.now.judge_form) }
         ensures { Answers (λ found. added no_typed_part (map typed_part_view found)) (walks.judge_parts at (added NoPart (map part_view parts.now)) (known types.old scope.old)) result (known types.new scope.new) }
     {
         self.parts_behind(scope, types, at, Items::new(scope.alloc()), parts)
@@ -236,7 +237,7 @@ impl<
         at: Place,
         core: &Core,
     ) -> Result<TypedCore, Fault>
-        requires nests { Nests self.now.depth (E.pre self.now.judge_expr) (E.post self.now.judge_expr) (S.pre self.now.judge_specifiers) (S.post self.now.judge_specifiers) (D.pre self.now.judge_form) (D.post self.now.judge_form) }
+        requires nests { Nests (suc (core_height (core_view core.now))) (E.pre self.now.judge_expr) (E.post self.now.judge_expr) (S.pre self.now.judge_specifiers) (S.post self.now.judge_specifiers) (D.pre self.now.judge_form) (D.post self.now.judge_form) }
         ensures { Answers typed_core_view (walks.judge_core which at (core_view core.now) (known types.old scope.old)) result (known types.new scope.new) }
     {
         match core {
@@ -253,7 +254,7 @@ impl<
     }
 
     /// What stands in a declarator, whose name is to be this and whose type is named at the place.
-    #[tactic(auto, using(c_tree::proofs::ViewLaws::expr_views, c_tree::proofs::TypedViewLaws::typed_views), unfolding(c_typing::specs::Walks::judge_form))]
+    #[tactic(auto, using(crate::proofs::NestLaws::nests, c_tree::proofs::ViewLaws::expr_views, c_tree::proofs::TypedViewLaws::typed_views), unfolding(c_typing::specs::Walks::judge_form))]
     pub(crate) fn form_layer(
         &self,
         scope: &mut Scope,
@@ -262,7 +263,7 @@ impl<
         at: Place,
         d: &Declarator,
     ) -> Result<TypedForm, Fault>
-        requires nests { Nests self.now.depth (E.pre self.now.judge_expr) (E.post self.now.judge_expr) (S.pre self.now.judge_specifiers) (S.post self.now.judge_specifiers) (D.pre self.now.judge_form) (D.post self.now.judge_form) }
+        requires nests { Nests (declarator_height (declarator_view d.now)) (E.pre self.now.judge_expr) (E.post self.now.judge_expr) (S.pre self.now.judge_specifiers) (S.post self.now.judge_specifiers) (D.pre self.now.judge_form) (D.post self.now.judge_form) }
         ensures { Answers typed_form_view (walks.judge_form which at (declarator_view d.now) (known types.old scope.old)) result (known types.new scope.new) }
     {
         let stars = stars_with_nodes(scope, at, d.stars.as_slice())?;

@@ -1,9 +1,10 @@
 //! Enumerators (C99 6.7.2.2).
 #![tactic(auto)]
 
-ghost use Rattle.std.specs.Prelude.{◌≡◌, ◌≢◌, ◌++◌, ◌||◌, IfOk, IfErr, map, Some, None};
+ghost use Rattle.std.specs.Prelude.{◌≡◌, ◌≢◌, ◌++◌, ◌||◌, IfOk, IfErr, map, Some, None, suc};
 ghost use Rattle.cc_base.specs.declared.fault.Fault.TheVariants.{NoMemory as no_memory};
 ghost use Rattle.c_types.specs.Table.{Table};
+ghost use Rattle.c_tree.specs.Depth.{enumerators_height};
 ghost use Rattle.c_tree.specs.Tree.{Enumerators, NoEnumerator};
 ghost use Rattle.c_tree.specs.TypedTree.{TypedEnumerators, AndValued, NoEnumerator as none_typed};
 ghost use Rattle.c_tree.specs.TypedViews.{typed_enumerator_view};
@@ -151,12 +152,12 @@ fn valued(
 }
 
 impl<
-    E: Fn(&mut Scope, &mut Types, u16, bool, &Expr) -> Result<Operand, Fault>,
-    S: Fn(&mut Scope, &mut Types, u16, &Specifiers) -> Result<TypedSpecifiers, Fault>,
-    D: Fn(&mut Scope, &mut Types, u16, Naming, Place, &Declarator) -> Result<TypedForm, Fault>,
+    E: Fn(&mut Scope, &mut Types, bool, &Expr) -> Result<Operand, Fault>,
+    S: Fn(&mut Scope, &mut Types, &Specifiers) -> Result<TypedSpecifiers, Fault>,
+    D: Fn(&mut Scope, &mut Types, Naming, Place, &Declarator) -> Result<TypedForm, Fault>,
 > Walker<E, S, D> {
     /// An enumerator after those that are judged, of which the last has this value.
-    #[tactic(auto, using(c_tree::proofs::ViewLaws::expr_views), unfolding(c_typing::specs::Walks::judge_enumerators, c_typing::specs::Walks::judge_value))]
+    #[tactic(auto, using(crate::proofs::NestLaws::nests, c_tree::proofs::ViewLaws::expr_views), unfolding(c_typing::specs::Walks::judge_enumerators, c_typing::specs::Walks::judge_value))]
     fn enumerator(
         &self,
         scope: &mut Scope,
@@ -164,7 +165,7 @@ impl<
         last: Option<i128>,
         e: &Enumerator,
     ) -> Result<(TypedEnumerator, i128), Fault>
-        requires nests { Nests self.now.depth (E.pre self.now.judge_expr) (E.post self.now.judge_expr) (S.pre self.now.judge_specifiers) (S.post self.now.judge_specifiers) (D.pre self.now.judge_form) (D.post self.now.judge_form) }
+        requires nests { Nests (suc (enumerators_height (enumerator_view e.now NoEnumerator))) (E.pre self.now.judge_expr) (E.post self.now.judge_expr) (S.pre self.now.judge_specifiers) (S.post self.now.judge_specifiers) (D.pre self.now.judge_form) (D.post self.now.judge_form) }
         ensures answers { (start : State) (before : Enumerators) (done : TypedEnumerators) → last_value done ≡ last → walks.judge_enumerators before start ≡ Gives done (known types.old scope.old) → Answers (λ r. typed_enumerator_view r.0 done) (walks.judge_enumerators (enumerator_view e.now before) start) result (known types.new scope.new) }
         ensures value { IfOk result (λ r. (done : TypedEnumerators) → last_value (typed_enumerator_view r.0 done) ≡ Some r.1) }
     {
@@ -185,7 +186,7 @@ impl<
         types: &mut Types,
         list: &[Enumerator],
     ) -> Result<Items<TypedEnumerator>, Fault>
-        requires nests { Nests self.now.depth (E.pre self.now.judge_expr) (E.post self.now.judge_expr) (S.pre self.now.judge_specifiers) (S.post self.now.judge_specifiers) (D.pre self.now.judge_form) (D.post self.now.judge_form) }
+        requires nests { Nests (suc (enumerators_height (added NoEnumerator (map enumerator_view list.now)))) (E.pre self.now.judge_expr) (E.post self.now.judge_expr) (S.pre self.now.judge_specifiers) (S.post self.now.judge_specifiers) (D.pre self.now.judge_form) (D.post self.now.judge_form) }
         ensures { Answers (λ r. added none_typed (map typed_enumerator_view r)) (walks.judge_enumerators (added NoEnumerator (map enumerator_view list.now)) (known types.old scope.old)) result (known types.new scope.new) }
     {
         let mut found = Items::new(scope.alloc());

@@ -1,7 +1,8 @@
 //! The rules of an expression, over those of its parts, which are judged in the order of the text (C99 6.5).
 #![tactic(auto)]
 
-ghost use Rattle.std.specs.Prelude.{◌≡◌, true, map};
+ghost use Rattle.std.specs.Prelude.{◌≡◌, true, map, suc};
+ghost use Rattle.c_tree.specs.Depth.{arguments_height, expr_height};
 ghost use Rattle.c_tree.specs.declared.operator.Assignment.TheVariants as assignment;
 ghost use Rattle.c_tree.specs.Tree as tree;
 ghost use Rattle.c_tree.specs.Views.{arguments_of, expr_view, type_name_view};
@@ -34,12 +35,12 @@ use c_typing::typing::value;
 use cc_base::{Fault, Place};
 
 impl<
-    E: Fn(&mut Scope, &mut Types, u16, bool, &Expr) -> Result<Operand, Fault>,
-    S: Fn(&mut Scope, &mut Types, u16, &Specifiers) -> Result<TypedSpecifiers, Fault>,
-    D: Fn(&mut Scope, &mut Types, u16, Naming, Place, &Declarator) -> Result<TypedForm, Fault>,
+    E: Fn(&mut Scope, &mut Types, bool, &Expr) -> Result<Operand, Fault>,
+    S: Fn(&mut Scope, &mut Types, &Specifiers) -> Result<TypedSpecifiers, Fault>,
+    D: Fn(&mut Scope, &mut Types, Naming, Place, &Declarator) -> Result<TypedForm, Fault>,
 > Walker<E, S, D> {
     /// `a[b]`.
-    #[tactic(auto, unfolding(c_typing::specs::Walks::judge, c_typing::specs::Walks::judge_value))]
+    #[tactic(auto, using(crate::proofs::NestLaws::nests), unfolding(c_typing::specs::Walks::judge, c_typing::specs::Walks::judge_value))]
     fn index_layer(
         &self,
         scope: &mut Scope,
@@ -49,7 +50,7 @@ impl<
         at: Place,
         b: &Expr,
     ) -> Result<Operand, Fault>
-        requires nests { Nests self.now.depth (E.pre self.now.judge_expr) (E.post self.now.judge_expr) (S.pre self.now.judge_specifiers) (S.post self.now.judge_specifiers) (D.pre self.now.judge_form) (D.post self.now.judge_form) }
+        requires nests { Nests (expr_height (tree.Index (expr_view a.now) at (expr_view b.now))) (E.pre self.now.judge_expr) (E.post self.now.judge_expr) (S.pre self.now.judge_specifiers) (S.post self.now.judge_specifiers) (D.pre self.now.judge_form) (D.post self.now.judge_form) }
         ensures { Answers operand_view (walks.judge called (tree.Index (expr_view a.now) at (expr_view b.now)) (known types.old scope.old)) result (known types.new scope.new) }
     {
         let x = self.value(scope, types, a)?;
@@ -58,7 +59,7 @@ impl<
     }
 
     /// An operator of two operands.
-    #[tactic(auto, unfolding(c_typing::specs::Walks::judge, c_typing::specs::Walks::judge_value))]
+    #[tactic(auto, using(crate::proofs::NestLaws::nests), unfolding(c_typing::specs::Walks::judge, c_typing::specs::Walks::judge_value))]
     fn infix_layer(
         &self,
         scope: &mut Scope,
@@ -69,7 +70,7 @@ impl<
         at: Place,
         b: &Expr,
     ) -> Result<Operand, Fault>
-        requires nests { Nests self.now.depth (E.pre self.now.judge_expr) (E.post self.now.judge_expr) (S.pre self.now.judge_specifiers) (S.post self.now.judge_specifiers) (D.pre self.now.judge_form) (D.post self.now.judge_form) }
+        requires nests { Nests (expr_height (tree.Infix operator (expr_view a.now) at (expr_view b.now))) (E.pre self.now.judge_expr) (E.post self.now.judge_expr) (S.pre self.now.judge_specifiers) (S.post self.now.judge_specifiers) (D.pre self.now.judge_form) (D.post self.now.judge_form) }
         ensures { Answers operand_view (walks.judge called (tree.Infix operator (expr_view a.now) at (expr_view b.now)) (known types.old scope.old)) result (known types.new scope.new) }
     {
         let x = self.value(scope, types, a)?;
@@ -78,7 +79,7 @@ impl<
     }
 
     /// `,`.
-    #[tactic(auto, unfolding(c_typing::specs::Walks::judge, c_typing::specs::Walks::judge_value))]
+    #[tactic(auto, using(crate::proofs::NestLaws::nests), unfolding(c_typing::specs::Walks::judge, c_typing::specs::Walks::judge_value))]
     fn comma_layer(
         &self,
         scope: &mut Scope,
@@ -87,7 +88,7 @@ impl<
         a: &Expr,
         b: &Expr,
     ) -> Result<Operand, Fault>
-        requires nests { Nests self.now.depth (E.pre self.now.judge_expr) (E.post self.now.judge_expr) (S.pre self.now.judge_specifiers) (S.post self.now.judge_specifiers) (D.pre self.now.judge_form) (D.post self.now.judge_form) }
+        requires nests { Nests (expr_height (tree.Comma (expr_view a.now) (expr_view b.now))) (E.pre self.now.judge_expr) (E.post self.now.judge_expr) (S.pre self.now.judge_specifiers) (S.post self.now.judge_specifiers) (D.pre self.now.judge_form) (D.post self.now.judge_form) }
         ensures { Answers operand_view (walks.judge called (tree.Comma (expr_view a.now) (expr_view b.now)) (known types.old scope.old)) result (known types.new scope.new) }
     {
         let x = self.value(scope, types, a)?;
@@ -106,7 +107,7 @@ impl<
         at: Place,
         e: &Expr,
     ) -> Result<Operand, Fault>
-        requires nests { Nests self.now.depth (E.pre self.now.judge_expr) (E.post self.now.judge_expr) (S.pre self.now.judge_specifiers) (S.post self.now.judge_specifiers) (D.pre self.now.judge_form) (D.post self.now.judge_form) }
+        requires nests { Nests (expr_height (tree.Prefix operator at (expr_view e.now))) (E.pre self.now.judge_expr) (E.post self.now.judge_expr) (S.pre self.now.judge_specifiers) (S.post self.now.judge_specifiers) (D.pre self.now.judge_form) (D.post self.now.judge_form) }
         ensures { Answers operand_view (walks.judge called (tree.Prefix operator at (expr_view e.now)) (known types.old scope.old)) result (known types.new scope.new) }
     {
         let x = self.expr(scope, types, false, e)?;
@@ -124,7 +125,7 @@ impl<
         operator: Step,
         at: Place,
     ) -> Result<Operand, Fault>
-        requires nests { Nests self.now.depth (E.pre self.now.judge_expr) (E.post self.now.judge_expr) (S.pre self.now.judge_specifiers) (S.post self.now.judge_specifiers) (D.pre self.now.judge_form) (D.post self.now.judge_form) }
+        requires nests { Nests (expr_height (tree.Postfix (expr_view e.now) operator at)) (E.pre self.now.judge_expr) (E.post self.now.judge_expr) (S.pre self.now.judge_specifiers) (S.post self.now.judge_specifiers) (D.pre self.now.judge_form) (D.post self.now.judge_form) }
         ensures { Answers operand_view (walks.judge called (tree.Postfix (expr_view e.now) operator at) (known types.old scope.old)) result (known types.new scope.new) }
     {
         let x = self.expr(scope, types, false, e)?;
@@ -132,7 +133,7 @@ impl<
     }
 
     /// `?:`.
-    #[tactic(auto, unfolding(c_typing::specs::Walks::judge, c_typing::specs::Walks::judge_value))]
+    #[tactic(auto, using(crate::proofs::NestLaws::nests), unfolding(c_typing::specs::Walks::judge, c_typing::specs::Walks::judge_value))]
     fn conditional_layer(
         &self,
         scope: &mut Scope,
@@ -143,7 +144,7 @@ impl<
         a: &Expr,
         b: &Expr,
     ) -> Result<Operand, Fault>
-        requires nests { Nests self.now.depth (E.pre self.now.judge_expr) (E.post self.now.judge_expr) (S.pre self.now.judge_specifiers) (S.post self.now.judge_specifiers) (D.pre self.now.judge_form) (D.post self.now.judge_form) }
+        requires nests { Nests (expr_height (tree.Conditional (expr_view c.now) at (expr_view a.now) (expr_view b.now))) (E.pre self.now.judge_expr) (E.post self.now.judge_expr) (S.pre self.now.judge_specifiers) (S.post self.now.judge_specifiers) (D.pre self.now.judge_form) (D.post self.now.judge_form) }
         ensures { Answers operand_view (walks.judge called (tree.Conditional (expr_view c.now) at (expr_view a.now) (expr_view b.now)) (known types.old scope.old)) result (known types.new scope.new) }
     {
         let z = self.value(scope, types, c)?;
@@ -153,7 +154,7 @@ impl<
     }
 
     /// `=`.
-    #[tactic(auto, unfolding(c_typing::specs::Walks::judge, c_typing::specs::Walks::judge_value))]
+    #[tactic(auto, using(crate::proofs::NestLaws::nests), unfolding(c_typing::specs::Walks::judge, c_typing::specs::Walks::judge_value))]
     fn assign_layer(
         &self,
         scope: &mut Scope,
@@ -163,7 +164,7 @@ impl<
         at: Place,
         b: &Expr,
     ) -> Result<Operand, Fault>
-        requires nests { Nests self.now.depth (E.pre self.now.judge_expr) (E.post self.now.judge_expr) (S.pre self.now.judge_specifiers) (S.post self.now.judge_specifiers) (D.pre self.now.judge_form) (D.post self.now.judge_form) }
+        requires nests { Nests (expr_height (tree.Assign assignment.Assign (expr_view a.now) at (expr_view b.now))) (E.pre self.now.judge_expr) (E.post self.now.judge_expr) (S.pre self.now.judge_specifiers) (S.post self.now.judge_specifiers) (D.pre self.now.judge_form) (D.post self.now.judge_form) }
         ensures { Answers operand_view (walks.judge called (tree.Assign assignment.Assign (expr_view a.now) at (expr_view b.now)) (known types.old scope.old)) result (known types.new scope.new) }
     {
         let x = self.expr(scope, types, false, a)?;
@@ -172,7 +173,7 @@ impl<
     }
 
     /// A compound assignment.
-    #[tactic(auto, using(crate::proofs::ExprLaws::update_judged))]
+    #[tactic(auto, using(crate::proofs::NestLaws::nests, crate::proofs::ExprLaws::update_judged))]
     fn update_layer(
         &self,
         scope: &mut Scope,
@@ -184,7 +185,7 @@ impl<
         b: &Expr,
     ) -> Result<Operand, Fault>
         requires compound { rules.is_compound operator ≡ true }
-        requires nests { Nests self.now.depth (E.pre self.now.judge_expr) (E.post self.now.judge_expr) (S.pre self.now.judge_specifiers) (S.post self.now.judge_specifiers) (D.pre self.now.judge_form) (D.post self.now.judge_form) }
+        requires nests { Nests (expr_height (tree.Assign operator (expr_view a.now) at (expr_view b.now))) (E.pre self.now.judge_expr) (E.post self.now.judge_expr) (S.pre self.now.judge_specifiers) (S.post self.now.judge_specifiers) (D.pre self.now.judge_form) (D.post self.now.judge_form) }
         ensures { Answers operand_view (walks.judge called (tree.Assign operator (expr_view a.now) at (expr_view b.now)) (known types.old scope.old)) result (known types.new scope.new) }
     {
         let x = self.expr(scope, types, false, a)?;
@@ -203,7 +204,7 @@ impl<
         paren: Place,
         name: &TypeName,
     ) -> Result<Operand, Fault>
-        requires nests { Nests self.now.depth (E.pre self.now.judge_expr) (E.post self.now.judge_expr) (S.pre self.now.judge_specifiers) (S.post self.now.judge_specifiers) (D.pre self.now.judge_form) (D.post self.now.judge_form) }
+        requires nests { Nests (expr_height (tree.SizeOfType at paren (type_name_view name.now))) (E.pre self.now.judge_expr) (E.post self.now.judge_expr) (S.pre self.now.judge_specifiers) (S.post self.now.judge_specifiers) (D.pre self.now.judge_form) (D.post self.now.judge_form) }
         ensures { Answers operand_view (walks.judge called (tree.SizeOfType at paren (type_name_view name.now)) (known types.old scope.old)) result (known types.new scope.new) }
     {
         let name = self.type_name(scope, types, name)?;
@@ -211,7 +212,7 @@ impl<
     }
 
     /// A cast.
-    #[tactic(auto, unfolding(c_typing::specs::Walks::judge, c_typing::specs::Walks::judge_value))]
+    #[tactic(auto, using(crate::proofs::NestLaws::nests), unfolding(c_typing::specs::Walks::judge, c_typing::specs::Walks::judge_value))]
     fn cast_layer(
         &self,
         scope: &mut Scope,
@@ -221,7 +222,7 @@ impl<
         name: &TypeName,
         e: &Expr,
     ) -> Result<Operand, Fault>
-        requires nests { Nests self.now.depth (E.pre self.now.judge_expr) (E.post self.now.judge_expr) (S.pre self.now.judge_specifiers) (S.post self.now.judge_specifiers) (D.pre self.now.judge_form) (D.post self.now.judge_form) }
+        requires nests { Nests (expr_height (tree.Cast at (type_name_view name.now) (expr_view e.now))) (E.pre self.now.judge_expr) (E.post self.now.judge_expr) (S.pre self.now.judge_specifiers) (S.post self.now.judge_specifiers) (D.pre self.now.judge_form) (D.post self.now.judge_form) }
         ensures { Answers operand_view (walks.judge called (tree.Cast at (type_name_view name.now) (expr_view e.now)) (known types.old scope.old)) result (known types.new scope.new) }
     {
         let to = self.type_name(scope, types, name)?;
@@ -239,7 +240,7 @@ impl<
         at: Place,
         e: &Expr,
     ) -> Result<Operand, Fault>
-        requires nests { Nests self.now.depth (E.pre self.now.judge_expr) (E.post self.now.judge_expr) (S.pre self.now.judge_specifiers) (S.post self.now.judge_specifiers) (D.pre self.now.judge_form) (D.post self.now.judge_form) }
+        requires nests { Nests (expr_height (tree.Paren at (expr_view e.now))) (E.pre self.now.judge_expr) (E.post self.now.judge_expr) (S.pre self.now.judge_specifiers) (S.post self.now.judge_specifiers) (D.pre self.now.judge_form) (D.post self.now.judge_form) }
         ensures { Answers operand_view (walks.judge called (tree.Paren at (expr_view e.now)) (known types.old scope.old)) result (known types.new scope.new) }
     {
         let x = self.expr(scope, types, called, e)?;
@@ -258,7 +259,7 @@ impl<
         at: Place,
         word: &Identifier,
     ) -> Result<Operand, Fault>
-        requires nests { Nests self.now.depth (E.pre self.now.judge_expr) (E.post self.now.judge_expr) (S.pre self.now.judge_specifiers) (S.post self.now.judge_specifiers) (D.pre self.now.judge_form) (D.post self.now.judge_form) }
+        requires nests { Nests (expr_height (tree.Member (expr_view e.now) operator at word.now)) (E.pre self.now.judge_expr) (E.post self.now.judge_expr) (S.pre self.now.judge_specifiers) (S.post self.now.judge_specifiers) (D.pre self.now.judge_form) (D.post self.now.judge_form) }
         ensures { Answers operand_view (walks.judge called (tree.Member (expr_view e.now) operator at word.now) (known types.old scope.old)) result (known types.new scope.new) }
     {
         match operator {
@@ -281,7 +282,7 @@ impl<
         types: &mut Types,
         list: &[Expr],
     ) -> Result<Vec<Value>, Fault>
-        requires nests { Nests self.now.depth (E.pre self.now.judge_expr) (E.post self.now.judge_expr) (S.pre self.now.judge_specifiers) (S.post self.now.judge_specifiers) (D.pre self.now.judge_form) (D.post self.now.judge_form) }
+        requires nests { Nests (suc (arguments_height (arguments_of (map expr_view list.now)))) (E.pre self.now.judge_expr) (E.post self.now.judge_expr) (S.pre self.now.judge_specifiers) (S.post self.now.judge_specifiers) (D.pre self.now.judge_form) (D.post self.now.judge_form) }
         ensures { Answers (λ values. map value_view values.items) (walks.judge_arguments (arguments_of (map expr_view list.now)) (known types.old scope.old)) result (known types.new scope.new) }
     {
         let mut values = Vec::new(scope.alloc());
@@ -292,7 +293,7 @@ impl<
     }
 
     /// A call.
-    #[tactic(auto, unfolding(c_typing::specs::Walks::judge))]
+    #[tactic(auto, using(crate::proofs::NestLaws::nests), unfolding(c_typing::specs::Walks::judge))]
     fn call_layer(
         &self,
         scope: &mut Scope,
@@ -302,7 +303,7 @@ impl<
         at: Place,
         arguments: &[Expr],
     ) -> Result<Operand, Fault>
-        requires nests { Nests self.now.depth (E.pre self.now.judge_expr) (E.post self.now.judge_expr) (S.pre self.now.judge_specifiers) (S.post self.now.judge_specifiers) (D.pre self.now.judge_form) (D.post self.now.judge_form) }
+        requires nests { Nests (expr_height (tree.Call (expr_view f.now) at (arguments_of (map expr_view arguments.now)))) (E.pre self.now.judge_expr) (E.post self.now.judge_expr) (S.pre self.now.judge_specifiers) (S.post self.now.judge_specifiers) (D.pre self.now.judge_form) (D.post self.now.judge_form) }
         ensures { Answers operand_view (walks.judge called (tree.Call (expr_view f.now) at (arguments_of (map expr_view arguments.now))) (known types.old scope.old)) result (known types.new scope.new) }
     {
         let x = self.expr(scope, types, true, f)?;
@@ -322,7 +323,7 @@ impl<
         at: Place,
         b: &Expr,
     ) -> Result<Operand, Fault>
-        requires nests { Nests self.now.depth (E.pre self.now.judge_expr) (E.post self.now.judge_expr) (S.pre self.now.judge_specifiers) (S.post self.now.judge_specifiers) (D.pre self.now.judge_form) (D.post self.now.judge_form) }
+        requires nests { Nests (expr_height (tree.Assign operator (expr_view a.now) at (expr_view b.now))) (E.pre self.now.judge_expr) (E.post self.now.judge_expr) (S.pre self.now.judge_specifiers) (S.post self.now.judge_specifiers) (D.pre self.now.judge_form) (D.post self.now.judge_form) }
         ensures { Answers operand_view (walks.judge called (tree.Assign operator (expr_view a.now) at (expr_view b.now)) (known types.old scope.old)) result (known types.new scope.new) }
     {
         match operator {
@@ -340,7 +341,7 @@ impl<
         called: bool,
         e: &Expr,
     ) -> Result<Operand, Fault>
-        requires nests { Nests self.now.depth (E.pre self.now.judge_expr) (E.post self.now.judge_expr) (S.pre self.now.judge_specifiers) (S.post self.now.judge_specifiers) (D.pre self.now.judge_form) (D.post self.now.judge_form) }
+        requires nests { Nests (expr_height (expr_view e.now)) (E.pre self.now.judge_expr) (E.post self.now.judge_expr) (S.pre self.now.judge_specifiers) (S.post self.now.judge_specifiers) (D.pre self.now.judge_form) (D.post self.now.judge_form) }
         ensures { Answers operand_view (walks.judge called (expr_view e.now) (known types.old scope.old)) result (known types.new scope.new) }
     {
         match e {

@@ -1,10 +1,11 @@
 //! Parameters (C99 6.7.5.3).
 #![tactic(auto)]
 
-ghost use Rattle.std.specs.Prelude.{◌≡◌, ◌≢◌, false, Some, None, IfSome, IfOk, IfErr, map, option_map, option_copied};
+ghost use Rattle.std.specs.Prelude.{◌≡◌, ◌≢◌, false, Some, None, IfSome, IfOk, IfErr, map, option_map, option_copied, suc};
 ghost use Rattle.cc_base.specs.declared.fault.Fault.TheVariants.{NoMemory as no_memory};
 ghost use Rattle.c_types.specs.Table.{Table, shape_at};
 ghost use Rattle.c_tree.specs.TypedParts.{declared_home};
+ghost use Rattle.c_tree.specs.Depth.{parameters_height};
 ghost use Rattle.c_tree.specs.Tree.{Parameters, NoParameter, AndParameter, NotDeclared, Specifiers as PlainSpecifiers, AndSpecifier};
 ghost use Rattle.c_tree.specs.TypedTree.{TypedParameters, NoParameter as no_typed_parameter};
 ghost use Rattle.c_tree.specs.Views.{added, declarator_view, declared_of, parameter_view, specifier_view, specifiers_of, specifiers_view};
@@ -258,10 +259,19 @@ fn made_parameter(
     })
 }
 
+/// The innermost scope is left, unless it is the file's.
+fn leave_innermost(scope: &mut Scope)
+    ensures { (table : Table) → known table scope.new ≡ declaring.once_left (known table scope.old) }
+{
+    if scope.depth() > 1 {
+        scope.leave();
+    }
+}
+
 impl<
-    E: Fn(&mut Scope, &mut Types, u16, bool, &Expr) -> Result<Operand, Fault>,
-    S: Fn(&mut Scope, &mut Types, u16, &Specifiers) -> Result<TypedSpecifiers, Fault>,
-    D: Fn(&mut Scope, &mut Types, u16, Naming, Place, &Declarator) -> Result<TypedForm, Fault>,
+    E: Fn(&mut Scope, &mut Types, bool, &Expr) -> Result<Operand, Fault>,
+    S: Fn(&mut Scope, &mut Types, &Specifiers) -> Result<TypedSpecifiers, Fault>,
+    D: Fn(&mut Scope, &mut Types, Naming, Place, &Declarator) -> Result<TypedForm, Fault>,
 > Walker<E, S, D> {
     /// A parameter after those that are judged.
     #[tactic(auto, using(c_tree::proofs::ViewLaws::expr_views, c_tree::proofs::TypedViewLaws::typed_views), unfolding(c_typing::specs::Walks::judge_parameters))]
@@ -272,7 +282,7 @@ impl<
         void: bool,
         one: &Parameter,
     ) -> Result<TypedParameter, Fault>
-        requires nests { Nests self.now.depth (E.pre self.now.judge_expr) (E.post self.now.judge_expr) (S.pre self.now.judge_specifiers) (S.post self.now.judge_specifiers) (D.pre self.now.judge_form) (D.post self.now.judge_form) }
+        requires nests { Nests (suc (parameters_height (parameter_view one.now NoParameter))) (E.pre self.now.judge_expr) (E.post self.now.judge_expr) (S.pre self.now.judge_specifiers) (S.post self.now.judge_specifiers) (D.pre self.now.judge_form) (D.post self.now.judge_form) }
         ensures { (start : State) (before : Parameters) (done : TypedParameters) → walks.judge_parameters void before start ≡ Gives done (known types.old scope.old) → Answers (λ made. typed_parameter_view made done) (walks.judge_parameters void (parameter_view one.now before) start) result (known types.new scope.new) }
     {
         let at = declared_place(&one.specifiers, &one.declarator);
@@ -294,7 +304,7 @@ impl<
         void: bool,
         list: &[Parameter],
     ) -> Result<Items<TypedParameter>, Fault>
-        requires nests { Nests self.now.depth (E.pre self.now.judge_expr) (E.post self.now.judge_expr) (S.pre self.now.judge_specifiers) (S.post self.now.judge_specifiers) (D.pre self.now.judge_form) (D.post self.now.judge_form) }
+        requires nests { Nests (suc (parameters_height (added NoParameter (map parameter_view list.now)))) (E.pre self.now.judge_expr) (E.post self.now.judge_expr) (S.pre self.now.judge_specifiers) (S.post self.now.judge_specifiers) (D.pre self.now.judge_form) (D.post self.now.judge_form) }
         ensures { Answers (λ found. added no_typed_parameter (map typed_parameter_view found)) (walks.judge_parameters void (added NoParameter (map parameter_view list.now)) (known types.old scope.old)) result (known types.new scope.new) }
     {
         let mut found = Items::new(scope.alloc());
@@ -302,6 +312,28 @@ impl<
             found.push(self.parameter(scope, types, void, one)?)?;
         }
         Ok(found)
+    }
+
+    /// Parameters in the scope that is open for them; where they stop, it is left.
+    #[tactic(auto, using(crate::proofs::OutcomeLaws::stop_outside))]
+    fn parameters_inside(
+        &self,
+        scope: &mut Scope,
+        types: &mut Types,
+        void: bool,
+        list: &[Parameter],
+    ) -> Result<Items<TypedParameter>, Fault>
+        requires nests { Nests (suc (parameters_height (added NoParameter (map parameter_view list.now)))) (E.pre self.now.judge_expr) (E.post self.now.judge_expr) (S.pre self.now.judge_specifiers) (S.post self.now.judge_specifiers) (D.pre self.now.judge_form) (D.post self.now.judge_form) }
+        ensures answers { Answers (λ found. added no_typed_parameter (map typed_parameter_view found)) (declaring.stopping_outside (walks.judge_parameters void (added NoParameter (map parameter_view list.now))) (known types.old scope.old)) result (known types.new scope.new) }
+        ensures judged { IfOk result (λ found. walks.judge_parameters void (added NoParameter (map parameter_view list.now)) (known types.old scope.old) ≡ Gives (added no_typed_parameter (map typed_parameter_view found)) (known types.new scope.new)) }
+    {
+        match self.parameters(scope, types, void, list) {
+            Ok(found) => Ok(found),
+            Err(fault) => {
+                leave_innermost(scope);
+                Err(fault)
+            }
+        }
     }
 
     /// Parameters in a scope of their own, with that scope as they leave it.
@@ -313,12 +345,12 @@ impl<
         at: Place,
         list: &[Parameter],
     ) -> Result<(Items<TypedParameter>, Level), Fault>
-        requires nests { Nests self.now.depth (E.pre self.now.judge_expr) (E.post self.now.judge_expr) (S.pre self.now.judge_specifiers) (S.post self.now.judge_specifiers) (D.pre self.now.judge_form) (D.post self.now.judge_form) }
+        requires nests { Nests (suc (parameters_height (added NoParameter (map parameter_view list.now)))) (E.pre self.now.judge_expr) (E.post self.now.judge_expr) (S.pre self.now.judge_specifiers) (S.post self.now.judge_specifiers) (D.pre self.now.judge_form) (D.post self.now.judge_form) }
         ensures level { IfOk result (λ made. level_given (scope_of_list (Some (added NoParameter (map parameter_view list.now))) (known types.old scope.old)) ≡ made.1) }
         ensures answers { Answers (λ made. added no_typed_parameter (map typed_parameter_view made.0)) (walks.judge_prototype at (added NoParameter (map parameter_view list.now)) (known types.old scope.old)) result (known types.new scope.new) }
     {
         scope.enter()?;
-        let found = self.parameters(scope, types, is_void_alone(list), list)?;
+        let found = self.parameters_inside(scope, types, is_void_alone(list), list)?;
         if scope.depth() <= 1 {
             return Err(no_room(at));
         }

@@ -99,7 +99,8 @@ impl Scope {
 
     /// How many scopes are open, the file's among them. Takes no memory.
     pub fn depth(&self) -> usize
-        ensures { result ≡ length self.now.scopes.levels }
+        ensures count { result ≡ length self.now.scopes.levels }
+        ensures some { 0 < length self.now.scopes.levels }
     {
         self.inner.len() + 1
     }

@@ -1,3 +1,4 @@
+use Rattle.std.proofs.Common.{false}
 use Rattle.cc_base.specs.declared.fault.Fault.TheVariants.{Refused}
 use Rattle.c_tree.specs.TypedParts.{made_by}
 use Rattle.c_tree.specs.Views.{expr_view}
@@ -15,6 +16,8 @@ use Rattle.c_check_expr.proofs.AcceptedLaws.{accepted}
 use Rattle.c_unit_typing.specs.Holding.{expr_holds}
 use Rattle.c_check_expr.specs.Limited.{IsWithin}
 use Rattle.c_check_expr.proofs.LimitFacts.{constant-within}
+use Rattle.c_judging_kept.proofs.OpenSteps.{scopes-answer}
+use Rattle.c_judging_kept.proofs.OpenWhole.{checked_constant-open}
 use Rattle.c_check_expr.proofs.calls.check_constant.Goals as goal
 
 pub returns-clause-typed : goal.returns-clause-typed
@@ -41,3 +44,8 @@ returns-clause-limited c =
     let r = known c.checked_constant.new.types c.checked_constant.new.scope in
     given-ok constant_view (checked_constant (expr_view c.args.e.now) s) c.checked_constant.result r (λ v. IsWithin (expr_holds (expr_view c.args.e.now)) s r)
     (λ v h. constant-within (expr_view c.args.e.now) v s r h) c.checked_constant.ensures
+
+pub returns-clause-scopes : goal.returns-clause-scopes
+returns-clause-scopes c =
+    scopes-answer constant_view (checked_constant (expr_view c.args.e.now)) (known c.args.types.now c.args.scope.now) (known c.checked_constant.new.types c.checked_constant.new.scope) c.checked_constant.result
+    (checked_constant-open false (expr_view c.args.e.now)) c.depth.ensures.some c.checked_constant.ensures

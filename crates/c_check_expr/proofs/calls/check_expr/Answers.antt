@@ -18,6 +18,8 @@ use Rattle.c_check_expr.proofs.AcceptedLaws.{accepted}
 use Rattle.c_unit_typing.specs.Holding.{expr_holds}
 use Rattle.c_check_expr.specs.Limited.{IsWithin}
 use Rattle.c_check_expr.proofs.LimitFacts.{expr-within}
+use Rattle.c_judging_kept.proofs.OpenSteps.{scopes-answer}
+use Rattle.c_judging_kept.proofs.OpenWhole.{checked-open}
 use Rattle.c_check_expr.proofs.calls.check_expr.Goals as goal
 
 pub returns-clause-typed : goal.returns-clause-typed
@@ -44,3 +46,8 @@ returns-clause-limited c =
     let r = known c.checked.new.types c.checked.new.scope in
     given-ok typed_expr_view (checked (expr_view c.args.e.now) s) c.checked.result r (λ v. IsWithin (expr_holds (expr_view c.args.e.now)) s r)
     (λ v h. expr-within (expr_view c.args.e.now) v s r h) c.checked.ensures
+
+pub returns-clause-scopes : goal.returns-clause-scopes
+returns-clause-scopes c =
+    scopes-answer typed_expr_view (checked (expr_view c.args.e.now)) (known c.args.types.now c.args.scope.now) (known c.checked.new.types c.checked.new.scope) c.checked.result
+    (checked-open false (expr_view c.args.e.now)) c.depth.ensures.some c.checked.ensures

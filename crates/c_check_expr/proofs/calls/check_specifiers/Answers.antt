@@ -1,3 +1,4 @@
+use Rattle.std.proofs.Common.{false}
 use Rattle.cc_base.specs.declared.fault.Fault.TheVariants.{Refused}
 use Rattle.c_tree.specs.TypedParts.{made_by_specifiers}
 use Rattle.c_tree.specs.TypedViews.{typed_specifiers_view}
@@ -15,6 +16,8 @@ use Rattle.c_check_expr.proofs.AcceptedLaws.{accepted}
 use Rattle.c_unit_typing.specs.Holding.{specifiers_holds}
 use Rattle.c_check_expr.specs.Limited.{IsWithin}
 use Rattle.c_check_expr.proofs.LimitFacts.{specifiers-within}
+use Rattle.c_judging_kept.proofs.OpenSteps.{scopes-answer}
+use Rattle.c_judging_kept.proofs.OpenWhole.{specifiers_of-open}
 use Rattle.c_check_expr.proofs.calls.check_specifiers.Goals as goal
 
 pub returns-clause-typed : goal.returns-clause-typed
@@ -41,3 +44,8 @@ returns-clause-limited c =
     let r = known c.specifiers_by.new.types c.specifiers_by.new.scope in
     given-ok typed_specifiers_view (judge_specifiers_of c.args.alone (specifiers_view c.args.specifiers.now) s) c.specifiers_by.result r (λ v. IsWithin (specifiers_holds (specifiers_view c.args.specifiers.now)) s r)
     (λ v h. specifiers-within c.args.alone (specifiers_view c.args.specifiers.now) v s r h) c.specifiers_by.ensures
+
+pub returns-clause-scopes : goal.returns-clause-scopes
+returns-clause-scopes c =
+    scopes-answer typed_specifiers_view (judge_specifiers_of c.args.alone (specifiers_view c.args.specifiers.now)) (known c.args.types.now c.args.scope.now) (known c.specifiers_by.new.types c.specifiers_by.new.scope) c.specifiers_by.result
+    (specifiers_of-open false c.args.alone (specifiers_view c.args.specifiers.now)) c.depth.ensures.some c.specifiers_by.ensures

@@ -1,3 +1,4 @@
+use Rattle.std.proofs.Common.{false}
 use Rattle.cc_base.specs.declared.fault.Fault.TheVariants.{Refused}
 use Rattle.c_tree.specs.TypedParts.{made_by, made_by_place}
 use Rattle.c_tree.specs.TypedViews.{typed_expr_view}
@@ -16,6 +17,8 @@ use Rattle.c_check_expr.proofs.AcceptedLaws.{accepted}
 use Rattle.c_unit_typing.specs.Holding.{expr_holds}
 use Rattle.c_check_expr.specs.Limited.{IsWithin}
 use Rattle.c_check_expr.proofs.LimitFacts.{value-within}
+use Rattle.c_judging_kept.proofs.OpenSteps.{scopes-answer}
+use Rattle.c_judging_kept.proofs.OpenWhole.{checked_value-open}
 use Rattle.c_check_expr.proofs.calls.check_value.Goals as goal
 
 pub returns-clause-typed : goal.returns-clause-typed
@@ -48,3 +51,8 @@ returns-clause-limited c =
     let r = known c.checked_for.new.types c.checked_for.new.scope in
     given-ok typed_expr_view (checked_value c.args.to c.args.at c.args.init (expr_view c.args.e.now) s) c.checked_for.result r (λ v. IsWithin (expr_holds (expr_view c.args.e.now)) s r)
     (λ v h. value-within c.args.to c.args.at c.args.init (expr_view c.args.e.now) v s r h) c.checked_for.ensures
+
+pub returns-clause-scopes : goal.returns-clause-scopes
+returns-clause-scopes c =
+    scopes-answer typed_expr_view (checked_value c.args.to c.args.at c.args.init (expr_view c.args.e.now)) (known c.args.types.now c.args.scope.now) (known c.checked_for.new.types c.checked_for.new.scope) c.checked_for.result
+    (checked_value-open false c.args.to c.args.at c.args.init (expr_view c.args.e.now)) c.depth.ensures.some c.checked_for.ensures

@@ -5,10 +5,16 @@ use Rattle.c_tree.specs.Views.{arguments_of, expr_view}
 use Rattle.c_typing.specs.Judging.{known}
 use Rattle.c_typing.specs.OperandViews.{value_view}
 use Rattle.c_typing.specs.Walks.{judge_arguments}
+use Rattle.c_tree.specs.Depth.{arguments_height, expr_height}
+use Rattle.c_check_expr.proofs.NestLaws.{nests-seen, arguments_count}
 use Rattle.c_check_expr.proofs.ExprLaws.{argument_goes}
 use Rattle.c_check_expr.proofs.SeriesLaws.{goes_on, fails_on}
 use Rattle.c_check_expr.proofs.StayLaws.{arguments-stay}
 use Rattle.c_check_expr.proofs.walker.Walker.arguments.Goals as goal
+
+pub value-requires : goal.value-requires
+value-requires g c =
+    nests-seen arguments_height AndArgument expr_view expr_height arguments_count c.args.list.now c.loop-e.e-index c.e-item.result c.loop-e-test.true c.e-item.is NoArgument c.requires.nests
 
 pub returns-in_err-value : goal.returns-in_err-value
 returns-in_err-value g c =

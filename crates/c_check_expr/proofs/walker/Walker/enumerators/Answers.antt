@@ -5,9 +5,15 @@ use Rattle.c_tree.specs.TypedViews.{typed_enumerator_view}
 use Rattle.c_tree.specs.Views.{added, enumerator_view}
 use Rattle.c_typing.specs.Judging.{known}
 use Rattle.c_typing.specs.Walks.{judge_enumerators}
+use Rattle.c_tree.specs.Depth.{enumerators_height}
+use Rattle.c_check_expr.proofs.NestLaws.{nests-each, enumerators_count}
 use Rattle.c_check_expr.proofs.SeriesLaws.{fails}
 use Rattle.c_check_expr.proofs.StayLaws.{enumerators-stay}
 use Rattle.c_check_expr.proofs.walker.Walker.enumerators.Goals as goal
+
+pub enumerator-requires : goal.enumerator-requires
+enumerator-requires g c =
+    nests-each enumerators_height enumerator_view (λ x. enumerators_height (enumerator_view x NoEnumerator)) enumerators_count c.args.list.now c.loop-e.e-index c.e-item.result c.loop-e-test.true c.e-item.is NoEnumerator c.requires.nests
 
 pub returns-in_err-one : goal.returns-in_err-one
 returns-in_err-one g c =

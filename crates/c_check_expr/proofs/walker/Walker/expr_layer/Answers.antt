@@ -6,8 +6,57 @@ use Rattle.c_typing.specs.Judging.{known}
 use Rattle.c_typing.specs.OperandViews.{operand_view}
 use Rattle.c_typing.specs.Walks.{judge}
 use Rattle.c_check_expr.proofs.ExprLaws.{leaves_judged}
+use Rattle.c_check_expr.proofs.NestLaws.{nests-of}
 use Rattle.c_check_expr.proofs.OutcomeLaws.{answers-moved}
 use Rattle.c_check_expr.proofs.walker.Walker.expr_layer.Goals as goal
+
+pub paren_layer-requires : goal.paren_layer-requires
+paren_layer-requires g c =
+    nests-of _ (expr_view c.args.e.now) c.requires.nests (first_of (grind (arith, common_steps, view_expr-Paren), search (rules, view_expr-Paren)))
+
+pub index_layer-requires : goal.index_layer-requires
+index_layer-requires g c =
+    nests-of _ (expr_view c.args.e.now) c.requires.nests (first_of (grind (arith, common_steps, view_expr-Index), search (rules, view_expr-Index)))
+
+pub call_layer-requires : goal.call_layer-requires
+call_layer-requires g c =
+    nests-of _ (expr_view c.args.e.now) c.requires.nests (first_of (grind (arith, common_steps, view_expr-Call), search (rules, view_expr-Call)))
+
+pub member_layer-requires : goal.member_layer-requires
+member_layer-requires g c =
+    nests-of _ (expr_view c.args.e.now) c.requires.nests (first_of (grind (arith, common_steps, view_expr-Member), search (rules, view_expr-Member)))
+
+pub postfix_layer-requires : goal.postfix_layer-requires
+postfix_layer-requires g c =
+    nests-of _ (expr_view c.args.e.now) c.requires.nests (first_of (grind (arith, common_steps, view_expr-Postfix), search (rules, view_expr-Postfix)))
+
+pub prefix_layer-requires : goal.prefix_layer-requires
+prefix_layer-requires g c =
+    nests-of _ (expr_view c.args.e.now) c.requires.nests (first_of (grind (arith, common_steps, view_expr-Prefix), search (rules, view_expr-Prefix)))
+
+pub size_layer-requires : goal.size_layer-requires
+size_layer-requires g c =
+    nests-of _ (expr_view c.args.e.now) c.requires.nests (first_of (grind (arith, common_steps, view_expr-SizeOfType), search (rules, view_expr-SizeOfType)))
+
+pub cast_layer-requires : goal.cast_layer-requires
+cast_layer-requires g c =
+    nests-of _ (expr_view c.args.e.now) c.requires.nests (first_of (grind (arith, common_steps, view_expr-Cast), search (rules, view_expr-Cast)))
+
+pub infix_layer-requires : goal.infix_layer-requires
+infix_layer-requires g c =
+    nests-of _ (expr_view c.args.e.now) c.requires.nests (first_of (grind (arith, common_steps, view_expr-Infix), search (rules, view_expr-Infix)))
+
+pub conditional_layer-requires : goal.conditional_layer-requires
+conditional_layer-requires g c =
+    nests-of _ (expr_view c.args.e.now) c.requires.nests (first_of (grind (arith, common_steps, view_expr-Conditional), search (rules, view_expr-Conditional)))
+
+pub assignment_layer-requires : goal.assignment_layer-requires
+assignment_layer-requires g c =
+    nests-of _ (expr_view c.args.e.now) c.requires.nests (first_of (grind (arith, common_steps, view_expr-Assign), search (rules, view_expr-Assign)))
+
+pub comma_layer-requires : goal.comma_layer-requires
+comma_layer-requires g c =
+    nests-of _ (expr_view c.args.e.now) c.requires.nests (first_of (grind (arith, common_steps, view_expr-Comma), search (rules, view_expr-Comma)))
 
 pub returns-in-Name : goal.returns-in-Name
 returns-in-Name g c =

@@ -8,10 +8,16 @@ use Rattle.c_tree.specs.TypedViews.{typed_specifier_view, typed_specifiers_of}
 use Rattle.c_tree.specs.Views.{specifier_view, specifiers_of}
 use Rattle.c_typing.specs.Judging.{known}
 use Rattle.c_typing.specs.Walks.{judge_list}
+use Rattle.c_tree.specs.Depth.{specifiers_height, specifier_height}
+use Rattle.c_check_expr.proofs.NestLaws.{nests-seen, specifiers_count}
 use Rattle.c_check_expr.proofs.SeriesLaws.{goes_on, fails_on}
 use Rattle.c_check_expr.proofs.SpecifiedLaws.{specifier_goes, specifiers_end, specifiers_stop}
 use Rattle.c_check_expr.proofs.StayLaws.{specifiers-stay}
 use Rattle.c_check_expr.proofs.walker.Walker.listed.Goals as goal
+
+pub specifier-requires : goal.specifier-requires
+specifier-requires g c =
+    nests-seen specifiers_height AndSpecifier specifier_view specifier_height specifiers_count c.args.specifiers.now c.loop-one.one-index c.one-item.result c.loop-one-test.true c.one-item.is NoSpecifier c.requires.nests
 
 pub returns-in_err-specifier : goal.returns-in_err-specifier
 returns-in_err-specifier g c =

@@ -7,9 +7,15 @@ use Rattle.c_tree.specs.TypedViews.{typed_parameter_view}
 use Rattle.c_tree.specs.Views.{added, parameter_view}
 use Rattle.c_typing.specs.Judging.{known}
 use Rattle.c_typing.specs.Walks.{judge_parameters}
+use Rattle.c_tree.specs.Depth.{parameters_height}
+use Rattle.c_check_expr.proofs.NestLaws.{nests-each, parameters_count}
 use Rattle.c_check_expr.proofs.SeriesLaws.{goes, fails}
 use Rattle.c_check_expr.proofs.StayLaws.{each_parameter-stays}
 use Rattle.c_check_expr.proofs.walker.Walker.parameters.Goals as goal
+
+pub parameter-requires : goal.parameter-requires
+parameter-requires g c =
+    nests-each parameters_height parameter_view (λ x. parameters_height (parameter_view x NoParameter)) parameters_count c.args.list.now c.loop-one.one-index c.one-item.result c.loop-one-test.true c.one-item.is NoParameter c.requires.nests
 
 pub returns-in_err-parameter : goal.returns-in_err-parameter
 returns-in_err-parameter g c =

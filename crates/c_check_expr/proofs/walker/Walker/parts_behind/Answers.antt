@@ -1,14 +1,21 @@
 use Rattle.std.proofs.Common.{rules, arith, map, take}
 use Rattle.std.proofs.lemmas.Grind.{common_steps}
 use Rattle.c_tree.proofs.PushLaws.{pushes}
+use Rattle.c_tree.specs.Tree.{NoPart}
 use Rattle.c_tree.specs.TypedTree.{NoPart as none_typed}
 use Rattle.c_tree.specs.TypedViews.{typed_part_view}
 use Rattle.c_tree.specs.Views.{added, part_view}
 use Rattle.c_typing.specs.Judging.{known}
 use Rattle.c_typing.specs.Walks.{judge_parts}
+use Rattle.c_tree.specs.Depth.{parts_height}
+use Rattle.c_check_expr.proofs.NestLaws.{nests-each, parts_count}
 use Rattle.c_check_expr.proofs.SeriesLaws.{goes, fails}
 use Rattle.c_check_expr.proofs.StayLaws.{parts-stay}
 use Rattle.c_check_expr.proofs.walker.Walker.parts_behind.Goals as goal
+
+pub part-requires : goal.part-requires
+part-requires g c =
+    nests-each parts_height part_view (λ x. parts_height (part_view x NoPart)) parts_count c.args.rest.now c.loop-part.part-index c.part-item.result c.loop-part-test.true c.part-item.is NoPart c.requires.nests
 
 pub returns-in_err-part : goal.returns-in_err-part
 returns-in_err-part g c = λ start before judged.

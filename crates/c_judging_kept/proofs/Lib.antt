@@ -1,0 +1,10 @@
+pub mod Kept
+pub mod KeptTypes
+pub mod KeptConstructs
+pub mod KeptAssignments
+pub mod KeptDeclarators
+pub mod KeptChecking
+pub mod OpenScopes
+pub mod OpenSteps
+pub mod OpenTrees
+pub mod OpenWhole

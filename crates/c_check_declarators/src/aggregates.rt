@@ -1,6 +1,7 @@
 //! Structs and unions with their members (C99 6.7.2.1).
 #![tactic(auto)]
 
+ghost use Rattle.c_typing.specs.Growing.{Grows};
 ghost use Rattle.std.specs.Prelude.{◌≡◌, not, ◌&&◌, ◌++◌, IfOk, OnOk, map, nat_lt, length, option_copied};
 ghost use Rattle.std.specs.List.{list_all};
 ghost use Rattle.c_types.specs.Table.{shape_at, is_complete, entry_at};
@@ -72,7 +73,8 @@ pub fn begun(
     at: Place,
     name: Option<&Identifier>,
 ) -> Result<Option<TypeId>, Fault>
-    ensures { Answers (λ t. t) (specifying.begun which at (option_copied name.entry) (known types.old scope.old)) result (known types.new scope.new) }
+    ensures answers { Answers (λ t. t) (specifying.begun which at (option_copied name.entry) (known types.old scope.old)) result (known types.new scope.new) }
+    ensures grows { Grows (known types.old scope.old) (known types.new scope.new) }
 {
     let found = tag_named_here(scope, name);
     if is_taken_tag(scope, types, which, found) {
@@ -138,7 +140,7 @@ fn is_definable(types: &Types, t: TypeId, members: &[TypeId]) -> bool
 }
 
 /// Gives a struct or union its members.
-#[tactic(auto, unfolding(c_typing::specs::Specifying::defined))]
+#[tactic(auto, using(crate::proofs::GrowthLaws::more), unfolding(c_typing::specs::Specifying::defined))]
 fn defined(
     scope: &Scope,
     types: &mut Types,
@@ -146,7 +148,8 @@ fn defined(
     t: TypeId,
     members: Vec<TypeId>,
 ) -> Result<TypeId, Fault>
-    ensures { Answers (λ t. t) (specifying.defined at t members.items (known types.old scope.now)) result (known types.new scope.now) }
+    ensures answers { Answers (λ t. t) (specifying.defined at t members.items (known types.old scope.now)) result (known types.new scope.now) }
+    ensures grows { Grows (known types.old scope.now) (known types.new scope.now) }
 {
     if !is_definable(types, t, &members) {
         return Err(no_room(at));
@@ -159,8 +162,10 @@ fn defined(
 }
 
 /// From here on the struct or union is complete.
+#[tactic(auto, using(c_typing::proofs::GrowingLaws::grown))]
 fn complete(scope: &mut Scope, types: &Types, t: TypeId, names: MemberNames)
-    ensures { scope.new ≡ with_scopes scope.old (specifying.completing (number_of_shape (shape_at types.now t)) names scope.old.scopes) }
+    ensures answers { scope.new ≡ with_scopes scope.old (specifying.completing (number_of_shape (shape_at types.now t)) names scope.old.scopes) }
+    ensures grows { Grows (known types.now scope.old) (known types.now scope.new) }
 {
     match shape_at(types, t) {
         Some(TypeShape::Struct(number) | TypeShape::Union(number)) => {
@@ -222,7 +227,8 @@ fn completed(
     begun: Option<TypeId>,
 ) -> Result<TypeId, Fault>
     requires { names ≡ member_names (added NoMember (map typed_members_view rows.now)) }
-    ensures { Answers (λ t. t) (specifying.completed at (added NoMember (map typed_members_view rows.now)) begun (known types.old scope.old)) result (known types.new scope.new) }
+    ensures answers { Answers (λ t. t) (specifying.completed at (added NoMember (map typed_members_view rows.now)) begun (known types.old scope.old)) result (known types.new scope.new) }
+    ensures grows { Grows (known types.old scope.old) (known types.new scope.new) }
 {
     let Some(t) = begun else {
         return Err(no_room(at));
@@ -248,6 +254,7 @@ pub fn ended(
     requires { names ≡ member_names (added NoMember (map typed_members_view rows.now)) }
     ensures answers { (which : AggregateKind) (brace : Place) → let members = added NoMember (map typed_members_view rows.now) in Answers (λ r. typed.Aggregate which at (option_copied name.entry) brace members r.0) (specifying.ended before.now which at (option_copied name.entry) brace begun members (known types.old scope.old)) result (known types.new scope.new) }
     ensures counts { IfOk result (λ r. r.1 ≡ one_named before.now) }
+    ensures grows { Grows (known types.old scope.old) (known types.new scope.new) }
 {
     let place = tag_place(at, name);
     if let Some(fault) = aggregate_fault(scope, types, place, begun, is_empty_row(rows)) {

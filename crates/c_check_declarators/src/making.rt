@@ -1,6 +1,7 @@
 //! The types that declarators give (C99 6.7.5).
 #![tactic(auto)]
 
+ghost use Rattle.c_typing.specs.Growing.{Grows};
 ghost use Rattle.std.specs.Prelude.{◌≡◌, true, not, ◌++◌, ◌∷◌, [], map, option_map, option_copied, IfOk};
 ghost use Rattle.c_tree.specs.TypedParts.{is_void_word, is_void_list};
 ghost use Rattle.c_tree.specs.TypedTree.{TypedParameters, TypedParts, NoPart, NoParameter};
@@ -45,7 +46,8 @@ fn array_type(
     element: TypeId,
     count: u64,
 ) -> Result<TypeId, Fault>
-    ensures { Answers (λ t. t) (declaring.array_type at element count (known types.old scope.now)) result (known types.new scope.now) }
+    ensures answers { Answers (λ t. t) (declaring.array_type at element count (known types.old scope.now)) result (known types.new scope.now) }
+    ensures grows { Grows (known types.old scope.now) (known types.new scope.now) }
 {
     if element.0 >= types.count() || !types.is_complete(element) || count == 0 {
         return Err(no_room(at));
@@ -63,7 +65,8 @@ fn array_of(
     count: Option<u64>,
     element: TypeId,
 ) -> Result<TypeId, Fault>
-    ensures { Answers (λ t. t) (declaring.array_of at (nearest_view nearest) count element (known types.old scope.now)) result (known types.new scope.now) }
+    ensures answers { Answers (λ t. t) (declaring.array_of at (nearest_view nearest) count element (known types.old scope.now)) result (known types.new scope.now) }
+    ensures grows { Grows (known types.old scope.now) (known types.new scope.now) }
 {
     match nearest {
         Nearest::Points(node) => pointer_type(scope, types, at, node, element),
@@ -128,7 +131,8 @@ fn array_makes(
     count: Option<u64>,
     element: TypeId,
 ) -> Result<TypeId, Fault>
-    ensures { Answers (λ t. t) (declaring.array_makes at (nearest_view nearest) bracket words.now count element (known types.old scope.now)) result (known types.new scope.now) }
+    ensures answers { Answers (λ t. t) (declaring.array_makes at (nearest_view nearest) bracket words.now count element (known types.old scope.now)) result (known types.new scope.now) }
+    ensures grows { Grows (known types.old scope.now) (known types.new scope.now) }
 {
     if let Some(fault) = array_fault(
         scope,
@@ -172,7 +176,8 @@ fn function_type(
     parameters: Vec<TypeId>,
     gives: TypeId,
 ) -> Result<TypeId, Fault>
-    ensures { Answers (λ t. t) (declaring.function_type at parameters.items gives (known types.old scope.now)) result (known types.new scope.now) }
+    ensures answers { Answers (λ t. t) (declaring.function_type at parameters.items gives (known types.old scope.now)) result (known types.new scope.now) }
+    ensures grows { Grows (known types.old scope.now) (known types.new scope.now) }
 {
     if gives.0 >= types.count() || !are_types(types, &parameters) {
         return Err(no_room(at));
@@ -274,7 +279,8 @@ fn function_makes(
     parameters: &[TypedParameter],
     gives: TypeId,
 ) -> Result<TypeId, Fault>
-    ensures { Answers (λ t. t) (declaring.function_makes at (nearest_view nearest) (added NoParameter (map typed_parameter_view parameters.now)) gives (known types.old scope.now)) result (known types.new scope.now) }
+    ensures answers { Answers (λ t. t) (declaring.function_makes at (nearest_view nearest) (added NoParameter (map typed_parameter_view parameters.now)) gives (known types.old scope.now)) result (known types.new scope.now) }
+    ensures grows { Grows (known types.old scope.now) (known types.new scope.now) }
 {
     if let Some(fault) = function_fault(types, gives, at) {
         return Err(fault);
@@ -297,7 +303,8 @@ fn part_makes(
     part: &TypedPart,
     base: TypeId,
 ) -> Result<TypeId, Fault>
-    ensures { (all : TypedParts) → Answers (λ t. t) (declaring.last_makes at (nearest_view nearest) (typed_part_view part.now all) base (known types.old scope.now)) result (known types.new scope.now) }
+    ensures answers { (all : TypedParts) → Answers (λ t. t) (declaring.last_makes at (nearest_view nearest) (typed_part_view part.now all) base (known types.old scope.now)) result (known types.new scope.now) }
+    ensures grows { Grows (known types.old scope.now) (known types.new scope.now) }
 {
     match part {
         TypedPart::Array(bracket, words) => array_makes(
@@ -365,7 +372,8 @@ fn parts_make(
     parts: &[TypedPart],
     base: TypeId,
 ) -> Result<TypeId, Fault>
-    ensures { Answers (λ t. t) (declaring.parts_make at (nearest_view nearest) (added NoPart (map typed_part_view parts.now)) base (known types.old scope.now)) result (known types.new scope.now) }
+    ensures answers { Answers (λ t. t) (declaring.parts_make at (nearest_view nearest) (added NoPart (map typed_part_view parts.now)) base (known types.old scope.now)) result (known types.new scope.now) }
+    ensures grows { Grows (known types.old scope.now) (known types.new scope.now) }
 {
     let mut rest = parts;
     let mut t = base;
@@ -386,7 +394,8 @@ fn stars_make(
     stars: &[TypedStar],
     base: TypeId,
 ) -> Result<TypeId, Fault>
-    ensures { Answers (λ t. t) (declaring.stars_make at stars.now base (known types.old scope.now)) result (known types.new scope.now) }
+    ensures answers { Answers (λ t. t) (declaring.stars_make at stars.now base (known types.old scope.now)) result (known types.new scope.now) }
+    ensures grows { Grows (known types.old scope.now) (known types.new scope.now) }
 {
     let mut rest = stars;
     let mut t = base;
@@ -437,7 +446,8 @@ pub fn form_makes(
     form: &TypedForm,
     base: TypeId,
 ) -> Result<TypeId, Fault>
-    ensures { Answers (λ t. t) (declaring.form_makes at (nearest_view nearest) (typed_form_view form.now) base (known types.old scope.now)) result (known types.new scope.now) }
+    ensures answers { Answers (λ t. t) (declaring.form_makes at (nearest_view nearest) (typed_form_view form.now) base (known types.old scope.now)) result (known types.new scope.now) }
+    ensures grows { Grows (known types.old scope.now) (known types.new scope.now) }
 {
     let t = stars_make(scope, types, at, form.stars.as_slice(), base)?;
     let own = if is_derived_core(&form.core) {
@@ -462,7 +472,8 @@ pub fn declared_makes(
     declared: Option<&TypedForm>,
     base: TypeId,
 ) -> Result<TypeId, Fault>
-    ensures { Answers (λ t. t) (declaring.declared_makes at (nearest_view nearest) (typed_declared_of (option_map typed_form_view (option_copied declared.entry))) base (known types.old scope.now)) result (known types.new scope.now) }
+    ensures answers { Answers (λ t. t) (declaring.declared_makes at (nearest_view nearest) (typed_declared_of (option_map typed_form_view (option_copied declared.entry))) base (known types.old scope.now)) result (known types.new scope.now) }
+    ensures grows { Grows (known types.old scope.now) (known types.new scope.now) }
 {
     match declared {
         Some(form) => form_makes(scope, types, at, nearest, form, base),

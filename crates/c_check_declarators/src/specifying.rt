@@ -1,6 +1,8 @@
 //! What a specifier makes by itself (C99 6.7.2): words, names of types, and tags.
 #![tactic(auto)]
 
+ghost use Rattle.c_types.specs.Table.{Table};
+ghost use Rattle.c_typing.specs.Growing.{Grows};
 ghost use Rattle.std.specs.Prelude.{◌≡◌, ◌++◌, OnOk, IfOk, None, option_copied};
 ghost use Rattle.c_tree.specs.TypedTree.{Typedef};
 ghost use Rattle.c_tree.specs.TypedViews.{typed_specifier_view};
@@ -75,13 +77,15 @@ fn shape_of_kind(which: AggregateKind, number: u32) -> TypeShape
 }
 
 /// A tag is declared in the innermost scope, where there is one.
+#[tactic(auto, using(c_typing::proofs::GrowingLaws::grown))]
 pub fn declare_tag_of(
     scope: &mut Scope,
     name: Option<&Identifier>,
     what: Tag,
 ) -> Result<(), NoMemory>
     requires { tag_named_here scope.old.scopes (option_copied name) ≡ None }
-    ensures { OnOk result (scope.new ≡ with_scopes scope.old (tagging (option_copied name.entry) what scope.old.scopes)) }
+    ensures answers { OnOk result (scope.new ≡ with_scopes scope.old (tagging (option_copied name.entry) what scope.old.scopes)) }
+    ensures grows { (table : Table) → Grows (known table scope.old) (known table scope.new) }
 {
     match name {
         Some(name) => scope.declare_tag(name.bytes.as_slice(), what),
@@ -90,7 +94,7 @@ pub fn declare_tag_of(
 }
 
 /// A new struct or union, which is named at the place.
-#[tactic(auto, unfolding(c_typing::specs::Specifying::new_aggregate, c_typing::specs::Operations::numbered))]
+#[tactic(auto, using(c_typing::proofs::GrowingLaws::grown), unfolding(c_typing::specs::Specifying::new_aggregate, c_typing::specs::Operations::numbered))]
 pub(crate) fn new_aggregate(
     scope: &mut Scope,
     types: &mut Types,
@@ -99,7 +103,8 @@ pub(crate) fn new_aggregate(
     name: Option<&Identifier>,
 ) -> Result<TypeId, Fault>
     requires { tag_named_here scope.old.scopes (option_copied name) ≡ None }
-    ensures { Answers (λ t. t) (specifying.new_aggregate which at (option_copied name.entry) (known types.old scope.old)) result (known types.new scope.new) }
+    ensures answers { Answers (λ t. t) (specifying.new_aggregate which at (option_copied name.entry) (known types.old scope.old)) result (known types.new scope.new) }
+    ensures grows { Grows (known types.old scope.old) (known types.new scope.new) }
 {
     let Ok(number) = u32::try_from(scope.aggregates()) else {
         return Err(no_room(at));
@@ -154,7 +159,8 @@ fn tagged_as(
     found: Option<Tag>,
 ) -> Result<TypeId, Fault>
     requires { found ≡ None → tag_here scope.old.scopes.levels name.now.bytes ≡ None }
-    ensures { Answers (λ t. t) (specifying.tagged_as which name.now found (known types.old scope.old)) result (known types.new scope.new) }
+    ensures answers { Answers (λ t. t) (specifying.tagged_as which name.now found (known types.old scope.old)) result (known types.new scope.new) }
+    ensures grows { Grows (known types.old scope.old) (known types.new scope.new) }
 {
     match found {
         Some(Tag::Aggregate(_, t)) => Ok(t),
@@ -176,6 +182,7 @@ pub fn tagged(
 ) -> Result<(TypedSpecifier, Words), Fault>
     ensures answers { Answers (λ r. typed_specifier_view r.0) (specifying.tagged before.now which at name.now (known types.old scope.old)) result (known types.new scope.new) }
     ensures counts { IfOk result (λ r. r.1 ≡ counting (typed_specifier_view r.0) before.now) }
+    ensures grows { Grows (known types.old scope.old) (known types.new scope.new) }
 {
     if let Some(fault) = tag_fault(scope, which, name) {
         return Err(fault);
@@ -200,6 +207,7 @@ pub fn tagged_alone(
 ) -> Result<(TypedSpecifier, TypeId), Fault>
     ensures answers { Answers (λ r. typed_specifier_view r.0) (specifying.tagged_alone which at name.now (known types.old scope.old)) result (known types.new scope.new) }
     ensures listed { IfOk result (λ r. (named : Named) (words : Counted) → specifying.listed_type (named_by_specifier (typed_specifier_view r.0) named) words ≡ r.1) }
+    ensures grows { Grows (known types.old scope.old) (known types.new scope.new) }
 {
     if is_other_tag(which, scope.tag_here(name.bytes.as_slice())) {
         return Err(refusal(name.place, Rule::Redeclared));

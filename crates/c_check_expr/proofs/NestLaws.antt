@@ -127,10 +127,13 @@ module _ {ep : MutBor Seen → MutBor Table → Bool → Bor Expr → Type 0} {e
   nests-less m n le h = record {
     expr_callable = λ scope types called e lt. h.expr_callable scope types called e (omega (arith, lt, le));
     expr_answers = λ scope after types later called e r lt. h.expr_answers scope after types later called e r (omega (arith, lt, le));
+    expr_grows = λ scope after types later called e r lt. h.expr_grows scope after types later called e r (omega (arith, lt, le));
     specifiers_callable = λ scope types s lt. h.specifiers_callable scope types s (omega (arith, lt, le));
     specifiers_answers = λ scope after types later s r lt. h.specifiers_answers scope after types later s r (omega (arith, lt, le));
+    specifiers_grows = λ scope after types later s r lt. h.specifiers_grows scope after types later s r (omega (arith, lt, le));
     form_callable = λ scope types which at one lt. h.form_callable scope types which at one (omega (arith, lt, le));
     form_answers = λ scope after types later which at one r lt. h.form_answers scope after types later which at one r (omega (arith, lt, le));
+    form_grows = λ scope after types later which at one r lt. h.form_grows scope after types later which at one r (omega (arith, lt, le));
   }
 
   -- of one expression that is another

@@ -5,4 +5,3 @@ pub mod Listed
 pub mod Accepted
 pub mod Limited
 pub mod Leaving
-pub mod Kept

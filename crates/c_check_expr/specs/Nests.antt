@@ -17,6 +17,7 @@ use Rattle.c_typing.specs.declared.naming.Naming.{Naming}
 use Rattle.c_typing.specs.declared.operand.Operand.{Operand}
 use Rattle.c_typing.specs.Scopes.{Seen}
 use Rattle.c_typing.specs.OperandViews.{operand_view}
+use Rattle.c_typing.specs.Growing.{Grows}
 use Rattle.c_typing.specs.Judging.{Answers, known}
 use Rattle.c_typing.specs.Walks.{judge, judge_specifiers, judge_form}
 
@@ -33,12 +34,21 @@ module _ (height : ℕ) where
     pub expr_answers : (scope after : MutBor Seen) (types later : MutBor Table) (called : Bool) (e : Bor Expr) (r : Result Operand Fault)
         → expr_height (expr_view e.now) < height → expr_post scope types called e r after later
         → Answers operand_view (judge called (expr_view e.now) (known types.now scope.now)) r (known later.now after.now)
+    pub expr_grows : (scope after : MutBor Seen) (types later : MutBor Table) (called : Bool) (e : Bor Expr) (r : Result Operand Fault)
+        → expr_height (expr_view e.now) < height → expr_post scope types called e r after later
+        → Grows (known types.now scope.now) (known later.now after.now)
     pub specifiers_callable : (scope : MutBor Seen) (types : MutBor Table) (s : Bor Specifiers) → specifier_list_height (specifiers_view s.now) < height → specifiers_pre scope types s
     pub specifiers_answers : (scope after : MutBor Seen) (types later : MutBor Table) (s : Bor Specifiers) (r : Result TypedSpecifiers Fault)
         → specifier_list_height (specifiers_view s.now) < height → specifiers_post scope types s r after later
         → Answers typed_specifiers_view (judge_specifiers (specifiers_view s.now) (known types.now scope.now)) r (known later.now after.now)
+    pub specifiers_grows : (scope after : MutBor Seen) (types later : MutBor Table) (s : Bor Specifiers) (r : Result TypedSpecifiers Fault)
+        → specifier_list_height (specifiers_view s.now) < height → specifiers_post scope types s r after later
+        → Grows (known types.now scope.now) (known later.now after.now)
     pub form_callable : (scope : MutBor Seen) (types : MutBor Table) (which : Naming) (at : Place) (one : Bor Declarator) → declarator_height (declarator_view one.now) < height
         → form_pre scope types which at one
     pub form_answers : (scope after : MutBor Seen) (types later : MutBor Table) (which : Naming) (at : Place) (one : Bor Declarator) (r : Result TypedForm Fault)
         → declarator_height (declarator_view one.now) < height → form_post scope types which at one r after later
         → Answers typed_form_view (judge_form which at (declarator_view one.now) (known types.now scope.now)) r (known later.now after.now)
+    pub form_grows : (scope after : MutBor Seen) (types later : MutBor Table) (which : Naming) (at : Place) (one : Bor Declarator) (r : Result TypedForm Fault)
+        → declarator_height (declarator_view one.now) < height → form_post scope types which at one r after later
+        → Grows (known types.now scope.now) (known later.now after.now)

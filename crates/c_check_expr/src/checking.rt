@@ -1,6 +1,7 @@
 //! What a unit asks of its expressions, specifiers and declarators.
 #![tactic(auto)]
 
+ghost use Rattle.c_typing.specs.Growing.{Grows};
 ghost use Rattle.std.specs.Prelude.{◌≡◌, IfOk, IfSome, None, map, true};
 ghost use Rattle.c_types.specs.Table as table;
 ghost use Rattle.c_tree.specs.TypedParts.{home_of, home_node};
@@ -45,7 +46,8 @@ pub(crate) const NOWHERE: Place = Place { line: 1, col: 1 };
 /// An expression whose value is taken.
 #[tactic(auto, unfolding(c_typing::specs::Walks::judge_value))]
 fn judged_value(scope: &mut Scope, types: &mut Types, e: &Expr) -> Result<Value, Fault>
-    ensures { Answers value_view (walks.judge_value (expr_view e.now) (known types.old scope.old)) result (known types.new scope.new) }
+    ensures answers { Answers value_view (walks.judge_value (expr_view e.now) (known types.old scope.old)) result (known types.new scope.new) }
+    ensures grows { Grows (known types.old scope.old) (known types.new scope.new) }
 {
     let x = judge_expr(scope, types, false, e)?;
     value(scope, types, x)
@@ -54,7 +56,8 @@ fn judged_value(scope: &mut Scope, types: &mut Types, e: &Expr) -> Result<Value,
 /// The value of an expression; a struct is not read.
 #[tactic(auto, unfolding(c_typing::specs::Checking::checked))]
 pub(crate) fn checked(scope: &mut Scope, types: &mut Types, e: &Expr) -> Result<TypedExpr, Fault>
-    ensures { Answers typed_expr_view (checking.checked (expr_view e.now) (known types.old scope.old)) result (known types.new scope.new) }
+    ensures answers { Answers typed_expr_view (checking.checked (expr_view e.now) (known types.old scope.old)) result (known types.new scope.new) }
+    ensures grows { Grows (known types.old scope.old) (known types.new scope.new) }
 {
     let v = judged_value(scope, types, e)?;
     Ok(v.expr.into_inner())
@@ -69,7 +72,8 @@ fn taken(
     to: TypeId,
     x: Operand,
 ) -> Result<Part, Fault>
-    ensures { Answers part_view (checking.taken init to (operand_view x) (known types.old scope.old)) result (known types.new scope.new) }
+    ensures answers { Answers part_view (checking.taken init to (operand_view x) (known types.old scope.old)) result (known types.new scope.new) }
+    ensures grows { Grows (known types.old scope.old) (known types.new scope.new) }
 {
     if init {
         return given(scope, types, to, x.place, x.part);
@@ -118,7 +122,8 @@ pub(crate) fn checked_for(
     init: bool,
     e: &Expr,
 ) -> Result<TypedExpr, Fault>
-    ensures { Answers typed_expr_view (checking.checked_value to at init (expr_view e.now) (known types.old scope.old)) result (known types.new scope.new) }
+    ensures answers { Answers typed_expr_view (checking.checked_value to at init (expr_view e.now) (known types.old scope.old)) result (known types.new scope.new) }
+    ensures grows { Grows (known types.old scope.old) (known types.new scope.new) }
 {
     let x = judge_expr(scope, types, false, e)?;
     let part = taken(scope, types, init, to, x)?;
@@ -135,7 +140,8 @@ pub(crate) fn checked_constant(
     types: &mut Types,
     e: &Expr,
 ) -> Result<(TypedExpr, i128), Fault>
-    ensures { Answers constant_view (checking.checked_constant (expr_view e.now) (known types.old scope.old)) result (known types.new scope.new) }
+    ensures answers { Answers constant_view (checking.checked_constant (expr_view e.now) (known types.old scope.old)) result (known types.new scope.new) }
+    ensures grows { Grows (known types.old scope.old) (known types.new scope.new) }
 {
     let v = judged_value(scope, types, e)?;
     match constant_value(types, v.expr.get()) {
@@ -180,7 +186,8 @@ fn alone_specifiers(
     types: &mut Types,
     specifiers: &Specifiers,
 ) -> Result<TypedSpecifiers, Fault>
-    ensures { Answers typed_specifiers_view (walks.judge_specifiers_of true (specifiers_view specifiers.now) (known types.old scope.old)) result (known types.new scope.new) }
+    ensures answers { Answers typed_specifiers_view (walks.judge_specifiers_of true (specifiers_view specifiers.now) (known types.old scope.old)) result (known types.new scope.new) }
+    ensures grows { Grows (known types.old scope.old) (known types.new scope.new) }
 {
     let Some((which, at, name)) = tag_alone(specifiers.list.as_slice()) else {
         return judge_specifiers(scope, types, specifiers);
@@ -199,7 +206,8 @@ pub(crate) fn specifiers_by(
     specifiers: &Specifiers,
     alone: bool,
 ) -> Result<TypedSpecifiers, Fault>
-    ensures { Answers typed_specifiers_view (walks.judge_specifiers_of alone (specifiers_view specifiers.now) (known types.old scope.old)) result (known types.new scope.new) }
+    ensures answers { Answers typed_specifiers_view (walks.judge_specifiers_of alone (specifiers_view specifiers.now) (known types.old scope.old)) result (known types.new scope.new) }
+    ensures grows { Grows (known types.old scope.old) (known types.new scope.new) }
 {
     if alone {
         alone_specifiers(scope, types, specifiers)
@@ -240,6 +248,7 @@ pub(crate) fn with_type(
 ) -> Result<TypedDeclarator, Fault>
     ensures made { Answers typed_declarator_view (judging.next (declaring.form_makes at (walks.outermost_of size) (typed_form_view form) base (known types.old scope.old)) (λ t. judging.pure (typed.Declares (typed_form_view form) t))) result (known types.new scope.new) }
     ensures home { IfOk result (λ one. one.home ≡ home_node (home_of (typed_declarator_view one))) }
+    ensures grows { Grows (known types.old scope.old) (known types.new scope.new) }
 {
     let ty = form_makes(scope, types, at, nearest_of(size), &form, base)?;
     let home = home_node(home_of(&form));
@@ -258,6 +267,7 @@ pub(crate) fn declarator_behind(
 ) -> Result<TypedDeclarator, Fault>
     ensures judged { Answers typed_declarator_view (walks.judge_declarator naming (typed_specifiers_view base.now) size (declarator_view d.now) (known types.old scope.old)) result (known types.new scope.new) }
     ensures home { IfOk result (λ one. one.home ≡ home_node (home_of (typed_declarator_view one))) }
+    ensures grows { Grows (known types.old scope.old) (known types.new scope.new) }
 {
     let at = name_place(declarator_name(d), NOWHERE);
     let which = naming_of(types, naming, base.ty, d);

@@ -1,6 +1,7 @@
 //! What stands in a declarator (C99 6.7.5): nodes, homes, sizes and parameters, in the order of the text.
 #![tactic(auto)]
 
+ghost use Rattle.c_typing.specs.Growing.{Grows};
 ghost use Rattle.std.specs.Prelude.{◌≡◌, IfOk, List, map, suc};
 ghost use Rattle.c_types.specs.Table.{Table};
 ghost use Rattle.c_tree.specs.Depth.{core_height, declarator_height, parameters_height, parts_height};
@@ -32,10 +33,11 @@ use c_typing::stops::{no_room, refusal};
 use cc_base::{Fault, NodeId, Place, Rule};
 
 /// A new node for what is named at the place.
-#[tactic(auto, unfolding(c_typing::specs::Judging::new_node))]
+#[tactic(auto, using(c_typing::proofs::GrowingLaws::grown), unfolding(c_typing::specs::Judging::new_node))]
 pub(crate) fn node_at(scope: &mut Scope, at: Place) -> Result<NodeId, Fault>
     ensures answers { (table : Table) → Answers (λ n. n) (new_node at (known table scope.old)) result (known table scope.new) }
     ensures same { scope.new.scopes ≡ scope.old.scopes }
+    ensures grows { (table : Table) → Grows (known table scope.old) (known table scope.new) }
 {
     match scope.new_node() {
         Some(node) => Ok(node),
@@ -46,7 +48,8 @@ pub(crate) fn node_at(scope: &mut Scope, at: Place) -> Result<NodeId, Fault>
 /// The home of a name, whose node is made where the name stands.
 #[tactic(auto, unfolding(c_typing::specs::Declaring::home_as))]
 pub(crate) fn home_as(scope: &mut Scope, at: Place, which: Naming) -> Result<Home, Fault>
-    ensures { (table : Table) → Answers (λ home. home) (declaring.home_as at which (known table scope.old)) result (known table scope.new) }
+    ensures answers { (table : Table) → Answers (λ home. home) (declaring.home_as at which (known table scope.old)) result (known table scope.new) }
+    ensures grows { (table : Table) → Grows (known table scope.old) (known table scope.new) }
 {
     match which {
         Naming::None => Ok(Home::None),
@@ -61,6 +64,7 @@ pub(crate) fn home_as(scope: &mut Scope, at: Place, which: Naming) -> Result<Hom
 fn star_with_node(scope: &mut Scope, at: Place, star: &Star) -> Result<TypedStar, Fault>
     ensures ok { (table : Table) → Answers (λ s. s.node) (new_node at (known table scope.old)) result (known table scope.new) }
     ensures same { IfOk result (λ s. s.star ≡ star.now) }
+    ensures grows { (table : Table) → Grows (known table scope.old) (known table scope.new) }
 {
     let node = node_at(scope, at)?;
     let star = copied_star(scope.alloc(), star)?;
@@ -73,7 +77,8 @@ pub(crate) fn stars_with_nodes(
     at: Place,
     stars: &[Star],
 ) -> Result<Items<TypedStar>, Fault>
-    ensures { (table : Table) → Answers (λ found. found) (declaring.stars_with_nodes at stars.now (known table scope.old)) result (known table scope.new) }
+    ensures answers { (table : Table) → Answers (λ found. found) (declaring.stars_with_nodes at stars.now (known table scope.old)) result (known table scope.new) }
+    ensures grows { (table : Table) → Grows (known table scope.old) (known table scope.new) }
 {
     let mut found = Items::new(scope.alloc());
     for star in stars {
@@ -159,7 +164,8 @@ impl<
         parameters: &[Parameter],
     ) -> Result<TypedPart, Fault>
         requires nests { Nests (suc (parameters_height (added NoParameter (map parameter_view parameters.now)))) (E.pre self.now.judge_expr) (E.post self.now.judge_expr) (S.pre self.now.judge_specifiers) (S.post self.now.judge_specifiers) (D.pre self.now.judge_form) (D.post self.now.judge_form) }
-        ensures { (start : State) (before : Parts) (done : TypedParts) → walks.judge_parts at before start ≡ Gives done (known types.old scope.old) → Answers (λ made. typed_part_view made done) (walks.judge_parts at (AndFunction before paren (added NoParameter (map parameter_view parameters.now))) start) result (known types.new scope.new) }
+        ensures answers { (start : State) (before : Parts) (done : TypedParts) → walks.judge_parts at before start ≡ Gives done (known types.old scope.old) → Answers (λ made. typed_part_view made done) (walks.judge_parts at (AndFunction before paren (added NoParameter (map parameter_view parameters.now))) start) result (known types.new scope.new) }
+        ensures grows { Grows (known types.old scope.old) (known types.new scope.new) }
     {
         let (list, _) = self.prototype_left(scope, types, at, parameters)?;
         Ok(TypedPart::Function(paren, list))
@@ -175,7 +181,8 @@ impl<
         part: &Part,
     ) -> Result<TypedPart, Fault>
         requires nests { Nests (suc (parts_height (part_view part.now NoPart))) (E.pre self.now.judge_expr) (E.post self.now.judge_expr) (S.pre self.now.judge_specifiers) (S.post self.now.judge_specifiers) (D.pre self.now.judge_form) (D.post self.now.judge_form) }
-        ensures { (start : State) (before : Parts) (done : TypedParts) → walks.judge_parts at before start ≡ Gives done (known types.old scope.old) → Answers (λ made. typed_part_view made done) (walks.judge_parts at (part_view part.now before) start) result (known types.new scope.new) }
+        ensures answers { (start : State) (before : Parts) (done : TypedParts) → walks.judge_parts at before start ≡ Gives done (known types.old scope.old) → Answers (λ made. typed_part_view made done) (walks.judge_parts at (part_view part.now before) start) result (known types.new scope.new) }
+        ensures grows { Grows (known types.old scope.old) (known types.new scope.new) }
     {
         match part {
             Part::Array(bracket, words, None) => {
@@ -203,7 +210,8 @@ impl<
         rest: &[Part],
     ) -> Result<Items<TypedPart>, Fault>
         requires nests { Nests (suc (parts_height (added NoPart (map part_view rest.now)))) (E.pre self.now.judge_expr) (E.post self.now.judge_expr) (S.pre self.now.judge_specifiers) (S.post self.now.judge_specifiers) (D.pre self.now.judge_form) (D.post self.now.judge_form) }
-        ensures { (start : State) (before : Parts) → walks.judge_parts at before start ≡ Gives (added no_typed_part (map typed_part_view first)) (known types.old scope.old) → Answers (λ found. added no_typed_part (map typed_part_view found)) (walks.judge_parts at (added before (map part_view rest.now)) start) result (known types.new scope.new) }
+        ensures answers { (start : State) (before : Parts) → walks.judge_parts at before start ≡ Gives (added no_typed_part (map typed_part_view first)) (known types.old scope.old) → Answers (λ found. added no_typed_part (map typed_part_view found)) (walks.judge_parts at (added before (map part_view rest.now)) start) result (known types.new scope.new) }
+        ensures grows { Grows (known types.old scope.old) (known types.new scope.new) }
     {
         let mut found = first;
         for part in rest {
@@ -222,7 +230,8 @@ impl<
         parts: &[Part],
     ) -> Result<Items<TypedPart>, Fault>
         requires nests { Nests (suc (parts_height (added NoPart (map part_view parts.now)))) (E.pre self.now.judge_expr) (E.post self.now.judge_expr) (S.pre self.now.judge_specifiers) (S.post self.now.judge_specifiers) (D.pre self.now.judge_form) (D.post self.now.judge_form) }
-        ensures { Answers (λ found. added no_typed_part (map typed_part_view found)) (walks.judge_parts at (added NoPart (map part_view parts.now)) (known types.old scope.old)) result (known types.new scope.new) }
+        ensures answers { Answers (λ found. added no_typed_part (map typed_part_view found)) (walks.judge_parts at (added NoPart (map part_view parts.now)) (known types.old scope.old)) result (known types.new scope.new) }
+        ensures grows { Grows (known types.old scope.old) (known types.new scope.new) }
     {
         self.parts_behind(scope, types, at, Items::new(scope.alloc()), parts)
     }
@@ -238,7 +247,8 @@ impl<
         core: &Core,
     ) -> Result<TypedCore, Fault>
         requires nests { Nests (suc (core_height (core_view core.now))) (E.pre self.now.judge_expr) (E.post self.now.judge_expr) (S.pre self.now.judge_specifiers) (S.post self.now.judge_specifiers) (D.pre self.now.judge_form) (D.post self.now.judge_form) }
-        ensures { Answers typed_core_view (walks.judge_core which at (core_view core.now) (known types.old scope.old)) result (known types.new scope.new) }
+        ensures answers { Answers typed_core_view (walks.judge_core which at (core_view core.now) (known types.old scope.old)) result (known types.new scope.new) }
+        ensures grows { Grows (known types.old scope.old) (known types.new scope.new) }
     {
         match core {
             Core::Names(name) => {
@@ -264,7 +274,8 @@ impl<
         d: &Declarator,
     ) -> Result<TypedForm, Fault>
         requires nests { Nests (declarator_height (declarator_view d.now)) (E.pre self.now.judge_expr) (E.post self.now.judge_expr) (S.pre self.now.judge_specifiers) (S.post self.now.judge_specifiers) (D.pre self.now.judge_form) (D.post self.now.judge_form) }
-        ensures { Answers typed_form_view (walks.judge_form which at (declarator_view d.now) (known types.old scope.old)) result (known types.new scope.new) }
+        ensures answers { Answers typed_form_view (walks.judge_form which at (declarator_view d.now) (known types.old scope.old)) result (known types.new scope.new) }
+        ensures grows { Grows (known types.old scope.old) (known types.new scope.new) }
     {
         let stars = stars_with_nodes(scope, at, d.stars.as_slice())?;
         let core = self.core(scope, types, which, at, &d.core)?;

@@ -4,6 +4,7 @@
 ghost use Rattle.std.specs.Prelude.{◌≡◌, ◌&&◌, IfOk, None, Option, map, if◌then◌else◌, suc};
 ghost use Rattle.c_tree.specs.Depth.{parameters_height, parts_height};
 ghost use Rattle.c_tree.specs.Tree.{NoPart, AndFunction, NoParameter, Parts, Parameters};
+ghost use Rattle.c_typing.specs.Growing.{Grows};
 ghost use Rattle.c_tree.specs.TypedParts.{home_of, specified_type, home_node};
 ghost use Rattle.c_tree.specs.TypedTree.{TypedParts, NoPart as no_typed_part};
 ghost use Rattle.c_tree.specs.Views.{added, core_view, declarator_view, parameter_view, part_view};
@@ -75,6 +76,7 @@ impl<
         requires nests { Nests (suc (parameters_height (added NoParameter (map parameter_view parameters.now)))) (E.pre self.now.judge_expr) (E.post self.now.judge_expr) (S.pre self.now.judge_specifiers) (S.post self.now.judge_specifiers) (D.pre self.now.judge_form) (D.post self.now.judge_form) }
         ensures judged { Answers (λ made. typed_part_view made.0 no_typed_part) (walks.judge_parts at (AndFunction NoPart paren (added NoParameter (map parameter_view parameters.now))) (known types.old scope.old)) result (known types.new scope.new) }
         ensures left { IfOk result (λ made. (outer : Option Parameters) → level_given (scope_of_list (parameters_written (AndFunction NoPart paren (added NoParameter (map parameter_view parameters.now))) outer) (known types.old scope.old)) ≡ made.1) }
+        ensures grows { Grows (known types.old scope.old) (known types.new scope.new) }
     {
         let (list, level) = self.prototype_left(scope, types, at, parameters)?;
         Ok((TypedPart::Function(paren, list), level))
@@ -92,6 +94,7 @@ impl<
         requires nests { Nests (suc (parts_height (part_view part.now NoPart))) (E.pre self.now.judge_expr) (E.post self.now.judge_expr) (S.pre self.now.judge_specifiers) (S.post self.now.judge_specifiers) (D.pre self.now.judge_form) (D.post self.now.judge_form) }
         ensures judged { Answers (λ made. typed_part_view made.0 no_typed_part) (walks.judge_parts at (part_view part.now NoPart) (known types.old scope.old)) result (known types.new scope.new) }
         ensures left { IfOk result (λ made. (outer : Option Parameters) → level_given (scope_of_list (parameters_written (part_view part.now NoPart) outer) (known types.old scope.old)) ≡ made.1) }
+        ensures grows { Grows (known types.old scope.old) (known types.new scope.new) }
     {
         match part {
             Part::Function(paren, parameters) => {
@@ -116,6 +119,7 @@ impl<
         requires nests { Nests (suc (parts_height (added NoPart (map part_view parts.now)))) (E.pre self.now.judge_expr) (E.post self.now.judge_expr) (S.pre self.now.judge_specifiers) (S.post self.now.judge_specifiers) (D.pre self.now.judge_form) (D.post self.now.judge_form) }
         ensures judged { Answers (λ made. added no_typed_part (map typed_part_view made.0)) (walks.judge_parts at (added NoPart (map part_view parts.now)) (known types.old scope.old)) result (known types.new scope.new) }
         ensures left { IfOk result (λ made. AreLeaving parts.now made.1 (known types.old scope.old)) }
+        ensures grows { Grows (known types.old scope.old) (known types.new scope.new) }
     {
         let Some((first, rest)) = parts.split_first() else {
             return Ok((Items::new(scope.alloc()), Level::new(scope.alloc())));
@@ -140,6 +144,7 @@ fn core_left(
 ) -> Result<Left<TypedCore>, Fault>
     ensures judged { Answers (λ left. typed_core_view left.one) (walks.judge_core which at (core_view core.now) (known types.old scope.old)) result (known types.new scope.new) }
     ensures tells { IfOk result (λ left. Tells (scope_of_core which at (core_view core.now)) left.bare left.level (known types.old scope.old) (known types.new scope.new)) }
+    ensures grows { Grows (known types.old scope.old) (known types.new scope.new) }
 {
     match core {
         Core::Names(name) => {
@@ -178,6 +183,7 @@ fn judge_definition(
 ) -> Result<Left<TypedForm>, Fault>
     ensures judged { Answers (λ left. typed_form_view left.one) (walks.judge_form which at (declarator_view d.now) (known types.old scope.old)) result (known types.new scope.new) }
     ensures tells { IfOk result (λ left. Tells (scope_of_declarator which at (declarator_view d.now)) left.bare left.level (known types.old scope.old) (known types.new scope.new)) }
+    ensures grows { Grows (known types.old scope.old) (known types.new scope.new) }
 {
     let walker = Walker {
         judge_expr,
@@ -210,6 +216,7 @@ pub(crate) fn definition_behind(
     ensures home { IfOk result (λ made. made.0.home ≡ home_node (home_of (typed_declarator_view made.0))) }
     ensures judged { Answers (λ made. typed_declarator_view made.0) (walks.judge_declarator naming (typed_specifiers_view base.now) None (declarator_view d.now) (known types.old scope.old)) result (known types.new scope.new) }
     ensures level { IfOk result (λ made. level_of naming (specified_type (typed_specifiers_view base.now)) (declarator_view d.now) (known types.old scope.old) ≡ made.1) }
+    ensures grows { Grows (known types.old scope.old) (known types.new scope.new) }
 {
     let at = name_place(declarator_name(d), NOWHERE);
     let which = naming_of(types, naming, base.ty, d);

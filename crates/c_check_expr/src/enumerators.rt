@@ -1,6 +1,7 @@
 //! Enumerators (C99 6.7.2.2).
 #![tactic(auto)]
 
+ghost use Rattle.c_typing.specs.Growing.{Grows};
 ghost use Rattle.std.specs.Prelude.{◌≡◌, ◌≢◌, ◌++◌, ◌||◌, IfOk, IfErr, map, Some, None, suc};
 ghost use Rattle.cc_base.specs.declared.fault.Fault.TheVariants.{NoMemory as no_memory};
 ghost use Rattle.c_types.specs.Table.{Table};
@@ -70,7 +71,7 @@ fn is_taken(scope: &Scope, name: &Identifier) -> bool
 }
 
 /// An enumerator without a value, after one of this value.
-#[tactic(auto, using(c_tree::proofs::TypedViewLaws::typed_views), unfolding(c_typing::specs::Specifying::enumerator))]
+#[tactic(auto, using(c_typing::proofs::GrowingLaws::grown, c_tree::proofs::TypedViewLaws::typed_views), unfolding(c_typing::specs::Specifying::enumerator))]
 fn plain(
     scope: &mut Scope,
     last: Option<i128>,
@@ -78,6 +79,7 @@ fn plain(
 ) -> Result<(TypedEnumerator, i128), Fault>
     ensures answers { (all : TypedEnumerators) (table : Table) → last_value all ≡ last → Answers (λ r. typed_enumerator_view r.0 all) (specifying.enumerator all name.now (known table scope.old)) result (known table scope.new) }
     ensures value { IfOk result (λ r. (all : TypedEnumerators) → last_value (typed_enumerator_view r.0 all) ≡ Some r.1) }
+    ensures grows { (table : Table) → Grows (known table scope.old) (known table scope.new) }
 {
     if is_taken(scope, name) {
         return Err(refusal(name.place, Rule::Redeclared));
@@ -118,13 +120,15 @@ fn constant_of(scope: &Scope, types: &Types, name: &Identifier, v: &Value) -> Re
 }
 
 /// A name is declared as an enumerator with the value that a constant has as an `int`.
+#[tactic(auto, using(c_typing::proofs::GrowingLaws::grown))]
 fn declared_constant(
     scope: &mut Scope,
     name: &Identifier,
     z: i128,
 ) -> Result<(Identifier, i128), NoMemory>
     requires { here scope.old.scopes.levels name.now.bytes ≡ None }
-    ensures { IfOk result (λ r. (r.0 ≡ name.now) × (r.1 ≡ converted int z) × (scope.new ≡ with_scopes scope.old (declaring name.now.bytes (declared.Enumerator (converted int z)) scope.old.scopes))) }
+    ensures answers { IfOk result (λ r. (r.0 ≡ name.now) × (r.1 ≡ converted int z) × (scope.new ≡ with_scopes scope.old (declaring name.now.bytes (declared.Enumerator (converted int z)) scope.old.scopes))) }
+    ensures grows { (table : Table) → Grows (known table scope.old) (known table scope.new) }
 {
     let value = converted(INT, z);
     scope.declare(name.bytes.as_slice(), Declared::Enumerator(value))?;
@@ -142,6 +146,7 @@ fn valued(
 ) -> Result<(TypedEnumerator, i128), Fault>
     ensures answers { (all : TypedEnumerators) → Answers (λ r. typed_enumerator_view r.0 all) (specifying.valued_enumerator all name.now at (value_view v) (known types.now scope.old)) result (known types.now scope.new) }
     ensures value { IfOk result (λ r. (all : TypedEnumerators) → last_value (typed_enumerator_view r.0 all) ≡ Some r.1) }
+    ensures grows { Grows (known types.now scope.old) (known types.now scope.new) }
 {
     let z = constant_of(scope, types, name, &v)?;
     let (name, value) = declared_constant(scope, name, z)?;
@@ -168,6 +173,7 @@ impl<
         requires nests { Nests (suc (enumerators_height (enumerator_view e.now NoEnumerator))) (E.pre self.now.judge_expr) (E.post self.now.judge_expr) (S.pre self.now.judge_specifiers) (S.post self.now.judge_specifiers) (D.pre self.now.judge_form) (D.post self.now.judge_form) }
         ensures answers { (start : State) (before : Enumerators) (done : TypedEnumerators) → last_value done ≡ last → walks.judge_enumerators before start ≡ Gives done (known types.old scope.old) → Answers (λ r. typed_enumerator_view r.0 done) (walks.judge_enumerators (enumerator_view e.now before) start) result (known types.new scope.new) }
         ensures value { IfOk result (λ r. (done : TypedEnumerators) → last_value (typed_enumerator_view r.0 done) ≡ Some r.1) }
+        ensures grows { Grows (known types.old scope.old) (known types.new scope.new) }
     {
         match e {
             Enumerator::Plain(name) => plain(scope, last, name),
@@ -187,7 +193,8 @@ impl<
         list: &[Enumerator],
     ) -> Result<Items<TypedEnumerator>, Fault>
         requires nests { Nests (suc (enumerators_height (added NoEnumerator (map enumerator_view list.now)))) (E.pre self.now.judge_expr) (E.post self.now.judge_expr) (S.pre self.now.judge_specifiers) (S.post self.now.judge_specifiers) (D.pre self.now.judge_form) (D.post self.now.judge_form) }
-        ensures { Answers (λ r. added none_typed (map typed_enumerator_view r)) (walks.judge_enumerators (added NoEnumerator (map enumerator_view list.now)) (known types.old scope.old)) result (known types.new scope.new) }
+        ensures answers { Answers (λ r. added none_typed (map typed_enumerator_view r)) (walks.judge_enumerators (added NoEnumerator (map enumerator_view list.now)) (known types.old scope.old)) result (known types.new scope.new) }
+        ensures grows { Grows (known types.old scope.old) (known types.new scope.new) }
     {
         let mut found = Items::new(scope.alloc());
         let mut last = None;

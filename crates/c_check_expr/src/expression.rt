@@ -1,6 +1,7 @@
 //! The rules of an expression, over those of its parts, which are judged in the order of the text (C99 6.5).
 #![tactic(auto)]
 
+ghost use Rattle.c_typing.specs.Growing.{Grows};
 ghost use Rattle.std.specs.Prelude.{◌≡◌, true, map, suc};
 ghost use Rattle.c_tree.specs.Depth.{arguments_height, expr_height};
 ghost use Rattle.c_tree.specs.declared.operator.Assignment.TheVariants as assignment;
@@ -51,7 +52,8 @@ impl<
         b: &Expr,
     ) -> Result<Operand, Fault>
         requires nests { Nests (expr_height (tree.Index (expr_view a.now) at (expr_view b.now))) (E.pre self.now.judge_expr) (E.post self.now.judge_expr) (S.pre self.now.judge_specifiers) (S.post self.now.judge_specifiers) (D.pre self.now.judge_form) (D.post self.now.judge_form) }
-        ensures { Answers operand_view (walks.judge called (tree.Index (expr_view a.now) at (expr_view b.now)) (known types.old scope.old)) result (known types.new scope.new) }
+        ensures answers { Answers operand_view (walks.judge called (tree.Index (expr_view a.now) at (expr_view b.now)) (known types.old scope.old)) result (known types.new scope.new) }
+        ensures grows { Grows (known types.old scope.old) (known types.new scope.new) }
     {
         let x = self.value(scope, types, a)?;
         let y = self.value(scope, types, b)?;
@@ -71,7 +73,8 @@ impl<
         b: &Expr,
     ) -> Result<Operand, Fault>
         requires nests { Nests (expr_height (tree.Infix operator (expr_view a.now) at (expr_view b.now))) (E.pre self.now.judge_expr) (E.post self.now.judge_expr) (S.pre self.now.judge_specifiers) (S.post self.now.judge_specifiers) (D.pre self.now.judge_form) (D.post self.now.judge_form) }
-        ensures { Answers operand_view (walks.judge called (tree.Infix operator (expr_view a.now) at (expr_view b.now)) (known types.old scope.old)) result (known types.new scope.new) }
+        ensures answers { Answers operand_view (walks.judge called (tree.Infix operator (expr_view a.now) at (expr_view b.now)) (known types.old scope.old)) result (known types.new scope.new) }
+        ensures grows { Grows (known types.old scope.old) (known types.new scope.new) }
     {
         let x = self.value(scope, types, a)?;
         let y = self.value(scope, types, b)?;
@@ -89,7 +92,8 @@ impl<
         b: &Expr,
     ) -> Result<Operand, Fault>
         requires nests { Nests (expr_height (tree.Comma (expr_view a.now) (expr_view b.now))) (E.pre self.now.judge_expr) (E.post self.now.judge_expr) (S.pre self.now.judge_specifiers) (S.post self.now.judge_specifiers) (D.pre self.now.judge_form) (D.post self.now.judge_form) }
-        ensures { Answers operand_view (walks.judge called (tree.Comma (expr_view a.now) (expr_view b.now)) (known types.old scope.old)) result (known types.new scope.new) }
+        ensures answers { Answers operand_view (walks.judge called (tree.Comma (expr_view a.now) (expr_view b.now)) (known types.old scope.old)) result (known types.new scope.new) }
+        ensures grows { Grows (known types.old scope.old) (known types.new scope.new) }
     {
         let x = self.value(scope, types, a)?;
         let y = self.value(scope, types, b)?;
@@ -108,7 +112,8 @@ impl<
         e: &Expr,
     ) -> Result<Operand, Fault>
         requires nests { Nests (expr_height (tree.Prefix operator at (expr_view e.now))) (E.pre self.now.judge_expr) (E.post self.now.judge_expr) (S.pre self.now.judge_specifiers) (S.post self.now.judge_specifiers) (D.pre self.now.judge_form) (D.post self.now.judge_form) }
-        ensures { Answers operand_view (walks.judge called (tree.Prefix operator at (expr_view e.now)) (known types.old scope.old)) result (known types.new scope.new) }
+        ensures answers { Answers operand_view (walks.judge called (tree.Prefix operator at (expr_view e.now)) (known types.old scope.old)) result (known types.new scope.new) }
+        ensures grows { Grows (known types.old scope.old) (known types.new scope.new) }
     {
         let x = self.expr(scope, types, false, e)?;
         prefix(scope, types, operator, at, x)
@@ -126,7 +131,8 @@ impl<
         at: Place,
     ) -> Result<Operand, Fault>
         requires nests { Nests (expr_height (tree.Postfix (expr_view e.now) operator at)) (E.pre self.now.judge_expr) (E.post self.now.judge_expr) (S.pre self.now.judge_specifiers) (S.post self.now.judge_specifiers) (D.pre self.now.judge_form) (D.post self.now.judge_form) }
-        ensures { Answers operand_view (walks.judge called (tree.Postfix (expr_view e.now) operator at) (known types.old scope.old)) result (known types.new scope.new) }
+        ensures answers { Answers operand_view (walks.judge called (tree.Postfix (expr_view e.now) operator at) (known types.old scope.old)) result (known types.new scope.new) }
+        ensures grows { Grows (known types.old scope.old) (known types.new scope.new) }
     {
         let x = self.expr(scope, types, false, e)?;
         step_after(scope, types, operator, at, x)
@@ -145,7 +151,8 @@ impl<
         b: &Expr,
     ) -> Result<Operand, Fault>
         requires nests { Nests (expr_height (tree.Conditional (expr_view c.now) at (expr_view a.now) (expr_view b.now))) (E.pre self.now.judge_expr) (E.post self.now.judge_expr) (S.pre self.now.judge_specifiers) (S.post self.now.judge_specifiers) (D.pre self.now.judge_form) (D.post self.now.judge_form) }
-        ensures { Answers operand_view (walks.judge called (tree.Conditional (expr_view c.now) at (expr_view a.now) (expr_view b.now)) (known types.old scope.old)) result (known types.new scope.new) }
+        ensures answers { Answers operand_view (walks.judge called (tree.Conditional (expr_view c.now) at (expr_view a.now) (expr_view b.now)) (known types.old scope.old)) result (known types.new scope.new) }
+        ensures grows { Grows (known types.old scope.old) (known types.new scope.new) }
     {
         let z = self.value(scope, types, c)?;
         let x = self.value(scope, types, a)?;
@@ -165,7 +172,8 @@ impl<
         b: &Expr,
     ) -> Result<Operand, Fault>
         requires nests { Nests (expr_height (tree.Assign assignment.Assign (expr_view a.now) at (expr_view b.now))) (E.pre self.now.judge_expr) (E.post self.now.judge_expr) (S.pre self.now.judge_specifiers) (S.post self.now.judge_specifiers) (D.pre self.now.judge_form) (D.post self.now.judge_form) }
-        ensures { Answers operand_view (walks.judge called (tree.Assign assignment.Assign (expr_view a.now) at (expr_view b.now)) (known types.old scope.old)) result (known types.new scope.new) }
+        ensures answers { Answers operand_view (walks.judge called (tree.Assign assignment.Assign (expr_view a.now) at (expr_view b.now)) (known types.old scope.old)) result (known types.new scope.new) }
+        ensures grows { Grows (known types.old scope.old) (known types.new scope.new) }
     {
         let x = self.expr(scope, types, false, a)?;
         let y = self.expr(scope, types, false, b)?;
@@ -186,7 +194,8 @@ impl<
     ) -> Result<Operand, Fault>
         requires compound { rules.is_compound operator ≡ true }
         requires nests { Nests (expr_height (tree.Assign operator (expr_view a.now) at (expr_view b.now))) (E.pre self.now.judge_expr) (E.post self.now.judge_expr) (S.pre self.now.judge_specifiers) (S.post self.now.judge_specifiers) (D.pre self.now.judge_form) (D.post self.now.judge_form) }
-        ensures { Answers operand_view (walks.judge called (tree.Assign operator (expr_view a.now) at (expr_view b.now)) (known types.old scope.old)) result (known types.new scope.new) }
+        ensures answers { Answers operand_view (walks.judge called (tree.Assign operator (expr_view a.now) at (expr_view b.now)) (known types.old scope.old)) result (known types.new scope.new) }
+        ensures grows { Grows (known types.old scope.old) (known types.new scope.new) }
     {
         let x = self.expr(scope, types, false, a)?;
         let y = self.value(scope, types, b)?;
@@ -205,7 +214,8 @@ impl<
         name: &TypeName,
     ) -> Result<Operand, Fault>
         requires nests { Nests (expr_height (tree.SizeOfType at paren (type_name_view name.now))) (E.pre self.now.judge_expr) (E.post self.now.judge_expr) (S.pre self.now.judge_specifiers) (S.post self.now.judge_specifiers) (D.pre self.now.judge_form) (D.post self.now.judge_form) }
-        ensures { Answers operand_view (walks.judge called (tree.SizeOfType at paren (type_name_view name.now)) (known types.old scope.old)) result (known types.new scope.new) }
+        ensures answers { Answers operand_view (walks.judge called (tree.SizeOfType at paren (type_name_view name.now)) (known types.old scope.old)) result (known types.new scope.new) }
+        ensures grows { Grows (known types.old scope.old) (known types.new scope.new) }
     {
         let name = self.type_name(scope, types, name)?;
         size_of_type(scope, types, at, paren, name)
@@ -223,7 +233,8 @@ impl<
         e: &Expr,
     ) -> Result<Operand, Fault>
         requires nests { Nests (expr_height (tree.Cast at (type_name_view name.now) (expr_view e.now))) (E.pre self.now.judge_expr) (E.post self.now.judge_expr) (S.pre self.now.judge_specifiers) (S.post self.now.judge_specifiers) (D.pre self.now.judge_form) (D.post self.now.judge_form) }
-        ensures { Answers operand_view (walks.judge called (tree.Cast at (type_name_view name.now) (expr_view e.now)) (known types.old scope.old)) result (known types.new scope.new) }
+        ensures answers { Answers operand_view (walks.judge called (tree.Cast at (type_name_view name.now) (expr_view e.now)) (known types.old scope.old)) result (known types.new scope.new) }
+        ensures grows { Grows (known types.old scope.old) (known types.new scope.new) }
     {
         let to = self.type_name(scope, types, name)?;
         let x = self.expr(scope, types, false, e)?;
@@ -241,7 +252,8 @@ impl<
         e: &Expr,
     ) -> Result<Operand, Fault>
         requires nests { Nests (expr_height (tree.Paren at (expr_view e.now))) (E.pre self.now.judge_expr) (E.post self.now.judge_expr) (S.pre self.now.judge_specifiers) (S.post self.now.judge_specifiers) (D.pre self.now.judge_form) (D.post self.now.judge_form) }
-        ensures { Answers operand_view (walks.judge called (tree.Paren at (expr_view e.now)) (known types.old scope.old)) result (known types.new scope.new) }
+        ensures answers { Answers operand_view (walks.judge called (tree.Paren at (expr_view e.now)) (known types.old scope.old)) result (known types.new scope.new) }
+        ensures grows { Grows (known types.old scope.old) (known types.new scope.new) }
     {
         let x = self.expr(scope, types, called, e)?;
         paren(scope, types, at, x)
@@ -260,7 +272,8 @@ impl<
         word: &Identifier,
     ) -> Result<Operand, Fault>
         requires nests { Nests (expr_height (tree.Member (expr_view e.now) operator at word.now)) (E.pre self.now.judge_expr) (E.post self.now.judge_expr) (S.pre self.now.judge_specifiers) (S.post self.now.judge_specifiers) (D.pre self.now.judge_form) (D.post self.now.judge_form) }
-        ensures { Answers operand_view (walks.judge called (tree.Member (expr_view e.now) operator at word.now) (known types.old scope.old)) result (known types.new scope.new) }
+        ensures answers { Answers operand_view (walks.judge called (tree.Member (expr_view e.now) operator at word.now) (known types.old scope.old)) result (known types.new scope.new) }
+        ensures grows { Grows (known types.old scope.old) (known types.new scope.new) }
     {
         match operator {
             MemberOperator::Dot => {
@@ -283,7 +296,8 @@ impl<
         list: &[Expr],
     ) -> Result<Vec<Value>, Fault>
         requires nests { Nests (suc (arguments_height (arguments_of (map expr_view list.now)))) (E.pre self.now.judge_expr) (E.post self.now.judge_expr) (S.pre self.now.judge_specifiers) (S.post self.now.judge_specifiers) (D.pre self.now.judge_form) (D.post self.now.judge_form) }
-        ensures { Answers (λ values. map value_view values.items) (walks.judge_arguments (arguments_of (map expr_view list.now)) (known types.old scope.old)) result (known types.new scope.new) }
+        ensures answers { Answers (λ values. map value_view values.items) (walks.judge_arguments (arguments_of (map expr_view list.now)) (known types.old scope.old)) result (known types.new scope.new) }
+        ensures grows { Grows (known types.old scope.old) (known types.new scope.new) }
     {
         let mut values = Vec::new(scope.alloc());
         for e in list {
@@ -304,7 +318,8 @@ impl<
         arguments: &[Expr],
     ) -> Result<Operand, Fault>
         requires nests { Nests (expr_height (tree.Call (expr_view f.now) at (arguments_of (map expr_view arguments.now)))) (E.pre self.now.judge_expr) (E.post self.now.judge_expr) (S.pre self.now.judge_specifiers) (S.post self.now.judge_specifiers) (D.pre self.now.judge_form) (D.post self.now.judge_form) }
-        ensures { Answers operand_view (walks.judge called (tree.Call (expr_view f.now) at (arguments_of (map expr_view arguments.now))) (known types.old scope.old)) result (known types.new scope.new) }
+        ensures answers { Answers operand_view (walks.judge called (tree.Call (expr_view f.now) at (arguments_of (map expr_view arguments.now))) (known types.old scope.old)) result (known types.new scope.new) }
+        ensures grows { Grows (known types.old scope.old) (known types.new scope.new) }
     {
         let x = self.expr(scope, types, true, f)?;
         let f = value(scope, types, x)?;
@@ -324,7 +339,8 @@ impl<
         b: &Expr,
     ) -> Result<Operand, Fault>
         requires nests { Nests (expr_height (tree.Assign operator (expr_view a.now) at (expr_view b.now))) (E.pre self.now.judge_expr) (E.post self.now.judge_expr) (S.pre self.now.judge_specifiers) (S.post self.now.judge_specifiers) (D.pre self.now.judge_form) (D.post self.now.judge_form) }
-        ensures { Answers operand_view (walks.judge called (tree.Assign operator (expr_view a.now) at (expr_view b.now)) (known types.old scope.old)) result (known types.new scope.new) }
+        ensures answers { Answers operand_view (walks.judge called (tree.Assign operator (expr_view a.now) at (expr_view b.now)) (known types.old scope.old)) result (known types.new scope.new) }
+        ensures grows { Grows (known types.old scope.old) (known types.new scope.new) }
     {
         match operator {
             Assignment::Assign => self.assign_layer(scope, types, called, a, at, b),
@@ -342,7 +358,8 @@ impl<
         e: &Expr,
     ) -> Result<Operand, Fault>
         requires nests { Nests (expr_height (expr_view e.now)) (E.pre self.now.judge_expr) (E.post self.now.judge_expr) (S.pre self.now.judge_specifiers) (S.post self.now.judge_specifiers) (D.pre self.now.judge_form) (D.post self.now.judge_form) }
-        ensures { Answers operand_view (walks.judge called (expr_view e.now) (known types.old scope.old)) result (known types.new scope.new) }
+        ensures answers { Answers operand_view (walks.judge called (expr_view e.now) (known types.old scope.old)) result (known types.new scope.new) }
+        ensures grows { Grows (known types.old scope.old) (known types.new scope.new) }
     {
         match e {
             Expr::Name(word) => name(scope, types, called, word),

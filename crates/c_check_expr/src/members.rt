@@ -1,6 +1,7 @@
 //! Rows of members (C99 6.7.2.1).
 #![tactic(auto)]
 
+ghost use Rattle.c_typing.specs.Growing.{Grows};
 ghost use Rattle.std.specs.Prelude.{◌≡◌, ◌++◌, ◌∷◌, [], false, None, Some, IfOk, List, map, option_copied, suc};
 ghost use Rattle.c_tree.specs.Depth.{declarator_height, member_declarators_height, members_height};
 ghost use Rattle.c_tree.specs.Tree as tree;
@@ -46,7 +47,8 @@ fn member_type(
     form: &TypedForm,
     base: TypeId,
 ) -> Result<TypeId, Fault>
-    ensures { Answers (λ t. t) (declaring.member_type at (typed_form_view form.now) base (known types.old scope.now)) result (known types.new scope.now) }
+    ensures answers { Answers (λ t. t) (declaring.member_type at (typed_form_view form.now) base (known types.old scope.now)) result (known types.new scope.now) }
+    ensures grows { Grows (known types.old scope.now) (known types.new scope.now) }
 {
     let t = form_makes(scope, types, at, Nearest::Written, form, base)?;
     if !is_complete_at(scope, types, t) {
@@ -76,6 +78,7 @@ fn member_named(
 ) -> Result<TypeId, Fault>
     ensures answers { (all : TypedMemberDeclarators) → Answers (λ t. AndDeclarator all (Declares (typed_form_view form.now) t)) (declaring.member_named names.old all (typed_form_view form.now) base (option_copied name.entry) (known types.old scope.now)) result (known types.new scope.now) }
     ensures named { IfOk result (λ t. names.new ≡ names.old ++ name_bytes (option_copied name.entry) ∷ []) }
+    ensures grows { Grows (known types.old scope.now) (known types.new scope.now) }
 {
     let Some(name) = name else {
         return Err(no_room(NOWHERE));
@@ -106,6 +109,7 @@ impl<
         requires nests { Nests (suc (declarator_height (declarator_view d.now))) (E.pre self.now.judge_expr) (E.post self.now.judge_expr) (S.pre self.now.judge_specifiers) (S.post self.now.judge_specifiers) (D.pre self.now.judge_form) (D.post self.now.judge_form) }
         ensures answers { (start : State) (first : List Name) (before : MemberDeclarators) (done : TypedMemberDeclarators) → first ++ declarator_names done ≡ names.old → walks.judge_member_declarators base first before start ≡ Gives done (known types.old scope.old) → Answers (λ made. AndDeclarator done (typed_declarator_view made)) (walks.judge_member_declarators base first (and_declarator before (declarator_view d.now)) start) result (known types.new scope.new) }
         ensures named { IfOk result (λ made. names.new ≡ names.old ++ name_bytes (name_of (typed_declarator_view made)) ∷ []) }
+        ensures grows { Grows (known types.old scope.old) (known types.new scope.new) }
     {
         let name = declarator_name(d);
         let form = self.form(scope, types, Naming::None, name_place(name, NOWHERE), d)?;
@@ -130,6 +134,7 @@ impl<
         requires nests { Nests (suc (member_declarators_height (member_declarators_of (map declarator_view list.now)))) (E.pre self.now.judge_expr) (E.post self.now.judge_expr) (S.pre self.now.judge_specifiers) (S.post self.now.judge_specifiers) (D.pre self.now.judge_form) (D.post self.now.judge_form) }
         ensures answers { Answers (λ found. typed_member_declarators_of (map typed_declarator_view found)) (walks.judge_member_declarators base names.old (member_declarators_of (map declarator_view list.now)) (known types.old scope.old)) result (known types.new scope.new) }
         ensures named { IfOk result (λ found. names.new ≡ names.old ++ declarator_names (typed_member_declarators_of (map typed_declarator_view found))) }
+        ensures grows { Grows (known types.old scope.old) (known types.new scope.new) }
     {
         let mut found = Items::new(scope.alloc());
         for d in list {
@@ -150,6 +155,7 @@ impl<
         requires nests { Nests (suc (members_height (members_view row.now tree.NoMember))) (E.pre self.now.judge_expr) (E.post self.now.judge_expr) (S.pre self.now.judge_specifiers) (S.post self.now.judge_specifiers) (D.pre self.now.judge_form) (D.post self.now.judge_form) }
         ensures answers { (start : State) (before : tree.Members) (done : typed.TypedMembers) → member_names done ≡ names.old → walks.judge_members before start ≡ Gives done (known types.old scope.old) → Answers (λ made. typed_members_view made done) (walks.judge_members (members_view row.now before) start) result (known types.new scope.new) }
         ensures named { IfOk result (λ made. (done : typed.TypedMembers) → member_names done ≡ names.old → member_names (typed_members_view made done) ≡ names.new) }
+        ensures grows { Grows (known types.old scope.old) (known types.new scope.new) }
     {
         let specifiers = self.specifiers(scope, types, &row.specifiers)?;
         let base = specifiers.ty;
@@ -172,6 +178,7 @@ impl<
         requires nests { Nests (suc (members_height (added NoMember (map members_view rows.now)))) (E.pre self.now.judge_expr) (E.post self.now.judge_expr) (S.pre self.now.judge_specifiers) (S.post self.now.judge_specifiers) (D.pre self.now.judge_form) (D.post self.now.judge_form) }
         ensures answers { member_names no_typed_member ≡ names.old → Answers (λ found. added no_typed_member (map typed_members_view found)) (walks.judge_members (added NoMember (map members_view rows.now)) (known types.old scope.old)) result (known types.new scope.new) }
         ensures named { IfOk result (λ found. member_names no_typed_member ≡ names.old → member_names (added no_typed_member (map typed_members_view found)) ≡ names.new) }
+        ensures grows { Grows (known types.old scope.old) (known types.new scope.new) }
     {
         let mut found = Items::new(scope.alloc());
         for row in rows {

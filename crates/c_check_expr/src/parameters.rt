@@ -1,6 +1,7 @@
 //! Parameters (C99 6.7.5.3).
 #![tactic(auto)]
 
+ghost use Rattle.c_typing.specs.Growing.{Grows, GrowsAny, GrowsOrLeaves};
 ghost use Rattle.std.specs.Prelude.{◌≡◌, ◌≢◌, false, Some, None, IfSome, IfOk, IfErr, map, option_map, option_copied, suc};
 ghost use Rattle.cc_base.specs.declared.fault.Fault.TheVariants.{NoMemory as no_memory};
 ghost use Rattle.c_types.specs.Table.{Table, shape_at};
@@ -64,7 +65,8 @@ fn adjusted_shape(
     node: NodeId,
     base: TypeId,
 ) -> Result<TypeId, Fault>
-    ensures { Answers (λ t. t) (declaring.adjusted_shape at node base (shape_at types.old base) (known types.old scope.now)) result (known types.new scope.now) }
+    ensures answers { Answers (λ t. t) (declaring.adjusted_shape at node base (shape_at types.old base) (known types.old scope.now)) result (known types.new scope.now) }
+    ensures grows { Grows (known types.old scope.now) (known types.new scope.now) }
 {
     let to = match shape_at(types, base) {
         Some(TypeShape::Array(element, _)) => *element,
@@ -84,7 +86,8 @@ fn parameter_makes(
     d: Option<&TypedForm>,
     base: TypeId,
 ) -> Result<TypeId, Fault>
-    ensures { Answers (λ t. t) (declaring.parameter_makes at adjusted (typed_declared_of (option_map typed_form_view (option_copied d.entry))) base (known types.old scope.now)) result (known types.new scope.now) }
+    ensures answers { Answers (λ t. t) (declaring.parameter_makes at adjusted (typed_declared_of (option_map typed_form_view (option_copied d.entry))) base (known types.old scope.now)) result (known types.new scope.now) }
+    ensures grows { Grows (known types.old scope.now) (known types.new scope.now) }
 {
     match adjusted {
         None => declared_makes(scope, types, at, Nearest::Written, d, base),
@@ -107,6 +110,7 @@ fn adjusted_with_node(
 ) -> Result<Option<Adjusted>, Fault>
     ensures answers { (table : Table) → Answers (λ adjusted. adjusted) (declaring.adjusted_with_node at place (known table scope.old)) result (known table scope.new) }
     ensures same { scope.new.scopes ≡ scope.old.scopes }
+    ensures grows { (table : Table) → Grows (known table scope.old) (known table scope.new) }
 {
     match place {
         None => Ok(None),
@@ -141,7 +145,7 @@ fn is_here(scope: &Scope, name: Option<&Identifier>) -> bool
 }
 
 /// A parameter's name is declared in the scope of its list.
-#[tactic(auto, unfolding(c_typing::specs::Declaring::parameter_declared))]
+#[tactic(auto, using(c_typing::proofs::GrowingLaws::objects_grown), unfolding(c_typing::specs::Declaring::parameter_declared))]
 fn parameter_declared(
     scope: &mut Scope,
     at: Place,
@@ -150,7 +154,8 @@ fn parameter_declared(
     t: TypeId,
 ) -> Result<TypeId, Fault>
     requires { is_here scope.old.scopes (option_copied name) ≡ false }
-    ensures { (table : Table) → Answers (λ t. t) (declaring.parameter_declared at (option_copied name.entry) home t (known table scope.old)) result (known table scope.new) }
+    ensures answers { (table : Table) → Answers (λ t. t) (declaring.parameter_declared at (option_copied name.entry) home t (known table scope.old)) result (known table scope.new) }
+    ensures grows { (table : Table) → GrowsAny (known table scope.old) (known table scope.new) }
 {
     match name {
         None => Ok(t),
@@ -220,7 +225,8 @@ fn declared_type(
     base: TypeId,
 ) -> Result<TypeId, Fault>
     requires { is_here scope.old.scopes (declared_identifier (typed_declared_of (option_map typed_form_view (option_copied d)))) ≡ false }
-    ensures { let one = typed_declared_of (option_map typed_form_view (option_copied d.entry)) in Answers (λ t. t) (next (declaring.parameter_makes at adjusted one base (known types.old scope.old)) (λ t. obeying (λ s. tests.parameter_type_tests s.table s.seen.scopes void t at) (declaring.parameter_declared at (declared_identifier one) (declared_home one) t))) result (known types.new scope.new) }
+    ensures answers { let one = typed_declared_of (option_map typed_form_view (option_copied d.entry)) in Answers (λ t. t) (next (declaring.parameter_makes at adjusted one base (known types.old scope.old)) (λ t. obeying (λ s. tests.parameter_type_tests s.table s.seen.scopes void t at) (declaring.parameter_declared at (declared_identifier one) (declared_home one) t))) result (known types.new scope.new) }
+    ensures grows { GrowsAny (known types.old scope.old) (known types.new scope.new) }
 {
     let t = parameter_makes(scope, types, at, adjusted, d, base)?;
     if let Some(fault) = type_fault(scope, types, void, t, at) {
@@ -241,7 +247,8 @@ fn made_parameter(
     specifiers: TypedSpecifiers,
     declarator: Option<TypedForm>,
 ) -> Result<TypedParameter, Fault>
-    ensures { (all : TypedParameters) → Answers (λ made. typed_parameter_view made all) (declaring.parameter void at (λ base. declaring.adjusted_at (derived_view derived) base named) all (typed_specifiers_view specifiers) (typed_declared_of (option_map typed_form_view declarator)) (known types.old scope.old)) result (known types.new scope.new) }
+    ensures answers { (all : TypedParameters) → Answers (λ made. typed_parameter_view made all) (declaring.parameter void at (λ base. declaring.adjusted_at (derived_view derived) base named) all (typed_specifiers_view specifiers) (typed_declared_of (option_map typed_form_view declarator)) (known types.old scope.old)) result (known types.new scope.new) }
+    ensures grows { GrowsAny (known types.old scope.old) (known types.new scope.new) }
 {
     let d = declarator.as_ref();
     if is_here(scope, declared_name(d)) {
@@ -283,7 +290,8 @@ impl<
         one: &Parameter,
     ) -> Result<TypedParameter, Fault>
         requires nests { Nests (suc (parameters_height (parameter_view one.now NoParameter))) (E.pre self.now.judge_expr) (E.post self.now.judge_expr) (S.pre self.now.judge_specifiers) (S.post self.now.judge_specifiers) (D.pre self.now.judge_form) (D.post self.now.judge_form) }
-        ensures { (start : State) (before : Parameters) (done : TypedParameters) → walks.judge_parameters void before start ≡ Gives done (known types.old scope.old) → Answers (λ made. typed_parameter_view made done) (walks.judge_parameters void (parameter_view one.now before) start) result (known types.new scope.new) }
+        ensures answers { (start : State) (before : Parameters) (done : TypedParameters) → walks.judge_parameters void before start ≡ Gives done (known types.old scope.old) → Answers (λ made. typed_parameter_view made done) (walks.judge_parameters void (parameter_view one.now before) start) result (known types.new scope.new) }
+        ensures grows { GrowsAny (known types.old scope.old) (known types.new scope.new) }
     {
         let at = declared_place(&one.specifiers, &one.declarator);
         let specifiers = self.specifiers(scope, types, &one.specifiers)?;
@@ -305,7 +313,8 @@ impl<
         list: &[Parameter],
     ) -> Result<Items<TypedParameter>, Fault>
         requires nests { Nests (suc (parameters_height (added NoParameter (map parameter_view list.now)))) (E.pre self.now.judge_expr) (E.post self.now.judge_expr) (S.pre self.now.judge_specifiers) (S.post self.now.judge_specifiers) (D.pre self.now.judge_form) (D.post self.now.judge_form) }
-        ensures { Answers (λ found. added no_typed_parameter (map typed_parameter_view found)) (walks.judge_parameters void (added NoParameter (map parameter_view list.now)) (known types.old scope.old)) result (known types.new scope.new) }
+        ensures answers { Answers (λ found. added no_typed_parameter (map typed_parameter_view found)) (walks.judge_parameters void (added NoParameter (map parameter_view list.now)) (known types.old scope.old)) result (known types.new scope.new) }
+        ensures grows { GrowsAny (known types.old scope.old) (known types.new scope.new) }
     {
         let mut found = Items::new(scope.alloc());
         for one in list {
@@ -326,6 +335,7 @@ impl<
         requires nests { Nests (suc (parameters_height (added NoParameter (map parameter_view list.now)))) (E.pre self.now.judge_expr) (E.post self.now.judge_expr) (S.pre self.now.judge_specifiers) (S.post self.now.judge_specifiers) (D.pre self.now.judge_form) (D.post self.now.judge_form) }
         ensures answers { Answers (λ found. added no_typed_parameter (map typed_parameter_view found)) (declaring.stopping_outside (walks.judge_parameters void (added NoParameter (map parameter_view list.now))) (known types.old scope.old)) result (known types.new scope.new) }
         ensures judged { IfOk result (λ found. walks.judge_parameters void (added NoParameter (map parameter_view list.now)) (known types.old scope.old) ≡ Gives (added no_typed_parameter (map typed_parameter_view found)) (known types.new scope.new)) }
+        ensures grows { GrowsOrLeaves result (known types.old scope.old) (known types.new scope.new) }
     {
         match self.parameters(scope, types, void, list) {
             Ok(found) => Ok(found),
@@ -348,7 +358,9 @@ impl<
         requires nests { Nests (suc (parameters_height (added NoParameter (map parameter_view list.now)))) (E.pre self.now.judge_expr) (E.post self.now.judge_expr) (S.pre self.now.judge_specifiers) (S.post self.now.judge_specifiers) (D.pre self.now.judge_form) (D.post self.now.judge_form) }
         ensures level { IfOk result (λ made. level_given (scope_of_list (Some (added NoParameter (map parameter_view list.now))) (known types.old scope.old)) ≡ made.1) }
         ensures answers { Answers (λ made. added no_typed_parameter (map typed_parameter_view made.0)) (walks.judge_prototype at (added NoParameter (map parameter_view list.now)) (known types.old scope.old)) result (known types.new scope.new) }
+        ensures grows { Grows (known types.old scope.old) (known types.new scope.new) }
     {
+        let _open = scope.depth();
         scope.enter()?;
         let found = self.parameters_inside(scope, types, is_void_alone(list), list)?;
         if scope.depth() <= 1 {

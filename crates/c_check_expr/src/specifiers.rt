@@ -1,6 +1,7 @@
 //! Lists of specifiers (C99 6.7.2).
 #![tactic(auto)]
 
+ghost use Rattle.c_typing.specs.Growing.{Grows};
 ghost use Rattle.std.specs.Prelude.{◌≡◌, IfOk, map, option_copied, suc};
 ghost use Rattle.c_tree.specs.Depth.{enumerators_height, members_height, specifier_height, specifiers_height};
 ghost use Rattle.c_tree.specs.Tree as tree;
@@ -88,6 +89,7 @@ impl<
         requires nests { Nests (suc (members_height (added tree.NoMember (map members_view rows.now)))) (E.pre self.now.judge_expr) (E.post self.now.judge_expr) (S.pre self.now.judge_specifiers) (S.post self.now.judge_specifiers) (D.pre self.now.judge_form) (D.post self.now.judge_form) }
         ensures answers { Answers (λ r. typed_specifier_view r.0) (walks.judge_specifier before.now (tree.Aggregate which at (option_copied name.entry) brace (added tree.NoMember (map members_view rows.now))) (known types.old scope.old)) result (known types.new scope.new) }
         ensures counts { IfOk result (λ r. r.1 ≡ counting (typed_specifier_view r.0) before.now) }
+        ensures grows { Grows (known types.old scope.old) (known types.new scope.new) }
     {
         let t = begun(scope, types, which, at, name)?;
         let mut names = MemberNames::new(scope.alloc());
@@ -116,6 +118,7 @@ impl<
         requires nests { Nests (suc (enumerators_height (added tree.NoEnumerator (map enumerator_view list.now)))) (E.pre self.now.judge_expr) (E.post self.now.judge_expr) (S.pre self.now.judge_specifiers) (S.post self.now.judge_specifiers) (D.pre self.now.judge_form) (D.post self.now.judge_form) }
         ensures answers { Answers (λ r. typed_specifier_view r.0) (walks.judge_specifier before.now (tree.Enumeration at (option_copied name.entry) brace (added tree.NoEnumerator (map enumerator_view list.now)) comma) (known types.old scope.old)) result (known types.new scope.new) }
         ensures counts { IfOk result (λ r. r.1 ≡ counting (typed_specifier_view r.0) before.now) }
+        ensures grows { Grows (known types.old scope.old) (known types.new scope.new) }
     {
         enumeration_begun(scope, name)?;
         let list = self.enumerators(scope, types, list)?;
@@ -145,6 +148,7 @@ impl<
         requires nests { Nests (suc (specifier_height (specifier_view one.now))) (E.pre self.now.judge_expr) (E.post self.now.judge_expr) (S.pre self.now.judge_specifiers) (S.post self.now.judge_specifiers) (D.pre self.now.judge_form) (D.post self.now.judge_form) }
         ensures answers { Answers (λ r. typed_specifier_view r.0) (walks.judge_specifier before.now (specifier_view one.now) (known types.old scope.old)) result (known types.new scope.new) }
         ensures counts { IfOk result (λ r. r.1 ≡ counting (typed_specifier_view r.0) before.now) }
+        ensures grows { Grows (known types.old scope.old) (known types.new scope.new) }
     {
         match one {
             Specifier::Keyword(w) => word(before, *w),
@@ -183,7 +187,8 @@ impl<
         specifiers: &[Specifier],
     ) -> Result<TypedSpecifiers, Fault>
         requires nests { Nests (suc (specifiers_height (specifiers_of (map specifier_view specifiers.now)))) (E.pre self.now.judge_expr) (E.post self.now.judge_expr) (S.pre self.now.judge_specifiers) (S.post self.now.judge_specifiers) (D.pre self.now.judge_form) (D.post self.now.judge_form) }
-        ensures { Answers typed_specifiers_view (walks.judge_specifiers (specifiers_of (map specifier_view specifiers.now)) (known types.old scope.old)) result (known types.new scope.new) }
+        ensures answers { Answers typed_specifiers_view (walks.judge_specifiers (specifiers_of (map specifier_view specifiers.now)) (known types.old scope.old)) result (known types.new scope.new) }
+        ensures grows { Grows (known types.old scope.old) (known types.new scope.new) }
     {
         let mut list = Items::new(scope.alloc());
         let mut words = Words::none();
@@ -207,7 +212,8 @@ impl<
         specifiers: &Specifiers,
     ) -> Result<TypedSpecifiers, Fault>
         requires nests { Nests (suc (specifiers_height (specifiers_view specifiers.now))) (E.pre self.now.judge_expr) (E.post self.now.judge_expr) (S.pre self.now.judge_specifiers) (S.post self.now.judge_specifiers) (D.pre self.now.judge_form) (D.post self.now.judge_form) }
-        ensures { Answers typed_specifiers_view (walks.judge_specifiers (specifiers_view specifiers.now) (known types.old scope.old)) result (known types.new scope.new) }
+        ensures answers { Answers typed_specifiers_view (walks.judge_specifiers (specifiers_view specifiers.now) (known types.old scope.old)) result (known types.new scope.new) }
+        ensures grows { Grows (known types.old scope.old) (known types.new scope.new) }
     {
         self.listed(scope, types, specifiers.list.as_slice())
     }

@@ -1,6 +1,7 @@
 //! Type names (C99 6.7.6).
 #![tactic(auto)]
 
+ghost use Rattle.c_typing.specs.Growing.{Grows};
 ghost use Rattle.std.specs.Prelude.{option_map, suc};
 ghost use Rattle.c_tree.specs.Depth.{declared_height, type_name_height};
 ghost use Rattle.c_tree.specs.Views.{type_name_view, declarator_view, declared_of};
@@ -37,7 +38,8 @@ impl<
         d: &Option<Declarator>,
     ) -> Result<Option<TypedForm>, Fault>
         requires nests { Nests (suc (declared_height (declared_of (option_map declarator_view d.now)))) (E.pre self.now.judge_expr) (E.post self.now.judge_expr) (S.pre self.now.judge_specifiers) (S.post self.now.judge_specifiers) (D.pre self.now.judge_form) (D.post self.now.judge_form) }
-        ensures { Answers (λ form. typed_declared_of (option_map typed_form_view form)) (walks.judge_declared which at (declared_of (option_map declarator_view d.now)) (known types.old scope.old)) result (known types.new scope.new) }
+        ensures answers { Answers (λ form. typed_declared_of (option_map typed_form_view form)) (walks.judge_declared which at (declared_of (option_map declarator_view d.now)) (known types.old scope.old)) result (known types.new scope.new) }
+        ensures grows { Grows (known types.old scope.old) (known types.new scope.new) }
     {
         match d {
             Some(d) => Ok(Some(self.form(scope, types, which, at, d)?)),
@@ -53,7 +55,8 @@ impl<
         name: &TypeName,
     ) -> Result<Boxed<TypedTypeName>, Fault>
         requires nests { Nests (suc (type_name_height (type_name_view name.now))) (E.pre self.now.judge_expr) (E.post self.now.judge_expr) (S.pre self.now.judge_specifiers) (S.post self.now.judge_specifiers) (D.pre self.now.judge_form) (D.post self.now.judge_form) }
-        ensures { Answers typed_type_name_view (walks.judge_type_name (type_name_view name.now) (known types.old scope.old)) result (known types.new scope.new) }
+        ensures answers { Answers typed_type_name_view (walks.judge_type_name (type_name_view name.now) (known types.old scope.old)) result (known types.new scope.new) }
+        ensures grows { Grows (known types.old scope.old) (known types.new scope.new) }
     {
         let at = declared_place(&name.specifiers, &name.declarator);
         let specifiers = self.specifiers(scope, types, &name.specifiers)?;

@@ -3,6 +3,7 @@
 
 ghost use Rattle.c_tree.specs.Views.{expr_view, specifiers_view, declarator_view};
 ghost use Rattle.c_tree.specs.TypedViews.{typed_specifiers_view, typed_form_view};
+ghost use Rattle.c_typing.specs.Growing.{Grows};
 ghost use Rattle.c_typing.specs.Judging.{Answers, known};
 ghost use Rattle.c_typing.specs.OperandViews.{operand_view};
 ghost use Rattle.c_typing.specs.Walks as walks;
@@ -23,7 +24,8 @@ pub(crate) fn judge_expr(
     called: bool,
     e: &Expr,
 ) -> Result<Operand, Fault>
-    ensures { Answers operand_view (walks.judge called (expr_view e.now) (known types.old scope.old)) result (known types.new scope.new) }
+    ensures answers { Answers operand_view (walks.judge called (expr_view e.now) (known types.old scope.old)) result (known types.new scope.new) }
+    ensures grows { Grows (known types.old scope.old) (known types.new scope.new) }
 {
     let walker = Walker {
         judge_expr,
@@ -40,7 +42,8 @@ pub(crate) fn judge_specifiers(
     types: &mut Types,
     specifiers: &Specifiers,
 ) -> Result<TypedSpecifiers, Fault>
-    ensures { Answers typed_specifiers_view (walks.judge_specifiers (specifiers_view specifiers.now) (known types.old scope.old)) result (known types.new scope.new) }
+    ensures answers { Answers typed_specifiers_view (walks.judge_specifiers (specifiers_view specifiers.now) (known types.old scope.old)) result (known types.new scope.new) }
+    ensures grows { Grows (known types.old scope.old) (known types.new scope.new) }
 {
     let walker = Walker {
         judge_expr,
@@ -59,7 +62,8 @@ pub(crate) fn judge_form(
     at: Place,
     d: &Declarator,
 ) -> Result<TypedForm, Fault>
-    ensures { Answers typed_form_view (walks.judge_form which at (declarator_view d.now) (known types.old scope.old)) result (known types.new scope.new) }
+    ensures answers { Answers typed_form_view (walks.judge_form which at (declarator_view d.now) (known types.old scope.old)) result (known types.new scope.new) }
+    ensures grows { Grows (known types.old scope.old) (known types.new scope.new) }
 {
     let walker = Walker {
         judge_expr,

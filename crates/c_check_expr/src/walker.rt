@@ -1,6 +1,7 @@
 //! The rules of a part take those for the parts inside as parameters, so that each is proved by itself.
 #![tactic(auto)]
 
+ghost use Rattle.c_typing.specs.Growing.{Grows};
 ghost use Rattle.std.specs.Prelude.{suc};
 ghost use Rattle.c_tree.specs.Depth.{expr_height, specifier_list_height, declarator_height};
 ghost use Rattle.c_tree.specs.Views.{expr_view, specifiers_view, declarator_view};
@@ -43,7 +44,8 @@ impl<
         e: &Expr,
     ) -> Result<Operand, Fault>
         requires nests { Nests (suc (expr_height (expr_view e.now))) (E.pre self.now.judge_expr) (E.post self.now.judge_expr) (S.pre self.now.judge_specifiers) (S.post self.now.judge_specifiers) (D.pre self.now.judge_form) (D.post self.now.judge_form) }
-        ensures { Answers operand_view (walks.judge called (expr_view e.now) (known types.old scope.old)) result (known types.new scope.new) }
+        ensures answers { Answers operand_view (walks.judge called (expr_view e.now) (known types.old scope.old)) result (known types.new scope.new) }
+        ensures grows { Grows (known types.old scope.old) (known types.new scope.new) }
     {
         (self.judge_expr)(scope, types, called, e)
     }
@@ -57,7 +59,8 @@ impl<
         e: &Expr,
     ) -> Result<Value, Fault>
         requires nests { Nests (suc (expr_height (expr_view e.now))) (E.pre self.now.judge_expr) (E.post self.now.judge_expr) (S.pre self.now.judge_specifiers) (S.post self.now.judge_specifiers) (D.pre self.now.judge_form) (D.post self.now.judge_form) }
-        ensures { Answers value_view (walks.judge_value (expr_view e.now) (known types.old scope.old)) result (known types.new scope.new) }
+        ensures answers { Answers value_view (walks.judge_value (expr_view e.now) (known types.old scope.old)) result (known types.new scope.new) }
+        ensures grows { Grows (known types.old scope.old) (known types.new scope.new) }
     {
         let x = self.expr(scope, types, false, e)?;
         value(scope, types, x)
@@ -72,6 +75,7 @@ impl<
         requires nests { Nests (suc (specifier_list_height (specifiers_view specifiers.now))) (E.pre self.now.judge_expr) (E.post self.now.judge_expr) (S.pre self.now.judge_specifiers) (S.post self.now.judge_specifiers) (D.pre self.now.judge_form) (D.post self.now.judge_form) }
         ensures answers { Answers typed_specifiers_view (walks.judge_specifiers (specifiers_view specifiers.now) (known types.old scope.old)) result (known types.new scope.new) }
         ensures listed { IsListed (walks.judge_list (specifiers_view specifiers.now) (known types.old scope.old)) result (known types.new scope.new) }
+        ensures grows { Grows (known types.old scope.old) (known types.new scope.new) }
     {
         (self.judge_specifiers)(scope, types, specifiers)
     }
@@ -85,7 +89,8 @@ impl<
         d: &Declarator,
     ) -> Result<TypedForm, Fault>
         requires nests { Nests (suc (declarator_height (declarator_view d.now))) (E.pre self.now.judge_expr) (E.post self.now.judge_expr) (S.pre self.now.judge_specifiers) (S.post self.now.judge_specifiers) (D.pre self.now.judge_form) (D.post self.now.judge_form) }
-        ensures { Answers typed_form_view (walks.judge_form which at (declarator_view d.now) (known types.old scope.old)) result (known types.new scope.new) }
+        ensures answers { Answers typed_form_view (walks.judge_form which at (declarator_view d.now) (known types.old scope.old)) result (known types.new scope.new) }
+        ensures grows { Grows (known types.old scope.old) (known types.new scope.new) }
     {
         (self.judge_form)(scope, types, which, at, d)
     }

@@ -1,6 +1,7 @@
 //! Operators of two operands (C99 6.5.2.1, 6.5.5 to 6.5.14).
 #![tactic(auto)]
 
+ghost use Rattle.c_typing.specs.Growing.{Grows};
 ghost use Rattle.std.specs.Prelude.{◌≡◌, IfOk};
 ghost use Rattle.c_tree.specs.TypedParts.{type_of};
 ghost use Rattle.c_types.specs.Table.{shape_at};
@@ -100,7 +101,8 @@ pub fn index(
     at: Place,
     b: Value,
 ) -> Result<Operand, Fault>
-    ensures { Answers operand_view (operations.index (value_view a) at (value_view b) (known types.old scope.old)) result (known types.new scope.new) }
+    ensures answers { Answers operand_view (operations.index (value_view a) at (value_view b) (known types.old scope.old)) result (known types.new scope.new) }
+    ensures grows { Grows (known types.old scope.old) (known types.new scope.new) }
 {
     let Value {
         expr: left,
@@ -352,7 +354,8 @@ pub fn infix_of(
     at: Place,
     b: Value,
 ) -> Result<Operand, Fault>
-    ensures { Answers operand_view (operations.infix_of operator (value_view a) at (value_view b) (known types.old scope.old)) result (known types.new scope.new) }
+    ensures answers { Answers operand_view (operations.infix_of operator (value_view a) at (value_view b) (known types.old scope.old)) result (known types.new scope.new) }
+    ensures grows { Grows (known types.old scope.old) (known types.new scope.new) }
 {
     let Value {
         expr: left,

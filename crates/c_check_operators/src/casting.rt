@@ -1,6 +1,7 @@
 //! Casts, and `sizeof` of a type name (C99 6.5.3.4, 6.5.4).
 #![tactic(auto)]
 
+ghost use Rattle.c_typing.specs.Growing.{Grows};
 ghost use Rattle.std.specs.Prelude.{◌≡◌, IfOk};
 ghost use Rattle.c_types.specs.Layouts.{size_of};
 ghost use Rattle.c_types.specs.Table.{shape_at};
@@ -140,7 +141,8 @@ pub fn cast(
     to: Boxed<TypedTypeName>,
     x: Operand,
 ) -> Result<Operand, Fault>
-    ensures { Answers operand_view (assignments.cast at (typed_type_name_view to) (operand_view x) (known types.old scope.old)) result (known types.new scope.new) }
+    ensures answers { Answers operand_view (assignments.cast at (typed_type_name_view to) (operand_view x) (known types.old scope.old)) result (known types.new scope.new) }
+    ensures grows { Grows (known types.old scope.old) (known types.new scope.new) }
 {
     let Operand { part, place, held } = x;
     let part = given(scope, types, type_named(to.get()), place, part)?;

@@ -1,6 +1,7 @@
 //! The pointers that the assignment of a struct or union moves, and their count in a unit.
 #![tactic(auto)]
 
+ghost use Rattle.c_typing.specs.Growing.{Grows};
 ghost use Rattle.std.specs.Prelude.{◌≡◌};
 ghost use Rattle.c_types.specs.PointerCounts.{pointers_in};
 ghost use Rattle.c_typing.specs.Cells.{count_cells};
@@ -23,9 +24,10 @@ fn pointers_in(types: &Types, t: TypeId) -> u64
 }
 
 /// The pointers that one assignment of a type moves are counted; the limit is named at the place.
-#[tactic(auto, unfolding(c_typing::specs::Cells::count_cells))]
+#[tactic(auto, using(c_typing::proofs::GrowingLaws::grown), unfolding(c_typing::specs::Cells::count_cells))]
 pub fn count_cells(scope: &mut Scope, types: &Types, at: Place, t: TypeId) -> Result<TypeId, Fault>
-    ensures { Answers (λ t. t) (count_cells at t (known types.now scope.old)) result (known types.now scope.new) }
+    ensures answers { Answers (λ t. t) (count_cells at t (known types.now scope.old)) result (known types.now scope.new) }
+    ensures grows { Grows (known types.now scope.old) (known types.now scope.new) }
 {
     if !scope.add_cells(pointers_in(types, t)) {
         return Err(Fault::TooLarge {

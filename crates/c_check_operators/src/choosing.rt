@@ -1,6 +1,7 @@
 //! `?:` and `,` (C99 6.5.15, 6.5.17).
 #![tactic(auto)]
 
+ghost use Rattle.c_typing.specs.Growing.{Grows};
 ghost use Rattle.std.specs.Prelude.{◌≡◌, ◌&&◌, ◌||◌, IfOk, Some};
 ghost use Rattle.c_types.specs.Table.{shape_at};
 ghost use Rattle.c_tree.specs.TypedParts.{type_of};
@@ -147,7 +148,8 @@ fn choice_to(
     x: Chosen,
     to: TypeId,
 ) -> Result<Boxed<TypedExpr>, Fault>
-    ensures { Answers (λ e. AsValue (typed_expr_view e)) (assignments.pointer_choice (typed_expr_view x.condition) x.begin x.at (typed_expr_view x.a) (typed_expr_view x.b) (Some to) (known types.old scope.old)) result (known types.new scope.new) }
+    ensures answers { Answers (λ e. AsValue (typed_expr_view e)) (assignments.pointer_choice (typed_expr_view x.condition) x.begin x.at (typed_expr_view x.a) (typed_expr_view x.b) (Some to) (known types.old scope.old)) result (known types.new scope.new) }
+    ensures grows { Grows (known types.old scope.old) (known types.new scope.new) }
 {
     let made = new_pointer(scope, types, x.begin, to)?;
     Ok(chosen_pointer(scope, types, x, made)?)
@@ -161,7 +163,8 @@ fn pointer_choice(
     x: Chosen,
     to: Option<TypeId>,
 ) -> Result<Boxed<TypedExpr>, Fault>
-    ensures { Answers (λ e. AsValue (typed_expr_view e)) (assignments.pointer_choice (typed_expr_view x.condition) x.begin x.at (typed_expr_view x.a) (typed_expr_view x.b) to (known types.old scope.old)) result (known types.new scope.new) }
+    ensures answers { Answers (λ e. AsValue (typed_expr_view e)) (assignments.pointer_choice (typed_expr_view x.condition) x.begin x.at (typed_expr_view x.a) (typed_expr_view x.b) to (known types.old scope.old)) result (known types.new scope.new) }
+    ensures grows { Grows (known types.old scope.old) (known types.new scope.new) }
 {
     match to {
         Some(to) => choice_to(scope, types, x, to),
@@ -208,7 +211,8 @@ fn choice_of_pointers(
     types: &mut Types,
     x: Chosen,
 ) -> Result<Boxed<TypedExpr>, Fault>
-    ensures { Answers (λ e. AsValue (typed_expr_view e)) (assignments.choice_of_pointers (typed_expr_view x.condition) x.begin x.at (typed_expr_view x.a) (typed_expr_view x.b) (is_void_shape (shape_at types.old (type_of (typed_expr_view x.a))) && is_void_shape (shape_at types.old (type_of (typed_expr_view x.b)))) (known types.old scope.old)) result (known types.new scope.new) }
+    ensures answers { Answers (λ e. AsValue (typed_expr_view e)) (assignments.choice_of_pointers (typed_expr_view x.condition) x.begin x.at (typed_expr_view x.a) (typed_expr_view x.b) (is_void_shape (shape_at types.old (type_of (typed_expr_view x.a))) && is_void_shape (shape_at types.old (type_of (typed_expr_view x.b)))) (known types.old scope.old)) result (known types.new scope.new) }
+    ensures grows { Grows (known types.old scope.old) (known types.new scope.new) }
 {
     if is_void(shape_at(types, x.a.get().ty())) && is_void(shape_at(types, x.b.get().ty())) {
         return Ok(void_choice(scope, x)?);
@@ -253,7 +257,8 @@ fn choice_of_values(
     types: &mut Types,
     x: Chosen,
 ) -> Result<Boxed<TypedExpr>, Fault>
-    ensures { Answers (λ e. AsValue (typed_expr_view e)) (assignments.choice_of_values (typed_expr_view x.condition) x.begin x.at (typed_expr_view x.a) (typed_expr_view x.b) (integer_at types.old (type_of (typed_expr_view x.a))) (integer_at types.old (type_of (typed_expr_view x.b))) (known types.old scope.old)) result (known types.new scope.new) }
+    ensures answers { Answers (λ e. AsValue (typed_expr_view e)) (assignments.choice_of_values (typed_expr_view x.condition) x.begin x.at (typed_expr_view x.a) (typed_expr_view x.b) (integer_at types.old (type_of (typed_expr_view x.a))) (integer_at types.old (type_of (typed_expr_view x.b))) (known types.old scope.old)) result (known types.new scope.new) }
+    ensures grows { Grows (known types.old scope.old) (known types.new scope.new) }
 {
     match (
         integer_at(types, x.a.get().ty()),
@@ -328,7 +333,8 @@ fn choice_of_structs(
 /// `?:` of two values, as a part.
 #[tactic(auto, unfolding(c_typing::specs::Assignments::choice_of_parts))]
 fn value_choice(scope: &mut Scope, types: &mut Types, x: Chosen) -> Result<Part, Fault>
-    ensures { Answers part_view (assignments.choice_of_parts (typed_expr_view x.condition) x.begin x.at (AsValue (typed_expr_view x.a)) (AsValue (typed_expr_view x.b)) (known types.old scope.old)) result (known types.new scope.new) }
+    ensures answers { Answers part_view (assignments.choice_of_parts (typed_expr_view x.condition) x.begin x.at (AsValue (typed_expr_view x.a)) (AsValue (typed_expr_view x.b)) (known types.old scope.old)) result (known types.new scope.new) }
+    ensures grows { Grows (known types.old scope.old) (known types.new scope.new) }
 {
     let made = choice_of_values(scope, types, x)?;
     Ok(Part::Value(made))
@@ -344,7 +350,8 @@ fn choice_with_value(
     a: Boxed<TypedExpr>,
     y: Part,
 ) -> Result<Part, Fault>
-    ensures { Answers part_view (assignments.choice_of_parts (typed_expr_view condition) places.0 places.1 (AsValue (typed_expr_view a)) (part_view y) (known types.old scope.old)) result (known types.new scope.new) }
+    ensures answers { Answers part_view (assignments.choice_of_parts (typed_expr_view condition) places.0 places.1 (AsValue (typed_expr_view a)) (part_view y) (known types.old scope.old)) result (known types.new scope.new) }
+    ensures grows { Grows (known types.old scope.old) (known types.new scope.new) }
 {
     let (begin, at) = places;
     match y {
@@ -364,7 +371,8 @@ fn choice_with_value(
 
 #[tactic(auto, unfolding(c_typing::specs::Assignments::choice_of_parts))]
 fn choice_of_parts(scope: &mut Scope, types: &mut Types, sides: Sides) -> Result<Part, Fault>
-    ensures { Answers part_view (assignments.choice_of_parts (typed_expr_view sides.condition) sides.begin sides.at (part_view sides.x) (part_view sides.y) (known types.old scope.old)) result (known types.new scope.new) }
+    ensures answers { Answers part_view (assignments.choice_of_parts (typed_expr_view sides.condition) sides.begin sides.at (part_view sides.x) (part_view sides.y) (known types.old scope.old)) result (known types.new scope.new) }
+    ensures grows { Grows (known types.old scope.old) (known types.new scope.new) }
 {
     let Sides {
         condition,
@@ -387,7 +395,8 @@ fn allowed_choice(
     sides: Sides,
     held: u32,
 ) -> Result<Operand, Fault>
-    ensures { Answers operand_view (next (assignments.choice_of_parts (typed_expr_view sides.condition) sides.begin sides.at (part_view sides.x) (part_view sides.y) (known types.old scope.old)) (λ x. pure (record { part = x; place = sides.begin; held = held }))) result (known types.new scope.new) }
+    ensures answers { Answers operand_view (next (assignments.choice_of_parts (typed_expr_view sides.condition) sides.begin sides.at (part_view sides.x) (part_view sides.y) (known types.old scope.old)) (λ x. pure (record { part = x; place = sides.begin; held = held }))) result (known types.new scope.new) }
+    ensures grows { Grows (known types.old scope.old) (known types.new scope.new) }
 {
     let place = sides.begin;
     let part = choice_of_parts(scope, types, sides)?;
@@ -404,7 +413,8 @@ pub fn choice(
     a: Value,
     b: Value,
 ) -> Result<Operand, Fault>
-    ensures { Answers operand_view (assignments.choice (value_view c) at (value_view a) (value_view b) (known types.old scope.old)) result (known types.new scope.new) }
+    ensures answers { Answers operand_view (assignments.choice (value_view c) at (value_view a) (value_view b) (known types.old scope.old)) result (known types.new scope.new) }
+    ensures grows { Grows (known types.old scope.old) (known types.new scope.new) }
 {
     let begin = c.place;
     let held = held_with_three(c.held, a.held, b.held);

@@ -1,6 +1,7 @@
 //! Conversions that C makes without being told, and casts (C99 6.3, 6.5.4, 6.5.16.1).
 #![tactic(auto)]
 
+ghost use Rattle.c_typing.specs.Growing.{Grows};
 ghost use Rattle.std.specs.Prelude.{◌≡◌, ◌&&◌, IfOk, false, option_copied};
 ghost use Rattle.cc_base.specs.declared.number.NodeId.{NodeId};
 ghost use Rattle.c_types.specs.declared.shape.TypeShape.TheVariants.{Pointer};
@@ -211,7 +212,8 @@ fn given_allocation(
     at: Place,
     e: Boxed<TypedExpr>,
 ) -> Result<Part, Fault>
-    ensures { Answers part_view (operands.given_allocation t at (typed_expr_view e) (conversions.is_pointer_to_complete types.old scope.old.scopes t) (known types.old scope.old)) result (known types.new scope.new) }
+    ensures answers { Answers part_view (operands.given_allocation t at (typed_expr_view e) (conversions.is_pointer_to_complete types.old scope.old.scopes t) (known types.old scope.old)) result (known types.new scope.new) }
+    ensures grows { Grows (known types.old scope.old) (known types.new scope.new) }
 {
     if is_pointer_to_complete(scope, types, t) {
         return Ok(Part::Allocation(made_for(scope, t, e)?));
@@ -229,7 +231,8 @@ pub fn given(
     at: Place,
     x: Part,
 ) -> Result<Part, Fault>
-    ensures { Answers part_view (operands.given t at (part_view x) (known types.old scope.old)) result (known types.new scope.new) }
+    ensures answers { Answers part_view (operands.given t at (part_view x) (known types.old scope.old)) result (known types.new scope.new) }
+    ensures grows { Grows (known types.old scope.old) (known types.new scope.new) }
 {
     match x {
         Part::Allocation(e) => given_allocation(scope, types, t, at, e),

@@ -1,6 +1,7 @@
 //! Members of structs and unions (C99 6.5.2.3).
 #![tactic(auto)]
 
+ghost use Rattle.c_typing.specs.Growing.{Grows};
 ghost use Rattle.std.specs.Prelude.{◌≡◌, IfOk, option_copied};
 ghost use Rattle.c_types.specs.Layouts.{member_at};
 ghost use Rattle.c_tree.specs.TypedParts.{type_of};
@@ -102,7 +103,7 @@ pub(crate) fn numbered(
 }
 
 /// The number of a member, and a node for its place.
-#[tactic(auto, unfolding(c_typing::specs::Operations::found, c_typing::specs::Judging::new_node))]
+#[tactic(auto, using(c_typing::proofs::GrowingLaws::grown), unfolding(c_typing::specs::Operations::found, c_typing::specs::Judging::new_node))]
 fn found(
     scope: &mut Scope,
     types: &Types,
@@ -110,7 +111,8 @@ fn found(
     whole: TypeId,
     name: &Identifier,
 ) -> Result<FoundMember, Fault>
-    ensures { Answers found_view (operations.found begin (shape_at types.now whole) name.now (known types.now scope.old)) result (known types.now scope.new) }
+    ensures answers { Answers found_view (operations.found begin (shape_at types.now whole) name.now (known types.now scope.old)) result (known types.now scope.new) }
+    ensures grows { Grows (known types.now scope.old) (known types.now scope.new) }
 {
     let place = named_member(scope, shape_at(types, whole), name.bytes.as_slice());
     let member = numbered(scope, types, begin, place)?;
@@ -167,7 +169,8 @@ fn member_of_place(
     name: &Identifier,
     p: Boxed<TypedPlace>,
 ) -> Result<Part, Fault>
-    ensures { Answers part_view (operations.member_of begin at name.now (AsPlace (typed_place_view p)) (known types.now scope.old)) result (known types.now scope.new) }
+    ensures answers { Answers part_view (operations.member_of begin at name.now (AsPlace (typed_place_view p)) (known types.now scope.old)) result (known types.now scope.new) }
+    ensures grows { Grows (known types.now scope.old) (known types.now scope.new) }
 {
     let whole = p.get().ty();
     let i = found(scope, types, begin, whole, name)?;
@@ -185,7 +188,8 @@ fn member_of(
     name: &Identifier,
     x: Part,
 ) -> Result<Part, Fault>
-    ensures { Answers part_view (operations.member_of begin at name.now (part_view x) (known types.now scope.old)) result (known types.now scope.new) }
+    ensures answers { Answers part_view (operations.member_of begin at name.now (part_view x) (known types.now scope.old)) result (known types.now scope.new) }
+    ensures grows { Grows (known types.now scope.old) (known types.now scope.new) }
 {
     match x {
         Part::Place(p) => member_of_place(scope, types, begin, at, name, p),
@@ -216,7 +220,8 @@ pub fn member(
     at: Place,
     name: &Identifier,
 ) -> Result<Operand, Fault>
-    ensures { Answers operand_view (operations.member (operand_view x) at name.now (known types.now scope.old)) result (known types.now scope.new) }
+    ensures answers { Answers operand_view (operations.member (operand_view x) at name.now (known types.now scope.old)) result (known types.now scope.new) }
+    ensures grows { Grows (known types.now scope.old) (known types.now scope.new) }
 {
     let place = x.place;
     let fault = part_fault(scope, types, x.part.as_ref(), at, name);
@@ -273,7 +278,8 @@ fn member_at_pointer(
     name: &Identifier,
     e: Boxed<TypedExpr>,
 ) -> Result<Part, Fault>
-    ensures { Answers part_view (operations.member_at_pointer begin at name.now (typed_expr_view e) (pointee_at types.now (type_of (typed_expr_view e))) (known types.now scope.old)) result (known types.now scope.new) }
+    ensures answers { Answers part_view (operations.member_at_pointer begin at name.now (typed_expr_view e) (pointee_at types.now (type_of (typed_expr_view e))) (known types.now scope.old)) result (known types.now scope.new) }
+    ensures grows { Grows (known types.now scope.old) (known types.now scope.new) }
 {
     let Some(whole) = pointee_at(types, e.get().ty()) else {
         return Err(no_room(begin));
@@ -292,7 +298,8 @@ pub fn pointed_member(
     at: Place,
     name: &Identifier,
 ) -> Result<Operand, Fault>
-    ensures { Answers operand_view (operations.pointed_member (value_view v) at name.now (known types.now scope.old)) result (known types.now scope.new) }
+    ensures answers { Answers operand_view (operations.pointed_member (value_view v) at name.now (known types.now scope.old)) result (known types.now scope.new) }
+    ensures grows { Grows (known types.now scope.old) (known types.now scope.new) }
 {
     if let Some(fault) = value_fault(scope, types, v.expr.get(), at, name) {
         return Err(fault);

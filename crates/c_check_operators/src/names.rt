@@ -1,6 +1,7 @@
 //! Names of objects, functions and enumeration constants (C99 6.5.1).
 #![tactic(auto)]
 
+ghost use Rattle.c_typing.specs.Growing.{Grows};
 ghost use Rattle.std.specs.Prelude.{◌≡◌, ◌&&◌, ◌||◌, not, bytes_eq, option_copied};
 ghost use Rattle.runtime_calls.specs.Prototypes.{runtime_of};
 ghost use Rattle.c_typing.specs.Assignments as assignments;
@@ -109,7 +110,8 @@ fn function_name(
     word: &Identifier,
     function: TypeId,
 ) -> Result<Part, Fault>
-    ensures { Answers part_view (assignments.function_name word.now function (known types.old scope.old)) result (known types.new scope.new) }
+    ensures answers { Answers part_view (assignments.function_name word.now function (known types.old scope.old)) result (known types.new scope.new) }
+    ensures grows { Grows (known types.old scope.old) (known types.new scope.new) }
 {
     let alloc = scope.alloc();
     let place = scope.function(word.bytes.as_slice());
@@ -131,7 +133,8 @@ fn named_as(
     runtime: Option<Runtime>,
     what: Option<Declared>,
 ) -> Result<Part, Fault>
-    ensures { Answers part_view (assignments.named_as word.now runtime what (known types.old scope.old)) result (known types.new scope.new) }
+    ensures answers { Answers part_view (assignments.named_as word.now runtime what (known types.old scope.old)) result (known types.new scope.new) }
+    ensures grows { Grows (known types.old scope.old) (known types.new scope.new) }
 {
     let alloc = scope.alloc();
     match what {
@@ -175,7 +178,8 @@ pub fn name(
     called: bool,
     word: &Identifier,
 ) -> Result<Operand, Fault>
-    ensures { Answers operand_view (assignments.name called word.now (known types.old scope.old)) result (known types.new scope.new) }
+    ensures answers { Answers operand_view (assignments.name called word.now (known types.old scope.old)) result (known types.new scope.new) }
+    ensures grows { Grows (known types.old scope.old) (known types.new scope.new) }
 {
     let runtime = runtime_of(word.bytes.as_slice());
     let is_runtime = matches!(runtime, Some(_));

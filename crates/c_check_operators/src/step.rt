@@ -1,6 +1,7 @@
 //! `++` and `--` (C99 6.5.2.4, 6.5.3.1), and the operators of one operand together.
 #![tactic(auto)]
 
+ghost use Rattle.c_typing.specs.Growing.{Grows};
 ghost use Rattle.std.specs.Prelude.{◌≡◌, [], ◌∷◌};
 ghost use Rattle.c_tree.specs.TypedTree as typed;
 ghost use Rattle.c_typing.specs.Judging.{Answers, known};
@@ -96,7 +97,8 @@ fn step_before(
     at: Place,
     x: Operand,
 ) -> Result<Operand, Fault>
-    ensures { Answers operand_view (operations.step_before operator at (operand_view x) (known types.old scope.old)) result (known types.new scope.new) }
+    ensures answers { Answers operand_view (operations.step_before operator at (operand_view x) (known types.old scope.old)) result (known types.new scope.new) }
+    ensures grows { Grows (known types.old scope.old) (known types.new scope.new) }
 {
     let fault = step_fault(scope, types, at, &x.part);
     let allowed = allowed(fault, at, x)?;
@@ -117,7 +119,8 @@ pub fn step_after(
     at: Place,
     x: Operand,
 ) -> Result<Operand, Fault>
-    ensures { Answers operand_view (operations.step_after operator at (operand_view x) (known types.old scope.old)) result (known types.new scope.new) }
+    ensures answers { Answers operand_view (operations.step_after operator at (operand_view x) (known types.old scope.old)) result (known types.new scope.new) }
+    ensures grows { Grows (known types.old scope.old) (known types.new scope.new) }
 {
     let begin = x.place;
     let fault = step_fault(scope, types, at, &x.part);
@@ -139,7 +142,8 @@ pub fn prefix(
     at: Place,
     x: Operand,
 ) -> Result<Operand, Fault>
-    ensures { Answers operand_view (operations.prefix operator at (operand_view x) (known types.old scope.old)) result (known types.new scope.new) }
+    ensures answers { Answers operand_view (operations.prefix operator at (operand_view x) (known types.old scope.old)) result (known types.new scope.new) }
+    ensures grows { Grows (known types.old scope.old) (known types.new scope.new) }
 {
     match operator {
         Unary::Increment => step_before(scope, types, Step::Increment, at, x),

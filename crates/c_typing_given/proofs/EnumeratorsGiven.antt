@@ -48,7 +48,7 @@ use Rattle.c_typing_given.proofs.SpecifiersGiven.{IsSpecifierGiven}
 use Rattle.c_typing_given.proofs.Spent.{room-first, room-then}
 use Rattle.c_typing_given.proofs.Steps.{then-is, obeying-is}
 use Rattle.c_typing_given.proofs.ValuesGiven.{uses-first}
-use Rattle.c_judging_kept.proofs.OpenScopes.{length-innermost}
+use Rattle.c_typing.proofs.OpenScopes.{length-innermost}
 
 abbrev pub in_state : Scopes → State → State
 in_state c s = record s { seen = with_scopes s.seen c }

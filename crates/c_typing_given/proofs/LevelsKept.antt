@@ -15,7 +15,7 @@ use Rattle.c_typing.specs.declared.declared.Tag.{Tag}
 use Rattle.c_typing.specs.Scopes.{Name, Level, Scopes, empty_level, at_innermost, without_innermost, with_name, with_tag, with_tag_set, declaring, entering, leaving, tag_in}
 use Rattle.c_typing.specs.Typing.{IsTyped, IsPlace, AreTyped, IsTypeName, AreSpecifiers, AreListed, IsSpecifier, AreMembers, AreMemberDeclarators, AreEnumerators, IsForm, IsCore, AreParts, AreParameters, IsDeclared, IsTagged, BeginsAggregate, IsNewName, IsNewEnumerator, tagging, tag_named_here, enumerating, enumerated, counting_aggregate}
 use Rattle.c_typing_unique.proofs.DeclaratorSteps.{DeclaresName, name_declared, declares-by}
-use Rattle.c_judging_kept.proofs.OpenScopes.{length-innermost}
+use Rattle.c_typing.proofs.OpenScopes.{length-innermost}
 
 -- Scopes
 

@@ -28,7 +28,7 @@ use Rattle.c_unit_typing.proofs.NameSteps.{named_state, linked_state, static_sta
 use Rattle.c_unit_given.proofs.UnitGiven.{IsHomeBelow, AreHomesBelow, IsUnitHere}
 use Rattle.c_unit_given.proofs.LevelsBelow.{homes-more}
 use Rattle.c_unit_given.proofs.Runs.{then-is}
-use Rattle.c_judging_kept.proofs.OpenScopes.{length-innermost, outer-same}
+use Rattle.c_typing.proofs.OpenScopes.{length-innermost, outer-same}
 
 -- the bytes of an object that lives as long as the program, with 16 more
 abbrev pub home_cost : Table → Home → TypeId → ℕ

@@ -26,7 +26,7 @@ use Rattle.c_unit_typing.proofs.UnitStates.{linkage-stays}
 use Rattle.c_unit_given.proofs.UnitGiven.{IsHomeBelow, IsUnitHere, IsUnitGivenAs, IsRun}
 use Rattle.c_unit_given.proofs.LevelsBelow.{IsLevelBelow, homes-outer}
 use Rattle.c_unit_given.proofs.Runs.{then-is, lifted-is}
-use Rattle.c_judging_kept.proofs.OpenScopes.{outer-of}
+use Rattle.c_typing.proofs.OpenScopes.{outer-of}
 
 -- Levels
 

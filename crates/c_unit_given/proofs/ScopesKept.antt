@@ -17,7 +17,7 @@ use Rattle.c_typing.specs.Typing.{IsTyped, IsPlace, AreTyped, IsTypeName, AreSpe
 use Rattle.c_unit_given.proofs.UnitGiven.{AreHomesBelow, IsScopeKept, AreScopesKept}
 use Rattle.c_unit_given.proofs.LevelsBelow.{IsLevelBelow, homes-changed, level-more}
 use Rattle.c_unit_given.proofs.InnermostNames.{entry-before, here-before}
-use Rattle.c_judging_kept.proofs.OpenScopes.{length-innermost, outer-of, outer-same}
+use Rattle.c_typing.proofs.OpenScopes.{length-innermost, outer-of, outer-same}
 
 -- Scopes
 

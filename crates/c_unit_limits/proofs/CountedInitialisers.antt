@@ -19,7 +19,8 @@ use Rattle.c_typing.specs.Settled.{IsKnown}
 use Rattle.c_typing.specs.Shapes.{is_scalar_shape}
 use Rattle.c_typing.specs.Tests.{first_broken}
 use Rattle.c_unit_limits.specs.Literals.{literals_made}
-use Rattle.c_judging_kept.proofs.KeptTypes.{count_cells-kept}
+use Rattle.c_unit_limits.proofs.Kept.{Kept}
+use Rattle.c_unit_limits.proofs.KeptTypes.{count_cells-kept}
 use Rattle.c_unit_limits.proofs.CountedLiterals.{becomes-counted}
 use Rattle.c_unit_limits.proofs.LiteralsMade.{literals-append}
 use Rattle.c_unit_typing.specs.Initialisers.{Slot, char_count_of_shape, is_char_array, items_count}
@@ -29,7 +30,6 @@ use Rattle.c_unit_typing.specs.UnitJudging.{UnitState, Gives, next, pure, obeyin
 use Rattle.c_unit_typing.proofs.JudgedInitialisers.{braces-never, slot_is, items-judged}
 use Rattle.c_unit_typing.proofs.KeptInitialisers.{complete-in, complete-kept, slot-complete}
 use Rattle.c_unit_typing.proofs.UnitOutcomes.{never-gives, bind-gives, unless-gives, given-same, lifted-gives}
-use Rattle.c_unit_limits.proofs.Kept.{limits, Out, Keeps, out-kept}
 
 -- so much is counted from the state s to the state r
 abbrev pub Counts : List Made → UnitState → UnitState → Type 0
@@ -46,7 +46,7 @@ AreMade i s r = Counts (made_by_initialiser i) s r
 
 -- counting pointers counts no bytes
 cells-stay : (at : Place) (t u : TypeId) (s r : State) → count_cells at t s ≡ judging.Gives u r → r.seen.globals ≡ s.seen.globals
-cells-stay at t u s r h = (subst (λ (m : Outcome TypeId). Out m (λ v q. Keeps s q)) h (out-kept (count_cells at t s) s ((count_cells-kept {K = limits} at t).kept s))).1
+cells-stay at t u s r h = (subst (λ (m : Outcome TypeId). Kept m s) h ((count_cells-kept at t).kept s)).1
 
 value-counts : (v : TypedExpr) (one : TypedInitialiser) (s m r : UnitState) → Counts (made_by v) s m → pure (typed.Value v) m ≡ Gives one r → AreMade one s r
 value-counts v one s m r n h = given-same (λ (i : TypedInitialiser) (q : UnitState). AreMade i s q) (typed.Value v) one m r h n

@@ -22,7 +22,7 @@ use Rattle.c_unit_typing.specs.Initialisers.{Slot, items_count}
 use Rattle.c_unit_typing.specs.InitialiserJudging.{judge_excess, judge_all_excess, excess_braces, item_slot, text, initialised, value_for, value_or_text, excess, judge_plain, with_item, slot_type, judge_initialiser, judge_items}
 use Rattle.c_unit_typing.specs.DeclarationJudging.{new_in, new_name, linked_name, object_name, count_object, lasting, new_static, declare_object, declare_by, declare, named, judge_named, defining, judge_init_declarators, is_none, judge_declaration}
 use Rattle.c_unit_typing.specs.Units.{Storage, AsTypedef, storage_of}
-use Rattle.c_judging_kept.proofs.KeptTypes.{count_cells-kept}
+use Rattle.c_unit_limits.proofs.KeptTypes.{count_cells-kept}
 use Rattle.c_unit_limits.proofs.HeldSteps.{count_global-held}
 use Rattle.c_unit_limits.proofs.HeldWhole.{checked-held, checked_value-held, specifiers_of-held, declarator_at-held}
 use Rattle.c_unit_limits.proofs.UnitSteps.{IsUnitHeld, unit-bind, unit-first, unit-last, unit-known, unit-pure, unit-asked, unit-kept, unit-stop, unit-small, unit-unless, lifted-held, lifted-kept}

@@ -11,6 +11,7 @@ use Rattle.c_tree.specs.declared.leaf.StringPiece.{StringPiece}
 use Rattle.c_tree.specs.Places.{pieces_place}
 use Rattle.c_tree.specs.Tree as tree
 use Rattle.c_typing.specs.Assignments.{count_global, literal_size, literal}
+use Rattle.c_typing.specs.Declaring.{stopped_outside, stopping_outside}
 use Rattle.c_typing.specs.Held.{held}
 use Rattle.c_typing.specs.Judging.{State, Outcome, Judging, Gives, Stops, next, ◌>>=◌, pure, stop, by_known}
 use Rattle.c_typing.specs.Operands.{Operand}
@@ -18,11 +19,9 @@ use Rattle.c_typing.specs.Operations.{leaf}
 use Rattle.c_typing.specs.Tests.{Elaborated}
 use Rattle.c_typing.specs.Walks.{judge}
 use Rattle.c_typing_laws.proofs.HeldTrees.{held-law}
-use Rattle.c_judging_kept.proofs.Kept.{IsKept, pure-kept}
-use Rattle.c_unit_limits.proofs.Kept.{limits, Out, Keeps, KeepsTypes, out-kept, out-fits}
-use Rattle.c_judging_kept.proofs.KeptTypes.{new_node-kept, string_type-kept}
-use Rattle.c_judging_kept.proofs.KeptConstructs.{IsFit}
-use Rattle.c_typing.specs.Declaring.{stopped_outside, stopping_outside}
+use Rattle.c_unit_limits.proofs.Kept.{Out, Keeps, KeepsTypes, Kept, IsKept, pure-kept}
+use Rattle.c_unit_limits.proofs.KeptTypes.{new_node-kept, string_type-kept}
+use Rattle.c_unit_limits.proofs.KeptConstructs.{IsFit}
 
 -- `w` is what is counted
 abbrev pub Holds : {A : Type 0} → Outcome A → (n w : ℕ) → State → Type 0
@@ -49,12 +48,12 @@ next_holds (Stops x r) f m n v w s h g = tt
 pub bind-held : {A B : Type 0} {p : Judging A} {f : A → Judging B} {m n v w : ℕ} → IsHeld p m v → ((a : A) → IsHeld (f a) n w) → IsHeld (p >>= f) (max m n) (v + w)
 bind-held {p} {f} {m} {n} {v} {w} h g = record { holds = λ s. next_holds (p s) f m n v w s (h.holds s) g }
 
-of_kept : {A : Type 0} (o : Outcome A) (s : State) → Out o (λ a r. Keeps s r) → Holds o 0 0 s
+of_kept : {A : Type 0} (o : Outcome A) (s : State) → Kept o s → Holds o 0 0 s
 of_kept (Gives b q) s h = (h.0, omega arith, no_more s.seen.globals q.seen.globals h.1)
 of_kept (Stops x q) s h = tt
 
-pub kept-held : {A : Type 0} {p : Judging A} → IsKept limits p → IsHeld p 0 0
-kept-held {p} h = record { holds = λ s. of_kept (p s) s (out-kept (p s) s (h.kept s)) }
+pub kept-held : {A : Type 0} {p : Judging A} → IsKept p → IsHeld p 0 0
+kept-held {p} h = record { holds = λ s. of_kept (p s) s (h.kept s) }
 
 less : {A : Type 0} (o : Outcome A) (m n v w : ℕ) (s : State) → m ≤ n → w ≡ v → Holds o n w s → Holds o m v s
 less (Gives b q) m n v w s le e h = (h.0, (let k = h.1 in omega arith), h.2 ∙ ap (λ (x : ℕ). s.seen.globals + x) e)
@@ -76,11 +75,11 @@ none_right : (w : ℕ) → w + 0 ≡ w
 none_right w = omega arith
 
 -- a step that holds so many, and others of which nothing is said
-pub first-held : {A B : Type 0} {p : Judging A} {f : A → Judging B} {n w : ℕ} → IsHeld p n w → ((a : A) → IsKept limits (f a)) → IsHeld (p >>= f) n w
+pub first-held : {A B : Type 0} {p : Judging A} {f : A → Judging B} {n w : ℕ} → IsHeld p n w → ((a : A) → IsKept (f a)) → IsHeld (p >>= f) n w
 first-held {n} {w} h g = as_held n (max n 0) w (w + 0) (max_left n) (none_right w) (bind-held h (λ a. kept-held (g a)))
 
 -- the other way round
-pub last-held : {A B : Type 0} {p : Judging A} {f : A → Judging B} {n w : ℕ} → IsKept limits p → ((a : A) → IsHeld (f a) n w) → IsHeld (p >>= f) n w
+pub last-held : {A B : Type 0} {p : Judging A} {f : A → Judging B} {n w : ℕ} → IsKept p → ((a : A) → IsHeld (f a) n w) → IsHeld (p >>= f) n w
 last-held {n} {w} h g = as_held n (max 0 n) w (0 + w) (max_right n) (none_left w) (bind-held (kept-held h) g)
 
 pub known-held : {A : Type 0} {f : State → Judging A} {n w : ℕ} → ((q : State) → IsHeld (f q) n w) → IsHeld (by_known f) n w
@@ -141,14 +140,14 @@ fit_both : (o : Outcome Operand) (s : State) → Out o (λ x r. Keeps s r × (x.
 fit_both (Gives b q) s h = (h.0.0, h.1, omega arith, no_more s.seen.globals q.seen.globals h.0.1)
 fit_both (Stops x q) s h = tt
 
-pub fit-whole : {p : Judging Operand} → IsFit limits p → IsWhole p 0 0
-fit-whole {p} h = record { both = λ s. fit_both (p s) s (out-fits (p s) s (h.fits s)) }
+pub fit-whole : {p : Judging Operand} → IsFit p → IsWhole p 0 0
+fit-whole {p} h = record { both = λ s. fit_both (p s) s (h.fits s) }
 
 -- the last step makes the operand
-pub then-whole : {A : Type 0} {p : Judging A} {f : A → Judging Operand} {n w : ℕ} → IsHeld p n w → ((a : A) → IsFit limits (f a)) → IsWhole (p >>= f) n w
+pub then-whole : {A : Type 0} {p : Judging A} {f : A → Judging Operand} {n w : ℕ} → IsHeld p n w → ((a : A) → IsFit (f a)) → IsWhole (p >>= f) n w
 then-whole {n} {w} h g = as_whole n (max n 0) w (w + 0) (max_left n) (none_right w) (bind-whole h (λ a. fit-whole (g a)))
 
-pub after-whole : {A : Type 0} {p : Judging A} {f : A → Judging Operand} {n w : ℕ} → IsKept limits p → ((a : A) → IsWhole (f a) n w) → IsWhole (p >>= f) n w
+pub after-whole : {A : Type 0} {p : Judging A} {f : A → Judging Operand} {n w : ℕ} → IsKept p → ((a : A) → IsWhole (f a) n w) → IsWhole (p >>= f) n w
 after-whole {n} {w} h g = as_whole n (max 0 n) w (0 + w) (max_right n) (none_left w) (bind-whole (kept-held h) g)
 
 operand_with : Place → Elaborated → Operand

@@ -21,11 +21,11 @@ use Rattle.c_typing.specs.Scopes.{Name}
 use Rattle.c_typing.specs.Walks.{declared_place, judge, judge_arguments, judge_type_name, judge_list, judge_specifier, judge_members, judge_member_declarators, judge_enumerators, judge_form, judge_core, judge_parts, judge_parameters, judge_declared}
 use Rattle.c_unit_typing.specs.Holding.{expr_holds, arguments_holds, type_name_holds, specifiers_holds, specifier_holds, members_holds, member_declarators_holds, enumerators_holds, declarator_holds, core_holds, parts_holds, parameters_holds, declared_holds}
 use Rattle.c_unit_limits.specs.Literals.{expr_literals, arguments_literals, type_name_literals, specifiers_literals, specifier_literals, members_literals, member_declarators_literals, enumerators_literals, declarator_literals, core_literals, parts_literals, parameters_literals, declared_literals}
-use Rattle.c_judging_kept.proofs.Kept.{pure-kept, bind-kept}
-use Rattle.c_unit_limits.proofs.Kept.{entered-kept, left-kept, objects}
-use Rattle.c_judging_kept.proofs.KeptConstructs.{value-kept, integer-fit, character-fit, paren-fit, step_after-fit, prefix-fit, index-fit, infix-fit, member-fit, pointed-fit}
-use Rattle.c_judging_kept.proofs.KeptAssignments.{assign-fit, update-fit, choice-fit, comma-fit, cast-fit, size_of_type-fit, call-fit, name-fit}
-use Rattle.c_judging_kept.proofs.KeptDeclarators.{word-kept, typedef_name-kept, tagged-kept, begun-kept, ended-kept, enum_tag-kept, enumerator-kept, valued-kept, enumeration_begun-kept, enumeration-kept, home_as-kept, stars-kept, sized-kept, declared_makes-kept, member_named-kept, parameter-kept}
+use Rattle.c_unit_limits.proofs.Kept.{pure-kept, bind-kept}
+use Rattle.c_unit_limits.proofs.KeptTypes.{entered-kept, left-kept}
+use Rattle.c_unit_limits.proofs.KeptConstructs.{value-kept, integer-fit, character-fit, paren-fit, step_after-fit, prefix-fit, index-fit, infix-fit, member-fit, pointed-fit}
+use Rattle.c_unit_limits.proofs.KeptAssignments.{assign-fit, update-fit, choice-fit, comma-fit, cast-fit, size_of_type-fit, call-fit, name-fit}
+use Rattle.c_unit_limits.proofs.KeptDeclarators.{word-kept, typedef_name-kept, tagged-kept, begun-kept, ended-kept, enum_tag-kept, enumerator-kept, valued-kept, enumeration_begun-kept, enumeration-kept, home_as-kept, stars-kept, sized-kept, declared_makes-kept, member_named-kept, parameter-kept}
 use Rattle.c_unit_limits.proofs.HeldSteps.{IsHeld, bind-held, kept-held, first-held, last-held, stop-held, IsWhole, bind-whole, then-whole, after-whole, fit-whole, literal-whole, expr-whole, expr-alone, outside-held}
 
 -- the value of an expression
@@ -140,7 +140,7 @@ mutual
   parameters-held tree.NoParameter void = kept-held (pure-kept (_))
   parameters-held (tree.AndParameter all specifiers d) void =
       bind-held (parameters-held all void) (λ list. bind-held (specifiers-held specifiers) (λ own.
-      first-held (declared-held d naming.Parameter (declared_place specifiers d)) (λ one. parameter-kept objects void (declared_place specifiers d) (_) list (_) one)))
+      first-held (declared-held d naming.Parameter (declared_place specifiers d)) (λ one. parameter-kept void (declared_place specifiers d) (_) list (_) one)))
 
   declared-held : (d : tree.Declared) (which : Naming) (at : Place) → IsHeld (judge_declared which at d) (declared_holds d) (declared_literals d)
   declared-held tree.NotDeclared which at = kept-held (pure-kept (_))

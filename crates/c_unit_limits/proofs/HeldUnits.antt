@@ -25,7 +25,8 @@ use Rattle.c_unit_typing.specs.StatementJudging.{dropped, returned, promotion, t
 use Rattle.c_unit_typing.specs.DefinitionJudging.{result_of, counted, defined, body, defined_as, judge_definition, judge_unit}
 use Rattle.c_unit_typing.specs.Units.{Around, storage_of, in_a_loop, in_a_switch, going_on}
 use Rattle.c_unit_typing.specs.UnitJudging.{UnitJudging, pure, stop, lifted}
-use Rattle.c_unit_limits.proofs.Kept.{in_scopes-kept, entered-kept, left-kept}
+use Rattle.c_unit_limits.proofs.Kept.{seen-kept}
+use Rattle.c_unit_limits.proofs.KeptTypes.{entered-kept, left-kept}
 use Rattle.c_unit_limits.proofs.HeldWhole.{checked-held, checked_value-held, checked_constant-held, specifiers_of-held, declarator_at-held}
 use Rattle.c_unit_limits.proofs.HeldDeclarations.{linked_name-held, declaration-held}
 use Rattle.c_unit_limits.proofs.UnitSteps.{IsUnitHeld, unit-bind, unit-first, unit-last, unit-known, unit-pure, unit-kept, unit-stop, unit-unless, lifted-held, lifted-kept}
@@ -137,7 +138,7 @@ unfolding defined
 defined_held name t = unit-first (linked_name-held name (_)) (λ what. unit-kept (λ s. (λ h. h, omega arith)))
 
 opened_held : (level : Level) → IsUnitHeld (lifted (in_scopes (going_on level) true)) 0
-opened_held level = lifted-kept (in_scopes-kept (going_on level) true)
+opened_held level = lifted-kept (seen-kept true (λ s. with_scopes s.seen (going_on level s.seen.scopes)) (λ s. (refl, refl)))
 
 body_held : (brace : Place) (result : Option TypeId) (level : Level) (items : tree.BlockItems) → IsUnitHeld (body brace result level items) (block_items_holds items)
 unfolding body

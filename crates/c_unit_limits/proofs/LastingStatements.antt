@@ -26,7 +26,7 @@ use Rattle.c_unit_typing.proofs.JudgedSwitches.{switch-there}
 use Rattle.c_unit_typing.proofs.Scoped.{IsWithin, within-gives, sub-judged}
 use Rattle.c_unit_typing.proofs.UnitStates.{unit-on}
 use Rattle.c_unit_typing.proofs.UnitOutcomes.{never-gives, bind-gives, unless-gives, given-same}
-use Rattle.c_unit_limits.proofs.Kept.{entered-kept, left-kept}
+use Rattle.c_unit_limits.proofs.KeptTypes.{entered-kept, left-kept}
 use Rattle.c_unit_limits.proofs.LastingDeclarations.{declaration-lasts}
 use Rattle.c_unit_limits.proofs.LastingSteps.{Lasts, lasts-none, lasts-on, lasts-inside, lifted-still, value-lasts, switched-lasts, dropped-lasts, returned-lasts, constant-lasts}
 

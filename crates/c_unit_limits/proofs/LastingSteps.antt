@@ -31,9 +31,8 @@ use Rattle.c_unit_limits.specs.Literals.{statics_made}
 use Rattle.c_unit_limits.proofs.CountedInitialisers.{Counts, initialiser-counts}
 use Rattle.c_unit_limits.proofs.CountedLiterals.{constant-counted}
 use Rattle.c_unit_limits.proofs.CountedTests.{value-counts, dropped-counts, returned-counts, promoted-made}
-use Rattle.c_judging_kept.proofs.Kept.{IsKept}
+use Rattle.c_unit_limits.proofs.Kept.{Kept, IsKept}
 use Rattle.c_unit_limits.proofs.StaticsMade.{IsAlike, statics-append, none, alone, two, value-alike, place-alike}
-use Rattle.c_unit_limits.proofs.Kept.{limits, Out, Keeps, out-kept}
 
 -- so much is counted from the state s to the state r
 pub record Lasts (made : List Made) (s r : UnitState) : Type 0 where
@@ -65,8 +64,8 @@ literals-last made s r n alike = record {
 }
 
 -- a step that counts no bytes
-pub lifted-still : {A : Type 0} (p : Judging A) → IsKept limits p → (a : A) (s r : UnitState) → lifted p s ≡ Gives a r → r.seen.globals ≡ s.seen.globals
-lifted-still p k a s r h = (subst (λ (m : Outcome _). Out m (λ v q. Keeps (state_of s) q)) (lifted-gives p a s r h).0 (out-kept (p (state_of s)) (state_of s) (k.kept (state_of s)))).1
+pub lifted-still : {A : Type 0} (p : Judging A) → IsKept p → (a : A) (s r : UnitState) → lifted p s ≡ Gives a r → r.seen.globals ≡ s.seen.globals
+lifted-still p k a s r h = (subst (λ (m : Outcome _). Kept m (state_of s)) (lifted-gives p a s r h).0 (k.kept (state_of s))).1
 
 -- Expressions
 

@@ -41,7 +41,7 @@ use Rattle.c_unit_typing.proofs.UnitStates.{unit-on}
 use Rattle.c_unit_typing.proofs.WholeUnits.{before-known}
 use Rattle.c_unit_limits.specs.Literals.{literals_made, statics_made, own_bytes}
 use Rattle.c_unit_limits.proofs.CountedLiterals.{declarator-counted}
-use Rattle.c_unit_limits.proofs.Kept.{left-kept}
+use Rattle.c_unit_limits.proofs.KeptTypes.{left-kept}
 use Rattle.c_unit_limits.proofs.LastingDeclarations.{base-lasts, declaration-lasts}
 use Rattle.c_unit_limits.proofs.LastingNames.{declarator-alike}
 use Rattle.c_unit_limits.proofs.LastingStatements.{items-last}

@@ -1,4 +1,8 @@
 pub mod Kept
+pub mod KeptTypes
+pub mod KeptConstructs
+pub mod KeptAssignments
+pub mod KeptDeclarators
 pub mod HeldSteps
 pub mod HeldTrees
 pub mod HeldWhole

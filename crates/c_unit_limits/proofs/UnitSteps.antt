@@ -8,9 +8,8 @@ use Rattle.c_typing.specs.Judging.{Outcome, Judging}
 use Rattle.c_unit_typing.specs.Linkage.{Linkage}
 use Rattle.c_unit_typing.specs.UnitJudging.{UnitState, UnitOutcome, UnitJudging, Gives, Stops, next, ◌>>=◌, pure, stop, unless, by_known, with_linkage, lifted}
 use Rattle.c_unit_limits.specs.Few.{IsBounded}
-use Rattle.c_judging_kept.proofs.Kept.{IsKept}
+use Rattle.c_unit_limits.proofs.Kept.{IsKept}
 use Rattle.c_unit_limits.proofs.HeldSteps.{Holds, IsHeld, kept-held}
-use Rattle.c_unit_limits.proofs.Kept.{limits}
 
 -- what is said of what is given, and of what is known there
 abbrev pub UnitOut : {A : Type 0} → UnitOutcome A → (A → UnitState → Type 0) → Type 0
@@ -102,5 +101,5 @@ with_held l (judging.Stops f q) n w s h = tt
 pub lifted-held : {A : Type 0} {p : Judging A} {n w : ℕ} → IsHeld p n w → IsUnitHeld (lifted p) n
 lifted-held {p} {n} {w} h = record { holds = λ s. with_held s.linkage (p (judging.known s.table s.seen)) n w s (h.holds (judging.known s.table s.seen)) }
 
-pub lifted-kept : {A : Type 0} {p : Judging A} → IsKept limits p → IsUnitHeld (lifted p) 0
+pub lifted-kept : {A : Type 0} {p : Judging A} → IsKept p → IsUnitHeld (lifted p) 0
 lifted-kept h = lifted-held (kept-held h)

@@ -19,8 +19,7 @@ use Rattle.c_check_expr.proofs.AcceptedLaws.{accepted}
 use Rattle.c_unit_typing.specs.Holding.{declarator_holds}
 use Rattle.c_check_expr.specs.Limited.{IsWithin}
 use Rattle.c_check_expr.proofs.LimitFacts.{declarator-within}
-use Rattle.c_judging_kept.proofs.OpenSteps.{scopes-answer}
-use Rattle.c_judging_kept.proofs.OpenWhole.{declarator_at-open}
+use Rattle.c_typing.proofs.GrowingLaws.{grown-same}
 use Rattle.c_check_expr.proofs.calls.check_declarator.Goals as goal
 
 pub returns-clause-typed : goal.returns-clause-typed
@@ -48,7 +47,5 @@ returns-clause-limited c =
     given-ok typed_declarator_view (judge_declarator c.args.naming (typed_specifiers_view c.args.base.now) c.args.size (declarator_view c.args.d.now) s) c.declarator_behind.result r (λ v. IsWithin (declarator_holds (declarator_view c.args.d.now)) s r)
     (λ v h. declarator-within c.args.naming (typed_specifiers_view c.args.base.now) c.args.size (declarator_view c.args.d.now) v s r h) c.declarator_behind.ensures.judged
 
-pub returns-clause-scopes : goal.returns-clause-scopes
-returns-clause-scopes c =
-    scopes-answer typed_declarator_view (judge_declarator c.args.naming (typed_specifiers_view c.args.base.now) c.args.size (declarator_view c.args.d.now)) (known c.args.types.now c.args.scope.now) (known c.declarator_behind.new.types c.declarator_behind.new.scope) c.declarator_behind.result
-    (declarator_at-open false (name_place (declarator_name (declarator_view c.args.d.now)) nowhere) c.args.naming (specified_type (typed_specifiers_view c.args.base.now)) c.args.size (declarator_view c.args.d.now)) c.depth.ensures.some c.declarator_behind.ensures.judged
+pub returns-clause-grown : goal.returns-clause-grown
+returns-clause-grown c = c.declarator_behind.ensures.grows false (known c.args.types.now c.args.scope.now) (grown-same false (known c.args.types.now c.args.scope.now))

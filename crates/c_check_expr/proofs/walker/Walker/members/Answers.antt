@@ -36,4 +36,5 @@ loop-row-preserved g c = (
   λ first.
       let named = c.in_ok-members_row.ensures.named (added none_typed (map typed_members_view c.loop-row.found)) (c.loop-row.invariant.1 first) in
       first_of (grind (arith, common_steps, pushes), search (rules, pushes)),
+  search rules,
 )

@@ -18,5 +18,5 @@ returns-in-Function-clause-left g c =
 
 pub returns-in_err-one-in_default-clause-judged : goal.returns-in_err-one-in_default-clause-judged
 returns-in_err-one-in_default-clause-judged g c =
-    let stopped = c.in_err-one-in_default.ensures (known c.args.types.now c.args.scope.now) NoPart none_typed (no_parts c.args.at (known c.args.types.now c.args.scope.now)) in
+    let stopped = c.in_err-one-in_default.ensures.answers (known c.args.types.now c.args.scope.now) NoPart none_typed (no_parts c.args.at (known c.args.types.now c.args.scope.now)) in
     search rules

@@ -1,4 +1,4 @@
--- What is kept by the constructs of expressions, which hold no more than 256 values.
+-- Constructs of expressions keep that no function type of the table has more than 127 parameters, and hold no more than 256 values.
 use Rattle.std.proofs.Common.{◌≡◌, ℕ, ◌≤◌, ℤ, Bool, true, false, List, Option, Some, None, refl, ◌∙◌, nat_lt, if◌then◌else◌, arith}
 use Rattle.std.proofs.lemmas.Bool.Decides.{nat_tests}
 use Rattle.cc_base.specs.declared.fault.Fault.{Fault}
@@ -22,39 +22,38 @@ use Rattle.c_typing.specs.Operands.{Operand, Value, place_value, raw_value, valu
 use Rattle.c_typing.specs.Operations as operations
 use Rattle.c_typing.specs.Operations.{construct, leaf, paren, target_of, target, address_behind, address_of_part, address, prefix_of, size_of_part, size, step_part, step_before, step_after, prefix, index, infix_of, numbered, found, member_of, member, member_at_pointer, pointed_member}
 use Rattle.c_typing.specs.Tests.{Test, Elaborated, AsPlace, AsValue, AsAllocation, first_broken}
-use Rattle.c_judging_kept.specs.Keeping.{Keeping}
-use Rattle.c_judging_kept.proofs.Kept.{Kept, IsKept, pure-kept, stop-kept, bind-kept, known-kept}
-use Rattle.c_judging_kept.proofs.KeptTypes.{new_node-kept, new_pointer-kept}
+use Rattle.c_unit_limits.proofs.Kept.{Out, Keeps, Kept, IsKept, pure-kept, stop-kept, bind-kept, known-kept}
+use Rattle.c_unit_limits.proofs.KeptTypes.{new_node-kept, new_pointer-kept}
 
 -- Values
 
-place_value-kept : {K : Keeping} (at : Place) (p : TypedPlace) (how : Reading) → IsKept K (place_value at p how)
+place_value-kept : (at : Place) (p : TypedPlace) (how : Reading) → IsKept (place_value at p how)
 unfolding place_value
 place_value-kept at p (reading.Decays element) = bind-kept (new_pointer-kept at element) (λ made. pure-kept (_))
 place_value-kept at p reading.Reads = pure-kept (_)
 place_value-kept at p reading.Stays = pure-kept (_)
 place_value-kept at p reading.Nothing = stop-kept (_)
 
-raw_value-kept : {K : Keeping} (at : Place) (e : TypedExpr) → IsKept K (raw_value at e)
+raw_value-kept : (at : Place) (e : TypedExpr) → IsKept (raw_value at e)
 unfolding raw_value
 raw_value-kept at e = bind-kept (new_pointer-kept at (_)) (λ made. pure-kept (_))
 
-value_of-kept : {K : Keeping} (at : Place) (x : Elaborated) → IsKept K (value_of at x)
+value_of-kept : (at : Place) (x : Elaborated) → IsKept (value_of at x)
 unfolding value_of
 value_of-kept at (AsPlace p) = known-kept (λ s. place_value-kept at p (_))
 value_of-kept at (AsValue e) = pure-kept e
 value_of-kept at (AsAllocation e) = raw_value-kept at e
 
-pub value-kept : {K : Keeping} (x : Operand) → IsKept K (value x)
+pub value-kept : (x : Operand) → IsKept (value x)
 unfolding value
 value-kept x = bind-kept (value_of-kept x.place x.part) (λ e. pure-kept (_))
 
-given_allocation-kept : {K : Keeping} (t : TypeId) (at : Place) (e : TypedExpr) (b : Bool) → IsKept K (given_allocation t at e b)
+given_allocation-kept : (t : TypeId) (at : Place) (e : TypedExpr) (b : Bool) → IsKept (given_allocation t at e b)
 unfolding given_allocation
 given_allocation-kept t at e true = pure-kept (_)
 given_allocation-kept t at e false = bind-kept (raw_value-kept at e) (λ v. pure-kept (_))
 
-pub given-kept : {K : Keeping} (t : TypeId) (at : Place) (x : Elaborated) → IsKept K (given t at x)
+pub given-kept : (t : TypeId) (at : Place) (x : Elaborated) → IsKept (given t at x)
 unfolding given
 given-kept t at (AsAllocation e) = known-kept (λ s. given_allocation-kept t at e (_))
 given-kept t at (AsPlace p) = bind-kept (value_of-kept at (AsPlace p)) (λ v. pure-kept (_))
@@ -63,130 +62,129 @@ given-kept t at (AsValue e) = bind-kept (value_of-kept at (AsValue e)) (λ v. pu
 -- Constructs
 
 -- what is known is kept, and the operand that is given holds no more than 256 values
-abbrev pub Fits : (K : Keeping) → Outcome Operand → State → Type 0
-Fits K (Gives o r) s = K.keeps s r × (o.held ≤ 256)
-Fits K (Stops f r) s = K.stops s r
+abbrev Fits : Outcome Operand → State → Type 0
+Fits m s = Out m (λ o r. Keeps s r × (o.held ≤ 256))
 
-pub record IsFit (K : Keeping) (p : Judging Operand) : Type 0 where
-  pub fits : (s : State) → Fits K (p s) s
+pub record IsFit (p : Judging Operand) : Type 0 where
+  pub fits : (s : State) → Fits (p s) s
 
-later_fits : (K : Keeping) (o : Outcome Operand) (s r : State) → K.keeps s r → Fits K o r → Fits K o s
-later_fits K (Gives b q) s r h k = (K.both s r q h k.0, k.1)
-later_fits K (Stops x q) s r h k = K.behind s r q h k
+later_fits : (o : Outcome Operand) (s r : State) → Keeps s r → Fits o r → Fits o s
+later_fits (Gives b q) s r h k = ((λ x. k.0.0 (h.0 x), k.0.1 ∙ h.1), k.1)
+later_fits (Stops x q) s r h k = tt
 
-next_fits : (K : Keeping) {A : Type 0} (m : Outcome A) (f : A → Judging Operand) (s : State) → Kept K m s → ((a : A) → IsFit K (f a)) → Fits K (next m f) s
-next_fits K (Gives a r) f s h g = later_fits K (f a r) s r h ((g a).fits r)
-next_fits K (Stops x r) f s h g = h
+next_fits : {A : Type 0} (m : Outcome A) (f : A → Judging Operand) (s : State) → Kept m s → ((a : A) → IsFit (f a)) → Fits (next m f) s
+next_fits (Gives a r) f s h g = later_fits (f a r) s r h ((g a).fits r)
+next_fits (Stops x r) f s h g = tt
 
-pub bind-fit : {K : Keeping} {A : Type 0} {p : Judging A} {f : A → Judging Operand} → IsKept K p → ((a : A) → IsFit K (f a)) → IsFit K (p >>= f)
-bind-fit {K} {p} {f} h g = record { fits = λ s. next_fits K (p s) f s (h.kept s) g }
+pub bind-fit : {A : Type 0} {p : Judging A} {f : A → Judging Operand} → IsKept p → ((a : A) → IsFit (f a)) → IsFit (p >>= f)
+bind-fit {p} {f} h g = record { fits = λ s. next_fits (p s) f s (h.kept s) g }
 
-known-fit : {K : Keeping} {f : State → Judging Operand} → ((q : State) → IsFit K (f q)) → IsFit K (by_known f)
+known-fit : {f : State → Judging Operand} → ((q : State) → IsFit (f q)) → IsFit (by_known f)
 known-fit h = record { fits = λ s. (h s).fits s }
 
-kept_of : (K : Keeping) (o : Outcome Operand) (s : State) → Fits K o s → Kept K o s
-kept_of K (Gives b q) s h = h.0
-kept_of K (Stops x q) s h = h
+kept_of : (o : Outcome Operand) (s : State) → Fits o s → Kept o s
+kept_of (Gives b q) s h = h.0
+kept_of (Stops x q) s h = tt
 
-pub fit-kept : {K : Keeping} {p : Judging Operand} → IsFit K p → IsKept K p
-fit-kept {K} {p} h = record { kept = λ s. kept_of K (p s) s (h.fits s) }
+pub fit-kept : {p : Judging Operand} → IsFit p → IsKept p
+fit-kept {p} h = record { kept = λ s. kept_of (p s) s (h.fits s) }
 
 operand_with : Place → ℕ → Elaborated → Operand
 operand_with begin h x = record { part = x; place = begin; held = h }
 
-made_fit : (K : Keeping) (begin : Place) (h : ℕ) (m : Outcome Elaborated) (s : State) → h ≤ 256 → Kept K m s → Fits K (next m (λ x. pure (operand_with begin h x))) s
+made_fit : (begin : Place) (h : ℕ) (m : Outcome Elaborated) (s : State) → h ≤ 256 → Kept m s → Fits (next m (λ x. pure (operand_with begin h x))) s
 unfolding operand_with
-made_fit K begin h (Gives x r) s le k = (k, le)
-made_fit K begin h (Stops f r) s le k = k
+made_fit begin h (Gives x r) s le k = (k, le)
+made_fit begin h (Stops f r) s le k = tt
 
 few_when : (n : ℕ) → nat_lt 256 n ≡ false → n ≤ 256
 few_when n h = grind (arith, nat_tests)
 
-body_fit : {K : Keeping} (begin : Place) (n : ℕ) {made : Judging Elaborated} → IsKept K made → IsFit K (holding begin n >>= (λ h. made >>= (λ x. pure (operand_with begin h x))))
+body_fit : (begin : Place) (n : ℕ) {made : Judging Elaborated} → IsKept made → IsFit (holding begin n >>= (λ h. made >>= (λ x. pure (operand_with begin h x))))
 unfolding holding
-body_fit {K} begin n {made} k = record { fits = λ s. by s (nat_lt 256 n) (few_when n) }
+body_fit begin n {made} k = record { fits = λ s. by s (nat_lt 256 n) (few_when n) }
   where
     by : (s : State) (b : Bool) → (b ≡ false → n ≤ 256)
-        → Fits K (next (if b then Stops (TooLarge begin Held) s else Gives n s) (λ h. made >>= (λ x. pure (operand_with begin h x)))) s
-    by s true le = K.here s
-    by s false le = made_fit K begin n (made s) s (le refl) (k.kept s)
+        → Fits (next (if b then Stops (TooLarge begin Held) s else Gives n s) (λ h. made >>= (λ x. pure (operand_with begin h x)))) s
+    by s true le = tt
+    by s false le = made_fit begin n (made s) s (le refl) (k.kept s)
 
-unless_fit : {K : Keeping} (o : Option Fault) (go : Judging Operand) → IsFit K go → IsFit K (unless o go)
+unless_fit : (o : Option Fault) (go : Judging Operand) → IsFit go → IsFit (unless o go)
 unless_fit None go h = h
-unless_fit {K} (Some f) go h = record { fits = λ s. K.here s }
+unless_fit (Some f) go h = record { fits = λ s. tt }
 
-pub construct-fit : {K : Keeping} (rules : State → List Test) (begin : Place) (held : List ℕ) {made : Judging Elaborated} → IsKept K made → IsFit K (construct rules begin held made)
+pub construct-fit : (rules : State → List Test) (begin : Place) (held : List ℕ) {made : Judging Elaborated} → IsKept made → IsFit (construct rules begin held made)
 unfolding construct operand_with
 construct-fit rules begin held {made} k = record { fits = λ s. (unless_fit (first_broken (rules s)) (_) (body_fit begin (held_with 0 held) k)).fits s }
 
-pub leaf-fit : {K : Keeping} (at : Place) {made : Judging Elaborated} → IsKept K made → IsFit K (leaf at made)
+pub leaf-fit : (at : Place) {made : Judging Elaborated} → IsKept made → IsFit (leaf at made)
 unfolding leaf operand_with
-leaf-fit {K} at {made} k = record { fits = λ s. made_fit K at 1 (made s) s (omega arith) (k.kept s) }
+leaf-fit at {made} k = record { fits = λ s. made_fit at 1 (made s) s (omega arith) (k.kept s) }
 
-pub integer-fit : {K : Keeping} (of : ConstantType) (n : ℕ) (at : Place) → IsFit K (operations.integer of n at)
+pub integer-fit : (of : ConstantType) (n : ℕ) (at : Place) → IsFit (operations.integer of n at)
 unfolding operations.integer
 integer-fit of n at = leaf-fit at (pure-kept (_))
 
-pub character-fit : {K : Keeping} (n : ℤ) (at : Place) → IsFit K (operations.character n at)
+pub character-fit : (n : ℤ) (at : Place) → IsFit (operations.character n at)
 unfolding operations.character
 character-fit n at = leaf-fit at (pure-kept (_))
 
-pub paren-fit : {K : Keeping} (at : Place) (x : Operand) → IsFit K (paren at x)
+pub paren-fit : (at : Place) (x : Operand) → IsFit (paren at x)
 unfolding paren
 paren-fit at x = construct-fit (_) at (_) (pure-kept (_))
 
-target_of-fit : {K : Keeping} (at : Place) (v : Value) → IsFit K (target_of at v)
+target_of-fit : (at : Place) (v : Value) → IsFit (target_of at v)
 unfolding target_of
 target_of-fit at v = construct-fit (_) at (_) (known-kept (λ s. pure-kept (_)))
 
-target-fit : {K : Keeping} (at : Place) (x : Operand) → IsFit K (target at x)
+target-fit : (at : Place) (x : Operand) → IsFit (target at x)
 unfolding target
 target-fit at x = bind-fit (value-kept x) (λ v. target_of-fit at v)
 
-address_behind-kept : {K : Keeping} (at : Place) (p : TypedPlace) (o : Option TypedExpr) → IsKept K (address_behind at p o)
+address_behind-kept : (at : Place) (p : TypedPlace) (o : Option TypedExpr) → IsKept (address_behind at p o)
 unfolding address_behind
 address_behind-kept at p (Some e) = pure-kept (_)
 address_behind-kept at p None = bind-kept (new_pointer-kept at (_)) (λ made. pure-kept (_))
 
-address_of-kept : {K : Keeping} (at : Place) (x : Elaborated) → IsKept K (address_of_part at x)
+address_of-kept : (at : Place) (x : Elaborated) → IsKept (address_of_part at x)
 unfolding address_of_part
 address_of-kept at (AsPlace p) = address_behind-kept at p (_)
 address_of-kept at (AsValue e) = pure-kept (_)
 address_of-kept at (AsAllocation e) = stop-kept (_)
 
-address-fit : {K : Keeping} (at : Place) (x : Operand) → IsFit K (address at x)
+address-fit : (at : Place) (x : Operand) → IsFit (address at x)
 unfolding address
 address-fit at x = construct-fit (_) at (_) (address_of-kept at x.part)
 
-prefix_of-fit : {K : Keeping} (operator : Unary) (at : Place) (v : Value) → IsFit K (prefix_of operator at v)
+prefix_of-fit : (operator : Unary) (at : Place) (v : Value) → IsFit (prefix_of operator at v)
 unfolding prefix_of
 prefix_of-fit operator at v = construct-fit (_) at (_) (known-kept (λ s. pure-kept (_)))
 
-size_of-kept : {K : Keeping} (at begin : Place) (x : Elaborated) → IsKept K (size_of_part at begin x)
+size_of-kept : (at begin : Place) (x : Elaborated) → IsKept (size_of_part at begin x)
 unfolding size_of_part
 size_of-kept at begin (AsPlace p) = known-kept (λ s. pure-kept (_))
 size_of-kept at begin (AsValue e) = bind-kept (value_of-kept begin (AsValue e)) (λ v. known-kept (λ s. pure-kept (_)))
 size_of-kept at begin (AsAllocation e) = bind-kept (value_of-kept begin (AsAllocation e)) (λ v. known-kept (λ s. pure-kept (_)))
 
-size-fit : {K : Keeping} (at : Place) (x : Operand) → IsFit K (size at x)
+size-fit : (at : Place) (x : Operand) → IsFit (size at x)
 unfolding size
 size-fit at x = construct-fit (_) at (_) (size_of-kept at x.place x.part)
 
-step_part-kept : {K : Keeping} (made : TypedPlace → TypedExpr) (at : Place) (x : Elaborated) → IsKept K (step_part made at x)
+step_part-kept : (made : TypedPlace → TypedExpr) (at : Place) (x : Elaborated) → IsKept (step_part made at x)
 unfolding step_part
 step_part-kept made at (AsPlace p) = pure-kept (_)
 step_part-kept made at (AsValue e) = stop-kept (_)
 step_part-kept made at (AsAllocation e) = stop-kept (_)
 
-step_before-fit : {K : Keeping} (operator : Step) (at : Place) (x : Operand) → IsFit K (step_before operator at x)
+step_before-fit : (operator : Step) (at : Place) (x : Operand) → IsFit (step_before operator at x)
 unfolding step_before
 step_before-fit operator at x = construct-fit (_) at (_) (step_part-kept (_) at x.part)
 
-pub step_after-fit : {K : Keeping} (operator : Step) (at : Place) (x : Operand) → IsFit K (step_after operator at x)
+pub step_after-fit : (operator : Step) (at : Place) (x : Operand) → IsFit (step_after operator at x)
 unfolding step_after
 step_after-fit operator at x = construct-fit (_) x.place (_) (step_part-kept (_) at x.part)
 
-pub prefix-fit : {K : Keeping} (operator : Unary) (at : Place) (x : Operand) → IsFit K (prefix operator at x)
+pub prefix-fit : (operator : Unary) (at : Place) (x : Operand) → IsFit (prefix operator at x)
 unfolding prefix
 prefix-fit unary.Increment at x = step_before-fit (_) at x
 prefix-fit unary.Decrement at x = step_before-fit (_) at x
@@ -198,44 +196,44 @@ prefix-fit unary.Complement at x = bind-fit (value-kept x) (λ v. prefix_of-fit 
 prefix-fit unary.Not at x = bind-fit (value-kept x) (λ v. prefix_of-fit unary.Not at v)
 prefix-fit unary.SizeOf at x = size-fit at x
 
-pub index-fit : {K : Keeping} (a : Value) (at : Place) (b : Value) → IsFit K (index a at b)
+pub index-fit : (a : Value) (at : Place) (b : Value) → IsFit (index a at b)
 unfolding index
 index-fit a at b = construct-fit (_) a.place (_) (known-kept (λ s. pure-kept (_)))
 
-pub infix-fit : {K : Keeping} (operator : Binary) (a : Value) (at : Place) (b : Value) → IsFit K (infix_of operator a at b)
+pub infix-fit : (operator : Binary) (a : Value) (at : Place) (b : Value) → IsFit (infix_of operator a at b)
 unfolding infix_of
 infix-fit operator a at b = construct-fit (_) a.place (_) (known-kept (λ s. pure-kept (_)))
 
 -- Members
 
-if_same : {K : Keeping} {A : Type 0} (b : Bool) (p q : Judging A) → IsKept K p → IsKept K q → IsKept K (if b then p else q)
+if_same : {A : Type 0} (b : Bool) (p q : Judging A) → IsKept p → IsKept q → IsKept (if b then p else q)
 if_same true p q h k = h
 if_same false p q h k = k
 
-pub numbered-kept : {K : Keeping} (at : Place) (o : Option ℕ) → IsKept K (numbered at o)
+pub numbered-kept : (at : Place) (o : Option ℕ) → IsKept (numbered at o)
 unfolding numbered
 numbered-kept at None = stop-kept (_)
 numbered-kept at (Some i) = if_same (nat_lt i 4294967296) (pure i) (stop (TooLarge at Types)) (pure-kept i) (stop-kept (_))
 
-found-kept : {K : Keeping} (begin : Place) (x : TypeShape) (name : Identifier) → IsKept K (found begin x name)
+found-kept : (begin : Place) (x : TypeShape) (name : Identifier) → IsKept (found begin x name)
 unfolding found
 found-kept begin x name = bind-kept (known-kept (λ s. numbered-kept begin (_))) (λ i. bind-kept (new_node-kept begin) (λ n. pure-kept (_)))
 
-member_of-kept : {K : Keeping} (begin at : Place) (name : Identifier) (x : Elaborated) → IsKept K (member_of begin at name x)
+member_of-kept : (begin at : Place) (name : Identifier) (x : Elaborated) → IsKept (member_of begin at name x)
 unfolding member_of
 member_of-kept begin at name (AsPlace p) = bind-kept (known-kept (λ s. found-kept begin (_) name)) (λ i. known-kept (λ s. pure-kept (_)))
 member_of-kept begin at name (AsValue e) = stop-kept (_)
 member_of-kept begin at name (AsAllocation e) = stop-kept (_)
 
-pub member-fit : {K : Keeping} (x : Operand) (at : Place) (name : Identifier) → IsFit K (member x at name)
+pub member-fit : (x : Operand) (at : Place) (name : Identifier) → IsFit (member x at name)
 unfolding member
 member-fit x at name = construct-fit (_) x.place (_) (member_of-kept x.place at name x.part)
 
-behind_kept : {K : Keeping} (begin at : Place) (name : Identifier) (e : TypedExpr) (o : Option TypeId) → IsKept K (member_at_pointer begin at name e o)
+behind_kept : (begin at : Place) (name : Identifier) (e : TypedExpr) (o : Option TypeId) → IsKept (member_at_pointer begin at name e o)
 unfolding member_at_pointer
 behind_kept begin at name e (Some t) = bind-kept (known-kept (λ s. found-kept begin (_) name)) (λ i. known-kept (λ s. pure-kept (_)))
 behind_kept begin at name e None = stop-kept (_)
 
-pub pointed-fit : {K : Keeping} (v : Value) (at : Place) (name : Identifier) → IsFit K (pointed_member v at name)
+pub pointed-fit : (v : Value) (at : Place) (name : Identifier) → IsFit (pointed_member v at name)
 unfolding pointed_member
 pointed-fit v at name = construct-fit (_) v.place (_) (known-kept (λ s. behind_kept v.place at name v.expr (_)))

@@ -1,0 +1,184 @@
+-- Each change of what is known that the code makes is one by which it grows.
+use Rattle.std.proofs.Common.{◌≡◌, ◌<◌, ◌≤◌, ◌+◌, ℕ, ℤ, Bool, true, false, nat_lt, nat_le, List, [], ◌∷◌, ◌++◌, length, Option, Some, None, Result, Ok, Err, refl, ap, sym, subst, ◌∙◌, inl, inr, true≢false, if◌then◌else◌, slice_set, arith}
+use Rattle.std.proofs.lemmas.Bool.Decides.{leb_tells, eqb_tells}
+use Rattle.std.proofs.lemmas.Grind.{get_or-set_at}
+use Rattle.std.proofs.lemmas.List.{get_or_past, get_or_append_left, get_or-set_other, length-append, length-set}
+use Rattle.cc_base.specs.declared.fault.Fault.{Fault}
+use Rattle.cc_base.specs.declared.fault.Fault.TheVariants.{TooLarge}
+use Rattle.cc_base.specs.declared.fault.Limit.TheVariants.{Types, Object}
+use Rattle.cc_base.specs.declared.number.NodeId.{NodeId}
+use Rattle.cc_base.specs.declared.number.TypeId.{TypeId}
+use Rattle.cc_base.specs.declared.place.Place.{Place}
+use Rattle.c_types.specs.declared.shape.TypeShape.{TypeShape}
+use Rattle.c_types.specs.Calls.{basic_entry, new_layout, with_members}
+use Rattle.c_types.specs.Table.{Table, Entry, IsType, IsComplete, entry_at, shape_at, is_complete, void_entry}
+use Rattle.c_typing.specs.declared.declared.Declared.{Declared}
+use Rattle.c_typing.specs.declared.declared.Declared.TheVariants as declared
+use Rattle.c_typing.specs.declared.declared.Tag.{Tag}
+use Rattle.c_typing.specs.Declaring.{once_left}
+use Rattle.c_typing.specs.Growing.{AreStillOpen, Gained, HasMoreTypes, HasGrown, Grows, GrowsAny, GrowsOrLeaves}
+use Rattle.c_typing.specs.Judging.{State, Outcome, Gives, Stops, known, type_among, there_or_added, type_with}
+use Rattle.c_typing.specs.Scopes.{Name, Scopes, Seen, with_scopes, declaring, declaring_tag, setting_tag, entering, leaving}
+use Rattle.c_typing.specs.Typing.{counting_aggregate}
+use Rattle.c_typing.proofs.OpenScopes.{both-open, still-open, declaring-open, declaring_tag-open, setting_tag-open, left-open, entered-many}
+
+-- Counts
+
+pub node-grown : (any : Bool) (first : State) (table : Table) (seen : Seen) → HasGrown any first (known table seen) → HasGrown any first (known table (record seen { node = seen.node + 1 }))
+node-grown any first table seen h = record { scopes = h.scopes; types = h.types; node = let n = h.node in omega (arith, n); globals = h.globals; cells = h.cells }
+
+pub globals-grown : (any : Bool) (first : State) (table : Table) (seen : Seen) (n : ℕ) → HasGrown any first (known table seen) → HasGrown any first (known table (record seen { globals = seen.globals + n }))
+globals-grown any first table seen n h = record { scopes = h.scopes; types = h.types; node = h.node; globals = let g = h.globals in omega (arith, g); cells = h.cells }
+
+pub cells-grown : (any : Bool) (first : State) (table : Table) (seen : Seen) (n : ℕ) → HasGrown any first (known table seen) → HasGrown any first (known table (record seen { cells = seen.cells + n }))
+cells-grown any first table seen n h = record { scopes = h.scopes; types = h.types; node = h.node; globals = h.globals; cells = let c = h.cells in omega (arith, c) }
+
+-- Scopes
+
+scopes_grown : (any : Bool) (first : State) (table : Table) (seen : Seen) (c : Scopes) → AreStillOpen any seen.scopes c → HasGrown any first (known table seen)
+    → HasGrown any first (known table (with_scopes seen c))
+scopes_grown any first table seen c open_ h =
+    record { scopes = both-open any first.seen.scopes seen.scopes c h.scopes open_; types = h.types; node = h.node; globals = h.globals; cells = h.cells }
+
+gained : (any : Bool) (z : ℤ) → Gained any (declared.Enumerator z)
+gained true z = tt
+gained false z = tt
+
+pub enumerator-grown : (any : Bool) (first : State) (table : Table) (seen : Seen) (name : Name) (z : ℤ) → HasGrown any first (known table seen)
+    → HasGrown any first (known table (with_scopes seen (declaring name (declared.Enumerator z) seen.scopes)))
+enumerator-grown any first table seen name z = scopes_grown any first table seen (_) (declaring-open any name (declared.Enumerator z) (gained any z) seen.scopes)
+
+pub object-grown : (first : State) (table : Table) (seen : Seen) (name : Name) (t : TypeId) (n : NodeId) → HasGrown true first (known table seen)
+    → HasGrown true first (known table (with_scopes seen (declaring name (declared.Object t n) seen.scopes)))
+object-grown first table seen name t n = scopes_grown true first table seen (_) (declaring-open true name (declared.Object t n) tt seen.scopes)
+
+pub tag-grown : (any : Bool) (first : State) (table : Table) (seen : Seen) (name : Name) (what : Tag) → HasGrown any first (known table seen)
+    → HasGrown any first (known table (with_scopes seen (declaring_tag name what seen.scopes)))
+tag-grown any first table seen name what = scopes_grown any first table seen (_) (declaring_tag-open any name what seen.scopes)
+
+pub set_tag-grown : (any : Bool) (first : State) (table : Table) (seen : Seen) (name : Name) (what : Tag) → HasGrown any first (known table seen)
+    → HasGrown any first (known table (with_scopes seen (setting_tag name what seen.scopes)))
+set_tag-grown any first table seen name what = scopes_grown any first table seen (_) (setting_tag-open any name what seen.scopes)
+
+pub aggregate-grown : (any : Bool) (first : State) (table : Table) (seen : Seen) → HasGrown any first (known table seen)
+    → HasGrown any first (known table (with_scopes seen (counting_aggregate seen.scopes)))
+aggregate-grown any first table seen = scopes_grown any first table seen (_) (still-open any seen.scopes (counting_aggregate seen.scopes) refl refl (let l = length-append seen.scopes.members ([] ∷ []) in omega (arith, l)))
+
+pub members-grown : (any : Bool) (first : State) (table : Table) (seen : Seen) (number : ℕ) (names : List Name) → HasGrown any first (known table seen)
+    → HasGrown any first (known table (with_scopes seen (record seen.scopes { members = slice_set seen.scopes.members number names })))
+members-grown any first table seen number names =
+    scopes_grown any first table seen (_) (still-open any seen.scopes (record seen.scopes { members = slice_set seen.scopes.members number names }) refl refl
+    (let l = length-set seen.scopes.members number names in omega (arith, l)))
+
+pub ruleset objects_grown = (object-grown)
+
+pub ruleset grown = (node-grown, globals-grown, cells-grown, enumerator-grown, tag-grown, set_tag-grown, aggregate-grown, members-grown)
+
+-- Types
+
+more_both : (T U V : Table) → HasMoreTypes T U → HasMoreTypes U V → HasMoreTypes T V
+more_both T U V g h = record {
+  longer = let a = g.longer in let b = h.longer in omega (arith, a, b);
+  shapes = λ t is. h.shapes t (let a = g.longer in omega (arith, a, is)) ∙ g.shapes t is;
+  complete = λ t is. h.complete t (ap is_complete (g.complete t is) ∙ is) ∙ g.complete t is;
+}
+
+added_more : (T : Table) (e : Entry) → HasMoreTypes T (T ++ e ∷ [])
+added_more T e = record {
+  longer = let l = length-append T (e ∷ []) in omega (arith, l);
+  shapes = λ t is. ap (λ (d : Entry). d.shape) (get_or_append_left T (e ∷ []) void_entry t.0 is);
+  complete = λ t is. elim (leb_tells (length T) t.0) [
+    | inl past ↦ absurd (true≢false (sym is ∙ ap is_complete (get_or_past T t.0 void_entry past.1)))
+    | inr below ↦ get_or_append_left T (e ∷ []) void_entry t.0 below.1
+  ];
+}
+
+pub types-grown : (any : Bool) (first : State) (table later : Table) (seen : Seen) → HasMoreTypes table later → HasGrown any first (known table seen) → HasGrown any first (known later seen)
+types-grown any first table later seen more h =
+    record { scopes = h.scopes; types = more_both first.table table later h.types more; node = h.node; globals = h.globals; cells = h.cells }
+
+state_in : {A : Type 0} → Outcome A → State
+state_in (Gives a s) = s
+state_in (Stops f s) = s
+
+outcome_grows : (at : Place) (x : TypeShape) (s : State) (o : Option TypeId) (any : Bool) (first : State) → HasGrown any first s → HasGrown any first (state_in (there_or_added at x s o))
+unfolding state_in
+outcome_grows at x s (Some t) any first h = h
+outcome_grows at x s None any first h = by (nat_lt (length s.table) 16384) (nat_le (new_layout s.table x).size 1048576)
+  where
+    by : (room small : Bool)
+        → HasGrown any first (state_in (if room then (if small then Gives (record { 0 = length s.table }) (record s { table = s.table ++ basic_entry x ∷ [] }) else Stops (TooLarge at Object) s) else Stops (TooLarge at Types) s))
+    by true true = types-grown any first s.table (s.table ++ basic_entry x ∷ []) s.seen (added_more s.table (basic_entry x)) h
+    by true false = h
+    by false small = h
+
+-- a type with a shape
+pub type_with-grows : (at : Place) (x : TypeShape) (t : TypeId) (s r : State) → type_with at x s ≡ Gives t r → Grows s r
+unfolding type_with state_in
+type_with-grows at x t s r h any first k = subst (λ (q : State). HasGrown any first q) (ap state_in h) (outcome_grows at x s (type_among 0 s.table x) any first k)
+
+-- members of a type that has none
+pub defined-more : (T : Table) (t : TypeId) (members : List TypeId) → IsType T t → is_complete (entry_at T t) ≡ false → HasMoreTypes T (with_members T t members)
+defined-more T t members there none = record {
+  longer = let l = length-set T t.0 (record { shape = shape_at T t; members = members }) in omega (arith, l);
+  shapes = λ u is. elim (eqb_tells u.0 t.0) [
+    | inl q ↦ ap (λ (e : Entry). e.shape) (get_or-set_at T t.0 u.0 (record { shape = shape_at T t; members = members }) void_entry q.1 there)
+        ∙ ap (λ (n : ℕ). shape_at T (record { 0 = n })) (sym q.1)
+    | inr n ↦ ap (λ (e : Entry). e.shape) (get_or-set_other T t.0 u.0 (record { shape = shape_at T t; members = members }) void_entry n.1)
+  ];
+  complete = λ u is. elim (eqb_tells u.0 t.0) [
+    | inl q ↦ absurd (true≢false (sym is ∙ (ap (λ (n : ℕ). is_complete (entry_at T (record { 0 = n }))) q.1 ∙ none)))
+    | inr n ↦ get_or-set_other T t.0 u.0 (record { shape = shape_at T t; members = members }) void_entry n.1
+  ];
+}
+
+-- Scopes of their own
+
+pub grown-same : (any : Bool) (s : State) → HasGrown any s s
+grown-same any s = record {
+  scopes = still-open any s.seen.scopes s.seen.scopes refl refl (omega arith);
+  types = record { longer = omega arith; shapes = λ t is. refl; complete = λ t is. refl };
+  node = omega arith;
+  globals = omega arith;
+  cells = omega arith;
+}
+
+-- what was judged in a scope of its own has left it
+pub left-grown : (any : Bool) (first s q : State) → HasGrown any first s → GrowsAny (known s.table (with_scopes s.seen (entering s.seen.scopes))) q
+    → HasGrown any first (known q.table (with_scopes q.seen (leaving q.seen.scopes)))
+left-grown any first s q h g =
+    let inside = known s.table (with_scopes s.seen (entering s.seen.scopes)) in
+    let k = g inside (grown-same true inside) in
+    let same = still-open any s.seen.scopes (leaving q.seen.scopes) (left-open true s.seen.scopes q.seen.scopes k.scopes) k.scopes.defined k.scopes.aggregates in
+    record {
+      scopes = both-open any first.seen.scopes s.seen.scopes (leaving q.seen.scopes) h.scopes same;
+      types = more_both first.table s.table q.table h.types k.types;
+      node = let a = h.node in let b = k.node in omega (arith, a, b);
+      globals = let a = h.globals in let b = k.globals in omega (arith, a, b);
+      cells = let a = h.cells in let b = k.cells in omega (arith, a, b);
+    }
+
+-- so it has where it stopped
+pub stopped-grown : (any : Bool) (first s q : State) → 0 < length s.seen.scopes.levels → HasGrown any first s
+    → GrowsAny (known s.table (with_scopes s.seen (entering s.seen.scopes))) q → HasGrown any first (once_left q)
+stopped-grown any first s q some h g = by (nat_lt 1 (length q.seen.scopes.levels)) many
+  where
+    inside : State
+    inside = known s.table (with_scopes s.seen (entering s.seen.scopes))
+
+    many : nat_lt 1 (length q.seen.scopes.levels) ≡ true
+    many = entered-many true s.seen.scopes q.seen.scopes some (g inside (grown-same true inside)).scopes
+
+    by : (b : Bool) → b ≡ true → HasGrown any first (if b then record q { seen = with_scopes q.seen (leaving q.seen.scopes) } else q)
+    by true e = left-grown any first s q h g
+    by false e = absurd (true≢false (sym e))
+
+pub stopped-left : {A : Type 0} (fault : Fault) (any : Bool) (first s r : State) → 0 < length s.seen.scopes.levels
+    → GrowsOrLeaves {A = A} (Err fault) (known s.table (with_scopes s.seen (entering s.seen.scopes))) r → HasGrown any first s → HasGrown any first r
+stopped-left fault any first s r some g h = subst (λ (q : State). HasGrown any first q) (sym g.2) (stopped-grown any first s g.0 some h g.1)
+
+-- the scope that was entered is not the file's
+pub deep : (s q : State) → 0 < length s.seen.scopes.levels → GrowsAny (known s.table (with_scopes s.seen (entering s.seen.scopes))) q → nat_lt 1 (length q.seen.scopes.levels) ≡ true
+deep s q some g =
+    let inside = known s.table (with_scopes s.seen (entering s.seen.scopes)) in
+    entered-many true s.seen.scopes q.seen.scopes some (g inside (grown-same true inside)).scopes

@@ -6,7 +6,7 @@ pub mod StarLaws
 pub mod PartLaws
 pub mod MemberLaws
 pub mod SpecifiedLaws
-pub mod ParameterLaws
+pub mod PartsSeen
 pub mod ExprLaws
 pub mod AcceptedLaws
 pub mod RoomLaws

@@ -1,6 +1,6 @@
 -- Each change of what is known that the code makes is one by which it grows.
 use Rattle.std.proofs.Common.{◌≡◌, ◌<◌, ◌≤◌, ◌+◌, ℕ, ℤ, Bool, true, false, nat_lt, nat_le, List, [], ◌∷◌, ◌++◌, length, Option, Some, None, Result, Ok, Err, refl, ap, sym, subst, ◌∙◌, inl, inr, true≢false, if◌then◌else◌, slice_set, arith}
-use Rattle.std.proofs.lemmas.Bool.Decides.{leb_tells, eqb_tells}
+use Rattle.std.proofs.lemmas.Bool.Decides.{leb_tells, eqb_tells, nat_tests}
 use Rattle.std.proofs.lemmas.Grind.{get_or-set_at}
 use Rattle.std.proofs.lemmas.List.{get_or_past, get_or_append_left, get_or-set_other, length-append, length-set}
 use Rattle.cc_base.specs.declared.fault.Fault.{Fault}
@@ -24,14 +24,20 @@ use Rattle.c_typing.proofs.OpenScopes.{both-open, still-open, declaring-open, de
 
 -- Counts
 
-pub node-grown : (any : Bool) (first : State) (table : Table) (seen : Seen) → HasGrown any first (known table seen) → HasGrown any first (known table (record seen { node = seen.node + 1 }))
-node-grown any first table seen h = record { scopes = h.scopes; types = h.types; node = let n = h.node in omega (arith, n); globals = h.globals; cells = h.cells }
+pub node-grown : (any : Bool) (first : State) (table : Table) (seen : Seen) → HasGrown any first (known table seen)
+    → HasGrown any first (known table (record seen { node = seen.node + 1 }))
+node-grown any first table seen h =
+    record { scopes = h.scopes; types = h.types; node = let n = h.node in omega (arith, n); globals = h.globals; cells = h.cells }
 
-pub globals-grown : (any : Bool) (first : State) (table : Table) (seen : Seen) (n : ℕ) → HasGrown any first (known table seen) → HasGrown any first (known table (record seen { globals = seen.globals + n }))
-globals-grown any first table seen n h = record { scopes = h.scopes; types = h.types; node = h.node; globals = let g = h.globals in omega (arith, g); cells = h.cells }
+pub globals-grown : (any : Bool) (first : State) (table : Table) (seen : Seen) (n : ℕ) → HasGrown any first (known table seen)
+    → HasGrown any first (known table (record seen { globals = seen.globals + n }))
+globals-grown any first table seen n h =
+    record { scopes = h.scopes; types = h.types; node = h.node; globals = let g = h.globals in omega (arith, g); cells = h.cells }
 
-pub cells-grown : (any : Bool) (first : State) (table : Table) (seen : Seen) (n : ℕ) → HasGrown any first (known table seen) → HasGrown any first (known table (record seen { cells = seen.cells + n }))
-cells-grown any first table seen n h = record { scopes = h.scopes; types = h.types; node = h.node; globals = h.globals; cells = let c = h.cells in omega (arith, c) }
+pub cells-grown : (any : Bool) (first : State) (table : Table) (seen : Seen) (n : ℕ) → HasGrown any first (known table seen)
+    → HasGrown any first (known table (record seen { cells = seen.cells + n }))
+cells-grown any first table seen n h =
+    record { scopes = h.scopes; types = h.types; node = h.node; globals = h.globals; cells = let c = h.cells in omega (arith, c) }
 
 -- Scopes
 
@@ -46,7 +52,8 @@ gained false z = tt
 
 pub enumerator-grown : (any : Bool) (first : State) (table : Table) (seen : Seen) (name : Name) (z : ℤ) → HasGrown any first (known table seen)
     → HasGrown any first (known table (with_scopes seen (declaring name (declared.Enumerator z) seen.scopes)))
-enumerator-grown any first table seen name z = scopes_grown any first table seen (_) (declaring-open any name (declared.Enumerator z) (gained any z) seen.scopes)
+enumerator-grown any first table seen name z =
+    scopes_grown any first table seen (_) (declaring-open any name (declared.Enumerator z) (gained any z) seen.scopes)
 
 pub object-grown : (first : State) (table : Table) (seen : Seen) (name : Name) (t : TypeId) (n : NodeId) → HasGrown true first (known table seen)
     → HasGrown true first (known table (with_scopes seen (declaring name (declared.Object t n) seen.scopes)))
@@ -62,7 +69,9 @@ set_tag-grown any first table seen name what = scopes_grown any first table seen
 
 pub aggregate-grown : (any : Bool) (first : State) (table : Table) (seen : Seen) → HasGrown any first (known table seen)
     → HasGrown any first (known table (with_scopes seen (counting_aggregate seen.scopes)))
-aggregate-grown any first table seen = scopes_grown any first table seen (_) (still-open any seen.scopes (counting_aggregate seen.scopes) refl refl (let l = length-append seen.scopes.members ([] ∷ []) in omega (arith, l)))
+aggregate-grown any first table seen =
+    scopes_grown any first table seen (_) (still-open any seen.scopes (counting_aggregate seen.scopes) refl refl
+    (let l = length-append seen.scopes.members ([] ∷ []) in omega (arith, l)))
 
 pub members-grown : (any : Bool) (first : State) (table : Table) (seen : Seen) (number : ℕ) (names : List Name) → HasGrown any first (known table seen)
     → HasGrown any first (known table (with_scopes seen (record seen.scopes { members = slice_set seen.scopes.members number names })))
@@ -93,7 +102,8 @@ added_more T e = record {
   ];
 }
 
-pub types-grown : (any : Bool) (first : State) (table later : Table) (seen : Seen) → HasMoreTypes table later → HasGrown any first (known table seen) → HasGrown any first (known later seen)
+pub types-grown : (any : Bool) (first : State) (table later : Table) (seen : Seen)
+    → HasMoreTypes table later → HasGrown any first (known table seen) → HasGrown any first (known later seen)
 types-grown any first table later seen more h =
     record { scopes = h.scopes; types = more_both first.table table later h.types more; node = h.node; globals = h.globals; cells = h.cells }
 
@@ -101,13 +111,15 @@ state_in : {A : Type 0} → Outcome A → State
 state_in (Gives a s) = s
 state_in (Stops f s) = s
 
-outcome_grows : (at : Place) (x : TypeShape) (s : State) (o : Option TypeId) (any : Bool) (first : State) → HasGrown any first s → HasGrown any first (state_in (there_or_added at x s o))
+outcome_grows : (at : Place) (x : TypeShape) (s : State) (o : Option TypeId) (any : Bool) (first : State) → HasGrown any first s
+    → HasGrown any first (state_in (there_or_added at x s o))
 unfolding state_in
 outcome_grows at x s (Some t) any first h = h
 outcome_grows at x s None any first h = by (nat_lt (length s.table) 16384) (nat_le (new_layout s.table x).size 1048576)
   where
     by : (room small : Bool)
-        → HasGrown any first (state_in (if room then (if small then Gives (record { 0 = length s.table }) (record s { table = s.table ++ basic_entry x ∷ [] }) else Stops (TooLarge at Object) s) else Stops (TooLarge at Types) s))
+        → HasGrown any first (state_in (if room then (if small then Gives (record { 0 = length s.table }) (record s { table = s.table ++ basic_entry x ∷ [] })
+        else Stops (TooLarge at Object) s) else Stops (TooLarge at Types) s))
     by true true = types-grown any first s.table (s.table ++ basic_entry x ∷ []) s.seen (added_more s.table (basic_entry x)) h
     by true false = h
     by false small = h
@@ -115,10 +127,12 @@ outcome_grows at x s None any first h = by (nat_lt (length s.table) 16384) (nat_
 -- a type with a shape
 pub type_with-grows : (at : Place) (x : TypeShape) (t : TypeId) (s r : State) → type_with at x s ≡ Gives t r → Grows s r
 unfolding type_with state_in
-type_with-grows at x t s r h any first k = subst (λ (q : State). HasGrown any first q) (ap state_in h) (outcome_grows at x s (type_among 0 s.table x) any first k)
+type_with-grows at x t s r h any first k =
+    subst (λ (q : State). HasGrown any first q) (ap state_in h) (outcome_grows at x s (type_among 0 s.table x) any first k)
 
 -- members of a type that has none
-pub defined-more : (T : Table) (t : TypeId) (members : List TypeId) → IsType T t → is_complete (entry_at T t) ≡ false → HasMoreTypes T (with_members T t members)
+pub defined-more : (T : Table) (t : TypeId) (members : List TypeId) → IsType T t → is_complete (entry_at T t) ≡ false
+    → HasMoreTypes T (with_members T t members)
 defined-more T t members there none = record {
   longer = let l = length-set T t.0 (record { shape = shape_at T t; members = members }) in omega (arith, l);
   shapes = λ u is. elim (eqb_tells u.0 t.0) [
@@ -143,42 +157,51 @@ grown-same any s = record {
   cells = omega arith;
 }
 
+abbrev inside : Table → Seen → State
+inside T a = known T (with_scopes a (entering a.scopes))
+
 -- what was judged in a scope of its own has left it
-pub left-grown : (any : Bool) (first s q : State) → HasGrown any first s → GrowsAny (known s.table (with_scopes s.seen (entering s.seen.scopes))) q
-    → HasGrown any first (known q.table (with_scopes q.seen (leaving q.seen.scopes)))
-left-grown any first s q h g =
-    let inside = known s.table (with_scopes s.seen (entering s.seen.scopes)) in
-    let k = g inside (grown-same true inside) in
-    let same = still-open any s.seen.scopes (leaving q.seen.scopes) (left-open true s.seen.scopes q.seen.scopes k.scopes) k.scopes.defined k.scopes.aggregates in
+left-grown : (any : Bool) (first : State) (T U : Table) (a q : Seen) → GrowsAny (inside T a) (known U q) → HasGrown any first (known T a)
+    → HasGrown any first (known U (with_scopes q (leaving q.scopes)))
+left-grown any first T U a q g h =
+    let k = g (inside T a) (grown-same true (inside T a)) in
+    let same = still-open any a.scopes (leaving q.scopes) (left-open true a.scopes q.scopes k.scopes) k.scopes.defined k.scopes.aggregates in
     record {
-      scopes = both-open any first.seen.scopes s.seen.scopes (leaving q.seen.scopes) h.scopes same;
-      types = more_both first.table s.table q.table h.types k.types;
-      node = let a = h.node in let b = k.node in omega (arith, a, b);
-      globals = let a = h.globals in let b = k.globals in omega (arith, a, b);
-      cells = let a = h.cells in let b = k.cells in omega (arith, a, b);
+      scopes = both-open any first.seen.scopes a.scopes (leaving q.scopes) h.scopes same;
+      types = more_both first.table T U h.types k.types;
+      node = let b = h.node in let c = k.node in omega (arith, b, c);
+      globals = let b = h.globals in let c = k.globals in omega (arith, b, c);
+      cells = let b = h.cells in let c = k.cells in omega (arith, b, c);
     }
 
+-- the scope that was entered is not the file's
+deep : (T U : Table) (a q : Seen) → 0 < length a.scopes.levels → GrowsAny (inside T a) (known U q) → nat_lt 1 (length q.scopes.levels) ≡ true
+deep T U a q some g = entered-many true a.scopes q.scopes some (g (inside T a) (grown-same true (inside T a))).scopes
+
 -- so it has where it stopped
-pub stopped-grown : (any : Bool) (first s q : State) → 0 < length s.seen.scopes.levels → HasGrown any first s
-    → GrowsAny (known s.table (with_scopes s.seen (entering s.seen.scopes))) q → HasGrown any first (once_left q)
-stopped-grown any first s q some h g = by (nat_lt 1 (length q.seen.scopes.levels)) many
+stopped-grown : (any : Bool) (first : State) (T : Table) (a : Seen) (q : State) → 0 < length a.scopes.levels → GrowsAny (inside T a) q
+    → HasGrown any first (known T a) → HasGrown any first (once_left q)
+stopped-grown any first T a q some g h = by (nat_lt 1 (length q.seen.scopes.levels)) (deep T q.table a q.seen some g)
   where
-    inside : State
-    inside = known s.table (with_scopes s.seen (entering s.seen.scopes))
-
-    many : nat_lt 1 (length q.seen.scopes.levels) ≡ true
-    many = entered-many true s.seen.scopes q.seen.scopes some (g inside (grown-same true inside)).scopes
-
     by : (b : Bool) → b ≡ true → HasGrown any first (if b then record q { seen = with_scopes q.seen (leaving q.seen.scopes) } else q)
-    by true e = left-grown any first s q h g
+    by true e = left-grown any first T q.table a q.seen g h
     by false e = absurd (true≢false (sym e))
 
-pub stopped-left : {A : Type 0} (fault : Fault) (any : Bool) (first s r : State) → 0 < length s.seen.scopes.levels
-    → GrowsOrLeaves {A = A} (Err fault) (known s.table (with_scopes s.seen (entering s.seen.scopes))) r → HasGrown any first s → HasGrown any first r
-stopped-left fault any first s r some g h = subst (λ (q : State). HasGrown any first q) (sym g.2) (stopped-grown any first s g.0 some h g.1)
+-- the same by the scopes of the code: `e` is what was entered, `r` what is left
+pub left-behind : (any : Bool) (first : State) (T U : Table) (a e q r : Seen) → e ≡ with_scopes a (entering a.scopes)
+    → GrowsAny (known T e) (known U q) → r ≡ with_scopes q (leaving q.scopes) → HasGrown any first (known T a) → HasGrown any first (known U r)
+left-behind any first T U a e q r entered g left h =
+    subst (λ (x : Seen). HasGrown any first (known U x)) (sym left)
+    (left-grown any first T U a q (subst (λ (x : Seen). GrowsAny (known T x) (known U q)) entered g) h)
 
--- the scope that was entered is not the file's
-pub deep : (s q : State) → 0 < length s.seen.scopes.levels → GrowsAny (known s.table (with_scopes s.seen (entering s.seen.scopes))) q → nat_lt 1 (length q.seen.scopes.levels) ≡ true
-deep s q some g =
-    let inside = known s.table (with_scopes s.seen (entering s.seen.scopes)) in
-    entered-many true s.seen.scopes q.seen.scopes some (g inside (grown-same true inside)).scopes
+pub stopped-behind : {A : Type 0} (fault : Fault) (any : Bool) (first : State) (T U : Table) (a e r : Seen) → 0 < length a.scopes.levels
+    → e ≡ with_scopes a (entering a.scopes) → GrowsOrLeaves {A = A} (Err fault) (known T e) (known U r) → HasGrown any first (known T a)
+    → HasGrown any first (known U r)
+stopped-behind fault any first T U a e r some entered g h =
+    subst (λ (x : State). HasGrown any first x) (sym g.2)
+    (stopped-grown any first T a g.0 some (subst (λ (x : Seen). GrowsAny (known T x) g.0) entered g.1) h)
+
+pub deep-inside : (T U : Table) (a e q : Seen) → 0 < length a.scopes.levels → e ≡ with_scopes a (entering a.scopes)
+    → GrowsAny (known T e) (known U q) → 1 < length q.scopes.levels
+deep-inside T U a e q some entered g =
+    let many = deep T U a q some (subst (λ (x : Seen). GrowsAny (known T x) (known U q)) entered g) in grind (arith, nat_tests, many)

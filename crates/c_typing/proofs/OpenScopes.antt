@@ -15,7 +15,8 @@ length-innermost f [] = refl
 length-innermost f (l ∷ []) = refl
 length-innermost f (l ∷ (m ∷ ls)) = ap suc (length-innermost f (m ∷ ls))
 
-kept_outer : (f : Level → Level) (l m : Level) (ls : List Level) → without_innermost (l ∷ at_innermost f (m ∷ ls)) ≡ l ∷ without_innermost (at_innermost f (m ∷ ls))
+kept_outer : (f : Level → Level) (l m : Level) (ls : List Level)
+    → without_innermost (l ∷ at_innermost f (m ∷ ls)) ≡ l ∷ without_innermost (at_innermost f (m ∷ ls))
 kept_outer f l m [] = refl
 kept_outer f l m (k ∷ ls) = refl
 
@@ -33,7 +34,8 @@ innermost_changed : (Q : Level → Level → Type 0) (f : Level → Level) → (
     → Q (innermost ls) (innermost (at_innermost f ls))
 innermost_changed Q f h none [] = none
 innermost_changed Q f h none (l ∷ []) = h l
-innermost_changed Q f h none (l ∷ (m ∷ ls)) = subst (λ (k : Level). Q (innermost (m ∷ ls)) k) (sym (innermost_behind l f m ls)) (innermost_changed Q f h none (m ∷ ls))
+innermost_changed Q f h none (l ∷ (m ∷ ls)) =
+    subst (λ (k : Level). Q (innermost (m ∷ ls)) k) (sym (innermost_behind l f m ls)) (innermost_changed Q f h none (m ∷ ls))
 
 pub outer-of : (ls : List Level) (l : Level) → without_innermost (ls ++ l ∷ []) ≡ ls
 outer-of [] l = refl

@@ -1,7 +1,6 @@
 //! Structs and unions with their members (C99 6.7.2.1).
 #![tactic(auto)]
 
-ghost use Rattle.c_typing.specs.Growing.{Grows};
 ghost use Rattle.std.specs.Prelude.{◌≡◌, not, ◌&&◌, ◌++◌, IfOk, OnOk, map, nat_lt, length, option_copied};
 ghost use Rattle.std.specs.List.{list_all};
 ghost use Rattle.c_types.specs.Table.{shape_at, is_complete, entry_at};
@@ -10,6 +9,7 @@ ghost use Rattle.c_tree.specs.TypedTree.{NoMember};
 ghost use Rattle.c_tree.specs.TypedViews.{typed_declarator_view, typed_members_view, typed_member_declarators_of};
 ghost use Rattle.c_tree.specs.Views.{added};
 ghost use Rattle.c_typing.specs.Declarators.{declarator_types, member_names, member_types};
+ghost use Rattle.c_typing.specs.Growing.{Grows};
 ghost use Rattle.c_typing.specs.Judging.{Answers, known};
 ghost use Rattle.c_typing.specs.Refusals.{is_empty_row, one_named, tag_place};
 ghost use Rattle.c_typing.specs.Rules.{number_of_shape};

@@ -1,9 +1,9 @@
 //! Enumerations with their enumerators (C99 6.7.2.2).
 #![tactic(auto)]
 
-ghost use Rattle.c_typing.specs.Growing.{Grows};
 ghost use Rattle.std.specs.Prelude.{◌≡◌, OnOk, option_copied, true};
 ghost use Rattle.c_types.specs.Table.{Table};
+ghost use Rattle.c_typing.specs.Growing.{Grows};
 ghost use Rattle.c_typing.specs.Judging.{Answers, known};
 ghost use Rattle.c_typing.specs.Scopes.{with_scopes};
 ghost use Rattle.c_typing.specs.Specifying as specifying;

@@ -1,13 +1,13 @@
 //! The types that declarators give (C99 6.7.5).
 #![tactic(auto)]
 
-ghost use Rattle.c_typing.specs.Growing.{Grows};
 ghost use Rattle.std.specs.Prelude.{◌≡◌, true, not, ◌++◌, ◌∷◌, [], map, option_map, option_copied, IfOk};
 ghost use Rattle.c_tree.specs.TypedParts.{is_void_word, is_void_list};
 ghost use Rattle.c_tree.specs.TypedTree.{TypedParameters, TypedParts, NoPart, NoParameter};
 ghost use Rattle.c_tree.specs.TypedViews.{typed_core_view, typed_form_view, typed_parameter_view, typed_part_view, typed_specifier_view, typed_specifiers_of, typed_declared_of};
 ghost use Rattle.c_tree.specs.Views.{added};
 ghost use Rattle.c_typing.specs.Declarators.{Outermost, Written, is_no_part, is_pointed, parameter_types, taken_types, nearest, is_derived, is_derived_core};
+ghost use Rattle.c_typing.specs.Growing.{Grows};
 ghost use Rattle.c_typing.specs.Judging.{Answers, State, known, next};
 ghost use Rattle.c_typing.specs.Declaring as declaring;
 ghost use Rattle.c_check_declarators.specs.MakingViews.{nearest_view};

@@ -1,12 +1,12 @@
 //! What a specifier makes by itself (C99 6.7.2): words, names of types, and tags.
 #![tactic(auto)]
 
-ghost use Rattle.c_types.specs.Table.{Table};
-ghost use Rattle.c_typing.specs.Growing.{Grows};
 ghost use Rattle.std.specs.Prelude.{◌≡◌, ◌++◌, OnOk, IfOk, None, option_copied};
+ghost use Rattle.c_types.specs.Table.{Table};
 ghost use Rattle.c_tree.specs.TypedTree.{Typedef};
 ghost use Rattle.c_tree.specs.TypedViews.{typed_specifier_view};
 ghost use Rattle.c_typing.specs.Declarators.{Counted, Named, counting, named_by_specifier};
+ghost use Rattle.c_typing.specs.Growing.{Grows};
 ghost use Rattle.c_typing.specs.Judging.{Answers, State, known};
 ghost use Rattle.c_typing.specs.Specifying as specifying;
 ghost use Rattle.c_typing.specs.Tests as tests;

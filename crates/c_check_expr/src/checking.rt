@@ -1,7 +1,6 @@
 //! What a unit asks of its expressions, specifiers and declarators.
 #![tactic(auto)]
 
-ghost use Rattle.c_typing.specs.Growing.{Grows};
 ghost use Rattle.std.specs.Prelude.{◌≡◌, IfOk, IfSome, None, map, true};
 ghost use Rattle.c_types.specs.Table as table;
 ghost use Rattle.c_tree.specs.TypedParts.{home_of, home_node};
@@ -13,6 +12,7 @@ ghost use Rattle.c_typing.specs.Checking as checking;
 ghost use Rattle.c_typing.specs.Declaring as declaring;
 ghost use Rattle.c_check_expr.specs.CheckingViews.{constant_view};
 ghost use Rattle.c_check_declarators.specs.MakingViews.{nearest_view};
+ghost use Rattle.c_typing.specs.Growing.{Grows};
 ghost use Rattle.c_typing.specs.Judging as judging;
 ghost use Rattle.c_typing.specs.Judging.{Answers, known};
 ghost use Rattle.c_typing.specs.OperandViews.{operand_view, part_view, value_view, part_ref_view};

@@ -1,7 +1,6 @@
 //! What stands in a declarator (C99 6.7.5): nodes, homes, sizes and parameters, in the order of the text.
 #![tactic(auto)]
 
-ghost use Rattle.c_typing.specs.Growing.{Grows};
 ghost use Rattle.std.specs.Prelude.{◌≡◌, IfOk, List, map, suc};
 ghost use Rattle.c_types.specs.Table.{Table};
 ghost use Rattle.c_tree.specs.Depth.{core_height, declarator_height, parameters_height, parts_height};
@@ -10,6 +9,7 @@ ghost use Rattle.c_tree.specs.TypedTree.{TypedParts, AndSizedArray, NoPart as no
 ghost use Rattle.c_tree.specs.Views.{added, core_view, declarator_view, parameter_view, part_view};
 ghost use Rattle.c_tree.specs.TypedViews.{typed_core_view, typed_form_view, typed_part_view};
 ghost use Rattle.c_typing.specs.Declaring as declaring;
+ghost use Rattle.c_typing.specs.Growing.{Grows};
 ghost use Rattle.c_typing.specs.Judging.{Answers, Gives, State, known, new_node};
 ghost use Rattle.c_check_expr.specs.Nests.{Nests};
 ghost use Rattle.c_typing.specs.OperandViews.{value_view};

@@ -4,13 +4,13 @@
 ghost use Rattle.std.specs.Prelude.{◌≡◌, ◌&&◌, IfOk, None, Option, map, if◌then◌else◌, suc};
 ghost use Rattle.c_tree.specs.Depth.{parameters_height, parts_height};
 ghost use Rattle.c_tree.specs.Tree.{NoPart, AndFunction, NoParameter, Parts, Parameters};
-ghost use Rattle.c_typing.specs.Growing.{Grows};
 ghost use Rattle.c_tree.specs.TypedParts.{home_of, specified_type, home_node};
 ghost use Rattle.c_tree.specs.TypedTree.{TypedParts, NoPart as no_typed_part};
 ghost use Rattle.c_tree.specs.Views.{added, core_view, declarator_view, parameter_view, part_view};
 ghost use Rattle.c_tree.specs.TypedViews.{typed_core_view, typed_declarator_view, typed_form_view, typed_part_view, typed_specifiers_view};
 ghost use Rattle.c_check_expr.specs.Leaving.{AreLeaving, Tells, is_bare};
 ghost use Rattle.c_check_expr.specs.Nests.{Nests};
+ghost use Rattle.c_typing.specs.Growing.{Grows};
 ghost use Rattle.c_typing.specs.Judging.{Answers, Gives, State, known};
 ghost use Rattle.c_typing.specs.Walks as walks;
 ghost use Rattle.c_unit_typing.specs.ParameterScopes.{level_given, level_of, parameters_written, scope_of_core, scope_of_declarator, scope_of_list};

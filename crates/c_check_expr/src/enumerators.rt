@@ -1,7 +1,6 @@
 //! Enumerators (C99 6.7.2.2).
 #![tactic(auto)]
 
-ghost use Rattle.c_typing.specs.Growing.{Grows};
 ghost use Rattle.std.specs.Prelude.{◌≡◌, ◌≢◌, ◌++◌, ◌||◌, IfOk, IfErr, map, Some, None, suc};
 ghost use Rattle.cc_base.specs.declared.fault.Fault.TheVariants.{NoMemory as no_memory};
 ghost use Rattle.c_types.specs.Table.{Table};
@@ -12,6 +11,7 @@ ghost use Rattle.c_tree.specs.TypedViews.{typed_enumerator_view};
 ghost use Rattle.c_tree.specs.Views.{added, enumerator_view};
 ghost use Rattle.integers.specs.Arithmetic.{int, converted};
 ghost use Rattle.c_typing.specs.declared.declared.Declared.TheVariants as declared;
+ghost use Rattle.c_typing.specs.Growing.{Grows};
 ghost use Rattle.c_typing.specs.Scopes.{declaring, here, with_scopes};
 ghost use Rattle.c_typing.specs.Judging.{Answers, Gives, State, Stops, known};
 ghost use Rattle.c_check_expr.specs.Nests.{Nests};

@@ -1,12 +1,12 @@
 //! The rules of an expression, over those of its parts, which are judged in the order of the text (C99 6.5).
 #![tactic(auto)]
 
-ghost use Rattle.c_typing.specs.Growing.{Grows};
 ghost use Rattle.std.specs.Prelude.{◌≡◌, true, map, suc};
 ghost use Rattle.c_tree.specs.Depth.{arguments_height, expr_height};
 ghost use Rattle.c_tree.specs.declared.operator.Assignment.TheVariants as assignment;
 ghost use Rattle.c_tree.specs.Tree as tree;
 ghost use Rattle.c_tree.specs.Views.{arguments_of, expr_view, type_name_view};
+ghost use Rattle.c_typing.specs.Growing.{Grows};
 ghost use Rattle.c_typing.specs.Judging.{Answers, known};
 ghost use Rattle.c_check_expr.specs.Nests.{Nests};
 ghost use Rattle.c_typing.specs.OperandViews.{operand_view, value_view};

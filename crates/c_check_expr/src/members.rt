@@ -1,7 +1,6 @@
 //! Rows of members (C99 6.7.2.1).
 #![tactic(auto)]
 
-ghost use Rattle.c_typing.specs.Growing.{Grows};
 ghost use Rattle.std.specs.Prelude.{◌≡◌, ◌++◌, ◌∷◌, [], false, None, Some, IfOk, List, map, option_copied, suc};
 ghost use Rattle.c_tree.specs.Depth.{declarator_height, member_declarators_height, members_height};
 ghost use Rattle.c_tree.specs.Tree as tree;
@@ -13,6 +12,7 @@ ghost use Rattle.c_tree.specs.Views.{added, declarator_view, members_view, membe
 ghost use Rattle.c_tree.specs.TypedViews.{typed_declarator_view, typed_form_view, typed_members_view, typed_member_declarators_of};
 ghost use Rattle.c_typing.specs.Declarators.{declarator_names, member_names, name_bytes};
 ghost use Rattle.c_typing.specs.Declaring as declaring;
+ghost use Rattle.c_typing.specs.Growing.{Grows};
 ghost use Rattle.c_typing.specs.Judging.{Answers, Gives, State, known};
 ghost use Rattle.c_check_expr.specs.Nests.{Nests};
 ghost use Rattle.c_typing.specs.Refusals.{has_name};

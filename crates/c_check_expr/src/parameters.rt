@@ -1,7 +1,6 @@
 //! Parameters (C99 6.7.5.3).
 #![tactic(auto)]
 
-ghost use Rattle.c_typing.specs.Growing.{Grows, GrowsAny, GrowsOrLeaves};
 ghost use Rattle.std.specs.Prelude.{◌≡◌, ◌≢◌, false, Some, None, IfSome, IfOk, IfErr, map, option_map, option_copied, suc};
 ghost use Rattle.cc_base.specs.declared.fault.Fault.TheVariants.{NoMemory as no_memory};
 ghost use Rattle.c_types.specs.Table.{Table, shape_at};
@@ -13,6 +12,7 @@ ghost use Rattle.c_tree.specs.Views.{added, declarator_view, declared_of, parame
 ghost use Rattle.c_tree.specs.TypedViews.{typed_form_view, typed_declared_of, typed_parameter_view, typed_specifiers_view};
 ghost use Rattle.c_typing.specs.Declarators.{is_derived_declared};
 ghost use Rattle.c_typing.specs.Declaring as declaring;
+ghost use Rattle.c_typing.specs.Growing.{Grows, GrowsAny, GrowsOrLeaves};
 ghost use Rattle.c_typing.specs.Judging.{Answers, Gives, State, known, next};
 ghost use Rattle.c_typing.specs.KindViews.{shape_or_void};
 ghost use Rattle.c_check_expr.specs.Nests.{Nests};

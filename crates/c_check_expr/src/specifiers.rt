@@ -1,13 +1,13 @@
 //! Lists of specifiers (C99 6.7.2).
 #![tactic(auto)]
 
-ghost use Rattle.c_typing.specs.Growing.{Grows};
 ghost use Rattle.std.specs.Prelude.{◌≡◌, IfOk, map, option_copied, suc};
 ghost use Rattle.c_tree.specs.Depth.{enumerators_height, members_height, specifier_height, specifiers_height};
 ghost use Rattle.c_tree.specs.Tree as tree;
 ghost use Rattle.c_tree.specs.Views.{added, enumerator_view, members_view, specifier_view, specifiers_of, specifiers_view};
 ghost use Rattle.c_tree.specs.TypedViews.{typed_specifier_view, typed_specifiers_view};
 ghost use Rattle.c_typing.specs.Declarators.{counting, named_by_specifier};
+ghost use Rattle.c_typing.specs.Growing.{Grows};
 ghost use Rattle.c_typing.specs.Judging.{Answers, known};
 ghost use Rattle.c_check_expr.specs.Nests.{Nests};
 ghost use Rattle.c_check_expr.specs.NamedViews.{named_view};

@@ -1,11 +1,11 @@
 //! Type names (C99 6.7.6).
 #![tactic(auto)]
 
-ghost use Rattle.c_typing.specs.Growing.{Grows};
 ghost use Rattle.std.specs.Prelude.{option_map, suc};
 ghost use Rattle.c_tree.specs.Depth.{declared_height, type_name_height};
 ghost use Rattle.c_tree.specs.Views.{type_name_view, declarator_view, declared_of};
 ghost use Rattle.c_tree.specs.TypedViews.{typed_type_name_view, typed_form_view, typed_declared_of};
+ghost use Rattle.c_typing.specs.Growing.{Grows};
 ghost use Rattle.c_typing.specs.Judging.{Answers, known};
 ghost use Rattle.c_check_expr.specs.Nests.{Nests};
 ghost use Rattle.c_typing.specs.Walks as walks;

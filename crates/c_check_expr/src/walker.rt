@@ -1,11 +1,11 @@
 //! The rules of a part take those for the parts inside as parameters, so that each is proved by itself.
 #![tactic(auto)]
 
-ghost use Rattle.c_typing.specs.Growing.{Grows};
 ghost use Rattle.std.specs.Prelude.{suc};
 ghost use Rattle.c_tree.specs.Depth.{expr_height, specifier_list_height, declarator_height};
 ghost use Rattle.c_tree.specs.Views.{expr_view, specifiers_view, declarator_view};
 ghost use Rattle.c_tree.specs.TypedViews.{typed_specifiers_view, typed_form_view};
+ghost use Rattle.c_typing.specs.Growing.{Grows};
 ghost use Rattle.c_typing.specs.Judging.{Answers, known};
 ghost use Rattle.c_check_expr.specs.Listed.{IsListed};
 ghost use Rattle.c_check_expr.specs.Nests.{Nests};

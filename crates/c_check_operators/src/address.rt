@@ -1,12 +1,12 @@
 //! `&`, `sizeof`, `++` and `--` (C99 6.5.2.4, 6.5.3).
 #![tactic(auto)]
 
-ghost use Rattle.c_typing.specs.Growing.{Grows};
 ghost use Rattle.std.specs.Prelude.{◌≡◌, [], ◌∷◌, IfOk, option_map};
 ghost use Rattle.c_types.specs.Layouts.{size_of};
 ghost use Rattle.c_tree.specs.TypedParts.{type_of};
 ghost use Rattle.c_tree.specs.TypedTree as typed;
 ghost use Rattle.c_tree.specs.TypedViews.{typed_expr_view, typed_place_view};
+ghost use Rattle.c_typing.specs.Growing.{Grows};
 ghost use Rattle.c_typing.specs.Judging.{Answers, known};
 ghost use Rattle.c_typing.specs.Operations as operations;
 ghost use Rattle.c_typing.specs.OperandViews.{part_view, operand_view};

@@ -1,7 +1,6 @@
 //! Casts, and `sizeof` of a type name (C99 6.5.3.4, 6.5.4).
 #![tactic(auto)]
 
-ghost use Rattle.c_typing.specs.Growing.{Grows};
 ghost use Rattle.std.specs.Prelude.{◌≡◌, IfOk};
 ghost use Rattle.c_types.specs.Layouts.{size_of};
 ghost use Rattle.c_types.specs.Table.{shape_at};
@@ -9,6 +8,7 @@ ghost use Rattle.c_tree.specs.TypedTree as typed;
 ghost use Rattle.c_tree.specs.TypedParts.{named_type};
 ghost use Rattle.c_tree.specs.TypedViews.{typed_expr_view, typed_type_name_view};
 ghost use Rattle.c_typing.specs.Assignments as assignments;
+ghost use Rattle.c_typing.specs.Growing.{Grows};
 ghost use Rattle.c_typing.specs.Judging.{Answers, known};
 ghost use Rattle.c_typing.specs.Operations as operations;
 ghost use Rattle.c_typing.specs.OperandViews.{part_view, operand_view, part_ref_view};

@@ -1,10 +1,10 @@
 //! The pointers that the assignment of a struct or union moves, and their count in a unit.
 #![tactic(auto)]
 
-ghost use Rattle.c_typing.specs.Growing.{Grows};
 ghost use Rattle.std.specs.Prelude.{◌≡◌};
 ghost use Rattle.c_types.specs.PointerCounts.{pointers_in};
 ghost use Rattle.c_typing.specs.Cells.{count_cells};
+ghost use Rattle.c_typing.specs.Growing.{Grows};
 ghost use Rattle.c_typing.specs.Judging.{Answers, known};
 
 use c_types::Types;

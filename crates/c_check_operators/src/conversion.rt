@@ -1,13 +1,13 @@
 //! Conversions that C makes without being told, and casts (C99 6.3, 6.5.4, 6.5.16.1).
 #![tactic(auto)]
 
-ghost use Rattle.c_typing.specs.Growing.{Grows};
 ghost use Rattle.std.specs.Prelude.{◌≡◌, ◌&&◌, IfOk, false, option_copied};
 ghost use Rattle.cc_base.specs.declared.number.NodeId.{NodeId};
 ghost use Rattle.c_types.specs.declared.shape.TypeShape.TheVariants.{Pointer};
 ghost use Rattle.c_tree.specs.TypedViews.{typed_expr_view};
 ghost use Rattle.c_typing.specs.Assignments as assignments;
 ghost use Rattle.c_typing.specs.Conversions as conversions;
+ghost use Rattle.c_typing.specs.Growing.{Grows};
 ghost use Rattle.c_typing.specs.Judging.{Answers, known};
 ghost use Rattle.c_typing.specs.KindViews.{shape_or_void};
 ghost use Rattle.c_typing.specs.Operands as operands;

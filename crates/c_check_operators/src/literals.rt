@@ -1,11 +1,11 @@
 //! String literals (C99 6.4.5).
 #![tactic(auto)]
 
-ghost use Rattle.c_typing.specs.Growing.{Grows};
 ghost use Rattle.std.specs.Prelude.{◌≡◌, IfOk};
 ghost use Rattle.c_tree.specs.Literals.{pieces_bytes};
 ghost use Rattle.c_tree.specs.Places.{pieces_place};
 ghost use Rattle.c_typing.specs.Assignments as assignments;
+ghost use Rattle.c_typing.specs.Growing.{Grows};
 ghost use Rattle.c_typing.specs.Judging.{Answers, known};
 ghost use Rattle.c_typing.specs.OperandViews.{operand_view};
 

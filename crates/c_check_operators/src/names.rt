@@ -1,10 +1,10 @@
 //! Names of objects, functions and enumeration constants (C99 6.5.1).
 #![tactic(auto)]
 
-ghost use Rattle.c_typing.specs.Growing.{Grows};
 ghost use Rattle.std.specs.Prelude.{◌≡◌, ◌&&◌, ◌||◌, not, bytes_eq, option_copied};
 ghost use Rattle.runtime_calls.specs.Prototypes.{runtime_of};
 ghost use Rattle.c_typing.specs.Assignments as assignments;
+ghost use Rattle.c_typing.specs.Growing.{Grows};
 ghost use Rattle.c_typing.specs.Judging.{Answers, known};
 ghost use Rattle.c_typing.specs.OperandViews.{part_view, operand_view};
 ghost use Rattle.c_typing.specs.Scopes.{name_in, place_among};

@@ -1,11 +1,11 @@
 //! Operators of one operand (C99 6.5.3), and `++` and `--` after one.
 #![tactic(auto)]
 
-ghost use Rattle.c_typing.specs.Growing.{Grows};
 ghost use Rattle.std.specs.Prelude.{◌≡◌, IfOk, IfSome, true, option_map};
 ghost use Rattle.c_types.specs.Sound.{IsIntegerSize};
 ghost use Rattle.c_tree.specs.TypedParts.{type_of};
 ghost use Rattle.c_tree.specs.TypedViews.{typed_expr_view};
+ghost use Rattle.c_typing.specs.Growing.{Grows};
 ghost use Rattle.c_typing.specs.Judging.{Answers, known};
 ghost use Rattle.c_typing.specs.Judging as judging;
 ghost use Rattle.c_typing.specs.KindViews.{kind_view};

@@ -33,13 +33,23 @@ use cc_base::{Fault, Place, TypeId};
 /// The value of an expression; a struct is not read (C99 6.5). Tags and enumerators that it declares are added to the scope. A refusal is
 /// that of the first rule that fails in the order of the text; after it types, tags, enumerators and nodes of what stands before may be there.
 pub fn check_expr(scope: &mut Scope, types: &mut Types, e: &Expr) -> Result<TypedExpr, Fault>
-    ensures judged { Answers typed_expr_view (checking.checked (expr_view e.now) (known types.old scope.old)) result (known types.new scope.new) }
+    ensures judged { Answers typed_expr_view
+        (checking.checked (expr_view e.now)
+        (known types.old scope.old)) result (known types.new scope.new) }
     ensures grown { HasGrown false (known types.old scope.old) (known types.new scope.new) }
-    ensures typed { IsKnown (known types.old scope.old) → IfOk result (λ v. IsChecked (expr_view e.now) (typed_expr_view v) (known types.old scope.old) (known types.new scope.new)) }
-    ensures numbered { IsKnown (known types.old scope.old) → IfOk result (λ v. AreNumberedFrom (made_by (typed_expr_view v)) (known types.old scope.old) (known types.new scope.new)) }
-    ensures limited { IfOk result (λ v. IsWithin (expr_holds (expr_view e.now)) (known types.old scope.old) (known types.new scope.new)) }
-    ensures refused { IsKnown (known types.old scope.old) → RefusesForCause (λ T f. Refuses T false (expr_view e.now) scope.old.scopes f) (known types.old scope.old) result (known types.new scope.new) }
-    ensures accepts { AcceptsValue (expr_view e.now) (known types.old scope.old) result (known types.new scope.new) }
+    ensures typed { IsKnown (known types.old scope.old) → IfOk result
+        (λ v. IsChecked (expr_view e.now) (typed_expr_view v) (known types.old scope.old)
+        (known types.new scope.new)) }
+    ensures numbered { IsKnown (known types.old scope.old)
+        → IfOk result (λ v. AreNumberedFrom (made_by (typed_expr_view v))
+        (known types.old scope.old) (known types.new scope.new)) }
+    ensures limited { IfOk result (λ v. IsWithin (expr_holds (expr_view e.now))
+        (known types.old scope.old) (known types.new scope.new)) }
+    ensures refused { IsKnown (known types.old scope.old)
+        → RefusesForCause (λ T f. Refuses T false (expr_view e.now) scope.old.scopes f)
+        (known types.old scope.old) result (known types.new scope.new) }
+    ensures accepts { AcceptsValue (expr_view e.now) (known types.old scope.old) result
+        (known types.new scope.new) }
 {
     checked(scope, types, e)
 }
@@ -54,14 +64,25 @@ pub fn check_value(
     init: bool,
     e: &Expr,
 ) -> Result<TypedExpr, Fault>
-    ensures judged { Answers typed_expr_view (checking.checked_value to at init (expr_view e.now) (known types.old scope.old)) result (known types.new scope.new) }
+    ensures judged { Answers typed_expr_view
+        (checking.checked_value to at init (expr_view e.now)
+        (known types.old scope.old)) result (known types.new scope.new) }
     ensures grown { HasGrown false (known types.old scope.old) (known types.new scope.new) }
-    ensures typed { IsKnown (known types.old scope.old) → IsType types.old to → IfOk result (λ v. IsCheckedFor to at init (expr_view e.now) (typed_expr_view v) (known types.old scope.old) (known types.new scope.new)) }
-    ensures numbered { IsKnown (known types.old scope.old) → IfOk result (λ v. AreNumberedFrom (made_by (typed_expr_view v)) (known types.old scope.old) (known types.new scope.new)) }
-    ensures limited { IfOk result (λ v. IsWithin (expr_holds (expr_view e.now)) (known types.old scope.old) (known types.new scope.new)) }
-    ensures refused { IsKnown (known types.old scope.old) → IsType types.old to → RefusesForCause (λ T f. ValueFails T to at (expr_view e.now) scope.old.scopes f) (known types.old scope.old) result (known types.new scope.new) }
-    ensures accepts { AcceptsConverted init to at (expr_view e.now) (known types.old scope.old) result (known types.new scope.new) }
-    ensures accepts_copied { AcceptsCopied init to (expr_view e.now) (known types.old scope.old) result (known types.new scope.new) }
+    ensures typed { IsKnown (known types.old scope.old) → IsType types.old to
+        → IfOk result (λ v. IsCheckedFor to at init (expr_view e.now) (typed_expr_view v)
+        (known types.old scope.old) (known types.new scope.new)) }
+    ensures numbered { IsKnown (known types.old scope.old)
+        → IfOk result (λ v. AreNumberedFrom (made_by (typed_expr_view v))
+        (known types.old scope.old) (known types.new scope.new)) }
+    ensures limited { IfOk result (λ v. IsWithin (expr_holds (expr_view e.now))
+        (known types.old scope.old) (known types.new scope.new)) }
+    ensures refused { IsKnown (known types.old scope.old) → IsType types.old to
+        → RefusesForCause (λ T f. ValueFails T to at (expr_view e.now) scope.old.scopes f)
+        (known types.old scope.old) result (known types.new scope.new) }
+    ensures accepts { AcceptsConverted init to at (expr_view e.now) (known types.old scope.old)
+        result (known types.new scope.new) }
+    ensures accepts_copied { AcceptsCopied init to (expr_view e.now) (known types.old scope.old)
+        result (known types.new scope.new) }
 {
     checked_for(scope, types, to, at, init, e)
 }
@@ -72,13 +93,23 @@ pub fn check_constant(
     types: &mut Types,
     e: &Expr,
 ) -> Result<(TypedExpr, i128), Fault>
-    ensures judged { Answers constant_view (checking.checked_constant (expr_view e.now) (known types.old scope.old)) result (known types.new scope.new) }
+    ensures judged { Answers constant_view
+        (checking.checked_constant (expr_view e.now)
+        (known types.old scope.old)) result (known types.new scope.new) }
     ensures grown { HasGrown false (known types.old scope.old) (known types.new scope.new) }
-    ensures typed { IsKnown (known types.old scope.old) → IfOk result (λ c. IsConstantJudged (expr_view e.now) (constant_view c) (known types.old scope.old) (known types.new scope.new)) }
-    ensures numbered { IsKnown (known types.old scope.old) → IfOk result (λ c. AreNumberedFrom (made_by (constant_view c).expr) (known types.old scope.old) (known types.new scope.new)) }
-    ensures limited { IfOk result (λ v. IsWithin (expr_holds (expr_view e.now)) (known types.old scope.old) (known types.new scope.new)) }
-    ensures refused { IsKnown (known types.old scope.old) → RefusesForCause (λ T f. ConstantFails T (expr_view e.now) scope.old.scopes f) (known types.old scope.old) result (known types.new scope.new) }
-    ensures accepts { AcceptsConstant (expr_view e.now) (known types.old scope.old) result (known types.new scope.new) }
+    ensures typed { IsKnown (known types.old scope.old) → IfOk result
+        (λ c. IsConstantJudged (expr_view e.now) (constant_view c) (known types.old scope.old)
+        (known types.new scope.new)) }
+    ensures numbered { IsKnown (known types.old scope.old)
+        → IfOk result (λ c. AreNumberedFrom (made_by (constant_view c).expr)
+        (known types.old scope.old) (known types.new scope.new)) }
+    ensures limited { IfOk result (λ v. IsWithin (expr_holds (expr_view e.now))
+        (known types.old scope.old) (known types.new scope.new)) }
+    ensures refused { IsKnown (known types.old scope.old)
+        → RefusesForCause (λ T f. ConstantFails T (expr_view e.now) scope.old.scopes f)
+        (known types.old scope.old) result (known types.new scope.new) }
+    ensures accepts { AcceptsConstant (expr_view e.now) (known types.old scope.old) result
+        (known types.new scope.new) }
 {
     checked_constant(scope, types, e)
 }
@@ -90,13 +121,23 @@ pub fn check_specifiers(
     specifiers: &Specifiers,
     alone: bool,
 ) -> Result<TypedSpecifiers, Fault>
-    ensures judged { Answers typed_specifiers_view (walks.judge_specifiers_of alone (specifiers_view specifiers.now) (known types.old scope.old)) result (known types.new scope.new) }
+    ensures judged { Answers typed_specifiers_view
+        (walks.judge_specifiers_of alone (specifiers_view specifiers.now)
+        (known types.old scope.old)) result (known types.new scope.new) }
     ensures grown { HasGrown false (known types.old scope.old) (known types.new scope.new) }
-    ensures typed { IsKnown (known types.old scope.old) → IfOk result (λ t. AreSpecifiersJudged alone (specifiers_view specifiers.now) (typed_specifiers_view t) (known types.old scope.old) (known types.new scope.new)) }
-    ensures numbered { IsKnown (known types.old scope.old) → IfOk result (λ t. AreNumberedFrom (made_by_specifiers (typed_specifiers_view t)) (known types.old scope.old) (known types.new scope.new)) }
-    ensures limited { IfOk result (λ v. IsWithin (specifiers_holds (specifiers_view specifiers.now)) (known types.old scope.old) (known types.new scope.new)) }
-    ensures refused { IsKnown (known types.old scope.old) → RefusesForCause (λ T f. SpecifiersFail alone T (specifiers_view specifiers.now) scope.old.scopes f) (known types.old scope.old) result (known types.new scope.new) }
-    ensures accepts { AcceptsSpecifiers alone (specifiers_view specifiers.now) (known types.old scope.old) result (known types.new scope.new) }
+    ensures typed { IsKnown (known types.old scope.old) → IfOk result
+        (λ t. AreSpecifiersJudged alone (specifiers_view specifiers.now) (typed_specifiers_view t)
+        (known types.old scope.old) (known types.new scope.new)) }
+    ensures numbered { IsKnown (known types.old scope.old)
+        → IfOk result (λ t. AreNumberedFrom (made_by_specifiers (typed_specifiers_view t))
+        (known types.old scope.old) (known types.new scope.new)) }
+    ensures limited { IfOk result (λ v. IsWithin (specifiers_holds (specifiers_view specifiers.now))
+        (known types.old scope.old) (known types.new scope.new)) }
+    ensures refused { IsKnown (known types.old scope.old)
+        → RefusesForCause (λ T f. SpecifiersFail alone T (specifiers_view specifiers.now)
+        scope.old.scopes f) (known types.old scope.old) result (known types.new scope.new) }
+    ensures accepts { AcceptsSpecifiers alone (specifiers_view specifiers.now)
+        (known types.old scope.old) result (known types.new scope.new) }
 {
     specifiers_by(scope, types, specifiers, alone)
 }
@@ -112,14 +153,26 @@ pub fn check_declarator(
     size: Option<u64>,
     naming: Naming,
 ) -> Result<TypedDeclarator, Fault>
-    ensures judged { Answers typed_declarator_view (walks.judge_declarator naming (typed_specifiers_view base.now) size (declarator_view d.now) (known types.old scope.old)) result (known types.new scope.new) }
+    ensures judged { Answers typed_declarator_view
+        (walks.judge_declarator naming (typed_specifiers_view base.now) size (declarator_view d.now)
+        (known types.old scope.old)) result (known types.new scope.new) }
     ensures grown { HasGrown false (known types.old scope.old) (known types.new scope.new) }
-    ensures typed { IsKnown (known types.old scope.old) → GivesDeclarator naming (walks.outermost_of size) (specified_type (typed_specifiers_view base.now)) (declarator_view d.now) (known types.old scope.old) result (known types.new scope.new) }
+    ensures typed { IsKnown (known types.old scope.old) → GivesDeclarator naming
+        (walks.outermost_of size) (specified_type (typed_specifiers_view base.now))
+        (declarator_view d.now) (known types.old scope.old) result (known types.new scope.new) }
     ensures home { IfOk result (λ one. one.home ≡ home_node (home_of (typed_declarator_view one))) }
-    ensures numbered { IsKnown (known types.old scope.old) → IfOk result (λ one. AreNumberedFrom (made_by_declarator (typed_declarator_view one)) (known types.old scope.old) (known types.new scope.new)) }
-    ensures limited { IfOk result (λ v. IsWithin (declarator_holds (declarator_view d.now)) (known types.old scope.old) (known types.new scope.new)) }
-    ensures refused { IsKnown (known types.old scope.old) → RefusesDeclaratorForCause (walks.outermost_of size) (specified_type (typed_specifiers_view base.now)) (declarator_view d.now) (known types.old scope.old) result (known types.new scope.new) }
-    ensures accepts { AcceptsDeclarator naming (walks.outermost_of size) (specified_type (typed_specifiers_view base.now)) (declarator_view d.now) (known types.old scope.old) result (known types.new scope.new) }
+    ensures numbered { IsKnown (known types.old scope.old)
+        → IfOk result (λ one. AreNumberedFrom (made_by_declarator (typed_declarator_view one))
+        (known types.old scope.old) (known types.new scope.new)) }
+    ensures limited { IfOk result (λ v. IsWithin (declarator_holds (declarator_view d.now))
+        (known types.old scope.old) (known types.new scope.new)) }
+    ensures refused { IsKnown (known types.old scope.old)
+        → RefusesDeclaratorForCause (walks.outermost_of size)
+        (specified_type (typed_specifiers_view base.now)) (declarator_view d.now)
+        (known types.old scope.old) result (known types.new scope.new) }
+    ensures accepts { AcceptsDeclarator naming (walks.outermost_of size)
+        (specified_type (typed_specifiers_view base.now)) (declarator_view d.now)
+        (known types.old scope.old) result (known types.new scope.new) }
 {
     declarator_behind(scope, types, naming, base, size, d)
 }
@@ -133,10 +186,15 @@ pub fn check_definition(
     d: &Declarator,
     naming: Naming,
 ) -> Result<(TypedDeclarator, Level), Fault>
-    ensures judged { Answers (λ made. typed_declarator_view made.0) (walks.judge_declarator naming (typed_specifiers_view base.now) None (declarator_view d.now) (known types.old scope.old)) result (known types.new scope.new) }
+    ensures judged { Answers (λ made. typed_declarator_view made.0)
+        (walks.judge_declarator naming (typed_specifiers_view base.now) None (declarator_view d.now)
+        (known types.old scope.old)) result (known types.new scope.new) }
     ensures grown { HasGrown false (known types.old scope.old) (known types.new scope.new) }
-    ensures home { IfOk result (λ made. made.0.home ≡ home_node (home_of (typed_declarator_view made.0))) }
-    ensures level { IfOk result (λ made. level_of naming (specified_type (typed_specifiers_view base.now)) (declarator_view d.now) (known types.old scope.old) ≡ made.1) }
+    ensures home { IfOk result (λ made. made.0.home ≡ home_node
+        (home_of (typed_declarator_view made.0))) }
+    ensures level { IfOk result (λ made. level_of naming
+        (specified_type (typed_specifiers_view base.now)) (declarator_view d.now)
+        (known types.old scope.old) ≡ made.1) }
 {
     definition_behind(scope, types, naming, base, d)
 }

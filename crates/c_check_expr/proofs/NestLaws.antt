@@ -1,12 +1,12 @@
 -- What may be called for trees of less than a height may be called for all trees of a part that is no higher.
-use Rattle.std.proofs.Common.{◌≡◌, ◌≤◌, ◌<◌, ℕ, zero, suc, max, Bool, List, [], ◌∷◌, map, length, get_or, None, Some, Result, sym, subst, arith}
+use Rattle.std.proofs.Common.{◌≡◌, ◌≤◌, ◌<◌, ℕ, zero, suc, max, Bool, List, [], ◌∷◌, map, length, get_or, None, Some, Result, ap, sym, subst, arith}
 use Rattle.std.specs.Borrow.{Bor}
 use Rattle.std.specs.List.{fold}
 use denote.Ref.{MutBor}
 use Rattle.cc_base.specs.declared.fault.Fault.{Fault}
 use Rattle.cc_base.specs.declared.place.Place.{Place}
 use Rattle.c_types.specs.Table.{Table}
-use Rattle.c_tree.specs.declared.expr.Core.TheFolds.{fold_out-Part, fold_out-Enumerator, fold_out-Members, fold_out-Parameter}
+use Rattle.c_tree.specs.declared.expr.Core.TheFolds.{fold_out-Part, fold_out-Enumerator}
 use Rattle.c_tree.specs.declared.expr.Core.TheOpen as layer
 use Rattle.c_tree.specs.declared.expr.Declarator.{Declarator}
 use Rattle.c_tree.specs.declared.expr.Enumerator.{Enumerator}
@@ -24,6 +24,7 @@ use Rattle.c_typing.specs.declared.naming.Naming.{Naming}
 use Rattle.c_typing.specs.declared.operand.Operand.{Operand}
 use Rattle.c_typing.specs.Scopes.{Seen}
 use Rattle.c_check_expr.specs.Nests.{Nests}
+use Rattle.c_check_expr.proofs.PartsSeen.{parameter_seen, row_seen}
 use Rattle.c_check_expr.proofs.SeriesLaws.{folded}
 
 -- The height of a list is that of its highest element
@@ -86,27 +87,17 @@ enumerators_count e =
     core_layer enumerator_layer expr_layer part_layer specifier_layer declarator_layer members_layer parameter_layer specifiers_layer type_name_layer e))
     (enumerator_counted _)
 
-row_counted : (y : Layer layer.Members-F) → IsCounted members_height tree.NoMember (members_layer y)
-row_counted y a = omega arith
-
 pub members_count : Counts members_height members_view (λ row. members_height (members_view row tree.NoMember))
-members_count row =
-    subst (IsCounted members_height tree.NoMember)
-    (sym (fold_out-Members tree.Core (tree.Enumerators → tree.Enumerators) tree.Expr (tree.Parts → tree.Parts) tree.Specifier tree.Declarator
-    (tree.Members → tree.Members) (tree.Parameters → tree.Parameters) tree.Specifiers tree.TypeName
-    core_layer enumerator_layer expr_layer part_layer specifier_layer declarator_layer members_layer parameter_layer specifiers_layer type_name_layer row))
-    (row_counted _)
-
-parameter_counted : (y : Layer layer.Parameter-F) → IsCounted parameters_height tree.NoParameter (parameter_layer y)
-parameter_counted y a = omega arith
+members_count row a =
+    let one = ap members_height (row_seen row a) in
+    let alone = ap members_height (row_seen row tree.NoMember) in
+    omega (arith, one, alone)
 
 pub parameters_count : Counts parameters_height parameter_view (λ one. parameters_height (parameter_view one tree.NoParameter))
-parameters_count one =
-    subst (IsCounted parameters_height tree.NoParameter)
-    (sym (fold_out-Parameter tree.Core (tree.Enumerators → tree.Enumerators) tree.Expr (tree.Parts → tree.Parts) tree.Specifier tree.Declarator
-    (tree.Members → tree.Members) (tree.Parameters → tree.Parameters) tree.Specifiers tree.TypeName
-    core_layer enumerator_layer expr_layer part_layer specifier_layer declarator_layer members_layer parameter_layer specifiers_layer type_name_layer one))
-    (parameter_counted _)
+parameters_count one a =
+    let seen = ap parameters_height (parameter_seen one a) in
+    let alone = ap parameters_height (parameter_seen one tree.NoParameter) in
+    omega (arith, seen, alone)
 
 -- of one that is added by itself
 pub arguments_count : Counts arguments_height (λ e. λ all. tree.AndArgument all e) expr_height

@@ -118,7 +118,7 @@ outcome_grows at x s (Some t) any first h = h
 outcome_grows at x s None any first h = by (nat_lt (length s.table) 16384) (nat_le (new_layout s.table x).size 1048576)
   where
     by : (room small : Bool)
-        → HasGrown any first (state_in (if room then (if small then Gives (record { 0 = length s.table }) (record s { table = s.table ++ basic_entry x ∷ [] })
+        → HasGrown any first (state_in {A = TypeId} (if room then (if small then Gives (record { 0 = length s.table }) (record s { table = s.table ++ basic_entry x ∷ [] })
         else Stops (TooLarge at Object) s) else Stops (TooLarge at Types) s))
     by true true = types-grown any first s.table (s.table ++ basic_entry x ∷ []) s.seen (added_more s.table (basic_entry x)) h
     by true false = h
@@ -194,10 +194,10 @@ left-behind any first T U a e q r entered g left h =
     subst (λ (x : Seen). HasGrown any first (known U x)) (sym left)
     (left-grown any first T U a q (subst (λ (x : Seen). GrowsAny (known T x) (known U q)) entered g) h)
 
-pub stopped-behind : {A : Type 0} (fault : Fault) (any : Bool) (first : State) (T U : Table) (a e r : Seen) → 0 < length a.scopes.levels
+pub stopped-behind : (A : Type 0) (fault : Fault) (any : Bool) (first : State) (T U : Table) (a e r : Seen) → 0 < length a.scopes.levels
     → e ≡ with_scopes a (entering a.scopes) → GrowsOrLeaves {A = A} (Err fault) (known T e) (known U r) → HasGrown any first (known T a)
     → HasGrown any first (known U r)
-stopped-behind fault any first T U a e r some entered g h =
+stopped-behind A fault any first T U a e r some entered g h =
     subst (λ (x : State). HasGrown any first x) (sym g.2)
     (stopped-grown any first T a g.0 some (subst (λ (x : Seen). GrowsAny (known T x) g.0) entered g.1) h)
 

@@ -324,7 +324,6 @@ impl<
     }
 
     /// Parameters in the scope that is open for them; where they stop, it is left.
-    #[tactic(auto, using(crate::proofs::OutcomeLaws::stop_outside))]
     fn parameters_inside(
         &self,
         scope: &mut Scope,

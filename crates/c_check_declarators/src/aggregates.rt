@@ -140,7 +140,7 @@ fn is_definable(types: &Types, t: TypeId, members: &[TypeId]) -> bool
 }
 
 /// Gives a struct or union its members.
-#[tactic(auto, using(crate::proofs::GrowthLaws::more), unfolding(c_typing::specs::Specifying::defined))]
+#[tactic(auto, unfolding(c_typing::specs::Specifying::defined))]
 fn defined(
     scope: &Scope,
     types: &mut Types,

@@ -41,7 +41,6 @@ pub fn enumeration_begun(scope: &mut Scope, name: Option<&Identifier>) -> Result
 }
 
 /// It ends: from here on its tag is complete.
-#[tactic(auto, using(c_typing::proofs::GrowingLaws::grown))]
 pub fn enumeration_ended(scope: &mut Scope, name: Option<&Identifier>) -> Result<(), NoMemory>
     ensures answers { OnOk result (scope.new ≡ with_scopes scope.old (enumerated (option_copied name.entry) scope.old.scopes)) }
     ensures grows { (table : Table) → Grows (known table scope.old) (known table scope.new) }

@@ -77,7 +77,6 @@ fn shape_of_kind(which: AggregateKind, number: u32) -> TypeShape
 }
 
 /// A tag is declared in the innermost scope, where there is one.
-#[tactic(auto, using(c_typing::proofs::GrowingLaws::grown))]
 pub fn declare_tag_of(
     scope: &mut Scope,
     name: Option<&Identifier>,
@@ -94,7 +93,7 @@ pub fn declare_tag_of(
 }
 
 /// A new struct or union, which is named at the place.
-#[tactic(auto, using(c_typing::proofs::GrowingLaws::grown), unfolding(c_typing::specs::Specifying::new_aggregate, c_typing::specs::Operations::numbered))]
+#[tactic(auto, unfolding(c_typing::specs::Specifying::new_aggregate, c_typing::specs::Operations::numbered))]
 pub(crate) fn new_aggregate(
     scope: &mut Scope,
     types: &mut Types,

@@ -71,7 +71,7 @@ fn is_taken(scope: &Scope, name: &Identifier) -> bool
 }
 
 /// An enumerator without a value, after one of this value.
-#[tactic(auto, using(c_typing::proofs::GrowingLaws::grown, c_tree::proofs::TypedViewLaws::typed_views), unfolding(c_typing::specs::Specifying::enumerator))]
+#[tactic(auto, using(c_tree::proofs::TypedViewLaws::typed_views), unfolding(c_typing::specs::Specifying::enumerator))]
 fn plain(
     scope: &mut Scope,
     last: Option<i128>,
@@ -120,7 +120,6 @@ fn constant_of(scope: &Scope, types: &Types, name: &Identifier, v: &Value) -> Re
 }
 
 /// A name is declared as an enumerator with the value that a constant has as an `int`.
-#[tactic(auto, using(c_typing::proofs::GrowingLaws::grown))]
 fn declared_constant(
     scope: &mut Scope,
     name: &Identifier,

@@ -145,7 +145,7 @@ fn is_here(scope: &Scope, name: Option<&Identifier>) -> bool
 }
 
 /// A parameter's name is declared in the scope of its list.
-#[tactic(auto, using(c_typing::proofs::GrowingLaws::objects_grown), unfolding(c_typing::specs::Declaring::parameter_declared))]
+#[tactic(auto, unfolding(c_typing::specs::Declaring::parameter_declared))]
 fn parameter_declared(
     scope: &mut Scope,
     at: Place,

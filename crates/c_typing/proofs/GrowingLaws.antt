@@ -1,5 +1,5 @@
 -- Each change of what is known that the code makes is one by which it grows.
-use Rattle.std.proofs.Common.{◌≡◌, ◌<◌, ◌≤◌, ◌+◌, ℕ, ℤ, Bool, true, false, nat_lt, nat_le, List, [], ◌∷◌, ◌++◌, length, Option, Some, None, Result, Ok, Err, refl, ap, sym, subst, ◌∙◌, inl, inr, true≢false, if◌then◌else◌, slice_set, arith}
+use Rattle.std.proofs.Common.{◌≡◌, ◌<◌, ◌≤◌, ◌+◌, ℕ, ℤ, Bool, true, false, nat_lt, nat_le, List, [], ◌∷◌, ◌++◌, length, Option, Some, None, Result, Ok, Err, OnOk, OnErr, refl, ap, sym, subst, ◌∙◌, inl, inr, true≢false, if◌then◌else◌, slice_set, arith}
 use Rattle.std.proofs.lemmas.Bool.Decides.{leb_tells, eqb_tells, nat_tests}
 use Rattle.std.proofs.lemmas.Grind.{get_or-set_at}
 use Rattle.std.proofs.lemmas.List.{get_or_past, get_or_append_left, get_or-set_other, length-append, length-set}
@@ -24,64 +24,76 @@ use Rattle.c_typing.proofs.OpenScopes.{both-open, still-open, declaring-open, de
 
 -- Counts
 
-pub node-grown : (any : Bool) (first : State) (table : Table) (seen : Seen) → HasGrown any first (known table seen)
-    → HasGrown any first (known table (record seen { node = seen.node + 1 }))
-node-grown any first table seen h =
+pub node-grown : (any : Bool) (first : State) (table : Table) (a : Seen) → HasGrown any first (known table a)
+    → HasGrown any first (known table (record a { node = a.node + 1 }))
+node-grown any first table a h =
     record { scopes = h.scopes; types = h.types; node = let n = h.node in omega (arith, n); globals = h.globals; cells = h.cells }
 
-pub globals-grown : (any : Bool) (first : State) (table : Table) (seen : Seen) (n : ℕ) → HasGrown any first (known table seen)
-    → HasGrown any first (known table (record seen { globals = seen.globals + n }))
-globals-grown any first table seen n h =
+pub globals-grown : (any : Bool) (first : State) (table : Table) (a : Seen) (n : ℕ) → HasGrown any first (known table a)
+    → HasGrown any first (known table (record a { globals = a.globals + n }))
+globals-grown any first table a n h =
     record { scopes = h.scopes; types = h.types; node = h.node; globals = let g = h.globals in omega (arith, g); cells = h.cells }
 
-pub cells-grown : (any : Bool) (first : State) (table : Table) (seen : Seen) (n : ℕ) → HasGrown any first (known table seen)
-    → HasGrown any first (known table (record seen { cells = seen.cells + n }))
-cells-grown any first table seen n h =
+pub cells-grown : (any : Bool) (first : State) (table : Table) (a : Seen) (n : ℕ) → HasGrown any first (known table a)
+    → HasGrown any first (known table (record a { cells = a.cells + n }))
+cells-grown any first table a n h =
     record { scopes = h.scopes; types = h.types; node = h.node; globals = h.globals; cells = let c = h.cells in omega (arith, c) }
 
 -- Scopes
 
-scopes_grown : (any : Bool) (first : State) (table : Table) (seen : Seen) (c : Scopes) → AreStillOpen any seen.scopes c → HasGrown any first (known table seen)
-    → HasGrown any first (known table (with_scopes seen c))
-scopes_grown any first table seen c open_ h =
-    record { scopes = both-open any first.seen.scopes seen.scopes c h.scopes open_; types = h.types; node = h.node; globals = h.globals; cells = h.cells }
+scopes_grown : (any : Bool) (first : State) (table : Table) (a : Seen) (c : Scopes) → AreStillOpen any a.scopes c → HasGrown any first (known table a)
+    → HasGrown any first (known table (with_scopes a c))
+scopes_grown any first table a c open_ h =
+    record { scopes = both-open any first.seen.scopes a.scopes c h.scopes open_; types = h.types; node = h.node; globals = h.globals; cells = h.cells }
 
-gained : (any : Bool) (z : ℤ) → Gained any (declared.Enumerator z)
-gained true z = tt
-gained false z = tt
+pub members-grown : (any : Bool) (first : State) (table : Table) (a : Seen) (number : ℕ) (names : List Name) → HasGrown any first (known table a)
+    → HasGrown any first (known table (with_scopes a (record a.scopes { members = slice_set a.scopes.members number names })))
+members-grown any first table a number names =
+    scopes_grown any first table a (_) (still-open any a.scopes (record a.scopes { members = slice_set a.scopes.members number names }) refl refl
+    (let l = length-set a.scopes.members number names in omega (arith, l)))
 
-pub enumerator-grown : (any : Bool) (first : State) (table : Table) (seen : Seen) (name : Name) (z : ℤ) → HasGrown any first (known table seen)
-    → HasGrown any first (known table (with_scopes seen (declaring name (declared.Enumerator z) seen.scopes)))
-enumerator-grown any first table seen name z =
-    scopes_grown any first table seen (_) (declaring-open any name (declared.Enumerator z) (gained any z) seen.scopes)
+-- what grows in one step
+pub ruleset grown = (node-grown, globals-grown, cells-grown, members-grown)
 
-pub object-grown : (first : State) (table : Table) (seen : Seen) (name : Name) (t : TypeId) (n : NodeId) → HasGrown true first (known table seen)
-    → HasGrown true first (known table (with_scopes seen (declaring name (declared.Object t n) seen.scopes)))
-object-grown first table seen name t n = scopes_grown true first table seen (_) (declaring-open true name (declared.Object t n) tt seen.scopes)
+-- The same where others follow: `a` is what a scope holds before a change, `r` what it holds after it
 
-pub tag-grown : (any : Bool) (first : State) (table : Table) (seen : Seen) (name : Name) (what : Tag) → HasGrown any first (known table seen)
-    → HasGrown any first (known table (with_scopes seen (declaring_tag name what seen.scopes)))
-tag-grown any first table seen name what = scopes_grown any first table seen (_) (declaring_tag-open any name what seen.scopes)
+pub node-grows : (table : Table) (a r : Seen) → r ≡ record a { node = a.node + 1 } → Grows (known table a) (known table r)
+node-grows table a r e any first h = subst (λ (x : Seen). HasGrown any first (known table x)) (sym e) (node-grown any first table a h)
 
-pub set_tag-grown : (any : Bool) (first : State) (table : Table) (seen : Seen) (name : Name) (what : Tag) → HasGrown any first (known table seen)
-    → HasGrown any first (known table (with_scopes seen (setting_tag name what seen.scopes)))
-set_tag-grown any first table seen name what = scopes_grown any first table seen (_) (setting_tag-open any name what seen.scopes)
+module _ (table : Table) (a r : Seen) where
+  changed : (c : Scopes) → ((any : Bool) → AreStillOpen any a.scopes c) → r ≡ with_scopes a c → Grows (known table a) (known table r)
+  changed c open_ e any first h = subst (λ (x : Seen). HasGrown any first (known table x)) (sym e) (scopes_grown any first table a c (open_ any) h)
 
-pub aggregate-grown : (any : Bool) (first : State) (table : Table) (seen : Seen) → HasGrown any first (known table seen)
-    → HasGrown any first (known table (with_scopes seen (counting_aggregate seen.scopes)))
-aggregate-grown any first table seen =
-    scopes_grown any first table seen (_) (still-open any seen.scopes (counting_aggregate seen.scopes) refl refl
-    (let l = length-append seen.scopes.members ([] ∷ []) in omega (arith, l)))
+  pub aggregate-grows : r ≡ with_scopes a (counting_aggregate a.scopes) → Grows (known table a) (known table r)
+  aggregate-grows =
+      changed (counting_aggregate a.scopes)
+      (λ any. still-open any a.scopes (counting_aggregate a.scopes) refl refl (let l = length-append a.scopes.members ([] ∷ []) in omega (arith, l)))
 
-pub members-grown : (any : Bool) (first : State) (table : Table) (seen : Seen) (number : ℕ) (names : List Name) → HasGrown any first (known table seen)
-    → HasGrown any first (known table (with_scopes seen (record seen.scopes { members = slice_set seen.scopes.members number names })))
-members-grown any first table seen number names =
-    scopes_grown any first table seen (_) (still-open any seen.scopes (record seen.scopes { members = slice_set seen.scopes.members number names }) refl refl
-    (let l = length-set seen.scopes.members number names in omega (arith, l)))
+  pub tag-grows : (name : Name) (what : Tag) → r ≡ with_scopes a (declaring_tag name what a.scopes) → Grows (known table a) (known table r)
+  tag-grows name what = changed (declaring_tag name what a.scopes) (λ any. declaring_tag-open any name what a.scopes)
 
-pub ruleset objects_grown = (object-grown)
+  pub set_tag-grows : (name : Name) (what : Tag) → r ≡ with_scopes a (setting_tag name what a.scopes) → Grows (known table a) (known table r)
+  set_tag-grows name what = changed (setting_tag name what a.scopes) (λ any. setting_tag-open any name what a.scopes)
 
-pub ruleset grown = (node-grown, globals-grown, cells-grown, enumerator-grown, tag-grown, set_tag-grown, aggregate-grown, members-grown)
+  gained : (any : Bool) (z : ℤ) → Gained any (declared.Enumerator z)
+  gained true z = tt
+  gained false z = tt
+
+  pub enumerator-grows : (name : Name) (z : ℤ) → r ≡ with_scopes a (declaring name (declared.Enumerator z) a.scopes) → Grows (known table a) (known table r)
+  enumerator-grows name z =
+      changed (declaring name (declared.Enumerator z) a.scopes) (λ any. declaring-open any name (declared.Enumerator z) (gained any z) a.scopes)
+
+  pub object-grows : (name : Name) (t : TypeId) (n : NodeId) → r ≡ with_scopes a (declaring name (declared.Object t n) a.scopes)
+      → GrowsAny (known table a) (known table r)
+  object-grows name t n e first h =
+      subst (λ (x : Seen). HasGrown true first (known table x)) (sym e)
+      (scopes_grown true first table a (_) (declaring-open true name (declared.Object t n) tt a.scopes) h)
+
+-- where a change is made, or what there was is left
+pub either-grows : (A E : Type 0) (result : Result A E) (table : Table) (a b c : Seen) → OnOk result (b ≡ c) → OnErr result (b ≡ a)
+    → Grows (known table a) (known table c) → Grows (known table a) (known table b)
+either-grows A E (Ok x) table a b c made left g any first h = subst (λ (y : Seen). HasGrown any first (known table y)) (sym made) (g any first h)
+either-grows A E (Err e) table a b c made left g any first h = subst (λ (y : Seen). HasGrown any first (known table y)) (sym left) h
 
 -- Types
 

@@ -57,7 +57,7 @@ pub fn pointer_type(
 }
 
 /// A pointer type with a node of its own.
-#[tactic(auto, using(crate::proofs::GrowingLaws::grown), unfolding(crate::specs::Judging::new_pointer, crate::specs::Judging::new_node))]
+#[tactic(auto, unfolding(crate::specs::Judging::new_pointer, crate::specs::Judging::new_node))]
 pub fn new_pointer(
     scope: &mut Scope,
     types: &mut Types,

@@ -1,11 +1,10 @@
 -- Members are given to a type that has none.
-use Rattle.std.proofs.Common.{◌≡◌, Bool, true, false, not, ◌&&◌, nat_lt, length, List, [], ◌∷◌, refl, sym, subst, arith}
+use Rattle.std.proofs.Common.{◌≡◌, Bool, true, false, ◌&&◌, nat_lt, length, List, [], ◌∷◌, refl, sym, subst, arith}
 use Rattle.std.proofs.lemmas.Bool.Decides.{nat_tests}
-use Rattle.std.specs.List.{list_all}
 use Rattle.cc_base.specs.declared.number.TypeId.{TypeId}
 use Rattle.c_types.specs.declared.shape.TypeShape.{TypeShape}
 use Rattle.c_types.specs.declared.shape.TypeShape.TheVariants as shape
-use Rattle.c_types.specs.Table.{Table, IsType, entry_at, members_at, shape_at, is_aggregate_shape, is_complete, is_complete_entry, is_empty}
+use Rattle.c_types.specs.Table.{Table, IsType, members_at, shape_at, is_aggregate_shape, is_complete_entry, is_empty}
 use Rattle.c_typing.specs.Specifying.{is_definable}
 use Rattle.c_typing.specs.Growing.{Grows, HasGrown, HasMoreTypes}
 use Rattle.c_typing.specs.Judging.{known}

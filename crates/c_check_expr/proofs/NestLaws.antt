@@ -9,10 +9,7 @@ use Rattle.c_types.specs.Table.{Table}
 use Rattle.c_tree.specs.declared.expr.Core.TheFolds.{fold_out-Part, fold_out-Enumerator}
 use Rattle.c_tree.specs.declared.expr.Core.TheOpen as layer
 use Rattle.c_tree.specs.declared.expr.Declarator.{Declarator}
-use Rattle.c_tree.specs.declared.expr.Enumerator.{Enumerator}
 use Rattle.c_tree.specs.declared.expr.Expr.{Expr}
-use Rattle.c_tree.specs.declared.expr.Members.{Members}
-use Rattle.c_tree.specs.declared.expr.Parameter.{Parameter}
 use Rattle.c_tree.specs.declared.expr.Part.{Part}
 use Rattle.c_tree.specs.declared.expr.Specifiers.{Specifiers}
 use Rattle.c_tree.specs.declared.typed_expr.TypedForm.{TypedForm}

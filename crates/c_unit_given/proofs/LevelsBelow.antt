@@ -1,5 +1,5 @@
 -- The outer scopes and the homes of objects where the innermost scope changes, and where one is entered or left.
-use Rattle.std.proofs.Common.{◌≡◌, ℕ, List, [], ◌∷◌, ◌++◌, refl, ap}
+use Rattle.std.proofs.Common.{ℕ, List, [], ◌∷◌}
 use Rattle.std.specs.List.{All}
 use Rattle.std.proofs.lemmas.List.Elements.{All-head, All-tail, All-cons, All-nil, All-push}
 use Rattle.c_typing.specs.declared.declared.Declared.{Declared}

@@ -5,6 +5,6 @@ pub returns-in_err-declare_tag_of-clause-grows : goal.returns-in_err-declare_tag
 returns-in_err-declare_tag_of-clause-grows c = λ any first h.
     c.declare_tag_of.ensures.grows _ any first (aggregate-grows _ _ _ c.in_ok-new_aggregate.ensures.counted any first (c.type_with.ensures.grows any first h))
 
-pub returns-clause-grows : goal.returns-clause-grows
-returns-clause-grows c = λ any first h.
+pub returns-in_ok-declare_tag_of-clause-grows : goal.returns-in_ok-declare_tag_of-clause-grows
+returns-in_ok-declare_tag_of-clause-grows c = λ any first h.
     c.declare_tag_of.ensures.grows _ any first (aggregate-grows _ _ _ c.in_ok-new_aggregate.ensures.counted any first (c.type_with.ensures.grows any first h))

@@ -3,7 +3,6 @@ use Rattle.std.proofs.Common.{◌≡◌, ◌<◌, ◌+◌, ℕ, ℤ, Bool, true,
 use Rattle.std.proofs.lemmas.Bool.Decides.{leb_tells, eqb_tells, nat_tests}
 use Rattle.std.proofs.lemmas.Grind.{get_or-set_at}
 use Rattle.std.proofs.lemmas.List.{get_or_past, get_or_append_left, get_or-set_other, length-append, length-set}
-use Rattle.cc_base.specs.declared.fault.Fault.{Fault}
 use Rattle.cc_base.specs.declared.fault.Fault.TheVariants.{TooLarge}
 use Rattle.cc_base.specs.declared.fault.Limit.TheVariants.{Types, Object}
 use Rattle.cc_base.specs.declared.number.NodeId.{NodeId}
@@ -15,7 +14,7 @@ use Rattle.c_types.specs.Table.{Table, Entry, IsType, entry_at, shape_at, is_com
 use Rattle.c_typing.specs.declared.declared.Declared.TheVariants as declared
 use Rattle.c_typing.specs.declared.declared.Tag.{Tag}
 use Rattle.c_typing.specs.Declaring.{once_left}
-use Rattle.c_typing.specs.Growing.{AreStillOpen, Gained, HasMoreTypes, HasGrown, Grows, GrowsAny, GrowsOrLeaves}
+use Rattle.c_typing.specs.Growing.{AreStillOpen, Gained, HasMoreTypes, HasGrown, Grows, GrowsAny}
 use Rattle.c_typing.specs.Judging.{State, Outcome, Gives, Stops, known, type_among, there_or_added, type_with}
 use Rattle.c_typing.specs.Scopes.{Name, Scopes, Seen, with_scopes, declaring, declaring_tag, setting_tag, entering, leaving}
 use Rattle.c_typing.specs.Typing.{counting_aggregate}
@@ -205,12 +204,10 @@ left-behind any first T U a e q r entered g left h =
     subst (λ (x : Seen). HasGrown any first (known U x)) (sym left)
     (left-grown any first T U a q (subst (λ (x : Seen). GrowsAny (known T x) (known U q)) entered g) h)
 
-pub stopped-behind : (A : Type 0) (fault : Fault) (any : Bool) (first : State) (T U : Table) (a e r : Seen) → 0 < length a.scopes.levels
-    → e ≡ with_scopes a (entering a.scopes) → GrowsOrLeaves {A = A} (Err fault) (known T e) (known U r) → HasGrown any first (known T a)
-    → HasGrown any first (known U r)
-stopped-behind A fault any first T U a e r some entered g h =
-    subst (λ (x : State). HasGrown any first x) (sym g.2)
-    (stopped-grown any first T a g.0 some (subst (λ (x : Seen). GrowsAny (known T x) g.0) entered g.1) h)
+pub stopped-behind : (any : Bool) (first : State) (T U : Table) (a e r : Seen) (q : State) → 0 < length a.scopes.levels
+    → e ≡ with_scopes a (entering a.scopes) → GrowsAny (known T e) q → known U r ≡ once_left q → HasGrown any first (known T a) → HasGrown any first (known U r)
+stopped-behind any first T U a e r q some entered grew left h =
+    subst (λ (x : State). HasGrown any first x) (sym left) (stopped-grown any first T a q some (subst (λ (x : Seen). GrowsAny (known T x) q) entered grew) h)
 
 pub deep-inside : (T U : Table) (a e q : Seen) → 0 < length a.scopes.levels → e ≡ with_scopes a (entering a.scopes)
     → GrowsAny (known T e) (known U q) → 1 < length q.scopes.levels

@@ -4,7 +4,9 @@ use Rattle.c_check_expr.proofs.walker.Walker.prototype_left.Goals as goal
 
 pub returns-in_err-found-clause-grows : goal.returns-in_err-found-clause-grows
 returns-in_err-found-clause-grows g c = λ any first.
-    stopped-behind _ _ any first _ _ c.args.scope.now c.enter.new.self c.parameters_inside.new.scope c.depth-_open.ensures.some c.in_ok-enter.ensures.entered c.in_err-found.ensures.grows
+    let left = c.in_err-found.ensures.grows in
+    stopped-behind any first c.args.types.now c.parameters_inside.new.types c.args.scope.now c.enter.new.self c.parameters_inside.new.scope left.0 c.depth-_open.ensures.some
+    c.in_ok-enter.ensures.entered left.1 left.2
 
 pub returns-then-depth-le1-clause-grows : goal.returns-then-depth-le1-clause-grows
 returns-then-depth-le1-clause-grows g c =

@@ -356,7 +356,7 @@ impl<
                 self.call_layer(scope, types, called, f.get(), *at, arguments.as_slice())
             }
             Expr::Member(e, operator, at, word) => {
-                self.member_layer(scope, types, called, e.get(), *operator, *at, word)
+                self.member_layer(scope, types, called, e.get(), *operator, *at, word.get())
             }
             Expr::Postfix(e, step, at) => {
                 self.postfix_layer(scope, types, called, e.get(), *step, *at)

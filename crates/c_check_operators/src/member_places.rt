@@ -150,7 +150,7 @@ fn place_in(
     ensures { IfOk result (λ made. typed_place_view made ≡ typed.Member (typed_place_view p) at name.now found.member found.node t) }
 {
     let alloc = scope.alloc();
-    let name = copied_name(alloc, name)?;
+    let name = Boxed::new(alloc, copied_name(alloc, name)?)?;
     Ok(Boxed::new(
         scope.alloc(),
         TypedPlace::Member(p, at, name, found.member, found.node, t),
@@ -256,7 +256,7 @@ fn place_behind(
     ensures { IfOk result (λ made. typed_place_view made ≡ typed.MemberAt (typed_expr_view e) at name.now found.member found.node t) }
 {
     let alloc = scope.alloc();
-    let name = copied_name(alloc, name)?;
+    let name = Boxed::new(alloc, copied_name(alloc, name)?)?;
     Ok(Boxed::new(
         scope.alloc(),
         TypedPlace::MemberAt(e, at, name, found.member, found.node, t),

@@ -140,7 +140,7 @@ fn named_as(
             Ok(Part::Place(Boxed::new(scope.alloc(), TypedPlace::Variable(name, home, t))?))
         }
         Some(Declared::Enumerator(value)) => {
-            let name = copied_name(alloc, word)?;
+            let name = Boxed::new(alloc, copied_name(alloc, word)?)?;
             Ok(Part::Value(Boxed::new(scope.alloc(), TypedExpr::Enumerator(name, value, INT))?))
         }
         Some(Declared::Typedef(_)) => Err(no_room(word.place)),

@@ -68,14 +68,14 @@ pub fn statement(out: &mut Draft, k: &Scope<'_>, v: Nesting, s: &TypedStatement)
         TypedStatement::Express(e) => expr(out, k, 0, e),
         TypedStatement::Empty => keep(out),
         TypedStatement::If(_, _, c, s) => {
-            expr(out, k, 0, c);
+            expr(out, k, 0, c.get());
             let mut then = start(k);
             statement(&mut then, k, v, s.get());
             let otherwise = start(k);
             choose(out, 0, then, otherwise)
         }
         TypedStatement::IfElse(_, _, c, s, r) => {
-            expr(out, k, 0, c);
+            expr(out, k, 0, c.get());
             let mut then = start(k);
             statement(&mut then, k, v, s.get());
             let mut otherwise = start(k);
@@ -83,6 +83,7 @@ pub fn statement(out: &mut Draft, k: &Scope<'_>, v: Nesting, s: &TypedStatement)
             choose(out, 0, then, otherwise)
         }
         TypedStatement::Switch(at, _, e, _, items) => {
+            let e = e.get();
             let items = items.as_slice();
             labels_fit(out, items);
             let mut inner = start(k);
@@ -94,7 +95,7 @@ pub fn statement(out: &mut Draft, k: &Scope<'_>, v: Nesting, s: &TypedStatement)
         }
         TypedStatement::While(_, _, c, s) => {
             let mut round = start(k);
-            test(&mut round, k, c);
+            test(&mut round, k, c.get());
             let mut body = start(k);
             statement(&mut body, k, in_loop(v), s.get());
             put_block(&mut round, body);
@@ -105,7 +106,7 @@ pub fn statement(out: &mut Draft, k: &Scope<'_>, v: Nesting, s: &TypedStatement)
             let mut body = start(k);
             statement(&mut body, k, in_loop(v), s.get());
             put_block(&mut round, body);
-            test(&mut round, k, c);
+            test(&mut round, k, c.get());
             put_loop(out, round)
         }
         TypedStatement::For(_, _, first, c, step, s) => {
@@ -119,7 +120,7 @@ pub fn statement(out: &mut Draft, k: &Scope<'_>, v: Nesting, s: &TypedStatement)
             put_loop(out, round)
         }
         TypedStatement::ForDeclaration(_, _, d, c, step, s) => {
-            declaration(out, k, d);
+            declaration(out, k, d.get());
             let mut round = start(k);
             condition(&mut round, k, c);
             let mut body = start(k);
@@ -133,6 +134,7 @@ pub fn statement(out: &mut Draft, k: &Scope<'_>, v: Nesting, s: &TypedStatement)
         TypedStatement::Return(at, e) => match e {
             None => put(out, Instr::Return),
             Some(e) => {
+                let e = e.get();
                 expr(out, k, 0, e);
                 put_return(out, e, *at)
             }

@@ -26,3 +26,5 @@ pub mod GivingLaws
 pub mod ReturnLaws
 pub mod OuterLaws
 pub mod BeginLaws
+pub mod PositionLaws
+pub mod LayingLaws

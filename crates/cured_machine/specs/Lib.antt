@@ -11,3 +11,6 @@ pub mod Reading
 pub mod Running
 pub mod Steps
 pub mod Outer
+pub mod Positions
+pub mod Operations
+pub mod Laying

@@ -2,7 +2,6 @@
 #![tactic(auto)]
 
 mod calls;
-mod control;
 mod ending;
 mod in_frame;
 mod laying;
@@ -10,7 +9,6 @@ mod loading;
 mod lookups;
 mod machine;
 mod making;
-mod nesting;
 mod operation;
 mod reading;
 mod row;

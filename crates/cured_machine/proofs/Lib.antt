@@ -4,10 +4,8 @@ pub mod RowLaws
 pub mod LookupLaws
 pub mod ReachedLaws
 pub mod LeavingLaws
-pub mod NestLaws
 pub mod KeptLaws
 pub mod CallLaws
-pub mod ControlLaws
 pub mod SizeLaws
 pub mod GrowLaws
 pub mod LoadLaws

@@ -1,7 +1,6 @@
 pub mod Stack
 pub mod Rows
 pub mod Spelled
-pub mod Nests
 pub mod Kept
 pub mod Sizes
 pub mod Ready

@@ -26,3 +26,4 @@ pub mod OuterLaws
 pub mod BeginLaws
 pub mod PositionLaws
 pub mod LayingLaws
+pub mod WaitingLaws

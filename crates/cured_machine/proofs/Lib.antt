@@ -11,7 +11,6 @@ pub mod GrowLaws
 pub mod LoadLaws
 pub mod SlotLaws
 pub mod RunningLaws
-pub mod FormLaws
 pub mod RoomLaws
 pub mod StepLaws
 pub mod OutsideLaws

@@ -163,7 +163,7 @@ fn holds_pointer(out: &mut Draft, known: &Known<'_>, t: TypeId, count: u32) -> b
     ensures { Grows (When (result ≡ holds_pointer known.now t) (Line [])) (IsTypeIn known.now t) out.old out.new }
 {
     if t.0 < count {
-        return known.layout(t).holds;
+        return known.holds_pointer(t);
     }
     refuse(out);
     false

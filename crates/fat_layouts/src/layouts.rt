@@ -12,10 +12,11 @@ ghost use Rattle.c_types.specs.Widths.{before, cured_size};
 ghost use Rattle.c_types.specs.Sound.{IsWellFormed};
 ghost use Rattle.fat_layouts.specs.Standing.{IsCuredLayout};
 
-use crate::stops::{CuredLayout, last_passed, stops_of};
+use crate::descending::{Point, Step, step};
+use crate::parts::{CuredType, cured, cured_types};
 use c_types::Types;
 use cc_base::{Kinds, NoMemory, TypeId};
-use phys_types::{Known, Phys};
+use phys_types::Phys;
 use std::alloc::Global;
 use std::marker::Model;
 
@@ -24,7 +25,7 @@ use std::marker::Model;
 pub struct Layouts<'a> {
     types: &'a Types,
     kinds: &'a Kinds,
-    layouts: Vec<CuredLayout>,
+    all: Vec<CuredType>,
 }
 
 impl<'a> Model for Layouts<'a> {
@@ -34,27 +35,7 @@ impl<'a> Model for Layouts<'a> {
 
     ghost view = { λ s. record { table = s.types.now; kinds = s.kinds.now } };
 
-    ghost invariant = { λ s. AreCuredLayouts s.types.now s.kinds.now s.layouts.items };
-}
-
-/// The cured layout of a type.
-fn layout_of(
-    alloc: Global,
-    known: &Known,
-    kinds: &Kinds,
-    t: TypeId,
-) -> Result<CuredLayout, NoMemory>
-    requires formed { IsWellFormed known.now }
-    requires typed { IsType known.now t }
-    requires nodes { All (λ e. AreNodesOf (length kinds.now) e.shape) known.now }
-    ensures { IfOk result (λ x. IsCuredLayout known.now kinds.now t x) }
-{
-    let layout = known.layout(t);
-    let stops = stops_of(alloc, kinds, &layout.spots)?;
-    Ok(CuredLayout {
-        size: layout.size,
-        stops,
-    })
+    ghost invariant = { λ s. AreCuredLayouts s.types.now s.kinds.now s.all.items };
 }
 
 impl<'a> Layouts<'a> {
@@ -64,15 +45,8 @@ impl<'a> Layouts<'a> {
         ensures { IfOk result (λ l. l ≡ record { table = types.now; kinds = kinds.now }) }
     {
         let known = Phys::new(alloc).over(types)?;
-        let mut layouts = Vec::with_capacity(alloc, types.count() as usize)?;
-        'types: for t in 0..types.count() {
-            layouts.push(layout_of(alloc, &known, kinds, TypeId(t))?)?;
-        }
-        Ok(Layouts {
-            types,
-            kinds,
-            layouts,
-        })
+        let all = cured_types(alloc, &known, types, kinds)?;
+        Ok(Layouts { types, kinds, all })
     }
 
     /// The bytes that an object of a complete type takes once cured. Takes no memory.
@@ -80,7 +54,7 @@ impl<'a> Layouts<'a> {
         requires { IsComplete self.now.table t }
         ensures { result ≡ cured_size self.now.table (kind_at self.now.kinds) t }
     {
-        self.cured_offset(t, self.types.size_of(t))
+        cured(&self.all, t).cured
     }
 
     /// The types of the program.
@@ -91,14 +65,23 @@ impl<'a> Layouts<'a> {
     }
 
     /// The bytes that the first bytes of an object of a complete type take once cured, as many as `offset`, where no
-    /// pointer has begun before and ends behind. Takes no memory, and a number of steps that is logarithmic in the
-    /// number of the type's pointers.
+    /// pointer has begun before and ends behind. Takes no memory, and a step for each part in which the offset lies, one in
+    /// the other, logarithmic in the number of its members.
     pub fn cured_offset(&self, t: TypeId, offset: u64) -> u64
         requires complete { IsComplete self.now.table t }
         requires within { offset ≤ size_of self.now.table t }
         ensures { IsBetweenPointers (cells_of self.now.table t) offset → result ≡ before (kind_at self.now.kinds) (cells_of self.now.table t) offset }
     {
-        let stop = last_passed(&self.layouts[t.0 as usize].stops, offset);
-        stop.cured + (offset - stop.end)
+        let mut at = Point {
+            ty: t,
+            offset,
+            passed: 0,
+        };
+        'parts: loop {
+            match step(self.types, &self.all, at) {
+                Step::There(cured) => return cured,
+                Step::Into(part) => at = part,
+            }
+        }
     }
 }

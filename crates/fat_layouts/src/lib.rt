@@ -2,8 +2,9 @@
 //! (CCured, TOPLAS 2005).
 #![tactic(auto)]
 
+mod descending;
 mod layouts;
-mod stops;
+mod parts;
 mod widths;
 
 pub use layouts::Layouts;

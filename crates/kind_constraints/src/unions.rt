@@ -16,7 +16,7 @@ ghost use Rattle.kind_constraints.specs.Pieces.{AreUnionPlaces, StandInUnion, un
 use c_types::Types;
 use cc_base::{NoMemory, Place, TypeId};
 use kind_sites::Site;
-use phys_types::{Found, Known};
+use phys_types::{Found, Known, largest_member};
 use std::alloc::Global;
 
 /// Adds the union whose members stand at a site, with its place.
@@ -41,33 +41,6 @@ pub(crate) fn union_places(alloc: Global, sites: &[Site]) -> Result<Vec<(TypeId,
     Ok(unions)
 }
 
-/// The larger of a member of a union that was found and another one, the first of two of one size.
-fn larger(types: &Types, found: Option<TypeId>, member: TypeId) -> Option<TypeId>
-    requires other { IfSome found (IsComplete types.now) }
-    requires member { IsComplete types.now member }
-    ensures { result ≡ Some (larger (size_of types.now) found member) }
-{
-    match found {
-        Some(other) if types.size_of(member) <= types.size_of(other) => Some(other),
-        _ => Some(member),
-    }
-}
-
-/// The largest member of a union, the first where several are; none where it has no members.
-fn largest(types: &Types, v: TypeId) -> Option<TypeId>
-    requires formed { IsWellFormed types.now }
-    requires typed { IsType types.now v }
-    requires union { IsUnion types.now v }
-    ensures found { IfSome result (IsLargest types.now v) }
-    ensures none { IfNone result (members_at types.now v ≡ []) }
-{
-    let mut found: Option<TypeId> = None;
-    'members: for i in 0..types.fields(v) {
-        found = larger(types, found, types.field(v, i).ty);
-    }
-    found
-}
-
 /// Adds the pointers of each member of a union that isn't mixed and those at the same places of its largest member.
 pub(crate) fn add_union(
     known: &Known,
@@ -86,7 +59,7 @@ pub(crate) fn add_union(
     if known.is_mixed(v) {
         return Ok(());
     }
-    if let Some(largest) = largest(types, v) {
+    if let Some(largest) = largest_member(types, v) {
         'members: for i in 0..types.fields(v) {
             known.add_places(found, types.field(v, i).ty, largest)?;
         }

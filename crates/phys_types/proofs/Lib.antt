@@ -9,7 +9,7 @@ pub mod Tiled
 pub mod Structs
 pub mod Parts
 pub mod Unions
-pub mod Shapes
+pub mod WrittenOut
 pub mod Makeups
 pub mod RoundLemmas
 pub mod Settled

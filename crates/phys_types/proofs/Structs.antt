@@ -52,31 +52,18 @@ struct_tag (Array e n) h = absurd (true≢false (sym h))
 struct_tag (Function ps r) h = absurd (true≢false (sym h))
 struct_tag (Union t) h = absurd (true≢false (sym h))
 
-any_more : (p : TypeId → Bool) (ms : List TypeId) (m : TypeId) → list_any p (ms ++ m ∷ []) ≡ (list_any p ms || p m)
-any_more p [] m = by (p m)
-  where
-    by : (b : Bool) → (b || false) ≡ b
-    by true = refl
-    by false = refl
-any_more p (x ∷ xs) m = ap (λ b. p x || b) (any_more p xs m) ∙ regroup (p x) (list_any p xs) (p m)
-  where
-    regroup : (a b c : Bool) → (a || (b || c)) ≡ ((a || b) || c)
-    regroup true b c = refl
-    regroup false b c = refl
-
 module _ (table : Table) where
   abbrev pub members_cells : Relation → List TypeId → List Cell
   members_cells E ms = member_cells (align_of table) (cells_at table E) ms
 
   -- what the first i members have given
-  pub record StructSoFar (E : Relation) (ms : List TypeId) (i : ℕ) (spots : List Spot) (holds : Bool) : Type 0 where
+  pub record StructSoFar (E : Relation) (ms : List TypeId) (i : ℕ) (spots : List Spot) : Type 0 where
     pub spots_are : AreSpots (size_of table) 0 spots (length (members_cells E (take i ms)))
     pub shown : cells_from 0 spots (length (members_cells E (take i ms))) ≡ members_cells E (take i ms)
-    pub holds_are : holds ≡ list_any (holds_pointer table) (take i ms)
 
 module _ (table : Table) (w : IsWellFormed table) where
-  pub struct_start : (E : Relation) (ms : List TypeId) → StructSoFar table E ms 0 [] false
-  struct_start E ms = record { spots_are = omega arith; shown = refl; holds_are = refl }
+  pub struct_start : (E : Relation) (ms : List TypeId) → StructSoFar table E ms 0 []
+  struct_start E ms = record { spots_are = omega arith; shown = refl }
 
   members_more : (E : Relation) (ms : List TypeId) (i : ℕ) (d : TypeId) → i < length ms
       → members_cells table E (take (i + 1) ms)
@@ -85,32 +72,30 @@ module _ (table : Table) (w : IsWellFormed table) where
       ap (members_cells table E) (take_more ms i d l)
       ∙ fold-append (λ cells m. padded_to (rounded (length cells) (align_of table m)) cells ++ cells_at table E m) [] (take i ms) (get_or ms i d ∷ [])
 
-  pub struct_more : (E : Relation) (ms : List TypeId) (i offset : ℕ) (spots new : List Spot) (holds : Bool) (d : TypeId) (part : Layout) → i < length ms
-      → offset ≡ rounded (length (members_cells table E (take i ms))) (align_of table (get_or ms i d)) → IsLayoutOf table E (get_or ms i d) part
-      → new ≡ spots ++ map (shifted offset) part.spots.items
-      → StructSoFar table E ms i spots holds → StructSoFar table E ms (i + 1) new (holds || part.holds)
-  struct_more E ms i offset spots new holds d part l e p n s =
-      let m : TypeId = get_or ms i d in
+  pub struct_more : (E : Relation) (ms : List TypeId) (i offset : ℕ) (spots new : List Spot) (d : TypeId) (size : ℕ) (part : List Spot) → i < length ms
+      → offset ≡ rounded (length (members_cells table E (take i ms))) (align_of table (get_or ms i d))
+      → AreSpots (size_of table) 0 part size → cells_from 0 part size ≡ cells_at table E (get_or ms i d)
+      → new ≡ spots ++ map (shifted offset) part
+      → StructSoFar table E ms i spots → StructSoFar table E ms (i + 1) new
+  struct_more E ms i offset spots new d size part l e p q n s =
       let X : List Cell = members_cells table E (take i ms) in
       let up : length X ≤ offset = (let r = rounded_up (length X) (align_of table (get_or ms i d)) in omega arith) in
       let front = spots_to (size_of table) 0 spots (length X) offset s.spots_are up in
-      let back = moved_spots (size_of table) part.size offset part.spots.items p.spots in
-      let both : AreSpots (size_of table) 0 (spots ++ map (shifted offset) part.spots.items) (offset + part.size) =
-      spots_joined (size_of table) 0 spots offset (map (shifted offset) part.spots.items) (offset + part.size) front back in
-      let cells : cells_from 0 (spots ++ map (shifted offset) part.spots.items) (offset + part.size) ≡ members_cells table E (take (i + 1) ms) =
-      sym (cells_joined (size_of table) 0 spots offset (map (shifted offset) part.spots.items) (offset + part.size) front back)
+      let back = moved_spots (size_of table) size offset part p in
+      let both : AreSpots (size_of table) 0 (spots ++ map (shifted offset) part) (offset + size) =
+      spots_joined (size_of table) 0 spots offset (map (shifted offset) part) (offset + size) front back in
+      let cells : cells_from 0 (spots ++ map (shifted offset) part) (offset + size) ≡ members_cells table E (take (i + 1) ms) =
+      sym (cells_joined (size_of table) 0 spots offset (map (shifted offset) part) (offset + size) front back)
       ∙ (λ j. (sym (cells_padded (size_of table) (length X) offset spots s.spots_are up) ∙ ap (padded_to offset) s.shown) j
-      ++ (moved_cells (size_of table) part.size offset part.spots.items ∙ p.cells) j)
+      ++ (moved_cells (size_of table) size offset part ∙ q) j)
       ∙ ap (λ k. padded_to k (members_cells table E (take i ms)) ++ cells_at table E (get_or ms i d)) e
       ∙ sym (members_more E ms i d l) in
-      let end : offset + part.size ≡ length (members_cells table E (take (i + 1) ms)) = sym (length_all (size_of table) _ (offset + part.size) both) ∙ ap length cells in
+      let end : offset + size ≡ length (members_cells table E (take (i + 1) ms)) = sym (length_all (size_of table) _ (offset + size) both) ∙ ap length cells in
       record {
         spots_are = subst (λ xs. AreSpots (size_of table) 0 xs (length (members_cells table E (take (i + 1) ms)))) (sym n)
-            (subst (λ k. AreSpots (size_of table) 0 (spots ++ map (shifted offset) part.spots.items) k) end both);
+            (subst (λ k. AreSpots (size_of table) 0 (spots ++ map (shifted offset) part) k) end both);
         shown = ap (λ xs. cells_from 0 xs (length (members_cells table E (take (i + 1) ms)))) n
-            ∙ ap (λ k. cells_from 0 (spots ++ map (shifted offset) part.spots.items) k) (sym end) ∙ cells;
-        holds_are = (λ j. s.holds_are j || p.holds j) ∙ sym (any_more (holds_pointer table) (take i ms) (get_or ms i d))
-            ∙ ap (list_any (holds_pointer table)) (sym (take_more ms i d l));
+            ∙ ap (λ k. cells_from 0 (spots ++ map (shifted offset) part) k) (sym end) ∙ cells;
       }
 
   complete_member : (t : TypeId) (tag : ℕ) → shape_at table t ≡ Struct tag → (m : TypeId) → Contains (members_at table t) m → IsComplete table m
@@ -147,9 +132,10 @@ module _ (table : Table) (w : IsWellFormed table) where
       let r = rounded_up (members_end (map (layout_of table) (members_at table t))) (greatest_align (map (layout_of table) (members_at table t))) in
       omega arith
 
-  pub struct_done : (E : Relation) (t : TypeId) (tag i : ℕ) (layout : Layout) → shape_at table t ≡ Struct tag → is_complete_entry (shape_at table t) (members_at table t) ≡ true
-      → length (members_at table t) ≤ i → StructSoFar table E (members_at table t) i layout.spots.items layout.holds → layout.size ≡ size_of table t → IsLayoutOf table E t layout
-  struct_done E t tag i layout e c l s z = by (members_at table t) refl
+  pub struct_shown : (E : Relation) (t : TypeId) (tag i : ℕ) (spots : List Spot) → shape_at table t ≡ Struct tag → is_complete_entry (shape_at table t) (members_at table t) ≡ true
+      → length (members_at table t) ≤ i → StructSoFar table E (members_at table t) i spots
+      → AreSpots (size_of table) 0 spots (size_of table t) × (cells_from 0 spots (size_of table t) ≡ cells_at table E t)
+  struct_shown E t tag i spots e c l s = by (members_at table t) refl
     where
       all : take i (members_at table t) ≡ members_at table t
       all = take_all i (members_at table t) l
@@ -161,23 +147,20 @@ module _ (table : Table) (w : IsWellFormed table) where
           let r = rounded_up (members_end (map (layout_of table) (members_at table t))) (greatest_align (map (layout_of table) (members_at table t))) in
           omega arith
 
-      shown : cells_from 0 layout.spots.items layout.size ≡ padded_to (size_of table t) (members_cells table E (members_at table t))
+      shown : cells_from 0 spots (size_of table t) ≡ padded_to (size_of table t) (members_cells table E (members_at table t))
       shown =
-          ap (cells_from 0 layout.spots.items) z
-          ∙ sym (cells_padded (size_of table) (length (members_cells table E (take i (members_at table t)))) (size_of table t) layout.spots.items s.spots_are fits)
+          sym (cells_padded (size_of table) (length (members_cells table E (take i (members_at table t)))) (size_of table t) spots s.spots_are fits)
           ∙ ap (padded_to (size_of table t)) (s.shown ∙ ap (members_cells table E) all)
 
       here : (ms : List TypeId) → members_at table t ≡ ms → (m : TypeId) (rest : List TypeId) → ms ≡ m ∷ rest
           → padded_to (size_of table t) (members_cells table E ms) ≡ cells_of_shape table E (cells_at table E) t (Struct tag) ms
       here ms f m rest g = ap (λ xs. padded_to (size_of table t) (members_cells table E xs)) g ∙ ap (cells_of_shape table E (cells_at table E) t (Struct tag)) (sym g)
 
-      by : (ms : List TypeId) → members_at table t ≡ ms → IsLayoutOf table E t layout
+      by : (ms : List TypeId) → members_at table t ≡ ms → AreSpots (size_of table) 0 spots (size_of table t) × (cells_from 0 spots (size_of table t) ≡ cells_at table E t)
       by [] f = absurd (true≢false (sym c ∙ (λ j. is_complete_entry (e j) (f j))))
-      by (m ∷ rest) f = record {
-        spots = subst (AreSpots (size_of table) 0 layout.spots.items) (sym z) (spots_to (size_of table) 0 layout.spots.items (length (members_cells table E (take i (members_at table t)))) (size_of table t) s.spots_are fits);
-        cells = shown ∙ here (members_at table t) refl m rest f
+      by (m ∷ rest) f = (
+        spots_to (size_of table) 0 spots (length (members_cells table E (take i (members_at table t)))) (size_of table t) s.spots_are fits,
+        shown ∙ here (members_at table t) refl m rest f
             ∙ ap (λ s. cells_of_shape table E (cells_at table E) t s (members_at table t)) (sym e)
-            ∙ sym (cells_are table w.order.0 w.order.1 E t);
-        holds = s.holds_are ∙ ap (list_any (holds_pointer table)) all
-            ∙ ap (λ s. holds_in_shape (holds_pointer table) s (members_at table t)) (sym e) ∙ sym (holds_is table w t);
-      }
+            ∙ sym (cells_are table w.order.0 w.order.1 E t),
+      )

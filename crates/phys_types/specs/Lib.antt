@@ -2,6 +2,9 @@ pub mod Spots
 pub mod Numbers
 pub mod Reach
 pub mod Shown
+pub mod Written
+pub mod Outlines
+pub mod Writing
 pub mod Rounds
 pub mod Refining
 pub mod Signatures

@@ -1,18 +1,15 @@
-use Rattle.std.specs.Prelude.{◌≡◌, ℕ, ◌<◌, ◌≤◌, Bool, true, false, ◌&&◌, List, [], ◌∷◌, length, slice_index_or, nat_le, nat_lt, if◌then◌else◌, IsTrue, ⊤}
-use Rattle.std.specs.List.{All, Contains, fold, list_all, list_any}
+use Rattle.std.specs.Prelude.{◌≡◌, ℕ, ◌≤◌, Bool, true, false, ◌&&◌, nat_le, IsTrue}
 use Rattle.cc_base.specs.declared.number.TypeId.{TypeId}
 use Rattle.c_types.specs.declared.shape.TypeShape.{TypeShape}
 use Rattle.c_types.specs.declared.shape.TypeShape.TheVariants.{Struct}
-use Rattle.c_types.specs.Table.{Table, shape_at, parts_at}
+use Rattle.c_types.specs.Table.{Table, shape_at}
 use Rattle.c_types.specs.Layouts.{size_of}
 use Rattle.c_types.specs.Cells.{Relation, cells_at, holds_pointer}
 use Rattle.phys_types.specs.declared.spot.Layout.{Layout}
 use Rattle.phys_types.specs.Spots.{cells_from, AreSpots}
-use Rattle.phys_types.specs.declared.spot.Item.TheVariants.{Mixed}
-use Rattle.phys_types.specs.declared.spot.Spot.{Spot}
 use Rattle.phys_types.specs.Numbers.{AreLow, begin_with_spots}
 
--- Layouts that are kept of types.
+-- Layouts of types.
 
 -- the layout shows the cells of t, where unions are mixed or not by E
 pub record IsLayoutOf (table : Table) (E : Relation) (t : TypeId) (layout : Layout) : Type 0 where
@@ -24,19 +21,6 @@ pub record IsLayoutOf (table : Table) (E : Relation) (t : TypeId) (layout : Layo
 abbrev pub IsLow : Layout → Type 0
 IsLow layout = AreLow layout.spots.items × (layout.size ≤ 1048576)
 
--- a layout is kept at the place of t
-abbrev pub IsKept : List ℕ → List Layout → TypeId → Type 0
-IsKept places built t = (t.0 < length places) × (slice_index_or places t.0 0 < length built)
-
--- the parts of t have their layouts
-abbrev pub ArePartsKept : Table → List ℕ → List Layout → TypeId → Type 0
-ArePartsKept table places built t = All (IsKept places built) (parts_at table t)
-
--- the layouts of the parts of t are right
-abbrev pub ArePartsShown : Table → Relation → List ℕ → List Layout → TypeId → Type 0
-ArePartsShown table E places built t =
-    (p : TypeId) (d : Layout) → Contains (parts_at table t) p → IsLayoutOf table E p (slice_index_or built (slice_index_or places p.0 0) d)
-
 abbrev pub is_struct_shape : TypeShape → Bool
 is_struct_shape (Struct tag) = true
 is_struct_shape shape = false
@@ -44,37 +28,6 @@ is_struct_shape shape = false
 abbrev pub IsStruct : Table → TypeId → Type 0
 IsStruct table t = IsTrue (is_struct_shape (shape_at table t))
 
--- the layouts are those of the types, one by one
-abbrev pub AreLayoutsOf : Table → Relation → List TypeId → List Layout → Type 0
-AreLayoutsOf table E [] [] = ⊤
-AreLayoutsOf table E (t ∷ ts) (x ∷ xs) = IsLayoutOf table E t x × AreLayoutsOf table E ts xs
-AreLayoutsOf table E ts xs = ⊥
-
--- the larger layout, the first of two of one size
-abbrev pub larger : Layout → Layout → Layout
-larger x y = if nat_lt x.size y.size then y else x
-
 -- the cells of x begin with those of y
 abbrev pub begins_spots : (TypeId → ℕ) → Layout → Layout → Bool
 begins_spots number x y = nat_le y.size x.size && begin_with_spots number y.size x.spots.items y.spots.items
-
--- the spots of a union of this size with these members
-abbrev pub union_spots : (TypeId → ℕ) → TypeId → ℕ → List Layout → List Layout → List Spot
-union_spots number t size parts [] = []
-union_spots number t size parts (x ∷ xs) =
-    if list_any (λ p. p.holds) parts
-    then (if list_all (begins_spots number (fold larger x parts)) parts
-    then (fold larger x parts).spots.items
-    else record { start = 0; item = Mixed t size } ∷ [])
-    else []
-
-pub record IsUnionOf (number : TypeId → ℕ) (t : TypeId) (size : ℕ) (parts : List Layout) (layout : Layout) : Type 0 where
-  pub size_is : layout.size ≡ size
-  pub spots_are : layout.spots.items ≡ union_spots number t size parts parts
-  pub holds_are : layout.holds ≡ list_any (λ p. p.holds) parts
-
--- what a layout is made of
-pub record IsMadeOf (size : ℕ) (spots : List Spot) (holds : Bool) (layout : Layout) : Type 0 where
-  pub size_is : layout.size ≡ size
-  pub spots_are : layout.spots.items ≡ spots
-  pub holds_are : layout.holds ≡ holds

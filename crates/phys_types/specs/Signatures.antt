@@ -1,14 +1,15 @@
-use Rattle.std.specs.Prelude.{ℕ, ◌+◌, ◌*◌, ◌%◌, ◌^◌, Bool, List, [], ◌∷◌, flat_map, if◌then◌else◌}
+use Rattle.std.specs.Prelude.{ℕ, ◌+◌, ◌*◌, ◌%◌, ◌^◌, Bool, List, [], ◌∷◌, length, take, flat_map, if◌then◌else◌}
 use Rattle.std.specs.List.{fold}
 use Rattle.cc_base.specs.declared.number.TypeId.{TypeId}
 use Rattle.c_types.specs.declared.shape.TypeShape.{TypeShape}
 use Rattle.c_types.specs.declared.shape.TypeShape.TheVariants.{Function}
 use Rattle.c_types.specs.Table.{Table, shape_at}
+use Rattle.c_types.specs.Cells.{Relation, cells_at}
 use Rattle.c_types.specs.Equality.{Slot, nothing, integer, pointer_to, other, slot_of}
 use Rattle.phys_types.specs.declared.spot.Item.{Item}
 use Rattle.phys_types.specs.declared.spot.Item.TheVariants.{Pointer, Mixed, Incomplete}
-use Rattle.phys_types.specs.declared.spot.Layout.{Layout}
 use Rattle.phys_types.specs.declared.spot.Spot.{Spot}
+use Rattle.phys_types.specs.Written.{spots_at}
 
 -- What types that are made alike share, in numbers.
 
@@ -42,13 +43,13 @@ slot_form (other t) = 4
 abbrev pub slot_in : Table → TypeId → Slot
 slot_in table p = slot_of p (shape_at table p)
 
-abbrev pub form_of_shape : Table → TypeShape → Layout → ℕ
-form_of_shape table (Function ps r) x = mixed_all 1 (λ p. slot_form (slot_in table p)) (r ∷ ps)
-form_of_shape table shape x = mixed (mixed_all 2 spot_form x.spots.items) x.size
+abbrev pub form_of_shape : Table → TypeShape → ℕ → List Spot → ℕ
+form_of_shape table (Function ps r) n ss = mixed_all 1 (λ p. slot_form (slot_in table p)) (r ∷ ps)
+form_of_shape table shape n ss = mixed (mixed_all 2 spot_form ss) n
 
--- a number that types share that are made alike
-abbrev pub form_at : Table → TypeId → Layout → ℕ
-form_at table t x = form_of_shape table (shape_at table t) x
+-- a number that types share that are made alike, by the number of their cells and their first spots
+abbrev pub form_at : Table → TypeId → ℕ → List Spot → ℕ
+form_at table t n ss = form_of_shape table (shape_at table t) n ss
 
 -- what it points to, in order
 
@@ -61,9 +62,16 @@ slot_targets (pointer_to t) = t ∷ []
 slot_targets (other t) = t ∷ []
 slot_targets slot = []
 
-abbrev pub targets_of_shape : Table → TypeShape → Layout → List TypeId
-targets_of_shape table (Function ps r) x = flat_map (λ p. slot_targets (slot_in table p)) (r ∷ ps)
-targets_of_shape table shape x = flat_map (λ s. item_targets s.item) x.spots.items
+abbrev pub targets_of_shape : Table → TypeShape → List Spot → List TypeId
+targets_of_shape table (Function ps r) ss = flat_map (λ p. slot_targets (slot_in table p)) (r ∷ ps)
+targets_of_shape table shape ss = flat_map (λ s. item_targets s.item) ss
 
-abbrev pub targets_at : Table → TypeId → Layout → List TypeId
-targets_at table t x = targets_of_shape table (shape_at table t) x
+abbrev pub targets_at : Table → TypeId → List Spot → List TypeId
+targets_at table t ss = targets_of_shape table (shape_at table t) ss
+
+-- what t points to, as its first spots show it, as many as the limit says
+abbrev pub front_targets : Table → Relation → ℕ → TypeId → List TypeId
+front_targets table E limit t = targets_at table t (take limit (spots_at table E t))
+
+abbrev pub front_form : Table → Relation → ℕ → TypeId → ℕ
+front_form table E limit t = form_at table t (length (cells_at table E t)) (take limit (spots_at table E t))

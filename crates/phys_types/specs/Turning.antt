@@ -26,26 +26,26 @@ abbrev pub HaveAll : List (Vec TypeId Global) → List (Vec TypeId Global) → T
 HaveAll old new = (x t : TypeId) → Contains (list_in old x) t → Contains (list_in new x) t
 
 -- what points to a type is among its readers
-abbrev pub AreReaders : List (Vec TypeId Global) → List (Vec TypeId Global) → Type 0
-AreReaders targets readers =
-    (t to : TypeId) → t.0 < length targets → to.0 < length targets → Contains (list_in targets t) to → Contains (list_in readers to) t
+abbrev pub AreReaders : (TypeId → List TypeId) → ℕ → List (Vec TypeId Global) → Type 0
+AreReaders targets count readers =
+    (t to : TypeId) → t.0 < count → to.0 < count → Contains (targets t) to → Contains (list_in readers to) t
 
 -- physically equal types point to types that have one number each, where numbers are coarse
-abbrev pub RespectEqual : Table → List (Vec TypeId Global) → Type 0
+abbrev pub RespectEqual : Table → (TypeId → List TypeId) → Type 0
 RespectEqual table targets =
     (ns : List ℕ) → IsCoarser table ns → (t u : TypeId) → IsType table t → IsType table u → IsTrue (physically_equal table t u)
-    → map (number_in ns) (list_in targets t) ≡ map (number_in ns) (list_in targets u)
+    → map (number_in ns) (targets t) ≡ map (number_in ns) (targets u)
 
 -- the list has a number for t
 abbrev pub HasType : List Numbered → TypeId → Type 0
 HasType es t = (e : Numbered) × Contains es e × (e.ty ≡ t)
 
 -- what t points to, by numbers
-abbrev pub signature_in : List ℕ → List (Vec TypeId Global) → TypeId → ℕ
-signature_in ns targets t = mixed_all 0 (number_in ns) (list_in targets t)
+abbrev pub signature_in : List ℕ → (TypeId → List TypeId) → TypeId → ℕ
+signature_in ns targets t = mixed_all 0 (number_in ns) (targets t)
 
 -- a signature that isn't 0 is told
-abbrev pub told_at : List ℕ → List (Vec TypeId Global) → TypeId → List Numbered
+abbrev pub told_at : List ℕ → (TypeId → List TypeId) → TypeId → List Numbered
 told_at ns targets t = if signature_in ns targets t == 0 then [] else record { ty = t; number = signature_in ns targets t } ∷ []
 
 -- the number of a type with this number and this signature: those that are kept have the old one
@@ -70,23 +70,22 @@ written number ns es = fold (λ xs e. slice_set xs e.ty.0 (number e)) ns es
 abbrev pub AreMarked : List ℕ → List Numbered → Type 0
 AreMarked fresh changed = (t : TypeId) → t.0 < length fresh → HasType changed t ⊎ (number_in fresh t ≡ 0)
 
-abbrev pub next_at : (ℕ → Option ℕ) → List ℕ → List ℕ → List (Vec TypeId Global) → TypeId → ℕ
+abbrev pub next_at : (ℕ → Option ℕ) → List ℕ → List ℕ → (TypeId → List TypeId) → TypeId → ℕ
 next_at kept ns fresh targets t = next_of kept (number_in ns t) (signature_in fresh targets t)
 
 -- the types whose numbers are others, with these
-pub record AreNew (targets : List (Vec TypeId Global)) (ns fresh : List ℕ) (es : List Numbered) : Type 0 where
+pub record AreNew (targets : TypeId → List TypeId) (count : ℕ) (ns fresh : List ℕ) (es : List Numbered) : Type 0 where
   pub kept : ℕ → Option ℕ
   pub right : (e : Numbered) → Contains es e → e.number ≡ next_at kept ns fresh targets e.ty
   pub other : (e : Numbered) → Contains es e → e.number ≢ number_in ns e.ty
-  pub all : (t : TypeId) → t.0 < length targets → HasType es t ⊎ (next_at kept ns fresh targets t ≡ number_in ns t)
+  pub all : (t : TypeId) → t.0 < count → HasType es t ⊎ (next_at kept ns fresh targets t ≡ number_in ns t)
 
 -- Turns of a table: what is known before each, and after it. The types that are changed have the new numbers that are fresh.
-pub record IsTurning (table : Table) (targets readers : List (Vec TypeId Global)) (ns fresh : List ℕ) (changed : List Numbered) : Type 0 where
+pub record IsTurning (table : Table) (targets : TypeId → List TypeId) (readers : List (Vec TypeId Global)) (ns fresh : List ℕ) (changed : List Numbered) : Type 0 where
   pub formed : IsWellFormed table
-  pub fits : length targets ≡ length table
   pub same : length ns ≡ length table
   pub many : length fresh ≡ length table
-  pub read : AreReaders targets readers
+  pub read : AreReaders targets (length table) readers
   pub respect : RespectEqual table targets
   pub coarser : IsCoarser table ns
   pub alike : IsCoarser table fresh

@@ -10,31 +10,39 @@ ghost use Rattle.phys_types.specs.Rounds.{AreAllKept};
 ghost use Rattle.phys_types.specs.Standing.{AreEqualTypes, CorrespondInSome};
 
 use crate::alike::add_alike;
-use crate::building::kept;
 use crate::found::Found;
-use crate::spot::Layout;
+use crate::lending::lend;
+use crate::outline::Outline;
 use c_types::Types;
-use cc_base::NoMemory;
+use cc_base::{NoMemory, TypeId};
+use std::alloc::Global;
+
+/// Adds the pointers at the same places of two physically equal types.
+fn add_equal(
+    alloc: Global,
+    types: &Types,
+    outlines: &[Outline],
+    found: &mut Found,
+    t: TypeId,
+    u: TypeId,
+) -> Result<(), NoMemory> {
+    let x = lend(alloc, types, outlines, t)?;
+    let y = lend(alloc, types, outlines, u)?;
+    add_alike(types, found, t, x.layout(), u, y.layout())
+}
 
 /// Adds the pointers that correspond by place, at every depth, in the pairs of types that are found.
 ///
 /// The pairs of types are a queue: those that a pair leads to are added behind it, and none is there twice.
 pub(crate) fn follow(
+    alloc: Global,
     types: &Types,
-    places: &[usize],
-    layouts: &[Layout],
+    outlines: &[Outline],
     found: &mut Found,
-) -> Result<(), NoMemory>
-    requires formed { IsWellFormed types.now }
-    requires kept { AreAllKept types.now places.now layouts.now }
-    requires equal { (t u : TypeId) → Contains found.old.pointees (t, u) → AreEqualTypes types.now t u }
-    ensures { OnOk result (Gains (CorrespondInSome types.now found.old.pointees) found.old found.new) }
-{
+) -> Result<(), NoMemory> {
     let mut i = 0;
     'queue: while let Some((t, u)) = found.pointees(i) {
-        let x = kept(places, layouts, t);
-        let y = kept(places, layouts, u);
-        add_alike(types, found, t, x, u, y)?;
+        add_equal(alloc, types, outlines, found, t, u)?;
         i += 1;
     }
     Ok(())

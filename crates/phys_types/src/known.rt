@@ -18,17 +18,16 @@ ghost use Rattle.phys_types.specs.Shown.{IsLayoutOf};
 ghost use Rattle.phys_types.specs.Standing.{AreEqualTypes, CorrespondInSome};
 
 use crate::alike::{add_alike, add_spots};
-use crate::building::kept;
 use crate::comparing::{begins, number_of};
 use crate::firsts::firsts_of;
 use crate::following::follow;
 use crate::found::Found;
-use crate::mixed_unions::{has_union, unions_of};
+use crate::lending::{Lent, cell_count, lend};
+use crate::mixed_unions::unions_of;
 use crate::order::in_order;
-use crate::phys::{is_one_function, settled_class, settled_pairs};
+use crate::outline::{Outline, kept};
+use crate::phys::{add_settled_top, is_one_function, settled_class, settled_pairs};
 use crate::round::settle;
-use crate::spot::Layout;
-use crate::top::add_top;
 use c_types::{FlowClass, Types};
 use cc_base::{NoMemory, NodeId, TypeId};
 use std::alloc::Global;
@@ -41,9 +40,8 @@ pub struct Known<'a> {
     alloc: Global,
     types: &'a Types,
     order: Vec<TypeId>,
-    places: Vec<usize>,
     numbers: Vec<usize>,
-    layouts: Vec<Layout>,
+    outlines: Vec<Outline>,
 }
 
 impl<'a> Model for Known<'a> {
@@ -56,7 +54,7 @@ impl<'a> Model for Known<'a> {
 
     ghost view = { λ s. s.types.now };
 
-    ghost invariant = { λ s. IsKnown s.types.now s.order.items s.places.items s.numbers.items s.layouts.items };
+    ghost invariant = { λ s. IsKnown s.types.now s.numbers.items s.outlines.items };
 }
 
 impl<'a> Known<'a> {
@@ -66,23 +64,42 @@ impl<'a> Known<'a> {
     {
         let _count = types.count();
         let order = in_order(alloc, types)?;
-        let settled = settle(alloc, types, &order.list, &order.places)?;
+        let settled = settle(alloc, types, &order.list)?;
         Ok(Known {
             alloc,
             types,
             order: order.list,
-            places: order.places,
             numbers: settled.numbers,
-            layouts: settled.layouts,
+            outlines: settled.outlines,
         })
     }
 
-    /// The layout of a type: its cells. It takes constant time.
-    pub fn layout(&self, t: TypeId) -> &Layout
+    /// The layout of a type, its cells: one that is short is kept, and another one is written out.
+    pub fn layout(&self, t: TypeId) -> Result<Lent<'_>, NoMemory>
         requires { IsType self.now t }
-        ensures { IsLayoutOf self.now (physically_equal self.now) t result.now }
     {
-        kept(&self.places, &self.layouts, t)
+        lend(self.alloc, self.types, &self.outlines, t)
+    }
+
+    /// The types of the table in an order in which those that a type holds by value come before it. Takes no memory.
+    pub fn parts_first(&self) -> &[TypeId] {
+        &self.order
+    }
+
+    /// How many cells a type has. Takes no memory.
+    pub fn cell_count(&self, t: TypeId) -> u64
+        requires { IsType self.now t }
+        ensures { result ≡ length (cells_of self.now t) }
+    {
+        cell_count(self.types, t)
+    }
+
+    /// Whether a type holds a pointer by value. Takes no memory.
+    pub fn holds_pointer(&self, t: TypeId) -> bool
+        requires { IsType self.now t }
+        ensures { result ≡ holds_pointer self.now t }
+    {
+        kept(&self.outlines, t).holds
     }
 
     /// Whether two types are physically equal.
@@ -109,24 +126,29 @@ impl<'a> Known<'a> {
     }
 
     /// Whether a type begins with another.
-    pub fn begins_with(&self, t: TypeId, u: TypeId) -> bool
+    pub fn begins_with(&self, t: TypeId, u: TypeId) -> Result<bool, NoMemory>
         requires first { IsType self.now t }
         requires second { IsType self.now u }
-        ensures { result ≡ begins_with self.now t u }
+        ensures { IfOk result (λ begins. begins ≡ begins_with self.now t u) }
     {
-        if is_one_function(self.types, t, u) {
-            return false;
+        if is_one_function(self.types, t, u) || self.cell_count(t) < self.cell_count(u) {
+            return Ok(false);
         }
-        begins(&self.numbers, self.layout(t), self.layout(u))
+        let x = self.layout(t)?;
+        let y = self.layout(u)?;
+        Ok(begins(&self.numbers, x.layout(), y.layout()))
     }
 
     /// Whether a type lies strictly below another: it begins with it and isn't physically equal to it.
-    pub fn strictly_below(&self, t: TypeId, u: TypeId) -> bool
+    pub fn strictly_below(&self, t: TypeId, u: TypeId) -> Result<bool, NoMemory>
         requires first { IsType self.now t }
         requires second { IsType self.now u }
-        ensures { result ≡ strictly_below self.now t u }
+        ensures { IfOk result (λ below. below ≡ strictly_below self.now t u) }
     {
-        self.begins_with(t, u) && !self.is_equal(t, u)
+        if self.is_equal(t, u) {
+            return Ok(false);
+        }
+        self.begins_with(t, u)
     }
 
     /// The class of a flow from a pointer to `from` to a pointer to `to`.
@@ -138,10 +160,8 @@ impl<'a> Known<'a> {
         settled_class(
             self.alloc,
             self.types,
-            &self.order,
-            &self.places,
             &self.numbers,
-            &self.layouts,
+            &self.outlines,
             from,
             to,
         )
@@ -158,10 +178,8 @@ impl<'a> Known<'a> {
         settled_pairs(
             self.alloc,
             self.types,
-            &self.order,
-            &self.places,
             &self.numbers,
-            &self.layouts,
+            &self.outlines,
             from,
             to,
         )
@@ -172,7 +190,8 @@ impl<'a> Known<'a> {
         requires { IsType self.now t }
         ensures { IfOk result (λ unions. (v : TypeId) → Contains unions.items v ↔ HoldsMixed self.now t v) }
     {
-        unions_of(self.alloc, &self.layout(t).spots)
+        let lent = self.layout(t)?;
+        unions_of(self.alloc, &lent.layout().spots)
     }
 
     /// Whether a type is a mixed union.
@@ -180,7 +199,7 @@ impl<'a> Known<'a> {
         requires { IsType self.now t }
         ensures { IsTrue result ↔ HoldsMixed self.now t t }
     {
-        has_union(&self.layout(t).spots, t)
+        kept(&self.outlines, t).mixed
     }
 
     /// Adds the pointers of two types that correspond in a flow of this class between pointers to them, but not those that they lead to.
@@ -196,15 +215,14 @@ impl<'a> Known<'a> {
         requires to { IsType self.now to }
         ensures { OnOk result (Gains (CorrespondAtTop self.now (flow_class self.now from to) from to) found.old found.new) }
     {
-        add_top(
+        add_settled_top(
             self.alloc,
             self.types,
+            &self.outlines,
             found,
             class,
             from,
-            self.layout(from),
             to,
-            self.layout(to),
         )
     }
 
@@ -216,12 +234,12 @@ impl<'a> Known<'a> {
         requires near { IsTrue (physically_equal self.now t u) ⊎ IsTrue (begins_with self.now t u) ⊎ IsTrue (begins_with self.now u t) }
         ensures { OnOk result (Gains (StandAlike self.now t u) found.old found.new) }
     {
-        let x = self.layout(t);
-        let y = self.layout(u);
+        let x = self.layout(t)?;
+        let y = self.layout(u)?;
         if self.is_equal(t, u) {
-            add_alike(self.types, found, t, x, u, y)
+            add_alike(self.types, found, t, x.layout(), u, y.layout())
         } else {
-            add_spots(found, &x.spots, &y.spots)
+            add_spots(found, &x.layout().spots, &y.layout().spots)
         }
     }
 
@@ -230,6 +248,6 @@ impl<'a> Known<'a> {
         requires { (t u : TypeId) → Contains found.old.pointees (t, u) → AreEqualTypes self.now t u }
         ensures { OnOk result (Gains (CorrespondInSome self.now found.old.pointees) found.old found.new) }
     {
-        follow(self.types, &self.places, &self.layouts, found)
+        follow(self.alloc, self.types, &self.outlines, found)
     }
 }

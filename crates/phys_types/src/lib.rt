@@ -3,7 +3,6 @@
 #![tactic(auto)]
 
 mod alike;
-mod building;
 mod comparing;
 mod copying;
 mod crossing;
@@ -13,10 +12,14 @@ mod found;
 mod held;
 mod known;
 mod laws;
+mod lending;
 mod makeup;
+mod members;
 mod mixed_unions;
 mod numbered;
 mod order;
+mod outline;
+mod outlining;
 mod phys;
 mod readers;
 mod refining;
@@ -26,6 +29,7 @@ mod spot;
 mod tiling;
 mod top;
 mod turning;
+mod writing;
 
 pub use c_types::FlowClass;
 pub use comparing::number_of;
@@ -37,6 +41,8 @@ pub use laws::{
     facts_pass_to_what_is_covered, repetitions_of_types_that_tile_agree,
     types_that_tile_begin_with_one_another,
 };
+pub use lending::Lent;
+pub use members::largest_member;
 pub use phys::Phys;
 pub use signature::mixed;
 pub use spot::{Item, Layout, Spot};

@@ -13,9 +13,12 @@ ghost use Rattle.phys_types.specs.Numbers.{number_in, same_number};
 ghost use Rattle.phys_types.specs.Shown.{IsLayoutOf};
 
 use crate::comparing::{number_of, same_spots};
+use crate::lending::{cell_count, lend};
+use crate::outline::Outline;
 use crate::spot::Layout;
 use c_types::{TypeShape, Types};
-use cc_base::TypeId;
+use cc_base::{NoMemory, TypeId};
+use std::alloc::Global;
 
 /// Whether a parameter or a result is passed like another.
 fn same_slot(types: &Types, numbers: &[usize], p: TypeId, q: TypeId) -> bool
@@ -91,4 +94,21 @@ pub(crate) fn looks_alike(
             _ => x.size == y.size && same_spots(numbers, &x.spots, &y.spots),
         },
     }
+}
+
+/// Whether two types look alike. Of two data types with different numbers of cells neither is written out.
+pub(crate) fn look_alike(
+    alloc: Global,
+    types: &Types,
+    numbers: &[usize],
+    outlines: &[Outline],
+    t: TypeId,
+    u: TypeId,
+) -> Result<bool, NoMemory> {
+    if cell_count(types, t) != cell_count(types, u) {
+        return Ok(false);
+    }
+    let x = lend(alloc, types, outlines, t)?;
+    let y = lend(alloc, types, outlines, u)?;
+    Ok(looks_alike(types, numbers, t, x.layout(), u, y.layout()))
 }

@@ -1,7 +1,7 @@
 //! The mixed unions in a layout.
 #![tactic(auto)]
 
-ghost use Rattle.std.specs.Prelude.{◌≡◌, ◌↔◌, ◌⊎◌, Some, IfOk, OnOk, IsTrue};
+ghost use Rattle.std.specs.Prelude.{◌≡◌, ◌↔◌, ◌⊎◌, Some, IfOk, OnOk};
 ghost use Rattle.std.specs.List.{Contains};
 ghost use Rattle.cc_base.specs.declared.number.TypeId.{TypeId};
 ghost use Rattle.phys_types.specs.Standing.{union_of_item, HoldsUnion};
@@ -19,28 +19,6 @@ fn union_at(spot: Spot) -> Option<TypeId>
         Item::Mixed(t, _) => Some(t),
         _ => None,
     }
-}
-
-/// Whether the mixed union t stands at a spot.
-fn is_union_at(spot: Spot, t: TypeId) -> bool
-    ensures { IsTrue result ↔ (union_of_item spot.item ≡ Some t) }
-{
-    match spot.item {
-        Item::Mixed(u, _) => u.0 == t.0,
-        _ => false,
-    }
-}
-
-/// Whether the mixed union t stands among spots.
-pub(crate) fn has_union(spots: &[Spot], t: TypeId) -> bool
-    ensures { IsTrue result ↔ HoldsUnion spots.now t }
-{
-    'spots: for spot in spots {
-        if is_union_at(*spot, t) {
-            return true;
-        }
-    }
-    false
 }
 
 /// Adds a mixed union to others, if there is one.

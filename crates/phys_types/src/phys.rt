@@ -17,11 +17,12 @@ ghost use Rattle.phys_types.specs.Orders.{IsWholeOrder};
 ghost use Rattle.phys_types.specs.Rounds.{AreSettled};
 ghost use Rattle.phys_types.specs.Views.{IsPair};
 
-use crate::building::kept;
 use crate::comparing::{begins, number_of};
 use crate::following::follow;
 use crate::found::Found;
 use crate::known::Known;
+use crate::lending::lend;
+use crate::outline::Outline;
 use crate::spot::Layout;
 use crate::tiling::tiles;
 use crate::top::add_top;
@@ -86,51 +87,51 @@ impl Phys {
 pub(crate) fn settled_pairs(
     alloc: Global,
     types: &Types,
-    order: &[TypeId],
-    places: &[usize],
     numbers: &[usize],
-    layouts: &[Layout],
+    outlines: &[Outline],
     from: TypeId,
     to: TypeId,
-) -> Result<Vec<(NodeId, NodeId)>, NoMemory>
-    requires formed { IsWellFormed types.now }
-    requires order { IsWholeOrder types.now order.now places.now }
-    requires settled { AreSettled types.now order.now numbers.now layouts.now }
-    requires from { IsType types.now from }
-    requires to { IsType types.now to }
-    ensures nodes { IfOk result (λ pairs. AreCorrespondingNodes types.now from to pairs.items) }
-    ensures once { IfOk result (λ pairs. AllPairs (λ x y. x ≢ y) pairs.items) }
-{
-    let class = settled_class(alloc, types, order, places, numbers, layouts, from, to)?;
+) -> Result<Vec<(NodeId, NodeId)>, NoMemory> {
+    let class = settled_class(alloc, types, numbers, outlines, from, to)?;
     let mut found = Found::new(alloc);
-    let x = kept(places, layouts, from);
-    let y = kept(places, layouts, to);
-    add_top(alloc, types, &mut found, class, from, x, to, y)?;
-    follow(types, places, layouts, &mut found)?;
+    add_settled_top(alloc, types, outlines, &mut found, class, from, to)?;
+    follow(alloc, types, outlines, &mut found)?;
     found.into_nodes(alloc)
+}
+
+/// Adds the pointers of two types that correspond in a flow of this class between pointers to them, but not those that they lead to.
+pub(crate) fn add_settled_top(
+    alloc: Global,
+    types: &Types,
+    outlines: &[Outline],
+    found: &mut Found,
+    class: FlowClass,
+    from: TypeId,
+    to: TypeId,
+) -> Result<(), NoMemory> {
+    let x = lend(alloc, types, outlines, from)?;
+    let y = lend(alloc, types, outlines, to)?;
+    add_top(alloc, types, found, class, from, x.layout(), to, y.layout())
 }
 
 /// The class of a flow between two types of a table whose types are settled.
 pub(crate) fn settled_class(
     alloc: Global,
     types: &Types,
-    order: &[TypeId],
-    places: &[usize],
     numbers: &[usize],
-    layouts: &[Layout],
+    outlines: &[Outline],
     from: TypeId,
     to: TypeId,
-) -> Result<FlowClass, NoMemory>
-    requires formed { IsWellFormed types.now }
-    requires order { IsWholeOrder types.now order.now places.now }
-    requires settled { AreSettled types.now order.now numbers.now layouts.now }
-    requires from { IsType types.now from }
-    requires to { IsType types.now to }
-    ensures { IfOk result (λ class. class ≡ flow_class types.now from to) }
-{
-    let x = kept(places, layouts, from);
-    let y = kept(places, layouts, to);
-    class_of(alloc, types, numbers, from, x, to, y)
+) -> Result<FlowClass, NoMemory> {
+    if number_of(numbers, from) == number_of(numbers, to) {
+        return Ok(FlowClass::Equal);
+    }
+    if is_one_function(types, from, to) {
+        return Ok(FlowClass::Bad);
+    }
+    let x = lend(alloc, types, outlines, from)?;
+    let y = lend(alloc, types, outlines, to)?;
+    unequal_class(alloc, numbers, x.layout(), y.layout())
 }
 
 /// Whether a type is a function type.
@@ -172,28 +173,13 @@ fn downward(tile: bool) -> FlowClass
     }
 }
 
-/// The class of a flow between two types, from their layouts.
-fn class_of(
+/// The class of a flow between two data types that aren't physically equal, from their layouts.
+fn unequal_class(
     alloc: Global,
-    types: &Types,
     numbers: &[usize],
-    from: TypeId,
     x: &Layout,
-    to: TypeId,
     y: &Layout,
-) -> Result<FlowClass, NoMemory>
-    requires formed { IsWellFormed types.now }
-    requires from { IsType types.now from }
-    requires to { IsType types.now to }
-    requires view { IsPair types.now (number_in numbers.now) from x.now to y.now }
-    ensures { IfOk result (λ class. class ≡ flow_class types.now from to) }
-{
-    if number_of(numbers, from) == number_of(numbers, to) {
-        return Ok(FlowClass::Equal);
-    }
-    if is_one_function(types, from, to) {
-        return Ok(FlowClass::Bad);
-    }
+) -> Result<FlowClass, NoMemory> {
     if begins(numbers, x, y) {
         let tile = tiles(alloc, numbers, x, y.size)?;
         return Ok(upward(tile));

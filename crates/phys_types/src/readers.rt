@@ -6,6 +6,9 @@ ghost use Rattle.std.specs.List.{Contains};
 ghost use Rattle.cc_base.specs.declared.number.TypeId.{TypeId};
 ghost use Rattle.phys_types.specs.Turning.{list_in, HaveAll, AreReaders};
 
+use crate::signature::{item_target, slot_target};
+use crate::spot::Spot;
+use c_types::{TypeShape, Types};
 use cc_base::{NoMemory, TypeId};
 use std::alloc::Global;
 
@@ -20,7 +23,7 @@ pub(crate) fn list_of(lists: &[Vec<TypeId>], t: TypeId) -> &[TypeId]
 }
 
 /// As many empty lists.
-fn empty_lists(alloc: Global, count: usize) -> Result<Vec<Vec<TypeId>>, NoMemory>
+pub(crate) fn empty_lists(alloc: Global, count: usize) -> Result<Vec<Vec<TypeId>>, NoMemory>
     ensures { IfOk result (λ lists. length lists.items ≡ count) }
 {
     let mut lists = Vec::with_capacity(alloc, count)?;
@@ -55,30 +58,55 @@ fn add_reader(readers: &mut [Vec<TypeId>], to: TypeId, t: TypeId) -> Result<(), 
     Ok(())
 }
 
-/// Adds a reader of each type that it points to.
-fn add_readers(readers: &mut [Vec<TypeId>], t: TypeId, targets: &[TypeId]) -> Result<(), NoMemory>
-    ensures fits { OnOk result (length readers.new ≡ length readers.old) }
-    ensures kept { OnOk result (HaveAll readers.old readers.new) }
-    ensures added { OnOk result ((to : TypeId) → Contains targets.now to → to.0 < length readers.old → Contains (list_in readers.new to) t) }
-{
-    'targets: for to in targets {
-        add_reader(readers, *to, t)?;
+/// Adds a reader of what it points to, if there is something.
+fn add_reader_of(
+    readers: &mut [Vec<TypeId>],
+    to: Option<TypeId>,
+    t: TypeId,
+) -> Result<(), NoMemory> {
+    match to {
+        Some(to) => add_reader(readers, to, t),
+        None => Ok(()),
+    }
+}
+
+/// Adds a reader of what spots point to.
+fn add_spots_reader(
+    readers: &mut [Vec<TypeId>],
+    t: TypeId,
+    spots: &[Spot],
+) -> Result<(), NoMemory> {
+    'spots: for spot in spots {
+        add_reader_of(readers, item_target(spot.item), t)?;
     }
     Ok(())
 }
 
-/// Of each type those that point to it.
-pub(crate) fn readers(
-    alloc: Global,
-    count: u32,
-    targets: &[Vec<TypeId>],
-) -> Result<Vec<Vec<TypeId>>, NoMemory>
-    requires { length targets.now ≡ count }
-    ensures { IfOk result (λ readers. AreReaders targets.now readers.items) }
-{
-    let mut readers = empty_lists(alloc, count as usize)?;
-    'types: for t in 0..count {
-        add_readers(&mut readers, TypeId(t), list_of(targets, TypeId(t)))?;
+/// Adds a reader of what parameters point to.
+fn add_slots_reader(
+    types: &Types,
+    readers: &mut [Vec<TypeId>],
+    t: TypeId,
+    ps: &[TypeId],
+) -> Result<(), NoMemory> {
+    'slots: for p in ps {
+        add_reader_of(readers, slot_target(types, *p), t)?;
     }
-    Ok(readers)
+    Ok(())
+}
+
+/// Adds a type to the readers of what it points to, as far as its first spots show it.
+pub(crate) fn add_readers_of(
+    types: &Types,
+    readers: &mut [Vec<TypeId>],
+    t: TypeId,
+    spots: &[Spot],
+) -> Result<(), NoMemory> {
+    match types.shape(t) {
+        TypeShape::Function(ps, r) => {
+            add_reader_of(readers, slot_target(types, *r), t)?;
+            add_slots_reader(types, readers, t, ps.ids())
+        }
+        _ => add_spots_reader(readers, t, spots),
+    }
 }

@@ -16,12 +16,12 @@ ghost use Rattle.phys_types.specs.Shown.{IsKept};
 ghost use Rattle.phys_types.specs.Signatures.{mixed, form_at, targets_at};
 ghost use Rattle.phys_types.specs.Turning.{list_in, HasType};
 
-use crate::building::kept;
 use crate::comparing::number_of;
+use crate::lending::{front, lend_front};
 use crate::numbered::Numbered;
-use crate::readers::readers;
-use crate::signature::{form_of, mixed, targets_of};
-use crate::spot::Layout;
+use crate::outline::Outline;
+use crate::readers::{add_readers_of, empty_lists};
+use crate::signature::{form_of, mixed};
 use crate::turning::{Graph, sizes, turn};
 use c_types::Types;
 use cc_base::{NoMemory, TypeId};
@@ -30,45 +30,38 @@ use std::alloc::Global;
 /// The most turns of refining. Numbers that are not as fine as they can be by then are made so by rounds.
 const MOST_TURNS: usize = 4_294_967_296;
 
-/// Numbers that tell the forms of types apart, and the numbers that they have.
+/// A number that tells the form of a type apart, behind the number that it has; what points to a type that it points to is added to the
+/// readers of that type.
 fn formed(
     alloc: Global,
     types: &Types,
-    places: &[usize],
-    layouts: &[Layout],
+    outlines: &[Outline],
     numbers: &[usize],
-) -> Result<Vec<usize>, NoMemory>
-    requires formed { IsWellFormed types.now }
-    requires kept { (t : TypeId) → IsType types.now t → IsKept places.now layouts.now t }
-    ensures fits { IfOk result (λ ns. length ns.items ≡ length types.now) }
-    ensures numbers { (d : Layout) (t : TypeId) → IsType types.now t → IfOk result (λ ns. number_in ns.items t ≡ mixed (number_in numbers.now t) (form_at types.now t (slice_index_or layouts.now (slice_index_or places.now t.0 0) d))) }
-{
-    let mut forms = Vec::with_capacity(alloc, types.count() as usize)?;
-    'types: for t in 0..types.count() {
-        let form = form_of(types, TypeId(t), kept(places, layouts, TypeId(t)));
-        forms.push(mixed(number_of(numbers, TypeId(t)), form))?;
-    }
-    Ok(forms)
+    limit: usize,
+    readers: &mut [Vec<TypeId>],
+    t: TypeId,
+) -> Result<usize, NoMemory> {
+    let lent = lend_front(alloc, types, outlines, t, limit)?;
+    let layout = lent.layout();
+    let spots = front(&layout.spots, limit);
+    add_readers_of(types, readers, t, spots)?;
+    Ok(mixed(number_of(numbers, t), form_of(types, t, layout.size, spots)))
 }
 
-/// What each type points to.
-fn targets(
+/// Numbers that tell the forms of types apart, and the numbers that they have.
+fn all_formed(
     alloc: Global,
     types: &Types,
-    places: &[usize],
-    layouts: &[Layout],
-) -> Result<Vec<Vec<TypeId>>, NoMemory>
-    requires formed { IsWellFormed types.now }
-    requires kept { (t : TypeId) → IsType types.now t → IsKept places.now layouts.now t }
-    ensures fits { IfOk result (λ targets. length targets.items ≡ length types.now) }
-    ensures targets { (d : Layout) (t : TypeId) → IsType types.now t → IfOk result (λ targets. list_in targets.items t ≡ targets_at types.now t (slice_index_or layouts.now (slice_index_or places.now t.0 0) d)) }
-{
-    let mut targets = Vec::with_capacity(alloc, types.count() as usize)?;
+    outlines: &[Outline],
+    numbers: &[usize],
+    limit: usize,
+    readers: &mut [Vec<TypeId>],
+) -> Result<Vec<usize>, NoMemory> {
+    let mut forms = Vec::with_capacity(alloc, types.count() as usize)?;
     'types: for t in 0..types.count() {
-        let list = targets_of(alloc, types, TypeId(t), kept(places, layouts, TypeId(t)))?;
-        targets.push(list)?;
+        forms.push(formed(alloc, types, outlines, numbers, limit, readers, TypeId(t))?)?;
     }
-    Ok(targets)
+    Ok(forms)
 }
 
 /// All types, each with the number 0.
@@ -85,24 +78,24 @@ fn all_types(alloc: Global, count: u32) -> Result<Vec<Numbered>, NoMemory>
     Ok(all)
 }
 
-/// Numbers that are finer: types of one number look alike, as far as the turns went.
+/// Numbers that are finer: types of one number look alike, as far as the turns went and the first spots show, as many as the limit says.
 ///
 /// Types of one number that look apart get other numbers, but for the most of them; what points to those is looked at in the next turn.
 pub(crate) fn refine(
     alloc: Global,
     types: &Types,
-    places: &[usize],
-    layouts: &[Layout],
+    outlines: &[Outline],
     numbers: &[usize],
-) -> Result<Vec<usize>, NoMemory>
-    requires formed { IsWellFormed types.now }
-    requires kept { (t : TypeId) → IsType types.now t → IsKept places.now layouts.now t }
-    ensures { (E : Relation) (order : List TypeId) → IsWholeOrder types.now order places.now → IsWide types.now E → length layouts.now ≡ length order → AreShown types.now E order layouts.now → IsCoarser types.now numbers.now → IfOk result (λ finer. IsCoarser types.now finer.items) }
-{
-    let targets = targets(alloc, types, places, layouts)?;
-    let readers = readers(alloc, types.count(), &targets)?;
-    let graph = Graph { targets, readers };
-    let mut finer = formed(alloc, types, places, layouts, numbers)?;
+    limit: usize,
+) -> Result<Vec<usize>, NoMemory> {
+    let mut readers = empty_lists(alloc, types.count() as usize)?;
+    let mut finer = all_formed(alloc, types, outlines, numbers, limit, &mut readers)?;
+    let graph = Graph {
+        types,
+        outlines,
+        limit,
+        readers,
+    };
     let mut fresh = Vec::from_slice(alloc, &finer)?;
     let mut sizes = sizes(alloc, &finer)?;
     let mut changed = all_types(alloc, types.count())?;

@@ -14,21 +14,22 @@ ghost use Rattle.phys_types.specs.Reach.{IsClosed};
 ghost use Rattle.phys_types.specs.Shown.{IsLayoutOf, IsLow, ArePartsKept, ArePartsShown};
 ghost use Rattle.phys_types.specs.Rounds.{IsOrder, AreShown, IsRound, AreSettled, AreStable, first_place};
 
-use crate::building::layout_of;
 use crate::comparing::number_of;
-use crate::makeup::looks_alike;
+use crate::lending::MOST_SPOTS;
+use crate::makeup::look_alike;
+use crate::outline::Outline;
+use crate::outlining::{SHORT, outlined};
 use crate::refining::refine;
-use crate::spot::Layout;
 use c_types::Types;
 use cc_base::{NoMemory, TypeId};
 use indexmap::IndexMap;
 use std::alloc::Global;
 
-/// Numbers of types, and the layouts of the types in order under the numbers of the round before.
-#[derive(Debug, Drop)]
+/// Numbers of types, and the outlines of the types, whose unions are judged by the numbers of the round before.
+#[derive(Drop)]
 pub(crate) struct Round {
     pub(crate) numbers: Vec<usize>,
-    pub(crate) layouts: Vec<Layout>,
+    pub(crate) outlines: Vec<Outline>,
 }
 
 /// As many zeros.
@@ -40,27 +41,19 @@ pub(crate) fn zeros(alloc: Global, count: usize) -> Result<Vec<usize>, NoMemory>
 
 /// The place of the first of the types so far that is made like a type, or how many there are.
 fn first_alike(
+    alloc: Global,
     types: &Types,
     numbers: &[usize],
-    order: &[TypeId],
-    layouts: &[Layout],
+    outlines: &[Outline],
+    so_far: &[TypeId],
     t: TypeId,
-    layout: &Layout,
-) -> usize
-    requires formed { IsWellFormed types.now }
-    requires typed { IsType types.now t }
-    requires types { All (IsType types.now) order.now }
-    requires within { length layouts.now ≤ length order.now }
-    requires shown { AreShown types.now (same_number (number_in numbers.now)) order.now layouts.now }
-    requires own { IsLayoutOf types.now (same_number (number_in numbers.now)) t layout.now }
-    ensures { result ≡ first_place (λ u. made_alike types.now (same_number (number_in numbers.now)) u t) (take (length layouts.now) order.now) }
-{
-    for (i, other) in layouts.iter().enumerate() {
-        if looks_alike(types, numbers, order[i], other, t, layout) {
-            return i;
+) -> Result<usize, NoMemory> {
+    for (i, other) in so_far.iter().enumerate() {
+        if look_alike(alloc, types, numbers, outlines, *other, t)? {
+            return Ok(i);
         }
     }
-    layouts.len()
+    Ok(so_far.len())
 }
 
 /// The numbers of a round: each type gets the place of the first that is made like it, where what they point to is equal by
@@ -69,45 +62,18 @@ pub(crate) fn renumber(
     alloc: Global,
     types: &Types,
     order: &[TypeId],
-    places: &[usize],
     numbers: &[usize],
-) -> Result<Round, NoMemory>
-    requires formed { IsWellFormed types.now }
-    requires order { IsOrder types.now order.now places.now }
-    ensures { IfOk result (λ round. IsRound types.now (same_number (number_in numbers.now)) order.now round.numbers.items round.layouts.items) }
-{
+) -> Result<Round, NoMemory> {
+    let outlines = outlined(alloc, types, order, numbers)?;
     let mut next = zeros(alloc, types.count() as usize)?;
-    let mut layouts = Vec::with_capacity(alloc, order.len())?;
-    'types: for t in order {
-        let layout = layout_of(alloc, types, numbers, places, &layouts, *t)?;
-        next[t.0 as usize] = first_alike(types, numbers, order, &layouts, *t, &layout);
-        layouts.push(layout)?;
+    for (i, t) in order.iter().enumerate() {
+        let so_far = &order[..i];
+        next[t.0 as usize] = first_alike(alloc, types, numbers, &outlines, so_far, *t)?;
     }
     Ok(Round {
         numbers: next,
-        layouts,
+        outlines,
     })
-}
-
-/// The layouts of the types in order, under numbers.
-fn built(
-    alloc: Global,
-    types: &Types,
-    order: &[TypeId],
-    places: &[usize],
-    numbers: &[usize],
-) -> Result<Vec<Layout>, NoMemory>
-    requires formed { IsWellFormed types.now }
-    requires order { IsOrder types.now order.now places.now }
-    ensures all { IfOk result (λ layouts. length layouts.items ≡ length order.now) }
-    ensures shown { IfOk result (λ layouts. AreShown types.now (same_number (number_in numbers.now)) order.now layouts.items) }
-{
-    let mut layouts = Vec::with_capacity(alloc, order.len())?;
-    'types: for t in order {
-        let layout = layout_of(alloc, types, numbers, places, &layouts, *t)?;
-        layouts.push(layout)?;
-    }
-    Ok(layouts)
 }
 
 /// The place that is kept for a number; the first that comes is.
@@ -126,33 +92,23 @@ fn first_with(
     Ok(place)
 }
 
-/// Whether the types at two places look alike.
+/// Whether the types at two places look alike. A type looks like itself.
 fn look_alike_at(
+    alloc: Global,
     types: &Types,
     order: &[TypeId],
-    layouts: &[Layout],
+    outlines: &[Outline],
     numbers: &[usize],
     first: usize,
     place: usize,
-) -> bool
-    requires formed { IsWellFormed types.now }
-    requires types { All (IsType types.now) order.now }
-    requires all { length layouts.now ≡ length order.now }
-    requires shown { AreShown types.now (same_number (number_in numbers.now)) order.now layouts.now }
-    requires place { place < length order.now }
-    ensures { (d : TypeId) → IsTrue result → IsTrue (made_alike types.now (same_number (number_in numbers.now)) (slice_index_or order.now first d) (slice_index_or order.now place d)) }
-{
-    if first >= order.len() {
-        return false;
+) -> Result<bool, NoMemory> {
+    if first == place {
+        return Ok(true);
     }
-    looks_alike(
-        types,
-        numbers,
-        order[first],
-        &layouts[first],
-        order[place],
-        &layouts[place],
-    )
+    if first >= order.len() {
+        return Ok(false);
+    }
+    look_alike(alloc, types, numbers, outlines, order[first], order[place])
 }
 
 /// Whether types of one number are made alike: each is compared with the first of its number.
@@ -160,82 +116,61 @@ fn are_stable(
     alloc: Global,
     types: &Types,
     order: &[TypeId],
-    layouts: &[Layout],
+    outlines: &[Outline],
     numbers: &[usize],
-) -> Result<bool, NoMemory>
-    requires formed { IsWellFormed types.now }
-    requires types { All (IsType types.now) order.now }
-    requires all { length layouts.now ≡ length order.now }
-    requires shown { AreShown types.now (same_number (number_in numbers.now)) order.now layouts.now }
-    ensures { IfOk result (λ stable. IsTrue stable → AreStable types.now order.now numbers.now) }
-{
+) -> Result<bool, NoMemory> {
     let mut firsts = IndexMap::new(alloc);
     'places: for place in 0..order.len() {
         let first = first_with(&mut firsts, number_of(numbers, order[place]), place)?;
-        if !look_alike_at(types, order, layouts, numbers, first, place) {
+        if !look_alike_at(alloc, types, order, outlines, numbers, first, place)? {
             return Ok(false);
         }
     }
     Ok(true)
 }
 
-/// Numbers that are the same exactly for physically equal types, and the layouts of the types in order under them.
+/// How many of the first spots of a type numbers are made finer by: few in the first round, and then all.
+fn limit_of(round: usize) -> usize {
+    if round == 0 { SHORT } else { MOST_SPOTS }
+}
+
+/// Numbers that are the same exactly for physically equal types, and the outlines of the types under them.
 ///
 /// One number for all types is made finer, until types of one number are made alike. A union may be mixed under finer numbers that
-/// wasn't before, so layouts are built again. Where that doesn't come to an end, the levels of the definition decide.
-pub(crate) fn settle(
-    alloc: Global,
-    types: &Types,
-    order: &[TypeId],
-    places: &[usize],
-) -> Result<Round, NoMemory>
-    requires formed { IsWellFormed types.now }
-    requires order { IsWholeOrder types.now order.now places.now }
-    ensures { IfOk result (λ round. AreSettled types.now order.now round.numbers.items round.layouts.items) }
-{
+/// wasn't before, so outlines are found again. Where that doesn't come to an end, the levels of the definition decide.
+pub(crate) fn settle(alloc: Global, types: &Types, order: &[TypeId]) -> Result<Round, NoMemory> {
     let count = types.count() as usize;
     let mut numbers = zeros(alloc, count)?;
-    'rounds: for _round in 0..count {
-        let layouts = built(alloc, types, order, places, &numbers)?;
-        let stable = are_stable(alloc, types, order, &layouts, &numbers)?;
-        if stable {
-            return Ok(Round { numbers, layouts });
+    'rounds: for round in 0..count {
+        let outlines = outlined(alloc, types, order, &numbers)?;
+        if are_stable(alloc, types, order, &outlines, &numbers)? {
+            return Ok(Round { numbers, outlines });
         }
-        numbers = refine(alloc, types, places, &layouts, &numbers)?;
+        numbers = refine(alloc, types, &outlines, &numbers, limit_of(round))?;
     }
-    settle_by_levels(alloc, types, order, places)
+    settle_by_levels(alloc, types, order)
 }
 
 /// The same by levels: the numbers after k rounds from one number for all types are equality at level k.
 ///
 /// The rounds end where one changes nothing, and after the square of the number of types at the latest.
-fn settle_by_levels(
-    alloc: Global,
-    types: &Types,
-    order: &[TypeId],
-    places: &[usize],
-) -> Result<Round, NoMemory>
-    requires formed { IsWellFormed types.now }
-    requires order { IsOrder types.now order.now places.now }
-    requires closed { IsClosed types.now (Contains order.now) }
-    ensures { IfOk result (λ round. AreSettled types.now order.now round.numbers.items round.layouts.items) }
-{
+fn settle_by_levels(alloc: Global, types: &Types, order: &[TypeId]) -> Result<Round, NoMemory> {
     let count = types.count() as usize;
     let mut numbers = zeros(alloc, count)?;
     'rounds: for _round in 0..count * count {
-        let round = renumber(alloc, types, order, places, &numbers)?;
+        let round = renumber(alloc, types, order, &numbers)?;
         if round.numbers.as_slice() == numbers.as_slice() {
             return Ok(round);
         }
         let Round {
             numbers: next,
-            layouts: _layouts,
+            outlines: _outlines,
         } = round;
         numbers = next;
     }
     let Round {
         numbers: _next,
-        layouts,
-    } = renumber(alloc, types, order, places, &numbers)?;
-    Ok(Round { numbers, layouts })
+        outlines,
+    } = renumber(alloc, types, order, &numbers)?;
+    Ok(Round { numbers, outlines })
 }

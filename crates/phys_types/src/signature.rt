@@ -7,10 +7,10 @@ ghost use Rattle.c_types.specs.Sound.{IsWellFormed};
 ghost use Rattle.c_types.specs.Table.{IsType};
 ghost use Rattle.phys_types.specs.Signatures.{mixed, mixed_all, item_form, spot_form, slot_form, slot_in, form_at, item_targets, slot_targets, targets_at};
 
-use crate::spot::{Item, Layout, Spot};
+use crate::comparing::number_of;
+use crate::spot::{Item, Spot};
 use c_types::{TypeShape, Types};
-use cc_base::{NoMemory, TypeId};
-use std::alloc::Global;
+use cc_base::TypeId;
 
 /// An odd number whose bits are well mixed.
 const FACTOR: usize = 6_364_136_223_846_793_005;
@@ -71,102 +71,68 @@ fn slots_form(types: &Types, start: usize, ps: &[TypeId]) -> usize
     form
 }
 
-/// What is seen of a type without what it points to.
-pub(crate) fn form_of(types: &Types, t: TypeId, layout: &Layout) -> usize
-    requires formed { IsWellFormed types.now }
-    requires typed { IsType types.now t }
-    ensures { result ≡ form_at types.now t layout.now }
-{
+/// What is seen of a type without what it points to, by the number of its cells and its first spots.
+pub(crate) fn form_of(types: &Types, t: TypeId, size: u64, spots: &[Spot]) -> usize {
     match types.shape(t) {
         TypeShape::Function(ps, r) => {
             let first = mixed(1, slot_form(types, *r));
             slots_form(types, first, ps.ids())
         }
-        _ => mixed(spots_form(&layout.spots), layout.size as usize),
+        _ => mixed(spots_form(spots), size as usize),
     }
 }
 
-/// Adds what an item points to.
-fn add_item_target(targets: &mut Vec<TypeId>, item: Item) -> Result<(), NoMemory>
-    ensures { OnOk result (targets.new.items ≡ targets.old.items ++ item_targets item) }
-{
-    if let Item::Pointer(_, to) = item {
-        targets.push(to)?;
+/// What an item points to, if it is a pointer.
+pub(crate) fn item_target(item: Item) -> Option<TypeId> {
+    match item {
+        Item::Pointer(_, to) => Some(to),
+        _ => None,
     }
-    Ok(())
 }
 
-/// What spots point to, in order.
-fn spots_targets(alloc: Global, spots: &[Spot]) -> Result<Vec<TypeId>, NoMemory>
-    ensures { IfOk result (λ targets. targets.items ≡ flat_map (λ s. item_targets s.item) spots.now) }
-{
-    let mut targets = Vec::new(alloc);
+/// What a parameter or a result points to; one that is no scalar counts as what it is.
+pub(crate) fn slot_target(types: &Types, p: TypeId) -> Option<TypeId> {
+    match types.shape(p) {
+        TypeShape::Void => None,
+        TypeShape::Integer { .. } => None,
+        TypeShape::Pointer(_, to) => Some(*to),
+        _ => Some(p),
+    }
+}
+
+/// A signature, and behind it what is pointed to, if there is something, by its number.
+fn signed(signature: usize, numbers: &[usize], target: Option<TypeId>) -> usize {
+    match target {
+        Some(to) => mixed(signature, number_of(numbers, to)),
+        None => signature,
+    }
+}
+
+/// What spots point to, by numbers.
+fn spots_signature(numbers: &[usize], spots: &[Spot]) -> usize {
+    let mut signature = 0;
     'spots: for spot in spots {
-        add_item_target(&mut targets, spot.item)?;
+        signature = signed(signature, numbers, item_target(spot.item));
     }
-    Ok(targets)
+    signature
 }
 
-/// Adds what a parameter or a result points to; one that is no scalar counts as what it is.
-fn add_slot_target(types: &Types, targets: &mut Vec<TypeId>, p: TypeId) -> Result<(), NoMemory>
-    requires { IsType types.now p }
-    ensures { OnOk result (targets.new.items ≡ targets.old.items ++ slot_targets (slot_in types.now p)) }
-{
-    let target = match types.shape(p) {
-        TypeShape::Void => return Ok(()),
-        TypeShape::Integer { .. } => return Ok(()),
-        TypeShape::Pointer(_, to) => *to,
-        _ => p,
-    };
-    targets.push(target)?;
-    Ok(())
-}
-
-/// Adds what parameters point to, in order.
-fn add_slots_targets(
-    types: &Types,
-    targets: &mut Vec<TypeId>,
-    ps: &[TypeId],
-) -> Result<(), NoMemory>
-    requires { All (IsType types.now) ps.now }
-    ensures { OnOk result (targets.new.items ≡ targets.old.items ++ flat_map (λ p. slot_targets (slot_in types.now p)) ps.now) }
-{
+/// What parameters point to, by numbers, behind a signature.
+fn slots_signature(types: &Types, numbers: &[usize], start: usize, ps: &[TypeId]) -> usize {
+    let mut signature = start;
     'slots: for p in ps {
-        add_slot_target(types, targets, *p)?;
+        signature = signed(signature, numbers, slot_target(types, *p));
     }
-    Ok(())
+    signature
 }
 
-/// What the result and the parameters of a function point to, in order.
-fn function_targets(
-    alloc: Global,
-    types: &Types,
-    r: TypeId,
-    ps: &[TypeId],
-) -> Result<Vec<TypeId>, NoMemory>
-    requires result { IsType types.now r }
-    requires parameters { All (IsType types.now) ps.now }
-    ensures { IfOk result (λ targets. targets.items ≡ flat_map (λ p. slot_targets (slot_in types.now p)) (r ∷ ps.now)) }
-{
-    let mut targets = Vec::new(alloc);
-    add_slot_target(types, &mut targets, r)?;
-    add_slots_targets(types, &mut targets, ps)?;
-    Ok(targets)
-}
-
-/// What a type points to, in order.
-pub(crate) fn targets_of(
-    alloc: Global,
-    types: &Types,
-    t: TypeId,
-    layout: &Layout,
-) -> Result<Vec<TypeId>, NoMemory>
-    requires formed { IsWellFormed types.now }
-    requires typed { IsType types.now t }
-    ensures { IfOk result (λ targets. targets.items ≡ targets_at types.now t layout.now) }
-{
+/// What a type points to, by numbers, as far as its first spots show it.
+pub(crate) fn signature_of(types: &Types, numbers: &[usize], t: TypeId, spots: &[Spot]) -> usize {
     match types.shape(t) {
-        TypeShape::Function(ps, r) => function_targets(alloc, types, *r, ps.ids()),
-        _ => spots_targets(alloc, &layout.spots),
+        TypeShape::Function(ps, r) => {
+            let first = signed(0, numbers, slot_target(types, *r));
+            slots_signature(types, numbers, first, ps.ids())
+        }
+        _ => spots_signature(numbers, spots),
     }
 }

@@ -12,10 +12,13 @@ ghost use Rattle.phys_types.specs.Signatures.{mixed_all};
 ghost use Rattle.phys_types.specs.Turning.{list_in, AreReaders, told_at, next_by, renamed_at, written, AreMarked, AreNew, IsTurning};
 
 use crate::comparing::number_of;
+use crate::lending::{front, lend_front};
 use crate::mixed_unions::add_union;
 use crate::numbered::Numbered;
+use crate::outline::Outline;
 use crate::readers::list_of;
-use crate::signature::mixed;
+use crate::signature::{mixed, signature_of};
+use c_types::Types;
 use cc_base::{NoMemory, TypeId};
 use indexmap::{IndexMap, IndexSet};
 use std::alloc::Global;
@@ -80,26 +83,26 @@ fn reading(
 }
 
 /// What a type points to, by numbers.
-fn signature(numbers: &[usize], targets: &[TypeId]) -> usize
-    ensures { result ≡ mixed_all 0 (number_in numbers.now) targets.now }
-{
-    let mut signature = 0;
-    'targets: for to in targets {
-        signature = mixed(signature, number_of(numbers, *to));
-    }
-    signature
+fn signature(
+    alloc: Global,
+    graph: &Graph,
+    numbers: &[usize],
+    t: TypeId,
+) -> Result<usize, NoMemory> {
+    let lent = lend_front(alloc, graph.types, graph.outlines, t, graph.limit)?;
+    let spots = front(&lent.layout().spots, graph.limit);
+    Ok(signature_of(graph.types, numbers, t, spots))
 }
 
 /// Adds the signature of a type, if it isn't 0.
 fn tell(
+    alloc: Global,
     told: &mut Vec<Numbered>,
     fresh: &[usize],
-    targets: &[Vec<TypeId>],
+    graph: &Graph,
     t: TypeId,
-) -> Result<(), NoMemory>
-    ensures { OnOk result (told.new.items ≡ told.old.items ++ told_at fresh.now targets.now t) }
-{
-    let number = signature(fresh, list_of(targets, t));
+) -> Result<(), NoMemory> {
+    let number = signature(alloc, graph, fresh, t)?;
     if number != 0 {
         told.push(Numbered { ty: t, number })?;
     }
@@ -110,14 +113,12 @@ fn tell(
 fn told(
     alloc: Global,
     fresh: &[usize],
-    targets: &[Vec<TypeId>],
+    graph: &Graph,
     types: &[TypeId],
-) -> Result<Vec<Numbered>, NoMemory>
-    ensures { IfOk result (λ told. told.items ≡ flat_map (told_at fresh.now targets.now) types.now) }
-{
+) -> Result<Vec<Numbered>, NoMemory> {
     let mut told = Vec::new(alloc);
     'types: for t in types {
-        tell(&mut told, fresh, targets, *t)?;
+        tell(alloc, &mut told, fresh, graph, *t)?;
     }
     Ok(told)
 }
@@ -256,10 +257,12 @@ fn clear(numbers: &mut [usize], es: &[Numbered])
     }
 }
 
-/// What each type points to, and what points to it.
+/// What types point to, as the first spots show it, as many as the limit says, and of each type what points to it.
 #[derive(Drop)]
-pub(crate) struct Graph {
-    pub(crate) targets: Vec<Vec<TypeId>>,
+pub(crate) struct Graph<'a> {
+    pub(crate) types: &'a Types,
+    pub(crate) outlines: &'a [Outline],
+    pub(crate) limit: usize,
     pub(crate) readers: Vec<Vec<TypeId>>,
 }
 
@@ -275,7 +278,7 @@ fn told_apart(
     ensures { length fresh.now ≡ length graph.now.targets.items → AreReaders graph.now.targets.items graph.now.readers.items → AreMarked fresh.now changed.now → IfOk result (λ renamed. AreNew graph.now.targets.items numbers.now fresh.now renamed.items) }
 {
     let touched = reading(alloc, &graph.readers, changed)?;
-    let told = told(alloc, fresh, &graph.targets, touched.as_slice())?;
+    let told = told(alloc, fresh, graph, touched.as_slice())?;
     let keepers = keepers(alloc, numbers, sizes, &told)?;
     let renamed = renamed(alloc, numbers, &keepers, &told)?;
     recount(sizes, numbers, &renamed)?;

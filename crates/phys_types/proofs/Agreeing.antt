@@ -136,6 +136,11 @@ module _ (S : TypeId → Type 0) where
     each_begins_agree xs [] h k = refl
     each_begins_agree xs (c ∷ cs) h k = λ i. begins_agree xs c h k.0 i && each_begins_agree xs cs h k.1 i
 
+    pub prefixes_agree : (cs : List (List Cell)) (f : TypeId → List Cell) (ms : List TypeId) → cs ≡ map f ms → ((m : TypeId) → Contains ms m → EachInto S (f m))
+        → list_all (begins E (longest cs)) cs ≡ list_all (begins F (longest cs)) cs
+    prefixes_agree cs f ms e h =
+        let into : EachListInto cs = subst EachListInto (sym e) (lists_into f ms h) in each_begins_agree (longest cs) cs (into_longest cs into) into
+
     union_agree : (t : TypeId) (size : ℕ) (holds : Bool) (cs : List (List Cell)) → EachListInto cs → union_cells E t size holds cs ≡ union_cells F t size holds cs
     union_agree t size false cs h = refl
     union_agree t size true cs h =
@@ -203,7 +208,7 @@ module _ (S : TypeId → Type 0) where
         && slots_agree table c xs ys (λ p m. h p (contains_tail x xs p m)) (λ p m. k p (contains_tail y ys p m)) i
 
 module _ (table : Table) (w : IsWellFormed table) (S : TypeId → Type 0) (closed : IsClosed table S) where
-  part_in : (t : TypeId) (s : TypeShape) (ms : List TypeId) (m : TypeId) → shape_at table t ≡ s → members_at table t ≡ ms → S t → Contains (parts_of_shape s ms) m → S m
+  pub part_in : (t : TypeId) (s : TypeShape) (ms : List TypeId) (m : TypeId) → shape_at table t ≡ s → members_at table t ≡ ms → S t → Contains (parts_of_shape s ms) m → S m
   part_in t (Array element count) ms m e f h c = closed.named t m h (subst (λ s. Contains (named_by s) m) (sym e) c)
   part_in t (Struct tag) ms m e f h c = closed.members t m h (subst (λ l. Contains l m) (sym f) c)
   part_in t (Union tag) ms m e f h c = closed.members t m h (subst (λ l. Contains l m) (sym f) c)

@@ -10,6 +10,7 @@ pub mod Structs
 pub mod Parts
 pub mod Unions
 pub mod WrittenOut
+pub mod OutlinesAgree
 pub mod Makeups
 pub mod RoundLemmas
 pub mod Settled

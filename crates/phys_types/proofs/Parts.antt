@@ -13,11 +13,11 @@ use Rattle.phys_types.specs.declared.spot.Layout.{Layout}
 use Rattle.phys_types.specs.declared.spot.Spot.{Spot}
 use Rattle.phys_types.specs.Spots.{AreSpots, item_size}
 use Rattle.phys_types.specs.Numbers.{AreLow}
-use Rattle.phys_types.specs.Shown.{IsLayoutOf, IsLow, IsKept, ArePartsKept, ArePartsShown, is_struct_shape, IsStruct}
+use Rattle.phys_types.specs.Shown.{IsLayoutOf, IsLow, is_struct_shape, IsStruct}
 use Rattle.phys_types.proofs.Spreading.{spots_end, length_all}
 use Rattle.phys_types.proofs.Structs.{struct_tag, offset_low}
 
--- What is kept of the parts of a type.
+-- The parts of types, and how large layouts are.
 
 struct_parts : (s : TypeShape) (ms : List TypeId) → is_struct_shape s ≡ true → parts_of_shape s ms ≡ ms
 struct_parts (Struct tag) ms h = refl
@@ -42,20 +42,6 @@ parts_of_struct table t h = struct_parts (shape_at table t) (members_at table t)
 
 pub parts_of_union : (table : Table) (t : TypeId) → IsUnion table t → parts_at table t ≡ members_at table t
 parts_of_union table t h = union_parts (shape_at table t) (members_at table t) h
-
-pub kept_low : (places : List ℕ) (built : List Layout) (t : TypeId) (part : Layout) → IsKept places built t → All IsLow built
-    → ((d : Layout) → part ≡ get_or built (get_or places t.0 0) d) → IsLow part
-kept_low places built t part k low e = subst IsLow (sym (e part)) (low (get_or places t.0 0) part k.1)
-
-module _ (table : Table) (t : TypeId) (parts : parts_at table t ≡ members_at table t) (places : List ℕ) (built : List Layout) where
-  pub member_kept : (i : ℕ) (ty : TypeId) → i < length (members_at table t) → ty ≡ get_or (members_at table t) i t → ArePartsKept table places built t → IsKept places built ty
-  member_kept i ty l e k = subst (IsKept places built) (sym e) (subst (All (IsKept places built)) parts k i t l)
-
-  pub member_shown : (E : Relation) (i : ℕ) (ty : TypeId) (part : Layout) → i < length (members_at table t) → ty ≡ get_or (members_at table t) i t
-      → ((d : Layout) → part ≡ get_or built (get_or places ty.0 0) d) → ArePartsShown table E places built t → IsLayoutOf table E (get_or (members_at table t) i t) part
-  member_shown E i ty part l e r h =
-      subst (IsLayoutOf table E (get_or (members_at table t) i t)) (sym (r part ∙ ap (λ (n : ℕ). get_or built (get_or places n 0) part) (ap (λ (u : TypeId). u.0) e)))
-      (h (get_or (members_at table t) i t) part (subst (λ xs. Contains xs (get_or (members_at table t) i t)) (sym parts) (Contains-get_or (members_at table t) i t l)))
 
 pub offset_small : (table : Table) → IsWellFormed table → (t : TypeId) (i : ℕ) → IsStruct table t → IsComplete table t → i < length (members_at table t) → offset_of table t i ≤ 1048576
 offset_small table w t i s c l =

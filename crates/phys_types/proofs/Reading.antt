@@ -73,17 +73,17 @@ same_type : (t : TypeId) (i : ℕ) → t.0 < i + 1 → i ≤ t.0 → t ≡ recor
 same_type t i l m = let e : t.0 ≡ i = omega arith in ap (λ (n : ℕ). record { 0 = n }) e
 
 -- the readers of one more type
-pub readers_more : (targets : Lists) (count i : ℕ) (now before new : Lists) (list : List TypeId) → before ≡ now → list ≡ list_in targets (record { 0 = i }) → HaveAll before new
+pub readers_more : (targets : TypeId → List TypeId) (count i : ℕ) (now before new : Lists) (list : List TypeId) → before ≡ now → list ≡ targets (record { 0 = i }) → HaveAll before new
     → ((to : TypeId) → Contains list to → to.0 < length before → Contains (list_in new to) (record { 0 = i })) → length now ≡ count
-    → ((t to : TypeId) → t.0 < i → to.0 < count → Contains (list_in targets t) to → Contains (list_in now to) t)
-    → (t to : TypeId) → t.0 < i + 1 → to.0 < count → Contains (list_in targets t) to → Contains (list_in new to) t
+    → ((t to : TypeId) → t.0 < i → to.0 < count → Contains (targets t) to → Contains (list_in now to) t)
+    → (t to : TypeId) → t.0 < i + 1 → to.0 < count → Contains (targets t) to → Contains (list_in new to) t
 readers_more targets count i now before new list v k kept added fits inv t to l b h = elim (cases_lt t.0 i) [
   | inl a ↦ kept to t (subst (λ (xs : Lists). Contains (list_in xs to) t) (sym v) (inv t to a b h))
   | inr a ↦
       let e = same_type t i l a in
       let z = ap length v in
       subst (λ y. Contains (list_in new to) y) (sym e)
-      (added to (subst (λ xs. Contains xs to) (sym k) (subst (λ y. Contains (list_in targets y) to) e h)) (omega arith))
+      (added to (subst (λ xs. Contains xs to) (sym k) (subst (λ y. Contains (targets y) to) e h)) (omega arith))
 ]
 
 -- one more type

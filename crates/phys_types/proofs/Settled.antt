@@ -11,11 +11,12 @@ use Rattle.c_types.specs.Table.{Table, IsType}
 use Rattle.c_types.specs.Cells.{Relation, same_type}
 use Rattle.c_types.specs.Equality.{within, made_alike, equal_at_level, physically_equal}
 use Rattle.c_types.specs.Sound.{IsWellFormed}
-use Rattle.phys_types.specs.declared.spot.Layout.{Layout}
+use Rattle.phys_types.specs.declared.outline.Outline.{Outline}
 use Rattle.phys_types.specs.Numbers.{number_in, same_number}
 use Rattle.phys_types.specs.Reach.{IsClosed}
-use Rattle.phys_types.specs.Rounds.{IsOrder, AreShown, IsRound, AreSettled}
-use Rattle.phys_types.proofs.Agreeing.{cells_agree, made_agree}
+use Rattle.phys_types.specs.Rounds.{IsOrder, IsRound, AreSettled}
+use Rattle.phys_types.proofs.Agreeing.{made_agree}
+use Rattle.phys_types.proofs.OutlinesAgree.{outlined_agree}
 use Rattle.phys_types.proofs.RoundLemmas.{round_tells, number_equiv}
 
 -- The numbers after k rounds are equality at level k.
@@ -48,30 +49,30 @@ module _ (table : Table) (w : IsWellFormed table) (order : List TypeId) (places 
       made_agree table w (Contains order) closed (same_number (number_in numbers)) (equal_at_level table k) h t u a b
       ∙ sym (within_is (made_alike table (equal_at_level table k)) t u a b)
 
-  pub tells : (numbers next : List ℕ) (layouts : List Layout) → IsRound table (same_number (number_in numbers)) order next layouts
+  pub tells : (numbers next : List ℕ) (outlines : List Outline) → IsRound table (same_number (number_in numbers)) order next outlines
       → (t u : TypeId) → Contains order t → Contains order u → same_number (number_in next) t u ≡ made_alike table (same_number (number_in numbers)) t u
-  tells numbers next layouts r = round_tells table w order places o (same_number (number_in numbers)) (number_equiv (number_in numbers)) next layouts r
+  tells numbers next outlines r = round_tells table w order places o (same_number (number_in numbers)) (number_equiv (number_in numbers)) next outlines r
 
-  pub level_next : (k : ℕ) (numbers next : List ℕ) (layouts : List Layout) → AtLevel k numbers → IsRound table (same_number (number_in numbers)) order next layouts
+  pub level_next : (k : ℕ) (numbers next : List ℕ) (outlines : List Outline) → AtLevel k numbers → IsRound table (same_number (number_in numbers)) order next outlines
       → AtLevel (k + 1) next
   unfolding AtLevel
-  level_next k numbers next layouts h r t u a b =
-      tells numbers next layouts r t u a b ∙ made_is k numbers h t u a b ∙ ap (λ j. equal_at_level table j t u) (next_is k)
+  level_next k numbers next outlines h r t u a b =
+      tells numbers next outlines r t u a b ∙ made_is k numbers h t u a b ∙ ap (λ j. equal_at_level table j t u) (next_is k)
     where
       next_is : (k : ℕ) → suc k ≡ k + 1
       next_is k = omega arith
 
-  stays : (k : ℕ) (numbers next : List ℕ) (layouts : List Layout) → AtLevel k numbers → IsRound table (same_number (number_in numbers)) order next layouts → next ≡ numbers
+  stays : (k : ℕ) (numbers next : List ℕ) (outlines : List Outline) → AtLevel k numbers → IsRound table (same_number (number_in numbers)) order next outlines → next ≡ numbers
       → (j : ℕ) (t u : TypeId) → Contains order t → Contains order u → same_number (number_in numbers) t u ≡ equal_at_level table (j + k) t u
   unfolding AtLevel
-  stays k numbers next layouts h r e zero t u a b = h t u a b ∙ ap (λ n. equal_at_level table n t u) (plus k)
+  stays k numbers next outlines h r e zero t u a b = h t u a b ∙ ap (λ n. equal_at_level table n t u) (plus k)
     where
       plus : (k : ℕ) → k ≡ 0 + k
       plus k = omega arith
-  stays k numbers next layouts h r e (suc j) t u a b =
+  stays k numbers next outlines h r e (suc j) t u a b =
       ap (λ xs. same_number (number_in xs) t u) (sym e)
-      ∙ tells numbers next layouts r t u a b
-      ∙ made_is (j + k) numbers (stays k numbers next layouts h r e j) t u a b
+      ∙ tells numbers next outlines r t u a b
+      ∙ made_is (j + k) numbers (stays k numbers next outlines h r e j) t u a b
       ∙ ap (λ n. equal_at_level table n t u) (plus j k)
     where
       plus : (j k : ℕ) → suc (j + k) ≡ suc j + k
@@ -82,37 +83,29 @@ module _ (table : Table) (w : IsWellFormed table) (order : List TypeId) (places 
   unfolding AtLevel physically_equal
   at_last numbers h = h
 
-  pub shown_agree : (E F : Relation) (layouts : List Layout) → length layouts ≡ length order → ((t u : TypeId) → Contains order t → Contains order u → E t u ≡ F t u)
-      → AreShown table E order layouts → AreShown table F order layouts
-  shown_agree E F layouts l agree s i d x b =
-      let h = s i d x b in
-      let c : Contains order (get_or order i d) = Contains-get_or order i d (omega arith) in
-      record { spots = h.spots; cells = h.cells ∙ cells_agree table w (Contains order) closed E F agree (get_or order i d) c; holds = h.holds }
-
-  pub settled : (numbers next : List ℕ) (layouts : List Layout) → IsRound table (same_number (number_in numbers)) order next layouts
+  pub settled : (numbers next : List ℕ) (outlines : List Outline) → IsRound table (same_number (number_in numbers)) order next outlines
       → ((t u : TypeId) → Contains order t → Contains order u → same_number (number_in numbers) t u ≡ physically_equal table t u)
       → (last : List ℕ) → ((t u : TypeId) → Contains order t → Contains order u → same_number (number_in last) t u ≡ physically_equal table t u)
-      → AreSettled table order last layouts
-  settled numbers next layouts r h last k = record {
+      → AreSettled table order last outlines
+  settled numbers next outlines r h last k = record {
     equal = k;
-    all = r.all;
-    shown = λ E g. shown_agree (same_number (number_in numbers)) E layouts r.all (λ t u a b. h t u a b ∙ sym (g t u a b)) r.shown;
+    outlined = outlined_agree table w order places o closed (same_number (number_in numbers)) (physically_equal table) h outlines r.outlined;
   }
 
-  pub settled_still : (k : ℕ) (numbers next : List ℕ) (layouts : List Layout) → AtLevel k numbers → IsRound table (same_number (number_in numbers)) order next layouts → next ≡ numbers
-      → k ≤ length table * length table → AreSettled table order next layouts
+  pub settled_still : (k : ℕ) (numbers next : List ℕ) (outlines : List Outline) → AtLevel k numbers → IsRound table (same_number (number_in numbers)) order next outlines → next ≡ numbers
+      → k ≤ length table * length table → AreSettled table order next outlines
   unfolding AtLevel
-  settled_still k numbers next layouts h r e l =
+  settled_still k numbers next outlines h r e l =
       let equal : (t u : TypeId) → Contains order t → Contains order u → same_number (number_in numbers) t u ≡ physically_equal table t u =
-      at_last numbers (λ t u a b. stays k numbers next layouts h r e (length table * length table - k) t u a b ∙ ap (λ n. equal_at_level table n t u) (back l)) in
-      settled numbers next layouts r equal next (λ t u a b. ap (λ xs. same_number (number_in xs) t u) e ∙ equal t u a b)
+      at_last numbers (λ t u a b. stays k numbers next outlines h r e (length table * length table - k) t u a b ∙ ap (λ n. equal_at_level table n t u) (back l)) in
+      settled numbers next outlines r equal next (λ t u a b. ap (λ xs. same_number (number_in xs) t u) e ∙ equal t u a b)
     where
       back : k ≤ length table * length table → length table * length table - k + k ≡ length table * length table
       back l = omega arith
 
-  pub settled_last : (numbers next : List ℕ) (layouts : List Layout) → AtLevel (length table * length table) numbers
-      → IsRound table (same_number (number_in numbers)) order next layouts → AreSettled table order numbers layouts
-  settled_last numbers next layouts h r = settled numbers next layouts r (at_last numbers h) numbers (at_last numbers h)
+  pub settled_last : (numbers next : List ℕ) (outlines : List Outline) → AtLevel (length table * length table) numbers
+      → IsRound table (same_number (number_in numbers)) order next outlines → AreSettled table order numbers outlines
+  settled_last numbers next outlines h r = settled numbers next outlines r (at_last numbers h) numbers (at_last numbers h)
 
 pub lists_equal : (xs ys : List ℕ) (b : Bool) → b ≡ pointwise eqb xs ys → b ≡ true → xs ≡ ys
 lists_equal xs ys b e h = go xs ys (sym e ∙ h)

@@ -110,8 +110,8 @@ reading_more readers changed i d now list new l k f inv e t c h = ⊎_elim
 
 -- ---- the types that get another number
 
-module _ (targets readers : List (Vec TypeId Global)) (kept : ℕ → Option ℕ) (numbers fresh : List ℕ) (changed : List Numbered) (touched : List TypeId)
-    (rd : AreReaders targets readers) (marks : AreMarked fresh changed) (fits : length fresh ≡ length targets)
+module _ (targets : TypeId → List TypeId) (readers : List (Vec TypeId Global)) (kept : ℕ → Option ℕ) (numbers fresh : List ℕ) (changed : List Numbered) (touched : List TypeId)
+    (rd : AreReaders targets (length fresh) readers) (marks : AreMarked fresh changed)
     (tc : (e : Numbered) (t : TypeId) → Contains changed e → Contains (list_in readers e.ty) t → Contains touched t) where
   abbrev S : TypeId → ℕ
   S u = signature_in fresh targets u
@@ -144,22 +144,22 @@ module _ (targets readers : List (Vec TypeId Global)) (kept : ℕ → Option ℕ
       )
 
   -- what points to a new number is touched
-  is_touched : (u : TypeId) → u.0 < length targets → (S u == 0) ≡ false → Contains touched u
+  is_touched : (u : TypeId) → u.0 < length fresh → (S u == 0) ≡ false → Contains touched u
   is_touched u l e = ⊎_elim
       (λ z. absurd (true≢false (sym ((Decides-eqb (S u) 0).1 z) ∙ e)))
       (λ s. by s.0 s.1 s.2 (inside s.0 s.2))
-      (zero_or_some (number_in fresh) (list_in targets u))
+      (zero_or_some (number_in fresh) (targets u))
     where
       inside : (x : TypeId) → number_in fresh x ≢ 0 → x.0 < length fresh
       inside x n = elim (cases_lt x.0 (length fresh)) [ inl b ↦ b | inr b ↦ absurd (n (past fresh x.0 b)) ]
 
-      by : (x : TypeId) → Contains (list_in targets u) x → number_in fresh x ≢ 0 → x.0 < length fresh → Contains touched u
+      by : (x : TypeId) → Contains (targets u) x → number_in fresh x ≢ 0 → x.0 < length fresh → Contains touched u
       by x c n b = ⊎_elim
           (λ h. tc h.0 u h.1 (subst (λ y. Contains (list_in readers y) u) (sym h.2) (rd u x l (omega arith) c)))
           (λ z. absurd (n z))
           (marks x b)
 
-  new_all : (u : TypeId) → u.0 < length targets → HasType es u ⊎ (next_at kept numbers fresh targets u ≡ N u)
+  new_all : (u : TypeId) → u.0 < length fresh → HasType es u ⊎ (next_at kept numbers fresh targets u ≡ N u)
   new_all u l = by (S u == 0) refl
     where
       last : (S u == 0) ≡ false → (c : Bool) → (next u == N u) ≡ c → HasType es u ⊎ (next_at kept numbers fresh targets u ≡ N u)
@@ -177,7 +177,7 @@ module _ (targets readers : List (Vec TypeId Global)) (kept : ℕ → Option ℕ
       by true e = inr (λ i. if e i then N u else next u)
       by false e = last e (next u == N u) refl
 
-  pub are_new : AreNew targets numbers fresh es
+  pub are_new : AreNew targets (length fresh) numbers fresh es
   unfolding IsRight
   are_new = record {
     kept = kept;
@@ -220,7 +220,7 @@ coarser_by table w ns G h s t u e = elim (equal_types table w t u e) [
   | inr q ↦ (Decides-eqb (number_in ns t) (number_in ns u)).1 (ap (number_in ns) q)
 ]
 
-pub same_turning : (table : Table) (targets readers : List (Vec TypeId Global)) (n m f g : List ℕ) (x y : List Numbered) → n ≡ m → f ≡ g → x ≡ y
+pub same_turning : (table : Table) (targets : TypeId → List TypeId) (readers : List (Vec TypeId Global)) (n m f g : List ℕ) (x y : List Numbered) → n ≡ m → f ≡ g → x ≡ y
     → IsTurning table targets readers n f x → IsTurning table targets readers m g y
 same_turning table targets readers n m f g x y a b c h =
     subst (λ (ns : List ℕ). IsTurning table targets readers ns g y) a
@@ -228,8 +228,8 @@ same_turning table targets readers n m f g x y a b c h =
 
 -- ---- a turn
 
-module _ (table : Table) (w : IsWellFormed table) (targets : List (Vec TypeId Global)) (numbers fresh : List ℕ) (es : List Numbered) (fits : length targets ≡ length table)
-    (same : length numbers ≡ length table) (many : length fresh ≡ length table) (new : AreNew targets numbers fresh es) (resp : RespectEqual table targets)
+module _ (table : Table) (w : IsWellFormed table) (targets : TypeId → List TypeId) (numbers fresh : List ℕ) (es : List Numbered)
+    (same : length numbers ≡ length table) (many : length fresh ≡ length table) (new : AreNew targets (length fresh) numbers fresh es) (resp : RespectEqual table targets)
     (cn : IsCoarser table numbers) (cf : IsCoarser table fresh) where
   abbrev G : TypeId → ℕ
   G = next_at new.kept numbers fresh targets
@@ -246,8 +246,8 @@ module _ (table : Table) (w : IsWellFormed table) (targets : List (Vec TypeId Gl
   one_next : (t u : TypeId) → IsType table t → IsType table u → IsTrue (physically_equal table t u) → G t ≡ G u
   one_next t u a b h =
       let s : signature_in fresh targets t ≡ signature_in fresh targets u =
-      sym (fold-map mixed (number_in fresh) 0 (list_in targets t)) ∙ ap (λ (xs : List ℕ). fold mixed 0 xs) (resp fresh cf t u a b h)
-      ∙ fold-map mixed (number_in fresh) 0 (list_in targets u) in
+      sym (fold-map mixed (number_in fresh) 0 (targets t)) ∙ ap (λ (xs : List ℕ). fold mixed 0 xs) (resp fresh cf t u a b h)
+      ∙ fold-map mixed (number_in fresh) 0 (targets u) in
       λ i. next_of new.kept (one_number t u h i) (s i)
 
   all_in : (u : TypeId) → IsType table u → HasType es u ⊎ (G u ≡ M u)
@@ -295,11 +295,10 @@ module _ (table : Table) (w : IsWellFormed table) (targets : List (Vec TypeId Gl
         ⊎_elim (λ h. inl h) (λ h. inr (fresh_is u (omega arith) ∙ still_zero u h)) (all_in u (omega arith))
 
     -- and all is ready for another turn
-    pub turned : (readers : List (Vec TypeId Global)) (more : List ℕ) → AreReaders targets readers → more ≡ written (λ e. e.number) numbers es
+    pub turned : (readers : List (Vec TypeId Global)) (more : List ℕ) → AreReaders targets (length table) readers → more ≡ written (λ e. e.number) numbers es
         → IsTurning table targets readers more next es
     turned readers more r m = record {
       formed = w;
-      fits = fits;
       same = ap length m ∙ length_written D (λ e. e.number) es numbers ∙ same;
       many = ap length n ∙ length_written D (λ e. e.number) es cleared ∙ long ∙ many;
       read = r;

@@ -14,8 +14,7 @@ use Rattle.phys_types.specs.declared.spot.Layout.{Layout}
 use Rattle.phys_types.specs.Numbers.{number_in, same_number, repeat_spots}
 use Rattle.phys_types.specs.Orders.{IsWholeOrder}
 use Rattle.phys_types.specs.Reach.{IsClosed}
-use Rattle.phys_types.specs.Rounds.{AreSettled, AreAllKept}
-use Rattle.phys_types.specs.Shown.{IsLayoutOf, IsKept, begins_spots}
+use Rattle.phys_types.specs.Shown.{begins_spots}
 use Rattle.phys_types.specs.Views.{IsPair}
 use Rattle.phys_types.proofs.Makeups.{not_equal}
 use Rattle.phys_types.proofs.Periods.{some_gcd}
@@ -37,31 +36,6 @@ module _ (table : Table) (order : List TypeId) (places : List ℕ) (o : IsWholeO
   place_of t h =
       let c = o.whole t h in
       (c.0, c.1, c.2, ap (λ (u : TypeId). get_or places u.0 0) (sym c.2) ∙ o.right.placed c.0 t c.1)
-
-  module _ (numbers : List ℕ) (layouts : List Layout) (s : AreSettled table order numbers layouts) where
-    pub kept_in : (t : TypeId) → IsType table t → IsKept places layouts t
-    kept_in t h = let p = place_of t h in let f = o.right.fits in let a = s.all in (omega arith, let e = p.3 in let l = p.1 in omega arith)
-
-    pub layout_in : (t : TypeId) (x : Layout) → IsType table t → ((d : Layout) → x ≡ get_or layouts (get_or places t.0 0) d) → IsLayoutOf table (physically_equal table) t x
-    layout_in t x h r =
-        let p = place_of t h in
-        subst (IsLayoutOf table (physically_equal table) t) (sym (r x ∙ ap (λ n. get_or layouts n x) p.3))
-        (subst (λ u. IsLayoutOf table (physically_equal table) u (get_or layouts p.0 x)) p.2
-        (s.shown (physically_equal table) (λ a b c d. refl) p.0 t x (let a = s.all in let l = p.1 in omega arith)))
-
-    pub all_kept : AreAllKept table places layouts
-    all_kept = record { kept = kept_in; shown = λ t d h. layout_in t (get_or layouts (get_or places t.0 0) d) h (λ e. same t d e h) }
-      where
-        same : (t : TypeId) (d e : Layout) → IsType table t → get_or layouts (get_or places t.0 0) d ≡ get_or layouts (get_or places t.0 0) e
-        same t d e h = get_or_default layouts (get_or places t.0 0) d e (kept_in t h).1
-
-    pub pair_in : (t u : TypeId) (x y : Layout) → IsType table t → IsType table u → ((d : Layout) → x ≡ get_or layouts (get_or places t.0 0) d)
-        → ((d : Layout) → y ≡ get_or layouts (get_or places u.0 0) d) → IsPair table (number_in numbers) t x u y
-    pair_in t u x y h k a b = record {
-      equal = λ v z p q. s.equal v z (o.whole v p) (o.whole z q);
-      first = layout_in t x h a;
-      second = layout_in u y k b;
-    }
 
 -- ---- the answers
 

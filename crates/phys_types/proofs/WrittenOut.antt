@@ -61,7 +61,7 @@ largest_local size f g m ms h =
     let r = largest_one size m ms in
     ap (of_some_part f) r.found_one ∙ h r.one r.there ∙ ap (of_some_part g) (sym r.found_one)
 
-spots_local : (table : Table) (E : Relation) (f g : TypeId → List Spot) (t : TypeId) (s : TypeShape) (ms : List TypeId)
+pub spots_local : (table : Table) (E : Relation) (f g : TypeId → List Spot) (t : TypeId) (s : TypeShape) (ms : List TypeId)
     → ((m : TypeId) → Contains (parts_of_shape s ms) m → f m ≡ g m) → spots_of_shape table E f t s ms ≡ spots_of_shape table E g t s ms
 spots_local table E f g t Void ms h = refl
 spots_local table E f g t (Integer b s) ms h = refl

@@ -9,6 +9,7 @@ pub mod Rounds
 pub mod Refining
 pub mod Signatures
 pub mod Turning
+pub mod Graphs
 pub mod Orders
 pub mod Firsts
 pub mod Views

@@ -9,6 +9,7 @@ use Rattle.phys_types.specs.Numbers.{same_number}
 use Rattle.phys_types.specs.Orders.{IsWholeOrder}
 use Rattle.phys_types.specs.Rounds.{AreSettled}
 use Rattle.phys_types.specs.Shown.{IsLayoutOf}
+use Rattle.phys_types.specs.Writing.{AreShortLow}
 
 -- Two types as they are compared: numbers that tell physical equality, and the layouts under it.
 pub record IsPair (table : Table) (number : TypeId → ℕ) (t : TypeId) (x : Layout) (u : TypeId) (y : Layout) : Type 0 where
@@ -22,3 +23,4 @@ pub record IsKnown (table : Table) (order : List TypeId) (numbers : List ℕ) (o
   pub places : List ℕ
   pub whole : IsWholeOrder table order places
   pub settled : AreSettled table order numbers outlines
+  pub low : AreShortLow outlines

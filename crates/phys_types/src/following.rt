@@ -1,13 +1,16 @@
 //! Pairs of pointers, followed through what they point to.
 #![tactic(auto)]
 
-ghost use Rattle.std.specs.Prelude.{OnOk};
+ghost use Rattle.std.specs.Prelude.{◌≡◌, length, OnOk};
 ghost use Rattle.std.specs.List.{Contains};
 ghost use Rattle.cc_base.specs.declared.number.TypeId.{TypeId};
+ghost use Rattle.c_types.specs.Equality.{physically_equal};
+ghost use Rattle.c_types.specs.Flows.{StandAlike};
 ghost use Rattle.c_types.specs.Sound.{IsWellFormed};
 ghost use Rattle.phys_types.specs.Found.{Gains};
-ghost use Rattle.phys_types.specs.Rounds.{AreAllKept};
+ghost use Rattle.phys_types.specs.Outlines.{AreAllOutlined};
 ghost use Rattle.phys_types.specs.Standing.{AreEqualTypes, CorrespondInSome};
+ghost use Rattle.phys_types.specs.Writing.{AreShortLow};
 
 use crate::alike::add_alike;
 use crate::found::Found;
@@ -25,7 +28,14 @@ fn add_equal(
     found: &mut Found,
     t: TypeId,
     u: TypeId,
-) -> Result<(), NoMemory> {
+) -> Result<(), NoMemory>
+    requires formed { IsWellFormed types.now }
+    requires fits { length outlines.now ≡ length types.now }
+    requires low { AreShortLow outlines.now }
+    requires outlined { AreAllOutlined types.now (physically_equal types.now) outlines.now }
+    requires equal { AreEqualTypes types.now t u }
+    ensures { OnOk result (Gains (StandAlike types.now t u) found.old found.new) }
+{
     let x = lend(alloc, types, outlines, t)?;
     let y = lend(alloc, types, outlines, u)?;
     add_alike(types, found, t, x.layout(), u, y.layout())
@@ -39,7 +49,14 @@ pub(crate) fn follow(
     types: &Types,
     outlines: &[Outline],
     found: &mut Found,
-) -> Result<(), NoMemory> {
+) -> Result<(), NoMemory>
+    requires formed { IsWellFormed types.now }
+    requires fits { length outlines.now ≡ length types.now }
+    requires low { AreShortLow outlines.now }
+    requires outlined { AreAllOutlined types.now (physically_equal types.now) outlines.now }
+    requires equal { (t u : TypeId) → Contains found.old.pointees (t, u) → AreEqualTypes types.now t u }
+    ensures { OnOk result (Gains (CorrespondInSome types.now found.old.pointees) found.old found.new) }
+{
     let mut i = 0;
     'queue: while let Some((t, u)) = found.pointees(i) {
         add_equal(alloc, types, outlines, found, t, u)?;

@@ -1,17 +1,20 @@
 //! The view of a table that remembers what it found.
 #![tactic(auto)]
 
-ghost use Rattle.std.specs.Prelude.{ℕ, ◌≡◌, ◌≢◌, ◌↔◌, ◌⊎◌, IfOk, OnOk, IsTrue};
+ghost use Rattle.std.specs.Prelude.{ℕ, ◌≡◌, ◌≢◌, ◌↔◌, ◌⊎◌, List, length, IfOk, OnOk, IsTrue};
 ghost use Rattle.std.specs.List.{AllPairs, Contains};
 ghost use Rattle.cc_base.specs.declared.number.TypeId.{TypeId};
 ghost use Rattle.cc_base.specs.declared.number.NodeId.{NodeId};
 ghost use Rattle.cc_base.specs.declared.kind.Kind.{Kind};
 ghost use Rattle.c_types.specs.Table.{IsType};
-ghost use Rattle.c_types.specs.Equality.{physically_equal, begins_with, strictly_below};
+ghost use Rattle.c_types.specs.Equality.{physically_equal, begins_with, strictly_below, cells_of};
 ghost use Rattle.c_types.specs.Flows.{flow_class, CorrespondAtTop, StandAlike};
+ghost use Rattle.c_types.specs.Cells.{holds_pointer};
 ghost use Rattle.c_types.specs.Contents.{HoldsMixed};
 ghost use Rattle.phys_types.specs.Firsts.{AreFirstEquals};
 ghost use Rattle.phys_types.specs.Found.{Gains};
+ghost use Rattle.phys_types.specs.Orders.{IsWholeOrder};
+ghost use Rattle.phys_types.specs.Outlines.{lent_layout};
 ghost use Rattle.phys_types.specs.Pairs.{AreCorrespondingNodes, TellsEqualKinds};
 ghost use Rattle.phys_types.specs.Rounds.{TellEqual};
 ghost use Rattle.phys_types.specs.Shown.{IsLayoutOf};
@@ -54,7 +57,7 @@ impl<'a> Model for Known<'a> {
 
     ghost view = { λ s. s.types.now };
 
-    ghost invariant = { λ s. IsKnown s.types.now s.numbers.items s.outlines.items };
+    ghost invariant = { λ s. IsKnown s.types.now s.order.items s.numbers.items s.outlines.items };
 }
 
 impl<'a> Known<'a> {
@@ -77,12 +80,15 @@ impl<'a> Known<'a> {
     /// The layout of a type, its cells: one that is short is kept, and another one is written out.
     pub fn layout(&self, t: TypeId) -> Result<Lent<'_>, NoMemory>
         requires { IsType self.now t }
+        ensures { IfOk result (λ lent. IsLayoutOf self.now (physically_equal self.now) t (lent_layout lent)) }
     {
         lend(self.alloc, self.types, &self.outlines, t)
     }
 
     /// The types of the table in an order in which those that a type holds by value come before it. Takes no memory.
-    pub fn parts_first(&self) -> &[TypeId] {
+    pub fn parts_first(&self) -> &[TypeId]
+        ensures { (places : List ℕ) × IsWholeOrder self.now result.now places }
+    {
         &self.order
     }
 

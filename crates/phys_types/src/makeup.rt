@@ -1,8 +1,8 @@
 //! Whether two types are made alike, up to what they point to.
 #![tactic(auto)]
 
-ghost use Rattle.std.specs.Prelude.{ℕ, ◌≡◌, ◌≤◌, ◌&&◌, List, ◌∷◌, length, map};
-ghost use Rattle.std.specs.List.{All};
+ghost use Rattle.std.specs.Prelude.{ℕ, ◌≡◌, ◌≤◌, ◌&&◌, List, ◌∷◌, length, map, IfOk};
+ghost use Rattle.std.specs.List.{All, Contains};
 ghost use lib.Pointwise.{pointwise};
 ghost use Rattle.cc_base.specs.declared.number.TypeId.{TypeId};
 ghost use Rattle.c_types.specs.Table.{IsType, shape_at};
@@ -10,7 +10,9 @@ ghost use Rattle.c_types.specs.Cells.{Relation};
 ghost use Rattle.c_types.specs.Equality.{slot_of, same_slot, makeup_at, same_makeup};
 ghost use Rattle.c_types.specs.Sound.{IsWellFormed};
 ghost use Rattle.phys_types.specs.Numbers.{number_in, same_number};
+ghost use Rattle.phys_types.specs.Outlines.{AreOutlined};
 ghost use Rattle.phys_types.specs.Shown.{IsLayoutOf};
+ghost use Rattle.phys_types.specs.Writing.{AreShortLow};
 
 use crate::comparing::{number_of, same_spots};
 use crate::lending::{cell_count, lend};
@@ -104,7 +106,16 @@ pub(crate) fn look_alike(
     outlines: &[Outline],
     t: TypeId,
     u: TypeId,
-) -> Result<bool, NoMemory> {
+) -> Result<bool, NoMemory>
+    requires formed { IsWellFormed types.now }
+    requires fits { length outlines.now ≡ length types.now }
+    requires low { AreShortLow outlines.now }
+    requires first { IsType types.now t }
+    requires second { IsType types.now u }
+    ensures { (E : Relation) (seen : List TypeId) → AreOutlined types.now E seen outlines.now
+        → Contains seen t → Contains seen u → IfOk result (λ alike.
+        alike ≡ same_makeup (same_number (number_in numbers.now)) (makeup_at types.now E t) (makeup_at types.now E u)) }
+{
     if cell_count(types, t) != cell_count(types, u) {
         return Ok(false);
     }

@@ -1,20 +1,23 @@
 //! Questions on two types, each answered afresh.
 #![tactic(auto)]
 
-ghost use Rattle.std.specs.Prelude.{ℕ, ◌≡◌, ◌≢◌, ◌≤◌, ◌<◌, ◌||◌, if◌then◌else◌, IfOk};
+ghost use Rattle.std.specs.Prelude.{ℕ, ◌≡◌, ◌≢◌, ◌≤◌, ◌<◌, ◌||◌, if◌then◌else◌, length, IfOk, OnOk, IsFalse};
 ghost use Rattle.std.specs.List.{AllPairs};
 ghost use Rattle.cc_base.specs.declared.number.TypeId.{TypeId};
 ghost use Rattle.cc_base.specs.declared.number.NodeId.{NodeId};
 ghost use Rattle.cc_base.specs.declared.kind.Kind.{Kind};
 ghost use Rattle.c_types.specs.declared.flow_class.FlowClass.TheVariants.{UpTile, Up, DownTile, Down};
-ghost use Rattle.c_types.specs.Table.{IsType, is_function};
-ghost use Rattle.c_types.specs.Equality.{tile, begins_with};
-ghost use Rattle.c_types.specs.Flows.{flow_class};
+ghost use Rattle.c_types.specs.Table.{Table, IsType, is_function};
+ghost use Rattle.c_types.specs.Equality.{physically_equal, tile, begins_with};
+ghost use Rattle.c_types.specs.Flows.{flow_class, CorrespondAtTop};
 ghost use Rattle.c_types.specs.Sound.{IsWellFormed};
 ghost use Rattle.phys_types.specs.Numbers.{number_in, same_number};
 ghost use Rattle.phys_types.specs.Pairs.{AreCorrespondingNodes, TellsEqualKinds};
-ghost use Rattle.phys_types.specs.Orders.{IsWholeOrder};
-ghost use Rattle.phys_types.specs.Rounds.{AreSettled};
+ghost use Rattle.phys_types.specs.Found.{Gains};
+ghost use Rattle.phys_types.specs.Outlines.{AreAllOutlined};
+ghost use Rattle.phys_types.specs.Rounds.{TellEqual};
+ghost use Rattle.phys_types.specs.Shown.{IsLow};
+ghost use Rattle.phys_types.specs.Writing.{AreShortLow};
 ghost use Rattle.phys_types.specs.Views.{IsPair};
 
 use crate::comparing::{begins, number_of};
@@ -91,7 +94,17 @@ pub(crate) fn settled_pairs(
     outlines: &[Outline],
     from: TypeId,
     to: TypeId,
-) -> Result<Vec<(NodeId, NodeId)>, NoMemory> {
+) -> Result<Vec<(NodeId, NodeId)>, NoMemory>
+    requires formed { IsWellFormed types.now }
+    requires fits { length outlines.now ≡ length types.now }
+    requires low { AreShortLow outlines.now }
+    requires outlined { AreAllOutlined types.now (physically_equal types.now) outlines.now }
+    requires tell { TellEqual types.now numbers.now }
+    requires from { IsType types.now from }
+    requires to { IsType types.now to }
+    ensures nodes { IfOk result (λ pairs. AreCorrespondingNodes types.now from to pairs.items) }
+    ensures once { IfOk result (λ pairs. AllPairs (λ x y. x ≢ y) pairs.items) }
+{
     let class = settled_class(alloc, types, numbers, outlines, from, to)?;
     let mut found = Found::new(alloc);
     add_settled_top(alloc, types, outlines, &mut found, class, from, to)?;
@@ -108,7 +121,16 @@ pub(crate) fn add_settled_top(
     class: FlowClass,
     from: TypeId,
     to: TypeId,
-) -> Result<(), NoMemory> {
+) -> Result<(), NoMemory>
+    requires formed { IsWellFormed types.now }
+    requires fits { length outlines.now ≡ length types.now }
+    requires low { AreShortLow outlines.now }
+    requires outlined { AreAllOutlined types.now (physically_equal types.now) outlines.now }
+    requires from { IsType types.now from }
+    requires to { IsType types.now to }
+    requires class { class ≡ flow_class types.now from to }
+    ensures { OnOk result (Gains (CorrespondAtTop types.now (flow_class types.now from to) from to) found.old found.new) }
+{
     let x = lend(alloc, types, outlines, from)?;
     let y = lend(alloc, types, outlines, to)?;
     add_top(alloc, types, found, class, from, x.layout(), to, y.layout())
@@ -122,7 +144,16 @@ pub(crate) fn settled_class(
     outlines: &[Outline],
     from: TypeId,
     to: TypeId,
-) -> Result<FlowClass, NoMemory> {
+) -> Result<FlowClass, NoMemory>
+    requires formed { IsWellFormed types.now }
+    requires fits { length outlines.now ≡ length types.now }
+    requires low { AreShortLow outlines.now }
+    requires outlined { AreAllOutlined types.now (physically_equal types.now) outlines.now }
+    requires tell { TellEqual types.now numbers.now }
+    requires from { IsType types.now from }
+    requires to { IsType types.now to }
+    ensures { IfOk result (λ class. class ≡ flow_class types.now from to) }
+{
     if number_of(numbers, from) == number_of(numbers, to) {
         return Ok(FlowClass::Equal);
     }
@@ -179,7 +210,15 @@ fn unequal_class(
     numbers: &[usize],
     x: &Layout,
     y: &Layout,
-) -> Result<FlowClass, NoMemory> {
+) -> Result<FlowClass, NoMemory>
+    requires x_low { IsLow x.now }
+    requires y_low { IsLow y.now }
+    ensures { (table : Table) (from to : TypeId) → IsWellFormed table → IsType table from → IsType table to
+        → IsPair table (number_in numbers.now) from x.now to y.now
+        → IsFalse (physically_equal table from to)
+        → IsFalse (is_function table from || is_function table to)
+        → IfOk result (λ class. class ≡ flow_class table from to) }
+{
     if begins(numbers, x, y) {
         let tile = tiles(alloc, numbers, x, y.size)?;
         return Ok(upward(tile));

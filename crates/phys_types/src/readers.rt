@@ -1,10 +1,13 @@
 //! Which types point to a type.
 #![tactic(auto)]
 
-ghost use Rattle.std.specs.Prelude.{ℕ, ◌≡◌, ◌⊎◌, ◌<◌, ◌^◌, length, IfOk, OnOk};
-ghost use Rattle.std.specs.List.{Contains};
+ghost use Rattle.std.specs.Prelude.{◌≡◌, ◌⊎◌, ◌<◌, length, flat_map, option_to_list, IfOk, OnOk};
+ghost use Rattle.std.specs.List.{All, Contains};
 ghost use Rattle.cc_base.specs.declared.number.TypeId.{TypeId};
-ghost use Rattle.phys_types.specs.Turning.{list_in, HaveAll, AreReaders};
+ghost use Rattle.c_types.specs.Sound.{IsWellFormed};
+ghost use Rattle.c_types.specs.Table.{IsType};
+ghost use Rattle.phys_types.specs.Signatures.{item_targets, slot_in, slot_targets, targets_at};
+ghost use Rattle.phys_types.specs.Turning.{list_in, HaveAll};
 
 use crate::signature::{item_target, slot_target};
 use crate::spot::Spot;
@@ -61,21 +64,27 @@ fn add_reader(readers: &mut [Vec<TypeId>], to: TypeId, t: TypeId) -> Result<(), 
 /// Adds a reader of what it points to, if there is something.
 fn add_reader_of(
     readers: &mut [Vec<TypeId>],
-    to: Option<TypeId>,
+    target: Option<TypeId>,
     t: TypeId,
-) -> Result<(), NoMemory> {
-    match to {
+) -> Result<(), NoMemory>
+    ensures fits { OnOk result (length readers.new ≡ length readers.old) }
+    ensures kept { OnOk result (HaveAll readers.old readers.new) }
+    ensures added { OnOk result ((to : TypeId) → Contains (option_to_list target) to
+        → to.0 < length readers.old → Contains (list_in readers.new to) t) }
+{
+    match target {
         Some(to) => add_reader(readers, to, t),
         None => Ok(()),
     }
 }
 
 /// Adds a reader of what spots point to.
-fn add_spots_reader(
-    readers: &mut [Vec<TypeId>],
-    t: TypeId,
-    spots: &[Spot],
-) -> Result<(), NoMemory> {
+fn add_spots_reader(readers: &mut [Vec<TypeId>], t: TypeId, spots: &[Spot]) -> Result<(), NoMemory>
+    ensures fits { OnOk result (length readers.new ≡ length readers.old) }
+    ensures kept { OnOk result (HaveAll readers.old readers.new) }
+    ensures added { OnOk result ((to : TypeId) → Contains (flat_map (λ s. item_targets s.item) spots.now) to
+        → to.0 < length readers.old → Contains (list_in readers.new to) t) }
+{
     'spots: for spot in spots {
         add_reader_of(readers, item_target(spot.item), t)?;
     }
@@ -88,7 +97,13 @@ fn add_slots_reader(
     readers: &mut [Vec<TypeId>],
     t: TypeId,
     ps: &[TypeId],
-) -> Result<(), NoMemory> {
+) -> Result<(), NoMemory>
+    requires { All (IsType types.now) ps.now }
+    ensures fits { OnOk result (length readers.new ≡ length readers.old) }
+    ensures kept { OnOk result (HaveAll readers.old readers.new) }
+    ensures added { OnOk result ((to : TypeId) → Contains (flat_map (λ p. slot_targets (slot_in types.now p)) ps.now) to
+        → to.0 < length readers.old → Contains (list_in readers.new to) t) }
+{
     'slots: for p in ps {
         add_reader_of(readers, slot_target(types, *p), t)?;
     }
@@ -101,7 +116,14 @@ pub(crate) fn add_readers_of(
     readers: &mut [Vec<TypeId>],
     t: TypeId,
     spots: &[Spot],
-) -> Result<(), NoMemory> {
+) -> Result<(), NoMemory>
+    requires formed { IsWellFormed types.now }
+    requires typed { IsType types.now t }
+    ensures fits { OnOk result (length readers.new ≡ length readers.old) }
+    ensures kept { OnOk result (HaveAll readers.old readers.new) }
+    ensures added { OnOk result ((to : TypeId) → Contains (targets_at types.now t spots.now) to
+        → to.0 < length readers.old → Contains (list_in readers.new to) t) }
+{
     match types.shape(t) {
         TypeShape::Function(ps, r) => {
             add_reader_of(readers, slot_target(types, *r), t)?;

@@ -1,20 +1,18 @@
 //! Numbers of types that are made finer: what looks apart gets another number. Physically equal types keep one.
 #![tactic(auto)]
 
-ghost use Rattle.std.specs.Prelude.{ℕ, ◌≡◌, ◌<◌, List, length, slice_index_or, IfOk};
-ghost use Rattle.std.specs.List.{All};
+ghost use Rattle.std.specs.Prelude.{◌≡◌, ◌<◌, length, IfOk, OnOk};
+ghost use Rattle.std.specs.List.{Contains};
 ghost use Rattle.cc_base.specs.declared.number.TypeId.{TypeId};
 ghost use Rattle.c_types.specs.Table.{IsType};
 ghost use Rattle.c_types.specs.Cells.{Relation};
 ghost use Rattle.c_types.specs.Sound.{IsWellFormed};
-ghost use Rattle.phys_types.specs.declared.spot.Layout.{Layout};
 ghost use Rattle.phys_types.specs.Numbers.{number_in};
-ghost use Rattle.phys_types.specs.Orders.{IsWholeOrder};
+ghost use Rattle.phys_types.specs.Outlines.{AreAllOutlined};
 ghost use Rattle.phys_types.specs.Refining.{IsCoarser, IsWide};
-ghost use Rattle.phys_types.specs.Rounds.{AreShown};
-ghost use Rattle.phys_types.specs.Shown.{IsKept};
-ghost use Rattle.phys_types.specs.Signatures.{mixed, form_at, targets_at};
-ghost use Rattle.phys_types.specs.Turning.{list_in, HasType};
+ghost use Rattle.phys_types.specs.Signatures.{mixed, front_form, front_targets};
+ghost use Rattle.phys_types.specs.Turning.{list_in, AreReaders, HasType, HaveAll};
+ghost use Rattle.phys_types.specs.Writing.{AreShortLow};
 
 use crate::comparing::number_of;
 use crate::lending::{front, lend_front};
@@ -40,7 +38,19 @@ fn formed(
     limit: usize,
     readers: &mut [Vec<TypeId>],
     t: TypeId,
-) -> Result<usize, NoMemory> {
+) -> Result<usize, NoMemory>
+    requires formed { IsWellFormed types.now }
+    requires fits { length outlines.now ≡ length types.now }
+    requires low { AreShortLow outlines.now }
+    requires typed { IsType types.now t }
+    ensures fits { OnOk result (length readers.new ≡ length readers.old) }
+    ensures kept { OnOk result (HaveAll readers.old readers.new) }
+    ensures read { (E : Relation) → AreAllOutlined types.now E outlines.now → OnOk result ((to : TypeId)
+        → Contains (front_targets types.now E limit t) to → to.0 < length readers.old
+        → Contains (list_in readers.new to) t) }
+    ensures number { (E : Relation) → AreAllOutlined types.now E outlines.now
+        → IfOk result (λ n. n ≡ mixed (number_in numbers.now t) (front_form types.now E limit t)) }
+{
     let lent = lend_front(alloc, types, outlines, t, limit)?;
     let layout = lent.layout();
     let spots = front(&layout.spots, limit);
@@ -56,7 +66,18 @@ fn all_formed(
     numbers: &[usize],
     limit: usize,
     readers: &mut [Vec<TypeId>],
-) -> Result<Vec<usize>, NoMemory> {
+) -> Result<Vec<usize>, NoMemory>
+    requires formed { IsWellFormed types.now }
+    requires fits { length outlines.now ≡ length types.now }
+    requires low { AreShortLow outlines.now }
+    requires many { length readers.old ≡ length types.now }
+    ensures fits { IfOk result (λ ns. length ns.items ≡ length types.now) }
+    ensures numbers { (E : Relation) → AreAllOutlined types.now E outlines.now
+        → IfOk result (λ ns. (t : TypeId) → IsType types.now t
+        → number_in ns.items t ≡ mixed (number_in numbers.now t) (front_form types.now E limit t)) }
+    ensures read { (E : Relation) → AreAllOutlined types.now E outlines.now
+        → OnOk result (AreReaders (front_targets types.now E limit) (length types.now) readers.new) }
+{
     let mut forms = Vec::with_capacity(alloc, types.count() as usize)?;
     'types: for t in 0..types.count() {
         forms.push(formed(alloc, types, outlines, numbers, limit, readers, TypeId(t))?)?;
@@ -87,7 +108,13 @@ pub(crate) fn refine(
     outlines: &[Outline],
     numbers: &[usize],
     limit: usize,
-) -> Result<Vec<usize>, NoMemory> {
+) -> Result<Vec<usize>, NoMemory>
+    requires formed { IsWellFormed types.now }
+    requires fits { length outlines.now ≡ length types.now }
+    requires low { AreShortLow outlines.now }
+    ensures { (E : Relation) → AreAllOutlined types.now E outlines.now → IsWide types.now E
+        → IsCoarser types.now numbers.now → IfOk result (λ finer. IsCoarser types.now finer.items) }
+{
     let mut readers = empty_lists(alloc, types.count() as usize)?;
     let mut finer = all_formed(alloc, types, outlines, numbers, limit, &mut readers)?;
     let graph = Graph {

@@ -10,9 +10,9 @@ ghost use Rattle.c_types.specs.Equality.{made_alike};
 ghost use Rattle.c_types.specs.Sound.{IsWellFormed};
 ghost use Rattle.phys_types.specs.Numbers.{number_in, same_number};
 ghost use Rattle.phys_types.specs.Orders.{IsWholeOrder};
-ghost use Rattle.phys_types.specs.Reach.{IsClosed};
-ghost use Rattle.phys_types.specs.Shown.{IsLayoutOf, IsLow, ArePartsKept, ArePartsShown};
-ghost use Rattle.phys_types.specs.Rounds.{IsOrder, AreShown, IsRound, AreSettled, AreStable, first_place};
+ghost use Rattle.phys_types.specs.Outlines.{AreOutlined};
+ghost use Rattle.phys_types.specs.Rounds.{IsRound, AreSettled, AreStable, first_place};
+ghost use Rattle.phys_types.specs.Writing.{AreShortLow};
 
 use crate::comparing::number_of;
 use crate::lending::MOST_SPOTS;
@@ -47,7 +47,16 @@ fn first_alike(
     outlines: &[Outline],
     so_far: &[TypeId],
     t: TypeId,
-) -> Result<usize, NoMemory> {
+) -> Result<usize, NoMemory>
+    requires formed { IsWellFormed types.now }
+    requires fits { length outlines.now ≡ length types.now }
+    requires low { AreShortLow outlines.now }
+    requires typed { IsType types.now t }
+    requires types { All (IsType types.now) so_far.now }
+    ensures { (seen : List TypeId) → AreOutlined types.now (same_number (number_in numbers.now)) seen outlines.now
+        → Contains seen t → ((u : TypeId) → Contains so_far.now u → Contains seen u)
+        → IfOk result (λ place. place ≡ first_place (λ u. made_alike types.now (same_number (number_in numbers.now)) u t) so_far.now) }
+{
     for (i, other) in so_far.iter().enumerate() {
         if look_alike(alloc, types, numbers, outlines, *other, t)? {
             return Ok(i);
@@ -63,7 +72,11 @@ pub(crate) fn renumber(
     types: &Types,
     order: &[TypeId],
     numbers: &[usize],
-) -> Result<Round, NoMemory> {
+) -> Result<Round, NoMemory>
+    requires formed { IsWellFormed types.now }
+    requires order { (places : List ℕ) × IsWholeOrder types.now order.now places }
+    ensures { IfOk result (λ round. IsRound types.now (same_number (number_in numbers.now)) order.now round.numbers.items round.outlines.items) }
+{
     let outlines = outlined(alloc, types, order, numbers)?;
     let mut next = zeros(alloc, types.count() as usize)?;
     for (i, t) in order.iter().enumerate() {
@@ -101,7 +114,16 @@ fn look_alike_at(
     numbers: &[usize],
     first: usize,
     place: usize,
-) -> Result<bool, NoMemory> {
+) -> Result<bool, NoMemory>
+    requires formed { IsWellFormed types.now }
+    requires fits { length outlines.now ≡ length types.now }
+    requires low { AreShortLow outlines.now }
+    requires types { All (IsType types.now) order.now }
+    requires place { place < length order.now }
+    ensures { (d : TypeId) → AreOutlined types.now (same_number (number_in numbers.now)) order.now outlines.now
+        → IfOk result (λ alike. IsTrue alike → IsTrue (made_alike types.now (same_number (number_in numbers.now))
+        (slice_index_or order.now first d) (slice_index_or order.now place d))) }
+{
     if first == place {
         return Ok(true);
     }
@@ -118,7 +140,14 @@ fn are_stable(
     order: &[TypeId],
     outlines: &[Outline],
     numbers: &[usize],
-) -> Result<bool, NoMemory> {
+) -> Result<bool, NoMemory>
+    requires formed { IsWellFormed types.now }
+    requires fits { length outlines.now ≡ length types.now }
+    requires low { AreShortLow outlines.now }
+    requires types { All (IsType types.now) order.now }
+    ensures { AreOutlined types.now (same_number (number_in numbers.now)) order.now outlines.now
+        → IfOk result (λ stable. IsTrue stable → AreStable types.now order.now numbers.now) }
+{
     let mut firsts = IndexMap::new(alloc);
     'places: for place in 0..order.len() {
         let first = first_with(&mut firsts, number_of(numbers, order[place]), place)?;
@@ -138,7 +167,13 @@ fn limit_of(round: usize) -> usize {
 ///
 /// One number for all types is made finer, until types of one number are made alike. A union may be mixed under finer numbers that
 /// wasn't before, so outlines are found again. Where that doesn't come to an end, the levels of the definition decide.
-pub(crate) fn settle(alloc: Global, types: &Types, order: &[TypeId]) -> Result<Round, NoMemory> {
+pub(crate) fn settle(alloc: Global, types: &Types, order: &[TypeId]) -> Result<Round, NoMemory>
+    requires formed { IsWellFormed types.now }
+    requires order { (places : List ℕ) × IsWholeOrder types.now order.now places }
+    ensures low { IfOk result (λ round. AreShortLow round.outlines.items) }
+    ensures settled { IfOk result
+        (λ round. AreSettled types.now order.now round.numbers.items round.outlines.items) }
+{
     let count = types.count() as usize;
     let mut numbers = zeros(alloc, count)?;
     'rounds: for round in 0..count {
@@ -154,7 +189,13 @@ pub(crate) fn settle(alloc: Global, types: &Types, order: &[TypeId]) -> Result<R
 /// The same by levels: the numbers after k rounds from one number for all types are equality at level k.
 ///
 /// The rounds end where one changes nothing, and after the square of the number of types at the latest.
-fn settle_by_levels(alloc: Global, types: &Types, order: &[TypeId]) -> Result<Round, NoMemory> {
+fn settle_by_levels(alloc: Global, types: &Types, order: &[TypeId]) -> Result<Round, NoMemory>
+    requires formed { IsWellFormed types.now }
+    requires order { (places : List ℕ) × IsWholeOrder types.now order.now places }
+    ensures low { IfOk result (λ round. AreShortLow round.outlines.items) }
+    ensures settled { IfOk result
+        (λ round. AreSettled types.now order.now round.numbers.items round.outlines.items) }
+{
     let count = types.count() as usize;
     let mut numbers = zeros(alloc, count)?;
     'rounds: for _round in 0..count * count {

@@ -1,10 +1,11 @@
 //! Numbers that types made alike share, and what a type points to: types are told apart by them, a type at a time.
 #![tactic(auto)]
 
-ghost use Rattle.std.specs.Prelude.{◌≡◌, ◌++◌, ◌∷◌, flat_map, IfOk, OnOk};
+ghost use Rattle.std.specs.Prelude.{◌≡◌, flat_map, option_to_list};
 ghost use Rattle.std.specs.List.{All};
 ghost use Rattle.c_types.specs.Sound.{IsWellFormed};
 ghost use Rattle.c_types.specs.Table.{IsType};
+ghost use Rattle.phys_types.specs.Numbers.{number_in};
 ghost use Rattle.phys_types.specs.Signatures.{mixed, mixed_all, item_form, spot_form, slot_form, slot_in, form_at, item_targets, slot_targets, targets_at};
 
 use crate::comparing::number_of;
@@ -72,7 +73,11 @@ fn slots_form(types: &Types, start: usize, ps: &[TypeId]) -> usize
 }
 
 /// What is seen of a type without what it points to, by the number of its cells and its first spots.
-pub(crate) fn form_of(types: &Types, t: TypeId, size: u64, spots: &[Spot]) -> usize {
+pub(crate) fn form_of(types: &Types, t: TypeId, size: u64, spots: &[Spot]) -> usize
+    requires formed { IsWellFormed types.now }
+    requires typed { IsType types.now t }
+    ensures { result ≡ form_at types.now t size spots.now }
+{
     match types.shape(t) {
         TypeShape::Function(ps, r) => {
             let first = mixed(1, slot_form(types, *r));
@@ -83,7 +88,9 @@ pub(crate) fn form_of(types: &Types, t: TypeId, size: u64, spots: &[Spot]) -> us
 }
 
 /// What an item points to, if it is a pointer.
-pub(crate) fn item_target(item: Item) -> Option<TypeId> {
+pub(crate) fn item_target(item: Item) -> Option<TypeId>
+    ensures { option_to_list result ≡ item_targets item }
+{
     match item {
         Item::Pointer(_, to) => Some(to),
         _ => None,
@@ -91,7 +98,10 @@ pub(crate) fn item_target(item: Item) -> Option<TypeId> {
 }
 
 /// What a parameter or a result points to; one that is no scalar counts as what it is.
-pub(crate) fn slot_target(types: &Types, p: TypeId) -> Option<TypeId> {
+pub(crate) fn slot_target(types: &Types, p: TypeId) -> Option<TypeId>
+    requires { IsType types.now p }
+    ensures { option_to_list result ≡ slot_targets (slot_in types.now p) }
+{
     match types.shape(p) {
         TypeShape::Void => None,
         TypeShape::Integer { .. } => None,
@@ -101,7 +111,9 @@ pub(crate) fn slot_target(types: &Types, p: TypeId) -> Option<TypeId> {
 }
 
 /// A signature, and behind it what is pointed to, if there is something, by its number.
-fn signed(signature: usize, numbers: &[usize], target: Option<TypeId>) -> usize {
+fn signed(signature: usize, numbers: &[usize], target: Option<TypeId>) -> usize
+    ensures { result ≡ mixed_all signature (number_in numbers.now) (option_to_list target) }
+{
     match target {
         Some(to) => mixed(signature, number_of(numbers, to)),
         None => signature,
@@ -109,7 +121,9 @@ fn signed(signature: usize, numbers: &[usize], target: Option<TypeId>) -> usize 
 }
 
 /// What spots point to, by numbers.
-fn spots_signature(numbers: &[usize], spots: &[Spot]) -> usize {
+fn spots_signature(numbers: &[usize], spots: &[Spot]) -> usize
+    ensures { result ≡ mixed_all 0 (number_in numbers.now) (flat_map (λ s. item_targets s.item) spots.now) }
+{
     let mut signature = 0;
     'spots: for spot in spots {
         signature = signed(signature, numbers, item_target(spot.item));
@@ -118,7 +132,11 @@ fn spots_signature(numbers: &[usize], spots: &[Spot]) -> usize {
 }
 
 /// What parameters point to, by numbers, behind a signature.
-fn slots_signature(types: &Types, numbers: &[usize], start: usize, ps: &[TypeId]) -> usize {
+fn slots_signature(types: &Types, numbers: &[usize], start: usize, ps: &[TypeId]) -> usize
+    requires { All (IsType types.now) ps.now }
+    ensures { result ≡ mixed_all start (number_in numbers.now)
+        (flat_map (λ p. slot_targets (slot_in types.now p)) ps.now) }
+{
     let mut signature = start;
     'slots: for p in ps {
         signature = signed(signature, numbers, slot_target(types, *p));
@@ -127,7 +145,11 @@ fn slots_signature(types: &Types, numbers: &[usize], start: usize, ps: &[TypeId]
 }
 
 /// What a type points to, by numbers, as far as its first spots show it.
-pub(crate) fn signature_of(types: &Types, numbers: &[usize], t: TypeId, spots: &[Spot]) -> usize {
+pub(crate) fn signature_of(types: &Types, numbers: &[usize], t: TypeId, spots: &[Spot]) -> usize
+    requires formed { IsWellFormed types.now }
+    requires typed { IsType types.now t }
+    ensures { result ≡ mixed_all 0 (number_in numbers.now) (targets_at types.now t spots.now) }
+{
     match types.shape(t) {
         TypeShape::Function(ps, r) => {
             let first = signed(0, numbers, slot_target(types, *r));

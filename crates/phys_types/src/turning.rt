@@ -5,11 +5,13 @@ ghost use Rattle.std.specs.Prelude.{ℕ, ◌≡◌, ◌⊎◌, ◌<◌, ◌++◌
 ghost use Rattle.std.specs.List.{All, Contains};
 ghost use Rattle.indexmap.specs.IndexMap.{get};
 ghost use Rattle.cc_base.specs.declared.number.TypeId.{TypeId};
-ghost use Rattle.c_types.specs.Table.{Table};
+ghost use Rattle.c_types.specs.Cells.{Relation};
 ghost use Rattle.phys_types.specs.declared.numbered.Numbered.{Numbered};
 ghost use Rattle.phys_types.specs.Numbers.{number_in};
-ghost use Rattle.phys_types.specs.Signatures.{mixed_all};
-ghost use Rattle.phys_types.specs.Turning.{list_in, AreReaders, told_at, next_by, renamed_at, written, AreMarked, AreNew, IsTurning};
+ghost use Rattle.phys_types.specs.Graphs.{IsGraph};
+ghost use Rattle.phys_types.specs.Outlines.{AreAllOutlined};
+ghost use Rattle.phys_types.specs.Signatures.{front_targets};
+ghost use Rattle.phys_types.specs.Turning.{list_in, AreReaders, signature_in, told_at, next_by, renamed_at, written, AreMarked, AreNew, IsTurning};
 
 use crate::comparing::number_of;
 use crate::lending::{front, lend_front};
@@ -25,6 +27,15 @@ use std::alloc::Global;
 
 /// How many types have a number, by the number and 0, or by the number and a signature.
 pub(crate) type Counts = IndexMap<(usize, usize), usize>;
+
+/// What types point to, as the first spots show it, as many as the limit says, and of each type what points to it.
+#[derive(Drop)]
+pub(crate) struct Graph<'a> {
+    pub(crate) types: &'a Types,
+    pub(crate) outlines: &'a [Outline],
+    pub(crate) limit: usize,
+    pub(crate) readers: Vec<Vec<TypeId>>,
+}
 
 /// How many there are.
 fn count_of(counts: &Counts, number: usize, signature: usize) -> usize {
@@ -83,12 +94,14 @@ fn reading(
 }
 
 /// What a type points to, by numbers.
-fn signature(
-    alloc: Global,
-    graph: &Graph,
-    numbers: &[usize],
-    t: TypeId,
-) -> Result<usize, NoMemory> {
+fn signature(alloc: Global, graph: &Graph, numbers: &[usize], t: TypeId) -> Result<usize, NoMemory>
+    requires { IsGraph graph.now }
+    ensures { (E : Relation) → AreAllOutlined graph.now.types.now E graph.now.outlines.now → IfOk result
+        (λ signature. signature ≡ signature_in numbers.now (front_targets graph.now.types.now E graph.now.limit) t) }
+{
+    if t.0 >= graph.types.count() {
+        return Ok(0);
+    }
     let lent = lend_front(alloc, graph.types, graph.outlines, t, graph.limit)?;
     let spots = front(&lent.layout().spots, graph.limit);
     Ok(signature_of(graph.types, numbers, t, spots))
@@ -101,7 +114,11 @@ fn tell(
     fresh: &[usize],
     graph: &Graph,
     t: TypeId,
-) -> Result<(), NoMemory> {
+) -> Result<(), NoMemory>
+    requires { IsGraph graph.now }
+    ensures { (E : Relation) → AreAllOutlined graph.now.types.now E graph.now.outlines.now
+        → OnOk result (told.new.items ≡ told.old.items ++ told_at fresh.now (front_targets graph.now.types.now E graph.now.limit) t) }
+{
     let number = signature(alloc, graph, fresh, t)?;
     if number != 0 {
         told.push(Numbered { ty: t, number })?;
@@ -115,7 +132,11 @@ fn told(
     fresh: &[usize],
     graph: &Graph,
     types: &[TypeId],
-) -> Result<Vec<Numbered>, NoMemory> {
+) -> Result<Vec<Numbered>, NoMemory>
+    requires { IsGraph graph.now }
+    ensures { (E : Relation) → AreAllOutlined graph.now.types.now E graph.now.outlines.now
+        → IfOk result (λ told. told.items ≡ flat_map (told_at fresh.now (front_targets graph.now.types.now E graph.now.limit)) types.now) }
+{
     let mut told = Vec::new(alloc);
     'types: for t in types {
         tell(alloc, &mut told, fresh, graph, *t)?;
@@ -257,15 +278,6 @@ fn clear(numbers: &mut [usize], es: &[Numbered])
     }
 }
 
-/// What types point to, as the first spots show it, as many as the limit says, and of each type what points to it.
-#[derive(Drop)]
-pub(crate) struct Graph<'a> {
-    pub(crate) types: &'a Types,
-    pub(crate) outlines: &'a [Outline],
-    pub(crate) limit: usize,
-    pub(crate) readers: Vec<Vec<TypeId>>,
-}
-
 /// The new numbers of what points to types with a new number, as far as they are others.
 fn told_apart(
     alloc: Global,
@@ -275,7 +287,10 @@ fn told_apart(
     fresh: &[usize],
     changed: &[Numbered],
 ) -> Result<Vec<Numbered>, NoMemory>
-    ensures { length fresh.now ≡ length graph.now.targets.items → AreReaders graph.now.targets.items graph.now.readers.items → AreMarked fresh.now changed.now → IfOk result (λ renamed. AreNew graph.now.targets.items numbers.now fresh.now renamed.items) }
+    requires { IsGraph graph.now }
+    ensures { (E : Relation) → AreAllOutlined graph.now.types.now E graph.now.outlines.now → length fresh.now ≡ length graph.now.types.now
+        → AreReaders (front_targets graph.now.types.now E graph.now.limit) (length fresh.now) graph.now.readers.items → AreMarked fresh.now changed.now
+        → IfOk result (λ renamed. AreNew (front_targets graph.now.types.now E graph.now.limit) (length fresh.now) numbers.now fresh.now renamed.items) }
 {
     let touched = reading(alloc, &graph.readers, changed)?;
     let told = told(alloc, fresh, graph, touched.as_slice())?;
@@ -294,9 +309,13 @@ pub(crate) fn turn(
     fresh: &mut [usize],
     changed: &[Numbered],
 ) -> Result<Vec<Numbered>, NoMemory>
+    requires { IsGraph graph.now }
     ensures numbers { length numbers.new ≡ length numbers.old }
     ensures fresh { length fresh.new ≡ length fresh.old }
-    ensures turned { (table : Table) → IsTurning table graph.now.targets.items graph.now.readers.items numbers.old fresh.old changed.now → IfOk result (λ renamed. IsTurning table graph.now.targets.items graph.now.readers.items numbers.new fresh.new renamed.items) }
+    ensures turned { (E : Relation) → AreAllOutlined graph.now.types.now E graph.now.outlines.now
+        → IsTurning graph.now.types.now (front_targets graph.now.types.now E graph.now.limit) graph.now.readers.items numbers.old fresh.old changed.now
+        → IfOk result (λ renamed.
+        IsTurning graph.now.types.now (front_targets graph.now.types.now E graph.now.limit) graph.now.readers.items numbers.new fresh.new renamed.items) }
 {
     let renamed = told_apart(alloc, graph, sizes, numbers, fresh, changed)?;
     clear(fresh, changed);

@@ -13,7 +13,7 @@ returns c =
     IfOk-weaker c.firsts_of.result _ _
     (λ firsts h. subst (λ (table : List Entry). AreFirstEquals table firsts.items) c.self.view_is
     (first_equals_told k.types.now k.numbers.items firsts.items
-    (known_equal k.types.now k.order.items k.places.items k.numbers.items k.layouts.items c.self.invariant)
+    (known_equal k.types.now k.order.items k.numbers.items k.outlines.items c.self.invariant)
     (subst (λ (n : ℕ). AreFirstsWith (number_in k.numbers.items) n firsts.items) c.count.ensures.number
     (subst (λ (ns : List ℕ). AreFirstsWith (number_in ns) c.count.result firsts.items) c.deref.ensures.value h))))
     c.firsts_of.ensures

@@ -9,4 +9,4 @@ returns c =
     let k = c.self.inside in
     subst (λ (table : List Entry). TellEqual table c.deref.result.now) c.self.view_is
     (subst (TellEqual k.types.now) (sym c.deref.ensures.value)
-    (known_equal k.types.now k.order.items k.places.items k.numbers.items k.layouts.items c.self.invariant))
+    (known_equal k.types.now k.order.items k.numbers.items k.outlines.items c.self.invariant))

@@ -1,6 +1,0 @@
-use Rattle.phys_types.specs.Numbers.{number_in, same_number}
-use Rattle.phys_types.proofs.RoundLemmas.{RoundSoFar}
-use Rattle.phys_types.proofs.round.renumber.Given as goal
-
-abbrev pub invariant-types : goal.invariant-types
-invariant-types l = RoundSoFar l.types (same_number (number_in l.numbers)) l.order l.t-index l.next.items l.layouts.items

@@ -11,6 +11,7 @@ pub mod Parts
 pub mod Unions
 pub mod WrittenOut
 pub mod OutlinesAgree
+pub mod WritingSteps
 pub mod Makeups
 pub mod RoundLemmas
 pub mod Settled

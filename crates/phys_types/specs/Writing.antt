@@ -1,4 +1,4 @@
-use Rattle.std.specs.Prelude.{◌≡◌, ℕ, suc, ◌+◌, ◌*◌, ◌≤◌, List, [], ◌∷◌, ◌++◌, length, map, drop, slice_index_or, sum_by, Some}
+use Rattle.std.specs.Prelude.{◌≡◌, ℕ, suc, ◌+◌, ◌*◌, ◌<◌, ◌≤◌, List, [], ◌∷◌, ◌++◌, length, map, drop, slice_index_or, sum_by, Some}
 use Rattle.std.specs.List.{All, Contains}
 use Rattle.cc_base.specs.declared.number.TypeId.{TypeId}
 use Rattle.c_types.specs.declared.shape.TypeShape.{TypeShape}
@@ -35,7 +35,7 @@ rest_type (Members t at first) = t
 
 -- it lies within the largest size of a type
 abbrev pub IsRest : Table → Rest → Type 0
-IsRest table (Copies t at count) = IsComplete table t × (at + count * size_of table t ≤ 1048576)
+IsRest table (Copies t at count) = IsComplete table t × (0 < count) × (at + count * size_of table t ≤ 1048576)
 IsRest table (Members t at first) = IsComplete table t × IsStruct table t × (at + size_of table t ≤ 1048576) × (first ≤ length (members_at table t))
 
 -- no layout that is kept is larger than a type can be

@@ -21,7 +21,8 @@ ghost use Rattle.phys_types.specs.Shown.{IsLayoutOf};
 ghost use Rattle.phys_types.specs.Standing.{AreEqualTypes, CorrespondInSome};
 
 use crate::alike::{add_alike, add_spots};
-use crate::comparing::{begins, number_of};
+use crate::beginning::begin_alike;
+use crate::comparing::number_of;
 use crate::firsts::firsts_of;
 use crate::following::follow;
 use crate::found::Found;
@@ -137,12 +138,17 @@ impl<'a> Known<'a> {
         requires second { IsType self.now u }
         ensures { IfOk result (λ begins. begins ≡ begins_with self.now t u) }
     {
-        if is_one_function(self.types, t, u) || self.cell_count(t) < self.cell_count(u) {
+        if is_one_function(self.types, t, u) {
             return Ok(false);
         }
-        let x = self.layout(t)?;
-        let y = self.layout(u)?;
-        Ok(begins(&self.numbers, x.layout(), y.layout()))
+        begin_alike(
+            self.alloc,
+            self.types,
+            &self.numbers,
+            &self.outlines,
+            t,
+            u,
+        )
     }
 
     /// Whether a type lies strictly below another: it begins with it and isn't physically equal to it.
